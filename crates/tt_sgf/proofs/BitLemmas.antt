@@ -1,0 +1,182 @@
+-- Sets of points as bits in words.
+use Rattle.std.proofs.Common.{◌≡◌, ◌≢◌, ℕ, zero, suc, ◌+◌, ◌-◌, ◌*◌, ◌/◌, ◌%◌, ◌^◌, ◌<◌, ◌≤◌, Bool, true, false, not, ◌&&◌, eqb, ltb, min, max, ◌||◌, List, [], ◌∷◌, length, get_or, set as put, refl, sym, ap, ◌∙◌, arith, inl, inr}
+use Rattle.std.proofs.lemmas.Bool.{cases_lt, cases_eq, eq-eqb, ne_eqb, lt-ltb, le-ltb}
+use Rattle.std.proofs.lemmas.List.{get_or-set_same, get_or-set_other}
+use Rattle.std.proofs.lemmas.Nat.Bits.{shr_and_one, bit_at-zero, bit_at-lt, bit_at_and, bit_at_or, bit_at_not, bit_at_set_same, bit_at_set_other}
+use Rattle.std.specs.Int.{w64, bit_at, bit_not}
+use Rattle.std.specs.Prelude.{bit_and, bit_or}
+use Rattle.std.specs.Cmp.{nat_cmp_total, unsigned_tied}
+use Rattle.std.specs.Ordering.{nat_cmp, eq_by_cmp}
+use Rattle.std.specs.FinSet as set
+use Rattle.tt_sgf.specs.Points.{passing}
+use Rattle.tt_sgf.specs.PointLaws.{passing-zero, passing-in, passing-out, contains-passing}
+use Rattle.tt_sgf.specs.Words.{bit_in, points_of}
+
+-- ---- bits
+
+pub bit_is : (words : List ℕ) (n : ℕ) → eqb (bit_and (get_or words (n / 64) 0 / 2 ^ (n % 64)) 1) 1 ≡ bit_in words n
+unfolding bit_in
+bit_is words n = ap (λ (x : ℕ). eqb x 1) (shr_and_one (get_or words (n / 64) 0) (n % 64))
+
+abbrev pub six : List ℕ
+six = 0 ∷ 0 ∷ 0 ∷ 0 ∷ 0 ∷ 0 ∷ []
+
+zeros : (k : ℕ) → get_or six k 0 ≡ 0
+zeros zero = refl
+zeros (suc zero) = refl
+zeros (suc (suc zero)) = refl
+zeros (suc (suc (suc zero))) = refl
+zeros (suc (suc (suc (suc zero)))) = refl
+zeros (suc (suc (suc (suc (suc zero))))) = refl
+zeros (suc (suc (suc (suc (suc (suc k)))))) = refl
+
+no_bit : (q : ℕ) → bit_in six q ≡ false
+unfolding bit_in
+no_bit q = rw (zeros (q / 64), bit_at-zero (q % 64)) refl
+
+pub bit_same : (words : List ℕ) (n : ℕ) → n < 384 → length words ≡ 6 → bit_in (put words (n / 64) (bit_or (get_or words (n / 64) 0) (1 * 2 ^ (n % 64) % 2 ^ 64))) n ≡ true
+unfolding bit_in
+bit_same words n lt len =
+    let within : n / 64 < length words = omega arith in
+    rw (get_or-set_same, bit_at_set_same w64 (get_or words (n / 64) 0) (n % 64) (omega arith)) refl
+
+pub bit_others : (words : List ℕ) (n : ℕ) → n < 384 → length words ≡ 6 → (q : ℕ) → (q ≡ n → ⊥) → bit_in (put words (n / 64) (bit_or (get_or words (n / 64) 0) (1 * 2 ^ (n % 64) % 2 ^ 64))) q ≡ bit_in words q
+unfolding bit_in
+bit_others words n lt len q ne =
+    let within : n / 64 < length words = omega arith in
+    elim (cases_eq (q / 64) (n / 64)) [
+      | inl e ↦
+          let other : q % 64 ≢ n % 64 = λ f. ne (omega arith) in
+          rw (e, get_or-set_same, bit_at_set_other w64 (get_or words (n / 64) 0) (n % 64) (omega arith) (q % 64) other) refl
+      | inr d ↦ let other : q / 64 ≢ n / 64 = d in rw get_or-set_other refl
+    ]
+
+-- ---- membership
+
+and_false : (b : Bool) → (b && false) ≡ false
+and_false true = refl
+and_false false = refl
+
+tied : (q n : ℕ) → eq_by_cmp nat_cmp q n ≡ eqb q n
+tied q n = unsigned_tied q n
+
+pub contains-points : (words : List ℕ) (q : ℕ) → set.contains (points_of words) q ≡ (ltb q 361 && bit_in words q)
+unfolding points_of
+contains-points words q = contains-passing (bit_in words) 361 q
+
+pub has_point : (words : List ℕ) (q : ℕ) → q < 361 → set.contains (points_of words) q ≡ bit_in words q
+has_point words q lt = contains-points words q ∙ rw (lt-ltb q 361 lt) refl
+
+same_points : (s t : set.FinSet nat_cmp) → ((q : ℕ) → set.contains s q ≡ set.contains t q) → s ≡ t
+same_points s t h = set.same_set nat_cmp_total set.nat_cmp-IsAntisymmetric s t h
+
+pub points-none : points_of six ≡ set.empty
+points-none = same_points _ _ (λ q. contains-points _ q ∙ rw (no_bit q) (and_false (ltb q 361)) ∙ sym (set.contains-empty nat_cmp q))
+
+pub points-with : (words made : List ℕ) (p : ℕ) → p < 361 → bit_in made p ≡ true → ((q : ℕ) → q < 384 → (q ≡ p → ⊥) → bit_in made q ≡ bit_in words q) → points_of made ≡ set.insert (points_of words) p
+points-with words made p lt same others = same_points _ _ (λ q.
+    contains-points made q ∙ sym (set.contains-insert nat_cmp_total (points_of words) p q ∙ rw (tied q p, contains-points words q) (elim (cases_eq q p) [
+      | inl e ↦ rw (e, eq-eqb p p refl, lt-ltb p 361 lt, same) refl
+      | inr d ↦ rw (ne_eqb q p d) (elim (cases_lt q 361) [
+        | inl below ↦ rw (lt-ltb q 361 below, others q (omega arith) d) refl
+        | inr above ↦ rw (le-ltb q 361 above) refl
+      ])
+    ])))
+
+-- ---- how many, and the least
+
+pub len-passing-in : (f : ℕ → Bool) (n : ℕ) → f n ≡ true → set.len (passing f (n + 1)) ≡ set.len (passing f n) + 1
+len-passing-in f n h =
+    let out : set.contains (passing f n) n ≡ false = contains-passing f n n ∙ rw (le-ltb n n (omega arith)) refl in
+    let up : n + 1 ≡ suc n = omega arith in
+    ap (λ k. set.len (passing f k)) up ∙ ap set.len (passing-in f n h) ∙ set.len-insert nat_cmp_total (passing f n) n ∙ rw out refl
+
+pub len-passing-out : (f : ℕ → Bool) (n : ℕ) → f n ≡ false → set.len (passing f (n + 1)) ≡ set.len (passing f n)
+len-passing-out f n h =
+    let up : n + 1 ≡ suc n = omega arith in
+    ap (λ k. set.len (passing f k)) up ∙ ap set.len (passing-out f n h)
+
+pub len-passing-none : (f : ℕ → Bool) → set.len (passing f 0) ≡ 0
+len-passing-none f = ap set.len (passing-zero f) ∙ set.len-empty nat_cmp
+
+pub len-points : (words : List ℕ) → set.len (points_of words) ≡ set.len (passing (bit_in words) 361)
+unfolding points_of
+len-points words = refl
+
+pub points-empty : (words : List ℕ) → ((q : ℕ) → q < 361 → bit_in words q ≡ false) → points_of words ≡ set.empty
+points-empty words h = same_points _ _ (λ q. contains-points words q ∙ elim (cases_lt q 361) [
+  | inl below ↦ rw (h q below) (and_false (ltb q 361))
+  | inr above ↦ rw (le-ltb q 361 above) refl
+] ∙ sym (set.contains-empty nat_cmp q))
+
+pub least_is : (words : List ℕ) (n : ℕ) → ((q : ℕ) → q < n → bit_in words q ≡ false) → (q : ℕ) → set.contains (points_of words) q ≡ true → n ≤ q
+least_is words n h q e =
+    elim (cases_lt q n) [
+      | inl below ↦ absurd (let k : set.contains (points_of words) q ≡ false = contains-points words q ∙ rw (h q below) (and_false (ltb q 361)) in cc)
+      | inr above ↦ above
+    ]
+
+-- ---- word by word
+
+two_bits : (x y : ℕ) → x < 2 → y < 2 → eqb (min x y) 1 ≡ (eqb x 1 && eqb y 1)
+two_bits zero zero h k = refl
+two_bits zero (suc zero) h k = refl
+two_bits (suc zero) zero h k = refl
+two_bits (suc zero) (suc zero) h k = refl
+two_bits (suc (suc x)) y h k = absurd (omega arith)
+two_bits zero (suc (suc y)) h k = absurd (omega arith)
+two_bits (suc zero) (suc (suc y)) h k = absurd (omega arith)
+
+two_bits_or : (x y : ℕ) → x < 2 → y < 2 → eqb (max x y) 1 ≡ (eqb x 1 || eqb y 1)
+two_bits_or zero zero h k = refl
+two_bits_or zero (suc zero) h k = refl
+two_bits_or (suc zero) zero h k = refl
+two_bits_or (suc zero) (suc zero) h k = refl
+two_bits_or (suc (suc x)) y h k = absurd (omega arith)
+two_bits_or zero (suc (suc y)) h k = absurd (omega arith)
+two_bits_or (suc zero) (suc (suc y)) h k = absurd (omega arith)
+
+other_bit : (y : ℕ) → y < 2 → eqb (1 - y) 1 ≡ not (eqb y 1)
+other_bit zero h = refl
+other_bit (suc zero) h = refl
+other_bit (suc (suc y)) h = absurd (omega arith)
+
+module _ (made a b : List ℕ) where
+  pub bit-and : ((k : ℕ) → k < 6 → get_or made k 0 ≡ bit_and (get_or a k 0) (get_or b k 0)) → (q : ℕ) → q < 384 → bit_in made q ≡ (bit_in a q && bit_in b q)
+  unfolding bit_in
+  bit-and h q lt =
+      ap (λ w. eqb (bit_at w (q % 64)) 1) (h (q / 64) (omega arith)) ∙ ap (λ x. eqb x 1) (bit_at_and (get_or a (q / 64) 0) (get_or b (q / 64) 0) (q % 64))
+      ∙ two_bits (bit_at (get_or a (q / 64) 0) (q % 64)) (bit_at (get_or b (q / 64) 0) (q % 64)) (bit_at-lt _ _) (bit_at-lt _ _)
+
+  pub bit-minus : ((k : ℕ) → get_or b k 0 < 2 ^ 64) → ((k : ℕ) → k < 6 → get_or made k 0 ≡ bit_and (get_or a k 0) (bit_not w64 (get_or b k 0))) → (q : ℕ) → q < 384 → bit_in made q ≡ (bit_in a q && not (bit_in b q))
+  unfolding bit_in
+  bit-minus fits h q lt =
+      let x = get_or a (q / 64) 0 in
+      let y = get_or b (q / 64) 0 in
+      let i = q % 64 in
+      ap (λ w. eqb (bit_at w i) 1) (h (q / 64) (omega arith)) ∙ ap (λ z. eqb z 1) (bit_at_and x (bit_not w64 y) i ∙ ap (λ z. min (bit_at x i) z) (bit_at_not w64 y i (fits (q / 64)) (omega arith)))
+      ∙ two_bits (bit_at x i) (1 - bit_at y i) (bit_at-lt x i) (omega (arith, bit_at-lt y i)) ∙ ap (λ z. eqb (bit_at x i) 1 && z) (other_bit (bit_at y i) (bit_at-lt y i))
+
+  pub points-and : ((q : ℕ) → q < 384 → bit_in made q ≡ (bit_in a q && bit_in b q)) → points_of made ≡ set.intersection (points_of a) (points_of b)
+  points-and h = same_points _ _ (λ q. contains-points made q ∙ sym (set.contains-intersection nat_cmp_total (points_of a) (points_of b) q ∙ rw (contains-points a q, contains-points b q) (elim (cases_lt q 361) [
+    | inl below ↦ rw (lt-ltb q 361 below) (sym (h q (omega arith)))
+    | inr above ↦ rw (le-ltb q 361 above) refl
+  ])))
+
+  pub points-minus : ((q : ℕ) → q < 384 → bit_in made q ≡ (bit_in a q && not (bit_in b q))) → points_of made ≡ set.difference (points_of a) (points_of b)
+  points-minus h = same_points _ _ (λ q. contains-points made q ∙ sym (set.contains-difference nat_cmp_total (points_of a) (points_of b) q ∙ rw (contains-points a q, contains-points b q) (elim (cases_lt q 361) [
+    | inl below ↦ rw (lt-ltb q 361 below) (sym (h q (omega arith)))
+    | inr above ↦ rw (le-ltb q 361 above) refl
+  ])))
+
+  pub bit-or : ((k : ℕ) → k < 6 → get_or made k 0 ≡ bit_or (get_or a k 0) (get_or b k 0)) → (q : ℕ) → q < 384 → bit_in made q ≡ (bit_in a q || bit_in b q)
+  unfolding bit_in
+  bit-or h q lt =
+      ap (λ w. eqb (bit_at w (q % 64)) 1) (h (q / 64) (omega arith)) ∙ ap (λ x. eqb x 1) (bit_at_or (get_or a (q / 64) 0) (get_or b (q / 64) 0) (q % 64))
+      ∙ two_bits_or (bit_at (get_or a (q / 64) 0) (q % 64)) (bit_at (get_or b (q / 64) 0) (q % 64)) (bit_at-lt _ _) (bit_at-lt _ _)
+
+  pub points-or : ((q : ℕ) → q < 384 → bit_in made q ≡ (bit_in a q || bit_in b q)) → points_of made ≡ set.union (points_of a) (points_of b)
+  points-or h = same_points _ _ (λ q. contains-points made q ∙ sym (set.contains-union nat_cmp_total (points_of a) (points_of b) q ∙ rw (contains-points a q, contains-points b q) (elim (cases_lt q 361) [
+    | inl below ↦ rw (lt-ltb q 361 below) (sym (h q (omega arith)))
+    | inr above ↦ rw (le-ltb q 361 above) refl
+  ])))

@@ -1,0 +1,302 @@
+-- Entries of point lists: the readers against their definitions.
+use Rattle.std.proofs.Common.{◌≡◌, ◌≢◌, ℕ, zero, suc, ◌+◌, ◌-◌, ◌*◌, ◌/◌, ◌%◌, ◌<◌, ◌≤◌, Bool, true, false, ◌&&◌, ◌||◌, cond, eqb, leb, ltb, List, [], ◌∷◌, length, get_or, Option, Some, None, refl, sym, ap, subst, ◌∙◌, arith, inl, inr}
+use Rattle.std.proofs.lemmas.Bool.{cases_Bool, cases_eq, cases_lt, eqb-true, eq-eqb, ne_eqb, lt-ltb, le-ltb, ltb-true, leb-true, le-leb, and_parts, or_cases}
+use Rattle.std.proofs.lemmas.Nat.{mul-le, mul-add-lt, div-mul-add, mod-mul-add}
+use Rattle.std.specs.Cmp.{nat_cmp_total, unsigned_tied}
+use Rattle.std.specs.Ordering.{nat_cmp, eq_by_cmp}
+use Rattle.std.specs.FinSet as set
+use Rattle.tt_sgf.specs.declared.size.Size.{Size}
+use Rattle.tt_sgf.specs.declared.entries.Rectangle.{Rectangle}
+use Rattle.std.specs.List.{list_any, list_all}
+use Rattle.std.specs.Option.{is_some}
+use Rattle.std.proofs.lemmas.Option.{same_Some}
+use Rattle.tt_sgf.specs.Grammar.{is_blank}
+use Rattle.tt_sgf.specs.Values.{StandsIn, trimmed}
+use Rattle.tt_sgf.specs.Entries.{IsEntry, HasCorners, Covers, AnyCovers, AreEntries, corner_in, between, entry_of, in_rectangle, covers_by, covers, is_entry, set_of}
+use Rattle.tt_sgf.specs.Points.{passing}
+use Rattle.tt_sgf.specs.PointLaws.{contains-passing}
+use Rattle.tt_sgf.proofs.NumberLemmas.{trimmed_is, trimmed_stands}
+
+-- ---- texts of two and of five bytes
+
+pub two : (xs : List ℕ) → length xs ≡ 2 → xs ≡ get_or xs 0 0 ∷ get_or xs 1 0 ∷ []
+two [] h = absurd (omega arith)
+two (a ∷ []) h = absurd (omega arith)
+two (a ∷ b ∷ []) h = refl
+two (a ∷ b ∷ c ∷ xs) h = absurd (omega arith)
+
+pub five : (xs : List ℕ) → length xs ≡ 5 → xs ≡ get_or xs 0 0 ∷ get_or xs 1 0 ∷ get_or xs 2 0 ∷ get_or xs 3 0 ∷ get_or xs 4 0 ∷ []
+five [] h = absurd (omega arith)
+five (a ∷ []) h = absurd (omega arith)
+five (a ∷ b ∷ []) h = absurd (omega arith)
+five (a ∷ b ∷ c ∷ []) h = absurd (omega arith)
+five (a ∷ b ∷ c ∷ d ∷ []) h = absurd (omega arith)
+five (a ∷ b ∷ c ∷ d ∷ e ∷ []) h = refl
+five (a ∷ b ∷ c ∷ d ∷ e ∷ f ∷ xs) h = absurd (omega arith)
+
+module _ (size : Size) where
+  pub two_in : (c r : ℕ) → corner_in size c r ≡ true → entry_of size (c ∷ r ∷ []) ≡ Some (between (c - 97) (r - 97) (c - 97) (r - 97))
+  unfolding entry_of
+  two_in c r h = rw h refl
+
+  pub two_out : (c r : ℕ) → corner_in size c r ≡ false → entry_of size (c ∷ r ∷ []) ≡ None
+  unfolding entry_of
+  two_out c r h = rw h refl
+
+  pub five_in : (c r m d s : ℕ) → m ≡ 58 → corner_in size c r ≡ true → corner_in size d s ≡ true → entry_of size (c ∷ r ∷ m ∷ d ∷ s ∷ []) ≡ Some (between (c - 97) (r - 97) (d - 97) (s - 97))
+  unfolding entry_of
+  five_in c r m d s e h k = rw (e, h, k) refl
+
+  pub five_first : (c r m d s : ℕ) → m ≡ 58 → corner_in size c r ≡ false → entry_of size (c ∷ r ∷ m ∷ d ∷ s ∷ []) ≡ None
+  unfolding entry_of
+  five_first c r m d s e h = rw (e, h) refl
+
+  pub five_second : (c r m d s : ℕ) → m ≡ 58 → corner_in size c r ≡ true → corner_in size d s ≡ false → entry_of size (c ∷ r ∷ m ∷ d ∷ s ∷ []) ≡ None
+  unfolding entry_of
+  five_second c r m d s e h k = rw (e, h, k) refl
+
+  pub no_entry : (xs : List ℕ) → (length xs ≡ 2 → ⊥) → (length xs ≡ 5 → get_or xs 2 0 ≡ 58 → ⊥) → entry_of size xs ≡ None
+  unfolding entry_of
+  no_entry [] h k = refl
+  no_entry (a ∷ []) h k = refl
+  no_entry (a ∷ b ∷ []) h k = absurd (h (omega arith))
+  no_entry (a ∷ b ∷ c ∷ []) h k = refl
+  no_entry (a ∷ b ∷ c ∷ d ∷ []) h k = refl
+  no_entry (a ∷ b ∷ c ∷ d ∷ e ∷ []) h k = rw (ne_eqb c 58 (k (omega arith))) refl
+  no_entry (a ∷ b ∷ c ∷ d ∷ e ∷ f ∷ xs) h k = refl
+
+-- ---- the loop over the board
+
+tied : (q n : ℕ) → eq_by_cmp nat_cmp q n ≡ eqb q n
+tied q n = unsigned_tied q n
+
+or_with_true : (b : Bool) → (b || true) ≡ true
+or_with_true true = refl
+or_with_true false = refl
+
+or_with_false : (b : Bool) → (b || false) ≡ b
+or_with_false true = refl
+or_with_false false = refl
+
+module _ (t : set.FinSet nat_cmp) (f : ℕ → Bool) where
+  pub filled_none : (q : ℕ) → set.contains t q ≡ (set.contains t q || (ltb q 0 && f q))
+  filled_none q = rw (le-ltb q 0 (omega arith)) (sym (or_with_false (set.contains t q)))
+
+  same_below : (q n : ℕ) → (q ≡ n → ⊥) → ltb q (n + 1) ≡ ltb q n
+  same_below q n ne = elim (cases_lt q n) [
+    | inl lt ↦ lt-ltb q (n + 1) (omega arith) ∙ sym (lt-ltb q n lt)
+    | inr ge ↦ let other : q ≢ n = ne in le-ltb q (n + 1) (omega arith) ∙ sym (le-ltb q n ge)
+  ]
+
+  module _ (s : set.FinSet nat_cmp) (n : ℕ) (so_far : (q : ℕ) → set.contains s q ≡ (set.contains t q || (ltb q n && f q))) where
+    pub filled_more : f n ≡ true → (q : ℕ) → set.contains (set.insert s n) q ≡ (set.contains t q || (ltb q (n + 1) && f q))
+    filled_more h q = set.contains-insert nat_cmp_total s n q ∙ rw (tied q n, so_far q) (elim (cases_eq q n) [
+      | inl e ↦ rw (e, eq-eqb n n refl, lt-ltb n (n + 1) (omega arith), h) (sym (or_with_true (set.contains t n)))
+      | inr d ↦ rw (ne_eqb q n d, same_below q n d) refl
+    ])
+
+    pub filled_stays : f n ≡ false → (q : ℕ) → set.contains s q ≡ (set.contains t q || (ltb q (n + 1) && f q))
+    filled_stays h q = so_far q ∙ elim (cases_eq q n) [
+      | inl e ↦ rw (e, h, le-ltb n n (omega arith), lt-ltb n (n + 1) (omega arith)) refl
+      | inr d ↦ rw (same_below q n d) refl
+    ]
+
+pub between_is : (c r d s c' r' d' s' : ℕ) → c ≡ c' → r ≡ r' → d ≡ d' → s ≡ s' → between c r d s ≡ between c' r' d' s'
+between_is c r d s c' r' d' s' h k l m = rw (h, k, l, m) refl
+
+-- ---- an entry
+
+corner_parts : (size : Size) (c r : ℕ) → corner_in size c r ≡ true → (97 ≤ c) × (c - 97 < size.columns) × (97 ≤ r) × (r - 97 < size.rows)
+corner_parts size c r h =
+    let both = and_parts (leb 97 c && ltb (c - 97) size.columns) (leb 97 r && ltb (r - 97) size.rows) h in
+    let first = and_parts (leb 97 c) (ltb (c - 97) size.columns) both.0 in
+    let second = and_parts (leb 97 r) (ltb (r - 97) size.rows) both.1 in
+    (leb-true 97 c first.0, ltb-true (c - 97) size.columns first.1, leb-true 97 r second.0, ltb-true (r - 97) size.rows second.1)
+
+corner_made : (size : Size) (c r : ℕ) → c < size.columns → r < size.rows → corner_in size (97 + c) (97 + r) ≡ true
+corner_made size c r h k =
+    let c-is : 97 + c - 97 ≡ c = omega arith in
+    let r-is : 97 + r - 97 ≡ r = omega arith in
+    rw (c-is, r-is, le-leb 97 (97 + c) (omega arith), le-leb 97 (97 + r) (omega arith), lt-ltb c size.columns h, lt-ltb r size.rows k) refl
+
+letter_is_no_blank : (b : ℕ) → 58 ≤ b → is_blank b ≡ false
+unfolding is_blank
+letter_is_no_blank b h = grind arith
+
+pub entry_again : (size : Size) (v : List ℕ) (c r d s : ℕ) → IsEntry size v c r d s → entry_of size (trimmed v) ≡ Some (between c r d s)
+entry_again size v c r d s h =
+    let c-is : 97 + c - 97 ≡ c = omega arith in
+    let r-is : 97 + r - 97 ≡ r = omega arith in
+    let d-is : 97 + d - 97 ≡ d = omega arith in
+    let s-is : 97 + s - 97 ≡ s = omega arith in
+    let bc = letter_is_no_blank (97 + c) (omega arith) in
+    let br = letter_is_no_blank (97 + r) (omega arith) in
+    let bd = letter_is_no_blank (97 + d) (omega arith) in
+    let bs = letter_is_no_blank (97 + s) (omega arith) in
+    let bm = letter_is_no_blank 58 (omega arith) in
+    elim h.stands [
+      | inl x ↦
+          ap (entry_of size) (trimmed_is ((97 + c) ∷ (97 + r) ∷ []) v (bc, (br, tt)) x.2) ∙ two_in size (97 + c) (97 + r) (corner_made size c r h.c_in h.r_in)
+          ∙ ap (λ (e : Rectangle). Some e) (between_is _ _ _ _ c r d s c-is r-is (c-is ∙ sym x.0) (r-is ∙ sym x.1))
+      | inr x ↦
+          ap (entry_of size) (trimmed_is ((97 + c) ∷ (97 + r) ∷ 58 ∷ (97 + d) ∷ (97 + s) ∷ []) v (bc, (br, (bm, (bd, (bs, tt))))) x)
+          ∙ five_in size (97 + c) (97 + r) 58 (97 + d) (97 + s) refl (corner_made size c r h.c_in h.r_in) (corner_made size d s h.d_in h.s_in)
+          ∙ ap (λ (e : Rectangle). Some e) (between_is _ _ _ _ c r d s c-is r-is d-is s-is)
+    ]
+
+abbrev EntryAt : Size → List ℕ → Rectangle → Type 0
+EntryAt size v e = (h : HasCorners size v) × (e ≡ between h.0 h.1 h.2 h.3)
+
+five_stands : (v : List ℕ) (c r m d s : ℕ) → m ≡ 58 → 97 ≤ c → 97 ≤ r → 97 ≤ d → 97 ≤ s → StandsIn (c ∷ r ∷ m ∷ d ∷ s ∷ []) v → StandsIn ((97 + (c - 97)) ∷ (97 + (r - 97)) ∷ 58 ∷ (97 + (d - 97)) ∷ (97 + (s - 97)) ∷ []) v
+five_stands v c r m d s e hc hr hd hs x =
+    let c-is : 97 + (c - 97) ≡ c = omega arith in
+    let r-is : 97 + (r - 97) ≡ r = omega arith in
+    let d-is : 97 + (d - 97) ≡ d = omega arith in
+    let s-is : 97 + (s - 97) ≡ s = omega arith in
+    rw (c-is, r-is, d-is, s-is) (subst (λ (y : ℕ). StandsIn (c ∷ r ∷ y ∷ d ∷ s ∷ []) v) e x)
+
+two_stands : (v : List ℕ) (c r : ℕ) → 97 ≤ c → 97 ≤ r → StandsIn (c ∷ r ∷ []) v → StandsIn ((97 + (c - 97)) ∷ (97 + (r - 97)) ∷ []) v
+two_stands v c r hc hr x =
+    let c-is : 97 + (c - 97) ≡ c = omega arith in
+    let r-is : 97 + (r - 97) ≡ r = omega arith in
+    rw (c-is, r-is) x
+
+-- the five parts of a test in a row
+some_if : {A : Type 0} (b : Bool) (o : Option A) (y : A) → cond b o None ≡ Some y → (b ≡ true) × (o ≡ Some y)
+some_if true o y e = (refl, e)
+some_if false o y e = absurd cc
+
+taken : (size : Size) (text v : List ℕ) (e : Rectangle) → StandsIn text v → entry_of size text ≡ Some e → EntryAt size v e
+unfolding entry_of
+taken size [] v e x h = absurd cc
+taken size (c ∷ []) v e x h = absurd cc
+taken size (c ∷ r ∷ []) v e x h =
+    let k = some_if (corner_in size c r) _ e h in
+    let p = corner_parts size c r k.0 in
+    let is : between (c - 97) (r - 97) (c - 97) (r - 97) ≡ e = same_Some _ _ k.1 in
+    ((c - 97, r - 97, c - 97, r - 97, record { c_in = p.1; r_in = p.3; d_in = p.1; s_in = p.3; stands = inl (refl, refl, two_stands v c r p.0 p.2 x) }), sym is)
+taken size (c ∷ r ∷ m ∷ []) v e x h = absurd cc
+taken size (c ∷ r ∷ m ∷ d ∷ []) v e x h = absurd cc
+taken size (c ∷ r ∷ m ∷ d ∷ s ∷ []) v e x h =
+    let a = some_if (eqb m 58) _ e h in
+    let k = some_if (corner_in size c r) _ e a.1 in
+    let l = some_if (corner_in size d s) _ e k.1 in
+    let p = corner_parts size c r k.0 in
+    let q = corner_parts size d s l.0 in
+    let is : between (c - 97) (r - 97) (d - 97) (s - 97) ≡ e = same_Some _ _ l.1 in
+    ((c - 97, r - 97, d - 97, s - 97, record { c_in = p.1; r_in = p.3; d_in = q.1; s_in = q.3; stands = inr (five_stands v c r m d s (eqb-true m 58 a.0) p.0 p.2 q.0 q.2 x) }), sym is)
+taken size (c ∷ r ∷ m ∷ d ∷ s ∷ y ∷ ys) v e x h = absurd cc
+
+pub entry_takes : (size : Size) (v : List ℕ) (e : Rectangle) → entry_of size (trimmed v) ≡ Some e → EntryAt size v e
+entry_takes size v e h = taken size (trimmed v) v e (trimmed_stands v) h
+
+-- ---- what an entry covers
+
+inside_parts : (columns : ℕ) (e : Rectangle) (q : ℕ) → in_rectangle columns e q ≡ true → (e.left ≤ q % columns) × (q % columns ≤ e.right) × (e.top ≤ q / columns) × (q / columns ≤ e.bottom)
+unfolding in_rectangle
+inside_parts columns e q h =
+    let both = and_parts (leb e.left (q % columns) && leb (q % columns) e.right) (leb e.top (q / columns) && leb (q / columns) e.bottom) h in
+    let first = and_parts (leb e.left (q % columns)) (leb (q % columns) e.right) both.0 in
+    let second = and_parts (leb e.top (q / columns)) (leb (q / columns) e.bottom) both.1 in
+    (leb-true _ _ first.0, leb-true _ _ first.1, leb-true _ _ second.0, leb-true _ _ second.1)
+
+inside_made : (columns : ℕ) (e : Rectangle) (x y q : ℕ) → q % columns ≡ x → q / columns ≡ y → e.left ≤ x → x ≤ e.right → e.top ≤ y → y ≤ e.bottom → in_rectangle columns e q ≡ true
+unfolding in_rectangle
+inside_made columns e x y q a b h k l m = rw (a, b, le-leb e.left x h, le-leb x e.right k, le-leb e.top y l, le-leb y e.bottom m) refl
+
+covers_takes : (size : Size) (v : List ℕ) (p : ℕ) → covers size v p ≡ true → Covers size v p
+covers_takes size v p h =
+    elim (entry_of size (trimmed v)) as (λ o. entry_of size (trimmed v) ≡ o → covers_by size o p ≡ true → Covers size v p) [
+      | None ↦ λ e k. absurd (let f : false ≡ true = k in cc)
+      | Some e ↦ λ is k.
+          let both = and_parts (ltb p (size.columns * size.rows)) (in_rectangle size.columns e p) k in
+          let i = inside_parts size.columns e p both.1 in
+          let t = entry_takes size v e is in
+          let some = size.columns_in in
+          let l = ap (λ (r : Rectangle). r.left) t.1 in
+          let r = ap (λ (r : Rectangle). r.right) t.1 in
+          let u = ap (λ (r : Rectangle). r.top) t.1 in
+          let b = ap (λ (r : Rectangle). r.bottom) t.1 in
+          record {
+            corners = t.0;
+            column = p % size.columns;
+            row = p / size.columns;
+            column_from = rw (← l) i.0;
+            column_to = rw (← r) i.1;
+            row_from = rw (← u) i.2;
+            row_to = rw (← b) i.3;
+            number = omega arith;
+          }
+    ] refl h
+
+covers_again : (size : Size) (v : List ℕ) (p : ℕ) → Covers size v p → covers size v p ≡ true
+covers_again size v p h =
+    let h4 = h.corners.4 in
+    let e = entry_again size v h.corners.0 h.corners.1 h.corners.2 h.corners.3 h4 in
+    let cf = h.column_from in let ct = h.column_to in let rf = h.row_from in let rt = h.row_to in
+    let ci = h4.c_in in let di = h4.d_in in let ri = h4.r_in in let si = h4.s_in in
+    let column_in : h.column < size.columns = omega arith in
+    let row_in : h.row < size.rows = omega arith in
+    let below : p < size.columns * size.rows = rw h.number (mul-add-lt h.row size.columns h.column size.rows row_in column_in) in
+    let x : p % size.columns ≡ h.column = ap (λ (n : ℕ). n % size.columns) h.number ∙ mod-mul-add h.row size.columns h.column column_in in
+    let y : p / size.columns ≡ h.row = ap (λ (n : ℕ). n / size.columns) h.number ∙ div-mul-add h.row size.columns h.column column_in in
+    rw (e, lt-ltb p (size.columns * size.rows) below) (inside_made size.columns (between h.corners.0 h.corners.1 h.corners.2 h.corners.3) h.column h.row p x y cf ct rf rt)
+
+pub any_takes : (size : Size) (vs : List (List ℕ)) (p : ℕ) → list_any (λ v. covers size v p) vs ≡ true → AnyCovers size vs p
+any_takes size [] p h = absurd (let f : false ≡ true = h in cc)
+any_takes size (v ∷ vs) p h = elim (or_cases (covers size v p) (list_any (λ w. covers size w p) vs) h) [ inl x ↦ inl (covers_takes size v p x) | inr x ↦ inr (any_takes size vs p x) ]
+
+pub any_again : (size : Size) (vs : List (List ℕ)) (p : ℕ) → AnyCovers size vs p → list_any (λ v. covers size v p) vs ≡ true
+any_again size [] p h = absurd h
+any_again size (v ∷ vs) p h = elim h [ inl x ↦ rw (covers_again size v p x) refl | inr x ↦ rw (any_again size vs p x) (or_with_true (covers size v p)) ]
+
+pub entries_are : (size : Size) (vs : List (List ℕ)) → list_all (is_entry size) vs ≡ true → AreEntries size vs
+entries_are size [] h = tt
+entries_are size (v ∷ vs) h =
+    let both = and_parts (is_entry size v) (list_all (is_entry size) vs) h in (
+      elim (entry_of size (trimmed v)) as (λ o. entry_of size (trimmed v) ≡ o → is_some o ≡ true → HasCorners size v) [
+        | None ↦ λ e k. absurd (let f : false ≡ true = k in cc)
+        | Some e ↦ λ is k. (entry_takes size v e is).0
+      ] refl both.0,
+      entries_are size vs both.1,
+    )
+
+pub not_entries : (size : Size) (vs : List (List ℕ)) (i : ℕ) (d : List ℕ) → i < length vs → entry_of size (trimmed (get_or vs i d)) ≡ None → AreEntries size vs → ⊥
+not_entries size [] i d lt e h = absurd (omega arith)
+not_entries size (v ∷ vs) zero d lt e h = absurd (let k = entry_again size v h.0.0 h.0.1 h.0.2 h.0.3 h.0.4 in cc)
+not_entries size (v ∷ vs) (suc i) d lt e h = not_entries size vs i d (omega arith) e h.1
+
+-- ---- the set as a function
+
+and_false : (a : Bool) → (a && false) ≡ false
+and_false true = refl
+and_false false = refl
+
+-- what is covered is on the board, which has 361 points at most
+pub covers_below : (size : Size) (v : List ℕ) (q : ℕ) → covers size v q ≡ true → q < 361
+covers_below size v q h = elim (entry_of size (trimmed v)) as (λ o. covers_by size o q ≡ true → q < 361) [
+  | None ↦ λ k. absurd (let f : false ≡ true = k in cc)
+  | Some e ↦ λ k.
+      let b = ltb-true q (size.columns * size.rows) (and_parts (ltb q (size.columns * size.rows)) (in_rectangle size.columns e q) k).0 in
+      omega (arith, b, mul-le size.columns size.rows 19 19 size.columns_in.1 size.rows_in.1)
+] h
+
+pub any_below : (size : Size) (vs : List (List ℕ)) (q : ℕ) → list_any (λ v. covers size v q) vs ≡ true → q < 361
+any_below size [] q h = absurd (let f : false ≡ true = h in cc)
+any_below size (v ∷ vs) q h = elim (or_cases (covers size v q) (list_any (λ w. covers size w q) vs) h) [ inl x ↦ covers_below size v q x | inr x ↦ any_below size vs q x ]
+
+pub set_some : (size : Size) (vs : List (List ℕ)) (s : set.FinSet nat_cmp) → ((q : ℕ) → set.contains s q ≡ list_any (λ v. covers size v q) vs) → list_all (is_entry size) vs ≡ true → set_of size vs ≡ Some s
+unfolding set_of
+set_some size vs s h all =
+    let same : passing (λ q. list_any (λ v. covers size v q) vs) 361 ≡ s = set.same_set nat_cmp_total set.nat_cmp-IsAntisymmetric _ _ (λ q. contains-passing (λ p. list_any (λ v. covers size v p) vs) 361 q ∙ elim (cases_Bool (list_any (λ v. covers size v q) vs)) [
+      | inl b ↦ rw (b, lt-ltb q 361 (any_below size vs q b)) (sym (h q ∙ b))
+      | inr b ↦ rw (b) (and_false (ltb q 361) ∙ sym (h q ∙ b))
+    ]) in
+    rw (all) (ap (λ (x : set.FinSet nat_cmp). Some x) same)
+
+pub set_none : (size : Size) (vs : List (List ℕ)) (i : ℕ) (d : List ℕ) → i < length vs → entry_of size (trimmed (get_or vs i d)) ≡ None → set_of size vs ≡ None
+unfolding set_of
+set_none size vs i d lt e = elim (cases_Bool (list_all (is_entry size) vs)) [
+  | inl all ↦ absurd (not_entries size vs i d lt e (entries_are size vs all))
+  | inr not_all ↦ rw not_all refl
+]

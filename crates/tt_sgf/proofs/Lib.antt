@@ -1,0 +1,11 @@
+pub mod TokenLemmas
+pub mod RepeatLemmas
+pub mod ListLemmas
+pub mod LoopLemmas
+pub mod TreeLemmas
+pub mod FirstTreeLemmas
+pub mod NumberLemmas
+pub mod PointLemmas
+pub mod SizeLemmas
+pub mod BitLemmas
+pub mod EntryLemmas

@@ -1,0 +1,98 @@
+-- Points and passes as property values: the reader against their definitions.
+use Rattle.std.proofs.Common.{◌≡◌, ℕ, ◌+◌, ◌-◌, ◌*◌, ◌≤◌, true, false, ◌&&◌, eqb, leb, ltb, List, [], ◌∷◌, length, Some, None, refl, sym, ap, subst, ◌∙◌, arith, inl, inr}
+use Rattle.std.proofs.lemmas.Bool.{eqb-true, eq-eqb, ne_eqb, leb-true, ltb-true, le-leb, lt-ltb, and_parts, cases_Bool}
+use Rattle.std.proofs.lemmas.List.{nil_from_length}
+use Rattle.std.proofs.lemmas.Option.{cond_some, same_Some}
+use Rattle.tt_sgf.specs.declared.size.Size.{Size}
+use Rattle.tt_sgf.specs.declared.size.PointOrPass.{PointOrPass}
+use Rattle.tt_sgf.specs.declared.size.PointOrPass.TheVariants.{On, Pass}
+use Rattle.tt_sgf.specs.Grammar.{is_blank}
+use Rattle.tt_sgf.specs.Values.{StandsIn, IsPoint, IsPointOrPass, trimmed, place, point_of}
+use Rattle.tt_sgf.proofs.NumberLemmas.{trimmed_is, trimmed_stands}
+
+letter_is_no_blank : (b : ℕ) → 97 ≤ b → is_blank b ≡ false
+unfolding is_blank
+letter_is_no_blank b h = grind arith
+
+pub point_of-nil : (size : Size) → point_of size [] ≡ Some Pass
+unfolding point_of
+point_of-nil size = refl
+
+pub point_of-one : (size : Size) (c : ℕ) → point_of size (c ∷ []) ≡ None
+unfolding point_of
+point_of-one size c = refl
+
+pub point_of-more : (size : Size) (c r : ℕ) (xs : List ℕ) → eqb (length xs) 0 ≡ false → point_of size (c ∷ r ∷ xs) ≡ None
+unfolding point_of
+point_of-more size c r [] h = absurd cc
+point_of-more size c r (x ∷ xs) h = refl
+
+pub point_of-pass : (size : Size) (c r : ℕ) → c ≡ 116 → r ≡ 116 → point_of size (c ∷ r ∷ []) ≡ Some Pass
+unfolding point_of
+point_of-pass size c r h k = rw (h, k) refl
+
+pub point_of-first : (size : Size) (c r : ℕ) → (c ≡ 116 → ⊥) → point_of size (c ∷ r ∷ []) ≡ place size c r
+unfolding point_of
+point_of-first size c r h = rw (ne_eqb c 116 h) refl
+
+pub point_of-second : (size : Size) (c r : ℕ) → c ≡ 116 → (r ≡ 116 → ⊥) → point_of size (c ∷ r ∷ []) ≡ place size c r
+unfolding point_of
+point_of-second size c r h k = rw (h, ne_eqb r 116 k) refl
+
+pub point_again : (size : Size) (bytes : List ℕ) (q : PointOrPass) → IsPointOrPass size bytes q → point_of size (trimmed bytes) ≡ Some q
+point_again size bytes (On p) h =
+    let c = 97 + h.column in
+    let r = 97 + h.row in
+    let text = trimmed_is (c ∷ r ∷ []) bytes (letter_is_no_blank c (omega arith), (letter_is_no_blank r (omega arith), tt)) h.stands in
+    let c-is : c - 97 ≡ h.column = omega arith in
+    let r-is : r - 97 ≡ h.row = omega arith in
+    let wide = size.columns_in in
+    let column_in = h.column_in in
+    ap (point_of size) text ∙ point_of-first size c r (λ e. absurd (omega arith)) ∙ rw (c-is, r-is, le-leb 97 c (omega arith), le-leb 97 r (omega arith), lt-ltb h.column size.columns h.column_in, lt-ltb h.row size.rows h.row_in) (ap (λ (n : ℕ). Some (On n)) (sym h.number))
+point_again size bytes Pass h =
+    elim h [
+      | inl s ↦ ap (point_of size) (trimmed_is [] bytes tt s) ∙ point_of-nil size
+      | inr s ↦ ap (point_of size) (trimmed_is (116 ∷ 116 ∷ []) bytes (letter_is_no_blank 116 (omega arith), (letter_is_no_blank 116 (omega arith), tt)) s) ∙ point_of-pass size 116 116 refl refl
+    ]
+
+place_takes : (size : Size) (bytes : List ℕ) (c r : ℕ) (q : PointOrPass) → StandsIn (c ∷ r ∷ []) bytes → place size c r ≡ Some q → IsPointOrPass size bytes q
+place_takes size bytes c r q s h =
+    let k = cond_some ((leb 97 c && ltb (c - 97) size.columns) && (leb 97 r && ltb (r - 97) size.rows)) (On ((r - 97) * size.columns + (c - 97))) q h in
+    let both = and_parts (leb 97 c && ltb (c - 97) size.columns) (leb 97 r && ltb (r - 97) size.rows) k.0 in
+    let first = and_parts (leb 97 c) (ltb (c - 97) size.columns) both.0 in
+    let second = and_parts (leb 97 r) (ltb (r - 97) size.rows) both.1 in
+    let c-le = leb-true 97 c first.0 in
+    let r-le = leb-true 97 r second.0 in
+    let c-is : c ≡ 97 + (c - 97) = omega arith in
+    let r-is : r ≡ 97 + (r - 97) = omega arith in
+    let made : IsPoint size bytes ((r - 97) * size.columns + (c - 97)) = record {
+      column = c - 97;
+      row = r - 97;
+      column_in = ltb-true (c - 97) size.columns first.1;
+      row_in = ltb-true (r - 97) size.rows second.1;
+      number = refl;
+      stands = subst (λ (x : ℕ). StandsIn (x ∷ (97 + (r - 97)) ∷ []) bytes) c-is (subst (λ (y : ℕ). StandsIn (c ∷ y ∷ []) bytes) r-is s);
+    } in
+    subst (λ (x : PointOrPass). IsPointOrPass size bytes x) k.1 made
+
+takes : (size : Size) (text bytes : List ℕ) (q : PointOrPass) → StandsIn text bytes → point_of size text ≡ Some q → IsPointOrPass size bytes q
+takes size [] bytes q s h = subst (λ (x : PointOrPass). IsPointOrPass size bytes x) (same_Some Pass q (sym (point_of-nil size) ∙ h)) (inl s)
+takes size (c ∷ []) bytes q s h = absurd (let e : point_of size (c ∷ []) ≡ None = point_of-one size c in cc)
+takes size (c ∷ r ∷ []) bytes q s h =
+    elim (cases_Bool (eqb c 116)) [
+      | inl e ↦ elim (cases_Bool (eqb r 116)) [
+        | inl f ↦
+            let c-is = eqb-true c 116 e in
+            let r-is = eqb-true r 116 f in
+            subst (λ (x : PointOrPass). IsPointOrPass size bytes x) (same_Some Pass q (sym (point_of-pass size c r c-is r-is) ∙ h)) (inr (subst (λ (x : ℕ). StandsIn (x ∷ 116 ∷ []) bytes) c-is (subst (λ (y : ℕ). StandsIn (c ∷ y ∷ []) bytes) r-is s)))
+        | inr f ↦ place_takes size bytes c r q s (sym (point_of-second size c r (eqb-true c 116 e) (λ k. absurd (let g = eq-eqb r 116 k in let u : true ≡ false = sym g ∙ f in cc))) ∙ h)
+      ]
+      | inr e ↦ place_takes size bytes c r q s (sym (point_of-first size c r (λ k. absurd (let g = eq-eqb c 116 k in let u : true ≡ false = sym g ∙ e in cc))) ∙ h)
+    ]
+takes size (c ∷ r ∷ x ∷ xs) bytes q s h = absurd (let e : point_of size (c ∷ r ∷ x ∷ xs) ≡ None = point_of-more size c r (x ∷ xs) (ne_eqb _ _ (λ k. absurd (omega arith))) in cc)
+
+pub point_takes : (size : Size) (bytes : List ℕ) (q : PointOrPass) → point_of size (trimmed bytes) ≡ Some q → IsPointOrPass size bytes q
+point_takes size bytes q h = takes size (trimmed bytes) bytes q (trimmed_stands bytes) h
+
+pub nothing_left : (xs : List ℕ) → eqb (length xs) 0 ≡ true → xs ≡ []
+nothing_left xs h = nil_from_length xs (eqb-true _ _ h)

@@ -1,0 +1,182 @@
+-- White space, value bytes and words: the steps of their loops, and the readers against the grammar.
+use Rattle.std.proofs.Common.{◌≡◌, ℕ, ◌+◌, ◌<◌, ◌≤◌, Bool, true, false, eqb, List, [], ◌∷◌, ◌++◌, length, get_or, take, drop, Option, Some, None, refl, sym, ap, ◌∙◌, append_assoc, arith}
+use Rattle.std.proofs.lemmas.Bool.{eqb-true}
+use Rattle.std.proofs.lemmas.Option.{some_pair_parts}
+use Rattle.std.proofs.lemmas.List.{append-nil, drop_more, take_more, drop_all, take_all}
+use Rattle.tt_sgf.specs.Grammar.{is_blank, is_word, IsBlank, IsRaw, IsWord}
+use Rattle.tt_sgf.specs.Reading.{◌>>=◌, with_first, raw_at, word_of, after_word, begins}
+use Rattle.tt_sgf.specs.Values.{after_blanks}
+
+-- ---- the value of a step
+
+pub bind_some : {A B : Type 0} (o : Option A) (f : A → Option B) (y : B) → (o >>= f) ≡ Some y → (x : A) × (o ≡ Some x) × (f x ≡ Some y)
+bind_some (Some x) f y e = (x, refl, e)
+bind_some None f y e = absurd cc
+
+abbrev pub with_front : {X : Type 0} → List X → List X × List ℕ → Option (List X × List ℕ)
+with_front front p = Some (front ++ p.0, p.1)
+
+pub with_front_more : {X : Type 0} (front : List X) (x : X) (o : Option (List X × List ℕ)) → ((o >>= with_first x) >>= with_front front) ≡ (o >>= with_front (front ++ x ∷ []))
+with_front_more front x None = refl
+with_front_more {X = X} front x (Some p) = ap (λ (xs : List X). Some (xs, p.1)) (simp append_assoc)
+
+-- ---- white space
+
+pub after_blanks-blank : (b : ℕ) (bs : List ℕ) → is_blank b ≡ true → after_blanks (b ∷ bs) ≡ after_blanks bs
+unfolding after_blanks
+after_blanks-blank b bs e = rw e refl
+
+pub after_blanks-other : (b : ℕ) (bs : List ℕ) → is_blank b ≡ false → after_blanks (b ∷ bs) ≡ b ∷ bs
+unfolding after_blanks
+after_blanks-other b bs e = rw e refl
+
+pub after_blanks-nil : after_blanks [] ≡ []
+unfolding after_blanks
+after_blanks-nil = refl
+
+pub after_blanks-again : (w : List ℕ) (r : List ℕ) → IsBlank w → after_blanks (w ++ r) ≡ after_blanks r
+after_blanks-again [] r h = refl
+after_blanks-again (b ∷ bs) r h = after_blanks-blank b (bs ++ r) h.0 ∙ after_blanks-again bs r h.1
+
+-- what was skipped
+pub blanks_take : (bytes : List ℕ) → (w : List ℕ) × IsBlank w × (bytes ≡ w ++ after_blanks bytes)
+blanks_take [] = ([], tt, sym after_blanks-nil)
+blanks_take (b ∷ bs) =
+    elim (is_blank b) as (λ t. is_blank b ≡ t → (w : List ℕ) × IsBlank w × (b ∷ bs ≡ w ++ after_blanks (b ∷ bs))) [
+      | true ↦ λ e. let r = blanks_take bs in (b ∷ r.0, (e, r.1), rw (after_blanks-blank b bs e) (ap (λ (x : List ℕ). b ∷ x) r.2))
+      | false ↦ λ e. ([], tt, sym (after_blanks-other b bs e))
+    ] refl
+
+-- ---- value bytes
+
+pub raw_at-escaped : (b : ℕ) (bs : List ℕ) → raw_at true (b ∷ bs) ≡ (raw_at false bs >>= with_first b)
+unfolding raw_at
+raw_at-escaped b bs = refl
+
+pub raw_at-end : (b : ℕ) (bs : List ℕ) → eqb b 93 ≡ true → raw_at false (b ∷ bs) ≡ Some ([], bs)
+unfolding raw_at
+raw_at-end b bs e = rw e refl
+
+pub raw_at-plain : (b : ℕ) (bs : List ℕ) → eqb b 93 ≡ false → raw_at false (b ∷ bs) ≡ (raw_at (eqb b 92) bs >>= with_first b)
+unfolding raw_at
+raw_at-plain b bs e = rw e refl
+
+pub raw_at-nil : (escaped : Bool) → raw_at escaped [] ≡ None
+unfolding raw_at
+raw_at-nil true = refl
+raw_at-nil false = refl
+
+-- how far the loop has come
+abbrev pub raw_so_far : List ℕ → ℕ → Bool → Option (List ℕ × List ℕ)
+raw_so_far bytes i escaped = raw_at escaped (drop i bytes) >>= with_front (take i bytes)
+
+pub raw_start : (bytes : List ℕ) → raw_so_far bytes 0 false ≡ raw_at false bytes
+raw_start bytes = elim (raw_at false bytes) as (λ o. (o >>= with_front []) ≡ o) [ None ↦ refl | Some p ↦ refl ]
+
+raw_cons : (bytes : List ℕ) (i : ℕ) (e e' : Bool) → i < length bytes
+    → raw_at e (get_or bytes i 0 ∷ drop (i + 1) bytes) ≡ (raw_at e' (drop (i + 1) bytes) >>= with_first (get_or bytes i 0))
+    → raw_so_far bytes (i + 1) e' ≡ raw_so_far bytes i e
+raw_cons bytes i e e' lt h =
+    rw (take_more bytes i 0 lt, drop_more bytes i 0 lt, h) (sym (with_front_more (take i bytes) (get_or bytes i 0) (raw_at e' (drop (i + 1) bytes))))
+
+pub raw_more_escaped : (bytes : List ℕ) (i : ℕ) → i < length bytes → raw_so_far bytes (i + 1) false ≡ raw_so_far bytes i true
+raw_more_escaped bytes i lt = raw_cons bytes i true false lt (raw_at-escaped _ _)
+
+pub raw_more_plain : (bytes : List ℕ) (i : ℕ) → i < length bytes → eqb (get_or bytes i 0) 93 ≡ false → raw_so_far bytes (i + 1) (eqb (get_or bytes i 0) 92) ≡ raw_so_far bytes i false
+raw_more_plain bytes i lt e = raw_cons bytes i false _ lt (raw_at-plain _ _ e)
+
+pub raw_ends : (bytes : List ℕ) (i : ℕ) → i < length bytes → eqb (get_or bytes i 0) 93 ≡ true → raw_so_far bytes i false ≡ Some (take i bytes, drop (i + 1) bytes)
+raw_ends bytes i lt e = rw (drop_more bytes i 0 lt, raw_at-end _ _ e) (ap (λ (x : List ℕ). Some (x, drop (i + 1) bytes)) (append-nil (take i bytes)))
+
+pub raw_stops : (bytes : List ℕ) (i : ℕ) (e : Bool) → length bytes ≤ i → raw_so_far bytes i e ≡ None
+raw_stops bytes i e le = rw (drop_all i bytes le, raw_at-nil e) refl
+
+-- what is in the grammar is read
+pub raw_again : (escaped : Bool) (v r : List ℕ) → IsRaw escaped v → raw_at escaped (v ++ (93 ∷ r)) ≡ Some (v, r)
+raw_again escaped [] r h = rw h (raw_at-end 93 r refl)
+raw_again true (b ∷ bs) r h = rw (raw_at-escaped b (bs ++ (93 ∷ r)), raw_again false bs r h) refl
+raw_again false (b ∷ bs) r h = rw (raw_at-plain b (bs ++ (93 ∷ r)) h.0, raw_again (eqb b 92) bs r h.1) refl
+
+-- what is read is in the grammar
+pub record IsRawAt (escaped : Bool) (bytes v r : List ℕ) : Type 0 where
+  pub raw : IsRaw escaped v
+  pub parts : bytes ≡ v ++ (93 ∷ r)
+
+IsRawAt-first : (escaped e : Bool) (b : ℕ) (bs v r : List ℕ) → (x : List ℕ × List ℕ) → IsRawAt e bs x.0 x.1 → with_first b x ≡ Some (v, r) → (IsRaw e x.0 → IsRaw escaped (b ∷ x.0)) → IsRawAt escaped (b ∷ bs) v r
+IsRawAt-first escaped e b bs v r x h eq up =
+    let same = some_pair_parts (b ∷ x.0) v x.1 r eq in
+    rw (← same.0, ← same.1) (record { raw = up h.raw; parts = ap (λ (y : List ℕ). b ∷ y) h.parts })
+
+pub raw_takes : (escaped : Bool) (bytes v r : List ℕ) → raw_at escaped bytes ≡ Some (v, r) → IsRawAt escaped bytes v r
+raw_takes escaped [] v r e = absurd (let n = raw_at-nil escaped in cc)
+raw_takes true (b ∷ bs) v r e =
+    let s = bind_some (raw_at false bs) (with_first b) (v, r) (sym (raw_at-escaped b bs) ∙ e) in
+    IsRawAt-first true false b bs v r s.0 (raw_takes false bs s.0.0 s.0.1 s.1) s.2 (λ h. h)
+raw_takes false (b ∷ bs) v r e =
+    elim (eqb b 93) as (λ t. eqb b 93 ≡ t → IsRawAt false (b ∷ bs) v r) [
+      | true ↦ λ t.
+          let same = some_pair_parts [] v bs r (sym (raw_at-end b bs t) ∙ e) in
+          rw (← same.0, ← same.1, eqb-true b 93 t) (record { raw = refl; parts = refl })
+      | false ↦ λ t. let s = bind_some (raw_at (eqb b 92) bs) (with_first b) (v, r) (sym (raw_at-plain b bs t) ∙ e) in
+          IsRawAt-first false (eqb b 92) b bs v r s.0 (raw_takes (eqb b 92) bs s.0.0 s.0.1 s.1) s.2 (λ h. (t, h))
+    ] refl
+
+-- ---- words
+
+pub word_of-word : (b : ℕ) (bs : List ℕ) → is_word b ≡ true → word_of (b ∷ bs) ≡ b ∷ word_of bs
+unfolding word_of
+word_of-word b bs e = rw e refl
+
+pub word_of-other : (bytes : List ℕ) → begins is_word bytes ≡ false → word_of bytes ≡ []
+unfolding word_of
+word_of-other [] e = refl
+word_of-other (b ∷ bs) e = rw e refl
+
+pub after_word-word : (b : ℕ) (bs : List ℕ) → is_word b ≡ true → after_word (b ∷ bs) ≡ after_word bs
+unfolding after_word
+after_word-word b bs e = rw e refl
+
+pub after_word-other : (bytes : List ℕ) → begins is_word bytes ≡ false → after_word bytes ≡ bytes
+unfolding after_word
+after_word-other [] e = refl
+after_word-other (b ∷ bs) e = rw e refl
+
+pub word_again : (w r : List ℕ) → IsWord w → begins is_word r ≡ false → (word_of (w ++ r) ≡ w) × (after_word (w ++ r) ≡ r)
+word_again [] r h e = (word_of-other r e, after_word-other r e)
+word_again (b ∷ bs) r h e =
+    let s = word_again bs r h.1 e in
+    (word_of-word b (bs ++ r) h.0 ∙ ap (λ (x : List ℕ). b ∷ x) s.0, after_word-word b (bs ++ r) h.0 ∙ s.1)
+
+pub word_takes : (bytes : List ℕ) → IsWord (word_of bytes) × (bytes ≡ word_of bytes ++ after_word bytes) × (begins is_word (after_word bytes) ≡ false)
+word_takes [] = rw (word_of-other [] refl, after_word-other [] refl) (tt, refl, refl)
+word_takes (b ∷ bs) =
+    elim (is_word b) as (λ t. is_word b ≡ t → IsWord (word_of (b ∷ bs)) × (b ∷ bs ≡ word_of (b ∷ bs) ++ after_word (b ∷ bs)) × (begins is_word (after_word (b ∷ bs)) ≡ false)) [
+      | true ↦ λ e. let r = word_takes bs in rw (word_of-word b bs e, after_word-word b bs e) ((e, r.0), ap (λ (x : List ℕ). b ∷ x) r.1, r.2)
+      | false ↦ λ e. rw (word_of-other (b ∷ bs) e, after_word-other (b ∷ bs) e) (tt, refl, e)
+    ] refl
+
+-- how far the loop has come
+abbrev pub word_so_far : List ℕ → ℕ → Type 0
+word_so_far bytes i = (take i bytes ++ word_of (drop i bytes) ≡ word_of bytes) × (after_word (drop i bytes) ≡ after_word bytes)
+
+pub word_more : (bytes : List ℕ) (i : ℕ) → i < length bytes → is_word (get_or bytes i 0) ≡ true → word_so_far bytes i → word_so_far bytes (i + 1)
+word_more bytes i lt e h =
+    let d = drop_more bytes i 0 lt in (
+      rw (take_more bytes i 0 lt, append_assoc) (ap (λ (x : List ℕ). take i bytes ++ x) (sym (word_of-word _ _ e) ∙ ap word_of (sym d)) ∙ h.0),
+      sym (after_word-word _ _ e) ∙ ap after_word (sym d) ∙ h.1,
+    )
+
+pub word_ends : (bytes : List ℕ) (i : ℕ) → begins is_word (drop i bytes) ≡ false → word_so_far bytes i → (take i bytes ≡ word_of bytes) × (drop i bytes ≡ after_word bytes)
+word_ends bytes i e h =
+    (sym (append-nil (take i bytes)) ∙ ap (λ (x : List ℕ). take i bytes ++ x) (sym (word_of-other _ e)) ∙ h.0, sym (after_word-other _ e) ∙ h.1)
+
+pub no_word_at : (bytes : List ℕ) (i : ℕ) → i < length bytes → is_word (get_or bytes i 0) ≡ false → begins is_word (drop i bytes) ≡ false
+no_word_at bytes i lt e = rw (drop_more bytes i 0 lt) e
+
+pub no_word_past : (bytes : List ℕ) (i : ℕ) → length bytes ≤ i → begins is_word (drop i bytes) ≡ false
+no_word_past bytes i le = rw (drop_all i bytes le) refl
+
+pub word_all : (bytes : List ℕ) (i : ℕ) → length bytes ≤ i → word_so_far bytes i → (take (length bytes) bytes ≡ word_of bytes) × (drop (length bytes) bytes ≡ after_word bytes)
+word_all bytes i le h =
+    let s = word_ends bytes i (no_word_past bytes i le) h in
+    (take_all (length bytes) bytes (omega arith) ∙ sym (take_all i bytes le) ∙ s.0, drop_all (length bytes) bytes (omega arith) ∙ sym (drop_all i bytes le) ∙ s.1)

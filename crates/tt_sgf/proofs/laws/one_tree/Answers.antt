@@ -1,0 +1,5 @@
+use Rattle.tt_sgf.proofs.TreeLemmas.{one_tree}
+use Rattle.tt_sgf.proofs.laws.one_tree.Goals as goal
+
+pub returns : goal.returns
+returns c = one_tree

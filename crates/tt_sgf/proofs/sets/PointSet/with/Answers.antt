@@ -1,0 +1,9 @@
+use Rattle.std.proofs.Common.{ap, ◌∙◌, arith}
+use Rattle.std.specs.FinSet as set
+use Rattle.tt_sgf.proofs.BitLemmas.{points-with}
+use Rattle.tt_sgf.proofs.sets.PointSet.with.Goals as goal
+
+pub returns : goal.returns
+returns c =
+    let is = c.from.ensures ∙ c.number.ensures.number in
+    points-with c.self.inside.words c.set_bit.result c.from.result (omega arith) c.set_bit.ensures.same c.set_bit.ensures.others ∙ ap (set.insert _) is ∙ ap (λ s. set.insert s c.args.p) c.self.view_is

@@ -1,0 +1,9 @@
+use Rattle.std.proofs.Common.{sym, arith}
+use Rattle.tt_sgf.specs.SizeLaws.{sized_is, sized_out}
+use Rattle.tt_sgf.proofs.size.Size.new.Goals as goal
+
+pub returns-then-rows-le19-clause-is : goal.returns-then-rows-le19-clause-is
+returns-then-rows-le19-clause-is c = sym (sized_is _)
+
+pub returns-else-columns-ge1-clause-is : goal.returns-else-columns-ge1-clause-is
+returns-else-columns-ge1-clause-is c = sym (sized_out c.args.columns c.args.rows (λ h. grind arith))

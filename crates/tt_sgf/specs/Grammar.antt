@@ -1,0 +1,126 @@
+-- Game trees of SGF FF[4] (https://www.red-bean.com/sgf/sgf4.html, "EBNF Definition"), by cases over nested trees. As
+-- in older files, lower-case letters of an identifier are skipped; digits are kept.
+use Rattle.std.specs.Prelude.{◌≡◌, ◌≢◌, ℕ, Bool, true, false, ◌&&◌, ◌||◌, ◌==◌, nat_le, ◌+◌, List, [], ◌∷◌, ◌++◌, length}
+use Rattle.std.specs.List.{filter, list_any, AllByRecursion}
+use Rattle.tt_sgf.specs.declared.nodes.Node.{Node}
+use Rattle.tt_sgf.specs.declared.nodes.Property.{Property}
+
+-- ---- bytes, by their codes in ASCII: 40 and 41 are ( and ), 59 is ;, 91 and 93 are [ and ], 92 is a backslash
+
+-- white space is the bytes 9 to 13 and 32
+unfoldable pub is_blank : ℕ → Bool
+is_blank b = (nat_le 9 b && nat_le b 13) || (b == 32)
+
+-- A to Z
+unfoldable pub is_upper : ℕ → Bool
+is_upper b = nat_le 65 b && nat_le b 90
+
+-- 0 to 9
+unfoldable pub is_digit : ℕ → Bool
+is_digit b = nat_le 48 b && nat_le b 57
+
+-- a to z
+unfoldable pub is_lower : ℕ → Bool
+is_lower b = nat_le 97 b && nat_le b 122
+
+-- what the name of an identifier keeps
+unfoldable pub is_kept : ℕ → Bool
+is_kept b = is_upper b || is_digit b
+
+-- a letter or a digit
+unfoldable pub is_word : ℕ → Bool
+is_word b = (is_upper b || is_digit b) || is_lower b
+
+-- ---- tokens
+
+-- a text of white space
+abbrev pub IsBlank : List ℕ → Type 0
+IsBlank [] = Unit {0}
+IsBlank (b ∷ bs) = (is_blank b ≡ true) × IsBlank bs
+
+-- what stands between brackets: the byte behind a backslash is escaped, and a `]` has to be; at `true` the first byte
+-- is escaped
+abbrev pub IsRaw : Bool → List ℕ → Type 0
+IsRaw escaped [] = escaped ≡ false
+IsRaw true (b ∷ bs) = IsRaw false bs
+IsRaw false (b ∷ bs) = ((b == 93) ≡ false) × IsRaw (b == 92) bs
+
+-- letters and digits
+abbrev pub IsWord : List ℕ → Type 0
+IsWord [] = Unit {0}
+IsWord (b ∷ bs) = (is_word b ≡ true) × IsWord bs
+
+-- an identifier, and its name: the upper-case letters and digits in it
+abbrev pub IsIdent : List ℕ → List ℕ → Type 0
+IsIdent text name = IsWord text × (list_any is_upper text ≡ true) × (name ≡ filter is_kept text)
+
+-- ---- lists of values, properties and nodes; white space may stand before each token
+
+-- values in brackets
+abbrev pub AreValues : List ℕ → List (List ℕ) → Type 0
+AreValues text [] = text ≡ []
+AreValues text (v ∷ vs) = (blank : List ℕ) × (more : List ℕ) × IsBlank blank × IsRaw false v × AreValues more vs
+    × (text ≡ blank ++ (91 ∷ (v ++ (93 ∷ more))))
+
+-- properties: an identifier and one or more values each
+abbrev pub AreProperties : List ℕ → List Property → Type 0
+AreProperties text [] = text ≡ []
+AreProperties text (p ∷ ps) = (blank : List ℕ) × (ident : List ℕ) × (values : List ℕ) × (more : List ℕ) × IsBlank blank × IsIdent ident p.ident
+    × (p.values ≢ []) × AreValues values p.values × AreProperties more ps
+    × (text ≡ blank ++ (ident ++ (values ++ more)))
+
+-- nodes: a semicolon and properties each
+abbrev pub AreNodes : List ℕ → List Node → Type 0
+AreNodes text [] = text ≡ []
+AreNodes text (n ∷ ns) = (blank : List ℕ) × (properties : List ℕ) × (more : List ℕ) × IsBlank blank × AreProperties properties n.properties × AreNodes more ns
+    × (text ≡ blank ++ (59 ∷ (properties ++ more)))
+
+-- ---- trees
+
+-- a game tree: a sequence of nodes, and the trees behind it
+mutual
+  pub data GameTree : Type 0 where
+    game : List Node → Trees → GameTree
+
+  pub data Trees : Type 0 where
+    no_tree : Trees
+    more_trees : GameTree → Trees → Trees
+
+-- the text of a game tree: from its `(` to its `)`, a sequence of one or more nodes, then trees
+abbrev mutual
+  pub Spells : List ℕ → GameTree → Type 0
+  Spells text (game nodes trees) = (sequence : List ℕ) × (subtrees : List ℕ) × (blank : List ℕ) × (nodes ≢ []) × AreNodes sequence nodes × AreTrees subtrees trees × IsBlank blank
+      × (text ≡ 40 ∷ (sequence ++ (subtrees ++ (blank ++ (41 ∷ [])))))
+
+  pub AreTrees : List ℕ → Trees → Type 0
+  AreTrees text no_tree = text ≡ []
+  AreTrees text (more_trees t ts) = (blank : List ℕ) × (tree : List ℕ) × (more : List ℕ) × IsBlank blank × Spells tree t × AreTrees more ts
+      × (text ≡ blank ++ (tree ++ more))
+
+-- the nodes of a tree, and the main line of its first sub-tree
+abbrev mutual
+  pub main_line : GameTree → List Node
+  main_line (game nodes trees) = nodes ++ first_main_line trees
+
+  pub first_main_line : Trees → List Node
+  first_main_line no_tree = []
+  first_main_line (more_trees t ts) = main_line t
+
+-- the first `(` of the bytes begins a text of the tree, which ends behind that many bytes
+pub record SpelledUpTo (bytes : List ℕ) (count : ℕ) (t : GameTree) : Type 0 where
+  pub skipped : List ℕ
+  pub text : List ℕ
+  pub rest : List ℕ
+  pub no_open : list_any (λ b. b == 40) skipped ≡ false
+  pub spells : Spells text t
+  pub parts : bytes ≡ skipped ++ (text ++ rest)
+  pub count_is : count ≡ length skipped + length text
+
+-- no tree begins at the first `(`, or there is none
+abbrev pub HasNoTree : List ℕ → Type 0
+HasNoTree bytes = (t : GameTree) (count : ℕ) → SpelledUpTo bytes count t → ⊥
+
+-- what each main line is: not empty, and each property has a value
+pub record IsMainLine (nodes : List Node) : Type 0 where
+  pub some : nodes ≢ []
+  pub values : AllByRecursion (λ n. AllByRecursion (λ p. p.values ≢ []) n.properties) nodes

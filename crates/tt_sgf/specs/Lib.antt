@@ -1,0 +1,9 @@
+pub mod Grammar
+pub mod Values
+pub mod Sizes
+pub mod SizeLaws
+pub mod Points
+pub mod PointLaws
+pub mod Entries
+pub mod Reading
+pub mod Words

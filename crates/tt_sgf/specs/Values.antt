@@ -1,0 +1,149 @@
+-- Property values of SGF FF[4] (https://www.red-bean.com/sgf/sgf4.html, "Property value types", and go.html, "Go
+-- specific properties"): numbers, points and passes, sizes of boards. A number is at most 65,535, and a side at most 19.
+use Rattle.std.specs.Prelude.{◌≡◌, ◌≢◌, ℕ, ◌+◌, ◌-◌, ◌*◌, ◌<◌, ◌≤◌, true, cond, ◌⊎◌, nat_le, nat_lt, ◌&&◌, ◌==◌, List, [], ◌∷◌, ◌++◌, Option, Some, None}
+use Rattle.tt_sgf.specs.declared.size.Size.{Size}
+use Rattle.tt_sgf.specs.declared.size.PointOrPass.{PointOrPass}
+use Rattle.tt_sgf.specs.declared.size.PointOrPass.TheVariants.{On, Pass}
+use Rattle.tt_sgf.specs.Grammar.{is_blank, is_digit, IsBlank}
+use Rattle.tt_sgf.specs.Sizes.{sized}
+
+-- ---- what values mean; bytes stand as their codes: 43 is +, 48 is 0, 58 is :, 97 is a, 116 is t
+
+-- the text stands in the bytes, with nothing but white space at both ends
+pub record StandsIn (text bytes : List ℕ) : Type 0 where
+  pub before : List ℕ
+  pub behind : List ℕ
+  pub blank_before : IsBlank before
+  pub blank_behind : IsBlank behind
+  pub parts : bytes ≡ before ++ (text ++ behind)
+
+-- each byte is a digit
+abbrev pub AreDigits : List ℕ → Type 0
+AreDigits [] = Unit {0}
+AreDigits (b ∷ bs) = (is_digit b ≡ true) × AreDigits bs
+
+-- what digits are worth behind a number
+abbrev pub decimal : ℕ → List ℕ → ℕ
+decimal n [] = n
+decimal n (b ∷ bs) = decimal (n * 10 + (b - 48)) bs
+
+-- the text is an optional `+` and digits, which are worth n
+pub record IsNumeral (text : List ℕ) (n : ℕ) : Type 0 where
+  pub digits : List ℕ
+  pub some : digits ≢ []
+  pub are : AreDigits digits
+  pub value : n ≡ decimal 0 digits
+  pub fits : n ≤ 65535
+  pub stands : (text ≡ digits) ⊎ (text ≡ 43 ∷ digits)
+
+-- a number
+abbrev pub IsNumber : List ℕ → ℕ → Type 0
+IsNumber bytes n = (text : List ℕ) × IsNumeral text n × StandsIn text bytes
+
+-- one number for both sides, or columns and rows with a colon and no white space between them
+abbrev pub AreSides : List ℕ → Size → Type 0
+AreSides text size = (IsNumeral text size.columns × (size.rows ≡ size.columns))
+    ⊎ ((columns : List ℕ) × (rows : List ℕ) × IsNumeral columns size.columns × IsNumeral rows size.rows × (text ≡ columns ++ (58 ∷ rows)))
+
+-- the size of a board
+abbrev pub IsBoardSize : List ℕ → Size → Type 0
+IsBoardSize bytes size = (text : List ℕ) × AreSides text size × StandsIn text bytes
+
+-- two letters, column then row, `a` being the first, both on the board
+pub record IsPoint (size : Size) (bytes : List ℕ) (p : ℕ) : Type 0 where
+  pub column : ℕ
+  pub row : ℕ
+  pub column_in : column < size.columns
+  pub row_in : row < size.rows
+  pub number : p ≡ row * size.columns + column
+  pub stands : StandsIn ((97 + column) ∷ (97 + row) ∷ []) bytes
+
+-- nothing, or `tt`
+abbrev pub IsPass : List ℕ → Type 0
+IsPass bytes = StandsIn [] bytes ⊎ StandsIn (116 ∷ 116 ∷ []) bytes
+
+-- the value of a move
+abbrev pub IsPointOrPass : Size → List ℕ → PointOrPass → Type 0
+IsPointOrPass size bytes (On p) = IsPoint size bytes p
+IsPointOrPass size bytes Pass = IsPass bytes
+
+-- ---- the same as functions, for definitions that compute with values
+
+-- what is left behind the white space at the front
+unfoldable pub after_blanks : List ℕ → List ℕ
+after_blanks [] = []
+after_blanks (b ∷ bs) = cond (is_blank b) (after_blanks bs) (b ∷ bs)
+
+-- a byte before a text; white space before nothing is left out
+abbrev pub first_or_none : ℕ → List ℕ → List ℕ
+first_or_none b [] = cond (is_blank b) [] (b ∷ [])
+first_or_none b (c ∷ cs) = b ∷ (c ∷ cs)
+
+-- without the white space at the end
+unfoldable pub without_end : List ℕ → List ℕ
+without_end [] = []
+without_end (b ∷ bs) = first_or_none b (without_end bs)
+
+-- without the white space at both ends
+abbrev pub trimmed : List ℕ → List ℕ
+trimmed bytes = without_end (after_blanks bytes)
+
+-- what digits are worth behind a number, where it is at most 65,535
+unfoldable pub digits_of : ℕ → List ℕ → Option ℕ
+digits_of n [] = Some n
+digits_of n (b ∷ bs) = cond (is_digit b) (cond (nat_le (n * 10 + (b - 48)) 65535) (digits_of (n * 10 + (b - 48)) bs) None) None
+
+-- what one or more digits are worth
+abbrev pub some_digits : List ℕ → Option ℕ
+some_digits [] = None
+some_digits (b ∷ bs) = digits_of 0 (b ∷ bs)
+
+-- without a `+` at the front
+abbrev pub behind_plus : List ℕ → List ℕ
+behind_plus [] = []
+behind_plus (b ∷ bs) = cond (b == 43) bs (b ∷ bs)
+
+-- the number that a text is
+abbrev pub numeral_of : List ℕ → Option ℕ
+numeral_of text = some_digits (behind_plus text)
+
+-- the number that a value is
+unfoldable pub number_of : List ℕ → Option ℕ
+number_of bytes = numeral_of (trimmed bytes)
+
+-- what stands before the first colon
+unfoldable pub before_colon : List ℕ → List ℕ
+before_colon [] = []
+before_colon (b ∷ bs) = cond (b == 58) [] (b ∷ before_colon bs)
+
+-- what stands behind the first colon, where there is one
+unfoldable pub behind_colon : List ℕ → Option (List ℕ)
+behind_colon [] = None
+behind_colon (b ∷ bs) = cond (b == 58) (Some bs) (behind_colon bs)
+
+-- the size of two numbers, where both are there
+abbrev pub both_sides : Option ℕ → Option ℕ → Option Size
+both_sides None r = None
+both_sides (Some c) None = None
+both_sides (Some c) (Some r) = sized c r
+
+-- the sides that a text names, given what stands behind its first colon
+abbrev pub sides_of : List ℕ → Option (List ℕ) → Option Size
+sides_of text None = both_sides (numeral_of text) (numeral_of text)
+sides_of text (Some rows) = both_sides (numeral_of (before_colon text)) (numeral_of rows)
+
+-- the size that a value is
+unfoldable pub size_of : List ℕ → Option Size
+size_of bytes = sides_of (trimmed bytes) (behind_colon (trimmed bytes))
+
+-- the point of two letters, where the board has it
+abbrev pub place : Size → ℕ → ℕ → Option PointOrPass
+place size column row = cond ((nat_le 97 column && nat_lt (column - 97) size.columns) && (nat_le 97 row && nat_lt (row - 97) size.rows))
+    (Some (On ((row - 97) * size.columns + (column - 97)))) None
+
+-- the point or the pass that a text is
+unfoldable pub point_of : Size → List ℕ → Option PointOrPass
+point_of size [] = Some Pass
+point_of size (c ∷ []) = None
+point_of size (c ∷ r ∷ []) = cond (c == 116 && r == 116) (Some Pass) (place size c r)
+point_of size (c ∷ r ∷ x ∷ xs) = None

@@ -1,0 +1,38 @@
+//! Reads SGF FF[4]: the main line of a game tree, and the values of its properties as sizes, points and sets of points.
+//!
+//! | Module | What it holds |
+//! |---|---|
+//! | `trees` | `read_tree` and `has_tree`: from bytes to the nodes of the main line |
+//! | `properties`, `tokens` | what a node is made of |
+//! | `nodes`, `items` | `MainLine`, `Node`, `Property`, and the list that they are made of |
+//! | `value_kinds` | `number`, `point` and `board_size`: what one value says |
+//! | `entries` | `point_set`: what the values of a point list say together |
+//! | `size`, `sets` | `Size`, `Point`, `PointOrPass` and `PointSet` |
+//! | `faults` | `SgfFault`, `BadPoint`, `NoMemory` |
+//! | `laws` | one tree a text, and one reading of the bytes |
+#![tactic(auto)]
+
+mod entries;
+mod faults;
+mod items;
+pub mod laws;
+mod nodes;
+mod properties;
+mod sets;
+mod size;
+mod tokens;
+mod trees;
+mod value_kinds;
+
+pub use entries::point_set;
+pub use faults::{BadPoint, NoMemory, SgfFault};
+pub use items::Items;
+pub use nodes::{MainLine, Node, Property};
+pub use sets::PointSet;
+pub use size::{Point, PointOrPass, Size};
+pub use tokens::skip_blanks;
+pub use trees::{MAX_BYTES, has_tree, read_tree};
+pub use value_kinds::{board_size, number, point, trim};
+
+#[cfg(test)]
+mod tests;

@@ -1,0 +1,26 @@
+//! The nodes of a main line, with their properties as they were read.
+
+use super::items::Items;
+
+/// A property: its name, and at least one value where `read_tree` made it.
+#[derive(Drop)]
+pub struct Property {
+    /// The upper-case letters and the digits of the identifier, in order: `GM` where it was `GaMe`.
+    pub ident: Items<u8>,
+    /// The bytes between the brackets of each value, backslashes among them.
+    pub values: Items<Items<u8>>,
+}
+
+/// A node: its properties in order. It may have none, and a name may stand in it twice.
+#[derive(Drop)]
+pub struct Node {
+    /// The properties, as they stood.
+    pub properties: Items<Property>,
+}
+
+/// The nodes of a game tree, followed by the main line of its first sub-tree where it has one.
+#[derive(Drop)]
+pub struct MainLine {
+    /// The nodes from the root on, at least one where `read_tree` made it.
+    pub nodes: Items<Node>,
+}

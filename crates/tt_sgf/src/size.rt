@@ -1,0 +1,116 @@
+//! Sizes of boards, and points by their numbers.
+
+ghost use Rattle.std.specs.Prelude.{◌≡◌, ℕ, ◌<◌, ◌≤◌, ◌↔◌, IsTrue, IsSome, IfSome, MatchOption};
+
+use std::marker::Model;
+
+/// The size of a board: 1 to 19 columns and 1 to 19 rows.
+#[derive(Clone, Copy, Debug, PartialEq, Eq, Hash)]
+pub struct Size {
+    columns: u16,
+    rows: u16,
+    ghost columns_in: { (1 ≤ columns) × (columns ≤ 19) },
+    ghost rows_in: { (1 ≤ rows) × (rows ≤ 19) },
+}
+
+/// A point by its number: row times columns plus column, both from 0 at the upper left. It is below 361; whether a
+/// board has it, `Size::holds` says.
+#[derive(Clone, Copy, Debug, PartialEq, Eq, PartialOrd, Ord, Hash)]
+pub struct Point(u16);
+
+impl Model for Point {
+    ghost use Rattle.std.specs.Prelude.{ℕ, ◌<◌};
+
+    ghost Value = { ℕ };
+
+    ghost view = { λ p. p.0 };
+
+    ghost invariant = { λ p. p.0 < 361 };
+
+    ghost inverse = { λ n. record { 0 = n } };
+}
+
+/// What the value of a move says.
+#[derive(Clone, Copy, Debug, PartialEq, Eq)]
+pub enum PointOrPass {
+    /// A point of the board.
+    On(Point),
+    /// A pass.
+    Pass,
+}
+
+impl Size {
+    ghost use Rattle.tt_sgf.specs.Sizes.{point_count, sized};
+
+    /// The size of so many columns and rows: one exactly where both are 1 to 19.
+    pub fn new(columns: u16, rows: u16) -> Option<Size>
+        ensures is { result ≡ sized columns rows }
+        ensures made { IsSome result ↔ ((1 ≤ columns) × (columns ≤ 19) × (1 ≤ rows) × (rows ≤ 19)) }
+        ensures sides { IfSome result (λ s. (s.columns ≡ columns) × (s.rows ≡ rows)) }
+    {
+        if columns >= 1 && columns <= 19 && rows >= 1 && rows <= 19 {
+            Some(Size { columns, rows })
+        } else {
+            None
+        }
+    }
+
+    /// How many columns the board has, 1 to 19.
+    pub fn columns(self) -> u16
+        ensures { result ≡ self.columns }
+    {
+        self.columns
+    }
+
+    /// How many rows the board has, 1 to 19.
+    pub fn rows(self) -> u16
+        ensures { result ≡ self.rows }
+    {
+        self.rows
+    }
+
+    /// How many points the board has: columns times rows, 1 to 361.
+    pub fn point_count(self) -> usize
+        ensures value { result ≡ point_count self }
+        ensures some { 1 ≤ result }
+        ensures most { result ≤ 361 }
+    {
+        usize::from(self.columns) * usize::from(self.rows)
+    }
+
+    /// The point of this number: one exactly where the number is below `point_count`.
+    pub fn point(self, number: u16) -> Option<Point>
+        ensures { MatchOption result (point_count self ≤ number) (λ p. (p ≡ number) × (number < point_count self)) }
+    {
+        if number < self.columns * self.rows {
+            Some(Point(number))
+        } else {
+            None
+        }
+    }
+
+    /// Whether the point is on the board: whether its number is below `point_count`.
+    pub fn holds(self, p: Point) -> bool
+        ensures { IsTrue result ↔ (p < point_count self) }
+    {
+        p.0 < self.columns * self.rows
+    }
+}
+
+impl Point {
+    /// The number of the point, below 361.
+    pub fn number(self) -> u16
+        ensures number { result ≡ self }
+        ensures bound { result < 361 }
+    {
+        self.0
+    }
+}
+
+/// The point of a number that is known to be small enough.
+pub(crate) fn point_numbered(number: u16) -> Point
+    requires { number < 361 }
+    ensures { result ≡ number }
+{
+    Point(number)
+}

@@ -1,0 +1,128 @@
+//! Tokens of the grammar: white space, identifiers, and what stands between the brackets of a value.
+
+ghost use Rattle.std.specs.Prelude.{◌≡◌, ◌+◌, ◌<◌, length, false, IfOk, take, drop, Some, None, MatchOption, ◌∷◌, ◌==◌};
+ghost use Rattle.std.specs.List.{filter, list_any};
+ghost use Rattle.tt_sgf.specs.Grammar.{is_blank, is_word, is_kept, is_upper, is_digit};
+ghost use Rattle.tt_sgf.specs.Reading.{raw_at, word_of, after_word, begins, Gives};
+ghost use Rattle.tt_sgf.specs.Values.{after_blanks};
+
+use super::faults::SgfFault;
+use super::items::Items;
+use std::alloc::{AllocError, Global};
+
+/// Whether a byte is white space: 9 to 13, or 32.
+#[tactic(auto, unfolding(crate::specs::Grammar::is_blank))]
+pub(crate) fn is_blank(b: u8) -> bool
+    ensures { result ≡ is_blank b }
+{
+    (b >= 9 && b <= 13) || b == 32
+}
+
+#[tactic(auto, unfolding(crate::specs::Grammar::is_upper))]
+fn is_upper(b: u8) -> bool
+    ensures { result ≡ is_upper b }
+{
+    b >= b'A' && b <= b'Z'
+}
+
+#[tactic(auto, unfolding(crate::specs::Grammar::is_digit))]
+pub(crate) fn is_digit(b: u8) -> bool
+    ensures { result ≡ is_digit b }
+{
+    b >= b'0' && b <= b'9'
+}
+
+#[tactic(auto, unfolding(crate::specs::Grammar::is_kept))]
+fn is_kept(b: u8) -> bool
+    ensures { result ≡ is_kept b }
+{
+    is_upper(b) || is_digit(b)
+}
+
+#[tactic(auto, unfolding(crate::specs::Grammar::is_lower, crate::specs::Grammar::is_kept, crate::specs::Grammar::is_word))]
+pub(crate) fn is_word(b: u8) -> bool
+    ensures { result ≡ is_word b }
+{
+    is_kept(b) || (b >= b'a' && b <= b'z')
+}
+
+/// What is left behind the white space at the front. Takes no memory.
+pub fn skip_blanks(bytes: &[u8]) -> &[u8]
+    ensures { result.now ≡ after_blanks bytes.now }
+{
+    let mut rest = bytes;
+    while let Some((first, after)) = rest.split_first() {
+        if !is_blank(*first) {
+            break;
+        }
+        rest = after;
+    }
+    rest
+}
+
+/// Where the bracket of a value stands.
+fn raw_end(bytes: &[u8]) -> Option<usize>
+    ensures { MatchOption result (raw_at false bytes.now ≡ None)
+        (λ i. (i < length bytes.now) × (raw_at false bytes.now ≡ Some (take i bytes.now, drop (i + 1) bytes.now))) }
+{
+    let mut escaped = false;
+    for (i, b) in bytes.iter().enumerate() {
+        if escaped {
+            escaped = false;
+        } else if *b == b']' {
+            return Some(i);
+        } else {
+            escaped = *b == b'\\';
+        }
+    }
+    None
+}
+
+/// The bytes of a value whose bracket is open.
+pub(crate) fn value(alloc: Global, bytes: &[u8]) -> Result<(Items<u8>, &[u8]), SgfFault>
+    ensures { Gives (λ x. (x.0, x.1.now)) result (raw_at false bytes.now) }
+{
+    let Some(end) = raw_end(bytes) else {
+        return Err(SgfFault::Syntax);
+    };
+    let raw = Vec::from_slice(alloc, &bytes[..end])?;
+    Ok((Items::from_vec(raw), &bytes[end + 1..]))
+}
+
+/// The letters and digits at the front, and what is left.
+pub(crate) fn word(bytes: &[u8]) -> (&[u8], &[u8])
+    ensures word { result.0.now ≡ word_of bytes.now }
+    ensures rest { result.1.now ≡ after_word bytes.now }
+{
+    for (i, b) in bytes.iter().enumerate() {
+        if !is_word(*b) {
+            return bytes.split_at(i);
+        }
+    }
+    bytes.split_at(bytes.len())
+}
+
+/// The name of an identifier: its upper-case letters and digits.
+pub(crate) fn name_of(alloc: Global, word: &[u8]) -> Result<Items<u8>, AllocError>
+    ensures { IfOk result (λ v. v ≡ filter is_kept word.now) }
+{
+    let name = word.iter().copied().filter(|b| is_kept(*b)).collect(alloc)?;
+    Ok(Items::from_vec(name))
+}
+
+/// Whether an upper-case letter is among the letters and digits.
+pub(crate) fn has_upper(word: &[u8]) -> bool
+    ensures { result ≡ list_any is_upper word.now }
+{
+    word.iter().any(|b| is_upper(*b))
+}
+
+/// What is left behind white space and this byte, where it stands there.
+pub(crate) fn after_byte(bytes: &[u8], byte: u8) -> Option<&[u8]>
+    ensures { MatchOption result (begins (λ b. b == byte) (after_blanks bytes.now) ≡ false) (λ r. after_blanks bytes.now ≡ byte ∷ r.now) }
+{
+    match skip_blanks(bytes).split_first() {
+        Some((first, after)) if *first == byte => Some(after),
+        _ => None,
+    }
+}
