@@ -1,0 +1,5 @@
+pub mod ChainLemmas
+pub mod LiftLemmas
+pub mod NearLemmas
+pub mod PlaneLemmas
+pub mod PlayLemmas

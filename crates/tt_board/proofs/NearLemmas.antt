@@ -1,0 +1,114 @@
+use Rattle.std.proofs.Common.{◌≡◌, ℕ, ◌+◌, ◌-◌, ◌*◌, ◌/◌, ◌%◌, ◌<◌, ◌↔◌, ◌⊎◌, List, [], ◌∷◌, ◌++◌, length, Contains, get_or, inl, inr, sym, ap, subst, ◌∙◌, arith}
+use Rattle.std.proofs.lemmas.Nat.{div-mul-add, mod-mul-add, div-add-mod', mod_below, mul-add-lt, div_below}
+use Rattle.std.proofs.lemmas.List.Elements.{Contains-push, Contains-append_left, Contains-push_cases, Contains-get_or}
+use Rattle.std.proofs.lemmas.List.{get_or_default}
+use Rattle.tt_sgf.specs.declared.size.Size.{Size}
+use Rattle.tt_sgf.specs.Sizes.{point_count}
+use Rattle.tt_board.specs.Near.{IsBeside, IsNeighbour}
+
+-- the four places beside p, as the code finds them
+pub data Side : ℕ → ℕ → ℕ → ℕ → Type 0 where
+  above : (w h p q : ℕ) → 0 < p / w → q ≡ p - w → Side w h p q
+  left : (w h p q : ℕ) → 0 < p % w → q ≡ p - 1 → Side w h p q
+  right : (w h p q : ℕ) → p % w + 1 < w → q ≡ p + 1 → Side w h p q
+  below : (w h p q : ℕ) → p / w + 1 < h → q ≡ p + w → Side w h p q
+
+-- a point beside p is one of the four
+side_of : (w h p q : ℕ) → 0 < w → p < w * h → q < w * h
+    → ((p / w ≡ q / w) × IsBeside (p % w) (q % w)) ⊎ ((p % w ≡ q % w) × IsBeside (p / w) (q / w)) → Side w h p q
+side_of w h p q pos in_p in_q (inl (same, inl step)) =
+    let rows = ap (λ r. r * w) same in
+    right w h p q (omega (arith, mod_below q w pos)) (omega (arith, div-add-mod' p w, div-add-mod' q w))
+side_of w h p q pos in_p in_q (inl (same, inr step)) =
+    let rows = ap (λ r. r * w) same in
+    left w h p q (omega arith) (omega (arith, div-add-mod' p w, div-add-mod' q w))
+side_of w h p q pos in_p in_q (inr (same, inl step)) =
+    let rows = ap (λ r. r * w) step in
+    let row_in : q / w < h = div_below q w h pos (omega arith) in
+    below w h p q (omega arith) (omega (arith, div-add-mod' p w, div-add-mod' q w))
+side_of w h p q pos in_p in_q (inr (same, inr step)) =
+    let rows = ap (λ r. r * w) step in
+    above w h p q (omega arith) (omega (arith, div-add-mod' p w, div-add-mod' q w))
+
+-- where a place is, by its row and column
+placed : (w h p q r k : ℕ) → k < w → r < h → q ≡ r * w + k → (q < w * h) × (q / w ≡ r) × (q % w ≡ k)
+placed w h p q r k in_row in_rows e =
+    (rw e (mul-add-lt r w k h in_rows in_row), rw e (div-mul-add r w k in_row), rw e (mod-mul-add r w k in_row))
+
+-- the row above
+row_before : (r w : ℕ) → 0 < r → (r - 1) * w + w ≡ r * w
+row_before r w h = let m = r - 1 in let e : r ≡ m + 1 = omega arith in let f = ap (λ x. x * w) e in omega (arith, f)
+
+-- each of the four is a neighbour
+of_side : (s : Size) (p q : ℕ) → 0 < s.columns → p < point_count s → Side s.columns s.rows p q → IsNeighbour s p q
+of_side s p q pos in_p (above w h _ _ up e) =
+    let row = div_below p w h pos (omega arith) in
+    let at = placed w h p q (p / w - 1) (p % w) (mod_below p w pos) (omega arith) (omega (arith, div-add-mod' p w, row_before (p / w) w up)) in
+    (at.0, inr (sym at.2, inr (omega arith)))
+of_side s p q pos in_p (left w h _ _ before e) =
+    let row = div_below p w h pos (omega arith) in
+    let at = placed w h p q (p / w) (p % w - 1) (omega (arith, mod_below p w pos)) row (omega (arith, div-add-mod' p w)) in
+    (at.0, inl (sym at.1, inr (omega arith)))
+of_side s p q pos in_p (right w h _ _ after e) =
+    let row = div_below p w h pos (omega arith) in
+    let at = placed w h p q (p / w) (p % w + 1) after row (omega (arith, div-add-mod' p w)) in
+    (at.0, inl (sym at.1, inl (omega arith)))
+of_side s p q pos in_p (below w h _ _ down e) =
+    let at = placed w h p q (p / w + 1) (p % w) (mod_below p w pos) down (omega (arith, div-add-mod' p w)) in
+    (at.0, inr (sym at.2, inl (omega arith)))
+
+-- ys is xs, with x at its end where P holds
+abbrev pub Adds : List ℕ → List ℕ → Type 0 → ℕ → Type 0
+Adds xs ys P x = (P × (ys ≡ xs ++ x ∷ [])) ⊎ ((P → ⊥) × (ys ≡ xs))
+
+added : {P : Type 0} (xs ys : List ℕ) (x q : ℕ) → Adds xs ys P x → Contains ys q → Contains xs q ⊎ (P × (q ≡ x))
+added xs ys x q (inl (p, e)) has =
+    let h = rw e at has in
+    elim (Contains-push_cases xs x q h) [ inl old ↦ inl old | inr new ↦ inr (p, sym new) ]
+added xs ys x q (inr (_, e)) has = inl (rw e at has)
+
+stays : {P : Type 0} (xs ys : List ℕ) (x q : ℕ) → Adds xs ys P x → Contains xs q → Contains ys q
+stays xs ys x q (inl (p, e)) has = rw e (Contains-append_left xs (x ∷ []) q has)
+stays xs ys x q (inr (_, e)) has = rw e has
+
+comes : {P : Type 0} (xs ys : List ℕ) (x q : ℕ) → Adds xs ys P x → P → q ≡ x → Contains ys q
+comes xs ys x q (inl (_, e)) p same = rw (same, e) (Contains-push xs x)
+comes xs ys x q (inr (none, _)) p same = absurd (none p)
+
+module _ (s : Size) (p : ℕ) (pos : 0 < s.columns) (in_p : p < point_count s) (n1 n2 n3 n4 : List ℕ)
+    (first : Adds [] n1 (0 < p / s.columns) (p - s.columns)) (second : Adds n1 n2 (0 < p % s.columns) (p - 1))
+    (third : Adds n2 n3 (p % s.columns + 1 < s.columns) (p + 1)) (fourth : Adds n3 n4 (p / s.columns + 1 < s.rows) (p + s.columns)) where
+  none_yet : (q : ℕ) → Contains {X = ℕ} [] q → ⊥
+  none_yet q has = omega arith
+
+  listed : (q : ℕ) → Side s.columns s.rows p q → Contains n4 q
+  listed q (above w h _ _ up e) =
+      stays n3 n4 _ q fourth (stays n2 n3 _ q third (stays n1 n2 _ q second (comes [] n1 _ q first up e)))
+  listed q (left w h _ _ before e) = stays n3 n4 _ q fourth (stays n2 n3 _ q third (comes n1 n2 _ q second before e))
+  listed q (right w h _ _ after e) = stays n3 n4 _ q fourth (comes n2 n3 _ q third after e)
+  listed q (below w h _ _ down e) = comes n3 n4 _ q fourth down e
+
+  only_sides : (q : ℕ) → Contains n4 q → Side s.columns s.rows p q
+  only_sides q has = elim (added n3 n4 _ q fourth has) [
+    | inr now ↦ below _ _ p q now.0 now.1
+    | inl h3 ↦ elim (added n2 n3 _ q third h3) [
+      | inr now ↦ right _ _ p q now.0 now.1
+      | inl h2 ↦ elim (added n1 n2 _ q second h2) [
+        | inr now ↦ left _ _ p q now.0 now.1
+        | inl h1 ↦ elim (added [] n1 _ q first h1) [ inr now ↦ above _ _ p q now.0 now.1 | inl h0 ↦ absurd (none_yet q h0) ]
+      ]
+    ]
+  ]
+
+  pub near_all : (q : ℕ) → Contains n4 q ↔ IsNeighbour s p q
+  near_all q = (λ has. of_side s p q pos in_p (only_sides q has), λ near. listed q (side_of s.columns s.rows p q pos in_p near.0 near.1))
+
+-- the item at an index is a neighbour
+pub near_at : (s : Size) (p : ℕ) (items xs : List ℕ) (k : ℕ) → xs ≡ items → ((q : ℕ) → Contains items q ↔ IsNeighbour s p q) → k < length xs → IsNeighbour s p (get_or xs k 0)
+near_at s p items xs k e all in' = (all (get_or xs k 0)).0 (subst (λ ys. Contains ys (get_or xs k 0)) e (Contains-get_or xs k 0 in'))
+
+-- the index of a neighbour
+pub index_of : (s : Size) (p : ℕ) (items xs : List ℕ) (q : ℕ) → xs ≡ items → ((r : ℕ) → Contains items r ↔ IsNeighbour s p r) → IsNeighbour s p q → (k : ℕ) × (k < length xs) × (get_or xs k 0 ≡ q)
+index_of s p items xs q e all near =
+    let h : Contains xs q = subst (λ ys. Contains ys q) (sym e) ((all q).1 near) in
+    (h.0, h.1, get_or_default xs h.0 0 q h.1 ∙ h.2)

@@ -1,0 +1,31 @@
+-- Marks on the points that reach something, as a fill finds them; private contracts alone cite these.
+use Rattle.std.specs.Prelude.{◌≡◌, ◌≢◌, ℕ, ◌<◌, ◌⊎◌, List, Option, Bool, false, not, IsTrue, slice_index_or, count_by}
+use Rattle.tt_board.specs.declared.Colour.{Colour}
+use Rattle.tt_sgf.specs.declared.size.Size.{Size}
+use Rattle.tt_sgf.specs.Sizes.{point_count}
+use Rattle.tt_board.specs.Near.{IsNeighbour}
+use Rattle.tt_board.specs.Position.{Colouring}
+use Rattle.tt_board.specs.Reach.{entry_at, Reaches}
+
+abbrev pub is_marked : List Bool → ℕ → Bool
+is_marked m p = slice_index_or m p false
+
+-- p, which is not e, is beside a point that is e, or beside a marked one that is like p
+abbrev pub IsNext : Size → Colouring → Option Colour → List Bool → ℕ → Type 0
+IsNext s c e m p =
+    (entry_at c p ≢ e) × ((q : ℕ) × IsNeighbour s p q × ((entry_at c q ≡ e) ⊎ ((entry_at c q ≡ entry_at c p) × IsTrue (is_marked m q))))
+
+-- only points that reach e are marked
+abbrev pub IsSound : Size → Colouring → Option Colour → List Bool → Type 0
+IsSound s c e m = (p : ℕ) → p < point_count s → IsTrue (is_marked m p) → Reaches s c p e
+
+-- all that is next to what is marked is marked
+abbrev pub IsClosed : Size → Colouring → Option Colour → List Bool → Type 0
+IsClosed s c e m = (p : ℕ) → p < point_count s → IsNext s c e m p → IsTrue (is_marked m p)
+
+-- exactly the points that reach e are marked
+abbrev pub IsFilled : Size → Colouring → Option Colour → List Bool → Type 0
+IsFilled s c e m = (p : ℕ) → p < point_count s → (IsTrue (is_marked m p) → Reaches s c p e) × (Reaches s c p e → IsTrue (is_marked m p))
+
+abbrev pub unmarked_count : List Bool → ℕ
+unmarked_count m = count_by not m

@@ -1,0 +1,10 @@
+pub mod Position
+pub mod Near
+pub mod Planes
+pub mod Reach
+pub mod Fill
+pub mod Chain
+pub mod ReachLaws
+pub mod Decided
+pub mod Play
+pub mod Laws

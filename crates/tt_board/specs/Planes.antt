@@ -1,0 +1,33 @@
+-- How a board keeps its colouring: a bit for each point in the words of Black's stones, and one in those of White's.
+-- Private contracts alone cite these.
+use Rattle.std.specs.Prelude.{◌≡◌, ℕ, ◌/◌, ◌%◌, ◌<◌, ◌≤◌, Option, Some, None, Bool, true, false, List, ◌==◌, map}
+use Rattle.std.specs.List.{slice_index, range_with_len}
+use Rattle.std.specs.Int.{bit_at}
+use Rattle.tt_board.specs.declared.Colour.{Colour}
+use Rattle.tt_board.specs.declared.Colour.TheVariants.{Black, White}
+use Rattle.tt_board.specs.Position.{Colouring}
+
+-- whether the bit of a number is 1, with 64 of them in each word
+unfoldable pub bit_in : List ℕ → ℕ → Bool
+bit_in words n = bit_at (slice_index words (n / 64)) (n % 64) == 1
+
+-- both have the same bits
+abbrev pub AreSameBits : List ℕ → List ℕ → Type 0
+AreSameBits a b = (n : ℕ) → n < 384 → bit_in a n ≡ bit_in b n
+
+-- what stands on a point, by its bits
+abbrev pub entry_of : Bool → Bool → Option Colour
+entry_of true w = Some Black
+entry_of false true = Some White
+entry_of false false = None
+
+-- the colouring of the first points
+unfoldable pub shown : ℕ → List ℕ → List ℕ → Colouring
+shown count black white = map (λ p. entry_of (bit_in black p) (bit_in white p)) (range_with_len 0 count)
+
+-- no point has both bits, and those past the last point are 0
+pub record IsPlain (count : ℕ) (black white : List ℕ) : Type 0 where
+  pub small : count ≤ 361
+  pub apart : (p : ℕ) → p < 384 → bit_in black p ≡ true → bit_in white p ≡ false
+  pub black_ends : (p : ℕ) → count ≤ p → p < 384 → bit_in black p ≡ false
+  pub white_ends : (p : ℕ) → count ≤ p → p < 384 → bit_in white p ≡ false

@@ -1,0 +1,13 @@
+-- What a board shows (the Tromp-Taylor rules of Go: each point of the grid is black, white or empty).
+use Rattle.std.specs.Prelude.{List, Option}
+use Rattle.tt_board.specs.declared.Colour.{Colour}
+use Rattle.tt_sgf.specs.declared.size.Size.{Size}
+
+-- an entry for each point, row by row: the colour of its stone, or none
+abbrev pub Colouring : Type 0
+Colouring = List (Option Colour)
+
+-- a size, and a colouring of its points
+pub record Position : Type 0 where
+  pub size : Size
+  pub points : Colouring

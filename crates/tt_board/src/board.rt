@@ -1,0 +1,162 @@
+//! The board: a colouring in which each stone reaches empty.
+
+ghost use Rattle.std.specs.Prelude.{◌≡◌, ◌≢◌, ℕ, ◌<◌, ◌≤◌, ◌↔◌, length, take, replicate, IsTrue, None, MatchResult};
+ghost use Rattle.tt_sgf.specs.Sizes.{point_count};
+
+use super::Colour;
+use super::area::count_area;
+use super::clearing::put;
+use super::colouring::Colouring;
+use super::fill::reaching;
+use super::setup::{cover, first_lifeless};
+use std::marker::Model;
+use tt_sgf::{Point, PointSet, Size};
+
+/// A board: a size, and a colouring of its points in which each stone reaches empty.
+#[derive(Drop)]
+pub struct Board {
+    size: Size,
+    points: Colouring,
+}
+
+impl Model for Board {
+    ghost use Rattle.std.specs.Prelude.{◌≡◌, length, take};
+    ghost use Rattle.tt_sgf.specs.Sizes.{point_count};
+    ghost use Rattle.tt_board.specs.Position.{Position};
+    ghost use Rattle.tt_board.specs.Play.{IsAlive};
+
+    ghost Value = { Position };
+
+    ghost view = { λ b. record { size = b.size; points = b.points } };
+
+    ghost invariant = { λ b. (length b.points ≡ point_count b.size) × IsAlive b.size b.points };
+}
+
+/// The point of a move has a stone already.
+#[derive(Clone, Copy, PartialEq, Eq, Debug)]
+pub struct Occupied;
+
+/// A stone that doesn't reach empty stands on this point.
+#[derive(Clone, Copy, PartialEq, Eq)]
+pub struct Lifeless(pub Point);
+
+impl Board {
+    ghost use Rattle.tt_board.specs.declared.Colour.TheVariants.{Black, White};
+    ghost use Rattle.tt_board.specs.Reach.{entry_at};
+    ghost use Rattle.tt_board.specs.Play.{play_of, score_of, placed, IsAlive, IsLeastLifeless};
+
+    /// The board of this size without any stone.
+    pub fn empty(size: Size) -> Board
+        ensures { result ≡ record { size = size; points = replicate (point_count size) None } }
+    {
+        Board {
+            size,
+            points: Colouring::empty(size.point_count()),
+        }
+    }
+
+    /// The same board again: a copy of some hundred bytes, which takes no memory.
+    pub fn copy(&self) -> Board
+        ensures { result ≡ self.now }
+    {
+        Board {
+            size: self.size,
+            points: self.points.copy(),
+        }
+    }
+
+    /// The size; the colouring has an entry for each of its points.
+    pub fn size(&self) -> Size
+        ensures value { result ≡ self.now.size }
+        ensures fits { length self.now.points ≡ point_count self.now.size }
+    {
+        self.size
+    }
+
+    /// The colour of the stone on `p`, a point of the board; none where `p` is empty.
+    pub fn at(&self, p: Point) -> Option<Colour>
+        requires { p < point_count self.now.size }
+        ensures { result ≡ entry_at self.now.points p }
+    {
+        self.points.at(usize::from(p.number()))
+    }
+
+    /// The board after a move of `colour` on `p`, a point of the board: the stone is put, then the other colour is cleared,
+    /// then `colour` (the Tromp-Taylor rules of Go), so that suicide takes one's own stones off.
+    /// `Occupied` exactly where `p` isn't empty. Whether a colouring repeats isn't looked at here.
+    pub fn play(&self, colour: Colour, p: Point) -> Result<Board, Occupied>
+        requires { p < point_count self.now.size }
+        ensures { MatchResult result
+            (λ b. (entry_at self.now.points p ≡ None)
+            × (b ≡ record { size = self.now.size; points = play_of self.now.size self.now.points colour p }))
+            (λ _. entry_at self.now.points p ≢ None) }
+    {
+        let index = usize::from(p.number());
+        if self.points.at(index).is_some() {
+            return Err(Occupied);
+        }
+        Ok(Board {
+            size: self.size,
+            points: put(self.size, &self.points, colour, index),
+        })
+    }
+
+    /// The board with black stones, white stones and empty points put over whatever stands there; nothing is cleared.
+    /// A point of several sets is black before it is white, and white before it is empty. Points past the board aren't looked at.
+    /// `Lifeless` exactly where some stone doesn't reach empty then, with the least point of such a stone.
+    pub fn set_up(
+        &self,
+        black: &PointSet,
+        white: &PointSet,
+        clear: &PointSet,
+    ) -> Result<Board, Lifeless>
+        ensures { let points = placed self.now.size self.now.points black.now white.now clear.now in
+            MatchResult result
+            (λ b. (b ≡ record { size = self.now.size; points = points }) × IsAlive self.now.size points)
+            (λ e. IsLeastLifeless self.now.size points e.0) }
+    {
+        let mut points = self.points.copy();
+        cover(self.size, &mut points, black, white, clear);
+        if let Some(p) = first_lifeless(self.size, &points) {
+            return Err(Lifeless(p));
+        }
+        Ok(Board {
+            size: self.size,
+            points,
+        })
+    }
+
+    /// Whether both boards have one size and one colouring.
+    pub fn same(&self, other: &Board) -> bool
+        ensures { IsTrue result ↔ (self.now ≡ other.now) }
+    {
+        if self.size != other.size {
+            return false;
+        }
+        self.points.same(&other.points)
+    }
+
+    /// The colouring as an array, row by row; places past the last point hold none.
+    pub fn entries(&self) -> [Option<Colour>; 361]
+        ensures shown { take (point_count self.now.size) result ≡ self.now.points }
+        ensures wide { length result ≡ 361 }
+        ensures rest { (k : ℕ) → point_count self.now.size ≤ k → entry_at result k ≡ None }
+    {
+        self.points.entries()
+    }
+
+    /// The area scores of Black and of White, each 0 to 361: a colour's stones, and the empty points that reach that colour alone
+    /// (the Tromp-Taylor rules of Go).
+    pub fn score(&self) -> (u16, u16)
+        ensures black { result.0 ≡ score_of self.now.size self.now.points Black }
+        ensures white { result.1 ≡ score_of self.now.size self.now.points White }
+    {
+        let entries = self.points.entries();
+        let points = &entries[..self.size.point_count()];
+        let by_black = reaching(self.size, points, Some(Colour::Black));
+        let by_white = reaching(self.size, points, Some(Colour::White));
+        let black = count_area(self.size, points, Colour::Black, &by_black, &by_white);
+        let white = count_area(self.size, points, Colour::White, &by_white, &by_black);
+        (black, white)
+    }
+}

@@ -1,0 +1,42 @@
+//! Boards of Go under the Tromp-Taylor rules: colourings in which each stone reaches empty, moves that capture, and area scores.
+//!
+//! A board takes no memory but its own, and no call of this crate fails for want of it.
+//! A contract sees a board as a `Position`: its size, and its colouring as a list of entries, row by row.
+#![tactic(auto)]
+
+ghost use Rattle.std.specs.Prelude.{◌≡◌};
+ghost use Rattle.tt_board.specs.Play.{other};
+
+mod area;
+mod board;
+mod chain;
+mod clearing;
+mod colouring;
+mod fill;
+pub mod laws;
+mod near;
+mod setup;
+
+pub use board::{Board, Lifeless, Occupied};
+
+/// The colour of a stone, and of the player who puts it.
+#[derive(Clone, Copy, PartialEq, Eq, Hash)]
+pub enum Colour {
+    Black,
+    White,
+}
+
+impl Colour {
+    /// The other colour: the opponent's.
+    pub fn other(self) -> Colour
+        ensures { result ≡ other self }
+    {
+        match self {
+            Colour::Black => Colour::White,
+            Colour::White => Colour::Black,
+        }
+    }
+}
+
+#[cfg(test)]
+mod tests;
