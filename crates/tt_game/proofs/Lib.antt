@@ -1,0 +1,11 @@
+pub mod FrameLemmas
+pub mod GameLemmas
+pub mod KeyLemmas
+pub mod TurnsLemmas
+pub mod ValueLemmas
+pub mod OneSide
+pub mod SomeSide
+pub mod NodeLemmas
+pub mod RecordLemmas
+pub mod ProblemLemmas
+pub mod OpenProblems

@@ -1,0 +1,84 @@
+-- Targets, and the nodes up to the first that marks one.
+use Rattle.std.proofs.Common.{◌≡◌, ℕ, zero, suc, ◌+◌, ◌*◌, ◌<◌, ◌≤◌, ltb, true, false, cond, List, [], ◌∷◌, Option, Some, None, Ok, Err, refl, sym, ap, ◌∙◌, inl, inr, arith}
+use Rattle.std.specs.List.{list_any, list_all}
+use Rattle.std.specs.FinSet as set
+use Rattle.std.specs.Ordering.{nat_cmp}
+use Rattle.std.proofs.lemmas.Bool.{cases_Bool, cases_eq, and_parts, or_cases, false≢true, ltb-true}
+use Rattle.std.proofs.lemmas.Option.{none-some}
+use Rattle.tt_sgf.specs.declared.size.Size.{Size}
+use Rattle.tt_sgf.specs.declared.nodes.Node.{Node}
+use Rattle.tt_sgf.specs.Sizes.{point_count}
+use Rattle.tt_sgf.specs.Entries.{set_of, covers, covers_by, entry_of, in_rectangle, is_entry}
+use Rattle.tt_sgf.specs.Values.{trimmed}
+use Rattle.tt_sgf.specs.Points.{passing}
+use Rattle.tt_sgf.specs.PointLaws.{contains-passing}
+use Rattle.tt_game.specs.declared.faults.GameFault.{GameFault}
+use Rattle.tt_game.specs.declared.faults.GameFault.TheVariants.{NoTarget}
+use Rattle.tt_game.specs.declared.records.Replay.{Replay}
+use Rattle.tt_game.specs.Nodes.{TR, has, set_named}
+use Rattle.tt_game.specs.Records.{and_then, step_node}
+use Rattle.tt_game.specs.Problems.{least_from, region_of, problem_at, run_to_mark}
+
+covered_on : (size : Size) (e : Option _) (q : ℕ) → covers_by size e q ≡ true → q < point_count size
+covered_on size None q h = absurd (false≢true h)
+covered_on size (Some e) q h = ltb-true q (size.columns * size.rows) (and_parts _ (in_rectangle size.columns e q) h).0
+
+any_on : (size : Size) (vs : List (List ℕ)) (q : ℕ) → list_any (λ v. covers size v q) vs ≡ true → q < point_count size
+any_on size [] q h = absurd (false≢true h)
+any_on size (v ∷ vs) q h = elim (or_cases (covers size v q) (list_any (λ w. covers size w q) vs) h) [
+  | inl here ↦ covered_on size (entry_of size (trimmed v)) q here
+  | inr there ↦ any_on size vs q there
+]
+
+-- the points of a point list are on the board
+pub set_on_board : (size : Size) (vs : List (List ℕ)) (s : set.FinSet nat_cmp) (q : ℕ) → set_of size vs ≡ Some s → set.contains s q ≡ true → q < point_count size
+unfolding set_of
+set_on_board size vs s q e h = elim (cases_Bool (list_all (is_entry size) vs)) [
+  | inr off ↦ absurd (none-some s (sym (ap (λ b. cond b (Some (passing (λ p. list_any (λ v. covers size v p) vs) 361)) None) off) ∙ e))
+  | inl on ↦
+      let is : Some s ≡ Some (passing (λ p. list_any (λ v. covers size v p) vs) 361) = sym e ∙ ap (λ b. cond b (Some (passing (λ p. list_any (λ v. covers size v p) vs) 361)) None) on in
+      let same : s ≡ passing (λ p. list_any (λ v. covers size v p) vs) 361 = cc in
+      any_on size vs q (and_parts (ltb q 361) _ (sym (contains-passing (λ p. list_any (λ v. covers size v p) vs) 361 q) ∙ ap (λ (t : set.FinSet nat_cmp). set.contains t q) (sym same) ∙ h)).1
+]
+
+least_at : (s : set.FinSet nat_cmp) (p left n : ℕ) → set.contains s p ≡ true → ((q : ℕ) → set.contains s q ≡ true → p ≤ q) → n ≤ p → p < n + left → least_from s left n ≡ Some p
+unfolding least_from
+least_at s p zero n has least le lt = absurd (omega arith)
+least_at s p (suc left) n has least le lt = elim (cases_eq n p) [
+  | inl e ↦ ap (λ b. cond b (Some n) (least_from s left (n + 1))) (ap (λ q. set.contains s q) e ∙ has) ∙ ap (λ q. Some q) e
+  | inr d ↦ elim (cases_Bool (set.contains s n)) [
+    | inl on ↦ absurd (omega (arith, least n on))
+    | inr off ↦ ap (λ b. cond b (Some n) (least_from s left (n + 1))) off ∙ least_at s p left (n + 1) has least (omega arith) (omega arith)
+  ]
+]
+
+pub least_is : (s : set.FinSet nat_cmp) (p : ℕ) → set.contains s p ≡ true → ((q : ℕ) → set.contains s q ≡ true → p ≤ q) → p < 361 → Some p ≡ least_from s 361 0
+least_is s p has least lt = sym (least_at s p 361 0 has least (omega arith) (omega arith))
+
+nothing : (s : set.FinSet nat_cmp) (left n : ℕ) → s ≡ set.empty → least_from s left n ≡ None
+unfolding least_from
+nothing s zero n e = refl
+nothing s (suc left) n e = ap (λ b. cond b (Some n) (least_from s left (n + 1))) (ap (λ (t : set.FinSet nat_cmp). set.contains t n) e ∙ set.contains-empty nat_cmp n) ∙ nothing s left (n + 1) e
+
+pub least_none : (s : set.FinSet nat_cmp) → s ≡ set.empty → None ≡ least_from s 361 0
+least_none s e = sym (nothing s 361 0 e)
+
+pub mark-nil : (s : Replay) → run_to_mark s [] ≡ Err NoTarget
+unfolding run_to_mark
+mark-nil s = refl
+
+pub mark-stop : (s : Replay) (e : GameFault) (n : Node) (ns : List Node) → step_node s n ≡ Err e → run_to_mark s (n ∷ ns) ≡ Err e
+unfolding run_to_mark
+mark-stop s e n ns h = ap (λ r. and_then r (λ t. cond (has TR n) (problem_at t.game (set_named t.game.size TR n) (region_of t.game.size n)) (run_to_mark t ns))) h
+
+pub mark-step : (s t : Replay) (n : Node) (ns : List Node) → step_node s n ≡ Ok t → has TR n ≡ false → run_to_mark s (n ∷ ns) ≡ run_to_mark t ns
+unfolding run_to_mark
+mark-step s t n ns h off =
+    ap (λ r. and_then r (λ x. cond (has TR n) (problem_at x.game (set_named x.game.size TR n) (region_of x.game.size n)) (run_to_mark x ns))) h
+    ∙ ap (λ b. cond b (problem_at t.game (set_named t.game.size TR n) (region_of t.game.size n)) (run_to_mark t ns)) off
+
+pub mark-here : (s t : Replay) (n : Node) (ns : List Node) → step_node s n ≡ Ok t → has TR n ≡ true → run_to_mark s (n ∷ ns) ≡ problem_at t.game (set_named t.game.size TR n) (region_of t.game.size n)
+unfolding run_to_mark
+mark-here s t n ns h on =
+    ap (λ r. and_then r (λ x. cond (has TR n) (problem_at x.game (set_named x.game.size TR n) (region_of x.game.size n)) (run_to_mark x ns))) h
+    ∙ ap (λ b. cond b (problem_at t.game (set_named t.game.size TR n) (region_of t.game.size n)) (run_to_mark t ns)) on

@@ -1,0 +1,90 @@
+-- Tests of a game as definitions say them, and node after node.
+use Rattle.std.proofs.Common.{◌≡◌, ◌≢◌, ℕ, zero, suc, ◌+◌, ◌<◌, ◌≤◌, Bool, true, false, ◌&&◌, ◌||◌, List, [], ◌∷◌, ◌++◌, length, Contains, Option, Some, None, IsTrue, refl, sym, ap, subst, ◌∙◌, inl, inr, arith}
+use Rattle.std.proofs.lemmas.Bool.{cases_Bool, false≢true}
+use Rattle.tt_board.specs.declared.Colour.{Colour}
+use Rattle.tt_board.specs.Position.{Position}
+use Rattle.std.proofs.lemmas.Bool.{cases_eq, le-leb, leb-true}
+use Rattle.std.proofs.Common.{min, leb}
+use Rattle.std.proofs.lemmas.Option.{none-some}
+use Rattle.tt_sgf.specs.declared.size.Size.{Size}
+use Rattle.tt_sgf.specs.Sizes.{point_count}
+use Rattle.tt_board.specs.Reach.{entry_at, Reaches}
+use Rattle.tt_board.specs.Decided.{reaches, reaches_is}
+use Rattle.tt_board.specs.Play.{is_empty, IsAlive, IsLeastLifeless}
+use Rattle.tt_game.specs.Games.{Played, all_of}
+use Rattle.tt_game.specs.History.{repeats, repeats_is}
+use Rattle.tt_game.specs.declared.records.Replay.{Replay}
+use Rattle.tt_game.specs.Records.{alive_below, all_alive, run_nodes, step_node, and_then}
+use Rattle.tt_game.specs.declared.faults.GameFault.{GameFault}
+use Rattle.tt_sgf.specs.declared.nodes.Node.{Node}
+use Rattle.std.specs.Prelude.{Ok, Err}
+use Rattle.tt_game.specs.Line.{colourings}
+use Rattle.tt_game.specs.Undoing.{front, last}
+use Rattle.tt_game.proofs.GameLemmas.{front_last, length-colourings}
+use Rattle.tt_game.proofs.FrameLemmas.{bools}
+
+-- the test over the boards of a game
+pub been_is : (s : Played) (bs : List Position) (c : List (Option Colour)) (r : Bool) → all_of s ≡ colourings bs → (IsTrue r → Contains (colourings bs) c) × (Contains (colourings bs) c → IsTrue r) → r ≡ repeats (all_of s) c
+been_is s bs c r e h =
+    bools r (repeats (all_of s) c)
+    (λ y. (repeats_is (all_of s) c).1 (subst (λ l. Contains l c) (sym e) (h.0 y)))
+    (λ y. h.1 (subst (λ l. Contains l c) e ((repeats_is (all_of s) c).0 y)))
+
+pub all_is : (s : Played) (bs : List Position) → 0 < length bs → s.earlier ≡ front (colourings bs) → s.present ≡ last (colourings bs) → all_of s ≡ colourings bs
+all_is s bs some e f = ap (λ (l : List (List (Option Colour))). l ++ s.present ∷ []) e ∙ ap (λ (x : List (Option Colour)). front (colourings bs) ++ x ∷ []) f ∙ front_last (colourings bs) (omega (arith, length-colourings bs))
+
+alive_at : (size : Size) (c : List (Option Colour)) (p : ℕ) → p < point_count size → (entry_at c p ≢ None → Reaches size c p None) → (is_empty (entry_at c p) || reaches size c p None) ≡ true
+alive_at size c p lt h = elim (entry_at c p) as (λ o. entry_at c p ≡ o → (is_empty o || reaches size c p None) ≡ true) [
+  | None ↦ λ e. refl
+  | Some k ↦ λ e. (reaches_is size c p None lt).1 (h (λ n. none-some k (sym n ∙ e)))
+] refl
+
+pub alive_all : (size : Size) (c : List (Option Colour)) → IsAlive size c → (n : ℕ) → n ≤ point_count size → alive_below size c n ≡ true
+unfolding alive_below
+alive_all size c h zero le = refl
+alive_all size c h (suc n) le = ap (λ b. b && alive_below size c n) (alive_at size c n (omega (arith, le)) (h n (omega (arith, le)))) ∙ alive_all size c h n (omega (arith, le))
+
+pub is_alive : (size : Size) (c : List (Option Colour)) → IsAlive size c → all_alive size c ≡ true
+is_alive size c h = alive_all size c h (point_count size) (omega arith)
+
+and_false : (a : Bool) → (a && false) ≡ false
+and_false true = refl
+and_false false = refl
+
+dead_at : (size : Size) (c : List (Option Colour)) (p : ℕ) → p < point_count size → entry_at c p ≢ None → (Reaches size c p None → ⊥) → (is_empty (entry_at c p) || reaches size c p None) ≡ false
+dead_at size c p lt some dead = elim (entry_at c p) as (λ o. entry_at c p ≡ o → (is_empty o || reaches size c p None) ≡ false) [
+  | None ↦ λ e. absurd (some e)
+  | Some k ↦ λ e. elim (cases_Bool (reaches size c p None)) [ inl y ↦ absurd (dead ((reaches_is size c p None lt).0 y)) | inr n ↦ n ]
+] refl
+
+dead_below : (size : Size) (c : List (Option Colour)) (p : ℕ) → p < point_count size → entry_at c p ≢ None → (Reaches size c p None → ⊥) → (n : ℕ) → p < n → alive_below size c n ≡ false
+unfolding alive_below
+dead_below size c p lt some dead zero k = absurd (omega (arith, k))
+dead_below size c p lt some dead (suc n) k = elim (cases_eq p n) [
+  | inl e ↦ ap (λ b. b && alive_below size c n) (ap (λ q. is_empty (entry_at c q) || reaches size c q None) (sym e) ∙ dead_at size c p lt some dead)
+  | inr d ↦ ap (λ b. (is_empty (entry_at c n) || reaches size c n None) && b) (dead_below size c p lt some dead n (omega (arith, k, d))) ∙ and_false (is_empty (entry_at c n) || reaches size c n None)
+]
+
+pub not_alive : (size : Size) (c : List (Option Colour)) (p : ℕ) → IsLeastLifeless size c p → all_alive size c ≡ false
+not_alive size c p h = dead_below size c p h.on_board h.stone h.lifeless (point_count size) h.on_board
+
+counted : (k a b : ℕ) → k ≤ 2 → leb k (min 2 a + min 2 b) ≡ leb k (a + b)
+counted k a b h = bools _ _ (λ y. le-leb k (a + b) (omega (arith, leb-true k (min 2 a + min 2 b) y))) (λ y. le-leb k (min 2 a + min 2 b) (omega (arith, h, leb-true k (a + b) y)))
+
+pub counted_one : (a b : ℕ) → leb 1 (min 2 a + min 2 b) ≡ leb 1 (a + b)
+counted_one a b = counted 1 a b (omega arith)
+
+pub counted_two : (a b : ℕ) → leb 2 (min 2 a + min 2 b) ≡ leb 2 (a + b)
+counted_two a b = counted 2 a b (omega arith)
+
+pub run-nil : (s : Replay) → run_nodes s [] ≡ Ok s
+unfolding run_nodes
+run-nil s = refl
+
+pub run-step : (s t : Replay) (n : Node) (ns : List Node) → step_node s n ≡ Ok t → run_nodes s (n ∷ ns) ≡ run_nodes t ns
+unfolding run_nodes
+run-step s t n ns e = ap (λ r. and_then r (λ x. run_nodes x ns)) e
+
+pub run-stop : (s : Replay) (e : GameFault) (n : Node) (ns : List Node) → step_node s n ≡ Err e → run_nodes s (n ∷ ns) ≡ Err e
+unfolding run_nodes
+run-stop s e n ns h = ap (λ r. and_then r (λ x. run_nodes x ns)) h

@@ -1,0 +1,84 @@
+-- The walk over the points, one point after the other.
+use Rattle.std.proofs.Common.{◌≡◌, ℕ, ◌+◌, ◌≤◌, List, [], ◌∷◌, ◌++◌, length, map, None, Bool, true, false, cond, refl, sym, ap, ◌∙◌, arith}
+use Rattle.std.specs.List.{filter}
+use Rattle.std.proofs.lemmas.List.{map-append, append-nil, length-map}
+use Rattle.std.proofs.lemmas.List.Elements.{filter-append}
+use Rattle.std.proofs.lemmas.List.FromFn.{filter_of_map_range_with_len_more, length-map-range_with_len}
+use Rattle.std.proofs.lemmas.List.Sums.{length-filter, count_by-le-length}
+use Rattle.tt_sgf.specs.Sizes.{point_count}
+use Rattle.tt_game.specs.declared.frame.Frame.{Frame}
+use Rattle.tt_game.specs.declared.faults.Why.{Why}
+use Rattle.tt_game.specs.declared.faults.Why.TheVariants.{Over, Occupied, Outside, Repeats}
+use Rattle.tt_game.specs.declared.turns.Turn.{Turn}
+use Rattle.tt_game.specs.declared.turns.Turn.TheVariants.{Play, Pass}
+use Rattle.tt_game.specs.declared.turns.Successor.{Successor}
+use Rattle.tt_game.specs.Game.{State, IsLegal, winner_of}
+use Rattle.tt_game.specs.Line.{IsRefusal}
+use Rattle.tt_game.specs.Turns.{plays, all_turns, is_legal, is_legal_is, legal_turns, successor, successors_of}
+
+pub refused_illegal : (f : Frame) (s : State) (t : Turn) (why : Why) → IsRefusal f s t why → IsLegal f s t → ⊥
+refused_illegal f s Pass Over r l = r l
+refused_illegal f s (Play p) Over r l = r l.0
+refused_illegal f s Pass Occupied r l = r
+refused_illegal f s (Play p) Occupied r l = r.1 l.2
+refused_illegal f s Pass Outside r l = r
+refused_illegal f s (Play p) Outside r l = r.2 l.3
+refused_illegal f s Pass Repeats r l = r
+refused_illegal f s (Play p) Repeats r l = l.4 r.3
+
+-- what the plays on the first n points lead to
+unfoldable pub successors_below : Frame → State → ℕ → List Successor
+successors_below f s n = map (successor f s) (filter (is_legal f s) (plays n))
+
+pub below_none : (f : Frame) (s : State) → successors_below f s 0 ≡ []
+unfolding successors_below
+below_none f s = refl
+
+step : (f : Frame) (s : State) (n : ℕ) → successors_below f s (n + 1) ≡ successors_below f s n ++ map (successor f s) (cond (is_legal f s (Play n)) (Play n ∷ []) [])
+unfolding successors_below
+step f s n =
+    ap (map (successor f s)) (filter_of_map_range_with_len_more (is_legal f s) (λ q. Play q) 0 n n (omega arith))
+    ∙ map-append (successor f s) (filter (is_legal f s) (plays n)) (cond (is_legal f s (Play n)) (Play n ∷ []) [])
+
+pub below_more : (f : Frame) (s : State) (n : ℕ) → IsLegal f s (Play n) → successors_below f s (n + 1) ≡ successors_below f s n ++ successor f s (Play n) ∷ []
+below_more f s n l = step f s n ∙ ap (λ b. successors_below f s n ++ map (successor f s) (cond b (Play n ∷ []) [])) ((is_legal_is f s (Play n)).1 l)
+
+pub below_skip : (f : Frame) (s : State) (n : ℕ) → (IsLegal f s (Play n) → ⊥) → successors_below f s (n + 1) ≡ successors_below f s n
+below_skip f s n h = step f s n ∙ ap (λ b. successors_below f s n ++ map (successor f s) (cond b (Play n ∷ []) [])) ((is_legal_is f s (Play n)).2 h) ∙ append-nil (successors_below f s n)
+
+pub length-below : (f : Frame) (s : State) (n : ℕ) → length (successors_below f s n) ≤ n
+unfolding successors_below
+length-below f s n =
+    omega (arith, length-map (filter (is_legal f s) (plays n)) (successor f s), length-filter (is_legal f s) (plays n), count_by-le-length (is_legal f s) (plays n), length-map-range_with_len (λ q. Play q) 0 n)
+
+-- nobody has won: the plays, and the pass
+pub below_all : (f : Frame) (s : State) (n : ℕ) → n ≡ point_count f.size → winner_of f s ≡ None → successors_below f s n ++ successor f s Pass ∷ [] ≡ successors_of f s
+unfolding successors_below successors_of legal_turns all_turns
+below_all f s n e on =
+    let pass : is_legal f s Pass ≡ true = (is_legal_is f s Pass).1 on in
+    ap (λ k. map (successor f s) (filter (is_legal f s) (plays k)) ++ successor f s Pass ∷ []) e
+    ∙ sym (ap (map (successor f s)) (filter-append (is_legal f s) (plays (point_count f.size)) (Pass ∷ []))
+    ∙ map-append (successor f s) (filter (is_legal f s) (plays (point_count f.size))) (filter (is_legal f s) (Pass ∷ []))
+    ∙ ap (λ b. map (successor f s) (filter (is_legal f s) (plays (point_count f.size))) ++ map (successor f s) (cond b (Pass ∷ []) [])) pass)
+
+over : (f : Frame) (s : State) → (winner_of f s ≡ None → ⊥) → (t : Turn) → is_legal f s t ≡ false
+over f s won Pass = (is_legal_is f s Pass).2 won
+over f s won (Play p) = (is_legal_is f s (Play p)).2 (λ l. won l.0)
+
+nothing : {X : Type 0} (p : X → Bool) (xs : List X) → ((x : X) → p x ≡ false) → filter p xs ≡ []
+nothing p [] h = refl
+nothing p (x ∷ xs) h = ap (λ b. cond b (x ∷ filter p xs) (filter p xs)) (h x) ∙ nothing p xs h
+
+-- somebody has won: no turn is legal
+pub none_over : (f : Frame) (s : State) → (winner_of f s ≡ None → ⊥) → [] ≡ successors_of f s
+unfolding successors_of legal_turns
+none_over f s won = sym (ap (map (successor f s)) (nothing (is_legal f s) (all_turns f) (over f s won)))
+
+-- the turns of what they lead to
+pub turns_again : (f : Frame) (s : State) (ts : List Turn) → map (λ (x : Successor). x.turn) (map (successor f s) ts) ≡ ts
+turns_again f s [] = refl
+turns_again f s (t ∷ ts) = ap (λ us. t ∷ us) (turns_again f s ts)
+
+pub turns_of : (f : Frame) (s : State) → map (λ (x : Successor). x.turn) (successors_of f s) ≡ legal_turns f s
+unfolding successors_of
+turns_of f s = turns_again f s (legal_turns f s)

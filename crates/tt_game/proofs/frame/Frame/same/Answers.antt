@@ -1,0 +1,15 @@
+use Rattle.std.proofs.Common.{◌≡◌, ap, rules, arith}
+use Rattle.tt_sgf.specs.SizeLaws.{sizes_same}
+use Rattle.tt_game.specs.declared.frame.Frame.{Frame}
+use Rattle.tt_game.proofs.FrameLemmas.{same_frames}
+use Rattle.tt_game.proofs.frame.Frame.same.Goals as goal
+
+pub returns : goal.returns
+returns c =
+    let f = c.args.self.now in let g = c.args.other.now in
+    let columns : f.size.columns ≡ g.size.columns = grind arith in
+    let rows : f.size.rows ≡ g.size.rows = grind arith in
+    let size : f.size ≡ g.size = sizes_same f.size g.size columns rows in
+    let target : f.target ≡ g.target = search rules in
+    let defender : f.defender ≡ g.defender = search rules in
+    (λ same. same_frames f g size (c.are_same.ensures.0 same) target defender, λ e. c.are_same.ensures.1 (ap (λ (h : Frame). h.region) e))

@@ -1,0 +1,38 @@
+use Rattle.std.proofs.Common.{rules, ◌≡◌, ◌∷◌, [], true, false, Ok, Err, MatchResult, sym, ap, subst, ◌∙◌}
+use Rattle.std.specs.declared.result.Result.{Result}
+use Rattle.std.proofs.lemmas.List.{nil_from_length}
+use Rattle.tt_game.specs.declared.faults.GameFault.{GameFault}
+use Rattle.tt_game.specs.Line.{Standing}
+use Rattle.tt_game.specs.Nodes.{has, TR, set_named}
+use Rattle.tt_game.specs.Records.{step_node, IsStopped}
+use Rattle.tt_game.specs.Problems.{run_to_mark, problem_at, region_of}
+use Rattle.tt_game.proofs.ProblemLemmas.{mark-nil, mark-stop, mark-step, mark-here}
+use Rattle.tt_game.proofs.problems.run_to_mark.Goals as goal
+
+pub returns-in-Err : goal.returns-in-Err
+returns-in-Err c = λ other.
+    let e : c.loop-node.rest.now ≡ c.in-Some.node.now ∷ c.in-Some.behind.now = search rules in
+    let k : step_node c.loop-node.last c.in-Some.node.now ≡ Err c.in-Err.fault = c.in-Err.ensures other in
+    sym c.loop-node.invariant ∙ ap (run_to_mark c.loop-node.last) e ∙ mark-stop c.loop-node.last c.in-Err.fault c.in-Some.node.now c.in-Some.behind.now k
+
+pub loop-node-preserved : goal.loop-node-preserved
+loop-node-preserved c =
+    let e : c.loop-node.rest.now ≡ c.in-Some.node.now ∷ c.in-Some.behind.now = search rules in
+    let k : step_node c.loop-node.last c.in-Some.node.now ≡ Ok c.step.new.self = search rules in
+    let off : has TR c.in-Some.node.now ≡ false = search rules in
+    sym (mark-step c.loop-node.last c.step.new.self c.in-Some.node.now c.in-Some.behind.now k off) ∙ ap (run_to_mark c.loop-node.last) (sym e) ∙ c.loop-node.invariant
+
+pub returns-then-has_value : goal.returns-then-has_value
+returns-then-has_value c =
+    let e : c.loop-node.rest.now ≡ c.in-Some.node.now ∷ c.in-Some.behind.now = search rules in
+    let k : step_node c.loop-node.last c.in-Some.node.now ≡ Ok c.step.new.self = search rules in
+    let on : has TR c.in-Some.node.now ≡ true = search rules in
+    let t = c.step.new.self in let n = c.in-Some.node.now in
+    let all : problem_at t.game (set_named t.game.size TR n) (region_of t.game.size n) ≡ run_to_mark c.args.replay c.args.nodes.now =
+    sym (mark-here c.loop-node.last t n c.in-Some.behind.now k on) ∙ ap (run_to_mark c.loop-node.last) (sym e) ∙ c.loop-node.invariant in
+    subst (λ (want : Result Standing GameFault). MatchResult c.pose.result (λ l. want ≡ Ok l) (λ f. IsStopped f want)) all c.pose.ensures
+
+pub returns : goal.returns
+returns c = λ _.
+    let e : c.loop-node.rest.now ≡ [] = nil_from_length c.loop-node.rest.now c.in_default.ensures.cases in
+    sym c.loop-node.invariant ∙ ap (run_to_mark c.loop-node.last) e ∙ mark-nil c.loop-node.last

@@ -1,0 +1,22 @@
+use Rattle.std.proofs.Common.{rules, ◌≡◌, ◌∷◌, [], Ok, Err, sym, ap, ◌∙◌}
+use Rattle.std.proofs.lemmas.List.{nil_from_length}
+use Rattle.tt_game.specs.Records.{run_nodes, step_node}
+use Rattle.tt_game.proofs.RecordLemmas.{run-nil, run-step, run-stop}
+use Rattle.tt_game.proofs.records.run.Goals as goal
+
+pub returns-in-Err : goal.returns-in-Err
+returns-in-Err c = λ other.
+    let e : c.loop-node.rest.now ≡ c.in-Some.node.now ∷ c.in-Some.behind.now = search rules in
+    let k : step_node c.loop-node.last c.in-Some.node.now ≡ Err c.in-Err.fault = c.in-Err.ensures other in
+    sym c.loop-node.invariant ∙ ap (run_nodes c.loop-node.last) e ∙ run-stop c.loop-node.last c.in-Err.fault c.in-Some.node.now c.in-Some.behind.now k
+
+pub loop-node-preserved : goal.loop-node-preserved
+loop-node-preserved c =
+    let e : c.loop-node.rest.now ≡ c.in-Some.node.now ∷ c.in-Some.behind.now = search rules in
+    let k : step_node c.loop-node.last c.in-Some.node.now ≡ Ok c.step.new.self = search rules in
+    sym (run-step c.loop-node.last c.step.new.self c.in-Some.node.now c.in-Some.behind.now k) ∙ ap (run_nodes c.loop-node.last) (sym e) ∙ c.loop-node.invariant
+
+pub returns : goal.returns
+returns c =
+    let e : c.loop-node.rest.now ≡ [] = nil_from_length c.loop-node.rest.now c.in_default.ensures.cases in
+    sym c.loop-node.invariant ∙ ap (run_nodes c.loop-node.last) e ∙ run-nil c.loop-node.last

@@ -1,0 +1,71 @@
+-- The game of a problem: states, legal turns, who has won, and what a side can force. Turns, superko and the end by two
+-- passes are those of the Tromp-Taylor rules; the region and the target are the problem's.
+use Rattle.std.specs.Prelude.{◌≡◌, ℕ, zero, suc, ◌+◌, ◌<◌, ◌⊎◌, List, [], ◌∷◌, ◌++◌, Contains, Option, Some, None, IsTrue, if◌then◌else◌, ◌==◌}
+use Rattle.std.specs.FinSet as set
+use Rattle.tt_board.specs.declared.Colour.{Colour}
+use Rattle.tt_board.specs.Position.{Colouring}
+use Rattle.tt_board.specs.Reach.{entry_at}
+use Rattle.tt_board.specs.Play.{play_of, other, is_empty}
+use Rattle.tt_sgf.specs.Sizes.{point_count}
+use Rattle.tt_game.specs.declared.frame.Side.{Side}
+use Rattle.tt_game.specs.declared.frame.Side.TheVariants.{Attacker, Defender}
+use Rattle.tt_game.specs.declared.turns.Turn.{Turn}
+use Rattle.tt_game.specs.declared.turns.Turn.TheVariants.{Play, Pass}
+use Rattle.tt_game.specs.declared.frame.Frame.{Frame}
+
+-- a state: the colourings before the present one, oldest first; the present one; who moves; the passes in a row
+pub record State : Type 0 where
+  pub earlier : List Colouring
+  pub present : Colouring
+  pub to_move : Side
+  pub passes : ℕ
+
+-- all colourings so far, oldest first, the present one last
+abbrev pub history : State → List Colouring
+history s = s.earlier ++ s.present ∷ []
+
+abbrev pub opponent : Side → Side
+opponent Attacker = Defender
+opponent Defender = Attacker
+
+-- the target's stone is the defender's
+abbrev pub colour_of : Frame → Side → Colour
+colour_of f Attacker = other f.defender
+colour_of f Defender = f.defender
+
+-- the attacker has won where the target is empty, whoever emptied it; else the defender has after two passes in a row
+abbrev pub winner_of : Frame → State → Option Side
+winner_of f s =
+    if is_empty (entry_at s.present f.target) then Some Attacker else (if s.passes == 2 then Some Defender else None)
+
+-- the colouring that a play of the side to move on p makes
+abbrev pub made : Frame → State → ℕ → Colouring
+made f s p = play_of f.size s.present (colour_of f s.to_move) p
+
+-- nobody has won, and the turn is a pass, or a play on an empty point of the region that repeats no colouring, the
+-- present one among them
+abbrev pub IsLegal : Frame → State → Turn → Type 0
+IsLegal f s Pass = winner_of f s ≡ None
+IsLegal f s (Play p) =
+    (winner_of f s ≡ None) × (p < point_count f.size) × (entry_at s.present p ≡ None) × IsTrue (set.contains f.region p) × (Contains (history s) (made f s p) → ⊥)
+
+-- a pass appends nothing and is counted; a play appends its colouring and ends the count
+abbrev pub after : Frame → State → Turn → State
+after f s Pass = record { earlier = s.earlier; present = s.present; to_move = opponent s.to_move; passes = s.passes + 1 }
+after f s (Play p) = record { earlier = history s; present = made f s p; to_move = opponent s.to_move; passes = 0 }
+
+-- the side can force its win within n turns
+abbrev pub Forces : Frame → Side → ℕ → State → Type 0
+Forces f side zero s = winner_of f s ≡ Some side
+Forces f side (suc n) s =
+    (winner_of f s ≡ Some side) ⊎ ((winner_of f s ≡ None) × (((s.to_move ≡ side) × ((t : Turn) × IsLegal f s t × Forces f side n (after f s t))) ⊎ ((s.to_move ≡ opponent side) × ((t : Turn) → IsLegal f s t → Forces f side n (after f s t)))))
+
+-- what a problem comes to
+pub data Value : Type 0 where
+  killed : Value
+  lives : Value
+
+-- killed where the attacker forces a win within some number of turns, else it lives
+abbrev pub HasValue : Frame → State → Value → Type 0
+HasValue f s killed = (n : ℕ) × Forces f Attacker n s
+HasValue f s lives = ((n : ℕ) × Forces f Attacker n s) → ⊥

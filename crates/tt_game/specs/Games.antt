@@ -1,0 +1,60 @@
+-- Games of Black and White under the Tromp-Taylor rules, with no region and no target.
+use Rattle.std.specs.Prelude.{◌≡◌, ℕ, ◌+◌, ◌==◌, cond, List, [], ◌∷◌, ◌++◌, replicate, Option, Some, None}
+use Rattle.tt_sgf.specs.declared.size.Size.{Size}
+use Rattle.tt_sgf.specs.Sizes.{point_count}
+use Rattle.tt_board.specs.declared.Colour.{Colour}
+use Rattle.tt_board.specs.declared.Colour.TheVariants.{Black}
+use Rattle.tt_board.specs.Position.{Colouring}
+use Rattle.tt_board.specs.Reach.{entry_at}
+use Rattle.tt_board.specs.Play.{play_of, other, is_empty}
+use Rattle.tt_game.specs.declared.faults.Why.{Why}
+use Rattle.tt_game.specs.declared.faults.Why.TheVariants.{Over, Occupied, Repeats}
+use Rattle.tt_game.specs.declared.faults.Refused.{Refused}
+use Rattle.tt_game.specs.declared.faults.Refused.TheVariants.{Illegal, NoMemory}
+use Rattle.tt_game.specs.declared.turns.Turn.{Turn}
+use Rattle.tt_game.specs.declared.turns.Turn.TheVariants.{Play, Pass}
+use Rattle.tt_game.specs.History.{repeats}
+
+-- a game: its board's size, the colourings before the present one (oldest first), the present one, who moves, and the
+-- passes in a row
+pub record Played : Type 0 where
+  pub size : Size
+  pub earlier : List Colouring
+  pub present : Colouring
+  pub to_move : Colour
+  pub passes : ℕ
+
+-- every colouring so far, oldest first, the present one last
+abbrev pub all_of : Played → List Colouring
+all_of s = s.earlier ++ s.present ∷ []
+
+-- the colouring that a move on p makes
+abbrev pub made_by : Played → ℕ → Colouring
+made_by s p = play_of s.size s.present s.to_move p
+
+-- why a move is refused: a stone is there, or the colouring has been
+abbrev pub move_refusal : Played → ℕ → Option Why
+move_refusal s p = cond (is_empty (entry_at s.present p)) (cond (repeats (all_of s) (made_by s p)) (Some Repeats) None) (Some Occupied)
+
+-- why a turn is refused: two passes ended the game, or the move is refused
+abbrev pub refusal_of : Played → Turn → Option Why
+refusal_of s Pass = cond (s.passes == 2) (Some Over) None
+refusal_of s (Play p) = cond (s.passes == 2) (Some Over) (move_refusal s p)
+
+-- the game after a turn
+abbrev pub turned : Played → Turn → Played
+turned s Pass = record { size = s.size; earlier = s.earlier; present = s.present; to_move = other s.to_move; passes = s.passes + 1 }
+turned s (Play p) = record { size = s.size; earlier = all_of s; present = made_by s p; to_move = other s.to_move; passes = 0 }
+
+-- an error of a push
+abbrev pub IsHalted : Played → Turn → Refused → Type 0
+IsHalted s t (Illegal why) = refusal_of s t ≡ Some why
+IsHalted s t NoMemory = refusal_of s t ≡ None
+
+-- before the first turn: the empty board, and Black moves
+abbrev pub empty_game : Size → Played
+empty_game size = record { size = size; earlier = []; present = replicate (point_count size) None; to_move = Black; passes = 0 }
+
+-- a game that begins with this colouring alone
+abbrev pub begun_with : Size → Colouring → Colour → Played
+begun_with size c k = record { size = size; earlier = []; present = c; to_move = k; passes = 0 }

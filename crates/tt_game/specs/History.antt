@@ -1,0 +1,37 @@
+-- Whether a colouring is in a history.
+use Rattle.std.specs.Prelude.{◌≡◌, List, [], ◌∷◌, length, Contains, Bool, true, false, slice_index_or}
+use Rattle.std.proofs.Common.{inl, inr, refl}
+use Rattle.std.proofs.lemmas.Bool.{false≢true}
+use Rattle.tt_board.specs.Position.{Colouring}
+use Rattle.tt_board.specs.Decided.{Decision, some_below, same_entry}
+
+-- a decision as a test
+pub decided : {P : Type 0} → Decision P → Bool
+decided (inl _) = true
+decided (inr _) = false
+
+pub decided_is : {P : Type 0} (d : Decision P) → (decided d ≡ true → P) × (P → decided d ≡ true) × ((P → ⊥) → decided d ≡ false)
+unfolding decided
+decided_is (inl p) = (λ _. p, λ _. refl, λ h. absurd (h p))
+decided_is (inr h) = (λ e. absurd (false≢true e), λ p. absurd (h p), λ _. refl)
+
+pub same_colouring : (a b : Colouring) → Decision (a ≡ b)
+same_colouring [] [] = inl refl
+same_colouring [] (y ∷ b) = inr (λ e. cc)
+same_colouring (x ∷ a) [] = inr (λ e. cc)
+same_colouring (x ∷ a) (y ∷ b) = elim (same_entry x y) [
+  | inr apart ↦ inr (λ e. apart cc)
+  | inl same ↦ elim (same_colouring a b) [ inr apart ↦ inr (λ e. apart cc) | inl rest ↦ inl cc ]
+]
+
+pub in_history : (h : List Colouring) (c : Colouring) → Decision (Contains h c)
+in_history h c = some_below (λ k. slice_index_or h k c ≡ c) (λ k. same_colouring (slice_index_or h k c) c) (length h)
+
+-- whether the colouring is in the history
+pub repeats : List Colouring → Colouring → Bool
+repeats h c = decided (in_history h c)
+
+pub repeats_is : (h : List Colouring) (c : Colouring)
+    → (repeats h c ≡ true → Contains h c) × (Contains h c → repeats h c ≡ true) × ((Contains h c → ⊥) → repeats h c ≡ false)
+unfolding repeats
+repeats_is h c = decided_is (in_history h c)

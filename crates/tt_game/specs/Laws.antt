@@ -1,0 +1,37 @@
+-- Laws of the game: not both sides force a win, one does, and a problem has one value.
+use Rattle.std.specs.Prelude.{◌≡◌, ℕ, ◌*◌, ◌^◌, ◌≤◌, ◌⊎◌, ◌↔◌, length, All, Contains, List, None, Ok}
+use Rattle.tt_sgf.specs.Sizes.{point_count}
+use Rattle.tt_game.specs.declared.frame.Side.TheVariants.{Attacker, Defender}
+use Rattle.tt_game.specs.declared.frame.Frame.{Frame}
+use Rattle.tt_game.specs.Game.{State, history, winner_of, IsLegal, Forces, HasValue, killed, lives}
+use Rattle.tt_game.specs.Line.{Standing}
+use Rattle.tt_game.specs.Problems.{problem_of}
+use Rattle.tt_sgf.specs.declared.nodes.Node.{Node}
+use Rattle.tt_game.specs.declared.turns.Turn.{Turn}
+use Rattle.tt_game.specs.Turns.{legal_turns, IsRising}
+
+-- not both sides force a win at one state
+abbrev pub OneSideForces : Type 0
+OneSideForces = (f : Frame) (s : State) (m n : ℕ) → Forces f Attacker m s → Forces f Defender n s → ⊥
+
+-- a state as the game has them: each colouring has an entry for each point, and the passes are at most two
+pub record IsState (f : Frame) (s : State) : Type 0 where
+  pub sized : All (λ c. length c ≡ point_count f.size) (history s)
+  pub passes : s.passes ≤ 2
+
+-- at every state one side forces a win, within twice as many turns as there are colourings
+abbrev pub SomeSideForces : Type 0
+SomeSideForces = (f : Frame) (s : State) → IsState f s → Forces f Attacker (2 * 3 ^ point_count f.size) s ⊎ Forces f Defender (2 * 3 ^ point_count f.size) s
+
+-- every state has one of the two values, and the side that it favours forces its win within as many turns
+abbrev pub OneValue : Type 0
+OneValue = (f : Frame) (s : State) → IsState f s
+    → (HasValue f s killed × Forces f Attacker (2 * 3 ^ point_count f.size) s) ⊎ (HasValue f s lives × Forces f Defender (2 * 3 ^ point_count f.size) s)
+
+-- the list of legal turns holds the legal turns and no others, in rising order, and at most as many as a board has
+abbrev pub LegalTurnsListed : Type 0
+LegalTurnsListed = (f : Frame) (s : State) → ((t : Turn) → Contains (legal_turns f s) t ↔ IsLegal f s t) × IsRising f (legal_turns f s) × (length (legal_turns f s) ≤ 362)
+
+-- nobody has won at a problem: its target has a stone, and no pass was made
+abbrev pub ProblemsOpen : Type 0
+ProblemsOpen = (nodes : List Node) (p : Standing) → problem_of nodes ≡ Ok p → winner_of p.frame p.state ≡ None

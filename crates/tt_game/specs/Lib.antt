@@ -1,0 +1,14 @@
+pub mod Game
+pub mod History
+pub mod Legality
+pub mod Turns
+pub mod TurnLaws
+pub mod Keys
+pub mod Laws
+pub mod Line
+pub mod Undoing
+pub mod Games
+pub mod Nodes
+pub mod Records
+pub mod Problems
+pub mod Faults

@@ -1,0 +1,47 @@
+-- Lines: a frame, a state, and what pops lead back to. Why a turn is refused, and what a push does.
+use Rattle.std.specs.Prelude.{◌≡◌, ◌≢◌, List, ◌∷◌, ◌++◌, map, Contains, None, IsTrue}
+use Rattle.std.specs.FinSet as set
+use Rattle.tt_board.specs.Position.{Position, Colouring}
+use Rattle.tt_board.specs.Reach.{entry_at}
+use Rattle.tt_game.specs.declared.faults.Why.{Why}
+use Rattle.tt_game.specs.declared.faults.Why.TheVariants.{Over, Occupied, Outside, Repeats}
+use Rattle.tt_game.specs.declared.faults.Refused.{Refused}
+use Rattle.tt_game.specs.declared.faults.Refused.TheVariants.{Illegal, NoMemory}
+use Rattle.tt_game.specs.declared.frame.Frame.{Frame}
+use Rattle.tt_game.specs.declared.turns.Turn.{Turn}
+use Rattle.tt_game.specs.declared.turns.Turn.TheVariants.{Play, Pass}
+use Rattle.tt_game.specs.Game.{State, history, winner_of, made, IsLegal, after}
+
+-- a frame, a state, and the states before the pushes that may be undone, the last one first
+pub record Standing : Type 0 where
+  pub frame : Frame
+  pub state : State
+  pub before : List State
+
+-- why a turn is refused: the first cause that holds
+abbrev pub IsRefusal : Frame → State → Turn → Why → Type 0
+IsRefusal f s t Over = winner_of f s ≢ None
+IsRefusal f s Pass Occupied = ⊥
+IsRefusal f s (Play p) Occupied = (winner_of f s ≡ None) × (entry_at s.present p ≢ None)
+IsRefusal f s Pass Outside = ⊥
+IsRefusal f s (Play p) Outside = (winner_of f s ≡ None) × (entry_at s.present p ≡ None) × (IsTrue (set.contains f.region p) → ⊥)
+IsRefusal f s Pass Repeats = ⊥
+IsRefusal f s (Play p) Repeats =
+    (winner_of f s ≡ None) × (entry_at s.present p ≡ None) × IsTrue (set.contains f.region p) × Contains (history s) (made f s p)
+
+-- an error of a push
+abbrev pub IsRefused : Frame → State → Turn → Refused → Type 0
+IsRefused f s t (Illegal why) = IsRefusal f s t why
+IsRefused f s t NoMemory = IsLegal f s t
+
+-- the turn was made, and the state before it may be undone to
+abbrev pub IsPushed : Standing → Standing → Turn → Type 0
+IsPushed old new t = new ≡ record { frame = old.frame; state = after old.frame old.state t; before = old.state ∷ old.before }
+
+-- the history of the later state begins with that of the other
+abbrev pub Continues : State → State → Type 0
+Continues later s = (more : List Colouring) × (history later ≡ history s ++ more)
+
+-- the colourings of boards
+abbrev pub colourings : List Position → List Colouring
+colourings bs = map (λ b. b.points) bs

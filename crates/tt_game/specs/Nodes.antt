@@ -1,0 +1,100 @@
+-- What the properties of a node say (SGF FF[4]).
+use Rattle.std.specs.Prelude.{ℕ, ◌+◌, ◌&&◌, ◌||◌, ◌==◌, not, cond, List, [], ◌∷◌, ◌++◌, length, Option, Some, None, Bool, true, false}
+use Rattle.std.specs.FinSet as set
+use lib.Pointwise.{pointwise}
+use Rattle.tt_sgf.specs.declared.size.Size.{Size}
+use Rattle.tt_sgf.specs.declared.nodes.Node.{Node}
+use Rattle.tt_sgf.specs.declared.nodes.Property.{Property}
+use Rattle.tt_sgf.specs.Sizes.{sized}
+use Rattle.tt_sgf.specs.Values.{after_blanks, number_of, size_of}
+use Rattle.tt_sgf.specs.Entries.{set_of}
+use Rattle.tt_board.specs.declared.Colour.{Colour}
+use Rattle.tt_board.specs.declared.Colour.TheVariants.{Black, White}
+use Rattle.tt_board.specs.Play.{Points}
+
+-- the values of all properties of this name, in order
+unfoldable pub values_of : List ℕ → List Property → List (List ℕ)
+values_of name [] = []
+values_of name (p ∷ ps) = cond (pointwise ◌==◌ p.ident name) (p.values ++ values_of name ps) (values_of name ps)
+
+-- ---- names of properties, letter by letter
+
+abbrev pub AB : List ℕ
+AB = 65 ∷ 66 ∷ []
+
+abbrev pub AW : List ℕ
+AW = 65 ∷ 87 ∷ []
+
+abbrev pub AE : List ℕ
+AE = 65 ∷ 69 ∷ []
+
+abbrev pub PL : List ℕ
+PL = 80 ∷ 76 ∷ []
+
+abbrev pub B : List ℕ
+B = 66 ∷ []
+
+abbrev pub W : List ℕ
+W = 87 ∷ []
+
+abbrev pub GM : List ℕ
+GM = 71 ∷ 77 ∷ []
+
+abbrev pub SZ : List ℕ
+SZ = 83 ∷ 90 ∷ []
+
+abbrev pub TR : List ℕ
+TR = 84 ∷ 82 ∷ []
+
+abbrev pub SQ : List ℕ
+SQ = 83 ∷ 81 ∷ []
+
+-- ---- what the values say
+
+abbrev pub some_value : List (List ℕ) → Bool
+some_value [] = false
+some_value (v ∷ vs) = true
+
+-- a property has a value in the node
+abbrev pub has : List ℕ → Node → Bool
+has name n = some_value (values_of name n.properties)
+
+-- the points that the property names, or none where an entry is bad
+abbrev pub set_named : Size → List ℕ → Node → Option Points
+set_named size name n = set_of size (values_of name n.properties)
+
+-- a colour by its first letter
+abbrev pub colour_at : List ℕ → Option Colour
+colour_at [] = None
+colour_at (b ∷ bs) = cond (b == 66 || b == 98) (Some Black) (cond (b == 87 || b == 119) (Some White) None)
+
+-- the first value's colour, or Black where there is none
+abbrev pub colour_named : List (List ℕ) → Option Colour
+colour_named [] = Some Black
+colour_named (v ∷ vs) = colour_at (after_blanks v)
+
+-- no point is in both sets
+abbrev pub apart : Points → Points → Bool
+apart a b = set.len (set.intersection a b) == 0
+
+-- how many moves the node has, of either colour
+abbrev pub moves_in : Node → ℕ
+moves_in n = length (values_of B n.properties) + length (values_of W n.properties)
+
+-- a node with AB, AW or AE sets up, and one with PL and no move
+abbrev pub is_setup : Node → Bool
+is_setup n = has AB n || has AW n || has AE n || (has PL n && not (has B n || has W n))
+
+abbrev pub is_one : Option ℕ → Bool
+is_one None = false
+is_one (Some n) = n == 1
+
+-- GM is not there, or its first value is 1
+abbrev pub is_go : List (List ℕ) → Bool
+is_go [] = true
+is_go (v ∷ vs) = is_one (number_of v)
+
+-- the size that the first value of SZ says, or 19 by 19 without SZ
+abbrev pub size_named : List (List ℕ) → Option Size
+size_named [] = sized 19 19
+size_named (v ∷ vs) = size_of v

@@ -1,0 +1,131 @@
+-- Records: what a main line comes to, node by node, or the first refusal.
+use Rattle.std.specs.Prelude.{◌≡◌, ℕ, zero, suc, ◌+◌, ◌&&◌, ◌||◌, ◌==◌, nat_le, cond, List, [], ◌∷◌, Option, Some, None, Ok, Err, Bool, true}
+use Rattle.std.specs.declared.result.Result.{Result}
+use Rattle.tt_sgf.specs.declared.size.Size.{Size}
+use Rattle.tt_sgf.specs.declared.size.PointOrPass.{PointOrPass}
+use Rattle.tt_sgf.specs.declared.size.PointOrPass.TheVariants.{On, Pass as NoPoint}
+use Rattle.tt_sgf.specs.declared.nodes.Node.{Node}
+use Rattle.tt_sgf.specs.Sizes.{point_count, sized}
+use Rattle.tt_sgf.specs.Values.{point_of, trimmed}
+use Rattle.tt_board.specs.declared.Colour.{Colour}
+use Rattle.tt_board.specs.declared.Colour.TheVariants.{Black, White}
+use Rattle.tt_board.specs.Position.{Colouring}
+use Rattle.tt_board.specs.Reach.{entry_at}
+use Rattle.tt_board.specs.Decided.{reaches}
+use Rattle.tt_board.specs.Play.{Points, placed, score_of, same_colour, is_empty}
+use Rattle.tt_game.specs.declared.faults.Why.{Why}
+use Rattle.tt_game.specs.declared.faults.Why.TheVariants.{Over, Occupied, Outside, Repeats}
+use Rattle.tt_game.specs.declared.faults.GameFault.{GameFault}
+use Rattle.tt_game.specs.declared.faults.GameFault.TheVariants.{NotGo, BadSize, BadValue, PointTwice, MixedNode, LifelessStone, OccupiedPoint, RepeatedBoard, AfterEnd, TooManyTurns, NoMemory}
+use Rattle.tt_game.specs.declared.records.Record.{Record}
+use Rattle.tt_game.specs.declared.records.Replay.{Replay}
+use Rattle.tt_game.specs.declared.turns.Turn.{Turn}
+use Rattle.tt_game.specs.declared.turns.Turn.TheVariants.{Play, Pass}
+use Rattle.tt_game.specs.Games.{Played, refusal_of, turned, empty_game, begun_with}
+use Rattle.tt_game.specs.Nodes.{values_of, set_named, colour_named, apart, moves_in, is_setup, is_go, size_named, AB, AW, AE, PL, B, W, GM, SZ}
+
+-- A Replay is a game and the count of the turns that were played, implied passes among them.
+
+-- what follows, where the step before was not refused
+abbrev pub and_then : {A B : Type 0} → Result A GameFault → (A → Result B GameFault) → Result B GameFault
+and_then (Ok x) f = f x
+and_then (Err e) f = Err e
+
+-- ---- turns
+
+-- the fault that a refused turn is; a game has no region, so no turn is outside
+abbrev pub fault_of : Why → GameFault
+fault_of Over = AfterEnd
+fault_of Occupied = OccupiedPoint
+fault_of Outside = OccupiedPoint
+fault_of Repeats = RepeatedBoard
+
+abbrev pub go_on : Replay → Turn → Option Why → Result Replay GameFault
+go_on r t None = Ok (record { game = turned r.game t; turns = r.turns + 1 })
+go_on r t (Some why) = Err (fault_of why)
+
+-- a turn of the side to move: after the end no turn, 2,000 turns at the most, and a legal one
+abbrev pub turn_of : Replay → Turn → Result Replay GameFault
+turn_of r t = cond (r.game.passes == 2) (Err AfterEnd) (cond (nat_le 2000 r.turns) (Err TooManyTurns) (go_on r t (refusal_of r.game t)))
+
+-- a turn of a colour; where the other is to move it passes first
+abbrev pub turn_by : Replay → Colour → Turn → Result Replay GameFault
+turn_by r k t = cond (same_colour r.game.to_move k) (turn_of r t) (and_then (turn_of r Pass) (λ q. turn_of q t))
+
+abbrev pub as_turn : PointOrPass → Turn
+as_turn (On p) = Play p
+as_turn NoPoint = Pass
+
+abbrev pub turn_named : Replay → Colour → Option PointOrPass → Result Replay GameFault
+turn_named r k None = Err BadValue
+turn_named r k (Some v) = turn_by r k (as_turn v)
+
+-- the move of a node, where it has one
+abbrev pub move_of : Replay → List (List ℕ) → List (List ℕ) → Result Replay GameFault
+move_of r (v ∷ vs) ws = turn_named r Black (point_of r.game.size (trimmed v))
+move_of r [] (w ∷ ws) = turn_named r White (point_of r.game.size (trimmed w))
+move_of r [] [] = Ok r
+
+-- ---- setup
+
+-- each stone below a bound reaches empty
+unfoldable pub alive_below : Size → Colouring → ℕ → Bool
+alive_below size c zero = true
+alive_below size c (suc n) = (is_empty (entry_at c n) || reaches size c n None) && alive_below size c n
+
+abbrev pub all_alive : Size → Colouring → Bool
+all_alive size c = alive_below size c (point_count size)
+
+-- the colouring that a setup makes is the whole history; the count of turns goes on
+abbrev pub begun : Replay → Colouring → Colour → Result Replay GameFault
+begun r c k = cond (all_alive r.game.size c) (Ok (record { game = begun_with r.game.size c k; turns = r.turns })) (Err LifelessStone)
+
+-- the sets of AB, AW and AE, put over the present colouring, and the colour of PL
+abbrev pub set_up_by : Replay → Option Points → Option Points → Option Points → Option Colour → Result Replay GameFault
+set_up_by r (Some black) (Some white) (Some clear) (Some k) =
+    cond (apart black white && apart black clear && apart white clear) (begun r (placed r.game.size r.game.present black white clear) k) (Err PointTwice)
+set_up_by r None white clear k = Err BadValue
+set_up_by r (Some black) None clear k = Err BadValue
+set_up_by r (Some black) (Some white) None k = Err BadValue
+set_up_by r (Some black) (Some white) (Some clear) None = Err BadValue
+
+abbrev pub setup_node : Replay → Node → Result Replay GameFault
+setup_node r n = set_up_by r (set_named r.game.size AB n) (set_named r.game.size AW n) (set_named r.game.size AE n) (colour_named (values_of PL n.properties))
+
+-- ---- nodes
+
+-- a setup node has no move, and a move node one at the most
+unfoldable pub step_node : Replay → Node → Result Replay GameFault
+step_node r n =
+    cond (is_setup n) (cond (nat_le 1 (moves_in n)) (Err MixedNode) (setup_node r n))
+    (cond (nat_le 2 (moves_in n)) (Err MixedNode) (move_of r (values_of B n.properties) (values_of W n.properties)))
+
+abbrev pub begin_at : Option Size → Result Replay GameFault
+begin_at None = Err BadSize
+begin_at (Some size) = Ok (record { game = empty_game size; turns = 0 })
+
+-- before the first node: its game and its size
+unfoldable pub begin_node : Node → Result Replay GameFault
+begin_node n = cond (is_go (values_of GM n.properties)) (begin_at (size_named (values_of SZ n.properties))) (Err NotGo)
+
+abbrev pub begin_line : List Node → Result Replay GameFault
+begin_line [] = begin_at (sized 19 19)
+begin_line (n ∷ ns) = begin_node n
+
+-- after all nodes
+unfoldable pub run_nodes : Replay → List Node → Result Replay GameFault
+run_nodes r [] = Ok r
+run_nodes r (n ∷ ns) = and_then (step_node r n) (λ q. run_nodes q ns)
+
+-- ---- records
+
+abbrev pub record_at : Played → Record
+record_at s = record { black = score_of s.size s.present Black; white = score_of s.size s.present White; finished = s.passes == 2 }
+
+-- what a main line's record is
+unfoldable pub record_of : List Node → Result Record GameFault
+record_of ns = and_then (begin_line ns) (λ r. and_then (run_nodes r ns) (λ q. Ok (record_at q.game)))
+
+-- an error: but for want of memory it is the definition's
+abbrev pub IsStopped : {A : Type 0} → GameFault → Result A GameFault → Type 0
+IsStopped e want = (e ≡ NoMemory → ⊥) → want ≡ Err e

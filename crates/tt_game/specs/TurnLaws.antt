@@ -1,0 +1,115 @@
+-- What is so of the list of legal turns: it holds the legal turns, rises, and is no longer than a board has turns.
+use Rattle.std.specs.Prelude.{◌≡◌, ℕ, ◌+◌, ◌<◌, ◌≤◌, ◌↔◌, List, [], ◌∷◌, ◌++◌, length, Contains, Bool, true, false, cond}
+use Rattle.std.specs.List.{filter}
+use Rattle.std.proofs.Common.{zero, suc, inl, inr, sym, ap, subst, ◌∙◌, arith, get_or, add-one}
+use Rattle.std.proofs.lemmas.Bool.{cases_lt}
+use Rattle.std.proofs.lemmas.List.{get_or_append_left, get_or_push, length_push, length-map}
+use Rattle.std.proofs.lemmas.List.Elements.{All-contains, All-filter, All-contains_itself, filter_passes, filter-append, Contains-push, Contains-push_cases, Contains-append_left, Contains-get_or}
+use Rattle.std.proofs.lemmas.List.FromFn.{length-map-range_with_len, get_or-map-range_with_len, filter_of_map_range_with_len_more}
+use Rattle.std.proofs.lemmas.List.Sums.{length-filter, count_by-le-length}
+use Rattle.tt_sgf.specs.declared.size.Size.{Size}
+use Rattle.tt_sgf.specs.Sizes.{point_count}
+use Rattle.tt_game.specs.declared.frame.Frame.{Frame}
+use Rattle.tt_game.specs.declared.turns.Turn.{Turn}
+use Rattle.tt_game.specs.declared.turns.Turn.TheVariants.{Play, Pass}
+use Rattle.tt_game.specs.Game.{State, IsLegal}
+use Rattle.tt_game.specs.Turns.{turn_number, IsRising, plays, all_turns, is_legal, is_legal_is, legal_turns, successor, successors_of}
+
+contains_filter : {X : Type 0} (p : X → Bool) (xs : List X) (x : X) → Contains xs x → p x ≡ true → Contains (filter p xs) x
+contains_filter {X} p [] x h on = absurd (omega (arith, h.1))
+contains_filter {X} p (y ∷ ys) x h on =
+    elim h.0 as (λ k. k < suc (length ys) → get_or (y ∷ ys) k x ≡ x → Contains (cond (p y) (y ∷ filter p ys) (filter p ys)) x) [
+      | zero ↦ λ lt e. let here : p y ≡ true = ap p e ∙ on in rw here (0, omega arith, e)
+      | suc k ↦ λ lt e. later (p y) (contains_filter p ys x (k, omega (arith, lt), e) on)
+    ] h.1 h.2
+  where
+    later : (b : Bool) → Contains (filter p ys) x → Contains (cond b (y ∷ filter p ys) (filter p ys)) x
+    later true h = (suc h.0, omega (arith, h.1), h.2)
+    later false h = h
+
+filter_contains : {X : Type 0} (p : X → Bool) (xs : List X) (x : X) → Contains (filter p xs) x → Contains xs x × (p x ≡ true)
+filter_contains p xs x h = (
+  All-contains (Contains xs) (filter p xs) x (All-filter p (Contains xs) xs (All-contains_itself xs)) h,
+  All-contains (λ y. p y ≡ true) (filter p xs) x (filter_passes p xs) h,
+)
+
+contains_plays : (n p : ℕ) → p < n → Contains (plays n) (Play p)
+contains_plays n p lt =
+    (p, omega (arith, length-map-range_with_len (λ q. Play q) 0 n), get_or-map-range_with_len (λ q. Play q) 0 n p p (Play p) lt (omega arith))
+
+contains_all : (f : Frame) (s : State) (t : Turn) → IsLegal f s t → Contains (all_turns f) t
+unfolding all_turns
+contains_all f s Pass l = Contains-push (plays (point_count f.size)) Pass
+contains_all f s (Play p) l = Contains-append_left (plays (point_count f.size)) (Pass ∷ []) (Play p) (contains_plays (point_count f.size) p l.1)
+
+-- the list holds exactly the legal turns
+pub contains-legal_turns : (f : Frame) (s : State) (t : Turn) → Contains (legal_turns f s) t ↔ IsLegal f s t
+unfolding legal_turns
+contains-legal_turns f s t = (
+  λ has. (is_legal_is f s t).0 (filter_contains (is_legal f s) (all_turns f) t has).1,
+  λ l. contains_filter (is_legal f s) (all_turns f) t (contains_all f s t l) ((is_legal_is f s t).1 l),
+)
+
+pub rising_push : (f : Frame) (ts : List Turn) (t : Turn) → IsRising f ts → ((u : Turn) → Contains ts u → turn_number f u < turn_number f t) → IsRising f (ts ++ t ∷ [])
+rising_push f ts t up below i j d before in' =
+    let len = length_push ts t in
+    elim (cases_lt j (length ts)) [
+      | inl inside ↦
+          let ei = get_or_append_left ts (t ∷ []) d i (omega arith) in
+          let ej = get_or_append_left ts (t ∷ []) d j inside in
+          rw (ei, ej) (up i j d before inside)
+      | inr last ↦
+          let ei = get_or_append_left ts (t ∷ []) d i (omega arith) in
+          let ej = get_or_push ts t d j (omega arith) in
+          rw (ei, ej) (below (get_or ts i d) (Contains-get_or ts i d (omega arith)))
+    ]
+
+-- plays on points below n, rising
+pub record Rises (f : Frame) (n : ℕ) (ts : List Turn) : Type 0 where
+  pub below : (t : Turn) → Contains ts t → turn_number f t < n
+  pub rising : IsRising f ts
+
+rises_more : (f : Frame) (n : ℕ) (ts : List Turn) (b : Bool) → Rises f n ts → Rises f (n + 1) (ts ++ cond b (Play n ∷ []) [])
+rises_more f n ts true h = record {
+  below = λ t has. elim (Contains-push_cases ts (Play n) t has) [
+    | inl old ↦ omega (arith, h.below t old)
+    | inr new ↦ subst (λ u. turn_number f u < n + 1) new (omega arith)
+  ];
+  rising = rising_push f ts (Play n) h.rising h.below;
+}
+rises_more f n ts false h = rw Rattle.std.proofs.lemmas.List.append-nil (let r : Rises f (n + 1) ts = record { below = λ t has. omega (arith, h.below t has); rising = h.rising } in r)
+
+rises_plays : (f : Frame) (p : Turn → Bool) (n : ℕ) → Rises f n (filter p (plays n))
+rises_plays f p zero = record { below = λ t has. absurd (omega (arith, has.1)); rising = λ i j d before in'. absurd (omega arith) }
+rises_plays f p (suc n) =
+    let e : suc n ≡ n + 1 = sym (add-one n) in
+    let more = filter_of_map_range_with_len_more p (λ q. Play q) 0 n n (omega arith) in
+    subst (λ m. Rises f m (filter p (plays m))) (sym e) (subst (λ ts. Rises f (n + 1) ts) (sym more) (rises_more f n (filter p (plays n)) (p (Play n)) (rises_plays f p n)))
+
+-- the list rises
+pub rising-legal_turns : (f : Frame) (s : State) → IsRising f (legal_turns f s)
+unfolding legal_turns all_turns
+rising-legal_turns f s =
+    let n = point_count f.size in
+    let p = is_legal f s in
+    subst (λ ts. IsRising f ts) (sym (filter-append p (plays n) (Pass ∷ []))) (last (p Pass) (rises_plays f p n))
+  where
+    last : (b : Bool) → Rises f (point_count f.size) (filter (is_legal f s) (plays (point_count f.size))) → IsRising f (filter (is_legal f s) (plays (point_count f.size)) ++ cond b (Pass ∷ []) [])
+    last true h = rising_push f _ Pass h.rising h.below
+    last false h = rw Rattle.std.proofs.lemmas.List.append-nil h.rising
+
+-- a board has 361 points at the most
+pub few_points : (size : Size) → point_count size ≤ 361
+few_points size = Rattle.std.proofs.Math.Nat.mul-le-mul size.columns_in.1 size.rows_in.1
+
+-- the list has 362 turns at the most
+pub length-legal_turns : (f : Frame) (s : State) → length (legal_turns f s) ≤ 362
+unfolding legal_turns all_turns
+length-legal_turns f s =
+    let n = point_count f.size in
+    let all : length (plays n ++ Pass ∷ []) ≡ length (plays n) + 1 = length_push (plays n) Pass in
+    omega (arith, length-filter (is_legal f s) (plays n ++ Pass ∷ []), count_by-le-length (is_legal f s) (plays n ++ Pass ∷ []), all, length-map-range_with_len (λ q. Play q) 0 n, few_points f.size)
+
+pub length-successors_of : (f : Frame) (s : State) → length (successors_of f s) ≤ 362
+unfolding successors_of
+length-successors_of f s = omega (arith, length-map (legal_turns f s) (successor f s), length-legal_turns f s)

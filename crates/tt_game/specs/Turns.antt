@@ -1,0 +1,57 @@
+-- The legal turns of a state as a list, and what each of them leads to.
+use Rattle.std.specs.Prelude.{◌≡◌, ℕ, ◌<◌, List, [], ◌∷◌, ◌++◌, length, map, Bool, true, false, slice_index_or}
+use Rattle.std.specs.List.{filter, range_with_len}
+use Rattle.tt_sgf.specs.declared.size.Size.{Size}
+use Rattle.tt_sgf.specs.Sizes.{point_count}
+use Rattle.tt_game.specs.declared.frame.Frame.{Frame}
+use Rattle.tt_game.specs.declared.turns.Turn.{Turn}
+use Rattle.tt_game.specs.declared.turns.Turn.TheVariants.{Play, Pass}
+use Rattle.tt_game.specs.declared.turns.Successor.{Successor}
+use Rattle.tt_game.specs.Game.{State, winner_of, after, IsLegal}
+use Rattle.tt_game.specs.History.{decided, decided_is}
+use Rattle.tt_game.specs.Legality.{legal}
+
+-- the turn is a pass or names a point of a board of this size
+abbrev pub IsOn : Size → Turn → Type 0
+IsOn size Pass = Unit {0}
+IsOn size (Play p) = p < point_count size
+
+abbrev pub OnBoard : Frame → Turn → Type 0
+OnBoard f t = IsOn f.size t
+
+-- a turn's number: that of its point; the pass comes last
+abbrev pub turn_number : Frame → Turn → ℕ
+turn_number f (Play p) = p
+turn_number f Pass = point_count f.size
+
+-- the turns rise by their numbers
+abbrev pub IsRising : Frame → List Turn → Type 0
+IsRising f ts = (i j : ℕ) (d : Turn) → i < j → j < length ts → turn_number f (slice_index_or ts i d) < turn_number f (slice_index_or ts j d)
+
+-- the plays on the first n points
+abbrev pub plays : ℕ → List Turn
+plays n = map (λ p. Play p) (range_with_len 0 n)
+
+-- every turn that a board has: the play on each point in the order of the points' numbers, then the pass
+unfoldable pub all_turns : Frame → List Turn
+all_turns f = plays (point_count f.size) ++ Pass ∷ []
+
+-- whether a turn is legal, as a test
+pub is_legal : Frame → State → Turn → Bool
+is_legal f s t = decided (legal f s t)
+
+pub is_legal_is : (f : Frame) (s : State) (t : Turn) → (is_legal f s t ≡ true → IsLegal f s t) × (IsLegal f s t → is_legal f s t ≡ true) × ((IsLegal f s t → ⊥) → is_legal f s t ≡ false)
+unfolding is_legal
+is_legal_is f s t = decided_is (legal f s t)
+
+-- the legal turns, in the order of their numbers
+unfoldable pub legal_turns : Frame → State → List Turn
+legal_turns f s = filter (is_legal f s) (all_turns f)
+
+-- a turn, and who has won after it
+abbrev pub successor : Frame → State → Turn → Successor
+successor f s t = record { turn = t; winner = winner_of f (after f s t) }
+
+-- the legal turns, each with who has won after it
+unfoldable pub successors_of : Frame → State → List Successor
+successors_of f s = map (successor f s) (legal_turns f s)

@@ -1,0 +1,48 @@
+-- What a line keeps, and how it undoes its pushes.
+use Rattle.std.specs.Prelude.{◌≡◌, ℕ, ◌-◌, ◌≤◌, List, [], ◌∷◌, length, take, slice_index_or}
+use Rattle.tt_board.specs.Position.{Position, Colouring}
+use Rattle.tt_game.specs.declared.frame.Frame.{Frame}
+use Rattle.tt_game.specs.declared.frame.Side.{Side}
+use Rattle.tt_game.specs.declared.line.Undo.{Undo}
+use Rattle.tt_game.specs.declared.line.Undo.TheVariants.{UndoPlay, UndoPass}
+use Rattle.tt_game.specs.Game.{State, history, opponent}
+use Rattle.tt_game.specs.Line.{Standing, colourings}
+
+-- all but the last
+abbrev pub front : List Colouring → List Colouring
+front cs = take (length cs - 1) cs
+
+abbrev pub last : List Colouring → Colouring
+last cs = slice_index_or cs (length cs - 1) []
+
+-- the state before a push
+abbrev pub undone : State → Undo → State
+undone s UndoPass = record { earlier = s.earlier; present = s.present; to_move = opponent s.to_move; passes = s.passes - 1 }
+undone s (UndoPlay n) = record { earlier = front s.earlier; present = last s.earlier; to_move = opponent s.to_move; passes = n }
+
+-- the states before the pushes, the last push first
+abbrev pub states_before : State → List Undo → List State
+states_before s [] = []
+states_before s (u ∷ us) = undone s u ∷ states_before (undone s u) us
+
+-- each push can be undone: a pass was counted, a play left a board and a count
+abbrev pub IsUndoable : State → List Undo → Type 0
+IsUndoable s [] = Unit {0}
+IsUndoable s (UndoPass ∷ us) = (1 ≤ s.passes) × IsUndoable (undone s UndoPass) us
+IsUndoable s (UndoPlay n ∷ us) = (1 ≤ length s.earlier) × (n ≤ 2) × IsUndoable (undone s (UndoPlay n)) us
+
+-- the state that boards show, the last one present
+abbrev pub state_of : List Position → Side → ℕ → State
+state_of bs side passes = record { earlier = front (colourings bs); present = last (colourings bs); to_move = side; passes = passes }
+
+-- what a line shows, from its parts; the pushes are given the last one first
+abbrev pub standing_of : Frame → State → List Undo → Standing
+standing_of f s us = record { frame = f; state = s; before = states_before s us }
+
+-- a play that made this colouring was added
+abbrev pub IsMoved : Standing → Standing → Colouring → Type 0
+IsMoved old new points = new ≡ record {
+  frame = old.frame;
+  state = record { earlier = history old.state; present = points; to_move = opponent old.state.to_move; passes = 0 };
+  before = old.state ∷ old.before;
+}

@@ -1,0 +1,222 @@
+//! Games of Black and White under the Tromp-Taylor rules, as records have them: no region, no target.
+
+ghost use Rattle.std.specs.Prelude.{◌≡◌, ℕ, ◌+◌, ◌*◌, ◌<◌, ◌≤◌, ◌↔◌, length, map, Some, None, All, IsTrue, Contains, MatchResult, OnOk, OnErr, IfOk, IfErr};
+ghost use Rattle.tt_sgf.specs.Sizes.{point_count};
+ghost use Rattle.tt_game.specs.Line.{colourings};
+
+use crate::faults::{Refused, Why};
+use crate::frame::{Frame, Side};
+use crate::line::{Line, repeats};
+use crate::turns::Turn;
+use std::alloc::Global;
+use std::marker::Model;
+use tt_board::{Board, Colour};
+use tt_sgf::{NoMemory, Point, PointSet, Size};
+
+/// A game: its history, who moves, and the passes in a row. Contracts see it as `Played`.
+#[derive(Drop)]
+pub struct Game {
+    size: Size,
+    history: Vec<Board>,
+    to_move: Colour,
+    passes: u8,
+    alloc: Global,
+}
+
+impl Model for Game {
+    ghost use Rattle.std.specs.Prelude.{◌≡◌, ◌<◌, ◌≤◌, length, All};
+    ghost use Rattle.tt_game.specs.Games.{Played};
+    ghost use Rattle.tt_game.specs.Line.{colourings};
+    ghost use Rattle.tt_game.specs.Undoing.{front, last};
+
+    ghost Value = { Played };
+
+    ghost view = { λ g. record {
+      size = g.size;
+      earlier = front (colourings g.history.items);
+      present = last (colourings g.history.items);
+      to_move = g.to_move;
+      passes = g.passes;
+    } };
+
+    ghost invariant = { λ g. record {
+      some_colouring : 0 < length g.history.items;
+      sizes : All (λ b. b.size ≡ g.size) g.history.items;
+      passes : g.passes ≤ 2;
+    } };
+}
+
+impl Game {
+    ghost use Rattle.std.specs.FinSet as set;
+    ghost use Rattle.tt_board.specs.Reach.{entry_at};
+    ghost use Rattle.tt_game.specs.Games.{Played, IsHalted, made_by, all_of, move_refusal, refusal_of, turned, empty_game, begun_with};
+    ghost use Rattle.tt_game.specs.Turns.{IsOn};
+    ghost use Rattle.tt_game.specs.History.{repeats};
+    ghost use Rattle.tt_game.specs.Problems.{posed};
+    ghost use Rattle.tt_game.specs.declared.turns.Turn.{Turn};
+
+    /// The game of an empty board, with Black to move.
+    pub fn empty(alloc: Global, size: Size) -> Result<Game, NoMemory>
+        ensures { IfOk result (λ g. g ≡ empty_game size) }
+    {
+        let mut history = Vec::new(alloc);
+        history.push(Board::empty(size))?;
+        Ok(Game {
+            size,
+            history,
+            to_move: Colour::Black,
+            passes: 0,
+            alloc,
+        })
+    }
+
+    /// The size of its boards.
+    pub fn size(&self) -> Size
+        ensures { result ≡ self.now.size }
+    {
+        self.size
+    }
+
+    /// The colour that moves next.
+    pub fn to_move(&self) -> Colour
+        ensures { result ≡ self.now.to_move }
+    {
+        self.to_move
+    }
+
+    /// How many passes were made in a row: 0 to 2, and 2 where the game is over.
+    pub fn passes(&self) -> u8
+        ensures value { result ≡ self.now.passes }
+        ensures most { result ≤ 2 }
+    {
+        self.passes
+    }
+
+    /// The present board.
+    pub fn present(&self) -> &Board
+        ensures size { result.now.size ≡ self.now.size }
+        ensures points { result.now.points ≡ self.now.present }
+    {
+        let last = self.history.len() - 1;
+        &self.history[last]
+    }
+
+    /// Whether a board of the game's size has a colouring of the history.
+    fn has_been(&self, next: &Board) -> bool
+        requires { next.now.size ≡ self.now.size }
+        ensures { result ≡ repeats (all_of self.now) next.now.points }
+    {
+        repeats(&self.history, next)
+    }
+
+    /// The board that a move makes, or why the move is refused.
+    fn made(&self, p: Point) -> Result<Board, Why>
+        requires { p < point_count self.now.size }
+        ensures { MatchResult result
+            (λ b. (move_refusal self.now p ≡ None) × (b ≡ record { size = self.now.size; points = made_by self.now p }))
+            (λ why. move_refusal self.now p ≡ Some why) }
+    {
+        let Ok(next) = self.present().play(self.to_move, p) else {
+            return Err(Why::Occupied);
+        };
+        if self.has_been(&next) {
+            return Err(Why::Repeats);
+        }
+        Ok(next)
+    }
+
+    /// Why a turn is refused, or none where it is legal: `Over` exactly where two passes ended the game.
+    pub fn refusal(&self, t: Turn) -> Option<Why>
+        requires { IsOn self.now.size t }
+        ensures { result ≡ refusal_of self.now t }
+    {
+        if self.passes == 2 {
+            return Some(Why::Over);
+        }
+        match &t {
+            Turn::Pass => None,
+            Turn::Play(p) => self.made(*p).err(),
+        }
+    }
+
+    /// Adds a pass.
+    fn push_pass(&mut self)
+        requires { self.old.passes < 2 }
+        ensures { self.new ≡ turned self.old Turn.Pass }
+    {
+        self.passes += 1;
+        self.to_move = self.to_move.other();
+    }
+
+    /// Makes a move before the end; after an error the game is as it was.
+    fn push_play(&mut self, p: Point) -> Result<(), Refused>
+        requires on_board { p < point_count self.old.size }
+        requires open { self.old.passes < 2 }
+        ensures ok { OnOk result ((refusal_of self.old (Turn.Play p) ≡ None) × (self.new ≡ turned self.old (Turn.Play p))) }
+        ensures err { OnErr result (self.new ≡ self.old) }
+        ensures why { IfErr result (λ e. IsHalted self.old (Turn.Play p) e) }
+    {
+        let next = match self.made(p) {
+            Err(why) => return Err(Refused::Illegal(why)),
+            Ok(next) => next,
+        };
+        if self.history.push(next).is_err() {
+            return Err(Refused::NoMemory);
+        }
+        self.passes = 0;
+        self.to_move = self.to_move.other();
+        Ok(())
+    }
+
+    /// Makes a turn. A move is played once; after an error the game is as it was.
+    pub fn push(&mut self, t: Turn) -> Result<(), Refused>
+        requires { IsOn self.old.size t }
+        ensures ok { OnOk result ((refusal_of self.old t ≡ None) × (self.new ≡ turned self.old t)) }
+        ensures err { OnErr result (self.new ≡ self.old) }
+        ensures why { IfErr result (λ e. IsHalted self.old t e) }
+    {
+        if self.passes == 2 {
+            return Err(Refused::Illegal(Why::Over));
+        }
+        match &t {
+            Turn::Play(p) => self.push_play(*p),
+            Turn::Pass => {
+                self.push_pass();
+                Ok(())
+            }
+        }
+    }
+
+    /// Begins the game anew with a board of its size alone; without memory it is as it was.
+    pub(crate) fn begin(&mut self, board: Board, colour: Colour) -> Result<(), NoMemory>
+        requires { board.size ≡ self.old.size }
+        ensures ok { OnOk result (self.new ≡ begun_with self.old.size board.points colour) }
+        ensures err { OnErr result (self.new ≡ self.old) }
+    {
+        let mut history = Vec::new(self.alloc);
+        history.push(board)?;
+        self.history = history;
+        self.to_move = colour;
+        self.passes = 0;
+        Ok(())
+    }
+
+    /// The game as a problem: the history and the side to move stay.
+    pub(crate) fn pose(self, region: PointSet, target: Point, defender: Colour) -> Line
+        requires { target < point_count self.size }
+        ensures { result ≡ posed self region target defender }
+    {
+        let to_move = if self.to_move == defender {
+            Side::Defender
+        } else {
+            Side::Attacker
+        };
+        let frame = Frame {
+            size: self.size,
+            region,
+            target,
+            defender,
+        };
+        Line::begin(self.alloc, frame, self.history, to_move)
+    }
+}

@@ -1,0 +1,27 @@
+//! The game of go problems under Tromp-Taylor rules: histories of colourings with positional superko, legal turns, who
+//! has won, and how the main line of an SGF game tree becomes a record or a problem.
+
+#![tactic(auto)]
+
+mod faults;
+mod frame;
+mod game;
+mod keys;
+pub mod laws;
+mod line;
+mod nodes;
+mod problems;
+mod records;
+mod turns;
+
+pub use faults::{GameFault, Refused, Why};
+pub use frame::{Frame, Side};
+pub use game::Game;
+pub use keys::Key;
+pub use line::Line;
+pub use problems::problem;
+pub use records::{Record, play_record};
+pub use turns::{Successor, Turn, Turns};
+
+#[cfg(test)]
+mod tests;

@@ -1,0 +1,365 @@
+//! A problem and a game of it (Tromp-Taylor rules with a region and a target): turns are made and undone.
+
+ghost use Rattle.std.specs.Prelude.{◌≡◌, ◌≢◌, ℕ, ◌+◌, ◌-◌, ◌<◌, ◌≤◌, ◌↔◌, ◌∷◌, length, IsTrue, IsSome, MatchOption, Contains, All};
+ghost use Rattle.tt_game.specs.Line.{colourings};
+ghost use Rattle.tt_sgf.specs.Sizes.{point_count};
+
+use crate::faults::{Refused, Why};
+use crate::frame::{Frame, Side};
+use crate::turns::Turn;
+use std::alloc::{AllocError, Global};
+use std::marker::Model;
+use tt_board::{Board, Colour};
+use tt_sgf::{NoMemory, Point};
+
+/// How a push is undone.
+#[derive(Clone, Copy)]
+enum Undo {
+    UndoPlay(u8),
+    UndoPass,
+}
+
+/// A problem and a game of it. Contracts see its frame, its state, and the states that pops lead back to.
+#[derive(Drop)]
+pub struct Line {
+    frame: Frame,
+    history: Vec<Board>,
+    to_move: Side,
+    passes: u8,
+    pushes: Vec<Undo>,
+    alloc: Global,
+}
+
+impl Model for Line {
+    ghost use Rattle.std.specs.Prelude.{◌≡◌, ◌<◌, ◌≤◌, reverse, length, All};
+    ghost use Rattle.tt_sgf.specs.Sizes.{point_count};
+    ghost use Rattle.tt_game.specs.Line.{Standing};
+    ghost use Rattle.tt_game.specs.Undoing.{standing_of, state_of, IsUndoable};
+    ghost use Rattle.tt_sgf.specs.contracts.sets.PointSet as points;
+    ghost use Rattle.std.specs.Coded.{codes};
+
+    ghost Value = { Standing };
+
+    ghost coded = { Prim.hlevel (codes, points.the_row.coded) };
+
+    ghost view = { λ l. standing_of l.frame (state_of l.history.items l.to_move l.passes) (reverse l.pushes.items) };
+
+    ghost invariant = { λ l. record {
+      some_colouring : 0 < length l.history.items;
+      sizes : All (λ b. b.size ≡ l.frame.size) l.history.items;
+      target : l.frame.target < point_count l.frame.size;
+      passes : l.passes ≤ 2;
+      undoable : IsUndoable (state_of l.history.items l.to_move l.passes) (reverse l.pushes.items);
+    } };
+}
+
+/// Whether the colouring of `next` is in the history.
+pub(crate) fn repeats(history: &[Board], next: &Board) -> bool
+    requires { All (λ b. b.size ≡ next.now.size) history.now }
+    ensures { IsTrue result ↔ Contains (colourings history.now) next.now.points }
+{
+    for board in history {
+        if board.same(next) {
+            return true;
+        }
+    }
+    false
+}
+
+/// Whether both histories have the same boards.
+fn same_history(left: &[Board], right: &[Board]) -> bool
+    ensures { IsTrue result ↔ (left.now ≡ right.now) }
+{
+    if left.len() != right.len() {
+        return false;
+    }
+    for place in 0..left.len() {
+        if !left[place].same(&right[place]) {
+            return false;
+        }
+    }
+    true
+}
+
+impl Line {
+    ghost use Rattle.std.specs.Prelude.{Some, None, Err, Ok, [], MatchResult, EachIndex};
+    ghost use Rattle.tt_game.specs.Game.{history, winner_of, colour_of, made, IsLegal, after};
+    ghost use Rattle.std.specs.Prelude.{OnOk, OnErr, IfErr, IfOk};
+    ghost use Rattle.tt_game.specs.Line.{IsRefusal, IsRefused, IsPushed, Continues};
+    ghost use Rattle.tt_game.specs.Undoing.{IsMoved, state_of};
+    ghost use Rattle.tt_game.specs.Turns.{OnBoard};
+    ghost use Rattle.tt_game.specs.declared.turns.Turn.{Turn};
+
+    /// The line that begins with these boards, the last one present, with nothing to undo.
+    pub(crate) fn begin(alloc: Global, frame: Frame, history: Vec<Board>, to_move: Side) -> Line
+        requires some { 0 < length history.items }
+        requires sizes { All (λ b. b.size ≡ frame.size) history.items }
+        requires target { frame.target < point_count frame.size }
+        ensures { result ≡ record { frame = frame; state = state_of history.items to_move 0; before = [] } }
+    {
+        Line {
+            frame,
+            history,
+            to_move,
+            passes: 0,
+            pushes: Vec::new(alloc),
+            alloc,
+        }
+    }
+
+    /// Who moves next.
+    pub fn to_move(&self) -> Side
+        ensures { result ≡ self.now.state.to_move }
+    {
+        self.to_move
+    }
+
+    /// The frame; its target is a point of the board.
+    pub fn frame(&self) -> &Frame
+        ensures value { result.now ≡ self.now.frame }
+        ensures target { self.now.frame.target < point_count self.now.frame.size }
+    {
+        &self.frame
+    }
+
+    /// The colour that moves next.
+    fn mover(&self) -> Colour
+        ensures { result ≡ colour_of self.now.frame self.now.state.to_move }
+    {
+        match self.to_move {
+            Side::Attacker => self.frame.defender.other(),
+            Side::Defender => self.frame.defender,
+        }
+    }
+
+    /// The present board.
+    pub fn present(&self) -> &Board
+        ensures size { result.now.size ≡ self.now.frame.size }
+        ensures points { result.now.points ≡ self.now.state.present }
+    {
+        let last = self.history.len() - 1;
+        &self.history[last]
+    }
+
+    /// Whether a board of the line's size has a colouring of the history.
+    fn has_been(&self, next: &Board) -> bool
+        requires { next.now.size ≡ self.now.frame.size }
+        ensures { IsTrue result ↔ Contains (history self.now.state) next.now.points }
+    {
+        repeats(&self.history, next)
+    }
+
+    /// Who has won, if somebody has: the attacker where the target is empty, else the defender after two passes in a row.
+    pub fn winner(&self) -> Option<Side>
+        ensures { result ≡ winner_of self.now.frame self.now.state }
+    {
+        let target = self.frame.target;
+        if self.present().at(target).is_none() {
+            Some(Side::Attacker)
+        } else if self.passes == 2 {
+            Some(Side::Defender)
+        } else {
+            None
+        }
+    }
+
+    /// The board that a play of the side to move makes, or why the play is refused. Only a play on an empty point of
+    /// the region is made.
+    pub(crate) fn made(&self, p: Point) -> Result<Board, Why>
+        requires on_board { p < point_count self.now.frame.size }
+        requires open { winner_of self.now.frame self.now.state ≡ None }
+        ensures { MatchResult result
+            (λ b. IsLegal self.now.frame self.now.state (Turn.Play p) × (b ≡ record { size = self.now.frame.size; points = made self.now.frame self.now.state p }))
+            (λ why. IsRefusal self.now.frame self.now.state (Turn.Play p) why) }
+    {
+        if self.present().at(p).is_some() {
+            return Err(Why::Occupied);
+        }
+        if !self.frame.region.has(p) {
+            return Err(Why::Outside);
+        }
+        let Ok(next) = self.present().play(self.mover(), p) else {
+            return Err(Why::Occupied);
+        };
+        if self.has_been(&next) {
+            return Err(Why::Repeats);
+        }
+        Ok(next)
+    }
+
+    /// Why a turn is refused, or none where it is legal: `Over` exactly where somebody has won.
+    pub fn refusal(&self, t: Turn) -> Option<Why>
+        requires { OnBoard self.now.frame t }
+        ensures { MatchOption result (IsLegal self.now.frame self.now.state t)
+            (IsRefusal self.now.frame self.now.state t) }
+    {
+        if self.winner().is_some() {
+            return Some(Why::Over);
+        }
+        match &t {
+            Turn::Pass => None,
+            Turn::Play(p) => self.made(*p).err(),
+        }
+    }
+
+    /// Adds a pass; the line is unchanged where memory is refused.
+    fn push_pass(&mut self) -> Result<(), AllocError>
+        requires { winner_of self.old.frame self.old.state ≡ None }
+        ensures ok { OnOk result (IsPushed self.old self.new Turn.Pass) }
+        ensures err { OnErr result (self.new ≡ self.old) }
+    {
+        prove!(self.passes < 2);
+        self.pushes.push(Undo::UndoPass)?;
+        self.passes += 1;
+        self.to_move = self.to_move.opponent();
+        Ok(())
+    }
+
+    /// Adds the board that a play made; the line is unchanged where memory is refused.
+    fn push_board(&mut self, next: Board) -> Result<(), AllocError>
+        requires { next.size ≡ self.old.frame.size }
+        ensures ok { OnOk result
+            (IsMoved self.old self.new next.points) }
+        ensures err { OnErr result (self.new ≡ self.old) }
+    {
+        self.pushes.push(Undo::UndoPlay(self.passes))?;
+        if let Err(error) = self.history.push(next) {
+            self.pushes.pop();
+            return Err(error.into());
+        }
+        self.passes = 0;
+        self.to_move = self.to_move.opponent();
+        Ok(())
+    }
+
+    /// Makes a play where nobody has won.
+    fn push_play(&mut self, p: Point) -> Result<(), Refused>
+        requires on_board { p < point_count self.old.frame.size }
+        requires open { winner_of self.old.frame self.old.state ≡ None }
+        ensures ok { OnOk result (IsLegal self.old.frame self.old.state (Turn.Play p) × IsPushed self.old self.new (Turn.Play p)) }
+        ensures err { OnErr result (self.new ≡ self.old) }
+        ensures why { IfErr result (λ e. IsRefused self.old.frame self.old.state (Turn.Play p) e) }
+    {
+        let next = match self.made(p) {
+            Err(why) => return Err(Refused::Illegal(why)),
+            Ok(next) => next,
+        };
+        if self.push_board(next).is_err() {
+            return Err(Refused::NoMemory);
+        }
+        Ok(())
+    }
+
+    /// Makes a turn. A play is played once; after an error the line is as it was.
+    pub fn push(&mut self, t: Turn) -> Result<(), Refused>
+        requires { OnBoard self.old.frame t }
+        ensures ok { OnOk result (IsLegal self.old.frame self.old.state t × IsPushed self.old self.new t) }
+        ensures err { OnErr result (self.new ≡ self.old) }
+        ensures why { IfErr result (λ e. IsRefused self.old.frame self.old.state t e) }
+    {
+        if self.winner().is_some() {
+            return Err(Refused::Illegal(Why::Over));
+        }
+        match &t {
+            Turn::Play(p) => self.push_play(*p),
+            Turn::Pass => {
+                if self.push_pass().is_err() {
+                    return Err(Refused::NoMemory);
+                }
+                Ok(())
+            }
+        }
+    }
+
+    /// Undoes the last push, its pass count and side to move among it. A line made by `problem`, `try_clone` or `back_to`
+    /// has no push to undo.
+    pub fn pop(&mut self)
+        requires { 0 < length self.old.before }
+        ensures before { self.old.before ≡ self.new.state ∷ self.new.before }
+        ensures frame { self.new.frame ≡ self.old.frame }
+    {
+        self.to_move = self.to_move.opponent();
+        match self.pushes.pop() {
+            Some(Undo::UndoPass) => self.passes -= 1,
+            Some(Undo::UndoPlay(passes)) => {
+                self.history.pop();
+                self.passes = passes;
+            }
+            None => unreachable!(),
+        }
+    }
+
+    /// How many passes were made in a row: 0 to 2.
+    pub fn passes(&self) -> u8
+        ensures value { result ≡ self.now.state.passes }
+        ensures most { result ≤ 2 }
+    {
+        self.passes
+    }
+
+    /// The boards, oldest first; the last one is the present one.
+    pub fn history(&self) -> &[Board]
+        ensures colourings { colourings result.now ≡ history self.now.state }
+        ensures sizes { All (λ b. b.size ≡ self.now.frame.size) result.now }
+    {
+        &self.history
+    }
+
+    /// Whether both lines have one frame and one state: the same history, side to move and passes.
+    pub fn stands_with(&self, other: &Line) -> bool
+        ensures { IsTrue result ↔ ((self.now.frame ≡ other.now.frame) × (self.now.state ≡ other.now.state)) }
+    {
+        if self.to_move != other.to_move {
+            return false;
+        }
+        if self.passes != other.passes {
+            return false;
+        }
+        if !self.frame.same(&other.frame) {
+            return false;
+        }
+        same_history(&self.history, &other.history)
+    }
+
+    /// Cuts the history to that of `line`, which it begins with, and stands where `line` does.
+    fn go_back(&mut self, line: &Line)
+        requires frame { self.old.frame ≡ line.now.frame }
+        requires history { Continues self.old.state line.now.state }
+        ensures { self.new ≡ record { frame = line.now.frame; state = line.now.state; before = [] } }
+    {
+        self.to_move = line.to_move;
+        self.passes = line.passes;
+        self.pushes.clear();
+        self.history.truncate(line.history.len());
+    }
+
+    /// A line that stands where `line` does, with nothing to undo, made of one whose history goes on from that of `line`,
+    /// as it does after a turn. No board is copied.
+    pub fn back_to(self, line: &Line) -> Line
+        requires frame { self.frame ≡ line.now.frame }
+        requires history { Continues self.state line.now.state }
+        ensures { result ≡ record { frame = line.now.frame; state = line.now.state; before = [] } }
+    {
+        let mut back = self;
+        back.go_back(line);
+        back
+    }
+
+    /// The same line, with nothing to undo.
+    pub fn try_clone(&self) -> Result<Line, NoMemory>
+        ensures { IfOk result (λ l. l ≡ record { frame = self.now.frame; state = self.now.state; before = [] }) }
+    {
+        let mut history = Vec::new(self.alloc);
+        for board in &self.history {
+            history.push(board.copy())?;
+        }
+        Ok(Line {
+            frame: self.frame.copy(),
+            history,
+            to_move: self.to_move,
+            passes: self.passes,
+            pushes: Vec::new(self.alloc),
+            alloc: self.alloc,
+        })
+    }
+}

@@ -1,0 +1,161 @@
+//! What the properties of a node say.
+
+ghost use Rattle.std.specs.Prelude.{◌≡◌, ℕ, ◌<◌, ◌≤◌, ◌↔◌, ◌∷◌, [], List, length, min, nat_le, ◌+◌, IsTrue, MatchOption, MatchResult, Some, None, Ok, Err};
+ghost use Rattle.std.specs.FinSet as set;
+ghost use Rattle.tt_sgf.specs.Entries.{set_of};
+ghost use Rattle.tt_game.specs.Nodes.{values_of, colour_at, colour_named, PL, apart, some_value, is_setup, moves_in, is_go, size_named, GM, SZ};
+ghost use Rattle.tt_sgf.specs.Values.{after_blanks};
+
+use tt_board::Colour;
+use tt_sgf::{
+    BadPoint, Node, PointSet, Property, Size, board_size, number, point_set, skip_blanks,
+};
+
+/// The union of the sets that the properties of this name give.
+pub(crate) fn named_set(
+    properties: &[Property],
+    name: &[u8],
+    size: Size,
+) -> Result<PointSet, BadPoint>
+    ensures { MatchResult result (λ s. set_of size (values_of name.now properties.now) ≡ Some s)
+        (λ _. set_of size (values_of name.now properties.now) ≡ None) }
+{
+    let mut points = PointSet::empty();
+    let mut rest = properties;
+    while let Some((property, behind)) = rest.split_first() {
+        if property.ident.as_slice() == name {
+            let Ok(more) = point_set(property.values.as_slice(), size) else {
+                return Err(BadPoint);
+            };
+            points = points.or(&more);
+        }
+        rest = behind;
+    }
+    Ok(points)
+}
+
+/// The first value of the properties of this name.
+pub(crate) fn first_value<'a>(properties: &'a [Property], name: &[u8]) -> Option<&'a [u8]>
+    ensures { MatchOption result (values_of name.now properties.now ≡ [])
+        (λ v. (more : List (List ℕ)) × (values_of name.now properties.now ≡ v.now ∷ more)) }
+{
+    let mut rest = properties;
+    while let Some((property, behind)) = rest.split_first() {
+        if property.ident.as_slice() == name {
+            if let Some((value, _)) = property.values.as_slice().split_first() {
+                return Some(value.as_slice());
+            }
+        }
+        rest = behind;
+    }
+    None
+}
+
+/// How many values the properties of this name have, or 2 where they have more.
+pub(crate) fn count_values(properties: &[Property], name: &[u8]) -> usize
+    ensures { result ≡ min 2 (length (values_of name.now properties.now)) }
+{
+    let mut count: usize = 0;
+    let mut rest = properties;
+    while let Some((property, behind)) = rest.split_first() {
+        if property.ident.as_slice() == name {
+            count = 2.min(count + 2.min(property.values.as_slice().len()));
+        }
+        rest = behind;
+    }
+    count
+}
+
+/// The colour that a value names by its first letter.
+fn value_colour(value: &[u8]) -> Option<Colour>
+    ensures { result ≡ colour_at (after_blanks value.now) }
+{
+    let text = skip_blanks(value);
+    let Some((letter, _)) = text.split_first() else {
+        return None;
+    };
+    if *letter == b'B' || *letter == b'b' {
+        Some(Colour::Black)
+    } else if *letter == b'W' || *letter == b'w' {
+        Some(Colour::White)
+    } else {
+        None
+    }
+}
+
+/// The colour that the first value of PL names, or Black where there is none.
+pub(crate) fn next_colour(properties: &[Property]) -> Option<Colour>
+    ensures { result ≡ colour_named (values_of PL properties.now) }
+{
+    match first_value(properties, b"PL") {
+        Some(value) => value_colour(value),
+        None => Some(Colour::Black),
+    }
+}
+
+/// Whether no point is in both sets.
+pub(crate) fn are_apart(a: &PointSet, b: &PointSet) -> bool
+    ensures { result ≡ apart a.now b.now }
+{
+    a.and(b).count() == 0
+}
+
+/// Whether the properties of this name have a value.
+pub(crate) fn has_value(properties: &[Property], name: &[u8]) -> bool
+    ensures { result ≡ some_value (values_of name.now properties.now) }
+{
+    first_value(properties, name).is_some()
+}
+
+/// Whether a node is a setup node.
+pub(crate) fn sets_up(node: &Node) -> bool
+    ensures { result ≡ is_setup node.now }
+{
+    let properties = node.properties.as_slice();
+    has_value(properties, b"AB")
+        || has_value(properties, b"AW")
+        || has_value(properties, b"AE")
+        || (has_value(properties, b"PL")
+            && !(has_value(properties, b"B") || has_value(properties, b"W")))
+}
+
+/// Whether a node has a move.
+#[tactic(auto, using(crate::proofs::RecordLemmas::counted_one))]
+pub(crate) fn has_move(node: &Node) -> bool
+    ensures { result ≡ nat_le 1 (moves_in node.now) }
+{
+    let properties = node.properties.as_slice();
+    1 <= count_values(properties, b"B") + count_values(properties, b"W")
+}
+
+/// Whether a node has two moves or more.
+#[tactic(auto, using(crate::proofs::RecordLemmas::counted_two))]
+pub(crate) fn has_moves(node: &Node) -> bool
+    ensures { result ≡ nat_le 2 (moves_in node.now) }
+{
+    let properties = node.properties.as_slice();
+    2 <= count_values(properties, b"B") + count_values(properties, b"W")
+}
+
+/// Whether the game is Go: GM isn't there, or is 1.
+pub(crate) fn says_go(properties: &[Property]) -> bool
+    ensures { result ≡ is_go (values_of GM properties.now) }
+{
+    let Some(value) = first_value(properties, b"GM") else {
+        return true;
+    };
+    match number(value) {
+        Some(game) => game == 1,
+        None => false,
+    }
+}
+
+/// The size that SZ says, or 19 by 19 without it.
+pub(crate) fn said_size(properties: &[Property]) -> Option<Size>
+    ensures { result ≡ size_named (values_of SZ properties.now) }
+{
+    let Some(value) = first_value(properties, b"SZ") else {
+        return Size::new(19, 19);
+    };
+    board_size(value)
+}

@@ -1,0 +1,268 @@
+//! Records: what the whole main line of a game tree comes to.
+
+ghost use Rattle.std.specs.Prelude.{◌≡◌, MatchResult, Some, Ok, Err};
+ghost use Rattle.tt_sgf.specs.Values.{point_of, trimmed};
+ghost use Rattle.tt_sgf.specs.Entries.{set_of};
+ghost use Rattle.tt_board.specs.Play.{placed};
+ghost use Rattle.tt_game.specs.Turns.{IsOn};
+ghost use Rattle.tt_game.specs.Nodes.{values_of, colour_named, AB, AW, AE, PL, B, W};
+ghost use Rattle.tt_game.specs.Records.{IsStopped, fault_of, as_turn, turn_of, turn_by, turn_named, move_of, begun, set_up_by, step_node, begin_at, begin_node, begin_line, run_nodes, record_at, record_of};
+
+use crate::faults::{GameFault, Refused, Why};
+use crate::game::Game;
+use crate::nodes::{
+    are_apart, first_value, has_move, has_moves, named_set, next_colour, said_size, says_go,
+    sets_up,
+};
+use crate::turns::Turn;
+use std::alloc::Global;
+use tt_board::Colour;
+use tt_sgf::{MainLine, Node, PointOrPass, PointSet, Property, Size, point};
+
+/// What a record comes to.
+#[derive(Clone, Copy, Debug, PartialEq, Eq)]
+pub struct Record {
+    /// Black's points, by area.
+    pub black: u16,
+    /// White's points, by area.
+    pub white: u16,
+    /// Whether two passes in a row ended the game.
+    pub finished: bool,
+}
+
+/// The game that a main line has come to, and how many turns were played.
+#[derive(Drop)]
+pub(crate) struct Replay {
+    pub(crate) game: Game,
+    pub(crate) turns: u16,
+}
+
+/// The fault that a refused turn is.
+fn fault_of(why: Why) -> GameFault
+    ensures { result ≡ fault_of why }
+{
+    match why {
+        Why::Over => GameFault::AfterEnd,
+        Why::Occupied | Why::Outside => GameFault::OccupiedPoint,
+        Why::Repeats => GameFault::RepeatedBoard,
+    }
+}
+
+/// The turn that a move's value is.
+fn as_turn(value: PointOrPass) -> Turn
+    ensures { result ≡ as_turn value }
+{
+    match &value {
+        PointOrPass::On(p) => Turn::Play(*p),
+        PointOrPass::Pass => Turn::Pass,
+    }
+}
+
+impl Replay {
+    /// A turn of the side to move.
+    fn turn(&mut self, t: Turn) -> Result<(), GameFault>
+        requires { IsOn self.old.game.size t }
+        ensures { let want = turn_of self.old t in MatchResult result (λ _. want ≡ Ok self.new) (λ e. IsStopped e want) }
+    {
+        if self.game.passes() == 2 {
+            return Err(GameFault::AfterEnd);
+        }
+        if self.turns >= 2000 {
+            return Err(GameFault::TooManyTurns);
+        }
+        match self.game.push(t) {
+            Ok(()) => {
+                self.turns += 1;
+                Ok(())
+            }
+            Err(Refused::Illegal(why)) => Err(fault_of(why)),
+            Err(Refused::NoMemory) => Err(GameFault::NoMemory),
+        }
+    }
+
+    /// A turn of a colour; where the other is to move it passes first.
+    fn turn_by(&mut self, colour: Colour, t: Turn) -> Result<(), GameFault>
+        requires { IsOn self.old.game.size t }
+        ensures { let want = turn_by self.old colour t in MatchResult result (λ _. want ≡ Ok self.new) (λ e. IsStopped e want) }
+    {
+        if self.game.to_move() != colour {
+            if let Err(fault) = self.turn(Turn::Pass) {
+                return Err(fault);
+            }
+        }
+        self.turn(t)
+    }
+
+    /// The turn that a value of a colour names.
+    fn turn_named(&mut self, colour: Colour, value: &[u8]) -> Result<(), GameFault>
+        ensures { let want = turn_named self.old colour (point_of self.old.game.size (trimmed value.now)) in
+            MatchResult result (λ _. want ≡ Ok self.new) (λ e. IsStopped e want) }
+    {
+        let Some(t) = point(value, self.game.size()) else {
+            return Err(GameFault::BadValue);
+        };
+        self.turn_by(colour, as_turn(t))
+    }
+
+    /// The move of a node, where it has one.
+    fn move_of(&mut self, properties: &[Property]) -> Result<(), GameFault>
+        ensures { let want = move_of self.old (values_of B properties.now) (values_of W properties.now) in
+            MatchResult result (λ _. want ≡ Ok self.new) (λ e. IsStopped e want) }
+    {
+        if let Some(value) = first_value(properties, b"B") {
+            return self.turn_named(Colour::Black, value);
+        }
+        if let Some(value) = first_value(properties, b"W") {
+            return self.turn_named(Colour::White, value);
+        }
+        Ok(())
+    }
+
+    /// Puts the sets over the present board, which begins the game anew.
+    #[tactic(auto, using(crate::proofs::RecordLemmas::is_alive, crate::proofs::RecordLemmas::not_alive))]
+    fn set_up(
+        &mut self,
+        black: &PointSet,
+        white: &PointSet,
+        clear: &PointSet,
+        colour: Colour,
+    ) -> Result<(), GameFault>
+        ensures { let want = begun self.old (placed self.old.game.size self.old.game.present black.now white.now clear.now) colour in
+            MatchResult result (λ _. want ≡ Ok self.new) (λ e. IsStopped e want) }
+    {
+        let Ok(board) = self.game.present().set_up(black, white, clear) else {
+            return Err(GameFault::LifelessStone);
+        };
+        if self.game.begin(board, colour).is_err() {
+            return Err(GameFault::NoMemory);
+        }
+        Ok(())
+    }
+
+    /// What a setup node does.
+    fn setup_node(&mut self, properties: &[Property]) -> Result<(), GameFault>
+        ensures { let want = set_up_by self.old (set_of self.old.game.size (values_of AB properties.now)) (set_of self.old.game.size (values_of AW properties.now))
+            (set_of self.old.game.size (values_of AE properties.now)) (colour_named (values_of PL properties.now)) in
+            MatchResult result (λ _. want ≡ Ok self.new) (λ e. IsStopped e want) }
+    {
+        let size = self.game.size();
+        let Ok(black) = named_set(properties, b"AB", size) else {
+            return Err(GameFault::BadValue);
+        };
+        let Ok(white) = named_set(properties, b"AW", size) else {
+            return Err(GameFault::BadValue);
+        };
+        let Ok(clear) = named_set(properties, b"AE", size) else {
+            return Err(GameFault::BadValue);
+        };
+        let Some(colour) = next_colour(properties) else {
+            return Err(GameFault::BadValue);
+        };
+        if !(are_apart(&black, &white) && are_apart(&black, &clear) && are_apart(&white, &clear)) {
+            return Err(GameFault::PointTwice);
+        }
+        self.set_up(&black, &white, &clear, colour)
+    }
+
+    /// What a node does.
+    #[tactic(auto, unfolding(crate::specs::Records::step_node))]
+    pub(crate) fn step(&mut self, node: &Node) -> Result<(), GameFault>
+        ensures { let want = step_node self.old node.now in MatchResult result (λ _. want ≡ Ok self.new) (λ e. IsStopped e want) }
+    {
+        if sets_up(node) {
+            if has_move(node) {
+                return Err(GameFault::MixedNode);
+            }
+            return self.setup_node(node.properties.as_slice());
+        }
+        if has_moves(node) {
+            return Err(GameFault::MixedNode);
+        }
+        self.move_of(node.properties.as_slice())
+    }
+
+    /// Before the first turn on a board of this size.
+    fn begin(alloc: Global, size: Size) -> Result<Replay, GameFault>
+        ensures { MatchResult result (λ r. begin_at (Some size) ≡ Ok r) (λ e. IsStopped e (begin_at (Some size))) }
+    {
+        match Game::empty(alloc, size) {
+            Ok(game) => Ok(Replay { game, turns: 0 }),
+            Err(_) => Err(GameFault::NoMemory),
+        }
+    }
+
+    /// Before the first node: its game and its size.
+    #[tactic(auto, unfolding(crate::specs::Records::begin_node))]
+    fn before(alloc: Global, node: &Node) -> Result<Replay, GameFault>
+        ensures { let want = begin_node node.now in MatchResult result (λ r. want ≡ Ok r) (λ e. IsStopped e want) }
+    {
+        if !says_go(node.properties.as_slice()) {
+            return Err(GameFault::NotGo);
+        }
+        let Some(size) = said_size(node.properties.as_slice()) else {
+            return Err(GameFault::BadSize);
+        };
+        Replay::begin(alloc, size)
+    }
+}
+
+/// Before the first of these nodes; without a node the board is 19 by 19.
+pub(crate) fn begin_line(alloc: Global, nodes: &[Node]) -> Result<Replay, GameFault>
+    ensures { let want = begin_line nodes.now in MatchResult result (λ r. want ≡ Ok r) (λ e. IsStopped e want) }
+{
+    if let Some((first, _)) = nodes.split_first() {
+        return Replay::before(alloc, first);
+    }
+    let Some(size) = Size::new(19, 19) else {
+        return Err(GameFault::BadSize);
+    };
+    Replay::begin(alloc, size)
+}
+
+/// After all nodes.
+fn run(replay: Replay, nodes: &[Node]) -> Result<Replay, GameFault>
+    ensures { let want = run_nodes replay nodes.now in MatchResult result (λ r. want ≡ Ok r) (λ e. IsStopped e want) }
+{
+    let mut last = replay;
+    let mut rest = nodes;
+    while let Some((node, behind)) = rest.split_first() {
+        if let Err(fault) = last.step(node) {
+            return Err(fault);
+        }
+        rest = behind;
+    }
+    Ok(last)
+}
+
+/// The score of a game's present board, and whether the game is over.
+fn record_at(game: &Game) -> Record
+    ensures { result ≡ record_at game.now }
+{
+    let (black, white) = game.present().score();
+    Record {
+        black,
+        white,
+        finished: game.passes() == 2,
+    }
+}
+
+/// The record that a main line is (SGF FF[4]), or the first refusal, node by node.
+///
+/// # Errors
+///
+/// GM that is not 1, a bad SZ or other value, a point set up twice, setup beside a move, a setup with a stone that
+/// doesn't reach an empty point, a move on a stone or one that repeats a board, a turn after two passes or beyond 2,000
+/// turns; or an allocation was refused.
+#[tactic(auto, unfolding(crate::specs::Records::record_of))]
+pub fn play_record(alloc: Global, line: &MainLine) -> Result<Record, GameFault>
+    ensures { let want = record_of line.now.nodes in MatchResult result (λ r. want ≡ Ok r) (λ e. IsStopped e want) }
+{
+    let nodes = line.nodes.as_slice();
+    match begin_line(alloc, nodes) {
+        Err(fault) => Err(fault),
+        Ok(first) => match run(first, nodes) {
+            Err(fault) => Err(fault),
+            Ok(last) => Ok(record_at(&last.game)),
+        },
+    }
+}

@@ -1,0 +1,115 @@
+//! Turns, and the walk over the legal ones.
+
+ghost use Rattle.std.specs.Prelude.{◌≡◌, ℕ, ◌<◌, ◌≤◌, ◌↔◌, length, Contains, MatchOption};
+ghost use Rattle.tt_sgf.specs.Sizes.{point_count};
+
+use crate::frame::Side;
+use crate::line::Line;
+use arrayvec::ArrayVec;
+use tt_board::Board;
+use tt_sgf::Point;
+
+/// A play on a point, or a pass. A turn's number is that of its point, and the pass has the number of the points; so the
+/// pass comes last.
+#[derive(Clone, Copy, Debug, PartialEq, Eq, Default)]
+pub enum Turn {
+    Play(Point),
+    #[default]
+    Pass,
+}
+
+/// A legal turn, and who has won after it.
+#[derive(Clone, Copy, Debug, PartialEq, Eq, Default)]
+pub struct Successor {
+    pub turn: Turn,
+    pub winner: Option<Side>,
+}
+
+/// As many turns as a board of 19 by 19 has.
+pub type Turns = ArrayVec<Turn, 362>;
+
+impl Line {
+    ghost use Rattle.tt_game.specs.Game.{winner_of, made, after, IsLegal};
+    ghost use Rattle.tt_game.specs.Turns.{legal_turns, successor, successors_of, IsRising};
+    ghost use Rattle.tt_game.specs.declared.turns.Turn.{Turn};
+
+    /// Who has won after the play on `p` that made this board.
+    fn winner_on(&self, p: Point, next: &Board) -> Option<Side>
+        requires size { next.now.size ≡ self.now.frame.size }
+        requires points { next.now.points ≡ made self.now.frame self.now.state p }
+        ensures { result ≡ winner_of self.now.frame (after self.now.frame self.now.state (Turn.Play p)) }
+    {
+        if next.at(self.frame().target).is_none() {
+            return Some(Side::Attacker);
+        }
+        None
+    }
+
+    /// What a play leads to, where it is legal.
+    fn successor_on(&self, p: Point) -> Option<Successor>
+        requires on_board { p < point_count self.now.frame.size }
+        requires open { winner_of self.now.frame self.now.state ≡ None }
+        ensures { MatchOption result (IsLegal self.now.frame self.now.state (Turn.Play p) → ⊥)
+            (λ x. IsLegal self.now.frame self.now.state (Turn.Play p) × (x ≡ successor self.now.frame self.now.state (Turn.Play p))) }
+    {
+        let Ok(next) = self.made(p) else {
+            return None;
+        };
+        let winner = self.winner_on(p, &next);
+        Some(Successor {
+            turn: Turn::Play(p),
+            winner,
+        })
+    }
+
+    /// Who has won after a pass, where nobody has won before it.
+    fn winner_by_pass(&self) -> Option<Side>
+        requires { winner_of self.now.frame self.now.state ≡ None }
+        ensures { result ≡ winner_of self.now.frame (after self.now.frame self.now.state Turn.Pass) }
+    {
+        if self.passes() == 1 {
+            return Some(Side::Defender);
+        }
+        None
+    }
+
+    /// The legal turns, rising by their numbers, each with who has won after it. Each play is made once.
+    pub fn successors(&self) -> ArrayVec<Successor, 362>
+        ensures list { result.items ≡ successors_of self.now.frame self.now.state }
+        ensures few { length result.items ≤ 362 }
+    {
+        let mut found = ArrayVec::new();
+        if self.winner().is_some() {
+            return found;
+        }
+        let size = self.frame().size;
+        let count = size.point_count();
+        for number in 0..count {
+            if let Some(p) = size.point(number as u16) {
+                if let Some(next) = self.successor_on(p) {
+                    found.push(next);
+                }
+            }
+        }
+        found.push(Successor {
+            turn: Turn::Pass,
+            winner: self.winner_by_pass(),
+        });
+        found
+    }
+
+    /// The legal turns, rising by their numbers.
+    pub fn turns(&self) -> Turns
+        ensures list { result.items ≡ legal_turns self.now.frame self.now.state }
+        ensures legal { (t : Turn) → Contains result.items t ↔ IsLegal self.now.frame self.now.state t }
+        ensures rising { IsRising self.now.frame result.items }
+        ensures few { length result.items ≤ 362 }
+    {
+        let mut turns = ArrayVec::new();
+        let successors = self.successors();
+        for successor in successors.as_slice() {
+            turns.push(successor.turn);
+        }
+        turns
+    }
+}
