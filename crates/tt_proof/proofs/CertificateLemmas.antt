@@ -1,0 +1,83 @@
+-- A certificate as a whole.
+use Rattle.std.proofs.Common.{◌≡◌, ◌≤◌, ℕ, arith, List, [], ◌∷◌, ◌++◌, ◌∙◌, refl, sym, ap, subst}
+use Rattle.std.proofs.lemmas.List.{append-nil}
+use Rattle.tt_sgf.specs.declared.size.Size.{Size}
+use Rattle.tt_game.specs.declared.frame.Side.{Side}
+use Rattle.tt_game.specs.declared.frame.Side.TheVariants.{Attacker, Defender}
+use Rattle.tt_proof.specs.declared.certificate_read.CertFault.{CertFault}
+use Rattle.tt_proof.specs.declared.certificate_read.CertFault.TheVariants.{Syntax, TooDeep, NoMemory}
+use Rattle.tt_proof.specs.Strategy.{Strategy}
+use Rattle.tt_proof.specs.CertificateText.{tree_text, side_text, IsCertificate, IsTooDeep}
+use Rattle.tt_proof.specs.CertificateReading.{TreeAt, DeepAt, FaultAt}
+use Rattle.tt_proof.specs.CertificateFaults.{IsFault}
+use Rattle.tt_proof.proofs.TextLemmas.{heads, tails, same_tree, not_deep}
+
+cancel : (xs a b : List ℕ) → xs ++ a ≡ xs ++ b → a ≡ b
+cancel [] a b e = e
+cancel (x ∷ xs) a b e = cancel xs a b (tails e)
+
+module _ (size : Size) (some : 1 ≤ size.columns) where
+  side_apart : (a b : Side) (r q : List ℕ) → side_text a ++ r ≡ side_text b ++ q → (a ≡ b) × (r ≡ q)
+  side_apart Attacker Attacker r q e = (refl, cancel (side_text Attacker) r q e)
+  side_apart Attacker Defender r q e = absurd (omega (arith, heads e))
+  side_apart Defender Attacker r q e = absurd (omega (arith, heads e))
+  side_apart Defender Defender r q e = (refl, cancel (side_text Defender) r q e)
+
+  -- what is said of the rest is said of the whole
+  module _ (bytes rest : List ℕ) (s : Side) (at : bytes ≡ side_text s ++ rest) where
+    rest_of : (side : Side) (q : List ℕ) → bytes ≡ side_text side ++ q → rest ≡ q
+    rest_of side q e = (side_apart s side rest q (sym at ∙ e)).1
+
+    cert_tree : (side : Side) (u : Strategy) → IsCertificate size bytes side u → TreeAt size 512 u rest []
+    cert_tree side u c =
+        record { in_order = c.in_order; low = c.low; text = rest_of side (tree_text size u) c.text ∙ sym (append-nil (tree_text size u)) }
+
+    too_deep : IsTooDeep size bytes → DeepAt size 512 rest
+    too_deep h = record {
+      tree = h.tree;
+      beginning = h.beginning;
+      follows = h.follows;
+      in_order = h.in_order;
+      ends = h.ends;
+      text = rest_of h.side (h.beginning ++ h.follows) h.text;
+    }
+
+    not_too_deep : (u : Strategy) (y : List ℕ) → TreeAt size 512 u rest y → IsTooDeep size bytes → ⊥
+    not_too_deep u y h deep =
+        let d = too_deep deep in
+        not_deep size some u d.tree 512 d.beginning y d.follows h.low (sym h.text ∙ d.text) d.ends
+
+    pub cert_read : (u : Strategy) (y : List ℕ) → TreeAt size 512 u rest y → y ≡ [] → IsCertificate size bytes s u × (IsTooDeep size bytes → ⊥)
+    cert_read u y h e = (
+      record {
+        in_order = h.in_order;
+        low = h.low;
+        text = at ∙ ap (λ w. side_text s ++ w) (h.text ∙ ap (λ w. tree_text size u ++ w) e ∙ append-nil (tree_text size u));
+      },
+      not_too_deep u y h,
+    )
+
+    pub cert_more : (u : Strategy) (y : List ℕ) → TreeAt size 512 u rest y → (y ≡ [] → ⊥) → IsFault size bytes Syntax
+    cert_more u y h n =
+        (λ side v c. let k = cert_tree side v c in n ((same_tree size some u v y [] (sym h.text ∙ k.text)).1), not_too_deep u y h)
+
+    pub cert_fault : (f : CertFault) → FaultAt size 512 rest f → IsFault size bytes f
+    cert_fault Syntax h = (λ side u c. h.0 u [] (cert_tree side u c), λ deep. h.1 (too_deep deep))
+    cert_fault TooDeep h = record {
+      side = s;
+      tree = h.tree;
+      beginning = h.beginning;
+      follows = h.follows;
+      in_order = h.in_order;
+      ends = h.ends;
+      text = at ∙ ap (λ w. side_text s ++ w) h.text;
+    }
+    cert_fault NoMemory h = tt
+
+  pub no_side : (bytes : List ℕ) → ((y : List ℕ) → bytes ≡ side_text Attacker ++ y → ⊥) →
+      ((y : List ℕ) → bytes ≡ side_text Defender ++ y → ⊥) → IsFault size bytes Syntax
+  no_side bytes a d = (λ side u c. no side (tree_text size u) c.text, λ h. no h.side (h.beginning ++ h.follows) h.text)
+    where
+      no : (side : Side) (y : List ℕ) → bytes ≡ side_text side ++ y → ⊥
+      no Attacker y e = a y e
+      no Defender y e = d y e

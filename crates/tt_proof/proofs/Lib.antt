@@ -1,0 +1,9 @@
+pub mod TextLemmas
+pub mod EntryLemmas
+pub mod ForcesLemmas
+pub mod ListLemmas
+pub mod ReadLemmas
+pub mod ProvenLemmas
+pub mod StrategyLemmas
+pub mod CertificateLemmas
+pub mod WinsLemmas

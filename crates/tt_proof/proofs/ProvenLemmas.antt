@@ -1,0 +1,144 @@
+-- The trees that the constructors make win.
+use Rattle.std.proofs.Common.{◌≡◌, ◌≤◌, ◌<◌, ◌↔◌, ◌+◌, ◌++◌, ℕ, suc, inl, inr, arith, Some, None, List, [], ◌∷◌, length, Contains, slice_index_or, refl, sym, ap, subst, map}
+use Rattle.tt_game.specs.Turns.{IsRising, OnBoard, turn_number, legal_turns}
+use Rattle.tt_game.specs.Line.{Continues}
+use Rattle.std.proofs.lemmas.List.{append-nil}
+use Rattle.tt_game.specs.TurnLaws.{contains-legal_turns, rising-legal_turns}
+use Rattle.tt_game.specs.Game.{State, IsLegal, after, winner_of, opponent, made, history}
+use Rattle.tt_game.specs.declared.frame.Side.{Side}
+use Rattle.tt_game.specs.declared.frame.Side.TheVariants.{Attacker, Defender}
+use Rattle.tt_game.specs.declared.frame.Frame.{Frame}
+use Rattle.tt_game.specs.declared.turns.Turn.{Turn}
+use Rattle.tt_game.specs.declared.turns.Turn.TheVariants.{Play, Pass}
+use Rattle.tt_proof.specs.Proven.{Proven, IsWon, IsChild, AreChildren, turns_of, trees_of}
+use Rattle.tt_proof.specs.Replaying.{HasEntry, LegalWin}
+use Rattle.tt_proof.specs.Strategy.{done, pick, reply, entries_of, depth_of_entries, IsOnBoard, AreInOrder, number_on}
+use Rattle.tt_proof.proofs.WinsLemmas.{reply_wins}
+use Rattle.tt_proof.proofs.ListLemmas.{IsIn, in_of_contains, contains_of_in}
+
+pub won_done : (side : Side) (f f' : Frame) (s s' : State) → f' ≡ f → s' ≡ s → winner_of f s ≡ Some side → IsWon side f' s' done
+won_done side f f' s s' same_f same_s e =
+    rw (same_f, same_s) record { wins = e; low = omega arith; in_order = tt }
+
+legal_on_board : (f : Frame) (s : State) (t : Turn) → IsLegal f s t → IsOnBoard f.size t
+legal_on_board f s (Play p) l = l.1
+legal_on_board f s Pass l = tt
+
+legal_nobody : (f : Frame) (s : State) (t : Turn) → IsLegal f s t → winner_of f s ≡ None
+legal_nobody f s (Play p) l = l.0
+legal_nobody f s Pass l = l
+
+-- what the child's tree has at the state after the turn
+child_won : (f : Frame) (s : State) (side : Side) (t : Turn) (p : Proven) → IsChild f s side t p →
+    IsWon p.side p.frame p.state p.tree → IsWon side f (after f s t) p.tree
+child_won f s side t p h w =
+    subst (λ x. IsWon side f x p.tree) h.stands.1
+    (subst (λ x. IsWon side x p.state p.tree) h.stands.0 (subst (λ x. IsWon x p.frame p.state p.tree) h.same_side w))
+
+pub won_pick : (f f' : Frame) (s s' : State) (t : Turn) (p : Proven) → f' ≡ f → s' ≡ s →
+    IsLegal f s t → IsChild f s s.to_move t p → IsWon p.side p.frame p.state p.tree → IsWon p.side f' s' (pick t p.tree)
+won_pick f f' s s' t p same_f same_s l h w =
+    let c = child_won f s s.to_move t p h w in
+    let low = h.low in
+    rw (same_f, same_s, h.same_side)
+    record {
+      wins = (legal_nobody f s t l, refl, l, c.wins);
+      low = omega (arith, low);
+      in_order = (legal_on_board f s t l, c.in_order);
+    }
+
+opponent_twice : (a : Side) → a ≡ opponent (opponent a)
+opponent_twice Attacker = refl
+opponent_twice Defender = refl
+
+-- each child's tree wins for its side from its own state
+abbrev pub AllWon : List (Turn × Proven) → Type 0
+AllWon [] = Unit {0}
+AllWon (e ∷ es) = IsWon e.1.side e.1.frame e.1.state e.1.tree × AllWon es
+
+-- the turns rise, and none has a number below the least
+abbrev RisesFrom : Frame → ℕ → List Turn → Type 0
+RisesFrom f least [] = Unit {0}
+RisesFrom f least (t ∷ ts) = (least ≤ number_on f.size t) × RisesFrom f (number_on f.size t + 1) ts
+
+same_number : (f : Frame) (t : Turn) → number_on f.size t ≡ turn_number f t
+same_number f (Play p) = refl
+same_number f Pass = refl
+
+rises_from : (f : Frame) (least : ℕ) (ts : List Turn) → IsRising f ts →
+    ((d : Turn) → 0 < length ts → least ≤ turn_number f (slice_index_or ts 0 d)) → RisesFrom f least ts
+rises_from f least [] up low = tt
+rises_from f least (t ∷ ts) up low = (
+  omega (arith, low t (omega arith), same_number f t),
+  rises_from f (number_on f.size t + 1) ts (λ i j d before in'. up (suc i) (suc j) d (omega (arith, before)) (omega (arith, in')))
+      (λ d some. omega (arith, up 0 1 d (omega arith) (omega (arith, some)), same_number f t)),
+)
+
+module _ (f : Frame) (s : State) where
+  children_win : (es : List (Turn × Proven)) → AreChildren f s es → AllWon es →
+      LegalWin (opponent s.to_move) f s (entries_of (trees_of es))
+  children_win [] h w = tt
+  children_win (e ∷ es) h w = (λ l. (child_won f s (opponent s.to_move) e.0 e.1 h.0 w.0).wins, children_win es h.1 w.1)
+
+  children_low : (es : List (Turn × Proven)) → AreChildren f s es → depth_of_entries (entries_of (trees_of es)) ≤ 512
+  children_low [] h = omega arith
+  children_low (e ∷ es) h = let low = h.0.low in omega (arith, low, children_low es h.1)
+
+  children_in_order : (least : ℕ) (es : List (Turn × Proven)) → AreChildren f s es → AllWon es →
+      RisesFrom f least (turns_of es) → ((t : Turn) → IsIn (turns_of es) t → IsLegal f s t) →
+      AreInOrder f.size least (entries_of (trees_of es))
+  children_in_order least [] h w r l = tt
+  children_in_order least (e ∷ es) h w r l = (
+    r.0,
+    legal_on_board f s e.0 (l e.0 (inl refl)),
+    (child_won f s (opponent s.to_move) e.0 e.1 h.0 w.0).in_order,
+    children_in_order (number_on f.size e.0 + 1) es h.1 w.1 r.1 (λ t i. l t (inr i)),
+  )
+
+  has_entry : (es : List (Turn × Proven)) (t : Turn) → IsIn (turns_of es) t → HasEntry (entries_of (trees_of es)) t
+  has_entry [] t h = h
+  has_entry (e ∷ es) t (inl h) = inl h
+  has_entry (e ∷ es) t (inr h) = inr (has_entry es t h)
+
+  pub won_reply : (f' : Frame) (s' : State) (side : Side) (es : List (Turn × Proven)) → f' ≡ f → s' ≡ s →
+      side ≡ opponent s.to_move → winner_of f s ≡ None → turns_of es ≡ legal_turns f s → AreChildren f s es → AllWon es →
+      IsWon side f' s' (reply (entries_of (trees_of es)))
+  won_reply f' s' side es same_f same_s theirs nobody same h w =
+      let ts = turns_of es in
+      let up = subst (IsRising f) (sym same) (rising-legal_turns f s) in
+      let legal : (t : Turn) → Contains ts t ↔ IsLegal f s t = subst (λ xs. (t : Turn) → Contains xs t ↔ IsLegal f s t) (sym same) (contains-legal_turns f s) in
+      let order = children_in_order 0 es h w (rises_from f 0 ts up (λ d some. omega arith)) (λ t i. (legal t).0 (contains_of_in ts t i)) in
+      rw (same_f, same_s, theirs)
+      record {
+        wins =
+            ((reply_wins (opponent s.to_move) f s (entries_of (trees_of es)) order
+            ((nobody, opponent_twice s.to_move), λ t l. has_entry es t (in_of_contains ts t ((legal t).1 l)))).0
+            (children_win es h w));
+        low = children_low es h;
+        in_order = order;
+      }
+
+pub all_won_push : (es : List (Turn × Proven)) (e : Turn × Proven) → AllWon es →
+    IsWon e.1.side e.1.frame e.1.state e.1.tree → AllWon (es ++ e ∷ [])
+all_won_push [] e h w = (w, tt)
+all_won_push (x ∷ es) e h w = (h.0, all_won_push es e h.1 w)
+
+pub trees_of_push : (es : List (Turn × Proven)) (e : Turn × Proven) → trees_of (es ++ e ∷ []) ≡ trees_of es ++ ((e.0, e.1.tree) ∷ [])
+trees_of_push [] e = refl
+trees_of_push (x ∷ es) e = ap (λ r. (x.0, x.1.tree) ∷ r) (trees_of_push es e)
+
+pub on_board : (f : Frame) (t : Turn) → IsOnBoard f.size t → OnBoard f t
+on_board f (Play p) h = h
+on_board f Pass h = tt
+
+-- a turn makes the history go on
+pub continues_after : (f : Frame) (s : State) (t : Turn) → Continues (after f s t) s
+continues_after f s (Play p) = (made f s p ∷ [], refl)
+continues_after f s Pass = ([], sym (append-nil (history s)))
+
+-- where nobody has won there is a child, since the pass is legal
+pub some_child : (f : Frame) (s : State) (es : List (Turn × Proven)) → winner_of f s ≡ None → turns_of es ≡ legal_turns f s → length es ≡ 0 → ⊥
+some_child f s [] nobody same e =
+    let pass : Contains (turns_of []) Pass = subst (λ xs. Contains xs Pass) (sym same) ((contains-legal_turns f s Pass).1 nobody) in
+    omega (arith, pass.1)
+some_child f s (c ∷ es) nobody same e = omega (arith, e)

@@ -1,0 +1,38 @@
+-- What strategy a tree is, at each variant.
+use Rattle.std.proofs.Common.{◌≡◌, List, [], ◌∷◌, ◌++◌, ◌∙◌, refl, sym, ap, Vec, Box, Global, map}
+use Rattle.tt_game.specs.declared.turns.Turn.{Turn}
+use Rattle.tt_proof.specs.declared.tree.Tree.{Tree, fold-roll-Tree, Done, Pick, Reply}
+use Rattle.tt_proof.specs.declared.tree.Tree.TheVariants.{rolls-Done, rolls-Pick, rolls-Reply}
+use Rattle.tt_proof.specs.declared.tree.Tree.TheOpen as layer
+use Rattle.tt_proof.specs.Strategy.{Strategy, Entries, done, pick, reply, none, entry, strategy_of, strategy_step, entries_of, entries_of_trees}
+
+pub strategy_of_done : strategy_of Done ≡ done
+unfolding strategy_of
+strategy_of_done = ap strategy_of (sym rolls-Done) ∙ fold-roll-Tree Strategy strategy_step layer.Done
+
+pub strategy_of_pick : (t : Turn) (b : Box Tree Global) → strategy_of (Pick t b) ≡ pick t (strategy_of b.value)
+unfolding strategy_of
+strategy_of_pick t b = ap strategy_of (sym (rolls-Pick t b)) ∙ fold-roll-Tree Strategy strategy_step (layer.Pick t b)
+
+pub entries_map : (es : List (Turn × Tree)) → entries_of (map (λ e. (e.0, strategy_of e.1)) es) ≡ entries_of_trees es
+entries_map [] = refl
+entries_map (e ∷ es) = ap (λ r. entry e.0 (strategy_of e.1) r) (entries_map es)
+
+pub strategy_of_reply : (v : Vec (Turn × Tree) Global) → strategy_of (Reply v) ≡ reply (entries_of_trees v.items)
+unfolding strategy_of
+strategy_of_reply v =
+    ap strategy_of (sym (rolls-Reply v)) ∙ fold-roll-Tree Strategy strategy_step (layer.Reply v) ∙ ap reply (entries_map v.items)
+
+-- the list, and then es
+abbrev pub before : List (Turn × Tree) → Entries → Entries
+before [] es = es
+before (e ∷ list) es = entry e.0 (strategy_of e.1) (before list es)
+
+pub before_none : (list : List (Turn × Tree)) → before list none ≡ entries_of_trees list
+before_none [] = refl
+before_none (e ∷ list) = ap (λ r. entry e.0 (strategy_of e.1) r) (before_none list)
+
+pub before_push : (list : List (Turn × Tree)) (e : Turn × Tree) (es : Entries) →
+    before (list ++ e ∷ []) es ≡ before list (entry e.0 (strategy_of e.1) es)
+before_push [] e es = refl
+before_push (x ∷ list) e es = ap (λ r. entry x.0 (strategy_of x.1) r) (before_push list e es)

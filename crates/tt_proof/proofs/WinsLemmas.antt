@@ -1,0 +1,64 @@
+-- A reply wins exactly where each legal turn has an entry and each entry of a legal turn wins.
+use Rattle.std.proofs.Common.{◌≡◌, ℕ, ◌+◌, ◌≤◌, ◌↔◌, inl, inr, arith, subst, refl, sym, ap}
+use Rattle.tt_game.specs.Game.{State, IsLegal, after, opponent}
+use Rattle.tt_game.specs.declared.frame.Side.{Side}
+use Rattle.tt_game.specs.declared.frame.Side.TheVariants.{Attacker, Defender}
+use Rattle.tt_game.specs.declared.turns.Turn.{Turn}
+use Rattle.tt_game.specs.declared.frame.Frame.{Frame}
+use Rattle.tt_proof.specs.Strategy.{Entries, reply, none, entry, AreInOrder, number_on}
+use Rattle.tt_proof.specs.Wins.{Wins, WinsBehind}
+use Rattle.tt_proof.specs.Replaying.{HasEntry, LegalWin, AnswersEach}
+
+module _ (side : Side) (f : Frame) (s : State) where
+  pub win_behind : (es : Entries) (t : Turn) → IsLegal f s t → LegalWin side f s es → HasEntry es t → WinsBehind side f es t s
+  win_behind none t l w h = h
+  win_behind (entry t' u es) t l w (inl e) =
+      inl (e, subst (λ x. Wins side f u (after f s x)) e (w.0 (subst (λ x. IsLegal f s x) (sym e) l)))
+  win_behind (entry t' u es) t l w (inr h) = inr (win_behind es t l w.1 h)
+
+  has_behind : (es : Entries) (t : Turn) → WinsBehind side f es t s → HasEntry es t
+  has_behind none t h = h
+  has_behind (entry t' u es) t (inl h) = inl h.0
+  has_behind (entry t' u es) t (inr h) = inr (has_behind es t h)
+
+  entry_number : (least : ℕ) (es : Entries) (t : Turn) → AreInOrder f.size least es → HasEntry es t → least ≤ number_on f.size t
+  entry_number least none t o h = absurd h
+  entry_number least (entry t' u es) t o (inl e) = let same = ap (number_on f.size) e in omega (arith, o.0, same)
+  entry_number least (entry t' u es) t o (inr h) =
+      let past = entry_number (number_on f.size t' + 1) es t o.3 h in omega (arith, o.0, past)
+
+  pub legal_win : (least : ℕ) (es : Entries) → AreInOrder f.size least es →
+      ((t : Turn) → HasEntry es t → IsLegal f s t → WinsBehind side f es t s) → LegalWin side f s es
+  legal_win least none o h = tt
+  legal_win least (entry t u es) o h = (here, legal_win (number_on f.size t + 1) es o.3 there)
+    where
+      here : IsLegal f s t → Wins side f u (after f s t)
+      here l = pass (h t (inl refl) l)
+        where
+          pass : WinsBehind side f (entry t u es) t s → Wins side f u (after f s t)
+          pass (inl e) = e.1
+          pass (inr w) = let late = entry_number (number_on f.size t + 1) es t o.3 (has_behind es t w) in absurd (omega (arith, late))
+
+      there : (t' : Turn) → HasEntry es t' → IsLegal f s t' → WinsBehind side f es t' s
+      there t' e l = pass (h t' (inr e) l)
+        where
+          pass : WinsBehind side f (entry t u es) t' s → WinsBehind side f es t' s
+          pass (inl w) =
+              let late = entry_number (number_on f.size t + 1) es t' o.3 e in
+              let same = ap (number_on f.size) w.0 in
+              absurd (omega (arith, late, same))
+          pass (inr w) = w
+
+  pub reply_answers : (es : Entries) → Wins side f (reply es) s → AnswersEach side f s es
+  reply_answers es w = ((w.0, w.1), λ t l. has_behind es t (w.2 t l))
+
+  -- where each legal turn has an entry, the reply wins exactly where each entry of a legal turn does
+  pub reply_wins : (es : Entries) → AreInOrder f.size 0 es → AnswersEach side f s es → LegalWin side f s es ↔ Wins side f (reply es) s
+  reply_wins es o a =
+      (λ w. (a.0.0, a.0.1, λ t l. win_behind es t l w (a.1 t l)), λ w. legal_win 0 es o (λ t h l. w.2 t l))
+
+pub not_same : (a b : Side) → (a ≡ b → ⊥) → a ≡ opponent b
+not_same Attacker Attacker n = absurd (n refl)
+not_same Attacker Defender n = refl
+not_same Defender Attacker n = refl
+not_same Defender Defender n = absurd (n refl)

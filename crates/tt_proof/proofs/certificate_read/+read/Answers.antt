@@ -1,0 +1,113 @@
+use Rattle.tt_proof.specs.declared.certificate_read.CertFault.TheVariants.{Syntax, TooDeep}
+use Rattle.std.proofs.Common.{length, rules, arith, ◌≡◌, ◌+◌, ◌-◌, ◌++◌, ◌⊎◌, ℕ, suc, [], ◌∷◌, ◌∙◌, sym, ap, subst, inl, inr}
+use Rattle.tt_proof.specs.Strategy.{strategy_of, pick, number_on}
+use Rattle.tt_proof.specs.CertificateReading.{TreeAt, DeepAt, EntriesDeepAt, FaultAt, EntriesFaultAt}
+use Rattle.tt_proof.proofs.StrategyLemmas.{strategy_of_done, strategy_of_pick, strategy_of_reply}
+use Rattle.tt_proof.proofs.ReadLemmas.{not_tree, pick_no_turn, pick_deep, pick_read, pick_fault, reply_read, reply_fault}
+use Rattle.tt_proof.proofs.TextLemmas.{heads}
+use Rattle.tt_proof.proofs.EntryLemmas.{Walked, walked_more, walked_end, walked_fault, no_entry, not_rising, entry_deep, entry_fault}
+use Rattle.tt_proof.proofs.certificate_read.+read.Goals as goal
+
+one_more : (n : ℕ) → (n ≡ 0 → ⊥) → n ≡ suc (n - 1)
+one_more n h = omega (arith, h)
+
+pub read_tree-returns-in-None : goal.read_tree-returns-in-None
+read_tree-returns-in-None t c = not_tree c.args.size c.args.bytes.now (λ b y e w. omega (arith, c.in-None.ensures.cases, ap length e)) c.args.left
+
+pub read_reply-returns-in-Ok : goal.read_reply-returns-in-Ok
+read_reply-returns-in-Ok t c = rw strategy_of_reply (reply_read c.args.size c.args.left _ _ _ c.in-Ok.ensures)
+
+pub read_reply-returns-in-Err : goal.read_reply-returns-in-Err
+read_reply-returns-in-Err t c = reply_fault c.args.size c.args.left _ c.in-Err.fault c.in-Err.ensures
+
+pub read_pick-returns-in-None : goal.read_pick-returns-in-None
+read_pick-returns-in-None t c = pick_no_turn c.args.size c.args.left c.args.bytes.now c.in-None.ensures
+
+pub read_pick-returns-then-left-eq0 : goal.read_pick-returns-then-left-eq0
+read_pick-returns-then-left-eq0 t c =
+    subst (λ k. DeepAt c.args.size k (33 ∷ c.args.bytes.now)) (sym c.if-left-eq0.true)
+    (pick_deep c.args.size c.in-Some.turn c.args.bytes.now c.in-Some.after.now c.in-Some.ensures.0 c.in-Some.ensures.3)
+
+pub read_pick-returns-in-Err : goal.read_pick-returns-in-Err
+read_pick-returns-in-Err t c =
+    subst (λ k. FaultAt c.args.size k (33 ∷ c.args.bytes.now) c.in-Err.fault) (sym (one_more c.args.left c.if-left-eq0.false))
+    (pick_fault c.args.size (c.args.left - 1) c.in-Some.turn c.args.bytes.now c.in-Some.after.now c.in-Err.fault c.in-Some.ensures.0 c.in-Some.ensures.3 c.in-Err.ensures)
+
+pub read_pick-returns-in-Ok-new : goal.read_pick-returns-in-Ok-new
+read_pick-returns-in-Ok-new t c =
+    rw (strategy_of_pick, c.in-Ok-new.ensures.ok)
+    (subst (λ k. TreeAt c.args.size k (pick c.in-Some.turn (strategy_of c.in-Ok.child)) (33 ∷ c.args.bytes.now) c.in-Ok.rest.now)
+    (sym (one_more c.args.left c.if-left-eq0.false))
+    (pick_read c.args.size (c.args.left - 1) c.in-Some.turn (strategy_of c.in-Ok.child) c.args.bytes.now c.in-Some.after.now c.in-Ok.rest.now
+    c.in-Some.ensures.0 c.in-Some.ensures.3 c.in-Ok.ensures))
+
+pub read_entries-returns-in-Some : goal.read_entries-returns-in-Some
+read_entries-returns-in-Some t c =
+    walked_end c.args.size c.args.left c.loop-rest.least _ _ c.in-Some.rest.now _ c.loop-rest.invariant.walked c.in-Some.ensures
+
+pub read_entries-returns-in-None-read_turn : goal.read_entries-returns-in-None-read_turn
+read_entries-returns-in-None-read_turn t c =
+    walked_fault c.args.size c.args.left c.loop-rest.least _ _ _ Syntax c.loop-rest.invariant.walked
+    (no_entry c.args.size c.args.size.columns_in.0 c.args.left c.loop-rest.least c.loop-rest.now.now c.in-None.ensures c.in-None-read_turn.ensures)
+
+pub read_entries-returns-then-number-least : goal.read_entries-returns-then-number-least
+read_entries-returns-then-number-least t c =
+    let e = c.in-Some-read_turn.ensures.1 in
+    walked_fault c.args.size c.args.left c.loop-rest.least _ _ _ Syntax c.loop-rest.invariant.walked
+    (not_rising c.args.size c.args.size.columns_in.0 c.args.left c.loop-rest.least c.loop-rest.now.now c.in-Some-read_turn.middle.now
+    c.in-Some-read_turn.turn c.in-Some-read_turn.ensures.3 (omega (arith, e)))
+
+pub read_entries-returns-then-left-eq0 : goal.read_entries-returns-then-left-eq0
+read_entries-returns-then-left-eq0 t c =
+    let e = c.in-Some-read_turn.ensures.1 in
+    walked_fault c.args.size c.args.left c.loop-rest.least _ _ _ TooDeep c.loop-rest.invariant.walked
+    (subst (λ k. EntriesDeepAt c.args.size k c.loop-rest.least c.loop-rest.now.now) (sym c.if-left-eq0.true)
+    (entry_deep c.args.size c.args.size.columns_in.0 c.loop-rest.least c.loop-rest.now.now c.in-Some-read_turn.middle.now
+    c.in-Some-read_turn.turn c.in-Some-read_turn.ensures.0 (omega (arith, e)) c.in-Some-read_turn.ensures.3))
+
+pub read_entries-returns-in-Err : goal.read_entries-returns-in-Err
+read_entries-returns-in-Err t c =
+    let e = c.in-Some-read_turn.ensures.1 in
+    walked_fault c.args.size c.args.left c.loop-rest.least _ _ _ c.in-Err.fault c.loop-rest.invariant.walked
+    (subst (λ k. EntriesFaultAt c.args.size k c.loop-rest.least c.loop-rest.now.now c.in-Err.fault) (sym (one_more c.args.left c.if-left-eq0.false))
+    (entry_fault c.args.size c.args.size.columns_in.0 (c.args.left - 1) c.loop-rest.least c.loop-rest.now.now c.in-Some-read_turn.middle.now
+    c.in-Some-read_turn.turn c.in-Err.fault c.in-Some-read_turn.ensures.0 (omega (arith, e)) c.in-Some-read_turn.ensures.3 c.in-Err.ensures))
+
+pub read_entries-loop-rest-preserved : goal.read_entries-loop-rest-preserved
+read_entries-loop-rest-preserved t c =
+    let e = c.in-Some-read_turn.ensures.1 in
+    let one = one_more c.args.left c.if-left-eq0.false in
+    let items : c.push.new.self.items ≡ c.loop-rest.list.items ++ ((c.in-Some-read_turn.turn, c.in-Ok.tree) ∷ []) = search rules in
+    record {
+      walked =
+          rw (items, e)
+          (subst (λ k. Walked c.args.size k c.args.bytes.now (number_on c.args.size c.in-Some-read_turn.turn + 1) c.in-Ok.after.now
+          (c.loop-rest.list.items ++ ((c.in-Some-read_turn.turn, c.in-Ok.tree) ∷ []))) (sym one)
+          (walked_more c.args.size c.args.size.columns_in.0 (c.args.left - 1) c.loop-rest.least c.args.bytes.now c.loop-rest.now.now
+          c.in-Some-read_turn.middle.now c.in-Ok.after.now c.loop-rest.list.items c.in-Some-read_turn.turn c.in-Ok.tree
+          (subst (λ k. Walked c.args.size k c.args.bytes.now c.loop-rest.least c.loop-rest.now.now c.loop-rest.list.items) one
+          c.loop-rest.invariant.walked)
+          c.in-Some-read_turn.ensures.0 (omega (arith, e)) c.in-Some-read_turn.ensures.3 c.in-Ok.ensures));
+      small = omega (arith, c.in-Some-read_turn.ensures.2);
+    }
+
+pub read_tree-returns-then-first-eq46 : goal.read_tree-returns-then-first-eq46
+read_tree-returns-then-first-eq46 t c =
+    rw strategy_of_done
+    (record {
+      in_order = tt;
+      low = omega arith;
+      text = c.in-Some.ensures.cases.0 ∙ ap (λ b. b ∷ c.in-Some.rest.now) c.if-first-eq46.true;
+    })
+
+neither : (first b : ℕ) → first ≡ b → (first ≡ 46 → ⊥) → (first ≡ 33 → ⊥) → (first ≡ 63 → ⊥) → (b ≡ 46) ⊎ ((b ≡ 33) ⊎ (b ≡ 63)) → ⊥
+neither first b e x y z (inl h) = x (e ∙ h)
+neither first b e x y z (inr (inl h)) = y (e ∙ h)
+neither first b e x y z (inr (inr h)) = z (e ∙ h)
+
+pub read_tree-returns-else-first-eq63 : goal.read_tree-returns-else-first-eq63
+read_tree-returns-else-first-eq63 t c =
+    not_tree c.args.size c.args.bytes.now
+    (λ b y e w. neither c.in-Some.first.now b (heads (sym c.in-Some.ensures.cases.0 ∙ e)) c.if-first-eq46.false c.if-first-eq33.false
+    c.if-first-eq63.false w)
+    c.args.left

@@ -1,0 +1,41 @@
+use Rattle.std.proofs.Common.{rules, ◌≡◌, ◌∙◌, ◌++◌, List, [], ◌∷◌, ℕ, Result, Ok, Err, OnOk, ap, append_assoc}
+use Rattle.tt_proof.specs.declared.tree.Tree.TheViews.{the_lemmas}
+use Rattle.tt_proof.proofs.StrategyLemmas.{strategy_of_done, strategy_of_pick, strategy_of_reply}
+use Rattle.tt_proof.proofs.certificate_write.+put.Goals as goal
+
+pub put_tree-put_turn-requires : goal.put_tree-put_turn-requires
+put_tree-put_turn-requires t c = let ordered = rw (c.in-Pick.is, strategy_of_pick) at c.requires.in_order in ordered.0
+
+pub put_tree-put_tree-requires : goal.put_tree-put_tree-requires
+put_tree-put_tree-requires t c =
+    let ordered = rw (c.in-Pick.is, strategy_of_pick) at c.requires.in_order in
+    (search (rules, the_lemmas), rw c.deref.ensures ordered.1)
+
+pub put_tree-put_entries-requires : goal.put_tree-put_entries-requires
+put_tree-put_entries-requires t c =
+    let ordered = rw (c.in-Reply.is, strategy_of_reply) at c.requires.in_order in
+    (search (rules, the_lemmas), rw c.deref-in-Reply.ensures.value ordered)
+
+pub put_tree-returns-in-Done : goal.put_tree-returns-in-Done
+put_tree-returns-in-Done t c = rw (c.in-Done.is, strategy_of_done) c.put.ensures
+
+on_ok : {A E : Type 0} (r : Result A E) (P Q : Type 0) → (P → Q) → OnOk r P → OnOk r Q
+on_ok (Ok x) P Q f h = f h
+on_ok (Err e) P Q f h = h
+
+pub put_tree-returns-in_ok-put_turn-in-Pick : goal.put_tree-returns-in_ok-put_turn-in-Pick
+put_tree-returns-in_ok-put_turn-in-Pick t c =
+    rw (c.in-Pick.is, strategy_of_pick, ← c.deref.ensures)
+    (on_ok c.put_tree.result _ _ (λ e. e ∙ joined _ _ _ _ _ c.in_ok-put-in-Pick.ensures c.in_ok-put_turn-in-Pick.ensures) c.put_tree.ensures)
+  where
+    joined : (a b d x y : List ℕ) → b ≡ a ++ (33 ∷ []) → d ≡ b ++ x → d ++ y ≡ a ++ (33 ∷ (x ++ y))
+    joined a b d x y e f =
+        ap (λ w. w ++ y) (f ∙ ap (λ w. w ++ x) e) ∙ append_assoc (a ++ (33 ∷ [])) x y ∙ append_assoc a (33 ∷ []) (x ++ y)
+
+pub put_tree-returns-in_ok-put-in-Reply : goal.put_tree-returns-in_ok-put-in-Reply
+put_tree-returns-in_ok-put-in-Reply t c =
+    rw (c.in-Reply.is, strategy_of_reply, ← c.deref-in-Reply.ensures.value)
+    (on_ok c.put_entries.result _ _ (λ e. e ∙ joined _ _ _ c.in_ok-put-in-Reply.ensures) c.put_entries.ensures)
+  where
+    joined : (a b y : List ℕ) → b ≡ a ++ (63 ∷ []) → b ++ y ≡ a ++ (63 ∷ y)
+    joined a b y e = ap (λ w. w ++ y) e ∙ append_assoc a (63 ∷ []) y

@@ -1,0 +1,74 @@
+-- The text of a certificate. Points are written as SGF FF[4] writes them: the letter of the column, then that of the row.
+use Rattle.std.specs.Prelude.{◌≡◌, ℕ, zero, suc, ◌+◌, ◌/◌, ◌%◌, ◌≤◌, ◌⊎◌, List, [], ◌∷◌, ◌++◌, codes}
+use Rattle.tt_sgf.specs.declared.size.Size.{Size}
+use Rattle.tt_game.specs.declared.frame.Side.{Side}
+use Rattle.tt_game.specs.declared.frame.Side.TheVariants.{Attacker, Defender}
+use Rattle.tt_game.specs.declared.turns.Turn.{Turn}
+use Rattle.tt_game.specs.declared.turns.Turn.TheVariants.{Play, Pass}
+use Rattle.tt_proof.specs.Strategy.{Strategy, Entries, done, pick, reply, none, entry, depth, IsInOrder}
+
+abbrev pub side_text : Side → List ℕ
+side_text Attacker = codes "killed "
+side_text Defender = codes "lives "
+
+module _ (size : Size) where
+  -- the letter of the column, or a dash
+  abbrev pub first_byte : Turn → ℕ
+  first_byte (Play p) = 97 + p % size.columns
+  first_byte Pass = 45
+
+  -- the letter of the row, or a dash
+  abbrev pub second_byte : Turn → ℕ
+  second_byte (Play p) = 97 + p / size.columns
+  second_byte Pass = 45
+
+  -- `ca` is the third column of the first row, `--` a pass
+  abbrev pub turn_text : Turn → List ℕ
+  turn_text t = first_byte t ∷ second_byte t ∷ []
+
+  abbrev mutual
+    -- `.`, `!` with a turn and a tree, or `?` with turns and trees up to `;`
+    pub tree_text : Strategy → List ℕ
+    tree_text done = 46 ∷ []
+    tree_text (pick t u) = 33 ∷ (turn_text t ++ tree_text u)
+    tree_text (reply es) = 63 ∷ entries_text es
+
+    pub entries_text : Entries → List ℕ
+    entries_text none = 59 ∷ []
+    entries_text (entry t u es) = turn_text t ++ (tree_text u ++ entries_text es)
+
+  abbrev pub certificate_text : Side → Strategy → List ℕ
+  certificate_text side u = side_text side ++ tree_text u
+
+  abbrev mutual
+    -- x is a beginning of the tree's text that ends with a turn, and d turns lie above that one
+    pub EndsBelow : Strategy → ℕ → List ℕ → Type 0
+    EndsBelow done d x = ⊥
+    EndsBelow (pick t u) zero x = x ≡ 33 ∷ turn_text t
+    EndsBelow (pick t u) (suc d) x = (y : List ℕ) × ((x ≡ 33 ∷ (turn_text t ++ y)) × EndsBelow u d y)
+    EndsBelow (reply es) d x = (y : List ℕ) × ((x ≡ 63 ∷ y) × EndsBehind es d y)
+
+    -- so with the entries' text
+    pub EndsBehind : Entries → ℕ → List ℕ → Type 0
+    EndsBehind none d x = ⊥
+    EndsBehind (entry t u es) zero x =
+        (x ≡ turn_text t) ⊎ ((y : List ℕ) × ((x ≡ turn_text t ++ (tree_text u ++ y)) × EndsBehind es zero y))
+    EndsBehind (entry t u es) (suc d) x =
+        ((y : List ℕ) × ((x ≡ turn_text t ++ y) × EndsBelow u d y))
+        ⊎ ((y : List ℕ) × ((x ≡ turn_text t ++ (tree_text u ++ y)) × EndsBehind es (suc d) y))
+
+  -- the bytes are the certificate of this side and tree: each way down has at most 512 turns
+  pub record IsCertificate (bytes : List ℕ) (side : Side) (u : Strategy) : Type 0 where
+    pub in_order : IsInOrder size u
+    pub low : depth u ≤ 512
+    pub text : bytes ≡ certificate_text side u
+
+  -- some beginning of the bytes ends with a turn below 512 others, and can be completed to the text of a tree in order
+  pub record IsTooDeep (bytes : List ℕ) : Type 0 where
+    pub side : Side
+    pub tree : Strategy
+    pub beginning : List ℕ
+    pub follows : List ℕ
+    pub in_order : IsInOrder size tree
+    pub ends : EndsBelow tree 512 beginning
+    pub text : bytes ≡ side_text side ++ (beginning ++ follows)

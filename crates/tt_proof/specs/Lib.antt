@@ -1,0 +1,10 @@
+pub mod Strategy
+pub mod StrategyCode
+pub mod Wins
+pub mod Replaying
+pub mod Laws
+pub mod Proven
+pub mod Rejections
+pub mod CertificateText
+pub mod CertificateReading
+pub mod CertificateFaults

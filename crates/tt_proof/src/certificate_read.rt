@@ -1,0 +1,267 @@
+//! Reads certificates.
+
+ghost use Rattle.std.specs.Prelude.{◌≡◌, ◌<◌, ◌≤◌, ◌+◌, ◌/◌, ◌%◌, ◌++◌, ◌∷◌, ℕ, List, MatchOption, MatchResult};
+ghost use Rattle.tt_sgf.specs.Sizes.{point_count};
+ghost use Rattle.tt_game.specs.declared.turns.Turn.{Turn};
+ghost use Rattle.tt_proof.specs.Strategy.{strategy_of, entries_of_trees, number_on, IsOnBoard};
+ghost use Rattle.tt_proof.specs.CertificateText.{turn_text, side_text, IsCertificate, IsTooDeep};
+ghost use Rattle.tt_proof.specs.CertificateReading.{TreeAt, EntriesAt, FaultAt, EntriesFaultAt};
+ghost use Rattle.tt_proof.specs.CertificateFaults.{IsFault, code_of};
+
+use crate::tree::Tree;
+use std::alloc::{AllocError, AllocFailed, Global};
+use tt_game::{Side, Turn};
+use tt_sgf::{Point, Size};
+
+/// Why bytes are not a certificate.
+#[derive(Clone, Copy, Debug, PartialEq, Eq)]
+pub enum CertFault {
+    /// No certificate.
+    Syntax,
+    /// A turn below 512 others.
+    TooDeep,
+    /// Memory was refused.
+    NoMemory,
+}
+
+impl From<AllocError> for CertFault {
+    ghost use Rattle.std.specs.Prelude.{◌≡◌};
+    ghost use Rattle.tt_proof.specs.declared.certificate_read.CertFault.TheVariants.{NoMemory};
+
+    ghost from_gives = { λ _ e. e ≡ NoMemory };
+
+    fn from(_: AllocError) -> CertFault {
+        CertFault::NoMemory
+    }
+}
+
+impl<T: Drop> From<AllocFailed<T>> for CertFault {
+    ghost use Rattle.std.specs.Prelude.{◌≡◌};
+    ghost use Rattle.tt_proof.specs.declared.certificate_read.CertFault.TheVariants.{NoMemory};
+
+    ghost from_gives = { λ _ e. e ≡ NoMemory };
+
+    fn from(_: AllocFailed<T>) -> CertFault {
+        CertFault::NoMemory
+    }
+}
+
+impl CertFault {
+    /// The number of the refusal: 30, 31 or 40.
+    pub fn code(&self) -> u8
+        ensures { result ≡ code_of self.now }
+    {
+        match self {
+            CertFault::Syntax => 30,
+            CertFault::TooDeep => 31,
+            CertFault::NoMemory => 40,
+        }
+    }
+}
+
+/// The number of a letter below `end`, where `a` has 0.
+fn letter_index(byte: u8, end: u16) -> Option<u16>
+    requires { end ≤ 19 }
+    ensures { MatchOption result ((n : ℕ) → n < end → byte ≡ 97 + n → ⊥) (λ n. (n < end) × (byte ≡ 97 + n)) }
+{
+    if byte < 97 {
+        return None;
+    }
+    let n = u16::from(byte) - 97;
+    if n < end { Some(n) } else { None }
+}
+
+/// The point of these two letters.
+fn read_point(first: u8, second: u8, size: Size) -> Option<Point>
+    ensures { MatchOption result
+        ((p : ℕ) → p < point_count size → first ≡ 97 + p % size.columns → second ≡ 97 + p / size.columns → ⊥)
+        (λ p. (p < point_count size) × (first ≡ 97 + p % size.columns) × (second ≡ 97 + p / size.columns)) }
+{
+    match letter_index(first, size.columns()) {
+        None => None,
+        Some(column) => match letter_index(second, size.rows()) {
+            None => None,
+            Some(row) => size.point(row * size.columns() + column),
+        },
+    }
+}
+
+/// The turn at the front of the bytes, its number, and what follows.
+fn read_turn(bytes: &[u8], size: Size) -> Option<(Turn, u16, &[u8])>
+    ensures { MatchOption result
+        ((t : Turn) (y : List ℕ) → IsOnBoard size t → bytes.now ≡ turn_text size t ++ y → ⊥)
+        (λ r. IsOnBoard size r.0 × (r.1 ≡ number_on size r.0) × (r.1 ≤ 361) × (bytes.now ≡ turn_text size r.0 ++ r.2.now)) }
+{
+    let (first, rest) = bytes.split_first()?;
+    let (second, rest) = rest.split_first()?;
+    if *first == b'-' && *second == b'-' {
+        return Some((Turn::Pass, size.point_count() as u16, rest));
+    }
+    match read_point(*first, *second, size) {
+        None => None,
+        Some(p) => Some((Turn::Play(p), p.number(), rest)),
+    }
+}
+
+/// What follows the end of a reply, where that is at the front of the bytes.
+fn after_end(bytes: &[u8]) -> Option<&[u8]>
+    ensures { MatchOption result ((y : List ℕ) → bytes.now ≡ 59 ∷ y → ⊥) (λ r. bytes.now ≡ 59 ∷ r.now) }
+{
+    match bytes.split_first() {
+        None => None,
+        Some((first, rest)) => if *first == b';' { Some(rest) } else { None },
+    }
+}
+
+/// The tree at the front of the bytes, of a depth of at most `left`, and what follows.
+#[cycle(read)]
+fn read_tree(alloc: Global, bytes: &[u8], size: Size, left: u16) -> Result<(Tree, &[u8]), CertFault>
+    ensures { MatchResult result (λ r. TreeAt size left (strategy_of r.0) bytes.now r.1.now) (λ e. FaultAt size left bytes.now e) }
+{
+    match bytes.split_first() {
+        None => Err(CertFault::Syntax),
+        Some((first, rest)) => {
+            if *first == b'.' {
+                return Ok((Tree::Done, rest));
+            }
+            if *first == b'!' {
+                return read_pick(alloc, rest, size, left);
+            }
+            if *first == b'?' {
+                return read_reply(alloc, rest, size, left);
+            }
+            Err(CertFault::Syntax)
+        }
+    }
+}
+
+#[cycle(read)]
+fn read_pick(alloc: Global, bytes: &[u8], size: Size, left: u16) -> Result<(Tree, &[u8]), CertFault>
+    ensures { MatchResult result (λ r. TreeAt size left (strategy_of r.0) (33 ∷ bytes.now) r.1.now)
+        (λ e. FaultAt size left (33 ∷ bytes.now) e) }
+{
+    match read_turn(bytes, size) {
+        None => Err(CertFault::Syntax),
+        Some((turn, _, after)) => {
+            if left == 0 {
+                return Err(CertFault::TooDeep);
+            }
+            match read_tree(alloc, after, size, left - 1) {
+                Err(fault) => Err(fault),
+                Ok((child, rest)) => match Box::new(alloc, child) {
+                    Ok(child) => Ok((Tree::Pick(turn, child), rest)),
+                    Err(_) => Err(CertFault::NoMemory),
+                },
+            }
+        }
+    }
+}
+
+#[cycle(read)]
+fn read_reply(
+    alloc: Global,
+    bytes: &[u8],
+    size: Size,
+    left: u16,
+) -> Result<(Tree, &[u8]), CertFault>
+    ensures { MatchResult result (λ r. TreeAt size left (strategy_of r.0) (63 ∷ bytes.now) r.1.now)
+        (λ e. FaultAt size left (63 ∷ bytes.now) e) }
+{
+    match read_entries(alloc, bytes, size, left) {
+        Ok((list, rest)) => Ok((Tree::Reply(list), rest)),
+        Err(fault) => Err(fault),
+    }
+}
+
+/// The entries up to the end of a reply, and what follows.
+#[cycle(read)]
+fn read_entries(
+    alloc: Global,
+    bytes: &[u8],
+    size: Size,
+    left: u16,
+) -> Result<(Vec<(Turn, Tree)>, &[u8]), CertFault>
+    ensures { MatchResult result (λ r. EntriesAt size left 0 (entries_of_trees r.0.items) bytes.now r.1.now)
+        (λ e. EntriesFaultAt size left 0 bytes.now e) }
+{
+    let mut list = Vec::new(alloc);
+    let mut now = bytes;
+    let mut least = 0;
+    loop {
+        match after_end(now) {
+            Some(rest) => return Ok((list, rest)),
+            None => match read_turn(now, size) {
+                None => return Err(CertFault::Syntax),
+                Some((turn, number, middle)) => {
+                    if number < least {
+                        return Err(CertFault::Syntax);
+                    }
+                    if left == 0 {
+                        return Err(CertFault::TooDeep);
+                    }
+                    match read_tree(alloc, middle, size, left - 1) {
+                        Err(fault) => return Err(fault),
+                        Ok((tree, after)) => {
+                            if list.push((turn, tree)).is_err() {
+                                return Err(CertFault::NoMemory);
+                            }
+                            least = number + 1;
+                            now = after;
+                        }
+                    }
+                }
+            },
+        }
+    }
+}
+
+/// What follows the side's word, where that is at the front of the bytes.
+fn after_side(bytes: &[u8], s: Side) -> Option<&[u8]>
+    ensures { MatchOption result ((y : List ℕ) → bytes.now ≡ side_text s ++ y → ⊥) (λ r. bytes.now ≡ side_text s ++ r.now) }
+{
+    let word: &[u8] = match s {
+        Side::Attacker => b"killed ",
+        Side::Defender => b"lives ",
+    };
+    bytes.strip_prefix(word)
+}
+
+/// The side and the tree that the bytes spell, where `rest` follows the side's word.
+fn read_for(
+    alloc: Global,
+    bytes: &[u8],
+    rest: &[u8],
+    s: Side,
+    size: Size,
+) -> Result<(Side, Tree), CertFault>
+    requires { bytes.now ≡ side_text s ++ rest.now }
+    ensures { MatchResult result
+        (λ r. IsCertificate size bytes.now r.0 (strategy_of r.1) × (IsTooDeep size bytes.now → ⊥))
+        (λ e. IsFault size bytes.now e) }
+{
+    match read_tree(alloc, rest, size, 512) {
+        Err(fault) => Err(fault),
+        Ok((tree, more)) => {
+            if more.is_empty() {
+                return Ok((s, tree));
+            }
+            Err(CertFault::Syntax)
+        }
+    }
+}
+
+/// The side and the tree that the bytes are the certificate of, on a board of this size. Where they are none, a turn
+/// below 512 others comes before all that is wrong behind it.
+pub fn read_cert(alloc: Global, bytes: &[u8], size: Size) -> Result<(Side, Tree), CertFault>
+    ensures { MatchResult result
+        (λ r. IsCertificate size bytes.now r.0 (strategy_of r.1) × (IsTooDeep size bytes.now → ⊥))
+        (λ e. IsFault size bytes.now e) }
+{
+    match after_side(bytes, Side::Attacker) {
+        Some(rest) => read_for(alloc, bytes, rest, Side::Attacker, size),
+        None => match after_side(bytes, Side::Defender) {
+            Some(rest) => read_for(alloc, bytes, rest, Side::Defender, size),
+            None => Err(CertFault::Syntax),
+        },
+    }
+}

@@ -1,0 +1,100 @@
+//! Writes certificates.
+
+ghost use Rattle.std.specs.Prelude.{◌≡◌, ◌<◌, ◌≤◌, ◌+◌, ◌/◌, ◌++◌, ◌∷◌, [], OnOk, IfOk};
+ghost use Rattle.tt_sgf.specs.Sizes.{point_count};
+ghost use Rattle.tt_proof.specs.Strategy.{depth, strategy_of, entries_of_trees, IsOnBoard, IsInOrder, AreInOrder};
+ghost use Rattle.tt_proof.specs.CertificateText.{turn_text, tree_text, entries_text, certificate_text};
+
+use crate::tree::Tree;
+use std::alloc::Global;
+use tt_game::{Side, Turn};
+use tt_sgf::{NoMemory, Point, Size};
+
+fn put(out: &mut Vec<u8>, byte: u8) -> Result<(), NoMemory>
+    ensures { OnOk result (out.new.items ≡ out.old.items ++ byte ∷ []) }
+{
+    out.push(byte)?;
+    Ok(())
+}
+
+fn letter(n: u16) -> u8
+    requires { n < 26 }
+    ensures { result ≡ 97 + n }
+{
+    (97 + n) as u8
+}
+
+fn letter_of_row(p: Point, size: Size) -> u8
+    requires { p < point_count size }
+    ensures { result ≡ 97 + p / size.columns }
+{
+    letter(p.number() / size.columns())
+}
+
+/// Writes the text of a turn behind the bytes: the letters of its column and row, or `--` for a pass.
+pub fn put_turn(out: &mut Vec<u8>, turn: Turn, size: Size) -> Result<(), NoMemory>
+    requires { IsOnBoard size turn }
+    ensures { OnOk result (out.new.items ≡ out.old.items ++ turn_text size turn) }
+{
+    match turn {
+        Turn::Play(p) => {
+            let column = letter(p.number() % size.columns());
+            let row = letter_of_row(p, size);
+            put(out, column)?;
+            put(out, row)?;
+            Ok(())
+        }
+        Turn::Pass => {
+            put(out, b'-')?;
+            put(out, b'-')?;
+            Ok(())
+        }
+    }
+}
+
+#[cycle(put)]
+fn put_tree(out: &mut Vec<u8>, t: &Tree, size: Size) -> Result<(), NoMemory>
+    requires in_order { IsInOrder size (strategy_of t.now) }
+    ensures { OnOk result (out.new.items ≡ out.old.items ++ tree_text size (strategy_of t.now)) }
+{
+    match t {
+        Tree::Done => put(out, b'.'),
+        Tree::Pick(turn, child) => {
+            put(out, b'!')?;
+            put_turn(out, *turn, size)?;
+            put_tree(out, child, size)
+        }
+        Tree::Reply(list) => {
+            put(out, b'?')?;
+            put_entries(out, list, size)
+        }
+    }
+}
+
+#[cycle(put)]
+fn put_entries(out: &mut Vec<u8>, list: &[(Turn, Tree)], size: Size) -> Result<(), NoMemory>
+    requires in_order { AreInOrder size 0 (entries_of_trees list.now) }
+    ensures { OnOk result (out.new.items ≡ out.old.items ++ entries_text size (entries_of_trees list.now)) }
+{
+    for (turn, child) in list {
+        put_turn(out, *turn, size)?;
+        put_tree(out, child, size)?;
+    }
+    put(out, b';')
+}
+
+/// The certificate of the side and its tree, on a board of this size.
+pub fn write_cert(alloc: Global, s: Side, t: &Tree, size: Size) -> Result<Vec<u8>, NoMemory>
+    requires depth { depth (strategy_of t.now) ≤ 512 }
+    requires in_order { IsInOrder size (strategy_of t.now) }
+    ensures { IfOk result (λ v. v.items ≡ certificate_text size s (strategy_of t.now)) }
+{
+    let mut out = Vec::new(alloc);
+    let side: &[u8] = match s {
+        Side::Attacker => b"killed ",
+        Side::Defender => b"lives ",
+    };
+    out.extend_from_slice(side)?;
+    put_tree(&mut out, t, size)?;
+    Ok(out)
+}

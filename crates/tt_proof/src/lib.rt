@@ -1,0 +1,20 @@
+//! Strategy trees, their exact replay, proofs that win, and certificates.
+#![tactic(auto)]
+
+mod building;
+mod certificate_read;
+mod certificate_write;
+mod depths;
+pub mod laws;
+mod proven;
+mod replays;
+mod tree;
+
+pub use certificate_read::{CertFault, read_cert};
+pub use certificate_write::{put_turn, write_cert};
+pub use proven::{Proof, Rejected};
+pub use replays::replay;
+pub use tree::Tree;
+
+#[cfg(test)]
+mod tests;

@@ -1,0 +1,232 @@
+//! Proofs: trees that win.
+
+ghost use Rattle.std.specs.Prelude.{◌≡◌, ◌≢◌, ◌↔◌, ◌≤◌, ◌+◌, IfOk, IfErr, IsTrue, None, Some};
+ghost use Rattle.tt_game.specs.Game.{winner_of, opponent, IsLegal, after};
+ghost use Rattle.tt_game.specs.Turns.{legal_turns};
+ghost use Rattle.tt_game.specs.Keys.{key_of};
+ghost use Rattle.tt_game.specs.declared.turns.Turn.{Turn};
+ghost use Rattle.tt_proof.specs.Strategy.{pick, reply, done, depth, strategy_of, IsInOrder, entries_of};
+ghost use Rattle.tt_proof.specs.Proven.{IsWon, StandsAt, IsChild, AreChildren, IsFoundAt, turns_of, trees_of, first_of};
+ghost use Rattle.tt_proof.specs.Rejections.{IsRejected};
+
+use crate::depths::depth_of;
+use crate::replays::replay;
+use crate::tree::Tree;
+use std::alloc::Global;
+use std::marker::Model;
+use tt_game::{Key, Line, Side, Turn};
+use tt_sgf::NoMemory;
+
+/// A tree that wins for its side from the state of its line: of a depth of at most 512, with rising turns and points
+/// on the board.
+#[derive(Drop)]
+pub struct Proof {
+    line: Line,
+    side: Side,
+    tree: Tree,
+}
+
+impl Model for Proof {
+    ghost use Rattle.std.specs.Coded.{codes};
+    ghost use Rattle.tt_sgf.specs.contracts.sets.PointSet as points;
+    ghost use Rattle.tt_proof.specs.Proven.{Proven, IsWon};
+    ghost use Rattle.tt_proof.specs.Strategy.{strategy_of};
+    ghost use Rattle.tt_proof.specs.StrategyCode.{strategy_code};
+
+    ghost Value = { Proven };
+
+    ghost coded = { Prim.hlevel (codes, points.the_row.coded, strategy_code) };
+
+    ghost view = { λ p. record { frame = p.line.frame; state = p.line.state; side = p.side; tree = strategy_of p.tree } };
+
+    ghost invariant = { λ p. IsWon p.side p.line.frame p.line.state (strategy_of p.tree) };
+}
+
+/// Why a tree was not made a proof. The tree comes back.
+#[derive(Drop)]
+pub enum Rejected {
+    NotWinning(Tree),
+    NoMemory(Tree),
+}
+
+impl Proof {
+    /// The side that the tree wins for.
+    pub fn side(&self) -> Side
+        ensures side { result ≡ self.now.side }
+        ensures wins { IsWon self.now.side self.now.frame self.now.state self.now.tree }
+    {
+        self.side
+    }
+
+    /// The tree.
+    pub fn tree(&self) -> &Tree
+        ensures tree { strategy_of result.now ≡ self.now.tree }
+        ensures wins { IsWon self.now.side self.now.frame self.now.state self.now.tree }
+    {
+        &self.tree
+    }
+
+    /// The turn that the side plays first, where it is to move.
+    pub fn first(&self) -> Option<Turn>
+        ensures { result ≡ first_of self.now.tree }
+    {
+        match &self.tree {
+            Tree::Pick(turn, _) => Some(*turn),
+            Tree::Done => None,
+            Tree::Reply(_) => None,
+        }
+    }
+
+    /// How many turns the longest way down the tree has: at most 512.
+    pub fn depth(&self) -> u16
+        ensures depth { result ≡ depth self.now.tree }
+        ensures low { result ≤ 512 }
+    {
+        depth_of(&self.tree)
+    }
+
+    /// The key of the proof's own position.
+    pub fn key(&self) -> Key
+        ensures { result ≡ key_of self.now.frame self.now.state }
+    {
+        self.line.key()
+    }
+
+    /// Whether the proof's own position has this key.
+    pub fn has_key(&self, k: &Key) -> bool
+        ensures { IsTrue result ↔ (key_of self.now.frame self.now.state ≡ k.now) }
+    {
+        self.line.key().same(k)
+    }
+
+    /// Whether the line has the proof's frame, history, side to move and pass count.
+    pub fn stands_at(&self, line: &Line) -> bool
+        ensures { IsTrue result ↔ StandsAt self.now line.now.frame line.now.state }
+    {
+        self.line.stands_with(line)
+    }
+
+    /// A proof of the tree at the line, where it wins there. The line stands as before.
+    pub fn replayed(line: &mut Line, s: Side, t: Tree) -> Result<Proof, Rejected>
+        requires depth { depth (strategy_of t) ≤ 512 }
+        requires in_order { IsInOrder line.old.frame.size (strategy_of t) }
+        ensures made { IfOk result (λ p. StandsAt p line.old.frame line.old.state × (p.side ≡ s) × (p.tree ≡ strategy_of t)) }
+        ensures rejected { IfErr result (λ e. IsRejected e s line.old.frame line.old.state t) }
+        ensures same { line.new ≡ line.old }
+    {
+        match replay(&t, s, line) {
+            Err(_) => Err(Rejected::NoMemory(t)),
+            Ok(false) => Err(Rejected::NotWinning(t)),
+            Ok(true) => match line.try_clone() {
+                Ok(own) => Ok(Proof {
+                    line: own,
+                    side: s,
+                    tree: t,
+                }),
+                Err(_) => Err(Rejected::NoMemory(t)),
+            },
+        }
+    }
+
+    /// A proof of the found proof's tree at the line, or none exactly where the tree doesn't win there. The line stands
+    /// as before.
+    pub fn at(alloc: Global, line: &mut Line, found: &Proof) -> Result<Option<Proof>, NoMemory>
+        requires { found.now.frame.size ≡ line.old.frame.size }
+        ensures made { IfOk result (λ found_there. IsFoundAt found.now line.old.frame line.old.state found_there) }
+        ensures same { line.new ≡ line.old }
+    {
+        let tree = found.tree.try_copy(alloc)?;
+        match Proof::replayed(line, found.side, tree) {
+            Ok(proof) => Ok(Some(proof)),
+            Err(Rejected::NotWinning(_)) => Ok(None),
+            Err(Rejected::NoMemory(_)) => Err(NoMemory),
+        }
+    }
+
+    /// The proof at a line where somebody has won.
+    pub fn done(line: &Line) -> Result<Proof, NoMemory>
+        requires { winner_of line.now.frame line.now.state ≢ None }
+        ensures { IfOk result (λ p. StandsAt p line.now.frame line.now.state
+            × (winner_of line.now.frame line.now.state ≡ Some p.side) × (p.tree ≡ done)) }
+    {
+        match line.winner() {
+            Some(side) => {
+                let own = line.try_clone()?;
+                Ok(Proof {
+                    line: own,
+                    side,
+                    tree: Tree::Done,
+                })
+            }
+            None => unreachable!(),
+        }
+    }
+
+    /// The proof that plays the turn and goes on with the child. It takes over the child's history.
+    pub fn pick(alloc: Global, line: &Line, t: Turn, child: Proof) -> Result<Proof, NoMemory>
+        requires legal { IsLegal line.now.frame line.now.state t }
+        requires child { IsChild line.now.frame line.now.state line.now.state.to_move t child }
+        ensures { IfOk result (λ p. StandsAt p line.now.frame line.now.state × (p.side ≡ child.side)
+            × (p.tree ≡ pick t child.tree)) }
+    {
+        let Proof {
+            line: after,
+            side,
+            tree,
+        } = child;
+        let own = after.back_to(line);
+        let tree = Box::new(alloc, tree)?;
+        Ok(Proof {
+            line: own,
+            side,
+            tree: Tree::Pick(t, tree),
+        })
+    }
+
+    /// The proof that answers each turn of the other side with that turn's child. It takes over a child's history.
+    pub fn reply(
+        alloc: Global,
+        line: &Line,
+        children: Vec<(Turn, Proof)>,
+    ) -> Result<Proof, NoMemory>
+        requires nobody { winner_of line.now.frame line.now.state ≡ None }
+        requires turns { turns_of children.items ≡ legal_turns line.now.frame line.now.state }
+        requires children { AreChildren line.now.frame line.now.state children.items }
+        ensures { IfOk result (λ p. StandsAt p line.now.frame line.now.state × (p.side ≡ opponent line.now.state.to_move)
+            × (p.tree ≡ reply (entries_of (trees_of children.items)))) }
+    {
+        let mut last = None;
+        let mut trees = Vec::new(alloc);
+        for (turn, child) in children {
+            let Proof {
+                line: after,
+                side: _,
+                tree,
+            } = child;
+            let own = after.back_to(line);
+            last = Some(own);
+            trees.push((turn, tree))?;
+        }
+        match last {
+            None => unreachable!(),
+            Some(own) => Ok(Proof {
+                line: own,
+                side: line.to_move().opponent(),
+                tree: Tree::Reply(trees),
+            }),
+        }
+    }
+
+    /// The proof of a tree that is known to win at the line. No turn is played for it.
+    pub fn winning(line: &Line, s: Side, t: Tree) -> Result<Proof, NoMemory>
+        requires { IsWon s line.now.frame line.now.state (strategy_of t) }
+        ensures { IfOk result (λ p. StandsAt p line.now.frame line.now.state × (p.side ≡ s) × (p.tree ≡ strategy_of t)) }
+    {
+        let own = line.try_clone()?;
+        Ok(Proof {
+            line: own,
+            side: s,
+            tree: t,
+        })
+    }
+}

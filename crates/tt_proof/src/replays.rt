@@ -1,0 +1,140 @@
+//! The replay of a tree: whether it wins from a line's state.
+
+ghost use Rattle.std.specs.Prelude.{◌≡◌, ◌↔◌, ◌≤◌, IfOk, IsTrue, Contains, None};
+ghost use Rattle.tt_proof.specs.Strategy.{pick, reply, depth, depth_of_entries, strategy_of, entries_of_trees, IsInOrder, AreInOrder, IsOnBoard};
+ghost use Rattle.tt_proof.specs.Wins.{Wins};
+ghost use Rattle.tt_proof.specs.Replaying.{HasEntry, LegalWin, AnswersAfter, AnswersEach};
+ghost use Rattle.tt_game.specs.declared.turns.Turn.{Turn};
+ghost use Rattle.tt_game.specs.Game.{winner_of, opponent};
+
+use crate::tree::Tree;
+use tt_game::{Line, Refused, Side, Turn};
+use tt_sgf::NoMemory;
+
+fn has_turn(list: &[(Turn, Tree)], turn: Turn) -> bool
+    ensures { IsTrue result ↔ HasEntry (entries_of_trees list.now) turn }
+{
+    for entry in list {
+        if entry.0 == turn {
+            return true;
+        }
+    }
+    false
+}
+
+fn has_each(list: &[(Turn, Tree)], turns: &[Turn]) -> bool
+    ensures { IsTrue result ↔ ((t : Turn) → Contains turns.now t → HasEntry (entries_of_trees list.now) t) }
+{
+    for turn in turns {
+        if !has_turn(list, *turn) {
+            return false;
+        }
+    }
+    true
+}
+
+/// Whether nobody has won and the other side is to move.
+fn is_asked(s: Side, line: &Line) -> bool
+    ensures { IsTrue result ↔ ((winner_of line.now.frame line.now.state ≡ None) × (line.now.state.to_move ≡ opponent s)) }
+{
+    line.winner().is_none() && line.to_move() == s.opponent()
+}
+
+/// Whether the other side is to move and the list has an entry for each of its turns.
+fn answers_each(list: &[(Turn, Tree)], s: Side, line: &Line) -> bool
+    ensures { IsTrue result ↔ AnswersEach s line.now.frame line.now.state (entries_of_trees list.now) }
+{
+    let turns = line.turns();
+    is_asked(s, line) && has_each(list, &turns)
+}
+
+/// Whether the child wins after the turn; none where the turn is not legal. The line stands as before.
+#[cycle(replay)]
+fn replay_after(
+    turn: Turn,
+    child: &Tree,
+    s: Side,
+    line: &mut Line,
+) -> Result<Option<bool>, NoMemory>
+    requires depth { depth (strategy_of child.now) ≤ 512 }
+    requires on_board { IsOnBoard line.old.frame.size turn }
+    requires in_order { IsInOrder line.old.frame.size (strategy_of child.now) }
+    ensures exact { IfOk result (λ answer. AnswersAfter s line.old.frame line.old.state turn (strategy_of child.now) answer) }
+    ensures same { line.new ≡ line.old }
+{
+    match line.push(turn) {
+        Ok(()) => {
+            let won = replay(child, s, line);
+            line.pop();
+            match won {
+                Ok(wins) => Ok(Some(wins)),
+                Err(e) => Err(e),
+            }
+        }
+        Err(Refused::Illegal(_)) => Ok(None),
+        Err(Refused::NoMemory) => Err(NoMemory),
+    }
+}
+
+/// Whether each entry of a legal turn wins after it. The line stands as before.
+#[cycle(replay)]
+fn replay_each(list: &[(Turn, Tree)], s: Side, line: &mut Line) -> Result<bool, NoMemory>
+    requires depth { depth_of_entries (entries_of_trees list.now) ≤ 512 }
+    requires in_order { AreInOrder line.old.frame.size 0 (entries_of_trees list.now) }
+    ensures exact { IfOk result (λ wins. IsTrue wins ↔ LegalWin s line.old.frame line.old.state (entries_of_trees list.now)) }
+    ensures same { line.new ≡ line.old }
+{
+    for (turn, child) in list {
+        if replay_after(*turn, child, s, line)? == Some(false) {
+            return Ok(false);
+        }
+    }
+    Ok(true)
+}
+
+#[cycle(replay)]
+fn replay_pick(turn: Turn, child: &Tree, s: Side, line: &mut Line) -> Result<bool, NoMemory>
+    requires depth { depth (strategy_of child.now) ≤ 512 }
+    requires on_board { IsOnBoard line.old.frame.size turn }
+    requires in_order { IsInOrder line.old.frame.size (strategy_of child.now) }
+    ensures exact { IfOk result (λ wins. IsTrue wins ↔ Wins s line.old.frame (pick turn (strategy_of child.now)) line.old.state) }
+    ensures same { line.new ≡ line.old }
+{
+    if line.to_move() != s {
+        return Ok(false);
+    }
+    match replay_after(turn, child, s, line) {
+        Ok(Some(wins)) => Ok(wins),
+        Ok(None) => Ok(false),
+        Err(e) => Err(e),
+    }
+}
+
+#[cycle(replay)]
+fn replay_reply(list: &[(Turn, Tree)], s: Side, line: &mut Line) -> Result<bool, NoMemory>
+    requires depth { depth_of_entries (entries_of_trees list.now) ≤ 512 }
+    requires in_order { AreInOrder line.old.frame.size 0 (entries_of_trees list.now) }
+    ensures exact { IfOk result (λ wins. IsTrue wins ↔ Wins s line.old.frame (reply (entries_of_trees list.now)) line.old.state) }
+    ensures same { line.new ≡ line.old }
+{
+    if !answers_each(list, s, line) {
+        return Ok(false);
+    }
+    replay_each(list, s, line)
+}
+
+/// Whether the tree wins for the side from the line's state. Entries of turns that aren't legal aren't looked at.
+/// The line stands as before, also after want of memory.
+#[cycle(replay)]
+pub fn replay(t: &Tree, s: Side, line: &mut Line) -> Result<bool, NoMemory>
+    requires depth { depth (strategy_of t.now) ≤ 512 }
+    requires in_order { IsInOrder line.old.frame.size (strategy_of t.now) }
+    ensures exact { IfOk result (λ wins. IsTrue wins ↔ Wins s line.old.frame (strategy_of t.now) line.old.state) }
+    ensures same { line.new ≡ line.old }
+{
+    match t {
+        Tree::Done => Ok(line.winner() == Some(s)),
+        Tree::Pick(turn, child) => replay_pick(*turn, child, s, line),
+        Tree::Reply(list) => replay_reply(list, s, line),
+    }
+}
