@@ -1,0 +1,144 @@
+-- What growing keeps.
+use Rattle.std.proofs.Common.{◌≡◌, ℕ, zero, suc, ◌+◌, ◌-◌, ◌<◌, List, [], ◌∷◌, Option, Some, None, length, get_or, refl, ap, subst, arith}
+use Rattle.tt_game.specs.declared.frame.Side.{Side}
+use Rattle.tt_game.specs.declared.frame.Side.TheVariants.{Attacker, Defender}
+use Rattle.tt_game.specs.declared.frame.Frame.{Frame}
+use Rattle.tt_game.specs.declared.turns.Turn.{Turn}
+use Rattle.tt_game.specs.Game.{State, after, winner_of}
+use Rattle.tt_proof.specs.Strategy.{Strategy}
+use Rattle.tt_search.specs.PartialTree.{PartialTree, fresh, won, closed, expanded, Children, no_more, more}
+use Rattle.tt_sgf.specs.declared.size.Size.{Size}
+use Rattle.tt_game.specs.Turns.{legal_turns}
+use Rattle.tt_search.specs.Numbers.{count, count_all, IsUndecided}
+use Rattle.tt_search.specs.MostProving.{best, most_proving_state, state_below, most_proving_depth, depth_below, with_most_proving, with_below}
+use Rattle.tt_search.specs.Growing.{leaf_for, new_leaf, new_leaves, expansion, IsPartialTree, ArePartialTrees}
+use Rattle.tt_search.specs.Fits.{FitsIn, AllFitIn}
+use Rattle.tt_search.specs.Children.{children_of}
+use Rattle.tt_search.proofs.Best.{best_child}
+
+pub won_decided : (side : Side) → IsUndecided (won side) → ⊥
+won_decided Attacker u = u.0 refl
+won_decided Defender u = u.1 refl
+
+pub closed_decided : (side : Side) (tree : Strategy) → IsUndecided (closed side tree) → ⊥
+closed_decided Attacker tree u = u.0 refl
+closed_decided Defender tree u = u.1 refl
+
+-- the child at the place is there and undecided
+abbrev pub UndecidedAt : ℕ → Children → Type 0
+UndecidedAt i no_more = ⊥
+UndecidedAt zero (more tree children) = IsUndecided tree
+UndecidedAt (suc i) (more tree children) = UndecidedAt i children
+
+trees_of : Children → List PartialTree
+trees_of no_more = []
+trees_of (more tree children) = tree ∷ trees_of children
+
+children_of-trees_of : (children : Children) → children_of (trees_of children) ≡ children
+unfolding trees_of
+children_of-trees_of no_more = refl
+children_of-trees_of (more tree children) = ap (more tree) (children_of-trees_of children)
+
+undecided_at : (trees : List PartialTree) (i : ℕ) (d : PartialTree) → i < length trees → IsUndecided (get_or trees i d) → UndecidedAt i (children_of trees)
+undecided_at [] i d l u = absurd (omega arith)
+undecided_at (tree ∷ trees) zero d l u = u
+undecided_at (tree ∷ trees) (suc i) d l u = undecided_at trees i d (omega arith) u
+
+pub best_undecided : (mover : Side) (turns : List Turn) (children : Children) → IsUndecided (expanded mover turns children) → UndecidedAt (best mover children) children
+best_undecided mover turns children u = subst (λ r. IsUndecided (expanded mover turns r) → UndecidedAt (best mover r) r) (children_of-trees_of children)
+    (λ v. undecided_at (trees_of children) (best mover (children_of (trees_of children))) fresh (best_child mover turns (trees_of children) fresh v).0 (best_child mover turns (trees_of children) fresh v).1) u
+
+mutual
+  pub count_grown : (leaf tree : PartialTree) → IsUndecided tree → count (with_most_proving leaf tree) ≡ count tree + count leaf
+  count_grown leaf fresh u = omega arith
+  count_grown leaf (won side) u = absurd (won_decided side u)
+  count_grown leaf (closed side tree) u = absurd (closed_decided side tree u)
+  count_grown leaf (expanded mover turns children) u = omega (arith, count_all_grown leaf (best mover children) children (best_undecided mover turns children u))
+
+  count_all_grown : (leaf : PartialTree) (i : ℕ) (children : Children) → UndecidedAt i children → count_all (with_below leaf i children) ≡ count_all children + count leaf
+  count_all_grown leaf i no_more u = absurd u
+  count_all_grown leaf zero (more tree children) u = omega (arith, count_grown leaf tree u)
+  count_all_grown leaf (suc i) (more tree children) u = omega (arith, count_all_grown leaf i children u)
+
+mutual
+  -- nobody has won at the most-proving leaf of an undecided tree
+  pub leaf_open : (f : Frame) (s : State) (tree : PartialTree) → IsPartialTree f s tree → IsUndecided tree → winner_of f (most_proving_state f s tree) ≡ None
+  leaf_open f s fresh p u = p
+  leaf_open f s (won side) p u = absurd (won_decided side u)
+  leaf_open f s (closed side tree) p u = absurd (closed_decided side tree u)
+  leaf_open f s (expanded mover turns children) p u = row_open f s turns (best mover children) children p.3 (best_undecided mover turns children u)
+
+  row_open : (f : Frame) (s : State) (turns : List Turn) (i : ℕ) (children : Children) → ArePartialTrees f s turns children → UndecidedAt i children → winner_of f (state_below f s turns i children) ≡ None
+  row_open f s [] i no_more p u = absurd u
+  row_open f s [] i (more tree children) p u = absurd p
+  row_open f s (t ∷ turns) i no_more p u = absurd p
+  row_open f s (t ∷ turns) zero (more tree children) p u = leaf_open f (after f s t) tree p.0 u
+  row_open f s (t ∷ turns) (suc i) (more tree children) p u = row_open f s turns i children p.1 u
+
+mutual
+  pub partial_grown : (f : Frame) (s : State) (leaf tree : PartialTree) → IsPartialTree f s tree → IsPartialTree f (most_proving_state f s tree) leaf → IsPartialTree f s (with_most_proving leaf tree)
+  partial_grown f s leaf fresh p l = l
+  partial_grown f s leaf (won side) p l = l
+  partial_grown f s leaf (closed side tree) p l = l
+  partial_grown f s leaf (expanded mover turns children) p l = (p.0, p.1, p.2, row_partial_grown f s leaf turns (best mover children) children p.3 l)
+
+  row_partial_grown : (f : Frame) (s : State) (leaf : PartialTree) (turns : List Turn) (i : ℕ) (children : Children) → ArePartialTrees f s turns children → IsPartialTree f (state_below f s turns i children) leaf → ArePartialTrees f s turns (with_below leaf i children)
+  row_partial_grown f s leaf [] i no_more p l = tt
+  row_partial_grown f s leaf [] i (more tree children) p l = absurd p
+  row_partial_grown f s leaf (t ∷ turns) i no_more p l = absurd p
+  row_partial_grown f s leaf (t ∷ turns) zero (more tree children) p l = (partial_grown f (after f s t) leaf tree p.0 l, p.1)
+  row_partial_grown f s leaf (t ∷ turns) (suc i) (more tree children) p l = (p.0, row_partial_grown f s leaf turns i children p.1 l)
+
+mutual
+  pub fits_grown : (size : Size) (room : ℕ) (leaf tree : PartialTree) → FitsIn size room tree → FitsIn size (room - most_proving_depth tree) leaf → FitsIn size room (with_most_proving leaf tree)
+  fits_grown size room leaf fresh f l = subst (λ n. FitsIn size n leaf) (omega arith) l
+  fits_grown size room leaf (won side) f l = subst (λ n. FitsIn size n leaf) (omega arith) l
+  fits_grown size room leaf (closed side tree) f l = subst (λ n. FitsIn size n leaf) (omega arith) l
+  fits_grown size room leaf (expanded mover turns children) f l = (f.0, row_fits_grown size (room - 1) leaf (best mover children) children f.1 (subst (λ n. FitsIn size n leaf) (omega arith) l))
+
+  row_fits_grown : (size : Size) (room : ℕ) (leaf : PartialTree) (i : ℕ) (children : Children) → AllFitIn size room children → FitsIn size (room - depth_below i children) leaf → AllFitIn size room (with_below leaf i children)
+  row_fits_grown size room leaf i no_more f l = tt
+  row_fits_grown size room leaf zero (more tree children) f l = (fits_grown size room leaf tree f.0 l, f.1)
+  row_fits_grown size room leaf (suc i) (more tree children) f l = (f.0, row_fits_grown size room leaf i children f.1 l)
+
+leaf_of_partial : (f : Frame) (s : State) (o : Option Side) → winner_of f s ≡ o → IsPartialTree f s (leaf_for o)
+leaf_of_partial f s None e = e
+leaf_of_partial f s (Some side) e = e
+
+pub new_leaf_partial : (f : Frame) (s : State) → IsPartialTree f s (new_leaf f s)
+new_leaf_partial f s = leaf_of_partial f s (winner_of f s) refl
+
+new_leaves_partial : (f : Frame) (s : State) (turns : List Turn) → ArePartialTrees f s turns (new_leaves f s turns)
+new_leaves_partial f s [] = tt
+new_leaves_partial f s (t ∷ turns) = (new_leaf_partial f (after f s t), new_leaves_partial f s turns)
+
+pub expansion_partial : (f : Frame) (s : State) → winner_of f s ≡ None → IsPartialTree f s (expansion f s)
+expansion_partial f s w = (w, refl, refl, new_leaves_partial f s (legal_turns f s))
+
+leaf_of_fits : (size : Size) (room : ℕ) (o : Option Side) → FitsIn size room (leaf_for o)
+leaf_of_fits size room None = tt
+leaf_of_fits size room (Some side) = tt
+
+new_leaves_fit : (size : Size) (room : ℕ) (f : Frame) (s : State) (turns : List Turn) → AllFitIn size room (new_leaves f s turns)
+new_leaves_fit size room f s [] = tt
+new_leaves_fit size room f s (t ∷ turns) = (leaf_of_fits size room (winner_of f (after f s t)), new_leaves_fit size room f s turns)
+
+pub new_leaf_fits : (size : Size) (room : ℕ) (f : Frame) (s : State) → FitsIn size room (new_leaf f s)
+new_leaf_fits size room f s = leaf_of_fits size room (winner_of f s)
+
+pub expansion_fits : (size : Size) (room : ℕ) (f : Frame) (s : State) → 0 < room → FitsIn size room (expansion f s)
+expansion_fits size room f s h = (h, new_leaves_fit size (room - 1) f s (legal_turns f s))
+
+leaf_of_count : (o : Option Side) → count (leaf_for o) ≡ 0
+leaf_of_count None = refl
+leaf_of_count (Some side) = refl
+
+pub new_leaf_count : (f : Frame) (s : State) → count (new_leaf f s) ≡ 0
+new_leaf_count f s = leaf_of_count (winner_of f s)
+
+new_leaves_count : (f : Frame) (s : State) (turns : List Turn) → count_all (new_leaves f s turns) ≡ 0
+new_leaves_count f s [] = refl
+new_leaves_count f s (t ∷ turns) = omega (arith, new_leaf_count f (after f s t), new_leaves_count f s turns)
+
+pub expansion_count : (f : Frame) (s : State) → count (expansion f s) ≡ 1
+expansion_count f s = omega (arith, new_leaves_count f s (legal_turns f s))

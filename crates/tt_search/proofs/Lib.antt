@@ -1,0 +1,13 @@
+pub mod Rows
+pub mod Best
+pub mod Grown
+pub mod Lifted
+pub mod Steps
+pub mod Open
+pub mod TurnLemmas
+pub mod Strategies
+pub mod Successors
+pub mod Replies
+pub mod Keyed
+pub mod Ends
+pub mod Newest

@@ -1,0 +1,90 @@
+-- Steps come to an end: an expansion uses up budget, and a closing uses up a fresh leaf.
+use Rattle.std.proofs.Common.{◌≡◌, ℕ, zero, suc, ◌+◌, ◌-◌, ◌*◌, ◌<◌, ◌≤◌, List, [], ◌∷◌, Option, Some, None, ◌⊎◌, inl, inr, length, refl, sym, ◌∙◌, ap, subst, arith}
+use Rattle.tt_game.specs.declared.frame.Side.{Side}
+use Rattle.tt_game.specs.declared.turns.Turn.{Turn}
+use Rattle.tt_game.specs.declared.frame.Frame.{Frame}
+use Rattle.tt_game.specs.Game.{State, after, winner_of}
+use Rattle.tt_game.specs.Turns.{legal_turns}
+use Rattle.tt_game.specs.TurnLaws.{length-legal_turns}
+use Rattle.tt_search.specs.PartialTree.{PartialTree, fresh, won, closed, expanded, Children, no_more, more}
+use Rattle.tt_search.specs.Numbers.{count, IsUndecided}
+use Rattle.tt_search.specs.MostProving.{best, most_proving_state, with_most_proving, with_below}
+use Rattle.tt_search.specs.Growing.{leaf_for, new_leaves, expansion, IsExpansion, IsClosing, Grows, GrownFrom}
+use Rattle.tt_search.specs.Searched.{Searched, StepOf, IsSameProblem}
+use Rattle.tt_search.specs.Ended.{IsReached}
+use Rattle.tt_search.specs.declared.limits.Step.{Step}
+use Rattle.tt_search.specs.declared.limits.Step.TheVariants.{Expanded, Closed}
+use Rattle.tt_search.proofs.Grown.{UndecidedAt, best_undecided, won_decided, closed_decided, count_grown, expansion_count}
+
+-- how many leaves are fresh
+abbrev mutual
+  pub open_leaves : PartialTree → ℕ
+  open_leaves fresh = 1
+  open_leaves (won side) = 0
+  open_leaves (closed side tree) = 0
+  open_leaves (expanded mover turns children) = open_in children
+
+  pub open_in : Children → ℕ
+  open_in no_more = 0
+  open_in (more tree children) = open_leaves tree + open_in children
+
+mutual
+  open_grown : (leaf tree : PartialTree) → IsUndecided tree → open_leaves (with_most_proving leaf tree) + 1 ≡ open_leaves tree + open_leaves leaf
+  open_grown leaf fresh u = omega arith
+  open_grown leaf (won side) u = absurd (won_decided side u)
+  open_grown leaf (closed side tree) u = absurd (closed_decided side tree u)
+  open_grown leaf (expanded mover turns children) u = open_in_grown leaf (best mover children) children (best_undecided mover turns children u)
+
+  open_in_grown : (leaf : PartialTree) (i : ℕ) (children : Children) → UndecidedAt i children → open_in (with_below leaf i children) + 1 ≡ open_in children + open_leaves leaf
+  open_in_grown leaf i no_more u = absurd u
+  open_in_grown leaf zero (more tree children) u = omega (arith, open_grown leaf tree u)
+  open_in_grown leaf (suc i) (more tree children) u = omega (arith, open_in_grown leaf i children u)
+
+leaf_for_open : (o : Option Side) → open_leaves (leaf_for o) ≤ 1
+leaf_for_open None = omega arith
+leaf_for_open (Some side) = omega arith
+
+new_leaves_open : (f : Frame) (s : State) (turns : List Turn) → open_in (new_leaves f s turns) ≤ length turns
+new_leaves_open f s [] = omega arith
+new_leaves_open f s (t ∷ turns) = omega (arith, leaf_for_open (winner_of f (after f s t)), new_leaves_open f s turns)
+
+pub falls_expanded : (room budget : ℕ) (f : Frame) (s : State) (old new : PartialTree) → IsUndecided old → count old < budget → IsExpansion room f s old new → open_leaves new + (budget - count new) * 363 < open_leaves old + (budget - count old) * 363
+falls_expanded room budget f s old new u b e =
+    let leaf = most_proving_state f s old in
+    omega (arith, b, ap open_leaves e.1, ap count e.1, open_grown (expansion f leaf) old u, count_grown (expansion f leaf) old u, expansion_count f leaf, new_leaves_open f leaf (legal_turns f leaf), length-legal_turns f leaf)
+
+pub falls_closed : (room budget : ℕ) (f : Frame) (s : State) (old new : PartialTree) → IsUndecided old → IsClosing room f s old new → open_leaves new + (budget - count new) * 363 < open_leaves old + (budget - count old) * 363
+falls_closed room budget f s old new u (side, strategy, w, o, d, e) =
+    omega (arith, ap open_leaves e, ap count e, open_grown (closed side strategy) old u, count_grown (closed side strategy) old u)
+
+-- what is left to do, a step makes less
+abbrev pub left_to_do : Searched → ℕ
+left_to_do search = open_leaves search.tree + (search.limits.budget - count search.tree) * 363
+
+pub falls : (old new : Searched) (step : Step) → StepOf old step new → IsSameProblem old new → (step ≡ Expanded) ⊎ (step ≡ Closed) → left_to_do new < left_to_do old
+falls old new step k same (inl e) =
+    let h = subst (λ s. StepOf old s new) e k in
+    subst (λ l. open_leaves new.tree + (l.budget - count new.tree) * 363 < left_to_do old) (sym same.limits) (falls_expanded old.limits.depth old.limits.budget old.line.frame old.line.state old.tree new.tree h.0 h.1 h.2)
+falls old new step k same (inr e) =
+    let h = subst (λ s. StepOf old s new) e k in
+    subst (λ l. open_leaves new.tree + (l.budget - count new.tree) * 363 < left_to_do old) (sym same.limits) (falls_closed old.limits.depth old.limits.budget old.line.frame old.line.state old.tree new.tree h.0 h.1)
+
+grows_by : (old new : Searched) (step : Step) → StepOf old step new → (step ≡ Expanded) ⊎ (step ≡ Closed) → Grows old.limits old.line.frame old.line.state old.tree new.tree
+grows_by old new step k (inl e) = let h = subst (λ s. StepOf old s new) e k in (h.0, inl (h.1, h.2))
+grows_by old new step k (inr e) = let h = subst (λ s. StepOf old s new) e k in (h.0, inr h.1)
+
+pub grows : (start old new : Searched) (step : Step) → IsSameProblem start old → GrownFrom start.limits start.line.frame start.line.state start.tree old.tree → StepOf old step new → (step ≡ Expanded) ⊎ (step ≡ Closed) → GrownFrom start.limits start.line.frame start.line.state start.tree new.tree
+grows start old new step same g k h =
+    (suc g.0, (old.tree, g.1, subst (λ l. Grows l start.line.frame start.line.state old.tree new.tree) same.limits (subst (λ l. Grows old.limits l.frame l.state old.tree new.tree) same.line (grows_by old new step k h))))
+
+pub same_problem : (a b c : Searched) → IsSameProblem a b → IsSameProblem b c → IsSameProblem a c
+same_problem a b c h k = record { line = k.line ∙ h.line; limits = k.limits ∙ h.limits }
+
+pub reached_itself : (start : Searched) → IsReached start start
+reached_itself start = record { problem = record { line = refl; limits = refl }; grown = (0, refl) }
+
+pub reached_more : (start old new : Searched) (step : Step) → IsReached start old → IsSameProblem old new → StepOf old step new → (step ≡ Expanded) ⊎ (step ≡ Closed) → IsReached start new
+reached_more start old new step r same k h = record {
+  problem = same_problem start old new r.problem same;
+  grown = grows start old new step r.problem r.grown k h;
+}

@@ -1,0 +1,89 @@
+-- Strategies that are made child by child.
+use Rattle.std.proofs.Common.{◌≡◌, ℕ, zero, suc, ◌+◌, ◌<◌, ◌≤◌, List, [], ◌∷◌, ◌++◌, length, get_or, drop, refl, sym, ◌∙◌, ap, subst, arith, add-one}
+use Rattle.std.proofs.lemmas.List.{drop_all}
+use Rattle.tt_game.specs.declared.frame.Side.{Side}
+use Rattle.tt_game.specs.declared.turns.Turn.{Turn}
+use Rattle.tt_proof.specs.declared.tree.Tree.{Tree}
+use Rattle.tt_proof.specs.Strategy.{Strategy, Entries, done, pick, none, entry, strategy_of, entries_of_trees}
+use Rattle.tt_search.specs.PartialTree.{PartialTree}
+use Rattle.tt_search.specs.Weight.{weight, weight_all}
+use Rattle.tt_search.specs.Children.{children_of}
+use Rattle.tt_search.specs.Settled.{strategy_for, pick_at, replies}
+use Rattle.tt_search.proofs.Lifted.{weight_at}
+
+-- the entries of a list of trees, and others behind them
+abbrev pub joined : List (Turn × Tree) → Entries → Entries
+joined [] es = es
+joined (x ∷ xs) es = entry x.0 (strategy_of x.1) (joined xs es)
+
+pub joined_none : (xs : List (Turn × Tree)) → joined xs none ≡ entries_of_trees xs
+joined_none [] = refl
+joined_none (x ∷ xs) = ap (entry x.0 (strategy_of x.1)) (joined_none xs)
+
+pub joined_push : (xs : List (Turn × Tree)) (x : Turn × Tree) (es : Entries) → joined (xs ++ x ∷ []) es ≡ joined xs (entry x.0 (strategy_of x.1) es)
+joined_push [] x es = refl
+joined_push (y ∷ ys) x es = ap (entry y.0 (strategy_of y.1)) (joined_push ys x es)
+
+-- the replies from a place on
+abbrev pub replies_from : Side → List Turn → List PartialTree → ℕ → Entries
+replies_from side turns trees i = replies side (drop i turns) (children_of (drop i trees))
+
+replies_next : (side : Side) (turns : List Turn) (trees : List PartialTree) (i : ℕ) (t : Turn) (d : PartialTree) → i < length turns → i < length trees → replies_from side turns trees i ≡ entry (get_or turns i t) (strategy_for side (get_or trees i d)) (replies_from side turns trees (suc i))
+replies_next side [] trees i t d l k = absurd (omega arith)
+replies_next side (u ∷ us) [] i t d l k = absurd (omega arith)
+replies_next side (u ∷ us) (tree ∷ trees) zero t d l k = refl
+replies_next side (u ∷ us) (tree ∷ trees) (suc i) t d l k = replies_next side us trees i t d (omega arith) (omega arith)
+
+replies_more : (side : Side) (turns : List Turn) (trees : List PartialTree) (i : ℕ) (t : Turn) (d : PartialTree) → i < length turns → i < length trees → replies_from side turns trees i ≡ entry (get_or turns i t) (strategy_for side (get_or trees i d)) (replies_from side turns trees (i + 1))
+replies_more side turns trees i t d l k = rw add-one (replies_next side turns trees i t d l k)
+
+no_turns : (side : Side) (trees : List PartialTree) → replies side [] (children_of trees) ≡ none
+no_turns side trees = refl
+
+no_trees : (side : Side) (turns : List Turn) → replies side turns (children_of []) ≡ none
+no_trees side [] = refl
+no_trees side (t ∷ ts) = refl
+
+pub replies_past_turns : (side : Side) (turns : List Turn) (trees : List PartialTree) (i : ℕ) → length turns ≤ i → replies_from side turns trees i ≡ none
+replies_past_turns side turns trees i l = rw (drop_all i turns l) (no_turns side (drop i trees))
+
+pub replies_past_trees : (side : Side) (turns : List Turn) (trees : List PartialTree) (i : ℕ) → length trees ≤ i → replies_from side turns trees i ≡ none
+replies_past_trees side turns trees i l = rw (drop_all i trees l) (no_trees side (drop i turns))
+
+pub pick_at_place : (side : Side) (turns : List Turn) (trees : List PartialTree) (i : ℕ) (t : Turn) (d : PartialTree) → i < length turns → i < length trees → pick_at side i turns (children_of trees) ≡ pick (get_or turns i t) (strategy_for side (get_or trees i d))
+pick_at_place side [] trees i t d l k = absurd (omega arith)
+pick_at_place side (u ∷ us) [] i t d l k = absurd (omega arith)
+pick_at_place side (u ∷ us) (tree ∷ trees) zero t d l k = refl
+pick_at_place side (u ∷ us) (tree ∷ trees) (suc i) t d l k = pick_at_place side us trees i t d (omega arith) (omega arith)
+
+pub pick_past_turns : (side : Side) (turns : List Turn) (trees : List PartialTree) (i : ℕ) → length turns ≤ i → pick_at side i turns (children_of trees) ≡ done
+pick_past_turns side [] trees i l = refl
+pick_past_turns side (u ∷ us) [] i l = refl
+pick_past_turns side (u ∷ us) (tree ∷ trees) zero l = absurd (omega arith)
+pick_past_turns side (u ∷ us) (tree ∷ trees) (suc i) l = pick_past_turns side us trees i (omega arith)
+
+pub pick_past_trees : (side : Side) (turns : List Turn) (trees : List PartialTree) (i : ℕ) → length trees ≤ i → pick_at side i turns (children_of trees) ≡ done
+pick_past_trees side [] trees i l = refl
+pick_past_trees side (u ∷ us) [] i l = refl
+pick_past_trees side (u ∷ us) (tree ∷ trees) zero l = absurd (omega arith)
+pick_past_trees side (u ∷ us) (tree ∷ trees) (suc i) l = pick_past_trees side us trees i (omega arith)
+
+-- ---- what the loops and calls say
+
+module _ (side : Side) (turns : List Turn) (trees : List PartialTree) where
+  pub finished : (xs : List (Turn × Tree)) (i : ℕ) (whole : Entries) → joined xs (replies_from side turns trees i) ≡ whole → replies_from side turns trees i ≡ none → entries_of_trees xs ≡ whole
+  finished xs i whole h e = sym (joined_none xs) ∙ ap (joined xs) (sym e) ∙ h
+
+  pub pushed : (xs ys : List (Turn × Tree)) (i : ℕ) (t : Turn) (child : PartialTree) (tree : Tree) (whole : Entries) → joined xs (replies_from side turns trees i) ≡ whole → ys ≡ xs ++ (t, tree) ∷ [] → strategy_of tree ≡ strategy_for side child → t ≡ get_or turns i t → child ≡ get_or trees i child → i < length turns → i < length trees → joined ys (replies_from side turns trees (i + 1)) ≡ whole
+  pushed xs ys i t child tree whole h p s a b l k =
+      let rest : Entries = replies_from side turns trees (i + 1) in
+      let more : replies_from side turns trees i ≡ entry t (strategy_of tree) rest =
+      replies_more side turns trees i t child l k ∙ ap (λ u. entry u (strategy_for side (get_or trees i child)) rest) (sym a) ∙ ap (λ c. entry t (strategy_for side c) rest) (sym b) ∙ ap (λ u. entry t u rest) (sym s) in
+      ap (λ zs. joined zs rest) p ∙ joined_push xs (t, tree) rest ∙ ap (joined xs) (sym more) ∙ h
+
+  pub picked : (i : ℕ) (t : Turn) (child : PartialTree) (u : Strategy) → t ≡ get_or turns i t → child ≡ get_or trees i child → u ≡ strategy_for side child → i < length turns → i < length trees → pick t u ≡ pick_at side i turns (children_of trees)
+  picked i t child u a b s l k =
+      ap (pick t) (s ∙ ap (strategy_for side) b) ∙ ap (λ v. pick v (strategy_for side (get_or trees i child))) a ∙ sym (pick_at_place side turns trees i t child l k)
+
+  pub lighter : (i : ℕ) (child : PartialTree) → child ≡ get_or trees i child → i < length trees → weight child < weight_all (children_of trees)
+  lighter i child e l = subst (λ c. weight c < weight_all (children_of trees)) (sym e) (weight_at trees i child l)

@@ -1,0 +1,60 @@
+-- Numbers of the children.
+use Rattle.std.proofs.Common.{◌≡◌, ◌≢◌, ℕ, ◌+◌, ◌<◌, ◌≤◌, min, sum, List, [], ◌∷◌, if◌then◌else◌, ltb, refl, arith}
+use Rattle.std.proofs.lemmas.Grind.{common_steps}
+use Rattle.tt_game.specs.declared.frame.Side.{Side}
+use Rattle.tt_game.specs.declared.frame.Side.TheVariants.{Attacker, Defender}
+use Rattle.tt_search.specs.PartialTree.{PartialTree, fresh, won, closed, expanded, Children, no_more, more}
+use Rattle.tt_search.specs.Numbers.{infinite, cap, least, has_infinite, capped_sum, decided_number, combined, number, numbers}
+use Rattle.tt_search.specs.MostProving.{first_least, best}
+
+pub least_le : (xs : List ℕ) → least xs ≤ infinite
+least_le [] = omega arith
+least_le (x ∷ xs) = omega (arith, least_le xs)
+
+-- what the numbers still to be added make of a sum so far
+abbrev pub sum_from : ℕ → List ℕ → ℕ
+sum_from total xs = if has_infinite xs then infinite else min (total + sum xs) cap
+
+-- the place of the least, where v is the least of those looked at, p its place and i the next place
+abbrev pub best_from : ℕ → ℕ → ℕ → List ℕ → ℕ
+best_from p v i xs = if ltb (least xs) v then i + first_least xs else p
+
+pub sum_from_finite : (total x : ℕ) (xs : List ℕ) → x ≢ infinite → sum_from (min (total + x) cap) xs ≡ sum_from total (x ∷ xs)
+sum_from_finite total x xs h = grind (arith, common_steps)
+
+pub sum_from_infinite : (total : ℕ) (xs : List ℕ) → sum_from total (infinite ∷ xs) ≡ infinite
+sum_from_infinite total xs = refl
+
+pub best_from_less : (p v i x : ℕ) (xs : List ℕ) → x < v → best_from i x (i + 1) xs ≡ best_from p v i (x ∷ xs)
+best_from_less p v i x xs h = grind (arith, common_steps)
+
+pub best_from_same : (p v i x : ℕ) (xs : List ℕ) → v ≤ x → best_from p v (i + 1) xs ≡ best_from p v i (x ∷ xs)
+best_from_same p v i x xs h = grind (arith, common_steps)
+
+decided_number_le : (goal side : Side) → decided_number goal side ≤ infinite
+decided_number_le Attacker Attacker = omega arith
+decided_number_le Attacker Defender = omega arith
+decided_number_le Defender Attacker = omega arith
+decided_number_le Defender Defender = omega arith
+
+capped_sum_le : (xs : List ℕ) → capped_sum xs ≤ infinite
+capped_sum_le xs = grind (arith, common_steps)
+
+combine_le : (goal mover : Side) (xs : List ℕ) → combined goal mover xs ≤ infinite
+combine_le Attacker Attacker xs = least_le xs
+combine_le Attacker Defender xs = capped_sum_le xs
+combine_le Defender Attacker xs = capped_sum_le xs
+combine_le Defender Defender xs = least_le xs
+
+pub number_le : (goal : Side) (tree : PartialTree) → number goal tree ≤ infinite
+number_le goal fresh = omega arith
+number_le goal (won side) = decided_number_le goal side
+number_le goal (closed side tree) = decided_number_le goal side
+number_le goal (expanded mover turns children) = combine_le goal mover (numbers goal children)
+
+best_from_infinite : (x : ℕ) (xs : List ℕ) → x ≤ infinite → best_from 0 infinite 0 (x ∷ xs) ≡ first_least (x ∷ xs)
+best_from_infinite x xs h = grind (arith, common_steps, least_le xs)
+
+pub best_from_start : (mover : Side) (children : Children) → best_from 0 infinite 0 (numbers mover children) ≡ best mover children
+best_from_start mover no_more = refl
+best_from_start mover (more tree children) = best_from_infinite (number mover tree) (numbers mover children) (number_le mover tree)

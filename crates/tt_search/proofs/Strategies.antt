@@ -1,0 +1,177 @@
+-- The strategy of a settled tree wins, is in order, and reaches no deeper than the tree.
+use Rattle.std.proofs.Common.{◌≡◌, ℕ, zero, suc, ◌+◌, ◌-◌, ◌<◌, ◌≤◌, inl, inr, min, sum, List, [], ◌∷◌, ◌==◌, Bool, true, false, Some, None, refl, sym, ◌∙◌, ap, subst, arith, add-one}
+use Rattle.std.proofs.lemmas.Grind.{common_steps}
+use Rattle.tt_sgf.specs.declared.size.Size.{Size}
+use Rattle.tt_game.specs.declared.frame.Side.{Side}
+use Rattle.tt_game.specs.declared.frame.Side.TheVariants.{Attacker, Defender}
+use Rattle.tt_game.specs.declared.turns.Turn.{Turn}
+use Rattle.tt_game.specs.declared.frame.Frame.{Frame}
+use Rattle.tt_game.specs.Game.{State, IsLegal, after, winner_of}
+use Rattle.tt_proof.specs.Strategy.{Strategy, Entries, depth, depth_of_entries, IsInOrder, AreInOrder, number_on}
+use Rattle.tt_proof.specs.Proven.{IsWon}
+use Rattle.tt_proof.specs.Wins.{Wins, WinsBehind}
+use Rattle.tt_search.specs.PartialTree.{PartialTree, fresh, won, closed, expanded, Children, no_more, more}
+use Rattle.tt_search.specs.Numbers.{is_same, least, capped_sum, decided_number, number, numbers}
+use Rattle.tt_search.specs.MostProving.{place, best}
+use Rattle.tt_search.specs.Growing.{IsPartialTree, ArePartialTrees}
+use Rattle.tt_search.specs.Fits.{FitsIn, AllFitIn}
+use Rattle.tt_search.proofs.TurnLemmas.{AreLegal, IsIn, RiseFrom, are_legal, is_in, rise}
+use Rattle.tt_search.specs.Settled.{strategy_for, picked_or_replied, pick_at, replies}
+
+-- ---- numbers that are 0
+
+same_side : (side other : Side) → decided_number side other ≡ 0 → other ≡ side
+same_side Attacker Attacker e = refl
+same_side Attacker Defender e = absurd (omega arith)
+same_side Defender Attacker e = absurd (omega arith)
+same_side Defender Defender e = refl
+
+-- the child at the place is there, and its number is 0
+abbrev pub IsZeroAt : Side → ℕ → Children → Type 0
+IsZeroAt side i no_more = ⊥
+IsZeroAt side zero (more tree children) = number side tree ≡ 0
+IsZeroAt side (suc i) (more tree children) = IsZeroAt side i children
+
+-- each child's number is 0
+abbrev pub AreZero : Side → Children → Type 0
+AreZero side no_more = Unit {0}
+AreZero side (more tree children) = (number side tree ≡ 0) × AreZero side children
+
+least_zero : (x y : ℕ) → min x y ≡ 0 → (x == 0) ≡ false → y ≡ 0
+least_zero x y e h = grind (arith, common_steps)
+
+zero_by_first : (side : Side) (tree : PartialTree) (children : Children) → least (numbers side (more tree children)) ≡ 0 → (least (numbers side children) ≡ 0 → IsZeroAt side (place 0 (numbers side children)) children) → (b : Bool) → (number side tree == 0) ≡ b → IsZeroAt side (place 0 (numbers side (more tree children))) (more tree children)
+zero_by_first side tree children e below true q = rw q (grind (arith, common_steps))
+zero_by_first side tree children e below false q = rw (q, add-one) (below (least_zero (number side tree) (least (numbers side children)) e q))
+
+zero_at : (side : Side) (children : Children) → least (numbers side children) ≡ 0 → IsZeroAt side (place 0 (numbers side children)) children
+zero_at side no_more e = absurd (omega arith)
+zero_at side (more tree children) e = zero_by_first side tree children e (zero_at side children) (number side tree == 0) refl
+
+best_zero : (side : Side) (children : Children) → least (numbers side children) ≡ 0 → IsZeroAt side (best side children) children
+best_zero side children e = subst (λ n. IsZeroAt side (place n (numbers side children)) children) (sym e) (zero_at side children e)
+
+zero_sum : (xs : List ℕ) → capped_sum xs ≡ 0 → sum xs ≡ 0
+zero_sum xs e = grind (arith, common_steps)
+
+sum_more : (x : ℕ) (xs : List ℕ) → sum (x ∷ xs) ≡ x + sum xs
+sum_more x xs = grind (arith, common_steps)
+
+all_zero : (side : Side) (children : Children) → sum (numbers side children) ≡ 0 → AreZero side children
+all_zero side no_more e = tt
+all_zero side (more tree children) e =
+    (omega (arith, e, sum_more (number side tree) (numbers side children)), all_zero side children (omega (arith, e, sum_more (number side tree) (numbers side children))))
+
+-- ---- who is to move
+
+own_zero : (side mover : Side) (turns : List Turn) (children : Children) → is_same side mover ≡ true → number side (expanded mover turns children) ≡ 0 → least (numbers side children) ≡ 0
+own_zero Attacker Attacker turns children e z = z
+own_zero Attacker Defender turns children e z = cc
+own_zero Defender Attacker turns children e z = cc
+own_zero Defender Defender turns children e z = z
+
+other_zero : (side mover : Side) (turns : List Turn) (children : Children) → is_same side mover ≡ false → number side (expanded mover turns children) ≡ 0 → capped_sum (numbers side children) ≡ 0
+other_zero Attacker Attacker turns children e z = cc
+other_zero Attacker Defender turns children e z = z
+other_zero Defender Attacker turns children e z = z
+other_zero Defender Defender turns children e z = cc
+
+same_is_same : (side mover : Side) → is_same side mover ≡ true → mover ≡ side
+same_is_same Attacker Attacker e = refl
+same_is_same Attacker Defender e = cc
+same_is_same Defender Attacker e = cc
+same_is_same Defender Defender e = refl
+
+-- a node wins by its pick where the side is to move, and elsewhere by its replies
+by_mover : (side mover : Side) (f : Frame) (s : State) (first : Strategy) (all : Entries) → winner_of f s ≡ None → mover ≡ s.to_move → (is_same side mover ≡ true → Wins side f first s) → (is_same side mover ≡ false → (t : Turn) → IsLegal f s t → WinsBehind side f all t s) → Wins side f (picked_or_replied (is_same side mover) first all) s
+by_mover Attacker Attacker f s first all w m own others = own refl
+by_mover Attacker Defender f s first all w m own others = (w, sym m, others refl)
+by_mover Defender Attacker f s first all w m own others = (w, sym m, others refl)
+by_mover Defender Defender f s first all w m own others = own refl
+
+mutual
+  -- the strategy of a settled tree wins
+  pub wins : (side : Side) (f : Frame) (s : State) (tree : PartialTree) → IsPartialTree f s tree → number side tree ≡ 0 → Wins side f (strategy_for side tree) s
+  wins side f s fresh p z = absurd (omega (arith, z))
+  wins side f s (won winner) p z = p ∙ ap Some (same_side side winner z)
+  wins side f s (closed winner strategy) p z = subst (λ w. Wins w f strategy s) (same_side side winner z) p
+  wins side f s (expanded mover turns children) p z =
+      by_mover side mover f s (pick_at side (best side children) turns children) (replies side turns children) p.0 p.1
+      (λ e. pick_wins side f s (best side children) turns children p.0 (sym p.1 ∙ same_is_same side mover e) (subst (AreLegal f s) (sym p.2) (are_legal f s)) p.3 (best_zero side children (own_zero side mover turns children e z)))
+      (λ e t l. replies_win side f s turns children t p.3 (all_zero side children (zero_sum (numbers side children) (other_zero side mover turns children e z))) (subst (IsIn t) (sym p.2) (is_in f s t l)))
+
+  pick_wins : (side : Side) (f : Frame) (s : State) (i : ℕ) (turns : List Turn) (children : Children) → winner_of f s ≡ None → s.to_move ≡ side → AreLegal f s turns → ArePartialTrees f s turns children → IsZeroAt side i children → Wins side f (pick_at side i turns children) s
+  pick_wins side f s i [] no_more w m l p z = absurd z
+  pick_wins side f s i [] (more tree children) w m l p z = absurd p
+  pick_wins side f s i (t ∷ ts) no_more w m l p z = absurd p
+  pick_wins side f s zero (t ∷ ts) (more tree children) w m l p z = (w, m, l.0, wins side f (after f s t) tree p.0 z)
+  pick_wins side f s (suc i) (t ∷ ts) (more tree children) w m l p z = pick_wins side f s i ts children w m l.1 p.1 z
+
+  replies_win : (side : Side) (f : Frame) (s : State) (turns : List Turn) (children : Children) (t : Turn) → ArePartialTrees f s turns children → AreZero side children → IsIn t turns → WinsBehind side f (replies side turns children) t s
+  replies_win side f s [] children t p z in' = absurd in'
+  replies_win side f s (u ∷ us) no_more t p z in' = absurd p
+  replies_win side f s (u ∷ us) (more tree children) t p z (inl e) = inl (e, subst (λ x. Wins side f (strategy_for side tree) (after f s x)) e (wins side f (after f s u) tree p.0 z.0))
+  replies_win side f s (u ∷ us) (more tree children) t p z (inr later) = inr (replies_win side f s us children t p.1 z.1 later)
+
+-- ---- depth
+
+depth_either : (b : Bool) (room : ℕ) (first : Strategy) (all : Entries) → depth first ≤ room → depth_of_entries all ≤ room → depth (picked_or_replied b first all) ≤ room
+depth_either true room first all h k = h
+depth_either false room first all h k = k
+
+mutual
+  -- the strategy of a tree that fits reaches no deeper than the room
+  pub low : (side : Side) (size : Size) (room : ℕ) (tree : PartialTree) → FitsIn size room tree → depth (strategy_for side tree) ≤ room
+  low side size room fresh h = omega arith
+  low side size room (won winner) h = omega arith
+  low side size room (closed winner strategy) h = h.0
+  low side size room (expanded mover turns children) h =
+      depth_either (is_same side mover) room (pick_at side (best side children) turns children) (replies side turns children)
+      (pick_low side size room (best side children) turns children h.0 h.1)
+      (replies_low side size room turns children h.0 h.1)
+
+  pick_low : (side : Side) (size : Size) (room : ℕ) (i : ℕ) (turns : List Turn) (children : Children) → 0 < room → AllFitIn size (room - 1) children → depth (pick_at side i turns children) ≤ room
+  pick_low side size room i [] children h k = omega arith
+  pick_low side size room i (t ∷ ts) no_more h k = omega arith
+  pick_low side size room zero (t ∷ ts) (more tree children) h k = omega (arith, h, low side size (room - 1) tree k.0)
+  pick_low side size room (suc i) (t ∷ ts) (more tree children) h k = pick_low side size room i ts children h k.1
+
+  replies_low : (side : Side) (size : Size) (room : ℕ) (turns : List Turn) (children : Children) → 0 < room → AllFitIn size (room - 1) children → depth_of_entries (replies side turns children) ≤ room
+  replies_low side size room [] children h k = omega arith
+  replies_low side size room (t ∷ ts) no_more h k = omega arith
+  replies_low side size room (t ∷ ts) (more tree children) h k = omega (arith, h, low side size (room - 1) tree k.0, replies_low side size room ts children h k.1)
+
+-- ---- order
+
+ordered_either : (b : Bool) (size : Size) (first : Strategy) (all : Entries) → IsInOrder size first → AreInOrder size 0 all → IsInOrder size (picked_or_replied b first all)
+ordered_either true size first all h k = h
+ordered_either false size first all h k = k
+
+mutual
+  -- the strategy of a partial tree is in order
+  pub in_order : (side : Side) (f : Frame) (s : State) (room : ℕ) (tree : PartialTree) → IsPartialTree f s tree → FitsIn f.size room tree → IsInOrder f.size (strategy_for side tree)
+  in_order side f s room fresh p h = tt
+  in_order side f s room (won winner) p h = tt
+  in_order side f s room (closed winner strategy) p h = h.1
+  in_order side f s room (expanded mover turns children) p h =
+      let up = subst (RiseFrom f.size 0) (sym p.2) (rise f s) in
+      ordered_either (is_same side mover) f.size (pick_at side (best side children) turns children) (replies side turns children)
+      (pick_in_order side f s (room - 1) 0 (best side children) turns children up p.3 h.1)
+      (replies_in_order side f s (room - 1) 0 turns children up p.3 h.1)
+
+  pick_in_order : (side : Side) (f : Frame) (s : State) (room from i : ℕ) (turns : List Turn) (children : Children) → RiseFrom f.size from turns → ArePartialTrees f s turns children → AllFitIn f.size room children → IsInOrder f.size (pick_at side i turns children)
+  pick_in_order side f s room from i [] children up p h = tt
+  pick_in_order side f s room from i (t ∷ ts) no_more up p h = tt
+  pick_in_order side f s room from zero (t ∷ ts) (more tree children) up p h = (up.1, in_order side f (after f s t) room tree p.0 h.0)
+  pick_in_order side f s room from (suc i) (t ∷ ts) (more tree children) up p h =
+      pick_in_order side f s room (number_on f.size t + 1) i ts children up.2 p.1 h.1
+
+  replies_in_order : (side : Side) (f : Frame) (s : State) (room from : ℕ) (turns : List Turn) (children : Children) → RiseFrom f.size from turns → ArePartialTrees f s turns children → AllFitIn f.size room children → AreInOrder f.size from (replies side turns children)
+  replies_in_order side f s room from [] children up p h = tt
+  replies_in_order side f s room from (t ∷ ts) no_more up p h = tt
+  replies_in_order side f s room from (t ∷ ts) (more tree children) up p h =
+      (up.0, up.1, in_order side f (after f s t) room tree p.0 h.0, replies_in_order side f s room (number_on f.size t + 1) ts children up.2 p.1 h.1)
+
+-- the strategy of a settled tree makes a proof
+pub makes_proof : (side : Side) (f : Frame) (s : State) (tree : PartialTree) (strategy : Strategy) → strategy ≡ strategy_for side tree → number side tree ≡ 0 → IsPartialTree f s tree → FitsIn f.size 512 tree → IsWon side f s strategy
+makes_proof side f s tree strategy e z p h = subst (IsWon side f s) (sym e) (record { wins = wins side f s tree p z; low = low side f.size 512 tree h; in_order = in_order side f s 512 tree p h })

@@ -1,0 +1,61 @@
+-- What contracts see of a search, and what a step of it does.
+use Rattle.std.specs.Prelude.{◌≡◌, ℕ, ◌<◌, ◌≤◌}
+use Rattle.tt_game.specs.declared.frame.Frame.{Frame}
+use Rattle.tt_game.specs.Game.{State}
+use Rattle.tt_game.specs.Line.{Standing}
+use Rattle.tt_proof.specs.Strategy.{depth}
+use Rattle.tt_proof.specs.Proven.{Proven, StandsAt}
+use Rattle.tt_search.specs.PartialTree.{PartialTree}
+use Rattle.tt_search.specs.Numbers.{number, count, IsUndecided}
+use Rattle.tt_search.specs.MostProving.{most_proving_depth}
+use Rattle.tt_search.specs.Growing.{IsExpansion, IsClosing, IsPartialTree, IsGrown}
+use Rattle.tt_search.specs.Settled.{strategy_for}
+use Rattle.tt_search.specs.Fits.{FitsIn}
+use Rattle.tt_search.specs.declared.limits.Limits.{Limits}
+use Rattle.tt_search.specs.declared.limits.Step.{Step}
+use Rattle.tt_search.specs.declared.limits.Step.TheVariants.{Expanded, Closed, Settled, Stuck}
+use Rattle.tt_search.specs.declared.limits.Reason.{Reason}
+use Rattle.tt_search.specs.declared.limits.Reason.TheVariants.{Budget, Depth, Memory}
+
+-- the line of a search, its limits and its tree
+pub record Searched : Type 0 where
+  pub line : Standing
+  pub limits : Limits
+  pub tree : PartialTree
+
+-- what is true of every search
+pub record IsSearch (f : Frame) (s : State) (limits : Limits) (tree : PartialTree) (expanded : ℕ) : Type 0 where
+  pub counted : expanded ≡ count tree
+  pub within : count tree ≤ limits.budget
+  pub partial : IsPartialTree f s tree
+  pub fits : FitsIn f.size limits.depth tree
+  pub grown : IsGrown limits f s tree
+
+-- a search is on the same line under the same limits
+pub record IsSameProblem (old new : Searched) : Type 0 where
+  pub line : new.line ≡ old.line
+  pub limits : new.limits ≡ old.limits
+
+-- a step of the search is stuck for the reason
+abbrev pub IsStuckFor : Reason → Searched → Type 0
+IsStuckFor Budget search = IsUndecided search.tree × (count search.tree ≡ search.limits.budget)
+IsStuckFor Depth search =
+    IsUndecided search.tree × (count search.tree < search.limits.budget) × (most_proving_depth search.tree ≡ search.limits.depth)
+IsStuckFor Memory search = Unit {0}
+
+-- what each answer of a step says
+abbrev pub StepOf : Searched → Step → Searched → Type 0
+StepOf old Expanded new =
+    IsUndecided old.tree × (count old.tree < old.limits.budget) × IsExpansion old.limits.depth old.line.frame old.line.state old.tree new.tree
+StepOf old Closed new = IsUndecided old.tree × IsClosing old.limits.depth old.line.frame old.line.state old.tree new.tree
+StepOf old Settled new = (IsUndecided old.tree → ⊥) × (new ≡ old)
+StepOf old (Stuck Budget) new = IsStuckFor Budget old × (new ≡ old)
+StepOf old (Stuck Depth) new = IsStuckFor Depth old × (new ≡ old)
+StepOf old (Stuck Memory) new = IsUndecided old.tree × (new ≡ old)
+
+-- the proof stands at the search's line, within its limit on depth, and its strategy is that of the search's tree
+pub record IsProofOf (search : Searched) (p : Proven) : Type 0 where
+  pub stands : StandsAt p search.line.frame search.line.state
+  pub low : depth p.tree ≤ search.limits.depth
+  pub settled : number p.side search.tree ≡ 0
+  pub strategy : p.tree ≡ strategy_for p.side search.tree

@@ -1,0 +1,33 @@
+-- The strategy of a settled tree.
+use Rattle.std.specs.Prelude.{ℕ, zero, suc, List, [], ◌∷◌, Bool, true, false}
+use Rattle.tt_game.specs.declared.frame.Side.{Side}
+use Rattle.tt_game.specs.declared.turns.Turn.{Turn}
+use Rattle.tt_proof.specs.Strategy.{Strategy, Entries, done, pick, reply, none, entry}
+use Rattle.tt_search.specs.PartialTree.{PartialTree, fresh, won, closed, expanded, Children, no_more, more}
+use Rattle.tt_search.specs.Numbers.{is_same}
+use Rattle.tt_search.specs.MostProving.{best}
+
+abbrev pub picked_or_replied : Bool → Strategy → Entries → Strategy
+picked_or_replied true first all = first
+picked_or_replied false first all = reply all
+
+-- at a won leaf nothing is left to do, and a closed leaf has its strategy; where the side is to move it picks the first
+-- child that is settled for it, and elsewhere it has a reply to each turn
+abbrev mutual
+  pub strategy_for : Side → PartialTree → Strategy
+  strategy_for side fresh = done
+  strategy_for side (won winner) = done
+  strategy_for side (closed winner strategy) = strategy
+  strategy_for side (expanded mover turns children) =
+      picked_or_replied (is_same side mover) (pick_at side (best side children) turns children) (replies side turns children)
+
+  pub pick_at : Side → ℕ → List Turn → Children → Strategy
+  pick_at side i [] children = done
+  pick_at side i (t ∷ ts) no_more = done
+  pick_at side zero (t ∷ ts) (more tree children) = pick t (strategy_for side tree)
+  pick_at side (suc i) (t ∷ ts) (more tree children) = pick_at side i ts children
+
+  pub replies : Side → List Turn → Children → Entries
+  replies side [] children = none
+  replies side (t ∷ ts) no_more = none
+  replies side (t ∷ ts) (more tree children) = entry t (strategy_for side tree) (replies side ts children)

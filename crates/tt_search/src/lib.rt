@@ -1,0 +1,27 @@
+//! Proof-number search (L. V. Allis, "Searching for Solutions in Games and Artificial Intelligence", 1994, chapter 2).
+//!
+//! A `Search` grows a partial tree of a problem at its most-proving leaf, within `Limits`, until the root is settled. Its
+//! tree, the numbers of it and the ways in which it may grow are defined over the whole tree in `specs/`; the code
+//! updates one path. A `Store` keeps the proofs of settled nodes; a proof that it answers closes a leaf only where it
+//! wins there by replay.
+
+#![tactic(auto)]
+
+mod closing;
+mod growing;
+mod leaves;
+mod limits;
+mod node;
+mod numbers;
+mod private;
+mod search;
+mod settled;
+mod store;
+
+pub use limits::{Limits, Reason, Step};
+pub use private::{Ask, PrivateStore};
+pub use search::{End, Search};
+pub use store::{Kept, NoStore, Store};
+
+#[cfg(test)]
+mod tests;

@@ -1,0 +1,72 @@
+//! The nodes of a search's tree. A node keeps its two numbers and no board: a line stands at the node that is looked at.
+
+ghost use Rattle.std.specs.Prelude.{◌≡◌};
+
+use std::marker::Model;
+use std::sync::Arc;
+use tt_game::{Side, Turn};
+use tt_proof::Proof;
+
+/// A node with its proof and disproof number.
+#[cycle(node)]
+#[derive(Drop)]
+pub(crate) struct Node {
+    pub(crate) proof: u32,
+    pub(crate) disproof: u32,
+    pub(crate) growth: Growth,
+}
+
+#[cycle(node)]
+#[derive(Drop)]
+pub(crate) enum Growth {
+    Fresh,
+    Won(Side),
+    Closed(Arc<Proof>),
+    Expanded(Box<Expansion>),
+}
+
+/// The side to move at an expanded node, its legal turns and a child for each.
+#[cycle(node)]
+#[derive(Drop)]
+pub(crate) struct Expansion {
+    pub(crate) mover: Side,
+    pub(crate) turns: Vec<Turn>,
+    pub(crate) nodes: Vec<Node>,
+}
+
+impl Model for Node {
+    ghost use Rattle.tt_search.specs.PartialTree.{PartialTree};
+    ghost use Rattle.tt_search.specs.PartialTreeCode.{partial_code};
+    ghost use Rattle.tt_search.specs.Weight.{weight};
+
+    ghost Value = { PartialTree };
+
+    ghost coded = { partial_code };
+
+    ghost use Rattle.tt_search.specs.Shape.{shape};
+    ghost use Rattle.tt_search.specs.Cached.{IsCached};
+
+    ghost view = { λ a. shape a.growth };
+
+    ghost invariant = { λ a. IsCached a.proof a.disproof (shape a.growth) };
+
+    ghost size = { weight };
+
+    ghost use Rattle.tt_search.specs.Falls.{deep-weight};
+
+    ghost size_decreases = { λ a h. deep-weight a.growth };
+}
+
+impl Node {
+    ghost use Rattle.tt_search.specs.Numbers.{number};
+
+    /// The number of a goal: the proof number is the attacker's, the disproof number the defender's.
+    pub fn number(&self, goal: Side) -> u32
+        ensures { result ≡ number goal self.now }
+    {
+        match goal {
+            Side::Attacker => self.proof,
+            Side::Defender => self.disproof,
+        }
+    }
+}

@@ -1,0 +1,142 @@
+//! A search over one line.
+
+ghost use Rattle.std.specs.Prelude.{◌≡◌, IfOk};
+ghost use Rattle.tt_search.specs.declared.limits.Step.TheVariants.{Closed};
+ghost use Rattle.tt_search.specs.Numbers.{proof_number, disproof_number, count, IsUndecided};
+ghost use Rattle.tt_search.specs.Growing.{new_leaf, IsGrown};
+ghost use Rattle.tt_search.specs.Searched.{IsSameProblem, StepOf};
+ghost use Rattle.tt_search.specs.Ended.{EndOf};
+ghost use Rattle.tt_search.specs.Searched.{IsProofOf};
+
+use crate::leaves::new_leaf;
+use crate::limits::{Limits, Reason, Step};
+use crate::node::Node;
+use crate::store::Store;
+use std::alloc::Global;
+use std::marker::Model;
+use tt_game::{Line, Side};
+use tt_proof::Proof;
+use tt_sgf::NoMemory;
+
+/// How a run ends: with a proof at the search's line, or stuck, with the search as it stands then.
+#[derive(Drop)]
+pub enum End {
+    Settled(Proof),
+    Stuck(Reason, Option<Search>),
+}
+
+/// A proof-number search: a line, limits, and a partial tree that grows at its most-proving leaf.
+#[derive(Drop)]
+pub struct Search {
+    alloc: Global,
+    line: Line,
+    limits: Limits,
+    root: Node,
+    expanded: u32,
+}
+
+impl Model for Search {
+    ghost use Rattle.std.specs.Coded.{codes};
+    ghost use Rattle.tt_sgf.specs.contracts.sets.PointSet as points;
+    ghost use Rattle.tt_search.specs.PartialTreeCode.{partial_code};
+    ghost use Rattle.tt_search.specs.Searched.{Searched, IsSearch};
+
+    ghost Value = { Searched };
+
+    ghost coded = { Prim.hlevel (codes, partial_code, points.the_row.coded) };
+
+    ghost view = { λ a. record { line = a.line; limits = a.limits; tree = a.root } };
+
+    ghost invariant = { λ a. IsSearch a.line.frame a.line.state a.limits a.root a.expanded };
+}
+
+impl Search {
+    /// A search at the line, with a tree that is only the root.
+    pub fn new(alloc: Global, line: Line, limits: Limits) -> Result<Search, NoMemory>
+        ensures { result ≡ Ok (record { line = line; limits = limits; tree = new_leaf line.frame line.state }) }
+    {
+        let root = new_leaf(line.winner());
+        Ok(Search {
+            alloc,
+            line,
+            limits,
+            root,
+            expanded: 0,
+        })
+    }
+
+    /// How many nodes are expanded.
+    pub fn expanded(&self) -> u32
+        ensures count { result ≡ count self.now.tree }
+        ensures grown { IsGrown self.now.limits self.now.line.frame self.now.line.state self.now.tree }
+    {
+        self.expanded
+    }
+
+    /// The root's proof number and disproof number.
+    pub fn numbers(&self) -> (u32, u32)
+        ensures { result ≡ (proof_number self.now.tree, disproof_number self.now.tree) }
+    {
+        (
+            self.root.number(Side::Attacker),
+            self.root.number(Side::Defender),
+        )
+    }
+
+    /// Expands the most-proving leaf, or closes it by a proof of the store.
+    pub fn step<S: Store>(&mut self, store: &mut S) -> Step
+        ensures problem { IsSameProblem self.old self.new }
+        ensures taken { StepOf self.old result self.new }
+        ensures may { result ≡ Closed → S.may_answer }
+    {
+        let (proof, disproof) = self.numbers();
+        if proof == 0 || disproof == 0 {
+            return Step::Settled;
+        }
+        let spent = self.expanded == self.limits.budget();
+        let depth = self.limits.depth();
+        let mut offering = true;
+        let step = self.root.grow(
+            self.alloc,
+            &mut self.line,
+            depth,
+            spent,
+            store,
+            &mut offering,
+        );
+        if let Step::Expanded = step {
+            self.expanded += 1;
+        }
+        step
+    }
+
+    /// Steps until the root is settled or a step is stuck.
+    pub fn run<S: Store>(self, store: &mut S) -> End
+        ensures { EndOf self result }
+    {
+        let mut search = self;
+        loop {
+            match search.step(store) {
+                Step::Expanded | Step::Closed => {}
+                Step::Settled => {
+                    return match search.proof() {
+                        Ok(proof) => End::Settled(proof),
+                        Err(_) => End::Stuck(Reason::Memory, Some(search)),
+                    };
+                }
+                Step::Stuck(reason) => return End::Stuck(reason, Some(search)),
+            }
+        }
+    }
+
+    /// The proof of a settled root.
+    fn proof(&self) -> Result<Proof, NoMemory>
+        requires { IsUndecided self.now.tree → ⊥ }
+        ensures { IfOk result (λ p. IsProofOf self.now p) }
+    {
+        let Some(side) = self.root.settled_for() else {
+            unreachable!();
+        };
+        self.root.proof(self.alloc, &self.line, side)
+    }
+}

@@ -1,0 +1,133 @@
+//! The strategies and proofs of settled nodes, and their offer to a store.
+
+ghost use Rattle.std.specs.Prelude.{◌≡◌, ◌≤◌, ◌<◌, length, IfOk, MatchOption};
+ghost use Rattle.tt_proof.specs.Strategy.{reply, strategy_of};
+ghost use Rattle.tt_proof.specs.Proven.{StandsAt};
+ghost use Rattle.tt_search.specs.Numbers.{number, IsUndecided};
+ghost use Rattle.tt_search.specs.Growing.{IsPartialTree};
+ghost use Rattle.tt_search.specs.Fits.{FitsIn};
+ghost use Rattle.tt_search.specs.Settled.{strategy_for, pick_at, replies};
+ghost use Rattle.tt_search.specs.Children.{children_of};
+ghost use Rattle.tt_search.specs.MostProving.{best};
+
+use crate::node::{Expansion, Growth, Node};
+use crate::numbers::{best_place, is_same};
+use crate::store::Store;
+use std::alloc::Global;
+use std::sync::Arc;
+use tt_game::{Line, Side, Turn};
+use tt_proof::{Proof, Tree};
+use tt_sgf::NoMemory;
+
+impl Node {
+    /// The strategy of a node for the side that it is settled for.
+    #[cycle(tree_of)]
+    pub(crate) fn tree(&self, alloc: Global, side: Side) -> Result<Tree, NoMemory>
+        ensures { IfOk result (λ t. strategy_of t ≡ strategy_for side self.now) }
+    {
+        match &self.growth {
+            Growth::Fresh => Ok(Tree::done()),
+            Growth::Won(_) => Ok(Tree::done()),
+            Growth::Closed(proof) => proof.tree().try_copy(alloc),
+            Growth::Expanded(expansion) => {
+                let Expansion {
+                    mover,
+                    turns,
+                    nodes,
+                } = &**expansion;
+                if is_same(side, *mover) {
+                    picked(alloc, side, turns, nodes)
+                } else {
+                    replied(alloc, side, turns, nodes)
+                }
+            }
+        }
+    }
+
+    /// The side that the node is settled for.
+    pub(crate) fn settled_for(&self) -> Option<Side>
+        ensures { MatchOption result (IsUndecided self.now) (λ side. number side self.now ≡ 0) }
+    {
+        if self.number(Side::Attacker) == 0 {
+            return Some(Side::Attacker);
+        }
+        if self.number(Side::Defender) == 0 {
+            return Some(Side::Defender);
+        }
+        None
+    }
+
+    /// The proof of a settled node, where the line stands at it.
+    pub(crate) fn proof(&self, alloc: Global, line: &Line, side: Side) -> Result<Proof, NoMemory>
+        requires settled { number side self.now ≡ 0 }
+        requires partial { IsPartialTree line.now.frame line.now.state self.now }
+        requires fits { FitsIn line.now.frame.size 512 self.now }
+        ensures stands { IfOk result (λ p. StandsAt p line.now.frame line.now.state) }
+        ensures side { IfOk result (λ p. p.side ≡ side) }
+        ensures tree { IfOk result (λ p. p.tree ≡ strategy_for side self.now) }
+    {
+        let tree = self.tree(alloc, side)?;
+        Proof::winning(line, side, tree)
+    }
+
+    /// Offers the proof of a settled node to the store, where the line stands at the node. None is made for a store that
+    /// is full, nor where the proof of a node below it couldn't be made.
+    pub(crate) fn offer<S: Store>(
+        &self,
+        alloc: Global,
+        line: &Line,
+        store: &mut S,
+        offering: &mut bool,
+    )
+        requires partial { IsPartialTree line.now.frame line.now.state self.now }
+        requires fits { FitsIn line.now.frame.size 512 self.now }
+    {
+        let Some(side) = self.settled_for() else {
+            return;
+        };
+        if !*offering || store.kept() == store.capacity() {
+            return;
+        }
+        let Ok(proof) = self.proof(alloc, line, side) else {
+            *offering = false;
+            return;
+        };
+        let Ok(proof) = Arc::new(alloc, proof) else {
+            *offering = false;
+            return;
+        };
+        let _kept = store.keep(proof);
+    }
+}
+
+/// The strategy that picks the best child.
+#[cycle(tree_of)]
+fn picked(alloc: Global, side: Side, turns: &[Turn], nodes: &[Node]) -> Result<Tree, NoMemory>
+    ensures { IfOk result (λ t. strategy_of t ≡ pick_at side (best side (children_of nodes.now)) turns.now (children_of nodes.now)) }
+{
+    let place = best_place(side, nodes);
+    if place >= turns.len() {
+        return Ok(Tree::done());
+    }
+    if place >= nodes.len() {
+        return Ok(Tree::done());
+    }
+    let child = nodes[place].tree(alloc, side)?;
+    Tree::pick(alloc, turns[place], child)
+}
+
+/// The strategy that replies to each turn.
+#[cycle(tree_of)]
+fn replied(alloc: Global, side: Side, turns: &[Turn], nodes: &[Node]) -> Result<Tree, NoMemory>
+    ensures { IfOk result (λ t. strategy_of t ≡ reply (replies side turns.now (children_of nodes.now))) }
+{
+    let mut entries = Vec::with_capacity(alloc, nodes.len())?;
+    for (i, node) in nodes.iter().enumerate() {
+        if i >= turns.len() {
+            return Ok(Tree::reply(entries));
+        }
+        let child = node.tree(alloc, side)?;
+        entries.push((turns[i], child))?;
+    }
+    Ok(Tree::reply(entries))
+}
