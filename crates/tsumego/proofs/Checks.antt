@@ -1,0 +1,60 @@
+-- Lemmas on what is found on a certificate.
+use Rattle.std.proofs.Common.{◌≡◌, ◌≤◌, ◌-◌, ℕ, List, [], inl, inr, Option, Err, refl, ap, ◌∙◌, length, take, drop, arith, subst}
+use Rattle.std.proofs.KnownBytes.{Appends-kept, Appends-nil}
+use Rattle.std.proofs.lemmas.List.{take_all, length-drop}
+use Rattle.tt_sgf.specs.declared.nodes.Node.{Node}
+use Rattle.tt_sgf.specs.Grammar.{GameTree, SpelledUpTo, main_line}
+use Rattle.tt_sgf.specs.Values.{trimmed}
+use Rattle.tt_game.specs.declared.frame.Frame.{Frame}
+use Rattle.tt_game.specs.declared.frame.Side.{Side}
+use Rattle.tt_game.specs.Line.{Standing}
+use Rattle.tt_game.specs.Problems.{problem_of}
+use Rattle.tt_proof.specs.declared.certificate_read.CertFault.{CertFault}
+use Rattle.tt_proof.specs.declared.certificate_read.CertFault.TheVariants.{Syntax, TooDeep}
+use Rattle.tt_proof.specs.CertificateFaults.{IsFault}
+use Rattle.tt_proof.specs.CertificateText.{IsCertificate, IsTooDeep}
+use Rattle.tt_proof.specs.Strategy.{Strategy}
+use Rattle.tt_proof.specs.Wins.{Wins}
+use Rattle.tsumego.specs.declared.request.Command.TheVariants.{Check}
+use Rattle.tsumego.specs.declared.fault.RunFault.{RunFault}
+use Rattle.tsumego.specs.declared.fault.RunFault.TheVariants.{Input, Output, Memory}
+use Rattle.tsumego.specs.declared.finding.Finding.{Finding}
+use Rattle.tsumego.specs.declared.finding.Finding.TheVariants.{Valid, Invalid, Refused}
+use Rattle.tsumego.specs.Checking.{Finds, FindsAt, FindsOn, finding_line, finding_status, first_tree, loses, no_certificate, too_deep, wins}
+use Rattle.tsumego.specs.Lines.{Breaks}
+use Rattle.tsumego.specs.Trees.{most_bytes}
+use Rattle.tsumego.specs.Writing.{Writes}
+
+-- the size of the line's frame is that of its problem
+module _ (p : Standing) (f : Frame) (bytes : List ℕ) (same : f ≡ p.frame) where
+  pub wins_at : (side : Side) (u : Strategy) → IsCertificate f.size bytes side u × (IsTooDeep f.size bytes → ⊥) → Wins side p.frame u p.state → FindsAt p bytes Valid
+  wins_at side u h w = let k = subst (λ (g : Frame). IsCertificate g.size bytes side u × (IsTooDeep g.size bytes → ⊥)) same h in wins side u k.1 k.0 w
+
+  pub loses_at : (side : Side) (u : Strategy) → IsCertificate f.size bytes side u × (IsTooDeep f.size bytes → ⊥) → (Wins side p.frame u p.state → ⊥) → FindsAt p bytes Invalid
+  loses_at side u h w = let k = subst (λ (g : Frame). IsCertificate g.size bytes side u × (IsTooDeep g.size bytes → ⊥)) same h in loses side u k.1 k.0 w
+
+  pub none_at : (e : CertFault) → e ≡ Syntax → IsFault f.size bytes e → FindsAt p bytes (Refused 30)
+  none_at e is h =
+      let k : IsFault p.frame.size bytes Syntax = subst (λ (g : Frame). IsFault g.size bytes Syntax) same (subst (λ (x : CertFault). IsFault f.size bytes x) is h) in
+      no_certificate k.1 k.0
+
+  pub deep_at : (e : CertFault) → e ≡ TooDeep → IsFault f.size bytes e → FindsAt p bytes (Refused 31)
+  deep_at e is h =
+      let k : IsFault p.frame.size bytes TooDeep = subst (λ (g : Frame). IsFault g.size bytes TooDeep) same (subst (λ (x : CertFault). IsFault f.size bytes x) is h) in
+      too_deep k
+
+-- what is found behind the first tree
+pub found_behind : (input : List ℕ) (used : ℕ) (t : GameTree) (nodes : List Node) (bytes : List ℕ) (o : Finding) → length input ≤ most_bytes → SpelledUpTo input used t
+    → nodes ≡ main_line t → bytes ≡ trimmed (take (length input - used) (drop used input)) → FindsOn (problem_of nodes) bytes o → Finds input o
+found_behind input used t nodes bytes o small s same is h =
+    let whole : take (length input - used) (drop used input) ≡ drop used input = take_all _ _ (omega (arith, length-drop used input)) in
+    first_tree used t o small s
+    (subst (λ (x : List Node). FindsOn (problem_of x) (trimmed (drop used input)) o) same (subst (λ (x : List ℕ). FindsOn (problem_of nodes) x o) (is ∙ ap trimmed whole) h))
+
+-- the line on what is found was written in part, or not at all
+pub check_breaks : (input bytes : List ℕ) (o : Finding) (e : RunFault) (a b : Option (List ℕ)) → Finds input o → bytes ≡ finding_line o → Breaks bytes e a b
+    → Writes Check input (Err e) a b
+check_breaks input bytes o Input a b h is w = absurd w
+check_breaks input bytes o Output a b h is w =
+    (bytes, w.0, inr (finding_status o, record { finding = o; finds = h; line = is; status_is = refl }), w.1)
+check_breaks input bytes o Memory a b h is w = ([], inl refl, Appends-kept a a b [] (Appends-nil a) w)

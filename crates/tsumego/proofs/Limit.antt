@@ -1,0 +1,101 @@
+-- Lemmas on inputs past the limit, of which only a part is read.
+use Rattle.std.proofs.Common.{refl, true, false, ◌≡◌, ◌≤◌, ◌⊎◌, ℕ, List, [], inl, inr, Option, None, Some, Ok, Err, length, take, arith, subst}
+use Rattle.std.specs.declared.result.Result.{Result}
+use Rattle.std.proofs.lemmas.List.{take_all, length-take-le}
+use Rattle.std.proofs.lemmas.Bool.{cases_lt}
+use Rattle.std.proofs.KnownBytes.{Appends-nil, Keeps-refl}
+use Rattle.tsumego.specs.declared.request.Command.{Command}
+use Rattle.tsumego.specs.declared.fault.RunFault.{RunFault}
+use Rattle.tsumego.specs.declared.fault.RunFault.TheVariants.{Input, Output, Memory}
+use Rattle.tsumego.specs.declared.outcome.Outcome.{Outcome}
+use Rattle.tt_sgf.specs.declared.nodes.Node.{Node}
+use Rattle.tsumego.specs.declared.request.Command.TheVariants.{Score, Check}
+use Rattle.tsumego.specs.declared.finding.Finding.{Finding}
+use Rattle.tsumego.specs.Checking.{Finds, IsCheckText, first_tree, no_tree}
+use Rattle.tsumego.specs.Checking as find
+use Rattle.tsumego.specs.Text.{BeginsAnswer, IsAnswer, Scores}
+use Rattle.tsumego.specs.Trees.{AreOutcomes, BeginsTreesText, IsTreesText, all_lines, all_read, no_line, some_lines, stopped, too_long}
+use Rattle.tsumego.specs.Watching.{IsInput}
+use Rattle.tsumego.specs.Writing.{ForInput, Writes, is_output_fault}
+
+-- the input fits, or its part up to the limit is too long as well
+cut_or_whole : (most : ℕ) (input : List ℕ) → (take most input ≡ input) ⊎ ((length (take most input) ≡ most) × (most ≤ length input))
+cut_or_whole most input = elim (cases_lt most (length input)) [
+  | inl lt ↦ let le : most ≤ length input = omega arith in inr (length-take-le most input le, le)
+  | inr le ↦ inl (take_all most input le)
+]
+
+module _ (allowed : List Node → Outcome → Type 0) where
+  -- outcomes for a part of the input that is too long as well
+  long_outcomes : (input part : List ℕ) (os : List Outcome) → length part ≡ 1048577 → 1048577 ≤ length input → AreOutcomes allowed part os → AreOutcomes allowed input os
+  long_outcomes input part os e le (too_long long) = too_long (omega arith)
+  long_outcomes input part os e le (all_read os' rest small reads some none) = absurd (omega arith)
+  long_outcomes input part os e le (stopped os' rest small reads why none) = absurd (omega arith)
+
+  outcomes_whole : (input : List ℕ) (os : List Outcome) → AreOutcomes allowed (take 1048577 input) os → AreOutcomes allowed input os
+  outcomes_whole input os h = elim (cut_or_whole 1048577 input) [
+    | inl e ↦ subst (λ (x : List ℕ). AreOutcomes allowed x os) e h
+    | inr p ↦ long_outcomes input (take 1048577 input) os p.0 p.1 h
+  ]
+
+  trees_whole : (input text : List ℕ) (status : ℕ) → IsTreesText allowed (take 1048577 input) text status → IsTreesText allowed input text status
+  trees_whole input text status h = record { outcomes = h.outcomes; are = outcomes_whole input h.outcomes h.are; lines = h.lines; status_is = h.status_is }
+
+  trees_begun : (input text : List ℕ) → BeginsTreesText allowed (take 1048577 input) text → BeginsTreesText allowed input text
+  trees_begun input text no_line = no_line
+  trees_begun input text (all_lines os h) = all_lines os (outcomes_whole input os h)
+  trees_begun input text (some_lines os rest small reads) = elim (cut_or_whole 1048577 input) [
+    | inl e ↦ subst (λ (x : List ℕ). BeginsTreesText allowed x text) e (some_lines os rest small reads)
+    | inr p ↦ absurd (omega (arith, p.0))
+  ]
+
+-- what is found on a part of the input that is too long as well
+long_found : (input part : List ℕ) (o : Finding) → length part ≡ 1048577 → 1048577 ≤ length input → Finds part o → Finds input o
+long_found input part o e le (find.too_long long) = find.too_long (omega arith)
+long_found input part o e le (no_tree small none) = absurd (omega arith)
+long_found input part o e le (first_tree count t o' small s h) = absurd (omega arith)
+
+found_whole : (input : List ℕ) (o : Finding) → Finds (take 1048577 input) o → Finds input o
+found_whole input o h = elim (cut_or_whole 1048577 input) [
+  | inl e ↦ subst (λ (x : List ℕ). Finds x o) e h
+  | inr p ↦ long_found input (take 1048577 input) o p.0 p.1 h
+]
+
+check_whole : (input text : List ℕ) (status : ℕ) → IsCheckText (take 1048577 input) text status → IsCheckText input text status
+check_whole input text status h = record { finding = h.finding; finds = found_whole input h.finding h.finds; line = h.line; status_is = h.status_is }
+
+answer_whole : (c : Command) (input text : List ℕ) (status : ℕ) → IsAnswer c (take 1048577 input) text status → IsAnswer c input text status
+answer_whole Score input text status h = trees_whole Scores input text status h
+answer_whole Check input text status h = check_whole input text status h
+
+begun_whole : (c : Command) (input text : List ℕ) → BeginsAnswer c (take 1048577 input) text → BeginsAnswer c input text
+begun_whole Score input text h = trees_begun Scores input text h
+begun_whole Check input text (inl e) = inl e
+begun_whole Check input text (inr h) = inr (h.0, check_whole input text h.0 h.1)
+
+nothing_begun : (c : Command) (input : List ℕ) → BeginsAnswer c input []
+nothing_begun Score input = no_line
+nothing_begun Check input = inl refl
+
+module _ (c : Command) where
+  -- what is written on the part up to the limit is written on the input
+  writes_whole : (input : List ℕ) (r : Result ℕ RunFault) (a b : Option (List ℕ)) → Writes c (take 1048577 input) r a b → Writes c input r a b
+  writes_whole input (Ok status) a b w = (w.0, answer_whole c input w.0 status w.1, w.2)
+  writes_whole input (Err Input) a b w = w
+  writes_whole input (Err Output) a b w = (w.0, w.1, begun_whole c input w.0 w.2, w.3)
+  writes_whole input (Err Memory) a b w = (w.0, begun_whole c input w.0 w.1, w.2)
+
+  pub writes_read : (told : Option (List ℕ)) (bytes : List ℕ) (r : Result ℕ RunFault) (a b : Option (List ℕ)) → IsInput 1048577 told bytes → Writes c bytes r a b
+      → ForInput told (λ input. Writes c input r a b)
+  writes_read None bytes r a b e w = (bytes, w)
+  writes_read (Some input) bytes r a b e w = writes_whole input r a b (subst (λ (x : List ℕ). Writes c x r a b) e w)
+
+  -- nothing is written where nothing was read
+  nothing_written : (input : List ℕ) (e : RunFault) (a : Option (List ℕ)) → is_output_fault {A = ℕ} (Err e) ≡ false → Writes c input (Err e) a a
+  nothing_written input Input a quiet = Keeps-refl a
+  nothing_written input Output a quiet = let bad : true ≡ false = quiet in cc
+  nothing_written input Memory a quiet = ([], nothing_begun c input, Appends-nil a)
+
+  pub writes_nothing : (told : Option (List ℕ)) (e : RunFault) (a : Option (List ℕ)) → is_output_fault {A = ℕ} (Err e) ≡ false → ForInput told (λ input. Writes c input (Err e) a a)
+  writes_nothing None e a quiet = ([], nothing_written [] e a quiet)
+  writes_nothing (Some input) e a quiet = nothing_written input e a quiet

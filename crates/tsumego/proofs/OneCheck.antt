@@ -1,0 +1,83 @@
+-- An input has one text and one status that answer `check`.
+use Rattle.std.proofs.Common.{◌≡◌, ℕ, List, [], ◌∷◌, Ok, Err, refl, sym, ap, ◌∙◌, drop, arith, append-nil, subst}
+use Rattle.std.specs.declared.result.Result.{Result}
+use Rattle.tt_sgf.specs.declared.size.Size.{Size}
+use Rattle.tt_sgf.specs.Grammar.{GameTree, main_line}
+use Rattle.tt_sgf.specs.Values.{trimmed}
+use Rattle.tt_game.specs.declared.faults.GameFault.{GameFault}
+use Rattle.tt_game.specs.declared.frame.Side.{Side}
+use Rattle.tt_game.specs.declared.frame.Side.TheVariants.{Attacker, Defender}
+use Rattle.tt_game.specs.Line.{Standing}
+use Rattle.tt_game.specs.Problems.{problem_of}
+use Rattle.tt_proof.specs.CertificateText.{IsCertificate, side_text, tree_text}
+use Rattle.std.proofs.lemmas.List.{append_cancel_left}
+use Rattle.tt_proof.specs.Laws.{OneReading}
+use Rattle.tt_proof.specs.Strategy.{Strategy}
+use Rattle.tt_proof.specs.Wins.{Wins}
+use Rattle.tsumego.specs.declared.finding.Finding.{Finding}
+use Rattle.tsumego.specs.Checking.{Finds, FindsAt, FindsOn, IsCheckText, finding_line, finding_status, first_tree, loses, no_certificate, no_tree, too_deep, too_long, wins}
+use Rattle.tsumego.proofs.OneText as text
+
+abbrev first : List ℕ → ℕ
+first [] = 0
+first (b ∷ bs) = b
+
+module _ (one : OneReading) where
+  -- equal texts of trees are of equal trees
+  tree_same : (size : Size) (u v : Strategy) → tree_text size u ≡ tree_text size v → u ≡ v
+  tree_same size u v e = (one size u v [] [] (append-nil (tree_text size u) ∙ e ∙ sym (append-nil (tree_text size v)))).0
+
+  texts_same : (size : Size) (s t : Side) (u v : Strategy) (bytes : List ℕ) → IsCertificate size bytes s u → IsCertificate size bytes t v → (s ≡ t) × (u ≡ v)
+  texts_same size Attacker Attacker u v bytes a b = (refl, tree_same size u v (append_cancel_left (side_text Attacker) (tree_text size u) (tree_text size v) (sym a.text ∙ b.text)))
+  texts_same size Defender Defender u v bytes a b = (refl, tree_same size u v (append_cancel_left (side_text Defender) (tree_text size u) (tree_text size v) (sym a.text ∙ b.text)))
+  texts_same size Attacker Defender u v bytes a b = let bad : 107 ≡ 108 = ap first (sym a.text ∙ b.text) in absurd (omega (arith, bad))
+  texts_same size Defender Attacker u v bytes a b = let bad : 108 ≡ 107 = ap first (sym a.text ∙ b.text) in absurd (omega (arith, bad))
+
+  -- a tree doesn't win and lose
+  not_both : (p : Standing) (bytes : List ℕ) (s t : Side) (u v : Strategy) → IsCertificate p.frame.size bytes s u → IsCertificate p.frame.size bytes t v
+      → Wins s p.frame u p.state → (Wins t p.frame v p.state → ⊥) → ⊥
+  not_both p bytes s t u v a b w l =
+      let same = texts_same p.frame.size s t u v bytes a b in
+      l (subst (λ (x : Side). Wins x p.frame v p.state) same.0 (subst (λ (x : Strategy). Wins s p.frame x p.state) same.1 w))
+
+  found_at : (p : Standing) (bytes : List ℕ) (o q : Finding) → FindsAt p bytes o → FindsAt p bytes q → o ≡ q
+  found_at p bytes o q (too_deep deep) (too_deep more) = refl
+  found_at p bytes o q (too_deep deep) (no_certificate flat none) = absurd (flat deep)
+  found_at p bytes o q (too_deep deep) (wins s u flat is w) = absurd (flat deep)
+  found_at p bytes o q (too_deep deep) (loses s u flat is l) = absurd (flat deep)
+  found_at p bytes o q (no_certificate flat none) (too_deep deep) = absurd (flat deep)
+  found_at p bytes o q (no_certificate flat none) (no_certificate level more) = refl
+  found_at p bytes o q (no_certificate flat none) (wins s u level is w) = absurd (none s u is)
+  found_at p bytes o q (no_certificate flat none) (loses s u level is l) = absurd (none s u is)
+  found_at p bytes o q (wins s u flat is w) (too_deep deep) = absurd (flat deep)
+  found_at p bytes o q (wins s u flat is w) (no_certificate level none) = absurd (none s u is)
+  found_at p bytes o q (wins s u flat is w) (wins t v level are x) = refl
+  found_at p bytes o q (wins s u flat is w) (loses t v level are l) = absurd (not_both p bytes s t u v is are w l)
+  found_at p bytes o q (loses s u flat is l) (too_deep deep) = absurd (flat deep)
+  found_at p bytes o q (loses s u flat is l) (no_certificate level none) = absurd (none s u is)
+  found_at p bytes o q (loses s u flat is l) (wins t v level are w) = absurd (not_both p bytes t s v u are is w l)
+  found_at p bytes o q (loses s u flat is l) (loses t v level are m) = refl
+
+  found_on : (r : Result Standing GameFault) (bytes : List ℕ) (o q : Finding) → FindsOn r bytes o → FindsOn r bytes q → o ≡ q
+  found_on (Ok p) bytes o q a b = found_at p bytes o q a b
+  found_on (Err e) bytes o q a b = a ∙ sym b
+
+  module _ (reading : text.OneReading) where
+    found_same : (input : List ℕ) (o q : Finding) → Finds input o → Finds input q → o ≡ q
+    found_same input o q (too_long long) (too_long more) = refl
+    found_same input o q (too_long long) (no_tree small none) = absurd (omega arith)
+    found_same input o q (too_long long) (first_tree n t q' small s b) = absurd (omega arith)
+    found_same input o q (no_tree small none) (too_long long) = absurd (omega arith)
+    found_same input o q (no_tree small none) (no_tree little never) = refl
+    found_same input o q (no_tree small none) (first_tree n t q' little s b) = absurd (none t n s)
+    found_same input o q (first_tree n t o' small s a) (too_long long) = absurd (omega arith)
+    found_same input o q (first_tree n t o' small s a) (no_tree little none) = absurd (none t n s)
+    found_same input o q (first_tree n t o' small s a) (first_tree m u q' little r b) =
+        let same = reading input n m t u s r in
+        found_on (problem_of (main_line u)) (trimmed (drop m input)) o' q'
+        (subst (λ (x : GameTree). FindsOn (problem_of (main_line x)) (trimmed (drop m input)) o') same.1 (subst (λ x. FindsOn (problem_of (main_line t)) (trimmed (drop x input)) o') same.0 a)) b
+
+    pub checks_same : (input s t : List ℕ) (m n : ℕ) → IsCheckText input s m → IsCheckText input t n → (s ≡ t) × (m ≡ n)
+    checks_same input s t m n a b =
+        let same = found_same input a.finding b.finding a.finds b.finds in
+        (a.line ∙ ap finding_line same ∙ sym b.line, a.status_is ∙ ap finding_status same ∙ sym b.status_is)

@@ -1,0 +1,59 @@
+-- What `check` writes for an input: one line on the certificate that follows the first tree.
+use Rattle.std.specs.Prelude.{◌≡◌, ◌<◌, ◌≤◌, ℕ, List, [], ◌∷◌, ◌++◌, length, drop, codes, decimal, Ok, Err}
+use Rattle.std.specs.declared.result.Result.{Result}
+use Rattle.tt_sgf.specs.Grammar.{GameTree, HasNoTree, SpelledUpTo, main_line}
+use Rattle.tt_sgf.specs.Values.{trimmed}
+use Rattle.tt_game.specs.declared.faults.GameFault.{GameFault}
+use Rattle.tt_game.specs.declared.frame.Side.{Side}
+use Rattle.tt_game.specs.Faults.{code_of}
+use Rattle.tt_game.specs.Line.{Standing}
+use Rattle.tt_game.specs.Problems.{problem_of}
+use Rattle.tt_proof.specs.CertificateText.{IsCertificate, IsTooDeep}
+use Rattle.tt_proof.specs.Strategy.{Strategy}
+use Rattle.tt_proof.specs.Wins.{Wins}
+use Rattle.tsumego.specs.declared.finding.Finding.{Finding}
+use Rattle.tsumego.specs.declared.finding.Finding.TheVariants.{Valid, Invalid, Refused}
+use Rattle.tsumego.specs.Trees.{most_bytes}
+
+-- What is found on bytes at a problem: a turn lies too deep; or they are no certificate; or they are one, and its tree
+-- wins at the problem or doesn't.
+pub data FindsAt (p : Standing) (bytes : List ℕ) : Finding → Type 0 where
+  too_deep : IsTooDeep p.frame.size bytes → FindsAt p bytes (Refused 31)
+  no_certificate : (IsTooDeep p.frame.size bytes → ⊥) → ((side : Side) (u : Strategy) → IsCertificate p.frame.size bytes side u → ⊥)
+      → FindsAt p bytes (Refused 30)
+  wins : (side : Side) (u : Strategy) → (IsTooDeep p.frame.size bytes → ⊥) → IsCertificate p.frame.size bytes side u
+      → Wins side p.frame u p.state → FindsAt p bytes Valid
+  loses : (side : Side) (u : Strategy) → (IsTooDeep p.frame.size bytes → ⊥) → IsCertificate p.frame.size bytes side u
+      → (Wins side p.frame u p.state → ⊥) → FindsAt p bytes Invalid
+
+-- the same, where the problem may be refused before
+abbrev pub FindsOn : Result Standing GameFault → List ℕ → Finding → Type 0
+FindsOn (Ok p) bytes o = FindsAt p bytes o
+FindsOn (Err e) bytes o = o ≡ Refused (code_of e)
+
+-- What is found on the whole input: it is too long; or it has no tree; or the first tree is the problem, and what follows it,
+-- without the white space at both ends, is to be the certificate.
+pub data Finds (input : List ℕ) : Finding → Type 0 where
+  too_long : most_bytes < length input → Finds input (Refused 2)
+  no_tree : length input ≤ most_bytes → HasNoTree input → Finds input (Refused 1)
+  first_tree : (count : ℕ) (t : GameTree) (o : Finding) → length input ≤ most_bytes → SpelledUpTo input count t
+      → FindsOn (problem_of (main_line t)) (trimmed (drop count input)) o → Finds input o
+
+-- the line on a finding; byte 10 ends it
+abbrev pub finding_line : Finding → List ℕ
+finding_line Valid = codes "valid" ++ 10 ∷ []
+finding_line Invalid = codes "invalid" ++ 10 ∷ []
+finding_line (Refused code) = codes "refused " ++ (decimal code ++ 10 ∷ [])
+
+-- the exit status: 0 where the certificate is valid
+abbrev pub finding_status : Finding → ℕ
+finding_status Valid = 0
+finding_status Invalid = 1
+finding_status (Refused code) = 1
+
+-- the text is the line on what is found
+pub record IsCheckText (input text : List ℕ) (status : ℕ) : Type 0 where
+  pub finding : Finding
+  pub finds : Finds input finding
+  pub line : text ≡ finding_line finding
+  pub status_is : status ≡ finding_status finding

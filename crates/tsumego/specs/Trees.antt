@@ -1,0 +1,68 @@
+-- What is written on the game trees of an input: a line each, numbered from 1.
+use Rattle.std.specs.Prelude.{◌≡◌, ◌≢◌, ◌⊎◌, ◌+◌, ◌<◌, ◌≤◌, ℕ, Bool, true, false, List, [], ◌∷◌, ◌++◌, length, drop, codes, decimal, if◌then◌else◌, Contains}
+use Rattle.std.specs.List.{list_any}
+use Rattle.tt_sgf.specs.declared.nodes.Node.{Node}
+use Rattle.tt_sgf.specs.Grammar.{GameTree, HasNoTree, SpelledUpTo, main_line}
+use Rattle.tsumego.specs.declared.outcome.Outcome.{Outcome}
+use Rattle.tsumego.specs.declared.outcome.Outcome.TheVariants.{Scored, Refused}
+
+-- ---- lines
+
+-- the line on the outcome of tree number k; byte 10 ends it
+abbrev pub line_of : ℕ → Outcome → List ℕ
+line_of k (Scored r) =
+    decimal k ++ (codes " black " ++ (decimal r.black ++ (codes " white " ++ (decimal r.white
+    ++ (codes " " ++ ((if r.finished then codes "finished" else codes "unfinished") ++ 10 ∷ []))))))
+line_of k (Refused code) = decimal k ++ (codes " refused " ++ (decimal code ++ 10 ∷ []))
+
+-- the lines on outcomes, the first of which has number k
+abbrev pub lines_from : ℕ → List Outcome → List ℕ
+lines_from k [] = []
+lines_from k (o ∷ os) = line_of k o ++ lines_from (k + 1) os
+
+abbrev pub is_refused : Outcome → Bool
+is_refused (Refused code) = true
+is_refused _ = false
+
+-- the exit status: 1 where a tree was refused
+abbrev pub status_of : List Outcome → ℕ
+status_of os = if list_any is_refused os then 1 else 0
+
+-- ---- trees, where `allowed` says which outcomes a main line may have
+
+-- the trees at the front of the bytes, read one after the other, have these outcomes and leave the rest
+abbrev pub Reads : (List Node → Outcome → Type 0) → List ℕ → List Outcome → List ℕ → Type 0
+Reads allowed bytes [] rest = bytes ≡ rest
+Reads allowed bytes (o ∷ os) rest = (count : ℕ) × (t : GameTree) × SpelledUpTo bytes count t
+    × allowed (main_line t) o × Reads allowed (drop count bytes) os rest
+
+-- the longest input whose trees are read
+abbrev pub most_bytes : ℕ
+most_bytes = 1048576
+
+-- a `(` stands in the bytes
+abbrev pub HasOpen : List ℕ → Type 0
+HasOpen bytes = Contains bytes 40
+
+-- These are the outcomes for the whole input: it is too long; or it has trees and no further `(`; or reading stops where
+-- no tree is spelled, at a `(` or before the first tree.
+pub data AreOutcomes (allowed : List Node → Outcome → Type 0) (input : List ℕ) : List Outcome → Type 0 where
+  too_long : most_bytes < length input → AreOutcomes allowed input (Refused 2 ∷ [])
+  all_read : (os : List Outcome) (rest : List ℕ) → length input ≤ most_bytes → Reads allowed input os rest
+      → os ≢ [] → (HasOpen rest → ⊥) → AreOutcomes allowed input os
+  stopped : (os : List Outcome) (rest : List ℕ) → length input ≤ most_bytes → Reads allowed input os rest
+      → (os ≡ []) ⊎ HasOpen rest → HasNoTree rest → AreOutcomes allowed input (os ++ Refused 1 ∷ [])
+
+-- the text is the lines on all outcomes for the input
+pub record IsTreesText (allowed : List Node → Outcome → Type 0) (input text : List ℕ) (status : ℕ) : Type 0 where
+  pub outcomes : List Outcome
+  pub are : AreOutcomes allowed input outcomes
+  pub lines : text ≡ lines_from 1 outcomes
+  pub status_is : status ≡ status_of outcomes
+
+-- the text is the lines on some trees at the input's front, or on all outcomes
+pub data BeginsTreesText (allowed : List Node → Outcome → Type 0) (input : List ℕ) : List ℕ → Type 0 where
+  no_line : BeginsTreesText allowed input []
+  some_lines : (os : List Outcome) (rest : List ℕ) → length input ≤ most_bytes → Reads allowed input os rest
+      → BeginsTreesText allowed input (lines_from 1 os)
+  all_lines : (os : List Outcome) → AreOutcomes allowed input os → BeginsTreesText allowed input (lines_from 1 os)

@@ -1,0 +1,170 @@
+//! Writes the answer to an input.
+ghost use Rattle.std.specs.Prelude.{◌≡◌, IfOk, false};
+ghost use Rattle.tsumego.specs.Lines.{WritesOutcome, WritesText};
+ghost use Rattle.tsumego.specs.Text.{Scores};
+ghost use Rattle.tsumego.specs.Trees.{line_of};
+ghost use Rattle.tsumego.specs.Writing.{ForInput, Writes, is_input_fault, is_output_fault};
+
+use crate::fault::RunFault;
+use crate::finding::find;
+use crate::input::read_input;
+use crate::outcome::{Outcome, line, score};
+use crate::output::write_bytes;
+use crate::request::Command;
+use crate::watched::Watched;
+use std::alloc::Global;
+use std::io::{Read, Write};
+use tt_sgf::{MainLine, SgfFault, has_tree, read_tree};
+
+/// Writes the line of one outcome.
+fn write_line<W: Write>(
+    alloc: Global,
+    writer: &mut Watched<W>,
+    number: usize,
+    outcome: Outcome,
+) -> Result<(), RunFault>
+    requires { writer.old.failed ≡ false }
+    ensures written { WritesText (line_of number outcome) result (W.contents writer.old.device) (W.contents writer.new.device) }
+    ensures failed { writer.new.failed ≡ is_output_fault result }
+{
+    match line(alloc, number, outcome) {
+        Ok(text) => write_bytes(writer, text.as_bytes()),
+        Err(_) => Err(RunFault::Memory),
+    }
+}
+
+/// Scores a tree by its main line, and says whether it was refused.
+fn answer_tree<W: Write>(
+    alloc: Global,
+    number: usize,
+    main: &MainLine,
+    writer: &mut Watched<W>,
+) -> Result<bool, RunFault>
+    requires { writer.old.failed ≡ false }
+    ensures written { WritesOutcome Scores number main.now.nodes result (W.contents writer.old.device) (W.contents writer.new.device) }
+    ensures failed { writer.new.failed ≡ is_output_fault result }
+{
+    let Ok(outcome) = score(alloc, main) else {
+        return Err(RunFault::Memory);
+    };
+    match write_line(alloc, writer, number, outcome) {
+        Ok(()) => Ok(outcome.is_refused()),
+        Err(fault) => Err(fault),
+    }
+}
+
+/// Refuses what is left of an input, and answers the status.
+fn refuse<W: Write>(
+    alloc: Global,
+    writer: &mut Watched<W>,
+    number: usize,
+    code: u8,
+) -> Result<u8, RunFault>
+    requires { writer.old.failed ≡ false }
+    ensures written { WritesText (line_of number (Outcome.Refused code)) result (W.contents writer.old.device) (W.contents writer.new.device) }
+    ensures status { IfOk result (λ status. status ≡ 1) }
+    ensures failed { writer.new.failed ≡ is_output_fault result }
+{
+    match write_line(alloc, writer, number, Outcome::Refused(code)) {
+        Ok(()) => Ok(1),
+        Err(fault) => Err(fault),
+    }
+}
+
+/// Answers the trees of an input one after the other.
+fn answer_trees<W: Write>(
+    alloc: Global,
+    input: &[u8],
+    writer: &mut Watched<W>,
+) -> Result<u8, RunFault>
+    requires { writer.old.failed ≡ false }
+    ensures written { Writes Command.Score input.now result (W.contents writer.old.device) (W.contents writer.new.device) }
+    ensures reading { is_input_fault result ≡ false }
+    ensures failed { writer.new.failed ≡ is_output_fault result }
+{
+    let mut rest = input;
+    let mut number = 1;
+    let mut refused = false;
+    while number == 1 || has_tree(rest) {
+        match read_tree(alloc, rest) {
+            Ok((main, used)) => {
+                match answer_tree(alloc, number, &main, writer) {
+                    Ok(bad) => refused |= bad,
+                    Err(fault) => return Err(fault),
+                }
+                rest = &rest[used..];
+                number += 1;
+            }
+            Err(SgfFault::Syntax) => return refuse(alloc, writer, number, 1),
+            Err(SgfFault::TooLong) => return refuse(alloc, writer, number, 2),
+            Err(SgfFault::NoMemory) => return Err(RunFault::Memory),
+        }
+    }
+    Ok(if refused { 1 } else { 0 })
+}
+
+/// Answers the certificate of an input.
+fn answer_certificate<W: Write>(
+    alloc: Global,
+    input: &[u8],
+    writer: &mut Watched<W>,
+) -> Result<u8, RunFault>
+    requires { writer.old.failed ≡ false }
+    ensures written { Writes Command.Check input.now result (W.contents writer.old.device) (W.contents writer.new.device) }
+    ensures reading { is_input_fault result ≡ false }
+    ensures failed { writer.new.failed ≡ is_output_fault result }
+{
+    let Ok(finding) = find(alloc, input) else {
+        return Err(RunFault::Memory);
+    };
+    let Ok(text) = finding.line(alloc) else {
+        return Err(RunFault::Memory);
+    };
+    match write_bytes(writer, text.as_bytes()) {
+        Ok(()) => Ok(finding.status()),
+        Err(fault) => Err(fault),
+    }
+}
+
+/// Answers an input.
+fn answer<W: Write>(
+    alloc: Global,
+    command: &Command,
+    input: &[u8],
+    writer: &mut Watched<W>,
+) -> Result<u8, RunFault>
+    requires { writer.old.failed ≡ false }
+    ensures written { Writes command.now input.now result (W.contents writer.old.device) (W.contents writer.new.device) }
+    ensures reading { is_input_fault result ≡ false }
+    ensures failed { writer.new.failed ≡ is_output_fault result }
+{
+    match command {
+        Command::Score => answer_trees(alloc, input, writer),
+        Command::Check => answer_certificate(alloc, input, writer),
+    }
+}
+
+/// Runs a command on an input: reads it whole, and writes its answer and nothing else. The status
+/// is 1 where something was refused, else 0.
+///
+/// Neither reader nor writer may have failed before. `Input` comes exactly where a read failed, and
+/// then nothing is written; `Output` exactly where a write failed or took no byte, and then a
+/// beginning of the answer is written; after `Memory` whole lines of it are written.
+pub fn run<R: Read, W: Write>(
+    alloc: Global,
+    command: &Command,
+    reader: &mut Watched<R>,
+    writer: &mut Watched<W>,
+) -> Result<u8, RunFault>
+    requires reader { reader.old.failed ≡ false }
+    requires writer { writer.old.failed ≡ false }
+    ensures written { ForInput (R.remaining reader.old.device) (λ input.
+        Writes command.now input result (W.contents writer.old.device) (W.contents writer.new.device)) }
+    ensures input { reader.new.failed ≡ is_input_fault result }
+    ensures output { writer.new.failed ≡ is_output_fault result }
+{
+    match read_input(alloc, reader) {
+        Ok(input) => answer(alloc, command, input.as_slice(), writer),
+        Err(fault) => Err(fault),
+    }
+}

@@ -1,0 +1,56 @@
+//! The program: reads its arguments, runs the command on the standard streams and ends with its status.
+#![tactic(auto)]
+
+mod answer;
+mod arguments;
+mod fault;
+mod finding;
+mod input;
+mod laws;
+mod outcome;
+mod output;
+mod request;
+#[cfg(test)]
+mod tests;
+mod watched;
+
+use answer::run;
+use arguments::{ArgFault, command};
+use std::alloc::AllocError;
+use std::env;
+use std::process::ExitCode;
+use watched::Watched;
+
+fn words_of(rt: &HostRuntime) -> Result<Vec<String>, ArgFault> {
+    let alloc = rt.alloc();
+    match env::args(rt) {
+        Ok(words) => match words.collect(alloc) {
+            Ok(words) => Ok(words),
+            Err(AllocError) => Err(ArgFault(String::new(alloc))),
+        },
+        Err(_) => Err(ArgFault(String::new(alloc))),
+    }
+}
+
+fn main(rt: HostRuntime) -> ExitCode {
+    let asked = match words_of(&rt) {
+        Ok(words) => command(rt.alloc(), words.as_slice()),
+        Err(fault) => Err(fault),
+    };
+    let command = match asked {
+        Ok(command) => command,
+        Err(fault) => {
+            let _ = rt.eprintln(fault.0);
+            return ExitCode::from(2);
+        }
+    };
+    let mut reader = Watched::new(rt.stdin());
+    let mut writer = Watched::new(rt.stdout());
+    match run(rt.alloc(), &command, &mut reader, &mut writer) {
+        Ok(status) => ExitCode::from(status),
+        Err(fault) => {
+            let _ = rt.eprintln(fault);
+            ExitCode::from(2)
+        }
+    }
+}

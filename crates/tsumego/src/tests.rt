@@ -1,0 +1,362 @@
+//! The worked rows, through the command line, over a reader and a writer in memory.
+
+use crate::answer::run;
+use crate::arguments::{ArgFault, command};
+use crate::fault::RunFault;
+use crate::request::Command;
+use crate::watched::Watched;
+use std::alloc::{AllocError, Global};
+use std::io;
+use std::io::{ErrorKind, Read, Write};
+use std::test::Fail;
+
+/// A command line: the program's name, and one word behind it.
+fn asked(alloc: Global, word: &str) -> Result<Result<Command, ArgFault>, AllocError> {
+    let mut words = Vec::new(alloc);
+    words.push(String::from_str(alloc, "tsumego")?)?;
+    words.push(String::from_str(alloc, word)?)?;
+    Ok(command(alloc, words.as_slice()))
+}
+
+/// The word behind the program's name and the input; the answer and the status.
+const ROWS: [(&str, &str, &str, u8); 35] = [
+    (
+        "score",
+        "(;GM[1]FF[4]SZ[2];B[aa];W[];B[])",
+        "1 black 4 white 0 finished\n",
+        0,
+    ),
+    (
+        "score",
+        "(;GM[1]SZ[19];B[ss];W[tt];B[])",
+        "1 black 361 white 0 finished\n",
+        0,
+    ),
+    ("score", "(;SZ[1])", "1 black 0 white 0 unfinished\n", 0),
+    ("score", "(;SZ[1];B[aa])", "1 refused 17\n", 1),
+    (
+        "score",
+        "(;SZ[2:1];B[aa];W[ba];B[];W[aa])",
+        "1 refused 17\n",
+        1,
+    ),
+    (
+        "score",
+        "(;SZ[3:1];B[aa];B[ba])",
+        "1 black 3 white 0 unfinished\n",
+        0,
+    ),
+    ("score", "(;SZ[2];B[];W[];B[aa])", "1 refused 18\n", 1),
+    ("score", "(;GM[1]", "1 refused 1\n", 1),
+    ("score", "", "1 refused 1\n", 1),
+    (
+        "score",
+        "(;SZ[3:1](;B[aa])(;B[ba]))",
+        "1 black 3 white 0 unfinished\n",
+        0,
+    ),
+    (
+        "score",
+        "(;C[a\\]b]GaMe[1]SiZe[1]X2[])",
+        "1 black 0 white 0 unfinished\n",
+        0,
+    ),
+    (
+        "score",
+        "(;SZ[4:1]AB[aa]AW[ca];B[ba])",
+        "1 black 0 white 4 unfinished\n",
+        0,
+    ),
+    ("score", "x(;SZ[2:1]AB[ba:aa])", "1 refused 15\n", 1),
+    (
+        "score",
+        "(;SZ[1])(;SZ[1];B[aa])(;SZ[0])",
+        "1 black 0 white 0 unfinished\n2 refused 17\n3 refused 11\n",
+        1,
+    ),
+    (
+        "score",
+        "(;SZ[2]AB[aa]AW[aa])(;SZ[2]AB[aa];B[bb]AW[ab])(;GM[3])(;SZ[2];B[ca])(;SZ[2]AB[aa];B[aa])",
+        "1 refused 13\n2 refused 14\n3 refused 10\n4 refused 12\n5 refused 16\n",
+        1,
+    ),
+    (
+        "score",
+        "(;SZ[3:1]AB[aa];W[ca]PL[W])",
+        "1 black 1 white 1 unfinished\n",
+        0,
+    ),
+    (
+        "score",
+        "(;SZ[1])((;SZ[1])",
+        "1 black 0 white 0 unfinished\n2 refused 1\n",
+        1,
+    ),
+    ("score", "(;SZ[2];B[];B[aa])", "1 refused 18\n", 1),
+    (
+        "score",
+        "(;SZ[1]) and no more",
+        "1 black 0 white 0 unfinished\n",
+        0,
+    ),
+    (
+        "check",
+        "(;SZ[4:1]AW[ba][da]PL[B]TR[ba])lives ?--!--.;",
+        "invalid\n",
+        1,
+    ),
+    (
+        "check",
+        "(;SZ[4:1]AW[ba];B[ca];W[da]TR[ba])lives ?--!--.;",
+        "valid\n",
+        0,
+    ),
+    (
+        "check",
+        "(;SZ[4:1]AW[ba];B[ca];W[da]TR[ba])lives ?--!--.",
+        "refused 30\n",
+        1,
+    ),
+    (
+        "check",
+        "(;SZ[4:1]AW[ba][da]PL[B]TR[ba])killed !ca?aa.;",
+        "invalid\n",
+        1,
+    ),
+    (
+        "check",
+        "(;SZ[4:1]AW[ba][da]PL[B]TR[ba])killed !ca?aa.da.--!aa.;",
+        "valid\n",
+        0,
+    ),
+    (
+        "check",
+        "(;SZ[4:1]AW[ba][da]PL[B]TR[ba])killed !ca?--!aa.aa.;",
+        "refused 30\n",
+        1,
+    ),
+    (
+        "check",
+        "(;SZ[2:1]AW[ba]PL[W]TR[ba])killed ?aa.--!aa.;",
+        "valid\n",
+        0,
+    ),
+    (
+        "check",
+        "(;SZ[2:1]AW[ba]PL[W]TR[ba])killed ?aa.;",
+        "invalid\n",
+        1,
+    ),
+    (
+        "check",
+        "(;SZ[4:1]AW[ba][da]PL[B]TR[ba])lives .",
+        "invalid\n",
+        1,
+    ),
+    (
+        "check",
+        "(;SZ[4:1]AW[ba][da]PL[B]TR[ba])killed ?;",
+        "invalid\n",
+        1,
+    ),
+    (
+        "check",
+        "(;SZ[4:1]AW[ba][da]PL[B]TR[ba])killed !cc.",
+        "refused 30\n",
+        1,
+    ),
+    (
+        "check",
+        "(;SZ[4:1]AW[ba][da]PL[B]TR[ba])",
+        "refused 30\n",
+        1,
+    ),
+    ("check", "(;SZ[2:1]TR[aa])xyz", "refused 22\n", 1),
+    ("check", "", "refused 1\n", 1),
+    (
+        "check",
+        "x (;SZ[4:1]AW[ba];B[ca];W[da]TR[ba])\r\n lives ?--!--.;\t ",
+        "valid\n",
+        0,
+    ),
+    (
+        "check",
+        "(;SZ[4:1]AW[ba];B[ca];W[da]TR[ba])(;SZ[4:1]AW[ba];B[ca];W[da]TR[ba])",
+        "refused 30\n",
+        1,
+    ),
+];
+
+/// The same, where the input is a text, a part that stands so many times, and the end.
+const LONG_ROWS: [(&str, &str, (&str, usize), &str, &str, u8); 5] = [
+    ("score", "", (" ", 1_048_577), "", "1 refused 2\n", 1),
+    ("score", "", (" ", 1_048_576), "", "1 refused 1\n", 1),
+    ("check", "", (" ", 1_048_577), "", "refused 2\n", 1),
+    ("check", "", (" ", 1_048_576), "", "refused 1\n", 1),
+    (
+        "check",
+        "(;SZ[4:1]AW[ba][da]PL[B]TR[ba])killed ",
+        ("!--", 513),
+        ".",
+        "refused 31\n",
+        1,
+    ),
+];
+
+/// What a command answers to an input, and its status.
+fn answered(alloc: Global, word: &str, input: &[u8]) -> Result<(Vec<u8>, u8), Fail> {
+    let Ok(command) = asked(alloc, word)? else {
+        return Err(Fail::new("the command line was refused"));
+    };
+    let mut out = Vec::new(alloc);
+    let mut reader = Watched::new(input);
+    let mut writer = Watched::new(&mut out);
+    match run(alloc, &command, &mut reader, &mut writer) {
+        Ok(status) => Ok((out, status)),
+        Err(_) => Err(Fail::new("the run failed")),
+    }
+}
+
+#[test]
+fn answers_rows(rt: HostRuntime) -> Result<(), Fail> {
+    let alloc = rt.alloc();
+    for (word, input, want, status) in ROWS {
+        let (out, got) = answered(alloc, word, input.as_bytes())?;
+        assert!(rt;
+            out.as_slice() == want.as_bytes() && got == status,
+            "{word} {input}"
+        );
+    }
+    Ok(())
+}
+
+#[test]
+fn answers_long_rows(rt: HostRuntime) -> Result<(), Fail> {
+    let alloc = rt.alloc();
+    for (word, front, (part, times), end, want, status) in LONG_ROWS {
+        let mut input = Vec::new(alloc);
+        input.extend_from_slice(front.as_bytes())?;
+        for _ in 0..times {
+            input.extend_from_slice(part.as_bytes())?;
+        }
+        input.extend_from_slice(end.as_bytes())?;
+        let (out, got) = answered(alloc, word, input.as_slice())?;
+        assert!(rt;
+            out.as_slice() == want.as_bytes() && got == status,
+            "{word} {times}"
+        );
+    }
+    Ok(())
+}
+
+#[test]
+fn refuses_lines(rt: HostRuntime) -> Result<(), Fail> {
+    let alloc = rt.alloc();
+    for word in ["", "scor", "--help", "help", "--budget", "score "] {
+        assert!(rt; asked(alloc, word)?.is_err(), "at {word}");
+    }
+    let nothing: Vec<String> = Vec::new(alloc);
+    assert!(rt; command(alloc, nothing.as_slice()).is_err());
+    Ok(())
+}
+
+/// A reader that gives one byte at a time, and fails after a number of reads.
+#[derive(Drop)]
+struct Slow<'a> {
+    rest: &'a [u8],
+    reads: usize,
+}
+
+impl Read for Slow<'_> {
+    fn read(&mut self, buf: &mut [u8]) -> io::Result<usize> {
+        if self.reads == 0 {
+            return Err(io::Error::from(ErrorKind::Interrupted));
+        }
+        self.reads -= 1;
+        if buf.is_empty() || self.rest.is_empty() {
+            return Ok(0);
+        }
+        buf[0] = self.rest[0];
+        self.rest = &self.rest[1..];
+        Ok(1)
+    }
+}
+
+/// A writer that takes a few bytes at a time, and fails where it is full: by an error, or by taking none.
+#[derive(Drop)]
+struct Narrow {
+    taken: Vec<u8>,
+    room: usize,
+    step: usize,
+    errs: bool,
+}
+
+impl Write for Narrow {
+    fn write(&mut self, buf: &[u8]) -> io::Result<usize> {
+        let count = buf.len().min(self.step).min(self.room);
+        if count == 0 && self.errs {
+            return Err(io::Error::from(ErrorKind::Other));
+        }
+        self.taken.extend_from_slice(&buf[..count])?;
+        self.room -= count;
+        Ok(count)
+    }
+
+    fn flush(&mut self) -> io::Result<()> {
+        Ok(())
+    }
+}
+
+#[test]
+fn fails_at_each_read(rt: HostRuntime) -> Result<(), Fail> {
+    let alloc = rt.alloc();
+    let input = b"(;SZ[1])(;SZ[1];B[aa])";
+    for reads in 0..26 {
+        let mut out = Vec::new(alloc);
+        let mut reader = Watched::new(Slow {
+            rest: input.as_slice(),
+            reads,
+        });
+        let mut writer = Watched::new(&mut out);
+        let got = run(alloc, &Command::Score, &mut reader, &mut writer);
+        if reads <= input.len() {
+            assert!(rt;
+                got == Err(RunFault::Input) && reader.failed(),
+                "at {reads}"
+            );
+            assert!(rt; out.is_empty());
+        } else {
+            assert!(rt; got == Ok(1) && !reader.failed(), "at {reads}");
+        }
+    }
+    Ok(())
+}
+
+#[test]
+fn fails_at_each_byte(rt: HostRuntime) -> Result<(), Fail> {
+    let alloc = rt.alloc();
+    let want = b"1 black 0 white 0 unfinished\n2 refused 17\n";
+    for room in 0..want.len() + 2 {
+        for (step, errs) in [(1, false), (1, true), (7, false), (64, true)] {
+            let mut reader = Watched::new(b"(;SZ[1])(;SZ[1];B[aa])".as_slice());
+            let mut device = Narrow {
+                taken: Vec::new(alloc),
+                room,
+                step,
+                errs,
+            };
+            let mut writer = Watched::new(&mut device);
+            let got = run(alloc, &Command::Score, &mut reader, &mut writer);
+            let failed = writer.failed();
+            let Narrow { taken, .. } = device;
+            if room < want.len() {
+                assert!(rt; got == Err(RunFault::Output) && failed, "at {room}");
+                assert!(rt; taken.as_slice() == &want[..room], "at {room}");
+            } else {
+                assert!(rt; got == Ok(1) && !failed, "at {room}");
+                assert!(rt; taken.as_slice() == want.as_slice(), "at {room}");
+            }
+        }
+    }
+    Ok(())
+}
