@@ -12,6 +12,8 @@ use Rattle.tt_board.specs.Position.{Colouring}
 use Rattle.tt_board.specs.Reach.{entry_at}
 use Rattle.tt_board.specs.Play.{is_stone_of}
 use Rattle.tt_board.specs.Planes.{bit_in, AreSameBits, entry_of, shown, IsPlain}
+use Rattle.tt_sgf.specs.Words as handed
+use Rattle.tt_sgf.specs.Words.{AreBitsOf}
 
 pub bit_is : (words : List ℕ) (n : ℕ) → eqb (bit_and (get_or words (n / 64) 0 / 2 ^ (n % 64)) 1) 1 ≡ bit_in words n
 unfolding bit_in
@@ -175,3 +177,23 @@ module _ (n m : ℕ) (a b c d : List ℕ) (xs ys : Colouring) (counts : n ≡ m)
   pub whites_same : IsPlain m c d → xs ≡ ys → AreSameBits b d
   whites_same other same q small =
       (bits_of n a b plain q small).1 ∙ ap (λ zs. is_stone_of (entry_at zs q) White) (one same) ∙ sym (bits_of m c d other q small).1
+
+-- the bits that are handed out are those that are kept
+handed_bit : (words : List ℕ) (p : ℕ) → handed.bit_in words p ≡ bit_in words p
+unfolding bit_in handed.bit_in
+handed_bit words p = refl
+
+bits_handed : (words : List ℕ) (k : Colour) (c : Colouring) → length words ≡ 6 → ((p : ℕ) → p < 384 → bit_in words p ≡ is_stone_of (entry_at c p) k) → AreBitsOf words (length c) (λ p. is_stone_of (entry_at c p) k)
+bits_handed words k c wide bits = record {
+  wide = wide;
+  below = λ p on_board small. handed_bit words p ∙ bits p small;
+  behind = λ p past small. handed_bit words p ∙ bits p small ∙ ap (λ e. is_stone_of e k) (get_or_past c p None past);
+}
+
+-- the words of a plain pair are the bits of the stones of a colour
+module _ (n : ℕ) (black white : List ℕ) (c : Colouring) (is : shown n black white ≡ c) (plain : IsPlain n black white) where
+  pub blacks_handed : length black ≡ 6 → AreBitsOf black (length c) (λ p. is_stone_of (entry_at c p) Black)
+  blacks_handed wide = bits_handed black Black c wide (λ p small. (bits_of n black white plain p small).0 ∙ ap (λ xs. is_stone_of (entry_at xs p) Black) is)
+
+  pub whites_handed : length white ≡ 6 → AreBitsOf white (length c) (λ p. is_stone_of (entry_at c p) White)
+  whites_handed wide = bits_handed white White c wide (λ p small. (bits_of n black white plain p small).1 ∙ ap (λ xs. is_stone_of (entry_at xs p) White) is)

@@ -43,7 +43,8 @@ pub struct Lifeless(pub Point);
 impl Board {
     ghost use Rattle.tt_board.specs.declared.Colour.TheVariants.{Black, White};
     ghost use Rattle.tt_board.specs.Reach.{entry_at};
-    ghost use Rattle.tt_board.specs.Play.{play_of, score_of, placed, IsAlive, IsLeastLifeless};
+    ghost use Rattle.tt_board.specs.Play.{play_of, score_of, placed, is_stone_of, IsAlive, IsLeastLifeless};
+    ghost use Rattle.tt_sgf.specs.Words.{AreBitsOf};
 
     /// The board of this size without any stone.
     pub fn empty(size: Size) -> Board
@@ -79,6 +80,13 @@ impl Board {
         ensures { result ≡ entry_at self.now.points p }
     {
         self.points.at(usize::from(p.number()))
+    }
+
+    /// The stones of a colour as bits: that of the point `p` is bit `p % 64` of word `p / 64`, and bits of no point are 0.
+    pub fn words(&self, colour: Colour) -> [u64; 6]
+        ensures { AreBitsOf result (point_count self.now.size) (λ p. is_stone_of (entry_at self.now.points p) colour) }
+    {
+        self.points.words(colour)
     }
 
     /// The board after a move of `colour` on `p`, a point of the board: the stone is put, then the other colour is cleared,

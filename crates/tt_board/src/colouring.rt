@@ -6,6 +6,7 @@ ghost use Rattle.std.specs.Prelude.{◌≡◌, ℕ, ◌<◌, ◌≤◌, ◌↔�
 ghost use Rattle.tt_board.specs.Reach.{entry_at};
 ghost use Rattle.tt_board.specs.Planes.{bit_in, AreSameBits};
 ghost use Rattle.tt_board.specs.Play.{is_stone_of};
+ghost use Rattle.tt_sgf.specs.Words.{AreBitsOf};
 
 use super::Colour;
 use std::marker::Model;
@@ -134,6 +135,16 @@ impl Colouring {
     {
         set_bit(&mut self.black, p, is_stone_of(entry, Colour::Black));
         set_bit(&mut self.white, p, is_stone_of(entry, Colour::White));
+    }
+
+    /// The stones of a colour as bits.
+    pub(crate) fn words(&self, colour: Colour) -> [u64; 6]
+        ensures { AreBitsOf result (length self.now) (λ p. is_stone_of (entry_at self.now p) colour) }
+    {
+        match colour {
+            Colour::Black => self.black,
+            Colour::White => self.white,
+        }
     }
 
     /// Whether both have the same entries.

@@ -1,70 +1,23 @@
--- Marks, words, and what they tell apart.
-use Rattle.std.proofs.Common.{◌≡◌, ℕ, zero, suc, ◌+◌, ◌*◌, ◌-◌, ◌^◌, ◌<◌, ◌≤◌, ◌↔◌, List, [], ◌∷◌, ◌++◌, length, map, take, drop, get_or, replicate, cond, Option, Some, None, Bool, true, false, refl, sym, ap, subst, ◌∙◌, inl, inr, arith, set, length-append}
+-- Marks in words, and what they tell apart.
+use Rattle.std.proofs.Common.{◌≡◌, ℕ, zero, suc, ◌+◌, ◌*◌, ◌-◌, ◌/◌, ◌%◌, ◌^◌, ◌<◌, ◌≤◌, List, [], ◌∷◌, ◌++◌, length, map, take, drop, get_or, replicate, cond, eqb, Option, Some, None, Bool, true, false, refl, sym, ap, subst, ◌∙◌, inl, inr, arith, length-append}
+use Rattle.std.specs.Int.{bit_at}
 use Rattle.std.specs.List.{range_with_len}
-use Rattle.std.proofs.lemmas.List.{append_cancel_right, take-append-drop, drop-drop, length-drop, length-take-le, length-replicate, length-map, set-append_right}
-use Rattle.std.proofs.lemmas.List.FromFn.{length-map-range_with_len, get_or-map-range_with_len, map-range_with_len_more}
+use Rattle.std.proofs.lemmas.Bool.{cases_lt}
+use Rattle.std.proofs.lemmas.List.{append_cancel_right, take-append-drop, drop-drop, length-drop, length-take, length-take-le, length-replicate, get_or-replicate, get_or_past, get_or_append_left, get_or-append_right, get_or-take, get_or-drop, ext_get_or}
+use Rattle.std.proofs.lemmas.List.FromFn.{length-map-range_with_len, get_or-map-range_with_len}
+use Rattle.std.proofs.lemmas.Nat.Bits.{bit_at-zero, bit_at_lowest, bit_at-suc, bit_at-lt, same_from_bits_below}
 use Rattle.tt_board.specs.declared.Colour.{Colour}
 use Rattle.tt_board.specs.declared.Colour.TheVariants.{Black, White}
 use Rattle.tt_board.specs.Play.{is_stone_of}
 use Rattle.tt_sgf.specs.declared.size.Size.{Size}
 use Rattle.tt_sgf.specs.Sizes.{point_count}
+use Rattle.tt_sgf.specs.Words.{bit_in, AreBitsOf}
 use Rattle.tt_game.specs.TurnLaws.{few_points}
-use Rattle.tt_game.specs.Keys.{marks_of, binary, words_of}
-
--- ---- marks
-
--- the marks of the first n points
-pub marks_below : (ℕ → Bool) → ℕ → List Bool
-marks_below test n = map test (range_with_len 0 n) ++ replicate (384 - n) false
-
-pub below_none : (test : ℕ → Bool) → replicate 384 false ≡ marks_below test 0
-unfolding marks_below
-below_none test = refl
-
-pub length-below : (test : ℕ → Bool) (n : ℕ) → n ≤ 384 → length (marks_below test n) ≡ 384
-unfolding marks_below
-length-below test n le =
-    omega (arith, length-append (map test (range_with_len 0 n)) (replicate (384 - n) false), length-map-range_with_len test 0 n, length-replicate (384 - n) false)
-
-pub below_set : (test : ℕ → Bool) (n : ℕ) (b : Bool) → n < 384 → b ≡ test n → set (marks_below test n) n b ≡ marks_below test (n + 1)
-unfolding marks_below
-below_set test n b lt is =
-    let xs = map test (range_with_len 0 n) in
-    let more : replicate (384 - n) false ≡ false ∷ replicate (384 - (n + 1)) false = ap (λ k. replicate k false) (let k : 384 - n ≡ suc (384 - (n + 1)) = omega arith in k) in
-    let zero' : n - n ≡ 0 = omega arith in
-    set-append_right xs (replicate (384 - n) false) n n b (length-map-range_with_len test 0 n) (omega arith)
-    ∙ ap (λ ys. xs ++ set ys (n - n) b) more
-    ∙ ap (λ k. xs ++ set (false ∷ replicate (384 - (n + 1)) false) k b) zero'
-    ∙ ap (λ v. xs ++ v ∷ replicate (384 - (n + 1)) false) is
-    ∙ again xs (test n) (replicate (384 - (n + 1)) false)
-    ∙ ap (λ ys. ys ++ replicate (384 - (n + 1)) false) (sym (map-range_with_len_more test 0 n n (omega arith)))
-  where
-    again : (xs : List Bool) (v : Bool) (ys : List Bool) → xs ++ v ∷ ys ≡ (xs ++ v ∷ []) ++ ys
-    again [] v ys = refl
-    again (x ∷ xs) v ys = ap (λ zs. x ∷ zs) (again xs v ys)
-
--- an unmarked point needs no write
-pub below_skip : (test : ℕ → Bool) (n : ℕ) → n < 384 → false ≡ test n → marks_below test n ≡ marks_below test (n + 1)
-unfolding marks_below
-below_skip test n lt is =
-    let xs = map test (range_with_len 0 n) in
-    let more : replicate (384 - n) false ≡ false ∷ replicate (384 - (n + 1)) false = ap (λ k. replicate k false) (let k : 384 - n ≡ suc (384 - (n + 1)) = omega arith in k) in
-    ap (λ ys. xs ++ ys) more
-    ∙ ap (λ v. xs ++ v ∷ replicate (384 - (n + 1)) false) is
-    ∙ again xs (test n) (replicate (384 - (n + 1)) false)
-    ∙ ap (λ ys. ys ++ replicate (384 - (n + 1)) false) (sym (map-range_with_len_more test 0 n n (omega arith)))
-  where
-    again : (xs : List Bool) (v : Bool) (ys : List Bool) → xs ++ v ∷ ys ≡ (xs ++ v ∷ []) ++ ys
-    again [] v ys = refl
-    again (x ∷ xs) v ys = ap (λ zs. x ∷ zs) (again xs v ys)
-
-pub below_all : (size : Size) (test : ℕ → Bool) (n : ℕ) → n ≡ point_count size → marks_below test n ≡ marks_of size test
-unfolding marks_below marks_of
-below_all size test n e = ap (λ k. map test (range_with_len 0 k) ++ replicate (384 - k) false) e
+use Rattle.tt_game.specs.Keys.{marks_of, binary, words_of, packed}
 
 -- ---- words
 
-pub binary-below : (bs : List Bool) → binary bs < 2 ^ length bs
+binary-below : (bs : List Bool) → binary bs < 2 ^ length bs
 binary-below [] = omega arith
 binary-below (b ∷ bs) =
     let one : cond b 1 0 ≤ 1 = unit b in
@@ -73,12 +26,6 @@ binary-below (b ∷ bs) =
     unit : (b : Bool) → cond b 1 0 ≤ 1
     unit true = omega arith
     unit false = omega arith
-
-pub six_words : (m : List Bool) → words_of 6 m ≡ binary (take 64 m) ∷ binary (take 64 (drop 64 m)) ∷ binary (take 64 (drop 128 m)) ∷ binary (take 64 (drop 192 m)) ∷ binary (take 64 (drop 256 m)) ∷ binary (take 64 (drop 320 m)) ∷ []
-unfolding words_of
-six_words m =
-    let a = drop-drop 64 64 m in let b = drop-drop 64 128 m in let c = drop-drop 64 192 m in let d = drop-drop 64 256 m in
-    rw (a, b, c, d) refl
 
 odd : (b c : Bool) (m n : ℕ) → cond b 1 0 + 2 * m ≡ cond c 1 0 + 2 * n → (b ≡ c) × (m ≡ n)
 odd true true m n e = (refl, omega (arith, e))
@@ -138,10 +85,69 @@ entries_tell (Some White) (Some White) b w = refl
 entries_tell (Some Black) (Some White) b w = cc
 entries_tell (Some White) (Some Black) b w = cc
 
--- a digit more fits a word
-pub word_fits : (marks : List Bool) (place w b : ℕ) → place ≤ length marks → 0 < place → length marks ≤ 64 → w ≡ binary (drop place marks) → b ≤ 1 → 2 * w + b < 2 ^ 64
-word_fits marks place w b in' some few is one =
-    let low = binary-below (drop place marks) in
-    let short : length (drop place marks) ≤ 63 = omega (arith, length-drop place marks) in
-    let up : 2 ^ length (drop place marks) ≤ 2 ^ 63 = Rattle.std.proofs.Math.Pow.pow_mono short in
-    omega (arith, low, up)
+-- ---- words by their bits
+
+digit : (b : Bool) (m : ℕ) → ((cond b 1 0 + 2 * m) % 2 ≡ cond b 1 0) × ((cond b 1 0 + 2 * m) / 2 ≡ m)
+digit true m = (omega arith, omega arith)
+digit false m = (omega arith, omega arith)
+
+bit_binary : (bs : List Bool) (i : ℕ) → bit_at (binary bs) i ≡ cond (get_or bs i false) 1 0
+bit_binary [] i = bit_at-zero i
+bit_binary (b ∷ bs) zero = bit_at_lowest (cond b 1 0 + 2 * binary bs) ∙ (digit b (binary bs)).0
+bit_binary (b ∷ bs) (suc i) = bit_at-suc (cond b 1 0 + 2 * binary bs) i ∙ ap (λ m. bit_at m i) (digit b (binary bs)).1 ∙ bit_binary bs i
+
+length-words_of : (n : ℕ) (marks : List Bool) → length (words_of n marks) ≡ n
+unfolding words_of
+length-words_of zero marks = refl
+length-words_of (suc n) marks = ap suc (length-words_of n (drop 64 marks))
+
+word_of : (n : ℕ) (marks : List Bool) (k : ℕ) → k < n → get_or (words_of n marks) k 0 ≡ binary (take 64 (drop (64 * k) marks))
+unfolding words_of
+word_of zero marks k lt = absurd (omega arith)
+word_of (suc n) marks zero lt = refl
+word_of (suc n) marks (suc k) lt =
+    let more : 64 + 64 * k ≡ 64 * suc k = omega arith in
+    word_of n (drop 64 marks) k (omega arith) ∙ ap (λ xs. binary (take 64 xs)) (drop-drop (64 * k) 64 marks ∙ ap (λ j. drop j marks) more)
+
+none_marked : (n i : ℕ) → get_or (replicate n false) i false ≡ false
+none_marked n i = elim (cases_lt i n) [
+  | inl below ↦ get_or-replicate n i false false below
+  | inr past ↦ get_or_past (replicate n false) i false (omega (arith, length-replicate {A = Bool} n false))
+]
+
+mark_is : (size : Size) (test : ℕ → Bool) (words : List ℕ) → AreBitsOf words (point_count size) test → (q : ℕ) → q < 384 → get_or (marks_of size test) q false ≡ bit_in words q
+unfolding marks_of
+mark_is size test words bits q lt =
+    let n = point_count size in
+    let xs = map test (range_with_len 0 n) in
+    let ys = replicate (384 - n) false in
+    let wide = length-map-range_with_len test 0 n in
+    elim (cases_lt q n) [
+      | inl below ↦ get_or_append_left xs ys false q (omega (arith, wide)) ∙ get_or-map-range_with_len test 0 n q q false below (omega arith) ∙ sym (bits.below q below lt)
+      | inr past ↦ get_or-append_right xs ys n q false wide past ∙ none_marked (384 - n) (q - n) ∙ sym (bits.behind q past lt)
+    ]
+
+by_test : (x : ℕ) → x < 2 → x ≡ cond (eqb x 1) 1 0
+by_test zero lt = refl
+by_test (suc zero) lt = refl
+by_test (suc (suc x)) lt = absurd (omega arith)
+
+bit_is : (words : List ℕ) (k i : ℕ) → i < 64 → bit_at (get_or words k 0) i ≡ cond (bit_in words (64 * k + i)) 1 0
+unfolding bit_in
+bit_is words k i lt =
+    let word : k ≡ (64 * k + i) / 64 = omega arith in
+    let place : i ≡ (64 * k + i) % 64 = omega arith in
+    ap (λ j. bit_at (get_or words j 0) i) word ∙ ap (bit_at (get_or words ((64 * k + i) / 64) 0)) place ∙ by_test _ (bit_at-lt (get_or words ((64 * k + i) / 64) 0) ((64 * k + i) % 64))
+
+-- six words with the bits of the marks are the marks packed
+pub packed_is : (size : Size) (test : ℕ → Bool) (words : List ℕ) → ((k : ℕ) → get_or words k 0 < 2 ^ 64) → AreBitsOf words (point_count size) test → words ≡ packed size test
+packed_is size test words fits bits =
+    let marks = marks_of size test in
+    ext_get_or 0 words (words_of 6 marks) (bits.wide ∙ sym (length-words_of 6 marks)) (λ k inside.
+    let lt : k < 6 = omega (arith, bits.wide) in
+    let part = take 64 (drop (64 * k) marks) in
+    let short : length part ≤ 64 = omega (arith, length-take 64 (drop (64 * k) marks)) in
+    let few : binary part < 2 ^ 64 = omega (arith, binary-below part, Rattle.std.proofs.Math.Pow.pow_mono short) in
+    same_from_bits_below 64 (get_or words k 0) (binary part) (fits k) few (λ i small.
+    bit_is words k i small ∙ sym (bit_binary part i ∙ ap (λ b. cond b 1 0) (get_or-take 64 (drop (64 * k) marks) i false small ∙ get_or-drop (64 * k) marks i false ∙ mark_is size test words bits (64 * k + i) (omega arith))))
+    ∙ sym (word_of 6 marks k lt))

@@ -2,15 +2,16 @@
 use Rattle.std.proofs.Common.{◌≡◌, ◌≢◌, ℕ, zero, suc, ◌+◌, ◌-◌, ◌*◌, ◌/◌, ◌%◌, ◌^◌, ◌<◌, ◌≤◌, Bool, true, false, not, ◌&&◌, eqb, ltb, min, max, ◌||◌, List, [], ◌∷◌, length, get_or, set as put, refl, sym, ap, ◌∙◌, arith, inl, inr}
 use Rattle.std.proofs.lemmas.Bool.{cases_lt, cases_eq, eq-eqb, ne_eqb, lt-ltb, le-ltb}
 use Rattle.std.proofs.lemmas.List.{get_or-set_same, get_or-set_other}
-use Rattle.std.proofs.lemmas.Nat.Bits.{shr_and_one, bit_at-zero, bit_at-lt, bit_at_and, bit_at_or, bit_at_not, bit_at_set_same, bit_at_set_other}
-use Rattle.std.specs.Int.{w64, bit_at, bit_not}
+use Rattle.std.proofs.lemmas.Nat.{shr-shr, one_shl}
+use Rattle.std.proofs.lemmas.Nat.Bits.{shr_and_one, bit_at-zero, bit_at-lt, bit_at_and, bit_at_or, bit_at_not, bit_at_set_same, bit_at_set_other, bit_at_ones, bit_at_ones_above, bit_at-trailing_zeros, bit_at_above}
+use Rattle.std.specs.Int.{w64, bit_at, bit_not, trailing_zeros}
 use Rattle.std.specs.Prelude.{bit_and, bit_or}
 use Rattle.std.specs.Cmp.{nat_cmp_total, unsigned_tied}
 use Rattle.std.specs.Ordering.{nat_cmp, eq_by_cmp}
 use Rattle.std.specs.FinSet as set
 use Rattle.tt_sgf.specs.Points.{passing}
 use Rattle.tt_sgf.specs.PointLaws.{passing-zero, passing-in, passing-out, contains-passing}
-use Rattle.tt_sgf.specs.Words.{bit_in, points_of}
+use Rattle.tt_sgf.specs.Words.{bit_in, points_of, IsLow}
 
 -- ---- bits
 
@@ -180,3 +181,63 @@ module _ (made a b : List ℕ) where
     | inl below ↦ rw (lt-ltb q 361 below) (sym (h q (omega arith)))
     | inr above ↦ rw (le-ltb q 361 above) refl
   ])))
+
+-- ---- the lowest bits, and the first one
+
+pub low_mask : (word count : ℕ) → count < 64 → IsLow (bit_and word (1 * 2 ^ count % 2 ^ 64 - 1)) word count
+low_mask word count few = λ i small.
+    let mask : bit_at (bit_and word (1 * 2 ^ count % 2 ^ 64 - 1)) i ≡ min (bit_at word i) (bit_at (2 ^ count - 1) i) =
+    ap (λ m. bit_at (bit_and word (m - 1)) i) (one_shl count 64 few) ∙ bit_at_and word (2 ^ count - 1) i in (
+      λ below. omega (arith, mask, bit_at_ones count i below, bit_at-lt word i),
+      λ above. omega (arith, mask, bit_at_ones_above count i above),
+    )
+
+module _ (made words : List ℕ) (count : ℕ) (low : (k : ℕ) → k < 6 → IsLow (get_or made k 0) (get_or words k 0) (count - 64 * k)) where
+  pub low_kept : (q : ℕ) → q < 384 → q < count → bit_in made q ≡ bit_in words q
+  unfolding bit_in
+  low_kept q lt below = ap (λ x. eqb x 1) ((low (q / 64) (omega arith) (q % 64) (omega arith)).0 (omega arith))
+
+  pub low_none : (q : ℕ) → q < 384 → count ≤ q → bit_in made q ≡ false
+  unfolding bit_in
+  low_none q lt above = ap (λ x. eqb x 1) ((low (q / 64) (omega arith) (q % 64) (omega arith)).1 (omega arith))
+
+-- the bits of a word from one of them on
+bit_from : (word i j : ℕ) → bit_at (word / 2 ^ i) j ≡ bit_at word (i + j)
+bit_from word i j = ap (λ x. x % 2) (shr-shr word i j)
+
+module _ (words : List ℕ) (n : ℕ) (lt : n < 384) where
+  rest_bit : (rest : ℕ) → rest ≡ get_or words (n / 64) 0 / 2 ^ (n % 64) → (q : ℕ) → n ≤ q → q / 64 ≡ n / 64 → bit_in words q ≡ eqb (bit_at rest (q - n)) 1
+  unfolding bit_in
+  rest_bit rest is q after same =
+      let place : q % 64 ≡ n % 64 + (q - n) = omega arith in
+      rw (same, place, is) (ap (λ x. eqb x 1) (sym (bit_from (get_or words (n / 64) 0) (n % 64) (q - n))))
+
+  -- the lowest bit of what is left of a word
+  pub first_here : (rest : ℕ) → rest ≡ get_or words (n / 64) 0 / 2 ^ (n % 64) → 0 < rest → get_or words (n / 64) 0 < 2 ^ 64
+      → (bit_in words (n + trailing_zeros w64 rest) ≡ true) × (n + trailing_zeros w64 rest < 384) × ((q : ℕ) → n ≤ q → q < n + trailing_zeros w64 rest → bit_in words q ≡ false)
+  first_here rest is some fits =
+      let small : rest < 2 ^ 64 = omega (arith, is, Rattle.std.proofs.lemmas.Nat.shr_le (get_or words (n / 64) 0) (n % 64)) in
+      let t = trailing_zeros w64 rest in
+      let lowest = bit_at-trailing_zeros w64 rest some small in
+      let place = n % 64 + t in
+      let one : bit_at (get_or words (n / 64) 0) (n % 64 + t) ≡ 1 = sym (bit_from (get_or words (n / 64) 0) (n % 64) t) ∙ ap (λ x. bit_at x t) (sym is) ∙ lowest.1 in
+      let inside : n % 64 + t < 64 = elim (cases_lt (n % 64 + t) 64) [
+        | inl below ↦ below
+        | inr above ↦ absurd (omega (arith, one, bit_at_above (get_or words (n / 64) 0) 64 (n % 64 + t) fits above))
+      ] in
+      let back : n + t - n ≡ t = omega arith in (
+        rest_bit rest is (n + t) (omega arith) (omega arith) ∙ ap (λ j. eqb (bit_at rest j) 1) back ∙ ap (λ x. eqb x 1) lowest.1,
+        omega arith,
+        λ q after before. rest_bit rest is q after (omega arith) ∙ ap (λ x. eqb x 1) (lowest.2 (q - n) (omega arith)),
+      )
+
+  -- a word of which nothing is left
+  pub none_here : (rest : ℕ) → rest ≡ get_or words (n / 64) 0 / 2 ^ (n % 64) → rest ≡ 0 → (q : ℕ) → n ≤ q → q < n / 64 * 64 + 64 → bit_in words q ≡ false
+  none_here rest is none q after before =
+      rest_bit rest is q after (omega arith) ∙ ap (λ x. eqb (bit_at x (q - n)) 1) none ∙ ap (λ x. eqb x 1) (bit_at-zero (q - n))
+
+pub no_point : (words : List ℕ) (q : ℕ) → (q < 361 → bit_in words q ≡ false) → set.contains (points_of words) q ≡ false
+no_point words q h = contains-points words q ∙ elim (cases_lt q 361) [
+  | inl below ↦ rw (h below) (and_false (ltb q 361))
+  | inr above ↦ rw (le-ltb q 361 above) refl
+]

@@ -1,5 +1,5 @@
--- Bits in words, as a set of points keeps them. Only the view of that type and private contracts cite them.
-use Rattle.std.specs.Prelude.{ℕ, ◌/◌, ◌%◌, Bool, List, ◌==◌}
+-- Bits in words, as a set of points keeps them and hands them out.
+use Rattle.std.specs.Prelude.{◌≡◌, ℕ, ◌/◌, ◌%◌, ◌<◌, ◌≤◌, Bool, false, List, length, ◌==◌}
 use Rattle.std.specs.List.{slice_index}
 use Rattle.std.specs.Int.{bit_at}
 use Rattle.std.specs.Ordering.{nat_cmp}
@@ -13,3 +13,13 @@ bit_in words n = bit_at (slice_index words (n / 64)) (n % 64) == 1
 -- the numbers of points whose bits are 1
 unfoldable pub points_of : List ℕ → set.FinSet nat_cmp
 points_of words = passing (bit_in words) 361
+
+-- six words: the bit of each number below the count is 1 exactly where the number passes, and all other bits are 0
+pub record AreBitsOf (words : List ℕ) (count : ℕ) (test : ℕ → Bool) : Type 0 where
+  pub wide : length words ≡ 6
+  pub below : (p : ℕ) → p < count → p < 384 → bit_in words p ≡ test p
+  pub behind : (p : ℕ) → count ≤ p → p < 384 → bit_in words p ≡ false
+
+-- the lowest bits of a word, with 0 for all others; a private contract alone cites it
+abbrev pub IsLow : ℕ → ℕ → ℕ → Type 0
+IsLow low word count = (i : ℕ) → i < 64 → (i < count → bit_at low i ≡ bit_at word i) × (count ≤ i → bit_at low i ≡ 0)

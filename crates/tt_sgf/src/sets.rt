@@ -1,9 +1,9 @@
 //! Sets of points, as bits in six words.
 
-ghost use Rattle.std.specs.Prelude.{◌≡◌, ℕ, ◌<◌, ◌≤◌, true, not, ◌&&◌, ◌||◌, length, MatchOption};
+ghost use Rattle.std.specs.Prelude.{◌≡◌, ℕ, ◌<◌, ◌≤◌, true, false, not, ◌&&◌, ◌||◌, length, MatchOption};
 ghost use Rattle.std.specs.FinSet as set;
 ghost use Rattle.tt_sgf.specs.Points.{passing};
-ghost use Rattle.tt_sgf.specs.Words.{bit_in, points_of};
+ghost use Rattle.tt_sgf.specs.Words.{bit_in, points_of, IsLow, AreBitsOf};
 ghost use Rattle.tt_sgf.specs.Sizes.{point_count};
 
 use super::size::{Point, Size, point_numbered};
@@ -59,6 +59,47 @@ fn count_bits(words: &[u64; 6]) -> u16
         }
     }
     count
+}
+
+/// The bits of the numbers below `count`, with 0 for all others.
+fn low_bits(word: u64, count: usize) -> u64
+    ensures { IsLow result word count }
+{
+    if count >= 64 {
+        return word;
+    }
+    word & ((1 << count) - 1)
+}
+
+/// The bits of the numbers below `count`, with 0 for all others.
+fn words_below(words: &[u64; 6], count: usize) -> [u64; 6]
+    ensures len { length result ≡ 6 }
+    ensures kept { (q : ℕ) → q < 384 → q < count → bit_in result q ≡ bit_in words.now q }
+    ensures none { (q : ℕ) → q < 384 → count ≤ q → bit_in result q ≡ false }
+{
+    let mut made = [0u64; 6];
+    for k in 0..6 {
+        made[k] = low_bits(words[k], count.saturating_sub(64 * k));
+    }
+    made
+}
+
+/// The least number from `from` on whose bit is 1: 384 where there is none. It looks at each word once.
+fn first_bit(words: &[u64; 6], from: usize) -> usize
+    requires { from ≤ 384 }
+    ensures after { from ≤ result }
+    ensures none { (q : ℕ) → from ≤ q → q < result → q < 384 → bit_in words.now q ≡ false }
+    ensures found { result < 384 → bit_in words.now result ≡ true }
+{
+    let mut n = from;
+    while n < 384 {
+        let rest = words[n / 64] >> (n % 64);
+        if rest != 0 {
+            return n + rest.trailing_zeros() as usize;
+        }
+        n = n / 64 * 64 + 64;
+    }
+    384
 }
 
 /// The bits that are 1 in the first alone.
@@ -156,6 +197,26 @@ impl PointSet {
             }
         }
         None
+    }
+
+    /// The point of the set with the least number from `from` on: none exactly where the set has none from there on.
+    pub fn least_from(&self, from: u16) -> Option<Point>
+        ensures { MatchOption result ((q : ℕ) → from ≤ q → set.contains self.now q ≡ false)
+            (λ p. (set.contains self.now p ≡ true) × (from ≤ p) × ((q : ℕ) → from ≤ q → q < p → set.contains self.now q ≡ false)) }
+    {
+        let n = first_bit(&self.words, usize::from(from).min(384));
+        if n > 360 {
+            return None;
+        }
+        Some(point_numbered(n as u16))
+    }
+
+    /// The points of the set that a board of this size has, as bits: that of the point `p` is bit `p % 64` of word
+    /// `p / 64`, and bits of no point are 0.
+    pub fn words_on(&self, size: Size) -> [u64; 6]
+        ensures { AreBitsOf result (point_count size) (λ p. set.contains self.now p) }
+    {
+        words_below(&self.words, size.point_count())
     }
 
     /// The points of this set that the other hasn't.
