@@ -1,5 +1,5 @@
 -- The walk over the points, one point after the other.
-use Rattle.std.proofs.Common.{◌≡◌, ℕ, ◌+◌, ◌≤◌, List, [], ◌∷◌, ◌++◌, length, map, None, Bool, true, false, cond, refl, sym, ap, ◌∙◌, arith}
+use Rattle.std.proofs.Common.{◌≡◌, ℕ, zero, suc, ◌+◌, ◌-◌, ◌<◌, ◌≤◌, List, [], ◌∷◌, ◌++◌, length, map, None, Bool, true, false, cond, refl, sym, ap, ◌∙◌, arith}
 use Rattle.std.specs.List.{filter}
 use Rattle.std.proofs.lemmas.List.{map-append, append-nil, length-map}
 use Rattle.std.proofs.lemmas.List.Elements.{filter-append}
@@ -45,6 +45,18 @@ below_more f s n l = step f s n ∙ ap (λ b. successors_below f s n ++ map (suc
 
 pub below_skip : (f : Frame) (s : State) (n : ℕ) → (IsLegal f s (Play n) → ⊥) → successors_below f s (n + 1) ≡ successors_below f s n
 below_skip f s n h = step f s n ∙ ap (λ b. successors_below f s n ++ map (successor f s) (cond b (Play n ∷ []) [])) ((is_legal_is f s (Play n)).2 h) ∙ append-nil (successors_below f s n)
+
+-- points without a legal play add nothing
+gap_of : (f : Frame) (s : State) (n d : ℕ) → ((q : ℕ) → n ≤ q → q < n + d → IsLegal f s (Play q) → ⊥) → successors_below f s (n + d) ≡ successors_below f s n
+gap_of f s n zero none = let here : n + 0 ≡ n = omega arith in ap (successors_below f s) here
+gap_of f s n (suc d) none =
+    let more : n + suc d ≡ n + d + 1 = omega arith in
+    ap (successors_below f s) more ∙ below_skip f s (n + d) (none (n + d) (omega arith) (omega arith)) ∙ gap_of f s n d (λ q after before. none q after (omega arith))
+
+pub below_gap : (f : Frame) (s : State) (n m : ℕ) → n ≤ m → ((q : ℕ) → n ≤ q → q < m → IsLegal f s (Play q) → ⊥) → successors_below f s m ≡ successors_below f s n
+below_gap f s n m le none =
+    let d : n + (m - n) ≡ m = omega arith in
+    ap (successors_below f s) (sym d) ∙ gap_of f s n (m - n) (λ q after before. none q after (omega arith))
 
 pub length-below : (f : Frame) (s : State) (n : ℕ) → length (successors_below f s n) ≤ n
 unfolding successors_below

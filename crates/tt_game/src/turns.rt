@@ -45,6 +45,22 @@ impl Line {
         None
     }
 
+    /// The first point of the region from a number on: none where the board has no such point.
+    fn next_point(&self, from: u16) -> Option<Point>
+        ensures { MatchOption result
+            ((q : ℕ) → from ≤ q → IsLegal self.now.frame self.now.state (Turn.Play q) → ⊥)
+            (λ p. (p < point_count self.now.frame.size) × (from ≤ p) × ((q : ℕ) → from ≤ q → q < p → IsLegal self.now.frame self.now.state (Turn.Play q) → ⊥)) }
+    {
+        let frame = self.frame();
+        let Some(p) = frame.region.least_from(from) else {
+            return None;
+        };
+        if !frame.size.holds(p) {
+            return None;
+        }
+        Some(p)
+    }
+
     /// What a play leads to, where it is legal.
     fn successor_on(&self, p: Point) -> Option<Successor>
         requires on_board { p < point_count self.now.frame.size }
@@ -82,14 +98,12 @@ impl Line {
         if self.winner().is_some() {
             return found;
         }
-        let size = self.frame().size;
-        let count = size.point_count();
-        for number in 0..count {
-            if let Some(p) = size.point(number as u16) {
-                if let Some(next) = self.successor_on(p) {
-                    found.push(next);
-                }
+        let mut from = 0;
+        while let Some(p) = self.next_point(from) {
+            if let Some(next) = self.successor_on(p) {
+                found.push(next);
             }
+            from = p.number() + 1;
         }
         found.push(Successor {
             turn: Turn::Pass,

@@ -1,9 +1,14 @@
-use Rattle.std.proofs.Common.{◌≡◌, ◌≤◌, length}
+use Rattle.std.proofs.Common.{◌≡◌, ◌≤◌, ◌-◌, length}
+use Rattle.tt_sgf.specs.Sizes.{point_count}
 use Rattle.tt_game.proofs.TurnsLemmas.{successors_below}
 use Rattle.tt_game.proofs.line.Line.successors.Given as goal
 
-abbrev pub invariant-loop-number : goal.invariant-loop-number
-invariant-loop-number l = record {
-  list : l.found.items ≡ successors_below l.self.frame l.self.state l.number;
-  few : length l.found.items ≤ l.number;
+abbrev pub invariant-loop-p : goal.invariant-loop-p
+invariant-loop-p l = record {
+  list : l.found.items ≡ successors_below l.self.frame l.self.state l.from;
+  few : length l.found.items ≤ l.from;
+  inside : l.from ≤ point_count l.self.frame.size;
 }
+
+abbrev pub decreases-loop-p : goal.decreases-loop-p
+decreases-loop-p l = 361 - l.from
