@@ -99,6 +99,14 @@ fn has_turns(line: &Line, marks: &[u8]) -> bool {
     rest.len() == 0
 }
 
+/// Whether both lists of a line's legal turns are one, with ample memory.
+fn lists_turns(alloc: Global, line: &Line) -> bool {
+    let Ok(listed) = line.successors_in(alloc) else {
+        return false;
+    };
+    listed.as_slice() == line.successors().as_slice()
+}
+
 /// The number of the refusal, or 0 where the line's legal turns are those that `marks` marks.
 fn problem_turns(alloc: Global, text: &[u8], marks: &[u8]) -> u8 {
     match posed(alloc, text) {
@@ -234,6 +242,7 @@ fn holds(alloc: Global, case: Case) -> bool {
         && outcome(&line).as_slice() == ending
         && is_refused(&line, causes)
         && has_turns(&line, causes)
+        && lists_turns(alloc, &line)
 }
 
 /// From an empty board of 2 by 2: a move, a move on its stone, and a pass.

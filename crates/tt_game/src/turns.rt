@@ -1,13 +1,14 @@
 //! Turns, and the walk over the legal ones.
 
-ghost use Rattle.std.specs.Prelude.{◌≡◌, ℕ, ◌<◌, ◌≤◌, ◌↔◌, length, Contains, MatchOption};
+ghost use Rattle.std.specs.Prelude.{◌≡◌, ℕ, ◌<◌, ◌≤◌, ◌↔◌, length, Contains, IfOk, MatchOption};
 ghost use Rattle.tt_sgf.specs.Sizes.{point_count};
 
 use crate::frame::Side;
 use crate::line::Line;
 use arrayvec::ArrayVec;
+use std::alloc::Global;
 use tt_board::Board;
-use tt_sgf::Point;
+use tt_sgf::{NoMemory, Point};
 
 /// A play on a point, or a pass. A turn's number is that of its point, and the pass has the number of the points; so the
 /// pass comes last.
@@ -24,6 +25,9 @@ pub struct Successor {
     pub turn: Turn,
     pub winner: Option<Side>,
 }
+
+/// A vector of turns has room for so many at first: small regions have no more.
+const USUAL_TURNS: usize = 16;
 
 /// As many turns as a board of 19 by 19 has.
 pub type Turns = ArrayVec<Turn, 362>;
@@ -110,6 +114,29 @@ impl Line {
             winner: self.winner_by_pass(),
         });
         found
+    }
+
+    /// The legal turns, rising by their numbers, each with who has won after it, in a vector that grows with them. Each
+    /// play is made once.
+    pub fn successors_in(&self, alloc: Global) -> Result<Vec<Successor>, NoMemory>
+        ensures { IfOk result (λ found. found.items ≡ successors_of self.now.frame self.now.state) }
+    {
+        let mut found = Vec::with_capacity(alloc, USUAL_TURNS)?;
+        if self.winner().is_some() {
+            return Ok(found);
+        }
+        let mut from = 0;
+        while let Some(p) = self.next_point(from) {
+            if let Some(next) = self.successor_on(p) {
+                found.push(next)?;
+            }
+            from = p.number() + 1;
+        }
+        found.push(Successor {
+            turn: Turn::Pass,
+            winner: self.winner_by_pass(),
+        })?;
+        Ok(found)
     }
 
     /// The legal turns, rising by their numbers.
