@@ -138,10 +138,10 @@ impl Board {
     pub fn same(&self, other: &Board) -> bool
         ensures { IsTrue result ↔ (self.now ≡ other.now) }
     {
-        if self.size != other.size {
+        if !self.points.same(&other.points) {
             return false;
         }
-        self.points.same(&other.points)
+        self.size == other.size
     }
 
     /// The colouring as an array, row by row; places past the last point hold none.

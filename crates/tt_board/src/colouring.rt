@@ -147,17 +147,17 @@ impl Colouring {
         }
     }
 
-    /// Whether both have the same entries.
+    /// Whether both have the same entries. Boards of one history differ in their stones, so these come first.
     pub(crate) fn same(&self, other: &Colouring) -> bool
         ensures { IsTrue result ↔ (self.now ≡ other.now) }
     {
-        if self.count != other.count {
-            return false;
-        }
         if !same_bits(&self.black, &other.black) {
             return false;
         }
-        same_bits(&self.white, &other.white)
+        if !same_bits(&self.white, &other.white) {
+            return false;
+        }
+        self.count == other.count
     }
 
     /// The entries as an array; places past the last point hold none.

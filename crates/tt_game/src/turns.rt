@@ -72,6 +72,9 @@ impl Line {
         ensures { MatchOption result (IsLegal self.now.frame self.now.state (Turn.Play p) → ⊥)
             (λ x. IsLegal self.now.frame self.now.state (Turn.Play p) × (x ≡ successor self.now.frame self.now.state (Turn.Play p))) }
     {
+        if self.present().at(p).is_some() {
+            return None;
+        }
         let Ok(next) = self.made(p) else {
             return None;
         };

@@ -1,16 +1,15 @@
-use Rattle.std.proofs.Common.{◌≡◌, Bool, true, false, ◌&&◌, eqb, not, refl, sym, ap, ◌∙◌}
-use Rattle.std.proofs.lemmas.Bool.{true≢false, eqb-true, and_parts}
+use Rattle.std.proofs.Common.{◌≡◌, true, ◌&&◌, eqb, refl, sym, ap, ◌∙◌}
+use Rattle.std.proofs.lemmas.Bool.{eqb-true, eq-eqb, and_parts}
 use Rattle.tt_sgf.specs.declared.size.Size.{Size}
 use Rattle.tt_sgf.specs.SizeLaws.{sizes_same}
 use Rattle.tt_board.specs.Position.{Position, Colouring}
 use Rattle.tt_board.proofs.board.Board.same.Goals as goal
 
-not_false : (b : Bool) → not b ≡ false → b ≡ true
-not_false true h = refl
-not_false false h = absurd (true≢false h)
-
 tests_same : (a b : Size) → (eqb a.columns b.columns && eqb a.rows b.rows) ≡ true → a ≡ b
 tests_same a b h = sizes_same a b (eqb-true a.columns b.columns (and_parts _ _ h).0) (eqb-true a.rows b.rows (and_parts _ _ h).1)
+
+tests_pass : (a b : Size) → a ≡ b → (eqb a.columns b.columns && eqb a.rows b.rows) ≡ true
+tests_pass a b e = rw (eq-eqb a.columns b.columns (ap (λ (s : Size). s.columns) e), eq-eqb a.rows b.rows (ap (λ (s : Size). s.rows) e)) refl
 
 positions_same : (s t : Size) (xs ys : Colouring) → s ≡ t → xs ≡ ys → (let a : Position = record { size = s; points = xs } in a) ≡ (let b : Position = record { size = t; points = ys } in b)
 positions_same s t xs ys sizes entries =
@@ -19,7 +18,6 @@ positions_same s t xs ys sizes entries =
 pub returns : goal.returns
 returns c =
     let i = c.self.inside in let j = c.other.inside in (
-      λ h. sym c.self.view_is
-          ∙ positions_same i.size j.size i.points j.points (tests_same i.size j.size (not_false _ (sym c.ne.ensures ∙ c.if-ne.false))) (c.same.ensures.0 h) ∙ c.other.view_is,
-      λ same. c.same.ensures.1 (ap (λ (p : Position). p.points) (c.self.view_is ∙ same ∙ sym c.other.view_is)),
+      λ h. sym c.self.view_is ∙ positions_same i.size j.size i.points j.points (tests_same i.size j.size (sym c.eq.ensures ∙ h)) (c.same.ensures.0 c.if-not-same.false) ∙ c.other.view_is,
+      λ same. c.eq.ensures ∙ tests_pass i.size j.size (ap (λ (p : Position). p.size) (c.self.view_is ∙ same ∙ sym c.other.view_is)),
     )
