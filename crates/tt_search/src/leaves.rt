@@ -73,7 +73,7 @@ fn expanded_node(
 pub(crate) fn expanded_at(alloc: Global, line: &Line) -> Result<Node, NoMemory>
     ensures { IfOk result (λ node. node ≡ expansion line.now.frame line.now.state) }
 {
-    let successors = line.successors();
+    let successors = line.successors_in(alloc)?;
     let mut turns = Vec::with_capacity(alloc, successors.len())?;
     let mut nodes = Vec::with_capacity(alloc, successors.len())?;
     for successor in successors.as_slice() {
