@@ -39,4 +39,6 @@ impl Colour {
 }
 
 #[cfg(test)]
+mod move_tests;
+#[cfg(test)]
 mod tests;

@@ -25,3 +25,5 @@ pub use store::{Kept, NoStore, Store};
 
 #[cfg(test)]
 mod tests;
+#[cfg(test)]
+mod trace_tests;
