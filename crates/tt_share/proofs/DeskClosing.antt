@@ -1,0 +1,152 @@
+-- What a desk shows once one view has every part.
+use Rattle.std.proofs.Common.{◌≡◌, ℕ, zero, suc, ◌+◌, ◌-◌, ◌<◌, ◌≤◌, Bool, true, false, ◌||◌, List, [], ◌∷◌, length, set, sum_by, All, Contains, cond, leb, nat_eq, refl, sym, ap, ◌∙◌, zero-add, subst, arith}
+use Rattle.std.specs.List.{list_any}
+use Rattle.std.proofs.lemmas.Bool.Decides.{nat_tests}
+use Rattle.std.proofs.lemmas.List.Sums.{sum_by-cons, sum_by-append, get_or-le-sum_by}
+use Rattle.std.proofs.lemmas.List.Elements.{All-contains}
+use mathlib.Core.Option.{some}
+use mathlib.Core.Logic.{dite}
+use native.Mathlib.Decide.{dec_lt}
+use lib.ListN.{get_elem?}
+use Rattle.tt_share.specs.declared.rule.View.{View}
+use Rattle.tt_share.specs.declared.rule.Plan.{Plan}
+use Rattle.tt_share.specs.Desk.{view_of, no_seat, joined, weight_below, spare_count, EachView, IsDesk}
+use Rattle.tt_share.specs.Seats.{DeskView, SeatView, EachOnce, AllJobsDrawn, EndsSpare, Closes}
+use Rattle.tt_share.specs.Gathering.{Gathers}
+use Rattle.tt_share.proofs.DeskLists.{at_within, at_read, sum_set, sum_at, sum_le}
+use Rattle.tt_share.proofs.DeskMoves.{counts_room, each_set, right_true}
+
+-- where one view has every part, what the others add up to is nothing
+alone : (f : View → ℕ) (views : List View) (id : ℕ) (v : View) → get_elem? views id ≡ some v → sum_by (λ u. u.parts) views ≡ v.parts → f no_seat ≡ 0 → EachView (λ u. u.parts ≡ 0 → u ≡ no_seat) views
+    → sum_by f views ≡ f v
+alone f views id v at all nothing spent =
+    let s = sum_set f views id v no_seat at in
+    let p = sum_set (λ u. u.parts) views id v no_seat at in
+    let rest : List View = set views id no_seat in
+    let none_left : EachView (λ u. u.parts ≡ 0) rest = λ i u e. let b = sum_at (λ w. w.parts) rest i u e in omega arith in
+    let spent_too : EachView (λ u. u.parts ≡ 0 → u ≡ no_seat) rest = each_set (λ u. u.parts ≡ 0 → u ≡ no_seat) views id no_seat (λ _. refl) spent in
+    let small = sum_le f (λ u. u.parts) rest (λ i u e. let z : f u ≡ 0 = ap f (spent_too i u e (none_left i u e)) ∙ nothing in omega arith) in
+    omega arith
+
+or_nothing : (b : Bool) → (b || false) ≡ b
+or_nothing true = refl
+or_nothing false = refl
+
+or_swap : (a b c : Bool) → c ≡ b → (a || c) ≡ (b || a)
+or_swap true true c e = refl
+or_swap true false c e = refl
+or_swap false true c e = e
+or_swap false false c e = e
+
+-- what the table's seat of a seat knows
+abbrev pub sat_as : SeatView → View
+sat_as s = view_of 1 s.numbers s.mark s.sighting
+
+pub gathers_first : (s : SeatView) → Gathers (s ∷ []) (sat_as s)
+gathers_first s = record {
+  parts = refl;
+  numbers = λ weight. zero-add (sum_by weight s.numbers);
+  marks = or_nothing s.mark;
+  sightings = or_nothing s.sighting;
+}
+
+pub gathers_more : (s : SeatView) (taken : List SeatView) (v : View) → Gathers taken v → Gathers (s ∷ taken) (joined v (sat_as s))
+gathers_more s taken v h = record {
+  parts = let p = h.parts in omega arith;
+  numbers = λ weight.
+      let was = h.numbers weight in
+      let c = sum_by-cons (λ (t : SeatView). sum_by weight t.numbers) s taken in
+      let a = sum_by-append weight v.numbers s.numbers in
+      omega arith;
+  marks = or_swap s.mark v.mark (list_any (λ t. t.mark) taken) h.marks;
+  sightings = or_swap s.sighting v.sighting (list_any (λ t. t.sighting) taken) h.sightings;
+}
+
+pub ones_below : (n : ℕ) → weight_below (λ _. 1) n ≡ n
+ones_below zero = refl
+ones_below (suc n) = let e = ones_below n in omega arith
+
+pub ones : {A : Type 0} (l : List A) → sum_by (λ _. 1) l ≡ length l
+ones [] = refl
+ones {A} (x ∷ xs) = let e = ones xs in let c = sum_by-cons (λ (_ : A). 1) x xs in omega arith
+
+pub sum_same : {A : Type 0} (f g : A → ℕ) (l : List A) → ((a : A) → f a ≡ g a) → sum_by f l ≡ sum_by g l
+sum_same f g [] same = refl
+sum_same f g (x ∷ xs) same = let e = sum_same f g xs same in let one = same x in omega (arith, sum_by-cons f x xs, sum_by-cons g x xs)
+
+pub never_below : (n m : ℕ) → m ≤ n → weight_below (λ k. cond (nat_eq k n) 1 0) m ≡ 0
+never_below n zero h = refl
+never_below n (suc m) h = let e = never_below n m (omega arith) in grind (arith, nat_tests)
+
+pub once_below : (n m : ℕ) → n < m → weight_below (λ k. cond (nat_eq k n) 1 0) m ≡ 1
+once_below n zero h = absurd (omega arith)
+once_below n (suc m) h =
+    dite (dec_lt n m) (λ lt. let e = once_below n m lt in grind (arith, nat_tests)) (λ ge. let e = never_below n m (omega arith) in grind (arith, nat_tests))
+
+spares_exact : (jobs n : ℕ) → weight_below (λ k. cond (leb jobs k) 1 0) n ≡ n - jobs
+spares_exact jobs zero = omega arith
+spares_exact jobs (suc n) = let e = spares_exact jobs n in grind (arith, nat_tests)
+
+ends_spare : (jobs : ℕ) (xs : List ℕ) → 0 < jobs → EndsSpare jobs xs → 1 ≤ spare_count jobs xs
+ends_spare jobs [] job h = absurd (omega arith)
+ends_spare jobs (x ∷ xs) job h =
+    let b = get_or-le-sum_by (λ k. cond (leb jobs k) 1 0) (x ∷ xs) (length (x ∷ xs) - 1) 0 (omega arith) in grind (arith, nat_tests)
+
+is_set : (b : Bool) → 1 ≤ cond b 1 0 → b ≡ true
+is_set true h = refl
+is_set false h = absurd (omega arith)
+
+-- what the lists of all seats show, where however numbers are weighed they weigh as those below the count
+module _ (list : SeatView → List ℕ) (count : ℕ) (seats : List SeatView) (weights : (weight : ℕ → ℕ) → sum_by (λ (s : SeatView). sum_by weight (list s)) seats ≡ weight_below weight count) where
+  each_once : EachOnce list count seats
+  each_once = record {
+    count_is = sum_same (λ s. length (list s)) (λ s. sum_by (λ _. 1) (list s)) seats (λ s. sym (ones (list s))) ∙ (weights (λ _. 1) ∙ ones_below count);
+    below = λ n lt. weights (λ k. cond (nat_eq k n) 1 0) ∙ once_below n count lt;
+    above = λ n le. weights (λ k. cond (nat_eq k n) 1 0) ∙ never_below n count le;
+  }
+
+  spares : (limit : ℕ) → sum_by (λ s. spare_count limit (list s)) seats ≡ count - limit
+  spares limit = weights (λ k. cond (leb limit k) 1 0) ∙ spares_exact limit count
+
+  -- where some list ends with a number that is not below the limit, the count is above it
+  beyond : (limit : ℕ) → 0 < limit → (s : SeatView) → Contains seats s → EndsSpare limit (list s) → limit < count
+  beyond limit positive s has ends =
+      let spare : SeatView → ℕ = λ t. spare_count limit (list t) in
+      let one : spare s ≤ sum_by spare seats = All-contains (λ t. spare t ≤ sum_by spare seats) seats s (λ k d within. get_or-le-sum_by spare seats k d within) has in
+      let mine : 1 ≤ spare s = ends_spare limit (list s) positive ends in
+      let all = spares limit in
+      omega arith
+
+  uses : (limit : ℕ) → 0 < limit → AllJobsDrawn list limit seats
+  uses limit positive s has ends number lt = each_once.below number (let b = beyond limit positive s has ends in omega arith)
+
+  all_spare : (limit : ℕ) → 0 < limit → 0 < length seats → All (λ (s : SeatView). EndsSpare limit (list s)) seats → limit + length seats ≤ count
+  all_spare limit positive some_seat all =
+      let least = sum_le (λ _. 1) (λ s. spare_count limit (list s)) seats
+      (λ i s e. ends_spare limit (list s) positive (subst (λ (t : SeatView). EndsSpare limit (list t)) (at_read seats i s s e) (all i s (at_within seats i s e)))) in
+      let number = ones seats in
+      let exact = spares limit in
+      omega arith
+
+pub closes : (desk : DeskView) (plan : Plan) (drawn mark : ℕ) (views : List View) (id : ℕ) (v : View) (seats : List SeatView) → plan.jobs ≡ desk.jobs → plan.seats ≡ desk.seats → length seats ≡ desk.seats
+    → 0 < desk.jobs → 0 < desk.seats → Gathers seats v → IsDesk plan drawn mark views → get_elem? views id ≡ some v → Closes desk seats drawn
+closes desk plan drawn mark views id v seats same_jobs same_seats len some_job some_seat g h at =
+    let all_parts : sum_by (λ u. u.parts) views ≡ v.parts = let p = h.parts in let q = g.parts in omega arith in
+    let numbers : (weight : ℕ → ℕ) → sum_by (λ (s : SeatView). sum_by weight s.numbers) seats ≡ weight_below weight drawn = λ weight.
+    g.numbers weight ∙ (sym (alone (λ u. sum_by weight u.numbers) views id v at all_parts refl h.spent) ∙ h.draws.each_once weight) in record {
+      seats_are_all = len;
+      draws_each_once = each_once (λ s. s.numbers) drawn seats numbers;
+      jobs_drawn = uses (λ s. s.numbers) drawn seats numbers desk.jobs some_job;
+      draws_most = let most = counts_room (λ u. u.numbers) plan.jobs drawn views h.draws in omega arith;
+      draws_are = λ all.
+          let least = all_spare (λ s. s.numbers) drawn seats numbers desk.jobs some_job (omega arith) all in
+          let most = counts_room (λ u. u.numbers) plan.jobs drawn views h.draws in
+          omega arith;
+      sighted = λ saw.
+          let is : mark ≡ 1 = h.marked.known id v at (right_true v.mark v.sighting (sym g.sightings ∙ saw)) in
+          let has = h.marked.raised is in
+          let bit : View → ℕ = λ u. cond u.mark 1 0 in
+          let one = sum_at bit views has.0 has.1 has.2 in
+          let its_bit : bit has.1 ≡ 1 = ap (λ (b : Bool). cond b 1 0) has.3 in
+          g.marks ∙ is_set v.mark (let e = alone bit views id v at all_parts refl h.spent in omega arith);
+    }

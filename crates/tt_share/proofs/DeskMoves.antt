@@ -1,0 +1,330 @@
+-- EachView step keeps the rule of the desk.
+use Rattle.std.proofs.Common.{◌≡◌, ℕ, zero, suc, ◌+◌, ◌-◌, ◌%◌, ◌^◌, ◌<◌, ◌≤◌, ◌≢◌, Bool, true, false, ◌||◌, List, [], ◌∷◌, ◌++◌, length, get_or, set, max, sum_by, slice_index, cond, leb, nat_eq, true≢false, refl, sym, ap, ◌∙◌, zero-add, subst, ⊎_elim, arith, zero-le}
+use Rattle.std.proofs.lemmas.Bool.Decides.{nat_tests}
+use Rattle.std.proofs.lemmas.List.Sums.{sum_by_push, sum_by-append}
+use Rattle.std.specs.List.Sorted.{IsStrictlyIncreasing}
+use mathlib.Core.Option.{some, some-injective, some-ne-none}
+use mathlib.Core.Logic.{dite}
+use native.Mathlib.Decide.{ℕ_discrete}
+use lib.ListN.{get_elem?}
+use Rattle.atomic_table.proofs.Lists.{at_set, at_snoc, set_here, set_else, at_longer}
+use Rattle.atomic_table.specs.Table.{keeps, Allows, Splits, Joins, opening}
+use Rattle.tt_share.specs.declared.rule.View.{View}
+use Rattle.tt_share.specs.declared.rule.Plan.{Plan}
+use Rattle.tt_share.specs.Desk.{blank, whole_view, one_seat, no_seat, fewer, joined, with_draw, with_mark, with_sighting, spare_count, EachView, SomeView, Counts, IsMark, IsDesk, DeskHolds, SeatState, IsNext, Draws, Raises, Looks}
+use Rattle.tt_share.specs.Seats.{last_number}
+use Rattle.tt_share.proofs.DeskLists.{at_within, sum_set, sum_at, sum_le, spare_below, none_below, below_by_weight, rising_push, rising_short, no_spares}
+
+pub each_set : (P : View → Type 0) (views : List View) (id : ℕ) (w : View) → P w → EachView P views → EachView P (set views id w)
+each_set P views id w mine all seat u at =
+    ⊎_elim (λ (x : (seat ≡ id) × (w ≡ u)). subst P x.1 mine) (λ (x : (seat ≢ id) × (get_elem? views seat ≡ some u)). all seat u x.1) (at_set views id seat w u at)
+
+-- at the view that changed, and at a new one
+each_cut : (P : View → Type 0) (views : List View) (id : ℕ) (w new : View) → P w → P new → EachView P views → EachView P (set views id w ++ new ∷ [])
+each_cut P views id w new one two all seat u is =
+    ⊎_elim (λ (was : get_elem? (set views id w) seat ≡ some u). each_set P views id w one all seat u was) (λ (same : new ≡ u). subst P same two) (at_snoc (set views id w) new u seat is)
+
+each_one : (P : View → Type 0) (v : View) → P v → EachView P (v ∷ [])
+each_one P v mine zero u at = subst P (some-injective v u at) mine
+each_one P v mine (suc i) u at = absurd (some-ne-none u (sym at))
+
+some_set : (P : View → Type 0) (views : List View) (id : ℕ) (v w : View) → get_elem? views id ≡ some v → (P v → P w) → SomeView P views → SomeView P (set views id w)
+some_set P views id v w at keep has =
+    dite (ℕ_discrete has.0 id)
+    (λ e. (id, w, set_here views id w (at_within views id v at), keep (subst P (some-injective has.1 v (sym (has.2) ∙ ap (get_elem? views) e ∙ at)) has.3)))
+    (λ ne. (has.0, has.1, set_else views id has.0 w ne ∙ has.2, has.3))
+
+no_rise : IsStrictlyIncreasing []
+no_rise k h = absurd (omega arith)
+
+-- the lists of one kind of number, and how each step changes what they count
+module _ (numbers : View → List ℕ) (limit : ℕ) where
+  weigh : (ℕ → ℕ) → View → ℕ
+  weigh weight v = sum_by weight (numbers v)
+
+  pub counts_room : (count : ℕ) (views : List View) → Counts numbers limit count views → count ≤ limit + sum_by (λ v. v.parts) views
+  counts_room count views h =
+      let spares = sum_le (λ v. spare_count limit (numbers v)) (λ v. v.parts) views h.spares in
+      let all = h.each_once (λ n. cond (leb limit n) 1 0) in
+      omega (arith, spare_below limit count)
+
+  -- each number in a view is below the count
+  pub counts_below : (count : ℕ) (views : List View) (id : ℕ) (v : View) → Counts numbers limit count views → get_elem? views id ≡ some v → (k : ℕ) → k < length (numbers v) → get_or (numbers v) k 0 < count
+  counts_below count views id v h at k lt =
+      let weight : ℕ → ℕ = λ n. cond (leb count n) 1 0 in
+      let all = h.each_once weight in
+      let nothing = none_below count count (omega arith) in
+      let mine = sum_at (λ u. sum_by weight (numbers u)) views id v at in
+      below_by_weight (numbers v) count k (omega arith) lt
+
+  counts_begin : (v : View) → numbers v ≡ [] → Counts numbers limit 0 (v ∷ [])
+  counts_begin v none_yet = record {
+    each_once = λ weight. zero-add (sum_by weight (numbers v)) ∙ ap (sum_by weight) none_yet;
+    spares = each_one (λ u. spare_count limit (numbers u) ≤ u.parts) v (subst (λ (l : List ℕ). spare_count limit l ≤ v.parts) (sym none_yet) zero-le);
+    rising = each_one (λ u. u.parts ≡ 1 → IsStrictlyIncreasing (numbers u)) v (λ _. subst IsStrictlyIncreasing (sym none_yet) no_rise);
+  }
+
+  counts_same : (count : ℕ) (views : List View) (id : ℕ) (v w : View) → Counts numbers limit count views → get_elem? views id ≡ some v → numbers w ≡ numbers v → w.parts ≡ v.parts → Counts numbers limit count (set views id w)
+  counts_same count views id v w h at same parts = record {
+    each_once = λ weight.
+        let s = sum_set (λ u. sum_by weight (numbers u)) views id v w at in
+        let e = ap (sum_by weight) same in
+        let was = h.each_once weight in omega arith;
+    spares = each_set (λ u. spare_count limit (numbers u) ≤ u.parts) views id w
+        (let was = h.spares id v at in let e = ap (spare_count limit) same in omega arith) h.spares;
+    rising = each_set (λ u. u.parts ≡ 1 → IsStrictlyIncreasing (numbers u)) views id w
+        (λ one. subst IsStrictlyIncreasing (sym same) (h.rising id v at (sym parts ∙ one))) h.rising;
+  }
+
+  counts_add : (count : ℕ) (views : List View) (id : ℕ) (v w : View) → Counts numbers limit count views → get_elem? views id ≡ some v → v.parts ≡ 1 → last_number (numbers v) < limit
+      → numbers w ≡ numbers v ++ count ∷ [] → w.parts ≡ 1 → Counts numbers limit (count + 1) (set views id w)
+  counts_add count views id v w h at one within is one' =
+      let up = h.rising id v at one in record {
+        each_once = λ weight.
+            let s = sum_set (λ u. sum_by weight (numbers u)) views id v w at in
+            let e = ap (sum_by weight) is in
+            let p = sum_by_push weight (numbers v) count in
+            let was = h.each_once weight in grind arith;
+        spares = each_set (λ u. spare_count limit (numbers u) ≤ u.parts) views id w
+            (let none_spare = no_spares (numbers v) limit up within in
+            let p = sum_by_push (λ n. cond (leb limit n) 1 0) (numbers v) count in
+            let e = ap (spare_count limit) is in grind (arith, nat_tests)) h.spares;
+        rising = each_set (λ u. u.parts ≡ 1 → IsStrictlyIncreasing (numbers u)) views id w
+            (λ _. subst IsStrictlyIncreasing (sym is) (rising_push (numbers v) count up (counts_below count views id v h at))) h.rising;
+      }
+
+  counts_cut : (count : ℕ) (views : List View) (id : ℕ) (v w new : View) → Counts numbers limit count views → get_elem? views id ≡ some v → numbers v ≡ [] → numbers w ≡ [] → numbers new ≡ []
+      → Counts numbers limit count (set views id w ++ new ∷ [])
+  counts_cut count views id v w new h at v_none w_none new_none = record {
+    each_once = λ weight.
+        let s = sum_set (λ u. sum_by weight (numbers u)) views id v w at in
+        let p = sum_by_push (λ (u : View). sum_by weight (numbers u)) (set views id w) new in
+        let a = ap (sum_by weight) v_none in
+        let b = ap (sum_by weight) w_none in
+        let c = ap (sum_by weight) new_none in
+        let was = h.each_once weight in omega arith;
+    spares = each_cut (λ u. spare_count limit (numbers u) ≤ u.parts) views id w new
+        (subst (λ (l : List ℕ). spare_count limit l ≤ w.parts) (sym w_none) zero-le)
+        (subst (λ (l : List ℕ). spare_count limit l ≤ new.parts) (sym new_none) zero-le) h.spares;
+    rising = each_cut (λ u. u.parts ≡ 1 → IsStrictlyIncreasing (numbers u)) views id w new
+        (λ _. subst IsStrictlyIncreasing (sym w_none) no_rise) (λ _. subst IsStrictlyIncreasing (sym new_none) no_rise) h.rising;
+  }
+
+  counts_join : (count : ℕ) (views : List View) (id : ℕ) (v : View) (other : ℕ) (w both left : View) → Counts numbers limit count views → get_elem? views id ≡ some v → get_elem? views other ≡ some w
+      → get_elem? (set views id both) other ≡ some w → numbers both ≡ numbers v ++ numbers w → both.parts ≡ v.parts + w.parts → numbers left ≡ [] → 0 < v.parts → 0 < w.parts
+      → Counts numbers limit count (set (set views id both) other left)
+  counts_join count views id v other w both left h at was at' is parts none_left some_v some_w = record {
+    each_once = λ weight.
+        let s = sum_set (λ u. sum_by weight (numbers u)) views id v both at in
+        let t = sum_set (λ u. sum_by weight (numbers u)) (set views id both) other w left at' in
+        let p = sum_by-append weight (numbers v) (numbers w) in
+        let e = ap (sum_by weight) is in
+        let z = ap (sum_by weight) none_left in
+        let old = h.each_once weight in omega arith;
+    spares = each_set (λ u. spare_count limit (numbers u) ≤ u.parts) (set views id both) other left
+        (subst (λ (l : List ℕ). spare_count limit l ≤ left.parts) (sym none_left) zero-le)
+        (each_set (λ u. spare_count limit (numbers u) ≤ u.parts) views id both
+        (let p = sum_by-append (λ n. cond (leb limit n) 1 0) (numbers v) (numbers w) in
+        let e = ap (spare_count limit) is in
+        let a = h.spares id v at in
+        let b = h.spares other w was in omega arith) h.spares);
+    rising = each_set (λ u. u.parts ≡ 1 → IsStrictlyIncreasing (numbers u)) (set views id both) other left
+        (λ _. subst IsStrictlyIncreasing (sym none_left) no_rise)
+        (each_set (λ u. u.parts ≡ 1 → IsStrictlyIncreasing (numbers u)) views id both (λ one. absurd (omega arith)) h.rising);
+  }
+
+-- where one view changes and keeps its parts, which are one
+parts_same : (views : List View) (id : ℕ) (v w : View) → get_elem? views id ≡ some v → w.parts ≡ v.parts → sum_by (λ u. u.parts) (set views id w) ≡ sum_by (λ u. u.parts) views
+parts_same views id v w at same = let s = sum_set (λ u. u.parts) views id v w at in omega arith
+
+spent_same : (views : List View) (id : ℕ) (w : View) → w.parts ≡ 1 → EachView (λ u. u.parts ≡ 0 → u ≡ no_seat) views → EachView (λ u. u.parts ≡ 0 → u ≡ no_seat) (set views id w)
+spent_same views id w one spent = each_set (λ u. u.parts ≡ 0 → u ≡ no_seat) views id w (λ e. absurd (omega arith)) spent
+
+mark_kept : (mark : ℕ) (views : List View) (id : ℕ) (v w : View) → get_elem? views id ≡ some v → w.mark ≡ v.mark → w.sighting ≡ v.sighting → IsMark mark views → IsMark mark (set views id w)
+mark_kept mark views id v w at same_mark same_sighting h = record {
+  bit = h.bit;
+  raised = λ is. some_set (λ u. u.mark ≡ true) views id v w at (λ p. same_mark ∙ p) (h.raised is);
+  known = each_set (λ u. (u.mark || u.sighting) ≡ true → mark ≡ 1) views id w (λ p. h.known id v at (sym (λ k. same_mark k || same_sighting k) ∙ p)) h.known;
+}
+
+pub begins : (plan : Plan) → DeskHolds plan (opening (0 ∷ 0 ∷ []) [] (whole_view plan))
+begins plan = (
+  0,
+  0,
+  refl,
+  record {
+    parts = zero-add plan.seats;
+    spent = each_one (λ u. u.parts ≡ 0 → u ≡ no_seat) (whole_view plan) (λ e. ap blank e);
+    draws = counts_begin (λ v. v.numbers) plan.jobs (whole_view plan) refl;
+    marked = record {
+      bit = zero-le;
+      raised = λ is. absurd (omega arith);
+      known = each_one (λ u. (u.mark || u.sighting) ≡ true → 0 ≡ 1) (whole_view plan) (λ p. absurd (true≢false (sym p)));
+    };
+  },
+)
+
+-- the number after a draw does not wrap
+no_wrap : (n m : ℕ) → n ≤ m → m + 1 < 2 ^ 64 → (n + 1) % 2 ^ 64 ≡ n + 1
+no_wrap n m le small = omega arith
+
+-- the number that a step finds is the view's next one
+next_one : (numbers : View → List ℕ) (limit count : ℕ) (views : List View) (id : ℕ) (v : View) → Counts numbers limit count views → get_elem? views id ≡ some v → v.parts ≡ 1 → IsNext (numbers v) count
+next_one numbers limit count views id v h at one =
+    let up = h.rising id v at one in
+    let below = counts_below numbers limit count views id v h at in (rising_push (numbers v) count up below, rising_short (numbers v) count up below)
+
+pub draws : (plan : Plan) (slots id : ℕ) (me : SeatState) → plan.jobs + plan.seats + 1 < 2 ^ 64 → me.1 ≡ [] → me.0.parts ≡ 1 → last_number me.0.numbers < plan.jobs
+    → Allows (DeskHolds plan) slots id me 0 (λ n. (n + 1) % 2 ^ 64) (λ n after. Draws me n after)
+draws plan slots id me small empty one job s h homes at fits =
+    let v : View = me.0 in
+    let here : slice_index s.words 0 ≡ h.0 = ap (λ (l : List ℕ). slice_index l 0) h.2 in
+    let room = counts_room (λ u. u.numbers) plan.jobs h.0 s.views h.3.draws in
+    let next : (slice_index s.words 0 + 1) % 2 ^ 64 ≡ h.0 + 1 = ap (λ (n : ℕ). (n + 1) % 2 ^ 64) here ∙ no_wrap h.0 (plan.jobs + plan.seats) (let p = h.3.parts in omega arith) small in
+    let w : View = with_draw v h.0 in
+    let desk : IsDesk plan (h.0 + 1) h.1 (set s.views id w) = record {
+      parts = parts_same s.views id v w at refl ∙ h.3.parts;
+      spent = spent_same s.views id w one h.3.spent;
+      draws = counts_add (λ u. u.numbers) plan.jobs h.0 s.views id v w h.3.draws at one job refl one;
+      marked = mark_kept h.1 s.views id v w at refl refl h.3.marked;
+    } in (
+      with_draw v (slice_index s.words 0),
+      keeps,
+      tt,
+      (h.0 + 1, h.1, (λ k. set (h.2 k) 0 (next k)), subst (λ (n : ℕ). IsDesk plan (h.0 + 1) h.1 (set s.views id (with_draw v n))) (sym here) desk),
+      (refl, subst (λ (n : ℕ). IsNext v.numbers n) (sym here) (next_one (λ u. u.numbers) plan.jobs h.0 s.views id v h.3.draws at one)),
+    )
+
+pub raises : (plan : Plan) (slots id : ℕ) (me : SeatState) → me.1 ≡ [] → me.0.parts ≡ 1 → Allows (DeskHolds plan) slots id me 1 (λ n. max n 1) (λ _ after. Raises me after)
+raises plan slots id me empty one s h homes at fits =
+    let v : View = me.0 in
+    let w : View = with_mark v in
+    let here : slice_index s.words 1 ≡ h.1 = ap (λ (l : List ℕ). slice_index l 1) h.2 in
+    let next : max (slice_index s.words 1) 1 ≡ 1 = let b = h.3.marked.bit in omega arith in (
+      w,
+      keeps,
+      tt,
+      (
+        h.0,
+        1,
+        (λ k. set (h.2 k) 1 (next k)),
+        record {
+          parts = parts_same s.views id v w at refl ∙ h.3.parts;
+          spent = spent_same s.views id w one h.3.spent;
+          draws = counts_same (λ u. u.numbers) plan.jobs h.0 s.views id v w h.3.draws at refl refl;
+          marked = record {
+            bit = omega arith;
+            raised = λ is. (id, w, set_here s.views id w (at_within s.views id v at), refl);
+            known = λ seat u e p. refl;
+          };
+        },
+      ),
+      refl,
+    )
+
+seen_now : (a b c : Bool) (φ : Type 0) → (a || (b || c)) ≡ true → ((a || b) ≡ true → φ) → (c ≡ true → φ) → φ
+seen_now true b c φ p old new = old refl
+seen_now false true c φ p old new = old refl
+seen_now false false c φ p old new = new p
+
+desk_looks : (plan : Plan) (drawn mark : ℕ) (views : List View) (id : ℕ) (v : View) → IsDesk plan drawn mark views → get_elem? views id ≡ some v → v.parts ≡ 1
+    → IsDesk plan drawn mark (set views id (with_sighting v (nat_eq mark 1)))
+desk_looks plan drawn mark views id v h at one = let w : View = with_sighting v (nat_eq mark 1) in record {
+  parts = parts_same views id v w at refl ∙ h.parts;
+  spent = spent_same views id w one h.spent;
+  draws = counts_same (λ u. u.numbers) plan.jobs drawn views id v w h.draws at refl refl;
+  marked = record {
+    bit = h.marked.bit;
+    raised = λ is. some_set (λ u. u.mark ≡ true) views id v w at (λ p. p) (h.marked.raised is);
+    known = each_set (λ u. (u.mark || u.sighting) ≡ true → mark ≡ 1) views id w
+        (λ p. seen_now v.mark v.sighting (nat_eq mark 1) (mark ≡ 1) p (h.marked.known id v at) (λ e. grind (arith, nat_tests))) h.marked.known;
+  };
+}
+
+pub looks : (plan : Plan) (slots id : ℕ) (me : SeatState) → me.1 ≡ [] → me.0.parts ≡ 1 → Allows (DeskHolds plan) slots id me 1 (λ n. n) (λ n after. Looks me n after)
+looks plan slots id me empty one s h homes at fits =
+    let v : View = me.0 in
+    let here : slice_index s.words 1 ≡ h.1 = ap (λ (l : List ℕ). slice_index l 1) h.2 in (
+      with_sighting v (nat_eq (slice_index s.words 1) 1),
+      keeps,
+      tt,
+      (
+        h.0,
+        h.1,
+        (λ k. set (h.2 k) 1 (here k)),
+        subst (λ (n : ℕ). IsDesk plan h.0 h.1 (set s.views id (with_sighting v (nat_eq n 1)))) (sym here) (desk_looks plan h.0 h.1 s.views id v h.3 at one),
+      ),
+      (refl, λ p. here ∙ h.3.marked.known id v at p),
+    )
+
+-- one part of a view that has made no step becomes a seat of its own
+desk_cuts : (plan : Plan) (drawn mark : ℕ) (views : List View) (id parts more : ℕ) → more ≡ parts + 1 → IsDesk plan drawn mark views → get_elem? views id ≡ some (blank more)
+    → IsDesk plan drawn mark (set views id (blank parts) ++ one_seat ∷ [])
+desk_cuts plan drawn mark views id parts more is_more h at =
+    let v : View = blank more in
+    let w : View = blank parts in record {
+      parts =
+          let s = sum_set (λ u. u.parts) views id v w at in
+          let p = sum_by_push (λ (u : View). u.parts) (set views id w) one_seat in
+          omega (arith, h.parts);
+      spent = each_cut (λ u. u.parts ≡ 0 → u ≡ no_seat) views id w one_seat (λ e. ap blank e) (λ e. ap blank e) h.spent;
+      draws = counts_cut (λ u. u.numbers) plan.jobs drawn views id v w one_seat h.draws at refl refl refl;
+      marked = record {
+        bit = h.marked.bit;
+        raised = λ is. let has = some_set (λ u. u.mark ≡ true) views id v w at (λ p. p) (h.marked.raised is) in
+            (has.0, has.1, at_longer (set views id w) (one_seat ∷ []) has.0 has.1 has.2, has.3);
+        known = each_cut (λ u. (u.mark || u.sighting) ≡ true → mark ≡ 1) views id w one_seat (λ p. absurd (true≢false (sym p))) (λ p. absurd (true≢false (sym p))) h.marked.known;
+      };
+    }
+
+pub cuts : (plan : Plan) (id : ℕ) (v : View) → v ≡ blank v.parts → 0 < v.parts → Splits (DeskHolds plan) id v (fewer v) one_seat
+cuts plan id v is_blank some_part =
+    subst (λ (u : View). Splits (DeskHolds plan) id u (fewer u) one_seat) (sym is_blank)
+    (λ s h at. (h.0, h.1, h.2, desk_cuts plan h.0 h.1 s.views id (v.parts - 1) v.parts (omega arith) h.3 at))
+
+or_true : (a b : Bool) (φ : Type 0) → (a || b) ≡ true → (a ≡ true → φ) → (b ≡ true → φ) → φ
+or_true true b φ p left right = left refl
+or_true false b φ p left right = right p
+
+pub left_true : (a b : Bool) → a ≡ true → (a || b) ≡ true
+left_true true b e = refl
+left_true false b e = absurd (true≢false (sym e))
+
+pub right_true : (a b : Bool) → b ≡ true → (a || b) ≡ true
+right_true true b e = refl
+right_true false b e = e
+
+desk_joins : (plan : Plan) (drawn mark : ℕ) (views : List View) (id : ℕ) (v : View) (other : ℕ) (w : View) → IsDesk plan drawn mark views → get_elem? views id ≡ some v
+    → ¬ (other ≡ id) → get_elem? (set views id (joined v w)) other ≡ some w → 0 < v.parts → 0 < w.parts → IsDesk plan drawn mark (set (set views id (joined v w)) other no_seat)
+desk_joins plan drawn mark views id v other w h at two at' some_v some_w =
+    let both : View = joined v w in
+    let mid : List View = set views id both in
+    let was : get_elem? views other ≡ some w = sym (set_else views id other both two) ∙ at' in
+    let apart : id ≢ other = λ e. two (sym e) in
+    let all : (P : View → Type 0) → P both → P no_seat → EachView P views → EachView P (set mid other no_seat) = λ P one none_left old.
+    each_set P mid other no_seat none_left (each_set P views id both one old) in
+    let keep_both : get_elem? (set mid other no_seat) id ≡ some both = set_else mid other id no_seat apart ∙ set_here views id both (at_within views id v at) in record {
+      parts =
+          let s = sum_set (λ u. u.parts) views id v both at in
+          let t = sum_set (λ u. u.parts) mid other w no_seat at' in
+          omega (arith, h.parts);
+      spent = all (λ u. u.parts ≡ 0 → u ≡ no_seat) (λ e. absurd (omega arith)) (λ e. refl) h.spent;
+      draws = counts_join (λ u. u.numbers) plan.jobs drawn views id v other w both no_seat h.draws at was at' refl refl refl some_v some_w;
+      marked = record {
+        bit = h.marked.bit;
+        raised = λ is. let has = h.marked.raised is in
+            dite (ℕ_discrete has.0 other)
+            (λ e. (id, both, keep_both, right_true v.mark w.mark (subst (λ (u : View). u.mark ≡ true) (some-injective has.1 w (sym has.2 ∙ ap (get_elem? views) e ∙ was)) has.3)))
+            (λ ne. dite (ℕ_discrete has.0 id)
+            (λ e. (id, both, keep_both, left_true v.mark w.mark (subst (λ (u : View). u.mark ≡ true) (some-injective has.1 v (sym has.2 ∙ ap (get_elem? views) e ∙ at)) has.3)))
+            (λ ne'. (has.0, has.1, set_else mid other has.0 no_seat ne ∙ (set_else views id has.0 both ne' ∙ has.2), has.3)));
+        known = all (λ u. (u.mark || u.sighting) ≡ true → mark ≡ 1)
+            (λ p. or_true (v.mark || w.mark) (v.sighting || w.sighting) (mark ≡ 1) p
+            (λ q. or_true v.mark w.mark (mark ≡ 1) q (λ r. h.marked.known id v at (left_true v.mark v.sighting r)) (λ r. h.marked.known other w was (left_true w.mark w.sighting r)))
+            (λ q. or_true v.sighting w.sighting (mark ≡ 1) q (λ r. h.marked.known id v at (right_true v.mark v.sighting r)) (λ r. h.marked.known other w was (right_true w.mark w.sighting r))))
+            (λ p. absurd (true≢false (sym p))) h.marked.known;
+      };
+    }
+
+pub joins : (plan : Plan) (id : ℕ) (v : View) (other : ℕ) (w : View) → 0 < v.parts → 0 < w.parts → Joins (DeskHolds plan) id v other w (joined v w) no_seat
+joins plan id v other w some_v some_w s h at two at' = (h.0, h.1, h.2, desk_joins plan h.0 h.1 s.views id v other w h.3 at two at' some_v some_w)

@@ -1,0 +1,11 @@
+pub mod DeskLists
+pub mod DeskMoves
+pub mod DeskClosing
+pub mod PlainDesk
+pub mod NodeCounts
+pub mod PlaceLemmas
+pub mod Lost
+pub mod StuckBehind
+pub mod Found
+pub mod Sending
+pub mod Places

@@ -1,0 +1,114 @@
+-- One more proof in a table, and what the place of a key says.
+use Rattle.std.proofs.Math.Nat.{zero-add}
+use Rattle.std.proofs.Common.{rules, ◌≡◌, ℕ, ◌+◌, ◌-◌, ◌^◌, ◌<◌, ◌≤◌, min, Bool, true, false, cond, List, [], ◌∷◌, ◌++◌, Some, slice_get, Result, Ok, Err, OnOk, get_or, zero, suc, length, map, refl, sym, ap, subst, ◌∙◌, arith}
+use Rattle.std.proofs.lemmas.List.{map-append}
+use Rattle.std.proofs.lemmas.Option.{slice_get_read, slice_get-map}
+use Rattle.std.specs.Option.{option_map}
+use Rattle.std.proofs.lemmas.List.Sums.{sum_by-append}
+use Rattle.std.specs.Cmp.{IsEquivalence}
+use Rattle.std.specs.HashMap.{HashMap}
+use Rattle.std.specs.Result.{is_err}
+use Rattle.std.specs.declared.vec.Vec.{Vec}
+use Rattle.std.specs.declared.alloc.Global.{Global}
+use Rattle.tt_sgf.specs.SizeLaws.{sizes_same}
+use Rattle.tt_game.specs.declared.keys.Key.{Key}
+use Rattle.tt_game.specs.Keys.{key_of}
+use Rattle.tt_game.specs.contracts.keys.KeyEq.TheImpl.Laws as key_laws
+use Rattle.tt_proof.specs.Proven.{Proven}
+use Rattle.tt_share.specs.Nodes.{nodes}
+use Rattle.tt_share.specs.Places.{places_at, IsIndexOf}
+use Rattle.tt_share.specs.Table.{same_key, places_from, places_of, nodes_of}
+
+pub same_key_equiv : IsEquivalence same_key
+same_key_equiv = (key_laws.lawful).laws
+
+same_keys : (a b : Key) → a.size ≡ b.size → a.region ≡ b.region → a.target ≡ b.target → a.defender ≡ b.defender → a.black ≡ b.black
+    → a.white ≡ b.white → a.to_move ≡ b.to_move → a.passes ≡ b.passes → a ≡ b
+same_keys a b e f g h j k l m = rw (e, f, g, h, j, k, l, m)
+
+pub same_key_same : (a b : Key) → same_key a b ≡ true → a ≡ b
+same_key_same a b e =
+    let columns : a.size.columns ≡ b.size.columns = grind (arith, e) in
+    let rows : a.size.rows ≡ b.size.rows = grind (arith, e) in
+    let region : a.region ≡ b.region = search (rules, e) in
+    let target : a.target ≡ b.target = search (rules, e) in
+    let defender : a.defender ≡ b.defender = search (rules, e) in
+    let black : a.black ≡ b.black = search (rules, e) in
+    let white : a.white ≡ b.white = search (rules, e) in
+    let to_move : a.to_move ≡ b.to_move = search (rules, e) in
+    let passes : a.passes ≡ b.passes = search (rules, e) in
+    same_keys a b (sizes_same a.size b.size columns rows) region target defender black white to_move passes
+
+pub same_key_is : (a b : Key) → a ≡ b → same_key a b ≡ true
+same_key_is a b e = subst (λ c. same_key a c ≡ true) e (same_key_equiv.refl a)
+
+-- one more element has its place at the end, if it passes
+pub places-snoc : {X : Type 0} (t : X → Bool) (n : ℕ) (xs : List X) (x : X) → places_from t n (xs ++ x ∷ []) ≡ cond (t x) (places_from t n xs ++ (n + length xs) ∷ []) (places_from t n xs)
+places-snoc t n [] x = grind arith
+places-snoc t n (y ∷ ys) x = let e = places-snoc t (n + 1) ys x in grind (arith, e)
+
+snoc_at : (b : Bool) (places : List ℕ) (m n : ℕ) → m ≡ n → cond b (places ++ m ∷ []) places ≡ cond b (places ++ n ∷ []) places
+snoc_at b places m n e = ap (λ i. cond b (places ++ i ∷ []) places) e
+
+pub index-snoc : {S : Type 0} (old new : HashMap Key (Vec ℕ Global) S) (ps : List Proven) (p : Proven) (key : Key) (place : ℕ) → place ≡ length ps → key ≡ key_of p.frame p.state → IsIndexOf old ps
+    → ((q : Key) → places_at same_key new q ≡ cond (same_key key q) (places_at same_key old q ++ place ∷ []) (places_at same_key old q))
+    → IsIndexOf new (ps ++ p ∷ [])
+index-snoc old new ps p key place at same was step q =
+    let test = λ (d : Proven). same_key q (key_of d.frame d.state) in
+    let e = places-snoc test 0 ps p in
+    let s : same_key key q ≡ test p = same_key_equiv.symm key q ∙ ap (λ k. same_key q k) same in
+    step q
+    ∙ ap (λ places. cond (same_key key q) (places ++ place ∷ []) places) (was q)
+    ∙ ap (λ b. cond b (places_from test 0 ps ++ place ∷ []) (places_from test 0 ps)) s
+    ∙ snoc_at (test p) (places_from test 0 ps) place (0 + length ps) (at ∙ sym (zero-add (length ps)))
+    ∙ sym e
+
+pub nodes-snoc : (ps : List Proven) (p : Proven) (total n : ℕ) → total ≡ nodes_of ps → n ≡ min (total + min (nodes p.tree) (2 ^ 64 - 1)) (2 ^ 64 - 1) → n ≡ nodes_of (ps ++ p ∷ [])
+nodes-snoc ps p total n was is = let e = sum_by-append (λ (d : Proven). nodes d.tree) ps (p ∷ []) in grind (arith, e)
+
+pub map-snoc : {A B : Type 0} (f : A → B) (xs ys zs : List A) (x : A) → ys ≡ xs → zs ≡ ys ++ x ∷ [] → map f zs ≡ map f xs ++ f x ∷ []
+map-snoc f xs ys zs x e d = let a = map-append f xs (x ∷ []) in rw (d, e, a) refl
+
+pub on_no_err : {T E P : Type 0} (r : Result T E) → is_err r ≡ false → OnOk r P → P
+on_no_err (Ok x) e p = p
+on_no_err (Err x) e p = absurd (grind (arith, e))
+
+-- no place is below the first
+low_step : (b : Bool) (n : ℕ) (ps : List ℕ) (j : ℕ) → ((k : ℕ) → k < length ps → n + 1 ≤ get_or ps k 0) → j < length (cond b (n ∷ ps) ps) → n ≤ get_or (cond b (n ∷ ps) ps) j 0
+low_step true n ps zero low h = omega arith
+low_step true n ps (suc j) low h = let e = low j (omega (arith, h)) in omega (arith, e)
+low_step false n ps j low h = let e = low j h in omega (arith, e)
+
+place_low : {X : Type 0} (t : X → Bool) (n : ℕ) (xs : List X) (j : ℕ) → j < length (places_from t n xs) → n ≤ get_or (places_from t n xs) j 0
+place_low t n [] j h = omega (arith, h)
+place_low t n (y ∷ ys) j h = low_step (t y) n (places_from t (n + 1) ys) j (place_low t (n + 1) ys) h
+
+pass_step : {X : Type 0} (t : X → Bool) (b : Bool) (n : ℕ) (x y : X) (ys : List X) (ps : List ℕ) (i j : ℕ) → t y ≡ b
+    → ((k : ℕ) → k < length ps → n + 1 ≤ get_or ps k 0)
+    → ((k l : ℕ) → k < length ps → get_or ps k 0 ≡ n + 1 + l → slice_get ys l ≡ Some x → t x ≡ true)
+    → j < length (cond b (n ∷ ps) ps) → get_or (cond b (n ∷ ps) ps) j 0 ≡ n + i → slice_get (y ∷ ys) i ≡ Some x → t x ≡ true
+pass_step t true n x y ys ps zero j e low rest h at is = let same : y ≡ x = cc is in subst (λ z. t z ≡ true) same e
+pass_step t true n x y ys ps (suc i) zero e low rest h at is = absurd (omega (arith, at))
+pass_step t true n x y ys ps (suc i) (suc j) e low rest h at is = rest j i (omega (arith, h)) (omega (arith, at)) is
+pass_step t false n x y ys ps zero j e low rest h at is = let l = low j h in absurd (omega (arith, at, l))
+pass_step t false n x y ys ps (suc i) j e low rest h at is = rest j i h (omega (arith, at)) is
+
+-- what stands at a place passes the test
+pub place_passes : {X : Type 0} (t : X → Bool) (n : ℕ) (xs : List X) (x : X) (j i : ℕ) → j < length (places_from t n xs) → get_or (places_from t n xs) j 0 ≡ n + i → slice_get xs i ≡ Some x → t x ≡ true
+place_passes t n [] x j i h at is = absurd (omega (arith, h))
+place_passes t n (y ∷ ys) x j i h at is =
+    pass_step t (t y) n x y ys (places_from t (n + 1) ys) i j refl (place_low t (n + 1) ys)
+    (λ k l inside at_k is_l. place_passes t (n + 1) ys x k l inside at_k is_l) h at is
+
+has_key : (k : Key) (ps : List Proven) (p : Proven) (j : ℕ) → j < length (places_of k ps) → slice_get ps (get_or (places_of k ps) j 0) ≡ Some p → key_of p.frame p.state ≡ k
+has_key k ps p j h is =
+    let at = sym (zero-add (get_or (places_of k ps) j 0)) in
+    sym (same_key_same k (key_of p.frame p.state) (place_passes (λ (d : Proven). same_key k (key_of d.frame d.state)) 0 ps p j (get_or (places_of k ps) j 0) h at is))
+
+-- what stands at a place of the key has the key
+pub has_key_at : {A : Type 0} (value : A → Proven) (k : Key) (xs : List A) (ps : List Proven) (x : A) (places : List ℕ) (j : ℕ) → map value xs ≡ ps → places ≡ places_of k ps → j < length places
+    → get_or places j 0 < length xs → x ≡ get_or xs (get_or places j 0) x → key_of (value x).frame (value x).state ≡ k
+has_key_at value k xs ps x places j all are h inside is =
+    let at : slice_get xs (get_or places j 0) ≡ Some x = slice_get_read xs (length xs) (get_or places j 0) x refl inside is in
+    let there : slice_get (map value xs) (get_or places j 0) ≡ Some (value x) = slice_get-map value xs (get_or places j 0) ∙ ap (option_map value) at in
+    has_key k ps (value x) j (subst (λ l. j < length l) are h) (subst (λ l. slice_get ps (get_or l j 0) ≡ Some (value x)) are (subst (λ l. slice_get l (get_or places j 0) ≡ Some (value x)) all there))

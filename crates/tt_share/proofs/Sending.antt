@@ -1,0 +1,131 @@
+-- What workers hand back may cross threads: a seat, a proof, a search. Types that hold themselves are taken layer by layer.
+use denote.RattleType.{RattleType}
+use denote.Hole.Fix.{holes}
+use denote.Hole.FixSend.{Sends, Syncs, fix_send, fix_sync}
+use mathlib.Core.Path.{◌≡◌}
+use denote.Model.Cut.{rejoined, split_one}
+use denote.Model.Local.{Parts, rows}
+use denote.Model.Marks.{tied_send}
+use denote.Param.Send.{IsSend, IsSync, view_send, view_sync, recorded_send, sendable}
+use denote.Param.SendFields.{as_row_send, as_row_sync, declared_send, declared_sync}
+use denote.Struct.Field.{u32-field}
+use Rattle.std.proofs.Crossing.{crosses}
+use Rattle.std.specs.contracts.alloc.Global as Global
+use Rattle.std.specs.contracts.impls.GlobalAllocator.TheImpl.{ghosts}
+use Rattle.std.specs.contracts.sync.Arc as Arc
+use Rattle.std.specs.contracts.vec.Vec as Vec
+use Rattle.atomic_table.specs.contracts.shared.Seat as TableSeat
+use Rattle.atomic_table.proofs.Sent.{seat_keyless}
+use Rattle.tt_game.specs.contracts.frame.Side as Side
+use Rattle.tt_game.specs.contracts.line.Line as Line
+use Rattle.tt_game.specs.contracts.turns.Turn as Turn
+use Rattle.tt_proof.specs.contracts.tree.Tree as Tree
+use Rattle.tt_proof.specs.contracts.tree.Tree.TheKnot as TreeKnot
+use Rattle.tt_proof.specs.contracts.proven.Proof as Proof
+use Rattle.tt_proof.specs.contracts.proven.Proof.TheInside as Inside
+use Rattle.tt_search.specs.contracts.limits.Limits as Limits
+use Rattle.tt_search.specs.contracts.node.Node as Node
+use Rattle.tt_search.specs.contracts.node.Node.TheKnot as NodeKnot
+use Rattle.tt_search.specs.declared.node.Node.TheDeep as Deep
+use Rattle.tt_search.specs.contracts.search.Search as Search
+use Rattle.tt_search.specs.contracts.search.Search.TheInside as Within
+use Rattle.tt_share.specs.contracts.desk.Seat as Seat
+use Rattle.tt_share.specs.contracts.jobs.Found as Found
+use Rattle.tt_share.specs.contracts.workers.HandedBack as HandedBack
+
+line_send : IsSend Line.the_row
+line_send = search (sendable, crosses) depth 40
+
+line_sync : IsSync Line.the_row
+line_sync = search (sendable, crosses) depth 40
+
+tree_layer_send : (h : TreeKnot.the_members → RattleType) → IsSend (h TreeKnot.member-Tree) → IsSend (TreeKnot.layer-Tree (h TreeKnot.member-Tree) (h TreeKnot.member-Tree))
+tree_layer_send h below = search (sendable, crosses) depth 40
+
+tree_layer_sync : (h : TreeKnot.the_members → RattleType) → IsSync (h TreeKnot.member-Tree) → IsSync (TreeKnot.layer-Tree (h TreeKnot.member-Tree) (h TreeKnot.member-Tree))
+tree_layer_sync h below = search (sendable, crosses) depth 40
+
+tree_hole_send : (i : TreeKnot.the_members) → IsSend (holes TreeKnot.ring i)
+tree_hole_send = fix_send TreeKnot.ring (Tree.by_members (λ i. Sends TreeKnot.ring i) (record { send = λ h all. tree_layer_send h (all TreeKnot.member-Tree) }))
+
+tree_hole_sync : (i : TreeKnot.the_members) → IsSync (holes TreeKnot.ring i)
+tree_hole_sync = fix_sync TreeKnot.ring (Tree.by_members (λ i. Syncs TreeKnot.ring i) (record { sync = λ h all. tree_layer_sync h (all TreeKnot.member-Tree) }))
+
+tree_hole : IsSend TreeKnot.hole-Tree
+tree_hole = record { owned = (tree_hole_send TreeKnot.member-Tree).owned; leaving = λ k x w. tt }
+
+tree_hole_shared : IsSync TreeKnot.hole-Tree
+tree_hole_shared = record { shared = (tree_hole_sync TreeKnot.member-Tree).shared }
+
+tree_send : IsSend Tree.the_row
+tree_send = search (sendable, crosses, tree_hole) depth 40
+
+tree_sync : IsSync Tree.the_row
+tree_sync = search (sendable, crosses, tree_hole_shared) depth 40
+
+side_send : IsSend Side.the_row
+side_send = search (sendable, crosses) depth 40
+
+side_sync : IsSync Side.the_row
+side_sync = search (sendable, crosses) depth 40
+
+proof_send : IsSend Proof.the_row
+proof_send = view_send _ _ _ _ _ (declared_send Inside.the_type (as_row_send Line.the_field line_send, (side_send, (tree_send, tt))))
+
+proof_sync : IsSync Proof.the_row
+proof_sync = view_sync _ _ _ _ _ (declared_sync Inside.the_type (as_row_sync Line.the_field line_sync, (side_sync, (tree_sync, tt))))
+
+shared_send : IsSend (Arc.the_row Proof.the_row Global.the_row ghosts)
+shared_send = search (sendable, crosses, proof_send, proof_sync) depth 40
+
+turns_send : IsSend (Vec.the_row Turn.the_row Global.the_row ghosts)
+turns_send = search (sendable, crosses) depth 40
+
+module _ (h : RattleType) (below : IsSend h) where
+  expansion_layer : IsSend (NodeKnot.layer-Expansion h)
+  expansion_layer = search (sendable, crosses, turns_send) depth 40
+
+  growth_layer : IsSend (NodeKnot.layer-Growth h)
+  growth_layer = search (sendable, crosses, shared_send) depth 40
+
+  node_layer : IsSend (NodeKnot.layer-Node h)
+  node_layer = search (sendable, crosses) depth 40
+
+rejoined_send : (R : RattleType) (D : Type 0) (split : D → R.Denot) (join : R.Denot → D) (joins : (d : D) → join (split d) ≡ d) → IsSend R → IsSend (rejoined R D split join joins)
+rejoined_send R D split join joins = recorded_send R D split (split_one R D split join joins)
+
+node_keeps : (p : Parts NodeKnot.frame) → ((j : Deep.the_members) → IsSend (rows NodeKnot.frame p j)) → (i : Deep.the_members) → IsSend (rows NodeKnot.frame (NodeKnot.step p) i)
+node_keeps p all Deep.member-Node =
+    let expansion : IsSend (NodeKnot.at-Expansion p) = rejoined_send _ _ Deep.split-Expansion Deep.join-Expansion Deep.joins-Expansion (expansion_layer _ (all Deep.member-Node)) in
+    let growth : IsSend (NodeKnot.at-Growth p) = rejoined_send _ _ Deep.split-Growth Deep.join-Growth Deep.joins-Growth (growth_layer _ expansion) in
+    let node : IsSend (NodeKnot.at-Node p) = rejoined_send _ _ Deep.split-Node Deep.join-Node Deep.joins-Node (node_layer _ growth) in
+    let view : IsSend (NodeKnot.view-Node p) = view_send _ _ _ _ _ node in
+    record { owned = view.owned; leaving = λ k x w. tt }
+
+node_send : IsSend Node.the_row
+node_send = tied_send NodeKnot.frame NodeKnot.step NodeKnot.sizes node_keeps Deep.member-Node
+
+limits_send : IsSend Limits.the_row
+limits_send = search (sendable, crosses) depth 40
+
+number_send : IsSend u32-field.row
+number_send = search sendable
+
+global_send : IsSend Global.the_row
+global_send = search (sendable, crosses)
+
+search_send : IsSend Search.the_row
+search_send = view_send _ _ _ _ _ (declared_send Within.the_type
+    (global_send, (as_row_send Line.the_field line_send, (limits_send, (as_row_send Node.the_field node_send, (as_row_send u32-field number_send, tt))))))
+
+found_send : IsSend Found.the_row
+found_send = search (sendable, crosses, proof_send, search_send) depth 40
+
+table_seat_send : (S V : RattleType) → IsSend S → IsSend (TableSeat.the_row S V)
+table_seat_send S V s = record { owned = λ d vs. ((λ vss. (tt, ((λ uss. (tt, tt)), tt))), seat_keyless S s V.coded.code d.table_id d.id d.me); leaving = λ k f vs. tt }
+
+seat_send : IsSend Seat.the_row
+seat_send = search (sendable, crosses, table_seat_send) depth 40
+
+pub handed_back_send : IsSend HandedBack.the_row
+handed_back_send = search (sendable, crosses, found_send, seat_send) depth 40

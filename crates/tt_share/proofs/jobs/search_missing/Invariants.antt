@@ -1,0 +1,6 @@
+use Rattle.std.proofs.Common.{◌≡◌, vec_len}
+use Rattle.tt_share.specs.Jobs.{AllFit}
+use Rattle.tt_share.proofs.jobs.search_missing.Given as goal
+
+abbrev pub invariant-loop-job : goal.invariant-loop-job
+invariant-loop-job g l = AllFit l.line l.limits l.slots.items × (vec_len l.slots ≡ vec_len l.initial.slots)

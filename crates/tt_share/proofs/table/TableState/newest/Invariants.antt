@@ -1,0 +1,9 @@
+use Rattle.std.proofs.Common.{◌≡◌, ◌≤◌, length}
+use Rattle.tt_share.specs.Table.{places_of}
+use Rattle.tt_share.proofs.table.TableState.newest.Given as goal
+
+abbrev pub invariant-loop-left : goal.invariant-loop-left
+invariant-loop-left l = (l.places ≡ places_of l.k l.self) × (l.left ≤ length l.places)
+
+abbrev pub decreases-loop-left : goal.decreases-loop-left
+decreases-loop-left l = l.left

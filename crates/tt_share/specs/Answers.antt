@@ -1,0 +1,63 @@
+-- What the answer to a line says.
+use Rattle.std.specs.Prelude.{◌≡◌, ℕ, ◌+◌, ◌<◌, ◌≤◌, ◌↔◌, ◌⊎◌, Option, Some, IsSome}
+use Rattle.std.specs.Arc.{arc_value}
+use Rattle.tt_game.specs.declared.frame.Frame.{Frame}
+use Rattle.tt_game.specs.declared.turns.Turn.{Turn}
+use Rattle.tt_game.specs.declared.turns.Turn.TheVariants.{Pass}
+use Rattle.tt_game.specs.Game.{State, IsLegal, after, opponent, Forces}
+use Rattle.tt_game.specs.Line.{Standing}
+use Rattle.tt_game.specs.Turns.{turn_number}
+use Rattle.tt_proof.specs.Strategy.{depth}
+use Rattle.tt_proof.specs.Proven.{Proven, StandsAt, first_of}
+use Rattle.tt_search.specs.declared.limits.Limits.{Limits}
+use Rattle.tt_search.specs.declared.limits.Reason.{Reason}
+use Rattle.tt_search.specs.declared.limits.Reason.TheVariants.{Budget, Depth, Memory}
+use Rattle.tt_search.specs.Growing.{IsGrown}
+use Rattle.tt_search.specs.Searched.{Searched, IsStuckFor}
+use Rattle.tt_share.specs.declared.answer.Answer.{Answer}
+use Rattle.tt_share.specs.declared.answer.Answer.TheVariants.{Settled, Unsettled}
+use Rattle.tt_share.specs.declared.answer.Stuck.{Stuck}
+
+-- the proof stands at the line, within the limit on depth; its first turn is there exactly where its side is to move
+pub record IsSettled (line : Standing) (limits : Limits) (p : Proven) (first : Option Turn) : Type 0 where
+  pub stands : StandsAt p line.frame line.state
+  pub low : depth p.tree ≤ limits.depth
+  pub first_is : first ≡ first_of p.tree
+  pub shown : IsSome first ↔ (p.side ≡ line.state.to_move)
+
+-- the search is on the line after the turn, under the same budget and a depth one less
+pub record IsBehind (line : Standing) (limits : Limits) (t : Turn) (search : Searched) : Type 0 where
+  pub frame : search.line.frame ≡ line.frame
+  pub state : search.line.state ≡ after line.frame line.state t
+  pub budget : search.limits.budget ≡ limits.budget
+  pub depth_is : search.limits.depth + 1 ≡ limits.depth
+
+-- after each legal turn of a lesser number the side that is not to move can force its win
+abbrev pub LesserLose : Frame → State → Turn → Type 0
+LesserLose f s t =
+    (u : Turn) → IsLegal f s u → turn_number f u < turn_number f t → (n : ℕ) × Forces f (opponent s.to_move) n (after f s u)
+
+-- the turn is legal, the grown search behind it is stuck for the reason, and the lesser turns lose
+pub record IsStuckBehind (line : Standing) (limits : Limits) (reason : Reason) (t : Turn) (search : Searched) : Type 0 where
+  pub legal : IsLegal line.frame line.state t
+  pub behind : IsBehind line limits t search
+  pub grown : IsGrown search.limits search.line.frame search.line.state search.tree
+  pub stuck_for : IsStuckFor reason search
+  pub lesser : LesserLose line.frame line.state t
+
+-- memory was refused: outside a job the turn is a pass, inside one it is the job's, and the lesser turns lose; a search
+-- that is held is behind that turn
+pub record IsRefused (line : Standing) (limits : Limits) (stuck : Stuck) : Type 0 where
+  pub turn : (stuck.turn ≡ Pass) ⊎ (IsLegal line.frame line.state stuck.turn × LesserLose line.frame line.state stuck.turn)
+  pub behind : (search : Searched) → stuck.search ≡ Some search → IsBehind line limits stuck.turn search × IsGrown search.limits search.line.frame search.line.state search.tree
+
+-- the search that is held is stuck behind the turn, or memory was refused
+abbrev pub IsUnsettled : Standing → Limits → Reason → Stuck → Type 0
+IsUnsettled line limits Budget stuck = (search : Searched) × (stuck.search ≡ Some search) × IsStuckBehind line limits Budget stuck.turn search
+IsUnsettled line limits Depth stuck = (search : Searched) × (stuck.search ≡ Some search) × IsStuckBehind line limits Depth stuck.turn search
+IsUnsettled line limits Memory stuck = IsRefused line limits stuck
+
+-- a proof of the line and its first turn, or what is stuck
+abbrev pub IsAnswer : Standing → Limits → Answer → Type 0
+IsAnswer line limits (Settled proof first) = IsSettled line limits (arc_value proof) first
+IsAnswer line limits (Unsettled stuck) = IsUnsettled line limits stuck.reason stuck

@@ -1,0 +1,101 @@
+-- The rule of a desk. Word 0 counts the draws, and word 1 is the mark that stops them.
+use Rattle.std.specs.Prelude.{◌≡◌, ℕ, zero, suc, ◌+◌, ◌-◌, ◌≤◌, Bool, true, false, ◌||◌, leb, nat_eq, List, [], ◌∷◌, ◌++◌, length, sum_by, count_by}
+use Rattle.std.specs.List.Sorted.{IsStrictlyIncreasing}
+use mathlib.Core.Option.{some}
+use lib.ListN.{get_elem?}
+use Rattle.atomic_table.specs.Table.{State, Me}
+use Rattle.tt_share.specs.declared.rule.View.{View}
+use Rattle.tt_share.specs.declared.rule.Plan.{Plan}
+
+abbrev pub view_of : ℕ → List ℕ → Bool → Bool → View
+view_of parts numbers mark sighting = record { parts = parts; numbers = numbers; mark = mark; sighting = sighting }
+
+-- a view that has made no step
+abbrev pub blank : ℕ → View
+blank parts = view_of parts [] false false
+
+-- the view of the one seat that a new desk has
+abbrev pub whole_view : Plan → View
+whole_view plan = blank plan.seats
+
+-- the view of a seat that was handed out
+abbrev pub one_seat : View
+one_seat = blank 1
+
+-- what a join leaves behind
+abbrev pub no_seat : View
+no_seat = blank 0
+
+abbrev pub fewer : View → View
+fewer v = view_of (v.parts - 1) v.numbers v.mark v.sighting
+
+abbrev pub joined : View → View → View
+joined v w = view_of (v.parts + w.parts) (v.numbers ++ w.numbers) (v.mark || w.mark) (v.sighting || w.sighting)
+
+abbrev pub with_draw : View → ℕ → View
+with_draw v n = view_of v.parts (v.numbers ++ n ∷ []) v.mark v.sighting
+
+abbrev pub with_mark : View → View
+with_mark v = view_of v.parts v.numbers true v.sighting
+
+abbrev pub with_sighting : View → Bool → View
+with_sighting v seen = view_of v.parts v.numbers v.mark (v.sighting || seen)
+
+-- the weights of the numbers below n, added up
+abbrev pub weight_below : (ℕ → ℕ) → ℕ → ℕ
+weight_below weight zero = 0
+weight_below weight (suc n) = weight_below weight n + weight n
+
+-- how many of the numbers are spare: not below the limit, so no jobs
+abbrev pub spare_count : ℕ → List ℕ → ℕ
+spare_count limit numbers = count_by (λ n. leb limit n) numbers
+
+-- each view that is there meets P
+abbrev pub EachView : (View → Type 0) → List View → Type 0
+EachView P views = (seat : ℕ) (v : View) → get_elem? views seat ≡ some v → P v
+
+-- some view that is there meets P
+abbrev pub SomeView : (View → Type 0) → List View → Type 0
+SomeView P views = (seat : ℕ) × (v : View) × (get_elem? views seat ≡ some v) × P v
+
+-- The numbers in the views' lists are those below `count`, each once: however numbers are weighed, both weigh the same.
+-- A view has at most as many numbers that are not below the limit as it has parts, and with one part its numbers rise
+pub record Counts (numbers : View → List ℕ) (limit count : ℕ) (views : List View) : Type 0 where
+  pub each_once : (weight : ℕ → ℕ) → sum_by (λ v. sum_by weight (numbers v)) views ≡ weight_below weight count
+  pub spares : EachView (λ v. spare_count limit (numbers v) ≤ v.parts) views
+  pub rising : EachView (λ v. v.parts ≡ 1 → IsStrictlyIncreasing (numbers v)) views
+
+-- the mark is raised only where some view has its mark, and a mark or a sighting in any view says that it is
+pub record IsMark (mark : ℕ) (views : List View) : Type 0 where
+  pub bit : mark ≤ 1
+  pub raised : mark ≡ 1 → SomeView (λ v. v.mark ≡ true) views
+  pub known : EachView (λ v. (v.mark || v.sighting) ≡ true → mark ≡ 1) views
+
+-- The parts of all views are the desk's seats, and a view with no part holds nothing
+pub record IsDesk (plan : Plan) (drawn mark : ℕ) (views : List View) : Type 0 where
+  pub parts : sum_by (λ v. v.parts) views ≡ plan.seats
+  pub spent : EachView (λ v. v.parts ≡ 0 → v ≡ no_seat) views
+  pub draws : Counts (λ v. v.numbers) plan.jobs drawn views
+  pub marked : IsMark mark views
+
+-- What holds between any two steps: the first word counts the draws, the second is the mark
+abbrev pub DeskHolds : Plan → State (Unit {0}) View → Type 0
+DeskHolds plan s = (drawn : ℕ) × (mark : ℕ) × (s.words ≡ drawn ∷ mark ∷ []) × IsDesk plan drawn mark s.views
+
+abbrev pub SeatState : Type 0
+SeatState = Me (Unit {0}) View
+
+-- the number that was found is the seat's next one: its numbers rise, and it is no less than the count of those before
+abbrev pub IsNext : List ℕ → ℕ → Type 0
+IsNext numbers n = IsStrictlyIncreasing (numbers ++ n ∷ []) × (length numbers ≤ n)
+
+abbrev pub Draws : SeatState → ℕ → SeatState → Type 0
+Draws before found after = (after ≡ (with_draw before.0 found, before.1)) × IsNext before.0.numbers found
+
+abbrev pub Raises : SeatState → SeatState → Type 0
+Raises before after = after ≡ (with_mark before.0, before.1)
+
+-- what was found is seen, and where this seat raised or saw the mark before, it was found
+abbrev pub Looks : SeatState → ℕ → SeatState → Type 0
+Looks before found after =
+    (after ≡ (with_sighting before.0 (nat_eq found 1), before.1)) × ((before.0.mark || before.0.sighting) ≡ true → found ≡ 1)

@@ -1,0 +1,10 @@
+pub mod Answers
+pub mod Jobs
+pub mod Workers
+pub mod Desk
+pub mod Seats
+pub mod DeskLaw
+pub mod Gathering
+pub mod Nodes
+pub mod Places
+pub mod Table

@@ -1,0 +1,74 @@
+-- What contracts see of a desk and of a seat.
+use Rattle.std.specs.Prelude.{◌≡◌, ℕ, ◌+◌, ◌-◌, ◌<◌, ◌≤◌, Bool, false, ltb, cond, List, [], ◌∷◌, ◌++◌, length, slice_index, Option, Some, None, sum_by, count_by, nat_eq, IsTrue, All, Contains}
+use Rattle.std.specs.List.{list_any}
+use Rattle.std.specs.List.Sorted.{IsStrictlyIncreasing}
+use Rattle.atomic_table.specs.Seated.{TableId}
+
+-- which desk it is, and how many jobs and seats it has
+pub record DeskView : Type 0 where
+  pub id : TableId
+  pub jobs : ℕ
+  pub seats : ℕ
+
+-- the desk that made the seat, the numbers that the seat drew, whether it raised the mark and whether it saw it
+pub record SeatView : Type 0 where
+  pub desk : TableId
+  pub numbers : List ℕ
+  pub mark : Bool
+  pub sighting : Bool
+
+abbrev pub seat_of : TableId → List ℕ → Bool → Bool → SeatView
+seat_of desk numbers mark sighting = record { desk = desk; numbers = numbers; mark = mark; sighting = sighting }
+
+-- a seat that has made no step
+abbrev pub fresh : TableId → SeatView
+fresh desk = seat_of desk [] false false
+
+-- the last number, or 0 where there is none
+abbrev pub last_number : List ℕ → ℕ
+last_number numbers = slice_index numbers (length numbers - 1)
+
+-- the list ends with a spare number: one that is not below the limit, so no job
+abbrev pub EndsSpare : ℕ → List ℕ → Type 0
+EndsSpare limit numbers = limit ≤ last_number numbers
+
+-- n joins numbers that rise
+pub record Joins (before : List ℕ) (n : ℕ) (after : List ℕ) : Type 0 where
+  pub added : after ≡ before ++ n ∷ []
+  pub rising : IsStrictlyIncreasing after
+  pub long : length before ≤ n
+
+-- the seat drew n
+pub record Adds (jobs : ℕ) (before : SeatView) (n : ℕ) (answer : Option ℕ) (after : SeatView) : Type 0 where
+  pub seat : after ≡ seat_of before.desk after.numbers before.mark before.sighting
+  pub joins : Joins before.numbers n after.numbers
+  pub answer_is : answer ≡ cond (ltb n jobs) (Some n) None
+
+-- how often the number stands in the seats' lists
+abbrev pub occurrences : (SeatView → List ℕ) → ℕ → List SeatView → ℕ
+occurrences list number seats = sum_by (λ s. count_by (λ n. nat_eq n number) (list s)) seats
+
+-- the numbers in the seats' lists are those below `count`, each once
+pub record EachOnce (list : SeatView → List ℕ) (count : ℕ) (seats : List SeatView) : Type 0 where
+  pub count_is : sum_by (λ s. length (list s)) seats ≡ count
+  pub below : (number : ℕ) → number < count → occurrences list number seats ≡ 1
+  pub above : (number : ℕ) → count ≤ number → occurrences list number seats ≡ 0
+
+-- where some seat's list ends with a number that is not below the limit, each number below it was drawn, once
+abbrev pub AllJobsDrawn : (SeatView → List ℕ) → ℕ → List SeatView → Type 0
+AllJobsDrawn list limit seats = (s : SeatView) → Contains seats s → EndsSpare limit (list s) → (number : ℕ) → number < limit → occurrences list number seats ≡ 1
+
+-- What all seats of a desk show once it is closed
+pub record Closes (desk : DeskView) (seats : List SeatView) (draws : ℕ) : Type 0 where
+  -- these are all of the desk's seats
+  pub seats_are_all : length seats ≡ desk.seats
+  -- the answer is the count of the numbers that they drew, which are those below it, each once
+  pub draws_each_once : EachOnce (λ s. s.numbers) draws seats
+  -- where some seat drew a number that is no job, each job was drawn, once
+  pub jobs_drawn : AllJobsDrawn (λ s. s.numbers) desk.jobs seats
+  -- no more numbers were drawn than there are jobs and seats
+  pub draws_most : draws ≤ desk.jobs + desk.seats
+  -- where every seat did, there were as many draws as jobs and seats
+  pub draws_are : All (λ s. EndsSpare desk.jobs s.numbers) seats → draws ≡ desk.jobs + desk.seats
+  -- where some seat saw the mark, some seat raised it
+  pub sighted : IsTrue (list_any (λ s. s.sighting) seats) → IsTrue (list_any (λ s. s.mark) seats)

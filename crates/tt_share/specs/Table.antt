@@ -1,0 +1,24 @@
+-- A table of proofs: which of them have a key, and the size of all trees.
+use Rattle.std.specs.Prelude.{ℕ, ◌+◌, ◌-◌, ◌^◌, min, Bool, List, [], ◌∷◌, cond, sum_by}
+use Rattle.tt_game.specs.declared.keys.Key.{Key}
+use Rattle.tt_game.specs.Keys.{key_of}
+use Rattle.tt_game.specs.contracts.keys.KeyPartialEq.TheImpl as key_eq
+use Rattle.tt_proof.specs.Proven.{Proven}
+use Rattle.tt_share.specs.Nodes.{nodes}
+
+-- whether two keys are one
+abbrev pub same_key : Key → Key → Bool
+same_key = (key_eq.ghosts).eq
+
+-- the rising places, counted from n on, of what passes the test
+abbrev pub places_from : {X : Type 0} → (X → Bool) → ℕ → List X → List ℕ
+places_from test n [] = []
+places_from test n (x ∷ xs) = cond (test x) (n ∷ places_from test (n + 1) xs) (places_from test (n + 1) xs)
+
+-- the rising places of the proofs whose position has the key
+abbrev pub places_of : Key → List Proven → List ℕ
+places_of k ps = places_from (λ (p : Proven). same_key k (key_of p.frame p.state)) 0 ps
+
+-- the nodes of all trees, or the greatest number of 64 bits where they are more
+abbrev pub nodes_of : List Proven → ℕ
+nodes_of ps = min (sum_by (λ (p : Proven). nodes p.tree) ps) (2 ^ 64 - 1)

@@ -1,0 +1,29 @@
+//! What solving answers.
+
+use std::sync::Arc;
+use tt_game::Turn;
+use tt_proof::Proof;
+use tt_search::{Reason, Search};
+
+/// The answer to a line.
+#[derive(Drop)]
+pub enum Answer {
+    /// A proof that stands at the line, and the turn that its side plays first, exactly where that side is to move.
+    Settled {
+        proof: Arc<Proof>,
+        first: Option<Turn>,
+    },
+    /// What is stuck.
+    Unsettled(Stuck),
+}
+
+/// The least turn that is stuck, and why. Where memory was refused outside a job the turn is a pass.
+#[derive(Drop)]
+pub struct Stuck {
+    /// A legal turn; after each lesser legal one the side that isn't to move can force its win.
+    pub turn: Turn,
+    /// `Budget`, `Depth` or `Memory`.
+    pub reason: Reason,
+    /// The search behind the turn: there for `Budget` and `Depth`, and for `Memory` where it had begun.
+    pub search: Option<Search>,
+}

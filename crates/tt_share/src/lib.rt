@@ -1,0 +1,37 @@
+//! Solving: the legal turns of a problem are searched each by itself, and their results make the answer.
+//!
+//! `solve_one` searches them one after the other; `solve` by workers in threads, which share a `Table` of proofs. Each
+//! answer that is settled holds a proof that stands at the problem's line, whatever the schedule of threads.
+
+#![tactic(auto)]
+
+mod alone;
+mod answer;
+mod conclude;
+mod desk;
+mod gate;
+mod jobs;
+pub mod laws;
+mod locked;
+mod root;
+mod rule;
+mod table;
+mod together;
+mod workers;
+
+pub use alone::solve_one;
+pub use answer::{Answer, Stuck};
+pub use desk::{Desk, Seat};
+pub use gate::{Gate, NoGate};
+pub use locked::{LockedStore, Table};
+pub use table::TableState;
+pub use together::solve;
+
+#[cfg(test)]
+mod alone_tests;
+#[cfg(test)]
+mod desk_tests;
+#[cfg(test)]
+mod table_tests;
+#[cfg(test)]
+mod together_tests;

@@ -1,0 +1,113 @@
+//! A table behind a lock, and the stores that searches have of it.
+
+ghost use Rattle.std.specs.Prelude.{◌≡◌, ◌≢◌, ◌≤◌, ◌+◌, ◌↔◌, ℕ, IfOk, IfSome};
+ghost use Rattle.tt_search.specs.Stores.{IsAnswer};
+ghost use Rattle.tt_search.specs.declared.store.Kept.TheVariants.{Stored, Full};
+
+use crate::table::{TableState, size_of_proof};
+use std::alloc::Global;
+use std::marker::Model;
+use std::sync::{Arc, Mutex, Wait};
+use tt_game::{Line, Side};
+use tt_proof::Proof;
+use tt_search::{Kept, Store};
+use tt_sgf::NoMemory;
+
+/// Proofs that several searches share.
+#[derive(Drop)]
+pub struct Table {
+    state: Mutex<TableState>,
+}
+
+impl Table {
+    /// An empty table. `NoMemory` where memory was refused.
+    pub fn new(alloc: Global) -> Result<Table, NoMemory> {
+        let state = TableState::new(alloc)?;
+        Ok(Table {
+            state: Mutex::new(state),
+        })
+    }
+}
+
+// How many proofs may be kept through one handle.
+const MOST_KEPT: usize = 4096;
+
+/// A handle on a table, through which at most 4,096 proofs may be kept. What it finds may have been kept through another
+/// handle.
+#[derive(Drop)]
+pub struct LockedStore<'a, R> {
+    rt: &'a R,
+    table: &'a Table,
+    kept: usize,
+}
+
+impl<'a, R> Model for LockedStore<'a, R> {
+    ghost use Rattle.std.specs.Prelude.{◌≤◌, ℕ};
+
+    ghost Value = { ℕ };
+
+    ghost view = { λ s. s.kept };
+
+    ghost invariant = { λ s. s.kept ≤ 4096 };
+}
+
+impl<'a, R> LockedStore<'a, R> {
+    /// A handle through which nothing was kept yet.
+    pub fn new(rt: &'a R, table: &'a Table) -> LockedStore<'a, R>
+        ensures { result ≡ 0 }
+    {
+        LockedStore { rt, table, kept: 0 }
+    }
+
+    /// How many proofs may be kept through this handle: 4,096.
+    pub fn capacity(&self) -> usize
+        ensures { result ≡ 4096 }
+    {
+        MOST_KEPT
+    }
+
+    /// How many proofs were kept through this handle: at most 4,096.
+    pub fn kept(&self) -> usize
+        ensures { result ≡ self.now }
+    {
+        self.kept
+    }
+}
+
+impl<'a, R: Wait> Store for LockedStore<'a, R> {
+    ghost capacity = { λ _. 4096 };
+
+    ghost kept = { λ s. s };
+
+    ghost may_answer = { Unit {0} };
+
+    fn capacity(&self) -> usize {
+        LockedStore::capacity(self)
+    }
+
+    fn kept(&self) -> usize {
+        LockedStore::kept(self)
+    }
+
+    fn find(&mut self, line: &Line, s: Side) -> Result<Option<Arc<Proof>>, NoMemory> {
+        let key = line.key();
+        let state = self.table.state.lock(self.rt);
+        state.find(&key, s)
+    }
+
+    fn keep(&mut self, p: Arc<Proof>) -> Kept {
+        if self.kept == MOST_KEPT {
+            return Kept::Full;
+        }
+        let key = p.key();
+        let size = size_of_proof(&p);
+        let mut state = self.table.state.lock(self.rt);
+        match state.append(&key, size, p) {
+            Ok(_) => {
+                self.kept += 1;
+                Kept::Stored
+            }
+            Err(_) => Kept::NoMemory,
+        }
+    }
+}

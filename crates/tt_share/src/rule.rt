@@ -1,0 +1,79 @@
+//! What a desk's words and views keep to between any two steps. The types here are for the proofs alone.
+use atomic_table::{Join, Play, Split, TableRule};
+use std::collections::LinkedList;
+
+/// How many jobs and seats a desk has.
+#[derive(Drop)]
+pub struct Plan {
+    pub jobs: usize,
+    pub seats: usize,
+}
+
+/// What a seat knows: how many of the desk's seats it stands for, the numbers that it drew,
+/// whether it raised the mark and whether it saw the mark. No value of it is made.
+pub struct View {
+    pub parts: u64,
+    pub numbers: LinkedList<u64>,
+    pub mark: bool,
+    pub sighting: bool,
+}
+
+/// The rule of the desk.
+pub struct AtDesk;
+
+impl TableRule<(), View, Plan> for AtDesk {
+    ghost use Rattle.tt_share.specs.Desk.{DeskHolds, whole_view};
+
+    ghost holds = { DeskHolds };
+
+    ghost first = { whole_view };
+}
+
+/// A number was drawn.
+pub struct Draw;
+
+impl Play<(), View> for Draw {
+    ghost use Rattle.tt_share.specs.Desk.{Draws};
+
+    ghost then = { λ step before found after. Draws before found after };
+}
+
+/// The mark was raised.
+pub struct Raise;
+
+impl Play<(), View> for Raise {
+    ghost use Rattle.tt_share.specs.Desk.{Raises};
+
+    ghost then = { λ step before found after. Raises before after };
+}
+
+/// The mark was looked at.
+pub struct Look;
+
+impl Play<(), View> for Look {
+    ghost use Rattle.tt_share.specs.Desk.{Looks};
+
+    ghost then = { λ step before found after. Looks before found after };
+}
+
+/// One seat is cut from a view that has made no step.
+pub struct Cut;
+
+impl Split<View> for Cut {
+    ghost use Rattle.tt_share.specs.Desk.{fewer, one_seat};
+
+    ghost left = { fewer };
+
+    ghost right = { λ view. one_seat };
+}
+
+/// Two views are made one.
+pub struct Both;
+
+impl Join<View> for Both {
+    ghost use Rattle.tt_share.specs.Desk.{joined, no_seat};
+
+    ghost both = { joined };
+
+    ghost spent = { no_seat };
+}

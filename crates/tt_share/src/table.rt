@@ -1,0 +1,199 @@
+//! The table: proofs in the order in which they came, the places of each key, and the nodes of all trees.
+
+ghost use Rattle.std.specs.Prelude.{◌≡◌, ◌++◌, ◌∷◌, [], ◌+◌, ◌-◌, ◌^◌, min, length, IfOk, IfSome, OnOk, OnErr, if◌then◌else◌};
+ghost use Rattle.std.specs.Arc.{arc_value};
+ghost use Rattle.tt_game.specs.Keys.{key_of};
+ghost use Rattle.tt_proof.specs.Strategy.{strategy_of, entries_of_trees};
+ghost use Rattle.tt_share.specs.Nodes.{nodes, nodes_of_entries};
+ghost use Rattle.tt_share.specs.Places.{IsFor, places_at};
+ghost use Rattle.tt_share.specs.Table.{same_key, places_of, nodes_of};
+
+use std::alloc::Global;
+use std::collections::HashMap;
+use std::hash::Hash;
+use std::marker::Model;
+use std::sync::Arc;
+use tt_game::{Key, Side, Turn};
+use tt_proof::{Proof, Tree};
+use tt_sgf::NoMemory;
+
+/// Proofs in the order in which they came.
+#[derive(Drop)]
+pub struct TableState {
+    proofs: Vec<Arc<Proof>>,
+    index: HashMap<Key, Vec<usize>>,
+    total: u64,
+    alloc: Global,
+}
+
+impl Model for TableState {
+    ghost use Rattle.std.specs.Prelude.{◌≡◌, List, map};
+    ghost use Rattle.std.specs.Coded.{codes};
+    ghost use Rattle.std.specs.Arc.{arc_value};
+    ghost use Rattle.tt_sgf.specs.contracts.sets.PointSet as points;
+    ghost use Rattle.tt_proof.specs.Proven.{Proven};
+    ghost use Rattle.tt_proof.specs.StrategyCode.{strategy_code};
+    ghost use Rattle.tt_share.specs.Places.{IsIndexOf};
+    ghost use Rattle.tt_share.specs.Table.{nodes_of};
+
+    ghost Value = { List Proven };
+
+    ghost coded = { Prim.hlevel (codes, strategy_code, points.the_row.coded) };
+
+    ghost view = { λ t. map arc_value t.proofs.items };
+
+    ghost invariant = { λ t. IsIndexOf t.index (map arc_value t.proofs.items) × (t.total ≡ nodes_of (map arc_value t.proofs.items)) };
+}
+
+/// The nodes of a tree, or the greatest `u64` where they are more.
+#[cycle(nodes)]
+fn count_nodes(tree: &Tree) -> u64
+    ensures { result ≡ min (nodes (strategy_of tree.now)) (2 ^ 64 - 1) }
+{
+    match tree {
+        Tree::Done => 1,
+        Tree::Pick(_, child) => count_nodes(child).saturating_add(1),
+        Tree::Reply(list) => count_replies(list),
+    }
+}
+
+#[cycle(nodes)]
+fn count_replies(list: &[(Turn, Tree)]) -> u64
+    ensures { result ≡ min (nodes_of_entries (entries_of_trees list.now) + 1) (2 ^ 64 - 1) }
+{
+    let mut count = 1u64;
+    for (_, child) in list {
+        count = count.saturating_add(count_nodes(child));
+    }
+    count
+}
+
+/// The nodes of a proof's tree, or the greatest `u64` where they are more.
+pub(crate) fn size_of_proof(p: &Proof) -> u64
+    ensures { result ≡ min (nodes p.now.tree) (2 ^ 64 - 1) }
+{
+    count_nodes(p.tree())
+}
+
+/// Adds a place at the key.
+fn note_place<K: Copy + Drop + Eq + Hash>(
+    alloc: Global,
+    index: &mut HashMap<K, Vec<usize>>,
+    key: &K,
+    place: usize,
+) -> Result<(), NoMemory>
+    ensures ok { OnOk result ((q : _) → places_at K.eq index.new q ≡ (if K.eq key.now q then places_at K.eq index.old q ++ place ∷ [] else places_at K.eq index.old q)) }
+    ensures err { OnErr result ((q : _) → places_at K.eq index.new q ≡ places_at K.eq index.old q) }
+{
+    if let Some(places) = index.get_mut(key) {
+        return match places.push(place) {
+            Ok(()) => Ok(()),
+            Err(_) => Err(NoMemory),
+        };
+    }
+    let mut places = Vec::new(alloc);
+    if places.push(place).is_err() {
+        return Err(NoMemory);
+    }
+    match index.insert(*key, places) {
+        Ok(_) => Ok(()),
+        Err(_) => Err(NoMemory),
+    }
+}
+
+impl TableState {
+    /// An empty table. It takes no memory.
+    pub fn new(alloc: Global) -> Result<TableState, NoMemory>
+        ensures { IfOk result (λ t. t ≡ []) }
+    {
+        Ok(TableState {
+            proofs: Vec::new(alloc),
+            index: HashMap::new(alloc),
+            total: 0,
+            alloc,
+        })
+    }
+
+    /// Appends the proof, of this key and so many nodes, and answers its place.
+    pub(crate) fn append(&mut self, key: &Key, size: u64, p: Arc<Proof>) -> Result<usize, NoMemory>
+        requires key { key.now ≡ key_of (arc_value p).frame (arc_value p).state }
+        requires size { size ≡ min (nodes (arc_value p).tree) (2 ^ 64 - 1) }
+        ensures ok { IfOk result (λ place. (self.new ≡ self.old ++ arc_value p ∷ []) × (place ≡ length self.old)) }
+        ensures err { OnErr result (self.new ≡ self.old) }
+    {
+        if self.proofs.reserve(1).is_err() {
+            return Err(NoMemory);
+        }
+        let place = self.proofs.len();
+        if note_place(self.alloc, &mut self.index, key, place).is_err() {
+            return Err(NoMemory);
+        }
+        self.total = self.total.saturating_add(size);
+        self.proofs.push_reserved(p);
+        Ok(place)
+    }
+
+    /// Appends the proof, and answers its place. Where memory is refused nothing changes.
+    pub fn insert(&mut self, p: Arc<Proof>) -> Result<usize, NoMemory>
+        ensures ok { IfOk result (λ place. (self.new ≡ self.old ++ arc_value p ∷ []) × (place ≡ length self.old)) }
+        ensures err { OnErr result (self.new ≡ self.old) }
+    {
+        let key = p.key();
+        let size = size_of_proof(&p);
+        self.append(&key, size, p)
+    }
+
+    /// The rising places of the proofs of the key.
+    pub fn places(&self, k: &Key) -> &[usize]
+        ensures { result.now ≡ places_of k.now self.now }
+    {
+        match self.index.get(k) {
+            Some(places) => places.as_slice(),
+            None => &[],
+        }
+    }
+
+    /// The nodes of all trees, or the greatest `u64` where they are more.
+    pub fn nodes(&self) -> u64
+        ensures { result ≡ nodes_of self.now }
+    {
+        self.total
+    }
+
+    /// How many proofs there are.
+    pub fn len(&self) -> usize
+        ensures { result ≡ length self.now }
+    {
+        self.proofs.len()
+    }
+
+    /// The last proof of the key for the side.
+    fn newest(&self, k: &Key, s: Side) -> Option<&Arc<Proof>>
+        ensures { IfSome result (λ r. IsFor k.now s (arc_value r.now)) }
+    {
+        let places = self.places(k);
+        let mut left = places.len();
+        while 0 < left {
+            left -= 1;
+            if let Some(p) = self.proofs.get(places[left]) {
+                if p.side() == s {
+                    return Some(p);
+                }
+            }
+        }
+        None
+    }
+
+    /// A handle of the last proof of the key for the side, or none.
+    pub(crate) fn find(&self, k: &Key, s: Side) -> Result<Option<Arc<Proof>>, NoMemory>
+        ensures { IfOk result (λ o. IfSome o (λ p. IsFor k.now s (arc_value p))) }
+    {
+        let Some(p) = self.newest(k, s) else {
+            return Ok(None);
+        };
+        match Arc::try_clone(p) {
+            Ok(handle) => Ok(Some(handle)),
+            Err(_) => Err(NoMemory),
+        }
+    }
+}

@@ -1,0 +1,190 @@
+//! Problems solved by workers in threads. The verdicts are by a program written from the definitions alone.
+
+ghost use Rattle.std.specs.Prelude.{◌≤◌};
+
+use crate::alone_tests::{posed, verdict};
+use crate::{Gate, NoGate, Table, solve};
+use std::alloc::Global;
+use std::sync::Wait;
+use std::sync::atomic::{AtomicU64, Ordering};
+use std::test::Fail;
+use std::thread;
+use std::thread::Threads;
+use tt_search::Limits;
+
+/// The answer to a problem by so many workers over the table: the verdict and the first turn.
+fn solved<R: Threads + Wait + Sync, G: Gate>(
+    rt: &R,
+    alloc: Global,
+    text: &[u8],
+    limits: Option<Limits>,
+    workers: usize,
+    table: &Table,
+    gate: &G,
+) -> Result<Vec<u8>, Fail>
+    requires { (1 ≤ workers) × (workers ≤ 64) }
+{
+    let line = posed(alloc, text)?;
+    let Some(limits) = limits else {
+        return Err(Fail::new("no limits"));
+    };
+    if limits.depth() == 0 || line.winner().is_some() {
+        return Err(Fail::new("nothing to solve"));
+    }
+    let answer = solve(rt, alloc, &line, &limits, workers, table, gate);
+    verdict(alloc, &line, answer)
+}
+
+#[test]
+fn verdicts_by_workers(rt: HostRuntime) -> Result<(), Fail> {
+    let alloc = rt.alloc();
+    let rows: [(&[u8], u32, u16, &[u8]); 8] = [
+        (b"(;SZ[2:1]AW[ba]PL[B]TR[ba])", 100_000, 512, b"killed aa"),
+        (b"(;SZ[2:1]AW[ba]PL[W]TR[ba])", 100_000, 512, b"killed"),
+        (b"(;SZ[3:1]AW[ba]PL[W]TR[ba])", 100_000, 512, b"lives pass"),
+        (b"(;SZ[4:1]AW[ba]PL[B]TR[ba])", 100_000, 512, b"lives"),
+        (
+            b"(;SZ[4:1]AW[ba]PL[B]TR[ba]SQ[aa][ca])",
+            100_000,
+            512,
+            b"killed ca",
+        ),
+        (b"(;SZ[4:1]AW[ba]PL[B]TR[ba])", 1, 512, b"budget"),
+        (b"(;SZ[4:1]AW[ba]PL[B]TR[ba])", 100_000, 1, b"depth"),
+        (b"(;SZ[4:1]AB[ba]AW[ca]PL[B]TR[ca])", 1, 512, b"killed da"),
+    ];
+    for (problem, budget, depth, want) in rows {
+        for workers in [1usize, 2, 64] {
+            let table = Table::new(alloc)?;
+            let limits = Limits::new(budget, depth);
+            let got = solved(&rt, alloc, problem, limits, workers, &table, &NoGate)?;
+            assert!(&rt; got.as_slice() == want);
+        }
+    }
+    Ok(())
+}
+
+/// What was found for one problem serves the next one over the same table, and the same problem again.
+#[test]
+fn one_table_for_two_problems(rt: HostRuntime) -> Result<(), Fail> {
+    let alloc = rt.alloc();
+    let table = Table::new(alloc)?;
+    let rows: [(&[u8], &[u8]); 4] = [
+        (b"(;SZ[4:1]AW[ba][da]PL[B]TR[ba])", b"killed ca"),
+        (b"(;SZ[4:1]AW[ba][da]PL[B]TR[ba])", b"killed ca"),
+        (b"(;SZ[4:1]AW[ba];B[ca];W[da]TR[ba])", b"lives"),
+        (b"(;SZ[4:1]AW[ba][da]PL[B]TR[ba])", b"killed ca"),
+    ];
+    for (problem, want) in rows {
+        let limits = Limits::new(100_000, 512);
+        let got = solved(&rt, alloc, problem, limits, 2, &table, &NoGate)?;
+        assert!(&rt; got.as_slice() == want);
+    }
+    Ok(())
+}
+
+/// Holds the first job back until the second one has begun.
+#[derive(Drop)]
+struct SideBySide {
+    second: AtomicU64,
+    missed: AtomicU64,
+}
+
+impl Gate for SideBySide {
+    fn begin(&self, job: usize) {
+        if job == 1 {
+            self.second.store(1, Ordering::SeqCst);
+        }
+        if job == 0 {
+            for _ in 0..10_000_000u32 {
+                if self.second.load(Ordering::SeqCst) == 1 {
+                    return;
+                }
+                thread::yield_now();
+            }
+            self.missed.store(1, Ordering::SeqCst);
+        }
+    }
+
+    fn end(&self, _job: usize) {}
+}
+
+#[test]
+fn jobs_run_side_by_side(rt: HostRuntime) -> Result<(), Fail> {
+    let alloc = rt.alloc();
+    let table = Table::new(alloc)?;
+    let gate = SideBySide {
+        second: AtomicU64::new(0),
+        missed: AtomicU64::new(0),
+    };
+    let problem = b"(;SZ[4:1]AW[ba][da]PL[B]TR[ba])";
+    let limits = Limits::new(100_000, 512);
+    let got = solved(&rt, alloc, problem, limits, 2, &table, &gate)?;
+    assert!(&rt; got.as_slice() == b"killed ca".as_slice());
+    assert!(&rt; gate.second.load(Ordering::SeqCst) == 1);
+    assert!(&rt; gate.missed.load(Ordering::SeqCst) == 0);
+    Ok(())
+}
+
+/// Counts the jobs that begin and those that end.
+#[derive(Drop)]
+struct Counting {
+    begun: AtomicU64,
+    ended: AtomicU64,
+}
+
+impl Gate for Counting {
+    fn begin(&self, _job: usize) {
+        self.begun.fetch_add(1, Ordering::SeqCst);
+    }
+
+    fn end(&self, _job: usize) {
+        self.ended.fetch_add(1, Ordering::SeqCst);
+    }
+}
+
+/// How many jobs begin and how many end where no turn wins.
+fn told<R: Threads + Wait + Sync>(rt: &R, alloc: Global, workers: usize) -> Result<(u64, u64), Fail>
+    requires { (1 ≤ workers) × (workers ≤ 64) }
+{
+    let table = Table::new(alloc)?;
+    let gate = Counting {
+        begun: AtomicU64::new(0),
+        ended: AtomicU64::new(0),
+    };
+    let problem = b"(;SZ[4:1]AW[ba]PL[B]TR[ba])";
+    let limits = Limits::new(100_000, 512);
+    solved(rt, alloc, problem, limits, workers, &table, &gate)?;
+    let begun = gate.begun.load(Ordering::SeqCst);
+    let ended = gate.ended.load(Ordering::SeqCst);
+    Ok((begun, ended))
+}
+
+/// Where no turn wins each legal turn is a job: two plays and a pass. A job begins once and ends once.
+#[test]
+fn each_job_is_told(rt: HostRuntime) -> Result<(), Fail> {
+    let alloc = rt.alloc();
+    for workers in [1usize, 2, 64] {
+        assert!(&rt; told(&rt, alloc, workers)? == (3, 3));
+    }
+    Ok(())
+}
+
+/// The proof of a solved line is offered to the table, which has it for the same line: no job begins.
+#[test]
+fn a_solved_line_is_found(rt: HostRuntime) -> Result<(), Fail> {
+    let alloc = rt.alloc();
+    let table = Table::new(alloc)?;
+    let problem = b"(;SZ[4:1]AW[ba][da]PL[B]TR[ba])";
+    let limits = Limits::new(100_000, 512);
+    solved(&rt, alloc, problem, limits, 2, &table, &NoGate)?;
+    let gate = Counting {
+        begun: AtomicU64::new(0),
+        ended: AtomicU64::new(0),
+    };
+    let limits = Limits::new(100_000, 512);
+    let again = solved(&rt, alloc, problem, limits, 2, &table, &gate)?;
+    assert!(&rt; again.as_slice() == b"killed ca".as_slice());
+    assert!(&rt; gate.begun.load(Ordering::SeqCst) == 0);
+    Ok(())
+}
