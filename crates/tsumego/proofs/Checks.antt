@@ -1,5 +1,5 @@
 -- Lemmas on what is found on a certificate.
-use Rattle.std.proofs.Common.{◌≡◌, ◌≤◌, ◌-◌, ℕ, List, [], inl, inr, Option, Err, refl, ap, ◌∙◌, length, take, drop, arith, subst}
+use Rattle.std.proofs.Common.{◌≡◌, ◌≤◌, ◌-◌, ℕ, List, [], inr, Option, Err, refl, ap, ◌∙◌, length, take, drop, arith, subst}
 use Rattle.std.proofs.KnownBytes.{Appends-kept, Appends-nil}
 use Rattle.std.proofs.lemmas.List.{take_all, length-drop}
 use Rattle.tt_sgf.specs.declared.nodes.Node.{Node}
@@ -57,4 +57,4 @@ pub check_breaks : (input bytes : List ℕ) (o : Finding) (e : RunFault) (a b : 
 check_breaks input bytes o Input a b h is w = absurd w
 check_breaks input bytes o Output a b h is w =
     (bytes, w.0, inr (finding_status o, record { finding = o; finds = h; line = is; status_is = refl }), w.1)
-check_breaks input bytes o Memory a b h is w = ([], inl refl, Appends-kept a a b [] (Appends-nil a) w)
+check_breaks input bytes o Memory a b h is w = ([], refl, Appends-kept a a b [] (Appends-nil a) w)

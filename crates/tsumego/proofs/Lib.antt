@@ -3,5 +3,9 @@ pub mod FirstTree
 pub mod Limit
 pub mod OneCheck
 pub mod OneText
+pub mod Options
 pub mod Progress
+pub mod Values
+pub mod Verdicts
 pub mod Watching
+pub mod TaskLemmas

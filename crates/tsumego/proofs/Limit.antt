@@ -9,12 +9,13 @@ use Rattle.tsumego.specs.declared.fault.RunFault.{RunFault}
 use Rattle.tsumego.specs.declared.fault.RunFault.TheVariants.{Input, Output, Memory}
 use Rattle.tsumego.specs.declared.outcome.Outcome.{Outcome}
 use Rattle.tt_sgf.specs.declared.nodes.Node.{Node}
-use Rattle.tsumego.specs.declared.request.Command.TheVariants.{Score, Check}
+use Rattle.tsumego.specs.declared.request.Command.TheVariants.{Score, Check, Solve}
 use Rattle.tsumego.specs.declared.finding.Finding.{Finding}
 use Rattle.tsumego.specs.Checking.{Finds, IsCheckText, first_tree, no_tree}
 use Rattle.tsumego.specs.Checking as find
-use Rattle.tsumego.specs.Text.{BeginsAnswer, IsAnswer, Scores}
-use Rattle.tsumego.specs.Trees.{AreOutcomes, BeginsTreesText, IsTreesText, all_lines, all_read, no_line, some_lines, stopped, too_long}
+use Rattle.tsumego.specs.Solving.{Solves}
+use Rattle.tsumego.specs.Text.{BeginsAnswer, IsAnswer, IsEarlierPart, Scores}
+use Rattle.tsumego.specs.Trees.{AreOutcomes, BeginsTreesText, EarlierTreesText, IsTreesText, all_lines, all_read, before_more, no_line, nothing, some_lines, stopped, too_long}
 use Rattle.tsumego.specs.Watching.{IsInput}
 use Rattle.tsumego.specs.Writing.{ForInput, Writes, is_output_fault}
 
@@ -49,6 +50,13 @@ module _ (allowed : List Node → Outcome → Type 0) where
     | inr p ↦ absurd (omega (arith, p.0))
   ]
 
+  trees_earlier : (input text : List ℕ) → EarlierTreesText allowed (take 1048577 input) text → EarlierTreesText allowed input text
+  trees_earlier input text nothing = nothing
+  trees_earlier input text (before_more os rest small reads more) = elim (cut_or_whole 1048577 input) [
+    | inl e ↦ subst (λ (x : List ℕ). EarlierTreesText allowed x text) e (before_more os rest small reads more)
+    | inr p ↦ absurd (omega (arith, p.0))
+  ]
+
 -- what is found on a part of the input that is too long as well
 long_found : (input part : List ℕ) (o : Finding) → length part ≡ 1048577 → 1048577 ≤ length input → Finds part o → Finds input o
 long_found input part o e le (find.too_long long) = find.too_long (omega arith)
@@ -67,15 +75,23 @@ check_whole input text status h = record { finding = h.finding; finds = found_wh
 answer_whole : (c : Command) (input text : List ℕ) (status : ℕ) → IsAnswer c (take 1048577 input) text status → IsAnswer c input text status
 answer_whole Score input text status h = trees_whole Scores input text status h
 answer_whole Check input text status h = check_whole input text status h
+answer_whole (Solve limits workers cert) input text status h = trees_whole (Solves limits cert) input text status h
 
 begun_whole : (c : Command) (input text : List ℕ) → BeginsAnswer c (take 1048577 input) text → BeginsAnswer c input text
 begun_whole Score input text h = trees_begun Scores input text h
 begun_whole Check input text (inl e) = inl e
 begun_whole Check input text (inr h) = inr (h.0, check_whole input text h.0 h.1)
+begun_whole (Solve limits workers cert) input text h = trees_begun (Solves limits cert) input text h
 
-nothing_begun : (c : Command) (input : List ℕ) → BeginsAnswer c input []
-nothing_begun Score input = no_line
-nothing_begun Check input = inl refl
+earlier_whole : (c : Command) (input text : List ℕ) → IsEarlierPart c (take 1048577 input) text → IsEarlierPart c input text
+earlier_whole Score input text h = trees_earlier Scores input text h
+earlier_whole Check input text e = e
+earlier_whole (Solve limits workers cert) input text h = trees_earlier (Solves limits cert) input text h
+
+nothing_earlier : (c : Command) (input : List ℕ) → IsEarlierPart c input []
+nothing_earlier Score input = nothing
+nothing_earlier Check input = refl
+nothing_earlier (Solve limits workers cert) input = nothing
 
 module _ (c : Command) where
   -- what is written on the part up to the limit is written on the input
@@ -83,7 +99,7 @@ module _ (c : Command) where
   writes_whole input (Ok status) a b w = (w.0, answer_whole c input w.0 status w.1, w.2)
   writes_whole input (Err Input) a b w = w
   writes_whole input (Err Output) a b w = (w.0, w.1, begun_whole c input w.0 w.2, w.3)
-  writes_whole input (Err Memory) a b w = (w.0, begun_whole c input w.0 w.1, w.2)
+  writes_whole input (Err Memory) a b w = (w.0, earlier_whole c input w.0 w.1, w.2)
 
   pub writes_read : (told : Option (List ℕ)) (bytes : List ℕ) (r : Result ℕ RunFault) (a b : Option (List ℕ)) → IsInput 1048577 told bytes → Writes c bytes r a b
       → ForInput told (λ input. Writes c input r a b)
@@ -94,7 +110,7 @@ module _ (c : Command) where
   nothing_written : (input : List ℕ) (e : RunFault) (a : Option (List ℕ)) → is_output_fault {A = ℕ} (Err e) ≡ false → Writes c input (Err e) a a
   nothing_written input Input a quiet = Keeps-refl a
   nothing_written input Output a quiet = let bad : true ≡ false = quiet in cc
-  nothing_written input Memory a quiet = ([], nothing_begun c input, Appends-nil a)
+  nothing_written input Memory a quiet = ([], nothing_earlier c input, Appends-nil a)
 
   pub writes_nothing : (told : Option (List ℕ)) (e : RunFault) (a : Option (List ℕ)) → is_output_fault {A = ℕ} (Err e) ≡ false → ForInput told (λ input. Writes c input (Err e) a a)
   writes_nothing None e a quiet = ([], nothing_written [] e a quiet)

@@ -12,9 +12,9 @@ use Rattle.tt_sgf.specs.Grammar.{GameTree, HasNoTree, SpelledUpTo, main_line}
 use Rattle.tsumego.specs.declared.fault.RunFault.{RunFault}
 use Rattle.tsumego.specs.declared.fault.RunFault.TheVariants.{Input, Output, Memory}
 use Rattle.tsumego.specs.declared.outcome.Outcome.{Outcome}
-use Rattle.tsumego.specs.declared.outcome.Outcome.TheVariants.{Scored, Refused}
+use Rattle.tsumego.specs.declared.outcome.Outcome.TheVariants.{Scored, Answered, Refused}
 use Rattle.tsumego.specs.Lines.{WritesOutcome, WritesText}
-use Rattle.tsumego.specs.Trees.{AreOutcomes, BeginsTreesText, HasOpen, IsTreesText, Reads, all_lines, all_read, is_refused, line_of, lines_from, most_bytes, no_line, some_lines, stopped, too_long}
+use Rattle.tsumego.specs.Trees.{AreOutcomes, BeginsTreesText, EarlierTreesText, HasOpen, IsTreesText, Reads, all_lines, all_read, before_more, is_refused, line_of, lines_from, most_bytes, nothing, some_lines, stopped, too_long}
 use Rattle.tsumego.specs.Writing.{WritesOf}
 
 -- one more tree
@@ -42,6 +42,7 @@ or_true false = refl
 
 any-one : (o : Outcome) → list_any is_refused (o ∷ []) ≡ is_refused o
 any-one (Scored x) = refl
+any-one (Answered x) = refl
 any-one (Refused x) = refl
 
 -- what is read and written so far; an input with an outcome is not too long
@@ -57,6 +58,9 @@ pub progress_start : (allowed : List Node → Outcome → Type 0) (input : List 
 progress_start allowed input a = record { os = []; count = refl; reads = refl; small = inl refl; bad = refl; told = Appends-nil a }
 
 module _ {allowed : List Node → Outcome → Type 0} {input rest : List ℕ} {number : ℕ} {refused : Bool} {a b : Option (List ℕ)} (p : Progress allowed input rest number refused a b) where
+  abbrev EndsAs : Result ℕ RunFault → Option (List ℕ) → Option (List ℕ) → Type 0
+  EndsAs = WritesOf (IsTreesText allowed input) (BeginsTreesText allowed input) (EarlierTreesText allowed input)
+
   -- the lines with one more
   lines_more : (o : Outcome) → lines_from 1 (p.os ++ o ∷ []) ≡ lines_from 1 p.os ++ line_of number o
   lines_more o = lines_from-more 1 p.os o ∙ ap (λ n. lines_from 1 p.os ++ line_of n o) (let e : 1 + length p.os ≡ number = omega (arith, p.count) in e)
@@ -90,23 +94,24 @@ module _ {allowed : List Node → Outcome → Type 0} {input rest : List ℕ} {n
       (sym (ap (take (length (lines_from 1 p.os) + n)) (lines_more o) ∙ take-append-add (lines_from 1 p.os) (line_of number o) n))
       (Appends-trans a b d _ _ p.told w)
 
-  -- the lines so far are a beginning
-  begun : BeginsTreesText allowed input (lines_from 1 p.os)
-  begun = elim p.small [
-    | inl e ↦ subst (λ (x : List Outcome). BeginsTreesText allowed input (lines_from 1 x)) (sym e) no_line
-    | inr small ↦ some_lines p.os rest small p.reads
+  -- the lines so far are the earlier part, where more is to be written
+  earlier : (number ≡ 1) ⊎ HasOpen rest → EarlierTreesText allowed input (lines_from 1 p.os)
+  earlier (inl e) = subst (λ (x : List Outcome). EarlierTreesText allowed input (lines_from 1 x)) (sym (no_outcomes p.os (sym e ∙ p.count))) nothing
+  earlier (inr more) = elim p.small [
+    | inl e ↦ subst (λ (x : List Outcome). EarlierTreesText allowed input (lines_from 1 x)) (sym e) nothing
+    | inr small ↦ before_more p.os rest small p.reads more
   ]
 
   -- memory was refused, and nothing more is written
-  pub progress_kept : (d : Option (List ℕ)) → Keeps b d → WritesOf (IsTreesText allowed input) (BeginsTreesText allowed input) (Err Memory) a d
-  progress_kept d k = (lines_from 1 p.os, begun, Appends-kept a b d _ p.told k)
+  pub progress_kept : (d : Option (List ℕ)) → (number ≡ 1) ⊎ HasOpen rest → Keeps b d → EndsAs (Err Memory) a d
+  progress_kept d why k = (lines_from 1 p.os, earlier why, Appends-kept a b d _ p.told k)
 
   -- a fault came where the line of one more tree was to be written
-  pub progress_fault : (d : Option (List ℕ)) (used : ℕ) (t : GameTree) (nodes : List Node) (e : RunFault) → SpelledUpTo rest used t → nodes ≡ main_line t → length rest ≤ most_bytes
-      → WritesOutcome allowed number nodes (Err e) b d → WritesOf (IsTreesText allowed input) (BeginsTreesText allowed input) (Err e) a d
-  progress_fault d used t nodes Input s same small w = absurd w
-  progress_fault d used t nodes Memory s same small w = progress_kept d w
-  progress_fault d used t nodes Output s same small w = (
+  pub progress_fault : (d : Option (List ℕ)) → (number ≡ 1) ⊎ HasOpen rest → (used : ℕ) (t : GameTree) (nodes : List Node) (e : RunFault) → SpelledUpTo rest used t → nodes ≡ main_line t → length rest ≤ most_bytes
+      → WritesOutcome allowed number nodes (Err e) b d → EndsAs (Err e) a d
+  progress_fault d why used t nodes Input s same small w = absurd w
+  progress_fault d why used t nodes Memory s same small w = progress_kept d why w
+  progress_fault d why used t nodes Output s same small w = (
     lines_from 1 (p.os ++ w.0 ∷ []),
     length (lines_from 1 p.os) + w.1,
     some_lines (p.os ++ w.0 ∷ []) (drop used rest) (small_whole small)
@@ -115,9 +120,9 @@ module _ {allowed : List Node → Outcome → Type 0} {input rest : List ℕ} {n
   )
 
   -- reading stops with the line of a refusal
-  progress_last : (d : Option (List ℕ)) (code : ℕ) (r : Result ℕ RunFault) → AreOutcomes allowed input (p.os ++ Refused code ∷ []) → IfOk r (λ status. status ≡ 1)
-      → WritesText (line_of number (Refused code)) r b d → WritesOf (IsTreesText allowed input) (BeginsTreesText allowed input) r a d
-  progress_last d code (Ok status) h one w = (
+  progress_last : (d : Option (List ℕ)) → (number ≡ 1) ⊎ HasOpen rest → (code : ℕ) (r : Result ℕ RunFault) → AreOutcomes allowed input (p.os ++ Refused code ∷ []) → IfOk r (λ status. status ≡ 1)
+      → WritesText (line_of number (Refused code)) r b d → EndsAs r a d
+  progress_last d why code (Ok status) h one w = (
     lines_from 1 (p.os ++ Refused code ∷ []),
     record {
       outcomes = p.os ++ Refused code ∷ [];
@@ -127,31 +132,31 @@ module _ {allowed : List Node → Outcome → Type 0} {input rest : List ℕ} {n
     },
     subst (Appends a d) (sym (lines_more (Refused code))) (Appends-trans a b d _ _ p.told w),
   )
-  progress_last d code (Err Input) h one w = absurd w
-  progress_last d code (Err Memory) h one w = progress_kept d w
-  progress_last d code (Err Output) h one w =
+  progress_last d why code (Err Input) h one w = absurd w
+  progress_last d why code (Err Memory) h one w = progress_kept d why w
+  progress_last d why code (Err Output) h one w =
       (lines_from 1 (p.os ++ Refused code ∷ []), length (lines_from 1 p.os) + w.0, all_lines (p.os ++ Refused code ∷ []) h, cut d (Refused code) w.0 w.1)
 
   -- no tree is spelled, at a bracket or before the first tree
   pub progress_stopped : (d : Option (List ℕ)) (r : Result ℕ RunFault) → (number ≡ 1) ⊎ HasOpen rest → length rest ≤ most_bytes → HasNoTree rest
-      → IfOk r (λ status. status ≡ 1) → WritesText (line_of number (Refused 1)) r b d → WritesOf (IsTreesText allowed input) (BeginsTreesText allowed input) r a d
-  progress_stopped d r why small none one w = progress_last d 1 r (stopped p.os rest (small_whole small) p.reads (goes_on why) none) one w
+      → IfOk r (λ status. status ≡ 1) → WritesText (line_of number (Refused 1)) r b d → EndsAs r a d
+  progress_stopped d r why small none one w = progress_last d why 1 r (stopped p.os rest (small_whole small) p.reads (goes_on why) none) one w
     where
       goes_on : (number ≡ 1) ⊎ HasOpen rest → (p.os ≡ []) ⊎ HasOpen rest
       goes_on (inl e) = inl (no_outcomes p.os (sym e ∙ p.count))
       goes_on (inr e) = inr e
 
   -- the rest is too long, which can be at the start alone
-  pub progress_long : (d : Option (List ℕ)) (r : Result ℕ RunFault) → most_bytes < length rest → number + length rest ≤ length input + 1
-      → IfOk r (λ status. status ≡ 1) → WritesText (line_of number (Refused 2)) r b d → WritesOf (IsTreesText allowed input) (BeginsTreesText allowed input) r a d
-  progress_long d r long bound one w = progress_last d 2 r (elim p.small [
+  pub progress_long : (d : Option (List ℕ)) → (number ≡ 1) ⊎ HasOpen rest → (r : Result ℕ RunFault) → most_bytes < length rest → number + length rest ≤ length input + 1
+      → IfOk r (λ status. status ≡ 1) → WritesText (line_of number (Refused 2)) r b d → EndsAs r a d
+  progress_long d why r long bound one w = progress_last d why 2 r (elim p.small [
     | inl e ↦ subst (λ (x : List Outcome). AreOutcomes allowed input (x ++ Refused 2 ∷ [])) (sym e)
         (too_long (subst (λ (x : List ℕ). most_bytes < length x) (sym (nothing_read p.os e p.reads)) long))
     | inr small ↦ absurd (omega (arith, p.count))
   ]) one w
 
   -- all trees are read
-  pub progress_ended : number ≢ 1 → (HasOpen rest → ⊥) → (status : ℕ) → status ≡ (if refused then 1 else 0) → WritesOf (IsTreesText allowed input) (BeginsTreesText allowed input) (Ok status) a b
+  pub progress_ended : number ≢ 1 → (HasOpen rest → ⊥) → (status : ℕ) → status ≡ (if refused then 1 else 0) → EndsAs (Ok status) a b
   progress_ended more none status e = (
     lines_from 1 p.os,
     record { outcomes = p.os; are = all_read p.os rest small p.reads some none; lines = refl; status_is = e ∙ ap (λ x. if x then 1 else 0) p.bad },

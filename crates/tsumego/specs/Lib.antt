@@ -1,6 +1,9 @@
 pub mod Checking
 pub mod CommandLine
+pub mod Laws
 pub mod Lines
+pub mod Solving
+pub mod Tasks
 pub mod Text
 pub mod Trees
 pub mod Watching

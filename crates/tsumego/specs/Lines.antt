@@ -1,4 +1,4 @@
--- How writing one line ends. Only private contracts cite it.
+-- How writing one line ends. Only functions below `run` cite it.
 use Rattle.std.specs.Prelude.{◌≡◌, ℕ, Bool, List, Option, Ok, Err, take}
 use Rattle.std.specs.declared.result.Result.{Result}
 use Rattle.std.specs.Io.KnownBytes.{Appends, Keeps}

@@ -7,11 +7,12 @@ use Rattle.tt_game.specs.declared.records.Record.{Record}
 use Rattle.tt_game.specs.Faults.{code_of}
 use Rattle.tt_game.specs.Records.{record_of}
 use Rattle.tsumego.specs.declared.request.Command.{Command}
-use Rattle.tsumego.specs.declared.request.Command.TheVariants.{Score, Check}
+use Rattle.tsumego.specs.declared.request.Command.TheVariants.{Score, Check, Solve}
 use Rattle.tsumego.specs.declared.outcome.Outcome.{Outcome}
 use Rattle.tsumego.specs.declared.outcome.Outcome.TheVariants.{Scored, Refused}
 use Rattle.tsumego.specs.Checking.{IsCheckText}
-use Rattle.tsumego.specs.Trees.{BeginsTreesText, IsTreesText}
+use Rattle.tsumego.specs.Solving.{Solves}
+use Rattle.tsumego.specs.Trees.{BeginsTreesText, EarlierTreesText, IsTreesText}
 
 -- a record's score, or the number of its refusal
 abbrev pub scored : Result Record GameFault → Outcome
@@ -22,12 +23,20 @@ scored (Err e) = Refused (code_of e)
 abbrev pub Scores : List Node → Outcome → Type 0
 Scores nodes o = o ≡ scored (record_of nodes)
 
--- the command answers the input with this text and this status
+-- the command answers the input with this text and this status; the number of workers has no part in it
 abbrev pub IsAnswer : Command → List ℕ → List ℕ → ℕ → Type 0
 IsAnswer Score input text status = IsTreesText Scores input text status
 IsAnswer Check input text status = IsCheckText input text status
+IsAnswer (Solve limits workers cert) input text status = IsTreesText (Solves limits cert) input text status
 
 -- the text is whole lines at the front of an answer
 abbrev pub BeginsAnswer : Command → List ℕ → List ℕ → Type 0
 BeginsAnswer Score input text = BeginsTreesText Scores input text
 BeginsAnswer Check input text = (text ≡ []) ⊎ ((status : ℕ) × IsCheckText input text status)
+BeginsAnswer (Solve limits workers cert) input text = BeginsTreesText (Solves limits cert) input text
+
+-- the text is what is written of an answer before memory is refused: the lines on earlier trees
+abbrev pub IsEarlierPart : Command → List ℕ → List ℕ → Type 0
+IsEarlierPart Score input text = EarlierTreesText Scores input text
+IsEarlierPart Check input text = text ≡ []
+IsEarlierPart (Solve limits workers cert) input text = EarlierTreesText (Solves limits cert) input text

@@ -4,15 +4,16 @@ use Rattle.std.specs.List.{list_any}
 use Rattle.tt_sgf.specs.declared.nodes.Node.{Node}
 use Rattle.tt_sgf.specs.Grammar.{GameTree, HasNoTree, SpelledUpTo, main_line}
 use Rattle.tsumego.specs.declared.outcome.Outcome.{Outcome}
-use Rattle.tsumego.specs.declared.outcome.Outcome.TheVariants.{Scored, Refused}
+use Rattle.tsumego.specs.declared.outcome.Outcome.TheVariants.{Scored, Answered, Refused}
 
 -- ---- lines
 
--- the line on the outcome of tree number k; byte 10 ends it
+-- the line on the outcome of tree number k, which byte 10 ends; an answer's text brings its own bytes 10
 abbrev pub line_of : ℕ → Outcome → List ℕ
 line_of k (Scored r) =
     decimal k ++ (codes " black " ++ (decimal r.black ++ (codes " white " ++ (decimal r.white
     ++ (codes " " ++ ((if r.finished then codes "finished" else codes "unfinished") ++ 10 ∷ []))))))
+line_of k (Answered text) = decimal k ++ (32 ∷ text)
 line_of k (Refused code) = decimal k ++ (codes " refused " ++ (decimal code ++ 10 ∷ []))
 
 -- the lines on outcomes, the first of which has number k
@@ -66,3 +67,9 @@ pub data BeginsTreesText (allowed : List Node → Outcome → Type 0) (input : L
   some_lines : (os : List Outcome) (rest : List ℕ) → length input ≤ most_bytes → Reads allowed input os rest
       → BeginsTreesText allowed input (lines_from 1 os)
   all_lines : (os : List Outcome) → AreOutcomes allowed input os → BeginsTreesText allowed input (lines_from 1 os)
+
+-- the text is the lines on the first trees, each of them whole, and more is to be said: what follows has a `(`
+pub data EarlierTreesText (allowed : List Node → Outcome → Type 0) (input : List ℕ) : List ℕ → Type 0 where
+  nothing : EarlierTreesText allowed input []
+  before_more : (os : List Outcome) (rest : List ℕ) → length input ≤ most_bytes → Reads allowed input os rest → HasOpen rest
+      → EarlierTreesText allowed input (lines_from 1 os)

@@ -5,7 +5,7 @@ use Rattle.std.specs.Io.KnownBytes.{Appends, Keeps}
 use Rattle.tsumego.specs.declared.request.Command.{Command}
 use Rattle.tsumego.specs.declared.fault.RunFault.{RunFault}
 use Rattle.tsumego.specs.declared.fault.RunFault.TheVariants.{Input, Output, Memory}
-use Rattle.tsumego.specs.Text.{BeginsAnswer, IsAnswer}
+use Rattle.tsumego.specs.Text.{BeginsAnswer, IsAnswer, IsEarlierPart}
 
 abbrev pub is_input_fault : {A : Type 0} → Result A RunFault → Bool
 is_input_fault (Ok x) = false
@@ -20,16 +20,17 @@ is_output_fault (Err Output) = true
 is_output_fault (Err Memory) = false
 
 -- What is written behind what was there: a whole answer; after a fault of input nothing; after a fault of output a beginning
--- of what was begun, and where memory was refused all of that.
-abbrev pub WritesOf : (List ℕ → ℕ → Type 0) → (List ℕ → Type 0) → Result ℕ RunFault → Option (List ℕ) → Option (List ℕ) → Type 0
-WritesOf Whole Begun (Ok status) before behind = (text : List ℕ) × Whole text status × Appends before behind text
-WritesOf Whole Begun (Err Input) before behind = Keeps before behind
-WritesOf Whole Begun (Err Output) before behind = (text : List ℕ) × (n : ℕ) × Begun text × Appends before behind (take n text)
-WritesOf Whole Begun (Err Memory) before behind = (text : List ℕ) × Begun text × Appends before behind text
+-- of an answer; and where memory was refused the whole lines on earlier trees alone.
+abbrev pub WritesOf : (List ℕ → ℕ → Type 0) → (List ℕ → Type 0) → (List ℕ → Type 0) → Result ℕ RunFault → Option (List ℕ)
+    → Option (List ℕ) → Type 0
+WritesOf Whole Begun Earlier (Ok status) before behind = (text : List ℕ) × Whole text status × Appends before behind text
+WritesOf Whole Begun Earlier (Err Input) before behind = Keeps before behind
+WritesOf Whole Begun Earlier (Err Output) before behind = (text : List ℕ) × (n : ℕ) × Begun text × Appends before behind (take n text)
+WritesOf Whole Begun Earlier (Err Memory) before behind = (text : List ℕ) × Earlier text × Appends before behind text
 
 -- what a run of the command writes for the input
 abbrev pub Writes : Command → List ℕ → Result ℕ RunFault → Option (List ℕ) → Option (List ℕ) → Type 0
-Writes c input = WritesOf (IsAnswer c input) (BeginsAnswer c input)
+Writes c input = WritesOf (IsAnswer c input) (BeginsAnswer c input) (IsEarlierPart c input)
 
 -- the fact holds of all that a reader had to give, or of some input where the reader doesn't tell
 abbrev pub ForInput : Option (List ℕ) → (List ℕ → Type 0) → Type 0

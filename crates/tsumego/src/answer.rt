@@ -1,19 +1,24 @@
 //! Writes the answer to an input.
 ghost use Rattle.std.specs.Prelude.{◌≡◌, IfOk, false};
+ghost use Rattle.tsumego.specs.CommandLine.{IsInRange};
 ghost use Rattle.tsumego.specs.Lines.{WritesOutcome, WritesText};
-ghost use Rattle.tsumego.specs.Text.{Scores};
-ghost use Rattle.tsumego.specs.Trees.{line_of};
-ghost use Rattle.tsumego.specs.Writing.{ForInput, Writes, is_input_fault, is_output_fault};
+ghost use Rattle.tsumego.specs.Tasks.{IsReady, Makes, task_for};
+ghost use Rattle.tsumego.specs.Trees.{BeginsTreesText, EarlierTreesText, IsTreesText, line_of};
+ghost use Rattle.tsumego.specs.Watching.{TakesAtMost};
+ghost use Rattle.tsumego.specs.Writing.{ForInput, Writes, WritesOf, is_input_fault, is_output_fault};
 
 use crate::fault::RunFault;
 use crate::finding::find;
-use crate::input::read_input;
-use crate::outcome::{Outcome, line, score};
+use crate::input::{MOST_READ, read_input};
+use crate::outcome::{Outcome, line};
 use crate::output::write_bytes;
 use crate::request::Command;
+use crate::task::Task;
 use crate::watched::Watched;
 use std::alloc::Global;
 use std::io::{Read, Write};
+use std::sync::Wait;
+use std::thread::Threads;
 use tt_sgf::{MainLine, SgfFault, has_tree, read_tree};
 
 /// Writes the line of one outcome.
@@ -21,33 +26,36 @@ fn write_line<W: Write>(
     alloc: Global,
     writer: &mut Watched<W>,
     number: usize,
-    outcome: Outcome,
+    outcome: &Outcome,
 ) -> Result<(), RunFault>
     requires { writer.old.failed ≡ false }
-    ensures written { WritesText (line_of number outcome) result (W.contents writer.old.device) (W.contents writer.new.device) }
+    ensures written { WritesText (line_of number outcome.now) result (W.contents writer.old.device) (W.contents writer.new.device) }
     ensures failed { writer.new.failed ≡ is_output_fault result }
 {
     match line(alloc, number, outcome) {
-        Ok(text) => write_bytes(writer, text.as_bytes()),
+        Ok(text) => write_bytes(writer, text.as_slice()),
         Err(_) => Err(RunFault::Memory),
     }
 }
 
-/// Scores a tree by its main line, and says whether it was refused.
-fn answer_tree<W: Write>(
+/// Writes what becomes of a tree by its main line, and says whether it was refused.
+fn answer_tree<X: Threads + Wait + Sync, W: Write>(
+    rt: &X,
     alloc: Global,
+    task: &Task,
     number: usize,
     main: &MainLine,
     writer: &mut Watched<W>,
 ) -> Result<bool, RunFault>
-    requires { writer.old.failed ≡ false }
-    ensures written { WritesOutcome Scores number main.now.nodes result (W.contents writer.old.device) (W.contents writer.new.device) }
+    requires ready { IsReady task.now }
+    requires working { writer.old.failed ≡ false }
+    ensures written { WritesOutcome (Makes task.now) number main.now.nodes result (W.contents writer.old.device) (W.contents writer.new.device) }
     ensures failed { writer.new.failed ≡ is_output_fault result }
 {
-    let Ok(outcome) = score(alloc, main) else {
+    let Ok(outcome) = task.outcome(rt, alloc, main) else {
         return Err(RunFault::Memory);
     };
-    match write_line(alloc, writer, number, outcome) {
+    match write_line(alloc, writer, number, &outcome) {
         Ok(()) => Ok(outcome.is_refused()),
         Err(fault) => Err(fault),
     }
@@ -65,20 +73,24 @@ fn refuse<W: Write>(
     ensures status { IfOk result (λ status. status ≡ 1) }
     ensures failed { writer.new.failed ≡ is_output_fault result }
 {
-    match write_line(alloc, writer, number, Outcome::Refused(code)) {
+    match write_line(alloc, writer, number, &Outcome::Refused(code)) {
         Ok(()) => Ok(1),
         Err(fault) => Err(fault),
     }
 }
 
 /// Answers the trees of an input one after the other.
-fn answer_trees<W: Write>(
+fn answer_trees<X: Threads + Wait + Sync, W: Write>(
+    rt: &X,
     alloc: Global,
+    task: &Task,
     input: &[u8],
     writer: &mut Watched<W>,
 ) -> Result<u8, RunFault>
-    requires { writer.old.failed ≡ false }
-    ensures written { Writes Command.Score input.now result (W.contents writer.old.device) (W.contents writer.new.device) }
+    requires ready { IsReady task.now }
+    requires working { writer.old.failed ≡ false }
+    ensures written { WritesOf (IsTreesText (Makes task.now) input.now) (BeginsTreesText (Makes task.now) input.now)
+        (EarlierTreesText (Makes task.now) input.now) result (W.contents writer.old.device) (W.contents writer.new.device) }
     ensures reading { is_input_fault result ≡ false }
     ensures failed { writer.new.failed ≡ is_output_fault result }
 {
@@ -88,7 +100,7 @@ fn answer_trees<W: Write>(
     while number == 1 || has_tree(rest) {
         match read_tree(alloc, rest) {
             Ok((main, used)) => {
-                match answer_tree(alloc, number, &main, writer) {
+                match answer_tree(rt, alloc, task, number, &main, writer) {
                     Ok(bad) => refused |= bad,
                     Err(fault) => return Err(fault),
                 }
@@ -126,45 +138,69 @@ fn answer_certificate<W: Write>(
     }
 }
 
+/// What a command does with each tree, where it goes tree by tree.
+fn task_of(command: &Command) -> Option<Task>
+    ensures { result ≡ task_for command.now }
+{
+    match command {
+        Command::Score => Some(Task::Score),
+        Command::Check => None,
+        Command::Solve {
+            limits,
+            workers,
+            cert,
+        } => Some(Task::Solve {
+            limits: *limits,
+            workers: *workers,
+            cert: *cert,
+        }),
+    }
+}
+
 /// Answers an input.
-fn answer<W: Write>(
+fn answer<X: Threads + Wait + Sync, W: Write>(
+    rt: &X,
     alloc: Global,
     command: &Command,
     input: &[u8],
     writer: &mut Watched<W>,
 ) -> Result<u8, RunFault>
-    requires { writer.old.failed ≡ false }
+    requires in_range { IsInRange command.now }
+    requires working { writer.old.failed ≡ false }
     ensures written { Writes command.now input.now result (W.contents writer.old.device) (W.contents writer.new.device) }
     ensures reading { is_input_fault result ≡ false }
     ensures failed { writer.new.failed ≡ is_output_fault result }
 {
-    match command {
-        Command::Score => answer_trees(alloc, input, writer),
-        Command::Check => answer_certificate(alloc, input, writer),
+    match task_of(command) {
+        Some(task) => answer_trees(rt, alloc, &task, input, writer),
+        None => answer_certificate(alloc, input, writer),
     }
 }
 
-/// Runs a command on an input: reads it whole, and writes its answer and nothing else. The status
-/// is 1 where something was refused, else 0.
+/// Runs a command on an input: reads it whole, or 1,048,577 bytes of a longer one, and writes its answer and nothing
+/// else. The status is 1 where something was refused or the certificate is invalid, else 0.
 ///
-/// Neither reader nor writer may have failed before. `Input` comes exactly where a read failed, and
+/// The options of `Solve` lie in their ranges, and neither reader nor writer has failed before. `Input` comes exactly where a read failed, and
 /// then nothing is written; `Output` exactly where a write failed or took no byte, and then a
-/// beginning of the answer is written; after `Memory` whole lines of it are written.
-pub fn run<R: Read, W: Write>(
+/// beginning of the answer is written; after `Memory` the whole lines of earlier trees are written, or nothing.
+pub fn run<X: Threads + Wait + Sync, R: Read, W: Write>(
+    rt: &X,
     alloc: Global,
     command: &Command,
     reader: &mut Watched<R>,
     writer: &mut Watched<W>,
 ) -> Result<u8, RunFault>
+    requires in_range { IsInRange command.now }
     requires reader { reader.old.failed ≡ false }
     requires writer { writer.old.failed ≡ false }
     ensures written { ForInput (R.remaining reader.old.device) (λ input.
         Writes command.now input result (W.contents writer.old.device) (W.contents writer.new.device)) }
+    ensures taken { TakesAtMost MOST_READ (R.remaining reader.old.device) (R.remaining reader.new.device) }
     ensures input { reader.new.failed ≡ is_input_fault result }
     ensures output { writer.new.failed ≡ is_output_fault result }
 {
     match read_input(alloc, reader) {
-        Ok(input) => answer(alloc, command, input.as_slice(), writer),
+        Ok(input) => answer(rt, alloc, command, input.as_slice(), writer),
         Err(fault) => Err(fault),
     }
 }

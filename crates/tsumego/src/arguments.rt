@@ -1,25 +1,89 @@
 //! The command line.
-ghost use Rattle.std.specs.Prelude.{◌≡◌, [], true, IfErr, IfOk, OnOk, IfSome, map, string_bytes};
-ghost use Rattle.clap.specs.Words.{app_of, subcommand_of, subcommand_rows_of, fault_of, takes, kind_of};
-ghost use Rattle.tsumego.specs.CommandLine.{Asks, tool};
+ghost use Rattle.std.specs.Prelude.{◌≡◌, ◌≤◌, false, [], true, IfErr, IfOk, OnOk, IfSome, map, string_bytes};
+ghost use Rattle.clap.specs.Words.{app_of, subcommand_of, subcommand_rows_of, fault_of, takes, kind_of, new_app, rows_of, rule_of, found_of};
+ghost use Rattle.clap.specs.declared.builder.command.Command.TheViews.{out-Command};
+ghost use Rattle.tsumego.specs.CommandLine.{Asks, AsksSolve, HasFlag, HasNumber, IsInRange, flag_rule, number_rule, solve_app, tool};
 
 use crate::request::Command;
 use clap::error::ErrorKind;
-use clap::{ArgMatches, Command as Parser, Error};
+use clap::{Arg, ArgAction, ArgMatches, Command as Parser, Error, value_parser};
 use std::alloc::{AllocError, Global};
+use tt_search::Limits;
 
-/// Why a command line was refused: the parser's text, empty where memory was refused.
+/// Why a command line was refused: the parser's text, empty where memory was refused or the words couldn't be read.
 #[derive(Debug, Drop)]
 pub struct ArgFault(pub String);
+
+const BUDGET_HELP: &str = "How many nodes may be expanded behind each first turn, 1 to 1000000";
+
+const DEPTH_HELP: &str = "How many turns deep a search may go from the problem, 1 to 512";
+
+const WORKERS_HELP: &str = "How many threads search first turns side by side, 1 to 64";
+
+const CERT_HELP: &str = "Write the certificate on a line of its own";
+
+/// An option with a number from 1 to `most`.
+fn number_option<'a>(
+    alloc: Global,
+    name: &'a str,
+    most: u32,
+    default: &'a str,
+    help: &'a str,
+) -> Arg<'a>
+    requires { 1 ≤ most }
+    ensures rule { rule_of result ≡ number_rule name.entry.now most default.entry.now }
+    ensures local { result.global ≡ false }
+{
+    Arg::new(alloc, name)
+        .long(name)
+        .help(help)
+        .value_parser(value_parser!(u32).range(1..=i64::from(most)))
+        .default_value(default)
+}
+
+/// A flag.
+fn flag<'a>(alloc: Global, name: &'a str, help: &'a str) -> Arg<'a>
+    ensures rule { rule_of result ≡ flag_rule name.entry.now }
+    ensures local { result.global ≡ false }
+{
+    Arg::new(alloc, name)
+        .long(name)
+        .help(help)
+        .action(ArgAction::SetTrue)
+}
+
+/// A parser without options, and its text in the list of commands.
+fn named<'a>(alloc: Global, name: &'a str, about: &'a str) -> Parser<'a>
+    ensures app { app_of result ≡ new_app name.entry.now }
+    ensures local { (out-Command result).has_globals ≡ false }
+{
+    Parser::new(alloc, name).about(about)
+}
+
+fn solve_parser<'a>(alloc: Global) -> Result<Parser<'a>, AllocError>
+    ensures shape { IfOk result (λ r. app_of r ≡ solve_app) }
+    ensures local { IfOk result (λ r. (out-Command r).has_globals ≡ false) }
+{
+    let budget = number_option(alloc, "budget", 1_000_000, "100000", BUDGET_HELP);
+    let depth = number_option(alloc, "depth", 512, "512", DEPTH_HELP);
+    let workers = number_option(alloc, "workers", 64, "1", WORKERS_HELP);
+    let cert = flag(alloc, "cert", CERT_HELP);
+    let one = named(alloc, "solve", "Solve problems").arg(budget)?;
+    let two = one.arg(depth)?;
+    let three = two.arg(workers)?;
+    three.arg(cert)
+}
 
 fn parser<'a>(alloc: Global) -> Result<Parser<'a>, AllocError>
     ensures { IfOk result (λ r. app_of r ≡ tool) }
 {
-    let score = Parser::new(alloc, "score");
-    let check = Parser::new(alloc, "check");
-    let top = Parser::new(alloc, "tsumego").subcommand_required(true);
-    let one = top.subcommand(score)?;
-    one.subcommand(check)
+    let score = named(alloc, "score", "Score game records by area");
+    let check = named(alloc, "check", "Check the certificate behind a problem");
+    let solve = solve_parser(alloc)?;
+    let about = "Life-and-death problems of Go, read from standard input";
+    let top = named(alloc, "tsumego", about).subcommand_required(true);
+    let two = top.subcommand(score)?.subcommand(check)?;
+    two.subcommand(solve)
 }
 
 /// The text of a refusal, empty where memory was refused.
@@ -35,13 +99,49 @@ fn fault(alloc: Global, error: &Error) -> ArgFault
     }
 }
 
+/// The number of an option.
+fn number_of(matches: &ArgMatches<'_>, name: &str) -> Option<u32>
+    ensures { IfSome result (HasNumber name.now (rows_of (found_of matches.now))) }
+{
+    matches.get_one::<u32>(name)
+}
+
+/// Whether a flag was given.
+fn flag_of(matches: &ArgMatches<'_>, name: &str) -> Option<bool>
+    ensures { IfSome result (HasFlag name.now (rows_of (found_of matches.now))) }
+{
+    matches.get_one::<bool>(name)
+}
+
+/// The options of `solve`.
+fn solve_asked(matches: &ArgMatches<'_>) -> Option<Command>
+    ensures asked { IfSome result (AsksSolve (rows_of (found_of matches.now))) }
+    ensures in_range { IfSome result IsInRange }
+{
+    let budget = number_of(matches, "budget")?;
+    let depth = number_of(matches, "depth")?;
+    let workers = number_of(matches, "workers")?;
+    let cert = flag_of(matches, "cert")?;
+    if depth < 1 || depth > 512 || workers < 1 || workers > 64 {
+        return None;
+    }
+    let limits = Limits::new(budget, depth as u16)?;
+    Some(Command::Solve {
+        limits,
+        workers: workers as usize,
+        cert,
+    })
+}
+
 /// The command that a parse met.
 fn asked(matches: &ArgMatches<'_>) -> Option<Command>
-    ensures { IfSome result (Asks (subcommand_rows_of matches.now)) }
+    ensures asked { IfSome result (Asks (subcommand_rows_of matches.now)) }
+    ensures in_range { IfSome result IsInRange }
 {
     match matches.subcommand() {
         Some(("score", _)) => Some(Command::Score),
         Some(("check", _)) => Some(Command::Check),
+        Some(("solve", options)) => solve_asked(options),
         _ => None,
     }
 }
@@ -50,6 +150,7 @@ fn asked(matches: &ArgMatches<'_>) -> Option<Command>
 /// name alone.
 pub fn command(alloc: Global, words: &[String]) -> Result<Command, ArgFault>
     ensures asked { IfOk result (Asks (subcommand_of tool (map string_bytes words.now))) }
+    ensures in_range { IfOk result IsInRange }
     ensures clean { OnOk result (fault_of tool (map string_bytes words.now) ≡ []) }
     ensures taken { takes tool (map string_bytes words.now) ≡ true
         → IfErr result (λ fault. string_bytes fault.0 ≡ []) }

@@ -1,6 +1,6 @@
 //! Reads the whole input.
 ghost use Rattle.std.specs.Prelude.{◌≡◌, IfOk, false};
-ghost use Rattle.tsumego.specs.Watching.{IsInput};
+ghost use Rattle.tsumego.specs.Watching.{IsInput, TakesAtMost};
 ghost use Rattle.tsumego.specs.Writing.{is_input_fault, is_output_fault};
 
 use crate::fault::RunFault;
@@ -8,7 +8,7 @@ use crate::watched::Watched;
 use std::alloc::Global;
 use std::io::Read;
 
-/// One byte more than the longest input that is answered.
+/// One byte more than the longest input whose trees are read.
 pub const MOST_READ: usize = 1_048_577;
 
 const CHUNK: usize = 4096;
@@ -17,6 +17,7 @@ const CHUNK: usize = 4096;
 pub fn read_input<R: Read>(alloc: Global, reader: &mut Watched<R>) -> Result<Vec<u8>, RunFault>
     requires { reader.old.failed ≡ false }
     ensures read { IfOk result (λ input. IsInput MOST_READ (R.remaining reader.old.device) input.items) }
+    ensures taken { TakesAtMost MOST_READ (R.remaining reader.old.device) (R.remaining reader.new.device) }
     ensures failed { reader.new.failed ≡ is_input_fault result }
     ensures fault { is_output_fault result ≡ false }
 {

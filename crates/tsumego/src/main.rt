@@ -11,7 +11,12 @@ mod outcome;
 mod output;
 mod request;
 #[cfg(test)]
+mod solve_tests;
+mod solving;
+mod task;
+#[cfg(test)]
 mod tests;
+mod verdict;
 mod watched;
 
 use answer::run;
@@ -46,7 +51,7 @@ fn main(rt: HostRuntime) -> ExitCode {
     };
     let mut reader = Watched::new(rt.stdin());
     let mut writer = Watched::new(rt.stdout());
-    match run(rt.alloc(), &command, &mut reader, &mut writer) {
+    match run(&rt, rt.alloc(), &command, &mut reader, &mut writer) {
         Ok(status) => ExitCode::from(status),
         Err(fault) => {
             let _ = rt.eprintln(fault);

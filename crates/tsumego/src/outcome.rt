@@ -1,17 +1,19 @@
 //! What becomes of one game tree, and the line that says so.
-ghost use Rattle.std.specs.Prelude.{◌≡◌, IfOk, string_bytes};
+ghost use Rattle.std.specs.Prelude.{◌≡◌, IfOk};
 ghost use Rattle.tsumego.specs.Text.{Scores};
 ghost use Rattle.tsumego.specs.Trees.{is_refused, line_of};
 
 use std::alloc::{AllocError, Global};
 use tt_game::{GameFault, Record, play_record};
-use tt_sgf::{MainLine, NoMemory};
+use tt_sgf::{Items, MainLine, NoMemory};
 
 /// What becomes of one game tree.
-#[derive(Clone, Copy, Debug, PartialEq, Eq)]
+#[derive(Drop)]
 pub enum Outcome {
     /// A record was scored.
     Scored(Record),
+    /// A problem was answered, by this text behind the tree's number.
+    Answered(Items<u8>),
     /// The tree was refused, with this number.
     Refused(u8),
 }
@@ -25,21 +27,45 @@ impl Outcome {
     }
 }
 
-/// The line on the outcome of the tree with this number.
-pub fn line(alloc: Global, number: usize, outcome: Outcome) -> Result<String, AllocError>
-    ensures { IfOk result (λ text. string_bytes text ≡ line_of number outcome) }
+/// The line of a score.
+fn score_line(alloc: Global, number: usize, scored: &Record) -> Result<Vec<u8>, AllocError>
+    ensures { IfOk result (λ text. text.items ≡ line_of number (Outcome.Scored scored.now)) }
+{
+    let Record {
+        black,
+        white,
+        finished,
+    } = *scored;
+    let end = if finished { "finished" } else { "unfinished" };
+    let text = format!(in alloc; "{number} black {black} white {white} {end}\n")?;
+    Ok(text.into_bytes())
+}
+
+/// The number of a tree, and the text of its answer behind a blank.
+fn answer_lines(alloc: Global, number: usize, answer: &[u8]) -> Result<Vec<u8>, AllocError>
+    ensures { IfOk result (λ text. text.items ≡ line_of number (Outcome.Answered answer.now)) }
+{
+    let mut text = format!(in alloc; "{number} ")?.into_bytes();
+    text.extend_from_slice(answer)?;
+    Ok(text)
+}
+
+/// The line of a refusal.
+fn refusal_line(alloc: Global, number: usize, code: u8) -> Result<Vec<u8>, AllocError>
+    ensures { IfOk result (λ text. text.items ≡ line_of number (Outcome.Refused code)) }
+{
+    let text = format!(in alloc; "{number} refused {code}\n")?;
+    Ok(text.into_bytes())
+}
+
+/// The line on the outcome of the tree with this number, with the line of a certificate where there is one.
+pub fn line(alloc: Global, number: usize, outcome: &Outcome) -> Result<Vec<u8>, AllocError>
+    ensures { IfOk result (λ text. text.items ≡ line_of number outcome.now) }
 {
     match outcome {
-        Outcome::Scored(record) => {
-            let Record {
-                black,
-                white,
-                finished,
-            } = record;
-            let end = if finished { "finished" } else { "unfinished" };
-            format!(in alloc; "{number} black {black} white {white} {end}\n")
-        }
-        Outcome::Refused(code) => format!(in alloc; "{number} refused {code}\n"),
+        Outcome::Scored(record) => score_line(alloc, number, record),
+        Outcome::Answered(text) => answer_lines(alloc, number, text.as_slice()),
+        Outcome::Refused(code) => refusal_line(alloc, number, *code),
     }
 }
 

@@ -1,4 +1,7 @@
-//! The worked rows, through the command line, over a reader and a writer in memory.
+//! Inputs with their lines, through the command line, over a reader and a writer in memory.
+
+ghost use Rattle.std.specs.Prelude.{IfOk};
+ghost use Rattle.tsumego.specs.CommandLine.{IsInRange};
 
 use crate::answer::run;
 use crate::arguments::{ArgFault, command};
@@ -8,14 +11,20 @@ use crate::watched::Watched;
 use std::alloc::{AllocError, Global};
 use std::io;
 use std::io::{ErrorKind, Read, Write};
+use std::sync::Wait;
 use std::test::Fail;
+use std::thread::Threads;
 
-/// A command line: the program's name, and one word behind it.
-fn asked(alloc: Global, word: &str) -> Result<Result<Command, ArgFault>, AllocError> {
-    let mut words = Vec::new(alloc);
-    words.push(String::from_str(alloc, "tsumego")?)?;
-    words.push(String::from_str(alloc, word)?)?;
-    Ok(command(alloc, words.as_slice()))
+/// A command line: the program's name, and these words behind it.
+pub fn asked(alloc: Global, words: &[&str]) -> Result<Result<Command, ArgFault>, AllocError>
+    ensures { IfOk result (λ asked. IfOk asked IsInRange) }
+{
+    let mut line = Vec::new(alloc);
+    line.push(String::from_str(alloc, "tsumego")?)?;
+    for word in words {
+        line.push(String::from_str(alloc, word)?)?;
+    }
+    Ok(command(alloc, line.as_slice()))
 }
 
 /// The word behind the program's name and the input; the answer and the status.
@@ -204,14 +213,19 @@ const LONG_ROWS: [(&str, &str, (&str, usize), &str, &str, u8); 5] = [
 ];
 
 /// What a command answers to an input, and its status.
-fn answered(alloc: Global, word: &str, input: &[u8]) -> Result<(Vec<u8>, u8), Fail> {
-    let Ok(command) = asked(alloc, word)? else {
+pub fn answered<X: Threads + Wait + Sync>(
+    rt: &X,
+    alloc: Global,
+    words: &[&str],
+    input: &[u8],
+) -> Result<(Vec<u8>, u8), Fail> {
+    let Ok(command) = asked(alloc, words)? else {
         return Err(Fail::new("the command line was refused"));
     };
     let mut out = Vec::new(alloc);
     let mut reader = Watched::new(input);
     let mut writer = Watched::new(&mut out);
-    match run(alloc, &command, &mut reader, &mut writer) {
+    match run(rt, alloc, &command, &mut reader, &mut writer) {
         Ok(status) => Ok((out, status)),
         Err(_) => Err(Fail::new("the run failed")),
     }
@@ -221,7 +235,7 @@ fn answered(alloc: Global, word: &str, input: &[u8]) -> Result<(Vec<u8>, u8), Fa
 fn answers_rows(rt: HostRuntime) -> Result<(), Fail> {
     let alloc = rt.alloc();
     for (word, input, want, status) in ROWS {
-        let (out, got) = answered(alloc, word, input.as_bytes())?;
+        let (out, got) = answered(&rt, alloc, &[word], input.as_bytes())?;
         assert!(rt;
             out.as_slice() == want.as_bytes() && got == status,
             "{word} {input}"
@@ -240,7 +254,7 @@ fn answers_long_rows(rt: HostRuntime) -> Result<(), Fail> {
             input.extend_from_slice(part.as_bytes())?;
         }
         input.extend_from_slice(end.as_bytes())?;
-        let (out, got) = answered(alloc, word, input.as_slice())?;
+        let (out, got) = answered(&rt, alloc, &[word], input.as_slice())?;
         assert!(rt;
             out.as_slice() == want.as_bytes() && got == status,
             "{word} {times}"
@@ -253,10 +267,22 @@ fn answers_long_rows(rt: HostRuntime) -> Result<(), Fail> {
 fn refuses_lines(rt: HostRuntime) -> Result<(), Fail> {
     let alloc = rt.alloc();
     for word in ["", "scor", "--help", "help", "--budget", "score "] {
-        assert!(rt; asked(alloc, word)?.is_err(), "at {word}");
+        assert!(rt; asked(alloc, &[word])?.is_err(), "at {word}");
     }
     let nothing: Vec<String> = Vec::new(alloc);
     assert!(rt; command(alloc, nothing.as_slice()).is_err());
+    Ok(())
+}
+
+#[test]
+fn names_faults(rt: HostRuntime) -> Result<(), Fail> {
+    let alloc = rt.alloc();
+    let input = format!(in alloc; "{}", RunFault::Input)?;
+    assert!(rt; input.as_str() == "tsumego: input");
+    let output = format!(in alloc; "{}", RunFault::Output)?;
+    assert!(rt; output.as_str() == "tsumego: output");
+    let memory = format!(in alloc; "{}", RunFault::Memory)?;
+    assert!(rt; memory.as_str() == "tsumego: memory");
     Ok(())
 }
 
@@ -318,7 +344,7 @@ fn fails_at_each_read(rt: HostRuntime) -> Result<(), Fail> {
             reads,
         });
         let mut writer = Watched::new(&mut out);
-        let got = run(alloc, &Command::Score, &mut reader, &mut writer);
+        let got = run(&rt, alloc, &Command::Score, &mut reader, &mut writer);
         if reads <= input.len() {
             assert!(rt;
                 got == Err(RunFault::Input) && reader.failed(),
@@ -346,7 +372,7 @@ fn fails_at_each_byte(rt: HostRuntime) -> Result<(), Fail> {
                 errs,
             };
             let mut writer = Watched::new(&mut device);
-            let got = run(alloc, &Command::Score, &mut reader, &mut writer);
+            let got = run(&rt, alloc, &Command::Score, &mut reader, &mut writer);
             let failed = writer.failed();
             let Narrow { taken, .. } = device;
             if room < want.len() {

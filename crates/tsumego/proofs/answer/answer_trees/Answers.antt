@@ -9,7 +9,9 @@ use Rattle.tsumego.proofs.answer.answer_trees.Goals.{then-number-eq1, else-numbe
 pub returns-in-Err-clause-written : goal.returns-in-Err-clause-written
 returns-in-Err-clause-written g c =
     let found = c.in-Ok.ensures.found in
-    progress_fault c.loop-number.invariant.progress _ c.in-Ok.used found.0 c.in-Ok.main.nodes c.in-Err.fault found.1 found.2
+    let goes : (c.loop-number.number ≡ 1) ⊎ HasOpen c.loop-number.rest.now =
+    elim c.if-number-eq1.branch [ then-number-eq1 w ↦ inl w.if-number-eq1.true | else-number-eq1+then-has_tree w ↦ inr (search (rules, w.if-has_tree.true)) ] in
+    progress_fault c.loop-number.invariant.progress _ goes c.in-Ok.used found.0 c.in-Ok.main.nodes c.in-Err.fault found.1 found.2
     (read_small c.read_tree.result _ _ c.in-Ok.is c.read_tree.ensures.too_long) c.in-Err.ensures.written
 
 pub loop-number-smaller : goal.loop-number-smaller
@@ -43,11 +45,16 @@ returns-in-Err-Syntax-clause-written g c =
 
 pub returns-in-Err-TooLong-clause-written : goal.returns-in-Err-TooLong-clause-written
 returns-in-Err-TooLong-clause-written g c =
-    progress_long c.loop-number.invariant.progress _ c.refuse-in-Err-TooLong.result (c.in-Err-TooLong.ensures.too_long.0 (search rules)) c.loop-number.invariant.bound
+    let goes : (c.loop-number.number ≡ 1) ⊎ HasOpen c.loop-number.rest.now =
+    elim c.if-number-eq1.branch [ then-number-eq1 w ↦ inl w.if-number-eq1.true | else-number-eq1+then-has_tree w ↦ inr (search (rules, w.if-has_tree.true)) ] in
+    progress_long c.loop-number.invariant.progress _ goes c.refuse-in-Err-TooLong.result (c.in-Err-TooLong.ensures.too_long.0 (search rules)) c.loop-number.invariant.bound
     c.refuse-in-Err-TooLong.ensures.status c.refuse-in-Err-TooLong.ensures.written
 
 pub returns-in-Err-NoMemory-clause-written : goal.returns-in-Err-NoMemory-clause-written
-returns-in-Err-NoMemory-clause-written g c = progress_kept c.loop-number.invariant.progress _ (search rules)
+returns-in-Err-NoMemory-clause-written g c =
+    let goes : (c.loop-number.number ≡ 1) ⊎ HasOpen c.loop-number.rest.now =
+    elim c.if-number-eq1.branch [ then-number-eq1 w ↦ inl w.if-number-eq1.true | else-number-eq1+then-has_tree w ↦ inr (search (rules, w.if-has_tree.true)) ] in
+    progress_kept c.loop-number.invariant.progress _ goes (search rules)
 
 pub returns-then-refused-clause-written : goal.returns-then-refused-clause-written
 returns-then-refused-clause-written g c =

@@ -9,7 +9,10 @@ pub returns : goal.returns
 unfolding tool
 returns c =
     let top_is : app_of c.subcommand_required-top.result ≡ needing_subcommand (new_app (codes "tsumego")) =
-    ap app_of_fields c.subcommand_required-top.ensures ∙ ap needing_subcommand c.new.ensures.app in
-    let one_is = c.in_ok-one.ensures.shape c.new-score.ensures.local ∙ ap₂ with_subcommand top_is (ap (λ (a : App). a.top) c.new-score.ensures.app) in
-    IfOk-weaker c.subcommand-2.result _ _ (λ r h. h.shape c.new-check.ensures.local
-    ∙ ap₂ with_subcommand one_is (ap (λ (a : App). a.top) c.new-check.ensures.app)) c.subcommand-2.ensures
+    ap app_of_fields c.subcommand_required-top.ensures ∙ ap needing_subcommand c.named.ensures.app in
+    let one_is = c.in_ok-subcommand.ensures.shape c.named-score.ensures.local
+    ∙ ap₂ with_subcommand top_is (ap (λ (a : App). a.top) c.named-score.ensures.app) in
+    let two_is = c.in_ok-two.ensures.shape c.named-check.ensures.local
+    ∙ ap₂ with_subcommand one_is (ap (λ (a : App). a.top) c.named-check.ensures.app) in
+    IfOk-weaker c.subcommand-3.result _ _ (λ r h. h.shape c.in_ok-solve.ensures.local
+    ∙ ap₂ with_subcommand two_is (ap (λ (a : App). a.top) c.in_ok-solve.ensures.shape)) c.subcommand-3.ensures

@@ -1,0 +1,74 @@
+-- Lemmas on the text of a verdict.
+use Rattle.std.proofs.Common.{◌≡◌, ◌≤◌, ℕ, Bool, true, false, List, [], ◌++◌, Option, IfSome, IsSome, refl, sym, ap₂, ◌∙◌, subst, if◌then◌else◌}
+use Rattle.tt_sgf.specs.declared.size.Size.{Size}
+use Rattle.tt_game.specs.declared.frame.Frame.{Frame}
+use Rattle.tt_game.specs.declared.frame.Side.{Side}
+use Rattle.tt_game.specs.declared.turns.Turn.{Turn}
+use Rattle.tt_game.specs.Game.{State, after}
+use Rattle.tt_game.specs.Line.{Standing}
+use Rattle.tt_proof.specs.CertificateText.{certificate_text}
+use Rattle.tt_proof.specs.Laws.{WinningForces}
+use Rattle.tt_proof.specs.Proven.{IsWon, Proven, first_of}
+use Rattle.tt_proof.specs.Strategy.{Strategy, done, pick, reply, depth, IsInOrder, IsOnBoard}
+use Rattle.tt_proof.specs.Wins.{Wins}
+use Rattle.tt_search.specs.declared.limits.Limits.{Limits}
+use Rattle.tt_search.specs.declared.limits.Reason.{Reason}
+use Rattle.tt_search.specs.declared.limits.Reason.TheVariants.{Budget, Depth, Memory}
+use Rattle.tt_share.specs.declared.answer.Stuck.{Stuck}
+use Rattle.tt_share.specs.Answers.{IsSettled}
+use Rattle.tt_share.specs.Answers as answer
+use Rattle.tsumego.specs.Solving.{Follows, IsFirst, IsUnsettled, Verdict, certificate_line, decided, decided_text, unsettled, unsettled_text}
+
+-- the first turn of a strategy in order is on the board
+pub first_on_board : (size : Size) (u : Strategy) (first : Option Turn) → first ≡ first_of u → IsInOrder size u → IfSome first (IsOnBoard size)
+first_on_board size u first e h = subst (λ (o : Option Turn). IfSome o (IsOnBoard size)) (sym e) (begins u h)
+  where
+    begins : (v : Strategy) → IsInOrder size v → IfSome (first_of v) (IsOnBoard size)
+    begins done h = tt
+    begins (pick t v) h = h.0
+    begins (reply es) h = tt
+
+module _ (forces : WinningForces) (line : Standing) where
+  -- the first turn of a winning strategy keeps the win
+  first_keeps : (side : Side) (u : Strategy) → Wins side line.frame u line.state → (side ≡ line.state.to_move → IsSome (first_of u)) → IsFirst line side (first_of u)
+  first_keeps side done w shown = λ e. let bad : false ≡ true = shown (sym e) in cc
+  first_keeps side (pick t u) w shown = (w.1, w.2, (depth u, forces side line.frame u (after line.frame line.state t) w.3))
+  first_keeps side (reply es) w shown = λ e. let bad : false ≡ true = shown (sym e) in cc
+
+  -- what follows the line of a winning strategy
+  follows : (limits : Limits) (side : Side) (u : Strategy) (cert : Bool) → IsWon side line.frame line.state u → depth u ≤ limits.depth
+      → Follows line limits side (first_of u) cert (if cert then certificate_line line.frame.size side u else [])
+  follows limits side u false w low = refl
+  follows limits side u true w low = (
+    certificate_text line.frame.size side u,
+    record { strategy = u; is = record { in_order = w.in_order; low = w.low; text = refl }; wins = w.wins; low = low; begins = refl },
+    refl,
+  )
+
+  won_verdict : (limits : Limits) (side : Side) (u : Strategy) (cert : Bool) → IsWon side line.frame line.state u → depth u ≤ limits.depth
+      → (side ≡ line.state.to_move → IsSome (first_of u))
+      → Verdict line limits cert (decided_text line.frame.size side (first_of u) ++ (if cert then certificate_line line.frame.size side u else []))
+  won_verdict limits side u cert w low shown =
+      decided side (first_of u) (if cert then certificate_line line.frame.size side u else []) (depth u, forces side line.frame u line.state w.wins)
+      (first_keeps side u w.wins shown) (follows limits side u cert w low)
+
+  -- the text of a proof that stands at the problem
+  pub settled_verdict : (limits : Limits) (cert : Bool) (p : Proven) (first : Option Turn) (size : Size) (text : List ℕ) → IsSettled line limits p first
+      → IsWon p.side p.frame p.state p.tree → size ≡ line.frame.size
+      → text ≡ decided_text size p.side first ++ (if cert then certificate_line size p.side p.tree else []) → Verdict line limits cert text
+  settled_verdict limits cert p first size text h w same e =
+      let won : IsWon p.side line.frame line.state p.tree =
+      subst (λ (s : State). IsWon p.side line.frame s p.tree) h.stands.1 (subst (λ (f : Frame). IsWon p.side f p.state p.tree) h.stands.0 w) in
+      let shown : p.side ≡ line.state.to_move → IsSome (first_of p.tree) = λ is. subst (λ (o : Option Turn). IsSome o) h.first_is (h.shown.1 is) in
+      let is = e ∙ ap₂ (λ (x : Size) (o : Option Turn). decided_text x p.side o ++ (if cert then certificate_line x p.side p.tree else [])) same h.first_is in
+      subst (λ (x : List ℕ). Verdict line limits cert x) (sym is) (won_verdict limits p.side p.tree cert won h.low shown)
+
+-- the text of a stuck turn
+pub stuck_verdict : (line : Standing) (limits : Limits) (cert : Bool) (stuck : Stuck) (text : List ℕ) → answer.IsUnsettled line limits stuck.reason stuck
+    → text ≡ unsettled_text stuck.reason → Verdict line limits cert text
+stuck_verdict line limits cert stuck text h e = subst (λ (x : List ℕ). Verdict line limits cert x) (sym e) (unsettled stuck.reason (held stuck.reason h))
+  where
+    held : (reason : Reason) → answer.IsUnsettled line limits reason stuck → IsUnsettled line limits reason
+    held Budget h = (stuck.turn, h.0, h.2)
+    held Depth h = (stuck.turn, h.0, h.2)
+    held Memory h = tt

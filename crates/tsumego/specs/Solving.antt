@@ -1,0 +1,106 @@
+-- What `solve` says of a problem: killed or lives with the first turn and a certificate, or unsettled.
+use Rattle.std.specs.Prelude.{◌≡◌, ◌≢◌, ◌≤◌, ℕ, Bool, true, false, List, [], ◌∷◌, ◌++◌, Option, Some, None, Ok, Err, codes}
+use Rattle.std.specs.declared.result.Result.{Result}
+use Rattle.tt_sgf.specs.declared.nodes.Node.{Node}
+use Rattle.tt_sgf.specs.declared.size.Size.{Size}
+use Rattle.tt_game.specs.declared.faults.GameFault.{GameFault}
+use Rattle.tt_game.specs.declared.frame.Frame.{Frame}
+use Rattle.tt_game.specs.declared.frame.Side.{Side}
+use Rattle.tt_game.specs.declared.frame.Side.TheVariants.{Attacker, Defender}
+use Rattle.tt_game.specs.declared.turns.Turn.{Turn}
+use Rattle.tt_game.specs.declared.turns.Turn.TheVariants.{Play, Pass}
+use Rattle.tt_game.specs.Faults.{code_of}
+use Rattle.tt_game.specs.Game.{State, Forces, IsLegal, after}
+use Rattle.tt_game.specs.Line.{Standing}
+use Rattle.tt_game.specs.Problems.{problem_of}
+use Rattle.tt_proof.specs.CertificateText.{IsCertificate, certificate_text, turn_text}
+use Rattle.tt_proof.specs.Proven.{first_of}
+use Rattle.tt_proof.specs.Strategy.{Strategy, depth}
+use Rattle.tt_proof.specs.Wins.{Wins}
+use Rattle.tt_search.specs.declared.limits.Limits.{Limits}
+use Rattle.tt_search.specs.declared.limits.Reason.{Reason}
+use Rattle.tt_search.specs.declared.limits.Reason.TheVariants.{Budget, Depth, Memory}
+use Rattle.tt_search.specs.Searched.{Searched}
+use Rattle.tt_share.specs.Answers.{IsStuckBehind}
+use Rattle.tsumego.specs.declared.outcome.Outcome.{Outcome}
+use Rattle.tsumego.specs.declared.outcome.Outcome.TheVariants.{Answered, Refused}
+
+-- ---- texts; byte 10 ends each line
+
+-- the side that wins: the attacker kills, the defender lives
+abbrev pub side_word : Side → List ℕ
+side_word Attacker = codes "killed"
+side_word Defender = codes "lives"
+
+-- `ca` is the third column of the first row
+abbrev pub shown_turn : Size → Turn → List ℕ
+shown_turn size (Play p) = turn_text size (Play p)
+shown_turn size Pass = codes "pass"
+
+-- a blank and the first turn, where there is one
+abbrev pub first_text : Size → Option Turn → List ℕ
+first_text size None = []
+first_text size (Some t) = 32 ∷ shown_turn size t
+
+-- the line of a decided problem
+abbrev pub decided_text : Size → Side → Option Turn → List ℕ
+decided_text size side first = side_word side ++ (first_text size first ++ 10 ∷ [])
+
+-- the line of a certificate
+abbrev pub certificate_line : Size → Side → Strategy → List ℕ
+certificate_line size side u = certificate_text size side u ++ 10 ∷ []
+
+abbrev pub reason_word : Reason → List ℕ
+reason_word Budget = codes "budget"
+reason_word Depth = codes "depth"
+reason_word Memory = codes "memory"
+
+-- the line of an unsettled problem
+abbrev pub unsettled_text : Reason → List ℕ
+unsettled_text reason = codes "unsettled " ++ (reason_word reason ++ 10 ∷ [])
+
+-- ---- what they say
+
+-- the side can force its win within some number of turns
+abbrev pub CanForce : Frame → Side → State → Type 0
+CanForce f side s = (n : ℕ) × Forces f side n s
+
+-- the first turn is shown exactly where the winner is to move; it is legal, and its side can still force its win after it
+abbrev pub IsFirst : Standing → Side → Option Turn → Type 0
+IsFirst p side None = p.state.to_move ≢ side
+IsFirst p side (Some t) =
+    (p.state.to_move ≡ side) × IsLegal p.frame p.state t × CanForce p.frame side (after p.frame p.state t)
+
+-- the bytes are the certificate of a strategy that wins for the side, within the limit on depth, and begins with that turn
+pub record IsWinningCertificate (p : Standing) (limits : Limits) (side : Side) (first : Option Turn) (bytes : List ℕ) : Type 0 where
+  pub strategy : Strategy
+  pub is : IsCertificate p.frame.size bytes side strategy
+  pub wins : Wins side p.frame strategy p.state
+  pub low : depth strategy ≤ limits.depth
+  pub begins : first ≡ first_of strategy
+
+-- nothing follows, or a certificate on a line of its own where it is asked for
+abbrev pub Follows : Standing → Limits → Side → Option Turn → Bool → List ℕ → Type 0
+Follows p limits side first false lines = lines ≡ []
+Follows p limits side first true lines = (bytes : List ℕ) × IsWinningCertificate p limits side first bytes × (lines ≡ bytes ++ 10 ∷ [])
+
+-- behind some legal turn the search is stuck for the reason, and the lesser turns lose; of memory nothing is said
+abbrev pub IsUnsettled : Standing → Limits → Reason → Type 0
+IsUnsettled p limits Budget = (t : Turn) × (search : Searched) × IsStuckBehind p limits Budget t search
+IsUnsettled p limits Depth = (t : Turn) × (search : Searched) × IsStuckBehind p limits Depth t search
+IsUnsettled p limits Memory = Unit {0}
+
+-- The text is a verdict on the problem: a side can force its win; or no win was found, for a reason.
+pub data Verdict (p : Standing) (limits : Limits) (cert : Bool) : List ℕ → Type 0 where
+  decided : (side : Side) (first : Option Turn) (lines : List ℕ) → CanForce p.frame side p.state → IsFirst p side first
+      → Follows p limits side first cert lines → Verdict p limits cert (decided_text p.frame.size side first ++ lines)
+  unsettled : (reason : Reason) → IsUnsettled p limits reason → Verdict p limits cert (unsettled_text reason)
+
+-- a verdict on the problem, or the number of its refusal
+abbrev pub SolvesAs : Limits → Bool → Result Standing GameFault → Outcome → Type 0
+SolvesAs limits cert (Ok p) o = (text : List ℕ) × (o ≡ Answered text) × Verdict p limits cert text
+SolvesAs limits cert (Err e) o = o ≡ Refused (code_of e)
+
+-- what `solve` makes of a main line
+abbrev pub Solves : Limits → Bool → List Node → Outcome → Type 0
+Solves limits cert nodes o = SolvesAs limits cert (problem_of nodes) o

@@ -1,0 +1,200 @@
+//! Problems with their lines, through the command line, with one worker and with many.
+
+use crate::request::Command;
+use crate::tests::{answered, asked};
+use std::alloc::Global;
+use std::sync::Wait;
+use std::test::Fail;
+use std::thread::Threads;
+use tt_search::Limits;
+
+/// An option and its value, empty where it has none; the input; the answer and the status.
+const ROWS: [((&str, &str), &str, &str, u8); 17] = [
+    (("", ""), "(;SZ[2:1]AW[ba]PL[B]TR[ba])", "1 killed aa\n", 0),
+    (("", ""), "(;SZ[2:1]AW[ba]PL[W]TR[ba])", "1 killed\n", 0),
+    (("", ""), "(;SZ[3:1]AW[ba]PL[W]TR[ba])", "1 lives pass\n", 0),
+    (("", ""), "(;SZ[4:1]AW[ba]PL[B]TR[ba])", "1 lives\n", 0),
+    (
+        ("", ""),
+        "(;SZ[4:1]AW[ba]PL[B]TR[ba]SQ[aa][ca])",
+        "1 killed ca\n",
+        0,
+    ),
+    (
+        ("", ""),
+        "(;SZ[4:1]AW[ba]PL[B]TR[ba]SQ[aa:da])",
+        "1 lives\n",
+        0,
+    ),
+    (
+        ("--cert", ""),
+        "(;SZ[4:1]AW[ba][da]PL[B]TR[ba])",
+        "1 killed ca\nkilled !ca?aa.--!aa.;\n",
+        0,
+    ),
+    (
+        ("--cert", ""),
+        "(;SZ[4:1]AW[ba];B[ca];W[da]TR[ba])",
+        "1 lives\nlives ?--!--.;\n",
+        0,
+    ),
+    (
+        ("--budget", "1"),
+        "(;SZ[4:1]AW[ba]PL[B]TR[ba])",
+        "1 unsettled budget\n",
+        0,
+    ),
+    (
+        ("--depth", "1"),
+        "(;SZ[4:1]AW[ba]PL[B]TR[ba])",
+        "1 unsettled depth\n",
+        0,
+    ),
+    (
+        ("", ""),
+        "(;SZ[4:1]AW[ba][da]PL[B]TR[ba][da])",
+        "1 refused 21\n",
+        1,
+    ),
+    (
+        ("", ""),
+        "(;SZ[2:1]AW[ba])(;SZ[2:1]TR[aa])",
+        "1 refused 20\n2 refused 22\n",
+        1,
+    ),
+    (
+        ("--budget", "1"),
+        "(;SZ[4:1]AB[ba]AW[ca]PL[B]TR[ca])",
+        "1 killed da\n",
+        0,
+    ),
+    (("", ""), "(;SZ[5:1]AW[aa];B[ca]TR[ca])", "1 killed da\n", 0),
+    (
+        ("--cert", ""),
+        "(;SZ[5:1]AW[aa];B[ca]TR[ca])",
+        "1 killed da\nkilled !da?ba!aa.ea!ba?aa!ba?da.--!da.;ba!da?aa.--!aa.;da!ba.--!ba?aa!da?ba.--!ba.;da.--!da.;;--!ba.;\n",
+        0,
+    ),
+    (
+        ("", ""),
+        "(;SZ[7:1];B[ga];W[ea];B[ba]TR[ea])",
+        "1 killed\n",
+        0,
+    ),
+    (
+        ("", ""),
+        "(;SZ[2:1]AW[ba]PL[W]TR[ba])x(;SZ[0])(;SZ[2:1]AW[ba]PL[B]TR[ba])(;",
+        "1 killed\n2 refused 11\n3 killed aa\n4 refused 1\n",
+        1,
+    ),
+];
+
+/// What `solve` answers to an input with an option and so many workers, and its status.
+fn solved<X: Threads + Wait + Sync>(
+    rt: &X,
+    alloc: Global,
+    option: (&str, &str),
+    workers: &str,
+    input: &str,
+) -> Result<(Vec<u8>, u8), Fail> {
+    let (name, value) = option;
+    let bytes = input.as_bytes();
+    if name.is_empty() {
+        answered(rt, alloc, &["solve", "--workers", workers], bytes)
+    } else if value.is_empty() {
+        answered(rt, alloc, &["solve", name, "--workers", workers], bytes)
+    } else {
+        answered(
+            rt,
+            alloc,
+            &["solve", name, value, "--workers", workers],
+            bytes,
+        )
+    }
+}
+
+#[test]
+fn answers_rows(rt: HostRuntime) -> Result<(), Fail> {
+    let alloc = rt.alloc();
+    for (option, input, want, status) in ROWS {
+        for workers in ["1", "2", "64"] {
+            let (out, got) = solved(&rt, alloc, option, workers, input)?;
+            assert!(rt;
+                out.as_slice() == want.as_bytes() && got == status,
+                "{workers} workers {input}"
+            );
+        }
+    }
+    Ok(())
+}
+
+#[test]
+fn refuses_options(rt: HostRuntime) -> Result<(), Fail> {
+    let alloc = rt.alloc();
+    for (option, value) in [
+        ("--budget", "0"),
+        ("--budget", "1000001"),
+        ("--depth", "0"),
+        ("--depth", "513"),
+        ("--workers", "0"),
+        ("--workers", "65"),
+        ("--cert", "yes"),
+        ("--total", "1"),
+    ] {
+        assert!(rt;
+            asked(alloc, &["solve", option, value])?.is_err(),
+            "{option} {value}"
+        );
+        assert!(rt;
+            asked(alloc, &["score", option, value])?.is_err(),
+            "{option} {value}"
+        );
+    }
+    Ok(())
+}
+
+#[test]
+fn reads_options(rt: HostRuntime) -> Result<(), Fail> {
+    let alloc = rt.alloc();
+    let Some(most) = Limits::new(100_000, 512) else {
+        return Err(Fail::new("no limits"));
+    };
+    let Some(few) = Limits::new(5, 7) else {
+        return Err(Fail::new("no limits"));
+    };
+    let plain = asked(alloc, &["solve"])?;
+    let full = asked(
+        alloc,
+        &[
+            "solve",
+            "--workers",
+            "64",
+            "--cert",
+            "--depth",
+            "007",
+            "--budget=+5",
+        ],
+    )?;
+    assert!(rt; plain.is_ok() && full.is_ok());
+    if let Ok(command) = plain {
+        assert!(rt;
+            command
+                == Command::Solve {
+                    limits: most,
+                    workers: 1,
+                    cert: false
+                }
+        );
+    }
+    if let Ok(command) = full {
+        assert!(rt;
+            command
+                == Command::Solve {
+                    limits: few,
+                    workers: 64,
+                    cert: true
+                }
+        );
+    }
+    Ok(())
+}
