@@ -4,33 +4,40 @@
     bench/compare.py PROGRAM OTHER [--runs N] [--only WORD]
 
 PROGRAM is a built tsumego (crates/tsumego/out/tsumego), OTHER any program that takes the same words and input.
-A row is an input of bench/inputs with the words of its first line in bench/rows.txt. Time is the least of N runs
-(processor seconds, user and system); memory is the peak of the resident set. Both answers must agree.
+A row is an input of bench/inputs with words, as bench/rows.txt names them. Time is the least of N runs, in processor
+seconds (user and system) and by the clock; memory is the peak of the resident set. Both answers must agree.
 """
 import argparse
 import os
 import subprocess
 import sys
 import tempfile
+import time
+
+# GNU time: it starts the program from a small process, so that the peak is the program's own.
+TIME = "/usr/bin/time"
 
 HERE = os.path.dirname(os.path.abspath(__file__))
 
 
 def run(program, words, data):
-    """Processor seconds, peak MiB, output and status of one run."""
-    with tempfile.TemporaryFile() as out:
-        child = subprocess.Popen([program] + words, stdin=subprocess.PIPE, stdout=out, stderr=subprocess.DEVNULL)
+    """Processor seconds, seconds by the clock, peak MiB, output and status of one run."""
+    with tempfile.TemporaryFile() as out, tempfile.NamedTemporaryFile("r") as peak:
+        begin = time.monotonic()
+        child = subprocess.Popen([TIME, "-f", "%M", "-o", peak.name, program] + words, stdin=subprocess.PIPE, stdout=out, stderr=subprocess.DEVNULL)
         child.stdin.write(data)
         child.stdin.close()
         _, status, used = os.wait4(child.pid, 0)
+        elapsed = time.monotonic() - begin
         child.returncode = status
         out.seek(0)
-        return used.ru_utime + used.ru_stime, used.ru_maxrss / 1024, out.read(), os.waitstatus_to_exitcode(status)
+        kilobytes = int(peak.read().split()[-1])
+        return used.ru_utime + used.ru_stime, elapsed, kilobytes / 1024, out.read(), os.waitstatus_to_exitcode(status)
 
 
 def least(program, words, data, runs):
     results = [run(program, words, data) for _ in range(runs)]
-    return min(r[0] for r in results), max(r[1] for r in results), results[0][2], results[0][3]
+    return min(r[0] for r in results), min(r[1] for r in results), max(r[2] for r in results), results[0][3], results[0][4]
 
 
 def rows(only):
@@ -49,16 +56,19 @@ def main():
     parser.add_argument("--only", default="")
     args = parser.parse_args()
     differ = 0
-    print("| Input | Words | Time, ratio | Memory, ratio | Seconds | Answers |")
-    print("|---|---|---|---|---|---|")
+    print("| Input | Words | Time, ratio | By the clock, ratio | Memory, ratio | Seconds by the clock | Answers |")
+    print("|---|---|---|---|---|---|---|")
     for name, words in rows(args.only):
         data = open(os.path.join(HERE, "inputs", name), "rb").read()
         ours = least(args.program, words, data, args.runs)
         other = least(args.other, words, data, args.runs)
-        same = ours[2:] == other[2:]
+        same = ours[3:] == other[3:]
         differ += not same
-        time = ours[0] / max(other[0], 0.001)
-        print(f"| {name} | {' '.join(words)} | {time:.1f} | {ours[1] / other[1]:.1f} | {ours[0]:.3f} | {'same' if same else 'DIFFER'} |", flush=True)
+        processor = ours[0] / max(other[0], 0.001)
+        clock = ours[1] / max(other[1], 0.001)
+        memory = ours[2] / other[2]
+        answers = "same" if same else "DIFFER"
+        print(f"| {name} | {' '.join(words)} | {processor:.1f} | {clock:.1f} | {memory:.1f} | {ours[1]:.3f} | {answers} |", flush=True)
     return 1 if differ else 0
 
 
