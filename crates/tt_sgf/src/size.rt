@@ -98,6 +98,17 @@ impl Size {
 }
 
 impl Point {
+    /// The point of this number: one exactly where the number is below 361.
+    pub fn new(number: u16) -> Option<Point>
+        ensures { MatchOption result (361 ≤ number) (λ p. (p ≡ number) × (number < 361)) }
+    {
+        if number < 361 {
+            Some(Point(number))
+        } else {
+            None
+        }
+    }
+
     /// The number of the point, below 361.
     pub fn number(self) -> u16
         ensures number { result ≡ self }
