@@ -1,3 +1,5 @@
+pub mod ApartLemmas
+pub mod BoardsLemmas
 pub mod ChainLemmas
 pub mod LiftLemmas
 pub mod NearLemmas

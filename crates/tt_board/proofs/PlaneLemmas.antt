@@ -141,6 +141,12 @@ bits_of n black white plain p lt = elim (cases_lt p n) [
     bits false true apart = (refl, refl)
     bits false false apart = (refl, refl)
 
+-- each entry is what its bits say, past the last point too
+pub entry_by_bits : (n : ℕ) (black white : List ℕ) (c : Colouring) → shown n black white ≡ c → IsPlain n black white → (p : ℕ) → p < 384 → entry_at c p ≡ entry_of (bit_in black p) (bit_in white p)
+entry_by_bits n black white c is plain p lt =
+    let bits = bits_of n black white plain p lt in
+    ap (λ xs. entry_at xs p) (sym is) ∙ sym (by_stones (entry_at (shown n black white) p)) ∙ rw (← bits.0, ← bits.1) refl
+
 same_bit : (a b : List ℕ) (q k i : ℕ) → q / 64 ≡ k → q % 64 ≡ i → bit_in a q ≡ bit_in b q → eqb (bit_at (get_or a k 0) i) 1 ≡ eqb (bit_at (get_or b k 0) i) 1
 unfolding bit_in
 same_bit a b q k i word place h = rw (← word, ← place) h

@@ -1,6 +1,7 @@
 pub mod Position
 pub mod Near
 pub mod Planes
+pub mod Boards
 pub mod Reach
 pub mod Fill
 pub mod Chain

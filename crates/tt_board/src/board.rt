@@ -138,10 +138,25 @@ impl Board {
     pub fn same(&self, other: &Board) -> bool
         ensures { IsTrue result ↔ (self.now ≡ other.now) }
     {
-        if !self.points.same(&other.points) {
+        self.shows(other.size, &other.points)
+    }
+
+    /// The colouring, with an entry for each point of the board.
+    pub(crate) fn points(&self) -> &Colouring
+        ensures value { result.now ≡ self.now.points }
+        ensures fits { length self.now.points ≡ point_count self.now.size }
+    {
+        &self.points
+    }
+
+    /// Whether the board has this size and colouring.
+    pub(crate) fn shows(&self, size: Size, points: &Colouring) -> bool
+        ensures { IsTrue result ↔ (self.now ≡ record { size = size; points = points.now }) }
+    {
+        if !self.points.same(points) {
             return false;
         }
-        self.size == other.size
+        self.size == size
     }
 
     /// The colouring as an array, row by row; places past the last point hold none.

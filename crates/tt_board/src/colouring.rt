@@ -3,6 +3,7 @@
 //! Copies and comparisons of colourings are what superko asks for most.
 
 ghost use Rattle.std.specs.Prelude.{◌≡◌, ℕ, ◌<◌, ◌≤◌, ◌↔◌, length, take, replicate, slice_set, IsTrue, None};
+ghost use Rattle.std.specs.Int.{bit_at};
 ghost use Rattle.tt_board.specs.Reach.{entry_at};
 ghost use Rattle.tt_board.specs.Planes.{bit_in, AreSameBits};
 ghost use Rattle.tt_board.specs.Play.{is_stone_of};
@@ -66,6 +67,14 @@ fn same_bits(a: &[u64], b: &[u64]) -> bool
         }
     }
     true
+}
+
+/// The places where the first two words or the last two differ.
+fn words_apart(a: u64, b: u64, c: u64, d: u64) -> u64
+    ensures first { (i : ℕ) → bit_at result i ≡ 0 → bit_at a i ≡ bit_at b i }
+    ensures last { (i : ℕ) → bit_at result i ≡ 0 → bit_at c i ≡ bit_at d i }
+{
+    (a ^ b) | (c ^ d)
 }
 
 /// Whether the entry is a stone of this colour.
@@ -158,6 +167,29 @@ impl Colouring {
             return false;
         }
         self.count == other.count
+    }
+
+    /// The least point from `from` on whose entries differ: 384 where there is none. It looks at each word once.
+    pub(crate) fn first_apart(&self, other: &Colouring, from: usize) -> usize
+        requires { from ≤ 384 }
+        ensures after { from ≤ result }
+        ensures alike { (q : ℕ) → from ≤ q → q < result → entry_at self.now q ≡ entry_at other.now q }
+    {
+        let mut n = from;
+        while n < 384 {
+            let apart = words_apart(
+                self.black[n / 64],
+                other.black[n / 64],
+                self.white[n / 64],
+                other.white[n / 64],
+            );
+            let rest = apart >> (n % 64);
+            if rest != 0 {
+                return n + rest.trailing_zeros() as usize;
+            }
+            n = n / 64 * 64 + 64;
+        }
+        384
     }
 
     /// The entries as an array; places past the last point hold none.

@@ -1,6 +1,6 @@
 //! Boards of Go under the Tromp-Taylor rules: colourings in which each stone reaches empty, moves that capture, and area scores.
 //!
-//! A board takes no memory but its own, and no call of this crate fails for want of it.
+//! A board takes no memory but its own: only a list of boards asks for some, and says when there is none.
 //! A contract sees a board as a `Position`: its size, and its colouring as a list of entries, row by row.
 #![tactic(auto)]
 
@@ -9,6 +9,7 @@ ghost use Rattle.tt_board.specs.Play.{other};
 
 mod area;
 mod board;
+mod boards;
 mod chain;
 mod clearing;
 mod colouring;
@@ -18,6 +19,7 @@ mod near;
 mod setup;
 
 pub use board::{Board, Lifeless, Occupied};
+pub use boards::Boards;
 
 /// The colour of a stone, and of the player who puts it.
 #[derive(Clone, Copy, PartialEq, Eq, Hash)]

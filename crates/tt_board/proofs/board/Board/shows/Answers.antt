@@ -3,7 +3,7 @@ use Rattle.std.proofs.lemmas.Bool.{eqb-true, eq-eqb, and_parts}
 use Rattle.tt_sgf.specs.declared.size.Size.{Size}
 use Rattle.tt_sgf.specs.SizeLaws.{sizes_same}
 use Rattle.tt_board.specs.Position.{Position, Colouring}
-use Rattle.tt_board.proofs.board.Board.same.Goals as goal
+use Rattle.tt_board.proofs.board.Board.shows.Goals as goal
 
 tests_same : (a b : Size) → (eqb a.columns b.columns && eqb a.rows b.rows) ≡ true → a ≡ b
 tests_same a b h = sizes_same a b (eqb-true a.columns b.columns (and_parts _ _ h).0) (eqb-true a.rows b.rows (and_parts _ _ h).1)
@@ -17,7 +17,7 @@ positions_same s t xs ys sizes entries =
 
 pub returns : goal.returns
 returns c =
-    let i = c.self.inside in let j = c.other.inside in (
-      λ h. sym c.self.view_is ∙ positions_same i.size j.size i.points j.points (tests_same i.size j.size (sym c.eq.ensures ∙ h)) (c.same.ensures.0 c.if-not-same.false) ∙ c.other.view_is,
-      λ same. c.eq.ensures ∙ tests_pass i.size j.size (ap (λ (p : Position). p.size) (c.self.view_is ∙ same ∙ sym c.other.view_is)),
+    let i = c.self.inside in (
+      λ h. sym c.self.view_is ∙ positions_same i.size c.args.size i.points c.args.points.now (tests_same i.size c.args.size (sym c.eq.ensures ∙ h)) (c.same.ensures.0 c.if-not-same.false),
+      λ same. c.eq.ensures ∙ tests_pass i.size c.args.size (ap (λ (p : Position). p.size) (c.self.view_is ∙ same)),
     )
