@@ -2,17 +2,15 @@ use Rattle.std.specs.Option.{option_to_list}
 use Rattle.std.proofs.lemmas.List.{reverse-append, get_or_append_left}
 use Rattle.tt_sgf.specs.declared.size.Size.{Size}
 use Rattle.std.proofs.Common.{◌≡◌, ℕ, ◌+◌, ◌-◌, ◌<◌, ◌≤◌, List, [], ◌∷◌, ◌++◌, length, length-append, reverse, take, get_or, All, drop, suc, Option, Some, None, Bool, true, false, refl, sym, ap, subst, ◌∙◌, arith}
-use Rattle.std.proofs.lemmas.List.{get_or-map, length-map, take_more, take_all, take_at, get_or_push, length_push, map-append, take-map}
-use Rattle.std.proofs.Math.Seq.{take-append_seam}
+use Rattle.std.proofs.lemmas.List.{get_or-map, length-map, take_more, take_all, take_at, get_or_push, length_push, map-append}
 use Rattle.tt_board.specs.declared.Colour.{Colour}
 use Rattle.tt_board.specs.Position.{Position}
 use Rattle.tt_game.specs.declared.frame.Side.{Side}
-use Rattle.tt_game.specs.declared.frame.Frame.{Frame}
 use Rattle.tt_game.specs.declared.line.Undo.{Undo}
 use Rattle.tt_game.specs.declared.line.Undo.TheVariants.{UndoPlay}
 use Rattle.tt_game.specs.Game.{State, history, opponent}
-use Rattle.tt_game.specs.Line.{Standing, colourings}
-use Rattle.tt_game.specs.Undoing.{state_of, standing_of, front, last, IsUndoable}
+use Rattle.tt_game.specs.Line.{colourings}
+use Rattle.tt_game.specs.Undoing.{state_of, front, last, IsUndoable}
 
 Colouring : Type 0
 Colouring = List (Option Colour)
@@ -110,21 +108,9 @@ same_states f g bs cs a b m n e some one h k s =
     let u : colourings bs ≡ colourings cs = sym (history_is bs a m some) ∙ ap history s ∙ history_is cs b n one in
     same_boards g bs cs (subst (λ (z : Size). All (λ (x : Position). x.size ≡ z) bs) e h) k u
 
--- what is left of a history that begins with another, cut to the other's length
-pub cut_back : (bs cs : List Position) (more : List (List (Option Colour))) → colourings bs ≡ colourings cs ++ more
-    → colourings (take (length cs) bs) ≡ colourings cs
-cut_back bs cs more e =
-    sym (take-map (λ (b : Position). b.points) (length cs) bs)
-    ∙ ap (take (length cs)) e
-    ∙ ap (λ n. take n (colourings cs ++ more)) (sym (length-colourings cs))
-    ∙ take-append_seam (colourings cs) more
-
--- the state of boards is told by their colourings
-pub states_same : (bs cs : List Position) (side : Side) (passes : ℕ) → colourings bs ≡ colourings cs → state_of bs side passes ≡ state_of cs side passes
-states_same bs cs side passes e =
-    ap (λ (h : List (List (Option Colour))). let s : State = record { earlier = front h; present = last h; to_move = side; passes = passes } in s) e
-
--- with nothing to undo, a frame and a state are the standing
-pub standing_alone : (f g : Frame) (s t : State) (us : List Undo) → f ≡ g → s ≡ t → us ≡ []
-    → standing_of f s us ≡ (let l : Standing = record { frame = g; state = t; before = [] } in l)
-standing_alone f g s t us a b e = rw (a, b, e)
+-- boards that show a state's history show the state
+pub state_from : (bs : List Position) (s : State) → colourings bs ≡ history s → state_of bs s.to_move s.passes ≡ s
+state_from bs s e =
+    ap (λ (h : List (List (Option Colour))). let t : State = record { earlier = front h; present = last h; to_move = s.to_move; passes = s.passes } in t) e
+    ∙ ap (λ (h : List (List (Option Colour))). let t : State = record { earlier = h; present = last (history s); to_move = s.to_move; passes = s.passes } in t) (front_push s.earlier s.present)
+    ∙ ap (λ (c : List (Option Colour)). let t : State = record { earlier = s.earlier; present = c; to_move = s.to_move; passes = s.passes } in t) (last_push s.earlier s.present)

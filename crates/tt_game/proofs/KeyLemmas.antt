@@ -13,7 +13,9 @@ use Rattle.tt_sgf.specs.declared.size.Size.{Size}
 use Rattle.tt_sgf.specs.Sizes.{point_count}
 use Rattle.tt_sgf.specs.Words.{bit_in, AreBitsOf}
 use Rattle.tt_game.specs.TurnLaws.{few_points}
-use Rattle.tt_game.specs.Keys.{marks_of, binary, words_of, packed}
+use Rattle.tt_game.specs.declared.frame.Frame.{Frame}
+use Rattle.tt_game.specs.Game.{State}
+use Rattle.tt_game.specs.Keys.{marks_of, binary, words_of, packed, key_of}
 
 -- ---- words
 
@@ -151,3 +153,8 @@ packed_is size test words fits bits =
     same_from_bits_below 64 (get_or words k 0) (binary part) (fits k) few (λ i small.
     bit_is words k i small ∙ sym (bit_binary part i ∙ ap (λ b. cond b 1 0) (get_or-take 64 (drop (64 * k) marks) i false small ∙ get_or-drop (64 * k) marks i false ∙ mark_is size test words bits (64 * k + i) (omega arith))))
     ∙ sym (word_of 6 marks k lt))
+
+-- the key is told by the frame, the present colouring, the side to move and the passes
+pub key_told : (f g : Frame) (s t : State) → f ≡ g → s.present ≡ t.present → s.to_move ≡ t.to_move → s.passes ≡ t.passes → key_of f s ≡ key_of g t
+unfolding key_of
+key_told f g s t frames presents sides counts = rw (frames, presents, sides, counts) refl

@@ -1,5 +1,5 @@
 -- Nobody has won at a problem: its target has a stone, and no pass was made.
-use Rattle.std.proofs.Common.{◌≡◌, ◌⊎◌, ℕ, List, [], ◌∷◌, inl, inr, Bool, true, false, Option, Some, None, Ok, Err, refl, sym, ap, ◌∙◌, subst, cond, if◌then◌else◌, ◌==◌, nat_le}
+use Rattle.std.proofs.Common.{◌≡◌, ◌⊎◌, ℕ, List, [], ◌∷◌, inl, inr, Bool, true, false, Option, Some, None, Ok, Err, refl, ap, subst, cond, if◌then◌else◌, ◌==◌, nat_le}
 use Rattle.std.specs.declared.result.Result.{Result}
 use Rattle.std.specs.FinSet as set
 use Rattle.tt_sgf.specs.declared.nodes.Node.{Node}
@@ -7,7 +7,6 @@ use Rattle.tt_board.specs.declared.Colour.{Colour}
 use Rattle.tt_board.specs.Reach.{entry_at}
 use Rattle.tt_board.specs.Play.{Points, is_empty}
 use Rattle.tt_game.specs.declared.faults.GameFault.{GameFault}
-use Rattle.tt_game.specs.declared.frame.Side.{Side}
 use Rattle.tt_game.specs.declared.frame.Side.TheVariants.{Attacker, Defender}
 use Rattle.tt_game.specs.declared.records.Replay.{Replay}
 use Rattle.tt_game.specs.Game.{winner_of}

@@ -1,5 +1,5 @@
 -- Lines: a frame, a state, and what pops lead back to. Why a turn is refused, and what a push does.
-use Rattle.std.specs.Prelude.{◌≡◌, ◌≢◌, List, ◌∷◌, ◌++◌, map, Contains, None, IsTrue}
+use Rattle.std.specs.Prelude.{◌≡◌, ◌≢◌, List, ◌∷◌, map, Contains, None, IsTrue}
 use Rattle.std.specs.FinSet as set
 use Rattle.tt_board.specs.Position.{Position, Colouring}
 use Rattle.tt_board.specs.Reach.{entry_at}
@@ -17,6 +17,11 @@ pub record Standing : Type 0 where
   pub frame : Frame
   pub state : State
   pub before : List State
+
+-- where a line stood: its frame and its state
+pub record Stood : Type 0 where
+  pub frame : Frame
+  pub state : State
 
 -- why a turn is refused: the first cause that holds
 abbrev pub IsRefusal : Frame → State → Turn → Why → Type 0
@@ -37,10 +42,6 @@ IsRefused f s t NoMemory = IsLegal f s t
 -- the turn was made, and the state before it may be undone to
 abbrev pub IsPushed : Standing → Standing → Turn → Type 0
 IsPushed old new t = new ≡ record { frame = old.frame; state = after old.frame old.state t; before = old.state ∷ old.before }
-
--- the history of the later state begins with that of the other
-abbrev pub Continues : State → State → Type 0
-Continues later s = (more : List Colouring) × (history later ≡ history s ++ more)
 
 -- the colourings of boards
 abbrev pub colourings : List Position → List Colouring

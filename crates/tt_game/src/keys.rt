@@ -1,11 +1,11 @@
 //! Keys of positions, for tables.
 
-ghost use Rattle.std.specs.Prelude.{◌≡◌, ◌↔◌, IsTrue};
+ghost use Rattle.std.specs.Prelude.{◌≡◌, ◌↔◌, IsTrue, []};
 ghost use Rattle.tt_game.specs.Keys.{key_of};
 
-use crate::frame::Side;
+use crate::frame::{Frame, Side};
 use crate::line::Line;
-use tt_board::Colour;
+use tt_board::{Board, Colour};
 use tt_sgf::{Point, Size};
 
 /// What positions share that are looked up as one: the frame, the colouring, the side to move and the passes in a row,
@@ -23,23 +23,29 @@ pub struct Key {
     passes: u8,
 }
 
+/// The key of a position.
+pub(crate) fn key_at(frame: &Frame, board: &Board, to_move: Side, passes: u8) -> Key
+    requires { board.now.size ≡ frame.now.size }
+    ensures { result ≡ key_of frame.now (record { earlier = []; present = board.now.points; to_move = to_move; passes = passes }) }
+{
+    Key {
+        size: frame.size,
+        region: frame.region.words_on(frame.size),
+        target: frame.target,
+        defender: frame.defender,
+        black: board.words(Colour::Black),
+        white: board.words(Colour::White),
+        to_move,
+        passes,
+    }
+}
+
 impl Line {
     /// The key of the line's position.
     pub fn key(&self) -> Key
         ensures { result ≡ key_of self.now.frame self.now.state }
     {
-        let frame = self.frame();
-        let board = self.present();
-        Key {
-            size: frame.size,
-            region: frame.region.words_on(frame.size),
-            target: frame.target,
-            defender: frame.defender,
-            black: board.words(Colour::Black),
-            white: board.words(Colour::White),
-            to_move: self.to_move(),
-            passes: self.passes(),
-        }
+        key_at(self.frame(), self.present(), self.to_move(), self.passes())
     }
 }
 

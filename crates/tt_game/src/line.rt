@@ -6,6 +6,7 @@ ghost use Rattle.tt_sgf.specs.Sizes.{point_count};
 
 use crate::faults::{Refused, Why};
 use crate::frame::{Frame, Side};
+use crate::past::Past;
 use crate::turns::Turn;
 use std::alloc::{AllocError, Global};
 use std::marker::Model;
@@ -85,7 +86,7 @@ impl Line {
     ghost use Rattle.std.specs.Prelude.{Some, None, Err, Ok, [], MatchResult, EachIndex};
     ghost use Rattle.tt_game.specs.Game.{history, winner_of, colour_of, made, IsLegal, after};
     ghost use Rattle.std.specs.Prelude.{OnOk, OnErr, IfErr, IfOk};
-    ghost use Rattle.tt_game.specs.Line.{IsRefusal, IsRefused, IsPushed, Continues};
+    ghost use Rattle.tt_game.specs.Line.{IsRefusal, IsRefused, IsPushed};
     ghost use Rattle.tt_game.specs.Undoing.{IsMoved, state_of};
     ghost use Rattle.tt_game.specs.Turns.{OnBoard};
     ghost use Rattle.tt_game.specs.declared.turns.Turn.{Turn};
@@ -271,8 +272,8 @@ impl Line {
         }
     }
 
-    /// Undoes the last push, its pass count and side to move among it. A line made by `problem`, `try_clone` or `back_to`
-    /// has no push to undo.
+    /// Undoes the last push, its pass count and side to move among it. A line made by `problem` or `try_clone` has no
+    /// push to undo.
     pub fn pop(&mut self)
         requires { 0 < length self.old.before }
         ensures before { self.old.before ≡ self.new.state ∷ self.new.before }
@@ -321,35 +322,24 @@ impl Line {
         same_history(&self.history, &other.history)
     }
 
-    /// Cuts the history to that of `line`, which it begins with, and stands where `line` does.
-    fn go_back(&mut self, line: &Line)
-        requires frame { self.old.frame ≡ line.now.frame }
-        requires history { Continues self.old.state line.now.state }
-        ensures { self.new ≡ record { frame = line.now.frame; state = line.now.state; before = [] } }
+    /// Where the line stands, to be kept in little memory.
+    pub fn past(&self) -> Result<Past, NoMemory>
+        ensures { IfOk result (λ p. p ≡ record { frame = self.now.frame; state = self.now.state }) }
     {
-        self.to_move = line.to_move;
-        self.passes = line.passes;
-        self.pushes.clear();
-        self.history.truncate(line.history.len());
-    }
-
-    /// A line that stands where `line` does, with nothing to undo, made of one whose history goes on from that of `line`,
-    /// as it does after a turn. No board is copied.
-    pub fn back_to(self, line: &Line) -> Line
-        requires frame { self.frame ≡ line.now.frame }
-        requires history { Continues self.state line.now.state }
-        ensures { result ≡ record { frame = line.now.frame; state = line.now.state; before = [] } }
-    {
-        let mut back = self;
-        back.go_back(line);
-        back
+        Past::of(
+            self.alloc,
+            &self.frame,
+            &self.history,
+            self.to_move,
+            self.passes,
+        )
     }
 
     /// The same line, with nothing to undo.
     pub fn try_clone(&self) -> Result<Line, NoMemory>
         ensures { IfOk result (λ l. l ≡ record { frame = self.now.frame; state = self.now.state; before = [] }) }
     {
-        let mut history = Vec::new(self.alloc);
+        let mut history = Vec::with_capacity(self.alloc, self.history.len())?;
         for board in &self.history {
             history.push(board.copy())?;
         }

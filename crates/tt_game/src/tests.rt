@@ -221,22 +221,30 @@ type Case = (
     &'static [u8],
 );
 
-/// Whether a case is so, and a copy of the line stands with it.
+/// Whether a case is so, a copy of the line stands with it, and a kept past does until a turn is made.
 fn holds(alloc: Global, case: Case) -> bool {
     let (text, pushes, history, ending, causes) = case;
     let Ok(mut line) = posed(alloc, text) else {
         return false;
     };
     for number in pushes {
+        let Ok(past) = line.past() else {
+            return false;
+        };
         let t = turn(line.frame().size, *number);
-        if line.push(t).is_err() {
+        if !past.stands_with(&line) || line.push(t).is_err() || past.stands_with(&line) {
             return false;
         }
     }
     let Ok(copy) = line.try_clone() else {
         return false;
     };
+    let Ok(past) = line.past() else {
+        return false;
+    };
     line.stands_with(&copy)
+        && past.stands_with(&copy)
+        && past.key() == line.key()
         && line.key() == copy.key()
         && is_history(line.history(), history)
         && outcome(&line).as_slice() == ending

@@ -1,0 +1,87 @@
+//! Where lines stood, kept in little memory.
+
+ghost use Rattle.std.specs.Prelude.{◌≡◌, ◌<◌, ◌↔◌, length, All, IsTrue, IfOk};
+ghost use Rattle.tt_game.specs.Keys.{key_of};
+ghost use Rattle.tt_game.specs.Undoing.{state_of};
+
+use crate::frame::{Frame, Side};
+use crate::keys::{Key, key_at};
+use crate::line::Line;
+use std::alloc::Global;
+use std::marker::Model;
+use tt_board::{Board, Boards};
+use tt_sgf::NoMemory;
+
+/// Where a line stood: its frame, history, side to move and passes. The history's boards are kept by their differences.
+#[derive(Drop)]
+pub struct Past {
+    frame: Frame,
+    boards: Boards,
+    to_move: Side,
+    passes: u8,
+}
+
+impl Model for Past {
+    ghost use Rattle.std.specs.Prelude.{◌≡◌, ◌<◌, length, All};
+    ghost use Rattle.std.specs.Coded.{codes};
+    ghost use Rattle.tt_sgf.specs.contracts.sets.PointSet as points;
+    ghost use Rattle.tt_game.specs.Line.{Stood};
+    ghost use Rattle.tt_game.specs.Undoing.{state_of};
+
+    ghost Value = { Stood };
+
+    ghost coded = { Prim.hlevel (codes, points.the_row.coded) };
+
+    ghost view = { λ p. record { frame = p.frame; state = state_of p.boards p.to_move p.passes } };
+
+    ghost invariant = { λ p. record {
+      some_board : 0 < length p.boards;
+      sizes : All (λ b. b.size ≡ p.frame.size) p.boards;
+    } };
+}
+
+impl Past {
+    /// What stands where these boards lead, the last one present.
+    pub(crate) fn of(
+        alloc: Global,
+        frame: &Frame,
+        boards: &[Board],
+        to_move: Side,
+        passes: u8,
+    ) -> Result<Past, NoMemory>
+        requires some { 0 < length boards.now }
+        requires sizes { All (λ b. b.size ≡ frame.now.size) boards.now }
+        ensures { IfOk result (λ p. p ≡ record { frame = frame.now; state = state_of boards.now to_move passes }) }
+    {
+        let boards = Boards::of(alloc, boards)?;
+        Ok(Past {
+            frame: frame.copy(),
+            boards,
+            to_move,
+            passes,
+        })
+    }
+
+    /// Whether the line stands there: with the same frame, history, side to move and passes. It takes no memory.
+    pub fn stands_with(&self, line: &Line) -> bool
+        ensures { IsTrue result ↔ ((self.now.frame ≡ line.now.frame) × (self.now.state ≡ line.now.state)) }
+    {
+        if self.to_move != line.to_move() {
+            return false;
+        }
+        if self.passes != line.passes() {
+            return false;
+        }
+        if !self.frame.same(line.frame()) {
+            return false;
+        }
+        self.boards.are(line.history())
+    }
+
+    /// The key of the position there. It takes no memory.
+    pub fn key(&self) -> Key
+        ensures { result ≡ key_of self.now.frame self.now.state }
+    {
+        key_at(&self.frame, self.boards.last(), self.to_move, self.passes)
+    }
+}
