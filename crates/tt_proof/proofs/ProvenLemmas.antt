@@ -1,10 +1,8 @@
 -- The trees that the constructors make win.
-use Rattle.std.proofs.Common.{◌≡◌, ◌≤◌, ◌<◌, ◌↔◌, ◌+◌, ◌++◌, ℕ, suc, inl, inr, arith, Some, None, List, [], ◌∷◌, length, Contains, slice_index_or, refl, sym, ap, subst, map}
+use Rattle.std.proofs.Common.{◌≡◌, ◌≤◌, ◌<◌, ◌↔◌, ◌+◌, ◌++◌, ℕ, suc, inl, inr, arith, Some, None, List, [], ◌∷◌, length, Contains, slice_index_or, refl, sym, ap, subst}
 use Rattle.tt_game.specs.Turns.{IsRising, OnBoard, turn_number, legal_turns}
-use Rattle.tt_game.specs.Line.{Continues}
-use Rattle.std.proofs.lemmas.List.{append-nil}
 use Rattle.tt_game.specs.TurnLaws.{contains-legal_turns, rising-legal_turns}
-use Rattle.tt_game.specs.Game.{State, IsLegal, after, winner_of, opponent, made, history}
+use Rattle.tt_game.specs.Game.{State, IsLegal, after, winner_of, opponent}
 use Rattle.tt_game.specs.declared.frame.Side.{Side}
 use Rattle.tt_game.specs.declared.frame.Side.TheVariants.{Attacker, Defender}
 use Rattle.tt_game.specs.declared.frame.Frame.{Frame}
@@ -130,15 +128,3 @@ trees_of_push (x ∷ es) e = ap (λ r. (x.0, x.1.tree) ∷ r) (trees_of_push es 
 pub on_board : (f : Frame) (t : Turn) → IsOnBoard f.size t → OnBoard f t
 on_board f (Play p) h = h
 on_board f Pass h = tt
-
--- a turn makes the history go on
-pub continues_after : (f : Frame) (s : State) (t : Turn) → Continues (after f s t) s
-continues_after f s (Play p) = (made f s p ∷ [], refl)
-continues_after f s Pass = ([], sym (append-nil (history s)))
-
--- where nobody has won there is a child, since the pass is legal
-pub some_child : (f : Frame) (s : State) (es : List (Turn × Proven)) → winner_of f s ≡ None → turns_of es ≡ legal_turns f s → length es ≡ 0 → ⊥
-some_child f s [] nobody same e =
-    let pass : Contains (turns_of []) Pass = subst (λ xs. Contains xs Pass) (sym same) ((contains-legal_turns f s Pass).1 nobody) in
-    omega (arith, pass.1)
-some_child f s (c ∷ es) nobody same e = omega (arith, e)

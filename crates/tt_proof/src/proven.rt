@@ -14,14 +14,14 @@ use crate::replays::replay;
 use crate::tree::Tree;
 use std::alloc::Global;
 use std::marker::Model;
-use tt_game::{Key, Line, Side, Turn};
+use tt_game::{Key, Line, Past, Side, Turn};
 use tt_sgf::NoMemory;
 
-/// A tree that wins for its side from the state of its line: of a depth of at most 512, with rising turns and points
-/// on the board.
+/// A tree that wins for its side from where a line stood: of a depth of at most 512, with rising turns and points on
+/// the board.
 #[derive(Drop)]
 pub struct Proof {
-    line: Line,
+    past: Past,
     side: Side,
     tree: Tree,
 }
@@ -37,9 +37,9 @@ impl Model for Proof {
 
     ghost coded = { Prim.hlevel (codes, points.the_row.coded, strategy_code) };
 
-    ghost view = { λ p. record { frame = p.line.frame; state = p.line.state; side = p.side; tree = strategy_of p.tree } };
+    ghost view = { λ p. record { frame = p.past.frame; state = p.past.state; side = p.side; tree = strategy_of p.tree } };
 
-    ghost invariant = { λ p. IsWon p.side p.line.frame p.line.state (strategy_of p.tree) };
+    ghost invariant = { λ p. IsWon p.side p.past.frame p.past.state (strategy_of p.tree) };
 }
 
 /// Why a tree was not made a proof. The tree comes back.
@@ -89,21 +89,21 @@ impl Proof {
     pub fn key(&self) -> Key
         ensures { result ≡ key_of self.now.frame self.now.state }
     {
-        self.line.key()
+        self.past.key()
     }
 
     /// Whether the proof's own position has this key.
     pub fn has_key(&self, k: &Key) -> bool
         ensures { IsTrue result ↔ (key_of self.now.frame self.now.state ≡ k.now) }
     {
-        self.line.key().same(k)
+        self.past.key().same(k)
     }
 
     /// Whether the line has the proof's frame, history, side to move and pass count.
     pub fn stands_at(&self, line: &Line) -> bool
         ensures { IsTrue result ↔ StandsAt self.now line.now.frame line.now.state }
     {
-        self.line.stands_with(line)
+        self.past.stands_with(line)
     }
 
     /// A proof of the tree at the line, where it wins there. The line stands as before.
@@ -117,9 +117,9 @@ impl Proof {
         match replay(&t, s, line) {
             Err(_) => Err(Rejected::NoMemory(t)),
             Ok(false) => Err(Rejected::NotWinning(t)),
-            Ok(true) => match line.try_clone() {
-                Ok(own) => Ok(Proof {
-                    line: own,
+            Ok(true) => match line.past() {
+                Ok(past) => Ok(Proof {
+                    past,
                     side: s,
                     tree: t,
                 }),
@@ -151,9 +151,9 @@ impl Proof {
     {
         match line.winner() {
             Some(side) => {
-                let own = line.try_clone()?;
+                let past = line.past()?;
                 Ok(Proof {
-                    line: own,
+                    past,
                     side,
                     tree: Tree::Done,
                 })
@@ -162,7 +162,7 @@ impl Proof {
         }
     }
 
-    /// The proof that plays the turn and goes on with the child. It takes over the child's history.
+    /// The proof that plays the turn and goes on with the child.
     pub fn pick(alloc: Global, line: &Line, t: Turn, child: Proof) -> Result<Proof, NoMemory>
         requires legal { IsLegal line.now.frame line.now.state t }
         requires child { IsChild line.now.frame line.now.state line.now.state.to_move t child }
@@ -170,20 +170,20 @@ impl Proof {
             × (p.tree ≡ pick t child.tree)) }
     {
         let Proof {
-            line: after,
+            past: _,
             side,
             tree,
         } = child;
-        let own = after.back_to(line);
+        let past = line.past()?;
         let tree = Box::new(alloc, tree)?;
         Ok(Proof {
-            line: own,
+            past,
             side,
             tree: Tree::Pick(t, tree),
         })
     }
 
-    /// The proof that answers each turn of the other side with that turn's child. It takes over a child's history.
+    /// The proof that answers each turn of the other side with that turn's child.
     pub fn reply(
         alloc: Global,
         line: &Line,
@@ -195,26 +195,21 @@ impl Proof {
         ensures { IfOk result (λ p. StandsAt p line.now.frame line.now.state × (p.side ≡ opponent line.now.state.to_move)
             × (p.tree ≡ reply (entries_of (trees_of children.items)))) }
     {
-        let mut last = None;
         let mut trees = Vec::new(alloc);
         for (turn, child) in children {
             let Proof {
-                line: after,
+                past: _,
                 side: _,
                 tree,
             } = child;
-            let own = after.back_to(line);
-            last = Some(own);
             trees.push((turn, tree))?;
         }
-        match last {
-            None => unreachable!(),
-            Some(own) => Ok(Proof {
-                line: own,
-                side: line.to_move().opponent(),
-                tree: Tree::Reply(trees),
-            }),
-        }
+        let past = line.past()?;
+        Ok(Proof {
+            past,
+            side: line.to_move().opponent(),
+            tree: Tree::Reply(trees),
+        })
     }
 
     /// The proof of a tree that is known to win at the line. No turn is played for it.
@@ -222,9 +217,9 @@ impl Proof {
         requires { IsWon s line.now.frame line.now.state (strategy_of t) }
         ensures { IfOk result (λ p. StandsAt p line.now.frame line.now.state × (p.side ≡ s) × (p.tree ≡ strategy_of t)) }
     {
-        let own = line.try_clone()?;
+        let past = line.past()?;
         Ok(Proof {
-            line: own,
+            past,
             side: s,
             tree: t,
         })

@@ -18,6 +18,7 @@ use Rattle.atomic_table.specs.contracts.shared.Seat as TableSeat
 use Rattle.atomic_table.proofs.Sent.{seat_keyless}
 use Rattle.tt_game.specs.contracts.frame.Side as Side
 use Rattle.tt_game.specs.contracts.line.Line as Line
+use Rattle.tt_game.specs.contracts.past.Past as Past
 use Rattle.tt_game.specs.contracts.turns.Turn as Turn
 use Rattle.tt_proof.specs.contracts.tree.Tree as Tree
 use Rattle.tt_proof.specs.contracts.tree.Tree.TheKnot as TreeKnot
@@ -36,8 +37,11 @@ use Rattle.tt_share.specs.contracts.workers.HandedBack as HandedBack
 line_send : IsSend Line.the_row
 line_send = search (sendable, crosses) depth 40
 
-line_sync : IsSync Line.the_row
-line_sync = search (sendable, crosses) depth 40
+past_send : IsSend Past.the_row
+past_send = search (sendable, crosses) depth 40
+
+past_sync : IsSync Past.the_row
+past_sync = search (sendable, crosses) depth 40
 
 tree_layer_send : (h : TreeKnot.the_members → RattleType) → IsSend (h TreeKnot.member-Tree) → IsSend (TreeKnot.layer-Tree (h TreeKnot.member-Tree) (h TreeKnot.member-Tree))
 tree_layer_send h below = search (sendable, crosses) depth 40
@@ -70,10 +74,10 @@ side_sync : IsSync Side.the_row
 side_sync = search (sendable, crosses) depth 40
 
 proof_send : IsSend Proof.the_row
-proof_send = view_send _ _ _ _ _ (declared_send Inside.the_type (as_row_send Line.the_field line_send, (side_send, (tree_send, tt))))
+proof_send = view_send _ _ _ _ _ (declared_send Inside.the_type (as_row_send Past.the_field past_send, (side_send, (tree_send, tt))))
 
 proof_sync : IsSync Proof.the_row
-proof_sync = view_sync _ _ _ _ _ (declared_sync Inside.the_type (as_row_sync Line.the_field line_sync, (side_sync, (tree_sync, tt))))
+proof_sync = view_sync _ _ _ _ _ (declared_sync Inside.the_type (as_row_sync Past.the_field past_sync, (side_sync, (tree_sync, tt))))
 
 shared_send : IsSend (Arc.the_row Proof.the_row Global.the_row ghosts)
 shared_send = search (sendable, crosses, proof_send, proof_sync) depth 40

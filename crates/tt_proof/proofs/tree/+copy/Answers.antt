@@ -1,7 +1,7 @@
 use Rattle.std.proofs.Common.{◌∙◌, ◌+◌, drop, sym, ap}
 use Rattle.std.proofs.lemmas.List.{drop_all, at_drop_more}
 use Rattle.tt_proof.specs.Strategy.{reply, entry, strategy_of, entries_of_trees}
-use Rattle.tt_proof.proofs.StrategyLemmas.{strategy_of_done, strategy_of_pick, strategy_of_reply, before, before_none, before_push}
+use Rattle.tt_proof.proofs.StrategyLemmas.{strategy_of_pick, strategy_of_reply, before, before_none, before_push}
 use Rattle.tt_proof.proofs.tree.+copy.Goals as goal
 
 pub copy_tree-returns-in-Pick : goal.copy_tree-returns-in-Pick

@@ -1,5 +1,5 @@
 use Rattle.std.proofs.Common.{◌∙◌, ap, subst}
-use Rattle.tt_game.specs.Line.{Standing}
+use Rattle.tt_game.specs.Line.{Stood}
 use Rattle.tt_proof.specs.Proven.{IsWon, Proven}
 use Rattle.tt_proof.specs.Strategy.{strategy_of, pick}
 use Rattle.tt_proof.proofs.StrategyLemmas.{strategy_of_pick}
@@ -8,16 +8,16 @@ use Rattle.tt_proof.proofs.proven.Proof.pick.Goals as goal
 
 pub invariant_of-result : goal.invariant_of-result
 invariant_of-result c =
-    let own = c.back_to-own.ensures in
+    let own = c.in_ok-past.ensures in
     let won = subst (λ (p : Proven). IsWon p.side p.frame p.state p.tree) c.child.view_is c.child.invariant in
     rw (strategy_of_pick, c.in_ok-tree.ensures.ok, ap (λ (p : Proven). p.tree) c.child.view_is, ap (λ (p : Proven). p.side) c.child.view_is)
-    (won_pick c.args.line.now.frame _ c.args.line.now.state _ c.args.t c.args.child (ap (λ (l : Standing). l.frame) own)
-    (ap (λ (l : Standing). l.state) own) c.requires.legal c.requires.child won)
+    (won_pick c.args.line.now.frame _ c.args.line.now.state _ c.args.t c.args.child (ap (λ (l : Stood). l.frame) own)
+    (ap (λ (l : Stood). l.state) own) c.requires.legal c.requires.child won)
 
 pub returns : goal.returns
 returns c =
-    let own = c.back_to-own.ensures in (
-      (ap (λ (l : Standing). l.frame) own, ap (λ (l : Standing). l.state) own),
+    let own = c.in_ok-past.ensures in (
+      (ap (λ (l : Stood). l.frame) own, ap (λ (l : Stood). l.state) own),
       ap (λ (p : Proven). p.side) c.child.view_is,
       strategy_of_pick c.args.t c.in_ok-tree.tree
           ∙ ap (λ x. pick c.args.t x) (ap strategy_of c.in_ok-tree.ensures.ok ∙ ap (λ (p : Proven). p.tree) c.child.view_is),

@@ -1,12 +1,12 @@
-use Rattle.std.proofs.Common.{◌≡◌, ◌∙◌, ◌++◌, [], ◌∷◌, List, map, length, MatchOption, arith, refl, sym, ap, subst, rules}
+use Rattle.std.proofs.Common.{◌≡◌, ◌∙◌, ◌++◌, [], ◌∷◌, List, map, length, arith, sym, ap, subst, rules}
 use Rattle.std.proofs.Math.Seq.{append_snoc}
 use Rattle.std.proofs.lemmas.List.{append-nil, map-append}
 use Rattle.tt_game.specs.Game.{opponent}
-use Rattle.tt_game.specs.Line.{Standing, Continues}
+use Rattle.tt_game.specs.Line.{Stood}
 use Rattle.tt_proof.specs.Proven.{AreChildren, IsWon, Proven, trees_of}
 use Rattle.tt_proof.specs.Strategy.{strategy_of, reply, entries_of}
 use Rattle.tt_proof.proofs.StrategyLemmas.{strategy_of_reply, entries_map}
-use Rattle.tt_proof.proofs.ProvenLemmas.{AllWon, won_reply, all_won_push, trees_of_push, some_child, continues_after}
+use Rattle.tt_proof.proofs.ProvenLemmas.{AllWon, won_reply, all_won_push, trees_of_push}
 use Rattle.tt_proof.proofs.proven.Proof.reply.Goals as goal
 
 at_end : {X : Type 0} (xs ys zs : List X) → xs ++ ys ≡ zs → length ys ≡ 0 → xs ≡ zs
@@ -30,39 +30,24 @@ loop-turn-preserved c =
           ∙ sym (trees_of_push c.loop-turn.yielded (c.in-Some.turn, c.in-Some.child));
       won = all_won_push c.loop-turn.yielded (c.in-Some.turn, c.in-Some.child) c.loop-turn.invariant.won won;
       left = left.1;
-      stands = (ap (λ (l : Standing). l.frame) c.back_to-own.ensures, ap (λ (l : Standing). l.state) c.back_to-own.ensures);
     }
-
-pub back_to-own-requires-clause-history : goal.back_to-own-requires-clause-history
-back_to-own-requires-clause-history c =
-    let f = c.args.line.now.frame in
-    let s = c.args.line.now.state in
-    let left = subst (λ xs. AreChildren f s xs) c.in-Some.ensures.steps.0 c.loop-turn.invariant.left in
-    subst (λ x. Continues x s) (sym (ap (λ (p : Proven). p.state) c.child.view_is ∙ left.0.stands.1)) (continues_after f s c.in-Some.turn)
-
-pub unreachable-requires : goal.unreachable-requires
-unreachable-requires c =
-    let left = c.loop-turn.turn-iterator.rest in
-    let all = at_end c.loop-turn.yielded left.items _ c.loop-turn.invariant.order (omega (arith, left.ok.0, c.in-None.ensures.steps.0)) in
-    let none : length c.loop-turn.yielded ≡ 0 = subst (λ o. MatchOption o (length c.loop-turn.yielded ≡ 0) (λ own. (own.frame ≡ c.args.line.now.frame) × (own.state ≡ c.args.line.now.state))) c.in-None-last.is c.loop-turn.invariant.stands in
-    some_child c.args.line.now.frame c.args.line.now.state c.args.children.items c.requires.nobody c.requires.turns (ap length (sym all) ∙ none)
 
 pub invariant_of-result : goal.invariant_of-result
 invariant_of-result c =
-    let own = subst (λ o. MatchOption o (length c.loop-turn.yielded ≡ 0) (λ own. (own.frame ≡ c.args.line.now.frame) × (own.state ≡ c.args.line.now.state))) c.in-Some-last.is c.loop-turn.invariant.stands in
+    let own = c.in_ok-past.ensures in
     let left = c.loop-turn.turn-iterator.rest in
     let all = at_end c.loop-turn.yielded left.items _ c.loop-turn.invariant.order (omega (arith, left.ok.0, c.in-None.ensures.steps.0)) in
     let same = strategy_of_reply c.loop-turn.trees ∙ ap reply (sym (entries_map c.loop-turn.trees.items) ∙ ap entries_of (c.loop-turn.invariant.same ∙ ap trees_of all)) in
     rw same
-    (won_reply c.args.line.now.frame c.args.line.now.state _ _ _ c.args.children.items own.0 own.1 (c.opponent.ensures ∙ ap opponent c.to_move.ensures) c.requires.nobody
+    (won_reply c.args.line.now.frame c.args.line.now.state _ _ _ c.args.children.items (ap (λ (l : Stood). l.frame) own) (ap (λ (l : Stood). l.state) own) (c.opponent.ensures ∙ ap opponent c.to_move.ensures) c.requires.nobody
     c.requires.turns c.requires.children (subst AllWon all c.loop-turn.invariant.won))
 
 pub returns : goal.returns
 returns c =
-    let own = subst (λ o. MatchOption o (length c.loop-turn.yielded ≡ 0) (λ own. (own.frame ≡ c.args.line.now.frame) × (own.state ≡ c.args.line.now.state))) c.in-Some-last.is c.loop-turn.invariant.stands in
+    let own = c.in_ok-past.ensures in
     let left = c.loop-turn.turn-iterator.rest in
     let all = at_end c.loop-turn.yielded left.items _ c.loop-turn.invariant.order (omega (arith, left.ok.0, c.in-None.ensures.steps.0)) in (
-      own,
+      (ap (λ (l : Stood). l.frame) own, ap (λ (l : Stood). l.state) own),
       c.opponent.ensures ∙ ap opponent c.to_move.ensures,
       strategy_of_reply c.loop-turn.trees
           ∙ ap reply (sym (entries_map c.loop-turn.trees.items) ∙ ap entries_of (c.loop-turn.invariant.same ∙ ap trees_of all)),
@@ -74,5 +59,4 @@ loop-turn-init c = record {
   same = ap (map (λ e. (e.0, strategy_of e.1))) c.new-trees.ensures.items;
   won = tt;
   left = rw c.into_iter-turn-iterator.ensures.into_iter_gives.0 c.requires.children;
-  stands = refl;
 }

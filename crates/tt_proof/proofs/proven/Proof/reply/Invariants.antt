@@ -1,4 +1,4 @@
-use Rattle.std.proofs.Common.{◌≡◌, ◌++◌, map, length, MatchOption}
+use Rattle.std.proofs.Common.{◌≡◌, ◌++◌, map}
 use Rattle.std.specs.Vec.Iter.{into_iter_items}
 use Rattle.tt_proof.specs.Proven.{AreChildren, trees_of}
 use Rattle.tt_proof.specs.Strategy.{strategy_of}
@@ -11,5 +11,4 @@ invariant-loop-turn l = record {
   same : map (λ e. (e.0, strategy_of e.1)) l.trees.items ≡ trees_of l.yielded;
   won : AllWon l.yielded;
   left : AreChildren l.line.frame l.line.state (into_iter_items l.turn-iterator);
-  stands : MatchOption l.last (length l.yielded ≡ 0) (λ own. (own.frame ≡ l.line.frame) × (own.state ≡ l.line.state));
 }
