@@ -4,7 +4,7 @@ ghost use Rattle.tt_game.specs.Turns.{IsOn};
 
 use super::{Game, Line, Side, Turn, Why, play_record, problem};
 use std::alloc::Global;
-use tt_board::{Board, Colour};
+use tt_board::{Board, Boards, Colour};
 use tt_sgf::{Size, read_tree};
 
 /// Black's and White's points and whether the game is over, or the number of the refusal.
@@ -221,6 +221,22 @@ type Case = (
     &'static [u8],
 );
 
+/// Whether the history's boards are kept: they are all of them, and not without the first or the last.
+fn keeps(alloc: Global, line: &Line) -> bool {
+    let boards = line.history();
+    if boards.is_empty() {
+        return false;
+    }
+    let Ok(kept) = Boards::of(alloc, boards) else {
+        return false;
+    };
+    let fewer = &boards[1..];
+    kept.are(boards)
+        && kept.last().same(line.present())
+        && !kept.are(fewer)
+        && !kept.are(&boards[..boards.len() - 1])
+}
+
 /// Whether a case is so, a copy of the line stands with it, and a kept past does until a turn is made.
 fn holds(alloc: Global, case: Case) -> bool {
     let (text, pushes, history, ending, causes) = case;
@@ -245,6 +261,7 @@ fn holds(alloc: Global, case: Case) -> bool {
     line.stands_with(&copy)
         && past.stands_with(&copy)
         && past.key() == line.key()
+        && keeps(alloc, &line)
         && line.key() == copy.key()
         && is_history(line.history(), history)
         && outcome(&line).as_slice() == ending
