@@ -1,16 +1,46 @@
 -- How a chain is found, point by point.
-use Rattle.std.proofs.Common.{◌≡◌, ◌≢◌, ℕ, ◌+◌, ◌<◌, ◌≤◌, List, [], ◌∷◌, ◌++◌, length, None, Bool, true, false, Contains, get_or, set, inl, inr, refl, sym, ap, subst, ◌∙◌, append_assoc, length-append, append-nil, replicate, not, arith}
+use Rattle.std.proofs.Common.{◌≡◌, ◌≢◌, ℕ, ◌+◌, ◌<◌, ◌≤◌, List, [], ◌∷◌, ◌++◌, length, Option, Some, None, Bool, true, false, Contains, get_or, set, inl, inr, sym, ap, subst, ◌∙◌, append_assoc, length-append, append-nil, replicate, not, arith}
 use Rattle.std.proofs.lemmas.Bool.{cases_eq, cases_lt, false≢true}
 use Rattle.std.proofs.lemmas.List.{length-set, length-replicate, get_or-set_other, get_or-replicate, get_or_default, get_or_append_left, get_or_past}
+use Rattle.std.proofs.lemmas.List.{ext_get_or, get_or-set_same}
+use Rattle.std.proofs.lemmas.List.FromFn.{get_or-map-range_with_len, length-map-range_with_len}
 use Rattle.std.proofs.lemmas.List.Sums.{count_by-le-length}
 use Rattle.std.proofs.lemmas.List.Elements.{Contains-push, Contains-push_cases, Contains-append_left}
 use Rattle.tt_sgf.specs.declared.size.Size.{Size}
-use Rattle.tt_board.specs.Near.{IsNeighbour}
+use Rattle.tt_board.specs.declared.Colour.{Colour}
+use Rattle.tt_board.specs.Near.{IsNeighbour, IsOneOf}
 use Rattle.tt_board.specs.Position.{Colouring}
-use Rattle.tt_board.specs.Reach.{entry_at}
+use Rattle.tt_board.specs.Reach.{entry_at, Reaches}
+use Rattle.tt_board.specs.Planes.{bit_in}
 use Rattle.tt_board.specs.Fill.{is_marked}
-use Rattle.tt_board.specs.ReachLaws.{unmarked_fewer, reaches_on}
-use Rattle.tt_board.specs.Chain.{IsEnclosed, IsLinked, IsGrowing, IsGrown}
+use Rattle.tt_board.specs.ReachLaws.{unmarked_fewer, reaches_beside, reaches_on}
+use Rattle.tt_board.specs.Chain.{IsEnclosed, IsLinked, IsGrowing, IsGrown, IsVisited, IsEmptyAt, IsClosedAt, marks_of}
+use Rattle.tt_board.proofs.PlaneLemmas.{six, no_bit}
+
+-- marks as bits in words
+pub mark_at : (words : List ℕ) (q : ℕ) → q < 361 → is_marked (marks_of words) q ≡ bit_in words q
+unfolding marks_of
+mark_at words q small = get_or-map-range_with_len (bit_in words) 0 361 q q false small (omega arith)
+
+pub length-marks : (words : List ℕ) → length (marks_of words) ≡ 361
+unfolding marks_of
+length-marks words = length-map-range_with_len (bit_in words) 0 361
+
+-- one more mark
+pub marks_set : (words after : List ℕ) (q : ℕ) → q < 361 → bit_in after q ≡ true
+    → ((r : ℕ) → r < 384 → (r ≡ q → ⊥) → bit_in after r ≡ bit_in words r) → set (marks_of words) q true ≡ marks_of after
+marks_set words after q small on others =
+    ext_get_or false (set (marks_of words) q true) (marks_of after) (length-set (marks_of words) q true ∙ length-marks words ∙ sym (length-marks after)) (λ r below.
+    let in_r : r < 361 = omega (arith, length-set (marks_of words) q true, length-marks words) in
+    elim (cases_eq r q) [
+      | inl same ↦ rw same (get_or-set_same (marks_of words) q true false (omega (arith, length-marks words)) ∙ sym (mark_at after q small ∙ on))
+      | inr apart ↦ get_or-set_other (marks_of words) q r true false apart ∙ mark_at words r in_r ∙ sym (mark_at after r in_r ∙ others r (omega arith) apart)
+    ])
+
+pub marks_none : marks_of six ≡ replicate 361 false
+marks_none = ext_get_or false (marks_of six) (replicate 361 false) (length-marks six ∙ sym (length-replicate {A = Bool} 361 false)) (λ r below.
+    let in_r : r < 361 = omega (arith, length-marks six) in
+    mark_at six r in_r ∙ no_bit r (omega arith) ∙ sym (get_or-replicate {A = Bool} 361 r false false in_r))
 
 pub room_left : (m : List Bool) (xs : List ℕ) (q : ℕ) → IsGrowing m xs → q < 361 → is_marked m q ≡ false → length xs < 361
 room_left m xs q g small bare =
@@ -50,35 +80,56 @@ push_grown s c p before xs q g near like = record {
 pub grown_kept : (s : Size) (c : Colouring) (p : ℕ) (before after : List ℕ) (q : ℕ) → IsGrown s c p before after → Contains before q → Contains after q
 grown_kept s c p before after q g has = subst (λ ys. Contains ys q) (sym g.longer) (Contains-append_left before g.more q has)
 
--- the points looked at so far, and the next one
-pub looked_more : (c : Colouring) (p : ℕ) (items xs ys : List ℕ) (i : ℕ) → ((r : ℕ) → Contains xs r → Contains ys r)
-    → ((k : ℕ) → k < i → (entry_at c (get_or items k 0) ≢ None) × (entry_at c (get_or items k 0) ≡ entry_at c p → Contains xs (get_or items k 0)))
-    → (entry_at c (get_or items i 0) ≢ None) → (entry_at c (get_or items i 0) ≡ entry_at c p → Contains ys (get_or items i 0))
-    → (k : ℕ) → k < i + 1 → (entry_at c (get_or items k 0) ≢ None) × (entry_at c (get_or items k 0) ≡ entry_at c p → Contains ys (get_or items k 0))
-looked_more c p items xs ys i kept before stone like k below =
-    elim (cases_eq k i) [
-      | inl same ↦ subst (λ x. (entry_at c (get_or items x 0) ≢ None) × (entry_at c (get_or items x 0) ≡ entry_at c p → Contains ys (get_or items x 0))) (sym same) (stone, like)
-      | inr apart ↦ let h = before k (omega arith) in (h.0, λ e. kept (get_or items k 0) (h.1 e))
-    ]
+-- a place beside p that was looked at
+pub visit_grown : (s : Size) (c : Colouring) (p : ℕ) (own : Option Colour) (place : Option ℕ) (before xs ys : List ℕ) → own ≡ entry_at c p
+    → ((q : ℕ) → place ≡ Some q → IsNeighbour s p q) → IsGrown s c p before xs → IsVisited c own place xs ys → IsGrown s c p before ys
+visit_grown s c p own place before xs ys is_own near g (inl same) = subst (λ zs. IsGrown s c p before zs) (sym same) g
+visit_grown s c p own place before xs ys is_own near g (inr (q, is, like, longer)) =
+    subst (λ zs. IsGrown s c p before zs) (sym longer) (push_grown s c p before xs q g (near q is) (like ∙ is_own))
 
-pub start_growing : (m : List Bool) (q : ℕ) → m ≡ replicate 361 false → q < 361 → IsGrowing (set m q true) (q ∷ [])
-start_growing m q is small =
-    let wide : length m ≡ 361 = ap length is ∙ length-replicate {A = Bool} 361 false in
-    let bare : is_marked m q ≡ false = ap (λ xs. is_marked xs q) is ∙ get_or-replicate {A = Bool} 361 q false false small in
-    let fewer = unmarked_fewer m q (omega (arith, wide)) bare in
+pub closed_at : (c : Colouring) (own : Option Colour) (chain : List ℕ) (place : Option ℕ) (q : ℕ) → place ≡ Some q → entry_at c q ≢ None
+    → (entry_at c q ≡ own → Contains chain q) → IsClosedAt c own chain place
+closed_at c own chain place q is stone like r has =
+    let both : Some q ≡ Some r = sym is ∙ has in
+    let same : q ≡ r = cc in
+    subst (λ x. (entry_at c x ≢ None) × (entry_at c x ≡ own → Contains chain x)) same (stone, like)
+
+-- what was in the list is still there
+pub visit_kept : (c : Colouring) (own : Option Colour) (place place' : Option ℕ) (xs ys : List ℕ) → IsVisited c own place xs ys → IsClosedAt c own xs place' → IsClosedAt c own ys place'
+visit_kept c own place place' xs ys (inl same) h q is = ((h q is).0, λ like. subst (λ zs. Contains zs q) (sym same) ((h q is).1 like))
+visit_kept c own place place' xs ys (inr (r, _, _, longer)) h q is =
+    ((h q is).0, λ like. subst (λ zs. Contains zs q) (sym longer) (Contains-append_left xs (r ∷ []) q ((h q is).1 like)))
+
+-- an empty place beside a stone is a liberty
+pub liberty_at : (s : Size) (c : Colouring) (p : ℕ) (place : Option ℕ) → entry_at c p ≢ None → ((q : ℕ) → place ≡ Some q → IsNeighbour s p q) → IsEmptyAt c place → Reaches s c p None
+liberty_at s c p place stone near (q, is, bare) = reaches_beside s c None p q stone (near q is) bare
+
+-- a stone is enclosed where its four places are
+pub closed_around : (s : Size) (c : Colouring) (p : ℕ) (own : Option Colour) (chain : List ℕ) (a l r b : Option ℕ) → own ≡ entry_at c p
+    → ((q : ℕ) → IsNeighbour s p q → IsOneOf a l r b q) → IsClosedAt c own chain a → IsClosedAt c own chain b → IsClosedAt c own chain l → IsClosedAt c own chain r
+    → IsEnclosed s c chain p
+closed_around s c p own chain a l r b is_own all up down back on q near =
+    let h : (entry_at c q ≢ None) × (entry_at c q ≡ own → Contains chain q) =
+    elim (all q near) [ inl is ↦ up q is | inr (inl is) ↦ back q is | inr (inr (inl is)) ↦ on q is | inr (inr (inr is)) ↦ down q is ] in
+    (h.0, λ like. h.1 (like ∙ sym is_own))
+
+pub start_growing : (words after : List ℕ) (q : ℕ) → words ≡ replicate 6 0 → q < 361 → bit_in after q ≡ true
+    → ((r : ℕ) → r < 384 → (r ≡ q → ⊥) → bit_in after r ≡ bit_in words r) → IsGrowing (marks_of after) (q ∷ [])
+start_growing words after q is small on others =
+    let m = marks_of words in
+    let none : m ≡ replicate 361 false = ap marks_of is ∙ marks_none in
+    let wide : length m ≡ 361 = length-marks words in
+    let bare : is_marked m q ≡ false = ap (λ xs. is_marked xs q) none ∙ get_or-replicate {A = Bool} 361 q false false small in
     let most = count_by-le-length not m in
-    let one : length (q ∷ []) ≡ 1 = refl in
-    record {
-      wide = length-set m q true ∙ wide;
-      room = omega (arith, fewer, most, wide, one);
-      listed = λ p marked. elim (cases_eq p q) [
-        | inl same ↦ subst (λ x. Contains (q ∷ []) x) (sym same) (Contains-push [] q)
-        | inr apart ↦ elim (cases_lt p 361) [
-          | inl below ↦ absurd (false≢true (sym (get_or-set_other m q p true false apart ∙ ap (λ xs. is_marked xs p) is ∙ get_or-replicate {A = Bool} 361 p false false below) ∙ marked))
-          | inr past ↦ absurd (false≢true (sym (get_or-set_other m q p true false apart ∙ get_or_past m p false (omega (arith, wide))) ∙ marked))
-        ]
-      ];
-    }
+    subst (λ n. IsGrowing n (q ∷ [])) (marks_set words after q small on others)
+    (push_growing m [] q (record {
+      wide = wide;
+      room = omega (arith, most, wide);
+      listed = λ p marked. absurd (elim (cases_lt p 361) [
+        | inl below ↦ false≢true (sym (ap (λ xs. is_marked xs p) none ∙ get_or-replicate {A = Bool} 361 p false false below) ∙ marked)
+        | inr past ↦ false≢true (sym (get_or_past m p false (omega (arith, wide))) ∙ marked)
+      ]);
+    }) small bare)
 
 pub linked_more : (s : Size) (c : Colouring) (start p : ℕ) (before after : List ℕ) → IsGrown s c p before after → Contains before p
     → ((q : ℕ) → Contains before q → IsLinked s c start q) → (q : ℕ) → Contains after q → IsLinked s c start q

@@ -1,10 +1,12 @@
-use Rattle.std.proofs.Common.{◌≡◌, ℕ, ◌+◌, ◌-◌, ◌*◌, ◌/◌, ◌%◌, ◌<◌, ◌↔◌, ◌⊎◌, List, [], ◌∷◌, ◌++◌, length, Contains, get_or, inl, inr, sym, ap, subst, ◌∙◌, arith}
+use Rattle.std.proofs.Common.{◌≡◌, ℕ, ◌+◌, ◌-◌, ◌*◌, ◌/◌, ◌%◌, ◌<◌, ◌≤◌, ◌↔◌, ◌⊎◌, List, [], ◌∷◌, ◌++◌, length, Contains, get_or, Option, Some, inl, inr, sym, ap, subst, ◌∙◌, arith}
+use Rattle.std.proofs.lemmas.Bool.{cases_eq}
 use Rattle.std.proofs.lemmas.Nat.{div-mul-add, mod-mul-add, div-add-mod', mod_below, mul-add-lt, div_below}
 use Rattle.std.proofs.lemmas.List.Elements.{Contains-push, Contains-append_left, Contains-push_cases, Contains-get_or}
 use Rattle.std.proofs.lemmas.List.{get_or_default}
+use Rattle.std.proofs.lemmas.Option.{none-some}
 use Rattle.tt_sgf.specs.declared.size.Size.{Size}
 use Rattle.tt_sgf.specs.Sizes.{point_count}
-use Rattle.tt_board.specs.Near.{IsBeside, IsNeighbour}
+use Rattle.tt_board.specs.Near.{IsBeside, IsNeighbour, IsThere, IsOneOf}
 
 -- the four places beside p, as the code finds them
 pub data Side : ℕ → ℕ → ℕ → ℕ → Type 0 where
@@ -112,3 +114,46 @@ pub index_of : (s : Size) (p : ℕ) (items xs : List ℕ) (q : ℕ) → xs ≡ i
 index_of s p items xs q e all near =
     let h : Contains xs q = subst (λ ys. Contains ys q) (sym e) ((all q).1 near) in
     (h.0, h.1, get_or_default xs h.0 0 q h.1 ∙ h.2)
+
+place_there : {P : Type 0} (place : Option ℕ) (x q : ℕ) → IsThere place P x → place ≡ Some q → P × (q ≡ x)
+place_there place x q (inl (p, e)) has =
+    let same : Some q ≡ Some x = sym has ∙ e in
+    (p, cc)
+place_there place x q (inr (_, e)) has = absurd (none-some q (sym e ∙ has))
+
+there_place : {P : Type 0} (place : Option ℕ) (x q : ℕ) → IsThere place P x → P → q ≡ x → place ≡ Some q
+there_place place x q (inl (_, e)) p same = e ∙ ap Some (sym same)
+there_place place x q (inr (none, _)) p same = absurd (none p)
+
+-- the four places are the neighbours
+module _ (s : Size) (p : ℕ) (pos : 0 < s.columns) (in_p : p < point_count s) (a l r b : Option ℕ)
+    (up : IsThere a (s.columns ≤ p) (p - s.columns)) (back : IsThere l (0 < p % s.columns) (p - 1))
+    (on : IsThere r (p % s.columns + 1 < s.columns) (p + 1)) (down : IsThere b (p + s.columns < point_count s) (p + s.columns)) where
+  row_above : s.columns ≤ p → 0 < p / s.columns
+  row_above le = elim (cases_eq (p / s.columns) 0) [
+    | inl none ↦ let rows = ap (λ r. r * s.columns) none in absurd (omega (arith, div-add-mod' p s.columns, mod_below p s.columns pos))
+    | inr some ↦ omega arith
+  ]
+
+  row_below : p + s.columns < point_count s → p / s.columns + 1 < s.rows
+  row_below lt =
+      let e : (p / s.columns + 1) * s.columns + p % s.columns ≡ p + s.columns = omega (arith, div-add-mod' p s.columns) in
+      let row = div-mul-add (p / s.columns + 1) s.columns (p % s.columns) (mod_below p s.columns pos) in
+      let in_rows = div_below (p + s.columns) s.columns s.rows pos (omega arith) in
+      let there = ap (λ x. x / s.columns) e in
+      omega (arith, row, in_rows, there)
+
+  side_at : (q : ℕ) → IsOneOf a l r b q → Side s.columns s.rows p q
+  side_at q (inl has) = let h = place_there a _ q up has in above _ _ p q (row_above h.0) h.1
+  side_at q (inr (inl has)) = let h = place_there l _ q back has in left _ _ p q h.0 h.1
+  side_at q (inr (inr (inl has))) = let h = place_there r _ q on has in right _ _ p q h.0 h.1
+  side_at q (inr (inr (inr has))) = let h = place_there b _ q down has in below _ _ p q (row_below h.0) h.1
+
+  place_of : (q : ℕ) → q < point_count s → Side s.columns s.rows p q → IsOneOf a l r b q
+  place_of q in_q (above w h _ _ row e) = inl (there_place a _ q up (omega (arith, div-add-mod' p w, row_before (p / w) w row)) e)
+  place_of q in_q (left w h _ _ before e) = inr (inl (there_place l _ q back before e))
+  place_of q in_q (right w h _ _ after e) = inr (inr (inl (there_place r _ q on after e)))
+  place_of q in_q (below w h _ _ row e) = inr (inr (inr (there_place b _ q down (omega arith) e)))
+
+  pub near_places : (q : ℕ) → IsOneOf a l r b q ↔ IsNeighbour s p q
+  near_places q = (λ has. of_side s p q pos in_p (side_at q has), λ near. place_of q near.0 (side_of s.columns s.rows p q pos in_p near.0 near.1))

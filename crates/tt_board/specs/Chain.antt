@@ -1,11 +1,13 @@
 -- Chains without liberties, as a move finds and lifts them. Private contracts alone cite these.
-use Rattle.std.specs.Prelude.{◌≡◌, ◌≢◌, ℕ, ◌+◌, ◌<◌, ◌≤◌, ◌⊎◌, List, length, Some, None, Bool, IsTrue, Contains, ◌++◌}
+use Rattle.std.specs.Prelude.{◌≡◌, ◌≢◌, ℕ, ◌+◌, ◌<◌, ◌≤◌, ◌⊎◌, List, [], ◌∷◌, length, Option, Some, None, Bool, IsTrue, Contains, ◌++◌, map}
+use Rattle.std.specs.List.{range_with_len}
 use Rattle.tt_board.specs.declared.Colour.{Colour}
 use Rattle.tt_sgf.specs.declared.size.Size.{Size}
 use Rattle.tt_sgf.specs.Sizes.{point_count}
 use Rattle.tt_board.specs.Near.{IsNeighbour}
 use Rattle.tt_board.specs.Position.{Colouring}
 use Rattle.tt_board.specs.Reach.{entry_at, Reaches}
+use Rattle.tt_board.specs.Planes.{bit_in}
 use Rattle.tt_board.specs.Fill.{is_marked, unmarked_count}
 
 -- no neighbour of p is empty, and those like p are in the chain
@@ -15,6 +17,10 @@ IsEnclosed s c chain p = (q : ℕ) → IsNeighbour s p q → (entry_at c q ≢ N
 -- a point like the start, which reaches empty only if the start does
 abbrev pub IsLinked : Size → Colouring → ℕ → ℕ → Type 0
 IsLinked s c start p = (p < point_count s) × (entry_at c p ≡ entry_at c start) × (Reaches s c p None → Reaches s c start None)
+
+-- marks as bits in words
+unfoldable pub marks_of : List ℕ → List Bool
+marks_of words = map (bit_in words) (range_with_len 0 361)
 
 -- a list that is being found: each marked point is in it, and there is room for the others
 pub record IsGrowing (marks : List Bool) (chain : List ℕ) : Type 0 where
@@ -27,6 +33,18 @@ pub record IsGrown (s : Size) (c : Colouring) (p : ℕ) (before after : List ℕ
   pub more : List ℕ
   pub longer : after ≡ before ++ more
   pub added : (q : ℕ) → Contains after q → Contains before q ⊎ (IsNeighbour s p q × (entry_at c q ≡ entry_at c p))
+
+-- a place is there and empty
+abbrev pub IsEmptyAt : Colouring → Option ℕ → Type 0
+IsEmptyAt c place = (q : ℕ) × (place ≡ Some q) × (entry_at c q ≡ None)
+
+-- a place, where there is one, isn't empty, and is in the chain if its entry is the chain's own
+abbrev pub IsClosedAt : Colouring → Option Colour → List ℕ → Option ℕ → Type 0
+IsClosedAt c own chain place = (q : ℕ) → place ≡ Some q → (entry_at c q ≢ None) × (entry_at c q ≡ own → Contains chain q)
+
+-- the list stayed, or a place with the chain's own entry came to its end
+abbrev pub IsVisited : Colouring → Option Colour → Option ℕ → List ℕ → List ℕ → Type 0
+IsVisited c own place before after = (after ≡ before) ⊎ ((q : ℕ) × (place ≡ Some q) × (entry_at c q ≡ own) × (after ≡ before ++ q ∷ []))
 
 -- the whole chain of a stone that doesn't reach empty
 pub record IsLifelessChain (s : Size) (c : Colouring) (start : ℕ) (chain : List ℕ) : Type 0 where

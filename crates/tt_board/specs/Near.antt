@@ -1,5 +1,5 @@
 -- Adjacent points (the Tromp-Taylor rules of Go: vertically or horizontally).
-use Rattle.std.specs.Prelude.{◌≡◌, ℕ, ◌+◌, ◌/◌, ◌%◌, ◌<◌, ◌⊎◌}
+use Rattle.std.specs.Prelude.{◌≡◌, ℕ, ◌+◌, ◌/◌, ◌%◌, ◌<◌, ◌⊎◌, Option, Some, None}
 use Rattle.tt_sgf.specs.declared.size.Size.{Size}
 use Rattle.tt_sgf.specs.Sizes.{point_count}
 
@@ -15,3 +15,11 @@ AreBeside s p q =
 -- q is a point of the board, adjacent to p
 abbrev pub IsNeighbour : Size → ℕ → ℕ → Type 0
 IsNeighbour s p q = (q < point_count s) × AreBeside s p q
+
+-- a place q that is there exactly where P holds; private contracts alone cite this and the next one
+abbrev pub IsThere : Option ℕ → Type 0 → ℕ → Type 0
+IsThere place P q = (P × (place ≡ Some q)) ⊎ ((P → ⊥) × (place ≡ None))
+
+-- q is one of four places
+abbrev pub IsOneOf : Option ℕ → Option ℕ → Option ℕ → Option ℕ → ℕ → Type 0
+IsOneOf a b c d q = (a ≡ Some q) ⊎ (b ≡ Some q) ⊎ (c ≡ Some q) ⊎ (d ≡ Some q)

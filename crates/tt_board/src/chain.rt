@@ -1,20 +1,53 @@
 //! Chains without liberties: found from one of their stones, and lifted.
 
-ghost use Rattle.std.specs.Prelude.{◌≡◌, ◌≢◌, ℕ, ◌<◌, ◌⊎◌, ◌↔◌, length, replicate, false, None, IsTrue, Contains, []};
+ghost use Rattle.std.specs.Prelude.{◌≡◌, ◌≢◌, ℕ, ◌<◌, ◌≤◌, ◌⊎◌, ◌↔◌, length, replicate, false, Some, None, IsTrue, Contains, []};
 ghost use Rattle.tt_sgf.specs.Sizes.{point_count};
 ghost use Rattle.tt_board.specs.Reach.{entry_at, Reaches};
-ghost use Rattle.tt_board.specs.Chain.{IsEnclosed, IsGrowing, IsGrown, IsLifelessChain, IsChainLifted};
+ghost use Rattle.tt_board.specs.Chain.{IsEnclosed, IsGrowing, IsGrown, IsVisited, IsEmptyAt, IsClosedAt, marks_of, IsLifelessChain, IsChainLifted};
 
-use super::colouring::Colouring;
-use super::near::neighbours;
+use super::Colour;
+use super::colouring::{Colouring, bit, set_bit};
+use super::near::beside;
 use arrayvec::ArrayVec;
 use tt_sgf::Size;
 
-/// No mark on any place.
-fn no_marks() -> [bool; 361]
-    ensures { result ≡ replicate 361 false }
+/// No mark on any place: a bit for each.
+fn no_marks() -> [u64; 6]
+    ensures { result ≡ replicate 6 0 }
 {
-    [false; 361]
+    [0; 6]
+}
+
+/// Looks at a place beside a stone: adds it to the chain where it is like `own` and new there; whether it is empty.
+fn visit(
+    points: &Colouring,
+    own: Option<Colour>,
+    place: Option<usize>,
+    marks: &mut [u64],
+    chain: &mut ArrayVec<u16, 361>,
+) -> bool
+    requires small { length points.now ≤ 361 }
+    requires on_board { (q : ℕ) → place ≡ Some q → q < length points.now }
+    requires wide { length marks.old ≡ 6 }
+    requires growing { IsGrowing (marks_of marks.old) chain.old.items }
+    ensures still_wide { length marks.new ≡ 6 }
+    ensures still_growing { IsGrowing (marks_of marks.new) chain.new.items }
+    ensures visited { IsVisited points.now own place chain.old.items chain.new.items }
+    ensures liberty { IsTrue result → IsEmptyAt points.now place }
+    ensures enclosed { result ≡ false → IsClosedAt points.now own chain.new.items place }
+{
+    let Some(q) = place else {
+        return false;
+    };
+    let entry = points.at(q);
+    if entry.is_none() {
+        return true;
+    }
+    if entry == own && !bit(marks, q) {
+        set_bit(marks, q, true);
+        chain.push(q as u16);
+    }
+    false
 }
 
 /// Adds the neighbours of `p` that are like it to its chain, up to one that is empty; whether one is.
@@ -22,32 +55,44 @@ fn grow(
     size: Size,
     points: &Colouring,
     p: usize,
-    marks: &mut [bool],
+    marks: &mut [u64],
     chain: &mut ArrayVec<u16, 361>,
 ) -> bool
     requires fits { length points.now ≡ point_count size }
     requires on_board { p < point_count size }
     requires stone { entry_at points.now p ≢ None }
-    requires growing { IsGrowing marks.old chain.old.items }
-    ensures still_growing { IsGrowing marks.new chain.new.items }
+    requires wide { length marks.old ≡ 6 }
+    requires growing { IsGrowing (marks_of marks.old) chain.old.items }
+    ensures still_wide { length marks.new ≡ 6 }
+    ensures still_growing { IsGrowing (marks_of marks.new) chain.new.items }
     ensures grown { IsGrown size points.now p chain.old.items chain.new.items }
     ensures liberty { IsTrue result → Reaches size points.now p None }
     ensures enclosed { result ≡ false → IsEnclosed size points.now chain.new.items p }
 {
     let _count = size.point_count();
     let own = points.at(p);
-    let near = neighbours(size, p);
-    for q in near.as_slice() {
-        let entry = points.at(*q);
-        if entry.is_none() {
-            return true;
-        }
-        if entry == own && !marks[*q] {
-            marks[*q] = true;
-            chain.push(*q as u16);
-        }
+    let near = beside(size, p);
+    if visit(points, own, near.above, marks, chain) {
+        return true;
     }
-    false
+    if visit(points, own, near.below, marks, chain) {
+        return true;
+    }
+    if visit(points, own, near.left, marks, chain) {
+        return true;
+    }
+    visit(points, own, near.right, marks, chain)
+}
+
+/// Whether a place is there and empty.
+fn is_empty_at(points: &Colouring, place: Option<usize>) -> bool
+    requires { (q : ℕ) → place ≡ Some q → q < length points.now }
+    ensures { IsTrue result → IsEmptyAt points.now place }
+{
+    match place {
+        Some(q) => points.at(q).is_none(),
+        None => false,
+    }
 }
 
 /// Whether a neighbour of the stone on `p` is empty.
@@ -57,13 +102,17 @@ pub(crate) fn has_liberty(size: Size, points: &Colouring, p: usize) -> bool
     requires stone { entry_at points.now p ≢ None }
     ensures { IsTrue result → Reaches size points.now p None }
 {
-    let near = neighbours(size, p);
-    for q in near.as_slice() {
-        if points.at(*q).is_none() {
-            return true;
-        }
+    let near = beside(size, p);
+    if is_empty_at(points, near.above) {
+        return true;
     }
-    false
+    if is_empty_at(points, near.below) {
+        return true;
+    }
+    if is_empty_at(points, near.left) {
+        return true;
+    }
+    is_empty_at(points, near.right)
 }
 
 /// Walks the chain of the stone on `start` up to its first liberty, and lists it; whether it has one.
@@ -77,7 +126,7 @@ fn walk(size: Size, points: &Colouring, start: usize, chain: &mut ArrayVec<u16, 
 {
     let _count = size.point_count();
     let mut marks = no_marks();
-    marks[start] = true;
+    set_bit(&mut marks, start, true);
     chain.push(start as u16);
     let mut next = 0;
     while next < chain.len() {

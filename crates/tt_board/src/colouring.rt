@@ -32,7 +32,7 @@ impl Model for Colouring {
 }
 
 /// Whether the bit of this number is 1.
-fn bit(words: &[u64], n: usize) -> bool
+pub(crate) fn bit(words: &[u64], n: usize) -> bool
     requires wide { length words.now ≡ 6 }
     requires within { n < 384 }
     ensures { result ≡ bit_in words.now n }
@@ -41,7 +41,7 @@ fn bit(words: &[u64], n: usize) -> bool
 }
 
 /// Makes the bit of this number 1 or 0.
-fn set_bit(words: &mut [u64], n: usize, on: bool)
+pub(crate) fn set_bit(words: &mut [u64], n: usize, on: bool)
     requires wide { length words.old ≡ 6 }
     requires within { n < 384 }
     ensures still_wide { length words.new ≡ 6 }

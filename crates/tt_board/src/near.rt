@@ -1,8 +1,8 @@
 //! The points beside a point.
 
-ghost use Rattle.std.specs.Prelude.{◌≡◌, ℕ, ◌<◌, ◌↔◌, Contains};
+ghost use Rattle.std.specs.Prelude.{◌≡◌, ℕ, ◌+◌, ◌-◌, ◌<◌, ◌≤◌, ◌↔◌, Contains, IsTrue};
 ghost use Rattle.tt_sgf.specs.Sizes.{point_count};
-ghost use Rattle.tt_board.specs.Near.{IsNeighbour};
+ghost use Rattle.tt_board.specs.Near.{IsNeighbour, IsThere, IsOneOf};
 
 use arrayvec::ArrayVec;
 use tt_sgf::Size;
@@ -30,4 +30,46 @@ pub(crate) fn neighbours(size: Size, p: usize) -> ArrayVec<usize, 4>
         near.push(p + columns);
     }
     near
+}
+
+/// The four places beside a point, each where the board has it.
+#[derive(Clone, Copy)]
+pub(crate) struct Places {
+    pub(crate) above: Option<usize>,
+    pub(crate) left: Option<usize>,
+    pub(crate) right: Option<usize>,
+    pub(crate) below: Option<usize>,
+}
+
+/// The place at a distance before `p`, where there is one.
+fn before(there: bool, p: usize, distance: usize) -> Option<usize>
+    requires { IsTrue there → distance ≤ p }
+    ensures { IsThere result (IsTrue there) (p - distance) }
+{
+    if there { Some(p - distance) } else { None }
+}
+
+/// The place at a distance after `p`, where there is one.
+fn after(there: bool, p: usize, distance: usize) -> Option<usize>
+    requires { p + distance < 1000 }
+    ensures { IsThere result (IsTrue there) (p + distance) }
+{
+    if there { Some(p + distance) } else { None }
+}
+
+/// The neighbours of `p` by their places, for those who look at each once and may stop early.
+#[inline]
+pub(crate) fn beside(size: Size, p: usize) -> Places
+    requires { p < point_count size }
+    ensures { (q : ℕ) → IsOneOf result.above result.left result.right result.below q ↔ IsNeighbour size p q }
+{
+    let columns = usize::from(size.columns());
+    let count = size.point_count();
+    let column = p % columns;
+    Places {
+        above: before(columns <= p, p, columns),
+        left: before(0 < column, p, 1),
+        right: after(column + 1 < columns, p, 1),
+        below: after(p + columns < count, p, columns),
+    }
 }

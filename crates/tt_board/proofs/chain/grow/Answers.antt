@@ -1,63 +1,71 @@
-use Rattle.std.proofs.Common.{rules, ◌≡◌, ◌≢◌, ◌++◌, [], ◌∷◌, false, None, get_or, Contains, arith, ap, subst, ◌∙◌}
-use Rattle.std.proofs.lemmas.List.Elements.{Contains-push, Contains-append_left}
-use Rattle.tt_board.specs.Reach.{entry_at}
-use Rattle.tt_board.specs.Fill.{is_marked}
-use Rattle.tt_board.specs.ReachLaws.{reaches_beside}
-use Rattle.tt_board.proofs.NearLemmas.{near_at, index_of}
-use Rattle.tt_board.proofs.ChainLemmas.{room_left, push_growing, push_grown, looked_more}
+use Rattle.std.proofs.Common.{inl, inr, arith}
+use Rattle.tt_board.proofs.ChainLemmas.{liberty_at, grown_none, visit_grown, visit_kept, closed_around}
 use Rattle.tt_board.proofs.chain.grow.Goals as goal
-use Rattle.tt_board.proofs.chain.grow.Goals.{then-eq+then-not-marks-q, else-eq, else-eq-via-then-eq+else-not-marks-q, else-eq-via-else-eq}
 
-pub at-entry-requires : goal.at-entry-requires
-at-entry-requires c =
-    let n = near_at c.args.size c.args.p _ _ c.loop-q.q-index c.as_slice-q-items.ensures.value c.neighbours-near.ensures c.loop-q-test.true in
-    omega (arith, n.0)
+pub visit-requires-clause-on_board : goal.visit-requires-clause-on_board
+visit-requires-clause-on_board c = λ q is. let n = (c.beside-near.ensures q).0 (inl is) in omega (arith, n.0, c.requires.fits)
 
-pub returns-then-is_none-clause-liberty : goal.returns-then-is_none-clause-liberty
-returns-then-is_none-clause-liberty c =
-    let n = near_at c.args.size c.args.p _ _ c.loop-q.q-index c.as_slice-q-items.ensures.value c.neighbours-near.ensures c.loop-q-test.true in
-    λ _. reaches_beside c.args.size c.args.points.now None c.args.p _ c.requires.stone n (search rules)
-
-pub push-requires : goal.push-requires
-push-requires c =
-    let n = near_at c.args.size c.args.p _ _ c.loop-q.q-index c.as_slice-q-items.ensures.value c.neighbours-near.ensures c.loop-q-test.true in
-    let room = room_left c.loop-q.marks c.loop-q.chain.items (get_or c.as_slice-q-items.result.now c.loop-q.q-index 0) c.loop-q.invariant.growing (omega (arith, n.0)) (search rules) in
-    (omega arith, room)
-
-pub loop-q-preserved : goal.loop-q-preserved
-loop-q-preserved c =
+pub returns-then-visit-clause-grown : goal.returns-then-visit-clause-grown
+returns-then-visit-clause-grown c =
     let s = c.args.size in let points = c.args.points.now in let p = c.args.p in
-    let items = c.as_slice-q-items.result.now in let i = c.loop-q.q-index in
-    let q = get_or items i 0 in
-    let xs = c.loop-q.chain.items in
-    let inv = c.loop-q.invariant in
-    let n = near_at s p _ _ i c.as_slice-q-items.ensures.value c.neighbours-near.ensures c.loop-q-test.true in
-    let stone : entry_at points q ≢ None = search rules in
-    elim c.if-eq.branch [
-      | then-eq+then-not-marks-q w ↦
-          let like : entry_at points q ≡ entry_at points p = search rules in
-          let bare : is_marked c.loop-q.marks q ≡ false = search rules in
-          let after : c.if-eq.chain.items ≡ xs ++ q ∷ [] = ap (λ v. v.items) w.chain-is ∙ w.push.ensures.items in
-          rw (w.marks-is, after) (record {
-            growing = push_growing c.loop-q.marks xs q inv.growing (omega (arith, n.0)) bare;
-            grown = push_grown s points p c.args.chain.now.items xs q inv.grown n like;
-            enclosed = looked_more points p items xs (xs ++ q ∷ []) i (λ r has. Contains-append_left xs (q ∷ []) r has) inv.enclosed stone (λ _. Contains-push xs q);
-          })
-      | else-eq w ↦
-          let here : entry_at points q ≡ entry_at points p → Contains xs q =
-          elim w.else-eq.branch [
-            | else-eq-via-then-eq+else-not-marks-q w' ↦ λ _. inv.growing.listed q (search rules)
-            | else-eq-via-else-eq w' ↦ let apart : entry_at points q ≢ entry_at points p = search rules in λ like. absurd (apart like)
-          ] in
-          rw (w.marks-is, w.chain-is) (record {
-            growing = inv.growing;
-            grown = inv.grown;
-            enclosed = looked_more points p items xs xs i (λ r has. has) inv.enclosed stone here;
-          })
-    ]
+    let g0 = grown_none s points p c.args.chain.now.items in
+    let g1 = visit_grown s points p c.at-own.result c.beside-near.result.above c.args.chain.now.items c.args.chain.now.items c.visit.new.chain.items c.at-own.ensures (λ q is. (c.beside-near.ensures q).0 (inl is)) g0 c.visit.ensures.visited in
+    g1
+
+pub returns-then-visit-clause-liberty : goal.returns-then-visit-clause-liberty
+returns-then-visit-clause-liberty c = λ _. liberty_at c.args.size c.args.points.now c.args.p c.beside-near.result.above c.requires.stone (λ q is. (c.beside-near.ensures q).0 (inl is)) (c.visit.ensures.liberty c.if-visit.true)
+
+pub visit-requires-2-clause-on_board : goal.visit-requires-2-clause-on_board
+visit-requires-2-clause-on_board c = λ q is. let n = (c.beside-near.ensures q).0 (inr (inr (inr is))) in omega (arith, n.0, c.requires.fits)
+
+pub returns-then-visit-2-clause-grown : goal.returns-then-visit-2-clause-grown
+returns-then-visit-2-clause-grown c =
+    let s = c.args.size in let points = c.args.points.now in let p = c.args.p in
+    let g0 = grown_none s points p c.args.chain.now.items in
+    let g1 = visit_grown s points p c.at-own.result c.beside-near.result.above c.args.chain.now.items c.args.chain.now.items c.visit.new.chain.items c.at-own.ensures (λ q is. (c.beside-near.ensures q).0 (inl is)) g0 c.visit.ensures.visited in
+    let g2 = visit_grown s points p c.at-own.result c.beside-near.result.below c.args.chain.now.items c.visit.new.chain.items c.visit-2.new.chain.items c.at-own.ensures (λ q is. (c.beside-near.ensures q).0 (inr (inr (inr is)))) g1 c.visit-2.ensures.visited in
+    g2
+
+pub returns-then-visit-2-clause-liberty : goal.returns-then-visit-2-clause-liberty
+returns-then-visit-2-clause-liberty c = λ _. liberty_at c.args.size c.args.points.now c.args.p c.beside-near.result.below c.requires.stone (λ q is. (c.beside-near.ensures q).0 (inr (inr (inr is)))) (c.visit-2.ensures.liberty c.if-visit-2.true)
+
+pub visit-requires-3-clause-on_board : goal.visit-requires-3-clause-on_board
+visit-requires-3-clause-on_board c = λ q is. let n = (c.beside-near.ensures q).0 (inr (inl is)) in omega (arith, n.0, c.requires.fits)
+
+pub returns-then-visit-3-clause-grown : goal.returns-then-visit-3-clause-grown
+returns-then-visit-3-clause-grown c =
+    let s = c.args.size in let points = c.args.points.now in let p = c.args.p in
+    let g0 = grown_none s points p c.args.chain.now.items in
+    let g1 = visit_grown s points p c.at-own.result c.beside-near.result.above c.args.chain.now.items c.args.chain.now.items c.visit.new.chain.items c.at-own.ensures (λ q is. (c.beside-near.ensures q).0 (inl is)) g0 c.visit.ensures.visited in
+    let g2 = visit_grown s points p c.at-own.result c.beside-near.result.below c.args.chain.now.items c.visit.new.chain.items c.visit-2.new.chain.items c.at-own.ensures (λ q is. (c.beside-near.ensures q).0 (inr (inr (inr is)))) g1 c.visit-2.ensures.visited in
+    let g3 = visit_grown s points p c.at-own.result c.beside-near.result.left c.args.chain.now.items c.visit-2.new.chain.items c.visit-3.new.chain.items c.at-own.ensures (λ q is. (c.beside-near.ensures q).0 (inr (inl is))) g2 c.visit-3.ensures.visited in
+    g3
+
+pub returns-then-visit-3-clause-liberty : goal.returns-then-visit-3-clause-liberty
+returns-then-visit-3-clause-liberty c = λ _. liberty_at c.args.size c.args.points.now c.args.p c.beside-near.result.left c.requires.stone (λ q is. (c.beside-near.ensures q).0 (inr (inl is))) (c.visit-3.ensures.liberty c.if-visit-3.true)
+
+pub visit-requires-4-clause-on_board : goal.visit-requires-4-clause-on_board
+visit-requires-4-clause-on_board c = λ q is. let n = (c.beside-near.ensures q).0 (inr (inr (inl is))) in omega (arith, n.0, c.requires.fits)
+
+pub returns-clause-grown : goal.returns-clause-grown
+returns-clause-grown c =
+    let s = c.args.size in let points = c.args.points.now in let p = c.args.p in
+    let g0 = grown_none s points p c.args.chain.now.items in
+    let g1 = visit_grown s points p c.at-own.result c.beside-near.result.above c.args.chain.now.items c.args.chain.now.items c.visit.new.chain.items c.at-own.ensures (λ q is. (c.beside-near.ensures q).0 (inl is)) g0 c.visit.ensures.visited in
+    let g2 = visit_grown s points p c.at-own.result c.beside-near.result.below c.args.chain.now.items c.visit.new.chain.items c.visit-2.new.chain.items c.at-own.ensures (λ q is. (c.beside-near.ensures q).0 (inr (inr (inr is)))) g1 c.visit-2.ensures.visited in
+    let g3 = visit_grown s points p c.at-own.result c.beside-near.result.left c.args.chain.now.items c.visit-2.new.chain.items c.visit-3.new.chain.items c.at-own.ensures (λ q is. (c.beside-near.ensures q).0 (inr (inl is))) g2 c.visit-3.ensures.visited in
+    let g4 = visit_grown s points p c.at-own.result c.beside-near.result.right c.args.chain.now.items c.visit-3.new.chain.items c.visit-4.new.chain.items c.at-own.ensures (λ q is. (c.beside-near.ensures q).0 (inr (inr (inl is)))) g3 c.visit-4.ensures.visited in
+    g4
+
+pub returns-clause-liberty : goal.returns-clause-liberty
+returns-clause-liberty c = λ yes. liberty_at c.args.size c.args.points.now c.args.p c.beside-near.result.right c.requires.stone (λ q is. (c.beside-near.ensures q).0 (inr (inr (inl is)))) (c.visit-4.ensures.liberty yes)
 
 pub returns-clause-enclosed : goal.returns-clause-enclosed
-returns-clause-enclosed c = λ _ q near.
-    let i = index_of c.args.size c.args.p _ _ q c.as_slice-q-items.ensures.value c.neighbours-near.ensures near in
-    let h = c.loop-q.invariant.enclosed i.0 (omega arith) in
-    subst (λ x. (entry_at c.args.points.now x ≢ None) × (entry_at c.args.points.now x ≡ entry_at c.args.points.now c.args.p → Contains c.loop-q.chain.items x)) i.2 h
+returns-clause-enclosed c = λ no.
+    let s = c.args.size in let points = c.args.points.now in let p = c.args.p in
+    let own = c.at-own.result in
+    let up = (visit_kept points own c.beside-near.result.right c.beside-near.result.above c.visit-3.new.chain.items c.visit-4.new.chain.items c.visit-4.ensures.visited (visit_kept points own c.beside-near.result.left c.beside-near.result.above c.visit-2.new.chain.items c.visit-3.new.chain.items c.visit-3.ensures.visited (visit_kept points own c.beside-near.result.below c.beside-near.result.above c.visit.new.chain.items c.visit-2.new.chain.items c.visit-2.ensures.visited (c.visit.ensures.enclosed c.if-visit.false)))) in
+    let down = (visit_kept points own c.beside-near.result.right c.beside-near.result.below c.visit-3.new.chain.items c.visit-4.new.chain.items c.visit-4.ensures.visited (visit_kept points own c.beside-near.result.left c.beside-near.result.below c.visit-2.new.chain.items c.visit-3.new.chain.items c.visit-3.ensures.visited (c.visit-2.ensures.enclosed c.if-visit-2.false))) in
+    let back = (visit_kept points own c.beside-near.result.right c.beside-near.result.left c.visit-3.new.chain.items c.visit-4.new.chain.items c.visit-4.ensures.visited (c.visit-3.ensures.enclosed c.if-visit-3.false)) in
+    let on = (c.visit-4.ensures.enclosed no) in
+    closed_around s points p own c.visit-4.new.chain.items _ _ _ _ c.at-own.ensures (λ q near. (c.beside-near.ensures q).1 near) up down back on
