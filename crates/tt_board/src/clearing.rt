@@ -12,20 +12,28 @@ ghost use Rattle.tt_board.specs.Chain.{IsLifted};
 use super::Colour;
 use super::chain::{has_liberty, lift_lifeless};
 use super::colouring::Colouring;
-use super::near::neighbours;
+use super::near::beside;
 use tt_sgf::Size;
 
-/// Lifts the chain of `colour` on `q`, found on `points`, from `after`, where it has no liberty.
-fn capture_at(size: Size, points: &Colouring, colour: Colour, q: usize, after: &mut Colouring)
+/// Lifts the chain of `colour` on a place, found on `points`, from `after`, where it has no liberty.
+fn capture_at(
+    size: Size,
+    points: &Colouring,
+    colour: Colour,
+    place: Option<usize>,
+    after: &mut Colouring,
+)
     requires fits { length points.now ≡ point_count size }
-    requires on_board { q < point_count size }
+    requires on_board { (q : ℕ) → place ≡ Some q → q < point_count size }
     requires lifted { IsLifted size points.now colour after.old }
     ensures still_lifted { IsLifted size points.now colour after.new }
-    ensures looked { entry_at points.now q ≡ Some colour → Reaches size points.now q None ⊎ (entry_at after.new q ≡ None) }
+    ensures looked { (q : ℕ) → place ≡ Some q → entry_at points.now q ≡ Some colour → Reaches size points.now q None ⊎ (entry_at after.new q ≡ None) }
     ensures kept { (x : ℕ) → entry_at after.old x ≡ None → entry_at after.new x ≡ None }
 {
-    if points.at(q) == Some(colour) && !has_liberty(size, points, q) {
-        lift_lifeless(size, points, q, after);
+    if let Some(q) = place {
+        if points.at(q) == Some(colour) && !has_liberty(size, points, q) {
+            lift_lifeless(size, points, q, after);
+        }
     }
 }
 
@@ -38,10 +46,11 @@ fn capture_beside(size: Size, points: &Colouring, colour: Colour, p: usize) -> C
         → Reaches size points.now q None ⊎ (entry_at result q ≡ None) }
 {
     let mut after = points.copy();
-    let near = neighbours(size, p);
-    for q in near.as_slice() {
-        capture_at(size, points, colour, *q, &mut after);
-    }
+    let near = beside(size, p);
+    capture_at(size, points, colour, near.above, &mut after);
+    capture_at(size, points, colour, near.below, &mut after);
+    capture_at(size, points, colour, near.left, &mut after);
+    capture_at(size, points, colour, near.right, &mut after);
     after
 }
 
@@ -57,7 +66,10 @@ pub(crate) fn put(size: Size, points: &Colouring, colour: Colour, p: usize) -> C
     placed.set(p, Some(colour));
     let opponent = colour.other();
     let taken = capture_beside(size, &placed, opponent, p);
+    if has_liberty(size, &taken, p) {
+        return taken;
+    }
     let mut after = taken.copy();
-    capture_at(size, &taken, colour, p, &mut after);
+    capture_at(size, &taken, colour, Some(p), &mut after);
     after
 }

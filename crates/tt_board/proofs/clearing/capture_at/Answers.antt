@@ -7,8 +7,8 @@ use Rattle.tt_board.proofs.clearing.capture_at.Goals as goal
 pub returns-then-not-has_liberty-clause-still_lifted : goal.returns-then-not-has_liberty-clause-still_lifted
 returns-then-not-has_liberty-clause-still_lifted c =
     let s = c.args.size in let points = c.args.points.now in let k = c.args.colour in
-    let mine : entry_at points c.args.q ≡ Some k = search rules in
+    let mine : entry_at points c.in-Some.q ≡ Some k = search rules in
     elim c.lift_lifeless.ensures [
       | inl alive ↦ subst (λ d. IsLifted s points k d) (sym alive.1) c.requires.lifted
-      | inr more ↦ lifted_more s points k c.args.after.now c.lift_lifeless.new.after c.args.q more c.requires.lifted mine
+      | inr more ↦ lifted_more s points k c.args.after.now c.lift_lifeless.new.after c.in-Some.q more c.requires.lifted mine
     ]
