@@ -50,10 +50,11 @@ fn visit(
     false
 }
 
-/// Adds the neighbours of `p` that are like it to its chain, up to one that is empty; whether one is.
+/// Adds the neighbours of the stone on `p`, which is `own`, that are like it to its chain, up to one that is empty; whether one is.
 fn grow(
     size: Size,
     points: &Colouring,
+    own: Option<Colour>,
     p: usize,
     marks: &mut [u64],
     chain: &mut ArrayVec<u16, 361>,
@@ -61,6 +62,7 @@ fn grow(
     requires fits { length points.now ≡ point_count size }
     requires on_board { p < point_count size }
     requires stone { entry_at points.now p ≢ None }
+    requires like { own ≡ entry_at points.now p }
     requires wide { length marks.old ≡ 6 }
     requires growing { IsGrowing (marks_of marks.old) chain.old.items }
     ensures still_wide { length marks.new ≡ 6 }
@@ -70,7 +72,6 @@ fn grow(
     ensures enclosed { result ≡ false → IsEnclosed size points.now chain.new.items p }
 {
     let _count = size.point_count();
-    let own = points.at(p);
     let near = beside(size, p);
     if visit(points, own, near.above, marks, chain) {
         return true;
@@ -125,13 +126,14 @@ fn walk(size: Size, points: &Colouring, start: usize, chain: &mut ArrayVec<u16, 
     ensures lifeless { result ≡ false → IsLifelessChain size points.now start chain.new.items }
 {
     let _count = size.point_count();
+    let own = points.at(start);
     let mut marks = no_marks();
     set_bit(&mut marks, start, true);
     chain.push(start as u16);
     let mut next = 0;
     while next < chain.len() {
         let p = usize::from(chain.as_slice()[next]);
-        if grow(size, points, p, &mut marks, chain) {
+        if grow(size, points, own, p, &mut marks, chain) {
             return true;
         }
         next += 1;
