@@ -1,15 +1,16 @@
 //! The replay of a tree: whether it wins from a line's state.
 
-ghost use Rattle.std.specs.Prelude.{◌≡◌, ◌↔◌, ◌≤◌, IfOk, IsTrue, Contains, None};
+ghost use Rattle.std.specs.Prelude.{◌≡◌, ◌↔◌, ℕ, ◌<◌, ◌≤◌, IfOk, IsTrue, None, length};
 ghost use Rattle.tt_proof.specs.Strategy.{pick, reply, depth, depth_of_entries, strategy_of, entries_of_trees, IsInOrder, AreInOrder, IsOnBoard};
 ghost use Rattle.tt_proof.specs.Wins.{Wins};
 ghost use Rattle.tt_proof.specs.Replaying.{HasEntry, LegalWin, AnswersAfter, AnswersEach};
 ghost use Rattle.tt_game.specs.declared.turns.Turn.{Turn};
-ghost use Rattle.tt_game.specs.Game.{winner_of, opponent};
+ghost use Rattle.tt_game.specs.Game.{IsLegal, winner_of, opponent};
+ghost use Rattle.tt_sgf.specs.Sizes.{point_count};
 
 use crate::tree::Tree;
 use tt_game::{Line, Refused, Side, Turn};
-use tt_sgf::NoMemory;
+use tt_sgf::{NoMemory, Point};
 
 fn has_turn(list: &[(Turn, Tree)], turn: Turn) -> bool
     ensures { IsTrue result ↔ HasEntry (entries_of_trees list.now) turn }
@@ -22,13 +23,42 @@ fn has_turn(list: &[(Turn, Tree)], turn: Turn) -> bool
     false
 }
 
-fn has_each(list: &[(Turn, Tree)], turns: &[Turn]) -> bool
-    ensures { IsTrue result ↔ ((t : Turn) → Contains turns.now t → HasEntry (entries_of_trees list.now) t) }
+/// Whether the entry at the place is of the turn.
+fn has_turn_at(list: &[(Turn, Tree)], place: usize, turn: Turn) -> bool
+    ensures entry { IsTrue result → HasEntry (entries_of_trees list.now) turn }
+    ensures within { IsTrue result → place < length list.now }
 {
-    for turn in turns {
-        if !has_turn(list, *turn) {
+    match list.get(place) {
+        Some(entry) => entry.0 == turn,
+        None => false,
+    }
+}
+
+/// Whether the play has an entry, or is not legal. It is made only where it has none.
+fn is_answered(list: &[(Turn, Tree)], line: &Line, p: Point) -> bool
+    requires { p < point_count line.now.frame.size }
+    ensures { IsTrue result ↔ (IsLegal line.now.frame line.now.state (Turn.Play p) → HasEntry (entries_of_trees list.now) (Turn.Play p)) }
+{
+    line.present().at(p).is_some()
+        || has_turn(list, Turn::Play(p))
+        || line.refusal(Turn::Play(p)).is_some()
+}
+
+/// Whether each legal play has an entry. Entries mostly stand in the order of their points: so the one behind the last
+/// that was found is looked at first.
+fn plays_are_answered(list: &[(Turn, Tree)], line: &Line) -> bool
+    ensures { IsTrue result ↔ ((p : ℕ) → IsLegal line.now.frame line.now.state (Turn.Play p) → HasEntry (entries_of_trees list.now) (Turn.Play p)) }
+{
+    let frame = line.frame();
+    let mut place = 0;
+    let mut from = 0;
+    while let Some(p) = frame.region.least_from(from) {
+        if has_turn_at(list, place, Turn::Play(p)) {
+            place += 1;
+        } else if frame.size.holds(p) && !is_answered(list, line, p) {
             return false;
         }
+        from = p.number() + 1;
     }
     true
 }
@@ -44,8 +74,7 @@ fn is_asked(s: Side, line: &Line) -> bool
 fn answers_each(list: &[(Turn, Tree)], s: Side, line: &Line) -> bool
     ensures { IsTrue result ↔ AnswersEach s line.now.frame line.now.state (entries_of_trees list.now) }
 {
-    let turns = line.turns();
-    is_asked(s, line) && has_each(list, &turns)
+    is_asked(s, line) && has_turn(list, Turn::Pass) && plays_are_answered(list, line)
 }
 
 /// Whether the child wins after the turn; none where the turn is not legal. The line stands as before.
