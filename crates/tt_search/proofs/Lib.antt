@@ -4,6 +4,8 @@ pub mod Grown
 pub mod Lifted
 pub mod Steps
 pub mod Open
+pub mod Steady
+pub mod Advanced
 pub mod TurnLemmas
 pub mod Strategies
 pub mod Successors

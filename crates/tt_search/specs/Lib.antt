@@ -15,4 +15,6 @@ pub mod Cached
 pub mod Falls
 pub mod Usable
 pub mod Ended
+pub mod Steady
+pub mod Advanced
 pub mod Asks

@@ -1,6 +1,6 @@
 //! One step of a search: the tree grows at its most-proving leaf, and the numbers on the way to it are brought up to date.
 
-ghost use Rattle.std.specs.Prelude.{◌≡◌, ◌≤◌, OnOk, OnErr};
+ghost use Rattle.std.specs.Prelude.{◌≡◌, ◌≤◌, ◌==◌, ◌↔◌, ◌⊎◌, Bool, true, OnOk, OnErr};
 ghost use Rattle.tt_game.specs.Game.{IsLegal};
 ghost use Rattle.tt_game.specs.Line.{IsPushed};
 ghost use Rattle.tt_search.specs.PartialTree.{fresh};
@@ -8,7 +8,8 @@ ghost use Rattle.tt_search.specs.Numbers.{IsUndecided};
 ghost use Rattle.tt_search.specs.Growing.{IsPartialTree};
 ghost use Rattle.tt_search.specs.Fits.{FitsIn};
 ghost use Rattle.tt_search.specs.Taken.{Taken};
-ghost use Rattle.tt_search.specs.declared.limits.Step.TheVariants.{Closed};
+ghost use Rattle.tt_search.specs.Steady.{IsLeft, AreSteps};
+ghost use Rattle.tt_search.specs.declared.limits.Step.TheVariants.{Expanded, Closed};
 
 use crate::closing::closing;
 use crate::leaves::{closed_leaf, expanded_at};
@@ -33,6 +34,13 @@ fn make(line: &mut Line, turn: Turn) -> Result<(), NoMemory>
     }
 }
 
+/// Whether the step changed its tree.
+fn grows(step: Step) -> bool
+    ensures { (result ≡ true) ↔ ((step ≡ Expanded) ⊎ (step ≡ Closed)) }
+{
+    matches!(step, Step::Expanded | Step::Closed)
+}
+
 impl Node {
     /// A step at a fresh leaf: a kept proof closes it, or it is expanded where the budget and the room allow it.
     fn grow_leaf<S: Store>(
@@ -40,7 +48,7 @@ impl Node {
         alloc: Global,
         line: &mut Line,
         room: u16,
-        spent: bool,
+        left: &mut u32,
         store: &mut S,
         offering: &mut bool,
     ) -> Step
@@ -48,7 +56,8 @@ impl Node {
         requires partial { IsPartialTree line.old.frame line.old.state self.old }
         ensures line { line.new ≡ line.old }
         ensures may { result ≡ Closed → S.may_answer }
-        ensures taken { Taken spent room line.old.frame line.old.state self.old result self.new }
+        ensures taken { Taken (left.old == 0) room line.old.frame line.old.state self.old result self.new }
+        ensures counted { IsLeft result left.old left.new }
     {
         match closing(line, room, store) {
             Err(_) => return Step::Stuck(Reason::Memory),
@@ -58,7 +67,7 @@ impl Node {
             }
             Ok(None) => {}
         }
-        if spent {
+        if *left == 0 {
             return Step::Stuck(Reason::Budget);
         }
         if room == 0 {
@@ -68,20 +77,24 @@ impl Node {
             Ok(node) => {
                 node.offer(alloc, line, store, offering);
                 *self = node;
+                *left -= 1;
                 Step::Expanded
             }
             Err(_) => Step::Stuck(Reason::Memory),
         }
     }
 
-    /// A step at an undecided node, where the line stands at it, with room for as many turns. Each node on the
-    /// way that becomes settled is offered to the store, the deepest first.
+    /// Steps at an undecided node, where the line stands at it, with room for as many turns: one step where once is set,
+    /// and otherwise as many as leave the node's numbers as they are, and then one more. While they stay the node is
+    /// still the most-proving child of each node above it, so nothing above has to be looked at.
+    #[cycle(descent)]
     pub(crate) fn grow<S: Store>(
         &mut self,
         alloc: Global,
         line: &mut Line,
         room: u16,
-        spent: bool,
+        once: bool,
+        left: &mut u32,
         store: &mut S,
         offering: &mut bool,
     ) -> Step
@@ -91,7 +104,43 @@ impl Node {
         requires room { room ≤ 512 }
         ensures line { line.new ≡ line.old }
         ensures may { result ≡ Closed → S.may_answer }
-        ensures taken { Taken spent room line.old.frame line.old.state self.old result self.new }
+        ensures steps { AreSteps once room line.old.frame line.old.state self.old left.old result self.new left.new }
+    {
+        'rounds: loop {
+            let proof = self.number(Side::Attacker);
+            let disproof = self.number(Side::Defender);
+            // A proof that couldn't be made in one step says nothing of the next one.
+            *offering = true;
+            let step = self.round(alloc, line, room, once, left, store, offering);
+            if once || !grows(step) {
+                return step;
+            }
+            if self.number(Side::Attacker) != proof || self.number(Side::Defender) != disproof {
+                return step;
+            }
+        }
+    }
+
+    /// Steps at an undecided node, as `grow`, by one descent: one step at a leaf, and otherwise the steps of its best
+    /// child. Each node that becomes settled is offered to the store, the deepest first.
+    #[cycle(descent)]
+    fn round<S: Store>(
+        &mut self,
+        alloc: Global,
+        line: &mut Line,
+        room: u16,
+        once: bool,
+        left: &mut u32,
+        store: &mut S,
+        offering: &mut bool,
+    ) -> Step
+        requires undecided { IsUndecided self.old }
+        requires partial { IsPartialTree line.old.frame line.old.state self.old }
+        requires fits { FitsIn line.old.frame.size room self.old }
+        requires room { room ≤ 512 }
+        ensures line { line.new ≡ line.old }
+        ensures may { result ≡ Closed → S.may_answer }
+        ensures steps { AreSteps once room line.old.frame line.old.state self.old left.old result self.new left.new }
     {
         match &mut self.growth {
             Growth::Expanded(expansion) => {
@@ -105,7 +154,7 @@ impl Node {
                 let Ok(()) = make(line, turns[place]) else {
                     return Step::Stuck(Reason::Memory);
                 };
-                let step = nodes[place].grow(alloc, line, room - 1, spent, store, offering);
+                let step = nodes[place].grow(alloc, line, room - 1, once, left, store, offering);
                 line.pop();
                 self.proof = combined(Side::Attacker, mover, nodes.as_slice());
                 self.disproof = combined(Side::Defender, mover, nodes.as_slice());
@@ -113,7 +162,7 @@ impl Node {
                 step
             }
             Growth::Won(_) | Growth::Closed(_) => unreachable!(),
-            Growth::Fresh => self.grow_leaf(alloc, line, room, spent, store, offering),
+            Growth::Fresh => self.grow_leaf(alloc, line, room, left, store, offering),
         }
     }
 }

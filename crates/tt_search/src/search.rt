@@ -6,6 +6,7 @@ ghost use Rattle.tt_search.specs.Numbers.{proof_number, disproof_number, count, 
 ghost use Rattle.tt_search.specs.Growing.{new_leaf, IsGrown};
 ghost use Rattle.tt_search.specs.Searched.{IsSameProblem, StepOf};
 ghost use Rattle.tt_search.specs.Ended.{EndOf};
+ghost use Rattle.tt_search.specs.Advanced.{IsAdvanced};
 ghost use Rattle.tt_search.specs.Searched.{IsProofOf};
 
 use crate::leaves::new_leaf;
@@ -89,25 +90,7 @@ impl Search {
         ensures taken { StepOf self.old result self.new }
         ensures may { result ≡ Closed → S.may_answer }
     {
-        let (proof, disproof) = self.numbers();
-        if proof == 0 || disproof == 0 {
-            return Step::Settled;
-        }
-        let spent = self.expanded == self.limits.budget();
-        let depth = self.limits.depth();
-        let mut offering = true;
-        let step = self.root.grow(
-            self.alloc,
-            &mut self.line,
-            depth,
-            spent,
-            store,
-            &mut offering,
-        );
-        if let Step::Expanded = step {
-            self.expanded += 1;
-        }
-        step
+        self.advance(store, true)
     }
 
     /// Steps until the root is settled or a step is stuck.
@@ -116,7 +99,7 @@ impl Search {
     {
         let mut search = self;
         loop {
-            match search.step(store) {
+            match search.advance(store, false) {
                 Step::Expanded | Step::Closed => {}
                 Step::Settled => {
                     return match search.proof() {
@@ -127,6 +110,34 @@ impl Search {
                 Step::Stuck(reason) => return End::Stuck(reason, Some(search)),
             }
         }
+    }
+
+    /// Steps: one where once is set, and otherwise up to one that changes the root's numbers or is stuck. The answer is
+    /// that of the last step.
+    fn advance<S: Store>(&mut self, store: &mut S, once: bool) -> Step
+        ensures problem { IsSameProblem self.old self.new }
+        ensures advanced { IsAdvanced once self.old result self.new }
+        ensures may { result ≡ Closed → S.may_answer }
+    {
+        let (proof, disproof) = self.numbers();
+        if proof == 0 || disproof == 0 {
+            return Step::Settled;
+        }
+        let depth = self.limits.depth();
+        let budget = self.limits.budget();
+        let mut left = budget - self.expanded;
+        let mut offering = true;
+        let step = self.root.grow(
+            self.alloc,
+            &mut self.line,
+            depth,
+            once,
+            &mut left,
+            store,
+            &mut offering,
+        );
+        self.expanded = budget - left;
+        step
     }
 
     /// The proof of a settled root.
