@@ -1,5 +1,5 @@
--- How boards in a row are kept: the last one, and edits that lead back from it to the first.
--- Private contracts alone cite these.
+-- How boards one after another are kept: the last one, and edits that lead back from it to the first.
+-- The view of `Boards` and private contracts cite these.
 use Rattle.std.specs.Prelude.{◌≡◌, ℕ, ◌<◌, ◌≤◌, List, [], ◌∷◌, ◌++◌, length, reverse, slice_set, All}
 use Rattle.tt_sgf.specs.declared.size.Size.{Size}
 use Rattle.tt_board.specs.declared.boards.Edit.{Edit}

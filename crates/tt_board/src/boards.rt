@@ -1,4 +1,4 @@
-//! Boards in a row, kept by their differences: a board of a history differs from the one before it by a stone and what
+//! Boards one after another, kept by their differences: a board of a history differs from the one before it by a stone and what
 //! the stone captured.
 
 ghost use Rattle.std.specs.Prelude.{◌≡◌, ℕ, ◌<◌, ◌↔◌, List, [], ◌∷◌, ◌++◌, length, All, IsTrue, IfOk, OnOk};
@@ -61,7 +61,7 @@ fn push_board(
 }
 
 impl Boards {
-    /// These boards.
+    /// Keeps these boards.
     pub fn of(alloc: Global, boards: &[Board]) -> Result<Boards, NoMemory>
         requires some { 0 < length boards.now }
         requires one_size { (g : Size) × All (λ b. b.size ≡ g) boards.now }

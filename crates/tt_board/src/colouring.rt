@@ -169,7 +169,8 @@ impl Colouring {
         self.count == other.count
     }
 
-    /// The least point from `from` on whose entries differ: 384 where there is none. It looks at each word once.
+    /// From a number on, the entries are alike up to the answer: the first point where they differ, or 384. Contracts say
+    /// that they are alike, which is all that keeping boards rests on.
     pub(crate) fn first_apart(&self, other: &Colouring, from: usize) -> usize
         requires { from ≤ 384 }
         ensures after { from ≤ result }

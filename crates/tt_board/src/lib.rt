@@ -1,6 +1,6 @@
 //! Boards of Go under the Tromp-Taylor rules: colourings in which each stone reaches empty, moves that capture, and area scores.
 //!
-//! A board takes no memory but its own: only a list of boards asks for some, and says when there is none.
+//! A board takes no memory but its own: `Boards::of` alone asks for some, and says where there is none.
 //! A contract sees a board as a `Position`: its size, and its colouring as a list of entries, row by row.
 #![tactic(auto)]
 
