@@ -2,9 +2,12 @@ pub mod Rows
 pub mod Best
 pub mod Grown
 pub mod Lifted
+pub mod Places
 pub mod Steps
 pub mod Open
 pub mod Steady
+pub mod Sprouted
+pub mod WayDown
 pub mod Advanced
 pub mod TurnLemmas
 pub mod Strategies

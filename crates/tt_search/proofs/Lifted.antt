@@ -110,9 +110,7 @@ pub record IsFound (f : Frame) (s : State) (mover : Side) (turns : List Turn) (t
   pub legal : (t : Turn) → t ≡ get_or turns p t → Contains (legal_turns f s) t
   pub undecided : (child : PartialTree) → child ≡ get_or trees p child → IsUndecided child
   pub partial : (t : Turn) (child : PartialTree) → t ≡ get_or turns p t → child ≡ get_or trees p child → IsPartialTree f (after f s t) child
-  pub lighter : (child : PartialTree) → child ≡ get_or trees p child → weight child < weight node
   pub fits : (child : PartialTree) → child ≡ get_or trees p child → (room : ℕ) → FitsIn f.size room node → (0 < room) × FitsIn f.size (room - 1) child
-  pub taken : (t : Turn) (child : PartialTree) → t ≡ get_or turns p t → child ≡ get_or trees p child → (spent : Bool) (room : ℕ) (step : Step) (new : PartialTree) → 0 < room → Taken spent (room - 1) f (after f s t) child step new → Taken spent room f s node step (expanded mover turns (children_of (set trees p new)))
 
 pub found : (f : Frame) (s : State) (mover : Side) (turns : List Turn) (trees : List PartialTree) (p : ℕ) → p ≡ best mover (children_of trees) → IsUndecided (expanded mover turns (children_of trees)) → IsPartialTree f s (expanded mover turns (children_of trees)) → IsFound f s mover turns trees (expanded mover turns (children_of trees)) p
 found f s mover turns trees p e u q = subst (λ p. IsFound f s mover turns trees (expanded mover turns (children_of trees)) p) (sym e) (record {
@@ -121,9 +119,7 @@ found f s mover turns trees p e u q = subst (λ p. IsFound f s mover turns trees
   legal = λ t g. subst (λ ts. Contains ts t) q.2 (subst (Contains turns) (sym g) (Contains-get_or turns (best mover (children_of trees)) t (omega (arith, (best_child mover turns trees fresh u).0, l))));
   undecided = λ child h. subst IsUndecided (sym h) (best_child mover turns trees child u).1;
   partial = λ t child g h. subst (λ x. IsPartialTree f (after f s x) child) (sym g) (subst (IsPartialTree f (after f s (get_or turns (best mover (children_of trees)) t))) (sym h) (partial_at f s turns trees (best mover (children_of trees)) t child q.3 (best_child mover turns trees child u).0));
-  lighter = λ child h. subst (λ c. weight c < weight_all (children_of trees)) (sym h) (weight_at trees (best mover (children_of trees)) child (best_child mover turns trees child u).0);
   fits = λ child h room k. (k.0, subst (FitsIn f.size (room - 1)) (sym h) (fits_at f.size (room - 1) trees (best mover (children_of trees)) child k.1 (best_child mover turns trees child u).0));
-  taken = λ t child g h spent room step new pos k. lifted f s mover turns trees t child l (best_child mover turns trees child u).0 spent room step new pos (subst (λ x. Taken spent (room - 1) f x (get_or trees (best mover (children_of trees)) child) step new) (ap (after f s) g) (subst (λ x. Taken spent (room - 1) f (after f s t) x step new) h k));
 })
   where
     l : length turns ≡ length trees

@@ -1,6 +1,5 @@
 -- A step keeps what is true of every search.
-use Rattle.std.proofs.Common.{◌≡◌, ◌≢◌, ℕ, suc, ◌+◌, ◌-◌, ◌≤◌, ◌==◌, inl, inr, Bool, false, refl, sym, ap, subst, arith}
-use Rattle.std.proofs.lemmas.Grind.{common_steps}
+use Rattle.std.proofs.Common.{◌≡◌, ◌≢◌, ℕ, suc, ◌+◌, ◌-◌, ◌≤◌, inl, inr, Bool, refl, sym, ap, subst, arith}
 use Rattle.tt_game.specs.declared.frame.Frame.{Frame}
 use Rattle.tt_sgf.specs.declared.size.Size.{Size}
 use Rattle.tt_game.specs.Game.{State}
@@ -17,9 +16,6 @@ use Rattle.tt_search.specs.declared.limits.Step.{Step}
 use Rattle.tt_search.specs.declared.limits.Step.TheVariants.{Expanded, Closed, Settled, Stuck}
 use Rattle.tt_search.specs.declared.limits.Reason.TheVariants.{Budget, Depth, Memory}
 use Rattle.tt_search.proofs.Grown.{count_grown, leaf_open, partial_grown, fits_grown, expansion_partial, expansion_fits, expansion_count}
-
-pub differ : (a b : ℕ) → (a == b) ≡ false → a ≢ b
-differ a b e h = grind (arith, common_steps)
 
 module _ (f : Frame) (s : State) (limits : Limits) (tree new : PartialTree) (n : ℕ) (is : IsSearch f s limits tree n) (u : IsUndecided tree) where
   pub search_expanded : n ≢ limits.budget → IsExpansion limits.depth f s tree new → IsSearch f s limits new (n + 1)
@@ -39,17 +35,6 @@ module _ (f : Frame) (s : State) (limits : Limits) (tree new : PartialTree) (n :
     fits = subst (FitsIn f.size limits.depth) (sym e) (fits_grown f.size limits.depth (closed side strategy) tree is.fits (omega (arith, d), o));
     grown = (suc (is.grown.0), (tree, is.grown.1, (u, inr (side, strategy, w, o, d, e))));
   }
-
-  pub search_same : new ≡ tree → IsSearch f s limits new n
-  search_same e = subst (λ t. IsSearch f s limits t n) (sym e) is
-
-  pub search_other : (spent : Bool) (step : Step) → (step ≡ Expanded → ⊥) → Taken spent limits.depth f s tree step new → IsSearch f s limits new n
-  search_other spent Expanded differs h = absurd (differs refl)
-  search_other spent Closed differs h = search_closed h
-  search_other spent Settled differs h = absurd h
-  search_other spent (Stuck Budget) differs h = search_same h.1
-  search_other spent (Stuck Depth) differs h = search_same h.2
-  search_other spent (Stuck Memory) differs h = search_same h
 
 -- a step keeps a partial tree one, within its room
 pub taken_keeps : (spent : Bool) (room : ℕ) (f : Frame) (s : State) (old : PartialTree) (step : Step) (new : PartialTree) → IsUndecided old → IsPartialTree f s old → FitsIn f.size room old → Taken spent room f s old step new → IsPartialTree f s new × FitsIn f.size room new

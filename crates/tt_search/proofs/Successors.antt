@@ -1,5 +1,5 @@
 -- The expansion of a node from its successors.
-use Rattle.std.proofs.Common.{◌≡◌, List, [], ◌∷◌, map, refl, ◌∙◌, ap}
+use Rattle.std.proofs.Common.{◌≡◌, ℕ, zero, suc, ◌+◌, ◌<◌, List, [], ◌∷◌, ◌++◌, map, take, length, get_or, refl, sym, ◌∙◌, ap, add-one, arith}
 use Rattle.tt_game.specs.declared.frame.Side.{Side}
 use Rattle.tt_game.specs.declared.frame.Frame.{Frame}
 use Rattle.tt_game.specs.declared.turns.Turn.{Turn}
@@ -32,3 +32,12 @@ expansion_of f s mover xs turns leaves m e t l =
     ap (λ side. expanded side turns (children_of leaves)) m
     ∙ ap (λ ts. expanded s.to_move ts (children_of leaves)) (t ∙ ap (map (λ x. x.turn)) e ∙ turns_of-successors f s)
     ∙ ap (expanded s.to_move (legal_turns f s)) (ap children_of (l ∙ ap (map (λ x. leaf_for x.winner)) e) ∙ leaves_of-successors f s)
+
+map_suc : {X Y : Type 0} (f : X → Y) (xs : List X) (i : ℕ) (d : X) → i < length xs → map f (take (suc i) xs) ≡ map f (take i xs) ++ f (get_or xs i d) ∷ []
+map_suc f [] i d l = absurd (omega arith)
+map_suc f (x ∷ xs) zero d l = refl
+map_suc f (x ∷ xs) (suc i) d l = ap (λ ys. f x ∷ ys) (map_suc f xs i d (omega arith))
+
+-- one more of a list that is looked at in order
+pub map_next : {X Y : Type 0} (f : X → Y) (xs : List X) (i : ℕ) (x : X) → x ≡ get_or xs i x → i < length xs → map f (take (i + 1) xs) ≡ map f (take i xs) ++ f x ∷ []
+map_next f xs i x e l = rw add-one (map_suc f xs i x l) ∙ ap (λ y. map f (take i xs) ++ f y ∷ []) (sym e)

@@ -1,21 +1,33 @@
 -- Each child is smaller than its node.
-use Rattle.std.specs.Prelude.{◌+◌, ◌≤◌, max, List, [], ◌∷◌}
+use Rattle.std.specs.Prelude.{◌≡◌, ◌+◌, ◌≤◌, max, length, List, [], ◌∷◌}
 use Rattle.std.proofs.Common.{arith}
 use denote.Param.Weighed.{most}
 use Rattle.tt_search.specs.PartialTree.{PartialTree}
 use Rattle.tt_search.specs.Weight.{weight, weight_all}
 use Rattle.tt_search.specs.Children.{children_of}
-use Rattle.tt_search.specs.Shape.{shape}
+use Rattle.tt_search.specs.Edges.{tree_of, grown_behind, trees_of, mark_of, counted, grown_in}
+use Rattle.tt_search.specs.Shape.{shape, IsWhole}
+use Rattle.tt_search.specs.declared.edges.Edge.{Edge}
+use Rattle.tt_search.specs.declared.edges.Mark.{Mark}
+use Rattle.tt_search.specs.declared.edges.Mark.TheVariants as mark
 use Rattle.tt_search.specs.declared.node.Growth.{Growth}
 use Rattle.tt_search.specs.declared.node.Growth.TheVariants.{Fresh, Won, Closed, Expanded}
 use Rattle.tt_search.specs.declared.node.Node.TheDeep.{deep-Growth}
 
-most-weight : (ts : List PartialTree) → most (λ t. weight t + 1) ts ≤ weight_all (children_of ts)
-most-weight [] = omega arith
-most-weight (t ∷ ts) = omega (arith, most-weight ts)
+-- the grown nodes weigh no more than all children, if that holds for the list without its first edge
+most-behind : (m : Mark) (es : List Edge) (ts : List PartialTree) → ((us : List PartialTree) → grown_in es ≡ length us → most (λ t. weight t + 1) us ≤ weight_all (children_of (trees_of es us))) → counted m (grown_in es) ≡ length ts → most (λ t. weight t + 1) ts ≤ weight_all (children_of (tree_of m ts ∷ trees_of es (grown_behind m ts)))
+most-behind mark.Fresh es ts below h = omega (arith, below ts (omega (arith, h)))
+most-behind (mark.Won side) es ts below h = omega (arith, below ts (omega (arith, h)))
+most-behind mark.Grown es [] below h = absurd (omega (arith, h))
+most-behind mark.Grown es (t ∷ ts) below h = omega (arith, below ts (omega (arith, h)))
 
-pub deep-weight : (g : Growth) → max (deep-Growth g) 0 ≤ weight (shape g)
-deep-weight Fresh = omega arith
-deep-weight (Won s) = omega arith
-deep-weight (Closed p) = omega arith
-deep-weight (Expanded x) = omega (arith, most-weight x.value.nodes.items)
+most-weight : (es : List Edge) (ts : List PartialTree) → grown_in es ≡ length ts → most (λ t. weight t + 1) ts ≤ weight_all (children_of (trees_of es ts))
+most-weight [] [] h = omega arith
+most-weight [] (t ∷ ts) h = absurd (omega (arith, h))
+most-weight (e ∷ es) ts h = most-behind (mark_of e) es ts (most-weight es) h
+
+pub deep-weight : (g : Growth) → IsWhole g → max (deep-Growth g) 0 ≤ weight (shape g)
+deep-weight Fresh h = omega arith
+deep-weight (Won s) h = omega arith
+deep-weight (Closed p) h = omega arith
+deep-weight (Expanded x) h = omega (arith, most-weight x.value.edges.items x.value.grown.items h)

@@ -6,6 +6,8 @@ pub mod Growing
 pub mod Settled
 pub mod Fits
 pub mod Weight
+pub mod Edges
+pub mod Sprouting
 pub mod Taken
 pub mod Searched
 pub mod Stores

@@ -1,21 +1,24 @@
-//! One step of a search: the tree grows at its most-proving leaf, and the numbers on the way to it are brought up to date.
+//! Steps of a search: the tree grows at its most-proving leaf, and the numbers on the way to it are brought up to date.
 
-ghost use Rattle.std.specs.Prelude.{◌≡◌, ◌≤◌, ◌==◌, ◌↔◌, ◌⊎◌, Bool, true, OnOk, OnErr};
-ghost use Rattle.tt_game.specs.Game.{IsLegal};
+ghost use Rattle.std.specs.Prelude.{◌≡◌, ◌<◌, ◌≤◌, ◌==◌, ◌↔◌, ◌⊎◌, Bool, true, None, OnOk, OnErr, length};
+ghost use Rattle.tt_game.specs.Game.{IsLegal, winner_of};
 ghost use Rattle.tt_game.specs.Line.{IsPushed};
 ghost use Rattle.tt_search.specs.PartialTree.{fresh};
 ghost use Rattle.tt_search.specs.Numbers.{IsUndecided};
 ghost use Rattle.tt_search.specs.Growing.{IsPartialTree};
 ghost use Rattle.tt_search.specs.Fits.{FitsIn};
+ghost use Rattle.tt_search.specs.Edges.{grown_in, child_at};
+ghost use Rattle.tt_search.specs.Sprouting.{IsFreshAt, Sprouts, StepsBelow};
 ghost use Rattle.tt_search.specs.Taken.{Taken};
 ghost use Rattle.tt_search.specs.Steady.{IsLeft, AreSteps};
 ghost use Rattle.tt_search.specs.declared.limits.Step.TheVariants.{Expanded, Closed};
 
 use crate::closing::closing;
-use crate::leaves::{closed_leaf, expanded_at};
+use crate::edges::{Edge, Mark};
+use crate::leaves::{closed_leaf, expanded_at, new_leaf};
 use crate::limits::{Reason, Step};
 use crate::node::{Expansion, Growth, Node};
-use crate::numbers::{best_place, combined};
+use crate::numbers::{best_place, combined, rank};
 use crate::store::Store;
 use std::alloc::Global;
 use tt_game::{Line, Refused, Side, Turn};
@@ -41,52 +44,93 @@ fn grows(step: Step) -> bool
     matches!(step, Step::Expanded | Step::Closed)
 }
 
-impl Node {
-    /// A step at a fresh leaf: a kept proof closes it, or it is expanded where the budget and the room allow it.
-    fn grow_leaf<S: Store>(
-        &mut self,
-        alloc: Global,
-        line: &mut Line,
-        room: u16,
-        left: &mut u32,
-        store: &mut S,
-        offering: &mut bool,
-    ) -> Step
-        requires fresh { self.old ≡ fresh }
-        requires partial { IsPartialTree line.old.frame line.old.state self.old }
-        ensures line { line.new ≡ line.old }
-        ensures may { result ≡ Closed → S.may_answer }
-        ensures taken { Taken (left.old == 0) room line.old.frame line.old.state self.old result self.new }
-        ensures counted { IsLeft result left.old left.new }
-    {
-        match closing(line, room, store) {
-            Err(_) => return Step::Stuck(Reason::Memory),
-            Ok(Some(proof)) => {
-                *self = closed_leaf(proof);
-                return Step::Closed;
-            }
-            Ok(None) => {}
-        }
-        if *left == 0 {
-            return Step::Stuck(Reason::Budget);
-        }
-        if room == 0 {
-            return Step::Stuck(Reason::Depth);
-        }
-        match expanded_at(alloc, line) {
-            Ok(node) => {
-                node.offer(alloc, line, store, offering);
-                *self = node;
-                *left -= 1;
-                Step::Expanded
-            }
-            Err(_) => Step::Stuck(Reason::Memory),
-        }
+/// A step at a fresh leaf, and the node that it becomes: a kept proof closes it, or it is expanded where the budget and the
+/// room allow it.
+fn leaf_step<S: Store>(
+    alloc: Global,
+    line: &mut Line,
+    room: u16,
+    left: u32,
+    store: &mut S,
+) -> (Step, Node)
+    requires open { winner_of line.old.frame line.old.state ≡ None }
+    ensures line { line.new ≡ line.old }
+    ensures may { result.0 ≡ Closed → S.may_answer }
+    ensures taken { Taken (left == 0) room line.old.frame line.old.state fresh result.0 result.1 }
+{
+    match closing(line, room, store) {
+        Err(_) => return (Step::Stuck(Reason::Memory), new_leaf(None)),
+        Ok(Some(proof)) => return (Step::Closed, closed_leaf(proof)),
+        Ok(None) => {}
     }
+    if left == 0 {
+        return (Step::Stuck(Reason::Budget), new_leaf(None));
+    }
+    if room == 0 {
+        return (Step::Stuck(Reason::Depth), new_leaf(None));
+    }
+    match expanded_at(alloc, line) {
+        Ok(node) => (Step::Expanded, node),
+        Err(_) => (Step::Stuck(Reason::Memory), new_leaf(None)),
+    }
+}
 
-    /// Steps at an undecided node, where the line stands at it, with room for as many turns: one step where once is set,
-    /// and otherwise as many as leave the node's numbers as they are, and then one more. While they stay the node is
-    /// still the most-proving child of each node above it, so nothing above has to be looked at.
+/// What the budget has left after a step.
+fn left_after(step: Step, left: u32) -> u32
+    requires { step ≡ Expanded → 0 < left }
+    ensures { IsLeft step left result }
+{
+    match step {
+        Step::Expanded => left - 1,
+        Step::Closed => left,
+        Step::Settled => left,
+        Step::Stuck(_) => left,
+    }
+}
+
+/// A step at a fresh child, whose node then is put among those that have grown.
+fn sprout<S: Store>(
+    alloc: Global,
+    line: &mut Line,
+    room: u16,
+    left: &mut u32,
+    store: &mut S,
+    offering: &mut bool,
+    edges: &mut Vec<Edge>,
+    grown: &mut Vec<Node>,
+    place: usize,
+) -> Step
+    requires open { winner_of line.old.frame line.old.state ≡ None }
+    requires whole { grown_in edges.old.items ≡ length grown.old.items }
+    requires there { IsFreshAt place edges.old.items }
+    ensures line { line.new ≡ line.old }
+    ensures may { result ≡ Closed → S.may_answer }
+    ensures whole { grown_in edges.new.items ≡ length grown.new.items }
+    ensures sprouts { Sprouts room line.old.frame line.old.state place edges.old.items grown.old.items left.old result edges.new.items grown.new.items left.new }
+{
+    let rank = rank(edges.as_slice(), place);
+    let (step, node) = leaf_step(alloc, line, room, *left, store);
+    if let Step::Stuck(reason) = step {
+        return Step::Stuck(reason);
+    }
+    if grown.reserve_exact(1).is_err() {
+        return Step::Stuck(Reason::Memory);
+    }
+    if let Step::Expanded = step {
+        node.offer(alloc, line, store, offering);
+    }
+    let Ok(()) = grown.insert(rank, node) else {
+        unreachable!();
+    };
+    edges[place] = edges[place].grown();
+    *left = left_after(step, *left);
+    step
+}
+
+impl Node {
+    /// Steps at an undecided node, where the line stands at it: one step where once is set, and otherwise steps up to the
+    /// first that changes the node's numbers or is stuck. While they stay, every node above keeps its numbers and its
+    /// choice, so the way down still leads through this node. There is room for as many turns.
     #[cycle(descent)]
     pub(crate) fn grow<S: Store>(
         &mut self,
@@ -109,7 +153,7 @@ impl Node {
         'rounds: loop {
             let proof = self.number(Side::Attacker);
             let disproof = self.number(Side::Defender);
-            // A proof that couldn't be made in one step says nothing of the next one.
+            // A new step may offer again, though a proof couldn't be made in the last one.
             *offering = true;
             let step = self.round(alloc, line, room, once, left, store, offering);
             if once || !grows(step) {
@@ -146,23 +190,80 @@ impl Node {
             Growth::Expanded(expansion) => {
                 let Expansion {
                     mover,
-                    turns,
-                    nodes,
+                    edges,
+                    grown,
                 } = &mut **expansion;
                 let mover = *mover;
-                let place = best_place(mover, nodes.as_slice());
-                let Ok(()) = make(line, turns[place]) else {
+                let place = best_place(mover, edges.as_slice(), grown.as_slice());
+                let Ok(()) = make(line, edges[place].turn()) else {
                     return Step::Stuck(Reason::Memory);
                 };
-                let step = nodes[place].grow(alloc, line, room - 1, once, left, store, offering);
+                let step = below(
+                    alloc,
+                    line,
+                    room - 1,
+                    once,
+                    left,
+                    store,
+                    offering,
+                    edges,
+                    grown,
+                    place,
+                );
                 line.pop();
-                self.proof = combined(Side::Attacker, mover, nodes.as_slice());
-                self.disproof = combined(Side::Defender, mover, nodes.as_slice());
+                self.proof = combined(Side::Attacker, mover, edges.as_slice(), grown.as_slice());
+                self.disproof = combined(Side::Defender, mover, edges.as_slice(), grown.as_slice());
                 self.offer(alloc, line, store, offering);
                 step
             }
             Growth::Won(_) | Growth::Closed(_) => unreachable!(),
-            Growth::Fresh => self.grow_leaf(alloc, line, room, left, store, offering),
+            Growth::Fresh => {
+                let (step, node) = leaf_step(alloc, line, room, *left, store);
+                if let Step::Expanded = step {
+                    node.offer(alloc, line, store, offering);
+                }
+                *self = node;
+                *left = left_after(step, *left);
+                step
+            }
         }
+    }
+}
+
+/// Steps at the child of a place, which is undecided, where the line stands at it: those of its node where it has grown,
+/// and one step where it is fresh.
+#[cycle(descent)]
+fn below<S: Store>(
+    alloc: Global,
+    line: &mut Line,
+    room: u16,
+    once: bool,
+    left: &mut u32,
+    store: &mut S,
+    offering: &mut bool,
+    edges: &mut Vec<Edge>,
+    grown: &mut Vec<Node>,
+    place: usize,
+) -> Step
+    requires there { place < length edges.old.items }
+    requires whole { grown_in edges.old.items ≡ length grown.old.items }
+    requires undecided { IsUndecided (child_at place edges.old.items grown.old.items) }
+    requires partial { IsPartialTree line.old.frame line.old.state (child_at place edges.old.items grown.old.items) }
+    requires fits { FitsIn line.old.frame.size room (child_at place edges.old.items grown.old.items) }
+    requires room { room ≤ 512 }
+    ensures line { line.new ≡ line.old }
+    ensures may { result ≡ Closed → S.may_answer }
+    ensures whole { grown_in edges.new.items ≡ length grown.new.items }
+    ensures steps { StepsBelow once room line.old.frame line.old.state place edges.old.items grown.old.items left.old result edges.new.items grown.new.items left.new }
+{
+    match edges[place].mark() {
+        Mark::Grown => {
+            let rank = rank(edges.as_slice(), place);
+            grown[rank].grow(alloc, line, room, once, left, store, offering)
+        }
+        Mark::Fresh => sprout(
+            alloc, line, room, left, store, offering, edges, grown, place,
+        ),
+        Mark::Won(_) => unreachable!(),
     }
 }

@@ -1,15 +1,17 @@
 //! New leaves, expanded leaves and closed leaves.
 
-ghost use Rattle.std.specs.Prelude.{◌≡◌, IfOk};
+ghost use Rattle.std.specs.Prelude.{◌≡◌, [], IfOk};
 ghost use Rattle.tt_search.specs.PartialTree.{expanded, closed};
 ghost use Rattle.tt_search.specs.Children.{children_of};
+ghost use Rattle.tt_search.specs.Edges.{turn_of, mark_of, tree_of, turns_of, trees_of, counted, grown_in};
 ghost use Rattle.tt_search.specs.Growing.{leaf_for, expansion};
 
+use crate::edges::{Edge, Mark};
 use crate::node::{Expansion, Growth, Node};
 use crate::numbers::{combined, decided_number};
 use std::alloc::Global;
 use std::sync::Arc;
-use tt_game::{Line, Side, Turn};
+use tt_game::{Line, Side, Successor};
 use tt_proof::Proof;
 use tt_sgf::NoMemory;
 
@@ -43,23 +45,20 @@ pub(crate) fn closed_leaf(proof: Arc<Proof>) -> Node
     }
 }
 
-/// An expanded node with these children.
-fn expanded_node(
-    alloc: Global,
-    mover: Side,
-    turns: Vec<Turn>,
-    nodes: Vec<Node>,
-) -> Result<Node, NoMemory>
-    ensures { IfOk result (λ node. node ≡ expanded mover turns.items (children_of nodes.items)) }
+/// An expanded node at which no child has grown.
+fn expanded_node(alloc: Global, mover: Side, edges: Vec<Edge>) -> Result<Node, NoMemory>
+    requires { grown_in edges.items ≡ 0 }
+    ensures { IfOk result (λ node. node ≡ expanded mover (turns_of edges.items) (children_of (trees_of edges.items []))) }
 {
-    let proof = combined(Side::Attacker, mover, nodes.as_slice());
-    let disproof = combined(Side::Defender, mover, nodes.as_slice());
+    let grown = Vec::new(alloc);
+    let proof = combined(Side::Attacker, mover, edges.as_slice(), grown.as_slice());
+    let disproof = combined(Side::Defender, mover, edges.as_slice(), grown.as_slice());
     let expansion = Box::new(
         alloc,
         Expansion {
             mover,
-            turns,
-            nodes,
+            edges,
+            grown,
         },
     )?;
     Ok(Node {
@@ -69,16 +68,26 @@ fn expanded_node(
     })
 }
 
+/// The edge of a successor to a new leaf.
+fn new_edge(successor: &Successor) -> Edge
+    ensures turn { turn_of result ≡ successor.now.turn }
+    ensures tree { tree_of (mark_of result) [] ≡ leaf_for successor.now.winner }
+    ensures small { counted (mark_of result) 0 ≡ 0 }
+{
+    match successor.winner {
+        None => Edge::new(successor.turn, Mark::Fresh),
+        Some(side) => Edge::new(successor.turn, Mark::Won(side)),
+    }
+}
+
 /// The line's node with a new leaf for each legal turn. Each turn is played once.
 pub(crate) fn expanded_at(alloc: Global, line: &Line) -> Result<Node, NoMemory>
     ensures { IfOk result (λ node. node ≡ expansion line.now.frame line.now.state) }
 {
     let successors = line.successors_in(alloc)?;
-    let mut turns = Vec::with_capacity(alloc, successors.len())?;
-    let mut nodes = Vec::with_capacity(alloc, successors.len())?;
+    let mut edges = Vec::with_capacity(alloc, successors.len())?;
     for successor in successors.as_slice() {
-        turns.push(successor.turn)?;
-        nodes.push(new_leaf(successor.winner))?;
+        edges.push(new_edge(successor))?;
     }
-    expanded_node(alloc, line.to_move(), turns, nodes)
+    expanded_node(alloc, line.to_move(), edges)
 }

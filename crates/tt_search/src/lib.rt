@@ -8,6 +8,7 @@
 #![tactic(auto)]
 
 mod closing;
+mod edges;
 mod growing;
 mod leaves;
 mod limits;

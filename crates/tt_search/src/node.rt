@@ -2,9 +2,10 @@
 
 ghost use Rattle.std.specs.Prelude.{◌≡◌};
 
+use crate::edges::Edge;
 use std::marker::Model;
 use std::sync::Arc;
-use tt_game::{Side, Turn};
+use tt_game::Side;
 use tt_proof::Proof;
 
 /// A node with its proof and disproof number.
@@ -25,13 +26,14 @@ pub(crate) enum Growth {
     Expanded(Box<Expansion>),
 }
 
-/// The side to move at an expanded node, its legal turns and a child for each.
+/// The side to move at an expanded node, an edge for each of its legal turns, and a node for each child that has grown, in
+/// the order of the edges. Most children never grow, and take no more than their edge.
 #[cycle(node)]
 #[derive(Drop)]
 pub(crate) struct Expansion {
     pub(crate) mover: Side,
-    pub(crate) turns: Vec<Turn>,
-    pub(crate) nodes: Vec<Node>,
+    pub(crate) edges: Vec<Edge>,
+    pub(crate) grown: Vec<Node>,
 }
 
 impl Model for Node {
@@ -44,17 +46,18 @@ impl Model for Node {
     ghost coded = { partial_code };
 
     ghost use Rattle.tt_search.specs.Shape.{shape};
+    ghost use Rattle.tt_search.specs.Shape.{IsWhole};
     ghost use Rattle.tt_search.specs.Cached.{IsCached};
 
     ghost view = { λ a. shape a.growth };
 
-    ghost invariant = { λ a. IsCached a.proof a.disproof (shape a.growth) };
+    ghost invariant = { λ a. IsCached a.proof a.disproof (shape a.growth) × IsWhole a.growth };
 
     ghost size = { weight };
 
     ghost use Rattle.tt_search.specs.Falls.{deep-weight};
 
-    ghost size_decreases = { λ a h. deep-weight a.growth };
+    ghost size_decreases = { λ a h. deep-weight a.growth h.1 };
 }
 
 impl Node {

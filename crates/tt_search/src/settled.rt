@@ -8,14 +8,16 @@ ghost use Rattle.tt_search.specs.Growing.{IsPartialTree};
 ghost use Rattle.tt_search.specs.Fits.{FitsIn};
 ghost use Rattle.tt_search.specs.Settled.{strategy_for, pick_at, replies};
 ghost use Rattle.tt_search.specs.Children.{children_of};
+ghost use Rattle.tt_search.specs.Edges.{mark_of, tree_of, turns_of, trees_of};
 ghost use Rattle.tt_search.specs.MostProving.{best};
 
+use crate::edges::{Edge, Mark};
 use crate::node::{Expansion, Growth, Node};
-use crate::numbers::{best_place, is_same};
+use crate::numbers::{behind, best_place, from_rank, is_same, rank};
 use crate::store::Store;
 use std::alloc::Global;
 use std::sync::Arc;
-use tt_game::{Line, Side, Turn};
+use tt_game::{Line, Side};
 use tt_proof::{Proof, Tree};
 use tt_sgf::NoMemory;
 
@@ -32,13 +34,13 @@ impl Node {
             Growth::Expanded(expansion) => {
                 let Expansion {
                     mover,
-                    turns,
-                    nodes,
+                    edges,
+                    grown,
                 } = &**expansion;
                 if is_same(side, *mover) {
-                    picked(alloc, side, turns, nodes)
+                    picked(alloc, side, edges, grown)
                 } else {
-                    replied(alloc, side, turns, nodes)
+                    replied(alloc, side, edges, grown)
                 }
             }
         }
@@ -100,34 +102,46 @@ impl Node {
     }
 }
 
+/// The strategy of a child, where these are the nodes of the children that have grown, from this one on.
+#[cycle(tree_of)]
+fn child_tree(alloc: Global, side: Side, edge: Edge, rest: &[Node]) -> Result<Tree, NoMemory>
+    ensures { IfOk result (λ t. strategy_of t ≡ strategy_for side (tree_of (mark_of edge) rest.now)) }
+{
+    match edge.mark() {
+        Mark::Fresh => Ok(Tree::done()),
+        Mark::Won(_) => Ok(Tree::done()),
+        Mark::Grown => match rest.split_first() {
+            Some((node, _)) => node.tree(alloc, side),
+            None => Ok(Tree::done()),
+        },
+    }
+}
+
 /// The strategy that picks the best child.
 #[cycle(tree_of)]
-fn picked(alloc: Global, side: Side, turns: &[Turn], nodes: &[Node]) -> Result<Tree, NoMemory>
-    ensures { IfOk result (λ t. strategy_of t ≡ pick_at side (best side (children_of nodes.now)) turns.now (children_of nodes.now)) }
+fn picked(alloc: Global, side: Side, edges: &[Edge], grown: &[Node]) -> Result<Tree, NoMemory>
+    ensures { IfOk result (λ t. strategy_of t ≡ pick_at side (best side (children_of (trees_of edges.now grown.now))) (turns_of edges.now) (children_of (trees_of edges.now grown.now))) }
 {
-    let place = best_place(side, nodes);
-    if place >= turns.len() {
+    let place = best_place(side, edges, grown);
+    if place >= edges.len() {
         return Ok(Tree::done());
     }
-    if place >= nodes.len() {
-        return Ok(Tree::done());
-    }
-    let child = nodes[place].tree(alloc, side)?;
-    Tree::pick(alloc, turns[place], child)
+    let edge = edges[place];
+    let child = child_tree(alloc, side, edge, from_rank(grown, rank(edges, place)))?;
+    Tree::pick(alloc, edge.turn(), child)
 }
 
 /// The strategy that replies to each turn.
 #[cycle(tree_of)]
-fn replied(alloc: Global, side: Side, turns: &[Turn], nodes: &[Node]) -> Result<Tree, NoMemory>
-    ensures { IfOk result (λ t. strategy_of t ≡ reply (replies side turns.now (children_of nodes.now))) }
+fn replied(alloc: Global, side: Side, edges: &[Edge], grown: &[Node]) -> Result<Tree, NoMemory>
+    ensures { IfOk result (λ t. strategy_of t ≡ reply (replies side (turns_of edges.now) (children_of (trees_of edges.now grown.now)))) }
 {
-    let mut entries = Vec::with_capacity(alloc, nodes.len())?;
-    for (i, node) in nodes.iter().enumerate() {
-        if i >= turns.len() {
-            return Ok(Tree::reply(entries));
-        }
-        let child = node.tree(alloc, side)?;
-        entries.push((turns[i], child))?;
+    let mut entries = Vec::with_capacity(alloc, edges.len())?;
+    let mut rest = grown;
+    for edge in edges {
+        let child = child_tree(alloc, side, *edge, rest)?;
+        entries.push((edge.turn(), child))?;
+        rest = behind(*edge, rest);
     }
     Ok(Tree::reply(entries))
 }

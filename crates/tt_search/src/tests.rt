@@ -65,6 +65,32 @@ pub(crate) fn trace<S: Store>(
     Ok(shown_steps)
 }
 
+/// What the trace of a search ends with, by a run of it: where it is stuck the letter for the reason, the root's numbers
+/// and how many nodes are expanded; then how many proofs are kept.
+pub(crate) fn end_of_run<S: Store>(
+    alloc: Global,
+    text: &[u8],
+    budget: u32,
+    depth: u16,
+    store: &mut S,
+) -> Result<String, Fail> {
+    let Some(limits) = Limits::new(budget, depth) else {
+        return Err(Fail::new("no limits"));
+    };
+    let line = posed(alloc, text)?;
+    match Search::new(alloc, line, limits)?.run(store) {
+        End::Settled(_) => Ok(format!(in alloc; " {}", store.kept())?),
+        End::Stuck(_, None) => Err(Fail::new("no search is handed back")),
+        End::Stuck(reason, Some(search)) => {
+            let (proof, disproof) = search.numbers();
+            let proof = shown(alloc, proof)?;
+            let disproof = shown(alloc, disproof)?;
+            let piece = format!(in alloc; "{}{proof},{disproof}", letter(Step::Stuck(reason)))?;
+            Ok(format!(in alloc; "{piece} {} {}", search.expanded(), store.kept())?)
+        }
+    }
+}
+
 #[test]
 fn limits(rt: HostRuntime) {
     let table = [

@@ -1,7 +1,7 @@
 //! Traces of searches from outside: the answer of each step, with the numbers behind it.
 
 use crate::PrivateStore;
-use crate::tests::trace;
+use crate::tests::{end_of_run, trace};
 use std::alloc::Global;
 use std::test::Fail;
 
@@ -11,6 +11,25 @@ fn bounded(alloc: Global, capacity: usize) -> Result<PrivateStore, Fail> {
         Some(store) => Ok(store),
         None => Err(Fail::new("too great a capacity")),
     }
+}
+
+/// Two searches of the problem over one store have these traces, and a run ends as the steps do, with the same store.
+fn search_twice(
+    alloc: Global,
+    problem: &[u8],
+    budget: u32,
+    depth: u16,
+    capacity: usize,
+    traces: (&str, &str),
+) -> Result<bool, Fail> {
+    let (first, second) = traces;
+    let mut store = bounded(alloc, capacity)?;
+    let stepped = trace(alloc, problem, budget, depth, &mut store)?.as_str() == first
+        && trace(alloc, problem, budget, depth, &mut store)?.as_str() == second;
+    let mut store = bounded(alloc, capacity)?;
+    let end = end_of_run(alloc, problem, budget, depth, &mut store)?;
+    let again = trace(alloc, problem, budget, depth, &mut store)?;
+    Ok(stepped && first.ends_with(end.as_str()) && again.as_str() == second)
 }
 
 #[test]
@@ -146,9 +165,8 @@ fn traces_1(rt: HostRuntime) -> Result<(), Fail> {
         ),
     ];
     for (problem, budget, depth, capacity, first, second) in table {
-        let mut store = bounded(rt.alloc(), capacity)?;
-        assert!(&rt; trace(rt.alloc(), problem, budget, depth, &mut store)?.as_str() == first);
-        assert!(&rt; trace(rt.alloc(), problem, budget, depth, &mut store)?.as_str() == second);
+        let traces = (first, second);
+        assert!(&rt; search_twice(rt.alloc(), problem, budget, depth, capacity, traces)?);
     }
     Ok(())
 }
@@ -286,9 +304,8 @@ fn traces_2(rt: HostRuntime) -> Result<(), Fail> {
         ),
     ];
     for (problem, budget, depth, capacity, first, second) in table {
-        let mut store = bounded(rt.alloc(), capacity)?;
-        assert!(&rt; trace(rt.alloc(), problem, budget, depth, &mut store)?.as_str() == first);
-        assert!(&rt; trace(rt.alloc(), problem, budget, depth, &mut store)?.as_str() == second);
+        let traces = (first, second);
+        assert!(&rt; search_twice(rt.alloc(), problem, budget, depth, capacity, traces)?);
     }
     Ok(())
 }
@@ -426,9 +443,8 @@ fn traces_3(rt: HostRuntime) -> Result<(), Fail> {
         ),
     ];
     for (problem, budget, depth, capacity, first, second) in table {
-        let mut store = bounded(rt.alloc(), capacity)?;
-        assert!(&rt; trace(rt.alloc(), problem, budget, depth, &mut store)?.as_str() == first);
-        assert!(&rt; trace(rt.alloc(), problem, budget, depth, &mut store)?.as_str() == second);
+        let traces = (first, second);
+        assert!(&rt; search_twice(rt.alloc(), problem, budget, depth, capacity, traces)?);
     }
     Ok(())
 }
@@ -566,9 +582,8 @@ fn traces_4(rt: HostRuntime) -> Result<(), Fail> {
         ),
     ];
     for (problem, budget, depth, capacity, first, second) in table {
-        let mut store = bounded(rt.alloc(), capacity)?;
-        assert!(&rt; trace(rt.alloc(), problem, budget, depth, &mut store)?.as_str() == first);
-        assert!(&rt; trace(rt.alloc(), problem, budget, depth, &mut store)?.as_str() == second);
+        let traces = (first, second);
+        assert!(&rt; search_twice(rt.alloc(), problem, budget, depth, capacity, traces)?);
     }
     Ok(())
 }
@@ -666,9 +681,8 @@ fn traces_5(rt: HostRuntime) -> Result<(), Fail> {
         ),
     ];
     for (problem, budget, depth, capacity, first, second) in table {
-        let mut store = bounded(rt.alloc(), capacity)?;
-        assert!(&rt; trace(rt.alloc(), problem, budget, depth, &mut store)?.as_str() == first);
-        assert!(&rt; trace(rt.alloc(), problem, budget, depth, &mut store)?.as_str() == second);
+        let traces = (first, second);
+        assert!(&rt; search_twice(rt.alloc(), problem, budget, depth, capacity, traces)?);
     }
     Ok(())
 }

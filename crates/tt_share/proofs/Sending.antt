@@ -13,13 +13,11 @@ use Rattle.std.proofs.Crossing.{crosses}
 use Rattle.std.specs.contracts.alloc.Global as Global
 use Rattle.std.specs.contracts.impls.GlobalAllocator.TheImpl.{ghosts}
 use Rattle.std.specs.contracts.sync.Arc as Arc
-use Rattle.std.specs.contracts.vec.Vec as Vec
 use Rattle.atomic_table.specs.contracts.shared.Seat as TableSeat
 use Rattle.atomic_table.proofs.Sent.{seat_keyless}
 use Rattle.tt_game.specs.contracts.frame.Side as Side
 use Rattle.tt_game.specs.contracts.line.Line as Line
 use Rattle.tt_game.specs.contracts.past.Past as Past
-use Rattle.tt_game.specs.contracts.turns.Turn as Turn
 use Rattle.tt_proof.specs.contracts.tree.Tree as Tree
 use Rattle.tt_proof.specs.contracts.tree.Tree.TheKnot as TreeKnot
 use Rattle.tt_proof.specs.contracts.proven.Proof as Proof
@@ -82,12 +80,9 @@ proof_sync = view_sync _ _ _ _ _ (declared_sync Inside.the_type (as_row_sync Pas
 shared_send : IsSend (Arc.the_row Proof.the_row Global.the_row ghosts)
 shared_send = search (sendable, crosses, proof_send, proof_sync) depth 40
 
-turns_send : IsSend (Vec.the_row Turn.the_row Global.the_row ghosts)
-turns_send = search (sendable, crosses) depth 40
-
 module _ (h : RattleType) (below : IsSend h) where
   expansion_layer : IsSend (NodeKnot.layer-Expansion h)
-  expansion_layer = search (sendable, crosses, turns_send) depth 40
+  expansion_layer = search (sendable, crosses) depth 40
 
   growth_layer : IsSend (NodeKnot.layer-Growth h)
   growth_layer = search (sendable, crosses, shared_send) depth 40

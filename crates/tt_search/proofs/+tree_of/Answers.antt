@@ -1,41 +1,58 @@
-use Rattle.std.proofs.Common.{◌≡◌, ◌∙◌, IfOk, sym, ap, subst, arith}
-use Rattle.tt_proof.specs.Strategy.{reply, strategy_of}
+use Rattle.std.proofs.Common.{◌≡◌, ◌∙◌, ℕ, ◌+◌, List, IfOk, get_or, drop, sym, ap, subst, arith}
+use Rattle.tt_game.specs.declared.turns.Turn.{Turn}
+use Rattle.tt_proof.specs.Strategy.{Entries, reply, strategy_of, entry}
+use Rattle.tt_search.specs.PartialTree.{PartialTree}
 use Rattle.tt_search.specs.Children.{children_of}
-use Rattle.tt_search.specs.Settled.{pick_at}
-use Rattle.tt_search.proofs.Replies.{finished, pushed, picked, lighter, replies_past_turns, replies_past_trees, pick_past_turns, pick_past_trees}
+use Rattle.tt_search.specs.Edges.{turn_of, mark_of, tree_of, turns_of, trees_of}
+use Rattle.tt_search.specs.Settled.{strategy_for, pick_at, replies}
+use Rattle.tt_search.specs.Weight.{weight_all}
+use Rattle.tt_search.specs.declared.edges.Edge.{Edge}
+use Rattle.tt_search.proofs.Replies.{joined, joined_push, joined_none, picked, pick_past_turns}
+use Rattle.tt_search.proofs.Places.{replies_at_end, length-turns_of, length-trees_of, turn_at_place, tree_here, lighter_here, replied_step, weight_step}
 use Rattle.tt_search.proofs.+tree_of.Goals as goal
 
-pub settled::picked-returns-then-place-turns : goal.settled::picked-returns-then-place-turns
-settled::picked-returns-then-place-turns t c =
-    c.done.ensures ∙ sym (rw (← c.best_place-place.ensures) (pick_past_turns c.args.side c.args.turns.now c.args.nodes.now c.best_place-place.result (omega (arith, c.if-place-turns.true))))
+abbrev first : Edge
+first = record { code = 0 }
 
-pub settled::picked-returns-then-place-nodes : goal.settled::picked-returns-then-place-nodes
-settled::picked-returns-then-place-nodes t c =
-    c.done-then-place-nodes.ensures ∙ sym (rw (← c.best_place-place.ensures) (pick_past_trees c.args.side c.args.turns.now c.args.nodes.now c.best_place-place.result (omega (arith, c.if-place-nodes.true))))
+pub settled::picked-returns-then-place-edges : goal.settled::picked-returns-then-place-edges
+settled::picked-returns-then-place-edges t c =
+    c.done.ensures ∙ sym (rw (← c.best_place-place.ensures) (pick_past_turns c.args.side (turns_of c.args.edges.now) (trees_of c.args.edges.now c.args.grown.now) c.best_place-place.result (omega (arith, c.if-place-edges.true, length-turns_of c.args.edges.now))))
 
-pub settled::picked-tree-requires : goal.settled::picked-tree-requires
-settled::picked-tree-requires t c =
-    let w = lighter c.args.side c.args.turns.now c.args.nodes.now c.best_place-place.result c.index-nodes-place.result c.index-nodes-place.is (omega (arith, c.if-place-nodes.false)) in
+pub settled::picked-child_tree-requires : goal.settled::picked-child_tree-requires
+settled::picked-child_tree-requires t c =
+    let w = lighter_here c.args.edges.now c.args.grown.now c.from_rank.result.now c.best_place-place.result c.rank.result first c.if-place-edges.false c.rank.ensures c.from_rank.ensures in
     (omega (arith, c.decreases, w), tt)
 
 pub settled::picked-returns : goal.settled::picked-returns
 settled::picked-returns t c =
-    let e = picked c.args.side c.args.turns.now c.args.nodes.now c.best_place-place.result c.index-turns-place.result c.index-nodes-place.result _ c.index-turns-place.is c.index-nodes-place.is c.in_ok-child.ensures (omega (arith, c.if-place-turns.false)) (omega (arith, c.if-place-nodes.false)) in
-    subst (λ u. IfOk c.pick.result (λ t. strategy_of t ≡ u)) (e ∙ ap (λ i. pick_at c.args.side i c.args.turns.now (children_of c.args.nodes.now)) c.best_place-place.ensures) c.pick.ensures
+    let turns : List Turn = turns_of c.args.edges.now in
+    let trees : List PartialTree = trees_of c.args.edges.now c.args.grown.now in
+    let e : Edge = get_or c.args.edges.now c.best_place-place.result first in
+    let child : PartialTree = tree_of (mark_of e) c.from_rank.result.now in
+    let here = tree_here c.args.edges.now c.args.grown.now c.from_rank.result.now c.best_place-place.result c.rank.result first c.if-place-edges.false c.rank.ensures c.from_rank.ensures in
+    let turn = c.turn.ensures ∙ sym (turn_at_place c.args.edges.now c.best_place-place.result first c.turn.result c.if-place-edges.false) in
+    let e = picked c.args.side turns trees c.best_place-place.result c.turn.result child _ turn (sym here) c.in_ok-child.ensures (omega (arith, c.if-place-edges.false, length-turns_of c.args.edges.now)) (omega (arith, c.if-place-edges.false, length-trees_of c.args.edges.now c.args.grown.now)) in
+    subst (λ u. IfOk c.pick.result (λ t. strategy_of t ≡ u)) (e ∙ ap (λ i. pick_at c.args.side i turns (children_of trees)) c.best_place-place.ensures) c.pick.ensures
 
-pub settled::replied-returns-then-i-turns : goal.settled::replied-returns-then-i-turns
-settled::replied-returns-then-i-turns t c =
-    c.reply.ensures ∙ ap reply (finished c.args.side c.args.turns.now c.args.nodes.now c.loop-i.entries.items c.loop-i.i _ c.loop-i.invariant (replies_past_turns c.args.side c.args.turns.now c.args.nodes.now c.loop-i.i (omega (arith, c.if-i-turns.true))))
-
-pub settled::replied-tree-requires : goal.settled::replied-tree-requires
-settled::replied-tree-requires t c =
-    let w = lighter c.args.side c.args.turns.now c.args.nodes.now c.loop-i.i c.index-nodes-i.result c.index-nodes-i.is (omega (arith, c.loop-i-test.true)) in
-    (omega (arith, c.decreases, w), tt)
-
-pub settled::replied-loop-i-preserved : goal.settled::replied-loop-i-preserved
-settled::replied-loop-i-preserved t c =
-    pushed c.args.side c.args.turns.now c.args.nodes.now c.loop-i.entries.items c.push.new.self.items c.loop-i.i c.index-turns-i.result c.index-nodes-i.result c.in_ok-child.child _ c.loop-i.invariant c.in_ok-push.ensures.items c.in_ok-child.ensures c.index-turns-i.is c.index-nodes-i.is (omega (arith, c.if-i-turns.false)) (omega (arith, c.loop-i-test.true))
+pub settled::replied-loop-edge-preserved : goal.settled::replied-loop-edge-preserved
+settled::replied-loop-edge-preserved t c =
+    let i : ℕ = c.loop-edge.edge-index in
+    let e : Edge = get_or c.args.edges.now i first in
+    let left : List Edge = drop (i + 1) c.args.edges.now in
+    let rest : Entries = replies c.args.side (turns_of left) (children_of (trees_of left c.behind-rest.result.now)) in
+    let step = replied_step c.args.side c.args.edges.now c.loop-edge.rest.now i first c.loop-edge-test.true ∙ ap (λ us. entry (turn_of e) (strategy_for c.args.side (tree_of (mark_of e) c.loop-edge.rest.now)) (replies c.args.side (turns_of left) (children_of (trees_of left us)))) (sym c.behind-rest.ensures) in
+    record {
+      made =
+          ap (λ zs. joined zs rest) c.in_ok-push.ensures.items
+          ∙ joined_push c.loop-edge.entries.items (c.turn.result, c.in_ok-child.child) rest
+          ∙ ap (λ u. joined c.loop-edge.entries.items (entry u (strategy_of c.in_ok-child.child) rest)) c.turn.ensures
+          ∙ ap (λ u. joined c.loop-edge.entries.items (entry (turn_of e) u rest)) c.in_ok-child.ensures
+          ∙ ap (joined c.loop-edge.entries.items) (sym step)
+          ∙ c.loop-edge.invariant.made;
+      lighter = omega (arith, weight_step c.args.edges.now c.loop-edge.rest.now i first c.loop-edge-test.true, ap (λ us. weight_all (children_of (trees_of left us))) c.behind-rest.ensures, c.loop-edge.invariant.lighter);
+    }
 
 pub settled::replied-returns : goal.settled::replied-returns
 settled::replied-returns t c =
-    c.reply-2.ensures ∙ ap reply (finished c.args.side c.args.turns.now c.args.nodes.now c.loop-i.entries.items c.loop-i.i _ c.loop-i.invariant (replies_past_trees c.args.side c.args.turns.now c.args.nodes.now c.loop-i.i (omega (arith, c.loop-i-test.false))))
+    let none_left = replies_at_end c.args.side c.args.edges.now c.loop-edge.rest.now c.loop-edge.edge-index (omega (arith, c.loop-edge-test.false)) in
+    c.reply.ensures ∙ ap reply (sym (joined_none c.loop-edge.entries.items) ∙ ap (joined c.loop-edge.entries.items) (sym none_left) ∙ c.loop-edge.invariant.made)

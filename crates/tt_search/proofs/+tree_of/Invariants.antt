@@ -1,18 +1,25 @@
-use Rattle.std.proofs.Common.{◌≡◌, ◌*◌, ◌+◌}
+use Rattle.std.proofs.Common.{◌≡◌, ◌≤◌, ◌*◌, ◌+◌, drop}
 use Rattle.tt_search.specs.Children.{children_of}
+use Rattle.tt_search.specs.Edges.{turns_of, trees_of, tree_of, mark_of}
 use Rattle.tt_search.specs.Settled.{replies}
 use Rattle.tt_search.specs.Weight.{weight, weight_all}
-use Rattle.tt_search.proofs.Replies.{joined, replies_from}
+use Rattle.tt_search.proofs.Replies.{joined}
 use Rattle.tt_search.proofs.+tree_of.Given as goal
 
 abbrev pub decreases-node::Node::tree : goal.decreases-node::Node::tree
-decreases-node::Node::tree l = weight l.self.now * 2 + 1
+decreases-node::Node::tree l = weight l.self.now * 3 + 2
+
+abbrev pub decreases-settled::child_tree : goal.decreases-settled::child_tree
+decreases-settled::child_tree l = weight (tree_of (mark_of l.edge) l.rest.now) * 3 + 3
 
 abbrev pub decreases-settled::picked : goal.decreases-settled::picked
-decreases-settled::picked l = weight_all (children_of l.nodes.now) * 2
+decreases-settled::picked l = weight_all (children_of (trees_of l.edges.now l.grown.now)) * 3 + 1
 
 abbrev pub decreases-settled::replied : goal.decreases-settled::replied
-decreases-settled::replied l = weight_all (children_of l.nodes.now) * 2
+decreases-settled::replied l = weight_all (children_of (trees_of l.edges.now l.grown.now)) * 3 + 1
 
-abbrev pub invariant-settled::replied-loop-i : goal.invariant-settled::replied-loop-i
-invariant-settled::replied-loop-i l = joined l.entries.items (replies_from l.side l.turns l.nodes l.i) ≡ replies l.side l.turns (children_of l.nodes)
+abbrev pub invariant-settled::replied-loop-edge : goal.invariant-settled::replied-loop-edge
+invariant-settled::replied-loop-edge l = record {
+  made : joined l.entries.items (replies l.side (turns_of (drop l.edge-index l.edges)) (children_of (trees_of (drop l.edge-index l.edges) l.rest))) ≡ replies l.side (turns_of l.edges) (children_of (trees_of l.edges l.grown));
+  lighter : weight_all (children_of (trees_of (drop l.edge-index l.edges) l.rest)) ≤ weight_all (children_of (trees_of l.edges l.grown));
+}

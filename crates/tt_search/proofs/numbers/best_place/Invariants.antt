@@ -2,8 +2,9 @@ use Rattle.std.proofs.Common.{◌≡◌, ◌≤◌, drop}
 use Rattle.tt_search.specs.Numbers.{numbers, infinite}
 use Rattle.tt_search.specs.MostProving.{best}
 use Rattle.tt_search.specs.Children.{children_of}
+use Rattle.tt_search.specs.Edges.{trees_of}
 use Rattle.tt_search.proofs.Rows.{best_from}
 use Rattle.tt_search.proofs.numbers.best_place.Given as goal
 
 abbrev pub invariant-loop-i : goal.invariant-loop-i
-invariant-loop-i l = (l.least ≤ infinite) × (best_from l.place l.least l.i (numbers l.mover (children_of (drop l.i l.nodes))) ≡ best l.mover (children_of l.nodes))
+invariant-loop-i l = (l.least ≤ infinite) × (best_from l.place l.least l.i (numbers l.mover (children_of (trees_of (drop l.i l.edges) l.rest))) ≡ best l.mover (children_of (trees_of l.edges l.grown)))

@@ -1,0 +1,59 @@
+-- The children of an expanded node as the code keeps them: a short word for each, and the trees of those that have grown.
+use Rattle.std.specs.Prelude.{ℕ, suc, ◌/◌, ◌%◌, ◌==◌, if◌then◌else◌, List, [], ◌∷◌, map, slice_index_or, ltb}
+use Rattle.tt_game.specs.declared.frame.Side.{Side}
+use Rattle.tt_game.specs.declared.frame.Side.TheVariants.{Attacker, Defender}
+use Rattle.tt_game.specs.declared.turns.Turn.{Turn}
+use Rattle.tt_game.specs.declared.turns.Turn.TheVariants.{Play, Pass}
+use Rattle.tt_search.specs.PartialTree.{PartialTree, fresh, won}
+use Rattle.tt_search.specs.declared.edges.Mark.{Mark}
+use Rattle.tt_search.specs.declared.edges.Mark.TheVariants.{Fresh, Won, Grown}
+use Rattle.tt_search.specs.declared.edges.Edge.{Edge}
+
+-- the turn of a number: a play on that point, or else a pass
+abbrev pub turn_at : ℕ → Turn
+turn_at n = if ltb n 361 then Play n else Pass
+
+abbrev pub mark_at : ℕ → Mark
+mark_at n = if n == 0 then Fresh else (if n == 1 then Won Attacker else (if n == 2 then Won Defender else Grown))
+
+abbrev pub turn_of : Edge → Turn
+turn_of e = turn_at (e.code % 512)
+
+abbrev pub mark_of : Edge → Mark
+mark_of e = mark_at (e.code / 512)
+
+abbrev pub turns_of : List Edge → List Turn
+turns_of es = map turn_of es
+
+-- the tree of a child, where these are the trees of the children that have grown, from this one on
+abbrev pub tree_of : Mark → List PartialTree → PartialTree
+tree_of Fresh grown = fresh
+tree_of (Won side) grown = won side
+tree_of Grown [] = fresh
+tree_of Grown (tree ∷ trees) = tree
+
+-- the trees of the children that have grown behind it
+abbrev pub grown_behind : Mark → List PartialTree → List PartialTree
+grown_behind Fresh grown = grown
+grown_behind (Won side) grown = grown
+grown_behind Grown [] = []
+grown_behind Grown (tree ∷ trees) = trees
+
+abbrev pub trees_of : List Edge → List PartialTree → List PartialTree
+trees_of [] grown = []
+trees_of (e ∷ es) grown = tree_of (mark_of e) grown ∷ trees_of es (grown_behind (mark_of e) grown)
+
+-- one more where the child has grown
+abbrev pub counted : Mark → ℕ → ℕ
+counted Fresh n = n
+counted (Won side) n = n
+counted Grown n = suc n
+
+-- how many children have grown
+abbrev pub grown_in : List Edge → ℕ
+grown_in [] = 0
+grown_in (e ∷ es) = counted (mark_of e) (grown_in es)
+
+-- the tree of the child at a place
+abbrev pub child_at : ℕ → List Edge → List PartialTree → PartialTree
+child_at i es grown = slice_index_or (trees_of es grown) i fresh

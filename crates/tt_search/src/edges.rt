@@ -1,0 +1,79 @@
+//! The ways from an expanded node to its children, two bytes each.
+
+ghost use Rattle.std.specs.Prelude.{◌≡◌};
+ghost use Rattle.tt_search.specs.Edges.{turn_of, mark_of};
+
+use tt_game::{Side, Turn};
+use tt_sgf::Point;
+
+/// What is known of a child: nothing, who has won there, or what its node says. A child has grown once it is expanded, or
+/// closed by a proof.
+#[derive(Clone, Copy, PartialEq, Eq)]
+pub(crate) enum Mark {
+    Fresh,
+    Won(Side),
+    Grown,
+}
+
+/// A turn, and the mark of the child behind it. The number of the turn is that of its point, or 361 for a pass.
+#[derive(Clone, Copy)]
+pub(crate) struct Edge {
+    pub(crate) code: u16,
+}
+
+/// What the number of a turn is below.
+const TURNS: u16 = 512;
+
+impl Edge {
+    /// The edge of a turn to a child with the mark.
+    pub(crate) fn new(turn: Turn, mark: Mark) -> Edge
+        ensures turn { turn_of result ≡ turn }
+        ensures mark { mark_of result ≡ mark }
+    {
+        let number = match turn {
+            Turn::Play(point) => point.number(),
+            Turn::Pass => 361,
+        };
+        let kind = match mark {
+            Mark::Fresh => 0,
+            Mark::Won(Side::Attacker) => 1,
+            Mark::Won(Side::Defender) => 2,
+            Mark::Grown => 3,
+        };
+        Edge {
+            code: kind * TURNS + number,
+        }
+    }
+
+    /// The turn.
+    pub(crate) fn turn(self) -> Turn
+        ensures { result ≡ turn_of self }
+    {
+        match Point::new(self.code % TURNS) {
+            Some(point) => Turn::Play(point),
+            None => Turn::Pass,
+        }
+    }
+
+    /// The mark of the child.
+    pub(crate) fn mark(self) -> Mark
+        ensures { result ≡ mark_of self }
+    {
+        match self.code / TURNS {
+            0 => Mark::Fresh,
+            1 => Mark::Won(Side::Attacker),
+            2 => Mark::Won(Side::Defender),
+            _ => Mark::Grown,
+        }
+    }
+
+    /// The edge of the same turn to a child that has grown.
+    pub(crate) fn grown(self) -> Edge
+        ensures turn { turn_of result ≡ turn_of self }
+        ensures mark { mark_of result ≡ Mark.Grown }
+    {
+        Edge {
+            code: 3 * TURNS + self.code % TURNS,
+        }
+    }
+}
