@@ -51,7 +51,7 @@ fn copy_pick(alloc: Global, turn: Turn, child: &Tree) -> Result<Tree, NoMemory>
 fn copy_reply(alloc: Global, list: &[(Turn, Tree)]) -> Result<Tree, NoMemory>
     ensures { IfOk result (λ t. strategy_of t ≡ reply (entries_of_trees list.now)) }
 {
-    let mut copies = Vec::new(alloc);
+    let mut copies = Vec::with_capacity(alloc, list.len())?;
     for (turn, child) in list {
         let copy = copy_tree(alloc, child)?;
         copies.push((*turn, copy))?;
