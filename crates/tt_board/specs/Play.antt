@@ -1,4 +1,4 @@
--- What the rules do to a colouring (the Tromp-Taylor rules of Go): clearing, a move, and the score; and setting up.
+-- What the rules do to a colouring (the Tromp-Taylor rules of Go, https://tromp.github.io/go.html): clearing, a move, and the score; and setting up.
 use Rattle.std.specs.Prelude.{◌≡◌, ◌≢◌, ℕ, ◌<◌, ◌&&◌, ◌||◌, List, length, Option, Some, None, Bool, true, false, not, if◌then◌else◌, map, slice_set}
 use Rattle.std.specs.List.{range_with_len, filter}
 use Rattle.std.proofs.lemmas.List.FromFn.{length-map-range_with_len}

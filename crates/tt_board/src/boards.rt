@@ -61,7 +61,7 @@ fn push_board(
 }
 
 impl Boards {
-    /// Keeps these boards.
+    /// Keeps these boards, at least one and all of one size. `NoMemory` where memory was refused.
     pub fn of(alloc: Global, boards: &[Board]) -> Result<Boards, NoMemory>
         requires some { 0 < length boards.now }
         requires one_size { (g : Size) × All (λ b. b.size ≡ g) boards.now }

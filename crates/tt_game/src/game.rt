@@ -125,7 +125,8 @@ impl Game {
         Ok(next)
     }
 
-    /// Why a turn is refused, or none where it is legal: `Over` exactly where two passes ended the game.
+    /// Why a turn is refused, or none where it is legal: `Over` exactly where two passes ended the game. A
+    /// play is on a point of the board.
     pub fn refusal(&self, t: Turn) -> Option<Why>
         requires { IsOn self.now.size t }
         ensures { result ≡ refusal_of self.now t }
@@ -168,7 +169,8 @@ impl Game {
         Ok(())
     }
 
-    /// Makes a turn. A move is played once; after an error the game is as it was.
+    /// Makes a turn: a pass, or a play on a point of the board. `Illegal` where it is refused, `NoMemory` where memory
+    /// was; the game is then as it was.
     pub fn push(&mut self, t: Turn) -> Result<(), Refused>
         requires { IsOn self.old.size t }
         ensures ok { OnOk result ((refusal_of self.old t ≡ None) × (self.new ≡ turned self.old t)) }

@@ -1,4 +1,4 @@
-//! The game of go problems under Tromp-Taylor rules: histories of colourings with positional superko, legal turns, who
+//! The game of Go problems under Tromp-Taylor rules: histories of colourings with positional superko, legal turns, who
 //! has won, and how the main line of an SGF game tree becomes a record or a problem.
 
 #![tactic(auto)]

@@ -188,7 +188,8 @@ impl Line {
         Ok(next)
     }
 
-    /// Why a turn is refused, or none where it is legal: `Over` exactly where somebody has won.
+    /// Why a turn is refused, or none where it is legal: `Over` exactly where somebody has won. A play is
+    /// on a point of the board.
     pub fn refusal(&self, t: Turn) -> Option<Why>
         requires { OnBoard self.now.frame t }
         ensures { MatchOption result (IsLegal self.now.frame self.now.state t)
@@ -251,7 +252,8 @@ impl Line {
         Ok(())
     }
 
-    /// Makes a turn. A play is played once; after an error the line is as it was.
+    /// Makes a turn: a pass, or a play on a point of the board. `Illegal` where the turn isn't legal, `NoMemory` where
+    /// memory was refused; the line is then as it was.
     pub fn push(&mut self, t: Turn) -> Result<(), Refused>
         requires { OnBoard self.old.frame t }
         ensures ok { OnOk result (IsLegal self.old.frame self.old.state t × IsPushed self.old self.new t) }

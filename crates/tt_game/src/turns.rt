@@ -29,7 +29,7 @@ pub struct Successor {
 /// A vector of turns has room for so many at first: small regions have no more.
 const USUAL_TURNS: usize = 16;
 
-/// As many turns as a board of 19 by 19 has.
+/// A list of turns, with room for all of a board of 19 by 19: 361 plays and the pass.
 pub type Turns = ArrayVec<Turn, 362>;
 
 impl Line {

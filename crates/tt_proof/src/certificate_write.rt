@@ -83,7 +83,8 @@ fn put_entries(out: &mut Vec<u8>, list: &[(Turn, Tree)], size: Size) -> Result<(
     put(out, b';')
 }
 
-/// The certificate of the side and its tree, on a board of this size.
+/// The certificate of the side and its tree, on a board of this size. The tree is at most 512 turns deep, its points lie on
+/// the board, and the turns of each reply rise.
 pub fn write_cert(alloc: Global, s: Side, t: &Tree, size: Size) -> Result<Vec<u8>, NoMemory>
     requires depth { depth (strategy_of t.now) ≤ 512 }
     requires in_order { IsInOrder size (strategy_of t.now) }

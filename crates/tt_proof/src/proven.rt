@@ -106,7 +106,8 @@ impl Proof {
         self.past.stands_with(line)
     }
 
-    /// A proof of the tree at the line, where it wins there. The line stands as before.
+    /// A proof of the tree at the line, where it wins there; else the tree is handed back. The tree is at most 512 turns
+    /// deep, its points lie on the board, and the turns of each reply rise. The line stands as before.
     pub fn replayed(line: &mut Line, s: Side, t: Tree) -> Result<Proof, Rejected>
         requires depth { depth (strategy_of t) ≤ 512 }
         requires in_order { IsInOrder line.old.frame.size (strategy_of t) }
@@ -128,8 +129,8 @@ impl Proof {
         }
     }
 
-    /// A proof of the found proof's tree at the line, or none exactly where the tree doesn't win there. The line stands
-    /// as before.
+    /// A proof of the found proof's tree at the line, or none exactly where the tree doesn't win there. The found
+    /// proof is of a board of the line's size. The line stands as before.
     pub fn at(alloc: Global, line: &mut Line, found: &Proof) -> Result<Option<Proof>, NoMemory>
         requires { found.now.frame.size ≡ line.old.frame.size }
         ensures made { IfOk result (λ found_there. IsFoundAt found.now line.old.frame line.old.state found_there) }
@@ -162,7 +163,8 @@ impl Proof {
         }
     }
 
-    /// The proof that plays the turn and goes on with the child.
+    /// The proof that plays the turn and goes on with the child. The turn is legal at the line; the child stands after it,
+    /// is for the side to move, and is at most 511 turns deep.
     pub fn pick(alloc: Global, line: &Line, t: Turn, child: Proof) -> Result<Proof, NoMemory>
         requires legal { IsLegal line.now.frame line.now.state t }
         requires child { IsChild line.now.frame line.now.state line.now.state.to_move t child }
@@ -183,7 +185,9 @@ impl Proof {
         })
     }
 
-    /// The proof that answers each turn of the other side with that turn's child.
+    /// The proof that answers each turn of the other side with that turn's child. The children are those of all legal
+    /// turns, in rising order; each stands after its turn, is for the side that isn't to move, and is at most 511 turns
+    /// deep.
     pub fn reply(
         alloc: Global,
         line: &Line,

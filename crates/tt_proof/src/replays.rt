@@ -153,7 +153,8 @@ fn replay_reply(list: &[(Turn, Tree)], s: Side, line: &mut Line) -> Result<bool,
 }
 
 /// Whether the tree wins for the side from the line's state. Entries of turns that aren't legal aren't looked at.
-/// The line stands as before, also after want of memory.
+/// The tree is at most 512 turns deep, its points lie on the board, and the turns of each reply rise. The line stands as
+/// before, also after want of memory.
 #[cycle(replay)]
 pub fn replay(t: &Tree, s: Side, line: &mut Line) -> Result<bool, NoMemory>
     requires depth { depth (strategy_of t.now) ≤ 512 }

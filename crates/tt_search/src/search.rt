@@ -19,7 +19,8 @@ use tt_game::{Line, Side};
 use tt_proof::Proof;
 use tt_sgf::NoMemory;
 
-/// How a run ends: with a proof at the search's line, or stuck, with the search as it stands then.
+/// How a run ends: with a proof at the search's line, or stuck, with the search as it stands then. The
+/// search is missing only for want of memory.
 #[derive(Drop)]
 pub enum End {
     Settled(Proof),
@@ -74,7 +75,8 @@ impl Search {
         self.expanded
     }
 
-    /// The root's proof number and disproof number.
+    /// The root's proof number and disproof number: 0 to 1,000,000,000 (a greater sum counts as that), or 4,294,967,295,
+    /// which is infinite. The first is 0 where the attacker's win is proved, the second where the defender's is.
     pub fn numbers(&self) -> (u32, u32)
         ensures { result ≡ (proof_number self.now.tree, disproof_number self.now.tree) }
     {

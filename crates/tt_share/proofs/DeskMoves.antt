@@ -1,4 +1,4 @@
--- EachView step keeps the rule of the desk.
+-- Each step keeps the rule of the desk.
 use Rattle.std.proofs.Common.{◌≡◌, ℕ, zero, suc, ◌+◌, ◌-◌, ◌%◌, ◌^◌, ◌<◌, ◌≤◌, ◌≢◌, Bool, true, false, ◌||◌, List, [], ◌∷◌, ◌++◌, length, get_or, set, max, sum_by, slice_index, cond, leb, nat_eq, true≢false, refl, sym, ap, ◌∙◌, zero-add, subst, ⊎_elim, arith, zero-le}
 use Rattle.std.proofs.lemmas.Bool.Decides.{nat_tests}
 use Rattle.std.proofs.lemmas.List.Sums.{sum_by_push, sum_by-append}

@@ -6,7 +6,7 @@ use Rattle.tt_share.specs.declared.rule.View.{View}
 use Rattle.tt_share.specs.declared.rule.Plan.{Plan}
 use Rattle.tt_share.specs.Desk.{EachView, SomeView, DeskHolds, spare_count, no_seat}
 
--- how often the number occurrences in the views' lists
+-- how often the number stands in the views' lists
 abbrev pub occurrences : (View → List ℕ) → ℕ → List View → ℕ
 occurrences list number views = sum_by (λ v. count_by (λ n. nat_eq n number) (list v)) views
 
