@@ -63,9 +63,9 @@ pub(crate) fn beside(size: Size, p: usize) -> Places
     requires { p < point_count size }
     ensures { (q : ℕ) → IsOneOf result.above result.left result.right result.below q ↔ IsNeighbour size p q }
 {
-    let columns = usize::from(size.columns());
     let count = size.point_count();
-    let column = p % columns;
+    let columns = usize::from(size.columns());
+    let column = usize::from(p as u16 % size.columns());
     Places {
         above: before(columns <= p, p, columns),
         left: before(0 < column, p, 1),
