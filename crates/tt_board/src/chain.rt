@@ -141,28 +141,6 @@ fn walk(size: Size, points: &Colouring, start: usize, chain: &mut ArrayVec<u16, 
     false
 }
 
-/// Whether the stone on `p` reaches empty, from a list of its chain.
-#[inline(never)]
-fn chain_has_liberty(size: Size, points: &Colouring, p: usize) -> bool
-    requires fits { length points.now ≡ point_count size }
-    requires on_board { p < point_count size }
-    requires stone { entry_at points.now p ≢ None }
-    ensures { IsTrue result ↔ Reaches size points.now p None }
-{
-    let mut chain = ArrayVec::new();
-    walk(size, points, p, &mut chain)
-}
-
-/// Whether the stone on `p` reaches empty.
-pub(crate) fn reaches_empty(size: Size, points: &Colouring, p: usize) -> bool
-    requires fits { length points.now ≡ point_count size }
-    requires on_board { p < point_count size }
-    requires stone { entry_at points.now p ≢ None }
-    ensures { IsTrue result ↔ Reaches size points.now p None }
-{
-    has_liberty(size, points, p) || chain_has_liberty(size, points, p)
-}
-
 /// Empties the points of a list.
 fn lift(points: &mut Colouring, chain: &[u16])
     requires { (q : ℕ) → Contains chain.now q → q < length points.old }
