@@ -37,12 +37,6 @@ lifted_none s c k fits = record {
   whole = λ p q near mine also gone. absurd (none-some k (sym gone ∙ mine));
 }
 
--- what was looked at stays so where more is lifted
-pub looked_kept : (s : Size) (c d e : Colouring) (q : ℕ) → ((x : ℕ) → entry_at d x ≡ None → entry_at e x ≡ None)
-    → Reaches s c q None ⊎ (entry_at d q ≡ None) → Reaches s c q None ⊎ (entry_at e q ≡ None)
-looked_kept s c d e q kept (inl alive) = inl alive
-looked_kept s c d e q kept (inr gone) = inr (kept q gone)
-
 -- the new stone is there when the opponent's are taken
 pub new_stone : (s : Size) (c : Colouring) (k : Colour) (p : ℕ) (d : Colouring) → p < length c → IsLifted s (set c p (Some k)) (other k) d → entry_at d p ≡ Some k
 new_stone s c k p d inside l =

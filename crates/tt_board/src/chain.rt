@@ -2,12 +2,13 @@
 
 ghost use Rattle.std.specs.Prelude.{◌≡◌, ◌≢◌, ℕ, ◌<◌, ◌≤◌, ◌⊎◌, ◌↔◌, length, replicate, false, Some, None, IsTrue, Contains, []};
 ghost use Rattle.tt_sgf.specs.Sizes.{point_count};
+ghost use Rattle.tt_board.specs.Near.{IsOneOf};
 ghost use Rattle.tt_board.specs.Reach.{entry_at, Reaches};
 ghost use Rattle.tt_board.specs.Chain.{IsEnclosed, IsGrowing, IsGrown, IsVisited, IsEmptyAt, IsClosedAt, marks_of, IsLifelessChain, IsChainLifted};
 
 use super::Colour;
 use super::colouring::{Colouring, bit, set_bit};
-use super::near::beside;
+use super::near::{Places, beside};
 use arrayvec::ArrayVec;
 use tt_sgf::Size;
 
@@ -96,14 +97,11 @@ fn is_empty_at(points: &Colouring, place: Option<usize>) -> bool
     }
 }
 
-/// Whether a neighbour of the stone on `p` is empty.
-pub(crate) fn has_liberty(size: Size, points: &Colouring, p: usize) -> bool
-    requires fits { length points.now ≡ point_count size }
-    requires on_board { p < point_count size }
-    requires stone { entry_at points.now p ≢ None }
-    ensures { IsTrue result → Reaches size points.now p None }
+/// Whether one of the places is empty.
+pub(crate) fn has_empty(points: &Colouring, near: Places) -> bool
+    requires { (q : ℕ) → IsOneOf near.above near.left near.right near.below q → q < length points.now }
+    ensures { IsTrue result → (q : ℕ) × IsOneOf near.above near.left near.right near.below q × (entry_at points.now q ≡ None) }
 {
-    let near = beside(size, p);
     if is_empty_at(points, near.above) {
         return true;
     }
@@ -114,6 +112,16 @@ pub(crate) fn has_liberty(size: Size, points: &Colouring, p: usize) -> bool
         return true;
     }
     is_empty_at(points, near.right)
+}
+
+/// Whether a neighbour of the stone on `p` is empty.
+pub(crate) fn has_liberty(size: Size, points: &Colouring, p: usize) -> bool
+    requires fits { length points.now ≡ point_count size }
+    requires on_board { p < point_count size }
+    requires stone { entry_at points.now p ≢ None }
+    ensures { IsTrue result → Reaches size points.now p None }
+{
+    has_empty(points, beside(size, p))
 }
 
 /// Walks the chain of the stone on `start` up to its first liberty, and lists it; whether it has one.

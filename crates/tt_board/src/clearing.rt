@@ -4,15 +4,15 @@
 
 ghost use Rattle.std.specs.Prelude.{◌≡◌, ℕ, ◌<◌, ◌⊎◌, length, Some, None};
 ghost use Rattle.tt_sgf.specs.Sizes.{point_count};
-ghost use Rattle.tt_board.specs.Near.{IsNeighbour};
+ghost use Rattle.tt_board.specs.Near.{IsOneOf};
 ghost use Rattle.tt_board.specs.Reach.{entry_at, Reaches};
 ghost use Rattle.tt_board.specs.Play.{play_of, IsAlive};
 ghost use Rattle.tt_board.specs.Chain.{IsLifted};
 
 use super::Colour;
-use super::chain::{has_liberty, lift_lifeless};
+use super::chain::{has_empty, has_liberty, lift_lifeless};
 use super::colouring::Colouring;
-use super::near::beside;
+use super::near::{Places, beside};
 use tt_sgf::Size;
 
 /// Lifts the chain of `colour` on a place, found on `points`, from `after`, where it has no liberty.
@@ -37,21 +37,25 @@ fn capture_at(
     }
 }
 
-/// The points with the chains of `colour` beside `p` lifted that have no liberty.
-fn capture_beside(size: Size, points: &Colouring, colour: Colour, p: usize) -> Colouring
+/// Lifts the chains of `colour` on the places, found on `points`, from `after`, where they have no liberty.
+fn capture_beside(
+    size: Size,
+    points: &Colouring,
+    colour: Colour,
+    near: Places,
+    after: &mut Colouring,
+)
     requires fits { length points.now ≡ point_count size }
-    requires on_board { p < point_count size }
-    ensures lifted { IsLifted size points.now colour result }
-    ensures looked { (q : ℕ) → IsNeighbour size p q → entry_at points.now q ≡ Some colour
-        → Reaches size points.now q None ⊎ (entry_at result q ≡ None) }
+    requires on_board { (q : ℕ) → IsOneOf near.above near.left near.right near.below q → q < point_count size }
+    requires lifted { IsLifted size points.now colour after.old }
+    ensures still_lifted { IsLifted size points.now colour after.new }
+    ensures looked { (q : ℕ) → IsOneOf near.above near.left near.right near.below q → entry_at points.now q ≡ Some colour
+        → Reaches size points.now q None ⊎ (entry_at after.new q ≡ None) }
 {
-    let mut after = points.copy();
-    let near = beside(size, p);
-    capture_at(size, points, colour, near.above, &mut after);
-    capture_at(size, points, colour, near.below, &mut after);
-    capture_at(size, points, colour, near.left, &mut after);
-    capture_at(size, points, colour, near.right, &mut after);
-    after
+    capture_at(size, points, colour, near.above, after);
+    capture_at(size, points, colour, near.below, after);
+    capture_at(size, points, colour, near.left, after);
+    capture_at(size, points, colour, near.right, after);
 }
 
 /// The points after a move of `colour` on `p`.
@@ -65,11 +69,13 @@ pub(crate) fn put(size: Size, points: &Colouring, colour: Colour, p: usize) -> C
     let mut placed = points.copy();
     placed.set(p, Some(colour));
     let opponent = colour.other();
-    let taken = capture_beside(size, &placed, opponent, p);
-    if has_liberty(size, &taken, p) {
-        return taken;
+    let near = beside(size, p);
+    let mut after = placed.copy();
+    capture_beside(size, &placed, opponent, near, &mut after);
+    if has_empty(&after, near) {
+        return after;
     }
-    let mut after = taken.copy();
-    capture_at(size, &taken, colour, Some(p), &mut after);
+    let taken = after.copy();
+    lift_lifeless(size, &taken, p, &mut after);
     after
 }
