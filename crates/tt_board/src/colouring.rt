@@ -169,15 +169,15 @@ impl Colouring {
         self.count == other.count
     }
 
-    /// From a number on, the entries are alike up to the answer: the first point where they differ, or 384. Contracts say
-    /// that they are alike, which is all that keeping boards rests on.
+    /// From a number on, the entries are alike up to the answer: the first point where they differ, or a number past the
+    /// last point. Contracts say that they are alike, which is all that keeping boards rests on.
     pub(crate) fn first_apart(&self, other: &Colouring, from: usize) -> usize
         requires { from ≤ 384 }
         ensures after { from ≤ result }
         ensures alike { (q : ℕ) → from ≤ q → q < result → entry_at self.now q ≡ entry_at other.now q }
     {
         let mut n = from;
-        while n < 384 {
+        while n < self.count {
             let apart = words_apart(
                 self.black[n / 64],
                 other.black[n / 64],
@@ -190,7 +190,7 @@ impl Colouring {
             }
             n = n / 64 * 64 + 64;
         }
-        384
+        n
     }
 
     /// The entries as an array; places past the last point hold none.
