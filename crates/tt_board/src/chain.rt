@@ -1,6 +1,6 @@
 //! Chains without liberties: found from one of their stones, and lifted.
 
-ghost use Rattle.std.specs.Prelude.{◌≡◌, ◌≢◌, ℕ, ◌<◌, ◌≤◌, ◌⊎◌, ◌↔◌, length, replicate, false, Some, None, IsTrue, Contains, []};
+ghost use Rattle.std.specs.Prelude.{◌≡◌, ◌≢◌, ℕ, ◌<◌, ◌≤◌, ◌⊎◌, length, replicate, false, Some, None, IsTrue, Contains, []};
 ghost use Rattle.tt_sgf.specs.Sizes.{point_count};
 ghost use Rattle.tt_board.specs.Near.{IsOneOf};
 ghost use Rattle.tt_board.specs.Reach.{entry_at, Reaches};
