@@ -9,3 +9,4 @@ pub mod NodeLemmas
 pub mod RecordLemmas
 pub mod ProblemLemmas
 pub mod OpenProblems
+pub mod SizedProblems

@@ -20,11 +20,11 @@ use Rattle.tt_game.specs.Records.{and_then, begin_line, step_node}
 abbrev IsOpen : Standing → Type 0
 IsOpen p = winner_of p.frame p.state ≡ None
 
-step_made : {A B : Type 0} (r : Result A GameFault) (f : A → Result B GameFault) (y : B) → and_then r f ≡ Ok y → (x : A) × (f x ≡ Ok y)
-step_made (Ok x) f y e = (x, e)
+pub step_made : {A B : Type 0} (r : Result A GameFault) (f : A → Result B GameFault) (y : B) → and_then r f ≡ Ok y → (x : A) × (r ≡ Ok x) × (f x ≡ Ok y)
+step_made (Ok x) f y e = (x, refl, e)
 step_made (Err c) f y e = let bad : Err c ≡ Ok y = e in cc
 
-either : {A : Type 0} (b : Bool) (x y z : A) → cond b x y ≡ z → (x ≡ z) ⊎ (y ≡ z)
+pub either : {A : Type 0} (b : Bool) (x y z : A) → cond b x y ≡ z → (x ≡ z) ⊎ (y ≡ z)
 either true x y z e = inl e
 either false x y z e = inr e
 
@@ -53,11 +53,11 @@ unfolding run_to_mark
 open_nodes r [] q h = let bad : Err _ ≡ Ok q = h in cc
 open_nodes r (n ∷ ns) q h =
     let made = step_made (step_node r n) _ q h in
-    elim (either (has TR n) _ _ _ made.1) [
+    elim (either (has TR n) _ _ _ made.2) [
       | inl e ↦ open_at made.0.game (set_named made.0.game.size TR n) (region_of made.0.game.size n) q e
       | inr e ↦ open_nodes made.0 ns q e
     ]
 
 pub problem_open : (ns : List Node) (q : Standing) → problem_of ns ≡ Ok q → winner_of q.frame q.state ≡ None
 unfolding problem_of
-problem_open ns q h = let made = step_made (begin_line ns) _ q h in open_nodes made.0 ns q made.1
+problem_open ns q h = let made = step_made (begin_line ns) _ q h in open_nodes made.0 ns q made.2

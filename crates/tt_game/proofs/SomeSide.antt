@@ -1,6 +1,7 @@
 -- One side forces a win at every state: the colourings that are new run out.
 use Rattle.std.proofs.Common.{◌≡◌, ◌≢◌, ℕ, zero, suc, ◌+◌, ◌-◌, ◌*◌, ◌^◌, ◌<◌, ◌≤◌, ◌⊎◌, List, [], ◌∷◌, ◌++◌, length, get_or, Contains, Option, Some, None, true, inl, inr, refl, sym, subst, ◌∙◌, arith}
 use Rattle.std.proofs.lemmas.Bool.{cases_eq, cases_lt, cases_Bool, false≢true, true≢false, cond-true, cond-false, eqb-false, ne_eqb}
+use Rattle.std.proofs.lemmas.Option.{none-some}
 use Rattle.std.proofs.lemmas.List.{length_push}
 use Rattle.std.proofs.lemmas.List.Elements.{Contains-push, Contains-append_left, All-push, All-get_or, Contains-get_or}
 use Rattle.tt_board.specs.declared.Colour.{Colour}
@@ -12,9 +13,10 @@ use Rattle.tt_game.specs.declared.frame.Side.TheVariants.{Attacker, Defender}
 use Rattle.tt_game.specs.declared.turns.Turn.{Turn}
 use Rattle.tt_game.specs.declared.turns.Turn.TheVariants.{Play, Pass}
 use Rattle.tt_game.specs.declared.frame.Frame.{Frame}
-use Rattle.tt_game.specs.Game.{State, history, winner_of, made, after, opponent, IsLegal, Forces, colour_of}
+use Rattle.tt_game.specs.Game.{State, Value, history, winner_of, made, after, opponent, IsLegal, Forces, HasValue, colour_of, killed, lives}
 use Rattle.tt_game.specs.Legality.{legal}
-use Rattle.tt_game.specs.Laws.{IsState, SomeSideForces}
+use Rattle.tt_game.specs.Laws.{IsState, OneValue, SomeSideForces, TurnsKeepStates}
+use Rattle.tt_game.proofs.OneSide.{not_both}
 use Rattle.tt_game.proofs.ValueLemmas.{colourings_of, count_less, complete, length-colourings_of, new_count, is_new, is_new_says}
 
 -- fewer colourings are new once one more is in the history
@@ -141,3 +143,28 @@ fits f s is =
 
 pub some_side : SomeSideForces
 some_side f s is = valued (2 * 3 ^ point_count f.size) f s is (fits f s is)
+
+-- a legal turn leaves a state
+pub state_after : TurnsKeepStates
+state_after f s t is l = elim (won f s) [
+  | inl w ↦ absurd (none-some w.0 (sym (nobody_won f s t l) ∙ w.1))
+  | inr on ↦ (smaller f s t is on.1 l).0
+]
+  where
+    nobody_won : (f : Frame) (s : State) (t : Turn) → IsLegal f s t → winner_of f s ≡ None
+    nobody_won f s Pass l = l
+    nobody_won f s (Play p) l = l.0
+
+-- a state has a value
+pub state_valued : OneValue
+state_valued f s is = elim (some_side f s is) [
+  | inl a ↦ inl ((2 * 3 ^ point_count f.size, a), a)
+  | inr d ↦ inr (λ a. not_both a.0 (2 * 3 ^ point_count f.size) f s a.1 d, d)
+]
+
+-- and no other
+pub one_value : (f : Frame) (s : State) (v w : Value) → HasValue f s v → HasValue f s w → v ≡ w
+one_value f s killed killed h k = refl
+one_value f s killed lives h k = absurd (k h)
+one_value f s lives killed h k = absurd (h k)
+one_value f s lives lives h k = refl

@@ -1,9 +1,9 @@
--- Laws of the game: not both sides force a win, one does, and a problem has one value.
+-- Laws of the game: not both sides force a win, one does, and every problem has one value.
 use Rattle.std.specs.Prelude.{◌≡◌, ℕ, ◌*◌, ◌^◌, ◌≤◌, ◌⊎◌, ◌↔◌, length, All, Contains, List, None, Ok}
 use Rattle.tt_sgf.specs.Sizes.{point_count}
 use Rattle.tt_game.specs.declared.frame.Side.TheVariants.{Attacker, Defender}
 use Rattle.tt_game.specs.declared.frame.Frame.{Frame}
-use Rattle.tt_game.specs.Game.{State, history, winner_of, IsLegal, Forces, HasValue, killed, lives}
+use Rattle.tt_game.specs.Game.{State, Value, history, winner_of, after, IsLegal, Forces, HasValue, killed, lives}
 use Rattle.tt_game.specs.Line.{Standing}
 use Rattle.tt_game.specs.Problems.{problem_of}
 use Rattle.tt_sgf.specs.declared.nodes.Node.{Node}
@@ -23,10 +23,18 @@ pub record IsState (f : Frame) (s : State) : Type 0 where
 abbrev pub SomeSideForces : Type 0
 SomeSideForces = (f : Frame) (s : State) → IsState f s → Forces f Attacker (2 * 3 ^ point_count f.size) s ⊎ Forces f Defender (2 * 3 ^ point_count f.size) s
 
+-- the state has one of the two values, and the side that it favours forces its win within as many turns
+abbrev pub IsValued : Frame → State → Type 0
+IsValued f s =
+    (HasValue f s killed × Forces f Attacker (2 * 3 ^ point_count f.size) s) ⊎ (HasValue f s lives × Forces f Defender (2 * 3 ^ point_count f.size) s)
+
 -- every state has one of the two values, and the side that it favours forces its win within as many turns
 abbrev pub OneValue : Type 0
-OneValue = (f : Frame) (s : State) → IsState f s
-    → (HasValue f s killed × Forces f Attacker (2 * 3 ^ point_count f.size) s) ⊎ (HasValue f s lives × Forces f Defender (2 * 3 ^ point_count f.size) s)
+OneValue = (f : Frame) (s : State) → IsState f s → IsValued f s
+
+-- a legal turn leads from a state to a state
+abbrev pub TurnsKeepStates : Type 0
+TurnsKeepStates = (f : Frame) (s : State) (t : Turn) → IsState f s → IsLegal f s t → IsState f (after f s t)
 
 -- the list of legal turns holds the legal turns and no others, in rising order, and at most as many as a board has
 abbrev pub LegalTurnsListed : Type 0
@@ -35,3 +43,13 @@ LegalTurnsListed = (f : Frame) (s : State) → ((t : Turn) → Contains (legal_t
 -- nobody has won at a problem: its target has a stone, and no pass was made
 abbrev pub ProblemsOpen : Type 0
 ProblemsOpen = (nodes : List Node) (p : Standing) → problem_of nodes ≡ Ok p → winner_of p.frame p.state ≡ None
+
+-- the state of a problem is one as the game has them
+abbrev pub ProblemsAreStates : Type 0
+ProblemsAreStates = (nodes : List Node) (p : Standing) → problem_of nodes ≡ Ok p → IsState p.frame p.state
+
+-- a problem has one of the two values and not the other, and the side that it favours forces its win within twice as
+-- many turns as there are colourings
+abbrev pub ProblemsHaveValues : Type 0
+ProblemsHaveValues = (nodes : List Node) (p : Standing) → problem_of nodes ≡ Ok p
+    → IsValued p.frame p.state × ((v w : Value) → HasValue p.frame p.state v → HasValue p.frame p.state w → v ≡ w)

@@ -1,0 +1,162 @@
+-- The colourings of a problem fit its board, and no pass was made.
+use Rattle.std.proofs.Common.{◌≡◌, ℕ, ◌+◌, List, [], ◌∷◌, length, inl, inr, Option, Some, None, Ok, Err, subst, ◌==◌, ◌&&◌, nat_le, arith}
+use Rattle.std.specs.Prelude.{All, replicate}
+use Rattle.std.specs.FinSet as set
+use Rattle.std.proofs.lemmas.List.{length-replicate}
+use Rattle.std.proofs.lemmas.List.Elements.{All-nil, All-push}
+use Rattle.tt_sgf.specs.declared.size.Size.{Size}
+use Rattle.tt_sgf.specs.declared.size.PointOrPass.{PointOrPass}
+use Rattle.tt_sgf.specs.declared.nodes.Node.{Node}
+use Rattle.tt_sgf.specs.Sizes.{point_count, sized}
+use Rattle.tt_sgf.specs.Values.{point_of, trimmed}
+use Rattle.tt_board.specs.declared.Colour.{Colour}
+use Rattle.tt_board.specs.declared.Colour.TheVariants.{Black, White}
+use Rattle.tt_board.specs.Position.{Colouring}
+use Rattle.tt_board.specs.Reach.{entry_at}
+use Rattle.tt_board.specs.Play.{Points, length-placed, length-play_of, placed, same_colour}
+use Rattle.tt_game.specs.declared.faults.Why.{Why}
+use Rattle.tt_game.specs.declared.records.Replay.{Replay}
+use Rattle.tt_game.specs.declared.turns.Turn.{Turn}
+use Rattle.tt_game.specs.declared.turns.Turn.TheVariants.{Play, Pass}
+use Rattle.tt_game.specs.Games.{Played, all_of, begun_with, empty_game, made_by, refusal_of, turned}
+use Rattle.tt_game.specs.Laws.{IsState, ProblemsAreStates}
+use Rattle.tt_game.specs.Line.{Standing}
+use Rattle.tt_game.specs.Nodes.{AB, AE, AW, B, GM, PL, SZ, TR, W, apart, colour_named, has, is_go, is_setup, moves_in, set_named, size_named, values_of}
+use Rattle.tt_game.specs.Problems.{least_from, posed, problem_at, problem_of, problem_on, problem_with, region_of, run_to_mark}
+use Rattle.tt_game.specs.Records.{all_alive, as_turn, begin_at, begin_line, begin_node, begun, go_on, move_of, set_up_by, step_node, turn_by, turn_named, turn_of}
+use Rattle.tt_game.proofs.OpenProblems.{either, step_made}
+
+-- each colouring of the game has an entry for each point
+abbrev IsSized : Played → Type 0
+IsSized g = All (λ c. length c ≡ point_count g.size) (all_of g)
+
+-- a history of one colouring
+alone : (size : Size) (c : Colouring) → length c ≡ point_count size → All (λ d. length d ≡ point_count size) (c ∷ [])
+alone size c fits = All-push (λ d. length d ≡ point_count size) [] c (All-nil (λ d. length d ≡ point_count size)) fits
+
+sized_turned : (g : Played) (t : Turn) → IsSized g → IsSized (turned g t)
+sized_turned g Pass h = h
+sized_turned g (Play p) h = All-push (λ c. length c ≡ point_count g.size) (all_of g) (made_by g p) h (length-play_of g.size g.present g.to_move p)
+
+-- ---- turns
+
+sized_on : (r : Replay) (t : Turn) (o : Option Why) (q : Replay) → go_on r t o ≡ Ok q → IsSized r.game → IsSized q.game
+sized_on r t None q e h =
+    let same : record { game = turned r.game t; turns = r.turns + 1 } ≡ q = cc in
+    subst (λ (x : Replay). IsSized x.game) same (sized_turned r.game t h)
+sized_on r t (Some why) q e h = let bad : Err _ ≡ Ok q = e in cc
+
+sized_turn : (r : Replay) (t : Turn) (q : Replay) → turn_of r t ≡ Ok q → IsSized r.game → IsSized q.game
+sized_turn r t q e h = elim (either (r.game.passes == 2) _ _ _ e) [
+  | inl over ↦ let bad : Err _ ≡ Ok q = over in cc
+  | inr on ↦ elim (either (nat_le 2000 r.turns) _ _ _ on) [
+    | inl many ↦ let bad : Err _ ≡ Ok q = many in cc
+    | inr few ↦ sized_on r t (refusal_of r.game t) q few h
+  ]
+]
+
+sized_by : (r : Replay) (k : Colour) (t : Turn) (q : Replay) → turn_by r k t ≡ Ok q → IsSized r.game → IsSized q.game
+sized_by r k t q e h = elim (either (same_colour r.game.to_move k) _ _ _ e) [
+  | inl its ↦ sized_turn r t q its h
+  | inr others ↦
+      let passed = step_made (turn_of r Pass) (λ x. turn_of x t) q others in
+      sized_turn passed.0 t q passed.2 (sized_turn r Pass passed.0 passed.1 h)
+]
+
+sized_named : (r : Replay) (k : Colour) (o : Option PointOrPass) (q : Replay) → turn_named r k o ≡ Ok q → IsSized r.game → IsSized q.game
+sized_named r k None q e h = let bad : Err _ ≡ Ok q = e in cc
+sized_named r k (Some v) q e h = sized_by r k (as_turn v) q e h
+
+sized_move : (r : Replay) (vs ws : List (List ℕ)) (q : Replay) → move_of r vs ws ≡ Ok q → IsSized r.game → IsSized q.game
+sized_move r (v ∷ vs) ws q e h = sized_named r Black (point_of r.game.size (trimmed v)) q e h
+sized_move r [] (w ∷ ws) q e h = sized_named r White (point_of r.game.size (trimmed w)) q e h
+sized_move r [] [] q e h = let same : r ≡ q = cc in subst (λ (x : Replay). IsSized x.game) same h
+
+-- ---- setup
+
+sized_begun : (r : Replay) (c : Colouring) (k : Colour) (q : Replay) → begun r c k ≡ Ok q → length c ≡ point_count r.game.size → IsSized q.game
+sized_begun r c k q e fits = elim (either (all_alive r.game.size c) _ _ _ e) [
+  | inl alive ↦
+      let same : record { game = begun_with r.game.size c k; turns = r.turns } ≡ q = cc in
+      subst (λ (x : Replay). IsSized x.game) same (alone r.game.size c fits)
+  | inr lifeless ↦ let bad : Err _ ≡ Ok q = lifeless in cc
+]
+
+sized_set_up : (r : Replay) (black white bare : Option Points) (k : Option Colour) (q : Replay) → set_up_by r black white bare k ≡ Ok q → IsSized q.game
+sized_set_up r None white bare k q e = let bad : Err _ ≡ Ok q = e in cc
+sized_set_up r (Some black) None bare k q e = let bad : Err _ ≡ Ok q = e in cc
+sized_set_up r (Some black) (Some white) None k q e = let bad : Err _ ≡ Ok q = e in cc
+sized_set_up r (Some black) (Some white) (Some bare) None q e = let bad : Err _ ≡ Ok q = e in cc
+sized_set_up r (Some black) (Some white) (Some bare) (Some k) q e = elim (either (apart black white && apart black bare && apart white bare) _ _ _ e) [
+  | inl once ↦ sized_begun r (placed r.game.size r.game.present black white bare) k q once (length-placed r.game.size r.game.present black white bare)
+  | inr twice ↦ let bad : Err _ ≡ Ok q = twice in cc
+]
+
+-- ---- nodes
+
+sized_step : (r : Replay) (n : Node) (q : Replay) → step_node r n ≡ Ok q → IsSized r.game → IsSized q.game
+unfolding step_node
+sized_step r n q e h = elim (either (is_setup n) _ _ _ e) [
+  | inl setup ↦ elim (either (nat_le 1 (moves_in n)) _ _ _ setup) [
+    | inl mixed ↦ let bad : Err _ ≡ Ok q = mixed in cc
+    | inr pure ↦ sized_set_up r (set_named r.game.size AB n) (set_named r.game.size AW n) (set_named r.game.size AE n) (colour_named (values_of PL n.properties)) q pure
+  ]
+  | inr moves ↦ elim (either (nat_le 2 (moves_in n)) _ _ _ moves) [
+    | inl mixed ↦ let bad : Err _ ≡ Ok q = mixed in cc
+    | inr pure ↦ sized_move r (values_of B n.properties) (values_of W n.properties) q pure h
+  ]
+]
+
+sized_empty : (o : Option Size) (q : Replay) → begin_at o ≡ Ok q → IsSized q.game
+sized_empty None q e = let bad : Err _ ≡ Ok q = e in cc
+sized_empty (Some size) q e =
+    let same : record { game = empty_game size; turns = 0 } ≡ q = cc in
+    subst (λ (x : Replay). IsSized x.game) same (alone size (replicate (point_count size) None) (length-replicate (point_count size) None))
+
+sized_begin : (ns : List Node) (q : Replay) → begin_line ns ≡ Ok q → IsSized q.game
+unfolding begin_node
+sized_begin [] q e = sized_empty (sized 19 19) q e
+sized_begin (n ∷ ns) q e = elim (either (is_go (values_of GM n.properties)) _ _ _ e) [
+  | inl go ↦ sized_empty (size_named (values_of SZ n.properties)) q go
+  | inr other ↦ let bad : Err _ ≡ Ok q = other in cc
+]
+
+-- ---- problems
+
+abbrev IsStanding : Standing → Type 0
+IsStanding p = IsState p.frame p.state
+
+state_with : (s : Played) (region : Points) (p : ℕ) (o : Option Colour) (q : Standing) → problem_with s region p o ≡ Ok q → IsSized s → IsStanding q
+state_with s region p None q e h = let bad : Err _ ≡ Ok q = e in cc
+state_with s region p (Some k) q e h =
+    let same : posed s region p k ≡ q = cc in
+    subst IsStanding same (record { sized = h; passes = omega arith })
+
+state_on : (s : Played) (region : Points) (o : Option ℕ) (q : Standing) → problem_on s region o ≡ Ok q → IsSized s → IsStanding q
+state_on s region None q e h = let bad : Err _ ≡ Ok q = e in cc
+state_on s region (Some p) q e h = state_with s region p (entry_at s.present p) q e h
+
+state_at : (s : Played) (marks region : Option Points) (q : Standing) → problem_at s marks region ≡ Ok q → IsSized s → IsStanding q
+state_at s None region q e h = let bad : Err _ ≡ Ok q = e in cc
+state_at s (Some marks) None q e h = let bad : Err _ ≡ Ok q = e in cc
+state_at s (Some marks) (Some region) q e h = elim (either (nat_le 2 (set.len marks)) _ _ _ e) [
+  | inl several ↦ let bad : Err _ ≡ Ok q = several in cc
+  | inr one ↦ state_on s region (least_from marks 361 0) q one h
+]
+
+state_nodes : (r : Replay) (ns : List Node) (q : Standing) → run_to_mark r ns ≡ Ok q → IsSized r.game → IsStanding q
+unfolding run_to_mark
+state_nodes r [] q e h = let bad : Err _ ≡ Ok q = e in cc
+state_nodes r (n ∷ ns) q e h =
+    let made = step_made (step_node r n) _ q e in
+    let next = sized_step r n made.0 made.1 h in
+    elim (either (has TR n) _ _ _ made.2) [
+      | inl mark ↦ state_at made.0.game (set_named made.0.game.size TR n) (region_of made.0.game.size n) q mark next
+      | inr on ↦ state_nodes made.0 ns q on next
+    ]
+
+pub problem_state : ProblemsAreStates
+unfolding problem_of
+problem_state ns q e =
+    let made = step_made (begin_line ns) _ q e in
+    state_nodes made.0 ns q made.2 (sized_begin ns made.0 made.1)
