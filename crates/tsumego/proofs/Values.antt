@@ -1,15 +1,16 @@
 -- Lemmas on what a verdict says of the problem's value.
-use Rattle.std.proofs.Common.{◌≡◌, ◌+◌, ◌*◌, ◌/◌, ◌%◌, ℕ, zero, suc, Bool, List, [], ◌∷◌, ◌++◌, Option, None, Some, Ok, refl, sym, ap, ap₂, ◌∙◌, arith, append_assoc, subst}
+use Rattle.std.proofs.Common.{◌≡◌, ◌+◌, ◌*◌, ◌^◌, ◌/◌, ◌%◌, ℕ, zero, suc, Bool, List, [], ◌∷◌, ◌++◌, Option, None, Some, Ok, inl, inr, refl, sym, ap, ap₂, ◌∙◌, arith, append_assoc, subst}
 use Rattle.std.proofs.lemmas.List.{append_cancel_left}
 use Rattle.std.proofs.Math.Nat.{div-add-mod}
+use Rattle.tt_sgf.specs.Sizes.{point_count}
 use Rattle.tt_sgf.specs.declared.size.Size.{Size}
 use Rattle.tt_game.specs.declared.frame.Frame.{Frame}
 use Rattle.tt_game.specs.declared.frame.Side.{Side}
 use Rattle.tt_game.specs.declared.frame.Side.TheVariants.{Attacker, Defender}
 use Rattle.tt_game.specs.declared.turns.Turn.{Turn}
 use Rattle.tt_game.specs.declared.turns.Turn.TheVariants.{Play, Pass}
-use Rattle.tt_game.specs.Game.{HasValue, State, after}
-use Rattle.tt_game.specs.Laws.{OneSideForces}
+use Rattle.tt_game.specs.Game.{Forces, HasValue, State, after}
+use Rattle.tt_game.specs.Laws.{IsValued, OneSideForces, ProblemsHaveValues}
 use Rattle.tt_game.specs.Line.{Standing}
 use Rattle.tt_search.specs.declared.limits.Limits.{Limits}
 use Rattle.tt_sgf.specs.declared.nodes.Node.{Node}
@@ -95,6 +96,13 @@ verdict_of limits cert nodes p text is solved =
     let same : text ≡ h.0 = the_text text h.0 h.1 in
     subst (λ (x : List ℕ). Verdict p limits cert x) (sym same) h.2
 
+-- the side that a value favours forces its win within the bound
+forced_within : (f : Frame) (side : Side) (s : State) → IsValued f s → HasValue f s (value_for side) → Forces f side (2 * 3 ^ point_count f.size) s
+forced_within f Attacker s (inl k) h = k.1
+forced_within f Attacker s (inr l) h = absurd (l.0 h)
+forced_within f Defender s (inl k) h = absurd (h k.0)
+forced_within f Defender s (inr l) h = l.1
+
 module _ (one : OneSideForces) where
   forced_value : (f : Frame) (side : Side) (s : State) → CanForce f side s → HasValue f s (value_for side)
   forced_value f Attacker s h = h
@@ -110,6 +118,7 @@ module _ (one : OneSideForces) where
       let is : IsFirst p side (Some t) = subst (λ (o : Option Turn). IsFirst p side o) (firsts_same size said.first t said.lines rest said.text) said.first_is in
       (is.0, is.1, forced_value p.frame side (after p.frame p.state t) is.2)
 
-  pub answers_are_values : AnswersAreValues
-  answers_are_values limits cert nodes p side rest is solved =
-      are_values p limits cert side rest (verdict_of limits cert nodes p (side_word side ++ rest) is solved)
+  pub answers_are_values : ProblemsHaveValues → AnswersAreValues
+  answers_are_values valued limits cert nodes p side rest is solved =
+      let value = are_values p limits cert side rest (verdict_of limits cert nodes p (side_word side ++ rest) is solved) in
+      (value, forced_within p.frame side p.state (valued nodes p is).0 value)

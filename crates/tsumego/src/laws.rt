@@ -40,9 +40,11 @@ pub fn no_first_turn()
     ensures { NoFirstTurn }
 {}
 
-/// What `solve` answers on the problem that a main line is, where it names a side, is that problem's value.
+/// What `solve` answers on the problem that a main line is, where it names a side, is that problem's value; and that
+/// side forces its win within twice as many turns as the board has colourings.
 pub fn answers_are_values()
     ensures { AnswersAreValues }
 {
     tt_game::laws::l2();
+    tt_game::laws::problems_have_values();
 }
