@@ -19,8 +19,8 @@ use tt_game::{Line, Side};
 use tt_proof::Proof;
 use tt_sgf::NoMemory;
 
-/// How a run ends: with a proof at the search's line, or stuck, with the search as it stands then. The
-/// search is missing only for want of memory.
+/// How a run ends: with a proof at the search's line, or stuck, with the search as it stands then. A run that is stuck
+/// always holds its search; there is none where a caller has dropped it, or was refused memory before a search began.
 #[derive(Drop)]
 pub enum End {
     Settled(Proof),
