@@ -1,6 +1,6 @@
 //! Where a search keeps the proofs of settled nodes, and looks for them again.
 
-ghost use Rattle.std.specs.Prelude.{◌≡◌, ◌≢◌, ℕ, ◌+◌, ◌↔◌, IfOk, IfSome};
+ghost use Rattle.std.specs.Prelude.{◌≡◌, ◌≢◌, ℕ, ◌+◌, ◌↔◌, Ok, None, IfOk, IfSome};
 ghost use Rattle.tt_search.specs.Stores.{IsAnswer};
 ghost use Rattle.tt_search.specs.declared.store.Kept.TheVariants.{Stored, Full};
 
@@ -51,7 +51,7 @@ pub trait Store {
         ensures capacity { capacity self.new ≡ capacity self.old };
 }
 
-/// A store that keeps nothing.
+/// A store that keeps nothing and finds nothing. It takes no memory.
 #[derive(Clone, Copy, Debug, Default)]
 pub struct NoStore;
 
@@ -70,7 +70,9 @@ impl Store for NoStore {
         0
     }
 
-    fn find(&mut self, line: &Line, s: Side) -> Result<Option<Arc<Proof>>, NoMemory> {
+    fn find(&mut self, line: &Line, s: Side) -> Result<Option<Arc<Proof>>, NoMemory>
+        ensures none { result ≡ Ok None }
+    {
         Ok(None)
     }
 
