@@ -20,6 +20,7 @@ fn usable<S: Store>(
     ensures usable { IfOk result (λ o. IfSome o (λ p. IsUsable room line.old p.value)) }
     ensures line { line.new ≡ line.old }
     ensures may { IfOk result (λ o. IfSome o (λ _. S.may_answer)) }
+    ensures kept { S.kept store.new ≡ S.kept store.old }
 {
     let Some(proof) = store.find(line, side)? else {
         return Ok(None);
@@ -42,6 +43,7 @@ pub(crate) fn closing<S: Store>(
     ensures usable { IfOk result (λ o. IfSome o (λ p. IsUsable room line.old p.value)) }
     ensures line { line.new ≡ line.old }
     ensures may { IfOk result (λ o. IfSome o (λ _. S.may_answer)) }
+    ensures kept { S.kept store.new ≡ S.kept store.old }
 {
     if let Some(proof) = usable(line, room, Side::Attacker, store)? {
         return Ok(Some(proof));

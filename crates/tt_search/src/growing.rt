@@ -11,7 +11,7 @@ ghost use Rattle.tt_search.specs.Edges.{grown_in, child_at};
 ghost use Rattle.tt_search.specs.Sprouting.{IsFreshAt, Sprouts, StepsBelow};
 ghost use Rattle.tt_search.specs.Taken.{Taken};
 ghost use Rattle.tt_search.specs.Steady.{IsLeft, AreSteps};
-ghost use Rattle.tt_search.specs.declared.limits.Step.TheVariants.{Expanded, Closed};
+ghost use Rattle.tt_search.specs.declared.limits.Step.TheVariants.{Expanded, Closed, Stuck};
 
 use crate::closing::closing;
 use crate::edges::{Edge, Mark};
@@ -56,6 +56,7 @@ fn leaf_step<S: Store>(
     requires open { winner_of line.old.frame line.old.state ≡ None }
     ensures line { line.new ≡ line.old }
     ensures may { result.0 ≡ Closed → S.may_answer }
+    ensures kept { S.kept store.new ≡ S.kept store.old }
     ensures taken { Taken (left == 0) room line.old.frame line.old.state fresh result.0 result.1 }
 {
     match closing(line, room, store) {
@@ -88,7 +89,8 @@ fn left_after(step: Step, left: u32) -> u32
     }
 }
 
-/// A step at a fresh child, whose node then is put among those that have grown.
+/// A step at a fresh child, whose node then is put among those that have grown. There is room for the node before its proof
+/// is offered, so none is kept of a node that the search can't hold.
 fn sprout<S: Store>(
     alloc: Global,
     line: &mut Line,
@@ -105,6 +107,7 @@ fn sprout<S: Store>(
     requires there { IsFreshAt place edges.old.items }
     ensures line { line.new ≡ line.old }
     ensures may { result ≡ Closed → S.may_answer }
+    ensures kept { (reason : _) → result ≡ Stuck reason → S.kept store.new ≡ S.kept store.old }
     ensures whole { grown_in edges.new.items ≡ length grown.new.items }
     ensures sprouts { Sprouts room line.old.frame line.old.state place edges.old.items grown.old.items left.old result edges.new.items grown.new.items left.new }
 {

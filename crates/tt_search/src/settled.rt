@@ -83,6 +83,7 @@ impl Node {
     )
         requires partial { IsPartialTree line.now.frame line.now.state self.now }
         requires fits { FitsIn line.now.frame.size 512 self.now }
+        ensures undecided { IsUndecided self.now → S.kept store.new ≡ S.kept store.old }
     {
         let Some(side) = self.settled_for() else {
             return;

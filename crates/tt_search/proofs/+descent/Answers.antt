@@ -5,10 +5,11 @@ use Rattle.tt_game.specs.Line.{Standing}
 use Rattle.tt_search.specs.Shape.{shape, IsWhole}
 use Rattle.tt_search.specs.Children.{children_of}
 use Rattle.tt_search.specs.Edges.{mark_of, turns_of, trees_of, grown_in, child_at}
-use Rattle.tt_search.specs.PartialTree.{PartialTree, expanded}
+use Rattle.tt_search.specs.PartialTree.{PartialTree, fresh, expanded}
 use Rattle.tt_search.specs.Numbers.{IsUndecided, number}
 use Rattle.tt_search.specs.Growing.{IsPartialTree}
 use Rattle.tt_search.specs.Fits.{FitsIn}
+use Rattle.tt_search.specs.Taken.{Taken}
 use Rattle.tt_search.specs.Steady.{AreSteps}
 use Rattle.tt_search.specs.Sprouting.{StepsBelow}
 use Rattle.tt_search.specs.declared.limits.Step.{Step}
@@ -165,3 +166,17 @@ pub node::Node::round-offer-requires-in-Expanded-step-clause-fits : goal.node::N
 node::Node::round-offer-requires-in-Expanded-step-clause-fits g t c =
     let nobody : winner_of c.args.line.now.frame c.args.line.now.state ≡ None = subst (IsPartialTree c.args.line.now.frame c.args.line.now.state) (sym c.self.view_is ∙ ap shape c.in-Fresh.is) c.requires.partial in
     (leaf_offerable (c.args.left.now == 0) c.args.room c.args.line.now c.leaf_step-step.new.line c.leaf_step-step.result.0 c.leaf_step-step.result.1 c.leaf_step-step.ensures.line nobody c.in-Expanded-step.is c.leaf_step-step.ensures.taken).1
+
+pub node::Node::round-returns-after-step-clause-steps : goal.node::Node::round-returns-after-step-clause-steps
+node::Node::round-returns-after-step-clause-steps g t c =
+    let here : c.args.self.now ≡ fresh = sym c.self.view_is ∙ ap shape c.in-Fresh.is in
+    let taken = subst (λ (old : PartialTree). Taken (c.args.left.now == 0) c.args.room c.args.line.now.frame c.args.line.now.state old c.leaf_step-step.result.0 c.leaf_step-step.result.1) (sym here) c.leaf_step-step.ensures.taken in
+    record {
+      how_many = 0;
+      before = c.args.self.now;
+      left_before = c.args.left.now;
+      steady = (refl, refl);
+      one = λ e. refl;
+      taken = subst (λ (new : PartialTree). Taken (c.args.left.now == 0) c.args.room c.args.line.now.frame c.args.line.now.state c.args.self.now c.leaf_step-step.result.0 new) (sym c.node.view_is) taken;
+      counted = c.left_after.ensures;
+    }

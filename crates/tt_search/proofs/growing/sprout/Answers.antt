@@ -1,4 +1,4 @@
-use Rattle.std.proofs.Common.{◌≡◌, ◌∙◌, ◌==◌, length, take, insert, sym, ap, arith}
+use Rattle.std.proofs.Common.{rules, ◌≡◌, ◌∙◌, ◌==◌, length, take, insert, sym, ap, arith}
 use Rattle.tt_search.specs.Edges.{turn_of, grown_in}
 use Rattle.tt_search.proofs.Places.{fresh_there, rank_within}
 use Rattle.tt_search.proofs.Sprouted.{stays, stays_for_memory, leaf_offerable, put, put_whole}
@@ -15,6 +15,7 @@ pub returns-then-is_err : goal.returns-then-is_err
 returns-then-is_err g c = record {
   line = c.leaf_step-step.ensures.line;
   may = λ e. cc;
+  kept = λ reason e. c.leaf_step-step.ensures.kept;
   whole = c.requires.whole ∙ ap length (sym c.reserve_exact.ensures.items);
   sprouts = stays_for_memory c.args.room c.args.line.now.frame c.args.line.now.state c.args.place c.args.edges.now.items c.args.grown.now.items c.reserve_exact.new.self.items c.args.left.now c.requires.there c.reserve_exact.ensures.items;
 }
@@ -42,6 +43,7 @@ returns g c =
     record {
       line = c.leaf_step-step.ensures.line;
       may = c.leaf_step-step.ensures.may;
+      kept = search rules;
       whole = put_whole c.args.edges.now.items c.args.grown.now.items c.insert.new.self.items c.args.place c.rank-rank.result c.grown.result c.leaf_step-step.result.1 c.requires.there c.requires.whole rank c.grown.ensures.mark row;
       sprouts = (
         c.leaf_step-step.result.1,
