@@ -85,6 +85,7 @@ fn same_history(left: &[Board], right: &[Board]) -> bool
 impl Line {
     ghost use Rattle.std.specs.Prelude.{Some, None, Err, Ok, [], MatchResult, EachIndex};
     ghost use Rattle.tt_game.specs.Game.{history, winner_of, colour_of, made, IsLegal, after};
+    ghost use Rattle.tt_board.specs.Reach.{entry_at};
     ghost use Rattle.std.specs.Prelude.{OnOk, OnErr, IfErr, IfOk};
     ghost use Rattle.tt_game.specs.Line.{IsRefusal, IsRefused, IsPushed};
     ghost use Rattle.tt_game.specs.Undoing.{IsMoved, state_of};
@@ -164,6 +165,18 @@ impl Line {
         }
     }
 
+    /// The board after a play of the side to move on an empty point.
+    fn board_after(&self, p: Point) -> Board
+        requires on_board { p < point_count self.now.frame.size }
+        requires free { entry_at self.now.state.present p ≡ None }
+        ensures { result ≡ record { size = self.now.frame.size; points = made self.now.frame self.now.state p } }
+    {
+        let Ok(next) = self.present().play(self.mover(), p) else {
+            unreachable!();
+        };
+        next
+    }
+
     /// The board that a play of the side to move makes, or why the play is refused. Only a play on an empty point of
     /// the region is made.
     pub(crate) fn made(&self, p: Point) -> Result<Board, Why>
@@ -179,9 +192,7 @@ impl Line {
         if !self.frame.region.has(p) {
             return Err(Why::Outside);
         }
-        let Ok(next) = self.present().play(self.mover(), p) else {
-            return Err(Why::Occupied);
-        };
+        let next = self.board_after(p);
         if self.has_been(&next) {
             return Err(Why::Repeats);
         }
@@ -272,6 +283,23 @@ impl Line {
                 Ok(())
             }
         }
+    }
+
+    /// Makes a turn that is known to be legal, without a second look at the rules; where memory is refused the line is as
+    /// it was.
+    pub fn push_legal(&mut self, t: Turn) -> Result<(), NoMemory>
+        requires { IsLegal self.old.frame self.old.state t }
+        ensures ok { OnOk result (IsPushed self.old self.new t) }
+        ensures err { OnErr result (self.new ≡ self.old) }
+    {
+        match &t {
+            Turn::Play(p) => {
+                let next = self.board_after(*p);
+                self.push_board(next)?;
+            }
+            Turn::Pass => self.push_pass()?,
+        }
+        Ok(())
     }
 
     /// Undoes the last push, its pass count and side to move among it. A line made by `problem` or `try_clone` has no
