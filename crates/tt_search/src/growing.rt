@@ -1,8 +1,7 @@
 //! Steps of a search: the tree grows at its most-proving leaf, and the numbers on the way to it are brought up to date.
 
-ghost use Rattle.std.specs.Prelude.{◌≡◌, ◌<◌, ◌≤◌, ◌==◌, ◌↔◌, ◌⊎◌, Bool, true, None, OnOk, OnErr, length};
-ghost use Rattle.tt_game.specs.Game.{IsLegal, winner_of};
-ghost use Rattle.tt_game.specs.Line.{IsPushed};
+ghost use Rattle.std.specs.Prelude.{◌≡◌, ◌<◌, ◌≤◌, ◌==◌, ◌↔◌, ◌⊎◌, Bool, true, None, length};
+ghost use Rattle.tt_game.specs.Game.{winner_of};
 ghost use Rattle.tt_search.specs.PartialTree.{fresh};
 ghost use Rattle.tt_search.specs.Numbers.{IsUndecided};
 ghost use Rattle.tt_search.specs.Growing.{IsPartialTree};
@@ -21,21 +20,7 @@ use crate::node::{Expansion, Growth, Node};
 use crate::numbers::{best_place, combined, rank};
 use crate::store::Store;
 use std::alloc::Global;
-use tt_game::{Line, Refused, Side, Turn};
-use tt_sgf::NoMemory;
-
-/// Makes a legal turn.
-fn make(line: &mut Line, turn: Turn) -> Result<(), NoMemory>
-    requires { IsLegal line.old.frame line.old.state turn }
-    ensures ok { OnOk result (IsPushed line.old line.new turn) }
-    ensures err { OnErr result (line.new ≡ line.old) }
-{
-    match line.push(turn) {
-        Ok(()) => Ok(()),
-        Err(Refused::NoMemory) => Err(NoMemory),
-        Err(Refused::Illegal(_why)) => unreachable!(),
-    }
-}
+use tt_game::{Line, Side};
 
 /// Whether the step changed its tree.
 fn grows(step: Step) -> bool
@@ -198,7 +183,7 @@ impl Node {
                 } = &mut **expansion;
                 let mover = *mover;
                 let place = best_place(mover, edges.as_slice(), grown.as_slice());
-                let Ok(()) = make(line, edges[place].turn()) else {
+                let Ok(()) = line.push_legal(edges[place].turn()) else {
                     return Step::Stuck(Reason::Memory);
                 };
                 let step = below(

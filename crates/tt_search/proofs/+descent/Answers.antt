@@ -100,8 +100,8 @@ node::Node::round-index-requires g t c =
     let k = way_down c.args.line.now.frame c.args.line.now.state c.deref_mut.result.now.mover c.deref_mut.result.now.edges.items c.as_slice.result.now c.deref_mut.result.now.grown.items c.as_slice-in-Expanded.result.now c.best_place-place.result c.args.self.now c.best_place-place.ensures c.as_slice.ensures.value c.as_slice-in-Expanded.ensures.value (ap (λ (v : Expansion). expanded v.mover (turns_of v.edges.items) (children_of (trees_of v.edges.items v.grown.items))) c.deref_mut.ensures.value ∙ sym (ap shape c.in-Expanded.is) ∙ c.self.view_is) c.requires.undecided c.requires.partial in
     omega (arith, k.there, c.deref_mut.result.now.edges.ok.0)
 
-pub node::Node::round-make-requires : goal.node::Node::round-make-requires
-node::Node::round-make-requires g t c =
+pub node::Node::round-push_legal-requires : goal.node::Node::round-push_legal-requires
+node::Node::round-push_legal-requires g t c =
     let k = way_down c.args.line.now.frame c.args.line.now.state c.deref_mut.result.now.mover c.deref_mut.result.now.edges.items c.as_slice.result.now c.deref_mut.result.now.grown.items c.as_slice-in-Expanded.result.now c.best_place-place.result c.args.self.now c.best_place-place.ensures c.as_slice.ensures.value c.as_slice-in-Expanded.ensures.value (ap (λ (v : Expansion). expanded v.mover (turns_of v.edges.items) (children_of (trees_of v.edges.items v.grown.items))) c.deref_mut.ensures.value ∙ sym (ap shape c.in-Expanded.is) ∙ c.self.view_is) c.requires.undecided c.requires.partial in
     k.legal c.index.result.now c.turn.result c.index.ensures c.turn.ensures
 
