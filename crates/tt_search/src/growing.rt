@@ -17,7 +17,7 @@ use crate::edges::{Edge, Mark};
 use crate::leaves::{closed_leaf, expanded_at, new_leaf};
 use crate::limits::{Reason, Step};
 use crate::node::{Expansion, Growth, Node};
-use crate::numbers::{best_place, combined, rank};
+use crate::numbers::{best_place, both_numbers, rank};
 use crate::store::Store;
 use std::alloc::Global;
 use tt_game::{Line, Side};
@@ -199,8 +199,9 @@ impl Node {
                     place,
                 );
                 line.pop();
-                self.proof = combined(Side::Attacker, mover, edges.as_slice(), grown.as_slice());
-                self.disproof = combined(Side::Defender, mover, edges.as_slice(), grown.as_slice());
+                let (proof, disproof) = both_numbers(mover, edges.as_slice(), grown.as_slice());
+                self.proof = proof;
+                self.disproof = disproof;
                 self.offer(alloc, line, store, offering);
                 step
             }

@@ -8,7 +8,7 @@ ghost use Rattle.tt_search.specs.Growing.{leaf_for, expansion};
 
 use crate::edges::{Edge, Mark};
 use crate::node::{Expansion, Growth, Node};
-use crate::numbers::{combined, decided_number};
+use crate::numbers::{both_numbers, decided_number};
 use std::alloc::Global;
 use std::sync::Arc;
 use tt_game::{Line, Side, Successor};
@@ -51,8 +51,7 @@ fn expanded_node(alloc: Global, mover: Side, edges: Vec<Edge>) -> Result<Node, N
     ensures { IfOk result (λ node. node ≡ expanded mover (turns_of edges.items) (children_of (trees_of edges.items []))) }
 {
     let grown = Vec::new(alloc);
-    let proof = combined(Side::Attacker, mover, edges.as_slice(), grown.as_slice());
-    let disproof = combined(Side::Defender, mover, edges.as_slice(), grown.as_slice());
+    let (proof, disproof) = both_numbers(mover, edges.as_slice(), grown.as_slice());
     let expansion = Box::new(
         alloc,
         Expansion {

@@ -1,6 +1,8 @@
 //! Proof and disproof numbers of nodes.
 
 ghost use Rattle.std.specs.Prelude.{◌≡◌, ◌<◌, ◌≤◌, length, take, drop};
+ghost use Rattle.tt_game.specs.declared.frame.Side.TheVariants.{Attacker, Defender};
+ghost use Rattle.tt_game.specs.Game.{opponent};
 ghost use Rattle.tt_search.specs.Edges.{mark_of, tree_of, grown_behind, trees_of, counted, grown_in};
 ghost use Rattle.tt_search.specs.Numbers.{number, numbers, least, capped_sum, combined, is_same, decided_number};
 ghost use Rattle.tt_search.specs.Children.{children_of};
@@ -37,6 +39,24 @@ fn child_number(goal: Side, edge: Edge, rest: &[Node]) -> u32
     }
 }
 
+/// The two numbers of a child: the goal's, and that of the other side.
+fn child_numbers(goal: Side, edge: Edge, rest: &[Node]) -> (u32, u32)
+    ensures own { result.0 ≡ number goal (tree_of (mark_of edge) rest.now) }
+    ensures other { result.1 ≡ number (opponent goal) (tree_of (mark_of edge) rest.now) }
+{
+    match edge.mark() {
+        Mark::Fresh => (1, 1),
+        Mark::Won(side) => (
+            decided_number(goal, side),
+            decided_number(goal.opponent(), side),
+        ),
+        Mark::Grown => match rest.split_first() {
+            Some((node, _)) => (node.number(goal), node.number(goal.opponent())),
+            None => (1, 1),
+        },
+    }
+}
+
 /// The nodes of the children that have grown behind this one.
 pub(crate) fn behind(edge: Edge, rest: &[Node]) -> &[Node]
     ensures { result.now ≡ grown_behind (mark_of edge) rest.now }
@@ -50,44 +70,37 @@ pub(crate) fn behind(edge: Edge, rest: &[Node]) -> &[Node]
     }
 }
 
-/// The least of the children's numbers.
-fn least_number(goal: Side, edges: &[Edge], grown: &[Node]) -> u32
-    ensures { result ≡ least (numbers goal (children_of (trees_of edges.now grown.now))) }
+/// The least of the mover's numbers of the children, and the sum of the other side's: infinite where one of them is, and
+/// otherwise at most the greatest finite one.
+fn least_and_sum(mover: Side, edges: &[Edge], grown: &[Node]) -> (u32, u32)
+    ensures least { result.0 ≡ least (numbers mover (children_of (trees_of edges.now grown.now))) }
+    ensures sum { result.1 ≡ capped_sum (numbers (opponent mover) (children_of (trees_of edges.now grown.now))) }
 {
     let mut least = INFINITE;
-    let mut rest = grown;
-    for edge in edges {
-        least = least.min(child_number(goal, *edge, rest));
-        rest = behind(*edge, rest);
-    }
-    least
-}
-
-/// The sum of the children's numbers: infinite where one of them is, and otherwise at most the greatest finite one.
-fn sum_of_numbers(goal: Side, edges: &[Edge], grown: &[Node]) -> u32
-    ensures { result ≡ capped_sum (numbers goal (children_of (trees_of edges.now grown.now))) }
-{
     let mut total: u32 = 0;
     let mut rest = grown;
     for edge in edges {
-        let number = child_number(goal, *edge, rest);
-        if number == INFINITE {
-            return INFINITE;
+        let (own, other) = child_numbers(mover, *edge, rest);
+        if other == INFINITE {
+            // The mover's number of this child is 0.
+            return (0, INFINITE);
         }
-        total = total.saturating_add(number).min(CAP);
+        least = least.min(own);
+        total = total.saturating_add(other).min(CAP);
         rest = behind(*edge, rest);
     }
-    total
+    (least, total)
 }
 
-/// The number of a goal at a node with these children.
-pub(crate) fn combined(goal: Side, mover: Side, edges: &[Edge], grown: &[Node]) -> u32
-    ensures { result ≡ combined goal mover (numbers goal (children_of (trees_of edges.now grown.now))) }
+/// The proof number and the disproof number of a node with these children.
+pub(crate) fn both_numbers(mover: Side, edges: &[Edge], grown: &[Node]) -> (u32, u32)
+    ensures proof { result.0 ≡ combined Attacker mover (numbers Attacker (children_of (trees_of edges.now grown.now))) }
+    ensures disproof { result.1 ≡ combined Defender mover (numbers Defender (children_of (trees_of edges.now grown.now))) }
 {
-    if is_same(goal, mover) {
-        least_number(goal, edges, grown)
-    } else {
-        sum_of_numbers(goal, edges, grown)
+    let (least, sum) = least_and_sum(mover, edges, grown);
+    match mover {
+        Side::Attacker => (least, sum),
+        Side::Defender => (sum, least),
     }
 }
 

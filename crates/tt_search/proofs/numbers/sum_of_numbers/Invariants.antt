@@ -1,9 +1,0 @@
-use Rattle.std.proofs.Common.{◌≡◌, ◌≤◌, drop}
-use Rattle.tt_search.specs.Numbers.{numbers, cap, capped_sum}
-use Rattle.tt_search.specs.Children.{children_of}
-use Rattle.tt_search.specs.Edges.{trees_of}
-use Rattle.tt_search.proofs.Rows.{sum_from}
-use Rattle.tt_search.proofs.numbers.sum_of_numbers.Given as goal
-
-abbrev pub invariant-loop-edge : goal.invariant-loop-edge
-invariant-loop-edge l = (l.total ≤ cap) × (sum_from l.total (numbers l.goal (children_of (trees_of (drop l.edge-index l.edges) l.rest))) ≡ capped_sum (numbers l.goal (children_of (trees_of l.edges l.grown))))
