@@ -1,6 +1,6 @@
 //! Steps of a search: the tree grows at its most-proving leaf, and the numbers on the way to it are brought up to date.
 
-ghost use Rattle.std.specs.Prelude.{◌≡◌, ◌<◌, ◌≤◌, ◌==◌, ◌↔◌, ◌⊎◌, Bool, true, None, length};
+ghost use Rattle.std.specs.Prelude.{◌≡◌, ◌<◌, ◌≤◌, ◌==◌, ◌↔◌, ◌⊎◌, Bool, true, None, length, take};
 ghost use Rattle.tt_game.specs.Game.{winner_of};
 ghost use Rattle.tt_search.specs.PartialTree.{fresh};
 ghost use Rattle.tt_search.specs.Numbers.{IsUndecided};
@@ -17,7 +17,7 @@ use crate::edges::{Edge, Mark};
 use crate::leaves::{closed_leaf, expanded_at, new_leaf};
 use crate::limits::{Reason, Step};
 use crate::node::{Expansion, Growth, Node};
-use crate::numbers::{best_place, both_numbers, rank};
+use crate::numbers::{best_child, both_numbers};
 use crate::store::Store;
 use std::alloc::Global;
 use tt_game::{Line, Side};
@@ -86,17 +86,18 @@ fn sprout<S: Store>(
     edges: &mut Vec<Edge>,
     grown: &mut Vec<Node>,
     place: usize,
+    rank: usize,
 ) -> Step
     requires open { winner_of line.old.frame line.old.state ≡ None }
     requires whole { grown_in edges.old.items ≡ length grown.old.items }
     requires there { IsFreshAt place edges.old.items }
+    requires rank { rank ≡ grown_in (take place edges.old.items) }
     ensures line { line.new ≡ line.old }
     ensures may { result ≡ Closed → S.may_answer }
     ensures kept { (reason : _) → result ≡ Stuck reason → S.kept store.new ≡ S.kept store.old }
     ensures whole { grown_in edges.new.items ≡ length grown.new.items }
     ensures sprouts { Sprouts room line.old.frame line.old.state place edges.old.items grown.old.items left.old result edges.new.items grown.new.items left.new }
 {
-    let rank = rank(edges.as_slice(), place);
     let (step, node) = leaf_step(alloc, line, room, *left, store);
     if let Step::Stuck(reason) = step {
         return Step::Stuck(reason);
@@ -182,7 +183,7 @@ impl Node {
                     grown,
                 } = &mut **expansion;
                 let mover = *mover;
-                let place = best_place(mover, edges.as_slice(), grown.as_slice());
+                let (place, rank) = best_child(mover, edges.as_slice(), grown.as_slice());
                 let Ok(()) = line.push_legal(edges[place].turn()) else {
                     return Step::Stuck(Reason::Memory);
                 };
@@ -197,6 +198,7 @@ impl Node {
                     edges,
                     grown,
                     place,
+                    rank,
                 );
                 line.pop();
                 let (proof, disproof) = both_numbers(mover, edges.as_slice(), grown.as_slice());
@@ -233,8 +235,10 @@ fn below<S: Store>(
     edges: &mut Vec<Edge>,
     grown: &mut Vec<Node>,
     place: usize,
+    rank: usize,
 ) -> Step
     requires there { place < length edges.old.items }
+    requires rank { rank ≡ grown_in (take place edges.old.items) }
     requires whole { grown_in edges.old.items ≡ length grown.old.items }
     requires undecided { IsUndecided (child_at place edges.old.items grown.old.items) }
     requires partial { IsPartialTree line.old.frame line.old.state (child_at place edges.old.items grown.old.items) }
@@ -246,12 +250,9 @@ fn below<S: Store>(
     ensures steps { StepsBelow once room line.old.frame line.old.state place edges.old.items grown.old.items left.old result edges.new.items grown.new.items left.new }
 {
     match edges[place].mark() {
-        Mark::Grown => {
-            let rank = rank(edges.as_slice(), place);
-            grown[rank].grow(alloc, line, room, once, left, store, offering)
-        }
+        Mark::Grown => grown[rank].grow(alloc, line, room, once, left, store, offering),
         Mark::Fresh => sprout(
-            alloc, line, room, left, store, offering, edges, grown, place,
+            alloc, line, room, left, store, offering, edges, grown, place, rank,
         ),
         Mark::Won(_) => unreachable!(),
     }

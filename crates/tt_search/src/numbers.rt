@@ -104,24 +104,6 @@ pub(crate) fn both_numbers(mover: Side, edges: &[Edge], grown: &[Node]) -> (u32,
     }
 }
 
-/// The place of the child to go to: the first one with the least number of the side to move.
-pub(crate) fn best_place(mover: Side, edges: &[Edge], grown: &[Node]) -> usize
-    ensures { result ≡ best mover (children_of (trees_of edges.now grown.now)) }
-{
-    let mut place = 0;
-    let mut least = INFINITE;
-    let mut rest = grown;
-    for (i, edge) in edges.iter().enumerate() {
-        let number = child_number(mover, *edge, rest);
-        if number < least {
-            place = i;
-            least = number;
-        }
-        rest = behind(*edge, rest);
-    }
-    place
-}
-
 /// The number, and one more where the child has grown.
 fn counted(edge: Edge, number: usize) -> usize
     requires { number < 18446744073709551615 }
@@ -134,16 +116,28 @@ fn counted(edge: Edge, number: usize) -> usize
     }
 }
 
-/// How many children before the place have grown.
-pub(crate) fn rank(edges: &[Edge], place: usize) -> usize
-    requires { place ≤ length edges.now }
-    ensures { result ≡ grown_in (take place edges.now) }
+/// The place of the child to go to, the first one with the least number of the side to move, and its rank: how many
+/// children before it have grown.
+pub(crate) fn best_child(mover: Side, edges: &[Edge], grown: &[Node]) -> (usize, usize)
+    ensures place { result.0 ≡ best mover (children_of (trees_of edges.now grown.now)) }
+    ensures rank { result.1 ≡ grown_in (take result.0 edges.now) }
 {
+    let mut place = 0;
     let mut rank = 0;
-    for edge in &edges[..place] {
-        rank = counted(*edge, rank);
+    let mut least = INFINITE;
+    let mut passed = 0;
+    let mut rest = grown;
+    for (i, edge) in edges.iter().enumerate() {
+        let number = child_number(mover, *edge, rest);
+        if number < least {
+            place = i;
+            rank = passed;
+            least = number;
+        }
+        passed = counted(*edge, passed);
+        rest = behind(*edge, rest);
     }
-    rank
+    (place, rank)
 }
 
 /// The nodes from a rank on.

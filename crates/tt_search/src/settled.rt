@@ -13,7 +13,7 @@ ghost use Rattle.tt_search.specs.MostProving.{best};
 
 use crate::edges::{Edge, Mark};
 use crate::node::{Expansion, Growth, Node};
-use crate::numbers::{behind, best_place, from_rank, is_same, rank};
+use crate::numbers::{behind, best_child, from_rank, is_same};
 use crate::store::Store;
 use std::alloc::Global;
 use std::sync::Arc;
@@ -123,12 +123,12 @@ fn child_tree(alloc: Global, side: Side, edge: Edge, rest: &[Node]) -> Result<Tr
 fn picked(alloc: Global, side: Side, edges: &[Edge], grown: &[Node]) -> Result<Tree, NoMemory>
     ensures { IfOk result (λ t. strategy_of t ≡ pick_at side (best side (children_of (trees_of edges.now grown.now))) (turns_of edges.now) (children_of (trees_of edges.now grown.now))) }
 {
-    let place = best_place(side, edges, grown);
+    let (place, rank) = best_child(side, edges, grown);
     if place >= edges.len() {
         return Ok(Tree::done());
     }
     let edge = edges[place];
-    let child = child_tree(alloc, side, edge, from_rank(grown, rank(edges, place)))?;
+    let child = child_tree(alloc, side, edge, from_rank(grown, rank))?;
     Tree::pick(alloc, edge.turn(), child)
 }
 

@@ -24,13 +24,11 @@ use Rattle.tt_search.proofs.+descent.Goals as goal
 
 pub growing::below-index_mut-requires : goal.growing::below-index_mut-requires
 growing::below-index_mut-requires g t c =
-    let rank = c.rank-rank.ensures ∙ ap (λ es. grown_in (take c.args.place es)) c.as_slice.ensures.value in
-    omega (arith, rank_within_nodes c.args.edges.now.items c.args.grown.now.items c.args.place c.rank-rank.result c.index.result.now (child_at c.args.place c.args.edges.now.items c.args.grown.now.items) c.requires.there c.index.ensures c.requires.whole c.in-Grown.ensures rank, c.args.grown.now.ok.0)
+    omega (arith, rank_within_nodes c.args.edges.now.items c.args.grown.now.items c.args.place c.args.rank c.index.result.now (child_at c.args.place c.args.edges.now.items c.args.grown.now.items) c.requires.there c.index.ensures c.requires.whole c.in-Grown.ensures c.requires.rank, c.args.grown.now.ok.0)
 
 pub growing::below-grow-requires : goal.growing::below-grow-requires
 growing::below-grow-requires g t c =
-    let rank = c.rank-rank.ensures ∙ ap (λ es. grown_in (take c.args.place es)) c.as_slice.ensures.value in
-    let here = child_node c.args.edges.now.items c.args.grown.now.items c.args.place c.rank-rank.result c.index.result.now c.index_mut.result.now c.requires.there c.index.ensures c.requires.whole c.in-Grown.ensures rank c.index_mut.ensures.value in
+    let here = child_node c.args.edges.now.items c.args.grown.now.items c.args.place c.args.rank c.index.result.now c.index_mut.result.now c.requires.there c.index.ensures c.requires.whole c.in-Grown.ensures c.requires.rank c.index_mut.ensures.value in
     λ lives within. (
       omega (arith, c.decreases),
       (
@@ -58,8 +56,7 @@ growing::below-unreachable-requires g t c =
 
 pub growing::below-returns-in-Grown-clause-steps : goal.growing::below-returns-in-Grown-clause-steps
 growing::below-returns-in-Grown-clause-steps g t c =
-    let rank = c.rank-rank.ensures ∙ ap (λ es. grown_in (take c.args.place es)) c.as_slice.ensures.value in
-    node_steps c.args.edges.now.items c.args.grown.now.items c.args.place c.rank-rank.result c.index.result.now c.index_mut.result.now c.requires.there c.index.ensures c.requires.whole c.in-Grown.ensures rank c.args.once c.args.room c.args.line.now.frame c.args.line.now.state c.args.left.now c.grow.result c.grow.new.self c.grow.new.left c.index_mut.ensures.value c.grow.ensures.steps
+    node_steps c.args.edges.now.items c.args.grown.now.items c.args.place c.args.rank c.index.result.now c.index_mut.result.now c.requires.there c.index.ensures c.requires.whole c.in-Grown.ensures c.requires.rank c.args.once c.args.room c.args.line.now.frame c.args.line.now.state c.args.left.now c.grow.result c.grow.new.self c.grow.new.left c.index_mut.ensures.value c.grow.ensures.steps
 
 pub growing::below-returns-in-Fresh-clause-steps : goal.growing::below-returns-in-Fresh-clause-steps
 growing::below-returns-in-Fresh-clause-steps g t c =
@@ -97,21 +94,22 @@ node::Node::grow-rounds-preserved g t c =
 
 pub node::Node::round-index-requires : goal.node::Node::round-index-requires
 node::Node::round-index-requires g t c =
-    let k = way_down c.args.line.now.frame c.args.line.now.state c.deref_mut.result.now.mover c.deref_mut.result.now.edges.items c.as_slice.result.now c.deref_mut.result.now.grown.items c.as_slice-in-Expanded.result.now c.best_place-place.result c.args.self.now c.best_place-place.ensures c.as_slice.ensures.value c.as_slice-in-Expanded.ensures.value (ap (λ (v : Expansion). expanded v.mover (turns_of v.edges.items) (children_of (trees_of v.edges.items v.grown.items))) c.deref_mut.ensures.value ∙ sym (ap shape c.in-Expanded.is) ∙ c.self.view_is) c.requires.undecided c.requires.partial in
+    let k = way_down c.args.line.now.frame c.args.line.now.state c.deref_mut.result.now.mover c.deref_mut.result.now.edges.items c.as_slice.result.now c.deref_mut.result.now.grown.items c.as_slice-in-Expanded.result.now c.best_child-place.result.0 c.args.self.now c.best_child-place.ensures.place c.as_slice.ensures.value c.as_slice-in-Expanded.ensures.value (ap (λ (v : Expansion). expanded v.mover (turns_of v.edges.items) (children_of (trees_of v.edges.items v.grown.items))) c.deref_mut.ensures.value ∙ sym (ap shape c.in-Expanded.is) ∙ c.self.view_is) c.requires.undecided c.requires.partial in
     omega (arith, k.there, c.deref_mut.result.now.edges.ok.0)
 
 pub node::Node::round-push_legal-requires : goal.node::Node::round-push_legal-requires
 node::Node::round-push_legal-requires g t c =
-    let k = way_down c.args.line.now.frame c.args.line.now.state c.deref_mut.result.now.mover c.deref_mut.result.now.edges.items c.as_slice.result.now c.deref_mut.result.now.grown.items c.as_slice-in-Expanded.result.now c.best_place-place.result c.args.self.now c.best_place-place.ensures c.as_slice.ensures.value c.as_slice-in-Expanded.ensures.value (ap (λ (v : Expansion). expanded v.mover (turns_of v.edges.items) (children_of (trees_of v.edges.items v.grown.items))) c.deref_mut.ensures.value ∙ sym (ap shape c.in-Expanded.is) ∙ c.self.view_is) c.requires.undecided c.requires.partial in
+    let k = way_down c.args.line.now.frame c.args.line.now.state c.deref_mut.result.now.mover c.deref_mut.result.now.edges.items c.as_slice.result.now c.deref_mut.result.now.grown.items c.as_slice-in-Expanded.result.now c.best_child-place.result.0 c.args.self.now c.best_child-place.ensures.place c.as_slice.ensures.value c.as_slice-in-Expanded.ensures.value (ap (λ (v : Expansion). expanded v.mover (turns_of v.edges.items) (children_of (trees_of v.edges.items v.grown.items))) c.deref_mut.ensures.value ∙ sym (ap shape c.in-Expanded.is) ∙ c.self.view_is) c.requires.undecided c.requires.partial in
     k.legal c.index.result.now c.turn.result c.index.ensures c.turn.ensures
 
 pub node::Node::round-below-step-requires : goal.node::Node::round-below-step-requires
 node::Node::round-below-step-requires g t c =
-    let k = way_down c.args.line.now.frame c.args.line.now.state c.deref_mut.result.now.mover c.deref_mut.result.now.edges.items c.as_slice.result.now c.deref_mut.result.now.grown.items c.as_slice-in-Expanded.result.now c.best_place-place.result c.args.self.now c.best_place-place.ensures c.as_slice.ensures.value c.as_slice-in-Expanded.ensures.value (ap (λ (v : Expansion). expanded v.mover (turns_of v.edges.items) (children_of (trees_of v.edges.items v.grown.items))) c.deref_mut.ensures.value ∙ sym (ap shape c.in-Expanded.is) ∙ c.self.view_is) c.requires.undecided c.requires.partial in
-    let child : PartialTree = child_at c.best_place-place.result c.deref_mut.result.now.edges.items c.deref_mut.result.now.grown.items in
+    let k = way_down c.args.line.now.frame c.args.line.now.state c.deref_mut.result.now.mover c.deref_mut.result.now.edges.items c.as_slice.result.now c.deref_mut.result.now.grown.items c.as_slice-in-Expanded.result.now c.best_child-place.result.0 c.args.self.now c.best_child-place.ensures.place c.as_slice.ensures.value c.as_slice-in-Expanded.ensures.value (ap (λ (v : Expansion). expanded v.mover (turns_of v.edges.items) (children_of (trees_of v.edges.items v.grown.items))) c.deref_mut.ensures.value ∙ sym (ap shape c.in-Expanded.is) ∙ c.self.view_is) c.requires.undecided c.requires.partial in
+    let child : PartialTree = child_at c.best_child-place.result.0 c.deref_mut.result.now.edges.items c.deref_mut.result.now.grown.items in
     let q = k.partial c.index.result.now c.turn.result c.index.ensures c.turn.ensures in
     let h = k.fits c.args.room c.requires.fits in
     let whole = subst (λ (v : Expansion). grown_in v.edges.items ≡ length v.grown.items) (sym c.deref_mut.ensures.value) (subst IsWhole c.in-Expanded.is c.self.invariant.1) in
+    let rank = c.best_child-place.ensures.rank ∙ ap (λ es. grown_in (take c.best_child-place.result.0 es)) c.as_slice.ensures.value in
     let pushed = sym c.in-Ok.ensures.ok in
     λ lives within. (
       omega (arith, c.decreases, h.0),
@@ -120,12 +118,15 @@ node::Node::round-below-step-requires g t c =
         (
           k.there,
           (
-            whole,
+            rank,
             (
-              k.undecided,
+              whole,
               (
-                subst (λ (l : Standing). IsPartialTree l.frame l.state child) pushed q,
-                (subst (λ (l : Standing). FitsIn l.frame.size (c.args.room - 1) child) pushed h.1, omega (arith, c.requires.room)),
+                k.undecided,
+                (
+                  subst (λ (l : Standing). IsPartialTree l.frame l.state child) pushed q,
+                  (subst (λ (l : Standing). FitsIn l.frame.size (c.args.room - 1) child) pushed h.1, omega (arith, c.requires.room)),
+                ),
               ),
             ),
           ),
@@ -135,23 +136,23 @@ node::Node::round-below-step-requires g t c =
 
 pub node::Node::round-returns-in-Ok-clause-steps : goal.node::Node::round-returns-in-Ok-clause-steps
 node::Node::round-returns-in-Ok-clause-steps g t c =
-    let k = way_down c.args.line.now.frame c.args.line.now.state c.deref_mut.result.now.mover c.deref_mut.result.now.edges.items c.as_slice.result.now c.deref_mut.result.now.grown.items c.as_slice-in-Expanded.result.now c.best_place-place.result c.args.self.now c.best_place-place.ensures c.as_slice.ensures.value c.as_slice-in-Expanded.ensures.value (ap (λ (v : Expansion). expanded v.mover (turns_of v.edges.items) (children_of (trees_of v.edges.items v.grown.items))) c.deref_mut.ensures.value ∙ sym (ap shape c.in-Expanded.is) ∙ c.self.view_is) c.requires.undecided c.requires.partial in
-    let below = subst (λ (l : Standing). StepsBelow c.args.once (c.args.room - 1) l.frame l.state c.best_place-place.result c.deref_mut.result.now.edges.items c.deref_mut.result.now.grown.items c.args.left.now c.below-step.result c.below-step.new.edges.items c.below-step.new.grown.items c.below-step.new.left) c.in-Ok.ensures.ok c.below-step.ensures.steps in
+    let k = way_down c.args.line.now.frame c.args.line.now.state c.deref_mut.result.now.mover c.deref_mut.result.now.edges.items c.as_slice.result.now c.deref_mut.result.now.grown.items c.as_slice-in-Expanded.result.now c.best_child-place.result.0 c.args.self.now c.best_child-place.ensures.place c.as_slice.ensures.value c.as_slice-in-Expanded.ensures.value (ap (λ (v : Expansion). expanded v.mover (turns_of v.edges.items) (children_of (trees_of v.edges.items v.grown.items))) c.deref_mut.ensures.value ∙ sym (ap shape c.in-Expanded.is) ∙ c.self.view_is) c.requires.undecided c.requires.partial in
+    let below = subst (λ (l : Standing). StepsBelow c.args.once (c.args.room - 1) l.frame l.state c.best_child-place.result.0 c.deref_mut.result.now.edges.items c.deref_mut.result.now.grown.items c.args.left.now c.below-step.result c.below-step.new.edges.items c.below-step.new.grown.items c.below-step.new.left) c.in-Ok.ensures.ok c.below-step.ensures.steps in
     k.steps c.index.result.now c.turn.result c.index.ensures c.turn.ensures c.args.once c.args.room c.args.left.now c.below-step.result c.below-step.new.edges.items c.below-step.new.grown.items c.below-step.new.left (k.fits c.args.room c.requires.fits).0 below
 
 pub node::Node::round-offer-requires-clause-partial : goal.node::Node::round-offer-requires-clause-partial
 node::Node::round-offer-requires-clause-partial g t c =
-    let k = way_down c.args.line.now.frame c.args.line.now.state c.deref_mut.result.now.mover c.deref_mut.result.now.edges.items c.as_slice.result.now c.deref_mut.result.now.grown.items c.as_slice-in-Expanded.result.now c.best_place-place.result c.args.self.now c.best_place-place.ensures c.as_slice.ensures.value c.as_slice-in-Expanded.ensures.value (ap (λ (v : Expansion). expanded v.mover (turns_of v.edges.items) (children_of (trees_of v.edges.items v.grown.items))) c.deref_mut.ensures.value ∙ sym (ap shape c.in-Expanded.is) ∙ c.self.view_is) c.requires.undecided c.requires.partial in
+    let k = way_down c.args.line.now.frame c.args.line.now.state c.deref_mut.result.now.mover c.deref_mut.result.now.edges.items c.as_slice.result.now c.deref_mut.result.now.grown.items c.as_slice-in-Expanded.result.now c.best_child-place.result.0 c.args.self.now c.best_child-place.ensures.place c.as_slice.ensures.value c.as_slice-in-Expanded.ensures.value (ap (λ (v : Expansion). expanded v.mover (turns_of v.edges.items) (children_of (trees_of v.edges.items v.grown.items))) c.deref_mut.ensures.value ∙ sym (ap shape c.in-Expanded.is) ∙ c.self.view_is) c.requires.undecided c.requires.partial in
     let back : c.pop.new.self ≡ c.args.line.now = search rules in
-    let below = subst (λ (l : Standing). StepsBelow c.args.once (c.args.room - 1) l.frame l.state c.best_place-place.result c.deref_mut.result.now.edges.items c.deref_mut.result.now.grown.items c.args.left.now c.below-step.result c.below-step.new.edges.items c.below-step.new.grown.items c.below-step.new.left) c.in-Ok.ensures.ok c.below-step.ensures.steps in
+    let below = subst (λ (l : Standing). StepsBelow c.args.once (c.args.room - 1) l.frame l.state c.best_child-place.result.0 c.deref_mut.result.now.edges.items c.deref_mut.result.now.grown.items c.args.left.now c.below-step.result c.below-step.new.edges.items c.below-step.new.grown.items c.below-step.new.left) c.in-Ok.ensures.ok c.below-step.ensures.steps in
     let steps = k.steps c.index.result.now c.turn.result c.index.ensures c.turn.ensures c.args.once c.args.room c.args.left.now c.below-step.result c.below-step.new.edges.items c.below-step.new.grown.items c.below-step.new.left (k.fits c.args.room c.requires.fits).0 below in
     (steps_offerable c.args.once c.args.room c.args.line.now c.pop.new.self c.args.self.now c.args.left.now c.below-step.result _ c.below-step.new.left back c.requires.room c.requires.undecided c.requires.partial c.requires.fits steps).0
 
 pub node::Node::round-offer-requires-clause-fits : goal.node::Node::round-offer-requires-clause-fits
 node::Node::round-offer-requires-clause-fits g t c =
-    let k = way_down c.args.line.now.frame c.args.line.now.state c.deref_mut.result.now.mover c.deref_mut.result.now.edges.items c.as_slice.result.now c.deref_mut.result.now.grown.items c.as_slice-in-Expanded.result.now c.best_place-place.result c.args.self.now c.best_place-place.ensures c.as_slice.ensures.value c.as_slice-in-Expanded.ensures.value (ap (λ (v : Expansion). expanded v.mover (turns_of v.edges.items) (children_of (trees_of v.edges.items v.grown.items))) c.deref_mut.ensures.value ∙ sym (ap shape c.in-Expanded.is) ∙ c.self.view_is) c.requires.undecided c.requires.partial in
+    let k = way_down c.args.line.now.frame c.args.line.now.state c.deref_mut.result.now.mover c.deref_mut.result.now.edges.items c.as_slice.result.now c.deref_mut.result.now.grown.items c.as_slice-in-Expanded.result.now c.best_child-place.result.0 c.args.self.now c.best_child-place.ensures.place c.as_slice.ensures.value c.as_slice-in-Expanded.ensures.value (ap (λ (v : Expansion). expanded v.mover (turns_of v.edges.items) (children_of (trees_of v.edges.items v.grown.items))) c.deref_mut.ensures.value ∙ sym (ap shape c.in-Expanded.is) ∙ c.self.view_is) c.requires.undecided c.requires.partial in
     let back : c.pop.new.self ≡ c.args.line.now = search rules in
-    let below = subst (λ (l : Standing). StepsBelow c.args.once (c.args.room - 1) l.frame l.state c.best_place-place.result c.deref_mut.result.now.edges.items c.deref_mut.result.now.grown.items c.args.left.now c.below-step.result c.below-step.new.edges.items c.below-step.new.grown.items c.below-step.new.left) c.in-Ok.ensures.ok c.below-step.ensures.steps in
+    let below = subst (λ (l : Standing). StepsBelow c.args.once (c.args.room - 1) l.frame l.state c.best_child-place.result.0 c.deref_mut.result.now.edges.items c.deref_mut.result.now.grown.items c.args.left.now c.below-step.result c.below-step.new.edges.items c.below-step.new.grown.items c.below-step.new.left) c.in-Ok.ensures.ok c.below-step.ensures.steps in
     let steps = k.steps c.index.result.now c.turn.result c.index.ensures c.turn.ensures c.args.once c.args.room c.args.left.now c.below-step.result c.below-step.new.edges.items c.below-step.new.grown.items c.below-step.new.left (k.fits c.args.room c.requires.fits).0 below in
     (steps_offerable c.args.once c.args.room c.args.line.now c.pop.new.self c.args.self.now c.args.left.now c.below-step.result _ c.below-step.new.left back c.requires.room c.requires.undecided c.requires.partial c.requires.fits steps).1
 

@@ -4,9 +4,6 @@ use Rattle.tt_search.proofs.Places.{fresh_there, rank_within}
 use Rattle.tt_search.proofs.Sprouted.{stays, stays_for_memory, leaf_offerable, put, put_whole}
 use Rattle.tt_search.proofs.growing.sprout.Goals as goal
 
-pub rank-rank-requires : goal.rank-rank-requires
-rank-rank-requires g c = omega (arith, fresh_there c.args.edges.now.items c.args.place c.requires.there, ap length c.as_slice.ensures.value)
-
 pub returns-in-Stuck-clause-sprouts : goal.returns-in-Stuck-clause-sprouts
 returns-in-Stuck-clause-sprouts g c =
     stays c.args.room c.args.line.now.frame c.args.line.now.state c.args.place c.args.edges.now.items c.args.grown.now.items c.args.left.now c.leaf_step-step.result.0 c.in-Stuck.reason c.leaf_step-step.result.1 c.requires.there c.leaf_step-step.ensures.taken c.in-Stuck.is
@@ -27,7 +24,7 @@ offer-requires g c =
 
 pub insert-requires : goal.insert-requires
 insert-requires g c =
-    omega (arith, c.rank-rank.ensures ∙ ap (λ es. grown_in (take c.args.place es)) c.as_slice.ensures.value, rank_within c.args.edges.now.items c.args.place, c.requires.whole, ap length c.reserve_exact.ensures.items, c.reserve_exact.new.self.ok.0)
+    omega (arith, c.requires.rank, rank_within c.args.edges.now.items c.args.place, c.requires.whole, ap length c.reserve_exact.ensures.items, c.reserve_exact.new.self.ok.0)
 
 pub index-requires : goal.index-requires
 index-requires g c = omega (arith, fresh_there c.args.edges.now.items c.args.place c.requires.there, c.args.edges.now.ok.0)
@@ -37,18 +34,16 @@ index_mut-requires g c = omega (arith, fresh_there c.args.edges.now.items c.args
 
 pub returns : goal.returns
 returns g c =
-    let rank = c.rank-rank.ensures ∙ ap (λ es. grown_in (take c.args.place es)) c.as_slice.ensures.value in
-    let row = c.in-Ok.ensures.items ∙ ap (λ ts. insert ts c.rank-rank.result c.leaf_step-step.result.1) c.reserve_exact.ensures.items in
+    let row = c.in-Ok.ensures.items ∙ ap (λ ts. insert ts c.args.rank c.leaf_step-step.result.1) c.reserve_exact.ensures.items in
     let turn = c.grown.ensures.turn ∙ ap turn_of c.index.ensures in
     record {
       line = c.leaf_step-step.ensures.line;
       may = c.leaf_step-step.ensures.may;
-      kept = search rules;
-      whole = put_whole c.args.edges.now.items c.args.grown.now.items c.insert.new.self.items c.args.place c.rank-rank.result c.grown.result c.leaf_step-step.result.1 c.requires.there c.requires.whole rank c.grown.ensures.mark row;
+      whole = put_whole c.args.edges.now.items c.args.grown.now.items c.insert.new.self.items c.args.place c.args.rank c.grown.result c.leaf_step-step.result.1 c.requires.there c.requires.whole c.requires.rank c.grown.ensures.mark row;
       sprouts = (
         c.leaf_step-step.result.1,
         c.leaf_step-step.ensures.taken,
         c.left_after.ensures,
-        put c.args.edges.now.items c.args.grown.now.items c.insert.new.self.items c.args.place c.rank-rank.result c.index.result.now c.grown.result c.leaf_step-step.result.1 c.requires.there c.requires.whole rank turn c.grown.ensures.mark row,
+        put c.args.edges.now.items c.args.grown.now.items c.insert.new.self.items c.args.place c.args.rank c.index.result.now c.grown.result c.leaf_step-step.result.1 c.requires.there c.requires.whole c.requires.rank turn c.grown.ensures.mark row,
       );
     }

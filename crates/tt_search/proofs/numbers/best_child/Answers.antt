@@ -1,0 +1,55 @@
+use Rattle.std.proofs.Common.{rules, ◌≡◌, ◌∙◌, ℕ, ◌+◌, ◌<◌, ◌≤◌, List, ◌∷◌, length, get_or, drop, refl, sym, ap, arith}
+use Rattle.std.proofs.lemmas.List.{at_drop_more}
+use Rattle.tt_game.specs.declared.frame.Side.{Side}
+use Rattle.tt_search.specs.PartialTree.{PartialTree}
+use Rattle.tt_search.specs.Children.{children_of}
+use Rattle.tt_search.specs.Numbers.{number, numbers}
+use Rattle.tt_search.specs.Edges.{mark_of, tree_of, trees_of, grown_behind, counted}
+use Rattle.tt_search.specs.declared.edges.Edge.{Edge}
+use Rattle.tt_search.proofs.Places.{rank_next, counted_most}
+use Rattle.tt_search.proofs.Rows.{best_from, best_from_start, best_from_less, best_from_same}
+use Rattle.tt_search.proofs.numbers.best_child.Goals.{then-number-least, else-number-least}
+use Rattle.tt_search.proofs.numbers.best_child.Goals as goal
+
+abbrev first : Edge
+first = record { code = 0 }
+
+-- the child at a place, and the children behind it
+module _ (mover : Side) (es : List Edge) (rest behind : List PartialTree) (i x : ℕ) (l : i < length es) (is : x ≡ number mover (tree_of (mark_of (get_or es i first)) rest)) (b : behind ≡ grown_behind (mark_of (get_or es i first)) rest) (p v : ℕ) where
+  abbrev row : List PartialTree → List ℕ
+  row us = numbers mover (children_of (trees_of (drop (i + 1) es) us))
+
+  here : best_from p v i (x ∷ row behind) ≡ best_from p v i (numbers mover (children_of (trees_of (drop i es) rest)))
+  here =
+      ap (λ y. best_from p v i (y ∷ row behind)) is
+      ∙ ap (λ us. best_from p v i (number mover (tree_of (mark_of (get_or es i first)) rest) ∷ row us)) b
+      ∙ sym (at_drop_more (λ xs. best_from p v i (numbers mover (children_of (trees_of xs rest)))) es i first l)
+
+  less : x < v → best_from i x (i + 1) (row behind) ≡ best_from p v i (numbers mover (children_of (trees_of (drop i es) rest)))
+  less h = best_from_less p v i x (row behind) h ∙ here
+
+  same : v ≤ x → best_from p v (i + 1) (row behind) ≡ best_from p v i (numbers mover (children_of (trees_of (drop i es) rest)))
+  same h = best_from_same p v i x (row behind) h ∙ here
+
+pub loop-i-init : goal.loop-i-init
+loop-i-init c = record {
+  most = omega arith;
+  place = best_from_start c.args.mover (children_of (trees_of c.args.edges.now c.args.grown.now));
+  few = omega arith;
+  passed = refl;
+  rank = refl;
+}
+
+pub loop-i-preserved : goal.loop-i-preserved
+loop-i-preserved c =
+    let e : Edge = get_or c.args.edges.now c.loop-i.i first in
+    record {
+      most = search rules;
+      place = elim c.if-number-least.branch [
+          then-number-least w ↦ rw (w.place-is, w.least-is) (less c.args.mover c.args.edges.now c.loop-i.rest.now c.behind-rest.result.now c.loop-i.i c.child_number-number.result c.loop-i-test.true c.child_number-number.ensures c.behind-rest.ensures c.loop-i.place c.loop-i.least w.if-number-least.true ∙ c.loop-i.invariant.place)
+        | else-number-least w ↦ rw (w.place-is, w.least-is) (same c.args.mover c.args.edges.now c.loop-i.rest.now c.behind-rest.result.now c.loop-i.i c.child_number-number.result c.loop-i-test.true c.child_number-number.ensures c.behind-rest.ensures c.loop-i.place c.loop-i.least w.if-number-least.false ∙ c.loop-i.invariant.place)
+      ];
+      few = omega (arith, c.counted-passed.ensures, counted_most (mark_of e) c.loop-i.passed, c.loop-i.invariant.few);
+      passed = c.counted-passed.ensures ∙ ap (counted (mark_of e)) c.loop-i.invariant.passed ∙ sym (rank_next c.args.edges.now c.loop-i.i first c.loop-i-test.true);
+      rank = elim c.if-number-least.branch [ then-number-least w ↦ search rules | else-number-least w ↦ search rules ];
+    }
