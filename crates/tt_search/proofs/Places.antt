@@ -1,5 +1,5 @@
 -- The children of a node, place by place.
-use Rattle.std.proofs.Common.{◌≡◌, ℕ, zero, suc, ◌+◌, ◌<◌, ◌≤◌, List, [], ◌∷◌, ◌++◌, length, get_or, set, take, drop, map, refl, sym, ◌∙◌, ap, subst, add-one, arith}
+use Rattle.std.proofs.Common.{◌≡◌, ℕ, zero, suc, ◌+◌, ◌<◌, ◌≤◌, List, [], ◌∷◌, ◌++◌, length, get_or, set, take, drop, refl, sym, ◌∙◌, ap, subst, add-one, arith}
 use Rattle.std.proofs.lemmas.List.{drop_all, at_drop_all, at_drop_more}
 use Rattle.tt_game.specs.declared.frame.Side.{Side}
 use Rattle.tt_proof.specs.Strategy.{entry, none}

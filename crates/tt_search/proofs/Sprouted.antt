@@ -1,15 +1,14 @@
 -- What a step at a fresh child makes of the children.
-use Rattle.std.proofs.Common.{◌≡◌, ℕ, zero, suc, ◌+◌, ◌-◌, ◌<◌, ◌≤◌, List, [], ◌∷◌, ◌++◌, ◌==◌, Bool, None, length, get_or, set, take, drop, insert, refl, sym, ◌∙◌, ap, subst, arith}
+use Rattle.std.proofs.Common.{◌≡◌, ℕ, zero, suc, ◌<◌, ◌≤◌, List, [], ◌∷◌, ◌==◌, Bool, None, length, get_or, set, take, drop, insert, refl, sym, ◌∙◌, ap, subst, arith}
 use Rattle.tt_game.specs.declared.frame.Side.{Side}
 use Rattle.tt_game.specs.declared.frame.Frame.{Frame}
 use Rattle.tt_game.specs.Game.{State, winner_of}
 use Rattle.tt_game.specs.Line.{Standing}
 use Rattle.tt_search.specs.PartialTree.{PartialTree, fresh}
 use Rattle.tt_search.specs.Numbers.{IsUndecided}
-use Rattle.tt_search.specs.Edges.{turn_of, mark_of, turns_of, trees_of, tree_of, grown_in, child_at}
-use Rattle.tt_search.specs.Growing.{expansion}
+use Rattle.tt_search.specs.Edges.{turn_of, mark_of, trees_of, tree_of, grown_in, child_at}
 use Rattle.tt_search.specs.Taken.{Taken}
-use Rattle.tt_search.specs.Steady.{IsLeft, AreSteps}
+use Rattle.tt_search.specs.Steady.{AreSteps}
 use Rattle.tt_search.specs.Sprouting.{IsFreshAt, IsPut, Sprouts, StepsBelow}
 use Rattle.tt_search.specs.declared.edges.Edge.{Edge}
 use Rattle.tt_search.specs.declared.edges.Mark.{Mark}

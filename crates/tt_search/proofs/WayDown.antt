@@ -1,5 +1,5 @@
 -- The way from an undecided node to its best child, over the children as the code keeps them.
-use Rattle.std.proofs.Common.{◌≡◌, ℕ, ◌-◌, ◌<◌, ◌≤◌, List, Bool, length, get_or, set, sym, ◌∙◌, ap, subst, arith}
+use Rattle.std.proofs.Common.{◌≡◌, ℕ, ◌-◌, ◌<◌, List, Bool, length, get_or, sym, ◌∙◌, ap, subst, arith}
 use Rattle.tt_game.specs.declared.frame.Frame.{Frame}
 use Rattle.tt_game.specs.declared.frame.Side.{Side}
 use Rattle.tt_game.specs.declared.turns.Turn.{Turn}
@@ -17,7 +17,7 @@ use Rattle.tt_search.specs.Sprouting.{StepsBelow}
 use Rattle.tt_search.specs.declared.edges.Edge.{Edge}
 use Rattle.tt_search.specs.declared.limits.Step.{Step}
 use Rattle.tt_search.proofs.Lifted.{IsFound, found}
-use Rattle.tt_search.proofs.Places.{length-turns_of, length-trees_of, turn_at_place}
+use Rattle.tt_search.proofs.Places.{length-turns_of, turn_at_place}
 use Rattle.tt_search.proofs.Sprouted.{any_default}
 use Rattle.tt_search.proofs.Steady.{found_steps}
 

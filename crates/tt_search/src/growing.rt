@@ -208,16 +208,33 @@ impl Node {
                 step
             }
             Growth::Won(_) | Growth::Closed(_) => unreachable!(),
-            Growth::Fresh => {
-                let (step, node) = leaf_step(alloc, line, room, *left, store);
-                if let Step::Expanded = step {
-                    node.offer(alloc, line, store, offering);
-                }
-                *self = node;
-                *left = left_after(step, *left);
-                step
-            }
+            Growth::Fresh => self.first_step(alloc, line, room, left, store, offering),
         }
+    }
+
+    /// A step at a fresh node.
+    fn first_step<S: Store>(
+        &mut self,
+        alloc: Global,
+        line: &mut Line,
+        room: u16,
+        left: &mut u32,
+        store: &mut S,
+        offering: &mut bool,
+    ) -> Step
+        requires open { winner_of line.old.frame line.old.state ≡ None }
+        ensures line { line.new ≡ line.old }
+        ensures may { result ≡ Closed → S.may_answer }
+        ensures taken { Taken (left.old == 0) room line.old.frame line.old.state fresh result self.new }
+        ensures left { IsLeft result left.old left.new }
+    {
+        let (step, node) = leaf_step(alloc, line, room, *left, store);
+        if let Step::Expanded = step {
+            node.offer(alloc, line, store, offering);
+        }
+        *self = node;
+        *left = left_after(step, *left);
+        step
     }
 }
 

@@ -1,6 +1,5 @@
-use Rattle.std.proofs.Common.{rules, ◌≡◌, ◌-◌, ◌⊎◌, ◌==◌, None, length, take, refl, sym, ◌∙◌, ap, subst, arith}
+use Rattle.std.proofs.Common.{rules, ◌≡◌, ◌-◌, ◌⊎◌, length, take, refl, sym, ◌∙◌, ap, subst, arith}
 use Rattle.tt_game.specs.declared.frame.Side.TheVariants.{Attacker, Defender}
-use Rattle.tt_game.specs.Game.{winner_of}
 use Rattle.tt_game.specs.Line.{Standing}
 use Rattle.tt_search.specs.Shape.{shape, IsWhole}
 use Rattle.tt_search.specs.Children.{children_of}
@@ -12,10 +11,9 @@ use Rattle.tt_search.specs.Fits.{FitsIn}
 use Rattle.tt_search.specs.Taken.{Taken}
 use Rattle.tt_search.specs.Steady.{AreSteps}
 use Rattle.tt_search.specs.Sprouting.{StepsBelow}
-use Rattle.tt_search.specs.declared.limits.Step.{Step}
 use Rattle.tt_search.specs.declared.limits.Step.TheVariants.{Expanded, Closed}
 use Rattle.tt_search.specs.declared.node.Expansion.{Expansion}
-use Rattle.tt_search.proofs.Sprouted.{fresh_here, fresh_child, not_won, rank_within_nodes, child_node, node_steps, one_step, leaf_offerable}
+use Rattle.tt_search.proofs.Sprouted.{fresh_here, fresh_child, not_won, rank_within_nodes, child_node, node_steps, one_step}
 use Rattle.tt_search.proofs.Steady.{last_round, next_round, round_falls, same_numbers, steps_offerable}
 use Rattle.tt_search.proofs.WayDown.{way_down}
 use Rattle.tt_search.proofs.+descent.Goals as goal
@@ -158,26 +156,6 @@ node::Node::round-offer-requires-clause-fits g t c =
 
 -- ---- a fresh root
 
-pub node::Node::round-offer-requires-in-Expanded-step-clause-partial : goal.node::Node::round-offer-requires-in-Expanded-step-clause-partial
-node::Node::round-offer-requires-in-Expanded-step-clause-partial g t c =
-    let nobody : winner_of c.args.line.now.frame c.args.line.now.state ≡ None = subst (IsPartialTree c.args.line.now.frame c.args.line.now.state) (sym c.self.view_is ∙ ap shape c.in-Fresh.is) c.requires.partial in
-    (leaf_offerable (c.args.left.now == 0) c.args.room c.args.line.now c.leaf_step-step.new.line c.leaf_step-step.result.0 c.leaf_step-step.result.1 c.leaf_step-step.ensures.line nobody c.in-Expanded-step.is c.leaf_step-step.ensures.taken).0
-
-pub node::Node::round-offer-requires-in-Expanded-step-clause-fits : goal.node::Node::round-offer-requires-in-Expanded-step-clause-fits
-node::Node::round-offer-requires-in-Expanded-step-clause-fits g t c =
-    let nobody : winner_of c.args.line.now.frame c.args.line.now.state ≡ None = subst (IsPartialTree c.args.line.now.frame c.args.line.now.state) (sym c.self.view_is ∙ ap shape c.in-Fresh.is) c.requires.partial in
-    (leaf_offerable (c.args.left.now == 0) c.args.room c.args.line.now c.leaf_step-step.new.line c.leaf_step-step.result.0 c.leaf_step-step.result.1 c.leaf_step-step.ensures.line nobody c.in-Expanded-step.is c.leaf_step-step.ensures.taken).1
-
-pub node::Node::round-returns-after-step-clause-steps : goal.node::Node::round-returns-after-step-clause-steps
-node::Node::round-returns-after-step-clause-steps g t c =
-    let here : c.args.self.now ≡ fresh = sym c.self.view_is ∙ ap shape c.in-Fresh.is in
-    let taken = subst (λ (old : PartialTree). Taken (c.args.left.now == 0) c.args.room c.args.line.now.frame c.args.line.now.state old c.leaf_step-step.result.0 c.leaf_step-step.result.1) (sym here) c.leaf_step-step.ensures.taken in
-    record {
-      how_many = 0;
-      before = c.args.self.now;
-      left_before = c.args.left.now;
-      steady = (refl, refl);
-      one = λ e. refl;
-      taken = subst (λ (new : PartialTree). Taken (c.args.left.now == 0) c.args.room c.args.line.now.frame c.args.line.now.state c.args.self.now c.leaf_step-step.result.0 new) (sym c.node.view_is) taken;
-      counted = c.left_after.ensures;
-    }
+pub node::Node::round-first_step-requires : goal.node::Node::round-first_step-requires
+node::Node::round-first_step-requires g t c =
+    record { «open» = subst (IsPartialTree c.args.line.now.frame c.args.line.now.state) (sym c.self.view_is ∙ ap shape c.in-Fresh.is) c.requires.partial }

@@ -1,5 +1,5 @@
-use Rattle.std.proofs.Common.{rules, ◌≡◌, ◌∙◌, ◌==◌, length, take, insert, sym, ap, arith}
-use Rattle.tt_search.specs.Edges.{turn_of, grown_in}
+use Rattle.std.proofs.Common.{◌∙◌, ◌==◌, length, insert, sym, ap, arith}
+use Rattle.tt_search.specs.Edges.{turn_of}
 use Rattle.tt_search.proofs.Places.{fresh_there, rank_within}
 use Rattle.tt_search.proofs.Sprouted.{stays, stays_for_memory, leaf_offerable, put, put_whole}
 use Rattle.tt_search.proofs.growing.sprout.Goals as goal
