@@ -4,6 +4,7 @@ pub mod DeskClosing
 pub mod PlainDesk
 pub mod NodeCounts
 pub mod PlaceLemmas
+pub mod Newest
 pub mod Lost
 pub mod StuckBehind
 pub mod Found

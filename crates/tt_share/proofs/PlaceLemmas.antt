@@ -79,7 +79,7 @@ low_step true n ps zero low h = omega arith
 low_step true n ps (suc j) low h = let e = low j (omega (arith, h)) in omega (arith, e)
 low_step false n ps j low h = let e = low j h in omega (arith, e)
 
-place_low : {X : Type 0} (t : X → Bool) (n : ℕ) (xs : List X) (j : ℕ) → j < length (places_from t n xs) → n ≤ get_or (places_from t n xs) j 0
+pub place_low : {X : Type 0} (t : X → Bool) (n : ℕ) (xs : List X) (j : ℕ) → j < length (places_from t n xs) → n ≤ get_or (places_from t n xs) j 0
 place_low t n [] j h = omega (arith, h)
 place_low t n (y ∷ ys) j h = low_step (t y) n (places_from t (n + 1) ys) j (place_low t (n + 1) ys) h
 

@@ -1,5 +1,5 @@
 -- How a table finds the places of a key by an index. Only private contracts cite these.
-use Rattle.std.specs.Prelude.{◌≡◌, ℕ, Bool, List, [], unwrap_or}
+use Rattle.std.specs.Prelude.{◌≡◌, ℕ, ◌⊎◌, Bool, List, [], ◌∷◌, Option, Some, None, unwrap_or}
 use Rattle.std.specs.Option.{option_map}
 use Rattle.std.specs.HashMap.{HashMap, get}
 use Rattle.std.specs.declared.vec.Vec.{Vec}
@@ -22,3 +22,8 @@ IsIndexOf index ps = (k : Key) → places_at same_key index k ≡ places_of k ps
 pub record IsFor (k : Key) (side : Side) (p : Proven) : Type 0 where
   pub has_key : key_of p.frame p.state ≡ k
   pub for_side : p.side ≡ side
+
+-- the answer is the newest proof of the key for the side, or none where there is none; the list begins with the newest
+abbrev pub IsNewest : Key → Side → List Proven → Option Proven → Type 0
+IsNewest k side [] o = o ≡ None
+IsNewest k side (p ∷ ps) o = (IsFor k side p × (o ≡ Some p)) ⊎ ((IsFor k side p → ⊥) × IsNewest k side ps o)

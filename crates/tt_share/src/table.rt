@@ -1,11 +1,12 @@
 //! The table: proofs in the order in which they came, the places of each key, and the nodes of all trees.
 
-ghost use Rattle.std.specs.Prelude.{◌≡◌, ◌++◌, ◌∷◌, [], ◌+◌, ◌-◌, ◌^◌, min, length, IfOk, IfSome, OnOk, OnErr, if◌then◌else◌};
+ghost use Rattle.std.specs.Prelude.{◌≡◌, ◌++◌, ◌∷◌, [], ◌+◌, ◌-◌, ◌^◌, min, length, reverse, IfOk, IfSome, OnOk, OnErr, if◌then◌else◌};
 ghost use Rattle.std.specs.Arc.{arc_value};
+ghost use Rattle.std.specs.Option.{option_map};
 ghost use Rattle.tt_game.specs.Keys.{key_of};
 ghost use Rattle.tt_proof.specs.Strategy.{strategy_of, entries_of_trees};
 ghost use Rattle.tt_share.specs.Nodes.{nodes, nodes_of_entries};
-ghost use Rattle.tt_share.specs.Places.{IsFor, places_at};
+ghost use Rattle.tt_share.specs.Places.{IsFor, IsNewest, places_at};
 ghost use Rattle.tt_share.specs.Table.{same_key, places_of, nodes_of};
 
 use std::alloc::Global;
@@ -169,7 +170,8 @@ impl TableState {
 
     /// The last proof of the key for the side.
     fn newest(&self, k: &Key, s: Side) -> Option<&Arc<Proof>>
-        ensures { IfSome result (λ r. IsFor k.now s (arc_value r.now)) }
+        ensures newest { IsNewest k.now s (reverse self.now) (option_map (λ r. arc_value r.now) result) }
+        ensures found { IfSome result (λ r. IsFor k.now s (arc_value r.now)) }
     {
         let places = self.places(k);
         let mut left = places.len();
@@ -186,7 +188,8 @@ impl TableState {
 
     /// A handle of the last proof of the key for the side, or none.
     pub(crate) fn find(&self, k: &Key, s: Side) -> Result<Option<Arc<Proof>>, NoMemory>
-        ensures { IfOk result (λ o. IfSome o (λ p. IsFor k.now s (arc_value p))) }
+        ensures newest { IfOk result (λ o. IsNewest k.now s (reverse self.now) (option_map (λ p. arc_value p) o)) }
+        ensures found { IfOk result (λ o. IfSome o (λ p. IsFor k.now s (arc_value p))) }
     {
         let Some(p) = self.newest(k, s) else {
             return Ok(None);

@@ -1,0 +1,147 @@
+-- The newest proof of a key for a side, found from the last place of the key down.
+use Rattle.std.proofs.Math.Nat.{zero-add}
+use Rattle.std.proofs.Common.{◌≡◌, ℕ, zero, suc, ◌+◌, ◌-◌, ◌<◌, ◌≤◌, Bool, true, false, cond, List, [], ◌∷◌, ◌++◌, Option, Some, None, slice_get, get_or, length, reverse, map, inl, inr, refl, sym, ap, subst, ◌∙◌, arith}
+use Rattle.std.proofs.lemmas.List.{reverse-append, append_assoc}
+use Rattle.std.proofs.lemmas.Option.{slice_get_read, slice_get-map}
+use Rattle.std.proofs.lemmas.Bool.{false≢true}
+use Rattle.std.specs.Option.{option_map}
+use mathlib.Core.Logic.{dite}
+use native.Mathlib.Decide.{dec_lt}
+use Rattle.tt_game.specs.declared.frame.Side.{Side}
+use Rattle.tt_game.specs.declared.keys.Key.{Key}
+use Rattle.tt_game.specs.Keys.{key_of}
+use Rattle.tt_proof.specs.Proven.{Proven}
+use Rattle.tt_share.specs.Table.{same_key, places_from, places_of}
+use Rattle.tt_share.specs.Places.{IsFor, IsNewest}
+use Rattle.tt_share.proofs.PlaceLemmas.{same_key_is, place_low}
+
+-- ---- the newest proof, by its place in the list
+
+some_none : {X : Type 0} (x : X) → Some x ≡ None → ⊥
+some_none x e = cc
+
+-- no proof is for the key and the side
+abbrev NoneFor : Key → Side → List Proven → Type 0
+NoneFor k side ps = (i : ℕ) (p : Proven) → slice_get ps i ≡ Some p → IsFor k side p → ⊥
+
+more_before : (k : Key) (side : Side) (ps qs : List Proven) (p : Proven) → IsNewest k side ps (Some p) → IsNewest k side (ps ++ qs) (Some p)
+more_before k side [] qs p h = absurd (some_none p h)
+more_before k side (q ∷ ps) qs p (inl h) = inl h
+more_before k side (q ∷ ps) qs p (inr h) = inr (h.0, more_before k side ps qs p h.1)
+
+turned : (p : Proven) (ps qs : List Proven) → reverse (p ∷ ps) ++ qs ≡ reverse ps ++ p ∷ qs
+turned p ps qs = ap (λ (l : List Proven). l ++ qs) (reverse-append (p ∷ []) ps) ∙ append_assoc (reverse ps) (p ∷ []) qs
+
+none_after : (k : Key) (side : Side) (ps qs : List Proven) (o : Option Proven) → NoneFor k side ps → IsNewest k side qs o → IsNewest k side (reverse ps ++ qs) o
+none_after k side [] qs o none h = h
+none_after k side (p ∷ ps) qs o none h =
+    let rest = none_after k side ps (p ∷ qs) o (λ i q at is. none (suc i) q at is) (inr (λ is. none 0 p refl is, h)) in
+    subst (λ l. IsNewest k side l o) (sym (turned p ps qs)) rest
+
+none_newest : (k : Key) (side : Side) (ps : List Proven) → NoneFor k side ps → IsNewest k side (reverse ps) None
+none_newest k side [] none = refl
+none_newest k side (p ∷ ps) none =
+    let rest = none_after k side ps (p ∷ []) None (λ i q at is. none (suc i) q at is) (inr (λ is. none 0 p refl is, refl)) in
+    subst (λ l. IsNewest k side l None) (sym (reverse-append (p ∷ []) ps)) rest
+
+last_newest : (k : Key) (side : Side) (ps : List Proven) (i : ℕ) (p : Proven) → slice_get ps i ≡ Some p → IsFor k side p
+    → ((j : ℕ) (q : Proven) → i < j → slice_get ps j ≡ Some q → IsFor k side q → ⊥) → IsNewest k side (reverse ps) (Some p)
+last_newest k side [] i p at is later = absurd (some_none p (sym at))
+last_newest k side (q ∷ ps) zero p at is later =
+    let same : q ≡ p = cc in
+    let this : IsNewest k side (q ∷ []) (Some p) = inl (subst (IsFor k side) (sym same) is, ap Some (sym same)) in
+    let rest = none_after k side ps (q ∷ []) (Some p) (λ j r there for. later (suc j) r (omega arith) there for) this in
+    subst (λ l. IsNewest k side l (Some p)) (sym (reverse-append (q ∷ []) ps)) rest
+last_newest k side (q ∷ ps) (suc i) p at is later =
+    let front = last_newest k side ps i p at is (λ j r more there for. later (suc j) r (omega (arith, more)) there for) in
+    subst (λ l. IsNewest k side l (Some p)) (sym (reverse-append (q ∷ []) ps)) (more_before k side (reverse ps) (q ∷ []) p front)
+
+-- ---- the places of what passes a test
+
+-- the number stands in the list
+abbrev Stands : ℕ → List ℕ → Type 0
+Stands n places = (j : ℕ) × (j < length places) × (get_or places j 0 ≡ n)
+
+here : (b : Bool) (n : ℕ) (places : List ℕ) → b ≡ true → Stands (n + 0) (cond b (n ∷ places) places)
+here true n places e = (0, omega arith, omega arith)
+here false n places e = absurd (false≢true e)
+
+later : (b : Bool) (n i : ℕ) (places : List ℕ) → Stands (n + 1 + i) places → Stands (n + suc i) (cond b (n ∷ places) places)
+later true n i places h = (suc h.0, omega (arith, h.1), h.2 ∙ omega arith)
+later false n i places h = (h.0, h.1, h.2 ∙ omega arith)
+
+-- what passes the test has its place
+placed : {X : Type 0} (t : X → Bool) (n : ℕ) (xs : List X) (x : X) (i : ℕ) → slice_get xs i ≡ Some x → t x ≡ true → Stands (n + i) (places_from t n xs)
+placed t n [] x i at is = absurd (some_none x (sym at))
+placed t n (y ∷ ys) x zero at is = let same : x ≡ y = cc in here (t y) n (places_from t (n + 1) ys) (subst (λ z. t z ≡ true) same is)
+placed t n (y ∷ ys) x (suc i) at is = later (t y) n i (places_from t (n + 1) ys) (placed t (n + 1) ys x i at is)
+
+rise_step : (b : Bool) (n : ℕ) (places : List ℕ) (j k : ℕ) → ((l : ℕ) → l < length places → n + 1 ≤ get_or places l 0)
+    → ((l m : ℕ) → l ≤ m → m < length places → get_or places l 0 ≤ get_or places m 0)
+    → j ≤ k → k < length (cond b (n ∷ places) places) → get_or (cond b (n ∷ places) places) j 0 ≤ get_or (cond b (n ∷ places) places) k 0
+rise_step true n places zero zero low rest le h = omega arith
+rise_step true n places zero (suc k) low rest le h = let e = low k (omega (arith, h)) in omega (arith, e)
+rise_step true n places (suc j) zero low rest le h = absurd (omega (arith, le))
+rise_step true n places (suc j) (suc k) low rest le h = rest j k (omega (arith, le)) (omega (arith, h))
+rise_step false n places j k low rest le h = rest j k le h
+
+-- places rise
+rise : {X : Type 0} (t : X → Bool) (n : ℕ) (xs : List X) (j k : ℕ) → j ≤ k → k < length (places_from t n xs) → get_or (places_from t n xs) j 0 ≤ get_or (places_from t n xs) k 0
+rise t n [] j k le h = absurd (omega (arith, h))
+rise t n (y ∷ ys) j k le h = rise_step (t y) n (places_from t (n + 1) ys) j k (place_low t (n + 1) ys) (rise t (n + 1) ys) le h
+
+-- ---- from the last place of the key down
+
+-- each proof of the key for the side stands at one of the first so many places
+abbrev pub AmongFirst : Key → Side → List Proven → List ℕ → ℕ → Type 0
+AmongFirst k side ps places left = (i : ℕ) (p : Proven) → slice_get ps i ≡ Some p → IsFor k side p → (j : ℕ) × (j < left) × (get_or places j 0 ≡ i)
+
+pub among_all : (k : Key) (side : Side) (ps : List Proven) (places : List ℕ) → places ≡ places_of k ps → AmongFirst k side ps places (length places)
+among_all k side ps places are i p at is =
+    let all = placed (λ (d : Proven). same_key k (key_of d.frame d.state)) 0 ps p i at (same_key_is k (key_of p.frame p.state) (sym is.has_key)) in
+    subst (λ (l : List ℕ). (j : ℕ) × (j < length l) × (get_or l j 0 ≡ i)) (sym are) (all.0, all.1, all.2 ∙ zero-add i)
+
+-- the value at the place behind a list's own
+read_value : {A : Type 0} (value : A → Proven) (xs : List A) (i : ℕ) (o : Option A) (p : Proven) → slice_get xs i ≡ o → option_map value o ≡ Some p → (x : A) × (slice_get xs i ≡ Some x) × (value x ≡ p)
+read_value value xs i None p e is = absurd (some_none p (sym is))
+read_value value xs i (Some x) p e is = (x, e, cc is)
+
+-- the last of these places has no such proof
+pub among_fewer : {A : Type 0} (value : A → Proven) (k : Key) (side : Side) (xs : List A) (ps : List Proven) (places : List ℕ) (left : ℕ) → map value xs ≡ ps
+    → ((x : A) → slice_get xs (get_or places (left - 1) 0) ≡ Some x → (value x).side ≡ side → ⊥) → AmongFirst k side ps places left → AmongFirst k side ps places (left - 1)
+among_fewer value k side xs ps places left all other among i p at is =
+    let first = among i p at is in
+    dite (dec_lt first.0 (left - 1)) (λ lt. (first.0, lt, first.2))
+    (λ ge. let h = first.1 in
+    let last : first.0 ≡ left - 1 = omega (arith, h, ge) in
+    let there : slice_get (map value xs) i ≡ Some p = subst (λ l. slice_get l i ≡ Some p) (sym all) at in
+    let read = read_value value xs i (slice_get xs i) p refl (sym (slice_get-map value xs i) ∙ there) in
+    let place : i ≡ get_or places (left - 1) 0 = sym first.2 ∙ ap (λ j. get_or places j 0) last in
+    absurd (other read.0 (subst (λ j. slice_get xs j ≡ Some read.0) place read.1) (ap (λ (q : Proven). q.side) read.2 ∙ is.for_side)))
+
+-- what is read there is the value that stands there
+pub read_side : {A : Type 0} (value : A → Proven) (xs : List A) (i : ℕ) (x y : A) (side : Side) → i < length xs → x ≡ get_or xs i x → slice_get xs i ≡ Some y → (value y).side ≡ side → (value x).side ≡ side
+read_side value xs i x y side inside is at for =
+    let there : slice_get xs i ≡ Some x = slice_get_read xs (length xs) i x refl inside is in
+    let same : x ≡ y = cc in
+    ap (λ z. (value z).side) same ∙ for
+
+pub none_is_newest : (k : Key) (side : Side) (ps : List Proven) (places : List ℕ) (left : ℕ) → left ≡ 0 → AmongFirst k side ps places left → IsNewest k side (reverse ps) None
+none_is_newest k side ps places left done among =
+    none_newest k side ps (λ i p at is. let first = among i p at is in let h = first.1 in absurd (omega (arith, h, done)))
+
+pub found_is_newest : {A : Type 0} (value : A → Proven) (k : Key) (side : Side) (xs : List A) (ps : List Proven) (x : A) (places : List ℕ) (left : ℕ) → map value xs ≡ ps → places ≡ places_of k ps
+    → left - 1 < length places → get_or places (left - 1) 0 < length xs → x ≡ get_or xs (get_or places (left - 1) 0) x → IsFor k side (value x) → AmongFirst k side ps places left
+    → IsNewest k side (reverse ps) (Some (value x))
+found_is_newest value k side xs ps x places left all are h inside is answers among =
+    let place = get_or places (left - 1) 0 in
+    let at : slice_get xs place ≡ Some x = slice_get_read xs (length xs) place x refl inside is in
+    let there : slice_get ps place ≡ Some (value x) = subst (λ l. slice_get l place ≡ Some (value x)) all (slice_get-map value xs place ∙ ap (option_map value) at) in
+    last_newest k side ps place (value x) there answers
+    (λ j q more at_j for.
+    let first = among j q at_j for in
+    let lt = first.1 in
+    let at_first = first.2 in
+    let up = subst (λ (l : List ℕ). get_or l first.0 0 ≤ get_or l (left - 1) 0) (sym are)
+    (rise (λ (d : Proven). same_key k (key_of d.frame d.state)) 0 ps first.0 (left - 1) (omega (arith, lt)) (subst (λ (l : List ℕ). left - 1 < length l) are h)) in
+    omega (arith, more, up, at_first))
