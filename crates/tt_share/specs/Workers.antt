@@ -1,12 +1,30 @@
 -- What workers hand back. Only private contracts cite these.
-use Rattle.std.specs.Prelude.{◌≡◌, All}
+use Rattle.std.specs.Prelude.{◌≡◌, ℕ, ◌+◌, Bool, IsTrue, All, List, length, Some, slice_get}
 use Rattle.atomic_table.specs.Seated.{TableId}
+use Rattle.tt_game.specs.declared.frame.Side.{Side}
 use Rattle.tt_game.specs.Line.{Standing}
 use Rattle.tt_search.specs.declared.limits.Limits.{Limits}
+use Rattle.tt_search.specs.declared.search.End.{End}
+use Rattle.tt_search.specs.declared.search.End.TheVariants.{Settled, Stuck}
 use Rattle.tt_share.specs.Jobs.{Fits}
+use Rattle.tt_share.specs.declared.jobs.Found.{Found}
 use Rattle.tt_share.specs.declared.workers.HandedBack.{HandedBack}
 
--- the seat is the desk's, and each result is that of its job's turn
+-- the result is a proof for the side
+abbrev pub IsWinFor : Side → End → Type 0
+IsWinFor side (Settled p) = p.side ≡ side
+IsWinFor side (Stuck reason search) = ⊥
+
+-- some result is a win for the side
+abbrev pub SomeWin : Side → List Found → Type 0
+SomeWin side found = (i : ℕ) × (f : Found) × (slice_get found i ≡ Some f) × IsWinFor side f.end
+
+-- a result that is a win for the side is the last one, and the mark was raised
+abbrev pub WinsAreLast : Side → Bool → List Found → Type 0
+WinsAreLast side mark found = (i : ℕ) (f : Found) → slice_get found i ≡ Some f → IsWinFor side f.end → (i + 1 ≡ length found) × IsTrue mark
+
+-- the seat is the desk's, each result is that of its job's turn, and no job was searched after one that was won
 pub record IsWork (line : Standing) (limits : Limits) (desk : TableId) (back : HandedBack) : Type 0 where
   pub seat : back.seat.desk ≡ desk
   pub found : All (Fits line limits) back.found.items
+  pub wins : WinsAreLast line.state.to_move back.seat.mark back.found.items

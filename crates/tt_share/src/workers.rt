@@ -1,13 +1,14 @@
 //! Workers: threads that draw the jobs of a line at a desk and search them, and what comes back of them.
 
-ghost use Rattle.std.specs.Prelude.{◌≡◌, ◌≤◌, ◌<◌, [], All, IfOk, length, vec_len, vec_capacity};
+ghost use Rattle.std.specs.Prelude.{◌≡◌, ◌≤◌, ◌<◌, ◌↔◌, ◌⊎◌, ◌||◌, [], ◌∷◌, ◌++◌, All, None, IfOk, IfSome, IsTrue, length, vec_len, vec_capacity};
 ghost use Rattle.tt_game.specs.Turns.{legal_turns};
 ghost use Rattle.tt_share.specs.Jobs.{FitsAt, Fits, AllFit};
-ghost use Rattle.tt_share.specs.Workers.{IsWork};
+ghost use Rattle.tt_share.specs.Seats.{seat_of};
+ghost use Rattle.tt_share.specs.Workers.{IsWinFor, SomeWin, IsWork};
 
 use crate::desk::{Desk, Seat};
 use crate::gate::Gate;
-use crate::jobs::{Found, is_stuck, is_win, place, search_job, trimmed};
+use crate::jobs::{Found, is_stuck, place, search_job, trimmed};
 use crate::locked::{LockedStore, Table};
 use std::alloc::Global;
 use std::sync::Wait;
@@ -46,15 +47,40 @@ fn search_drawn<S: Store, G: Gate>(
     end
 }
 
+/// Whether a result is a proof for the side to move.
+fn is_won(line: &Line, end: &End) -> bool
+    ensures { IsTrue result ↔ IsWinFor line.now.state.to_move end.now }
+{
+    match end {
+        End::Settled(proof) => proof.side() == line.to_move(),
+        End::Stuck(_, _) => false,
+    }
+}
+
 /// Raises the mark where a job was settled for the side to move.
 fn raise_for(desk: &Desk, seat: &mut Seat, won: bool)
     requires { seat.old.desk ≡ desk.now.id }
-    ensures desk { seat.new.desk ≡ seat.old.desk }
-    ensures numbers { seat.new.numbers ≡ seat.old.numbers }
+    ensures { seat.new ≡ seat_of seat.old.desk seat.old.numbers (seat.old.mark || won) seat.old.sighting }
 {
     if won {
         desk.raise(seat);
     }
+}
+
+/// Draws a job, with room for its result. A seat that raised the mark, or sees it or saw it before, draws no more.
+fn next_job(desk: &Desk, seat: &mut Seat, found: &mut Vec<Found>) -> Option<usize>
+    requires { seat.old.desk ≡ desk.now.id }
+    ensures seat { (seat.new.desk ≡ seat.old.desk) × (seat.new.mark ≡ seat.old.mark) }
+    ensures saw { IsTrue seat.old.sighting → IsTrue seat.new.sighting }
+    ensures stopped { IsTrue (seat.new.mark || seat.new.sighting) → (result ≡ None) × (seat.new.numbers ≡ seat.old.numbers) }
+    ensures job { IfSome result (λ n. (n < desk.now.jobs) × (length seat.old.numbers ≤ n) × (seat.new.numbers ≡ seat.old.numbers ++ n ∷ [])) }
+    ensures room { IfSome result (λ _. vec_len found.new < vec_capacity found.new) }
+    ensures found { found.new.items ≡ found.old.items }
+{
+    if desk.raised(seat) || found.reserve(1).is_err() {
+        return None;
+    }
+    desk.draw(seat)
 }
 
 /// Draws jobs and searches them until no job is left, the mark is seen or memory is refused. Room for a result comes
@@ -74,21 +100,16 @@ pub(crate) fn work<S: Store, G: Gate>(
     requires turns { turns.now ≡ legal_turns line.now.frame line.now.state }
     requires jobs { desk.now.jobs ≡ length turns.now }
     requires seat { seat.desk ≡ desk.now.id }
-    ensures { IsWork line.now limits.now desk.now.id result }
+    ensures work { IsWork line.now limits.now desk.now.id result }
+    ensures mark { IsTrue result.seat.mark → IsTrue seat.mark ⊎ SomeWin line.now.state.to_move result.found.items }
 {
     let mut found = Vec::new(alloc);
     let mut past_stuck = false;
-    'jobs: while !desk.raised(&mut seat) {
-        if found.reserve(1).is_err() {
-            break;
-        }
-        let Some(job) = desk.draw(&mut seat) else {
-            break;
-        };
+    'jobs: while let Some(job) = next_job(desk, &mut seat, &mut found) {
         let end = search_drawn(alloc, line, limits, turns, gate, job, store);
-        raise_for(desk, &mut seat, is_win(&end, line.to_move()));
         let end = trimmed(line, limits, past_stuck, job, end);
         past_stuck = past_stuck || is_stuck(&end);
+        raise_for(desk, &mut seat, is_won(line, &end));
         found.push_reserved(Found { job, end });
     }
     HandedBack { seat, found }
