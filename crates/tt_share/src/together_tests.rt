@@ -170,6 +170,108 @@ fn each_job_is_told(rt: HostRuntime) -> Result<(), Fail> {
     Ok(())
 }
 
+/// How many jobs begin and how many end where one worker searches a problem. The table holds nothing.
+fn told_alone<R: Threads + Wait + Sync>(
+    rt: &R,
+    alloc: Global,
+    problem: &[u8],
+    budget: u32,
+    want: &[u8],
+) -> Result<(u64, u64), Fail> {
+    let table = Table::new(alloc)?;
+    let gate = Counting {
+        begun: AtomicU64::new(0),
+        ended: AtomicU64::new(0),
+    };
+    let limits = Limits::new(budget, 512);
+    let got = solved(rt, alloc, problem, limits, 1, &table, &gate)?;
+    if got.as_slice() != want {
+        return Err(Fail::new("another answer"));
+    }
+    let begun = gate.begun.load(Ordering::SeqCst);
+    let ended = gate.ended.load(Ordering::SeqCst);
+    Ok((begun, ended))
+}
+
+/// A worker that has won a job begins no other: of two legal turns the first wins, twice; of three the second, and of
+/// three the last.
+#[test]
+fn no_job_after_a_win(rt: HostRuntime) -> Result<(), Fail> {
+    let alloc = rt.alloc();
+    let rows: [(&[u8], u32, &[u8], u64); 4] = [
+        (b"(;SZ[2:1]AW[ba]PL[B]TR[ba])", 100_000, b"killed aa", 1),
+        (b"(;SZ[4:1]AW[ba][da]PL[B]TR[ba])", 100_000, b"killed ca", 1),
+        (b"(;SZ[4:1]AB[ba]AW[ca]PL[B]TR[ca])", 1, b"killed da", 2),
+        (b"(;SZ[3:1]AW[ba]PL[W]TR[ba])", 100_000, b"lives pass", 3),
+    ];
+    for (problem, budget, want, jobs) in rows {
+        assert!(&rt; told_alone(&rt, alloc, problem, budget, want)? == (jobs, jobs));
+    }
+    Ok(())
+}
+
+/// Holds what was told of each of three jobs: 1 once it began, 2 once it ended. What comes out of turn is counted.
+#[derive(Drop)]
+struct InTurn {
+    told: [AtomicU64; 3],
+    astray: AtomicU64,
+}
+
+impl InTurn {
+    /// One more thing is told of the job, of which so many were told before.
+    fn tell(&self, job: usize, before: u64) {
+        let found = match self.told.get(job) {
+            Some(one) => one.fetch_add(1, Ordering::SeqCst),
+            None => 3,
+        };
+        if found != before {
+            self.astray.fetch_add(1, Ordering::SeqCst);
+        }
+    }
+}
+
+impl Gate for InTurn {
+    fn begin(&self, job: usize) {
+        self.tell(job, 0);
+    }
+
+    fn end(&self, job: usize) {
+        self.tell(job, 1);
+    }
+}
+
+/// Fails unless each job is told of twice, as it begins and after that as it ends, where no turn wins.
+fn each_in_turn<R: Threads + Wait + Sync>(rt: &R, alloc: Global, workers: usize) -> Result<(), Fail>
+    requires { (1 ≤ workers) × (workers ≤ 64) }
+{
+    let table = Table::new(alloc)?;
+    let gate = InTurn {
+        told: [AtomicU64::new(0), AtomicU64::new(0), AtomicU64::new(0)],
+        astray: AtomicU64::new(0),
+    };
+    let problem = b"(;SZ[4:1]AW[ba]PL[B]TR[ba])";
+    let limits = Limits::new(100_000, 512);
+    solved(rt, alloc, problem, limits, workers, &table, &gate)?;
+    if gate.astray.load(Ordering::SeqCst) != 0 {
+        return Err(Fail::new("out of turn"));
+    }
+    for one in &gate.told {
+        if one.load(Ordering::SeqCst) != 2 {
+            return Err(Fail::new("not told twice"));
+        }
+    }
+    Ok(())
+}
+
+#[test]
+fn a_job_begins_before_it_ends(rt: HostRuntime) -> Result<(), Fail> {
+    let alloc = rt.alloc();
+    for workers in [1usize, 2, 64] {
+        each_in_turn(&rt, alloc, workers)?;
+    }
+    Ok(())
+}
+
 /// The proof of a solved line is offered to the table, which has it for the same line: no job begins.
 #[test]
 fn a_solved_line_is_found(rt: HostRuntime) -> Result<(), Fail> {
