@@ -1,5 +1,5 @@
 -- What the answer to a line says.
-use Rattle.std.specs.Prelude.{◌≡◌, ℕ, ◌+◌, ◌<◌, ◌≤◌, ◌↔◌, ◌⊎◌, Option, Some, IsSome}
+use Rattle.std.specs.Prelude.{◌≡◌, ℕ, ◌+◌, ◌<◌, ◌≤◌, ◌↔◌, ◌⊎◌, Option, Some, None, IsSome}
 use Rattle.std.specs.Arc.{arc_value}
 use Rattle.tt_game.specs.declared.frame.Frame.{Frame}
 use Rattle.tt_game.specs.declared.turns.Turn.{Turn}
@@ -45,10 +45,10 @@ pub record IsStuckBehind (line : Standing) (limits : Limits) (reason : Reason) (
   pub stuck_for : IsStuckFor reason search
   pub lesser : LesserLose line.frame line.state t
 
--- memory was refused: outside a job the turn is a pass, inside one it is the job's, and the lesser turns lose; a search
--- that is held is behind that turn
+-- memory was refused: outside a job the turn is a pass and no search is held, inside one it is the job's, and the lesser
+-- turns lose; a search that is held is behind that turn
 pub record IsRefused (line : Standing) (limits : Limits) (stuck : Stuck) : Type 0 where
-  pub turn : (stuck.turn ≡ Pass) ⊎ (IsLegal line.frame line.state stuck.turn × LesserLose line.frame line.state stuck.turn)
+  pub turn : ((stuck.turn ≡ Pass) × (stuck.search ≡ None)) ⊎ (IsLegal line.frame line.state stuck.turn × LesserLose line.frame line.state stuck.turn)
   pub behind : (search : Searched) → stuck.search ≡ Some search → IsBehind line limits stuck.turn search × IsGrown search.limits search.line.frame search.line.state search.tree
 
 -- the search that is held is stuck behind the turn, or memory was refused

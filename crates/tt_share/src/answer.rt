@@ -17,7 +17,7 @@ pub enum Answer {
     Unsettled(Stuck),
 }
 
-/// The least turn that is stuck, and why. Where memory was refused outside a job the turn is a pass.
+/// The least turn that is stuck, and why. Where memory was refused outside a job the turn is a pass, with no search.
 #[derive(Drop)]
 pub struct Stuck {
     /// A legal turn; after each lesser legal one the side that isn't to move can force its win.
