@@ -1,5 +1,6 @@
 -- Jobs: the legal turns of a line, each searched by itself. Only private contracts cite these.
-use Rattle.std.specs.Prelude.{◌≡◌, ℕ, ◌+◌, ◌≤◌, All, List, Option, Some, None, slice_get, take, length}
+use Rattle.std.specs.Prelude.{◌≡◌, ℕ, ◌+◌, ◌<◌, ◌≤◌, ◌⊎◌, Bool, true, false, All, List, Option, Some, None, slice_get, take, length}
+use Rattle.tt_game.specs.declared.frame.Side.{Side}
 use Rattle.tt_game.specs.declared.turns.Turn.{Turn}
 use Rattle.tt_game.specs.Game.{after, opponent}
 use Rattle.tt_game.specs.Line.{Standing}
@@ -41,6 +42,47 @@ FitFrom line limits i slots = (k : ℕ) (end : End) → i ≤ k → slice_get sl
 
 abbrev pub AllFit : Standing → Limits → List (Option End) → Type 0
 AllFit line limits slots = FitFrom line limits 0 slots
+
+-- the result is a proof for the side
+abbrev pub IsWinFor : Side → End → Type 0
+IsWinFor side (Settled p) = p.side ≡ side
+IsWinFor side (Stuck reason search) = ⊥
+
+-- there is a result, and it is a proof for the side
+abbrev pub IsWinIn : Side → Option End → Type 0
+IsWinIn side None = ⊥
+IsWinIn side (Some end) = IsWinFor side end
+
+-- the job has this result
+abbrev pub HasEnd : List (Option End) → ℕ → End → Type 0
+HasEnd slots job end = slice_get slots job ≡ Some (Some end)
+
+-- the job has a result, and that is a proof for the side
+abbrev pub IsWinAt : Side → List (Option End) → ℕ → Type 0
+IsWinAt side slots job = (end : End) × HasEnd slots job end × IsWinFor side end
+
+-- no job has
+abbrev pub NoWin : Side → List (Option End) → Type 0
+NoWin side slots = (job : ℕ) → ¬ IsWinAt side slots job
+
+-- and no lesser job has
+pub record IsLeastWin (side : Side) (slots : List (Option End)) (job : ℕ) : Type 0 where
+  pub wins : IsWinAt side slots job
+  pub least : (lesser : ℕ) → lesser < job → ¬ IsWinAt side slots lesser
+
+-- each job below the count has a result
+abbrev pub FilledBelow : ℕ → List (Option End) → Type 0
+FilledBelow count slots = (job : ℕ) → job < count → (end : End) × HasEnd slots job end
+
+-- some job has a proof for the side, or each has a result
+abbrev pub IsReady : Side → List (Option End) → Type 0
+IsReady side slots = ((job : ℕ) × IsWinAt side slots job) ⊎ FilledBelow (length slots) slots
+
+-- a result as it is kept: a stuck search is dropped where a lesser job is stuck
+abbrev pub kept_of : Bool → End → End
+kept_of past_stuck (Settled p) = Settled p
+kept_of false (Stuck reason search) = Stuck reason search
+kept_of true (Stuck reason search) = Stuck Memory None
 
 -- the turn has lost: the proof stands after it, for the side that is not to move, and leaves room for the turn
 pub record IsLost (line : Standing) (limits : Limits) (child : Turn × Proven) : Type 0 where

@@ -1,13 +1,14 @@
 //! The answer that the results of the jobs make.
 
-ghost use Rattle.std.specs.Prelude.{◌≡◌, ◌+◌, ◌≤◌, ◌↔◌, None, IsSome, OnOk, length, vec_len};
+ghost use Rattle.std.specs.Prelude.{◌≡◌, ℕ, ◌+◌, ◌≤◌, ◌↔◌, Option, Some, None, IsSome, OnOk, length, vec_len};
 ghost use Rattle.tt_game.specs.Game.{IsLegal, opponent, winner_of};
 ghost use Rattle.tt_game.specs.Turns.{legal_turns};
 ghost use Rattle.tt_proof.specs.Strategy.{depth};
 ghost use Rattle.tt_proof.specs.Proven.{StandsAt, first_of};
 ghost use Rattle.tt_search.specs.declared.search.End.{End};
 ghost use Rattle.tt_share.specs.Answers.{IsAnswer};
-ghost use Rattle.tt_share.specs.Jobs.{EndsBehind, IsJob, AllFit, HaveLost};
+ghost use Rattle.tt_share.specs.Jobs.{EndsBehind, IsJob, AllFit, HaveLost, IsLeastWin, IsReady};
+ghost use Rattle.tt_share.specs.Beginning.{BeginsWith};
 
 use crate::answer::{Answer, Stuck};
 use crate::jobs::{take_result, win_at};
@@ -20,7 +21,8 @@ use tt_sgf::NoMemory;
 
 /// The answer where memory was refused outside a search.
 pub(crate) fn no_memory(line: &Line, limits: &Limits) -> Answer
-    ensures { IsAnswer line.now limits.now result }
+    ensures answer { IsAnswer line.now limits.now result }
+    ensures begins { (turn : Option Turn) → BeginsWith turn result }
 {
     let _ = line;
     let _ = limits;
@@ -48,7 +50,8 @@ pub(crate) fn settled(alloc: Global, line: &Line, limits: &Limits, proof: Proof)
     requires open { winner_of line.now.frame line.now.state ≡ None }
     requires stands { StandsAt proof line.now.frame line.now.state }
     requires low { depth proof.tree ≤ limits.now.depth }
-    ensures { IsAnswer line.now limits.now result }
+    ensures answer { IsAnswer line.now limits.now result }
+    ensures begins { BeginsWith (first_of proof.tree) result }
 {
     let first = first_turn(line, &proof);
     match Arc::new(alloc, proof) {
@@ -62,7 +65,8 @@ fn picked(alloc: Global, line: &Line, limits: &Limits, turn: &Turn, child: Proof
     requires legal { IsLegal line.now.frame line.now.state turn.now }
     requires child { EndsBehind line.now limits.now turn.now (End.Settled child) }
     requires side { child.side ≡ line.now.state.to_move }
-    ensures { IsAnswer line.now limits.now result }
+    ensures answer { IsAnswer line.now limits.now result }
+    ensures begins { BeginsWith (Some turn.now) result }
 {
     let _most = limits.depth();
     match Proof::pick(alloc, line, *turn, child) {
@@ -76,7 +80,8 @@ fn replied(alloc: Global, line: &Line, limits: &Limits, children: Vec<(Turn, Pro
     requires open { winner_of line.now.frame line.now.state ≡ None }
     requires lost { HaveLost line.now limits.now children.items }
     requires all { vec_len children ≡ length (legal_turns line.now.frame line.now.state) }
-    ensures { IsAnswer line.now limits.now result }
+    ensures answer { IsAnswer line.now limits.now result }
+    ensures begins { BeginsWith None result }
 {
     let _most = limits.depth();
     match Proof::reply(alloc, line, children) {
@@ -146,25 +151,23 @@ pub(crate) fn conclude(
     requires turns { turns.now ≡ legal_turns line.now.frame line.now.state }
     requires slots { AllFit line.now limits.now slots.old.items }
     requires len { vec_len slots.old ≡ length turns.now }
-    ensures { IsAnswer line.now limits.now result }
+    requires ready { IsReady line.now.state.to_move slots.old.items }
+    ensures answer { IsAnswer line.now limits.now result }
+    ensures picks { (job : ℕ) (turn : Turn) → IsLeastWin line.now.state.to_move slots.old.items job → IsJob line.now job turn →
+        BeginsWith (Some turn) result }
 {
     let side = line.to_move();
     tt_game::laws::legal_turns();
     if let Some(i) = win_at(slots.as_slice(), side) {
-        if let Some(End::Settled(child)) = take_result(line, limits, slots, i) {
-            if child.side() == side {
-                return picked(alloc, line, limits, &turns[i], child);
-            }
-        }
-        return no_memory(line, limits);
+        return match take_result(line, limits, slots, i) {
+            Some(End::Settled(child)) => picked(alloc, line, limits, &turns[i], child),
+            _ => unreachable!(),
+        };
     }
     let mut children = Vec::new(alloc);
     for (i, turn) in turns.iter().enumerate() {
         match take_result(line, limits, slots, i) {
             Some(End::Settled(child)) => {
-                if child.side() != side.opponent() {
-                    return picked(alloc, line, limits, turn, child);
-                }
                 if note_lost(line, limits, turn, &mut children, child).is_err() {
                     return no_memory(line, limits);
                 }
@@ -172,7 +175,7 @@ pub(crate) fn conclude(
             Some(End::Stuck(reason, search)) => {
                 return stuck_at(line, limits, turn, children.as_slice(), reason, search);
             }
-            None => return no_memory(line, limits),
+            None => unreachable!(),
         }
     }
     replied(alloc, line, limits, children)

@@ -1,9 +1,10 @@
 //! Jobs: the legal turns of a line, each searched by itself.
 
-ghost use Rattle.std.specs.Prelude.{◌≡◌, ◌+◌, ◌≤◌, ◌<◌, IfOk, IfSome, length, vec_len};
+ghost use Rattle.std.specs.Prelude.{◌≡◌, ◌≢◌, ◌+◌, ◌≤◌, ◌<◌, ◌↔◌, ℕ, Bool, Some, None, IfOk, IfSome, IsTrue, MatchOption, length, slice_get, slice_set, vec_len};
 ghost use Rattle.tt_game.specs.Game.{IsLegal, after};
 ghost use Rattle.tt_game.specs.Turns.{legal_turns};
-ghost use Rattle.tt_share.specs.Jobs.{EndsBehind, IsJob, FitsAt, Fits, FitFrom, AllFit};
+ghost use Rattle.tt_search.specs.declared.search.End.{End};
+ghost use Rattle.tt_share.specs.Jobs.{EndsBehind, IsJob, FitsAt, Fits, FitFrom, AllFit, IsWinFor, IsWinIn, HasEnd, IsWinAt, NoWin, IsLeastWin, IsReady, kept_of};
 
 use std::alloc::Global;
 use tt_game::{Line, Side, Turn};
@@ -64,7 +65,9 @@ pub(crate) fn search_job<S: Store>(
 }
 
 /// Whether the result is a proof for the side.
-pub(crate) fn is_win(end: &End, side: Side) -> bool {
+pub(crate) fn is_win(end: &End, side: Side) -> bool
+    ensures { IsTrue result ↔ IsWinFor side end.now }
+{
     match end {
         End::Settled(proof) => proof.side() == side,
         End::Stuck(_, _) => false,
@@ -79,15 +82,23 @@ pub(crate) fn is_stuck(end: &End) -> bool {
     }
 }
 
+/// Whether there is a result, and it is a proof for the side.
+fn is_win_in(slot: &Option<End>, side: Side) -> bool
+    ensures { IsTrue result ↔ IsWinIn side slot.now }
+{
+    match slot {
+        Some(end) => is_win(end, side),
+        None => false,
+    }
+}
+
 /// The least place of a result that is a proof for the side.
 pub(crate) fn win_at(slots: &[Option<End>], side: Side) -> Option<usize>
-    ensures { IfSome result (λ i. i < length slots.now) }
+    ensures { MatchOption result (NoWin side slots.now) (IsLeastWin side slots.now) }
 {
     for (i, slot) in slots.iter().enumerate() {
-        if let Some(end) = slot {
-            if is_win(end, side) {
-                return Some(i);
-            }
+        if is_win_in(slot, side) {
+            return Some(i);
         }
     }
     None
@@ -121,7 +132,8 @@ fn is_past_stuck(slots: &[Option<End>], job: usize) -> bool {
 /// answered: so it is dropped where a lesser job is stuck.
 pub(crate) fn trimmed(line: &Line, limits: &Limits, past_stuck: bool, job: usize, end: End) -> End
     requires { FitsAt line.now limits.now job end }
-    ensures { FitsAt line.now limits.now job result }
+    ensures fits { FitsAt line.now limits.now job result }
+    ensures kept { result ≡ kept_of past_stuck end }
 {
     let _ = line;
     let _ = limits;
@@ -142,6 +154,9 @@ pub(crate) fn place(line: &Line, limits: &Limits, slots: &mut Vec<Option<End>>, 
     requires found { Fits line.now limits.now found }
     ensures slots { AllFit line.now limits.now slots.new.items }
     ensures len { vec_len slots.new ≡ vec_len slots.old }
+    ensures put { slice_get slots.old.items found.job ≡ Some None →
+        (past_stuck : Bool) × (slots.new.items ≡ slice_set slots.old.items found.job (Some (kept_of past_stuck found.end))) }
+    ensures same { (end : End) → slice_get slots.old.items found.job ≡ Some (Some end) → slots.new.items ≡ slots.old.items }
 {
     let Found { job, end } = found;
     if job < slots.len() && slots[job].is_none() {
@@ -161,6 +176,8 @@ pub(crate) fn take_result(
     requires slots { FitFrom line.now limits.now job slots.old.items }
     requires within { job < vec_len slots.old }
     ensures result { IfSome result (λ end. FitsAt line.now limits.now job end) }
+    ensures taken { slice_get slots.old.items job ≡ Some result }
+    ensures rest { slots.new.items ≡ slice_set slots.old.items job None }
     ensures slots { FitFrom line.now limits.now (job + 1) slots.new.items }
     ensures len { vec_len slots.new ≡ vec_len slots.old }
 {
@@ -182,14 +199,43 @@ fn search_place<S: Store>(
     requires depth { 1 ≤ limits.now.depth }
     requires job { IsJob line.now job turn.now }
     requires slots { AllFit line.now limits.now slots.old.items }
+    requires free { slice_get slots.old.items job ≡ Some None }
     ensures slots { AllFit line.now limits.now slots.new.items }
     ensures len { vec_len slots.new ≡ vec_len slots.old }
+    ensures put { (end : End) × (slots.new.items ≡ slice_set slots.old.items job (Some end))
+        × (IsTrue result ↔ IsWinFor line.now.state.to_move end) }
 {
     tt_game::laws::legal_turns();
     let end = search_job(alloc, line, limits, turn, store);
     let won = is_win(&end, line.to_move());
     place(line, limits, slots, Found { job, end });
     won
+}
+
+/// Searches a job if it has no result, and answers whether that wins for the side to move.
+fn fill_place<S: Store>(
+    alloc: Global,
+    line: &Line,
+    limits: &Limits,
+    turn: &Turn,
+    job: usize,
+    slots: &mut Vec<Option<End>>,
+    store: &mut S,
+) -> bool
+    requires depth { 1 ≤ limits.now.depth }
+    requires job { IsJob line.now job turn.now }
+    requires within { job < vec_len slots.old }
+    requires slots { AllFit line.now limits.now slots.old.items }
+    ensures slots { AllFit line.now limits.now slots.new.items }
+    ensures len { vec_len slots.new ≡ vec_len slots.old }
+    ensures filled { (end : End) × HasEnd slots.new.items job end }
+    ensures others { (k : ℕ) → k ≢ job → slice_get slots.new.items k ≡ slice_get slots.old.items k }
+    ensures won { IsTrue result → IsWinAt line.now.state.to_move slots.new.items job }
+{
+    if slots[job].is_some() {
+        return false;
+    }
+    search_place(alloc, line, limits, turn, job, slots, store)
 }
 
 /// Searches each job that has no result, in rising order, until one wins for the side to move.
@@ -207,9 +253,13 @@ pub(crate) fn search_missing<S: Store>(
     requires len { vec_len slots.old ≡ length turns.now }
     ensures slots { AllFit line.now limits.now slots.new.items }
     ensures len { vec_len slots.new ≡ vec_len slots.old }
+    ensures ready { IsReady line.now.state.to_move slots.new.items }
 {
+    if let Some(_won) = win_at(slots.as_slice(), line.to_move()) {
+        return;
+    }
     for (job, turn) in turns.iter().enumerate() {
-        if slots[job].is_none() && search_place(alloc, line, limits, turn, job, slots, store) {
+        if fill_place(alloc, line, limits, turn, job, slots, store) {
             return;
         }
     }

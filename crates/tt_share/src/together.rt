@@ -10,7 +10,7 @@ use crate::answer::Answer;
 use crate::conclude::{conclude, no_memory};
 use crate::desk::Desk;
 use crate::gate::Gate;
-use crate::jobs::{no_results, search_missing, win_at};
+use crate::jobs::{no_results, search_missing};
 use crate::locked::{LockedStore, Table};
 use crate::root::{from_store, offer};
 use crate::workers::{gather, run_workers};
@@ -81,9 +81,7 @@ fn solve_turns<R: Threads + Wait + Sync, G: Gate, S: Store>(
     {
         return no_memory(line, limits);
     }
-    if win_at(slots.as_slice(), line.to_move()).is_none() {
-        search_missing(alloc, line, limits, turns, &mut slots, store);
-    }
+    search_missing(alloc, line, limits, turns, &mut slots, store);
     conclude(alloc, line, limits, turns, &mut slots)
 }
 
