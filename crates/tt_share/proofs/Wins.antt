@@ -14,7 +14,7 @@ use Rattle.tt_game.specs.Line.{Standing}
 use Rattle.tt_game.specs.Turns.{legal_turns}
 use Rattle.tt_share.specs.declared.answer.Answer.{Answer}
 use Rattle.tt_share.specs.Beginning.{BeginsWith}
-use Rattle.tt_share.specs.Jobs.{EndsBehind, FitsAt, IsJob, IsWinIn, HasEnd, IsWinAt, NoWin, IsLeastWin, FilledBelow, IsReady}
+use Rattle.tt_share.specs.Jobs.{EndsBehind, FitsAt, IsJob, IsWinIn, HasEnd, IsWinAt, NoWin, IsLeastWin, FilledBelow, IsReady, StopsAtWin}
 use Rattle.tt_share.proofs.Places.{get_set_other}
 
 -- what holds below i and at i holds below the next
@@ -120,3 +120,32 @@ win_within side slots i win = slice_get_within slots i (Some win.0) win.1
 -- what fits a job's place is how the search behind its turn ends
 pub ends_here : (line : Standing) (limits : Limits) (i : ℕ) (t : Turn) (end is : End) → end ≡ is → FitsAt line limits i end → IsJob line i t → EndsBehind line limits t is
 ends_here line limits i t end is same fits job = subst (EndsBehind line limits t) same (fits t job)
+
+-- a win stays where its place is as it was
+pub win_kept : (side : Side) (old new : List (Option End)) (k : ℕ) → slice_get new k ≡ slice_get old k → IsWinAt side new k → IsWinAt side old k
+win_kept side old new k same win = (win.0, sym same ∙ win.1, win.2)
+
+-- one more job has no win
+pub lost_more : (side : Side) (old new : List (Option End)) (i : ℕ) → ((k : ℕ) → k < i → ¬ IsWinAt side old k) → ((k : ℕ) → k ≢ i → slice_get new k ≡ slice_get old k) → ¬ IsWinAt side new i → (k : ℕ) → k < i + 1 → ¬ IsWinAt side new k
+lost_more side old new i lost same this =
+    let below : (k : ℕ) → k < i → ¬ IsWinAt side new k = λ k low win. (let other : k ≢ i = λ e. absurd (omega (arith, low, e)) in lost k low (win_kept side old new k (same k other) win)) in
+    no_win_more side new i below this
+
+-- and the jobs behind it are as they were
+pub same_more : (first old new : List (Option End)) (i : ℕ) → ((k : ℕ) → i ≤ k → slice_get old k ≡ slice_get first k) → ((k : ℕ) → k ≢ i → slice_get new k ≡ slice_get old k) → (k : ℕ) → i + 1 ≤ k → slice_get new k ≡ slice_get first k
+same_more first old new i was same k low =
+    let other : k ≢ i = λ e. absurd (omega (arith, low, e)) in
+    same k other ∙ was k (omega (arith, low))
+
+-- the first win is that of the last job that was searched
+pub stops_at : (side : Side) (first old new : List (Option End)) (i : ℕ) → ((k : ℕ) → k < i → ¬ IsWinAt side old k) → ((k : ℕ) → i ≤ k → slice_get old k ≡ slice_get first k) → ((k : ℕ) → k ≢ i → slice_get new k ≡ slice_get old k) → StopsAtWin side first new
+stops_at side first old new i lost was same job later win low = elim (cases_lt job i) [
+  | inl h ↦
+      let other : job ≢ i = λ e. absurd (omega (arith, h, e)) in
+      absurd (lost job h (win_kept side old new job (same job other) win))
+  | inr h ↦ same_more first old new i was same later (omega arith)
+]
+
+-- with no win there is nothing to say
+pub stops_never : (side : Side) (first new : List (Option End)) → NoWin side new → StopsAtWin side first new
+stops_never side first new none job later win low = absurd (none job win)

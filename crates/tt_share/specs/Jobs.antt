@@ -78,6 +78,11 @@ FilledBelow count slots = (job : ℕ) → job < count → (end : End) × HasEnd 
 abbrev pub IsReady : Side → List (Option End) → Type 0
 IsReady side slots = ((job : ℕ) × IsWinAt side slots job) ⊎ FilledBelow (length slots) slots
 
+-- nothing was searched behind a win
+abbrev pub StopsAtWin : Side → List (Option End) → List (Option End) → Type 0
+StopsAtWin side before after =
+    (job later : ℕ) → IsWinAt side after job → job < later → slice_get after later ≡ slice_get before later
+
 -- a result as it is kept: a stuck search is dropped where a lesser job is stuck
 abbrev pub kept_of : Bool → End → End
 kept_of past_stuck (Settled p) = Settled p

@@ -1,10 +1,10 @@
 //! Jobs: the legal turns of a line, each searched by itself.
 
-ghost use Rattle.std.specs.Prelude.{◌≡◌, ◌≢◌, ◌+◌, ◌≤◌, ◌<◌, ◌↔◌, ℕ, Bool, Some, None, IfOk, IfSome, IsTrue, MatchOption, length, slice_get, slice_set, vec_len};
+ghost use Rattle.std.specs.Prelude.{◌≡◌, ◌≢◌, ◌+◌, ◌≤◌, ◌<◌, ◌↔◌, ℕ, Bool, false, Some, None, IfOk, IfSome, IsTrue, MatchOption, length, slice_get, slice_set, vec_len};
 ghost use Rattle.tt_game.specs.Game.{IsLegal, after};
 ghost use Rattle.tt_game.specs.Turns.{legal_turns};
 ghost use Rattle.tt_search.specs.declared.search.End.{End};
-ghost use Rattle.tt_share.specs.Jobs.{EndsBehind, IsJob, FitsAt, Fits, FitFrom, AllFit, IsWinFor, IsWinIn, HasEnd, IsWinAt, NoWin, IsLeastWin, IsReady, kept_of};
+ghost use Rattle.tt_share.specs.Jobs.{EndsBehind, IsJob, FitsAt, Fits, FitFrom, AllFit, IsWinFor, IsWinIn, HasEnd, IsWinAt, NoWin, IsLeastWin, IsReady, StopsAtWin, kept_of};
 
 use std::alloc::Global;
 use tt_game::{Line, Side, Turn};
@@ -231,6 +231,8 @@ fn fill_place<S: Store>(
     ensures filled { (end : End) × HasEnd slots.new.items job end }
     ensures others { (k : ℕ) → k ≢ job → slice_get slots.new.items k ≡ slice_get slots.old.items k }
     ensures won { IsTrue result → IsWinAt line.now.state.to_move slots.new.items job }
+    ensures lost { result ≡ false → IsWinAt line.now.state.to_move slots.new.items job →
+        IsWinAt line.now.state.to_move slots.old.items job }
 {
     if slots[job].is_some() {
         return false;
@@ -254,6 +256,7 @@ pub(crate) fn search_missing<S: Store>(
     ensures slots { AllFit line.now limits.now slots.new.items }
     ensures len { vec_len slots.new ≡ vec_len slots.old }
     ensures ready { IsReady line.now.state.to_move slots.new.items }
+    ensures stops { StopsAtWin line.now.state.to_move slots.old.items slots.new.items }
 {
     if let Some(_won) = win_at(slots.as_slice(), line.to_move()) {
         return;
