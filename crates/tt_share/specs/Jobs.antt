@@ -61,11 +61,11 @@ HasEnd slots job end = slice_get slots job ≡ Some (Some end)
 abbrev pub IsWinAt : Side → List (Option End) → ℕ → Type 0
 IsWinAt side slots job = (end : End) × HasEnd slots job end × IsWinFor side end
 
--- no job has
+-- no job has a proof for the side
 abbrev pub NoWin : Side → List (Option End) → Type 0
 NoWin side slots = (job : ℕ) → ¬ IsWinAt side slots job
 
--- and no lesser job has
+-- the job has one, and no lesser job has
 pub record IsLeastWin (side : Side) (slots : List (Option End)) (job : ℕ) : Type 0 where
   pub wins : IsWinAt side slots job
   pub least : (lesser : ℕ) → lesser < job → ¬ IsWinAt side slots lesser

@@ -212,7 +212,7 @@ fn search_place<S: Store>(
     won
 }
 
-/// Searches a job if it has no result, and answers whether that wins for the side to move.
+/// Searches a job if it has no result, and answers whether it was searched and wins for the side to move.
 fn fill_place<S: Store>(
     alloc: Global,
     line: &Line,
@@ -240,7 +240,7 @@ fn fill_place<S: Store>(
     search_place(alloc, line, limits, turn, job, slots, store)
 }
 
-/// Searches each job that has no result, in rising order, until one wins for the side to move.
+/// Where no job wins for the side to move, searches each that has no result, in rising order, until one does.
 pub(crate) fn search_missing<S: Store>(
     alloc: Global,
     line: &Line,
