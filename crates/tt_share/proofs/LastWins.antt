@@ -3,7 +3,8 @@ use Rattle.std.proofs.Common.{◌≡◌, ℕ, zero, suc, ◌⊎◌, ◌↔◌, i
 use Rattle.tt_game.specs.declared.frame.Side.{Side}
 use Rattle.atomic_table.specs.Seated.{TableId}
 use Rattle.tt_share.specs.Seats.{SeatView, seat_of}
-use Rattle.tt_share.specs.Workers.{IsWinFor, SomeWin, WinsAreLast}
+use Rattle.tt_share.specs.Jobs.{IsWinFor}
+use Rattle.tt_share.specs.Workers.{SomeWin, WinsAreLast}
 use Rattle.tt_share.specs.declared.jobs.Found.{Found}
 
 none_there : {X : Type 0} (x : X) → None ≡ Some x → ⊥

@@ -10,4 +10,5 @@ pub mod StuckBehind
 pub mod Found
 pub mod Sending
 pub mod Places
+pub mod LastWins
 pub mod Wins

@@ -4,16 +4,9 @@ use Rattle.atomic_table.specs.Seated.{TableId}
 use Rattle.tt_game.specs.declared.frame.Side.{Side}
 use Rattle.tt_game.specs.Line.{Standing}
 use Rattle.tt_search.specs.declared.limits.Limits.{Limits}
-use Rattle.tt_search.specs.declared.search.End.{End}
-use Rattle.tt_search.specs.declared.search.End.TheVariants.{Settled, Stuck}
-use Rattle.tt_share.specs.Jobs.{Fits}
+use Rattle.tt_share.specs.Jobs.{Fits, IsWinFor}
 use Rattle.tt_share.specs.declared.jobs.Found.{Found}
 use Rattle.tt_share.specs.declared.workers.HandedBack.{HandedBack}
-
--- the result is a proof for the side
-abbrev pub IsWinFor : Side → End → Type 0
-IsWinFor side (Settled p) = p.side ≡ side
-IsWinFor side (Stuck reason search) = ⊥
 
 -- some result is a win for the side
 abbrev pub SomeWin : Side → List Found → Type 0

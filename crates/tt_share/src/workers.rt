@@ -2,13 +2,13 @@
 
 ghost use Rattle.std.specs.Prelude.{◌≡◌, ◌≤◌, ◌<◌, ◌↔◌, ◌⊎◌, ◌||◌, [], ◌∷◌, ◌++◌, All, None, IfOk, IfSome, IsTrue, length, vec_len, vec_capacity};
 ghost use Rattle.tt_game.specs.Turns.{legal_turns};
-ghost use Rattle.tt_share.specs.Jobs.{FitsAt, Fits, AllFit};
+ghost use Rattle.tt_share.specs.Jobs.{FitsAt, Fits, AllFit, IsWinFor};
 ghost use Rattle.tt_share.specs.Seats.{seat_of};
-ghost use Rattle.tt_share.specs.Workers.{IsWinFor, SomeWin, IsWork};
+ghost use Rattle.tt_share.specs.Workers.{SomeWin, IsWork};
 
 use crate::desk::{Desk, Seat};
 use crate::gate::Gate;
-use crate::jobs::{Found, is_stuck, place, search_job, trimmed};
+use crate::jobs::{Found, is_stuck, is_win, place, search_job, trimmed};
 use crate::locked::{LockedStore, Table};
 use std::alloc::Global;
 use std::sync::Wait;
@@ -51,10 +51,7 @@ fn search_drawn<S: Store, G: Gate>(
 fn is_won(line: &Line, end: &End) -> bool
     ensures { IsTrue result ↔ IsWinFor line.now.state.to_move end.now }
 {
-    match end {
-        End::Settled(proof) => proof.side() == line.to_move(),
-        End::Stuck(_, _) => false,
-    }
+    is_win(end, line.to_move())
 }
 
 /// Raises the mark where a job was settled for the side to move.

@@ -8,7 +8,6 @@ use Rattle.tt_search.specs.PartialTree.{PartialTree, fresh, expanded}
 use Rattle.tt_search.specs.Numbers.{IsUndecided, number}
 use Rattle.tt_search.specs.Growing.{IsPartialTree}
 use Rattle.tt_search.specs.Fits.{FitsIn}
-use Rattle.tt_search.specs.Taken.{Taken}
 use Rattle.tt_search.specs.Steady.{AreSteps}
 use Rattle.tt_search.specs.Sprouting.{StepsBelow}
 use Rattle.tt_search.specs.declared.limits.Step.TheVariants.{Expanded, Closed}

@@ -1,4 +1,4 @@
-use Rattle.std.proofs.Common.{◌∙◌, ◌==◌, length, insert, sym, ap, arith}
+use Rattle.std.proofs.Common.{rules, ◌∙◌, ◌==◌, length, insert, sym, ap, arith}
 use Rattle.tt_search.specs.Edges.{turn_of}
 use Rattle.tt_search.proofs.Places.{fresh_there, rank_within}
 use Rattle.tt_search.proofs.Sprouted.{stays, stays_for_memory, leaf_offerable, put, put_whole}
@@ -39,6 +39,7 @@ returns g c =
     record {
       line = c.leaf_step-step.ensures.line;
       may = c.leaf_step-step.ensures.may;
+      kept = search rules;
       whole = put_whole c.args.edges.now.items c.args.grown.now.items c.insert.new.self.items c.args.place c.args.rank c.grown.result c.leaf_step-step.result.1 c.requires.there c.requires.whole c.requires.rank c.grown.ensures.mark row;
       sprouts = (
         c.leaf_step-step.result.1,
