@@ -26,7 +26,7 @@ pub struct Successor {
     pub winner: Option<Side>,
 }
 
-/// A vector of turns has room for so many at first: small regions have no more.
+/// A vector of successors has room for so many at first: small regions have no more.
 const USUAL_TURNS: usize = 16;
 
 /// A list of turns, with room for all of a board of 19 by 19: 361 plays and the pass.
