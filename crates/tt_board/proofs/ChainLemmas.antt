@@ -11,11 +11,10 @@ use Rattle.tt_board.specs.declared.Colour.{Colour}
 use Rattle.tt_board.specs.Near.{IsNeighbour, IsOneOf}
 use Rattle.tt_board.specs.Position.{Colouring}
 use Rattle.tt_board.specs.Reach.{entry_at, Reaches}
-use Rattle.tt_board.specs.Planes.{bit_in}
+use Rattle.tt_sgf.specs.Words.{bit_in}
 use Rattle.tt_board.specs.Fill.{is_marked}
 use Rattle.tt_board.specs.ReachLaws.{unmarked_fewer, reaches_beside, reaches_on}
 use Rattle.tt_board.specs.Chain.{IsEnclosed, IsLinked, IsGrowing, IsGrown, IsVisited, IsEmptyAt, IsClosedAt, marks_of}
-use Rattle.tt_board.proofs.PlaneLemmas.{six, no_bit}
 
 -- marks as bits in words
 pub mark_at : (words : List ℕ) (q : ℕ) → q < 361 → is_marked (marks_of words) q ≡ bit_in words q
@@ -37,10 +36,11 @@ marks_set words after q small on others =
       | inr apart ↦ get_or-set_other (marks_of words) q r true false apart ∙ mark_at words r in_r ∙ sym (mark_at after r in_r ∙ others r (omega arith) apart)
     ])
 
-pub marks_none : marks_of six ≡ replicate 361 false
-marks_none = ext_get_or false (marks_of six) (replicate 361 false) (length-marks six ∙ sym (length-replicate {A = Bool} 361 false)) (λ r below.
-    let in_r : r < 361 = omega (arith, length-marks six) in
-    mark_at six r in_r ∙ no_bit r (omega arith) ∙ sym (get_or-replicate {A = Bool} 361 r false false in_r))
+-- words without any bit are no marks
+marks_none : (words : List ℕ) → ((q : ℕ) → q < 384 → bit_in words q ≡ false) → marks_of words ≡ replicate 361 false
+marks_none words none = ext_get_or false (marks_of words) (replicate 361 false) (length-marks words ∙ sym (length-replicate {A = Bool} 361 false)) (λ r below.
+    let in_r : r < 361 = omega (arith, length-marks words) in
+    mark_at words r in_r ∙ none r (omega arith) ∙ sym (get_or-replicate {A = Bool} 361 r false false in_r))
 
 pub room_left : (m : List Bool) (xs : List ℕ) (q : ℕ) → IsGrowing m xs → q < 361 → is_marked m q ≡ false → length xs < 361
 room_left m xs q g small bare =
@@ -113,11 +113,12 @@ closed_around s c p own chain a l r b is_own all up down back on q near =
     elim (all q near) [ inl is ↦ up q is | inr (inl is) ↦ back q is | inr (inr (inl is)) ↦ on q is | inr (inr (inr is)) ↦ down q is ] in
     (h.0, λ like. h.1 (like ∙ sym is_own))
 
-pub start_growing : (words after : List ℕ) (q : ℕ) → words ≡ replicate 6 0 → q < 361 → bit_in after q ≡ true
+-- a list of one point, the only one that is marked
+pub start_growing : (words after : List ℕ) (q : ℕ) → ((r : ℕ) → r < 384 → bit_in words r ≡ false) → q < 361 → bit_in after q ≡ true
     → ((r : ℕ) → r < 384 → (r ≡ q → ⊥) → bit_in after r ≡ bit_in words r) → IsGrowing (marks_of after) (q ∷ [])
-start_growing words after q is small on others =
+start_growing words after q bare_words small on others =
     let m = marks_of words in
-    let none : m ≡ replicate 361 false = ap marks_of is ∙ marks_none in
+    let none : m ≡ replicate 361 false = marks_none words bare_words in
     let wide : length m ≡ 361 = length-marks words in
     let bare : is_marked m q ≡ false = ap (λ xs. is_marked xs q) none ∙ get_or-replicate {A = Bool} 361 q false false small in
     let most = count_by-le-length not m in

@@ -1,4 +1,3 @@
-pub mod ApartLemmas
 pub mod BoardsLemmas
 pub mod ChainLemmas
 pub mod LiftLemmas

@@ -1,49 +1,20 @@
 -- Colourings as bits in words.
-use Rattle.std.proofs.Common.{◌≡◌, ◌≢◌, ℕ, zero, suc, ◌+◌, ◌*◌, ◌/◌, ◌%◌, ◌^◌, ◌<◌, ◌≤◌, Bool, true, false, eqb, List, length, get_or, set as put, replicate, Option, Some, None, refl, sym, ap, ◌∙◌, arith, inl, inr}
+use Rattle.std.proofs.Common.{◌≡◌, ℕ, ◌<◌, ◌≤◌, Bool, true, false, ◌||◌, List, length, set as put, replicate, Option, Some, None, refl, sym, ap, ◌∙◌, arith, inl, inr}
 use Rattle.std.proofs.lemmas.Bool.{cases_lt, cases_eq, true≢false, false≢true}
 use Rattle.std.proofs.lemmas.List.{get_or-set_same, get_or-set_other, length-set, get_or-replicate, length-replicate, get_or_past}
 use Rattle.std.proofs.lemmas.List.FromFn.{get_or-map-range_with_len, length-map-range_with_len, fill_by_all}
-use Rattle.std.proofs.lemmas.Nat.Bits.{shr_and_one, bit_at-zero, bit_at-lt, bit_at_set_same, bit_at_set_other, bit_at_clear_same, bit_at_clear_other, same_from_bits_below}
-use Rattle.std.specs.Int.{w64, bit_at, bit_not}
-use Rattle.std.specs.Prelude.{bit_and, bit_or}
 use Rattle.tt_board.specs.declared.Colour.{Colour}
 use Rattle.tt_board.specs.declared.Colour.TheVariants.{Black, White}
 use Rattle.tt_board.specs.Position.{Colouring}
 use Rattle.tt_board.specs.Reach.{entry_at}
 use Rattle.tt_board.specs.Play.{is_stone_of}
-use Rattle.tt_board.specs.Planes.{bit_in, AreSameBits, entry_of, shown, IsPlain}
-use Rattle.tt_sgf.specs.Words as handed
-use Rattle.tt_sgf.specs.Words.{AreBitsOf}
+use Rattle.tt_board.specs.Planes.{entry_of, shown, IsPlain}
+use Rattle.tt_sgf.specs.Words.{bit_in, AreSameBits, AreBitsOf}
 
-pub bit_is : (words : List ℕ) (n : ℕ) → eqb (bit_and (get_or words (n / 64) 0 / 2 ^ (n % 64)) 1) 1 ≡ bit_in words n
-unfolding bit_in
-bit_is words n = ap (λ (x : ℕ). eqb x 1) (shr_and_one (get_or words (n / 64) 0) (n % 64))
-
-module _ (words : List ℕ) (n : ℕ) (within : n < 384) (wide : length words ≡ 6) where
-  bit_of-word : (w : ℕ) (value : ℕ) → bit_at w (n % 64) ≡ value → bit_in (put words (n / 64) w) n ≡ eqb value 1
-  unfolding bit_in
-  bit_of-word w value e = let inside : n / 64 < length words = omega arith in rw (get_or-set_same, e) refl
-
-  bit_elsewhere : (w : ℕ) → ((i : ℕ) → i < 64 → i ≢ n % 64 → bit_at w i ≡ bit_at (get_or words (n / 64) 0) i) → (q : ℕ) → (q ≡ n → ⊥) → bit_in (put words (n / 64) w) q ≡ bit_in words q
-  unfolding bit_in
-  bit_elsewhere w others q ne =
-      let inside : n / 64 < length words = omega arith in
-      elim (cases_eq (q / 64) (n / 64)) [
-        | inl e ↦ let apart : q % 64 ≢ n % 64 = λ f. ne (omega arith) in rw (e, get_or-set_same, others (q % 64) (omega arith) apart) refl
-        | inr d ↦ let apart : q / 64 ≢ n / 64 = d in rw get_or-set_other refl
-      ]
-
-  pub on_same : bit_in (put words (n / 64) (bit_or (get_or words (n / 64) 0) (1 * 2 ^ (n % 64) % 2 ^ 64))) n ≡ true
-  on_same = bit_of-word _ 1 (bit_at_set_same w64 (get_or words (n / 64) 0) (n % 64) (omega arith))
-
-  pub on_others : (q : ℕ) → (q ≡ n → ⊥) → bit_in (put words (n / 64) (bit_or (get_or words (n / 64) 0) (1 * 2 ^ (n % 64) % 2 ^ 64))) q ≡ bit_in words q
-  on_others = bit_elsewhere _ (λ i small apart. bit_at_set_other w64 (get_or words (n / 64) 0) (n % 64) (omega arith) i apart)
-
-  pub off_same : bit_in (put words (n / 64) (bit_and (get_or words (n / 64) 0) (bit_not w64 (1 * 2 ^ (n % 64) % 2 ^ 64)))) n ≡ false
-  off_same = bit_of-word _ 0 (bit_at_clear_same w64 (get_or words (n / 64) 0) (n % 64) (omega arith))
-
-  pub off_others : (q : ℕ) → (q ≡ n → ⊥) → bit_in (put words (n / 64) (bit_and (get_or words (n / 64) 0) (bit_not w64 (1 * 2 ^ (n % 64) % 2 ^ 64)))) q ≡ bit_in words q
-  off_others = bit_elsewhere _ (λ i small apart. bit_at_clear_other w64 (get_or words (n / 64) 0) (n % 64) (omega arith) i small apart)
+-- neither of two is so where not one of them is
+pub neither : (a b : Bool) → (a || b) ≡ false → (a ≡ false) × (b ≡ false)
+neither true b h = absurd (true≢false h)
+neither false b h = (refl, h)
 
 pub length-shown : (n : ℕ) (black white : List ℕ) → length (shown n black white) ≡ n
 unfolding shown
@@ -57,13 +28,6 @@ entry_at-shown n black white p in_p = get_or-map-range_with_len (λ q. entry_of 
 pub shown_from : (n : ℕ) (black white : List ℕ) (c : Colouring) → length c ≡ n → ((p : ℕ) → p < n → entry_at c p ≡ entry_of (bit_in black p) (bit_in white p)) → c ≡ shown n black white
 unfolding shown
 shown_from n black white c fits each = fill_by_all (λ q. entry_of (bit_in black q) (bit_in white q)) c n None fits each
-
-abbrev pub six : List ℕ
-six = replicate 6 0
-
-pub no_bit : (q : ℕ) → q < 384 → bit_in six q ≡ false
-unfolding bit_in
-no_bit q lt = rw (get_or-replicate {A = ℕ} 6 (q / 64) 0 0 (omega arith), bit_at-zero (q % 64)) refl
 
 -- what is known of a list that words show
 module _ (n : ℕ) (black white : List ℕ) (c : Colouring) (is : shown n black white ≡ c) where
@@ -112,17 +76,18 @@ module _ (n : ℕ) (black white new_black new_white : List ℕ) (p : ℕ) (e : O
       ]))
 
 -- words without any bit
-pub plain_none : (n : ℕ) → n ≤ 361 → IsPlain n six six
-plain_none n small = record {
-  small = small;
-  apart = λ q lt on. no_bit q lt;
-  black_ends = λ q above lt. no_bit q lt;
-  white_ends = λ q above lt. no_bit q lt;
-}
+module _ (n : ℕ) (small : n ≤ 361) (black white : List ℕ) (no_black : (q : ℕ) → q < 384 → bit_in black q ≡ false) (no_white : (q : ℕ) → q < 384 → bit_in white q ≡ false) where
+  pub plain_none : IsPlain n black white
+  plain_none = record {
+    small = small;
+    apart = λ q lt on. no_white q lt;
+    black_ends = λ q above lt. no_black q lt;
+    white_ends = λ q above lt. no_white q lt;
+  }
 
-pub shown_none : (n : ℕ) → n ≤ 361 → shown n six six ≡ replicate n None
-shown_none n small = sym (shown_from n six six (replicate n None) (length-replicate {A = Option Colour} n None) (λ q below.
-    get_or-replicate {A = Option Colour} n q None None below ∙ rw (no_bit q (omega arith)) refl))
+  pub shown_none : shown n black white ≡ replicate n None
+  shown_none = sym (shown_from n black white (replicate n None) (length-replicate {A = Option Colour} n None) (λ q below.
+      get_or-replicate {A = Option Colour} n q None None below ∙ rw (no_black q (omega arith), no_white q (omega arith)) refl))
 
 -- the bits of a plain pair of words are those of its entries
 bits_of : (n : ℕ) (black white : List ℕ) → IsPlain n black white → (p : ℕ) → p < 384
@@ -147,24 +112,11 @@ entry_by_bits n black white c is plain p lt =
     let bits = bits_of n black white plain p lt in
     ap (λ xs. entry_at xs p) (sym is) ∙ sym (by_stones (entry_at (shown n black white) p)) ∙ rw (← bits.0, ← bits.1) refl
 
-same_bit : (a b : List ℕ) (q k i : ℕ) → q / 64 ≡ k → q % 64 ≡ i → bit_in a q ≡ bit_in b q → eqb (bit_at (get_or a k 0) i) 1 ≡ eqb (bit_at (get_or b k 0) i) 1
-unfolding bit_in
-same_bit a b q k i word place h = rw (← word, ← place) h
-
-one_bit : (x y : ℕ) → x < 2 → y < 2 → eqb x 1 ≡ eqb y 1 → x ≡ y
-one_bit zero zero sx sy e = refl
-one_bit zero (suc zero) sx sy e = absurd (false≢true e)
-one_bit (suc zero) zero sx sy e = absurd (true≢false e)
-one_bit (suc zero) (suc zero) sx sy e = refl
-one_bit (suc (suc x)) y sx sy e = absurd (omega arith)
-one_bit zero (suc (suc y)) sx sy e = absurd (omega arith)
-one_bit (suc zero) (suc (suc y)) sx sy e = absurd (omega arith)
-
--- a word is known by its bits
-pub word_is : (a b : List ℕ) (k : ℕ) → k < 6 → get_or a k 0 < 2 ^ 64 → get_or b k 0 < 2 ^ 64 → AreSameBits a b → get_or a k 0 ≡ get_or b k 0
-word_is a b k lt fits_a fits_b same = same_from_bits_below 64 (get_or a k 0) (get_or b k 0) fits_a fits_b (λ i small.
-    one_bit (bit_at (get_or a k 0) i) (bit_at (get_or b k 0) i) (bit_at-lt (get_or a k 0) i) (bit_at-lt (get_or b k 0) i)
-    (same_bit a b (k * 64 + i) k i (omega arith) (omega arith) (same (k * 64 + i) (omega arith))))
+-- where the bits of two plain pairs of words are alike, so are their entries
+pub entries_alike : (n m : ℕ) (a b c d : List ℕ) (xs ys : Colouring) → shown n a b ≡ xs → shown m c d ≡ ys → IsPlain n a b → IsPlain m c d
+    → (q : ℕ) → q < 384 → bit_in a q ≡ bit_in c q → bit_in b q ≡ bit_in d q → entry_at xs q ≡ entry_at ys q
+entries_alike n m a b c d xs ys first second plain other q small blacks whites =
+    entry_by_bits n a b xs first plain q small ∙ rw (blacks, whites) refl ∙ sym (entry_by_bits m c d ys second other q small)
 
 -- plain pairs of words show one colouring exactly where their bits agree
 module _ (n m : ℕ) (a b c d : List ℕ) (xs ys : Colouring) (counts : n ≡ m) (first : shown n a b ≡ xs) (second : shown m c d ≡ ys) (plain : IsPlain n a b) where
@@ -184,16 +136,11 @@ module _ (n m : ℕ) (a b c d : List ℕ) (xs ys : Colouring) (counts : n ≡ m)
   whites_same other same q small =
       (bits_of n a b plain q small).1 ∙ ap (λ zs. is_stone_of (entry_at zs q) White) (one same) ∙ sym (bits_of m c d other q small).1
 
--- the bits that are handed out are those that are kept
-handed_bit : (words : List ℕ) (p : ℕ) → handed.bit_in words p ≡ bit_in words p
-unfolding bit_in handed.bit_in
-handed_bit words p = refl
-
 bits_handed : (words : List ℕ) (k : Colour) (c : Colouring) → length words ≡ 6 → ((p : ℕ) → p < 384 → bit_in words p ≡ is_stone_of (entry_at c p) k) → AreBitsOf words (length c) (λ p. is_stone_of (entry_at c p) k)
 bits_handed words k c wide bits = record {
   wide = wide;
-  below = λ p on_board small. handed_bit words p ∙ bits p small;
-  behind = λ p past small. handed_bit words p ∙ bits p small ∙ ap (λ e. is_stone_of e k) (get_or_past c p None past);
+  below = λ p on_board small. bits p small;
+  behind = λ p past small. bits p small ∙ ap (λ e. is_stone_of e k) (get_or_past c p None past);
 }
 
 -- the words of a plain pair are the bits of the stones of a colour

@@ -7,7 +7,7 @@ use Rattle.tt_sgf.specs.Sizes.{point_count}
 use Rattle.tt_board.specs.Near.{IsNeighbour}
 use Rattle.tt_board.specs.Position.{Colouring}
 use Rattle.tt_board.specs.Reach.{entry_at, Reaches}
-use Rattle.tt_board.specs.Planes.{bit_in}
+use Rattle.tt_sgf.specs.Words.{bit_in}
 use Rattle.tt_board.specs.Fill.{is_marked, unmarked_count}
 
 -- no neighbour of p is empty, and those like p are in the chain

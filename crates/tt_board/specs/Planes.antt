@@ -1,19 +1,11 @@
 -- How a board keeps its colouring: a bit for each point in the words of Black's stones, and one in those of White's.
 -- Private contracts alone cite these.
-use Rattle.std.specs.Prelude.{◌≡◌, ℕ, ◌/◌, ◌%◌, ◌<◌, ◌≤◌, Option, Some, None, Bool, true, false, List, ◌==◌, map}
-use Rattle.std.specs.List.{slice_index, range_with_len}
-use Rattle.std.specs.Int.{bit_at}
+use Rattle.std.specs.Prelude.{◌≡◌, ℕ, ◌<◌, ◌≤◌, Option, Some, None, Bool, true, false, List, map}
+use Rattle.std.specs.List.{range_with_len}
+use Rattle.tt_sgf.specs.Words.{bit_in}
 use Rattle.tt_board.specs.declared.Colour.{Colour}
 use Rattle.tt_board.specs.declared.Colour.TheVariants.{Black, White}
 use Rattle.tt_board.specs.Position.{Colouring}
-
--- whether the bit of a number is 1, with 64 of them in each word
-unfoldable pub bit_in : List ℕ → ℕ → Bool
-bit_in words n = bit_at (slice_index words (n / 64)) (n % 64) == 1
-
--- both have the same bits
-abbrev pub AreSameBits : List ℕ → List ℕ → Type 0
-AreSameBits a b = (n : ℕ) → n < 384 → bit_in a n ≡ bit_in b n
 
 -- what stands on a point, by its bits
 abbrev pub entry_of : Bool → Bool → Option Colour

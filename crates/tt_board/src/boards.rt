@@ -51,10 +51,11 @@ fn push_board(
     ensures { OnOk result (IsLedBack edits.old.items edits.new.items later.now earlier.now) }
 {
     let count = later.len();
-    let mut p = later.first_apart(earlier, 0);
+    let differing = later.apart(earlier);
+    let mut p = differing.first_from(0);
     while p < count {
         edits.push(Edit::Entry(p as u16, earlier.at(p)))?;
-        p = later.first_apart(earlier, p + 1);
+        p = differing.first_from(p + 1);
     }
     edits.push(Edit::Whole)?;
     Ok(())

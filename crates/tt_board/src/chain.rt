@@ -1,38 +1,29 @@
 //! Chains without liberties: found from one of their stones, and lifted.
 
-ghost use Rattle.std.specs.Prelude.{◌≡◌, ◌≢◌, ℕ, ◌<◌, ◌≤◌, ◌⊎◌, length, replicate, false, Some, None, IsTrue, Contains, []};
+ghost use Rattle.std.specs.Prelude.{◌≡◌, ◌≢◌, ℕ, ◌<◌, ◌≤◌, ◌⊎◌, length, false, Some, None, IsTrue, Contains, []};
 ghost use Rattle.tt_sgf.specs.Sizes.{point_count};
 ghost use Rattle.tt_board.specs.Near.{IsOneOf};
 ghost use Rattle.tt_board.specs.Reach.{entry_at, Reaches};
 ghost use Rattle.tt_board.specs.Chain.{IsEnclosed, IsGrowing, IsGrown, IsVisited, IsEmptyAt, IsClosedAt, marks_of, IsLifelessChain, IsChainLifted};
 
 use super::Colour;
-use super::colouring::{Colouring, bit, set_bit};
+use super::colouring::Colouring;
 use super::near::{Places, beside};
 use arrayvec::ArrayVec;
-use tt_sgf::Size;
-
-/// No mark on any place: a bit for each.
-fn no_marks() -> [u64; 6]
-    ensures { result ≡ replicate 6 0 }
-{
-    [0; 6]
-}
+use tt_sgf::{Bits, Size};
 
 /// Looks at a place beside a stone: adds it to the chain where it is like `own` and new there; whether it is empty.
 fn visit(
     points: &Colouring,
     own: Option<Colour>,
     place: Option<usize>,
-    marks: &mut [u64],
+    marks: &mut Bits,
     chain: &mut ArrayVec<u16, 361>,
 ) -> bool
     requires small { length points.now ≤ 361 }
     requires on_board { (q : ℕ) → place ≡ Some q → q < length points.now }
-    requires wide { length marks.old ≡ 6 }
-    requires growing { IsGrowing (marks_of marks.old) chain.old.items }
-    ensures still_wide { length marks.new ≡ 6 }
-    ensures still_growing { IsGrowing (marks_of marks.new) chain.new.items }
+    requires growing { IsGrowing (marks_of marks.old.words) chain.old.items }
+    ensures still_growing { IsGrowing (marks_of marks.new.words) chain.new.items }
     ensures visited { IsVisited points.now own place chain.old.items chain.new.items }
     ensures liberty { IsTrue result → IsEmptyAt points.now place }
     ensures enclosed { result ≡ false → IsClosedAt points.now own chain.new.items place }
@@ -44,8 +35,8 @@ fn visit(
     if entry.is_none() {
         return true;
     }
-    if entry == own && !bit(marks, q) {
-        set_bit(marks, q, true);
+    if entry == own && !marks.has(q) {
+        marks.set(q);
         chain.push(q as u16);
     }
     false
@@ -57,17 +48,15 @@ fn grow(
     points: &Colouring,
     own: Option<Colour>,
     p: usize,
-    marks: &mut [u64],
+    marks: &mut Bits,
     chain: &mut ArrayVec<u16, 361>,
 ) -> bool
     requires fits { length points.now ≡ point_count size }
     requires on_board { p < point_count size }
     requires stone { entry_at points.now p ≢ None }
     requires like { own ≡ entry_at points.now p }
-    requires wide { length marks.old ≡ 6 }
-    requires growing { IsGrowing (marks_of marks.old) chain.old.items }
-    ensures still_wide { length marks.new ≡ 6 }
-    ensures still_growing { IsGrowing (marks_of marks.new) chain.new.items }
+    requires growing { IsGrowing (marks_of marks.old.words) chain.old.items }
+    ensures still_growing { IsGrowing (marks_of marks.new.words) chain.new.items }
     ensures grown { IsGrown size points.now p chain.old.items chain.new.items }
     ensures liberty { IsTrue result → Reaches size points.now p None }
     ensures enclosed { result ≡ false → IsEnclosed size points.now chain.new.items p }
@@ -135,8 +124,8 @@ fn walk(size: Size, points: &Colouring, start: usize, chain: &mut ArrayVec<u16, 
 {
     let _count = size.point_count();
     let own = points.at(start);
-    let mut marks = no_marks();
-    set_bit(&mut marks, start, true);
+    let mut marks = Bits::none();
+    marks.set(start);
     chain.push(start as u16);
     let mut next = 0;
     while next < chain.len() {

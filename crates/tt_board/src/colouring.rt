@@ -2,22 +2,21 @@
 //!
 //! Copies and comparisons of colourings are what superko asks for most.
 
-ghost use Rattle.std.specs.Prelude.{◌≡◌, ℕ, ◌<◌, ◌≤◌, ◌↔◌, length, take, replicate, slice_set, IsTrue, None};
-ghost use Rattle.std.specs.Int.{bit_at};
+ghost use Rattle.std.specs.Prelude.{◌≡◌, ℕ, ◌<◌, ◌≤◌, ◌↔◌, length, take, replicate, slice_set, IsTrue, None, false};
 ghost use Rattle.tt_board.specs.Reach.{entry_at};
-ghost use Rattle.tt_board.specs.Planes.{bit_in, AreSameBits};
 ghost use Rattle.tt_board.specs.Play.{is_stone_of};
-ghost use Rattle.tt_sgf.specs.Words.{AreBitsOf};
+ghost use Rattle.tt_sgf.specs.Words.{bit_in, AreBitsOf};
 
 use super::Colour;
 use std::marker::Model;
+use tt_sgf::Bits;
 
 /// The entries of a board's points. Contracts see their list.
 #[derive(Drop)]
 pub(crate) struct Colouring {
     count: usize,
-    black: [u64; 6],
-    white: [u64; 6],
+    black: Bits,
+    white: Bits,
 }
 
 impl Model for Colouring {
@@ -26,55 +25,9 @@ impl Model for Colouring {
 
     ghost Value = { Entries };
 
-    ghost view = { λ c. shown c.count c.black c.white };
+    ghost view = { λ c. shown c.count c.black.words c.white.words };
 
-    ghost invariant = { λ c. IsPlain c.count c.black c.white };
-}
-
-/// Whether the bit of this number is 1.
-pub(crate) fn bit(words: &[u64], n: usize) -> bool
-    requires wide { length words.now ≡ 6 }
-    requires within { n < 384 }
-    ensures { result ≡ bit_in words.now n }
-{
-    (words[n / 64] >> (n % 64)) & 1 == 1
-}
-
-/// Makes the bit of this number 1 or 0.
-pub(crate) fn set_bit(words: &mut [u64], n: usize, on: bool)
-    requires wide { length words.old ≡ 6 }
-    requires within { n < 384 }
-    ensures still_wide { length words.new ≡ 6 }
-    ensures same { bit_in words.new n ≡ on }
-    ensures others { (q : ℕ) → q < 384 → (q ≡ n → ⊥) → bit_in words.new q ≡ bit_in words.old q }
-{
-    if on {
-        words[n / 64] |= 1 << (n % 64);
-    } else {
-        words[n / 64] &= !(1 << (n % 64));
-    }
-}
-
-/// Whether both have the same bits; it stops at the first word that differs.
-fn same_bits(a: &[u64], b: &[u64]) -> bool
-    requires a_wide { length a.now ≡ 6 }
-    requires b_wide { length b.now ≡ 6 }
-    ensures { IsTrue result ↔ AreSameBits a.now b.now }
-{
-    for k in 0..6 {
-        if a[k] != b[k] {
-            return false;
-        }
-    }
-    true
-}
-
-/// The places where the first two words or the last two differ.
-fn words_apart(a: u64, b: u64, c: u64, d: u64) -> u64
-    ensures first { (i : ℕ) → bit_at result i ≡ 0 → bit_at a i ≡ bit_at b i }
-    ensures last { (i : ℕ) → bit_at result i ≡ 0 → bit_at c i ≡ bit_at d i }
-{
-    (a ^ b) | (c ^ d)
+    ghost invariant = { λ c. IsPlain c.count c.black.words c.white.words };
 }
 
 /// Whether the entry is a stone of this colour.
@@ -99,8 +52,8 @@ impl Colouring {
     {
         Colouring {
             count,
-            black: [0; 6],
-            white: [0; 6],
+            black: Bits::none(),
+            white: Bits::none(),
         }
     }
 
@@ -128,9 +81,9 @@ impl Colouring {
         requires { p < length self.now }
         ensures { result ≡ entry_at self.now p }
     {
-        if bit(&self.black, p) {
+        if self.black.has(p) {
             Some(Colour::Black)
-        } else if bit(&self.white, p) {
+        } else if self.white.has(p) {
             Some(Colour::White)
         } else {
             None
@@ -142,8 +95,8 @@ impl Colouring {
         requires { p < length self.old }
         ensures { self.new ≡ slice_set self.old p entry }
     {
-        set_bit(&mut self.black, p, is_stone_of(entry, Colour::Black));
-        set_bit(&mut self.white, p, is_stone_of(entry, Colour::White));
+        self.black.put(p, is_stone_of(entry, Colour::Black));
+        self.white.put(p, is_stone_of(entry, Colour::White));
     }
 
     /// The stones of a colour as bits.
@@ -151,8 +104,8 @@ impl Colouring {
         ensures { AreBitsOf result (length self.now) (λ p. is_stone_of (entry_at self.now p) colour) }
     {
         match colour {
-            Colour::Black => self.black,
-            Colour::White => self.white,
+            Colour::Black => self.black.words(),
+            Colour::White => self.white.words(),
         }
     }
 
@@ -160,37 +113,23 @@ impl Colouring {
     pub(crate) fn same(&self, other: &Colouring) -> bool
         ensures { IsTrue result ↔ (self.now ≡ other.now) }
     {
-        if !same_bits(&self.black, &other.black) {
+        if !self.black.same(&other.black) {
             return false;
         }
-        if !same_bits(&self.white, &other.white) {
+        if !self.white.same(&other.white) {
             return false;
         }
         self.count == other.count
     }
 
-    /// From a number on, the entries are alike up to the answer: the first point where they differ, or a number past the
-    /// last point. Contracts say that they are alike, which is all that keeping boards rests on.
-    pub(crate) fn first_apart(&self, other: &Colouring, from: usize) -> usize
-        requires { from ≤ 384 }
-        ensures after { from ≤ result }
-        ensures alike { (q : ℕ) → from ≤ q → q < result → entry_at self.now q ≡ entry_at other.now q }
+    /// Bits that are 1 wherever the entries differ. Contracts say that where a bit is 0 they are alike, which is all that
+    /// keeping boards rests on.
+    pub(crate) fn apart(&self, other: &Colouring) -> Bits
+        ensures { (q : ℕ) → q < 384 → bit_in result.words q ≡ false → entry_at self.now q ≡ entry_at other.now q }
     {
-        let mut n = from;
-        while n < self.count {
-            let apart = words_apart(
-                self.black[n / 64],
-                other.black[n / 64],
-                self.white[n / 64],
-                other.white[n / 64],
-            );
-            let rest = apart >> (n % 64);
-            if rest != 0 {
-                return n + rest.trailing_zeros() as usize;
-            }
-            n = n / 64 * 64 + 64;
-        }
-        n
+        self.black
+            .xor(&other.black)
+            .or(&self.white.xor(&other.white))
     }
 
     /// The entries as an array; places past the last point hold none.

@@ -1,17 +1,17 @@
--- Sets of points as bits in words.
+-- Bits in words, and the sets of points that they are.
 use Rattle.std.proofs.Common.{◌≡◌, ◌≢◌, ℕ, zero, suc, ◌+◌, ◌-◌, ◌*◌, ◌/◌, ◌%◌, ◌^◌, ◌<◌, ◌≤◌, Bool, true, false, not, ◌&&◌, eqb, ltb, min, max, ◌||◌, List, [], ◌∷◌, length, get_or, set as put, refl, sym, ap, ◌∙◌, arith, inl, inr}
-use Rattle.std.proofs.lemmas.Bool.{cases_lt, cases_eq, eq-eqb, ne_eqb, lt-ltb, le-ltb}
+use Rattle.std.proofs.lemmas.Bool.{cases_lt, cases_eq, eq-eqb, ne_eqb, lt-ltb, le-ltb, true≢false, false≢true}
 use Rattle.std.proofs.lemmas.List.{get_or-set_same, get_or-set_other}
 use Rattle.std.proofs.lemmas.Nat.{shr-shr, one_shl}
-use Rattle.std.proofs.lemmas.Nat.Bits.{shr_and_one, bit_at-zero, bit_at-lt, bit_at_and, bit_at_or, bit_at_not, bit_at_set_same, bit_at_set_other, bit_at_ones, bit_at_ones_above, bit_at-trailing_zeros, bit_at_above}
+use Rattle.std.proofs.lemmas.Nat.Bits.{shr_and_one, bit_at-zero, bit_at-lt, bit_at_and, bit_at_or, bit_at_xor, bit_at_not, bit_at_set_same, bit_at_set_other, bit_at_clear_same, bit_at_clear_other, same_from_bits_below, bit_at_ones, bit_at_ones_above, bit_at-trailing_zeros, bit_at_above}
 use Rattle.std.specs.Int.{w64, bit_at, bit_not, trailing_zeros}
-use Rattle.std.specs.Prelude.{bit_and, bit_or}
+use Rattle.std.specs.Prelude.{bit_and, bit_or, bit_xor, ◌↔◌, Option, Some, None, MatchOption}
 use Rattle.std.specs.Cmp.{nat_cmp_total, unsigned_tied}
 use Rattle.std.specs.Ordering.{nat_cmp, eq_by_cmp}
 use Rattle.std.specs.FinSet as set
 use Rattle.tt_sgf.specs.Points.{passing}
 use Rattle.tt_sgf.specs.PointLaws.{passing-zero, passing-in, passing-out, contains-passing}
-use Rattle.tt_sgf.specs.Words.{bit_in, points_of, IsLow}
+use Rattle.tt_sgf.specs.Words.{bit_in, points_of, IsLow, AreSameBits}
 
 -- ---- bits
 
@@ -31,26 +31,58 @@ zeros (suc (suc (suc (suc zero)))) = refl
 zeros (suc (suc (suc (suc (suc zero))))) = refl
 zeros (suc (suc (suc (suc (suc (suc k)))))) = refl
 
-no_bit : (q : ℕ) → bit_in six q ≡ false
+pub no_bit : (q : ℕ) → bit_in six q ≡ false
 unfolding bit_in
 no_bit q = rw (zeros (q / 64), bit_at-zero (q % 64)) refl
 
-pub bit_same : (words : List ℕ) (n : ℕ) → n < 384 → length words ≡ 6 → bit_in (put words (n / 64) (bit_or (get_or words (n / 64) 0) (1 * 2 ^ (n % 64) % 2 ^ 64))) n ≡ true
-unfolding bit_in
-bit_same words n lt len =
-    let within : n / 64 < length words = omega arith in
-    rw (get_or-set_same, bit_at_set_same w64 (get_or words (n / 64) 0) (n % 64) (omega arith)) refl
+-- a word put in place of another, in which one bit is set or cleared
+module _ (words : List ℕ) (n : ℕ) (within : n < 384) (wide : length words ≡ 6) where
+  bit_of-word : (w : ℕ) (value : ℕ) → bit_at w (n % 64) ≡ value → bit_in (put words (n / 64) w) n ≡ eqb value 1
+  unfolding bit_in
+  bit_of-word w value e = let inside : n / 64 < length words = omega arith in rw (get_or-set_same, e) refl
 
-pub bit_others : (words : List ℕ) (n : ℕ) → n < 384 → length words ≡ 6 → (q : ℕ) → (q ≡ n → ⊥) → bit_in (put words (n / 64) (bit_or (get_or words (n / 64) 0) (1 * 2 ^ (n % 64) % 2 ^ 64))) q ≡ bit_in words q
+  bit_elsewhere : (w : ℕ) → ((i : ℕ) → i < 64 → i ≢ n % 64 → bit_at w i ≡ bit_at (get_or words (n / 64) 0) i) → (q : ℕ) → (q ≡ n → ⊥) → bit_in (put words (n / 64) w) q ≡ bit_in words q
+  unfolding bit_in
+  bit_elsewhere w others q ne =
+      let inside : n / 64 < length words = omega arith in
+      elim (cases_eq (q / 64) (n / 64)) [
+        | inl e ↦ let apart : q % 64 ≢ n % 64 = λ f. ne (omega arith) in rw (e, get_or-set_same, others (q % 64) (omega arith) apart) refl
+        | inr d ↦ let apart : q / 64 ≢ n / 64 = d in rw get_or-set_other refl
+      ]
+
+  pub on_same : bit_in (put words (n / 64) (bit_or (get_or words (n / 64) 0) (1 * 2 ^ (n % 64) % 2 ^ 64))) n ≡ true
+  on_same = bit_of-word _ 1 (bit_at_set_same w64 (get_or words (n / 64) 0) (n % 64) (omega arith))
+
+  pub on_others : (q : ℕ) → (q ≡ n → ⊥) → bit_in (put words (n / 64) (bit_or (get_or words (n / 64) 0) (1 * 2 ^ (n % 64) % 2 ^ 64))) q ≡ bit_in words q
+  on_others = bit_elsewhere _ (λ i small apart. bit_at_set_other w64 (get_or words (n / 64) 0) (n % 64) (omega arith) i apart)
+
+  pub off_same : bit_in (put words (n / 64) (bit_and (get_or words (n / 64) 0) (bit_not w64 (1 * 2 ^ (n % 64) % 2 ^ 64)))) n ≡ false
+  off_same = bit_of-word _ 0 (bit_at_clear_same w64 (get_or words (n / 64) 0) (n % 64) (omega arith))
+
+  pub off_others : (q : ℕ) → (q ≡ n → ⊥) → bit_in (put words (n / 64) (bit_and (get_or words (n / 64) 0) (bit_not w64 (1 * 2 ^ (n % 64) % 2 ^ 64)))) q ≡ bit_in words q
+  off_others = bit_elsewhere _ (λ i small apart. bit_at_clear_other w64 (get_or words (n / 64) 0) (n % 64) (omega arith) i small apart)
+
+-- ---- the same bits
+
+same_bit : (a b : List ℕ) (q k i : ℕ) → q / 64 ≡ k → q % 64 ≡ i → bit_in a q ≡ bit_in b q → eqb (bit_at (get_or a k 0) i) 1 ≡ eqb (bit_at (get_or b k 0) i) 1
 unfolding bit_in
-bit_others words n lt len q ne =
-    let within : n / 64 < length words = omega arith in
-    elim (cases_eq (q / 64) (n / 64)) [
-      | inl e ↦
-          let other : q % 64 ≢ n % 64 = λ f. ne (omega arith) in
-          rw (e, get_or-set_same, bit_at_set_other w64 (get_or words (n / 64) 0) (n % 64) (omega arith) (q % 64) other) refl
-      | inr d ↦ let other : q / 64 ≢ n / 64 = d in rw get_or-set_other refl
-    ]
+same_bit a b q k i word place h = rw (← word, ← place) h
+
+-- a bit is known by whether it is 1
+one_bit : (x y : ℕ) → x < 2 → y < 2 → eqb x 1 ≡ eqb y 1 → x ≡ y
+one_bit zero zero sx sy e = refl
+one_bit zero (suc zero) sx sy e = absurd (false≢true e)
+one_bit (suc zero) zero sx sy e = absurd (true≢false e)
+one_bit (suc zero) (suc zero) sx sy e = refl
+one_bit (suc (suc x)) y sx sy e = absurd (omega arith)
+one_bit zero (suc (suc y)) sx sy e = absurd (omega arith)
+one_bit (suc zero) (suc (suc y)) sx sy e = absurd (omega arith)
+
+-- a word is known by its bits
+pub word_is : (a b : List ℕ) (k : ℕ) → k < 6 → get_or a k 0 < 2 ^ 64 → get_or b k 0 < 2 ^ 64 → AreSameBits a b → get_or a k 0 ≡ get_or b k 0
+word_is a b k lt fits_a fits_b same = same_from_bits_below 64 (get_or a k 0) (get_or b k 0) fits_a fits_b (λ i small.
+    one_bit (bit_at (get_or a k 0) i) (bit_at (get_or b k 0) i) (bit_at-lt (get_or a k 0) i) (bit_at-lt (get_or b k 0) i)
+    (same_bit a b (k * 64 + i) k i (omega arith) (omega arith) (same (k * 64 + i) (omega arith))))
 
 -- ---- membership
 
@@ -70,9 +102,6 @@ has_point words q lt = contains-points words q ∙ rw (lt-ltb q 361 lt) refl
 
 same_points : (s t : set.FinSet nat_cmp) → ((q : ℕ) → set.contains s q ≡ set.contains t q) → s ≡ t
 same_points s t h = set.same_set nat_cmp_total set.nat_cmp-IsAntisymmetric s t h
-
-pub points-none : points_of six ≡ set.empty
-points-none = same_points _ _ (λ q. contains-points _ q ∙ rw (no_bit q) (and_false (ltb q 361)) ∙ sym (set.contains-empty nat_cmp q))
 
 pub points-with : (words made : List ℕ) (p : ℕ) → p < 361 → bit_in made p ≡ true → ((q : ℕ) → q < 384 → (q ≡ p → ⊥) → bit_in made q ≡ bit_in words q) → points_of made ≡ set.insert (points_of words) p
 points-with words made p lt same others = same_points _ _ (λ q.
@@ -110,12 +139,18 @@ points-empty words h = same_points _ _ (λ q. contains-points words q ∙ elim (
   | inr above ↦ rw (le-ltb q 361 above) refl
 ] ∙ sym (set.contains-empty nat_cmp q))
 
-pub least_is : (words : List ℕ) (n : ℕ) → ((q : ℕ) → q < n → bit_in words q ≡ false) → (q : ℕ) → set.contains (points_of words) q ≡ true → n ≤ q
-least_is words n h q e =
-    elim (cases_lt q n) [
-      | inl below ↦ absurd (let k : set.contains (points_of words) q ≡ false = contains-points words q ∙ rw (h q below) (and_false (ltb q 361)) in cc)
-      | inr above ↦ above
-    ]
+-- the least point from 0 on is the least of all
+pub least_is : (s : set.FinSet nat_cmp) (found : Option ℕ)
+    → MatchOption found ((q : ℕ) → 0 ≤ q → set.contains s q ≡ false) (λ p. (set.contains s p ≡ true) × (0 ≤ p) × ((q : ℕ) → 0 ≤ q → q < p → set.contains s q ≡ false))
+    → MatchOption found (s ≡ set.empty) (λ p. (set.contains s p ≡ true) × ((q : ℕ) → set.contains s q ≡ true → p ≤ q))
+least_is s None h = same_points s set.empty (λ q. h q (omega arith) ∙ sym (set.contains-empty nat_cmp q))
+least_is s (Some p) h = (
+  h.0,
+  λ q has. elim (cases_lt q p) [
+    | inl below ↦ absurd (false≢true (sym (h.2 q (omega arith) below) ∙ has))
+    | inr above ↦ above
+  ],
+)
 
 -- ---- word by word
 
@@ -137,6 +172,16 @@ two_bits_or (suc (suc x)) y h k = absurd (omega arith)
 two_bits_or zero (suc (suc y)) h k = absurd (omega arith)
 two_bits_or (suc zero) (suc (suc y)) h k = absurd (omega arith)
 
+-- bits differ where the sum of the two is odd
+two_bits_xor : (x y : ℕ) → x < 2 → y < 2 → (eqb ((x + y) % 2) 1 ≡ false) ↔ (eqb x 1 ≡ eqb y 1)
+two_bits_xor zero zero h k = (λ _. refl, λ _. refl)
+two_bits_xor zero (suc zero) h k = (λ e. absurd (true≢false e), λ e. absurd (false≢true e))
+two_bits_xor (suc zero) zero h k = (λ e. absurd (true≢false e), λ e. absurd (true≢false e))
+two_bits_xor (suc zero) (suc zero) h k = (λ _. refl, λ _. refl)
+two_bits_xor (suc (suc x)) y h k = absurd (omega arith)
+two_bits_xor zero (suc (suc y)) h k = absurd (omega arith)
+two_bits_xor (suc zero) (suc (suc y)) h k = absurd (omega arith)
+
 other_bit : (y : ℕ) → y < 2 → eqb (1 - y) 1 ≡ not (eqb y 1)
 other_bit zero h = refl
 other_bit (suc zero) h = refl
@@ -149,13 +194,13 @@ module _ (made a b : List ℕ) where
       ap (λ w. eqb (bit_at w (q % 64)) 1) (h (q / 64) (omega arith)) ∙ ap (λ x. eqb x 1) (bit_at_and (get_or a (q / 64) 0) (get_or b (q / 64) 0) (q % 64))
       ∙ two_bits (bit_at (get_or a (q / 64) 0) (q % 64)) (bit_at (get_or b (q / 64) 0) (q % 64)) (bit_at-lt _ _) (bit_at-lt _ _)
 
-  pub bit-minus : ((k : ℕ) → get_or b k 0 < 2 ^ 64) → ((k : ℕ) → k < 6 → get_or made k 0 ≡ bit_and (get_or a k 0) (bit_not w64 (get_or b k 0))) → (q : ℕ) → q < 384 → bit_in made q ≡ (bit_in a q && not (bit_in b q))
+  pub bit-minus : ((k : ℕ) → k < 6 → get_or b k 0 < 2 ^ 64) → ((k : ℕ) → k < 6 → get_or made k 0 ≡ bit_and (get_or a k 0) (bit_not w64 (get_or b k 0))) → (q : ℕ) → q < 384 → bit_in made q ≡ (bit_in a q && not (bit_in b q))
   unfolding bit_in
   bit-minus fits h q lt =
       let x = get_or a (q / 64) 0 in
       let y = get_or b (q / 64) 0 in
       let i = q % 64 in
-      ap (λ w. eqb (bit_at w i) 1) (h (q / 64) (omega arith)) ∙ ap (λ z. eqb z 1) (bit_at_and x (bit_not w64 y) i ∙ ap (λ z. min (bit_at x i) z) (bit_at_not w64 y i (fits (q / 64)) (omega arith)))
+      ap (λ w. eqb (bit_at w i) 1) (h (q / 64) (omega arith)) ∙ ap (λ z. eqb z 1) (bit_at_and x (bit_not w64 y) i ∙ ap (λ z. min (bit_at x i) z) (bit_at_not w64 y i (fits (q / 64) (omega arith)) (omega arith)))
       ∙ two_bits (bit_at x i) (1 - bit_at y i) (bit_at-lt x i) (omega (arith, bit_at-lt y i)) ∙ ap (λ z. eqb (bit_at x i) 1 && z) (other_bit (bit_at y i) (bit_at-lt y i))
 
   pub points-and : ((q : ℕ) → q < 384 → bit_in made q ≡ (bit_in a q && bit_in b q)) → points_of made ≡ set.intersection (points_of a) (points_of b)
@@ -181,6 +226,17 @@ module _ (made a b : List ℕ) where
     | inl below ↦ rw (lt-ltb q 361 below) (sym (h q (omega arith)))
     | inr above ↦ rw (le-ltb q 361 above) refl
   ])))
+
+  pub bit-xor : ((k : ℕ) → k < 6 → get_or made k 0 ≡ bit_xor (get_or a k 0) (get_or b k 0)) → (q : ℕ) → q < 384 → (bit_in made q ≡ false) ↔ (bit_in a q ≡ bit_in b q)
+  unfolding bit_in
+  bit-xor h q lt =
+      let x = get_or a (q / 64) 0 in
+      let y = get_or b (q / 64) 0 in
+      let i = q % 64 in
+      let is : eqb (bit_at (get_or made (q / 64) 0) i) 1 ≡ eqb ((bit_at x i + bit_at y i) % 2) 1 =
+      ap (λ w. eqb (bit_at w i) 1) (h (q / 64) (omega arith)) ∙ ap (λ z. eqb z 1) (bit_at_xor x y i) in
+      let both = two_bits_xor (bit_at x i) (bit_at y i) (bit_at-lt x i) (bit_at-lt y i) in
+      (λ e. both.0 (sym is ∙ e), λ e. is ∙ both.1 e)
 
 -- ---- the lowest bits, and the first one
 
@@ -241,3 +297,19 @@ no_point words q h = contains-points words q ∙ elim (cases_lt q 361) [
   | inl below ↦ rw (h below) (and_false (ltb q 361))
   | inr above ↦ rw (le-ltb q 361 above) refl
 ]
+
+-- sets are the same exactly where the bits of points are, once all others are 0
+module _ (words below_words others below_others : List ℕ)
+    (kept : (q : ℕ) → q < 384 → q < 361 → bit_in below_words q ≡ bit_in words q) (none : (q : ℕ) → q < 384 → 361 ≤ q → bit_in below_words q ≡ false)
+    (other_kept : (q : ℕ) → q < 384 → q < 361 → bit_in below_others q ≡ bit_in others q) (other_none : (q : ℕ) → q < 384 → 361 ≤ q → bit_in below_others q ≡ false) where
+  pub points_from-bits : AreSameBits below_words below_others → points_of words ≡ points_of others
+  points_from-bits same = same_points _ _ (λ q. contains-points words q ∙ elim (cases_lt q 361) [
+    | inl below ↦ ap (λ b. ltb q 361 && b) (sym (kept q (omega arith) below) ∙ same q (omega arith) ∙ other_kept q (omega arith) below)
+    | inr above ↦ rw (le-ltb q 361 above) refl
+  ] ∙ sym (contains-points others q))
+
+  pub bits_from-points : points_of words ≡ points_of others → AreSameBits below_words below_others
+  bits_from-points same = λ q small. elim (cases_lt q 361) [
+    | inl below ↦ kept q small below ∙ sym (has_point words q below) ∙ ap (λ s. set.contains s q) same ∙ has_point others q below ∙ sym (other_kept q small below)
+    | inr above ↦ none q small above ∙ sym (other_none q small above)
+  ]

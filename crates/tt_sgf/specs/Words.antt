@@ -10,6 +10,10 @@ use Rattle.tt_sgf.specs.Points.{passing}
 unfoldable pub bit_in : List ℕ → ℕ → Bool
 bit_in words n = bit_at (slice_index words (n / 64)) (n % 64) == 1
 
+-- both have the same bits
+abbrev pub AreSameBits : List ℕ → List ℕ → Type 0
+AreSameBits a b = (n : ℕ) → n < 384 → bit_in a n ≡ bit_in b n
+
 -- the numbers of points whose bits are 1
 unfoldable pub points_of : List ℕ → set.FinSet nat_cmp
 points_of words = passing (bit_in words) 361

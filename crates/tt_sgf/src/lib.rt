@@ -7,11 +7,12 @@
 //! | `nodes`, `items` | `MainLine`, `Node`, `Property`, and the list that they are made of |
 //! | `value_kinds` | `number`, `point` and `board_size`: what one value says |
 //! | `entries` | `point_set`: what the values of a point list say together |
-//! | `size`, `sets` | `Size`, `Point`, `PointOrPass` and `PointSet` |
+//! | `size`, `sets`, `bits` | `Size`, `Point`, `PointOrPass`, `PointSet`, and the `Bits` that it is made of |
 //! | `faults` | `SgfFault`, `BadPoint`, `NoMemory` |
 //! | `laws` | one tree a text, and one reading of the bytes |
 #![tactic(auto)]
 
+mod bits;
 mod entries;
 mod faults;
 mod items;
@@ -24,6 +25,7 @@ mod tokens;
 mod trees;
 mod value_kinds;
 
+pub use bits::Bits;
 pub use entries::point_set;
 pub use faults::{BadPoint, NoMemory, SgfFault};
 pub use items::Items;

@@ -1,4 +1,4 @@
-use Rattle.std.proofs.Common.{rules, ◌≡◌, ◌++◌, ◌∷◌, [], length, ◌∙◌, arith}
+use Rattle.std.proofs.Common.{rules, ◌≡◌, ◌++◌, ◌∷◌, [], length, ◌∙◌, ◌<◌, arith}
 use Rattle.tt_board.specs.declared.boards.Edit.TheVariants.{Entry, Whole}
 use Rattle.tt_board.specs.Reach.{entry_at}
 use Rattle.tt_board.proofs.BoardsLemmas.{half_pushed, before_same, on_pushed, led_whole}
@@ -12,8 +12,8 @@ loop-p-preserved c =
     let is : c.push.new.self.items ≡ es ++ Entry p (entry_at earlier p) ∷ [] = search rules in
     record {
       on_board = λ h. on_pushed (length later) es c.push.new.self.items (Entry p (entry_at earlier p)) is (omega (arith, c.loop-p-test.true, c.len-count.ensures.value)) (c.loop-p.invariant.on_board h);
-      half = λ x from. half_pushed later earlier x es c.push.new.self.items p c.first_apart-p-in-loop-p.result (c.loop-p.invariant.half x from) is (omega (arith, c.loop-p-test.true, c.len-count.ensures.value))
-          c.first_apart-p-in-loop-p.ensures.after c.first_apart-p-in-loop-p.ensures.alike;
+      half = λ x from. half_pushed later earlier x es c.push.new.self.items p c.first_from-p-in-loop-p.result (c.loop-p.invariant.half x from) is (omega (arith, c.loop-p-test.true, c.len-count.ensures.value))
+          c.first_from-p-in-loop-p.ensures.after (λ q past before. let small : q < 384 = omega (arith, before, c.first_from-p-in-loop-p.ensures.most) in c.apart-differing.ensures q small (c.first_from-p-in-loop-p.ensures.none q past before small));
       boards = λ g x. before_same g x es c.push.new.self.items p (entry_at earlier p) is ∙ c.loop-p.invariant.boards g x;
     }
 

@@ -14,8 +14,7 @@ loop-next-init c =
     let s = c.args.size in let points = c.args.points.now in let start = c.args.start in
     let items : c.push.new.self.items ≡ start ∷ [] = c.push.ensures.items ∙ ap (λ xs. xs ++ start ∷ []) c.requires.none_yet in
     rw items (record {
-      wide = c.set_bit.ensures.still_wide;
-      growing = start_growing c.no_marks-marks.result c.set_bit.new.words start c.no_marks-marks.ensures (omega arith) c.set_bit.ensures.same c.set_bit.ensures.others;
+      growing = start_growing c.none-marks.result.words c.set.new.self.words start c.none-marks.ensures (omega arith) c.set.ensures.same c.set.ensures.others;
       has_start = Contains-push [] start;
       linked = λ p has. elim (Contains-push_cases [] start p has) [
         | inl none ↦ absurd (omega (arith, none.1))
@@ -46,7 +45,6 @@ loop-next-preserved c =
     let below : i < length before = omega arith in
     let member : Contains before p = subst (λ x. Contains before x) (sym is) (Contains-get_or before i 0 below) in
     record {
-      wide = c.grow.ensures.still_wide;
       growing = c.grow.ensures.still_growing;
       has_start = grown_kept s points p before after c.args.start c.grow.ensures.grown c.loop-next.invariant.has_start;
       linked = linked_more s points c.args.start p before after c.grow.ensures.grown member c.loop-next.invariant.linked;

@@ -21,7 +21,7 @@ loop-p-init c = record {
 }
 
 pub at-requires : goal.at-requires
-at-requires c = let i = c.self.inside in omega (arith, count_is i.count i.black i.white _ c.self.view_is)
+at-requires c = let i = c.self.inside in omega (arith, count_is i.count i.black.words i.white.words _ c.self.view_is)
 
 front_is : (n : ℕ) (xs c : Colouring) → length c ≡ n → n ≤ length xs → ((k : ℕ) → k < n → entry_at xs k ≡ entry_at c k) → take n xs ≡ c
 front_is n xs c fits wide same = ext_get_or None (take n xs) c (length-take-le n xs wide ∙ sym fits)
@@ -30,8 +30,8 @@ front_is n xs c fits wide same = ext_get_or None (take n xs) c (length-take-le n
 pub returns-clause-shown : goal.returns-clause-shown
 returns-clause-shown c =
     let i = c.self.inside in let own = c.args.self.now in
-    front_is (length own) c.loop-p.entries own refl (omega (arith, c.loop-p.invariant.wide, count_is i.count i.black i.white _ c.self.view_is, c.self.invariant.small))
-    (λ k below. c.loop-p.invariant.done k (omega (arith, count_is i.count i.black i.white _ c.self.view_is)))
+    front_is (length own) c.loop-p.entries own refl (omega (arith, c.loop-p.invariant.wide, count_is i.count i.black.words i.white.words _ c.self.view_is, c.self.invariant.small))
+    (λ k below. c.loop-p.invariant.done k (omega (arith, count_is i.count i.black.words i.white.words _ c.self.view_is)))
 
 pub returns-clause-rest : goal.returns-clause-rest
-returns-clause-rest c = λ k above. let i = c.self.inside in c.loop-p.invariant.rest k (omega (arith, count_is i.count i.black i.white _ c.self.view_is))
+returns-clause-rest c = λ k above. let i = c.self.inside in c.loop-p.invariant.rest k (omega (arith, count_is i.count i.black.words i.white.words _ c.self.view_is))

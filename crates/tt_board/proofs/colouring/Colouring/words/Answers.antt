@@ -1,4 +1,5 @@
 use Rattle.std.proofs.Common.{rules, ◌≡◌, length, sym, subst}
+use Rattle.std.specs.Prelude.{List, ℕ}
 use Rattle.tt_board.specs.declared.Colour.{Colour}
 use Rattle.tt_board.specs.declared.Colour.TheVariants.{Black, White}
 use Rattle.tt_board.specs.Reach.{entry_at}
@@ -10,13 +11,15 @@ use Rattle.tt_board.proofs.colouring.Colouring.words.Goals as goal
 pub returns-in-Black : goal.returns-in-Black
 returns-in-Black c =
     let i = c.self.inside in let own = c.args.self.now in
-    let wide : length i.black ≡ 6 = search rules in
+    let wide : length i.black.words ≡ 6 = search rules in
     let colour : c.args.colour ≡ Black = search rules in
-    subst (λ (k : Colour). AreBitsOf i.black (length own) (λ p. is_stone_of (entry_at own p) k)) (sym colour) (blacks_handed i.count i.black i.white own c.self.view_is c.self.invariant wide)
+    subst (λ (words : List ℕ). AreBitsOf words (length own) (λ p. is_stone_of (entry_at own p) c.args.colour)) (sym c.words.ensures)
+    (subst (λ (k : Colour). AreBitsOf i.black.words (length own) (λ p. is_stone_of (entry_at own p) k)) (sym colour) (blacks_handed i.count i.black.words i.white.words own c.self.view_is c.self.invariant wide))
 
 pub returns-in-White : goal.returns-in-White
 returns-in-White c =
     let i = c.self.inside in let own = c.args.self.now in
-    let wide : length i.white ≡ 6 = search rules in
+    let wide : length i.white.words ≡ 6 = search rules in
     let colour : c.args.colour ≡ White = search rules in
-    subst (λ (k : Colour). AreBitsOf i.white (length own) (λ p. is_stone_of (entry_at own p) k)) (sym colour) (whites_handed i.count i.black i.white own c.self.view_is c.self.invariant wide)
+    subst (λ (words : List ℕ). AreBitsOf words (length own) (λ p. is_stone_of (entry_at own p) c.args.colour)) (sym c.words-in-White.ensures)
+    (subst (λ (k : Colour). AreBitsOf i.white.words (length own) (λ p. is_stone_of (entry_at own p) k)) (sym colour) (whites_handed i.count i.black.words i.white.words own c.self.view_is c.self.invariant wide))

@@ -6,4 +6,4 @@ use Rattle.tt_sgf.proofs.sets.PointSet.with.Goals as goal
 pub returns : goal.returns
 returns c =
     let is = c.from.ensures ∙ c.number.ensures.number in
-    points-with c.self.inside.words c.set_bit.result c.from.result (omega arith) c.set_bit.ensures.same c.set_bit.ensures.others ∙ ap (set.insert _) is ∙ ap (λ s. set.insert s c.args.p) c.self.view_is
+    points-with c.self.inside.bits.words c.set.new.self.words c.from.result (omega arith) c.set.ensures.same c.set.ensures.others ∙ ap (set.insert _) is ∙ ap (λ s. set.insert s c.args.p) c.self.view_is

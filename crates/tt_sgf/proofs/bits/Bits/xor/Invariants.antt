@@ -1,0 +1,6 @@
+use Rattle.std.proofs.Common.{◌≡◌, ℕ, ◌<◌, length, get_or}
+use Rattle.std.specs.Prelude.{bit_xor}
+use Rattle.tt_sgf.proofs.bits.Bits.xor.Given as goal
+
+abbrev pub invariant-loop-k : goal.invariant-loop-k
+invariant-loop-k l = (length l.words ≡ 6) × ((k : ℕ) → k < l.k → get_or l.words k 0 ≡ bit_xor (get_or l.self.words k 0) (get_or l.other.words k 0))

@@ -1,6 +1,0 @@
-use Rattle.std.proofs.Common.{◌≡◌, ℕ, ◌<◌, ◌-◌, ◌*◌, length, get_or}
-use Rattle.tt_sgf.specs.Words.{IsLow}
-use Rattle.tt_sgf.proofs.sets.words_below.Given as goal
-
-abbrev pub invariant-loop-k : goal.invariant-loop-k
-invariant-loop-k l = (length l.made ≡ 6) × ((k : ℕ) → k < l.k → IsLow (get_or l.made k 0) (get_or l.words k 0) (l.count - 64 * k))

@@ -1,0 +1,176 @@
+//! Bits in six words: one for each of the numbers below 384, which are more than the points of the largest board.
+
+ghost use Rattle.std.specs.Prelude.{◌≡◌, ℕ, ◌<◌, ◌≤◌, ◌↔◌, IsTrue, true, false, not, ◌&&◌, ◌||◌};
+ghost use Rattle.std.specs.FinSet as set;
+ghost use Rattle.tt_sgf.specs.Words.{bit_in, points_of, IsLow, AreSameBits};
+
+/// A bit for each of the numbers below 384: that of `n` is bit `n % 64` of word `n / 64`.
+#[derive(Clone, Copy)]
+pub struct Bits {
+    words: [u64; 6],
+}
+
+/// The bits of the numbers below `count`, with 0 for all others.
+fn low_bits(word: u64, count: usize) -> u64
+    ensures { IsLow result word count }
+{
+    if count >= 64 {
+        return word;
+    }
+    word & ((1 << count) - 1)
+}
+
+impl Bits {
+    /// Bits that are all 0.
+    pub fn none() -> Bits
+        ensures { (n : ℕ) → n < 384 → bit_in result.words n ≡ false }
+    {
+        Bits { words: [0; 6] }
+    }
+
+    /// The six words.
+    pub fn words(&self) -> [u64; 6]
+        ensures { result ≡ self.now.words }
+    {
+        self.words
+    }
+
+    /// Whether the bit of a number is 1.
+    pub fn has(&self, n: usize) -> bool
+        requires { n < 384 }
+        ensures { result ≡ bit_in self.now.words n }
+    {
+        (self.words[n / 64] >> (n % 64)) & 1 == 1
+    }
+
+    /// Makes the bit of a number 1.
+    pub fn set(&mut self, n: usize)
+        requires { n < 384 }
+        ensures same { bit_in self.new.words n ≡ true }
+        ensures others { (q : ℕ) → q < 384 → (q ≡ n → ⊥) → bit_in self.new.words q ≡ bit_in self.old.words q }
+    {
+        self.words[n / 64] |= 1 << (n % 64);
+    }
+
+    /// Makes the bit of a number 0.
+    pub fn clear(&mut self, n: usize)
+        requires { n < 384 }
+        ensures same { bit_in self.new.words n ≡ false }
+        ensures others { (q : ℕ) → q < 384 → (q ≡ n → ⊥) → bit_in self.new.words q ≡ bit_in self.old.words q }
+    {
+        self.words[n / 64] &= !(1 << (n % 64));
+    }
+
+    /// Makes the bit of a number 1 or 0.
+    pub fn put(&mut self, n: usize, on: bool)
+        requires { n < 384 }
+        ensures same { bit_in self.new.words n ≡ on }
+        ensures others { (q : ℕ) → q < 384 → (q ≡ n → ⊥) → bit_in self.new.words q ≡ bit_in self.old.words q }
+    {
+        if on {
+            self.set(n);
+        } else {
+            self.clear(n);
+        }
+    }
+
+    /// The least number from `from` on whose bit is 1: 384 where there is none. It looks at each word once.
+    pub fn first_from(&self, from: usize) -> usize
+        requires { from ≤ 384 }
+        ensures after { from ≤ result }
+        ensures most { result ≤ 384 }
+        ensures none { (q : ℕ) → from ≤ q → q < result → q < 384 → bit_in self.now.words q ≡ false }
+        ensures found { result < 384 → bit_in self.now.words result ≡ true }
+    {
+        let mut n = from;
+        while n < 384 {
+            let rest = self.words[n / 64] >> (n % 64);
+            if rest != 0 {
+                return n + rest.trailing_zeros() as usize;
+            }
+            n = n / 64 * 64 + 64;
+        }
+        384
+    }
+
+    /// How many bits of points, the numbers below 361, are 1.
+    pub(crate) fn count(&self) -> u16
+        ensures { result ≡ set.len (points_of self.now.words) }
+    {
+        let mut count: u16 = 0;
+        for n in 0..361 {
+            if self.has(n) {
+                count += 1;
+            }
+        }
+        count
+    }
+
+    /// The bits of the numbers below `count`, with 0 for all others.
+    pub(crate) fn below(&self, count: usize) -> Bits
+        ensures kept { (q : ℕ) → q < 384 → q < count → bit_in result.words q ≡ bit_in self.now.words q }
+        ensures none { (q : ℕ) → q < 384 → count ≤ q → bit_in result.words q ≡ false }
+    {
+        let mut words = [0u64; 6];
+        for k in 0..6 {
+            words[k] = low_bits(self.words[k], count.saturating_sub(64 * k));
+        }
+        Bits { words }
+    }
+
+    /// The bits that are 1 in the first alone.
+    pub fn minus(&self, other: &Bits) -> Bits
+        ensures { (q : ℕ) → q < 384 → bit_in result.words q ≡ (bit_in self.now.words q && not (bit_in other.now.words q)) }
+    {
+        let mut words = [0u64; 6];
+        for k in 0..6 {
+            words[k] = self.words[k] & !other.words[k];
+        }
+        Bits { words }
+    }
+
+    /// The bits that are 1 in both.
+    pub fn and(&self, other: &Bits) -> Bits
+        ensures { (q : ℕ) → q < 384 → bit_in result.words q ≡ (bit_in self.now.words q && bit_in other.now.words q) }
+    {
+        let mut words = [0u64; 6];
+        for k in 0..6 {
+            words[k] = self.words[k] & other.words[k];
+        }
+        Bits { words }
+    }
+
+    /// The bits that are 1 in one or both.
+    pub fn or(&self, other: &Bits) -> Bits
+        ensures { (q : ℕ) → q < 384 → bit_in result.words q ≡ (bit_in self.now.words q || bit_in other.now.words q) }
+    {
+        let mut words = [0u64; 6];
+        for k in 0..6 {
+            words[k] = self.words[k] | other.words[k];
+        }
+        Bits { words }
+    }
+
+    /// The bits that are 1 in one alone.
+    pub fn xor(&self, other: &Bits) -> Bits
+        ensures { (q : ℕ) → q < 384 → (bit_in result.words q ≡ false) ↔ (bit_in self.now.words q ≡ bit_in other.now.words q) }
+    {
+        let mut words = [0u64; 6];
+        for k in 0..6 {
+            words[k] = self.words[k] ^ other.words[k];
+        }
+        Bits { words }
+    }
+
+    /// Whether both have the same bits; it stops at the first word that differs.
+    pub fn same(&self, other: &Bits) -> bool
+        ensures { IsTrue result ↔ AreSameBits self.now.words other.now.words }
+    {
+        for k in 0..6 {
+            if self.words[k] != other.words[k] {
+                return false;
+            }
+        }
+        true
+    }
+}
