@@ -61,7 +61,6 @@ fn grow(
     ensures liberty { IsTrue result → Reaches size points.now p None }
     ensures enclosed { result ≡ false → IsEnclosed size points.now chain.new.items p }
 {
-    let _count = size.point_count();
     let near = beside(size, p);
     if visit(points, own, near.above, marks, chain) {
         return true;
@@ -122,7 +121,6 @@ fn walk(size: Size, points: &Colouring, start: usize, chain: &mut ArrayVec<u16, 
     ensures liberty { IsTrue result → Reaches size points.now start None }
     ensures lifeless { result ≡ false → IsLifelessChain size points.now start chain.new.items }
 {
-    let _count = size.point_count();
     let own = points.at(start);
     let mut marks = Bits::none();
     marks.set(start);

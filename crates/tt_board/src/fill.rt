@@ -100,7 +100,6 @@ pub(crate) fn reaching(size: Size, points: &[Option<Colour>], wanted: Option<Col
     ensures marked { IsFilled size points.now wanted result }
     ensures wide { length result ≡ 361 }
 {
-    let _count = size.point_count();
     let mut marks = [false; 361];
     let mut changed = true;
     while changed {

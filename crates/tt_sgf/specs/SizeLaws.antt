@@ -1,9 +1,9 @@
 -- Laws of sizes: their columns and rows are all that they are.
-use Rattle.std.proofs.Common.{◌≡◌, ℕ, Some, None, inl, inr, refl, sym, ap, subst}
+use Rattle.std.proofs.Common.{◌≡◌, ◌≤◌, ℕ, Some, None, inl, inr, refl, sym, ap, subst}
 use Rattle.std.proofs.lemmas.Option.{same_Some}
 use Rattle.std.proofs.Math.Bridge.{le_prop}
 use Rattle.tt_sgf.specs.declared.size.Size.{Size}
-use Rattle.tt_sgf.specs.Sizes.{IsSide, made, side, sized, sized_by}
+use Rattle.tt_sgf.specs.Sizes.{IsSide, point_count, made, side, sized, sized_by}
 
 same_side : (n : ℕ) (a b : IsSide n) → a ≡ b
 same_side n a b = λ i. (le_prop a.0 b.0 i, le_prop a.1 b.1 i)
@@ -17,6 +17,10 @@ made_same c d r t h k l m e f =
 pub sizes_same : (a b : Size) → a.columns ≡ b.columns → a.rows ≡ b.rows → a ≡ b
 unfolding made
 sizes_same a b e f = made_same a.columns b.columns a.rows b.rows a.columns_in a.rows_in b.columns_in b.rows_in e f
+
+-- a board has 361 points at the most
+pub few_points : (size : Size) → point_count size ≤ 361
+few_points size = Rattle.std.proofs.Math.Nat.mul-le-mul size.columns_in.1 size.rows_in.1
 
 -- a size is the one of its columns and rows
 pub sized_is : (s : Size) → sized s.columns s.rows ≡ Some s

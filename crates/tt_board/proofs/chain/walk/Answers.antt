@@ -1,6 +1,7 @@
 use Rattle.std.proofs.Common.{ℕ, ◌≡◌, ◌<◌, List, [], ◌∷◌, ◌++◌, get_or, length, Contains, arith, inl, inr, refl, sym, ap, subst, ◌∙◌}
 use Rattle.std.proofs.lemmas.List.Elements.{Contains-push, Contains-push_cases, Contains-get_or}
 use Rattle.tt_sgf.specs.declared.size.Size.{Size}
+use Rattle.tt_sgf.specs.SizeLaws.{few_points}
 use Rattle.tt_board.specs.Position.{Colouring}
 use Rattle.tt_board.specs.Chain.{IsLinked}
 use Rattle.tt_board.proofs.ChainLemmas.{start_growing, grown_kept, linked_more, enclosed_more, enclosed_all}
@@ -14,7 +15,7 @@ loop-next-init c =
     let s = c.args.size in let points = c.args.points.now in let start = c.args.start in
     let items : c.push.new.self.items ≡ start ∷ [] = c.push.ensures.items ∙ ap (λ xs. xs ++ start ∷ []) c.requires.none_yet in
     rw items (record {
-      growing = start_growing c.none-marks.result.words c.set.new.self.words start c.none-marks.ensures (omega arith) c.set.ensures.same c.set.ensures.others;
+      growing = start_growing c.none-marks.result.words c.set.new.self.words start c.none-marks.ensures (omega (arith, few_points s)) c.set.ensures.same c.set.ensures.others;
       has_start = Contains-push [] start;
       linked = λ p has. elim (Contains-push_cases [] start p has) [
         | inl none ↦ absurd (omega (arith, none.1))
