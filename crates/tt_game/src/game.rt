@@ -134,9 +134,9 @@ impl Game {
         if self.passes == 2 {
             return Some(Why::Over);
         }
-        match &t {
+        match t {
             Turn::Pass => None,
-            Turn::Play(p) => self.made(*p).err(),
+            Turn::Play(p) => self.made(p).err(),
         }
     }
 
@@ -180,8 +180,8 @@ impl Game {
         if self.passes == 2 {
             return Err(Refused::Illegal(Why::Over));
         }
-        match &t {
-            Turn::Play(p) => self.push_play(*p),
+        match t {
+            Turn::Play(p) => self.push_play(p),
             Turn::Pass => {
                 self.push_pass();
                 Ok(())

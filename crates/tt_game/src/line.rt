@@ -209,9 +209,9 @@ impl Line {
         if self.winner().is_some() {
             return Some(Why::Over);
         }
-        match &t {
+        match t {
             Turn::Pass => None,
-            Turn::Play(p) => self.made(*p).err(),
+            Turn::Play(p) => self.made(p).err(),
         }
     }
 
@@ -274,8 +274,8 @@ impl Line {
         if self.winner().is_some() {
             return Err(Refused::Illegal(Why::Over));
         }
-        match &t {
-            Turn::Play(p) => self.push_play(*p),
+        match t {
+            Turn::Play(p) => self.push_play(p),
             Turn::Pass => {
                 if self.push_pass().is_err() {
                     return Err(Refused::NoMemory);
@@ -292,9 +292,9 @@ impl Line {
         ensures ok { OnOk result (IsPushed self.old self.new t) }
         ensures err { OnErr result (self.new ≡ self.old) }
     {
-        match &t {
+        match t {
             Turn::Play(p) => {
-                let next = self.board_after(*p);
+                let next = self.board_after(p);
                 self.push_board(next)?;
             }
             Turn::Pass => self.push_pass()?,

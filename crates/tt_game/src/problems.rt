@@ -76,9 +76,7 @@ fn run_to_mark(replay: Replay, nodes: &[Node]) -> Result<Line, GameFault>
     let mut last = replay;
     let mut rest = nodes;
     while let Some((node, behind)) = rest.split_first() {
-        if let Err(fault) = last.step(node) {
-            return Err(fault);
-        }
+        last.step(node)?;
         if has_value(node.properties.as_slice(), b"TR") {
             return pose(last.game, node);
         }
@@ -100,8 +98,5 @@ pub fn problem(alloc: Global, line: &MainLine) -> Result<Line, GameFault>
     ensures { let want = problem_of line.now.nodes in MatchResult result (λ l. want ≡ Ok l) (λ e. IsStopped e want) }
 {
     let nodes = line.nodes.as_slice();
-    match begin_line(alloc, nodes) {
-        Err(fault) => Err(fault),
-        Ok(first) => run_to_mark(first, nodes),
-    }
+    run_to_mark(begin_line(alloc, nodes)?, nodes)
 }

@@ -52,8 +52,8 @@ fn fault_of(why: Why) -> GameFault
 fn as_turn(value: PointOrPass) -> Turn
     ensures { result ≡ as_turn value }
 {
-    match &value {
-        PointOrPass::On(p) => Turn::Play(*p),
+    match value {
+        PointOrPass::On(p) => Turn::Play(p),
         PointOrPass::Pass => Turn::Pass,
     }
 }
@@ -86,9 +86,7 @@ impl Replay {
         ensures { let want = turn_by self.old colour t in MatchResult result (λ _. want ≡ Ok self.new) (λ e. IsStopped e want) }
     {
         if self.game.to_move() != colour {
-            if let Err(fault) = self.turn(Turn::Pass) {
-                return Err(fault);
-            }
+            self.turn(Turn::Pass)?;
         }
         self.turn(t)
     }
@@ -226,9 +224,7 @@ fn run(replay: Replay, nodes: &[Node]) -> Result<Replay, GameFault>
     let mut last = replay;
     let mut rest = nodes;
     while let Some((node, behind)) = rest.split_first() {
-        if let Err(fault) = last.step(node) {
-            return Err(fault);
-        }
+        last.step(node)?;
         rest = behind;
     }
     Ok(last)
@@ -258,11 +254,6 @@ pub fn play_record(alloc: Global, line: &MainLine) -> Result<Record, GameFault>
     ensures { let want = record_of line.now.nodes in MatchResult result (λ r. want ≡ Ok r) (λ e. IsStopped e want) }
 {
     let nodes = line.nodes.as_slice();
-    match begin_line(alloc, nodes) {
-        Err(fault) => Err(fault),
-        Ok(first) => match run(first, nodes) {
-            Err(fault) => Err(fault),
-            Ok(last) => Ok(record_at(&last.game)),
-        },
-    }
+    let last = run(begin_line(alloc, nodes)?, nodes)?;
+    Ok(record_at(&last.game))
 }
