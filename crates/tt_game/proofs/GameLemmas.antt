@@ -101,13 +101,6 @@ same_boards g (b ∷ bs) (c ∷ cs) h k e =
     one : (x y : Position) → x.size ≡ y.size → x.points ≡ y.points → x ≡ y
     one x y s p = ap (λ (z : Size). let w : Position = record { size = z; points = x.points } in w) s ∙ ap (λ (z : List (Option Colour)). let w : Position = record { size = y.size; points = z } in w) p
 
--- two states are one where their boards are
-pub same_states : (f g : Size) (bs cs : List Position) (a b : Side) (m n : ℕ) → f ≡ g → 0 < length bs → 0 < length cs → All (λ (x : Position). x.size ≡ f) bs → All (λ (x : Position). x.size ≡ g) cs
-    → state_of bs a m ≡ state_of cs b n → bs ≡ cs
-same_states f g bs cs a b m n e some one h k s =
-    let u : colourings bs ≡ colourings cs = sym (history_is bs a m some) ∙ ap history s ∙ history_is cs b n one in
-    same_boards g bs cs (subst (λ (z : Size). All (λ (x : Position). x.size ≡ z) bs) e h) k u
-
 -- boards that show a state's history show the state
 pub state_from : (bs : List Position) (s : State) → colourings bs ≡ history s → state_of bs s.to_move s.passes ≡ s
 state_from bs s e =

@@ -67,21 +67,6 @@ pub(crate) fn repeats(history: &[Board], next: &Board) -> bool
     false
 }
 
-/// Whether both histories have the same boards.
-fn same_history(left: &[Board], right: &[Board]) -> bool
-    ensures { IsTrue result ↔ (left.now ≡ right.now) }
-{
-    if left.len() != right.len() {
-        return false;
-    }
-    for place in 0..left.len() {
-        if !left[place].same(&right[place]) {
-            return false;
-        }
-    }
-    true
-}
-
 impl Line {
     ghost use Rattle.std.specs.Prelude.{Some, None, Err, Ok, [], MatchResult, EachIndex};
     ghost use Rattle.tt_game.specs.Game.{history, winner_of, colour_of, made, IsLegal, after};
@@ -334,22 +319,6 @@ impl Line {
         ensures sizes { All (λ b. b.size ≡ self.now.frame.size) result.now }
     {
         &self.history
-    }
-
-    /// Whether both lines have one frame and one state: the same history, side to move and passes.
-    pub fn stands_with(&self, other: &Line) -> bool
-        ensures { IsTrue result ↔ ((self.now.frame ≡ other.now.frame) × (self.now.state ≡ other.now.state)) }
-    {
-        if self.to_move != other.to_move {
-            return false;
-        }
-        if self.passes != other.passes {
-            return false;
-        }
-        if !self.frame.same(&other.frame) {
-            return false;
-        }
-        same_history(&self.history, &other.history)
     }
 
     /// Where the line stands, to be kept in little memory.
