@@ -1,8 +1,7 @@
 -- Tests of a game as definitions say them, and node after node.
-use Rattle.std.proofs.Common.{◌≡◌, ◌≢◌, ℕ, zero, suc, ◌+◌, ◌<◌, ◌≤◌, Bool, true, false, ◌&&◌, ◌||◌, List, [], ◌∷◌, ◌++◌, length, Contains, Option, Some, None, IsTrue, refl, sym, ap, subst, ◌∙◌, inl, inr, arith}
+use Rattle.std.proofs.Common.{◌≡◌, ◌≢◌, ℕ, zero, suc, ◌+◌, ◌<◌, ◌≤◌, Bool, true, false, ◌&&◌, ◌||◌, List, [], ◌∷◌, Option, Some, None, IsTrue, refl, sym, ap, ◌∙◌, inl, inr, arith}
 use Rattle.std.proofs.lemmas.Bool.{cases_Bool}
 use Rattle.tt_board.specs.declared.Colour.{Colour}
-use Rattle.tt_board.specs.Position.{Position}
 use Rattle.std.proofs.lemmas.Bool.{cases_eq, le-leb, leb-true}
 use Rattle.std.proofs.Common.{min, leb}
 use Rattle.std.proofs.lemmas.Option.{none-some}
@@ -11,27 +10,18 @@ use Rattle.tt_sgf.specs.Sizes.{point_count}
 use Rattle.tt_board.specs.Reach.{entry_at, Reaches}
 use Rattle.tt_board.specs.Decided.{reaches, reaches_is}
 use Rattle.tt_board.specs.Play.{is_empty, IsAlive, IsLeastLifeless}
-use Rattle.tt_game.specs.Games.{Played, all_of}
 use Rattle.tt_game.specs.History.{repeats, repeats_is}
 use Rattle.tt_game.specs.declared.records.Replay.{Replay}
 use Rattle.tt_game.specs.Records.{alive_below, all_alive, run_nodes, step_node, and_then}
 use Rattle.tt_game.specs.declared.faults.GameFault.{GameFault}
 use Rattle.tt_sgf.specs.declared.nodes.Node.{Node}
 use Rattle.std.specs.Prelude.{Ok, Err}
-use Rattle.tt_game.specs.Line.{colourings}
-use Rattle.tt_game.specs.Undoing.{front, last}
-use Rattle.tt_game.proofs.GameLemmas.{front_last, length-colourings}
+use Rattle.tt_game.specs.Course.{HasBeen}
 use Rattle.tt_game.proofs.FrameLemmas.{bools}
 
--- the test over the boards of a game
-pub been_is : (s : Played) (bs : List Position) (c : List (Option Colour)) (r : Bool) → all_of s ≡ colourings bs → (IsTrue r → Contains (colourings bs) c) × (Contains (colourings bs) c → IsTrue r) → r ≡ repeats (all_of s) c
-been_is s bs c r e h =
-    bools r (repeats (all_of s) c)
-    (λ y. (repeats_is (all_of s) c).1 (subst (λ l. Contains l c) (sym e) (h.0 y)))
-    (λ y. h.1 (subst (λ l. Contains l c) e ((repeats_is (all_of s) c).0 y)))
-
-pub all_is : (s : Played) (bs : List Position) → 0 < length bs → s.earlier ≡ front (colourings bs) → s.present ≡ last (colourings bs) → all_of s ≡ colourings bs
-all_is s bs some e f = ap (λ (l : List (List (Option Colour))). l ++ s.present ∷ []) e ∙ ap (λ (x : List (Option Colour)). front (colourings bs) ++ x ∷ []) f ∙ front_last (colourings bs) (omega (arith, length-colourings bs))
+-- the test of a repeat is what says exactly whether the colouring has been
+pub been_is : (h : List (List (Option Colour))) (c : List (Option Colour)) (r : Bool) → (IsTrue r → HasBeen h c) × (HasBeen h c → IsTrue r) → r ≡ repeats h c
+been_is h c r told = bools r (repeats h c) (λ y. (repeats_is h c).1 (told.0 y)) (λ y. told.1 ((repeats_is h c).0 y))
 
 alive_at : (size : Size) (c : List (Option Colour)) (p : ℕ) → p < point_count size → (entry_at c p ≢ None → Reaches size c p None) → (is_empty (entry_at c p) || reaches size c p None) ≡ true
 alive_at size c p lt h = elim (entry_at c p) as (λ o. entry_at c p ≡ o → (is_empty o || reaches size c p None) ≡ true) [

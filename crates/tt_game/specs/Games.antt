@@ -1,5 +1,5 @@
 -- Games of Black and White under the Tromp-Taylor rules, with no region and no target.
-use Rattle.std.specs.Prelude.{◌≡◌, ℕ, ◌+◌, ◌==◌, cond, List, [], ◌∷◌, ◌++◌, replicate, Option, Some, None}
+use Rattle.std.specs.Prelude.{◌≡◌, ℕ, ◌==◌, cond, List, replicate, Option, Some, None}
 use Rattle.tt_sgf.specs.declared.size.Size.{Size}
 use Rattle.tt_sgf.specs.Sizes.{point_count}
 use Rattle.tt_board.specs.declared.Colour.{Colour}
@@ -13,6 +13,7 @@ use Rattle.tt_game.specs.declared.faults.Refused.{Refused}
 use Rattle.tt_game.specs.declared.faults.Refused.TheVariants.{Illegal, NoMemory}
 use Rattle.tt_game.specs.declared.turns.Turn.{Turn}
 use Rattle.tt_game.specs.declared.turns.Turn.TheVariants.{Play, Pass}
+use Rattle.tt_game.specs.Course.{Course, so_far, with_play, with_pass, first_course}
 use Rattle.tt_game.specs.History.{repeats}
 
 -- a game: its board's size, the colourings before the present one (oldest first), the present one, who moves, and the
@@ -24,9 +25,17 @@ pub record Played : Type 0 where
   pub to_move : Colour
   pub passes : ℕ
 
+-- the course of a game
+abbrev pub course : Played → Course
+course s = record { size = s.size; earlier = s.earlier; present = s.present; passes = s.passes }
+
+-- the game of a course at which a colour moves
+abbrev pub game_at : Course → Colour → Played
+game_at c k = record { size = c.size; earlier = c.earlier; present = c.present; to_move = k; passes = c.passes }
+
 -- every colouring so far, oldest first, the present one last
 abbrev pub all_of : Played → List Colouring
-all_of s = s.earlier ++ s.present ∷ []
+all_of s = so_far (course s)
 
 -- the colouring that a move on p makes
 abbrev pub made_by : Played → ℕ → Colouring
@@ -43,18 +52,18 @@ refusal_of s (Play p) = cond (s.passes == 2) (Some Over) (move_refusal s p)
 
 -- the game after a turn
 abbrev pub turned : Played → Turn → Played
-turned s Pass = record { size = s.size; earlier = s.earlier; present = s.present; to_move = other s.to_move; passes = s.passes + 1 }
-turned s (Play p) = record { size = s.size; earlier = all_of s; present = made_by s p; to_move = other s.to_move; passes = 0 }
+turned s Pass = game_at (with_pass (course s)) (other s.to_move)
+turned s (Play p) = game_at (with_play (course s) (made_by s p)) (other s.to_move)
 
 -- an error of a push
 abbrev pub IsHalted : Played → Turn → Refused → Type 0
 IsHalted s t (Illegal why) = refusal_of s t ≡ Some why
 IsHalted s t NoMemory = refusal_of s t ≡ None
 
--- before the first turn: the empty board, and Black moves
-abbrev pub empty_game : Size → Played
-empty_game size = record { size = size; earlier = []; present = replicate (point_count size) None; to_move = Black; passes = 0 }
-
 -- a game that begins with this colouring alone
 abbrev pub begun_with : Size → Colouring → Colour → Played
-begun_with size c k = record { size = size; earlier = []; present = c; to_move = k; passes = 0 }
+begun_with size c k = game_at (first_course size c) k
+
+-- before the first turn: the empty board, and Black moves
+abbrev pub empty_game : Size → Played
+empty_game size = begun_with size (replicate (point_count size) None) Black

@@ -1,8 +1,9 @@
 -- Whether a colouring is in a history.
-use Rattle.std.specs.Prelude.{◌≡◌, List, [], ◌∷◌, length, Contains, Bool, true, false, slice_index_or}
+use Rattle.std.specs.Prelude.{◌≡◌, List, [], ◌∷◌, length, Bool, true, false, slice_index_or}
 use Rattle.std.proofs.Common.{inl, inr, refl}
 use Rattle.std.proofs.lemmas.Bool.{false≢true}
 use Rattle.tt_board.specs.Position.{Colouring}
+use Rattle.tt_game.specs.Course.{HasBeen}
 use Rattle.tt_board.specs.Decided.{Decision, some_below, same_entry}
 
 -- a decision as a test
@@ -24,7 +25,7 @@ same_colouring (x ∷ a) (y ∷ b) = elim (same_entry x y) [
   | inl same ↦ elim (same_colouring a b) [ inr apart ↦ inr (λ e. apart cc) | inl rest ↦ inl cc ]
 ]
 
-pub in_history : (h : List Colouring) (c : Colouring) → Decision (Contains h c)
+pub in_history : (h : List Colouring) (c : Colouring) → Decision (HasBeen h c)
 in_history h c = some_below (λ k. slice_index_or h k c ≡ c) (λ k. same_colouring (slice_index_or h k c) c) (length h)
 
 -- whether the colouring is in the history
@@ -32,6 +33,6 @@ pub repeats : List Colouring → Colouring → Bool
 repeats h c = decided (in_history h c)
 
 pub repeats_is : (h : List Colouring) (c : Colouring)
-    → (repeats h c ≡ true → Contains h c) × (Contains h c → repeats h c ≡ true) × ((Contains h c → ⊥) → repeats h c ≡ false)
+    → (repeats h c ≡ true → HasBeen h c) × (HasBeen h c → repeats h c ≡ true) × ((HasBeen h c → ⊥) → repeats h c ≡ false)
 unfolding repeats
 repeats_is h c = decided_is (in_history h c)

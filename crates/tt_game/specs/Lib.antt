@@ -1,3 +1,4 @@
+pub mod Course
 pub mod Game
 pub mod History
 pub mod Legality

@@ -1,7 +1,6 @@
 -- Lines: a frame, a state, and what pops lead back to. Why a turn is refused, and what a push does.
-use Rattle.std.specs.Prelude.{◌≡◌, ◌≢◌, List, ◌∷◌, map, Contains, None, IsTrue}
+use Rattle.std.specs.Prelude.{◌≡◌, ◌≢◌, List, ◌∷◌, None, IsTrue}
 use Rattle.std.specs.FinSet as set
-use Rattle.tt_board.specs.Position.{Position, Colouring}
 use Rattle.tt_board.specs.Reach.{entry_at}
 use Rattle.tt_game.specs.declared.faults.Why.{Why}
 use Rattle.tt_game.specs.declared.faults.Why.TheVariants.{Over, Occupied, Outside, Repeats}
@@ -10,6 +9,7 @@ use Rattle.tt_game.specs.declared.faults.Refused.TheVariants.{Illegal, NoMemory}
 use Rattle.tt_game.specs.declared.frame.Frame.{Frame}
 use Rattle.tt_game.specs.declared.turns.Turn.{Turn}
 use Rattle.tt_game.specs.declared.turns.Turn.TheVariants.{Play, Pass}
+use Rattle.tt_game.specs.Course.{HasBeen}
 use Rattle.tt_game.specs.Game.{State, history, winner_of, made, IsLegal, after}
 
 -- a frame, a state, and the states before the pushes that may be undone, the last one first
@@ -32,7 +32,7 @@ IsRefusal f s Pass Outside = ⊥
 IsRefusal f s (Play p) Outside = (winner_of f s ≡ None) × (entry_at s.present p ≡ None) × (IsTrue (set.contains f.region p) → ⊥)
 IsRefusal f s Pass Repeats = ⊥
 IsRefusal f s (Play p) Repeats =
-    (winner_of f s ≡ None) × (entry_at s.present p ≡ None) × IsTrue (set.contains f.region p) × Contains (history s) (made f s p)
+    (winner_of f s ≡ None) × (entry_at s.present p ≡ None) × IsTrue (set.contains f.region p) × HasBeen (history s) (made f s p)
 
 -- an error of a push
 abbrev pub IsRefused : Frame → State → Turn → Refused → Type 0
@@ -42,7 +42,3 @@ IsRefused f s t NoMemory = IsLegal f s t
 -- the turn was made, and the state before it may be undone to
 abbrev pub IsPushed : Standing → Standing → Turn → Type 0
 IsPushed old new t = new ≡ record { frame = old.frame; state = after old.frame old.state t; before = old.state ∷ old.before }
-
--- the colourings of boards
-abbrev pub colourings : List Position → List Colouring
-colourings bs = map (λ b. b.points) bs

@@ -1,6 +1,7 @@
 -- What the properties of a node say (SGF FF[4]).
-use Rattle.std.specs.Prelude.{ℕ, ◌+◌, ◌&&◌, ◌||◌, ◌==◌, not, cond, List, [], ◌∷◌, ◌++◌, length, Option, Some, None, Bool, true, false}
+use Rattle.std.specs.Prelude.{◌≡◌, ℕ, ◌+◌, ◌&&◌, ◌||◌, ◌==◌, not, cond, List, [], ◌∷◌, ◌++◌, length, MatchResult, Option, Some, None, Bool, true, false}
 use Rattle.std.specs.FinSet as set
+use Rattle.std.specs.declared.result.Result.{Result}
 use lib.Pointwise.{pointwise}
 use Rattle.tt_sgf.specs.declared.size.Size.{Size}
 use Rattle.tt_sgf.specs.declared.nodes.Node.{Node}
@@ -62,6 +63,10 @@ has name n = some_value (values_of name n.properties)
 -- the points that the property names, or none where an entry is bad
 abbrev pub set_named : Size → List ℕ → Node → Option Points
 set_named size name n = set_of size (values_of name n.properties)
+
+-- a function returned the set that is named, or an error where an entry is bad
+abbrev pub ReadsSet : {E : Type 0} → Result Points E → Option Points → Type 0
+ReadsSet result named = MatchResult result (λ s. named ≡ Some s) (λ _. named ≡ None)
 
 -- a colour by its first letter
 abbrev pub colour_at : List ℕ → Option Colour

@@ -1,5 +1,5 @@
 -- Records: what a main line comes to, node by node, or the first refusal.
-use Rattle.std.specs.Prelude.{◌≡◌, ℕ, zero, suc, ◌+◌, ◌&&◌, ◌||◌, ◌==◌, nat_le, cond, List, [], ◌∷◌, Option, Some, None, Ok, Err, Bool, true}
+use Rattle.std.specs.Prelude.{◌≡◌, ℕ, zero, suc, ◌+◌, ◌&&◌, ◌||◌, ◌==◌, nat_le, cond, List, [], ◌∷◌, Option, Some, None, Ok, Err, MatchResult, Bool, true}
 use Rattle.std.specs.declared.result.Result.{Result}
 use Rattle.tt_sgf.specs.declared.size.Size.{Size}
 use Rattle.tt_sgf.specs.declared.size.PointOrPass.{PointOrPass}
@@ -129,3 +129,11 @@ record_of ns = and_then (begin_line ns) (λ r. and_then (run_nodes r ns) (λ q. 
 -- an error: but for want of memory it is the definition's
 abbrev pub IsStopped : {A : Type 0} → GameFault → Result A GameFault → Type 0
 IsStopped e want = (e ≡ NoMemory → ⊥) → want ≡ Err e
+
+-- a function returned what is wanted, or its error; but for want of memory
+abbrev pub Gives : {A : Type 0} → Result A GameFault → Result A GameFault → Type 0
+Gives result want = MatchResult result (λ x. want ≡ Ok x) (λ e. IsStopped e want)
+
+-- a function changed its value to what is wanted, or returned the error; but for want of memory
+abbrev pub Becomes : {A B : Type 0} → Result B GameFault → A → Result A GameFault → Type 0
+Becomes result new want = MatchResult result (λ _. want ≡ Ok new) (λ e. IsStopped e want)

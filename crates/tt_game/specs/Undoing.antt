@@ -1,12 +1,14 @@
--- What a line keeps, and how it undoes its pushes.
+-- What a line keeps, and how it undoes its pushes. For private contracts and for proofs.
 use Rattle.std.specs.Prelude.{◌≡◌, ℕ, ◌-◌, ◌≤◌, List, [], ◌∷◌, length, take, slice_index_or}
+use Rattle.tt_sgf.specs.declared.size.Size.{Size}
 use Rattle.tt_board.specs.Position.{Position, Colouring}
 use Rattle.tt_game.specs.declared.frame.Frame.{Frame}
 use Rattle.tt_game.specs.declared.frame.Side.{Side}
 use Rattle.tt_game.specs.declared.line.Undo.{Undo}
 use Rattle.tt_game.specs.declared.line.Undo.TheVariants.{UndoPlay, UndoPass}
+use Rattle.tt_game.specs.Course.{Course, colourings}
 use Rattle.tt_game.specs.Game.{State, history, opponent}
-use Rattle.tt_game.specs.Line.{Standing, colourings}
+use Rattle.tt_game.specs.Line.{Standing}
 
 -- all but the last
 abbrev pub front : List Colouring → List Colouring
@@ -14,6 +16,22 @@ front cs = take (length cs - 1) cs
 
 abbrev pub last : List Colouring → Colouring
 last cs = slice_index_or cs (length cs - 1) []
+
+-- the course that boards show, the last one present
+abbrev pub course_of : Size → List Position → ℕ → Course
+course_of size bs passes = record { size = size; earlier = front (colourings bs); present = last (colourings bs); passes = passes }
+
+-- the course before a play that was made after so many passes
+abbrev pub without_play : Course → ℕ → Course
+without_play c passes = record { size = c.size; earlier = front c.earlier; present = last c.earlier; passes = passes }
+
+-- the course before a pass
+abbrev pub without_pass : Course → Course
+without_pass c = record { size = c.size; earlier = c.earlier; present = c.present; passes = c.passes - 1 }
+
+-- the state of a course at which a side moves
+abbrev pub state_at : Course → Side → State
+state_at c side = record { earlier = c.earlier; present = c.present; to_move = side; passes = c.passes }
 
 -- the state before a push
 abbrev pub undone : State → Undo → State
@@ -30,10 +48,6 @@ abbrev pub IsUndoable : State → List Undo → Type 0
 IsUndoable s [] = Unit {0}
 IsUndoable s (UndoPass ∷ us) = (1 ≤ s.passes) × IsUndoable (undone s UndoPass) us
 IsUndoable s (UndoPlay n ∷ us) = (1 ≤ length s.earlier) × (n ≤ 2) × IsUndoable (undone s (UndoPlay n)) us
-
--- the state that boards show, the last one present
-abbrev pub state_of : List Position → Side → ℕ → State
-state_of bs side passes = record { earlier = front (colourings bs); present = last (colourings bs); to_move = side; passes = passes }
 
 -- what a line shows, from its parts; the pushes are given the last one first
 abbrev pub standing_of : Frame → State → List Undo → Standing

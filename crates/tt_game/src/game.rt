@@ -2,11 +2,11 @@
 
 ghost use Rattle.std.specs.Prelude.{◌≡◌, ℕ, ◌+◌, ◌*◌, ◌<◌, ◌≤◌, ◌↔◌, length, map, Some, None, All, IsTrue, Contains, MatchResult, OnOk, OnErr, IfOk, IfErr};
 ghost use Rattle.tt_sgf.specs.Sizes.{point_count};
-ghost use Rattle.tt_game.specs.Line.{colourings};
 
 use crate::faults::{Refused, Why};
 use crate::frame::{Frame, Side};
-use crate::line::{Line, repeats};
+use crate::history::History;
+use crate::line::Line;
 use crate::turns::Turn;
 use std::alloc::Global;
 use std::marker::Model;
@@ -16,34 +16,16 @@ use tt_sgf::{NoMemory, Point, PointSet, Size};
 /// A game: its history, who moves, and the passes in a row. Contracts see it as `Played`.
 #[derive(Drop)]
 pub struct Game {
-    size: Size,
-    history: Vec<Board>,
+    history: History,
     to_move: Colour,
-    passes: u8,
-    alloc: Global,
 }
 
 impl Model for Game {
-    ghost use Rattle.std.specs.Prelude.{◌≡◌, ◌<◌, ◌≤◌, length, All};
-    ghost use Rattle.tt_game.specs.Games.{Played};
-    ghost use Rattle.tt_game.specs.Line.{colourings};
-    ghost use Rattle.tt_game.specs.Undoing.{front, last};
+    ghost use Rattle.tt_game.specs.Games.{Played, game_at};
 
     ghost Value = { Played };
 
-    ghost view = { λ g. record {
-      size = g.size;
-      earlier = front (colourings g.history.items);
-      present = last (colourings g.history.items);
-      to_move = g.to_move;
-      passes = g.passes;
-    } };
-
-    ghost invariant = { λ g. record {
-      some_colouring : 0 < length g.history.items;
-      sizes : All (λ b. b.size ≡ g.size) g.history.items;
-      passes : g.passes ≤ 2;
-    } };
+    ghost view = { λ g. game_at g.history g.to_move };
 }
 
 impl Game {
@@ -59,14 +41,9 @@ impl Game {
     pub fn empty(alloc: Global, size: Size) -> Result<Game, NoMemory>
         ensures { IfOk result (λ g. g ≡ empty_game size) }
     {
-        let mut history = Vec::new(alloc);
-        history.push(Board::empty(size))?;
         Ok(Game {
-            size,
-            history,
+            history: History::of(alloc, Board::empty(size))?,
             to_move: Colour::Black,
-            passes: 0,
-            alloc,
         })
     }
 
@@ -74,7 +51,7 @@ impl Game {
     pub fn size(&self) -> Size
         ensures { result ≡ self.now.size }
     {
-        self.size
+        self.history.size()
     }
 
     /// The colour that moves next.
@@ -89,7 +66,7 @@ impl Game {
         ensures value { result ≡ self.now.passes }
         ensures most { result ≤ 2 }
     {
-        self.passes
+        self.history.passes()
     }
 
     /// The present board.
@@ -97,8 +74,7 @@ impl Game {
         ensures size { result.now.size ≡ self.now.size }
         ensures points { result.now.points ≡ self.now.present }
     {
-        let last = self.history.len() - 1;
-        &self.history[last]
+        self.history.present()
     }
 
     /// Whether a board of the game's size has a colouring of the history.
@@ -106,7 +82,7 @@ impl Game {
         requires { next.now.size ≡ self.now.size }
         ensures { result ≡ repeats (all_of self.now) next.now.points }
     {
-        repeats(&self.history, next)
+        self.history.has_been(next)
     }
 
     /// The board that a move makes, or why the move is refused.
@@ -131,12 +107,12 @@ impl Game {
         requires { IsOn self.now.size t }
         ensures { result ≡ refusal_of self.now t }
     {
-        if self.passes == 2 {
+        if self.history.passes() == 2 {
             return Some(Why::Over);
         }
-        match &t {
+        match t {
             Turn::Pass => None,
-            Turn::Play(p) => self.made(*p).err(),
+            Turn::Play(p) => self.made(p).err(),
         }
     }
 
@@ -145,7 +121,7 @@ impl Game {
         requires { self.old.passes < 2 }
         ensures { self.new ≡ turned self.old Turn.Pass }
     {
-        self.passes += 1;
+        self.history.pass();
         self.to_move = self.to_move.other();
     }
 
@@ -164,7 +140,6 @@ impl Game {
         if self.history.push(next).is_err() {
             return Err(Refused::NoMemory);
         }
-        self.passes = 0;
         self.to_move = self.to_move.other();
         Ok(())
     }
@@ -177,11 +152,11 @@ impl Game {
         ensures err { OnErr result (self.new ≡ self.old) }
         ensures why { IfErr result (λ e. IsHalted self.old t e) }
     {
-        if self.passes == 2 {
+        if self.history.passes() == 2 {
             return Err(Refused::Illegal(Why::Over));
         }
-        match &t {
-            Turn::Play(p) => self.push_play(*p),
+        match t {
+            Turn::Play(p) => self.push_play(p),
             Turn::Pass => {
                 self.push_pass();
                 Ok(())
@@ -195,11 +170,8 @@ impl Game {
         ensures ok { OnOk result (self.new ≡ begun_with self.old.size board.points colour) }
         ensures err { OnErr result (self.new ≡ self.old) }
     {
-        let mut history = Vec::new(self.alloc);
-        history.push(board)?;
-        self.history = history;
+        self.history = History::of(self.history.alloc(), board)?;
         self.to_move = colour;
-        self.passes = 0;
         Ok(())
     }
 
@@ -214,11 +186,11 @@ impl Game {
             Side::Attacker
         };
         let frame = Frame {
-            size: self.size,
+            size: self.history.size(),
             region,
             target,
             defender,
         };
-        Line::begin(self.alloc, frame, self.history, to_move)
+        Line::begin(frame, self.history.without_passes(), to_move)
     }
 }

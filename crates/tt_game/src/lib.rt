@@ -6,6 +6,7 @@
 mod faults;
 mod frame;
 mod game;
+mod history;
 mod keys;
 pub mod laws;
 mod line;

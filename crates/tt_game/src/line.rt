@@ -1,14 +1,14 @@
 //! A problem and a game of it (Tromp-Taylor rules with a region and a target): turns are made and undone.
 
 ghost use Rattle.std.specs.Prelude.{◌≡◌, ◌≢◌, ℕ, ◌+◌, ◌-◌, ◌<◌, ◌≤◌, ◌↔◌, ◌∷◌, length, IsTrue, IsSome, MatchOption, Contains, All};
-ghost use Rattle.tt_game.specs.Line.{colourings};
+ghost use Rattle.tt_game.specs.Course.{colourings};
 ghost use Rattle.tt_sgf.specs.Sizes.{point_count};
 
 use crate::faults::{Refused, Why};
 use crate::frame::{Frame, Side};
+use crate::history::History;
 use crate::past::Past;
 use crate::turns::Turn;
-use std::alloc::{AllocError, Global};
 use std::marker::Model;
 use tt_board::{Board, Colour};
 use tt_sgf::{NoMemory, Point};
@@ -24,18 +24,16 @@ enum Undo {
 #[derive(Drop)]
 pub struct Line {
     frame: Frame,
-    history: Vec<Board>,
+    history: History,
     to_move: Side,
-    passes: u8,
     pushes: Vec<Undo>,
-    alloc: Global,
 }
 
 impl Model for Line {
     ghost use Rattle.std.specs.Prelude.{◌≡◌, ◌<◌, ◌≤◌, reverse, length, All};
     ghost use Rattle.tt_sgf.specs.Sizes.{point_count};
     ghost use Rattle.tt_game.specs.Line.{Standing};
-    ghost use Rattle.tt_game.specs.Undoing.{standing_of, state_of, IsUndoable};
+    ghost use Rattle.tt_game.specs.Undoing.{standing_of, state_at, IsUndoable};
     ghost use Rattle.tt_sgf.specs.contracts.sets.PointSet as points;
     ghost use Rattle.std.specs.Coded.{codes};
 
@@ -43,43 +41,13 @@ impl Model for Line {
 
     ghost coded = { Prim.hlevel (codes, points.the_row.coded) };
 
-    ghost view = { λ l. standing_of l.frame (state_of l.history.items l.to_move l.passes) (reverse l.pushes.items) };
+    ghost view = { λ l. standing_of l.frame (state_at l.history l.to_move) (reverse l.pushes.items) };
 
     ghost invariant = { λ l. record {
-      some_colouring : 0 < length l.history.items;
-      sizes : All (λ b. b.size ≡ l.frame.size) l.history.items;
+      size : l.history.size ≡ l.frame.size;
       target : l.frame.target < point_count l.frame.size;
-      passes : l.passes ≤ 2;
-      undoable : IsUndoable (state_of l.history.items l.to_move l.passes) (reverse l.pushes.items);
+      undoable : IsUndoable (state_at l.history l.to_move) (reverse l.pushes.items);
     } };
-}
-
-/// Whether the colouring of `next` is in the history.
-pub(crate) fn repeats(history: &[Board], next: &Board) -> bool
-    requires { All (λ b. b.size ≡ next.now.size) history.now }
-    ensures { IsTrue result ↔ Contains (colourings history.now) next.now.points }
-{
-    for board in history {
-        if board.same(next) {
-            return true;
-        }
-    }
-    false
-}
-
-/// Whether both histories have the same boards.
-fn same_history(left: &[Board], right: &[Board]) -> bool
-    ensures { IsTrue result ↔ (left.now ≡ right.now) }
-{
-    if left.len() != right.len() {
-        return false;
-    }
-    for place in 0..left.len() {
-        if !left[place].same(&right[place]) {
-            return false;
-        }
-    }
-    true
 }
 
 impl Line {
@@ -88,24 +56,22 @@ impl Line {
     ghost use Rattle.tt_board.specs.Reach.{entry_at};
     ghost use Rattle.std.specs.Prelude.{OnOk, OnErr, IfErr, IfOk};
     ghost use Rattle.tt_game.specs.Line.{IsRefusal, IsRefused, IsPushed};
-    ghost use Rattle.tt_game.specs.Undoing.{IsMoved, state_of};
+    ghost use Rattle.tt_game.specs.Undoing.{IsMoved, state_at};
     ghost use Rattle.tt_game.specs.Turns.{OnBoard};
     ghost use Rattle.tt_game.specs.declared.turns.Turn.{Turn};
 
-    /// The line that begins with these boards, the last one present, with nothing to undo.
-    pub(crate) fn begin(alloc: Global, frame: Frame, history: Vec<Board>, to_move: Side) -> Line
-        requires some { 0 < length history.items }
-        requires sizes { All (λ b. b.size ≡ frame.size) history.items }
+    /// The line that begins with this history, with nothing to undo.
+    pub(crate) fn begin(frame: Frame, history: History, to_move: Side) -> Line
+        requires size { history.size ≡ frame.size }
         requires target { frame.target < point_count frame.size }
-        ensures { result ≡ record { frame = frame; state = state_of history.items to_move 0; before = [] } }
+        ensures { result ≡ record { frame = frame; state = state_at history to_move; before = [] } }
     {
+        let pushes = Vec::new(history.alloc());
         Line {
             frame,
             history,
             to_move,
-            passes: 0,
-            pushes: Vec::new(alloc),
-            alloc,
+            pushes,
         }
     }
 
@@ -139,16 +105,7 @@ impl Line {
         ensures size { result.now.size ≡ self.now.frame.size }
         ensures points { result.now.points ≡ self.now.state.present }
     {
-        let last = self.history.len() - 1;
-        &self.history[last]
-    }
-
-    /// Whether a board of the line's size has a colouring of the history.
-    fn has_been(&self, next: &Board) -> bool
-        requires { next.now.size ≡ self.now.frame.size }
-        ensures { IsTrue result ↔ Contains (history self.now.state) next.now.points }
-    {
-        repeats(&self.history, next)
+        self.history.present()
     }
 
     /// Who has won, if somebody has: the attacker where the target is empty, else the defender after two passes in a row.
@@ -158,7 +115,7 @@ impl Line {
         let target = self.frame.target;
         if self.present().at(target).is_none() {
             Some(Side::Attacker)
-        } else if self.passes == 2 {
+        } else if self.history.passes() == 2 {
             Some(Side::Defender)
         } else {
             None
@@ -193,7 +150,7 @@ impl Line {
             return Err(Why::Outside);
         }
         let next = self.board_after(p);
-        if self.has_been(&next) {
+        if self.history.has_been(&next) {
             return Err(Why::Repeats);
         }
         Ok(next)
@@ -209,38 +166,36 @@ impl Line {
         if self.winner().is_some() {
             return Some(Why::Over);
         }
-        match &t {
+        match t {
             Turn::Pass => None,
-            Turn::Play(p) => self.made(*p).err(),
+            Turn::Play(p) => self.made(p).err(),
         }
     }
 
     /// Adds a pass; the line is unchanged where memory is refused.
-    fn push_pass(&mut self) -> Result<(), AllocError>
+    fn push_pass(&mut self) -> Result<(), NoMemory>
         requires { winner_of self.old.frame self.old.state ≡ None }
         ensures ok { OnOk result (IsPushed self.old self.new Turn.Pass) }
         ensures err { OnErr result (self.new ≡ self.old) }
     {
-        prove!(self.passes < 2);
         self.pushes.push(Undo::UndoPass)?;
-        self.passes += 1;
+        self.history.pass();
         self.to_move = self.to_move.opponent();
         Ok(())
     }
 
     /// Adds the board that a play made; the line is unchanged where memory is refused.
-    fn push_board(&mut self, next: Board) -> Result<(), AllocError>
+    fn push_board(&mut self, next: Board) -> Result<(), NoMemory>
         requires { next.size ≡ self.old.frame.size }
         ensures ok { OnOk result
             (IsMoved self.old self.new next.points) }
         ensures err { OnErr result (self.new ≡ self.old) }
     {
-        self.pushes.push(Undo::UndoPlay(self.passes))?;
+        self.pushes.push(Undo::UndoPlay(self.history.passes()))?;
         if let Err(error) = self.history.push(next) {
             self.pushes.pop();
-            return Err(error.into());
+            return Err(error);
         }
-        self.passes = 0;
         self.to_move = self.to_move.opponent();
         Ok(())
     }
@@ -274,8 +229,8 @@ impl Line {
         if self.winner().is_some() {
             return Err(Refused::Illegal(Why::Over));
         }
-        match &t {
-            Turn::Play(p) => self.push_play(*p),
+        match t {
+            Turn::Play(p) => self.push_play(p),
             Turn::Pass => {
                 if self.push_pass().is_err() {
                     return Err(Refused::NoMemory);
@@ -292,9 +247,9 @@ impl Line {
         ensures ok { OnOk result (IsPushed self.old self.new t) }
         ensures err { OnErr result (self.new ≡ self.old) }
     {
-        match &t {
+        match t {
             Turn::Play(p) => {
-                let next = self.board_after(*p);
+                let next = self.board_after(p);
                 self.push_board(next)?;
             }
             Turn::Pass => self.push_pass()?,
@@ -311,11 +266,8 @@ impl Line {
     {
         self.to_move = self.to_move.opponent();
         match self.pushes.pop() {
-            Some(Undo::UndoPass) => self.passes -= 1,
-            Some(Undo::UndoPlay(passes)) => {
-                self.history.pop();
-                self.passes = passes;
-            }
+            Some(Undo::UndoPass) => self.history.undo_pass(),
+            Some(Undo::UndoPlay(passes)) => self.history.undo_play(passes),
             None => unreachable!(),
         }
     }
@@ -325,7 +277,7 @@ impl Line {
         ensures value { result ≡ self.now.state.passes }
         ensures most { result ≤ 2 }
     {
-        self.passes
+        self.history.passes()
     }
 
     /// The boards, oldest first; the last one is the present one.
@@ -333,53 +285,21 @@ impl Line {
         ensures colourings { colourings result.now ≡ history self.now.state }
         ensures sizes { All (λ b. b.size ≡ self.now.frame.size) result.now }
     {
-        &self.history
-    }
-
-    /// Whether both lines have one frame and one state: the same history, side to move and passes.
-    pub fn stands_with(&self, other: &Line) -> bool
-        ensures { IsTrue result ↔ ((self.now.frame ≡ other.now.frame) × (self.now.state ≡ other.now.state)) }
-    {
-        if self.to_move != other.to_move {
-            return false;
-        }
-        if self.passes != other.passes {
-            return false;
-        }
-        if !self.frame.same(&other.frame) {
-            return false;
-        }
-        same_history(&self.history, &other.history)
+        self.history.boards()
     }
 
     /// Where the line stands, to be kept in little memory.
     pub fn past(&self) -> Result<Past, NoMemory>
         ensures { IfOk result (λ p. p ≡ record { frame = self.now.frame; state = self.now.state }) }
     {
-        Past::of(
-            self.alloc,
-            &self.frame,
-            &self.history,
-            self.to_move,
-            self.passes,
-        )
+        Past::of(&self.frame, &self.history, self.to_move)
     }
 
     /// The same line, with nothing to undo.
     pub fn try_clone(&self) -> Result<Line, NoMemory>
         ensures { IfOk result (λ l. l ≡ record { frame = self.now.frame; state = self.now.state; before = [] }) }
     {
-        let mut history = Vec::with_capacity(self.alloc, self.history.len())?;
-        for board in &self.history {
-            history.push(board.copy())?;
-        }
-        Ok(Line {
-            frame: self.frame.copy(),
-            history,
-            to_move: self.to_move,
-            passes: self.passes,
-            pushes: Vec::new(self.alloc),
-            alloc: self.alloc,
-        })
+        let history = self.history.copy()?;
+        Ok(Line::begin(self.frame.copy(), history, self.to_move))
     }
 }

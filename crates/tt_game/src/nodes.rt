@@ -1,9 +1,9 @@
 //! What the properties of a node say.
 
-ghost use Rattle.std.specs.Prelude.{◌≡◌, ℕ, ◌<◌, ◌≤◌, ◌↔◌, ◌∷◌, [], List, length, min, nat_le, ◌+◌, IsTrue, MatchOption, MatchResult, Some, None, Ok, Err};
+ghost use Rattle.std.specs.Prelude.{◌≡◌, ℕ, ◌<◌, ◌≤◌, ◌↔◌, ◌∷◌, [], List, length, min, nat_le, ◌+◌, MatchOption};
 ghost use Rattle.std.specs.FinSet as set;
 ghost use Rattle.tt_sgf.specs.Entries.{set_of};
-ghost use Rattle.tt_game.specs.Nodes.{values_of, colour_at, colour_named, PL, apart, some_value, is_setup, moves_in, is_go, size_named, GM, SZ};
+ghost use Rattle.tt_game.specs.Nodes.{values_of, ReadsSet, colour_at, colour_named, PL, apart, some_value, is_setup, moves_in, is_go, size_named, GM, SZ};
 ghost use Rattle.tt_sgf.specs.Values.{after_blanks};
 
 use tt_board::Colour;
@@ -17,8 +17,7 @@ pub(crate) fn named_set(
     name: &[u8],
     size: Size,
 ) -> Result<PointSet, BadPoint>
-    ensures { MatchResult result (λ s. set_of size (values_of name.now properties.now) ≡ Some s)
-        (λ _. set_of size (values_of name.now properties.now) ≡ None) }
+    ensures { ReadsSet result (set_of size (values_of name.now properties.now)) }
 {
     let mut points = PointSet::empty();
     let mut rest = properties;

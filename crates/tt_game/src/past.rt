@@ -2,14 +2,14 @@
 
 ghost use Rattle.std.specs.Prelude.{◌≡◌, ◌<◌, ◌↔◌, length, All, IsTrue, IfOk};
 ghost use Rattle.tt_game.specs.Keys.{key_of};
-ghost use Rattle.tt_game.specs.Undoing.{state_of};
+ghost use Rattle.tt_game.specs.Undoing.{state_at};
 
 use crate::frame::{Frame, Side};
+use crate::history::History;
 use crate::keys::{Key, key_at};
 use crate::line::Line;
-use std::alloc::Global;
 use std::marker::Model;
-use tt_board::{Board, Boards};
+use tt_board::Boards;
 use tt_sgf::NoMemory;
 
 /// Where a line stood: its frame, history, side to move and passes. The history's boards are kept by their differences.
@@ -26,13 +26,13 @@ impl Model for Past {
     ghost use Rattle.std.specs.Coded.{codes};
     ghost use Rattle.tt_sgf.specs.contracts.sets.PointSet as points;
     ghost use Rattle.tt_game.specs.Line.{Stood};
-    ghost use Rattle.tt_game.specs.Undoing.{state_of};
+    ghost use Rattle.tt_game.specs.Undoing.{course_of, state_at};
 
     ghost Value = { Stood };
 
     ghost coded = { Prim.hlevel (codes, points.the_row.coded) };
 
-    ghost view = { λ p. record { frame = p.frame; state = state_of p.boards p.to_move p.passes } };
+    ghost view = { λ p. record { frame = p.frame; state = state_at (course_of p.frame.size p.boards p.passes) p.to_move } };
 
     ghost invariant = { λ p. record {
       some_board : 0 < length p.boards;
@@ -41,24 +41,17 @@ impl Model for Past {
 }
 
 impl Past {
-    /// What stands where these boards lead, the last one present.
-    pub(crate) fn of(
-        alloc: Global,
-        frame: &Frame,
-        boards: &[Board],
-        to_move: Side,
-        passes: u8,
-    ) -> Result<Past, NoMemory>
-        requires some { 0 < length boards.now }
-        requires sizes { All (λ b. b.size ≡ frame.now.size) boards.now }
-        ensures { IfOk result (λ p. p ≡ record { frame = frame.now; state = state_of boards.now to_move passes }) }
+    /// What stands in this frame after this history.
+    pub(crate) fn of(frame: &Frame, history: &History, to_move: Side) -> Result<Past, NoMemory>
+        requires { history.now.size ≡ frame.now.size }
+        ensures { IfOk result (λ p. p ≡ record { frame = frame.now; state = state_at history.now to_move }) }
     {
-        let boards = Boards::of(alloc, boards)?;
+        let boards = Boards::of(history.alloc(), history.boards())?;
         Ok(Past {
             frame: frame.copy(),
             boards,
             to_move,
-            passes,
+            passes: history.passes(),
         })
     }
 

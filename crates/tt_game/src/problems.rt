@@ -1,10 +1,10 @@
 //! Problems: a main line up to the node that marks a target.
 
-ghost use Rattle.std.specs.Prelude.{◌≡◌, ℕ, ◌<◌, true, MatchResult, IfOk, IfSome, Some, None, Ok, Err};
+ghost use Rattle.std.specs.Prelude.{◌≡◌, ℕ, ◌<◌, true, IfOk, IfSome};
 ghost use Rattle.std.specs.FinSet as set;
 ghost use Rattle.tt_sgf.specs.Sizes.{point_count};
-ghost use Rattle.tt_game.specs.Nodes.{set_named, TR};
-ghost use Rattle.tt_game.specs.Records.{IsStopped};
+ghost use Rattle.tt_game.specs.Nodes.{set_named, ReadsSet, TR};
+ghost use Rattle.tt_game.specs.Records.{Gives};
 ghost use Rattle.tt_game.specs.Problems.{least_from, region_of, problem_at, run_to_mark, problem_of};
 
 use crate::faults::GameFault;
@@ -17,7 +17,7 @@ use tt_sgf::{BadPoint, MainLine, Node, Point, PointSet, Size};
 
 /// The region that a node says: the points of SQ, or the whole board without it.
 fn said_region(node: &Node, size: Size) -> Result<PointSet, BadPoint>
-    ensures { MatchResult result (λ s. region_of size node.now ≡ Some s) (λ _. region_of size node.now ≡ None) }
+    ensures { ReadsSet result (region_of size node.now) }
 {
     let properties = node.properties.as_slice();
     if !has_value(properties, b"SQ") {
@@ -29,7 +29,7 @@ fn said_region(node: &Node, size: Size) -> Result<PointSet, BadPoint>
 /// The points that TR names.
 #[tactic(auto, using(crate::proofs::ProblemLemmas::set_on_board))]
 fn said_targets(node: &Node, size: Size) -> Result<PointSet, BadPoint>
-    ensures value { MatchResult result (λ s. set_named size TR node.now ≡ Some s) (λ _. set_named size TR node.now ≡ None) }
+    ensures value { ReadsSet result (set_named size TR node.now) }
     ensures on_board { IfOk result (λ s. (p : ℕ) → set.contains s p ≡ true → p < point_count size) }
 {
     named_set(node.properties.as_slice(), b"TR", size)
@@ -47,8 +47,7 @@ fn first_point(marks: &PointSet, size: Size) -> Option<Point>
 
 /// The problem that a game is at a node with TR.
 fn pose(game: Game, node: &Node) -> Result<Line, GameFault>
-    ensures { let want = problem_at game (set_named game.size TR node.now) (region_of game.size node.now) in
-        MatchResult result (λ l. want ≡ Ok l) (λ e. IsStopped e want) }
+    ensures { Gives result (problem_at game (set_named game.size TR node.now) (region_of game.size node.now)) }
 {
     let size = game.size();
     let Ok(marks) = said_targets(node, size) else {
@@ -71,14 +70,12 @@ fn pose(game: Game, node: &Node) -> Result<Line, GameFault>
 
 /// The problem at the first of these nodes with TR.
 fn run_to_mark(replay: Replay, nodes: &[Node]) -> Result<Line, GameFault>
-    ensures { let want = run_to_mark replay nodes.now in MatchResult result (λ l. want ≡ Ok l) (λ e. IsStopped e want) }
+    ensures { Gives result (run_to_mark replay nodes.now) }
 {
     let mut last = replay;
     let mut rest = nodes;
     while let Some((node, behind)) = rest.split_first() {
-        if let Err(fault) = last.step(node) {
-            return Err(fault);
-        }
+        last.step(node)?;
         if has_value(node.properties.as_slice(), b"TR") {
             return pose(last.game, node);
         }
@@ -97,11 +94,8 @@ fn run_to_mark(replay: Replay, nodes: &[Node]) -> Result<Line, GameFault>
 /// stone; or an allocation was refused.
 #[tactic(auto, unfolding(crate::specs::Problems::problem_of))]
 pub fn problem(alloc: Global, line: &MainLine) -> Result<Line, GameFault>
-    ensures { let want = problem_of line.now.nodes in MatchResult result (λ l. want ≡ Ok l) (λ e. IsStopped e want) }
+    ensures { Gives result (problem_of line.now.nodes) }
 {
     let nodes = line.nodes.as_slice();
-    match begin_line(alloc, nodes) {
-        Err(fault) => Err(fault),
-        Ok(first) => run_to_mark(first, nodes),
-    }
+    run_to_mark(begin_line(alloc, nodes)?, nodes)
 }

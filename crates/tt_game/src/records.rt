@@ -1,12 +1,12 @@
 //! Records: what the whole main line of a game tree comes to.
 
-ghost use Rattle.std.specs.Prelude.{◌≡◌, MatchResult, Some, Ok, Err};
+ghost use Rattle.std.specs.Prelude.{◌≡◌, Some};
 ghost use Rattle.tt_sgf.specs.Values.{point_of, trimmed};
 ghost use Rattle.tt_sgf.specs.Entries.{set_of};
 ghost use Rattle.tt_board.specs.Play.{placed};
 ghost use Rattle.tt_game.specs.Turns.{IsOn};
 ghost use Rattle.tt_game.specs.Nodes.{values_of, colour_named, AB, AW, AE, PL, B, W};
-ghost use Rattle.tt_game.specs.Records.{IsStopped, fault_of, as_turn, turn_of, turn_by, turn_named, move_of, begun, set_up_by, step_node, begin_at, begin_node, begin_line, run_nodes, record_at, record_of};
+ghost use Rattle.tt_game.specs.Records.{Gives, Becomes, fault_of, as_turn, turn_of, turn_by, turn_named, move_of, begun, set_up_by, step_node, begin_at, begin_node, begin_line, run_nodes, record_at, record_of};
 
 use crate::faults::{GameFault, Refused, Why};
 use crate::game::Game;
@@ -52,8 +52,8 @@ fn fault_of(why: Why) -> GameFault
 fn as_turn(value: PointOrPass) -> Turn
     ensures { result ≡ as_turn value }
 {
-    match &value {
-        PointOrPass::On(p) => Turn::Play(*p),
+    match value {
+        PointOrPass::On(p) => Turn::Play(p),
         PointOrPass::Pass => Turn::Pass,
     }
 }
@@ -62,7 +62,7 @@ impl Replay {
     /// A turn of the side to move.
     fn turn(&mut self, t: Turn) -> Result<(), GameFault>
         requires { IsOn self.old.game.size t }
-        ensures { let want = turn_of self.old t in MatchResult result (λ _. want ≡ Ok self.new) (λ e. IsStopped e want) }
+        ensures { Becomes result self.new (turn_of self.old t) }
     {
         if self.game.passes() == 2 {
             return Err(GameFault::AfterEnd);
@@ -83,20 +83,17 @@ impl Replay {
     /// A turn of a colour; where the other is to move it passes first.
     fn turn_by(&mut self, colour: Colour, t: Turn) -> Result<(), GameFault>
         requires { IsOn self.old.game.size t }
-        ensures { let want = turn_by self.old colour t in MatchResult result (λ _. want ≡ Ok self.new) (λ e. IsStopped e want) }
+        ensures { Becomes result self.new (turn_by self.old colour t) }
     {
         if self.game.to_move() != colour {
-            if let Err(fault) = self.turn(Turn::Pass) {
-                return Err(fault);
-            }
+            self.turn(Turn::Pass)?;
         }
         self.turn(t)
     }
 
     /// The turn that a value of a colour names.
     fn turn_named(&mut self, colour: Colour, value: &[u8]) -> Result<(), GameFault>
-        ensures { let want = turn_named self.old colour (point_of self.old.game.size (trimmed value.now)) in
-            MatchResult result (λ _. want ≡ Ok self.new) (λ e. IsStopped e want) }
+        ensures { Becomes result self.new (turn_named self.old colour (point_of self.old.game.size (trimmed value.now))) }
     {
         let Some(t) = point(value, self.game.size()) else {
             return Err(GameFault::BadValue);
@@ -106,8 +103,7 @@ impl Replay {
 
     /// The move of a node, where it has one.
     fn move_of(&mut self, properties: &[Property]) -> Result<(), GameFault>
-        ensures { let want = move_of self.old (values_of B properties.now) (values_of W properties.now) in
-            MatchResult result (λ _. want ≡ Ok self.new) (λ e. IsStopped e want) }
+        ensures { Becomes result self.new (move_of self.old (values_of B properties.now) (values_of W properties.now)) }
     {
         if let Some(value) = first_value(properties, b"B") {
             return self.turn_named(Colour::Black, value);
@@ -127,8 +123,7 @@ impl Replay {
         clear: &PointSet,
         colour: Colour,
     ) -> Result<(), GameFault>
-        ensures { let want = begun self.old (placed self.old.game.size self.old.game.present black.now white.now clear.now) colour in
-            MatchResult result (λ _. want ≡ Ok self.new) (λ e. IsStopped e want) }
+        ensures { Becomes result self.new (begun self.old (placed self.old.game.size self.old.game.present black.now white.now clear.now) colour) }
     {
         let Ok(board) = self.game.present().set_up(black, white, clear) else {
             return Err(GameFault::LifelessStone);
@@ -141,9 +136,8 @@ impl Replay {
 
     /// What a setup node does.
     fn setup_node(&mut self, properties: &[Property]) -> Result<(), GameFault>
-        ensures { let want = set_up_by self.old (set_of self.old.game.size (values_of AB properties.now)) (set_of self.old.game.size (values_of AW properties.now))
-            (set_of self.old.game.size (values_of AE properties.now)) (colour_named (values_of PL properties.now)) in
-            MatchResult result (λ _. want ≡ Ok self.new) (λ e. IsStopped e want) }
+        ensures { Becomes result self.new (set_up_by self.old (set_of self.old.game.size (values_of AB properties.now)) (set_of self.old.game.size (values_of AW properties.now))
+            (set_of self.old.game.size (values_of AE properties.now)) (colour_named (values_of PL properties.now))) }
     {
         let size = self.game.size();
         let Ok(black) = named_set(properties, b"AB", size) else {
@@ -167,7 +161,7 @@ impl Replay {
     /// What a node does.
     #[tactic(auto, unfolding(crate::specs::Records::step_node))]
     pub(crate) fn step(&mut self, node: &Node) -> Result<(), GameFault>
-        ensures { let want = step_node self.old node.now in MatchResult result (λ _. want ≡ Ok self.new) (λ e. IsStopped e want) }
+        ensures { Becomes result self.new (step_node self.old node.now) }
     {
         if sets_up(node) {
             if has_move(node) {
@@ -183,7 +177,7 @@ impl Replay {
 
     /// Before the first turn on a board of this size.
     fn begin(alloc: Global, size: Size) -> Result<Replay, GameFault>
-        ensures { MatchResult result (λ r. begin_at (Some size) ≡ Ok r) (λ e. IsStopped e (begin_at (Some size))) }
+        ensures { Gives result (begin_at (Some size)) }
     {
         match Game::empty(alloc, size) {
             Ok(game) => Ok(Replay { game, turns: 0 }),
@@ -194,7 +188,7 @@ impl Replay {
     /// Before the first node: its game and its size.
     #[tactic(auto, unfolding(crate::specs::Records::begin_node))]
     fn before(alloc: Global, node: &Node) -> Result<Replay, GameFault>
-        ensures { let want = begin_node node.now in MatchResult result (λ r. want ≡ Ok r) (λ e. IsStopped e want) }
+        ensures { Gives result (begin_node node.now) }
     {
         if !says_go(node.properties.as_slice()) {
             return Err(GameFault::NotGo);
@@ -208,7 +202,7 @@ impl Replay {
 
 /// Before the first of these nodes; without a node the board is 19 by 19.
 pub(crate) fn begin_line(alloc: Global, nodes: &[Node]) -> Result<Replay, GameFault>
-    ensures { let want = begin_line nodes.now in MatchResult result (λ r. want ≡ Ok r) (λ e. IsStopped e want) }
+    ensures { Gives result (begin_line nodes.now) }
 {
     if let Some((first, _)) = nodes.split_first() {
         return Replay::before(alloc, first);
@@ -221,14 +215,12 @@ pub(crate) fn begin_line(alloc: Global, nodes: &[Node]) -> Result<Replay, GameFa
 
 /// After all nodes.
 fn run(replay: Replay, nodes: &[Node]) -> Result<Replay, GameFault>
-    ensures { let want = run_nodes replay nodes.now in MatchResult result (λ r. want ≡ Ok r) (λ e. IsStopped e want) }
+    ensures { Gives result (run_nodes replay nodes.now) }
 {
     let mut last = replay;
     let mut rest = nodes;
     while let Some((node, behind)) = rest.split_first() {
-        if let Err(fault) = last.step(node) {
-            return Err(fault);
-        }
+        last.step(node)?;
         rest = behind;
     }
     Ok(last)
@@ -255,14 +247,9 @@ fn record_at(game: &Game) -> Record
 /// turns; or an allocation was refused.
 #[tactic(auto, unfolding(crate::specs::Records::record_of))]
 pub fn play_record(alloc: Global, line: &MainLine) -> Result<Record, GameFault>
-    ensures { let want = record_of line.now.nodes in MatchResult result (λ r. want ≡ Ok r) (λ e. IsStopped e want) }
+    ensures { Gives result (record_of line.now.nodes) }
 {
     let nodes = line.nodes.as_slice();
-    match begin_line(alloc, nodes) {
-        Err(fault) => Err(fault),
-        Ok(first) => match run(first, nodes) {
-            Err(fault) => Err(fault),
-            Ok(last) => Ok(record_at(&last.game)),
-        },
-    }
+    let last = run(begin_line(alloc, nodes)?, nodes)?;
+    Ok(record_at(&last.game))
 }

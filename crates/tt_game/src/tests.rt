@@ -258,7 +258,7 @@ fn holds(alloc: Global, case: Case) -> bool {
     let Ok(past) = line.past() else {
         return false;
     };
-    line.stands_with(&copy)
+    past.stands_with(&line)
         && past.stands_with(&copy)
         && past.key() == line.key()
         && keeps(alloc, &line)

@@ -1,6 +1,7 @@
-use Rattle.std.proofs.Common.{rules, ◌≡◌, ◌∷◌, [], true, false, Ok, Err, MatchResult, sym, ap, subst, ◌∙◌}
+use Rattle.std.proofs.Common.{rules, ◌≡◌, ◌∷◌, [], true, false, Ok, MatchResult, sym, ap, subst, ◌∙◌}
 use Rattle.std.specs.declared.result.Result.{Result}
 use Rattle.std.proofs.lemmas.List.{nil_from_length}
+use Rattle.std.proofs.lemmas.Result.{err_from_is_err_and}
 use Rattle.tt_game.specs.declared.faults.GameFault.{GameFault}
 use Rattle.tt_game.specs.Line.{Standing}
 use Rattle.tt_game.specs.Nodes.{has, TR, set_named}
@@ -9,11 +10,11 @@ use Rattle.tt_game.specs.Problems.{run_to_mark, problem_at, region_of}
 use Rattle.tt_game.proofs.ProblemLemmas.{mark-nil, mark-stop, mark-step, mark-here}
 use Rattle.tt_game.proofs.problems.run_to_mark.Goals as goal
 
-pub returns-in-Err : goal.returns-in-Err
-returns-in-Err c = λ other.
+pub returns-in_err-step : goal.returns-in_err-step
+returns-in_err-step c =
+    let p = err_from_is_err_and c.from_residual.result c.from_residual.ensures.1 in
     let e : c.loop-node.rest.now ≡ c.in-Some.node.now ∷ c.in-Some.behind.now = search rules in
-    let k : step_node c.loop-node.last c.in-Some.node.now ≡ Err c.in-Err.fault = c.in-Err.ensures other in
-    sym c.loop-node.invariant ∙ ap (run_to_mark c.loop-node.last) e ∙ mark-stop c.loop-node.last c.in-Err.fault c.in-Some.node.now c.in-Some.behind.now k
+    rw (p.1, p.2) (λ other. sym c.loop-node.invariant ∙ ap (run_to_mark c.loop-node.last) e ∙ mark-stop c.loop-node.last c.in_err-step.field-0.0 c.in-Some.node.now c.in-Some.behind.now (c.in_err-step.ensures other))
 
 pub loop-node-preserved : goal.loop-node-preserved
 loop-node-preserved c =

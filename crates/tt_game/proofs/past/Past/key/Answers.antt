@@ -2,9 +2,10 @@ use Rattle.std.proofs.Common.{◌≡◌, [], ◌∷◌, refl, sym, ap, ◌∙◌
 use Rattle.std.proofs.lemmas.List.{map-append}
 use Rattle.tt_board.specs.Position.{Position}
 use Rattle.tt_game.specs.Keys.{key_of}
-use Rattle.tt_game.specs.Line.{Stood, colourings}
-use Rattle.tt_game.specs.Undoing.{state_of, last}
-use Rattle.tt_game.proofs.GameLemmas.{last_push}
+use Rattle.tt_game.specs.Course.{colourings}
+use Rattle.tt_game.specs.Line.{Stood}
+use Rattle.tt_game.specs.Undoing.{course_of, state_at, last}
+use Rattle.tt_game.proofs.CourseLemmas.{last_push}
 use Rattle.tt_game.proofs.KeyLemmas.{key_told}
 use Rattle.tt_game.proofs.past.Past.key.Goals as goal
 
@@ -15,4 +16,4 @@ returns c =
     let before = c.last.ensures.0 in
     let present : last (colourings i.boards) ≡ b.points =
     ap (λ bs. last (colourings bs)) c.last.ensures.1 ∙ ap last (map-append (λ (x : Position). x.points) before (b ∷ [])) ∙ last_push (colourings before) b.points in
-    c.key_at.ensures ∙ key_told i.frame i.frame _ (state_of i.boards i.to_move i.passes) refl (sym present) refl refl ∙ ap (λ (p : Stood). key_of p.frame p.state) c.self.view_is
+    c.key_at.ensures ∙ key_told i.frame i.frame _ (state_at (course_of i.frame.size i.boards i.passes) i.to_move) refl (sym present) refl refl ∙ ap (λ (p : Stood). key_of p.frame p.state) c.self.view_is

@@ -1,4 +1,4 @@
 use Rattle.tt_game.proofs.past.Past.of.Goals as goal
 
 pub of-requires-clause-one_size : goal.of-requires-clause-one_size
-of-requires-clause-one_size c = (c.args.frame.now.size, c.requires.sizes)
+of-requires-clause-one_size c = (c.args.history.now.size, c.boards.ensures.sizes)

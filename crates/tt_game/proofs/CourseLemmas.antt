@@ -1,0 +1,56 @@
+-- Courses and the boards that show them.
+use Rattle.tt_sgf.specs.declared.size.Size.{Size}
+use Rattle.std.proofs.Common.{◌≡◌, ℕ, ◌+◌, ◌-◌, ◌<◌, List, [], ◌∷◌, ◌++◌, length, take, get_or, All, drop, suc, refl, sym, ap, ◌∙◌, arith}
+use Rattle.std.proofs.lemmas.List.{length-map, take_more, take_all, take_at, get_or_push, length_push}
+use Rattle.tt_board.specs.Position.{Position, Colouring}
+use Rattle.tt_game.specs.Game.{State, history}
+use Rattle.tt_game.specs.Course.{Course, so_far, colourings}
+use Rattle.tt_game.specs.Undoing.{course_of, state_at, front, last}
+
+-- two courses are one where their parts are
+same_course : (g : Size) (xs ys : List Colouring) (x y : Colouring) (n : ℕ) → xs ≡ ys → x ≡ y
+    → (let c : Course = record { size = g; earlier = xs; present = x; passes = n } in c) ≡ (let c : Course = record { size = g; earlier = ys; present = y; passes = n } in c)
+same_course g xs ys x y n e f = cc
+
+-- a list that is not empty is all but its last, and its last
+pub front_last : (cs : List Colouring) → 0 < length cs → front cs ++ last cs ∷ [] ≡ cs
+front_last cs some = sym (take_more cs (length cs - 1) [] (omega arith)) ∙ take_all (length cs - 1 + 1) cs (omega arith)
+
+pub front_push : (cs : List Colouring) (c : Colouring) → front (cs ++ c ∷ []) ≡ cs
+front_push cs c = ap (λ n. take (n - 1) (cs ++ c ∷ [])) (length_push cs c) ∙ ap (λ n. take n (cs ++ c ∷ [])) (omega arith) ∙ take_at cs (c ∷ []) (length cs) refl
+
+pub last_push : (cs : List Colouring) (c : Colouring) → last (cs ++ c ∷ []) ≡ c
+last_push cs c = get_or_push cs c [] _ (omega (arith, length_push cs c))
+
+pub length-colourings : (bs : List Position) → length (colourings bs) ≡ length bs
+length-colourings bs = length-map bs (λ b. b.points)
+
+-- the colourings of the course are those of the boards
+pub history_is : (g : Size) (bs : List Position) (passes : ℕ) → 0 < length bs → so_far (course_of g bs passes) ≡ colourings bs
+history_is g bs passes some = front_last (colourings bs) (omega (arith, length-colourings bs))
+
+-- boards with a course's colourings show the course
+pub course_from : (bs : List Position) (c : Course) → colourings bs ≡ so_far c → course_of c.size bs c.passes ≡ c
+course_from bs c e =
+    same_course c.size _ _ _ _ c.passes (ap front e ∙ front_push c.earlier c.present) (ap last e ∙ last_push c.earlier c.present)
+
+-- boards that show a state's history show the state
+pub state_from : (g : Size) (bs : List Position) (s : State) → colourings bs ≡ history s → state_at (course_of g bs s.passes) s.to_move ≡ s
+state_from g bs s e =
+    ap (λ (c : Course). state_at c s.to_move) (course_from bs (let c : Course = record { size = g; earlier = s.earlier; present = s.present; passes = s.passes } in c) e)
+
+-- boards of one size with one colouring each are one
+pub same_boards : (g : Size) (bs cs : List Position) → All (λ (b : Position). b.size ≡ g) bs → All (λ (b : Position). b.size ≡ g) cs → colourings bs ≡ colourings cs → bs ≡ cs
+same_boards g [] [] h k e = refl
+same_boards g [] (c ∷ cs) h k e = absurd (omega (arith, ap length e))
+same_boards g (b ∷ bs) [] h k e = absurd (omega (arith, ap length e))
+same_boards g (b ∷ bs) (c ∷ cs) h k e =
+    let s : b.size ≡ c.size = h 0 b (omega arith) ∙ sym (k 0 c (omega arith)) in
+    let p : b.points ≡ c.points = ap (λ (x : List Colouring). get_or x 0 []) e in
+    let r : colourings bs ≡ colourings cs = ap (λ (x : List Colouring). drop 1 x) e in
+    let t : bs ≡ cs = same_boards g bs cs (λ i d lt. h (suc i) d (omega (arith, lt))) (λ i d lt. k (suc i) d (omega (arith, lt))) r in
+    let q : b ≡ c = one b c s p in
+    cc
+  where
+    one : (x y : Position) → x.size ≡ y.size → x.points ≡ y.points → x ≡ y
+    one x y s p = ap (λ (z : Size). let w : Position = record { size = z; points = x.points } in w) s ∙ ap (λ (z : Colouring). let w : Position = record { size = y.size; points = z } in w) p

@@ -1,0 +1,174 @@
+//! The course of a game: its boards so far and the passes in a row. Superko stands here, for problems and for records.
+
+ghost use Rattle.std.specs.Prelude.{◌≡◌, ◌≢◌, ◌<◌, ◌≤◌, ◌↔◌, length, All, IsTrue, OnOk, OnErr, IfOk};
+ghost use Rattle.tt_game.specs.Course.{HasBeen, colourings};
+
+use std::alloc::Global;
+use std::marker::Model;
+use tt_board::Board;
+use tt_sgf::{NoMemory, Size};
+
+/// The boards of a game so far, the last one present, and how many passes were made in a row since the last play.
+/// Contracts see it as `Course`.
+#[derive(Drop)]
+pub(crate) struct History {
+    size: Size,
+    boards: Vec<Board>,
+    passes: u8,
+    alloc: Global,
+}
+
+impl Model for History {
+    ghost use Rattle.std.specs.Prelude.{◌≡◌, ◌<◌, ◌≤◌, length, All};
+    ghost use Rattle.tt_game.specs.Course.{Course};
+    ghost use Rattle.tt_game.specs.Undoing.{course_of};
+
+    ghost Value = { Course };
+
+    ghost view = { λ h. course_of h.size h.boards.items h.passes };
+
+    ghost invariant = { λ h. record {
+      some_board : 0 < length h.boards.items;
+      sizes : All (λ b. b.size ≡ h.size) h.boards.items;
+      passes : h.passes ≤ 2;
+    } };
+}
+
+/// Whether the colouring of `next` is one of the boards'.
+fn repeats(boards: &[Board], next: &Board) -> bool
+    requires { All (λ b. b.size ≡ next.now.size) boards.now }
+    ensures { IsTrue result ↔ HasBeen (colourings boards.now) next.now.points }
+{
+    for board in boards {
+        if board.same(next) {
+            return true;
+        }
+    }
+    false
+}
+
+impl History {
+    ghost use Rattle.tt_game.specs.Course.{Course, so_far, with_play, with_pass, first_course};
+    ghost use Rattle.tt_game.specs.Undoing.{without_play, without_pass};
+
+    /// The history of this board alone.
+    pub(crate) fn of(alloc: Global, board: Board) -> Result<History, NoMemory>
+        ensures { IfOk result (λ h. h ≡ first_course board.size board.points) }
+    {
+        let size = board.size();
+        let mut boards = Vec::new(alloc);
+        boards.push(board)?;
+        Ok(History {
+            size,
+            boards,
+            passes: 0,
+            alloc,
+        })
+    }
+
+    /// The size of its boards.
+    pub(crate) fn size(&self) -> Size
+        ensures { result ≡ self.now.size }
+    {
+        self.size
+    }
+
+    /// How many passes were made in a row: 0 to 2.
+    pub(crate) fn passes(&self) -> u8
+        ensures value { result ≡ self.now.passes }
+        ensures most { result ≤ 2 }
+    {
+        self.passes
+    }
+
+    /// The boards, oldest first; the last one is the present one.
+    pub(crate) fn boards(&self) -> &[Board]
+        ensures colourings { colourings result.now ≡ so_far self.now }
+        ensures sizes { All (λ b. b.size ≡ self.now.size) result.now }
+        ensures some { 0 < length result.now }
+    {
+        &self.boards
+    }
+
+    /// The present board.
+    pub(crate) fn present(&self) -> &Board
+        ensures size { result.now.size ≡ self.now.size }
+        ensures points { result.now.points ≡ self.now.present }
+    {
+        let last = self.boards.len() - 1;
+        &self.boards[last]
+    }
+
+    /// Where its memory comes from.
+    pub(crate) fn alloc(&self) -> Global {
+        self.alloc
+    }
+
+    /// Whether a board of this size has a colouring of the history.
+    pub(crate) fn has_been(&self, next: &Board) -> bool
+        requires { next.now.size ≡ self.now.size }
+        ensures { IsTrue result ↔ HasBeen (so_far self.now) next.now.points }
+    {
+        repeats(&self.boards, next)
+    }
+
+    /// Adds the board that a play made; without memory it is as it was.
+    pub(crate) fn push(&mut self, next: Board) -> Result<(), NoMemory>
+        requires { next.size ≡ self.old.size }
+        ensures ok { OnOk result (self.new ≡ with_play self.old next.points) }
+        ensures err { OnErr result (self.new ≡ self.old) }
+    {
+        self.boards.push(next)?;
+        self.passes = 0;
+        Ok(())
+    }
+
+    /// Counts a pass.
+    pub(crate) fn pass(&mut self)
+        requires { self.old.passes ≢ 2 }
+        ensures { self.new ≡ with_pass self.old }
+    {
+        self.passes += 1;
+    }
+
+    /// Takes back a play that was made after so many passes.
+    pub(crate) fn undo_play(&mut self, passes: u8)
+        requires some { 0 < length self.old.earlier }
+        requires passes { passes ≤ 2 }
+        ensures { self.new ≡ without_play self.old passes }
+    {
+        self.boards.pop();
+        self.passes = passes;
+    }
+
+    /// Takes back a pass.
+    pub(crate) fn undo_pass(&mut self)
+        requires { 1 ≤ self.old.passes }
+        ensures { self.new ≡ without_pass self.old }
+    {
+        self.passes -= 1;
+    }
+
+    /// The same boards, and no pass counted.
+    pub(crate) fn without_passes(self) -> History
+        ensures { result ≡ record { size = self.size; earlier = self.earlier; present = self.present; passes = 0 } }
+    {
+        History { passes: 0, ..self }
+    }
+
+    /// The same history again.
+    pub(crate) fn copy(&self) -> Result<History, NoMemory>
+        ensures { IfOk result (λ h. h ≡ self.now) }
+    {
+        let mut boards = Vec::with_capacity(self.alloc, self.boards.len())?;
+        for board in &self.boards {
+            boards.push(board.copy())?;
+        }
+        Ok(History {
+            size: self.size,
+            boards,
+            passes: self.passes,
+            alloc: self.alloc,
+        })
+    }
+}
