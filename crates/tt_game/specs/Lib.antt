@@ -12,3 +12,4 @@ pub mod Nodes
 pub mod Records
 pub mod Problems
 pub mod Faults
+pub mod RecordLaws
