@@ -10,3 +10,4 @@ pub mod RecordLemmas
 pub mod ProblemLemmas
 pub mod OpenProblems
 pub mod SizedProblems
+pub mod RecordLaws

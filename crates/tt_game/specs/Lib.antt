@@ -13,3 +13,4 @@ pub mod Nodes
 pub mod Records
 pub mod Problems
 pub mod Faults
+pub mod RecordLaws

@@ -2,6 +2,7 @@
 
 ghost use Rattle.tt_game.specs.Laws.{OneSideForces, SomeSideForces, OneValue, TurnsKeepStates, LegalTurnsListed, ProblemsOpen, ProblemsAreStates, ProblemsHaveValues};
 ghost use Rattle.tt_game.specs.Keys.{KeysTell};
+ghost use Rattle.tt_game.specs.RecordLaws.{RecordsAreGames, ProblemsAreGames, SetupsBeginHistories, LeastNodesRefuse, ProblemsAreRecords, SuperkoDecides};
 
 /// Not both sides force a win at one state.
 pub fn l2()
@@ -48,4 +49,37 @@ pub fn problems_are_states()
 /// are colourings of the board.
 pub fn problems_have_values()
     ensures { ProblemsHaveValues }
+{}
+
+/// The history of a record's game is by the rules: each colouring but the first is a play's on the one before it, and none
+/// stands in it twice. The turns, implied passes among them, are 2,000 at most.
+pub fn records_are_games()
+    ensures { RecordsAreGames }
+{}
+
+/// So is the history of a problem.
+pub fn problems_are_games()
+    ensures { ProblemsAreGames }
+{}
+
+/// A setup begins the history anew with one colouring, and no other node takes a colouring from it.
+pub fn setups_begin_histories()
+    ensures { SetupsBeginHistories }
+{}
+
+/// A record's refusal is that of its least node that has one: the nodes before it are a record, and what stands behind it
+/// changes nothing.
+pub fn least_nodes_refuse()
+    ensures { LeastNodesRefuse }
+{}
+
+/// Where a record is refused and none of its nodes marks a target, the problem of each main line that begins so is refused
+/// alike.
+pub fn problems_are_records()
+    ensures { ProblemsAreRecords }
+{}
+
+/// The test of superko is true exactly where the colouring is in the history.
+pub fn superko_decides()
+    ensures { SuperkoDecides }
 {}

@@ -1,0 +1,453 @@
+-- Records and problems by the rules: what their nodes keep true of the history, and where a refusal comes from.
+use Rattle.std.proofs.Common.{◌≡◌, ◌≢◌, ℕ, ◌+◌, ◌-◌, ◌*◌, ◌<◌, ◌≤◌, ◌⊎◌, List, [], ◌∷◌, ◌++◌, inl, inr, Bool, true, false, Option, Some, None, Ok, Err, refl, sym, ap, subst, ◌∙◌, cond, ◌==◌, ◌&&◌, nat_le, nat_lt, arith, Contains}
+use Rattle.std.specs.Prelude.{All, AllPairs}
+use Rattle.std.specs.FinSet as set
+use Rattle.std.specs.declared.result.Result.{Result}
+use Rattle.std.proofs.lemmas.Bool.{false≢true}
+use Rattle.std.proofs.lemmas.Bool.Decides.{nat_tests}
+use Rattle.std.proofs.lemmas.List.Elements.{All-head, All-tail, Contains-get_or}
+use Rattle.std.proofs.lemmas.List.Quantifiers.{all_pairs_push}
+use Rattle.std.proofs.lemmas.Nat.{mul-add-lt}
+use Rattle.tt_sgf.specs.declared.size.Size.{Size}
+use Rattle.tt_sgf.specs.declared.size.PointOrPass.{PointOrPass}
+use Rattle.tt_sgf.specs.declared.size.PointOrPass.TheVariants.{On}
+use Rattle.tt_sgf.specs.declared.size.PointOrPass.TheVariants as values
+use Rattle.tt_sgf.specs.declared.nodes.Node.{Node}
+use Rattle.tt_sgf.specs.Sizes.{point_count, sized}
+use Rattle.tt_sgf.specs.SizeLaws.{sized_is}
+use Rattle.tt_sgf.specs.Values.{place, point_of, trimmed}
+use Rattle.tt_board.specs.declared.Colour.{Colour}
+use Rattle.tt_board.specs.declared.Colour.TheVariants.{Black, White}
+use Rattle.tt_board.specs.Position.{Colouring}
+use Rattle.tt_board.specs.Reach.{entry_at}
+use Rattle.tt_board.specs.Play.{Points, is_empty, placed, same_colour}
+use Rattle.tt_game.specs.declared.faults.GameFault.{GameFault}
+use Rattle.tt_game.specs.declared.faults.Why.{Why}
+use Rattle.tt_game.specs.declared.records.Record.{Record}
+use Rattle.tt_game.specs.declared.records.Replay.{Replay}
+use Rattle.tt_game.specs.declared.turns.Turn.{Turn}
+use Rattle.tt_game.specs.declared.turns.Turn.TheVariants.{Play, Pass}
+use Rattle.tt_game.specs.Game.{history}
+use Rattle.tt_game.specs.Games.{Played, all_of, begun_with, empty_game, made_by, refusal_of, turned}
+use Rattle.tt_game.specs.History.{repeats, repeats_is}
+use Rattle.tt_game.specs.Line.{Standing}
+use Rattle.tt_game.specs.Nodes.{AB, AE, AW, B, GM, PL, SZ, TR, W, apart, colour_named, has, is_go, is_setup, moves_in, set_named, size_named, values_of}
+use Rattle.tt_game.specs.Problems.{least_from, posed, problem_at, problem_of, problem_on, problem_with, region_of, run_to_mark}
+use Rattle.tt_game.specs.Records.{all_alive, and_then, as_turn, begin_at, begin_line, begin_node, begun, go_on, move_of, record_at, record_of, run_nodes, set_up_by, step_node, turn_by, turn_named, turn_of}
+use Rattle.tt_game.specs.RecordLaws.{ArePlays, IsByTheRules, IsOfLeastNode, IsPlay, LeastNodesRefuse, ProblemsAreGames, ProblemsAreRecords, RecordsAreGames, SetupsBeginHistories, SuperkoDecides}
+use Rattle.tt_game.specs.Turns.{IsOn}
+use Rattle.tt_game.proofs.OpenProblems.{step_made}
+
+-- ---- choices
+
+-- which branch a choice took
+choice : {A : Type 0} (b : Bool) (x y z : A) → cond b x y ≡ z → ((b ≡ true) × (x ≡ z)) ⊎ ((b ≡ false) × (y ≡ z))
+choice true x y z e = inl (refl, e)
+choice false x y z e = inr (refl, e)
+
+-- a fault of two steps is one of the first, or of the second
+step_refused : {A B : Type 0} (r : Result A GameFault) (f : A → Result B GameFault) (e : GameFault) → and_then r f ≡ Err e
+    → (r ≡ Err e) ⊎ ((x : A) × (r ≡ Ok x) × (f x ≡ Err e))
+step_refused (Ok x) f e h = inr (x, refl, h)
+step_refused (Err c) f e h = inl (let same : c ≡ e = cc in ap Err same)
+
+-- ---- plays
+
+pub superko_decides : SuperkoDecides
+superko_decides h c = ((repeats_is h c).0, (repeats_is h c).1)
+
+-- one more play behind a history of plays
+plays_on : (size : Size) (h : List Colouring) (c d : Colouring) → ArePlays size (h ++ c ∷ []) → IsPlay size c d → ArePlays size ((h ++ c ∷ []) ++ d ∷ [])
+plays_on size [] c d are play = (play, tt)
+plays_on size (a ∷ []) c d are play = (are.0, (play, tt))
+plays_on size (a ∷ b ∷ h) c d are play = (are.0, plays_on size (b ∷ h) c d are.1 play)
+
+-- a new colouring behind colourings of which none stands twice
+once_more : (h : List Colouring) (d : Colouring) → AllPairs ◌≢◌ h → (Contains h d → ⊥) → AllPairs ◌≢◌ (h ++ d ∷ [])
+once_more h d once fresh =
+    all_pairs_push ◌≢◌ h d once (λ k x below e. fresh (subst (λ (y : Colouring). Contains h y) e (Contains-get_or h k x below)))
+
+-- a history of one colouring is by the rules
+alone : (size : Size) (c : Colouring) → IsByTheRules size (c ∷ [])
+alone size c = record { plays = tt; once = λ i j d less below. absurd (omega (arith, less, below)) }
+
+-- an entry that is empty
+empty_entry : (o : Option Colour) → is_empty o ≡ true → o ≡ None
+empty_entry None e = refl
+empty_entry (Some k) e = absurd (false≢true e)
+
+-- a lawful play is on an empty point, and its colouring is new
+lawful : (s : Played) (p : ℕ) → refusal_of s (Play p) ≡ None → (entry_at s.present p ≡ None) × (Contains (all_of s) (made_by s p) → ⊥)
+lawful s p e = elim (choice (s.passes == 2) _ _ _ e) [
+  | inl over ↦ let bad : Some _ ≡ None = over.1 in cc
+  | inr on ↦ elim (choice (is_empty (entry_at s.present p)) _ _ _ on.1) [
+    | inr stone ↦ let bad : Some _ ≡ None = stone.1 in cc
+    | inl free ↦ elim (choice (repeats (all_of s) (made_by s p)) _ _ _ free.1) [
+      | inl been ↦ let bad : Some _ ≡ None = been.1 in cc
+      | inr new ↦ (empty_entry (entry_at s.present p) free.0, λ has. false≢true (sym new.0 ∙ (repeats_is (all_of s) (made_by s p)).1 has))
+    ]
+  ]
+]
+
+-- ---- turns
+
+-- the history is by the rules, and the turns are few
+abbrev IsLawful : Replay → Type 0
+IsLawful r = IsByTheRules r.game.size (all_of r.game) × (r.turns ≤ 2000)
+
+-- the history stays, or gets the present colouring at its end
+abbrev Grows : Replay → Replay → Type 0
+Grows r q = (all_of q.game ≡ all_of r.game) ⊎ (all_of q.game ≡ all_of r.game ++ q.game.present ∷ [])
+
+-- what turns do to a replay
+record GoesOn (r q : Replay) : Type 0 where
+  lawful : IsLawful r → IsLawful q
+  grows : Grows r q
+
+-- one more turn
+abbrev after_turn : Replay → Turn → Replay
+after_turn r t = record { game = turned r.game t; turns = r.turns + 1 }
+
+-- a turn that is taken is a lawful one, and the 2,000th at most
+turn_made : (r : Replay) (t : Turn) (q : Replay) → turn_of r t ≡ Ok q → (refusal_of r.game t ≡ None) × (r.turns < 2000) × (after_turn r t ≡ q)
+turn_made r t q e = elim (choice (r.game.passes == 2) _ _ _ e) [
+  | inl over ↦ let bad : Err _ ≡ Ok q = over.1 in cc
+  | inr on ↦ elim (choice (nat_le 2000 r.turns) _ _ _ on.1) [
+    | inl many ↦ let bad : Err _ ≡ Ok q = many.1 in cc
+    | inr few ↦ let made = gone (refusal_of r.game t) few.1 in (made.0, grind (arith, nat_tests, few.0), made.1)
+  ]
+]
+  where
+    gone : (o : Option Why) → go_on r t o ≡ Ok q → (o ≡ None) × (after_turn r t ≡ q)
+    gone None h = let same : after_turn r t ≡ q = cc in (refl, same)
+    gone (Some why) h = let bad : Err _ ≡ Ok q = h in cc
+
+goes_on : (r : Replay) (t : Turn) → IsOn r.game.size t → refusal_of r.game t ≡ None → r.turns < 2000 → GoesOn r (after_turn r t)
+goes_on r Pass on taken few = record { lawful = λ h. (h.0, omega (arith, few)); grows = inl refl }
+goes_on r (Play p) on taken few =
+    let s = r.game in
+    let free = lawful s p taken in
+    record {
+      lawful = λ h. (
+        record {
+          plays = plays_on s.size s.earlier s.present (made_by s p) h.0.plays (s.to_move, p, on, free.0, refl);
+          once = once_more (all_of s) (made_by s p) h.0.once free.1;
+        },
+        omega (arith, few),
+      );
+      grows = inr refl;
+    }
+
+one_turn : (r : Replay) (t : Turn) (q : Replay) → IsOn r.game.size t → turn_of r t ≡ Ok q → GoesOn r q
+one_turn r t q on e = let made = turn_made r t q e in subst (λ (x : Replay). GoesOn r x) made.2 (goes_on r t on made.0 made.1)
+
+turns_by : (r : Replay) (k : Colour) (t : Turn) (q : Replay) → IsOn r.game.size t → turn_by r k t ≡ Ok q → GoesOn r q
+turns_by r k t q on e = elim (choice (same_colour r.game.to_move k) _ _ _ e) [
+  | inl its ↦ one_turn r t q on its.1
+  | inr others ↦
+      let passed = step_made (turn_of r Pass) (λ x. turn_of x t) q others.1 in
+      let first = turn_made r Pass passed.0 passed.1 in
+      let second : turn_of (after_turn r Pass) t ≡ Ok q = subst (λ (x : Replay). turn_of x t ≡ Ok q) (sym first.2) passed.2 in
+      let on_it = goes_on r Pass tt first.0 first.1 in
+      let behind = one_turn (after_turn r Pass) t q on second in
+      record { lawful = λ h. behind.lawful (on_it.lawful h); grows = behind.grows }
+]
+
+-- the point of two letters is on the board
+place_on : (size : Size) (c d p : ℕ) → place size c d ≡ Some (On p) → p < point_count size
+place_on size c d p e = elim (choice ((nat_le 97 c && nat_lt (c - 97) size.columns) && (nat_le 97 d && nat_lt (d - 97) size.rows)) _ _ _ e) [
+  | inr not_ ↦ let bad : None ≡ Some (On p) = not_.1 in cc
+  | inl is ↦
+      let same : (d - 97) * size.columns + (c - 97) ≡ p = cc in
+      let column : c - 97 < size.columns = grind (arith, nat_tests, is.0) in
+      let row : d - 97 < size.rows = grind (arith, nat_tests, is.0) in
+      subst (λ (x : ℕ). x < point_count size) same (mul-add-lt (d - 97) size.columns (c - 97) size.rows row column)
+]
+
+-- a value's turn is on the board
+value_on : (size : Size) (text : List ℕ) (v : PointOrPass) → point_of size text ≡ Some v → IsOn size (as_turn v)
+unfolding point_of
+value_on size text values.Pass e = tt
+value_on size [] (On p) e = let bad : Some values.Pass ≡ Some (On p) = e in cc
+value_on size (c ∷ []) (On p) e = let bad : None ≡ Some (On p) = e in cc
+value_on size (c ∷ d ∷ []) (On p) e = elim (choice (c == 116 && d == 116) _ _ _ e) [
+  | inl pass ↦ let bad : Some values.Pass ≡ Some (On p) = pass.1 in cc
+  | inr point ↦ place_on size c d p point.1
+]
+value_on size (c ∷ d ∷ x ∷ xs) (On p) e = let bad : None ≡ Some (On p) = e in cc
+
+turn_goes : (r : Replay) (k : Colour) (text : List ℕ) (o : Option PointOrPass) (q : Replay) → point_of r.game.size text ≡ o → turn_named r k o ≡ Ok q → GoesOn r q
+turn_goes r k text None q is e = let bad : Err _ ≡ Ok q = e in cc
+turn_goes r k text (Some v) q is e = turns_by r k (as_turn v) q (value_on r.game.size text v is) e
+
+move_goes : (r : Replay) (vs ws : List (List ℕ)) (q : Replay) → move_of r vs ws ≡ Ok q → GoesOn r q
+move_goes r (v ∷ vs) ws q e = turn_goes r Black (trimmed v) (point_of r.game.size (trimmed v)) q refl e
+move_goes r [] (w ∷ ws) q e = turn_goes r White (trimmed w) (point_of r.game.size (trimmed w)) q refl e
+move_goes r [] [] q e =
+    let same : r ≡ q = cc in
+    subst (λ (x : Replay). GoesOn r x) same (record { lawful = λ h. h; grows = inl refl })
+
+-- ---- setup
+
+-- what a setup does to a replay
+record BeginsAnew (r q : Replay) : Type 0 where
+  lawful : IsLawful r → IsLawful q
+  alone : all_of q.game ≡ q.game.present ∷ []
+
+begun_anew : (r : Replay) (c : Colouring) (k : Colour) (q : Replay) → begun r c k ≡ Ok q → BeginsAnew r q
+begun_anew r c k q e = elim (choice (all_alive r.game.size c) _ _ _ e) [
+  | inl alive ↦
+      let same : record { game = begun_with r.game.size c k; turns = r.turns } ≡ q = let is = alive.1 in cc in
+      subst (λ (x : Replay). BeginsAnew r x) same (record { lawful = λ h. (alone r.game.size c, h.1); alone = refl })
+  | inr lifeless ↦ let bad : Err _ ≡ Ok q = lifeless.1 in cc
+]
+
+set_up_anew : (r : Replay) (black white bare : Option Points) (k : Option Colour) (q : Replay) → set_up_by r black white bare k ≡ Ok q → BeginsAnew r q
+set_up_anew r None white bare k q e = let bad : Err _ ≡ Ok q = e in cc
+set_up_anew r (Some black) None bare k q e = let bad : Err _ ≡ Ok q = e in cc
+set_up_anew r (Some black) (Some white) None k q e = let bad : Err _ ≡ Ok q = e in cc
+set_up_anew r (Some black) (Some white) (Some bare) None q e = let bad : Err _ ≡ Ok q = e in cc
+set_up_anew r (Some black) (Some white) (Some bare) (Some k) q e = elim (choice (apart black white && apart black bare && apart white bare) _ _ _ e) [
+  | inl once ↦ begun_anew r (placed r.game.size r.game.present black white bare) k q once.1
+  | inr twice ↦ let bad : Err _ ≡ Ok q = twice.1 in cc
+]
+
+-- ---- nodes
+
+-- what a node does to a replay
+node_does : (r : Replay) (n : Node) (q : Replay) → step_node r n ≡ Ok q → ((is_setup n ≡ true) × BeginsAnew r q) ⊎ ((is_setup n ≡ false) × GoesOn r q)
+unfolding step_node
+node_does r n q e = elim (choice (is_setup n) _ _ _ e) [
+  | inl setup ↦ elim (choice (nat_le 1 (moves_in n)) _ _ _ setup.1) [
+    | inl mixed ↦ let bad : Err _ ≡ Ok q = mixed.1 in cc
+    | inr pure ↦ inl (setup.0, set_up_anew r (set_named r.game.size AB n) (set_named r.game.size AW n) (set_named r.game.size AE n) (colour_named (values_of PL n.properties)) q pure.1)
+  ]
+  | inr moves ↦ elim (choice (nat_le 2 (moves_in n)) _ _ _ moves.1) [
+    | inl mixed ↦ let bad : Err _ ≡ Ok q = mixed.1 in cc
+    | inr pure ↦ inr (moves.0, move_goes r (values_of B n.properties) (values_of W n.properties) q pure.1)
+  ]
+]
+
+pub setups_begin : SetupsBeginHistories
+setups_begin r q n e = elim (node_does r n q e) [
+  | inl setup ↦ (λ _. setup.1.alone, λ not_. absurd (false≢true (sym not_ ∙ setup.0)))
+  | inr move ↦ (λ is. absurd (false≢true (sym move.0 ∙ is)), λ _. move.1.grows)
+]
+
+node_lawful : (r : Replay) (n : Node) (q : Replay) → step_node r n ≡ Ok q → IsLawful r → IsLawful q
+node_lawful r n q e h = elim (node_does r n q e) [ inl setup ↦ setup.1.lawful h | inr move ↦ move.1.lawful h ]
+
+run_lawful : (r : Replay) (ns : List Node) (q : Replay) → run_nodes r ns ≡ Ok q → IsLawful r → IsLawful q
+unfolding run_nodes
+run_lawful r [] q e h = let same : r ≡ q = cc in subst IsLawful same h
+run_lawful r (n ∷ ns) q e h =
+    let made = step_made (step_node r n) _ q e in
+    run_lawful made.0 ns q made.2 (node_lawful r n made.0 made.1 h)
+
+empty_lawful : (o : Option Size) (q : Replay) → begin_at o ≡ Ok q → IsLawful q
+empty_lawful None q e = let bad : Err _ ≡ Ok q = e in cc
+empty_lawful (Some size) q e =
+    let same : record { game = empty_game size; turns = 0 } ≡ q = cc in
+    subst IsLawful same (alone size (empty_game size).present, omega arith)
+
+begin_lawful : (ns : List Node) (q : Replay) → begin_line ns ≡ Ok q → IsLawful q
+unfolding begin_node
+begin_lawful [] q e = empty_lawful (sized 19 19) q e
+begin_lawful (n ∷ ns) q e = elim (choice (is_go (values_of GM n.properties)) _ _ _ e) [
+  | inl go ↦ empty_lawful (size_named (values_of SZ n.properties)) q go.1
+  | inr other ↦ let bad : Err _ ≡ Ok q = other.1 in cc
+]
+
+pub records_are_games : RecordsAreGames
+records_are_games ns r e =
+    let made = step_made (begin_line ns) _ r e in
+    run_lawful made.0 ns r made.2 (begin_lawful ns made.0 made.1)
+
+-- ---- problems
+
+-- a problem has the history of the game that it is posed in
+record IsOfGame (s : Played) (q : Standing) : Type 0 where
+  size : s.size ≡ q.frame.size
+  history : all_of s ≡ history q.state
+
+of_game_with : (s : Played) (region : Points) (p : ℕ) (o : Option Colour) (q : Standing) → problem_with s region p o ≡ Ok q → IsOfGame s q
+of_game_with s region p None q e = let bad : Err _ ≡ Ok q = e in cc
+of_game_with s region p (Some k) q e =
+    let same : posed s region p k ≡ q = cc in
+    subst (λ (x : Standing). IsOfGame s x) same (record { size = refl; history = refl })
+
+of_game_on : (s : Played) (region : Points) (o : Option ℕ) (q : Standing) → problem_on s region o ≡ Ok q → IsOfGame s q
+of_game_on s region None q e = let bad : Err _ ≡ Ok q = e in cc
+of_game_on s region (Some p) q e = of_game_with s region p (entry_at s.present p) q e
+
+of_game : (s : Played) (marks region : Option Points) (q : Standing) → problem_at s marks region ≡ Ok q → IsOfGame s q
+of_game s None region q e = let bad : Err _ ≡ Ok q = e in cc
+of_game s (Some marks) None q e = let bad : Err _ ≡ Ok q = e in cc
+of_game s (Some marks) (Some region) q e = elim (choice (nat_le 2 (set.len marks)) _ _ _ e) [
+  | inl several ↦ let bad : Err _ ≡ Ok q = several.1 in cc
+  | inr one ↦ of_game_on s region (least_from marks 361 0) q one.1
+]
+
+mark_lawful : (r : Replay) (ns : List Node) (q : Standing) → run_to_mark r ns ≡ Ok q → IsLawful r → IsByTheRules q.frame.size (history q.state)
+unfolding run_to_mark
+mark_lawful r [] q e h = let bad : Err _ ≡ Ok q = e in cc
+mark_lawful r (n ∷ ns) q e h =
+    let made = step_made (step_node r n) _ q e in
+    let next = node_lawful r n made.0 made.1 h in
+    elim (choice (has TR n) _ _ _ made.2) [
+      | inl mark ↦
+          let of = of_game made.0.game (set_named made.0.game.size TR n) (region_of made.0.game.size n) q mark.1 in
+          subst (λ (x : Size). IsByTheRules x (history q.state)) of.size
+          (subst (λ (x : List Colouring). IsByTheRules made.0.game.size x) of.history next.0)
+      | inr on ↦ mark_lawful made.0 ns q on.1 next
+    ]
+
+pub problems_are_games : ProblemsAreGames
+unfolding problem_of
+problems_are_games ns q e =
+    let made = step_made (begin_line ns) _ q e in
+    mark_lawful made.0 ns q made.2 (begin_lawful ns made.0 made.1)
+
+-- ---- refusals
+
+-- the node at which a run is refused, and what the nodes before it came to
+record StopsAt (r : Replay) (ns : List Node) (e : GameFault) : Type 0 where
+  front : List Node
+  node : Node
+  behind : List Node
+  last : Replay
+  parts : ns ≡ front ++ node ∷ behind
+  taken : run_nodes r front ≡ Ok last
+  refused : step_node last node ≡ Err e
+
+stops_at : (r : Replay) (ns : List Node) (e : GameFault) → run_nodes r ns ≡ Err e → StopsAt r ns e
+unfolding run_nodes
+stops_at r [] e h = let bad : Ok r ≡ Err e = h in cc
+stops_at r (n ∷ ns) e h = elim (step_refused (step_node r n) _ e h) [
+  | inl here ↦ record { front = []; node = n; behind = ns; last = r; parts = refl; taken = refl; refused = here }
+  | inr on ↦
+      let later = stops_at on.0 ns e on.2 in
+      record {
+        front = n ∷ later.front;
+        node = later.node;
+        behind = later.behind;
+        last = later.last;
+        parts = ap (λ (x : List Node). n ∷ x) later.parts;
+        taken = ap (λ x. and_then x (λ q. run_nodes q later.front)) on.1 ∙ later.taken;
+        refused = later.refused;
+      }
+]
+
+-- a run over nodes goes on from what the first of them came to
+run_on : (r : Replay) (front ns : List Node) (q : Replay) → run_nodes r front ≡ Ok q → run_nodes r (front ++ ns) ≡ run_nodes q ns
+unfolding run_nodes
+run_on r [] ns q e = let same : r ≡ q = cc in ap (λ (x : Replay). run_nodes x ns) same
+run_on r (n ∷ front) ns q e =
+    let made = step_made (step_node r n) _ q e in
+    ap (λ x. and_then x (λ s. run_nodes s (front ++ ns))) made.1 ∙ run_on made.0 front ns q made.2
+
+-- a node that is refused ends a run
+ends_run : (q : Replay) (n : Node) (ns : List Node) (e : GameFault) → step_node q n ≡ Err e → run_nodes q (n ∷ ns) ≡ Err e
+unfolding run_nodes
+ends_run q n ns e h = ap (λ x. and_then x (λ s. run_nodes s ns)) h
+
+-- the record of nodes, where the begin of the line is known
+record_begun : (ns : List Node) (r : Replay) → begin_line ns ≡ Ok r → record_of ns ≡ and_then (run_nodes r ns) (λ q. Ok (record_at q.game))
+unfolding record_of
+record_begun ns r e = ap (λ x. and_then x (λ s. and_then (run_nodes s ns) (λ q. Ok (record_at q.game)))) e
+
+-- a record that isn't begun is refused
+never_begun : (ns : List Node) (e : GameFault) → begin_line ns ≡ Err e → record_of ns ≡ Err e
+unfolding record_of
+never_begun ns e h = ap (λ x. and_then x (λ s. and_then (run_nodes s ns) (λ q. Ok (record_at q.game)))) h
+
+-- the board of a line that names no size
+common_size : Size
+common_size = record { columns = 19; rows = 19; columns_in = (omega arith, omega arith); rows_in = (omega arith, omega arith) }
+
+-- the record without a node
+empty_record : (r : Record) × (record_of [] ≡ Ok r)
+unfolding record_of run_nodes common_size
+empty_record = (record_at (empty_game common_size), ap (λ o. and_then (begin_at o) (λ r. and_then (run_nodes r []) (λ q. Ok (record_at q.game)))) (sized_is common_size))
+
+never_empty : (e : GameFault) → record_of [] ≡ Err e → ⊥
+never_empty e h = let r = empty_record in let bad : Ok r.0 ≡ Err e = sym r.1 ∙ h in cc
+
+-- a line begins by its first node alone
+begins_alike : (front : List Node) (n : Node) (ns others : List Node) → begin_line (front ++ n ∷ others) ≡ begin_line (front ++ n ∷ ns)
+begins_alike [] n ns others = refl
+begins_alike (m ∷ front) n ns others = refl
+
+-- the nodes before a refused one are a record
+front_taken : (front : List Node) (n : Node) (ns : List Node) (r q : Replay) → begin_line (front ++ n ∷ ns) ≡ Ok r → run_nodes r front ≡ Ok q → (s : Record) × (record_of front ≡ Ok s)
+front_taken [] n ns r q begins runs = empty_record
+front_taken (m ∷ front) n ns r q begins runs =
+    (record_at q.game, record_begun (m ∷ front) r begins ∙ ap (λ x. and_then x (λ s. Ok (record_at s.game))) runs)
+
+-- where a run stops, the record stops
+least_of : (ns : List Node) (r : Replay) (e : GameFault) → begin_line ns ≡ Ok r → StopsAt r ns e → IsOfLeastNode ns e
+least_of ns r e begins stop =
+    let begins_so : begin_line (stop.front ++ stop.node ∷ stop.behind) ≡ Ok r = ap begin_line (sym stop.parts) ∙ begins in
+    let taken = front_taken stop.front stop.node stop.behind r stop.last begins_so stop.taken in
+    record {
+      front = stop.front;
+      node = stop.node;
+      behind = stop.behind;
+      score = taken.0;
+      parts = stop.parts;
+      taken = taken.1;
+      refused = λ others.
+          let run = run_on r stop.front (stop.node ∷ others) stop.last stop.taken ∙ ends_run stop.last stop.node others e stop.refused in
+          record_begun (stop.front ++ stop.node ∷ others) r (begins_alike stop.front stop.node stop.behind others ∙ begins_so)
+          ∙ ap (λ x. and_then x (λ s. Ok (record_at s.game))) run;
+    }
+
+-- a record is refused before its first node, or by a run
+refused_by : (ns : List Node) (e : GameFault) → record_of ns ≡ Err e → (begin_line ns ≡ Err e) ⊎ ((r : Replay) × (begin_line ns ≡ Ok r) × (run_nodes r ns ≡ Err e))
+unfolding record_of
+refused_by ns e h = elim (step_refused (begin_line ns) _ e h) [
+  | inl never ↦ inl never
+  | inr on ↦ elim (step_refused (run_nodes on.0 ns) _ e on.2) [
+    | inl stops ↦ inr (on.0, on.1, stops)
+    | inr ends ↦ let bad : Ok (record_at ends.0.game) ≡ Err e = ends.2 in cc
+  ]
+]
+
+pub least_nodes_refuse : LeastNodesRefuse
+least_nodes_refuse [] e h = absurd (never_empty e h)
+least_nodes_refuse (m ∷ ms) e h = elim (refused_by (m ∷ ms) e h) [
+  | inl never ↦ record {
+    front = [];
+    node = m;
+    behind = ms;
+    score = empty_record.0;
+    parts = refl;
+    taken = empty_record.1;
+    refused = λ others. never_begun (m ∷ others) e never;
+  }
+  | inr on ↦ least_of (m ∷ ms) on.0 e on.1 (stops_at on.0 (m ∷ ms) e on.2)
+]
+
+-- a run that is refused before a mark is refused on the way to the mark
+mark_refused : (r : Replay) (ns behind : List Node) (e : GameFault) → All (λ n. has TR n ≡ false) ns → run_nodes r ns ≡ Err e → run_to_mark r (ns ++ behind) ≡ Err e
+unfolding run_nodes run_to_mark
+mark_refused r [] behind e unmarked h = let bad : Ok r ≡ Err e = h in cc
+mark_refused r (n ∷ ns) behind e unmarked h =
+    let go = λ (q : Replay). cond (has TR n) (problem_at q.game (set_named q.game.size TR n) (region_of q.game.size n)) (run_to_mark q (ns ++ behind)) in
+    elim (step_refused (step_node r n) _ e h) [
+      | inl here ↦ ap (λ x. and_then x go) here
+      | inr on ↦
+          ap (λ x. and_then x go) on.1
+          ∙ ap (λ b. cond b (problem_at on.0.game (set_named on.0.game.size TR n) (region_of on.0.game.size n)) (run_to_mark on.0 (ns ++ behind))) (All-head (λ m. has TR m ≡ false) n ns unmarked)
+          ∙ mark_refused on.0 ns behind e (All-tail (λ m. has TR m ≡ false) n ns unmarked) on.2
+    ]
+
+pub problems_are_records : ProblemsAreRecords
+unfolding problem_of
+problems_are_records [] behind e unmarked h = absurd (never_empty e h)
+problems_are_records (m ∷ ms) behind e unmarked h =
+    let go = λ (r : Replay). run_to_mark r ((m ∷ ms) ++ behind) in
+    elim (refused_by (m ∷ ms) e h) [
+      | inl never ↦ ap (λ x. and_then x go) never
+      | inr on ↦ ap (λ x. and_then x go) on.1 ∙ mark_refused on.0 (m ∷ ms) behind e unmarked on.2
+    ]

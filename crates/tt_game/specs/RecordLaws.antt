@@ -1,0 +1,75 @@
+-- Laws of records and problems, in the words of the game.
+use Rattle.std.specs.Prelude.{◌≡◌, ◌≢◌, ℕ, ◌<◌, ◌≤◌, ◌⊎◌, ◌↔◌, List, [], ◌∷◌, ◌++◌, All, AllPairs, Contains, None, Ok, Err, true, false}
+use Rattle.tt_sgf.specs.declared.size.Size.{Size}
+use Rattle.tt_sgf.specs.declared.nodes.Node.{Node}
+use Rattle.tt_sgf.specs.Sizes.{point_count}
+use Rattle.tt_board.specs.declared.Colour.{Colour}
+use Rattle.tt_board.specs.Position.{Colouring}
+use Rattle.tt_board.specs.Reach.{entry_at}
+use Rattle.tt_board.specs.Play.{play_of}
+use Rattle.tt_game.specs.declared.faults.GameFault.{GameFault}
+use Rattle.tt_game.specs.declared.records.Record.{Record}
+use Rattle.tt_game.specs.declared.records.Replay.{Replay}
+use Rattle.tt_game.specs.Game.{history}
+use Rattle.tt_game.specs.Games.{all_of}
+use Rattle.tt_game.specs.History.{repeats}
+use Rattle.tt_game.specs.Line.{Standing}
+use Rattle.tt_game.specs.Nodes.{TR, has, is_setup}
+use Rattle.tt_game.specs.Problems.{problem_of}
+use Rattle.tt_game.specs.Records.{and_then, begin_line, record_of, run_nodes, step_node}
+
+-- d is what a play on an empty point of c makes
+abbrev pub IsPlay : Size → Colouring → Colouring → Type 0
+IsPlay size c d = (k : Colour) × (p : ℕ) × (p < point_count size) × (entry_at c p ≡ None) × (d ≡ play_of size c k p)
+
+-- each colouring but the first is what a play makes of the one before it
+abbrev pub ArePlays : Size → List Colouring → Type 0
+ArePlays size [] = Unit {0}
+ArePlays size (c ∷ []) = Unit {0}
+ArePlays size (c ∷ d ∷ h) = IsPlay size c d × ArePlays size (d ∷ h)
+
+-- a history by the rules: plays lead from each colouring to the next, and none stands in it twice
+pub record IsByTheRules (size : Size) (h : List Colouring) : Type 0 where
+  pub plays : ArePlays size h
+  pub once : AllPairs ◌≢◌ h
+
+-- the game and the count of turns that a record's nodes come to
+abbrev pub ComesTo : List Node → Replay → Type 0
+ComesTo nodes r = and_then (begin_line nodes) (λ q. run_nodes q nodes) ≡ Ok r
+
+-- the history of a record's game is by the rules, and its turns, implied passes among them, are 2,000 at most
+abbrev pub RecordsAreGames : Type 0
+RecordsAreGames = (nodes : List Node) (r : Replay) → ComesTo nodes r → IsByTheRules r.game.size (all_of r.game) × (r.turns ≤ 2000)
+
+-- a problem's history is by the rules
+abbrev pub ProblemsAreGames : Type 0
+ProblemsAreGames = (nodes : List Node) (p : Standing) → problem_of nodes ≡ Ok p → IsByTheRules p.frame.size (history p.state)
+
+-- a setup begins the history anew, with one colouring; another node leaves it, or a play adds the present one at its end
+abbrev pub SetupsBeginHistories : Type 0
+SetupsBeginHistories = (r q : Replay) (n : Node) → step_node r n ≡ Ok q
+    → (is_setup n ≡ true → all_of q.game ≡ q.game.present ∷ [])
+    × (is_setup n ≡ false → (all_of q.game ≡ all_of r.game) ⊎ (all_of q.game ≡ all_of r.game ++ q.game.present ∷ []))
+
+-- a record's refusal is that of its least node that has one: the nodes before it are a record, with it they are refused,
+-- and what stands behind it changes nothing
+pub record IsOfLeastNode (nodes : List Node) (e : GameFault) : Type 0 where
+  pub front : List Node
+  pub node : Node
+  pub behind : List Node
+  pub score : Record
+  pub parts : nodes ≡ front ++ node ∷ behind
+  pub taken : record_of front ≡ Ok score
+  pub refused : (others : List Node) → record_of (front ++ node ∷ others) ≡ Err e
+
+abbrev pub LeastNodesRefuse : Type 0
+LeastNodesRefuse = (nodes : List Node) (e : GameFault) → record_of nodes ≡ Err e → IsOfLeastNode nodes e
+
+-- where a record is refused, and no node of it marks a target, the problem of a main line that begins so is refused alike
+abbrev pub ProblemsAreRecords : Type 0
+ProblemsAreRecords = (nodes behind : List Node) (e : GameFault) → All (λ n. has TR n ≡ false) nodes → record_of nodes ≡ Err e
+    → problem_of (nodes ++ behind) ≡ Err e
+
+-- the test of superko is true exactly where the colouring is in the history
+abbrev pub SuperkoDecides : Type 0
+SuperkoDecides = (h : List Colouring) (c : Colouring) → (repeats h c ≡ true) ↔ Contains h c
