@@ -12,7 +12,7 @@ use Rattle.tt_game.specs.Turns.{legal_turns}
 use Rattle.tt_search.specs.Numbers.{count, count_all, IsUndecided}
 use Rattle.tt_search.specs.MostProving.{best, most_proving_state, state_below, most_proving_depth, depth_below, with_most_proving, with_below}
 use Rattle.tt_search.specs.Growing.{leaf_for, new_leaf, new_leaves, expansion, IsPartialTree, ArePartialTrees}
-use Rattle.tt_search.specs.Fits.{FitsIn, AllFitIn}
+use Rattle.tt_search.specs.Within.{StaysWithin, AllStayWithin}
 use Rattle.tt_search.specs.Children.{children_of}
 use Rattle.tt_search.proofs.Best.{best_child}
 
@@ -90,16 +90,16 @@ mutual
   row_partial_grown f s leaf (t ∷ turns) (suc i) (more tree children) p l = (p.0, row_partial_grown f s leaf turns i children p.1 l)
 
 mutual
-  pub fits_grown : (size : Size) (room : ℕ) (leaf tree : PartialTree) → FitsIn size room tree → FitsIn size (room - most_proving_depth tree) leaf → FitsIn size room (with_most_proving leaf tree)
-  fits_grown size room leaf fresh f l = subst (λ n. FitsIn size n leaf) (omega arith) l
-  fits_grown size room leaf (won side) f l = subst (λ n. FitsIn size n leaf) (omega arith) l
-  fits_grown size room leaf (closed side tree) f l = subst (λ n. FitsIn size n leaf) (omega arith) l
-  fits_grown size room leaf (expanded mover turns children) f l = (f.0, row_fits_grown size (room - 1) leaf (best mover children) children f.1 (subst (λ n. FitsIn size n leaf) (omega arith) l))
+  pub stays_grown : (size : Size) (room : ℕ) (leaf tree : PartialTree) → StaysWithin size room tree → StaysWithin size (room - most_proving_depth tree) leaf → StaysWithin size room (with_most_proving leaf tree)
+  stays_grown size room leaf fresh f l = subst (λ n. StaysWithin size n leaf) (omega arith) l
+  stays_grown size room leaf (won side) f l = subst (λ n. StaysWithin size n leaf) (omega arith) l
+  stays_grown size room leaf (closed side tree) f l = subst (λ n. StaysWithin size n leaf) (omega arith) l
+  stays_grown size room leaf (expanded mover turns children) f l = (f.0, row_stays_grown size (room - 1) leaf (best mover children) children f.1 (subst (λ n. StaysWithin size n leaf) (omega arith) l))
 
-  row_fits_grown : (size : Size) (room : ℕ) (leaf : PartialTree) (i : ℕ) (children : Children) → AllFitIn size room children → FitsIn size (room - depth_below i children) leaf → AllFitIn size room (with_below leaf i children)
-  row_fits_grown size room leaf i no_more f l = tt
-  row_fits_grown size room leaf zero (more tree children) f l = (fits_grown size room leaf tree f.0 l, f.1)
-  row_fits_grown size room leaf (suc i) (more tree children) f l = (f.0, row_fits_grown size room leaf i children f.1 l)
+  row_stays_grown : (size : Size) (room : ℕ) (leaf : PartialTree) (i : ℕ) (children : Children) → AllStayWithin size room children → StaysWithin size (room - depth_below i children) leaf → AllStayWithin size room (with_below leaf i children)
+  row_stays_grown size room leaf i no_more f l = tt
+  row_stays_grown size room leaf zero (more tree children) f l = (stays_grown size room leaf tree f.0 l, f.1)
+  row_stays_grown size room leaf (suc i) (more tree children) f l = (f.0, row_stays_grown size room leaf i children f.1 l)
 
 leaf_of_partial : (f : Frame) (s : State) (o : Option Side) → winner_of f s ≡ o → IsPartialTree f s (leaf_for o)
 leaf_of_partial f s None e = e
@@ -115,19 +115,19 @@ new_leaves_partial f s (t ∷ turns) = (new_leaf_partial f (after f s t), new_le
 pub expansion_partial : (f : Frame) (s : State) → winner_of f s ≡ None → IsPartialTree f s (expansion f s)
 expansion_partial f s w = (w, refl, refl, new_leaves_partial f s (legal_turns f s))
 
-leaf_of_fits : (size : Size) (room : ℕ) (o : Option Side) → FitsIn size room (leaf_for o)
-leaf_of_fits size room None = tt
-leaf_of_fits size room (Some side) = tt
+leaf_stays : (size : Size) (room : ℕ) (o : Option Side) → StaysWithin size room (leaf_for o)
+leaf_stays size room None = tt
+leaf_stays size room (Some side) = tt
 
-new_leaves_fit : (size : Size) (room : ℕ) (f : Frame) (s : State) (turns : List Turn) → AllFitIn size room (new_leaves f s turns)
-new_leaves_fit size room f s [] = tt
-new_leaves_fit size room f s (t ∷ turns) = (leaf_of_fits size room (winner_of f (after f s t)), new_leaves_fit size room f s turns)
+new_leaves_stay : (size : Size) (room : ℕ) (f : Frame) (s : State) (turns : List Turn) → AllStayWithin size room (new_leaves f s turns)
+new_leaves_stay size room f s [] = tt
+new_leaves_stay size room f s (t ∷ turns) = (leaf_stays size room (winner_of f (after f s t)), new_leaves_stay size room f s turns)
 
-pub new_leaf_fits : (size : Size) (room : ℕ) (f : Frame) (s : State) → FitsIn size room (new_leaf f s)
-new_leaf_fits size room f s = leaf_of_fits size room (winner_of f s)
+pub new_leaf_stays : (size : Size) (room : ℕ) (f : Frame) (s : State) → StaysWithin size room (new_leaf f s)
+new_leaf_stays size room f s = leaf_stays size room (winner_of f s)
 
-pub expansion_fits : (size : Size) (room : ℕ) (f : Frame) (s : State) → 0 < room → FitsIn size room (expansion f s)
-expansion_fits size room f s h = (h, new_leaves_fit size (room - 1) f s (legal_turns f s))
+pub expansion_stays : (size : Size) (room : ℕ) (f : Frame) (s : State) → 0 < room → StaysWithin size room (expansion f s)
+expansion_stays size room f s h = (h, new_leaves_stay size (room - 1) f s (legal_turns f s))
 
 leaf_of_count : (o : Option Side) → count (leaf_for o) ≡ 0
 leaf_of_count None = refl

@@ -14,7 +14,7 @@ use Rattle.tt_search.specs.Weight.{weight, weight_all}
 use Rattle.tt_search.specs.Numbers.{IsUndecided}
 use Rattle.tt_search.specs.MostProving.{best, most_proving_state, state_below, most_proving_depth, depth_below, with_most_proving, with_below}
 use Rattle.tt_search.specs.Growing.{expansion, IsPartialTree, ArePartialTrees, IsClosing}
-use Rattle.tt_search.specs.Fits.{FitsIn, AllFitIn}
+use Rattle.tt_search.specs.Within.{StaysWithin, AllStayWithin}
 use Rattle.tt_search.specs.Taken.{Taken}
 use Rattle.tt_search.specs.Children.{children_of}
 use Rattle.tt_search.proofs.Best.{best_child}
@@ -57,10 +57,10 @@ set_at [] i d l = refl
 set_at (tree ∷ trees) zero d l = refl
 set_at (tree ∷ trees) (suc i) d l = ap (λ ts. tree ∷ ts) (set_at trees i d (omega arith))
 
-pub fits_at : (size : Size) (room : ℕ) (trees : List PartialTree) (i : ℕ) (d : PartialTree) → AllFitIn size room (children_of trees) → i < length trees → FitsIn size room (get_or trees i d)
-fits_at size room [] i d f l = absurd (omega arith)
-fits_at size room (tree ∷ trees) zero d f l = f.0
-fits_at size room (tree ∷ trees) (suc i) d f l = fits_at size room trees i d f.1 (omega arith)
+pub stays_at : (size : Size) (room : ℕ) (trees : List PartialTree) (i : ℕ) (d : PartialTree) → AllStayWithin size room (children_of trees) → i < length trees → StaysWithin size room (get_or trees i d)
+stays_at size room [] i d f l = absurd (omega arith)
+stays_at size room (tree ∷ trees) zero d f l = f.0
+stays_at size room (tree ∷ trees) (suc i) d f l = stays_at size room trees i d f.1 (omega arith)
 
 pub weight_at : (trees : List PartialTree) (i : ℕ) (d : PartialTree) → i < length trees → weight (get_or trees i d) < weight_all (children_of trees)
 weight_at [] i d l = absurd (omega arith)
@@ -110,7 +110,7 @@ pub record IsFound (f : Frame) (s : State) (mover : Side) (turns : List Turn) (t
   pub legal : (t : Turn) → t ≡ get_or turns p t → Contains (legal_turns f s) t
   pub undecided : (child : PartialTree) → child ≡ get_or trees p child → IsUndecided child
   pub partial : (t : Turn) (child : PartialTree) → t ≡ get_or turns p t → child ≡ get_or trees p child → IsPartialTree f (after f s t) child
-  pub fits : (child : PartialTree) → child ≡ get_or trees p child → (room : ℕ) → FitsIn f.size room node → (0 < room) × FitsIn f.size (room - 1) child
+  pub stays : (child : PartialTree) → child ≡ get_or trees p child → (room : ℕ) → StaysWithin f.size room node → (0 < room) × StaysWithin f.size (room - 1) child
 
 pub found : (f : Frame) (s : State) (mover : Side) (turns : List Turn) (trees : List PartialTree) (p : ℕ) → p ≡ best mover (children_of trees) → IsUndecided (expanded mover turns (children_of trees)) → IsPartialTree f s (expanded mover turns (children_of trees)) → IsFound f s mover turns trees (expanded mover turns (children_of trees)) p
 found f s mover turns trees p e u q = subst (λ p. IsFound f s mover turns trees (expanded mover turns (children_of trees)) p) (sym e) (record {
@@ -119,7 +119,7 @@ found f s mover turns trees p e u q = subst (λ p. IsFound f s mover turns trees
   legal = λ t g. subst (λ ts. Contains ts t) q.2 (subst (Contains turns) (sym g) (Contains-get_or turns (best mover (children_of trees)) t (omega (arith, (best_child mover turns trees fresh u).0, l))));
   undecided = λ child h. subst IsUndecided (sym h) (best_child mover turns trees child u).1;
   partial = λ t child g h. subst (λ x. IsPartialTree f (after f s x) child) (sym g) (subst (IsPartialTree f (after f s (get_or turns (best mover (children_of trees)) t))) (sym h) (partial_at f s turns trees (best mover (children_of trees)) t child q.3 (best_child mover turns trees child u).0));
-  fits = λ child h room k. (k.0, subst (FitsIn f.size (room - 1)) (sym h) (fits_at f.size (room - 1) trees (best mover (children_of trees)) child k.1 (best_child mover turns trees child u).0));
+  stays = λ child h room k. (k.0, subst (StaysWithin f.size (room - 1)) (sym h) (stays_at f.size (room - 1) trees (best mover (children_of trees)) child k.1 (best_child mover turns trees child u).0));
 })
   where
     l : length turns ≡ length trees

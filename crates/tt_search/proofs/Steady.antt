@@ -11,7 +11,7 @@ use Rattle.tt_search.specs.PartialTree.{PartialTree, expanded}
 use Rattle.tt_search.specs.Numbers.{combined, number, numbers, count, IsUndecided}
 use Rattle.tt_search.specs.MostProving.{first_least, best}
 use Rattle.tt_search.specs.Growing.{IsPartialTree}
-use Rattle.tt_search.specs.Fits.{FitsIn}
+use Rattle.tt_search.specs.Within.{StaysWithin}
 use Rattle.tt_search.specs.Taken.{Taken}
 use Rattle.tt_search.specs.Steady.{HaveSameNumbers, IsGrowth, Steady, IsLeft, AreSteps}
 use Rattle.tt_search.specs.Children.{children_of}
@@ -34,12 +34,12 @@ undecided_same a b h u = (λ e. u.0 (sym (h Attacker) ∙ e), λ e. u.1 (sym (h 
 pub steady_undecided : (n room : ℕ) (f : Frame) (s : State) (old : PartialTree) (left : ℕ) (new : PartialTree) (left_after : ℕ) → Steady n room f s old left new left_after → IsUndecided old → IsUndecided new
 steady_undecided n room f s old left new left_after h = undecided_same old new (steady_numbers n room f s old left new left_after h)
 
-growth_keeps : (room : ℕ) (f : Frame) (s : State) (old : PartialTree) (left : ℕ) (new : PartialTree) (left_after : ℕ) → IsGrowth room f s old left new left_after → IsUndecided old → IsPartialTree f s old → FitsIn f.size room old → IsPartialTree f s new × FitsIn f.size room new
+growth_keeps : (room : ℕ) (f : Frame) (s : State) (old : PartialTree) (left : ℕ) (new : PartialTree) (left_after : ℕ) → IsGrowth room f s old left new left_after → IsUndecided old → IsPartialTree f s old → StaysWithin f.size room old → IsPartialTree f s new × StaysWithin f.size room new
 growth_keeps room f s old left new left_after (inl h) u p k = taken_keeps false room f s old Expanded new u p k (refl, h.1)
 growth_keeps room f s old left new left_after (inr h) u p k = taken_keeps false room f s old Closed new u p k h.1
 
-pub steady_keeps : (n room : ℕ) (f : Frame) (s : State) (old : PartialTree) (left : ℕ) (new : PartialTree) (left_after : ℕ) → Steady n room f s old left new left_after → IsUndecided old → IsPartialTree f s old → FitsIn f.size room old → IsPartialTree f s new × FitsIn f.size room new
-steady_keeps zero room f s old left new left_after (e, l) u p k = (subst (IsPartialTree f s) (sym e) p, subst (FitsIn f.size room) (sym e) k)
+pub steady_keeps : (n room : ℕ) (f : Frame) (s : State) (old : PartialTree) (left : ℕ) (new : PartialTree) (left_after : ℕ) → Steady n room f s old left new left_after → IsUndecided old → IsPartialTree f s old → StaysWithin f.size room old → IsPartialTree f s new × StaysWithin f.size room new
+steady_keeps zero room f s old left new left_after (e, l) u p k = (subst (IsPartialTree f s) (sym e) p, subst (StaysWithin f.size room) (sym e) k)
 steady_keeps (suc n) room f s old left new left_after (before, left_before, h, g, same) u p k =
     let keeps = steady_keeps n room f s old left before left_before h u p k in
     growth_keeps room f s before left_before new left_after g (steady_undecided n room f s old left before left_before h u) keeps.0 keeps.1
@@ -85,10 +85,10 @@ pub record IsUnderWay (once : Bool) (room : ℕ) (f : Frame) (s : State) (old : 
   pub one : once ≡ true → rounds ≡ 0
   pub undecided : IsUndecided tree
   pub partial : IsPartialTree f s tree
-  pub fits : FitsIn f.size room tree
+  pub stays : StaysWithin f.size room tree
 
-pub under_way : (once : Bool) (room : ℕ) (f : Frame) (s : State) (old : PartialTree) (left : ℕ) → IsUndecided old → IsPartialTree f s old → FitsIn f.size room old → IsUnderWay once room f s old left old left
-under_way once room f s old left u p k = record { rounds = 0; steady = (refl, refl); one = λ e. refl; undecided = u; partial = p; fits = k }
+pub under_way : (once : Bool) (room : ℕ) (f : Frame) (s : State) (old : PartialTree) (left : ℕ) → IsUndecided old → IsPartialTree f s old → StaysWithin f.size room old → IsUnderWay once room f s old left old left
+under_way once room f s old left u p k = record { rounds = 0; steady = (refl, refl); one = λ e. refl; undecided = u; partial = p; stays = k }
 
 -- the steps of a round that is the last one
 pub last_round : (once : Bool) (room : ℕ) (f : Frame) (s : State) (old : PartialTree) (left : ℕ) (tree : PartialTree) (left_now : ℕ) (step : Step) (new : PartialTree) (left_after : ℕ) → IsUnderWay once room f s old left tree left_now → AreSteps once room f s tree left_now step new left_after → AreSteps once room f s old left step new left_after
@@ -126,14 +126,14 @@ module _ (once : Bool) (room : ℕ) (f : Frame) (s : State) (tree : PartialTree)
 pub next_round : (once : Bool) (room : ℕ) (f : Frame) (s : State) (old : PartialTree) (left : ℕ) (tree : PartialTree) (left_now : ℕ) (step : Step) (new : PartialTree) (left_after : ℕ) → once ≡ false → IsUnderWay once room f s old left tree left_now → AreSteps once room f s tree left_now step new left_after → (step ≡ Expanded) ⊎ (step ≡ Closed) → HaveSameNumbers tree new → IsUnderWay once room f s old left new left_after
 next_round once room f s old left tree left_now step new left_after more h k changed same =
     let steady = round_steady once room f s tree left_now step new left_after k changed same in
-    let keeps = steady_keeps (suc k.how_many) room f s tree left_now new left_after steady h.undecided h.partial h.fits in
+    let keeps = steady_keeps (suc k.how_many) room f s tree left_now new left_after steady h.undecided h.partial h.stays in
     record {
       rounds = suc k.how_many + h.rounds;
       steady = steady_joined h.rounds (suc k.how_many) room f s old left tree left_now new left_after h.steady steady;
       one = λ e. cc;
       undecided = undecided_same tree new same h.undecided;
       partial = keeps.0;
-      fits = keeps.1;
+      stays = keeps.1;
     }
 
 pub same_numbers : (a b : PartialTree) → number Attacker b ≡ number Attacker a → number Defender b ≡ number Defender a → HaveSameNumbers a b
@@ -214,7 +214,7 @@ found_steps f s mover turns trees p e u q t child t_is child_is once room left s
     steps_lifted f s mover turns trees t child p e there (lengths f s turns trees q.3) t_is child_is room pos once left step new left_after k
 
 -- what steps make of a tree may be offered
-pub steps_offerable : (once : Bool) (room : ℕ) (line back : Standing) (old : PartialTree) (left : ℕ) (step : Step) (new : PartialTree) (left_after : ℕ) → back ≡ line → room ≤ 512 → IsUndecided old → IsPartialTree line.frame line.state old → FitsIn line.frame.size room old → AreSteps once room line.frame line.state old left step new left_after → IsOfferable back new
+pub steps_offerable : (once : Bool) (room : ℕ) (line back : Standing) (old : PartialTree) (left : ℕ) (step : Step) (new : PartialTree) (left_after : ℕ) → back ≡ line → room ≤ 512 → IsUndecided old → IsPartialTree line.frame line.state old → StaysWithin line.frame.size room old → AreSteps once room line.frame line.state old left step new left_after → IsOfferable back new
 steps_offerable once room line back old left step new left_after e l u p h k =
     let keeps = steady_keeps k.how_many room line.frame line.state old left k.before k.left_before k.steady u p h in
     taken_offerable (k.left_before == 0) room line back k.before step new e l (steady_undecided k.how_many room line.frame line.state old left k.before k.left_before k.steady u) keeps.0 keeps.1 k.taken

@@ -14,7 +14,7 @@ use Rattle.tt_search.specs.PartialTree.{PartialTree, fresh, won, closed, expande
 use Rattle.tt_search.specs.Numbers.{is_same, least, capped_sum, decided_number, number, numbers}
 use Rattle.tt_search.specs.MostProving.{place, best}
 use Rattle.tt_search.specs.Growing.{IsPartialTree, ArePartialTrees}
-use Rattle.tt_search.specs.Fits.{FitsIn, AllFitIn}
+use Rattle.tt_search.specs.Within.{StaysWithin, AllStayWithin}
 use Rattle.tt_search.proofs.TurnLemmas.{AreLegal, IsIn, RiseFrom, are_legal, is_in, rise}
 use Rattle.tt_search.specs.Settled.{strategy_for, picked_or_replied, pick_at, replies}
 
@@ -120,8 +120,8 @@ depth_either true room first all h k = h
 depth_either false room first all h k = k
 
 mutual
-  -- the strategy of a tree that fits reaches no deeper than the room
-  pub low : (side : Side) (size : Size) (room : ℕ) (tree : PartialTree) → FitsIn size room tree → depth (strategy_for side tree) ≤ room
+  -- the strategy of a tree that stays within the room reaches no deeper than the room
+  pub low : (side : Side) (size : Size) (room : ℕ) (tree : PartialTree) → StaysWithin size room tree → depth (strategy_for side tree) ≤ room
   low side size room fresh h = omega arith
   low side size room (won winner) h = omega arith
   low side size room (closed winner strategy) h = h.0
@@ -130,13 +130,13 @@ mutual
       (pick_low side size room (best side children) turns children h.0 h.1)
       (replies_low side size room turns children h.0 h.1)
 
-  pick_low : (side : Side) (size : Size) (room : ℕ) (i : ℕ) (turns : List Turn) (children : Children) → 0 < room → AllFitIn size (room - 1) children → depth (pick_at side i turns children) ≤ room
+  pick_low : (side : Side) (size : Size) (room : ℕ) (i : ℕ) (turns : List Turn) (children : Children) → 0 < room → AllStayWithin size (room - 1) children → depth (pick_at side i turns children) ≤ room
   pick_low side size room i [] children h k = omega arith
   pick_low side size room i (t ∷ ts) no_more h k = omega arith
   pick_low side size room zero (t ∷ ts) (more tree children) h k = omega (arith, h, low side size (room - 1) tree k.0)
   pick_low side size room (suc i) (t ∷ ts) (more tree children) h k = pick_low side size room i ts children h k.1
 
-  replies_low : (side : Side) (size : Size) (room : ℕ) (turns : List Turn) (children : Children) → 0 < room → AllFitIn size (room - 1) children → depth_of_entries (replies side turns children) ≤ room
+  replies_low : (side : Side) (size : Size) (room : ℕ) (turns : List Turn) (children : Children) → 0 < room → AllStayWithin size (room - 1) children → depth_of_entries (replies side turns children) ≤ room
   replies_low side size room [] children h k = omega arith
   replies_low side size room (t ∷ ts) no_more h k = omega arith
   replies_low side size room (t ∷ ts) (more tree children) h k = omega (arith, h, low side size (room - 1) tree k.0, replies_low side size room ts children h k.1)
@@ -149,7 +149,7 @@ ordered_either false size first all h k = k
 
 mutual
   -- the strategy of a partial tree is in order
-  pub in_order : (side : Side) (f : Frame) (s : State) (room : ℕ) (tree : PartialTree) → IsPartialTree f s tree → FitsIn f.size room tree → IsInOrder f.size (strategy_for side tree)
+  pub in_order : (side : Side) (f : Frame) (s : State) (room : ℕ) (tree : PartialTree) → IsPartialTree f s tree → StaysWithin f.size room tree → IsInOrder f.size (strategy_for side tree)
   in_order side f s room fresh p h = tt
   in_order side f s room (won winner) p h = tt
   in_order side f s room (closed winner strategy) p h = h.1
@@ -159,19 +159,19 @@ mutual
       (pick_in_order side f s (room - 1) 0 (best side children) turns children up p.3 h.1)
       (replies_in_order side f s (room - 1) 0 turns children up p.3 h.1)
 
-  pick_in_order : (side : Side) (f : Frame) (s : State) (room from i : ℕ) (turns : List Turn) (children : Children) → RiseFrom f.size from turns → ArePartialTrees f s turns children → AllFitIn f.size room children → IsInOrder f.size (pick_at side i turns children)
+  pick_in_order : (side : Side) (f : Frame) (s : State) (room from i : ℕ) (turns : List Turn) (children : Children) → RiseFrom f.size from turns → ArePartialTrees f s turns children → AllStayWithin f.size room children → IsInOrder f.size (pick_at side i turns children)
   pick_in_order side f s room from i [] children up p h = tt
   pick_in_order side f s room from i (t ∷ ts) no_more up p h = tt
   pick_in_order side f s room from zero (t ∷ ts) (more tree children) up p h = (up.1, in_order side f (after f s t) room tree p.0 h.0)
   pick_in_order side f s room from (suc i) (t ∷ ts) (more tree children) up p h =
       pick_in_order side f s room (number_on f.size t + 1) i ts children up.2 p.1 h.1
 
-  replies_in_order : (side : Side) (f : Frame) (s : State) (room from : ℕ) (turns : List Turn) (children : Children) → RiseFrom f.size from turns → ArePartialTrees f s turns children → AllFitIn f.size room children → AreInOrder f.size from (replies side turns children)
+  replies_in_order : (side : Side) (f : Frame) (s : State) (room from : ℕ) (turns : List Turn) (children : Children) → RiseFrom f.size from turns → ArePartialTrees f s turns children → AllStayWithin f.size room children → AreInOrder f.size from (replies side turns children)
   replies_in_order side f s room from [] children up p h = tt
   replies_in_order side f s room from (t ∷ ts) no_more up p h = tt
   replies_in_order side f s room from (t ∷ ts) (more tree children) up p h =
       (up.0, up.1, in_order side f (after f s t) room tree p.0 h.0, replies_in_order side f s room (number_on f.size t + 1) ts children up.2 p.1 h.1)
 
 -- the strategy of a settled tree makes a proof
-pub makes_proof : (side : Side) (f : Frame) (s : State) (tree : PartialTree) (strategy : Strategy) → strategy ≡ strategy_for side tree → number side tree ≡ 0 → IsPartialTree f s tree → FitsIn f.size 512 tree → IsWon side f s strategy
+pub makes_proof : (side : Side) (f : Frame) (s : State) (tree : PartialTree) (strategy : Strategy) → strategy ≡ strategy_for side tree → number side tree ≡ 0 → IsPartialTree f s tree → StaysWithin f.size 512 tree → IsWon side f s strategy
 makes_proof side f s tree strategy e z p h = subst (IsWon side f s) (sym e) (record { wins = wins side f s tree p z; low = low side f.size 512 tree h; in_order = in_order side f s 512 tree p h })

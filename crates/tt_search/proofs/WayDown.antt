@@ -11,7 +11,7 @@ use Rattle.tt_search.specs.Edges.{turn_of, turns_of, trees_of, child_at}
 use Rattle.tt_search.specs.Numbers.{IsUndecided}
 use Rattle.tt_search.specs.MostProving.{best}
 use Rattle.tt_search.specs.Growing.{IsPartialTree}
-use Rattle.tt_search.specs.Fits.{FitsIn}
+use Rattle.tt_search.specs.Within.{StaysWithin}
 use Rattle.tt_search.specs.Steady.{AreSteps}
 use Rattle.tt_search.specs.Sprouting.{StepsBelow}
 use Rattle.tt_search.specs.declared.edges.Edge.{Edge}
@@ -27,7 +27,7 @@ pub record IsWayDown (f : Frame) (s : State) (mover : Side) (es : List Edge) (ts
   pub undecided : IsUndecided (child_at p es ts)
   pub legal : (e : Edge) (t : Turn) → e ≡ get_or es p e → t ≡ turn_of e → IsLegal f s t
   pub partial : (e : Edge) (t : Turn) → e ≡ get_or es p e → t ≡ turn_of e → IsPartialTree f (after f s t) (child_at p es ts)
-  pub fits : (room : ℕ) → FitsIn f.size room node → (0 < room) × FitsIn f.size (room - 1) (child_at p es ts)
+  pub stays : (room : ℕ) → StaysWithin f.size room node → (0 < room) × StaysWithin f.size (room - 1) (child_at p es ts)
   pub steps : (e : Edge) (t : Turn) → e ≡ get_or es p e → t ≡ turn_of e → (once : Bool) (room left : ℕ) (step : Step) (es' : List Edge) (ts' : List PartialTree) (left_after : ℕ) → 0 < room → StepsBelow once (room - 1) f (after f s t) p es ts left step es' ts' left_after → AreSteps once room f s node left step (expanded mover (turns_of es') (children_of (trees_of es' ts'))) left_after
 
 module _ (f : Frame) (s : State) (mover : Side) (es : List Edge) (ts : List PartialTree) (p : ℕ) (place : p ≡ best mover (children_of (trees_of es ts))) (u : IsUndecided (expanded mover (turns_of es) (children_of (trees_of es ts)))) (q : IsPartialTree f s (expanded mover (turns_of es) (children_of (trees_of es ts)))) where
@@ -58,7 +58,7 @@ module _ (f : Frame) (s : State) (mover : Side) (es : List Edge) (ts : List Part
     undecided = k.undecided (child_at p es ts) child_is;
     legal = λ e t is h. (contains-legal_turns f s t).0 (k.legal t (turn_is e t is h));
     partial = λ e t is h. k.partial t (child_at p es ts) (turn_is e t is h) child_is;
-    fits = λ room w. k.fits (child_at p es ts) child_is room w;
+    stays = λ room w. k.stays (child_at p es ts) child_is room w;
     steps = λ e t is h once room left step es' ts' left_after pos below. steps_here e t is h once room left step es' ts' left_after pos below;
   }
 

@@ -4,7 +4,7 @@ pub mod Numbers
 pub mod MostProving
 pub mod Growing
 pub mod Settled
-pub mod Fits
+pub mod Within
 pub mod Weight
 pub mod Edges
 pub mod Sprouting

@@ -10,7 +10,7 @@ use Rattle.tt_search.specs.Numbers.{number, count, IsUndecided}
 use Rattle.tt_search.specs.MostProving.{most_proving_depth}
 use Rattle.tt_search.specs.Growing.{IsExpansion, IsClosing, IsPartialTree, IsGrown}
 use Rattle.tt_search.specs.Settled.{strategy_for}
-use Rattle.tt_search.specs.Fits.{FitsIn}
+use Rattle.tt_search.specs.Within.{StaysWithin}
 use Rattle.tt_search.specs.declared.limits.Limits.{Limits}
 use Rattle.tt_search.specs.declared.limits.Step.{Step}
 use Rattle.tt_search.specs.declared.limits.Step.TheVariants.{Expanded, Closed, Settled, Stuck}
@@ -28,7 +28,7 @@ pub record IsSearch (f : Frame) (s : State) (limits : Limits) (tree : PartialTre
   pub counted : expanded ≡ count tree
   pub within : count tree ≤ limits.budget
   pub partial : IsPartialTree f s tree
-  pub fits : FitsIn f.size limits.depth tree
+  pub stays : StaysWithin f.size limits.depth tree
   pub grown : IsGrown limits f s tree
 
 -- a search is on the same line under the same limits

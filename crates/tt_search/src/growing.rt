@@ -5,7 +5,7 @@ ghost use Rattle.tt_game.specs.Game.{winner_of};
 ghost use Rattle.tt_search.specs.PartialTree.{fresh};
 ghost use Rattle.tt_search.specs.Numbers.{IsUndecided};
 ghost use Rattle.tt_search.specs.Growing.{IsPartialTree};
-ghost use Rattle.tt_search.specs.Fits.{FitsIn};
+ghost use Rattle.tt_search.specs.Within.{StaysWithin};
 ghost use Rattle.tt_search.specs.Edges.{grown_in, child_at};
 ghost use Rattle.tt_search.specs.Sprouting.{IsFreshAt, Sprouts, StepsBelow};
 ghost use Rattle.tt_search.specs.Taken.{Taken};
@@ -133,7 +133,7 @@ impl Node {
     ) -> Step
         requires undecided { IsUndecided self.old }
         requires partial { IsPartialTree line.old.frame line.old.state self.old }
-        requires fits { FitsIn line.old.frame.size room self.old }
+        requires stays { StaysWithin line.old.frame.size room self.old }
         requires room { room ≤ 512 }
         ensures line { line.new ≡ line.old }
         ensures may { result ≡ Closed → S.may_answer }
@@ -169,7 +169,7 @@ impl Node {
     ) -> Step
         requires undecided { IsUndecided self.old }
         requires partial { IsPartialTree line.old.frame line.old.state self.old }
-        requires fits { FitsIn line.old.frame.size room self.old }
+        requires stays { StaysWithin line.old.frame.size room self.old }
         requires room { room ≤ 512 }
         ensures line { line.new ≡ line.old }
         ensures may { result ≡ Closed → S.may_answer }
@@ -259,7 +259,7 @@ fn below<S: Store>(
     requires whole { grown_in edges.old.items ≡ length grown.old.items }
     requires undecided { IsUndecided (child_at place edges.old.items grown.old.items) }
     requires partial { IsPartialTree line.old.frame line.old.state (child_at place edges.old.items grown.old.items) }
-    requires fits { FitsIn line.old.frame.size room (child_at place edges.old.items grown.old.items) }
+    requires stays { StaysWithin line.old.frame.size room (child_at place edges.old.items grown.old.items) }
     requires room { room ≤ 512 }
     ensures line { line.new ≡ line.old }
     ensures may { result ≡ Closed → S.may_answer }

@@ -5,7 +5,7 @@ ghost use Rattle.tt_proof.specs.Strategy.{reply, strategy_of};
 ghost use Rattle.tt_proof.specs.Proven.{StandsAt};
 ghost use Rattle.tt_search.specs.Numbers.{number, IsUndecided};
 ghost use Rattle.tt_search.specs.Growing.{IsPartialTree};
-ghost use Rattle.tt_search.specs.Fits.{FitsIn};
+ghost use Rattle.tt_search.specs.Within.{StaysWithin};
 ghost use Rattle.tt_search.specs.Settled.{strategy_for, pick_at, replies};
 ghost use Rattle.tt_search.specs.Children.{children_of};
 ghost use Rattle.tt_search.specs.Edges.{mark_of, tree_of, turns_of, trees_of};
@@ -63,7 +63,7 @@ impl Node {
     pub(crate) fn proof(&self, alloc: Global, line: &Line, side: Side) -> Result<Proof, NoMemory>
         requires settled { number side self.now ≡ 0 }
         requires partial { IsPartialTree line.now.frame line.now.state self.now }
-        requires fits { FitsIn line.now.frame.size 512 self.now }
+        requires stays { StaysWithin line.now.frame.size 512 self.now }
         ensures stands { IfOk result (λ p. StandsAt p line.now.frame line.now.state) }
         ensures side { IfOk result (λ p. p.side ≡ side) }
         ensures tree { IfOk result (λ p. p.tree ≡ strategy_for side self.now) }
@@ -82,7 +82,7 @@ impl Node {
         offering: &mut bool,
     )
         requires partial { IsPartialTree line.now.frame line.now.state self.now }
-        requires fits { FitsIn line.now.frame.size 512 self.now }
+        requires stays { StaysWithin line.now.frame.size 512 self.now }
         ensures undecided { IsUndecided self.now → S.kept store.new ≡ S.kept store.old }
     {
         let Some(side) = self.settled_for() else {

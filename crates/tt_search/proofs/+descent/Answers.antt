@@ -7,7 +7,7 @@ use Rattle.tt_search.specs.Edges.{mark_of, turns_of, trees_of, grown_in, child_a
 use Rattle.tt_search.specs.PartialTree.{PartialTree, fresh, expanded}
 use Rattle.tt_search.specs.Numbers.{IsUndecided, number}
 use Rattle.tt_search.specs.Growing.{IsPartialTree}
-use Rattle.tt_search.specs.Fits.{FitsIn}
+use Rattle.tt_search.specs.Within.{StaysWithin}
 use Rattle.tt_search.specs.Steady.{AreSteps}
 use Rattle.tt_search.specs.Sprouting.{StepsBelow}
 use Rattle.tt_search.specs.declared.limits.Step.TheVariants.{Expanded, Closed}
@@ -34,7 +34,7 @@ growing::below-grow-requires g t c =
           subst IsUndecided here c.requires.undecided,
           (
             subst (IsPartialTree c.args.line.now.frame c.args.line.now.state) here c.requires.partial,
-            (subst (FitsIn c.args.line.now.frame.size c.args.room) here c.requires.fits, c.requires.room),
+            (subst (StaysWithin c.args.line.now.frame.size c.args.room) here c.requires.stays, c.requires.room),
           ),
         ),
       ),
@@ -104,7 +104,7 @@ node::Node::round-below-step-requires g t c =
     let k = way_down c.args.line.now.frame c.args.line.now.state c.deref_mut.result.now.mover c.deref_mut.result.now.edges.items c.as_slice.result.now c.deref_mut.result.now.grown.items c.as_slice-in-Expanded.result.now c.best_child-place.result.0 c.args.self.now c.best_child-place.ensures.place c.as_slice.ensures.value c.as_slice-in-Expanded.ensures.value (ap (λ (v : Expansion). expanded v.mover (turns_of v.edges.items) (children_of (trees_of v.edges.items v.grown.items))) c.deref_mut.ensures.value ∙ sym (ap shape c.in-Expanded.is) ∙ c.self.view_is) c.requires.undecided c.requires.partial in
     let child : PartialTree = child_at c.best_child-place.result.0 c.deref_mut.result.now.edges.items c.deref_mut.result.now.grown.items in
     let q = k.partial c.index.result.now c.turn.result c.index.ensures c.turn.ensures in
-    let h = k.fits c.args.room c.requires.fits in
+    let h = k.stays c.args.room c.requires.stays in
     let whole = subst (λ (v : Expansion). grown_in v.edges.items ≡ length v.grown.items) (sym c.deref_mut.ensures.value) (subst IsWhole c.in-Expanded.is c.self.invariant.1) in
     let rank = c.best_child-place.ensures.rank ∙ ap (λ es. grown_in (take c.best_child-place.result.0 es)) c.as_slice.ensures.value in
     let pushed = sym c.in-Ok.ensures.ok in
@@ -122,7 +122,7 @@ node::Node::round-below-step-requires g t c =
                 k.undecided,
                 (
                   subst (λ (l : Standing). IsPartialTree l.frame l.state child) pushed q,
-                  (subst (λ (l : Standing). FitsIn l.frame.size (c.args.room - 1) child) pushed h.1, omega (arith, c.requires.room)),
+                  (subst (λ (l : Standing). StaysWithin l.frame.size (c.args.room - 1) child) pushed h.1, omega (arith, c.requires.room)),
                 ),
               ),
             ),
@@ -135,23 +135,23 @@ pub node::Node::round-returns-in-Ok-clause-steps : goal.node::Node::round-return
 node::Node::round-returns-in-Ok-clause-steps g t c =
     let k = way_down c.args.line.now.frame c.args.line.now.state c.deref_mut.result.now.mover c.deref_mut.result.now.edges.items c.as_slice.result.now c.deref_mut.result.now.grown.items c.as_slice-in-Expanded.result.now c.best_child-place.result.0 c.args.self.now c.best_child-place.ensures.place c.as_slice.ensures.value c.as_slice-in-Expanded.ensures.value (ap (λ (v : Expansion). expanded v.mover (turns_of v.edges.items) (children_of (trees_of v.edges.items v.grown.items))) c.deref_mut.ensures.value ∙ sym (ap shape c.in-Expanded.is) ∙ c.self.view_is) c.requires.undecided c.requires.partial in
     let below = subst (λ (l : Standing). StepsBelow c.args.once (c.args.room - 1) l.frame l.state c.best_child-place.result.0 c.deref_mut.result.now.edges.items c.deref_mut.result.now.grown.items c.args.left.now c.below-step.result c.below-step.new.edges.items c.below-step.new.grown.items c.below-step.new.left) c.in-Ok.ensures.ok c.below-step.ensures.steps in
-    k.steps c.index.result.now c.turn.result c.index.ensures c.turn.ensures c.args.once c.args.room c.args.left.now c.below-step.result c.below-step.new.edges.items c.below-step.new.grown.items c.below-step.new.left (k.fits c.args.room c.requires.fits).0 below
+    k.steps c.index.result.now c.turn.result c.index.ensures c.turn.ensures c.args.once c.args.room c.args.left.now c.below-step.result c.below-step.new.edges.items c.below-step.new.grown.items c.below-step.new.left (k.stays c.args.room c.requires.stays).0 below
 
 pub node::Node::round-offer-requires-clause-partial : goal.node::Node::round-offer-requires-clause-partial
 node::Node::round-offer-requires-clause-partial g t c =
     let k = way_down c.args.line.now.frame c.args.line.now.state c.deref_mut.result.now.mover c.deref_mut.result.now.edges.items c.as_slice.result.now c.deref_mut.result.now.grown.items c.as_slice-in-Expanded.result.now c.best_child-place.result.0 c.args.self.now c.best_child-place.ensures.place c.as_slice.ensures.value c.as_slice-in-Expanded.ensures.value (ap (λ (v : Expansion). expanded v.mover (turns_of v.edges.items) (children_of (trees_of v.edges.items v.grown.items))) c.deref_mut.ensures.value ∙ sym (ap shape c.in-Expanded.is) ∙ c.self.view_is) c.requires.undecided c.requires.partial in
     let back : c.pop.new.self ≡ c.args.line.now = search rules in
     let below = subst (λ (l : Standing). StepsBelow c.args.once (c.args.room - 1) l.frame l.state c.best_child-place.result.0 c.deref_mut.result.now.edges.items c.deref_mut.result.now.grown.items c.args.left.now c.below-step.result c.below-step.new.edges.items c.below-step.new.grown.items c.below-step.new.left) c.in-Ok.ensures.ok c.below-step.ensures.steps in
-    let steps = k.steps c.index.result.now c.turn.result c.index.ensures c.turn.ensures c.args.once c.args.room c.args.left.now c.below-step.result c.below-step.new.edges.items c.below-step.new.grown.items c.below-step.new.left (k.fits c.args.room c.requires.fits).0 below in
-    (steps_offerable c.args.once c.args.room c.args.line.now c.pop.new.self c.args.self.now c.args.left.now c.below-step.result _ c.below-step.new.left back c.requires.room c.requires.undecided c.requires.partial c.requires.fits steps).0
+    let steps = k.steps c.index.result.now c.turn.result c.index.ensures c.turn.ensures c.args.once c.args.room c.args.left.now c.below-step.result c.below-step.new.edges.items c.below-step.new.grown.items c.below-step.new.left (k.stays c.args.room c.requires.stays).0 below in
+    (steps_offerable c.args.once c.args.room c.args.line.now c.pop.new.self c.args.self.now c.args.left.now c.below-step.result _ c.below-step.new.left back c.requires.room c.requires.undecided c.requires.partial c.requires.stays steps).0
 
-pub node::Node::round-offer-requires-clause-fits : goal.node::Node::round-offer-requires-clause-fits
-node::Node::round-offer-requires-clause-fits g t c =
+pub node::Node::round-offer-requires-clause-stays : goal.node::Node::round-offer-requires-clause-stays
+node::Node::round-offer-requires-clause-stays g t c =
     let k = way_down c.args.line.now.frame c.args.line.now.state c.deref_mut.result.now.mover c.deref_mut.result.now.edges.items c.as_slice.result.now c.deref_mut.result.now.grown.items c.as_slice-in-Expanded.result.now c.best_child-place.result.0 c.args.self.now c.best_child-place.ensures.place c.as_slice.ensures.value c.as_slice-in-Expanded.ensures.value (ap (λ (v : Expansion). expanded v.mover (turns_of v.edges.items) (children_of (trees_of v.edges.items v.grown.items))) c.deref_mut.ensures.value ∙ sym (ap shape c.in-Expanded.is) ∙ c.self.view_is) c.requires.undecided c.requires.partial in
     let back : c.pop.new.self ≡ c.args.line.now = search rules in
     let below = subst (λ (l : Standing). StepsBelow c.args.once (c.args.room - 1) l.frame l.state c.best_child-place.result.0 c.deref_mut.result.now.edges.items c.deref_mut.result.now.grown.items c.args.left.now c.below-step.result c.below-step.new.edges.items c.below-step.new.grown.items c.below-step.new.left) c.in-Ok.ensures.ok c.below-step.ensures.steps in
-    let steps = k.steps c.index.result.now c.turn.result c.index.ensures c.turn.ensures c.args.once c.args.room c.args.left.now c.below-step.result c.below-step.new.edges.items c.below-step.new.grown.items c.below-step.new.left (k.fits c.args.room c.requires.fits).0 below in
-    (steps_offerable c.args.once c.args.room c.args.line.now c.pop.new.self c.args.self.now c.args.left.now c.below-step.result _ c.below-step.new.left back c.requires.room c.requires.undecided c.requires.partial c.requires.fits steps).1
+    let steps = k.steps c.index.result.now c.turn.result c.index.ensures c.turn.ensures c.args.once c.args.room c.args.left.now c.below-step.result c.below-step.new.edges.items c.below-step.new.grown.items c.below-step.new.left (k.stays c.args.room c.requires.stays).0 below in
+    (steps_offerable c.args.once c.args.room c.args.line.now c.pop.new.self c.args.self.now c.args.left.now c.below-step.result _ c.below-step.new.left back c.requires.room c.requires.undecided c.requires.partial c.requires.stays steps).1
 
 -- ---- a fresh root
 

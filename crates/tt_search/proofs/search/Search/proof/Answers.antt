@@ -4,10 +4,10 @@ use Rattle.tt_search.proofs.Ends.{is_proof}
 use Rattle.tt_search.proofs.Steps.{offerable}
 use Rattle.tt_search.proofs.search.Search.proof.Goals as goal
 
-pub proof-requires-clause-fits : goal.proof-requires-clause-fits
-proof-requires-clause-fits c = (offerable c.self.inside.line c.self.inside.limits.depth c.self.inside.root c.self.inside.limits.depth_in c.self.invariant.partial c.self.invariant.fits).1
+pub proof-requires-clause-stays : goal.proof-requires-clause-stays
+proof-requires-clause-stays c = (offerable c.self.inside.line c.self.inside.limits.depth c.self.inside.root c.self.inside.limits.depth_in c.self.invariant.partial c.self.invariant.stays).1
 
 pub returns : goal.returns
 returns c =
     let search : Searched = record { line = c.self.inside.line; limits = c.self.inside.limits; tree = c.self.inside.root } in
-    subst (λ s. IfOk c.proof.result (λ p. IsProofOf s p)) c.self.view_is (is_proof search c.in-Some.side c.proof.result c.in-Some.ensures c.self.invariant.fits c.proof.ensures.stands c.proof.ensures.side c.proof.ensures.tree)
+    subst (λ s. IfOk c.proof.result (λ p. IsProofOf s p)) c.self.view_is (is_proof search c.in-Some.side c.proof.result c.in-Some.ensures c.self.invariant.stays c.proof.ensures.stands c.proof.ensures.side c.proof.ensures.tree)
