@@ -4,3 +4,4 @@ pub mod LiftLemmas
 pub mod NearLemmas
 pub mod PlaneLemmas
 pub mod PlayLemmas
+pub mod StoneLemmas

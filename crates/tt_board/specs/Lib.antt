@@ -8,4 +8,5 @@ pub mod Chain
 pub mod ReachLaws
 pub mod Decided
 pub mod Play
+pub mod Stones
 pub mod Laws

@@ -17,6 +17,7 @@ mod fill;
 pub mod laws;
 mod near;
 mod setup;
+mod stones;
 
 pub use board::{Board, Lifeless, Occupied};
 pub use boards::Boards;

@@ -1,0 +1,26 @@
+use Rattle.std.proofs.Common.{rules, ◌*◌, ◌^◌, ◌<◌, get_or, inl, inr, arith}
+use Rattle.std.proofs.lemmas.Bool.{cases_lt, false≢true}
+use Rattle.tt_board.proofs.StoneLemmas.{covered_here, not_covered}
+use Rattle.tt_board.proofs.stones.covers.Goals as goal
+
+pub returns-then-left-ne0 : goal.returns-then-left-ne0
+returns-then-left-ne0 c =
+    let k = c.loop-k.k in
+    let ws = c.args.wanted.now in let xs = c.args.one.now in let ys = c.args.other.now in
+    let fits_w : get_or ws k 0 < 2 ^ 64 = search rules in
+    let fits_x : get_or xs k 0 < 2 ^ 64 = search rules in
+    let fits_y : get_or ys k 0 < 2 ^ 64 = search rules in (
+      λ no. absurd (false≢true no),
+      λ covered. absurd (not_covered ws xs ys k fits_x fits_y (omega arith) fits_w c.if-left-ne0.true covered),
+    )
+
+pub loop-k-preserved : goal.loop-k-preserved
+loop-k-preserved c = λ q before on.
+    let k = c.loop-k.k in
+    let xs = c.args.one.now in let ys = c.args.other.now in
+    let fits_x : get_or xs k 0 < 2 ^ 64 = search rules in
+    let fits_y : get_or ys k 0 < 2 ^ 64 = search rules in
+    elim (cases_lt q (64 * k)) [
+      | inl done ↦ c.loop-k.invariant q done on
+      | inr next ↦ covered_here c.args.wanted.now xs ys k fits_x fits_y (search rules) q (omega arith) on
+    ]

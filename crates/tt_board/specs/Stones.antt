@@ -1,0 +1,16 @@
+-- What stands on the points of a set.
+use Rattle.std.specs.Prelude.{Bool}
+use Rattle.std.specs.List.{list_any, list_all}
+use Rattle.std.specs.FinSet as set
+use Rattle.tt_board.specs.declared.Colour.{Colour}
+use Rattle.tt_board.specs.Position.{Colouring}
+use Rattle.tt_board.specs.Reach.{entry_at}
+use Rattle.tt_board.specs.Play.{Points, is_empty, is_stone_of}
+
+-- some point of the set is empty
+unfoldable pub any_empty : Points → Colouring → Bool
+any_empty s c = list_any (λ p. is_empty (entry_at c p)) (set.items s)
+
+-- a stone of this colour stands on each point of the set
+unfoldable pub all_stones_of : Points → Colouring → Colour → Bool
+all_stones_of s c k = list_all (λ p. is_stone_of (entry_at c p) k) (set.items s)

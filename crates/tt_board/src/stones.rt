@@ -1,0 +1,48 @@
+//! What stands on the points of a set, six words at a time: no board is made for it.
+
+ghost use Rattle.std.specs.Prelude.{◌≡◌, ℕ, ◌<◌, ◌↔◌, ◌||◌, true, IsTrue};
+ghost use Rattle.tt_sgf.specs.Words.{bit_in};
+
+use super::Colour;
+use super::board::Board;
+use tt_sgf::PointSet;
+
+/// Whether each bit of the first is 1 in one of the others too; it stops at the first word that has another bit.
+fn covers(wanted: &[u64; 6], one: &[u64; 6], other: &[u64; 6]) -> bool
+    ensures { IsTrue result ↔ ((q : ℕ) → q < 384 → bit_in wanted.now q ≡ true → (bit_in one.now q || bit_in other.now q) ≡ true) }
+{
+    for k in 0..6 {
+        let left = wanted[k] & !one[k] & !other[k];
+        if left != 0 {
+            return false;
+        }
+    }
+    true
+}
+
+impl Board {
+    ghost use Rattle.std.specs.FinSet as set;
+    ghost use Rattle.tt_sgf.specs.Sizes.{point_count};
+    ghost use Rattle.tt_board.specs.Stones.{any_empty, all_stones_of};
+
+    /// Whether some of these points of the board is empty.
+    pub fn has_empty(&self, points: &PointSet) -> bool
+        requires { (p : ℕ) → set.contains points.now p ≡ true → p < point_count self.now.size }
+        ensures { result ≡ any_empty points.now self.now.points }
+    {
+        let wanted = points.words_on(self.size());
+        let black = self.words(Colour::Black);
+        let white = self.words(Colour::White);
+        !covers(&wanted, &black, &white)
+    }
+
+    /// Whether stones of this colour stand on all of these points of the board.
+    pub fn has_all(&self, points: &PointSet, colour: Colour) -> bool
+        requires { (p : ℕ) → set.contains points.now p ≡ true → p < point_count self.now.size }
+        ensures { result ≡ all_stones_of points.now self.now.points colour }
+    {
+        let wanted = points.words_on(self.size());
+        let stones = self.words(colour);
+        covers(&wanted, &stones, &stones)
+    }
+}
