@@ -42,11 +42,13 @@ marks_none words none = ext_get_or false (marks_of words) (replicate 361 false) 
     let in_r : r < 361 = omega (arith, length-marks words) in
     mark_at words r in_r ∙ none r (omega arith) ∙ sym (get_or-replicate {A = Bool} 361 r false false in_r))
 
+-- while a point is unmarked there is room in the list
 pub room_left : (m : List Bool) (xs : List ℕ) (q : ℕ) → IsGrowing m xs → q < 361 → is_marked m q ≡ false → length xs < 361
 room_left m xs q g small bare =
     let fewer = unmarked_fewer m q (omega (arith, g.wide)) bare in
     omega (arith, g.room, fewer)
 
+-- the list grows by a point that was unmarked
 pub push_growing : (m : List Bool) (xs : List ℕ) (q : ℕ) → IsGrowing m xs → q < 361 → is_marked m q ≡ false → IsGrowing (set m q true) (xs ++ q ∷ [])
 push_growing m xs q g small bare =
     let fewer = unmarked_fewer m q (omega (arith, g.wide)) bare in
@@ -67,6 +69,7 @@ grown_none s c p xs = record {
   added = λ q has. inl has;
 }
 
+-- it grows by neighbours that are alike
 pub push_grown : (s : Size) (c : Colouring) (p : ℕ) (before xs : List ℕ) (q : ℕ) → IsGrown s c p before xs → IsNeighbour s p q → entry_at c q ≡ entry_at c p → IsGrown s c p before (xs ++ q ∷ [])
 push_grown s c p before xs q g near like = record {
   more = g.more ++ q ∷ [];
@@ -132,6 +135,7 @@ start_growing words after q bare_words small on others =
       ]);
     }) small bare)
 
+-- what it grew by is linked to the start
 pub linked_more : (s : Size) (c : Colouring) (start p : ℕ) (before after : List ℕ) → IsGrown s c p before after → Contains before p
     → ((q : ℕ) → Contains before q → IsLinked s c start q) → (q : ℕ) → Contains after q → IsLinked s c start q
 linked_more s c start p before after g member linked q has =
@@ -146,6 +150,7 @@ enclosed_kept s c p before after g q h r near = let k = h r near in (k.0, λ lik
 same_place : (s : Size) (c : Colouring) (p : ℕ) (before after : List ℕ) (k : ℕ) → IsGrown s c p before after → k < length before → get_or after k 0 ≡ get_or before k 0
 same_place s c p before after k g below = ap (λ xs. get_or xs k 0) g.longer ∙ get_or_append_left before g.more 0 k below
 
+-- one more of its points is enclosed
 pub enclosed_more : (s : Size) (c : Colouring) (p : ℕ) (before after : List ℕ) (i : ℕ) → IsGrown s c p before after → i < length before → get_or before i 0 ≡ p → IsEnclosed s c after p
     → ((k : ℕ) → k < i → IsEnclosed s c before (get_or before k 0)) → (k : ℕ) → k < i + 1 → IsEnclosed s c after (get_or after k 0)
 enclosed_more s c p before after i g below is here earlier k lt =
@@ -154,5 +159,6 @@ enclosed_more s c p before after i g below is here earlier k lt =
       | inr apart ↦ subst (λ x. IsEnclosed s c after x) (sym (same_place s c p before after k g (omega arith))) (enclosed_kept s c p before after g (get_or before k 0) (earlier k (omega arith)))
     ]
 
+-- once each place of the list is looked at, each of its points is enclosed
 pub enclosed_all : (s : Size) (c : Colouring) (chain : List ℕ) (i : ℕ) → length chain ≤ i → ((k : ℕ) → k < i → IsEnclosed s c chain (get_or chain k 0)) → (p : ℕ) → Contains chain p → IsEnclosed s c chain p
 enclosed_all s c chain i past each p has = subst (λ x. IsEnclosed s c chain x) (get_or_default chain has.0 0 p has.1 ∙ has.2) (each has.0 (omega (arith, has.1)))

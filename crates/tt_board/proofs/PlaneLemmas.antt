@@ -37,11 +37,13 @@ module _ (n : ℕ) (black white : List ℕ) (c : Colouring) (is : shown n black 
   pub entry_is : (p : ℕ) → p < length c → entry_at c p ≡ entry_of (bit_in black p) (bit_in white p)
   entry_is p in_c = sym (ap (λ xs. entry_at xs p) is) ∙ entry_at-shown n black white p (omega (arith, count_is))
 
+-- an entry is known by whose stone it is
 by_stones : (e : Option Colour) → entry_of (is_stone_of e Black) (is_stone_of e White) ≡ e
 by_stones None = refl
 by_stones (Some Black) = refl
 by_stones (Some White) = refl
 
+-- an entry is a stone of one colour at the most
 one_stone : (e : Option Colour) → is_stone_of e Black ≡ true → is_stone_of e White ≡ false
 one_stone None h = refl
 one_stone (Some Black) h = refl
@@ -136,6 +138,7 @@ module _ (n m : ℕ) (a b c d : List ℕ) (xs ys : Colouring) (counts : n ≡ m)
   whites_same other same q small =
       (bits_of n a b plain q small).1 ∙ ap (λ zs. is_stone_of (entry_at zs q) White) (one same) ∙ sym (bits_of m c d other q small).1
 
+-- words whose bits are the stones of a colour
 bits_handed : (words : List ℕ) (k : Colour) (c : Colouring) → length words ≡ 6 → ((p : ℕ) → p < 384 → bit_in words p ≡ is_stone_of (entry_at c p) k) → AreBitsOf words (length c) (λ p. is_stone_of (entry_at c p) k)
 bits_handed words k c wide bits = record {
   wide = wide;

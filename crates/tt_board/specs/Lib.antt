@@ -1,12 +1,15 @@
+-- What public contracts cite. `Decided` makes the test that `Play` counts and clears by, out of `Fill` and `ReachLaws`; all that
+-- is known of it is that it is true exactly where there is a path.
 pub mod Position
 pub mod Near
-pub mod Planes
-pub mod Boards
 pub mod Reach
 pub mod Fill
-pub mod Chain
 pub mod ReachLaws
 pub mod Decided
 pub mod Play
 pub mod Stones
 pub mod Laws
+-- What private contracts and proofs cite. Nobody has to believe these.
+pub mod Planes
+pub mod Boards
+pub mod Chain

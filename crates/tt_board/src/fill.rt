@@ -90,7 +90,7 @@ fn sweep_back(size: Size, points: &[Option<Colour>], wanted: Option<Colour>, mar
     ensures no_fewer { unmarked_count marks.new ≤ unmarked_count marks.old }
 {
     for k in 0..points.len() {
-        let _ = mark_next(size, points, wanted, marks, points.len() - 1 - k);
+        mark_next(size, points, wanted, marks, points.len() - 1 - k);
     }
 }
 

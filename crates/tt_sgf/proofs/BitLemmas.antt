@@ -15,6 +15,7 @@ use Rattle.tt_sgf.specs.Words.{bit_in, points_of, IsLow, AreSameBits}
 
 -- ---- bits
 
+-- a bit as the code reads it
 pub bit_is : (words : List ℕ) (n : ℕ) → eqb (bit_and (get_or words (n / 64) 0 / 2 ^ (n % 64)) 1) 1 ≡ bit_in words n
 unfolding bit_in
 bit_is words n = ap (λ (x : ℕ). eqb x 1) (shr_and_one (get_or words (n / 64) 0) (n % 64))
@@ -64,6 +65,7 @@ module _ (words : List ℕ) (n : ℕ) (within : n < 384) (wide : length words �
 
 -- ---- the same bits
 
+-- the bit of a number, at its place in its word
 same_bit : (a b : List ℕ) (q k i : ℕ) → q / 64 ≡ k → q % 64 ≡ i → bit_in a q ≡ bit_in b q → eqb (bit_at (get_or a k 0) i) 1 ≡ eqb (bit_at (get_or b k 0) i) 1
 unfolding bit_in
 same_bit a b q k i word place h = rw (← word, ← place) h
@@ -93,6 +95,7 @@ and_false false = refl
 tied : (q n : ℕ) → eq_by_cmp nat_cmp q n ≡ eqb q n
 tied q n = unsigned_tied q n
 
+-- a number is in the set where it is a point's and its bit is 1
 pub contains-points : (words : List ℕ) (q : ℕ) → set.contains (points_of words) q ≡ (ltb q 361 && bit_in words q)
 unfolding points_of
 contains-points words q = contains-passing (bit_in words) 361 q
@@ -103,6 +106,7 @@ has_point words q lt = contains-points words q ∙ rw (lt-ltb q 361 lt) refl
 same_points : (s t : set.FinSet nat_cmp) → ((q : ℕ) → set.contains s q ≡ set.contains t q) → s ≡ t
 same_points s t h = set.same_set nat_cmp_total set.nat_cmp-IsAntisymmetric s t h
 
+-- one more bit is one more point
 pub points-with : (words made : List ℕ) (p : ℕ) → p < 361 → bit_in made p ≡ true → ((q : ℕ) → q < 384 → (q ≡ p → ⊥) → bit_in made q ≡ bit_in words q) → points_of made ≡ set.insert (points_of words) p
 points-with words made p lt same others = same_points _ _ (λ q.
     contains-points made q ∙ sym (set.contains-insert nat_cmp_total (points_of words) p q ∙ rw (tied q p, contains-points words q) (elim (cases_eq q p) [
@@ -133,6 +137,7 @@ pub len-points : (words : List ℕ) → set.len (points_of words) ≡ set.len (p
 unfolding points_of
 len-points words = refl
 
+-- no point is in a set without bits
 pub points-empty : (words : List ℕ) → ((q : ℕ) → q < 361 → bit_in words q ≡ false) → points_of words ≡ set.empty
 points-empty words h = same_points _ _ (λ q. contains-points words q ∙ elim (cases_lt q 361) [
   | inl below ↦ rw (h q below) (and_false (ltb q 361))
@@ -154,6 +159,7 @@ least_is s (Some p) h = (
 
 -- ---- word by word
 
+-- a bit of the lesser of two is 1 where both are
 two_bits : (x y : ℕ) → x < 2 → y < 2 → eqb (min x y) 1 ≡ (eqb x 1 && eqb y 1)
 two_bits zero zero h k = refl
 two_bits zero (suc zero) h k = refl
@@ -163,6 +169,7 @@ two_bits (suc (suc x)) y h k = absurd (omega arith)
 two_bits zero (suc (suc y)) h k = absurd (omega arith)
 two_bits (suc zero) (suc (suc y)) h k = absurd (omega arith)
 
+-- a bit of the greater of two is 1 where one is
 two_bits_or : (x y : ℕ) → x < 2 → y < 2 → eqb (max x y) 1 ≡ (eqb x 1 || eqb y 1)
 two_bits_or zero zero h k = refl
 two_bits_or zero (suc zero) h k = refl
@@ -240,6 +247,7 @@ module _ (made a b : List ℕ) where
 
 -- ---- the lowest bits, and the first one
 
+-- a mask of ones leaves the lowest bits
 pub low_mask : (word count : ℕ) → count < 64 → IsLow (bit_and word (1 * 2 ^ count % 2 ^ 64 - 1)) word count
 low_mask word count few = λ i small.
     let mask : bit_at (bit_and word (1 * 2 ^ count % 2 ^ 64 - 1)) i ≡ min (bit_at word i) (bit_at (2 ^ count - 1) i) =
@@ -292,6 +300,7 @@ module _ (words : List ℕ) (n : ℕ) (lt : n < 384) where
   none_here rest is none q after before =
       rest_bit rest is q after (omega arith) ∙ ap (λ x. eqb (bit_at x (q - n)) 1) none ∙ ap (λ x. eqb x 1) (bit_at-zero (q - n))
 
+-- a number is not in the set where its bit is 0
 pub no_point : (words : List ℕ) (q : ℕ) → (q < 361 → bit_in words q ≡ false) → set.contains (points_of words) q ≡ false
 no_point words q h = contains-points words q ∙ elim (cases_lt q 361) [
   | inl below ↦ rw (h below) (and_false (ltb q 361))

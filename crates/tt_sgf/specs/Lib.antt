@@ -1,9 +1,11 @@
+-- What public contracts cite.
 pub mod Grammar
 pub mod Values
 pub mod Sizes
-pub mod SizeLaws
 pub mod Points
-pub mod PointLaws
 pub mod Entries
-pub mod Reading
 pub mod Words
+-- What private contracts and proofs cite, here and in the crates above. Nobody has to believe these.
+pub mod Reading
+pub mod SizeLaws
+pub mod PointLaws

@@ -1,4 +1,4 @@
--- Laws of the sets of points: which numbers pass.
+-- Laws of the sets of points: which numbers pass. Proofs alone cite these, here and in the crates above.
 use Rattle.std.proofs.Common.{◌≡◌, ℕ, zero, suc, ◌≢◌, Bool, true, false, ◌&&◌, eqb, ltb, refl, sym, ap, ◌∙◌, inl, inr, arith}
 use Rattle.std.proofs.lemmas.Bool.{cases_Bool, cases_lt, cases_eq, eq-eqb, ne_eqb, lt-ltb, le-ltb}
 use Rattle.std.specs.Cmp.{nat_cmp_total, unsigned_tied}

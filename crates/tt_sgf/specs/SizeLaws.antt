@@ -1,4 +1,4 @@
--- Laws of sizes: their columns and rows are all that they are.
+-- Laws of sizes: their columns and rows are all that they are. Proofs alone cite these, here and in the crates above.
 use Rattle.std.proofs.Common.{◌≡◌, ◌≤◌, ℕ, Some, None, inl, inr, refl, sym, ap, subst}
 use Rattle.std.proofs.lemmas.Option.{same_Some}
 use Rattle.std.proofs.Math.Bridge.{le_prop}

@@ -1,4 +1,4 @@
--- Bits in words, as a set of points keeps them and hands them out.
+-- Bits in words, as sets of points and colourings keep them and hand them out.
 use Rattle.std.specs.Prelude.{◌≡◌, ℕ, ◌/◌, ◌%◌, ◌<◌, ◌≤◌, Bool, false, List, length, ◌==◌}
 use Rattle.std.specs.List.{slice_index}
 use Rattle.std.specs.Int.{bit_at}

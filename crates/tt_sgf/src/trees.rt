@@ -26,13 +26,10 @@ enum Event {
 fn next_event(alloc: Global, bytes: &[u8]) -> Result<(Event, &[u8]), SgfFault>
     ensures { Gives (λ x. (x.0, x.1.now)) result (event_at bytes.now) }
 {
-    let Some((first, after)) = skip_blanks(bytes).split_first() else {
-        return Err(SgfFault::Syntax);
-    };
-    match *first {
-        b'(' => Ok((Event::Open, after)),
-        b')' => Ok((Event::Close, after)),
-        b';' => {
+    match skip_blanks(bytes) {
+        [b'(', after @ ..] => Ok((Event::Open, after)),
+        [b')', after @ ..] => Ok((Event::Close, after)),
+        [b';', after @ ..] => {
             let (properties, rest) = properties(alloc, after)?;
             Ok((
                 Event::Item(Node {
