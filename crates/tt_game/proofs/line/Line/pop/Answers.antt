@@ -14,7 +14,7 @@ invariant_of-self-in-Some-UndoPlay c =
     record {
       some_colouring = un.0;
       sizes = sizes_front old new b.0 c.self.inside.frame.size b.1 c.self.invariant.sizes;
-      target = c.self.invariant.target;
+      targets = c.self.invariant.targets;
       passes = un.1;
       undoable = un.2;
     }
