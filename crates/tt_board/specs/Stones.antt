@@ -1,11 +1,17 @@
 -- What stands on the points of a set.
-use Rattle.std.specs.Prelude.{Bool}
+use Rattle.std.specs.Prelude.{◌≡◌, ℕ, ◌<◌, Bool, true}
 use Rattle.std.specs.List.{list_any, list_all}
 use Rattle.std.specs.FinSet as set
+use Rattle.tt_sgf.specs.declared.size.Size.{Size}
+use Rattle.tt_sgf.specs.Sizes.{point_count}
 use Rattle.tt_board.specs.declared.Colour.{Colour}
 use Rattle.tt_board.specs.Position.{Colouring}
 use Rattle.tt_board.specs.Reach.{entry_at}
 use Rattle.tt_board.specs.Play.{Points, is_empty, is_stone_of}
+
+-- all points of the set are on a board of this size
+abbrev pub LiesOn : Size → Points → Type 0
+LiesOn size s = (p : ℕ) → set.contains s p ≡ true → p < point_count size
 
 -- some point of the set is empty
 unfoldable pub any_empty : Points → Colouring → Bool

@@ -21,13 +21,11 @@ fn covers(wanted: &[u64; 6], one: &[u64; 6], other: &[u64; 6]) -> bool
 }
 
 impl Board {
-    ghost use Rattle.std.specs.FinSet as set;
-    ghost use Rattle.tt_sgf.specs.Sizes.{point_count};
-    ghost use Rattle.tt_board.specs.Stones.{any_empty, all_stones_of};
+    ghost use Rattle.tt_board.specs.Stones.{LiesOn, any_empty, all_stones_of};
 
     /// Whether some of these points of the board is empty.
     pub fn has_empty(&self, points: &PointSet) -> bool
-        requires { (p : ℕ) → set.contains points.now p ≡ true → p < point_count self.now.size }
+        requires { LiesOn self.now.size points.now }
         ensures { result ≡ any_empty points.now self.now.points }
     {
         let wanted = points.words_on(self.size());
@@ -38,7 +36,7 @@ impl Board {
 
     /// Whether stones of this colour stand on all of these points of the board.
     pub fn has_all(&self, points: &PointSet, colour: Colour) -> bool
-        requires { (p : ℕ) → set.contains points.now p ≡ true → p < point_count self.now.size }
+        requires { LiesOn self.now.size points.now }
         ensures { result ≡ all_stones_of points.now self.now.points colour }
     {
         let wanted = points.words_on(self.size());

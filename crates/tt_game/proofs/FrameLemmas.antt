@@ -40,9 +40,10 @@ nothing_left s t e =
     ∙ ap (λ (u : set.FinSet nat_cmp). set.len u) (set.same_set nat_cmp_total set.nat_cmp-IsAntisymmetric (set.difference s s) set.empty (λ q. set.contains-difference nat_cmp_total s s q ∙ nothing (set.contains s q) ∙ sym (set.contains-empty nat_cmp q)))
     ∙ set.len-empty nat_cmp
 
-pub same_frames : (f g : Frame) → f.size ≡ g.size → f.region ≡ g.region → f.target ≡ g.target → f.defender ≡ g.defender → f ≡ g
+-- frames with the same parts are one
+pub same_frames : (f g : Frame) → f.size ≡ g.size → f.region ≡ g.region → f.targets ≡ g.targets → f.defender ≡ g.defender → f ≡ g
 same_frames f g a b c d =
-    ap (λ (x : Size). let h : Frame = record { size = x; region = f.region; target = f.target; defender = f.defender } in h) a
-    ∙ ap (λ (x : set.FinSet nat_cmp). let h : Frame = record { size = g.size; region = x; target = f.target; defender = f.defender } in h) b
-    ∙ ap (λ (x : ℕ). let h : Frame = record { size = g.size; region = g.region; target = x; defender = f.defender } in h) c
-    ∙ ap (λ (x : Colour). let h : Frame = record { size = g.size; region = g.region; target = g.target; defender = x } in h) d
+    ap (λ (x : Size). let h : Frame = record { size = x; region = f.region; targets = f.targets; defender = f.defender } in h) a
+    ∙ ap (λ (x : set.FinSet nat_cmp). let h : Frame = record { size = g.size; region = x; targets = f.targets; defender = f.defender } in h) b
+    ∙ ap (λ (x : set.FinSet nat_cmp). let h : Frame = record { size = g.size; region = g.region; targets = x; defender = f.defender } in h) c
+    ∙ ap (λ (x : Colour). let h : Frame = record { size = g.size; region = g.region; targets = g.targets; defender = x } in h) d

@@ -1,11 +1,12 @@
--- Nobody has won at a problem: its target has a stone, and no pass was made.
-use Rattle.std.proofs.Common.{◌≡◌, ◌⊎◌, ℕ, List, [], ◌∷◌, inl, inr, Bool, true, false, Option, Some, None, Ok, Err, refl, ap, subst, cond, if◌then◌else◌, ◌==◌, nat_le}
+-- Nobody has won at a problem: each target has a stone, and no pass was made.
+use Rattle.std.proofs.Common.{◌≡◌, ◌⊎◌, List, [], ◌∷◌, inl, inr, Bool, true, false, Option, Some, None, Ok, Err, refl, ap, subst, cond, if◌then◌else◌, ◌==◌, nat_eq, sym, ◌∙◌}
+use Rattle.std.proofs.lemmas.Bool.{cases_Bool, cond-true, cond-false}
 use Rattle.std.specs.declared.result.Result.{Result}
 use Rattle.std.specs.FinSet as set
 use Rattle.tt_sgf.specs.declared.nodes.Node.{Node}
 use Rattle.tt_board.specs.declared.Colour.{Colour}
-use Rattle.tt_board.specs.Reach.{entry_at}
-use Rattle.tt_board.specs.Play.{Points, is_empty}
+use Rattle.tt_board.specs.Play.{Points}
+use Rattle.tt_board.specs.Stones.{any_empty}
 use Rattle.tt_game.specs.declared.faults.GameFault.{GameFault}
 use Rattle.tt_game.specs.declared.frame.Side.TheVariants.{Attacker, Defender}
 use Rattle.tt_game.specs.declared.records.Replay.{Replay}
@@ -13,7 +14,7 @@ use Rattle.tt_game.specs.Game.{winner_of}
 use Rattle.tt_game.specs.Games.{Played}
 use Rattle.tt_game.specs.Line.{Standing}
 use Rattle.tt_game.specs.Nodes.{TR, has, set_named}
-use Rattle.tt_game.specs.Problems.{least_from, posed, problem_at, problem_of, problem_on, problem_with, region_of, run_to_mark}
+use Rattle.tt_game.specs.Problems.{common_colour, posed, problem_at, problem_of, problem_on, problem_with, region_of, run_to_mark}
 use Rattle.tt_game.specs.Records.{and_then, begin_line, step_node}
 
 -- nobody has won at it
@@ -28,25 +29,27 @@ pub either : {A : Type 0} (b : Bool) (x y z : A) → cond b x y ≡ z → (x ≡
 either true x y z e = inl e
 either false x y z e = inr e
 
-open_with : (s : Played) (region : Points) (p : ℕ) (o : Option Colour) (q : Standing) → entry_at s.present p ≡ o → problem_with s region p o ≡ Ok q → IsOpen q
-open_with s region p None q e h = let bad : Err _ ≡ Ok q = h in cc
-open_with s region p (Some k) q e h =
-    let same : posed s region p k ≡ q = cc in
-    let won : winner_of (posed s region p k).frame (posed s region p k).state ≡ None =
-    ap (λ (x : Option Colour). if is_empty x then Some Attacker else (if 0 == 2 then Some Defender else None)) e in
+open_with : (s : Played) (region targets : Points) (o : Option Colour) (q : Standing) → any_empty targets s.present ≡ false → problem_with s region targets o ≡ Ok q → IsOpen q
+open_with s region targets None q full h = let bad : Err _ ≡ Ok q = h in cc
+open_with s region targets (Some k) q full h =
+    let same : posed s region targets k ≡ q = cc in
+    let won : winner_of (posed s region targets k).frame (posed s region targets k).state ≡ None =
+    ap (λ (b : Bool). if b then Some Attacker else (if 0 == 2 then Some Defender else None)) full in
     subst IsOpen same won
 
-open_on : (s : Played) (region : Points) (o : Option ℕ) (q : Standing) → problem_on s region o ≡ Ok q → IsOpen q
-open_on s region None q h = let bad : Err _ ≡ Ok q = h in cc
-open_on s region (Some p) q h = open_with s region p (entry_at s.present p) q refl h
-
-open_at : (s : Played) (marks region : Option Points) (q : Standing) → problem_at s marks region ≡ Ok q → IsOpen q
-open_at s None region q h = let bad : Err _ ≡ Ok q = h in cc
-open_at s (Some marks) None q h = let bad : Err _ ≡ Ok q = h in cc
-open_at s (Some marks) (Some region) q h = elim (either (nat_le 2 (set.len marks)) _ _ _ h) [
-  | inl e ↦ let bad : Err _ ≡ Ok q = e in cc
-  | inr e ↦ open_on s region (least_from marks 361 0) q e
+open_on : (s : Played) (region targets : Points) (q : Standing) → problem_on s region targets ≡ Ok q → IsOpen q
+open_on s region targets q h = elim (either (nat_eq (set.len targets) 0) _ _ _ h) [
+  | inl none ↦ let bad : Err _ ≡ Ok q = none in cc
+  | inr some ↦ elim (cases_Bool (any_empty targets s.present)) [
+    | inl bare ↦ let bad : Err _ ≡ Ok q = sym (cond-true _ _ _ bare) ∙ some in cc
+    | inr full ↦ open_with s region targets (common_colour targets s.present) q full (sym (cond-false _ _ _ full) ∙ some)
+  ]
 ]
+
+open_at : (s : Played) (targets region : Option Points) (q : Standing) → problem_at s targets region ≡ Ok q → IsOpen q
+open_at s None region q h = let bad : Err _ ≡ Ok q = h in cc
+open_at s (Some targets) None q h = let bad : Err _ ≡ Ok q = h in cc
+open_at s (Some targets) (Some region) q h = open_on s region targets q h
 
 open_nodes : (r : Replay) (ns : List Node) (q : Standing) → run_to_mark r ns ≡ Ok q → IsOpen q
 unfolding run_to_mark

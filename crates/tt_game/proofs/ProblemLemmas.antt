@@ -1,9 +1,9 @@
 -- Targets, and the nodes up to the first that marks one.
-use Rattle.std.proofs.Common.{◌≡◌, ℕ, zero, suc, ◌+◌, ◌*◌, ◌<◌, ◌≤◌, ltb, true, false, cond, List, [], ◌∷◌, Option, Some, None, Ok, Err, refl, sym, ap, ◌∙◌, inl, inr, arith}
+use Rattle.std.proofs.Common.{◌≡◌, ℕ, ◌*◌, ◌<◌, ltb, true, false, cond, List, [], ◌∷◌, Option, Some, None, Ok, Err, refl, sym, ap, ◌∙◌, inl, inr}
 use Rattle.std.specs.List.{list_any, list_all}
 use Rattle.std.specs.FinSet as set
 use Rattle.std.specs.Ordering.{nat_cmp}
-use Rattle.std.proofs.lemmas.Bool.{cases_Bool, cases_eq, and_parts, or_cases, false≢true, ltb-true}
+use Rattle.std.proofs.lemmas.Bool.{cases_Bool, and_parts, or_cases, false≢true, ltb-true}
 use Rattle.std.proofs.lemmas.Option.{none-some}
 use Rattle.tt_sgf.specs.declared.size.Size.{Size}
 use Rattle.tt_sgf.specs.declared.nodes.Node.{Node}
@@ -17,7 +17,7 @@ use Rattle.tt_game.specs.declared.faults.GameFault.TheVariants.{NoTarget}
 use Rattle.tt_game.specs.declared.records.Replay.{Replay}
 use Rattle.tt_game.specs.Nodes.{TR, has, set_named}
 use Rattle.tt_game.specs.Records.{and_then, step_node}
-use Rattle.tt_game.specs.Problems.{least_from, region_of, problem_at, run_to_mark}
+use Rattle.tt_game.specs.Problems.{region_of, problem_at, run_to_mark}
 
 covered_on : (size : Size) (e : Option _) (q : ℕ) → covers_by size e q ≡ true → q < point_count size
 covered_on size None q h = absurd (false≢true h)
@@ -40,28 +40,6 @@ set_on_board size vs s q e h = elim (cases_Bool (list_all (is_entry size) vs)) [
       let same : s ≡ passing (λ p. list_any (λ v. covers size v p) vs) 361 = cc in
       any_on size vs q (and_parts (ltb q 361) _ (sym (contains-passing (λ p. list_any (λ v. covers size v p) vs) 361 q) ∙ ap (λ (t : set.FinSet nat_cmp). set.contains t q) (sym same) ∙ h)).1
 ]
-
-least_at : (s : set.FinSet nat_cmp) (p left n : ℕ) → set.contains s p ≡ true → ((q : ℕ) → set.contains s q ≡ true → p ≤ q) → n ≤ p → p < n + left → least_from s left n ≡ Some p
-unfolding least_from
-least_at s p zero n has least le lt = absurd (omega arith)
-least_at s p (suc left) n has least le lt = elim (cases_eq n p) [
-  | inl e ↦ ap (λ b. cond b (Some n) (least_from s left (n + 1))) (ap (λ q. set.contains s q) e ∙ has) ∙ ap (λ q. Some q) e
-  | inr d ↦ elim (cases_Bool (set.contains s n)) [
-    | inl on ↦ absurd (omega (arith, least n on))
-    | inr off ↦ ap (λ b. cond b (Some n) (least_from s left (n + 1))) off ∙ least_at s p left (n + 1) has least (omega arith) (omega arith)
-  ]
-]
-
-pub least_is : (s : set.FinSet nat_cmp) (p : ℕ) → set.contains s p ≡ true → ((q : ℕ) → set.contains s q ≡ true → p ≤ q) → p < 361 → Some p ≡ least_from s 361 0
-least_is s p has least lt = sym (least_at s p 361 0 has least (omega arith) (omega arith))
-
-nothing : (s : set.FinSet nat_cmp) (left n : ℕ) → s ≡ set.empty → least_from s left n ≡ None
-unfolding least_from
-nothing s zero n e = refl
-nothing s (suc left) n e = ap (λ b. cond b (Some n) (least_from s left (n + 1))) (ap (λ (t : set.FinSet nat_cmp). set.contains t n) e ∙ set.contains-empty nat_cmp n) ∙ nothing s left (n + 1) e
-
-pub least_none : (s : set.FinSet nat_cmp) → s ≡ set.empty → None ≡ least_from s 361 0
-least_none s e = sym (nothing s 361 0 e)
 
 pub mark-nil : (s : Replay) → run_to_mark s [] ≡ Err NoTarget
 unfolding run_to_mark

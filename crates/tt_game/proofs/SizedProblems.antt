@@ -1,5 +1,5 @@
 -- The colourings of a problem fit its board, and no pass was made.
-use Rattle.std.proofs.Common.{◌≡◌, ℕ, ◌+◌, List, [], ◌∷◌, length, inl, inr, Option, Some, None, Ok, Err, subst, ◌==◌, ◌&&◌, nat_le, arith}
+use Rattle.std.proofs.Common.{◌≡◌, ℕ, ◌+◌, List, [], ◌∷◌, length, inl, inr, Option, Some, None, Ok, Err, subst, ◌==◌, ◌&&◌, nat_eq, nat_le, arith}
 use Rattle.std.specs.Prelude.{All, replicate}
 use Rattle.std.specs.FinSet as set
 use Rattle.std.proofs.lemmas.List.{length-replicate}
@@ -12,8 +12,8 @@ use Rattle.tt_sgf.specs.Values.{point_of, trimmed}
 use Rattle.tt_board.specs.declared.Colour.{Colour}
 use Rattle.tt_board.specs.declared.Colour.TheVariants.{Black, White}
 use Rattle.tt_board.specs.Position.{Colouring}
-use Rattle.tt_board.specs.Reach.{entry_at}
 use Rattle.tt_board.specs.Play.{Points, length-placed, length-play_of, placed, same_colour}
+use Rattle.tt_board.specs.Stones.{any_empty}
 use Rattle.tt_game.specs.declared.faults.Why.{Why}
 use Rattle.tt_game.specs.declared.records.Replay.{Replay}
 use Rattle.tt_game.specs.declared.turns.Turn.{Turn}
@@ -22,7 +22,7 @@ use Rattle.tt_game.specs.Games.{Played, all_of, begun_with, empty_game, made_by,
 use Rattle.tt_game.specs.Laws.{IsState, ProblemsAreStates}
 use Rattle.tt_game.specs.Line.{Standing}
 use Rattle.tt_game.specs.Nodes.{AB, AE, AW, B, GM, PL, SZ, TR, W, apart, colour_named, has, is_go, is_setup, moves_in, set_named, size_named, values_of}
-use Rattle.tt_game.specs.Problems.{least_from, posed, problem_at, problem_of, problem_on, problem_with, region_of, run_to_mark}
+use Rattle.tt_game.specs.Problems.{common_colour, posed, problem_at, problem_of, problem_on, problem_with, region_of, run_to_mark}
 use Rattle.tt_game.specs.Records.{all_alive, as_turn, begin_at, begin_line, begin_node, begun, go_on, move_of, set_up_by, step_node, turn_by, turn_named, turn_of}
 use Rattle.tt_game.proofs.OpenProblems.{either, step_made}
 
@@ -126,23 +126,25 @@ sized_begin (n ∷ ns) q e = elim (either (is_go (values_of GM n.properties)) _ 
 abbrev IsStanding : Standing → Type 0
 IsStanding p = IsState p.frame p.state
 
-state_with : (s : Played) (region : Points) (p : ℕ) (o : Option Colour) (q : Standing) → problem_with s region p o ≡ Ok q → IsSized s → IsStanding q
-state_with s region p None q e h = let bad : Err _ ≡ Ok q = e in cc
-state_with s region p (Some k) q e h =
-    let same : posed s region p k ≡ q = cc in
+state_with : (s : Played) (region targets : Points) (o : Option Colour) (q : Standing) → problem_with s region targets o ≡ Ok q → IsSized s → IsStanding q
+state_with s region targets None q e h = let bad : Err _ ≡ Ok q = e in cc
+state_with s region targets (Some k) q e h =
+    let same : posed s region targets k ≡ q = cc in
     subst IsStanding same (record { sized = h; passes = omega arith })
 
-state_on : (s : Played) (region : Points) (o : Option ℕ) (q : Standing) → problem_on s region o ≡ Ok q → IsSized s → IsStanding q
-state_on s region None q e h = let bad : Err _ ≡ Ok q = e in cc
-state_on s region (Some p) q e h = state_with s region p (entry_at s.present p) q e h
-
-state_at : (s : Played) (marks region : Option Points) (q : Standing) → problem_at s marks region ≡ Ok q → IsSized s → IsStanding q
-state_at s None region q e h = let bad : Err _ ≡ Ok q = e in cc
-state_at s (Some marks) None q e h = let bad : Err _ ≡ Ok q = e in cc
-state_at s (Some marks) (Some region) q e h = elim (either (nat_le 2 (set.len marks)) _ _ _ e) [
-  | inl several ↦ let bad : Err _ ≡ Ok q = several in cc
-  | inr one ↦ state_on s region (least_from marks 361 0) q one h
+state_on : (s : Played) (region targets : Points) (q : Standing) → problem_on s region targets ≡ Ok q → IsSized s → IsStanding q
+state_on s region targets q e h = elim (either (nat_eq (set.len targets) 0) _ _ _ e) [
+  | inl none ↦ let bad : Err _ ≡ Ok q = none in cc
+  | inr some ↦ elim (either (any_empty targets s.present) _ _ _ some) [
+    | inl bare ↦ let bad : Err _ ≡ Ok q = bare in cc
+    | inr full ↦ state_with s region targets (common_colour targets s.present) q full h
+  ]
 ]
+
+state_at : (s : Played) (targets region : Option Points) (q : Standing) → problem_at s targets region ≡ Ok q → IsSized s → IsStanding q
+state_at s None region q e h = let bad : Err _ ≡ Ok q = e in cc
+state_at s (Some targets) None q e h = let bad : Err _ ≡ Ok q = e in cc
+state_at s (Some targets) (Some region) q e h = state_on s region targets q e h
 
 state_nodes : (r : Replay) (ns : List Node) (q : Standing) → run_to_mark r ns ≡ Ok q → IsSized r.game → IsStanding q
 unfolding run_to_mark

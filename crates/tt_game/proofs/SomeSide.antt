@@ -5,8 +5,8 @@ use Rattle.std.proofs.lemmas.Option.{none-some}
 use Rattle.std.proofs.lemmas.List.{length_push}
 use Rattle.std.proofs.lemmas.List.Elements.{Contains-push, Contains-append_left, All-push, All-get_or, Contains-get_or}
 use Rattle.tt_board.specs.declared.Colour.{Colour}
-use Rattle.tt_board.specs.Reach.{entry_at}
-use Rattle.tt_board.specs.Play.{length-play_of, is_empty}
+use Rattle.tt_board.specs.Play.{length-play_of}
+use Rattle.tt_board.specs.Stones.{any_empty}
 use Rattle.tt_sgf.specs.Sizes.{point_count}
 use Rattle.tt_game.specs.declared.frame.Side.{Side}
 use Rattle.tt_game.specs.declared.frame.Side.TheVariants.{Attacker, Defender}
@@ -37,7 +37,7 @@ some_old h x n fits has =
 
 -- who has won is known, and nobody only before the second pass
 won : (f : Frame) (s : State) → ((w : Side) × (winner_of f s ≡ Some w)) ⊎ ((winner_of f s ≡ None) × (s.passes ≢ 2))
-won f s = elim (cases_Bool (is_empty (entry_at s.present f.target))) [
+won f s = elim (cases_Bool (any_empty f.targets s.present)) [
   | inl dead ↦ inl (Attacker, cond-true _ _ _ dead)
   | inr alive ↦ elim (cases_eq s.passes 2) [
     | inl two ↦ inl (Defender, cond-false _ _ _ alive ∙ cond-true _ _ _ (Rattle.std.proofs.lemmas.Bool.eq-eqb s.passes 2 two))

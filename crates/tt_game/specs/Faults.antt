@@ -1,7 +1,7 @@
 -- The numbers of refusals.
 use Rattle.std.specs.Prelude.{ℕ}
 use Rattle.tt_game.specs.declared.faults.GameFault.{GameFault}
-use Rattle.tt_game.specs.declared.faults.GameFault.TheVariants.{NotGo, BadSize, BadValue, PointTwice, MixedNode, LifelessStone, OccupiedPoint, RepeatedBoard, AfterEnd, TooManyTurns, NoTarget, SeveralTargets, EmptyTarget, NoMemory}
+use Rattle.tt_game.specs.declared.faults.GameFault.TheVariants.{NotGo, BadSize, BadValue, PointTwice, MixedNode, LifelessStone, OccupiedPoint, RepeatedBoard, AfterEnd, TooManyTurns, NoTarget, EmptyTarget, MixedTargets, NoMemory}
 
 abbrev pub code_of : GameFault → ℕ
 code_of NotGo = 10
@@ -15,6 +15,6 @@ code_of RepeatedBoard = 17
 code_of AfterEnd = 18
 code_of TooManyTurns = 19
 code_of NoTarget = 20
-code_of SeveralTargets = 21
 code_of EmptyTarget = 22
+code_of MixedTargets = 23
 code_of NoMemory = 40

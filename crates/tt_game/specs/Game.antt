@@ -1,11 +1,12 @@
 -- The game of a problem: states, legal turns, who has won, and what a side can force. Turns, superko and the end by two
--- passes are those of the Tromp-Taylor rules; the region and the target are the problem's.
+-- passes are those of the Tromp-Taylor rules; the region and the targets are the problem's.
 use Rattle.std.specs.Prelude.{◌≡◌, ℕ, zero, suc, ◌+◌, ◌<◌, ◌⊎◌, List, [], ◌∷◌, ◌++◌, Contains, Option, Some, None, IsTrue, if◌then◌else◌, ◌==◌}
 use Rattle.std.specs.FinSet as set
 use Rattle.tt_board.specs.declared.Colour.{Colour}
 use Rattle.tt_board.specs.Position.{Colouring}
 use Rattle.tt_board.specs.Reach.{entry_at}
-use Rattle.tt_board.specs.Play.{play_of, other, is_empty}
+use Rattle.tt_board.specs.Play.{play_of, other}
+use Rattle.tt_board.specs.Stones.{any_empty}
 use Rattle.tt_sgf.specs.Sizes.{point_count}
 use Rattle.tt_game.specs.declared.frame.Side.{Side}
 use Rattle.tt_game.specs.declared.frame.Side.TheVariants.{Attacker, Defender}
@@ -28,15 +29,17 @@ abbrev pub opponent : Side → Side
 opponent Attacker = Defender
 opponent Defender = Attacker
 
--- the target's stone is the defender's
+-- the targets' stones are the defender's
 abbrev pub colour_of : Frame → Side → Colour
 colour_of f Attacker = other f.defender
 colour_of f Defender = f.defender
 
--- the attacker has won where the target is empty, whoever emptied it; else the defender has after two passes in a row
+-- the attacker has won where some target is empty, whoever emptied it; else the defender has after two passes in a row
+abbrev pub winner_on : Frame → Colouring → ℕ → Option Side
+winner_on f c passes = if any_empty f.targets c then Some Attacker else (if passes == 2 then Some Defender else None)
+
 abbrev pub winner_of : Frame → State → Option Side
-winner_of f s =
-    if is_empty (entry_at s.present f.target) then Some Attacker else (if s.passes == 2 then Some Defender else None)
+winner_of f s = winner_on f s.present s.passes
 
 -- the colouring that a play of the side to move on p makes
 abbrev pub made : Frame → State → ℕ → Colouring

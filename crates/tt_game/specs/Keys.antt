@@ -33,7 +33,7 @@ unfoldable pub key_of : Frame → State → Key
 key_of f s = record {
   size = f.size;
   region = packed f.size (λ p. set.contains f.region p);
-  target = f.target;
+  targets = packed f.size (λ p. set.contains f.targets p);
   defender = f.defender;
   black = packed f.size (λ p. is_stone_of (entry_at s.present p) Black);
   white = packed f.size (λ p. is_stone_of (entry_at s.present p) White);
@@ -45,7 +45,7 @@ key_of f s = record {
 pub record LookAlike (f g : Frame) (s t : State) : Type 0 where
   pub size : f.size ≡ g.size
   pub region : (p : ℕ) → p < point_count f.size → set.contains f.region p ≡ set.contains g.region p
-  pub target : f.target ≡ g.target
+  pub targets : (p : ℕ) → p < point_count f.size → set.contains f.targets p ≡ set.contains g.targets p
   pub defender : f.defender ≡ g.defender
   pub colouring : (p : ℕ) → p < point_count f.size → entry_at s.present p ≡ entry_at t.present p
   pub to_move : s.to_move ≡ t.to_move

@@ -5,6 +5,7 @@ pub mod Legality
 pub mod Turns
 pub mod TurnLaws
 pub mod Keys
+pub mod KeyLaws
 pub mod Laws
 pub mod Line
 pub mod Undoing

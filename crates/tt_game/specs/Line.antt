@@ -1,7 +1,8 @@
 -- Lines: a frame, a state, and what pops lead back to. Why a turn is refused, and what a push does.
-use Rattle.std.specs.Prelude.{◌≡◌, ◌≢◌, List, ◌∷◌, None, IsTrue}
+use Rattle.std.specs.Prelude.{◌≡◌, ◌≢◌, ◌<◌, List, ◌∷◌, None, IsTrue}
 use Rattle.std.specs.FinSet as set
 use Rattle.tt_board.specs.Reach.{entry_at}
+use Rattle.tt_board.specs.Stones.{LiesOn}
 use Rattle.tt_game.specs.declared.faults.Why.{Why}
 use Rattle.tt_game.specs.declared.faults.Why.TheVariants.{Over, Occupied, Outside, Repeats}
 use Rattle.tt_game.specs.declared.faults.Refused.{Refused}
@@ -11,6 +12,10 @@ use Rattle.tt_game.specs.declared.turns.Turn.{Turn}
 use Rattle.tt_game.specs.declared.turns.Turn.TheVariants.{Play, Pass}
 use Rattle.tt_game.specs.Course.{HasBeen}
 use Rattle.tt_game.specs.Game.{State, history, winner_of, made, IsLegal, after}
+
+-- a problem has some target, and all are on its board
+abbrev pub HasTargets : Frame → Type 0
+HasTargets f = (0 < set.len f.targets) × LiesOn f.size f.targets
 
 -- a frame, a state, and the states before the pushes that may be undone, the last one first
 pub record Standing : Type 0 where

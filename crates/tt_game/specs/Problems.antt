@@ -1,5 +1,5 @@
--- Problems: a main line up to the first node that marks a target by TR, with the region by SQ (SGF FF[4]).
-use Rattle.std.specs.Prelude.{ℕ, zero, suc, ◌+◌, nat_le, cond, List, [], ◌∷◌, Option, Some, None, Ok, Err, true}
+-- Problems: a main line up to the first node that marks targets by TR, with the region by SQ (SGF FF[4]).
+use Rattle.std.specs.Prelude.{nat_eq, cond, List, [], ◌∷◌, Option, Some, None, Ok, Err, true, if◌then◌else◌}
 use Rattle.std.specs.declared.result.Result.{Result}
 use Rattle.std.specs.FinSet as set
 use Rattle.tt_sgf.specs.declared.size.Size.{Size}
@@ -7,10 +7,12 @@ use Rattle.tt_sgf.specs.declared.nodes.Node.{Node}
 use Rattle.tt_sgf.specs.Sizes.{point_count}
 use Rattle.tt_sgf.specs.Points.{passing}
 use Rattle.tt_board.specs.declared.Colour.{Colour}
-use Rattle.tt_board.specs.Reach.{entry_at}
+use Rattle.tt_board.specs.declared.Colour.TheVariants.{Black, White}
+use Rattle.tt_board.specs.Position.{Colouring}
 use Rattle.tt_board.specs.Play.{Points, same_colour}
+use Rattle.tt_board.specs.Stones.{any_empty, all_stones_of}
 use Rattle.tt_game.specs.declared.faults.GameFault.{GameFault}
-use Rattle.tt_game.specs.declared.faults.GameFault.TheVariants.{BadValue, NoTarget, SeveralTargets, EmptyTarget}
+use Rattle.tt_game.specs.declared.faults.GameFault.TheVariants.{BadValue, NoTarget, EmptyTarget, MixedTargets}
 use Rattle.tt_game.specs.declared.frame.Side.{Side}
 use Rattle.tt_game.specs.declared.frame.Side.TheVariants.{Attacker, Defender}
 use Rattle.tt_game.specs.Line.{Standing}
@@ -18,11 +20,6 @@ use Rattle.tt_game.specs.declared.records.Replay.{Replay}
 use Rattle.tt_game.specs.Games.{Played}
 use Rattle.tt_game.specs.Nodes.{TR, SQ, has, set_named}
 use Rattle.tt_game.specs.Records.{and_then, step_node, begin_line}
-
--- the least number of a set, looked for among so many from a start on
-unfoldable pub least_from : Points → ℕ → ℕ → Option ℕ
-least_from s zero n = None
-least_from s (suc left) n = cond (set.contains s n) (Some n) (least_from s left (n + 1))
 
 -- all points of a board
 abbrev pub whole : Size → Points
@@ -37,27 +34,32 @@ abbrev pub side_of : Colour → Colour → Side
 side_of defender k = cond (same_colour defender k) Defender Attacker
 
 -- the game goes on as a problem: the history and the side to move stay, and no pass was made
-abbrev pub posed : Played → Points → ℕ → Colour → Standing
-posed s region p k = record {
-  frame = record { size = s.size; region = region; target = p; defender = k };
+abbrev pub posed : Played → Points → Points → Colour → Standing
+posed s region targets k = record {
+  frame = record { size = s.size; region = region; targets = targets; defender = k };
   state = record { earlier = s.earlier; present = s.present; to_move = side_of k s.to_move; passes = 0 };
   before = [];
 }
 
--- the stone on the target is the defender's
-abbrev pub problem_with : Played → Points → ℕ → Option Colour → Result Standing GameFault
-problem_with s region p None = Err EmptyTarget
-problem_with s region p (Some k) = Ok (posed s region p k)
+-- the colour of all stones on the points: none where there are both
+abbrev pub common_colour : Points → Colouring → Option Colour
+common_colour s c = if all_stones_of s c Black then Some Black else (if all_stones_of s c White then Some White else None)
 
-abbrev pub problem_on : Played → Points → Option ℕ → Result Standing GameFault
-problem_on s region None = Err NoTarget
-problem_on s region (Some p) = problem_with s region p (entry_at s.present p)
+-- the targets' stones are the defender's
+abbrev pub problem_with : Played → Points → Points → Option Colour → Result Standing GameFault
+problem_with s region targets None = Err MixedTargets
+problem_with s region targets (Some k) = Ok (posed s region targets k)
 
--- the sets of TR and SQ: bad ones first, then several targets, then an empty one
+-- some target, and a stone on each
+abbrev pub problem_on : Played → Points → Points → Result Standing GameFault
+problem_on s region targets =
+    if nat_eq (set.len targets) 0 then Err NoTarget else (if any_empty targets s.present then Err EmptyTarget else problem_with s region targets (common_colour targets s.present))
+
+-- the sets of TR and SQ: bad ones first, then an empty target, then stones of both colours
 abbrev pub problem_at : Played → Option Points → Option Points → Result Standing GameFault
 problem_at s None region = Err BadValue
-problem_at s (Some marks) None = Err BadValue
-problem_at s (Some marks) (Some region) = cond (nat_le 2 (set.len marks)) (Err SeveralTargets) (problem_on s region (least_from marks 361 0))
+problem_at s (Some targets) None = Err BadValue
+problem_at s (Some targets) (Some region) = problem_on s region targets
 
 -- nodes up to and with the first that has TR
 unfoldable pub run_to_mark : Replay → List Node → Result Standing GameFault

@@ -49,10 +49,10 @@ pub enum GameFault {
     TooManyTurns,
     /// No node has TR.
     NoTarget,
-    /// TR names more than one point.
-    SeveralTargets,
-    /// No stone stands on the point that TR names.
+    /// Some point that TR names is empty.
     EmptyTarget,
+    /// TR names stones of both colours.
+    MixedTargets,
     /// An allocation was refused.
     NoMemory,
 }
@@ -60,7 +60,7 @@ pub enum GameFault {
 impl GameFault {
     ghost use Rattle.tt_game.specs.Faults.{code_of};
 
-    /// The number of the refusal: 10 to 22, or 40 for want of memory.
+    /// The number of the refusal: 10 to 20, 22 or 23, or 40 for want of memory.
     pub fn code(&self) -> u8
         ensures { result ≡ code_of self.now }
     {
@@ -76,8 +76,8 @@ impl GameFault {
             GameFault::AfterEnd => 18,
             GameFault::TooManyTurns => 19,
             GameFault::NoTarget => 20,
-            GameFault::SeveralTargets => 21,
             GameFault::EmptyTarget => 22,
+            GameFault::MixedTargets => 23,
             GameFault::NoMemory => 40,
         }
     }

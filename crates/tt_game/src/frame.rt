@@ -1,11 +1,13 @@
 //! A problem's frame, and its two sides.
 
 ghost use Rattle.std.specs.Prelude.{◌≡◌, ◌↔◌, IsTrue};
+ghost use Rattle.tt_board.specs.Stones.{LiesOn};
+ghost use Rattle.tt_game.specs.Game.{winner_on};
 
-use tt_board::Colour;
-use tt_sgf::{Point, PointSet, Size};
+use tt_board::{Board, Colour};
+use tt_sgf::{PointSet, Size};
 
-/// The side that wants to capture the target stone, or the side that wants to keep it.
+/// The side that wants to capture a target stone, or the side that wants to keep them all.
 #[derive(Clone, Copy, Debug, PartialEq, Eq, Hash)]
 pub enum Side {
     Attacker,
@@ -13,16 +15,16 @@ pub enum Side {
 }
 
 /// What a problem asks: on a board of this size, where both sides play in the region alone, can the defender keep the
-/// stone on the target point? The attacker has the other colour.
+/// stones on all target points? The attacker has the other colour.
 #[derive(Drop)]
 pub struct Frame {
     /// The size of the board.
     pub size: Size,
     /// The points on which both sides may play.
     pub region: PointSet,
-    /// The point whose stone is at stake.
-    pub target: Point,
-    /// The colour of that stone.
+    /// The points whose stones are at stake.
+    pub targets: PointSet,
+    /// The colour of those stones.
     pub defender: Colour,
 }
 
@@ -42,7 +44,7 @@ impl Frame {
         Frame {
             size: self.size,
             region: self.region.copy(),
-            target: self.target,
+            targets: self.targets.copy(),
             defender: self.defender,
         }
     }
@@ -54,13 +56,29 @@ impl Frame {
         if self.size != other.size {
             return false;
         }
-        if self.target != other.target {
-            return false;
-        }
         if self.defender != other.defender {
             return false;
         }
-        are_same(&self.region, &other.region)
+        if !are_same(&self.region, &other.region) {
+            return false;
+        }
+        are_same(&self.targets, &other.targets)
+    }
+
+    /// Who has won on a board of this size after so many passes in a row: the attacker where some target is empty, else the
+    /// defender after two passes.
+    pub(crate) fn winner_on(&self, board: &Board, passes: u8) -> Option<Side>
+        requires size { board.now.size ≡ self.now.size }
+        requires on_board { LiesOn self.now.size self.now.targets }
+        ensures { result ≡ winner_on self.now board.now.points passes }
+    {
+        if board.has_empty(&self.targets) {
+            Some(Side::Attacker)
+        } else if passes == 2 {
+            Some(Side::Defender)
+        } else {
+            None
+        }
     }
 }
 

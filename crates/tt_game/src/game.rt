@@ -34,6 +34,7 @@ impl Game {
     ghost use Rattle.tt_game.specs.Games.{Played, IsHalted, made_by, all_of, move_refusal, refusal_of, turned, empty_game, begun_with};
     ghost use Rattle.tt_game.specs.Turns.{IsOn};
     ghost use Rattle.tt_game.specs.History.{repeats};
+    ghost use Rattle.tt_board.specs.Stones.{LiesOn};
     ghost use Rattle.tt_game.specs.Problems.{posed};
     ghost use Rattle.tt_game.specs.declared.turns.Turn.{Turn};
 
@@ -176,9 +177,10 @@ impl Game {
     }
 
     /// The game as a problem: the history and the side to move stay.
-    pub(crate) fn pose(self, region: PointSet, target: Point, defender: Colour) -> Line
-        requires { target < point_count self.size }
-        ensures { result ≡ posed self region target defender }
+    pub(crate) fn pose(self, region: PointSet, targets: PointSet, defender: Colour) -> Line
+        requires some { 0 < set.len targets }
+        requires on_board { LiesOn self.size targets }
+        ensures { result ≡ posed self region targets defender }
     {
         let to_move = if self.to_move == defender {
             Side::Defender
@@ -188,7 +190,7 @@ impl Game {
         let frame = Frame {
             size: self.history.size(),
             region,
-            target,
+            targets,
             defender,
         };
         Line::begin(frame, self.history.without_passes(), to_move)

@@ -6,7 +6,7 @@ ghost use Rattle.tt_game.specs.Keys.{key_of};
 use crate::frame::{Frame, Side};
 use crate::line::Line;
 use tt_board::{Board, Colour};
-use tt_sgf::{Point, Size};
+use tt_sgf::Size;
 
 /// What positions share that are looked up as one: the frame, the colouring, the side to move and the passes in a row,
 /// and no history. Two positions have one key exactly where they agree in these. Sets of points are kept as six words
@@ -15,7 +15,7 @@ use tt_sgf::{Point, Size};
 pub struct Key {
     size: Size,
     region: [u64; 6],
-    target: Point,
+    targets: [u64; 6],
     defender: Colour,
     black: [u64; 6],
     white: [u64; 6],
@@ -31,7 +31,7 @@ pub(crate) fn key_at(frame: &Frame, board: &Board, to_move: Side, passes: u8) ->
     Key {
         size: frame.size,
         region: frame.region.words_on(frame.size),
-        target: frame.target,
+        targets: frame.targets.words_on(frame.size),
         defender: frame.defender,
         black: board.words(Colour::Black),
         white: board.words(Colour::White),
@@ -54,27 +54,6 @@ impl Key {
     pub fn same(&self, other: &Key) -> bool
         ensures { IsTrue result ↔ (self.now ≡ other.now) }
     {
-        if self.size != other.size {
-            return false;
-        }
-        if self.region != other.region {
-            return false;
-        }
-        if self.target != other.target {
-            return false;
-        }
-        if self.defender != other.defender {
-            return false;
-        }
-        if self.black != other.black {
-            return false;
-        }
-        if self.white != other.white {
-            return false;
-        }
-        if self.to_move != other.to_move {
-            return false;
-        }
-        self.passes == other.passes
+        self == other
     }
 }

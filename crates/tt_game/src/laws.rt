@@ -34,7 +34,7 @@ pub fn keys()
     ensures { KeysTell }
 {}
 
-/// Nobody has won at a problem: its target has a stone, and no pass was made.
+/// Nobody has won at a problem: each target has a stone, and no pass was made.
 pub fn problems()
     ensures { ProblemsOpen }
 {}

@@ -1,4 +1,4 @@
-//! A problem and a game of it (Tromp-Taylor rules with a region and a target): turns are made and undone.
+//! A problem and a game of it (Tromp-Taylor rules with a region and targets): turns are made and undone.
 
 ghost use Rattle.std.specs.Prelude.{◌≡◌, ◌≢◌, ℕ, ◌+◌, ◌-◌, ◌<◌, ◌≤◌, ◌↔◌, ◌∷◌, length, IsTrue, IsSome, MatchOption, Contains, All};
 ghost use Rattle.tt_game.specs.Course.{colourings};
@@ -32,7 +32,7 @@ pub struct Line {
 impl Model for Line {
     ghost use Rattle.std.specs.Prelude.{◌≡◌, ◌<◌, ◌≤◌, reverse, length, All};
     ghost use Rattle.tt_sgf.specs.Sizes.{point_count};
-    ghost use Rattle.tt_game.specs.Line.{Standing};
+    ghost use Rattle.tt_game.specs.Line.{Standing, HasTargets};
     ghost use Rattle.tt_game.specs.Undoing.{standing_of, state_at, IsUndoable};
     ghost use Rattle.tt_sgf.specs.contracts.sets.PointSet as points;
     ghost use Rattle.std.specs.Coded.{codes};
@@ -45,7 +45,7 @@ impl Model for Line {
 
     ghost invariant = { λ l. record {
       size : l.history.size ≡ l.frame.size;
-      target : l.frame.target < point_count l.frame.size;
+      targets : HasTargets l.frame;
       undoable : IsUndoable (state_at l.history l.to_move) (reverse l.pushes.items);
     } };
 }
@@ -55,7 +55,7 @@ impl Line {
     ghost use Rattle.tt_game.specs.Game.{history, winner_of, colour_of, made, IsLegal, after};
     ghost use Rattle.tt_board.specs.Reach.{entry_at};
     ghost use Rattle.std.specs.Prelude.{OnOk, OnErr, IfErr, IfOk};
-    ghost use Rattle.tt_game.specs.Line.{IsRefusal, IsRefused, IsPushed};
+    ghost use Rattle.tt_game.specs.Line.{HasTargets, IsRefusal, IsRefused, IsPushed};
     ghost use Rattle.tt_game.specs.Undoing.{IsMoved, state_at};
     ghost use Rattle.tt_game.specs.Turns.{OnBoard};
     ghost use Rattle.tt_game.specs.declared.turns.Turn.{Turn};
@@ -63,7 +63,7 @@ impl Line {
     /// The line that begins with this history, with nothing to undo.
     pub(crate) fn begin(frame: Frame, history: History, to_move: Side) -> Line
         requires size { history.size ≡ frame.size }
-        requires target { frame.target < point_count frame.size }
+        requires targets { HasTargets frame }
         ensures { result ≡ record { frame = frame; state = state_at history to_move; before = [] } }
     {
         let pushes = Vec::new(history.alloc());
@@ -82,10 +82,10 @@ impl Line {
         self.to_move
     }
 
-    /// The frame; its target is a point of the board.
+    /// The frame; it has some target, and all are on the board.
     pub fn frame(&self) -> &Frame
         ensures value { result.now ≡ self.now.frame }
-        ensures target { self.now.frame.target < point_count self.now.frame.size }
+        ensures targets { HasTargets self.now.frame }
     {
         &self.frame
     }
@@ -108,18 +108,11 @@ impl Line {
         self.history.present()
     }
 
-    /// Who has won, if somebody has: the attacker where the target is empty, else the defender after two passes in a row.
+    /// Who has won, if somebody has: the attacker where some target is empty, else the defender after two passes in a row.
     pub fn winner(&self) -> Option<Side>
         ensures { result ≡ winner_of self.now.frame self.now.state }
     {
-        let target = self.frame.target;
-        if self.present().at(target).is_none() {
-            Some(Side::Attacker)
-        } else if self.history.passes() == 2 {
-            Some(Side::Defender)
-        } else {
-            None
-        }
+        self.frame.winner_on(self.present(), self.history.passes())
     }
 
     /// The board after a play of the side to move on an empty point.

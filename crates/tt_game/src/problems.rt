@@ -1,11 +1,10 @@
-//! Problems: a main line up to the node that marks a target.
+//! Problems: a main line up to the node that marks targets.
 
-ghost use Rattle.std.specs.Prelude.{◌≡◌, ℕ, ◌<◌, true, IfOk, IfSome};
-ghost use Rattle.std.specs.FinSet as set;
-ghost use Rattle.tt_sgf.specs.Sizes.{point_count};
+ghost use Rattle.std.specs.Prelude.{◌≡◌, IfOk};
+ghost use Rattle.tt_board.specs.Stones.{LiesOn};
 ghost use Rattle.tt_game.specs.Nodes.{set_named, ReadsSet, TR};
 ghost use Rattle.tt_game.specs.Records.{Gives};
-ghost use Rattle.tt_game.specs.Problems.{least_from, region_of, problem_at, run_to_mark, problem_of};
+ghost use Rattle.tt_game.specs.Problems.{region_of, common_colour, problem_at, run_to_mark, problem_of};
 
 use crate::faults::GameFault;
 use crate::game::Game;
@@ -13,7 +12,8 @@ use crate::line::Line;
 use crate::nodes::{has_value, named_set};
 use crate::records::{Replay, begin_line};
 use std::alloc::Global;
-use tt_sgf::{BadPoint, MainLine, Node, Point, PointSet, Size};
+use tt_board::{Board, Colour};
+use tt_sgf::{BadPoint, MainLine, Node, PointSet, Size};
 
 /// The region that a node says: the points of SQ, or the whole board without it.
 fn said_region(node: &Node, size: Size) -> Result<PointSet, BadPoint>
@@ -30,19 +30,23 @@ fn said_region(node: &Node, size: Size) -> Result<PointSet, BadPoint>
 #[tactic(auto, using(crate::proofs::ProblemLemmas::set_on_board))]
 fn said_targets(node: &Node, size: Size) -> Result<PointSet, BadPoint>
     ensures value { ReadsSet result (set_named size TR node.now) }
-    ensures on_board { IfOk result (λ s. (p : ℕ) → set.contains s p ≡ true → p < point_count size) }
+    ensures on_board { IfOk result (λ s. LiesOn size s) }
 {
     named_set(node.properties.as_slice(), b"TR", size)
 }
 
-/// The point with the least number.
-#[tactic(auto, using(crate::proofs::ProblemLemmas::least_is, crate::proofs::ProblemLemmas::least_none))]
-fn first_point(marks: &PointSet, size: Size) -> Option<Point>
-    requires { (p : ℕ) → set.contains marks.now p ≡ true → p < point_count size }
-    ensures value { result ≡ least_from marks.now 361 0 }
-    ensures on_board { IfSome result (λ p. p < point_count size) }
+/// The colour of all stones on these points of the board: none where there are both.
+fn common_colour(board: &Board, points: &PointSet) -> Option<Colour>
+    requires { LiesOn board.now.size points.now }
+    ensures { result ≡ common_colour points.now board.now.points }
 {
-    marks.least()
+    if board.has_all(points, Colour::Black) {
+        Some(Colour::Black)
+    } else if board.has_all(points, Colour::White) {
+        Some(Colour::White)
+    } else {
+        None
+    }
 }
 
 /// The problem that a game is at a node with TR.
@@ -50,22 +54,22 @@ fn pose(game: Game, node: &Node) -> Result<Line, GameFault>
     ensures { Gives result (problem_at game (set_named game.size TR node.now) (region_of game.size node.now)) }
 {
     let size = game.size();
-    let Ok(marks) = said_targets(node, size) else {
+    let Ok(targets) = said_targets(node, size) else {
         return Err(GameFault::BadValue);
     };
     let Ok(region) = said_region(node, size) else {
         return Err(GameFault::BadValue);
     };
-    if 2 <= marks.count() {
-        return Err(GameFault::SeveralTargets);
-    }
-    let Some(target) = first_point(&marks, size) else {
+    if targets.count() == 0 {
         return Err(GameFault::NoTarget);
-    };
-    let Some(defender) = game.present().at(target) else {
+    }
+    if game.present().has_empty(&targets) {
         return Err(GameFault::EmptyTarget);
+    }
+    let Some(defender) = common_colour(game.present(), &targets) else {
+        return Err(GameFault::MixedTargets);
     };
-    Ok(game.pose(region, target, defender))
+    Ok(game.pose(region, targets, defender))
 }
 
 /// The problem at the first of these nodes with TR.
@@ -85,13 +89,13 @@ fn run_to_mark(replay: Replay, nodes: &[Node]) -> Result<Line, GameFault>
 }
 
 /// The problem that a main line is (SGF FF[4]), or the first refusal, node by node up to the first node with TR. TR names
-/// the target, whose stone is the defender's, and SQ the region, which is the whole board without it. The line has the
+/// the targets, whose stones are the defender's, and SQ the region, which is the whole board without it. The line has the
 /// history and the side to move of the record so far, no pass, and nothing to undo.
 ///
 /// # Errors
 ///
-/// Those of `play_record` up to that node; then no target, a bad value of TR or SQ, several targets, or a target without a
-/// stone; or an allocation was refused.
+/// Those of `play_record` up to that node; then no target, a bad value of TR or SQ, a target without a stone, or targets of
+/// both colours; or an allocation was refused.
 #[tactic(auto, unfolding(crate::specs::Problems::problem_of))]
 pub fn problem(alloc: Global, line: &MainLine) -> Result<Line, GameFault>
     ensures { Gives result (problem_of line.now.nodes) }

@@ -117,11 +117,16 @@ fn problem_turns(alloc: Global, text: &[u8], marks: &[u8]) -> u8 {
 
 #[test]
 fn problems(rt: HostRuntime) {
-    let table: [(&[u8], &[u8], u8); 8] = [
+    let table: [(&[u8], &[u8], u8); 13] = [
         (b"(;SZ[2:1]AW[ba])", b"", 20),
         (b"(;SZ[2:1]TR[aa])", b"", 22),
-        (b"(;SZ[4:1]AW[ba][da]PL[B]TR[ba][da])", b"", 21),
+        (b"(;SZ[4:1]AW[ba][da]PL[B]TR[ba][da])", b"  - -", 0),
         (b"(;SZ[4:1]AW[ba][da]PL[B]TR[ba][ba])", b"  - -", 0),
+        (b"(;SZ[4:1]AW[ba][da]PL[B]TR[ba:ba])", b"  - -", 0),
+        (b"(;SZ[4:1]AB[aa]AW[ca]TR[aa][ca])", b"", 23),
+        (b"(;SZ[4:1]AW[ca]TR[ca][aa])", b"", 22),
+        (b"(;SZ[4:1]AB[aa]AW[ca]TR[aa:ca])", b"", 22),
+        (b"(;SZ[4:1]AB[aa]AW[ca]TR[aa][ca]SQ[ea])", b"", 12),
         (b"(;SZ[2:1]AW[ba]TR[ca])", b"", 12),
         (b"(;SZ[2:1]AW[ba]TR[ba]SQ[ca])", b"", 12),
         (b"(;SZ[4:1]AW[ba];B[ca];W[da]TR[ba])", b"    -", 0),

@@ -7,7 +7,6 @@ use crate::frame::Side;
 use crate::line::Line;
 use arrayvec::ArrayVec;
 use std::alloc::Global;
-use tt_board::Board;
 use tt_sgf::{NoMemory, Point};
 
 /// A play on a point, or a pass. A turn's number is that of its point, and the pass has the number of the points; so the
@@ -33,21 +32,9 @@ const USUAL_TURNS: usize = 16;
 pub type Turns = ArrayVec<Turn, 362>;
 
 impl Line {
-    ghost use Rattle.tt_game.specs.Game.{winner_of, made, after, IsLegal};
+    ghost use Rattle.tt_game.specs.Game.{winner_of, after, IsLegal};
     ghost use Rattle.tt_game.specs.Turns.{legal_turns, successor, successors_of, IsRising};
     ghost use Rattle.tt_game.specs.declared.turns.Turn.{Turn};
-
-    /// Who has won after the play on `p` that made this board.
-    fn winner_on(&self, p: Point, next: &Board) -> Option<Side>
-        requires size { next.now.size ≡ self.now.frame.size }
-        requires points { next.now.points ≡ made self.now.frame self.now.state p }
-        ensures { result ≡ winner_of self.now.frame (after self.now.frame self.now.state (Turn.Play p)) }
-    {
-        if next.at(self.frame().target).is_none() {
-            return Some(Side::Attacker);
-        }
-        None
-    }
 
     /// The first point of the region from a number on: none where the board has no such point.
     fn next_point(&self, from: u16) -> Option<Point>
@@ -78,7 +65,7 @@ impl Line {
         let Ok(next) = self.made(p) else {
             return None;
         };
-        let winner = self.winner_on(p, &next);
+        let winner = self.frame().winner_on(&next, 0);
         Some(Successor {
             turn: Turn::Play(p),
             winner,
@@ -90,10 +77,7 @@ impl Line {
         requires { winner_of self.now.frame self.now.state ≡ None }
         ensures { result ≡ winner_of self.now.frame (after self.now.frame self.now.state Turn.Pass) }
     {
-        if self.passes() == 1 {
-            return Some(Side::Defender);
-        }
-        None
+        self.frame().winner_on(self.present(), self.passes() + 1)
     }
 
     /// The legal turns, rising by their numbers, each with who has won after it. Each play is made once.

@@ -22,7 +22,7 @@ tells f g s t e =
     record {
       size = size;
       region = same (λ p. set.contains f.region p) (λ p. set.contains g.region p) (ap (λ (k : Key). k.region) e);
-      target = ap (λ (k : Key). k.target) e;
+      targets = same (λ p. set.contains f.targets p) (λ p. set.contains g.targets p) (ap (λ (k : Key). k.targets) e);
       defender = ap (λ (k : Key). k.defender) e;
       colouring = λ p lt. entries_tell (entry_at s.present p) (entry_at t.present p) (black p lt) (white p lt);
       to_move = ap (λ (k : Key). k.to_move) e;
@@ -36,8 +36,9 @@ same f g s t h =
     let region = pack (λ p. set.contains f.region p) (λ p. set.contains g.region p) h.region in
     let black = pack (λ p. is_stone_of (entry_at s.present p) Black) (λ p. is_stone_of (entry_at t.present p) Black) (λ p lt. ap (λ x. is_stone_of x Black) (h.colouring p lt)) in
     let white = pack (λ p. is_stone_of (entry_at s.present p) White) (λ p. is_stone_of (entry_at t.present p) White) (λ p lt. ap (λ x. is_stone_of x White) (h.colouring p lt)) in
-    let size = h.size in let target = h.target in let defender = h.defender in let to_move = h.to_move in let passes = h.passes in
-    λ i. record { size = size i; region = region i; target = target i; defender = defender i; black = black i; white = white i; to_move = to_move i; passes = passes i }
+    let targets = pack (λ p. set.contains f.targets p) (λ p. set.contains g.targets p) h.targets in
+    let size = h.size in let defender = h.defender in let to_move = h.to_move in let passes = h.passes in
+    λ i. record { size = size i; region = region i; targets = targets i; defender = defender i; black = black i; white = white i; to_move = to_move i; passes = passes i }
 
 pub returns : goal.returns
 returns c = λ f g s t. (tells f g s t, same f g s t)

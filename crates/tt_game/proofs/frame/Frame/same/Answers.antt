@@ -10,6 +10,7 @@ returns c =
     let columns : f.size.columns ≡ g.size.columns = grind arith in
     let rows : f.size.rows ≡ g.size.rows = grind arith in
     let size : f.size ≡ g.size = sizes_same f.size g.size columns rows in
-    let target : f.target ≡ g.target = search rules in
-    let defender : f.defender ≡ g.defender = search rules in
-    (λ same. same_frames f g size (c.are_same.ensures.0 same) target defender, λ e. c.are_same.ensures.1 (ap (λ (h : Frame). h.region) e))
+    let defender : f.defender ≡ g.defender = search rules in (
+      λ same. same_frames f g size (c.are_same.ensures.0 c.if-not-are_same.false) (c.are_same-2.ensures.0 same) defender,
+      λ e. c.are_same-2.ensures.1 (ap (λ (h : Frame). h.targets) e),
+    )

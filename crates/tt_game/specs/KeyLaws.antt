@@ -1,0 +1,38 @@
+-- What equal keys tell: they agree in all fields, so the test by which a table compares them tells keys apart.
+use Rattle.std.specs.Prelude.{◌≡◌, Bool, true}
+use Rattle.std.proofs.Common.{rules, arith, subst}
+use Rattle.std.specs.Cmp.{IsEquivalence}
+use Rattle.tt_sgf.specs.SizeLaws.{sizes_same}
+use Rattle.tt_game.specs.declared.keys.Key.{Key}
+use Rattle.tt_game.specs.contracts.keys.KeyPartialEq.TheImpl as key_eq
+use Rattle.tt_game.specs.contracts.keys.KeyEq.TheImpl.Laws as key_laws
+
+-- whether two keys are one, as a table tests it
+abbrev pub same_key : Key → Key → Bool
+same_key = (key_eq.ghosts).eq
+
+pub same_key_equiv : IsEquivalence same_key
+same_key_equiv = (key_laws.lawful).laws
+
+-- keys that agree in all fields are one
+pub same_keys : (a b : Key) → a.size ≡ b.size → a.region ≡ b.region → a.targets ≡ b.targets → a.defender ≡ b.defender → a.black ≡ b.black
+    → a.white ≡ b.white → a.to_move ≡ b.to_move → a.passes ≡ b.passes → a ≡ b
+same_keys a b e f g h j k l m = rw (e, f, g, h, j, k, l, m)
+
+-- keys that pass the test are one
+pub same_key_same : (a b : Key) → same_key a b ≡ true → a ≡ b
+same_key_same a b e =
+    let columns : a.size.columns ≡ b.size.columns = grind (arith, e) in
+    let rows : a.size.rows ≡ b.size.rows = grind (arith, e) in
+    let region : a.region ≡ b.region = search (rules, e) in
+    let targets : a.targets ≡ b.targets = search (rules, e) in
+    let defender : a.defender ≡ b.defender = search (rules, e) in
+    let black : a.black ≡ b.black = search (rules, e) in
+    let white : a.white ≡ b.white = search (rules, e) in
+    let to_move : a.to_move ≡ b.to_move = search (rules, e) in
+    let passes : a.passes ≡ b.passes = search (rules, e) in
+    same_keys a b (sizes_same a.size b.size columns rows) region targets defender black white to_move passes
+
+-- and back
+pub same_key_is : (a b : Key) → a ≡ b → same_key a b ≡ true
+same_key_is a b e = subst (λ c. same_key a c ≡ true) e (same_key_equiv.refl a)
