@@ -9,7 +9,7 @@ use std::thread::Threads;
 use tt_search::Limits;
 
 /// An option and its value, empty where it has none; the input; the answer and the status.
-const ROWS: [((&str, &str), &str, &str, u8); 17] = [
+const ROWS: [((&str, &str), &str, &str, u8); 21] = [
     (("", ""), "(;SZ[2:1]AW[ba]PL[B]TR[ba])", "1 killed aa\n", 0),
     (("", ""), "(;SZ[2:1]AW[ba]PL[W]TR[ba])", "1 killed\n", 0),
     (("", ""), "(;SZ[3:1]AW[ba]PL[W]TR[ba])", "1 lives pass\n", 0),
@@ -51,9 +51,28 @@ const ROWS: [((&str, &str), &str, &str, u8); 17] = [
         0,
     ),
     (
-        ("", ""),
+        ("--cert", ""),
         "(;SZ[4:1]AW[ba][da]PL[B]TR[ba][da])",
-        "1 refused 21\n",
+        "1 killed ca\nkilled !ca.\n",
+        0,
+    ),
+    (
+        ("--cert", ""),
+        "(;SZ[4:1]AW[ba][da]PL[W]TR[ba][da])",
+        "1 killed\nkilled ?aa!ca.ca!aa.--!ca.;\n",
+        0,
+    ),
+    (
+        ("", ""),
+        "(;SZ[4:1]AB[aa]AW[ca]TR[aa][ca])",
+        "1 refused 23\n",
+        1,
+    ),
+    (("", ""), "(;SZ[4:1]AW[ca]TR[ca][aa])", "1 refused 22\n", 1),
+    (
+        ("", ""),
+        "(;SZ[4:1]AB[aa]AW[ca]TR[aa][ca])(;SZ[2:1]AW[ba]PL[B]TR[ba])",
+        "1 refused 23\n2 killed aa\n",
         1,
     ),
     (

@@ -2,15 +2,15 @@
 use Rattle.std.proofs.Common.{rules, ◌≡◌, ℕ, ◌<◌, Bool, true, false, cond, List, [], ◌∷◌, ◌++◌, length, get_or, Option, Some, None, MatchOption, IfSome, slice_get, reverse, map, Result, Ok, Err, IsOk, OnOk, inl, inr, refl, sym, ap, ◌∙◌, subst, arith, length-append}
 use Rattle.std.proofs.lemmas.Option.{slice_get_within, slice_get-get_or, get_or_from_slice_get}
 use Rattle.std.proofs.lemmas.List.{map-append, reverse-append}
-use Rattle.std.proofs.lemmas.Bool.{false≢true}
+use Rattle.std.proofs.lemmas.Bool.{false≢true, and_parts}
 use Rattle.std.specs.Option.{option_map}
 use Rattle.std.proofs.lemmas.Grind.{common_steps}
-use Rattle.tt_sgf.specs.SizeLaws.{sizes_same}
 use Rattle.tt_game.specs.declared.keys.Key.{Key}
 use Rattle.std.specs.Cmp.{IsEquivalence}
 use Rattle.std.specs.HashMap.{HashMap, get}
 use Rattle.tt_game.specs.declared.frame.Side.{Side}
 use Rattle.tt_game.specs.Keys.{key_of}
+use Rattle.tt_game.specs.KeyLaws.{same_key, same_key_same}
 use Rattle.tt_game.specs.Line.{Standing}
 use Rattle.tt_proof.specs.Proven.{Proven}
 use Rattle.tt_search.specs.Stores.{IsAnswer, IsNewest}
@@ -21,26 +21,15 @@ use Rattle.tt_search.specs.contracts.private.AskEq.TheImpl.Laws as ask_laws
 pub same_ask_equiv : IsEquivalence same_ask
 same_ask_equiv = (ask_laws.lawful).laws
 
-same_keys : (a b : Key) → a.size ≡ b.size → a.region ≡ b.region → a.target ≡ b.target → a.defender ≡ b.defender → a.black ≡ b.black
-    → a.white ≡ b.white → a.to_move ≡ b.to_move → a.passes ≡ b.passes → a ≡ b
-same_keys a b e f g h j k l m = rw (e, f, g, h, j, k, l, m)
-
 same_asks : (a b : Ask) → a.key ≡ b.key → a.side ≡ b.side → a ≡ b
 same_asks a b e f = rw (e, f)
 
+-- questions that pass the test are one
 pub same_ask_same : (a b : Ask) → same_ask a b ≡ true → a ≡ b
 same_ask_same a b e =
-    let columns : a.key.size.columns ≡ b.key.size.columns = grind (arith, e) in
-    let rows : a.key.size.rows ≡ b.key.size.rows = grind (arith, e) in
-    let region : a.key.region ≡ b.key.region = search (rules, e) in
-    let target : a.key.target ≡ b.key.target = search (rules, e) in
-    let defender : a.key.defender ≡ b.key.defender = search (rules, e) in
-    let black : a.key.black ≡ b.key.black = search (rules, e) in
-    let white : a.key.white ≡ b.key.white = search (rules, e) in
-    let to_move : a.key.to_move ≡ b.key.to_move = search (rules, e) in
-    let passes : a.key.passes ≡ b.key.passes = search (rules, e) in
+    let key : a.key ≡ b.key = same_key_same a.key b.key (and_parts (same_key a.key b.key) _ e).0 in
     let side : a.side ≡ b.side = search (rules, e) in
-    same_asks a b (same_keys a.key b.key (sizes_same a.key.size b.key.size columns rows) region target defender black white to_move passes) side
+    same_asks a b key side
 
 same_ask_is : (a b : Ask) → a ≡ b → same_ask a b ≡ true
 same_ask_is a b e = subst (λ c. same_ask a c ≡ true) e (same_ask_equiv.refl a)

@@ -13,7 +13,8 @@ use Rattle.tt_game.specs.Keys.{key_of}
 use Rattle.tt_proof.specs.Proven.{Proven}
 use Rattle.tt_share.specs.Table.{same_key, places_from, places_of}
 use Rattle.tt_share.specs.Places.{IsFor, IsNewest}
-use Rattle.tt_share.proofs.PlaceLemmas.{same_key_is, place_low}
+use Rattle.tt_game.specs.KeyLaws.{same_key_is}
+use Rattle.tt_share.proofs.PlaceLemmas.{place_low}
 
 -- ---- the newest proof, by its place in the list
 

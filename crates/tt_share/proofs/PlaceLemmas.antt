@@ -1,46 +1,21 @@
 -- One more proof in a table, and what the place of a key says.
 use Rattle.std.proofs.Math.Nat.{zero-add}
-use Rattle.std.proofs.Common.{rules, ◌≡◌, ℕ, ◌+◌, ◌-◌, ◌^◌, ◌<◌, ◌≤◌, min, Bool, true, false, cond, List, [], ◌∷◌, ◌++◌, Some, slice_get, Result, Ok, Err, OnOk, get_or, zero, suc, length, map, refl, sym, ap, subst, ◌∙◌, arith}
+use Rattle.std.proofs.Common.{◌≡◌, ℕ, ◌+◌, ◌-◌, ◌^◌, ◌<◌, ◌≤◌, min, Bool, true, false, cond, List, [], ◌∷◌, ◌++◌, Some, slice_get, Result, Ok, Err, OnOk, get_or, zero, suc, length, map, refl, sym, ap, subst, ◌∙◌, arith}
 use Rattle.std.proofs.lemmas.List.{map-append}
 use Rattle.std.proofs.lemmas.Option.{slice_get_read, slice_get-map}
 use Rattle.std.specs.Option.{option_map}
 use Rattle.std.proofs.lemmas.List.Sums.{sum_by-append}
-use Rattle.std.specs.Cmp.{IsEquivalence}
 use Rattle.std.specs.HashMap.{HashMap}
 use Rattle.std.specs.Result.{is_err}
 use Rattle.std.specs.declared.vec.Vec.{Vec}
 use Rattle.std.specs.declared.alloc.Global.{Global}
-use Rattle.tt_sgf.specs.SizeLaws.{sizes_same}
 use Rattle.tt_game.specs.declared.keys.Key.{Key}
 use Rattle.tt_game.specs.Keys.{key_of}
-use Rattle.tt_game.specs.contracts.keys.KeyEq.TheImpl.Laws as key_laws
+use Rattle.tt_game.specs.KeyLaws.{same_key_equiv, same_key_same}
 use Rattle.tt_proof.specs.Proven.{Proven}
 use Rattle.tt_share.specs.Nodes.{nodes}
 use Rattle.tt_share.specs.Places.{places_at, IsIndexOf}
 use Rattle.tt_share.specs.Table.{same_key, places_from, places_of, nodes_of}
-
-pub same_key_equiv : IsEquivalence same_key
-same_key_equiv = (key_laws.lawful).laws
-
-same_keys : (a b : Key) → a.size ≡ b.size → a.region ≡ b.region → a.target ≡ b.target → a.defender ≡ b.defender → a.black ≡ b.black
-    → a.white ≡ b.white → a.to_move ≡ b.to_move → a.passes ≡ b.passes → a ≡ b
-same_keys a b e f g h j k l m = rw (e, f, g, h, j, k, l, m)
-
-pub same_key_same : (a b : Key) → same_key a b ≡ true → a ≡ b
-same_key_same a b e =
-    let columns : a.size.columns ≡ b.size.columns = grind (arith, e) in
-    let rows : a.size.rows ≡ b.size.rows = grind (arith, e) in
-    let region : a.region ≡ b.region = search (rules, e) in
-    let target : a.target ≡ b.target = search (rules, e) in
-    let defender : a.defender ≡ b.defender = search (rules, e) in
-    let black : a.black ≡ b.black = search (rules, e) in
-    let white : a.white ≡ b.white = search (rules, e) in
-    let to_move : a.to_move ≡ b.to_move = search (rules, e) in
-    let passes : a.passes ≡ b.passes = search (rules, e) in
-    same_keys a b (sizes_same a.size b.size columns rows) region target defender black white to_move passes
-
-pub same_key_is : (a b : Key) → a ≡ b → same_key a b ≡ true
-same_key_is a b e = subst (λ c. same_key a c ≡ true) e (same_key_equiv.refl a)
 
 -- one more element has its place at the end, if it passes
 pub places-snoc : {X : Type 0} (t : X → Bool) (n : ℕ) (xs : List X) (x : X) → places_from t n (xs ++ x ∷ []) ≡ cond (t x) (places_from t n xs ++ (n + length xs) ∷ []) (places_from t n xs)

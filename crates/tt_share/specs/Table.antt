@@ -2,13 +2,9 @@
 use Rattle.std.specs.Prelude.{ℕ, ◌+◌, ◌-◌, ◌^◌, min, Bool, List, [], ◌∷◌, cond, sum_by}
 use Rattle.tt_game.specs.declared.keys.Key.{Key}
 use Rattle.tt_game.specs.Keys.{key_of}
-use Rattle.tt_game.specs.contracts.keys.KeyPartialEq.TheImpl as key_eq
+pub use Rattle.tt_game.specs.KeyLaws.{same_key}
 use Rattle.tt_proof.specs.Proven.{Proven}
 use Rattle.tt_share.specs.Nodes.{nodes}
-
--- whether two keys are one
-abbrev pub same_key : Key → Key → Bool
-same_key = (key_eq.ghosts).eq
 
 -- the rising places, counted from n on, of what passes the test
 abbrev pub places_from : {X : Type 0} → (X → Bool) → ℕ → List X → List ℕ
