@@ -25,6 +25,8 @@ pub use search::{End, Search};
 pub use store::{Kept, NoStore, Store};
 
 #[cfg(test)]
+mod store_tests;
+#[cfg(test)]
 mod tests;
 #[cfg(test)]
 mod trace_tests;

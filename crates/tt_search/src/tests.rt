@@ -3,19 +3,18 @@
 use super::{End, Limits, NoStore, PrivateStore, Reason, Search, Step, Store};
 use std::alloc::Global;
 use std::test::Fail;
-use tt_game::{Line, Side, Turn, problem};
-use tt_proof::replay;
+use tt_game::{Line, Side, problem};
 use tt_sgf::read_tree;
 
 /// The problem that the text is.
-fn posed(alloc: Global, text: &[u8]) -> Result<Line, Fail> {
+pub(crate) fn posed(alloc: Global, text: &[u8]) -> Result<Line, Fail> {
     let (line, _) = read_tree(alloc, text)?;
     let line = problem(alloc, &line)?;
     Ok(line)
 }
 
 /// The letter of what a step answered.
-fn letter(step: Step) -> char {
+pub(crate) fn letter(step: Step) -> char {
     match step {
         Step::Expanded => 'E',
         Step::Closed => 'C',
@@ -27,7 +26,7 @@ fn letter(step: Step) -> char {
 }
 
 /// A number, or its name where it is infinite.
-fn shown(alloc: Global, number: u32) -> Result<String, Fail> {
+pub(crate) fn shown(alloc: Global, number: u32) -> Result<String, Fail> {
     if number == 4_294_967_295 {
         return Ok(format!(in alloc; "inf")?);
     }

@@ -1,0 +1,162 @@
+//! Searches over stores that are full, that refuse to keep, and that are refused memory once.
+
+ghost use Rattle.std.specs.Prelude.{◌≡◌};
+
+use crate::tests::{letter, posed, shown, trace};
+use crate::{Kept, Limits, PrivateStore, Reason, Search, Step, Store};
+use std::alloc::Global;
+use std::sync::Arc;
+use std::test::Fail;
+use tt_game::{Line, Side};
+use tt_proof::Proof;
+use tt_sgf::NoMemory;
+
+/// White's two stones with liberties on both sides: Black to move wins.
+const SPLIT: &[u8] = b"(;SZ[4:1]AW[ba][da]PL[B]TR[ba])";
+
+/// The first search of it over an empty store, with its numbers.
+const STEPS: &str = "E1,2 E1,2 E0,inf S0,inf 3 ";
+
+/// A store with room for a hundred proofs, which refuses to keep any.
+#[derive(Drop)]
+struct Refusing;
+
+impl Store for Refusing {
+    ghost capacity = { λ _. 100 };
+
+    ghost kept = { λ _. 0 };
+
+    ghost may_answer = { ⊥ };
+
+    fn capacity(&self) -> usize {
+        100
+    }
+
+    fn kept(&self) -> usize {
+        0
+    }
+
+    fn find(&mut self, line: &Line, s: Side) -> Result<Option<Arc<Proof>>, NoMemory> {
+        Ok(None)
+    }
+
+    fn keep(&mut self, p: Arc<Proof>) -> Kept {
+        Kept::NoMemory
+    }
+}
+
+/// A store without room, which is refused memory at one of the questions: the one with so many before it.
+#[derive(Drop)]
+struct RefusedOnce {
+    before: u32,
+}
+
+impl Store for RefusedOnce {
+    ghost capacity = { λ _. 0 };
+
+    ghost kept = { λ _. 0 };
+
+    ghost may_answer = { ⊥ };
+
+    fn capacity(&self) -> usize {
+        0
+    }
+
+    fn kept(&self) -> usize {
+        0
+    }
+
+    fn find(&mut self, line: &Line, s: Side) -> Result<Option<Arc<Proof>>, NoMemory> {
+        let refused = self.before == 0;
+        self.before = self.before.wrapping_sub(1);
+        if refused {
+            return Err(NoMemory);
+        }
+        Ok(None)
+    }
+
+    fn keep(&mut self, p: Arc<Proof>) -> Kept {
+        Kept::Full
+    }
+}
+
+#[test]
+fn no_store_past_the_limit(rt: HostRuntime) {
+    let alloc = rt.alloc();
+    assert!(&rt; PrivateStore::bounded(alloc, 4_096).is_some());
+    assert!(&rt; PrivateStore::bounded(alloc, 4_097).is_none());
+}
+
+/// A store of one proof has the deepest one alone, which closes a leaf of a second search.
+#[test]
+fn searches_over_one_place(rt: HostRuntime) -> Result<(), Fail> {
+    let alloc = rt.alloc();
+    let Some(mut store) = PrivateStore::bounded(alloc, 1) else {
+        return Err(Fail::new("no store"));
+    };
+    let first = trace(alloc, SPLIT, 100, 512, &mut store)?;
+    assert!(&rt; first.as_str() == "E1,2 E1,2 E0,inf S0,inf 3 1", "{first}");
+    let second = trace(alloc, SPLIT, 100, 512, &mut store)?;
+    assert!(&rt;
+        second.as_str() == "E1,2 E1,2 C0,inf S0,inf 2 1",
+        "{second}"
+    );
+    Ok(())
+}
+
+#[test]
+fn a_refused_keep_stops_no_search(rt: HostRuntime) -> Result<(), Fail> {
+    let steps = trace(rt.alloc(), SPLIT, 100, 512, &mut Refusing)?;
+    assert!(&rt; steps.as_str() == "E1,2 E1,2 E0,inf S0,inf 3 0", "{steps}");
+    Ok(())
+}
+
+/// The steps of a search at that problem up to its end, but for those that were refused memory, and how many were.
+fn steps_past_refusals(alloc: Global, before: u32) -> Result<(String, u32), Fail> {
+    let Some(limits) = Limits::new(100, 512) else {
+        return Err(Fail::new("no limits"));
+    };
+    let mut store = RefusedOnce { before };
+    let mut search = Search::new(alloc, posed(alloc, SPLIT)?, limits)?;
+    let mut steps = String::new(alloc);
+    let mut refusals = 0u32;
+    for _ in 0..8u32 {
+        let numbers = search.numbers();
+        let expanded = search.expanded();
+        let step = search.step(&mut store);
+        let (proof, disproof) = search.numbers();
+        if step == Step::Stuck(Reason::Memory) {
+            if (proof, disproof) != numbers || search.expanded() != expanded {
+                return Err(Fail::new("a refused step changed the search"));
+            }
+            refusals = refusals.saturating_add(1);
+        } else {
+            let proof = shown(alloc, proof)?;
+            let disproof = shown(alloc, disproof)?;
+            let piece = format!(in alloc; "{}{proof},{disproof} ", letter(step))?;
+            steps.push_str(piece.as_str())?;
+            if step != Step::Expanded {
+                break;
+            }
+        }
+    }
+    let end = format!(in alloc; "{} ", search.expanded())?;
+    steps.push_str(end.as_str())?;
+    Ok((steps, refusals))
+}
+
+/// Three expansions ask the store twice each. Whichever question is refused memory, the next step goes on as if the
+/// refused one had never been asked for.
+#[test]
+fn goes_on_after_want_of_memory(rt: HostRuntime) -> Result<(), Fail> {
+    let alloc = rt.alloc();
+    for before in 0..7u32 {
+        let (steps, refusals) = steps_past_refusals(alloc, before)?;
+        assert!(&rt;
+            steps.as_str() == STEPS,
+            "after {before} questions: {steps}"
+        );
+        assert!(&rt; (refusals == 1) == (before < 6), "after {before} questions");
+    }
+    Ok(())
+}
