@@ -4,13 +4,15 @@ use Rattle.tt_sgf.specs.declared.size.Size.{Size}
 use Rattle.tt_game.specs.declared.frame.Frame.{Frame}
 use Rattle.tt_game.specs.declared.frame.Side.{Side}
 use Rattle.tt_game.specs.declared.turns.Turn.{Turn}
-use Rattle.tt_game.specs.Game.{State, after}
+use Rattle.tt_game.specs.Game.{HasValue, State, after, value_for}
+use Rattle.tt_game.specs.Laws.{IsState}
 use Rattle.tt_game.specs.Line.{Standing}
+use Rattle.tt_game.proofs.SomeSide.{state_after, values_forced}
 use Rattle.tt_proof.specs.CertificateText.{certificate_text}
-use Rattle.tt_proof.specs.Laws.{WinningForces}
 use Rattle.tt_proof.specs.Proven.{IsWon, Proven, first_of}
 use Rattle.tt_proof.specs.Strategy.{Strategy, done, pick, reply, depth, IsInOrder, IsOnBoard}
 use Rattle.tt_proof.specs.Wins.{Wins}
+use Rattle.tt_proof.proofs.ForcesLemmas.{win_forces}
 use Rattle.tt_search.specs.declared.limits.Limits.{Limits}
 use Rattle.tt_search.specs.declared.limits.Reason.{Reason}
 use Rattle.tt_search.specs.declared.limits.Reason.TheVariants.{Budget, Depth, Memory}
@@ -28,11 +30,16 @@ first_on_board size u first e h = subst (λ (o : Option Turn). IfSome o (IsOnBoa
     begins (pick t v) h = h.0
     begins (reply es) h = tt
 
-module _ (forces : WinningForces) (line : Standing) where
-  -- the first turn of a winning strategy keeps the win
+-- a strategy that wins says the value
+won_value : (side : Side) (f : Frame) (u : Strategy) (s : State) → IsState f s → Wins side f u s → HasValue f s (value_for side)
+won_value side f u s is w = (values_forced f s side is).1 (depth u) (win_forces side f u s w)
+
+module _ (line : Standing) (is : IsState line.frame line.state) where
+  -- the first turn of a winning strategy keeps the value
   first_keeps : (side : Side) (u : Strategy) → Wins side line.frame u line.state → (side ≡ line.state.to_move → IsSome (first_of u)) → IsFirst line side (first_of u)
   first_keeps side done w shown = λ e. let bad : false ≡ true = shown (sym e) in cc
-  first_keeps side (pick t u) w shown = (w.1, w.2, (depth u, forces side line.frame u (after line.frame line.state t) w.3))
+  first_keeps side (pick t u) w shown =
+      (w.1, w.2, won_value side line.frame u (after line.frame line.state t) (state_after line.frame line.state t is w.2) w.3)
   first_keeps side (reply es) w shown = λ e. let bad : false ≡ true = shown (sym e) in cc
 
   -- what follows the line of a winning strategy
@@ -49,7 +56,7 @@ module _ (forces : WinningForces) (line : Standing) where
       → (side ≡ line.state.to_move → IsSome (first_of u))
       → Verdict line limits cert (decided_text line.frame.size side (first_of u) ++ (if cert then certificate_line line.frame.size side u else []))
   won_verdict limits side u cert w low shown =
-      decided side (first_of u) (if cert then certificate_line line.frame.size side u else []) (depth u, forces side line.frame u line.state w.wins)
+      decided side (first_of u) (if cert then certificate_line line.frame.size side u else []) (won_value side line.frame u line.state is w.wins)
       (first_keeps side u w.wins shown) (follows limits side u cert w low)
 
   -- the text of a proof that stands at the problem

@@ -4,13 +4,12 @@ use Rattle.std.specs.declared.result.Result.{Result}
 use Rattle.tt_sgf.specs.declared.nodes.Node.{Node}
 use Rattle.tt_sgf.specs.declared.size.Size.{Size}
 use Rattle.tt_game.specs.declared.faults.GameFault.{GameFault}
-use Rattle.tt_game.specs.declared.frame.Frame.{Frame}
 use Rattle.tt_game.specs.declared.frame.Side.{Side}
 use Rattle.tt_game.specs.declared.frame.Side.TheVariants.{Attacker, Defender}
 use Rattle.tt_game.specs.declared.turns.Turn.{Turn}
 use Rattle.tt_game.specs.declared.turns.Turn.TheVariants.{Play, Pass}
 use Rattle.tt_game.specs.Faults.{code_of}
-use Rattle.tt_game.specs.Game.{State, Forces, IsLegal, after}
+use Rattle.tt_game.specs.Game.{HasValue, IsLegal, after, value_for}
 use Rattle.tt_game.specs.Line.{Standing}
 use Rattle.tt_game.specs.Problems.{problem_of}
 use Rattle.tt_proof.specs.CertificateText.{IsCertificate, certificate_text, turn_text}
@@ -61,15 +60,11 @@ unsettled_text reason = codes "unsettled " ++ (reason_word reason ++ 10 ∷ [])
 
 -- ---- what they say
 
--- the side can force its win within some number of turns
-abbrev pub CanForce : Frame → Side → State → Type 0
-CanForce f side s = (n : ℕ) × Forces f side n s
-
--- the first turn is shown exactly where the winner is to move; it is legal, and its side can still force its win after it
+-- the first turn is shown exactly where the winner is to move; it is legal, and keeps the value
 abbrev pub IsFirst : Standing → Side → Option Turn → Type 0
 IsFirst p side None = p.state.to_move ≢ side
 IsFirst p side (Some t) =
-    (p.state.to_move ≡ side) × IsLegal p.frame p.state t × CanForce p.frame side (after p.frame p.state t)
+    (p.state.to_move ≡ side) × IsLegal p.frame p.state t × HasValue p.frame (after p.frame p.state t) (value_for side)
 
 -- the bytes are the certificate of a strategy that wins for the side, within the limit on depth, and begins with that turn
 pub record IsWinningCertificate (p : Standing) (limits : Limits) (side : Side) (first : Option Turn) (bytes : List ℕ) : Type 0 where
@@ -90,9 +85,9 @@ IsUnsettled p limits Budget = (t : Turn) × (search : Searched) × IsStuckBehind
 IsUnsettled p limits Depth = (t : Turn) × (search : Searched) × IsStuckBehind p limits Depth t search
 IsUnsettled p limits Memory = Unit {0}
 
--- The text is a verdict on the problem: a side can force its win; or no win was found, for a reason.
+-- The text is a verdict on the problem: its value, killed or lives; or that no win was found, for a reason.
 pub data Verdict (p : Standing) (limits : Limits) (cert : Bool) : List ℕ → Type 0 where
-  decided : (side : Side) (first : Option Turn) (lines : List ℕ) → CanForce p.frame side p.state → IsFirst p side first
+  decided : (side : Side) (first : Option Turn) (lines : List ℕ) → HasValue p.frame p.state (value_for side) → IsFirst p side first
       → Follows p limits side first cert lines → Verdict p limits cert (decided_text p.frame.size side first ++ lines)
   unsettled : (reason : Reason) → IsUnsettled p limits reason → Verdict p limits cert (unsettled_text reason)
 

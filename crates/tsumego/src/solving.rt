@@ -1,6 +1,7 @@
 //! Solves the problem that a tree is.
 ghost use Rattle.std.specs.Prelude.{◌≡◌, ◌≤◌, IfOk, None};
 ghost use Rattle.tt_game.specs.Game.{winner_of};
+ghost use Rattle.tt_game.specs.Laws.{IsState};
 ghost use Rattle.tt_share.specs.Answers.{IsAnswer};
 ghost use Rattle.tsumego.specs.Solving.{Solves, Verdict};
 
@@ -43,6 +44,7 @@ fn solve_at<X: Threads + Wait + Sync>(
     requires workers { (1 ≤ workers) × (workers ≤ 64) }
     requires limits { 1 ≤ limits.now.depth }
     requires open { winner_of line.now.frame line.now.state ≡ None }
+    requires state { IsState line.now.frame line.now.state }
     ensures { IfOk result (λ text. Verdict line.now limits.now cert text) }
 {
     let answer = solve_problem(rt, alloc, line, limits, workers)?;
@@ -63,7 +65,6 @@ pub fn solve<X: Threads + Wait + Sync>(
     requires limits { 1 ≤ limits.now.depth }
     ensures { IfOk result (λ outcome. Solves limits.now cert main.now.nodes outcome) }
 {
-    tt_game::laws::problems();
     match problem(alloc, main) {
         Ok(line) => {
             let text = solve_at(rt, alloc, &line, limits, workers, cert)?;

@@ -1,5 +1,6 @@
 //! The text of the verdict on a problem, as it stands behind the problem's number.
 ghost use Rattle.std.specs.Prelude.{◌≡◌, ◌∷◌, ◌++◌, [], if◌then◌else◌, IfOk, IfSome, OnOk};
+ghost use Rattle.tt_game.specs.Laws.{IsState};
 ghost use Rattle.tt_proof.specs.Proven.{IsWon, first_of};
 ghost use Rattle.tt_proof.specs.Strategy.{IsOnBoard};
 ghost use Rattle.tt_share.specs.Answers.{IsAnswer};
@@ -121,12 +122,12 @@ pub fn verdict_text(
     answer: &Answer,
     cert: bool,
 ) -> Result<Vec<u8>, NoMemory>
-    requires { IsAnswer line.now limits.now answer.now }
+    requires state { IsState line.now.frame line.now.state }
+    requires answer { IsAnswer line.now limits.now answer.now }
     ensures { IfOk result (λ text. Verdict line.now limits.now cert text.items) }
 {
     match answer {
         Answer::Settled { proof, first } => {
-            tt_proof::laws::l1();
             decided(alloc, proof, first, line.frame().size, cert)
         }
         Answer::Unsettled(stuck) => unsettled(alloc, stuck.reason),

@@ -1,5 +1,5 @@
 -- Records and problems by the rules: what their nodes keep true of the history, and where a refusal comes from.
-use Rattle.std.proofs.Common.{◌≡◌, ◌≢◌, ℕ, ◌+◌, ◌-◌, ◌*◌, ◌<◌, ◌≤◌, ◌⊎◌, List, [], ◌∷◌, ◌++◌, inl, inr, Bool, true, false, Option, Some, None, Ok, Err, refl, sym, ap, subst, ◌∙◌, cond, ◌==◌, ◌&&◌, nat_le, nat_lt, arith, Contains}
+use Rattle.std.proofs.Common.{◌≡◌, ◌≢◌, ℕ, ◌+◌, ◌-◌, ◌*◌, ◌<◌, ◌≤◌, ◌⊎◌, List, [], ◌∷◌, ◌++◌, inl, inr, Bool, true, false, Option, Some, None, Ok, Err, refl, sym, ap, subst, ◌∙◌, cond, ◌==◌, ◌&&◌, nat_eq, nat_le, nat_lt, arith, Contains}
 use Rattle.std.specs.Prelude.{All, AllPairs}
 use Rattle.std.specs.FinSet as set
 use Rattle.std.specs.declared.result.Result.{Result}
@@ -32,7 +32,8 @@ use Rattle.tt_game.specs.Games.{Played, all_of, begun_with, empty_game, made_by,
 use Rattle.tt_game.specs.History.{repeats, repeats_is}
 use Rattle.tt_game.specs.Line.{Standing}
 use Rattle.tt_game.specs.Nodes.{AB, AE, AW, B, GM, PL, SZ, TR, W, apart, colour_named, has, is_go, is_setup, moves_in, set_named, size_named, values_of}
-use Rattle.tt_game.specs.Problems.{least_from, posed, problem_at, problem_of, problem_on, problem_with, region_of, run_to_mark}
+use Rattle.tt_board.specs.Stones.{any_empty}
+use Rattle.tt_game.specs.Problems.{common_colour, posed, problem_at, problem_of, problem_on, problem_with, region_of, run_to_mark}
 use Rattle.tt_game.specs.Records.{all_alive, and_then, as_turn, begin_at, begin_line, begin_node, begun, go_on, move_of, record_at, record_of, run_nodes, set_up_by, step_node, turn_by, turn_named, turn_of}
 use Rattle.tt_game.specs.RecordLaws.{ArePlays, IsByTheRules, IsOfLeastNode, IsPlay, LeastNodesRefuse, ProblemsAreGames, ProblemsAreRecords, RecordsAreGames, SetupsBeginHistories, SuperkoDecides}
 use Rattle.tt_game.specs.Turns.{IsOn}
@@ -270,23 +271,25 @@ record IsOfGame (s : Played) (q : Standing) : Type 0 where
   size : s.size ≡ q.frame.size
   history : all_of s ≡ history q.state
 
-of_game_with : (s : Played) (region : Points) (p : ℕ) (o : Option Colour) (q : Standing) → problem_with s region p o ≡ Ok q → IsOfGame s q
-of_game_with s region p None q e = let bad : Err _ ≡ Ok q = e in cc
-of_game_with s region p (Some k) q e =
-    let same : posed s region p k ≡ q = cc in
+of_game_with : (s : Played) (region targets : Points) (o : Option Colour) (q : Standing) → problem_with s region targets o ≡ Ok q → IsOfGame s q
+of_game_with s region targets None q e = let bad : Err _ ≡ Ok q = e in cc
+of_game_with s region targets (Some k) q e =
+    let same : posed s region targets k ≡ q = cc in
     subst (λ (x : Standing). IsOfGame s x) same (record { size = refl; history = refl })
 
-of_game_on : (s : Played) (region : Points) (o : Option ℕ) (q : Standing) → problem_on s region o ≡ Ok q → IsOfGame s q
-of_game_on s region None q e = let bad : Err _ ≡ Ok q = e in cc
-of_game_on s region (Some p) q e = of_game_with s region p (entry_at s.present p) q e
-
-of_game : (s : Played) (marks region : Option Points) (q : Standing) → problem_at s marks region ≡ Ok q → IsOfGame s q
-of_game s None region q e = let bad : Err _ ≡ Ok q = e in cc
-of_game s (Some marks) None q e = let bad : Err _ ≡ Ok q = e in cc
-of_game s (Some marks) (Some region) q e = elim (choice (nat_le 2 (set.len marks)) _ _ _ e) [
-  | inl several ↦ let bad : Err _ ≡ Ok q = several.1 in cc
-  | inr one ↦ of_game_on s region (least_from marks 361 0) q one.1
+of_game_on : (s : Played) (region targets : Points) (q : Standing) → problem_on s region targets ≡ Ok q → IsOfGame s q
+of_game_on s region targets q e = elim (choice (nat_eq (set.len targets) 0) _ _ _ e) [
+  | inl none ↦ let bad : Err _ ≡ Ok q = none.1 in cc
+  | inr some ↦ elim (choice (any_empty targets s.present) _ _ _ some.1) [
+    | inl bare ↦ let bad : Err _ ≡ Ok q = bare.1 in cc
+    | inr full ↦ of_game_with s region targets (common_colour targets s.present) q full.1
+  ]
 ]
+
+of_game : (s : Played) (targets region : Option Points) (q : Standing) → problem_at s targets region ≡ Ok q → IsOfGame s q
+of_game s None region q e = let bad : Err _ ≡ Ok q = e in cc
+of_game s (Some targets) None q e = let bad : Err _ ≡ Ok q = e in cc
+of_game s (Some targets) (Some region) q e = of_game_on s region targets q e
 
 mark_lawful : (r : Replay) (ns : List Node) (q : Standing) → run_to_mark r ns ≡ Ok q → IsLawful r → IsByTheRules q.frame.size (history q.state)
 unfolding run_to_mark

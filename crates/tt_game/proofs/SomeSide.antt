@@ -13,9 +13,9 @@ use Rattle.tt_game.specs.declared.frame.Side.TheVariants.{Attacker, Defender}
 use Rattle.tt_game.specs.declared.turns.Turn.{Turn}
 use Rattle.tt_game.specs.declared.turns.Turn.TheVariants.{Play, Pass}
 use Rattle.tt_game.specs.declared.frame.Frame.{Frame}
-use Rattle.tt_game.specs.Game.{State, Value, history, winner_of, made, after, opponent, IsLegal, Forces, HasValue, colour_of, killed, lives}
+use Rattle.tt_game.specs.Game.{State, history, winner_of, made, after, opponent, IsLegal, Forces, colour_of, longest}
 use Rattle.tt_game.specs.Legality.{legal}
-use Rattle.tt_game.specs.Laws.{IsState, OneValue, SomeSideForces, TurnsKeepStates}
+use Rattle.tt_game.specs.Laws.{IsState, SomeSideForces, TurnsKeepStates, ValuesAreForced}
 use Rattle.tt_game.proofs.OneSide.{not_both}
 use Rattle.tt_game.proofs.ValueLemmas.{colourings_of, count_less, complete, length-colourings_of, new_count, is_new, is_new_says}
 
@@ -133,7 +133,7 @@ valued (suc n) f s is enough = elim (won f s) [
       turned f s.to_move s.to_move n (after f s t) (valued n f (after f s t) next.0 (omega (arith, next.1)))))
 ]
 
-fits : (f : Frame) (s : State) → IsState f s → room f s ≤ 2 * 3 ^ point_count f.size
+fits : (f : Frame) (s : State) → IsState f s → room f s ≤ longest f
 unfolding room
 fits f s is =
     let some : 0 < length (history s) = omega (arith, length_push s.earlier s.present) in
@@ -142,7 +142,7 @@ fits f s is =
     omega (arith, old)
 
 pub some_side : SomeSideForces
-some_side f s is = valued (2 * 3 ^ point_count f.size) f s is (fits f s is)
+some_side f s is = valued (longest f) f s is (fits f s is)
 
 -- a legal turn leaves a state
 pub state_after : TurnsKeepStates
@@ -155,16 +155,19 @@ state_after f s t is l = elim (won f s) [
     nobody_won f s Pass l = l
     nobody_won f s (Play p) l = l.0
 
--- a state has a value
-pub state_valued : OneValue
-state_valued f s is = elim (some_side f s is) [
-  | inl a ↦ inl ((2 * 3 ^ point_count f.size, a), a)
-  | inr d ↦ inr (λ a. not_both a.0 (2 * 3 ^ point_count f.size) f s a.1 d, d)
-]
-
--- and no other
-pub one_value : (f : Frame) (s : State) (v w : Value) → HasValue f s v → HasValue f s w → v ≡ w
-one_value f s killed killed h k = refl
-one_value f s killed lives h k = absurd (k h)
-one_value f s lives killed h k = absurd (h k)
-one_value f s lives lives h k = refl
+-- a state has a side's value where that side forces a win, and the side forces it within the bound
+pub values_forced : ValuesAreForced
+values_forced f s Attacker is = (
+  λ v. v,
+  λ n mine. elim (some_side f s is) [
+    | inl a ↦ a
+    | inr d ↦ absurd (not_both n (longest f) f s mine d)
+  ],
+)
+values_forced f s Defender is = (
+  λ v. elim (some_side f s is) [
+    | inl a ↦ absurd (v a)
+    | inr d ↦ d
+  ],
+  λ n mine a. not_both (longest f) n f s a mine,
+)

@@ -1,6 +1,6 @@
 -- The game of a problem: states, legal turns, who has won, and what a side can force. Turns, superko and the end by two
 -- passes are those of the Tromp-Taylor rules; the region and the targets are the problem's.
-use Rattle.std.specs.Prelude.{◌≡◌, ℕ, zero, suc, ◌+◌, ◌<◌, ◌⊎◌, List, [], ◌∷◌, ◌++◌, Contains, Option, Some, None, IsTrue, if◌then◌else◌, ◌==◌}
+use Rattle.std.specs.Prelude.{◌≡◌, ℕ, zero, suc, ◌+◌, ◌*◌, ◌^◌, ◌<◌, ◌⊎◌, List, [], ◌∷◌, ◌++◌, Contains, Option, Some, None, IsTrue, if◌then◌else◌, ◌==◌}
 use Rattle.std.specs.FinSet as set
 use Rattle.tt_board.specs.declared.Colour.{Colour}
 use Rattle.tt_board.specs.Position.{Colouring}
@@ -68,7 +68,16 @@ pub data Value : Type 0 where
   killed : Value
   lives : Value
 
--- killed where the attacker forces a win within some number of turns, else it lives
+-- twice as many turns as there are colourings of the board: who can force a win can do so within as many
+abbrev pub longest : Frame → ℕ
+longest f = 2 * 3 ^ point_count f.size
+
+-- killed where the attacker forces a win within that many turns, else it lives
 abbrev pub HasValue : Frame → State → Value → Type 0
-HasValue f s killed = (n : ℕ) × Forces f Attacker n s
-HasValue f s lives = ((n : ℕ) × Forces f Attacker n s) → ⊥
+HasValue f s killed = Forces f Attacker (longest f) s
+HasValue f s lives = Forces f Attacker (longest f) s → ⊥
+
+-- what a state comes to where the side wins
+abbrev pub value_for : Side → Value
+value_for Attacker = killed
+value_for Defender = lives

@@ -1,9 +1,10 @@
--- Laws of the game: not both sides force a win, one does, and every problem has one value.
-use Rattle.std.specs.Prelude.{◌≡◌, ℕ, ◌*◌, ◌^◌, ◌≤◌, ◌⊎◌, ◌↔◌, length, All, Contains, List, None, Ok}
+-- Laws of the game: not both sides force a win, one does, and a state's value says which.
+use Rattle.std.specs.Prelude.{◌≡◌, ℕ, ◌≤◌, ◌⊎◌, ◌↔◌, length, All, Contains, List, None, Ok}
 use Rattle.tt_sgf.specs.Sizes.{point_count}
+use Rattle.tt_game.specs.declared.frame.Side.{Side}
 use Rattle.tt_game.specs.declared.frame.Side.TheVariants.{Attacker, Defender}
 use Rattle.tt_game.specs.declared.frame.Frame.{Frame}
-use Rattle.tt_game.specs.Game.{State, Value, history, winner_of, after, IsLegal, Forces, HasValue, killed, lives}
+use Rattle.tt_game.specs.Game.{State, history, winner_of, after, IsLegal, Forces, HasValue, longest, value_for}
 use Rattle.tt_game.specs.Line.{Standing}
 use Rattle.tt_game.specs.Problems.{problem_of}
 use Rattle.tt_sgf.specs.declared.nodes.Node.{Node}
@@ -21,16 +22,12 @@ pub record IsState (f : Frame) (s : State) : Type 0 where
 
 -- at every state one side forces a win, within twice as many turns as there are colourings
 abbrev pub SomeSideForces : Type 0
-SomeSideForces = (f : Frame) (s : State) → IsState f s → Forces f Attacker (2 * 3 ^ point_count f.size) s ⊎ Forces f Defender (2 * 3 ^ point_count f.size) s
+SomeSideForces = (f : Frame) (s : State) → IsState f s → Forces f Attacker (longest f) s ⊎ Forces f Defender (longest f) s
 
--- the state has one of the two values, and the side that it favours forces its win within as many turns
-abbrev pub IsValued : Frame → State → Type 0
-IsValued f s =
-    (HasValue f s killed × Forces f Attacker (2 * 3 ^ point_count f.size) s) ⊎ (HasValue f s lives × Forces f Defender (2 * 3 ^ point_count f.size) s)
-
--- every state has one of the two values, and the side that it favours forces its win within as many turns
-abbrev pub OneValue : Type 0
-OneValue = (f : Frame) (s : State) → IsState f s → IsValued f s
+-- a state has a side's value exactly where that side forces a win, within some number of turns or within the bound
+abbrev pub ValuesAreForced : Type 0
+ValuesAreForced = (f : Frame) (s : State) (side : Side) → IsState f s
+    → (HasValue f s (value_for side) → Forces f side (longest f) s) × ((n : ℕ) → Forces f side n s → HasValue f s (value_for side))
 
 -- a legal turn leads from a state to a state
 abbrev pub TurnsKeepStates : Type 0
@@ -47,9 +44,3 @@ ProblemsOpen = (nodes : List Node) (p : Standing) → problem_of nodes ≡ Ok p 
 -- the state of a problem is one as the game has them
 abbrev pub ProblemsAreStates : Type 0
 ProblemsAreStates = (nodes : List Node) (p : Standing) → problem_of nodes ≡ Ok p → IsState p.frame p.state
-
--- a problem has one of the two values and not the other, and the side that it favours forces its win within twice as
--- many turns as there are colourings
-abbrev pub ProblemsHaveValues : Type 0
-ProblemsHaveValues = (nodes : List Node) (p : Standing) → problem_of nodes ≡ Ok p
-    → IsValued p.frame p.state × ((v w : Value) → HasValue p.frame p.state v → HasValue p.frame p.state w → v ≡ w)

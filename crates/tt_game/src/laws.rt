@@ -1,6 +1,6 @@
 //! Laws of the definitions: each stands as the contract of a function without parameters.
 
-ghost use Rattle.tt_game.specs.Laws.{OneSideForces, SomeSideForces, OneValue, TurnsKeepStates, LegalTurnsListed, ProblemsOpen, ProblemsAreStates, ProblemsHaveValues};
+ghost use Rattle.tt_game.specs.Laws.{OneSideForces, SomeSideForces, ValuesAreForced, TurnsKeepStates, LegalTurnsListed, ProblemsOpen, ProblemsAreStates};
 ghost use Rattle.tt_game.specs.Keys.{KeysTell};
 ghost use Rattle.tt_game.specs.RecordLaws.{RecordsAreGames, ProblemsAreGames, SetupsBeginHistories, LeastNodesRefuse, ProblemsAreRecords, SuperkoDecides};
 
@@ -14,9 +14,10 @@ pub fn l4()
     ensures { SomeSideForces }
 {}
 
-/// Every state has one value: killed where the attacker forces a win, or lives where the defender does.
+/// A state is killed exactly where the attacker can force a win, and lives exactly where the defender can: in any number
+/// of turns, or within twice as many as there are colourings of the board.
 pub fn values()
-    ensures { OneValue }
+    ensures { ValuesAreForced }
 {}
 
 /// A legal turn leads from a state whose colourings fit the board, with two passes at most, to another such state.
@@ -43,12 +44,6 @@ pub fn problems()
 /// two at most.
 pub fn problems_are_states()
     ensures { ProblemsAreStates }
-{}
-
-/// Every problem has exactly one value, and the side that it favours forces its win within twice as many turns as there
-/// are colourings of the board.
-pub fn problems_have_values()
-    ensures { ProblemsHaveValues }
 {}
 
 /// The history of a record's game is by the rules: each colouring but the first is a play's on the one before it, and none

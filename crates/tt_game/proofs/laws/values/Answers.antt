@@ -1,5 +1,5 @@
-use Rattle.tt_game.proofs.SomeSide.{state_valued}
+use Rattle.tt_game.proofs.SomeSide.{values_forced}
 use Rattle.tt_game.proofs.laws.values.Goals as goal
 
 pub returns : goal.returns
-returns c = state_valued
+returns c = values_forced
