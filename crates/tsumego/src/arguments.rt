@@ -22,6 +22,37 @@ const WORKERS_HELP: &str = "How many threads search first turns side by side, 1 
 
 const CERT_HELP: &str = "Write the certificate on a line of its own";
 
+/// What stands at the end of the program's help.
+const TOOL_END: &str = "Each command reads standard input to its end:
+  tsumego solve < problem.sgf
+Status: 0 all answered, 1 something refused or invalid, 2 these words or the run failed
+Version 0.1.0";
+
+const SOLVE_END: &str = "Reads problems from standard input:
+  tsumego solve < problem.sgf
+A problem has a triangle (TR) on the target stone and squares (SQ) where plays are allowed.
+Answers, where K counts the problems:
+  K killed TURN    the attacker is to move and wins, by this turn
+  K killed         the defender is to move, and the attacker wins
+  K lives TURN     the defender is to move and wins, by this turn
+  K lives          the attacker is to move, and the defender wins
+  K unsettled WHY  a limit came first: budget, depth or memory
+  K refused N      no problem, for the reason with this number
+Status: 0 all answered, 1 something refused, 2 these words or the run failed";
+
+const SCORE_END: &str = "Reads game records from standard input:
+  tsumego score < game.sgf
+Answers, where K counts the records:
+  K black X white Y finished    area scores; every stone counts where it stands
+  K black X white Y unfinished  the same, and the record doesn't end with two passes
+  K refused N                   no record, for the reason with this number
+Status: 0 all answered, 1 something refused, 2 these words or the run failed";
+
+const CHECK_END: &str = "Reads a problem and the certificate behind it from standard input:
+  cat problem.sgf certificate.txt | tsumego check
+Answers: valid, invalid or refused N
+Status: 0 valid, 1 invalid or refused, 2 these words or the run failed";
+
 /// An option with a number from 1 to `most`.
 fn number_option<'a>(
     alloc: Global,
@@ -52,12 +83,12 @@ fn flag<'a>(alloc: Global, name: &'a str, help: &'a str) -> Arg<'a>
         .action(ArgAction::SetTrue)
 }
 
-/// A parser without options, and its text in the list of commands.
-fn named<'a>(alloc: Global, name: &'a str, about: &'a str) -> Parser<'a>
+/// A parser without options, its text in the list of commands, and the end of its help.
+fn named<'a>(alloc: Global, name: &'a str, about: &'a str, end: &'a str) -> Parser<'a>
     ensures app { app_of result ≡ new_app name.entry.now }
     ensures local { (out-Command result).has_globals ≡ false }
 {
-    Parser::new(alloc, name).about(about)
+    Parser::new(alloc, name).about(about).after_help(end)
 }
 
 fn solve_parser<'a>(alloc: Global) -> Result<Parser<'a>, AllocError>
@@ -68,7 +99,7 @@ fn solve_parser<'a>(alloc: Global) -> Result<Parser<'a>, AllocError>
     let depth = number_option(alloc, "depth", 512, "512", DEPTH_HELP);
     let workers = number_option(alloc, "workers", 64, "1", WORKERS_HELP);
     let cert = flag(alloc, "cert", CERT_HELP);
-    let one = named(alloc, "solve", "Solve problems").arg(budget)?;
+    let one = named(alloc, "solve", "Solve problems", SOLVE_END).arg(budget)?;
     let two = one.arg(depth)?;
     let three = two.arg(workers)?;
     three.arg(cert)
@@ -77,11 +108,16 @@ fn solve_parser<'a>(alloc: Global) -> Result<Parser<'a>, AllocError>
 fn parser<'a>(alloc: Global) -> Result<Parser<'a>, AllocError>
     ensures { IfOk result (λ r. app_of r ≡ tool) }
 {
-    let score = named(alloc, "score", "Score game records by area");
-    let check = named(alloc, "check", "Check the certificate behind a problem");
+    let score = named(alloc, "score", "Score game records by area", SCORE_END);
+    let check = named(
+        alloc,
+        "check",
+        "Check the certificate behind a problem",
+        CHECK_END,
+    );
     let solve = solve_parser(alloc)?;
     let about = "Life-and-death problems of Go, read from standard input";
-    let top = named(alloc, "tsumego", about).subcommand_required(true);
+    let top = named(alloc, "tsumego", about, TOOL_END).subcommand_required(true);
     let two = top.subcommand(score)?.subcommand(check)?;
     two.subcommand(solve)
 }

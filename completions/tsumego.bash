@@ -1,0 +1,10 @@
+# Completion of tsumego for bash. Source this file, or copy it to /usr/share/bash-completion/completions/tsumego.
+_tsumego() {
+    local word=${COMP_WORDS[COMP_CWORD]} words=''
+    case $COMP_CWORD,${COMP_WORDS[1]},$word in
+        1,*) words='solve score check' ;;
+        *,solve,-*) words='--budget --depth --workers --cert' ;;
+    esac
+    mapfile -t COMPREPLY < <(compgen -W "$words" -- "$word")
+}
+complete -o default -F _tsumego tsumego
