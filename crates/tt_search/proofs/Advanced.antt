@@ -1,15 +1,16 @@
 -- Steps together keep what is true of every search, and are steps of it one after the other.
-use Rattle.std.proofs.Common.{◌≡◌, ◌≢◌, ℕ, zero, suc, ◌+◌, ◌-◌, ◌*◌, ◌<◌, ◌≤◌, ◌==◌, ◌⊎◌, inl, inr, Bool, true, false, refl, sym, ◌∙◌, ap, subst, arith}
-use Rattle.std.proofs.lemmas.Grind.{common_steps}
+use Rattle.std.proofs.Common.{◌≡◌, ℕ, zero, suc, ◌+◌, ◌-◌, ◌*◌, ◌<◌, ◌≤◌, ◌⊎◌, inl, inr, refl, sym, ◌∙◌, ap, subst, arith}
 use Rattle.tt_game.specs.declared.frame.Frame.{Frame}
 use Rattle.tt_game.specs.Game.{State}
 use Rattle.tt_game.specs.Line.{Standing}
 use Rattle.tt_search.specs.PartialTree.{PartialTree}
 use Rattle.tt_search.specs.Numbers.{count, IsUndecided}
-use Rattle.tt_search.specs.Growing.{Grows, GrownBy, GrownFrom}
-use Rattle.tt_search.specs.Taken.{Taken}
-use Rattle.tt_search.specs.Steady.{IsGrowth, Steady, IsLeft, AreSteps}
-use Rattle.tt_search.specs.Searched.{Searched, IsSearch, IsSameProblem, IsStuckFor, StepOf}
+use Rattle.tt_search.specs.Growing.{IsExpansion, IsClosing, Grows, GrownBy, GrownFrom}
+use Rattle.tt_search.specs.Walking.{Stand, Stage, stage, stand}
+use Rattle.tt_search.specs.Taken.{Taken, IsLeft}
+use Rattle.tt_search.specs.Steady.{IsGrowth, Steady, AreStepsAt}
+use Rattle.tt_search.specs.Searching.{IsSearch}
+use Rattle.tt_search.specs.Searched.{Searched, IsSameProblem, IsStuckFor, StepOf}
 use Rattle.tt_search.specs.Ended.{IsReached}
 use Rattle.tt_search.specs.Advanced.{IsAdvanced}
 use Rattle.tt_search.specs.declared.limits.Limits.{Limits}
@@ -17,96 +18,83 @@ use Rattle.tt_search.specs.declared.limits.Reason.{Reason}
 use Rattle.tt_search.specs.declared.limits.Reason.TheVariants.{Budget, Depth, Memory}
 use Rattle.tt_search.specs.declared.limits.Step.{Step}
 use Rattle.tt_search.specs.declared.limits.Step.TheVariants.{Expanded, Closed, Settled, Stuck}
+use Rattle.tt_search.specs.declared.walk.Pace.{Pace}
 use Rattle.tt_search.proofs.Open.{open_leaves, left_to_do, falls, falls_expanded, falls_closed, reached_itself, reached_more, same_problem}
 use Rattle.tt_search.proofs.Steady.{steady_undecided}
 use Rattle.tt_search.proofs.Steps.{search_expanded, search_closed}
 
--- a search with the tree, where the budget has so much left
-pub record IsSearchWith (f : Frame) (s : State) (limits : Limits) (tree : PartialTree) (left : ℕ) : Type 0 where
-  pub search : IsSearch f s limits tree (limits.budget - left)
-  pub within : left ≤ limits.budget
+module _ (at : Stand) (limits : Limits) where
+  -- growths keep what is true of every search
+  growth_with : (old new : Stage) → IsSearch at limits old → IsUndecided old.tree → IsGrowth at old new → IsSearch at limits new
+  growth_with old new h u (inl g) = search_expanded at limits old new h u g.0 g.1
+  growth_with old new h u (inr g) = search_closed at limits old new h u g.0 g.1
 
-pub search_with : (f : Frame) (s : State) (limits : Limits) (tree : PartialTree) (n left : ℕ) → IsSearch f s limits tree n → left ≡ limits.budget - n → IsSearchWith f s limits tree left
-search_with f s limits tree n left is e =
-    let same : n ≡ limits.budget - left = omega (arith, e, is.counted, is.within) in
-    record { search = subst (IsSearch f s limits tree) same is; within = omega (arith, e) }
+  pub steady_with : (n : ℕ) (old new : Stage) → IsSearch at limits old → IsUndecided old.tree → Steady n at old new → IsSearch at limits new
+  steady_with zero old new h u e = subst (IsSearch at limits) (sym e) h
+  steady_with (suc n) old new h u (before, k, g, same) =
+      growth_with before new (steady_with n old before h u k) (steady_undecided n at old before k u) g
 
-module _ (f : Frame) (s : State) (limits : Limits) where
-  growth_with : (old : PartialTree) (left : ℕ) (new : PartialTree) (left_after : ℕ) → IsSearchWith f s limits old left → IsUndecided old → IsGrowth limits.depth f s old left new left_after → IsSearchWith f s limits new left_after
-  growth_with old left new left_after h u (inl g) =
-      let more : (limits.budget - left) + 1 ≡ limits.budget - left_after = omega (arith, g.0, h.within) in
-      let below : limits.budget - left ≢ limits.budget = omega (arith, g.0, h.within) in
-      record { search = subst (IsSearch f s limits new) more (search_expanded f s limits old new (limits.budget - left) h.search u below g.1); within = omega (arith, g.0, h.within) }
-  growth_with old left new left_after h u (inr g) =
-      let same : limits.budget - left ≡ limits.budget - left_after = omega (arith, g.0) in
-      record { search = subst (IsSearch f s limits new) same (search_closed f s limits old new (limits.budget - left) h.search u g.1); within = omega (arith, g.0, h.within) }
+  same_with : (old new : Stage) → IsSearch at limits old → new.tree ≡ old.tree → old.left ≡ new.left → IsSearch at limits new
+  same_with old new h e l = subst (λ t. IsSearch at limits (stage t new.left)) (sym e) (subst (λ n. IsSearch at limits (stage old.tree n)) l h)
 
-  steady_with : (n : ℕ) (old : PartialTree) (left : ℕ) (new : PartialTree) (left_after : ℕ) → IsSearchWith f s limits old left → IsUndecided old → Steady n limits.depth f s old left new left_after → IsSearchWith f s limits new left_after
-  steady_with zero old left new left_after h u (e, l) = subst (λ t. IsSearchWith f s limits t left_after) (sym e) (subst (IsSearchWith f s limits old) (sym l) h)
-  steady_with (suc n) old left new left_after h u (before, left_before, k, g, same) =
-      growth_with before left_before new left_after (steady_with n old left before left_before h u k) (steady_undecided n limits.depth f s old left before left_before k u) g
+  -- so does a step
+  taken_with : (old : Stage) (step : Step) (new : Stage) → IsSearch at limits old → IsUndecided old.tree → Taken at old step new.tree → IsLeft step old.left new.left → IsSearch at limits new
+  taken_with old Expanded new h u k l = growth_with old new h u (inl (l, k.1))
+  taken_with old Closed new h u k l = growth_with old new h u (inr (l, k))
+  taken_with old Settled new h u k l = absurd k
+  taken_with old (Stuck Budget) new h u k l = same_with old new h k.1 l
+  taken_with old (Stuck Depth) new h u k l = same_with old new h k.2 l
+  taken_with old (Stuck Memory) new h u k l = same_with old new h k l
 
-  same_with : (old : PartialTree) (left : ℕ) (new : PartialTree) (left_after : ℕ) → IsSearchWith f s limits old left → new ≡ old → left ≡ left_after → IsSearchWith f s limits new left_after
-  same_with old left new left_after h e l = subst (λ t. IsSearchWith f s limits t left_after) (sym e) (subst (IsSearchWith f s limits old) l h)
+  -- and so do steps together
+  pub steps_with : (pace : Pace) (old : Stage) (step : Step) (new : Stage) → IsSearch at limits old → IsUndecided old.tree → AreStepsAt pace at old step new → IsSearch at limits new
+  steps_with pace old step new h u k =
+      taken_with k.before step new (steady_with k.how_many old k.before h u k.steady) (steady_undecided k.how_many at old k.before k.steady u) k.taken k.counted
 
-  taken_with : (old : PartialTree) (left : ℕ) (step : Step) (new : PartialTree) (left_after : ℕ) → IsSearchWith f s limits old left → IsUndecided old → Taken (left == 0) limits.depth f s old step new → IsLeft step left left_after → IsSearchWith f s limits new left_after
-  taken_with old left Expanded new left_after h u k l = growth_with old left new left_after h u (inl (l, k.1))
-  taken_with old left Closed new left_after h u k l = growth_with old left new left_after h u (inr (l, k))
-  taken_with old left Settled new left_after h u k l = absurd k
-  taken_with old left (Stuck Budget) new left_after h u k l = same_with old left new left_after h k.1 l
-  taken_with old left (Stuck Depth) new left_after h u k l = same_with old left new left_after h k.2 l
-  taken_with old left (Stuck Memory) new left_after h u k l = same_with old left new left_after h k l
+  grows_with : (old new : Stage) → IsSearch at limits old → IsUndecided old.tree → IsGrowth at old new → Grows limits at.frame at.state old.tree new.tree
+  grows_with old new h u (inl g) =
+      (u, inl (omega (arith, g.0, h.counted), subst (λ r. IsExpansion r at.frame at.state old.tree new.tree) h.room g.1))
+  grows_with old new h u (inr g) = (u, inr (subst (λ r. IsClosing r at.frame at.state old.tree new.tree) h.room g.1))
 
-  pub steps_with : (once : Bool) (old : PartialTree) (left : ℕ) (step : Step) (new : PartialTree) (left_after : ℕ) → IsSearchWith f s limits old left → IsUndecided old → AreSteps once limits.depth f s old left step new left_after → IsSearchWith f s limits new left_after
-  steps_with once old left step new left_after h u k =
-      taken_with k.before k.left_before step new left_after (steady_with k.how_many old left k.before k.left_before h u k.steady) (steady_undecided k.how_many limits.depth f s old left k.before k.left_before k.steady u) k.taken k.counted
-
-  grows_with : (old : PartialTree) (left : ℕ) (new : PartialTree) (left_after : ℕ) → IsSearchWith f s limits old left → IsUndecided old → IsGrowth limits.depth f s old left new left_after → Grows limits f s old new
-  grows_with old left new left_after h u (inl g) = (u, inl (omega (arith, g.0, h.within, h.search.counted), g.1))
-  grows_with old left new left_after h u (inr g) = (u, inr g.1)
-
-  grown_steady : (n : ℕ) (old : PartialTree) (left : ℕ) (new : PartialTree) (left_after : ℕ) → IsSearchWith f s limits old left → IsUndecided old → Steady n limits.depth f s old left new left_after → GrownBy n limits f s old new
-  grown_steady zero old left new left_after h u (e, l) = e
-  grown_steady (suc n) old left new left_after h u (before, left_before, k, g, same) = (
-    before,
-    grown_steady n old left before left_before h u k,
-    grows_with before left_before new left_after (steady_with n old left before left_before h u k) (steady_undecided n limits.depth f s old left before left_before k u) g,
+  -- growths that keep the numbers are growths within the limits
+  pub grown_steady : (n : ℕ) (old new : Stage) → IsSearch at limits old → IsUndecided old.tree → Steady n at old new → GrownBy n limits at.frame at.state old.tree new.tree
+  grown_steady zero old new h u e = ap (λ (x : Stage). x.tree) e
+  grown_steady (suc n) old new h u (before, k, g, same) = (
+    before.tree,
+    grown_steady n old before h u k,
+    grows_with before new (steady_with n old before h u k) (steady_undecided n at old before k u) g,
   )
-
-none_left : (left : ℕ) → (left == 0) ≡ true → left ≡ 0
-none_left left e = grind (arith, common_steps)
-
-some_left : (left : ℕ) → (left == 0) ≡ false → left ≢ 0
-some_left left e h = grind (arith, common_steps)
 
 abbrev searched : Standing → Limits → PartialTree → Searched
 searched line limits tree = record { line = line; limits = limits; tree = tree }
 
-step_of : (line : Standing) (limits : Limits) (old : PartialTree) (left : ℕ) (step : Step) (new : PartialTree) (left_after : ℕ) → IsSearchWith line.frame line.state limits old left → IsUndecided old → Taken (left == 0) limits.depth line.frame line.state old step new → IsLeft step left left_after → StepOf (searched line limits old) step (searched line limits new)
-step_of line limits old left Expanded new left_after h u k l = (u, omega (arith, l, h.within, h.search.counted), k.1)
-step_of line limits old left Closed new left_after h u k l = (u, k)
-step_of line limits old left Settled new left_after h u k l = absurd k
-step_of line limits old left (Stuck Budget) new left_after h u k l = ((u, omega (arith, none_left left k.0, h.search.counted)), ap (searched line limits) k.1)
-step_of line limits old left (Stuck Depth) new left_after h u k l = ((u, omega (arith, some_left left k.0, h.within, h.search.counted), k.1), ap (searched line limits) k.2)
-step_of line limits old left (Stuck Memory) new left_after h u k l = (u, ap (searched line limits) k)
+module _ (line : Standing) (room : ℕ) (limits : Limits) where
+  -- what a step at the root is to a search
+  step_of : (old : Stage) (step : Step) (new : Stage) → IsSearch (stand line room) limits old → IsUndecided old.tree → Taken (stand line room) old step new.tree → IsLeft step old.left new.left → StepOf (searched line limits old.tree) step (searched line limits new.tree)
+  step_of old Expanded new h u k l = (u, omega (arith, l, h.counted), subst (λ r. IsExpansion r line.frame line.state old.tree new.tree) h.room k.1)
+  step_of old Closed new h u k l = (u, subst (λ r. IsClosing r line.frame line.state old.tree new.tree) h.room k)
+  step_of old Settled new h u k l = absurd k
+  step_of old (Stuck Budget) new h u k l = ((u, omega (arith, k.0, h.counted)), ap (searched line limits) k.1)
+  step_of old (Stuck Depth) new h u k l = ((u, omega (arith, k.0, h.counted), k.1 ∙ h.room), ap (searched line limits) k.2)
+  step_of old (Stuck Memory) new h u k l = (u, ap (searched line limits) k)
 
-no_steps : (n room : ℕ) (f : Frame) (s : State) (old : PartialTree) (left : ℕ) (new : PartialTree) (left_after : ℕ) → n ≡ 0 → Steady n room f s old left new left_after → new ≡ old
-no_steps n room f s old left new left_after e h = (subst (λ n. Steady n room f s old left new left_after) e h).0
+  no_steps : (n : ℕ) (old new : Stage) → n ≡ 0 → Steady n (stand line room) old new → new.tree ≡ old.tree
+  no_steps n old new e h = ap (λ (x : Stage). x.tree) (subst (λ n. Steady n (stand line room) old new) e h)
 
--- what steps at the root are to a search
-pub advanced : (once : Bool) (line : Standing) (limits : Limits) (old : PartialTree) (left : ℕ) (step : Step) (new : PartialTree) (left_after : ℕ) → IsSearchWith line.frame line.state limits old left → IsUndecided old → AreSteps once limits.depth line.frame line.state old left step new left_after → IsAdvanced once (searched line limits old) step (searched line limits new)
-advanced once line limits old left step new left_after h u k = record {
-  before = searched line limits k.before;
-  reached = record {
-    problem = record { line = refl; limits = refl };
-    grown = (k.how_many, grown_steady line.frame line.state limits k.how_many old left k.before k.left_before h u k.steady);
-  };
-  one = λ e. ap (searched line limits) (no_steps k.how_many limits.depth line.frame line.state old left k.before k.left_before (k.one e) k.steady);
-  taken = step_of line limits k.before k.left_before step new left_after (steady_with line.frame line.state limits k.how_many old left k.before k.left_before h u k.steady) (steady_undecided k.how_many limits.depth line.frame line.state old left k.before k.left_before k.steady u) k.taken k.counted;
-}
+  -- what steps at the root are to a search
+  pub advanced : (pace : Pace) (old : Stage) (step : Step) (new : Stage) → IsSearch (stand line room) limits old → IsUndecided old.tree → AreStepsAt pace (stand line room) old step new → IsAdvanced pace (searched line limits old.tree) step (searched line limits new.tree)
+  advanced pace old step new h u k = record {
+    before = searched line limits k.before.tree;
+    reached = record {
+      problem = record { line = refl; limits = refl };
+      grown = (k.how_many, grown_steady (stand line room) limits k.how_many old k.before h u k.steady);
+    };
+    one = λ e. ap (searched line limits) (no_steps k.how_many old k.before (k.one e) k.steady);
+    taken = step_of k.before step new (steady_with (stand line room) limits k.how_many old k.before h u k.steady) (steady_undecided k.how_many (stand line room) old k.before k.steady u) k.taken k.counted;
+  }
 
-pub advanced_settled : (once : Bool) (old : Searched) → (IsUndecided old.tree → ⊥) → IsAdvanced once old Settled old
-advanced_settled once old h = record { before = old; reached = reached_itself old; one = λ e. refl; taken = (h, refl) }
+pub advanced_settled : (pace : Pace) (old : Searched) → (IsUndecided old.tree → ⊥) → IsAdvanced pace old Settled old
+advanced_settled pace old h = record { before = old; reached = reached_itself old; one = λ e. refl; taken = (h, refl) }
 
 -- ---- runs
 
@@ -138,23 +126,23 @@ reached_falls old new h = subst (λ l. open_leaves new.tree + (l.budget - count 
 since_before : (old before new : Searched) → IsSameProblem old before → IsSameProblem old new → IsSameProblem before new
 since_before old before new h k = record { line = k.line ∙ sym h.line; limits = k.limits ∙ sym h.limits }
 
-pub advanced_falls : (once : Bool) (old new : Searched) (step : Step) → IsAdvanced once old step new → IsSameProblem old new → (step ≡ Expanded) ⊎ (step ≡ Closed) → left_to_do new < left_to_do old
-advanced_falls once old new step h same changed =
+pub advanced_falls : (pace : Pace) (old new : Searched) (step : Step) → IsAdvanced pace old step new → IsSameProblem old new → (step ≡ Expanded) ⊎ (step ≡ Closed) → left_to_do new < left_to_do old
+advanced_falls pace old new step h same changed =
     omega (arith, reached_falls old h.before h.reached, falls h.before new step h.taken (since_before old h.before new h.reached.problem same) changed)
 
-pub advanced_reached : (once : Bool) (start old new : Searched) (step : Step) → IsReached start old → IsAdvanced once old step new → IsSameProblem old new → (step ≡ Expanded) ⊎ (step ≡ Closed) → IsReached start new
-advanced_reached once start old new step r h same changed =
+pub advanced_reached : (pace : Pace) (start old new : Searched) (step : Step) → IsReached start old → IsAdvanced pace old step new → IsSameProblem old new → (step ≡ Expanded) ⊎ (step ≡ Closed) → IsReached start new
+advanced_reached pace start old new step r h same changed =
     reached_more start h.before new step (reached_joined start old h.before r h.reached) (since_before old h.before new h.reached.problem same) h.taken changed
 
-pub settled_reached : (once : Bool) (start old new : Searched) → IsReached start old → IsAdvanced once old Settled new → IsReached start new
-settled_reached once start old new r h = subst (IsReached start) (sym h.taken.1) (reached_joined start old h.before r h.reached)
+pub settled_reached : (pace : Pace) (start old new : Searched) → IsReached start old → IsAdvanced pace old Settled new → IsReached start new
+settled_reached pace start old new r h = subst (IsReached start) (sym h.taken.1) (reached_joined start old h.before r h.reached)
 
 stuck_of : (reason : Reason) (old new : Searched) → StepOf old (Stuck reason) new → IsStuckFor reason old × (new ≡ old)
 stuck_of Budget old new h = h
 stuck_of Depth old new h = h
 stuck_of Memory old new h = (tt, h.1)
 
-pub stuck_reached : (once : Bool) (start old new : Searched) (reason : Reason) → IsReached start old → IsAdvanced once old (Stuck reason) new → IsReached start new × IsStuckFor reason new
-stuck_reached once start old new reason r h =
+pub stuck_reached : (pace : Pace) (start old new : Searched) (reason : Reason) → IsReached start old → IsAdvanced pace old (Stuck reason) new → IsReached start new × IsStuckFor reason new
+stuck_reached pace start old new reason r h =
     let stuck = stuck_of reason h.before new h.taken in
     (subst (IsReached start) (sym stuck.1) (reached_joined start old h.before r h.reached), subst (IsStuckFor reason) (sym stuck.1) stuck.0)

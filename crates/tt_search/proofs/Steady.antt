@@ -1,144 +1,159 @@
 -- Steps that keep the numbers of a node's best child keep those of the node, and it stays the best child.
-use Rattle.std.proofs.Common.{◌≡◌, ℕ, zero, suc, ◌+◌, ◌-◌, ◌*◌, ◌<◌, ◌≤◌, ◌==◌, ◌⊎◌, inl, inr, List, [], ◌∷◌, Bool, true, false, length, get_or, set, refl, sym, ◌∙◌, ap, subst, arith}
+use Rattle.std.proofs.Common.{◌≡◌, ◌≢◌, ◌↔◌, ℕ, zero, suc, ◌+◌, ◌-◌, ◌*◌, ◌<◌, ◌≤◌, ◌⊎◌, inl, inr, Bool, true, false, List, [], ◌∷◌, length, get_or, set, refl, sym, ◌∙◌, ap, subst, arith}
 use Rattle.std.proofs.lemmas.List.{length-set, get_or-set_same, set-get_or}
 use Rattle.tt_game.specs.declared.frame.Side.{Side}
 use Rattle.tt_game.specs.declared.frame.Side.TheVariants.{Attacker, Defender}
 use Rattle.tt_game.specs.declared.turns.Turn.{Turn}
-use Rattle.tt_game.specs.declared.frame.Frame.{Frame}
-use Rattle.tt_game.specs.Game.{State, after}
 use Rattle.tt_game.specs.Line.{Standing}
 use Rattle.tt_search.specs.PartialTree.{PartialTree, expanded}
 use Rattle.tt_search.specs.Numbers.{combined, number, numbers, count, IsUndecided}
 use Rattle.tt_search.specs.MostProving.{first_least, best}
-use Rattle.tt_search.specs.Growing.{IsPartialTree}
-use Rattle.tt_search.specs.Within.{StaysWithin}
-use Rattle.tt_search.specs.Taken.{Taken}
-use Rattle.tt_search.specs.Steady.{HaveSameNumbers, IsGrowth, Steady, IsLeft, AreSteps}
+use Rattle.tt_search.specs.Walking.{Stand, Stage, stage, stand, stand_of, stand_after, MayGrow}
+use Rattle.tt_search.specs.Taken.{Taken, IsLeft}
+use Rattle.tt_search.specs.Steady.{HaveSameNumbers, IsGrowth, Steady, AreStepsAt}
 use Rattle.tt_search.specs.Children.{children_of}
 use Rattle.tt_search.specs.declared.limits.Step.{Step}
 use Rattle.tt_search.specs.declared.limits.Step.TheVariants.{Expanded, Closed}
+use Rattle.tt_search.specs.declared.walk.Pace.{Pace}
+use Rattle.tt_search.specs.declared.walk.Pace.TheVariants.{OneStep}
+use Rattle.tt_search.specs.declared.walk.Walk.{Walk}
 use Rattle.tt_search.proofs.Lifted.{lengths, lifted}
 use Rattle.tt_search.proofs.Best.{best_child}
-use Rattle.tt_search.proofs.Steps.{taken_keeps, counted_expanded, counted_other, IsOfferable, taken_offerable}
+use Rattle.tt_search.proofs.Steps.{taken_keeps, counted_expanded, counted_closed, IsTreeWithin, IsOfferable, offerable}
 use Rattle.tt_search.proofs.Open.{open_leaves, falls_expanded, falls_closed}
 
 -- ---- what growths that keep the numbers keep
 
-pub steady_numbers : (n room : ℕ) (f : Frame) (s : State) (old : PartialTree) (left : ℕ) (new : PartialTree) (left_after : ℕ) → Steady n room f s old left new left_after → HaveSameNumbers old new
-steady_numbers zero room f s old left new left_after (e, l) goal = ap (number goal) e
-steady_numbers (suc n) room f s old left new left_after (before, left_before, h, g, same) goal = same goal ∙ steady_numbers n room f s old left before left_before h goal
+-- all of them together keep the numbers
+pub steady_numbers : (n : ℕ) (at : Stand) (old new : Stage) → Steady n at old new → HaveSameNumbers old.tree new.tree
+steady_numbers zero at old new e goal = ap (λ (x : Stage). number goal x.tree) e
+steady_numbers (suc n) at old new (before, h, g, same) goal = same goal ∙ steady_numbers n at old before h goal
 
 pub undecided_same : (a b : PartialTree) → HaveSameNumbers a b → IsUndecided a → IsUndecided b
 undecided_same a b h u = (λ e. u.0 (sym (h Attacker) ∙ e), λ e. u.1 (sym (h Defender) ∙ e))
 
-pub steady_undecided : (n room : ℕ) (f : Frame) (s : State) (old : PartialTree) (left : ℕ) (new : PartialTree) (left_after : ℕ) → Steady n room f s old left new left_after → IsUndecided old → IsUndecided new
-steady_undecided n room f s old left new left_after h = undecided_same old new (steady_numbers n room f s old left new left_after h)
+pub steady_undecided : (n : ℕ) (at : Stand) (old new : Stage) → Steady n at old new → IsUndecided old.tree → IsUndecided new.tree
+steady_undecided n at old new h = undecided_same old.tree new.tree (steady_numbers n at old new h)
 
-growth_keeps : (room : ℕ) (f : Frame) (s : State) (old : PartialTree) (left : ℕ) (new : PartialTree) (left_after : ℕ) → IsGrowth room f s old left new left_after → IsUndecided old → IsPartialTree f s old → StaysWithin f.size room old → IsPartialTree f s new × StaysWithin f.size room new
-growth_keeps room f s old left new left_after (inl h) u p k = taken_keeps false room f s old Expanded new u p k (refl, h.1)
-growth_keeps room f s old left new left_after (inr h) u p k = taken_keeps false room f s old Closed new u p k h.1
+-- what is left for an expansion isn't nothing
+some_left : (a b : ℕ) → a ≡ b + 1 → a ≢ 0
+some_left a b e z = omega (arith, e, z)
 
-pub steady_keeps : (n room : ℕ) (f : Frame) (s : State) (old : PartialTree) (left : ℕ) (new : PartialTree) (left_after : ℕ) → Steady n room f s old left new left_after → IsUndecided old → IsPartialTree f s old → StaysWithin f.size room old → IsPartialTree f s new × StaysWithin f.size room new
-steady_keeps zero room f s old left new left_after (e, l) u p k = (subst (IsPartialTree f s) (sym e) p, subst (StaysWithin f.size room) (sym e) k)
-steady_keeps (suc n) room f s old left new left_after (before, left_before, h, g, same) u p k =
-    let keeps = steady_keeps n room f s old left before left_before h u p k in
-    growth_keeps room f s before left_before new left_after g (steady_undecided n room f s old left before left_before h u) keeps.0 keeps.1
+-- a growth keeps a partial tree one, within its room
+growth_keeps : (at : Stand) (old new : Stage) → IsGrowth at old new → MayGrow at old.tree → IsTreeWithin at new.tree
+growth_keeps at old new (inl h) m = taken_keeps at old Expanded new.tree m (some_left old.left new.left h.0, h.1)
+growth_keeps at old new (inr h) m = taken_keeps at old Closed new.tree m h.1
+
+-- all of them together keep that a tree may grow
+pub steady_keeps : (n : ℕ) (at : Stand) (old new : Stage) → Steady n at old new → MayGrow at old.tree → MayGrow at new.tree
+steady_keeps zero at old new e m = subst (λ (x : Stage). MayGrow at x.tree) (sym e) m
+steady_keeps (suc n) at old new (before, h, g, same) m =
+    let was = steady_keeps n at old before h m in
+    let keeps = growth_keeps at before new g was in
+    record { undecided = undecided_same before.tree new.tree same was.undecided; partial = keeps.0; stays = keeps.1 }
 
 -- ---- an end
 
 -- what is left to do below a node
-abbrev pub to_do : PartialTree → ℕ → ℕ
-to_do tree left = open_leaves tree + left * 363
+abbrev pub to_do : Stage → ℕ
+to_do now = open_leaves now.tree + now.left * 363
 
-pub growth_falls : (room : ℕ) (f : Frame) (s : State) (old : PartialTree) (left : ℕ) (new : PartialTree) (left_after : ℕ) → IsGrowth room f s old left new left_after → IsUndecided old → to_do new left_after < to_do old left
-growth_falls room f s old left new left_after (inl h) u =
-    omega (arith, h.0, falls_expanded room (left + count old) f s old new u (omega (arith, h.0)) h.1, counted_expanded room f s old new u h.1)
-growth_falls room f s old left new left_after (inr h) u =
-    omega (arith, h.0, falls_closed room (left + count old) f s old new u h.1, counted_other false room f s old Closed new u (λ e. cc) h.1)
+-- a growth leaves less to do
+pub growth_falls : (at : Stand) (old new : Stage) → IsGrowth at old new → IsUndecided old.tree → to_do new < to_do old
+growth_falls at old new (inl h) u =
+    let budget = old.left + count old.tree in
+    omega (arith, h.0, falls_expanded at.room budget at.frame at.state old.tree new.tree u (omega (arith, h.0)) h.1, counted_expanded at old.tree new.tree u h.1)
+growth_falls at old new (inr h) u =
+    let budget = old.left + count old.tree in
+    omega (arith, h.0, falls_closed at.room budget at.frame at.state old.tree new.tree u h.1, counted_closed at old.tree new.tree u h.1)
 
-pub steady_falls : (n room : ℕ) (f : Frame) (s : State) (old : PartialTree) (left : ℕ) (new : PartialTree) (left_after : ℕ) → Steady n room f s old left new left_after → IsUndecided old → to_do new left_after ≤ to_do old left
-steady_falls zero room f s old left new left_after (e, l) u = omega (arith, ap open_leaves e, l)
-steady_falls (suc n) room f s old left new left_after (before, left_before, h, g, same) u =
-    omega (arith, steady_falls n room f s old left before left_before h u, growth_falls room f s before left_before new left_after g (steady_undecided n room f s old left before left_before h u))
+-- growths together leave no more to do
+pub steady_falls : (n : ℕ) (at : Stand) (old new : Stage) → Steady n at old new → IsUndecided old.tree → to_do new ≤ to_do old
+steady_falls zero at old new e u = omega (arith, ap to_do e)
+steady_falls (suc n) at old new (before, h, g, same) u =
+    omega (arith, steady_falls n at old before h u, growth_falls at before new g (steady_undecided n at old before h u))
 
 -- a step that changes its tree grows it
-pub changed_grows : (room : ℕ) (f : Frame) (s : State) (old : PartialTree) (left : ℕ) (step : Step) (new : PartialTree) (left_after : ℕ) → Taken (left == 0) room f s old step new → IsLeft step left left_after → (step ≡ Expanded) ⊎ (step ≡ Closed) → IsGrowth room f s old left new left_after
-changed_grows room f s old left step new left_after h l (inl e) =
-    inl (subst (λ s. IsLeft s left left_after) e l, (subst (λ x. Taken (left == 0) room f s old x new) e h).1)
-changed_grows room f s old left step new left_after h l (inr e) =
-    inr (subst (λ s. IsLeft s left left_after) e l, subst (λ x. Taken (left == 0) room f s old x new) e h)
+pub changed_grows : (at : Stand) (old : Stage) (step : Step) (new : Stage) → Taken at old step new.tree → IsLeft step old.left new.left → (step ≡ Expanded) ⊎ (step ≡ Closed) → IsGrowth at old new
+changed_grows at old step new h l (inl e) = inl (subst (λ s. IsLeft s old.left new.left) e l, (subst (λ x. Taken at old x new.tree) e h).1)
+changed_grows at old step new h l (inr e) = inr (subst (λ s. IsLeft s old.left new.left) e l, subst (λ x. Taken at old x new.tree) e h)
 
 -- ---- rounds at one node
 
-steady_joined : (n m room : ℕ) (f : Frame) (s : State) (a : PartialTree) (left : ℕ) (b : PartialTree) (left_b : ℕ) (c : PartialTree) (left_c : ℕ) → Steady n room f s a left b left_b → Steady m room f s b left_b c left_c → Steady (m + n) room f s a left c left_c
-steady_joined n zero room f s a left b left_b c left_c h (e, l) =
+-- growths go on where others ended
+steady_joined : (n m : ℕ) (at : Stand) (a b c : Stage) → Steady n at a b → Steady m at b c → Steady (m + n) at a c
+steady_joined n zero at a b c h e =
     let none : n ≡ 0 + n = omega arith in
-    subst (λ k. Steady k room f s a left c left_c) none (subst (λ x. Steady n room f s a left x left_c) (sym e) (subst (λ x. Steady n room f s a left b x) (sym l) h))
-steady_joined n (suc m) room f s a left b left_b c left_c h (before, left_before, k, g, same) =
+    subst (λ k. Steady k at a c) none (subst (Steady n at a) (sym e) h)
+steady_joined n (suc m) at a b c h (before, k, g, same) =
     let one_more : suc (m + n) ≡ suc m + n = omega arith in
-    subst (λ k. Steady k room f s a left c left_c) one_more (before, left_before, steady_joined n m room f s a left b left_b before left_before h k, g, same)
+    subst (λ k. Steady k at a c) one_more (before, steady_joined n m at a b before h k, g, same)
 
 -- where the rounds of a node have led so far
-pub record IsUnderWay (once : Bool) (room : ℕ) (f : Frame) (s : State) (old : PartialTree) (left : ℕ) (tree : PartialTree) (left_now : ℕ) : Type 0 where
+pub record IsUnderWay (pace : Pace) (at : Stand) (old now : Stage) : Type 0 where
   pub rounds : ℕ
-  pub steady : Steady rounds room f s old left tree left_now
-  pub one : once ≡ true → rounds ≡ 0
-  pub undecided : IsUndecided tree
-  pub partial : IsPartialTree f s tree
-  pub stays : StaysWithin f.size room tree
+  pub steady : Steady rounds at old now
+  pub one : pace ≡ OneStep → rounds ≡ 0
+  pub may_grow : MayGrow at now.tree
 
-pub under_way : (once : Bool) (room : ℕ) (f : Frame) (s : State) (old : PartialTree) (left : ℕ) → IsUndecided old → IsPartialTree f s old → StaysWithin f.size room old → IsUnderWay once room f s old left old left
-under_way once room f s old left u p k = record { rounds = 0; steady = (refl, refl); one = λ e. refl; undecided = u; partial = p; stays = k }
+pub under_way : (pace : Pace) (at : Stand) (old : Stage) → MayGrow at old.tree → IsUnderWay pace at old old
+under_way pace at old m = record { rounds = 0; steady = refl; one = λ e. refl; may_grow = m }
 
--- the steps of a round that is the last one
-pub last_round : (once : Bool) (room : ℕ) (f : Frame) (s : State) (old : PartialTree) (left : ℕ) (tree : PartialTree) (left_now : ℕ) (step : Step) (new : PartialTree) (left_after : ℕ) → IsUnderWay once room f s old left tree left_now → AreSteps once room f s tree left_now step new left_after → AreSteps once room f s old left step new left_after
-last_round once room f s old left tree left_now step new left_after h k = record {
-  how_many = k.how_many + h.rounds;
-  before = k.before;
-  left_before = k.left_before;
-  steady = steady_joined h.rounds k.how_many room f s old left tree left_now k.before k.left_before h.steady k.steady;
-  one = λ e. omega (arith, h.one e, k.one e);
-  taken = k.taken;
-  counted = k.counted;
-}
+module _ (pace : Pace) (at : Stand) (old now : Stage) (step : Step) (new : Stage) (steps : AreStepsAt pace at now step new) where
+  -- the steps of a round that is the last one
+  pub last_round : IsUnderWay pace at old now → AreStepsAt pace at old step new
+  last_round h = record {
+    how_many = steps.how_many + h.rounds;
+    before = steps.before;
+    steady = steady_joined h.rounds steps.how_many at old now steps.before h.steady steps.steady;
+    one = λ e. omega (arith, h.one e, steps.one e);
+    taken = steps.taken;
+    counted = steps.counted;
+  }
 
--- a round that keeps the numbers
-module _ (once : Bool) (room : ℕ) (f : Frame) (s : State) (tree : PartialTree) (left : ℕ) (step : Step) (new : PartialTree) (left_after : ℕ) (steps : AreSteps once room f s tree left step new left_after) (changed : (step ≡ Expanded) ⊎ (step ≡ Closed)) where
-  growth_of : IsGrowth room f s steps.before steps.left_before new left_after
-  growth_of = changed_grows room f s steps.before steps.left_before step new left_after steps.taken steps.counted changed
+  growth_of : (step ≡ Expanded) ⊎ (step ≡ Closed) → IsGrowth at steps.before new
+  growth_of = changed_grows at steps.before step new steps.taken steps.counted
 
-  pub round_steady : HaveSameNumbers tree new → Steady (suc steps.how_many) room f s tree left new left_after
-  round_steady same = (
-    steps.before,
-    steps.left_before,
-    steps.steady,
-    growth_of,
-    λ goal. same goal ∙ sym (steady_numbers steps.how_many room f s tree left steps.before steps.left_before steps.steady goal),
-  )
-
-  pub round_falls : IsUndecided tree → to_do new left_after < to_do tree left
-  round_falls u = omega (
+  -- a round that changes its tree leaves less to do
+  pub round_falls : (step ≡ Expanded) ⊎ (step ≡ Closed) → IsUndecided now.tree → to_do new < to_do now
+  round_falls changed u = omega (
     arith,
-    steady_falls steps.how_many room f s tree left steps.before steps.left_before steps.steady u,
-    growth_falls room f s steps.before steps.left_before new left_after growth_of (steady_undecided steps.how_many room f s tree left steps.before steps.left_before steps.steady u),
+    steady_falls steps.how_many at now steps.before steps.steady u,
+    growth_falls at steps.before new (growth_of changed) (steady_undecided steps.how_many at now steps.before steps.steady u),
   )
 
-pub next_round : (once : Bool) (room : ℕ) (f : Frame) (s : State) (old : PartialTree) (left : ℕ) (tree : PartialTree) (left_now : ℕ) (step : Step) (new : PartialTree) (left_after : ℕ) → once ≡ false → IsUnderWay once room f s old left tree left_now → AreSteps once room f s tree left_now step new left_after → (step ≡ Expanded) ⊎ (step ≡ Closed) → HaveSameNumbers tree new → IsUnderWay once room f s old left new left_after
-next_round once room f s old left tree left_now step new left_after more h k changed same =
-    let steady = round_steady once room f s tree left_now step new left_after k changed same in
-    let keeps = steady_keeps (suc k.how_many) room f s tree left_now new left_after steady h.undecided h.partial h.stays in
-    record {
-      rounds = suc k.how_many + h.rounds;
-      steady = steady_joined h.rounds (suc k.how_many) room f s old left tree left_now new left_after h.steady steady;
-      one = λ e. cc;
-      undecided = undecided_same tree new same h.undecided;
-      partial = keeps.0;
-      stays = keeps.1;
-    }
+  -- a round that keeps the numbers is one more growth
+  round_steady : (step ≡ Expanded) ⊎ (step ≡ Closed) → HaveSameNumbers now.tree new.tree → Steady (suc steps.how_many) at now new
+  round_steady changed same = (
+    steps.before,
+    steps.steady,
+    growth_of changed,
+    λ goal. same goal ∙ sym (steady_numbers steps.how_many at now steps.before steps.steady goal),
+  )
+
+  -- and the rounds are under way
+  pub next_round : (once : Bool) → (once ≡ true) ↔ (pace ≡ OneStep) → once ≡ false → IsUnderWay pace at old now → (step ≡ Expanded) ⊎ (step ≡ Closed) → HaveSameNumbers now.tree new.tree → IsUnderWay pace at old new
+  next_round once says more h changed same =
+      let steady = round_steady changed same in
+      record {
+        rounds = suc steps.how_many + h.rounds;
+        steady = steady_joined h.rounds (suc steps.how_many) at old now new h.steady steady;
+        one = λ e. let is : once ≡ true = says.1 e in cc;
+        may_grow = steady_keeps (suc steps.how_many) at now new steady h.may_grow;
+      }
 
 pub same_numbers : (a b : PartialTree) → number Attacker b ≡ number Attacker a → number Defender b ≡ number Defender a → HaveSameNumbers a b
 same_numbers a b p d Attacker = p
 same_numbers a b p d Defender = d
+
+-- what steps make of a tree may be offered
+pub steps_offerable : (pace : Pace) (line : Standing) (room : ℕ) (old : Stage) (step : Step) (new : Stage) → room ≤ 512 → MayGrow (stand line room) old.tree → AreStepsAt pace (stand line room) old step new → IsOfferable line new.tree
+steps_offerable pace line room old step new l m k =
+    offerable line room new.tree l (taken_keeps (stand line room) k.before step new.tree (steady_keeps k.how_many (stand line room) old k.before k.steady m) k.taken)
+
+-- two walks on one line with the same room stand at one place
+pub same_stand : (a b : Walk) → a.line ≡ b.line → a.room ≡ b.room → stand_of a ≡ stand_of b
+same_stand a b l r = ap (λ x. stand x a.room) l ∙ ap (stand b.line) r
 
 -- ---- from the best child to its node
 
@@ -152,13 +167,21 @@ set_twice [] i a b = refl
 set_twice (t ∷ trees) zero a b = refl
 set_twice (t ∷ trees) (suc i) a b = ap (λ ts. t ∷ ts) (set_twice trees i a b)
 
-module _ (f : Frame) (s : State) (mover : Side) (turns : List Turn) (trees : List PartialTree) (t : Turn) (child : PartialTree) (p : ℕ) (place_is : p ≡ best mover (children_of trees)) (in_trees : p < length trees) (same : length turns ≡ length trees) (t_is : t ≡ get_or turns p t) (child_is : child ≡ get_or trees p child) (room : ℕ) (pos : 0 < room) where
+module _ (at : Stand) (mover : Side) (turns : List Turn) (trees : List PartialTree) (t : Turn) (child : PartialTree) (p : ℕ) (place_is : p ≡ best mover (children_of trees)) (in_trees : p < length trees) (same : length turns ≡ length trees) (t_is : t ≡ get_or turns p t) (child_is : child ≡ get_or trees p child) (pos : 0 < at.room) where
   -- the node with another tree in the place of its best child
   abbrev pub with_child : PartialTree → PartialTree
   with_child tree = expanded mover turns (children_of (set trees p tree))
 
+  abbrev with_stage : Stage → Stage
+  with_stage now = stage (with_child now.tree) now.left
+
+  abbrev below : Stand
+  below = stand_after at t
+
   with_child_is : with_child child ≡ expanded mover turns (children_of trees)
-  with_child_is = ap (λ c. expanded mover turns (children_of (set trees p c))) child_is ∙ ap (λ ts. expanded mover turns (children_of ts)) (set-get_or trees p child)
+  with_child_is =
+      ap (λ c. expanded mover turns (children_of (set trees p c))) child_is
+      ∙ ap (λ ts. expanded mover turns (children_of ts)) (set-get_or trees p child)
 
   row_is : (tree : PartialTree) → HaveSameNumbers child tree → (goal : Side) → numbers goal (children_of (set trees p tree)) ≡ numbers goal (children_of trees)
   row_is tree h goal = numbers_set goal trees p child tree (h goal ∙ ap (number goal) child_is)
@@ -170,51 +193,41 @@ module _ (f : Frame) (s : State) (mover : Side) (turns : List Turn) (trees : Lis
   numbers_are a b h k goal = ap (combined goal mover) (row_is b k goal ∙ sym (row_is a h goal))
 
   -- lifted, where the place of the best child is given by an equation
-  lifted_at : (tree : PartialTree) (q : ℕ) → q ≡ p → (spent : Bool) (step : Step) (new : PartialTree) → (Taken spent (room - 1) f (after f s (get_or turns q t)) (get_or (set trees p tree) q child) step new → Taken spent room f s (with_child tree) step (expanded mover turns (children_of (set (set trees p tree) q new)))) → Taken spent (room - 1) f (after f s t) tree step new → Taken spent room f s (with_child tree) step (with_child new)
-  lifted_at tree q e spent step new lift h =
-      subst (λ ts. Taken spent room f s (with_child tree) step (expanded mover turns (children_of ts))) (ap (λ r. set (set trees p tree) r new) e ∙ set_twice trees p tree new)
-      (lift (subst (λ x. Taken spent (room - 1) f (after f s x) (get_or (set trees p tree) q child) step new) (t_is ∙ ap (λ r. get_or turns r t) (sym e))
-      (subst (λ x. Taken spent (room - 1) f (after f s t) x step new) (sym (ap (λ r. get_or (set trees p tree) r child) e ∙ get_or-set_same trees p tree child in_trees)) h)))
+  lifted_at : (now : Stage) (q : ℕ) → q ≡ p → (step : Step) (new : PartialTree) → (Taken (stand_after at (get_or turns q t)) (stage (get_or (set trees p now.tree) q child) now.left) step new → Taken at (with_stage now) step (expanded mover turns (children_of (set (set trees p now.tree) q new)))) → Taken below now step new → Taken at (with_stage now) step (with_child new)
+  lifted_at now q e step new lift h =
+      subst (λ ts. Taken at (with_stage now) step (expanded mover turns (children_of ts))) (ap (λ r. set (set trees p now.tree) r new) e ∙ set_twice trees p now.tree new)
+      (lift (subst (λ x. Taken (stand_after at x) (stage (get_or (set trees p now.tree) q child) now.left) step new) (t_is ∙ ap (λ r. get_or turns r t) (sym e))
+      (subst (λ x. Taken below (stage x now.left) step new) (sym (ap (λ r. get_or (set trees p now.tree) r child) e ∙ get_or-set_same trees p now.tree child in_trees)) h)))
 
-  pub step_lifted : (tree : PartialTree) → HaveSameNumbers child tree → (spent : Bool) (step : Step) (new : PartialTree) → Taken spent (room - 1) f (after f s t) tree step new → Taken spent room f s (with_child tree) step (with_child new)
-  step_lifted tree h spent step new =
-      let there : best mover (children_of (set trees p tree)) < length (set trees p tree) = omega (arith, best_is tree h, in_trees, length-set trees p tree) in
-      lifted_at tree (best mover (children_of (set trees p tree))) (best_is tree h) spent step new (lifted f s mover turns (set trees p tree) t child (same ∙ sym (length-set trees p tree)) there spent room step new pos)
+  -- a step of the best child is one of the node
+  step_lifted : (now : Stage) → HaveSameNumbers child now.tree → (step : Step) (new : PartialTree) → Taken below now step new → Taken at (with_stage now) step (with_child new)
+  step_lifted now h step new =
+      let row : List PartialTree = set trees p now.tree in
+      let there : best mover (children_of row) < length row = omega (arith, best_is now.tree h, in_trees, length-set trees p now.tree) in
+      lifted_at now (best mover (children_of row)) (best_is now.tree h) step new (lifted at mover turns row t child (same ∙ sym (length-set trees p now.tree)) there now.left step new pos)
 
-  growth_lifted : (tree : PartialTree) → HaveSameNumbers child tree → (left : ℕ) (new : PartialTree) (left_after : ℕ) → IsGrowth (room - 1) f (after f s t) tree left new left_after → IsGrowth room f s (with_child tree) left (with_child new) left_after
-  growth_lifted tree h left new left_after (inl k) = inl (k.0, (step_lifted tree h false Expanded new (refl, k.1)).1)
-  growth_lifted tree h left new left_after (inr k) = inr (k.0, step_lifted tree h false Closed new k.1)
+  growth_lifted : (old new : Stage) → HaveSameNumbers child old.tree → IsGrowth below old new → IsGrowth at (with_stage old) (with_stage new)
+  growth_lifted old new h (inl k) = inl (k.0, (step_lifted old h Expanded new.tree (some_left old.left new.left k.0, k.1)).1)
+  growth_lifted old new h (inr k) = inr (k.0, step_lifted old h Closed new.tree k.1)
 
-  steady_lifted : (n left : ℕ) (tree : PartialTree) (left_after : ℕ) → Steady n (room - 1) f (after f s t) child left tree left_after → Steady n room f s (expanded mover turns (children_of trees)) left (with_child tree) left_after
-  steady_lifted zero left tree left_after (e, l) = (ap with_child e ∙ with_child_is, l)
-  steady_lifted (suc n) left tree left_after (before, left_before, k, g, h) =
-      let numbers_before = steady_numbers n (room - 1) f (after f s t) child left before left_before k in (
-        with_child before,
-        left_before,
-        steady_lifted n left before left_before k,
-        growth_lifted before numbers_before left_before tree left_after g,
-        numbers_are before tree numbers_before (λ goal. h goal ∙ numbers_before goal),
+  -- growths of the best child that keep its numbers keep those of the node
+  steady_lifted : (n left : ℕ) (new : Stage) → Steady n below (stage child left) new → Steady n at (stage (expanded mover turns (children_of trees)) left) (with_stage new)
+  steady_lifted zero left new e = ap with_stage e ∙ ap (λ tree. stage tree left) with_child_is
+  steady_lifted (suc n) left new (before, k, g, h) =
+      let numbers_before = steady_numbers n below (stage child left) before k in (
+        with_stage before,
+        steady_lifted n left before k,
+        growth_lifted before new numbers_before g,
+        numbers_are before.tree new.tree numbers_before (λ goal. h goal ∙ numbers_before goal),
       )
 
-  pub steps_lifted : (once : Bool) (left : ℕ) (step : Step) (new : PartialTree) (left_after : ℕ) → AreSteps once (room - 1) f (after f s t) child left step new left_after → AreSteps once room f s (expanded mover turns (children_of trees)) left step (with_child new) left_after
-  steps_lifted once left step new left_after k = record {
+  -- the steps of the best child are steps of the node
+  pub steps_lifted : (pace : Pace) (left : ℕ) (step : Step) (new : Stage) → AreStepsAt pace below (stage child left) step new → AreStepsAt pace at (stage (expanded mover turns (children_of trees)) left) step (with_stage new)
+  steps_lifted pace left step new k = record {
     how_many = k.how_many;
-    before = with_child k.before;
-    left_before = k.left_before;
-    steady = steady_lifted k.how_many left k.before k.left_before k.steady;
+    before = with_stage k.before;
+    steady = steady_lifted k.how_many left k.before k.steady;
     one = k.one;
-    taken = step_lifted k.before (steady_numbers k.how_many (room - 1) f (after f s t) child left k.before k.left_before k.steady) (k.left_before == 0) step new k.taken;
+    taken = step_lifted k.before (steady_numbers k.how_many below (stage child left) k.before k.steady) step new.tree k.taken;
     counted = k.counted;
   }
-
--- the steps of the best child of an undecided node, as steps of the node
-pub found_steps : (f : Frame) (s : State) (mover : Side) (turns : List Turn) (trees : List PartialTree) (p : ℕ) → p ≡ best mover (children_of trees) → IsUndecided (expanded mover turns (children_of trees)) → IsPartialTree f s (expanded mover turns (children_of trees)) → (t : Turn) (child : PartialTree) → t ≡ get_or turns p t → child ≡ get_or trees p child → (once : Bool) (room left : ℕ) (step : Step) (new : PartialTree) (left_after : ℕ) → 0 < room → AreSteps once (room - 1) f (after f s t) child left step new left_after → AreSteps once room f s (expanded mover turns (children_of trees)) left step (expanded mover turns (children_of (set trees p new))) left_after
-found_steps f s mover turns trees p e u q t child t_is child_is once room left step new left_after pos k =
-    let there : p < length trees = omega (arith, e, (best_child mover turns trees child u).0) in
-    steps_lifted f s mover turns trees t child p e there (lengths f s turns trees q.3) t_is child_is room pos once left step new left_after k
-
--- what steps make of a tree may be offered
-pub steps_offerable : (once : Bool) (room : ℕ) (line back : Standing) (old : PartialTree) (left : ℕ) (step : Step) (new : PartialTree) (left_after : ℕ) → back ≡ line → room ≤ 512 → IsUndecided old → IsPartialTree line.frame line.state old → StaysWithin line.frame.size room old → AreSteps once room line.frame line.state old left step new left_after → IsOfferable back new
-steps_offerable once room line back old left step new left_after e l u p h k =
-    let keeps = steady_keeps k.how_many room line.frame line.state old left k.before k.left_before k.steady u p h in
-    taken_offerable (k.left_before == 0) room line back k.before step new e l (steady_undecided k.how_many room line.frame line.state old left k.before k.left_before k.steady u) keeps.0 keeps.1 k.taken

@@ -1,8 +1,8 @@
 -- A step keeps what is true of every search.
-use Rattle.std.proofs.Common.{◌≡◌, ◌≢◌, ℕ, suc, ◌+◌, ◌-◌, ◌≤◌, inl, inr, Bool, refl, sym, ap, subst, arith}
+use Rattle.std.proofs.Common.{◌≡◌, ◌≢◌, ℕ, suc, ◌+◌, ◌-◌, ◌≤◌, inl, inr, None, refl, sym, ap, subst, arith}
 use Rattle.tt_game.specs.declared.frame.Frame.{Frame}
 use Rattle.tt_sgf.specs.declared.size.Size.{Size}
-use Rattle.tt_game.specs.Game.{State}
+use Rattle.tt_game.specs.Game.{State, winner_of}
 use Rattle.tt_game.specs.Line.{Standing}
 use Rattle.tt_search.specs.PartialTree.{PartialTree, fresh, won, closed, expanded, Children, no_more, more}
 use Rattle.tt_search.specs.Numbers.{count, IsUndecided}
@@ -10,60 +10,81 @@ use Rattle.tt_search.specs.MostProving.{most_proving_state, most_proving_depth}
 use Rattle.tt_search.specs.Growing.{expansion, IsPartialTree, IsExpansion, IsClosing}
 use Rattle.tt_search.specs.Within.{StaysWithin, AllStayWithin}
 use Rattle.tt_search.specs.Taken.{Taken}
-use Rattle.tt_search.specs.Searched.{IsSearch}
+use Rattle.tt_search.specs.Searching.{IsSearch}
+use Rattle.tt_search.specs.Walking.{Stand, Stage, stand, MayGrow}
 use Rattle.tt_search.specs.declared.limits.Limits.{Limits}
 use Rattle.tt_search.specs.declared.limits.Step.{Step}
 use Rattle.tt_search.specs.declared.limits.Step.TheVariants.{Expanded, Closed, Settled, Stuck}
 use Rattle.tt_search.specs.declared.limits.Reason.TheVariants.{Budget, Depth, Memory}
 use Rattle.tt_search.proofs.Grown.{count_grown, leaf_open, partial_grown, stays_grown, expansion_partial, expansion_stays, expansion_count}
 
-module _ (f : Frame) (s : State) (limits : Limits) (tree new : PartialTree) (n : ℕ) (is : IsSearch f s limits tree n) (u : IsUndecided tree) where
-  pub search_expanded : n ≢ limits.budget → IsExpansion limits.depth f s tree new → IsSearch f s limits new (n + 1)
-  search_expanded h e = record {
-    counted = omega (arith, ap count e.1, count_grown (expansion f (most_proving_state f s tree)) tree u, expansion_count f (most_proving_state f s tree), is.counted);
-    within = omega (arith, ap count e.1, count_grown (expansion f (most_proving_state f s tree)) tree u, expansion_count f (most_proving_state f s tree), is.counted, is.within, h);
-    partial = subst (IsPartialTree f s) (sym e.1) (partial_grown f s (expansion f (most_proving_state f s tree)) tree is.partial (expansion_partial f (most_proving_state f s tree) (leaf_open f s tree is.partial u)));
-    stays = subst (StaysWithin f.size limits.depth) (sym e.1) (stays_grown f.size limits.depth (expansion f (most_proving_state f s tree)) tree is.stays (expansion_stays f.size (limits.depth - most_proving_depth tree) f (most_proving_state f s tree) (omega (arith, e.0))));
-    grown = (suc (is.grown.0), (tree, is.grown.1, (u, inl (omega (arith, is.counted, is.within, h), e))));
+module _ (at : Stand) (limits : Limits) (old new : Stage) (is : IsSearch at limits old) (u : IsUndecided old.tree) where
+  abbrev leaf : State
+  leaf = most_proving_state at.frame at.state old.tree
+
+  -- an expansion takes one off what the budget has left, and adds one to what is expanded
+  pub search_expanded : old.left ≡ new.left + 1 → IsExpansion at.room at.frame at.state old.tree new.tree → IsSearch at limits new
+  search_expanded l e = record {
+    room = is.room;
+    counted = omega (arith, l, ap count e.1, count_grown (expansion at.frame leaf) old.tree u, expansion_count at.frame leaf, is.counted);
+    partial =
+        subst (IsPartialTree at.frame at.state) (sym e.1)
+        (partial_grown at.frame at.state (expansion at.frame leaf) old.tree is.partial (expansion_partial at.frame leaf (leaf_open at.frame at.state old.tree is.partial u)));
+    stays =
+        subst (StaysWithin at.frame.size at.room) (sym e.1)
+        (stays_grown at.frame.size at.room (expansion at.frame leaf) old.tree is.stays (expansion_stays at.frame.size (at.room - most_proving_depth old.tree) at.frame leaf (omega (arith, e.0))));
+    grown =
+        let expands = subst (λ r. IsExpansion r at.frame at.state old.tree new.tree) is.room e in
+        (suc (is.grown.0), (old.tree, is.grown.1, (u, inl (omega (arith, is.counted, l), expands))));
   }
 
-  pub search_closed : IsClosing limits.depth f s tree new → IsSearch f s limits new n
-  search_closed (side, strategy, w, o, d, e) = record {
-    counted = omega (arith, ap count e, count_grown (closed side strategy) tree u, is.counted);
-    within = omega (arith, ap count e, count_grown (closed side strategy) tree u, is.counted, is.within);
-    partial = subst (IsPartialTree f s) (sym e) (partial_grown f s (closed side strategy) tree is.partial w);
-    stays = subst (StaysWithin f.size limits.depth) (sym e) (stays_grown f.size limits.depth (closed side strategy) tree is.stays (omega (arith, d), o));
-    grown = (suc (is.grown.0), (tree, is.grown.1, (u, inr (side, strategy, w, o, d, e))));
+  -- a closing takes nothing
+  pub search_closed : old.left ≡ new.left → IsClosing at.room at.frame at.state old.tree new.tree → IsSearch at limits new
+  search_closed l (side, strategy, w, o, d, e) = record {
+    room = is.room;
+    counted = omega (arith, l, ap count e, count_grown (closed side strategy) old.tree u, is.counted);
+    partial = subst (IsPartialTree at.frame at.state) (sym e) (partial_grown at.frame at.state (closed side strategy) old.tree is.partial w);
+    stays = subst (StaysWithin at.frame.size at.room) (sym e) (stays_grown at.frame.size at.room (closed side strategy) old.tree is.stays (omega (arith, d), o));
+    grown =
+        let closes = subst (λ r. IsClosing r at.frame at.state old.tree new.tree) is.room (side, strategy, w, o, d, e) in
+        (suc (is.grown.0), (old.tree, is.grown.1, (u, inr closes)));
   }
+
+-- a partial tree that reaches no deeper than the room
+abbrev pub IsTreeWithin : Stand → PartialTree → Type 0
+IsTreeWithin at tree = IsPartialTree at.frame at.state tree × StaysWithin at.frame.size at.room tree
 
 -- a step keeps a partial tree one, within its room
-pub taken_keeps : (spent : Bool) (room : ℕ) (f : Frame) (s : State) (old : PartialTree) (step : Step) (new : PartialTree) → IsUndecided old → IsPartialTree f s old → StaysWithin f.size room old → Taken spent room f s old step new → IsPartialTree f s new × StaysWithin f.size room new
-taken_keeps spent room f s old Expanded new u p k (b, e) = (
-  subst (IsPartialTree f s) (sym e.1) (partial_grown f s (expansion f (most_proving_state f s old)) old p (expansion_partial f (most_proving_state f s old) (leaf_open f s old p u))),
-  subst (StaysWithin f.size room) (sym e.1) (stays_grown f.size room (expansion f (most_proving_state f s old)) old k (expansion_stays f.size (room - most_proving_depth old) f (most_proving_state f s old) (omega (arith, e.0)))),
+pub taken_keeps : (at : Stand) (old : Stage) (step : Step) (new : PartialTree) → MayGrow at old.tree → Taken at old step new → IsTreeWithin at new
+taken_keeps at old Expanded new m (b, e) =
+    let leaf : State = most_proving_state at.frame at.state old.tree in (
+      subst (IsPartialTree at.frame at.state) (sym e.1)
+          (partial_grown at.frame at.state (expansion at.frame leaf) old.tree m.partial (expansion_partial at.frame leaf (leaf_open at.frame at.state old.tree m.partial m.undecided))),
+      subst (StaysWithin at.frame.size at.room) (sym e.1)
+          (stays_grown at.frame.size at.room (expansion at.frame leaf) old.tree m.stays (expansion_stays at.frame.size (at.room - most_proving_depth old.tree) at.frame leaf (omega (arith, e.0)))),
+    )
+taken_keeps at old Closed new m (side, strategy, w, o, d, e) = (
+  subst (IsPartialTree at.frame at.state) (sym e) (partial_grown at.frame at.state (closed side strategy) old.tree m.partial w),
+  subst (StaysWithin at.frame.size at.room) (sym e) (stays_grown at.frame.size at.room (closed side strategy) old.tree m.stays (omega (arith, d), o)),
 )
-taken_keeps spent room f s old Closed new u p k (side, strategy, w, o, d, e) = (
-  subst (IsPartialTree f s) (sym e) (partial_grown f s (closed side strategy) old p w),
-  subst (StaysWithin f.size room) (sym e) (stays_grown f.size room (closed side strategy) old k (omega (arith, d), o)),
-)
-taken_keeps spent room f s old Settled new u p k h = absurd h
-taken_keeps spent room f s old (Stuck Budget) new u p k h = (subst (IsPartialTree f s) (sym h.1) p, subst (StaysWithin f.size room) (sym h.1) k)
-taken_keeps spent room f s old (Stuck Depth) new u p k h = (subst (IsPartialTree f s) (sym h.2) p, subst (StaysWithin f.size room) (sym h.2) k)
-taken_keeps spent room f s old (Stuck Memory) new u p k h = (subst (IsPartialTree f s) (sym h) p, subst (StaysWithin f.size room) (sym h) k)
+taken_keeps at old Settled new m h = absurd h
+taken_keeps at old (Stuck Budget) new m h = subst (IsTreeWithin at) (sym h.1) (m.partial, m.stays)
+taken_keeps at old (Stuck Depth) new m h = subst (IsTreeWithin at) (sym h.2) (m.partial, m.stays)
+taken_keeps at old (Stuck Memory) new m h = subst (IsTreeWithin at) (sym h) (m.partial, m.stays)
 
-pub counted_expanded : (room : ℕ) (f : Frame) (s : State) (old new : PartialTree) → IsUndecided old → IsExpansion room f s old new → count new ≡ count old + 1
-counted_expanded room f s old new u e = omega (arith, ap count e.1, count_grown (expansion f (most_proving_state f s old)) old u, expansion_count f (most_proving_state f s old))
+-- an expansion counts one more node
+pub counted_expanded : (at : Stand) (old new : PartialTree) → IsUndecided old → IsExpansion at.room at.frame at.state old new → count new ≡ count old + 1
+counted_expanded at old new u e =
+    let leaf : State = most_proving_state at.frame at.state old in
+    omega (arith, ap count e.1, count_grown (expansion at.frame leaf) old u, expansion_count at.frame leaf)
 
-pub counted_other : (spent : Bool) (room : ℕ) (f : Frame) (s : State) (old : PartialTree) (step : Step) (new : PartialTree) → IsUndecided old → (step ≡ Expanded → ⊥) → Taken spent room f s old step new → count new ≡ count old
-counted_other spent room f s old Expanded new u differs h = absurd (differs refl)
-counted_other spent room f s old Closed new u differs (side, strategy, w, o, d, e) = omega (arith, ap count e, count_grown (closed side strategy) old u)
-counted_other spent room f s old Settled new u differs h = absurd h
-counted_other spent room f s old (Stuck Budget) new u differs h = ap count h.1
-counted_other spent room f s old (Stuck Depth) new u differs h = ap count h.2
-counted_other spent room f s old (Stuck Memory) new u differs h = ap count h
+-- a closing counts no more
+pub counted_closed : (at : Stand) (old new : PartialTree) → IsUndecided old → IsClosing at.room at.frame at.state old new → count new ≡ count old
+counted_closed at old new u (side, strategy, w, o, d, e) = omega (arith, ap count e, count_grown (closed side strategy) old u)
 
 -- ---- what is offered to a store
 
+-- what stays within a room stays within a greater one
 mutual
   stays_in_more : (size : Size) (room more' : ℕ) (tree : PartialTree) → room ≤ more' → StaysWithin size room tree → StaysWithin size more' tree
   stays_in_more size room more' fresh l h = tt
@@ -79,19 +100,10 @@ mutual
 abbrev pub IsOfferable : Standing → PartialTree → Type 0
 IsOfferable line tree = IsPartialTree line.frame line.state tree × StaysWithin line.frame.size 512 tree
 
-pub offerable : (line : Standing) (room : ℕ) (tree : PartialTree) → room ≤ 512 → IsPartialTree line.frame line.state tree → StaysWithin line.frame.size room tree → IsOfferable line tree
-offerable line room tree l p h = (p, stays_in_more line.frame.size room 512 tree l h)
-
--- what a step makes of a tree may be offered
-pub taken_offerable : (spent : Bool) (room : ℕ) (line back : Standing) (old : PartialTree) (step : Step) (new : PartialTree) → back ≡ line → room ≤ 512 → IsUndecided old → IsPartialTree line.frame line.state old → StaysWithin line.frame.size room old → Taken spent room line.frame line.state old step new → IsOfferable back new
-taken_offerable spent room line back old step new e l u p h k =
-    let keeps = taken_keeps spent room line.frame line.state old step new u p h k in
-    subst (λ at. IsOfferable at new) (sym e) (offerable line room new l keeps.0 keeps.1)
+pub offerable : (line : Standing) (room : ℕ) (tree : PartialTree) → room ≤ 512 → IsTreeWithin (stand line room) tree → IsOfferable line tree
+offerable line room tree l h = (h.0, stays_in_more line.frame.size room 512 tree l h.1)
 
 -- an expanded leaf may be offered
-pub expansion_offerable : (line back : Standing) (old new : PartialTree) → back ≡ line → old ≡ fresh → IsPartialTree line.frame line.state old → new ≡ expansion line.frame line.state → IsOfferable back new
-expansion_offerable line back old new e fresh_is p n =
-    subst (λ at. IsOfferable at new) (sym e) (subst (IsOfferable line) (sym n) (
-      expansion_partial line.frame line.state (subst (IsPartialTree line.frame line.state) fresh_is p),
-      expansion_stays line.frame.size 512 line.frame line.state (omega arith),
-    ))
+pub expansion_offerable : (line : Standing) (new : PartialTree) → winner_of line.frame line.state ≡ None → new ≡ expansion line.frame line.state → IsOfferable line new
+expansion_offerable line new nobody is =
+    subst (IsOfferable line) (sym is) (expansion_partial line.frame line.state nobody, expansion_stays line.frame.size 512 line.frame line.state (omega arith))

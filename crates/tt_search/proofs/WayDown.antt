@@ -1,69 +1,93 @@
 -- The way from an undecided node to its best child, over the children as the code keeps them.
-use Rattle.std.proofs.Common.{◌≡◌, ℕ, ◌-◌, ◌<◌, List, Bool, length, get_or, sym, ◌∙◌, ap, subst, arith}
-use Rattle.tt_game.specs.declared.frame.Frame.{Frame}
-use Rattle.tt_game.specs.declared.frame.Side.{Side}
+use Rattle.std.proofs.Common.{◌≡◌, ℕ, ◌-◌, ◌<◌, ◌∷◌, length, get_or, sym, ◌∙◌, ap, subst, arith}
 use Rattle.tt_game.specs.declared.turns.Turn.{Turn}
-use Rattle.tt_game.specs.Game.{State, IsLegal, after}
+use Rattle.tt_game.specs.Game.{IsLegal, after}
 use Rattle.tt_game.specs.TurnLaws.{contains-legal_turns}
 use Rattle.tt_search.specs.PartialTree.{PartialTree, fresh, expanded}
 use Rattle.tt_search.specs.Children.{children_of}
-use Rattle.tt_search.specs.Edges.{turn_of, turns_of, trees_of, child_at}
-use Rattle.tt_search.specs.Numbers.{IsUndecided}
+use Rattle.tt_search.specs.Edges.{turn_of, turns_of, trees_of}
+use Rattle.tt_search.specs.Shape.{node_of}
 use Rattle.tt_search.specs.MostProving.{best}
-use Rattle.tt_search.specs.Growing.{IsPartialTree}
-use Rattle.tt_search.specs.Within.{StaysWithin}
-use Rattle.tt_search.specs.Steady.{AreSteps}
-use Rattle.tt_search.specs.Sprouting.{StepsBelow}
+use Rattle.tt_search.specs.Walking.{Stand, Stage, stage, stand, stand_of, stand_after, MayGrow, IsDown}
+use Rattle.tt_search.specs.Steady.{AreStepsAt, AreSteps}
+use Rattle.tt_search.specs.Sprouting.{child_of, StepsBelowAt, StepsBelow}
 use Rattle.tt_search.specs.declared.edges.Edge.{Edge}
 use Rattle.tt_search.specs.declared.limits.Step.{Step}
-use Rattle.tt_search.proofs.Lifted.{IsFound, found}
+use Rattle.tt_search.specs.declared.node.Expansion.{Expansion}
+use Rattle.tt_search.specs.declared.walk.Pace.{Pace}
+use Rattle.tt_search.specs.declared.walk.Walk.{Walk}
+use Rattle.tt_search.proofs.Lifted.{IsFound, found, lengths}
 use Rattle.tt_search.proofs.Places.{length-turns_of, turn_at_place}
 use Rattle.tt_search.proofs.Sprouted.{any_default}
-use Rattle.tt_search.proofs.Steady.{found_steps}
+use Rattle.tt_search.proofs.Steady.{steps_lifted}
 
--- what is known at the place of the best child
-pub record IsWayDown (f : Frame) (s : State) (mover : Side) (es : List Edge) (ts : List PartialTree) (node : PartialTree) (p : ℕ) : Type 0 where
-  pub there : p < length es
-  pub undecided : IsUndecided (child_at p es ts)
-  pub legal : (e : Edge) (t : Turn) → e ≡ get_or es p e → t ≡ turn_of e → IsLegal f s t
-  pub partial : (e : Edge) (t : Turn) → e ≡ get_or es p e → t ≡ turn_of e → IsPartialTree f (after f s t) (child_at p es ts)
-  pub stays : (room : ℕ) → StaysWithin f.size room node → (0 < room) × StaysWithin f.size (room - 1) (child_at p es ts)
-  pub steps : (e : Edge) (t : Turn) → e ≡ get_or es p e → t ≡ turn_of e → (once : Bool) (room left : ℕ) (step : Step) (es' : List Edge) (ts' : List PartialTree) (left_after : ℕ) → 0 < room → StepsBelow once (room - 1) f (after f s t) p es ts left step es' ts' left_after → AreSteps once room f s node left step (expanded mover (turns_of es') (children_of (trees_of es' ts'))) left_after
+-- what is known at the place of the best child, whose edge and turn these are
+pub record IsWayDown (at : Stand) (x : Expansion) (node : PartialTree) (p : ℕ) (t : Turn) : Type 0 where
+  pub legal : IsLegal at.frame at.state t
+  pub may_grow : MayGrow (stand_after at t) (child_of x p)
+  pub steps : (pace : Pace) (left : ℕ) (step : Step) (y : Expansion) (left_after : ℕ) → StepsBelowAt pace (stand_after at t) p x left step y left_after → AreStepsAt pace at (stage node left) step (stage (node_of y) left_after)
 
-module _ (f : Frame) (s : State) (mover : Side) (es : List Edge) (ts : List PartialTree) (p : ℕ) (place : p ≡ best mover (children_of (trees_of es ts))) (u : IsUndecided (expanded mover (turns_of es) (children_of (trees_of es ts)))) (q : IsPartialTree f s (expanded mover (turns_of es) (children_of (trees_of es ts)))) where
-  abbrev node_here : PartialTree
-  node_here = expanded mover (turns_of es) (children_of (trees_of es ts))
+abbrev StepsTo : Pace → Stand → Stage → Step → ℕ → PartialTree → Type 0
+StepsTo pace at old step left made = AreStepsAt pace at old step (stage made left)
 
-  k : IsFound f s mover (turns_of es) (trees_of es ts) node_here p
-  k = found f s mover (turns_of es) (trees_of es ts) p place u q
+module _ (at : Stand) (x : Expansion) (p : ℕ) (place : p ≡ best x.mover (children_of (trees_of x.edges.items x.grown.items))) (m : MayGrow at (node_of x)) where
+  found_here : IsFound at (turns_of x.edges.items) (trees_of x.edges.items x.grown.items) p
+  found_here =
+      subst (IsFound at (turns_of x.edges.items) (trees_of x.edges.items x.grown.items)) (sym place)
+      (found at x.mover (turns_of x.edges.items) (trees_of x.edges.items x.grown.items) m)
 
-  in_edges : p < length es
-  in_edges = omega (arith, k.in_turns, length-turns_of es)
+  in_edges : p < length x.edges.items
+  in_edges = omega (arith, found_here.in_turns, length-turns_of x.edges.items)
 
-  child_is : child_at p es ts ≡ get_or (trees_of es ts) p (child_at p es ts)
-  child_is = any_default (trees_of es ts) p fresh (child_at p es ts) k.in_trees
+  child_is : child_of x p ≡ get_or (trees_of x.edges.items x.grown.items) p (child_of x p)
+  child_is = any_default (trees_of x.edges.items x.grown.items) p fresh (child_of x p) found_here.in_trees
 
-  turn_is : (e : Edge) (t : Turn) → e ≡ get_or es p e → t ≡ turn_of e → t ≡ get_or (turns_of es) p t
-  turn_is e t is h = h ∙ ap turn_of is ∙ sym (turn_at_place es p e t in_edges)
+  turn_is : (e : Edge) (t : Turn) → e ≡ get_or x.edges.items p e → t ≡ turn_of e → t ≡ get_or (turns_of x.edges.items) p t
+  turn_is e t is h = h ∙ ap turn_of is ∙ sym (turn_at_place x.edges.items p e t in_edges)
 
-  steps_here : (e : Edge) (t : Turn) → e ≡ get_or es p e → t ≡ turn_of e → (once : Bool) (room left : ℕ) (step : Step) (es' : List Edge) (ts' : List PartialTree) (left_after : ℕ) → 0 < room → StepsBelow once (room - 1) f (after f s t) p es ts left step es' ts' left_after → AreSteps once room f s node_here left step (expanded mover (turns_of es') (children_of (trees_of es' ts'))) left_after
-  steps_here e t is h once room left step es' ts' left_after pos (tree, steps, put) =
-      subst (λ us. AreSteps once room f s node_here left step (expanded mover us (children_of (trees_of es' ts'))) left_after) (sym put.turns)
-      (subst (λ us. AreSteps once room f s node_here left step (expanded mover (turns_of es) (children_of us)) left_after) (sym put.trees)
-      (found_steps f s mover (turns_of es) (trees_of es ts) p place u q t (child_at p es ts) (turn_is e t is h) child_is once room left step tree left_after pos steps))
+  -- steps at the child are steps of the node
+  steps_here : (e : Edge) (t : Turn) → e ≡ get_or x.edges.items p e → t ≡ turn_of e → (pace : Pace) (left : ℕ) (step : Step) (y : Expansion) (left_after : ℕ) → StepsBelowAt pace (stand_after at t) p x left step y left_after → AreStepsAt pace at (stage (node_of x) left) step (stage (node_of y) left_after)
+  steps_here e t is h pace left step y left_after (tree, steps, put) =
+      subst (λ m. StepsTo pace at (stage (node_of x) left) step left_after (expanded m (turns_of y.edges.items) (children_of (trees_of y.edges.items y.grown.items)))) (sym put.mover)
+      (subst (λ us. StepsTo pace at (stage (node_of x) left) step left_after (expanded x.mover us (children_of (trees_of y.edges.items y.grown.items)))) (sym put.turns)
+      (subst (λ us. StepsTo pace at (stage (node_of x) left) step left_after (expanded x.mover (turns_of x.edges.items) (children_of us))) (sym put.trees)
+      (steps_lifted at x.mover (turns_of x.edges.items) (trees_of x.edges.items x.grown.items) t (child_of x p) p place found_here.in_trees (lengths at.frame at.state (turns_of x.edges.items) (trees_of x.edges.items x.grown.items) m.partial.3) (turn_is e t is h) child_is found_here.room pace left step (stage tree left_after) steps)))
 
-  pub way_here : IsWayDown f s mover es ts node_here p
-  way_here = record {
-    there = in_edges;
-    undecided = k.undecided (child_at p es ts) child_is;
-    legal = λ e t is h. (contains-legal_turns f s t).0 (k.legal t (turn_is e t is h));
-    partial = λ e t is h. k.partial t (child_at p es ts) (turn_is e t is h) child_is;
-    stays = λ room w. k.stays (child_at p es ts) child_is room w;
-    steps = λ e t is h once room left step es' ts' left_after pos below. steps_here e t is h once room left step es' ts' left_after pos below;
+  way_here : (e : Edge) (t : Turn) → e ≡ get_or x.edges.items p e → t ≡ turn_of e → IsWayDown at x (node_of x) p t
+  way_here e t is h = record {
+    legal = (contains-legal_turns at.frame at.state t).0 (found_here.legal t (turn_is e t is h));
+    may_grow = found_here.child t (child_of x p) (turn_is e t is h) child_is;
+    steps = steps_here e t is h;
   }
 
 -- the same, from what the function knows of its node
-pub way_down : (f : Frame) (s : State) (mover : Side) (es looked_at : List Edge) (ts nodes : List PartialTree) (p : ℕ) (node : PartialTree) → p ≡ best mover (children_of (trees_of looked_at nodes)) → looked_at ≡ es → nodes ≡ ts → expanded mover (turns_of es) (children_of (trees_of es ts)) ≡ node → IsUndecided node → IsPartialTree f s node → IsWayDown f s mover es ts node p
-way_down f s mover es looked_at ts nodes p node e g r h u q =
-    subst (λ n. IsWayDown f s mover es ts n p) h
-    (way_here f s mover es ts p (e ∙ ap (λ xs. best mover (children_of (trees_of xs nodes))) g ∙ ap (λ xs. best mover (children_of (trees_of es xs))) r) (subst IsUndecided (sym h) u) (subst (IsPartialTree f s) (sym h) q))
+module _ (at : Stand) (x : Expansion) (p : ℕ) (place : p ≡ best x.mover (children_of (trees_of x.edges.items x.grown.items))) (node : PartialTree) (is : node_of x ≡ node) (m : MayGrow at node) where
+  here : MayGrow at (node_of x)
+  here = subst (MayGrow at) (sym is) m
+
+  pub there : p < length x.edges.items
+  there = in_edges at x p place here
+
+  pub has_room : 0 < at.room
+  has_room = (found_here at x p place here).room
+
+  pub way_down : (e : Edge) (t : Turn) → e ≡ get_or x.edges.items p e → t ≡ turn_of e → IsWayDown at x node p t
+  way_down e t edge turn = subst (λ n. IsWayDown at x n p t) is (way_here at x p place here e t edge turn)
+
+-- a walk that has gone down stands where the turn leads
+stand_down : (t : Turn) (old new : Walk) → IsDown t old new → stand_of new ≡ stand_after (stand_of old) t
+stand_down t old new down =
+    ap (λ l. stand l new.room) down.line
+    ∙ ap (stand (record { frame = old.line.frame; state = after old.line.frame old.line.state t; before = old.line.state ∷ old.line.before })) down.room
+
+-- the way down of a walk from a node
+module _ (walk : Walk) (x : Expansion) (p : ℕ) (node : PartialTree) (t : Turn) (way : IsWayDown (stand_of walk) x node p t) (down : Walk) (gone : IsDown t walk down) where
+  pub child_may_grow : MayGrow (stand_of down) (child_of x p)
+  child_may_grow = subst (λ at. MayGrow at (child_of x p)) (sym (stand_down t walk down gone)) way.may_grow
+
+  -- the steps below, as steps of the node, where the walk comes back up with what they left
+  pub round_steps : (pace : Pace) (step : Step) (y : Expansion) (deep up : Walk) → StepsBelow pace down p x step y deep → up.left ≡ deep.left → AreSteps pace walk node step (node_of y) up
+  round_steps pace step y deep up below l =
+      let here = subst (λ at. StepsBelowAt pace at p x down.left step y deep.left) (stand_down t walk down gone) below in
+      let steps = way.steps pace walk.left step y deep.left (subst (λ n. StepsBelowAt pace (stand_after (stand_of walk) t) p x n step y deep.left) gone.left here) in
+      subst (λ n. AreStepsAt pace (stand_of walk) (stage node walk.left) step (stage (node_of y) n)) (sym l) steps

@@ -1,12 +1,14 @@
--- How a search goes on: one step, or some steps together.
-use Rattle.std.specs.Prelude.{◌≡◌, Bool, true}
+-- How a search goes on: one step, or some steps together. For private contracts and proofs.
+use Rattle.std.specs.Prelude.{◌≡◌}
 use Rattle.tt_search.specs.Searched.{Searched, StepOf}
 use Rattle.tt_search.specs.Ended.{IsReached}
 use Rattle.tt_search.specs.declared.limits.Step.{Step}
+use Rattle.tt_search.specs.declared.walk.Pace.{Pace}
+use Rattle.tt_search.specs.declared.walk.Pace.TheVariants.{OneStep}
 
--- growths lead to a search, and a step of that one is the last; where once is set it is the only one
-pub record IsAdvanced (once : Bool) (old : Searched) (step : Step) (new : Searched) : Type 0 where
+-- growths lead to a search, and a step of that one is the last; at the pace of one step it is the only one
+pub record IsAdvanced (pace : Pace) (old : Searched) (step : Step) (new : Searched) : Type 0 where
   pub before : Searched
   pub reached : IsReached old before
-  pub one : once ≡ true → before ≡ old
+  pub one : pace ≡ OneStep → before ≡ old
   pub taken : StepOf before step new

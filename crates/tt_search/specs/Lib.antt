@@ -1,22 +1,26 @@
+-- what public contracts cite
 pub mod PartialTree
-pub mod Children
 pub mod Numbers
 pub mod MostProving
 pub mod Growing
 pub mod Settled
-pub mod Within
+pub mod Searched
+pub mod Ended
+pub mod Stores
+-- what private contracts and proofs cite
+pub mod Children
+pub mod PartialTreeCode
 pub mod Weight
 pub mod Edges
-pub mod Sprouting
-pub mod Taken
-pub mod Searched
-pub mod Stores
-pub mod PartialTreeCode
 pub mod Shape
 pub mod Cached
 pub mod Falls
-pub mod Usable
-pub mod Ended
+pub mod Within
+pub mod Walking
+pub mod Taken
 pub mod Steady
+pub mod Sprouting
+pub mod Usable
+pub mod Searching
 pub mod Advanced
 pub mod Asks

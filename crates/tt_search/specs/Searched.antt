@@ -1,16 +1,13 @@
 -- What contracts see of a search, and what a step of it does.
 use Rattle.std.specs.Prelude.{◌≡◌, ℕ, ◌<◌, ◌≤◌}
-use Rattle.tt_game.specs.declared.frame.Frame.{Frame}
-use Rattle.tt_game.specs.Game.{State}
 use Rattle.tt_game.specs.Line.{Standing}
 use Rattle.tt_proof.specs.Strategy.{depth}
 use Rattle.tt_proof.specs.Proven.{Proven, StandsAt}
 use Rattle.tt_search.specs.PartialTree.{PartialTree}
 use Rattle.tt_search.specs.Numbers.{number, count, IsUndecided}
 use Rattle.tt_search.specs.MostProving.{most_proving_depth}
-use Rattle.tt_search.specs.Growing.{IsExpansion, IsClosing, IsPartialTree, IsGrown}
+use Rattle.tt_search.specs.Growing.{IsExpansion, IsClosing}
 use Rattle.tt_search.specs.Settled.{strategy_for}
-use Rattle.tt_search.specs.Within.{StaysWithin}
 use Rattle.tt_search.specs.declared.limits.Limits.{Limits}
 use Rattle.tt_search.specs.declared.limits.Step.{Step}
 use Rattle.tt_search.specs.declared.limits.Step.TheVariants.{Expanded, Closed, Settled, Stuck}
@@ -22,14 +19,6 @@ pub record Searched : Type 0 where
   pub line : Standing
   pub limits : Limits
   pub tree : PartialTree
-
--- what is true of every search
-pub record IsSearch (f : Frame) (s : State) (limits : Limits) (tree : PartialTree) (expanded : ℕ) : Type 0 where
-  pub counted : expanded ≡ count tree
-  pub within : count tree ≤ limits.budget
-  pub partial : IsPartialTree f s tree
-  pub stays : StaysWithin f.size limits.depth tree
-  pub grown : IsGrown limits f s tree
 
 -- a search is on the same line under the same limits
 pub record IsSameProblem (old new : Searched) : Type 0 where

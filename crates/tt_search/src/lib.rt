@@ -18,6 +18,7 @@ mod private;
 mod search;
 mod settled;
 mod store;
+mod walk;
 
 pub use limits::{Limits, Reason, Step};
 pub use private::{Ask, PrivateStore};

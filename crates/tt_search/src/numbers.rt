@@ -7,9 +7,10 @@ ghost use Rattle.tt_search.specs.Edges.{mark_of, tree_of, grown_behind, trees_of
 ghost use Rattle.tt_search.specs.Numbers.{number, numbers, least, capped_sum, combined, is_same, decided_number};
 ghost use Rattle.tt_search.specs.Children.{children_of};
 ghost use Rattle.tt_search.specs.MostProving.{best};
+ghost use Rattle.tt_search.specs.Shape.{node_of};
 
 use crate::edges::{Edge, Mark};
-use crate::node::Node;
+use crate::node::{Expansion, Node};
 use tt_game::Side;
 
 /// The proof or disproof number of what can't be proved or disproved any more.
@@ -138,6 +139,24 @@ pub(crate) fn best_child(mover: Side, edges: &[Edge], grown: &[Node]) -> (usize,
         rest = behind(*edge, rest);
     }
     (place, rank)
+}
+
+impl Expansion {
+    /// The place of the child to go to, and its rank.
+    pub(crate) fn best(&self) -> (usize, usize)
+        ensures place { result.0 ≡ best self.now.mover (children_of (trees_of self.now.edges.items self.now.grown.items)) }
+        ensures rank { result.1 ≡ grown_in (take result.0 self.now.edges.items) }
+    {
+        best_child(self.mover, self.edges.as_slice(), self.grown.as_slice())
+    }
+
+    /// The proof number and the disproof number of the node.
+    pub(crate) fn numbers(&self) -> (u32, u32)
+        ensures proof { result.0 ≡ number Attacker (node_of self.now) }
+        ensures disproof { result.1 ≡ number Defender (node_of self.now) }
+    {
+        both_numbers(self.mover, self.edges.as_slice(), self.grown.as_slice())
+    }
 }
 
 /// The nodes from a rank on.

@@ -13,6 +13,7 @@ use crate::leaves::new_leaf;
 use crate::limits::{Limits, Reason, Step};
 use crate::node::Node;
 use crate::store::Store;
+use crate::walk::{Pace, Walk};
 use std::alloc::Global;
 use std::marker::Model;
 use tt_game::{Line, Side};
@@ -30,26 +31,26 @@ pub enum End {
 /// A proof-number search: a line, limits, and a partial tree that grows at its most-proving leaf.
 #[derive(Drop)]
 pub struct Search {
-    alloc: Global,
-    line: Line,
+    walk: Walk,
     limits: Limits,
     root: Node,
-    expanded: u32,
 }
 
 impl Model for Search {
     ghost use Rattle.std.specs.Coded.{codes};
     ghost use Rattle.tt_sgf.specs.contracts.sets.PointSet as points;
     ghost use Rattle.tt_search.specs.PartialTreeCode.{partial_code};
-    ghost use Rattle.tt_search.specs.Searched.{Searched, IsSearch};
+    ghost use Rattle.tt_search.specs.Searched.{Searched};
+    ghost use Rattle.tt_search.specs.Searching.{IsSearch};
+    ghost use Rattle.tt_search.specs.Walking.{stage, stand_of};
 
     ghost Value = { Searched };
 
     ghost coded = { Prim.hlevel (codes, partial_code, points.the_row.coded) };
 
-    ghost view = { λ a. record { line = a.line; limits = a.limits; tree = a.root } };
+    ghost view = { λ a. record { line = a.walk.line; limits = a.limits; tree = a.root } };
 
-    ghost invariant = { λ a. IsSearch a.line.frame a.line.state a.limits a.root a.expanded };
+    ghost invariant = { λ a. IsSearch (stand_of a.walk) a.limits (stage a.root a.walk.left) };
 }
 
 impl Search {
@@ -58,13 +59,14 @@ impl Search {
         ensures { result ≡ Ok (record { line = line; limits = limits; tree = new_leaf line.frame line.state }) }
     {
         let root = new_leaf(line.winner());
-        Ok(Search {
+        let walk = Walk {
             alloc,
             line,
-            limits,
-            root,
-            expanded: 0,
-        })
+            room: limits.depth(),
+            left: limits.budget(),
+            offering: true,
+        };
+        Ok(Search { walk, limits, root })
     }
 
     /// How many nodes are expanded.
@@ -72,7 +74,7 @@ impl Search {
         ensures count { result ≡ count self.now.tree }
         ensures grown { IsGrown self.now.limits self.now.line.frame self.now.line.state self.now.tree }
     {
-        self.expanded
+        self.limits.budget() - self.walk.left
     }
 
     /// The root's proof number and disproof number: 0 to 1,000,000,000 (a greater sum counts as that), or 4,294,967,295,
@@ -92,7 +94,7 @@ impl Search {
         ensures taken { StepOf self.old result self.new }
         ensures may { result ≡ Closed → S.may_answer }
     {
-        self.advance(store, true)
+        self.advance(store, Pace::OneStep)
     }
 
     /// Steps until the root is settled or a step is stuck.
@@ -101,7 +103,7 @@ impl Search {
     {
         let mut search = self;
         loop {
-            match search.advance(store, false) {
+            match search.advance(store, Pace::WhileNumbersStay) {
                 Step::Expanded | Step::Closed => {}
                 Step::Settled => {
                     return match search.proof() {
@@ -114,32 +116,17 @@ impl Search {
         }
     }
 
-    /// Steps: one where once is set, and otherwise up to one that changes the root's numbers or is stuck. The answer is
-    /// that of the last step.
-    fn advance<S: Store>(&mut self, store: &mut S, once: bool) -> Step
+    /// Steps: one step, or up to one that changes the root's numbers or is stuck. The answer is that of the last step.
+    fn advance<S: Store>(&mut self, store: &mut S, pace: Pace) -> Step
         ensures problem { IsSameProblem self.old self.new }
-        ensures advanced { IsAdvanced once self.old result self.new }
+        ensures advanced { IsAdvanced pace self.old result self.new }
         ensures may { result ≡ Closed → S.may_answer }
     {
         let (proof, disproof) = self.numbers();
         if proof == 0 || disproof == 0 {
             return Step::Settled;
         }
-        let depth = self.limits.depth();
-        let budget = self.limits.budget();
-        let mut left = budget - self.expanded;
-        let mut offering = true;
-        let step = self.root.grow(
-            self.alloc,
-            &mut self.line,
-            depth,
-            once,
-            &mut left,
-            store,
-            &mut offering,
-        );
-        self.expanded = budget - left;
-        step
+        self.root.grow(&mut self.walk, pace, store)
     }
 
     /// The proof of a settled root.
@@ -150,6 +137,6 @@ impl Search {
         let Some(side) = self.root.settled_for() else {
             unreachable!();
         };
-        self.root.proof(self.alloc, &self.line, side)
+        self.root.proof(self.walk.alloc, &self.walk.line, side)
     }
 }

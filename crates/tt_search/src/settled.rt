@@ -15,6 +15,7 @@ use crate::edges::{Edge, Mark};
 use crate::node::{Expansion, Growth, Node};
 use crate::numbers::{behind, best_child, from_rank, is_same};
 use crate::store::Store;
+use crate::walk::Walk;
 use std::alloc::Global;
 use std::sync::Arc;
 use tt_game::{Line, Side};
@@ -72,34 +73,27 @@ impl Node {
         Proof::winning(line, side, tree)
     }
 
-    /// Offers the proof of a settled node to the store, where the line stands at the node. None is made for a store that
-    /// is full, nor where the proof of a node below it couldn't be made.
-    pub(crate) fn offer<S: Store>(
-        &self,
-        alloc: Global,
-        line: &Line,
-        store: &mut S,
-        offering: &mut bool,
-    )
-        requires partial { IsPartialTree line.now.frame line.now.state self.now }
-        requires stays { StaysWithin line.now.frame.size 512 self.now }
+    /// Offers the proof of a settled node to the store, where the walk stands at the node, and answers whether the walk may
+    /// offer on. None is made for a store that is full, nor where the proof of a node below it couldn't be made.
+    pub(crate) fn offer<S: Store>(&self, walk: &Walk, store: &mut S) -> bool
+        requires partial { IsPartialTree walk.now.line.frame walk.now.line.state self.now }
+        requires stays { StaysWithin walk.now.line.frame.size 512 self.now }
         ensures undecided { IsUndecided self.now → S.kept store.new ≡ S.kept store.old }
     {
         let Some(side) = self.settled_for() else {
-            return;
+            return walk.offering;
         };
-        if !*offering || store.kept() == store.capacity() {
-            return;
+        if !walk.offering || store.kept() == store.capacity() {
+            return walk.offering;
         }
-        let Ok(proof) = self.proof(alloc, line, side) else {
-            *offering = false;
-            return;
+        let Ok(proof) = self.proof(walk.alloc, &walk.line, side) else {
+            return false;
         };
-        let Ok(proof) = Arc::new(alloc, proof) else {
-            *offering = false;
-            return;
+        let Ok(proof) = Arc::new(walk.alloc, proof) else {
+            return false;
         };
         let _kept = store.keep(proof);
+        true
     }
 }
 

@@ -8,7 +8,6 @@ use denote.Model.Local.{Parts, rows}
 use denote.Model.Marks.{tied_send}
 use denote.Param.Send.{IsSend, IsSync, view_send, view_sync, recorded_send, sendable}
 use denote.Param.SendFields.{as_row_send, as_row_sync, declared_send, declared_sync}
-use denote.Struct.Field.{u32-field}
 use Rattle.std.proofs.Crossing.{crosses}
 use Rattle.std.specs.contracts.alloc.Global as Global
 use Rattle.std.specs.contracts.impls.GlobalAllocator.TheImpl.{ghosts}
@@ -28,6 +27,7 @@ use Rattle.tt_search.specs.contracts.node.Node.TheKnot as NodeKnot
 use Rattle.tt_search.specs.declared.node.Node.TheDeep as Deep
 use Rattle.tt_search.specs.contracts.search.Search as Search
 use Rattle.tt_search.specs.contracts.search.Search.TheInside as Within
+use Rattle.tt_search.specs.contracts.walk.Walk as Walk
 use Rattle.tt_share.specs.contracts.desk.Seat as Seat
 use Rattle.tt_share.specs.contracts.jobs.Found as Found
 use Rattle.tt_share.specs.contracts.workers.HandedBack as HandedBack
@@ -107,15 +107,11 @@ node_send = tied_send NodeKnot.frame NodeKnot.step NodeKnot.sizes node_keeps Dee
 limits_send : IsSend Limits.the_row
 limits_send = search (sendable, crosses) depth 40
 
-number_send : IsSend u32-field.row
-number_send = search sendable
-
-global_send : IsSend Global.the_row
-global_send = search (sendable, crosses)
+walk_send : IsSend Walk.the_row
+walk_send = search (sendable, crosses, line_send) depth 40
 
 search_send : IsSend Search.the_row
-search_send = view_send _ _ _ _ _ (declared_send Within.the_type
-    (global_send, (as_row_send Line.the_field line_send, (limits_send, (as_row_send Node.the_field node_send, (as_row_send u32-field number_send, tt))))))
+search_send = view_send _ _ _ _ _ (declared_send Within.the_type (walk_send, (limits_send, (as_row_send Node.the_field node_send, tt))))
 
 found_send : IsSend Found.the_row
 found_send = search (sendable, crosses, proof_send, search_send) depth 40

@@ -1,8 +1,12 @@
-use Rattle.std.proofs.Common.{◌==◌}
 use Rattle.tt_search.proofs.Sprouted.{leaf_offerable}
 use Rattle.tt_search.proofs.node.Node.first_step.Goals as goal
 
-pub offer-requires : goal.offer-requires
-offer-requires g c =
-    let h = leaf_offerable (c.args.left.now == 0) c.args.room c.args.line.now c.leaf_step-step.new.line c.leaf_step-step.result.0 c.leaf_step-step.result.1 c.leaf_step-step.ensures.line c.requires.«open» c.in-Expanded.is c.leaf_step-step.ensures.taken in
-    record { partial = h.0; stays = h.1 }
+pub offer-walk-requires-clause-partial : goal.offer-walk-requires-clause-partial
+offer-walk-requires-clause-partial g c =
+    let leaf = c.leaf_step-step in
+    (leaf_offerable c.args.walk.now leaf.new.walk leaf.result.0 leaf.result.1 leaf.ensures.walk c.requires.«open» c.in-Expanded.is leaf.ensures.taken).0
+
+pub offer-walk-requires-clause-stays : goal.offer-walk-requires-clause-stays
+offer-walk-requires-clause-stays g c =
+    let leaf = c.leaf_step-step in
+    (leaf_offerable c.args.walk.now leaf.new.walk leaf.result.0 leaf.result.1 leaf.ensures.walk c.requires.«open» c.in-Expanded.is leaf.ensures.taken).1
