@@ -100,7 +100,10 @@ fn limits(rt: HostRuntime) {
         (1, 513, false),
     ];
     for (budget, depth, want) in table {
-        assert!(&rt; Limits::new(budget, depth).is_some() == want);
+        assert!(&rt;
+            Limits::new(budget, depth).is_some() == want,
+            "budget {budget}, depth {depth}"
+        );
     }
 }
 

@@ -34,9 +34,9 @@ fn search_twice(
 
 #[test]
 fn traces_1(rt: HostRuntime) -> Result<(), Fail> {
-    let table: [(&[u8], u32, u16, usize, &str, &str); 16] = [
+    let table: [(&str, u32, u16, usize, &str, &str); 16] = [
         (
-            b"(;SZ[3:2];AW[ab][bb]PL[B]TR[bb]SQ[aa][ab][cb][ca][ba])",
+            "(;SZ[3:2];AW[ab][bb]PL[B]TR[bb]SQ[aa][ab][cb][ca][ba])",
             40,
             512,
             2,
@@ -44,7 +44,7 @@ fn traces_1(rt: HostRuntime) -> Result<(), Fail> {
             "E1,5 E1,5 E1,5 E1,5 E1,5 C4,4 E4,4 E4,4 E4,4 E4,5 E4,5 C4,4 E3,4 E3,4 E3,4 E3,6 E3,6 E3,6 E2,6 E2,6 E2,6 E3,5 E3,5 E2,6 E2,6 E2,6 E3,6 E3,6 E2,7 E2,7 E2,7 E3,6 E2,6 E1,7 E1,7 E3,6 E3,6 E2,6 E1,8 E1,8 E1,8 E3,7 B3,7 40 2",
         ),
         (
-            b"(;SZ[2]AW[ab]PL[W];W[];B[aa]TR[ab])",
+            "(;SZ[2]AW[ab]PL[W];W[];B[aa]TR[ab])",
             8,
             0,
             0,
@@ -52,7 +52,7 @@ fn traces_1(rt: HostRuntime) -> Result<(), Fail> {
             "D1,1 0 0",
         ),
         (
-            b"(;SZ[1:3]AW[aa];B[ac];W[ab]TR[ab])",
+            "(;SZ[1:3]AW[aa];B[ac];W[ab]TR[ab])",
             40,
             0,
             0,
@@ -60,7 +60,7 @@ fn traces_1(rt: HostRuntime) -> Result<(), Fail> {
             "D1,1 0 0",
         ),
         (
-            b"(;SZ[1:3];AB[aa]PL[B];TR[aa]SQ[aa])",
+            "(;SZ[1:3];AB[aa]PL[B];TR[aa]SQ[aa])",
             3,
             0,
             2,
@@ -68,7 +68,7 @@ fn traces_1(rt: HostRuntime) -> Result<(), Fail> {
             "D1,1 0 0",
         ),
         (
-            b"(;SZ[2:1]AB[ba]PL[W];W[aa];B[];W[ba];B[aa];W[ba];B[];TR[ba])",
+            "(;SZ[2:1]AB[ba]PL[W];W[aa];B[];W[ba];B[aa];W[ba];B[];TR[ba])",
             3,
             3,
             5,
@@ -76,7 +76,7 @@ fn traces_1(rt: HostRuntime) -> Result<(), Fail> {
             "Cinf,0 Sinf,0 0 2",
         ),
         (
-            b"(;SZ[6:1];B[];W[da];W[];TR[da])",
+            "(;SZ[6:1];B[];W[da];W[];TR[da])",
             8,
             512,
             5,
@@ -84,7 +84,7 @@ fn traces_1(rt: HostRuntime) -> Result<(), Fail> {
             "E1,6 E1,6 E1,6 E1,6 E1,6 E1,6 C4,5 C3,5 E3,5 E3,5 B3,5 8 2",
         ),
         (
-            b"(;SZ[6:1]AB[ca][ea]PL[W];W[];B[]TR[ca])",
+            "(;SZ[6:1]AB[ca][ea]PL[W];W[];B[]TR[ca])",
             8,
             512,
             0,
@@ -92,7 +92,7 @@ fn traces_1(rt: HostRuntime) -> Result<(), Fail> {
             "E1,3 E1,3 E1,3 E4,2 E4,2 E4,1 E4,1 Einf,0 Sinf,0 8 0",
         ),
         (
-            b"(;SZ[1:5];B[aa];W[ac];B[ae];W[ab]TR[ab])",
+            "(;SZ[1:5];B[aa];W[ac];B[ae];W[ab]TR[ab])",
             8,
             0,
             1,
@@ -100,7 +100,7 @@ fn traces_1(rt: HostRuntime) -> Result<(), Fail> {
             "D1,1 0 0",
         ),
         (
-            b"(;SZ[7:1]AB[ba]AW[fa][ga];B[ea];W[fa]TR[fa]SQ[da])",
+            "(;SZ[7:1]AB[ba]AW[fa][ga];B[ea];W[fa]TR[fa]SQ[da])",
             3,
             6,
             2,
@@ -108,7 +108,7 @@ fn traces_1(rt: HostRuntime) -> Result<(), Fail> {
             "E1,2 C1,1 Einf,0 Sinf,0 2 2",
         ),
         (
-            b"(;SZ[4:2];AB[ab]AW[ba][ca][da][bb][db];B[]TR[ab][ab])",
+            "(;SZ[4:2];AB[ab]AW[ba][ca][da][bb][db];B[]TR[ab][ab])",
             40,
             0,
             2,
@@ -116,7 +116,7 @@ fn traces_1(rt: HostRuntime) -> Result<(), Fail> {
             "D1,1 0 0",
         ),
         (
-            b"(;SZ[1:6]AB[ad]PL[B];B[aa];W[af];B[ae];W[ab]TR[ab])",
+            "(;SZ[1:6]AB[ad]PL[B];B[aa];W[af];B[ae];W[ab]TR[ab])",
             8,
             3,
             2,
@@ -124,7 +124,7 @@ fn traces_1(rt: HostRuntime) -> Result<(), Fail> {
             "E1,3 E1,3 E1,3 C2,2 E2,2 C1,5 D1,5 4 2",
         ),
         (
-            b"(;SZ[3:1]AB[ba][ca];TR[ba])",
+            "(;SZ[3:1]AB[ba][ca];TR[ba])",
             3,
             6,
             4096,
@@ -132,7 +132,7 @@ fn traces_1(rt: HostRuntime) -> Result<(), Fail> {
             "C0,inf S0,inf 0 2",
         ),
         (
-            b"(;SZ[3];B[aa];W[bb];B[]TR[aa])",
+            "(;SZ[3];B[aa];W[bb];B[]TR[aa])",
             40,
             0,
             4096,
@@ -140,7 +140,7 @@ fn traces_1(rt: HostRuntime) -> Result<(), Fail> {
             "D1,1 0 0",
         ),
         (
-            b"(;SZ[4:3];AB[dc]AW[ca][cc]PL[W];W[ab]TR[ab]SQ[cc][bb][dc])",
+            "(;SZ[4:3];AB[dc]AW[ca][cc]PL[W];W[ab]TR[ab]SQ[cc][bb][dc])",
             40,
             1,
             1,
@@ -148,7 +148,7 @@ fn traces_1(rt: HostRuntime) -> Result<(), Fail> {
             "E1,2 D1,2 1 0",
         ),
         (
-            b"(;SZ[2:3]AB[ab][bc]PL[W];W[aa];W[ba]TR[aa])",
+            "(;SZ[2:3]AB[ab][bc]PL[W];W[aa];W[ba]TR[aa])",
             3,
             1,
             5,
@@ -156,7 +156,7 @@ fn traces_1(rt: HostRuntime) -> Result<(), Fail> {
             "C0,inf S0,inf 0 1",
         ),
         (
-            b"(;SZ[2:1]AB[aa]PL[W];W[ba];B[];W[aa];B[ba];W[];B[];TR[ba]SQ[ba])",
+            "(;SZ[2:1]AB[aa]PL[W];W[ba];B[];W[aa];B[ba];W[];B[];TR[ba]SQ[ba])",
             3,
             512,
             4096,
@@ -166,16 +166,26 @@ fn traces_1(rt: HostRuntime) -> Result<(), Fail> {
     ];
     for (problem, budget, depth, capacity, first, second) in table {
         let traces = (first, second);
-        assert!(&rt; search_twice(rt.alloc(), problem, budget, depth, capacity, traces)?);
+        assert!(&rt;
+            search_twice(
+                rt.alloc(),
+                problem.as_bytes(),
+                budget,
+                depth,
+                capacity,
+                traces
+            )?,
+            "{problem}, budget {budget}, depth {depth}, capacity {capacity}"
+        );
     }
     Ok(())
 }
 
 #[test]
 fn traces_2(rt: HostRuntime) -> Result<(), Fail> {
-    let table: [(&[u8], u32, u16, usize, &str, &str); 16] = [
+    let table: [(&str, u32, u16, usize, &str, &str); 16] = [
         (
-            b"(;SZ[4:2]AW[ca][ab]PL[B];W[cb];B[];W[aa];B[da];W[ba];B[db]TR[cb])",
+            "(;SZ[4:2]AW[ca][ab]PL[B];W[cb];B[];W[aa];B[da];W[ba];B[db]TR[cb])",
             8,
             1,
             0,
@@ -183,7 +193,7 @@ fn traces_2(rt: HostRuntime) -> Result<(), Fail> {
             "E4,1 D4,1 1 0",
         ),
         (
-            b"(;SZ[1:6];;B[];W[ae];B[ac]TR[ae])",
+            "(;SZ[1:6];;B[];W[ae];B[ac]TR[ae])",
             40,
             3,
             1,
@@ -191,7 +201,7 @@ fn traces_2(rt: HostRuntime) -> Result<(), Fail> {
             "E5,1 E5,1 E5,1 C4,1 E3,1 E3,3 E3,3 E3,3 E4,2 D4,2 8 1",
         ),
         (
-            b"(;SZ[5:1]AB[aa][ca]PL[W]TR[aa]SQ[ca][aa][ba][ea])",
+            "(;SZ[5:1]AB[aa][ca]PL[W]TR[aa]SQ[ca][aa][ba][ea])",
             3,
             0,
             4096,
@@ -199,7 +209,7 @@ fn traces_2(rt: HostRuntime) -> Result<(), Fail> {
             "D1,1 0 0",
         ),
         (
-            b"(;SZ[5:1];B[ea];W[];B[ca]TR[ca]SQ[ea][ba])",
+            "(;SZ[5:1];B[ea];W[];B[ca]TR[ca]SQ[ea][ba])",
             3,
             0,
             1,
@@ -207,7 +217,7 @@ fn traces_2(rt: HostRuntime) -> Result<(), Fail> {
             "D1,1 0 0",
         ),
         (
-            b"(;SZ[4:2]AW[ab]PL[W];TR[ab]SQ[ba][ca][da][aa])",
+            "(;SZ[4:2]AW[ab]PL[W];TR[ab]SQ[ba][ca][da][aa])",
             8,
             6,
             0,
@@ -215,7 +225,7 @@ fn traces_2(rt: HostRuntime) -> Result<(), Fail> {
             "E5,1 E5,1 E5,1 E5,1 E5,1 E5,3 E5,3 E5,3 B5,3 8 0",
         ),
         (
-            b"(;SZ[3];AW[aa][bb]TR[aa]SQ[bb][bc][ac][ab][cb][cc])",
+            "(;SZ[3];AW[aa][bb]TR[aa]SQ[bb][bc][ac][ab][cb][cc])",
             40,
             6,
             4096,
@@ -223,7 +233,7 @@ fn traces_2(rt: HostRuntime) -> Result<(), Fail> {
             "E1,6 E1,6 E1,6 E1,6 E1,6 E1,6 C5,5 E5,5 E5,5 E5,5 E5,5 E5,8 E5,8 E5,8 E5,8 C5,7 E5,7 E5,7 E5,7 E5,7 E5,9 E5,9 E5,9 C5,8 E5,8 E5,8 E5,8 E5,8 E5,11 E5,11 E5,11 E5,11 C5,10 E5,10 E5,10 E5,10 E5,10 E5,13 E5,13 E5,13 E5,13 E5,12 E5,12 E5,12 B5,12 40 5",
         ),
         (
-            b"(;SZ[3:2]AB[ca]PL[B]TR[ca])",
+            "(;SZ[3:2]AB[ca]PL[B]TR[ca])",
             3,
             1,
             0,
@@ -231,7 +241,7 @@ fn traces_2(rt: HostRuntime) -> Result<(), Fail> {
             "E6,1 D6,1 1 0",
         ),
         (
-            b"(;SZ[1:5]AW[aa][ab]PL[W];W[ac];B[ad];W[ac];B[ae];TR[ac])",
+            "(;SZ[1:5]AW[aa][ab]PL[W];W[ac];B[ad];W[ac];B[ae];TR[ac])",
             3,
             3,
             1,
@@ -239,7 +249,7 @@ fn traces_2(rt: HostRuntime) -> Result<(), Fail> {
             "E5,1 E5,1 E5,1 B5,1 3 0",
         ),
         (
-            b"(;SZ[1:3]AB[ac]AW[aa]PL[B]TR[ac])",
+            "(;SZ[1:3]AB[ac]AW[aa]PL[B]TR[ac])",
             3,
             0,
             5,
@@ -247,7 +257,7 @@ fn traces_2(rt: HostRuntime) -> Result<(), Fail> {
             "D1,1 0 0",
         ),
         (
-            b"(;SZ[4:1]AB[aa][ba][da];TR[ba])",
+            "(;SZ[4:1]AB[aa][ba][da];TR[ba])",
             40,
             1,
             2,
@@ -255,7 +265,7 @@ fn traces_2(rt: HostRuntime) -> Result<(), Fail> {
             "E1,1 D1,1 1 0",
         ),
         (
-            b"(;SZ[4:2]AB[db]PL[W];W[da]TR[db]SQ[cb][ca][da][ab][bb])",
+            "(;SZ[4:2]AB[db]PL[W];W[da]TR[db]SQ[cb][ca][da][ab][bb])",
             40,
             1,
             4096,
@@ -263,7 +273,7 @@ fn traces_2(rt: HostRuntime) -> Result<(), Fail> {
             "E5,1 D5,1 1 0",
         ),
         (
-            b"(;SZ[1:6]AW[aa];B[af];W[ad]TR[aa][aa])",
+            "(;SZ[1:6]AW[aa];B[af];W[ad]TR[aa][aa])",
             8,
             0,
             5,
@@ -271,7 +281,7 @@ fn traces_2(rt: HostRuntime) -> Result<(), Fail> {
             "D1,1 0 0",
         ),
         (
-            b"(;SZ[7:1]AW[ea];B[fa]TR[fa]SQ[ga][ba][ea][fa])",
+            "(;SZ[7:1]AW[ea];B[fa]TR[fa]SQ[ga][ba][ea][fa])",
             3,
             0,
             0,
@@ -279,7 +289,7 @@ fn traces_2(rt: HostRuntime) -> Result<(), Fail> {
             "D1,1 0 0",
         ),
         (
-            b"(;SZ[2]PL[B];B[ba];W[bb];B[aa];W[ab];B[];W[ba];TR[bb]SQ[ba][bb][ab])",
+            "(;SZ[2]PL[B];B[ba];W[bb];B[aa];W[ab];B[];W[ba];TR[bb]SQ[ba][bb][ab])",
             40,
             6,
             0,
@@ -287,7 +297,7 @@ fn traces_2(rt: HostRuntime) -> Result<(), Fail> {
             "E1,1 Einf,0 Sinf,0 2 0",
         ),
         (
-            b"(;SZ[2];AB[ba]AW[ab][bb]TR[bb])",
+            "(;SZ[2];AB[ba]AW[ab][bb]TR[bb])",
             8,
             1,
             2,
@@ -295,7 +305,7 @@ fn traces_2(rt: HostRuntime) -> Result<(), Fail> {
             "C0,inf S0,inf 0 1",
         ),
         (
-            b"(;SZ[1:6];B[ae];W[aa];B[ac]TR[ac])",
+            "(;SZ[1:6];B[ae];W[aa];B[ac]TR[ac])",
             3,
             3,
             0,
@@ -305,16 +315,26 @@ fn traces_2(rt: HostRuntime) -> Result<(), Fail> {
     ];
     for (problem, budget, depth, capacity, first, second) in table {
         let traces = (first, second);
-        assert!(&rt; search_twice(rt.alloc(), problem, budget, depth, capacity, traces)?);
+        assert!(&rt;
+            search_twice(
+                rt.alloc(),
+                problem.as_bytes(),
+                budget,
+                depth,
+                capacity,
+                traces
+            )?,
+            "{problem}, budget {budget}, depth {depth}, capacity {capacity}"
+        );
     }
     Ok(())
 }
 
 #[test]
 fn traces_3(rt: HostRuntime) -> Result<(), Fail> {
-    let table: [(&[u8], u32, u16, usize, &str, &str); 16] = [
+    let table: [(&str, u32, u16, usize, &str, &str); 16] = [
         (
-            b"(;SZ[2:3]AB[ac][bc]PL[W];W[aa];B[bb]TR[ac]SQ[ab][ba][bc])",
+            "(;SZ[2:3]AB[ac][bc]PL[W];W[aa];B[bb]TR[ac]SQ[ab][ba][bc])",
             40,
             0,
             5,
@@ -322,7 +342,7 @@ fn traces_3(rt: HostRuntime) -> Result<(), Fail> {
             "D1,1 0 0",
         ),
         (
-            b"(;SZ[4:2]AB[ab][db]AW[ba]PL[W];W[bb];B[aa];W[ca];TR[db])",
+            "(;SZ[4:2]AB[ab][db]AW[ba]PL[W];W[bb];B[aa];W[ca];TR[db])",
             3,
             6,
             1,
@@ -330,7 +350,7 @@ fn traces_3(rt: HostRuntime) -> Result<(), Fail> {
             "E5,1 E5,1 C4,1 E4,1 B4,1 3 1",
         ),
         (
-            b"(;SZ[3:2];B[aa];W[]TR[aa]SQ[bb][ab][aa][ca][cb][ba])",
+            "(;SZ[3:2];B[aa];W[]TR[aa]SQ[bb][ab][aa][ca][cb][ba])",
             3,
             512,
             0,
@@ -338,7 +358,7 @@ fn traces_3(rt: HostRuntime) -> Result<(), Fail> {
             "E6,1 E6,1 E6,1 B6,1 3 0",
         ),
         (
-            b"(;SZ[3:2]AB[ca][ab]PL[W]TR[ab])",
+            "(;SZ[3:2]AB[ca][ab]PL[W]TR[ab])",
             40,
             1,
             0,
@@ -346,7 +366,7 @@ fn traces_3(rt: HostRuntime) -> Result<(), Fail> {
             "E1,5 D1,5 1 0",
         ),
         (
-            b"(;SZ[1:3]AB[ac]PL[B]TR[ac])",
+            "(;SZ[1:3]AB[ac]PL[B]TR[ac])",
             3,
             6,
             0,
@@ -354,7 +374,7 @@ fn traces_3(rt: HostRuntime) -> Result<(), Fail> {
             "E3,1 E2,1 E1,1 B1,1 3 0",
         ),
         (
-            b"(;SZ[1:6]AW[aa][af]PL[W]TR[af]SQ[ac][ae])",
+            "(;SZ[1:6]AW[aa][af]PL[W]TR[af]SQ[ac][ae])",
             3,
             3,
             2,
@@ -362,7 +382,7 @@ fn traces_3(rt: HostRuntime) -> Result<(), Fail> {
             "E3,1 C2,1 E2,1 E1,2 B1,2 3 2",
         ),
         (
-            b"(;SZ[5:1]AW[ba][ca];B[ea];W[da];B[];W[aa]TR[da])",
+            "(;SZ[5:1]AW[ba][ca];B[ea];W[da];B[];W[aa]TR[da])",
             3,
             1,
             2,
@@ -370,7 +390,7 @@ fn traces_3(rt: HostRuntime) -> Result<(), Fail> {
             "C0,inf S0,inf 0 1",
         ),
         (
-            b"(;SZ[4:2];AB[cb][db]AW[da]PL[B]TR[db]SQ[ca][ba][bb])",
+            "(;SZ[4:2];AB[cb][db]AW[da]PL[B]TR[db]SQ[ca][ba][bb])",
             8,
             512,
             4096,
@@ -378,7 +398,7 @@ fn traces_3(rt: HostRuntime) -> Result<(), Fail> {
             "E4,1 E4,1 E4,1 E4,1 E4,3 E4,3 E4,3 C5,2 E5,2 B5,2 8 1",
         ),
         (
-            b"(;SZ[7:1]AB[ba]AW[da]PL[W];W[];B[ga];W[ea];B[aa];W[ca];B[fa]TR[da])",
+            "(;SZ[7:1]AB[ba]AW[da]PL[W];W[];B[ga];W[ea];B[aa];W[ca];B[fa]TR[da])",
             40,
             512,
             4096,
@@ -386,7 +406,7 @@ fn traces_3(rt: HostRuntime) -> Result<(), Fail> {
             "Cinf,0 Sinf,0 0 10",
         ),
         (
-            b"(;SZ[3];AB[aa][bc]PL[W];W[ac];W[cb];W[ba]TR[aa])",
+            "(;SZ[3];AB[aa][bc]PL[W];W[ac];W[cb];W[ba]TR[aa])",
             8,
             3,
             4096,
@@ -394,7 +414,7 @@ fn traces_3(rt: HostRuntime) -> Result<(), Fail> {
             "E4,1 E4,1 C3,1 C2,1 C1,4 E1,4 E1,4 E1,4 E3,3 D3,3 6 4",
         ),
         (
-            b"(;SZ[4:1];B[ba]TR[ba]SQ[ba][da][aa])",
+            "(;SZ[4:1];B[ba]TR[ba]SQ[ba][da][aa])",
             8,
             512,
             2,
@@ -402,7 +422,7 @@ fn traces_3(rt: HostRuntime) -> Result<(), Fail> {
             "E1,2 E1,2 C2,1 E2,1 Cinf,0 Sinf,0 3 2",
         ),
         (
-            b"(;SZ[3]AB[ba]AW[aa][ab][bb][ac]PL[B]TR[ba])",
+            "(;SZ[3]AB[ba]AW[aa][ab][bb][ac]PL[B]TR[ba])",
             40,
             512,
             1,
@@ -410,7 +430,7 @@ fn traces_3(rt: HostRuntime) -> Result<(), Fail> {
             "E5,1 C4,1 E3,1 E2,1 E1,1 E0,inf S0,inf 5 1",
         ),
         (
-            b"(;SZ[3:2]PL[B];B[bb];W[]TR[bb])",
+            "(;SZ[3:2]PL[B];B[bb];W[]TR[bb])",
             8,
             0,
             4096,
@@ -418,7 +438,7 @@ fn traces_3(rt: HostRuntime) -> Result<(), Fail> {
             "D1,1 0 0",
         ),
         (
-            b"(;SZ[3];AW[bb][cb]PL[B];B[aa];W[ab];B[cc]TR[cb]SQ[cb][bb][ac])",
+            "(;SZ[3];AW[bb][cb]PL[B];B[aa];W[ab];B[cc]TR[cb]SQ[cb][bb][ac])",
             8,
             0,
             2,
@@ -426,7 +446,7 @@ fn traces_3(rt: HostRuntime) -> Result<(), Fail> {
             "D1,1 0 0",
         ),
         (
-            b"(;SZ[2:3];AW[bb][ac][bc]TR[bc])",
+            "(;SZ[2:3];AW[bb][ac][bc]TR[bc])",
             40,
             512,
             5,
@@ -434,7 +454,7 @@ fn traces_3(rt: HostRuntime) -> Result<(), Fail> {
             "E1,4 E1,4 E1,4 E1,4 C3,3 C2,3 C1,3 E1,4 E1,4 E2,4 E2,4 C1,6 E1,6 E1,6 C2,5 E1,5 E0,inf S0,inf 12 5",
         ),
         (
-            b"(;SZ[2:1];B[];W[ba]TR[ba]SQ[ba])",
+            "(;SZ[2:1];B[];W[ba]TR[ba]SQ[ba])",
             3,
             3,
             4096,
@@ -444,16 +464,26 @@ fn traces_3(rt: HostRuntime) -> Result<(), Fail> {
     ];
     for (problem, budget, depth, capacity, first, second) in table {
         let traces = (first, second);
-        assert!(&rt; search_twice(rt.alloc(), problem, budget, depth, capacity, traces)?);
+        assert!(&rt;
+            search_twice(
+                rt.alloc(),
+                problem.as_bytes(),
+                budget,
+                depth,
+                capacity,
+                traces
+            )?,
+            "{problem}, budget {budget}, depth {depth}, capacity {capacity}"
+        );
     }
     Ok(())
 }
 
 #[test]
 fn traces_4(rt: HostRuntime) -> Result<(), Fail> {
-    let table: [(&[u8], u32, u16, usize, &str, &str); 16] = [
+    let table: [(&str, u32, u16, usize, &str, &str); 16] = [
         (
-            b"(;SZ[7:1];AB[ca]AW[aa][ea]PL[W]TR[aa]SQ[fa][ea][ba][ga][aa][ca])",
+            "(;SZ[7:1];AB[ca]AW[aa][ea]PL[W]TR[aa]SQ[fa][ea][ba][ga][aa][ca])",
             8,
             3,
             1,
@@ -461,7 +491,7 @@ fn traces_4(rt: HostRuntime) -> Result<(), Fail> {
             "E3,1 C2,1 E1,1 E0,inf S0,inf 3 1",
         ),
         (
-            b"(;SZ[1:2]PL[B];B[ab];W[];B[]TR[ab])",
+            "(;SZ[1:2]PL[B];B[ab];W[];B[]TR[ab])",
             8,
             1,
             5,
@@ -469,7 +499,7 @@ fn traces_4(rt: HostRuntime) -> Result<(), Fail> {
             "C0,inf S0,inf 0 1",
         ),
         (
-            b"(;SZ[9:2];B[ib]TR[ib]SQ[hb][ab])",
+            "(;SZ[9:2];B[ib]TR[ib]SQ[hb][ab])",
             8,
             6,
             1,
@@ -477,7 +507,7 @@ fn traces_4(rt: HostRuntime) -> Result<(), Fail> {
             "E1,3 E1,3 E1,3 C2,2 E2,2 E2,1 E2,1 Einf,0 Sinf,0 7 1",
         ),
         (
-            b"(;SZ[1:6]AW[af];B[]TR[af])",
+            "(;SZ[1:6]AW[af];B[]TR[af])",
             3,
             512,
             2,
@@ -485,7 +515,7 @@ fn traces_4(rt: HostRuntime) -> Result<(), Fail> {
             "E6,1 C5,1 C4,1 E3,1 E2,1 B2,1 3 2",
         ),
         (
-            b"(;SZ[4:1]AB[aa][ca]PL[W];W[ba];B[da];B[];TR[ba]SQ[da][ba][aa][ca])",
+            "(;SZ[4:1]AB[aa][ca]PL[W];W[ba];B[da];B[];TR[ba]SQ[da][ba][aa][ca])",
             3,
             512,
             1,
@@ -493,7 +523,7 @@ fn traces_4(rt: HostRuntime) -> Result<(), Fail> {
             "E4,1 C3,1 E3,1 Einf,0 Sinf,0 3 1",
         ),
         (
-            b"(;SZ[2:1]PL[B];B[aa];W[ba];B[];W[]TR[ba])",
+            "(;SZ[2:1]PL[B];B[aa];W[ba];B[];W[]TR[ba])",
             40,
             0,
             1,
@@ -501,7 +531,7 @@ fn traces_4(rt: HostRuntime) -> Result<(), Fail> {
             "D1,1 0 0",
         ),
         (
-            b"(;SZ[6:1]AB[da]PL[W];W[ca];B[];W[fa]TR[fa]SQ[da][aa][fa][ba][ea])",
+            "(;SZ[6:1]AB[da]PL[W];W[ca];B[];W[fa]TR[fa]SQ[da][aa][fa][ba][ea])",
             8,
             1,
             1,
@@ -509,7 +539,7 @@ fn traces_4(rt: HostRuntime) -> Result<(), Fail> {
             "C0,inf S0,inf 0 1",
         ),
         (
-            b"(;SZ[3]AB[aa][ab][bb][cc]AW[ca][bc]PL[W]TR[ab]SQ[bc][aa])",
+            "(;SZ[3]AB[aa][ab][bb][cc]AW[ca][bc]PL[W]TR[ab]SQ[bc][aa])",
             3,
             6,
             5,
@@ -517,7 +547,7 @@ fn traces_4(rt: HostRuntime) -> Result<(), Fail> {
             "Cinf,0 Sinf,0 0 2",
         ),
         (
-            b"(;SZ[4]AB[cc][ad]AW[ab]PL[W];TR[cc]SQ[da][ac])",
+            "(;SZ[4]AB[cc][ad]AW[ab]PL[W];TR[cc]SQ[da][ac])",
             8,
             6,
             5,
@@ -525,7 +555,7 @@ fn traces_4(rt: HostRuntime) -> Result<(), Fail> {
             "E1,3 C1,2 E1,2 C2,1 E2,1 Cinf,0 Sinf,0 3 5",
         ),
         (
-            b"(;SZ[3];AB[aa][ba]AW[ab][bb][cc]PL[B]TR[ab])",
+            "(;SZ[3];AB[aa][ba]AW[ab][bb][cc]PL[B]TR[ab])",
             8,
             3,
             0,
@@ -533,7 +563,7 @@ fn traces_4(rt: HostRuntime) -> Result<(), Fail> {
             "E1,5 E1,5 E1,5 E1,5 E1,5 E4,4 E4,4 E4,4 B4,4 8 0",
         ),
         (
-            b"(;SZ[3]AB[ab]PL[B];TR[ab])",
+            "(;SZ[3]AB[ab]PL[B];TR[ab])",
             40,
             512,
             0,
@@ -541,7 +571,7 @@ fn traces_4(rt: HostRuntime) -> Result<(), Fail> {
             "E9,1 E9,1 E9,1 E9,1 E9,1 E9,1 E9,1 E9,1 E9,1 E9,7 E9,7 E9,7 E9,7 E9,7 E9,7 E9,7 E15,6 E15,6 E15,6 E15,6 E15,6 E15,6 E15,6 E15,7 E15,7 E15,7 E15,7 E15,7 E15,7 E15,7 E21,6 E21,6 E21,6 E21,6 E21,6 E21,6 E21,6 E21,8 E21,8 E21,8 B21,8 40 0",
         ),
         (
-            b"(;SZ[3:2]AW[ab][bb]PL[W];W[ba];B[cb];W[aa]TR[aa])",
+            "(;SZ[3:2]AW[ab][bb]PL[W];W[ba];B[cb];W[aa]TR[aa])",
             3,
             1,
             1,
@@ -549,7 +579,7 @@ fn traces_4(rt: HostRuntime) -> Result<(), Fail> {
             "C0,inf S0,inf 0 1",
         ),
         (
-            b"(;SZ[3:2];B[ba]TR[ba])",
+            "(;SZ[3:2];B[ba]TR[ba])",
             40,
             6,
             5,
@@ -557,7 +587,7 @@ fn traces_4(rt: HostRuntime) -> Result<(), Fail> {
             "E1,6 E1,6 E1,6 E1,6 E1,6 E1,6 C5,5 E5,5 E5,5 E5,5 E5,5 E5,7 E5,7 E5,7 C5,6 E5,6 E5,6 E5,6 E5,6 E5,8 E5,8 E5,8 C5,7 E5,7 E5,7 E5,7 E5,7 E5,9 E5,9 E5,9 C5,8 E5,8 E5,8 E5,8 E5,8 E5,11 E5,11 E5,11 E5,11 C5,10 E5,10 E5,10 E5,10 E5,10 E5,12 B5,12 40 5",
         ),
         (
-            b"(;SZ[3:2]AB[aa][ab]AW[cb]TR[cb])",
+            "(;SZ[3:2]AB[aa][ab]AW[cb]TR[cb])",
             40,
             6,
             1,
@@ -565,7 +595,7 @@ fn traces_4(rt: HostRuntime) -> Result<(), Fail> {
             "E1,4 E1,4 E1,4 E1,4 C3,3 E2,3 E1,3 E1,4 E1,4 E2,4 E2,4 E1,8 E1,8 E1,8 E1,8 E1,8 E2,7 E2,7 E1,11 E1,11 E1,11 E1,11 E1,11 E3,10 E3,10 E2,10 E1,11 E1,11 E3,10 E3,10 E2,10 E1,13 E1,13 E1,13 E1,13 E4,12 D4,12 35 1",
         ),
         (
-            b"(;SZ[3]AB[ab][ac][cc]AW[aa][ca]PL[W]TR[ca]SQ[bb])",
+            "(;SZ[3]AB[ab][ac][cc]AW[aa][ca]PL[W]TR[ca]SQ[bb])",
             8,
             6,
             2,
@@ -573,7 +603,7 @@ fn traces_4(rt: HostRuntime) -> Result<(), Fail> {
             "E2,1 Cinf,0 Sinf,0 1 2",
         ),
         (
-            b"(;SZ[6:1];B[ea]TR[ea])",
+            "(;SZ[6:1];B[ea]TR[ea])",
             8,
             512,
             1,
@@ -583,16 +613,26 @@ fn traces_4(rt: HostRuntime) -> Result<(), Fail> {
     ];
     for (problem, budget, depth, capacity, first, second) in table {
         let traces = (first, second);
-        assert!(&rt; search_twice(rt.alloc(), problem, budget, depth, capacity, traces)?);
+        assert!(&rt;
+            search_twice(
+                rt.alloc(),
+                problem.as_bytes(),
+                budget,
+                depth,
+                capacity,
+                traces
+            )?,
+            "{problem}, budget {budget}, depth {depth}, capacity {capacity}"
+        );
     }
     Ok(())
 }
 
 #[test]
 fn traces_5(rt: HostRuntime) -> Result<(), Fail> {
-    let table: [(&[u8], u32, u16, usize, &str, &str); 11] = [
+    let table: [(&str, u32, u16, usize, &str, &str); 11] = [
         (
-            b"(;SZ[3:1];AW[aa]PL[B];B[ca]TR[ca]SQ[aa][ba][ca])",
+            "(;SZ[3:1];AW[aa]PL[B];B[ca]TR[ca]SQ[aa][ba][ca])",
             3,
             1,
             4096,
@@ -600,7 +640,7 @@ fn traces_5(rt: HostRuntime) -> Result<(), Fail> {
             "C0,inf S0,inf 0 1",
         ),
         (
-            b"(;SZ[4:2];PL[B];B[aa];W[bb]TR[aa])",
+            "(;SZ[4:2];PL[B];B[aa];W[bb]TR[aa])",
             40,
             6,
             2,
@@ -608,7 +648,7 @@ fn traces_5(rt: HostRuntime) -> Result<(), Fail> {
             "E7,1 E7,1 E7,1 E7,1 C6,1 E6,1 E6,1 E6,6 E6,6 E6,6 E6,6 E6,6 E6,6 C9,5 E8,5 E7,5 E6,5 E5,6 E5,6 E5,6 E5,6 E5,6 E5,6 E8,5 E7,5 E6,5 E5,5 E4,6 E4,6 E4,6 E4,6 E4,6 E4,6 E7,5 E6,5 E5,5 E4,5 E3,6 E3,6 E3,6 E3,6 E3,6 B3,6 40 2",
         ),
         (
-            b"(;SZ[4:3];B[];W[cc];TR[cc]SQ[cc][ca][bb][bc][dc])",
+            "(;SZ[4:3];B[];W[cc];TR[cc]SQ[cc][ca][bb][bc][dc])",
             40,
             3,
             2,
@@ -616,7 +656,7 @@ fn traces_5(rt: HostRuntime) -> Result<(), Fail> {
             "E1,5 E1,5 E1,5 E1,5 E1,5 C4,4 E4,4 E4,4 E4,4 E4,6 D4,6 9 1",
         ),
         (
-            b"(;SZ[5:5];B[];W[ca];B[ce];W[ed];B[ee];W[];TR[ed]SQ[be][eb])",
+            "(;SZ[5:5];B[];W[ca];B[ce];W[ed];B[ee];W[];TR[ed]SQ[be][eb])",
             8,
             6,
             4096,
@@ -624,7 +664,7 @@ fn traces_5(rt: HostRuntime) -> Result<(), Fail> {
             "Cinf,0 Sinf,0 0 8",
         ),
         (
-            b"(;SZ[3:2]PL[B];B[aa];W[cb];B[bb]TR[aa]SQ[ca])",
+            "(;SZ[3:2]PL[B];B[aa];W[cb];B[bb]TR[aa]SQ[ca])",
             3,
             512,
             5,
@@ -632,7 +672,7 @@ fn traces_5(rt: HostRuntime) -> Result<(), Fail> {
             "E1,2 C1,1 Einf,0 Sinf,0 2 4",
         ),
         (
-            b"(;SZ[5:1]PL[W];W[ba];B[ea];W[ca]TR[ba])",
+            "(;SZ[5:1]PL[W];W[ba];B[ea];W[ca]TR[ba])",
             40,
             3,
             4096,
@@ -640,7 +680,7 @@ fn traces_5(rt: HostRuntime) -> Result<(), Fail> {
             "E1,2 E1,2 C4,1 C3,1 E3,1 D3,1 3 2",
         ),
         (
-            b"(;SZ[2:3];B[ba];W[ab]TR[ba])",
+            "(;SZ[2:3];B[ba];W[ab]TR[ba])",
             40,
             3,
             5,
@@ -648,7 +688,7 @@ fn traces_5(rt: HostRuntime) -> Result<(), Fail> {
             "E5,1 C4,1 E4,1 E4,1 E4,1 E4,4 E4,4 E4,4 E4,4 C5,3 D5,3 8 2",
         ),
         (
-            b"(;SZ[2:3];AB[ac][bc]AW[ba]PL[W];W[aa];B[ab];W[bb];B[bc]TR[bc])",
+            "(;SZ[2:3];AB[ac][bc]AW[ba]PL[W];W[aa];B[ab];W[bb];B[bc]TR[bc])",
             40,
             1,
             5,
@@ -656,7 +696,7 @@ fn traces_5(rt: HostRuntime) -> Result<(), Fail> {
             "C0,inf S0,inf 0 1",
         ),
         (
-            b"(;SZ[2:3]AB[aa][ba][ab][bb]PL[W];W[ac];B[bc];W[ac]TR[ac])",
+            "(;SZ[2:3]AB[aa][ba][ab][bb]PL[W];W[ac];B[bc];W[ac]TR[ac])",
             40,
             3,
             0,
@@ -664,7 +704,7 @@ fn traces_5(rt: HostRuntime) -> Result<(), Fail> {
             "E1,6 E1,6 E1,6 E1,6 E1,6 E1,6 E5,5 E5,5 E5,5 E5,5 E5,5 E5,7 D5,7 12 0",
         ),
         (
-            b"(;SZ[3:2];AB[cb]PL[W];W[];B[aa];W[ca]TR[cb]SQ[bb][ba][ca][ab][cb])",
+            "(;SZ[3:2];AB[cb]PL[W];W[];B[aa];W[ca]TR[cb]SQ[bb][ba][ca][ab][cb])",
             8,
             3,
             5,
@@ -672,7 +712,7 @@ fn traces_5(rt: HostRuntime) -> Result<(), Fail> {
             "E4,1 E4,1 C3,1 E3,1 C2,2 E2,2 C5,1 D5,1 4 3",
         ),
         (
-            b"(;SZ[3:3]AB[aa]AW[ca][ab][bc][cc]PL[W]TR[aa])",
+            "(;SZ[3:3]AB[aa]AW[ca][ab][bc][cc]PL[W]TR[aa])",
             8,
             1,
             4096,
@@ -682,7 +722,17 @@ fn traces_5(rt: HostRuntime) -> Result<(), Fail> {
     ];
     for (problem, budget, depth, capacity, first, second) in table {
         let traces = (first, second);
-        assert!(&rt; search_twice(rt.alloc(), problem, budget, depth, capacity, traces)?);
+        assert!(&rt;
+            search_twice(
+                rt.alloc(),
+                problem.as_bytes(),
+                budget,
+                depth,
+                capacity,
+                traces
+            )?,
+            "{problem}, budget {budget}, depth {depth}, capacity {capacity}"
+        );
     }
     Ok(())
 }
