@@ -45,6 +45,8 @@ fn certificates(rt: HostRuntime) -> Result<(), Fail> {
     assert!(&rt; check(alloc, q, b"lives ?--!--.;") == Ok(true));
     assert!(&rt; check(alloc, q, b"lives ?--!--.") == Err(30));
     assert!(&rt; check(alloc, p, b"killed !ca?aa.;") == Ok(false));
+    assert!(&rt; check(alloc, p, b"killed !ca?aa.--!aa.;") == Ok(true));
+    assert!(&rt; check(alloc, q, b"killed !ca?aa.--!aa.;") == Ok(false));
     assert!(&rt; check(alloc, p, b"killed !ca?aa.da.--!aa.;") == Ok(true));
     assert!(&rt; check(alloc, p, b"killed !ca?--!aa.aa.;") == Err(30));
     assert!(&rt; check(alloc, s, b"killed ?aa.--!aa.;") == Ok(true));
