@@ -27,4 +27,8 @@ pub use records::{Record, play_record};
 pub use turns::{Successor, Turn, Turns};
 
 #[cfg(test)]
-mod tests;
+mod problem_tests;
+#[cfg(test)]
+mod record_tests;
+#[cfg(test)]
+mod turn_tests;
