@@ -9,6 +9,7 @@ pub mod Lost
 pub mod StuckBehind
 pub mod Found
 pub mod Sending
-pub mod Places
+pub mod ResultLemmas
 pub mod LastWins
+pub mod Placing
 pub mod Wins

@@ -7,15 +7,16 @@ use Rattle.std.proofs.lemmas.Option.{slice_get_within, get_or_from_slice_get}
 use Rattle.tt_game.specs.declared.frame.Frame.{Frame}
 use Rattle.tt_game.specs.declared.turns.Turn.{Turn}
 use Rattle.tt_game.specs.Game.{IsLegal, after, opponent, Forces}
-use Rattle.tt_game.specs.Laws.{LegalTurnsListed}
 use Rattle.tt_game.specs.Line.{Standing}
 use Rattle.tt_game.specs.Turns.{legal_turns, turn_number, IsRising}
-use Rattle.tt_proof.specs.Laws.{WinningForces}
+use Rattle.tt_game.specs.TurnLaws.{contains-legal_turns, rising-legal_turns}
+use Rattle.tt_proof.proofs.ForcesLemmas.{win_forces}
 use Rattle.tt_proof.specs.Strategy.{depth, depth_of_entries, entries_of}
 use Rattle.tt_proof.specs.Proven.{Proven, AreChildren, trees_of, turns_of}
 use Rattle.tt_search.specs.declared.limits.Limits.{Limits}
 use Rattle.tt_share.specs.Answers.{LesserLose}
-use Rattle.tt_share.specs.Jobs.{IsJob, IsLost, HaveLost}
+use Rattle.tt_share.specs.Jobs.{IsJob}
+use Rattle.tt_share.specs.Results.{IsLost, HaveLost}
 
 -- what holds of each element holds of the first one and of each of the others
 pub first_of_all : {X : Type 0} (P : X → Type 0) (x : X) (xs : List X) → All P (x ∷ xs) → P x
@@ -79,35 +80,34 @@ before_it f ts rising i k t u hi hk at_i at_k low = elim (cases_lt k i) [
 ]
 
 -- a legal turn of a lesser number is among those before the one at i
-among_first : (line : Standing) → LegalTurnsListed → (i : ℕ) (t u : Turn) → IsJob line i t → IsLegal line.frame line.state u → turn_number line.frame u < turn_number line.frame t → Contains (take i (legal_turns line.frame line.state)) u
-among_first line listed i t u job legal low =
+among_first : (line : Standing) (i : ℕ) (t u : Turn) → IsJob line i t → IsLegal line.frame line.state u → turn_number line.frame u < turn_number line.frame t → Contains (take i (legal_turns line.frame line.state)) u
+among_first line i t u job legal low =
     let all = legal_turns line.frame line.state in
-    let law = listed line.frame line.state in
-    let h = (law.0 u).1 legal in
+    let h = (contains-legal_turns line.frame line.state u).1 legal in
     let within = slice_get_within all i t job in
     let at_i = get_or_from_slice_get all i t t job in
     let at_k : get_or all h.0 t ≡ u = get_or_default all h.0 t u h.1 ∙ h.2 in
-    let k = before_it line.frame all law.1 i h.0 t u within h.1 at_i at_k low in
+    let k = before_it line.frame all (rising-legal_turns line.frame line.state) i h.0 t u within h.1 at_i at_k low in
     let l = length-take i all in
     (h.0, grind (arith, l, within), get_or-take _ _ _ _ k ∙ h.2)
 
 -- after a turn that has lost the other side forces
-forces : (line : Standing) (limits : Limits) → WinningForces → (c : Turn × Proven) → IsLost line limits c → (n : ℕ) × Forces line.frame (opponent line.state.to_move) n (after line.frame line.state c.0)
-forces line limits law c lost =
-    let w = law c.1.side c.1.frame c.1.tree c.1.state lost.wins.wins in
+forces : (line : Standing) (limits : Limits) (c : Turn × Proven) → IsLost line limits c → (n : ℕ) × Forces line.frame (opponent line.state.to_move) n (after line.frame line.state c.0)
+forces line limits c lost =
+    let w = win_forces c.1.side c.1.frame c.1.tree c.1.state lost.wins.wins in
     let a = subst (λ x. Forces c.1.frame x (depth c.1.tree) c.1.state) lost.side w in
     let b = subst (λ x. Forces x (opponent line.state.to_move) (depth c.1.tree) c.1.state) lost.stands.0 a in
     (depth c.1.tree, subst (λ x. Forces line.frame (opponent line.state.to_move) (depth c.1.tree) x) lost.stands.1 b)
 
 -- the legal turns below the one behind them have lost
-pub lesser_lose : (line : Standing) (limits : Limits) → LegalTurnsListed → WinningForces → (cs : List (Turn × Proven)) (t : Turn) → IsJob line (length cs) t → HaveLost line limits cs → LesserLose line.frame line.state t
-lesser_lose line limits listed law cs t job lost u legal low =
-    let first = among_first line listed (length cs) t u job legal low in
+pub lesser_lose : (line : Standing) (limits : Limits) (cs : List (Turn × Proven)) (t : Turn) → IsJob line (length cs) t → HaveLost line limits cs → LesserLose line.frame line.state t
+lesser_lose line limits cs t job lost u legal low =
+    let first = among_first line (length cs) t u job legal low in
     let first' : Contains (turns_of cs) u = subst (λ (ts : List Turn). Contains ts u) (sym lost.turns) first in
-    of_turns (λ v. (n : ℕ) × Forces line.frame (opponent line.state.to_move) n (after line.frame line.state v)) cs (λ k d short. forces line limits law (get_or cs k d) (lost.each k d short)) u first'
+    of_turns (λ v. (n : ℕ) × Forces line.frame (opponent line.state.to_move) n (after line.frame line.state v)) cs (λ k d short. forces line limits (get_or cs k d) (lost.each k d short)) u first'
 
 -- the turn of a job is legal
-pub legal_job : (line : Standing) → LegalTurnsListed → (i : ℕ) (t : Turn) → IsJob line i t → IsLegal line.frame line.state t
-legal_job line listed i t job =
+pub legal_job : (line : Standing) (i : ℕ) (t : Turn) → IsJob line i t → IsLegal line.frame line.state t
+legal_job line i t job =
     let all = legal_turns line.frame line.state in
-    ((listed line.frame line.state).0 t).0 (i, slice_get_within all i t job, get_or_from_slice_get all i t t job)
+    (contains-legal_turns line.frame line.state t).0 (i, slice_get_within all i t job, get_or_from_slice_get all i t t job)

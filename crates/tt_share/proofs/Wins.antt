@@ -8,14 +8,16 @@ use Rattle.tt_game.specs.Game.{opponent}
 use Rattle.tt_proof.specs.Proven.{Proven}
 use Rattle.tt_search.specs.declared.limits.Limits.{Limits}
 use Rattle.tt_search.specs.declared.search.End.{End}
-use Rattle.tt_search.specs.declared.search.End.TheVariants.{Settled}
+use Rattle.tt_search.specs.declared.search.End.TheVariants.{Settled, Stuck}
+use Rattle.tt_search.specs.declared.limits.Reason.{Reason}
+use Rattle.tt_search.specs.Searched.{Searched}
 use Rattle.tt_game.specs.declared.turns.Turn.{Turn}
 use Rattle.tt_game.specs.Line.{Standing}
 use Rattle.tt_game.specs.Turns.{legal_turns}
-use Rattle.tt_share.specs.declared.answer.Answer.{Answer}
-use Rattle.tt_share.specs.Beginning.{BeginsWith}
-use Rattle.tt_share.specs.Jobs.{EndsBehind, FitsAt, IsJob, IsWinIn, HasEnd, IsWinAt, NoWin, IsLeastWin, FilledBelow, IsReady, StopsAtWin}
-use Rattle.tt_share.proofs.Places.{get_set_other}
+use Rattle.tt_share.specs.declared.answer.Answer.TheVariants.{Unsettled}
+use Rattle.tt_share.specs.Jobs.{EndsBehind, IsResultOf, IsJob, IsStuck, HasWon}
+use Rattle.tt_share.specs.Results.{HasWonIn, AllWon, IsStuckIn, IsStuckAt, IsWinIn, HasEnd, IsFilled, IsWinAt, NoWin, IsLeastWin, IsLeastStuck, FilledBelow, IsReady, StopsAtWin}
+use Rattle.tt_share.proofs.ResultLemmas.{get_set_other}
 
 -- what holds below i and at i holds below the next
 below_more : (P : ℕ → Type 0) (i : ℕ) → ((k : ℕ) → k < i → P k) → P i → (k : ℕ) → k < i + 1 → P k
@@ -25,50 +27,77 @@ below_more P i below this k low = elim (cases_lt k i) [
 ]
 
 -- no job below the next has a win
-pub no_win_more : (side : Side) (slots : List (Option End)) (i : ℕ) → ((k : ℕ) → k < i → ¬ IsWinAt side slots k) → ¬ IsWinAt side slots i → (k : ℕ) → k < i + 1 → ¬ IsWinAt side slots k
-no_win_more side slots i = below_more (λ k. ¬ IsWinAt side slots k) i
+pub no_win_more : (side : Side) (ends : List (Option End)) (i : ℕ) → ((k : ℕ) → k < i → ¬ IsWinAt side ends k) → ¬ IsWinAt side ends i → (k : ℕ) → k < i + 1 → ¬ IsWinAt side ends k
+no_win_more side ends i = below_more (λ k. ¬ IsWinAt side ends k) i
 
 -- a win is in what is read at its place
-pub win_in : (side : Side) (slots : List (Option End)) (i : ℕ) (slot : Option End) → i < length slots → slot ≡ get_or slots i slot → IsWinAt side slots i → IsWinIn side slot
-win_in side slots i slot within read win =
-    let here : slice_get slots i ≡ Some slot = slice_get_read slots (length slots) i slot refl within read in
+pub win_in : (side : Side) (ends : List (Option End)) (i : ℕ) (slot : Option End) → i < length ends → slot ≡ get_or ends i slot → IsWinAt side ends i → IsWinIn side slot
+win_in side ends i slot within read win =
+    let here : slice_get ends i ≡ Some slot = slice_get_read ends (length ends) i slot refl within read in
     subst (IsWinIn side) (same_Some (Some win.0) slot (sym win.1 ∙ here)) win.2
 
--- what is taken from the place of a win is a proof for the side
-pub win_taken : (side : Side) (slots : List (Option End)) (i : ℕ) (slot : Option End) → IsWinAt side slots i → slice_get slots i ≡ Some slot → IsWinIn side slot
-win_taken side slots i slot win here = subst (IsWinIn side) (same_Some (Some win.0) slot (sym win.1 ∙ here)) win.2
+-- a stuck search is in what is read at its place
+pub stuck_in : (ends : List (Option End)) (i : ℕ) (slot : Option End) → i < length ends → slot ≡ get_or ends i slot → IsStuckAt ends i → IsStuckIn slot
+stuck_in ends i slot within read stuck =
+    let here : slice_get ends i ≡ Some slot = slice_get_read ends (length ends) i slot refl within read in
+    subst IsStuckIn (same_Some (Some stuck.0) slot (sym stuck.1 ∙ here)) stuck.2
+
+-- and what is read there is its result
+stuck_at : (ends : List (Option End)) (i : ℕ) (slot : Option End) → slice_get ends i ≡ Some slot → IsStuckIn slot → IsStuckAt ends i
+stuck_at ends i None here stuck = absurd stuck
+stuck_at ends i (Some end) here stuck = (end, here, stuck)
+
+pub stuck_here : (ends : List (Option End)) (i : ℕ) (slot : Option End) → i < length ends → slot ≡ get_or ends i slot → IsStuckIn slot → IsStuckAt ends i
+stuck_here ends i slot within read stuck = stuck_at ends i slot (slice_get_read ends (length ends) i slot refl within read) stuck
+
+-- no job below the next is stuck
+pub not_stuck_more : (ends : List (Option End)) (i : ℕ) → ((k : ℕ) → k < i → ¬ IsStuckAt ends k) → ¬ IsStuckAt ends i → (k : ℕ) → k < i + 1 → ¬ IsStuckAt ends k
+not_stuck_more ends i = below_more (λ k. ¬ IsStuckAt ends k) i
+
+-- a stuck job stands within the list
+pub stuck_within : (ends : List (Option End)) (i : ℕ) → IsStuckAt ends i → i < length ends
+stuck_within ends i stuck = slice_get_within ends i (Some stuck.0) stuck.1
+
+-- the proofs below the next job win
+pub won_more : (ends : List (Option End)) (i : ℕ) (slot : Option End) → i < length ends → slot ≡ get_or ends i slot → HasWonIn slot
+    → ((k : ℕ) → k < i → (end : End) → HasEnd ends k end → HasWon end) → (k : ℕ) → k < i + 1 → (end : End) → HasEnd ends k end → HasWon end
+won_more ends i slot within read won below =
+    let here : slice_get ends i ≡ Some slot = slice_get_read ends (length ends) i slot refl within read in
+    below_more (λ k. (end : End) → HasEnd ends k end → HasWon end) i below (λ end at. subst HasWonIn (same_Some slot (Some end) (sym here ∙ at)) won)
+
+-- so do all proofs, once each place was read
+pub all_won : (ends : List (Option End)) → ((k : ℕ) → k < length ends → (end : End) → HasEnd ends k end → HasWon end) → AllWon ends
+all_won ends won job end at = won job (slice_get_within ends job (Some end) at) end at
 
 -- no job of the list has a win
-pub no_win : (side : Side) (slots : List (Option End)) → ((k : ℕ) → k < length slots → ¬ IsWinAt side slots k) → NoWin side slots
-no_win side slots none job win = none job (slice_get_within slots job (Some win.0) win.1) win
+pub no_win : (side : Side) (ends : List (Option End)) → ((k : ℕ) → k < length ends → ¬ IsWinAt side ends k) → NoWin side ends
+no_win side ends none job win = none job (slice_get_within ends job (Some win.0) win.1) win
 
 -- one more job has a result
-pub filled_more : (old new : List (Option End)) (i : ℕ) → FilledBelow i old → ((k : ℕ) → k ≢ i → slice_get new k ≡ slice_get old k) → (end : End) × HasEnd new i end → FilledBelow (i + 1) new
+pub filled_more : (old new : List (Option End)) (i : ℕ) → FilledBelow i old → ((k : ℕ) → k ≢ i → slice_get new k ≡ slice_get old k) → IsFilled new i → FilledBelow (i + 1) new
 filled_more old new i below same this =
     let others : FilledBelow i new = λ k low. (let had = below k low in let other : k ≢ i = λ e. absurd (omega (arith, low, e)) in (had.0, same k other ∙ had.1)) in
-    below_more (λ k. (end : End) × HasEnd new k end) i others this
+    below_more (λ k. IsFilled new k) i others this
 
 -- a job whose place isn't free has a result
-pub has_end : (slots : List (Option End)) (job : ℕ) (slot : Option End) → job < length slots → slot ≡ get_or slots job slot → is_some slot ≡ true → (end : End) × HasEnd slots job end
-has_end slots job None within read some = absurd (grind (arith, some))
-has_end slots job (Some end) within read some = (end, slice_get_read slots (length slots) job (Some end) refl within read)
+pub has_end : (ends : List (Option End)) (job : ℕ) (slot : Option End) → job < length ends → slot ≡ get_or ends job slot → is_some slot ≡ true → IsFilled ends job
+has_end ends job None within read some = absurd (grind (arith, some))
+has_end ends job (Some end) within read some = (end, slice_get_read ends (length ends) job (Some end) refl within read)
 
 -- all is ready where a job has a win
-pub ready_by : (side a : Side) (slots xs : List (Option End)) (job : ℕ) → a ≡ side → xs ≡ slots → IsLeastWin a xs job → IsReady side slots
-ready_by side a slots xs job is_side is_list least =
-    let win : IsWinAt side slots job = subst (λ s. IsWinAt s slots job) is_side (subst (λ (l : List (Option End)). IsWinAt a l job) is_list least.wins) in
-    inl (job, win)
+pub ready_by : {side : Side} {ends : List (Option End)} {job : ℕ} → IsLeastWin side ends job → IsReady side ends
+ready_by {side} {ends} {job} least = inl (job, least.wins)
 
 -- all is ready, and no job has a win: then none is missing
-pub not_missing : (side : Side) (slots now : List (Option End)) (i : ℕ) → NoWin side slots → IsReady side slots → i < length slots → slice_get now i ≡ slice_get slots i → slice_get now i ≡ Some None → ⊥
-not_missing side slots now i none ready within same missing = elim ready [
+pub not_missing : (side : Side) (ends now : List (Option End)) (i : ℕ) → NoWin side ends → IsReady side ends → i < length ends → slice_get now i ≡ slice_get ends i → slice_get now i ≡ Some None → ⊥
+not_missing side ends now i none ready within same missing = elim ready [
   | inl h ↦ none h.0 h.1
   | inr h ↦ let had = h i within in none-some had.0 (same_Some None (Some had.0) (sym missing ∙ (same ∙ had.1)))
 ]
 
 -- there is one least win
-least_same : (side : Side) (slots : List (Option End)) (a b : ℕ) → IsLeastWin side slots a → IsLeastWin side slots b → a ≡ b
-least_same side slots a b v w = elim (cases_lt a b) [
+least_same : (side : Side) (ends : List (Option End)) (a b : ℕ) → IsLeastWin side ends a → IsLeastWin side ends b → a ≡ b
+least_same side ends a b v w = elim (cases_lt a b) [
   | inl h ↦ absurd (w.least a h v.wins)
   | inr h ↦ elim (cases_lt b a) [
     | inl g ↦ absurd (v.least b g w.wins)
@@ -76,19 +105,45 @@ least_same side slots a b v w = elim (cases_lt a b) [
   ]
 ]
 
--- an answer that begins with the turn of the least win begins with that of each least win
-pub begins_least : (side : Side) (slots : List (Option End)) (turns : List Turn) (i : ℕ) (t : Turn) (a : Answer) → IsLeastWin side slots i → t ≡ get_or turns i t → BeginsWith (Some t) a → (job : ℕ) (turn : Turn) → IsLeastWin side slots job → slice_get turns job ≡ Some turn → BeginsWith (Some turn) a
-begins_least side slots turns i t a least at begins job turn win is =
-    let same = least_same side slots job i win least in
-    let read : get_or turns i t ≡ turn = get_or_from_slice_get turns i turn t (subst (λ n. slice_get turns n ≡ Some turn) same is) in
-    subst (λ x. BeginsWith (Some x) a) (at ∙ read) begins
+-- the turn of the least win is that of each least win
+pub same_turn : (side : Side) (ends : List (Option End)) (turns : List Turn) (i : ℕ) (t : Turn) → IsLeastWin side ends i → t ≡ get_or turns i t → (job : ℕ) (turn : Turn) → IsLeastWin side ends job → slice_get turns job ≡ Some turn → t ≡ turn
+same_turn side ends turns i t least at job turn win is =
+    let same = least_same side ends job i win least in
+    at ∙ get_or_from_slice_get turns i turn t (subst (λ n. slice_get turns n ≡ Some turn) same is)
+
+-- there is one least stuck job
+pub stuck_same : (ends : List (Option End)) (i job : ℕ) (r reason : Reason) (o search : Option Searched) → HasEnd ends i (Stuck r o) → ((k : ℕ) → k < i → ¬ IsStuckAt ends k) → IsLeastStuck ends job reason search → i ≡ job
+stuck_same ends i job r reason o search here lesser least = elim (cases_lt i job) [
+  | inl h ↦ absurd (least.least (i, h, (Stuck r o, here, tt)))
+  | inr h ↦ elim (cases_lt job i) [
+    | inl g ↦ absurd (lesser job g (Stuck reason search, least.stuck, tt))
+    | inr g ↦ omega arith
+  ]
+]
+
+-- and it says one thing
+pub same_stuck : (line : Standing) (ends : List (Option End)) (i job : ℕ) (t turn : Turn) (r reason : Reason) (o search : Option Searched) → i ≡ job → HasEnd ends i (Stuck r o) → HasEnd ends job (Stuck reason search)
+    → IsJob line i t → IsJob line job turn → Unsettled (record { turn = t; reason = r; search = o }) ≡ Unsettled (record { turn = turn; reason = reason; search = search })
+same_stuck line ends i job t turn r reason o search same here there at_i at_job =
+    let both : Some (Some (Stuck r o)) ≡ Some (Some (Stuck reason search)) = sym here ∙ (ap (λ n. slice_get ends n) same ∙ there) in
+    let turns : Some t ≡ Some turn = sym at_i ∙ (ap (λ n. slice_get (legal_turns line.frame line.state) n) same ∙ at_job) in
+    let a : t ≡ turn = same_Some t turn turns in
+    let b : r ≡ reason = cc in
+    let d : o ≡ search = cc in
+    rw (a, b, d) refl
+
+-- a job whose result is a proof isn't stuck
+pub settled_here : (ends : List (Option End)) (i : ℕ) (end : End) (p : Proven) → HasEnd ends i end → end ≡ Settled p → ¬ IsStuckAt ends i
+settled_here ends i end p here is stuck =
+    let same : stuck.0 ≡ Settled p = same_Some stuck.0 (Settled p) (same_Some (Some stuck.0) (Some (Settled p)) (sym stuck.1 ∙ (here ∙ ap (λ (e : End). Some (Some e)) is))) in
+    subst IsStuck same stuck.2
 
 -- the side and the list of a scan are those of the line
-pub none_at : (side a : Side) (slots xs : List (Option End)) → a ≡ side → xs ≡ slots → NoWin a xs → NoWin side slots
-none_at side a slots xs is_side is_list none = subst (λ s. NoWin s slots) is_side (subst (λ (l : List (Option End)). NoWin a l) is_list none)
+pub none_at : (side a : Side) (ends xs : List (Option End)) → a ≡ side → xs ≡ ends → NoWin a xs → NoWin side ends
+none_at side a ends xs is_side is_list none = subst (λ s. NoWin s ends) is_side (subst (λ (l : List (Option End)). NoWin a l) is_list none)
 
-pub least_at : (side a : Side) (slots xs : List (Option End)) (job : ℕ) → a ≡ side → xs ≡ slots → IsLeastWin a xs job → IsLeastWin side slots job
-least_at side a slots xs job is_side is_list least = subst (λ s. IsLeastWin s slots job) is_side (subst (λ (l : List (Option End)). IsLeastWin a l job) is_list least)
+pub least_at : (side a : Side) (ends xs : List (Option End)) (job : ℕ) → a ≡ side → xs ≡ ends → IsLeastWin a xs job → IsLeastWin side ends job
+least_at side a ends xs job is_side is_list least = subst (λ s. IsLeastWin s ends job) is_side (subst (λ (l : List (Option End)). IsLeastWin a l job) is_list least)
 
 -- the turn that is read at a place is the job's
 pub job_here : (line : Standing) (turns : List Turn) (i n : ℕ) (t : Turn) → turns ≡ legal_turns line.frame line.state → n ≡ i → i < length turns → t ≡ get_or turns i t → IsJob line n t
@@ -110,15 +165,15 @@ other_side Defender Attacker other = refl
 other_side Defender Defender other = absurd (other refl)
 
 -- where no job has a win each proof is the opponent's
-pub lost_side : (side : Side) (slots : List (Option End)) (i : ℕ) (end : End) (p : Proven) → NoWin side slots → end ≡ Settled p → HasEnd slots i end → p.side ≡ opponent side
-lost_side side slots i end p none is here = other_side p.side side (λ same. none i (Settled p, subst (HasEnd slots i) is here, same))
+pub lost_side : (side : Side) (ends : List (Option End)) (i : ℕ) (end : End) (p : Proven) → NoWin side ends → end ≡ Settled p → HasEnd ends i end → p.side ≡ opponent side
+lost_side side ends i end p none is here = other_side p.side side (λ same. none i (Settled p, subst (HasEnd ends i) is here, same))
 
 -- a win stands within the list
-pub win_within : (side : Side) (slots : List (Option End)) (i : ℕ) → IsWinAt side slots i → i < length slots
-win_within side slots i win = slice_get_within slots i (Some win.0) win.1
+pub win_within : (side : Side) (ends : List (Option End)) (i : ℕ) → IsWinAt side ends i → i < length ends
+win_within side ends i win = slice_get_within ends i (Some win.0) win.1
 
 -- what fits a job's place is how the search behind its turn ends
-pub ends_here : (line : Standing) (limits : Limits) (i : ℕ) (t : Turn) (end is : End) → end ≡ is → FitsAt line limits i end → IsJob line i t → EndsBehind line limits t is
+pub ends_here : (line : Standing) (limits : Limits) (i : ℕ) (t : Turn) (end is : End) → end ≡ is → IsResultOf line limits i end → IsJob line i t → EndsBehind line limits t is
 ends_here line limits i t end is same fits job = subst (EndsBehind line limits t) same (fits t job)
 
 -- a win stays where its place is as it was

@@ -1,5 +1,6 @@
 pub mod Answers
 pub mod Jobs
+pub mod Results
 pub mod Beginning
 pub mod Workers
 pub mod Desk

@@ -1,16 +1,54 @@
-//! Solving by the caller alone.
+//! Solving by the caller alone, and how each solving begins and ends.
 
-ghost use Rattle.std.specs.Prelude.{◌≡◌, ◌≤◌, None};
+ghost use Rattle.std.specs.Prelude.{◌≡◌, ◌≤◌, None, IfErr, IfOk};
 ghost use Rattle.tt_game.specs.Game.{winner_of};
 ghost use Rattle.tt_share.specs.Answers.{IsAnswer};
 
 use crate::answer::Answer;
-use crate::conclude::{conclude, no_memory};
-use crate::jobs::{no_results, search_missing};
+use crate::conclude::no_memory;
+use crate::results::Results;
 use crate::root::{from_store, offer};
 use std::alloc::Global;
 use tt_game::Line;
 use tt_search::{Limits, Store};
+
+/// The results of the line's jobs, none of them known yet; or the answer, where the store has one or memory was refused.
+pub(crate) fn begin<'a, S: Store>(
+    alloc: Global,
+    line: &'a Line,
+    limits: &Limits,
+    store: &mut S,
+) -> Result<Results<'a>, Answer>
+    requires deep { 1 ≤ limits.now.depth }
+    requires open { winner_of line.now.frame line.now.state ≡ None }
+    ensures line { IfOk result (λ r. r.line ≡ line.now) }
+    ensures limits { IfOk result (λ r. r.limits ≡ limits.now) }
+    ensures answer { IfErr result (IsAnswer line.now limits.now) }
+{
+    match from_store(alloc, line, *limits, store) {
+        Ok(Some(answer)) => return Err(answer),
+        Ok(None) => {}
+        Err(_) => return Err(no_memory()),
+    }
+    match Results::of(alloc, line, *limits) {
+        Ok(results) => Ok(results),
+        Err(_) => Err(no_memory()),
+    }
+}
+
+/// Searches the jobs that have no result, where none wins. The results make the answer, whose proof is offered to the store.
+pub(crate) fn finish<S: Store>(mut results: Results<'_>, store: &mut S) -> Answer
+    ensures { IsAnswer results.entry.line results.entry.limits result }
+{
+    results.search_missing(store);
+    match results.conclude() {
+        Ok(answer) => {
+            offer(&answer, store);
+            answer
+        }
+        Err(_) => no_memory(),
+    }
+}
 
 /// Solves the line. The store is asked first for a proof that wins at the line itself. Else each legal turn, in rising
 /// order, is searched with the same budget and a depth one less, until one is settled for the side to move; and the
@@ -20,18 +58,8 @@ pub fn solve_one<S: Store>(alloc: Global, line: &Line, limits: &Limits, store: &
     requires open { winner_of line.now.frame line.now.state ≡ None }
     ensures { IsAnswer line.now limits.now result }
 {
-    match from_store(alloc, line, limits, store) {
-        Ok(Some(answer)) => return answer,
-        Ok(None) => {}
-        Err(_) => return no_memory(line, limits),
+    match begin(alloc, line, limits, store) {
+        Ok(results) => finish(results, store),
+        Err(answer) => answer,
     }
-    let all = line.turns();
-    let turns = all.as_slice();
-    let Ok(mut slots) = no_results(alloc, turns.len()) else {
-        return no_memory(line, limits);
-    };
-    search_missing(alloc, line, limits, turns, &mut slots, store);
-    let answer = conclude(alloc, line, limits, turns, &mut slots);
-    offer(&answer, store);
-    answer
 }

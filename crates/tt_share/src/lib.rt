@@ -13,6 +13,7 @@ mod gate;
 mod jobs;
 pub mod laws;
 mod locked;
+mod results;
 mod root;
 mod rule;
 mod table;

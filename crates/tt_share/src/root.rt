@@ -12,7 +12,7 @@ use std::alloc::Global;
 use std::sync::Arc;
 use tt_game::{Line, Side};
 use tt_proof::Proof;
-use tt_search::{Limits, Store};
+use tt_search::{Kept, Limits, Store};
 use tt_sgf::NoMemory;
 
 /// A proof of the found tree at the line, where it wins there by replay: it may have been found under another history.
@@ -29,12 +29,12 @@ fn replayed_at(alloc: Global, line: &Line, found: &Proof) -> Result<Option<Proof
 fn proof_from<S: Store>(
     alloc: Global,
     line: &Line,
-    limits: &Limits,
+    limits: Limits,
     side: Side,
     store: &mut S,
 ) -> Result<Option<Proof>, NoMemory>
     ensures stands { IfOk result (λ o. IfSome o (λ p. StandsAt p line.now.frame line.now.state)) }
-    ensures low { IfOk result (λ o. IfSome o (λ p. depth p.tree ≤ limits.now.depth)) }
+    ensures low { IfOk result (λ o. IfSome o (λ p. depth p.tree ≤ limits.depth)) }
 {
     let Some(found) = store.find(line, side)? else {
         return Ok(None);
@@ -49,17 +49,17 @@ fn proof_from<S: Store>(
 pub(crate) fn from_store<S: Store>(
     alloc: Global,
     line: &Line,
-    limits: &Limits,
+    limits: Limits,
     store: &mut S,
 ) -> Result<Option<Answer>, NoMemory>
     requires open { winner_of line.now.frame line.now.state ≡ None }
-    ensures { IfOk result (λ o. IfSome o (λ a. IsAnswer line.now limits.now a)) }
+    ensures { IfOk result (λ o. IfSome o (λ a. IsAnswer line.now limits a)) }
 {
     if let Some(proof) = proof_from(alloc, line, limits, Side::Attacker, store)? {
-        return Ok(Some(settled(alloc, line, limits, proof)));
+        return Ok(Some(settled(alloc, line, limits, proof)?));
     }
     if let Some(proof) = proof_from(alloc, line, limits, Side::Defender, store)? {
-        return Ok(Some(settled(alloc, line, limits, proof)));
+        return Ok(Some(settled(alloc, line, limits, proof)?));
     }
     Ok(None)
 }
@@ -71,7 +71,9 @@ pub(crate) fn offer<S: Store>(answer: &Answer, store: &mut S) {
     }
     if let Answer::Settled { proof, first: _ } = answer {
         if let Ok(copy) = Arc::try_clone(proof) {
-            let _kept = store.keep(copy);
+            match store.keep(copy) {
+                Kept::Stored | Kept::Full | Kept::NoMemory => {}
+            }
         }
     }
 }

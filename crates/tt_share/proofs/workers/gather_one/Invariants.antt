@@ -1,9 +1,17 @@
-use Rattle.std.proofs.Common.{◌≡◌, All, vec_len}
-use Rattle.tt_share.specs.Jobs.{Fits, AllFit}
+use Rattle.std.proofs.Common.{◌≡◌, ◌++◌, All, List, length, vec_len}
+use Rattle.tt_share.specs.declared.jobs.Found.{Found}
+use Rattle.tt_share.specs.Jobs.{IsResult}
+use Rattle.tt_share.specs.Workers.{IsPlaced, KeepsEnds}
 use Rattle.tt_share.proofs.workers.gather_one.Given as goal
 
 abbrev pub invariant-loop-one : goal.invariant-loop-one
-invariant-loop-one l = All (Fits l.line l.limits) l.found.items × AllFit l.line l.limits l.slots.items × (vec_len l.slots ≡ vec_len l.initial.slots)
+invariant-loop-one l = record {
+  left : All (IsResult l.results.line l.results.limits) l.found.items;
+  same : l.results ≡ record l.initial.results { ends = l.results.ends };
+  len : length l.results.ends ≡ length l.initial.results.ends;
+  kept : KeepsEnds l.initial.results.ends l.results.ends;
+  placed : (put : List Found) × (l.fn.found.items ≡ l.found.items ++ put) × All (IsPlaced l.results.ends) put;
+}
 
 abbrev pub decreases-loop-one : goal.decreases-loop-one
 decreases-loop-one l = vec_len l.found

@@ -1,0 +1,50 @@
+-- Results of jobs.
+use Rattle.std.proofs.Common.{◌≡◌, ◌≢◌, ℕ, zero, suc, Bool, true, false, ◌⊎◌, inl, inr, List, [], ◌∷◌, Option, Some, slice_get, slice_set, refl, sym, ap, subst}
+use Rattle.std.proofs.lemmas.Option.{same_Some, none-some}
+use Rattle.tt_game.specs.Line.{Standing}
+use Rattle.tt_search.specs.declared.limits.Limits.{Limits}
+use Rattle.tt_search.specs.declared.search.End.{End}
+use Rattle.tt_game.specs.declared.turns.Turn.{Turn}
+use Rattle.tt_search.specs.declared.search.End.TheVariants.{Settled, Stuck}
+use Rattle.tt_share.specs.Jobs.{EndsBehind, IsResultOf, AreResults, kept_of}
+
+-- what is read after a write is what was written there, or what was read before it
+read_after : {X : Type 0} (xs : List X) (i k : ℕ) (x y : X) → slice_get (slice_set xs i x) k ≡ Some y → ((k ≡ i) × (x ≡ y)) ⊎ (slice_get xs k ≡ Some y)
+read_after [] i k x y is = inr is
+read_after (z ∷ zs) zero zero x y is = inl (refl, same_Some x y is)
+read_after (z ∷ zs) zero (suc k) x y is = inr is
+read_after (z ∷ zs) (suc i) zero x y is = inr is
+read_after (z ∷ zs) (suc i) (suc k) x y is = elim (read_after zs i k x y is) [
+  | inl h ↦ inl (ap suc h.0, h.1)
+  | inr h ↦ inr h
+]
+
+-- one more end that is its job's
+pub one_more_result : (line : Standing) (limits : Limits) (ends : List (Option End)) (job : ℕ) (end : End) → AreResults line limits ends → IsResultOf line limits job end → AreResults line limits (slice_set ends job (Some end))
+one_more_result line limits ends job end all this k e is = elim (read_after ends job k (Some end) (Some e) is) [
+  | inl h ↦ subst (IsResultOf line limits k) (same_Some end e h.1) (subst (λ n. IsResultOf line limits n end) (sym h.0) this)
+  | inr h ↦ all k e h
+]
+
+-- an end is its job's also as it is kept
+pub kept_behind : (line : Standing) (limits : Limits) (t : Turn) (past_stuck : Bool) (end : End) → EndsBehind line limits t end → EndsBehind line limits t (kept_of past_stuck end)
+kept_behind line limits t past_stuck (Settled p) h = h
+kept_behind line limits t false (Stuck reason search) h = h
+kept_behind line limits t true (Stuck reason search) h = tt
+
+pub kept_result : (line : Standing) (limits : Limits) (job : ℕ) (past_stuck : Bool) (end : End) → IsResultOf line limits job end → IsResultOf line limits job (kept_of past_stuck end)
+kept_result line limits job past_stuck end this t at = kept_behind line limits t past_stuck end (this t at)
+
+-- what is written is read where it was written
+pub get_set_same : {X : Type 0} (xs : List X) (i : ℕ) (x y : X) → slice_get xs i ≡ Some y → slice_get (slice_set xs i x) i ≡ Some x
+get_set_same [] i x y is = absurd (none-some y is)
+get_set_same (z ∷ zs) zero x y is = refl
+get_set_same (z ∷ zs) (suc i) x y is = get_set_same zs i x y is
+
+-- and nothing else changes
+pub get_set_other : {X : Type 0} (xs : List X) (i k : ℕ) (x : X) → k ≢ i → slice_get (slice_set xs i x) k ≡ slice_get xs k
+get_set_other [] i k x other = refl
+get_set_other (z ∷ zs) zero zero x other = absurd (other refl)
+get_set_other (z ∷ zs) zero (suc k) x other = refl
+get_set_other (z ∷ zs) (suc i) zero x other = refl
+get_set_other (z ∷ zs) (suc i) (suc k) x other = get_set_other zs i k x (λ e. other (ap suc e))

@@ -1,0 +1,40 @@
+use Rattle.std.proofs.Common.{◌≡◌, ◌<◌, ◌↔◌, ◌∙◌, IsTrue, List, Option, Some, None, slice_set, length, sym, ap, subst, arith}
+use Rattle.std.proofs.lemmas.List.{length-set}
+use Rattle.std.proofs.lemmas.Option.{slice_get_within}
+use Rattle.tt_search.specs.declared.search.End.{End}
+use Rattle.tt_share.specs.Jobs.{IsResultOf, AreResults, kept_of}
+use Rattle.tt_share.specs.Results.{Progress, IsPastStuck}
+use Rattle.tt_share.proofs.ResultLemmas.{one_more_result, kept_result}
+use Rattle.tt_share.proofs.Placing.{seen}
+use Rattle.tt_share.proofs.results.Results.put.Goals as goal
+
+pub invariant_of-self : goal.invariant_of-self
+invariant_of-self c =
+    let line = c.self.inside.jobs.line.now in
+    let limits = c.self.inside.jobs.limits in
+    let job = c.args.found.job in
+    let found : IsResultOf line limits job c.args.found.end = seen (λ l m. IsResultOf l m job c.args.found.end) line limits c.self.inside.ends.items c.args.self.now c.self.view_is c.requires.found in
+    let this : IsResultOf line limits job c.trimmed.result =
+    subst (IsResultOf line limits job) (sym c.trimmed.ensures) (kept_result line limits job c.is_past_stuck-past_stuck.result c.args.found.end found) in
+    let all = one_more_result line limits c.self.inside.ends.items job c.trimmed.result c.self.invariant.are this in
+    record { are = subst (AreResults line limits) (sym c.fill.ensures.filled) all; one_each = c.fill.ensures.len ∙ c.self.invariant.one_each }
+
+pub returns-then-is_free-clause-puts : goal.returns-then-is_free-clause-puts
+returns-then-is_free-clause-puts c =
+    let job = c.args.found.job in
+    let ends : c.self.inside.ends.items ≡ c.args.self.now.ends = ap (λ (p : Progress). p.ends) c.self.view_is in
+    let past : IsTrue c.is_past_stuck-past_stuck.result ↔ IsPastStuck c.args.self.now.ends job =
+    subst (λ (l : List (Option End)). IsTrue c.is_past_stuck-past_stuck.result ↔ IsPastStuck l job) (c.as_slice.ensures.value ∙ ends) c.is_past_stuck-past_stuck.ensures in
+    let put : c.fill.new.ends.items ≡ slice_set c.args.self.now.ends job (Some (kept_of c.is_past_stuck-past_stuck.result c.args.found.end)) =
+    c.fill.ensures.filled ∙ ap (λ l. slice_set l job (Some c.trimmed.result)) ends ∙ ap (λ (e : End). slice_set c.args.self.now.ends job (Some e)) c.trimmed.ensures in
+    record {
+      put = λ free. (c.is_past_stuck-past_stuck.result, past, put);
+      dropped = λ other. absurd (other (c.is_free.ensures.free.0 c.if-is_free.true));
+      len = ap (λ (l : List (Option End)). length l) c.fill.ensures.filled ∙ length-set c.self.inside.ends.items job (Some c.trimmed.result) ∙ ap (λ (l : List (Option End)). length l) ends;
+    }
+
+pub fill-requires : goal.fill-requires
+fill-requires c =
+    let ends : length c.self.inside.ends.items ≡ length c.args.self.now.ends = ap (λ (p : Progress). length p.ends) c.self.view_is in
+    let within : c.args.found.job < length c.args.self.now.ends = slice_get_within c.args.self.now.ends c.args.found.job None (c.is_free.ensures.free.0 c.if-is_free.true) in
+    omega (arith, within, ends, c.self.inside.ends.ok.0)

@@ -1,0 +1,41 @@
+use Rattle.std.proofs.Common.{◌≡◌, ◌∙◌, ◌<◌, ◌+◌, ℕ, sym, ap, subst, arith}
+use Rattle.tt_game.specs.declared.frame.Side.{Side}
+use Rattle.tt_share.specs.Results.{Progress, IsWinAt, StopsAtWin}
+use Rattle.tt_share.proofs.Placing.{same_twice}
+use Rattle.tt_share.proofs.Wins.{ready_by, filled_more, no_win, win_kept, lost_more, same_more, stops_at, stops_never}
+use Rattle.tt_share.proofs.results.Results.search_missing.Goals as goal
+
+pub returns-in-Some-clause-ready : goal.returns-in-Some-clause-ready
+returns-in-Some-clause-ready g c = ready_by c.in-Some.ensures
+
+pub returns-then-search_job-clause-stops : goal.returns-then-search_job-clause-stops
+returns-then-search_job-clause-stops g c =
+    let old = c.loop-job.self in
+    let new = c.search_job.new.self in
+    let side = ap (λ (p : Progress). p.line.state.to_move) c.search_job.ensures.same in
+    subst (λ (s : Side). StopsAtWin s c.args.self.now.ends new.ends) (sym side)
+    (stops_at old.line.state.to_move c.args.self.now.ends old.ends new.ends c.loop-job.job c.loop-job.invariant.lost c.loop-job.invariant.rest c.search_job.ensures.others)
+
+pub returns-clause-stops : goal.returns-clause-stops
+returns-clause-stops g c =
+    let now = c.loop-job.self in
+    let none = no_win now.line.state.to_move now.ends (λ k low. c.loop-job.invariant.lost k (omega (arith, low, c.loop-job-test.false, c.count-job-end.ensures, c.loop-job.invariant.len))) in
+    stops_never now.line.state.to_move c.args.self.now.ends now.ends none
+
+pub loop-job-preserved : goal.loop-job-preserved
+loop-job-preserved g c =
+    let first = c.args.self.now in
+    let old = c.loop-job.self in
+    let new = c.search_job.new.self in
+    let side = ap (λ (p : Progress). p.line.state.to_move) c.search_job.ensures.same in
+    let begun = ap (λ (p : Progress). p.line.state.to_move) c.loop-job.invariant.same in
+    let before : ¬ IsWinAt first.line.state.to_move old.ends c.loop-job.job = λ win. c.in_default.ensures c.loop-job.job (win_kept first.line.state.to_move first.ends old.ends c.loop-job.job (c.loop-job.invariant.rest c.loop-job.job (omega arith)) win) in
+    let this : ¬ IsWinAt old.line.state.to_move new.ends c.loop-job.job = λ win. before (subst (λ (s : Side). IsWinAt s old.ends c.loop-job.job) begun (c.search_job.ensures.lost c.if-search_job.false win)) in
+    let lost : (k : ℕ) → k < c.loop-job.job + 1 → ¬ IsWinAt old.line.state.to_move new.ends k = lost_more old.line.state.to_move old.ends new.ends c.loop-job.job c.loop-job.invariant.lost c.search_job.ensures.others this in
+    record {
+      same = same_twice first old new c.loop-job.invariant.same c.search_job.ensures.same;
+      len = c.search_job.ensures.len ∙ c.loop-job.invariant.len;
+      filled = filled_more old.ends new.ends c.loop-job.job c.loop-job.invariant.filled c.search_job.ensures.others c.search_job.ensures.filled;
+      lost = subst (λ (s : Side). (k : ℕ) → k < c.loop-job.job + 1 → ¬ IsWinAt s new.ends k) (sym side) lost;
+      rest = same_more first.ends old.ends new.ends c.loop-job.job c.loop-job.invariant.rest c.search_job.ensures.others;
+    }

@@ -1,0 +1,11 @@
+use Rattle.std.proofs.Common.{ℕ, ◌<◌}
+use Rattle.tt_search.specs.declared.search.End.{End}
+use Rattle.tt_share.specs.Jobs.{HasWon}
+use Rattle.tt_share.specs.Results.{HasEnd, IsWinAt}
+use Rattle.tt_share.proofs.results.win_at.Given as goal
+
+abbrev pub invariant-loop-job : goal.invariant-loop-job
+invariant-loop-job l = record {
+  lost : (k : ℕ) → k < l.job → ¬ IsWinAt l.side l.ends k;
+  won : (k : ℕ) → k < l.job → (end : End) → HasEnd l.ends k end → HasWon end;
+}

@@ -1,0 +1,28 @@
+use Rattle.std.proofs.Common.{rules, ◌≡◌, ◌∷◌, ◌++◌, [], All, Some, refl, sym, ap, subst, ◌∙◌, arith}
+use Rattle.std.proofs.lemmas.List.Elements.{All-pop, All-push}
+use Rattle.tt_share.specs.Seats.{SeatView}
+use Rattle.tt_share.specs.Workers.{AllPlaced, IsWork}
+use Rattle.tt_share.proofs.Placing.{same_asked, same_twice, keeps_twice, backs_still, all_more, taken_more}
+use Rattle.tt_share.proofs.workers.gather.Goals as goal
+
+pub loop-back-preserved : goal.loop-back-preserved
+loop-back-preserved c =
+    let old = c.loop-back.results in
+    let new = c.gather_one.new.results in
+    let back = c.in-Some.back in
+    let both = All-pop (IsWork old.line old.limits c.args.desk.now.id) _ _ (Some back) c.in-Some.ensures.items c.loop-back.invariant.left in
+    let was = c.loop-back.invariant.placed in
+    record {
+      left = same_asked (λ line limits. All (IsWork line limits c.args.desk.now.id) c.pop.new.self.items) old new c.gather_one.ensures.same both.0;
+      seats = subst (All (λ (s : SeatView). s.desk ≡ c.args.desk.now.id)) (sym c.push_reserved.ensures.items) (All-push (λ (s : SeatView). s.desk ≡ c.args.desk.now.id) c.loop-back.seats.items back.seat c.loop-back.invariant.seats both.1.seat);
+      count = search rules;
+      room = search rules;
+      same = same_twice c.args.results.now old new c.loop-back.invariant.same c.gather_one.ensures.same;
+      len = c.gather_one.ensures.len ∙ c.loop-back.invariant.len;
+      kept = keeps_twice c.args.results.now.ends old.ends new.ends c.loop-back.invariant.kept c.gather_one.ensures.kept;
+      placed = (
+        back ∷ was.0,
+        taken_more _ _ _ was.0 back was.1 c.in-Some.ensures.items,
+        all_more (AllPlaced new.ends) back was.0 c.gather_one.ensures.placed (backs_still old.ends new.ends was.0 c.gather_one.ensures.len c.gather_one.ensures.kept was.2),
+      );
+    }

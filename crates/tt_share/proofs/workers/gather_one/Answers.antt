@@ -1,0 +1,26 @@
+use Rattle.std.proofs.Common.{◌≡◌, ◌∷◌, ◌++◌, [], All, Some, refl, sym, ap, subst, ◌∙◌, arith}
+use Rattle.std.proofs.lemmas.List.Elements.{All-pop}
+use Rattle.tt_share.specs.Jobs.{IsResult}
+use Rattle.tt_share.specs.Workers.{IsPlaced}
+use Rattle.tt_share.proofs.Placing.{same_asked, same_twice, keeps, places, keeps_twice, all_still, all_more, taken_more}
+use Rattle.tt_share.proofs.workers.gather_one.Goals as goal
+
+pub loop-one-preserved : goal.loop-one-preserved
+loop-one-preserved c =
+    let old = c.loop-one.results in
+    let new = c.put.new.self in
+    let one = c.in-Some.one in
+    let both = All-pop (IsResult old.line old.limits) _ _ (Some one) c.in-Some.ensures.items c.loop-one.invariant.left in
+    let kept = keeps old.ends new.ends one c.put.ensures.puts in
+    let was = c.loop-one.invariant.placed in
+    record {
+      left = same_asked (λ line limits. All (IsResult line limits) c.pop.new.self.items) old new c.put.ensures.same both.0;
+      same = same_twice c.args.results.now old new c.loop-one.invariant.same c.put.ensures.same;
+      len = c.put.ensures.puts.len ∙ c.loop-one.invariant.len;
+      kept = keeps_twice c.args.results.now.ends old.ends new.ends c.loop-one.invariant.kept kept;
+      placed = (
+        one ∷ was.0,
+        taken_more _ _ _ was.0 one was.1 c.in-Some.ensures.items,
+        all_more (IsPlaced new.ends) one was.0 (places old.ends new.ends one c.put.ensures.puts) (all_still old.ends new.ends was.0 c.put.ensures.puts.len kept was.2),
+      );
+    }

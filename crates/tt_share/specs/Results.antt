@@ -1,0 +1,107 @@
+-- How the jobs of a line ended, as far as it is known. Only private contracts cite these.
+use Rattle.std.specs.Prelude.{◌≡◌, ◌≢◌, ℕ, ◌+◌, ◌<◌, ◌≤◌, ◌⊎◌, ◌↔◌, Bool, IsTrue, All, List, Option, Some, None, slice_get, slice_set, take, length}
+use Rattle.tt_game.specs.declared.frame.Side.{Side}
+use Rattle.tt_game.specs.declared.turns.Turn.{Turn}
+use Rattle.tt_game.specs.Game.{after, opponent}
+use Rattle.tt_game.specs.Line.{Standing}
+use Rattle.tt_game.specs.Turns.{legal_turns}
+use Rattle.tt_proof.specs.Strategy.{depth}
+use Rattle.tt_proof.specs.Proven.{Proven, StandsAt, IsWon, turns_of}
+use Rattle.tt_search.specs.Searched.{Searched}
+use Rattle.tt_search.specs.declared.limits.Limits.{Limits}
+use Rattle.tt_search.specs.declared.limits.Reason.{Reason}
+use Rattle.tt_search.specs.declared.search.End.{End}
+use Rattle.tt_search.specs.declared.search.End.TheVariants.{Stuck}
+use Rattle.tt_share.specs.Jobs.{IsWinFor, IsStuck, HasWon, kept_of}
+use Rattle.tt_share.specs.declared.jobs.Found.{Found}
+
+-- a line, the limits on its search, and the ends of its jobs, as far as they are known
+pub record Progress : Type 0 where
+  pub line : Standing
+  pub limits : Limits
+  pub ends : List (Option End)
+
+-- the job has this result
+abbrev pub HasEnd : List (Option End) → ℕ → End → Type 0
+HasEnd ends job end = slice_get ends job ≡ Some (Some end)
+
+-- the job has a result
+abbrev pub IsFilled : List (Option End) → ℕ → Type 0
+IsFilled ends job = (end : End) × HasEnd ends job end
+
+-- each job below the count has a result
+abbrev pub FilledBelow : ℕ → List (Option End) → Type 0
+FilledBelow count ends = (job : ℕ) → job < count → IsFilled ends job
+
+-- there is a result, and it is a proof for the side
+abbrev pub IsWinIn : Side → Option End → Type 0
+IsWinIn side None = ⊥
+IsWinIn side (Some end) = IsWinFor side end
+
+-- the job has a result, and that is a proof for the side
+abbrev pub IsWinAt : Side → List (Option End) → ℕ → Type 0
+IsWinAt side ends job = (end : End) × HasEnd ends job end × IsWinFor side end
+
+-- no job has a proof for the side
+abbrev pub NoWin : Side → List (Option End) → Type 0
+NoWin side ends = (job : ℕ) → ¬ IsWinAt side ends job
+
+-- the job has one, and no lesser job has
+pub record IsLeastWin (side : Side) (ends : List (Option End)) (job : ℕ) : Type 0 where
+  pub wins : IsWinAt side ends job
+  pub least : (lesser : ℕ) → lesser < job → ¬ IsWinAt side ends lesser
+
+-- there is no result, or it is stuck, or a proof whose strategy wins
+abbrev pub HasWonIn : Option End → Type 0
+HasWonIn None = Unit {0}
+HasWonIn (Some end) = HasWon end
+
+-- the strategy of each proof wins
+abbrev pub AllWon : List (Option End) → Type 0
+AllWon ends = (job : ℕ) (end : End) → HasEnd ends job end → HasWon end
+
+-- there is a result, and it is a stuck search
+abbrev pub IsStuckIn : Option End → Type 0
+IsStuckIn None = ⊥
+IsStuckIn (Some end) = IsStuck end
+
+-- the job has a result, and that is a stuck search
+abbrev pub IsStuckAt : List (Option End) → ℕ → Type 0
+IsStuckAt ends job = (end : End) × HasEnd ends job end × IsStuck end
+
+-- a lesser job is stuck
+abbrev pub IsPastStuck : List (Option End) → ℕ → Type 0
+IsPastStuck ends job = (lesser : ℕ) × (lesser < job) × IsStuckAt ends lesser
+
+-- the search of the job is stuck like this, and no lesser job is stuck
+pub record IsLeastStuck (ends : List (Option End)) (job : ℕ) (reason : Reason) (search : Option Searched) : Type 0 where
+  pub stuck : HasEnd ends job (Stuck reason search)
+  pub least : ¬ IsPastStuck ends job
+
+-- some job has a proof for the side, or each has a result
+abbrev pub IsReady : Side → List (Option End) → Type 0
+IsReady side ends = ((job : ℕ) × IsWinAt side ends job) ⊎ FilledBelow (length ends) ends
+
+-- a result is put at its place where that is free, as it is kept; else it is dropped
+pub record Puts (before after : List (Option End)) (found : Found) : Type 0 where
+  pub put : slice_get before found.job ≡ Some None → (past_stuck : Bool) × (IsTrue past_stuck ↔ IsPastStuck before found.job)
+      × (after ≡ slice_set before found.job (Some (kept_of past_stuck found.end)))
+  pub dropped : slice_get before found.job ≢ Some None → after ≡ before
+  pub len : length after ≡ length before
+
+-- nothing was searched behind a win
+abbrev pub StopsAtWin : Side → List (Option End) → List (Option End) → Type 0
+StopsAtWin side before after =
+    (job later : ℕ) → IsWinAt side after job → job < later → slice_get after later ≡ slice_get before later
+
+-- the turn has lost: the proof stands after it, for the side that is not to move, and leaves room for the turn
+pub record IsLost (line : Standing) (limits : Limits) (child : Turn × Proven) : Type 0 where
+  pub stands : StandsAt child.1 line.frame (after line.frame line.state child.0)
+  pub side : child.1.side ≡ opponent line.state.to_move
+  pub low : depth child.1.tree + 1 ≤ limits.depth
+  pub wins : IsWon child.1.side child.1.frame child.1.state child.1.tree
+
+-- these are the first of the legal turns, each with the proof that it has lost
+pub record HaveLost (line : Standing) (limits : Limits) (children : List (Turn × Proven)) : Type 0 where
+  pub turns : turns_of children ≡ take (length children) (legal_turns line.frame line.state)
+  pub each : All (IsLost line limits) children
