@@ -50,6 +50,11 @@ no_bit_left (suc zero) zero (suc (suc z)) sx sy sz h = absurd (omega (arith, sz)
 abbrev pub IsCovered : List ℕ → List ℕ → List ℕ → Type 0
 IsCovered ws xs ys = (q : ℕ) → q < 384 → bit_in ws q ≡ true → (bit_in xs q || bit_in ys q) ≡ true
 
+-- a word without a bit
+pub no_bit_here : (ws : List ℕ) (k q : ℕ) → get_or ws k 0 ≡ 0 → q / 64 ≡ k → bit_in ws q ≡ true → ⊥
+unfolding bit_in
+no_bit_here ws k q none at on = false≢true (sym (ap (λ j. eqb (bit_at (get_or ws j 0) (q % 64)) 1) at ∙ ap (λ w. eqb (bit_at w (q % 64)) 1) none ∙ ap (λ b. eqb b 1) (bit_at-zero (q % 64))) ∙ on)
+
 module _ (ws xs ys : List ℕ) (k : ℕ) (fits_x : get_or xs k 0 < 2 ^ 64) (fits_y : get_or ys k 0 < 2 ^ 64) where
   -- nothing is left of a word
   pub covered_here : bit_and (bit_and (get_or ws k 0) (bit_not w64 (get_or xs k 0))) (bit_not w64 (get_or ys k 0)) ≡ 0 →
@@ -120,21 +125,21 @@ denied false h = refl
 
 -- words with the bits of the set, over two words of which one has the bit of each point that fails a test no
 module _ (s : Points) (n : ℕ) (small : n ≤ 361) (within : (p : ℕ) → set.contains s p ≡ true → p < n) (ws xs ys : List ℕ)
-    (is : AreBitsOf ws n (λ p. set.contains s p)) (test : ℕ → Bool)
+    (is : AreBitsOf ws 361 (λ p. set.contains s p)) (test : ℕ → Bool)
     (out : (p : ℕ) → p < n → test p ≡ true → (bit_in xs p || bit_in ys p) ≡ false) (in' : (p : ℕ) → p < n → test p ≡ false → (bit_in xs p || bit_in ys p) ≡ true) where
   none_fails : IsCovered ws xs ys → list_any test (set.items s) ≡ false
   none_fails covered = denied _ (λ some.
       let p = some_passes test (set.items s) some in
       let has = set.contains-items s p.0 ∙ p.1 in
       let lt = within p.0 has in
-      true≢false (sym (covered p.0 (omega arith) (is.below p.0 lt (omega arith) ∙ has)) ∙ out p.0 lt p.2))
+      true≢false (sym (covered p.0 (omega arith) (is.below p.0 (omega arith) (omega arith) ∙ has)) ∙ out p.0 lt p.2))
 
   covered_if : list_any test (set.items s) ≡ false → IsCovered ws xs ys
-  covered_if none q lt on = elim (cases_lt q n) [
+  covered_if none q lt on = elim (cases_lt q 361) [
     | inr past ↦ absurd (false≢true (sym (is.behind q past lt) ∙ on))
     | inl below ↦
         let has : set.contains s q ≡ true = sym (is.below q below lt) ∙ on in
-        in' q below (denied (test q) (λ yes'. false≢true (sym none ∙ passes_some test (set.items s) q (sym (set.contains-items s q) ∙ has) yes')))
+        in' q (within q has) (denied (test q) (λ yes'. false≢true (sym none ∙ passes_some test (set.items s) q (sym (set.contains-items s q) ∙ has) yes')))
   ]
 
   pub covers_is : (b : Bool) → ((b ≡ true → IsCovered ws xs ys) × (IsCovered ws xs ys → b ≡ true)) → not b ≡ list_any test (set.items s)
@@ -161,7 +166,7 @@ twice false = refl
 
 -- words of a set that lies on the board
 module _ (s : Points) (n : ℕ) (small : n ≤ 361) (within : (p : ℕ) → set.contains s p ≡ true → p < n) (c : Colouring)
-    (ws : List ℕ) (is : AreBitsOf ws n (λ p. set.contains s p)) where
+    (ws : List ℕ) (is : AreBitsOf ws 361 (λ p. set.contains s p)) where
   -- over the words of both colours' stones
   pub empty_is : (xs ys : List ℕ) → AreBitsOf xs n (λ p. is_stone_of (entry_at c p) Black) → AreBitsOf ys n (λ p. is_stone_of (entry_at c p) White)
       → (b : Bool) → ((b ≡ true → IsCovered ws xs ys) × (IsCovered ws xs ys → b ≡ true)) → not b ≡ any_empty s c

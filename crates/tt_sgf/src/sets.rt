@@ -106,6 +106,13 @@ impl PointSet {
         self.bits.below(size.point_count()).words()
     }
 
+    /// The points of the set as bits: that of the point `p` is bit `p % 64` of word `p / 64`, and bits of no point are 0.
+    pub fn words(&self) -> [u64; 6]
+        ensures { AreBitsOf result 361 (λ p. set.contains self.now p) }
+    {
+        self.bits.below(361).words()
+    }
+
     /// Whether both have the same points.
     pub fn same(&self, other: &PointSet) -> bool
         ensures { IsTrue result ↔ (self.now ≡ other.now) }

@@ -1,6 +1,6 @@
 use Rattle.std.proofs.Common.{rules, ◌*◌, ◌^◌, ◌<◌, get_or, inl, inr, arith}
 use Rattle.std.proofs.lemmas.Bool.{cases_lt, false≢true}
-use Rattle.tt_board.proofs.StoneLemmas.{covered_here, not_covered}
+use Rattle.tt_board.proofs.StoneLemmas.{covered_here, not_covered, no_bit_here}
 use Rattle.tt_board.proofs.stones.covers.Goals as goal
 
 pub returns-then-left-ne0 : goal.returns-then-left-ne0
@@ -23,4 +23,11 @@ loop-k-preserved c = λ q before on.
     elim (cases_lt q (64 * k)) [
       | inl done ↦ c.loop-k.invariant q done on
       | inr next ↦ covered_here c.args.wanted.now xs ys k fits_x fits_y (search rules) q (omega arith) on
+    ]
+
+pub loop-k-preserved-then-wanted-k-eq0 : goal.loop-k-preserved-then-wanted-k-eq0
+loop-k-preserved-then-wanted-k-eq0 c = λ q before on.
+    elim (cases_lt q (64 * c.loop-k.k)) [
+      | inl done ↦ c.loop-k.invariant q done on
+      | inr next ↦ absurd (no_bit_here c.args.wanted.now c.loop-k.k q c.if-wanted-k-eq0.true (search rules) on)
     ]
