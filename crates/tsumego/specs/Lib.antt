@@ -1,10 +1,12 @@
+-- What public contracts cite.
 pub mod Checking
 pub mod CommandLine
 pub mod Laws
-pub mod Lines
 pub mod Solving
-pub mod Tasks
 pub mod Text
 pub mod Trees
 pub mod Watching
 pub mod Writing
+-- What private contracts and proofs cite. Nobody has to believe these.
+pub mod Lines
+pub mod Tasks

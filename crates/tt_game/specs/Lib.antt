@@ -1,17 +1,19 @@
+-- What public contracts cite.
 pub mod Course
 pub mod Game
 pub mod History
 pub mod Legality
 pub mod Turns
-pub mod TurnLaws
 pub mod Keys
-pub mod KeyLaws
 pub mod Laws
 pub mod Line
-pub mod Undoing
 pub mod Games
 pub mod Nodes
 pub mod Records
 pub mod Problems
 pub mod Faults
 pub mod RecordLaws
+-- What private contracts and proofs cite. Nobody has to believe these.
+pub mod Undoing
+pub mod TurnLaws
+pub mod KeyLaws

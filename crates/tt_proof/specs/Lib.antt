@@ -1,10 +1,12 @@
+-- What public contracts cite.
 pub mod Strategy
-pub mod StrategyCode
 pub mod Wins
-pub mod Replaying
 pub mod Laws
 pub mod Proven
 pub mod Rejections
 pub mod CertificateText
-pub mod CertificateReading
 pub mod CertificateFaults
+-- What private contracts and proofs cite. Nobody has to believe these.
+pub mod StrategyCode
+pub mod Replaying
+pub mod CertificateReading

@@ -1,4 +1,4 @@
--- what public contracts cite
+-- What public contracts cite.
 pub mod PartialTree
 pub mod Numbers
 pub mod MostProving
@@ -7,7 +7,7 @@ pub mod Settled
 pub mod Searched
 pub mod Ended
 pub mod Stores
--- what private contracts and proofs cite
+-- What private contracts and proofs cite. Nobody has to believe these.
 pub mod Children
 pub mod PartialTreeCode
 pub mod Weight

@@ -5,7 +5,7 @@ pub mod Sizes
 pub mod Points
 pub mod Entries
 pub mod Words
--- What private contracts and proofs cite, here and in the crates above. Nobody has to believe these.
+-- What private contracts and proofs cite. Nobody has to believe these.
 pub mod Reading
 pub mod SizeLaws
 pub mod PointLaws

@@ -1,12 +1,14 @@
+-- What public contracts cite.
 pub mod Answers
+pub mod Nodes
+pub mod Table
+pub mod Desk
+pub mod Seats
+pub mod DeskLaw
+-- What private contracts and proofs cite. Nobody has to believe these.
 pub mod Jobs
 pub mod Results
 pub mod Beginning
 pub mod Workers
-pub mod Desk
-pub mod Seats
-pub mod DeskLaw
 pub mod Gathering
-pub mod Nodes
 pub mod Places
-pub mod Table
