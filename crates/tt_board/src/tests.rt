@@ -443,25 +443,3 @@ fn set_ups(rt: HostRuntime) {
     assert!(&rt; shows(&cleared.ok().expect(&rt, "a board"), b"..W..."));
     super::laws::reaches();
 }
-
-#[test]
-fn stones_on_sets(rt: HostRuntime) {
-    let size = Size::new(5, 1).expect(&rt, "a size");
-    let board = board_of(size, b".WB.W").ok().expect(&rt, "a board");
-    for (marks, empty, black, white) in [
-        (b"x....", true, false, false),
-        (b"xx...", true, false, false),
-        (b".xx..", false, false, false),
-        (b".x..x", false, false, true),
-        (b"..x..", false, true, false),
-        (b".....", false, true, true),
-    ] {
-        let points = holders(size, marks, b'x');
-        let found = (
-            board.has_empty(&points),
-            board.has_all(&points, Colour::Black),
-            board.has_all(&points, Colour::White),
-        );
-        assert!(&rt; found == (empty, black, white), "{marks:?}");
-    }
-}
