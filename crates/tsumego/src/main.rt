@@ -3,12 +3,8 @@
 
 mod answer;
 mod arguments;
-#[cfg(test)]
-mod device_tests;
 mod fault;
 mod finding;
-#[cfg(test)]
-mod hostile_tests;
 mod input;
 mod laws;
 mod outcome;
@@ -20,8 +16,6 @@ mod solving;
 mod task;
 #[cfg(test)]
 mod tests;
-#[cfg(test)]
-mod turned_byte_tests;
 mod verdict;
 mod watched;
 
