@@ -47,34 +47,6 @@ impl Store for Forgetful {
     }
 }
 
-/// A store with room for a hundred proofs, which refuses to keep any.
-#[derive(Drop)]
-struct Refusing;
-
-impl Store for Refusing {
-    ghost capacity = { λ _. 100 };
-
-    ghost kept = { λ _. 0 };
-
-    ghost may_answer = { ⊥ };
-
-    fn capacity(&self) -> usize {
-        100
-    }
-
-    fn kept(&self) -> usize {
-        0
-    }
-
-    fn find(&mut self, line: &Line, s: Side) -> Result<Option<Arc<Proof>>, NoMemory> {
-        Ok(None)
-    }
-
-    fn keep(&mut self, p: Arc<Proof>) -> Kept {
-        Kept::NoMemory
-    }
-}
-
 /// The line of a problem at which nobody has won.
 pub(crate) fn posed(alloc: Global, text: &[u8]) -> Result<Line, Fail> {
     let (line, _) = read_tree(alloc, text)?;
@@ -162,115 +134,68 @@ fn bounded(alloc: Global, capacity: usize) -> Result<PrivateStore, Fail> {
     }
 }
 
-/// The answers to a problem over each kind of store.
-fn over_each_store(
-    alloc: Global,
-    text: &[u8],
-    budget: u32,
-    depth: u16,
-) -> Result<[(&'static str, Vec<u8>); 6], Fail> {
-    let mut forgetful = Forgetful { kept: 0 };
-    let mut closed = bounded(alloc, 0)?;
-    let mut small = bounded(alloc, 2)?;
-    let mut store = PrivateStore::new(alloc);
-    Ok([
-        (
-            "no store",
-            solved(alloc, text, budget, depth, &mut NoStore)?,
-        ),
-        (
-            "refusing",
-            solved(alloc, text, budget, depth, &mut Refusing)?,
-        ),
-        (
-            "forgetful",
-            solved(alloc, text, budget, depth, &mut forgetful)?,
-        ),
-        ("closed", solved(alloc, text, budget, depth, &mut closed)?),
-        ("small", solved(alloc, text, budget, depth, &mut small)?),
-        ("private", solved(alloc, text, budget, depth, &mut store)?),
-    ])
-}
-
-/// A problem, its budget, its depth and its verdict. The two before the last turn where a kept proof is used with no
-/// replay.
-const ROWS: [(&str, u32, u16, &str); 13] = [
-    ("(;SZ[2:1]AW[ba]PL[B]TR[ba])", 100_000, 512, "killed aa"),
-    ("(;SZ[2:1]AW[ba]PL[W]TR[ba])", 100_000, 512, "killed"),
-    ("(;SZ[3:1]AW[ba]PL[W]TR[ba])", 100_000, 512, "lives pass"),
-    ("(;SZ[4:1]AW[ba]PL[B]TR[ba])", 100_000, 512, "lives"),
-    (
-        "(;SZ[4:1]AW[ba]PL[B]TR[ba]SQ[aa][ca])",
-        100_000,
-        512,
-        "killed ca",
-    ),
-    (
-        "(;SZ[4:1]AW[ba]PL[B]TR[ba]SQ[aa:da])",
-        100_000,
-        512,
-        "lives",
-    ),
-    ("(;SZ[4:1]AW[ba][da]PL[B]TR[ba])", 100_000, 512, "killed ca"),
-    ("(;SZ[4:1]AW[ba];B[ca];W[da]TR[ba])", 100_000, 512, "lives"),
-    ("(;SZ[4:1]AW[ba]PL[B]TR[ba])", 1, 512, "budget"),
-    ("(;SZ[4:1]AW[ba]PL[B]TR[ba])", 100_000, 1, "depth"),
-    ("(;SZ[5:1]AW[aa];B[ca]TR[ca])", 100_000, 512, "killed da"),
-    ("(;SZ[7:1];B[ga];W[ea];B[ba]TR[ea])", 100_000, 512, "killed"),
-    ("(;SZ[4:1]AB[ba]AW[ca]PL[B]TR[ca])", 1, 512, "killed da"),
-];
-
 #[test]
 fn verdicts_over_each_store(rt: HostRuntime) -> Result<(), Fail> {
     let alloc = rt.alloc();
-    for (problem, budget, depth, want) in ROWS {
-        let answers = over_each_store(alloc, problem.as_bytes(), budget, depth)?;
-        for (store, answer) in &answers {
-            assert!(&rt;
-                answer.as_slice() == want.as_bytes(),
-                "{problem}, budget {budget}, {store}"
-            );
-        }
+    let table: [(&[u8], u32, u16, &[u8]); 8] = [
+        (b"(;SZ[2:1]AW[ba]PL[B]TR[ba])", 100_000, 512, b"killed aa"),
+        (b"(;SZ[2:1]AW[ba]PL[W]TR[ba])", 100_000, 512, b"killed"),
+        (b"(;SZ[3:1]AW[ba]PL[W]TR[ba])", 100_000, 512, b"lives pass"),
+        (b"(;SZ[4:1]AW[ba]PL[B]TR[ba])", 100_000, 512, b"lives"),
+        (
+            b"(;SZ[4:1]AW[ba]PL[B]TR[ba]SQ[aa][ca])",
+            100_000,
+            512,
+            b"killed ca",
+        ),
+        (b"(;SZ[4:1]AW[ba]PL[B]TR[ba])", 1, 512, b"budget"),
+        (b"(;SZ[4:1]AW[ba]PL[B]TR[ba])", 100_000, 1, b"depth"),
+        (b"(;SZ[4:1]AB[ba]AW[ca]PL[B]TR[ca])", 1, 512, b"killed da"),
+    ];
+    for (problem, budget, depth, want) in table {
+        assert!(&rt; solved(alloc, problem, budget, depth, &mut NoStore)?.as_slice() == want);
+        let mut forgetful = Forgetful { kept: 0 };
+        assert!(&rt; solved(alloc, problem, budget, depth, &mut forgetful)?.as_slice() == want);
+        let mut small = bounded(alloc, 2)?;
+        assert!(&rt; solved(alloc, problem, budget, depth, &mut small)?.as_slice() == want);
+        let mut store = PrivateStore::new(alloc);
+        assert!(&rt; solved(alloc, problem, budget, depth, &mut store)?.as_slice() == want);
     }
     Ok(())
 }
 
-/// The certificates of a problem over each kind of store.
-fn certified_over_each_store(
-    alloc: Global,
-    text: &[u8],
-) -> Result<[(&'static str, Vec<u8>); 6], Fail> {
-    let mut forgetful = Forgetful { kept: 0 };
-    let mut closed = bounded(alloc, 0)?;
-    let mut small = bounded(alloc, 2)?;
-    let mut store = PrivateStore::new(alloc);
-    Ok([
-        ("no store", certified(alloc, text, &mut NoStore)?),
-        ("refusing", certified(alloc, text, &mut Refusing)?),
-        ("forgetful", certified(alloc, text, &mut forgetful)?),
-        ("closed", certified(alloc, text, &mut closed)?),
-        ("small", certified(alloc, text, &mut small)?),
-        ("private", certified(alloc, text, &mut store)?),
-    ])
+/// Problems whose verdicts turn where a kept proof is used with no replay.
+#[test]
+fn verdicts_by_history(rt: HostRuntime) -> Result<(), Fail> {
+    let alloc = rt.alloc();
+    let table: [(&[u8], &[u8]); 2] = [
+        (b"(;SZ[5:1]AW[aa];B[ca]TR[ca])", b"killed da"),
+        (b"(;SZ[7:1];B[ga];W[ea];B[ba]TR[ea])", b"killed"),
+    ];
+    for (problem, want) in table {
+        let mut store = PrivateStore::new(alloc);
+        assert!(&rt; solved(alloc, problem, 100_000, 512, &mut store)?.as_slice() == want);
+        let mut none = bounded(alloc, 0)?;
+        assert!(&rt; solved(alloc, problem, 100_000, 512, &mut none)?.as_slice() == want);
+    }
+    Ok(())
 }
 
 #[test]
 fn certificates(rt: HostRuntime) -> Result<(), Fail> {
     let alloc = rt.alloc();
-    for (problem, want) in [
-        ("(;SZ[4:1]AW[ba][da]PL[B]TR[ba])", "killed !ca?aa.--!aa.;"),
-        ("(;SZ[4:1]AW[ba];B[ca];W[da]TR[ba])", "lives ?--!--.;"),
-    ] {
-        let texts = certified_over_each_store(alloc, problem.as_bytes())?;
-        for (store, text) in &texts {
-            assert!(&rt; text.as_slice() == want.as_bytes(), "{problem}, {store}");
-        }
+    let table: [(&[u8], &[u8]); 3] = [
+        (b"(;SZ[4:1]AW[ba][da]PL[B]TR[ba])", b"killed !ca?aa.--!aa.;"),
+        (b"(;SZ[4:1]AW[ba];B[ca];W[da]TR[ba])", b"lives ?--!--.;"),
+        (
+            b"(;SZ[5:1]AW[aa];B[ca]TR[ca])",
+            b"killed !da?ba!aa.ea!ba?aa!ba?da.--!da.;ba!da?aa.--!aa.;da!ba.--!ba?aa!da?ba.--!ba.;da.--!da.;;--!ba.;",
+        ),
+    ];
+    for (problem, want) in table {
+        let mut store = PrivateStore::new(alloc);
+        assert!(&rt; certified(alloc, problem, &mut store)?.as_slice() == want);
     }
-    let longer =
-        "killed !da?ba!aa.ea!ba?aa!ba?da.--!da.;ba!da?aa.--!aa.;da!ba.--!ba?aa!da?ba.--!ba.;da.--!da.;;--!ba.;";
-    let mut store = PrivateStore::new(alloc);
-    let text = certified(alloc, b"(;SZ[5:1]AW[aa];B[ca]TR[ca])", &mut store)?;
-    assert!(&rt; text.as_slice() == longer.as_bytes());
     Ok(())
 }
 
