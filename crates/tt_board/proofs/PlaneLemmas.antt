@@ -139,17 +139,16 @@ module _ (n m : ℕ) (a b c d : List ℕ) (xs ys : Colouring) (counts : n ≡ m)
       (bits_of n a b plain q small).1 ∙ ap (λ zs. is_stone_of (entry_at zs q) White) (one same) ∙ sym (bits_of m c d other q small).1
 
 -- words whose bits are the stones of a colour
-bits_handed : (words : List ℕ) (k : Colour) (c : Colouring) → length words ≡ 6 → ((p : ℕ) → p < 384 → bit_in words p ≡ is_stone_of (entry_at c p) k) → AreBitsOf words (length c) (λ p. is_stone_of (entry_at c p) k)
-bits_handed words k c wide bits = record {
-  wide = wide;
+bits_handed : (words : List ℕ) (k : Colour) (c : Colouring) → ((p : ℕ) → p < 384 → bit_in words p ≡ is_stone_of (entry_at c p) k) → AreBitsOf words (length c) (λ p. is_stone_of (entry_at c p) k)
+bits_handed words k c bits = record {
   below = λ p on_board small. bits p small;
   behind = λ p past small. bits p small ∙ ap (λ e. is_stone_of e k) (get_or_past c p None past);
 }
 
 -- the words of a plain pair are the bits of the stones of a colour
 module _ (n : ℕ) (black white : List ℕ) (c : Colouring) (is : shown n black white ≡ c) (plain : IsPlain n black white) where
-  pub blacks_handed : length black ≡ 6 → AreBitsOf black (length c) (λ p. is_stone_of (entry_at c p) Black)
-  blacks_handed wide = bits_handed black Black c wide (λ p small. (bits_of n black white plain p small).0 ∙ ap (λ xs. is_stone_of (entry_at xs p) Black) is)
+  pub blacks_handed : AreBitsOf black (length c) (λ p. is_stone_of (entry_at c p) Black)
+  blacks_handed = bits_handed black Black c (λ p small. (bits_of n black white plain p small).0 ∙ ap (λ xs. is_stone_of (entry_at xs p) Black) is)
 
-  pub whites_handed : length white ≡ 6 → AreBitsOf white (length c) (λ p. is_stone_of (entry_at c p) White)
-  whites_handed wide = bits_handed white White c wide (λ p small. (bits_of n black white plain p small).1 ∙ ap (λ xs. is_stone_of (entry_at xs p) White) is)
+  pub whites_handed : AreBitsOf white (length c) (λ p. is_stone_of (entry_at c p) White)
+  whites_handed = bits_handed white White c (λ p small. (bits_of n black white plain p small).1 ∙ ap (λ xs. is_stone_of (entry_at xs p) White) is)

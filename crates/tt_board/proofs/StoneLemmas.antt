@@ -11,77 +11,13 @@ use Rattle.std.proofs.lemmas.Nat.{and_le_l}
 use Rattle.std.proofs.lemmas.Nat.Bits.{bit_at-zero, bit_at-lt, bit_at_and, bit_at_not, same_from_bits_below}
 use Rattle.tt_sgf.specs.declared.size.Size.{Size}
 use Rattle.tt_sgf.specs.Sizes.{point_count}
-use Rattle.tt_sgf.specs.Words.{bit_in, AreBitsOf}
+use Rattle.tt_sgf.specs.Words.{bit_in, AreBitsOf, AreCovered}
 use Rattle.tt_board.specs.declared.Colour.{Colour}
 use Rattle.tt_board.specs.declared.Colour.TheVariants.{Black, White}
 use Rattle.tt_board.specs.Position.{Colouring}
 use Rattle.tt_board.specs.Reach.{entry_at}
 use Rattle.tt_board.specs.Play.{Points, is_empty, is_stone_of}
 use Rattle.tt_board.specs.Stones.{any_empty, all_stones_of}
-
--- ---- words
-
--- a bit that is 1 in the first word alone
-left_bit : (w a b i : ℕ) → a < 2 ^ 64 → b < 2 ^ 64 → i < 64 → bit_at (bit_and (bit_and w (bit_not w64 a)) (bit_not w64 b)) i ≡ min (min (bit_at w i) (1 - bit_at a i)) (1 - bit_at b i)
-left_bit w a b i fits_a fits_b small =
-    bit_at_and (bit_and w (bit_not w64 a)) (bit_not w64 b) i
-    ∙ ap (λ x. min x (bit_at (bit_not w64 b) i)) (bit_at_and w (bit_not w64 a) i ∙ ap (min (bit_at w i)) (bit_at_not w64 a i fits_a small))
-    ∙ ap (min (min (bit_at w i) (1 - bit_at a i))) (bit_at_not w64 b i fits_b small)
-
-covered_bit : (x y z : ℕ) → x < 2 → y < 2 → z < 2 → min (min x (1 - y)) (1 - z) ≡ 0 → eqb x 1 ≡ true → (eqb y 1 || eqb z 1) ≡ true
-covered_bit zero y z sx sy sz e on = absurd (false≢true on)
-covered_bit (suc zero) (suc zero) z sx sy sz e on = refl
-covered_bit (suc zero) zero (suc zero) sx sy sz e on = refl
-covered_bit (suc zero) zero zero sx sy sz e on = absurd (omega (arith, e))
-covered_bit (suc (suc x)) y z sx sy sz e on = absurd (omega (arith, sx))
-covered_bit (suc zero) (suc (suc y)) z sx sy sz e on = absurd (omega (arith, sy))
-covered_bit (suc zero) zero (suc (suc z)) sx sy sz e on = absurd (omega (arith, sz))
-
-no_bit_left : (x y z : ℕ) → x < 2 → y < 2 → z < 2 → (eqb x 1 ≡ true → (eqb y 1 || eqb z 1) ≡ true) → min (min x (1 - y)) (1 - z) ≡ 0
-no_bit_left zero y z sx sy sz h = omega arith
-no_bit_left (suc zero) (suc zero) z sx sy sz h = omega arith
-no_bit_left (suc zero) zero (suc zero) sx sy sz h = omega arith
-no_bit_left (suc zero) zero zero sx sy sz h = absurd (false≢true (h refl))
-no_bit_left (suc (suc x)) y z sx sy sz h = absurd (omega (arith, sx))
-no_bit_left (suc zero) (suc (suc y)) z sx sy sz h = absurd (omega (arith, sy))
-no_bit_left (suc zero) zero (suc (suc z)) sx sy sz h = absurd (omega (arith, sz))
-
--- each bit of the first words is 1 in one of the others too
-abbrev pub IsCovered : List ℕ → List ℕ → List ℕ → Type 0
-IsCovered ws xs ys = (q : ℕ) → q < 384 → bit_in ws q ≡ true → (bit_in xs q || bit_in ys q) ≡ true
-
--- a word without a bit
-pub no_bit_here : (ws : List ℕ) (k q : ℕ) → get_or ws k 0 ≡ 0 → q / 64 ≡ k → bit_in ws q ≡ true → ⊥
-unfolding bit_in
-no_bit_here ws k q none at on = false≢true (sym (ap (λ j. eqb (bit_at (get_or ws j 0) (q % 64)) 1) at ∙ ap (λ w. eqb (bit_at w (q % 64)) 1) none ∙ ap (λ b. eqb b 1) (bit_at-zero (q % 64))) ∙ on)
-
-module _ (ws xs ys : List ℕ) (k : ℕ) (fits_x : get_or xs k 0 < 2 ^ 64) (fits_y : get_or ys k 0 < 2 ^ 64) where
-  -- nothing is left of a word
-  pub covered_here : bit_and (bit_and (get_or ws k 0) (bit_not w64 (get_or xs k 0))) (bit_not w64 (get_or ys k 0)) ≡ 0 →
-      (q : ℕ) → q / 64 ≡ k → bit_in ws q ≡ true → (bit_in xs q || bit_in ys q) ≡ true
-  unfolding bit_in
-  covered_here none q at on =
-      let i = q % 64 in
-      let w = get_or ws k 0 in let x = get_or xs k 0 in let y = get_or ys k 0 in
-      let zero' = sym (left_bit w x y i fits_x fits_y (omega arith)) ∙ ap (λ n. bit_at n i) none ∙ bit_at-zero i in
-      rw at (covered_bit (bit_at w i) (bit_at x i) (bit_at y i) (bit_at-lt w i) (bit_at-lt x i) (bit_at-lt y i) zero' (sym (ap (λ j. eqb (bit_at (get_or ws j 0) i) 1) at) ∙ on))
-
-  -- something is left of a word
-  pub not_covered : k < 6 → get_or ws k 0 < 2 ^ 64 →
-      bit_and (bit_and (get_or ws k 0) (bit_not w64 (get_or xs k 0))) (bit_not w64 (get_or ys k 0)) ≢ 0 → IsCovered ws xs ys → ⊥
-  unfolding bit_in
-  not_covered in_k fits_w some covered =
-      let w = get_or ws k 0 in let x = get_or xs k 0 in let y = get_or ys k 0 in
-      let left = bit_and (bit_and w (bit_not w64 x)) (bit_not w64 y) in
-      let fits : left < 2 ^ 64 = omega (arith, and_le_l (bit_and w (bit_not w64 x)) (bit_not w64 y), and_le_l w (bit_not w64 x)) in
-      some (same_from_bits_below 64 left 0 fits (omega arith) (λ i small.
-      let word : (64 * k + i) / 64 ≡ k = omega arith in
-      let place : (64 * k + i) % 64 ≡ i = omega arith in
-      left_bit w x y i fits_x fits_y small ∙ no_bit_left (bit_at w i) (bit_at x i) (bit_at y i) (bit_at-lt w i) (bit_at-lt x i) (bit_at-lt y i)
-      (λ on. sym (ap (λ j. eqb (bit_at (get_or xs j 0) ((64 * k + i) % 64)) 1 || eqb (bit_at (get_or ys j 0) ((64 * k + i) % 64)) 1) word
-      ∙ ap (λ j. eqb (bit_at x j) 1 || eqb (bit_at y j) 1) place)
-      ∙ covered (64 * k + i) (omega arith) (ap (λ j. eqb (bit_at (get_or ws j 0) ((64 * k + i) % 64)) 1) word ∙ ap (λ j. eqb (bit_at w j) 1) place ∙ on))
-      ∙ sym (bit_at-zero i)))
 
 -- ---- sets
 
@@ -127,14 +63,14 @@ denied false h = refl
 module _ (s : Points) (n : ℕ) (small : n ≤ 361) (within : (p : ℕ) → set.contains s p ≡ true → p < n) (ws xs ys : List ℕ)
     (is : AreBitsOf ws 361 (λ p. set.contains s p)) (test : ℕ → Bool)
     (out : (p : ℕ) → p < n → test p ≡ true → (bit_in xs p || bit_in ys p) ≡ false) (in' : (p : ℕ) → p < n → test p ≡ false → (bit_in xs p || bit_in ys p) ≡ true) where
-  none_fails : IsCovered ws xs ys → list_any test (set.items s) ≡ false
+  none_fails : AreCovered ws xs ys → list_any test (set.items s) ≡ false
   none_fails covered = denied _ (λ some.
       let p = some_passes test (set.items s) some in
       let has = set.contains-items s p.0 ∙ p.1 in
       let lt = within p.0 has in
       true≢false (sym (covered p.0 (omega arith) (is.below p.0 (omega arith) (omega arith) ∙ has)) ∙ out p.0 lt p.2))
 
-  covered_if : list_any test (set.items s) ≡ false → IsCovered ws xs ys
+  covered_if : list_any test (set.items s) ≡ false → AreCovered ws xs ys
   covered_if none q lt on = elim (cases_lt q 361) [
     | inr past ↦ absurd (false≢true (sym (is.behind q past lt) ∙ on))
     | inl below ↦
@@ -142,7 +78,7 @@ module _ (s : Points) (n : ℕ) (small : n ≤ 361) (within : (p : ℕ) → set.
         in' q (within q has) (denied (test q) (λ yes'. false≢true (sym none ∙ passes_some test (set.items s) q (sym (set.contains-items s q) ∙ has) yes')))
   ]
 
-  pub covers_is : (b : Bool) → ((b ≡ true → IsCovered ws xs ys) × (IsCovered ws xs ys → b ≡ true)) → not b ≡ list_any test (set.items s)
+  pub covers_is : (b : Bool) → ((b ≡ true → AreCovered ws xs ys) × (AreCovered ws xs ys → b ≡ true)) → not b ≡ list_any test (set.items s)
   covers_is true h = sym (none_fails (h.0 refl))
   covers_is false h = sym (by (list_any test (set.items s)) refl)
     where
@@ -169,7 +105,7 @@ module _ (s : Points) (n : ℕ) (small : n ≤ 361) (within : (p : ℕ) → set.
     (ws : List ℕ) (is : AreBitsOf ws 361 (λ p. set.contains s p)) where
   -- over the words of both colours' stones
   pub empty_is : (xs ys : List ℕ) → AreBitsOf xs n (λ p. is_stone_of (entry_at c p) Black) → AreBitsOf ys n (λ p. is_stone_of (entry_at c p) White)
-      → (b : Bool) → ((b ≡ true → IsCovered ws xs ys) × (IsCovered ws xs ys → b ≡ true)) → not b ≡ any_empty s c
+      → (b : Bool) → ((b ≡ true → AreCovered ws xs ys) × (AreCovered ws xs ys → b ≡ true)) → not b ≡ any_empty s c
   unfolding any_empty
   empty_is xs ys blacks whites =
       let told = λ (p : ℕ) (lt : p < n). (let h : (bit_in xs p || bit_in ys p) ≡ not (is_empty (entry_at c p))
@@ -178,7 +114,7 @@ module _ (s : Points) (n : ℕ) (small : n ≤ 361) (within : (p : ℕ) → set.
 
   -- over the words of one colour's stones
   pub all_is : (k : Colour) (xs : List ℕ) → AreBitsOf xs n (λ p. is_stone_of (entry_at c p) k)
-      → (b : Bool) → ((b ≡ true → IsCovered ws xs xs) × (IsCovered ws xs xs → b ≡ true)) → b ≡ all_stones_of s c k
+      → (b : Bool) → ((b ≡ true → AreCovered ws xs xs) × (AreCovered ws xs xs → b ≡ true)) → b ≡ all_stones_of s c k
   unfolding all_stones_of
   all_is k xs stones b h =
       let test = λ (p : ℕ). not (is_stone_of (entry_at c p) k) in

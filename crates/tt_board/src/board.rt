@@ -10,7 +10,7 @@ use super::colouring::Colouring;
 use super::fill::reaching;
 use super::setup::{cover, first_lifeless};
 use std::marker::Model;
-use tt_sgf::{Point, PointSet, Size};
+use tt_sgf::{Bits, Point, PointSet, Size};
 
 /// A board: a size, and a colouring of its points in which each stone reaches empty.
 #[derive(Drop)]
@@ -82,11 +82,18 @@ impl Board {
         self.points.at(usize::from(p.number()))
     }
 
+    /// The stones of a colour as bits, in place.
+    pub(crate) fn bits(&self, colour: Colour) -> &Bits
+        ensures { AreBitsOf result.now.words (point_count self.now.size) (λ p. is_stone_of (entry_at self.now.points p) colour) }
+    {
+        self.points.bits(colour)
+    }
+
     /// The stones of a colour as bits: that of the point `p` is bit `p % 64` of word `p / 64`, and bits of no point are 0.
     pub fn words(&self, colour: Colour) -> [u64; 6]
         ensures { AreBitsOf result (point_count self.now.size) (λ p. is_stone_of (entry_at self.now.points p) colour) }
     {
-        self.points.words(colour)
+        self.bits(colour).words()
     }
 
     /// The board after a move of `colour` on `p`, a point of the board: the stone is put, then the other colour is cleared,

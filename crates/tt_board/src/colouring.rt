@@ -100,12 +100,12 @@ impl Colouring {
     }
 
     /// The stones of a colour as bits.
-    pub(crate) fn words(&self, colour: Colour) -> [u64; 6]
-        ensures { AreBitsOf result (length self.now) (λ p. is_stone_of (entry_at self.now p) colour) }
+    pub(crate) fn bits(&self, colour: Colour) -> &Bits
+        ensures { AreBitsOf result.now.words (length self.now) (λ p. is_stone_of (entry_at self.now p) colour) }
     {
         match colour {
-            Colour::Black => self.black.words(),
-            Colour::White => self.white.words(),
+            Colour::Black => &self.black,
+            Colour::White => &self.white,
         }
     }
 

@@ -142,11 +142,11 @@ bit_is words k i lt =
     ap (λ j. bit_at (get_or words j 0) i) word ∙ ap (bit_at (get_or words ((64 * k + i) / 64) 0)) place ∙ by_test _ (bit_at-lt (get_or words ((64 * k + i) / 64) 0) ((64 * k + i) % 64))
 
 -- six words with the bits of the marks are the marks packed
-pub packed_is : (size : Size) (test : ℕ → Bool) (words : List ℕ) → ((k : ℕ) → get_or words k 0 < 2 ^ 64) → AreBitsOf words (point_count size) test → words ≡ packed size test
-packed_is size test words fits bits =
+pub packed_is : (size : Size) (test : ℕ → Bool) (words : List ℕ) → length words ≡ 6 → ((k : ℕ) → get_or words k 0 < 2 ^ 64) → AreBitsOf words (point_count size) test → words ≡ packed size test
+packed_is size test words wide fits bits =
     let marks = marks_of size test in
-    ext_get_or 0 words (words_of 6 marks) (bits.wide ∙ sym (length-words_of 6 marks)) (λ k inside.
-    let lt : k < 6 = omega (arith, bits.wide) in
+    ext_get_or 0 words (words_of 6 marks) (wide ∙ sym (length-words_of 6 marks)) (λ k inside.
+    let lt : k < 6 = omega (arith, wide) in
     let part = take 64 (drop (64 * k) marks) in
     let short : length part ≤ 64 = omega (arith, length-take 64 (drop (64 * k) marks)) in
     let few : binary part < 2 ^ 64 = omega (arith, binary-below part, Rattle.std.proofs.Math.Pow.pow_mono short) in

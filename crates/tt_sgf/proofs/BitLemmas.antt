@@ -2,7 +2,7 @@
 use Rattle.std.proofs.Common.{◌≡◌, ◌≢◌, ℕ, zero, suc, ◌+◌, ◌-◌, ◌*◌, ◌/◌, ◌%◌, ◌^◌, ◌<◌, ◌≤◌, Bool, true, false, not, ◌&&◌, eqb, ltb, min, max, ◌||◌, List, [], ◌∷◌, length, get_or, set as put, refl, sym, ap, ◌∙◌, arith, inl, inr}
 use Rattle.std.proofs.lemmas.Bool.{cases_lt, cases_eq, eq-eqb, ne_eqb, lt-ltb, le-ltb, true≢false, false≢true}
 use Rattle.std.proofs.lemmas.List.{get_or-set_same, get_or-set_other}
-use Rattle.std.proofs.lemmas.Nat.{shr-shr, one_shl}
+use Rattle.std.proofs.lemmas.Nat.{shr-shr, one_shl, and_le_l}
 use Rattle.std.proofs.lemmas.Nat.Bits.{shr_and_one, bit_at-zero, bit_at-lt, bit_at_and, bit_at_or, bit_at_xor, bit_at_not, bit_at_set_same, bit_at_set_other, bit_at_clear_same, bit_at_clear_other, same_from_bits_below, bit_at_ones, bit_at_ones_above, bit_at-trailing_zeros, bit_at_above}
 use Rattle.std.specs.Int.{w64, bit_at, bit_not, trailing_zeros}
 use Rattle.std.specs.Prelude.{bit_and, bit_or, bit_xor, ◌↔◌, Option, Some, None, MatchOption}
@@ -11,7 +11,7 @@ use Rattle.std.specs.Ordering.{nat_cmp, eq_by_cmp}
 use Rattle.std.specs.FinSet as set
 use Rattle.tt_sgf.specs.Points.{passing}
 use Rattle.tt_sgf.specs.PointLaws.{passing-zero, passing-in, passing-out, contains-passing}
-use Rattle.tt_sgf.specs.Words.{bit_in, points_of, IsLow, AreSameBits}
+use Rattle.tt_sgf.specs.Words.{bit_in, points_of, IsLow, AreSameBits, AreOfPoints, AreCovered}
 
 -- ---- bits
 
@@ -307,18 +307,75 @@ no_point words q h = contains-points words q ∙ elim (cases_lt q 361) [
   | inr above ↦ rw (le-ltb q 361 above) refl
 ]
 
--- sets are the same exactly where the bits of points are, once all others are 0
-module _ (words below_words others below_others : List ℕ)
-    (kept : (q : ℕ) → q < 384 → q < 361 → bit_in below_words q ≡ bit_in words q) (none : (q : ℕ) → q < 384 → 361 ≤ q → bit_in below_words q ≡ false)
-    (other_kept : (q : ℕ) → q < 384 → q < 361 → bit_in below_others q ≡ bit_in others q) (other_none : (q : ℕ) → q < 384 → 361 ≤ q → bit_in below_others q ≡ false) where
-  pub points_from-bits : AreSameBits below_words below_others → points_of words ≡ points_of others
-  points_from-bits same = same_points _ _ (λ q. contains-points words q ∙ elim (cases_lt q 361) [
-    | inl below ↦ ap (λ b. ltb q 361 && b) (sym (kept q (omega arith) below) ∙ same q (omega arith) ∙ other_kept q (omega arith) below)
-    | inr above ↦ rw (le-ltb q 361 above) refl
-  ] ∙ sym (contains-points others q))
+-- sets are the same exactly where the bits are, since those of no point are 0
+pub points_from-bits : (words others : List ℕ) → AreSameBits words others → points_of words ≡ points_of others
+points_from-bits words others same = same_points _ _ (λ q. contains-points words q ∙ elim (cases_lt q 361) [
+  | inl below ↦ ap (λ b. ltb q 361 && b) (same q (omega arith))
+  | inr above ↦ rw (le-ltb q 361 above) refl
+] ∙ sym (contains-points others q))
 
-  pub bits_from-points : points_of words ≡ points_of others → AreSameBits below_words below_others
-  bits_from-points same = λ q small. elim (cases_lt q 361) [
-    | inl below ↦ kept q small below ∙ sym (has_point words q below) ∙ ap (λ s. set.contains s q) same ∙ has_point others q below ∙ sym (other_kept q small below)
-    | inr above ↦ none q small above ∙ sym (other_none q small above)
-  ]
+pub bits_from-points : (words others : List ℕ) → AreOfPoints words → AreOfPoints others → points_of words ≡ points_of others → AreSameBits words others
+bits_from-points words others alone others_alone same = λ q small. elim (cases_lt q 361) [
+  | inl below ↦ sym (has_point words q below) ∙ ap (λ s. set.contains s q) same ∙ has_point others q below
+  | inr above ↦ alone q above small ∙ sym (others_alone q above small)
+]
+
+-- ---- bits that are covered
+
+-- a bit that is 1 in the first word alone
+left_bit : (w a b i : ℕ) → a < 2 ^ 64 → b < 2 ^ 64 → i < 64 → bit_at (bit_and (bit_and w (bit_not w64 a)) (bit_not w64 b)) i ≡ min (min (bit_at w i) (1 - bit_at a i)) (1 - bit_at b i)
+left_bit w a b i fits_a fits_b small =
+    bit_at_and (bit_and w (bit_not w64 a)) (bit_not w64 b) i
+    ∙ ap (λ x. min x (bit_at (bit_not w64 b) i)) (bit_at_and w (bit_not w64 a) i ∙ ap (min (bit_at w i)) (bit_at_not w64 a i fits_a small))
+    ∙ ap (min (min (bit_at w i) (1 - bit_at a i))) (bit_at_not w64 b i fits_b small)
+
+covered_bit : (x y z : ℕ) → x < 2 → y < 2 → z < 2 → min (min x (1 - y)) (1 - z) ≡ 0 → eqb x 1 ≡ true → (eqb y 1 || eqb z 1) ≡ true
+covered_bit zero y z sx sy sz e on = absurd (false≢true on)
+covered_bit (suc zero) (suc zero) z sx sy sz e on = refl
+covered_bit (suc zero) zero (suc zero) sx sy sz e on = refl
+covered_bit (suc zero) zero zero sx sy sz e on = absurd (omega (arith, e))
+covered_bit (suc (suc x)) y z sx sy sz e on = absurd (omega (arith, sx))
+covered_bit (suc zero) (suc (suc y)) z sx sy sz e on = absurd (omega (arith, sy))
+covered_bit (suc zero) zero (suc (suc z)) sx sy sz e on = absurd (omega (arith, sz))
+
+no_bit_left : (x y z : ℕ) → x < 2 → y < 2 → z < 2 → (eqb x 1 ≡ true → (eqb y 1 || eqb z 1) ≡ true) → min (min x (1 - y)) (1 - z) ≡ 0
+no_bit_left zero y z sx sy sz h = omega arith
+no_bit_left (suc zero) (suc zero) z sx sy sz h = omega arith
+no_bit_left (suc zero) zero (suc zero) sx sy sz h = omega arith
+no_bit_left (suc zero) zero zero sx sy sz h = absurd (false≢true (h refl))
+no_bit_left (suc (suc x)) y z sx sy sz h = absurd (omega (arith, sx))
+no_bit_left (suc zero) (suc (suc y)) z sx sy sz h = absurd (omega (arith, sy))
+no_bit_left (suc zero) zero (suc (suc z)) sx sy sz h = absurd (omega (arith, sz))
+
+-- a word without a bit
+pub no_bit_here : (ws : List ℕ) (k q : ℕ) → get_or ws k 0 ≡ 0 → q / 64 ≡ k → bit_in ws q ≡ true → ⊥
+unfolding bit_in
+no_bit_here ws k q none at on = false≢true (sym (ap (λ j. eqb (bit_at (get_or ws j 0) (q % 64)) 1) at ∙ ap (λ w. eqb (bit_at w (q % 64)) 1) none ∙ ap (λ b. eqb b 1) (bit_at-zero (q % 64))) ∙ on)
+
+module _ (ws xs ys : List ℕ) (k : ℕ) (fits_x : get_or xs k 0 < 2 ^ 64) (fits_y : get_or ys k 0 < 2 ^ 64) where
+  -- nothing is left of a word
+  pub covered_here : bit_and (bit_and (get_or ws k 0) (bit_not w64 (get_or xs k 0))) (bit_not w64 (get_or ys k 0)) ≡ 0 →
+      (q : ℕ) → q / 64 ≡ k → bit_in ws q ≡ true → (bit_in xs q || bit_in ys q) ≡ true
+  unfolding bit_in
+  covered_here none q at on =
+      let i = q % 64 in
+      let w = get_or ws k 0 in let x = get_or xs k 0 in let y = get_or ys k 0 in
+      let zero' = sym (left_bit w x y i fits_x fits_y (omega arith)) ∙ ap (λ n. bit_at n i) none ∙ bit_at-zero i in
+      rw at (covered_bit (bit_at w i) (bit_at x i) (bit_at y i) (bit_at-lt w i) (bit_at-lt x i) (bit_at-lt y i) zero' (sym (ap (λ j. eqb (bit_at (get_or ws j 0) i) 1) at) ∙ on))
+
+  -- something is left of a word
+  pub not_covered : k < 6 → get_or ws k 0 < 2 ^ 64 →
+      bit_and (bit_and (get_or ws k 0) (bit_not w64 (get_or xs k 0))) (bit_not w64 (get_or ys k 0)) ≢ 0 → AreCovered ws xs ys → ⊥
+  unfolding bit_in
+  not_covered in_k fits_w some covered =
+      let w = get_or ws k 0 in let x = get_or xs k 0 in let y = get_or ys k 0 in
+      let left = bit_and (bit_and w (bit_not w64 x)) (bit_not w64 y) in
+      let fits : left < 2 ^ 64 = omega (arith, and_le_l (bit_and w (bit_not w64 x)) (bit_not w64 y), and_le_l w (bit_not w64 x)) in
+      some (same_from_bits_below 64 left 0 fits (omega arith) (λ i small.
+      let word : (64 * k + i) / 64 ≡ k = omega arith in
+      let place : (64 * k + i) % 64 ≡ i = omega arith in
+      left_bit w x y i fits_x fits_y small ∙ no_bit_left (bit_at w i) (bit_at x i) (bit_at y i) (bit_at-lt w i) (bit_at-lt x i) (bit_at-lt y i)
+      (λ on. sym (ap (λ j. eqb (bit_at (get_or xs j 0) ((64 * k + i) % 64)) 1 || eqb (bit_at (get_or ys j 0) ((64 * k + i) % 64)) 1) word
+      ∙ ap (λ j. eqb (bit_at x j) 1 || eqb (bit_at y j) 1) place)
+      ∙ covered (64 * k + i) (omega arith) (ap (λ j. eqb (bit_at (get_or ws j 0) ((64 * k + i) % 64)) 1) word ∙ ap (λ j. eqb (bit_at w j) 1) place ∙ on))
+      ∙ sym (bit_at-zero i)))

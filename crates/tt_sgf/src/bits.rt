@@ -2,7 +2,7 @@
 
 ghost use Rattle.std.specs.Prelude.{◌≡◌, ℕ, ◌<◌, ◌≤◌, ◌↔◌, IsTrue, true, false, not, ◌&&◌, ◌||◌};
 ghost use Rattle.std.specs.FinSet as set;
-ghost use Rattle.tt_sgf.specs.Words.{bit_in, points_of, IsLow, AreSameBits};
+ghost use Rattle.tt_sgf.specs.Words.{bit_in, points_of, IsLow, AreSameBits, AreCovered};
 
 /// A bit for each of the numbers below 384: that of `n` is bit `n % 64` of word `n / 64`.
 #[derive(Clone, Copy)]
@@ -160,6 +160,23 @@ impl Bits {
             words[k] = self.words[k] ^ other.words[k];
         }
         Bits { words }
+    }
+
+    /// Whether each bit that is 1 here is 1 in one of the others too. It passes over words without a bit, since few words
+    /// of a set of targets have some.
+    pub fn are_covered(&self, one: &Bits, other: &Bits) -> bool
+        ensures { IsTrue result ↔ AreCovered self.now.words one.now.words other.now.words }
+    {
+        for k in 0..6 {
+            if self.words[k] == 0 {
+                continue;
+            }
+            let left = self.words[k] & !one.words[k] & !other.words[k];
+            if left != 0 {
+                return false;
+            }
+        }
+        true
     }
 
     /// Whether both have the same bits; it stops at the first word that differs.

@@ -20,13 +20,15 @@ impl Model for PointSet {
     ghost use Rattle.std.specs.Ordering.{nat_cmp};
     ghost use Rattle.std.specs.FinSet as set;
     ghost use Rattle.std.specs.Coded.{coded_ℕ};
-    ghost use Rattle.tt_sgf.specs.Words.{points_of};
+    ghost use Rattle.tt_sgf.specs.Words.{points_of, AreOfPoints};
 
     ghost Value = { set.FinSet nat_cmp };
 
     ghost coded = { set.code coded_ℕ };
 
     ghost view = { λ s. points_of s.bits.words };
+
+    ghost invariant = { λ s. AreOfPoints s.bits.words };
 }
 
 impl PointSet {
@@ -107,17 +109,17 @@ impl PointSet {
     }
 
     /// The points of the set as bits: that of the point `p` is bit `p % 64` of word `p / 64`, and bits of no point are 0.
-    pub fn words(&self) -> [u64; 6]
-        ensures { AreBitsOf result 361 (λ p. set.contains self.now p) }
+    pub fn bits(&self) -> &Bits
+        ensures { AreBitsOf result.now.words 361 (λ p. set.contains self.now p) }
     {
-        self.bits.below(361).words()
+        &self.bits
     }
 
     /// Whether both have the same points.
     pub fn same(&self, other: &PointSet) -> bool
         ensures { IsTrue result ↔ (self.now ≡ other.now) }
     {
-        self.bits.below(361).same(&other.bits.below(361))
+        self.bits.same(&other.bits)
     }
 
     /// The points of this set that the other hasn't.

@@ -5,5 +5,5 @@ use Rattle.tt_board.proofs.board.Board.has_all.Goals as goal
 pub returns : goal.returns
 returns c =
     let position = c.args.self.now in
-    all_is c.args.points.now (point_count position.size) (few_points position.size) c.requires position.points c.words-wanted.result c.words-wanted.ensures
-    c.args.colour c.words-stones.result c.words-stones.ensures c.covers.result c.covers.ensures
+    all_is c.args.points.now (point_count position.size) (few_points position.size) c.requires position.points c.bits.result.now.words c.bits.ensures
+    c.args.colour c.bits-stones.result.now.words c.bits-stones.ensures c.are_covered.result c.are_covered.ensures

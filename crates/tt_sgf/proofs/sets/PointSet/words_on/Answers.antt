@@ -1,4 +1,4 @@
-use Rattle.std.proofs.Common.{rules, ap, sym, subst, ◌∙◌, arith}
+use Rattle.std.proofs.Common.{ap, sym, subst, ◌∙◌, arith}
 use Rattle.std.specs.FinSet as set
 use Rattle.tt_sgf.specs.Words.{AreBitsOf}
 use Rattle.tt_sgf.specs.Sizes.{point_count}
@@ -10,7 +10,6 @@ returns c =
     let count = c.point_count.ensures in
     let made = c.below.result.words in
     let handed : AreBitsOf made (point_count c.args.size) (λ p. set.contains c.args.self.now p) = record {
-      wide = search rules;
       below = λ p on_board small. c.below.ensures.kept p small (omega (arith, count.value))
           ∙ sym (has_point c.self.inside.bits.words p (omega (arith, count.value, count.most))) ∙ ap (λ s. set.contains s p) c.self.view_is;
       behind = λ p past small. c.below.ensures.none p small (omega (arith, count.value));

@@ -1,6 +1,0 @@
-use Rattle.std.proofs.Common.{◌≡◌, ◌<◌, ◌*◌, ◌||◌, ℕ, true}
-use Rattle.tt_sgf.specs.Words.{bit_in}
-use Rattle.tt_board.proofs.stones.covers.Given as goal
-
-abbrev pub invariant-loop-k : goal.invariant-loop-k
-invariant-loop-k l = (q : ℕ) → q < 64 * l.k → bit_in l.wanted q ≡ true → (bit_in l.one q || bit_in l.other q) ≡ true
