@@ -1,5 +1,6 @@
 -- How a chain is found, point by point.
-use Rattle.std.proofs.Common.{◌≡◌, ◌≢◌, ℕ, ◌+◌, ◌<◌, ◌≤◌, List, [], ◌∷◌, ◌++◌, length, Option, Some, None, Bool, true, false, Contains, get_or, set, inl, inr, sym, ap, subst, ◌∙◌, append_assoc, length-append, append-nil, replicate, not, arith}
+use Rattle.std.proofs.Common.{◌≡◌, ◌≢◌, ℕ, ◌+◌, ◌<◌, ◌≤◌, List, [], ◌∷◌, ◌++◌, length, Option, Some, None, Bool, true, false, Contains, get_or, set, inl, inr, sym, ap, subst, ◌∙◌}
+use Rattle.std.proofs.Common.{append_assoc, length-append, append-nil, replicate, not, arith}
 use Rattle.std.proofs.lemmas.Bool.{cases_eq, cases_lt, false≢true}
 use Rattle.std.proofs.lemmas.List.{length-set, length-replicate, get_or-set_other, get_or-replicate, get_or_default, get_or_append_left, get_or_past}
 use Rattle.std.proofs.lemmas.List.{ext_get_or, get_or-set_same}
@@ -160,5 +161,6 @@ enclosed_more s c p before after i g below is here earlier k lt =
     ]
 
 -- once each place of the list is looked at, each of its points is enclosed
-pub enclosed_all : (s : Size) (c : Colouring) (chain : List ℕ) (i : ℕ) → length chain ≤ i → ((k : ℕ) → k < i → IsEnclosed s c chain (get_or chain k 0)) → (p : ℕ) → Contains chain p → IsEnclosed s c chain p
+pub enclosed_all : (s : Size) (c : Colouring) (chain : List ℕ) (i : ℕ) → length chain ≤ i → ((k : ℕ) → k < i → IsEnclosed s c chain (get_or chain k 0)) → (p : ℕ) → Contains chain p
+    → IsEnclosed s c chain p
 enclosed_all s c chain i past each p has = subst (λ x. IsEnclosed s c chain x) (get_or_default chain has.0 0 p has.1 ∙ has.2) (each has.0 (omega (arith, has.1)))

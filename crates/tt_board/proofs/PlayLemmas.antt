@@ -40,7 +40,8 @@ pub cleared_kept_other : (s : Size) (c : List (Option Colour)) (k : Colour) (p :
 cleared_kept_other s c k p stone = cond-false _ None _ (and_left _ _ (not_stone_of (entry_at c p) k stone))
 
 pub cleared_kept_alive : (s : Size) (c : List (Option Colour)) (k : Colour) (p : ℕ) → reaches s c p None ≡ true → cleared_entry s c k p ≡ entry_at c p
-cleared_kept_alive s c k p alive = cond-false (is_stone_of (entry_at c p) k && not (reaches s c p None)) None (entry_at c p) (and_right (is_stone_of (entry_at c p) k) (not (reaches s c p None)) (rw alive refl))
+cleared_kept_alive s c k p alive = cond-false (is_stone_of (entry_at c p) k && not (reaches s c p None)) None (entry_at c p)
+    (and_right (is_stone_of (entry_at c p) k) (not (reaches s c p None)) (rw alive refl))
 
 -- a colouring that is cleared at each point is the cleared one
 pub clear_from : (s : Size) (c d : List (Option Colour)) (k : Colour) → length d ≡ point_count s → ((p : ℕ) → p < point_count s → entry_at d p ≡ cleared_entry s c k p) → d ≡ clear s c k

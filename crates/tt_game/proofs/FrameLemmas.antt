@@ -37,7 +37,8 @@ nothing false = refl
 pub nothing_left : (s t : set.FinSet nat_cmp) → s ≡ t → set.len (set.difference s t) ≡ 0
 nothing_left s t e =
     ap (λ (u : set.FinSet nat_cmp). set.len (set.difference s u)) (sym e)
-    ∙ ap (λ (u : set.FinSet nat_cmp). set.len u) (set.same_set nat_cmp_total set.nat_cmp-IsAntisymmetric (set.difference s s) set.empty (λ q. set.contains-difference nat_cmp_total s s q ∙ nothing (set.contains s q) ∙ sym (set.contains-empty nat_cmp q)))
+    ∙ ap (λ (u : set.FinSet nat_cmp). set.len u) (set.same_set nat_cmp_total set.nat_cmp-IsAntisymmetric (set.difference s s) set.empty
+        (λ q. set.contains-difference nat_cmp_total s s q ∙ nothing (set.contains s q) ∙ sym (set.contains-empty nat_cmp q)))
     ∙ set.len-empty nat_cmp
 
 -- frames with the same parts are one

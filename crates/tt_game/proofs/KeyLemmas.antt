@@ -1,9 +1,11 @@
 -- Marks in words, and what they tell apart.
-use Rattle.std.proofs.Common.{◌≡◌, ℕ, zero, suc, ◌+◌, ◌*◌, ◌-◌, ◌/◌, ◌%◌, ◌^◌, ◌<◌, ◌≤◌, List, [], ◌∷◌, ◌++◌, length, map, take, drop, get_or, replicate, cond, eqb, Option, Some, None, Bool, true, false, refl, sym, ap, subst, ◌∙◌, inl, inr, arith, length-append}
+use Rattle.std.proofs.Common.{◌≡◌, ℕ, zero, suc, ◌+◌, ◌*◌, ◌-◌, ◌/◌, ◌%◌, ◌^◌, ◌<◌, ◌≤◌, List, [], ◌∷◌, ◌++◌, length, map, take, drop, get_or, replicate, cond, eqb, Option, Some}
+use Rattle.std.proofs.Common.{None, Bool, true, false, refl, sym, ap, subst, ◌∙◌, inl, inr, arith, length-append}
 use Rattle.std.specs.Int.{bit_at}
 use Rattle.std.specs.List.{range_with_len}
 use Rattle.std.proofs.lemmas.Bool.{cases_lt}
-use Rattle.std.proofs.lemmas.List.{append_cancel_right, take-append-drop, drop-drop, length-drop, length-take, length-take-le, length-replicate, get_or-replicate, get_or_past, get_or_append_left, get_or-append_right, get_or-take, get_or-drop, ext_get_or}
+use Rattle.std.proofs.lemmas.List.{append_cancel_right, take-append-drop, drop-drop, length-drop, length-take, length-take-le, length-replicate, get_or-replicate, get_or_past}
+use Rattle.std.proofs.lemmas.List.{get_or_append_left, get_or-append_right, get_or-take, get_or-drop, ext_get_or}
 use Rattle.std.proofs.lemmas.List.FromFn.{length-map-range_with_len, get_or-map-range_with_len}
 use Rattle.std.proofs.lemmas.Nat.Bits.{bit_at-zero, bit_at_lowest, bit_at-suc, bit_at-lt, same_from_bits_below}
 use Rattle.tt_board.specs.declared.Colour.{Colour}
@@ -62,12 +64,14 @@ unfolding marks_of
 packed_tells size test tell h p lt =
     let n = point_count size in
     let few = few_points size in
-    let wide = λ (t : ℕ → Bool). (let w : length (map t (range_with_len 0 n) ++ replicate (384 - n) false) ≡ 64 * 6 = omega (arith, few, length-append (map t (range_with_len 0 n)) (replicate (384 - n) false), length-map-range_with_len t 0 n, length-replicate (384 - n) false) in w) in
+    let wide = λ (t : ℕ → Bool). (let w : length (map t (range_with_len 0 n) ++ replicate (384 - n) false) ≡ 64 * 6 = omega
+        (arith, few, length-append (map t (range_with_len 0 n)) (replicate (384 - n) false), length-map-range_with_len t 0 n, length-replicate (384 - n) false) in w) in
     let marks = append_cancel_right (map test (range_with_len 0 n)) (map tell (range_with_len 0 n)) (replicate (384 - n) false) (words_tell 6 _ _ (wide test) (wide tell) h) in
     sym (get_or-map-range_with_len test 0 n p p false lt (omega arith)) ∙ ap (λ xs. get_or xs p false) marks ∙ get_or-map-range_with_len tell 0 n p p false lt (omega arith)
 
 same_maps : (test tell : ℕ → Bool) (n : ℕ) → ((p : ℕ) → p < n → test p ≡ tell p) → map test (range_with_len 0 n) ≡ map tell (range_with_len 0 n)
-same_maps test tell n h = Rattle.std.proofs.lemmas.List.ext_get_or false (map test (range_with_len 0 n)) (map tell (range_with_len 0 n)) (length-map-range_with_len test 0 n ∙ sym (length-map-range_with_len tell 0 n))
+same_maps test tell n h = Rattle.std.proofs.lemmas.List.ext_get_or false (map test (range_with_len 0 n)) (map tell (range_with_len 0 n))
+    (length-map-range_with_len test 0 n ∙ sym (length-map-range_with_len tell 0 n))
     (λ k in'. let lt : k < n = subst (λ m. k < m) (length-map-range_with_len test 0 n) in' in
     get_or-map-range_with_len test 0 n k k false lt (omega arith) ∙ h k lt ∙ sym (get_or-map-range_with_len tell 0 n k k false lt (omega arith)))
 
@@ -151,7 +155,8 @@ packed_is size test words wide fits bits =
     let short : length part ≤ 64 = omega (arith, length-take 64 (drop (64 * k) marks)) in
     let few : binary part < 2 ^ 64 = omega (arith, binary-below part, Rattle.std.proofs.Math.Pow.pow_mono short) in
     same_from_bits_below 64 (get_or words k 0) (binary part) (fits k) few (λ i small.
-    bit_is words k i small ∙ sym (bit_binary part i ∙ ap (λ b. cond b 1 0) (get_or-take 64 (drop (64 * k) marks) i false small ∙ get_or-drop (64 * k) marks i false ∙ mark_is size test words bits (64 * k + i) (omega arith))))
+    bit_is words k i small ∙ sym (bit_binary part i ∙ ap (λ b. cond b 1 0) (get_or-take 64 (drop (64 * k) marks) i false small ∙ get_or-drop (64 * k) marks i false
+        ∙ mark_is size test words bits (64 * k + i) (omega arith))))
     ∙ sym (word_of 6 marks k lt))
 
 -- the key is told by the frame, the present colouring, the side to move and the passes

@@ -73,7 +73,8 @@ left : (size : Size) (vs ws : List (List ℕ)) (pts : set.FinSet nat_cmp) (q : �
     ≡ ((set.contains pts q || (ltb q 361 && covered size vs q)) || (ltb q 361 && covered size ws q))
 left size vs ws pts q =
     set.contains-union nat_cmp_total (set.union pts (passing (covered size vs) 361)) (passing (covered size ws) 361) q
-    ∙ ap₂ (λ x y. x || y) (set.contains-union nat_cmp_total pts (passing (covered size vs) 361) q ∙ ap (λ y. set.contains pts q || y) (contains-passing (covered size vs) 361 q)) (contains-passing (covered size ws) 361 q)
+    ∙ ap₂ (λ x y. x || y) (set.contains-union nat_cmp_total pts (passing (covered size vs) 361) q ∙ ap (λ y. set.contains pts q || y) (contains-passing (covered size vs) 361 q))
+        (contains-passing (covered size ws) 361 q)
 
 right : (size : Size) (vs ws : List (List ℕ)) (pts : set.FinSet nat_cmp) (q : ℕ)
     → set.contains (set.union pts (passing (covered size (vs ++ ws)) 361)) q ≡ (set.contains pts q || (ltb q 361 && (covered size vs q || covered size ws q)))

@@ -1,5 +1,6 @@
 -- Records and problems by the rules: what their nodes keep true of the history, and where a refusal comes from.
-use Rattle.std.proofs.Common.{◌≡◌, ◌≢◌, ℕ, ◌+◌, ◌-◌, ◌*◌, ◌<◌, ◌≤◌, ◌⊎◌, List, [], ◌∷◌, ◌++◌, inl, inr, Bool, true, false, Option, Some, None, Ok, Err, refl, sym, ap, subst, ◌∙◌, cond, ◌==◌, ◌&&◌, nat_eq, nat_le, nat_lt, arith, Contains}
+use Rattle.std.proofs.Common.{◌≡◌, ◌≢◌, ℕ, ◌+◌, ◌-◌, ◌*◌, ◌<◌, ◌≤◌, ◌⊎◌, List, [], ◌∷◌, ◌++◌, inl, inr, Bool, true, false, Option, Some, None, Ok, Err, refl, sym, ap, subst, ◌∙◌}
+use Rattle.std.proofs.Common.{cond, ◌==◌, ◌&&◌, nat_eq, nat_le, nat_lt, arith, Contains}
 use Rattle.std.specs.Prelude.{All, AllPairs}
 use Rattle.std.specs.FinSet as set
 use Rattle.std.specs.declared.result.Result.{Result}
@@ -34,7 +35,8 @@ use Rattle.tt_game.specs.Line.{Standing}
 use Rattle.tt_game.specs.Nodes.{AB, AE, AW, B, GM, PL, SZ, TR, W, apart, colour_named, has, is_go, is_setup, moves_in, set_named, size_named, values_of}
 use Rattle.tt_board.specs.Stones.{any_empty}
 use Rattle.tt_game.specs.Problems.{common_colour, posed, problem_at, problem_of, problem_on, problem_with, region_of, run_to_mark}
-use Rattle.tt_game.specs.Records.{all_alive, and_then, as_turn, begin_at, begin_line, begin_node, begun, go_on, move_of, record_at, record_of, run_nodes, set_up_by, step_node, turn_by, turn_named, turn_of}
+use Rattle.tt_game.specs.Records.{all_alive, and_then, as_turn, begin_at, begin_line, begin_node, begun, go_on, move_of, record_at, record_of, run_nodes, set_up_by, step_node}
+use Rattle.tt_game.specs.Records.{turn_by, turn_named, turn_of}
 use Rattle.tt_game.specs.RecordLaws.{ArePlays, IsByTheRules, IsOfLeastNode, IsPlay, LeastNodesRefuse, ProblemsAreGames, ProblemsAreRecords, RecordsAreGames, SetupsBeginHistories, SuperkoDecides}
 use Rattle.tt_game.specs.Turns.{IsOn}
 use Rattle.tt_game.proofs.OpenProblems.{step_made}

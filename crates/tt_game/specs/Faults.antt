@@ -1,7 +1,8 @@
 -- The numbers of refusals.
 use Rattle.std.specs.Prelude.{ℕ}
 use Rattle.tt_game.specs.declared.faults.GameFault.{GameFault}
-use Rattle.tt_game.specs.declared.faults.GameFault.TheVariants.{NotGo, BadSize, BadValue, PointTwice, MixedNode, LifelessStone, OccupiedPoint, RepeatedBoard, AfterEnd, TooManyTurns, NoTarget, EmptyTarget, MixedTargets, NoMemory}
+use Rattle.tt_game.specs.declared.faults.GameFault.TheVariants.{NotGo, BadSize, BadValue, PointTwice, MixedNode, LifelessStone, OccupiedPoint, RepeatedBoard, AfterEnd}
+use Rattle.tt_game.specs.declared.faults.GameFault.TheVariants.{TooManyTurns, NoTarget, EmptyTarget, MixedTargets, NoMemory}
 
 abbrev pub code_of : GameFault → ℕ
 code_of NotGo = 10

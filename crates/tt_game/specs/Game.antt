@@ -61,7 +61,8 @@ after f s (Play p) = record { earlier = history s; present = made f s p; to_move
 abbrev pub Forces : Frame → Side → ℕ → State → Type 0
 Forces f side zero s = winner_of f s ≡ Some side
 Forces f side (suc n) s =
-    (winner_of f s ≡ Some side) ⊎ ((winner_of f s ≡ None) × (((s.to_move ≡ side) × ((t : Turn) × IsLegal f s t × Forces f side n (after f s t))) ⊎ ((s.to_move ≡ opponent side) × ((t : Turn) → IsLegal f s t → Forces f side n (after f s t)))))
+    (winner_of f s ≡ Some side) ⊎ ((winner_of f s ≡ None) × (((s.to_move ≡ side) × ((t : Turn) × IsLegal f s t × Forces f side n (after f s t)))
+        ⊎ ((s.to_move ≡ opponent side) × ((t : Turn) → IsLegal f s t → Forces f side n (after f s t)))))
 
 -- what a problem comes to
 pub data Value : Type 0 where

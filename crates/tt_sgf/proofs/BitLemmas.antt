@@ -1,9 +1,11 @@
 -- Bits in words, and the sets of points that they are.
-use Rattle.std.proofs.Common.{◌≡◌, ◌≢◌, ℕ, zero, suc, ◌+◌, ◌-◌, ◌*◌, ◌/◌, ◌%◌, ◌^◌, ◌<◌, ◌≤◌, Bool, true, false, not, ◌&&◌, eqb, ltb, min, max, ◌||◌, List, [], ◌∷◌, length, get_or, set as put, refl, sym, ap, ◌∙◌, arith, inl, inr}
+use Rattle.std.proofs.Common.{◌≡◌, ◌≢◌, ℕ, zero, suc, ◌+◌, ◌-◌, ◌*◌, ◌/◌, ◌%◌, ◌^◌, ◌<◌, ◌≤◌, Bool, true, false, not, ◌&&◌, eqb, ltb, min, max, ◌||◌, List, [], ◌∷◌, length, get_or}
+use Rattle.std.proofs.Common.{set as put, refl, sym, ap, ◌∙◌, arith, inl, inr}
 use Rattle.std.proofs.lemmas.Bool.{cases_lt, cases_eq, eq-eqb, ne_eqb, lt-ltb, le-ltb, true≢false, false≢true}
 use Rattle.std.proofs.lemmas.List.{get_or-set_same, get_or-set_other}
 use Rattle.std.proofs.lemmas.Nat.{shr-shr, one_shl, and_le_l}
-use Rattle.std.proofs.lemmas.Nat.Bits.{shr_and_one, bit_at-zero, bit_at-lt, bit_at_and, bit_at_or, bit_at_xor, bit_at_not, bit_at_set_same, bit_at_set_other, bit_at_clear_same, bit_at_clear_other, same_from_bits_below, bit_at_ones, bit_at_ones_above, bit_at-trailing_zeros, bit_at_above}
+use Rattle.std.proofs.lemmas.Nat.Bits.{shr_and_one, bit_at-zero, bit_at-lt, bit_at_and, bit_at_or, bit_at_xor, bit_at_not, bit_at_set_same, bit_at_set_other, bit_at_clear_same}
+use Rattle.std.proofs.lemmas.Nat.Bits.{bit_at_clear_other, same_from_bits_below, bit_at_ones, bit_at_ones_above, bit_at-trailing_zeros, bit_at_above}
 use Rattle.std.specs.Int.{w64, bit_at, bit_not, trailing_zeros}
 use Rattle.std.specs.Prelude.{bit_and, bit_or, bit_xor, ◌↔◌, Option, Some, None, MatchOption}
 use Rattle.std.specs.Cmp.{nat_cmp_total, unsigned_tied}
@@ -201,23 +203,27 @@ module _ (made a b : List ℕ) where
       ap (λ w. eqb (bit_at w (q % 64)) 1) (h (q / 64) (omega arith)) ∙ ap (λ x. eqb x 1) (bit_at_and (get_or a (q / 64) 0) (get_or b (q / 64) 0) (q % 64))
       ∙ two_bits (bit_at (get_or a (q / 64) 0) (q % 64)) (bit_at (get_or b (q / 64) 0) (q % 64)) (bit_at-lt _ _) (bit_at-lt _ _)
 
-  pub bit-minus : ((k : ℕ) → k < 6 → get_or b k 0 < 2 ^ 64) → ((k : ℕ) → k < 6 → get_or made k 0 ≡ bit_and (get_or a k 0) (bit_not w64 (get_or b k 0))) → (q : ℕ) → q < 384 → bit_in made q ≡ (bit_in a q && not (bit_in b q))
+  pub bit-minus : ((k : ℕ) → k < 6 → get_or b k 0 < 2 ^ 64) → ((k : ℕ) → k < 6 → get_or made k 0 ≡ bit_and (get_or a k 0) (bit_not w64 (get_or b k 0))) → (q : ℕ) → q < 384
+      → bit_in made q ≡ (bit_in a q && not (bit_in b q))
   unfolding bit_in
   bit-minus fits h q lt =
       let x = get_or a (q / 64) 0 in
       let y = get_or b (q / 64) 0 in
       let i = q % 64 in
-      ap (λ w. eqb (bit_at w i) 1) (h (q / 64) (omega arith)) ∙ ap (λ z. eqb z 1) (bit_at_and x (bit_not w64 y) i ∙ ap (λ z. min (bit_at x i) z) (bit_at_not w64 y i (fits (q / 64) (omega arith)) (omega arith)))
+      ap (λ w. eqb (bit_at w i) 1) (h (q / 64) (omega arith))
+          ∙ ap (λ z. eqb z 1) (bit_at_and x (bit_not w64 y) i ∙ ap (λ z. min (bit_at x i) z) (bit_at_not w64 y i (fits (q / 64) (omega arith)) (omega arith)))
       ∙ two_bits (bit_at x i) (1 - bit_at y i) (bit_at-lt x i) (omega (arith, bit_at-lt y i)) ∙ ap (λ z. eqb (bit_at x i) 1 && z) (other_bit (bit_at y i) (bit_at-lt y i))
 
   pub points-and : ((q : ℕ) → q < 384 → bit_in made q ≡ (bit_in a q && bit_in b q)) → points_of made ≡ set.intersection (points_of a) (points_of b)
-  points-and h = same_points _ _ (λ q. contains-points made q ∙ sym (set.contains-intersection nat_cmp_total (points_of a) (points_of b) q ∙ rw (contains-points a q, contains-points b q) (elim (cases_lt q 361) [
+  points-and h = same_points _ _ (λ q. contains-points made q
+      ∙ sym (set.contains-intersection nat_cmp_total (points_of a) (points_of b) q ∙ rw (contains-points a q, contains-points b q) (elim (cases_lt q 361) [
     | inl below ↦ rw (lt-ltb q 361 below) (sym (h q (omega arith)))
     | inr above ↦ rw (le-ltb q 361 above) refl
   ])))
 
   pub points-minus : ((q : ℕ) → q < 384 → bit_in made q ≡ (bit_in a q && not (bit_in b q))) → points_of made ≡ set.difference (points_of a) (points_of b)
-  points-minus h = same_points _ _ (λ q. contains-points made q ∙ sym (set.contains-difference nat_cmp_total (points_of a) (points_of b) q ∙ rw (contains-points a q, contains-points b q) (elim (cases_lt q 361) [
+  points-minus h = same_points _ _ (λ q. contains-points made q
+      ∙ sym (set.contains-difference nat_cmp_total (points_of a) (points_of b) q ∙ rw (contains-points a q, contains-points b q) (elim (cases_lt q 361) [
     | inl below ↦ rw (lt-ltb q 361 below) (sym (h q (omega arith)))
     | inr above ↦ rw (le-ltb q 361 above) refl
   ])))
@@ -229,7 +235,8 @@ module _ (made a b : List ℕ) where
       ∙ two_bits_or (bit_at (get_or a (q / 64) 0) (q % 64)) (bit_at (get_or b (q / 64) 0) (q % 64)) (bit_at-lt _ _) (bit_at-lt _ _)
 
   pub points-or : ((q : ℕ) → q < 384 → bit_in made q ≡ (bit_in a q || bit_in b q)) → points_of made ≡ set.union (points_of a) (points_of b)
-  points-or h = same_points _ _ (λ q. contains-points made q ∙ sym (set.contains-union nat_cmp_total (points_of a) (points_of b) q ∙ rw (contains-points a q, contains-points b q) (elim (cases_lt q 361) [
+  points-or h = same_points _ _ (λ q. contains-points made q
+      ∙ sym (set.contains-union nat_cmp_total (points_of a) (points_of b) q ∙ rw (contains-points a q, contains-points b q) (elim (cases_lt q 361) [
     | inl below ↦ rw (lt-ltb q 361 below) (sym (h q (omega arith)))
     | inr above ↦ rw (le-ltb q 361 above) refl
   ])))

@@ -1,5 +1,6 @@
 -- Entries of point lists: the readers against their definitions.
-use Rattle.std.proofs.Common.{◌≡◌, ◌≢◌, ℕ, zero, suc, ◌+◌, ◌-◌, ◌*◌, ◌/◌, ◌%◌, ◌<◌, ◌≤◌, Bool, true, false, ◌&&◌, ◌||◌, cond, eqb, leb, ltb, List, [], ◌∷◌, length, get_or, Option, Some, None, refl, sym, ap, subst, ◌∙◌, arith, inl, inr}
+use Rattle.std.proofs.Common.{◌≡◌, ◌≢◌, ℕ, zero, suc, ◌+◌, ◌-◌, ◌*◌, ◌/◌, ◌%◌, ◌<◌, ◌≤◌, Bool, true, false, ◌&&◌, ◌||◌, cond, eqb, leb, ltb, List, [], ◌∷◌, length, get_or, Option}
+use Rattle.std.proofs.Common.{Some, None, refl, sym, ap, subst, ◌∙◌, arith, inl, inr}
 use Rattle.std.proofs.lemmas.Bool.{cases_Bool, cases_eq, cases_lt, eqb-true, eq-eqb, ne_eqb, lt-ltb, le-ltb, ltb-true, leb-true, le-leb, and_parts, or_cases}
 use Rattle.std.proofs.lemmas.Nat.{mul-le, mul-add-lt, div-mul-add, mod-mul-add}
 use Rattle.std.specs.Cmp.{nat_cmp_total, unsigned_tied}
@@ -147,7 +148,8 @@ entry_again size v c r d s h =
 abbrev EntryAt : Size → List ℕ → Rectangle → Type 0
 EntryAt size v e = (h : HasCorners size v) × (e ≡ between h.0 h.1 h.2 h.3)
 
-five_stands : (v : List ℕ) (c r m d s : ℕ) → m ≡ 58 → 97 ≤ c → 97 ≤ r → 97 ≤ d → 97 ≤ s → StandsIn (c ∷ r ∷ m ∷ d ∷ s ∷ []) v → StandsIn ((97 + (c - 97)) ∷ (97 + (r - 97)) ∷ 58 ∷ (97 + (d - 97)) ∷ (97 + (s - 97)) ∷ []) v
+five_stands : (v : List ℕ) (c r m d s : ℕ) → m ≡ 58 → 97 ≤ c → 97 ≤ r → 97 ≤ d → 97 ≤ s → StandsIn (c ∷ r ∷ m ∷ d ∷ s ∷ []) v
+    → StandsIn ((97 + (c - 97)) ∷ (97 + (r - 97)) ∷ 58 ∷ (97 + (d - 97)) ∷ (97 + (s - 97)) ∷ []) v
 five_stands v c r m d s e hc hr hd hs x =
     let c-is : 97 + (c - 97) ≡ c = omega arith in
     let r-is : 97 + (r - 97) ≡ r = omega arith in
@@ -285,10 +287,12 @@ pub any_below : (size : Size) (vs : List (List ℕ)) (q : ℕ) → list_any (λ 
 any_below size [] q h = absurd (let f : false ≡ true = h in cc)
 any_below size (v ∷ vs) q h = elim (or_cases (covers size v q) (list_any (λ w. covers size w q) vs) h) [ inl x ↦ covers_below size v q x | inr x ↦ any_below size vs q x ]
 
-pub set_some : (size : Size) (vs : List (List ℕ)) (s : set.FinSet nat_cmp) → ((q : ℕ) → set.contains s q ≡ list_any (λ v. covers size v q) vs) → list_all (is_entry size) vs ≡ true → set_of size vs ≡ Some s
+pub set_some : (size : Size) (vs : List (List ℕ)) (s : set.FinSet nat_cmp) → ((q : ℕ) → set.contains s q ≡ list_any (λ v. covers size v q) vs) → list_all (is_entry size) vs ≡ true
+    → set_of size vs ≡ Some s
 unfolding set_of
 set_some size vs s h all =
-    let same : passing (λ q. list_any (λ v. covers size v q) vs) 361 ≡ s = set.same_set nat_cmp_total set.nat_cmp-IsAntisymmetric _ _ (λ q. contains-passing (λ p. list_any (λ v. covers size v p) vs) 361 q ∙ elim (cases_Bool (list_any (λ v. covers size v q) vs)) [
+    let same : passing (λ q. list_any (λ v. covers size v q) vs) 361 ≡ s = set.same_set nat_cmp_total set.nat_cmp-IsAntisymmetric _ _
+        (λ q. contains-passing (λ p. list_any (λ v. covers size v p) vs) 361 q ∙ elim (cases_Bool (list_any (λ v. covers size v q) vs)) [
       | inl b ↦ rw (b, lt-ltb q 361 (any_below size vs q b)) (sym (h q ∙ b))
       | inr b ↦ rw (b) (and_false (ltb q 361) ∙ sym (h q ∙ b))
     ]) in

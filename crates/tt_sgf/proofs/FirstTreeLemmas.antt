@@ -71,7 +71,8 @@ module _ (bytes : List ℕ) (i : ℕ) (lt : i < length bytes) (none : has_open (
 pub begins_rest : (bytes : List ℕ) (i : ℕ) (t : GameTree) (rest : List ℕ) → Begins (40 ∷ take (length bytes - i) (drop i bytes)) t rest → Begins (40 ∷ drop i bytes) t rest
 begins_rest bytes i t rest b = rw take_rest at b
 
-pub never_rest : (bytes : List ℕ) (i : ℕ) → ((t : GameTree) (rest : List ℕ) → Begins (40 ∷ take (length bytes - i) (drop i bytes)) t rest → ⊥) → (t : GameTree) (rest : List ℕ) → Begins (40 ∷ drop i bytes) t rest → ⊥
+pub never_rest : (bytes : List ℕ) (i : ℕ) → ((t : GameTree) (rest : List ℕ) → Begins (40 ∷ take (length bytes - i) (drop i bytes)) t rest → ⊥) → (t : GameTree) (rest : List ℕ)
+    → Begins (40 ∷ drop i bytes) t rest → ⊥
 never_rest bytes i h t rest b = h t rest (rw take_rest b)
 
 -- ---- what a main line has

@@ -229,7 +229,8 @@ word_is_not_91 : (b : ℕ) → is_word b ≡ true → eqb b 91 ≡ false
 unfolding is_word is_upper is_digit is_lower
 word_is_not_91 b e = grind arith
 
-pub property_ahead : (w i r : List ℕ) → IsBlank w → IsWord i → list_any is_upper i ≡ true → (after_blanks (w ++ (i ++ r)) ≡ i ++ r) × (opens_property (w ++ (i ++ r)) ≡ true) × (opens_value (w ++ (i ++ r)) ≡ false)
+pub property_ahead : (w i r : List ℕ) → IsBlank w → IsWord i → list_any is_upper i ≡ true → (after_blanks (w ++ (i ++ r)) ≡ i ++ r) × (opens_property (w ++ (i ++ r)) ≡ true)
+    × (opens_value (w ++ (i ++ r)) ≡ false)
 property_ahead w [] r h k e = absurd cc
 property_ahead w (b ∷ bs) r h k e =
     let a = after_blanks_at w b (bs ++ r) h (word_is_no_blank b k.0) in

@@ -36,7 +36,8 @@ module _ (bytes opened : List ℕ) (is : after_blanks bytes ≡ 91 ∷ opened) w
   values_fail e front total f h =
       fails_on e _ total (λ n. sym h ∙ ap (λ (o : Option (List (List ℕ) × List ℕ)). o >>= with_front front) (repeat_bad opens_value value_at (length bytes) bytes opens (value_is ∙ n))) f
 
-pub values_end : (bytes : List ℕ) (front : List (List ℕ)) (total : Option (List (List ℕ) × List ℕ)) → opens_value bytes ≡ false → (values_at bytes >>= with_front front) ≡ total → total ≡ Some (front, bytes)
+pub values_end : (bytes : List ℕ) (front : List (List ℕ)) (total : Option (List (List ℕ) × List ℕ)) → opens_value bytes ≡ false → (values_at bytes >>= with_front front) ≡ total
+    → total ≡ Some (front, bytes)
 unfolding values_at
 values_end bytes front total e h =
     sym h ∙ rw (repeat_stop opens_value value_at (length bytes) bytes e) (ap (λ (xs : List (List ℕ)). Some (xs, bytes)) (append-nil front))
@@ -50,12 +51,14 @@ module _ (bytes : List ℕ) (is : opens_property bytes ≡ true) where
   pub properties_shorter : (p : Property) (after : List ℕ) → property_at (after_blanks bytes) ≡ Some (p, after) → length after < length bytes
   properties_shorter p after f = properties_shrink bytes (p, after) is f
 
-  pub properties_fail : (e : SgfFault) (front : List Property) (total : Option (List Property × List ℕ)) → Fails e (property_at (after_blanks bytes)) → (properties_at bytes >>= with_front front) ≡ total → Fails e total
+  pub properties_fail : (e : SgfFault) (front : List Property) (total : Option (List Property × List ℕ)) → Fails e (property_at (after_blanks bytes))
+      → (properties_at bytes >>= with_front front) ≡ total → Fails e total
   unfolding properties_at
   properties_fail e front total f h =
       fails_on e _ total (λ n. sym h ∙ ap (λ (o : Option (List Property × List ℕ)). o >>= with_front front) (repeat_bad opens_property next_property (length bytes) bytes is n)) f
 
-pub properties_end : (bytes : List ℕ) (front : List Property) (total : Option (List Property × List ℕ)) → opens_property bytes ≡ false → (properties_at bytes >>= with_front front) ≡ total → total ≡ Some (front, bytes)
+pub properties_end : (bytes : List ℕ) (front : List Property) (total : Option (List Property × List ℕ)) → opens_property bytes ≡ false
+    → (properties_at bytes >>= with_front front) ≡ total → total ≡ Some (front, bytes)
 unfolding properties_at
 properties_end bytes front total e h =
     sym h ∙ rw (repeat_stop opens_property next_property (length bytes) bytes e) (ap (λ (xs : List Property). Some (xs, bytes)) (append-nil front))

@@ -102,7 +102,8 @@ pub record IsRawAt (escaped : Bool) (bytes v r : List ℕ) : Type 0 where
   pub raw : IsRaw escaped v
   pub parts : bytes ≡ v ++ (93 ∷ r)
 
-IsRawAt-first : (escaped e : Bool) (b : ℕ) (bs v r : List ℕ) → (x : List ℕ × List ℕ) → IsRawAt e bs x.0 x.1 → with_first b x ≡ Some (v, r) → (IsRaw e x.0 → IsRaw escaped (b ∷ x.0)) → IsRawAt escaped (b ∷ bs) v r
+IsRawAt-first : (escaped e : Bool) (b : ℕ) (bs v r : List ℕ) → (x : List ℕ × List ℕ) → IsRawAt e bs x.0 x.1 → with_first b x ≡ Some (v, r) → (IsRaw e x.0 → IsRaw escaped (b ∷ x.0))
+    → IsRawAt escaped (b ∷ bs) v r
 IsRawAt-first escaped e b bs v r x h eq up =
     let same = some_pair_parts (b ∷ x.0) v x.1 r eq in
     rw (← same.0, ← same.1) (record { raw = up h.raw; parts = ap (λ (y : List ℕ). b ∷ y) h.parts })

@@ -1,5 +1,6 @@
 -- Trees as lists of events: the walk with a count of open trees against the nested grammar.
-use Rattle.std.proofs.Common.{◌≡◌, ◌≢◌, ℕ, zero, suc, ◌+◌, ◌-◌, ◌<◌, Bool, true, false, not, cond, eqb, List, [], ◌∷◌, ◌++◌, length, Option, Some, None, refl, sym, ap, subst, ◌∙◌, append_assoc, arith, ◌⊎◌, inl, inr}
+use Rattle.std.proofs.Common.{◌≡◌, ◌≢◌, ℕ, zero, suc, ◌+◌, ◌-◌, ◌<◌, Bool, true, false, not, cond, eqb, List, [], ◌∷◌, ◌++◌, length, Option, Some, None, refl, sym, ap, subst, ◌∙◌}
+use Rattle.std.proofs.Common.{append_assoc, arith, ◌⊎◌, inl, inr}
 use Rattle.std.proofs.lemmas.Bool.{eqb-true, cases_Bool}
 use Rattle.std.proofs.lemmas.Option.{some_pair_parts}
 use Rattle.std.proofs.lemmas.List.{length-append, append-nil, append_cancel_right}
@@ -8,7 +9,8 @@ use Rattle.tt_sgf.specs.declared.trees.Event.{Event}
 use Rattle.tt_sgf.specs.declared.trees.Event.TheVariants.{Open, Close, Item}
 use Rattle.tt_sgf.specs.declared.trees.Place.{Place}
 use Rattle.tt_sgf.specs.declared.trees.Place.TheVariants.{Opened, Nodes, Trees as Behind}
-use Rattle.tt_sgf.specs.Grammar.{is_blank, is_word, is_upper, is_digit, is_lower, IsBlank, AreProperties, AreNodes, GameTree, Trees, game, no_tree, more_trees, Spells, AreTrees, main_line, first_main_line}
+use Rattle.tt_sgf.specs.Grammar.{is_blank, is_word, is_upper, is_digit, is_lower, IsBlank, AreProperties, AreNodes, GameTree, Trees, game, no_tree, more_trees, Spells, AreTrees}
+use Rattle.tt_sgf.specs.Grammar.{main_line, first_main_line}
 use Rattle.tt_sgf.specs.Reading.{Begins}
 use Rattle.tt_sgf.specs.Reading.{◌>>=◌, properties_at, event_of, event_at}
 use Rattle.tt_sgf.specs.Values.{after_blanks}
@@ -236,14 +238,16 @@ pub record InsideBefore (bytes : List ℕ) (t : GameTree) (es : List Event) (q :
   pub parts : 40 ∷ bytes ≡ text ++ rest
   pub goes : EventsAt rest es q
 
-pub inside_text : (ns : List Node) (ts : Trees) (bytes : List ℕ) (es : List Event) (q : List ℕ) → ns ≢ [] → (n : NodesBefore bytes ns (trees_then ts (Close ∷ es)) q) → TreesBefore n.rest ts (Close ∷ es) q → InsideBefore bytes (game ns ts) es q
+pub inside_text : (ns : List Node) (ts : Trees) (bytes : List ℕ) (es : List Event) (q : List ℕ) → ns ≢ [] → (n : NodesBefore bytes ns (trees_then ts (Close ∷ es)) q)
+    → TreesBefore n.rest ts (Close ∷ es) q → InsideBefore bytes (game ns ts) es q
 inside_text ns ts bytes es q ne n t =
     let c = event_takes t.rest Close t.goes.0 t.goes.1 in
     record {
       text = 40 ∷ (n.text ++ (t.text ++ (c.0 ++ (41 ∷ []))));
       rest = t.goes.0;
       spells = (n.text, t.text, c.0, ne, n.are, t.are, c.2, refl);
-      parts = ap (λ (x : List ℕ). 40 ∷ x) (n.parts ∙ ap (λ (x : List ℕ). n.text ++ x) t.parts ∙ ap (λ (x : List ℕ). n.text ++ (t.text ++ x)) (c.4 ∙ ap (λ (x : List ℕ). c.0 ++ x) c.3) ∙ (simp append_assoc));
+      parts = ap (λ (x : List ℕ). 40 ∷ x) (n.parts ∙ ap (λ (x : List ℕ). n.text ++ x) t.parts
+          ∙ ap (λ (x : List ℕ). n.text ++ (t.text ++ x)) (c.4 ∙ ap (λ (x : List ℕ). c.0 ++ x) c.3) ∙ (simp append_assoc));
       goes = t.goes.2;
     }
 
@@ -308,7 +312,8 @@ run-items : (ns : List Node) (d : ℕ) (es : List Event) → run (within Nodes d
 run-items [] d es = refl
 run-items (n ∷ ns) d es = run-items ns d es
 
-run-inside : (ns : List Node) (ts : Trees) (d : ℕ) (es : List Event) (s : State) → ns ≢ [] → run (within Nodes d) (trees_then ts (Close ∷ es)) ≡ s → run (within Opened d) (items_then ns (trees_then ts (Close ∷ es))) ≡ s
+run-inside : (ns : List Node) (ts : Trees) (d : ℕ) (es : List Event) (s : State) → ns ≢ [] → run (within Nodes d) (trees_then ts (Close ∷ es)) ≡ s
+    → run (within Opened d) (items_then ns (trees_then ts (Close ∷ es))) ≡ s
 run-inside [] ts d es s ne h = absurd (ne refl)
 run-inside (n ∷ ns) ts d es s ne h = run-items ns d (trees_then ts (Close ∷ es)) ∙ h
 
@@ -360,10 +365,13 @@ only_end (e ∷ es) h = absurd (not_done es h)
 closes_open : (p : Place) (d : ℕ) (es : List Event) → Begun p [] → Closes Opened (suc d) es → Closes p d (Open ∷ es)
 closes_open p zero es b h =
     let o = h.6 in
-    ([], more_trees (game h.0 h.1) o.1, b, ((h.3, h.4), o.3), ap (λ (x : List Event). Open ∷ x) (h.5 ∙ ap (λ (x : List Event). items_then h.0 (trees_then h.1 (Close ∷ x))) (o.4 ∙ ap (λ (ns : List Node). items_then ns (trees_then o.1 (Close ∷ []))) o.2)))
+    ([], more_trees (game h.0 h.1) o.1, b, ((h.3, h.4), o.3),
+        ap (λ (x : List Event). Open ∷ x) (h.5 ∙ ap (λ (x : List Event). items_then h.0 (trees_then h.1 (Close ∷ x))) (o.4 ∙ ap (λ (ns : List Node). items_then ns (trees_then o.1 (Close ∷ []))) o.2)))
 closes_open p (suc d) es b h =
     let o = h.6 in
-    ([], more_trees (game h.0 h.1) o.1, o.2, b, ((h.3, h.4), o.4), ap (λ (x : List Event). Open ∷ x) (h.5 ∙ ap (λ (x : List Event). items_then h.0 (trees_then h.1 (Close ∷ x))) (o.5 ∙ ap (λ (ns : List Node). items_then ns (trees_then o.1 (Close ∷ o.2))) o.3)), o.6)
+    ([], more_trees (game h.0 h.1) o.1, o.2, b, ((h.3, h.4), o.4),
+        ap (λ (x : List Event). Open ∷ x) (h.5 ∙ ap (λ (x : List Event). items_then h.0 (trees_then h.1 (Close ∷ x)))
+        (o.5 ∙ ap (λ (ns : List Node). items_then ns (trees_then o.1 (Close ∷ o.2))) o.3)), o.6)
 
 closes_item : (p : Place) (d : ℕ) (n : Node) (es : List Event) → ((ns : List Node) → Begun p (n ∷ ns)) → Closes Nodes d es → Closes p d (Item n ∷ es)
 closes_item p zero n es b h = (n ∷ h.0, h.1, b h.0, h.3, ap (λ (x : List Event). Item n ∷ x) h.4)
@@ -516,7 +524,8 @@ module _ (bytes rest : List ℕ) (p : Place) (d : ℕ) (on_main : Bool) (nodes :
     ];
   }
 
-  far_item_is : (n : Node) (after : List ℕ) (b : Bool) (ms : List Node) → event_at rest ≡ Some (Item n, after) → (p ≢ Behind) → on_main ≡ b → cond b (nodes ++ n ∷ []) nodes ≡ ms → Far bytes after Nodes d on_main ms
+  far_item_is : (n : Node) (after : List ℕ) (b : Bool) (ms : List Node) → event_at rest ≡ Some (Item n, after) → (p ≢ Behind) → on_main ≡ b → cond b (nodes ++ n ∷ []) nodes ≡ ms
+      → Far bytes after Nodes d on_main ms
   far_item_is n after b ms h ne m is = subst (λ (x : List Node). Far bytes after Nodes d on_main x) (ap (λ (x : Bool). cond x (nodes ++ n ∷ []) nodes) m ∙ is) (far_item n after h ne)
 
   pub far_kept : (n : Node) (after : List ℕ) (ms : List Node) → event_at rest ≡ Some (Item n, after) → (p ≢ Behind) → on_main ≡ true → ms ≡ nodes ++ n ∷ [] → Far bytes after Nodes d on_main ms
@@ -556,7 +565,8 @@ module _ (bytes rest : List ℕ) (p : Place) (d : ℕ) (on_main : Bool) (nodes :
             let k : run (within p d) s.0 ≡ done = ap (λ (x : State). run x s.0) (sym far.at) ∙ sym (run-append (within Opened 0) far.events s.0) ∙ ap (run (within Opened 0)) (sym s.1) ∙ finished in
             no_way s.0 q dead s.2 k
         | inr s ↦
-            let k : within p d ≡ stuck = sym far.at ∙ ap (run (within Opened 0)) s.2 ∙ run-append (within Opened 0) (items_then ns (trees_then ts (Close ∷ []))) (s.0 ∷ s.1) ∙ ap (λ (x : State). run x (s.0 ∷ s.1)) finished ∙ run-stuck s.1 in
+            let k : within p d ≡ stuck = sym far.at ∙ ap (run (within Opened 0)) s.2 ∙ run-append (within Opened 0) (items_then ns (trees_then ts (Close ∷ []))) (s.0 ∷ s.1)
+                ∙ ap (λ (x : State). run x (s.0 ∷ s.1)) finished ∙ run-stuck s.1 in
             absurd cc
       ]
 
@@ -577,7 +587,8 @@ module _ (bytes rest : List ℕ) (p : Place) (d : ℕ) (on_main : Bool) (nodes :
 
 -- ---- one tree for each text
 
-items-same : (ns ms : List Node) (ts us : Trees) (x y : List Event) → items_then ns (trees_then ts (Close ∷ x)) ≡ items_then ms (trees_then us (Close ∷ y)) → (ns ≡ ms) × (trees_then ts (Close ∷ x) ≡ trees_then us (Close ∷ y))
+items-same : (ns ms : List Node) (ts us : Trees) (x y : List Event) → items_then ns (trees_then ts (Close ∷ x)) ≡ items_then ms (trees_then us (Close ∷ y)) → (ns ≡ ms)
+    × (trees_then ts (Close ∷ x) ≡ trees_then us (Close ∷ y))
 items-same [] [] ts us x y h = (refl, h)
 items-same [] (m ∷ ms) no_tree us x y h = absurd cc
 items-same [] (m ∷ ms) (more_trees (game ns vs) ts) us x y h = absurd cc

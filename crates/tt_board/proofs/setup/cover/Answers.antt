@@ -6,4 +6,5 @@ use Rattle.tt_board.proofs.setup.cover.Goals as goal
 
 pub returns : goal.returns
 unfolding placed
-returns c = fill_by_all (placed_entry c.args.points.now c.args.black.now c.args.white.now c.args.clear.now) c.loop-index.points (point_count c.args.size) None c.loop-index.invariant.fits (λ p in_p. c.loop-index.invariant.done p (omega arith))
+returns c = fill_by_all (placed_entry c.args.points.now c.args.black.now c.args.white.now c.args.clear.now) c.loop-index.points
+    (point_count c.args.size) None c.loop-index.invariant.fits (λ p in_p. c.loop-index.invariant.done p (omega arith))

@@ -17,7 +17,8 @@ loop-i-preserved c =
     let i = c.loop-i.i in
     elim c.if-escaped.branch [
       | then-escaped w ↦ ap (raw_so_far bytes (i + 1)) w.escaped-is ∙ raw_more_escaped bytes i c.loop-i-test.true ∙ sym (ap (raw_so_far bytes i) w.if-escaped.true) ∙ c.loop-i.invariant
-      | else-escaped+else-b-eq93 w ↦ ap (raw_so_far bytes (i + 1)) w.escaped-is ∙ raw_more_plain bytes i c.loop-i-test.true (ne_eqb _ _ w.if-b-eq93.false) ∙ sym (ap (raw_so_far bytes i) w.if-escaped.false) ∙ c.loop-i.invariant
+      | else-escaped+else-b-eq93 w ↦ ap (raw_so_far bytes (i + 1)) w.escaped-is ∙ raw_more_plain bytes i c.loop-i-test.true (ne_eqb _ _ w.if-b-eq93.false)
+          ∙ sym (ap (raw_so_far bytes i) w.if-escaped.false) ∙ c.loop-i.invariant
     ]
 
 pub returns : goal.returns

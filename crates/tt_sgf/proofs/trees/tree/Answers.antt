@@ -11,7 +11,8 @@ returns-in_err-event-clause-none c = λ h t q b.
     far_none _ _ _ _ _ _ c.loop-nodes.invariant.0 (none_at _ _ c.in_err-event.ensures (sym p.2 ∙ same_err _ _ _ p.1 h)) t q b
 
 pub returns-in-Opened-clause-none : goal.returns-in-Opened-clause-none
-returns-in-Opened-clause-none c = λ h. far_refused_open _ _ _ _ _ _ c.loop-nodes.invariant.0 _ (c.in_ok-event.ensures ∙ ap (λ (x : Event). Some (x, c.in_ok-event.after.now)) c.in-Open.is) c.in-Opened.is
+returns-in-Opened-clause-none c = λ h. far_refused_open _ _ _ _ _ _ c.loop-nodes.invariant.0 _
+    (c.in_ok-event.ensures ∙ ap (λ (x : Event). Some (x, c.in_ok-event.after.now)) c.in-Open.is) c.in-Opened.is
 
 pub loop-nodes-smaller-in-Open : goal.loop-nodes-smaller-in-Open
 loop-nodes-smaller-in-Open c = event_shrinks c.loop-nodes.rest.now c.in_ok-event.event c.in_ok-event.after.now c.in_ok-event.ensures
@@ -19,14 +20,17 @@ loop-nodes-smaller-in-Open c = event_shrinks c.loop-nodes.rest.now c.in_ok-event
 pub loop-nodes-preserved-in-Open : goal.loop-nodes-preserved-in-Open
 loop-nodes-preserved-in-Open c =
     let s = event_shrinks c.loop-nodes.rest.now c.in_ok-event.event c.in_ok-event.after.now c.in_ok-event.ensures in
-    (far_open _ _ _ _ _ _ c.loop-nodes.invariant.0 _ (c.in_ok-event.ensures ∙ ap (λ (x : Event). Some (x, c.in_ok-event.after.now)) c.in-Open.is) c.in_default.not-Opened, omega (arith, c.loop-nodes.invariant.1))
+    (far_open _ _ _ _ _ _ c.loop-nodes.invariant.0 _ (c.in_ok-event.ensures ∙ ap (λ (x : Event). Some (x, c.in_ok-event.after.now)) c.in-Open.is) c.in_default.not-Opened,
+        omega (arith, c.loop-nodes.invariant.1))
 
 pub returns-in-Opened-place-clause-none : goal.returns-in-Opened-place-clause-none
-returns-in-Opened-place-clause-none c = λ h. far_refused_close _ _ _ _ _ _ c.loop-nodes.invariant.0 _ (c.in_ok-event.ensures ∙ ap (λ (x : Event). Some (x, c.in_ok-event.after.now)) c.in-Close.is) c.in-Opened-place.is
+returns-in-Opened-place-clause-none c = λ h. far_refused_close _ _ _ _ _ _ c.loop-nodes.invariant.0 _
+    (c.in_ok-event.ensures ∙ ap (λ (x : Event). Some (x, c.in_ok-event.after.now)) c.in-Close.is) c.in-Opened-place.is
 
 pub returns-then-enclosing-eq0 : goal.returns-then-enclosing-eq0
 returns-then-enclosing-eq0 c = record {
-  found = far_done _ _ _ _ _ _ c.loop-nodes.invariant.0 _ (c.in_ok-event.ensures ∙ ap (λ (x : Event). Some (x, c.in_ok-event.after.now)) c.in-Close.is) c.in_default-place.not-Opened c.if-enclosing-eq0.true;
+  found = far_done _ _ _ _ _ _ c.loop-nodes.invariant.0 _ (c.in_ok-event.ensures
+      ∙ ap (λ (x : Event). Some (x, c.in_ok-event.after.now)) c.in-Close.is) c.in_default-place.not-Opened c.if-enclosing-eq0.true;
   none = λ h. absurd cc;
   short = λ h. absurd cc;
 }
@@ -37,10 +41,12 @@ loop-nodes-smaller-in-Close c = event_shrinks c.loop-nodes.rest.now c.in_ok-even
 pub loop-nodes-preserved-in-Close : goal.loop-nodes-preserved-in-Close
 loop-nodes-preserved-in-Close c =
     let s = event_shrinks c.loop-nodes.rest.now c.in_ok-event.event c.in_ok-event.after.now c.in_ok-event.ensures in
-    (far_close _ _ _ _ _ _ c.loop-nodes.invariant.0 _ (c.in_ok-event.ensures ∙ ap (λ (x : Event). Some (x, c.in_ok-event.after.now)) c.in-Close.is) c.in_default-place.not-Opened (omega arith), omega (arith, c.loop-nodes.invariant.1))
+    (far_close _ _ _ _ _ _ c.loop-nodes.invariant.0 _ (c.in_ok-event.ensures ∙ ap (λ (x : Event). Some (x, c.in_ok-event.after.now)) c.in-Close.is) c.in_default-place.not-Opened
+        (omega arith), omega (arith, c.loop-nodes.invariant.1))
 
 pub returns-in-Trees-clause-none : goal.returns-in-Trees-clause-none
-returns-in-Trees-clause-none c = λ h. far_refused_item _ _ _ _ _ _ c.loop-nodes.invariant.0 _ _ (c.in_ok-event.ensures ∙ ap (λ (x : Event). Some (x, c.in_ok-event.after.now)) c.in-Item.is) c.in-Trees.is
+returns-in-Trees-clause-none c = λ h. far_refused_item _ _ _ _ _ _ c.loop-nodes.invariant.0 _ _
+    (c.in_ok-event.ensures ∙ ap (λ (x : Event). Some (x, c.in_ok-event.after.now)) c.in-Item.is) c.in-Trees.is
 
 pub loop-nodes-smaller-in_ok-push-in-Item : goal.loop-nodes-smaller-in_ok-push-in-Item
 loop-nodes-smaller-in_ok-push-in-Item c = event_shrinks c.loop-nodes.rest.now c.in_ok-event.event c.in_ok-event.after.now c.in_ok-event.ensures
@@ -48,7 +54,9 @@ loop-nodes-smaller-in_ok-push-in-Item c = event_shrinks c.loop-nodes.rest.now c.
 pub loop-nodes-preserved-in_ok-push-in-Item : goal.loop-nodes-preserved-in_ok-push-in-Item
 loop-nodes-preserved-in_ok-push-in-Item c =
     let s = event_shrinks c.loop-nodes.rest.now c.in_ok-event.event c.in_ok-event.after.now c.in_ok-event.ensures in
-    (far_kept _ _ _ _ _ _ c.loop-nodes.invariant.0 c.in-Item.node c.in_ok-event.after.now _ (c.in_ok-event.ensures ∙ ap (λ (x : Event). Some (x, c.in_ok-event.after.now)) c.in-Item.is) c.in_default-place-2.not-Trees c.if-on_main.true c.in_ok-push-in-Item.ensures.items, omega (arith, c.loop-nodes.invariant.1))
+    (far_kept _ _ _ _ _ _ c.loop-nodes.invariant.0 c.in-Item.node c.in_ok-event.after.now _
+        (c.in_ok-event.ensures ∙ ap (λ (x : Event). Some (x,
+        c.in_ok-event.after.now)) c.in-Item.is) c.in_default-place-2.not-Trees c.if-on_main.true c.in_ok-push-in-Item.ensures.items, omega (arith, c.loop-nodes.invariant.1))
 
 pub loop-nodes-smaller : goal.loop-nodes-smaller
 loop-nodes-smaller c = event_shrinks c.loop-nodes.rest.now c.in_ok-event.event c.in_ok-event.after.now c.in_ok-event.ensures
@@ -56,4 +64,5 @@ loop-nodes-smaller c = event_shrinks c.loop-nodes.rest.now c.in_ok-event.event c
 pub loop-nodes-preserved : goal.loop-nodes-preserved
 loop-nodes-preserved c =
     let s = event_shrinks c.loop-nodes.rest.now c.in_ok-event.event c.in_ok-event.after.now c.in_ok-event.ensures in
-    (far_aside _ _ _ _ _ _ c.loop-nodes.invariant.0 c.in-Item.node c.in_ok-event.after.now (c.in_ok-event.ensures ∙ ap (λ (x : Event). Some (x, c.in_ok-event.after.now)) c.in-Item.is) c.in_default-place-2.not-Trees c.if-on_main.false, omega (arith, c.loop-nodes.invariant.1))
+    (far_aside _ _ _ _ _ _ c.loop-nodes.invariant.0 c.in-Item.node c.in_ok-event.after.now
+        (c.in_ok-event.ensures ∙ ap (λ (x : Event). Some (x, c.in_ok-event.after.now)) c.in-Item.is) c.in_default-place-2.not-Trees c.if-on_main.false, omega (arith, c.loop-nodes.invariant.1))

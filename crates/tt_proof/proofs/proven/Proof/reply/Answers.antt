@@ -39,7 +39,8 @@ invariant_of-result c =
     let all = at_end c.loop-turn.yielded left.items _ c.loop-turn.invariant.order (omega (arith, left.ok.0, c.in-None.ensures.steps.0)) in
     let same = strategy_of_reply c.loop-turn.trees ∙ ap reply (sym (entries_map c.loop-turn.trees.items) ∙ ap entries_of (c.loop-turn.invariant.same ∙ ap trees_of all)) in
     rw same
-    (won_reply c.args.line.now.frame c.args.line.now.state _ _ _ c.args.children.items (ap (λ (l : Stood). l.frame) own) (ap (λ (l : Stood). l.state) own) (c.opponent.ensures ∙ ap opponent c.to_move.ensures) c.requires.nobody
+    (won_reply c.args.line.now.frame c.args.line.now.state _ _ _ c.args.children.items (ap (λ (l : Stood). l.frame) own) (ap (λ (l : Stood). l.state) own)
+        (c.opponent.ensures ∙ ap opponent c.to_move.ensures) c.requires.nobody
     c.requires.turns c.requires.children (subst AllWon all c.loop-turn.invariant.won))
 
 pub returns : goal.returns
