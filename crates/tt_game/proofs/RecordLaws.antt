@@ -23,6 +23,7 @@ use Rattle.tt_board.specs.Position.{Colouring}
 use Rattle.tt_board.specs.Reach.{entry_at}
 use Rattle.tt_board.specs.Play.{Points, is_empty, placed, same_colour}
 use Rattle.tt_game.specs.declared.faults.GameFault.{GameFault}
+use Rattle.tt_game.specs.declared.faults.GameFault.TheVariants.{NoTarget}
 use Rattle.tt_game.specs.declared.faults.Why.{Why}
 use Rattle.tt_game.specs.declared.records.Record.{Record}
 use Rattle.tt_game.specs.declared.records.Replay.{Replay}
@@ -37,6 +38,7 @@ use Rattle.tt_board.specs.Stones.{any_empty}
 use Rattle.tt_game.specs.Problems.{common_colour, posed, problem_at, problem_of, problem_on, problem_with, region_of, run_to_mark}
 use Rattle.tt_game.specs.Records.{all_alive, and_then, as_turn, begin_at, begin_line, begin_node, begun, go_on, move_of, record_at, record_of, run_nodes, set_up_by, step_node}
 use Rattle.tt_game.specs.Records.{turn_by, turn_named, turn_of}
+use Rattle.tt_game.specs.RecordLaws.{UnmarkedAreNoProblems}
 use Rattle.tt_game.specs.RecordLaws.{ArePlays, IsByTheRules, IsOfLeastNode, IsPlay, LeastNodesRefuse, ProblemsAreGames, ProblemsAreRecords, RecordsAreGames, SetupsBeginHistories, SuperkoDecides}
 use Rattle.tt_game.specs.Turns.{IsOn}
 use Rattle.tt_game.proofs.OpenProblems.{step_made}
@@ -456,3 +458,20 @@ problems_are_records (m ∷ ms) behind e unmarked h =
       | inl never ↦ ap (λ x. and_then x go) never
       | inr on ↦ ap (λ x. and_then x go) on.1 ∙ mark_refused on.0 (m ∷ ms) behind e unmarked on.2
     ]
+
+-- nodes without a mark come to the end of the way to the mark
+mark_missing : (r q : Replay) (ns : List Node) → All (λ n. has TR n ≡ false) ns → run_nodes r ns ≡ Ok q → run_to_mark r ns ≡ Err NoTarget
+unfolding run_nodes run_to_mark
+mark_missing r q [] unmarked h = refl
+mark_missing r q (n ∷ ns) unmarked h =
+    let go = λ (x : Replay). cond (has TR n) (problem_at x.game (set_named x.game.size TR n) (region_of x.game.size n)) (run_to_mark x ns) in
+    let on = step_made (step_node r n) _ q h in
+    ap (λ x. and_then x go) on.1
+    ∙ ap (λ b. cond b (problem_at on.0.game (set_named on.0.game.size TR n) (region_of on.0.game.size n)) (run_to_mark on.0 ns)) (All-head (λ m. has TR m ≡ false) n ns unmarked)
+    ∙ mark_missing on.0 q ns (All-tail (λ m. has TR m ≡ false) n ns unmarked) on.2
+
+pub unmarked_are_no_problems : UnmarkedAreNoProblems
+unfolding problem_of
+unmarked_are_no_problems nodes r unmarked h =
+    let on = step_made (begin_line nodes) _ r h in
+    ap (λ x. and_then x (λ q. run_to_mark q nodes)) on.1 ∙ mark_missing on.0 r nodes unmarked on.2

@@ -69,7 +69,7 @@ pub data Value : Type 0 where
   killed : Value
   lives : Value
 
--- twice as many turns as there are colourings of the board: who can force a win can do so within as many
+-- twice as many turns as there are colourings of the board
 abbrev pub longest : Frame → ℕ
 longest f = 2 * 3 ^ point_count f.size
 

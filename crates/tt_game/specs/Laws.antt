@@ -37,7 +37,7 @@ TurnsKeepStates = (f : Frame) (s : State) (t : Turn) → IsState f s → IsLegal
 abbrev pub LegalTurnsListed : Type 0
 LegalTurnsListed = (f : Frame) (s : State) → ((t : Turn) → Contains (legal_turns f s) t ↔ IsLegal f s t) × IsRising f (legal_turns f s) × (length (legal_turns f s) ≤ 362)
 
--- nobody has won at a problem: each target has a stone, and no pass was made
+-- nobody has won at a problem
 abbrev pub ProblemsOpen : Type 0
 ProblemsOpen = (nodes : List Node) (p : Standing) → problem_of nodes ≡ Ok p → winner_of p.frame p.state ≡ None
 

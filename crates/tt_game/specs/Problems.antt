@@ -33,7 +33,7 @@ region_of size n = cond (has SQ n) (set_named size SQ n) (Some (whole size))
 abbrev pub side_of : Colour → Colour → Side
 side_of defender k = cond (same_colour defender k) Defender Attacker
 
--- the game goes on as a problem: the history and the side to move stay, and no pass was made
+-- the game goes on as a problem: the history and the side to move stay, and the passes are counted anew
 abbrev pub posed : Played → Points → Points → Colour → Standing
 posed s region targets k = record {
   frame = record { size = s.size; region = region; targets = targets; defender = k };
@@ -41,16 +41,16 @@ posed s region targets k = record {
   before = [];
 }
 
--- the colour of all stones on the points: none where there are both
+-- the colour that has a stone on each of the points, Black's before White's; none where neither has
 abbrev pub common_colour : Points → Colouring → Option Colour
 common_colour s c = if all_stones_of s c Black then Some Black else (if all_stones_of s c White then Some White else None)
 
--- the targets' stones are the defender's
+-- the defender is the colour of the targets' stones
 abbrev pub problem_with : Played → Points → Points → Option Colour → Result Standing GameFault
 problem_with s region targets None = Err MixedTargets
 problem_with s region targets (Some k) = Ok (posed s region targets k)
 
--- some target, and a stone on each
+-- a problem wants some target, a stone on each, and all of one colour
 abbrev pub problem_on : Played → Points → Points → Result Standing GameFault
 problem_on s region targets =
     if nat_eq (set.len targets) 0 then Err NoTarget else (if any_empty targets s.present then Err EmptyTarget else problem_with s region targets (common_colour targets s.present))

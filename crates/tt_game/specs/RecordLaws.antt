@@ -8,6 +8,7 @@ use Rattle.tt_board.specs.Position.{Colouring}
 use Rattle.tt_board.specs.Reach.{entry_at}
 use Rattle.tt_board.specs.Play.{play_of}
 use Rattle.tt_game.specs.declared.faults.GameFault.{GameFault}
+use Rattle.tt_game.specs.declared.faults.GameFault.TheVariants.{NoTarget}
 use Rattle.tt_game.specs.declared.records.Record.{Record}
 use Rattle.tt_game.specs.declared.records.Replay.{Replay}
 use Rattle.tt_game.specs.Game.{history}
@@ -69,6 +70,10 @@ LeastNodesRefuse = (nodes : List Node) (e : GameFault) → record_of nodes ≡ E
 abbrev pub ProblemsAreRecords : Type 0
 ProblemsAreRecords = (nodes behind : List Node) (e : GameFault) → All (λ n. has TR n ≡ false) nodes → record_of nodes ≡ Err e
     → problem_of (nodes ++ behind) ≡ Err e
+
+-- where the nodes come to a game, and none marks a target, they are no problem: a target is wanted
+abbrev pub UnmarkedAreNoProblems : Type 0
+UnmarkedAreNoProblems = (nodes : List Node) (r : Replay) → All (λ n. has TR n ≡ false) nodes → ComesTo nodes r → problem_of nodes ≡ Err NoTarget
 
 -- the test of superko is true exactly where the colouring is in the history
 abbrev pub SuperkoDecides : Type 0

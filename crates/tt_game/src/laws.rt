@@ -2,7 +2,7 @@
 
 ghost use Rattle.tt_game.specs.Laws.{OneSideForces, SomeSideForces, ValuesAreForced, TurnsKeepStates, LegalTurnsListed, ProblemsOpen, ProblemsAreStates};
 ghost use Rattle.tt_game.specs.Keys.{KeysTell};
-ghost use Rattle.tt_game.specs.RecordLaws.{RecordsAreGames, ProblemsAreGames, SetupsBeginHistories, LeastNodesRefuse, ProblemsAreRecords, SuperkoDecides};
+ghost use Rattle.tt_game.specs.RecordLaws.{RecordsAreGames, ProblemsAreGames, SetupsBeginHistories, LeastNodesRefuse, ProblemsAreRecords, UnmarkedAreNoProblems, SuperkoDecides};
 
 /// Not both sides force a win at one state.
 pub fn l2()
@@ -35,7 +35,7 @@ pub fn keys()
     ensures { KeysTell }
 {}
 
-/// Nobody has won at a problem: each target has a stone, and no pass was made.
+/// Nobody has won at a problem.
 pub fn problems()
     ensures { ProblemsOpen }
 {}
@@ -72,6 +72,11 @@ pub fn least_nodes_refuse()
 /// alike.
 pub fn problems_are_records()
     ensures { ProblemsAreRecords }
+{}
+
+/// A main line without a marked target whose nodes are taken as a record is no problem.
+pub fn unmarked_are_no_problems()
+    ensures { UnmarkedAreNoProblems }
 {}
 
 /// The test of superko is true exactly where the colouring is in the history.
