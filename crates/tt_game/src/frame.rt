@@ -28,14 +28,6 @@ pub struct Frame {
     pub defender: Colour,
 }
 
-/// Whether both sets have the same points.
-#[tactic(auto, using(crate::proofs::FrameLemmas::same_sets, crate::proofs::FrameLemmas::nothing_left))]
-fn are_same(left: &PointSet, right: &PointSet) -> bool
-    ensures { IsTrue result ↔ (left.now ≡ right.now) }
-{
-    left.minus(right).count() == 0 && right.minus(left).count() == 0
-}
-
 impl Frame {
     /// The same frame again.
     pub fn copy(&self) -> Frame
@@ -59,10 +51,10 @@ impl Frame {
         if self.defender != other.defender {
             return false;
         }
-        if !are_same(&self.region, &other.region) {
+        if !self.region.same(&other.region) {
             return false;
         }
-        are_same(&self.targets, &other.targets)
+        self.targets.same(&other.targets)
     }
 
     /// Who has won on a board of this size after so many passes in a row: the attacker where some target is empty, else the

@@ -11,6 +11,6 @@ returns c =
     let rows : f.size.rows ≡ g.size.rows = grind arith in
     let size : f.size ≡ g.size = sizes_same f.size g.size columns rows in
     let defender : f.defender ≡ g.defender = search rules in (
-      λ same. same_frames f g size (c.are_same.ensures.0 c.if-not-are_same.false) (c.are_same-2.ensures.0 same) defender,
-      λ e. c.are_same-2.ensures.1 (ap (λ (h : Frame). h.targets) e),
+      λ same. same_frames f g size (c.same.ensures.0 c.if-not-same.false) (c.same-2.ensures.0 same) defender,
+      λ e. c.same-2.ensures.1 (ap (λ (h : Frame). h.targets) e),
     )
