@@ -1,7 +1,7 @@
 //! A problem and a game of it (Tromp-Taylor rules with a region and targets): turns are made and undone.
 
 ghost use Rattle.std.specs.Prelude.{◌≡◌, ◌≢◌, ℕ, ◌+◌, ◌-◌, ◌<◌, ◌≤◌, ◌↔◌, ◌∷◌, length, IsTrue, IsSome, MatchOption, Contains, All};
-ghost use Rattle.tt_game.specs.Course.{colourings};
+ghost use Rattle.tt_game.specs.Course.{HasBeen, colourings};
 ghost use Rattle.tt_sgf.specs.Sizes.{point_count};
 
 use crate::faults::{Refused, Why};
@@ -116,7 +116,7 @@ impl Line {
     }
 
     /// The board after a play of the side to move on an empty point.
-    fn board_after(&self, p: Point) -> Board
+    pub(crate) fn board_after(&self, p: Point) -> Board
         requires on_board { p < point_count self.now.frame.size }
         requires free { entry_at self.now.state.present p ≡ None }
         ensures { result ≡ record { size = self.now.frame.size; points = made self.now.frame self.now.state p } }
@@ -125,6 +125,14 @@ impl Line {
             unreachable!();
         };
         next
+    }
+
+    /// Whether a board of the line's size has a colouring that has been.
+    pub(crate) fn has_been(&self, next: &Board) -> bool
+        requires { next.now.size ≡ self.now.frame.size }
+        ensures { IsTrue result ↔ HasBeen (history self.now.state) next.now.points }
+    {
+        self.history.has_been(next)
     }
 
     /// The board that a play of the side to move makes, or why the play is refused. Only a play on an empty point of
@@ -143,7 +151,7 @@ impl Line {
             return Err(Why::Outside);
         }
         let next = self.board_after(p);
-        if self.history.has_been(&next) {
+        if self.has_been(&next) {
             return Err(Why::Repeats);
         }
         Ok(next)

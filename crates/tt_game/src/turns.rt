@@ -1,6 +1,7 @@
 //! Turns, and the walk over the legal ones.
 
-ghost use Rattle.std.specs.Prelude.{◌≡◌, ℕ, ◌<◌, ◌≤◌, ◌↔◌, length, Contains, IfOk, MatchOption};
+ghost use Rattle.std.specs.Prelude.{◌≡◌, ℕ, ◌<◌, ◌≤◌, ◌↔◌, length, Contains, IsTrue, IfOk, MatchOption};
+ghost use Rattle.std.specs.FinSet as set;
 ghost use Rattle.tt_sgf.specs.Sizes.{point_count};
 
 use crate::frame::Side;
@@ -40,7 +41,8 @@ impl Line {
     fn next_point(&self, from: u16) -> Option<Point>
         ensures { MatchOption result
             ((q : ℕ) → from ≤ q → IsLegal self.now.frame self.now.state (Turn.Play q) → ⊥)
-            (λ p. (p < point_count self.now.frame.size) × (from ≤ p) × ((q : ℕ) → from ≤ q → q < p → IsLegal self.now.frame self.now.state (Turn.Play q) → ⊥)) }
+            (λ p. (p < point_count self.now.frame.size) × (from ≤ p) × ((q : ℕ) → from ≤ q → q < p → IsLegal self.now.frame self.now.state (Turn.Play q) → ⊥)
+            × IsTrue (set.contains self.now.frame.region p)) }
     {
         let frame = self.frame();
         let Some(p) = frame.region.least_from(from) else {
@@ -52,9 +54,11 @@ impl Line {
         Some(p)
     }
 
-    /// What a play leads to, where it is legal.
+    /// What a play on a point of the region leads to, where it is legal. The board that it makes is looked at in place:
+    /// it isn't copied, as `made` would.
     fn successor_on(&self, p: Point) -> Option<Successor>
         requires on_board { p < point_count self.now.frame.size }
+        requires inside { IsTrue (set.contains self.now.frame.region p) }
         requires open { winner_of self.now.frame self.now.state ≡ None }
         ensures { MatchOption result (IsLegal self.now.frame self.now.state (Turn.Play p) → ⊥)
             (λ x. IsLegal self.now.frame self.now.state (Turn.Play p) × (x ≡ successor self.now.frame self.now.state (Turn.Play p))) }
@@ -62,13 +66,13 @@ impl Line {
         if self.present().at(p).is_some() {
             return None;
         }
-        let Ok(next) = self.made(p) else {
+        let next = self.board_after(p);
+        if self.has_been(&next) {
             return None;
-        };
-        let winner = self.frame().winner_on(&next, 0);
+        }
         Some(Successor {
             turn: Turn::Play(p),
-            winner,
+            winner: self.frame().winner_on(&next, 0),
         })
     }
 
