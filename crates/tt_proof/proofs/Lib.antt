@@ -4,6 +4,7 @@ pub mod ForcesLemmas
 pub mod ListLemmas
 pub mod ReadLemmas
 pub mod ProvenLemmas
+pub mod MeasureLemmas
 pub mod StrategyLemmas
 pub mod CertificateLemmas
 pub mod WinsLemmas

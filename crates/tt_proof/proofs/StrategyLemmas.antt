@@ -1,5 +1,6 @@
 -- What strategy a tree is, at each variant.
-use Rattle.std.proofs.Common.{◌≡◌, List, [], ◌∷◌, ◌++◌, ◌∙◌, refl, sym, ap, Vec, Box, Global, map}
+use Rattle.std.proofs.Common.{◌≡◌, List, [], ◌∷◌, ◌++◌, ◌∙◌, refl, sym, ap, Vec, Global, map}
+use Rattle.std.specs.declared.sync.Arc.{Arc}
 use Rattle.tt_game.specs.declared.turns.Turn.{Turn}
 use Rattle.tt_proof.specs.declared.tree.Tree.{Tree, fold-roll-Tree, Done, Pick, Reply}
 use Rattle.tt_proof.specs.declared.tree.Tree.TheVariants.{rolls-Done, rolls-Pick, rolls-Reply}
@@ -10,7 +11,7 @@ pub strategy_of_done : strategy_of Done ≡ done
 unfolding strategy_of
 strategy_of_done = ap strategy_of (sym rolls-Done) ∙ fold-roll-Tree Strategy strategy_step layer.Done
 
-pub strategy_of_pick : (t : Turn) (b : Box Tree Global) → strategy_of (Pick t b) ≡ pick t (strategy_of b.value)
+pub strategy_of_pick : (t : Turn) (b : Arc Tree Global) → strategy_of (Pick t b) ≡ pick t (strategy_of b.value)
 unfolding strategy_of
 strategy_of_pick t b = ap strategy_of (sym (rolls-Pick t b)) ∙ fold-roll-Tree Strategy strategy_step (layer.Pick t b)
 
@@ -18,10 +19,10 @@ pub entries_map : (es : List (Turn × Tree)) → entries_of (map (λ e. (e.0, st
 entries_map [] = refl
 entries_map (e ∷ es) = ap (λ r. entry e.0 (strategy_of e.1) r) (entries_map es)
 
-pub strategy_of_reply : (v : Vec (Turn × Tree) Global) → strategy_of (Reply v) ≡ reply (entries_of_trees v.items)
+pub strategy_of_reply : (b : Arc (Vec (Turn × Tree) Global) Global) → strategy_of (Reply b) ≡ reply (entries_of_trees b.value.items)
 unfolding strategy_of
-strategy_of_reply v =
-    ap strategy_of (sym (rolls-Reply v)) ∙ fold-roll-Tree Strategy strategy_step (layer.Reply v) ∙ ap reply (entries_map v.items)
+strategy_of_reply b =
+    ap strategy_of (sym (rolls-Reply b)) ∙ fold-roll-Tree Strategy strategy_step (layer.Reply b) ∙ ap reply (entries_map b.value.items)
 
 -- the list, and then es
 abbrev pub before : List (Turn × Tree) → Entries → Entries

@@ -1,5 +1,6 @@
 -- What public contracts cite.
 pub mod Strategy
+pub mod Nodes
 pub mod Wins
 pub mod Laws
 pub mod Proven

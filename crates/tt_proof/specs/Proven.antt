@@ -47,8 +47,3 @@ abbrev pub first_of : Strategy → Option Turn
 first_of done = None
 first_of (pick t u) = Some t
 first_of (reply es) = None
-
--- a proof of the same tree and side at this state, or none where the tree does not win there
-abbrev pub IsFoundAt : Proven → Frame → State → Option Proven → Type 0
-IsFoundAt p f s None = ¬ Wins p.side f p.tree s
-IsFoundAt p f s (Some q) = StandsAt q f s × (q.side ≡ p.side) × (q.tree ≡ p.tree)

@@ -60,7 +60,7 @@ entries_of (e ∷ es) = entry e.0 e.1 (entries_of es)
 abbrev pub strategy_step : layer.Tree-F Strategy → Strategy
 strategy_step layer.Done = done
 strategy_step (layer.Pick t b) = pick t b.value
-strategy_step (layer.Reply v) = reply (entries_of v.items)
+strategy_step (layer.Reply b) = reply (entries_of b.value.items)
 
 -- the strategy that a tree is, whatever memory it lies in
 unfoldable pub strategy_of : Tree → Strategy

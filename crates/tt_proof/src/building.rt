@@ -5,6 +5,7 @@ ghost use Rattle.tt_proof.specs.Strategy.{done, pick, reply, strategy_of, entrie
 
 use crate::tree::Tree;
 use std::alloc::Global;
+use std::sync::Arc;
 use tt_game::Turn;
 use tt_sgf::NoMemory;
 
@@ -22,14 +23,14 @@ impl Tree {
     pub fn pick(alloc: Global, turn: Turn, child: Tree) -> Result<Tree, NoMemory>
         ensures { IfOk result (λ t. strategy_of t ≡ pick turn (strategy_of child)) }
     {
-        Ok(Tree::Pick(turn, Box::new(alloc, child)?))
+        Ok(Tree::Pick(turn, Arc::new(alloc, child)?))
     }
 
     /// The tree that answers each of the listed turns with its own tree.
     #[tactic(auto, using(crate::proofs::StrategyLemmas::strategy_of_reply))]
-    pub fn reply(entries: Vec<(Turn, Tree)>) -> Tree
-        ensures { strategy_of result ≡ reply (entries_of_trees entries.items) }
+    pub fn reply(alloc: Global, entries: Vec<(Turn, Tree)>) -> Result<Tree, NoMemory>
+        ensures { IfOk result (λ t. strategy_of t ≡ reply (entries_of_trees entries.items)) }
     {
-        Tree::Reply(entries)
+        Ok(Tree::Reply(Arc::new(alloc, entries)?))
     }
 }

@@ -10,6 +10,7 @@ ghost use Rattle.tt_proof.specs.CertificateFaults.{IsFault, code_of};
 
 use crate::tree::Tree;
 use std::alloc::{AllocError, AllocFailed, Global};
+use std::sync::Arc;
 use tt_game::{Side, Turn};
 use tt_sgf::{Point, Size};
 
@@ -148,7 +149,7 @@ fn read_pick(alloc: Global, bytes: &[u8], size: Size, left: u16) -> Result<(Tree
             }
             match read_tree(alloc, after, size, left - 1) {
                 Err(fault) => Err(fault),
-                Ok((child, rest)) => match Box::new(alloc, child) {
+                Ok((child, rest)) => match Arc::new(alloc, child) {
                     Ok(child) => Ok((Tree::Pick(turn, child), rest)),
                     Err(_) => Err(CertFault::NoMemory),
                 },
@@ -168,8 +169,11 @@ fn read_reply(
         (λ e. FaultAt size left (63 ∷ bytes.now) e) }
 {
     match read_entries(alloc, bytes, size, left) {
-        Ok((list, rest)) => Ok((Tree::Reply(list), rest)),
         Err(fault) => Err(fault),
+        Ok((list, rest)) => match Arc::new(alloc, list) {
+            Ok(list) => Ok((Tree::Reply(list), rest)),
+            Err(_) => Err(CertFault::NoMemory),
+        },
     }
 }
 

@@ -1,6 +1,6 @@
 //! Writes certificates.
 
-ghost use Rattle.std.specs.Prelude.{◌≡◌, ◌<◌, ◌≤◌, ◌+◌, ◌/◌, ◌++◌, ◌∷◌, [], OnOk, IfOk};
+ghost use Rattle.std.specs.Prelude.{◌≡◌, ◌<◌, ◌≤◌, ◌+◌, ◌/◌, ◌++◌, ◌∷◌, [], OnOk, OnErr, IfOk};
 ghost use Rattle.tt_sgf.specs.Sizes.{point_count};
 ghost use Rattle.tt_proof.specs.Strategy.{depth, strategy_of, entries_of_trees, IsOnBoard, IsInOrder, AreInOrder};
 ghost use Rattle.tt_proof.specs.CertificateText.{turn_text, tree_text, entries_text, certificate_text};
@@ -31,25 +31,19 @@ fn letter_of_row(p: Point, size: Size) -> u8
     letter(p.number() / size.columns())
 }
 
-/// Writes the text of a turn behind the bytes: the letters of its column and row, or `--` for a pass.
+/// Writes the text of a turn behind the bytes: the letters of its column and row, or `--` for a pass. Where memory is
+/// refused nothing is written.
 pub fn put_turn(out: &mut Vec<u8>, turn: Turn, size: Size) -> Result<(), NoMemory>
     requires { IsOnBoard size turn }
-    ensures { OnOk result (out.new.items ≡ out.old.items ++ turn_text size turn) }
+    ensures ok { OnOk result (out.new.items ≡ out.old.items ++ turn_text size turn) }
+    ensures err { OnErr result (out.new.items ≡ out.old.items) }
 {
-    match turn {
-        Turn::Play(p) => {
-            let column = letter(p.number() % size.columns());
-            let row = letter_of_row(p, size);
-            put(out, column)?;
-            put(out, row)?;
-            Ok(())
-        }
-        Turn::Pass => {
-            put(out, b'-')?;
-            put(out, b'-')?;
-            Ok(())
-        }
-    }
+    let text = match turn {
+        Turn::Play(p) => [letter(p.number() % size.columns()), letter_of_row(p, size)],
+        Turn::Pass => [b'-', b'-'],
+    };
+    out.extend_from_slice(&text)?;
+    Ok(())
 }
 
 #[cycle(put)]

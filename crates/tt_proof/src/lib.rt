@@ -4,14 +4,16 @@
 mod building;
 mod certificate_read;
 mod certificate_write;
-mod depths;
 pub mod laws;
+mod measures;
+mod plan;
 mod proven;
 mod replays;
 mod tree;
 
 pub use certificate_read::{CertFault, read_cert};
 pub use certificate_write::{put_turn, write_cert};
+pub use plan::{Plan, Replies};
 pub use proven::{Proof, Rejected};
 pub use replays::replay;
 pub use tree::Tree;

@@ -1,15 +1,16 @@
 //! Proofs: trees that win.
 
-ghost use Rattle.std.specs.Prelude.{◌≡◌, ◌≢◌, ◌↔◌, ◌≤◌, ◌+◌, IfOk, IfErr, IsTrue, None, Some};
+ghost use Rattle.std.specs.Prelude.{◌≡◌, ◌≢◌, ◌↔◌, ◌≤◌, ◌+◌, ◌-◌, ◌^◌, min, IfOk, IfErr, IsTrue, None, Some};
 ghost use Rattle.tt_game.specs.Game.{winner_of, opponent, IsLegal, after};
 ghost use Rattle.tt_game.specs.Turns.{legal_turns};
 ghost use Rattle.tt_game.specs.Keys.{key_of};
 ghost use Rattle.tt_game.specs.declared.turns.Turn.{Turn};
 ghost use Rattle.tt_proof.specs.Strategy.{pick, reply, done, depth, strategy_of, IsInOrder, entries_of};
-ghost use Rattle.tt_proof.specs.Proven.{IsWon, StandsAt, IsChild, AreChildren, IsFoundAt, turns_of, trees_of, first_of};
+ghost use Rattle.tt_proof.specs.Nodes.{nodes};
+ghost use Rattle.tt_proof.specs.Proven.{IsWon, StandsAt, IsChild, AreChildren, turns_of, trees_of, first_of};
 ghost use Rattle.tt_proof.specs.Rejections.{IsRejected};
 
-use crate::depths::depth_of;
+use crate::plan::{Plan, Replies};
 use crate::replays::replay;
 use crate::tree::Tree;
 use std::alloc::Global;
@@ -23,23 +24,22 @@ use tt_sgf::NoMemory;
 pub struct Proof {
     past: Past,
     side: Side,
-    tree: Tree,
+    plan: Plan,
 }
 
 impl Model for Proof {
     ghost use Rattle.std.specs.Coded.{codes};
     ghost use Rattle.tt_sgf.specs.contracts.sets.PointSet as points;
     ghost use Rattle.tt_proof.specs.Proven.{Proven, IsWon};
-    ghost use Rattle.tt_proof.specs.Strategy.{strategy_of};
     ghost use Rattle.tt_proof.specs.StrategyCode.{strategy_code};
 
     ghost Value = { Proven };
 
     ghost coded = { Prim.hlevel (codes, points.the_row.coded, strategy_code) };
 
-    ghost view = { λ p. record { frame = p.past.frame; state = p.past.state; side = p.side; tree = strategy_of p.tree } };
+    ghost view = { λ p. record { frame = p.past.frame; state = p.past.state; side = p.side; tree = p.plan } };
 
-    ghost invariant = { λ p. IsWon p.side p.past.frame p.past.state (strategy_of p.tree) };
+    ghost invariant = { λ p. IsWon p.side p.past.frame p.past.state p.plan };
 }
 
 /// Why a tree was not made a proof. The tree comes back.
@@ -63,14 +63,22 @@ impl Proof {
         ensures tree { strategy_of result.now ≡ self.now.tree }
         ensures wins { IsWon self.now.side self.now.frame self.now.state self.now.tree }
     {
-        &self.tree
+        self.plan.tree()
+    }
+
+    /// The tree with its measures.
+    pub fn plan(&self) -> &Plan
+        ensures plan { result.now ≡ self.now.tree }
+        ensures wins { IsWon self.now.side self.now.frame self.now.state self.now.tree }
+    {
+        &self.plan
     }
 
     /// The turn that the side plays first, where it is to move.
     pub fn first(&self) -> Option<Turn>
         ensures { result ≡ first_of self.now.tree }
     {
-        match &self.tree {
+        match self.plan.tree() {
             Tree::Pick(turn, _) => Some(*turn),
             Tree::Done => None,
             Tree::Reply(_) => None,
@@ -82,7 +90,14 @@ impl Proof {
         ensures depth { result ≡ depth self.now.tree }
         ensures low { result ≤ 512 }
     {
-        depth_of(&self.tree)
+        self.plan.depth()
+    }
+
+    /// How many nodes the tree has, or the greatest `u64` where they are more.
+    pub fn nodes(&self) -> u64
+        ensures { result ≡ min (nodes self.now.tree) (2 ^ 64 - 1) }
+    {
+        self.plan.nodes()
     }
 
     /// The key of the proof's own position.
@@ -122,25 +137,10 @@ impl Proof {
                 Ok(past) => Ok(Proof {
                     past,
                     side: s,
-                    tree: t,
+                    plan: Plan::of(t),
                 }),
                 Err(_) => Err(Rejected::NoMemory(t)),
             },
-        }
-    }
-
-    /// A proof of the found proof's tree at the line, or none exactly where the tree doesn't win there. The found
-    /// proof is of a board of the line's size. The line stands as before.
-    pub fn at(alloc: Global, line: &mut Line, found: &Proof) -> Result<Option<Proof>, NoMemory>
-        requires { found.now.frame.size ≡ line.old.frame.size }
-        ensures made { IfOk result (λ found_there. IsFoundAt found.now line.old.frame line.old.state found_there) }
-        ensures same { line.new ≡ line.old }
-    {
-        let tree = found.tree.try_copy(alloc)?;
-        match Proof::replayed(line, found.side, tree) {
-            Ok(proof) => Ok(Some(proof)),
-            Err(Rejected::NotWinning(_)) => Ok(None),
-            Err(Rejected::NoMemory(_)) => Err(NoMemory),
         }
     }
 
@@ -156,7 +156,7 @@ impl Proof {
                 Ok(Proof {
                     past,
                     side,
-                    tree: Tree::Done,
+                    plan: Plan::done(),
                 })
             }
             None => unreachable!(),
@@ -174,15 +174,11 @@ impl Proof {
         let Proof {
             past: _,
             side,
-            tree,
+            plan,
         } = child;
         let past = line.past()?;
-        let tree = Box::new(alloc, tree)?;
-        Ok(Proof {
-            past,
-            side,
-            tree: Tree::Pick(t, tree),
-        })
+        let plan = Plan::pick(alloc, t, plan)?;
+        Ok(Proof { past, side, plan })
     }
 
     /// The proof that answers each turn of the other side with that turn's child. The children are those of all legal
@@ -199,33 +195,34 @@ impl Proof {
         ensures { IfOk result (λ p. StandsAt p line.now.frame line.now.state × (p.side ≡ opponent line.now.state.to_move)
             × (p.tree ≡ reply (entries_of (trees_of children.items)))) }
     {
-        let mut trees = Vec::new(alloc);
+        let mut replies = Replies::with_capacity(alloc, children.len())?;
         for (turn, child) in children {
             let Proof {
                 past: _,
                 side: _,
-                tree,
+                plan,
             } = child;
-            trees.push((turn, tree))?;
+            replies.push(turn, plan)?;
         }
         let past = line.past()?;
+        let plan = replies.into_plan(alloc)?;
         Ok(Proof {
             past,
             side: line.to_move().opponent(),
-            tree: Tree::Reply(trees),
+            plan,
         })
     }
 
-    /// The proof of a tree that is known to win at the line. No turn is played for it.
-    pub fn winning(line: &Line, s: Side, t: Tree) -> Result<Proof, NoMemory>
-        requires { IsWon s line.now.frame line.now.state (strategy_of t) }
-        ensures { IfOk result (λ p. StandsAt p line.now.frame line.now.state × (p.side ≡ s) × (p.tree ≡ strategy_of t)) }
+    /// The proof of a plan that is known to win at the line. No turn is played for it, and its tree is not looked at.
+    pub fn winning(line: &Line, s: Side, plan: Plan) -> Result<Proof, NoMemory>
+        requires { IsWon s line.now.frame line.now.state plan }
+        ensures { IfOk result (λ p. StandsAt p line.now.frame line.now.state × (p.side ≡ s) × (p.tree ≡ plan)) }
     {
         let past = line.past()?;
         Ok(Proof {
             past,
             side: s,
-            tree: t,
+            plan,
         })
     }
 }

@@ -193,18 +193,6 @@ fn text_of(alloc: Global, proof: &Proof, line: &Line) -> Result<Vec<u8>, Fail> {
     }
 }
 
-/// The certificate of the found proof's tree at the line, where it wins there.
-fn text_there(alloc: Global, found: &Proof, line: &mut Line) -> Result<Vec<u8>, Fail> {
-    if !found.stands_at(line) {
-        return Err(Fail::from("not at the line"));
-    }
-    match Proof::at(alloc, line, found) {
-        Ok(Some(proof)) => text_of(alloc, &proof, line),
-        Ok(None) => Err(Fail::from("not winning")),
-        Err(_) => Err(Fail::from("no memory")),
-    }
-}
-
 fn problem_line(alloc: Global, record: &[u8]) -> Result<Line, Fail> {
     match line_of(alloc, record) {
         Ok(line) => Ok(line),
@@ -219,10 +207,10 @@ fn attacker_proof(rt: HostRuntime) -> Result<(), Fail> {
     let mut line = problem_line(alloc, b"(;SZ[4:1]AW[ba][da]PL[B]TR[ba])")?;
     let found = replayed(alloc, &mut line, text)?;
     assert_eq!(rt; text_of(alloc, &found, &line)?.as_slice(), text);
-    assert_eq!(rt; text_there(alloc, &found, &mut line)?.as_slice(), text);
     assert!(&rt; found.side() == Side::Attacker);
     assert!(&rt; found.first() == Some(play(&line, 2)?));
     assert_eq!(rt; found.depth(), 3);
+    assert_eq!(rt; found.nodes(), 5);
     assert!(&rt; found.has_key(&line.key()));
     let mut asked = after(&line, &play(&line, 2)?)?;
     let taken = after(&asked, &play(&line, 0)?)?;

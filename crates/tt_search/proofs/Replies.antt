@@ -3,26 +3,25 @@ use Rattle.std.proofs.Common.{◌≡◌, ℕ, zero, suc, ◌+◌, ◌<◌, ◌�
 use Rattle.std.proofs.lemmas.List.{drop_all}
 use Rattle.tt_game.specs.declared.frame.Side.{Side}
 use Rattle.tt_game.specs.declared.turns.Turn.{Turn}
-use Rattle.tt_proof.specs.declared.tree.Tree.{Tree}
-use Rattle.tt_proof.specs.Strategy.{Strategy, Entries, done, pick, none, entry, strategy_of, entries_of_trees}
+use Rattle.tt_proof.specs.Strategy.{Strategy, Entries, done, pick, none, entry, entries_of}
 use Rattle.tt_search.specs.PartialTree.{PartialTree}
 use Rattle.tt_search.specs.Weight.{weight, weight_all}
 use Rattle.tt_search.specs.Children.{children_of}
 use Rattle.tt_search.specs.Settled.{strategy_for, pick_at, replies}
 use Rattle.tt_search.proofs.Lifted.{weight_at}
 
--- the entries of a list of trees, and others behind them
-abbrev pub joined : List (Turn × Tree) → Entries → Entries
+-- the entries of a list of strategies, and others behind them
+abbrev pub joined : List (Turn × Strategy) → Entries → Entries
 joined [] es = es
-joined (x ∷ xs) es = entry x.0 (strategy_of x.1) (joined xs es)
+joined (x ∷ xs) es = entry x.0 x.1 (joined xs es)
 
-pub joined_none : (xs : List (Turn × Tree)) → joined xs none ≡ entries_of_trees xs
+pub joined_none : (xs : List (Turn × Strategy)) → joined xs none ≡ entries_of xs
 joined_none [] = refl
-joined_none (x ∷ xs) = ap (entry x.0 (strategy_of x.1)) (joined_none xs)
+joined_none (x ∷ xs) = ap (entry x.0 x.1) (joined_none xs)
 
-pub joined_push : (xs : List (Turn × Tree)) (x : Turn × Tree) (es : Entries) → joined (xs ++ x ∷ []) es ≡ joined xs (entry x.0 (strategy_of x.1) es)
+pub joined_push : (xs : List (Turn × Strategy)) (x : Turn × Strategy) (es : Entries) → joined (xs ++ x ∷ []) es ≡ joined xs (entry x.0 x.1 es)
 joined_push [] x es = refl
-joined_push (y ∷ ys) x es = ap (entry y.0 (strategy_of y.1)) (joined_push ys x es)
+joined_push (y ∷ ys) x es = ap (entry y.0 y.1) (joined_push ys x es)
 
 -- the replies from a place on
 abbrev pub replies_from : Side → List Turn → List PartialTree → ℕ → Entries
@@ -71,16 +70,6 @@ pick_past_trees side (u ∷ us) (tree ∷ trees) (suc i) l = pick_past_trees sid
 -- ---- what the loops and calls say
 
 module _ (side : Side) (turns : List Turn) (trees : List PartialTree) where
-  pub finished : (xs : List (Turn × Tree)) (i : ℕ) (whole : Entries) → joined xs (replies_from side turns trees i) ≡ whole → replies_from side turns trees i ≡ none → entries_of_trees xs ≡ whole
-  finished xs i whole h e = sym (joined_none xs) ∙ ap (joined xs) (sym e) ∙ h
-
-  pub pushed : (xs ys : List (Turn × Tree)) (i : ℕ) (t : Turn) (child : PartialTree) (tree : Tree) (whole : Entries) → joined xs (replies_from side turns trees i) ≡ whole → ys ≡ xs ++ (t, tree) ∷ [] → strategy_of tree ≡ strategy_for side child → t ≡ get_or turns i t → child ≡ get_or trees i child → i < length turns → i < length trees → joined ys (replies_from side turns trees (i + 1)) ≡ whole
-  pushed xs ys i t child tree whole h p s a b l k =
-      let rest : Entries = replies_from side turns trees (i + 1) in
-      let more : replies_from side turns trees i ≡ entry t (strategy_of tree) rest =
-      replies_more side turns trees i t child l k ∙ ap (λ u. entry u (strategy_for side (get_or trees i child)) rest) (sym a) ∙ ap (λ c. entry t (strategy_for side c) rest) (sym b) ∙ ap (λ u. entry t u rest) (sym s) in
-      ap (λ zs. joined zs rest) p ∙ joined_push xs (t, tree) rest ∙ ap (joined xs) (sym more) ∙ h
-
   pub picked : (i : ℕ) (t : Turn) (child : PartialTree) (u : Strategy) → t ≡ get_or turns i t → child ≡ get_or trees i child → u ≡ strategy_for side child → i < length turns → i < length trees → pick t u ≡ pick_at side i turns (children_of trees)
   picked i t child u a b s l k =
       ap (pick t) (s ∙ ap (strategy_for side) b) ∙ ap (λ v. pick v (strategy_for side (get_or trees i child))) a ∙ sym (pick_at_place side turns trees i t child l k)

@@ -1,7 +1,8 @@
-//! The strategies and proofs of settled nodes, and their offer to a store.
+//! The strategies and proofs of settled nodes, and their offer to a store. What a node offers is a new root over trees that
+//! are there already: a found proof's tree is taken as it is.
 
 ghost use Rattle.std.specs.Prelude.{◌≡◌, ◌≤◌, ◌<◌, length, IfOk, MatchOption};
-ghost use Rattle.tt_proof.specs.Strategy.{reply, strategy_of};
+ghost use Rattle.tt_proof.specs.Strategy.{reply};
 ghost use Rattle.tt_proof.specs.Proven.{StandsAt};
 ghost use Rattle.tt_search.specs.Numbers.{number, IsUndecided};
 ghost use Rattle.tt_search.specs.Growing.{IsPartialTree};
@@ -19,19 +20,19 @@ use crate::walk::Walk;
 use std::alloc::Global;
 use std::sync::Arc;
 use tt_game::{Line, Side};
-use tt_proof::{Proof, Tree};
+use tt_proof::{Plan, Proof, Replies};
 use tt_sgf::NoMemory;
 
 impl Node {
     /// The strategy of a node for the side that it is settled for.
-    #[cycle(tree_of)]
-    pub(crate) fn tree(&self, alloc: Global, side: Side) -> Result<Tree, NoMemory>
-        ensures { IfOk result (λ t. strategy_of t ≡ strategy_for side self.now) }
+    #[cycle(plan_of)]
+    pub(crate) fn plan(&self, alloc: Global, side: Side) -> Result<Plan, NoMemory>
+        ensures { IfOk result (λ p. p ≡ strategy_for side self.now) }
     {
         match &self.growth {
-            Growth::Fresh => Ok(Tree::done()),
-            Growth::Won(_) => Ok(Tree::done()),
-            Growth::Closed(proof) => proof.tree().try_copy(alloc),
+            Growth::Fresh => Ok(Plan::done()),
+            Growth::Won(_) => Ok(Plan::done()),
+            Growth::Closed(proof) => proof.plan().try_clone(),
             Growth::Expanded(expansion) => {
                 let Expansion {
                     mover,
@@ -69,8 +70,8 @@ impl Node {
         ensures side { IfOk result (λ p. p.side ≡ side) }
         ensures tree { IfOk result (λ p. p.tree ≡ strategy_for side self.now) }
     {
-        let tree = self.tree(alloc, side)?;
-        Proof::winning(line, side, tree)
+        let plan = self.plan(alloc, side)?;
+        Proof::winning(line, side, plan)
     }
 
     /// Offers the proof of a settled node to the store, where the walk stands at the node, and answers whether the walk may
@@ -98,45 +99,45 @@ impl Node {
 }
 
 /// The strategy of a child, where these are the nodes of the children that have grown, from this one on.
-#[cycle(tree_of)]
-fn child_tree(alloc: Global, side: Side, edge: Edge, rest: &[Node]) -> Result<Tree, NoMemory>
-    ensures { IfOk result (λ t. strategy_of t ≡ strategy_for side (tree_of (mark_of edge) rest.now)) }
+#[cycle(plan_of)]
+fn child_plan(alloc: Global, side: Side, edge: Edge, rest: &[Node]) -> Result<Plan, NoMemory>
+    ensures { IfOk result (λ p. p ≡ strategy_for side (tree_of (mark_of edge) rest.now)) }
 {
     match edge.mark() {
-        Mark::Fresh => Ok(Tree::done()),
-        Mark::Won(_) => Ok(Tree::done()),
+        Mark::Fresh => Ok(Plan::done()),
+        Mark::Won(_) => Ok(Plan::done()),
         Mark::Grown => match rest.split_first() {
-            Some((node, _)) => node.tree(alloc, side),
-            None => Ok(Tree::done()),
+            Some((node, _)) => node.plan(alloc, side),
+            None => Ok(Plan::done()),
         },
     }
 }
 
 /// The strategy that picks the best child.
-#[cycle(tree_of)]
-fn picked(alloc: Global, side: Side, edges: &[Edge], grown: &[Node]) -> Result<Tree, NoMemory>
-    ensures { IfOk result (λ t. strategy_of t ≡ pick_at side (best side (children_of (trees_of edges.now grown.now))) (turns_of edges.now) (children_of (trees_of edges.now grown.now))) }
+#[cycle(plan_of)]
+fn picked(alloc: Global, side: Side, edges: &[Edge], grown: &[Node]) -> Result<Plan, NoMemory>
+    ensures { IfOk result (λ p. p ≡ pick_at side (best side (children_of (trees_of edges.now grown.now))) (turns_of edges.now) (children_of (trees_of edges.now grown.now))) }
 {
     let (place, rank) = best_child(side, edges, grown);
     if place >= edges.len() {
-        return Ok(Tree::done());
+        return Ok(Plan::done());
     }
     let edge = edges[place];
-    let child = child_tree(alloc, side, edge, from_rank(grown, rank))?;
-    Tree::pick(alloc, edge.turn(), child)
+    let child = child_plan(alloc, side, edge, from_rank(grown, rank))?;
+    Plan::pick(alloc, edge.turn(), child)
 }
 
 /// The strategy that replies to each turn.
-#[cycle(tree_of)]
-fn replied(alloc: Global, side: Side, edges: &[Edge], grown: &[Node]) -> Result<Tree, NoMemory>
-    ensures { IfOk result (λ t. strategy_of t ≡ reply (replies side (turns_of edges.now) (children_of (trees_of edges.now grown.now)))) }
+#[cycle(plan_of)]
+fn replied(alloc: Global, side: Side, edges: &[Edge], grown: &[Node]) -> Result<Plan, NoMemory>
+    ensures { IfOk result (λ p. p ≡ reply (replies side (turns_of edges.now) (children_of (trees_of edges.now grown.now)))) }
 {
-    let mut entries = Vec::with_capacity(alloc, edges.len())?;
+    let mut answers = Replies::with_capacity(alloc, edges.len())?;
     let mut rest = grown;
     for edge in edges {
-        let child = child_tree(alloc, side, *edge, rest)?;
-        entries.push((edge.turn(), child))?;
+        let child = child_plan(alloc, side, *edge, rest)?;
+        answers.push(edge.turn(), child)?;
         rest = behind(*edge, rest);
     }
-    Ok(Tree::reply(entries))
+    answers.into_plan(alloc)
 }

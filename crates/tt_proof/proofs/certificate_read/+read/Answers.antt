@@ -14,8 +14,8 @@ one_more n h = omega (arith, h)
 pub read_tree-returns-in-None : goal.read_tree-returns-in-None
 read_tree-returns-in-None t c = not_tree c.args.size c.args.bytes.now (λ b y e w. omega (arith, c.in-None.ensures.cases, ap length e)) c.args.left
 
-pub read_reply-returns-in-Ok : goal.read_reply-returns-in-Ok
-read_reply-returns-in-Ok t c = rw strategy_of_reply (reply_read c.args.size c.args.left _ _ _ c.in-Ok.ensures)
+pub read_reply-returns-in-Ok-new : goal.read_reply-returns-in-Ok-new
+read_reply-returns-in-Ok-new t c = rw (strategy_of_reply, c.in-Ok-new.ensures.ok) (reply_read c.args.size c.args.left _ _ _ c.in-Ok.ensures)
 
 pub read_reply-returns-in-Err : goal.read_reply-returns-in-Err
 read_reply-returns-in-Err t c = reply_fault c.args.size c.args.left _ c.in-Err.fault c.in-Err.ensures

@@ -14,7 +14,7 @@ put_tree-put_tree-requires t c =
 pub put_tree-put_entries-requires : goal.put_tree-put_entries-requires
 put_tree-put_entries-requires t c =
     let ordered = rw (c.in-Reply.is, strategy_of_reply) at c.requires.in_order in
-    (search (rules, the_lemmas), rw c.deref-in-Reply.ensures.value ordered)
+    (search (rules, the_lemmas), rw (c.deref-in-Reply-2.ensures.value, c.deref-in-Reply.ensures) ordered)
 
 pub put_tree-returns-in-Done : goal.put_tree-returns-in-Done
 put_tree-returns-in-Done t c = rw (c.in-Done.is, strategy_of_done) c.put.ensures
@@ -26,7 +26,7 @@ on_ok (Err e) P Q f h = h
 pub put_tree-returns-in_ok-put_turn-in-Pick : goal.put_tree-returns-in_ok-put_turn-in-Pick
 put_tree-returns-in_ok-put_turn-in-Pick t c =
     rw (c.in-Pick.is, strategy_of_pick, ← c.deref.ensures)
-    (on_ok c.put_tree.result _ _ (λ e. e ∙ joined _ _ _ _ _ c.in_ok-put-in-Pick.ensures c.in_ok-put_turn-in-Pick.ensures) c.put_tree.ensures)
+    (on_ok c.put_tree.result _ _ (λ e. e ∙ joined _ _ _ _ _ c.in_ok-put-in-Pick.ensures c.in_ok-put_turn-in-Pick.ensures.ok) c.put_tree.ensures)
   where
     joined : (a b d x y : List ℕ) → b ≡ a ++ (33 ∷ []) → d ≡ b ++ x → d ++ y ≡ a ++ (33 ∷ (x ++ y))
     joined a b d x y e f =
@@ -34,7 +34,7 @@ put_tree-returns-in_ok-put_turn-in-Pick t c =
 
 pub put_tree-returns-in_ok-put-in-Reply : goal.put_tree-returns-in_ok-put-in-Reply
 put_tree-returns-in_ok-put-in-Reply t c =
-    rw (c.in-Reply.is, strategy_of_reply, ← c.deref-in-Reply.ensures.value)
+    rw (c.in-Reply.is, strategy_of_reply, ← c.deref-in-Reply.ensures, ← c.deref-in-Reply-2.ensures.value)
     (on_ok c.put_entries.result _ _ (λ e. e ∙ joined _ _ _ c.in_ok-put-in-Reply.ensures) c.put_entries.ensures)
   where
     joined : (a b y : List ℕ) → b ≡ a ++ (63 ∷ []) → b ++ y ≡ a ++ (63 ∷ y)

@@ -17,7 +17,7 @@ pub replay-replay_reply-requires : goal.replay-replay_reply-requires
 replay-replay_reply-requires t c =
     let low = rw (c.in-Reply.is, strategy_of_reply) at c.requires.depth in
     let ordered = rw (c.in-Reply.is, strategy_of_reply) at c.requires.in_order in
-    (search (rules, the_lemmas), (rw c.deref-in-Reply.ensures.value low, rw c.deref-in-Reply.ensures.value ordered))
+    (search (rules, the_lemmas), (rw (c.deref-in-Reply-2.ensures.value, c.deref-in-Reply.ensures) low, rw (c.deref-in-Reply-2.ensures.value, c.deref-in-Reply.ensures) ordered))
 
 pub replay-returns-in-Pick-clause-exact : goal.replay-returns-in-Pick-clause-exact
 replay-returns-in-Pick-clause-exact t c =
@@ -25,7 +25,7 @@ replay-returns-in-Pick-clause-exact t c =
 
 pub replay-returns-in-Reply-clause-exact : goal.replay-returns-in-Reply-clause-exact
 replay-returns-in-Reply-clause-exact t c =
-    rw (c.in-Reply.is, strategy_of_reply, ← c.deref-in-Reply.ensures.value) c.replay_reply.ensures.exact
+    rw (c.in-Reply.is, strategy_of_reply, ← c.deref-in-Reply.ensures, ← c.deref-in-Reply-2.ensures.value) c.replay_reply.ensures.exact
 
 refused : (b : Bool) (P Q : Type 0) → b ≡ false → (IsTrue b ↔ P) → (Q → P) → IsTrue false ↔ Q
 refused b P Q e h from = (λ t. absurd (true≢false (sym t)), λ q. absurd (true≢false (sym (h.1 (from q)) ∙ e)))

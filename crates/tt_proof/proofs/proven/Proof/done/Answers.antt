@@ -1,16 +1,15 @@
 use Rattle.std.proofs.Common.{rules, ap}
 use Rattle.tt_game.specs.Line.{Stood}
-use Rattle.tt_proof.proofs.StrategyLemmas.{strategy_of_done}
 use Rattle.tt_proof.proofs.ProvenLemmas.{won_done}
 use Rattle.tt_proof.proofs.proven.Proof.done.Goals as goal
 
 pub invariant_of-result : goal.invariant_of-result
 invariant_of-result c =
     let own = c.in_ok-past-in-Some.ensures in
-    rw strategy_of_done
+    rw c.done.ensures
     (won_done _ c.args.line.now.frame _ c.args.line.now.state _ (ap (λ (l : Stood). l.frame) own) (ap (λ (l : Stood). l.state) own) (search rules))
 
 pub returns : goal.returns
 returns c =
     let own = c.in_ok-past-in-Some.ensures in
-    ((ap (λ (l : Stood). l.frame) own, ap (λ (l : Stood). l.state) own), search rules, strategy_of_done)
+    ((ap (λ (l : Stood). l.frame) own, ap (λ (l : Stood). l.state) own), search rules, c.done.ensures)

@@ -4,10 +4,10 @@ use Rattle.tt_proof.proofs.StrategyLemmas.{strategy_of_done, strategy_of_pick, s
 use Rattle.tt_proof.proofs.proven.Proof.first.Goals as goal
 
 pub returns-in-Done : goal.returns-in-Done
-returns-in-Done c = rw (← ap (λ (p : Proven). p.tree) c.self.view_is, c.in-Done.is, strategy_of_done)
+returns-in-Done c = rw (← ap (λ (p : Proven). p.tree) c.self.view_is, ← c.tree.ensures, c.in-Done.is, strategy_of_done)
 
 pub returns-in-Pick : goal.returns-in-Pick
-returns-in-Pick c = rw (← ap (λ (p : Proven). p.tree) c.self.view_is, c.in-Pick.is, strategy_of_pick)
+returns-in-Pick c = rw (← ap (λ (p : Proven). p.tree) c.self.view_is, ← c.tree.ensures, c.in-Pick.is, strategy_of_pick)
 
 pub returns-in-Reply : goal.returns-in-Reply
-returns-in-Reply c = rw (← ap (λ (p : Proven). p.tree) c.self.view_is, c.in-Reply.is, strategy_of_reply)
+returns-in-Reply c = rw (← ap (λ (p : Proven). p.tree) c.self.view_is, ← c.tree.ensures, c.in-Reply.is, strategy_of_reply)

@@ -1,11 +1,10 @@
-use Rattle.std.proofs.Common.{◌≡◌, ◌∙◌, ◌++◌, [], ◌∷◌, List, map, length, arith, sym, ap, subst, rules}
+use Rattle.std.proofs.Common.{◌≡◌, ◌∙◌, ◌++◌, [], ◌∷◌, List, length, arith, sym, ap, subst, rules}
 use Rattle.std.proofs.Math.Seq.{append_snoc}
-use Rattle.std.proofs.lemmas.List.{append-nil, map-append}
+use Rattle.std.proofs.lemmas.List.{append-nil}
 use Rattle.tt_game.specs.Game.{opponent}
 use Rattle.tt_game.specs.Line.{Stood}
 use Rattle.tt_proof.specs.Proven.{AreChildren, IsWon, Proven, trees_of}
-use Rattle.tt_proof.specs.Strategy.{strategy_of, reply, entries_of}
-use Rattle.tt_proof.proofs.StrategyLemmas.{strategy_of_reply, entries_map}
+use Rattle.tt_proof.specs.Strategy.{reply, entries_of}
 use Rattle.tt_proof.proofs.ProvenLemmas.{AllWon, won_reply, all_won_push, trees_of_push}
 use Rattle.tt_proof.proofs.proven.Proof.reply.Goals as goal
 
@@ -22,10 +21,8 @@ loop-turn-preserved c =
           append_snoc c.loop-turn.yielded (c.in-Some.turn, c.in-Some.child) _
           ∙ ap (λ r. c.loop-turn.yielded ++ r) (sym c.in-Some.ensures.steps.0) ∙ c.loop-turn.invariant.order;
       same =
-          let e : c.push.new.self.items ≡ c.loop-turn.trees.items ++ ((c.in-Some.turn, c.child.inside.tree) ∷ []) = search rules in
-          ap (map (λ e. (e.0, strategy_of e.1))) e
-          ∙ map-append (λ e. (e.0, strategy_of e.1)) c.loop-turn.trees.items ((c.in-Some.turn, c.child.inside.tree) ∷ [])
-          ∙ ap (λ xs. xs ++ ((c.in-Some.turn, strategy_of c.child.inside.tree) ∷ [])) c.loop-turn.invariant.same
+          c.in_ok-push.ensures
+          ∙ ap (λ xs. xs ++ ((c.in-Some.turn, c.child.inside.plan) ∷ [])) c.loop-turn.invariant.same
           ∙ ap (λ y. trees_of c.loop-turn.yielded ++ ((c.in-Some.turn, y) ∷ [])) (ap (λ (p : Proven). p.tree) c.child.view_is)
           ∙ sym (trees_of_push c.loop-turn.yielded (c.in-Some.turn, c.in-Some.child));
       won = all_won_push c.loop-turn.yielded (c.in-Some.turn, c.in-Some.child) c.loop-turn.invariant.won won;
@@ -37,7 +34,7 @@ invariant_of-result c =
     let own = c.in_ok-past.ensures in
     let left = c.loop-turn.turn-iterator.rest in
     let all = at_end c.loop-turn.yielded left.items _ c.loop-turn.invariant.order (omega (arith, left.ok.0, c.in-None.ensures.steps.0)) in
-    let same = strategy_of_reply c.loop-turn.trees ∙ ap reply (sym (entries_map c.loop-turn.trees.items) ∙ ap entries_of (c.loop-turn.invariant.same ∙ ap trees_of all)) in
+    let same = c.in_ok-plan.ensures ∙ ap (λ es. reply (entries_of es)) (c.loop-turn.invariant.same ∙ ap trees_of all) in
     rw same
     (won_reply c.args.line.now.frame c.args.line.now.state _ _ _ c.args.children.items (ap (λ (l : Stood). l.frame) own) (ap (λ (l : Stood). l.state) own)
         (c.opponent.ensures ∙ ap opponent c.to_move.ensures) c.requires.nobody
@@ -50,14 +47,13 @@ returns c =
     let all = at_end c.loop-turn.yielded left.items _ c.loop-turn.invariant.order (omega (arith, left.ok.0, c.in-None.ensures.steps.0)) in (
       (ap (λ (l : Stood). l.frame) own, ap (λ (l : Stood). l.state) own),
       c.opponent.ensures ∙ ap opponent c.to_move.ensures,
-      strategy_of_reply c.loop-turn.trees
-          ∙ ap reply (sym (entries_map c.loop-turn.trees.items) ∙ ap entries_of (c.loop-turn.invariant.same ∙ ap trees_of all)),
+      c.in_ok-plan.ensures ∙ ap (λ es. reply (entries_of es)) (c.loop-turn.invariant.same ∙ ap trees_of all),
     )
 
 pub loop-turn-init : goal.loop-turn-init
 loop-turn-init c = record {
   order = c.into_iter-turn-iterator.ensures.into_iter_gives.0;
-  same = ap (map (λ e. (e.0, strategy_of e.1))) c.new-trees.ensures.items;
+  same = c.in_ok-replies.ensures;
   won = tt;
   left = rw c.into_iter-turn-iterator.ensures.into_iter_gives.0 c.requires.children;
 }

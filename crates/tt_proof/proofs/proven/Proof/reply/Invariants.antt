@@ -1,14 +1,13 @@
-use Rattle.std.proofs.Common.{◌≡◌, ◌++◌, map}
+use Rattle.std.proofs.Common.{◌≡◌, ◌++◌}
 use Rattle.std.specs.Vec.Iter.{into_iter_items}
 use Rattle.tt_proof.specs.Proven.{AreChildren, trees_of}
-use Rattle.tt_proof.specs.Strategy.{strategy_of}
 use Rattle.tt_proof.proofs.ProvenLemmas.{AllWon}
 use Rattle.tt_proof.proofs.proven.Proof.reply.Given as goal
 
 abbrev pub invariant-loop-turn : goal.invariant-loop-turn
 invariant-loop-turn l = record {
   order : l.yielded ++ into_iter_items l.turn-iterator ≡ l.fn.children.items;
-  same : map (λ e. (e.0, strategy_of e.1)) l.trees.items ≡ trees_of l.yielded;
+  same : l.replies ≡ trees_of l.yielded;
   won : AllWon l.yielded;
   left : AreChildren l.line.frame l.line.state (into_iter_items l.turn-iterator);
 }

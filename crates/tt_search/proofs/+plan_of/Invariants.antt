@@ -4,13 +4,13 @@ use Rattle.tt_search.specs.Edges.{turns_of, trees_of, tree_of, mark_of}
 use Rattle.tt_search.specs.Settled.{replies}
 use Rattle.tt_search.specs.Weight.{weight, weight_all}
 use Rattle.tt_search.proofs.Replies.{joined}
-use Rattle.tt_search.proofs.+tree_of.Given as goal
+use Rattle.tt_search.proofs.+plan_of.Given as goal
 
-abbrev pub decreases-node::Node::tree : goal.decreases-node::Node::tree
-decreases-node::Node::tree l = weight l.self.now * 3 + 2
+abbrev pub decreases-node::Node::plan : goal.decreases-node::Node::plan
+decreases-node::Node::plan l = weight l.self.now * 3 + 2
 
-abbrev pub decreases-settled::child_tree : goal.decreases-settled::child_tree
-decreases-settled::child_tree l = weight (tree_of (mark_of l.edge) l.rest.now) * 3 + 3
+abbrev pub decreases-settled::child_plan : goal.decreases-settled::child_plan
+decreases-settled::child_plan l = weight (tree_of (mark_of l.edge) l.rest.now) * 3 + 3
 
 abbrev pub decreases-settled::picked : goal.decreases-settled::picked
 decreases-settled::picked l = weight_all (children_of (trees_of l.edges.now l.grown.now)) * 3 + 1
@@ -20,6 +20,6 @@ decreases-settled::replied l = weight_all (children_of (trees_of l.edges.now l.g
 
 abbrev pub invariant-settled::replied-loop-edge : goal.invariant-settled::replied-loop-edge
 invariant-settled::replied-loop-edge l = record {
-  made : joined l.entries.items (replies l.side (turns_of (drop l.edge-index l.edges)) (children_of (trees_of (drop l.edge-index l.edges) l.rest))) ≡ replies l.side (turns_of l.edges) (children_of (trees_of l.edges l.grown));
+  made : joined l.answers (replies l.side (turns_of (drop l.edge-index l.edges)) (children_of (trees_of (drop l.edge-index l.edges) l.rest))) ≡ replies l.side (turns_of l.edges) (children_of (trees_of l.edges l.grown));
   lighter : weight_all (children_of (trees_of (drop l.edge-index l.edges) l.rest)) ≤ weight_all (children_of (trees_of l.edges l.grown));
 }

@@ -1,0 +1,16 @@
+-- The measures of a list of replies with one more at its end.
+use Rattle.std.proofs.Common.{◌≡◌, ◌+◌, ◌++◌, [], ◌∷◌, List, max, arith}
+use Rattle.tt_game.specs.declared.turns.Turn.{Turn}
+use Rattle.tt_proof.specs.declared.tree.Tree.{Tree}
+use Rattle.tt_proof.specs.Strategy.{depth, depth_of_entries, strategy_of, entries_of_trees}
+use Rattle.tt_proof.specs.Nodes.{nodes, nodes_of_entries}
+
+pub depth_push : (es : List (Turn × Tree)) (e : Turn × Tree) →
+    depth_of_entries (entries_of_trees (es ++ e ∷ [])) ≡ max (depth_of_entries (entries_of_trees es)) (depth (strategy_of e.1) + 1)
+depth_push [] e = omega arith
+depth_push (x ∷ es) e = omega (arith, depth_push es e)
+
+pub nodes_push : (es : List (Turn × Tree)) (e : Turn × Tree) →
+    nodes_of_entries (entries_of_trees (es ++ e ∷ [])) ≡ nodes_of_entries (entries_of_trees es) + nodes (strategy_of e.1)
+nodes_push [] e = omega arith
+nodes_push (x ∷ es) e = omega (arith, nodes_push es e)

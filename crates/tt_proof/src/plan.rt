@@ -1,0 +1,167 @@
+//! Trees with their measures.
+
+ghost use Rattle.std.specs.Prelude.{◌≡◌, ◌++◌, ◌∷◌, [], ◌-◌, ◌^◌, min, OnOk, IfOk};
+ghost use Rattle.tt_proof.specs.Strategy.{done, pick, reply, depth, strategy_of, entries_of};
+ghost use Rattle.tt_proof.specs.Nodes.{nodes};
+
+use crate::measures::measures;
+use crate::tree::Tree;
+use std::alloc::Global;
+use std::marker::Model;
+use tt_game::Turn;
+use tt_sgf::NoMemory;
+
+/// A tree that knows how deep it is and how many nodes it has, so that neither is counted again when it becomes a part of
+/// other trees.
+#[derive(Drop)]
+pub struct Plan {
+    tree: Tree,
+    levels: u16,
+    size: u64,
+}
+
+impl Model for Plan {
+    ghost use Rattle.std.specs.Prelude.{◌≡◌, ◌-◌, ◌^◌, min};
+    ghost use Rattle.tt_proof.specs.Nodes.{nodes};
+    ghost use Rattle.tt_proof.specs.Strategy.{Strategy, depth, strategy_of};
+    ghost use Rattle.tt_proof.specs.StrategyCode.{strategy_code};
+
+    ghost Value = { Strategy };
+
+    ghost coded = { strategy_code };
+
+    ghost view = { λ p. strategy_of p.tree };
+
+    ghost invariant = { λ p. (p.levels ≡ min (depth (strategy_of p.tree)) (2 ^ 16 - 1)) × (p.size ≡ min (nodes (strategy_of p.tree)) (2 ^ 64 - 1)) };
+}
+
+/// Turns of the other side, each with the plan that answers it, from which a plan is made.
+#[derive(Drop)]
+pub struct Replies {
+    entries: Vec<(Turn, Tree)>,
+    levels: u16,
+    size: u64,
+}
+
+impl Model for Replies {
+    ghost use Rattle.std.specs.Prelude.{◌≡◌, ◌+◌, ◌-◌, ◌^◌, min, List, map};
+    ghost use Rattle.std.specs.Coded.{codes};
+    ghost use Rattle.tt_game.specs.contracts.turns.Turn as turns;
+    ghost use Rattle.tt_game.specs.declared.turns.Turn.{Turn};
+    ghost use Rattle.tt_proof.specs.Nodes.{nodes_of_entries};
+    ghost use Rattle.tt_proof.specs.Strategy.{Strategy, depth_of_entries, strategy_of, entries_of_trees};
+    ghost use Rattle.tt_proof.specs.StrategyCode.{strategy_code};
+
+    ghost Value = { List (Turn × Strategy) };
+
+    ghost coded = { Prim.hlevel (codes, turns.the_row.coded, strategy_code) };
+
+    ghost view = { λ r. map (λ e. (e.0, strategy_of e.1)) r.entries.items };
+
+    ghost invariant = { λ r. (r.levels ≡ min (depth_of_entries (entries_of_trees r.entries.items)) (2 ^ 16 - 1)) × (r.size ≡ min (nodes_of_entries (entries_of_trees r.entries.items) + 1) (2 ^ 64 - 1)) };
+}
+
+impl Plan {
+    /// The tree, measured once.
+    pub(crate) fn of(tree: Tree) -> Plan
+        ensures { result ≡ strategy_of tree }
+    {
+        let (levels, size) = measures(&tree);
+        Plan { tree, levels, size }
+    }
+
+    /// The plan that plays nothing more.
+    pub fn done() -> Plan
+        ensures { result ≡ done }
+    {
+        Plan {
+            tree: Tree::Done,
+            levels: 0,
+            size: 1,
+        }
+    }
+
+    /// The plan that plays the turn and goes on with the child.
+    pub fn pick(alloc: Global, turn: Turn, child: Plan) -> Result<Plan, NoMemory>
+        ensures { IfOk result (λ p. p ≡ pick turn child) }
+    {
+        let Plan { tree, levels, size } = child;
+        let tree = Tree::pick(alloc, turn, tree)?;
+        Ok(Plan {
+            tree,
+            levels: levels.saturating_add(1),
+            size: size.saturating_add(1),
+        })
+    }
+
+    /// Another handle of the same plan. It takes no memory.
+    pub fn try_clone(&self) -> Result<Plan, NoMemory>
+        ensures { IfOk result (λ p. p ≡ self.now) }
+    {
+        let tree = self.tree.try_clone()?;
+        Ok(Plan {
+            tree,
+            levels: self.levels,
+            size: self.size,
+        })
+    }
+
+    /// The tree.
+    pub fn tree(&self) -> &Tree
+        ensures { strategy_of result.now ≡ self.now }
+    {
+        &self.tree
+    }
+
+    /// How many turns the longest way down has: at most 65,535, which stands for more, too.
+    pub fn depth(&self) -> u16
+        ensures { result ≡ min (depth self.now) (2 ^ 16 - 1) }
+    {
+        self.levels
+    }
+
+    /// How many nodes there are, or the greatest `u64` where they are more.
+    pub fn nodes(&self) -> u64
+        ensures { result ≡ min (nodes self.now) (2 ^ 64 - 1) }
+    {
+        self.size
+    }
+}
+
+impl Replies {
+    /// No turn yet, with room for so many.
+    pub fn with_capacity(alloc: Global, capacity: usize) -> Result<Replies, NoMemory>
+        ensures { IfOk result (λ r. r ≡ []) }
+    {
+        let entries = Vec::with_capacity(alloc, capacity)?;
+        Ok(Replies {
+            entries,
+            levels: 0,
+            size: 1,
+        })
+    }
+
+    /// Adds a turn, with the plan that answers it.
+    pub fn push(&mut self, turn: Turn, child: Plan) -> Result<(), NoMemory>
+        ensures { OnOk result (self.new ≡ self.old ++ (turn, child) ∷ []) }
+    {
+        let Plan { tree, levels, size } = child;
+        self.entries.push((turn, tree))?;
+        self.levels = self.levels.max(levels.saturating_add(1));
+        self.size = self.size.saturating_add(size);
+        Ok(())
+    }
+
+    /// The plan that answers each of the turns.
+    pub fn into_plan(self, alloc: Global) -> Result<Plan, NoMemory>
+        ensures { IfOk result (λ p. p ≡ reply (entries_of self)) }
+    {
+        let Replies {
+            entries,
+            levels,
+            size,
+        } = self;
+        let tree = Tree::reply(alloc, entries)?;
+        Ok(Plan { tree, levels, size })
+    }
+}
