@@ -55,7 +55,7 @@ pub(crate) fn posed(alloc: Global, text: &[u8]) -> Result<Line, Fail> {
 }
 
 /// Writes a space and the turn.
-fn put_first(out: &mut Vec<u8>, size: Size, first: &Option<Turn>) -> Result<(), Fail> {
+pub(crate) fn put_first(out: &mut Vec<u8>, size: Size, first: &Option<Turn>) -> Result<(), Fail> {
     match first {
         None => Ok(()),
         Some(Turn::Pass) => Ok(out.extend_from_slice(b" pass")?),
