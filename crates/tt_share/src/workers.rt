@@ -2,8 +2,9 @@
 
 ghost use Rattle.std.specs.Prelude.{◌≡◌, ◌≤◌, ◌<◌, ◌↔◌, ◌⊎◌, ◌||◌, [], ◌∷◌, ◌++◌, All, None, IfOk, IfSome, IsTrue, length, vec_len, vec_capacity};
 ghost use Rattle.tt_share.specs.Jobs.{IsResultOf, IsResult};
+ghost use Rattle.tt_share.specs.Results.{KeepsEnds};
 ghost use Rattle.tt_share.specs.Seats.{seat_of};
-ghost use Rattle.tt_share.specs.Workers.{SomeWin, IsWork, IsPlaced, AllPlaced, KeepsEnds};
+ghost use Rattle.tt_share.specs.Workers.{SomeWin, IsWork, IsPlaced, AllPlaced, AreGiven, AllGiven};
 
 use crate::desk::{Desk, Seat};
 use crate::gate::Gate;
@@ -120,6 +121,7 @@ fn gather_one(results: &mut Results<'_>, mut found: Vec<Found>)
     ensures len { length results.new.ends ≡ length results.old.ends }
     ensures kept { KeepsEnds results.old.ends results.new.ends }
     ensures placed { All (IsPlaced results.new.ends) found.items }
+    ensures given { AreGiven results.old.ends results.new.ends found.items }
 {
     while let Some(one) = found.pop() {
         results.put(one);
@@ -138,6 +140,7 @@ pub(crate) fn gather(
     ensures same { results.new ≡ record results.old { ends = results.new.ends } }
     ensures kept { KeepsEnds results.old.ends results.new.ends }
     ensures placed { All (AllPlaced results.new.ends) work.items }
+    ensures given { AllGiven results.old.ends results.new.ends work.items }
     ensures seats { All (λ s. s.desk ≡ desk.now.id) result.items }
     ensures all { vec_len result ≡ vec_len work }
 {
