@@ -1,5 +1,5 @@
 -- What workers hand back. Only private contracts cite these.
-use Rattle.std.specs.Prelude.{◌≡◌, ℕ, ◌+◌, ◌<◌, ◌⊎◌, Bool, IsTrue, All, List, Option, length, Some, slice_get}
+use Rattle.std.specs.Prelude.{◌≡◌, ℕ, ◌+◌, ◌++◌, ◌<◌, ◌≤◌, ◌⊎◌, Bool, IsTrue, All, List, Option, length, map, Some, slice_get}
 use Rattle.atomic_table.specs.Seated.{TableId}
 use Rattle.tt_game.specs.declared.frame.Side.{Side}
 use Rattle.tt_game.specs.Line.{Standing}
@@ -18,6 +18,14 @@ SomeWin side found = (i : ℕ) × (f : Found) × (slice_get found i ≡ Some f) 
 abbrev pub WinsAreLast : Side → Bool → List Found → Type 0
 WinsAreLast side mark found = (i : ℕ) (f : Found) → slice_get found i ≡ Some f → IsWinFor side f.end → (i + 1 ≡ length found) × IsTrue mark
 
+-- the numbers of the jobs whose results these are
+abbrev pub jobs_of : List Found → List ℕ
+jobs_of found = map (λ (f : Found). f.job) found
+
+-- the same numbers, and behind them only such as are no jobs
+abbrev pub AddsSpare : ℕ → List ℕ → List ℕ → Type 0
+AddsSpare jobs before after = (spare : List ℕ) × (after ≡ before ++ spare) × All (λ n. jobs ≤ n) spare
+
 -- the seat is the desk's, each result is that of its job's turn, and no job was searched after one that was won
 pub record IsWork (line : Standing) (limits : Limits) (desk : TableId) (back : HandedBack) : Type 0 where
   pub seat : back.seat.desk ≡ desk
@@ -28,7 +36,7 @@ pub record IsWork (line : Standing) (limits : Limits) (desk : TableId) (back : H
 abbrev pub IsPlaced : List (Option End) → Found → Type 0
 IsPlaced ends found = found.job < length ends → IsFilled ends found.job
 
--- so does each that the worker handed back, or one that stood at its place before
+-- each job whose result the worker handed back has one: that, or one that stood at its place before
 abbrev pub AllPlaced : List (Option End) → HandedBack → Type 0
 AllPlaced ends back = All (IsPlaced ends) back.found.items
 
