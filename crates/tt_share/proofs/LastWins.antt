@@ -28,7 +28,7 @@ pub mark_of : (s : SeatView) (desk : TableId) (numbers : List ℕ) (mark sightin
 mark_of s desk numbers mark sighting is = ap (λ (t : SeatView). t.mark) is
 
 -- what is read of a longer list was there, or is the last
-read_more : {X : Type 0} (xs : List X) (x : X) (i : ℕ) (y : X) → slice_get (xs ++ x ∷ []) i ≡ Some y → (slice_get xs i ≡ Some y) ⊎ ((i ≡ length xs) × (x ≡ y))
+pub read_more : {X : Type 0} (xs : List X) (x : X) (i : ℕ) (y : X) → slice_get (xs ++ x ∷ []) i ≡ Some y → (slice_get xs i ≡ Some y) ⊎ ((i ≡ length xs) × (x ≡ y))
 read_more [] x zero y is = inr (refl, cc)
 read_more [] x (suc i) y is = absurd (none_there y is)
 read_more (z ∷ zs) x zero y is = inl is

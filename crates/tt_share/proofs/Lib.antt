@@ -13,3 +13,4 @@ pub mod ResultLemmas
 pub mod LastWins
 pub mod Placing
 pub mod Wins
+pub mod Drawn

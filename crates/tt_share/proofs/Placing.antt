@@ -1,5 +1,5 @@
 -- Results that are put at their places.
-use Rattle.std.proofs.Common.{◌≡◌, ◌≢◌, ℕ, zero, suc, ◌<◌, List, [], ◌∷◌, ◌++◌, All, Option, Some, None, slice_get, slice_set, get_or, length, refl, sym, ap, subst, ◌∙◌, arith, append_assoc}
+use Rattle.std.proofs.Common.{◌≡◌, ◌≢◌, ℕ, zero, suc, ◌<◌, inl, inr, List, [], ◌∷◌, ◌++◌, All, Option, Some, None, slice_get, slice_set, get_or, length, refl, sym, ap, subst, ◌∙◌, arith, append_assoc}
 use Rattle.std.proofs.lemmas.Option.{same_Some, none-some}
 use Rattle.tt_game.specs.Line.{Standing}
 use Rattle.tt_search.specs.declared.limits.Limits.{Limits}
@@ -7,9 +7,9 @@ use Rattle.tt_search.specs.declared.search.End.{End}
 use Rattle.tt_share.specs.declared.jobs.Found.{Found}
 use Rattle.tt_share.specs.declared.workers.HandedBack.{HandedBack}
 use Rattle.tt_share.specs.Jobs.{kept_of}
-use Rattle.tt_share.specs.Results.{Progress, Puts, HasEnd}
-use Rattle.tt_share.specs.Workers.{IsPlaced, AllPlaced, KeepsEnds}
-use Rattle.tt_share.proofs.ResultLemmas.{get_set_same, get_set_other}
+use Rattle.tt_share.specs.Results.{Progress, Puts, HasEnd, IsPastStuck, KeepsEnds}
+use Rattle.tt_share.specs.Workers.{IsPlaced, AllPlaced, IsGiven, AreGiven, AllGiven}
+use Rattle.tt_share.proofs.ResultLemmas.{read_after, get_set_same, get_set_other}
 
 -- what is known of the fields of results is known of what contracts see
 pub seen : (P : Standing → Limits → Type 0) (line : Standing) (limits : Limits) (ends : List (Option End)) (p : Progress) → record { line = line; limits = limits; ends = ends } ≡ p → P p.line p.limits → P line limits
@@ -85,3 +85,47 @@ all_more P x xs this all (suc k) d short = all k d (omega (arith, short))
 -- one more was taken from the end
 pub taken_more : {X : Type 0} (all left less taken : List X) (x : X) → all ≡ left ++ taken → left ≡ less ++ x ∷ [] → all ≡ less ++ x ∷ taken
 taken_more all left less taken x was is = was ∙ (ap (λ l. l ++ taken) is ∙ append_assoc less (x ∷ []) taken)
+
+there_at : {X : Type 0} (less more : List X) (x : X) → slice_get (less ++ x ∷ more) (length less) ≡ Some x
+there_at [] more x = refl
+there_at (y ∷ less) more x = there_at less more x
+
+-- and it stood among all
+pub taken_there : {X : Type 0} (all left less taken : List X) (x : X) → all ≡ left ++ taken → left ≡ less ++ x ∷ [] → slice_get all (length less) ≡ Some x
+taken_there all left less taken x was is = ap (λ l. slice_get l (length less)) (taken_more all left less taken x was is) ∙ there_at less taken x
+
+-- a lesser stuck job stays stuck
+past_still : (old new : List (Option End)) (job : ℕ) → KeepsEnds old new → IsPastStuck old job → IsPastStuck new job
+past_still old new job kept past = (past.0, past.1, (past.2.0, kept past.0 past.2.0 past.2.1, past.2.2))
+
+given_still : (old new : List (Option End)) (found : List Found) (job : ℕ) (end : End) → KeepsEnds old new → IsGiven old found job end → IsGiven new found job end
+given_still old new found job end kept was = (was.0, was.1, was.2, was.3, was.4, (λ up. past_still old new job kept (was.5 up)), was.6)
+
+-- one more result is one of those that were handed back
+given_at : (first old new : List (Option End)) (all : List Found) (i : ℕ) (f : Found) (o : Option (Option End)) → slice_get all i ≡ Some f → slice_get old f.job ≡ o → Puts old new f → AreGiven first old all → AreGiven first new all
+given_at first old new all i f None there is puts was = subst (λ l. AreGiven first l all) (sym (puts.dropped (λ e. not_there None (sym is ∙ e)))) was
+given_at first old new all i f (Some (Some had)) there is puts was = subst (λ l. AreGiven first l all) (sym (puts.dropped (λ e. not_free had (sym is ∙ e)))) was
+given_at first old new all i f (Some None) there is puts was = λ job end at. (
+    let p = puts.put is in
+    let kept = keeps old new f puts in
+    let read : slice_get (slice_set old f.job (Some (kept_of p.0 f.end))) job ≡ Some (Some end) = ap (λ l. slice_get l job) (sym p.2) ∙ at in
+    elim (read_after old f.job job (Some (kept_of p.0 f.end)) (Some end) read) [
+      | inl h ↦ inr (i, f, p.0, there, sym h.0, (λ up. subst (IsPastStuck new) (sym h.0) (past_still old new f.job kept (p.1.0 up))), sym (same_Some (kept_of p.0 f.end) end h.1))
+      | inr h ↦ elim (was job end h) [
+        | inl g ↦ inl g
+        | inr g ↦ inr (given_still old new all job end kept g)
+      ]
+    ])
+
+pub given_more : (first old new : List (Option End)) (all : List Found) (i : ℕ) (f : Found) → slice_get all i ≡ Some f → Puts old new f → AreGiven first old all → AreGiven first new all
+given_more first old new all i f there puts was = given_at first old new all i f (slice_get old f.job) there refl puts was
+
+-- so are those of one more worker
+pub given_backs : (first old new : List (Option End)) (work : List HandedBack) (i : ℕ) (back : HandedBack) → slice_get work i ≡ Some back → KeepsEnds old new → AreGiven old new back.found.items → AllGiven first old work → AllGiven first new work
+given_backs first old new work i back there kept this was job end at = elim (this job end at) [
+  | inl h ↦ elim (was job end h) [
+    | inl g ↦ inl g
+    | inr g ↦ inr (g.0, g.1, g.2, given_still old new g.1.found.items job end kept g.3)
+  ]
+  | inr h ↦ inr (i, back, there, h)
+]

@@ -1,5 +1,5 @@
 -- Results of jobs.
-use Rattle.std.proofs.Common.{◌≡◌, ◌≢◌, ℕ, zero, suc, Bool, true, false, ◌⊎◌, inl, inr, List, [], ◌∷◌, Option, Some, slice_get, slice_set, refl, sym, ap, subst}
+use Rattle.std.proofs.Common.{◌≡◌, ◌≢◌, ℕ, zero, suc, Bool, true, false, ◌⊎◌, inl, inr, List, [], ◌∷◌, ◌++◌, Option, Some, None, slice_get, slice_set, refl, sym, ap, subst}
 use Rattle.std.proofs.lemmas.Option.{same_Some, none-some}
 use Rattle.tt_game.specs.Line.{Standing}
 use Rattle.tt_search.specs.declared.limits.Limits.{Limits}
@@ -7,9 +7,10 @@ use Rattle.tt_search.specs.declared.search.End.{End}
 use Rattle.tt_game.specs.declared.turns.Turn.{Turn}
 use Rattle.tt_search.specs.declared.search.End.TheVariants.{Settled, Stuck}
 use Rattle.tt_share.specs.Jobs.{EndsBehind, IsResultOf, AreResults, kept_of}
+use Rattle.tt_share.proofs.LastWins.{read_more}
 
 -- what is read after a write is what was written there, or what was read before it
-read_after : {X : Type 0} (xs : List X) (i k : ℕ) (x y : X) → slice_get (slice_set xs i x) k ≡ Some y → ((k ≡ i) × (x ≡ y)) ⊎ (slice_get xs k ≡ Some y)
+pub read_after : {X : Type 0} (xs : List X) (i k : ℕ) (x y : X) → slice_get (slice_set xs i x) k ≡ Some y → ((k ≡ i) × (x ≡ y)) ⊎ (slice_get xs k ≡ Some y)
 read_after [] i k x y is = inr is
 read_after (z ∷ zs) zero zero x y is = inl (refl, same_Some x y is)
 read_after (z ∷ zs) zero (suc k) x y is = inr is
@@ -17,6 +18,13 @@ read_after (z ∷ zs) (suc i) zero x y is = inr is
 read_after (z ∷ zs) (suc i) (suc k) x y is = elim (read_after zs i k x y is) [
   | inl h ↦ inl (ap suc h.0, h.1)
   | inr h ↦ inr h
+]
+
+-- one more job whose end isn't known
+pub none_more : (line : Standing) (limits : Limits) (ends : List (Option End)) → AreResults line limits ends → AreResults line limits (ends ++ None ∷ [])
+none_more line limits ends all job end at = elim (read_more ends None job (Some end) at) [
+  | inl h ↦ all job end h
+  | inr h ↦ absurd (none-some end h.1)
 ]
 
 -- one more end that is its job's

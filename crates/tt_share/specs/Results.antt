@@ -82,6 +82,14 @@ pub record IsLeastStuck (ends : List (Option End)) (job : ℕ) (reason : Reason)
 abbrev pub IsReady : Side → List (Option End) → Type 0
 IsReady side ends = ((job : ℕ) × IsWinAt side ends job) ⊎ FilledBelow (length ends) ends
 
+-- no job is stuck
+abbrev pub NoneStuck : List (Option End) → Type 0
+NoneStuck ends = (job : ℕ) → ¬ IsStuckAt ends job
+
+-- each result that stood there still does
+abbrev pub KeepsEnds : List (Option End) → List (Option End) → Type 0
+KeepsEnds before after = (job : ℕ) (end : End) → HasEnd before job end → HasEnd after job end
+
 -- a result is put at its place where that is free, as it is kept; else it is dropped
 pub record Puts (before after : List (Option End)) (found : Found) : Type 0 where
   pub put : slice_get before found.job ≡ Some None → (past_stuck : Bool) × (IsTrue past_stuck ↔ IsPastStuck before found.job)

@@ -1,12 +1,12 @@
 -- What workers hand back. Only private contracts cite these.
-use Rattle.std.specs.Prelude.{◌≡◌, ℕ, ◌+◌, ◌<◌, Bool, IsTrue, All, List, Option, length, Some, slice_get}
+use Rattle.std.specs.Prelude.{◌≡◌, ℕ, ◌+◌, ◌++◌, ◌<◌, ◌≤◌, ◌⊎◌, Bool, IsTrue, All, List, Option, length, map, Some, slice_get}
 use Rattle.atomic_table.specs.Seated.{TableId}
 use Rattle.tt_game.specs.declared.frame.Side.{Side}
 use Rattle.tt_game.specs.Line.{Standing}
 use Rattle.tt_search.specs.declared.limits.Limits.{Limits}
 use Rattle.tt_search.specs.declared.search.End.{End}
-use Rattle.tt_share.specs.Jobs.{IsResult, IsWinFor}
-use Rattle.tt_share.specs.Results.{HasEnd, IsFilled}
+use Rattle.tt_share.specs.Jobs.{IsResult, IsWinFor, kept_of}
+use Rattle.tt_share.specs.Results.{HasEnd, IsFilled, IsPastStuck}
 use Rattle.tt_share.specs.declared.jobs.Found.{Found}
 use Rattle.tt_share.specs.declared.workers.HandedBack.{HandedBack}
 
@@ -18,6 +18,14 @@ SomeWin side found = (i : ℕ) × (f : Found) × (slice_get found i ≡ Some f) 
 abbrev pub WinsAreLast : Side → Bool → List Found → Type 0
 WinsAreLast side mark found = (i : ℕ) (f : Found) → slice_get found i ≡ Some f → IsWinFor side f.end → (i + 1 ≡ length found) × IsTrue mark
 
+-- the numbers of the jobs whose results these are
+abbrev pub jobs_of : List Found → List ℕ
+jobs_of found = map (λ (f : Found). f.job) found
+
+-- the same numbers, and behind them only such as are no jobs
+abbrev pub AddsSpare : ℕ → List ℕ → List ℕ → Type 0
+AddsSpare jobs before after = (spare : List ℕ) × (after ≡ before ++ spare) × All (λ n. jobs ≤ n) spare
+
 -- the seat is the desk's, each result is that of its job's turn, and no job was searched after one that was won
 pub record IsWork (line : Standing) (limits : Limits) (desk : TableId) (back : HandedBack) : Type 0 where
   pub seat : back.seat.desk ≡ desk
@@ -28,10 +36,21 @@ pub record IsWork (line : Standing) (limits : Limits) (desk : TableId) (back : H
 abbrev pub IsPlaced : List (Option End) → Found → Type 0
 IsPlaced ends found = found.job < length ends → IsFilled ends found.job
 
--- each result that stood there still does
-abbrev pub KeepsEnds : List (Option End) → List (Option End) → Type 0
-KeepsEnds before after = (job : ℕ) (end : End) → HasEnd before job end → HasEnd after job end
-
--- so does each that the worker handed back, or one that stood at its place before
+-- each job whose result the worker handed back has one: that, or one that stood at its place before
 abbrev pub AllPlaced : List (Option End) → HandedBack → Type 0
 AllPlaced ends back = All (IsPlaced ends) back.found.items
+
+-- one of these results is the job's, and the end is that one as it is kept: its search is dropped only where a lesser job is
+-- stuck
+abbrev pub IsGiven : List (Option End) → List Found → ℕ → End → Type 0
+IsGiven ends found job end = (i : ℕ) × (f : Found) × (past_stuck : Bool) × (slice_get found i ≡ Some f) × (f.job ≡ job)
+    × (IsTrue past_stuck → IsPastStuck ends job) × (end ≡ kept_of past_stuck f.end)
+
+-- each result stood there before, or is one of these
+abbrev pub AreGiven : List (Option End) → List (Option End) → List Found → Type 0
+AreGiven before after found = (job : ℕ) (end : End) → HasEnd after job end → HasEnd before job end ⊎ IsGiven after found job end
+
+-- each result stood there before, or is one that a worker handed back
+abbrev pub AllGiven : List (Option End) → List (Option End) → List HandedBack → Type 0
+AllGiven before after work = (job : ℕ) (end : End) → HasEnd after job end → HasEnd before job end
+    ⊎ ((i : ℕ) × (back : HandedBack) × (slice_get work i ≡ Some back) × IsGiven after back.found.items job end)

@@ -47,6 +47,34 @@ impl Store for Forgetful {
     }
 }
 
+/// A store with room for a hundred proofs, which refuses to keep any.
+#[derive(Drop)]
+struct Refusing;
+
+impl Store for Refusing {
+    ghost capacity = { λ _. 100 };
+
+    ghost kept = { λ _. 0 };
+
+    ghost may_answer = { ⊥ };
+
+    fn capacity(&self) -> usize {
+        100
+    }
+
+    fn kept(&self) -> usize {
+        0
+    }
+
+    fn find(&mut self, line: &Line, s: Side) -> Result<Option<Arc<Proof>>, NoMemory> {
+        Ok(None)
+    }
+
+    fn keep(&mut self, p: Arc<Proof>) -> Kept {
+        Kept::NoMemory
+    }
+}
+
 /// The line of a problem at which nobody has won.
 pub(crate) fn posed(alloc: Global, text: &[u8]) -> Result<Line, Fail> {
     let (line, _) = read_tree(alloc, text)?;
@@ -55,7 +83,7 @@ pub(crate) fn posed(alloc: Global, text: &[u8]) -> Result<Line, Fail> {
 }
 
 /// Writes a space and the turn.
-fn put_first(out: &mut Vec<u8>, size: Size, first: &Option<Turn>) -> Result<(), Fail> {
+pub(crate) fn put_first(out: &mut Vec<u8>, size: Size, first: &Option<Turn>) -> Result<(), Fail> {
     match first {
         None => Ok(()),
         Some(Turn::Pass) => Ok(out.extend_from_slice(b" pass")?),
@@ -134,10 +162,58 @@ fn bounded(alloc: Global, capacity: usize) -> Result<PrivateStore, Fail> {
     }
 }
 
+/// The answers to a problem over stores that keep nothing: none, one that refuses, and one that forgets.
+fn over_empty_stores(
+    alloc: Global,
+    text: &[u8],
+    budget: u32,
+    depth: u16,
+) -> Result<[Vec<u8>; 3], Fail> {
+    let mut forgetful = Forgetful { kept: 0 };
+    Ok([
+        solved(alloc, text, budget, depth, &mut NoStore)?,
+        solved(alloc, text, budget, depth, &mut Refusing)?,
+        solved(alloc, text, budget, depth, &mut forgetful)?,
+    ])
+}
+
+/// The answers to a problem over a store of its own that keeps so many proofs at most.
+fn over_small_store(
+    alloc: Global,
+    text: &[u8],
+    budget: u32,
+    depth: u16,
+    capacity: usize,
+) -> Result<Vec<u8>, Fail> {
+    let mut store = bounded(alloc, capacity)?;
+    solved(alloc, text, budget, depth, &mut store)
+}
+
+/// Whether a problem has this answer over each kind of store.
+fn has_answer(
+    alloc: Global,
+    text: &[u8],
+    budget: u32,
+    depth: u16,
+    want: &[u8],
+) -> Result<bool, Fail> {
+    for got in &over_empty_stores(alloc, text, budget, depth)? {
+        if got.as_slice() != want {
+            return Ok(false);
+        }
+    }
+    for capacity in [0usize, 1, 2, 4096] {
+        if over_small_store(alloc, text, budget, depth, capacity)?.as_slice() != want {
+            return Ok(false);
+        }
+    }
+    Ok(true)
+}
+
 #[test]
 fn verdicts_over_each_store(rt: HostRuntime) -> Result<(), Fail> {
     let alloc = rt.alloc();
-    let table: [(&[u8], u32, u16, &[u8]); 8] = [
+    let table: [(&[u8], u32, u16, &[u8]); 11] = [
         (b"(;SZ[2:1]AW[ba]PL[B]TR[ba])", 100_000, 512, b"killed aa"),
         (b"(;SZ[2:1]AW[ba]PL[W]TR[ba])", 100_000, 512, b"killed"),
         (b"(;SZ[3:1]AW[ba]PL[W]TR[ba])", 100_000, 512, b"lives pass"),
@@ -148,18 +224,30 @@ fn verdicts_over_each_store(rt: HostRuntime) -> Result<(), Fail> {
             512,
             b"killed ca",
         ),
+        (
+            b"(;SZ[4:1]AW[ba]PL[B]TR[ba]SQ[aa:da])",
+            100_000,
+            512,
+            b"lives",
+        ),
+        (
+            b"(;SZ[4:1]AW[ba][da]PL[B]TR[ba])",
+            100_000,
+            512,
+            b"killed ca",
+        ),
+        (
+            b"(;SZ[4:1]AW[ba];B[ca];W[da]TR[ba])",
+            100_000,
+            512,
+            b"lives",
+        ),
         (b"(;SZ[4:1]AW[ba]PL[B]TR[ba])", 1, 512, b"budget"),
         (b"(;SZ[4:1]AW[ba]PL[B]TR[ba])", 100_000, 1, b"depth"),
         (b"(;SZ[4:1]AB[ba]AW[ca]PL[B]TR[ca])", 1, 512, b"killed da"),
     ];
     for (problem, budget, depth, want) in table {
-        assert!(&rt; solved(alloc, problem, budget, depth, &mut NoStore)?.as_slice() == want);
-        let mut forgetful = Forgetful { kept: 0 };
-        assert!(&rt; solved(alloc, problem, budget, depth, &mut forgetful)?.as_slice() == want);
-        let mut small = bounded(alloc, 2)?;
-        assert!(&rt; solved(alloc, problem, budget, depth, &mut small)?.as_slice() == want);
-        let mut store = PrivateStore::new(alloc);
-        assert!(&rt; solved(alloc, problem, budget, depth, &mut store)?.as_slice() == want);
+        assert!(&rt; has_answer(alloc, problem, budget, depth, want)?);
     }
     Ok(())
 }
@@ -173,29 +261,68 @@ fn verdicts_by_history(rt: HostRuntime) -> Result<(), Fail> {
         (b"(;SZ[7:1];B[ga];W[ea];B[ba]TR[ea])", b"killed"),
     ];
     for (problem, want) in table {
-        let mut store = PrivateStore::new(alloc);
-        assert!(&rt; solved(alloc, problem, 100_000, 512, &mut store)?.as_slice() == want);
-        let mut none = bounded(alloc, 0)?;
-        assert!(&rt; solved(alloc, problem, 100_000, 512, &mut none)?.as_slice() == want);
+        assert!(&rt; has_answer(alloc, problem, 100_000, 512, want)?);
     }
     Ok(())
+}
+
+/// The certificates of a problem over stores that keep nothing: none, one that refuses, and one that forgets.
+fn certified_over_empty_stores(alloc: Global, text: &[u8]) -> Result<[Vec<u8>; 3], Fail> {
+    let mut forgetful = Forgetful { kept: 0 };
+    Ok([
+        certified(alloc, text, &mut NoStore)?,
+        certified(alloc, text, &mut Refusing)?,
+        certified(alloc, text, &mut forgetful)?,
+    ])
+}
+
+/// The certificate of a problem over a store of its own that keeps so many proofs at most.
+fn certified_over_small_store(
+    alloc: Global,
+    text: &[u8],
+    capacity: usize,
+) -> Result<Vec<u8>, Fail> {
+    let mut store = bounded(alloc, capacity)?;
+    certified(alloc, text, &mut store)
+}
+
+/// Whether a problem has this certificate over each kind of store.
+fn has_certificate(alloc: Global, text: &[u8], want: &[u8]) -> Result<bool, Fail> {
+    for got in &certified_over_empty_stores(alloc, text)? {
+        if got.as_slice() != want {
+            return Ok(false);
+        }
+    }
+    for capacity in [0usize, 1, 2, 4096] {
+        if certified_over_small_store(alloc, text, capacity)?.as_slice() != want {
+            return Ok(false);
+        }
+    }
+    Ok(true)
 }
 
 #[test]
 fn certificates(rt: HostRuntime) -> Result<(), Fail> {
     let alloc = rt.alloc();
-    let table: [(&[u8], &[u8]); 3] = [
+    let table: [(&[u8], &[u8]); 2] = [
         (b"(;SZ[4:1]AW[ba][da]PL[B]TR[ba])", b"killed !ca?aa.--!aa.;"),
         (b"(;SZ[4:1]AW[ba];B[ca];W[da]TR[ba])", b"lives ?--!--.;"),
-        (
-            b"(;SZ[5:1]AW[aa];B[ca]TR[ca])",
-            b"killed !da?ba!aa.ea!ba?aa!ba?da.--!da.;ba!da?aa.--!aa.;da!ba.--!ba?aa!da?ba.--!ba.;da.--!da.;;--!ba.;",
-        ),
     ];
     for (problem, want) in table {
-        let mut store = PrivateStore::new(alloc);
-        assert!(&rt; certified(alloc, problem, &mut store)?.as_slice() == want);
+        assert!(&rt; has_certificate(alloc, problem, want)?);
     }
+    Ok(())
+}
+
+/// A longer certificate. What a store has may shorten its like, so it is that of the usual store.
+#[test]
+fn longer_certificate(rt: HostRuntime) -> Result<(), Fail> {
+    let alloc = rt.alloc();
+    let want =
+        b"killed !da?ba!aa.ea!ba?aa!ba?da.--!da.;ba!da?aa.--!aa.;da!ba.--!ba?aa!da?ba.--!ba.;da.--!da.;;--!ba.;";
+    let mut store = PrivateStore::new(alloc);
+    let text = certified(alloc, b"(;SZ[5:1]AW[aa];B[ca]TR[ca])", &mut store)?;
+    assert!(&rt; text.as_slice() == want.as_slice());
     Ok(())
 }
 

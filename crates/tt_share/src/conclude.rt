@@ -15,7 +15,7 @@ ghost use Rattle.tt_share.specs.declared.answer.Answer.TheVariants.{Unsettled};
 ghost use Rattle.tt_share.specs.Answers.{IsAnswer};
 ghost use Rattle.tt_share.specs.Beginning.{BeginsWith};
 ghost use Rattle.tt_share.specs.Jobs.{EndsBehind, IsJob};
-ghost use Rattle.tt_share.specs.Results.{HaveLost, IsLeastWin, IsLeastStuck, IsReady, NoWin};
+ghost use Rattle.tt_share.specs.Results.{HaveLost, IsLeastWin, IsLeastStuck, IsReady, NoneStuck, NoWin};
 
 use crate::answer::{Answer, Stuck};
 use crate::jobs::Jobs;
@@ -97,6 +97,7 @@ impl<'a> Jobs<'a> {
         requires lost { HaveLost self.now.line.now self.now.limits children.items }
         requires all { vec_len children ≡ length (legal_turns self.now.line.now.frame self.now.line.now.state) }
         ensures answer { IfOk result (IsAnswer self.now.line.now self.now.limits) }
+        ensures begins { IfOk result (BeginsWith None) }
     {
         let proof = Proof::reply(self.alloc, self.line, children)?;
         settled(self.alloc, self.line, self.limits, proof)
@@ -111,6 +112,7 @@ impl<'a> Results<'a> {
         ensures answer { IfOk result (IsAnswer self.entry.line self.entry.limits) }
         ensures picks { (job : ℕ) (turn : Turn) → IsLeastWin self.entry.line.state.to_move self.entry.ends job → IsJob self.entry.line job turn →
             IfOk result (BeginsWith (Some turn)) }
+        ensures replies { NoWin self.entry.line.state.to_move self.entry.ends → NoneStuck self.entry.ends → IfOk result (BeginsWith None) }
         ensures stuck { (job : ℕ) (turn : Turn) (reason : Reason) (search : Option Searched) → NoWin self.entry.line.state.to_move self.entry.ends →
             IsLeastStuck self.entry.ends job reason search → IsJob self.entry.line job turn →
             IfOk result (λ a. a ≡ Unsettled (record { turn = turn; reason = reason; search = search })) }

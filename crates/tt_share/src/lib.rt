@@ -33,6 +33,8 @@ mod alone_tests;
 #[cfg(test)]
 mod desk_tests;
 #[cfg(test)]
+mod planted_tests;
+#[cfg(test)]
 mod table_tests;
 #[cfg(test)]
 mod together_tests;

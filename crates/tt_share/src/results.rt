@@ -1,10 +1,11 @@
 //! Results: how the jobs of a line ended, as far as it is known.
 
-ghost use Rattle.std.specs.Prelude.{◌≡◌, ◌≢◌, ◌≤◌, ◌<◌, ◌↔◌, ℕ, false, None, Some, IfOk, IfNone, IsTrue, MatchOption, slice_get, slice_set, length, vec_len};
+ghost use Rattle.std.specs.Prelude.{◌≡◌, ◌≢◌, ◌≤◌, ◌<◌, ◌↔◌, ℕ, false, None, Some, IfOk, IfNone, IsTrue, MatchOption, slice_get, slice_set, length, replicate, vec_len};
 ghost use Rattle.tt_game.specs.Game.{winner_of};
+ghost use Rattle.tt_game.specs.Turns.{legal_turns};
 ghost use Rattle.tt_search.specs.declared.search.End.{End};
 ghost use Rattle.tt_share.specs.Jobs.{IsResult, IsWinFor};
-ghost use Rattle.tt_share.specs.Results.{HasEnd, IsFilled, HasWonIn, AllWon, IsPastStuck, IsStuckIn, IsWinIn, IsWinAt, NoWin, IsLeastWin, IsReady, StopsAtWin, Puts};
+ghost use Rattle.tt_share.specs.Results.{HasEnd, IsFilled, HasWonIn, AllWon, IsPastStuck, IsStuckIn, IsWinIn, IsWinAt, NoWin, IsLeastWin, IsReady, StopsAtWin, KeepsEnds, Puts};
 
 use crate::jobs::{Found, Jobs, is_stuck, is_win, trimmed};
 use std::alloc::Global;
@@ -115,6 +116,7 @@ impl<'a> Results<'a> {
         requires open { winner_of line.now.frame line.now.state ≡ None }
         ensures line { IfOk result (λ r. r.line ≡ line.now) }
         ensures limits { IfOk result (λ r. r.limits ≡ limits) }
+        ensures none { IfOk result (λ r. r.ends ≡ replicate (length (legal_turns line.now.frame line.now.state)) None) }
     {
         let jobs = Jobs::of(alloc, line, limits);
         let count = jobs.turns.len();
@@ -180,6 +182,7 @@ impl<'a> Results<'a> {
         ensures same { self.new ≡ record self.old { ends = self.new.ends } }
         ensures len { length self.new.ends ≡ length self.old.ends }
         ensures filled { IsFilled self.new.ends job }
+        ensures kept { KeepsEnds self.old.ends self.new.ends }
         ensures others { (k : ℕ) → k ≢ job → slice_get self.new.ends k ≡ slice_get self.old.ends k }
         ensures won { IsTrue result → IsWinAt self.old.line.state.to_move self.new.ends job }
         ensures lost { result ≡ false → IsWinAt self.old.line.state.to_move self.new.ends job →
@@ -195,6 +198,8 @@ impl<'a> Results<'a> {
     pub fn search_missing<S: Store>(&mut self, store: &mut S)
         ensures same { self.new ≡ record self.old { ends = self.new.ends } }
         ensures ready { IsReady self.new.line.state.to_move self.new.ends }
+        ensures kept { KeepsEnds self.old.ends self.new.ends }
+        ensures won { (job : ℕ) → IsWinAt self.old.line.state.to_move self.old.ends job → self.new ≡ self.old }
         ensures stops { StopsAtWin self.new.line.state.to_move self.old.ends self.new.ends }
     {
         if let Some(_) = self.win() {

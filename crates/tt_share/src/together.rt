@@ -3,6 +3,7 @@
 ghost use Rattle.std.specs.Prelude.{◌≡◌, ◌≤◌, None};
 ghost use Rattle.tt_game.specs.Game.{winner_of};
 ghost use Rattle.tt_share.specs.Answers.{IsAnswer};
+ghost use Rattle.tt_share.specs.Results.{KeepsEnds};
 
 use crate::alone::{begin, finish};
 use crate::answer::Answer;
@@ -28,7 +29,8 @@ fn search_together<R: Threads + Wait + Sync, G: Gate>(
     gate: &G,
 ) -> Result<(), NoMemory>
     requires workers { (1 ≤ workers) × (workers ≤ 64) }
-    ensures { results.new ≡ record results.old { ends = results.new.ends } }
+    ensures same { results.new ≡ record results.old { ends = results.new.ends } }
+    ensures kept { KeepsEnds results.old.ends results.new.ends }
 {
     let alloc = results.jobs.alloc;
     let seats = Vec::with_capacity(alloc, workers)?;

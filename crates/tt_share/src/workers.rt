@@ -1,9 +1,10 @@
 //! Workers: threads that draw the jobs of a line at a desk and search them, and what comes back of them.
 
-ghost use Rattle.std.specs.Prelude.{◌≡◌, ◌≤◌, ◌<◌, ◌↔◌, ◌⊎◌, ◌||◌, [], ◌∷◌, ◌++◌, All, None, IfOk, IfSome, IsTrue, length, vec_len, vec_capacity};
+ghost use Rattle.std.specs.Prelude.{◌≡◌, ◌≤◌, ◌<◌, ◌↔◌, ◌⊎◌, ◌||◌, [], ◌∷◌, ◌++◌, All, None, IfOk, IfNone, IfSome, IsTrue, length, vec_len, vec_capacity};
 ghost use Rattle.tt_share.specs.Jobs.{IsResultOf, IsResult};
+ghost use Rattle.tt_share.specs.Results.{KeepsEnds};
 ghost use Rattle.tt_share.specs.Seats.{seat_of};
-ghost use Rattle.tt_share.specs.Workers.{SomeWin, IsWork, IsPlaced, AllPlaced, KeepsEnds};
+ghost use Rattle.tt_share.specs.Workers.{SomeWin, IsWork, IsPlaced, AllPlaced, AddsSpare, jobs_of, AreGiven, AllGiven};
 
 use crate::desk::{Desk, Seat};
 use crate::gate::Gate;
@@ -51,6 +52,7 @@ fn next_job(desk: &Desk, seat: &mut Seat, found: &mut Vec<Found>) -> Option<usiz
     ensures saw { IsTrue seat.old.sighting → IsTrue seat.new.sighting }
     ensures stopped { IsTrue (seat.new.mark || seat.new.sighting) → (result ≡ None) × (seat.new.numbers ≡ seat.old.numbers) }
     ensures job { IfSome result (λ n. (n < desk.now.jobs) × (length seat.old.numbers ≤ n) × (seat.new.numbers ≡ seat.old.numbers ++ n ∷ [])) }
+    ensures spare { IfNone result (AddsSpare desk.now.jobs seat.old.numbers seat.new.numbers) }
     ensures room { IfSome result (λ _. vec_len found.new < vec_capacity found.new) }
     ensures found { found.new.items ≡ found.old.items }
 {
@@ -73,6 +75,7 @@ pub(crate) fn work<S: Store, G: Gate>(
     requires jobs { desk.now.jobs ≡ length jobs.now.turns.items }
     requires seat { seat.desk ≡ desk.now.id }
     ensures work { IsWork jobs.now.line.now jobs.now.limits desk.now.id result }
+    ensures drawn { AddsSpare desk.now.jobs (seat.numbers ++ jobs_of result.found.items) result.seat.numbers }
     ensures mark { IsTrue result.seat.mark → IsTrue seat.mark ⊎ SomeWin jobs.now.line.now.state.to_move result.found.items }
 {
     let mut found = Vec::new(jobs.alloc);
@@ -120,6 +123,7 @@ fn gather_one(results: &mut Results<'_>, mut found: Vec<Found>)
     ensures len { length results.new.ends ≡ length results.old.ends }
     ensures kept { KeepsEnds results.old.ends results.new.ends }
     ensures placed { All (IsPlaced results.new.ends) found.items }
+    ensures given { AreGiven results.old.ends results.new.ends found.items }
 {
     while let Some(one) = found.pop() {
         results.put(one);
@@ -138,6 +142,7 @@ pub(crate) fn gather(
     ensures same { results.new ≡ record results.old { ends = results.new.ends } }
     ensures kept { KeepsEnds results.old.ends results.new.ends }
     ensures placed { All (AllPlaced results.new.ends) work.items }
+    ensures given { AllGiven results.old.ends results.new.ends work.items }
     ensures seats { All (λ s. s.desk ≡ desk.now.id) result.items }
     ensures all { vec_len result ≡ vec_len work }
 {

@@ -2,7 +2,7 @@ use Rattle.std.proofs.Common.{rules, ◌≡◌, ◌∷◌, ◌++◌, [], All, So
 use Rattle.std.proofs.lemmas.List.Elements.{All-pop, All-push}
 use Rattle.tt_share.specs.Seats.{SeatView}
 use Rattle.tt_share.specs.Workers.{AllPlaced, IsWork}
-use Rattle.tt_share.proofs.Placing.{same_asked, same_twice, keeps_twice, backs_still, all_more, taken_more}
+use Rattle.tt_share.proofs.Placing.{same_asked, same_twice, keeps_twice, backs_still, all_more, taken_more, taken_there, given_backs}
 use Rattle.tt_share.proofs.workers.gather.Goals as goal
 
 pub loop-back-preserved : goal.loop-back-preserved
@@ -20,6 +20,7 @@ loop-back-preserved c =
       same = same_twice c.args.results.now old new c.loop-back.invariant.same c.gather_one.ensures.same;
       len = c.gather_one.ensures.len ∙ c.loop-back.invariant.len;
       kept = keeps_twice c.args.results.now.ends old.ends new.ends c.loop-back.invariant.kept c.gather_one.ensures.kept;
+      given = given_backs c.args.results.now.ends old.ends new.ends c.args.work.items _ back (taken_there _ _ _ was.0 back was.1 c.in-Some.ensures.items) c.gather_one.ensures.kept c.gather_one.ensures.given c.loop-back.invariant.given;
       placed = (
         back ∷ was.0,
         taken_more _ _ _ was.0 back was.1 c.in-Some.ensures.items,

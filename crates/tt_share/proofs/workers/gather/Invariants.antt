@@ -1,7 +1,8 @@
 use Rattle.std.proofs.Common.{◌≡◌, ◌+◌, ◌≤◌, ◌++◌, All, List, length, vec_len, vec_capacity}
 use Rattle.tt_share.specs.declared.workers.HandedBack.{HandedBack}
 use Rattle.tt_share.specs.Seats.{SeatView}
-use Rattle.tt_share.specs.Workers.{IsWork, AllPlaced, KeepsEnds}
+use Rattle.tt_share.specs.Results.{KeepsEnds}
+use Rattle.tt_share.specs.Workers.{IsWork, AllPlaced, AllGiven}
 use Rattle.tt_share.proofs.workers.gather.Given as goal
 
 abbrev pub invariant-loop-back : goal.invariant-loop-back
@@ -13,6 +14,7 @@ invariant-loop-back l = record {
   same : l.results ≡ record l.initial.results { ends = l.results.ends };
   len : length l.results.ends ≡ length l.initial.results.ends;
   kept : KeepsEnds l.initial.results.ends l.results.ends;
+  given : AllGiven l.initial.results.ends l.results.ends l.fn.work.items;
   placed : (put : List HandedBack) × (l.fn.work.items ≡ l.work.items ++ put) × All (AllPlaced l.results.ends) put;
 }
 

@@ -2,7 +2,7 @@ use Rattle.std.proofs.Common.{◌≡◌, ◌∷◌, ◌++◌, [], All, Some, ref
 use Rattle.std.proofs.lemmas.List.Elements.{All-pop}
 use Rattle.tt_share.specs.Jobs.{IsResult}
 use Rattle.tt_share.specs.Workers.{IsPlaced}
-use Rattle.tt_share.proofs.Placing.{same_asked, same_twice, keeps, places, keeps_twice, all_still, all_more, taken_more}
+use Rattle.tt_share.proofs.Placing.{same_asked, same_twice, keeps, places, keeps_twice, all_still, all_more, taken_more, taken_there, given_more}
 use Rattle.tt_share.proofs.workers.gather_one.Goals as goal
 
 pub loop-one-preserved : goal.loop-one-preserved
@@ -18,6 +18,7 @@ loop-one-preserved c =
       same = same_twice c.args.results.now old new c.loop-one.invariant.same c.put.ensures.same;
       len = c.put.ensures.puts.len ∙ c.loop-one.invariant.len;
       kept = keeps_twice c.args.results.now.ends old.ends new.ends c.loop-one.invariant.kept kept;
+      given = given_more c.args.results.now.ends old.ends new.ends c.args.found.items _ one (taken_there _ _ _ was.0 one was.1 c.in-Some.ensures.items) c.put.ensures.puts c.loop-one.invariant.given;
       placed = (
         one ∷ was.0,
         taken_more _ _ _ was.0 one was.1 c.in-Some.ensures.items,

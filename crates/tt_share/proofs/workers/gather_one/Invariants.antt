@@ -1,7 +1,8 @@
 use Rattle.std.proofs.Common.{◌≡◌, ◌++◌, All, List, length, vec_len}
 use Rattle.tt_share.specs.declared.jobs.Found.{Found}
 use Rattle.tt_share.specs.Jobs.{IsResult}
-use Rattle.tt_share.specs.Workers.{IsPlaced, KeepsEnds}
+use Rattle.tt_share.specs.Results.{KeepsEnds}
+use Rattle.tt_share.specs.Workers.{IsPlaced, AreGiven}
 use Rattle.tt_share.proofs.workers.gather_one.Given as goal
 
 abbrev pub invariant-loop-one : goal.invariant-loop-one
@@ -10,6 +11,7 @@ invariant-loop-one l = record {
   same : l.results ≡ record l.initial.results { ends = l.results.ends };
   len : length l.results.ends ≡ length l.initial.results.ends;
   kept : KeepsEnds l.initial.results.ends l.results.ends;
+  given : AreGiven l.initial.results.ends l.results.ends l.fn.found.items;
   placed : (put : List Found) × (l.fn.found.items ≡ l.found.items ++ put) × All (IsPlaced l.results.ends) put;
 }
 

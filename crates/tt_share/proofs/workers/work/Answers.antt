@@ -4,6 +4,7 @@ use Rattle.tt_share.specs.Jobs.{IsResult, IsResultOf}
 use Rattle.tt_share.specs.Workers.{SomeWin, WinsAreLast}
 use Rattle.tt_share.specs.declared.jobs.Found.{Found}
 use Rattle.tt_share.proofs.DeskMoves.{left_true}
+use Rattle.tt_share.proofs.Drawn.{drawn_more, drawn_all, numbers_of}
 use Rattle.tt_share.proofs.ResultLemmas.{kept_result}
 use Rattle.tt_share.proofs.LastWins.{not_none, pushed, marked, marks_again, mark_of, wins_more, last_wins}
 use Rattle.tt_share.proofs.workers.work.Goals as goal
@@ -25,5 +26,11 @@ loop-job-preserved g c =
       wins = subst (WinsAreLast side c.raise_for.new.seat.mark) (sym all)
           (wins_more side c.loop-job.seat.mark c.raise_for.new.seat.mark c.loop-job.found.items f (λ up. down (marks_again c.loop-job.seat.mark drawn.mark c.next_job.ensures.seat.1 up))
           (λ win. (marked c.raise_for.new.seat.mark drawn.mark c.is_won.result mark down).1 (c.is_won.ensures.1 win)) c.loop-job.invariant.wins);
+      drawn = drawn_more c.args.seat.numbers c.loop-job.seat.numbers drawn.numbers c.raise_for.new.seat.numbers c.loop-job.found.items c.push_reserved.new.self.items f c.loop-job.invariant.drawn c.in-Some.ensures.job.2
+          (numbers_of c.raise_for.new.seat drawn.desk drawn.numbers (drawn.mark || c.is_won.result) drawn.sighting c.raise_for.ensures) all;
       mark = λ up. inr (subst (SomeWin side) (sym all) (last_wins side c.loop-job.found.items f (c.is_won.ensures.0 ((marked c.raise_for.new.seat.mark drawn.mark c.is_won.result mark down).0 up))));
     }
+
+pub returns-clause-drawn : goal.returns-clause-drawn
+returns-clause-drawn g c =
+    drawn_all c.args.desk.now.jobs c.args.seat.numbers c.loop-job.seat.numbers c.next_job.new.seat.numbers c.loop-job.found.items c.next_job.new.found.items c.loop-job.invariant.drawn c.next_job.ensures.found c.in_default.ensures.spare

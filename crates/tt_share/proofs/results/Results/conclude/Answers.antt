@@ -55,6 +55,13 @@ returns-in-Some-clause-stuck c =
     let least = least_at c.args.self.line.state.to_move c.to_move.result c.args.self.ends c.as_slice.result.now c.in-Some.job side ends c.in-Some.ensures.least in
     λ job turn reason search none stuck at. absurd (none c.in-Some.job least.wins)
 
+pub returns-in-Some-clause-replies : goal.returns-in-Some-clause-replies
+returns-in-Some-clause-replies c =
+    let side : c.to_move.result ≡ c.args.self.line.state.to_move = c.to_move.ensures ∙ ap (λ (p : Progress). p.line.state.to_move) c.self.view_is in
+    let ends : c.as_slice.result.now ≡ c.args.self.ends = c.as_slice.ensures.value ∙ ap (λ (p : Progress). p.ends) c.self.view_is in
+    let least = least_at c.args.self.line.state.to_move c.to_move.result c.args.self.ends c.as_slice.result.now c.in-Some.job side ends c.in-Some.ensures.least in
+    λ none unstuck. absurd (none c.in-Some.job least.wins)
+
 pub returns-in-Some-Stuck-clause-answer : goal.returns-in-Some-Stuck-clause-answer
 returns-in-Some-Stuck-clause-answer c =
     let turns : c.as_slice-turns.result.now ≡ legal_turns c.args.self.line.frame c.args.self.line.state =
@@ -94,6 +101,14 @@ returns-in-Some-Stuck-clause-stuck c =
     λ other t reason search none least at.
     same_stuck c.args.self.line c.args.self.ends i other turn t c.in-Some-Stuck.reason reason c.in-Some-Stuck.search search
     (stuck_same c.args.self.ends i other c.in-Some-Stuck.reason reason c.in-Some-Stuck.search search this c.loop-job.invariant.unstuck least) this least.stuck job at
+
+pub returns-in-Some-Stuck-clause-replies : goal.returns-in-Some-Stuck-clause-replies
+returns-in-Some-Stuck-clause-replies c =
+    let i = c.loop-job.job in
+    let there : HasEnd c.args.self.ends i c.in-Some-Stuck.field-0 =
+    ap (λ (p : Progress). slice_get p.ends i) (sym c.self.view_is) ∙ (sym (c.loop-job.invariant.same i (omega arith)) ∙ c.in-Some-Stuck.ensures.taken) in
+    let this : HasEnd c.args.self.ends i (Stuck c.in-Some-Stuck.reason c.in-Some-Stuck.search) = subst (HasEnd c.args.self.ends i) c.in-Some-Stuck.field-0-is there in
+    λ none unstuck. unstuck i (Stuck c.in-Some-Stuck.reason c.in-Some-Stuck.search, this, tt)
 
 pub unreachable-requires-in-None : goal.unreachable-requires-in-None
 unreachable-requires-in-None c =

@@ -1,12 +1,19 @@
 use Rattle.std.proofs.Common.{◌≡◌, ◌∙◌, ◌<◌, ◌+◌, ℕ, sym, ap, subst, arith}
 use Rattle.tt_game.specs.declared.frame.Side.{Side}
 use Rattle.tt_share.specs.Results.{Progress, IsWinAt, StopsAtWin}
-use Rattle.tt_share.proofs.Placing.{same_twice}
+use Rattle.tt_share.proofs.Placing.{same_twice, keeps_twice}
 use Rattle.tt_share.proofs.Wins.{ready_by, filled_more, no_win, win_kept, lost_more, same_more, stops_at, stops_never}
 use Rattle.tt_share.proofs.results.Results.search_missing.Goals as goal
 
 pub returns-in-Some-clause-ready : goal.returns-in-Some-clause-ready
 returns-in-Some-clause-ready g c = ready_by c.in-Some.ensures
+
+pub returns-then-search_job-clause-kept : goal.returns-then-search_job-clause-kept
+returns-then-search_job-clause-kept g c =
+    keeps_twice c.args.self.now.ends c.loop-job.self.ends c.search_job.new.self.ends c.loop-job.invariant.kept c.search_job.ensures.kept
+
+pub returns-then-search_job-clause-won : goal.returns-then-search_job-clause-won
+returns-then-search_job-clause-won g c = λ job win. absurd (c.in_default.ensures job win)
 
 pub returns-then-search_job-clause-stops : goal.returns-then-search_job-clause-stops
 returns-then-search_job-clause-stops g c =
@@ -15,6 +22,9 @@ returns-then-search_job-clause-stops g c =
     let side = ap (λ (p : Progress). p.line.state.to_move) c.search_job.ensures.same in
     subst (λ (s : Side). StopsAtWin s c.args.self.now.ends new.ends) (sym side)
     (stops_at old.line.state.to_move c.args.self.now.ends old.ends new.ends c.loop-job.job c.loop-job.invariant.lost c.loop-job.invariant.rest c.search_job.ensures.others)
+
+pub returns-clause-won : goal.returns-clause-won
+returns-clause-won g c = λ job win. absurd (c.in_default.ensures job win)
 
 pub returns-clause-stops : goal.returns-clause-stops
 returns-clause-stops g c =
@@ -35,6 +45,7 @@ loop-job-preserved g c =
     record {
       same = same_twice first old new c.loop-job.invariant.same c.search_job.ensures.same;
       len = c.search_job.ensures.len ∙ c.loop-job.invariant.len;
+      kept = keeps_twice first.ends old.ends new.ends c.loop-job.invariant.kept c.search_job.ensures.kept;
       filled = filled_more old.ends new.ends c.loop-job.job c.loop-job.invariant.filled c.search_job.ensures.others c.search_job.ensures.filled;
       lost = subst (λ (s : Side). (k : ℕ) → k < c.loop-job.job + 1 → ¬ IsWinAt s new.ends k) (sym side) lost;
       rest = same_more first.ends old.ends new.ends c.loop-job.job c.loop-job.invariant.rest c.search_job.ensures.others;

@@ -1,5 +1,5 @@
 use Rattle.std.proofs.Common.{◌≡◌, ℕ, ◌<◌, ◌≤◌, slice_get, length}
-use Rattle.tt_share.specs.Results.{FilledBelow, IsWinAt}
+use Rattle.tt_share.specs.Results.{FilledBelow, IsWinAt, KeepsEnds}
 use Rattle.tt_share.proofs.results.Results.search_missing.Given as goal
 
 abbrev pub invariant-loop-job : goal.invariant-loop-job
@@ -7,6 +7,7 @@ invariant-loop-job g l = record {
   same : l.self ≡ record l.initial.self { ends = l.self.ends };
   len : length l.self.ends ≡ length l.initial.self.ends;
   filled : FilledBelow l.job l.self.ends;
+  kept : KeepsEnds l.initial.self.ends l.self.ends;
   lost : (k : ℕ) → k < l.job → ¬ IsWinAt l.self.line.state.to_move l.self.ends k;
   rest : (k : ℕ) → l.job ≤ k → slice_get l.self.ends k ≡ slice_get l.initial.self.ends k;
 }

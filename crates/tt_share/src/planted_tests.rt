@@ -1,0 +1,192 @@
+//! Proofs planted into a table, without which a budget of one expansion isn't enough.
+
+ghost use Rattle.std.specs.Prelude.{◌≤◌};
+
+use crate::alone_tests::{posed, put_first, verdict};
+use crate::{Answer, LockedStore, NoGate, Stuck, Table, solve};
+use std::alloc::Global;
+use std::sync::{Arc, Wait};
+use std::test::Fail;
+use std::thread::Threads;
+use tt_game::Line;
+use tt_proof::Proof;
+use tt_search::{End, Kept, Limits, NoStore, Reason, Search, Store};
+
+/// White's two stones with liberties on both sides: Black to move kills at the third point.
+const SPLIT: &[u8] = b"(;SZ[4:1]AW[ba][da]PL[B]TR[ba])";
+
+/// The same after Black's turn there.
+const SPLIT_AFTER: &[u8] = b"(;SZ[4:1]AW[ba][da]PL[B];B[ca]TR[ba])";
+
+/// A lone white stone, which lives.
+const LONE: &[u8] = b"(;SZ[4:1]AW[ba]PL[B]TR[ba])";
+
+/// The same after Black's least turn, one of three.
+const LONE_AFTER: &[u8] = b"(;SZ[4:1]AW[ba]PL[B];B[ca]TR[ba])";
+
+/// The proof that a search at the problem ends with.
+fn searched(alloc: Global, text: &[u8]) -> Result<Arc<Proof>, Fail> {
+    let Some(limits) = Limits::new(100, 500) else {
+        return Err(Fail::new("no limits"));
+    };
+    let line = posed(alloc, text)?;
+    match Search::new(alloc, line, limits)?.run(&mut NoStore) {
+        End::Settled(proof) => Ok(Arc::new(alloc, proof)?),
+        End::Stuck(_, _) => Err(Fail::new("stuck")),
+    }
+}
+
+/// A table that holds the proof of one problem.
+fn planted<R: Wait>(rt: &R, alloc: Global, text: &[u8]) -> Result<Table, Fail> {
+    let table = Table::new(alloc)?;
+    let proof = searched(alloc, text)?;
+    if LockedStore::new(rt, &table).keep(proof) != Kept::Stored {
+        return Err(Fail::new("not kept"));
+    }
+    Ok(table)
+}
+
+/// The answer to a line by so many workers over the table, with a budget of one expansion.
+fn answered<R: Threads + Wait + Sync>(
+    rt: &R,
+    alloc: Global,
+    line: &Line,
+    workers: usize,
+    table: &Table,
+) -> Result<Answer, Fail>
+    requires { (1 ≤ workers) × (workers ≤ 64) }
+{
+    let Some(limits) = Limits::new(1, 512) else {
+        return Err(Fail::new("no limits"));
+    };
+    if line.winner().is_some() {
+        return Err(Fail::new("nothing to solve"));
+    }
+    Ok(solve(rt, alloc, line, &limits, workers, table, &NoGate))
+}
+
+/// The verdict on a problem, by so many workers over the table.
+fn solved<R: Threads + Wait + Sync>(
+    rt: &R,
+    alloc: Global,
+    text: &[u8],
+    workers: usize,
+    table: &Table,
+) -> Result<Vec<u8>, Fail>
+    requires { (1 ≤ workers) × (workers ≤ 64) }
+{
+    let line = posed(alloc, text)?;
+    let answer = answered(rt, alloc, &line, workers, table)?;
+    verdict(alloc, &line, answer)
+}
+
+/// The verdicts on a problem by 1, 2 and 64 workers, over a table with the proof of another.
+fn solved_with<R: Threads + Wait + Sync>(
+    rt: &R,
+    alloc: Global,
+    text: &[u8],
+    other: &[u8],
+) -> Result<[Vec<u8>; 3], Fail> {
+    let one = planted(rt, alloc, other)?;
+    let two = planted(rt, alloc, other)?;
+    let many = planted(rt, alloc, other)?;
+    Ok([
+        solved(rt, alloc, text, 1, &one)?,
+        solved(rt, alloc, text, 2, &two)?,
+        solved(rt, alloc, text, 64, &many)?,
+    ])
+}
+
+/// A proof behind a first turn is found by the workers.
+#[test]
+fn workers_find_a_planted_proof(rt: HostRuntime) -> Result<(), Fail> {
+    for got in &solved_with(&rt, rt.alloc(), SPLIT, SPLIT_AFTER)? {
+        assert!(&rt; got.as_slice() == b"killed ca".as_slice());
+    }
+    Ok(())
+}
+
+/// A proof of the problem itself is found before they start, of either side.
+#[test]
+fn the_problem_itself_is_found(rt: HostRuntime) -> Result<(), Fail> {
+    for got in &solved_with(&rt, rt.alloc(), SPLIT, SPLIT)? {
+        assert!(&rt; got.as_slice() == b"killed ca".as_slice());
+    }
+    for got in &solved_with(&rt, rt.alloc(), LONE, LONE)? {
+        assert!(&rt; got.as_slice() == b"lives".as_slice());
+    }
+    Ok(())
+}
+
+/// Where the least turn is settled by a planted proof, and doesn't win, the next one is stuck with its own reason: its
+/// search is kept, though it isn't its worker's first.
+#[test]
+fn a_stuck_search_is_kept_behind_a_settled_one(rt: HostRuntime) -> Result<(), Fail> {
+    for got in &solved_with(&rt, rt.alloc(), LONE, LONE_AFTER)? {
+        assert!(&rt; got.as_slice() == b"budget".as_slice());
+    }
+    Ok(())
+}
+
+/// The turn that is stuck for want of budget.
+fn stuck_turn(alloc: Global, line: &Line, stuck: &Stuck) -> Result<Vec<u8>, Fail> {
+    if stuck.reason != Reason::Budget || stuck.search.is_none() {
+        return Err(Fail::new("another reason"));
+    }
+    let mut out = Vec::new(alloc);
+    put_first(&mut out, line.frame().size, &Some(stuck.turn))?;
+    Ok(out)
+}
+
+/// The turn that is stuck at a problem, by so many workers over the table.
+fn stuck_at<R: Threads + Wait + Sync>(
+    rt: &R,
+    alloc: Global,
+    text: &[u8],
+    workers: usize,
+    table: &Table,
+) -> Result<Vec<u8>, Fail>
+    requires { (1 ≤ workers) × (workers ≤ 64) }
+{
+    let line = posed(alloc, text)?;
+    match answered(rt, alloc, &line, workers, table)? {
+        Answer::Settled { proof: _, first: _ } => Err(Fail::new("settled")),
+        Answer::Unsettled(stuck) => stuck_turn(alloc, &line, &stuck),
+    }
+}
+
+/// Over a new table it is the least turn that is stuck.
+#[test]
+fn the_least_turn_is_stuck(rt: HostRuntime) -> Result<(), Fail> {
+    let alloc = rt.alloc();
+    for problem in [SPLIT, LONE] {
+        for workers in [1usize, 2, 64] {
+            let table = Table::new(alloc)?;
+            let turn = stuck_at(&rt, alloc, problem, workers, &table)?;
+            assert!(&rt; turn.as_slice() == b" ca".as_slice());
+        }
+    }
+    Ok(())
+}
+
+/// The turn that is stuck by so many workers where the least one's proof is in the table.
+fn stuck_next<R: Threads + Wait + Sync>(
+    rt: &R,
+    alloc: Global,
+    workers: usize,
+) -> Result<Vec<u8>, Fail>
+    requires { (1 ≤ workers) × (workers ≤ 64) }
+{
+    let table = planted(rt, alloc, LONE_AFTER)?;
+    stuck_at(rt, alloc, LONE, workers, &table)
+}
+
+/// With the least turn's proof in the table it is the next one.
+#[test]
+fn the_next_turn_is_stuck(rt: HostRuntime) -> Result<(), Fail> {
+    let alloc = rt.alloc();
+    for workers in [1usize, 2, 64] {
+        assert!(&rt; stuck_next(&rt, alloc, workers)?.as_slice() == b" da".as_slice());
+    }
+    Ok(())
+}
