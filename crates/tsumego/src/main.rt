@@ -3,8 +3,12 @@
 
 mod answer;
 mod arguments;
+#[cfg(test)]
+mod device_tests;
 mod fault;
 mod finding;
+#[cfg(test)]
+mod hostile_tests;
 mod input;
 mod laws;
 mod outcome;
