@@ -11,6 +11,7 @@ mod finding;
 mod hostile_tests;
 mod input;
 mod laws;
+mod options;
 mod outcome;
 mod output;
 mod request;
