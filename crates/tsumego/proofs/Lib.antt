@@ -1,9 +1,9 @@
 pub mod Checks
 pub mod FirstTree
+pub mod Getters
 pub mod Limit
 pub mod OneCheck
 pub mod OneText
-pub mod Options
 pub mod Progress
 pub mod Values
 pub mod Verdicts

@@ -1,5 +1,5 @@
 -- What is done with each tree. Only functions below `run` cite it.
-use Rattle.std.specs.Prelude.{◌≤◌, List, Option, Some, None}
+use Rattle.std.specs.Prelude.{◌≡◌, List, Option, Some, None}
 use Rattle.tt_sgf.specs.declared.nodes.Node.{Node}
 use Rattle.tsumego.specs.declared.outcome.Outcome.{Outcome}
 use Rattle.tsumego.specs.declared.request.Command.{Command}
@@ -12,15 +12,12 @@ use Rattle.tsumego.specs.Text.{Scores}
 -- the outcomes that the task gives to a main line
 abbrev pub Makes : Task → List Node → Outcome → Type 0
 Makes Score nodes o = Scores nodes o
-Makes (Solve limits workers cert) nodes o = Solves limits cert nodes o
+Makes (Solve options) nodes o = Solves options.limits options.cert nodes o
 
--- the task can be done: a depth of at least 1, and 1 to 64 workers
-abbrev pub IsReady : Task → Type 0
-IsReady Score = Unit {0}
-IsReady (Solve limits workers cert) = (1 ≤ limits.depth) × (1 ≤ workers) × (workers ≤ 64)
-
--- what a command does with each tree, where it goes tree by tree
-abbrev pub task_for : Command → Option Task
-task_for commands.Score = Some Score
-task_for commands.Check = None
-task_for (commands.Solve limits workers cert) = Some (Solve limits workers cert)
+-- what the command does with each tree, where it goes tree by tree: with the options as they were given
+abbrev pub IsTaskOf : Command → Option Task → Type 0
+IsTaskOf commands.Score (Some Score) = Unit {0}
+IsTaskOf commands.Check None = Unit {0}
+IsTaskOf (commands.Solve limits workers cert) (Some (Solve options)) =
+    (options.limits ≡ limits) × (options.workers ≡ workers) × (options.cert ≡ cert)
+IsTaskOf c t = ⊥

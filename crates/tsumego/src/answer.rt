@@ -2,7 +2,7 @@
 ghost use Rattle.std.specs.Prelude.{◌≡◌, IfOk, false};
 ghost use Rattle.tsumego.specs.CommandLine.{IsInRange};
 ghost use Rattle.tsumego.specs.Lines.{WritesOutcome, WritesText};
-ghost use Rattle.tsumego.specs.Tasks.{IsReady, Makes, task_for};
+ghost use Rattle.tsumego.specs.Tasks.{IsTaskOf, Makes};
 ghost use Rattle.tsumego.specs.Trees.{BeginsTreesText, EarlierTreesText, IsTreesText, line_of};
 ghost use Rattle.tsumego.specs.Watching.{TakesAtMost};
 ghost use Rattle.tsumego.specs.Writing.{ForInput, Writes, WritesOf, is_input_fault, is_output_fault};
@@ -10,6 +10,7 @@ ghost use Rattle.tsumego.specs.Writing.{ForInput, Writes, WritesOf, is_input_fau
 use crate::fault::RunFault;
 use crate::finding::find;
 use crate::input::{MOST_READ, read_input};
+use crate::options::Options;
 use crate::outcome::{Outcome, line};
 use crate::output::write_bytes;
 use crate::request::Command;
@@ -47,8 +48,7 @@ fn answer_tree<X: Threads + Wait + Sync, W: Write>(
     main: &MainLine,
     writer: &mut Watched<W>,
 ) -> Result<bool, RunFault>
-    requires ready { IsReady task.now }
-    requires working { writer.old.failed ≡ false }
+    requires { writer.old.failed ≡ false }
     ensures written { WritesOutcome (Makes task.now) number main.now.nodes result (W.contents writer.old.device) (W.contents writer.new.device) }
     ensures failed { writer.new.failed ≡ is_output_fault result }
 {
@@ -87,8 +87,7 @@ fn answer_trees<X: Threads + Wait + Sync, W: Write>(
     input: &[u8],
     writer: &mut Watched<W>,
 ) -> Result<u8, RunFault>
-    requires ready { IsReady task.now }
-    requires working { writer.old.failed ≡ false }
+    requires { writer.old.failed ≡ false }
     ensures written { WritesOf (IsTreesText (Makes task.now) input.now) (BeginsTreesText (Makes task.now) input.now)
         (EarlierTreesText (Makes task.now) input.now) result (W.contents writer.old.device) (W.contents writer.new.device) }
     ensures reading { is_input_fault result ≡ false }
@@ -140,7 +139,8 @@ fn answer_certificate<W: Write>(
 
 /// What a command does with each tree, where it goes tree by tree.
 fn task_of(command: &Command) -> Option<Task>
-    ensures { result ≡ task_for command.now }
+    requires { IsInRange command.now }
+    ensures { IsTaskOf command.now result }
 {
     match command {
         Command::Score => Some(Task::Score),
@@ -149,11 +149,11 @@ fn task_of(command: &Command) -> Option<Task>
             limits,
             workers,
             cert,
-        } => Some(Task::Solve {
+        } => Some(Task::Solve(Options {
             limits: *limits,
             workers: *workers,
             cert: *cert,
-        }),
+        })),
     }
 }
 

@@ -30,7 +30,7 @@ Version 0.1.0";
 
 const SOLVE_END: &str = "Reads problems from standard input:
   tsumego solve < problem.sgf
-A problem has a triangle (TR) on the target stone and squares (SQ) where plays are allowed.
+A problem has triangles (TR) on the target stones and squares (SQ) where plays are allowed.
 Answers, where K counts the problems:
   K killed TURN    the attacker is to move and wins, by this turn
   K killed         the defender is to move, and the attacker wins

@@ -54,8 +54,8 @@ fn find_at(alloc: Global, line: &mut Line, certificate: &[u8]) -> Result<Finding
             Ok(false) => Ok(Finding::Invalid),
             Err(NoMemory) => Err(NoMemory),
         },
-        Err(CertFault::Syntax) => Ok(Finding::Refused(30)),
-        Err(CertFault::TooDeep) => Ok(Finding::Refused(31)),
+        Err(CertFault::Syntax) => Ok(Finding::Refused(CertFault::Syntax.code())),
+        Err(CertFault::TooDeep) => Ok(Finding::Refused(CertFault::TooDeep.code())),
         Err(CertFault::NoMemory) => Err(NoMemory),
     }
 }

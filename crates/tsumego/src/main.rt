@@ -3,10 +3,15 @@
 
 mod answer;
 mod arguments;
+#[cfg(test)]
+mod device_tests;
 mod fault;
 mod finding;
+#[cfg(test)]
+mod hostile_tests;
 mod input;
 mod laws;
+mod options;
 mod outcome;
 mod output;
 mod request;

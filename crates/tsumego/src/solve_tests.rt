@@ -108,7 +108,7 @@ const ROWS: [((&str, &str), &str, &str, u8); 21] = [
     ),
 ];
 
-/// What `solve` answers to an input with an option and so many workers, and its status.
+/// What `solve` answers to an input with an option, and so many workers where a number is given, and its status.
 fn solved<X: Threads + Wait + Sync>(
     rt: &X,
     alloc: Global,
@@ -117,26 +117,25 @@ fn solved<X: Threads + Wait + Sync>(
     input: &str,
 ) -> Result<(Vec<u8>, u8), Fail> {
     let (name, value) = option;
-    let bytes = input.as_bytes();
-    if name.is_empty() {
-        answered(rt, alloc, &["solve", "--workers", workers], bytes)
-    } else if value.is_empty() {
-        answered(rt, alloc, &["solve", name, "--workers", workers], bytes)
-    } else {
-        answered(
-            rt,
-            alloc,
-            &["solve", name, value, "--workers", workers],
-            bytes,
-        )
+    let mut words = Vec::new(alloc);
+    words.push("solve")?;
+    for word in [name, value] {
+        if !word.is_empty() {
+            words.push(word)?;
+        }
     }
+    if !workers.is_empty() {
+        words.push("--workers")?;
+        words.push(workers)?;
+    }
+    answered(rt, alloc, words.as_slice(), input.as_bytes())
 }
 
 #[test]
 fn answers_rows(rt: HostRuntime) -> Result<(), Fail> {
     let alloc = rt.alloc();
     for (option, input, want, status) in ROWS {
-        for workers in ["1", "2", "64"] {
+        for workers in ["", "1", "2", "64"] {
             let (out, got) = solved(&rt, alloc, option, workers, input)?;
             assert!(rt;
                 out.as_slice() == want.as_bytes() && got == status,

@@ -1,24 +1,20 @@
 //! What is done with each tree of an input.
 ghost use Rattle.std.specs.Prelude.{IfOk};
-ghost use Rattle.tsumego.specs.Tasks.{IsReady, Makes};
+ghost use Rattle.tsumego.specs.Tasks.{Makes};
 
+use crate::options::Options;
 use crate::outcome::{Outcome, score};
 use crate::solving::solve;
 use std::alloc::Global;
 use std::sync::Wait;
 use std::thread::Threads;
-use tt_search::Limits;
 use tt_sgf::{MainLine, NoMemory};
 
 /// What is done with each tree of an input: it is scored as a record or solved as a problem.
 #[derive(Clone, Copy, Debug)]
 pub enum Task {
     Score,
-    Solve {
-        limits: Limits,
-        workers: usize,
-        cert: bool,
-    },
+    Solve(Options),
 }
 
 impl Task {
@@ -29,16 +25,11 @@ impl Task {
         alloc: Global,
         main: &MainLine,
     ) -> Result<Outcome, NoMemory>
-        requires { IsReady self.now }
         ensures { IfOk result (Makes self.now main.now.nodes) }
     {
         match self {
             Task::Score => score(alloc, main),
-            Task::Solve {
-                limits,
-                workers,
-                cert,
-            } => solve(rt, alloc, main, limits, *workers, *cert),
+            Task::Solve(options) => solve(rt, alloc, main, *options),
         }
     }
 }

@@ -9,8 +9,6 @@ use crate::fault::RunFault;
 use crate::request::Command;
 use crate::watched::Watched;
 use std::alloc::{AllocError, Global};
-use std::io;
-use std::io::{ErrorKind, Read, Write};
 use std::sync::Wait;
 use std::test::Fail;
 use std::thread::Threads;
@@ -196,22 +194,6 @@ const ROWS: [(&str, &str, &str, u8); 35] = [
     ),
 ];
 
-/// The same, where the input is a text, a part that stands so many times, and the end.
-const LONG_ROWS: [(&str, &str, (&str, usize), &str, &str, u8); 5] = [
-    ("score", "", (" ", 1_048_577), "", "1 refused 2\n", 1),
-    ("score", "", (" ", 1_048_576), "", "1 refused 1\n", 1),
-    ("check", "", (" ", 1_048_577), "", "refused 2\n", 1),
-    ("check", "", (" ", 1_048_576), "", "refused 1\n", 1),
-    (
-        "check",
-        "(;SZ[4:1]AW[ba][da]PL[B]TR[ba])killed ",
-        ("!--", 513),
-        ".",
-        "refused 31\n",
-        1,
-    ),
-];
-
 /// What a command answers to an input, and its status.
 pub fn answered<X: Threads + Wait + Sync>(
     rt: &X,
@@ -245,25 +227,6 @@ fn answers_rows(rt: HostRuntime) -> Result<(), Fail> {
 }
 
 #[test]
-fn answers_long_rows(rt: HostRuntime) -> Result<(), Fail> {
-    let alloc = rt.alloc();
-    for (word, front, (part, times), end, want, status) in LONG_ROWS {
-        let mut input = Vec::new(alloc);
-        input.extend_from_slice(front.as_bytes())?;
-        for _ in 0..times {
-            input.extend_from_slice(part.as_bytes())?;
-        }
-        input.extend_from_slice(end.as_bytes())?;
-        let (out, got) = answered(&rt, alloc, &[word], input.as_slice())?;
-        assert!(rt;
-            out.as_slice() == want.as_bytes() && got == status,
-            "{word} {times}"
-        );
-    }
-    Ok(())
-}
-
-#[test]
 fn refuses_lines(rt: HostRuntime) -> Result<(), Fail> {
     let alloc = rt.alloc();
     for word in ["", "scor", "--help", "help", "--budget", "score "] {
@@ -283,106 +246,5 @@ fn names_faults(rt: HostRuntime) -> Result<(), Fail> {
     assert!(rt; output.as_str() == "tsumego: output");
     let memory = format!(in alloc; "{}", RunFault::Memory)?;
     assert!(rt; memory.as_str() == "tsumego: memory");
-    Ok(())
-}
-
-/// A reader that gives one byte at a time, and fails after a number of reads.
-#[derive(Drop)]
-struct Slow<'a> {
-    rest: &'a [u8],
-    reads: usize,
-}
-
-impl Read for Slow<'_> {
-    fn read(&mut self, buf: &mut [u8]) -> io::Result<usize> {
-        if self.reads == 0 {
-            return Err(io::Error::from(ErrorKind::Interrupted));
-        }
-        self.reads -= 1;
-        if buf.is_empty() || self.rest.is_empty() {
-            return Ok(0);
-        }
-        buf[0] = self.rest[0];
-        self.rest = &self.rest[1..];
-        Ok(1)
-    }
-}
-
-/// A writer that takes a few bytes at a time, and fails where it is full: by an error, or by taking none.
-#[derive(Drop)]
-struct Narrow {
-    taken: Vec<u8>,
-    room: usize,
-    step: usize,
-    errs: bool,
-}
-
-impl Write for Narrow {
-    fn write(&mut self, buf: &[u8]) -> io::Result<usize> {
-        let count = buf.len().min(self.step).min(self.room);
-        if count == 0 && self.errs {
-            return Err(io::Error::from(ErrorKind::Other));
-        }
-        self.taken.extend_from_slice(&buf[..count])?;
-        self.room -= count;
-        Ok(count)
-    }
-
-    fn flush(&mut self) -> io::Result<()> {
-        Ok(())
-    }
-}
-
-#[test]
-fn fails_at_each_read(rt: HostRuntime) -> Result<(), Fail> {
-    let alloc = rt.alloc();
-    let input = b"(;SZ[1])(;SZ[1];B[aa])";
-    for reads in 0..26 {
-        let mut out = Vec::new(alloc);
-        let mut reader = Watched::new(Slow {
-            rest: input.as_slice(),
-            reads,
-        });
-        let mut writer = Watched::new(&mut out);
-        let got = run(&rt, alloc, &Command::Score, &mut reader, &mut writer);
-        if reads <= input.len() {
-            assert!(rt;
-                got == Err(RunFault::Input) && reader.failed(),
-                "at {reads}"
-            );
-            assert!(rt; out.is_empty());
-        } else {
-            assert!(rt; got == Ok(1) && !reader.failed(), "at {reads}");
-        }
-    }
-    Ok(())
-}
-
-#[test]
-fn fails_at_each_byte(rt: HostRuntime) -> Result<(), Fail> {
-    let alloc = rt.alloc();
-    let want = b"1 black 0 white 0 unfinished\n2 refused 17\n";
-    for room in 0..want.len() + 2 {
-        for (step, errs) in [(1, false), (1, true), (7, false), (64, true)] {
-            let mut reader = Watched::new(b"(;SZ[1])(;SZ[1];B[aa])".as_slice());
-            let mut device = Narrow {
-                taken: Vec::new(alloc),
-                room,
-                step,
-                errs,
-            };
-            let mut writer = Watched::new(&mut device);
-            let got = run(&rt, alloc, &Command::Score, &mut reader, &mut writer);
-            let failed = writer.failed();
-            let Narrow { taken, .. } = device;
-            if room < want.len() {
-                assert!(rt; got == Err(RunFault::Output) && failed, "at {room}");
-                assert!(rt; taken.as_slice() == &want[..room], "at {room}");
-            } else {
-                assert!(rt; got == Ok(1) && !failed, "at {room}");
-                assert!(rt; taken.as_slice() == want.as_slice(), "at {room}");
-            }
-        }
-    }
     Ok(())
 }

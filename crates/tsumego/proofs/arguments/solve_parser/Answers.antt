@@ -2,7 +2,7 @@ use Rattle.std.proofs.Common.{ap₂, codes, ◌≡◌, ◌∙◌}
 use Rattle.clap.specs.Words.{app_of, new_app, with_rule}
 use Rattle.std.proofs.lemmas.Result.{IfOk-weaker}
 use Rattle.tsumego.specs.CommandLine.{number_rule, solve_app}
-use Rattle.tsumego.proofs.Options.{none_global}
+use Rattle.tsumego.proofs.Getters.{none_global}
 use Rattle.tsumego.proofs.arguments.solve_parser.Goals as goal
 
 pub returns-clause-shape : goal.returns-clause-shape

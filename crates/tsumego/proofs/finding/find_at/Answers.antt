@@ -14,7 +14,9 @@ returns-in-Ok-false c =
     (search (rules, c.in-Ok-false.ensures.exact, c.in-Ok-false.field-0-test))
 
 pub returns-in-Err-Syntax : goal.returns-in-Err-Syntax
-returns-in-Err-Syntax c = none_at c.args.line.now c.frame.result.now c.args.certificate.now c.frame.ensures.value c.in-Err-Syntax.field-0 c.in-Err-Syntax.field-0-is c.in-Err-Syntax.ensures
+returns-in-Err-Syntax c =
+    rw c.code.ensures (none_at c.args.line.now c.frame.result.now c.args.certificate.now c.frame.ensures.value c.in-Err-Syntax.field-0 c.in-Err-Syntax.field-0-is c.in-Err-Syntax.ensures)
 
 pub returns-in-Err-TooDeep : goal.returns-in-Err-TooDeep
-returns-in-Err-TooDeep c = deep_at c.args.line.now c.frame.result.now c.args.certificate.now c.frame.ensures.value c.in-Err-TooDeep.field-0 c.in-Err-TooDeep.field-0-is c.in-Err-TooDeep.ensures
+returns-in-Err-TooDeep c =
+    rw c.code-in-Err-TooDeep.ensures (deep_at c.args.line.now c.frame.result.now c.args.certificate.now c.frame.ensures.value c.in-Err-TooDeep.field-0 c.in-Err-TooDeep.field-0-is c.in-Err-TooDeep.ensures)

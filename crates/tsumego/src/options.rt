@@ -1,0 +1,18 @@
+//! The options of `solve`.
+ghost use Rattle.std.specs.Prelude.{◌≤◌};
+
+use tt_search::Limits;
+
+/// How problems are solved. Each option lies in its range.
+#[derive(Clone, Copy, Debug)]
+pub struct Options {
+    /// How many expansions each first turn may take, and how many turns deep the search may go from the
+    /// problem: at least 1.
+    pub limits: Limits,
+    /// How many workers search: 1 to 64.
+    pub workers: usize,
+    /// Whether the certificate of each verdict is written.
+    pub cert: bool,
+    ghost depth_in: { 1 ≤ limits.depth },
+    ghost workers_in: { (1 ≤ workers) × (workers ≤ 64) },
+}
