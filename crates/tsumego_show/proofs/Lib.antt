@@ -1,0 +1,5 @@
+pub mod FirstTree
+pub mod Limit
+pub mod Texts
+pub mod Told
+pub mod Watching
