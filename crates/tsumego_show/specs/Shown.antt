@@ -6,6 +6,7 @@ use Rattle.tt_game.specs.declared.faults.GameFault.{GameFault}
 use Rattle.tt_game.specs.Faults.{code_of}
 use Rattle.tt_game.specs.Line.{Standing}
 use Rattle.tt_game.specs.Problems.{problem_of}
+use Rattle.tsumego_show.specs.Hints.{hints}
 use Rattle.tsumego_show.specs.Picture.{picture}
 
 -- the line on a refusal of tree number k, which byte 10 ends
@@ -14,7 +15,7 @@ refusal k code = decimal k ++ (codes " refused " ++ (decimal code ++ 10 ∷ []))
 
 -- the text on tree number k, which is a problem or refused
 abbrev pub tree_text : ℕ → Result Standing GameFault → List ℕ
-tree_text k (Ok p) = decimal k ++ (32 ∷ picture p)
+tree_text k (Ok p) = decimal k ++ (32 ∷ (picture p ++ hints p))
 tree_text k (Err e) = refusal k (code_of e)
 
 abbrev pub is_refused : Result Standing GameFault → Bool

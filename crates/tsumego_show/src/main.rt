@@ -2,7 +2,9 @@
 #![tactic(auto)]
 
 mod fault;
+mod hints;
 mod input;
+mod marks;
 mod output;
 mod picture;
 mod running;

@@ -3,6 +3,7 @@ ghost use Rattle.std.specs.Prelude.{◌≡◌, ◌++◌, if◌then◌else◌, If
 ghost use Rattle.tt_game.specs.Problems.{problem_of};
 ghost use Rattle.tsumego_show.specs.Shown.{IsShown, is_refused, refusal, tree_text};
 
+use crate::hints::put_hints;
 use crate::picture::put_picture;
 use std::alloc::Global;
 use tt_game::{GameFault, Line, problem};
@@ -23,7 +24,8 @@ fn put_problem(alloc: Global, out: &mut Vec<u8>, number: usize, line: &Line) -> 
 {
     let text = format!(in alloc; "{number} ")?;
     out.extend_from_slice(text.as_bytes())?;
-    put_picture(out, line)
+    put_picture(out, line)?;
+    put_hints(alloc, out, line)
 }
 
 /// Writes the text on a tree behind the text, and says whether it was refused.
