@@ -1,0 +1,6 @@
+pub mod FirstTree
+pub mod Limit
+pub mod Spreading
+pub mod Texts
+pub mod Told
+pub mod Watching

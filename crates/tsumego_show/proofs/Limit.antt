@@ -1,0 +1,57 @@
+-- Lemmas on inputs past the limit, of which only a part is read, and on how writing a text ends.
+use Rattle.std.proofs.Common.{true, false, ◌≡◌, ◌≤◌, ◌⊎◌, ℕ, Bool, List, inl, inr, Option, None, Some, Ok, Err, length, take, arith, subst}
+use Rattle.std.specs.declared.result.Result.{Result}
+use Rattle.std.proofs.lemmas.List.{take_all, length-take-le}
+use Rattle.std.proofs.lemmas.Bool.{cases_lt}
+use Rattle.std.proofs.KnownBytes.{Keeps-refl}
+use Rattle.tsumego_show.specs.declared.fault.RunFault.{RunFault}
+use Rattle.tsumego_show.specs.declared.fault.RunFault.TheVariants.{Input, Output, Memory}
+use Rattle.tsumego_show.specs.Lines.{Breaks}
+use Rattle.tsumego_show.specs.Shown.{IsShown, IsTold, too_long, trees}
+use Rattle.tsumego_show.specs.Watching.{IsInput}
+use Rattle.tsumego_show.specs.Writing.{ForInput, Writes, is_output_fault}
+
+-- the input fits, or its part up to the limit is too long as well
+cut_or_whole : (most : ℕ) (input : List ℕ) → (take most input ≡ input) ⊎ ((length (take most input) ≡ most) × (most ≤ length input))
+cut_or_whole most input = elim (cases_lt most (length input)) [
+  | inl lt ↦ let le : most ≤ length input = omega arith in inr (length-take-le most input le, le)
+  | inr le ↦ inl (take_all most input le)
+]
+
+long_told : (input part text : List ℕ) (refused : Bool) → length part ≡ 1048577 → 1048577 ≤ length input → IsTold part text refused → IsTold input text refused
+long_told input part text refused e le (too_long long) = too_long (omega arith)
+long_told input part text refused e le (trees text' refused' small h) = absurd (omega arith)
+
+shown_whole : (input text : List ℕ) (status : ℕ) → IsShown (take 1048577 input) text status → IsShown input text status
+shown_whole input text status h = elim (cut_or_whole 1048577 input) [
+  | inl e ↦ subst (λ (x : List ℕ). IsShown x text status) e h
+  | inr p ↦ (h.0, long_told input (take 1048577 input) text h.0 p.0 p.1 h.1, h.2)
+]
+
+writes_whole : (input : List ℕ) (r : Result ℕ RunFault) (a b : Option (List ℕ)) → Writes (take 1048577 input) r a b → Writes input r a b
+writes_whole input (Ok status) a b w = (w.0, shown_whole input w.0 status w.1, w.2)
+writes_whole input (Err Input) a b w = w
+writes_whole input (Err Output) a b w = (w.0, w.1, w.2, shown_whole input w.0 w.1 w.3, w.4)
+writes_whole input (Err Memory) a b w = w
+
+-- what is written on the part up to the limit is written on the input
+pub writes_read : (told : Option (List ℕ)) (bytes : List ℕ) (r : Result ℕ RunFault) (a b : Option (List ℕ)) → IsInput 1048577 told bytes → Writes bytes r a b
+    → ForInput told (λ input. Writes input r a b)
+writes_read None bytes r a b e w = (bytes, w)
+writes_read (Some input) bytes r a b e w = writes_whole input r a b (subst (λ (x : List ℕ). Writes x r a b) e w)
+
+-- nothing is written where nothing was read
+nothing_written : (input : List ℕ) (e : RunFault) (a : Option (List ℕ)) → is_output_fault {A = ℕ} (Err e) ≡ false → Writes input (Err e) a a
+nothing_written input Input a quiet = Keeps-refl a
+nothing_written input Output a quiet = let bad : true ≡ false = quiet in cc
+nothing_written input Memory a quiet = Keeps-refl a
+
+pub writes_nothing : (told : Option (List ℕ)) (e : RunFault) (a : Option (List ℕ)) → is_output_fault {A = ℕ} (Err e) ≡ false → ForInput told (λ input. Writes input (Err e) a a)
+writes_nothing None e a quiet = (Rattle.std.proofs.Common.[], nothing_written Rattle.std.proofs.Common.[] e a quiet)
+writes_nothing (Some input) e a quiet = nothing_written input e a quiet
+
+-- a fault came where a text was to be written
+pub text_breaks : (input text : List ℕ) (status : ℕ) (e : RunFault) (a b : Option (List ℕ)) → IsShown input text status → Breaks text e a b → Writes input (Err e) a b
+text_breaks input text status Input a b h w = absurd w
+text_breaks input text status Output a b h w = (text, status, w.0, h, w.1)
+text_breaks input text status Memory a b h w = w

@@ -1,0 +1,98 @@
+-- Lemmas on a text that is told tree by tree.
+use Rattle.std.proofs.Common.{◌≡◌, ◌≤◌, ◌<◌, ◌+◌, ◌-◌, ◌⊎◌, ℕ, List, [], ◌++◌, Bool, true, false, ◌||◌, inl, inr, refl, sym, ap, ap₂, ◌∙◌, length, take, drop, arith, append-nil, append_assoc, subst, if◌then◌else◌}
+use Rattle.std.proofs.lemmas.List.{take_all, length-drop}
+use Rattle.tt_sgf.specs.declared.nodes.Node.{Node}
+use Rattle.tt_sgf.specs.Grammar.{GameTree, HasNoTree, SpelledUpTo, main_line}
+use Rattle.tt_game.specs.Problems.{problem_of}
+use Rattle.tsumego_show.specs.Shown.{HasOpen, IsShown, IsTold, Tells, ended, is_refused, most_bytes, refusal, stopped, too_long, tree, tree_text, trees}
+
+or_assoc : (x y z : Bool) → ((x || y) || z) ≡ (x || (y || z))
+or_assoc true y z = refl
+or_assoc false y z = refl
+
+or_true : (x : Bool) → (x || true) ≡ true
+or_true true = refl
+or_true false = refl
+
+or_false : (x : Bool) → (x || false) ≡ x
+or_false true = refl
+or_false false = refl
+
+-- what is told on the rest, behind the text so far, is told on the input
+abbrev pub IsSoFar : List ℕ → ℕ → List ℕ → List ℕ → Bool → Type 0
+IsSoFar input k rest text refused =
+    (more : List ℕ) (other : Bool) → Tells k rest more other → Tells 1 input (text ++ more) (refused || other)
+
+pub at_start : (input : List ℕ) → IsSoFar input 1 input [] false
+at_start input = λ more other h. h
+
+-- one more tree
+pub tree_more : (input : List ℕ) (k : ℕ) (rest text : List ℕ) (refused : Bool) (used : ℕ) (t : GameTree) (nodes : List Node) (text' : List ℕ) (bad : Bool)
+    → IsSoFar input k rest text refused → SpelledUpTo rest used t → nodes ≡ main_line t → text' ≡ text ++ tree_text k (problem_of nodes)
+    → bad ≡ is_refused (problem_of nodes) → IsSoFar input (k + 1) (take (length rest - used) (drop used rest)) text' (refused || bad)
+tree_more input k rest text refused used t nodes text' bad far s same e b = λ more other h.
+    let all : take (length rest - used) (drop used rest) ≡ drop used rest = take_all (length rest - used) (drop used rest) (omega (arith, length-drop used rest)) in
+    let one = tree k rest used t more other s (subst (λ (x : List ℕ). Tells (k + 1) x more other) all h) in
+    let here : tree_text k (problem_of (main_line t)) ≡ tree_text k (problem_of nodes) = ap (λ (x : List Node). tree_text k (problem_of x)) (sym same) in
+    let its : is_refused (problem_of (main_line t)) ≡ bad = ap (λ (x : List Node). is_refused (problem_of x)) (sym same) ∙ sym b in
+    let words : text ++ (tree_text k (problem_of (main_line t)) ++ more) ≡ text' ++ more =
+    ap (λ (x : List ℕ). text ++ (x ++ more)) here ∙ sym (append_assoc text (tree_text k (problem_of nodes)) more) ∙ ap (λ (x : List ℕ). x ++ more) (sym e) in
+    let flag : (refused || (is_refused (problem_of (main_line t)) || other)) ≡ ((refused || bad) || other) =
+    ap (λ (x : Bool). refused || (x || other)) its ∙ sym (or_assoc refused bad other) in
+    subst (λ (x : Bool). Tells 1 input (text' ++ more) x) flag (subst (λ (x : List ℕ). Tells 1 input x (refused || (is_refused (problem_of (main_line t)) || other))) words (far _ _ one))
+
+-- what is read and told so far; an input with a tree is not too long
+pub record Progress (input rest text : List ℕ) (k : ℕ) (refused : Bool) : Type 0 where
+  pub some : 1 ≤ k
+  pub small : ((k ≡ 1) × (rest ≡ input) × (text ≡ [])) ⊎ (length input ≤ most_bytes)
+  pub far : IsSoFar input k rest text refused
+
+pub progress_start : (input : List ℕ) → Progress input input [] 1 false
+progress_start input = record { some = omega arith; small = inl (refl, refl, refl); far = at_start input }
+
+module _ {input rest text : List ℕ} {k : ℕ} {refused : Bool} (p : Progress input rest text k refused) where
+  small_whole : length rest ≤ most_bytes → length input ≤ most_bytes
+  small_whole le = elim p.small [
+    | inl e ↦ subst (λ (x : List ℕ). length x ≤ most_bytes) e.1 le
+    | inr whole ↦ whole
+  ]
+
+  pub progress_step : (used : ℕ) (t : GameTree) (nodes : List Node) (text' : List ℕ) (bad : Bool) → SpelledUpTo rest used t → nodes ≡ main_line t
+      → length rest ≤ most_bytes → text' ≡ text ++ tree_text k (problem_of nodes) → bad ≡ is_refused (problem_of nodes)
+      → Progress input (take (length rest - used) (drop used rest)) text' (k + 1) (refused || bad)
+  progress_step used t nodes text' bad s same small e b = record {
+    some = omega (arith, p.some);
+    small = inr (small_whole small);
+    far = tree_more input k rest text refused used t nodes text' bad p.far s same e b;
+  }
+
+  -- no tree is spelled, at a bracket or before the first tree
+  pub progress_stopped : (k ≡ 1) ⊎ HasOpen rest → length rest ≤ most_bytes → HasNoTree rest → (text' : List ℕ) → text' ≡ text ++ refusal k 1 → IsShown input text' 1
+  progress_stopped why small none text' e = (
+    refused || true,
+    trees text' (refused || true) (small_whole small)
+        (subst (λ (x : List ℕ). Tells 1 input x (refused || true)) (sym e) (p.far (refusal k 1) true (stopped k rest why none))),
+    sym (ap (λ x. if x then 1 else 0) (or_true refused)),
+  )
+
+  -- the rest is too long, which can be at the start alone
+  pub progress_long : most_bytes < length rest → k + length rest ≤ length input + 1 → (text' : List ℕ) → text' ≡ text ++ refusal k 2 → IsShown input text' 1
+  progress_long long bound text' e = elim p.small [
+    | inl h ↦
+        let told : text' ≡ refusal 1 2 = e ∙ ap₂ (λ (x : List ℕ) n. x ++ refusal n 2) h.2 h.0 in
+        (true, subst (λ (x : List ℕ). IsTold input x true) (sym told) (too_long (subst (λ (x : List ℕ). most_bytes < length x) h.1 long)), refl)
+    | inr small ↦ absurd (omega (arith, p.some))
+  ]
+
+  -- all trees are read
+  pub progress_ended : ((k ≡ 1) → ⊥) → (HasOpen rest → ⊥) → (status : ℕ) → status ≡ (if refused then 1 else 0) → IsShown input text status
+  progress_ended more none status e = (
+    refused,
+    trees text refused (elim p.small [ inl h ↦ absurd (more h.0) | inr le ↦ le ])
+        (subst (λ (x : Bool). Tells 1 input text x) (or_false refused)
+        (subst (λ (x : List ℕ). Tells 1 input x (refused || false)) (append-nil text) (p.far [] false (ended k rest many none)))),
+    e,
+  )
+    where
+      many : 1 < k
+      many = elim (Rattle.std.proofs.lemmas.Bool.cases_lt 1 k) [ inl lt ↦ lt | inr le ↦ absurd (more (omega (arith, p.some))) ]

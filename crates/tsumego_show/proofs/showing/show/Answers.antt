@@ -1,0 +1,43 @@
+use Rattle.std.proofs.Common.{◌≡◌, ◌⊎◌, inl, inr, rules, arith, length, take, drop, ◌-◌}
+use Rattle.std.proofs.lemmas.List.{length-drop, length-take-le}
+use Rattle.tsumego_show.specs.Shown.{HasOpen}
+use Rattle.tsumego_show.proofs.Told.{progress_ended, progress_long, progress_step, progress_stopped}
+use Rattle.tsumego_show.proofs.FirstTree.{read_small, tree_within}
+use Rattle.tsumego_show.proofs.showing.show.Goals as goal
+use Rattle.tsumego_show.proofs.showing.show.Goals.{then-number-eq1, else-number-eq1+then-has_tree}
+
+pub loop-number-smaller : goal.loop-number-smaller
+loop-number-smaller c =
+    let rest = c.loop-number.rest.now in
+    let used = c.in-Ok.used in
+    let left : length (take (length rest - used) (drop used rest)) ≡ length rest - used = length-take-le (length rest - used) (drop used rest) (omega (arith, length-drop used rest)) in
+    let within = tree_within rest used c.in-Ok.ensures.found.0 c.in-Ok.ensures.found.1 in
+    omega (arith, left, within.0, within.1)
+
+pub loop-number-preserved : goal.loop-number-preserved
+loop-number-preserved c =
+    let rest = c.loop-number.rest.now in
+    let used = c.in-Ok.used in
+    let found = c.in-Ok.ensures.found in
+    let left : length (take (length rest - used) (drop used rest)) ≡ length rest - used = length-take-le (length rest - used) (drop used rest) (omega (arith, length-drop used rest)) in
+    let within = tree_within rest used found.0 found.1 in
+    record {
+      bound = omega (arith, left, within.0, within.1, c.loop-number.invariant.bound);
+      progress = progress_step c.loop-number.invariant.progress used found.0 c.in-Ok.main.nodes _ _ found.1 found.2
+          (read_small c.read_tree.result _ _ c.in-Ok.is c.read_tree.ensures.too_long) (search rules) (search rules);
+    }
+
+pub returns-in-Err-Syntax : goal.returns-in-Err-Syntax
+returns-in-Err-Syntax c =
+    let goes : (c.loop-number.number ≡ 1) ⊎ HasOpen c.loop-number.rest.now =
+    elim c.if-number-eq1.branch [ then-number-eq1 w ↦ inl w.if-number-eq1.true | else-number-eq1+then-has_tree w ↦ inr (search (rules, w.if-has_tree.true)) ] in
+    let none = c.in-Err-Syntax.ensures.syntax (search rules) in
+    progress_stopped c.loop-number.invariant.progress goes none.0 none.1 _ (search rules)
+
+pub returns-in-Err-TooLong : goal.returns-in-Err-TooLong
+returns-in-Err-TooLong c =
+    progress_long c.loop-number.invariant.progress (c.in-Err-TooLong.ensures.too_long.0 (search rules)) c.loop-number.invariant.bound _ (search rules)
+
+pub returns : goal.returns
+returns c =
+    progress_ended c.loop-number.invariant.progress c.if-number-eq1.false (search (rules, c.if-has_tree.false)) _ c.status_of.ensures

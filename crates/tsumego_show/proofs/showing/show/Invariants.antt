@@ -1,0 +1,12 @@
+use Rattle.std.proofs.Common.{◌≤◌, ◌+◌, length}
+use Rattle.tsumego_show.proofs.Told.{Progress}
+use Rattle.tsumego_show.proofs.showing.show.Given as goal
+
+abbrev pub invariant-loop-number : goal.invariant-loop-number
+invariant-loop-number l = record {
+  bound : l.number + length l.rest ≤ length l.input + 1;
+  progress : Progress l.input l.rest l.out.items l.number l.refused;
+}
+
+abbrev pub decreases-loop-number : goal.decreases-loop-number
+decreases-loop-number l = length l.rest

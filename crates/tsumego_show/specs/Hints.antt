@@ -1,0 +1,129 @@
+-- What is likely marked wrong in a problem: points that nobody can fill, stones that nobody marked, and a region that is too wide.
+use Rattle.std.specs.Prelude.{ℕ, zero, suc, ◌+◌, ◌-◌, ◌%◌, ◌&&◌, ◌||◌, not, nat_eq, nat_le, nat_lt, Bool, false, List, [], ◌∷◌, ◌++◌, codes, map, slice_index_or, if◌then◌else◌}
+use Rattle.std.specs.List.{flat_map, range_with_len}
+use Rattle.std.specs.FinSet as set
+use Rattle.tt_sgf.specs.declared.size.Size.{Size}
+use Rattle.tt_sgf.specs.Sizes.{point_count}
+use Rattle.tt_board.specs.Play.{is_empty, is_stone_of}
+use Rattle.tt_board.specs.Reach.{entry_at}
+use Rattle.tt_game.specs.declared.turns.Turn.TheVariants.{Play}
+use Rattle.tt_game.specs.Line.{Standing}
+use Rattle.tt_proof.specs.CertificateText.{turn_text}
+
+-- ---- marks: one for each point, row by row
+
+abbrev pub is_marked : List Bool → ℕ → Bool
+is_marked m q = slice_index_or m q false
+
+-- the marks on the points that are so
+abbrev pub marks_by : Size → (ℕ → Bool) → List Bool
+marks_by size so = map so (range_with_len 0 (point_count size))
+
+-- a point above, left of, right of or below point q is marked
+abbrev pub is_beside : Size → List Bool → ℕ → Bool
+is_beside size m q = (nat_le size.columns q && is_marked m (q - size.columns)) || (nat_lt 0 (q % size.columns) && is_marked m (q - 1))
+    || (nat_lt (q % size.columns + 1) size.columns && is_marked m (q + 1))
+    || (nat_lt (q + size.columns) (point_count size) && is_marked m (q + size.columns))
+
+module _ (p : Standing) where
+  -- a stone of the defender stands on q
+  abbrev pub is_defender : ℕ → Bool
+  is_defender q = is_stone_of (entry_at p.state.present q) p.frame.defender
+
+  abbrev pub is_free : ℕ → Bool
+  is_free q = is_empty (entry_at p.state.present q)
+
+  -- both sides may play on q
+  abbrev pub is_inside : ℕ → Bool
+  is_inside q = set.contains p.frame.region q
+
+  abbrev pub is_target : ℕ → Bool
+  is_target q = set.contains p.frame.targets q
+
+  -- ---- chains of the defender
+
+  -- q is marked, or a stone of the defender beside a mark
+  abbrev pub is_reached : List Bool → ℕ → Bool
+  is_reached m q = is_marked m q || (is_defender q && is_beside p.frame.size m q)
+
+  -- the marks spread so many times
+  unfoldable pub spread : ℕ → List Bool → List Bool
+  spread zero m = m
+  spread (suc n) m = marks_by p.frame.size (is_reached (spread n m))
+
+  -- the chains of the marked stones: the marks spread as often as the board has points
+  abbrev pub chains : List Bool → List Bool
+  chains m = spread (point_count p.frame.size) m
+
+  -- the chains of the targets
+  unfoldable pub target_chains : List Bool
+  target_chains = chains (marks_by p.frame.size is_target)
+
+  -- a target, or a stone of the defender in the region
+  abbrev pub is_held : ℕ → Bool
+  is_held q = is_target q || (is_inside q && is_defender q)
+
+  -- the chains of those
+  unfoldable pub held_chains : List Bool
+  held_chains = chains (marks_by p.frame.size is_held)
+
+  -- ---- hints
+
+  -- an empty point of the region, or a stone of these chains: what has no liberty outside where the region is closed
+  abbrev pub is_enclosed : ℕ → Bool
+  is_enclosed q = (is_inside q && is_free q) || is_marked held_chains q
+
+  unfoldable pub enclosed : List Bool
+  enclosed = marks_by p.frame.size is_enclosed
+
+  -- an empty point that nobody can fill, beside one of those
+  abbrev pub is_leak : ℕ → Bool
+  is_leak q = (is_free q && not (is_inside q)) && is_beside p.frame.size enclosed q
+
+  unfoldable pub leaks : List Bool
+  leaks = marks_by p.frame.size is_leak
+
+  unfoldable pub insides : List Bool
+  insides = marks_by p.frame.size is_inside
+
+  -- a stone of the defender in or beside the region, of another chain than the targets'
+  abbrev pub is_stranger : ℕ → Bool
+  is_stranger q = (is_defender q && not (is_marked target_chains q)) && (is_inside q || is_beside p.frame.size insides q)
+
+  unfoldable pub strangers : List Bool
+  strangers = marks_by p.frame.size is_stranger
+
+  -- the most points of a board that may well be a region as a whole
+  abbrev pub most_points : ℕ
+  most_points = 49
+
+  -- the region is all of a large board
+  abbrev pub is_wide : Bool
+  is_wide = nat_lt most_points (point_count p.frame.size) && nat_eq (set.len p.frame.region) (point_count p.frame.size)
+
+  -- ---- their lines; byte 10 ends each, and 32 is a blank
+
+  -- a blank and the name of a point, where it is marked
+  unfoldable pub name_if : List Bool → ℕ → List ℕ
+  name_if m q = if is_marked m q then 32 ∷ turn_text p.frame.size (Play q) else []
+
+  -- the names of the marked points
+  abbrev pub points_text : List Bool → List ℕ
+  points_text m = flat_map (name_if m) (range_with_len 0 (point_count p.frame.size))
+
+  -- the words and the points, where there are points
+  abbrev pub listed : List ℕ → List ℕ → List ℕ
+  listed words [] = []
+  listed words (b ∷ bs) = words ++ (b ∷ bs ++ 10 ∷ [])
+
+  abbrev pub leaks_line : List ℕ
+  leaks_line = listed (codes "hint: empty and not in the region, so that nobody can fill them:") (points_text leaks)
+
+  abbrev pub strangers_line : List ℕ
+  strangers_line = listed (codes "hint: stones like T in or beside the region, of other chains:") (points_text strangers)
+
+  abbrev pub wide_line : List ℕ
+  wide_line = if is_wide then codes "hint: the region is the whole of a large board" ++ 10 ∷ [] else []
+
+  abbrev pub hints : List ℕ
+  hints = leaks_line ++ (strangers_line ++ wide_line)

@@ -1,0 +1,8 @@
+-- What public contracts cite.
+pub mod Hints
+pub mod Picture
+pub mod Shown
+pub mod Watching
+pub mod Writing
+-- What private contracts and proofs cite. Nobody has to believe these.
+pub mod Lines

@@ -1,0 +1,80 @@
+-- The picture of a problem: its board with the letters of SGF above and on the left.
+use Rattle.std.specs.Prelude.{ℕ, ◌+◌, ◌*◌, Bool, true, false, List, [], ◌∷◌, ◌++◌, codes, Option, Some, None, if◌then◌else◌}
+use Rattle.std.specs.List.{flat_map, range_with_len}
+use Rattle.std.specs.FinSet as set
+use Rattle.tt_sgf.specs.declared.size.Size.{Size}
+use Rattle.tt_board.specs.declared.Colour.{Colour}
+use Rattle.tt_board.specs.declared.Colour.TheVariants.{Black, White}
+use Rattle.tt_board.specs.Reach.{entry_at}
+use Rattle.tt_game.specs.Game.{colour_of}
+use Rattle.tt_game.specs.Line.{Standing}
+
+-- ---- points, by the codes of ASCII
+
+-- T is a target, X a black stone and O a white one
+abbrev pub stone_mark : Bool → Colour → ℕ
+stone_mark true k = 84
+stone_mark false Black = 88
+stone_mark false White = 79
+
+-- the small letter of such a mark, for a stone on a point of the region
+abbrev pub small_mark : Bool → Colour → ℕ
+small_mark true k = 116
+small_mark false Black = 120
+small_mark false White = 111
+
+-- what is shown of a point, where `target` and `region` say whether it is one of them: + is an empty point of the region,
+-- and . another one
+abbrev pub mark_of : Bool → Bool → Option Colour → ℕ
+mark_of target region None = if region then 43 else 46
+mark_of target region (Some k) = if region then small_mark target k else stone_mark target k
+
+-- what is shown of the point with this number
+abbrev pub mark_at : Standing → ℕ → ℕ
+mark_at p n = mark_of (set.contains p.frame.targets n) (set.contains p.frame.region n) (entry_at p.state.present n)
+
+-- ---- lines; byte 10 ends each, and 32 is a blank
+
+-- what is shown in each of so many columns, with a blank in front
+abbrev pub columns_text : (ℕ → ℕ) → ℕ → List ℕ
+columns_text shown columns = flat_map (λ column. 32 ∷ shown column ∷ []) (range_with_len 0 columns)
+
+-- the letter of a column or a row: a is the first
+abbrev pub letter : ℕ → ℕ
+letter n = 97 + n
+
+-- the letters of the columns
+abbrev pub letters_line : Size → List ℕ
+letters_line size = 32 ∷ (columns_text letter size.columns ++ 10 ∷ [])
+
+-- what is shown of the points of a row, column by column
+abbrev pub shown_in : Standing → ℕ → ℕ → ℕ
+shown_in p row column = mark_at p (row * p.frame.size.columns + column)
+
+-- the letter of a row, and what is shown of its points
+abbrev pub row_line : Standing → ℕ → List ℕ
+row_line p row = letter row ∷ (columns_text (shown_in p row) p.frame.size.columns ++ 10 ∷ [])
+
+-- the letters of the columns above the rows
+abbrev pub board_text : Standing → List ℕ
+board_text p = letters_line p.frame.size ++ flat_map (row_line p) (range_with_len 0 p.frame.size.rows)
+
+-- ---- who moves
+
+unfoldable pub colour_name : Colour → List ℕ
+colour_name Black = codes "Black"
+colour_name White = codes "White"
+
+abbrev pub mover_text : Standing → List ℕ
+mover_text p = colour_name (colour_of p.frame p.state.to_move) ++ codes " to move, "
+
+abbrev pub target_text : Standing → List ℕ
+target_text p = codes "T is " ++ (colour_name p.frame.defender ++ 10 ∷ [])
+
+-- `Black to move, T is White`
+abbrev pub asked_line : Standing → List ℕ
+asked_line p = mover_text p ++ target_text p
+
+-- the picture of a problem
+abbrev pub picture : Standing → List ℕ
+picture p = asked_line p ++ board_text p

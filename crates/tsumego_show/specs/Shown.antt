@@ -1,0 +1,49 @@
+-- What is written for an input: a text on each of its game trees.
+use Rattle.std.specs.Prelude.{◌≡◌, ◌⊎◌, ◌+◌, ◌<◌, ◌≤◌, ℕ, Bool, true, false, ◌||◌, List, [], ◌∷◌, ◌++◌, length, drop, codes, decimal, Ok, Err, if◌then◌else◌, Contains}
+use Rattle.std.specs.declared.result.Result.{Result}
+use Rattle.tt_sgf.specs.Grammar.{GameTree, HasNoTree, SpelledUpTo, main_line}
+use Rattle.tt_game.specs.declared.faults.GameFault.{GameFault}
+use Rattle.tt_game.specs.Faults.{code_of}
+use Rattle.tt_game.specs.Line.{Standing}
+use Rattle.tt_game.specs.Problems.{problem_of}
+use Rattle.tsumego_show.specs.Hints.{hints}
+use Rattle.tsumego_show.specs.Picture.{picture}
+
+-- the line on a refusal of tree number k, which byte 10 ends
+abbrev pub refusal : ℕ → ℕ → List ℕ
+refusal k code = decimal k ++ (codes " refused " ++ (decimal code ++ 10 ∷ []))
+
+-- the text on tree number k, which is a problem or refused
+abbrev pub tree_text : ℕ → Result Standing GameFault → List ℕ
+tree_text k (Ok p) = decimal k ++ (32 ∷ (picture p ++ hints p))
+tree_text k (Err e) = refusal k (code_of e)
+
+abbrev pub is_refused : Result Standing GameFault → Bool
+is_refused (Ok p) = false
+is_refused (Err e) = true
+
+-- a `(` stands in the bytes
+abbrev pub HasOpen : List ℕ → Type 0
+HasOpen bytes = Contains bytes 40
+
+-- The text on bytes whose first tree has number k, and whether something is refused: a tree and what follows it; or no tree is
+-- left, and none was wanted; or none is spelled where one is wanted: at a `(`, or where no tree was read yet.
+pub data Tells : ℕ → List ℕ → List ℕ → Bool → Type 0 where
+  tree : (k : ℕ) (bytes : List ℕ) (count : ℕ) (t : GameTree) (more : List ℕ) (refused : Bool) → SpelledUpTo bytes count t
+      → Tells (k + 1) (drop count bytes) more refused
+      → Tells k bytes (tree_text k (problem_of (main_line t)) ++ more) (is_refused (problem_of (main_line t)) || refused)
+  ended : (k : ℕ) (bytes : List ℕ) → 1 < k → (HasOpen bytes → ⊥) → Tells k bytes [] false
+  stopped : (k : ℕ) (bytes : List ℕ) → (k ≡ 1) ⊎ HasOpen bytes → HasNoTree bytes → Tells k bytes (refusal k 1) true
+
+-- the longest input whose trees are read
+abbrev pub most_bytes : ℕ
+most_bytes = 1048576
+
+-- the text for an input, and whether something is refused: the input is too long, or its trees are told from number 1 on
+pub data IsTold (input : List ℕ) : List ℕ → Bool → Type 0 where
+  too_long : most_bytes < length input → IsTold input (refusal 1 2) true
+  trees : (text : List ℕ) (refused : Bool) → length input ≤ most_bytes → Tells 1 input text refused → IsTold input text refused
+
+-- the text for an input and the exit status: 1 where something is refused
+abbrev pub IsShown : List ℕ → List ℕ → ℕ → Type 0
+IsShown input text status = (refused : Bool) × IsTold input text refused × (status ≡ (if refused then 1 else 0))

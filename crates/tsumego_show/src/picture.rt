@@ -1,0 +1,201 @@
+//! The picture of a problem.
+ghost use Rattle.std.specs.Prelude.{◌≡◌, ◌∷◌, ◌++◌, ◌+◌, ◌*◌, ◌<◌, [], OnOk};
+ghost use Rattle.std.specs.List.{flat_map, range_with_len};
+ghost use Rattle.tt_sgf.specs.Sizes.{point_count};
+ghost use Rattle.tt_game.specs.Game.{colour_of};
+ghost use Rattle.tsumego_show.specs.Picture.{asked_line, board_text, colour_name, columns_text, letter, letters_line, mark_at, mover_text, picture, row_line, shown_in, small_mark, stone_mark, target_text};
+
+use tt_board::Colour;
+use tt_game::{Line, Side};
+use tt_sgf::{NoMemory, Point, Size};
+
+/// The mark of a stone.
+fn stone_mark(is_target: bool, colour: Colour) -> u8
+    ensures { result ≡ stone_mark is_target colour }
+{
+    if is_target {
+        return b'T';
+    }
+    match colour {
+        Colour::Black => b'X',
+        Colour::White => b'O',
+    }
+}
+
+/// The mark of a stone on a point of the region.
+fn small_mark(is_target: bool, colour: Colour) -> u8
+    ensures { result ≡ small_mark is_target colour }
+{
+    if is_target {
+        return b't';
+    }
+    match colour {
+        Colour::Black => b'x',
+        Colour::White => b'o',
+    }
+}
+
+/// What is shown of a point.
+fn mark(line: &Line, point: Point) -> u8
+    requires { point < point_count line.now.frame.size }
+    ensures { result ≡ mark_at line.now point }
+{
+    let is_target = line.frame().targets.has(point);
+    let is_playable = line.frame().region.has(point);
+    match line.present().at(point) {
+        None => if is_playable { b'+' } else { b'.' },
+        Some(colour) => {
+            if is_playable {
+                small_mark(is_target, colour)
+            } else {
+                stone_mark(is_target, colour)
+            }
+        }
+    }
+}
+
+/// The point of a column and a row of the board.
+fn point_at(size: Size, column: u16, row: u16) -> Point
+    requires column { column < size.columns }
+    requires row { row < size.rows }
+    ensures value { result ≡ row * size.columns + column }
+    ensures on_board { result < point_count size }
+{
+    let Some(point) = size.point(row * size.columns() + column) else {
+        unreachable!();
+    };
+    point
+}
+
+/// Writes a blank and a mark behind the text.
+fn put_spaced(out: &mut Vec<u8>, mark: u8) -> Result<(), NoMemory>
+    ensures { OnOk result (out.new.items ≡ out.old.items ++ 32 ∷ mark ∷ []) }
+{
+    out.push(b' ')?;
+    out.push(mark)?;
+    Ok(())
+}
+
+/// Writes a blank and the letter of each column behind the text.
+#[tactic(auto, using(crate::proofs::Texts::next_text))]
+fn put_column_letters(out: &mut Vec<u8>, size: Size) -> Result<(), NoMemory>
+    ensures { OnOk result (out.new.items ≡ out.old.items ++ columns_text letter size.columns) }
+{
+    for column in 0..size.columns() {
+        put_spaced(out, b'a' + column as u8)?;
+    }
+    Ok(())
+}
+
+/// Writes the line of the columns' letters behind the text.
+fn put_letters(out: &mut Vec<u8>, size: Size) -> Result<(), NoMemory>
+    ensures { OnOk result (out.new.items ≡ out.old.items ++ letters_line size) }
+{
+    out.push(b' ')?;
+    put_column_letters(out, size)?;
+    out.push(b'\n')?;
+    Ok(())
+}
+
+/// Writes a blank and the mark of each point of a row behind the text.
+#[tactic(auto, using(crate::proofs::Texts::next_text))]
+fn put_marks(out: &mut Vec<u8>, line: &Line, row: u16) -> Result<(), NoMemory>
+    requires { row < line.now.frame.size.rows }
+    ensures { OnOk result (out.new.items ≡ out.old.items ++ columns_text (shown_in line.now row) line.now.frame.size.columns) }
+{
+    let size = line.frame().size;
+    for column in 0..size.columns() {
+        put_spaced(out, mark(line, point_at(size, column, row)))?;
+    }
+    Ok(())
+}
+
+/// Writes a row of the board behind the text.
+fn put_row(out: &mut Vec<u8>, line: &Line, row: u16) -> Result<(), NoMemory>
+    requires { row < line.now.frame.size.rows }
+    ensures { OnOk result (out.new.items ≡ out.old.items ++ row_line line.now row) }
+{
+    out.push(b'a' + row as u8)?;
+    put_marks(out, line, row)?;
+    out.push(b'\n')?;
+    Ok(())
+}
+
+/// Writes the rows of the board behind the text.
+#[tactic(auto, using(crate::proofs::Texts::next_text))]
+fn put_rows(out: &mut Vec<u8>, line: &Line) -> Result<(), NoMemory>
+    ensures { OnOk result (out.new.items ≡ out.old.items ++ flat_map (row_line line.now) (range_with_len 0 line.now.frame.size.rows)) }
+{
+    for row in 0..line.frame().size.rows() {
+        put_row(out, line, row)?;
+    }
+    Ok(())
+}
+
+/// Writes the board behind the text.
+fn put_board(out: &mut Vec<u8>, line: &Line) -> Result<(), NoMemory>
+    ensures { OnOk result (out.new.items ≡ out.old.items ++ board_text line.now) }
+{
+    let size = line.frame().size;
+    put_letters(out, size)?;
+    put_rows(out, line)
+}
+
+/// The name of a colour.
+#[tactic(auto, unfolding(crate::specs::Picture::colour_name))]
+fn colour_name(colour: Colour) -> &'static [u8]
+    ensures { result.now ≡ colour_name colour }
+{
+    match colour {
+        Colour::Black => b"Black",
+        Colour::White => b"White",
+    }
+}
+
+/// The colour that moves.
+fn mover(line: &Line) -> Colour
+    ensures { result ≡ colour_of line.now.frame line.now.state.to_move }
+{
+    let defender = line.frame().defender;
+    match line.to_move() {
+        Side::Attacker => defender.other(),
+        Side::Defender => defender,
+    }
+}
+
+/// Writes who moves behind the text.
+fn put_mover(out: &mut Vec<u8>, line: &Line) -> Result<(), NoMemory>
+    ensures { OnOk result (out.new.items ≡ out.old.items ++ mover_text line.now) }
+{
+    out.extend_from_slice(colour_name(mover(line)))?;
+    out.extend_from_slice(b" to move, ")?;
+    Ok(())
+}
+
+/// Writes whose stones the targets are behind the text.
+fn put_target(out: &mut Vec<u8>, line: &Line) -> Result<(), NoMemory>
+    ensures { OnOk result (out.new.items ≡ out.old.items ++ target_text line.now) }
+{
+    out.extend_from_slice(b"T is ")?;
+    out.extend_from_slice(colour_name(line.frame().defender))?;
+    out.push(b'\n')?;
+    Ok(())
+}
+
+/// Writes who moves, and whose stones the targets are, behind the text.
+fn put_asked(out: &mut Vec<u8>, line: &Line) -> Result<(), NoMemory>
+    ensures { OnOk result (out.new.items ≡ out.old.items ++ asked_line line.now) }
+{
+    put_mover(out, line)?;
+    put_target(out, line)
+}
+
+/// Writes the picture of the problem at a line behind the text: who moves, and the board with the letters of SGF. T is a
+/// target, X and O are stones of Black and White, small letters are stones on a point of the region, + is an empty point of the
+/// region and . another one. `NoMemory` where memory was refused; a part may stand there then.
+pub fn put_picture(out: &mut Vec<u8>, line: &Line) -> Result<(), NoMemory>
+    ensures { OnOk result (out.new.items ≡ out.old.items ++ picture line.now) }
+{
+    put_asked(out, line)?;
+    put_board(out, line)
+}
