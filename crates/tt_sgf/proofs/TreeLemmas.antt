@@ -25,6 +25,7 @@ EventText Open text rest = text ≡ 40 ∷ rest
 EventText Close text rest = text ≡ 41 ∷ rest
 EventText (Item n) text rest = (properties : List ℕ) × AreProperties properties n.properties × (text ≡ 59 ∷ (properties ++ rest))
 
+-- a choice that gives something gives what its test chose
 cond_cases : {A : Type 0} (b : Bool) (x y : Option A) (z : A) → cond b x y ≡ Some z → ((b ≡ true) × (x ≡ Some z)) ⊎ ((b ≡ false) × (y ≡ Some z))
 cond_cases true x y z e = inl (refl, e)
 cond_cases false x y z e = inr (refl, e)
@@ -32,6 +33,7 @@ cond_cases false x y z e = inr (refl, e)
 EventText-moved : (e d : Event) (text r s : List ℕ) → d ≡ e → s ≡ r → EventText d text s → EventText e text r
 EventText-moved e d text r s p q h = subst (λ (y : Event). EventText y text r) p (subst (λ (x : List ℕ). EventText d text x) q h)
 
+-- an event that was read with nothing before it has its text there
 event_of_takes : (bytes : List ℕ) (e : Event) (r : List ℕ) → event_of bytes ≡ Some (e, r) → EventText e bytes r
 unfolding properties_at
 event_of_takes [] e r h = absurd cc
@@ -51,18 +53,22 @@ event_of_takes (b ∷ bs) e r h =
       ]
     ]
 
+-- an event that was read has its text there, behind white space
 pub event_takes : (bytes : List ℕ) (e : Event) (r : List ℕ) → event_at bytes ≡ Some (e, r) → (w : List ℕ) × (text : List ℕ) × IsBlank w × EventText e text r × (bytes ≡ w ++ text)
 unfolding event_at
 event_takes bytes e r h = let w = blanks_take bytes in (w.0, after_blanks bytes, w.1, event_of_takes (after_blanks bytes) e r h, w.2)
 
+-- the rest is shorter than the text of an event before it
 EventText-len : (e : Event) (text r : List ℕ) → EventText e text r → length r < length text
 EventText-len Open text r h = omega (arith, ap length h)
 EventText-len Close text r h = omega (arith, ap length h)
 EventText-len (Item n) text r h = omega (arith, ap length h.2, length-append h.0 r)
 
+-- each event takes something
 pub event_shrinks : (bytes : List ℕ) (e : Event) (r : List ℕ) → event_at bytes ≡ Some (e, r) → length r < length bytes
 event_shrinks bytes e r h = let t = event_takes bytes e r h in omega (arith, EventText-len e t.1 r t.3, ap length t.4, length-append t.0 t.1)
 
+-- white space before an event is skipped
 pub event_behind_blanks : (w bytes : List ℕ) → IsBlank w → event_at (w ++ bytes) ≡ event_at bytes
 unfolding event_at
 event_behind_blanks w bytes h = ap event_of (after_blanks-again w bytes h)
@@ -79,6 +85,7 @@ no_blank_59 : is_blank 59 ≡ false
 unfolding is_blank
 no_blank_59 = refl
 
+-- brackets are read as such, and a semicolon with properties as a node
 pub event_open : (r : List ℕ) → event_at (40 ∷ r) ≡ Some (Open, r)
 unfolding event_at
 event_open r = ap event_of (after_blanks-other 40 r no_blank_40)
@@ -96,6 +103,7 @@ no_word_40 : (is_word 40 ≡ false) × (is_word 41 ≡ false) × (is_word 59 ≡
 unfolding is_word is_upper is_digit is_lower
 no_word_40 = (refl, refl, refl)
 
+-- before a bracket or a semicolon no value and no property stands
 pub Ends_open : (w r : List ℕ) → IsBlank w → Ends (w ++ (40 ∷ r))
 Ends_open w r h = let a = after_blanks_at w 40 r h no_blank_40 in record { no_value = rw a refl; no_property = rw a (no_word_40.0) }
 
@@ -107,10 +115,12 @@ Ends_item w r h = let a = after_blanks_at w 59 r h no_blank_59 in record { no_va
 
 -- ---- a row of events
 
+-- these events are read one after another, and then the rest is left
 abbrev pub EventsAt : List ℕ → List Event → List ℕ → Type 0
 EventsAt bytes [] rest = bytes ≡ rest
 EventsAt bytes (e ∷ es) rest = (mid : List ℕ) × (event_at bytes ≡ Some (e, mid)) × EventsAt mid es rest
 
+-- one event more is read behind the others
 pub EventsAt-push : (bytes : List ℕ) (es : List Event) (rest : List ℕ) (e : Event) (after : List ℕ) → EventsAt bytes es rest → event_at rest ≡ Some (e, after) → EventsAt bytes (es ++ e ∷ []) after
 EventsAt-push bytes [] rest e after h f = (after, ap event_at h ∙ f, refl)
 EventsAt-push bytes (d ∷ es) rest e after h f = (h.0, h.1, EventsAt-push h.0 es rest e after h.2 f)
@@ -129,10 +139,12 @@ two_rows bytes (x ∷ xs) (y ∷ ys) r q h k =
 
 -- ---- the events of trees, before others
 
+-- nodes as events, before others
 abbrev pub items_then : List Node → List Event → List Event
 items_then [] es = es
 items_then (n ∷ ns) es = Item n ∷ items_then ns es
 
+-- trees as events, before others: brackets around their nodes and sub-trees
 abbrev mutual
   pub tree_then : GameTree → List Event → List Event
   tree_then (game ns ts) es = Open ∷ items_then ns (trees_then ts (Close ∷ es))
@@ -141,10 +153,12 @@ abbrev mutual
   trees_then no_tree es = es
   trees_then (more_trees t ts) es = tree_then t (trees_then ts es)
 
+-- what follows the events of nodes may be put behind later on
 items_then-append : (ns : List Node) (es fs : List Event) → items_then ns es ++ fs ≡ items_then ns (es ++ fs)
 items_then-append [] es fs = refl
 items_then-append (n ∷ ns) es fs = ap (λ (x : List Event). Item n ∷ x) (items_then-append ns es fs)
 
+-- so may what follows the events of trees
 mutual
   pub tree_then-append : (t : GameTree) (es fs : List Event) → tree_then t es ++ fs ≡ tree_then t (es ++ fs)
   tree_then-append (game ns ts) es fs =
@@ -156,9 +170,11 @@ mutual
 
 -- ---- the grammar gives the events
 
+-- the events are read, and no value or property stands before them
 abbrev pub Goes : List ℕ → List Event → List ℕ → Type 0
 Goes bytes es q = EventsAt bytes es q × Ends bytes
 
+-- a text of nodes has their events, before those of what follows
 nodes_again : (ns : List Node) (text r : List ℕ) (es : List Event) (q : List ℕ) → AreNodes text ns → Goes r es q → Goes (text ++ r) (items_then ns es) q
 nodes_again [] text r es q h g = rw h g
 nodes_again (n ∷ ns) text r es q h g =
@@ -170,6 +186,7 @@ nodes_again (n ∷ ns) text r es q h g =
 blank_then_close : (w r : List ℕ) (es : List Event) (q : List ℕ) → IsBlank w → EventsAt r es q → Goes (w ++ (41 ∷ r)) (Close ∷ es) q
 blank_then_close w r es q h g = ((r, event_behind_blanks w (41 ∷ r) h ∙ event_close r, g), Ends_close w r h)
 
+-- so has the text of a tree, behind white space or none
 mutual
   pub tree_again : (t : GameTree) (text r : List ℕ) (es : List Event) (q : List ℕ) → Spells text t → EventsAt r es q
       → (inner : List ℕ) × (text ++ r ≡ 40 ∷ inner) × ((w : List ℕ) → IsBlank w → EventsAt (w ++ (40 ∷ inner)) (tree_then t es) q)
@@ -180,6 +197,7 @@ mutual
       let inner = h.0 ++ (h.1 ++ (h.2 ++ (41 ∷ r))) in
       (inner, (ap (λ (t : List ℕ). t ++ r) h.7 ∙ simp append_assoc), λ w b. (inner, event_behind_blanks w (40 ∷ inner) b ∙ event_open inner, nodes.0))
 
+  -- and a text of trees
   trees_again : (ts : Trees) (text r : List ℕ) (es : List Event) (q : List ℕ) → AreTrees text ts → Goes r es q → Goes (text ++ r) (trees_then ts es) q
   trees_again no_tree text r es q h g = rw h g
   trees_again (more_trees t ts) text r es q h g =
@@ -194,6 +212,7 @@ spelled t text r h = let a = tree_again t text r [] r h refl in rw a.1 (a.2 [] t
 
 -- ---- the events give the grammar
 
+-- each tree has a node of its own
 abbrev mutual
   pub IsWhole : GameTree → Type 0
   IsWhole (game ns ts) = (ns ≢ []) × AreWhole ts
@@ -202,6 +221,7 @@ abbrev mutual
   AreWhole no_tree = Unit {0}
   AreWhole (more_trees t ts) = IsWhole t × AreWhole ts
 
+-- a text of the nodes is at the front, and behind it these events are read
 pub record NodesBefore (bytes : List ℕ) (ns : List Node) (es : List Event) (q : List ℕ) : Type 0 where
   pub text : List ℕ
   pub rest : List ℕ
@@ -209,6 +229,7 @@ pub record NodesBefore (bytes : List ℕ) (ns : List Node) (es : List Event) (q 
   pub parts : bytes ≡ text ++ rest
   pub goes : EventsAt rest es q
 
+-- bytes with the events of nodes begin with a text of these
 nodes_text : (ns : List Node) (bytes : List ℕ) (es : List Event) (q : List ℕ) → EventsAt bytes (items_then ns es) q → NodesBefore bytes ns es q
 nodes_text [] bytes es q h = record { text = []; rest = bytes; are = refl; parts = refl; goes = h }
 nodes_text (n ∷ ns) bytes es q h =
@@ -223,6 +244,7 @@ nodes_text (n ∷ ns) bytes es q h =
       goes = i.goes;
     }
 
+-- a text of the trees is at the front, and behind it these events are read
 pub record TreesBefore (bytes : List ℕ) (ts : Trees) (es : List Event) (q : List ℕ) : Type 0 where
   pub text : List ℕ
   pub rest : List ℕ
@@ -238,6 +260,7 @@ pub record InsideBefore (bytes : List ℕ) (t : GameTree) (es : List Event) (q :
   pub parts : 40 ∷ bytes ≡ text ++ rest
   pub goes : EventsAt rest es q
 
+-- a text of nodes, one of trees and a bracket that closes are the inside of a tree
 pub inside_text : (ns : List Node) (ts : Trees) (bytes : List ℕ) (es : List Event) (q : List ℕ) → ns ≢ [] → (n : NodesBefore bytes ns (trees_then ts (Close ∷ es)) q)
     → TreesBefore n.rest ts (Close ∷ es) q → InsideBefore bytes (game ns ts) es q
 inside_text ns ts bytes es q ne n t =
@@ -251,6 +274,7 @@ inside_text ns ts bytes es q ne n t =
       goes = t.goes.2;
     }
 
+-- bytes with the events of whole trees begin with a text of these
 pub trees_text : (ts : Trees) (bytes : List ℕ) (es : List Event) (q : List ℕ) → AreWhole ts → EventsAt bytes (trees_then ts es) q → TreesBefore bytes ts es q
 trees_text no_tree bytes es q whole h = record { text = []; rest = bytes; are = refl; parts = refl; goes = h }
 trees_text (more_trees (game ns us) ts) bytes es q whole h =
@@ -275,11 +299,13 @@ inside_begins ns ts bytes q ne whole h =
 
 -- ---- the walk with a count of open trees
 
+-- at a place within so many trees around the innermost open one, at the end, or nowhere
 pub data State : Type 0 where
   within : Place → ℕ → State
   done : State
   stuck : State
 
+-- where an event leads
 abbrev pub step : State → Event → State
 step done e = stuck
 step stuck e = stuck
@@ -295,14 +321,17 @@ step (within Opened d) (Item n) = within Nodes d
 step (within Nodes d) (Item n) = within Nodes d
 step (within Behind d) (Item n) = stuck
 
+-- where events lead one after another
 abbrev pub run : State → List Event → State
 run s [] = s
 run s (e ∷ es) = run (step s e) es
 
+-- events lead on from where those before them led
 pub run-append : (s : State) (es fs : List Event) → run s (es ++ fs) ≡ run (run s es) fs
 run-append s [] fs = refl
 run-append s (e ∷ es) fs = run-append (step s e) es fs
 
+-- no event leads on from nowhere
 pub run-stuck : (es : List Event) → run stuck es ≡ stuck
 run-stuck [] = refl
 run-stuck (e ∷ es) = run-stuck es
@@ -312,11 +341,13 @@ run-items : (ns : List Node) (d : ℕ) (es : List Event) → run (within Nodes d
 run-items [] d es = refl
 run-items (n ∷ ns) d es = run-items ns d es
 
+-- right behind a tree's bracket its nodes, one or more, lead among nodes
 run-inside : (ns : List Node) (ts : Trees) (d : ℕ) (es : List Event) (s : State) → ns ≢ [] → run (within Nodes d) (trees_then ts (Close ∷ es)) ≡ s
     → run (within Opened d) (items_then ns (trees_then ts (Close ∷ es))) ≡ s
 run-inside [] ts d es s ne h = absurd (ne refl)
 run-inside (n ∷ ns) ts d es s ne h = run-items ns d (trees_then ts (Close ∷ es)) ∙ h
 
+-- whole sub-trees lead behind themselves, from among nodes or from behind others
 mutual
   run-nodes : (ts : Trees) (d : ℕ) (es : List Event) → AreWhole ts → run (within Nodes d) (trees_then ts (Close ∷ es)) ≡ run (step (within Behind d) Close) es
   run-nodes no_tree zero es whole = refl
@@ -344,6 +375,7 @@ run-tree ns ts ne whole = run-inside ns ts 0 [] _ ne (run-nodes ts 0 [] whole)
 
 -- ---- what a finished walk went over
 
+-- what a tree still has of nodes: one or more right behind its bracket, any amid them, none behind sub-trees
 abbrev pub Begun : Place → List Node → Type 0
 Begun Opened ns = ns ≢ []
 Begun Nodes ns = Unit {0}
@@ -354,9 +386,11 @@ abbrev pub Closes : Place → ℕ → List Event → Type 0
 Closes p zero evs = (ns : List Node) × (ts : Trees) × Begun p ns × AreWhole ts × (evs ≡ items_then ns (trees_then ts (Close ∷ [])))
 Closes p (suc d) evs = (ns : List Node) × (ts : Trees) × (es : List Event) × Begun p ns × AreWhole ts × (evs ≡ items_then ns (trees_then ts (Close ∷ es))) × Closes Behind d es
 
+-- nowhere is never the end
 not_done : (es : List Event) → run stuck es ≡ done → ⊥
 not_done es h = let e = run-stuck es in cc
 
+-- nothing follows the end
 only_end : (es : List Event) → run done es ≡ done → es ≡ []
 only_end [] h = refl
 only_end (e ∷ es) h = absurd (not_done es h)
@@ -377,6 +411,7 @@ closes_item : (p : Place) (d : ℕ) (n : Node) (es : List Event) → ((ns : List
 closes_item p zero n es b h = (n ∷ h.0, h.1, b h.0, h.3, ap (λ (x : List Event). Item n ∷ x) h.4)
 closes_item p (suc d) n es b h = (n ∷ h.0, h.1, h.2, b h.0, h.4, ap (λ (x : List Event). Item n ∷ x) h.5, h.6)
 
+-- what leads to the end is the ends of all trees that are open
 pub closes : (p : Place) (d : ℕ) (es : List Event) → run (within p d) es ≡ done → Closes p d es
 closes p d [] h = absurd cc
 closes Opened d (Open ∷ es) h = absurd (not_done es h)
@@ -400,42 +435,50 @@ line (Open ∷ es) = line es
 line (Close ∷ es) = []
 line (Item n ∷ es) = n ∷ line es
 
+-- some bracket closes
 abbrev pub has_close : List Event → Bool
 has_close [] = false
 has_close (Open ∷ es) = has_close es
 has_close (Close ∷ es) = true
 has_close (Item n ∷ es) = has_close es
 
+-- nodes come first on the line
 line-items : (ns : List Node) (es : List Event) → line (items_then ns es) ≡ ns ++ line es
 line-items [] es = refl
 line-items (n ∷ ns) es = ap (λ (x : List Node). n ∷ x) (line-items ns es)
 
+-- the line of trees and a bracket that closes is the main line of the first tree
 pub line-trees : (ts : Trees) (es : List Event) → line (trees_then ts (Close ∷ es)) ≡ first_main_line ts
 line-trees no_tree es = refl
 line-trees (more_trees (game ns us) ts) es =
     line-items ns (trees_then us (Close ∷ trees_then ts (Close ∷ es))) ∙ ap (λ (x : List Node). ns ++ x) (line-trees us (trees_then ts (Close ∷ es)))
 
+-- the line behind the bracket of a tree is its main line
 pub line-inside : (ns : List Node) (ts : Trees) (es : List Event) → line (items_then ns (trees_then ts (Close ∷ es))) ≡ main_line (game ns ts)
 line-inside ns ts es = line-items ns (trees_then ts (Close ∷ es)) ∙ ap (λ (x : List Node). ns ++ x) (line-trees ts es)
 
+-- behind a bracket that closes nothing joins the line
 line-closed : (es fs : List Event) → has_close es ≡ true → line (es ++ fs) ≡ line es
 line-closed [] fs h = absurd cc
 line-closed (Open ∷ es) fs h = line-closed es fs h
 line-closed (Close ∷ es) fs h = refl
 line-closed (Item n ∷ es) fs h = ap (λ (x : List Node). n ∷ x) (line-closed es fs h)
 
+-- while none closes the line goes on
 line-open : (es fs : List Event) → has_close es ≡ false → line (es ++ fs) ≡ line es ++ line fs
 line-open [] fs h = refl
 line-open (Open ∷ es) fs h = line-open es fs h
 line-open (Close ∷ es) fs h = absurd cc
 line-open (Item n ∷ es) fs h = ap (λ (x : List Node). n ∷ x) (line-open es fs h)
 
+-- behind events without a bracket that closes, the others decide whether one does
 has_close-append : (es : List Event) (fs : List Event) → has_close es ≡ false → has_close (es ++ fs) ≡ has_close fs
 has_close-append [] fs h = refl
 has_close-append (Open ∷ es) fs h = has_close-append es fs h
 has_close-append (Close ∷ es) fs h = absurd cc
 has_close-append (Item n ∷ es) fs h = has_close-append es fs h
 
+-- a bracket that closed stays one among more events
 has_close-stays : (es : List Event) (fs : List Event) → has_close es ≡ true → has_close (es ++ fs) ≡ true
 has_close-stays [] fs h = absurd cc
 has_close-stays (Open ∷ es) fs h = has_close-stays es fs h
@@ -444,27 +487,32 @@ has_close-stays (Item n ∷ es) fs h = has_close-stays es fs h
 
 -- ---- how far the reader has come
 
+-- an opening bracket leads one tree deeper, unless it stands right behind another
 step_open : (p : Place) (d : ℕ) → p ≢ Opened → step (within p d) Open ≡ within Opened (d + 1)
 step_open Opened d ne = absurd (ne refl)
 step_open Nodes d ne = ap (within Opened) (omega arith)
 step_open Behind d ne = ap (within Opened) (omega arith)
 
+-- a closing one leads out of the innermost of several trees, unless it stands right behind an opening one
 step_close : (p : Place) (d : ℕ) → p ≢ Opened → 0 < d → step (within p d) Close ≡ within Behind (d - 1)
 step_close p zero ne lt = absurd (omega arith)
 step_close Opened (suc d) ne lt = absurd (ne refl)
 step_close Nodes (suc d) ne lt = ap (within Behind) (omega arith)
 step_close Behind (suc d) ne lt = ap (within Behind) (omega arith)
 
+-- a node leads among nodes, unless it stands behind sub-trees
 step_item : (p : Place) (d : ℕ) (n : Node) → p ≢ Behind → step (within p d) (Item n) ≡ within Nodes d
 step_item Opened d n ne = refl
 step_item Nodes d n ne = refl
 step_item Behind d n ne = absurd (ne refl)
 
+-- the bracket that closes the only tree leads to the end
 step_last : (p : Place) → p ≢ Opened → step (within p 0) Close ≡ done
 step_last Opened ne = absurd (ne refl)
 step_last Nodes ne = refl
 step_last Behind ne = refl
 
+-- events lead from the bytes to the rest and to the place; the nodes are their line, over once one closed
 pub record Far (bytes rest : List ℕ) (p : Place) (d : ℕ) (on_main : Bool) (nodes : List Node) : Type 0 where
   pub events : List Event
   pub goes : EventsAt bytes events rest
@@ -472,13 +520,16 @@ pub record Far (bytes rest : List ℕ) (p : Place) (d : ℕ) (on_main : Bool) (n
   pub so_far : line events ≡ nodes
   pub closed : has_close events ≡ not on_main
 
+-- nothing was read at the start
 pub far_start : (bytes : List ℕ) → Far bytes bytes Opened 0 true []
 far_start bytes = record { events = []; goes = refl; at = refl; so_far = refl; closed = refl }
 
 module _ (bytes rest : List ℕ) (p : Place) (d : ℕ) (on_main : Bool) (nodes : List Node) (far : Far bytes rest p d on_main nodes) where
+  -- one event more leads on from the place
   step_to : (e : Event) (s : State) → step (within p d) e ≡ s → run (within Opened 0) (far.events ++ e ∷ []) ≡ s
   step_to e s h = run-append (within Opened 0) far.events (e ∷ []) ∙ ap (λ (x : State). step x e) far.at ∙ h
 
+  -- an opening bracket: one tree deeper, and the nodes stay
   pub far_open : (after : List ℕ) → event_at rest ≡ Some (Open, after) → (p ≢ Opened) → Far bytes after Opened (d + 1) on_main nodes
   far_open after h ne = record {
     events = far.events ++ Open ∷ [];
@@ -494,6 +545,7 @@ module _ (bytes rest : List ℕ) (p : Place) (d : ℕ) (on_main : Bool) (nodes :
     ];
   }
 
+  -- a closing bracket that isn't the last: one tree less deep, and the main line is over
   pub far_close : (after : List ℕ) → event_at rest ≡ Some (Close, after) → (p ≢ Opened) → 0 < d → Far bytes after Behind (d - 1) false nodes
   far_close after h ne lt = record {
     events = far.events ++ Close ∷ [];
@@ -509,6 +561,7 @@ module _ (bytes rest : List ℕ) (p : Place) (d : ℕ) (on_main : Bool) (nodes :
     ];
   }
 
+  -- a node: it joins the others on the main line alone
   far_item : (n : Node) (after : List ℕ) → event_at rest ≡ Some (Item n, after) → (p ≢ Behind) → Far bytes after Nodes d on_main (cond on_main (nodes ++ n ∷ []) nodes)
   far_item n after h ne = record {
     events = far.events ++ Item n ∷ [];
@@ -524,16 +577,20 @@ module _ (bytes rest : List ℕ) (p : Place) (d : ℕ) (on_main : Bool) (nodes :
     ];
   }
 
+  -- the same, for nodes known to be those
   far_item_is : (n : Node) (after : List ℕ) (b : Bool) (ms : List Node) → event_at rest ≡ Some (Item n, after) → (p ≢ Behind) → on_main ≡ b → cond b (nodes ++ n ∷ []) nodes ≡ ms
       → Far bytes after Nodes d on_main ms
   far_item_is n after b ms h ne m is = subst (λ (x : List Node). Far bytes after Nodes d on_main x) (ap (λ (x : Bool). cond x (nodes ++ n ∷ []) nodes) m ∙ is) (far_item n after h ne)
 
+  -- a node on the main line joins the others
   pub far_kept : (n : Node) (after : List ℕ) (ms : List Node) → event_at rest ≡ Some (Item n, after) → (p ≢ Behind) → on_main ≡ true → ms ≡ nodes ++ n ∷ [] → Far bytes after Nodes d on_main ms
   far_kept n after ms h ne m is = far_item_is n after true ms h ne m (sym is)
 
+  -- for a node off the main line the others stay
   pub far_aside : (n : Node) (after : List ℕ) → event_at rest ≡ Some (Item n, after) → (p ≢ Behind) → on_main ≡ false → Far bytes after Nodes d on_main nodes
   far_aside n after h ne m = far_item_is n after false nodes h ne m refl
 
+  -- where no event leads on, none lead to the end
   no_way : (zs : List Event) (q : List ℕ) → ((e : Event) (after : List ℕ) → event_at rest ≡ Some (e, after) → step (within p d) e ≡ stuck) → EventsAt rest zs q → run (within p d) zs ≡ done → ⊥
   no_way [] q dead h k = absurd cc
   no_way (z ∷ zs) q dead h k = not_done zs (ap (λ (x : State). run x zs) (sym (dead z h.0 h.1)) ∙ k)
@@ -570,12 +627,15 @@ module _ (bytes rest : List ℕ) (p : Place) (d : ℕ) (on_main : Bool) (nodes :
             absurd cc
       ]
 
+  -- a place where no event is read: no text of a tree is at the front
   pub far_none : event_at rest ≡ None → (t : GameTree) (q : List ℕ) → Begins (40 ∷ bytes) t q → ⊥
   far_none h = far_dead (λ e after k. absurd (let x = h in cc))
 
+  -- a place where the event read doesn't lead on: no text of a tree is at the front
   refused : (e : Event) (after : List ℕ) → event_at rest ≡ Some (e, after) → step (within p d) e ≡ stuck → (t : GameTree) (q : List ℕ) → Begins (40 ∷ bytes) t q → ⊥
   refused e after h s = far_dead (λ f other k. ap (step (within p d)) (sym (some_pair_parts e f after other (sym h ∙ k)).0) ∙ s)
 
+  -- brackets right behind an opening one, and nodes behind sub-trees, don't lead on
   pub far_refused_open : (after : List ℕ) → event_at rest ≡ Some (Open, after) → p ≡ Opened → (t : GameTree) (q : List ℕ) → Begins (40 ∷ bytes) t q → ⊥
   far_refused_open after h e = refused Open after h (ap (λ (x : Place). step (within x d) Open) e)
 
@@ -587,6 +647,7 @@ module _ (bytes rest : List ℕ) (p : Place) (d : ℕ) (on_main : Bool) (nodes :
 
 -- ---- one tree for each text
 
+-- the same events of nodes and trees up to a closing bracket: the same nodes, and the same from there on
 items-same : (ns ms : List Node) (ts us : Trees) (x y : List Event) → items_then ns (trees_then ts (Close ∷ x)) ≡ items_then ms (trees_then us (Close ∷ y)) → (ns ≡ ms)
     × (trees_then ts (Close ∷ x) ≡ trees_then us (Close ∷ y))
 items-same [] [] ts us x y h = (refl, h)
@@ -601,6 +662,7 @@ items-same (n ∷ ns) (m ∷ ms) ts us x y h =
     let i = items-same ns ms ts us x y tail in
     (ap (λ (k : Node). k ∷ ns) head ∙ ap (λ (ks : List Node). m ∷ ks) i.0, i.1)
 
+-- the same events of trees up to a closing bracket: the same trees, and the same behind it
 pub trees-same : (ts us : Trees) (x y : List Event) → trees_then ts (Close ∷ x) ≡ trees_then us (Close ∷ y) → (ts ≡ us) × (x ≡ y)
 trees-same no_tree no_tree x y h = (refl, cc)
 trees-same no_tree (more_trees (game ms vs) us) x y h = absurd cc
@@ -615,6 +677,7 @@ trees-same (more_trees (game ns ws) ts) (more_trees (game ms vs) us) x y h =
     let second = others.0 in
     (cc, others.1)
 
+-- the same events of a tree: the same tree, and the same behind it
 pub tree-same : (s t : GameTree) (x y : List Event) → tree_then s x ≡ tree_then t y → (s ≡ t) × (x ≡ y)
 tree-same (game ns ts) (game ms us) x y h =
     let tail : items_then ns (trees_then ts (Close ∷ x)) ≡ items_then ms (trees_then us (Close ∷ y)) = cc in
