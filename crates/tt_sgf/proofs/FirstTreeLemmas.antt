@@ -4,7 +4,7 @@ use Rattle.std.specs.List.{list_any}
 use Rattle.std.proofs.lemmas.List.{length-append, length-take, drop_more, take-append-drop, take_rest}
 use Rattle.std.specs.List.{AllByRecursion}
 use Rattle.tt_sgf.specs.declared.nodes.Node.{Node}
-use Rattle.tt_sgf.proofs.TreeLemmas.{one_tree}
+use Rattle.tt_sgf.proofs.GrammarLemmas.{one_tree}
 use Rattle.tt_sgf.specs.declared.nodes.Property.{Property}
 use Rattle.tt_sgf.specs.Grammar.{AreProperties, AreNodes, AreTrees, GameTree, Trees, game, no_tree, more_trees, Spells, main_line, first_main_line, SpelledUpTo, IsMainLine}
 use Rattle.tt_sgf.specs.Reading.{Begins}
