@@ -12,28 +12,34 @@ use Rattle.tt_board.specs.Boards.{IsOn, edited, finished, led_back, boards_befor
 
 -- ---- one more edit
 
+-- one more edit changes what the others led back to
 led_push : (c : Colouring) (es : List Edit) (e : Edit) → led_back c (es ++ e ∷ []) ≡ edited (led_back c es) e
 led_push c [] e = refl
 led_push c (x ∷ es) e = led_push (edited c x) es e
 
+-- one more edit adds the board that it finishes, or none
 before_push : (g : Size) (c : Colouring) (es : List Edit) (e : Edit) → boards_before g c (es ++ e ∷ []) ≡ boards_before g c es ++ finished g (led_back c es) e
 before_push g c [] e = append-nil (finished g c e)
 before_push g c (x ∷ es) e =
     ap (λ bs. finished g c x ++ bs) (before_push g (edited c x) es e) ∙ sym (append_assoc (finished g c x) (boards_before g (edited c x) es) (finished g (led_back (edited c x) es) e))
 
+-- an edit keeps the number of entries
 length_edited : (c : Colouring) (e : Edit) → length (edited c e) ≡ length c
 length_edited c (Entry p e) = length-set c p e
 length_edited c Whole = refl
 
+-- so do edits one after another
 pub length_led : (c : Colouring) (es : List Edit) → length (led_back c es) ≡ length c
 length_led c [] = refl
 length_led c (e ∷ es) = length_led (edited c e) es ∙ length_edited c e
 
 -- ---- from one board to the one before it
 
+-- at the start all entries are the later ones
 pub half_none : (later earlier c : Colouring) → c ≡ later → ((q : ℕ) → q < 0 → entry_at later q ≡ entry_at earlier q) → IsHalf later earlier 0 c
 half_none later earlier c is h = record { same_length = ap length is; first = λ q below. absurd (omega arith); others = λ q above. ap (λ x. entry_at x q) is }
 
+-- entries that are the same in both count as led back
 pub half_more : (later earlier c : Colouring) (n m : ℕ) → IsHalf later earlier n c → n ≤ m → ((q : ℕ) → n ≤ q → q < m → entry_at later q ≡ entry_at earlier q) → IsHalf later earlier m c
 half_more later earlier c n m h le alike = record {
   same_length = h.same_length;
@@ -44,6 +50,7 @@ half_more later earlier c n m h le alike = record {
   others = λ q above. h.others q (omega arith);
 }
 
+-- one more entry is led back
 half_set : (later earlier c : Colouring) (n : ℕ) → IsHalf later earlier n c → n < length later → IsHalf later earlier (n + 1) (put c n (entry_at earlier n))
 half_set later earlier c n h below = record {
   same_length = length-set c n (entry_at earlier n) ∙ h.same_length;
@@ -54,11 +61,13 @@ half_set later earlier c n h below = record {
   others = λ q above. get_or-set_other c n q (entry_at earlier n) None (λ e. absurd (omega arith)) ∙ h.others q (omega arith);
 }
 
+-- once all entries are led back, the colouring is the earlier one
 half_done : (later earlier c : Colouring) (n : ℕ) → IsHalf later earlier n c → length later ≡ length earlier → length later ≤ n → c ≡ earlier
 half_done later earlier c n h fits all =
     let counts = h.same_length in
     ext_get_or None c earlier (counts ∙ fits) (λ q below. h.first q (omega (arith, below, counts)))
 
+-- an edit for an entry leads on to the next one that differs
 pub half_pushed : (later earlier c : Colouring) (es new : List Edit) (p next : ℕ) → IsHalf later earlier p (led_back c es)
     → new ≡ es ++ Entry p (entry_at earlier p) ∷ [] → p < length later → p + 1 ≤ next
     → ((q : ℕ) → p + 1 ≤ q → q < next → entry_at later q ≡ entry_at earlier q) → IsHalf later earlier next (led_back c new)
@@ -66,9 +75,11 @@ half_pushed later earlier c es new p next h is below le alike =
     subst (IsHalf later earlier next) (sym (ap (led_back c) is ∙ led_push c es (Entry p (entry_at earlier p))))
     (half_more later earlier (put (led_back c es) p (entry_at earlier p)) (p + 1) next (half_set later earlier (led_back c es) p h below) le alike)
 
+-- an edit of an entry finishes no board
 pub before_same : (g : Size) (c : Colouring) (es new : List Edit) (p : ℕ) (e : Option Colour) → new ≡ es ++ Entry p e ∷ [] → boards_before g c new ≡ boards_before g c es
 before_same g c es new p e is = ap (boards_before g c) is ∙ before_push g c es (Entry p e) ∙ append-nil (boards_before g c es)
 
+-- one more edit on the board keeps all of them on it
 pub on_pushed : (n : ℕ) (es new : List Edit) (e : Edit) → new ≡ es ++ e ∷ [] → IsOn n e → All (IsOn n) es → All (IsOn n) new
 on_pushed n es new e is on all = subst (All (IsOn n)) (sym is) (pushed es all)
   where
@@ -78,6 +89,7 @@ on_pushed n es new e is on all = subst (All (IsOn n)) (sym is) (pushed es all)
       | inr past ↦ subst (IsOn n) (sym (get_or_at xs e [] d k (omega (arith, lt, length_push xs e)))) on
     ]
 
+-- once all entries are led back, the edits lead to the earlier colouring and finish its board
 pub led_whole : (later earlier : Colouring) (old es new : List Edit) (p : ℕ)
     → (All (IsOn (length later)) old → All (IsOn (length later)) es)
     → ((c : Colouring) → led_back c old ≡ later → IsHalf later earlier p (led_back c es))
@@ -96,6 +108,7 @@ led_whole later earlier old es new p on half before is fits all = record {
 
 -- ---- the boards before one
 
+-- a position is known by its size and its points
 pub positions_same : (a b : Position) → a.size ≡ b.size → a.points ≡ b.points → a ≡ b
 positions_same a b sizes points =
     ap (λ (g : Size). let x : Position = record { size = g; points = a.points } in x) sizes ∙ ap (λ (c : Colouring). let x : Position = record { size = b.size; points = c } in x) points

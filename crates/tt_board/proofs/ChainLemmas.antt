@@ -22,6 +22,7 @@ pub mark_at : (words : List ℕ) (q : ℕ) → q < 361 → is_marked (marks_of w
 unfolding marks_of
 mark_at words q small = get_or-map-range_with_len (bit_in words) 0 361 q q false small (omega arith)
 
+-- there is a mark for each of 361 points
 pub length-marks : (words : List ℕ) → length (marks_of words) ≡ 361
 unfolding marks_of
 length-marks words = length-map-range_with_len (bit_in words) 0 361
@@ -63,6 +64,7 @@ push_growing m xs q g small bare =
       ];
     }
 
+-- a list that stays has grown by nothing
 pub grown_none : (s : Size) (c : Colouring) (p : ℕ) (xs : List ℕ) → IsGrown s c p xs xs
 grown_none s c p xs = record {
   more = [];
@@ -81,6 +83,7 @@ push_grown s c p before xs q g near like = record {
   ];
 }
 
+-- what was in the list stays in it
 pub grown_kept : (s : Size) (c : Colouring) (p : ℕ) (before after : List ℕ) (q : ℕ) → IsGrown s c p before after → Contains before q → Contains after q
 grown_kept s c p before after q g has = subst (λ ys. Contains ys q) (sym g.longer) (Contains-append_left before g.more q has)
 
@@ -91,6 +94,7 @@ visit_grown s c p own place before xs ys is_own near g (inl same) = subst (λ zs
 visit_grown s c p own place before xs ys is_own near g (inr (q, is, like, longer)) =
     subst (λ zs. IsGrown s c p before zs) (sym longer) (push_grown s c p before xs q g (near q is) (like ∙ is_own))
 
+-- what is known of the point of a place is known of the place
 pub closed_at : (c : Colouring) (own : Option Colour) (chain : List ℕ) (place : Option ℕ) (q : ℕ) → place ≡ Some q → entry_at c q ≢ None
     → (entry_at c q ≡ own → Contains chain q) → IsClosedAt c own chain place
 closed_at c own chain place q is stone like r has =
@@ -145,9 +149,11 @@ linked_more s c start p before after g member linked q has =
       | inr new ↦ let h = linked p member in (new.0.0, new.1 ∙ h.1, λ r. h.2 (reaches_on s c None p q new.0 new.1 r))
     ]
 
+-- a point that is enclosed stays so while the list grows
 enclosed_kept : (s : Size) (c : Colouring) (p : ℕ) (before after : List ℕ) → IsGrown s c p before after → (q : ℕ) → IsEnclosed s c before q → IsEnclosed s c after q
 enclosed_kept s c p before after g q h r near = let k = h r near in (k.0, λ like. grown_kept s c p before after r g (k.1 like))
 
+-- the list keeps its first items where they are
 same_place : (s : Size) (c : Colouring) (p : ℕ) (before after : List ℕ) (k : ℕ) → IsGrown s c p before after → k < length before → get_or after k 0 ≡ get_or before k 0
 same_place s c p before after k g below = ap (λ xs. get_or xs k 0) g.longer ∙ get_or_append_left before g.more 0 k below
 

@@ -30,6 +30,7 @@ lifeless s c start chain l p member r =
     (λ x q in_x not_e near same later inside. later ((l.enclosed x inside q near).1 same))
     p r.path (l.linked p member).0 r.adjacent r.alike r.other r.found r.beside r.has_entry member
 
+-- before any chain is lifted the colouring is as it was
 pub lifted_none : (s : Size) (c : Colouring) (k : Colour) → length c ≡ point_count s → IsLifted s c k c
 lifted_none s c k fits = record {
   fits = fits;
@@ -48,9 +49,11 @@ new_stone s c k p d inside l =
 
 -- one more chain is lifted
 module _ (s : Size) (c : Colouring) (k : Colour) (d e : Colouring) (start : ℕ) (more : IsChainLifted s c start d e) where
+  -- what is empty stays so
   pub lifted_kept : (x : ℕ) → entry_at d x ≡ None → entry_at e x ≡ None
   lifted_kept x bare = elim (more.each x) [ inl same ↦ same ∙ bare | inr now ↦ now.1 ]
 
+  -- with one more whole chain of the colour, those lifted are still whole chains that don't reach empty
   pub lifted_more : IsLifted s c k d → entry_at c start ≡ Some k → IsLifted s c k e
   lifted_more l mine = record {
     fits = more.fits ∙ l.fits;
@@ -108,15 +111,18 @@ module _ (s : Size) (c : Colouring) (k : Colour) (p : ℕ) (fits : length c ≡ 
     (taken after : Colouring) (first : IsLifted s (set c p (Some k)) (other k) taken)
     (looked : (q : ℕ) → IsNeighbour s p q → entry_at (set c p (Some k)) q ≡ Some (other k) → Reaches s (set c p (Some k)) q None ⊎ (entry_at taken q ≡ None))
     (second : IsLifted s taken k after) (own : entry_at taken p ≡ Some k → Reaches s taken p None ⊎ (entry_at after p ≡ None)) where
+  -- the new stone stands on its point, and all other points stay
   put_same : entry_at (set c p (Some k)) p ≡ Some k
   put_same = get_or-set_same c p (Some k) None (omega (arith, fits))
 
   put_other : (x : ℕ) → x ≢ p → entry_at (set c p (Some k)) x ≡ entry_at c x
   put_other x apart = get_or-set_other c p x (Some k) None apart
 
+  -- a stone that was there stands elsewhere
   elsewhere : (x : ℕ) (j : Colour) → entry_at c x ≡ Some j → x ≢ p
   elsewhere x j stone same = none-some j (sym free ∙ sym (ap (entry_at c) same) ∙ stone)
 
+  -- with the opponent's chains lifted, the opponent's colour is cleared
   taken_is : taken ≡ clear s (set c p (Some k)) (other k)
   taken_is = cleared s (set c p (Some k)) (other k) taken first (λ x in_x theirs.
       let apart : x ≢ p = λ same. other_differs k (sym put_same ∙ sym (ap (entry_at (set c p (Some k))) same) ∙ theirs) in
@@ -133,6 +139,7 @@ module _ (s : Size) (c : Colouring) (k : Colour) (p : ℕ) (fits : length c ≡ 
     | inr gone ↦ absurd (other_differs k (sym mine ∙ gone.1))
   ]
 
+  -- with one's own chains lifted too, one's own colour is cleared
   after_is : after ≡ clear s taken k
   after_is = cleared s taken k after second (λ x in_x mine.
       elim (cases_eq x p) [
@@ -161,6 +168,7 @@ module _ (s : Size) (c : Colouring) (k : Colour) (p : ℕ) (fits : length c ≡ 
             x in_x before
       ])
 
+  -- both liftings together are the move
   pub play_is : after ≡ play_of s c k p
   unfolding play_of
   play_is = after_is ∙ ap (λ xs. clear s xs k) taken_is

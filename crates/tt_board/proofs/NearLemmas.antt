@@ -63,16 +63,19 @@ of_side s p q pos in_p (below w h _ _ down e) =
 abbrev pub Adds : List ℕ → List ℕ → Type 0 → ℕ → Type 0
 Adds xs ys P x = (P × (ys ≡ xs ++ x ∷ [])) ⊎ ((P → ⊥) × (ys ≡ xs))
 
+-- what the longer list has, the shorter one had or it is the item added
 added : {P : Type 0} (xs ys : List ℕ) (x q : ℕ) → Adds xs ys P x → Contains ys q → Contains xs q ⊎ (P × (q ≡ x))
 added xs ys x q (inl (p, e)) has =
     let h = rw e at has in
     elim (Contains-push_cases xs x q h) [ inl old ↦ inl old | inr new ↦ inr (p, sym new) ]
 added xs ys x q (inr (_, e)) has = inl (rw e at has)
 
+-- what the shorter list had, the longer one has
 stays : {P : Type 0} (xs ys : List ℕ) (x q : ℕ) → Adds xs ys P x → Contains xs q → Contains ys q
 stays xs ys x q (inl (p, e)) has = rw e (Contains-append_left xs (x ∷ []) q has)
 stays xs ys x q (inr (_, e)) has = rw e has
 
+-- and so has it the item added
 comes : {P : Type 0} (xs ys : List ℕ) (x q : ℕ) → Adds xs ys P x → P → q ≡ x → Contains ys q
 comes xs ys x q (inl (_, e)) p same = rw (same, e) (Contains-push xs x)
 comes xs ys x q (inr (none, _)) p same = absurd (none p)
@@ -83,6 +86,7 @@ module _ (s : Size) (p : ℕ) (pos : 0 < s.columns) (in_p : p < point_count s) (
   none_yet : (q : ℕ) → Contains {X = ℕ} [] q → ⊥
   none_yet q has = omega arith
 
+  -- each side of the point is listed
   listed : (q : ℕ) → Side s.columns s.rows p q → Contains n4 q
   listed q (above w h _ _ up e) =
       stays n3 n4 _ q fourth (stays n2 n3 _ q third (stays n1 n2 _ q second (comes [] n1 _ q first up e)))
@@ -90,6 +94,7 @@ module _ (s : Size) (p : ℕ) (pos : 0 < s.columns) (in_p : p < point_count s) (
   listed q (right w h _ _ after e) = stays n3 n4 _ q fourth (comes n2 n3 _ q third after e)
   listed q (below w h _ _ down e) = comes n3 n4 _ q fourth down e
 
+  -- what is listed is a side of the point
   only_sides : (q : ℕ) → Contains n4 q → Side s.columns s.rows p q
   only_sides q has = elim (added n3 n4 _ q fourth has) [
     | inr now ↦ below _ _ p q now.0 now.1
@@ -102,6 +107,7 @@ module _ (s : Size) (p : ℕ) (pos : 0 < s.columns) (in_p : p < point_count s) (
     ]
   ]
 
+  -- the listed points are the neighbours
   pub near_all : (q : ℕ) → Contains n4 q ↔ IsNeighbour s p q
   near_all q = (λ has. of_side s p q pos in_p (only_sides q has), λ near. listed q (side_of s.columns s.rows p q pos in_p near.0 near.1))
 
@@ -115,12 +121,14 @@ index_of s p items xs q e all near =
     let h : Contains xs q = subst (λ ys. Contains ys q) (sym e) ((all q).1 near) in
     (h.0, h.1, get_or_default xs h.0 0 q h.1 ∙ h.2)
 
+-- a place that is there is the one meant, and what it needs holds
 place_there : {P : Type 0} (place : Option ℕ) (x q : ℕ) → IsThere place P x → place ≡ Some q → P × (q ≡ x)
 place_there place x q (inl (p, e)) has =
     let same : Some q ≡ Some x = sym has ∙ e in
     (p, cc)
 place_there place x q (inr (_, e)) has = absurd (none-some q (sym e ∙ has))
 
+-- where that holds it is there
 there_place : {P : Type 0} (place : Option ℕ) (x q : ℕ) → IsThere place P x → P → q ≡ x → place ≡ Some q
 there_place place x q (inl (_, e)) p same = e ∙ ap Some (sym same)
 there_place place x q (inr (none, _)) p same = absurd (none p)
@@ -129,12 +137,14 @@ there_place place x q (inr (none, _)) p same = absurd (none p)
 module _ (s : Size) (p : ℕ) (pos : 0 < s.columns) (in_p : p < point_count s) (a l r b : Option ℕ)
     (up : IsThere a (s.columns ≤ p) (p - s.columns)) (back : IsThere l (0 < p % s.columns) (p - 1))
     (on : IsThere r (p % s.columns + 1 < s.columns) (p + 1)) (down : IsThere b (p + s.columns < point_count s) (p + s.columns)) where
+  -- a point past the numbers of the first row has a row above it
   row_above : s.columns ≤ p → 0 < p / s.columns
   row_above le = elim (cases_eq (p / s.columns) 0) [
     | inl none ↦ let rows = ap (λ r. r * s.columns) none in absurd (omega (arith, div-add-mod' p s.columns, mod_below p s.columns pos))
     | inr some ↦ omega arith
   ]
 
+  -- a point with a number of the board one row further has a row below it
   row_below : p + s.columns < point_count s → p / s.columns + 1 < s.rows
   row_below lt =
       let e : (p / s.columns + 1) * s.columns + p % s.columns ≡ p + s.columns = omega (arith, div-add-mod' p s.columns) in
@@ -143,17 +153,20 @@ module _ (s : Size) (p : ℕ) (pos : 0 < s.columns) (in_p : p < point_count s) (
       let there = ap (λ x. x / s.columns) e in
       omega (arith, row, in_rows, there)
 
+  -- each place is a side of the point
   side_at : (q : ℕ) → IsOneOf a l r b q → Side s.columns s.rows p q
   side_at q (inl has) = let h = place_there a _ q up has in above _ _ p q (row_above h.0) h.1
   side_at q (inr (inl has)) = let h = place_there l _ q back has in left _ _ p q h.0 h.1
   side_at q (inr (inr (inl has))) = let h = place_there r _ q on has in right _ _ p q h.0 h.1
   side_at q (inr (inr (inr has))) = let h = place_there b _ q down has in below _ _ p q (row_below h.0) h.1
 
+  -- each side of the point is a place
   place_of : (q : ℕ) → q < point_count s → Side s.columns s.rows p q → IsOneOf a l r b q
   place_of q in_q (above w h _ _ row e) = inl (there_place a _ q up (omega (arith, div-add-mod' p w, row_before (p / w) w row)) e)
   place_of q in_q (left w h _ _ before e) = inr (inl (there_place l _ q back before e))
   place_of q in_q (right w h _ _ after e) = inr (inr (inl (there_place r _ q on after e)))
   place_of q in_q (below w h _ _ row e) = inr (inr (inr (there_place b _ q down (omega arith) e)))
 
+  -- the places are the neighbours
   pub near_places : (q : ℕ) → IsOneOf a l r b q ↔ IsNeighbour s p q
   near_places q = (λ has. of_side s p q pos in_p (side_at q has), λ near. place_of q near.0 (side_of s.columns s.rows p q pos in_p near.0 near.1))

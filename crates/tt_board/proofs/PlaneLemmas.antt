@@ -16,10 +16,12 @@ pub neither : (a b : Bool) → (a || b) ≡ false → (a ≡ false) × (b ≡ fa
 neither true b h = absurd (true≢false h)
 neither false b h = (refl, h)
 
+-- the words show as many points as are asked for
 pub length-shown : (n : ℕ) (black white : List ℕ) → length (shown n black white) ≡ n
 unfolding shown
 length-shown n black white = length-map-range_with_len _ 0 n
 
+-- what is shown on a point is what its bits say
 pub entry_at-shown : (n : ℕ) (black white : List ℕ) (p : ℕ) → p < n → entry_at (shown n black white) p ≡ entry_of (bit_in black p) (bit_in white p)
 unfolding shown
 entry_at-shown n black white p in_p = get_or-map-range_with_len (λ q. entry_of (bit_in black q) (bit_in white q)) 0 n p p None in_p (omega arith)
@@ -31,6 +33,7 @@ shown_from n black white c fits each = fill_by_all (λ q. entry_of (bit_in black
 
 -- what is known of a list that words show
 module _ (n : ℕ) (black white : List ℕ) (c : Colouring) (is : shown n black white ≡ c) where
+  -- it has as many entries as are shown, each what its bits say
   pub count_is : length c ≡ n
   count_is = sym (ap length is) ∙ length-shown n black white
 
@@ -54,6 +57,7 @@ module _ (n : ℕ) (black white new_black new_white : List ℕ) (p : ℕ) (e : O
     (black_same : bit_in new_black p ≡ is_stone_of e Black) (white_same : bit_in new_white p ≡ is_stone_of e White)
     (black_others : (q : ℕ) → q < 384 → (q ≡ p → ⊥) → bit_in new_black q ≡ bit_in black q)
     (white_others : (q : ℕ) → q < 384 → (q ≡ p → ⊥) → bit_in new_white q ≡ bit_in white q) where
+  -- they are plain again
   pub plain_after : IsPlain n new_black new_white
   plain_after = record {
     small = plain.small;
@@ -65,6 +69,7 @@ module _ (n : ℕ) (black white new_black new_white : List ℕ) (p : ℕ) (e : O
     white_ends = λ q above lt. white_others q lt (λ same. absurd (omega arith)) ∙ plain.white_ends q above lt;
   }
 
+  -- and show the colouring with that entry
   pub shown_after : (c : Colouring) → shown n black white ≡ c → shown n new_black new_white ≡ put c p e
   shown_after c is =
       let count = count_is n black white c is in
@@ -79,6 +84,7 @@ module _ (n : ℕ) (black white new_black new_white : List ℕ) (p : ℕ) (e : O
 
 -- words without any bit
 module _ (n : ℕ) (small : n ≤ 361) (black white : List ℕ) (no_black : (q : ℕ) → q < 384 → bit_in black q ≡ false) (no_white : (q : ℕ) → q < 384 → bit_in white q ≡ false) where
+  -- they are plain
   pub plain_none : IsPlain n black white
   plain_none = record {
     small = small;
@@ -87,6 +93,7 @@ module _ (n : ℕ) (small : n ≤ 361) (black white : List ℕ) (no_black : (q :
     white_ends = λ q above lt. no_white q lt;
   }
 
+  -- and show an empty board
   pub shown_none : shown n black white ≡ replicate n None
   shown_none = sym (shown_from n black white (replicate n None) (length-replicate {A = Option Colour} n None) (λ q below.
       get_or-replicate {A = Option Colour} n q None None below ∙ rw (no_black q (omega arith), no_white q (omega arith)) refl))
@@ -122,6 +129,7 @@ entries_alike n m a b c d xs ys first second plain other q small blacks whites =
 
 -- plain pairs of words show one colouring exactly where their bits agree
 module _ (n m : ℕ) (a b c d : List ℕ) (xs ys : Colouring) (counts : n ≡ m) (first : shown n a b ≡ xs) (second : shown m c d ≡ ys) (plain : IsPlain n a b) where
+  -- the same bits show the same colouring
   pub shown_same : AreSameBits a c → AreSameBits b d → xs ≡ ys
   shown_same blacks whites = sym first ∙ shown_from m c d (shown n a b) (length-shown n a b ∙ counts) (λ p below.
       let small : p < 384 = omega (arith, plain.small) in
@@ -130,6 +138,7 @@ module _ (n m : ℕ) (a b c d : List ℕ) (xs ys : Colouring) (counts : n ≡ m)
   one : xs ≡ ys → shown n a b ≡ shown m c d
   one same = first ∙ same ∙ sym second
 
+  -- the same colouring has the same bits, Black's and White's
   pub blacks_same : IsPlain m c d → xs ≡ ys → AreSameBits a c
   blacks_same other same q small =
       (bits_of n a b plain q small).0 ∙ ap (λ zs. is_stone_of (entry_at zs q) Black) (one same) ∙ sym (bits_of m c d other q small).0
@@ -147,6 +156,7 @@ bits_handed words k c bits = record {
 
 -- the words of a plain pair are the bits of the stones of a colour
 module _ (n : ℕ) (black white : List ℕ) (c : Colouring) (is : shown n black white ≡ c) (plain : IsPlain n black white) where
+  -- Black's words have the bits of the black stones, White's those of the white ones
   pub blacks_handed : AreBitsOf black (length c) (λ p. is_stone_of (entry_at c p) Black)
   blacks_handed = bits_handed black Black c (λ p small. (bits_of n black white plain p small).0 ∙ ap (λ xs. is_stone_of (entry_at xs p) Black) is)
 

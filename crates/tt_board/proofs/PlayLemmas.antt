@@ -23,6 +23,7 @@ same_colour_self : (k : Colour) → same_colour k k ≡ true
 same_colour_self Black = refl
 same_colour_self White = refl
 
+-- whether an entry is a stone of a colour, as a test
 pub stone_of : (x : Option Colour) (k : Colour) → x ≡ Some k → is_stone_of x k ≡ true
 stone_of x k e = rw e (same_colour_self k)
 
@@ -33,6 +34,7 @@ not_stone_of (Some Black) White h = refl
 not_stone_of (Some White) Black h = refl
 not_stone_of (Some White) White h = absurd (h refl)
 
+-- a cleared point: a stone of the colour that doesn't reach empty is gone, and all else stays
 pub cleared_gone : (s : Size) (c : List (Option Colour)) (k : Colour) (p : ℕ) → entry_at c p ≡ Some k → reaches s c p None ≡ false → cleared_entry s c k p ≡ None
 cleared_gone s c k p stone dead = cond-true (is_stone_of (entry_at c p) k && not (reaches s c p None)) None (entry_at c p) (rw (stone_of (entry_at c p) k stone, dead) refl)
 
@@ -48,6 +50,7 @@ pub clear_from : (s : Size) (c d : List (Option Colour)) (k : Colour) → length
 unfolding clear
 clear_from s c d k fits each = fill_by_all (cleared_entry s c k) d (point_count s) None fits each
 
+-- the cleared colouring has the cleared points
 pub entry_at_clear : (s : Size) (c : List (Option Colour)) (k : Colour) (p : ℕ) → p < point_count s → entry_at (clear s c k) p ≡ cleared_entry s c k p
 unfolding clear
 entry_at_clear s c k p in_p = get_or-map-range_with_len (cleared_entry s c k) 0 (point_count s) p p None in_p (omega arith)
@@ -82,10 +85,12 @@ module _ (s : Size) (c : List (Option Colour)) (k : Colour) where
         | inr dead ↦ survives p in_p (others (λ mine. stone (entry_at_clear s c k p in_p ∙ cleared_gone s c k p mine dead)))
       ]
 
+-- a stone is not one of the other colour
 pub other_differs : (k : Colour) → Some k ≢ Some (other k)
 other_differs Black e = cc
 other_differs White e = cc
 
+-- a stone that isn't of the other colour is of this one
 not_other : (k : Colour) (x : Option Colour) → x ≢ None → x ≢ Some (other k) → x ≡ Some k
 not_other k None some differs = absurd (some refl)
 not_other Black (Some Black) some differs = refl
@@ -103,10 +108,12 @@ alive-clear-clear s c k p in_p stone =
     let same : entry_at once p ≡ entry_at c p = entry_at_clear s c (other k) p in_p ∙ cleared_kept_other s c (other k) p differs in
     absurd (apart (not_other k (entry_at once p) empty_stays (λ h. differs (sym same ∙ h))))))
 
+-- after a move each stone reaches empty
 pub alive-play : (s : Size) (c : List (Option Colour)) (k : Colour) (at : ℕ) → IsAlive s (play_of s c k at)
 unfolding play_of
 alive-play s c k at = alive-clear-clear s (set c at (Some k)) k
 
+-- what a move makes has an entry for each point of the board
 pub length-play : (s : Size) (c : List (Option Colour)) (k : Colour) (at : ℕ) → length (play_of s c k at) ≡ point_count s
 unfolding play_of
 length-play s c k at = length-clear s (clear s (set c at (Some k)) (other k)) k

@@ -18,9 +18,11 @@ use Rattle.tt_board.specs.Stones.{any_empty, all_stones_of}
 
 -- ---- sets
 
+-- numbers that tie in the order are equal
 same_number : (q x : ℕ) → eq_by_cmp nat_cmp q x ≡ true → q ≡ x
 same_number q x e = eqb-true q x (sym (unsigned_tied q x) ∙ e)
 
+-- a number ties with itself
 itself : (x : ℕ) → eq_by_cmp nat_cmp x x ≡ true
 itself x = unsigned_tied x x ∙ eq-eqb x x refl
 
@@ -36,6 +38,7 @@ some_passes test (x ∷ xs) h = elim (or_cases (test x) (list_any test xs) h) [
   | inr there ↦ let r = some_passes test xs there in (r.0, ap (λ b. eq_by_cmp nat_cmp r.0 x || b) r.1 ∙ or_true (eq_by_cmp nat_cmp r.0 x), r.2)
 ]
 
+-- a number among the items that passes is an item that passes
 passes_some : (test : ℕ → Bool) (xs : List ℕ) (p : ℕ) → list_any (eq_by_cmp nat_cmp p) xs ≡ true → test p ≡ true → list_any test xs ≡ true
 passes_some test [] p at on = absurd (false≢true at)
 passes_some test (x ∷ xs) p at on = elim (or_cases (eq_by_cmp nat_cmp p x) (list_any (eq_by_cmp nat_cmp p) xs) at) [
@@ -52,6 +55,7 @@ all_or_one test (x ∷ xs) = step (test x) (list_all test xs) (list_any (λ p. n
     step true c d e = e
     step false c d e = refl
 
+-- a test that can't be true is false
 denied : (b : Bool) → (b ≡ true → ⊥) → b ≡ false
 denied true h = absurd (h refl)
 denied false h = refl
@@ -60,6 +64,7 @@ denied false h = refl
 module _ (s : Points) (n : ℕ) (small : n ≤ 361) (within : (p : ℕ) → set.contains s p ≡ true → p < n) (ws xs ys : List ℕ)
     (is : AreBitsOf ws 361 (λ p. set.contains s p)) (test : ℕ → Bool)
     (out : (p : ℕ) → p < n → test p ≡ true → (bit_in xs p || bit_in ys p) ≡ false) (in' : (p : ℕ) → p < n → test p ≡ false → (bit_in xs p || bit_in ys p) ≡ true) where
+  -- where the two words cover the set, no point of it passes the test
   none_fails : AreCovered ws xs ys → list_any test (set.items s) ≡ false
   none_fails covered = denied _ (λ some.
       let p = some_passes test (set.items s) some in
@@ -67,6 +72,7 @@ module _ (s : Points) (n : ℕ) (small : n ≤ 361) (within : (p : ℕ) → set.
       let lt = within p.0 has in
       true≢false (sym (covered p.0 (omega arith) (is.below p.0 (omega arith) (omega arith) ∙ has)) ∙ out p.0 lt p.2))
 
+  -- where no point of the set passes the test, the two words cover it
   covered_if : list_any test (set.items s) ≡ false → AreCovered ws xs ys
   covered_if none q lt on = elim (cases_lt q 361) [
     | inr past ↦ absurd (false≢true (sym (is.behind q past lt) ∙ on))
@@ -75,6 +81,7 @@ module _ (s : Points) (n : ℕ) (small : n ≤ 361) (within : (p : ℕ) → set.
         in' q (within q has) (denied (test q) (λ yes'. false≢true (sym none ∙ passes_some test (set.items s) q (sym (set.contains-items s q) ∙ has) yes')))
   ]
 
+  -- so whether they cover it tells whether some point passes
   pub covers_is : (b : Bool) → ((b ≡ true → AreCovered ws xs ys) × (AreCovered ws xs ys → b ≡ true)) → not b ≡ list_any test (set.items s)
   covers_is true h = sym (none_fails (h.0 refl))
   covers_is false h = sym (by (list_any test (set.items s)) refl)
@@ -85,9 +92,11 @@ module _ (s : Points) (n : ℕ) (small : n ≤ 361) (within : (p : ℕ) → set.
 
 -- ---- stones
 
+-- a board has 361 points at the most
 pub few_points : (size : Size) → point_count size ≤ 361
 few_points size = Rattle.std.proofs.Math.Nat.mul-le-mul size.columns_in.1 size.rows_in.1
 
+-- a point has one of the two bits exactly where a stone stands on it
 bits_told : (e : Option Colour) (b w : Bool) → b ≡ is_stone_of e Black → w ≡ is_stone_of e White → (b || w) ≡ not (is_empty e)
 bits_told None b w x y = rw (x, y) refl
 bits_told (Some Black) b w x y = ap (λ a. a || w) x

@@ -17,6 +17,7 @@ use Rattle.tt_board.specs.ReachLaws.{sound_more, unmarked_fewer, filled}
 abbrev pub Decision : Type 0 → Type 0
 Decision P = P ⊎ (P → ⊥)
 
+-- both of two facts, one of them, or the opposite of one, decided by deciding these
 pub both : {P Q : Type 0} → Decision P → Decision Q → Decision (P × Q)
 both (inl p) (inl q) = inl (p, q)
 both (inl p) (inr isnt) = inr (λ h. isnt h.1)
@@ -46,6 +47,7 @@ some_below P each (suc n) =
       ]
     ]
 
+-- whether two entries are equal
 pub same_entry : (a b : Option Colour) → Decision (a ≡ b)
 same_entry None None = inl refl
 same_entry None (Some b) = inr (λ e. cc)
@@ -55,9 +57,11 @@ same_entry (Some Black) (Some White) = inr (λ e. cc)
 same_entry (Some White) (Some Black) = inr (λ e. cc)
 same_entry (Some White) (Some White) = inl refl
 
+-- whether one number is the other's successor
 beside : (a b : ℕ) → Decision (IsBeside a b)
 beside a b = either (cases_eq (a + 1) b) (cases_eq (b + 1) a)
 
+-- whether q is a point of the board, adjacent to p
 pub neighbour : (s : Size) (p q : ℕ) → Decision (IsNeighbour s p q)
 neighbour s p q = both (below q (point_count s))
     (either (both (cases_eq (p / s.columns) (q / s.columns)) (beside (p % s.columns) (q % s.columns)))
@@ -67,6 +71,7 @@ neighbour s p q = both (below q (point_count s))
     below a b = elim (cases_lt a b) [ inl h ↦ inl h | inr h ↦ inr (λ l. omega arith) ]
 
 module _ (s : Size) (c : Colouring) (e : Option Colour) where
+  -- whether a fill may mark p next
   next : (m : List Bool) (p : ℕ) → Decision (IsNext s c e m p)
   next m p = elim (denied (same_entry (entry_at c p) e)) [
     | inr same ↦ inr (λ h. same h.0)
@@ -94,6 +99,7 @@ module _ (s : Size) (c : Colouring) (e : Option Colour) where
       bare : (p : ℕ) → Decision (is_marked m p ≡ false)
       bare p = elim (cases_Bool (is_marked m p)) [ inl on ↦ inr (λ off. false≢true (sym off ∙ on)) | inr off ↦ inl off ]
 
+  -- marks that are on exactly those points of the board that reach e
   pub marks : (m : List Bool) × IsFilled s c e m
   marks =
       let m = replicate (point_count s) false in
@@ -104,6 +110,7 @@ module _ (s : Size) (c : Colouring) (e : Option Colour) where
 pub reaches : Size → Colouring → ℕ → Option Colour → Bool
 reaches s c p e = is_marked (marks s c e).0 p
 
+-- of a point of the board the test is true exactly where it reaches e
 pub reaches_is : (s : Size) (c : Colouring) (p : ℕ) (e : Option Colour) → p < point_count s
     → (reaches s c p e ≡ true → Reaches s c p e) × (Reaches s c p e → reaches s c p e ≡ true)
 unfolding reaches

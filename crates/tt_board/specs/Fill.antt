@@ -7,6 +7,7 @@ use Rattle.tt_board.specs.Near.{IsNeighbour}
 use Rattle.tt_board.specs.Position.{Colouring}
 use Rattle.tt_board.specs.Reach.{entry_at, Reaches}
 
+-- whether p is marked; past the end of the list nothing is
 abbrev pub is_marked : List Bool → ℕ → Bool
 is_marked m p = slice_index_or m p false
 
@@ -27,5 +28,6 @@ IsClosed s c e m = (p : ℕ) → p < point_count s → IsNext s c e m p → IsTr
 abbrev pub IsFilled : Size → Colouring → Option Colour → List Bool → Type 0
 IsFilled s c e m = (p : ℕ) → p < point_count s → (IsTrue (is_marked m p) → Reaches s c p e) × (Reaches s c p e → IsTrue (is_marked m p))
 
+-- how many points of the list have no mark
 abbrev pub unmarked_count : List Bool → ℕ
 unmarked_count m = count_by not m

@@ -21,12 +21,14 @@ abbrev pub other : Colour → Colour
 other Black = White
 other White = Black
 
+-- whether two colours are equal
 abbrev pub same_colour : Colour → Colour → Bool
 same_colour Black Black = true
 same_colour Black White = false
 same_colour White Black = false
 same_colour White White = true
 
+-- whether the entry is a stone of colour k
 abbrev pub is_stone_of : Option Colour → Colour → Bool
 is_stone_of None k = false
 is_stone_of (Some j) k = same_colour j k
@@ -43,6 +45,7 @@ clear s c k = map (cleared_entry s c k) (range_with_len 0 (point_count s))
 unfoldable pub play_of : Size → Colouring → Colour → ℕ → Colouring
 play_of s c k p = clear s (clear s (slice_set c p (Some k)) (other k)) k
 
+-- what a move makes has an entry for each point of the board
 pub length-play_of : (s : Size) (c : Colouring) (k : Colour) (p : ℕ) → length (play_of s c k p) ≡ point_count s
 unfolding play_of clear
 length-play_of s c k p = length-map-range_with_len _ 0 (point_count s)
@@ -51,6 +54,7 @@ length-play_of s c k p = length-map-range_with_len _ 0 (point_count s)
 abbrev pub IsAlive : Size → Colouring → Type 0
 IsAlive s c = (p : ℕ) → p < point_count s → entry_at c p ≢ None → Reaches s c p None
 
+-- whether no stone is there
 abbrev pub is_empty : Option Colour → Bool
 is_empty None = true
 is_empty (Some _) = false
@@ -84,6 +88,7 @@ pub record IsLeastLifeless (s : Size) (c : Colouring) (p : ℕ) : Type 0 where
   pub lifeless : Reaches s c p None → ⊥
   pub least : (q : ℕ) → q < p → entry_at c q ≢ None → Reaches s c q None
 
+-- what a setup makes has an entry for each point of the board
 pub length-placed : (s : Size) (c : Colouring) (black white bare : Points) → length (placed s c black white bare) ≡ point_count s
 unfolding placed
 length-placed s c black white bare = length-map-range_with_len _ 0 (point_count s)

@@ -16,12 +16,14 @@ same_course g xs ys x y n e f = cc
 pub front_last : (cs : List Colouring) → 0 < length cs → front cs ++ last cs ∷ [] ≡ cs
 front_last cs some = sym (take_more cs (length cs - 1) [] (omega arith)) ∙ take_all (length cs - 1 + 1) cs (omega arith)
 
+-- one more behind a list is its last, and the others are its front
 pub front_push : (cs : List Colouring) (c : Colouring) → front (cs ++ c ∷ []) ≡ cs
 front_push cs c = ap (λ n. take (n - 1) (cs ++ c ∷ [])) (length_push cs c) ∙ ap (λ n. take n (cs ++ c ∷ [])) (omega arith) ∙ take_at cs (c ∷ []) (length cs) refl
 
 pub last_push : (cs : List Colouring) (c : Colouring) → last (cs ++ c ∷ []) ≡ c
 last_push cs c = get_or_push cs c [] _ (omega (arith, length_push cs c))
 
+-- there is a colouring for each board
 pub length-colourings : (bs : List Position) → length (colourings bs) ≡ length bs
 length-colourings bs = length-map bs (λ b. b.points)
 

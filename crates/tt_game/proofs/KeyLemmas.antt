@@ -21,6 +21,7 @@ use Rattle.tt_game.specs.Keys.{marks_of, binary, words_of, packed, key_of}
 
 -- ---- words
 
+-- n marks are a number below 2 to the n
 binary-below : (bs : List Bool) → binary bs < 2 ^ length bs
 binary-below [] = omega arith
 binary-below (b ∷ bs) =
@@ -31,12 +32,14 @@ binary-below (b ∷ bs) =
     unit true = omega arith
     unit false = omega arith
 
+-- a number tells its lowest digit, and what is left without it
 odd : (b c : Bool) (m n : ℕ) → cond b 1 0 + 2 * m ≡ cond c 1 0 + 2 * n → (b ≡ c) × (m ≡ n)
 odd true true m n e = (refl, omega (arith, e))
 odd true false m n e = absurd (omega (arith, e))
 odd false true m n e = absurd (omega (arith, e))
 odd false false m n e = (refl, omega (arith, e))
 
+-- a number tells the marks that are its digits
 binary_tells : (bs cs : List Bool) → length bs ≡ length cs → binary bs ≡ binary cs → bs ≡ cs
 binary_tells [] [] e h = refl
 binary_tells [] (c ∷ cs) e h = absurd (omega (arith, e))
@@ -46,6 +49,7 @@ binary_tells (b ∷ bs) (c ∷ cs) e h =
     let r = binary_tells bs cs (omega (arith, e)) k.1 in
     let f = k.0 in cc
 
+-- words of 64 marks tell all marks in them
 words_tell : (k : ℕ) (xs ys : List Bool) → length xs ≡ 64 * k → length ys ≡ 64 * k → words_of k xs ≡ words_of k ys → xs ≡ ys
 unfolding words_of
 words_tell zero [] [] e f h = refl
@@ -69,12 +73,14 @@ packed_tells size test tell h p lt =
     let marks = append_cancel_right (map test (range_with_len 0 n)) (map tell (range_with_len 0 n)) (replicate (384 - n) false) (words_tell 6 _ _ (wide test) (wide tell) h) in
     sym (get_or-map-range_with_len test 0 n p p false lt (omega arith)) ∙ ap (λ xs. get_or xs p false) marks ∙ get_or-map-range_with_len tell 0 n p p false lt (omega arith)
 
+-- tests that agree on the first numbers mark them alike
 same_maps : (test tell : ℕ → Bool) (n : ℕ) → ((p : ℕ) → p < n → test p ≡ tell p) → map test (range_with_len 0 n) ≡ map tell (range_with_len 0 n)
 same_maps test tell n h = Rattle.std.proofs.lemmas.List.ext_get_or false (map test (range_with_len 0 n)) (map tell (range_with_len 0 n))
     (length-map-range_with_len test 0 n ∙ sym (length-map-range_with_len tell 0 n))
     (λ k in'. let lt : k < n = subst (λ m. k < m) (length-map-range_with_len test 0 n) in' in
     get_or-map-range_with_len test 0 n k k false lt (omega arith) ∙ h k lt ∙ sym (get_or-map-range_with_len tell 0 n k k false lt (omega arith)))
 
+-- tests that agree on the board's points are packed alike
 pub packed_same : (size : Size) (test tell : ℕ → Bool) → ((p : ℕ) → p < point_count size → test p ≡ tell p) → words_of 6 (marks_of size test) ≡ words_of 6 (marks_of size tell)
 unfolding marks_of
 packed_same size test tell h = ap (λ xs. words_of 6 (xs ++ replicate (384 - point_count size) false)) (same_maps test tell (point_count size) h)
@@ -93,20 +99,24 @@ entries_tell (Some White) (Some Black) b w = cc
 
 -- ---- words by their bits
 
+-- the lowest digit of a number, and what is left without it
 digit : (b : Bool) (m : ℕ) → ((cond b 1 0 + 2 * m) % 2 ≡ cond b 1 0) × ((cond b 1 0 + 2 * m) / 2 ≡ m)
 digit true m = (omega arith, omega arith)
 digit false m = (omega arith, omega arith)
 
+-- the bits of the number are the marks
 bit_binary : (bs : List Bool) (i : ℕ) → bit_at (binary bs) i ≡ cond (get_or bs i false) 1 0
 bit_binary [] i = bit_at-zero i
 bit_binary (b ∷ bs) zero = bit_at_lowest (cond b 1 0 + 2 * binary bs) ∙ (digit b (binary bs)).0
 bit_binary (b ∷ bs) (suc i) = bit_at-suc (cond b 1 0 + 2 * binary bs) i ∙ ap (λ m. bit_at m i) (digit b (binary bs)).1 ∙ bit_binary bs i
 
+-- as many words are made as are asked for
 length-words_of : (n : ℕ) (marks : List Bool) → length (words_of n marks) ≡ n
 unfolding words_of
 length-words_of zero marks = refl
 length-words_of (suc n) marks = ap suc (length-words_of n (drop 64 marks))
 
+-- each word is the number of its 64 marks
 word_of : (n : ℕ) (marks : List Bool) (k : ℕ) → k < n → get_or (words_of n marks) k 0 ≡ binary (take 64 (drop (64 * k) marks))
 unfolding words_of
 word_of zero marks k lt = absurd (omega arith)
@@ -115,12 +125,14 @@ word_of (suc n) marks (suc k) lt =
     let more : 64 + 64 * k ≡ 64 * suc k = omega arith in
     word_of n (drop 64 marks) k (omega arith) ∙ ap (λ xs. binary (take 64 xs)) (drop-drop (64 * k) 64 marks ∙ ap (λ j. drop j marks) more)
 
+-- no mark is set where none was made
 none_marked : (n i : ℕ) → get_or (replicate n false) i false ≡ false
 none_marked n i = elim (cases_lt i n) [
   | inl below ↦ get_or-replicate n i false false below
   | inr past ↦ get_or_past (replicate n false) i false (omega (arith, length-replicate {A = Bool} n false))
 ]
 
+-- the marks are the bits of words that have those of the test
 mark_is : (size : Size) (test : ℕ → Bool) (words : List ℕ) → AreBitsOf words (point_count size) test → (q : ℕ) → q < 384 → get_or (marks_of size test) q false ≡ bit_in words q
 unfolding marks_of
 mark_is size test words bits q lt =
@@ -133,11 +145,13 @@ mark_is size test words bits q lt =
       | inr past ↦ get_or-append_right xs ys n q false wide past ∙ none_marked (384 - n) (q - n) ∙ sym (bits.behind q past lt)
     ]
 
+-- a bit is known by whether it is 1
 by_test : (x : ℕ) → x < 2 → x ≡ cond (eqb x 1) 1 0
 by_test zero lt = refl
 by_test (suc zero) lt = refl
 by_test (suc (suc x)) lt = absurd (omega arith)
 
+-- a bit of a word is 1 exactly where the bit of its number is
 bit_is : (words : List ℕ) (k i : ℕ) → i < 64 → bit_at (get_or words k 0) i ≡ cond (bit_in words (64 * k + i)) 1 0
 unfolding bit_in
 bit_is words k i lt =

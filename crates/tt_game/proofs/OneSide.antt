@@ -6,12 +6,15 @@ use Rattle.tt_game.specs.declared.frame.Side.TheVariants.{Attacker, Defender}
 use Rattle.tt_game.specs.declared.frame.Frame.{Frame}
 use Rattle.tt_game.specs.Game.{State, Forces, winner_of, after}
 
+-- a state has one winner at most
 one : (f : Frame) (s : State) → winner_of f s ≡ Some Attacker → winner_of f s ≡ Some Defender → ⊥
 one f s a d = let e = sym a ∙ d in cc
 
+-- no side is both
 apart : (s : Side) → s ≡ Attacker → s ≡ Defender → ⊥
 apart s a d = let e = sym a ∙ d in cc
 
+-- not both sides force a win
 pub not_both : (m n : ℕ) (f : Frame) (s : State) → Forces f Attacker m s → Forces f Defender n s → ⊥
 not_both zero zero f s a d = one f s a d
 not_both zero (suc n) f s a (inl d) = one f s a d

@@ -21,14 +21,17 @@ use Rattle.tt_game.specs.Records.{and_then, begin_line, step_node}
 abbrev IsOpen : Standing → Type 0
 IsOpen p = winner_of p.frame p.state ≡ None
 
+-- a step that came to something came to it from what the step before gave
 pub step_made : {A B : Type 0} (r : Result A GameFault) (f : A → Result B GameFault) (y : B) → and_then r f ≡ Ok y → (x : A) × (r ≡ Ok x) × (f x ≡ Ok y)
 step_made (Ok x) f y e = (x, refl, e)
 step_made (Err c) f y e = let bad : Err c ≡ Ok y = e in cc
 
+-- what a choice came to is one of the two
 pub either : {A : Type 0} (b : Bool) (x y z : A) → cond b x y ≡ z → (x ≡ z) ⊎ (y ≡ z)
 either true x y z e = inl e
 either false x y z e = inr e
 
+-- a problem whose targets all have a stone is open
 open_with : (s : Played) (region targets : Points) (o : Option Colour) (q : Standing) → any_empty targets s.present ≡ false → problem_with s region targets o ≡ Ok q → IsOpen q
 open_with s region targets None q full h = let bad : Err _ ≡ Ok q = h in cc
 open_with s region targets (Some k) q full h =
@@ -37,6 +40,7 @@ open_with s region targets (Some k) q full h =
     ap (λ (b : Bool). if b then Some Attacker else (if 0 == 2 then Some Defender else None)) full in
     subst IsOpen same won
 
+-- so is one posed on sets
 open_on : (s : Played) (region targets : Points) (q : Standing) → problem_on s region targets ≡ Ok q → IsOpen q
 open_on s region targets q h = elim (either (nat_eq (set.len targets) 0) _ _ _ h) [
   | inl none ↦ let bad : Err _ ≡ Ok q = none in cc
@@ -46,11 +50,13 @@ open_on s region targets q h = elim (either (nat_eq (set.len targets) 0) _ _ _ h
   ]
 ]
 
+-- and one of sets that a node names
 open_at : (s : Played) (targets region : Option Points) (q : Standing) → problem_at s targets region ≡ Ok q → IsOpen q
 open_at s None region q h = let bad : Err _ ≡ Ok q = h in cc
 open_at s (Some targets) None q h = let bad : Err _ ≡ Ok q = h in cc
 open_at s (Some targets) (Some region) q h = open_on s region targets q h
 
+-- and one that nodes come to
 open_nodes : (r : Replay) (ns : List Node) (q : Standing) → run_to_mark r ns ≡ Ok q → IsOpen q
 unfolding run_to_mark
 open_nodes r [] q h = let bad : Err _ ≡ Ok q = h in cc
@@ -61,6 +67,7 @@ open_nodes r (n ∷ ns) q h =
       | inr e ↦ open_nodes made.0 ns q e
     ]
 
+-- nobody has won at a problem
 pub problem_open : (ns : List Node) (q : Standing) → problem_of ns ≡ Ok q → winner_of q.frame q.state ≡ None
 unfolding problem_of
 problem_open ns q h = let made = step_made (begin_line ns) _ q h in open_nodes made.0 ns q made.2

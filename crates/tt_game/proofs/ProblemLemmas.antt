@@ -19,10 +19,12 @@ use Rattle.tt_game.specs.Nodes.{TR, has, set_named}
 use Rattle.tt_game.specs.Records.{and_then, step_node}
 use Rattle.tt_game.specs.Problems.{region_of, problem_at, run_to_mark}
 
+-- what a value covers is on the board
 covered_on : (size : Size) (e : Option _) (q : ℕ) → covers_by size e q ≡ true → q < point_count size
 covered_on size None q h = absurd (false≢true h)
 covered_on size (Some e) q h = ltb-true q (size.columns * size.rows) (and_parts _ (in_rectangle size.columns e q) h).0
 
+-- so is what one of several covers
 any_on : (size : Size) (vs : List (List ℕ)) (q : ℕ) → list_any (λ v. covers size v q) vs ≡ true → q < point_count size
 any_on size [] q h = absurd (false≢true h)
 any_on size (v ∷ vs) q h = elim (or_cases (covers size v q) (list_any (λ w. covers size w q) vs) h) [
@@ -41,6 +43,7 @@ set_on_board size vs s q e h = elim (cases_Bool (list_all (is_entry size) vs)) [
       any_on size vs q (and_parts (ltb q 361) _ (sym (contains-passing (λ p. list_any (λ v. covers size v p) vs) 361 q) ∙ ap (λ (t : set.FinSet nat_cmp). set.contains t q) (sym same) ∙ h)).1
 ]
 
+-- the way to the mark: at its end no target, then a refused node, a node without a mark, and one with it
 pub mark-nil : (s : Replay) → run_to_mark s [] ≡ Err NoTarget
 unfolding run_to_mark
 mark-nil s = refl

@@ -58,6 +58,7 @@ step_refused (Err c) f e h = inl (let same : c ≡ e = cc in ap Err same)
 
 -- ---- plays
 
+-- the test of superko is true exactly where the colouring is in the history
 pub superko_decides : SuperkoDecides
 superko_decides h c = ((repeats_is h c).0, (repeats_is h c).1)
 
@@ -127,6 +128,7 @@ turn_made r t q e = elim (choice (r.game.passes == 2) _ _ _ e) [
     gone None h = let same : after_turn r t ≡ q = cc in (refl, same)
     gone (Some why) h = let bad : Err _ ≡ Ok q = h in cc
 
+-- a lawful turn keeps a history by the rules and the count within 2,000
 goes_on : (r : Replay) (t : Turn) → IsOn r.game.size t → refusal_of r.game t ≡ None → r.turns < 2000 → GoesOn r (after_turn r t)
 goes_on r Pass on taken few = record { lawful = λ h. (h.0, omega (arith, few)); grows = inl refl }
 goes_on r (Play p) on taken few =
@@ -143,9 +145,11 @@ goes_on r (Play p) on taken few =
       grows = inr refl;
     }
 
+-- so does a turn that was taken
 one_turn : (r : Replay) (t : Turn) (q : Replay) → IsOn r.game.size t → turn_of r t ≡ Ok q → GoesOn r q
 one_turn r t q on e = let made = turn_made r t q e in subst (λ (x : Replay). GoesOn r x) made.2 (goes_on r t on made.0 made.1)
 
+-- and a turn of a colour, with the pass before it where that is needed
 turns_by : (r : Replay) (k : Colour) (t : Turn) (q : Replay) → IsOn r.game.size t → turn_by r k t ≡ Ok q → GoesOn r q
 turns_by r k t q on e = elim (choice (same_colour r.game.to_move k) _ _ _ e) [
   | inl its ↦ one_turn r t q on its.1
@@ -181,10 +185,12 @@ value_on size (c ∷ d ∷ []) (On p) e = elim (choice (c == 116 && d == 116) _ 
 ]
 value_on size (c ∷ d ∷ x ∷ xs) (On p) e = let bad : None ≡ Some (On p) = e in cc
 
+-- a turn by the value of its property does what turns do
 turn_goes : (r : Replay) (k : Colour) (text : List ℕ) (o : Option PointOrPass) (q : Replay) → point_of r.game.size text ≡ o → turn_named r k o ≡ Ok q → GoesOn r q
 turn_goes r k text None q is e = let bad : Err _ ≡ Ok q = e in cc
 turn_goes r k text (Some v) q is e = turns_by r k (as_turn v) q (value_on r.game.size text v is) e
 
+-- so does a node's move, or none
 move_goes : (r : Replay) (vs ws : List (List ℕ)) (q : Replay) → move_of r vs ws ≡ Ok q → GoesOn r q
 move_goes r (v ∷ vs) ws q e = turn_goes r Black (trimmed v) (point_of r.game.size (trimmed v)) q refl e
 move_goes r [] (w ∷ ws) q e = turn_goes r White (trimmed w) (point_of r.game.size (trimmed w)) q refl e
@@ -199,6 +205,7 @@ record BeginsAnew (r q : Replay) : Type 0 where
   lawful : IsLawful r → IsLawful q
   alone : all_of q.game ≡ q.game.present ∷ []
 
+-- a colouring begins the history anew
 begun_anew : (r : Replay) (c : Colouring) (k : Colour) (q : Replay) → begun r c k ≡ Ok q → BeginsAnew r q
 begun_anew r c k q e = elim (choice (all_alive r.game.size c) _ _ _ e) [
   | inl alive ↦
@@ -207,6 +214,7 @@ begun_anew r c k q e = elim (choice (all_alive r.game.size c) _ _ _ e) [
   | inr lifeless ↦ let bad : Err _ ≡ Ok q = lifeless.1 in cc
 ]
 
+-- so do sets put over the board
 set_up_anew : (r : Replay) (black white bare : Option Points) (k : Option Colour) (q : Replay) → set_up_by r black white bare k ≡ Ok q → BeginsAnew r q
 set_up_anew r None white bare k q e = let bad : Err _ ≡ Ok q = e in cc
 set_up_anew r (Some black) None bare k q e = let bad : Err _ ≡ Ok q = e in cc
@@ -233,15 +241,18 @@ node_does r n q e = elim (choice (is_setup n) _ _ _ e) [
   ]
 ]
 
+-- a setup begins the history anew, another node leaves it or adds one colouring
 pub setups_begin : SetupsBeginHistories
 setups_begin r q n e = elim (node_does r n q e) [
   | inl setup ↦ (λ _. setup.1.alone, λ not_. absurd (false≢true (sym not_ ∙ setup.0)))
   | inr move ↦ (λ is. absurd (false≢true (sym move.0 ∙ is)), λ _. move.1.grows)
 ]
 
+-- a node keeps a history by the rules and the count within 2,000
 node_lawful : (r : Replay) (n : Node) (q : Replay) → step_node r n ≡ Ok q → IsLawful r → IsLawful q
 node_lawful r n q e h = elim (node_does r n q e) [ inl setup ↦ setup.1.lawful h | inr move ↦ move.1.lawful h ]
 
+-- so do nodes one after another
 run_lawful : (r : Replay) (ns : List Node) (q : Replay) → run_nodes r ns ≡ Ok q → IsLawful r → IsLawful q
 unfolding run_nodes
 run_lawful r [] q e h = let same : r ≡ q = cc in subst IsLawful same h
@@ -249,12 +260,14 @@ run_lawful r (n ∷ ns) q e h =
     let made = step_made (step_node r n) _ q e in
     run_lawful made.0 ns q made.2 (node_lawful r n made.0 made.1 h)
 
+-- the empty board begins a history by the rules
 empty_lawful : (o : Option Size) (q : Replay) → begin_at o ≡ Ok q → IsLawful q
 empty_lawful None q e = let bad : Err _ ≡ Ok q = e in cc
 empty_lawful (Some size) q e =
     let same : record { game = empty_game size; turns = 0 } ≡ q = cc in
     subst IsLawful same (alone size (empty_game size).present, omega arith)
 
+-- a line begins with a history by the rules
 begin_lawful : (ns : List Node) (q : Replay) → begin_line ns ≡ Ok q → IsLawful q
 unfolding begin_node
 begin_lawful [] q e = empty_lawful (sized 19 19) q e
@@ -263,6 +276,7 @@ begin_lawful (n ∷ ns) q e = elim (choice (is_go (values_of GM n.properties)) _
   | inr other ↦ let bad : Err _ ≡ Ok q = other.1 in cc
 ]
 
+-- the history of a record's game is by the rules
 pub records_are_games : RecordsAreGames
 records_are_games ns r e =
     let made = step_made (begin_line ns) _ r e in
@@ -275,12 +289,14 @@ record IsOfGame (s : Played) (q : Standing) : Type 0 where
   size : s.size ≡ q.frame.size
   history : all_of s ≡ history q.state
 
+-- a problem posed in a game has that game's history and size
 of_game_with : (s : Played) (region targets : Points) (o : Option Colour) (q : Standing) → problem_with s region targets o ≡ Ok q → IsOfGame s q
 of_game_with s region targets None q e = let bad : Err _ ≡ Ok q = e in cc
 of_game_with s region targets (Some k) q e =
     let same : posed s region targets k ≡ q = cc in
     subst (λ (x : Standing). IsOfGame s x) same (record { size = refl; history = refl })
 
+-- so has one posed on sets
 of_game_on : (s : Played) (region targets : Points) (q : Standing) → problem_on s region targets ≡ Ok q → IsOfGame s q
 of_game_on s region targets q e = elim (choice (nat_eq (set.len targets) 0) _ _ _ e) [
   | inl none ↦ let bad : Err _ ≡ Ok q = none.1 in cc
@@ -290,11 +306,13 @@ of_game_on s region targets q e = elim (choice (nat_eq (set.len targets) 0) _ _ 
   ]
 ]
 
+-- and one of sets that a node names
 of_game : (s : Played) (targets region : Option Points) (q : Standing) → problem_at s targets region ≡ Ok q → IsOfGame s q
 of_game s None region q e = let bad : Err _ ≡ Ok q = e in cc
 of_game s (Some targets) None q e = let bad : Err _ ≡ Ok q = e in cc
 of_game s (Some targets) (Some region) q e = of_game_on s region targets q e
 
+-- the history of a problem that nodes come to is by the rules
 mark_lawful : (r : Replay) (ns : List Node) (q : Standing) → run_to_mark r ns ≡ Ok q → IsLawful r → IsByTheRules q.frame.size (history q.state)
 unfolding run_to_mark
 mark_lawful r [] q e h = let bad : Err _ ≡ Ok q = e in cc
@@ -309,6 +327,7 @@ mark_lawful r (n ∷ ns) q e h =
       | inr on ↦ mark_lawful made.0 ns q on.1 next
     ]
 
+-- a problem's history is by the rules
 pub problems_are_games : ProblemsAreGames
 unfolding problem_of
 problems_are_games ns q e =
@@ -327,6 +346,7 @@ record StopsAt (r : Replay) (ns : List Node) (e : GameFault) : Type 0 where
   taken : run_nodes r front ≡ Ok last
   refused : step_node last node ≡ Err e
 
+-- a refused run stops at a node: the ones before it came to something, and it was refused
 stops_at : (r : Replay) (ns : List Node) (e : GameFault) → run_nodes r ns ≡ Err e → StopsAt r ns e
 unfolding run_nodes
 stops_at r [] e h = let bad : Ok r ≡ Err e = h in cc
@@ -377,6 +397,7 @@ empty_record : (r : Record) × (record_of [] ≡ Ok r)
 unfolding record_of run_nodes common_size
 empty_record = (record_at (empty_game common_size), ap (λ o. and_then (begin_at o) (λ r. and_then (run_nodes r []) (λ q. Ok (record_at q.game)))) (sized_is common_size))
 
+-- a line without a node is never refused
 never_empty : (e : GameFault) → record_of [] ≡ Err e → ⊥
 never_empty e h = let r = empty_record in let bad : Ok r.0 ≡ Err e = sym r.1 ∙ h in cc
 
@@ -420,6 +441,7 @@ refused_by ns e h = elim (step_refused (begin_line ns) _ e h) [
   ]
 ]
 
+-- a refusal is that of the record's least node that has one
 pub least_nodes_refuse : LeastNodesRefuse
 least_nodes_refuse [] e h = absurd (never_empty e h)
 least_nodes_refuse (m ∷ ms) e h = elim (refused_by (m ∷ ms) e h) [
@@ -449,6 +471,7 @@ mark_refused r (n ∷ ns) behind e unmarked h =
           ∙ mark_refused on.0 ns behind e (All-tail (λ m. has TR m ≡ false) n ns unmarked) on.2
     ]
 
+-- a record that is refused and marks no target is refused as a problem too, whatever follows
 pub problems_are_records : ProblemsAreRecords
 unfolding problem_of
 problems_are_records [] behind e unmarked h = absurd (never_empty e h)
@@ -470,6 +493,7 @@ mark_missing r q (n ∷ ns) unmarked h =
     ∙ ap (λ b. cond b (problem_at on.0.game (set_named on.0.game.size TR n) (region_of on.0.game.size n)) (run_to_mark on.0 ns)) (All-head (λ m. has TR m ≡ false) n ns unmarked)
     ∙ mark_missing on.0 q ns (All-tail (λ m. has TR m ≡ false) n ns unmarked) on.2
 
+-- nodes that come to a game and mark no target are no problem
 pub unmarked_are_no_problems : UnmarkedAreNoProblems
 unfolding problem_of
 unmarked_are_no_problems nodes r unmarked h =

@@ -23,17 +23,20 @@ use Rattle.tt_game.proofs.FrameLemmas.{bools}
 pub been_is : (h : List (List (Option Colour))) (c : List (Option Colour)) (r : Bool) → (IsTrue r → HasBeen h c) × (HasBeen h c → IsTrue r) → r ≡ repeats h c
 been_is h c r told = bools r (repeats h c) (λ y. (repeats_is h c).1 (told.0 y)) (λ y. told.1 ((repeats_is h c).0 y))
 
+-- a point whose stone, if any, reaches empty passes the test
 alive_at : (size : Size) (c : List (Option Colour)) (p : ℕ) → p < point_count size → (entry_at c p ≢ None → Reaches size c p None) → (is_empty (entry_at c p) || reaches size c p None) ≡ true
 alive_at size c p lt h = elim (entry_at c p) as (λ o. entry_at c p ≡ o → (is_empty o || reaches size c p None) ≡ true) [
   | None ↦ λ e. refl
   | Some k ↦ λ e. (reaches_is size c p None lt).1 (h (λ n. none-some k (sym n ∙ e)))
 ] refl
 
+-- so do all points below a bound, where each stone reaches empty
 pub alive_all : (size : Size) (c : List (Option Colour)) → IsAlive size c → (n : ℕ) → n ≤ point_count size → alive_below size c n ≡ true
 unfolding alive_below
 alive_all size c h zero le = refl
 alive_all size c h (suc n) le = ap (λ b. b && alive_below size c n) (alive_at size c n (omega (arith, le)) (h n (omega (arith, le)))) ∙ alive_all size c h n (omega (arith, le))
 
+-- and so does the whole board
 pub is_alive : (size : Size) (c : List (Option Colour)) → IsAlive size c → all_alive size c ≡ true
 is_alive size c h = alive_all size c h (point_count size) (omega arith)
 
@@ -41,12 +44,14 @@ and_false : (a : Bool) → (a && false) ≡ false
 and_false true = refl
 and_false false = refl
 
+-- a stone that doesn't reach empty fails the test
 dead_at : (size : Size) (c : List (Option Colour)) (p : ℕ) → p < point_count size → entry_at c p ≢ None → (Reaches size c p None → ⊥) → (is_empty (entry_at c p) || reaches size c p None) ≡ false
 dead_at size c p lt some dead = elim (entry_at c p) as (λ o. entry_at c p ≡ o → (is_empty o || reaches size c p None) ≡ false) [
   | None ↦ λ e. absurd (some e)
   | Some k ↦ λ e. elim (cases_Bool (reaches size c p None)) [ inl y ↦ absurd (dead ((reaches_is size c p None lt).0 y)) | inr n ↦ n ]
 ] refl
 
+-- and so does each bound above it
 dead_below : (size : Size) (c : List (Option Colour)) (p : ℕ) → p < point_count size → entry_at c p ≢ None → (Reaches size c p None → ⊥) → (n : ℕ) → p < n → alive_below size c n ≡ false
 unfolding alive_below
 dead_below size c p lt some dead zero k = absurd (omega (arith, k))
@@ -55,18 +60,22 @@ dead_below size c p lt some dead (suc n) k = elim (cases_eq p n) [
   | inr d ↦ ap (λ b. (is_empty (entry_at c n) || reaches size c n None) && b) (dead_below size c p lt some dead n (omega (arith, k, d))) ∙ and_false (is_empty (entry_at c n) || reaches size c n None)
 ]
 
+-- and so does the whole board
 pub not_alive : (size : Size) (c : List (Option Colour)) (p : ℕ) → IsLeastLifeless size c p → all_alive size c ≡ false
 not_alive size c p h = dead_below size c p h.on_board h.stone h.lifeless (point_count size) h.on_board
 
+-- whether two counts together reach k, 2 at most, is told by both cut off at 2
 counted : (k a b : ℕ) → k ≤ 2 → leb k (min 2 a + min 2 b) ≡ leb k (a + b)
 counted k a b h = bools _ _ (λ y. le-leb k (a + b) (omega (arith, leb-true k (min 2 a + min 2 b) y))) (λ y. le-leb k (min 2 a + min 2 b) (omega (arith, h, leb-true k (a + b) y)))
 
+-- so it is for one, and for two
 pub counted_one : (a b : ℕ) → leb 1 (min 2 a + min 2 b) ≡ leb 1 (a + b)
 counted_one a b = counted 1 a b (omega arith)
 
 pub counted_two : (a b : ℕ) → leb 2 (min 2 a + min 2 b) ≡ leb 2 (a + b)
 counted_two a b = counted 2 a b (omega arith)
 
+-- a run over nodes: at its end what it came to, on from a node, and up to a refused one
 pub run-nil : (s : Replay) → run_nodes s [] ≡ Ok s
 unfolding run_nodes
 run-nil s = refl

@@ -34,12 +34,14 @@ IsSized g = All (λ c. length c ≡ point_count g.size) (all_of g)
 alone : (size : Size) (c : Colouring) → length c ≡ point_count size → All (λ d. length d ≡ point_count size) (c ∷ [])
 alone size c fits = All-push (λ d. length d ≡ point_count size) [] c (All-nil (λ d. length d ≡ point_count size)) fits
 
+-- a turn keeps an entry for each point
 sized_turned : (g : Played) (t : Turn) → IsSized g → IsSized (turned g t)
 sized_turned g Pass h = h
 sized_turned g (Play p) h = All-push (λ c. length c ≡ point_count g.size) (all_of g) (made_by g p) h (length-play_of g.size g.present g.to_move p)
 
 -- ---- turns
 
+-- so does a turn that was taken: alone, of a colour, by a value, or as a node's move
 sized_on : (r : Replay) (t : Turn) (o : Option Why) (q : Replay) → go_on r t o ≡ Ok q → IsSized r.game → IsSized q.game
 sized_on r t None q e h =
     let same : record { game = turned r.game t; turns = r.turns + 1 } ≡ q = cc in
@@ -74,6 +76,7 @@ sized_move r [] [] q e h = let same : r ≡ q = cc in subst (λ (x : Replay). Is
 
 -- ---- setup
 
+-- a setup's colouring begins a history with an entry for each point
 sized_begun : (r : Replay) (c : Colouring) (k : Colour) (q : Replay) → begun r c k ≡ Ok q → length c ≡ point_count r.game.size → IsSized q.game
 sized_begun r c k q e fits = elim (either (all_alive r.game.size c) _ _ _ e) [
   | inl alive ↦
@@ -82,6 +85,7 @@ sized_begun r c k q e fits = elim (either (all_alive r.game.size c) _ _ _ e) [
   | inr lifeless ↦ let bad : Err _ ≡ Ok q = lifeless in cc
 ]
 
+-- so do sets put over the board
 sized_set_up : (r : Replay) (black white bare : Option Points) (k : Option Colour) (q : Replay) → set_up_by r black white bare k ≡ Ok q → IsSized q.game
 sized_set_up r None white bare k q e = let bad : Err _ ≡ Ok q = e in cc
 sized_set_up r (Some black) None bare k q e = let bad : Err _ ≡ Ok q = e in cc
@@ -94,6 +98,7 @@ sized_set_up r (Some black) (Some white) (Some bare) (Some k) q e = elim (either
 
 -- ---- nodes
 
+-- a node keeps an entry for each point
 sized_step : (r : Replay) (n : Node) (q : Replay) → step_node r n ≡ Ok q → IsSized r.game → IsSized q.game
 unfolding step_node
 sized_step r n q e h = elim (either (is_setup n) _ _ _ e) [
@@ -107,12 +112,14 @@ sized_step r n q e h = elim (either (is_setup n) _ _ _ e) [
   ]
 ]
 
+-- the empty board has an entry for each point
 sized_empty : (o : Option Size) (q : Replay) → begin_at o ≡ Ok q → IsSized q.game
 sized_empty None q e = let bad : Err _ ≡ Ok q = e in cc
 sized_empty (Some size) q e =
     let same : record { game = empty_game size; turns = 0 } ≡ q = cc in
     subst (λ (x : Replay). IsSized x.game) same (alone size (replicate (point_count size) None) (length-replicate (point_count size) None))
 
+-- and so has the board with which a line begins
 sized_begin : (ns : List Node) (q : Replay) → begin_line ns ≡ Ok q → IsSized q.game
 unfolding begin_node
 sized_begin [] q e = sized_empty (sized 19 19) q e
@@ -123,9 +130,11 @@ sized_begin (n ∷ ns) q e = elim (either (is_go (values_of GM n.properties)) _ 
 
 -- ---- problems
 
+-- the problem's state is one as the game has them
 abbrev IsStanding : Standing → Type 0
 IsStanding p = IsState p.frame p.state
 
+-- a problem posed in a game that fits its board has such a state
 state_with : (s : Played) (region targets : Points) (o : Option Colour) (q : Standing) → problem_with s region targets o ≡ Ok q → IsSized s → IsStanding q
 state_with s region targets None q e h = let bad : Err _ ≡ Ok q = e in cc
 state_with s region targets (Some k) q e h =
@@ -146,6 +155,7 @@ state_at s None region q e h = let bad : Err _ ≡ Ok q = e in cc
 state_at s (Some targets) None q e h = let bad : Err _ ≡ Ok q = e in cc
 state_at s (Some targets) (Some region) q e h = state_on s region targets q e h
 
+-- so has one that nodes come to
 state_nodes : (r : Replay) (ns : List Node) (q : Standing) → run_to_mark r ns ≡ Ok q → IsSized r.game → IsStanding q
 unfolding run_to_mark
 state_nodes r [] q e h = let bad : Err _ ≡ Ok q = e in cc
@@ -157,6 +167,7 @@ state_nodes r (n ∷ ns) q e h =
       | inr on ↦ state_nodes made.0 ns q on next
     ]
 
+-- the state of a problem is one as the game has them
 pub problem_state : ProblemsAreStates
 unfolding problem_of
 problem_state ns q e =

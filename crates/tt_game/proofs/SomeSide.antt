@@ -62,6 +62,7 @@ twice : (side : Side) → opponent (opponent side) ≡ side
 twice Attacker = refl
 twice Defender = refl
 
+-- how many turns are left at the most: two for each new colouring, and the passes still open
 room : Frame → State → ℕ
 room f s = 2 * new_count (history s) (point_count f.size) + (2 - s.passes)
 
@@ -69,6 +70,7 @@ room f s = 2 * new_count (history s) (point_count f.size) + (2 - s.passes)
 OneForces : Frame → Side → ℕ → State → Type 0
 OneForces f side n s = Forces f side n s ⊎ Forces f (opponent side) n s
 
+-- one side or the other, told for either of the two sides
 turned : (f : Frame) (side to : Side) (n : ℕ) (s : State) → Forces f Attacker n s ⊎ Forces f Defender n s → Forces f side n s ⊎ Forces f (opponent side) n s
 turned f Attacker to n s h = h
 turned f Defender to n s (inl a) = inr a
@@ -79,6 +81,7 @@ back f Attacker n s h = h
 back f Defender n s (inl d) = inr d
 back f Defender n s (inr a) = inl a
 
+-- a side that has won forces its win at once
 already : (f : Frame) (w : Side) (n : ℕ) (s : State) → winner_of f s ≡ Some w → Forces f Attacker n s ⊎ Forces f Defender n s
 already f Attacker zero s e = inl e
 already f Defender zero s e = inr e
@@ -121,6 +124,7 @@ smaller f s (Play p) is less l =
       omega (arith, fewer, is.passes),
     )
 
+-- one side forces a win within the room that is left
 valued : (n : ℕ) (f : Frame) (s : State) → IsState f s → room f s ≤ n → Forces f Attacker n s ⊎ Forces f Defender n s
 unfolding room
 valued zero f s is enough = elim (won f s) [
@@ -134,6 +138,7 @@ valued (suc n) f s is enough = elim (won f s) [
       turned f s.to_move s.to_move n (after f s t) (valued n f (after f s t) next.0 (omega (arith, next.1)))))
 ]
 
+-- the room is at most the bound
 fits : (f : Frame) (s : State) → IsState f s → room f s ≤ longest f
 unfolding room
 fits f s is =
@@ -142,6 +147,7 @@ fits f s is =
     (Contains-get_or (history s) 0 [] some) in
     omega (arith, old)
 
+-- at every state one side forces a win, within the bound
 pub some_side : SomeSideForces
 some_side f s is = valued (longest f) f s is (fits f s is)
 

@@ -16,6 +16,7 @@ use Rattle.tt_game.specs.Game.{State, IsLegal, winner_of}
 use Rattle.tt_game.specs.Line.{IsRefusal}
 use Rattle.tt_game.specs.Turns.{plays, all_turns, is_legal, is_legal_is, legal_turns, successor, successors_of}
 
+-- a turn that is refused is not legal
 pub refused_illegal : (f : Frame) (s : State) (t : Turn) (why : Why) → IsRefusal f s t why → IsLegal f s t → ⊥
 refused_illegal f s Pass Over r l = r l
 refused_illegal f s (Play p) Over r l = r l.0
@@ -30,16 +31,19 @@ refused_illegal f s (Play p) Repeats r l = l.4 r.3
 unfoldable pub successors_below : Frame → State → ℕ → List Successor
 successors_below f s n = map (successor f s) (filter (is_legal f s) (plays n))
 
+-- before the first point no play leads anywhere
 pub below_none : (f : Frame) (s : State) → successors_below f s 0 ≡ []
 unfolding successors_below
 below_none f s = refl
 
+-- one point more: its play adds what it leads to, or nothing
 step : (f : Frame) (s : State) (n : ℕ) → successors_below f s (n + 1) ≡ successors_below f s n ++ map (successor f s) (cond (is_legal f s (Play n)) (Play n ∷ []) [])
 unfolding successors_below
 step f s n =
     ap (map (successor f s)) (filter_of_map_range_with_len_more (is_legal f s) (λ q. Play q) 0 n n (omega arith))
     ∙ map-append (successor f s) (filter (is_legal f s) (plays n)) (cond (is_legal f s (Play n)) (Play n ∷ []) [])
 
+-- a legal play adds what it leads to, and none adds nothing
 pub below_more : (f : Frame) (s : State) (n : ℕ) → IsLegal f s (Play n) → successors_below f s (n + 1) ≡ successors_below f s n ++ successor f s (Play n) ∷ []
 below_more f s n l = step f s n ∙ ap (λ b. successors_below f s n ++ map (successor f s) (cond b (Play n ∷ []) [])) ((is_legal_is f s (Play n)).1 l)
 
@@ -53,11 +57,13 @@ gap_of f s n (suc d) none =
     let more : n + suc d ≡ n + d + 1 = omega arith in
     ap (successors_below f s) more ∙ below_skip f s (n + d) (none (n + d) (omega arith) (omega arith)) ∙ gap_of f s n d (λ q after before. none q after (omega arith))
 
+-- so from one point to the next with a legal play nothing is added
 pub below_gap : (f : Frame) (s : State) (n m : ℕ) → n ≤ m → ((q : ℕ) → n ≤ q → q < m → IsLegal f s (Play q) → ⊥) → successors_below f s m ≡ successors_below f s n
 below_gap f s n m le none =
     let d : n + (m - n) ≡ m = omega arith in
     ap (successors_below f s) (sym d) ∙ gap_of f s n (m - n) (λ q after before. none q after (omega arith))
 
+-- n points have n legal plays at the most
 pub length-below : (f : Frame) (s : State) (n : ℕ) → length (successors_below f s n) ≤ n
 unfolding successors_below
 length-below f s n =
@@ -74,10 +80,12 @@ below_all f s n e on =
     ∙ map-append (successor f s) (filter (is_legal f s) (plays (point_count f.size))) (filter (is_legal f s) (Pass ∷ []))
     ∙ ap (λ b. map (successor f s) (filter (is_legal f s) (plays (point_count f.size))) ++ map (successor f s) (cond b (Pass ∷ []) [])) pass)
 
+-- no turn is legal once somebody has won
 over : (f : Frame) (s : State) → (winner_of f s ≡ None → ⊥) → (t : Turn) → is_legal f s t ≡ false
 over f s won Pass = (is_legal_is f s Pass).2 won
 over f s won (Play p) = (is_legal_is f s (Play p)).2 (λ l. won l.0)
 
+-- a test that nothing passes leaves nothing of a list
 nothing : {X : Type 0} (p : X → Bool) (xs : List X) → ((x : X) → p x ≡ false) → filter p xs ≡ []
 nothing p [] h = refl
 nothing p (x ∷ xs) h = ap (λ b. cond b (x ∷ filter p xs) (filter p xs)) (h x) ∙ nothing p xs h
@@ -92,6 +100,7 @@ pub turns_again : (f : Frame) (s : State) (ts : List Turn) → map (λ (x : Succ
 turns_again f s [] = refl
 turns_again f s (t ∷ ts) = ap (λ us. t ∷ us) (turns_again f s ts)
 
+-- the turns of what the legal turns lead to are the legal turns
 pub turns_of : (f : Frame) (s : State) → map (λ (x : Successor). x.turn) (successors_of f s) ≡ legal_turns f s
 unfolding successors_of
 turns_of f s = turns_again f s (legal_turns f s)

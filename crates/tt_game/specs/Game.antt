@@ -25,6 +25,7 @@ pub record State : Type 0 where
 abbrev pub history : State → List Colouring
 history s = s.earlier ++ s.present ∷ []
 
+-- the other side
 abbrev pub opponent : Side → Side
 opponent Attacker = Defender
 opponent Defender = Attacker
@@ -38,6 +39,7 @@ colour_of f Defender = f.defender
 abbrev pub winner_on : Frame → Colouring → ℕ → Option Side
 winner_on f c passes = if any_empty f.targets c then Some Attacker else (if passes == 2 then Some Defender else None)
 
+-- who has won at a state, if anybody
 abbrev pub winner_of : Frame → State → Option Side
 winner_of f s = winner_on f s.present s.passes
 

@@ -11,11 +11,13 @@ pub decided : {P : Type 0} → Decision P → Bool
 decided (inl _) = true
 decided (inr _) = false
 
+-- the test of a decided fact is true exactly where the fact holds, and false where it doesn't
 pub decided_is : {P : Type 0} (d : Decision P) → (decided d ≡ true → P) × (P → decided d ≡ true) × ((P → ⊥) → decided d ≡ false)
 unfolding decided
 decided_is (inl p) = (λ _. p, λ _. refl, λ h. absurd (h p))
 decided_is (inr h) = (λ e. absurd (false≢true e), λ p. absurd (h p), λ _. refl)
 
+-- whether two colourings are equal
 pub same_colouring : (a b : Colouring) → Decision (a ≡ b)
 same_colouring [] [] = inl refl
 same_colouring [] (y ∷ b) = inr (λ e. cc)
@@ -25,6 +27,7 @@ same_colouring (x ∷ a) (y ∷ b) = elim (same_entry x y) [
   | inl same ↦ elim (same_colouring a b) [ inr apart ↦ inr (λ e. apart cc) | inl rest ↦ inl cc ]
 ]
 
+-- the colouring is in the history, or it isn't
 pub in_history : (h : List Colouring) (c : Colouring) → Decision (HasBeen h c)
 in_history h c = some_below (λ k. slice_index_or h k c ≡ c) (λ k. same_colouring (slice_index_or h k c) c) (length h)
 
@@ -32,6 +35,7 @@ in_history h c = some_below (λ k. slice_index_or h k c ≡ c) (λ k. same_colou
 pub repeats : List Colouring → Colouring → Bool
 repeats h c = decided (in_history h c)
 
+-- the test is true exactly where the colouring is in the history, and false where it isn't
 pub repeats_is : (h : List Colouring) (c : Colouring)
     → (repeats h c ≡ true → HasBeen h c) × (HasBeen h c → repeats h c ≡ true) × ((HasBeen h c → ⊥) → repeats h c ≡ false)
 unfolding repeats

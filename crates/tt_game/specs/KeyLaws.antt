@@ -11,6 +11,7 @@ use Rattle.tt_game.specs.contracts.keys.KeyEq.TheImpl.Laws as key_laws
 abbrev pub same_key : Key → Key → Bool
 same_key = (key_eq.ghosts).eq
 
+-- the test is an equivalence
 pub same_key_equiv : IsEquivalence same_key
 same_key_equiv = (key_laws.lawful).laws
 

@@ -25,6 +25,7 @@ unfoldable pub words_of : ℕ → List Bool → List ℕ
 words_of zero marks = []
 words_of (suc k) marks = binary (take 64 marks) ∷ words_of k (drop 64 marks)
 
+-- six words of 64 marks, on the points of the board that pass the test
 abbrev pub packed : Size → (ℕ → Bool) → List ℕ
 packed size test = words_of 6 (marks_of size test)
 

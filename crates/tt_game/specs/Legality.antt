@@ -13,17 +13,21 @@ use Rattle.tt_game.specs.declared.turns.Turn.TheVariants.{Play, Pass}
 use Rattle.tt_game.specs.Game.{State, history, winner_of, made, IsLegal}
 use Rattle.tt_game.specs.History.{in_history}
 
+-- whether nobody has won
 nobody : (w : Option Side) → Decision (w ≡ None)
 nobody None = inl refl
 nobody (Some side) = inr (λ e. cc)
 
+-- whether a number is below another
 below : (a b : ℕ) → Decision (a < b)
 below a b = elim (cases_lt a b) [ inl h ↦ inl h | inr h ↦ inr (λ l. omega arith) ]
 
+-- whether a test is true
 inside : (b : Bool) → Decision (IsTrue b)
 inside true = inl refl
 inside false = inr false≢true
 
+-- the turn is legal, or it isn't
 pub legal : (f : Frame) (s : State) (t : Turn) → Decision (IsLegal f s t)
 legal f s Pass = nobody (winner_of f s)
 legal f s (Play p) =

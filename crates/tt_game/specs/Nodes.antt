@@ -52,6 +52,7 @@ SQ = 83 ∷ 81 ∷ []
 
 -- ---- what the values say
 
+-- whether there is a value
 abbrev pub some_value : List (List ℕ) → Bool
 some_value [] = false
 some_value (v ∷ vs) = true
@@ -90,6 +91,7 @@ moves_in n = length (values_of B n.properties) + length (values_of W n.propertie
 abbrev pub is_setup : Node → Bool
 is_setup n = has AB n || has AW n || has AE n || (has PL n && not (has B n || has W n))
 
+-- whether there is a number, and it is 1
 abbrev pub is_one : Option ℕ → Bool
 is_one None = false
 is_one (Some n) = n == 1

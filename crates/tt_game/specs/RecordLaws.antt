@@ -63,6 +63,7 @@ pub record IsOfLeastNode (nodes : List Node) (e : GameFault) : Type 0 where
   pub taken : record_of front ≡ Ok score
   pub refused : (others : List Node) → record_of (front ++ node ∷ others) ≡ Err e
 
+-- each refusal of a record is that of its least node that has one
 abbrev pub LeastNodesRefuse : Type 0
 LeastNodesRefuse = (nodes : List Node) (e : GameFault) → record_of nodes ≡ Err e → IsOfLeastNode nodes e
 

@@ -40,6 +40,7 @@ fault_of Occupied = OccupiedPoint
 fault_of Outside = OccupiedPoint
 fault_of Repeats = RepeatedBoard
 
+-- a turn that is refused is the fault, any other is made and counted
 abbrev pub go_on : Replay → Turn → Option Why → Result Replay GameFault
 go_on r t None = Ok (record { game = turned r.game t; turns = r.turns + 1 })
 go_on r t (Some why) = Err (fault_of why)
@@ -52,10 +53,12 @@ turn_of r t = cond (r.game.passes == 2) (Err AfterEnd) (cond (nat_le 2000 r.turn
 abbrev pub turn_by : Replay → Colour → Turn → Result Replay GameFault
 turn_by r k t = cond (same_colour r.game.to_move k) (turn_of r t) (and_then (turn_of r Pass) (λ q. turn_of q t))
 
+-- a point as a play on it, a pass as a pass
 abbrev pub as_turn : PointOrPass → Turn
 as_turn (On p) = Play p
 as_turn NoPoint = Pass
 
+-- a turn of a colour, by the point or pass that its value is; a value that is neither is refused
 abbrev pub turn_named : Replay → Colour → Option PointOrPass → Result Replay GameFault
 turn_named r k None = Err BadValue
 turn_named r k (Some v) = turn_by r k (as_turn v)
@@ -73,6 +76,7 @@ unfoldable pub alive_below : Size → Colouring → ℕ → Bool
 alive_below size c zero = true
 alive_below size c (suc n) = (is_empty (entry_at c n) || reaches size c n None) && alive_below size c n
 
+-- each stone of the board reaches empty
 abbrev pub all_alive : Size → Colouring → Bool
 all_alive size c = alive_below size c (point_count size)
 
@@ -89,6 +93,7 @@ set_up_by r (Some black) None clear k = Err BadValue
 set_up_by r (Some black) (Some white) None k = Err BadValue
 set_up_by r (Some black) (Some white) (Some clear) None = Err BadValue
 
+-- a node's setup: the sets of AB, AW and AE, and the colour of PL
 abbrev pub setup_node : Replay → Node → Result Replay GameFault
 setup_node r n = set_up_by r (set_named r.game.size AB n) (set_named r.game.size AW n) (set_named r.game.size AE n) (colour_named (values_of PL n.properties))
 
@@ -100,6 +105,7 @@ step_node r n =
     cond (is_setup n) (cond (nat_le 1 (moves_in n)) (Err MixedNode) (setup_node r n))
     (cond (nat_le 2 (moves_in n)) (Err MixedNode) (move_of r (values_of B n.properties) (values_of W n.properties)))
 
+-- the empty board of this size, and no turn played; without a size a fault
 abbrev pub begin_at : Option Size → Result Replay GameFault
 begin_at None = Err BadSize
 begin_at (Some size) = Ok (record { game = empty_game size; turns = 0 })
@@ -108,6 +114,7 @@ begin_at (Some size) = Ok (record { game = empty_game size; turns = 0 })
 unfoldable pub begin_node : Node → Result Replay GameFault
 begin_node n = cond (is_go (values_of GM n.properties)) (begin_at (size_named (values_of SZ n.properties))) (Err NotGo)
 
+-- before the first node; where there is none, on a board of 19 by 19
 abbrev pub begin_line : List Node → Result Replay GameFault
 begin_line [] = begin_at (sized 19 19)
 begin_line (n ∷ ns) = begin_node n
@@ -119,6 +126,7 @@ run_nodes r (n ∷ ns) = and_then (step_node r n) (λ q. run_nodes q ns)
 
 -- ---- records
 
+-- a game's record: the areas of both colours, and whether two passes in a row ended it
 abbrev pub record_at : Played → Record
 record_at s = record { black = score_of s.size s.present Black; white = score_of s.size s.present White; finished = s.passes == 2 }
 

@@ -15,6 +15,7 @@ use Rattle.tt_game.specs.declared.turns.Turn.TheVariants.{Play, Pass}
 use Rattle.tt_game.specs.Game.{State, IsLegal}
 use Rattle.tt_game.specs.Turns.{turn_number, IsRising, plays, all_turns, is_legal, is_legal_is, legal_turns, successor, successors_of}
 
+-- what is in a list and passes a test is among those that pass
 contains_filter : {X : Type 0} (p : X → Bool) (xs : List X) (x : X) → Contains xs x → p x ≡ true → Contains (filter p xs) x
 contains_filter {X} p [] x h on = absurd (omega (arith, h.1))
 contains_filter {X} p (y ∷ ys) x h on =
@@ -27,16 +28,19 @@ contains_filter {X} p (y ∷ ys) x h on =
     later true h = (suc h.0, omega (arith, h.1), h.2)
     later false h = h
 
+-- and what is among those that pass is in the list and passes
 filter_contains : {X : Type 0} (p : X → Bool) (xs : List X) (x : X) → Contains (filter p xs) x → Contains xs x × (p x ≡ true)
 filter_contains p xs x h = (
   All-contains (Contains xs) (filter p xs) x (All-filter p (Contains xs) xs (All-contains_itself xs)) h,
   All-contains (λ y. p y ≡ true) (filter p xs) x (filter_passes p xs) h,
 )
 
+-- the plays on the first points have that on each of them
 contains_plays : (n p : ℕ) → p < n → Contains (plays n) (Play p)
 contains_plays n p lt =
     (p, omega (arith, length-map-range_with_len (λ q. Play q) 0 n), get_or-map-range_with_len (λ q. Play q) 0 n p p (Play p) lt (omega arith))
 
+-- each legal turn is one that the board has
 contains_all : (f : Frame) (s : State) (t : Turn) → IsLegal f s t → Contains (all_turns f) t
 unfolding all_turns
 contains_all f s Pass l = Contains-push (plays (point_count f.size)) Pass
@@ -50,6 +54,7 @@ contains-legal_turns f s t = (
   λ l. contains_filter (is_legal f s) (all_turns f) t (contains_all f s t l) ((is_legal_is f s t).1 l),
 )
 
+-- a turn behind others that rise, with a greater number than all of them
 pub rising_push : (f : Frame) (ts : List Turn) (t : Turn) → IsRising f ts → ((u : Turn) → Contains ts u → turn_number f u < turn_number f t) → IsRising f (ts ++ t ∷ [])
 rising_push f ts t up below i j d before in' =
     let len = length_push ts t in
@@ -69,6 +74,7 @@ pub record Rises (f : Frame) (n : ℕ) (ts : List Turn) : Type 0 where
   pub below : (t : Turn) → Contains ts t → turn_number f t < n
   pub rising : IsRising f ts
 
+-- one more point: its play comes last, or stays out
 rises_more : (f : Frame) (n : ℕ) (ts : List Turn) (b : Bool) → Rises f n ts → Rises f (n + 1) (ts ++ cond b (Play n ∷ []) [])
 rises_more f n ts true h = record {
   below = λ t has. elim (Contains-push_cases ts (Play n) t has) [
@@ -79,6 +85,7 @@ rises_more f n ts true h = record {
 }
 rises_more f n ts false h = rw Rattle.std.proofs.lemmas.List.append-nil (let r : Rises f (n + 1) ts = record { below = λ t has. omega (arith, h.below t has); rising = h.rising } in r)
 
+-- plays that pass a test rise as their points do
 rises_plays : (f : Frame) (p : Turn → Bool) (n : ℕ) → Rises f n (filter p (plays n))
 rises_plays f p zero = record { below = λ t has. absurd (omega (arith, has.1)); rising = λ i j d before in'. absurd (omega arith) }
 rises_plays f p (suc n) =
@@ -110,6 +117,7 @@ length-legal_turns f s =
     let all : length (plays n ++ Pass ∷ []) ≡ length (plays n) + 1 = length_push (plays n) Pass in
     omega (arith, length-filter (is_legal f s) (plays n ++ Pass ∷ []), count_by-le-length (is_legal f s) (plays n ++ Pass ∷ []), all, length-map-range_with_len (λ q. Play q) 0 n, few_points f.size)
 
+-- and they lead to 362 successors at the most
 pub length-successors_of : (f : Frame) (s : State) → length (successors_of f s) ≤ 362
 unfolding successors_of
 length-successors_of f s = omega (arith, length-map (legal_turns f s) (successor f s), length-legal_turns f s)

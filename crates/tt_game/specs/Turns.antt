@@ -16,6 +16,7 @@ abbrev pub IsOn : Size → Turn → Type 0
 IsOn size Pass = Unit {0}
 IsOn size (Play p) = p < point_count size
 
+-- the turn is a pass or names a point of the board
 abbrev pub OnBoard : Frame → Turn → Type 0
 OnBoard f t = IsOn f.size t
 
@@ -40,6 +41,7 @@ all_turns f = plays (point_count f.size) ++ Pass ∷ []
 pub is_legal : Frame → State → Turn → Bool
 is_legal f s t = decided (legal f s t)
 
+-- the test is true exactly of the legal turns, and false of the others
 pub is_legal_is : (f : Frame) (s : State) (t : Turn) → (is_legal f s t ≡ true → IsLegal f s t) × (IsLegal f s t → is_legal f s t ≡ true) × ((IsLegal f s t → ⊥) → is_legal f s t ≡ false)
 unfolding is_legal
 is_legal_is f s t = decided_is (legal f s t)

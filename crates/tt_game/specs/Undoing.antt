@@ -14,6 +14,7 @@ use Rattle.tt_game.specs.Line.{Standing}
 abbrev pub front : List Colouring → List Colouring
 front cs = take (length cs - 1) cs
 
+-- the last colouring, or one without entries where there is none
 abbrev pub last : List Colouring → Colouring
 last cs = slice_index_or cs (length cs - 1) []
 

@@ -22,9 +22,11 @@ pub bit_is : (words : List ℕ) (n : ℕ) → eqb (bit_and (get_or words (n / 64
 unfolding bit_in
 bit_is words n = ap (λ (x : ℕ). eqb x 1) (shr_and_one (get_or words (n / 64) 0) (n % 64))
 
+-- six words without a bit
 abbrev pub six : List ℕ
 six = 0 ∷ 0 ∷ 0 ∷ 0 ∷ 0 ∷ 0 ∷ []
 
+-- each word of the six is 0, and so is what stands for one past them
 zeros : (k : ℕ) → get_or six k 0 ≡ 0
 zeros zero = refl
 zeros (suc zero) = refl
@@ -34,16 +36,19 @@ zeros (suc (suc (suc (suc zero)))) = refl
 zeros (suc (suc (suc (suc (suc zero))))) = refl
 zeros (suc (suc (suc (suc (suc (suc k)))))) = refl
 
+-- no bit of the six words is 1
 pub no_bit : (q : ℕ) → bit_in six q ≡ false
 unfolding bit_in
 no_bit q = rw (zeros (q / 64), bit_at-zero (q % 64)) refl
 
 -- a word put in place of another, in which one bit is set or cleared
 module _ (words : List ℕ) (n : ℕ) (within : n < 384) (wide : length words ≡ 6) where
+  -- a bit is read from the word that was put in its place
   bit_of-word : (w : ℕ) (value : ℕ) → bit_at w (n % 64) ≡ value → bit_in (put words (n / 64) w) n ≡ eqb value 1
   unfolding bit_in
   bit_of-word w value e = let inside : n / 64 < length words = omega arith in rw (get_or-set_same, e) refl
 
+  -- all other bits stay, where the word put in has the other bits of the old one
   bit_elsewhere : (w : ℕ) → ((i : ℕ) → i < 64 → i ≢ n % 64 → bit_at w i ≡ bit_at (get_or words (n / 64) 0) i) → (q : ℕ) → (q ≡ n → ⊥) → bit_in (put words (n / 64) w) q ≡ bit_in words q
   unfolding bit_in
   bit_elsewhere w others q ne =
@@ -53,12 +58,14 @@ module _ (words : List ℕ) (n : ℕ) (within : n < 384) (wide : length words �
         | inr d ↦ let apart : q / 64 ≢ n / 64 = d in rw get_or-set_other refl
       ]
 
+  -- the bit of a number set: it is 1, and all others stay
   pub on_same : bit_in (put words (n / 64) (bit_or (get_or words (n / 64) 0) (1 * 2 ^ (n % 64) % 2 ^ 64))) n ≡ true
   on_same = bit_of-word _ 1 (bit_at_set_same w64 (get_or words (n / 64) 0) (n % 64) (omega arith))
 
   pub on_others : (q : ℕ) → (q ≡ n → ⊥) → bit_in (put words (n / 64) (bit_or (get_or words (n / 64) 0) (1 * 2 ^ (n % 64) % 2 ^ 64))) q ≡ bit_in words q
   on_others = bit_elsewhere _ (λ i small apart. bit_at_set_other w64 (get_or words (n / 64) 0) (n % 64) (omega arith) i apart)
 
+  -- the bit of a number cleared: it is 0, and all others stay
   pub off_same : bit_in (put words (n / 64) (bit_and (get_or words (n / 64) 0) (bit_not w64 (1 * 2 ^ (n % 64) % 2 ^ 64)))) n ≡ false
   off_same = bit_of-word _ 0 (bit_at_clear_same w64 (get_or words (n / 64) 0) (n % 64) (omega arith))
 
@@ -94,6 +101,7 @@ and_false : (b : Bool) → (b && false) ≡ false
 and_false true = refl
 and_false false = refl
 
+-- the order of numbers has two as one exactly where they are equal
 tied : (q n : ℕ) → eq_by_cmp nat_cmp q n ≡ eqb q n
 tied q n = unsigned_tied q n
 
@@ -102,9 +110,11 @@ pub contains-points : (words : List ℕ) (q : ℕ) → set.contains (points_of w
 unfolding points_of
 contains-points words q = contains-passing (bit_in words) 361 q
 
+-- below 361 a number is in the set exactly where its bit is 1
 pub has_point : (words : List ℕ) (q : ℕ) → q < 361 → set.contains (points_of words) q ≡ bit_in words q
 has_point words q lt = contains-points words q ∙ rw (lt-ltb q 361 lt) refl
 
+-- a set is known by its members
 same_points : (s t : set.FinSet nat_cmp) → ((q : ℕ) → set.contains s q ≡ set.contains t q) → s ≡ t
 same_points s t h = set.same_set nat_cmp_total set.nat_cmp-IsAntisymmetric s t h
 
@@ -121,6 +131,7 @@ points-with words made p lt same others = same_points _ _ (λ q.
 
 -- ---- how many, and the least
 
+-- a number that passes counts as one more, and one that doesn't as none
 pub len-passing-in : (f : ℕ → Bool) (n : ℕ) → f n ≡ true → set.len (passing f (n + 1)) ≡ set.len (passing f n) + 1
 len-passing-in f n h =
     let out : set.contains (passing f n) n ≡ false = contains-passing f n n ∙ rw (le-ltb n n (omega arith)) refl in
@@ -132,6 +143,7 @@ len-passing-out f n h =
     let up : n + 1 ≡ suc n = omega arith in
     ap (λ k. set.len (passing f k)) up ∙ ap set.len (passing-out f n h)
 
+-- no number is below 0, so none is counted
 pub len-passing-none : (f : ℕ → Bool) → set.len (passing f 0) ≡ 0
 len-passing-none f = ap set.len (passing-zero f) ∙ set.len-empty nat_cmp
 
@@ -191,18 +203,21 @@ two_bits_xor (suc (suc x)) y h k = absurd (omega arith)
 two_bits_xor zero (suc (suc y)) h k = absurd (omega arith)
 two_bits_xor (suc zero) (suc (suc y)) h k = absurd (omega arith)
 
+-- a bit taken from 1 is 1 exactly where the bit is not
 other_bit : (y : ℕ) → y < 2 → eqb (1 - y) 1 ≡ not (eqb y 1)
 other_bit zero h = refl
 other_bit (suc zero) h = refl
 other_bit (suc (suc y)) h = absurd (omega arith)
 
 module _ (made a b : List ℕ) where
+  -- the words' `and` has the bits that both have
   pub bit-and : ((k : ℕ) → k < 6 → get_or made k 0 ≡ bit_and (get_or a k 0) (get_or b k 0)) → (q : ℕ) → q < 384 → bit_in made q ≡ (bit_in a q && bit_in b q)
   unfolding bit_in
   bit-and h q lt =
       ap (λ w. eqb (bit_at w (q % 64)) 1) (h (q / 64) (omega arith)) ∙ ap (λ x. eqb x 1) (bit_at_and (get_or a (q / 64) 0) (get_or b (q / 64) 0) (q % 64))
       ∙ two_bits (bit_at (get_or a (q / 64) 0) (q % 64)) (bit_at (get_or b (q / 64) 0) (q % 64)) (bit_at-lt _ _) (bit_at-lt _ _)
 
+  -- the `and` of words and of others' complement has the bits of the first ones alone
   pub bit-minus : ((k : ℕ) → k < 6 → get_or b k 0 < 2 ^ 64) → ((k : ℕ) → k < 6 → get_or made k 0 ≡ bit_and (get_or a k 0) (bit_not w64 (get_or b k 0))) → (q : ℕ) → q < 384
       → bit_in made q ≡ (bit_in a q && not (bit_in b q))
   unfolding bit_in
@@ -214,6 +229,7 @@ module _ (made a b : List ℕ) where
           ∙ ap (λ z. eqb z 1) (bit_at_and x (bit_not w64 y) i ∙ ap (λ z. min (bit_at x i) z) (bit_at_not w64 y i (fits (q / 64) (omega arith)) (omega arith)))
       ∙ two_bits (bit_at x i) (1 - bit_at y i) (bit_at-lt x i) (omega (arith, bit_at-lt y i)) ∙ ap (λ z. eqb (bit_at x i) 1 && z) (other_bit (bit_at y i) (bit_at-lt y i))
 
+  -- the bits that both have are the points that both sets have
   pub points-and : ((q : ℕ) → q < 384 → bit_in made q ≡ (bit_in a q && bit_in b q)) → points_of made ≡ set.intersection (points_of a) (points_of b)
   points-and h = same_points _ _ (λ q. contains-points made q
       ∙ sym (set.contains-intersection nat_cmp_total (points_of a) (points_of b) q ∙ rw (contains-points a q, contains-points b q) (elim (cases_lt q 361) [
@@ -221,6 +237,7 @@ module _ (made a b : List ℕ) where
     | inr above ↦ rw (le-ltb q 361 above) refl
   ])))
 
+  -- the bits of the first words alone are the points of the first set alone
   pub points-minus : ((q : ℕ) → q < 384 → bit_in made q ≡ (bit_in a q && not (bit_in b q))) → points_of made ≡ set.difference (points_of a) (points_of b)
   points-minus h = same_points _ _ (λ q. contains-points made q
       ∙ sym (set.contains-difference nat_cmp_total (points_of a) (points_of b) q ∙ rw (contains-points a q, contains-points b q) (elim (cases_lt q 361) [
@@ -228,12 +245,14 @@ module _ (made a b : List ℕ) where
     | inr above ↦ rw (le-ltb q 361 above) refl
   ])))
 
+  -- the words' `or` has the bits that one of them has
   pub bit-or : ((k : ℕ) → k < 6 → get_or made k 0 ≡ bit_or (get_or a k 0) (get_or b k 0)) → (q : ℕ) → q < 384 → bit_in made q ≡ (bit_in a q || bit_in b q)
   unfolding bit_in
   bit-or h q lt =
       ap (λ w. eqb (bit_at w (q % 64)) 1) (h (q / 64) (omega arith)) ∙ ap (λ x. eqb x 1) (bit_at_or (get_or a (q / 64) 0) (get_or b (q / 64) 0) (q % 64))
       ∙ two_bits_or (bit_at (get_or a (q / 64) 0) (q % 64)) (bit_at (get_or b (q / 64) 0) (q % 64)) (bit_at-lt _ _) (bit_at-lt _ _)
 
+  -- the bits that one of them has are the points that one of the sets has
   pub points-or : ((q : ℕ) → q < 384 → bit_in made q ≡ (bit_in a q || bit_in b q)) → points_of made ≡ set.union (points_of a) (points_of b)
   points-or h = same_points _ _ (λ q. contains-points made q
       ∙ sym (set.contains-union nat_cmp_total (points_of a) (points_of b) q ∙ rw (contains-points a q, contains-points b q) (elim (cases_lt q 361) [
@@ -241,6 +260,7 @@ module _ (made a b : List ℕ) where
     | inr above ↦ rw (le-ltb q 361 above) refl
   ])))
 
+  -- a bit of the words' `xor` is 0 exactly where the two agree
   pub bit-xor : ((k : ℕ) → k < 6 → get_or made k 0 ≡ bit_xor (get_or a k 0) (get_or b k 0)) → (q : ℕ) → q < 384 → (bit_in made q ≡ false) ↔ (bit_in a q ≡ bit_in b q)
   unfolding bit_in
   bit-xor h q lt =
@@ -264,6 +284,7 @@ low_mask word count few = λ i small.
     )
 
 module _ (made words : List ℕ) (count : ℕ) (low : (k : ℕ) → k < 6 → IsLow (get_or made k 0) (get_or words k 0) (count - 64 * k)) where
+  -- where each word keeps its lowest bits, those below the count stay and all others are 0
   pub low_kept : (q : ℕ) → q < 384 → q < count → bit_in made q ≡ bit_in words q
   unfolding bit_in
   low_kept q lt below = ap (λ x. eqb x 1) ((low (q / 64) (omega arith) (q % 64) (omega arith)).0 (omega arith))
@@ -277,6 +298,7 @@ bit_from : (word i j : ℕ) → bit_at (word / 2 ^ i) j ≡ bit_at word (i + j)
 bit_from word i j = ap (λ x. x % 2) (shr-shr word i j)
 
 module _ (words : List ℕ) (n : ℕ) (lt : n < 384) where
+  -- a bit of the word of n, from n on, is one of what is left of the word, shifted down to n
   rest_bit : (rest : ℕ) → rest ≡ get_or words (n / 64) 0 / 2 ^ (n % 64) → (q : ℕ) → n ≤ q → q / 64 ≡ n / 64 → bit_in words q ≡ eqb (bit_at rest (q - n)) 1
   unfolding bit_in
   rest_bit rest is q after same =
@@ -321,6 +343,7 @@ points_from-bits words others same = same_points _ _ (λ q. contains-points word
   | inr above ↦ rw (le-ltb q 361 above) refl
 ] ∙ sym (contains-points others q))
 
+-- the same sets have the same bits, where the bits of no point are 0
 pub bits_from-points : (words others : List ℕ) → AreOfPoints words → AreOfPoints others → points_of words ≡ points_of others → AreSameBits words others
 bits_from-points words others alone others_alone same = λ q small. elim (cases_lt q 361) [
   | inl below ↦ sym (has_point words q below) ∙ ap (λ s. set.contains s q) same ∙ has_point others q below
@@ -336,6 +359,7 @@ left_bit w a b i fits_a fits_b small =
     ∙ ap (λ x. min x (bit_at (bit_not w64 b) i)) (bit_at_and w (bit_not w64 a) i ∙ ap (min (bit_at w i)) (bit_at_not w64 a i fits_a small))
     ∙ ap (min (min (bit_at w i) (1 - bit_at a i))) (bit_at_not w64 b i fits_b small)
 
+-- a bit of which nothing is left, once two others are taken off, is 1 only where one of these is
 covered_bit : (x y z : ℕ) → x < 2 → y < 2 → z < 2 → min (min x (1 - y)) (1 - z) ≡ 0 → eqb x 1 ≡ true → (eqb y 1 || eqb z 1) ≡ true
 covered_bit zero y z sx sy sz e on = absurd (false≢true on)
 covered_bit (suc zero) (suc zero) z sx sy sz e on = refl
@@ -345,6 +369,7 @@ covered_bit (suc (suc x)) y z sx sy sz e on = absurd (omega (arith, sx))
 covered_bit (suc zero) (suc (suc y)) z sx sy sz e on = absurd (omega (arith, sy))
 covered_bit (suc zero) zero (suc (suc z)) sx sy sz e on = absurd (omega (arith, sz))
 
+-- nothing is left of a bit, once two others are taken off, where one of these is 1 if it is
 no_bit_left : (x y z : ℕ) → x < 2 → y < 2 → z < 2 → (eqb x 1 ≡ true → (eqb y 1 || eqb z 1) ≡ true) → min (min x (1 - y)) (1 - z) ≡ 0
 no_bit_left zero y z sx sy sz h = omega arith
 no_bit_left (suc zero) (suc zero) z sx sy sz h = omega arith

@@ -20,12 +20,14 @@ use Rattle.tt_sgf.proofs.NumberLemmas.{trimmed_is, trimmed_stands}
 
 -- ---- texts of two and of five bytes
 
+-- a text of two bytes is its first and its second
 pub two : (xs : List ℕ) → length xs ≡ 2 → xs ≡ get_or xs 0 0 ∷ get_or xs 1 0 ∷ []
 two [] h = absurd (omega arith)
 two (a ∷ []) h = absurd (omega arith)
 two (a ∷ b ∷ []) h = refl
 two (a ∷ b ∷ c ∷ xs) h = absurd (omega arith)
 
+-- a text of five bytes is these five
 pub five : (xs : List ℕ) → length xs ≡ 5 → xs ≡ get_or xs 0 0 ∷ get_or xs 1 0 ∷ get_or xs 2 0 ∷ get_or xs 3 0 ∷ get_or xs 4 0 ∷ []
 five [] h = absurd (omega arith)
 five (a ∷ []) h = absurd (omega arith)
@@ -36,6 +38,7 @@ five (a ∷ b ∷ c ∷ d ∷ e ∷ []) h = refl
 five (a ∷ b ∷ c ∷ d ∷ e ∷ f ∷ xs) h = absurd (omega arith)
 
 module _ (size : Size) where
+  -- the letters of one point name it on the board, and no entry off it
   pub two_in : (c r : ℕ) → corner_in size c r ≡ true → entry_of size (c ∷ r ∷ []) ≡ Some (between (c - 97) (r - 97) (c - 97) (r - 97))
   unfolding entry_of
   two_in c r h = rw h refl
@@ -44,6 +47,7 @@ module _ (size : Size) where
   unfolding entry_of
   two_out c r h = rw h refl
 
+  -- the letters of two corners name their rectangle on the board, and no entry with one of them off it
   pub five_in : (c r m d s : ℕ) → m ≡ 58 → corner_in size c r ≡ true → corner_in size d s ≡ true → entry_of size (c ∷ r ∷ m ∷ d ∷ s ∷ []) ≡ Some (between (c - 97) (r - 97) (d - 97) (s - 97))
   unfolding entry_of
   five_in c r m d s e h k = rw (e, h, k) refl
@@ -56,6 +60,7 @@ module _ (size : Size) where
   unfolding entry_of
   five_second c r m d s e h k = rw (e, h, k) refl
 
+  -- a text of another length, or of five bytes with no colon amid them, is no entry
   pub no_entry : (xs : List ℕ) → (length xs ≡ 2 → ⊥) → (length xs ≡ 5 → get_or xs 2 0 ≡ 58 → ⊥) → entry_of size xs ≡ None
   unfolding entry_of
   no_entry [] h k = refl
@@ -68,6 +73,7 @@ module _ (size : Size) where
 
 -- ---- the loop over the board
 
+-- the order of numbers has two as one exactly where they are equal
 tied : (q n : ℕ) → eq_by_cmp nat_cmp q n ≡ eqb q n
 tied q n = unsigned_tied q n
 
@@ -80,9 +86,11 @@ or_with_false true = refl
 or_with_false false = refl
 
 module _ (t : set.FinSet nat_cmp) (f : ℕ → Bool) where
+  -- before the first number the set is as it was
   pub filled_none : (q : ℕ) → set.contains t q ≡ (set.contains t q || (ltb q 0 && f q))
   filled_none q = rw (le-ltb q 0 (omega arith)) (sym (or_with_false (set.contains t q)))
 
+  -- a number other than n is below n + 1 exactly where it is below n
   same_below : (q n : ℕ) → (q ≡ n → ⊥) → ltb q (n + 1) ≡ ltb q n
   same_below q n ne = elim (cases_lt q n) [
     | inl lt ↦ lt-ltb q (n + 1) (omega arith) ∙ sym (lt-ltb q n lt)
@@ -90,12 +98,14 @@ module _ (t : set.FinSet nat_cmp) (f : ℕ → Bool) where
   ]
 
   module _ (s : set.FinSet nat_cmp) (n : ℕ) (so_far : (q : ℕ) → set.contains s q ≡ (set.contains t q || (ltb q n && f q))) where
+    -- a number that passes is put in the set
     pub filled_more : f n ≡ true → (q : ℕ) → set.contains (set.insert s n) q ≡ (set.contains t q || (ltb q (n + 1) && f q))
     filled_more h q = set.contains-insert nat_cmp_total s n q ∙ rw (tied q n, so_far q) (elim (cases_eq q n) [
       | inl e ↦ rw (e, eq-eqb n n refl, lt-ltb n (n + 1) (omega arith), h) (sym (or_with_true (set.contains t n)))
       | inr d ↦ rw (ne_eqb q n d, same_below q n d) refl
     ])
 
+    -- for one that doesn't pass the set stays
     pub filled_stays : f n ≡ false → (q : ℕ) → set.contains s q ≡ (set.contains t q || (ltb q (n + 1) && f q))
     filled_stays h q = so_far q ∙ elim (cases_eq q n) [
       | inl e ↦ rw (e, h, le-ltb n n (omega arith), lt-ltb n (n + 1) (omega arith)) refl
@@ -107,6 +117,7 @@ between_is c r d s c' r' d' s' h k l m = rw (h, k, l, m) refl
 
 -- ---- an entry
 
+-- the letters of a corner are `a` or later ones, and name a column and a row of the board
 corner_parts : (size : Size) (c r : ℕ) → corner_in size c r ≡ true → (97 ≤ c) × (c - 97 < size.columns) × (97 ≤ r) × (r - 97 < size.rows)
 corner_parts size c r h =
     let both = and_parts (leb 97 c && ltb (c - 97) size.columns) (leb 97 r && ltb (r - 97) size.rows) h in
@@ -114,6 +125,7 @@ corner_parts size c r h =
     let second = and_parts (leb 97 r) (ltb (r - 97) size.rows) both.1 in
     (leb-true 97 c first.0, ltb-true (c - 97) size.columns first.1, leb-true 97 r second.0, ltb-true (r - 97) size.rows second.1)
 
+-- the letters of a column and a row of the board are a corner
 corner_made : (size : Size) (c r : ℕ) → c < size.columns → r < size.rows → corner_in size (97 + c) (97 + r) ≡ true
 corner_made size c r h k =
     let c-is : 97 + c - 97 ≡ c = omega arith in
@@ -124,6 +136,7 @@ letter_is_no_blank : (b : ℕ) → 58 ≤ b → is_blank b ≡ false
 unfolding is_blank
 letter_is_no_blank b h = grind arith
 
+-- an entry is read as the rectangle of its corners
 pub entry_again : (size : Size) (v : List ℕ) (c r d s : ℕ) → IsEntry size v c r d s → entry_of size (trimmed v) ≡ Some (between c r d s)
 entry_again size v c r d s h =
     let c-is : 97 + c - 97 ≡ c = omega arith in
@@ -145,9 +158,11 @@ entry_again size v c r d s h =
           ∙ ap (λ (e : Rectangle). Some e) (between_is _ _ _ _ c r d s c-is r-is d-is s-is)
     ]
 
+-- the value is an entry with this rectangle
 abbrev EntryAt : Size → List ℕ → Rectangle → Type 0
 EntryAt size v e = (h : HasCorners size v) × (e ≡ between h.0 h.1 h.2 h.3)
 
+-- letters from `a` on stand there as 97 and the numbers of columns and rows
 five_stands : (v : List ℕ) (c r m d s : ℕ) → m ≡ 58 → 97 ≤ c → 97 ≤ r → 97 ≤ d → 97 ≤ s → StandsIn (c ∷ r ∷ m ∷ d ∷ s ∷ []) v
     → StandsIn ((97 + (c - 97)) ∷ (97 + (r - 97)) ∷ 58 ∷ (97 + (d - 97)) ∷ (97 + (s - 97)) ∷ []) v
 five_stands v c r m d s e hc hr hd hs x =
@@ -163,11 +178,12 @@ two_stands v c r hc hr x =
     let r-is : 97 + (r - 97) ≡ r = omega arith in
     rw (c-is, r-is) x
 
--- the five parts of a test in a row
+-- something that is given only under a test: the test is true, and it is that
 some_if : {A : Type 0} (b : Bool) (o : Option A) (y : A) → cond b o None ≡ Some y → (b ≡ true) × (o ≡ Some y)
 some_if true o y e = (refl, e)
 some_if false o y e = absurd cc
 
+-- a text read as a rectangle is an entry with this rectangle
 taken : (size : Size) (text v : List ℕ) (e : Rectangle) → StandsIn text v → entry_of size text ≡ Some e → EntryAt size v e
 unfolding entry_of
 taken size [] v e x h = absurd cc
@@ -189,11 +205,13 @@ taken size (c ∷ r ∷ m ∷ d ∷ s ∷ []) v e x h =
     ((c - 97, r - 97, d - 97, s - 97, record { c_in = p.1; r_in = p.3; d_in = q.1; s_in = q.3; stands = inr (five_stands v c r m d s (eqb-true m 58 a.0) p.0 p.2 q.0 q.2 x) }), sym is)
 taken size (c ∷ r ∷ m ∷ d ∷ s ∷ y ∷ ys) v e x h = absurd cc
 
+-- a value read as a rectangle is an entry with this rectangle
 pub entry_takes : (size : Size) (v : List ℕ) (e : Rectangle) → entry_of size (trimmed v) ≡ Some e → EntryAt size v e
 entry_takes size v e h = taken size (trimmed v) v e (trimmed_stands v) h
 
 -- ---- what an entry covers
 
+-- the column and row of a number in the rectangle lie between its sides
 inside_parts : (columns : ℕ) (e : Rectangle) (q : ℕ) → in_rectangle columns e q ≡ true → (e.left ≤ q % columns) × (q % columns ≤ e.right) × (e.top ≤ q / columns) × (q / columns ≤ e.bottom)
 unfolding in_rectangle
 inside_parts columns e q h =
@@ -202,10 +220,12 @@ inside_parts columns e q h =
     let second = and_parts (leb e.top (q / columns)) (leb (q / columns) e.bottom) both.1 in
     (leb-true _ _ first.0, leb-true _ _ first.1, leb-true _ _ second.0, leb-true _ _ second.1)
 
+-- a number whose column and row lie between the sides is in the rectangle
 inside_made : (columns : ℕ) (e : Rectangle) (x y q : ℕ) → q % columns ≡ x → q / columns ≡ y → e.left ≤ x → x ≤ e.right → e.top ≤ y → y ≤ e.bottom → in_rectangle columns e q ≡ true
 unfolding in_rectangle
 inside_made columns e x y q a b h k l m = rw (a, b, le-leb e.left x h, le-leb x e.right k, le-leb e.top y l, le-leb y e.bottom m) refl
 
+-- a value covers each point of which the test says so
 covers_takes : (size : Size) (v : List ℕ) (p : ℕ) → covers size v p ≡ true → Covers size v p
 covers_takes size v p h =
     elim (entry_of size (trimmed v)) as (λ o. entry_of size (trimmed v) ≡ o → covers_by size o p ≡ true → Covers size v p) [
@@ -231,6 +251,7 @@ covers_takes size v p h =
           }
     ] refl h
 
+-- the test says so of each point that a value covers
 covers_again : (size : Size) (v : List ℕ) (p : ℕ) → Covers size v p → covers size v p ≡ true
 covers_again size v p h =
     let h4 = h.corners.4 in
@@ -244,14 +265,17 @@ covers_again size v p h =
     let y : p / size.columns ≡ h.row = ap (λ (n : ℕ). n / size.columns) h.number ∙ div-mul-add h.row size.columns h.column column_in in
     rw (e, lt-ltb p (size.columns * size.rows) below) (inside_made size.columns (between h.corners.0 h.corners.1 h.corners.2 h.corners.3) h.column h.row p x y cf ct rf rt)
 
+-- some value covers each point of which the test says that some does
 pub any_takes : (size : Size) (vs : List (List ℕ)) (p : ℕ) → list_any (λ v. covers size v p) vs ≡ true → AnyCovers size vs p
 any_takes size [] p h = absurd (let f : false ≡ true = h in cc)
 any_takes size (v ∷ vs) p h = elim (or_cases (covers size v p) (list_any (λ w. covers size w p) vs) h) [ inl x ↦ inl (covers_takes size v p x) | inr x ↦ inr (any_takes size vs p x) ]
 
+-- and the test says so of each point that one of them covers
 pub any_again : (size : Size) (vs : List (List ℕ)) (p : ℕ) → AnyCovers size vs p → list_any (λ v. covers size v p) vs ≡ true
 any_again size [] p h = absurd h
 any_again size (v ∷ vs) p h = elim h [ inl x ↦ rw (covers_again size v p x) refl | inr x ↦ rw (any_again size vs p x) (or_with_true (covers size v p)) ]
 
+-- values that all pass the test are entries
 pub entries_are : (size : Size) (vs : List (List ℕ)) → list_all (is_entry size) vs ≡ true → AreEntries size vs
 entries_are size [] h = tt
 entries_are size (v ∷ vs) h =
@@ -263,6 +287,7 @@ entries_are size (v ∷ vs) h =
       entries_are size vs both.1,
     )
 
+-- values are not all entries where one is read as none
 pub not_entries : (size : Size) (vs : List (List ℕ)) (i : ℕ) (d : List ℕ) → i < length vs → entry_of size (trimmed (get_or vs i d)) ≡ None → AreEntries size vs → ⊥
 not_entries size [] i d lt e h = absurd (omega arith)
 not_entries size (v ∷ vs) zero d lt e h = absurd (let k = entry_again size v h.0.0 h.0.1 h.0.2 h.0.3 h.0.4 in cc)
@@ -283,10 +308,12 @@ covers_below size v q h = elim (entry_of size (trimmed v)) as (λ o. covers_by s
       omega (arith, b, mul-le size.columns size.rows 19 19 size.columns_in.1 size.rows_in.1)
 ] h
 
+-- so is what one of the values covers
 pub any_below : (size : Size) (vs : List (List ℕ)) (q : ℕ) → list_any (λ v. covers size v q) vs ≡ true → q < 361
 any_below size [] q h = absurd (let f : false ≡ true = h in cc)
 any_below size (v ∷ vs) q h = elim (or_cases (covers size v q) (list_any (λ w. covers size w q) vs) h) [ inl x ↦ covers_below size v q x | inr x ↦ any_below size vs q x ]
 
+-- where all are entries, the set of what the values cover is the set of the values
 pub set_some : (size : Size) (vs : List (List ℕ)) (s : set.FinSet nat_cmp) → ((q : ℕ) → set.contains s q ≡ list_any (λ v. covers size v q) vs) → list_all (is_entry size) vs ≡ true
     → set_of size vs ≡ Some s
 unfolding set_of
@@ -298,6 +325,7 @@ set_some size vs s h all =
     ]) in
     rw (all) (ap (λ (x : set.FinSet nat_cmp). Some x) same)
 
+-- values of which one is no entry have no set
 pub set_none : (size : Size) (vs : List (List ℕ)) (i : ℕ) (d : List ℕ) → i < length vs → entry_of size (trimmed (get_or vs i d)) ≡ None → set_of size vs ≡ None
 unfolding set_of
 set_none size vs i d lt e = elim (cases_Bool (list_all (is_entry size) vs)) [

@@ -2,7 +2,9 @@ pub mod TokenLemmas
 pub mod RepeatLemmas
 pub mod ListLemmas
 pub mod LoopLemmas
-pub mod TreeLemmas
+pub mod EventLemmas
+pub mod GrammarLemmas
+pub mod WalkLemmas
 pub mod FirstTreeLemmas
 pub mod NumberLemmas
 pub mod PointLemmas

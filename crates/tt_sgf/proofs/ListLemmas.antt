@@ -33,6 +33,7 @@ value_takes bytes x e f =
     let s = begins_with 91 (after_blanks bytes) e in
     (w.0, w.1, r.raw, w.2 ∙ ap (λ (t : List ℕ). w.0 ++ t) (s ∙ ap (λ (t : List ℕ). 91 ∷ t) r.parts))
 
+-- each value takes something
 pub values_shrink : Shrinks opens_value value_at
 values_shrink bytes x e f =
     let t = value_takes bytes x e f in
@@ -51,6 +52,7 @@ IsValuesAt-moved bytes vs us r s e f h = rw (← e, ← f) h
 four : (w v t r : List ℕ) → w ++ (91 ∷ (v ++ (93 ∷ (t ++ r)))) ≡ (w ++ (91 ∷ (v ++ (93 ∷ t)))) ++ r
 four w v t r = simp append_assoc
 
+-- values that were read are the values of a text in the grammar, and no value follows
 pub values_take : (n : ℕ) (bytes : List ℕ) (vs : List (List ℕ)) (r : List ℕ) → repeat opens_value value_at n bytes ≡ Some (vs, r) → IsValuesAt bytes vs r
 values_take zero bytes vs r e = absurd (let h = repeat_none opens_value value_at bytes in cc)
 values_take (suc n) bytes vs r e =
@@ -82,6 +84,7 @@ no_blank_91 : is_blank 91 ≡ false
 unfolding is_blank
 no_blank_91 = refl
 
+-- the values of a text in the grammar are read where no value follows
 pub values_again : (vs : List (List ℕ)) (text r : List ℕ) → AreValues text vs → opens_value r ≡ false → all_at opens_value value_at (text ++ r) ≡ Some (vs, r)
 values_again [] text r h e = rw h (repeat_stop opens_value value_at (length r) r e)
 values_again (v ∷ vs) text r h e =
@@ -100,6 +103,7 @@ pub record Ends (r : List ℕ) : Type 0 where
   pub no_value : opens_value r ≡ false
   pub no_property : opens_property r ≡ false
 
+-- a property at the front, up to the rest, before which no value stands
 pub record IsPropertyAt (bytes : List ℕ) (p : Property) (r : List ℕ) : Type 0 where
   pub ident : List ℕ
   pub values : List ℕ
@@ -112,22 +116,27 @@ pub record IsPropertyAt (bytes : List ℕ) (p : Property) (r : List ℕ) : Type 
 IsPropertyAt-moved : (bytes : List ℕ) (p q : Property) (r s : List ℕ) → q ≡ p → s ≡ r → IsPropertyAt bytes q s → IsPropertyAt bytes p r
 IsPropertyAt-moved bytes p q r s e f h = rw (← e, ← f) h
 
+-- something that is given only under a test: the test is true, and it is that
 pub cond_some_at : {A : Type 0} (b : Bool) (o : Option A) (y : A) → cond b o None ≡ Some y → (b ≡ true) × (o ≡ Some y)
 cond_some_at true o y e = (refl, e)
 cond_some_at false o y e = absurd cc
 
+-- something that is given only against a test: the test is false, and it is that
 pub guard_some : {A : Type 0} (b : Bool) (o : Option A) (y : A) → cond b None o ≡ Some y → (b ≡ false) × (o ≡ Some y)
 guard_some false o y e = (refl, e)
 guard_some true o y e = absurd cc
 
+-- a list isn't empty where the test says so
 not_empty : {X : Type 0} (xs : List X) → is_empty xs ≡ false → xs ≢ []
 not_empty [] e = absurd cc
 not_empty (x ∷ xs) e = λ f. absurd cc
 
+-- the test says so of each list that isn't empty
 empty_not : {X : Type 0} (xs : List X) → xs ≢ [] → is_empty xs ≡ false
 empty_not [] e = absurd (e refl)
 empty_not (x ∷ xs) e = refl
 
+-- a property that was read is one in the grammar, and no value follows
 pub property_takes : (bytes : List ℕ) (p : Property) (r : List ℕ) → property_at bytes ≡ Some (p, r) → IsPropertyAt bytes p r
 unfolding property_at values_at
 property_takes bytes p r e =
@@ -154,6 +163,7 @@ no_word_91 : is_word 91 ≡ false
 unfolding is_word is_upper is_digit is_lower
 no_word_91 = refl
 
+-- no letter or digit stands before values
 values_no_word : (vs : List (List ℕ)) (text r : List ℕ) → vs ≢ [] → AreValues text vs → begins is_word (text ++ r) ≡ false
 values_no_word [] text r ne h = absurd (ne refl)
 values_no_word (v ∷ vs) text r ne h =
@@ -162,6 +172,7 @@ values_no_word (v ∷ vs) text r ne h =
       | b ∷ bs ↦ λ k. blank_is_no_word b k.0
     ] h.2)
 
+-- the property of a text in the grammar is read where no value follows
 pub property_again : (p : Property) (ident values r : List ℕ) → IsIdent ident p.ident → p.values ≢ [] → AreValues values p.values → opens_value r ≡ false
     → property_at (ident ++ (values ++ r)) ≡ Some (p, r)
 unfolding property_at values_at
@@ -172,19 +183,23 @@ property_again p ident values r h ne are e =
 
 -- ---- lists of properties
 
+-- the property behind white space
 abbrev pub next_property : List ℕ → Option (Property × List ℕ)
 next_property bytes = property_at (after_blanks bytes)
 
+-- a text with an upper-case letter has a byte
 ident_len : (w : List ℕ) → list_any is_upper w ≡ true → 0 < length w
 ident_len [] e = absurd cc
 ident_len (b ∷ bs) e = omega arith
 
+-- each property takes something
 pub properties_shrink : Shrinks opens_property next_property
 properties_shrink bytes x e f =
     let w = blanks_take bytes in
     let p = property_takes (after_blanks bytes) x.0 x.1 f in
     omega (arith, ap length w.2, length-append w.0 (after_blanks bytes), ap length p.parts, length-append p.ident (p.values ++ x.1), length-append p.values x.1, ident_len p.ident p.is_ident.1)
 
+-- the text of the properties that were read
 pub record IsPropertiesAt (bytes : List ℕ) (ps : List Property) (r : List ℕ) : Type 0 where
   pub text : List ℕ
   pub are : AreProperties text ps
@@ -197,6 +212,7 @@ IsPropertiesAt-moved bytes p q r s e f h = rw (← e, ← f) h
 five : (w i v t r : List ℕ) → w ++ (i ++ (v ++ (t ++ r))) ≡ (w ++ (i ++ (v ++ t))) ++ r
 five w i v t r = simp append_assoc
 
+-- properties that were read are those of a text in the grammar, and no property follows
 pub properties_take : (n : ℕ) (bytes : List ℕ) (ps : List Property) (r : List ℕ) → repeat opens_property next_property n bytes ≡ Some (ps, r) → IsPropertiesAt bytes ps r
 properties_take zero bytes ps r e = absurd (let h = repeat_none opens_property next_property bytes in cc)
 properties_take (suc n) bytes ps r e =
@@ -229,6 +245,7 @@ word_is_not_91 : (b : ℕ) → is_word b ≡ true → eqb b 91 ≡ false
 unfolding is_word is_upper is_digit is_lower
 word_is_not_91 b e = grind arith
 
+-- before an identifier behind white space a property follows, and no value
 pub property_ahead : (w i r : List ℕ) → IsBlank w → IsWord i → list_any is_upper i ≡ true → (after_blanks (w ++ (i ++ r)) ≡ i ++ r) × (opens_property (w ++ (i ++ r)) ≡ true)
     × (opens_value (w ++ (i ++ r)) ≡ false)
 property_ahead w [] r h k e = absurd cc
@@ -236,11 +253,13 @@ property_ahead w (b ∷ bs) r h k e =
     let a = after_blanks_at w b (bs ++ r) h (word_is_no_blank b k.0) in
     (a, rw a (k.0), rw a (word_is_not_91 b k.0))
 
+-- no value stands before properties and what ends them
 properties_no_value : (ps : List Property) (text r : List ℕ) → AreProperties text ps → Ends r → opens_value (text ++ r) ≡ false
 properties_no_value [] text r h e = rw h (e.no_value)
 properties_no_value (p ∷ ps) text r h e =
     ap (λ (t : List ℕ). opens_value (t ++ r)) h.9 ∙ ap opens_value (sym (five h.0 h.1 h.2 h.3 r)) ∙ (property_ahead h.0 h.1 (h.2 ++ (h.3 ++ r)) h.4 h.5.0 h.5.1).2
 
+-- the properties of a text in the grammar are read where no value and no property follows
 pub properties_again : (ps : List Property) (text r : List ℕ) → AreProperties text ps → Ends r → all_at opens_property next_property (text ++ r) ≡ Some (ps, r)
 properties_again [] text r h e = rw h (repeat_stop opens_property next_property (length r) r e.no_property)
 properties_again (p ∷ ps) text r h e =

@@ -16,14 +16,17 @@ pub without_end-nil : without_end [] ≡ []
 unfolding without_end
 without_end-nil = refl
 
+-- a byte before a text that has some stays, white space or not
 first_or_none-push : (b : ℕ) (xs : List ℕ) (c : ℕ) → first_or_none b (xs ++ c ∷ []) ≡ b ∷ (xs ++ c ∷ [])
 first_or_none-push b [] c = refl
 first_or_none-push b (x ∷ xs) c = refl
 
+-- white space at the end is taken off
 pub without_end-blank : (xs : List ℕ) (b : ℕ) → is_blank b ≡ true → without_end (xs ++ b ∷ []) ≡ without_end xs
 without_end-blank [] b e = without_end-cons b [] ∙ rw (without_end-nil) (rw e refl)
 without_end-blank (x ∷ xs) b e = without_end-cons x (xs ++ b ∷ []) ∙ ap (first_or_none x) (without_end-blank xs b e) ∙ sym (without_end-cons x xs)
 
+-- a text that ends in anything else stays
 pub without_end-other : (xs : List ℕ) (b : ℕ) → is_blank b ≡ false → without_end (xs ++ b ∷ []) ≡ xs ++ b ∷ []
 without_end-other [] b e = without_end-cons b [] ∙ rw (without_end-nil) (rw e refl)
 without_end-other (x ∷ xs) b e = without_end-cons x (xs ++ b ∷ []) ∙ ap (first_or_none x) (without_end-other xs b e) ∙ first_or_none-push x xs b
@@ -41,6 +44,7 @@ end_takes (b ∷ bs) =
       | c ∷ cs ↦ λ e. (r.0, r.1, ap (λ (x : List ℕ). b ∷ x) e)
     ] r.2)
 
+-- the trimmed text stands in the bytes
 pub trimmed_stands : (bytes : List ℕ) → StandsIn (trimmed bytes) bytes
 trimmed_stands bytes =
     let w = blanks_take bytes in
@@ -52,18 +56,22 @@ abbrev pub NoBlank : List ℕ → Type 0
 NoBlank [] = Unit {0}
 NoBlank (b ∷ bs) = (is_blank b ≡ false) × NoBlank bs
 
+-- nothing is left of white space alone
 end_blank : (w : List ℕ) → IsBlank w → without_end w ≡ []
 end_blank [] h = without_end-nil
 end_blank (b ∷ bs) h = without_end-cons b bs ∙ rw (end_blank bs h.1) (rw (h.0) refl)
 
+-- a text without white space is left when the white space behind it is taken off
 end_again : (t w : List ℕ) → NoBlank t → IsBlank w → without_end (t ++ w) ≡ t
 end_again [] w n h = end_blank w h
 end_again (b ∷ []) w n h = without_end-cons b w ∙ rw (end_blank w h) (rw (n.0) refl)
 end_again (b ∷ c ∷ bs) w n h = without_end-cons b ((c ∷ bs) ++ w) ∙ ap (first_or_none b) (end_again (c ∷ bs) w n.1 h)
 
+-- behind white space alone nothing is left
 all_blank : (w : List ℕ) → IsBlank w → after_blanks w ≡ []
 all_blank w h = ap after_blanks (sym (append-nil w)) ∙ after_blanks-again w [] h ∙ after_blanks-nil
 
+-- a text without white space that stands in the bytes is the trimmed one
 pub trimmed_is : (t bytes : List ℕ) → NoBlank t → StandsIn t bytes → trimmed bytes ≡ t
 trimmed_is [] bytes n s =
     let e : after_blanks bytes ≡ after_blanks s.behind = ap after_blanks s.parts ∙ after_blanks-again s.before s.behind s.blank_before in
@@ -74,6 +82,7 @@ trimmed_is (b ∷ bs) bytes n s =
 
 -- ---- digits
 
+-- a first byte: a digit that fits, one that makes the number too large, or no digit
 pub digits_of-digit : (n b : ℕ) (bs : List ℕ) → is_digit b ≡ true → n * 10 + (b - 48) ≤ 65535 → digits_of n (b ∷ bs) ≡ digits_of (n * 10 + (b - 48)) bs
 unfolding digits_of
 digits_of-digit n b bs e h = rw (e, le-leb (n * 10 + (b - 48)) 65535 h) refl
@@ -90,10 +99,12 @@ pub digits_of-nil : (n : ℕ) → digits_of n [] ≡ Some n
 unfolding digits_of
 digits_of-nil n = refl
 
+-- digits behind a number never make it less
 decimal_le : (n : ℕ) (bs : List ℕ) → n ≤ decimal n bs
 decimal_le n [] = omega arith
 decimal_le n (b ∷ bs) = let i = decimal_le (n * 10 + (b - 48)) bs in omega arith
 
+-- what is read as a number is digits of that worth, at most 65,535
 pub digits_take : (n : ℕ) (bs : List ℕ) (m : ℕ) → n ≤ 65535 → digits_of n bs ≡ Some m → AreDigits bs × (m ≡ decimal n bs) × (m ≤ 65535)
 digits_take n [] m le h = let e : n ≡ m = (let k = digits_of-nil n in cc) in (tt, sym e, omega arith)
 digits_take n (b ∷ bs) m le h =
@@ -105,6 +116,7 @@ digits_take n (b ∷ bs) m le h =
       | inr o ↦ absurd (let k = digits_of-other n b bs o in cc)
     ]
 
+-- digits worth at most 65,535 are read as their worth
 pub digits_again : (n : ℕ) (bs : List ℕ) → AreDigits bs → decimal n bs ≤ 65535 → digits_of n bs ≡ Some (decimal n bs)
 digits_again n [] d le = digits_of-nil n
 digits_again n (b ∷ bs) d le =
@@ -122,18 +134,22 @@ no_blank_43 : is_blank 43 ≡ false
 unfolding is_blank
 no_blank_43 = refl
 
+-- no digit is white space
 digits_no_blank : (bs : List ℕ) → AreDigits bs → NoBlank bs
 digits_no_blank [] d = tt
 digits_no_blank (b ∷ bs) d = (digit_is_no_blank b d.0, digits_no_blank bs d.1)
 
+-- one or more digits worth at most 65,535 are read as their worth
 some_again : (bs : List ℕ) → bs ≢ [] → AreDigits bs → decimal 0 bs ≤ 65535 → some_digits bs ≡ Some (decimal 0 bs)
 some_again [] ne d le = absurd (ne refl)
 some_again (b ∷ bs) ne d le = digits_again 0 (b ∷ bs) d le
 
+-- digits have no `+` before them to leave out
 plus_digits : (bs : List ℕ) → AreDigits bs → behind_plus bs ≡ bs
 plus_digits [] d = refl
 plus_digits (b ∷ bs) d = rw (digit_is_no_plus b d.0) refl
 
+-- the text of a number is read as that number
 pub numeral_again : (t : List ℕ) (n : ℕ) → IsNumeral t n → numeral_of t ≡ Some n
 numeral_again t n h =
     let value : some_digits h.digits ≡ Some n = some_again h.digits h.some h.are (omega (arith, h.value, h.fits)) ∙ ap (λ (x : ℕ). Some x) (sym h.value) in
@@ -142,12 +158,14 @@ numeral_again t n h =
       | inr s ↦ ap numeral_of s ∙ value
     ]
 
+-- the text of a number has no white space
 pub numeral_no_blank : (t : List ℕ) (n : ℕ) → IsNumeral t n → NoBlank t
 numeral_no_blank t n h = elim h.stands [
   | inl s ↦ subst NoBlank (sym s) (digits_no_blank h.digits h.are)
   | inr s ↦ subst NoBlank (sym s) (no_blank_43, digits_no_blank h.digits h.are)
 ]
 
+-- a value that is a number is read as that number
 pub number_again : (bytes : List ℕ) (n : ℕ) → IsNumber bytes n → number_of bytes ≡ Some n
 unfolding number_of
 number_again bytes n h = ap numeral_of (trimmed_is h.0 bytes (numeral_no_blank h.0 n h.1) h.2) ∙ numeral_again h.0 n h.1
@@ -157,6 +175,7 @@ some_takes : (bs : List ℕ) (n : ℕ) → some_digits bs ≡ Some n → (bs ≢
 some_takes [] n h = absurd cc
 some_takes (b ∷ bs) n h = let d = digits_take 0 (b ∷ bs) n (omega arith) h in ((λ e. absurd cc), d.0, d.1, d.2)
 
+-- a text read as a number is the text of that number
 pub numeral_takes : (t : List ℕ) (n : ℕ) → numeral_of t ≡ Some n → IsNumeral t n
 numeral_takes [] n h = absurd cc
 numeral_takes (b ∷ bs) n h =
@@ -165,6 +184,7 @@ numeral_takes (b ∷ bs) n h =
       | false ↦ λ e k. let d = some_takes (b ∷ bs) n k in record { digits = b ∷ bs; some = d.0; are = d.1; value = d.2; fits = d.3; stands = inl refl }
     ] refl h
 
+-- a value read as a number is that number
 pub number_takes : (bytes : List ℕ) (n : ℕ) → number_of bytes ≡ Some n → IsNumber bytes n
 unfolding number_of
 number_takes bytes n h = (trimmed bytes, numeral_takes (trimmed bytes) n h, trimmed_stands bytes)
@@ -175,20 +195,25 @@ pub digit_from : (b : ℕ) → is_digit b ≡ true → 48 ≤ b
 unfolding is_digit
 digit_from b e = grind arith
 
+-- a text that has a byte is read as digits from 0 on
 pub some_is : (bytes : List ℕ) → eqb (length bytes) 0 ≡ false → some_digits bytes ≡ digits_of 0 bytes
 some_is [] e = absurd cc
 some_is (b ∷ bs) e = refl
 
 module _ (bytes : List ℕ) (i n : ℕ) (lt : i < length bytes) (so_far : digits_of n (drop i bytes) ≡ digits_of 0 bytes) where
+  -- one digit more that fits: the total stays
   pub digits_more : (m : ℕ) → is_digit (get_or bytes i 0) ≡ true → m ≡ n * 10 + (get_or bytes i 0 - 48) → m ≤ 65535 → digits_of m (drop (i + 1) bytes) ≡ digits_of 0 bytes
   digits_more m e is le =
       ap (λ (x : ℕ). digits_of x (drop (i + 1) bytes)) is ∙ sym (digits_of-digit n (get_or bytes i 0) (drop (i + 1) bytes) e (omega arith)) ∙ ap (digits_of n) (sym (drop_more bytes i 0 lt)) ∙ so_far
 
+  -- a digit that makes the number too large: there is no total
   pub digits_past : is_digit (get_or bytes i 0) ≡ true → 65535 < n * 10 + (get_or bytes i 0 - 48) → digits_of 0 bytes ≡ None
   digits_past e gt = sym so_far ∙ ap (digits_of n) (drop_more bytes i 0 lt) ∙ digits_of-large n (get_or bytes i 0) (drop (i + 1) bytes) e gt
 
+  -- a byte that is no digit: there is no total
   pub digits_stop : is_digit (get_or bytes i 0) ≡ false → digits_of 0 bytes ≡ None
   digits_stop e = sym so_far ∙ ap (digits_of n) (drop_more bytes i 0 lt) ∙ digits_of-other n (get_or bytes i 0) (drop (i + 1) bytes) e
 
+-- at the end the total is the number so far
 pub digits_end : (bytes : List ℕ) (i n : ℕ) → length bytes ≤ i → digits_of n (drop i bytes) ≡ digits_of 0 bytes → digits_of 0 bytes ≡ Some n
 digits_end bytes i n le h = sym h ∙ ap (digits_of n) (drop_all i bytes le) ∙ digits_of-nil n

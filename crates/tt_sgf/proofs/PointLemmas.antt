@@ -14,6 +14,7 @@ letter_is_no_blank : (b : ℕ) → 97 ≤ b → is_blank b ≡ false
 unfolding is_blank
 letter_is_no_blank b h = grind arith
 
+-- a text is a pass, a point of its two letters, or neither
 pub point_of-nil : (size : Size) → point_of size [] ≡ Some Pass
 unfolding point_of
 point_of-nil size = refl
@@ -39,6 +40,7 @@ pub point_of-second : (size : Size) (c r : ℕ) → c ≡ 116 → (r ≡ 116 →
 unfolding point_of
 point_of-second size c r h k = rw (h, ne_eqb r 116 k) refl
 
+-- a value that is a point or a pass is read as it
 pub point_again : (size : Size) (bytes : List ℕ) (q : PointOrPass) → IsPointOrPass size bytes q → point_of size (trimmed bytes) ≡ Some q
 point_again size bytes (On p) h =
     let c = 97 + h.column in
@@ -56,6 +58,7 @@ point_again size bytes Pass h =
       | inr s ↦ ap (point_of size) (trimmed_is (116 ∷ 116 ∷ []) bytes (letter_is_no_blank 116 (omega arith), (letter_is_no_blank 116 (omega arith), tt)) s) ∙ point_of-pass size 116 116 refl refl
     ]
 
+-- two letters read as a point are that point
 place_takes : (size : Size) (bytes : List ℕ) (c r : ℕ) (q : PointOrPass) → StandsIn (c ∷ r ∷ []) bytes → place size c r ≡ Some q → IsPointOrPass size bytes q
 place_takes size bytes c r q s h =
     let k = cond_some ((leb 97 c && ltb (c - 97) size.columns) && (leb 97 r && ltb (r - 97) size.rows)) (On ((r - 97) * size.columns + (c - 97))) q h in
@@ -76,6 +79,7 @@ place_takes size bytes c r q s h =
     } in
     subst (λ (x : PointOrPass). IsPointOrPass size bytes x) k.1 made
 
+-- a text read as a point or a pass is it
 takes : (size : Size) (text bytes : List ℕ) (q : PointOrPass) → StandsIn text bytes → point_of size text ≡ Some q → IsPointOrPass size bytes q
 takes size [] bytes q s h = subst (λ (x : PointOrPass). IsPointOrPass size bytes x) (same_Some Pass q (sym (point_of-nil size) ∙ h)) (inl s)
 takes size (c ∷ []) bytes q s h = absurd (let e : point_of size (c ∷ []) ≡ None = point_of-one size c in cc)
@@ -93,6 +97,7 @@ takes size (c ∷ r ∷ []) bytes q s h =
     ]
 takes size (c ∷ r ∷ x ∷ xs) bytes q s h = absurd (let e : point_of size (c ∷ r ∷ x ∷ xs) ≡ None = point_of-more size c r (x ∷ xs) (ne_eqb _ _ (λ k. absurd (omega arith))) in cc)
 
+-- a value read as a point or a pass is it
 pub point_takes : (size : Size) (bytes : List ℕ) (q : PointOrPass) → point_of size (trimmed bytes) ≡ Some q → IsPointOrPass size bytes q
 point_takes size bytes q h = takes size (trimmed bytes) bytes q (trimmed_stands bytes) h
 

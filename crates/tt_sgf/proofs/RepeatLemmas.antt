@@ -4,6 +4,7 @@ use Rattle.tt_sgf.specs.Reading.{◌>>=◌, with_first, repeat}
 use Rattle.tt_sgf.proofs.TokenLemmas.{with_front, with_front_more}
 
 module _ {X : Type 0} (more : List ℕ → Bool) (item : List ℕ → Option (X × List ℕ)) where
+  -- one try: no item follows, it can't be read, it is read; and no try is left
   pub repeat_stop : (n : ℕ) (bytes : List ℕ) → more bytes ≡ false → repeat more item (suc n) bytes ≡ Some ([], bytes)
   unfolding repeat
   repeat_stop n bytes e = rw e refl
@@ -20,6 +21,7 @@ module _ {X : Type 0} (more : List ℕ → Bool) (item : List ℕ → Option (X 
   unfolding repeat
   repeat_none bytes = refl
 
+-- each item takes something: less is left behind it
 abbrev pub Shrinks : {X : Type 0} → (List ℕ → Bool) → (List ℕ → Option (X × List ℕ)) → Type 0
 Shrinks {X} more item = (bytes : List ℕ) (x : X × List ℕ) → more bytes ≡ true → item bytes ≡ Some x → length x.1 < length bytes
 
@@ -28,6 +30,7 @@ abbrev pub all_at : {X : Type 0} → (List ℕ → Bool) → (List ℕ → Optio
 all_at more item bytes = repeat more item (suc (length bytes)) bytes
 
 module _ {X : Type 0} (more : List ℕ → Bool) (item : List ℕ → Option (X × List ℕ)) (shrinks : Shrinks more item) where
+  -- any two numbers of tries above that of the bytes read the same
   pub repeat_enough : (n m : ℕ) (bytes : List ℕ) → length bytes < n → length bytes < m → repeat more item n bytes ≡ repeat more item m bytes
   repeat_enough zero m bytes h k = absurd (omega arith)
   repeat_enough (suc n) zero bytes h k = absurd (omega arith)
@@ -42,6 +45,7 @@ module _ {X : Type 0} (more : List ℕ → Bool) (item : List ℕ → Option (X 
         ] refl
       ] refl
 
+  -- an item that is read comes before those read behind it
   pub all_item : (bytes : List ℕ) (x : X × List ℕ) → more bytes ≡ true → item bytes ≡ Some x → all_at more item bytes ≡ (all_at more item x.1 >>= with_first x.0)
   all_item bytes x e f =
       let s = shrinks bytes x e f in

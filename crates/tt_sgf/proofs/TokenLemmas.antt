@@ -9,19 +9,23 @@ use Rattle.tt_sgf.specs.Values.{after_blanks}
 
 -- ---- the value of a step
 
+-- where two steps give something, the first one gave what the second took
 pub bind_some : {A B : Type 0} (o : Option A) (f : A → Option B) (y : B) → (o >>= f) ≡ Some y → (x : A) × (o ≡ Some x) × (f x ≡ Some y)
 bind_some (Some x) f y e = (x, refl, e)
 bind_some None f y e = absurd cc
 
+-- items read before, and those read now behind them
 abbrev pub with_front : {X : Type 0} → List X → List X × List ℕ → Option (List X × List ℕ)
 with_front front p = Some (front ++ p.0, p.1)
 
+-- an item read first is the last of those read before
 pub with_front_more : {X : Type 0} (front : List X) (x : X) (o : Option (List X × List ℕ)) → ((o >>= with_first x) >>= with_front front) ≡ (o >>= with_front (front ++ x ∷ []))
 with_front_more front x None = refl
 with_front_more {X = X} front x (Some p) = ap (λ (xs : List X). Some (xs, p.1)) (simp append_assoc)
 
 -- ---- white space
 
+-- white space at the front is skipped, and any other byte stays
 pub after_blanks-blank : (b : ℕ) (bs : List ℕ) → is_blank b ≡ true → after_blanks (b ∷ bs) ≡ after_blanks bs
 unfolding after_blanks
 after_blanks-blank b bs e = rw e refl
@@ -34,6 +38,7 @@ pub after_blanks-nil : after_blanks [] ≡ []
 unfolding after_blanks
 after_blanks-nil = refl
 
+-- a whole text of white space is skipped
 pub after_blanks-again : (w : List ℕ) (r : List ℕ) → IsBlank w → after_blanks (w ++ r) ≡ after_blanks r
 after_blanks-again [] r h = refl
 after_blanks-again (b ∷ bs) r h = after_blanks-blank b (bs ++ r) h.0 ∙ after_blanks-again bs r h.1
@@ -49,6 +54,7 @@ blanks_take (b ∷ bs) =
 
 -- ---- value bytes
 
+-- a byte of a value: an escaped one, the bracket at the end, a plain one, or none
 pub raw_at-escaped : (b : ℕ) (bs : List ℕ) → raw_at true (b ∷ bs) ≡ (raw_at false bs >>= with_first b)
 unfolding raw_at
 raw_at-escaped b bs = refl
@@ -70,9 +76,11 @@ raw_at-nil false = refl
 abbrev pub raw_so_far : List ℕ → ℕ → Bool → Option (List ℕ × List ℕ)
 raw_so_far bytes i escaped = raw_at escaped (drop i bytes) >>= with_front (take i bytes)
 
+-- at the start nothing was read
 pub raw_start : (bytes : List ℕ) → raw_so_far bytes 0 false ≡ raw_at false bytes
 raw_start bytes = elim (raw_at false bytes) as (λ o. (o >>= with_front []) ≡ o) [ None ↦ refl | Some p ↦ refl ]
 
+-- a byte that joins the value leaves the total as it was
 raw_cons : (bytes : List ℕ) (i : ℕ) (e e' : Bool) → i < length bytes
     → raw_at e (get_or bytes i 0 ∷ drop (i + 1) bytes) ≡ (raw_at e' (drop (i + 1) bytes) >>= with_first (get_or bytes i 0))
     → raw_so_far bytes (i + 1) e' ≡ raw_so_far bytes i e
@@ -85,9 +93,11 @@ raw_more_escaped bytes i lt = raw_cons bytes i true false lt (raw_at-escaped _ _
 pub raw_more_plain : (bytes : List ℕ) (i : ℕ) → i < length bytes → eqb (get_or bytes i 0) 93 ≡ false → raw_so_far bytes (i + 1) (eqb (get_or bytes i 0) 92) ≡ raw_so_far bytes i false
 raw_more_plain bytes i lt e = raw_cons bytes i false _ lt (raw_at-plain _ _ e)
 
+-- at the bracket the value is what was read, and the rest stands behind it
 pub raw_ends : (bytes : List ℕ) (i : ℕ) → i < length bytes → eqb (get_or bytes i 0) 93 ≡ true → raw_so_far bytes i false ≡ Some (take i bytes, drop (i + 1) bytes)
 raw_ends bytes i lt e = rw (drop_more bytes i 0 lt, raw_at-end _ _ e) (ap (λ (x : List ℕ). Some (x, drop (i + 1) bytes)) (append-nil (take i bytes)))
 
+-- at the end of the bytes the value has no bracket
 pub raw_stops : (bytes : List ℕ) (i : ℕ) (e : Bool) → length bytes ≤ i → raw_so_far bytes i e ≡ None
 raw_stops bytes i e le = rw (drop_all i bytes le, raw_at-nil e) refl
 
@@ -102,12 +112,14 @@ pub record IsRawAt (escaped : Bool) (bytes v r : List ℕ) : Type 0 where
   pub raw : IsRaw escaped v
   pub parts : bytes ≡ v ++ (93 ∷ r)
 
+-- a byte more before a value
 IsRawAt-first : (escaped e : Bool) (b : ℕ) (bs v r : List ℕ) → (x : List ℕ × List ℕ) → IsRawAt e bs x.0 x.1 → with_first b x ≡ Some (v, r) → (IsRaw e x.0 → IsRaw escaped (b ∷ x.0))
     → IsRawAt escaped (b ∷ bs) v r
 IsRawAt-first escaped e b bs v r x h eq up =
     let same = some_pair_parts (b ∷ x.0) v x.1 r eq in
     rw (← same.0, ← same.1) (record { raw = up h.raw; parts = ap (λ (y : List ℕ). b ∷ y) h.parts })
 
+-- the bytes that were read are a value, with its bracket behind
 pub raw_takes : (escaped : Bool) (bytes v r : List ℕ) → raw_at escaped bytes ≡ Some (v, r) → IsRawAt escaped bytes v r
 raw_takes escaped [] v r e = absurd (let n = raw_at-nil escaped in cc)
 raw_takes true (b ∷ bs) v r e =
@@ -124,6 +136,7 @@ raw_takes false (b ∷ bs) v r e =
 
 -- ---- words
 
+-- a first byte belongs to the word or ends it
 pub word_of-word : (b : ℕ) (bs : List ℕ) → is_word b ≡ true → word_of (b ∷ bs) ≡ b ∷ word_of bs
 unfolding word_of
 word_of-word b bs e = rw e refl
@@ -142,12 +155,14 @@ unfolding after_word
 after_word-other [] e = refl
 after_word-other (b ∷ bs) e = rw e refl
 
+-- the word read is all of a text of letters and digits, where none follows it
 pub word_again : (w r : List ℕ) → IsWord w → begins is_word r ≡ false → (word_of (w ++ r) ≡ w) × (after_word (w ++ r) ≡ r)
 word_again [] r h e = (word_of-other r e, after_word-other r e)
 word_again (b ∷ bs) r h e =
     let s = word_again bs r h.1 e in
     (word_of-word b (bs ++ r) h.0 ∙ ap (λ (x : List ℕ). b ∷ x) s.0, after_word-word b (bs ++ r) h.0 ∙ s.1)
 
+-- what is read is letters and digits, none follows, and together they are the bytes
 pub word_takes : (bytes : List ℕ) → IsWord (word_of bytes) × (bytes ≡ word_of bytes ++ after_word bytes) × (begins is_word (after_word bytes) ≡ false)
 word_takes [] = rw (word_of-other [] refl, after_word-other [] refl) (tt, refl, refl)
 word_takes (b ∷ bs) =
@@ -160,6 +175,7 @@ word_takes (b ∷ bs) =
 abbrev pub word_so_far : List ℕ → ℕ → Type 0
 word_so_far bytes i = (take i bytes ++ word_of (drop i bytes) ≡ word_of bytes) × (after_word (drop i bytes) ≡ after_word bytes)
 
+-- one byte more of the word leaves the total as it was
 pub word_more : (bytes : List ℕ) (i : ℕ) → i < length bytes → is_word (get_or bytes i 0) ≡ true → word_so_far bytes i → word_so_far bytes (i + 1)
 word_more bytes i lt e h =
     let d = drop_more bytes i 0 lt in (
@@ -167,16 +183,19 @@ word_more bytes i lt e h =
       sym (after_word-word _ _ e) ∙ ap after_word (sym d) ∙ h.1,
     )
 
+-- where no letter or digit follows, what was read is the word
 pub word_ends : (bytes : List ℕ) (i : ℕ) → begins is_word (drop i bytes) ≡ false → word_so_far bytes i → (take i bytes ≡ word_of bytes) × (drop i bytes ≡ after_word bytes)
 word_ends bytes i e h =
     (sym (append-nil (take i bytes)) ∙ ap (λ (x : List ℕ). take i bytes ++ x) (sym (word_of-other _ e)) ∙ h.0, sym (after_word-other _ e) ∙ h.1)
 
+-- no letter or digit follows before another byte, nor at the end
 pub no_word_at : (bytes : List ℕ) (i : ℕ) → i < length bytes → is_word (get_or bytes i 0) ≡ false → begins is_word (drop i bytes) ≡ false
 no_word_at bytes i lt e = rw (drop_more bytes i 0 lt) e
 
 pub no_word_past : (bytes : List ℕ) (i : ℕ) → length bytes ≤ i → begins is_word (drop i bytes) ≡ false
 no_word_past bytes i le = rw (drop_all i bytes le) refl
 
+-- at the end of the bytes all of them are the word
 pub word_all : (bytes : List ℕ) (i : ℕ) → length bytes ≤ i → word_so_far bytes i → (take (length bytes) bytes ≡ word_of bytes) × (drop (length bytes) bytes ≡ after_word bytes)
 word_all bytes i le h =
     let s = word_ends bytes i (no_word_past bytes i le) h in

@@ -21,9 +21,11 @@ pub passing-out : (f : ℕ → Bool) (n : ℕ) → f n ≡ false → passing f (
 unfolding passing
 passing-out f n e = rw e refl
 
+-- the order of numbers has two as one exactly where they are equal
 tied : (q n : ℕ) → eq_by_cmp nat_cmp q n ≡ eqb q n
 tied q n = unsigned_tied q n
 
+-- a number other than n is below n + 1 exactly where it is below n
 ltb-next : (q n : ℕ) → (q ≡ n → ⊥) → ltb q (suc n) ≡ ltb q n
 ltb-next q n ne = elim (cases_lt q n) [
   | inl lt ↦ lt-ltb q (suc n) (omega arith) ∙ sym (lt-ltb q n lt)

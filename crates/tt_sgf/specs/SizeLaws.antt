@@ -5,9 +5,11 @@ use Rattle.std.proofs.Math.Bridge.{le_prop}
 use Rattle.tt_sgf.specs.declared.size.Size.{Size}
 use Rattle.tt_sgf.specs.Sizes.{IsSide, point_count, made, side, sized, sized_by}
 
+-- that a number is a side is a fact in one way alone
 same_side : (n : ℕ) (a b : IsSide n) → a ≡ b
 same_side n a b = λ i. (le_prop a.0 b.0 i, le_prop a.1 b.1 i)
 
+-- a size made of the same columns and rows is the same
 made_same : (c d r t : ℕ) (h : IsSide c) (k : IsSide r) (l : IsSide d) (m : IsSide t) → c ≡ d → r ≡ t → made c r h k ≡ made d t l m
 made_same c d r t h k l m e f =
     subst (λ y. (x : IsSide y) → made c r h k ≡ made y t x m) e

@@ -14,22 +14,27 @@ use Rattle.tt_board.proofs.PlayLemmas.{mark_is, score_more}
 use Rattle.tt_board.proofs.area.count_area.Goals as goal
 use Rattle.tt_board.proofs.area.count_area.Goals.{in-Some, in-None, then-counted, else-counted}
 
+-- colours are compared as the definition says
 colours : (a b : Colour) → sameb the_type a b ≡ same_colour a b
 colours Black Black = refl
 colours Black White = refl
 colours White Black = refl
 colours White White = refl
 
+-- a stone counts for its own colour
 stone_counts : (s : Size) (c : List (Option Colour)) (k j : Colour) (p : ℕ) → entry_at c p ≡ Some j → counts_for s c k p ≡ same_colour j k
 stone_counts s c k j p e = rw e (grind arith)
 
+-- an empty point counts for a colour that it reaches where it doesn't reach the other
 empty_counts : (s : Size) (c : List (Option Colour)) (k : Colour) (p : ℕ) → entry_at c p ≡ None → counts_for s c k p ≡ (reaches s c p (Some k) && not (reaches s c p (Some (other k))))
 empty_counts s c k p e = rw e refl
 
+-- so an empty point is counted by whether it reaches either colour
 counted_as : (s : Size) (c : List (Option Colour)) (k : Colour) (p : ℕ) (own others counted : Bool) → entry_at c p ≡ None
     → own ≡ reaches s c p (Some k) → others ≡ reaches s c p (Some (other k)) → counted ≡ (own && not others) → counted ≡ counts_for s c k p
 counted_as s c k p own others counted e o n h = h ∙ ap (λ x. x && not others) o ∙ ap (λ x. reaches s c p (Some k) && not x) n ∙ sym (empty_counts s c k p e)
 
+-- a point more is counted where it counts, and the total is at most the number of points
 one_more : (s : Size) (c : List (Option Colour)) (k : Colour) (p total new : ℕ) (b : Bool) →
     (total ≡ count_by (counts_for s c k) (range_with_len 0 p)) × (total ≤ p) → counts_for s c k p ≡ b → new ≡ total + cond b 1 0
     → (new ≡ count_by (counts_for s c k) (range_with_len 0 (p + 1))) × (new ≤ p + 1)

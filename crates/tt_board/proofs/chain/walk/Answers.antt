@@ -7,6 +7,7 @@ use Rattle.tt_board.specs.Chain.{IsLinked}
 use Rattle.tt_board.proofs.ChainLemmas.{start_growing, grown_kept, linked_more, enclosed_more, enclosed_all}
 use Rattle.tt_board.proofs.chain.walk.Goals as goal
 
+-- an item of a list of linked points is linked
 linked_here : (xs : List ℕ) (i p : ℕ) (s : Size) (c : Colouring) (start : ℕ) → i < length xs → p ≡ get_or xs i 0 → ((q : ℕ) → Contains xs q → IsLinked s c start q) → IsLinked s c start p
 linked_here xs i p s c start below is linked = linked p (subst (λ x. Contains xs x) (sym is) (Contains-get_or xs i 0 below))
 

@@ -6,6 +6,7 @@ use Rattle.tt_board.specs.contracts.ColourPartialEq.TheImpl.{eq-value}
 use Rattle.tt_board.specs.Play.{is_stone_of}
 use Rattle.tt_board.proofs.colouring.is_stone_of.Goals as goal
 
+-- the comparison with a stone says what the definition says
 tests : (e : Option Colour) (k : Colour) → option_eq eq-value.it e (Some k) ≡ is_stone_of e k
 tests None k = refl
 tests (Some Black) Black = refl

@@ -24,6 +24,7 @@ bounds-marks-q c =
     let n = near_at c.args.size c.args.p _ _ c.loop-q.q-index c.as_slice-q-items.ensures.value c.neighbours-near.ensures c.loop-q-test.true in
     omega (arith, n.0)
 
+-- a point none of whose neighbours leads on isn't next
 none_next : (s : Size) (points : List (Option Colour)) (wanted : Option Colour) (m : List Bool) (p : ℕ) (items xs : List ℕ) → xs ≡ items → ((r : ℕ) → Contains items r ↔ IsNeighbour s p r)
     → ((k : ℕ) → k < length xs → (entry_at points (get_or xs k 0) ≢ wanted) × (entry_at points (get_or xs k 0) ≡ entry_at points p → IsTrue (is_marked m (get_or xs k 0)) → ⊥))
     → IsNext s points wanted m p → ⊥

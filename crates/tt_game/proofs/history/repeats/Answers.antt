@@ -5,6 +5,7 @@ use Rattle.tt_board.specs.Position.{Position}
 use Rattle.tt_game.specs.Course.{colourings}
 use Rattle.tt_game.proofs.history.repeats.Goals as goal
 
+-- no board with the next one's colouring: it isn't in the history
 none : (bs : List Position) (next : Position) → ((k : ℕ) → k < length bs → (get_or bs k next).points ≡ next.points → ⊥) → Contains (colourings bs) next.points → ⊥
 none bs next each (k, in', e) =
     let lt : k < length bs = subst (λ n. k < n) (length-map bs (λ b. b.points)) in' in

@@ -12,6 +12,7 @@ use Rattle.tt_game.specs.Keys.{key_of, LookAlike, packed}
 use Rattle.tt_game.proofs.KeyLemmas.{packed_tells, packed_same, entries_tell}
 use Rattle.tt_game.proofs.laws.keys.Goals as goal
 
+-- positions with the same key look alike
 tells : (f g : Frame) (s t : State) → key_of f s ≡ key_of g t → LookAlike f g s t
 unfolding key_of
 tells f g s t e =
@@ -29,6 +30,7 @@ tells f g s t e =
       passes = ap (λ (k : Key). k.passes) e;
     }
 
+-- positions that look alike have the same key
 same : (f g : Frame) (s t : State) → LookAlike f g s t → key_of f s ≡ key_of g t
 unfolding key_of
 same f g s t h =

@@ -1,4 +1,4 @@
-use Rattle.tt_sgf.proofs.TreeLemmas.{one_tree}
+use Rattle.tt_sgf.proofs.GrammarLemmas.{one_tree}
 use Rattle.tt_sgf.proofs.laws.one_tree.Goals as goal
 
 pub returns : goal.returns

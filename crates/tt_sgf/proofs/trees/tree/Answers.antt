@@ -1,7 +1,8 @@
 use Rattle.std.proofs.Common.{Some, ap, sym, ◌∙◌, arith}
 use Rattle.std.proofs.lemmas.Result.{err_from_is_err_and}
 use Rattle.tt_sgf.specs.declared.trees.Event.{Event}
-use Rattle.tt_sgf.proofs.TreeLemmas.{far_open, far_close, far_kept, far_aside, far_done, far_none, far_refused_open, far_refused_close, far_refused_item, event_shrinks}
+use Rattle.tt_sgf.proofs.EventLemmas.{event_shrinks}
+use Rattle.tt_sgf.proofs.WalkLemmas.{far_open, far_close, far_kept, far_aside, far_done, far_none, far_refused_open, far_refused_close, far_refused_item}
 use Rattle.tt_sgf.proofs.LoopLemmas.{none_at, same_err}
 use Rattle.tt_sgf.proofs.trees.tree.Goals as goal
 

@@ -1,5 +1,5 @@
 use Rattle.std.proofs.Common.{◌+◌, ◌≤◌, length}
-use Rattle.tt_sgf.proofs.TreeLemmas.{Far}
+use Rattle.tt_sgf.proofs.WalkLemmas.{Far}
 use Rattle.tt_sgf.proofs.trees.tree.Given as goal
 
 abbrev pub invariant-loop-nodes : goal.invariant-loop-nodes

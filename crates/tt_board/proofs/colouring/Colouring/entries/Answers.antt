@@ -7,6 +7,7 @@ use Rattle.tt_board.specs.Reach.{entry_at}
 use Rattle.tt_board.proofs.PlaneLemmas.{count_is}
 use Rattle.tt_board.proofs.colouring.Colouring.entries.Goals as goal
 
+-- a list of empty points has no stone anywhere
 none_anywhere : (xs : Colouring) → xs ≡ replicate 361 None → (k : ℕ) → entry_at xs k ≡ None
 none_anywhere xs e k = ap (λ (ys : Colouring). entry_at ys k) e ∙ elim (cases_lt k 361) [
   | inl inside ↦ get_or-replicate {A = Option Colour} 361 k None None inside
@@ -23,6 +24,7 @@ loop-p-init c = record {
 pub at-requires : goal.at-requires
 at-requires c = let i = c.self.inside in omega (arith, count_is i.count i.black.words i.white.words _ c.self.view_is)
 
+-- a list that begins with the entries of a colouring has it at its front
 front_is : (n : ℕ) (xs c : Colouring) → length c ≡ n → n ≤ length xs → ((k : ℕ) → k < n → entry_at xs k ≡ entry_at c k) → take n xs ≡ c
 front_is n xs c fits wide same = ext_get_or None (take n xs) c (length-take-le n xs wide ∙ sym fits)
     (λ k below. let in_n : k < n = omega (arith, length-take-le n xs wide) in get_or-take n xs k None in_n ∙ same k in_n)

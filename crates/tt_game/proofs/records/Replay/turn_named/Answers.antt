@@ -9,6 +9,7 @@ use Rattle.tt_game.specs.Turns.{IsOn}
 use Rattle.tt_game.specs.Records.{as_turn}
 use Rattle.tt_game.proofs.records.Replay.turn_named.Goals as goal
 
+-- a point that a value names is on the board
 on_board : (size : Size) (bytes : List ℕ) (t : PointOrPass) → IsPointOrPass size bytes t → IsOn size (as_turn t)
 on_board size bytes Pass h = tt
 on_board size bytes (On p) h = rw h.number (mul-add-lt h.row size.columns h.column size.rows h.row_in h.column_in)
