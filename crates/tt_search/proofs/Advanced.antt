@@ -70,7 +70,8 @@ searched line limits tree = record { line = line; limits = limits; tree = tree }
 
 module _ (line : Standing) (room : ℕ) (limits : Limits) where
   -- what a step at the root is to a search
-  step_of : (old : Stage) (step : Step) (new : Stage) → IsSearch (stand line room) limits old → IsUndecided old.tree → Taken (stand line room) old step new.tree → IsLeft step old.left new.left → StepOf (searched line limits old.tree) step (searched line limits new.tree)
+  step_of : (old : Stage) (step : Step) (new : Stage) → IsSearch (stand line room) limits old → IsUndecided old.tree → Taken (stand line room) old step new.tree
+      → IsLeft step old.left new.left → StepOf (searched line limits old.tree) step (searched line limits new.tree)
   step_of old Expanded new h u k l = (u, omega (arith, l, h.counted), subst (λ r. IsExpansion r line.frame line.state old.tree new.tree) h.room k.1)
   step_of old Closed new h u k l = (u, subst (λ r. IsClosing r line.frame line.state old.tree new.tree) h.room k)
   step_of old Settled new h u k l = absurd k
@@ -82,7 +83,8 @@ module _ (line : Standing) (room : ℕ) (limits : Limits) where
   no_steps n old new e h = ap (λ (x : Stage). x.tree) (subst (λ n. Steady n (stand line room) old new) e h)
 
   -- what steps at the root are to a search
-  pub advanced : (pace : Pace) (old : Stage) (step : Step) (new : Stage) → IsSearch (stand line room) limits old → IsUndecided old.tree → AreStepsAt pace (stand line room) old step new → IsAdvanced pace (searched line limits old.tree) step (searched line limits new.tree)
+  pub advanced : (pace : Pace) (old : Stage) (step : Step) (new : Stage) → IsSearch (stand line room) limits old → IsUndecided old.tree
+      → AreStepsAt pace (stand line room) old step new → IsAdvanced pace (searched line limits old.tree) step (searched line limits new.tree)
   advanced pace old step new h u k = record {
     before = searched line limits k.before.tree;
     reached = record {
@@ -90,7 +92,8 @@ module _ (line : Standing) (room : ℕ) (limits : Limits) where
       grown = (k.how_many, grown_steady (stand line room) limits k.how_many old k.before h u k.steady);
     };
     one = λ e. ap (searched line limits) (no_steps k.how_many old k.before (k.one e) k.steady);
-    taken = step_of k.before step new (steady_with (stand line room) limits k.how_many old k.before h u k.steady) (steady_undecided k.how_many (stand line room) old k.before k.steady u) k.taken k.counted;
+    taken = step_of k.before step new (steady_with (stand line room) limits k.how_many old k.before h u k.steady)
+        (steady_undecided k.how_many (stand line room) old k.before k.steady u) k.taken k.counted;
   }
 
 pub advanced_settled : (pace : Pace) (old : Searched) → (IsUndecided old.tree → ⊥) → IsAdvanced pace old Settled old
@@ -112,16 +115,19 @@ reached_joined a b c h k = record {
       grown_joined grown.0 a.limits a.line.frame a.line.state a.tree b.tree c.tree h.grown grown.1;
 }
 
-grows_falls : (limits : Limits) (f : Frame) (s : State) (old new : PartialTree) → Grows limits f s old new → open_leaves new + (limits.budget - count new) * 363 < open_leaves old + (limits.budget - count old) * 363
+grows_falls : (limits : Limits) (f : Frame) (s : State) (old new : PartialTree) → Grows limits f s old new
+    → open_leaves new + (limits.budget - count new) * 363 < open_leaves old + (limits.budget - count old) * 363
 grows_falls limits f s old new (u, inl g) = falls_expanded limits.depth limits.budget f s old new u g.0 g.1
 grows_falls limits f s old new (u, inr g) = falls_closed limits.depth limits.budget f s old new u g
 
-grown_falls : (n : ℕ) (limits : Limits) (f : Frame) (s : State) (old new : PartialTree) → GrownBy n limits f s old new → open_leaves new + (limits.budget - count new) * 363 ≤ open_leaves old + (limits.budget - count old) * 363
+grown_falls : (n : ℕ) (limits : Limits) (f : Frame) (s : State) (old new : PartialTree) → GrownBy n limits f s old new
+    → open_leaves new + (limits.budget - count new) * 363 ≤ open_leaves old + (limits.budget - count old) * 363
 grown_falls zero limits f s old new e = omega (arith, ap open_leaves e, ap count e)
 grown_falls (suc n) limits f s old new (before, k, g) = omega (arith, grown_falls n limits f s old before k, grows_falls limits f s before new g)
 
 reached_falls : (old new : Searched) → IsReached old new → left_to_do new ≤ left_to_do old
-reached_falls old new h = subst (λ l. open_leaves new.tree + (l.budget - count new.tree) * 363 ≤ left_to_do old) (sym h.problem.limits) (grown_falls h.grown.0 old.limits old.line.frame old.line.state old.tree new.tree h.grown.1)
+reached_falls old new h = subst (λ l. open_leaves new.tree + (l.budget - count new.tree) * 363 ≤ left_to_do old) (sym h.problem.limits)
+    (grown_falls h.grown.0 old.limits old.line.frame old.line.state old.tree new.tree h.grown.1)
 
 since_before : (old before new : Searched) → IsSameProblem old before → IsSameProblem old new → IsSameProblem before new
 since_before old before new h k = record { line = k.line ∙ sym h.line; limits = k.limits ∙ sym h.limits }
@@ -130,7 +136,8 @@ pub advanced_falls : (pace : Pace) (old new : Searched) (step : Step) → IsAdva
 advanced_falls pace old new step h same changed =
     omega (arith, reached_falls old h.before h.reached, falls h.before new step h.taken (since_before old h.before new h.reached.problem same) changed)
 
-pub advanced_reached : (pace : Pace) (start old new : Searched) (step : Step) → IsReached start old → IsAdvanced pace old step new → IsSameProblem old new → (step ≡ Expanded) ⊎ (step ≡ Closed) → IsReached start new
+pub advanced_reached : (pace : Pace) (start old new : Searched) (step : Step) → IsReached start old → IsAdvanced pace old step new → IsSameProblem old new → (step ≡ Expanded)
+    ⊎ (step ≡ Closed) → IsReached start new
 advanced_reached pace start old new step r h same changed =
     reached_more start h.before new step (reached_joined start old h.before r h.reached) (since_before old h.before new h.reached.problem same) h.taken changed
 

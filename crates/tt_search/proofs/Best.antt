@@ -48,7 +48,8 @@ mutual
 
   dual_row : (goal : Side) (children : Children) → AreDual (least (numbers goal children)) (capped_sum (numbers (opponent goal) children))
   dual_row goal no_more = record { zero_infinite = λ e. omega arith; infinite_zero = λ e. refl; from_infinite = λ e. omega arith; from_zero = λ e. refl }
-  dual_row goal (more tree children) = dual_more (number goal tree) (number (opponent goal) tree) (numbers goal children) (numbers (opponent goal) children) (number_le goal tree) (dual goal tree) (dual_row goal children)
+  dual_row goal (more tree children) = dual_more (number goal tree) (number (opponent goal) tree) (numbers goal children) (numbers (opponent goal) children) (number_le goal tree)
+      (dual goal tree) (dual_row goal children)
 
 -- the number at the place of a least number is that number
 place_least : (v x : ℕ) (xs : List ℕ) → v ≡ least (x ∷ xs) → (x == v) ≡ false → v ≡ least xs
@@ -58,7 +59,8 @@ place_least v x xs e h = grind (arith, common_steps)
 abbrev pub IsChildAt : Side → ℕ → List PartialTree → PartialTree → Type 0
 IsChildAt goal v trees d = (place v (numbers goal (children_of trees)) < length trees) × (number goal (get_or trees (place v (numbers goal (children_of trees))) d) ≡ v)
 
-child_here : (goal : Side) (v : ℕ) (tree : PartialTree) (trees : List PartialTree) (d : PartialTree) → v ≡ least (numbers goal (children_of (tree ∷ trees))) → (v ≡ least (numbers goal (children_of trees)) → IsChildAt goal v trees d) → (b : Bool) → (number goal tree == v) ≡ b → IsChildAt goal v (tree ∷ trees) d
+child_here : (goal : Side) (v : ℕ) (tree : PartialTree) (trees : List PartialTree) (d : PartialTree) → v ≡ least (numbers goal (children_of (tree ∷ trees)))
+    → (v ≡ least (numbers goal (children_of trees)) → IsChildAt goal v trees d) → (b : Bool) → (number goal tree == v) ≡ b → IsChildAt goal v (tree ∷ trees) d
 child_here goal v tree trees d e below true q = rw q (omega arith, grind (arith, common_steps))
 child_here goal v tree trees d e below false q =
     let k = below (place_least v (number goal tree) (numbers goal (children_of trees)) e q) in
@@ -85,7 +87,8 @@ undecided_from tree Attacker a b = (a, b)
 undecided_from tree Defender a b = (b, a)
 
 -- the best child of an undecided node is there and undecided
-pub best_child : (mover : Side) (turns : List Turn) (trees : List PartialTree) (d : PartialTree) → IsUndecided (expanded mover turns (children_of trees)) → (best mover (children_of trees) < length trees) × IsUndecided (get_or trees (best mover (children_of trees)) d)
+pub best_child : (mover : Side) (turns : List Turn) (trees : List PartialTree) (d : PartialTree) → IsUndecided (expanded mover turns (children_of trees))
+    → (best mover (children_of trees) < length trees) × IsUndecided (get_or trees (best mover (children_of trees)) d)
 best_child mover turns trees d u =
     let v : ℕ = least (numbers mover (children_of trees)) in
     let tree : PartialTree = expanded mover turns (children_of trees) in

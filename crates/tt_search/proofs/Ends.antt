@@ -10,7 +10,9 @@ use Rattle.tt_search.specs.Within.{StaysWithin}
 use Rattle.tt_search.specs.Searched.{Searched, IsProofOf}
 use Rattle.tt_search.proofs.Strategies.{low}
 
-pub is_proof : {E : Type 0} (search : Searched) (side : Side) (r : Result Proven E) → number side search.tree ≡ 0 → StaysWithin search.line.frame.size search.limits.depth search.tree → IfOk r (λ p. StandsAt p search.line.frame search.line.state) → IfOk r (λ p. p.side ≡ side) → IfOk r (λ p. p.tree ≡ strategy_for side search.tree) → IfOk r (λ p. IsProofOf search p)
+pub is_proof : {E : Type 0} (search : Searched) (side : Side) (r : Result Proven E) → number side search.tree ≡ 0
+    → StaysWithin search.line.frame.size search.limits.depth search.tree → IfOk r (λ p. StandsAt p search.line.frame search.line.state) → IfOk r (λ p. p.side ≡ side)
+    → IfOk r (λ p. p.tree ≡ strategy_for side search.tree) → IfOk r (λ p. IsProofOf search p)
 is_proof search side (Err e) z h stands of tree = tt
 is_proof search side (Ok p) z h stands of tree = record {
   stands = stands;

@@ -46,7 +46,8 @@ undecided_at (tree ∷ trees) (suc i) d l u = undecided_at trees i d (omega arit
 
 pub best_undecided : (mover : Side) (turns : List Turn) (children : Children) → IsUndecided (expanded mover turns children) → UndecidedAt (best mover children) children
 best_undecided mover turns children u = subst (λ r. IsUndecided (expanded mover turns r) → UndecidedAt (best mover r) r) (children_of-trees_of children)
-    (λ v. undecided_at (trees_of children) (best mover (children_of (trees_of children))) fresh (best_child mover turns (trees_of children) fresh v).0 (best_child mover turns (trees_of children) fresh v).1) u
+    (λ v. undecided_at (trees_of children) (best mover (children_of (trees_of children))) fresh (best_child mover turns (trees_of children) fresh v).0
+        (best_child mover turns (trees_of children) fresh v).1) u
 
 mutual
   pub count_grown : (leaf tree : PartialTree) → IsUndecided tree → count (with_most_proving leaf tree) ≡ count tree + count leaf
@@ -68,7 +69,8 @@ mutual
   leaf_open f s (closed side tree) p u = absurd (closed_decided side tree u)
   leaf_open f s (expanded mover turns children) p u = row_open f s turns (best mover children) children p.3 (best_undecided mover turns children u)
 
-  row_open : (f : Frame) (s : State) (turns : List Turn) (i : ℕ) (children : Children) → ArePartialTrees f s turns children → UndecidedAt i children → winner_of f (state_below f s turns i children) ≡ None
+  row_open : (f : Frame) (s : State) (turns : List Turn) (i : ℕ) (children : Children) → ArePartialTrees f s turns children → UndecidedAt i children
+      → winner_of f (state_below f s turns i children) ≡ None
   row_open f s [] i no_more p u = absurd u
   row_open f s [] i (more tree children) p u = absurd p
   row_open f s (t ∷ turns) i no_more p u = absurd p
@@ -82,7 +84,8 @@ mutual
   partial_grown f s leaf (closed side tree) p l = l
   partial_grown f s leaf (expanded mover turns children) p l = (p.0, p.1, p.2, row_partial_grown f s leaf turns (best mover children) children p.3 l)
 
-  row_partial_grown : (f : Frame) (s : State) (leaf : PartialTree) (turns : List Turn) (i : ℕ) (children : Children) → ArePartialTrees f s turns children → IsPartialTree f (state_below f s turns i children) leaf → ArePartialTrees f s turns (with_below leaf i children)
+  row_partial_grown : (f : Frame) (s : State) (leaf : PartialTree) (turns : List Turn) (i : ℕ) (children : Children) → ArePartialTrees f s turns children
+      → IsPartialTree f (state_below f s turns i children) leaf → ArePartialTrees f s turns (with_below leaf i children)
   row_partial_grown f s leaf [] i no_more p l = tt
   row_partial_grown f s leaf [] i (more tree children) p l = absurd p
   row_partial_grown f s leaf (t ∷ turns) i no_more p l = absurd p
@@ -90,13 +93,15 @@ mutual
   row_partial_grown f s leaf (t ∷ turns) (suc i) (more tree children) p l = (p.0, row_partial_grown f s leaf turns i children p.1 l)
 
 mutual
-  pub stays_grown : (size : Size) (room : ℕ) (leaf tree : PartialTree) → StaysWithin size room tree → StaysWithin size (room - most_proving_depth tree) leaf → StaysWithin size room (with_most_proving leaf tree)
+  pub stays_grown : (size : Size) (room : ℕ) (leaf tree : PartialTree) → StaysWithin size room tree → StaysWithin size (room - most_proving_depth tree) leaf
+      → StaysWithin size room (with_most_proving leaf tree)
   stays_grown size room leaf fresh f l = subst (λ n. StaysWithin size n leaf) (omega arith) l
   stays_grown size room leaf (won side) f l = subst (λ n. StaysWithin size n leaf) (omega arith) l
   stays_grown size room leaf (closed side tree) f l = subst (λ n. StaysWithin size n leaf) (omega arith) l
   stays_grown size room leaf (expanded mover turns children) f l = (f.0, row_stays_grown size (room - 1) leaf (best mover children) children f.1 (subst (λ n. StaysWithin size n leaf) (omega arith) l))
 
-  row_stays_grown : (size : Size) (room : ℕ) (leaf : PartialTree) (i : ℕ) (children : Children) → AllStayWithin size room children → StaysWithin size (room - depth_below i children) leaf → AllStayWithin size room (with_below leaf i children)
+  row_stays_grown : (size : Size) (room : ℕ) (leaf : PartialTree) (i : ℕ) (children : Children) → AllStayWithin size room children
+      → StaysWithin size (room - depth_below i children) leaf → AllStayWithin size room (with_below leaf i children)
   row_stays_grown size room leaf i no_more f l = tt
   row_stays_grown size room leaf zero (more tree children) f l = (stays_grown size room leaf tree f.0 l, f.1)
   row_stays_grown size room leaf (suc i) (more tree children) f l = (f.0, row_stays_grown size room leaf i children f.1 l)

@@ -1,5 +1,5 @@
 -- What a step does to a child, it does to the node.
-use Rattle.std.proofs.Common.{◌≡◌, ℕ, zero, suc, ◌+◌, ◌-◌, ◌<◌, ◌≤◌, List, [], ◌∷◌, length, get_or, Contains, set, refl, sym, ◌∙◌, ap, subst, arith}
+use Rattle.std.proofs.Common.{◌≡◌, ℕ, zero, suc, ◌+◌, ◌-◌, ◌<◌, List, [], ◌∷◌, length, get_or, Contains, set, refl, sym, ◌∙◌, ap, subst, arith}
 use Rattle.std.proofs.lemmas.List.Elements.{Contains-get_or}
 use Rattle.tt_game.specs.Turns.{legal_turns}
 use Rattle.tt_sgf.specs.declared.size.Size.{Size}
@@ -28,14 +28,16 @@ lengths f s [] (tree ∷ trees) h = absurd h
 lengths f s (t ∷ turns) [] h = absurd h
 lengths f s (t ∷ turns) (tree ∷ trees) h = ap suc (lengths f s turns trees h.1)
 
-pub partial_at : (f : Frame) (s : State) (turns : List Turn) (trees : List PartialTree) (i : ℕ) (t : Turn) (d : PartialTree) → ArePartialTrees f s turns (children_of trees) → i < length trees → IsPartialTree f (after f s (get_or turns i t)) (get_or trees i d)
+pub partial_at : (f : Frame) (s : State) (turns : List Turn) (trees : List PartialTree) (i : ℕ) (t : Turn) (d : PartialTree) → ArePartialTrees f s turns (children_of trees)
+    → i < length trees → IsPartialTree f (after f s (get_or turns i t)) (get_or trees i d)
 partial_at f s [] [] i t d h l = absurd (omega arith)
 partial_at f s [] (tree ∷ trees) i t d h l = absurd h
 partial_at f s (u ∷ turns) [] i t d h l = absurd h
 partial_at f s (u ∷ turns) (tree ∷ trees) zero t d h l = h.0
 partial_at f s (u ∷ turns) (tree ∷ trees) (suc i) t d h l = partial_at f s turns trees i t d h.1 (omega arith)
 
-state_at : (f : Frame) (s : State) (turns : List Turn) (trees : List PartialTree) (i : ℕ) (t : Turn) (d : PartialTree) → length turns ≡ length trees → i < length trees → state_below f s turns i (children_of trees) ≡ most_proving_state f (after f s (get_or turns i t)) (get_or trees i d)
+state_at : (f : Frame) (s : State) (turns : List Turn) (trees : List PartialTree) (i : ℕ) (t : Turn) (d : PartialTree) → length turns ≡ length trees → i < length trees
+    → state_below f s turns i (children_of trees) ≡ most_proving_state f (after f s (get_or turns i t)) (get_or trees i d)
 state_at f s [] [] i t d h l = absurd (omega arith)
 state_at f s [] (tree ∷ trees) i t d h l = absurd (omega arith)
 state_at f s (u ∷ turns) [] i t d h l = absurd (omega arith)
@@ -47,7 +49,8 @@ depth_at [] i d l = absurd (omega arith)
 depth_at (tree ∷ trees) zero d l = refl
 depth_at (tree ∷ trees) (suc i) d l = depth_at trees i d (omega arith)
 
-put_at : (leaf : PartialTree) (trees : List PartialTree) (i : ℕ) (d : PartialTree) → i < length trees → with_below leaf i (children_of trees) ≡ children_of (set trees i (with_most_proving leaf (get_or trees i d)))
+put_at : (leaf : PartialTree) (trees : List PartialTree) (i : ℕ) (d : PartialTree) → i < length trees
+    → with_below leaf i (children_of trees) ≡ children_of (set trees i (with_most_proving leaf (get_or trees i d)))
 put_at leaf [] i d l = absurd (omega arith)
 put_at leaf (tree ∷ trees) zero d l = refl
 put_at leaf (tree ∷ trees) (suc i) d l = ap (more tree) (put_at leaf trees i d (omega arith))
@@ -68,7 +71,8 @@ weight_at (tree ∷ trees) zero d l = omega arith
 weight_at (tree ∷ trees) (suc i) d l = omega (arith, weight_at trees i d (omega arith))
 
 -- what a step does at the best child, it does at the node
-module _ (at : Stand) (mover : Side) (turns : List Turn) (trees : List PartialTree) (t : Turn) (d : PartialTree) (same : length turns ≡ length trees) (there : best mover (children_of trees) < length trees) where
+module _ (at : Stand) (mover : Side) (turns : List Turn) (trees : List PartialTree) (t : Turn) (d : PartialTree) (same : length turns ≡ length trees)
+    (there : best mover (children_of trees) < length trees) where
   abbrev pub node : PartialTree
   node = expanded mover turns (children_of trees)
 
@@ -95,7 +99,8 @@ module _ (at : Stand) (mover : Side) (turns : List Turn) (trees : List PartialTr
       ap (λ n. expanded mover turns (children_of (set trees place n))) e
       ∙ ap (λ ts. expanded mover turns (children_of ts)) (set_at trees place d there)
 
-  pub lifted : (left : ℕ) (step : Step) (new : PartialTree) → 0 < at.room → Taken below (stage child left) step new → Taken at (stage node left) step (expanded mover turns (children_of (set trees place new)))
+  pub lifted : (left : ℕ) (step : Step) (new : PartialTree) → 0 < at.room → Taken below (stage child left) step new
+      → Taken at (stage node left) step (expanded mover turns (children_of (set trees place new)))
   lifted left Expanded new pos h = (
     h.0,
     (

@@ -1,5 +1,6 @@
 -- One more proof in a store, and what its index says.
-use Rattle.std.proofs.Common.{rules, ◌≡◌, ℕ, ◌<◌, Bool, true, false, cond, List, [], ◌∷◌, ◌++◌, length, get_or, Option, Some, None, MatchOption, IfSome, slice_get, reverse, map, Result, Ok, Err, IsOk, OnOk, inl, inr, refl, sym, ap, ◌∙◌, subst, arith, length-append}
+use Rattle.std.proofs.Common.{rules, ◌≡◌, ℕ, ◌<◌, Bool, true, false, cond, List, [], ◌∷◌, ◌++◌, length, get_or, Option, Some, None, MatchOption, IfSome, slice_get, reverse, map}
+use Rattle.std.proofs.Common.{Result, Ok, Err, IsOk, OnOk, inl, inr, refl, sym, ap, ◌∙◌, subst, arith, length-append}
 use Rattle.std.proofs.lemmas.Option.{slice_get_within, slice_get-get_or, get_or_from_slice_get}
 use Rattle.std.proofs.lemmas.List.{map-append, reverse-append}
 use Rattle.std.proofs.lemmas.Bool.{false≢true, and_parts}
@@ -53,7 +54,8 @@ nothing : {X : Type 0} (xs : List X) (i : ℕ) → i < length xs → slice_get x
 nothing [] i h is = omega (arith, h)
 nothing (x ∷ xs) i h is = let s = slice_get-get_or (x ∷ xs) i x h in cc
 
-stays : (q : Ask) (o : Option ℕ) (ps : List Proven) (p : Proven) (r : Option Proven) → newest_of q (reverse (ps ++ p ∷ [])) ≡ newest_of q (reverse ps) → newest_of q (reverse ps) ≡ r → Has q o ps → Has q o (ps ++ p ∷ [])
+stays : (q : Ask) (o : Option ℕ) (ps : List Proven) (p : Proven) (r : Option Proven) → newest_of q (reverse (ps ++ p ∷ [])) ≡ newest_of q (reverse ps)
+    → newest_of q (reverse ps) ≡ r → Has q o ps → Has q o (ps ++ p ∷ [])
 stays q None ps p r same is was = same ∙ was
 stays q (Some i) ps p None same is was = (omega (arith, was.0, length-append ps (p ∷ [])), absurd (nothing ps i was.0 (was.1 ∙ is)))
 stays q (Some i) ps p (Some x) same is was = (omega (arith, was.0, length-append ps (p ∷ [])), get-front ps p i x (was.1 ∙ is) ∙ (sym is ∙ sym same))
@@ -67,7 +69,8 @@ has_more q o new ps p true same is was =
 has_more q o new ps p false same is was =
     subst (λ x. Has q x (ps ++ p ∷ [])) (sym is) (stays q o ps p (newest_of q (reverse ps)) (newest_more q ps p false same) refl was)
 
-pub index_more : {S : Type 0} (m n : HashMap Ask ℕ S) (ps : List Proven) (p : Proven) (a : Ask) → a ≡ ask_of p → IsIndex m ps → ((q : Ask) → get same_ask n q ≡ cond (same_ask a q) (Some (length ps)) (get same_ask m q)) → IsIndex n (ps ++ p ∷ [])
+pub index_more : {S : Type 0} (m n : HashMap Ask ℕ S) (ps : List Proven) (p : Proven) (a : Ask) → a ≡ ask_of p → IsIndex m ps
+    → ((q : Ask) → get same_ask n q ≡ cond (same_ask a q) (Some (length ps)) (get same_ask m q)) → IsIndex n (ps ++ p ∷ [])
 index_more m n ps p a same was step q =
     let s : same_ask a q ≡ same_ask q (ask_of p) = same_ask_equiv.symm a q ∙ ap (λ (x : Ask). same_ask q x) same in
     has_more q (get same_ask m q) (get same_ask n q) ps p (same_ask q (ask_of p)) refl (step q ∙ ap (λ (b : Bool). cond b (Some (length ps)) (get same_ask m q)) s) (was q)
@@ -95,7 +98,8 @@ answers line side p e =
 asked : (line : Standing) (side : Side) (p : Proven) → IsAnswer line side p → same_ask (ask_at line side) (ask_of p) ≡ true
 asked line side p a = same_ask_is (ask_at line side) (ask_of p) (rw (a.same_key, a.for_side) refl)
 
-newest_step : (line : Standing) (side : Side) (p : Proven) (ps : List Proven) (b : Bool) → same_ask (ask_at line side) (ask_of p) ≡ b → IsNewest line side ps (newest_of (ask_at line side) ps) → IsNewest line side (p ∷ ps) (cond b (Some p) (newest_of (ask_at line side) ps))
+newest_step : (line : Standing) (side : Side) (p : Proven) (ps : List Proven) (b : Bool) → same_ask (ask_at line side) (ask_of p) ≡ b
+    → IsNewest line side ps (newest_of (ask_at line side) ps) → IsNewest line side (p ∷ ps) (cond b (Some p) (newest_of (ask_at line side) ps))
 newest_step line side p ps true e h = inl (answers line side p e, refl)
 newest_step line side p ps false e h = inr (λ a. false≢true (sym e ∙ asked line side p a), h)
 
@@ -106,7 +110,8 @@ newest_is line side (p ∷ ps) = newest_step line side p ps (same_ask (ask_at li
 pub is_newest : (line : Standing) (side : Side) (q : Ask) (ps : List Proven) (o : Option Proven) → q ≡ ask_at line side → o ≡ newest_of q ps → IsNewest line side ps o
 is_newest line side q ps o a e = subst (IsNewest line side ps) (sym (e ∙ ap (λ x. newest_of x ps) a)) (newest_is line side ps)
 
-pub newest_answers : {X : Type 0} (value : X → Proven) (line : Standing) (side : Side) (ps : List Proven) (o : Option X) → IsNewest line side ps (option_map value o) → IfSome o (λ x. IsAnswer line side (value x))
+pub newest_answers : {X : Type 0} (value : X → Proven) (line : Standing) (side : Side) (ps : List Proven) (o : Option X) → IsNewest line side ps (option_map value o)
+    → IfSome o (λ x. IsAnswer line side (value x))
 newest_answers value line side ps None h = tt
 newest_answers value line side [] (Some x) h = absurd (grind (arith, h))
 newest_answers value line side (p ∷ ps) (Some x) (inl h) = let e : value x ≡ p = cc h.1 in subst (IsAnswer line side) (sym e) h.0

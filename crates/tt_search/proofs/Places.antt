@@ -47,7 +47,8 @@ drop_behind (Won side) n ts = refl
 drop_behind Grown n [] = drop_none (suc n) ∙ sym (drop_none n)
 drop_behind Grown n (t ∷ ts) = refl
 
-pub tree_at_place : (es : List Edge) (ts : List PartialTree) (i : ℕ) (e : Edge) (d : PartialTree) → i < length es → get_or (trees_of es ts) i d ≡ tree_of (mark_of (get_or es i e)) (drop (grown_in (take i es)) ts)
+pub tree_at_place : (es : List Edge) (ts : List PartialTree) (i : ℕ) (e : Edge) (d : PartialTree) → i < length es
+    → get_or (trees_of es ts) i d ≡ tree_of (mark_of (get_or es i e)) (drop (grown_in (take i es)) ts)
 tree_at_place [] ts i e d l = absurd (omega arith)
 tree_at_place (x ∷ es) ts zero e d l = refl
 tree_at_place (x ∷ es) ts (suc i) e d l =
@@ -106,20 +107,23 @@ tree_of_node [] n d l = absurd (omega arith)
 tree_of_node (t ∷ ts) zero d l = refl
 tree_of_node (t ∷ ts) (suc n) d l = tree_of_node ts n d (omega arith)
 
-pub grown_at_place : (es : List Edge) (ts : List PartialTree) (i : ℕ) (e : Edge) (d : PartialTree) → i < length es → mark_of (get_or es i e) ≡ Grown → grown_in es ≡ length ts → get_or (trees_of es ts) i d ≡ get_or ts (grown_in (take i es)) d
+pub grown_at_place : (es : List Edge) (ts : List PartialTree) (i : ℕ) (e : Edge) (d : PartialTree) → i < length es → mark_of (get_or es i e) ≡ Grown → grown_in es ≡ length ts
+    → get_or (trees_of es ts) i d ≡ get_or ts (grown_in (take i es)) d
 grown_at_place es ts i e d l m w =
     tree_at_place es ts i e d l
     ∙ ap (λ k. tree_of k (drop (grown_in (take i es)) ts)) m
     ∙ tree_of_node ts (grown_in (take i es)) d (omega (arith, rank_there es i e l m, w))
 
-pub tree_here : (es : List Edge) (ts us : List PartialTree) (i n : ℕ) (e : Edge) → i < length es → n ≡ grown_in (take i es) → us ≡ drop n ts → get_or (trees_of es ts) i (tree_of (mark_of (get_or es i e)) us) ≡ tree_of (mark_of (get_or es i e)) us
+pub tree_here : (es : List Edge) (ts us : List PartialTree) (i n : ℕ) (e : Edge) → i < length es → n ≡ grown_in (take i es) → us ≡ drop n ts
+    → get_or (trees_of es ts) i (tree_of (mark_of (get_or es i e)) us) ≡ tree_of (mark_of (get_or es i e)) us
 tree_here es ts us i n e l r d =
     tree_at_place es ts i e (tree_of (mark_of (get_or es i e)) us) l
     ∙ ap (tree_of (mark_of (get_or es i e))) (sym (d ∙ ap (λ k. drop k ts) r))
 
 -- ---- a child that has grown grows on
 
-set_here : (m : Mark) (es : List Edge) (ts : List PartialTree) (tree : PartialTree) → m ≡ Grown → 0 < length ts → tree_of m (set ts 0 tree) ∷ trees_of es (grown_behind m (set ts 0 tree)) ≡ tree ∷ trees_of es (grown_behind m ts)
+set_here : (m : Mark) (es : List Edge) (ts : List PartialTree) (tree : PartialTree) → m ≡ Grown → 0 < length ts
+    → tree_of m (set ts 0 tree) ∷ trees_of es (grown_behind m (set ts 0 tree)) ≡ tree ∷ trees_of es (grown_behind m ts)
 set_here Fresh es ts tree g l = cc
 set_here (Won side) es ts tree g l = cc
 set_here Grown es [] tree g l = absurd (omega arith)
@@ -143,7 +147,8 @@ length_behind (Won side) n ts l = l
 length_behind Grown n [] l = absurd (omega (arith, l))
 length_behind Grown n (t ∷ ts) l = omega (arith, l)
 
-pub grown_on : (es : List Edge) (ts : List PartialTree) (i : ℕ) (e : Edge) (tree : PartialTree) → i < length es → mark_of (get_or es i e) ≡ Grown → grown_in (take i es) < length ts → trees_of es (set ts (grown_in (take i es)) tree) ≡ set (trees_of es ts) i tree
+pub grown_on : (es : List Edge) (ts : List PartialTree) (i : ℕ) (e : Edge) (tree : PartialTree) → i < length es → mark_of (get_or es i e) ≡ Grown → grown_in (take i es) < length ts
+    → trees_of es (set ts (grown_in (take i es)) tree) ≡ set (trees_of es ts) i tree
 grown_on [] ts i e tree l m r = absurd (omega arith)
 grown_on (x ∷ es) ts zero e tree l m r = set_here (mark_of x) es ts tree m r
 grown_on (x ∷ es) ts (suc i) e tree l m r =
@@ -185,7 +190,8 @@ insert_first (Won side) n ts tree l = refl
 insert_first Grown n [] tree l = absurd (omega (arith, l))
 insert_first Grown n (t ∷ ts) tree l = refl
 
-insert_behind : (m : Mark) (n : ℕ) (ts : List PartialTree) (tree : PartialTree) → counted m n ≤ length ts → grown_behind m (take (counted m n) ts ++ tree ∷ drop (counted m n) ts) ≡ take n (grown_behind m ts) ++ tree ∷ drop n (grown_behind m ts)
+insert_behind : (m : Mark) (n : ℕ) (ts : List PartialTree) (tree : PartialTree) → counted m n ≤ length ts
+    → grown_behind m (take (counted m n) ts ++ tree ∷ drop (counted m n) ts) ≡ take n (grown_behind m ts) ++ tree ∷ drop n (grown_behind m ts)
 insert_behind Fresh n ts tree l = refl
 insert_behind (Won side) n ts tree l = refl
 insert_behind Grown n [] tree l = absurd (omega (arith, l))
@@ -197,7 +203,8 @@ most_behind (Won side) n ts l = l
 most_behind Grown n [] l = absurd (omega (arith, l))
 most_behind Grown n (t ∷ ts) l = omega (arith, l)
 
-pub sprouted : (es : List Edge) (ts : List PartialTree) (i : ℕ) (e : Edge) (tree : PartialTree) → IsFreshAt i es → mark_of e ≡ Grown → grown_in (take i es) ≤ length ts → trees_of (set es i e) (take (grown_in (take i es)) ts ++ tree ∷ drop (grown_in (take i es)) ts) ≡ set (trees_of es ts) i tree
+pub sprouted : (es : List Edge) (ts : List PartialTree) (i : ℕ) (e : Edge) (tree : PartialTree) → IsFreshAt i es → mark_of e ≡ Grown → grown_in (take i es) ≤ length ts
+    → trees_of (set es i e) (take (grown_in (take i es)) ts ++ tree ∷ drop (grown_in (take i es)) ts) ≡ set (trees_of es ts) i tree
 sprouted [] ts i e tree h g r = absurd h
 sprouted (x ∷ es) ts zero e tree h g r =
     ap (λ m. tree_of m (tree ∷ ts) ∷ trees_of es (grown_behind m (tree ∷ ts))) g
@@ -228,13 +235,18 @@ grown_push (x ∷ es) e h = ap (counted (mark_of x)) (grown_push es e h)
 
 -- ---- replies, edge by edge
 
-pub replied_step : (side : Side) (es : List Edge) (rest : List PartialTree) (i : ℕ) (e : Edge) → i < length es → replies side (turns_of (drop i es)) (children_of (trees_of (drop i es) rest)) ≡ entry (turn_of (get_or es i e)) (strategy_for side (tree_of (mark_of (get_or es i e)) rest)) (replies side (turns_of (drop (i + 1) es)) (children_of (trees_of (drop (i + 1) es) (grown_behind (mark_of (get_or es i e)) rest))))
+pub replied_step : (side : Side) (es : List Edge) (rest : List PartialTree) (i : ℕ) (e : Edge) → i < length es
+    → replies side (turns_of (drop i es)) (children_of (trees_of (drop i es) rest)) ≡ entry (turn_of (get_or es i e)) (strategy_for side (tree_of (mark_of (get_or es i e)) rest))
+    (replies side (turns_of (drop (i + 1) es)) (children_of (trees_of (drop (i + 1) es) (grown_behind (mark_of (get_or es i e)) rest))))
 replied_step side es rest i e l = at_drop_more (λ xs. replies side (turns_of xs) (children_of (trees_of xs rest))) es i e l
 
-pub weight_step : (es : List Edge) (rest : List PartialTree) (i : ℕ) (e : Edge) → i < length es → weight_all (children_of (trees_of (drop i es) rest)) ≡ weight (tree_of (mark_of (get_or es i e)) rest) + 1 + weight_all (children_of (trees_of (drop (i + 1) es) (grown_behind (mark_of (get_or es i e)) rest)))
+pub weight_step : (es : List Edge) (rest : List PartialTree) (i : ℕ) (e : Edge) → i < length es
+    → weight_all (children_of (trees_of (drop i es) rest)) ≡ weight (tree_of (mark_of (get_or es i e)) rest) + 1 + weight_all
+    (children_of (trees_of (drop (i + 1) es) (grown_behind (mark_of (get_or es i e)) rest)))
 weight_step es rest i e l = at_drop_more (λ xs. weight_all (children_of (trees_of xs rest))) es i e l
 
-pub lighter_here : (es : List Edge) (ts us : List PartialTree) (i n : ℕ) (e : Edge) → i < length es → n ≡ grown_in (take i es) → us ≡ drop n ts → weight (tree_of (mark_of (get_or es i e)) us) < weight_all (children_of (trees_of es ts))
+pub lighter_here : (es : List Edge) (ts us : List PartialTree) (i n : ℕ) (e : Edge) → i < length es → n ≡ grown_in (take i es) → us ≡ drop n ts
+    → weight (tree_of (mark_of (get_or es i e)) us) < weight_all (children_of (trees_of es ts))
 lighter_here es ts us i n e l r d =
     let tree : PartialTree = tree_of (mark_of (get_or es i e)) us in
     let at = tree_here es ts us i n e l r d in

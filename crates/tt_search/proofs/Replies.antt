@@ -27,13 +27,15 @@ joined_push (y ∷ ys) x es = ap (entry y.0 y.1) (joined_push ys x es)
 abbrev pub replies_from : Side → List Turn → List PartialTree → ℕ → Entries
 replies_from side turns trees i = replies side (drop i turns) (children_of (drop i trees))
 
-replies_next : (side : Side) (turns : List Turn) (trees : List PartialTree) (i : ℕ) (t : Turn) (d : PartialTree) → i < length turns → i < length trees → replies_from side turns trees i ≡ entry (get_or turns i t) (strategy_for side (get_or trees i d)) (replies_from side turns trees (suc i))
+replies_next : (side : Side) (turns : List Turn) (trees : List PartialTree) (i : ℕ) (t : Turn) (d : PartialTree) → i < length turns → i < length trees
+    → replies_from side turns trees i ≡ entry (get_or turns i t) (strategy_for side (get_or trees i d)) (replies_from side turns trees (suc i))
 replies_next side [] trees i t d l k = absurd (omega arith)
 replies_next side (u ∷ us) [] i t d l k = absurd (omega arith)
 replies_next side (u ∷ us) (tree ∷ trees) zero t d l k = refl
 replies_next side (u ∷ us) (tree ∷ trees) (suc i) t d l k = replies_next side us trees i t d (omega arith) (omega arith)
 
-replies_more : (side : Side) (turns : List Turn) (trees : List PartialTree) (i : ℕ) (t : Turn) (d : PartialTree) → i < length turns → i < length trees → replies_from side turns trees i ≡ entry (get_or turns i t) (strategy_for side (get_or trees i d)) (replies_from side turns trees (i + 1))
+replies_more : (side : Side) (turns : List Turn) (trees : List PartialTree) (i : ℕ) (t : Turn) (d : PartialTree) → i < length turns → i < length trees
+    → replies_from side turns trees i ≡ entry (get_or turns i t) (strategy_for side (get_or trees i d)) (replies_from side turns trees (i + 1))
 replies_more side turns trees i t d l k = rw add-one (replies_next side turns trees i t d l k)
 
 no_turns : (side : Side) (trees : List PartialTree) → replies side [] (children_of trees) ≡ none
@@ -49,7 +51,8 @@ replies_past_turns side turns trees i l = rw (drop_all i turns l) (no_turns side
 pub replies_past_trees : (side : Side) (turns : List Turn) (trees : List PartialTree) (i : ℕ) → length trees ≤ i → replies_from side turns trees i ≡ none
 replies_past_trees side turns trees i l = rw (drop_all i trees l) (no_trees side (drop i turns))
 
-pub pick_at_place : (side : Side) (turns : List Turn) (trees : List PartialTree) (i : ℕ) (t : Turn) (d : PartialTree) → i < length turns → i < length trees → pick_at side i turns (children_of trees) ≡ pick (get_or turns i t) (strategy_for side (get_or trees i d))
+pub pick_at_place : (side : Side) (turns : List Turn) (trees : List PartialTree) (i : ℕ) (t : Turn) (d : PartialTree) → i < length turns → i < length trees
+    → pick_at side i turns (children_of trees) ≡ pick (get_or turns i t) (strategy_for side (get_or trees i d))
 pick_at_place side [] trees i t d l k = absurd (omega arith)
 pick_at_place side (u ∷ us) [] i t d l k = absurd (omega arith)
 pick_at_place side (u ∷ us) (tree ∷ trees) zero t d l k = refl
@@ -70,7 +73,8 @@ pick_past_trees side (u ∷ us) (tree ∷ trees) (suc i) l = pick_past_trees sid
 -- ---- what the loops and calls say
 
 module _ (side : Side) (turns : List Turn) (trees : List PartialTree) where
-  pub picked : (i : ℕ) (t : Turn) (child : PartialTree) (u : Strategy) → t ≡ get_or turns i t → child ≡ get_or trees i child → u ≡ strategy_for side child → i < length turns → i < length trees → pick t u ≡ pick_at side i turns (children_of trees)
+  pub picked : (i : ℕ) (t : Turn) (child : PartialTree) (u : Strategy) → t ≡ get_or turns i t → child ≡ get_or trees i child → u ≡ strategy_for side child → i < length turns
+      → i < length trees → pick t u ≡ pick_at side i turns (children_of trees)
   picked i t child u a b s l k =
       ap (pick t) (s ∙ ap (strategy_for side) b) ∙ ap (λ v. pick v (strategy_for side (get_or trees i child))) a ∙ sym (pick_at_place side turns trees i t child l k)
 

@@ -2,13 +2,12 @@
 use Rattle.std.proofs.Common.{◌≡◌, ℕ, zero, suc, ◌<◌, ◌≤◌, List, [], ◌∷◌, None, length, get_or, set, take, drop, insert, refl, sym, ◌∙◌, ap, subst, arith}
 use Rattle.tt_game.specs.declared.frame.Side.{Side}
 use Rattle.tt_game.specs.Game.{winner_of}
-use Rattle.tt_game.specs.Line.{Standing}
 use Rattle.tt_search.specs.PartialTree.{PartialTree, fresh}
 use Rattle.tt_search.specs.Numbers.{IsUndecided}
 use Rattle.tt_search.specs.Edges.{turn_of, mark_of, turns_of, trees_of, tree_of, grown_in, child_at}
 use Rattle.tt_search.specs.Shape.{HasItsNodes}
-use Rattle.tt_search.specs.Walking.{Stand, Stage, stage, stand_of}
-use Rattle.tt_search.specs.Taken.{Taken, IsLeft}
+use Rattle.tt_search.specs.Walking.{Stand, stage, stand_of}
+use Rattle.tt_search.specs.Taken.{Taken}
 use Rattle.tt_search.specs.Steady.{AreStepsAt}
 use Rattle.tt_search.specs.Sprouting.{IsFreshAt, child_of, IsPut, Sprouts, StepsBelowAt, StepsBelow}
 use Rattle.tt_search.specs.declared.edges.Edge.{Edge}
@@ -40,7 +39,8 @@ put_nothing place x y there mover edges row = record {
 }
 
 -- where the step is stuck, nothing changes
-pub stays_fresh : (walk after : Walk) (place : ℕ) (x : Expansion) (step : Step) (reason : Reason) (tree : PartialTree) → IsFreshAt place x.edges.items → after ≡ walk → Taken (stand_of walk) (stage fresh walk.left) step tree → step ≡ Stuck reason → Sprouts walk place x (Stuck reason) x after
+pub stays_fresh : (walk after : Walk) (place : ℕ) (x : Expansion) (step : Step) (reason : Reason) (tree : PartialTree) → IsFreshAt place x.edges.items → after ≡ walk
+    → Taken (stand_of walk) (stage fresh walk.left) step tree → step ≡ Stuck reason → Sprouts walk place x (Stuck reason) x after
 stays_fresh walk after place x step reason tree there same h e = (
   fresh,
   stuck_fresh (stand_of walk) walk.left reason tree (subst (λ s. Taken (stand_of walk) (stage fresh walk.left) s tree) e h),
@@ -49,18 +49,21 @@ stays_fresh walk after place x step reason tree there same h e = (
 )
 
 -- nor where there is no memory for the node
-pub stays_for_memory : (walk after : Walk) (place : ℕ) (x y : Expansion) → IsFreshAt place x.edges.items → after ≡ walk → y.mover ≡ x.mover → y.edges.items ≡ x.edges.items → y.grown.items ≡ x.grown.items → Sprouts walk place x (Stuck Memory) y after
+pub stays_for_memory : (walk after : Walk) (place : ℕ) (x y : Expansion) → IsFreshAt place x.edges.items → after ≡ walk → y.mover ≡ x.mover → y.edges.items ≡ x.edges.items
+    → y.grown.items ≡ x.grown.items → Sprouts walk place x (Stuck Memory) y after
 stays_for_memory walk after place x y there same mover edges row =
     (fresh, refl, ap (λ (w : Walk). w.left) (sym same), put_nothing place x y there mover edges row)
 
 -- the tree of an expanded leaf may be offered
-pub leaf_offerable : (walk after : Walk) (step : Step) (new : PartialTree) → after ≡ walk → winner_of walk.line.frame walk.line.state ≡ None → step ≡ Expanded → Taken (stand_of walk) (stage fresh walk.left) step new → IsOfferable after.line new
+pub leaf_offerable : (walk after : Walk) (step : Step) (new : PartialTree) → after ≡ walk → winner_of walk.line.frame walk.line.state ≡ None → step ≡ Expanded
+    → Taken (stand_of walk) (stage fresh walk.left) step new → IsOfferable after.line new
 leaf_offerable walk after step new e nobody is h =
     let expands = subst (λ x. Taken (stand_of walk) (stage fresh walk.left) x new) is h in
     subst (λ (w : Walk). IsOfferable w.line new) (sym e) (expansion_offerable walk.line new nobody expands.1.1)
 
 -- the new node stands among those that have grown, and its edge says so
-module _ (x y : Expansion) (place rank : ℕ) (d e : Edge) (tree : PartialTree) (there : IsFreshAt place x.edges.items) (whole : HasItsNodes x) (r : rank ≡ grown_in (take place x.edges.items)) (mark : mark_of e ≡ Grown) (edges : y.edges.items ≡ set x.edges.items place e) (row : y.grown.items ≡ insert x.grown.items rank tree) where
+module _ (x y : Expansion) (place rank : ℕ) (d e : Edge) (tree : PartialTree) (there : IsFreshAt place x.edges.items) (whole : HasItsNodes x)
+    (r : rank ≡ grown_in (take place x.edges.items)) (mark : mark_of e ≡ Grown) (edges : y.edges.items ≡ set x.edges.items place e) (row : y.grown.items ≡ insert x.grown.items rank tree) where
   in_nodes : rank ≤ length x.grown.items
   in_nodes = omega (arith, r, rank_within x.edges.items place, whole)
 
@@ -124,7 +127,8 @@ any_default (t ∷ ts) zero a b l = refl
 any_default (t ∷ ts) (suc i) a b l = any_default ts i a b (omega arith)
 
 -- the node of a child that has grown
-module _ (x : Expansion) (i rank : ℕ) (e : Edge) (node : PartialTree) (l : i < length x.edges.items) (is : e ≡ get_or x.edges.items i e) (whole : HasItsNodes x) (mark : Grown ≡ mark_of e) (r : rank ≡ grown_in (take i x.edges.items)) where
+module _ (x : Expansion) (i rank : ℕ) (e : Edge) (node : PartialTree) (l : i < length x.edges.items) (is : e ≡ get_or x.edges.items i e) (whole : HasItsNodes x)
+    (mark : Grown ≡ mark_of e) (r : rank ≡ grown_in (take i x.edges.items)) where
   pub rank_within_nodes : rank < length x.grown.items
   rank_within_nodes = omega (arith, r, grown_here x.edges.items x.grown.items i e l is whole (sym mark))
 
@@ -136,7 +140,9 @@ module _ (x : Expansion) (i rank : ℕ) (e : Edge) (node : PartialTree) (l : i <
       ∙ sym n
 
   -- steps of the node are steps of the child
-  pub node_steps : (pace : Pace) (at : Stand) (left : ℕ) (step : Step) (new : PartialTree) (left_after : ℕ) (y : Expansion) → y.mover ≡ x.mover → y.edges.items ≡ x.edges.items → y.grown.items ≡ set x.grown.items rank new → node ≡ get_or x.grown.items rank node → AreStepsAt pace at (stage node left) step (stage new left_after) → StepsBelowAt pace at i x left step y left_after
+  pub node_steps : (pace : Pace) (at : Stand) (left : ℕ) (step : Step) (new : PartialTree) (left_after : ℕ) (y : Expansion) → y.mover ≡ x.mover → y.edges.items ≡ x.edges.items
+      → y.grown.items ≡ set x.grown.items rank new → node ≡ get_or x.grown.items rank node → AreStepsAt pace at (stage node left) step (stage new left_after)
+      → StepsBelowAt pace at i x left step y left_after
   node_steps pace at left step new left_after y mover edges row n k = (
     new,
     subst (λ t. AreStepsAt pace at (stage t left) step (stage new left_after)) (sym (child_node n)) k,
@@ -145,12 +151,14 @@ module _ (x : Expansion) (i rank : ℕ) (e : Edge) (node : PartialTree) (l : i <
       turns = rw edges refl;
       trees =
           rw (edges, row)
-          (subst (λ q. trees_of x.edges.items (set x.grown.items q new) ≡ set (trees_of x.edges.items x.grown.items) i new) (sym r) (grown_put x.edges.items x.grown.items i e l is whole (sym mark) new));
+          (subst (λ q. trees_of x.edges.items (set x.grown.items q new) ≡ set (trees_of x.edges.items x.grown.items) i new) (sym r)
+              (grown_put x.edges.items x.grown.items i e l is whole (sym mark) new));
     },
   )
 
 -- a step at a fresh child is one of its steps
-pub one_step : (pace : Pace) (walk : Walk) (place : ℕ) (x : Expansion) (step : Step) (y : Expansion) (after : Walk) → child_of x place ≡ fresh → Sprouts walk place x step y after → StepsBelow pace walk place x step y after
+pub one_step : (pace : Pace) (walk : Walk) (place : ℕ) (x : Expansion) (step : Step) (y : Expansion) (after : Walk) → child_of x place ≡ fresh → Sprouts walk place x step y after
+    → StepsBelow pace walk place x step y after
 one_step pace walk place x step y after c (tree, taken, counted, put) = (
   tree,
   subst (λ t. AreStepsAt pace (stand_of walk) (stage t walk.left) step (stage tree after.left)) (sym c) (record {

@@ -1,5 +1,5 @@
 -- Steps that keep the numbers of a node's best child keep those of the node, and it stays the best child.
-use Rattle.std.proofs.Common.{◌≡◌, ◌≢◌, ◌↔◌, ℕ, zero, suc, ◌+◌, ◌-◌, ◌*◌, ◌<◌, ◌≤◌, ◌⊎◌, inl, inr, Bool, true, false, List, [], ◌∷◌, length, get_or, set, refl, sym, ◌∙◌, ap, subst, arith}
+use Rattle.std.proofs.Common.{◌≡◌, ◌≢◌, ◌↔◌, ℕ, zero, suc, ◌+◌, ◌*◌, ◌<◌, ◌≤◌, ◌⊎◌, inl, inr, Bool, true, false, List, [], ◌∷◌, length, get_or, set, refl, sym, ◌∙◌, ap, subst, arith}
 use Rattle.std.proofs.lemmas.List.{length-set, get_or-set_same, set-get_or}
 use Rattle.tt_game.specs.declared.frame.Side.{Side}
 use Rattle.tt_game.specs.declared.frame.Side.TheVariants.{Attacker, Defender}
@@ -17,8 +17,7 @@ use Rattle.tt_search.specs.declared.limits.Step.TheVariants.{Expanded, Closed}
 use Rattle.tt_search.specs.declared.walk.Pace.{Pace}
 use Rattle.tt_search.specs.declared.walk.Pace.TheVariants.{OneStep}
 use Rattle.tt_search.specs.declared.walk.Walk.{Walk}
-use Rattle.tt_search.proofs.Lifted.{lengths, lifted}
-use Rattle.tt_search.proofs.Best.{best_child}
+use Rattle.tt_search.proofs.Lifted.{lifted}
 use Rattle.tt_search.proofs.Steps.{taken_keeps, counted_expanded, counted_closed, IsTreeWithin, IsOfferable, offerable}
 use Rattle.tt_search.proofs.Open.{open_leaves, falls_expanded, falls_closed}
 
@@ -132,7 +131,8 @@ module _ (pace : Pace) (at : Stand) (old now : Stage) (step : Step) (new : Stage
   )
 
   -- and the rounds are under way
-  pub next_round : (once : Bool) → (once ≡ true) ↔ (pace ≡ OneStep) → once ≡ false → IsUnderWay pace at old now → (step ≡ Expanded) ⊎ (step ≡ Closed) → HaveSameNumbers now.tree new.tree → IsUnderWay pace at old new
+  pub next_round : (once : Bool) → (once ≡ true) ↔ (pace ≡ OneStep) → once ≡ false → IsUnderWay pace at old now → (step ≡ Expanded) ⊎ (step ≡ Closed)
+      → HaveSameNumbers now.tree new.tree → IsUnderWay pace at old new
   next_round once says more h changed same =
       let steady = round_steady changed same in
       record {
@@ -147,7 +147,8 @@ same_numbers a b p d Attacker = p
 same_numbers a b p d Defender = d
 
 -- what steps make of a tree may be offered
-pub steps_offerable : (pace : Pace) (line : Standing) (room : ℕ) (old : Stage) (step : Step) (new : Stage) → room ≤ 512 → MayGrow (stand line room) old.tree → AreStepsAt pace (stand line room) old step new → IsOfferable line new.tree
+pub steps_offerable : (pace : Pace) (line : Standing) (room : ℕ) (old : Stage) (step : Step) (new : Stage) → room ≤ 512 → MayGrow (stand line room) old.tree
+    → AreStepsAt pace (stand line room) old step new → IsOfferable line new.tree
 steps_offerable pace line room old step new l m k =
     offerable line room new.tree l (taken_keeps (stand line room) k.before step new.tree (steady_keeps k.how_many (stand line room) old k.before k.steady m) k.taken)
 
@@ -157,7 +158,8 @@ same_stand a b l r = ap (λ x. stand x a.room) l ∙ ap (stand b.line) r
 
 -- ---- from the best child to its node
 
-numbers_set : (goal : Side) (trees : List PartialTree) (i : ℕ) (d tree : PartialTree) → number goal tree ≡ number goal (get_or trees i d) → numbers goal (children_of (set trees i tree)) ≡ numbers goal (children_of trees)
+numbers_set : (goal : Side) (trees : List PartialTree) (i : ℕ) (d tree : PartialTree) → number goal tree ≡ number goal (get_or trees i d)
+    → numbers goal (children_of (set trees i tree)) ≡ numbers goal (children_of trees)
 numbers_set goal [] i d tree h = refl
 numbers_set goal (t ∷ trees) zero d tree h = ap (λ n. n ∷ numbers goal (children_of trees)) h
 numbers_set goal (t ∷ trees) (suc i) d tree h = ap (λ ns. number goal t ∷ ns) (numbers_set goal trees i d tree h)
@@ -167,7 +169,8 @@ set_twice [] i a b = refl
 set_twice (t ∷ trees) zero a b = refl
 set_twice (t ∷ trees) (suc i) a b = ap (λ ts. t ∷ ts) (set_twice trees i a b)
 
-module _ (at : Stand) (mover : Side) (turns : List Turn) (trees : List PartialTree) (t : Turn) (child : PartialTree) (p : ℕ) (place_is : p ≡ best mover (children_of trees)) (in_trees : p < length trees) (same : length turns ≡ length trees) (t_is : t ≡ get_or turns p t) (child_is : child ≡ get_or trees p child) (pos : 0 < at.room) where
+module _ (at : Stand) (mover : Side) (turns : List Turn) (trees : List PartialTree) (t : Turn) (child : PartialTree) (p : ℕ) (place_is : p ≡ best mover (children_of trees))
+    (in_trees : p < length trees) (same : length turns ≡ length trees) (t_is : t ≡ get_or turns p t) (child_is : child ≡ get_or trees p child) (pos : 0 < at.room) where
   -- the node with another tree in the place of its best child
   abbrev pub with_child : PartialTree → PartialTree
   with_child tree = expanded mover turns (children_of (set trees p tree))
@@ -193,7 +196,9 @@ module _ (at : Stand) (mover : Side) (turns : List Turn) (trees : List PartialTr
   numbers_are a b h k goal = ap (combined goal mover) (row_is b k goal ∙ sym (row_is a h goal))
 
   -- lifted, where the place of the best child is given by an equation
-  lifted_at : (now : Stage) (q : ℕ) → q ≡ p → (step : Step) (new : PartialTree) → (Taken (stand_after at (get_or turns q t)) (stage (get_or (set trees p now.tree) q child) now.left) step new → Taken at (with_stage now) step (expanded mover turns (children_of (set (set trees p now.tree) q new)))) → Taken below now step new → Taken at (with_stage now) step (with_child new)
+  lifted_at : (now : Stage) (q : ℕ) → q ≡ p → (step : Step) (new : PartialTree)
+      → (Taken (stand_after at (get_or turns q t)) (stage (get_or (set trees p now.tree) q child) now.left) step new
+      → Taken at (with_stage now) step (expanded mover turns (children_of (set (set trees p now.tree) q new)))) → Taken below now step new → Taken at (with_stage now) step (with_child new)
   lifted_at now q e step new lift h =
       subst (λ ts. Taken at (with_stage now) step (expanded mover turns (children_of ts))) (ap (λ r. set (set trees p now.tree) r new) e ∙ set_twice trees p now.tree new)
       (lift (subst (λ x. Taken (stand_after at x) (stage (get_or (set trees p now.tree) q child) now.left) step new) (t_is ∙ ap (λ r. get_or turns r t) (sym e))
@@ -222,7 +227,8 @@ module _ (at : Stand) (mover : Side) (turns : List Turn) (trees : List PartialTr
       )
 
   -- the steps of the best child are steps of the node
-  pub steps_lifted : (pace : Pace) (left : ℕ) (step : Step) (new : Stage) → AreStepsAt pace below (stage child left) step new → AreStepsAt pace at (stage (expanded mover turns (children_of trees)) left) step (with_stage new)
+  pub steps_lifted : (pace : Pace) (left : ℕ) (step : Step) (new : Stage) → AreStepsAt pace below (stage child left) step new
+      → AreStepsAt pace at (stage (expanded mover turns (children_of trees)) left) step (with_stage new)
   steps_lifted pace left step new k = record {
     how_many = k.how_many;
     before = with_stage k.before;

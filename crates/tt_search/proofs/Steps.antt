@@ -1,6 +1,5 @@
 -- A step keeps what is true of every search.
-use Rattle.std.proofs.Common.{◌≡◌, ◌≢◌, ℕ, suc, ◌+◌, ◌-◌, ◌≤◌, inl, inr, None, refl, sym, ap, subst, arith}
-use Rattle.tt_game.specs.declared.frame.Frame.{Frame}
+use Rattle.std.proofs.Common.{◌≡◌, ℕ, suc, ◌+◌, ◌-◌, ◌≤◌, inl, inr, None, sym, ap, subst, arith}
 use Rattle.tt_sgf.specs.declared.size.Size.{Size}
 use Rattle.tt_game.specs.Game.{State, winner_of}
 use Rattle.tt_game.specs.Line.{Standing}

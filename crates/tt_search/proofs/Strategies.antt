@@ -40,7 +40,9 @@ AreZero side (more tree children) = (number side tree ≡ 0) × AreZero side chi
 least_zero : (x y : ℕ) → min x y ≡ 0 → (x == 0) ≡ false → y ≡ 0
 least_zero x y e h = grind (arith, common_steps)
 
-zero_by_first : (side : Side) (tree : PartialTree) (children : Children) → least (numbers side (more tree children)) ≡ 0 → (least (numbers side children) ≡ 0 → IsZeroAt side (place 0 (numbers side children)) children) → (b : Bool) → (number side tree == 0) ≡ b → IsZeroAt side (place 0 (numbers side (more tree children))) (more tree children)
+zero_by_first : (side : Side) (tree : PartialTree) (children : Children) → least (numbers side (more tree children)) ≡ 0
+    → (least (numbers side children) ≡ 0 → IsZeroAt side (place 0 (numbers side children)) children) → (b : Bool) → (number side tree == 0) ≡ b
+    → IsZeroAt side (place 0 (numbers side (more tree children))) (more tree children)
 zero_by_first side tree children e below true q = rw q (grind (arith, common_steps))
 zero_by_first side tree children e below false q = rw (q, add-one) (below (least_zero (number side tree) (least (numbers side children)) e q))
 
@@ -83,7 +85,9 @@ same_is_same Defender Attacker e = cc
 same_is_same Defender Defender e = refl
 
 -- a node wins by its pick where the side is to move, and elsewhere by its replies
-by_mover : (side mover : Side) (f : Frame) (s : State) (first : Strategy) (all : Entries) → winner_of f s ≡ None → mover ≡ s.to_move → (is_same side mover ≡ true → Wins side f first s) → (is_same side mover ≡ false → (t : Turn) → IsLegal f s t → WinsBehind side f all t s) → Wins side f (picked_or_replied (is_same side mover) first all) s
+by_mover : (side mover : Side) (f : Frame) (s : State) (first : Strategy) (all : Entries) → winner_of f s ≡ None → mover ≡ s.to_move
+    → (is_same side mover ≡ true → Wins side f first s) → (is_same side mover ≡ false → (t : Turn) → IsLegal f s t → WinsBehind side f all t s)
+    → Wins side f (picked_or_replied (is_same side mover) first all) s
 by_mover Attacker Attacker f s first all w m own others = own refl
 by_mover Attacker Defender f s first all w m own others = (w, sym m, others refl)
 by_mover Defender Attacker f s first all w m own others = (w, sym m, others refl)
@@ -97,17 +101,21 @@ mutual
   wins side f s (closed winner strategy) p z = subst (λ w. Wins w f strategy s) (same_side side winner z) p
   wins side f s (expanded mover turns children) p z =
       by_mover side mover f s (pick_at side (best side children) turns children) (replies side turns children) p.0 p.1
-      (λ e. pick_wins side f s (best side children) turns children p.0 (sym p.1 ∙ same_is_same side mover e) (subst (AreLegal f s) (sym p.2) (are_legal f s)) p.3 (best_zero side children (own_zero side mover turns children e z)))
-      (λ e t l. replies_win side f s turns children t p.3 (all_zero side children (zero_sum (numbers side children) (other_zero side mover turns children e z))) (subst (IsIn t) (sym p.2) (is_in f s t l)))
+      (λ e. pick_wins side f s (best side children) turns children p.0 (sym p.1 ∙ same_is_same side mover e) (subst (AreLegal f s) (sym p.2) (are_legal f s)) p.3
+          (best_zero side children (own_zero side mover turns children e z)))
+      (λ e t l. replies_win side f s turns children t p.3 (all_zero side children (zero_sum (numbers side children) (other_zero side mover turns children e z)))
+          (subst (IsIn t) (sym p.2) (is_in f s t l)))
 
-  pick_wins : (side : Side) (f : Frame) (s : State) (i : ℕ) (turns : List Turn) (children : Children) → winner_of f s ≡ None → s.to_move ≡ side → AreLegal f s turns → ArePartialTrees f s turns children → IsZeroAt side i children → Wins side f (pick_at side i turns children) s
+  pick_wins : (side : Side) (f : Frame) (s : State) (i : ℕ) (turns : List Turn) (children : Children) → winner_of f s ≡ None → s.to_move ≡ side → AreLegal f s turns
+      → ArePartialTrees f s turns children → IsZeroAt side i children → Wins side f (pick_at side i turns children) s
   pick_wins side f s i [] no_more w m l p z = absurd z
   pick_wins side f s i [] (more tree children) w m l p z = absurd p
   pick_wins side f s i (t ∷ ts) no_more w m l p z = absurd p
   pick_wins side f s zero (t ∷ ts) (more tree children) w m l p z = (w, m, l.0, wins side f (after f s t) tree p.0 z)
   pick_wins side f s (suc i) (t ∷ ts) (more tree children) w m l p z = pick_wins side f s i ts children w m l.1 p.1 z
 
-  replies_win : (side : Side) (f : Frame) (s : State) (turns : List Turn) (children : Children) (t : Turn) → ArePartialTrees f s turns children → AreZero side children → IsIn t turns → WinsBehind side f (replies side turns children) t s
+  replies_win : (side : Side) (f : Frame) (s : State) (turns : List Turn) (children : Children) (t : Turn) → ArePartialTrees f s turns children → AreZero side children
+      → IsIn t turns → WinsBehind side f (replies side turns children) t s
   replies_win side f s [] children t p z in' = absurd in'
   replies_win side f s (u ∷ us) no_more t p z in' = absurd p
   replies_win side f s (u ∷ us) (more tree children) t p z (inl e) = inl (e, subst (λ x. Wins side f (strategy_for side tree) (after f s x)) e (wins side f (after f s u) tree p.0 z.0))
@@ -136,7 +144,8 @@ mutual
   pick_low side size room zero (t ∷ ts) (more tree children) h k = omega (arith, h, low side size (room - 1) tree k.0)
   pick_low side size room (suc i) (t ∷ ts) (more tree children) h k = pick_low side size room i ts children h k.1
 
-  replies_low : (side : Side) (size : Size) (room : ℕ) (turns : List Turn) (children : Children) → 0 < room → AllStayWithin size (room - 1) children → depth_of_entries (replies side turns children) ≤ room
+  replies_low : (side : Side) (size : Size) (room : ℕ) (turns : List Turn) (children : Children) → 0 < room → AllStayWithin size (room - 1) children
+      → depth_of_entries (replies side turns children) ≤ room
   replies_low side size room [] children h k = omega arith
   replies_low side size room (t ∷ ts) no_more h k = omega arith
   replies_low side size room (t ∷ ts) (more tree children) h k = omega (arith, h, low side size (room - 1) tree k.0, replies_low side size room ts children h k.1)
@@ -159,19 +168,22 @@ mutual
       (pick_in_order side f s (room - 1) 0 (best side children) turns children up p.3 h.1)
       (replies_in_order side f s (room - 1) 0 turns children up p.3 h.1)
 
-  pick_in_order : (side : Side) (f : Frame) (s : State) (room from i : ℕ) (turns : List Turn) (children : Children) → RiseFrom f.size from turns → ArePartialTrees f s turns children → AllStayWithin f.size room children → IsInOrder f.size (pick_at side i turns children)
+  pick_in_order : (side : Side) (f : Frame) (s : State) (room from i : ℕ) (turns : List Turn) (children : Children) → RiseFrom f.size from turns
+      → ArePartialTrees f s turns children → AllStayWithin f.size room children → IsInOrder f.size (pick_at side i turns children)
   pick_in_order side f s room from i [] children up p h = tt
   pick_in_order side f s room from i (t ∷ ts) no_more up p h = tt
   pick_in_order side f s room from zero (t ∷ ts) (more tree children) up p h = (up.1, in_order side f (after f s t) room tree p.0 h.0)
   pick_in_order side f s room from (suc i) (t ∷ ts) (more tree children) up p h =
       pick_in_order side f s room (number_on f.size t + 1) i ts children up.2 p.1 h.1
 
-  replies_in_order : (side : Side) (f : Frame) (s : State) (room from : ℕ) (turns : List Turn) (children : Children) → RiseFrom f.size from turns → ArePartialTrees f s turns children → AllStayWithin f.size room children → AreInOrder f.size from (replies side turns children)
+  replies_in_order : (side : Side) (f : Frame) (s : State) (room from : ℕ) (turns : List Turn) (children : Children) → RiseFrom f.size from turns
+      → ArePartialTrees f s turns children → AllStayWithin f.size room children → AreInOrder f.size from (replies side turns children)
   replies_in_order side f s room from [] children up p h = tt
   replies_in_order side f s room from (t ∷ ts) no_more up p h = tt
   replies_in_order side f s room from (t ∷ ts) (more tree children) up p h =
       (up.0, up.1, in_order side f (after f s t) room tree p.0 h.0, replies_in_order side f s room (number_on f.size t + 1) ts children up.2 p.1 h.1)
 
 -- the strategy of a settled tree makes a proof
-pub makes_proof : (side : Side) (f : Frame) (s : State) (tree : PartialTree) (strategy : Strategy) → strategy ≡ strategy_for side tree → number side tree ≡ 0 → IsPartialTree f s tree → StaysWithin f.size 512 tree → IsWon side f s strategy
+pub makes_proof : (side : Side) (f : Frame) (s : State) (tree : PartialTree) (strategy : Strategy) → strategy ≡ strategy_for side tree → number side tree ≡ 0
+    → IsPartialTree f s tree → StaysWithin f.size 512 tree → IsWon side f s strategy
 makes_proof side f s tree strategy e z p h = subst (IsWon side f s) (sym e) (record { wins = wins side f s tree p z; low = low side f.size 512 tree h; in_order = in_order side f s 512 tree p h })

@@ -27,7 +27,8 @@ unfolding successors_of
 leaves_of-successors f s = leaves_back f s (legal_turns f s)
 
 -- what the children of the successors make is the expansion
-pub expansion_of : (f : Frame) (s : State) (mover : Side) (xs : List Successor) (turns : List Turn) (leaves : List PartialTree) → mover ≡ s.to_move → xs ≡ successors_of f s → turns ≡ map (λ x. x.turn) xs → leaves ≡ map (λ x. leaf_for x.winner) xs → expanded mover turns (children_of leaves) ≡ expansion f s
+pub expansion_of : (f : Frame) (s : State) (mover : Side) (xs : List Successor) (turns : List Turn) (leaves : List PartialTree) → mover ≡ s.to_move → xs ≡ successors_of f s
+    → turns ≡ map (λ x. x.turn) xs → leaves ≡ map (λ x. leaf_for x.winner) xs → expanded mover turns (children_of leaves) ≡ expansion f s
 expansion_of f s mover xs turns leaves m e t l =
     ap (λ side. expanded side turns (children_of leaves)) m
     ∙ ap (λ ts. expanded s.to_move ts (children_of leaves)) (t ∙ ap (map (λ x. x.turn)) e ∙ turns_of-successors f s)

@@ -56,7 +56,8 @@ rise_from f s n [] l up from = tt
 rise_from f s n (t ∷ ts) l up from = (
   omega (arith, from 0 (omega arith), numbers_agree f t),
   on_size f s t l.0,
-  rise_from f s (number_on f.size t + 1) ts l.1 (λ i j d h k. up (suc i) (suc j) d (omega (arith, h)) (omega (arith, k))) (λ i h. omega (arith, up 0 (suc i) Pass (omega arith) (omega (arith, h)), numbers_agree f t)),
+  rise_from f s (number_on f.size t + 1) ts l.1 (λ i j d h k. up (suc i) (suc j) d (omega (arith, h)) (omega (arith, k)))
+      (λ i h. omega (arith, up 0 (suc i) Pass (omega arith) (omega (arith, h)), numbers_agree f t)),
 )
 
 pub rise : (f : Frame) (s : State) → RiseFrom f.size 0 (legal_turns f s)

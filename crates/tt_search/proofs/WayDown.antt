@@ -1,5 +1,5 @@
 -- The way from an undecided node to its best child, over the children as the code keeps them.
-use Rattle.std.proofs.Common.{◌≡◌, ℕ, ◌-◌, ◌<◌, ◌∷◌, length, get_or, sym, ◌∙◌, ap, subst, arith}
+use Rattle.std.proofs.Common.{◌≡◌, ℕ, ◌<◌, ◌∷◌, length, get_or, sym, ◌∙◌, ap, subst, arith}
 use Rattle.tt_game.specs.declared.turns.Turn.{Turn}
 use Rattle.tt_game.specs.Game.{IsLegal, after}
 use Rattle.tt_game.specs.TurnLaws.{contains-legal_turns}
@@ -25,7 +25,8 @@ use Rattle.tt_search.proofs.Steady.{steps_lifted}
 pub record IsWayDown (at : Stand) (x : Expansion) (node : PartialTree) (p : ℕ) (t : Turn) : Type 0 where
   pub legal : IsLegal at.frame at.state t
   pub may_grow : MayGrow (stand_after at t) (child_of x p)
-  pub steps : (pace : Pace) (left : ℕ) (step : Step) (y : Expansion) (left_after : ℕ) → StepsBelowAt pace (stand_after at t) p x left step y left_after → AreStepsAt pace at (stage node left) step (stage (node_of y) left_after)
+  pub steps : (pace : Pace) (left : ℕ) (step : Step) (y : Expansion) (left_after : ℕ) → StepsBelowAt pace (stand_after at t) p x left step y left_after
+      → AreStepsAt pace at (stage node left) step (stage (node_of y) left_after)
 
 abbrev StepsTo : Pace → Stand → Stage → Step → ℕ → PartialTree → Type 0
 StepsTo pace at old step left made = AreStepsAt pace at old step (stage made left)
@@ -46,12 +47,15 @@ module _ (at : Stand) (x : Expansion) (p : ℕ) (place : p ≡ best x.mover (chi
   turn_is e t is h = h ∙ ap turn_of is ∙ sym (turn_at_place x.edges.items p e t in_edges)
 
   -- steps at the child are steps of the node
-  steps_here : (e : Edge) (t : Turn) → e ≡ get_or x.edges.items p e → t ≡ turn_of e → (pace : Pace) (left : ℕ) (step : Step) (y : Expansion) (left_after : ℕ) → StepsBelowAt pace (stand_after at t) p x left step y left_after → AreStepsAt pace at (stage (node_of x) left) step (stage (node_of y) left_after)
+  steps_here : (e : Edge) (t : Turn) → e ≡ get_or x.edges.items p e → t ≡ turn_of e → (pace : Pace) (left : ℕ) (step : Step) (y : Expansion) (left_after : ℕ)
+      → StepsBelowAt pace (stand_after at t) p x left step y left_after → AreStepsAt pace at (stage (node_of x) left) step (stage (node_of y) left_after)
   steps_here e t is h pace left step y left_after (tree, steps, put) =
       subst (λ m. StepsTo pace at (stage (node_of x) left) step left_after (expanded m (turns_of y.edges.items) (children_of (trees_of y.edges.items y.grown.items)))) (sym put.mover)
       (subst (λ us. StepsTo pace at (stage (node_of x) left) step left_after (expanded x.mover us (children_of (trees_of y.edges.items y.grown.items)))) (sym put.turns)
       (subst (λ us. StepsTo pace at (stage (node_of x) left) step left_after (expanded x.mover (turns_of x.edges.items) (children_of us))) (sym put.trees)
-      (steps_lifted at x.mover (turns_of x.edges.items) (trees_of x.edges.items x.grown.items) t (child_of x p) p place found_here.in_trees (lengths at.frame at.state (turns_of x.edges.items) (trees_of x.edges.items x.grown.items) m.partial.3) (turn_is e t is h) child_is found_here.room pace left step (stage tree left_after) steps)))
+      (steps_lifted at x.mover (turns_of x.edges.items) (trees_of x.edges.items x.grown.items) t (child_of x p) p place found_here.in_trees
+          (lengths at.frame at.state (turns_of x.edges.items) (trees_of x.edges.items x.grown.items) m.partial.3) (turn_is e t is h) child_is found_here.room pace left step
+          (stage tree left_after) steps)))
 
   way_here : (e : Edge) (t : Turn) → e ≡ get_or x.edges.items p e → t ≡ turn_of e → IsWayDown at x (node_of x) p t
   way_here e t is h = record {

@@ -15,7 +15,9 @@ use Rattle.tt_search.specs.declared.node.Growth.TheVariants.{Fresh, Won, Closed,
 use Rattle.tt_search.specs.declared.node.Node.TheDeep.{deep-Growth}
 
 -- the grown nodes weigh no more than all children, if that holds for the list without its first edge
-most-behind : (m : Mark) (es : List Edge) (ts : List PartialTree) → ((us : List PartialTree) → grown_in es ≡ length us → most (λ t. weight t + 1) us ≤ weight_all (children_of (trees_of es us))) → counted m (grown_in es) ≡ length ts → most (λ t. weight t + 1) ts ≤ weight_all (children_of (tree_of m ts ∷ trees_of es (grown_behind m ts)))
+most-behind : (m : Mark) (es : List Edge) (ts : List PartialTree)
+    → ((us : List PartialTree) → grown_in es ≡ length us → most (λ t. weight t + 1) us ≤ weight_all (children_of (trees_of es us))) → counted m (grown_in es) ≡ length ts
+    → most (λ t. weight t + 1) ts ≤ weight_all (children_of (tree_of m ts ∷ trees_of es (grown_behind m ts)))
 most-behind mark.Fresh es ts below h = omega (arith, below ts (omega (arith, h)))
 most-behind (mark.Won side) es ts below h = omega (arith, below ts (omega (arith, h)))
 most-behind mark.Grown es [] below h = absurd (omega (arith, h))

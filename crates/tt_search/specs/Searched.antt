@@ -1,5 +1,5 @@
 -- What contracts see of a search, and what a step of it does.
-use Rattle.std.specs.Prelude.{◌≡◌, ℕ, ◌<◌, ◌≤◌}
+use Rattle.std.specs.Prelude.{◌≡◌, ◌<◌, ◌≤◌}
 use Rattle.tt_game.specs.Line.{Standing}
 use Rattle.tt_proof.specs.Strategy.{depth}
 use Rattle.tt_proof.specs.Proven.{Proven, StandsAt}

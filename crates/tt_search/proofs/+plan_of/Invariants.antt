@@ -20,6 +20,7 @@ decreases-settled::replied l = weight_all (children_of (trees_of l.edges.now l.g
 
 abbrev pub invariant-settled::replied-loop-edge : goal.invariant-settled::replied-loop-edge
 invariant-settled::replied-loop-edge l = record {
-  made : joined l.answers (replies l.side (turns_of (drop l.edge-index l.edges)) (children_of (trees_of (drop l.edge-index l.edges) l.rest))) ≡ replies l.side (turns_of l.edges) (children_of (trees_of l.edges l.grown));
+  made : joined l.answers (replies l.side (turns_of (drop l.edge-index l.edges)) (children_of (trees_of (drop l.edge-index l.edges) l.rest))) ≡ replies l.side (turns_of l.edges)
+      (children_of (trees_of l.edges l.grown));
   lighter : weight_all (children_of (trees_of (drop l.edge-index l.edges) l.rest)) ≤ weight_all (children_of (trees_of l.edges l.grown));
 }

@@ -15,7 +15,8 @@ abbrev first : Edge
 first = record { code = 0 }
 
 -- the child at a place, and the children behind it
-module _ (mover : Side) (es : List Edge) (rest behind : List PartialTree) (i x : ℕ) (l : i < length es) (is : x ≡ number mover (tree_of (mark_of (get_or es i first)) rest)) (b : behind ≡ grown_behind (mark_of (get_or es i first)) rest) (p v : ℕ) where
+module _ (mover : Side) (es : List Edge) (rest behind : List PartialTree) (i x : ℕ) (l : i < length es) (is : x ≡ number mover (tree_of (mark_of (get_or es i first)) rest))
+    (b : behind ≡ grown_behind (mark_of (get_or es i first)) rest) (p v : ℕ) where
   abbrev row : List PartialTree → List ℕ
   row us = numbers mover (children_of (trees_of (drop (i + 1) es) us))
 
@@ -46,8 +47,14 @@ loop-i-preserved c =
     record {
       most = search rules;
       place = elim c.if-number-least.branch [
-        | then-number-least w ↦ rw (w.place-is, w.least-is) (less c.args.mover c.args.edges.now c.loop-i.rest.now c.behind-rest.result.now c.loop-i.i c.child_number-number.result c.loop-i-test.true c.child_number-number.ensures c.behind-rest.ensures c.loop-i.place c.loop-i.least w.if-number-least.true ∙ c.loop-i.invariant.place)
-        | else-number-least w ↦ rw (w.place-is, w.least-is) (same c.args.mover c.args.edges.now c.loop-i.rest.now c.behind-rest.result.now c.loop-i.i c.child_number-number.result c.loop-i-test.true c.child_number-number.ensures c.behind-rest.ensures c.loop-i.place c.loop-i.least w.if-number-least.false ∙ c.loop-i.invariant.place)
+        | then-number-least w ↦
+            rw (w.place-is, w.least-is)
+            (less c.args.mover c.args.edges.now c.loop-i.rest.now c.behind-rest.result.now c.loop-i.i c.child_number-number.result c.loop-i-test.true c.child_number-number.ensures
+                c.behind-rest.ensures c.loop-i.place c.loop-i.least w.if-number-least.true ∙ c.loop-i.invariant.place)
+        | else-number-least w ↦
+            rw (w.place-is, w.least-is)
+            (same c.args.mover c.args.edges.now c.loop-i.rest.now c.behind-rest.result.now c.loop-i.i c.child_number-number.result c.loop-i-test.true c.child_number-number.ensures
+                c.behind-rest.ensures c.loop-i.place c.loop-i.least w.if-number-least.false ∙ c.loop-i.invariant.place)
       ];
       few = omega (arith, c.counted-passed.ensures, counted_most (mark_of e) c.loop-i.passed, c.loop-i.invariant.few);
       passed = c.counted-passed.ensures ∙ ap (counted (mark_of e)) c.loop-i.invariant.passed ∙ sym (rank_next c.args.edges.now c.loop-i.i first c.loop-i-test.true);

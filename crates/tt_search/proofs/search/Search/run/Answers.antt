@@ -6,7 +6,8 @@ pub loop-search-smaller : goal.loop-search-smaller
 loop-search-smaller g c = advanced_falls WhileNumbersStay c.loop-search.search c.advance.new.self c.advance.result c.advance.ensures.advanced c.advance.ensures.problem c.in-Expanded.is
 
 pub loop-search-preserved : goal.loop-search-preserved
-loop-search-preserved g c = advanced_reached WhileNumbersStay c.args.self c.loop-search.search c.advance.new.self c.advance.result c.loop-search.invariant c.advance.ensures.advanced c.advance.ensures.problem c.in-Expanded.is
+loop-search-preserved g c = advanced_reached WhileNumbersStay c.args.self c.loop-search.search c.advance.new.self c.advance.result c.loop-search.invariant
+    c.advance.ensures.advanced c.advance.ensures.problem c.in-Expanded.is
 
 pub returns-in-Ok : goal.returns-in-Ok
 returns-in-Ok g c = (c.advance.new.self, settled_reached WhileNumbersStay c.args.self c.loop-search.search c.advance.new.self c.loop-search.invariant c.in-Settled.ensures.advanced, c.in-Ok.ensures)
