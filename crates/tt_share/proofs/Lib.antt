@@ -2,7 +2,6 @@ pub mod DeskLists
 pub mod DeskMoves
 pub mod DeskClosing
 pub mod PlainDesk
-pub mod NodeCounts
 pub mod PlaceLemmas
 pub mod Newest
 pub mod Lost

@@ -13,7 +13,7 @@ use Rattle.tt_game.specs.declared.keys.Key.{Key}
 use Rattle.tt_game.specs.Keys.{key_of}
 use Rattle.tt_game.specs.KeyLaws.{same_key_equiv, same_key_same}
 use Rattle.tt_proof.specs.Proven.{Proven}
-use Rattle.tt_share.specs.Nodes.{nodes}
+use Rattle.tt_proof.specs.Nodes.{nodes}
 use Rattle.tt_share.specs.Places.{places_at, IsIndexOf}
 use Rattle.tt_share.specs.Table.{same_key, places_from, places_of, nodes_of}
 

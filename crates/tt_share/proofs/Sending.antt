@@ -1,7 +1,7 @@
 -- What workers hand back may cross threads: a seat, a proof, a search. Types that hold themselves are taken layer by layer.
 use denote.RattleType.{RattleType}
-use denote.Hole.Fix.{holes}
-use denote.Hole.FixSend.{Sends, Syncs, fix_send, fix_sync}
+use denote.Struct.Field.{u16-field, u64-field}
+use denote.Hole.FixSend.{Crosses, both_send, both_sync}
 use mathlib.Core.Path.{◌≡◌}
 use denote.Model.Cut.{rejoined, split_one}
 use denote.Model.Local.{Parts, rows}
@@ -19,6 +19,8 @@ use Rattle.tt_game.specs.contracts.line.Line as Line
 use Rattle.tt_game.specs.contracts.past.Past as Past
 use Rattle.tt_proof.specs.contracts.tree.Tree as Tree
 use Rattle.tt_proof.specs.contracts.tree.Tree.TheKnot as TreeKnot
+use Rattle.tt_proof.specs.contracts.plan.Plan as Plan
+use Rattle.tt_proof.specs.contracts.plan.Plan.TheInside as Planned
 use Rattle.tt_proof.specs.contracts.proven.Proof as Proof
 use Rattle.tt_proof.specs.contracts.proven.Proof.TheInside as Inside
 use Rattle.tt_search.specs.contracts.limits.Limits as Limits
@@ -41,29 +43,37 @@ past_send = search (sendable, crosses) depth 40
 past_sync : IsSync Past.the_row
 past_sync = search (sendable, crosses) depth 40
 
-tree_layer_send : (h : TreeKnot.the_members → RattleType) → IsSend (h TreeKnot.member-Tree) → IsSend (TreeKnot.layer-Tree (h TreeKnot.member-Tree) (h TreeKnot.member-Tree))
-tree_layer_send h below = search (sendable, crosses) depth 40
+-- a tree holds its parts through handles, so each law of a layer asks both laws of the trees below
+module _ (h : TreeKnot.the_members → RattleType) (below : IsSend (h TreeKnot.member-Tree)) (shared : IsSync (h TreeKnot.member-Tree)) where
+  tree_layer_send : IsSend (TreeKnot.layer-Tree (h TreeKnot.member-Tree) (h TreeKnot.member-Tree))
+  tree_layer_send = search (sendable, crosses) depth 40
 
-tree_layer_sync : (h : TreeKnot.the_members → RattleType) → IsSync (h TreeKnot.member-Tree) → IsSync (TreeKnot.layer-Tree (h TreeKnot.member-Tree) (h TreeKnot.member-Tree))
-tree_layer_sync h below = search (sendable, crosses) depth 40
+  tree_layer_sync : IsSync (TreeKnot.layer-Tree (h TreeKnot.member-Tree) (h TreeKnot.member-Tree))
+  tree_layer_sync = search (sendable, crosses) depth 40
 
-tree_hole_send : (i : TreeKnot.the_members) → IsSend (holes TreeKnot.ring i)
-tree_hole_send = fix_send TreeKnot.ring (Tree.by_members (λ i. Sends TreeKnot.ring i) (record { send = λ h all. tree_layer_send h (all TreeKnot.member-Tree) }))
-
-tree_hole_sync : (i : TreeKnot.the_members) → IsSync (holes TreeKnot.ring i)
-tree_hole_sync = fix_sync TreeKnot.ring (Tree.by_members (λ i. Syncs TreeKnot.ring i) (record { sync = λ h all. tree_layer_sync h (all TreeKnot.member-Tree) }))
+tree_crosses : (i : TreeKnot.the_members) → Crosses TreeKnot.ring i
+tree_crosses = Tree.by_members (λ i. Crosses TreeKnot.ring i) (record {
+  send = λ h below shared. tree_layer_send h (below TreeKnot.member-Tree) (shared TreeKnot.member-Tree);
+  sync = λ h below shared. tree_layer_sync h (below TreeKnot.member-Tree) (shared TreeKnot.member-Tree);
+})
 
 tree_hole : IsSend TreeKnot.hole-Tree
-tree_hole = record { owned = (tree_hole_send TreeKnot.member-Tree).owned; leaving = λ k x w. tt }
+tree_hole = record { owned = (both_send TreeKnot.ring tree_crosses TreeKnot.member-Tree).owned; leaving = λ k x w. tt }
 
 tree_hole_shared : IsSync TreeKnot.hole-Tree
-tree_hole_shared = record { shared = (tree_hole_sync TreeKnot.member-Tree).shared }
+tree_hole_shared = record { shared = (both_sync TreeKnot.ring tree_crosses TreeKnot.member-Tree).shared }
 
 tree_send : IsSend Tree.the_row
-tree_send = search (sendable, crosses, tree_hole) depth 40
+tree_send = search (sendable, crosses, tree_hole, tree_hole_shared) depth 40
 
 tree_sync : IsSync Tree.the_row
-tree_sync = search (sendable, crosses, tree_hole_shared) depth 40
+tree_sync = search (sendable, crosses, tree_hole, tree_hole_shared) depth 40
+
+plan_send : IsSend Plan.the_row
+plan_send = view_send _ _ _ _ _ (declared_send Planned.the_type (tree_send, (as_row_send u16-field (search sendable depth 20), (as_row_send u64-field (search sendable depth 20), tt))))
+
+plan_sync : IsSync Plan.the_row
+plan_sync = view_sync _ _ _ _ _ (declared_sync Planned.the_type (tree_sync, (as_row_sync u16-field (search sendable depth 20), (as_row_sync u64-field (search sendable depth 20), tt))))
 
 side_send : IsSend Side.the_row
 side_send = search (sendable, crosses) depth 40
@@ -72,10 +82,10 @@ side_sync : IsSync Side.the_row
 side_sync = search (sendable, crosses) depth 40
 
 proof_send : IsSend Proof.the_row
-proof_send = view_send _ _ _ _ _ (declared_send Inside.the_type (as_row_send Past.the_field past_send, (side_send, (tree_send, tt))))
+proof_send = view_send _ _ _ _ _ (declared_send Inside.the_type (as_row_send Past.the_field past_send, (side_send, (as_row_send Plan.the_field plan_send, tt))))
 
 proof_sync : IsSync Proof.the_row
-proof_sync = view_sync _ _ _ _ _ (declared_sync Inside.the_type (as_row_sync Past.the_field past_sync, (side_sync, (tree_sync, tt))))
+proof_sync = view_sync _ _ _ _ _ (declared_sync Inside.the_type (as_row_sync Past.the_field past_sync, (side_sync, (as_row_sync Plan.the_field plan_sync, tt))))
 
 shared_send : IsSend (Arc.the_row Proof.the_row Global.the_row ghosts)
 shared_send = search (sendable, crosses, proof_send, proof_sync) depth 40

@@ -1,6 +1,5 @@
 -- What public contracts cite.
 pub mod Answers
-pub mod Nodes
 pub mod Table
 pub mod Desk
 pub mod Seats

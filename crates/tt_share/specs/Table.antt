@@ -4,7 +4,7 @@ use Rattle.tt_game.specs.declared.keys.Key.{Key}
 use Rattle.tt_game.specs.Keys.{key_of}
 pub use Rattle.tt_game.specs.KeyLaws.{same_key}
 use Rattle.tt_proof.specs.Proven.{Proven}
-use Rattle.tt_share.specs.Nodes.{nodes}
+use Rattle.tt_proof.specs.Nodes.{nodes}
 
 -- the rising places, counted from n on, of what passes the test
 abbrev pub places_from : {X : Type 0} → (X → Bool) → ℕ → List X → List ℕ

@@ -4,7 +4,7 @@ ghost use Rattle.std.specs.Prelude.{◌≡◌, ◌≢◌, ◌≤◌, ◌+◌, �
 ghost use Rattle.tt_search.specs.Stores.{IsAnswer};
 ghost use Rattle.tt_search.specs.declared.store.Kept.TheVariants.{Stored, Full};
 
-use crate::table::{TableState, size_of_proof};
+use crate::table::TableState;
 use std::alloc::Global;
 use std::marker::Model;
 use std::sync::{Arc, Mutex, Wait};
@@ -100,7 +100,7 @@ impl<'a, R: Wait> Store for LockedStore<'a, R> {
             return Kept::Full;
         }
         let key = p.key();
-        let size = size_of_proof(&p);
+        let size = p.nodes();
         let mut state = self.table.state.lock(self.rt);
         match state.append(&key, size, p) {
             Ok(_) => {

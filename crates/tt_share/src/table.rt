@@ -4,8 +4,7 @@ ghost use Rattle.std.specs.Prelude.{◌≡◌, ◌++◌, ◌∷◌, [], ◌+◌,
 ghost use Rattle.std.specs.Arc.{arc_value};
 ghost use Rattle.std.specs.Option.{option_map};
 ghost use Rattle.tt_game.specs.Keys.{key_of};
-ghost use Rattle.tt_proof.specs.Strategy.{strategy_of, entries_of_trees};
-ghost use Rattle.tt_share.specs.Nodes.{nodes, nodes_of_entries};
+ghost use Rattle.tt_proof.specs.Nodes.{nodes};
 ghost use Rattle.tt_share.specs.Places.{IsFor, IsNewest, places_at};
 ghost use Rattle.tt_share.specs.Table.{same_key, places_of, nodes_of};
 
@@ -14,8 +13,8 @@ use std::collections::HashMap;
 use std::hash::Hash;
 use std::marker::Model;
 use std::sync::Arc;
-use tt_game::{Key, Side, Turn};
-use tt_proof::{Proof, Tree};
+use tt_game::{Key, Side};
+use tt_proof::Proof;
 use tt_sgf::NoMemory;
 
 /// Proofs in the order in which they came.
@@ -44,36 +43,6 @@ impl Model for TableState {
     ghost view = { λ t. map arc_value t.proofs.items };
 
     ghost invariant = { λ t. IsIndexOf t.index (map arc_value t.proofs.items) × (t.total ≡ nodes_of (map arc_value t.proofs.items)) };
-}
-
-/// The nodes of a tree, or the greatest `u64` where they are more.
-#[cycle(nodes)]
-fn count_nodes(tree: &Tree) -> u64
-    ensures { result ≡ min (nodes (strategy_of tree.now)) (2 ^ 64 - 1) }
-{
-    match tree {
-        Tree::Done => 1,
-        Tree::Pick(_, child) => count_nodes(child).saturating_add(1),
-        Tree::Reply(list) => count_replies(list),
-    }
-}
-
-#[cycle(nodes)]
-fn count_replies(list: &[(Turn, Tree)]) -> u64
-    ensures { result ≡ min (nodes_of_entries (entries_of_trees list.now) + 1) (2 ^ 64 - 1) }
-{
-    let mut count = 1u64;
-    for (_, child) in list {
-        count = count.saturating_add(count_nodes(child));
-    }
-    count
-}
-
-/// The nodes of a proof's tree, or the greatest `u64` where they are more.
-pub(crate) fn size_of_proof(p: &Proof) -> u64
-    ensures { result ≡ min (nodes p.now.tree) (2 ^ 64 - 1) }
-{
-    count_nodes(p.tree())
 }
 
 /// Adds a place at the key.
@@ -140,7 +109,7 @@ impl TableState {
         ensures err { OnErr result (self.new ≡ self.old) }
     {
         let key = p.key();
-        let size = size_of_proof(&p);
+        let size = p.nodes();
         self.append(&key, size, p)
     }
 
