@@ -1,4 +1,4 @@
-use Rattle.std.proofs.Common.{rules, ◌≡◌, ◌∷◌, ◌++◌, [], All, Some, refl, sym, ap, subst, ◌∙◌, arith}
+use Rattle.std.proofs.Common.{rules, ◌≡◌, ◌∷◌, All, Some, sym, subst, ◌∙◌}
 use Rattle.std.proofs.lemmas.List.Elements.{All-pop, All-push}
 use Rattle.tt_share.specs.Seats.{SeatView}
 use Rattle.tt_share.specs.Workers.{AllPlaced, IsWork}

@@ -1,4 +1,4 @@
-use Rattle.std.proofs.Common.{◌≡◌, ◌∙◌, ◌<◌, ◌+◌, ℕ, sym, ap, subst, arith}
+use Rattle.std.proofs.Common.{◌∙◌, ◌<◌, ◌+◌, ℕ, sym, ap, subst, arith}
 use Rattle.tt_game.specs.declared.frame.Side.{Side}
 use Rattle.tt_share.specs.Results.{Progress, IsWinAt, StopsAtWin}
 use Rattle.tt_share.proofs.Placing.{same_twice, keeps_twice}
