@@ -1,5 +1,6 @@
 -- Lemmas on an answer that is written tree by tree.
-use Rattle.std.proofs.Common.{◌≡◌, ◌≢◌, ◌≤◌, ◌<◌, ◌+◌, ◌-◌, ℕ, List, [], ◌∷◌, ◌++◌, Bool, true, false, ◌||◌, ◌⊎◌, inl, inr, Option, Ok, Err, IfOk, refl, sym, ap, ap₂, ◌∙◌, length, take, drop, arith, append-nil, append_assoc, subst, length-append, suc, if◌then◌else◌}
+use Rattle.std.proofs.Common.{◌≡◌, ◌≢◌, ◌≤◌, ◌<◌, ◌+◌, ◌-◌, ℕ, List, [], ◌∷◌, ◌++◌, Bool, true, false, ◌||◌, ◌⊎◌, inl, inr, Option, Ok, Err, IfOk, refl, sym, ap, ap₂, ◌∙◌, length}
+use Rattle.std.proofs.Common.{take, drop, arith, append-nil, append_assoc, subst, length-append, suc, if◌then◌else◌}
 use Rattle.std.specs.declared.result.Result.{Result}
 use Rattle.std.proofs.Math.Seq.{take-append-add}
 use Rattle.std.proofs.KnownBytes.{Appends-kept, Appends-nil, Appends-trans}
@@ -14,7 +15,8 @@ use Rattle.tsumego.specs.declared.fault.RunFault.TheVariants.{Input, Output, Mem
 use Rattle.tsumego.specs.declared.outcome.Outcome.{Outcome}
 use Rattle.tsumego.specs.declared.outcome.Outcome.TheVariants.{Scored, Answered, Refused}
 use Rattle.tsumego.specs.Lines.{WritesOutcome, WritesText}
-use Rattle.tsumego.specs.Trees.{AreOutcomes, BeginsTreesText, EarlierTreesText, HasOpen, IsTreesText, Reads, all_lines, all_read, before_more, is_refused, line_of, lines_from, most_bytes, nothing, some_lines, stopped, too_long}
+use Rattle.tsumego.specs.Trees.{AreOutcomes, BeginsTreesText, EarlierTreesText, HasOpen, IsTreesText, Reads, all_lines, all_read, before_more, is_refused, line_of, lines_from}
+use Rattle.tsumego.specs.Trees.{most_bytes, nothing, some_lines, stopped, too_long}
 use Rattle.tsumego.specs.Writing.{WritesOf}
 
 -- one more tree
@@ -107,7 +109,8 @@ module _ {allowed : List Node → Outcome → Type 0} {input rest : List ℕ} {n
   progress_kept d why k = (lines_from 1 p.os, earlier why, Appends-kept a b d _ p.told k)
 
   -- a fault came where the line of one more tree was to be written
-  pub progress_fault : (d : Option (List ℕ)) → (number ≡ 1) ⊎ HasOpen rest → (used : ℕ) (t : GameTree) (nodes : List Node) (e : RunFault) → SpelledUpTo rest used t → nodes ≡ main_line t → length rest ≤ most_bytes
+  pub progress_fault : (d : Option (List ℕ)) → (number ≡ 1) ⊎ HasOpen rest → (used : ℕ) (t : GameTree) (nodes : List Node) (e : RunFault) → SpelledUpTo rest used t
+      → nodes ≡ main_line t → length rest ≤ most_bytes
       → WritesOutcome allowed number nodes (Err e) b d → EndsAs (Err e) a d
   progress_fault d why used t nodes Input s same small w = absurd w
   progress_fault d why used t nodes Memory s same small w = progress_kept d why w

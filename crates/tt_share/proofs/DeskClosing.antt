@@ -1,5 +1,6 @@
 -- What a desk shows once one view has every part.
-use Rattle.std.proofs.Common.{◌≡◌, ℕ, zero, suc, ◌+◌, ◌-◌, ◌<◌, ◌≤◌, Bool, true, false, ◌||◌, List, [], ◌∷◌, length, set, sum_by, All, Contains, cond, leb, nat_eq, refl, sym, ap, ◌∙◌, zero-add, subst, arith}
+use Rattle.std.proofs.Common.{◌≡◌, ℕ, zero, suc, ◌+◌, ◌-◌, ◌<◌, ◌≤◌, Bool, true, false, ◌||◌, List, [], ◌∷◌, length, set, sum_by, All, Contains, cond, leb, nat_eq, refl, sym, ap}
+use Rattle.std.proofs.Common.{◌∙◌, zero-add, subst, arith}
 use Rattle.std.specs.List.{list_any}
 use Rattle.std.proofs.lemmas.Bool.Decides.{nat_tests}
 use Rattle.std.proofs.lemmas.List.Sums.{sum_by-cons, sum_by-append, get_or-le-sum_by}
@@ -128,7 +129,8 @@ module _ (list : SeatView → List ℕ) (count : ℕ) (seats : List SeatView) (w
       let exact = spares limit in
       omega arith
 
-pub closes : (desk : DeskView) (plan : Plan) (drawn mark : ℕ) (views : List View) (id : ℕ) (v : View) (seats : List SeatView) → plan.jobs ≡ desk.jobs → plan.seats ≡ desk.seats → length seats ≡ desk.seats
+pub closes : (desk : DeskView) (plan : Plan) (drawn mark : ℕ) (views : List View) (id : ℕ) (v : View) (seats : List SeatView) → plan.jobs ≡ desk.jobs → plan.seats ≡ desk.seats
+    → length seats ≡ desk.seats
     → 0 < desk.jobs → 0 < desk.seats → Gathers seats v → IsDesk plan drawn mark views → get_elem? views id ≡ some v → Closes desk seats drawn
 closes desk plan drawn mark views id v seats same_jobs same_seats len some_job some_seat g h at =
     let all_parts : sum_by (λ u. u.parts) views ≡ v.parts = let p = h.parts in let q = g.parts in omega arith in

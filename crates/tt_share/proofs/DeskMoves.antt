@@ -1,5 +1,6 @@
 -- Each step keeps the rule of the desk.
-use Rattle.std.proofs.Common.{◌≡◌, ℕ, zero, suc, ◌+◌, ◌-◌, ◌%◌, ◌^◌, ◌<◌, ◌≤◌, ◌≢◌, Bool, true, false, ◌||◌, List, [], ◌∷◌, ◌++◌, length, get_or, set, max, sum_by, slice_index, cond, leb, nat_eq, true≢false, refl, sym, ap, ◌∙◌, zero-add, subst, ⊎_elim, arith, zero-le}
+use Rattle.std.proofs.Common.{◌≡◌, ℕ, zero, suc, ◌+◌, ◌-◌, ◌%◌, ◌^◌, ◌<◌, ◌≤◌, ◌≢◌, Bool, true, false, ◌||◌, List, [], ◌∷◌, ◌++◌, length, get_or, set, max, sum_by, slice_index}
+use Rattle.std.proofs.Common.{cond, leb, nat_eq, true≢false, refl, sym, ap, ◌∙◌, zero-add, subst, ⊎_elim, arith, zero-le}
 use Rattle.std.proofs.lemmas.Bool.Decides.{nat_tests}
 use Rattle.std.proofs.lemmas.List.Sums.{sum_by_push, sum_by-append}
 use Rattle.std.specs.List.Sorted.{IsStrictlyIncreasing}
@@ -11,7 +12,8 @@ use Rattle.atomic_table.proofs.Lists.{at_set, at_snoc, set_here, set_else, at_lo
 use Rattle.atomic_table.specs.Table.{keeps, Allows, Splits, Joins, opening}
 use Rattle.tt_share.specs.declared.rule.View.{View}
 use Rattle.tt_share.specs.declared.rule.Plan.{Plan}
-use Rattle.tt_share.specs.Desk.{blank, whole_view, one_seat, no_seat, fewer, joined, with_draw, with_mark, with_sighting, spare_count, EachView, SomeView, Counts, IsMark, IsDesk, DeskHolds, SeatState, IsNext, Draws, Raises, Looks}
+use Rattle.tt_share.specs.Desk.{blank, whole_view, one_seat, no_seat, fewer, joined, with_draw, with_mark, with_sighting, spare_count, EachView, SomeView, Counts, IsMark, IsDesk}
+use Rattle.tt_share.specs.Desk.{DeskHolds, SeatState, IsNext, Draws, Raises, Looks}
 use Rattle.tt_share.specs.Seats.{last_number}
 use Rattle.tt_share.proofs.DeskLists.{at_within, sum_set, sum_at, sum_le, spare_below, none_below, below_by_weight, rising_push, rising_short, no_spares}
 
@@ -49,7 +51,8 @@ module _ (numbers : View → List ℕ) (limit : ℕ) where
       omega (arith, spare_below limit count)
 
   -- each number in a view is below the count
-  pub counts_below : (count : ℕ) (views : List View) (id : ℕ) (v : View) → Counts numbers limit count views → get_elem? views id ≡ some v → (k : ℕ) → k < length (numbers v) → get_or (numbers v) k 0 < count
+  pub counts_below : (count : ℕ) (views : List View) (id : ℕ) (v : View) → Counts numbers limit count views → get_elem? views id ≡ some v → (k : ℕ) → k < length (numbers v)
+      → get_or (numbers v) k 0 < count
   counts_below count views id v h at k lt =
       let weight : ℕ → ℕ = λ n. cond (leb count n) 1 0 in
       let all = h.each_once weight in
@@ -64,7 +67,8 @@ module _ (numbers : View → List ℕ) (limit : ℕ) where
     rising = each_one (λ u. u.parts ≡ 1 → IsStrictlyIncreasing (numbers u)) v (λ _. subst IsStrictlyIncreasing (sym none_yet) no_rise);
   }
 
-  counts_same : (count : ℕ) (views : List View) (id : ℕ) (v w : View) → Counts numbers limit count views → get_elem? views id ≡ some v → numbers w ≡ numbers v → w.parts ≡ v.parts → Counts numbers limit count (set views id w)
+  counts_same : (count : ℕ) (views : List View) (id : ℕ) (v w : View) → Counts numbers limit count views → get_elem? views id ≡ some v → numbers w ≡ numbers v → w.parts ≡ v.parts
+      → Counts numbers limit count (set views id w)
   counts_same count views id v w h at same parts = record {
     each_once = λ weight.
         let s = sum_set (λ u. sum_by weight (numbers u)) views id v w at in

@@ -7,7 +7,8 @@ use Rattle.tt_share.specs.Workers.{AddsSpare, jobs_of}
 use Rattle.tt_share.specs.declared.jobs.Found.{Found}
 
 -- one more result of a job that was drawn
-pub drawn_more : (first old drawn new : List ℕ) (found more : List Found) (f : Found) → old ≡ first ++ jobs_of found → drawn ≡ old ++ f.job ∷ [] → new ≡ drawn → more ≡ found ++ f ∷ [] → new ≡ first ++ jobs_of more
+pub drawn_more : (first old drawn new : List ℕ) (found more : List Found) (f : Found) → old ≡ first ++ jobs_of found → drawn ≡ old ++ f.job ∷ [] → new ≡ drawn
+    → more ≡ found ++ f ∷ [] → new ≡ first ++ jobs_of more
 drawn_more first old drawn new found more f was is same all =
     let jobs : jobs_of more ≡ jobs_of found ++ f.job ∷ [] = ap jobs_of all ∙ map-append (λ (g : Found). g.job) found (f ∷ []) in
     same ∙ (is ∙ (ap (λ ns. ns ++ f.job ∷ []) was ∙ (append_assoc first (jobs_of found) (f.job ∷ []) ∙ ap (λ ns. first ++ ns) (sym jobs))))

@@ -1,5 +1,6 @@
 -- One more result of a worker, whose mark was down before.
-use Rattle.std.proofs.Common.{◌≡◌, ℕ, zero, suc, ◌⊎◌, ◌↔◌, inl, inr, Bool, true, false, ◌||◌, IsTrue, List, [], ◌∷◌, ◌++◌, Option, Some, None, slice_get, length, length-append, refl, ap, subst, sym, ◌∙◌, arith}
+use Rattle.std.proofs.Common.{◌≡◌, ℕ, zero, suc, ◌⊎◌, ◌↔◌, inl, inr, Bool, true, false, ◌||◌, IsTrue, List, [], ◌∷◌, ◌++◌, Option, Some, None, slice_get, length, length-append}
+use Rattle.std.proofs.Common.{refl, ap, subst, sym, ◌∙◌, arith}
 use Rattle.tt_game.specs.declared.frame.Side.{Side}
 use Rattle.atomic_table.specs.Seated.{TableId}
 use Rattle.tt_share.specs.Seats.{SeatView, seat_of}
@@ -37,7 +38,8 @@ read_more (z ∷ zs) x (suc i) y is = elim (read_more zs x i y is) [
   | inr h ↦ inr (ap suc h.0, h.1)
 ]
 
-pub wins_more : (side : Side) (mark more : Bool) (found : List Found) (f : Found) → (IsTrue mark → ⊥) → (IsWinFor side f.end → IsTrue more) → WinsAreLast side mark found → WinsAreLast side more (found ++ f ∷ [])
+pub wins_more : (side : Side) (mark more : Bool) (found : List Found) (f : Found) → (IsTrue mark → ⊥) → (IsWinFor side f.end → IsTrue more) → WinsAreLast side mark found
+    → WinsAreLast side more (found ++ f ∷ [])
 wins_more side mark more found f down raised was i g is win = elim (read_more found f i g is) [
   | inl h ↦ absurd (down (was i g h win).1)
   | inr h ↦ (let at = h.0 in omega (arith, at, length-append found (f ∷ [])), raised (subst (λ (x : Found). IsWinFor side x.end) (sym h.1) win))

@@ -41,7 +41,8 @@ reply_is_low line limits (c ∷ cs) all =
     omega (arith, lost.low, rest)
 
 -- one more turn that has lost
-pub one_more : (line : Standing) (limits : Limits) (cs : List (Turn × Proven)) (c : Turn × Proven) → HaveLost line limits cs → IsJob line (length cs) c.0 → IsLost line limits c → HaveLost line limits (cs ++ c ∷ [])
+pub one_more : (line : Standing) (limits : Limits) (cs : List (Turn × Proven)) (c : Turn × Proven) → HaveLost line limits cs → IsJob line (length cs) c.0 → IsLost line limits c
+    → HaveLost line limits (cs ++ c ∷ [])
 one_more line limits cs c lost job this =
     let all = legal_turns line.frame line.state in
     let there : get_or all (length cs) c.0 ≡ c.0 = get_or_from_slice_get all (length cs) c.0 c.0 job in
@@ -80,7 +81,8 @@ before_it f ts rising i k t u hi hk at_i at_k low = elim (cases_lt k i) [
 ]
 
 -- a legal turn of a lesser number is among those before the one at i
-among_first : (line : Standing) (i : ℕ) (t u : Turn) → IsJob line i t → IsLegal line.frame line.state u → turn_number line.frame u < turn_number line.frame t → Contains (take i (legal_turns line.frame line.state)) u
+among_first : (line : Standing) (i : ℕ) (t u : Turn) → IsJob line i t → IsLegal line.frame line.state u → turn_number line.frame u < turn_number line.frame t
+    → Contains (take i (legal_turns line.frame line.state)) u
 among_first line i t u job legal low =
     let all = legal_turns line.frame line.state in
     let h = (contains-legal_turns line.frame line.state u).1 legal in

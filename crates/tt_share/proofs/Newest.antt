@@ -1,6 +1,7 @@
 -- The newest proof of a key for a side, found from the last place of the key down.
 use Rattle.std.proofs.Math.Nat.{zero-add}
-use Rattle.std.proofs.Common.{◌≡◌, ℕ, zero, suc, ◌+◌, ◌-◌, ◌<◌, ◌≤◌, Bool, true, false, cond, List, [], ◌∷◌, ◌++◌, Option, Some, None, slice_get, get_or, length, reverse, map, inl, inr, refl, sym, ap, subst, ◌∙◌, arith}
+use Rattle.std.proofs.Common.{◌≡◌, ℕ, zero, suc, ◌+◌, ◌-◌, ◌<◌, ◌≤◌, Bool, true, false, cond, List, [], ◌∷◌, ◌++◌, Option, Some, None, slice_get, get_or, length, reverse, map, inl}
+use Rattle.std.proofs.Common.{inr, refl, sym, ap, subst, ◌∙◌, arith}
 use Rattle.std.proofs.lemmas.List.{reverse-append, append_assoc}
 use Rattle.std.proofs.lemmas.Option.{slice_get_read, slice_get-map}
 use Rattle.std.proofs.lemmas.Bool.{false≢true}
@@ -103,7 +104,8 @@ among_all k side ps places are i p at is =
     subst (λ (l : List ℕ). (j : ℕ) × (j < length l) × (get_or l j 0 ≡ i)) (sym are) (all.0, all.1, all.2 ∙ zero-add i)
 
 -- the value at the place behind a list's own
-read_value : {A : Type 0} (value : A → Proven) (xs : List A) (i : ℕ) (o : Option A) (p : Proven) → slice_get xs i ≡ o → option_map value o ≡ Some p → (x : A) × (slice_get xs i ≡ Some x) × (value x ≡ p)
+read_value : {A : Type 0} (value : A → Proven) (xs : List A) (i : ℕ) (o : Option A) (p : Proven) → slice_get xs i ≡ o → option_map value o ≡ Some p → (x : A)
+    × (slice_get xs i ≡ Some x) × (value x ≡ p)
 read_value value xs i None p e is = absurd (some_none p (sym is))
 read_value value xs i (Some x) p e is = (x, e, cc is)
 
@@ -121,7 +123,8 @@ among_fewer value k side xs ps places left all other among i p at is =
     absurd (other read.0 (subst (λ j. slice_get xs j ≡ Some read.0) place read.1) (ap (λ (q : Proven). q.side) read.2 ∙ is.for_side)))
 
 -- what is read there is the value that stands there
-pub read_side : {A : Type 0} (value : A → Proven) (xs : List A) (i : ℕ) (x y : A) (side : Side) → i < length xs → x ≡ get_or xs i x → slice_get xs i ≡ Some y → (value y).side ≡ side → (value x).side ≡ side
+pub read_side : {A : Type 0} (value : A → Proven) (xs : List A) (i : ℕ) (x y : A) (side : Side) → i < length xs → x ≡ get_or xs i x → slice_get xs i ≡ Some y
+    → (value y).side ≡ side → (value x).side ≡ side
 read_side value xs i x y side inside is at for =
     let there : slice_get xs i ≡ Some x = slice_get_read xs (length xs) i x refl inside is in
     let same : x ≡ y = cc in

@@ -1,6 +1,7 @@
 -- One more proof in a table, and what the place of a key says.
 use Rattle.std.proofs.Math.Nat.{zero-add}
-use Rattle.std.proofs.Common.{◌≡◌, ℕ, ◌+◌, ◌-◌, ◌^◌, ◌<◌, ◌≤◌, min, Bool, true, false, cond, List, [], ◌∷◌, ◌++◌, Some, slice_get, Result, Ok, Err, OnOk, get_or, zero, suc, length, map, refl, sym, ap, subst, ◌∙◌, arith}
+use Rattle.std.proofs.Common.{◌≡◌, ℕ, ◌+◌, ◌-◌, ◌^◌, ◌<◌, ◌≤◌, min, Bool, true, false, cond, List, [], ◌∷◌, ◌++◌, Some, slice_get, Result, Ok, Err, OnOk, get_or, zero, suc, length}
+use Rattle.std.proofs.Common.{map, refl, sym, ap, subst, ◌∙◌, arith}
 use Rattle.std.proofs.lemmas.List.{map-append}
 use Rattle.std.proofs.lemmas.Option.{slice_get_read, slice_get-map}
 use Rattle.std.specs.Option.{option_map}
@@ -69,7 +70,8 @@ pass_step t false n x y ys ps zero j e low rest h at is = let l = low j h in abs
 pass_step t false n x y ys ps (suc i) j e low rest h at is = rest j i h (omega (arith, at)) is
 
 -- what stands at a place passes the test
-pub place_passes : {X : Type 0} (t : X → Bool) (n : ℕ) (xs : List X) (x : X) (j i : ℕ) → j < length (places_from t n xs) → get_or (places_from t n xs) j 0 ≡ n + i → slice_get xs i ≡ Some x → t x ≡ true
+pub place_passes : {X : Type 0} (t : X → Bool) (n : ℕ) (xs : List X) (x : X) (j i : ℕ) → j < length (places_from t n xs) → get_or (places_from t n xs) j 0 ≡ n + i
+    → slice_get xs i ≡ Some x → t x ≡ true
 place_passes t n [] x j i h at is = absurd (omega (arith, h))
 place_passes t n (y ∷ ys) x j i h at is =
     pass_step t (t y) n x y ys (places_from t (n + 1) ys) i j refl (place_low t (n + 1) ys)

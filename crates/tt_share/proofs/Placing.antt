@@ -12,11 +12,13 @@ use Rattle.tt_share.specs.Workers.{IsPlaced, AllPlaced, IsGiven, AreGiven, AllGi
 use Rattle.tt_share.proofs.ResultLemmas.{read_after, get_set_same, get_set_other}
 
 -- what is known of the fields of results is known of what contracts see
-pub seen : (P : Standing → Limits → Type 0) (line : Standing) (limits : Limits) (ends : List (Option End)) (p : Progress) → record { line = line; limits = limits; ends = ends } ≡ p → P p.line p.limits → P line limits
+pub seen : (P : Standing → Limits → Type 0) (line : Standing) (limits : Limits) (ends : List (Option End)) (p : Progress) → record { line = line; limits = limits; ends = ends } ≡ p
+    → P p.line p.limits → P line limits
 seen P line limits ends p same h =
     subst (λ l. P line l) (sym (ap (λ (q : Progress). q.limits) same)) (subst (λ l. P l p.limits) (sym (ap (λ (q : Progress). q.line) same)) h)
 
-pub shown : (P : Standing → Limits → List (Option End) → Type 0) (line : Standing) (limits : Limits) (ends : List (Option End)) (p : Progress) → record { line = line; limits = limits; ends = ends } ≡ p
+pub shown : (P : Standing → Limits → List (Option End) → Type 0) (line : Standing) (limits : Limits) (ends : List (Option End)) (p : Progress)
+    → record { line = line; limits = limits; ends = ends } ≡ p
     → P line limits ends → P p.line p.limits p.ends
 shown P line limits ends p same h = subst (λ (q : Progress). P q.line q.limits q.ends) same h
 
@@ -102,7 +104,8 @@ given_still : (old new : List (Option End)) (found : List Found) (job : ℕ) (en
 given_still old new found job end kept was = (was.0, was.1, was.2, was.3, was.4, (λ up. past_still old new job kept (was.5 up)), was.6)
 
 -- one more result is one of those that were handed back
-given_at : (first old new : List (Option End)) (all : List Found) (i : ℕ) (f : Found) (o : Option (Option End)) → slice_get all i ≡ Some f → slice_get old f.job ≡ o → Puts old new f → AreGiven first old all → AreGiven first new all
+given_at : (first old new : List (Option End)) (all : List Found) (i : ℕ) (f : Found) (o : Option (Option End)) → slice_get all i ≡ Some f → slice_get old f.job ≡ o
+    → Puts old new f → AreGiven first old all → AreGiven first new all
 given_at first old new all i f None there is puts was = subst (λ l. AreGiven first l all) (sym (puts.dropped (λ e. not_there None (sym is ∙ e)))) was
 given_at first old new all i f (Some (Some had)) there is puts was = subst (λ l. AreGiven first l all) (sym (puts.dropped (λ e. not_free had (sym is ∙ e)))) was
 given_at first old new all i f (Some None) there is puts was = λ job end at. (
@@ -121,7 +124,8 @@ pub given_more : (first old new : List (Option End)) (all : List Found) (i : ℕ
 given_more first old new all i f there puts was = given_at first old new all i f (slice_get old f.job) there refl puts was
 
 -- so are those of one more worker
-pub given_backs : (first old new : List (Option End)) (work : List HandedBack) (i : ℕ) (back : HandedBack) → slice_get work i ≡ Some back → KeepsEnds old new → AreGiven old new back.found.items → AllGiven first old work → AllGiven first new work
+pub given_backs : (first old new : List (Option End)) (work : List HandedBack) (i : ℕ) (back : HandedBack) → slice_get work i ≡ Some back → KeepsEnds old new
+    → AreGiven old new back.found.items → AllGiven first old work → AllGiven first new work
 given_backs first old new work i back there kept this was job end at = elim (this job end at) [
   | inl h ↦ elim (was job end h) [
     | inl g ↦ inl g

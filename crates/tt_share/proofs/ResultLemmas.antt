@@ -28,7 +28,8 @@ none_more line limits ends all job end at = elim (read_more ends None job (Some 
 ]
 
 -- one more end that is its job's
-pub one_more_result : (line : Standing) (limits : Limits) (ends : List (Option End)) (job : ℕ) (end : End) → AreResults line limits ends → IsResultOf line limits job end → AreResults line limits (slice_set ends job (Some end))
+pub one_more_result : (line : Standing) (limits : Limits) (ends : List (Option End)) (job : ℕ) (end : End) → AreResults line limits ends → IsResultOf line limits job end
+    → AreResults line limits (slice_set ends job (Some end))
 one_more_result line limits ends job end all this k e is = elim (read_after ends job k (Some end) (Some e) is) [
   | inl h ↦ subst (IsResultOf line limits k) (same_Some end e h.1) (subst (λ n. IsResultOf line limits n end) (sym h.0) this)
   | inr h ↦ all k e h

@@ -16,13 +16,15 @@ none_held : (search : Searched) → None ≡ Some search → ⊥
 none_held search e = cc
 
 -- what is known of a search is known of the one that is held
-held_behind : (line : Standing) (limits : Limits) (t : Turn) (search held : Searched) → IsBehind line limits t search → IsGrown search.limits search.line.frame search.line.state search.tree → Some search ≡ Some held → IsBehind line limits t held × IsGrown held.limits held.line.frame held.line.state held.tree
+held_behind : (line : Standing) (limits : Limits) (t : Turn) (search held : Searched) → IsBehind line limits t search
+    → IsGrown search.limits search.line.frame search.line.state search.tree → Some search ≡ Some held → IsBehind line limits t held × IsGrown held.limits held.line.frame held.line.state held.tree
 held_behind line limits t search held behind grown e =
     let same : search ≡ held = cc in
     subst (λ (x : Searched). IsBehind line limits t x × IsGrown x.limits x.line.frame x.line.state x.tree) same (behind, grown)
 
 -- it says what is stuck
-pub says : (line : Standing) (limits : Limits) (reason : Reason) (o : Option Searched) (t : Turn) → IsLegal line.frame line.state t → LesserLose line.frame line.state t → EndsBehind line limits t (Stuck reason o) → IsUnsettled line limits reason (record { turn = t; reason = reason; search = o })
+pub says : (line : Standing) (limits : Limits) (reason : Reason) (o : Option Searched) (t : Turn) → IsLegal line.frame line.state t → LesserLose line.frame line.state t
+    → EndsBehind line limits t (Stuck reason o) → IsUnsettled line limits reason (record { turn = t; reason = reason; search = o })
 says line limits Budget None t legal lesser stuck = absurd stuck
 says line limits Budget (Some search) t legal lesser stuck = (search, refl, record { legal = legal; behind = stuck.0; grown = stuck.1; stuck_for = stuck.2; lesser = lesser })
 says line limits Depth None t legal lesser stuck = absurd stuck

@@ -106,13 +106,15 @@ least_same side ends a b v w = elim (cases_lt a b) [
 ]
 
 -- the turn of the least win is that of each least win
-pub same_turn : (side : Side) (ends : List (Option End)) (turns : List Turn) (i : ℕ) (t : Turn) → IsLeastWin side ends i → t ≡ get_or turns i t → (job : ℕ) (turn : Turn) → IsLeastWin side ends job → slice_get turns job ≡ Some turn → t ≡ turn
+pub same_turn : (side : Side) (ends : List (Option End)) (turns : List Turn) (i : ℕ) (t : Turn) → IsLeastWin side ends i → t ≡ get_or turns i t → (job : ℕ) (turn : Turn)
+    → IsLeastWin side ends job → slice_get turns job ≡ Some turn → t ≡ turn
 same_turn side ends turns i t least at job turn win is =
     let same = least_same side ends job i win least in
     at ∙ get_or_from_slice_get turns i turn t (subst (λ n. slice_get turns n ≡ Some turn) same is)
 
 -- there is one least stuck job
-pub stuck_same : (ends : List (Option End)) (i job : ℕ) (r reason : Reason) (o search : Option Searched) → HasEnd ends i (Stuck r o) → ((k : ℕ) → k < i → ¬ IsStuckAt ends k) → IsLeastStuck ends job reason search → i ≡ job
+pub stuck_same : (ends : List (Option End)) (i job : ℕ) (r reason : Reason) (o search : Option Searched) → HasEnd ends i (Stuck r o) → ((k : ℕ) → k < i → ¬ IsStuckAt ends k)
+    → IsLeastStuck ends job reason search → i ≡ job
 stuck_same ends i job r reason o search here lesser least = elim (cases_lt i job) [
   | inl h ↦ absurd (least.least (i, h, (Stuck r o, here, tt)))
   | inr h ↦ elim (cases_lt job i) [
@@ -122,7 +124,8 @@ stuck_same ends i job r reason o search here lesser least = elim (cases_lt i job
 ]
 
 -- and it says one thing
-pub same_stuck : (line : Standing) (ends : List (Option End)) (i job : ℕ) (t turn : Turn) (r reason : Reason) (o search : Option Searched) → i ≡ job → HasEnd ends i (Stuck r o) → HasEnd ends job (Stuck reason search)
+pub same_stuck : (line : Standing) (ends : List (Option End)) (i job : ℕ) (t turn : Turn) (r reason : Reason) (o search : Option Searched) → i ≡ job → HasEnd ends i (Stuck r o)
+    → HasEnd ends job (Stuck reason search)
     → IsJob line i t → IsJob line job turn → Unsettled (record { turn = t; reason = r; search = o }) ≡ Unsettled (record { turn = turn; reason = reason; search = search })
 same_stuck line ends i job t turn r reason o search same here there at_i at_job =
     let both : Some (Some (Stuck r o)) ≡ Some (Some (Stuck reason search)) = sym here ∙ (ap (λ n. slice_get ends n) same ∙ there) in
@@ -152,7 +155,8 @@ job_here line turns i n t all same within read =
     subst (λ (ts : List Turn). slice_get ts n ≡ Some t) all (subst (λ k. slice_get turns k ≡ Some t) (sym same) here)
 
 -- what is taken is gone, and the rest is as it was
-pub rest_same : (first old new : List (Option End)) (i : ℕ) → ((k : ℕ) → i ≤ k → slice_get old k ≡ slice_get first k) → new ≡ slice_set old i None → (k : ℕ) → i + 1 ≤ k → slice_get new k ≡ slice_get first k
+pub rest_same : (first old new : List (Option End)) (i : ℕ) → ((k : ℕ) → i ≤ k → slice_get old k ≡ slice_get first k) → new ≡ slice_set old i None → (k : ℕ) → i + 1 ≤ k
+    → slice_get new k ≡ slice_get first k
 rest_same first old new i same taken k low =
     let other : k ≢ i = λ e. absurd (omega (arith, low, e)) in
     ap (λ (l : List (Option End)). slice_get l k) taken ∙ (get_set_other old i k None other ∙ same k (omega (arith, low)))
@@ -181,19 +185,22 @@ pub win_kept : (side : Side) (old new : List (Option End)) (k : ℕ) → slice_g
 win_kept side old new k same win = (win.0, sym same ∙ win.1, win.2)
 
 -- one more job has no win
-pub lost_more : (side : Side) (old new : List (Option End)) (i : ℕ) → ((k : ℕ) → k < i → ¬ IsWinAt side old k) → ((k : ℕ) → k ≢ i → slice_get new k ≡ slice_get old k) → ¬ IsWinAt side new i → (k : ℕ) → k < i + 1 → ¬ IsWinAt side new k
+pub lost_more : (side : Side) (old new : List (Option End)) (i : ℕ) → ((k : ℕ) → k < i → ¬ IsWinAt side old k) → ((k : ℕ) → k ≢ i → slice_get new k ≡ slice_get old k)
+    → ¬ IsWinAt side new i → (k : ℕ) → k < i + 1 → ¬ IsWinAt side new k
 lost_more side old new i lost same this =
     let below : (k : ℕ) → k < i → ¬ IsWinAt side new k = λ k low win. (let other : k ≢ i = λ e. absurd (omega (arith, low, e)) in lost k low (win_kept side old new k (same k other) win)) in
     no_win_more side new i below this
 
 -- and the jobs behind it are as they were
-pub same_more : (first old new : List (Option End)) (i : ℕ) → ((k : ℕ) → i ≤ k → slice_get old k ≡ slice_get first k) → ((k : ℕ) → k ≢ i → slice_get new k ≡ slice_get old k) → (k : ℕ) → i + 1 ≤ k → slice_get new k ≡ slice_get first k
+pub same_more : (first old new : List (Option End)) (i : ℕ) → ((k : ℕ) → i ≤ k → slice_get old k ≡ slice_get first k) → ((k : ℕ) → k ≢ i → slice_get new k ≡ slice_get old k)
+    → (k : ℕ) → i + 1 ≤ k → slice_get new k ≡ slice_get first k
 same_more first old new i was same k low =
     let other : k ≢ i = λ e. absurd (omega (arith, low, e)) in
     same k other ∙ was k (omega (arith, low))
 
 -- the first win is that of the last job that was searched
-pub stops_at : (side : Side) (first old new : List (Option End)) (i : ℕ) → ((k : ℕ) → k < i → ¬ IsWinAt side old k) → ((k : ℕ) → i ≤ k → slice_get old k ≡ slice_get first k) → ((k : ℕ) → k ≢ i → slice_get new k ≡ slice_get old k) → StopsAtWin side first new
+pub stops_at : (side : Side) (first old new : List (Option End)) (i : ℕ) → ((k : ℕ) → k < i → ¬ IsWinAt side old k) → ((k : ℕ) → i ≤ k → slice_get old k ≡ slice_get first k)
+    → ((k : ℕ) → k ≢ i → slice_get new k ≡ slice_get old k) → StopsAtWin side first new
 stops_at side first old new i lost was same job later win low = elim (cases_lt job i) [
   | inl h ↦
       let other : job ≢ i = λ e. absurd (omega (arith, h, e)) in

@@ -7,7 +7,8 @@ pub loop-job-preserved : goal.loop-job-preserved
 loop-job-preserved c =
     let ends = c.args.ends.now in
     record {
-      lost = no_win_more c.args.side ends c.loop-job.job c.loop-job.invariant.lost (λ win. false≢true (sym c.if-is_win_in.false ∙ c.is_win_in.ensures.win.1 (win_in c.args.side ends c.loop-job.job c.index-ends-job.result c.loop-job-test.true c.index-ends-job.is win)));
+      lost = no_win_more c.args.side ends c.loop-job.job c.loop-job.invariant.lost
+          (λ win. false≢true (sym c.if-is_win_in.false ∙ c.is_win_in.ensures.win.1 (win_in c.args.side ends c.loop-job.job c.index-ends-job.result c.loop-job-test.true c.index-ends-job.is win)));
       won = won_more ends c.loop-job.job c.index-ends-job.result c.loop-job-test.true c.index-ends-job.is c.is_win_in.ensures.won c.loop-job.invariant.won;
     }
 

@@ -14,13 +14,15 @@ loop-back-preserved c =
     let was = c.loop-back.invariant.placed in
     record {
       left = same_asked (λ line limits. All (IsWork line limits c.args.desk.now.id) c.pop.new.self.items) old new c.gather_one.ensures.same both.0;
-      seats = subst (All (λ (s : SeatView). s.desk ≡ c.args.desk.now.id)) (sym c.push_reserved.ensures.items) (All-push (λ (s : SeatView). s.desk ≡ c.args.desk.now.id) c.loop-back.seats.items back.seat c.loop-back.invariant.seats both.1.seat);
+      seats = subst (All (λ (s : SeatView). s.desk ≡ c.args.desk.now.id)) (sym c.push_reserved.ensures.items)
+          (All-push (λ (s : SeatView). s.desk ≡ c.args.desk.now.id) c.loop-back.seats.items back.seat c.loop-back.invariant.seats both.1.seat);
       count = search rules;
       room = search rules;
       same = same_twice c.args.results.now old new c.loop-back.invariant.same c.gather_one.ensures.same;
       len = c.gather_one.ensures.len ∙ c.loop-back.invariant.len;
       kept = keeps_twice c.args.results.now.ends old.ends new.ends c.loop-back.invariant.kept c.gather_one.ensures.kept;
-      given = given_backs c.args.results.now.ends old.ends new.ends c.args.work.items _ back (taken_there _ _ _ was.0 back was.1 c.in-Some.ensures.items) c.gather_one.ensures.kept c.gather_one.ensures.given c.loop-back.invariant.given;
+      given = given_backs c.args.results.now.ends old.ends new.ends c.args.work.items _ back
+          (taken_there _ _ _ was.0 back was.1 c.in-Some.ensures.items) c.gather_one.ensures.kept c.gather_one.ensures.given c.loop-back.invariant.given;
       placed = (
         back ∷ was.0,
         taken_more _ _ _ was.0 back was.1 c.in-Some.ensures.items,

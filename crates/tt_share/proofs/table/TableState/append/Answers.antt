@@ -11,6 +11,7 @@ invariant_of-self-2 c =
     let added = c.saturating_add-self-inside.ensures in
     let size = c.requires.size in
     rw m (
-      index-snoc c.self.inside.index c.note_place.new.index (map arc_value c.self.inside.proofs.items) (arc_value c.args.p) c.args.key.now c.len-place.result (search (rules, length-map)) c.requires.key c.self.invariant.0 noted,
+      index-snoc c.self.inside.index c.note_place.new.index (map arc_value c.self.inside.proofs.items) (arc_value c.args.p) c.args.key.now c.len-place.result
+          (search (rules, length-map)) c.requires.key c.self.invariant.0 noted,
       nodes-snoc (map arc_value c.self.inside.proofs.items) (arc_value c.args.p) c.self.inside.total c.saturating_add-self-inside.result c.self.invariant.1 (grind (arith, added, size)),
     )
