@@ -1,6 +1,7 @@
 //! The program: shows the problems of standard input as they were read.
 #![tactic(auto)]
 
+mod drawing;
 mod fault;
 mod hints;
 mod input;
