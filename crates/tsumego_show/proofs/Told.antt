@@ -1,11 +1,15 @@
 -- Lemmas on a text that is told tree by tree.
-use Rattle.std.proofs.Common.{◌≡◌, ◌≤◌, ◌<◌, ◌+◌, ◌-◌, ◌⊎◌, ℕ, List, [], ◌++◌, Bool, true, false, ◌||◌, inl, inr, refl, sym, ap, ap₂, ◌∙◌, length, take, drop, arith, append-nil}
-use Rattle.std.proofs.Common.{append_assoc, subst, if◌then◌else◌}
+use Rattle.std.proofs.Common.{◌≡◌, ◌≤◌, ◌<◌, ◌+◌, ◌-◌, ◌⊎◌, ℕ, List, [], ◌++◌, Bool, true, false, ◌||◌, inl, inr, refl, sym, ap, ap₂, ◌∙◌, length, take, drop, arith, append-nil, append_assoc, subst, if◌then◌else◌, Ok, Err, OnOk}
+use Rattle.std.specs.declared.result.Result.{Result}
+use Rattle.tt_sgf.specs.Values.{trimmed}
+use Rattle.tt_game.specs.declared.faults.GameFault.{GameFault}
+use Rattle.tt_game.specs.Line.{Standing}
+use Rattle.tsumego_show.specs.Drawing.{Draws}
 use Rattle.std.proofs.lemmas.List.{take_all, length-drop}
 use Rattle.tt_sgf.specs.declared.nodes.Node.{Node}
 use Rattle.tt_sgf.specs.Grammar.{GameTree, HasNoTree, SpelledUpTo, main_line}
 use Rattle.tt_game.specs.Problems.{problem_of}
-use Rattle.tsumego_show.specs.Shown.{HasOpen, IsShown, IsTold, Tells, ended, is_refused, most_bytes, refusal, stopped, too_long, tree, tree_text, trees}
+use Rattle.tsumego_show.specs.Shown.{DrawsBehind, HasOpen, IsShown, IsTold, IsTreeText, Tells, ended, is_refused, last_tree, more_trees, most_bytes, problem_text, refusal, stopped, too_long, tree, trees}
 
 or_assoc : (x y z : Bool) → ((x || y) || z) ≡ (x || (y || z))
 or_assoc true y z = refl
@@ -29,15 +33,16 @@ at_start input = λ more other h. h
 
 -- one more tree
 pub tree_more : (input : List ℕ) (k : ℕ) (rest text : List ℕ) (refused : Bool) (used : ℕ) (t : GameTree) (nodes : List Node) (text' : List ℕ) (bad : Bool)
-    → IsSoFar input k rest text refused → SpelledUpTo rest used t → nodes ≡ main_line t → text' ≡ text ++ tree_text k (problem_of nodes)
+    → IsSoFar input k rest text refused → SpelledUpTo rest used t → nodes ≡ main_line t
+    → (x : List ℕ) × IsTreeText k (problem_of nodes) (take (length rest - used) (drop used rest)) x × (text' ≡ text ++ x)
     → bad ≡ is_refused (problem_of nodes) → IsSoFar input (k + 1) (take (length rest - used) (drop used rest)) text' (refused || bad)
-tree_more input k rest text refused used t nodes text' bad far s same e b = λ more other h.
+tree_more input k rest text refused used t nodes text' bad far s same w b = λ more other h.
     let all : take (length rest - used) (drop used rest) ≡ drop used rest = take_all (length rest - used) (drop used rest) (omega (arith, length-drop used rest)) in
-    let one = tree k rest used t more other s (subst (λ (x : List ℕ). Tells (k + 1) x more other) all h) in
-    let here : tree_text k (problem_of (main_line t)) ≡ tree_text k (problem_of nodes) = ap (λ (x : List Node). tree_text k (problem_of x)) (sym same) in
+    let its_text : IsTreeText k (problem_of (main_line t)) (drop used rest) w.0 =
+    subst (λ (x : List Node). IsTreeText k (problem_of x) (drop used rest) w.0) same (subst (λ (x : List ℕ). IsTreeText k (problem_of nodes) x w.0) all w.1) in
+    let one = tree k rest used t w.0 more other s its_text (subst (λ (x : List ℕ). Tells (k + 1) x more other) all h) in
     let its : is_refused (problem_of (main_line t)) ≡ bad = ap (λ (x : List Node). is_refused (problem_of x)) (sym same) ∙ sym b in
-    let words : text ++ (tree_text k (problem_of (main_line t)) ++ more) ≡ text' ++ more =
-    ap (λ (x : List ℕ). text ++ (x ++ more)) here ∙ sym (append_assoc text (tree_text k (problem_of nodes)) more) ∙ ap (λ (x : List ℕ). x ++ more) (sym e) in
+    let words : text ++ (w.0 ++ more) ≡ text' ++ more = sym (append_assoc text w.0 more) ∙ ap (λ (x : List ℕ). x ++ more) (sym w.2) in
     let flag : (refused || (is_refused (problem_of (main_line t)) || other)) ≡ ((refused || bad) || other) =
     ap (λ (x : Bool). refused || (x || other)) its ∙ sym (or_assoc refused bad other) in
     subst (λ (x : Bool). Tells 1 input (text' ++ more) x) flag (subst (λ (x : List ℕ). Tells 1 input x (refused || (is_refused (problem_of (main_line t)) || other))) words (far _ _ one))
@@ -59,7 +64,7 @@ module _ {input rest text : List ℕ} {k : ℕ} {refused : Bool} (p : Progress i
   ]
 
   pub progress_step : (used : ℕ) (t : GameTree) (nodes : List Node) (text' : List ℕ) (bad : Bool) → SpelledUpTo rest used t → nodes ≡ main_line t
-      → length rest ≤ most_bytes → text' ≡ text ++ tree_text k (problem_of nodes) → bad ≡ is_refused (problem_of nodes)
+      → length rest ≤ most_bytes → (x : List ℕ) × IsTreeText k (problem_of nodes) (take (length rest - used) (drop used rest)) x × (text' ≡ text ++ x) → bad ≡ is_refused (problem_of nodes)
       → Progress input (take (length rest - used) (drop used rest)) text' (k + 1) (refused || bad)
   progress_step used t nodes text' bad s same small e b = record {
     some = omega (arith, p.some);
@@ -97,3 +102,24 @@ module _ {input rest text : List ℕ} {k : ℕ} {refused : Bool} (p : Progress i
     where
       many : 1 < k
       many = elim (Rattle.std.proofs.lemmas.Bool.cases_lt 1 k) [ inl lt ↦ lt | inr le ↦ absurd (more (omega (arith, p.some))) ]
+
+-- a tree may follow
+pub behind_more : (p : Standing) (behind old : List ℕ) → HasOpen behind → (x : List ℕ) × DrawsBehind p behind x × (old ≡ old ++ x)
+behind_more p behind old h = ([], more_trees h, sym (append-nil old))
+
+pub behind_last : {A E : Type 0} (r : Result A E) (p : Standing) (behind bytes old new : List ℕ) → (HasOpen behind → ⊥) → bytes ≡ trimmed behind
+    → OnOk r ((x : List ℕ) × Draws p bytes x × (new ≡ old ++ x)) → OnOk r ((x : List ℕ) × DrawsBehind p behind x × (new ≡ old ++ x))
+behind_last (Ok y) p behind bytes old new none is w = (w.0, last_tree w.0 none (subst (λ (x : List ℕ). Draws p x w.0) is w.1), w.2)
+behind_last (Err y) p behind bytes old new none is w = w
+
+-- a problem and what is drawn behind it
+pub problem_behind : {A E : Type 0} (r : Result A E) (k : ℕ) (p : Standing) (behind old mid new : List ℕ) → mid ≡ old ++ problem_text k p
+    → OnOk r ((x : List ℕ) × DrawsBehind p behind x × (new ≡ mid ++ x)) → OnOk r ((x : List ℕ) × IsTreeText k (Ok p) behind x × (new ≡ old ++ x))
+problem_behind (Ok y) k p behind old mid new e w =
+    (problem_text k p ++ w.0, (w.0, w.1, refl), w.2 ∙ ap (λ (x : List ℕ). x ++ w.0) e ∙ append_assoc old (problem_text k p) w.0)
+problem_behind (Err y) k p behind old mid new e w = w
+
+-- the same of the tree that is this problem
+pub tree_is : (r s : Result Standing GameFault) (k : ℕ) (behind old new : List ℕ) → r ≡ s → (x : List ℕ) × IsTreeText k s behind x × (new ≡ old ++ x)
+    → (x : List ℕ) × IsTreeText k r behind x × (new ≡ old ++ x)
+tree_is r s k behind old new e w = (w.0, subst (λ (q : Result Standing GameFault). IsTreeText k q behind w.0) (sym e) w.1, w.2)

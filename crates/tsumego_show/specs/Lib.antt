@@ -1,4 +1,5 @@
 -- What public contracts cite.
+pub mod Drawing
 pub mod Hints
 pub mod Picture
 pub mod Shown

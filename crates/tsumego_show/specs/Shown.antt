@@ -6,6 +6,8 @@ use Rattle.tt_game.specs.declared.faults.GameFault.{GameFault}
 use Rattle.tt_game.specs.Faults.{code_of}
 use Rattle.tt_game.specs.Line.{Standing}
 use Rattle.tt_game.specs.Problems.{problem_of}
+use Rattle.tt_sgf.specs.Values.{trimmed}
+use Rattle.tsumego_show.specs.Drawing.{Draws}
 use Rattle.tsumego_show.specs.Hints.{hints}
 use Rattle.tsumego_show.specs.Picture.{picture}
 
@@ -13,25 +15,35 @@ use Rattle.tsumego_show.specs.Picture.{picture}
 abbrev pub refusal : ℕ → ℕ → List ℕ
 refusal k code = decimal k ++ (codes " refused " ++ (decimal code ++ 10 ∷ []))
 
--- the text on tree number k, which is a problem or refused
-abbrev pub tree_text : ℕ → Result Standing GameFault → List ℕ
-tree_text k (Ok p) = decimal k ++ (32 ∷ (picture p ++ hints p))
-tree_text k (Err e) = refusal k (code_of e)
+-- a `(` stands in the bytes
+abbrev pub HasOpen : List ℕ → Type 0
+HasOpen bytes = Contains bytes 40
+
+-- The text on what follows a problem: nothing where a tree may follow; else that on a certificate, without the white space
+-- at both ends.
+pub data DrawsBehind (p : Standing) (behind : List ℕ) : List ℕ → Type 0 where
+  more_trees : HasOpen behind → DrawsBehind p behind []
+  last_tree : (text : List ℕ) → (HasOpen behind → ⊥) → Draws p (trimmed behind) text → DrawsBehind p behind text
+
+-- the number, the picture and the hints
+abbrev pub problem_text : ℕ → Standing → List ℕ
+problem_text k p = decimal k ++ (32 ∷ (picture p ++ hints p))
+
+-- the text on tree number k, which is a problem or refused, and is followed by these bytes
+abbrev pub IsTreeText : ℕ → Result Standing GameFault → List ℕ → List ℕ → Type 0
+IsTreeText k (Ok p) behind text = (drawn : List ℕ) × DrawsBehind p behind drawn × (text ≡ problem_text k p ++ drawn)
+IsTreeText k (Err e) behind text = text ≡ refusal k (code_of e)
 
 abbrev pub is_refused : Result Standing GameFault → Bool
 is_refused (Ok p) = false
 is_refused (Err e) = true
 
--- a `(` stands in the bytes
-abbrev pub HasOpen : List ℕ → Type 0
-HasOpen bytes = Contains bytes 40
-
 -- The text on bytes whose first tree has number k, and whether something is refused: a tree and what follows it; or no tree is
 -- left, and none was wanted; or none is spelled where one is wanted: at a `(`, or where no tree was read yet.
 pub data Tells : ℕ → List ℕ → List ℕ → Bool → Type 0 where
-  tree : (k : ℕ) (bytes : List ℕ) (count : ℕ) (t : GameTree) (more : List ℕ) (refused : Bool) → SpelledUpTo bytes count t
-      → Tells (k + 1) (drop count bytes) more refused
-      → Tells k bytes (tree_text k (problem_of (main_line t)) ++ more) (is_refused (problem_of (main_line t)) || refused)
+  tree : (k : ℕ) (bytes : List ℕ) (count : ℕ) (t : GameTree) (text more : List ℕ) (refused : Bool) → SpelledUpTo bytes count t
+      → IsTreeText k (problem_of (main_line t)) (drop count bytes) text → Tells (k + 1) (drop count bytes) more refused
+      → Tells k bytes (text ++ more) (is_refused (problem_of (main_line t)) || refused)
   ended : (k : ℕ) (bytes : List ℕ) → 1 < k → (HasOpen bytes → ⊥) → Tells k bytes [] false
   stopped : (k : ℕ) (bytes : List ℕ) → (k ≡ 1) ⊎ HasOpen bytes → HasNoTree bytes → Tells k bytes (refusal k 1) true
 

@@ -1,9 +1,11 @@
 //! The program: shows the problems of standard input as they were read.
 #![tactic(auto)]
 
+mod drawing;
 mod fault;
 mod hints;
 mod input;
+mod laws;
 mod marks;
 mod output;
 mod picture;

@@ -143,7 +143,7 @@ fn put_board(out: &mut Vec<u8>, line: &Line) -> Result<(), NoMemory>
 
 /// The name of a colour.
 #[tactic(auto, unfolding(crate::specs::Picture::colour_name))]
-fn colour_name(colour: Colour) -> &'static [u8]
+pub fn colour_name(colour: Colour) -> &'static [u8]
     ensures { result.now ≡ colour_name colour }
 {
     match colour {
@@ -152,12 +152,12 @@ fn colour_name(colour: Colour) -> &'static [u8]
     }
 }
 
-/// The colour that moves.
-fn mover(line: &Line) -> Colour
-    ensures { result ≡ colour_of line.now.frame line.now.state.to_move }
+/// The colour of a side.
+pub fn colour_of(line: &Line, side: Side) -> Colour
+    ensures { result ≡ colour_of line.now.frame side }
 {
     let defender = line.frame().defender;
-    match line.to_move() {
+    match side {
         Side::Attacker => defender.other(),
         Side::Defender => defender,
     }
@@ -167,7 +167,7 @@ fn mover(line: &Line) -> Colour
 fn put_mover(out: &mut Vec<u8>, line: &Line) -> Result<(), NoMemory>
     ensures { OnOk result (out.new.items ≡ out.old.items ++ mover_text line.now) }
 {
-    out.extend_from_slice(colour_name(mover(line)))?;
+    out.extend_from_slice(colour_name(colour_of(line, line.to_move())))?;
     out.extend_from_slice(b" to move, ")?;
     Ok(())
 }

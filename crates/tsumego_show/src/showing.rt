@@ -1,13 +1,14 @@
 //! The text for an input.
-ghost use Rattle.std.specs.Prelude.{◌≡◌, ◌++◌, if◌then◌else◌, IfOk, OnOk, Ok};
+ghost use Rattle.std.specs.Prelude.{◌≡◌, ◌++◌, if◌then◌else◌, ℕ, List, IfOk, OnOk, Ok};
 ghost use Rattle.tt_game.specs.Problems.{problem_of};
-ghost use Rattle.tsumego_show.specs.Shown.{IsShown, is_refused, refusal, tree_text};
+ghost use Rattle.tsumego_show.specs.Shown.{DrawsBehind, IsShown, IsTreeText, is_refused, problem_text, refusal};
 
+use crate::drawing::put_certificate;
 use crate::hints::put_hints;
 use crate::picture::put_picture;
 use std::alloc::Global;
 use tt_game::{GameFault, Line, problem};
-use tt_sgf::{MainLine, NoMemory, SgfFault, has_tree, read_tree};
+use tt_sgf::{MainLine, NoMemory, SgfFault, has_tree, read_tree, trim};
 
 /// Writes the line of a refusal behind the text.
 fn put_refusal(alloc: Global, out: &mut Vec<u8>, number: usize, code: u8) -> Result<(), NoMemory>
@@ -18,9 +19,19 @@ fn put_refusal(alloc: Global, out: &mut Vec<u8>, number: usize, code: u8) -> Res
     Ok(())
 }
 
+/// Writes the strategy behind the last problem of an input behind the text, where a certificate follows it.
+fn put_behind(alloc: Global, out: &mut Vec<u8>, line: &Line, behind: &[u8]) -> Result<(), NoMemory>
+    ensures { OnOk result ((text : List ℕ) × DrawsBehind line.now behind.now text × (out.new.items ≡ out.old.items ++ text)) }
+{
+    if has_tree(behind) {
+        return Ok(());
+    }
+    put_certificate(alloc, out, line, trim(behind))
+}
+
 /// Writes a problem behind the text.
 fn put_problem(alloc: Global, out: &mut Vec<u8>, number: usize, line: &Line) -> Result<(), NoMemory>
-    ensures { OnOk result (out.new.items ≡ out.old.items ++ tree_text number (Ok line.now)) }
+    ensures { OnOk result (out.new.items ≡ out.old.items ++ problem_text number line.now) }
 {
     let text = format!(in alloc; "{number} ")?;
     out.extend_from_slice(text.as_bytes())?;
@@ -28,19 +39,35 @@ fn put_problem(alloc: Global, out: &mut Vec<u8>, number: usize, line: &Line) -> 
     put_hints(alloc, out, line)
 }
 
-/// Writes the text on a tree behind the text, and says whether it was refused.
+/// Writes a problem, and the strategy behind it, behind the text.
+fn put_whole(
+    alloc: Global,
+    out: &mut Vec<u8>,
+    number: usize,
+    line: &Line,
+    behind: &[u8],
+) -> Result<(), NoMemory>
+    ensures { OnOk result ((text : List ℕ) × IsTreeText number (Ok line.now) behind.now text × (out.new.items ≡ out.old.items ++ text)) }
+{
+    put_problem(alloc, out, number, line)?;
+    put_behind(alloc, out, line, behind)
+}
+
+/// Writes the text on a tree, which these bytes follow, behind the text, and says whether it was refused.
 fn put_tree(
     alloc: Global,
     out: &mut Vec<u8>,
     number: usize,
     main: &MainLine,
+    behind: &[u8],
 ) -> Result<bool, NoMemory>
-    ensures text { OnOk result (out.new.items ≡ out.old.items ++ tree_text number (problem_of main.now.nodes)) }
+    ensures text { OnOk result ((text : List ℕ) × IsTreeText number (problem_of main.now.nodes) behind.now text
+        × (out.new.items ≡ out.old.items ++ text)) }
     ensures refused { IfOk result (λ refused. refused ≡ is_refused (problem_of main.now.nodes)) }
 {
     match problem(alloc, main) {
         Ok(line) => {
-            put_problem(alloc, out, number, &line)?;
+            put_whole(alloc, out, number, &line, behind)?;
             Ok(false)
         }
         Err(GameFault::NoMemory) => Err(NoMemory),
@@ -69,8 +96,8 @@ pub fn show(alloc: Global, input: &[u8]) -> Result<(Vec<u8>, u8), NoMemory>
     while number == 1 || has_tree(rest) {
         match read_tree(alloc, rest) {
             Ok((main, used)) => {
-                refused |= put_tree(alloc, &mut out, number, &main)?;
                 rest = &rest[used..];
+                refused |= put_tree(alloc, &mut out, number, &main, rest)?;
                 number += 1;
             }
             Err(SgfFault::Syntax) => {

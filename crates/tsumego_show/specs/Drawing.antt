@@ -1,0 +1,64 @@
+-- A strategy as an indented tree: a line for each turn, and what follows it further in.
+use Rattle.std.specs.Prelude.{◌≡◌, ◌⊎◌, ◌+◌, ◌-◌, ◌==◌, ℕ, nat_lt, nat_eq, List, [], ◌∷◌, ◌++◌, codes, replicate, if◌then◌else◌}
+use Rattle.tt_sgf.specs.declared.size.Size.{Size}
+use Rattle.tt_sgf.specs.Values.{trimmed}
+use Rattle.tt_board.specs.declared.Colour.{Colour}
+use Rattle.tt_board.specs.Play.{other}
+use Rattle.tt_game.specs.declared.frame.Side.{Side}
+use Rattle.tt_game.specs.declared.turns.Turn.{Turn}
+use Rattle.tt_game.specs.declared.turns.Turn.TheVariants.{Play, Pass}
+use Rattle.tt_game.specs.Game.{colour_of}
+use Rattle.tt_game.specs.Line.{Standing}
+use Rattle.tt_proof.specs.CertificateText.{IsCertificate, IsTooDeep, turn_text}
+use Rattle.tt_proof.specs.Strategy.{Strategy, Entries, done, pick, reply, none, entry}
+use Rattle.tsumego_show.specs.Picture.{colour_name}
+
+-- one step further in; the blanks in front of a line are 40 at the most
+abbrev pub deeper : ℕ → ℕ
+deeper level = if nat_lt level 40 then level + 1 else level
+
+module _ (size : Size) where
+  -- `ca` is the third column of the first row
+  abbrev pub shown_turn : Turn → List ℕ
+  shown_turn (Play p) = turn_text size (Play p)
+  shown_turn Pass = codes "pass"
+
+  -- blanks, who plays, and the turn; byte 10 ends the line
+  unfoldable pub turn_line : ℕ → Colour → Turn → List ℕ
+  turn_line level k t = replicate level 32 ++ (colour_name k ++ (32 ∷ (shown_turn t ++ 10 ∷ [])))
+
+  module _ (own : Colour) where
+    abbrev mutual
+      -- the side's own turn, and how it goes on; or each turn of the other side with its answer
+      pub tree_lines : ℕ → Strategy → List ℕ
+      tree_lines level done = []
+      tree_lines level (pick t u) = turn_line level own t ++ tree_lines (deeper level) u
+      tree_lines level (reply es) = entries_lines level es
+
+      pub entries_lines : ℕ → Entries → List ℕ
+      entries_lines level none = []
+      entries_lines level (entry t u es) = turn_line level (other own) t ++ (tree_lines (deeper level) u ++ entries_lines level es)
+
+-- the first n lines, and a line of three dots where there are more
+unfoldable pub first_lines : ℕ → List ℕ → List ℕ
+first_lines n [] = []
+first_lines n (b ∷ bs) = if nat_eq n 0 then codes "...\n" else b ∷ first_lines (if b == 10 then n - 1 else n) bs
+
+-- how many lines of a strategy are shown
+abbrev pub most_lines : ℕ
+most_lines = 60
+
+abbrev pub heading : Colour → List ℕ
+heading k = colour_name k ++ codes "'s strategy:\n"
+
+module _ (p : Standing) where
+  -- whose strategy it is, and its first lines
+  abbrev pub strategy_text : Side → Strategy → List ℕ
+  strategy_text side u =
+      heading (colour_of p.frame side) ++ first_lines most_lines (tree_lines p.frame.size (colour_of p.frame side) 1 u)
+
+  -- the text on bytes that may be a certificate
+  pub data Draws (bytes : List ℕ) : List ℕ → Type 0 where
+    drawn : (side : Side) (u : Strategy) → IsCertificate p.frame.size bytes side u → (IsTooDeep p.frame.size bytes → ⊥)
+        → Draws bytes (strategy_text side u)
+    not_drawn : ((side : Side) (u : Strategy) → IsCertificate p.frame.size bytes side u → ⊥) ⊎ IsTooDeep p.frame.size bytes → Draws bytes []
