@@ -5,6 +5,7 @@ mod drawing;
 mod fault;
 mod hints;
 mod input;
+mod laws;
 mod marks;
 mod output;
 mod picture;

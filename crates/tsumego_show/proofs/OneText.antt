@@ -1,0 +1,97 @@
+-- An input has one text and one status.
+use Rattle.std.proofs.Common.{◌≡◌, ◌⊎◌, ℕ, Bool, List, [], ◌∷◌, ◌++◌, ◌||◌, ◌+◌, inl, inr, Ok, Err, refl, sym, ap, ap₂, ◌∙◌, drop, arith, append-nil, subst, Contains, if◌then◌else◌}
+use Rattle.std.specs.declared.result.Result.{Result}
+use Rattle.std.proofs.lemmas.List.{append_cancel_left}
+use Rattle.std.proofs.lemmas.List.Elements.{Contains-append_left, Contains-append_right}
+use Rattle.tt_sgf.specs.declared.size.Size.{Size}
+use Rattle.tt_sgf.specs.Grammar.{GameTree, SpelledUpTo, game, main_line}
+use Rattle.tt_sgf.specs.Values.{trimmed}
+use Rattle.tt_game.specs.declared.faults.GameFault.{GameFault}
+use Rattle.tt_game.specs.declared.frame.Side.{Side}
+use Rattle.tt_game.specs.declared.frame.Side.TheVariants.{Attacker, Defender}
+use Rattle.tt_game.specs.Line.{Standing}
+use Rattle.tt_game.specs.Problems.{problem_of}
+use Rattle.tt_proof.specs.CertificateText.{IsCertificate, IsTooDeep, side_text, tree_text}
+use Rattle.tt_proof.specs.Laws.{OneReading}
+use Rattle.tt_proof.specs.Strategy.{Strategy}
+use Rattle.tsumego_show.specs.Drawing.{Draws, drawn, not_drawn, strategy_text}
+use Rattle.tsumego_show.specs.Shown.{DrawsBehind, HasOpen, IsShown, IsTold, IsTreeText, Tells, ended, is_refused, last_tree, more_trees, problem_text, stopped, too_long, tree, trees}
+
+-- the text of a tree begins with a bracket
+spelled_opens : (bytes : List ℕ) (count : ℕ) (t : GameTree) → SpelledUpTo bytes count t → HasOpen bytes
+spelled_opens bytes count (game nodes below) s =
+    let opens : Contains s.text 40 = subst (λ (x : List ℕ). Contains x 40) (sym s.spells.7) (0, omega arith, refl) in
+    subst (λ (x : List ℕ). Contains x 40) (sym s.parts) (Contains-append_right s.skipped (s.text ++ s.rest) 40 (Contains-append_left s.text s.rest 40 opens))
+
+abbrev first : List ℕ → ℕ
+first [] = 0
+first (b ∷ bs) = b
+
+-- from the first bracket on, the bytes begin with a text of one tree at most
+abbrev pub OneTree : Type 0
+OneTree = (bytes : List ℕ) (n m : ℕ) (s t : GameTree) → SpelledUpTo bytes n s → SpelledUpTo bytes m t → (n ≡ m) × (s ≡ t)
+
+module _ (one : OneReading) where
+  tree_same : (size : Size) (u v : Strategy) → tree_text size u ≡ tree_text size v → u ≡ v
+  tree_same size u v e = (one size u v [] [] (append-nil (tree_text size u) ∙ e ∙ sym (append-nil (tree_text size v)))).0
+
+  -- equal certificates are of one side and one strategy
+  texts_same : (size : Size) (s t : Side) (u v : Strategy) (bytes : List ℕ) → IsCertificate size bytes s u → IsCertificate size bytes t v → (s ≡ t) × (u ≡ v)
+  texts_same size Attacker Attacker u v bytes a b = (refl, tree_same size u v (append_cancel_left (side_text Attacker) (tree_text size u) (tree_text size v) (sym a.text ∙ b.text)))
+  texts_same size Defender Defender u v bytes a b = (refl, tree_same size u v (append_cancel_left (side_text Defender) (tree_text size u) (tree_text size v) (sym a.text ∙ b.text)))
+  texts_same size Attacker Defender u v bytes a b = let bad : 107 ≡ 108 = ap first (sym a.text ∙ b.text) in absurd (omega (arith, bad))
+  texts_same size Defender Attacker u v bytes a b = let bad : 108 ≡ 107 = ap first (sym a.text ∙ b.text) in absurd (omega (arith, bad))
+
+  none_drawn : (p : Standing) (bytes : List ℕ) (side : Side) (u : Strategy) → IsCertificate p.frame.size bytes side u → (IsTooDeep p.frame.size bytes → ⊥)
+      → ((s : Side) (v : Strategy) → IsCertificate p.frame.size bytes s v → ⊥) ⊎ IsTooDeep p.frame.size bytes → ⊥
+  none_drawn p bytes side u is flat (inl none) = none side u is
+  none_drawn p bytes side u is flat (inr deep) = flat deep
+
+  drawn_same : (p : Standing) (bytes s t : List ℕ) → Draws p bytes s → Draws p bytes t → s ≡ t
+  drawn_same p bytes s t (drawn a u is flat) (drawn b v are low) =
+      let same = texts_same p.frame.size a b u v bytes is are in ap₂ (λ (x : Side) (y : Strategy). strategy_text p x y) same.0 same.1
+  drawn_same p bytes s t (drawn a u is flat) (not_drawn none) = absurd (none_drawn p bytes a u is flat none)
+  drawn_same p bytes s t (not_drawn none) (drawn a u is flat) = absurd (none_drawn p bytes a u is flat none)
+  drawn_same p bytes s t (not_drawn none) (not_drawn more) = refl
+
+  behind_same : (p : Standing) (behind s t : List ℕ) → DrawsBehind p behind s → DrawsBehind p behind t → s ≡ t
+  behind_same p behind s t (more_trees a) (more_trees b) = refl
+  behind_same p behind s t (more_trees a) (last_tree t' none d) = absurd (none a)
+  behind_same p behind s t (last_tree s' none d) (more_trees b) = absurd (none b)
+  behind_same p behind s t (last_tree s' none d) (last_tree t' never e) = drawn_same p (trimmed behind) s' t' d e
+
+  tree_text_same : (k : ℕ) (r : Result Standing GameFault) (behind s t : List ℕ) → IsTreeText k r behind s → IsTreeText k r behind t → s ≡ t
+  tree_text_same k (Ok p) behind s t a b = a.2 ∙ ap (λ (x : List ℕ). problem_text k p ++ x) (behind_same p behind a.0 b.0 a.1 b.1) ∙ sym b.2
+  tree_text_same k (Err e) behind s t a b = a ∙ sym b
+
+  module _ (reading : OneTree) where
+    told_same : (k : ℕ) (bytes s t : List ℕ) (a b : Bool) → Tells k bytes s a → Tells k bytes t b → (s ≡ t) × (a ≡ b)
+    told_same k bytes s t a b (tree _ _ n g x more refused spells is rest) (tree _ _ m h y more' refused' spells' is' rest') =
+        let same = reading bytes n m g h spells spells' in
+        let its : IsTreeText k (problem_of (main_line h)) (drop m bytes) x =
+        subst (λ (q : GameTree). IsTreeText k (problem_of (main_line q)) (drop m bytes) x) same.1 (subst (λ q. IsTreeText k (problem_of (main_line g)) (drop q bytes) x) same.0 is) in
+        let go = told_same (k + 1) (drop m bytes) more more' refused refused' (subst (λ q. Tells (k + 1) (drop q bytes) more refused) same.0 rest) rest' in (
+          ap₂ (λ (q w : List ℕ). q ++ w) (tree_text_same k (problem_of (main_line h)) (drop m bytes) x y its is') go.0,
+          ap₂ (λ (q : GameTree) (w : Bool). is_refused (problem_of (main_line q)) || w) same.1 go.1,
+        )
+    told_same k bytes s t a b (tree _ _ n g x more refused spells is rest) (ended _ _ many none) = absurd (none (spelled_opens bytes n g spells))
+    told_same k bytes s t a b (tree _ _ n g x more refused spells is rest) (stopped _ _ why none) = absurd (none g n spells)
+    told_same k bytes s t a b (ended _ _ many none) (tree _ _ m h y more' refused' spells' is' rest') = absurd (none (spelled_opens bytes m h spells'))
+    told_same k bytes s t a b (ended _ _ many none) (ended _ _ many' none') = (refl, refl)
+    told_same k bytes s t a b (ended _ _ many none) (stopped _ _ (inl e) none') = absurd (omega arith)
+    told_same k bytes s t a b (ended _ _ many none) (stopped _ _ (inr opens) none') = absurd (none opens)
+    told_same k bytes s t a b (stopped _ _ why none) (tree _ _ m h y more' refused' spells' is' rest') = absurd (none h m spells')
+    told_same k bytes s t a b (stopped _ _ (inl e) none) (ended _ _ many none') = absurd (omega arith)
+    told_same k bytes s t a b (stopped _ _ (inr opens) none) (ended _ _ many none') = absurd (none' opens)
+    told_same k bytes s t a b (stopped _ _ why none) (stopped _ _ why' none') = (refl, refl)
+
+    whole_same : (input s t : List ℕ) (a b : Bool) → IsTold input s a → IsTold input t b → (s ≡ t) × (a ≡ b)
+    whole_same input s t a b (too_long long) (too_long more) = (refl, refl)
+    whole_same input s t a b (too_long long) (trees t' b' small h) = absurd (omega arith)
+    whole_same input s t a b (trees s' a' small h) (too_long long) = absurd (omega arith)
+    whole_same input s t a b (trees s' a' small h) (trees t' b' little g) = told_same 1 input s' t' a' b' h g
+
+    pub shown_same : (input s t : List ℕ) (m n : ℕ) → IsShown input s m → IsShown input t n → (s ≡ t) × (m ≡ n)
+    shown_same input s t m n a b =
+        let same = whole_same input s t a.0 b.0 a.1 b.1 in
+        (same.0, a.2 ∙ ap (λ (x : Bool). if x then 1 else 0) same.1 ∙ sym b.2)

@@ -1,0 +1,5 @@
+use Rattle.tsumego_show.proofs.OneText.{shown_same}
+use Rattle.tsumego_show.proofs.laws.one_text.Goals as goal
+
+pub returns : goal.returns
+returns c = λ input s t m n. shown_same c.one_reading-2.ensures c.one_reading.ensures input s t m n
