@@ -1,10 +1,10 @@
 -- An input has one text and one status.
-use Rattle.std.proofs.Common.{◌≡◌, ◌≢◌, ◌⊎◌, ◌<◌, ℕ, Bool, List, [], ◌∷◌, ◌++◌, ◌||◌, ◌+◌, inl, inr, Ok, Err, refl, sym, ap, ap₂, ◌∙◌, drop, arith, append-nil, subst, Contains, if◌then◌else◌}
+use Rattle.std.proofs.Common.{◌≡◌, ◌⊎◌, ℕ, Bool, List, [], ◌∷◌, ◌++◌, ◌||◌, ◌+◌, inl, inr, Ok, Err, refl, sym, ap, ap₂, ◌∙◌, drop, arith, append-nil, subst, Contains, if◌then◌else◌}
 use Rattle.std.specs.declared.result.Result.{Result}
 use Rattle.std.proofs.lemmas.List.{append_cancel_left}
 use Rattle.std.proofs.lemmas.List.Elements.{Contains-append_left, Contains-append_right}
 use Rattle.tt_sgf.specs.declared.size.Size.{Size}
-use Rattle.tt_sgf.specs.Grammar.{GameTree, HasNoTree, SpelledUpTo, game, main_line}
+use Rattle.tt_sgf.specs.Grammar.{GameTree, SpelledUpTo, game, main_line}
 use Rattle.tt_sgf.specs.Values.{trimmed}
 use Rattle.tt_game.specs.declared.faults.GameFault.{GameFault}
 use Rattle.tt_game.specs.declared.frame.Side.{Side}
@@ -19,7 +19,7 @@ use Rattle.tsumego_show.specs.Shown.{DrawsBehind, HasOpen, IsShown, IsTold, IsTr
 
 -- the text of a tree begins with a bracket
 spelled_opens : (bytes : List ℕ) (count : ℕ) (t : GameTree) → SpelledUpTo bytes count t → HasOpen bytes
-spelled_opens bytes count (game nodes trees) s =
+spelled_opens bytes count (game nodes below) s =
     let opens : Contains s.text 40 = subst (λ (x : List ℕ). Contains x 40) (sym s.spells.7) (0, omega arith, refl) in
     subst (λ (x : List ℕ). Contains x 40) (sym s.parts) (Contains-append_right s.skipped (s.text ++ s.rest) 40 (Contains-append_left s.text s.rest 40 opens))
 
@@ -70,18 +70,19 @@ module _ (one : OneReading) where
         let same = reading bytes n m g h spells spells' in
         let its : IsTreeText k (problem_of (main_line h)) (drop m bytes) x =
         subst (λ (q : GameTree). IsTreeText k (problem_of (main_line q)) (drop m bytes) x) same.1 (subst (λ q. IsTreeText k (problem_of (main_line g)) (drop q bytes) x) same.0 is) in
-        let go = told_same (k + 1) (drop m bytes) more more' refused refused' (subst (λ q. Tells (k + 1) (drop q bytes) more refused) same.0 rest) rest' in
-        (ap₂ (λ (q w : List ℕ). q ++ w) (tree_text_same k (problem_of (main_line h)) (drop m bytes) x y its is') go.0,
-        ap₂ (λ (q : GameTree) (w : Bool). is_refused (problem_of (main_line q)) || w) same.1 go.1)
+        let go = told_same (k + 1) (drop m bytes) more more' refused refused' (subst (λ q. Tells (k + 1) (drop q bytes) more refused) same.0 rest) rest' in (
+          ap₂ (λ (q w : List ℕ). q ++ w) (tree_text_same k (problem_of (main_line h)) (drop m bytes) x y its is') go.0,
+          ap₂ (λ (q : GameTree) (w : Bool). is_refused (problem_of (main_line q)) || w) same.1 go.1,
+        )
     told_same k bytes s t a b (tree _ _ n g x more refused spells is rest) (ended _ _ many none) = absurd (none (spelled_opens bytes n g spells))
     told_same k bytes s t a b (tree _ _ n g x more refused spells is rest) (stopped _ _ why none) = absurd (none g n spells)
     told_same k bytes s t a b (ended _ _ many none) (tree _ _ m h y more' refused' spells' is' rest') = absurd (none (spelled_opens bytes m h spells'))
     told_same k bytes s t a b (ended _ _ many none) (ended _ _ many' none') = (refl, refl)
     told_same k bytes s t a b (ended _ _ many none) (stopped _ _ (inl e) none') = absurd (omega arith)
-    told_same k bytes s t a b (ended _ _ many none) (stopped _ _ (inr open) none') = absurd (none open)
+    told_same k bytes s t a b (ended _ _ many none) (stopped _ _ (inr opens) none') = absurd (none opens)
     told_same k bytes s t a b (stopped _ _ why none) (tree _ _ m h y more' refused' spells' is' rest') = absurd (none h m spells')
     told_same k bytes s t a b (stopped _ _ (inl e) none) (ended _ _ many none') = absurd (omega arith)
-    told_same k bytes s t a b (stopped _ _ (inr open) none) (ended _ _ many none') = absurd (none' open)
+    told_same k bytes s t a b (stopped _ _ (inr opens) none) (ended _ _ many none') = absurd (none' opens)
     told_same k bytes s t a b (stopped _ _ why none) (stopped _ _ why' none') = (refl, refl)
 
     whole_same : (input s t : List ℕ) (a b : Bool) → IsTold input s a → IsTold input t b → (s ≡ t) × (a ≡ b)

@@ -1,7 +1,6 @@
 -- A strategy as an indented tree: a line for each turn, and what follows it further in.
-use Rattle.std.specs.Prelude.{◌≡◌, ◌⊎◌, ◌+◌, ◌-◌, ◌==◌, ℕ, nat_lt, nat_eq, List, [], ◌∷◌, ◌++◌, codes, replicate, if◌then◌else◌}
+use Rattle.std.specs.Prelude.{◌⊎◌, ◌+◌, ◌-◌, ◌==◌, ℕ, nat_lt, nat_eq, List, [], ◌∷◌, ◌++◌, codes, replicate, if◌then◌else◌}
 use Rattle.tt_sgf.specs.declared.size.Size.{Size}
-use Rattle.tt_sgf.specs.Values.{trimmed}
 use Rattle.tt_board.specs.declared.Colour.{Colour}
 use Rattle.tt_board.specs.Play.{other}
 use Rattle.tt_game.specs.declared.frame.Side.{Side}

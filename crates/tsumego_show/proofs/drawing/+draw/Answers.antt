@@ -1,4 +1,4 @@
-use Rattle.std.proofs.Common.{rules, ◌≡◌, ◌∙◌, ◌++◌, List, [], ◌∷◌, ℕ, Result, Ok, Err, OnOk, ap, append_assoc, append-nil, sym}
+use Rattle.std.proofs.Common.{rules, ◌≡◌, ◌∙◌, ◌++◌, List, ℕ, Result, Ok, Err, OnOk, ap, append_assoc, append-nil, sym}
 use Rattle.tt_proof.specs.declared.tree.Tree.TheViews.{the_lemmas}
 use Rattle.tt_proof.proofs.StrategyLemmas.{strategy_of_done, strategy_of_pick, strategy_of_reply}
 use Rattle.tsumego_show.proofs.drawing.+draw.Goals as goal
