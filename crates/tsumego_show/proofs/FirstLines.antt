@@ -1,5 +1,6 @@
 -- Lemmas on the first lines of a text, and on what is drawn of a certificate.
-use Rattle.std.proofs.Common.{◌≡◌, inl, inr, ℕ, ◌-◌, Bool, false, nat_eq, rules, List, [], length, suc, ◌∷◌, ◌++◌, codes, sym, ◌∙◌, if◌then◌else◌, ◌==◌, ap, ap₂, append-nil, append_assoc, subst, Result, Ok, Err, OnOk, arith}
+use Rattle.std.proofs.Common.{◌≡◌, inl, inr, ℕ, ◌-◌, Bool, false, nat_eq, rules, List, [], length, suc, ◌∷◌, ◌++◌, codes, sym, ◌∙◌, if◌then◌else◌, ◌==◌, ap, ap₂, append-nil}
+use Rattle.std.proofs.Common.{append_assoc, subst, Result, Ok, Err, OnOk, arith}
 use Rattle.std.proofs.lemmas.Bool.{cases_Bool}
 use Rattle.tt_game.specs.declared.frame.Frame.{Frame}
 use Rattle.tt_game.specs.declared.frame.Side.{Side}

@@ -14,7 +14,7 @@ put_tree-put_tree-requires t c =
 pub put_tree-put_entries-requires : goal.put_tree-put_entries-requires
 put_tree-put_entries-requires t c =
     let ordered = rw (c.in-Reply.is, strategy_of_reply) at c.requires.in_order in
-    (search (rules, the_lemmas), rw c.deref-in-Reply.ensures.value ordered)
+    (search (rules, the_lemmas), rw (c.deref-in-Reply-2.ensures.value, c.deref-in-Reply.ensures) ordered)
 
 pub put_tree-returns-in-Done : goal.put_tree-returns-in-Done
 put_tree-returns-in-Done t c = rw (c.in-Done.is, strategy_of_done) (sym (append-nil c.args.out.now.items))
@@ -32,4 +32,4 @@ put_tree-returns-in_ok-put_line-in-Pick t c =
     joined a b x y e = ap (λ w. w ++ y) e ∙ append_assoc a x y
 
 pub put_tree-returns-in-Reply : goal.put_tree-returns-in-Reply
-put_tree-returns-in-Reply t c = rw (c.in-Reply.is, strategy_of_reply, ← c.deref-in-Reply.ensures.value) c.put_entries.ensures
+put_tree-returns-in-Reply t c = rw (c.in-Reply.is, strategy_of_reply, ← c.deref-in-Reply.ensures, ← c.deref-in-Reply-2.ensures.value) c.put_entries.ensures
