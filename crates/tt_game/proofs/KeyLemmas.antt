@@ -69,7 +69,7 @@ packed_tells size test tell h p lt =
     let n = point_count size in
     let few = few_points size in
     let wide = λ (t : ℕ → Bool). (let w : length (map t (range_with_len 0 n) ++ replicate (384 - n) false) ≡ 64 * 6 = omega
-        (arith, few, length-append (map t (range_with_len 0 n)) (replicate (384 - n) false), length-map-range_with_len t 0 n, length-replicate (384 - n) false) in w) in
+    (arith, few, length-append (map t (range_with_len 0 n)) (replicate (384 - n) false), length-map-range_with_len t 0 n, length-replicate (384 - n) false) in w) in
     let marks = append_cancel_right (map test (range_with_len 0 n)) (map tell (range_with_len 0 n)) (replicate (384 - n) false) (words_tell 6 _ _ (wide test) (wide tell) h) in
     sym (get_or-map-range_with_len test 0 n p p false lt (omega arith)) ∙ ap (λ xs. get_or xs p false) marks ∙ get_or-map-range_with_len tell 0 n p p false lt (omega arith)
 
@@ -170,7 +170,7 @@ packed_is size test words wide fits bits =
     let few : binary part < 2 ^ 64 = omega (arith, binary-below part, Rattle.std.proofs.Math.Pow.pow_mono short) in
     same_from_bits_below 64 (get_or words k 0) (binary part) (fits k) few (λ i small.
     bit_is words k i small ∙ sym (bit_binary part i ∙ ap (λ b. cond b 1 0) (get_or-take 64 (drop (64 * k) marks) i false small ∙ get_or-drop (64 * k) marks i false
-        ∙ mark_is size test words bits (64 * k + i) (omega arith))))
+    ∙ mark_is size test words bits (64 * k + i) (omega arith))))
     ∙ sym (word_of 6 marks k lt))
 
 -- the key is told by the frame, the present colouring, the side to move and the passes

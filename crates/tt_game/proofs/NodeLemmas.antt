@@ -82,7 +82,7 @@ left : (size : Size) (vs ws : List (List ℕ)) (pts : set.FinSet nat_cmp) (q : �
 left size vs ws pts q =
     set.contains-union nat_cmp_total (set.union pts (passing (covered size vs) 361)) (passing (covered size ws) 361) q
     ∙ ap₂ (λ x y. x || y) (set.contains-union nat_cmp_total pts (passing (covered size vs) 361) q ∙ ap (λ y. set.contains pts q || y) (contains-passing (covered size vs) 361 q))
-        (contains-passing (covered size ws) 361 q)
+    (contains-passing (covered size ws) 361 q)
 
 -- and the same, put together at once
 right : (size : Size) (vs ws : List (List ℕ)) (pts : set.FinSet nat_cmp) (q : ℕ)

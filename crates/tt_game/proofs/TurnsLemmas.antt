@@ -67,8 +67,13 @@ below_gap f s n m le none =
 pub length-below : (f : Frame) (s : State) (n : ℕ) → length (successors_below f s n) ≤ n
 unfolding successors_below
 length-below f s n =
-    omega (arith, length-map (filter (is_legal f s) (plays n)) (successor f s), length-filter (is_legal f s) (plays n), count_by-le-length (is_legal f s) (plays n),
-        length-map-range_with_len (λ q. Play q) 0 n)
+    omega (
+      arith,
+      length-map (filter (is_legal f s) (plays n)) (successor f s),
+      length-filter (is_legal f s) (plays n),
+      count_by-le-length (is_legal f s) (plays n),
+      length-map-range_with_len (λ q. Play q) 0 n,
+    )
 
 -- nobody has won: the plays, and the pass
 pub below_all : (f : Frame) (s : State) (n : ℕ) → n ≡ point_count f.size → winner_of f s ≡ None → successors_below f s n ++ successor f s Pass ∷ [] ≡ successors_of f s

@@ -64,7 +64,7 @@ abbrev pub Forces : Frame → Side → ℕ → State → Type 0
 Forces f side zero s = winner_of f s ≡ Some side
 Forces f side (suc n) s =
     (winner_of f s ≡ Some side) ⊎ ((winner_of f s ≡ None) × (((s.to_move ≡ side) × ((t : Turn) × IsLegal f s t × Forces f side n (after f s t)))
-        ⊎ ((s.to_move ≡ opponent side) × ((t : Turn) → IsLegal f s t → Forces f side n (after f s t)))))
+    ⊎ ((s.to_move ≡ opponent side) × ((t : Turn) → IsLegal f s t → Forces f side n (after f s t)))))
 
 -- what a problem comes to
 pub data Value : Type 0 where

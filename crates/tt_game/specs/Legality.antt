@@ -32,7 +32,7 @@ pub legal : (f : Frame) (s : State) (t : Turn) → Decision (IsLegal f s t)
 legal f s Pass = nobody (winner_of f s)
 legal f s (Play p) =
     elim (both (nobody (winner_of f s)) (both (below p (point_count f.size))
-        (both (same_entry (entry_at s.present p) None) (both (inside (set.contains f.region p)) (denied (in_history (history s) (made f s p))))))) [
+    (both (same_entry (entry_at s.present p) None) (both (inside (set.contains f.region p)) (denied (in_history (history s) (made f s p))))))) [
       | inl h ↦ inl (h.0, h.1.0, h.1.1.0, h.1.1.1.0, h.1.1.1.1)
       | inr isnt ↦ inr (λ l. isnt (l.0, (l.1, (l.2, (l.3, l.4)))))
     ]

@@ -47,7 +47,7 @@ undecided_at (tree ∷ trees) (suc i) d l u = undecided_at trees i d (omega arit
 pub best_undecided : (mover : Side) (turns : List Turn) (children : Children) → IsUndecided (expanded mover turns children) → UndecidedAt (best mover children) children
 best_undecided mover turns children u = subst (λ r. IsUndecided (expanded mover turns r) → UndecidedAt (best mover r) r) (children_of-trees_of children)
     (λ v. undecided_at (trees_of children) (best mover (children_of (trees_of children))) fresh (best_child mover turns (trees_of children) fresh v).0
-        (best_child mover turns (trees_of children) fresh v).1) u
+    (best_child mover turns (trees_of children) fresh v).1) u
 
 mutual
   pub count_grown : (leaf tree : PartialTree) → IsUndecided tree → count (with_most_proving leaf tree) ≡ count tree + count leaf

@@ -52,8 +52,17 @@ pub falls_expanded : (room budget : ℕ) (f : Frame) (s : State) (old new : Part
     → open_leaves new + (budget - count new) * 363 < open_leaves old + (budget - count old) * 363
 falls_expanded room budget f s old new u b e =
     let leaf = most_proving_state f s old in
-    omega (arith, b, ap open_leaves e.1, ap count e.1, open_grown (expansion f leaf) old u, count_grown (expansion f leaf) old u, expansion_count f leaf,
-        new_leaves_open f leaf (legal_turns f leaf), length-legal_turns f leaf)
+    omega (
+      arith,
+      b,
+      ap open_leaves e.1,
+      ap count e.1,
+      open_grown (expansion f leaf) old u,
+      count_grown (expansion f leaf) old u,
+      expansion_count f leaf,
+      new_leaves_open f leaf (legal_turns f leaf),
+      length-legal_turns f leaf,
+    )
 
 pub falls_closed : (room budget : ℕ) (f : Frame) (s : State) (old new : PartialTree) → IsUndecided old → IsClosing room f s old new
     → open_leaves new + (budget - count new) * 363 < open_leaves old + (budget - count old) * 363
@@ -68,11 +77,11 @@ pub falls : (old new : Searched) (step : Step) → StepOf old step new → IsSam
 falls old new step k same (inl e) =
     let h = subst (λ s. StepOf old s new) e k in
     subst (λ l. open_leaves new.tree + (l.budget - count new.tree) * 363 < left_to_do old) (sym same.limits)
-        (falls_expanded old.limits.depth old.limits.budget old.line.frame old.line.state old.tree new.tree h.0 h.1 h.2)
+    (falls_expanded old.limits.depth old.limits.budget old.line.frame old.line.state old.tree new.tree h.0 h.1 h.2)
 falls old new step k same (inr e) =
     let h = subst (λ s. StepOf old s new) e k in
     subst (λ l. open_leaves new.tree + (l.budget - count new.tree) * 363 < left_to_do old) (sym same.limits)
-        (falls_closed old.limits.depth old.limits.budget old.line.frame old.line.state old.tree new.tree h.0 h.1)
+    (falls_closed old.limits.depth old.limits.budget old.line.frame old.line.state old.tree new.tree h.0 h.1)
 
 grows_by : (old new : Searched) (step : Step) → StepOf old step new → (step ≡ Expanded) ⊎ (step ≡ Closed) → Grows old.limits old.line.frame old.line.state old.tree new.tree
 grows_by old new step k (inl e) = let h = subst (λ s. StepOf old s new) e k in (h.0, inl (h.1, h.2))
@@ -80,9 +89,15 @@ grows_by old new step k (inr e) = let h = subst (λ s. StepOf old s new) e k in 
 
 pub grows : (start old new : Searched) (step : Step) → IsSameProblem start old → GrownFrom start.limits start.line.frame start.line.state start.tree old.tree → StepOf old step new
     → (step ≡ Expanded) ⊎ (step ≡ Closed) → GrownFrom start.limits start.line.frame start.line.state start.tree new.tree
-grows start old new step same g k h =
-    (suc g.0, (old.tree, g.1, subst (λ l. Grows l start.line.frame start.line.state old.tree new.tree) same.limits
-        (subst (λ l. Grows old.limits l.frame l.state old.tree new.tree) same.line (grows_by old new step k h))))
+grows start old new step same g k h = (
+  suc g.0,
+  (
+    old.tree,
+    g.1,
+    subst (λ l. Grows l start.line.frame start.line.state old.tree new.tree) same.limits
+        (subst (λ l. Grows old.limits l.frame l.state old.tree new.tree) same.line (grows_by old new step k h)),
+  ),
+)
 
 pub same_problem : (a b c : Searched) → IsSameProblem a b → IsSameProblem b c → IsSameProblem a c
 same_problem a b c h k = record { line = k.line ∙ h.line; limits = k.limits ∙ h.limits }

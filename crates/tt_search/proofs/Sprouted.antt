@@ -152,7 +152,7 @@ module _ (x : Expansion) (i rank : ℕ) (e : Edge) (node : PartialTree) (l : i <
       trees =
           rw (edges, row)
           (subst (λ q. trees_of x.edges.items (set x.grown.items q new) ≡ set (trees_of x.edges.items x.grown.items) i new) (sym r)
-              (grown_put x.edges.items x.grown.items i e l is whole (sym mark) new));
+          (grown_put x.edges.items x.grown.items i e l is whole (sym mark) new));
     },
   )
 

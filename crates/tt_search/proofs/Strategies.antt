@@ -102,9 +102,9 @@ mutual
   wins side f s (expanded mover turns children) p z =
       by_mover side mover f s (pick_at side (best side children) turns children) (replies side turns children) p.0 p.1
       (λ e. pick_wins side f s (best side children) turns children p.0 (sym p.1 ∙ same_is_same side mover e) (subst (AreLegal f s) (sym p.2) (are_legal f s)) p.3
-          (best_zero side children (own_zero side mover turns children e z)))
+      (best_zero side children (own_zero side mover turns children e z)))
       (λ e t l. replies_win side f s turns children t p.3 (all_zero side children (zero_sum (numbers side children) (other_zero side mover turns children e z)))
-          (subst (IsIn t) (sym p.2) (is_in f s t l)))
+      (subst (IsIn t) (sym p.2) (is_in f s t l)))
 
   pick_wins : (side : Side) (f : Frame) (s : State) (i : ℕ) (turns : List Turn) (children : Children) → winner_of f s ≡ None → s.to_move ≡ side → AreLegal f s turns
       → ArePartialTrees f s turns children → IsZeroAt side i children → Wins side f (pick_at side i turns children) s

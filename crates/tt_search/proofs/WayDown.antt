@@ -54,8 +54,8 @@ module _ (at : Stand) (x : Expansion) (p : ℕ) (place : p ≡ best x.mover (chi
       (subst (λ us. StepsTo pace at (stage (node_of x) left) step left_after (expanded x.mover us (children_of (trees_of y.edges.items y.grown.items)))) (sym put.turns)
       (subst (λ us. StepsTo pace at (stage (node_of x) left) step left_after (expanded x.mover (turns_of x.edges.items) (children_of us))) (sym put.trees)
       (steps_lifted at x.mover (turns_of x.edges.items) (trees_of x.edges.items x.grown.items) t (child_of x p) p place found_here.in_trees
-          (lengths at.frame at.state (turns_of x.edges.items) (trees_of x.edges.items x.grown.items) m.partial.3) (turn_is e t is h) child_is found_here.room pace left step
-          (stage tree left_after) steps)))
+      (lengths at.frame at.state (turns_of x.edges.items) (trees_of x.edges.items x.grown.items) m.partial.3) (turn_is e t is h) child_is found_here.room pace left step
+      (stage tree left_after) steps)))
 
   way_here : (e : Edge) (t : Turn) → e ≡ get_or x.edges.items p e → t ≡ turn_of e → IsWayDown at x (node_of x) p t
   way_here e t is h = record {

@@ -52,7 +52,7 @@ IsExpansion limit f s old new =
 abbrev pub IsClosing : ℕ → Frame → State → PartialTree → PartialTree → Type 0
 IsClosing limit f s old new =
     (side : Side) × (strategy : Strategy) × Wins side f strategy (most_proving_state f s old) × IsInOrder f.size strategy × (most_proving_depth old + depth strategy ≤ limit)
-        × (new ≡ with_most_proving (closed side strategy) old)
+    × (new ≡ with_most_proving (closed side strategy) old)
 
 -- an undecided tree grows at its most-proving leaf: by an expansion below the budget, or by a closing
 abbrev pub Grows : Limits → Frame → State → PartialTree → PartialTree → Type 0

@@ -226,24 +226,24 @@ module _ (made a b : List ℕ) where
       let y = get_or b (q / 64) 0 in
       let i = q % 64 in
       ap (λ w. eqb (bit_at w i) 1) (h (q / 64) (omega arith))
-          ∙ ap (λ z. eqb z 1) (bit_at_and x (bit_not w64 y) i ∙ ap (λ z. min (bit_at x i) z) (bit_at_not w64 y i (fits (q / 64) (omega arith)) (omega arith)))
+      ∙ ap (λ z. eqb z 1) (bit_at_and x (bit_not w64 y) i ∙ ap (λ z. min (bit_at x i) z) (bit_at_not w64 y i (fits (q / 64) (omega arith)) (omega arith)))
       ∙ two_bits (bit_at x i) (1 - bit_at y i) (bit_at-lt x i) (omega (arith, bit_at-lt y i)) ∙ ap (λ z. eqb (bit_at x i) 1 && z) (other_bit (bit_at y i) (bit_at-lt y i))
 
   -- the bits that both have are the points that both sets have
   pub points-and : ((q : ℕ) → q < 384 → bit_in made q ≡ (bit_in a q && bit_in b q)) → points_of made ≡ set.intersection (points_of a) (points_of b)
   points-and h = same_points _ _ (λ q. contains-points made q
       ∙ sym (set.contains-intersection nat_cmp_total (points_of a) (points_of b) q ∙ rw (contains-points a q, contains-points b q) (elim (cases_lt q 361) [
-    | inl below ↦ rw (lt-ltb q 361 below) (sym (h q (omega arith)))
-    | inr above ↦ rw (le-ltb q 361 above) refl
-  ])))
+        | inl below ↦ rw (lt-ltb q 361 below) (sym (h q (omega arith)))
+        | inr above ↦ rw (le-ltb q 361 above) refl
+      ])))
 
   -- the bits of the first words alone are the points of the first set alone
   pub points-minus : ((q : ℕ) → q < 384 → bit_in made q ≡ (bit_in a q && not (bit_in b q))) → points_of made ≡ set.difference (points_of a) (points_of b)
   points-minus h = same_points _ _ (λ q. contains-points made q
       ∙ sym (set.contains-difference nat_cmp_total (points_of a) (points_of b) q ∙ rw (contains-points a q, contains-points b q) (elim (cases_lt q 361) [
-    | inl below ↦ rw (lt-ltb q 361 below) (sym (h q (omega arith)))
-    | inr above ↦ rw (le-ltb q 361 above) refl
-  ])))
+        | inl below ↦ rw (lt-ltb q 361 below) (sym (h q (omega arith)))
+        | inr above ↦ rw (le-ltb q 361 above) refl
+      ])))
 
   -- the words' `or` has the bits that one of them has
   pub bit-or : ((k : ℕ) → k < 6 → get_or made k 0 ≡ bit_or (get_or a k 0) (get_or b k 0)) → (q : ℕ) → q < 384 → bit_in made q ≡ (bit_in a q || bit_in b q)
@@ -256,9 +256,9 @@ module _ (made a b : List ℕ) where
   pub points-or : ((q : ℕ) → q < 384 → bit_in made q ≡ (bit_in a q || bit_in b q)) → points_of made ≡ set.union (points_of a) (points_of b)
   points-or h = same_points _ _ (λ q. contains-points made q
       ∙ sym (set.contains-union nat_cmp_total (points_of a) (points_of b) q ∙ rw (contains-points a q, contains-points b q) (elim (cases_lt q 361) [
-    | inl below ↦ rw (lt-ltb q 361 below) (sym (h q (omega arith)))
-    | inr above ↦ rw (le-ltb q 361 above) refl
-  ])))
+        | inl below ↦ rw (lt-ltb q 361 below) (sym (h q (omega arith)))
+        | inr above ↦ rw (le-ltb q 361 above) refl
+      ])))
 
   -- a bit of the words' `xor` is 0 exactly where the two agree
   pub bit-xor : ((k : ℕ) → k < 6 → get_or made k 0 ≡ bit_xor (get_or a k 0) (get_or b k 0)) → (q : ℕ) → q < 384 → (bit_in made q ≡ false) ↔ (bit_in a q ≡ bit_in b q)

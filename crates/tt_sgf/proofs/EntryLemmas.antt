@@ -319,7 +319,7 @@ pub set_some : (size : Size) (vs : List (List ℕ)) (s : set.FinSet nat_cmp) →
 unfolding set_of
 set_some size vs s h all =
     let same : passing (λ q. list_any (λ v. covers size v q) vs) 361 ≡ s = set.same_set nat_cmp_total set.nat_cmp-IsAntisymmetric _ _
-        (λ q. contains-passing (λ p. list_any (λ v. covers size v p) vs) 361 q ∙ elim (cases_Bool (list_any (λ v. covers size v q) vs)) [
+    (λ q. contains-passing (λ p. list_any (λ v. covers size v p) vs) 361 q ∙ elim (cases_Bool (list_any (λ v. covers size v q) vs)) [
       | inl b ↦ rw (b, lt-ltb q 361 (any_below size vs q b)) (sym (h q ∙ b))
       | inr b ↦ rw (b) (and_false (ltb q 361) ∙ sym (h q ∙ b))
     ]) in

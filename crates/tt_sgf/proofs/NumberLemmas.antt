@@ -78,7 +78,7 @@ trimmed_is [] bytes n s =
     ap without_end (e ∙ all_blank s.behind s.blank_behind) ∙ without_end-nil
 trimmed_is (b ∷ bs) bytes n s =
     ap without_end (ap after_blanks s.parts ∙ after_blanks-again s.before ((b ∷ bs) ++ s.behind) s.blank_before ∙ after_blanks-other b (bs ++ s.behind) n.0)
-        ∙ end_again (b ∷ bs) s.behind n s.blank_behind
+    ∙ end_again (b ∷ bs) s.behind n s.blank_behind
 
 -- ---- digits
 

@@ -51,7 +51,7 @@ point_again size bytes (On p) h =
     let wide = size.columns_in in
     let column_in = h.column_in in
     ap (point_of size) text ∙ point_of-first size c r (λ e. absurd (omega arith))
-        ∙ rw (c-is, r-is, le-leb 97 c (omega arith), le-leb 97 r (omega arith), lt-ltb h.column size.columns h.column_in, lt-ltb h.row size.rows h.row_in) (ap (λ (n : ℕ). Some (On n)) (sym h.number))
+    ∙ rw (c-is, r-is, le-leb 97 c (omega arith), le-leb 97 r (omega arith), lt-ltb h.column size.columns h.column_in, lt-ltb h.row size.rows h.row_in) (ap (λ (n : ℕ). Some (On n)) (sym h.number))
 point_again size bytes Pass h =
     elim h [
       | inl s ↦ ap (point_of size) (trimmed_is [] bytes tt s) ∙ point_of-nil size
@@ -90,7 +90,7 @@ takes size (c ∷ r ∷ []) bytes q s h =
             let c-is = eqb-true c 116 e in
             let r-is = eqb-true r 116 f in
             subst (λ (x : PointOrPass). IsPointOrPass size bytes x) (same_Some Pass q (sym (point_of-pass size c r c-is r-is) ∙ h))
-                (inr (subst (λ (x : ℕ). StandsIn (x ∷ 116 ∷ []) bytes) c-is (subst (λ (y : ℕ). StandsIn (c ∷ y ∷ []) bytes) r-is s)))
+            (inr (subst (λ (x : ℕ). StandsIn (x ∷ 116 ∷ []) bytes) c-is (subst (λ (y : ℕ). StandsIn (c ∷ y ∷ []) bytes) r-is s)))
         | inr f ↦ place_takes size bytes c r q s (sym (point_of-second size c r (eqb-true c 116 e) (λ k. absurd (let g = eq-eqb r 116 k in let u : true ≡ false = sym g ∙ f in cc))) ∙ h)
       ]
       | inr e ↦ place_takes size bytes c r q s (sym (point_of-first size c r (λ k. absurd (let g = eq-eqb c 116 k in let u : true ≡ false = sym g ∙ e in cc))) ∙ h)

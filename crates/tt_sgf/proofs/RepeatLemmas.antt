@@ -41,7 +41,7 @@ module _ {X : Type 0} (more : List ℕ → Bool) (item : List ℕ → Option (X 
           | None ↦ λ f. repeat_bad more item n bytes e f ∙ sym (repeat_bad more item m bytes e f)
           | Some x ↦ λ f. let s = shrinks bytes x e f in
               repeat_item more item n bytes x e f ∙ ap (λ (o : Option (List X × List ℕ)). o >>= with_first x.0) (repeat_enough n m x.1 (omega arith) (omega arith))
-                  ∙ sym (repeat_item more item m bytes x e f)
+              ∙ sym (repeat_item more item m bytes x e f)
         ] refl
       ] refl
 

@@ -115,14 +115,24 @@ only_end (e ∷ es) h = absurd (not_done es h)
 -- an event before the end of the innermost tree
 closes_open : (p : Place) (d : ℕ) (es : List Event) → Begun p [] → Closes Opened (suc d) es → Closes p d (Open ∷ es)
 closes_open p zero es b h =
-    let o = h.6 in
-    ([], more_trees (game h.0 h.1) o.1, b, ((h.3, h.4), o.3),
-        ap (λ (x : List Event). Open ∷ x) (h.5 ∙ ap (λ (x : List Event). items_then h.0 (trees_then h.1 (Close ∷ x))) (o.4 ∙ ap (λ (ns : List Node). items_then ns (trees_then o.1 (Close ∷ []))) o.2)))
+    let o = h.6 in (
+      [],
+      more_trees (game h.0 h.1) o.1,
+      b,
+      ((h.3, h.4), o.3),
+      ap (λ (x : List Event). Open ∷ x) (h.5 ∙ ap (λ (x : List Event). items_then h.0 (trees_then h.1 (Close ∷ x))) (o.4 ∙ ap (λ (ns : List Node). items_then ns (trees_then o.1 (Close ∷ []))) o.2)),
+    )
 closes_open p (suc d) es b h =
-    let o = h.6 in
-    ([], more_trees (game h.0 h.1) o.1, o.2, b, ((h.3, h.4), o.4),
-        ap (λ (x : List Event). Open ∷ x) (h.5 ∙ ap (λ (x : List Event). items_then h.0 (trees_then h.1 (Close ∷ x)))
-        (o.5 ∙ ap (λ (ns : List Node). items_then ns (trees_then o.1 (Close ∷ o.2))) o.3)), o.6)
+    let o = h.6 in (
+      [],
+      more_trees (game h.0 h.1) o.1,
+      o.2,
+      b,
+      ((h.3, h.4), o.4),
+      ap (λ (x : List Event). Open ∷ x) (h.5 ∙ ap (λ (x : List Event). items_then h.0 (trees_then h.1 (Close ∷ x)))
+          (o.5 ∙ ap (λ (ns : List Node). items_then ns (trees_then o.1 (Close ∷ o.2))) o.3)),
+      o.6,
+    )
 
 closes_item : (p : Place) (d : ℕ) (n : Node) (es : List Event) → ((ns : List Node) → Begun p (n ∷ ns)) → Closes Nodes d es → Closes p d (Item n ∷ es)
 closes_item p zero n es b h = (n ∷ h.0, h.1, b h.0, h.3, ap (λ (x : List Event). Item n ∷ x) h.4)
@@ -340,7 +350,7 @@ module _ (bytes rest : List ℕ) (p : Place) (d : ℕ) (on_main : Bool) (nodes :
             no_way s.0 q dead s.2 k
         | inr s ↦
             let k : within p d ≡ stuck = sym far.at ∙ ap (run (within Opened 0)) s.2 ∙ run-append (within Opened 0) (items_then ns (trees_then ts (Close ∷ []))) (s.0 ∷ s.1)
-                ∙ ap (λ (x : State). run x (s.0 ∷ s.1)) finished ∙ run-stuck s.1 in
+            ∙ ap (λ (x : State). run x (s.0 ∷ s.1)) finished ∙ run-stuck s.1 in
             absurd cc
       ]
 

@@ -17,13 +17,13 @@ first = record { code = 0 }
 pub settled::picked-returns-then-place-edges : goal.settled::picked-returns-then-place-edges
 settled::picked-returns-then-place-edges t c =
     c.done.ensures ∙ sym (rw (← c.best_child-place.ensures.place)
-        (pick_past_turns c.args.side (turns_of c.args.edges.now) (trees_of c.args.edges.now c.args.grown.now) c.best_child-place.result.0
-        (omega (arith, c.if-place-edges.true, length-turns_of c.args.edges.now))))
+    (pick_past_turns c.args.side (turns_of c.args.edges.now) (trees_of c.args.edges.now c.args.grown.now) c.best_child-place.result.0
+    (omega (arith, c.if-place-edges.true, length-turns_of c.args.edges.now))))
 
 pub settled::picked-child_plan-requires : goal.settled::picked-child_plan-requires
 settled::picked-child_plan-requires t c =
     let w = lighter_here c.args.edges.now c.args.grown.now c.from_rank.result.now c.best_child-place.result.0 c.best_child-place.result.1 first c.if-place-edges.false
-        c.best_child-place.ensures.rank c.from_rank.ensures in
+    c.best_child-place.ensures.rank c.from_rank.ensures in
     (omega (arith, c.decreases, w), tt)
 
 pub settled::picked-returns : goal.settled::picked-returns
@@ -33,10 +33,10 @@ settled::picked-returns t c =
     let e : Edge = get_or c.args.edges.now c.best_child-place.result.0 first in
     let child : PartialTree = tree_of (mark_of e) c.from_rank.result.now in
     let here = tree_here c.args.edges.now c.args.grown.now c.from_rank.result.now c.best_child-place.result.0 c.best_child-place.result.1 first c.if-place-edges.false
-        c.best_child-place.ensures.rank c.from_rank.ensures in
+    c.best_child-place.ensures.rank c.from_rank.ensures in
     let turn = c.turn.ensures ∙ sym (turn_at_place c.args.edges.now c.best_child-place.result.0 first c.turn.result c.if-place-edges.false) in
     let e = picked c.args.side turns trees c.best_child-place.result.0 c.turn.result child _ turn (sym here) c.in_ok-child.ensures
-        (omega (arith, c.if-place-edges.false, length-turns_of c.args.edges.now)) (omega (arith, c.if-place-edges.false, length-trees_of c.args.edges.now c.args.grown.now)) in
+    (omega (arith, c.if-place-edges.false, length-turns_of c.args.edges.now)) (omega (arith, c.if-place-edges.false, length-trees_of c.args.edges.now c.args.grown.now)) in
     subst (λ u. IfOk c.pick.result (λ p. p ≡ u)) (e ∙ ap (λ i. pick_at c.args.side i turns (children_of trees)) c.best_child-place.ensures.place) c.pick.ensures
 
 pub settled::replied-loop-edge-preserved : goal.settled::replied-loop-edge-preserved
@@ -46,8 +46,8 @@ settled::replied-loop-edge-preserved t c =
     let left : List Edge = drop (i + 1) c.args.edges.now in
     let rest : Entries = replies c.args.side (turns_of left) (children_of (trees_of left c.behind-rest.result.now)) in
     let step = replied_step c.args.side c.args.edges.now c.loop-edge.rest.now i first c.loop-edge-test.true
-        ∙ ap (λ us. entry (turn_of e) (strategy_for c.args.side (tree_of (mark_of e) c.loop-edge.rest.now)) (replies c.args.side (turns_of left) (children_of (trees_of left us))))
-        (sym c.behind-rest.ensures) in
+    ∙ ap (λ us. entry (turn_of e) (strategy_for c.args.side (tree_of (mark_of e) c.loop-edge.rest.now)) (replies c.args.side (turns_of left) (children_of (trees_of left us))))
+    (sym c.behind-rest.ensures) in
     record {
       made =
           ap (λ zs. joined zs rest) c.in_ok-push.ensures
@@ -56,8 +56,12 @@ settled::replied-loop-edge-preserved t c =
           ∙ ap (λ u. joined c.loop-edge.answers (entry (turn_of e) u rest)) c.in_ok-child.ensures
           ∙ ap (joined c.loop-edge.answers) (sym step)
           ∙ c.loop-edge.invariant.made;
-      lighter = omega (arith, weight_step c.args.edges.now c.loop-edge.rest.now i first c.loop-edge-test.true,
-          ap (λ us. weight_all (children_of (trees_of left us))) c.behind-rest.ensures, c.loop-edge.invariant.lighter);
+      lighter = omega (
+        arith,
+        weight_step c.args.edges.now c.loop-edge.rest.now i first c.loop-edge-test.true,
+        ap (λ us. weight_all (children_of (trees_of left us))) c.behind-rest.ensures,
+        c.loop-edge.invariant.lighter,
+      );
     }
 
 pub settled::replied-returns : goal.settled::replied-returns

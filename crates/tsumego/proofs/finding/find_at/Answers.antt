@@ -20,4 +20,4 @@ returns-in-Err-Syntax c =
 pub returns-in-Err-TooDeep : goal.returns-in-Err-TooDeep
 returns-in-Err-TooDeep c =
     rw c.code-in-Err-TooDeep.ensures
-        (deep_at c.args.line.now c.frame.result.now c.args.certificate.now c.frame.ensures.value c.in-Err-TooDeep.field-0 c.in-Err-TooDeep.field-0-is c.in-Err-TooDeep.ensures)
+    (deep_at c.args.line.now c.frame.result.now c.args.certificate.now c.frame.ensures.value c.in-Err-TooDeep.field-0 c.in-Err-TooDeep.field-0-is c.in-Err-TooDeep.ensures)

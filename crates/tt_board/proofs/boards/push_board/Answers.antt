@@ -16,7 +16,7 @@ loop-p-preserved c =
       half = λ x from. half_pushed later earlier x es c.push.new.self.items p c.first_from-p-in-loop-p.result (c.loop-p.invariant.half x from) is
           (omega (arith, c.loop-p-test.true, c.len-count.ensures.value))
           c.first_from-p-in-loop-p.ensures.after (λ q past before. let small : q < 384 = omega (arith, before, c.first_from-p-in-loop-p.ensures.most) in
-              c.apart-differing.ensures q small (c.first_from-p-in-loop-p.ensures.none q past before small));
+          c.apart-differing.ensures q small (c.first_from-p-in-loop-p.ensures.none q past before small));
       boards = λ g x. before_same g x es c.push.new.self.items p (entry_at earlier p) is ∙ c.loop-p.invariant.boards g x;
     }
 

@@ -32,13 +32,13 @@ grow-requires-clause-on_board c = (linked_here c.loop-next.chain.items c.loop-ne
 pub grow-requires-clause-like : goal.grow-requires-clause-like
 grow-requires-clause-like c =
     let here = linked_here c.loop-next.chain.items c.loop-next.next c.from-p.result _ _ _ (omega arith)
-        (c.from-p.ensures ∙ ap (λ xs. get_or xs c.loop-next.next 0) c.as_slice.ensures.value) c.loop-next.invariant.linked in
+    (c.from-p.ensures ∙ ap (λ xs. get_or xs c.loop-next.next 0) c.as_slice.ensures.value) c.loop-next.invariant.linked in
     c.at-own.ensures ∙ sym here.1
 
 pub returns-then-grow-clause-liberty : goal.returns-then-grow-clause-liberty
 returns-then-grow-clause-liberty c =
     let here = linked_here c.loop-next.chain.items c.loop-next.next c.from-p.result _ _ _ (omega arith)
-        (c.from-p.ensures ∙ ap (λ xs. get_or xs c.loop-next.next 0) c.as_slice.ensures.value) c.loop-next.invariant.linked in
+    (c.from-p.ensures ∙ ap (λ xs. get_or xs c.loop-next.next 0) c.as_slice.ensures.value) c.loop-next.invariant.linked in
     λ _. here.2 (c.grow.ensures.liberty c.if-grow.true)
 
 pub loop-next-preserved : goal.loop-next-preserved

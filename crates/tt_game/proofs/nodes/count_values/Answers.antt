@@ -11,7 +11,7 @@ loop-property-preserved-then-eq c =
     let t : pointwise ◌==◌ c.in-Some.property.now.ident c.args.name.now ≡ true = search rules in
     let v = ap (values_of c.args.name.now) e ∙ values-named c.args.name.now c.in-Some.property.now c.in-Some.behind.now t in
     let n : length (values_of c.args.name.now c.loop-property.rest.now) ≡ length c.in-Some.property.now.values + length
-        (values_of c.args.name.now c.in-Some.behind.now) = ap length v ∙ length-append c.in-Some.property.now.values (values_of c.args.name.now c.in-Some.behind.now) in
+    (values_of c.args.name.now c.in-Some.behind.now) = ap length v ∙ length-append c.in-Some.property.now.values (values_of c.args.name.now c.in-Some.behind.now) in
     let m : c.min-count.result ≡ min 2 (c.loop-property.count + min 2 (length c.in-Some.property.now.values)) = search rules in
     (omega (arith, n, m, c.loop-property.invariant.0, c.loop-property.invariant.1), omega (arith, m))
 

@@ -15,7 +15,7 @@ returns-in_err-step c =
     let p = err_from_is_err_and c.from_residual.result c.from_residual.ensures.1 in
     let e : c.loop-node.rest.now ≡ c.in-Some.node.now ∷ c.in-Some.behind.now = search rules in
     rw (p.1, p.2) (λ other. sym c.loop-node.invariant ∙ ap (run_to_mark c.loop-node.last) e
-        ∙ mark-stop c.loop-node.last c.in_err-step.field-0.0 c.in-Some.node.now c.in-Some.behind.now (c.in_err-step.ensures other))
+    ∙ mark-stop c.loop-node.last c.in_err-step.field-0.0 c.in-Some.node.now c.in-Some.behind.now (c.in_err-step.ensures other))
 
 pub loop-node-preserved : goal.loop-node-preserved
 loop-node-preserved c =

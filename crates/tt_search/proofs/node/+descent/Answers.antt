@@ -19,14 +19,18 @@ use Rattle.tt_search.proofs.node.+descent.Goals as goal
 pub Expansion::grow_child-index_mut-requires : goal.Expansion::grow_child-index_mut-requires
 Expansion::grow_child-index_mut-requires g t c =
     let edge = c.index.result.now in
-    omega (arith, rank_within_nodes c.args.self.now c.args.place c.args.rank edge
-        (child_of c.args.self.now c.args.place) c.requires.there c.index.ensures c.requires.whole c.in-Grown.ensures c.requires.rank, c.args.self.now.grown.ok.0)
+    omega (
+      arith,
+      rank_within_nodes c.args.self.now c.args.place c.args.rank edge
+          (child_of c.args.self.now c.args.place) c.requires.there c.index.ensures c.requires.whole c.in-Grown.ensures c.requires.rank,
+      c.args.self.now.grown.ok.0,
+    )
 
 pub Expansion::grow_child-grow-requires : goal.Expansion::grow_child-grow-requires
 Expansion::grow_child-grow-requires g t c κs within =
     let node = c.index_mut.result.now in
     let here = child_node c.args.self.now c.args.place c.args.rank c.index.result.now node c.requires.there c.index.ensures c.requires.whole c.in-Grown.ensures c.requires.rank
-        c.index_mut.ensures.value in
+    c.index_mut.ensures.value in
     (omega (arith, c.decreases), (within, (subst (MayGrow (stand_of c.args.walk.now)) here c.requires.may_grow, c.requires.room)))
 
 pub Expansion::grow_child-sprout-requires-clause-open : goal.Expansion::grow_child-sprout-requires-clause-open
@@ -144,7 +148,7 @@ Node::round-returns-in-Ok-clause-steps g t c =
     let way = way_down (stand_of walk) x place c.best-place.ensures.place c.args.self.now is c.requires.may_grow c.index.result.now c.turn.result c.index.ensures c.turn.ensures in
     let deep = c.grow_child-step.new.walk in
     round_steps walk x place c.args.self.now c.turn.result way c.go_down.new.self c.in-Ok.ensures.ok c.args.pace c.grow_child-step.result c.grow_child-step.new.self
-        deep c.go_up.new.self c.grow_child-step.ensures.steps c.go_up.ensures.left
+    deep c.go_up.new.self c.grow_child-step.ensures.steps c.go_up.ensures.left
 
 pub Node::round-offer-walk-requires-clause-partial : goal.Node::round-offer-walk-requires-clause-partial
 Node::round-offer-walk-requires-clause-partial g t c =
@@ -157,9 +161,9 @@ Node::round-offer-walk-requires-clause-partial g t c =
     let y = c.grow_child-step.new.self in
     let deep = c.grow_child-step.new.walk in
     let steps = round_steps walk x place c.args.self.now c.turn.result way c.go_down.new.self c.in-Ok.ensures.ok c.args.pace c.grow_child-step.result y deep c.go_up.new.self
-        c.grow_child-step.ensures.steps c.go_up.ensures.left in
+    c.grow_child-step.ensures.steps c.go_up.ensures.left in
     let offerable = steps_offerable c.args.pace walk.line walk.room (stage c.args.self.now walk.left) c.grow_child-step.result
-        (stage (node_of y) c.go_up.new.self.left) c.requires.room c.requires.may_grow steps in
+    (stage (node_of y) c.go_up.new.self.left) c.requires.room c.requires.may_grow steps in
     (subst (λ line. IsOfferable line (node_of y)) (sym back) offerable).0
 
 pub Node::round-offer-walk-requires-clause-stays : goal.Node::round-offer-walk-requires-clause-stays
@@ -173,7 +177,7 @@ Node::round-offer-walk-requires-clause-stays g t c =
     let y = c.grow_child-step.new.self in
     let deep = c.grow_child-step.new.walk in
     let steps = round_steps walk x place c.args.self.now c.turn.result way c.go_down.new.self c.in-Ok.ensures.ok c.args.pace c.grow_child-step.result y deep c.go_up.new.self
-        c.grow_child-step.ensures.steps c.go_up.ensures.left in
+    c.grow_child-step.ensures.steps c.go_up.ensures.left in
     let offerable = steps_offerable c.args.pace walk.line walk.room (stage c.args.self.now walk.left) c.grow_child-step.result
-        (stage (node_of y) c.go_up.new.self.left) c.requires.room c.requires.may_grow steps in
+    (stage (node_of y) c.go_up.new.self.left) c.requires.room c.requires.may_grow steps in
     (subst (λ line. IsOfferable line (node_of y)) (sym back) offerable).1

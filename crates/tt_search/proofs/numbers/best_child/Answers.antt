@@ -50,11 +50,11 @@ loop-i-preserved c =
         | then-number-least w ↦
             rw (w.place-is, w.least-is)
             (less c.args.mover c.args.edges.now c.loop-i.rest.now c.behind-rest.result.now c.loop-i.i c.child_number-number.result c.loop-i-test.true c.child_number-number.ensures
-                c.behind-rest.ensures c.loop-i.place c.loop-i.least w.if-number-least.true ∙ c.loop-i.invariant.place)
+            c.behind-rest.ensures c.loop-i.place c.loop-i.least w.if-number-least.true ∙ c.loop-i.invariant.place)
         | else-number-least w ↦
             rw (w.place-is, w.least-is)
             (same c.args.mover c.args.edges.now c.loop-i.rest.now c.behind-rest.result.now c.loop-i.i c.child_number-number.result c.loop-i-test.true c.child_number-number.ensures
-                c.behind-rest.ensures c.loop-i.place c.loop-i.least w.if-number-least.false ∙ c.loop-i.invariant.place)
+            c.behind-rest.ensures c.loop-i.place c.loop-i.least w.if-number-least.false ∙ c.loop-i.invariant.place)
       ];
       few = omega (arith, c.counted-passed.ensures, counted_most (mark_of e) c.loop-i.passed, c.loop-i.invariant.few);
       passed = c.counted-passed.ensures ∙ ap (counted (mark_of e)) c.loop-i.invariant.passed ∙ sym (rank_next c.args.edges.now c.loop-i.i first c.loop-i-test.true);

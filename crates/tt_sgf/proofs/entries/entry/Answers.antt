@@ -17,14 +17,14 @@ returns-then-text-eq2 c =
     let text = c.args.text.now in
     let e = c.in_ok-column.ensures in
     ap (λ (r : Rectangle). Some r) (c.between.ensures ∙ between_is _ _ _ _ _ _ _ _ e.1 e.2 e.1 e.2)
-        ∙ sym (ap (entry_of size) (two text c.if-text-eq2.true) ∙ two_in size (get_or text 0 0) (get_or text 1 0) e.0)
+    ∙ sym (ap (entry_of size) (two text c.if-text-eq2.true) ∙ two_in size (get_or text 0 0) (get_or text 1 0) e.0)
 
 pub returns-in_err-column-2 : goal.returns-in_err-column-2
 returns-in_err-column-2 c =
     let size = c.args.size in
     let text = c.args.text.now in
     rw c.from_residual-in_err-column-2.ensures (sym (ap (entry_of size) (five text c.if-text-eq5.true)
-        ∙ five_first size (get_or text 0 0) (get_or text 1 0) (get_or text 2 0) (get_or text 3 0) (get_or text 4 0) c.if-text-eq58.true c.in_err-column-2.ensures))
+    ∙ five_first size (get_or text 0 0) (get_or text 1 0) (get_or text 2 0) (get_or text 3 0) (get_or text 4 0) c.if-text-eq58.true c.in_err-column-2.ensures))
 
 pub returns-in_err-other_column : goal.returns-in_err-other_column
 returns-in_err-other_column c =
@@ -32,7 +32,7 @@ returns-in_err-other_column c =
     let text = c.args.text.now in
     let e = c.in_ok-column-2.ensures in
     rw c.from_residual-in_err-other_column.ensures (sym (ap (entry_of size) (five text c.if-text-eq5.true)
-        ∙ five_second size (get_or text 0 0) (get_or text 1 0) (get_or text 2 0) (get_or text 3 0) (get_or text 4 0) c.if-text-eq58.true e.0 c.in_err-other_column.ensures))
+    ∙ five_second size (get_or text 0 0) (get_or text 1 0) (get_or text 2 0) (get_or text 3 0) (get_or text 4 0) c.if-text-eq58.true e.0 c.in_err-other_column.ensures))
 
 pub returns-then-text-eq58 : goal.returns-then-text-eq58
 returns-then-text-eq58 c =

@@ -36,4 +36,4 @@ pub returns-clause-reads : goal.returns-clause-reads
 returns-clause-reads c =
     let all : take c.loop-v.v-index c.args.values.now ≡ c.args.values.now = take_all _ _ c.loop-v-test.false in
     set_some c.args.size c.args.values.now c.loop-v.points (λ p. c.loop-v.invariant.0 p ∙ ap (list_any (λ v. covers c.args.size v p)) all)
-        (ap (list_all (is_entry c.args.size)) (sym all) ∙ c.loop-v.invariant.1)
+    (ap (list_all (is_entry c.args.size)) (sym all) ∙ c.loop-v.invariant.1)

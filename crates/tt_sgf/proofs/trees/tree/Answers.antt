@@ -20,9 +20,10 @@ loop-nodes-smaller-in-Open c = event_shrinks c.loop-nodes.rest.now c.in_ok-event
 
 pub loop-nodes-preserved-in-Open : goal.loop-nodes-preserved-in-Open
 loop-nodes-preserved-in-Open c =
-    let s = event_shrinks c.loop-nodes.rest.now c.in_ok-event.event c.in_ok-event.after.now c.in_ok-event.ensures in
-    (far_open _ _ _ _ _ _ c.loop-nodes.invariant.0 _ (c.in_ok-event.ensures ∙ ap (λ (x : Event). Some (x, c.in_ok-event.after.now)) c.in-Open.is) c.in_default.not-Opened,
-        omega (arith, c.loop-nodes.invariant.1))
+    let s = event_shrinks c.loop-nodes.rest.now c.in_ok-event.event c.in_ok-event.after.now c.in_ok-event.ensures in (
+      far_open _ _ _ _ _ _ c.loop-nodes.invariant.0 _ (c.in_ok-event.ensures ∙ ap (λ (x : Event). Some (x, c.in_ok-event.after.now)) c.in-Open.is) c.in_default.not-Opened,
+      omega (arith, c.loop-nodes.invariant.1),
+    )
 
 pub returns-in-Opened-place-clause-none : goal.returns-in-Opened-place-clause-none
 returns-in-Opened-place-clause-none c = λ h. far_refused_close _ _ _ _ _ _ c.loop-nodes.invariant.0 _
@@ -41,9 +42,11 @@ loop-nodes-smaller-in-Close c = event_shrinks c.loop-nodes.rest.now c.in_ok-even
 
 pub loop-nodes-preserved-in-Close : goal.loop-nodes-preserved-in-Close
 loop-nodes-preserved-in-Close c =
-    let s = event_shrinks c.loop-nodes.rest.now c.in_ok-event.event c.in_ok-event.after.now c.in_ok-event.ensures in
-    (far_close _ _ _ _ _ _ c.loop-nodes.invariant.0 _ (c.in_ok-event.ensures ∙ ap (λ (x : Event). Some (x, c.in_ok-event.after.now)) c.in-Close.is) c.in_default-place.not-Opened
-        (omega arith), omega (arith, c.loop-nodes.invariant.1))
+    let s = event_shrinks c.loop-nodes.rest.now c.in_ok-event.event c.in_ok-event.after.now c.in_ok-event.ensures in (
+      far_close _ _ _ _ _ _ c.loop-nodes.invariant.0 _ (c.in_ok-event.ensures ∙ ap (λ (x : Event). Some (x, c.in_ok-event.after.now)) c.in-Close.is) c.in_default-place.not-Opened
+          (omega arith),
+      omega (arith, c.loop-nodes.invariant.1),
+    )
 
 pub returns-in-Trees-clause-none : goal.returns-in-Trees-clause-none
 returns-in-Trees-clause-none c = λ h. far_refused_item _ _ _ _ _ _ c.loop-nodes.invariant.0 _ _
@@ -54,16 +57,22 @@ loop-nodes-smaller-in_ok-push-in-Item c = event_shrinks c.loop-nodes.rest.now c.
 
 pub loop-nodes-preserved-in_ok-push-in-Item : goal.loop-nodes-preserved-in_ok-push-in-Item
 loop-nodes-preserved-in_ok-push-in-Item c =
-    let s = event_shrinks c.loop-nodes.rest.now c.in_ok-event.event c.in_ok-event.after.now c.in_ok-event.ensures in
-    (far_kept _ _ _ _ _ _ c.loop-nodes.invariant.0 c.in-Item.node c.in_ok-event.after.now _
-        (c.in_ok-event.ensures ∙ ap (λ (x : Event). Some (x,
-        c.in_ok-event.after.now)) c.in-Item.is) c.in_default-place-2.not-Trees c.if-on_main.true c.in_ok-push-in-Item.ensures.items, omega (arith, c.loop-nodes.invariant.1))
+    let s = event_shrinks c.loop-nodes.rest.now c.in_ok-event.event c.in_ok-event.after.now c.in_ok-event.ensures in (
+      far_kept _ _ _ _ _ _ c.loop-nodes.invariant.0 c.in-Item.node c.in_ok-event.after.now _
+          (c.in_ok-event.ensures ∙ ap (λ (x : Event). Some (
+            x,
+            c.in_ok-event.after.now,
+          )) c.in-Item.is) c.in_default-place-2.not-Trees c.if-on_main.true c.in_ok-push-in-Item.ensures.items,
+      omega (arith, c.loop-nodes.invariant.1),
+    )
 
 pub loop-nodes-smaller : goal.loop-nodes-smaller
 loop-nodes-smaller c = event_shrinks c.loop-nodes.rest.now c.in_ok-event.event c.in_ok-event.after.now c.in_ok-event.ensures
 
 pub loop-nodes-preserved : goal.loop-nodes-preserved
 loop-nodes-preserved c =
-    let s = event_shrinks c.loop-nodes.rest.now c.in_ok-event.event c.in_ok-event.after.now c.in_ok-event.ensures in
-    (far_aside _ _ _ _ _ _ c.loop-nodes.invariant.0 c.in-Item.node c.in_ok-event.after.now
-        (c.in_ok-event.ensures ∙ ap (λ (x : Event). Some (x, c.in_ok-event.after.now)) c.in-Item.is) c.in_default-place-2.not-Trees c.if-on_main.false, omega (arith, c.loop-nodes.invariant.1))
+    let s = event_shrinks c.loop-nodes.rest.now c.in_ok-event.event c.in_ok-event.after.now c.in_ok-event.ensures in (
+      far_aside _ _ _ _ _ _ c.loop-nodes.invariant.0 c.in-Item.node c.in_ok-event.after.now
+          (c.in_ok-event.ensures ∙ ap (λ (x : Event). Some (x, c.in_ok-event.after.now)) c.in-Item.is) c.in_default-place-2.not-Trees c.if-on_main.false,
+      omega (arith, c.loop-nodes.invariant.1),
+    )

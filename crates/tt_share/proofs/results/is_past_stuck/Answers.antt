@@ -7,8 +7,8 @@ pub loop-lesser-preserved : goal.loop-lesser-preserved
 loop-lesser-preserved c =
     let ends = c.args.ends.now in
     not_stuck_more ends c.loop-lesser.lesser c.loop-lesser.invariant
-        (λ stuck. false≢true (sym c.if-is_stuck_in.false ∙ c.is_stuck_in.ensures.1
-        (stuck_in ends c.loop-lesser.lesser c.index-ends-lesser.result c.loop-lesser-test.true c.index-ends-lesser.is stuck)))
+    (λ stuck. false≢true (sym c.if-is_stuck_in.false ∙ c.is_stuck_in.ensures.1
+    (stuck_in ends c.loop-lesser.lesser c.index-ends-lesser.result c.loop-lesser-test.true c.index-ends-lesser.is stuck)))
 
 pub returns-then-lesser-job : goal.returns-then-lesser-job
 returns-then-lesser-job c =

@@ -15,10 +15,10 @@ loop-job-preserved g c =
     let f : Found = record { job = c.in-Some.job; end = c.trimmed-end.result } in
     let drawn = c.next_job.new.seat in
     let all : c.push_reserved.new.self.items ≡ c.loop-job.found.items ++ f ∷ [] = pushed c.loop-job.found.items c.next_job.new.found.items c.push_reserved.new.self.items
-        f c.push_reserved.ensures.items c.next_job.ensures.found in
+    f c.push_reserved.ensures.items c.next_job.ensures.found in
     let this : IsResult c.args.jobs.now.line.now c.args.jobs.now.limits f =
     subst (IsResultOf c.args.jobs.now.line.now c.args.jobs.now.limits c.in-Some.job) (sym c.trimmed-end.ensures)
-        (kept_result c.args.jobs.now.line.now c.args.jobs.now.limits c.in-Some.job c.loop-job.past_stuck c.search_drawn.result c.search_drawn.ensures) in
+    (kept_result c.args.jobs.now.line.now c.args.jobs.now.limits c.in-Some.job c.loop-job.past_stuck c.search_drawn.result c.search_drawn.ensures) in
     let more = All-push (IsResult c.args.jobs.now.line.now c.args.jobs.now.limits) c.loop-job.found.items f c.loop-job.invariant.found this in
     let down : IsTrue drawn.mark → ⊥ = λ up. not_none c.next_job.result c.in-Some.job c.in-Some.is (c.next_job.ensures.stopped (left_true drawn.mark drawn.sighting up)).0 in
     let mark : c.raise_for.new.seat.mark ≡ (drawn.mark || c.is_won.result) = mark_of c.raise_for.new.seat drawn.desk drawn.numbers (drawn.mark || c.is_won.result) drawn.sighting c.raise_for.ensures in
@@ -37,4 +37,4 @@ loop-job-preserved g c =
 pub returns-clause-drawn : goal.returns-clause-drawn
 returns-clause-drawn g c =
     drawn_all c.args.desk.now.jobs c.args.seat.numbers c.loop-job.seat.numbers c.next_job.new.seat.numbers c.loop-job.found.items c.next_job.new.found.items
-        c.loop-job.invariant.drawn c.next_job.ensures.found c.in_default.ensures.spare
+    c.loop-job.invariant.drawn c.next_job.ensures.found c.in_default.ensures.spare

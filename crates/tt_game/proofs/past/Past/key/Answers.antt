@@ -17,4 +17,4 @@ returns c =
     let present : last (colourings i.boards) ≡ b.points =
     ap (λ bs. last (colourings bs)) c.last.ensures.1 ∙ ap last (map-append (λ (x : Position). x.points) before (b ∷ [])) ∙ last_push (colourings before) b.points in
     c.key_at.ensures ∙ key_told i.frame i.frame _ (state_at (course_of i.frame.size i.boards i.passes) i.to_move) refl (sym present) refl refl
-        ∙ ap (λ (p : Stood). key_of p.frame p.state) c.self.view_is
+    ∙ ap (λ (p : Stood). key_of p.frame p.state) c.self.view_is

@@ -37,7 +37,7 @@ invariant_of-result c =
     let same = c.in_ok-plan.ensures ∙ ap (λ es. reply (entries_of es)) (c.loop-turn.invariant.same ∙ ap trees_of all) in
     rw same
     (won_reply c.args.line.now.frame c.args.line.now.state _ _ _ c.args.children.items (ap (λ (l : Stood). l.frame) own) (ap (λ (l : Stood). l.state) own)
-        (c.opponent.ensures ∙ ap opponent c.to_move.ensures) c.requires.nobody
+    (c.opponent.ensures ∙ ap opponent c.to_move.ensures) c.requires.nobody
     c.requires.turns c.requires.children (subst AllWon all c.loop-turn.invariant.won))
 
 pub returns : goal.returns

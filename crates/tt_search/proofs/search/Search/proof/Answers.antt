@@ -14,4 +14,4 @@ returns c =
     let search : Searched = record { line = c.self.inside.walk.line; limits = c.self.inside.limits; tree = c.self.inside.root } in
     let within = subst (λ d. StaysWithin c.self.inside.walk.line.frame.size d c.self.inside.root) c.self.invariant.room c.self.invariant.stays in
     subst (λ s. IfOk c.proof.result (λ p. IsProofOf s p)) c.self.view_is
-        (is_proof search c.in-Some.side c.proof.result c.in-Some.ensures within c.proof.ensures.stands c.proof.ensures.side c.proof.ensures.tree)
+    (is_proof search c.in-Some.side c.proof.result c.in-Some.ensures within c.proof.ensures.stands c.proof.ensures.side c.proof.ensures.tree)

@@ -7,4 +7,4 @@ use Rattle.tt_sgf.proofs.sets.PointSet.and.Goals as goal
 pub returns : goal.returns
 returns c =
     points-and c.and.result.words c.self.inside.bits.words c.other.inside.bits.words c.and.ensures
-        ∙ ap (λ s. set.intersection s (points_of c.other.inside.bits.words)) c.self.view_is ∙ ap (set.intersection c.args.self.now) c.other.view_is
+    ∙ ap (λ s. set.intersection s (points_of c.other.inside.bits.words)) c.self.view_is ∙ ap (set.intersection c.args.self.now) c.other.view_is

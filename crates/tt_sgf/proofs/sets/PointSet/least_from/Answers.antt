@@ -6,7 +6,7 @@ use Rattle.tt_sgf.proofs.sets.PointSet.least_from.Goals as goal
 pub returns-then-n-gt360 : goal.returns-then-n-gt360
 returns-then-n-gt360 c = λ q after.
     ap (λ s. set.contains s q) (sym c.self.view_is) ∙ no_point c.self.inside.bits.words q
-        (λ small. c.first_from-n.ensures.none q (omega (arith, after, c.from.ensures)) (omega (arith, small, c.if-n-gt360.true)) (omega arith))
+    (λ small. c.first_from-n.ensures.none q (omega (arith, after, c.from.ensures)) (omega (arith, small, c.if-n-gt360.true)) (omega arith))
 
 pub returns : goal.returns
 returns c =

@@ -11,4 +11,4 @@ pub returns : goal.returns
 returns c =
     let is = c.from.ensures ∙ c.number.ensures.number in
     points-with c.self.inside.bits.words c.set.new.self.words c.from.result (omega arith) c.set.ensures.same c.set.ensures.others ∙ ap (set.insert _) is
-        ∙ ap (λ s. set.insert s c.args.p) c.self.view_is
+    ∙ ap (λ s. set.insert s c.args.p) c.self.view_is

@@ -22,7 +22,7 @@ picked-requires-clause-legal c =
     omega (arith, wins, ends, turns, c.self.inside.ends.ok.0, c.self.invariant.one_each)) in
     let job : IsJob c.self.inside.jobs.line.now c.in-Some.job c.index-turns-job.result =
     job_here c.self.inside.jobs.line.now c.as_slice-turns.result.now c.in-Some.job c.in-Some.job c.index-turns-job.result
-        (c.as_slice-turns.ensures.value ∙ c.self.inside.jobs.listed) refl within c.index-turns-job.is in
+    (c.as_slice-turns.ensures.value ∙ c.self.inside.jobs.listed) refl within c.index-turns-job.is in
     legal_job c.self.inside.jobs.line.now c.in-Some.job c.index-turns-job.result job
 
 pub picked-requires-clause-child : goal.picked-requires-clause-child
@@ -34,7 +34,7 @@ picked-requires-clause-child c =
     omega (arith, wins, ends, turns, c.self.inside.ends.ok.0, c.self.invariant.one_each)) in
     let job : IsJob c.self.inside.jobs.line.now c.in-Some.job c.index-turns-job.result =
     job_here c.self.inside.jobs.line.now c.as_slice-turns.result.now c.in-Some.job c.in-Some.job c.index-turns-job.result
-        (c.as_slice-turns.ensures.value ∙ c.self.inside.jobs.listed) refl within c.index-turns-job.is in
+    (c.as_slice-turns.ensures.value ∙ c.self.inside.jobs.listed) refl within c.index-turns-job.is in
     ends_here c.self.inside.jobs.line.now c.self.inside.jobs.limits c.in-Some.job c.index-turns-job.result c.in-Some-Settled.field-0 _ c.in-Some-Settled.field-0-is
     (c.self.invariant.are c.in-Some.job c.in-Some-Settled.field-0 c.in-Some-Settled.ensures.taken) job
 
@@ -48,7 +48,7 @@ returns-in-Some-clause-picks c =
     λ job turn win at.
     subst (λ (t : Turn). IfOk c.picked.result (BeginsWith (Some t)))
     (same_turn c.args.self.line.state.to_move c.args.self.ends c.as_slice-turns.result.now c.in-Some.job c.index-turns-job.result least c.index-turns-job.is job turn win
-        (subst (λ (ts : List Turn). slice_get ts job ≡ Some turn) (sym turns) at))
+    (subst (λ (ts : List Turn). slice_get ts job ≡ Some turn) (sym turns) at))
     c.picked.ensures.begins
 
 pub returns-in-Some-clause-stuck : goal.returns-in-Some-clause-stuck
@@ -72,11 +72,11 @@ returns-in-Some-Stuck-clause-answer c =
     let i = c.loop-job.job in
     let turn = c.index-turns-job-in-loop-job.result in
     let are : AreResults c.args.self.line c.args.self.limits c.args.self.ends = shown
-        (λ l m es. AreResults l m es) c.self.inside.jobs.line.now c.self.inside.jobs.limits c.self.inside.ends.items c.args.self c.self.view_is c.self.invariant.are in
+    (λ l m es. AreResults l m es) c.self.inside.jobs.line.now c.self.inside.jobs.limits c.self.inside.ends.items c.args.self c.self.view_is c.self.invariant.are in
     let job : IsJob c.args.self.line i turn = job_here c.args.self.line c.as_slice-turns.result.now i i turn turns refl c.loop-job-test.true c.index-turns-job-in-loop-job.is in
     let next : IsJob c.args.self.line (length c.loop-job.children.items) turn =
     job_here c.args.self.line c.as_slice-turns.result.now i (length c.loop-job.children.items) turn turns
-        (sym c.loop-job.children.ok.0 ∙ c.loop-job.invariant.noted) c.loop-job-test.true c.index-turns-job-in-loop-job.is in
+    (sym c.loop-job.children.ok.0 ∙ c.loop-job.invariant.noted) c.loop-job-test.true c.index-turns-job-in-loop-job.is in
     let there : HasEnd c.args.self.ends i c.in-Some-Stuck.field-0 =
     ap (λ (p : Progress). slice_get p.ends i) (sym c.self.view_is) ∙ (sym (c.loop-job.invariant.same i (omega arith)) ∙ c.in-Some-Stuck.ensures.taken) in
     let behind = ends_here c.args.self.line c.args.self.limits i turn c.in-Some-Stuck.field-0 _ c.in-Some-Stuck.field-0-is (are i c.in-Some-Stuck.field-0 there) job in
@@ -88,7 +88,7 @@ returns-in-Some-Stuck-clause-picks c =
     let side : c.to_move.result ≡ c.args.self.line.state.to_move = c.to_move.ensures ∙ ap (λ (p : Progress). p.line.state.to_move) c.self.view_is in
     let ends : c.as_slice.result.now ≡ c.args.self.ends = c.as_slice.ensures.value ∙ ap (λ (p : Progress). p.ends) c.self.view_is in
     let none : NoWin c.args.self.line.state.to_move c.args.self.ends = none_at c.args.self.line.state.to_move c.to_move.result c.args.self.ends c.as_slice.result.now
-        side ends c.in_default.ensures.least in
+    side ends c.in_default.ensures.least in
     λ job turn win at. absurd (none job win.wins)
 
 pub returns-in-Some-Stuck-clause-stuck : goal.returns-in-Some-Stuck-clause-stuck
@@ -98,11 +98,11 @@ returns-in-Some-Stuck-clause-stuck c =
     let i = c.loop-job.job in
     let turn = c.index-turns-job-in-loop-job.result in
     let are : AreResults c.args.self.line c.args.self.limits c.args.self.ends = shown
-        (λ l m es. AreResults l m es) c.self.inside.jobs.line.now c.self.inside.jobs.limits c.self.inside.ends.items c.args.self c.self.view_is c.self.invariant.are in
+    (λ l m es. AreResults l m es) c.self.inside.jobs.line.now c.self.inside.jobs.limits c.self.inside.ends.items c.args.self c.self.view_is c.self.invariant.are in
     let job : IsJob c.args.self.line i turn = job_here c.args.self.line c.as_slice-turns.result.now i i turn turns refl c.loop-job-test.true c.index-turns-job-in-loop-job.is in
     let next : IsJob c.args.self.line (length c.loop-job.children.items) turn =
     job_here c.args.self.line c.as_slice-turns.result.now i (length c.loop-job.children.items) turn turns
-        (sym c.loop-job.children.ok.0 ∙ c.loop-job.invariant.noted) c.loop-job-test.true c.index-turns-job-in-loop-job.is in
+    (sym c.loop-job.children.ok.0 ∙ c.loop-job.invariant.noted) c.loop-job-test.true c.index-turns-job-in-loop-job.is in
     let there : HasEnd c.args.self.ends i c.in-Some-Stuck.field-0 =
     ap (λ (p : Progress). slice_get p.ends i) (sym c.self.view_is) ∙ (sym (c.loop-job.invariant.same i (omega arith)) ∙ c.in-Some-Stuck.ensures.taken) in
     let this : HasEnd c.args.self.ends i (Stuck c.in-Some-Stuck.reason c.in-Some-Stuck.search) = subst (HasEnd c.args.self.ends i) c.in-Some-Stuck.field-0-is there in
@@ -123,7 +123,7 @@ unreachable-requires-in-None c =
     let side : c.to_move.result ≡ c.args.self.line.state.to_move = c.to_move.ensures ∙ ap (λ (p : Progress). p.line.state.to_move) c.self.view_is in
     let ends : c.as_slice.result.now ≡ c.args.self.ends = c.as_slice.ensures.value ∙ ap (λ (p : Progress). p.ends) c.self.view_is in
     let none : NoWin c.args.self.line.state.to_move c.args.self.ends = none_at c.args.self.line.state.to_move c.to_move.result c.args.self.ends c.as_slice.result.now
-        side ends c.in_default.ensures.least in
+    side ends c.in_default.ensures.least in
     let i = c.loop-job.job in
     let long : length c.self.inside.ends.items ≡ length c.args.self.ends = ap (λ (p : Progress). length p.ends) c.self.view_is in
     let all = ap (λ (l : List Turn). length l) c.as_slice-turns.ensures.value in
@@ -136,23 +136,23 @@ loop-job-preserved c =
     let side : c.to_move.result ≡ c.args.self.line.state.to_move = c.to_move.ensures ∙ ap (λ (p : Progress). p.line.state.to_move) c.self.view_is in
     let ends : c.as_slice.result.now ≡ c.args.self.ends = c.as_slice.ensures.value ∙ ap (λ (p : Progress). p.ends) c.self.view_is in
     let none : NoWin c.args.self.line.state.to_move c.args.self.ends = none_at c.args.self.line.state.to_move c.to_move.result c.args.self.ends c.as_slice.result.now
-        side ends c.in_default.ensures.least in
+    side ends c.in_default.ensures.least in
     let turns : c.as_slice-turns.result.now ≡ legal_turns c.args.self.line.frame c.args.self.line.state =
     c.as_slice-turns.ensures.value ∙ (c.self.inside.jobs.listed ∙ ap (λ (p : Progress). legal_turns p.line.frame p.line.state) c.self.view_is) in
     let i = c.loop-job.job in
     let turn = c.index-turns-job-in-loop-job.result in
     let are : AreResults c.args.self.line c.args.self.limits c.args.self.ends = shown
-        (λ l m es. AreResults l m es) c.self.inside.jobs.line.now c.self.inside.jobs.limits c.self.inside.ends.items c.args.self c.self.view_is c.self.invariant.are in
+    (λ l m es. AreResults l m es) c.self.inside.jobs.line.now c.self.inside.jobs.limits c.self.inside.ends.items c.args.self c.self.view_is c.self.invariant.are in
     let job : IsJob c.args.self.line i turn = job_here c.args.self.line c.as_slice-turns.result.now i i turn turns refl c.loop-job-test.true c.index-turns-job-in-loop-job.is in
     let next : IsJob c.args.self.line (length c.loop-job.children.items) turn =
     job_here c.args.self.line c.as_slice-turns.result.now i (length c.loop-job.children.items) turn turns
-        (sym c.loop-job.children.ok.0 ∙ c.loop-job.invariant.noted) c.loop-job-test.true c.index-turns-job-in-loop-job.is in
+    (sym c.loop-job.children.ok.0 ∙ c.loop-job.invariant.noted) c.loop-job-test.true c.index-turns-job-in-loop-job.is in
     let there : HasEnd c.args.self.ends i c.in-Some-Settled-take_end.field-0 =
     ap (λ (p : Progress). slice_get p.ends i) (sym c.self.view_is) ∙ (sym (c.loop-job.invariant.same i (omega arith)) ∙ c.in-Some-Settled-take_end.ensures.taken) in
     let child = c.in-Some-Settled-take_end.child in
     let is = c.in-Some-Settled-take_end.field-0-is in
     let behind : EndsBehind c.args.self.line c.args.self.limits turn (Settled child) = ends_here c.args.self.line c.args.self.limits i turn c.in-Some-Settled-take_end.field-0
-        (Settled child) is (are i c.in-Some-Settled-take_end.field-0 there) job in
+    (Settled child) is (are i c.in-Some-Settled-take_end.field-0 there) job in
     let won : HasWon (Settled child) = subst HasWon is (subst AllWon ends c.in_default.ensures.won i c.in-Some-Settled-take_end.field-0 there) in
     let this : IsLost c.args.self.line c.args.self.limits (turn, child) =
     record { stands = behind.0; side = lost_side c.args.self.line.state.to_move c.args.self.ends i c.in-Some-Settled-take_end.field-0 child none is there; low = behind.1; wins = won } in
@@ -181,7 +181,7 @@ returns-clause-picks c =
     let side : c.to_move.result ≡ c.args.self.line.state.to_move = c.to_move.ensures ∙ ap (λ (p : Progress). p.line.state.to_move) c.self.view_is in
     let ends : c.as_slice.result.now ≡ c.args.self.ends = c.as_slice.ensures.value ∙ ap (λ (p : Progress). p.ends) c.self.view_is in
     let none : NoWin c.args.self.line.state.to_move c.args.self.ends = none_at c.args.self.line.state.to_move c.to_move.result c.args.self.ends c.as_slice.result.now
-        side ends c.in_default.ensures.least in
+    side ends c.in_default.ensures.least in
     λ job turn win at. absurd (none job win.wins)
 
 pub returns-clause-stuck : goal.returns-clause-stuck

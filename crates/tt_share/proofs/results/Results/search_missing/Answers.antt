@@ -40,11 +40,11 @@ loop-job-preserved g c =
     let side = ap (λ (p : Progress). p.line.state.to_move) c.search_job.ensures.same in
     let begun = ap (λ (p : Progress). p.line.state.to_move) c.loop-job.invariant.same in
     let before : ¬ IsWinAt first.line.state.to_move old.ends c.loop-job.job = λ win. c.in_default.ensures c.loop-job.job
-        (win_kept first.line.state.to_move first.ends old.ends c.loop-job.job (c.loop-job.invariant.rest c.loop-job.job (omega arith)) win) in
+    (win_kept first.line.state.to_move first.ends old.ends c.loop-job.job (c.loop-job.invariant.rest c.loop-job.job (omega arith)) win) in
     let this : ¬ IsWinAt old.line.state.to_move new.ends c.loop-job.job = λ win. before
-        (subst (λ (s : Side). IsWinAt s old.ends c.loop-job.job) begun (c.search_job.ensures.lost c.if-search_job.false win)) in
+    (subst (λ (s : Side). IsWinAt s old.ends c.loop-job.job) begun (c.search_job.ensures.lost c.if-search_job.false win)) in
     let lost : (k : ℕ) → k < c.loop-job.job + 1
-        → ¬ IsWinAt old.line.state.to_move new.ends k = lost_more old.line.state.to_move old.ends new.ends c.loop-job.job c.loop-job.invariant.lost c.search_job.ensures.others this in
+    → ¬ IsWinAt old.line.state.to_move new.ends k = lost_more old.line.state.to_move old.ends new.ends c.loop-job.job c.loop-job.invariant.lost c.search_job.ensures.others this in
     record {
       same = same_twice first old new c.loop-job.invariant.same c.search_job.ensures.same;
       len = c.search_job.ensures.len ∙ c.loop-job.invariant.len;

@@ -49,8 +49,11 @@ returns-then-eq c =
     let is : c.in-Some.p.now ≡ get_or c.self.inside.proofs.items place c.in-Some.p.now = search rules in
     let side : (arc_value c.in-Some.p.now).side ≡ c.args.s = search rules in
     let answers : IsFor c.args.k.now c.args.s (arc_value c.in-Some.p.now) =
-    record { has_key = has_key_at arc_value c.args.k.now c.self.inside.proofs.items c.args.self.now c.in-Some.p.now c.places-places.result.now
-        (c.loop-left.left - 1) c.self.view_is c.loop-left.invariant.0 left inside is; for_side = side } in
+    record {
+      has_key = has_key_at arc_value c.args.k.now c.self.inside.proofs.items c.args.self.now c.in-Some.p.now c.places-places.result.now
+          (c.loop-left.left - 1) c.self.view_is c.loop-left.invariant.0 left inside is;
+      for_side = side;
+    } in
     record {
       newest = found_is_newest arc_value c.args.k.now c.args.s c.self.inside.proofs.items c.args.self.now c.in-Some.p.now c.places-places.result.now c.loop-left.left
           c.self.view_is c.loop-left.invariant.0 left inside is answers c.loop-left.invariant.2;
