@@ -10,6 +10,7 @@ invariant_of-self-2 c =
     let items : c.push.new.self.items ≡ c.self.inside.entries.items ++ (e ∷ []) = search rules in
     let deep = depth_push c.self.inside.entries.items e in
     let many = nodes_push c.self.inside.entries.items e in
-    rw (items, deep, many)
-    (grind (arith, c.self.invariant, c.child.invariant, c.saturating_add.ensures, c.max-self-inside.ensures),
-    grind (arith, c.self.invariant, c.child.invariant, c.saturating_add-self-inside.ensures))
+    rw (items, deep, many) (
+      grind (arith, c.self.invariant, c.child.invariant, c.saturating_add.ensures, c.max-self-inside.ensures),
+      grind (arith, c.self.invariant, c.child.invariant, c.saturating_add-self-inside.ensures),
+    )
