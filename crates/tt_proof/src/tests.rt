@@ -201,7 +201,7 @@ fn problem_line(alloc: Global, record: &[u8]) -> Result<Line, Fail> {
 }
 
 #[test]
-fn attacker_proof(rt: HostRuntime) -> Result<(), Fail> {
+fn attacker_proof_by_replay(rt: HostRuntime) -> Result<(), Fail> {
     let alloc = rt.alloc();
     let text = b"killed !ca?aa.--!aa.;".as_slice();
     let mut line = problem_line(alloc, b"(;SZ[4:1]AW[ba][da]PL[B]TR[ba])")?;
@@ -210,21 +210,37 @@ fn attacker_proof(rt: HostRuntime) -> Result<(), Fail> {
     assert!(&rt; found.side() == Side::Attacker);
     assert!(&rt; found.first() == Some(play(&line, 2)?));
     assert_eq!(rt; found.depth(), 3);
-    assert_eq!(rt; found.nodes(), 5);
     assert!(&rt; found.has_key(&line.key()));
-    let mut asked = after(&line, &play(&line, 2)?)?;
-    let taken = after(&asked, &play(&line, 0)?)?;
-    let mut passed = after(&asked, &Turn::Pass)?;
-    let late = after(&passed, &play(&line, 0)?)?;
+    let asked = after(&line, &play(&line, 2)?)?;
     assert!(&rt; !found.has_key(&asked.key()));
+    Ok(())
+}
+
+/// The proof at the line after the attacker's first turn, which answers a capture and a pass.
+fn reply_of_attacker(alloc: Global, asked: &mut Line, capture: Turn) -> Result<Proof, Fail> {
+    let taken = after(asked, &capture)?;
+    let mut passed = after(asked, &Turn::Pass)?;
+    let late = after(&passed, &capture)?;
     let mut children = Vec::new(alloc);
-    children.push((play(&line, 0)?, won(&taken)?))?;
-    let pick = picked(alloc, &mut passed, &play(&line, 0)?, won(&late)?)?;
+    children.push((capture, won(&taken)?))?;
+    let pick = picked(alloc, &mut passed, &capture, won(&late)?)?;
     children.push((Turn::Pass, pick))?;
-    let reply = answered(alloc, &mut asked, children)?;
+    answered(alloc, asked, children)
+}
+
+#[test]
+fn attacker_proof_by_parts(rt: HostRuntime) -> Result<(), Fail> {
+    let alloc = rt.alloc();
+    let mut line = problem_line(alloc, b"(;SZ[4:1]AW[ba][da]PL[B]TR[ba])")?;
     let first = play(&line, 2)?;
+    let capture = play(&line, 0)?;
+    let mut asked = after(&line, &first)?;
+    let reply = reply_of_attacker(alloc, &mut asked, capture)?;
     let made = picked(alloc, &mut line, &first, reply)?;
-    assert_eq!(rt; text_of(alloc, &made, &line)?.as_slice(), text);
+    assert_eq!(rt;
+        text_of(alloc, &made, &line)?.as_slice(),
+        b"killed !ca?aa.--!aa.;".as_slice()
+    );
     Ok(())
 }
 
@@ -242,5 +258,15 @@ fn defender_proof(rt: HostRuntime) -> Result<(), Fail> {
     children.push((Turn::Pass, pick))?;
     let made = answered(alloc, &mut line, children)?;
     assert_eq!(rt; text_of(alloc, &made, &line)?.as_slice(), text);
+    Ok(())
+}
+
+#[test]
+fn measures(rt: HostRuntime) -> Result<(), Fail> {
+    let alloc = rt.alloc();
+    let mut line = problem_line(alloc, b"(;SZ[4:1]AW[ba][da]PL[B]TR[ba])")?;
+    let found = replayed(alloc, &mut line, b"killed !ca?aa.--!aa.;")?;
+    assert_eq!(rt; found.nodes(), 5);
+    assert_eq!(rt; found.plan().try_clone()?.depth(), 3);
     Ok(())
 }
