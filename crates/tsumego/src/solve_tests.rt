@@ -9,7 +9,7 @@ use std::thread::Threads;
 use tt_search::Limits;
 
 /// An option and its value, empty where it has none; the input; the answer and the status.
-const ROWS: [((&str, &str), &str, &str, u8); 21] = [
+const ROWS: [((&str, &str), &str, &str, u8); 22] = [
     (("", ""), "(;SZ[2:1]AW[ba]PL[B]TR[ba])", "1 killed aa\n", 0),
     (("", ""), "(;SZ[2:1]AW[ba]PL[W]TR[ba])", "1 killed\n", 0),
     (("", ""), "(;SZ[3:1]AW[ba]PL[W]TR[ba])", "1 lives pass\n", 0),
@@ -92,6 +92,13 @@ const ROWS: [((&str, &str), &str, &str, u8); 21] = [
         ("--cert", ""),
         "(;SZ[5:1]AW[aa];B[ca]TR[ca])",
         "1 killed da\nkilled !da?ba!aa.ea!ba?aa!ba?da.--!da.;ba!da?aa.--!aa.;da!ba.--!ba?aa!da?ba.--!ba.;da.--!da.;;--!ba.;\n",
+        0,
+    ),
+    // Two turns win at once, by a capture each: the least is written, whoever finds the other one first.
+    (
+        ("", ""),
+        "(;SZ[7:1]AB[ca][ea]AW[ba][fa]PL[B]TR[ba][fa]SQ[aa][ga])",
+        "1 killed aa\n",
         0,
     ),
     (

@@ -1,6 +1,6 @@
 //! Searches over stores that are full, that refuse to keep, and that are refused memory once.
 
-ghost use Rattle.std.specs.Prelude.{◌≡◌};
+ghost use Rattle.std.specs.Prelude.{◌≡◌, ◌+◌, ◌≤◌};
 
 use crate::tests::{letter, posed, shown, trace};
 use crate::{Kept, Limits, PrivateStore, Reason, Search, Step, Store};
@@ -14,8 +14,8 @@ use tt_sgf::NoMemory;
 /// White's two stones with liberties on both sides: Black to move wins.
 const SPLIT: &[u8] = b"(;SZ[4:1]AW[ba][da]PL[B]TR[ba])";
 
-/// The first search of it over an empty store, with its numbers.
-const STEPS: &str = "E1,2 E1,2 E0,inf S0,inf 3 ";
+/// The first search of it over an empty store, with its numbers; how many nodes are expanded and how many proofs are kept.
+const STEPS: &str = "E1,2 E1,2 E0,inf S0,inf 3 3";
 
 /// A store with room for a hundred proofs, which refuses to keep any.
 #[derive(Drop)]
@@ -45,25 +45,28 @@ impl Store for Refusing {
     }
 }
 
-/// A store without room, which is refused memory at one of the questions: the one with so many before it.
+/// A store that forgets at once what it keeps, and is refused memory at one of the questions: the one with so many before
+/// it.
 #[derive(Drop)]
 struct RefusedOnce {
     before: u32,
+    kept: usize,
+    ghost few: { kept ≤ 100 },
 }
 
 impl Store for RefusedOnce {
-    ghost capacity = { λ _. 0 };
+    ghost capacity = { λ _. 100 };
 
-    ghost kept = { λ _. 0 };
+    ghost kept = { λ store. store.kept };
 
     ghost may_answer = { ⊥ };
 
     fn capacity(&self) -> usize {
-        0
+        100
     }
 
     fn kept(&self) -> usize {
-        0
+        self.kept
     }
 
     fn find(&mut self, line: &Line, s: Side) -> Result<Option<Arc<Proof>>, NoMemory> {
@@ -76,7 +79,11 @@ impl Store for RefusedOnce {
     }
 
     fn keep(&mut self, p: Arc<Proof>) -> Kept {
-        Kept::Full
+        if self.kept == 100 {
+            return Kept::Full;
+        }
+        self.kept += 1;
+        Kept::Stored
     }
 }
 
@@ -111,12 +118,13 @@ fn a_refused_keep_stops_no_search(rt: HostRuntime) -> Result<(), Fail> {
     Ok(())
 }
 
-/// The steps of a search at that problem up to its end, but for those that were refused memory, and how many were.
+/// The steps of a search at that problem up to its end, but for those that were refused memory, with how many nodes are
+/// expanded and how many proofs are kept; and how many steps were refused.
 fn steps_past_refusals(alloc: Global, before: u32) -> Result<(String, u32), Fail> {
     let Some(limits) = Limits::new(100, 512) else {
         return Err(Fail::new("no limits"));
     };
-    let mut store = RefusedOnce { before };
+    let mut store = RefusedOnce { before, kept: 0 };
     let mut search = Search::new(alloc, posed(alloc, SPLIT)?, limits)?;
     let mut steps = String::new(alloc);
     let mut refusals = 0u32;
@@ -140,13 +148,13 @@ fn steps_past_refusals(alloc: Global, before: u32) -> Result<(String, u32), Fail
             }
         }
     }
-    let end = format!(in alloc; "{} ", search.expanded())?;
+    let end = format!(in alloc; "{} {}", search.expanded(), store.kept())?;
     steps.push_str(end.as_str())?;
     Ok((steps, refusals))
 }
 
 /// Three expansions ask the store twice each. Whichever question is refused memory, the next step goes on as if the
-/// refused one had never been asked for.
+/// refused one had never been asked for, and each node that is settled is still offered.
 #[test]
 fn goes_on_after_want_of_memory(rt: HostRuntime) -> Result<(), Fail> {
     let alloc = rt.alloc();
