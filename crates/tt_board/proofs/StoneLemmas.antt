@@ -92,10 +92,6 @@ module _ (s : Points) (n : ℕ) (small : n ≤ 361) (within : (p : ℕ) → set.
 
 -- ---- stones
 
--- a board has 361 points at the most
-pub few_points : (size : Size) → point_count size ≤ 361
-few_points size = Rattle.std.proofs.Math.Nat.mul-le-mul size.columns_in.1 size.rows_in.1
-
 -- a point has one of the two bits exactly where a stone stands on it
 bits_told : (e : Option Colour) (b w : Bool) → b ≡ is_stone_of e Black → w ≡ is_stone_of e White → (b || w) ≡ not (is_empty e)
 bits_told None b w x y = rw (x, y) refl

@@ -2,6 +2,7 @@
 use Rattle.std.specs.Prelude.{◌≡◌, ◌≢◌, ℕ, ◌+◌, ◌<◌, ◌≤◌, ◌⊎◌, List, [], ◌∷◌, length, Option, Some, None, Bool, IsTrue, Contains, ◌++◌, map}
 use Rattle.std.specs.List.{range_with_len}
 use Rattle.tt_board.specs.declared.Colour.{Colour}
+use Rattle.tt_sgf.specs.declared.size.TheConstants.{MOST_POINTS}
 use Rattle.tt_sgf.specs.declared.size.Size.{Size}
 use Rattle.tt_sgf.specs.Sizes.{point_count}
 use Rattle.tt_board.specs.Near.{IsNeighbour}
@@ -20,12 +21,12 @@ IsLinked s c start p = (p < point_count s) × (entry_at c p ≡ entry_at c start
 
 -- marks as bits in words
 unfoldable pub marks_of : List ℕ → List Bool
-marks_of words = map (bit_in words) (range_with_len 0 361)
+marks_of words = map (bit_in words) (range_with_len 0 MOST_POINTS)
 
 -- a list that is being found: each marked point is in it, and there is room for the others
 pub record IsGrowing (marks : List Bool) (chain : List ℕ) : Type 0 where
-  pub wide : length marks ≡ 361
-  pub room : length chain + unmarked_count marks ≤ 361
+  pub wide : length marks ≡ MOST_POINTS
+  pub room : length chain + unmarked_count marks ≤ MOST_POINTS
   pub listed : (p : ℕ) → IsTrue (is_marked marks p) → Contains chain p
 
 -- the list grew at its end, by neighbours of p that are like it

@@ -2,6 +2,8 @@
 -- Private contracts alone cite these.
 use Rattle.std.specs.Prelude.{◌≡◌, ℕ, ◌<◌, ◌≤◌, Option, Some, None, Bool, true, false, List, map}
 use Rattle.std.specs.List.{range_with_len}
+use Rattle.tt_sgf.specs.declared.size.TheConstants.{MOST_POINTS}
+use Rattle.tt_sgf.specs.declared.bits.TheConstants.{BITS}
 use Rattle.tt_sgf.specs.Words.{bit_in}
 use Rattle.tt_board.specs.declared.Colour.{Colour}
 use Rattle.tt_board.specs.declared.Colour.TheVariants.{Black, White}
@@ -19,7 +21,7 @@ shown count black white = map (λ p. entry_of (bit_in black p) (bit_in white p))
 
 -- no point has both bits, and those past the last point are 0
 pub record IsPlain (count : ℕ) (black white : List ℕ) : Type 0 where
-  pub small : count ≤ 361
-  pub apart : (p : ℕ) → p < 384 → bit_in black p ≡ true → bit_in white p ≡ false
-  pub black_ends : (p : ℕ) → count ≤ p → p < 384 → bit_in black p ≡ false
-  pub white_ends : (p : ℕ) → count ≤ p → p < 384 → bit_in white p ≡ false
+  pub small : count ≤ MOST_POINTS
+  pub apart : (p : ℕ) → p < BITS → bit_in black p ≡ true → bit_in white p ≡ false
+  pub black_ends : (p : ℕ) → count ≤ p → p < BITS → bit_in black p ≡ false
+  pub white_ends : (p : ℕ) → count ≤ p → p < BITS → bit_in white p ≡ false

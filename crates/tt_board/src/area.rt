@@ -1,6 +1,7 @@
 //! The area score of one colour.
 
 ghost use Rattle.std.specs.Prelude.{◌≡◌, ◌&&◌, not, length, Some};
+ghost use Rattle.tt_sgf.specs.declared.size.TheConstants.{MOST_POINTS};
 ghost use Rattle.tt_sgf.specs.Sizes.{point_count};
 ghost use Rattle.tt_board.specs.Fill.{IsFilled};
 ghost use Rattle.tt_board.specs.Play.{other, score_of};
@@ -24,8 +25,8 @@ pub(crate) fn count_area(
     others: &[bool],
 ) -> u16
     requires fits { length points.now ≡ point_count size }
-    requires own_fits { length own.now ≡ 361 }
-    requires others_fit { length others.now ≡ 361 }
+    requires own_fits { length own.now ≡ MOST_POINTS }
+    requires others_fit { length others.now ≡ MOST_POINTS }
     requires own_marked { IsFilled size points.now (Some colour) own.now }
     requires others_marked { IsFilled size points.now (Some (other colour)) others.now }
     ensures { result ≡ score_of size points.now colour }

@@ -1,6 +1,7 @@
 //! The board: a colouring in which each stone reaches empty.
 
 ghost use Rattle.std.specs.Prelude.{◌≡◌, ◌≢◌, ℕ, ◌<◌, ◌≤◌, ◌↔◌, length, take, replicate, IsTrue, None, MatchResult};
+ghost use Rattle.tt_sgf.specs.declared.size.TheConstants.{MOST_POINTS};
 ghost use Rattle.tt_sgf.specs.Sizes.{point_count};
 
 use super::Colour;
@@ -169,7 +170,7 @@ impl Board {
     /// The colouring as an array, row by row; places past the last point hold none.
     pub fn entries(&self) -> [Option<Colour>; 361]
         ensures shown { take (point_count self.now.size) result ≡ self.now.points }
-        ensures wide { length result ≡ 361 }
+        ensures wide { length result ≡ MOST_POINTS }
         ensures rest { (k : ℕ) → point_count self.now.size ≤ k → entry_at result k ≡ None }
     {
         self.points.entries()

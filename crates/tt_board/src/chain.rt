@@ -1,6 +1,7 @@
 //! Chains without liberties: found from one of their stones, and lifted.
 
 ghost use Rattle.std.specs.Prelude.{◌≡◌, ◌≢◌, ℕ, ◌<◌, ◌≤◌, ◌⊎◌, length, false, Some, None, IsTrue, Contains, []};
+ghost use Rattle.tt_sgf.specs.declared.size.TheConstants.{MOST_POINTS};
 ghost use Rattle.tt_sgf.specs.Sizes.{point_count};
 ghost use Rattle.tt_board.specs.Near.{IsOneOf};
 ghost use Rattle.tt_board.specs.Reach.{entry_at, Reaches};
@@ -20,7 +21,7 @@ fn visit(
     marks: &mut Bits,
     chain: &mut ArrayVec<u16, 361>,
 ) -> bool
-    requires small { length points.now ≤ 361 }
+    requires small { length points.now ≤ MOST_POINTS }
     requires on_board { (q : ℕ) → place ≡ Some q → q < length points.now }
     requires growing { IsGrowing (marks_of marks.old.words) chain.old.items }
     ensures still_growing { IsGrowing (marks_of marks.new.words) chain.new.items }

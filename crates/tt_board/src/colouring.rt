@@ -3,6 +3,8 @@
 //! Copies and comparisons of colourings are what superko asks for most.
 
 ghost use Rattle.std.specs.Prelude.{◌≡◌, ℕ, ◌<◌, ◌≤◌, ◌↔◌, length, take, replicate, slice_set, IsTrue, None, false};
+ghost use Rattle.tt_sgf.specs.declared.size.TheConstants.{MOST_POINTS};
+ghost use Rattle.tt_sgf.specs.declared.bits.TheConstants.{BITS};
 ghost use Rattle.tt_board.specs.Reach.{entry_at};
 ghost use Rattle.tt_board.specs.Play.{is_stone_of};
 ghost use Rattle.tt_sgf.specs.Words.{bit_in, AreBitsOf};
@@ -39,7 +41,7 @@ fn is_stone_of(entry: Option<Colour>, colour: Colour) -> bool
 
 /// No stone on any place.
 fn no_stones() -> [Option<Colour>; 361]
-    ensures { result ≡ replicate 361 None }
+    ensures { result ≡ replicate MOST_POINTS None }
 {
     [None; 361]
 }
@@ -47,7 +49,7 @@ fn no_stones() -> [Option<Colour>; 361]
 impl Colouring {
     /// No stone on any of `count` points.
     pub(crate) fn empty(count: usize) -> Colouring
-        requires { count ≤ 361 }
+        requires { count ≤ MOST_POINTS }
         ensures { result ≡ replicate count None }
     {
         Colouring {
@@ -71,7 +73,7 @@ impl Colouring {
     /// How many points there are.
     pub(crate) fn len(&self) -> usize
         ensures value { result ≡ length self.now }
-        ensures small { result ≤ 361 }
+        ensures small { result ≤ MOST_POINTS }
     {
         self.count
     }
@@ -125,7 +127,7 @@ impl Colouring {
     /// Bits that are 1 wherever the entries differ. Contracts say that where a bit is 0 they are alike, which is all that
     /// keeping boards rests on.
     pub(crate) fn apart(&self, other: &Colouring) -> Bits
-        ensures { (q : ℕ) → q < 384 → bit_in result.words q ≡ false → entry_at self.now q ≡ entry_at other.now q }
+        ensures { (q : ℕ) → q < BITS → bit_in result.words q ≡ false → entry_at self.now q ≡ entry_at other.now q }
     {
         self.black
             .xor(&other.black)
@@ -135,7 +137,7 @@ impl Colouring {
     /// The entries as an array; places past the last point hold none.
     pub(crate) fn entries(&self) -> [Option<Colour>; 361]
         ensures shown { take (length self.now) result ≡ self.now }
-        ensures wide { length result ≡ 361 }
+        ensures wide { length result ≡ MOST_POINTS }
         ensures rest { (k : ℕ) → length self.now ≤ k → entry_at result k ≡ None }
     {
         let mut entries = no_stones();

@@ -1,6 +1,7 @@
 //! Which points reach a colour or empty, found for the whole board by passes to and fro that mark more and more points.
 
 ghost use Rattle.std.specs.Prelude.{◌≡◌, ℕ, ◌<◌, ◌≤◌, ◌↔◌, length, false, IsTrue};
+ghost use Rattle.tt_sgf.specs.declared.size.TheConstants.{MOST_POINTS};
 ghost use Rattle.tt_sgf.specs.Sizes.{point_count};
 ghost use Rattle.tt_board.specs.Fill.{is_marked, IsNext, IsSound, IsClosed, IsFilled, unmarked_count};
 
@@ -98,7 +99,7 @@ fn sweep_back(size: Size, points: &[Option<Colour>], wanted: Option<Colour>, mar
 pub(crate) fn reaching(size: Size, points: &[Option<Colour>], wanted: Option<Colour>) -> [bool; 361]
     requires { length points.now ≡ point_count size }
     ensures marked { IsFilled size points.now wanted result }
-    ensures wide { length result ≡ 361 }
+    ensures wide { length result ≡ MOST_POINTS }
 {
     let mut marks = [false; 361];
     let mut changed = true;

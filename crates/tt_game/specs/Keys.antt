@@ -5,6 +5,7 @@ use Rattle.std.specs.FinSet as set
 use Rattle.tt_board.specs.declared.Colour.TheVariants.{Black, White}
 use Rattle.tt_board.specs.Reach.{entry_at}
 use Rattle.tt_board.specs.Play.{is_stone_of}
+use Rattle.tt_sgf.specs.declared.bits.TheConstants.{BITS}
 use Rattle.tt_sgf.specs.declared.size.Size.{Size}
 use Rattle.tt_sgf.specs.Sizes.{point_count}
 use Rattle.tt_game.specs.declared.frame.Frame.{Frame}
@@ -13,7 +14,7 @@ use Rattle.tt_game.specs.Game.{State}
 
 -- a mark for each point of the board, and none behind them up to six words of 64
 unfoldable pub marks_of : Size → (ℕ → Bool) → List Bool
-marks_of size test = map test (range_with_len 0 (point_count size)) ++ replicate (384 - point_count size) false
+marks_of size test = map test (range_with_len 0 (point_count size)) ++ replicate (BITS - point_count size) false
 
 -- the number whose binary digits these marks are, the first mark the least digit
 abbrev pub binary : List Bool → ℕ

@@ -8,6 +8,7 @@ use Rattle.std.proofs.lemmas.List.Elements.{All-contains, All-filter, All-contai
 use Rattle.std.proofs.lemmas.List.FromFn.{length-map-range_with_len, get_or-map-range_with_len, filter_of_map_range_with_len_more}
 use Rattle.std.proofs.lemmas.List.Sums.{length-filter, count_by-le-length}
 use Rattle.tt_sgf.specs.declared.size.Size.{Size}
+use Rattle.tt_sgf.specs.SizeLaws.{few_points}
 use Rattle.tt_sgf.specs.Sizes.{point_count}
 use Rattle.tt_game.specs.declared.frame.Frame.{Frame}
 use Rattle.tt_game.specs.declared.turns.Turn.{Turn}
@@ -104,10 +105,6 @@ rising-legal_turns f s =
     last : (b : Bool) → Rises f (point_count f.size) (filter (is_legal f s) (plays (point_count f.size))) → IsRising f (filter (is_legal f s) (plays (point_count f.size)) ++ cond b (Pass ∷ []) [])
     last true h = rising_push f _ Pass h.rising h.below
     last false h = rw Rattle.std.proofs.lemmas.List.append-nil h.rising
-
--- a board has 361 points at the most
-pub few_points : (size : Size) → point_count size ≤ 361
-few_points size = Rattle.std.proofs.Math.Nat.mul-le-mul size.columns_in.1 size.rows_in.1
 
 -- the list has 362 turns at the most
 pub length-legal_turns : (f : Frame) (s : State) → length (legal_turns f s) ≤ 362

@@ -1,7 +1,6 @@
 -- Points and passes as property values: the reader against their definitions.
-use Rattle.std.proofs.Common.{◌≡◌, ℕ, ◌+◌, ◌-◌, ◌*◌, ◌≤◌, true, false, ◌&&◌, eqb, leb, ltb, List, [], ◌∷◌, length, Some, None, refl, sym, ap, subst, ◌∙◌, arith, inl, inr}
+use Rattle.std.proofs.Common.{◌≡◌, ℕ, ◌+◌, ◌-◌, ◌*◌, ◌≤◌, ◌<◌, true, false, ◌&&◌, eqb, leb, ltb, List, [], ◌∷◌, length, Some, None, refl, sym, ap, subst, ◌∙◌, arith, inl, inr}
 use Rattle.std.proofs.lemmas.Bool.{eqb-true, eq-eqb, ne_eqb, leb-true, ltb-true, le-leb, lt-ltb, and_parts, cases_Bool}
-use Rattle.std.proofs.lemmas.List.{nil_from_length}
 use Rattle.std.proofs.lemmas.Option.{cond_some, same_Some}
 use Rattle.tt_sgf.specs.declared.size.Size.{Size}
 use Rattle.tt_sgf.specs.declared.size.PointOrPass.{PointOrPass}
@@ -23,10 +22,24 @@ pub point_of-one : (size : Size) (c : ℕ) → point_of size (c ∷ []) ≡ None
 unfolding point_of
 point_of-one size c = refl
 
-pub point_of-more : (size : Size) (c r : ℕ) (xs : List ℕ) → eqb (length xs) 0 ≡ false → point_of size (c ∷ r ∷ xs) ≡ None
+-- by the length of the text
+pub point_of-empty : (size : Size) (xs : List ℕ) → length xs < 1 → Some Pass ≡ point_of size xs
 unfolding point_of
-point_of-more size c r [] h = absurd cc
-point_of-more size c r (x ∷ xs) h = refl
+point_of-empty size [] h = refl
+point_of-empty size (x ∷ xs) h = absurd (omega (arith, h))
+
+pub point_of-letter : (size : Size) (xs : List ℕ) → 1 ≤ length xs → length xs < 2 → None ≡ point_of size xs
+unfolding point_of
+point_of-letter size [] l h = absurd (omega (arith, l))
+point_of-letter size (x ∷ []) l h = refl
+point_of-letter size (x ∷ y ∷ ys) l h = absurd (omega (arith, h))
+
+pub point_of-long : (size : Size) (xs : List ℕ) → 3 ≤ length xs → None ≡ point_of size xs
+unfolding point_of
+point_of-long size [] l = absurd (omega (arith, l))
+point_of-long size (x ∷ []) l = absurd (omega (arith, l))
+point_of-long size (x ∷ y ∷ []) l = absurd (omega (arith, l))
+point_of-long size (x ∷ y ∷ z ∷ zs) l = refl
 
 pub point_of-pass : (size : Size) (c r : ℕ) → c ≡ 116 → r ≡ 116 → point_of size (c ∷ r ∷ []) ≡ Some Pass
 unfolding point_of
@@ -95,11 +108,8 @@ takes size (c ∷ r ∷ []) bytes q s h =
       ]
       | inr e ↦ place_takes size bytes c r q s (sym (point_of-first size c r (λ k. absurd (let g = eq-eqb c 116 k in let u : true ≡ false = sym g ∙ e in cc))) ∙ h)
     ]
-takes size (c ∷ r ∷ x ∷ xs) bytes q s h = absurd (let e : point_of size (c ∷ r ∷ x ∷ xs) ≡ None = point_of-more size c r (x ∷ xs) (ne_eqb _ _ (λ k. absurd (omega arith))) in cc)
+takes size (c ∷ r ∷ x ∷ xs) bytes q s h = absurd (let e : None ≡ point_of size (c ∷ r ∷ x ∷ xs) = point_of-long size (c ∷ r ∷ x ∷ xs) (omega arith) in cc)
 
 -- a value read as a point or a pass is it
 pub point_takes : (size : Size) (bytes : List ℕ) (q : PointOrPass) → point_of size (trimmed bytes) ≡ Some q → IsPointOrPass size bytes q
 point_takes size bytes q h = takes size (trimmed bytes) bytes q (trimmed_stands bytes) h
-
-pub nothing_left : (xs : List ℕ) → eqb (length xs) 0 ≡ true → xs ≡ []
-nothing_left xs h = nil_from_length xs (eqb-true _ _ h)

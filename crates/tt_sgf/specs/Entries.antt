@@ -7,6 +7,7 @@ use Rattle.std.specs.Option.{is_some}
 use Rattle.std.specs.Ordering.{nat_cmp}
 use Rattle.std.specs.FinSet as set
 use Rattle.tt_sgf.specs.declared.size.Size.{Size}
+use Rattle.tt_sgf.specs.declared.size.TheConstants.{MOST_POINTS}
 use Rattle.tt_sgf.specs.declared.entries.Rectangle.{Rectangle}
 use Rattle.tt_sgf.specs.Points.{passing}
 use Rattle.tt_sgf.specs.Values.{StandsIn, trimmed}
@@ -85,4 +86,4 @@ is_entry size v = is_some (entry_of size (trimmed v))
 
 -- the points that the values cover, where each value is an entry
 unfoldable pub set_of : Size → List (List ℕ) → Option (set.FinSet nat_cmp)
-set_of size vs = cond (list_all (is_entry size) vs) (Some (passing (λ q. list_any (λ v. covers size v q) vs) 361)) None
+set_of size vs = cond (list_all (is_entry size) vs) (Some (passing (λ q. list_any (λ v. covers size v q) vs) MOST_POINTS)) None

@@ -3,6 +3,7 @@ use Rattle.std.proofs.Common.{◌≡◌, ◌≤◌, ℕ, Some, None, inl, inr, r
 use Rattle.std.proofs.lemmas.Option.{same_Some}
 use Rattle.std.proofs.Math.Bridge.{le_prop}
 use Rattle.tt_sgf.specs.declared.size.Size.{Size}
+use Rattle.tt_sgf.specs.declared.size.TheConstants.{MOST_POINTS}
 use Rattle.tt_sgf.specs.Sizes.{IsSide, point_count, made, side, sized, sized_by}
 
 -- that a number is a side is a fact in one way alone
@@ -20,8 +21,8 @@ pub sizes_same : (a b : Size) → a.columns ≡ b.columns → a.rows ≡ b.rows 
 unfolding made
 sizes_same a b e f = made_same a.columns b.columns a.rows b.rows a.columns_in a.rows_in b.columns_in b.rows_in e f
 
--- a board has 361 points at the most
-pub few_points : (size : Size) → point_count size ≤ 361
+-- a board has no more points than the largest
+pub few_points : (size : Size) → point_count size ≤ MOST_POINTS
 few_points size = Rattle.std.proofs.Math.Nat.mul-le-mul size.columns_in.1 size.rows_in.1
 
 -- a size is the one of its columns and rows

@@ -1,10 +1,15 @@
-//! Bits in six words: one for each of the numbers below 384, which are more than the points of the largest board.
+//! Bits in six words: one for each of the numbers below `BITS`, which are more than the points of the largest board.
 
 ghost use Rattle.std.specs.Prelude.{◌≡◌, ℕ, ◌<◌, ◌≤◌, ◌↔◌, IsTrue, true, false, not, ◌&&◌, ◌||◌};
 ghost use Rattle.std.specs.FinSet as set;
 ghost use Rattle.tt_sgf.specs.Words.{bit_in, points_of, IsLow, AreSameBits, AreCovered};
 
-/// A bit for each of the numbers below 384: that of `n` is bit `n % 64` of word `n / 64`.
+use super::size::MOST_POINTS;
+
+/// How many bits six words have.
+pub const BITS: usize = 384;
+
+/// A bit for each of the numbers below `BITS`: that of `n` is bit `n % 64` of word `n / 64`.
 #[derive(Clone, Copy)]
 pub struct Bits {
     words: [u64; 6],
@@ -23,7 +28,7 @@ fn low_bits(word: u64, count: usize) -> u64
 impl Bits {
     /// Bits that are all 0.
     pub fn none() -> Bits
-        ensures { (n : ℕ) → n < 384 → bit_in result.words n ≡ false }
+        ensures { (n : ℕ) → n < BITS → bit_in result.words n ≡ false }
     {
         Bits { words: [0; 6] }
     }
@@ -37,7 +42,7 @@ impl Bits {
 
     /// Whether the bit of a number is 1.
     pub fn has(&self, n: usize) -> bool
-        requires { n < 384 }
+        requires { n < BITS }
         ensures { result ≡ bit_in self.now.words n }
     {
         (self.words[n / 64] >> (n % 64)) & 1 == 1
@@ -45,27 +50,27 @@ impl Bits {
 
     /// Makes the bit of a number 1.
     pub fn set(&mut self, n: usize)
-        requires { n < 384 }
+        requires { n < BITS }
         ensures same { bit_in self.new.words n ≡ true }
-        ensures others { (q : ℕ) → q < 384 → (q ≡ n → ⊥) → bit_in self.new.words q ≡ bit_in self.old.words q }
+        ensures others { (q : ℕ) → q < BITS → (q ≡ n → ⊥) → bit_in self.new.words q ≡ bit_in self.old.words q }
     {
         self.words[n / 64] |= 1 << (n % 64);
     }
 
     /// Makes the bit of a number 0.
     pub fn clear(&mut self, n: usize)
-        requires { n < 384 }
+        requires { n < BITS }
         ensures same { bit_in self.new.words n ≡ false }
-        ensures others { (q : ℕ) → q < 384 → (q ≡ n → ⊥) → bit_in self.new.words q ≡ bit_in self.old.words q }
+        ensures others { (q : ℕ) → q < BITS → (q ≡ n → ⊥) → bit_in self.new.words q ≡ bit_in self.old.words q }
     {
         self.words[n / 64] &= !(1 << (n % 64));
     }
 
     /// Makes the bit of a number 1 or 0.
     pub fn put(&mut self, n: usize, on: bool)
-        requires { n < 384 }
+        requires { n < BITS }
         ensures same { bit_in self.new.words n ≡ on }
-        ensures others { (q : ℕ) → q < 384 → (q ≡ n → ⊥) → bit_in self.new.words q ≡ bit_in self.old.words q }
+        ensures others { (q : ℕ) → q < BITS → (q ≡ n → ⊥) → bit_in self.new.words q ≡ bit_in self.old.words q }
     {
         if on {
             self.set(n);
@@ -74,31 +79,31 @@ impl Bits {
         }
     }
 
-    /// The least number from `from` on whose bit is 1: 384 where there is none. It looks at each word once.
+    /// The least number from `from` on whose bit is 1: `BITS` where there is none. It looks at each word once.
     pub fn first_from(&self, from: usize) -> usize
-        requires { from ≤ 384 }
+        requires { from ≤ BITS }
         ensures after { from ≤ result }
-        ensures most { result ≤ 384 }
-        ensures none { (q : ℕ) → from ≤ q → q < result → q < 384 → bit_in self.now.words q ≡ false }
-        ensures found { result < 384 → bit_in self.now.words result ≡ true }
+        ensures most { result ≤ BITS }
+        ensures none { (q : ℕ) → from ≤ q → q < result → q < BITS → bit_in self.now.words q ≡ false }
+        ensures found { result < BITS → bit_in self.now.words result ≡ true }
     {
         let mut n = from;
-        while n < 384 {
+        while n < BITS {
             let rest = self.words[n / 64] >> (n % 64);
             if rest != 0 {
                 return n + rest.trailing_zeros() as usize;
             }
             n = n / 64 * 64 + 64;
         }
-        384
+        BITS
     }
 
-    /// How many bits of points, the numbers below 361, are 1.
+    /// How many bits of points are 1.
     pub(crate) fn count(&self) -> u16
         ensures { result ≡ set.len (points_of self.now.words) }
     {
         let mut count: u16 = 0;
-        for n in 0..361 {
+        for n in 0..usize::from(MOST_POINTS) {
             if self.has(n) {
                 count += 1;
             }
@@ -108,8 +113,8 @@ impl Bits {
 
     /// The bits of the numbers below `count`, with 0 for all others.
     pub(crate) fn below(&self, count: usize) -> Bits
-        ensures kept { (q : ℕ) → q < 384 → q < count → bit_in result.words q ≡ bit_in self.now.words q }
-        ensures none { (q : ℕ) → q < 384 → count ≤ q → bit_in result.words q ≡ false }
+        ensures kept { (q : ℕ) → q < BITS → q < count → bit_in result.words q ≡ bit_in self.now.words q }
+        ensures none { (q : ℕ) → q < BITS → count ≤ q → bit_in result.words q ≡ false }
     {
         let mut words = [0u64; 6];
         for k in 0..6 {
@@ -120,7 +125,7 @@ impl Bits {
 
     /// The bits that are 1 in the first alone.
     pub fn minus(&self, other: &Bits) -> Bits
-        ensures { (q : ℕ) → q < 384 → bit_in result.words q ≡ (bit_in self.now.words q && not (bit_in other.now.words q)) }
+        ensures { (q : ℕ) → q < BITS → bit_in result.words q ≡ (bit_in self.now.words q && not (bit_in other.now.words q)) }
     {
         let mut words = [0u64; 6];
         for k in 0..6 {
@@ -131,7 +136,7 @@ impl Bits {
 
     /// The bits that are 1 in both.
     pub fn and(&self, other: &Bits) -> Bits
-        ensures { (q : ℕ) → q < 384 → bit_in result.words q ≡ (bit_in self.now.words q && bit_in other.now.words q) }
+        ensures { (q : ℕ) → q < BITS → bit_in result.words q ≡ (bit_in self.now.words q && bit_in other.now.words q) }
     {
         let mut words = [0u64; 6];
         for k in 0..6 {
@@ -142,7 +147,7 @@ impl Bits {
 
     /// The bits that are 1 in one or both.
     pub fn or(&self, other: &Bits) -> Bits
-        ensures { (q : ℕ) → q < 384 → bit_in result.words q ≡ (bit_in self.now.words q || bit_in other.now.words q) }
+        ensures { (q : ℕ) → q < BITS → bit_in result.words q ≡ (bit_in self.now.words q || bit_in other.now.words q) }
     {
         let mut words = [0u64; 6];
         for k in 0..6 {
@@ -153,7 +158,7 @@ impl Bits {
 
     /// The bits that are 1 in one alone.
     pub fn xor(&self, other: &Bits) -> Bits
-        ensures { (q : ℕ) → q < 384 → (bit_in result.words q ≡ false) ↔ (bit_in self.now.words q ≡ bit_in other.now.words q) }
+        ensures { (q : ℕ) → q < BITS → (bit_in result.words q ≡ false) ↔ (bit_in self.now.words q ≡ bit_in other.now.words q) }
     {
         let mut words = [0u64; 6];
         for k in 0..6 {

@@ -25,13 +25,13 @@ mod tokens;
 mod trees;
 mod value_kinds;
 
-pub use bits::Bits;
+pub use bits::{BITS, Bits};
 pub use entries::point_set;
 pub use faults::{BadPoint, NoMemory, SgfFault};
 pub use items::Items;
 pub use nodes::{MainLine, Node, Property};
 pub use sets::PointSet;
-pub use size::{Point, PointOrPass, Size};
+pub use size::{MOST_POINTS, Point, PointOrPass, Size};
 pub use tokens::skip_blanks;
 pub use trees::{MAX_BYTES, has_tree, read_tree};
 pub use value_kinds::{board_size, number, point, trim};

@@ -6,11 +6,11 @@ ghost use Rattle.tt_sgf.specs.Points.{passing};
 ghost use Rattle.tt_sgf.specs.Words.{AreBitsOf};
 ghost use Rattle.tt_sgf.specs.Sizes.{point_count};
 
-use super::bits::Bits;
-use super::size::{Point, Size, point_numbered};
+use super::bits::{BITS, Bits};
+use super::size::{MOST_POINTS, Point, Size, point_numbered};
 use std::marker::Model;
 
-/// A set of points. Contracts see the finite set of their numbers, all below 361. No call takes memory.
+/// A set of points. Contracts see the finite set of their numbers, all below `MOST_POINTS`. No call takes memory.
 #[derive(Drop)]
 pub struct PointSet {
     bits: Bits,
@@ -73,7 +73,7 @@ impl PointSet {
         self.bits.has(usize::from(p.number()))
     }
 
-    /// How many points the set has, at most 361.
+    /// How many points the set has, at most `MOST_POINTS`.
     pub fn count(&self) -> u16
         ensures { result ≡ set.len self.now }
     {
@@ -93,7 +93,7 @@ impl PointSet {
         ensures { MatchOption result ((q : ℕ) → from ≤ q → set.contains self.now q ≡ false)
             (λ p. (set.contains self.now p ≡ true) × (from ≤ p) × ((q : ℕ) → from ≤ q → q < p → set.contains self.now q ≡ false)) }
     {
-        let n = self.bits.first_from(usize::from(from).min(384));
+        let n = self.bits.first_from(usize::from(from).min(BITS));
         if n > 360 {
             return None;
         }
@@ -110,7 +110,7 @@ impl PointSet {
 
     /// The points of the set as bits: that of the point `p` is bit `p % 64` of word `p / 64`, and bits of no point are 0.
     pub fn bits(&self) -> &Bits
-        ensures { AreBitsOf result.now.words 361 (λ p. set.contains self.now p) }
+        ensures { AreBitsOf result.now.words MOST_POINTS (λ p. set.contains self.now p) }
     {
         &self.bits
     }

@@ -4,6 +4,9 @@ ghost use Rattle.std.specs.Prelude.{◌≡◌, ℕ, ◌<◌, ◌≤◌, ◌↔�
 
 use std::marker::Model;
 
+/// How many points the largest board has.
+pub const MOST_POINTS: u16 = 361;
+
 /// The size of a board: 1 to 19 columns and 1 to 19 rows.
 #[derive(Clone, Copy, Debug, PartialEq, Eq, Hash)]
 pub struct Size {
@@ -13,19 +16,20 @@ pub struct Size {
     ghost rows_in: { (1 ≤ rows) × (rows ≤ 19) },
 }
 
-/// A point by its number: row times columns plus column, both from 0 at the upper left. It is below 361; whether a
-/// board has it, `Size::holds` says.
+/// A point by its number: row times columns plus column, both from 0 at the upper left. It is below `MOST_POINTS`;
+/// whether a board has it, `Size::holds` says.
 #[derive(Clone, Copy, Debug, PartialEq, Eq, PartialOrd, Ord, Hash)]
 pub struct Point(u16);
 
 impl Model for Point {
     ghost use Rattle.std.specs.Prelude.{ℕ, ◌<◌};
+    ghost use Rattle.tt_sgf.specs.declared.size.TheConstants.{MOST_POINTS};
 
     ghost Value = { ℕ };
 
     ghost view = { λ p. p.0 };
 
-    ghost invariant = { λ p. p.0 < 361 };
+    ghost invariant = { λ p. p.0 < MOST_POINTS };
 
     ghost inverse = { λ n. record { 0 = n } };
 }
@@ -69,11 +73,11 @@ impl Size {
         self.rows
     }
 
-    /// How many points the board has: columns times rows, 1 to 361.
+    /// How many points the board has: columns times rows, 1 to `MOST_POINTS`.
     pub fn point_count(self) -> usize
         ensures value { result ≡ point_count self }
         ensures some { 1 ≤ result }
-        ensures most { result ≤ 361 }
+        ensures most { result ≤ MOST_POINTS }
     {
         usize::from(self.columns) * usize::from(self.rows)
     }
@@ -98,21 +102,21 @@ impl Size {
 }
 
 impl Point {
-    /// The point of this number: one exactly where the number is below 361.
+    /// The point of this number: one exactly where the number is below `MOST_POINTS`.
     pub fn new(number: u16) -> Option<Point>
-        ensures { MatchOption result (361 ≤ number) (λ p. (p ≡ number) × (number < 361)) }
+        ensures { MatchOption result (MOST_POINTS ≤ number) (λ p. (p ≡ number) × (number < MOST_POINTS)) }
     {
-        if number < 361 {
+        if number < MOST_POINTS {
             Some(Point(number))
         } else {
             None
         }
     }
 
-    /// The number of the point, below 361.
+    /// The number of the point, below `MOST_POINTS`.
     pub fn number(self) -> u16
         ensures number { result ≡ self }
-        ensures bound { result < 361 }
+        ensures bound { result < MOST_POINTS }
     {
         self.0
     }
@@ -120,7 +124,7 @@ impl Point {
 
 /// The point of a number that is known to be small enough.
 pub(crate) fn point_numbered(number: u16) -> Point
-    requires { number < 361 }
+    requires { number < MOST_POINTS }
     ensures { result ≡ number }
 {
     Point(number)

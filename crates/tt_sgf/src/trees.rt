@@ -132,9 +132,9 @@ pub fn has_tree(bytes: &[u8]) -> bool
 pub fn read_tree(alloc: Global, bytes: &[u8]) -> Result<(MainLine, usize), SgfFault>
     ensures found { IfOk result (λ x. (t : GameTree) × SpelledUpTo bytes.now x.1 t × (x.0.nodes ≡ main_line t)) }
     ensures line { IfOk result (λ x. IsMainLine x.0.nodes) }
-    ensures syntax { result ≡ Err SgfFault.Syntax → (length bytes.now ≤ 1048576) × HasNoTree bytes.now }
-    ensures no_tree { length bytes.now ≤ 1048576 → HasNoTree bytes.now → (result ≡ Err SgfFault.Syntax) ⊎ (result ≡ Err SgfFault.NoMemory) }
-    ensures too_long { (result ≡ Err SgfFault.TooLong) ↔ (1048576 < length bytes.now) }
+    ensures syntax { result ≡ Err SgfFault.Syntax → (length bytes.now ≤ MAX_BYTES) × HasNoTree bytes.now }
+    ensures no_tree { length bytes.now ≤ MAX_BYTES → HasNoTree bytes.now → (result ≡ Err SgfFault.Syntax) ⊎ (result ≡ Err SgfFault.NoMemory) }
+    ensures too_long { (result ≡ Err SgfFault.TooLong) ↔ (MAX_BYTES < length bytes.now) }
 {
     if bytes.len() > MAX_BYTES {
         return Err(SgfFault::TooLong);

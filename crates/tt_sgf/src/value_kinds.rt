@@ -1,6 +1,6 @@
 //! What one value says: a number, a size, or a point or a pass. No call takes memory.
 
-ghost use Rattle.std.specs.Prelude.{◌≡◌, ℕ, ◌↔◌, Some, None, MatchOption};
+ghost use Rattle.std.specs.Prelude.{◌≡◌, ℕ, ◌↔◌, [], ◌∷◌, Some, None, MatchOption};
 ghost use Rattle.tt_sgf.specs.declared.size.PointOrPass.{PointOrPass};
 ghost use Rattle.tt_sgf.specs.declared.size.Size.{Size};
 ghost use Rattle.tt_sgf.specs.Values.{IsNumber, IsPointOrPass, trimmed, some_digits, number_of, numeral_of, before_colon, behind_colon, size_of, IsBoardSize, without_end, place, point_of};
@@ -91,23 +91,27 @@ fn on_board(column: u8, row: u8, size: Size) -> Option<PointOrPass>
     Some(PointOrPass::On(point_numbered(down * size.columns() + across)))
 }
 
+/// The point or the pass that two letters are.
+#[tactic(auto, unfolding(crate::specs::Values::point_of))]
+fn letters(column: u8, row: u8, size: Size) -> Option<PointOrPass>
+    ensures { result ≡ point_of size (column ∷ row ∷ []) }
+{
+    if column == b't' && row == b't' {
+        return Some(PointOrPass::Pass);
+    }
+    on_board(column, row, size)
+}
+
 /// The point or the pass that a text is, with no white space around it.
 fn read_point(text: &[u8], size: Size) -> Option<PointOrPass>
     ensures { result ≡ point_of size text.now }
 {
-    let Some((first, rest)) = text.split_first() else {
-        return Some(PointOrPass::Pass);
-    };
-    let Some((second, rest)) = rest.split_first() else {
-        return None;
-    };
-    if !rest.is_empty() {
-        return None;
+    match text {
+        [] => Some(PointOrPass::Pass),
+        [_] => None,
+        [column, row] => letters(*column, *row, size),
+        [_, _, _, ..] => None,
     }
-    if *first == b't' && *second == b't' {
-        return Some(PointOrPass::Pass);
-    }
-    on_board(*first, *second, size)
 }
 
 /// The point or the pass that a value is, with white space around it. A point is two letters from `a` to `s`, column then
