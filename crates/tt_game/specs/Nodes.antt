@@ -1,5 +1,5 @@
 -- What the properties of a node say (SGF FF[4]).
-use Rattle.std.specs.Prelude.{◌≡◌, ℕ, ◌+◌, ◌&&◌, ◌||◌, ◌==◌, not, cond, List, [], ◌∷◌, ◌++◌, length, MatchResult, Option, Some, None, Bool, true, false}
+use Rattle.std.specs.Prelude.{◌≡◌, ℕ, ◌+◌, ◌&&◌, ◌||◌, ◌==◌, not, cond, List, [], ◌∷◌, ◌++◌, codes, length, MatchResult, Option, Some, None, Bool, true, false}
 use Rattle.std.specs.FinSet as set
 use Rattle.std.specs.declared.result.Result.{Result}
 use lib.Pointwise.{pointwise}
@@ -18,37 +18,37 @@ unfoldable pub values_of : List ℕ → List Property → List (List ℕ)
 values_of name [] = []
 values_of name (p ∷ ps) = cond (pointwise ◌==◌ p.ident name) (p.values ++ values_of name ps) (values_of name ps)
 
--- ---- names of properties, letter by letter
+-- ---- names of properties
 
 abbrev pub AB : List ℕ
-AB = 65 ∷ 66 ∷ []
+AB = codes "AB"
 
 abbrev pub AW : List ℕ
-AW = 65 ∷ 87 ∷ []
+AW = codes "AW"
 
 abbrev pub AE : List ℕ
-AE = 65 ∷ 69 ∷ []
+AE = codes "AE"
 
 abbrev pub PL : List ℕ
-PL = 80 ∷ 76 ∷ []
+PL = codes "PL"
 
 abbrev pub B : List ℕ
-B = 66 ∷ []
+B = codes "B"
 
 abbrev pub W : List ℕ
-W = 87 ∷ []
+W = codes "W"
 
 abbrev pub GM : List ℕ
-GM = 71 ∷ 77 ∷ []
+GM = codes "GM"
 
 abbrev pub SZ : List ℕ
-SZ = 83 ∷ 90 ∷ []
+SZ = codes "SZ"
 
 abbrev pub TR : List ℕ
-TR = 84 ∷ 82 ∷ []
+TR = codes "TR"
 
 abbrev pub SQ : List ℕ
-SQ = 83 ∷ 81 ∷ []
+SQ = codes "SQ"
 
 -- ---- what the values say
 
