@@ -1,5 +1,6 @@
 -- The text of a certificate. Points are written as SGF FF[4] writes them: the letter of the column, then that of the row.
 use Rattle.std.specs.Prelude.{◌≡◌, ℕ, zero, suc, ◌+◌, ◌/◌, ◌%◌, ◌≤◌, ◌⊎◌, List, [], ◌∷◌, ◌++◌, codes}
+use Rattle.tt_sgf.specs.Bytes.{lower_a, semicolon}
 use Rattle.tt_sgf.specs.declared.size.Size.{Size}
 use Rattle.tt_game.specs.declared.frame.Side.{Side}
 use Rattle.tt_game.specs.declared.frame.Side.TheVariants.{Attacker, Defender}
@@ -7,6 +8,20 @@ use Rattle.tt_game.specs.declared.turns.Turn.{Turn}
 use Rattle.tt_game.specs.declared.turns.Turn.TheVariants.{Play, Pass}
 use Rattle.tt_proof.specs.Strategy.{Strategy, Entries, done, pick, reply, none, entry, depth, IsInOrder}
 
+-- ---- bytes by their names: `.`, `!`, `?` and the dash of a pass
+abbrev pub won_mark : ℕ
+won_mark = 46
+
+abbrev pub pick_mark : ℕ
+pick_mark = 33
+
+abbrev pub reply_mark : ℕ
+reply_mark = 63
+
+abbrev pub dash : ℕ
+dash = 45
+
+-- ---- texts
 abbrev pub side_text : Side → List ℕ
 side_text Attacker = codes "killed "
 side_text Defender = codes "lives "
@@ -14,13 +29,13 @@ side_text Defender = codes "lives "
 module _ (size : Size) where
   -- the letter of the column, or a dash
   abbrev pub first_byte : Turn → ℕ
-  first_byte (Play p) = 97 + p % size.columns
-  first_byte Pass = 45
+  first_byte (Play p) = lower_a + p % size.columns
+  first_byte Pass = dash
 
   -- the letter of the row, or a dash
   abbrev pub second_byte : Turn → ℕ
-  second_byte (Play p) = 97 + p / size.columns
-  second_byte Pass = 45
+  second_byte (Play p) = lower_a + p / size.columns
+  second_byte Pass = dash
 
   -- `ca` is the third column of the first row, `--` a pass
   abbrev pub turn_text : Turn → List ℕ
@@ -29,12 +44,12 @@ module _ (size : Size) where
   abbrev mutual
     -- `.`, `!` with a turn and a tree, or `?` with turns and trees up to `;`
     pub tree_text : Strategy → List ℕ
-    tree_text done = 46 ∷ []
-    tree_text (pick t u) = 33 ∷ (turn_text t ++ tree_text u)
-    tree_text (reply es) = 63 ∷ entries_text es
+    tree_text done = won_mark ∷ []
+    tree_text (pick t u) = pick_mark ∷ (turn_text t ++ tree_text u)
+    tree_text (reply es) = reply_mark ∷ entries_text es
 
     pub entries_text : Entries → List ℕ
-    entries_text none = 59 ∷ []
+    entries_text none = semicolon ∷ []
     entries_text (entry t u es) = turn_text t ++ (tree_text u ++ entries_text es)
 
   abbrev pub certificate_text : Side → Strategy → List ℕ
@@ -44,9 +59,9 @@ module _ (size : Size) where
     -- x is a beginning of the tree's text that ends with a turn, and d turns lie above that one
     pub EndsBelow : Strategy → ℕ → List ℕ → Type 0
     EndsBelow done d x = ⊥
-    EndsBelow (pick t u) zero x = x ≡ 33 ∷ turn_text t
-    EndsBelow (pick t u) (suc d) x = (y : List ℕ) × ((x ≡ 33 ∷ (turn_text t ++ y)) × EndsBelow u d y)
-    EndsBelow (reply es) d x = (y : List ℕ) × ((x ≡ 63 ∷ y) × EndsBehind es d y)
+    EndsBelow (pick t u) zero x = x ≡ pick_mark ∷ turn_text t
+    EndsBelow (pick t u) (suc d) x = (y : List ℕ) × ((x ≡ pick_mark ∷ (turn_text t ++ y)) × EndsBelow u d y)
+    EndsBelow (reply es) d x = (y : List ℕ) × ((x ≡ reply_mark ∷ y) × EndsBehind es d y)
 
     -- so with the entries' text
     pub EndsBehind : Entries → ℕ → List ℕ → Type 0

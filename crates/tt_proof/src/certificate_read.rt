@@ -1,10 +1,11 @@
 //! Reads certificates.
 
 ghost use Rattle.std.specs.Prelude.{◌≡◌, ◌<◌, ◌≤◌, ◌+◌, ◌/◌, ◌%◌, ◌++◌, ◌∷◌, ℕ, List, MatchOption, MatchResult};
+ghost use Rattle.tt_sgf.specs.Bytes.{lower_a, semicolon};
 ghost use Rattle.tt_sgf.specs.Sizes.{point_count};
 ghost use Rattle.tt_game.specs.declared.turns.Turn.{Turn};
 ghost use Rattle.tt_proof.specs.Strategy.{strategy_of, entries_of_trees, number_on, IsOnBoard};
-ghost use Rattle.tt_proof.specs.CertificateText.{turn_text, side_text, IsCertificate, IsTooDeep};
+ghost use Rattle.tt_proof.specs.CertificateText.{pick_mark, reply_mark, turn_text, side_text, IsCertificate, IsTooDeep};
 ghost use Rattle.tt_proof.specs.CertificateReading.{TreeAt, EntriesAt, FaultAt, EntriesFaultAt};
 ghost use Rattle.tt_proof.specs.CertificateFaults.{IsFault, code_of};
 
@@ -63,20 +64,20 @@ impl CertFault {
 /// The number of a letter below `end`, where `a` has 0.
 fn letter_index(byte: u8, end: u16) -> Option<u16>
     requires { end ≤ 19 }
-    ensures { MatchOption result ((n : ℕ) → n < end → byte ≡ 97 + n → ⊥) (λ n. (n < end) × (byte ≡ 97 + n)) }
+    ensures { MatchOption result ((n : ℕ) → n < end → byte ≡ lower_a + n → ⊥) (λ n. (n < end) × (byte ≡ lower_a + n)) }
 {
-    if byte < 97 {
+    if byte < b'a' {
         return None;
     }
-    let n = u16::from(byte) - 97;
+    let n = u16::from(byte - b'a');
     if n < end { Some(n) } else { None }
 }
 
 /// The point of these two letters.
 fn read_point(first: u8, second: u8, size: Size) -> Option<Point>
     ensures { MatchOption result
-        ((p : ℕ) → p < point_count size → first ≡ 97 + p % size.columns → second ≡ 97 + p / size.columns → ⊥)
-        (λ p. (p < point_count size) × (first ≡ 97 + p % size.columns) × (second ≡ 97 + p / size.columns)) }
+        ((p : ℕ) → p < point_count size → first ≡ lower_a + p % size.columns → second ≡ lower_a + p / size.columns → ⊥)
+        (λ p. (p < point_count size) × (first ≡ lower_a + p % size.columns) × (second ≡ lower_a + p / size.columns)) }
 {
     match letter_index(first, size.columns()) {
         None => None,
@@ -106,7 +107,7 @@ fn read_turn(bytes: &[u8], size: Size) -> Option<(Turn, u16, &[u8])>
 
 /// What follows the end of a reply, where that is at the front of the bytes.
 fn after_end(bytes: &[u8]) -> Option<&[u8]>
-    ensures { MatchOption result ((y : List ℕ) → bytes.now ≡ 59 ∷ y → ⊥) (λ r. bytes.now ≡ 59 ∷ r.now) }
+    ensures { MatchOption result ((y : List ℕ) → bytes.now ≡ semicolon ∷ y → ⊥) (λ r. bytes.now ≡ semicolon ∷ r.now) }
 {
     match bytes.split_first() {
         None => None,
@@ -138,8 +139,8 @@ fn read_tree(alloc: Global, bytes: &[u8], size: Size, left: u16) -> Result<(Tree
 
 #[cycle(read)]
 fn read_pick(alloc: Global, bytes: &[u8], size: Size, left: u16) -> Result<(Tree, &[u8]), CertFault>
-    ensures { MatchResult result (λ r. TreeAt size left (strategy_of r.0) (33 ∷ bytes.now) r.1.now)
-        (λ e. FaultAt size left (33 ∷ bytes.now) e) }
+    ensures { MatchResult result (λ r. TreeAt size left (strategy_of r.0) (pick_mark ∷ bytes.now) r.1.now)
+        (λ e. FaultAt size left (pick_mark ∷ bytes.now) e) }
 {
     match read_turn(bytes, size) {
         None => Err(CertFault::Syntax),
@@ -165,8 +166,8 @@ fn read_reply(
     size: Size,
     left: u16,
 ) -> Result<(Tree, &[u8]), CertFault>
-    ensures { MatchResult result (λ r. TreeAt size left (strategy_of r.0) (63 ∷ bytes.now) r.1.now)
-        (λ e. FaultAt size left (63 ∷ bytes.now) e) }
+    ensures { MatchResult result (λ r. TreeAt size left (strategy_of r.0) (reply_mark ∷ bytes.now) r.1.now)
+        (λ e. FaultAt size left (reply_mark ∷ bytes.now) e) }
 {
     match read_entries(alloc, bytes, size, left) {
         Err(fault) => Err(fault),

@@ -1,6 +1,7 @@
 //! Writes certificates.
 
 ghost use Rattle.std.specs.Prelude.{◌≡◌, ◌<◌, ◌≤◌, ◌+◌, ◌/◌, ◌++◌, ◌∷◌, [], OnOk, OnErr, IfOk};
+ghost use Rattle.tt_sgf.specs.Bytes.{lower_a};
 ghost use Rattle.tt_sgf.specs.Sizes.{point_count};
 ghost use Rattle.tt_proof.specs.Strategy.{depth, strategy_of, entries_of_trees, IsOnBoard, IsInOrder, AreInOrder};
 ghost use Rattle.tt_proof.specs.CertificateText.{turn_text, tree_text, entries_text, certificate_text};
@@ -19,14 +20,14 @@ fn put(out: &mut Vec<u8>, byte: u8) -> Result<(), NoMemory>
 
 fn letter(n: u16) -> u8
     requires { n < 26 }
-    ensures { result ≡ 97 + n }
+    ensures { result ≡ lower_a + n }
 {
-    (97 + n) as u8
+    b'a' + n as u8
 }
 
 fn letter_of_row(p: Point, size: Size) -> u8
     requires { p < point_count size }
-    ensures { result ≡ 97 + p / size.columns }
+    ensures { result ≡ lower_a + p / size.columns }
 {
     letter(p.number() / size.columns())
 }

@@ -6,6 +6,7 @@ use Rattle.std.specs.List.{list_any, list_all}
 use Rattle.std.specs.Option.{is_some}
 use Rattle.std.specs.Ordering.{nat_cmp}
 use Rattle.std.specs.FinSet as set
+use Rattle.tt_sgf.specs.Bytes.{colon, lower_a}
 use Rattle.tt_sgf.specs.declared.size.Size.{Size}
 use Rattle.tt_sgf.specs.declared.size.TheConstants.{MOST_POINTS}
 use Rattle.tt_sgf.specs.declared.entries.Rectangle.{Rectangle}
@@ -20,7 +21,8 @@ pub record IsEntry (size : Size) (bytes : List ℕ) (c r d s : ℕ) : Type 0 whe
   pub r_in : r < size.rows
   pub d_in : d < size.columns
   pub s_in : s < size.rows
-  pub stands : ((d ≡ c) × (s ≡ r) × StandsIn ((97 + c) ∷ (97 + r) ∷ []) bytes) ⊎ StandsIn ((97 + c) ∷ (97 + r) ∷ 58 ∷ (97 + d) ∷ (97 + s) ∷ []) bytes
+  pub stands : ((d ≡ c) × (s ≡ r) × StandsIn ((lower_a + c) ∷ (lower_a + r) ∷ []) bytes)
+      ⊎ StandsIn ((lower_a + c) ∷ (lower_a + r) ∷ colon ∷ (lower_a + d) ∷ (lower_a + s) ∷ []) bytes
 
 -- the value is an entry
 abbrev pub HasCorners : Size → List ℕ → Type 0
@@ -51,7 +53,7 @@ AreEntries size (v ∷ vs) = HasCorners size v × AreEntries size vs
 
 -- the two letters name a point of the board
 abbrev pub corner_in : Size → ℕ → ℕ → Bool
-corner_in size c r = (nat_le 97 c && nat_lt (c - 97) size.columns) && (nat_le 97 r && nat_lt (r - 97) size.rows)
+corner_in size c r = (nat_le lower_a c && nat_lt (c - lower_a) size.columns) && (nat_le lower_a r && nat_lt (r - lower_a) size.rows)
 
 -- the rectangle with these two corners
 abbrev pub between : ℕ → ℕ → ℕ → ℕ → Rectangle
@@ -61,10 +63,11 @@ between c r d s = record { left = min c d; right = max c d; top = min r s; botto
 unfoldable pub entry_of : Size → List ℕ → Option Rectangle
 entry_of size [] = None
 entry_of size (c ∷ []) = None
-entry_of size (c ∷ r ∷ []) = cond (corner_in size c r) (Some (between (c - 97) (r - 97) (c - 97) (r - 97))) None
+entry_of size (c ∷ r ∷ []) = cond (corner_in size c r) (Some (between (c - lower_a) (r - lower_a) (c - lower_a) (r - lower_a))) None
 entry_of size (c ∷ r ∷ m ∷ []) = None
 entry_of size (c ∷ r ∷ m ∷ d ∷ []) = None
-entry_of size (c ∷ r ∷ m ∷ d ∷ s ∷ []) = cond (m == 58) (cond (corner_in size c r) (cond (corner_in size d s) (Some (between (c - 97) (r - 97) (d - 97) (s - 97))) None) None) None
+entry_of size (c ∷ r ∷ m ∷ d ∷ s ∷ []) =
+    cond (m == colon) (cond (corner_in size c r) (cond (corner_in size d s) (Some (between (c - lower_a) (r - lower_a) (d - lower_a) (s - lower_a))) None) None) None
 entry_of size (c ∷ r ∷ m ∷ d ∷ s ∷ x ∷ xs) = None
 
 -- the number is that of a point in the rectangle, on a board with so many columns

@@ -2,26 +2,27 @@
 -- in older files, lower-case letters of an identifier are skipped; digits are kept.
 use Rattle.std.specs.Prelude.{◌≡◌, ◌≢◌, ℕ, Bool, true, false, ◌&&◌, ◌||◌, ◌==◌, nat_le, ◌+◌, List, [], ◌∷◌, ◌++◌, length}
 use Rattle.std.specs.List.{filter, list_any, AllByRecursion}
+use Rattle.tt_sgf.specs.Bytes.{backslash, close_tree, close_value, digit_0, digit_9, lower_a, lower_z, open_tree, open_value, semicolon, space, upper_A, upper_Z}
 use Rattle.tt_sgf.specs.declared.nodes.Node.{Node}
 use Rattle.tt_sgf.specs.declared.nodes.Property.{Property}
 
--- ---- bytes, by their codes in ASCII: 40 and 41 are ( and ), 59 is ;, 91 and 93 are [ and ], 92 is a backslash
+-- ---- bytes
 
 -- white space is the bytes 9 to 13 and 32
 unfoldable pub is_blank : ℕ → Bool
-is_blank b = (nat_le 9 b && nat_le b 13) || (b == 32)
+is_blank b = (nat_le 9 b && nat_le b 13) || (b == space)
 
 -- A to Z
 unfoldable pub is_upper : ℕ → Bool
-is_upper b = nat_le 65 b && nat_le b 90
+is_upper b = nat_le upper_A b && nat_le b upper_Z
 
 -- 0 to 9
 unfoldable pub is_digit : ℕ → Bool
-is_digit b = nat_le 48 b && nat_le b 57
+is_digit b = nat_le digit_0 b && nat_le b digit_9
 
 -- a to z
 unfoldable pub is_lower : ℕ → Bool
-is_lower b = nat_le 97 b && nat_le b 122
+is_lower b = nat_le lower_a b && nat_le b lower_z
 
 -- what the name of an identifier keeps
 unfoldable pub is_kept : ℕ → Bool
@@ -43,7 +44,7 @@ IsBlank (b ∷ bs) = (is_blank b ≡ true) × IsBlank bs
 abbrev pub IsRaw : Bool → List ℕ → Type 0
 IsRaw escaped [] = escaped ≡ false
 IsRaw true (b ∷ bs) = IsRaw false bs
-IsRaw false (b ∷ bs) = ((b == 93) ≡ false) × IsRaw (b == 92) bs
+IsRaw false (b ∷ bs) = ((b == close_value) ≡ false) × IsRaw (b == backslash) bs
 
 -- letters and digits
 abbrev pub IsWord : List ℕ → Type 0
@@ -60,7 +61,7 @@ IsIdent text name = IsWord text × (list_any is_upper text ≡ true) × (name �
 abbrev pub AreValues : List ℕ → List (List ℕ) → Type 0
 AreValues text [] = text ≡ []
 AreValues text (v ∷ vs) = (blank : List ℕ) × (more : List ℕ) × IsBlank blank × IsRaw false v × AreValues more vs
-    × (text ≡ blank ++ (91 ∷ (v ++ (93 ∷ more))))
+    × (text ≡ blank ++ (open_value ∷ (v ++ (close_value ∷ more))))
 
 -- properties: an identifier and one or more values each
 abbrev pub AreProperties : List ℕ → List Property → Type 0
@@ -73,7 +74,7 @@ AreProperties text (p ∷ ps) = (blank : List ℕ) × (ident : List ℕ) × (val
 abbrev pub AreNodes : List ℕ → List Node → Type 0
 AreNodes text [] = text ≡ []
 AreNodes text (n ∷ ns) = (blank : List ℕ) × (properties : List ℕ) × (more : List ℕ) × IsBlank blank × AreProperties properties n.properties × AreNodes more ns
-    × (text ≡ blank ++ (59 ∷ (properties ++ more)))
+    × (text ≡ blank ++ (semicolon ∷ (properties ++ more)))
 
 -- ---- trees
 
@@ -90,7 +91,7 @@ mutual
 abbrev mutual
   pub Spells : List ℕ → GameTree → Type 0
   Spells text (game nodes trees) = (sequence : List ℕ) × (subtrees : List ℕ) × (blank : List ℕ) × (nodes ≢ []) × AreNodes sequence nodes × AreTrees subtrees trees × IsBlank blank
-      × (text ≡ 40 ∷ (sequence ++ (subtrees ++ (blank ++ (41 ∷ [])))))
+      × (text ≡ open_tree ∷ (sequence ++ (subtrees ++ (blank ++ (close_tree ∷ [])))))
 
   pub AreTrees : List ℕ → Trees → Type 0
   AreTrees text no_tree = text ≡ []
@@ -111,7 +112,7 @@ pub record SpelledUpTo (bytes : List ℕ) (count : ℕ) (t : GameTree) : Type 0 
   pub skipped : List ℕ
   pub text : List ℕ
   pub rest : List ℕ
-  pub no_open : list_any (λ b. b == 40) skipped ≡ false
+  pub no_open : list_any (λ b. b == open_tree) skipped ≡ false
   pub spells : Spells text t
   pub parts : bytes ≡ skipped ++ (text ++ rest)
   pub count_is : count ≡ length skipped + length text

@@ -1,4 +1,5 @@
 -- What public contracts cite.
+pub mod Bytes
 pub mod Grammar
 pub mod Values
 pub mod Sizes

@@ -1,6 +1,7 @@
 -- Reading from left to right, as functions on lists. Only private contracts cite them.
 use Rattle.std.specs.Prelude.{◌≡◌, ℕ, zero, suc, Bool, true, false, cond, ◌==◌, List, [], ◌∷◌, ◌++◌, length, Option, Some, None, Result, Ok, Err}
 use Rattle.std.specs.List.{filter, list_any}
+use Rattle.tt_sgf.specs.Bytes.{backslash, close_tree, close_value, open_tree, open_value, semicolon}
 use Rattle.tt_sgf.specs.declared.faults.SgfFault.{SgfFault}
 use Rattle.tt_sgf.specs.declared.faults.SgfFault.TheVariants as faults
 use Rattle.tt_sgf.specs.declared.nodes.Property.{Property}
@@ -34,7 +35,7 @@ with_first x p = Some (x ∷ p.0, p.1)
 unfoldable pub raw_at : Bool → List ℕ → Option (List ℕ × List ℕ)
 raw_at escaped [] = None
 raw_at true (b ∷ bs) = raw_at false bs >>= with_first b
-raw_at false (b ∷ bs) = cond (b == 93) (Some ([], bs)) (raw_at (b == 92) bs >>= with_first b)
+raw_at false (b ∷ bs) = cond (b == close_value) (Some ([], bs)) (raw_at (b == backslash) bs >>= with_first b)
 
 -- the letters and digits at the front
 unfoldable pub word_of : List ℕ → List ℕ
@@ -63,7 +64,7 @@ repeat more item (suc n) bytes = cond (more bytes) (item bytes >>= λ x. repeat 
 
 -- a `[` follows
 abbrev pub opens_value : List ℕ → Bool
-opens_value bytes = begins (λ b. b == 91) (after_blanks bytes)
+opens_value bytes = begins (λ b. b == open_value) (after_blanks bytes)
 
 -- a value, behind white space and a `[`
 abbrev pub value_at : List ℕ → Option (List ℕ × List ℕ)
@@ -99,7 +100,7 @@ properties_at bytes = repeat opens_property (λ bs. property_at (after_blanks bs
 -- the same, with no white space before it
 abbrev pub event_of : List ℕ → Option (Event × List ℕ)
 event_of [] = None
-event_of (b ∷ bs) = cond (b == 40) (Some (events.Open, bs)) (cond (b == 41) (Some (events.Close, bs)) (cond (b == 59)
+event_of (b ∷ bs) = cond (b == open_tree) (Some (events.Open, bs)) (cond (b == close_tree) (Some (events.Close, bs)) (cond (b == semicolon)
     (properties_at bs >>= λ x. Some (events.Item (record { properties = x.0 }), x.1)) None))
 
 -- the next bracket of a tree, or the next node

@@ -1,13 +1,14 @@
 -- Property values of SGF FF[4] (https://www.red-bean.com/sgf/sgf4.html, "Property value types", and go.html, "Go
 -- specific properties"): numbers, points and passes, sizes of boards. A number is at most 65,535, and a side at most 19.
 use Rattle.std.specs.Prelude.{◌≡◌, ◌≢◌, ℕ, ◌+◌, ◌-◌, ◌*◌, ◌<◌, ◌≤◌, true, cond, ◌⊎◌, nat_le, nat_lt, ◌&&◌, ◌==◌, List, [], ◌∷◌, ◌++◌, Option, Some, None}
+use Rattle.tt_sgf.specs.Bytes.{colon, digit_0, lower_a, lower_t, plus}
 use Rattle.tt_sgf.specs.declared.size.Size.{Size}
 use Rattle.tt_sgf.specs.declared.size.PointOrPass.{PointOrPass}
 use Rattle.tt_sgf.specs.declared.size.PointOrPass.TheVariants.{On, Pass}
 use Rattle.tt_sgf.specs.Grammar.{is_blank, is_digit, IsBlank}
 use Rattle.tt_sgf.specs.Sizes.{sized}
 
--- ---- what values mean; bytes stand as their codes: 43 is +, 48 is 0, 58 is :, 97 is a, 116 is t
+-- ---- what values mean
 
 -- the text stands in the bytes, with nothing but white space at both ends
 pub record StandsIn (text bytes : List ℕ) : Type 0 where
@@ -25,7 +26,7 @@ AreDigits (b ∷ bs) = (is_digit b ≡ true) × AreDigits bs
 -- what digits are worth behind a number
 abbrev pub decimal : ℕ → List ℕ → ℕ
 decimal n [] = n
-decimal n (b ∷ bs) = decimal (n * 10 + (b - 48)) bs
+decimal n (b ∷ bs) = decimal (n * 10 + (b - digit_0)) bs
 
 -- the text is an optional `+` and digits, which are worth n
 pub record IsNumeral (text : List ℕ) (n : ℕ) : Type 0 where
@@ -34,7 +35,7 @@ pub record IsNumeral (text : List ℕ) (n : ℕ) : Type 0 where
   pub are : AreDigits digits
   pub value : n ≡ decimal 0 digits
   pub fits : n ≤ 65535
-  pub stands : (text ≡ digits) ⊎ (text ≡ 43 ∷ digits)
+  pub stands : (text ≡ digits) ⊎ (text ≡ plus ∷ digits)
 
 -- a number
 abbrev pub IsNumber : List ℕ → ℕ → Type 0
@@ -43,7 +44,7 @@ IsNumber bytes n = (text : List ℕ) × IsNumeral text n × StandsIn text bytes
 -- one number for both sides, or columns and rows with a colon and no white space between them
 abbrev pub AreSides : List ℕ → Size → Type 0
 AreSides text size = (IsNumeral text size.columns × (size.rows ≡ size.columns))
-    ⊎ ((columns : List ℕ) × (rows : List ℕ) × IsNumeral columns size.columns × IsNumeral rows size.rows × (text ≡ columns ++ (58 ∷ rows)))
+    ⊎ ((columns : List ℕ) × (rows : List ℕ) × IsNumeral columns size.columns × IsNumeral rows size.rows × (text ≡ columns ++ (colon ∷ rows)))
 
 -- the size of a board
 abbrev pub IsBoardSize : List ℕ → Size → Type 0
@@ -56,11 +57,11 @@ pub record IsPoint (size : Size) (bytes : List ℕ) (p : ℕ) : Type 0 where
   pub column_in : column < size.columns
   pub row_in : row < size.rows
   pub number : p ≡ row * size.columns + column
-  pub stands : StandsIn ((97 + column) ∷ (97 + row) ∷ []) bytes
+  pub stands : StandsIn ((lower_a + column) ∷ (lower_a + row) ∷ []) bytes
 
 -- nothing, or `tt`
 abbrev pub IsPass : List ℕ → Type 0
-IsPass bytes = StandsIn [] bytes ⊎ StandsIn (116 ∷ 116 ∷ []) bytes
+IsPass bytes = StandsIn [] bytes ⊎ StandsIn (lower_t ∷ lower_t ∷ []) bytes
 
 -- the value of a move
 abbrev pub IsPointOrPass : Size → List ℕ → PointOrPass → Type 0
@@ -91,7 +92,7 @@ trimmed bytes = without_end (after_blanks bytes)
 -- what digits are worth behind a number, where it is at most 65,535
 unfoldable pub digits_of : ℕ → List ℕ → Option ℕ
 digits_of n [] = Some n
-digits_of n (b ∷ bs) = cond (is_digit b) (cond (nat_le (n * 10 + (b - 48)) 65535) (digits_of (n * 10 + (b - 48)) bs) None) None
+digits_of n (b ∷ bs) = cond (is_digit b) (cond (nat_le (n * 10 + (b - digit_0)) 65535) (digits_of (n * 10 + (b - digit_0)) bs) None) None
 
 -- what one or more digits are worth
 abbrev pub some_digits : List ℕ → Option ℕ
@@ -101,7 +102,7 @@ some_digits (b ∷ bs) = digits_of 0 (b ∷ bs)
 -- without a `+` at the front
 abbrev pub behind_plus : List ℕ → List ℕ
 behind_plus [] = []
-behind_plus (b ∷ bs) = cond (b == 43) bs (b ∷ bs)
+behind_plus (b ∷ bs) = cond (b == plus) bs (b ∷ bs)
 
 -- the number that a text is
 abbrev pub numeral_of : List ℕ → Option ℕ
@@ -114,12 +115,12 @@ number_of bytes = numeral_of (trimmed bytes)
 -- what stands before the first colon
 unfoldable pub before_colon : List ℕ → List ℕ
 before_colon [] = []
-before_colon (b ∷ bs) = cond (b == 58) [] (b ∷ before_colon bs)
+before_colon (b ∷ bs) = cond (b == colon) [] (b ∷ before_colon bs)
 
 -- what stands behind the first colon, where there is one
 unfoldable pub behind_colon : List ℕ → Option (List ℕ)
 behind_colon [] = None
-behind_colon (b ∷ bs) = cond (b == 58) (Some bs) (behind_colon bs)
+behind_colon (b ∷ bs) = cond (b == colon) (Some bs) (behind_colon bs)
 
 -- the size of two numbers, where both are there
 abbrev pub both_sides : Option ℕ → Option ℕ → Option Size
@@ -138,12 +139,12 @@ size_of bytes = sides_of (trimmed bytes) (behind_colon (trimmed bytes))
 
 -- the point of two letters, where the board has it
 abbrev pub place : Size → ℕ → ℕ → Option PointOrPass
-place size column row = cond ((nat_le 97 column && nat_lt (column - 97) size.columns) && (nat_le 97 row && nat_lt (row - 97) size.rows))
-    (Some (On ((row - 97) * size.columns + (column - 97)))) None
+place size column row = cond ((nat_le lower_a column && nat_lt (column - lower_a) size.columns) && (nat_le lower_a row && nat_lt (row - lower_a) size.rows))
+    (Some (On ((row - lower_a) * size.columns + (column - lower_a)))) None
 
 -- the point or the pass that a text is
 unfoldable pub point_of : Size → List ℕ → Option PointOrPass
 point_of size [] = Some Pass
 point_of size (c ∷ []) = None
-point_of size (c ∷ r ∷ []) = cond (c == 116 && r == 116) (Some Pass) (place size c r)
+point_of size (c ∷ r ∷ []) = cond (c == lower_t && r == lower_t) (Some Pass) (place size c r)
 point_of size (c ∷ r ∷ x ∷ xs) = None
