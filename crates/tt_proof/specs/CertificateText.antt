@@ -6,6 +6,7 @@ use Rattle.tt_game.specs.declared.frame.Side.{Side}
 use Rattle.tt_game.specs.declared.frame.Side.TheVariants.{Attacker, Defender}
 use Rattle.tt_game.specs.declared.turns.Turn.{Turn}
 use Rattle.tt_game.specs.declared.turns.Turn.TheVariants.{Play, Pass}
+use Rattle.tt_proof.specs.declared.tree.TheConstants.{MOST_DEPTH}
 use Rattle.tt_proof.specs.Strategy.{Strategy, Entries, done, pick, reply, none, entry, depth, IsInOrder}
 
 -- ---- bytes by their names: `.`, `!`, `?` and the dash of a pass
@@ -75,7 +76,7 @@ module _ (size : Size) where
   -- the bytes are the certificate of this side and tree: each way down has at most 512 turns
   pub record IsCertificate (bytes : List ℕ) (side : Side) (u : Strategy) : Type 0 where
     pub in_order : IsInOrder size u
-    pub low : depth u ≤ 512
+    pub low : depth u ≤ MOST_DEPTH
     pub text : bytes ≡ certificate_text side u
 
   -- some beginning of the bytes ends with a turn below 512 others, and can be completed to the text of a tree in order
@@ -85,5 +86,5 @@ module _ (size : Size) where
     pub beginning : List ℕ
     pub follows : List ℕ
     pub in_order : IsInOrder size tree
-    pub ends : EndsBelow tree 512 beginning
+    pub ends : EndsBelow tree MOST_DEPTH beginning
     pub text : bytes ≡ side_text side ++ (beginning ++ follows)

@@ -1,9 +1,10 @@
 -- What a proof is seen as, and what is known of it.
-use Rattle.std.specs.Prelude.{◌≡◌, ◌≤◌, List, [], ◌∷◌, map, Option, Some, None}
+use Rattle.std.specs.Prelude.{◌≡◌, ◌≤◌, ◌<◌, List, [], ◌∷◌, map, Option, Some, None}
 use Rattle.tt_game.specs.Game.{State, after, opponent}
 use Rattle.tt_game.specs.declared.frame.Side.{Side}
 use Rattle.tt_game.specs.declared.turns.Turn.{Turn}
 use Rattle.tt_game.specs.declared.frame.Frame.{Frame}
+use Rattle.tt_proof.specs.declared.tree.TheConstants.{MOST_DEPTH}
 use Rattle.tt_proof.specs.Strategy.{Strategy, done, pick, reply, depth, IsInOrder}
 use Rattle.tt_proof.specs.Wins.{Wins}
 
@@ -17,7 +18,7 @@ pub record Proven : Type 0 where
 -- the tree wins, has at most 512 turns on any way down, and is in order
 pub record IsWon (side : Side) (f : Frame) (s : State) (u : Strategy) : Type 0 where
   pub wins : Wins side f u s
-  pub low : depth u ≤ 512
+  pub low : depth u ≤ MOST_DEPTH
   pub in_order : IsInOrder f.size u
 
 -- the proof has this frame, history, side to move and pass count
@@ -28,7 +29,7 @@ StandsAt p f s = (p.frame ≡ f) × (p.state ≡ s)
 pub record IsChild (f : Frame) (s : State) (side : Side) (t : Turn) (p : Proven) : Type 0 where
   pub stands : StandsAt p f (after f s t)
   pub same_side : p.side ≡ side
-  pub low : depth p.tree ≤ 511
+  pub low : depth p.tree < MOST_DEPTH
 
 -- each is a child for its turn, of the side that is not to move
 abbrev pub AreChildren : Frame → State → List (Turn × Proven) → Type 0

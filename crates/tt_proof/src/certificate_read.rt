@@ -9,7 +9,7 @@ ghost use Rattle.tt_proof.specs.CertificateText.{pick_mark, reply_mark, turn_tex
 ghost use Rattle.tt_proof.specs.CertificateReading.{TreeAt, EntriesAt, FaultAt, EntriesFaultAt};
 ghost use Rattle.tt_proof.specs.CertificateFaults.{IsFault, code_of};
 
-use crate::tree::Tree;
+use crate::tree::{MOST_DEPTH, Tree};
 use std::alloc::{AllocError, AllocFailed, Global};
 use std::sync::Arc;
 use tt_game::{Side, Turn};
@@ -244,7 +244,7 @@ fn read_for(
         (λ r. IsCertificate size bytes.now r.0 (strategy_of r.1) × (IsTooDeep size bytes.now → ⊥))
         (λ e. IsFault size bytes.now e) }
 {
-    match read_tree(alloc, rest, size, 512) {
+    match read_tree(alloc, rest, size, MOST_DEPTH) {
         Err(fault) => Err(fault),
         Ok((tree, more)) => {
             if more.is_empty() {

@@ -3,6 +3,7 @@
 ghost use Rattle.std.specs.Prelude.{◌≡◌, ◌<◌, ◌≤◌, ◌+◌, ◌/◌, ◌++◌, ◌∷◌, [], OnOk, OnErr, IfOk};
 ghost use Rattle.tt_sgf.specs.Bytes.{lower_a};
 ghost use Rattle.tt_sgf.specs.Sizes.{point_count};
+ghost use Rattle.tt_proof.specs.declared.tree.TheConstants.{MOST_DEPTH};
 ghost use Rattle.tt_proof.specs.Strategy.{depth, strategy_of, entries_of_trees, IsOnBoard, IsInOrder, AreInOrder};
 ghost use Rattle.tt_proof.specs.CertificateText.{turn_text, tree_text, entries_text, certificate_text};
 
@@ -81,7 +82,7 @@ fn put_entries(out: &mut Vec<u8>, list: &[(Turn, Tree)], size: Size) -> Result<(
 /// The certificate of the side and its tree, on a board of this size. The tree is at most 512 turns deep, its points lie on
 /// the board, and the turns of each reply rise.
 pub fn write_cert(alloc: Global, s: Side, t: &Tree, size: Size) -> Result<Vec<u8>, NoMemory>
-    requires depth { depth (strategy_of t.now) ≤ 512 }
+    requires depth { depth (strategy_of t.now) ≤ MOST_DEPTH }
     requires in_order { IsInOrder size (strategy_of t.now) }
     ensures { IfOk result (λ v. v.items ≡ certificate_text size s (strategy_of t.now)) }
 {

@@ -16,7 +16,7 @@ pub use certificate_write::{put_turn, write_cert};
 pub use plan::{Plan, Replies};
 pub use proven::{Proof, Rejected};
 pub use replays::replay;
-pub use tree::Tree;
+pub use tree::{MOST_DEPTH, Tree};
 
 #[cfg(test)]
 mod tests;

@@ -5,6 +5,7 @@ ghost use Rattle.tt_game.specs.Game.{winner_of, opponent, IsLegal, after};
 ghost use Rattle.tt_game.specs.Turns.{legal_turns};
 ghost use Rattle.tt_game.specs.Keys.{key_of};
 ghost use Rattle.tt_game.specs.declared.turns.Turn.{Turn};
+ghost use Rattle.tt_proof.specs.declared.tree.TheConstants.{MOST_DEPTH};
 ghost use Rattle.tt_proof.specs.Strategy.{pick, reply, done, depth, strategy_of, IsInOrder, entries_of};
 ghost use Rattle.tt_proof.specs.Nodes.{nodes};
 ghost use Rattle.tt_proof.specs.Proven.{IsWon, StandsAt, IsChild, AreChildren, turns_of, trees_of, first_of};
@@ -88,7 +89,7 @@ impl Proof {
     /// How many turns the longest way down the tree has: at most 512.
     pub fn depth(&self) -> u16
         ensures depth { result ≡ depth self.now.tree }
-        ensures low { result ≤ 512 }
+        ensures low { result ≤ MOST_DEPTH }
     {
         self.plan.depth()
     }
@@ -124,7 +125,7 @@ impl Proof {
     /// A proof of the tree at the line, where it wins there; else the tree is handed back. The tree is at most 512 turns
     /// deep, its points lie on the board, and the turns of each reply rise. The line stands as before.
     pub fn replayed(line: &mut Line, s: Side, t: Tree) -> Result<Proof, Rejected>
-        requires depth { depth (strategy_of t) ≤ 512 }
+        requires depth { depth (strategy_of t) ≤ MOST_DEPTH }
         requires in_order { IsInOrder line.old.frame.size (strategy_of t) }
         ensures made { IfOk result (λ p. StandsAt p line.old.frame line.old.state × (p.side ≡ s) × (p.tree ≡ strategy_of t)) }
         ensures rejected { IfErr result (λ e. IsRejected e s line.old.frame line.old.state t) }

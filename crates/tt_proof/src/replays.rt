@@ -1,6 +1,7 @@
 //! The replay of a tree: whether it wins from a line's state.
 
 ghost use Rattle.std.specs.Prelude.{◌≡◌, ◌↔◌, ℕ, ◌<◌, ◌≤◌, IfOk, IsTrue, None, length};
+ghost use Rattle.tt_proof.specs.declared.tree.TheConstants.{MOST_DEPTH};
 ghost use Rattle.tt_proof.specs.Strategy.{pick, reply, depth, depth_of_entries, strategy_of, entries_of_trees, IsInOrder, AreInOrder, IsOnBoard};
 ghost use Rattle.tt_proof.specs.Wins.{Wins};
 ghost use Rattle.tt_proof.specs.Replaying.{HasEntry, LegalWin, AnswersAfter, AnswersEach};
@@ -85,7 +86,7 @@ fn replay_after(
     s: Side,
     line: &mut Line,
 ) -> Result<Option<bool>, NoMemory>
-    requires depth { depth (strategy_of child.now) ≤ 512 }
+    requires depth { depth (strategy_of child.now) ≤ MOST_DEPTH }
     requires on_board { IsOnBoard line.old.frame.size turn }
     requires in_order { IsInOrder line.old.frame.size (strategy_of child.now) }
     ensures exact { IfOk result (λ answer. AnswersAfter s line.old.frame line.old.state turn (strategy_of child.now) answer) }
@@ -108,7 +109,7 @@ fn replay_after(
 /// Whether each entry of a legal turn wins after it. The line stands as before.
 #[cycle(replay)]
 fn replay_each(list: &[(Turn, Tree)], s: Side, line: &mut Line) -> Result<bool, NoMemory>
-    requires depth { depth_of_entries (entries_of_trees list.now) ≤ 512 }
+    requires depth { depth_of_entries (entries_of_trees list.now) ≤ MOST_DEPTH }
     requires in_order { AreInOrder line.old.frame.size 0 (entries_of_trees list.now) }
     ensures exact { IfOk result (λ wins. IsTrue wins ↔ LegalWin s line.old.frame line.old.state (entries_of_trees list.now)) }
     ensures same { line.new ≡ line.old }
@@ -123,7 +124,7 @@ fn replay_each(list: &[(Turn, Tree)], s: Side, line: &mut Line) -> Result<bool, 
 
 #[cycle(replay)]
 fn replay_pick(turn: Turn, child: &Tree, s: Side, line: &mut Line) -> Result<bool, NoMemory>
-    requires depth { depth (strategy_of child.now) ≤ 512 }
+    requires depth { depth (strategy_of child.now) ≤ MOST_DEPTH }
     requires on_board { IsOnBoard line.old.frame.size turn }
     requires in_order { IsInOrder line.old.frame.size (strategy_of child.now) }
     ensures exact { IfOk result (λ wins. IsTrue wins ↔ Wins s line.old.frame (pick turn (strategy_of child.now)) line.old.state) }
@@ -141,7 +142,7 @@ fn replay_pick(turn: Turn, child: &Tree, s: Side, line: &mut Line) -> Result<boo
 
 #[cycle(replay)]
 fn replay_reply(list: &[(Turn, Tree)], s: Side, line: &mut Line) -> Result<bool, NoMemory>
-    requires depth { depth_of_entries (entries_of_trees list.now) ≤ 512 }
+    requires depth { depth_of_entries (entries_of_trees list.now) ≤ MOST_DEPTH }
     requires in_order { AreInOrder line.old.frame.size 0 (entries_of_trees list.now) }
     ensures exact { IfOk result (λ wins. IsTrue wins ↔ Wins s line.old.frame (reply (entries_of_trees list.now)) line.old.state) }
     ensures same { line.new ≡ line.old }
@@ -157,7 +158,7 @@ fn replay_reply(list: &[(Turn, Tree)], s: Side, line: &mut Line) -> Result<bool,
 /// before, also after want of memory.
 #[cycle(replay)]
 pub fn replay(t: &Tree, s: Side, line: &mut Line) -> Result<bool, NoMemory>
-    requires depth { depth (strategy_of t.now) ≤ 512 }
+    requires depth { depth (strategy_of t.now) ≤ MOST_DEPTH }
     requires in_order { IsInOrder line.old.frame.size (strategy_of t.now) }
     ensures exact { IfOk result (λ wins. IsTrue wins ↔ Wins s line.old.frame (strategy_of t.now) line.old.state) }
     ensures same { line.new ≡ line.old }

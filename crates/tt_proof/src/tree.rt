@@ -7,6 +7,9 @@ use std::sync::Arc;
 use tt_game::Turn;
 use tt_sgf::NoMemory;
 
+/// How many turns the longest way down a tree may have that a proof holds or a certificate shows.
+pub const MOST_DEPTH: u16 = 512;
+
 /// What a side plays to win. Its parts may be those of other trees, too: a value of this type is a handle.
 #[derive(Drop)]
 pub enum Tree {
