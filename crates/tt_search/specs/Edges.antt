@@ -1,5 +1,6 @@
 -- The children of an expanded node as the code keeps them: a short word for each, and the trees of those that have grown.
 use Rattle.std.specs.Prelude.{ℕ, suc, ◌/◌, ◌%◌, ◌==◌, if◌then◌else◌, List, [], ◌∷◌, map, slice_index_or, ltb}
+use Rattle.tt_sgf.specs.declared.size.TheConstants.{MOST_POINTS}
 use Rattle.tt_game.specs.declared.frame.Side.TheVariants.{Attacker, Defender}
 use Rattle.tt_game.specs.declared.turns.Turn.{Turn}
 use Rattle.tt_game.specs.declared.turns.Turn.TheVariants.{Play, Pass}
@@ -7,19 +8,20 @@ use Rattle.tt_search.specs.PartialTree.{PartialTree, fresh, won}
 use Rattle.tt_search.specs.declared.edges.Mark.{Mark}
 use Rattle.tt_search.specs.declared.edges.Mark.TheVariants.{Fresh, Won, Grown}
 use Rattle.tt_search.specs.declared.edges.Edge.{Edge}
+use Rattle.tt_search.specs.declared.edges.TheConstants.{TURNS}
 
 -- the turn of a number: a play on that point, or else a pass
 abbrev pub turn_at : ℕ → Turn
-turn_at n = if ltb n 361 then Play n else Pass
+turn_at n = if ltb n MOST_POINTS then Play n else Pass
 
 abbrev pub mark_at : ℕ → Mark
 mark_at n = if n == 0 then Fresh else (if n == 1 then Won Attacker else (if n == 2 then Won Defender else Grown))
 
 abbrev pub turn_of : Edge → Turn
-turn_of e = turn_at (e.code % 512)
+turn_of e = turn_at (e.code % TURNS)
 
 abbrev pub mark_of : Edge → Mark
-mark_of e = mark_at (e.code / 512)
+mark_of e = mark_at (e.code / TURNS)
 
 abbrev pub turns_of : List Edge → List Turn
 turns_of es = map turn_of es

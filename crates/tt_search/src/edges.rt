@@ -4,7 +4,7 @@ ghost use Rattle.std.specs.Prelude.{◌≡◌};
 ghost use Rattle.tt_search.specs.Edges.{turn_of, mark_of};
 
 use tt_game::{Side, Turn};
-use tt_sgf::Point;
+use tt_sgf::{MOST_POINTS, Point};
 
 /// What is known of a child: nothing, who has won there, or what its node says. A child has grown once it is expanded, or
 /// closed by a proof.
@@ -15,7 +15,7 @@ pub(crate) enum Mark {
     Grown,
 }
 
-/// A turn, and the mark of the child behind it. The number of the turn is that of its point, or 361 for a pass.
+/// A turn, and the mark of the child behind it. The number of the turn is that of its point, or `MOST_POINTS` for a pass.
 #[derive(Clone, Copy)]
 pub(crate) struct Edge {
     pub(crate) code: u16,
@@ -32,7 +32,7 @@ impl Edge {
     {
         let number = match turn {
             Turn::Play(point) => point.number(),
-            Turn::Pass => 361,
+            Turn::Pass => MOST_POINTS,
         };
         let kind = match mark {
             Mark::Fresh => 0,

@@ -2,6 +2,7 @@
 
 ghost use Rattle.std.specs.Prelude.{◌≡◌, ◌<◌, ◌≤◌, ◌↔◌, ◌⊎◌, true, None, length, take};
 ghost use Rattle.tt_game.specs.Game.{winner_of};
+ghost use Rattle.tt_proof.specs.declared.tree.TheConstants.{MOST_DEPTH};
 ghost use Rattle.tt_search.specs.PartialTree.{fresh};
 ghost use Rattle.tt_search.specs.Edges.{grown_in};
 ghost use Rattle.tt_search.specs.Shape.{HasItsNodes};
@@ -73,7 +74,7 @@ impl Node {
     #[cycle(descent)]
     pub(crate) fn grow<S: Store>(&mut self, walk: &mut Walk, pace: Pace, store: &mut S) -> Step
         requires may_grow { MayGrow (stand_of walk.old) self.old }
-        requires room { walk.old.room ≤ 512 }
+        requires room { walk.old.room ≤ MOST_DEPTH }
         ensures line { walk.new.line ≡ walk.old.line }
         ensures room { walk.new.room ≡ walk.old.room }
         ensures may { result ≡ Closed → S.may_answer }
@@ -99,7 +100,7 @@ impl Node {
     #[cycle(descent)]
     fn round<S: Store>(&mut self, walk: &mut Walk, pace: Pace, store: &mut S) -> Step
         requires may_grow { MayGrow (stand_of walk.old) self.old }
-        requires room { walk.old.room ≤ 512 }
+        requires room { walk.old.room ≤ MOST_DEPTH }
         ensures line { walk.new.line ≡ walk.old.line }
         ensures room { walk.new.room ≡ walk.old.room }
         ensures may { result ≡ Closed → S.may_answer }
@@ -160,7 +161,7 @@ impl Expansion {
         requires rank { rank ≡ grown_in (take place self.old.edges.items) }
         requires whole { HasItsNodes self.old }
         requires may_grow { MayGrow (stand_of walk.old) (child_of self.old place) }
-        requires room { walk.old.room ≤ 512 }
+        requires room { walk.old.room ≤ MOST_DEPTH }
         ensures line { walk.new.line ≡ walk.old.line }
         ensures room { walk.new.room ≡ walk.old.room }
         ensures may { result ≡ Closed → S.may_answer }

@@ -20,7 +20,7 @@ mod settled;
 mod store;
 mod walk;
 
-pub use limits::{Limits, Reason, Step};
+pub use limits::{Limits, MOST_EXPANDED, Reason, Step};
 pub use private::{Ask, PrivateStore};
 pub use search::{End, Search};
 pub use store::{Kept, NoStore, Store};

@@ -1,23 +1,30 @@
 //! What a search may use, and what its steps answer.
 
 ghost use Rattle.std.specs.Prelude.{◌≡◌, ◌≤◌, ◌↔◌, IsSome, IfSome};
+ghost use Rattle.tt_proof.specs.declared.tree.TheConstants.{MOST_DEPTH};
+ghost use Rattle.tt_search.specs.declared.limits.TheConstants.{MOST_EXPANDED};
+
+use tt_proof::MOST_DEPTH;
+
+/// The greatest budget.
+pub const MOST_EXPANDED: u32 = 1_000_000;
 
 /// How many nodes a search may expand, and how many turns deep it may go from its own line.
 #[derive(Clone, Copy, Debug, PartialEq, Eq)]
 pub struct Limits {
     budget: u32,
     depth: u16,
-    ghost budget_in: { (1 ≤ budget) × (budget ≤ 1000000) },
-    ghost depth_in: { depth ≤ 512 },
+    ghost budget_in: { (1 ≤ budget) × (budget ≤ MOST_EXPANDED) },
+    ghost depth_in: { depth ≤ MOST_DEPTH },
 }
 
 impl Limits {
-    /// These limits, where the budget is 1 to 1,000,000 and the depth 0 to 512.
+    /// These limits, where the budget is 1 to `MOST_EXPANDED` and the depth at most `MOST_DEPTH`.
     pub fn new(budget: u32, depth: u16) -> Option<Limits>
-        ensures made { IsSome result ↔ ((1 ≤ budget) × (budget ≤ 1000000) × (depth ≤ 512)) }
+        ensures made { IsSome result ↔ ((1 ≤ budget) × (budget ≤ MOST_EXPANDED) × (depth ≤ MOST_DEPTH)) }
         ensures limits { IfSome result (λ l. (l.budget ≡ budget) × (l.depth ≡ depth)) }
     {
-        if budget >= 1 && budget <= 1_000_000 && depth <= 512 {
+        if budget >= 1 && budget <= MOST_EXPANDED && depth <= MOST_DEPTH {
             Some(Limits { budget, depth })
         } else {
             None
@@ -28,7 +35,7 @@ impl Limits {
     pub fn budget(self) -> u32
         ensures budget { result ≡ self.budget }
         ensures least { 1 ≤ result }
-        ensures most { result ≤ 1000000 }
+        ensures most { result ≤ MOST_EXPANDED }
     {
         self.budget
     }
@@ -36,7 +43,7 @@ impl Limits {
     /// How many turns deep the search may go.
     pub fn depth(self) -> u16
         ensures depth { result ≡ self.depth }
-        ensures most { result ≤ 512 }
+        ensures most { result ≤ MOST_DEPTH }
     {
         self.depth
     }

@@ -4,6 +4,7 @@
 ghost use Rattle.std.specs.Prelude.{◌≡◌, ◌≤◌, ◌<◌, length, IfOk, MatchOption};
 ghost use Rattle.tt_proof.specs.Strategy.{reply};
 ghost use Rattle.tt_proof.specs.Proven.{StandsAt};
+ghost use Rattle.tt_proof.specs.declared.tree.TheConstants.{MOST_DEPTH};
 ghost use Rattle.tt_search.specs.Numbers.{number, IsUndecided};
 ghost use Rattle.tt_search.specs.Growing.{IsPartialTree};
 ghost use Rattle.tt_search.specs.Within.{StaysWithin};
@@ -65,7 +66,7 @@ impl Node {
     pub(crate) fn proof(&self, alloc: Global, line: &Line, side: Side) -> Result<Proof, NoMemory>
         requires settled { number side self.now ≡ 0 }
         requires partial { IsPartialTree line.now.frame line.now.state self.now }
-        requires stays { StaysWithin line.now.frame.size 512 self.now }
+        requires stays { StaysWithin line.now.frame.size MOST_DEPTH self.now }
         ensures stands { IfOk result (λ p. StandsAt p line.now.frame line.now.state) }
         ensures side { IfOk result (λ p. p.side ≡ side) }
         ensures tree { IfOk result (λ p. p.tree ≡ strategy_for side self.now) }
@@ -78,7 +79,7 @@ impl Node {
     /// offer on. None is made for a store that is full, nor where the proof of a node below it couldn't be made.
     pub(crate) fn offer<S: Store>(&self, walk: &Walk, store: &mut S) -> bool
         requires partial { IsPartialTree walk.now.line.frame walk.now.line.state self.now }
-        requires stays { StaysWithin walk.now.line.frame.size 512 self.now }
+        requires stays { StaysWithin walk.now.line.frame.size MOST_DEPTH self.now }
         ensures undecided { IsUndecided self.now → S.kept store.new ≡ S.kept store.old }
     {
         let Some(side) = self.settled_for() else {

@@ -2,6 +2,7 @@
 
 ghost use Rattle.std.specs.Prelude.{◌≡◌, ◌<◌, ◌↔◌, ◌+◌, ◌∷◌, true, length, OnOk, OnErr};
 ghost use Rattle.tt_game.specs.Game.{IsLegal};
+ghost use Rattle.tt_proof.specs.declared.tree.TheConstants.{MOST_DEPTH};
 ghost use Rattle.tt_search.specs.Walking.{IsDown};
 ghost use Rattle.tt_search.specs.declared.walk.Pace.TheVariants.{OneStep};
 
@@ -54,7 +55,7 @@ impl Walk {
     /// Goes back up by one turn.
     pub(crate) fn go_up(&mut self)
         requires below { 0 < length self.old.line.before }
-        requires room { self.old.room < 512 }
+        requires room { self.old.room < MOST_DEPTH }
         ensures before { self.old.line.before ≡ self.new.line.state ∷ self.new.line.before }
         ensures frame { self.new.line.frame ≡ self.old.line.frame }
         ensures room { self.new.room ≡ self.old.room + 1 }
