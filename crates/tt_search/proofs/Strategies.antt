@@ -12,11 +12,11 @@ use Rattle.tt_proof.specs.Proven.{IsWon}
 use Rattle.tt_proof.specs.Wins.{Wins, WinsBehind}
 use Rattle.tt_search.specs.PartialTree.{PartialTree, fresh, won, closed, expanded, Children, no_more, more}
 use Rattle.tt_search.specs.Numbers.{is_same, least, capped_sum, decided_number, number, numbers}
-use Rattle.tt_search.specs.MostProving.{place, best}
+use Rattle.tt_search.specs.MostProving.{place}
 use Rattle.tt_search.specs.Growing.{IsPartialTree, ArePartialTrees}
 use Rattle.tt_search.specs.Within.{StaysWithin, AllStayWithin}
 use Rattle.tt_search.proofs.TurnLemmas.{AreLegal, IsIn, RiseFrom, are_legal, is_in, rise}
-use Rattle.tt_search.specs.Settled.{strategy_for, picked_or_replied, pick_at, replies}
+use Rattle.tt_search.specs.Settled.{strategy_for, first_settled, picked_or_replied, pick_at, replies}
 
 -- ---- numbers that are 0
 
@@ -46,12 +46,10 @@ zero_by_first : (side : Side) (tree : PartialTree) (children : Children) → lea
 zero_by_first side tree children e below true q = rw q (grind (arith, common_steps))
 zero_by_first side tree children e below false q = rw (q, add-one) (below (least_zero (number side tree) (least (numbers side children)) e q))
 
-zero_at : (side : Side) (children : Children) → least (numbers side children) ≡ 0 → IsZeroAt side (place 0 (numbers side children)) children
+-- where the least number is 0, the first child that is settled is there
+zero_at : (side : Side) (children : Children) → least (numbers side children) ≡ 0 → IsZeroAt side (first_settled side children) children
 zero_at side no_more e = absurd (omega arith)
 zero_at side (more tree children) e = zero_by_first side tree children e (zero_at side children) (number side tree == 0) refl
-
-best_zero : (side : Side) (children : Children) → least (numbers side children) ≡ 0 → IsZeroAt side (best side children) children
-best_zero side children e = subst (λ n. IsZeroAt side (place n (numbers side children)) children) (sym e) (zero_at side children e)
 
 zero_sum : (xs : List ℕ) → capped_sum xs ≡ 0 → sum xs ≡ 0
 zero_sum xs e = grind (arith, common_steps)
@@ -100,9 +98,9 @@ mutual
   wins side f s (won winner) p z = p ∙ ap Some (same_side side winner z)
   wins side f s (closed winner strategy) p z = subst (λ w. Wins w f strategy s) (same_side side winner z) p
   wins side f s (expanded mover turns children) p z =
-      by_mover side mover f s (pick_at side (best side children) turns children) (replies side turns children) p.0 p.1
-      (λ e. pick_wins side f s (best side children) turns children p.0 (sym p.1 ∙ same_is_same side mover e) (subst (AreLegal f s) (sym p.2) (are_legal f s)) p.3
-      (best_zero side children (own_zero side mover turns children e z)))
+      by_mover side mover f s (pick_at side (first_settled side children) turns children) (replies side turns children) p.0 p.1
+      (λ e. pick_wins side f s (first_settled side children) turns children p.0 (sym p.1 ∙ same_is_same side mover e) (subst (AreLegal f s) (sym p.2) (are_legal f s)) p.3
+      (zero_at side children (own_zero side mover turns children e z)))
       (λ e t l. replies_win side f s turns children t p.3 (all_zero side children (zero_sum (numbers side children) (other_zero side mover turns children e z)))
       (subst (IsIn t) (sym p.2) (is_in f s t l)))
 
@@ -134,8 +132,8 @@ mutual
   low side size room (won winner) h = omega arith
   low side size room (closed winner strategy) h = h.0
   low side size room (expanded mover turns children) h =
-      depth_either (is_same side mover) room (pick_at side (best side children) turns children) (replies side turns children)
-      (pick_low side size room (best side children) turns children h.0 h.1)
+      depth_either (is_same side mover) room (pick_at side (first_settled side children) turns children) (replies side turns children)
+      (pick_low side size room (first_settled side children) turns children h.0 h.1)
       (replies_low side size room turns children h.0 h.1)
 
   pick_low : (side : Side) (size : Size) (room : ℕ) (i : ℕ) (turns : List Turn) (children : Children) → 0 < room → AllStayWithin size (room - 1) children → depth (pick_at side i turns children) ≤ room
@@ -164,8 +162,8 @@ mutual
   in_order side f s room (closed winner strategy) p h = h.1
   in_order side f s room (expanded mover turns children) p h =
       let up = subst (RiseFrom f.size 0) (sym p.2) (rise f s) in
-      ordered_either (is_same side mover) f.size (pick_at side (best side children) turns children) (replies side turns children)
-      (pick_in_order side f s (room - 1) 0 (best side children) turns children up p.3 h.1)
+      ordered_either (is_same side mover) f.size (pick_at side (first_settled side children) turns children) (replies side turns children)
+      (pick_in_order side f s (room - 1) 0 (first_settled side children) turns children up p.3 h.1)
       (replies_in_order side f s (room - 1) 0 turns children up p.3 h.1)
 
   pick_in_order : (side : Side) (f : Frame) (s : State) (room from i : ℕ) (turns : List Turn) (children : Children) → RiseFrom f.size from turns

@@ -4,12 +4,16 @@ use Rattle.tt_game.specs.declared.frame.Side.{Side}
 use Rattle.tt_game.specs.declared.turns.Turn.{Turn}
 use Rattle.tt_proof.specs.Strategy.{Strategy, Entries, done, pick, reply, none, entry}
 use Rattle.tt_search.specs.PartialTree.{PartialTree, fresh, won, closed, expanded, Children, no_more, more}
-use Rattle.tt_search.specs.Numbers.{is_same}
-use Rattle.tt_search.specs.MostProving.{best}
+use Rattle.tt_search.specs.Numbers.{is_same, numbers}
+use Rattle.tt_search.specs.MostProving.{place}
 
 abbrev pub picked_or_replied : Bool → Strategy → Entries → Strategy
 picked_or_replied true first all = first
 picked_or_replied false first all = reply all
+
+-- the place of the first child that is settled for the side
+abbrev pub first_settled : Side → Children → ℕ
+first_settled side children = place 0 (numbers side children)
 
 -- at a won leaf nothing is left to do, and a closed leaf has its strategy; where the side is to move it picks the first
 -- child that is settled for it, and elsewhere it has a reply to each turn
@@ -19,7 +23,7 @@ abbrev mutual
   strategy_for side (won winner) = done
   strategy_for side (closed winner strategy) = strategy
   strategy_for side (expanded mover turns children) =
-      picked_or_replied (is_same side mover) (pick_at side (best side children) turns children) (replies side turns children)
+      picked_or_replied (is_same side mover) (pick_at side (first_settled side children) turns children) (replies side turns children)
 
   pub pick_at : Side → ℕ → List Turn → Children → Strategy
   pick_at side i [] children = done

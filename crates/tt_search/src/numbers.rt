@@ -7,6 +7,7 @@ ghost use Rattle.tt_search.specs.Edges.{mark_of, tree_of, grown_behind, trees_of
 ghost use Rattle.tt_search.specs.Numbers.{number, numbers, least, capped_sum, combined, is_same, decided_number};
 ghost use Rattle.tt_search.specs.Children.{children_of};
 ghost use Rattle.tt_search.specs.MostProving.{best};
+ghost use Rattle.tt_search.specs.Settled.{first_settled};
 ghost use Rattle.tt_search.specs.Shape.{node_of};
 
 use crate::edges::{Edge, Mark};
@@ -139,6 +140,23 @@ pub(crate) fn best_child(mover: Side, edges: &[Edge], grown: &[Node]) -> (usize,
         rest = behind(*edge, rest);
     }
     (place, rank)
+}
+
+/// The place of the first child that is settled for the side, or how many children there are where none is, and its rank.
+pub(crate) fn first_settled(side: Side, edges: &[Edge], grown: &[Node]) -> (usize, usize)
+    ensures place { result.0 ≡ first_settled side (children_of (trees_of edges.now grown.now)) }
+    ensures rank { result.1 ≡ grown_in (take result.0 edges.now) }
+{
+    let mut rank = 0;
+    let mut rest = grown;
+    for (i, edge) in edges.iter().enumerate() {
+        if child_number(side, *edge, rest) == 0 {
+            return (i, rank);
+        }
+        rank = counted(*edge, rank);
+        rest = behind(*edge, rest);
+    }
+    (edges.len(), rank)
 }
 
 impl Expansion {

@@ -8,14 +8,13 @@ ghost use Rattle.tt_proof.specs.declared.tree.TheConstants.{MOST_DEPTH};
 ghost use Rattle.tt_search.specs.Numbers.{number, IsUndecided};
 ghost use Rattle.tt_search.specs.Growing.{IsPartialTree};
 ghost use Rattle.tt_search.specs.Within.{StaysWithin};
-ghost use Rattle.tt_search.specs.Settled.{strategy_for, pick_at, replies};
+ghost use Rattle.tt_search.specs.Settled.{strategy_for, first_settled, pick_at, replies};
 ghost use Rattle.tt_search.specs.Children.{children_of};
 ghost use Rattle.tt_search.specs.Edges.{mark_of, tree_of, turns_of, trees_of};
-ghost use Rattle.tt_search.specs.MostProving.{best};
 
 use crate::edges::{Edge, Mark};
 use crate::node::{Expansion, Growth, Node};
-use crate::numbers::{behind, best_child, from_rank, is_same};
+use crate::numbers::{behind, first_settled, from_rank, is_same};
 use crate::store::Store;
 use crate::walk::Walk;
 use std::alloc::Global;
@@ -114,12 +113,12 @@ fn child_plan(alloc: Global, side: Side, edge: Edge, rest: &[Node]) -> Result<Pl
     }
 }
 
-/// The strategy that picks the best child.
+/// The strategy that picks the first child that is settled for the side.
 #[cycle(plan_of)]
 fn picked(alloc: Global, side: Side, edges: &[Edge], grown: &[Node]) -> Result<Plan, NoMemory>
-    ensures { IfOk result (λ p. p ≡ pick_at side (best side (children_of (trees_of edges.now grown.now))) (turns_of edges.now) (children_of (trees_of edges.now grown.now))) }
+    ensures { IfOk result (λ p. p ≡ pick_at side (first_settled side (children_of (trees_of edges.now grown.now))) (turns_of edges.now) (children_of (trees_of edges.now grown.now))) }
 {
-    let (place, rank) = best_child(side, edges, grown);
+    let (place, rank) = first_settled(side, edges, grown);
     if place >= edges.len() {
         return Ok(Plan::done());
     }

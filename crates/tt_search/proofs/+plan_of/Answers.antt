@@ -16,28 +16,28 @@ first = record { code = 0 }
 
 pub settled::picked-returns-then-place-edges : goal.settled::picked-returns-then-place-edges
 settled::picked-returns-then-place-edges t c =
-    c.done.ensures ∙ sym (rw (← c.best_child-place.ensures.place)
-    (pick_past_turns c.args.side (turns_of c.args.edges.now) (trees_of c.args.edges.now c.args.grown.now) c.best_child-place.result.0
+    c.done.ensures ∙ sym (rw (← c.first_settled-place.ensures.place)
+    (pick_past_turns c.args.side (turns_of c.args.edges.now) (trees_of c.args.edges.now c.args.grown.now) c.first_settled-place.result.0
     (omega (arith, c.if-place-edges.true, length-turns_of c.args.edges.now))))
 
 pub settled::picked-child_plan-requires : goal.settled::picked-child_plan-requires
 settled::picked-child_plan-requires t c =
-    let w = lighter_here c.args.edges.now c.args.grown.now c.from_rank.result.now c.best_child-place.result.0 c.best_child-place.result.1 first c.if-place-edges.false
-    c.best_child-place.ensures.rank c.from_rank.ensures in
+    let w = lighter_here c.args.edges.now c.args.grown.now c.from_rank.result.now c.first_settled-place.result.0 c.first_settled-place.result.1 first c.if-place-edges.false
+    c.first_settled-place.ensures.rank c.from_rank.ensures in
     (omega (arith, c.decreases, w), tt)
 
 pub settled::picked-returns : goal.settled::picked-returns
 settled::picked-returns t c =
     let turns : List Turn = turns_of c.args.edges.now in
     let trees : List PartialTree = trees_of c.args.edges.now c.args.grown.now in
-    let e : Edge = get_or c.args.edges.now c.best_child-place.result.0 first in
+    let e : Edge = get_or c.args.edges.now c.first_settled-place.result.0 first in
     let child : PartialTree = tree_of (mark_of e) c.from_rank.result.now in
-    let here = tree_here c.args.edges.now c.args.grown.now c.from_rank.result.now c.best_child-place.result.0 c.best_child-place.result.1 first c.if-place-edges.false
-    c.best_child-place.ensures.rank c.from_rank.ensures in
-    let turn = c.turn.ensures ∙ sym (turn_at_place c.args.edges.now c.best_child-place.result.0 first c.turn.result c.if-place-edges.false) in
-    let e = picked c.args.side turns trees c.best_child-place.result.0 c.turn.result child _ turn (sym here) c.in_ok-child.ensures
+    let here = tree_here c.args.edges.now c.args.grown.now c.from_rank.result.now c.first_settled-place.result.0 c.first_settled-place.result.1 first c.if-place-edges.false
+    c.first_settled-place.ensures.rank c.from_rank.ensures in
+    let turn = c.turn.ensures ∙ sym (turn_at_place c.args.edges.now c.first_settled-place.result.0 first c.turn.result c.if-place-edges.false) in
+    let e = picked c.args.side turns trees c.first_settled-place.result.0 c.turn.result child _ turn (sym here) c.in_ok-child.ensures
     (omega (arith, c.if-place-edges.false, length-turns_of c.args.edges.now)) (omega (arith, c.if-place-edges.false, length-trees_of c.args.edges.now c.args.grown.now)) in
-    subst (λ u. IfOk c.pick.result (λ p. p ≡ u)) (e ∙ ap (λ i. pick_at c.args.side i turns (children_of trees)) c.best_child-place.ensures.place) c.pick.ensures
+    subst (λ u. IfOk c.pick.result (λ p. p ≡ u)) (e ∙ ap (λ i. pick_at c.args.side i turns (children_of trees)) c.first_settled-place.ensures.place) c.pick.ensures
 
 pub settled::replied-loop-edge-preserved : goal.settled::replied-loop-edge-preserved
 settled::replied-loop-edge-preserved t c =

@@ -1,0 +1,42 @@
+use Rattle.std.proofs.Common.{◌≡◌, ◌≢◌, ◌∙◌, ℕ, ◌+◌, ◌<◌, List, ◌∷◌, length, get_or, drop, sym, ap, arith}
+use Rattle.std.proofs.lemmas.List.{at_drop_more}
+use Rattle.std.proofs.lemmas.Grind.{common_steps}
+use Rattle.tt_game.specs.declared.frame.Side.{Side}
+use Rattle.tt_search.specs.PartialTree.{PartialTree}
+use Rattle.tt_search.specs.Children.{children_of}
+use Rattle.tt_search.specs.Numbers.{number, numbers}
+use Rattle.tt_search.specs.MostProving.{place}
+use Rattle.tt_search.specs.Edges.{mark_of, tree_of, trees_of, grown_behind, counted}
+use Rattle.tt_search.specs.declared.edges.Edge.{Edge}
+use Rattle.tt_search.proofs.Places.{rank_next, counted_most}
+use Rattle.tt_search.proofs.numbers.first_settled.Goals as goal
+
+abbrev first : Edge
+first = record { code = 0 }
+
+place_past : (i x : ℕ) (xs : List ℕ) → x ≢ 0 → i + 1 + place 0 xs ≡ i + place 0 (x ∷ xs)
+place_past i x xs h = grind (arith, common_steps)
+
+-- the child at a place isn't settled: so the first one that is, is found behind it
+module _ (side : Side) (es : List Edge) (rest behind : List PartialTree) (i x : ℕ) (l : i < length es) (is : x ≡ number side (tree_of (mark_of (get_or es i first)) rest))
+    (b : behind ≡ grown_behind (mark_of (get_or es i first)) rest) where
+  abbrev row : List PartialTree → List ℕ
+  row us = numbers side (children_of (trees_of (drop (i + 1) es) us))
+
+  past : x ≢ 0 → i + 1 + place 0 (row behind) ≡ i + place 0 (numbers side (children_of (trees_of (drop i es) rest)))
+  past h =
+      place_past i x (row behind) h
+      ∙ ap (λ y. i + place 0 (y ∷ row behind)) is
+      ∙ ap (λ us. i + place 0 (number side (tree_of (mark_of (get_or es i first)) rest) ∷ row us)) b
+      ∙ sym (at_drop_more (λ xs. i + place 0 (numbers side (children_of (trees_of xs rest)))) es i first l)
+
+pub loop-i-preserved : goal.loop-i-preserved
+loop-i-preserved c =
+    let e : Edge = get_or c.args.edges.now c.loop-i.i first in
+    record {
+      place =
+          past c.args.side c.args.edges.now c.loop-i.rest.now c.behind-rest.result.now c.loop-i.i c.child_number.result c.loop-i-test.true c.child_number.ensures
+          c.behind-rest.ensures c.if-child_number-eq0.false ∙ c.loop-i.invariant.place;
+      few = omega (arith, c.counted-rank.ensures, counted_most (mark_of e) c.loop-i.rank, c.loop-i.invariant.few);
+      rank = c.counted-rank.ensures ∙ ap (counted (mark_of e)) c.loop-i.invariant.rank ∙ sym (rank_next c.args.edges.now c.loop-i.i first c.loop-i-test.true);
+    }
