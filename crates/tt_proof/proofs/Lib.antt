@@ -1,6 +1,8 @@
 pub mod TextLemmas
 pub mod EntryLemmas
 pub mod ForcesLemmas
+pub mod FitsLemmas
+pub mod NeedLemmas
 pub mod ListLemmas
 pub mod ReadLemmas
 pub mod ProvenLemmas

@@ -1,16 +1,30 @@
 -- Laws of strategies and their texts.
-use Rattle.std.specs.Prelude.{ℕ, ◌≡◌, List, ◌++◌}
+use Rattle.std.specs.Prelude.{ℕ, ◌≡◌, ◌≢◌, ◌↔◌, List, [], ◌∷◌, ◌++◌}
 use Rattle.tt_sgf.specs.declared.size.Size.{Size}
-use Rattle.tt_game.specs.Game.{State, Forces}
+use Rattle.tt_board.specs.Position.{Colouring}
+use Rattle.tt_game.specs.Game.{State, Forces, after, history, made}
 use Rattle.tt_game.specs.declared.frame.Side.{Side}
 use Rattle.tt_game.specs.declared.frame.Frame.{Frame}
+use Rattle.tt_game.specs.declared.turns.Turn.TheVariants.{Play}
 use Rattle.tt_proof.specs.Strategy.{Strategy, depth}
 use Rattle.tt_proof.specs.Wins.{Wins}
+use Rattle.tt_proof.specs.Footprints.{IsNeeded, Fits}
 use Rattle.tt_proof.specs.CertificateText.{tree_text}
 
 -- a strategy that wins makes its side force, within its depth
 abbrev pub WinningForces : Type 0
 WinningForces = (side : Side) (f : Frame) (u : Strategy) (s : State) → Wins side f u s → Forces f side (depth u) s
+
+-- a strategy that wins from one state wins from each state that it fits
+abbrev pub FittingWins : Type 0
+FittingWins = (side : Side) (f : Frame) (u : Strategy) (s s' : State) → Wins side f u s → Fits f u s s' → Wins side f u s'
+
+-- after a play, a strategy needs in the history from before it what it needs in its own, less the colouring played
+abbrev pub ChildNeeds : Type 0
+ChildNeeds =
+    (f : Frame) (u : Strategy) (s : State) (p : ℕ) (c : Colouring)
+    → IsNeeded f (history s) u (made f s p ∷ []) (after f s (Play p)) c
+    ↔ (IsNeeded f (history (after f s (Play p))) u [] (after f s (Play p)) c × (c ≢ made f s p))
 
 -- a text is of one strategy, and none is a proper beginning of another
 abbrev pub OneReading : Type 0

@@ -2,6 +2,7 @@
 pub mod Strategy
 pub mod Nodes
 pub mod Wins
+pub mod Footprints
 pub mod Laws
 pub mod Proven
 pub mod Rejections

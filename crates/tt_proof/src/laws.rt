@@ -1,10 +1,21 @@
 //! Laws of trees and of certificates, over the definitions alone.
 
-ghost use Rattle.tt_proof.specs.Laws.{WinningForces, OneReading};
+ghost use Rattle.tt_proof.specs.Laws.{WinningForces, FittingWins, ChildNeeds, OneReading};
 
 /// A winning tree of depth n makes its side force a win within n turns.
 pub fn l1()
     ensures { WinningForces }
+{}
+
+/// A tree that wins from one state wins from each state that it fits, whatever the path there.
+pub fn l3()
+    ensures { FittingWins }
+{}
+
+/// What a tree needs is joined from what its children need: the child of a play needs in the history from before the play
+/// what it needs in its own, less the colouring that the play made.
+pub fn child_needs()
+    ensures { ChildNeeds }
 {}
 
 /// A text is of one tree, and no tree's text goes on to be another's.

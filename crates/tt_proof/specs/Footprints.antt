@@ -1,0 +1,66 @@
+-- The footprint of a strategy: what it rests on in the history of its state, and when it may be moved to another history
+-- of the same position. Under superko a position that is reached by two paths can have two values (the graph history
+-- interaction of game-tree search); a footprint says which part of a path counts.
+use Rattle.std.specs.Prelude.{◌≡◌, ℕ, ◌<◌, ◌⊎◌, List, [], ◌∷◌, ◌++◌, Contains, None, IsTrue}
+use Rattle.std.specs.FinSet as set
+use Rattle.tt_sgf.specs.Sizes.{point_count}
+use Rattle.tt_board.specs.Position.{Colouring}
+use Rattle.tt_board.specs.Reach.{entry_at}
+use Rattle.tt_game.specs.Game.{State, IsLegal, after, history, made}
+use Rattle.tt_game.specs.declared.frame.Frame.{Frame}
+use Rattle.tt_game.specs.declared.turns.Turn.{Turn}
+use Rattle.tt_game.specs.declared.turns.Turn.TheVariants.{Play, Pass}
+use Rattle.tt_proof.specs.Strategy.{Strategy, Entries, done, pick, reply, none, entry}
+
+-- the path from a state on, after one more turn: a play appends the colouring that it makes, a pass nothing
+abbrev pub longer : Frame → State → Turn → List Colouring → List Colouring
+longer f s Pass path = path
+longer f s (Play p) path = path ++ made f s p ∷ []
+
+-- the turn is a play, and makes the colouring
+abbrev pub Makes : Frame → State → Turn → Colouring → Type 0
+Makes f s Pass c = ⊥
+Makes f s (Play p) c = made f s p ≡ c
+
+module _ (f : Frame) where
+  -- a play on an empty point of the region would make the colouring, which the history h has and the path has not
+  abbrev pub IsRepeated : List Colouring → List Colouring → State → Colouring → Type 0
+  IsRepeated h path s c =
+      ((p : ℕ) × (p < point_count f.size) × (entry_at s.present p ≡ None) × IsTrue (set.contains f.region p) × (made f s p ≡ c))
+      × Contains h c × (Contains path c → ⊥)
+
+  -- A node of the strategy is reached where each turn on the way to it is legal.
+  module _ (h : List Colouring) where
+    abbrev mutual
+      -- the strategy needs the colouring in the history h: there it forbids a play at a reached reply, where the path alone
+      -- would not
+      pub IsNeeded : Strategy → List Colouring → State → Colouring → Type 0
+      IsNeeded done path s c = ⊥
+      IsNeeded (pick t u) path s c = IsLegal f s t × IsNeeded u (longer f s t path) (after f s t) c
+      IsNeeded (reply es) path s c = IsRepeated h path s c ⊎ IsNeededBehind es path s c
+
+      -- so does the strategy of some entry
+      pub IsNeededBehind : Entries → List Colouring → State → Colouring → Type 0
+      IsNeededBehind none path s c = ⊥
+      IsNeededBehind (entry t u es) path s c =
+          (IsLegal f s t × IsNeeded u (longer f s t path) (after f s t) c) ⊎ IsNeededBehind es path s c
+
+  abbrev mutual
+    -- the strategy avoids the colouring: its own play at a reached pick makes it
+    pub IsAvoided : Strategy → State → Colouring → Type 0
+    IsAvoided done s c = ⊥
+    IsAvoided (pick t u) s c = IsLegal f s t × (Makes f s t c ⊎ IsAvoided u (after f s t) c)
+    IsAvoided (reply es) s c = IsAvoidedBehind es s c
+
+    -- so does the strategy of some entry
+    pub IsAvoidedBehind : Entries → State → Colouring → Type 0
+    IsAvoidedBehind none s c = ⊥
+    IsAvoidedBehind (entry t u es) s c = (IsLegal f s t × IsAvoided u (after f s t) c) ⊎ IsAvoidedBehind es s c
+
+-- the strategy, from s, fits s': the position is the same, and the history has all that it needs and nothing that it avoids
+pub record Fits (f : Frame) (u : Strategy) (s s' : State) : Type 0 where
+  pub present : s'.present ≡ s.present
+  pub to_move : s'.to_move ≡ s.to_move
+  pub passes : s'.passes ≡ s.passes
+  pub needs : (c : Colouring) → IsNeeded f (history s) u [] s c → Contains (history s') c
+  pub avoids : (c : Colouring) → IsAvoided f u s c → Contains (history s') c → ⊥
