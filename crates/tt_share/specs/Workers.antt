@@ -7,6 +7,7 @@ use Rattle.tt_search.specs.declared.limits.Limits.{Limits}
 use Rattle.tt_search.specs.declared.search.End.{End}
 use Rattle.tt_share.specs.Jobs.{IsResult, IsWinFor, kept_of}
 use Rattle.tt_share.specs.Results.{HasEnd, IsFilled, IsPastStuck}
+use Rattle.tt_share.specs.Seats.{SeatView}
 use Rattle.tt_share.specs.declared.jobs.Found.{Found}
 use Rattle.tt_share.specs.declared.workers.HandedBack.{HandedBack}
 
@@ -25,6 +26,11 @@ jobs_of found = map (λ (f : Found). f.job) found
 -- the same numbers, and behind them only such as are no jobs
 abbrev pub AddsSpare : ℕ → List ℕ → List ℕ → Type 0
 AddsSpare jobs before after = (spare : List ℕ) × (after ≡ before ++ spare) × All (λ n. jobs ≤ n) spare
+
+-- each worker hands back a result of each job that its seat drew, in that order
+abbrev pub AllDrawn : ℕ → List SeatView → List HandedBack → Type 0
+AllDrawn jobs seats work = (i : ℕ) (seat : SeatView) (back : HandedBack) → slice_get seats i ≡ Some seat → slice_get work i ≡ Some back
+    → AddsSpare jobs (seat.numbers ++ jobs_of back.found.items) back.seat.numbers
 
 -- the seat is the desk's, each result is that of its job's turn, and no job was searched after one that was won
 pub record IsWork (line : Standing) (limits : Limits) (desk : TableId) (back : HandedBack) : Type 0 where

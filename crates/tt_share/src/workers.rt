@@ -4,7 +4,7 @@ ghost use Rattle.std.specs.Prelude.{◌≡◌, ◌≤◌, ◌<◌, ◌↔◌, �
 ghost use Rattle.tt_share.specs.Jobs.{IsResultOf, IsResult};
 ghost use Rattle.tt_share.specs.Results.{KeepsEnds};
 ghost use Rattle.tt_share.specs.Seats.{seat_of};
-ghost use Rattle.tt_share.specs.Workers.{SomeWin, IsWork, IsPlaced, AllPlaced, AddsSpare, jobs_of, AreGiven, AllGiven};
+ghost use Rattle.tt_share.specs.Workers.{SomeWin, IsWork, IsPlaced, AllPlaced, AddsSpare, AllDrawn, jobs_of, AreGiven, AllGiven};
 
 use crate::desk::{Desk, Seat};
 use crate::gate::Gate;
@@ -101,11 +101,13 @@ pub(crate) fn run_workers<R: Threads + Wait + Sync, G: Gate>(
     requires jobs { desk.now.jobs ≡ length jobs.now.turns.items }
     requires seats { All (λ s. s.desk ≡ desk.now.id) seats.items }
     ensures work { IfOk result (λ v. All (IsWork jobs.now.line.now jobs.now.limits desk.now.id) v.items) }
+    ensures drawn { IfOk result (λ v. AllDrawn desk.now.jobs seats.items v.items) }
     ensures len { IfOk result (λ v. vec_len v ≡ vec_len seats) }
 {
     let worker = |seat: Seat| -> HandedBack
         requires { (desk.now.jobs ≡ length jobs.now.turns.items) × (seat.desk ≡ desk.now.id) }
-        ensures { IsWork jobs.entry.now.line.now jobs.entry.now.limits desk.entry.now.id result }
+        ensures work { IsWork jobs.entry.now.line.now jobs.entry.now.limits desk.entry.now.id result }
+        ensures drawn { AddsSpare desk.entry.now.jobs (seat.numbers ++ jobs_of result.found.items) result.seat.numbers }
     {
         let mut store = LockedStore::new(rt, table);
         work(jobs, desk, gate, seat, &mut store)
