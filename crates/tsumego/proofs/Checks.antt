@@ -16,12 +16,12 @@ use Rattle.tt_proof.specs.CertificateText.{IsCertificate, IsTooDeep}
 use Rattle.tt_proof.specs.Strategy.{Strategy}
 use Rattle.tt_proof.specs.Wins.{Wins}
 use Rattle.tsumego.specs.declared.request.Command.TheVariants.{Check}
-use Rattle.tsumego.specs.declared.fault.RunFault.{RunFault}
-use Rattle.tsumego.specs.declared.fault.RunFault.TheVariants.{Input, Output, Memory}
+use Rattle.devices.specs.declared.fault.RunFault.{RunFault}
+use Rattle.devices.specs.declared.fault.RunFault.TheVariants.{Input, Output, Memory}
 use Rattle.tsumego.specs.declared.finding.Finding.{Finding}
 use Rattle.tsumego.specs.declared.finding.Finding.TheVariants.{Valid, Invalid, Refused}
 use Rattle.tsumego.specs.Checking.{Finds, FindsAt, FindsOn, finding_line, finding_status, first_tree, loses, no_certificate, too_deep, wins}
-use Rattle.tsumego.specs.Lines.{Breaks}
+use Rattle.devices.specs.Writing.{Breaks}
 use Rattle.tsumego.specs.Trees.{most_bytes}
 use Rattle.tsumego.specs.Writing.{Writes}
 

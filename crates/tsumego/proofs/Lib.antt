@@ -7,5 +7,4 @@ pub mod OneText
 pub mod Progress
 pub mod Values
 pub mod Verdicts
-pub mod Watching
 pub mod TaskLemmas

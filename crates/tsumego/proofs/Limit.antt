@@ -5,8 +5,8 @@ use Rattle.std.proofs.lemmas.List.{take_all, length-take-le}
 use Rattle.std.proofs.lemmas.Bool.{cases_lt}
 use Rattle.std.proofs.KnownBytes.{Appends-nil, Keeps-refl}
 use Rattle.tsumego.specs.declared.request.Command.{Command}
-use Rattle.tsumego.specs.declared.fault.RunFault.{RunFault}
-use Rattle.tsumego.specs.declared.fault.RunFault.TheVariants.{Input, Output, Memory}
+use Rattle.devices.specs.declared.fault.RunFault.{RunFault}
+use Rattle.devices.specs.declared.fault.RunFault.TheVariants.{Input, Output, Memory}
 use Rattle.tsumego.specs.declared.outcome.Outcome.{Outcome}
 use Rattle.tt_sgf.specs.declared.nodes.Node.{Node}
 use Rattle.tsumego.specs.declared.request.Command.TheVariants.{Score, Check, Solve}
@@ -16,8 +16,10 @@ use Rattle.tsumego.specs.Checking as find
 use Rattle.tsumego.specs.Solving.{Solves}
 use Rattle.tsumego.specs.Text.{BeginsAnswer, IsAnswer, IsEarlierPart, Scores}
 use Rattle.tsumego.specs.Trees.{AreOutcomes, BeginsTreesText, EarlierTreesText, IsTreesText, all_lines, all_read, before_more, no_line, nothing, some_lines, stopped, too_long}
-use Rattle.tsumego.specs.Watching.{IsInput}
-use Rattle.tsumego.specs.Writing.{ForInput, Writes, is_output_fault}
+use Rattle.devices.specs.Watching.{IsInput}
+use Rattle.devices.specs.Faults.{is_output_fault}
+use Rattle.devices.specs.Writing.{ForInput}
+use Rattle.tsumego.specs.Writing.{Writes}
 
 -- the input fits, or its part up to the limit is too long as well
 cut_or_whole : (most : ℕ) (input : List ℕ) → (take most input ≡ input) ⊎ ((length (take most input) ≡ most) × (most ≤ length input))

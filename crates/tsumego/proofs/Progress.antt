@@ -10,14 +10,14 @@ use Rattle.std.specs.List.{list_any}
 use Rattle.std.specs.Io.KnownBytes.{Appends, Keeps}
 use Rattle.tt_sgf.specs.declared.nodes.Node.{Node}
 use Rattle.tt_sgf.specs.Grammar.{GameTree, HasNoTree, SpelledUpTo, main_line}
-use Rattle.tsumego.specs.declared.fault.RunFault.{RunFault}
-use Rattle.tsumego.specs.declared.fault.RunFault.TheVariants.{Input, Output, Memory}
+use Rattle.devices.specs.declared.fault.RunFault.{RunFault}
+use Rattle.devices.specs.declared.fault.RunFault.TheVariants.{Input, Output, Memory}
 use Rattle.tsumego.specs.declared.outcome.Outcome.{Outcome}
 use Rattle.tsumego.specs.declared.outcome.Outcome.TheVariants.{Scored, Answered, Refused}
-use Rattle.tsumego.specs.Lines.{WritesOutcome, WritesText}
+use Rattle.tsumego.specs.Lines.{WritesOutcome}
 use Rattle.tsumego.specs.Trees.{AreOutcomes, BeginsTreesText, EarlierTreesText, HasOpen, IsTreesText, Reads, all_lines, all_read, before_more, is_refused, line_of, lines_from}
 use Rattle.tsumego.specs.Trees.{most_bytes, nothing, some_lines, stopped, too_long}
-use Rattle.tsumego.specs.Writing.{WritesOf}
+use Rattle.devices.specs.Writing.{WritesOf, WritesText}
 
 -- one more tree
 pub Reads-more : (allowed : List Node → Outcome → Type 0) (input : List ℕ) (os : List Outcome) (o : Outcome) (rest : List ℕ) (count : ℕ) (t : GameTree) → Reads allowed input os rest

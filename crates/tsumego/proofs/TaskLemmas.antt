@@ -1,7 +1,7 @@
 -- What the task of a command says of the command.
 use Rattle.std.proofs.Common.{Bool, ℕ, List, Option, Some, subst}
 use Rattle.std.specs.declared.result.Result.{Result}
-use Rattle.tsumego.specs.declared.fault.RunFault.{RunFault}
+use Rattle.devices.specs.declared.fault.RunFault.{RunFault}
 use Rattle.tsumego.specs.declared.request.Command.{Command}
 use Rattle.tsumego.specs.declared.request.Command.TheVariants.{Score, Check, Solve}
 use Rattle.tsumego.specs.declared.task.Task.{Task}
@@ -9,7 +9,8 @@ use Rattle.tsumego.specs.declared.task.Task.TheVariants as tasks
 use Rattle.tt_search.specs.declared.limits.Limits.{Limits}
 use Rattle.tsumego.specs.Tasks.{IsTaskOf, Makes}
 use Rattle.tsumego.specs.Trees.{BeginsTreesText, EarlierTreesText, IsTreesText}
-use Rattle.tsumego.specs.Writing.{Writes, WritesOf}
+use Rattle.devices.specs.Writing.{WritesOf}
+use Rattle.tsumego.specs.Writing.{Writes}
 
 -- what is written for the task is written for the command
 pub written : (c : Command) (t : Task) (input : List ℕ) (r : Result ℕ RunFault) (a b : Option (List ℕ)) → IsTaskOf c (Some t)

@@ -5,7 +5,6 @@ pub mod Laws
 pub mod Solving
 pub mod Text
 pub mod Trees
-pub mod Watching
 pub mod Writing
 -- What private contracts and proofs cite. Nobody has to believe these.
 pub mod Lines

@@ -3,21 +3,10 @@ use Rattle.std.specs.Prelude.{◌≡◌, ℕ, Bool, List, Option, Ok, Err, take}
 use Rattle.std.specs.declared.result.Result.{Result}
 use Rattle.std.specs.Io.KnownBytes.{Appends, Keeps}
 use Rattle.tt_sgf.specs.declared.nodes.Node.{Node}
-use Rattle.tsumego.specs.declared.fault.RunFault.{RunFault}
-use Rattle.tsumego.specs.declared.fault.RunFault.TheVariants.{Input, Output, Memory}
+use Rattle.devices.specs.declared.fault.RunFault.{RunFault}
+use Rattle.devices.specs.declared.fault.RunFault.TheVariants.{Input, Output, Memory}
 use Rattle.tsumego.specs.declared.outcome.Outcome.{Outcome}
 use Rattle.tsumego.specs.Trees.{is_refused, line_of}
-
--- a fault after a part of the text was written, or before any of it was
-abbrev pub Breaks : List ℕ → RunFault → Option (List ℕ) → Option (List ℕ) → Type 0
-Breaks text Input before behind = ⊥
-Breaks text Output before behind = (n : ℕ) × Appends before behind (take n text)
-Breaks text Memory before behind = Keeps before behind
-
--- the whole text was written, or a fault came
-abbrev pub WritesText : {A : Type 0} → List ℕ → Result A RunFault → Option (List ℕ) → Option (List ℕ) → Type 0
-WritesText text (Ok x) before behind = Appends before behind text
-WritesText text (Err e) before behind = Breaks text e before behind
 
 -- the line on an outcome of tree number k was written, and says whether it is a refusal; or a fault came
 abbrev pub WritesOutcome : (List Node → Outcome → Type 0) → ℕ → List Node → Result Bool RunFault → Option (List ℕ) → Option (List ℕ) → Type 0

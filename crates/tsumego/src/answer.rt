@@ -1,26 +1,28 @@
 //! Writes the answer to an input.
 ghost use Rattle.std.specs.Prelude.{◌≡◌, IfOk, false};
+ghost use Rattle.devices.specs.Faults.{is_input_fault, is_output_fault};
+ghost use Rattle.devices.specs.Watching.{TakesAtMost};
+ghost use Rattle.devices.specs.Writing.{ForInput, WritesOf, WritesText};
 ghost use Rattle.tsumego.specs.CommandLine.{IsInRange};
-ghost use Rattle.tsumego.specs.Lines.{WritesOutcome, WritesText};
+ghost use Rattle.tsumego.specs.Lines.{WritesOutcome};
 ghost use Rattle.tsumego.specs.Tasks.{IsTaskOf, Makes};
 ghost use Rattle.tsumego.specs.Trees.{BeginsTreesText, EarlierTreesText, IsTreesText, line_of};
-ghost use Rattle.tsumego.specs.Watching.{TakesAtMost};
-ghost use Rattle.tsumego.specs.Writing.{ForInput, Writes, WritesOf, is_input_fault, is_output_fault};
+ghost use Rattle.tsumego.specs.Writing.{Writes};
 
-use crate::fault::RunFault;
 use crate::finding::find;
-use crate::input::{MOST_READ, read_input};
 use crate::options::Options;
 use crate::outcome::{Outcome, line};
-use crate::output::write_bytes;
 use crate::request::Command;
 use crate::task::Task;
-use crate::watched::Watched;
+use devices::{RunFault, Watched, read_input, write_bytes};
 use std::alloc::Global;
 use std::io::{Read, Write};
 use std::sync::Wait;
 use std::thread::Threads;
-use tt_sgf::{MainLine, SgfFault, has_tree, read_tree};
+use tt_sgf::{MAX_BYTES, MainLine, SgfFault, has_tree, read_tree};
+
+/// One byte more than the longest input whose trees are read.
+const MOST_READ: usize = MAX_BYTES + 1;
 
 /// Writes the line of one outcome.
 fn write_line<W: Write>(
@@ -199,7 +201,7 @@ pub fn run<X: Threads + Wait + Sync, R: Read, W: Write>(
     ensures input { reader.new.failed ≡ is_input_fault result }
     ensures output { writer.new.failed ≡ is_output_fault result }
 {
-    match read_input(alloc, reader) {
+    match read_input(alloc, reader, MOST_READ) {
         Ok(input) => answer(rt, alloc, command, input.as_slice(), writer),
         Err(fault) => Err(fault),
     }

@@ -1,10 +1,9 @@
 //! Readers and writers that fail, or that give and take a byte at a time.
 
 use crate::answer::run;
-use crate::fault::RunFault;
 use crate::request::Command;
 use crate::tests::asked;
-use crate::watched::Watched;
+use devices::{RunFault, Watched};
 use std::alloc::Global;
 use std::io;
 use std::io::{ErrorKind, Read, Write};

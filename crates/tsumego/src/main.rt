@@ -5,15 +5,12 @@ mod answer;
 mod arguments;
 #[cfg(test)]
 mod device_tests;
-mod fault;
 mod finding;
 #[cfg(test)]
 mod hostile_tests;
-mod input;
 mod laws;
 mod options;
 mod outcome;
-mod output;
 mod request;
 #[cfg(test)]
 mod solve_tests;
@@ -22,14 +19,13 @@ mod task;
 #[cfg(test)]
 mod tests;
 mod verdict;
-mod watched;
 
 use answer::run;
 use arguments::{ArgFault, command};
+use devices::Watched;
 use std::alloc::AllocError;
 use std::env;
 use std::process::ExitCode;
-use watched::Watched;
 
 fn words_of(rt: &HostRuntime) -> Result<Vec<String>, ArgFault> {
     let alloc = rt.alloc();
@@ -59,7 +55,7 @@ fn main(rt: HostRuntime) -> ExitCode {
     match run(&rt, rt.alloc(), &command, &mut reader, &mut writer) {
         Ok(status) => ExitCode::from(status),
         Err(fault) => {
-            let _ = rt.eprintln(fault);
+            let _ = eprintln!(rt; "tsumego: {fault}");
             ExitCode::from(2)
         }
     }

@@ -5,9 +5,8 @@ ghost use Rattle.tsumego.specs.CommandLine.{IsInRange};
 
 use crate::answer::run;
 use crate::arguments::{ArgFault, command};
-use crate::fault::RunFault;
 use crate::request::Command;
-use crate::watched::Watched;
+use devices::Watched;
 use std::alloc::{AllocError, Global};
 use std::sync::Wait;
 use std::test::Fail;
@@ -234,17 +233,5 @@ fn refuses_lines(rt: HostRuntime) -> Result<(), Fail> {
     }
     let nothing: Vec<String> = Vec::new(alloc);
     assert!(rt; command(alloc, nothing.as_slice()).is_err());
-    Ok(())
-}
-
-#[test]
-fn names_faults(rt: HostRuntime) -> Result<(), Fail> {
-    let alloc = rt.alloc();
-    let input = format!(in alloc; "{}", RunFault::Input)?;
-    assert!(rt; input.as_str() == "tsumego: input");
-    let output = format!(in alloc; "{}", RunFault::Output)?;
-    assert!(rt; output.as_str() == "tsumego: output");
-    let memory = format!(in alloc; "{}", RunFault::Memory)?;
-    assert!(rt; memory.as_str() == "tsumego: memory");
     Ok(())
 }

@@ -5,4 +5,3 @@ pub mod OneText
 pub mod Spreading
 pub mod Texts
 pub mod Told
-pub mod Watching

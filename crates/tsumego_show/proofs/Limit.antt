@@ -1,15 +1,17 @@
 -- Lemmas on inputs past the limit, of which only a part is read, and on how writing a text ends.
-use Rattle.std.proofs.Common.{true, false, ◌≡◌, ◌≤◌, ◌⊎◌, ℕ, Bool, List, inl, inr, Option, None, Some, Ok, Err, length, take, arith, subst}
+use Rattle.std.proofs.Common.{refl, [], true, false, ◌≡◌, ◌≤◌, ◌⊎◌, ℕ, Bool, List, inl, inr, Option, None, Some, Ok, Err, length, take, arith, subst, sym, ◌∙◌, append-nil}
 use Rattle.std.specs.declared.result.Result.{Result}
 use Rattle.std.proofs.lemmas.List.{take_all, length-take-le}
 use Rattle.std.proofs.lemmas.Bool.{cases_lt}
-use Rattle.std.proofs.KnownBytes.{Keeps-refl}
-use Rattle.tsumego_show.specs.declared.fault.RunFault.{RunFault}
-use Rattle.tsumego_show.specs.declared.fault.RunFault.TheVariants.{Input, Output, Memory}
-use Rattle.tsumego_show.specs.Lines.{Breaks}
+use Rattle.std.proofs.KnownBytes.{Appends-nil, Keeps-refl}
+use Rattle.devices.specs.declared.fault.RunFault.{RunFault}
+use Rattle.devices.specs.declared.fault.RunFault.TheVariants.{Input, Output, Memory}
+use Rattle.std.specs.Io.KnownBytes.{Appends, Keeps}
+use Rattle.devices.specs.Faults.{is_output_fault}
+use Rattle.devices.specs.Watching.{IsInput}
+use Rattle.devices.specs.Writing.{Breaks, ForInput}
 use Rattle.tsumego_show.specs.Shown.{IsShown, IsTold, too_long, trees}
-use Rattle.tsumego_show.specs.Watching.{IsInput}
-use Rattle.tsumego_show.specs.Writing.{ForInput, Writes, is_output_fault}
+use Rattle.tsumego_show.specs.Writing.{Writes}
 
 -- the input fits, or its part up to the limit is too long as well
 cut_or_whole : (most : ℕ) (input : List ℕ) → (take most input ≡ input) ⊎ ((length (take most input) ≡ most) × (most ≤ length input))
@@ -31,7 +33,7 @@ shown_whole input text status h = elim (cut_or_whole 1048577 input) [
 writes_whole : (input : List ℕ) (r : Result ℕ RunFault) (a b : Option (List ℕ)) → Writes (take 1048577 input) r a b → Writes input r a b
 writes_whole input (Ok status) a b w = (w.0, shown_whole input w.0 status w.1, w.2)
 writes_whole input (Err Input) a b w = w
-writes_whole input (Err Output) a b w = (w.0, w.1, w.2, shown_whole input w.0 w.1 w.3, w.4)
+writes_whole input (Err Output) a b w = (w.0, w.1, (w.2.0, shown_whole input w.0 w.2.0 w.2.1), w.3)
 writes_whole input (Err Memory) a b w = w
 
 -- what is written on the part up to the limit is written on the input
@@ -44,14 +46,20 @@ writes_read (Some input) bytes r a b e w = writes_whole input r a b (subst (λ (
 nothing_written : (input : List ℕ) (e : RunFault) (a : Option (List ℕ)) → is_output_fault {A = ℕ} (Err e) ≡ false → Writes input (Err e) a a
 nothing_written input Input a quiet = Keeps-refl a
 nothing_written input Output a quiet = let bad : true ≡ false = quiet in cc
-nothing_written input Memory a quiet = Keeps-refl a
+nothing_written input Memory a quiet = ([], refl, Appends-nil a)
 
 pub writes_nothing : (told : Option (List ℕ)) (e : RunFault) (a : Option (List ℕ)) → is_output_fault {A = ℕ} (Err e) ≡ false → ForInput told (λ input. Writes input (Err e) a a)
-writes_nothing None e a quiet = (Rattle.std.proofs.Common.[], nothing_written Rattle.std.proofs.Common.[] e a quiet)
+writes_nothing None e a quiet = ([], nothing_written [] e a quiet)
 writes_nothing (Some input) e a quiet = nothing_written input e a quiet
+
+-- what is kept has grown by nothing
+kept_whole : (a b : Option (List ℕ)) → Keeps a b → Appends a b []
+kept_whole None b w = tt
+kept_whole (Some x) None w = absurd w
+kept_whole (Some x) (Some y) w = w ∙ sym (append-nil x)
 
 -- a fault came where a text was to be written
 pub text_breaks : (input text : List ℕ) (status : ℕ) (e : RunFault) (a b : Option (List ℕ)) → IsShown input text status → Breaks text e a b → Writes input (Err e) a b
 text_breaks input text status Input a b h w = absurd w
-text_breaks input text status Output a b h w = (text, status, w.0, h, w.1)
-text_breaks input text status Memory a b h w = w
+text_breaks input text status Output a b h w = (text, w.0, (status, h), w.1)
+text_breaks input text status Memory a b h w = ([], refl, kept_whole a b w)

@@ -2,20 +2,16 @@
 #![tactic(auto)]
 
 mod drawing;
-mod fault;
 mod hints;
-mod input;
 mod laws;
 mod marks;
-mod output;
 mod picture;
 mod running;
 mod showing;
-mod watched;
 
+use devices::Watched;
 use running::run;
 use std::process::ExitCode;
-use watched::Watched;
 
 fn main(rt: HostRuntime) -> ExitCode {
     let mut reader = Watched::new(rt.stdin());
@@ -23,7 +19,7 @@ fn main(rt: HostRuntime) -> ExitCode {
     match run(rt.alloc(), &mut reader, &mut writer) {
         Ok(status) => ExitCode::from(status),
         Err(fault) => {
-            let _ = rt.eprintln(fault);
+            let _ = eprintln!(rt; "tsumego-show: {fault}");
             ExitCode::from(2)
         }
     }

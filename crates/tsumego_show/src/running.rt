@@ -1,15 +1,18 @@
 //! Reads an input and writes its text.
 ghost use Rattle.std.specs.Prelude.{◌≡◌, false};
-ghost use Rattle.tsumego_show.specs.Watching.{TakesAtMost};
-ghost use Rattle.tsumego_show.specs.Writing.{ForInput, Writes, is_input_fault, is_output_fault};
+ghost use Rattle.devices.specs.Faults.{is_input_fault, is_output_fault};
+ghost use Rattle.devices.specs.Watching.{TakesAtMost};
+ghost use Rattle.devices.specs.Writing.{ForInput};
+ghost use Rattle.tsumego_show.specs.Writing.{Writes};
 
-use crate::fault::RunFault;
-use crate::input::{MOST_READ, read_input};
-use crate::output::write_bytes;
 use crate::showing::show;
-use crate::watched::Watched;
+use devices::{RunFault, Watched, read_input, write_bytes};
 use std::alloc::Global;
 use std::io::{Read, Write};
+use tt_sgf::MAX_BYTES;
+
+/// One byte more than the longest input whose trees are read.
+const MOST_READ: usize = MAX_BYTES + 1;
 
 /// Writes the text for an input.
 fn answer<W: Write>(alloc: Global, input: &[u8], writer: &mut Watched<W>) -> Result<u8, RunFault>
@@ -46,7 +49,7 @@ pub fn run<R: Read, W: Write>(
     ensures input { reader.new.failed ≡ is_input_fault result }
     ensures output { writer.new.failed ≡ is_output_fault result }
 {
-    match read_input(alloc, reader) {
+    match read_input(alloc, reader, MOST_READ) {
         Ok(input) => answer(alloc, input.as_slice(), writer),
         Err(fault) => Err(fault),
     }

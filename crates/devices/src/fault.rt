@@ -1,16 +1,16 @@
-//! Why a run ended without its whole text.
+//! Why a run ended without its whole answer.
 use thiserror::Error;
 
-/// A run's failure.
+/// A run's failure. Its text is one word, for a program to put behind its name.
 #[derive(Clone, Copy, Debug, PartialEq, Eq, Error)]
 pub enum RunFault {
     /// A read failed.
-    #[error("tsumego-show: input")]
+    #[error("input")]
     Input,
     /// A write failed or took no byte.
-    #[error("tsumego-show: output")]
+    #[error("output")]
     Output,
     /// Memory was refused.
-    #[error("tsumego-show: memory")]
+    #[error("memory")]
     Memory,
 }

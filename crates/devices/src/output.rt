@@ -1,13 +1,13 @@
 //! Writes bytes by single writes.
 ghost use Rattle.std.specs.Prelude.{◌≡◌, ◌≢◌, IfErr, false};
-ghost use Rattle.tsumego.specs.Lines.{WritesText};
-ghost use Rattle.tsumego.specs.Writing.{is_output_fault};
+ghost use Rattle.devices.specs.Writing.{WritesText};
+ghost use Rattle.devices.specs.Faults.{is_output_fault};
 
 use crate::fault::RunFault;
 use crate::watched::Watched;
 use std::io::Write;
 
-/// Writes all of `bytes`, or fails after a beginning of them.
+/// Writes all of `bytes`. `Output` comes exactly where a write failed or took no byte, after a beginning of them.
 pub fn write_bytes<W: Write>(writer: &mut Watched<W>, bytes: &[u8]) -> Result<(), RunFault>
     requires { writer.old.failed ≡ false }
     ensures written { WritesText bytes.now result (W.contents writer.old.device) (W.contents writer.new.device) }
