@@ -1,12 +1,16 @@
 //! Colourings kept by their differences, on rows of five points worked out by hand.
 
+ghost use Rattle.std.specs.Prelude.{◌≡◌};
+
 use super::tests::board_of;
 use super::{Board, Differences};
 use std::alloc::Global;
 use tt_sgf::{NoMemory, Size};
 
-/// A row of five points, in which each stone reaches empty.
-fn row(size: Size, text: &[u8]) -> Board {
+/// A board that a row shows, in which each stone reaches empty.
+fn row(size: Size, text: &[u8]) -> Board
+    ensures { result.size ≡ size }
+{
     match board_of(size, text) {
         Ok(board) => board,
         Err(_) => Board::empty(size),
@@ -14,45 +18,53 @@ fn row(size: Size, text: &[u8]) -> Board {
 }
 
 /// The rows' colourings, kept by how they differ from a base.
-fn kept(alloc: Global, base: &Board, rows: &[Board]) -> Result<Differences, NoMemory> {
+fn kept(alloc: Global, base: &Board, rows: &[&[u8]]) -> Result<Differences, NoMemory> {
+    let size = base.size();
     let mut kept = Differences::new(alloc);
-    for row in rows {
-        kept.add(base, row)?;
+    for text in rows {
+        kept.add(base, &row(size, text))?;
     }
     Ok(kept)
 }
 
-/// Whether they hold exactly these rows' colourings, out of two lists of rows: those that are to be held, and others.
-fn holds_exactly(kept: &Differences, base: &Board, held: &[Board], others: &[Board]) -> bool {
-    let mut exact = kept.all_in(base, held) && kept.none_in(base, others);
-    for k in 0..held.len() {
-        exact = exact && !kept.none_in(base, &held[k..k + 1]);
+/// Whether no other colouring is held than these rows', and each of them is.
+fn holds_exactly(kept: &Differences, base: &Board, rows: &[&[u8]]) -> bool {
+    let size = base.size();
+    let mut exact = true;
+    for text in rows {
+        exact = exact && !kept.none_in(base, &[row(size, text)]);
     }
-    exact
+    match *rows {
+        [first] => exact && kept.all_in(base, &[row(size, first)]),
+        [first, second] => exact && kept.all_in(base, &[row(size, first), row(size, second)]),
+        _ => false,
+    }
 }
 
 #[test]
 fn colourings_are_held(rt: HostRuntime) -> Result<(), NoMemory> {
     let size = Size::new(5, 1).expect(&rt, "a size");
     let base = row(size, b".BW..");
-    let (first, second) = (row(size, b"B.W.."), row(size, b"BB..W"));
-    let held = [first.copy(), second.copy()];
-    let others = [base.copy(), row(size, b"....."), row(size, b"B.W.B")];
+    let rows = [b"B.W..".as_slice(), b"BB..W".as_slice()];
     let none = Differences::new(rt.alloc());
-    assert!(&rt; none.all_in(&base, &[]) && none.none_in(&base, &others));
-    let mut both = kept(rt.alloc(), &base, &held)?;
-    assert!(&rt; holds_exactly(&both, &base, &held, &others));
+    assert!(&rt; none.all_in(&base, &[]) && none.none_in(&base, &[base.copy()]));
+    let mut both = kept(rt.alloc(), &base, &rows)?;
+    assert!(&rt; holds_exactly(&both, &base, &rows));
     assert!(&rt;
-        !both.all_in(&base, &held[..1])
-            && !both.all_in(&base, &held[1..])
-            && !both.all_in(&base, &[])
+        !both.all_in(&base, &[row(size, b"B.W..")]) && !both.all_in(&base, &[row(size, b"BB..W")])
     );
-    both.add(&base, &first)?;
+    assert!(&rt;
+        both.none_in(
+            &base,
+            &[base.copy(), row(size, b"....."), row(size, b"B.W.B")]
+        )
+    );
+    both.add(&base, &row(size, b"B.W.."))?;
     both.shrink_to_fit();
-    assert!(&rt; holds_exactly(&both, &base, &held, &others));
-    assert!(&rt; holds_exactly(&both.try_clone(rt.alloc())?, &base, &held, &others));
+    assert!(&rt; holds_exactly(&both, &base, &rows));
+    assert!(&rt; holds_exactly(&both.try_clone(rt.alloc())?, &base, &rows));
     both.add(&base, &base)?;
-    assert!(&rt; !both.none_in(&base, &others) && both.none_in(&base, &others[1..]));
+    assert!(&rt; !both.none_in(&base, &[base.copy()]));
     Ok(())
 }
 
@@ -60,23 +72,15 @@ fn colourings_are_held(rt: HostRuntime) -> Result<(), NoMemory> {
 fn colourings_are_appended(rt: HostRuntime) -> Result<(), NoMemory> {
     let size = Size::new(5, 1).expect(&rt, "a size");
     let (base, child) = (row(size, b".BW.."), row(size, b".B.B."));
-    let below = [row(size, b"W..B."), child.copy(), row(size, b"W...W")];
-    let own = [row(size, b"W...W"), row(size, b"B....")];
-    let others = [base.copy(), row(size, b".....")];
-    let of_child = kept(rt.alloc(), &child, &below)?;
-    let mut all = kept(rt.alloc(), &base, &own)?;
-    all.append(&base, &of_child, &child, &[])?;
-    let wanted = [own[0].copy(), own[1].copy(), below[0].copy(), child.copy()];
-    assert!(&rt; holds_exactly(&all, &base, &wanted, &others));
+    let below = kept(rt.alloc(), &child, &[b"W..B.", b".B.B.", b"W...W"])?;
+    let mut all = kept(rt.alloc(), &base, &[b"W...W", b"W..B."])?;
+    all.append(&base, &below, &child, &[child.copy()])?;
+    assert!(&rt; holds_exactly(&all, &base, &[b"W...W", b"W..B."]));
+    all.append(&base, &below, &child, &[])?;
+    let wanted = [row(size, b"W...W"), row(size, b"W..B."), child.copy()];
+    assert!(&rt; all.all_in(&base, &wanted) && !all.none_in(&base, &[child.copy()]));
     let mut most = Differences::new(rt.alloc());
-    most.append(&base, &of_child, &child, &[child.copy()])?;
-    assert!(&rt;
-        holds_exactly(
-            &most,
-            &base,
-            &[below[0].copy(), below[2].copy()],
-            &[base.copy(), child]
-        )
-    );
+    most.append(&base, &below, &child, &[row(size, b"W..B.")])?;
+    assert!(&rt; holds_exactly(&most, &base, &[b".B.B.", b"W...W"]));
     Ok(())
 }

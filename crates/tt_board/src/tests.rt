@@ -1,5 +1,7 @@
 //! Boards and moves with their outcomes, as an independent program worked them out from the rules.
 
+ghost use Rattle.std.specs.Prelude.{◌≡◌, IfOk};
+
 use super::{Board, Colour, Lifeless, Occupied};
 use tt_sgf::{PointSet, Size};
 
@@ -17,7 +19,9 @@ fn holders(size: Size, text: &[u8], letter: u8) -> PointSet {
 }
 
 /// The board that a row shows by `B`, `W` and `.`, where each stone reaches empty.
-pub(crate) fn board_of(size: Size, text: &[u8]) -> Result<Board, Lifeless> {
+pub(crate) fn board_of(size: Size, text: &[u8]) -> Result<Board, Lifeless>
+    ensures { IfOk result (λ b. b.size ≡ size) }
+{
     Board::empty(size).set_up(
         &holders(size, text, b'B'),
         &holders(size, text, b'W'),
