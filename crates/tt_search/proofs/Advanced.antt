@@ -24,16 +24,18 @@ use Rattle.tt_search.proofs.Steady.{steady_undecided}
 use Rattle.tt_search.proofs.Steps.{search_expanded, search_closed}
 
 module _ (at : Stand) (limits : Limits) where
-  -- growths keep what is true of every search
+  -- a growth keeps what is true of every search
   growth_with : (old new : Stage) → IsSearch at limits old → IsUndecided old.tree → IsGrowth at old new → IsSearch at limits new
   growth_with old new h u (inl g) = search_expanded at limits old new h u g.0 g.1
   growth_with old new h u (inr g) = search_closed at limits old new h u g.0 g.1
 
+  -- so do growths that keep the numbers, one after the other
   pub steady_with : (n : ℕ) (old new : Stage) → IsSearch at limits old → IsUndecided old.tree → Steady n at old new → IsSearch at limits new
   steady_with zero old new h u e = subst (IsSearch at limits) (sym e) h
   steady_with (suc n) old new h u (before, k, g, same) =
       growth_with before new (steady_with n old before h u k) (steady_undecided n at old before k u) g
 
+  -- so does what changes neither the tree nor what the budget has left
   same_with : (old new : Stage) → IsSearch at limits old → new.tree ≡ old.tree → old.left ≡ new.left → IsSearch at limits new
   same_with old new h e l = subst (λ t. IsSearch at limits (stage t new.left)) (sym e) (subst (λ n. IsSearch at limits (stage old.tree n)) l h)
 
@@ -51,6 +53,7 @@ module _ (at : Stand) (limits : Limits) where
   steps_with pace old step new h u k =
       taken_with k.before step new (steady_with k.how_many old k.before h u k.steady) (steady_undecided k.how_many at old k.before k.steady u) k.taken k.counted
 
+  -- a growth of a search is one within its limits
   grows_with : (old new : Stage) → IsSearch at limits old → IsUndecided old.tree → IsGrowth at old new → Grows limits at.frame at.state old.tree new.tree
   grows_with old new h u (inl g) =
       (u, inl (omega (arith, g.0, h.counted), subst (λ r. IsExpansion r at.frame at.state old.tree new.tree) h.room g.1))
@@ -79,6 +82,7 @@ module _ (line : Standing) (room : ℕ) (limits : Limits) where
   step_of old (Stuck Depth) new h u k l = ((u, omega (arith, k.0, h.counted), k.1 ∙ h.room), ap (searched line limits) k.2)
   step_of old (Stuck Memory) new h u k l = (u, ap (searched line limits) k)
 
+  -- no growths leave the tree as it was
   no_steps : (n : ℕ) (old new : Stage) → n ≡ 0 → Steady n (stand line room) old new → new.tree ≡ old.tree
   no_steps n old new e h = ap (λ (x : Stage). x.tree) (subst (λ n. Steady n (stand line room) old new) e h)
 
@@ -96,17 +100,20 @@ module _ (line : Standing) (room : ℕ) (limits : Limits) where
         (steady_undecided k.how_many (stand line room) old k.before k.steady u) k.taken k.counted;
   }
 
+-- a decided search is advanced by the answer that it is settled, and stays as it was
 pub advanced_settled : (pace : Pace) (old : Searched) → (IsUndecided old.tree → ⊥) → IsAdvanced pace old Settled old
 advanced_settled pace old h = record { before = old; reached = reached_itself old; one = λ e. refl; taken = (h, refl) }
 
 -- ---- runs
 
+-- growths may go on where others ended
 grown_joined : (n : ℕ) (limits : Limits) (f : Frame) (s : State) (a b c : PartialTree) → GrownFrom limits f s a b → GrownBy n limits f s b c → GrownFrom limits f s a c
 grown_joined zero limits f s a b c h e = subst (GrownFrom limits f s a) (sym e) h
 grown_joined (suc n) limits f s a b c h (before, k, g) =
     let joined = grown_joined n limits f s a b before h k in
     (suc joined.0, (before, joined.1, g))
 
+-- what is reached from a search that is reached is reached
 pub reached_joined : (a b c : Searched) → IsReached a b → IsReached b c → IsReached a c
 reached_joined a b c h k = record {
   problem = same_problem a b c h.problem k.problem;
@@ -115,40 +122,49 @@ reached_joined a b c h k = record {
       grown_joined grown.0 a.limits a.line.frame a.line.state a.tree b.tree c.tree h.grown grown.1;
 }
 
+-- a growth leaves less to do
 grows_falls : (limits : Limits) (f : Frame) (s : State) (old new : PartialTree) → Grows limits f s old new
     → open_leaves new + (limits.budget - count new) * 363 < open_leaves old + (limits.budget - count old) * 363
 grows_falls limits f s old new (u, inl g) = falls_expanded limits.depth limits.budget f s old new u g.0 g.1
 grows_falls limits f s old new (u, inr g) = falls_closed limits.depth limits.budget f s old new u g
 
+-- growths together leave no more to do
 grown_falls : (n : ℕ) (limits : Limits) (f : Frame) (s : State) (old new : PartialTree) → GrownBy n limits f s old new
     → open_leaves new + (limits.budget - count new) * 363 ≤ open_leaves old + (limits.budget - count old) * 363
 grown_falls zero limits f s old new e = omega (arith, ap open_leaves e, ap count e)
 grown_falls (suc n) limits f s old new (before, k, g) = omega (arith, grown_falls n limits f s old before k, grows_falls limits f s before new g)
 
+-- a search that is reached has no more left to do
 reached_falls : (old new : Searched) → IsReached old new → left_to_do new ≤ left_to_do old
 reached_falls old new h = subst (λ l. open_leaves new.tree + (l.budget - count new.tree) * 363 ≤ left_to_do old) (sym h.problem.limits)
     (grown_falls h.grown.0 old.limits old.line.frame old.line.state old.tree new.tree h.grown.1)
 
+-- two searches on the problem of one search are on the same problem
 since_before : (old before new : Searched) → IsSameProblem old before → IsSameProblem old new → IsSameProblem before new
 since_before old before new h k = record { line = k.line ∙ sym h.line; limits = k.limits ∙ sym h.limits }
 
+-- steps whose last one expands or closes leave less to do
 pub advanced_falls : (pace : Pace) (old new : Searched) (step : Step) → IsAdvanced pace old step new → IsSameProblem old new → (step ≡ Expanded) ⊎ (step ≡ Closed) → left_to_do new < left_to_do old
 advanced_falls pace old new step h same changed =
     omega (arith, reached_falls old h.before h.reached, falls h.before new step h.taken (since_before old h.before new h.reached.problem same) changed)
 
+-- from a search that is reached, steps whose last one expands or closes lead to one that is reached
 pub advanced_reached : (pace : Pace) (start old new : Searched) (step : Step) → IsReached start old → IsAdvanced pace old step new → IsSameProblem old new → (step ≡ Expanded)
     ⊎ (step ≡ Closed) → IsReached start new
 advanced_reached pace start old new step r h same changed =
     reached_more start h.before new step (reached_joined start old h.before r h.reached) (since_before old h.before new h.reached.problem same) h.taken changed
 
+-- so do steps whose last one finds the search settled
 pub settled_reached : (pace : Pace) (start old new : Searched) → IsReached start old → IsAdvanced pace old Settled new → IsReached start new
 settled_reached pace start old new r h = subst (IsReached start) (sym h.taken.1) (reached_joined start old h.before r h.reached)
 
+-- a stuck step says that its search is stuck for the reason, and leaves it as it was
 stuck_of : (reason : Reason) (old new : Searched) → StepOf old (Stuck reason) new → IsStuckFor reason old × (new ≡ old)
 stuck_of Budget old new h = h
 stuck_of Depth old new h = h
 stuck_of Memory old new h = (tt, h.1)
 
+-- steps that end stuck lead to a search that is reached and stuck for the reason
 pub stuck_reached : (pace : Pace) (start old new : Searched) (reason : Reason) → IsReached start old → IsAdvanced pace old (Stuck reason) new → IsReached start new × IsStuckFor reason new
 stuck_reached pace start old new reason r h =
     let stuck = stuck_of reason h.before new h.taken in

@@ -18,9 +18,11 @@ pub record AreDual (x y : ℕ) : Type 0 where
   pub from_infinite : y ≡ infinite → x ≡ 0
   pub from_zero : y ≡ 0 → x ≡ infinite
 
+-- dual numbers may change places
 turned : {x y : ℕ} → AreDual x y → AreDual y x
 turned h = record { zero_infinite = h.from_zero; infinite_zero = h.from_infinite; from_infinite = h.infinite_zero; from_zero = h.zero_infinite }
 
+-- a pair of dual numbers more leaves the least of the ones dual to the capped sum of the others
 dual_more : (x y : ℕ) (xs ys : List ℕ) → x ≤ infinite → AreDual x y → AreDual (least xs) (capped_sum ys) → AreDual (least (x ∷ xs)) (capped_sum (y ∷ ys))
 dual_more x y xs ys l h k = record {
   zero_infinite = λ e. grind (arith, common_steps, least_le xs, h.zero_infinite, k.zero_infinite);
@@ -29,6 +31,7 @@ dual_more x y xs ys l h k = record {
   from_zero = λ e. grind (arith, common_steps, least_le xs, h.from_zero, k.from_zero);
 }
 
+-- a decided leaf gives dual numbers to a side and its opponent
 dual_settled : (goal side : Side) → AreDual (decided_number goal side) (decided_number (opponent goal) side)
 dual_settled Attacker Attacker = record { zero_infinite = λ e. refl; infinite_zero = λ e. omega arith; from_infinite = λ e. refl; from_zero = λ e. omega arith }
 dual_settled Attacker Defender = record { zero_infinite = λ e. omega arith; infinite_zero = λ e. refl; from_infinite = λ e. omega arith; from_zero = λ e. refl }
@@ -46,12 +49,13 @@ mutual
   dual Defender (expanded Attacker turns children) = turned (dual_row Attacker children)
   dual Defender (expanded Defender turns children) = dual_row Defender children
 
+  -- so are the least of one side's numbers of the children and the capped sum of the other side's
   dual_row : (goal : Side) (children : Children) → AreDual (least (numbers goal children)) (capped_sum (numbers (opponent goal) children))
   dual_row goal no_more = record { zero_infinite = λ e. omega arith; infinite_zero = λ e. refl; from_infinite = λ e. omega arith; from_zero = λ e. refl }
   dual_row goal (more tree children) = dual_more (number goal tree) (number (opponent goal) tree) (numbers goal children) (numbers (opponent goal) children) (number_le goal tree)
       (dual goal tree) (dual_row goal children)
 
--- the number at the place of a least number is that number
+-- a least number that is not the first one is the least of the others
 place_least : (v x : ℕ) (xs : List ℕ) → v ≡ least (x ∷ xs) → (x == v) ≡ false → v ≡ least xs
 place_least v x xs e h = grind (arith, common_steps)
 
@@ -59,6 +63,7 @@ place_least v x xs e h = grind (arith, common_steps)
 abbrev pub IsChildAt : Side → ℕ → List PartialTree → PartialTree → Type 0
 IsChildAt goal v trees d = (place v (numbers goal (children_of trees)) < length trees) × (number goal (get_or trees (place v (numbers goal (children_of trees))) d) ≡ v)
 
+-- the first child with the least number is the first of all, or else it is found among the others
 child_here : (goal : Side) (v : ℕ) (tree : PartialTree) (trees : List PartialTree) (d : PartialTree) → v ≡ least (numbers goal (children_of (tree ∷ trees)))
     → (v ≡ least (numbers goal (children_of trees)) → IsChildAt goal v trees d) → (b : Bool) → (number goal tree == v) ≡ b → IsChildAt goal v (tree ∷ trees) d
 child_here goal v tree trees d e below true q = rw q (omega arith, grind (arith, common_steps))
@@ -66,22 +71,27 @@ child_here goal v tree trees d e below false q =
     let k = below (place_least v (number goal tree) (numbers goal (children_of trees)) e q) in
     rw (q, add-one) (omega (arith, k.0), k.1)
 
+-- where the least number isn't infinite, the child at its place has it
 pub child_at : (goal : Side) (v : ℕ) (trees : List PartialTree) (d : PartialTree) → v ≢ infinite → v ≡ least (numbers goal (children_of trees)) → IsChildAt goal v trees d
 child_at goal v [] d h e = absurd (h e)
 child_at goal v (tree ∷ trees) d h e = child_here goal v tree trees d e (child_at goal v trees d h) (number goal tree == v) refl
 
+-- an expanded node's number for the side to move is the least of its children's
 own_number : (mover : Side) (turns : List Turn) (children : Children) → number mover (expanded mover turns children) ≡ least (numbers mover children)
 own_number Attacker turns children = refl
 own_number Defender turns children = refl
 
+-- and its number for the other side is their capped sum
 other_number : (mover : Side) (turns : List Turn) (children : Children) → number (opponent mover) (expanded mover turns children) ≡ capped_sum (numbers (opponent mover) children)
 other_number Attacker turns children = refl
 other_number Defender turns children = refl
 
+-- at an undecided tree no side's number is 0
 undecided_number : (tree : PartialTree) → IsUndecided tree → (goal : Side) → number goal tree ≢ 0
 undecided_number tree u Attacker = u.0
 undecided_number tree u Defender = u.1
 
+-- a tree is undecided where neither a side's number nor its opponent's is 0
 undecided_from : (tree : PartialTree) (goal : Side) → number goal tree ≢ 0 → number (opponent goal) tree ≢ 0 → IsUndecided tree
 undecided_from tree Attacker a b = (a, b)
 undecided_from tree Defender a b = (b, a)

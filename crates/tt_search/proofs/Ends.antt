@@ -10,6 +10,7 @@ use Rattle.tt_search.specs.Within.{StaysWithin}
 use Rattle.tt_search.specs.Searched.{Searched, IsProofOf}
 use Rattle.tt_search.proofs.Strategies.{low}
 
+-- a proof at the search's line, for the side it is settled for and with the tree's strategy, is the search's
 pub is_proof : {E : Type 0} (search : Searched) (side : Side) (r : Result Proven E) → number side search.tree ≡ 0
     → StaysWithin search.line.frame.size search.limits.depth search.tree → IfOk r (λ p. StandsAt p search.line.frame search.line.state) → IfOk r (λ p. p.side ≡ side)
     → IfOk r (λ p. p.tree ≡ strategy_for side search.tree) → IfOk r (λ p. IsProofOf search p)

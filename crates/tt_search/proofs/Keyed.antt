@@ -12,6 +12,7 @@ use Rattle.tt_proof.specs.Wins.{Wins}
 use Rattle.tt_search.specs.Stores.{IsAnswer}
 use Rattle.tt_search.specs.Usable.{IsUsable}
 
+-- positions with the same key have boards of the same size
 same_size : (f g : Frame) (s t : State) → key_of f s ≡ key_of g t → f.size ≡ g.size
 unfolding key_of
 same_size f g s t e = ap (λ (k : Key). k.size) e

@@ -22,12 +22,14 @@ use Rattle.tt_search.specs.declared.limits.Step.{Step}
 use Rattle.tt_search.specs.declared.limits.Step.TheVariants.{Expanded, Closed, Settled, Stuck}
 use Rattle.tt_search.specs.declared.limits.Reason.TheVariants.{Budget, Depth, Memory}
 
+-- there are as many turns as children
 pub lengths : (f : Frame) (s : State) (turns : List Turn) (trees : List PartialTree) → ArePartialTrees f s turns (children_of trees) → length turns ≡ length trees
 lengths f s [] [] h = refl
 lengths f s [] (tree ∷ trees) h = absurd h
 lengths f s (t ∷ turns) [] h = absurd h
 lengths f s (t ∷ turns) (tree ∷ trees) h = ap suc (lengths f s turns trees h.1)
 
+-- the child at a place is a partial tree of the state after the turn there
 pub partial_at : (f : Frame) (s : State) (turns : List Turn) (trees : List PartialTree) (i : ℕ) (t : Turn) (d : PartialTree) → ArePartialTrees f s turns (children_of trees)
     → i < length trees → IsPartialTree f (after f s (get_or turns i t)) (get_or trees i d)
 partial_at f s [] [] i t d h l = absurd (omega arith)
@@ -36,6 +38,7 @@ partial_at f s (u ∷ turns) [] i t d h l = absurd h
 partial_at f s (u ∷ turns) (tree ∷ trees) zero t d h l = h.0
 partial_at f s (u ∷ turns) (tree ∷ trees) (suc i) t d h l = partial_at f s turns trees i t d h.1 (omega arith)
 
+-- below a child's place, the state at the most-proving leaf is that of the child
 state_at : (f : Frame) (s : State) (turns : List Turn) (trees : List PartialTree) (i : ℕ) (t : Turn) (d : PartialTree) → length turns ≡ length trees → i < length trees
     → state_below f s turns i (children_of trees) ≡ most_proving_state f (after f s (get_or turns i t)) (get_or trees i d)
 state_at f s [] [] i t d h l = absurd (omega arith)
@@ -44,27 +47,32 @@ state_at f s (u ∷ turns) [] i t d h l = absurd (omega arith)
 state_at f s (u ∷ turns) (tree ∷ trees) zero t d h l = refl
 state_at f s (u ∷ turns) (tree ∷ trees) (suc i) t d h l = state_at f s turns trees i t d (omega arith) (omega arith)
 
+-- and the leaf's depth is that of the child
 depth_at : (trees : List PartialTree) (i : ℕ) (d : PartialTree) → i < length trees → depth_below i (children_of trees) ≡ most_proving_depth (get_or trees i d)
 depth_at [] i d l = absurd (omega arith)
 depth_at (tree ∷ trees) zero d l = refl
 depth_at (tree ∷ trees) (suc i) d l = depth_at trees i d (omega arith)
 
+-- a tree put at the leaf below a child's place is put at the child's most-proving leaf
 put_at : (leaf : PartialTree) (trees : List PartialTree) (i : ℕ) (d : PartialTree) → i < length trees
     → with_below leaf i (children_of trees) ≡ children_of (set trees i (with_most_proving leaf (get_or trees i d)))
 put_at leaf [] i d l = absurd (omega arith)
 put_at leaf (tree ∷ trees) zero d l = refl
 put_at leaf (tree ∷ trees) (suc i) d l = ap (more tree) (put_at leaf trees i d (omega arith))
 
+-- a list with its own item put at a place is the list
 set_at : (trees : List PartialTree) (i : ℕ) (d : PartialTree) → i < length trees → set trees i (get_or trees i d) ≡ trees
 set_at [] i d l = refl
 set_at (tree ∷ trees) zero d l = refl
 set_at (tree ∷ trees) (suc i) d l = ap (λ ts. tree ∷ ts) (set_at trees i d (omega arith))
 
+-- where all children stay within a room, so does the child at a place
 pub stays_at : (size : Size) (room : ℕ) (trees : List PartialTree) (i : ℕ) (d : PartialTree) → AllStayWithin size room (children_of trees) → i < length trees → StaysWithin size room (get_or trees i d)
 stays_at size room [] i d f l = absurd (omega arith)
 stays_at size room (tree ∷ trees) zero d f l = f.0
 stays_at size room (tree ∷ trees) (suc i) d f l = stays_at size room trees i d f.1 (omega arith)
 
+-- a child weighs less than all children
 pub weight_at : (trees : List PartialTree) (i : ℕ) (d : PartialTree) → i < length trees → weight (get_or trees i d) < weight_all (children_of trees)
 weight_at [] i d l = absurd (omega arith)
 weight_at (tree ∷ trees) zero d l = omega arith
@@ -85,20 +93,25 @@ module _ (at : Stand) (mover : Side) (turns : List Turn) (trees : List PartialTr
   abbrev pub below : Stand
   below = stand_after at (get_or turns place t)
 
+  -- the node's most-proving leaf has the state of the child's
   leaf_state_is : most_proving_state at.frame at.state node ≡ most_proving_state below.frame below.state child
   leaf_state_is = state_at at.frame at.state turns trees place t d same there
 
+  -- it lies one turn deeper than the child's
   leaf_depth_is : most_proving_depth node ≡ most_proving_depth child + 1
   leaf_depth_is = ap (λ n. n + 1) (depth_at trees place d there)
 
+  -- a tree put at the node's most-proving leaf is put at the child's
   put_is : (leaf : PartialTree) → with_most_proving leaf node ≡ expanded mover turns (children_of (set trees place (with_most_proving leaf child)))
   put_is leaf = ap (expanded mover turns) (put_at leaf trees place d there)
 
+  -- where the child stays the same, so does the node
   same_is : (new : PartialTree) → new ≡ child → expanded mover turns (children_of (set trees place new)) ≡ node
   same_is new e =
       ap (λ n. expanded mover turns (children_of (set trees place n))) e
       ∙ ap (λ ts. expanded mover turns (children_of ts)) (set_at trees place d there)
 
+  -- a step at the best child is one at the node
   pub lifted : (left : ℕ) (step : Step) (new : PartialTree) → 0 < at.room → Taken below (stage child left) step new
       → Taken at (stage node left) step (expanded mover turns (children_of (set trees place new)))
   lifted left Expanded new pos h = (
@@ -130,6 +143,7 @@ pub record IsFound (at : Stand) (turns : List Turn) (trees : List PartialTree) (
   pub legal : (t : Turn) → t ≡ get_or turns p t → Contains (legal_turns at.frame at.state) t
   pub child : (t : Turn) (child : PartialTree) → t ≡ get_or turns p t → child ≡ get_or trees p child → MayGrow (stand_after at t) child
 
+-- so it is at the place of the best child of a node that may grow
 pub found : (at : Stand) (mover : Side) (turns : List Turn) (trees : List PartialTree) → MayGrow at (expanded mover turns (children_of trees)) → IsFound at turns trees (best mover (children_of trees))
 found at mover turns trees m = record {
   in_turns = in_turns;

@@ -29,25 +29,30 @@ abbrev mutual
   open_in (more tree children) = open_leaves tree + open_in children
 
 mutual
+  -- a tree at the most-proving leaf of an undecided one takes that fresh leaf away and adds its own
   open_grown : (leaf tree : PartialTree) → IsUndecided tree → open_leaves (with_most_proving leaf tree) + 1 ≡ open_leaves tree + open_leaves leaf
   open_grown leaf fresh u = omega arith
   open_grown leaf (won side) u = absurd (won_decided side u)
   open_grown leaf (closed side tree) u = absurd (closed_decided side tree u)
   open_grown leaf (expanded mover turns children) u = open_in_grown leaf (best mover children) children (best_undecided mover turns children u)
 
+  -- so it does below an undecided child
   open_in_grown : (leaf : PartialTree) (i : ℕ) (children : Children) → UndecidedAt i children → open_in (with_below leaf i children) + 1 ≡ open_in children + open_leaves leaf
   open_in_grown leaf i no_more u = absurd u
   open_in_grown leaf zero (more tree children) u = omega (arith, open_grown leaf tree u)
   open_in_grown leaf (suc i) (more tree children) u = omega (arith, open_in_grown leaf i children u)
 
+-- a leaf that says who has won is at most one fresh leaf
 leaf_for_open : (o : Option Side) → open_leaves (leaf_for o) ≤ 1
 leaf_for_open None = omega arith
 leaf_for_open (Some side) = omega arith
 
+-- there are at most as many fresh ones among the new leaves as turns
 new_leaves_open : (f : Frame) (s : State) (turns : List Turn) → open_in (new_leaves f s turns) ≤ length turns
 new_leaves_open f s [] = omega arith
 new_leaves_open f s (t ∷ turns) = omega (arith, leaf_for_open (winner_of f (after f s t)), new_leaves_open f s turns)
 
+-- an expansion below the budget leaves less to do
 pub falls_expanded : (room budget : ℕ) (f : Frame) (s : State) (old new : PartialTree) → IsUndecided old → count old < budget → IsExpansion room f s old new
     → open_leaves new + (budget - count new) * 363 < open_leaves old + (budget - count old) * 363
 falls_expanded room budget f s old new u b e =
@@ -64,15 +69,17 @@ falls_expanded room budget f s old new u b e =
       length-legal_turns f leaf,
     )
 
+-- so does a closing
 pub falls_closed : (room budget : ℕ) (f : Frame) (s : State) (old new : PartialTree) → IsUndecided old → IsClosing room f s old new
     → open_leaves new + (budget - count new) * 363 < open_leaves old + (budget - count old) * 363
 falls_closed room budget f s old new u (side, strategy, w, o, d, e) =
     omega (arith, ap open_leaves e, ap count e, open_grown (closed side strategy) old u, count_grown (closed side strategy) old u)
 
--- what is left to do, a step makes less
+-- what a search has left to do: its fresh leaves, and 363 for each expansion that the budget has left
 abbrev pub left_to_do : Searched → ℕ
 left_to_do search = open_leaves search.tree + (search.limits.budget - count search.tree) * 363
 
+-- a step that expands or closes leaves less to do
 pub falls : (old new : Searched) (step : Step) → StepOf old step new → IsSameProblem old new → (step ≡ Expanded) ⊎ (step ≡ Closed) → left_to_do new < left_to_do old
 falls old new step k same (inl e) =
     let h = subst (λ s. StepOf old s new) e k in
@@ -83,10 +90,12 @@ falls old new step k same (inr e) =
     subst (λ l. open_leaves new.tree + (l.budget - count new.tree) * 363 < left_to_do old) (sym same.limits)
     (falls_closed old.limits.depth old.limits.budget old.line.frame old.line.state old.tree new.tree h.0 h.1)
 
+-- a step that expands or closes is a growth
 grows_by : (old new : Searched) (step : Step) → StepOf old step new → (step ≡ Expanded) ⊎ (step ≡ Closed) → Grows old.limits old.line.frame old.line.state old.tree new.tree
 grows_by old new step k (inl e) = let h = subst (λ s. StepOf old s new) e k in (h.0, inl (h.1, h.2))
 grows_by old new step k (inr e) = let h = subst (λ s. StepOf old s new) e k in (h.0, inr h.1)
 
+-- after growths, a step that expands or closes is one more
 pub grows : (start old new : Searched) (step : Step) → IsSameProblem start old → GrownFrom start.limits start.line.frame start.line.state start.tree old.tree → StepOf old step new
     → (step ≡ Expanded) ⊎ (step ≡ Closed) → GrownFrom start.limits start.line.frame start.line.state start.tree new.tree
 grows start old new step same g k h = (
@@ -99,12 +108,15 @@ grows start old new step same g k h = (
   ),
 )
 
+-- what is on the same problem as one on a search's problem is on that search's
 pub same_problem : (a b c : Searched) → IsSameProblem a b → IsSameProblem b c → IsSameProblem a c
 same_problem a b c h k = record { line = k.line ∙ h.line; limits = k.limits ∙ h.limits }
 
+-- a search is reached from itself
 pub reached_itself : (start : Searched) → IsReached start start
 reached_itself start = record { problem = record { line = refl; limits = refl }; grown = (0, refl) }
 
+-- from a search that is reached, a step that expands or closes leads to one that is reached
 pub reached_more : (start old new : Searched) (step : Step) → IsReached start old → IsSameProblem old new → StepOf old step new → (step ≡ Expanded) ⊎ (step ≡ Closed) → IsReached start new
 reached_more start old new step r same k h = record {
   problem = same_problem start old new r.problem same;

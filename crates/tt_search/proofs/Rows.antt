@@ -7,6 +7,7 @@ use Rattle.tt_search.specs.PartialTree.{PartialTree, fresh, won, closed, expande
 use Rattle.tt_search.specs.Numbers.{infinite, cap, least, has_infinite, capped_sum, decided_number, combined, number, numbers}
 use Rattle.tt_search.specs.MostProving.{first_least, best}
 
+-- the least of numbers is at most infinite
 pub least_le : (xs : List ℕ) → least xs ≤ infinite
 least_le [] = omega arith
 least_le (x ∷ xs) = omega (arith, least_le xs)
@@ -19,42 +20,52 @@ sum_from total xs = if has_infinite xs then infinite else min (total + sum xs) c
 abbrev pub best_from : ℕ → ℕ → ℕ → List ℕ → ℕ
 best_from p v i xs = if ltb (least xs) v then i + first_least xs else p
 
+-- adding a finite number to the sum so far, up to the cap, leaves what comes out in the end
 pub sum_from_finite : (total x : ℕ) (xs : List ℕ) → x ≢ infinite → sum_from (min (total + x) cap) xs ≡ sum_from total (x ∷ xs)
 sum_from_finite total x xs h = grind (arith, common_steps)
 
+-- with an infinite number, infinite comes out
 pub sum_from_infinite : (total : ℕ) (xs : List ℕ) → sum_from total (infinite ∷ xs) ≡ infinite
 sum_from_infinite total xs = refl
 
+-- a number below the least so far is the new least, and its place the new place
 pub best_from_less : (p v i x : ℕ) (xs : List ℕ) → x < v → best_from i x (i + 1) xs ≡ best_from p v i (x ∷ xs)
 best_from_less p v i x xs h = grind (arith, common_steps)
 
+-- another number leaves the least so far and its place
 pub best_from_same : (p v i x : ℕ) (xs : List ℕ) → v ≤ x → best_from p v (i + 1) xs ≡ best_from p v i (x ∷ xs)
 best_from_same p v i x xs h = grind (arith, common_steps)
 
+-- the number of a decided leaf is at most infinite
 decided_number_le : (goal side : Side) → decided_number goal side ≤ infinite
 decided_number_le Attacker Attacker = omega arith
 decided_number_le Attacker Defender = omega arith
 decided_number_le Defender Attacker = omega arith
 decided_number_le Defender Defender = omega arith
 
+-- so is a capped sum
 capped_sum_le : (xs : List ℕ) → capped_sum xs ≤ infinite
 capped_sum_le xs = grind (arith, common_steps)
 
+-- so is what the numbers of the children give
 combine_le : (goal mover : Side) (xs : List ℕ) → combined goal mover xs ≤ infinite
 combine_le Attacker Attacker xs = least_le xs
 combine_le Attacker Defender xs = capped_sum_le xs
 combine_le Defender Attacker xs = capped_sum_le xs
 combine_le Defender Defender xs = least_le xs
 
+-- so is the number of any tree
 pub number_le : (goal : Side) (tree : PartialTree) → number goal tree ≤ infinite
 number_le goal fresh = omega arith
 number_le goal (won side) = decided_number_le goal side
 number_le goal (closed side tree) = decided_number_le goal side
 number_le goal (expanded mover turns children) = combine_le goal mover (numbers goal children)
 
+-- looked at from the first one on, numbers that begin with one at most infinite give the first least
 best_from_infinite : (x : ℕ) (xs : List ℕ) → x ≤ infinite → best_from 0 infinite 0 (x ∷ xs) ≡ first_least (x ∷ xs)
 best_from_infinite x xs h = grind (arith, common_steps, least_le xs)
 
+-- looked at from the first one on, the children's numbers give the best child
 pub best_from_start : (mover : Side) (children : Children) → best_from 0 infinite 0 (numbers mover children) ≡ best mover children
 best_from_start mover no_more = refl
 best_from_start mover (more tree children) = best_from_infinite (number mover tree) (numbers mover children) (number_le mover tree)

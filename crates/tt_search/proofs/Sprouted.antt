@@ -64,9 +64,11 @@ leaf_offerable walk after step new e nobody is h =
 -- the new node stands among those that have grown, and its edge says so
 module _ (x y : Expansion) (place rank : ℕ) (d e : Edge) (tree : PartialTree) (there : IsFreshAt place x.edges.items) (whole : HasItsNodes x)
     (r : rank ≡ grown_in (take place x.edges.items)) (mark : mark_of e ≡ Grown) (edges : y.edges.items ≡ set x.edges.items place e) (row : y.grown.items ≡ insert x.grown.items rank tree) where
+  -- the rank is a place to insert at
   in_nodes : rank ≤ length x.grown.items
   in_nodes = omega (arith, r, rank_within x.edges.items place, whole)
 
+  -- the child at the place becomes the new tree, and all else stays
   pub put : y.mover ≡ x.mover → turn_of e ≡ turn_of (get_or x.edges.items place d) → IsPut place x tree y
   put mover turn = record {
     mover = mover;
@@ -77,11 +79,13 @@ module _ (x y : Expansion) (place rank : ℕ) (d e : Edge) (tree : PartialTree) 
         ∙ sprouted x.edges.items x.grown.items place e tree there mark (omega (arith, rank_within x.edges.items place, whole)));
   }
 
+  -- a list with one inserted is one longer
   length_insert : (ts : List PartialTree) (n : ℕ) → n ≤ length ts → length (insert ts n tree) ≡ suc (length ts)
   length_insert ts zero l = refl
   length_insert [] (suc n) l = absurd (omega (arith, l))
   length_insert (t ∷ ts) (suc n) l = ap suc (length_insert ts n (omega (arith, l)))
 
+  -- each child that has grown still has its node
   pub put_whole : HasItsNodes y
   put_whole =
       ap grown_in edges
@@ -99,24 +103,31 @@ fresh_at (e ∷ es) (suc i) d l m = fresh_at es i d (omega arith) m
 
 -- an edge that the walk stands behind
 module _ (es : List Edge) (ts : List PartialTree) (i : ℕ) (e : Edge) (l : i < length es) (is : e ≡ get_or es i e) where
+  -- the child's tree is its edge's, of the nodes from its rank on
   child_is : child_at i es ts ≡ tree_of (mark_of e) (drop (grown_in (take i es)) ts)
   child_is = tree_at_place es ts i e fresh l ∙ ap (λ x. tree_of (mark_of x) (drop (grown_in (take i es)) ts)) (sym is)
 
+  -- a child whose edge says so is fresh
   pub fresh_here : mark_of e ≡ Fresh → IsFreshAt i es
   fresh_here m = fresh_at es i e l (ap mark_of (sym is) ∙ m)
 
+  -- and its tree is
   pub fresh_child : mark_of e ≡ Fresh → child_at i es ts ≡ fresh
   fresh_child m = child_is ∙ ap (λ k. tree_of k (drop (grown_in (take i es)) ts)) m
 
+  -- the edge of an undecided child doesn't say that a side has won
   pub not_won : IsUndecided (child_at i es ts) → (m : Mark) → mark_of e ≡ m → (s : Side) → m ≡ Won s → ⊥
   not_won u m h s w = won_decided s (subst IsUndecided (child_is ∙ ap (λ k. tree_of k (drop (grown_in (take i es)) ts)) (h ∙ w)) u)
 
+  -- a child whose edge says that it has grown has its node
   pub grown_here : grown_in es ≡ length ts → mark_of e ≡ Grown → grown_in (take i es) < length ts
   grown_here w m = omega (arith, rank_there es i e l (ap mark_of (sym is) ∙ m), w)
 
+  -- its tree is the node at its rank
   pub grown_child : grown_in es ≡ length ts → mark_of e ≡ Grown → child_at i es ts ≡ get_or ts (grown_in (take i es)) fresh
   grown_child w m = grown_at_place es ts i e fresh l (ap mark_of (sym is) ∙ m) w
 
+  -- a new node at its rank is a new tree at its place
   pub grown_put : grown_in es ≡ length ts → mark_of e ≡ Grown → (tree : PartialTree) → trees_of es (set ts (grown_in (take i es)) tree) ≡ set (trees_of es ts) i tree
   grown_put w m tree = grown_on es ts i e tree l (ap mark_of (sym is) ∙ m) (grown_here w m)
 
@@ -129,9 +140,11 @@ any_default (t ∷ ts) (suc i) a b l = any_default ts i a b (omega arith)
 -- the node of a child that has grown
 module _ (x : Expansion) (i rank : ℕ) (e : Edge) (node : PartialTree) (l : i < length x.edges.items) (is : e ≡ get_or x.edges.items i e) (whole : HasItsNodes x)
     (mark : Grown ≡ mark_of e) (r : rank ≡ grown_in (take i x.edges.items)) where
+  -- the rank is that of a node
   pub rank_within_nodes : rank < length x.grown.items
   rank_within_nodes = omega (arith, r, grown_here x.edges.items x.grown.items i e l is whole (sym mark))
 
+  -- the child's tree is the node
   pub child_node : node ≡ get_or x.grown.items rank node → child_of x i ≡ node
   child_node n =
       grown_child x.edges.items x.grown.items i e l is whole (sym mark)

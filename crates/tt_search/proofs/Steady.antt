@@ -28,9 +28,11 @@ pub steady_numbers : (n : ℕ) (at : Stand) (old new : Stage) → Steady n at ol
 steady_numbers zero at old new e goal = ap (λ (x : Stage). number goal x.tree) e
 steady_numbers (suc n) at old new (before, h, g, same) goal = same goal ∙ steady_numbers n at old before h goal
 
+-- a tree with the numbers of an undecided one is undecided
 pub undecided_same : (a b : PartialTree) → HaveSameNumbers a b → IsUndecided a → IsUndecided b
 undecided_same a b h u = (λ e. u.0 (sym (h Attacker) ∙ e), λ e. u.1 (sym (h Defender) ∙ e))
 
+-- so all of them together keep a tree undecided
 pub steady_undecided : (n : ℕ) (at : Stand) (old new : Stage) → Steady n at old new → IsUndecided old.tree → IsUndecided new.tree
 steady_undecided n at old new h = undecided_same old.tree new.tree (steady_numbers n at old new h)
 
@@ -95,6 +97,7 @@ pub record IsUnderWay (pace : Pace) (at : Stand) (old now : Stage) : Type 0 wher
   pub one : pace ≡ OneStep → rounds ≡ 0
   pub may_grow : MayGrow at now.tree
 
+-- before the first round they are under way
 pub under_way : (pace : Pace) (at : Stand) (old : Stage) → MayGrow at old.tree → IsUnderWay pace at old old
 under_way pace at old m = record { rounds = 0; steady = refl; one = λ e. refl; may_grow = m }
 
@@ -110,6 +113,7 @@ module _ (pace : Pace) (at : Stand) (old now : Stage) (step : Step) (new : Stage
     counted = steps.counted;
   }
 
+  -- a round that changes its tree ends with a growth
   growth_of : (step ≡ Expanded) ⊎ (step ≡ Closed) → IsGrowth at steps.before new
   growth_of = changed_grows at steps.before step new steps.taken steps.counted
 
@@ -142,6 +146,7 @@ module _ (pace : Pace) (at : Stand) (old now : Stage) (step : Step) (new : Stage
         may_grow = steady_keeps (suc steps.how_many) at now new steady h.may_grow;
       }
 
+-- trees with one proof number and one disproof number have the same numbers
 pub same_numbers : (a b : PartialTree) → number Attacker b ≡ number Attacker a → number Defender b ≡ number Defender a → HaveSameNumbers a b
 same_numbers a b p d Attacker = p
 same_numbers a b p d Defender = d
@@ -158,12 +163,14 @@ same_stand a b l r = ap (λ x. stand x a.room) l ∙ ap (stand b.line) r
 
 -- ---- from the best child to its node
 
+-- a tree with the same number in the place of a child leaves the children's numbers as they were
 numbers_set : (goal : Side) (trees : List PartialTree) (i : ℕ) (d tree : PartialTree) → number goal tree ≡ number goal (get_or trees i d)
     → numbers goal (children_of (set trees i tree)) ≡ numbers goal (children_of trees)
 numbers_set goal [] i d tree h = refl
 numbers_set goal (t ∷ trees) zero d tree h = ap (λ n. n ∷ numbers goal (children_of trees)) h
 numbers_set goal (t ∷ trees) (suc i) d tree h = ap (λ ns. number goal t ∷ ns) (numbers_set goal trees i d tree h)
 
+-- of two items put at one place, the second one stays
 set_twice : (trees : List PartialTree) (i : ℕ) (a b : PartialTree) → set (set trees i a) i b ≡ set trees i b
 set_twice [] i a b = refl
 set_twice (t ∷ trees) zero a b = refl
@@ -181,17 +188,21 @@ module _ (at : Stand) (mover : Side) (turns : List Turn) (trees : List PartialTr
   abbrev below : Stand
   below = stand_after at t
 
+  -- with its own best child, the node is as it was
   with_child_is : with_child child ≡ expanded mover turns (children_of trees)
   with_child_is =
       ap (λ c. expanded mover turns (children_of (set trees p c))) child_is
       ∙ ap (λ ts. expanded mover turns (children_of ts)) (set-get_or trees p child)
 
+  -- a tree with the best child's numbers leaves the children's numbers as they were
   row_is : (tree : PartialTree) → HaveSameNumbers child tree → (goal : Side) → numbers goal (children_of (set trees p tree)) ≡ numbers goal (children_of trees)
   row_is tree h goal = numbers_set goal trees p child tree (h goal ∙ ap (number goal) child_is)
 
+  -- and it is the best child again
   best_is : (tree : PartialTree) → HaveSameNumbers child tree → best mover (children_of (set trees p tree)) ≡ p
   best_is tree h = ap first_least (row_is tree h mover) ∙ sym place_is
 
+  -- two trees with the best child's numbers give the node the same numbers
   numbers_are : (a b : PartialTree) → HaveSameNumbers child a → HaveSameNumbers child b → HaveSameNumbers (with_child a) (with_child b)
   numbers_are a b h k goal = ap (combined goal mover) (row_is b k goal ∙ sym (row_is a h goal))
 
@@ -211,6 +222,7 @@ module _ (at : Stand) (mover : Side) (turns : List Turn) (trees : List PartialTr
       let there : best mover (children_of row) < length row = omega (arith, best_is now.tree h, in_trees, length-set trees p now.tree) in
       lifted_at now (best mover (children_of row)) (best_is now.tree h) step new (lifted at mover turns row t child (same ∙ sym (length-set trees p now.tree)) there now.left step new pos)
 
+  -- a growth of the best child is one of the node
   growth_lifted : (old new : Stage) → HaveSameNumbers child old.tree → IsGrowth below old new → IsGrowth at (with_stage old) (with_stage new)
   growth_lifted old new h (inl k) = inl (k.0, (step_lifted old h Expanded new.tree (some_left old.left new.left k.0, k.1)).1)
   growth_lifted old new h (inr k) = inr (k.0, step_lifted old h Closed new.tree k.1)

@@ -21,7 +21,7 @@ module _ (at : Stand) (limits : Limits) (old new : Stage) (is : IsSearch at limi
   abbrev leaf : State
   leaf = most_proving_state at.frame at.state old.tree
 
-  -- an expansion takes one off what the budget has left, and adds one to what is expanded
+  -- an expansion that takes one off what the budget has left keeps what is true of every search
   pub search_expanded : old.left ≡ new.left + 1 → IsExpansion at.room at.frame at.state old.tree new.tree → IsSearch at limits new
   search_expanded l e = record {
     room = is.room;
@@ -37,7 +37,7 @@ module _ (at : Stand) (limits : Limits) (old new : Stage) (is : IsSearch at limi
         (suc (is.grown.0), (old.tree, is.grown.1, (u, inl (omega (arith, is.counted, l), expands))));
   }
 
-  -- a closing takes nothing
+  -- so does a closing that takes nothing off
   pub search_closed : old.left ≡ new.left → IsClosing at.room at.frame at.state old.tree new.tree → IsSearch at limits new
   search_closed l (side, strategy, w, o, d, e) = record {
     room = is.room;
@@ -91,6 +91,7 @@ mutual
   stays_in_more size room more' (closed side strategy) l h = (omega (arith, l, h.0), h.1)
   stays_in_more size room more' (expanded mover turns children) l h = (omega (arith, l, h.0), all_stay_in_more size (room - 1) (more' - 1) children (omega (arith, l)) h.1)
 
+  -- so do all children
   all_stay_in_more : (size : Size) (room more' : ℕ) (children : Children) → room ≤ more' → AllStayWithin size room children → AllStayWithin size more' children
   all_stay_in_more size room more' no_more l h = tt
   all_stay_in_more size room more' (more tree children) l h = (stays_in_more size room more' tree l h.0, all_stay_in_more size room more' children l h.1)
@@ -99,6 +100,7 @@ mutual
 abbrev pub IsOfferable : Standing → PartialTree → Type 0
 IsOfferable line tree = IsPartialTree line.frame line.state tree × StaysWithin line.frame.size 512 tree
 
+-- a tree within a room of at most 512 turns may be offered
 pub offerable : (line : Standing) (room : ℕ) (tree : PartialTree) → room ≤ 512 → IsTreeWithin (stand line room) tree → IsOfferable line tree
 offerable line room tree l h = (h.0, stays_in_more line.frame.size room 512 tree l h.1)
 

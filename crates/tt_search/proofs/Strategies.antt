@@ -20,6 +20,7 @@ use Rattle.tt_search.specs.Settled.{strategy_for, first_settled, picked_or_repli
 
 -- ---- numbers that are 0
 
+-- a leaf that gives a side the number 0 is decided for that side
 same_side : (side other : Side) → decided_number side other ≡ 0 → other ≡ side
 same_side Attacker Attacker e = refl
 same_side Attacker Defender e = absurd (omega arith)
@@ -37,9 +38,11 @@ abbrev pub AreZero : Side → Children → Type 0
 AreZero side no_more = Unit {0}
 AreZero side (more tree children) = (number side tree ≡ 0) × AreZero side children
 
+-- where the lesser of two numbers is 0 and the first one isn't, the second one is
 least_zero : (x y : ℕ) → min x y ≡ 0 → (x == 0) ≡ false → y ≡ 0
 least_zero x y e h = grind (arith, common_steps)
 
+-- the first 0 is the first child's, or else it is found among the others
 zero_by_first : (side : Side) (tree : PartialTree) (children : Children) → least (numbers side (more tree children)) ≡ 0
     → (least (numbers side children) ≡ 0 → IsZeroAt side (place 0 (numbers side children)) children) → (b : Bool) → (number side tree == 0) ≡ b
     → IsZeroAt side (place 0 (numbers side (more tree children))) (more tree children)
@@ -51,12 +54,15 @@ zero_at : (side : Side) (children : Children) → least (numbers side children) 
 zero_at side no_more e = absurd (omega arith)
 zero_at side (more tree children) e = zero_by_first side tree children e (zero_at side children) (number side tree == 0) refl
 
+-- a capped sum of 0 is a sum of 0
 zero_sum : (xs : List ℕ) → capped_sum xs ≡ 0 → sum xs ≡ 0
 zero_sum xs e = grind (arith, common_steps)
 
+-- a sum is the first number and the sum of the others
 sum_more : (x : ℕ) (xs : List ℕ) → sum (x ∷ xs) ≡ x + sum xs
 sum_more x xs = grind (arith, common_steps)
 
+-- where the children's numbers sum up to 0, each of them is 0
 all_zero : (side : Side) (children : Children) → sum (numbers side children) ≡ 0 → AreZero side children
 all_zero side no_more e = tt
 all_zero side (more tree children) e =
@@ -64,18 +70,21 @@ all_zero side (more tree children) e =
 
 -- ---- who is to move
 
+-- where the side to move has the number 0, so is the least of the children's
 own_zero : (side mover : Side) (turns : List Turn) (children : Children) → is_same side mover ≡ true → number side (expanded mover turns children) ≡ 0 → least (numbers side children) ≡ 0
 own_zero Attacker Attacker turns children e z = z
 own_zero Attacker Defender turns children e z = cc
 own_zero Defender Attacker turns children e z = cc
 own_zero Defender Defender turns children e z = z
 
+-- where the other side has it, so is their capped sum
 other_zero : (side mover : Side) (turns : List Turn) (children : Children) → is_same side mover ≡ false → number side (expanded mover turns children) ≡ 0 → capped_sum (numbers side children) ≡ 0
 other_zero Attacker Attacker turns children e z = cc
 other_zero Attacker Defender turns children e z = z
 other_zero Defender Attacker turns children e z = z
 other_zero Defender Defender turns children e z = cc
 
+-- the sides that the test calls the same are one
 same_is_same : (side mover : Side) → is_same side mover ≡ true → mover ≡ side
 same_is_same Attacker Attacker e = refl
 same_is_same Attacker Defender e = cc
@@ -104,6 +113,7 @@ mutual
       (λ e t l. replies_win side f s turns children t p.3 (all_zero side children (zero_sum (numbers side children) (other_zero side mover turns children e z)))
       (subst (IsIn t) (sym p.2) (is_in f s t l)))
 
+  -- so does the pick of a child with the number 0, where the side is to move
   pick_wins : (side : Side) (f : Frame) (s : State) (i : ℕ) (turns : List Turn) (children : Children) → winner_of f s ≡ None → s.to_move ≡ side → AreLegal f s turns
       → ArePartialTrees f s turns children → IsZeroAt side i children → Wins side f (pick_at side i turns children) s
   pick_wins side f s i [] no_more w m l p z = absurd z
@@ -112,6 +122,7 @@ mutual
   pick_wins side f s zero (t ∷ ts) (more tree children) w m l p z = (w, m, l.0, wins side f (after f s t) tree p.0 z)
   pick_wins side f s (suc i) (t ∷ ts) (more tree children) w m l p z = pick_wins side f s i ts children w m l.1 p.1 z
 
+  -- and some reply to each of the turns, where each child's number is 0
   replies_win : (side : Side) (f : Frame) (s : State) (turns : List Turn) (children : Children) (t : Turn) → ArePartialTrees f s turns children → AreZero side children
       → IsIn t turns → WinsBehind side f (replies side turns children) t s
   replies_win side f s [] children t p z in' = absurd in'
@@ -121,6 +132,7 @@ mutual
 
 -- ---- depth
 
+-- where neither the pick nor the replies are deeper than the room, the one that is taken isn't
 depth_either : (b : Bool) (room : ℕ) (first : Strategy) (all : Entries) → depth first ≤ room → depth_of_entries all ≤ room → depth (picked_or_replied b first all) ≤ room
 depth_either true room first all h k = h
 depth_either false room first all h k = k
@@ -136,12 +148,14 @@ mutual
       (pick_low side size room (first_settled side children) turns children h.0 h.1)
       (replies_low side size room turns children h.0 h.1)
 
+  -- nor does the pick, where the children stay within a turn less
   pick_low : (side : Side) (size : Size) (room : ℕ) (i : ℕ) (turns : List Turn) (children : Children) → 0 < room → AllStayWithin size (room - 1) children → depth (pick_at side i turns children) ≤ room
   pick_low side size room i [] children h k = omega arith
   pick_low side size room i (t ∷ ts) no_more h k = omega arith
   pick_low side size room zero (t ∷ ts) (more tree children) h k = omega (arith, h, low side size (room - 1) tree k.0)
   pick_low side size room (suc i) (t ∷ ts) (more tree children) h k = pick_low side size room i ts children h k.1
 
+  -- nor do the replies
   replies_low : (side : Side) (size : Size) (room : ℕ) (turns : List Turn) (children : Children) → 0 < room → AllStayWithin size (room - 1) children
       → depth_of_entries (replies side turns children) ≤ room
   replies_low side size room [] children h k = omega arith
@@ -150,6 +164,7 @@ mutual
 
 -- ---- order
 
+-- where the pick and the replies are in order, the one that is taken is
 ordered_either : (b : Bool) (size : Size) (first : Strategy) (all : Entries) → IsInOrder size first → AreInOrder size 0 all → IsInOrder size (picked_or_replied b first all)
 ordered_either true size first all h k = h
 ordered_either false size first all h k = k
@@ -166,6 +181,7 @@ mutual
       (pick_in_order side f s (room - 1) 0 (first_settled side children) turns children up p.3 h.1)
       (replies_in_order side f s (room - 1) 0 turns children up p.3 h.1)
 
+  -- so is the pick at a place
   pick_in_order : (side : Side) (f : Frame) (s : State) (room from i : ℕ) (turns : List Turn) (children : Children) → RiseFrom f.size from turns
       → ArePartialTrees f s turns children → AllStayWithin f.size room children → IsInOrder f.size (pick_at side i turns children)
   pick_in_order side f s room from i [] children up p h = tt
@@ -174,6 +190,7 @@ mutual
   pick_in_order side f s room from (suc i) (t ∷ ts) (more tree children) up p h =
       pick_in_order side f s room (number_on f.size t + 1) i ts children up.2 p.1 h.1
 
+  -- and so are the replies, from the number on from which the turns rise
   replies_in_order : (side : Side) (f : Frame) (s : State) (room from : ℕ) (turns : List Turn) (children : Children) → RiseFrom f.size from turns
       → ArePartialTrees f s turns children → AllStayWithin f.size room children → AreInOrder f.size from (replies side turns children)
   replies_in_order side f s room from [] children up p h = tt

@@ -28,21 +28,26 @@ pub record IsWayDown (at : Stand) (x : Expansion) (node : PartialTree) (p : ℕ)
   pub steps : (pace : Pace) (left : ℕ) (step : Step) (y : Expansion) (left_after : ℕ) → StepsBelowAt pace (stand_after at t) p x left step y left_after
       → AreStepsAt pace at (stage node left) step (stage (node_of y) left_after)
 
+-- the steps lead to this tree, and leave so much of the budget
 abbrev StepsTo : Pace → Stand → Stage → Step → ℕ → PartialTree → Type 0
 StepsTo pace at old step left made = AreStepsAt pace at old step (stage made left)
 
 module _ (at : Stand) (x : Expansion) (p : ℕ) (place : p ≡ best x.mover (children_of (trees_of x.edges.items x.grown.items))) (m : MayGrow at (node_of x)) where
+  -- what is known of the best child's place is known of p
   found_here : IsFound at (turns_of x.edges.items) (trees_of x.edges.items x.grown.items) p
   found_here =
       subst (IsFound at (turns_of x.edges.items) (trees_of x.edges.items x.grown.items)) (sym place)
       (found at x.mover (turns_of x.edges.items) (trees_of x.edges.items x.grown.items) m)
 
+  -- there is an edge at the place
   in_edges : p < length x.edges.items
   in_edges = omega (arith, found_here.in_turns, length-turns_of x.edges.items)
 
+  -- the child is the tree at the place
   child_is : child_of x p ≡ get_or (trees_of x.edges.items x.grown.items) p (child_of x p)
   child_is = any_default (trees_of x.edges.items x.grown.items) p fresh (child_of x p) found_here.in_trees
 
+  -- the turn of the edge at the place is the turn there
   turn_is : (e : Edge) (t : Turn) → e ≡ get_or x.edges.items p e → t ≡ turn_of e → t ≡ get_or (turns_of x.edges.items) p t
   turn_is e t is h = h ∙ ap turn_of is ∙ sym (turn_at_place x.edges.items p e t in_edges)
 
@@ -57,6 +62,7 @@ module _ (at : Stand) (x : Expansion) (p : ℕ) (place : p ≡ best x.mover (chi
       (lengths at.frame at.state (turns_of x.edges.items) (trees_of x.edges.items x.grown.items) m.partial.3) (turn_is e t is h) child_is found_here.room pace left step
       (stage tree left_after) steps)))
 
+  -- the edge and the turn at the place lead down
   way_here : (e : Edge) (t : Turn) → e ≡ get_or x.edges.items p e → t ≡ turn_of e → IsWayDown at x (node_of x) p t
   way_here e t is h = record {
     legal = (contains-legal_turns at.frame at.state t).0 (found_here.legal t (turn_is e t is h));
@@ -69,12 +75,15 @@ module _ (at : Stand) (x : Expansion) (p : ℕ) (place : p ≡ best x.mover (chi
   here : MayGrow at (node_of x)
   here = subst (MayGrow at) (sym is) m
 
+  -- there is an edge at the place
   pub there : p < length x.edges.items
   there = in_edges at x p place here
 
+  -- there is room for a turn
   pub has_room : 0 < at.room
   has_room = (found_here at x p place here).room
 
+  -- the edge and the turn at the place lead down
   pub way_down : (e : Edge) (t : Turn) → e ≡ get_or x.edges.items p e → t ≡ turn_of e → IsWayDown at x node p t
   way_down e t edge turn = subst (λ n. IsWayDown at x n p t) is (way_here at x p place here e t edge turn)
 
@@ -86,6 +95,7 @@ stand_down t old new down =
 
 -- the way down of a walk from a node
 module _ (walk : Walk) (x : Expansion) (p : ℕ) (node : PartialTree) (t : Turn) (way : IsWayDown (stand_of walk) x node p t) (down : Walk) (gone : IsDown t walk down) where
+  -- the child may grow where the walk stands now
   pub child_may_grow : MayGrow (stand_of down) (child_of x p)
   child_may_grow = subst (λ at. MayGrow at (child_of x p)) (sym (stand_down t walk down gone)) way.may_grow
 

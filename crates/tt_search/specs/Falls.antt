@@ -23,11 +23,13 @@ most-behind (mark.Won side) es ts below h = omega (arith, below ts (omega (arith
 most-behind mark.Grown es [] below h = absurd (omega (arith, h))
 most-behind mark.Grown es (t ∷ ts) below h = omega (arith, below ts (omega (arith, h)))
 
+-- the nodes of the children that have grown weigh no more than all children
 most-weight : (es : List Edge) (ts : List PartialTree) → grown_in es ≡ length ts → most (λ t. weight t + 1) ts ≤ weight_all (children_of (trees_of es ts))
 most-weight [] [] h = omega arith
 most-weight [] (t ∷ ts) h = absurd (omega (arith, h))
 most-weight (e ∷ es) ts h = most-behind (mark_of e) es ts (most-weight es) h
 
+-- each node that a growth holds weighs less than the growth's tree
 pub deep-weight : (g : Growth) → IsWhole g → max (deep-Growth g) 0 ≤ weight (shape g)
 deep-weight Fresh h = omega arith
 deep-weight (Won s) h = omega arith

@@ -27,6 +27,7 @@ abbrev mutual
   stored_children (more tree children) = gcons (stored tree) (stored_children children)
 
 mutual
+  -- a partial tree is known by how it is stored
   pub stored_once : (x y : PartialTree) → stored x ≡ stored y → x ≡ y
   stored_once fresh fresh e = refl
   stored_once fresh (won _) e = cc
@@ -57,6 +58,7 @@ mutual
       let j : ts ≡ us = turns_code.inj ts us k in
       let n : r ≡ s = stored_children_once r s m in cc
 
+  -- and so are children
   pub stored_children_once : (x y : Children) → stored_children x ≡ stored_children y → x ≡ y
   stored_children_once no_more no_more e = refl
   stored_children_once no_more (more _ _) e = cc

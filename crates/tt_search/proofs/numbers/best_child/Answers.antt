@@ -20,15 +20,18 @@ module _ (mover : Side) (es : List Edge) (rest behind : List PartialTree) (i x :
   abbrev row : List PartialTree → List ℕ
   row us = numbers mover (children_of (trees_of (drop (i + 1) es) us))
 
+  -- what is known so far and the child's number and those behind give what the children from the place on give
   here : best_from p v i (x ∷ row behind) ≡ best_from p v i (numbers mover (children_of (trees_of (drop i es) rest)))
   here =
       ap (λ y. best_from p v i (y ∷ row behind)) is
       ∙ ap (λ us. best_from p v i (number mover (tree_of (mark_of (get_or es i first)) rest) ∷ row us)) b
       ∙ sym (at_drop_more (λ xs. best_from p v i (numbers mover (children_of (trees_of xs rest)))) es i first l)
 
+  -- a child with a lesser number is the best one so far
   less : x < v → best_from i x (i + 1) (row behind) ≡ best_from p v i (numbers mover (children_of (trees_of (drop i es) rest)))
   less h = best_from_less p v i x (row behind) h ∙ here
 
+  -- another child leaves the best one so far
   same : v ≤ x → best_from p v (i + 1) (row behind) ≡ best_from p v i (numbers mover (children_of (trees_of (drop i es) rest)))
   same h = best_from_same p v i x (row behind) h ∙ here
 

@@ -14,6 +14,7 @@ use Rattle.tt_search.proofs.numbers.first_settled.Goals as goal
 abbrev first : Edge
 first = record { code = 0 }
 
+-- behind a number that isn't 0, the place of the first 0 is one more than among the others
 place_past : (i x : ℕ) (xs : List ℕ) → x ≢ 0 → i + 1 + place 0 xs ≡ i + place 0 (x ∷ xs)
 place_past i x xs h = grind (arith, common_steps)
 
@@ -23,6 +24,7 @@ module _ (side : Side) (es : List Edge) (rest behind : List PartialTree) (i x : 
   abbrev row : List PartialTree → List ℕ
   row us = numbers side (children_of (trees_of (drop (i + 1) es) us))
 
+  -- the first child that is settled, looked for from this one on, is the first one looked for from the next one on
   past : x ≢ 0 → i + 1 + place 0 (row behind) ≡ i + place 0 (numbers side (children_of (trees_of (drop i es) rest)))
   past h =
       place_past i x (row behind) h
