@@ -12,11 +12,13 @@ use Rattle.tt_proof.specs.CertificateReading.{TreeAt, DeepAt, FaultAt}
 use Rattle.tt_proof.specs.CertificateFaults.{IsFault}
 use Rattle.tt_proof.proofs.TextLemmas.{heads, tails, same_tree, not_deep}
 
+-- what follows one beginning in one text is one
 cancel : (xs a b : List ℕ) → xs ++ a ≡ xs ++ b → a ≡ b
 cancel [] a b e = e
 cancel (x ∷ xs) a b e = cancel xs a b (tails e)
 
 module _ (size : Size) (some : 1 ≤ size.columns) where
+  -- a text that begins with the words of a side tells the side and what follows
   side_apart : (a b : Side) (r q : List ℕ) → side_text a ++ r ≡ side_text b ++ q → (a ≡ b) × (r ≡ q)
   side_apart Attacker Attacker r q e = (refl, cancel (side_text Attacker) r q e)
   side_apart Attacker Defender r q e = absurd (omega (arith, heads e))
@@ -25,13 +27,16 @@ module _ (size : Size) (some : 1 ≤ size.columns) where
 
   -- what is said of the rest is said of the whole
   module _ (bytes rest : List ℕ) (s : Side) (at : bytes ≡ side_text s ++ rest) where
+    -- what follows the words of some side in the bytes is the rest
     rest_of : (side : Side) (q : List ℕ) → bytes ≡ side_text side ++ q → rest ≡ q
     rest_of side q e = (side_apart s side rest q (sym at ∙ e)).1
 
+    -- of a certificate, the rest is the text of its tree
     cert_tree : (side : Side) (u : Strategy) → IsCertificate size bytes side u → TreeAt size 512 u rest []
     cert_tree side u c =
         record { in_order = c.in_order; low = c.low; text = rest_of side (tree_text size u) c.text ∙ sym (append-nil (tree_text size u)) }
 
+    -- where the bytes are too deep, the rest is
     too_deep : IsTooDeep size bytes → DeepAt size 512 rest
     too_deep h = record {
       tree = h.tree;
@@ -42,11 +47,13 @@ module _ (size : Size) (some : 1 ≤ size.columns) where
       text = rest_of h.side (h.beginning ++ h.follows) h.text;
     }
 
+    -- where the rest begins with the text of a tree at most 512 deep, the bytes aren't too deep
     not_too_deep : (u : Strategy) (y : List ℕ) → TreeAt size 512 u rest y → IsTooDeep size bytes → ⊥
     not_too_deep u y h deep =
         let d = too_deep deep in
         not_deep size some u d.tree 512 d.beginning y d.follows h.low (sym h.text ∙ d.text) d.ends
 
+    -- where nothing follows that tree, the bytes are its certificate, and aren't too deep
     pub cert_read : (u : Strategy) (y : List ℕ) → TreeAt size 512 u rest y → y ≡ [] → IsCertificate size bytes s u × (IsTooDeep size bytes → ⊥)
     cert_read u y h e = (
       record {
@@ -57,10 +64,12 @@ module _ (size : Size) (some : 1 ≤ size.columns) where
       not_too_deep u y h,
     )
 
+    -- where something follows it, they are no certificate
     pub cert_more : (u : Strategy) (y : List ℕ) → TreeAt size 512 u rest y → (y ≡ [] → ⊥) → IsFault size bytes Syntax
     cert_more u y h n =
         (λ side v c. let k = cert_tree side v c in n ((same_tree size some u v y [] (sym h.text ∙ k.text)).1), not_too_deep u y h)
 
+    -- a fault of the rest is one of the bytes
     pub cert_fault : (f : CertFault) → FaultAt size 512 rest f → IsFault size bytes f
     cert_fault Syntax h = (λ side u c. h.0 u [] (cert_tree side u c), λ deep. h.1 (too_deep deep))
     cert_fault TooDeep h = record {
@@ -74,10 +83,12 @@ module _ (size : Size) (some : 1 ≤ size.columns) where
     }
     cert_fault NoMemory h = tt
 
+  -- bytes that begin with the words of no side are no certificate
   pub no_side : (bytes : List ℕ) → ((y : List ℕ) → bytes ≡ side_text Attacker ++ y → ⊥) →
       ((y : List ℕ) → bytes ≡ side_text Defender ++ y → ⊥) → IsFault size bytes Syntax
   no_side bytes a d = (λ side u c. no side (tree_text size u) c.text, λ h. no h.side (h.beginning ++ h.follows) h.text)
     where
+      -- they don't begin with this side's words
       no : (side : Side) (y : List ℕ) → bytes ≡ side_text side ++ y → ⊥
       no Attacker y e = a y e
       no Defender y e = d y e

@@ -19,9 +19,11 @@ pub record Walked (size : Size) (d : ℕ) (start : List ℕ) (least : ℕ) (now 
   pub deep : EntriesDeepAt size d least now → EntriesDeepAt size d 0 start
   pub deep_only : EntriesDeepAt size d 0 start → EntriesDeepAt size d least now
 
+-- before the first entry, the place that was reached is the start
 pub walked_none : (size : Size) (d : ℕ) (r : List ℕ) → Walked size d r 0 r []
 walked_none size d r = record { read = λ es y h. h; only = λ es y h. (es, h); deep = λ h. h; deep_only = λ h. h }
 
+-- a fault at the place that was reached is one at the start
 pub walked_fault : (size : Size) (d least : ℕ) (start now : List ℕ) (list : List (Turn × Tree)) (f : CertFault) →
     Walked size d start least now list → EntriesFaultAt size d least now f → EntriesFaultAt size d 0 start f
 walked_fault size d least start now list Syntax w h =
@@ -29,6 +31,7 @@ walked_fault size d least start now list Syntax w h =
 walked_fault size d least start now list TooDeep w h = w.deep h
 walked_fault size d least start now list NoMemory w h = tt
 
+-- where `;` stands at the place that was reached, the entries are those of the list
 pub walked_end : (size : Size) (d least : ℕ) (start now rest : List ℕ) (list : List (Turn × Tree)) → Walked size d start least now list →
     now ≡ 59 ∷ rest → EntriesAt size d 0 (entries_of_trees list) start rest
 walked_end size d least start now rest list w e =
@@ -39,6 +42,7 @@ module _ (size : Size) (some : 1 ≤ size.columns) where
   -- ---- one entry: its turn is t, its tree u, and `after` follows
   module _ (e least : ℕ) (now mid after : List ℕ) (t : Turn) (u : Strategy) (on : IsOnBoard size t)
       (rises : least ≤ number_on size t) (at : now ≡ turn_text size t ++ mid) (tree : TreeAt size e u mid after) where
+    -- entries behind this one are entries with this one in front
     step_read : (es : Entries) (y : List ℕ) → EntriesAt size (suc e) (number_on size t + 1) es after y →
         EntriesAt size (suc e) least (entry t u es) now y
     step_read es y h = record {
@@ -49,6 +53,7 @@ module _ (size : Size) (some : 1 ≤ size.columns) where
           ∙ ap (λ w. turn_text size t ++ w) (sym (append_assoc (tree_text size u) (entries_text size es) y));
     }
 
+    -- and where entries are read here, some are read behind this one
     step_only : (es : Entries) (y : List ℕ) → EntriesAt size (suc e) least es now y →
         (es' : Entries) × EntriesAt size (suc e) (number_on size t + 1) es' after y
     step_only none y h = absurd (turn_not_end size some t (heads (sym at ∙ h.text)))
@@ -66,6 +71,7 @@ module _ (size : Size) (some : 1 ≤ size.columns) where
           },
         )
 
+    -- a turn that is too deep behind this entry is too deep here
     step_deep : EntriesDeepAt size (suc e) (number_on size t + 1) after → EntriesDeepAt size (suc e) least now
     step_deep h = record {
       entries = entry t u h.entries;
@@ -78,9 +84,11 @@ module _ (size : Size) (some : 1 ≤ size.columns) where
           ∙ ap (λ w. turn_text size t ++ w) (sym (append_assoc (tree_text size u) h.beginning h.follows));
     }
 
+    -- and a turn that is too deep here is so behind this entry
     step_deep_only : EntriesDeepAt size (suc e) least now → EntriesDeepAt size (suc e) (number_on size t + 1) after
     step_deep_only h = go h.entries h.beginning h.follows h.in_order h.ends h.text
       where
+        -- so with each list of entries
         go : (es : Entries) (x y : List ℕ) → AreInOrder size least es → EndsBehind size es (suc e) x → now ≡ x ++ y →
             EntriesDeepAt size (suc e) (number_on size t + 1) after
         go none x y i h g = absurd h
@@ -100,6 +108,7 @@ module _ (size : Size) (some : 1 ≤ size.columns) where
               text = r.1;
             }
 
+  -- where one more entry was read, the reading behind it decides that of the start
   pub walked_more : (e least : ℕ) (start now mid after : List ℕ) (list : List (Turn × Tree)) (t : Turn) (tree : Tree) →
       Walked size (suc e) start least now list → IsOnBoard size t → least ≤ number_on size t →
       now ≡ turn_text size t ++ mid → TreeAt size e (strategy_of tree) mid after →
@@ -115,14 +124,18 @@ module _ (size : Size) (some : 1 ≤ size.columns) where
       }
 
   -- ---- faults at an entry
+
+  -- where neither `;` nor a turn stands, there are no entries
   pub no_entry : (d least : ℕ) (now : List ℕ) → ((y : List ℕ) → now ≡ 59 ∷ y → ⊥) → NoTurn size now → EntriesFaultAt size d least now Syntax
   no_entry d least now end turn =
       (λ es y h. no es y h.in_order h.text, λ h. deep h.entries d h.beginning h.follows h.in_order h.ends h.text)
     where
+      -- no entries are read
       no : (es : Entries) (y : List ℕ) → AreInOrder size least es → now ≡ entries_text size es ++ y → ⊥
       no none y i g = end y g
       no (entry t u es) y i g = turn t ((tree_text size u ++ entries_text size es) ++ y) i.1 g
 
+      -- nor is a turn too deep
       deep : (es : Entries) (k : ℕ) (x y : List ℕ) → AreInOrder size least es → EndsBehind size es k x → now ≡ x ++ y → ⊥
       deep none k x y i h g = h
       deep (entry t u es) zero x y i (inl h) g = turn t y i.1 (g ∙ ap (λ z. z ++ y) h)
@@ -130,21 +143,25 @@ module _ (size : Size) (some : 1 ≤ size.columns) where
       deep (entry t u es) (suc k) x y i (inl h) g = turn t (h.0 ++ y) i.1 (g ∙ ap (λ z. z ++ y) h.1.0)
       deep (entry t u es) (suc k) x y i (inr h) g = turn t ((tree_text size u ++ h.0) ++ y) i.1 (g ∙ ap (λ z. z ++ y) h.1.0)
 
+  -- where a turn stands whose number is below the least, there are no entries
   pub not_rising : (d least : ℕ) (now mid : List ℕ) (t : Turn) → now ≡ turn_text size t ++ mid → number_on size t < least →
       EntriesFaultAt size d least now Syntax
   not_rising d least now mid t at falls =
       (λ es y h. no es y h.in_order h.text, λ h. deep h.entries d h.beginning h.follows h.in_order h.ends h.text)
     where
+      -- no turn whose number is not below the least stands there
       clash : (v : Turn) (y : List ℕ) → least ≤ number_on size v → now ≡ turn_text size v ++ y → ⊥
       clash v y low g =
           let g' = sym at ∙ g in
           let same = ap (number_on size) (same_turn size some t v (heads g') (heads (tails g'))) in
           omega (arith, low, same, falls)
 
+      -- no entries are read
       no : (es : Entries) (y : List ℕ) → AreInOrder size least es → now ≡ entries_text size es ++ y → ⊥
       no none y i g = turn_not_end size some t (heads (sym at ∙ g))
       no (entry v u es) y i g = clash v ((tree_text size u ++ entries_text size es) ++ y) i.0 g
 
+      -- nor is a turn too deep
       deep : (es : Entries) (k : ℕ) (x y : List ℕ) → AreInOrder size least es → EndsBehind size es k x → now ≡ x ++ y → ⊥
       deep none k x y i h g = h
       deep (entry v u es) zero x y i (inl h) g = clash v y i.0 (g ∙ ap (λ z. z ++ y) h)
@@ -152,6 +169,7 @@ module _ (size : Size) (some : 1 ≤ size.columns) where
       deep (entry v u es) (suc k) x y i (inl h) g = clash v (h.0 ++ y) i.0 (g ∙ ap (λ z. z ++ y) h.1.0)
       deep (entry v u es) (suc k) x y i (inr h) g = clash v ((tree_text size u ++ h.0) ++ y) i.0 (g ∙ ap (λ z. z ++ y) h.1.0)
 
+  -- where no turn has room, a turn in order is too deep
   pub entry_deep : (least : ℕ) (now mid : List ℕ) (t : Turn) → IsOnBoard size t → least ≤ number_on size t →
       now ≡ turn_text size t ++ mid → EntriesDeepAt size 0 least now
   entry_deep least now mid t on rises at = record {
@@ -163,6 +181,7 @@ module _ (size : Size) (some : 1 ≤ size.columns) where
     text = at;
   }
 
+  -- a fault of the tree behind a turn in order is one of the entries
   pub entry_fault : (e least : ℕ) (now mid : List ℕ) (t : Turn) (f : CertFault) → IsOnBoard size t → least ≤ number_on size t →
       now ≡ turn_text size t ++ mid → FaultAt size e mid f → EntriesFaultAt size (suc e) least now f
   entry_fault e least now mid t NoMemory on rises at h = tt
@@ -177,6 +196,7 @@ module _ (size : Size) (some : 1 ≤ size.columns) where
   entry_fault e least now mid t Syntax on rises at h =
       (λ es y k. no es y k.in_order k.low k.text, λ k. deep k.entries k.beginning k.follows k.in_order k.ends k.text)
     where
+      -- no entries are read
       no : (es : Entries) (y : List ℕ) → AreInOrder size least es → depth_of_entries es ≤ suc e → now ≡ entries_text size es ++ y → ⊥
       no none y i low g = turn_not_end size some t (heads (sym at ∙ g))
       no (entry v u es) y i low g =
@@ -200,15 +220,18 @@ module _ (size : Size) (some : 1 ≤ size.columns) where
             text = g ∙ ap (λ w. w ++ y) r.1.1.1 ∙ append_assoc r.0 r.1.0 y;
           })
 
+      -- one number is at most another one, or above it
       compare_le : (m n : ℕ) → (m ≤ n) ⊎ (n < m)
       compare_le zero n = inl (omega arith)
       compare_le (suc m) zero = inr (omega arith)
       compare_le (suc m) (suc n) = up (compare_le m n)
         where
+          -- and so with one more on both sides
           up : (m ≤ n) ⊎ (n < m) → (suc m ≤ suc n) ⊎ (suc n < suc m)
           up (inl x) = inl (omega (arith, x))
           up (inr x) = inr (omega (arith, x))
 
+      -- nor is a turn too deep
       deep : (es : Entries) (x y : List ℕ) → AreInOrder size least es → EndsBehind size es (suc e) x → now ≡ x ++ y → ⊥
       deep none x y i k g = k
       deep (entry v u es) x y i (inl k) g =

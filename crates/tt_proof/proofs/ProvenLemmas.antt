@@ -14,25 +14,29 @@ use Rattle.tt_proof.specs.Strategy.{done, pick, reply, entries_of, depth_of_entr
 use Rattle.tt_proof.proofs.WinsLemmas.{reply_wins}
 use Rattle.tt_proof.proofs.ListLemmas.{IsIn, in_of_contains, contains_of_in}
 
+-- where the side has won, playing nothing more wins
 pub won_done : (side : Side) (f f' : Frame) (s s' : State) → f' ≡ f → s' ≡ s → winner_of f s ≡ Some side → IsWon side f' s' done
 won_done side f f' s s' same_f same_s e =
     rw (same_f, same_s) record { wins = e; low = omega arith; in_order = tt }
 
+-- a legal turn lies on the board
 legal_on_board : (f : Frame) (s : State) (t : Turn) → IsLegal f s t → IsOnBoard f.size t
 legal_on_board f s (Play p) l = l.1
 legal_on_board f s Pass l = tt
 
+-- where a turn is legal, nobody has won
 legal_nobody : (f : Frame) (s : State) (t : Turn) → IsLegal f s t → winner_of f s ≡ None
 legal_nobody f s (Play p) l = l.0
 legal_nobody f s Pass l = l
 
--- what the child's tree has at the state after the turn
+-- a child's tree that is won wins for the side after the turn
 child_won : (f : Frame) (s : State) (side : Side) (t : Turn) (p : Proven) → IsChild f s side t p →
     IsWon p.side p.frame p.state p.tree → IsWon side f (after f s t) p.tree
 child_won f s side t p h w =
     subst (λ x. IsWon side f x p.tree) h.stands.1
     (subst (λ x. IsWon side x p.state p.tree) h.stands.0 (subst (λ x. IsWon x p.frame p.state p.tree) h.same_side w))
 
+-- a legal turn and then its child's tree win for the side to move
 pub won_pick : (f f' : Frame) (s s' : State) (t : Turn) (p : Proven) → f' ≡ f → s' ≡ s →
     IsLegal f s t → IsChild f s s.to_move t p → IsWon p.side p.frame p.state p.tree → IsWon p.side f' s' (pick t p.tree)
 won_pick f f' s s' t p same_f same_s l h w =
@@ -45,6 +49,7 @@ won_pick f f' s s' t p same_f same_s l h w =
       in_order = (legal_on_board f s t l, c.in_order);
     }
 
+-- a side is its opponent's opponent
 opponent_twice : (a : Side) → a ≡ opponent (opponent a)
 opponent_twice Attacker = refl
 opponent_twice Defender = refl
@@ -59,10 +64,12 @@ abbrev RisesFrom : Frame → ℕ → List Turn → Type 0
 RisesFrom f least [] = Unit {0}
 RisesFrom f least (t ∷ ts) = (least ≤ number_on f.size t) × RisesFrom f (number_on f.size t + 1) ts
 
+-- the number that a strategy gives a turn is the turn's
 same_number : (f : Frame) (t : Turn) → number_on f.size t ≡ turn_number f t
 same_number f (Play p) = refl
 same_number f Pass = refl
 
+-- turns that rise do so from any number on that the first is no less than
 rises_from : (f : Frame) (least : ℕ) (ts : List Turn) → IsRising f ts →
     ((d : Turn) → 0 < length ts → least ≤ turn_number f (slice_index_or ts 0 d)) → RisesFrom f least ts
 rises_from f least [] up low = tt
@@ -73,15 +80,18 @@ rises_from f least (t ∷ ts) up low = (
 )
 
 module _ (f : Frame) (s : State) where
+  -- each child's tree that is won wins after its turn
   children_win : (es : List (Turn × Proven)) → AreChildren f s es → AllWon es →
       LegalWin (opponent s.to_move) f s (entries_of (trees_of es))
   children_win [] h w = tt
   children_win (e ∷ es) h w = (λ l. (child_won f s (opponent s.to_move) e.0 e.1 h.0 w.0).wins, children_win es h.1 w.1)
 
+  -- replies with children's trees are at most 512 deep
   children_low : (es : List (Turn × Proven)) → AreChildren f s es → depth_of_entries (entries_of (trees_of es)) ≤ 512
   children_low [] h = omega arith
   children_low (e ∷ es) h = let low = h.0.low in omega (arith, low, children_low es h.1)
 
+  -- they are in order where the turns are legal and rise
   children_in_order : (least : ℕ) (es : List (Turn × Proven)) → AreChildren f s es → AllWon es →
       RisesFrom f least (turns_of es) → ((t : Turn) → IsIn (turns_of es) t → IsLegal f s t) →
       AreInOrder f.size least (entries_of (trees_of es))
@@ -93,11 +103,13 @@ module _ (f : Frame) (s : State) where
     children_in_order (number_on f.size e.0 + 1) es h.1 w.1 r.1 (λ t i. l t (inr i)),
   )
 
+  -- each child's turn has an entry
   has_entry : (es : List (Turn × Proven)) (t : Turn) → IsIn (turns_of es) t → HasEntry (entries_of (trees_of es)) t
   has_entry [] t h = h
   has_entry (e ∷ es) t (inl h) = inl h
   has_entry (e ∷ es) t (inr h) = inr (has_entry es t h)
 
+  -- a reply with a won child for each legal turn wins for the side that is not to move
   pub won_reply : (f' : Frame) (s' : State) (side : Side) (es : List (Turn × Proven)) → f' ≡ f → s' ≡ s →
       side ≡ opponent s.to_move → winner_of f s ≡ None → turns_of es ≡ legal_turns f s → AreChildren f s es → AllWon es →
       IsWon side f' s' (reply (entries_of (trees_of es)))
@@ -116,15 +128,18 @@ module _ (f : Frame) (s : State) where
         in_order = order;
       }
 
+-- one more won child leaves all of them won
 pub all_won_push : (es : List (Turn × Proven)) (e : Turn × Proven) → AllWon es →
     IsWon e.1.side e.1.frame e.1.state e.1.tree → AllWon (es ++ e ∷ [])
 all_won_push [] e h w = (w, tt)
 all_won_push (x ∷ es) e h w = (h.0, all_won_push es e h.1 w)
 
+-- one more child has one more tree
 pub trees_of_push : (es : List (Turn × Proven)) (e : Turn × Proven) → trees_of (es ++ e ∷ []) ≡ trees_of es ++ ((e.0, e.1.tree) ∷ [])
 trees_of_push [] e = refl
 trees_of_push (x ∷ es) e = ap (λ r. (x.0, x.1.tree) ∷ r) (trees_of_push es e)
 
+-- a turn that strategies take to lie on the board is on it
 pub on_board : (f : Frame) (t : Turn) → IsOnBoard f.size t → OnBoard f t
 on_board f (Play p) h = h
 on_board f Pass h = tt

@@ -10,6 +10,7 @@ use Rattle.tt_proof.specs.CertificateReading.{TreeAt, DeepAt, EntriesAt, Entries
 use Rattle.tt_proof.proofs.TextLemmas.{heads, tails}
 
 module _ (size : Size) where
+  -- no turn of the board stands there
   abbrev pub NoTurn : List ℕ → Type 0
   NoTurn r = (t : Turn) (y : List ℕ) → IsOnBoard size t → r ≡ turn_text size t ++ y → ⊥
 
@@ -23,29 +24,35 @@ module _ (size : Size) where
         (33 ∷ (turn_text size t ++ r.0), (r.1.0, ((r.0, (refl, r.1.1.0)), ap (λ w. 33 ∷ (turn_text size t ++ w)) r.1.1.1)))
     deep_tree (reply es) e lt = let r = deep_entries es e lt in (63 ∷ r.0, (r.1.0, ((r.0, (refl, r.1.1.0)), ap (λ w. 63 ∷ w) r.1.1.1)))
 
+    -- so have entries that are deeper than e
     deep_entries : (es : Entries) (e : ℕ) → e < depth_of_entries es →
         (x : List ℕ) × ((y : List ℕ) × (EndsBehind size es e x × (entries_text size es ≡ x ++ y)))
     deep_entries none e lt = absurd (omega (arith, lt))
     deep_entries (entry t u es) zero lt = (turn_text size t, (tree_text size u ++ entries_text size es, (inl refl, refl)))
     deep_entries (entry t u es) (suc e) lt = pass (cases e (depth u) (depth_of_entries es) lt) (deep_tree u e) (deep_entries es (suc e))
       where
+        -- what is below the greater of two numbers is below one of them
         cases : (a b c : ℕ) → suc a < max (b + 1) c → (a < b) ⊎ (suc a < c)
         cases a b c h = decide (compare_lt a b)
           where
+            -- one number is below another one, or at least as great
             compare_lt : (m n : ℕ) → (m < n) ⊎ (n ≤ m)
             compare_lt zero zero = inr (omega arith)
             compare_lt zero (suc n) = inl (omega arith)
             compare_lt (suc m) zero = inr (omega arith)
             compare_lt (suc m) (suc n) = up (compare_lt m n)
               where
+                -- and so with one more on both sides
                 up : (m < n) ⊎ (n ≤ m) → (suc m < suc n) ⊎ (suc n ≤ suc m)
                 up (inl x) = inl (omega (arith, x))
                 up (inr x) = inr (omega (arith, x))
 
+            -- the first number is above, or the second one is
             decide : (a < b) ⊎ (b ≤ a) → (a < b) ⊎ (suc a < c)
             decide (inl x) = inl x
             decide (inr x) = inr (omega (arith, x, h))
 
+        -- the turn lies in the first entry's tree, or behind it
         pass : (e < depth u) ⊎ (suc e < depth_of_entries es) →
             (e < depth u → (x : List ℕ) × ((y : List ℕ) × (EndsBelow size u e x × (tree_text size u ≡ x ++ y)))) →
             (suc e < depth_of_entries es → (x : List ℕ) × ((y : List ℕ) × (EndsBehind size es (suc e) x × (entries_text size es ≡ x ++ y)))) →
@@ -76,14 +83,18 @@ module _ (size : Size) where
             )
 
   -- ---- the first byte
+
+  -- where none of `.`, `!` and `?` stands, there is no tree
   pub not_tree : (r : List ℕ) → ((b : ℕ) (y : List ℕ) → r ≡ b ∷ y → (b ≡ 46) ⊎ ((b ≡ 33) ⊎ (b ≡ 63)) → ⊥) → (d : ℕ) → FaultAt size d r Syntax
   not_tree r h d = (λ u y at. no u y at.text, λ at. deep at.tree d at.beginning at.follows at.text at.ends)
     where
+      -- no tree is read
       no : (u : Strategy) (y : List ℕ) → r ≡ tree_text size u ++ y → ⊥
       no done y e = h _ _ e (inl refl)
       no (pick t u) y e = h _ _ e (inr (inl refl))
       no (reply es) y e = h _ _ e (inr (inr refl))
 
+      -- nor is a turn too deep
       deep : (u : Strategy) (k : ℕ) (x y : List ℕ) → r ≡ x ++ y → EndsBelow size u k x → ⊥
       deep done k x y e w = w
       deep (pick t u) zero x y e w = h _ _ (e ∙ ap (λ z. z ++ y) w) (inr (inl refl))
@@ -91,20 +102,25 @@ module _ (size : Size) where
       deep (reply es) k x y e w = h _ _ (e ∙ ap (λ z. z ++ y) w.1.0) (inr (inr refl))
 
   -- ---- a pick
+
+  -- where no turn stands behind `!`, there is no tree
   pub pick_no_turn : (d : ℕ) (r : List ℕ) → NoTurn r → FaultAt size d (33 ∷ r) Syntax
   pick_no_turn d r h = (λ u y at. no u y at.in_order at.text, λ at. deep at.tree d at.beginning at.follows at.in_order at.text at.ends)
     where
+      -- no tree is read
       no : (u : Strategy) (y : List ℕ) → IsInOrder size u → 33 ∷ r ≡ tree_text size u ++ y → ⊥
       no done y o e = omega (arith, heads e)
       no (pick t u) y o e = h t (tree_text size u ++ y) o.0 (tails e)
       no (reply es) y o e = omega (arith, heads e)
 
+      -- nor is a turn too deep
       deep : (u : Strategy) (k : ℕ) (x y : List ℕ) → IsInOrder size u → 33 ∷ r ≡ x ++ y → EndsBelow size u k x → ⊥
       deep done k x y o e w = w
       deep (pick t u) zero x y o e w = h t y o.0 (tails (e ∙ ap (λ z. z ++ y) w))
       deep (pick t u) (suc k) x y o e w = h t (w.0 ++ y) o.0 (tails (e ∙ ap (λ z. z ++ y) w.1.0))
       deep (reply es) k x y o e w = omega (arith, heads (e ∙ ap (λ z. z ++ y) w.1.0))
 
+  -- where no turn has room, a turn behind `!` is too deep
   pub pick_deep : (t : Turn) (r y : List ℕ) → IsOnBoard size t → r ≡ turn_text size t ++ y → DeepAt size 0 (33 ∷ r)
   pick_deep t r y o e = record {
     tree = pick t done;
@@ -115,11 +131,13 @@ module _ (size : Size) where
     text = ap (λ w. 33 ∷ w) e;
   }
 
+  -- a turn and a tree behind `!` are a pick, a turn deeper
   pub pick_read : (e : ℕ) (t : Turn) (u : Strategy) (r after y : List ℕ) → IsOnBoard size t → r ≡ turn_text size t ++ after →
       TreeAt size e u after y → TreeAt size (suc e) (pick t u) (33 ∷ r) y
   pick_read e t u r after y o at h =
       record { in_order = (o, h.in_order); low = omega (arith, h.low); text = ap (λ w. 33 ∷ w) (at ∙ ap (λ w. turn_text size t ++ w) h.text) }
 
+  -- a fault of the tree behind the turn is one of the pick
   pub pick_fault : (e : ℕ) (t : Turn) (r after : List ℕ) (f : CertFault) → IsOnBoard size t → r ≡ turn_text size t ++ after →
       FaultAt size e after f → FaultAt size (suc e) (33 ∷ r) f
   pick_fault e t r after NoMemory o at h = tt
@@ -134,12 +152,14 @@ module _ (size : Size) where
   pick_fault e t r after Syntax o at h =
       (λ u y w. no u y w.in_order w.low w.text, λ w. deep w.tree w.beginning w.follows w.in_order w.text w.ends)
     where
+      -- no tree is read
       no : (u : Strategy) (y : List ℕ) → IsInOrder size u → depth u ≤ suc e → 33 ∷ r ≡ tree_text size u ++ y → ⊥
       no done y i low g = omega (arith, heads g)
       no (pick v u) y i low g =
           h.0 u y (record { in_order = i.1; low = omega (arith, low); text = tails (tails (sym at ∙ tails g)) })
       no (reply es) y i low g = omega (arith, heads g)
 
+      -- nor is a turn too deep
       deep : (u : Strategy) (x y : List ℕ) → IsInOrder size u → 33 ∷ r ≡ x ++ y → EndsBelow size u (suc e) x → ⊥
       deep done x y i g w = w
       deep (pick v u) x y i g w =
@@ -154,9 +174,12 @@ module _ (size : Size) where
       deep (reply es) x y i g w = omega (arith, heads (g ∙ ap (λ z. z ++ y) w.1.0))
 
   -- ---- a reply
+
+  -- entries behind `?` are a reply
   pub reply_read : (d : ℕ) (es : Entries) (r y : List ℕ) → EntriesAt size d 0 es r y → TreeAt size d (reply es) (63 ∷ r) y
   reply_read d es r y h = record { in_order = h.in_order; low = h.low; text = ap (λ w. 63 ∷ w) h.text }
 
+  -- a fault of the entries is one of the reply
   pub reply_fault : (d : ℕ) (r : List ℕ) (f : CertFault) → EntriesFaultAt size d 0 r f → FaultAt size d (63 ∷ r) f
   reply_fault d r NoMemory h = tt
   reply_fault d r TooDeep h = record {
@@ -170,11 +193,13 @@ module _ (size : Size) where
   reply_fault d r Syntax h =
       (λ u y w. no u y w.in_order w.low w.text, λ w. deep w.tree d w.beginning w.follows w.in_order w.text w.ends (λ x. x))
     where
+      -- no tree is read
       no : (u : Strategy) (y : List ℕ) → IsInOrder size u → depth u ≤ d → 63 ∷ r ≡ tree_text size u ++ y → ⊥
       no done y i low g = omega (arith, heads g)
       no (pick v u) y i low g = omega (arith, heads g)
       no (reply es) y i low g = h.0 es y (record { in_order = i; low = low; text = tails g })
 
+      -- nor is a turn too deep
       deep : (u : Strategy) (k : ℕ) (x y : List ℕ) → IsInOrder size u → 63 ∷ r ≡ x ++ y → EndsBelow size u k x →
           (EntriesDeepAt size k 0 r → EntriesDeepAt size d 0 r) → ⊥
       deep done k x y i g w to = w

@@ -13,6 +13,7 @@ pub tails : {a b : ℕ} {xs ys : List ℕ} → a ∷ xs ≡ b ∷ ys → xs ≡ 
 tails e = cc
 
 module _ (size : Size) (some : 1 ≤ size.columns) where
+  -- the two bytes of a turn tell it
   pub same_turn : (t v : Turn) → first_byte size t ≡ first_byte size v → second_byte size t ≡ second_byte size v → t ≡ v
   same_turn (Play p) (Play q) a b =
       let rows : p / size.columns ≡ q / size.columns = omega (arith, b) in
@@ -23,11 +24,13 @@ module _ (size : Size) (some : 1 ≤ size.columns) where
   same_turn Pass (Play q) a b = absurd (omega (arith, a))
   same_turn Pass Pass a b = refl
 
+  -- no turn's text begins with `;`
   pub turn_not_end : (t : Turn) → first_byte size t ≡ 59 → ⊥
   turn_not_end (Play p) e = omega (arith, e)
   turn_not_end Pass e = omega (arith, e)
 
   mutual
+    -- a text tells the tree that it begins with, and what follows
     pub same_tree : (u v : Strategy) (y z : List ℕ) → tree_text size u ++ y ≡ tree_text size v ++ z → (u ≡ v) × (y ≡ z)
     same_tree done done y z e = (refl, tails e)
     same_tree done (pick t v) y z e = absurd (omega (arith, heads e))
@@ -42,6 +45,7 @@ module _ (size : Size) (some : 1 ≤ size.columns) where
     same_tree (reply us) (pick t v) y z e = absurd (omega (arith, heads e))
     same_tree (reply us) (reply vs) y z e = let r = same_entries us vs y z (tails e) in (ap reply r.0, r.1)
 
+    -- so it does with entries
     pub same_entries : (us vs : Entries) (y z : List ℕ) → entries_text size us ++ y ≡ entries_text size vs ++ z → (us ≡ vs) × (y ≡ z)
     same_entries none none y z e = (refl, tails e)
     same_entries none (entry t v vs) y z e = absurd (turn_not_end t (sym (heads e)))
@@ -53,6 +57,7 @@ module _ (size : Size) (some : 1 ≤ size.columns) where
         let q = same_entries us vs y z r.1 in
         (ap (λ x. entry x u us) t_is ∙ ap (λ x. entry s x us) r.0 ∙ ap (λ x. entry s v x) q.0, q.1)
 
+  -- what begins with `;` has no beginning that ends with a turn of entries
   end_not_turn : (us : Entries) (d : ℕ) (x y z : List ℕ) → (59 ∷ []) ++ y ≡ x ++ z → EndsBehind size us d x → ⊥
   end_not_turn none d x y z e h = h
   end_not_turn (entry t u us) zero x y z e (inl h) = turn_not_end t (sym (heads (e ∙ ap (λ w. w ++ z) h)))
@@ -75,6 +80,7 @@ module _ (size : Size) (some : 1 ≤ size.columns) where
     not_deep (reply vs) (pick t u) (suc d) x y z low e h = absurd (omega (arith, heads (e ∙ ap (λ w. w ++ z) h.1.0)))
     not_deep (reply vs) (reply us) d x y z low e h = not_deep_behind vs us d h.0 y z low (tails (e ∙ ap (λ w. w ++ z) h.1.0)) h.1.1
 
+    -- nor has a text of entries
     pub not_deep_behind : (vs us : Entries) (d : ℕ) (x y z : List ℕ) → depth_of_entries vs ≤ d → entries_text size vs ++ y ≡ x ++ z →
         EndsBehind size us d x → ⊥
     not_deep_behind none us d x y z low e h = absurd (end_not_turn us d x y z e h)

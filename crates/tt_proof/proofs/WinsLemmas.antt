@@ -10,38 +10,46 @@ use Rattle.tt_proof.specs.Wins.{Wins, WinsBehind}
 use Rattle.tt_proof.specs.Replaying.{HasEntry, LegalWin, AnswersEach}
 
 module _ (side : Side) (f : Frame) (s : State) where
+  -- where each entry of a legal turn wins, a legal turn that has an entry has one that wins
   pub win_behind : (es : Entries) (t : Turn) → IsLegal f s t → LegalWin side f s es → HasEntry es t → WinsBehind side f es t s
   win_behind none t l w h = h
   win_behind (entry t' u es) t l w (inl e) =
       inl (e, subst (λ x. Wins side f u (after f s x)) e (w.0 (subst (λ x. IsLegal f s x) (sym e) l)))
   win_behind (entry t' u es) t l w (inr h) = inr (win_behind es t l w.1 h)
 
+  -- a turn of which some entry wins has an entry
   has_behind : (es : Entries) (t : Turn) → WinsBehind side f es t s → HasEntry es t
   has_behind none t h = h
   has_behind (entry t' u es) t (inl h) = inl h.0
   has_behind (entry t' u es) t (inr h) = inr (has_behind es t h)
 
+  -- of entries in order, none has a number below the least
   entry_number : (least : ℕ) (es : Entries) (t : Turn) → AreInOrder f.size least es → HasEntry es t → least ≤ number_on f.size t
   entry_number least none t o h = absurd h
   entry_number least (entry t' u es) t o (inl e) = let same = ap (number_on f.size) e in omega (arith, o.0, same)
   entry_number least (entry t' u es) t o (inr h) =
       let past = entry_number (number_on f.size t' + 1) es t o.3 h in omega (arith, o.0, past)
 
+  -- of entries in order, each of a legal turn wins where some entry of each such turn does
   pub legal_win : (least : ℕ) (es : Entries) → AreInOrder f.size least es →
       ((t : Turn) → HasEntry es t → IsLegal f s t → WinsBehind side f es t s) → LegalWin side f s es
   legal_win least none o h = tt
   legal_win least (entry t u es) o h = (here, legal_win (number_on f.size t + 1) es o.3 there)
     where
+      -- the first one does
       here : IsLegal f s t → Wins side f u (after f s t)
       here l = pass (h t (inl refl) l)
         where
+          -- it is the only one of its turn
           pass : WinsBehind side f (entry t u es) t s → Wins side f u (after f s t)
           pass (inl e) = e.1
           pass (inr w) = let late = entry_number (number_on f.size t + 1) es t o.3 (has_behind es t w) in absurd (omega (arith, late))
 
+      -- of the other turns, some entry behind it does
       there : (t' : Turn) → HasEntry es t' → IsLegal f s t' → WinsBehind side f es t' s
       there t' e l = pass (h t' (inr e) l)
         where
+          -- the first one is not of this turn
           pass : WinsBehind side f (entry t u es) t' s → WinsBehind side f es t' s
           pass (inl w) =
               let late = entry_number (number_on f.size t + 1) es t' o.3 e in
@@ -49,6 +57,7 @@ module _ (side : Side) (f : Frame) (s : State) where
               absurd (omega (arith, late, same))
           pass (inr w) = w
 
+  -- a reply that wins has an entry for each turn of the other side
   pub reply_answers : (es : Entries) → Wins side f (reply es) s → AnswersEach side f s es
   reply_answers es w = ((w.0, w.1), λ t l. has_behind es t (w.2 t l))
 
@@ -57,6 +66,7 @@ module _ (side : Side) (f : Frame) (s : State) where
   reply_wins es o a =
       (λ w. (a.0.0, a.0.1, λ t l. win_behind es t l w (a.1 t l)), λ w. legal_win 0 es o (λ t h l. w.2 t l))
 
+-- a side that is not this one is its opponent
 pub not_same : (a b : Side) → (a ≡ b → ⊥) → a ≡ opponent b
 not_same Attacker Attacker n = absurd (n refl)
 not_same Attacker Defender n = refl

@@ -73,7 +73,7 @@ module _ (size : Size) where
         ((y : List ℕ) × ((x ≡ turn_text t ++ y) × EndsBelow u d y))
         ⊎ ((y : List ℕ) × ((x ≡ turn_text t ++ (tree_text u ++ y)) × EndsBehind es (suc d) y))
 
-  -- the bytes are the certificate of this side and tree: each way down has at most 512 turns
+  -- the bytes are the certificate of this side and tree, which is in order and has at most 512 turns on each way down
   pub record IsCertificate (bytes : List ℕ) (side : Side) (u : Strategy) : Type 0 where
     pub in_order : IsInOrder size u
     pub low : depth u ≤ MOST_DEPTH

@@ -20,6 +20,7 @@ abbrev mutual
   stored_entries (entry t u es) = gcons (turn_code.code t) (gcons (stored u) (stored_entries es))
 
 mutual
+  -- a strategy is known by how it is stored
   pub stored_once : (x y : Strategy) → stored x ≡ stored y → x ≡ y
   stored_once done done e = refl
   stored_once done (pick _ _) e = cc
@@ -37,6 +38,7 @@ mutual
       let k : stored_entries es ≡ stored_entries fs = cc in
       let j : es ≡ fs = stored_entries_once es fs k in cc
 
+  -- and so are entries
   pub stored_entries_once : (x y : Entries) → stored_entries x ≡ stored_entries y → x ≡ y
   stored_entries_once none none e = refl
   stored_entries_once none (entry _ _ _) e = cc

@@ -8,6 +8,7 @@ use Rattle.tt_proof.proofs.TextLemmas.{heads}
 use Rattle.tt_proof.proofs.EntryLemmas.{Walked, walked_more, walked_end, walked_fault, no_entry, not_rising, entry_deep, entry_fault}
 use Rattle.tt_proof.proofs.certificate_read.+read.Goals as goal
 
+-- a number that isn't 0 is one more than the number before it
 one_more : (n : ℕ) → (n ≡ 0 → ⊥) → n ≡ suc (n - 1)
 one_more n h = omega (arith, h)
 
@@ -100,6 +101,7 @@ read_tree-returns-then-first-eq46 t c =
       text = c.in-Some.ensures.cases.0 ∙ ap (λ b. b ∷ c.in-Some.rest.now) c.if-first-eq46.true;
     })
 
+-- a byte that is none of the three marks is no mark
 neither : (first b : ℕ) → first ≡ b → (first ≡ 46 → ⊥) → (first ≡ 33 → ⊥) → (first ≡ 63 → ⊥) → (b ≡ 46) ⊎ ((b ≡ 33) ⊎ (b ≡ 63)) → ⊥
 neither first b e x y z (inl h) = x (e ∙ h)
 neither first b e x y z (inr (inl h)) = y (e ∙ h)

@@ -6,6 +6,7 @@ pub returns-in-Err : goal.returns-in-Err
 returns-in-Err c =
     cert_fault c.args.size c.args.size.columns_in.0 c.args.bytes.now c.args.rest.now c.args.s c.requires c.in-Err.fault c.in-Err.ensures
 
+-- a list of no length is empty
 nil : (ys : List ℕ) → length ys ≡ 0 → ys ≡ []
 nil [] e = refl
 nil (y ∷ ys) e = absurd (omega (arith, e))

@@ -2,18 +2,23 @@ use Rattle.std.proofs.Common.{arith, ap, sym, ◌≡◌, ◌∙◌, ◌<◌, ◌
 use Rattle.std.proofs.lemmas.Grind.{common_steps}
 use Rattle.tt_proof.proofs.certificate_read.read_point.Goals as goal
 
+-- a point's row is one of the board's
 row_below : (n c r : ℕ) → 1 ≤ c → n < c * r → n / c < r
 row_below n c r some lt = grind (arith, common_steps)
 
+-- a column and a row of the board are those of one of its points
 inside : (c r x y : ℕ) → x < c → y < r → y * c + x < c * r
 inside c r x y a b = grind (arith, common_steps)
 
+-- the point of a column and a row has this column
 column_of : (c x y n : ℕ) → x < c → n ≡ y * c + x → n % c ≡ x
 column_of c x y n a e = grind (arith, common_steps)
 
+-- and this row
 row_of : (c x y n : ℕ) → x < c → n ≡ y * c + x → n / c ≡ y
 row_of c x y n a e = grind (arith, common_steps)
 
+-- what follows from what an option says of its value, or of there being none, it says too
 each_option : {A : Type 0} (r : Option A) (N N' : Type 0) (P P' : A → Type 0) → (N → N') → ((x : A) → P x → P' x) → MatchOption r N P → MatchOption r N' P'
 each_option None N N' P P' n p h = n h
 each_option (Some x) N N' P P' n p h = p x h

@@ -19,6 +19,7 @@ put_tree-put_entries-requires t c =
 pub put_tree-returns-in-Done : goal.put_tree-returns-in-Done
 put_tree-returns-in-Done t c = rw (c.in-Done.is, strategy_of_done) c.put.ensures
 
+-- what follows from what a result says on Ok it says on Ok too
 on_ok : {A E : Type 0} (r : Result A E) (P Q : Type 0) → (P → Q) → OnOk r P → OnOk r Q
 on_ok (Ok x) P Q f h = f h
 on_ok (Err e) P Q f h = h
@@ -28,6 +29,7 @@ put_tree-returns-in_ok-put_turn-in-Pick t c =
     rw (c.in-Pick.is, strategy_of_pick, ← c.deref.ensures)
     (on_ok c.put_tree.result _ _ (λ e. e ∙ joined _ _ _ _ _ c.in_ok-put-in-Pick.ensures c.in_ok-put_turn-in-Pick.ensures.ok) c.put_tree.ensures)
   where
+    -- what is written behind `!` and a turn
     joined : (a b d x y : List ℕ) → b ≡ a ++ (33 ∷ []) → d ≡ b ++ x → d ++ y ≡ a ++ (33 ∷ (x ++ y))
     joined a b d x y e f =
         ap (λ w. w ++ y) (f ∙ ap (λ w. w ++ x) e) ∙ append_assoc (a ++ (33 ∷ [])) x y ∙ append_assoc a (33 ∷ []) (x ++ y)
@@ -37,5 +39,6 @@ put_tree-returns-in_ok-put-in-Reply t c =
     rw (c.in-Reply.is, strategy_of_reply, ← c.deref-in-Reply.ensures, ← c.deref-in-Reply-2.ensures.value)
     (on_ok c.put_entries.result _ _ (λ e. e ∙ joined _ _ _ c.in_ok-put-in-Reply.ensures) c.put_entries.ensures)
   where
+    -- what is written behind `?`
     joined : (a b y : List ℕ) → b ≡ a ++ (63 ∷ []) → b ++ y ≡ a ++ (63 ∷ y)
     joined a b y e = ap (λ w. w ++ y) e ∙ append_assoc a (63 ∷ []) y

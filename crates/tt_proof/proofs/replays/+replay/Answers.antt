@@ -27,6 +27,7 @@ pub replay-returns-in-Reply-clause-exact : goal.replay-returns-in-Reply-clause-e
 replay-returns-in-Reply-clause-exact t c =
     rw (c.in-Reply.is, strategy_of_reply, ← c.deref-in-Reply.ensures, ← c.deref-in-Reply-2.ensures.value) c.replay_reply.ensures.exact
 
+-- where a test finds false, what implies the thing tested is false too
 refused : (b : Bool) (P Q : Type 0) → b ≡ false → (IsTrue b ↔ P) → (Q → P) → IsTrue false ↔ Q
 refused b P Q e h from = (λ t. absurd (true≢false (sym t)), λ q. absurd (true≢false (sym (h.1 (from q)) ∙ e)))
 
@@ -36,6 +37,7 @@ replay_reply-returns-then-not-answers_each-clause-exact t c =
     refused c.answers_each.result _ _ c.if-not-answers_each.true c.answers_each.ensures
     (reply_answers c.args.s c.args.line.now.frame c.args.line.now.state _)
 
+-- what follows from what a result says of its value it says of it too
 each_ok : {S : Type 0} (r : Result Bool S) (P Q : Bool → Type 0) → ((b : Bool) → P b → Q b) → IfOk r P → IfOk r Q
 each_ok (Ok b) P Q h p = h b p
 each_ok (Err e) P Q h p = p

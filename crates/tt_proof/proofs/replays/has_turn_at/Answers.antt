@@ -5,6 +5,7 @@ use Rattle.tt_proof.specs.Strategy.{entries_of_trees}
 use Rattle.tt_proof.specs.Replaying.{HasEntry}
 use Rattle.tt_proof.proofs.replays.has_turn_at.Goals as goal
 
+-- the turn at a place of the list has an entry
 has_at : (list : List (Turn × Tree)) (place : ℕ) (e : Turn × Tree) (t : Turn) → place < length list →
     e ≡ get_or list place e → e.0 ≡ t → HasEntry (entries_of_trees list) t
 has_at [] place e t lt is same = absurd (omega arith)

@@ -8,6 +8,7 @@ use Rattle.tt_proof.specs.Strategy.{reply, entries_of}
 use Rattle.tt_proof.proofs.ProvenLemmas.{AllWon, won_reply, all_won_push, trees_of_push}
 use Rattle.tt_proof.proofs.proven.Proof.reply.Goals as goal
 
+-- where nothing is left to come, what has come is all
 at_end : {X : Type 0} (xs ys zs : List X) → xs ++ ys ≡ zs → length ys ≡ 0 → xs ≡ zs
 at_end xs [] zs e h = sym (append-nil xs) ∙ e
 at_end xs (y ∷ ys) zs e h = absurd (omega (arith, h))
