@@ -27,17 +27,21 @@ use Rattle.tsumego.specs.Writing.{Writes}
 
 -- the size of the line's frame is that of its problem
 module _ (p : Standing) (f : Frame) (bytes : List ℕ) (same : f ≡ p.frame) where
+  -- a certificate whose tree wins is valid
   pub wins_at : (side : Side) (u : Strategy) → IsCertificate f.size bytes side u × (IsTooDeep f.size bytes → ⊥) → Wins side p.frame u p.state → FindsAt p bytes Valid
   wins_at side u h w = let k = subst (λ (g : Frame). IsCertificate g.size bytes side u × (IsTooDeep g.size bytes → ⊥)) same h in wins side u k.1 k.0 w
 
+  -- one whose tree doesn't win is invalid
   pub loses_at : (side : Side) (u : Strategy) → IsCertificate f.size bytes side u × (IsTooDeep f.size bytes → ⊥) → (Wins side p.frame u p.state → ⊥) → FindsAt p bytes Invalid
   loses_at side u h w = let k = subst (λ (g : Frame). IsCertificate g.size bytes side u × (IsTooDeep g.size bytes → ⊥)) same h in loses side u k.1 k.0 w
 
+  -- bytes that are no certificate are refused with 30
   pub none_at : (e : CertFault) → e ≡ Syntax → IsFault f.size bytes e → FindsAt p bytes (Refused 30)
   none_at e is h =
       let k : IsFault p.frame.size bytes Syntax = subst (λ (g : Frame). IsFault g.size bytes Syntax) same (subst (λ (x : CertFault). IsFault f.size bytes x) is h) in
       no_certificate k.1 k.0
 
+  -- bytes with a turn that lies too deep are refused with 31
   pub deep_at : (e : CertFault) → e ≡ TooDeep → IsFault f.size bytes e → FindsAt p bytes (Refused 31)
   deep_at e is h =
       let k : IsFault p.frame.size bytes TooDeep = subst (λ (g : Frame). IsFault g.size bytes TooDeep) same (subst (λ (x : CertFault). IsFault f.size bytes x) is h) in

@@ -19,7 +19,7 @@ use Rattle.tsumego.specs.Trees.{AreOutcomes, BeginsTreesText, EarlierTreesText, 
 use Rattle.tsumego.specs.Watching.{IsInput}
 use Rattle.tsumego.specs.Writing.{ForInput, Writes, is_output_fault}
 
--- the input fits, or its part up to the limit is too long as well
+-- the part of an input up to a limit is the whole, or as long as the limit
 cut_or_whole : (most : ℕ) (input : List ℕ) → (take most input ≡ input) ⊎ ((length (take most input) ≡ most) × (most ≤ length input))
 cut_or_whole most input = elim (cases_lt most (length input)) [
   | inl lt ↦ let le : most ≤ length input = omega arith in inr (length-take-le most input le, le)
@@ -27,21 +27,24 @@ cut_or_whole most input = elim (cases_lt most (length input)) [
 ]
 
 module _ (allowed : List Node → Outcome → Type 0) where
-  -- outcomes for a part of the input that is too long as well
+  -- outcomes for a part of the input that is too long as well are outcomes for the input
   long_outcomes : (input part : List ℕ) (os : List Outcome) → length part ≡ 1048577 → 1048577 ≤ length input → AreOutcomes allowed part os → AreOutcomes allowed input os
   long_outcomes input part os e le (too_long long) = too_long (omega arith)
   long_outcomes input part os e le (all_read os' rest small reads some none) = absurd (omega arith)
   long_outcomes input part os e le (stopped os' rest small reads why none) = absurd (omega arith)
 
+  -- outcomes for the part up to the limit are outcomes for the input
   outcomes_whole : (input : List ℕ) (os : List Outcome) → AreOutcomes allowed (take 1048577 input) os → AreOutcomes allowed input os
   outcomes_whole input os h = elim (cut_or_whole 1048577 input) [
     | inl e ↦ subst (λ (x : List ℕ). AreOutcomes allowed x os) e h
     | inr p ↦ long_outcomes input (take 1048577 input) os p.0 p.1 h
   ]
 
+  -- a text on that part's trees is one on the input's
   trees_whole : (input text : List ℕ) (status : ℕ) → IsTreesText allowed (take 1048577 input) text status → IsTreesText allowed input text status
   trees_whole input text status h = record { outcomes = h.outcomes; are = outcomes_whole input h.outcomes h.are; lines = h.lines; status_is = h.status_is }
 
+  -- a beginning of a text on that part is a beginning of one on the input
   trees_begun : (input text : List ℕ) → BeginsTreesText allowed (take 1048577 input) text → BeginsTreesText allowed input text
   trees_begun input text no_line = no_line
   trees_begun input text (all_lines os h) = all_lines os (outcomes_whole input os h)
@@ -50,6 +53,7 @@ module _ (allowed : List Node → Outcome → Type 0) where
     | inr p ↦ absurd (omega (arith, p.0))
   ]
 
+  -- and so it is with an earlier part
   trees_earlier : (input text : List ℕ) → EarlierTreesText allowed (take 1048577 input) text → EarlierTreesText allowed input text
   trees_earlier input text nothing = nothing
   trees_earlier input text (before_more os rest small reads more) = elim (cut_or_whole 1048577 input) [
@@ -57,37 +61,43 @@ module _ (allowed : List Node → Outcome → Type 0) where
     | inr p ↦ absurd (omega (arith, p.0))
   ]
 
--- what is found on a part of the input that is too long as well
+-- what is found on a part of the input that is too long as well is found on the input
 long_found : (input part : List ℕ) (o : Finding) → length part ≡ 1048577 → 1048577 ≤ length input → Finds part o → Finds input o
 long_found input part o e le (find.too_long long) = find.too_long (omega arith)
 long_found input part o e le (no_tree small none) = absurd (omega arith)
 long_found input part o e le (first_tree count t o' small s h) = absurd (omega arith)
 
+-- what is found on the part up to the limit is found on the input
 found_whole : (input : List ℕ) (o : Finding) → Finds (take 1048577 input) o → Finds input o
 found_whole input o h = elim (cut_or_whole 1048577 input) [
   | inl e ↦ subst (λ (x : List ℕ). Finds x o) e h
   | inr p ↦ long_found input (take 1048577 input) o p.0 p.1 h
 ]
 
+-- what `check` writes for that part it writes for the input
 check_whole : (input text : List ℕ) (status : ℕ) → IsCheckText (take 1048577 input) text status → IsCheckText input text status
 check_whole input text status h = record { finding = h.finding; finds = found_whole input h.finding h.finds; line = h.line; status_is = h.status_is }
 
+-- an answer to the part up to the limit is one to the input
 answer_whole : (c : Command) (input text : List ℕ) (status : ℕ) → IsAnswer c (take 1048577 input) text status → IsAnswer c input text status
 answer_whole Score input text status h = trees_whole Scores input text status h
 answer_whole Check input text status h = check_whole input text status h
 answer_whole (Solve limits workers cert) input text status h = trees_whole (Solves limits cert) input text status h
 
+-- a beginning of an answer to that part is a beginning of one to the input
 begun_whole : (c : Command) (input text : List ℕ) → BeginsAnswer c (take 1048577 input) text → BeginsAnswer c input text
 begun_whole Score input text h = trees_begun Scores input text h
 begun_whole Check input text (inl e) = inl e
 begun_whole Check input text (inr h) = inr (h.0, check_whole input text h.0 h.1)
 begun_whole (Solve limits workers cert) input text h = trees_begun (Solves limits cert) input text h
 
+-- and so it is with an earlier part
 earlier_whole : (c : Command) (input text : List ℕ) → IsEarlierPart c (take 1048577 input) text → IsEarlierPart c input text
 earlier_whole Score input text h = trees_earlier Scores input text h
 earlier_whole Check input text e = e
 earlier_whole (Solve limits workers cert) input text h = trees_earlier (Solves limits cert) input text h
 
+-- the empty text is an earlier part of an answer
 nothing_earlier : (c : Command) (input : List ℕ) → IsEarlierPart c input []
 nothing_earlier Score input = nothing
 nothing_earlier Check input = refl
@@ -101,17 +111,19 @@ module _ (c : Command) where
   writes_whole input (Err Output) a b w = (w.0, w.1, begun_whole c input w.0 w.2, w.3)
   writes_whole input (Err Memory) a b w = (w.0, earlier_whole c input w.0 w.1, w.2)
 
+  -- what is written on what was read up to the limit is written on what the reader had to give
   pub writes_read : (told : Option (List ℕ)) (bytes : List ℕ) (r : Result ℕ RunFault) (a b : Option (List ℕ)) → IsInput 1048577 told bytes → Writes c bytes r a b
       → ForInput told (λ input. Writes c input r a b)
   writes_read None bytes r a b e w = (bytes, w)
   writes_read (Some input) bytes r a b e w = writes_whole input r a b (subst (λ (x : List ℕ). Writes c x r a b) e w)
 
-  -- nothing is written where nothing was read
+  -- where memory or the input failed, a run may have written nothing
   nothing_written : (input : List ℕ) (e : RunFault) (a : Option (List ℕ)) → is_output_fault {A = ℕ} (Err e) ≡ false → Writes c input (Err e) a a
   nothing_written input Input a quiet = Keeps-refl a
   nothing_written input Output a quiet = let bad : true ≡ false = quiet in cc
   nothing_written input Memory a quiet = ([], nothing_earlier c input, Appends-nil a)
 
+  -- so it may for what the reader had to give
   pub writes_nothing : (told : Option (List ℕ)) (e : RunFault) (a : Option (List ℕ)) → is_output_fault {A = ℕ} (Err e) ≡ false → ForInput told (λ input. Writes c input (Err e) a a)
   writes_nothing None e a quiet = ([], nothing_written [] e a quiet)
   writes_nothing (Some input) e a quiet = nothing_written input e a quiet

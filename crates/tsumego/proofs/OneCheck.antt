@@ -18,6 +18,7 @@ use Rattle.tsumego.specs.declared.finding.Finding.{Finding}
 use Rattle.tsumego.specs.Checking.{Finds, FindsAt, FindsOn, IsCheckText, finding_line, finding_status, first_tree, loses, no_certificate, no_tree, too_deep, too_long, wins}
 use Rattle.tsumego.proofs.OneText as text
 
+-- the first byte, or 0
 abbrev first : List ℕ → ℕ
 first [] = 0
 first (b ∷ bs) = b
@@ -27,6 +28,7 @@ module _ (one : OneReading) where
   tree_same : (size : Size) (u v : Strategy) → tree_text size u ≡ tree_text size v → u ≡ v
   tree_same size u v e = (one size u v [] [] (append-nil (tree_text size u) ∙ e ∙ sym (append-nil (tree_text size v)))).0
 
+  -- bytes are the certificate of one side and one tree
   texts_same : (size : Size) (s t : Side) (u v : Strategy) (bytes : List ℕ) → IsCertificate size bytes s u → IsCertificate size bytes t v → (s ≡ t) × (u ≡ v)
   texts_same size Attacker Attacker u v bytes a b = (refl, tree_same size u v (append_cancel_left (side_text Attacker) (tree_text size u) (tree_text size v) (sym a.text ∙ b.text)))
   texts_same size Defender Defender u v bytes a b = (refl, tree_same size u v (append_cancel_left (side_text Defender) (tree_text size u) (tree_text size v) (sym a.text ∙ b.text)))
@@ -40,6 +42,7 @@ module _ (one : OneReading) where
       let same = texts_same p.frame.size s t u v bytes a b in
       l (subst (λ (x : Side). Wins x p.frame v p.state) same.0 (subst (λ (x : Strategy). Wins s p.frame x p.state) same.1 w))
 
+  -- one thing is found on bytes at a problem
   found_at : (p : Standing) (bytes : List ℕ) (o q : Finding) → FindsAt p bytes o → FindsAt p bytes q → o ≡ q
   found_at p bytes o q (too_deep deep) (too_deep more) = refl
   found_at p bytes o q (too_deep deep) (no_certificate flat none) = absurd (flat deep)
@@ -58,11 +61,13 @@ module _ (one : OneReading) where
   found_at p bytes o q (loses s u flat is l) (wins t v level are w) = absurd (not_both p bytes t s v u are is w l)
   found_at p bytes o q (loses s u flat is l) (loses t v level are m) = refl
 
+  -- so it is where the problem may be refused before
   found_on : (r : Result Standing GameFault) (bytes : List ℕ) (o q : Finding) → FindsOn r bytes o → FindsOn r bytes q → o ≡ q
   found_on (Ok p) bytes o q a b = found_at p bytes o q a b
   found_on (Err e) bytes o q a b = a ∙ sym b
 
   module _ (reading : text.OneReading) where
+    -- one thing is found on an input
     found_same : (input : List ℕ) (o q : Finding) → Finds input o → Finds input q → o ≡ q
     found_same input o q (too_long long) (too_long more) = refl
     found_same input o q (too_long long) (no_tree small none) = absurd (omega arith)
@@ -77,6 +82,7 @@ module _ (one : OneReading) where
         found_on (problem_of (main_line u)) (trimmed (drop m input)) o' q'
         (subst (λ (x : GameTree). FindsOn (problem_of (main_line x)) (trimmed (drop m input)) o') same.1 (subst (λ x. FindsOn (problem_of (main_line t)) (trimmed (drop x input)) o') same.0 a)) b
 
+    -- an input has one text and one status
     pub checks_same : (input s t : List ℕ) (m n : ℕ) → IsCheckText input s m → IsCheckText input t n → (s ≡ t) × (m ≡ n)
     checks_same input s t m n a b =
         let same = found_same input a.finding b.finding a.finds b.finds in

@@ -8,12 +8,13 @@ use Rattle.tsumego.specs.declared.outcome.Outcome.TheVariants.{Refused}
 use Rattle.tsumego.specs.Text.{Scores, scored}
 use Rattle.tsumego.specs.Trees.{AreOutcomes, HasOpen, IsTreesText, Reads, all_read, lines_from, status_of, stopped, too_long}
 
--- the text of a tree begins with a bracket
+-- where a tree is spelled, a `(` stands in the bytes
 spelled_opens : (bytes : List ℕ) (count : ℕ) (t : GameTree) → SpelledUpTo bytes count t → HasOpen bytes
 spelled_opens bytes count (game nodes trees) s =
     let opens : Contains s.text 40 = subst (λ (x : List ℕ). Contains x 40) (sym s.spells.7) (0, omega arith, refl) in
     subst (λ (x : List ℕ). Contains x 40) (sym s.parts) (Contains-append_right s.skipped (s.text ++ s.rest) 40 (Contains-append_left s.text s.rest 40 opens))
 
+-- without a `(` no tree is spelled
 none_spelled : (bytes : List ℕ) → (HasOpen bytes → ⊥) → HasNoTree bytes
 none_spelled bytes none t count s = none (spelled_opens bytes count t s)
 
@@ -22,7 +23,7 @@ abbrev pub OneReading : Type 0
 OneReading = (bytes : List ℕ) (n m : ℕ) (s t : GameTree) → SpelledUpTo bytes n s → SpelledUpTo bytes m t → (n ≡ m) × (s ≡ t)
 
 module _ (one : OneReading) where
-  -- two readings up to where empty tree is spelled agree
+  -- two readings up to where no tree is spelled agree
   reads_same : (bytes : List ℕ) (os ps : List Outcome) (rest left : List ℕ) → Reads Scores bytes os rest → Reads Scores bytes ps left → HasNoTree rest → HasNoTree left
       → (os ≡ ps) × (rest ≡ left)
   reads_same bytes [] [] rest left r l empty none = (refl, sym r ∙ l)
@@ -38,6 +39,7 @@ module _ (one : OneReading) where
   ends_once os ps rest left same some none (inl e) = some (same.0 ∙ e)
   ends_once os ps rest left same some none (inr e) = none (subst HasOpen (sym same.1) e)
 
+  -- an input has one list of outcomes
   outcomes_same : (input : List ℕ) (os ps : List Outcome) → AreOutcomes Scores input os → AreOutcomes Scores input ps → os ≡ ps
   outcomes_same input os ps (too_long long) (too_long more) = refl
   outcomes_same input os ps (too_long long) (all_read ps' left small l some none) = absurd (omega arith)
@@ -53,6 +55,7 @@ module _ (one : OneReading) where
   outcomes_same input os ps (stopped os' rest small r why empty) (stopped ps' left small' l why' none) =
       ap (λ (x : List Outcome). x ++ Refused 1 ∷ []) (reads_same input os' ps' rest left r l empty none).0
 
+  -- an input has one text and one status
   pub answers_same : (input s t : List ℕ) (m n : ℕ) → IsTreesText Scores input s m → IsTreesText Scores input t n → (s ≡ t) × (m ≡ n)
   answers_same input s t m n a b =
       let same = outcomes_same input a.outcomes b.outcomes a.are b.are in

@@ -25,6 +25,7 @@ pub Reads-more : (allowed : List Node → Outcome → Type 0) (input : List ℕ)
 Reads-more allowed input [] o rest count t r s ok = (count, t, subst (λ (x : List ℕ). SpelledUpTo x count t) (sym r) s, ok, ap (drop count) r)
 Reads-more allowed input (x ∷ os) o rest count t r s ok = (r.0, r.1, r.2, r.3, Reads-more allowed (drop r.0 input) os o rest count t r.4 s ok)
 
+-- the lines on outcomes with one more end with the line on that one
 lines_from-more : (k : ℕ) (os : List Outcome) (o : Outcome) → lines_from k (os ++ o ∷ []) ≡ lines_from k os ++ line_of (k + length os) o
 lines_from-more k [] o = append-nil (line_of k o) ∙ ap (λ n. line_of n o) (omega arith)
 lines_from-more k (x ∷ os) o =
@@ -42,6 +43,7 @@ or_true : (x : Bool) → (x || true) ≡ true
 or_true true = refl
 or_true false = refl
 
+-- of one outcome alone, some outcome is refused where it is
 any-one : (o : Outcome) → list_any is_refused (o ∷ []) ≡ is_refused o
 any-one (Scored x) = refl
 any-one (Answered x) = refl
@@ -56,10 +58,12 @@ pub record Progress (allowed : List Node → Outcome → Type 0) (input rest : L
   pub bad : refused ≡ list_any is_refused os
   pub told : Appends a b (lines_from 1 os)
 
+-- before the first tree nothing is read or written
 pub progress_start : (allowed : List Node → Outcome → Type 0) (input : List ℕ) (a : Option (List ℕ)) → Progress allowed input input 1 false a a
 progress_start allowed input a = record { os = []; count = refl; reads = refl; small = inl refl; bad = refl; told = Appends-nil a }
 
 module _ {allowed : List Node → Outcome → Type 0} {input rest : List ℕ} {number : ℕ} {refused : Bool} {a b : Option (List ℕ)} (p : Progress allowed input rest number refused a b) where
+  -- how a run that writes on the trees ends
   abbrev EndsAs : Result ℕ RunFault → Option (List ℕ) → Option (List ℕ) → Type 0
   EndsAs = WritesOf (IsTreesText allowed input) (BeginsTreesText allowed input) (EarlierTreesText allowed input)
 
@@ -71,12 +75,14 @@ module _ {allowed : List Node → Outcome → Type 0} {input rest : List ℕ} {n
   nothing_read : (os : List Outcome) → os ≡ [] → Reads allowed input os rest → input ≡ rest
   nothing_read os e r = subst (λ (x : List Outcome). Reads allowed input x rest) e r
 
+  -- where the rest is not too long, nor is the input
   small_whole : length rest ≤ most_bytes → length input ≤ most_bytes
   small_whole le = elim p.small [
     | inl e ↦ subst (λ (x : List ℕ). length x ≤ most_bytes) (sym (nothing_read p.os e p.reads)) le
     | inr whole ↦ whole
   ]
 
+  -- one more tree was read, and its line written
   pub progress_step : (d : Option (List ℕ)) (used : ℕ) (t : GameTree) (nodes : List Node) (bad : Bool) → SpelledUpTo rest used t → nodes ≡ main_line t → length rest ≤ most_bytes
       → WritesOutcome allowed number nodes (Ok bad) b d
       → Progress allowed input (take (length rest - used) (drop used rest)) (number + 1) (refused || bad) a d
@@ -145,6 +151,7 @@ module _ {allowed : List Node → Outcome → Type 0} {input rest : List ℕ} {n
       → IfOk r (λ status. status ≡ 1) → WritesText (line_of number (Refused 1)) r b d → EndsAs r a d
   progress_stopped d r why small none one w = progress_last d why 1 r (stopped p.os rest (small_whole small) p.reads (goes_on why) none) one w
     where
+      -- there is no outcome yet, or a `(` stands in the rest
       goes_on : (number ≡ 1) ⊎ HasOpen rest → (p.os ≡ []) ⊎ HasOpen rest
       goes_on (inl e) = inl (no_outcomes p.os (sym e ∙ p.count))
       goes_on (inr e) = inr e
@@ -166,8 +173,10 @@ module _ {allowed : List Node → Outcome → Type 0} {input rest : List ℕ} {n
     p.told,
   )
     where
+      -- there is an outcome
       some : p.os ≢ []
       some e = more (p.count ∙ ap (λ (l : List Outcome). length l + 1) e)
 
+      -- so the input is not too long
       small : length input ≤ most_bytes
       small = elim p.small [ inl e ↦ absurd (some e) | inr le ↦ le ]

@@ -19,7 +19,7 @@ byte n [] = 0
 byte zero (b ∷ bs) = b
 byte (suc n) (b ∷ bs) = byte n bs
 
--- two sides' words are different at the first byte
+-- a text that begins with a side's word tells the side and what follows
 words_same : (s t : Side) (x y : List ℕ) → side_word s ++ x ≡ side_word t ++ y → (s ≡ t) × (x ≡ y)
 words_same Attacker Attacker x y e = (refl, append_cancel_left (side_word Attacker) x y e)
 words_same Defender Defender x y e = (refl, append_cancel_left (side_word Defender) x y e)
@@ -57,6 +57,7 @@ record Says (p : Standing) (side : Side) (rest : List ℕ) : Type 0 where
   first_is : IsFirst p side first
   text : first_text p.frame.size first ++ 10 ∷ lines ≡ rest
 
+-- a verdict that begins with a side's word says so
 says : (p : Standing) (limits : Limits) (cert : Bool) (side : Side) (rest text : List ℕ) → Verdict p limits cert text → text ≡ side_word side ++ rest → Says p side rest
 says p limits cert side rest text (decided s first lines valued keeps more) e =
     let size = p.frame.size in
@@ -73,6 +74,7 @@ says p limits cert side rest text (decided s first lines valued keeps more) e =
 says p limits cert Attacker rest text (unsettled reason h) e = let bad : 117 ≡ 107 = ap (byte 0) e in absurd (omega (arith, bad))
 says p limits cert Defender rest text (unsettled reason h) e = let bad : 117 ≡ 108 = ap (byte 0) e in absurd (omega (arith, bad))
 
+-- verdicts name the value, and the turn behind the word
 pub are_values : VerdictsAreValues
 are_values p limits cert side rest v =
     let said = says p limits cert side rest (side_word side ++ rest) v refl in

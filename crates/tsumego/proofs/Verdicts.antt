@@ -25,6 +25,7 @@ use Rattle.tsumego.specs.Solving.{Follows, IsFirst, IsUnsettled, Verdict, certif
 pub first_on_board : (size : Size) (u : Strategy) (first : Option Turn) → first ≡ first_of u → IsInOrder size u → IfSome first (IsOnBoard size)
 first_on_board size u first e h = subst (λ (o : Option Turn). IfSome o (IsOnBoard size)) (sym e) (begins u h)
   where
+    -- so it is with each strategy
     begins : (v : Strategy) → IsInOrder size v → IfSome (first_of v) (IsOnBoard size)
     begins done h = tt
     begins (pick t v) h = h.0
@@ -52,6 +53,7 @@ module _ (line : Standing) (is : IsState line.frame line.state) where
     refl,
   )
 
+  -- a strategy that wins within the limit on depth makes a verdict
   won_verdict : (limits : Limits) (side : Side) (u : Strategy) (cert : Bool) → IsWon side line.frame line.state u → depth u ≤ limits.depth
       → (side ≡ line.state.to_move → IsSome (first_of u))
       → Verdict line limits cert (decided_text line.frame.size side (first_of u) ++ (if cert then certificate_line line.frame.size side u else []))
@@ -75,6 +77,7 @@ pub stuck_verdict : (line : Standing) (limits : Limits) (cert : Bool) (stuck : S
     → text ≡ unsettled_text stuck.reason → Verdict line limits cert text
 stuck_verdict line limits cert stuck text h e = subst (λ (x : List ℕ). Verdict line limits cert x) (sym e) (unsettled stuck.reason (held stuck.reason h))
   where
+    -- what the stuck turn says is what the verdict says for the reason
     held : (reason : Reason) → answer.IsUnsettled line limits reason stuck → IsUnsettled line limits reason
     held Budget h = (stuck.turn, h.0, h.2)
     held Depth h = (stuck.turn, h.0, h.2)
