@@ -43,6 +43,7 @@ or_swap false false c e = e
 abbrev pub sat_as : SeatView → View
 sat_as s = view_of 1 s.numbers s.mark s.sighting
 
+-- the view of one seat gathers that seat
 pub gathers_first : (s : SeatView) → Gathers (s ∷ []) (sat_as s)
 gathers_first s = record {
   parts = refl;
@@ -51,6 +52,7 @@ gathers_first s = record {
   sightings = or_nothing s.sighting;
 }
 
+-- joined with the view of one more seat, a view gathers that seat too
 pub gathers_more : (s : SeatView) (taken : List SeatView) (v : View) → Gathers taken v → Gathers (s ∷ taken) (joined v (sat_as s))
 gathers_more s taken v h = record {
   parts = let p = h.parts in omega arith;
@@ -63,42 +65,51 @@ gathers_more s taken v h = record {
   sightings = or_swap s.sighting v.sighting (list_any (λ t. t.sighting) taken) h.sightings;
 }
 
+-- where each number weighs 1, those below n weigh n
 pub ones_below : (n : ℕ) → weight_below (λ _. 1) n ≡ n
 ones_below zero = refl
 ones_below (suc n) = let e = ones_below n in omega arith
 
+-- where each element weighs 1, a list weighs its length
 pub ones : {A : Type 0} (l : List A) → sum_by (λ _. 1) l ≡ length l
 ones [] = refl
 ones {A} (x ∷ xs) = let e = ones xs in let c = sum_by-cons (λ (_ : A). 1) x xs in omega arith
 
+-- sums of equal terms are equal
 pub sum_same : {A : Type 0} (f g : A → ℕ) (l : List A) → ((a : A) → f a ≡ g a) → sum_by f l ≡ sum_by g l
 sum_same f g [] same = refl
 sum_same f g (x ∷ xs) same = let e = sum_same f g xs same in let one = same x in omega (arith, sum_by-cons f x xs, sum_by-cons g x xs)
 
+-- no number below m is n, where n is m or more
 pub never_below : (n m : ℕ) → m ≤ n → weight_below (λ k. cond (nat_eq k n) 1 0) m ≡ 0
 never_below n zero h = refl
 never_below n (suc m) h = let e = never_below n m (omega arith) in grind (arith, nat_tests)
 
+-- one number below m is n, where n is less
 pub once_below : (n m : ℕ) → n < m → weight_below (λ k. cond (nat_eq k n) 1 0) m ≡ 1
 once_below n zero h = absurd (omega arith)
 once_below n (suc m) h =
     dite (dec_lt n m) (λ lt. let e = once_below n m lt in grind (arith, nat_tests)) (λ ge. let e = never_below n m (omega arith) in grind (arith, nat_tests))
 
+-- as many numbers below n are spare as n is above the jobs
 spares_exact : (jobs n : ℕ) → weight_below (λ k. cond (leb jobs k) 1 0) n ≡ n - jobs
 spares_exact jobs zero = omega arith
 spares_exact jobs (suc n) = let e = spares_exact jobs n in grind (arith, nat_tests)
 
+-- a list that ends with a spare number has one at least
 ends_spare : (jobs : ℕ) (xs : List ℕ) → 0 < jobs → EndsSpare jobs xs → 1 ≤ spare_count jobs xs
 ends_spare jobs [] job h = absurd (omega arith)
 ends_spare jobs (x ∷ xs) job h =
     let b = get_or-le-sum_by (λ k. cond (leb jobs k) 1 0) (x ∷ xs) (length (x ∷ xs) - 1) 0 (omega arith) in grind (arith, nat_tests)
 
+-- a truth value that weighs 1 is true
 is_set : (b : Bool) → 1 ≤ cond b 1 0 → b ≡ true
 is_set true h = refl
 is_set false h = absurd (omega arith)
 
 -- what the lists of all seats show, where however numbers are weighed they weigh as those below the count
 module _ (list : SeatView → List ℕ) (count : ℕ) (seats : List SeatView) (weights : (weight : ℕ → ℕ) → sum_by (λ (s : SeatView). sum_by weight (list s)) seats ≡ weight_below weight count) where
+  -- the numbers in the lists are those below the count, each once
   each_once : EachOnce list count seats
   each_once = record {
     count_is = sum_same (λ s. length (list s)) (λ s. sum_by (λ _. 1) (list s)) seats (λ s. sym (ones (list s))) ∙ (weights (λ _. 1) ∙ ones_below count);
@@ -106,6 +117,7 @@ module _ (list : SeatView → List ℕ) (count : ℕ) (seats : List SeatView) (w
     above = λ n le. weights (λ k. cond (nat_eq k n) 1 0) ∙ never_below n count le;
   }
 
+  -- as many of them are spare as the count is above the limit
   spares : (limit : ℕ) → sum_by (λ s. spare_count limit (list s)) seats ≡ count - limit
   spares limit = weights (λ k. cond (leb limit k) 1 0) ∙ spares_exact limit count
 
@@ -118,9 +130,11 @@ module _ (list : SeatView → List ℕ) (count : ℕ) (seats : List SeatView) (w
       let all = spares limit in
       omega arith
 
+  -- and each number below the limit was drawn, once
   uses : (limit : ℕ) → 0 < limit → AllJobsDrawn list limit seats
   uses limit positive s has ends number lt = each_once.below number (let b = beyond limit positive s has ends in omega arith)
 
+  -- where each list ends with a spare number, the count is at least the limit and the number of seats, added up
   all_spare : (limit : ℕ) → 0 < limit → 0 < length seats → All (λ (s : SeatView). EndsSpare limit (list s)) seats → limit + length seats ≤ count
   all_spare limit positive some_seat all =
       let least = sum_le (λ _. 1) (λ s. spare_count limit (list s)) seats
@@ -129,6 +143,7 @@ module _ (list : SeatView → List ℕ) (count : ℕ) (seats : List SeatView) (w
       let exact = spares limit in
       omega arith
 
+-- where one view gathers all seats and has every part, they show what seats of a closed desk show
 pub closes : (desk : DeskView) (plan : Plan) (drawn mark : ℕ) (views : List View) (id : ℕ) (v : View) (seats : List SeatView) → plan.jobs ≡ desk.jobs → plan.seats ≡ desk.seats
     → length seats ≡ desk.seats
     → 0 < desk.jobs → 0 < desk.seats → Gathers seats v → IsDesk plan drawn mark views → get_elem? views id ≡ some v → Closes desk seats drawn

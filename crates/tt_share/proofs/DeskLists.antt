@@ -13,11 +13,13 @@ use Rattle.tt_share.specs.Desk.{weight_below}
 use Rattle.tt_share.specs.Seats.{last_number}
 
 module _ {A : Type 0} where
+  -- the place of an element is within the list
   pub at_within : (l : List A) (i : ℕ) (a : A) → get_elem? l i ≡ some a → i < length l
   at_within [] i a e = absurd (some-ne-none a (sym e))
   at_within (x ∷ xs) zero a e = omega arith
   at_within (x ∷ xs) (suc i) a e = let h = at_within xs i a e in omega arith
 
+  -- and the element is what is read there
   pub at_read : (l : List A) (i : ℕ) (a d : A) → get_elem? l i ≡ some a → get_or l i d ≡ a
   at_read [] i a d e = absurd (some-ne-none a (sym e))
   at_read (x ∷ xs) zero a d e = some-injective x a e
@@ -29,6 +31,7 @@ module _ {A : Type 0} where
       let s = sum_by-set f l i b a (at_within l i a e) in
       let r : f (get_or l i a) ≡ f a = ap f (at_read l i a a e) in omega arith
 
+  -- an element weighs no more than the list
   pub sum_at : (f : A → ℕ) (l : List A) (i : ℕ) (a : A) → get_elem? l i ≡ some a → f a ≤ sum_by f l
   sum_at f l i a e =
       let s = get_or-le-sum_by f l i a (at_within l i a e) in
@@ -42,7 +45,7 @@ module _ {A : Type 0} where
       let more = sum_le f g xs (λ i a e. h (suc i) a e) in
       omega (arith, sum_by-cons f x xs, sum_by-cons g x xs)
 
--- the weights below n, where each number from `jobs` on weighs 1
+-- at most `jobs` of the numbers below n are below `jobs`
 pub spare_below : (jobs n : ℕ) → n ≤ weight_below (λ k. cond (leb jobs k) 1 0) n + jobs
 spare_below jobs zero = zero-le
 spare_below jobs (suc n) = let h = spare_below jobs n in grind (arith, nat_tests)
@@ -57,9 +60,11 @@ pub below_by_weight : (xs : List ℕ) (n k : ℕ) → sum_by (λ x. cond (leb n 
 below_by_weight xs n k none h =
     let one = get_or-le-sum_by (λ x. cond (leb n x) 1 0) xs k 0 h in grind (arith, nat_tests)
 
+-- numbers that rise do so with one more above all of them
 pub rising_push : (xs : List ℕ) (n : ℕ) → IsStrictlyIncreasing xs → ((k : ℕ) → k < length xs → get_or xs k 0 < n) → IsStrictlyIncreasing (xs ++ n ∷ [])
 rising_push xs n up below k h = grind (arith, common_steps, up k, below k)
 
+-- of numbers below n, none is n or more
 none_counted : (xs : List ℕ) (n : ℕ) → ((k : ℕ) → k < length xs → get_or xs k 0 < n) → count_by (λ x. leb n x) xs ≡ 0
 none_counted [] n h = refl
 none_counted (x ∷ xs) n h =

@@ -17,6 +17,7 @@ use Rattle.tt_share.specs.Desk.{DeskHolds, SeatState, IsNext, Draws, Raises, Loo
 use Rattle.tt_share.specs.Seats.{last_number}
 use Rattle.tt_share.proofs.DeskLists.{at_within, sum_set, sum_at, sum_le, spare_below, none_below, below_by_weight, rising_push, rising_short, no_spares}
 
+-- what holds at the view that changed and held at each view holds at each
 pub each_set : (P : View → Type 0) (views : List View) (id : ℕ) (w : View) → P w → EachView P views → EachView P (set views id w)
 each_set P views id w mine all seat u at =
     ⊎_elim (λ (x : (seat ≡ id) × (w ≡ u)). subst P x.1 mine) (λ (x : (seat ≢ id) × (get_elem? views seat ≡ some u)). all seat u x.1) (at_set views id seat w u at)
@@ -26,24 +27,29 @@ each_cut : (P : View → Type 0) (views : List View) (id : ℕ) (w new : View) �
 each_cut P views id w new one two all seat u is =
     ⊎_elim (λ (was : get_elem? (set views id w) seat ≡ some u). each_set P views id w one all seat u was) (λ (same : new ≡ u). subst P same two) (at_snoc (set views id w) new u seat is)
 
+-- what holds at the one view holds at each
 each_one : (P : View → Type 0) (v : View) → P v → EachView P (v ∷ [])
 each_one P v mine zero u at = subst P (some-injective v u at) mine
 each_one P v mine (suc i) u at = absurd (some-ne-none u (sym at))
 
+-- some view still meets P where one changed, if the change keeps P
 some_set : (P : View → Type 0) (views : List View) (id : ℕ) (v w : View) → get_elem? views id ≡ some v → (P v → P w) → SomeView P views → SomeView P (set views id w)
 some_set P views id v w at keep has =
     dite (ℕ_discrete has.0 id)
     (λ e. (id, w, set_here views id w (at_within views id v at), keep (subst P (some-injective has.1 v (sym (has.2) ∙ ap (get_elem? views) e ∙ at)) has.3)))
     (λ ne. (has.0, has.1, set_else views id has.0 w ne ∙ has.2, has.3))
 
+-- the empty list rises
 no_rise : IsStrictlyIncreasing []
 no_rise k h = absurd (omega arith)
 
 -- the lists of one kind of number, and how each step changes what they count
 module _ (numbers : View → List ℕ) (limit : ℕ) where
+  -- what a view's numbers weigh
   weigh : (ℕ → ℕ) → View → ℕ
   weigh weight v = sum_by weight (numbers v)
 
+  -- the count is at most the limit and the parts of all views
   pub counts_room : (count : ℕ) (views : List View) → Counts numbers limit count views → count ≤ limit + sum_by (λ v. v.parts) views
   counts_room count views h =
       let spares = sum_le (λ v. spare_count limit (numbers v)) (λ v. v.parts) views h.spares in
@@ -60,6 +66,7 @@ module _ (numbers : View → List ℕ) (limit : ℕ) where
       let mine = sum_at (λ u. sum_by weight (numbers u)) views id v at in
       below_by_weight (numbers v) count k (omega arith) lt
 
+  -- one view without numbers counts none
   counts_begin : (v : View) → numbers v ≡ [] → Counts numbers limit 0 (v ∷ [])
   counts_begin v none_yet = record {
     each_once = λ weight. zero-add (sum_by weight (numbers v)) ∙ ap (sum_by weight) none_yet;
@@ -67,6 +74,7 @@ module _ (numbers : View → List ℕ) (limit : ℕ) where
     rising = each_one (λ u. u.parts ≡ 1 → IsStrictlyIncreasing (numbers u)) v (λ _. subst IsStrictlyIncreasing (sym none_yet) no_rise);
   }
 
+  -- where a view changes and keeps its numbers and its parts, the count stays
   counts_same : (count : ℕ) (views : List View) (id : ℕ) (v w : View) → Counts numbers limit count views → get_elem? views id ≡ some v → numbers w ≡ numbers v → w.parts ≡ v.parts
       → Counts numbers limit count (set views id w)
   counts_same count views id v w h at same parts = record {
@@ -80,6 +88,7 @@ module _ (numbers : View → List ℕ) (limit : ℕ) where
         (λ one. subst IsStrictlyIncreasing (sym same) (h.rising id v at (sym parts ∙ one))) h.rising;
   }
 
+  -- where a view of one part that ends below the limit gets the count as a number, there is one more
   counts_add : (count : ℕ) (views : List View) (id : ℕ) (v w : View) → Counts numbers limit count views → get_elem? views id ≡ some v → v.parts ≡ 1 → last_number (numbers v) < limit
       → numbers w ≡ numbers v ++ count ∷ [] → w.parts ≡ 1 → Counts numbers limit (count + 1) (set views id w)
   counts_add count views id v w h at one within is one' =
@@ -97,6 +106,7 @@ module _ (numbers : View → List ℕ) (limit : ℕ) where
             (λ _. subst IsStrictlyIncreasing (sym is) (rising_push (numbers v) count up (counts_below count views id v h at))) h.rising;
       }
 
+  -- where a view without numbers becomes two without numbers, the count stays
   counts_cut : (count : ℕ) (views : List View) (id : ℕ) (v w new : View) → Counts numbers limit count views → get_elem? views id ≡ some v → numbers v ≡ [] → numbers w ≡ [] → numbers new ≡ []
       → Counts numbers limit count (set views id w ++ new ∷ [])
   counts_cut count views id v w new h at v_none w_none new_none = record {
@@ -114,6 +124,7 @@ module _ (numbers : View → List ℕ) (limit : ℕ) where
         (λ _. subst IsStrictlyIncreasing (sym w_none) no_rise) (λ _. subst IsStrictlyIncreasing (sym new_none) no_rise) h.rising;
   }
 
+  -- where one view takes over the numbers and parts of another one, the count stays
   counts_join : (count : ℕ) (views : List View) (id : ℕ) (v : View) (other : ℕ) (w both left : View) → Counts numbers limit count views → get_elem? views id ≡ some v → get_elem? views other ≡ some w
       → get_elem? (set views id both) other ≡ some w → numbers both ≡ numbers v ++ numbers w → both.parts ≡ v.parts + w.parts → numbers left ≡ [] → 0 < v.parts → 0 < w.parts
       → Counts numbers limit count (set (set views id both) other left)
@@ -137,13 +148,15 @@ module _ (numbers : View → List ℕ) (limit : ℕ) where
         (each_set (λ u. u.parts ≡ 1 → IsStrictlyIncreasing (numbers u)) views id both (λ one. absurd (omega arith)) h.rising);
   }
 
--- where one view changes and keeps its parts, which are one
+-- where a view changes and keeps its parts, the parts of all views are as many as before
 parts_same : (views : List View) (id : ℕ) (v w : View) → get_elem? views id ≡ some v → w.parts ≡ v.parts → sum_by (λ u. u.parts) (set views id w) ≡ sum_by (λ u. u.parts) views
 parts_same views id v w at same = let s = sum_set (λ u. u.parts) views id v w at in omega arith
 
+-- where a view of one part takes a view's place, views with no part still hold nothing
 spent_same : (views : List View) (id : ℕ) (w : View) → w.parts ≡ 1 → EachView (λ u. u.parts ≡ 0 → u ≡ no_seat) views → EachView (λ u. u.parts ≡ 0 → u ≡ no_seat) (set views id w)
 spent_same views id w one spent = each_set (λ u. u.parts ≡ 0 → u ≡ no_seat) views id w (λ e. absurd (omega arith)) spent
 
+-- where a view changes and keeps its mark and its sighting, what the mark says stays so
 mark_kept : (mark : ℕ) (views : List View) (id : ℕ) (v w : View) → get_elem? views id ≡ some v → w.mark ≡ v.mark → w.sighting ≡ v.sighting → IsMark mark views → IsMark mark (set views id w)
 mark_kept mark views id v w at same_mark same_sighting h = record {
   bit = h.bit;
@@ -151,6 +164,7 @@ mark_kept mark views id v w at same_mark same_sighting h = record {
   known = each_set (λ u. (u.mark || u.sighting) ≡ true → mark ≡ 1) views id w (λ p. h.known id v at (sym (λ k. same_mark k || same_sighting k) ∙ p)) h.known;
 }
 
+-- a new desk meets the rule
 pub begins : (plan : Plan) → DeskHolds plan (opening (0 ∷ 0 ∷ []) [] (whole_view plan))
 begins plan = (
   0,
@@ -178,6 +192,7 @@ next_one numbers limit count views id v h at one =
     let up = h.rising id v at one in
     let below = counts_below numbers limit count views id v h at in (rising_push (numbers v) count up below, rising_short (numbers v) count up below)
 
+-- a draw keeps the rule, and finds the seat's next number
 pub draws : (plan : Plan) (slots id : ℕ) (me : SeatState) → plan.jobs + plan.seats + 1 < 2 ^ 64 → me.1 ≡ [] → me.0.parts ≡ 1 → last_number me.0.numbers < plan.jobs
     → Allows (DeskHolds plan) slots id me 0 (λ n. (n + 1) % 2 ^ 64) (λ n after. Draws me n after)
 draws plan slots id me small empty one job s h homes at fits =
@@ -199,6 +214,7 @@ draws plan slots id me small empty one job s h homes at fits =
       (refl, subst (λ (n : ℕ). IsNext v.numbers n) (sym here) (next_one (λ u. u.numbers) plan.jobs h.0 s.views id v h.3.draws at one)),
     )
 
+-- raising the mark keeps the rule
 pub raises : (plan : Plan) (slots id : ℕ) (me : SeatState) → me.1 ≡ [] → me.0.parts ≡ 1 → Allows (DeskHolds plan) slots id me 1 (λ n. max n 1) (λ _ after. Raises me after)
 raises plan slots id me empty one s h homes at fits =
     let v : View = me.0 in
@@ -226,11 +242,13 @@ raises plan slots id me empty one s h homes at fits =
       refl,
     )
 
+-- what follows from what was known, and from what is new, follows from both together
 seen_now : (a b c : Bool) (φ : Type 0) → (a || (b || c)) ≡ true → ((a || b) ≡ true → φ) → (c ≡ true → φ) → φ
 seen_now true b c φ p old new = old refl
 seen_now false true c φ p old new = old refl
 seen_now false false c φ p old new = new p
 
+-- a view that looks at the mark leaves a desk a desk
 desk_looks : (plan : Plan) (drawn mark : ℕ) (views : List View) (id : ℕ) (v : View) → IsDesk plan drawn mark views → get_elem? views id ≡ some v → v.parts ≡ 1
     → IsDesk plan drawn mark (set views id (with_sighting v (nat_eq mark 1)))
 desk_looks plan drawn mark views id v h at one = let w : View = with_sighting v (nat_eq mark 1) in record {
@@ -245,6 +263,7 @@ desk_looks plan drawn mark views id v h at one = let w : View = with_sighting v 
   };
 }
 
+-- looking at the mark keeps the rule
 pub looks : (plan : Plan) (slots id : ℕ) (me : SeatState) → me.1 ≡ [] → me.0.parts ≡ 1 → Allows (DeskHolds plan) slots id me 1 (λ n. n) (λ n after. Looks me n after)
 looks plan slots id me empty one s h homes at fits =
     let v : View = me.0 in
@@ -281,11 +300,13 @@ desk_cuts plan drawn mark views id parts more is_more h at =
       };
     }
 
+-- handing out a seat keeps the rule
 pub cuts : (plan : Plan) (id : ℕ) (v : View) → v ≡ blank v.parts → 0 < v.parts → Splits (DeskHolds plan) id v (fewer v) one_seat
 cuts plan id v is_blank some_part =
     subst (λ (u : View). Splits (DeskHolds plan) id u (fewer u) one_seat) (sym is_blank)
     (λ s h at. (h.0, h.1, h.2, desk_cuts plan h.0 h.1 s.views id (v.parts - 1) v.parts (omega arith) h.3 at))
 
+-- what follows from each of two follows where one of them is true
 or_true : (a b : Bool) (φ : Type 0) → (a || b) ≡ true → (a ≡ true → φ) → (b ≡ true → φ) → φ
 or_true true b φ p left right = left refl
 or_true false b φ p left right = right p
@@ -298,6 +319,7 @@ pub right_true : (a b : Bool) → b ≡ true → (a || b) ≡ true
 right_true true b e = refl
 right_true false b e = e
 
+-- two views that are joined leave a desk a desk
 desk_joins : (plan : Plan) (drawn mark : ℕ) (views : List View) (id : ℕ) (v : View) (other : ℕ) (w : View) → IsDesk plan drawn mark views → get_elem? views id ≡ some v
     → ¬ (other ≡ id) → get_elem? (set views id (joined v w)) other ≡ some w → 0 < v.parts → 0 < w.parts → IsDesk plan drawn mark (set (set views id (joined v w)) other no_seat)
 desk_joins plan drawn mark views id v other w h at two at' some_v some_w =
@@ -330,5 +352,6 @@ desk_joins plan drawn mark views id v other w h at two at' some_v some_w =
       };
     }
 
+-- joining two seats keeps the rule
 pub joins : (plan : Plan) (id : ℕ) (v : View) (other : ℕ) (w : View) → 0 < v.parts → 0 < w.parts → Joins (DeskHolds plan) id v other w (joined v w) no_seat
 joins plan id v other w some_v some_w s h at two at' = (h.0, h.1, h.2, desk_joins plan h.0 h.1 s.views id v other w h.3 at two at' some_v some_w)

@@ -38,6 +38,7 @@ read_more (z ∷ zs) x (suc i) y is = elim (read_more zs x i y is) [
   | inr h ↦ inr (ap suc h.0, h.1)
 ]
 
+-- with one more result a win is still the last one, where the mark was down and a win raises it
 pub wins_more : (side : Side) (mark more : Bool) (found : List Found) (f : Found) → (IsTrue mark → ⊥) → (IsWinFor side f.end → IsTrue more) → WinsAreLast side mark found
     → WinsAreLast side more (found ++ f ∷ [])
 wins_more side mark more found f down raised was i g is win = elim (read_more found f i g is) [
@@ -45,9 +46,11 @@ wins_more side mark more found f down raised was i g is win = elim (read_more fo
   | inr h ↦ (let at = h.0 in omega (arith, at, length-append found (f ∷ [])), raised (subst (λ (x : Found). IsWinFor side x.end) (sym h.1) win))
 ]
 
+-- one more stands at the place of the old length
 last_there : {X : Type 0} (xs : List X) (x : X) → slice_get (xs ++ x ∷ []) (length xs) ≡ Some x
 last_there [] x = refl
 last_there (y ∷ ys) x = last_there ys x
 
+-- where the one more is a win, some result is
 pub last_wins : (side : Side) (found : List Found) (f : Found) → IsWinFor side f.end → SomeWin side (found ++ f ∷ [])
 last_wins side found f win = (length found, f, last_there found f, win)

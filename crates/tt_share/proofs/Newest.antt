@@ -26,26 +26,31 @@ some_none x e = cc
 abbrev NoneFor : Key → Side → List Proven → Type 0
 NoneFor k side ps = (i : ℕ) (p : Proven) → slice_get ps i ≡ Some p → IsFor k side p → ⊥
 
+-- older proofs behind leave the newest one as it was
 more_before : (k : Key) (side : Side) (ps qs : List Proven) (p : Proven) → IsNewest k side ps (Some p) → IsNewest k side (ps ++ qs) (Some p)
 more_before k side [] qs p h = absurd (some_none p h)
 more_before k side (q ∷ ps) qs p (inl h) = inl h
 more_before k side (q ∷ ps) qs p (inr h) = inr (h.0, more_before k side ps qs p h.1)
 
+-- a list with one more in front, reversed, has that one at its end
 turned : (p : Proven) (ps qs : List Proven) → reverse (p ∷ ps) ++ qs ≡ reverse ps ++ p ∷ qs
 turned p ps qs = ap (λ (l : List Proven). l ++ qs) (reverse-append (p ∷ []) ps) ∙ append_assoc (reverse ps) (p ∷ []) qs
 
+-- newer proofs that are not for the key and the side leave the newest one as it was
 none_after : (k : Key) (side : Side) (ps qs : List Proven) (o : Option Proven) → NoneFor k side ps → IsNewest k side qs o → IsNewest k side (reverse ps ++ qs) o
 none_after k side [] qs o none h = h
 none_after k side (p ∷ ps) qs o none h =
     let rest = none_after k side ps (p ∷ qs) o (λ i q at is. none (suc i) q at is) (inr (λ is. none 0 p refl is, h)) in
     subst (λ l. IsNewest k side l o) (sym (turned p ps qs)) rest
 
+-- where no proof is for them, there is no newest one
 none_newest : (k : Key) (side : Side) (ps : List Proven) → NoneFor k side ps → IsNewest k side (reverse ps) None
 none_newest k side [] none = refl
 none_newest k side (p ∷ ps) none =
     let rest = none_after k side ps (p ∷ []) None (λ i q at is. none (suc i) q at is) (inr (λ is. none 0 p refl is, refl)) in
     subst (λ l. IsNewest k side l None) (sym (reverse-append (p ∷ []) ps)) rest
 
+-- the last proof that is for them is the newest one
 last_newest : (k : Key) (side : Side) (ps : List Proven) (i : ℕ) (p : Proven) → slice_get ps i ≡ Some p → IsFor k side p
     → ((j : ℕ) (q : Proven) → i < j → slice_get ps j ≡ Some q → IsFor k side q → ⊥) → IsNewest k side (reverse ps) (Some p)
 last_newest k side [] i p at is later = absurd (some_none p (sym at))
@@ -64,10 +69,12 @@ last_newest k side (q ∷ ps) (suc i) p at is later =
 abbrev Stands : ℕ → List ℕ → Type 0
 Stands n places = (j : ℕ) × (j < length places) × (get_or places j 0 ≡ n)
 
+-- what passes the test at the first place has its place
 here : (b : Bool) (n : ℕ) (places : List ℕ) → b ≡ true → Stands (n + 0) (cond b (n ∷ places) places)
 here true n places e = (0, omega arith, omega arith)
 here false n places e = absurd (false≢true e)
 
+-- what has its place behind the first one has it among all
 later : (b : Bool) (n i : ℕ) (places : List ℕ) → Stands (n + 1 + i) places → Stands (n + suc i) (cond b (n ∷ places) places)
 later true n i places h = (suc h.0, omega (arith, h.1), h.2 ∙ omega arith)
 later false n i places h = (h.0, h.1, h.2 ∙ omega arith)
@@ -78,6 +85,7 @@ placed t n [] x i at is = absurd (some_none x (sym at))
 placed t n (y ∷ ys) x zero at is = let same : x ≡ y = cc in here (t y) n (places_from t (n + 1) ys) (subst (λ z. t z ≡ true) same is)
 placed t n (y ∷ ys) x (suc i) at is = later (t y) n i (places_from t (n + 1) ys) (placed t (n + 1) ys x i at is)
 
+-- places rise with the first one in front or without it
 rise_step : (b : Bool) (n : ℕ) (places : List ℕ) (j k : ℕ) → ((l : ℕ) → l < length places → n + 1 ≤ get_or places l 0)
     → ((l m : ℕ) → l ≤ m → m < length places → get_or places l 0 ≤ get_or places m 0)
     → j ≤ k → k < length (cond b (n ∷ places) places) → get_or (cond b (n ∷ places) places) j 0 ≤ get_or (cond b (n ∷ places) places) k 0
@@ -98,18 +106,19 @@ rise t n (y ∷ ys) j k le h = rise_step (t y) n (places_from t (n + 1) ys) j k 
 abbrev pub AmongFirst : Key → Side → List Proven → List ℕ → ℕ → Type 0
 AmongFirst k side ps places left = (i : ℕ) (p : Proven) → slice_get ps i ≡ Some p → IsFor k side p → (j : ℕ) × (j < left) × (get_or places j 0 ≡ i)
 
+-- each of them stands at one of the key's places
 pub among_all : (k : Key) (side : Side) (ps : List Proven) (places : List ℕ) → places ≡ places_of k ps → AmongFirst k side ps places (length places)
 among_all k side ps places are i p at is =
     let all = placed (λ (d : Proven). same_key k (key_of d.frame d.state)) 0 ps p i at (same_key_is k (key_of p.frame p.state) (sym is.has_key)) in
     subst (λ (l : List ℕ). (j : ℕ) × (j < length l) × (get_or l j 0 ≡ i)) (sym are) (all.0, all.1, all.2 ∙ zero-add i)
 
--- the value at the place behind a list's own
+-- where the value at a place is p, what stands there has the value p
 read_value : {A : Type 0} (value : A → Proven) (xs : List A) (i : ℕ) (o : Option A) (p : Proven) → slice_get xs i ≡ o → option_map value o ≡ Some p → (x : A)
     × (slice_get xs i ≡ Some x) × (value x ≡ p)
 read_value value xs i None p e is = absurd (some_none p (sym is))
 read_value value xs i (Some x) p e is = (x, e, cc is)
 
--- the last of these places has no such proof
+-- where the last of these places has no such proof, they stand at those before it
 pub among_fewer : {A : Type 0} (value : A → Proven) (k : Key) (side : Side) (xs : List A) (ps : List Proven) (places : List ℕ) (left : ℕ) → map value xs ≡ ps
     → ((x : A) → slice_get xs (get_or places (left - 1) 0) ≡ Some x → (value x).side ≡ side → ⊥) → AmongFirst k side ps places left → AmongFirst k side ps places (left - 1)
 among_fewer value k side xs ps places left all other among i p at is =
@@ -122,7 +131,7 @@ among_fewer value k side xs ps places left all other among i p at is =
     let place : i ≡ get_or places (left - 1) 0 = sym first.2 ∙ ap (λ j. get_or places j 0) last in
     absurd (other read.0 (subst (λ j. slice_get xs j ≡ Some read.0) place read.1) (ap (λ (q : Proven). q.side) read.2 ∙ is.for_side)))
 
--- what is read there is the value that stands there
+-- what is read at a place is for the side that what stands there is for
 pub read_side : {A : Type 0} (value : A → Proven) (xs : List A) (i : ℕ) (x y : A) (side : Side) → i < length xs → x ≡ get_or xs i x → slice_get xs i ≡ Some y
     → (value y).side ≡ side → (value x).side ≡ side
 read_side value xs i x y side inside is at for =
@@ -130,10 +139,12 @@ read_side value xs i x y side inside is at for =
     let same : x ≡ y = cc in
     ap (λ z. (value z).side) same ∙ for
 
+-- where none of the places is left, there is no newest proof
 pub none_is_newest : (k : Key) (side : Side) (ps : List Proven) (places : List ℕ) (left : ℕ) → left ≡ 0 → AmongFirst k side ps places left → IsNewest k side (reverse ps) None
 none_is_newest k side ps places left done among =
     none_newest k side ps (λ i p at is. let first = among i p at is in let h = first.1 in absurd (omega (arith, h, done)))
 
+-- a proof for the side at the last of the places that are left is the newest one
 pub found_is_newest : {A : Type 0} (value : A → Proven) (k : Key) (side : Side) (xs : List A) (ps : List Proven) (x : A) (places : List ℕ) (left : ℕ) → map value xs ≡ ps → places ≡ places_of k ps
     → left - 1 < length places → get_or places (left - 1) 0 < length xs → x ≡ get_or xs (get_or places (left - 1) 0) x → IsFor k side (value x) → AmongFirst k side ps places left
     → IsNewest k side (reverse ps) (Some (value x))

@@ -26,6 +26,7 @@ places-snoc t n (y ∷ ys) x = let e = places-snoc t (n + 1) ys x in grind (arit
 snoc_at : (b : Bool) (places : List ℕ) (m n : ℕ) → m ≡ n → cond b (places ++ m ∷ []) places ≡ cond b (places ++ n ∷ []) places
 snoc_at b places m n e = ap (λ i. cond b (places ++ i ∷ []) places) e
 
+-- with one more place at the key of one more proof, an index stays one
 pub index-snoc : {S : Type 0} (old new : HashMap Key (Vec ℕ Global) S) (ps : List Proven) (p : Proven) (key : Key) (place : ℕ) → place ≡ length ps → key ≡ key_of p.frame p.state → IsIndexOf old ps
     → ((q : Key) → places_at same_key new q ≡ cond (same_key key q) (places_at same_key old q ++ place ∷ []) (places_at same_key old q))
     → IsIndexOf new (ps ++ p ∷ [])
@@ -39,26 +40,31 @@ index-snoc old new ps p key place at same was step q =
     ∙ snoc_at (test p) (places_from test 0 ps) place (0 + length ps) (at ∙ sym (zero-add (length ps)))
     ∙ sym e
 
+-- with one more tree, its nodes are added, up to the greatest number of 64 bits
 pub nodes-snoc : (ps : List Proven) (p : Proven) (total n : ℕ) → total ≡ nodes_of ps → n ≡ min (total + min (nodes p.tree) (2 ^ 64 - 1)) (2 ^ 64 - 1) → n ≡ nodes_of (ps ++ p ∷ [])
 nodes-snoc ps p total n was is = let e = sum_by-append (λ (d : Proven). nodes d.tree) ps (p ∷ []) in grind (arith, e)
 
+-- one more element maps to one more
 pub map-snoc : {A B : Type 0} (f : A → B) (xs ys zs : List A) (x : A) → ys ≡ xs → zs ≡ ys ++ x ∷ [] → map f zs ≡ map f xs ++ f x ∷ []
 map-snoc f xs ys zs x e d = let a = map-append f xs (x ∷ []) in rw (d, e, a) refl
 
+-- what holds on Ok holds where there is no error
 pub on_no_err : {T E P : Type 0} (r : Result T E) → is_err r ≡ false → OnOk r P → P
 on_no_err (Ok x) e p = p
 on_no_err (Err x) e p = absurd (grind (arith, e))
 
--- no place is below the first
+-- with the first place in front or without it, no place is below it
 low_step : (b : Bool) (n : ℕ) (ps : List ℕ) (j : ℕ) → ((k : ℕ) → k < length ps → n + 1 ≤ get_or ps k 0) → j < length (cond b (n ∷ ps) ps) → n ≤ get_or (cond b (n ∷ ps) ps) j 0
 low_step true n ps zero low h = omega arith
 low_step true n ps (suc j) low h = let e = low j (omega (arith, h)) in omega (arith, e)
 low_step false n ps j low h = let e = low j h in omega (arith, e)
 
+-- no place is below the first number
 pub place_low : {X : Type 0} (t : X → Bool) (n : ℕ) (xs : List X) (j : ℕ) → j < length (places_from t n xs) → n ≤ get_or (places_from t n xs) j 0
 place_low t n [] j h = omega (arith, h)
 place_low t n (y ∷ ys) j h = low_step (t y) n (places_from t (n + 1) ys) j (place_low t (n + 1) ys) h
 
+-- with the first place in front or without it, what stands at a place passes the test
 pass_step : {X : Type 0} (t : X → Bool) (b : Bool) (n : ℕ) (x y : X) (ys : List X) (ps : List ℕ) (i j : ℕ) → t y ≡ b
     → ((k : ℕ) → k < length ps → n + 1 ≤ get_or ps k 0)
     → ((k l : ℕ) → k < length ps → get_or ps k 0 ≡ n + 1 + l → slice_get ys l ≡ Some x → t x ≡ true)
@@ -77,6 +83,7 @@ place_passes t n (y ∷ ys) x j i h at is =
     pass_step t (t y) n x y ys (places_from t (n + 1) ys) i j refl (place_low t (n + 1) ys)
     (λ k l inside at_k is_l. place_passes t (n + 1) ys x k l inside at_k is_l) h at is
 
+-- a proof at a place of the key has the key
 has_key : (k : Key) (ps : List Proven) (p : Proven) (j : ℕ) → j < length (places_of k ps) → slice_get ps (get_or (places_of k ps) j 0) ≡ Some p → key_of p.frame p.state ≡ k
 has_key k ps p j h is =
     let at = sym (zero-add (get_or (places_of k ps) j 0)) in

@@ -11,12 +11,13 @@ use Rattle.tt_share.specs.Results.{Progress, Puts, HasEnd, IsPastStuck, KeepsEnd
 use Rattle.tt_share.specs.Workers.{IsPlaced, AllPlaced, IsGiven, AreGiven, AllGiven}
 use Rattle.tt_share.proofs.ResultLemmas.{read_after, get_set_same, get_set_other}
 
--- what is known of the fields of results is known of what contracts see
+-- what is known of what contracts see is known of the fields of results
 pub seen : (P : Standing → Limits → Type 0) (line : Standing) (limits : Limits) (ends : List (Option End)) (p : Progress) → record { line = line; limits = limits; ends = ends } ≡ p
     → P p.line p.limits → P line limits
 seen P line limits ends p same h =
     subst (λ l. P line l) (sym (ap (λ (q : Progress). q.limits) same)) (subst (λ l. P l p.limits) (sym (ap (λ (q : Progress). q.line) same)) h)
 
+-- and what is known of the fields is known of what contracts see
 pub shown : (P : Standing → Limits → List (Option End) → Type 0) (line : Standing) (limits : Limits) (ends : List (Option End)) (p : Progress)
     → record { line = line; limits = limits; ends = ends } ≡ p
     → P line limits ends → P p.line p.limits p.ends
@@ -52,6 +53,7 @@ keeps_at old new f (Some None) is puts job end at =
     ap (λ l. slice_get l job) p.2 ∙ (get_set_other old f.job job (Some (kept_of p.0 f.end)) other ∙ at)
 keeps_at old new f (Some (Some had)) is puts job end at = subst (λ l. HasEnd l job end) (sym (puts.dropped (λ e. not_free had (sym is ∙ e)))) at
 
+-- putting a result keeps each one that stood there
 pub keeps : (old new : List (Option End)) (f : Found) → Puts old new f → KeepsEnds old new
 keeps old new f puts = keeps_at old new f (slice_get old f.job) refl puts
 
@@ -63,9 +65,11 @@ places_at old new f (Some None) is puts low =
     (kept_of p.0 f.end, ap (λ l. slice_get l f.job) p.2 ∙ get_set_same old f.job (Some (kept_of p.0 f.end)) None is)
 places_at old new f (Some (Some had)) is puts low = (had, ap (λ l. slice_get l f.job) (puts.dropped (λ e. not_free had (sym is ∙ e))) ∙ is)
 
+-- putting a result leaves its job with one
 pub places : (old new : List (Option End)) (f : Found) → Puts old new f → IsPlaced new f
 places old new f puts = places_at old new f (slice_get old f.job) refl puts
 
+-- what is kept twice is kept
 pub keeps_twice : (a b c : List (Option End)) → KeepsEnds a b → KeepsEnds b c → KeepsEnds a c
 keeps_twice a b c ab bc job end at = bc job end (ab job end at)
 
@@ -73,9 +77,11 @@ keeps_twice a b c ab bc job end at = bc job end (ab job end at)
 pub placed_still : (old new : List (Option End)) (f : Found) → length new ≡ length old → KeepsEnds old new → IsPlaced old f → IsPlaced new f
 placed_still old new f len kept was low = let h = was (omega (arith, low, len)) in (h.0, kept f.job h.0 h.1)
 
+-- so does each of a list
 pub all_still : (old new : List (Option End)) (fs : List Found) → length new ≡ length old → KeepsEnds old new → All (IsPlaced old) fs → All (IsPlaced new) fs
 all_still old new fs len kept was k d short = placed_still old new (get_or fs k d) len kept (was k d short)
 
+-- and so do those that workers handed back
 pub backs_still : (old new : List (Option End)) (bs : List HandedBack) → length new ≡ length old → KeepsEnds old new → All (AllPlaced old) bs → All (AllPlaced new) bs
 backs_still old new bs len kept was k d short = all_still old new (get_or bs k d).found.items len kept (was k d short)
 
@@ -88,6 +94,7 @@ all_more P x xs this all (suc k) d short = all k d (omega (arith, short))
 pub taken_more : {X : Type 0} (all left less taken : List X) (x : X) → all ≡ left ++ taken → left ≡ less ++ x ∷ [] → all ≡ less ++ x ∷ taken
 taken_more all left less taken x was is = was ∙ (ap (λ l. l ++ taken) is ∙ append_assoc less (x ∷ []) taken)
 
+-- what stands between two lists has the length of the first one as its place
 there_at : {X : Type 0} (less more : List X) (x : X) → slice_get (less ++ x ∷ more) (length less) ≡ Some x
 there_at [] more x = refl
 there_at (y ∷ less) more x = there_at less more x
@@ -100,10 +107,11 @@ taken_there all left less taken x was is = ap (λ l. slice_get l (length less)) 
 past_still : (old new : List (Option End)) (job : ℕ) → KeepsEnds old new → IsPastStuck old job → IsPastStuck new job
 past_still old new job kept past = (past.0, past.1, (past.2.0, kept past.0 past.2.0 past.2.1, past.2.2))
 
+-- and a result that is one of these stays so
 given_still : (old new : List (Option End)) (found : List Found) (job : ℕ) (end : End) → KeepsEnds old new → IsGiven old found job end → IsGiven new found job end
 given_still old new found job end kept was = (was.0, was.1, was.2, was.3, was.4, (λ up. past_still old new job kept (was.5 up)), was.6)
 
--- one more result is one of those that were handed back
+-- with one more of these results put, each result still stood there before or is one of these
 given_at : (first old new : List (Option End)) (all : List Found) (i : ℕ) (f : Found) (o : Option (Option End)) → slice_get all i ≡ Some f → slice_get old f.job ≡ o
     → Puts old new f → AreGiven first old all → AreGiven first new all
 given_at first old new all i f None there is puts was = subst (λ l. AreGiven first l all) (sym (puts.dropped (λ e. not_there None (sym is ∙ e)))) was
@@ -120,10 +128,11 @@ given_at first old new all i f (Some None) there is puts was = λ job end at. (
       ]
     ])
 
+-- the same, whatever stood at its place
 pub given_more : (first old new : List (Option End)) (all : List Found) (i : ℕ) (f : Found) → slice_get all i ≡ Some f → Puts old new f → AreGiven first old all → AreGiven first new all
 given_more first old new all i f there puts was = given_at first old new all i f (slice_get old f.job) there refl puts was
 
--- so are those of one more worker
+-- so it is with what one more worker handed back
 pub given_backs : (first old new : List (Option End)) (work : List HandedBack) (i : ℕ) (back : HandedBack) → slice_get work i ≡ Some back → KeepsEnds old new
     → AreGiven old new back.found.items → AllGiven first old work → AllGiven first new work
 given_backs first old new work i back there kept this was job end at = elim (this job end at) [

@@ -11,6 +11,7 @@ use Rattle.tt_share.specs.DeskLaw.{IsCount, IsStop, IsDeskState, DeskLaw}
 use Rattle.tt_share.proofs.DeskMoves.{left_true, right_true}
 use Rattle.tt_share.proofs.DeskClosing.{ones, ones_below, never_below, once_below, sum_same}
 
+-- two spare numbers, one behind the other, are two
 two_spares : (limit : ℕ) (xs : List ℕ) (k : ℕ) → k + 1 < length xs → limit ≤ get_or xs k 0 → limit ≤ get_or xs (k + 1) 0 → 2 ≤ spare_count limit xs
 two_spares limit [] k h one two = absurd (omega arith)
 two_spares limit (x ∷ xs) zero h one two =
@@ -21,6 +22,7 @@ two_spares limit (x ∷ xs) (suc k) h one two =
     let next : suc k + 1 ≡ suc (k + 1) = omega arith in
     let more = two_spares limit xs k (omega arith) one (subst (λ (j : ℕ). limit ≤ get_or (x ∷ xs) j 0) next two) in omega arith
 
+-- what numbers that are counted say in plain words
 count_law : (list : View → List ℕ) (limit word : ℕ) (views : List View) → Counts list limit word views → IsCount list limit word views
 count_law list limit word views h = record {
   count = sum_same (λ v. length (list v)) (λ v. sum_by (λ _. 1) (list v)) views (λ v. sym (ones (list v))) ∙ (h.each_once (λ _. 1) ∙ ones_below word);
@@ -35,6 +37,7 @@ count_law list limit word views h = record {
   spares = h.spares;
 }
 
+-- what the mark says in plain words
 stop_law : (word : ℕ) (views : List View) → IsMark word views → IsStop word views
 stop_law word views h = record {
   bit = dite (dec_lt word 1) (λ lt. inl (omega arith)) (λ ge. let b = h.bit in inr (omega arith));
@@ -43,6 +46,7 @@ stop_law word views h = record {
   sighting = λ seat v at is. h.known seat v at (right_true v.mark v.sighting is);
 }
 
+-- what a desk says in plain words
 state_law : (plan : Plan) (drawn mark : ℕ) (views : List View) → IsDesk plan drawn mark views → IsDeskState plan (drawn ∷ mark ∷ []) views
 state_law plan drawn mark views h = record {
   two_words = refl;
@@ -52,5 +56,6 @@ state_law plan drawn mark views h = record {
   stop = stop_law mark views h.marked;
 }
 
+-- what the rule says of each state in plain words
 pub desk_law : DeskLaw
 desk_law plan s h = subst (λ (words : List ℕ). IsDeskState plan words s.views) (sym h.2) (state_law plan h.0 h.1 s.views h.3)

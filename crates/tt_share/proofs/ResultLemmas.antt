@@ -41,6 +41,7 @@ kept_behind line limits t past_stuck (Settled p) h = h
 kept_behind line limits t false (Stuck reason search) h = h
 kept_behind line limits t true (Stuck reason search) h = tt
 
+-- so is the end of a job
 pub kept_result : (line : Standing) (limits : Limits) (job : ℕ) (past_stuck : Bool) (end : End) → IsResultOf line limits job end → IsResultOf line limits job (kept_of past_stuck end)
 kept_result line limits job past_stuck end this t at = kept_behind line limits t past_stuck end (this t at)
 

@@ -51,15 +51,18 @@ module _ (h : TreeKnot.the_members → RattleType) (below : IsSend (h TreeKnot.m
   tree_layer_sync : IsSync (TreeKnot.layer-Tree (h TreeKnot.member-Tree) (h TreeKnot.member-Tree))
   tree_layer_sync = search (sendable, crosses) depth 40
 
+-- trees cross threads and are shared, layer by layer
 tree_crosses : (i : TreeKnot.the_members) → Crosses TreeKnot.ring i
 tree_crosses = Tree.by_members (λ i. Crosses TreeKnot.ring i) (record {
   send = λ h below shared. tree_layer_send h (below TreeKnot.member-Tree) (shared TreeKnot.member-Tree);
   sync = λ h below shared. tree_layer_sync h (below TreeKnot.member-Tree) (shared TreeKnot.member-Tree);
 })
 
+-- so do the trees that a layer holds
 tree_hole : IsSend TreeKnot.hole-Tree
 tree_hole = record { owned = (both_send TreeKnot.ring tree_crosses TreeKnot.member-Tree).owned; leaving = λ k x w. tt }
 
+-- and they are shared
 tree_hole_shared : IsSync TreeKnot.hole-Tree
 tree_hole_shared = record { shared = (both_sync TreeKnot.ring tree_crosses TreeKnot.member-Tree).shared }
 
@@ -69,9 +72,11 @@ tree_send = search (sendable, crosses, tree_hole, tree_hole_shared) depth 40
 tree_sync : IsSync Tree.the_row
 tree_sync = search (sendable, crosses, tree_hole, tree_hole_shared) depth 40
 
+-- a plan crosses threads
 plan_send : IsSend Plan.the_row
 plan_send = view_send _ _ _ _ _ (declared_send Planned.the_type (tree_send, (as_row_send u16-field (search sendable depth 20), (as_row_send u64-field (search sendable depth 20), tt))))
 
+-- and is shared
 plan_sync : IsSync Plan.the_row
 plan_sync = view_sync _ _ _ _ _ (declared_sync Planned.the_type (tree_sync, (as_row_sync u16-field (search sendable depth 20), (as_row_sync u64-field (search sendable depth 20), tt))))
 
@@ -81,9 +86,11 @@ side_send = search (sendable, crosses) depth 40
 side_sync : IsSync Side.the_row
 side_sync = search (sendable, crosses) depth 40
 
+-- a proof crosses threads
 proof_send : IsSend Proof.the_row
 proof_send = view_send _ _ _ _ _ (declared_send Inside.the_type (as_row_send Past.the_field past_send, (side_send, (as_row_send Plan.the_field plan_send, tt))))
 
+-- and is shared
 proof_sync : IsSync Proof.the_row
 proof_sync = view_sync _ _ _ _ _ (declared_sync Inside.the_type (as_row_sync Past.the_field past_sync, (side_sync, (as_row_sync Plan.the_field plan_sync, tt))))
 
@@ -100,9 +107,11 @@ module _ (h : RattleType) (below : IsSend h) where
   node_layer : IsSend (NodeKnot.layer-Node h)
   node_layer = search (sendable, crosses) depth 40
 
+-- a type that splits into one that crosses threads crosses them
 rejoined_send : (R : RattleType) (D : Type 0) (split : D → R.Denot) (join : R.Denot → D) (joins : (d : D) → join (split d) ≡ d) → IsSend R → IsSend (rejoined R D split join joins)
 rejoined_send R D split join joins = recorded_send R D split (split_one R D split join joins)
 
+-- where the nodes below cross threads, so does a node
 node_keeps : (p : Parts NodeKnot.frame) → ((j : Deep.the_members) → IsSend (rows NodeKnot.frame p j)) → (i : Deep.the_members) → IsSend (rows NodeKnot.frame (NodeKnot.step p) i)
 node_keeps p all Deep.member-Node =
     let expansion : IsSend (NodeKnot.at-Expansion p) = rejoined_send _ _ Deep.split-Expansion Deep.join-Expansion Deep.joins-Expansion (expansion_layer _ (all Deep.member-Node)) in
@@ -111,6 +120,7 @@ node_keeps p all Deep.member-Node =
     let view : IsSend (NodeKnot.view-Node p) = view_send _ _ _ _ _ node in
     record { owned = view.owned; leaving = λ k x w. tt }
 
+-- nodes cross threads
 node_send : IsSend Node.the_row
 node_send = tied_send NodeKnot.frame NodeKnot.step NodeKnot.sizes node_keeps Deep.member-Node
 
@@ -120,12 +130,14 @@ limits_send = search (sendable, crosses) depth 40
 walk_send : IsSend Walk.the_row
 walk_send = search (sendable, crosses, line_send) depth 40
 
+-- a search crosses threads
 search_send : IsSend Search.the_row
 search_send = view_send _ _ _ _ _ (declared_send Within.the_type (walk_send, (limits_send, (as_row_send Node.the_field node_send, tt))))
 
 found_send : IsSend Found.the_row
 found_send = search (sendable, crosses, proof_send, search_send) depth 40
 
+-- a seat of a table crosses threads where what it holds does
 table_seat_send : (S V : RattleType) → IsSend S → IsSend (TableSeat.the_row S V)
 table_seat_send S V s = record { owned = λ d vs. ((λ vss. (tt, ((λ uss. (tt, tt)), tt))), seat_keyless S s V.coded.code d.table_id d.id d.me); leaving = λ k f vs. tt }
 

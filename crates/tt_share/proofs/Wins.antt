@@ -47,6 +47,7 @@ stuck_at : (ends : List (Option End)) (i : ℕ) (slot : Option End) → slice_ge
 stuck_at ends i None here stuck = absurd stuck
 stuck_at ends i (Some end) here stuck = (end, here, stuck)
 
+-- what is read as a stuck search is the job's
 pub stuck_here : (ends : List (Option End)) (i : ℕ) (slot : Option End) → i < length ends → slot ≡ get_or ends i slot → IsStuckIn slot → IsStuckAt ends i
 stuck_here ends i slot within read stuck = stuck_at ends i slot (slice_get_read ends (length ends) i slot refl within read) stuck
 
@@ -145,6 +146,7 @@ settled_here ends i end p here is stuck =
 pub none_at : (side a : Side) (ends xs : List (Option End)) → a ≡ side → xs ≡ ends → NoWin a xs → NoWin side ends
 none_at side a ends xs is_side is_list none = subst (λ s. NoWin s ends) is_side (subst (λ (l : List (Option End)). NoWin a l) is_list none)
 
+-- so is the least win
 pub least_at : (side a : Side) (ends xs : List (Option End)) (job : ℕ) → a ≡ side → xs ≡ ends → IsLeastWin a xs job → IsLeastWin side ends job
 least_at side a ends xs job is_side is_list least = subst (λ s. IsLeastWin s ends job) is_side (subst (λ (l : List (Option End)). IsLeastWin a l job) is_list least)
 
@@ -154,7 +156,7 @@ job_here line turns i n t all same within read =
     let here : slice_get turns i ≡ Some t = slice_get_read turns (length turns) i t refl within read in
     subst (λ (ts : List Turn). slice_get ts n ≡ Some t) all (subst (λ k. slice_get turns k ≡ Some t) (sym same) here)
 
--- what is taken is gone, and the rest is as it was
+-- behind what is taken, the rest is as it was
 pub rest_same : (first old new : List (Option End)) (i : ℕ) → ((k : ℕ) → i ≤ k → slice_get old k ≡ slice_get first k) → new ≡ slice_set old i None → (k : ℕ) → i + 1 ≤ k
     → slice_get new k ≡ slice_get first k
 rest_same first old new i same taken k low =
@@ -180,7 +182,7 @@ win_within side ends i win = slice_get_within ends i (Some win.0) win.1
 pub ends_here : (line : Standing) (limits : Limits) (i : ℕ) (t : Turn) (end is : End) → end ≡ is → IsResultOf line limits i end → IsJob line i t → EndsBehind line limits t is
 ends_here line limits i t end is same fits job = subst (EndsBehind line limits t) same (fits t job)
 
--- a win stays where its place is as it was
+-- a win stood there before, where its place is as it was
 pub win_kept : (side : Side) (old new : List (Option End)) (k : ℕ) → slice_get new k ≡ slice_get old k → IsWinAt side new k → IsWinAt side old k
 win_kept side old new k same win = (win.0, sym same ∙ win.1, win.2)
 
