@@ -36,7 +36,7 @@ turn_at_place (x ∷ es) (suc i) e t l = turn_at_place es i e t (omega arith)
 abbrev nothing : List PartialTree
 nothing = []
 
--- nothing can be dropped from no trees
+-- dropping from no trees leaves none
 drop_none : (n : ℕ) → drop n nothing ≡ nothing
 drop_none n = drop_all n nothing (omega arith)
 

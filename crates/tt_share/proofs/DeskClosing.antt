@@ -134,7 +134,7 @@ module _ (list : SeatView → List ℕ) (count : ℕ) (seats : List SeatView) (w
   uses : (limit : ℕ) → 0 < limit → AllJobsDrawn list limit seats
   uses limit positive s has ends number lt = each_once.below number (let b = beyond limit positive s has ends in omega arith)
 
-  -- where each list ends with a spare number, the count is at least the limit and the number of seats
+  -- where each list ends with a spare number, the count is at least the limit and the number of seats, added up
   all_spare : (limit : ℕ) → 0 < limit → 0 < length seats → All (λ (s : SeatView). EndsSpare limit (list s)) seats → limit + length seats ≤ count
   all_spare limit positive some_seat all =
       let least = sum_le (λ _. 1) (λ s. spare_count limit (list s)) seats

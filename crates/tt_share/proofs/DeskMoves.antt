@@ -39,7 +39,7 @@ some_set P views id v w at keep has =
     (λ e. (id, w, set_here views id w (at_within views id v at), keep (subst P (some-injective has.1 v (sym (has.2) ∙ ap (get_elem? views) e ∙ at)) has.3)))
     (λ ne. (has.0, has.1, set_else views id has.0 w ne ∙ has.2, has.3))
 
--- no numbers rise
+-- the empty list rises
 no_rise : IsStrictlyIncreasing []
 no_rise k h = absurd (omega arith)
 
