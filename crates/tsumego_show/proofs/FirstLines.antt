@@ -10,7 +10,7 @@ use Rattle.tt_proof.specs.declared.certificate_read.CertFault.TheVariants.{Synta
 use Rattle.tt_proof.specs.CertificateFaults.{IsFault}
 use Rattle.tt_proof.specs.CertificateText.{IsCertificate, IsTooDeep}
 use Rattle.tt_proof.specs.Strategy.{Strategy}
-use Rattle.tsumego_show.specs.Drawing.{Draws, drawn, first_lines, not_drawn, strategy_text}
+use Rattle.tsumego_show.specs.Drawing.{Draws, DrawsFirst, drawn, deep_drawn, deep_line, first_lines, none_drawn, none_line, strategy_text}
 
 -- nothing is left
 pub lines_done : (out rest whole : List ℕ) (left : ℕ) → length rest ≡ 0 → out ++ first_lines left rest ≡ whole → out ≡ whole
@@ -42,18 +42,22 @@ lines_more out rest behind whole out' b left next e some h more is =
 -- the size of the line's frame is that of its problem
 module _ (p : Standing) (f : Frame) (bytes : List ℕ) (same : f ≡ p.frame) where
   pub drawn_at : {A E : Type 0} (r : Result A E) (old new : List ℕ) (side : Side) (u : Strategy) → IsCertificate f.size bytes side u × (IsTooDeep f.size bytes → ⊥)
-      → OnOk r (new ≡ old ++ strategy_text p side u) → OnOk r ((x : List ℕ) × Draws p bytes x × (new ≡ old ++ x))
+      → OnOk r ((first : List ℕ) × DrawsFirst p side u first × (new ≡ old ++ (first ++ strategy_text p side u))) → OnOk r ((x : List ℕ) × Draws p bytes x × (new ≡ old ++ x))
   drawn_at (Ok y) old new side u h e =
       let k = subst (λ (g : Frame). IsCertificate g.size bytes side u × (IsTooDeep g.size bytes → ⊥)) same h in
-      (strategy_text p side u, drawn side u k.0 k.1, e)
+      (e.0 ++ strategy_text p side u, drawn side u e.0 k.0 k.1 e.1, e.2)
   drawn_at (Err y) old new side u h e = e
 
-  pub none_at : (old : List ℕ) (e : CertFault) → e ≡ Syntax → IsFault f.size bytes e → (x : List ℕ) × Draws p bytes x × (old ≡ old ++ x)
-  none_at old e is h =
+  pub none_at : {A E : Type 0} (r : Result A E) (old new : List ℕ) (e : CertFault) → e ≡ Syntax → IsFault f.size bytes e → OnOk r (new ≡ old ++ none_line bytes)
+      → OnOk r ((x : List ℕ) × Draws p bytes x × (new ≡ old ++ x))
+  none_at (Ok y) old new e is h w =
       let k : IsFault p.frame.size bytes Syntax = subst (λ (g : Frame). IsFault g.size bytes Syntax) same (subst (λ (x : CertFault). IsFault f.size bytes x) is h) in
-      ([], not_drawn (inl k.0), sym (append-nil old))
+      (none_line bytes, none_drawn k.0 k.1, w)
+  none_at (Err y) old new e is h w = w
 
-  pub deep_at : (old : List ℕ) (e : CertFault) → e ≡ TooDeep → IsFault f.size bytes e → (x : List ℕ) × Draws p bytes x × (old ≡ old ++ x)
-  deep_at old e is h =
+  pub deep_at : {A E : Type 0} (r : Result A E) (old new : List ℕ) (e : CertFault) → e ≡ TooDeep → IsFault f.size bytes e → OnOk r (new ≡ old ++ deep_line)
+      → OnOk r ((x : List ℕ) × Draws p bytes x × (new ≡ old ++ x))
+  deep_at (Ok y) old new e is h w =
       let k : IsFault p.frame.size bytes TooDeep = subst (λ (g : Frame). IsFault g.size bytes TooDeep) same (subst (λ (x : CertFault). IsFault f.size bytes x) is h) in
-      ([], not_drawn (inr k), sym (append-nil old))
+      (deep_line, deep_drawn k, w)
+  deep_at (Err y) old new e is h w = w

@@ -2,6 +2,7 @@ pub mod FirstLines
 pub mod FirstTree
 pub mod Limit
 pub mod OneText
+pub mod FirstTurn
 pub mod Spreading
 pub mod Texts
 pub mod Told

@@ -1,5 +1,5 @@
 -- An input has one text and one status.
-use Rattle.std.proofs.Common.{◌≡◌, ◌⊎◌, ℕ, Bool, List, [], ◌∷◌, ◌++◌, ◌||◌, ◌+◌, inl, inr, Ok, Err, refl, sym, ap, ap₂, ◌∙◌, drop, arith, append-nil, subst, Contains, if◌then◌else◌}
+use Rattle.std.proofs.Common.{◌≡◌, ℕ, Bool, List, [], ◌∷◌, ◌++◌, ◌||◌, ◌+◌, inl, inr, Ok, Err, refl, sym, ap, ap₂, ◌∙◌, drop, arith, append-nil, subst, Contains, if◌then◌else◌}
 use Rattle.std.specs.declared.result.Result.{Result}
 use Rattle.std.proofs.lemmas.List.{append_cancel_left}
 use Rattle.std.proofs.lemmas.List.Elements.{Contains-append_left, Contains-append_right}
@@ -11,10 +11,11 @@ use Rattle.tt_game.specs.declared.frame.Side.{Side}
 use Rattle.tt_game.specs.declared.frame.Side.TheVariants.{Attacker, Defender}
 use Rattle.tt_game.specs.Line.{Standing}
 use Rattle.tt_game.specs.Problems.{problem_of}
-use Rattle.tt_proof.specs.CertificateText.{IsCertificate, IsTooDeep, side_text, tree_text}
+use Rattle.tt_proof.specs.CertificateText.{IsCertificate, side_text, tree_text}
 use Rattle.tt_proof.specs.Laws.{OneReading}
 use Rattle.tt_proof.specs.Strategy.{Strategy}
-use Rattle.tsumego_show.specs.Drawing.{Draws, drawn, not_drawn, strategy_text}
+use Rattle.tsumego_show.proofs.FirstTurn.{turn_same}
+use Rattle.tsumego_show.specs.Drawing.{Draws, DrawsFirst, begins, begins_none, deep_drawn, drawn, none_drawn, strategy_text, turned_text}
 use Rattle.tsumego_show.specs.Shown.{DrawsBehind, HasOpen, IsShown, IsTold, IsTreeText, Tells, ended, is_refused, last_tree, more_trees, problem_text, stopped, too_long, tree, trees}
 
 -- the text of a tree begins with a bracket
@@ -42,17 +43,25 @@ module _ (one : OneReading) where
   texts_same size Attacker Defender u v bytes a b = let bad : 107 ≡ 108 = ap first (sym a.text ∙ b.text) in absurd (omega (arith, bad))
   texts_same size Defender Attacker u v bytes a b = let bad : 108 ≡ 107 = ap first (sym a.text ∙ b.text) in absurd (omega (arith, bad))
 
-  none_drawn : (p : Standing) (bytes : List ℕ) (side : Side) (u : Strategy) → IsCertificate p.frame.size bytes side u → (IsTooDeep p.frame.size bytes → ⊥)
-      → ((s : Side) (v : Strategy) → IsCertificate p.frame.size bytes s v → ⊥) ⊎ IsTooDeep p.frame.size bytes → ⊥
-  none_drawn p bytes side u is flat (inl none) = none side u is
-  none_drawn p bytes side u is flat (inr deep) = flat deep
+  first_same : (p : Standing) (side : Side) (u : Strategy) (s t : List ℕ) → DrawsFirst p side u s → DrawsFirst p side u t → s ≡ t
+  first_same p side u s t (begins a x) (begins b y) = ap (turned_text p) (turn_same a b (sym x.0 ∙ y.0))
+  first_same p side u s t (begins a x) (begins_none none) = absurd (none a x)
+  first_same p side u s t (begins_none none) (begins b y) = absurd (none b y)
+  first_same p side u s t (begins_none none) (begins_none never) = refl
 
   drawn_same : (p : Standing) (bytes s t : List ℕ) → Draws p bytes s → Draws p bytes t → s ≡ t
-  drawn_same p bytes s t (drawn a u is flat) (drawn b v are low) =
-      let same = texts_same p.frame.size a b u v bytes is are in ap₂ (λ (x : Side) (y : Strategy). strategy_text p x y) same.0 same.1
-  drawn_same p bytes s t (drawn a u is flat) (not_drawn none) = absurd (none_drawn p bytes a u is flat none)
-  drawn_same p bytes s t (not_drawn none) (drawn a u is flat) = absurd (none_drawn p bytes a u is flat none)
-  drawn_same p bytes s t (not_drawn none) (not_drawn more) = refl
+  drawn_same p bytes s t (drawn a u x is flat its_first) (drawn b v y are low others) =
+      let same = texts_same p.frame.size a b u v bytes is are in
+      let its : DrawsFirst p b v x = subst (λ (k : Side). DrawsFirst p k v x) same.0 (subst (λ (w : Strategy). DrawsFirst p a w x) same.1 its_first) in
+      ap₂ (λ (k : Side) (w : Strategy). x ++ strategy_text p k w) same.0 same.1 ∙ ap (λ (l : List ℕ). l ++ strategy_text p b v) (first_same p b v x y its others)
+  drawn_same p bytes s t (drawn a u x is flat its_first) (none_drawn none low) = absurd (none a u is)
+  drawn_same p bytes s t (drawn a u x is flat its_first) (deep_drawn deep) = absurd (flat deep)
+  drawn_same p bytes s t (none_drawn none flat) (drawn b v y are low others) = absurd (none b v are)
+  drawn_same p bytes s t (none_drawn none flat) (none_drawn never low) = refl
+  drawn_same p bytes s t (none_drawn none flat) (deep_drawn deep) = absurd (flat deep)
+  drawn_same p bytes s t (deep_drawn deep) (drawn b v y are low others) = absurd (low deep)
+  drawn_same p bytes s t (deep_drawn deep) (none_drawn none low) = absurd (low deep)
+  drawn_same p bytes s t (deep_drawn deep) (deep_drawn more) = refl
 
   behind_same : (p : Standing) (behind s t : List ℕ) → DrawsBehind p behind s → DrawsBehind p behind t → s ≡ t
   behind_same p behind s t (more_trees a) (more_trees b) = refl

@@ -1,16 +1,18 @@
--- A strategy as an indented tree: a line for each turn, and what follows it further in.
-use Rattle.std.specs.Prelude.{◌⊎◌, ◌+◌, ◌-◌, ◌==◌, ℕ, nat_lt, nat_eq, List, [], ◌∷◌, ◌++◌, codes, replicate, if◌then◌else◌}
+-- What is drawn of a certificate: the board after the first turn of its side, and its strategy as an indented tree, a line for each
+-- turn, and what follows it further in.
+use Rattle.std.specs.Prelude.{◌≡◌, ◌+◌, ◌-◌, ◌==◌, ℕ, nat_lt, nat_eq, List, [], ◌∷◌, ◌++◌, codes, replicate, Some, if◌then◌else◌}
 use Rattle.tt_sgf.specs.declared.size.Size.{Size}
 use Rattle.tt_board.specs.declared.Colour.{Colour}
 use Rattle.tt_board.specs.Play.{other}
 use Rattle.tt_game.specs.declared.frame.Side.{Side}
 use Rattle.tt_game.specs.declared.turns.Turn.{Turn}
 use Rattle.tt_game.specs.declared.turns.Turn.TheVariants.{Play, Pass}
-use Rattle.tt_game.specs.Game.{colour_of}
+use Rattle.tt_game.specs.Game.{IsLegal, after, colour_of}
 use Rattle.tt_game.specs.Line.{Standing}
 use Rattle.tt_proof.specs.CertificateText.{IsCertificate, IsTooDeep, turn_text}
+use Rattle.tt_proof.specs.Proven.{first_of}
 use Rattle.tt_proof.specs.Strategy.{Strategy, Entries, done, pick, reply, none, entry}
-use Rattle.tsumego_show.specs.Picture.{colour_name}
+use Rattle.tsumego_show.specs.Picture.{board_text, colour_name}
 
 -- one step further in; the blanks in front of a line are 40 at the most
 abbrev pub deeper : ℕ → ℕ
@@ -50,14 +52,48 @@ most_lines = 60
 abbrev pub heading : Colour → List ℕ
 heading k = colour_name k ++ codes "'s strategy:\n"
 
+-- ---- what follows a problem and is no certificate
+
+-- where something follows, and it is no certificate
+abbrev pub none_line : List ℕ → List ℕ
+none_line [] = []
+none_line (b ∷ bs) = codes "what follows is no certificate\n"
+
+abbrev pub deep_line : List ℕ
+deep_line = codes "what follows goes deeper than 512 turns, so it is no certificate\n"
+
 module _ (p : Standing) where
   -- whose strategy it is, and its first lines
   abbrev pub strategy_text : Side → Strategy → List ℕ
   strategy_text side u =
       heading (colour_of p.frame side) ++ first_lines most_lines (tree_lines p.frame.size (colour_of p.frame side) 1 u)
 
+  -- ---- the first turn
+
+  -- the problem after a turn
+  abbrev pub turned : Turn → Standing
+  turned t = record { frame = p.frame; state = after p.frame p.state t; before = p.state ∷ [] }
+
+  -- `After Black ca:`, and the board then
+  abbrev pub turned_text : Turn → List ℕ
+  turned_text t =
+      codes "After " ++ (colour_name (colour_of p.frame p.state.to_move) ++ (32 ∷ (shown_turn p.frame.size t ++ (codes ":\n" ++ board_text (turned t)))))
+
+  -- the side is to move, and begins with this turn, which is legal
+  abbrev pub IsFirst : Side → Strategy → Turn → Type 0
+  IsFirst side u t = (first_of u ≡ Some t) × (p.state.to_move ≡ side) × IsLegal p.frame p.state t
+
+  -- the text on the first turn, where there is one
+  pub data DrawsFirst (side : Side) (u : Strategy) : List ℕ → Type 0 where
+    begins : (t : Turn) → IsFirst side u t → DrawsFirst side u (turned_text t)
+    begins_none : ((t : Turn) → IsFirst side u t → ⊥) → DrawsFirst side u []
+
+  -- ---- what follows a problem
+
   -- the text on bytes that may be a certificate
   pub data Draws (bytes : List ℕ) : List ℕ → Type 0 where
-    drawn : (side : Side) (u : Strategy) → IsCertificate p.frame.size bytes side u → (IsTooDeep p.frame.size bytes → ⊥)
-        → Draws bytes (strategy_text side u)
-    not_drawn : ((side : Side) (u : Strategy) → IsCertificate p.frame.size bytes side u → ⊥) ⊎ IsTooDeep p.frame.size bytes → Draws bytes []
+    drawn : (side : Side) (u : Strategy) (first : List ℕ) → IsCertificate p.frame.size bytes side u → (IsTooDeep p.frame.size bytes → ⊥)
+        → DrawsFirst side u first → Draws bytes (first ++ strategy_text side u)
+    none_drawn : ((side : Side) (u : Strategy) → IsCertificate p.frame.size bytes side u → ⊥) → (IsTooDeep p.frame.size bytes → ⊥)
+        → Draws bytes (none_line bytes)
+    deep_drawn : IsTooDeep p.frame.size bytes → Draws bytes deep_line

@@ -1,5 +1,5 @@
 -- The picture of a problem: its board with the letters of SGF above and on the left.
-use Rattle.std.specs.Prelude.{ℕ, ◌+◌, ◌*◌, Bool, true, false, List, [], ◌∷◌, ◌++◌, codes, Option, Some, None, if◌then◌else◌}
+use Rattle.std.specs.Prelude.{ℕ, nat_eq, ◌+◌, ◌*◌, Bool, true, false, List, [], ◌∷◌, ◌++◌, codes, decimal, length, Option, Some, None, if◌then◌else◌}
 use Rattle.std.specs.List.{flat_map, range_with_len}
 use Rattle.std.specs.FinSet as set
 use Rattle.tt_sgf.specs.declared.size.Size.{Size}
@@ -69,11 +69,16 @@ abbrev pub mover_text : Standing → List ℕ
 mover_text p = colour_name (colour_of p.frame p.state.to_move) ++ codes " to move, "
 
 abbrev pub target_text : Standing → List ℕ
-target_text p = codes "T is " ++ (colour_name p.frame.defender ++ 10 ∷ [])
+target_text p = codes "T is " ++ colour_name p.frame.defender
 
--- `Black to move, T is White`
+-- how many positions came before, which no play may make again
+abbrev pub earlier_text : ℕ → List ℕ
+earlier_text n =
+    if nat_eq n 0 then [] else (if nat_eq n 1 then codes ", after 1 earlier position" else codes ", after " ++ (decimal n ++ codes " earlier positions"))
+
+-- `Black to move, T is White, after 1 earlier position`
 abbrev pub asked_line : Standing → List ℕ
-asked_line p = mover_text p ++ target_text p
+asked_line p = mover_text p ++ (target_text p ++ (earlier_text (length p.state.earlier) ++ 10 ∷ []))
 
 -- the picture of a problem
 abbrev pub picture : Standing → List ℕ

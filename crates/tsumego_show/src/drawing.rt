@@ -1,14 +1,16 @@
-//! Draws the strategy of a certificate.
+//! Draws what follows a problem: the first turn and the strategy of a certificate.
 ghost use Rattle.std.specs.Prelude.{◌≡◌, ◌≢◌, ◌++◌, ◌∷◌, ◌==◌, ◌-◌, [], ℕ, List, replicate, if◌then◌else◌, OnOk};
 ghost use Rattle.tt_proof.specs.Strategy.{AreInOrder, IsInOrder, IsOnBoard, entries_of_trees, strategy_of};
 ghost use Rattle.tsumego_show.specs.Picture.{colour_name};
-ghost use Rattle.tsumego_show.specs.Drawing.{Draws, deeper, entries_lines, first_lines, heading, most_lines, shown_turn, strategy_text, tree_lines, turn_line};
+ghost use Rattle.tsumego_show.specs.Drawing.{Draws, DrawsFirst, deep_line, deeper, entries_lines, first_lines, heading, most_lines, none_line, shown_turn, strategy_text, tree_lines, turn_line};
 
+use crate::opening::put_first;
 use crate::picture::{colour_name, colour_of};
+use crate::turns::put_shown;
 use std::alloc::Global;
 use tt_board::Colour;
 use tt_game::{Line, Side, Turn};
-use tt_proof::{CertFault, Tree, put_turn, read_cert};
+use tt_proof::{CertFault, Tree, read_cert};
 use tt_sgf::{NoMemory, Size};
 
 /// How many lines of a strategy are shown.
@@ -19,20 +21,6 @@ fn deeper(level: usize) -> usize
     ensures { result ≡ deeper level }
 {
     if level < 40 { level + 1 } else { level }
-}
-
-/// Writes a turn behind the text.
-fn put_shown(out: &mut Vec<u8>, turn: Turn, size: Size) -> Result<(), NoMemory>
-    requires { IsOnBoard size turn }
-    ensures { OnOk result (out.new.items ≡ out.old.items ++ shown_turn size turn) }
-{
-    match turn {
-        Turn::Play(_) => put_turn(out, turn, size),
-        Turn::Pass => {
-            out.extend_from_slice(b"pass")?;
-            Ok(())
-        }
-    }
 }
 
 /// Writes so many blanks behind the text.
@@ -169,8 +157,43 @@ fn put_strategy(
     put_first_lines(out, lines.as_slice())
 }
 
-/// Writes the strategy behind the text, where the bytes are its certificate at the problem: a line for each turn, as many as
-/// 60. `NoMemory` where memory was refused; a part may stand there then.
+/// Writes that what follows is no certificate behind the text, where something follows.
+fn put_none(out: &mut Vec<u8>, bytes: &[u8]) -> Result<(), NoMemory>
+    ensures { OnOk result (out.new.items ≡ out.old.items ++ none_line bytes.now) }
+{
+    if !bytes.is_empty() {
+        out.extend_from_slice(b"what follows is no certificate\n")?;
+    }
+    Ok(())
+}
+
+/// Writes that what follows goes too deep behind the text.
+fn put_deep(out: &mut Vec<u8>) -> Result<(), NoMemory>
+    ensures { OnOk result (out.new.items ≡ out.old.items ++ deep_line) }
+{
+    out.extend_from_slice(b"what follows goes deeper than 512 turns, so it is no certificate\n")?;
+    Ok(())
+}
+
+/// Writes the first turn and the strategy of a side behind the text.
+fn put_drawn(
+    alloc: Global,
+    out: &mut Vec<u8>,
+    line: &Line,
+    side: Side,
+    tree: &Tree,
+) -> Result<(), NoMemory>
+    requires { IsInOrder line.now.frame.size (strategy_of tree.now) }
+    ensures { OnOk result ((text : List ℕ) × DrawsFirst line.now side (strategy_of tree.now) text
+        × (out.new.items ≡ out.old.items ++ (text ++ strategy_text line.now side (strategy_of tree.now)))) }
+{
+    put_first(out, line, side, tree)?;
+    put_strategy(alloc, out, line, side, tree)
+}
+
+/// Writes the text on what follows a problem behind the text. Where it is a certificate, the board after its side's first turn,
+/// and the strategy, a line for each turn, as many as 60; else, where something follows, a line that says so. `NoMemory` where
+/// memory was refused; a part may stand there then.
 pub fn put_certificate(
     alloc: Global,
     out: &mut Vec<u8>,
@@ -180,9 +203,9 @@ pub fn put_certificate(
     ensures { OnOk result ((text : List ℕ) × Draws line.now bytes.now text × (out.new.items ≡ out.old.items ++ text)) }
 {
     match read_cert(alloc, bytes, line.frame().size) {
-        Ok((side, tree)) => put_strategy(alloc, out, line, side, &tree),
+        Ok((side, tree)) => put_drawn(alloc, out, line, side, &tree),
         Err(CertFault::NoMemory) => Err(NoMemory),
-        Err(CertFault::Syntax) => Ok(()),
-        Err(CertFault::TooDeep) => Ok(()),
+        Err(CertFault::Syntax) => put_none(out, bytes),
+        Err(CertFault::TooDeep) => put_deep(out),
     }
 }

@@ -1,11 +1,11 @@
 //! Hints on what is likely marked wrong in a problem.
 ghost use Rattle.std.specs.Prelude.{◌≡◌, ◌<◌, ◌++◌, IfOk, OnOk};
 ghost use Rattle.tt_sgf.specs.Sizes.{point_count};
-ghost use Rattle.tsumego_show.specs.Hints.{enclosed, hints, insides, is_wide, leaks, leaks_line, listed, name_if, points_text, strangers, strangers_line, wide_line};
+ghost use Rattle.tsumego_show.specs.Hints.{enclosed, hints, insides, is_wide, leaks, leaks_line, listed, name_if, points_text, strangers, strangers_line, takeables, takeables_line, wide_line};
 
 use crate::marks::{
-    held_chains, is_beside, is_defender, is_free, is_inside, is_marked, point_numbered,
-    target_chains,
+    held_chains, is_attacker, is_beside, is_defender, is_free, is_inside, is_marked, is_unfillable,
+    point_numbered, safe_chains, target_chains,
 };
 use std::alloc::Global;
 use tt_game::{Line, Turn};
@@ -13,7 +13,7 @@ use tt_proof::put_turn;
 use tt_sgf::NoMemory;
 
 /// The most points of a board that may well be a region as a whole.
-const MOST_POINTS: usize = 49;
+const MOST_POINTS: usize = 10;
 
 /// Marks on the empty points of the region and on the chains that play there is about.
 #[tactic(auto, using(crate::proofs::Texts::one_more), unfolding(crate::specs::Hints::enclosed))]
@@ -38,8 +38,22 @@ fn leaks(alloc: Global, line: &Line) -> Result<Vec<bool>, NoMemory>
     let within = enclosed(alloc, line)?;
     let mut made = Vec::new(alloc);
     for number in 0..size.point_count() {
-        let unplayable = is_free(line, number) && !is_inside(line, number);
-        made.push(unplayable && is_beside(size, within.as_slice(), number))?;
+        let near = is_beside(size, within.as_slice(), number);
+        made.push(is_unfillable(line, number) && near)?;
+    }
+    Ok(made)
+}
+
+/// Marks on the attacker's stones outside the region, whose chains have all their liberties in it.
+#[tactic(auto, using(crate::proofs::Texts::one_more), unfolding(crate::specs::Hints::takeables))]
+fn takeables(alloc: Global, line: &Line) -> Result<Vec<bool>, NoMemory>
+    ensures { IfOk result (λ m. m.items ≡ takeables line.now) }
+{
+    let safe = safe_chains(alloc, line)?;
+    let mut made = Vec::new(alloc);
+    for number in 0..line.frame().size.point_count() {
+        let outside = is_attacker(line, number) && !is_inside(line, number);
+        made.push(outside && !is_marked(safe.as_slice(), number))?;
     }
     Ok(made)
 }
@@ -73,7 +87,7 @@ fn strangers(alloc: Global, line: &Line) -> Result<Vec<bool>, NoMemory>
     Ok(made)
 }
 
-/// Whether the region is all of a large board.
+/// Whether the region is all of a board with more than a few points.
 fn is_wide(line: &Line) -> bool
     ensures { result ≡ is_wide line.now }
 {
@@ -136,6 +150,15 @@ fn put_leaks(alloc: Global, out: &mut Vec<u8>, line: &Line) -> Result<(), NoMemo
     put_listed(alloc, out, line, words, marks.as_slice())
 }
 
+/// Writes the line on stones that can be taken where nobody can play again behind the text.
+fn put_takeables(alloc: Global, out: &mut Vec<u8>, line: &Line) -> Result<(), NoMemory>
+    ensures { OnOk result (out.new.items ≡ out.old.items ++ takeables_line line.now) }
+{
+    let marks = takeables(alloc, line)?;
+    let words = b"hint: unlike T and not in the region, and can be taken by plays in it:";
+    put_listed(alloc, out, line, words, marks.as_slice())
+}
+
 /// Writes the line on stones that nobody marked behind the text.
 fn put_strangers(alloc: Global, out: &mut Vec<u8>, line: &Line) -> Result<(), NoMemory>
     ensures { OnOk result (out.new.items ≡ out.old.items ++ strangers_line line.now) }
@@ -145,24 +168,26 @@ fn put_strangers(alloc: Global, out: &mut Vec<u8>, line: &Line) -> Result<(), No
     put_listed(alloc, out, line, words, marks.as_slice())
 }
 
-/// Writes the line on a region that is all of a large board behind the text.
+/// Writes the line on a region that is all of the board behind the text.
 fn put_wide(out: &mut Vec<u8>, line: &Line) -> Result<(), NoMemory>
     ensures { OnOk result (out.new.items ≡ out.old.items ++ wide_line line.now) }
 {
     if is_wide(line) {
-        out.extend_from_slice(b"hint: the region is the whole of a large board\n")?;
+        out.extend_from_slice(b"hint: the region is the whole board\n")?;
     }
     Ok(())
 }
 
 /// Writes the hints on the problem at a line behind the text: the empty points outside the region that are beside an empty
-/// point of it, or beside a chain of the defender that has a target or a stone in it; the defender's stones in or beside the
-/// region that aren't of a target's chain; and that the region is all of a board of more than 49 points.
+/// point of it, or beside a chain of the defender that has a target or a stone in it; the attacker's stones outside the region
+/// whose chains have all their liberties in it; the defender's stones in or beside the region that aren't of a target's chain;
+/// and that the region is all of a board of more than 10 points.
 /// `NoMemory` where memory was refused; a part may stand there then.
 pub fn put_hints(alloc: Global, out: &mut Vec<u8>, line: &Line) -> Result<(), NoMemory>
     ensures { OnOk result (out.new.items ≡ out.old.items ++ hints line.now) }
 {
     put_leaks(alloc, out, line)?;
+    put_takeables(alloc, out, line)?;
     put_strangers(alloc, out, line)?;
     put_wide(out, line)
 }

@@ -5,9 +5,11 @@ mod drawing;
 mod hints;
 mod laws;
 mod marks;
+mod opening;
 mod picture;
 mod running;
 mod showing;
+mod turns;
 
 use devices::Watched;
 use running::run;

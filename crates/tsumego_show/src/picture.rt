@@ -1,10 +1,11 @@
 //! The picture of a problem.
-ghost use Rattle.std.specs.Prelude.{◌≡◌, ◌∷◌, ◌++◌, ◌+◌, ◌*◌, ◌<◌, [], OnOk};
+ghost use Rattle.std.specs.Prelude.{◌≡◌, ◌∷◌, ◌++◌, ◌+◌, ◌*◌, ◌<◌, [], length, OnOk};
 ghost use Rattle.std.specs.List.{flat_map, range_with_len};
 ghost use Rattle.tt_sgf.specs.Sizes.{point_count};
 ghost use Rattle.tt_game.specs.Game.{colour_of};
-ghost use Rattle.tsumego_show.specs.Picture.{asked_line, board_text, colour_name, columns_text, letter, letters_line, mark_at, mover_text, picture, row_line, shown_in, small_mark, stone_mark, target_text};
+ghost use Rattle.tsumego_show.specs.Picture.{asked_line, board_text, colour_name, columns_text, earlier_text, letter, letters_line, mark_at, mover_text, picture, row_line, shown_in, small_mark, stone_mark, target_text};
 
+use std::alloc::Global;
 use tt_board::Colour;
 use tt_game::{Line, Side};
 use tt_sgf::{NoMemory, Point, Size};
@@ -133,7 +134,7 @@ fn put_rows(out: &mut Vec<u8>, line: &Line) -> Result<(), NoMemory>
 }
 
 /// Writes the board behind the text.
-fn put_board(out: &mut Vec<u8>, line: &Line) -> Result<(), NoMemory>
+pub fn put_board(out: &mut Vec<u8>, line: &Line) -> Result<(), NoMemory>
     ensures { OnOk result (out.new.items ≡ out.old.items ++ board_text line.now) }
 {
     let size = line.frame().size;
@@ -178,24 +179,49 @@ fn put_target(out: &mut Vec<u8>, line: &Line) -> Result<(), NoMemory>
 {
     out.extend_from_slice(b"T is ")?;
     out.extend_from_slice(colour_name(line.frame().defender))?;
+    Ok(())
+}
+
+/// How many positions came before the present one.
+fn earlier_count(line: &Line) -> usize
+    ensures { result ≡ length line.now.state.earlier }
+{
+    line.history().len() - 1
+}
+
+/// Writes how many positions came before, where any did, behind the text.
+fn put_earlier(alloc: Global, out: &mut Vec<u8>, count: usize) -> Result<(), NoMemory>
+    ensures { OnOk result (out.new.items ≡ out.old.items ++ earlier_text count) }
+{
+    if count == 0 {
+        return Ok(());
+    }
+    if count == 1 {
+        out.extend_from_slice(b", after 1 earlier position")?;
+        return Ok(());
+    }
+    let text = format!(in alloc; ", after {count} earlier positions")?;
+    out.extend_from_slice(text.as_bytes())?;
+    Ok(())
+}
+
+/// Writes who moves, whose stones the targets are, and what came before, behind the text.
+fn put_asked(alloc: Global, out: &mut Vec<u8>, line: &Line) -> Result<(), NoMemory>
+    ensures { OnOk result (out.new.items ≡ out.old.items ++ asked_line line.now) }
+{
+    put_mover(out, line)?;
+    put_target(out, line)?;
+    put_earlier(alloc, out, earlier_count(line))?;
     out.push(b'\n')?;
     Ok(())
 }
 
-/// Writes who moves, and whose stones the targets are, behind the text.
-fn put_asked(out: &mut Vec<u8>, line: &Line) -> Result<(), NoMemory>
-    ensures { OnOk result (out.new.items ≡ out.old.items ++ asked_line line.now) }
-{
-    put_mover(out, line)?;
-    put_target(out, line)
-}
-
-/// Writes the picture of the problem at a line behind the text: who moves, and the board with the letters of SGF. T is a
-/// target, X and O are stones of Black and White, small letters are stones on a point of the region, + is an empty point of the
+/// Writes the picture of the problem at a line behind the text: who moves, how many positions came before, and the board with
+/// the letters of SGF. T is a target, X and O are stones of Black and White, small letters are stones on a point of the region, + is an empty point of the
 /// region and . another one. `NoMemory` where memory was refused; a part may stand there then.
-pub fn put_picture(out: &mut Vec<u8>, line: &Line) -> Result<(), NoMemory>
+pub fn put_picture(alloc: Global, out: &mut Vec<u8>, line: &Line) -> Result<(), NoMemory>
     ensures { OnOk result (out.new.items ≡ out.old.items ++ picture line.now) }
 {
-    put_asked(out, line)?;
+    put_asked(alloc, out, line)?;
     put_board(out, line)
 }

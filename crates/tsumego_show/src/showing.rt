@@ -19,7 +19,7 @@ fn put_refusal(alloc: Global, out: &mut Vec<u8>, number: usize, code: u8) -> Res
     Ok(())
 }
 
-/// Writes the strategy behind the last problem of an input behind the text, where a certificate follows it.
+/// Writes the text on what follows a problem behind the text, where it is the last of an input.
 fn put_behind(alloc: Global, out: &mut Vec<u8>, line: &Line, behind: &[u8]) -> Result<(), NoMemory>
     ensures { OnOk result ((text : List ℕ) × DrawsBehind line.now behind.now text × (out.new.items ≡ out.old.items ++ text)) }
 {
@@ -35,7 +35,7 @@ fn put_problem(alloc: Global, out: &mut Vec<u8>, number: usize, line: &Line) -> 
 {
     let text = format!(in alloc; "{number} ")?;
     out.extend_from_slice(text.as_bytes())?;
-    put_picture(out, line)?;
+    put_picture(alloc, out, line)?;
     put_hints(alloc, out, line)
 }
 

@@ -1,0 +1,62 @@
+//! The first turn of a strategy, and the board after it.
+ghost use Rattle.std.specs.Prelude.{◌≡◌, ◌↔◌, ◌++◌, ℕ, List, IfOk, IsTrue, OnOk};
+ghost use Rattle.tt_game.specs.Game.{IsLegal};
+ghost use Rattle.tt_proof.specs.Strategy.{IsInOrder, IsOnBoard, strategy_of};
+ghost use Rattle.tsumego_show.specs.Drawing.{DrawsFirst, turned, turned_text};
+
+use crate::picture::{colour_name, colour_of, put_board};
+use crate::turns::put_shown;
+use tt_game::{Line, Side, Turn};
+use tt_proof::Tree;
+use tt_sgf::NoMemory;
+
+/// Whether the side is to move, and the turn is legal.
+fn may_begin(line: &Line, side: Side, turn: Turn) -> bool
+    requires { IsOnBoard line.now.frame.size turn }
+    ensures { IsTrue result ↔ ((line.now.state.to_move ≡ side) × IsLegal line.now.frame line.now.state turn) }
+{
+    line.to_move() == side && line.refusal(turn).is_none()
+}
+
+/// The problem after a legal turn.
+fn after(line: &Line, turn: Turn) -> Result<Line, NoMemory>
+    requires { IsLegal line.now.frame line.now.state turn }
+    ensures { IfOk result (λ l. l ≡ turned line.now turn) }
+{
+    let mut next = line.try_clone()?;
+    next.push_legal(turn)?;
+    Ok(next)
+}
+
+/// Writes who makes which turn, and the board then, behind the text.
+fn put_turned(out: &mut Vec<u8>, line: &Line, turn: &Turn) -> Result<(), NoMemory>
+    requires on_board { IsOnBoard line.now.frame.size turn.now }
+    requires legal { IsLegal line.now.frame line.now.state turn.now }
+    ensures { OnOk result (out.new.items ≡ out.old.items ++ turned_text line.now turn.now) }
+{
+    let next = after(line, *turn)?;
+    out.extend_from_slice(b"After ")?;
+    out.extend_from_slice(colour_name(colour_of(line, line.to_move())))?;
+    out.push(b' ')?;
+    put_shown(out, *turn, line.frame().size)?;
+    out.extend_from_slice(b":\n")?;
+    put_board(out, &next)
+}
+
+/// Writes the first turn of a side's strategy and the board then behind the text, where the side is to move and that turn is
+/// legal. `NoMemory` where memory was refused; a part may stand there then.
+pub fn put_first(out: &mut Vec<u8>, line: &Line, side: Side, tree: &Tree) -> Result<(), NoMemory>
+    requires { IsInOrder line.now.frame.size (strategy_of tree.now) }
+    ensures { OnOk result ((text : List ℕ) × DrawsFirst line.now side (strategy_of tree.now) text × (out.new.items ≡ out.old.items ++ text)) }
+{
+    match tree {
+        Tree::Pick(turn, _) => {
+            if may_begin(line, side, *turn) {
+                return put_turned(out, line, turn);
+            }
+            Ok(())
+        }
+        Tree::Done => Ok(()),
+        Tree::Reply(_) => Ok(()),
+    }
+}
