@@ -15,4 +15,4 @@ pub mod Successors
 pub mod Replies
 pub mod Keyed
 pub mod Ends
-pub mod Newest
+pub mod Chains

@@ -7,6 +7,7 @@ pub mod Settled
 pub mod Searched
 pub mod Ended
 pub mod Stores
+pub mod KeyIndex
 -- What private contracts and proofs cite. Nobody has to believe these.
 pub mod Children
 pub mod PartialTreeCode
@@ -23,4 +24,4 @@ pub mod Sprouting
 pub mod Usable
 pub mod Searching
 pub mod Advanced
-pub mod Asks
+pub mod KeyChains

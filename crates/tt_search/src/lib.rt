@@ -10,6 +10,7 @@
 mod closing;
 mod edges;
 mod growing;
+mod key_index;
 mod leaves;
 mod limits;
 mod node;
@@ -20,8 +21,9 @@ mod settled;
 mod store;
 mod walk;
 
+pub use key_index::{KeyIndex, ProofRow};
 pub use limits::{Limits, MOST_EXPANDED, Reason, Step};
-pub use private::{Ask, PrivateStore};
+pub use private::PrivateStore;
 pub use search::{End, Search};
 pub use store::{Kept, NoStore, Store};
 

@@ -1,46 +1,36 @@
 //! A store of one search's own.
 
-ghost use Rattle.std.specs.Prelude.{◌≡◌, ◌≢◌, ◌<◌, ◌≤◌, ◌+◌, ◌∷◌, [], ◌++◌, ◌↔◌, IfOk, IfSome, IsSome, MatchOption, length, vec_len, vec_capacity, map, reverse};
+ghost use Rattle.std.specs.Prelude.{◌≡◌, ◌≢◌, ◌<◌, ◌≤◌, ◌+◌, ◌∷◌, [], ◌↔◌, IfOk, IfSome, MatchOption, length};
 ghost use Rattle.std.specs.Option.{option_map};
-ghost use Rattle.std.specs.HashMap.{spare};
 ghost use Rattle.std.specs.Arc.{arc_value};
-ghost use Rattle.tt_game.specs.Keys.{key_of};
 ghost use Rattle.tt_search.specs.Stores.{IsAnswer, IsNewest};
-ghost use Rattle.tt_search.specs.Asks.{ask_of, newest_of, IsIndex};
 ghost use Rattle.tt_search.specs.declared.store.Kept.TheVariants.{Stored, Full};
 
+use crate::key_index::{KeyIndex, ProofRow};
 use crate::store::{Kept, Store};
 use std::alloc::Global;
-use std::collections::HashMap;
 use std::marker::Model;
 use std::sync::Arc;
-use tt_game::{Key, Line, Side};
+use tt_game::{Line, Side};
 use tt_proof::Proof;
 use tt_sgf::NoMemory;
-
-/// What a store is asked: a position's key, and for whom a proof is wanted.
-#[derive(Clone, Copy, PartialEq, Eq, Hash)]
-pub struct Ask {
-    pub key: Key,
-    pub side: Side,
-}
 
 /// A store that answers the last proof that it kept of a key and a side.
 #[derive(Drop)]
 pub struct PrivateStore {
     proofs: Vec<Arc<Proof>>,
-    index: HashMap<Ask, usize>,
+    index: KeyIndex,
     capacity: usize,
 }
 
 impl Model for PrivateStore {
-    ghost use Rattle.std.specs.Prelude.{◌≤◌, map, length, reverse};
+    ghost use Rattle.std.specs.Prelude.{◌≡◌, ◌≤◌, map, length, reverse};
     ghost use Rattle.std.specs.Coded.{codes};
     ghost use Rattle.std.specs.Arc.{arc_value};
     ghost use Rattle.tt_sgf.specs.contracts.sets.PointSet as points;
     ghost use Rattle.tt_proof.specs.StrategyCode.{strategy_code};
     ghost use Rattle.tt_search.specs.Stores.{Keeping};
-    ghost use Rattle.tt_search.specs.Asks.{IsIndex};
+    ghost use Rattle.tt_search.specs.KeyIndex.{marks_of};
 
     ghost Value = { Keeping };
 
@@ -48,19 +38,18 @@ impl Model for PrivateStore {
 
     ghost view = { λ s. record { proofs = reverse (map arc_value s.proofs.items); capacity = s.capacity } };
 
-    ghost invariant = { λ s. IsIndex s.index (map arc_value s.proofs.items) × (length (map arc_value s.proofs.items) ≤ s.capacity) };
+    ghost invariant = { λ s. (s.index.marks ≡ marks_of (map arc_value s.proofs.items)) × (length (map arc_value s.proofs.items) ≤ s.capacity) };
 }
 
-/// Puts a proof at the end of the list and into the index, where both have room for it.
-fn put(proofs: &mut Vec<Arc<Proof>>, index: &mut HashMap<Ask, usize>, ask: Ask, p: Arc<Proof>)
-    requires room { (vec_len proofs.old < vec_capacity proofs.old) × (0 < spare index.old) }
-    requires ask { ask ≡ ask_of (arc_value p) }
-    requires index { IsIndex index.old (map arc_value proofs.old.items) }
-    ensures proofs { map arc_value proofs.new.items ≡ map arc_value proofs.old.items ++ arc_value p ∷ [] }
-    ensures index { IsIndex index.new (map arc_value proofs.new.items) }
-{
-    let _ = index.insert(ask, proofs.len());
-    proofs.push_reserved(p);
+impl ProofRow for Vec<Arc<Proof>> {
+    ghost use Rattle.std.specs.Prelude.{map};
+    ghost use Rattle.std.specs.Arc.{arc_value};
+
+    ghost proofs = { λ v. map arc_value v.items };
+
+    fn proof(&self, place: usize) -> &Proof {
+        &self[place]
+    }
 }
 
 impl PrivateStore {
@@ -73,7 +62,7 @@ impl PrivateStore {
     {
         PrivateStore {
             proofs: Vec::new(alloc),
-            index: HashMap::new(alloc),
+            index: KeyIndex::new(alloc),
             capacity: Self::CAPACITY,
         }
     }
@@ -87,19 +76,9 @@ impl PrivateStore {
         }
         Some(PrivateStore {
             proofs: Vec::new(alloc),
-            index: HashMap::new(alloc),
+            index: KeyIndex::new(alloc),
             capacity,
         })
-    }
-
-    /// The last proof that answers the question.
-    fn newest(&self, ask: Ask) -> Option<&Arc<Proof>>
-        ensures { option_map (λ r. arc_value r.now) result ≡ newest_of ask self.now.proofs }
-    {
-        let Some(i) = self.index.get(&ask).copied() else {
-            return None;
-        };
-        self.proofs.get(i)
     }
 
     /// The last proof of the line's key for the side.
@@ -107,14 +86,8 @@ impl PrivateStore {
         ensures newest { IsNewest line.now side self.now.proofs (option_map (λ r. arc_value r.now) result) }
         ensures found { IfSome result (λ r. IsAnswer line.now side (arc_value r.now)) }
     {
-        if self.proofs.is_empty() {
-            return None;
-        }
-        let ask = Ask {
-            key: line.key(),
-            side,
-        };
-        self.newest(ask)
+        let place = self.index.newest(line, side, &self.proofs)?;
+        self.proofs.get(place)
     }
 }
 
@@ -167,14 +140,11 @@ impl Store for PrivateStore {
         if self.proofs.len() == self.capacity {
             return Kept::Full;
         }
-        if self.proofs.reserve(1).is_err() || self.index.reserve(1).is_err() {
+        if self.proofs.reserve(1).is_err() || self.index.reserve().is_err() {
             return Kept::NoMemory;
         }
-        let ask = Ask {
-            key: p.key(),
-            side: p.side(),
-        };
-        put(&mut self.proofs, &mut self.index, ask, p);
+        self.index.push(&p);
+        self.proofs.push_reserved(p);
         Kept::Stored
     }
 }

@@ -1,0 +1,185 @@
+-- The chains of an index, and how they lead to the newest proof of a key and side.
+use Rattle.std.proofs.Common.{◌≡◌, ℕ, zero, suc, ◌+◌, ◌-◌, ◌%◌, ◌<◌, ◌≤◌, Bool, true, false, cond, List, [], ◌∷◌, ◌++◌, length, get_or, nat_eq, Option, Some, None, slice_get, reverse, IsTrue, ◌↔◌}
+use Rattle.std.proofs.Common.{inl, inr, refl, sym, ap, ◌∙◌, subst, arith}
+use Rattle.std.specs.Option.{option_map}
+use Rattle.std.proofs.lemmas.Bool.{cases_lt, false≢true}
+use Rattle.std.proofs.lemmas.List.{reverse-append, get_or_append_left, get_or_read, length-map}
+use Rattle.std.proofs.lemmas.Nat.{mod_below}
+use Rattle.std.proofs.lemmas.Option.{slice_get_within, slice_get-map, get_or_from_slice_get}
+use Rattle.tt_game.specs.declared.frame.Side.{Side}
+use Rattle.tt_game.specs.Keys.{key_of}
+use Rattle.tt_game.specs.declared.keys.Key.{Key}
+use Rattle.tt_game.specs.Line.{Standing}
+use Rattle.tt_proof.specs.Proven.{Proven}
+use Rattle.tt_search.specs.Stores.{IsAnswer, IsNewest}
+use Rattle.tt_search.specs.KeyIndex.{mark_of, marks_of}
+use Rattle.tt_search.specs.KeyChains.{last_place, in_chain, IsChained, NoneFrom}
+
+-- ---- the last place that passes a test
+
+low_case : (b : Bool) (n m : ℕ) → m ≤ n → cond b (suc n) m ≤ suc n
+low_case true n m h = omega arith
+low_case false n m h = omega (arith, h)
+
+pub last_low : (t : ℕ → Bool) (n : ℕ) → last_place t n ≤ n
+last_low t zero = omega arith
+last_low t (suc n) = low_case (t n) n (last_place t n) (last_low t n)
+
+passes_case : (b : Bool) (t : ℕ → Bool) (n m i : ℕ) → t n ≡ b → (m ≡ suc i → t i ≡ true) → cond b (suc n) m ≡ suc i → t i ≡ true
+passes_case true t n m i e h is = let same : n ≡ i = omega (arith, is) in subst (λ j. t j ≡ true) same e
+passes_case false t n m i e h is = h is
+
+last_passes : (t : ℕ → Bool) (n i : ℕ) → last_place t n ≡ suc i → t i ≡ true
+last_passes t zero i is = absurd (omega (arith, is))
+last_passes t (suc n) i is = passes_case (t n) t n (last_place t n) i refl (last_passes t n i) is
+
+beyond_case : (b : Bool) (t : ℕ → Bool) (n m i : ℕ) → t n ≡ b → (m ≤ i → i < n → t i ≡ false) → cond b (suc n) m ≤ i → i < suc n → t i ≡ false
+beyond_case true t n m i e h low high = absurd (omega (arith, low, high))
+beyond_case false t n m i e h low high = elim (cases_lt i n) [ inl lt ↦ h low lt | inr ge ↦ (let same : n ≡ i = omega (arith, ge, high) in subst (λ j. t j ≡ false) same e) ]
+
+last_beyond : (t : ℕ → Bool) (n i : ℕ) → last_place t n ≤ i → i < n → t i ≡ false
+last_beyond t zero i low high = absurd (omega (arith, high))
+last_beyond t (suc n) i low high = beyond_case (t n) t n (last_place t n) i refl (last_beyond t n i) low high
+
+last_same : (t u : ℕ → Bool) (n : ℕ) → ((i : ℕ) → i < n → t i ≡ u i) → last_place t n ≡ last_place u n
+last_same t u zero h = refl
+last_same t u (suc n) h =
+    ap (λ b. cond b (suc n) (last_place t n)) (h n (omega arith)) ∙ ap (λ m. cond (u n) (suc n) m) (last_same t u n (λ i lt. h i (omega (arith, lt))))
+
+-- ---- one more mark
+
+same_chain : (marks : List ℕ) (m n c i : ℕ) → i < length marks → in_chain marks n c i ≡ in_chain (marks ++ m ∷ []) n c i
+same_chain marks m n c i h = ap (λ x. nat_eq (x % n) c) (sym (get_or_append_left marks (m ∷ []) 0 i h))
+
+chained_on : (heads before marks : List ℕ) (m : ℕ) → length before ≡ length marks → IsChained heads before marks (length marks) → IsChained heads (before ++ 0 ∷ []) (marks ++ m ∷ []) (length marks)
+chained_on heads before marks m one was = record {
+  heads_lead = λ c h. was.heads_lead c h ∙ last_same _ _ (length marks) (λ i lt. same_chain marks m (length heads) c i lt);
+  before_leads = λ i h. get_or_append_left before (0 ∷ []) 0 i (omega (arith, one, h)) ∙ was.before_leads i h
+      ∙ last_same _ _ i (λ j lt. same_chain marks m (length heads) (get_or marks i 0 % length heads) j (omega (arith, lt, h)))
+      ∙ ap (λ x. last_place (in_chain (marks ++ m ∷ []) (length heads) (x % length heads)) i) (sym (get_or_append_left marks (m ∷ []) 0 i h));
+}
+
+pub chained_more : (heads before marks before' marks' : List ℕ) (m n : ℕ) → length before ≡ length marks → before' ≡ before ++ 0 ∷ [] → marks' ≡ marks ++ m ∷ [] → n ≡ length marks
+    → IsChained heads before marks (length marks) → IsChained heads before' marks' n
+chained_more heads before marks before' marks' m n one b k e was = rw (b, k, e) (chained_on heads before marks m one was)
+
+-- ---- what is read of an index
+
+pub chain_read : (xs : List ℕ) (mark len v : ℕ) → len ≡ length xs → 0 < length xs → v ≡ get_or xs (mark % len) v → v ≡ get_or xs (mark % length xs) 0
+chain_read xs mark len v e some is =
+    let within : mark % length xs < length xs = mod_below mark (length xs) some in
+    get_or_read xs (mark % length xs) v within (subst (λ n. v ≡ get_or xs (mark % n) v) e is) 0
+
+pub head_low : (heads before marks : List ℕ) (mark next : ℕ) → 0 < length heads → IsChained heads before marks (length marks) → next ≡ get_or heads (mark % length heads) 0 → next ≤ length marks
+head_low heads before marks mark next some chained is =
+    let low = last_low (in_chain marks (length heads) (mark % length heads)) (length marks) in
+    let leads = is ∙ chained.heads_lead (mark % length heads) (mod_below mark (length heads) some) in
+    omega (arith, low, leads)
+
+pub before_low : (heads before marks : List ℕ) (place next : ℕ) → IsChained heads before marks (length marks) → place < length marks → next ≡ get_or before place 0 → next ≤ place
+before_low heads before marks place next chained within is =
+    let low = last_low (in_chain marks (length heads) (get_or marks place 0 % length heads)) place in
+    let leads = is ∙ chained.before_leads place within in
+    omega (arith, low, leads)
+
+-- ---- the newest proof
+
+module _ (line : Standing) (side : Side) where
+  newest_over : (xs ys : List Proven) (o : Option Proven) → IsNewest line side xs None → IsNewest line side ys o → IsNewest line side (xs ++ ys) o
+  newest_over [] ys o none h = h
+  newest_over (x ∷ xs) ys o (inl none) h = absurd (grind (arith, none))
+  newest_over (x ∷ xs) ys o (inr none) h = inr (none.0, newest_over xs ys o none.1 h)
+
+  newest_before : (xs ys : List Proven) (p : Proven) → IsNewest line side xs (Some p) → IsNewest line side (xs ++ ys) (Some p)
+  newest_before [] ys p h = absurd (grind (arith, h))
+  newest_before (x ∷ xs) ys p (inl h) = inl h
+  newest_before (x ∷ xs) ys p (inr h) = inr (h.0, newest_before xs ys p h.1)
+
+  reversed : (ps : List Proven) (p : Proven) (o : Option Proven) → IsNewest line side (reverse ps ++ p ∷ []) o → IsNewest line side (reverse (p ∷ ps)) o
+  reversed ps p o h = subst (λ qs. IsNewest line side qs o) (sym (reverse-append (p ∷ []) ps)) h
+
+  none_behind : (ps : List Proven) (p : Proven) (n : ℕ) → NoneFrom line side (p ∷ ps) (suc n) → NoneFrom line side ps n
+  none_behind ps p n h i q low is = h (suc i) q (omega (arith, low)) is
+
+  pub none_newest : (ps : List Proven) → NoneFrom line side ps 0 → IsNewest line side (reverse ps) None
+  none_newest [] h = refl
+  none_newest (p ∷ ps) h =
+      reversed ps p None (newest_over (reverse ps) (p ∷ []) None (none_newest ps (λ i q low is. h (suc i) q (omega arith) is)) (inr (h 0 p (omega arith) refl, refl)))
+
+  pub found_newest : (ps : List Proven) (n : ℕ) (p : Proven) → slice_get ps n ≡ Some p → IsAnswer line side p → NoneFrom line side ps (suc n) → IsNewest line side (reverse ps) (Some p)
+  found_newest [] n p is a h = absurd (grind (arith, is))
+  found_newest (q ∷ ps) zero p is a h = let same : q ≡ p = cc is in
+      reversed ps q (Some p) (newest_over (reverse ps) (q ∷ []) (Some p) (none_newest ps (none_behind ps q 0 h)) (inl (subst (IsAnswer line side) (sym same) a, ap Some (sym same))))
+  found_newest (q ∷ ps) (suc n) p is a h = reversed ps q (Some p) (newest_before (reverse ps) (q ∷ []) p (found_newest ps n p is a (none_behind ps q (suc n) h)))
+
+  -- ---- the walk down a chain
+
+  mark_at : (marks : List ℕ) (ps : List Proven) (i : ℕ) (p : Proven) → marks ≡ marks_of ps → slice_get ps i ≡ Some p → get_or marks i 0 ≡ mark_of (key_of p.frame p.state) p.side
+  mark_at marks ps i p e is =
+      ap (λ l. get_or l i 0) e
+      ∙ get_or_from_slice_get (marks_of ps) i (mark_of (key_of p.frame p.state) p.side) 0
+      (slice_get-map (λ (q : Proven). mark_of (key_of q.frame q.state) q.side) ps i ∙ ap (option_map (λ (q : Proven). mark_of (key_of q.frame q.state) q.side)) is)
+
+  answer_mark : (p : Proven) → IsAnswer line side p → mark_of (key_of p.frame p.state) p.side ≡ mark_of (key_of line.frame line.state) side
+  answer_mark p a = rw (a.same_key, a.for_side) refl
+
+  -- what answers has the mark of the question
+  pub answers_mark : (marks : List ℕ) (ps : List Proven) (i mark : ℕ) (p : Proven) → marks ≡ marks_of ps → mark ≡ mark_of (key_of line.frame line.state) side → slice_get ps i ≡ Some p
+      → IsAnswer line side p → get_or marks i 0 ≡ mark
+  answers_mark marks ps i mark p all m is a = mark_at marks ps i p all is ∙ answer_mark p a ∙ sym m
+
+  in_its_chain : (marks : List ℕ) (n mark i : ℕ) → get_or marks i 0 ≡ mark → in_chain marks n (mark % n) i ≡ true
+  in_its_chain marks n mark i e = rw e (grind arith)
+
+  none_past : (marks : List ℕ) (ps : List Proven) (n mark k i : ℕ) (p : Proven) → marks ≡ marks_of ps → mark ≡ mark_of (key_of line.frame line.state) side
+      → last_place (in_chain marks n (mark % n)) k ≤ i → i < k → slice_get ps i ≡ Some p → IsAnswer line side p → ⊥
+  none_past marks ps n mark k i p all m low high is a =
+      false≢true (sym (last_beyond (in_chain marks n (mark % n)) k i low high) ∙ in_its_chain marks n mark i (answers_mark marks ps i mark p all m is a))
+
+  -- no proof answers past the head of the question's chain
+  pub none_past_head : (heads before marks : List ℕ) (ps : List Proven) (mark next : ℕ) → marks ≡ marks_of ps → mark ≡ mark_of (key_of line.frame line.state) side
+      → 0 < length heads → IsChained heads before marks (length marks) → next ≡ get_or heads (mark % length heads) 0 → NoneFrom line side ps next
+  none_past_head heads before marks ps mark next all m some chained is i p low at a =
+      let leads : next ≡ last_place (in_chain marks (length heads) (mark % length heads)) (length marks) = is ∙ chained.heads_lead (mark % length heads) (mod_below mark (length heads) some) in
+      let many : length marks ≡ length ps = ap length all ∙ length-map ps _ in
+      none_past marks ps (length heads) mark (length marks) i p all m (omega (arith, low, leads)) (omega (arith, many, slice_get_within ps i p at)) at a
+
+  -- and none past the place before one that doesn't answer
+  pub none_past_next : (heads before marks : List ℕ) (ps : List Proven) (mark place next : ℕ) → marks ≡ marks_of ps → mark ≡ mark_of (key_of line.frame line.state) side
+      → IsChained heads before marks (length marks) → place < length marks → get_or marks place 0 % length heads ≡ mark % length heads → next ≡ get_or before place 0
+      → NoneFrom line side ps (place + 1) → ((p : Proven) → slice_get ps place ≡ Some p → IsAnswer line side p → ⊥) → NoneFrom line side ps next
+  none_past_next heads before marks ps mark place next all m chained within same is later here i p low at a =
+      let leads : next ≡ last_place (in_chain marks (length heads) (mark % length heads)) place =
+      is ∙ chained.before_leads place within ∙ ap (λ c. last_place (in_chain marks (length heads) c) place) same in
+      elim (cases_lt i place) [
+        | inl lt ↦ none_past marks ps (length heads) mark place i p all m (omega (arith, low, leads)) lt at a
+        | inr ge ↦ (elim (cases_lt place i) [
+          | inl gt ↦ later i p (omega (arith, gt)) at a
+          | inr le ↦ (let e : i ≡ place = omega (arith, ge, le) in here p (subst (λ j. slice_get ps j ≡ Some p) e at) a)
+        ])
+      ]
+
+  -- a proof at a place doesn't answer where the one that was looked at there fails the test
+  pub not_found : (ps : List Proven) (place : ℕ) (b : Bool) (k : Key) (p q : Proven) → slice_get ps place ≡ Some q → slice_get ps place ≡ Some p → b ≡ false
+      → (IsTrue b ↔ ((key_of q.frame q.state ≡ k) × (q.side ≡ side))) → k ≡ key_of line.frame line.state → IsAnswer line side p → ⊥
+  not_found ps place b k p q there at e h is a =
+      let same : p ≡ q = cc (sym at ∙ there) in
+      let answers : IsAnswer line side q = subst (IsAnswer line side) same a in
+      false≢true (sym e ∙ h.1 (answers.same_key ∙ sym is, answers.for_side))
+
+-- a place that a head or another place leads to is of the chain
+leads_inside : (marks : List ℕ) (n c k next : ℕ) → next ≡ last_place (in_chain marks n c) k → 0 < next → get_or marks (next - 1) 0 % n ≡ c
+leads_inside marks n c k next is some =
+    let e : last_place (in_chain marks n c) k ≡ suc (next - 1) = omega (arith, is, some) in
+    let inside = last_passes (in_chain marks n c) k (next - 1) e in
+    grind (arith, inside)
+
+pub head_inside : (heads before marks : List ℕ) (mark next : ℕ) → 0 < length heads → IsChained heads before marks (length marks) → next ≡ get_or heads (mark % length heads) 0 → 0 < next
+    → get_or marks (next - 1) 0 % length heads ≡ mark % length heads
+head_inside heads before marks mark next some chained is =
+    leads_inside marks (length heads) (mark % length heads) (length marks) next (is ∙ chained.heads_lead (mark % length heads) (mod_below mark (length heads) some))
+
+pub before_inside : (heads before marks : List ℕ) (mark place next : ℕ) → IsChained heads before marks (length marks) → place < length marks → get_or marks place 0 % length heads ≡ mark % length heads
+    → next ≡ get_or before place 0 → 0 < next → get_or marks (next - 1) 0 % length heads ≡ mark % length heads
+before_inside heads before marks mark place next chained within same is =
+    leads_inside marks (length heads) (mark % length heads) place next (is ∙ chained.before_leads place within ∙ ap (λ c. last_place (in_chain marks (length heads) c) place) same)

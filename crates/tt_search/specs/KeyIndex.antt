@@ -1,0 +1,28 @@
+-- An index of proofs by their keys and sides.
+use Rattle.std.specs.Prelude.{ℕ, ◌%◌, ◌^◌, List, map, fold, Option, Some, None, slice_get}
+use Rattle.std.specs.Hash.FoldHasher as hasher
+use Rattle.tt_game.specs.declared.frame.Side.{Side}
+use Rattle.tt_game.specs.declared.keys.Key.{Key}
+use Rattle.tt_game.specs.Keys.{key_of}
+use Rattle.tt_game.specs.contracts.keys.KeyHash.TheImpl as key_hash
+use Rattle.tt_game.specs.contracts.frame.SideHash.TheImpl as side_hash
+use Rattle.tt_proof.specs.Proven.{Proven}
+
+-- a number of 32 bits that a key and a side have: a hash of both
+unfoldable pub mark_of : Key → Side → ℕ
+mark_of key side =
+    hasher.finish (fold hasher.write (fold hasher.write hasher.initial ((key_hash.ghosts).hash_input key)) ((side_hash.ghosts).hash_input side)) % 2 ^ 32
+
+-- the marks of proofs
+abbrev pub marks_of : List Proven → List ℕ
+marks_of ps = map (λ (p : Proven). mark_of (key_of p.frame p.state) p.side) ps
+
+-- the marks of the proofs that an index was told, and for how many more it has room
+pub record Marking : Type 0 where
+  pub marks : List ℕ
+  pub room : ℕ
+
+-- the proof at the place that was found, if one was
+abbrev pub proof_at : List Proven → Option ℕ → Option Proven
+proof_at ps None = None
+proof_at ps (Some place) = slice_get ps place

@@ -1,0 +1,197 @@
+//! An index of the last proof of each key and side.
+
+ghost use Rattle.std.specs.Prelude.{◌≡◌, ℕ, ◌+◌, ◌<◌, ◌++◌, ◌∷◌, [], ◌↔◌, List, Some, IfOk, IfSome, IsTrue, length, vec_len, vec_capacity, reverse, slice_get};
+ghost use Rattle.tt_game.specs.Keys.{key_of};
+ghost use Rattle.tt_proof.specs.Proven.{Proven};
+ghost use Rattle.tt_search.specs.Stores.{IsAnswer, IsNewest};
+ghost use Rattle.tt_search.specs.KeyIndex.{mark_of, marks_of, proof_at};
+ghost use Rattle.tt_search.specs.KeyChains.{AreSized, IsChained};
+
+use std::alloc::Global;
+use std::hash::{FoldHasher, Hash, Hasher};
+use std::marker::Model;
+use tt_game::{Key, Line, Side};
+use tt_proof::Proof;
+use tt_sgf::NoMemory;
+
+/// Proofs in the order in which they came, each at its place, from 0 on.
+pub trait ProofRow {
+    ghost proofs: { Self → List Proven };
+
+    /// The proof at a place.
+    fn proof(&self, place: usize) -> &Proof
+        requires { place < length (proofs self.now) }
+        ensures { slice_get (proofs self.now) place ≡ Some result.now };
+}
+
+/// The hash of a key and a side.
+fn mark_of(key: &Key, side: Side) -> u32
+    ensures { result ≡ mark_of key.now side }
+{
+    let mut hasher = FoldHasher::default();
+    key.hash(&mut hasher);
+    side.hash(&mut hasher);
+    (hasher.finish() % 0x1_0000_0000) as u32
+}
+
+/// Whether the proof has the key and is for the side.
+fn is_for(p: &Proof, key: &Key, side: Side) -> bool
+    ensures { IsTrue result ↔ ((key_of p.now.frame p.now.state ≡ key.now) × (p.now.side ≡ side)) }
+{
+    p.side() == side && p.has_key(key)
+}
+
+/// Chains the place, behind all places before it.
+fn link(heads: &mut Vec<u32>, before: &mut Vec<u32>, marks: &Vec<u32>, place: usize)
+    requires place { place < vec_len marks.now }
+    requires sized { AreSized heads.old.items before.old.items marks.now.items }
+    requires chained { IsChained heads.old.items before.old.items marks.now.items place }
+    ensures sized { AreSized heads.new.items before.new.items marks.now.items }
+    ensures chained { IsChained heads.new.items before.new.items marks.now.items (place + 1) }
+    ensures chains { vec_len heads.new ≡ vec_len heads.old }
+    ensures room { vec_capacity before.new ≡ vec_capacity before.old }
+{
+    let chain = marks[place] as usize % heads.len();
+    before[place] = heads[chain];
+    heads[chain] = place as u32 + 1;
+}
+
+/// Chains all places anew, where no head leads anywhere yet.
+fn link_all(heads: &mut Vec<u32>, before: &mut Vec<u32>, marks: &Vec<u32>)
+    requires sized { AreSized heads.old.items before.old.items marks.now.items }
+    requires fresh { IsChained heads.old.items before.old.items marks.now.items 0 }
+    ensures sized { AreSized heads.new.items before.new.items marks.now.items }
+    ensures chained { IsChained heads.new.items before.new.items marks.now.items (length marks.now.items) }
+    ensures chains { vec_len heads.new ≡ vec_len heads.old }
+    ensures room { vec_capacity before.new ≡ vec_capacity before.old }
+{
+    for place in 0..marks.len() {
+        link(heads, before, marks, place);
+    }
+}
+
+/// Twice as many chains, and at least 16, where these are fewer than 2^32.
+fn doubled(chains: usize) -> Option<usize>
+    ensures { IfSome result (λ n. (chains < n) × (n < 4294967296)) }
+{
+    if chains < 8 {
+        return Some(16);
+    }
+    if chains >= 0x8000_0000 {
+        return None;
+    }
+    Some(2 * chains)
+}
+
+/// Chains all places anew, in twice as many chains.
+fn grow(
+    alloc: Global,
+    heads: &mut Vec<u32>,
+    before: &mut Vec<u32>,
+    marks: &Vec<u32>,
+) -> Result<(), NoMemory>
+    requires sized { AreSized heads.old.items before.old.items marks.now.items }
+    requires chained { IsChained heads.old.items before.old.items marks.now.items (length marks.now.items) }
+    ensures sized { AreSized heads.new.items before.new.items marks.now.items }
+    ensures chained { IsChained heads.new.items before.new.items marks.now.items (length marks.now.items) }
+    ensures more { IfOk result (λ _. vec_len heads.old < vec_len heads.new) }
+    ensures room { vec_capacity before.new ≡ vec_capacity before.old }
+{
+    let Some(chains) = doubled(heads.len()) else {
+        return Err(NoMemory);
+    };
+    let mut more = vec![in alloc; 0u32; chains]?;
+    link_all(&mut more, before, marks);
+    *heads = more;
+    Ok(())
+}
+
+/// An index of the last proof of each key and side, in a row of proofs that only grows. It holds no proofs and no keys, but
+/// a mark of 32 bits for each proof, by which the proofs are in chains; it looks at the proofs that it is shown. It takes
+/// 8 bytes a proof and 4 bytes a chain; there are at least as many chains as proofs, and at most twice as many or 16.
+#[derive(Drop)]
+pub struct KeyIndex {
+    alloc: Global,
+    heads: Vec<u32>,
+    before: Vec<u32>,
+    marks: Vec<u32>,
+}
+
+impl Model for KeyIndex {
+    ghost use Rattle.std.specs.Prelude.{◌-◌, min, length, vec_len, vec_capacity};
+    ghost use Rattle.tt_search.specs.KeyIndex.{Marking};
+    ghost use Rattle.tt_search.specs.KeyChains.{AreSized, IsChained};
+
+    ghost Value = { Marking };
+
+    ghost view = { λ t. record {
+      marks = t.marks.items;
+      room = min (vec_capacity t.marks - vec_len t.marks) (min (vec_capacity t.before - vec_len t.before) (vec_len t.heads - vec_len t.marks));
+    } };
+
+    ghost invariant = { λ t. record {
+      sized : AreSized t.heads.items t.before.items t.marks.items;
+      chained : IsChained t.heads.items t.before.items t.marks.items (length t.marks.items);
+    } };
+}
+
+impl KeyIndex {
+    /// An index of no proofs. It takes no memory.
+    pub fn new(alloc: Global) -> KeyIndex
+        ensures { result.marks ≡ [] }
+    {
+        KeyIndex {
+            alloc,
+            heads: Vec::new(alloc),
+            before: Vec::new(alloc),
+            marks: Vec::new(alloc),
+        }
+    }
+
+    /// Makes room for one more proof: fewer than 2^32 in all.
+    pub fn reserve(&mut self) -> Result<(), NoMemory>
+        ensures marks { self.new.marks ≡ self.old.marks }
+        ensures room { IfOk result (λ _. 0 < self.new.room) }
+    {
+        self.marks.reserve(1)?;
+        self.before.reserve(1)?;
+        if self.heads.len() == self.marks.len() {
+            grow(self.alloc, &mut self.heads, &mut self.before, &self.marks)?;
+        }
+        Ok(())
+    }
+
+    /// Tells the index of the row's next proof, where there is room.
+    pub fn push(&mut self, p: &Proof)
+        requires { 0 < self.old.room }
+        ensures { self.new.marks ≡ self.old.marks ++ marks_of (p.now ∷ []) }
+    {
+        let place = self.marks.len();
+        self.marks.push_reserved(mark_of(&p.key(), p.side()));
+        self.before.push_reserved(0);
+        link(&mut self.heads, &mut self.before, &self.marks, place);
+    }
+
+    /// The place of the row's last proof of the line's key for the side. The index was told the row's proofs.
+    pub fn newest<P: ProofRow>(&self, line: &Line, side: Side, row: &P) -> Option<usize>
+        requires { self.now.marks ≡ marks_of (P.proofs row.now) }
+        ensures newest { IsNewest line.now side (reverse (P.proofs row.now)) (proof_at (P.proofs row.now) result) }
+        ensures within { IfSome result (λ place. place < length (P.proofs row.now)) }
+        ensures found { IfSome (proof_at (P.proofs row.now) result) (IsAnswer line.now side) }
+    {
+        if self.heads.is_empty() {
+            return None;
+        }
+        let key = line.key();
+        let mark = mark_of(&key, side);
+        let mut next = self.heads[mark as usize % self.heads.len()] as usize;
+        while 0 < next {
+            let place = next - 1;
+            if self.marks[place] == mark && is_for(row.proof(place), &key, side) {
+                return Some(place);
+            }
+            next = self.before[place] as usize;
+        }
+        None
+    }
+}
