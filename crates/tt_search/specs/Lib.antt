@@ -15,6 +15,7 @@ pub mod Weight
 pub mod Edges
 pub mod Shape
 pub mod Cached
+pub mod Offered
 pub mod Falls
 pub mod Within
 pub mod Walking

@@ -135,7 +135,7 @@ impl Node {
         ensures taken { Taken (stand_of walk.old) (stage fresh walk.old.left) result self.new }
         ensures left { IsLeft result walk.old.left walk.new.left }
     {
-        let (step, node) = leaf_step(walk, store);
+        let (step, mut node) = leaf_step(walk, store);
         if let Step::Expanded = step {
             walk.offering = node.offer(walk, store);
         }
@@ -166,6 +166,7 @@ impl Expansion {
         ensures room { walk.new.room ≡ walk.old.room }
         ensures may { result ≡ Closed → S.may_answer }
         ensures whole { HasItsNodes self.new }
+        ensures offered { self.new.offered ≡ self.old.offered }
         ensures steps { StepsBelow pace walk.old place self.old result self.new walk.new }
     {
         match self.edges[place].mark() {
@@ -193,9 +194,10 @@ impl Expansion {
         ensures may { result ≡ Closed → S.may_answer }
         ensures kept { (reason : _) → result ≡ Stuck reason → S.kept store.new ≡ S.kept store.old }
         ensures whole { HasItsNodes self.new }
+        ensures offered { self.new.offered ≡ self.old.offered }
         ensures sprouts { Sprouts walk.old place self.old result self.new walk.new }
     {
-        let (step, node) = leaf_step(walk, store);
+        let (step, mut node) = leaf_step(walk, store);
         if let Step::Stuck(reason) = step {
             return Step::Stuck(reason);
         }

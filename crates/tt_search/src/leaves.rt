@@ -58,6 +58,7 @@ fn expanded_node(alloc: Global, mover: Side, edges: Vec<Edge>) -> Result<Node, N
             mover,
             edges,
             grown,
+            offered: None,
         },
     )?;
     Ok(Node {

@@ -27,13 +27,15 @@ pub(crate) enum Growth {
 }
 
 /// The side to move at an expanded node, an edge for each of its legal turns, and a node for each child that has grown, in
-/// the order of the edges. Most children never grow, and take no more than their edge.
+/// the order of the edges. Most children never grow, and take no more than their edge. A settled node holds the proof that
+/// it offered, so that the nodes above take its tree from there.
 #[cycle(node)]
 #[derive(Drop)]
 pub(crate) struct Expansion {
     pub(crate) mover: Side,
     pub(crate) edges: Vec<Edge>,
     pub(crate) grown: Vec<Node>,
+    pub(crate) offered: Option<Arc<Proof>>,
 }
 
 impl Model for Node {
@@ -48,10 +50,11 @@ impl Model for Node {
     ghost use Rattle.tt_search.specs.Shape.{shape};
     ghost use Rattle.tt_search.specs.Shape.{IsWhole};
     ghost use Rattle.tt_search.specs.Cached.{IsCached};
+    ghost use Rattle.tt_search.specs.Offered.{HoldsItsProof};
 
     ghost view = { λ a. shape a.growth };
 
-    ghost invariant = { λ a. IsCached a.proof a.disproof (shape a.growth) × IsWhole a.growth };
+    ghost invariant = { λ a. (IsCached a.proof a.disproof (shape a.growth) × HoldsItsProof a.growth) × IsWhole a.growth };
 
     ghost size = { weight };
 

@@ -1,7 +1,7 @@
 //! The strategies and proofs of settled nodes, and their offer to a store. What a node offers is a new root over trees that
 //! are there already: a found proof's tree is taken as it is.
 
-ghost use Rattle.std.specs.Prelude.{◌≡◌, ◌≤◌, ◌<◌, length, IfOk, MatchOption};
+ghost use Rattle.std.specs.Prelude.{◌≡◌, ◌≤◌, ◌<◌, length, IfOk, IfSome, MatchOption};
 ghost use Rattle.tt_proof.specs.Strategy.{reply};
 ghost use Rattle.tt_proof.specs.Proven.{StandsAt};
 ghost use Rattle.tt_proof.specs.declared.tree.TheConstants.{MOST_DEPTH};
@@ -9,6 +9,8 @@ ghost use Rattle.tt_search.specs.Numbers.{number, IsUndecided};
 ghost use Rattle.tt_search.specs.Growing.{IsPartialTree};
 ghost use Rattle.tt_search.specs.Within.{StaysWithin};
 ghost use Rattle.tt_search.specs.Settled.{strategy_for, first_settled, pick_at, replies};
+ghost use Rattle.tt_search.specs.Offered.{HoldsProof, IsProofOfTree};
+ghost use Rattle.tt_search.specs.Shape.{node_of};
 ghost use Rattle.tt_search.specs.Children.{children_of};
 ghost use Rattle.tt_search.specs.Edges.{mark_of, tree_of, turns_of, trees_of};
 
@@ -34,12 +36,13 @@ impl Node {
             Growth::Won(_) => Ok(Plan::done()),
             Growth::Closed(proof) => proof.plan().try_clone(),
             Growth::Expanded(expansion) => {
-                let Expansion {
-                    mover,
-                    edges,
-                    grown,
-                } = &**expansion;
-                if is_same(side, *mover) {
+                let expansion = &**expansion;
+                if let Some(proof) = expansion.offered_for(side) {
+                    return proof.plan().try_clone();
+                }
+                let edges = expansion.edges.as_slice();
+                let grown = expansion.grown.as_slice();
+                if is_same(side, expansion.mover) {
                     picked(alloc, side, edges, grown)
                 } else {
                     replied(alloc, side, edges, grown)
@@ -74,12 +77,25 @@ impl Node {
         Proof::winning(line, side, plan)
     }
 
+    /// Holds a proof that the node offers, where memory for a handle is left.
+    fn hold(&mut self, proof: &Arc<Proof>)
+        requires { IsProofOfTree self.old proof.now.value }
+        ensures { self.new ≡ self.old }
+    {
+        if let Growth::Expanded(expansion) = &mut self.growth {
+            if let Ok(handle) = Arc::try_clone(proof) {
+                expansion.offered = Some(handle);
+            }
+        }
+    }
+
     /// Offers the proof of a settled node to the store, where the walk stands at the node, and answers whether the walk may
     /// offer on. None is made for a store that is full, nor where the proof of a node below it couldn't be made.
-    pub(crate) fn offer<S: Store>(&self, walk: &Walk, store: &mut S) -> bool
-        requires partial { IsPartialTree walk.now.line.frame walk.now.line.state self.now }
-        requires stays { StaysWithin walk.now.line.frame.size MOST_DEPTH self.now }
-        ensures undecided { IsUndecided self.now → S.kept store.new ≡ S.kept store.old }
+    pub(crate) fn offer<S: Store>(&mut self, walk: &Walk, store: &mut S) -> bool
+        requires partial { IsPartialTree walk.now.line.frame walk.now.line.state self.old }
+        requires stays { StaysWithin walk.now.line.frame.size MOST_DEPTH self.old }
+        ensures same { self.new ≡ self.old }
+        ensures undecided { IsUndecided self.old → S.kept store.new ≡ S.kept store.old }
     {
         let Some(side) = self.settled_for() else {
             return walk.offering;
@@ -93,8 +109,24 @@ impl Node {
         let Ok(proof) = Arc::new(walk.alloc, proof) else {
             return false;
         };
+        self.hold(&proof);
         let _kept = store.keep(proof);
         true
+    }
+}
+
+impl Expansion {
+    /// The proof that the node offered, where it is the side's.
+    fn offered_for(&self, side: Side) -> Option<&Proof>
+        requires { HoldsProof self.now }
+        ensures { IfSome result (λ p. p.now.tree ≡ strategy_for side (node_of self.now)) }
+    {
+        if let Some(proof) = &self.offered {
+            if is_same(proof.side(), side) {
+                return Some(proof);
+            }
+        }
+        None
     }
 }
 

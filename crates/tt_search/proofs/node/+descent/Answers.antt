@@ -1,5 +1,6 @@
 use Rattle.std.proofs.Common.{rules, ◌≡◌, ◌⊎◌, refl, sym, ◌∙◌, ap, subst, arith}
 use Rattle.tt_game.specs.declared.frame.Side.TheVariants.{Attacker, Defender}
+use Rattle.tt_search.specs.PartialTree.{PartialTree}
 use Rattle.tt_search.specs.Shape.{node_of, shape, HasItsNodes, IsWhole}
 use Rattle.tt_search.specs.Edges.{mark_of}
 use Rattle.tt_search.specs.Numbers.{number}
@@ -147,8 +148,11 @@ Node::round-returns-in-Ok-clause-steps g t c =
     let walk = c.args.walk.now in
     let way = way_down (stand_of walk) x place c.best-place.ensures.place c.args.self.now is c.requires.may_grow c.index.result.now c.turn.result c.index.ensures c.turn.ensures in
     let deep = c.grow_child-step.new.walk in
-    round_steps walk x place c.args.self.now c.turn.result way c.go_down.new.self c.in-Ok.ensures.ok c.args.pace c.grow_child-step.result c.grow_child-step.new.self
-    deep c.go_up.new.self c.grow_child-step.ensures.steps c.go_up.ensures.left
+    subst
+    (λ (tree : PartialTree). AreStepsAt c.args.pace (stand_of walk) (stage c.args.self.now walk.left) c.grow_child-step.result (stage tree c.go_up.new.self.left))
+    (sym c.offer-walk.ensures.same)
+    (round_steps walk x place c.args.self.now c.turn.result way c.go_down.new.self c.in-Ok.ensures.ok c.args.pace c.grow_child-step.result c.grow_child-step.new.self
+    deep c.go_up.new.self c.grow_child-step.ensures.steps c.go_up.ensures.left)
 
 pub Node::round-offer-walk-requires-clause-partial : goal.Node::round-offer-walk-requires-clause-partial
 Node::round-offer-walk-requires-clause-partial g t c =

@@ -20,6 +20,7 @@ returns-then-is_err g c = record {
   may = λ e. cc;
   kept = λ reason e. c.leaf_step-step.ensures.kept;
   whole = c.requires.whole ∙ ap length (sym c.reserve_exact.ensures.items);
+  offered = refl;
   sprouts = stays_for_memory c.args.walk.now c.leaf_step-step.new.walk c.args.place c.args.self.now _ c.requires.there c.leaf_step-step.ensures.walk refl refl c.reserve_exact.ensures.items;
 }
 
@@ -42,9 +43,10 @@ index_mut-requires g c = omega (arith, fresh_there c.args.self.now.edges.items c
 pub returns : goal.returns
 returns g c =
     let leaf = c.leaf_step-step in
-    let row = c.in-Ok.ensures.items ∙ ap (λ ts. insert ts c.args.rank leaf.result.1) c.reserve_exact.ensures.items in
+    let same : c.match-step-2.node ≡ leaf.result.1 = search rules in
+    let row = c.in-Ok.ensures.items ∙ ap (insert c.reserve_exact.new.self.items c.args.rank) same ∙ ap (λ ts. insert ts c.args.rank leaf.result.1) c.reserve_exact.ensures.items in
     let turn = c.grown.ensures.turn ∙ ap turn_of c.index.ensures in
-    let new : Expansion = record { mover = c.args.self.now.mover; edges = with_item c.args.self.now.edges c.args.place c.grown.result; grown = c.insert.new.self } in
+    let new : Expansion = record { mover = c.args.self.now.mover; edges = with_item c.args.self.now.edges c.args.place c.grown.result; grown = c.insert.new.self; offered = c.args.self.now.offered } in
     let left : c.match-step-2.walk.left ≡ c.args.walk.now.left = search rules in
     record {
       line = search rules;
@@ -52,6 +54,7 @@ returns g c =
       may = leaf.ensures.may;
       kept = search rules;
       whole = put_whole c.args.self.now new c.args.place c.args.rank c.index.result.now c.grown.result leaf.result.1 c.requires.there c.requires.whole c.requires.rank c.grown.ensures.mark refl row;
+      offered = refl;
       sprouts = (
         leaf.result.1,
         leaf.ensures.taken,
