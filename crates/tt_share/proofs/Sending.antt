@@ -99,7 +99,7 @@ shared_send = search (sendable, crosses, proof_send, proof_sync) depth 40
 
 module _ (h : RattleType) (below : IsSend h) where
   expansion_layer : IsSend (NodeKnot.layer-Expansion h)
-  expansion_layer = search (sendable, crosses) depth 40
+  expansion_layer = search (sendable, crosses, shared_send) depth 40
 
   growth_layer : IsSend (NodeKnot.layer-Growth h)
   growth_layer = search (sendable, crosses, shared_send) depth 40
