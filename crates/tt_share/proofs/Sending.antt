@@ -30,7 +30,17 @@ use Rattle.tt_search.specs.declared.node.Node.TheDeep as Deep
 use Rattle.tt_search.specs.contracts.search.Search as Search
 use Rattle.tt_search.specs.contracts.search.Search.TheInside as Within
 use Rattle.tt_search.specs.contracts.walk.Walk as Walk
+use Rattle.boxcar.specs.contracts.vec.Anything as Anything
+use Rattle.boxcar.specs.contracts.vec.AnythingKeeps.TheImpl as any
+use Rattle.boxcar.specs.contracts.tag.Tag as Tag
 use Rattle.tt_share.specs.contracts.desk.Seat as Seat
+use Rattle.tt_share.specs.contracts.log.CertLog as CertLog
+use Rattle.tt_share.specs.contracts.log.CertLog.TheInside as LogInside
+use Rattle.boxcar.specs.contracts.vec.Vec as Entries
+use Rattle.boxcar.specs.contracts.vec.Vec.TheInside as EntriesInside
+use Rattle.boxcar.specs.contracts.table.Table as Boxes
+use Rattle.boxcar.specs.contracts.table.Table.TheInside as BoxesInside
+use Rattle.boxcar.proofs.Sent.{tag_sync, slot_send, slot_sync}
 use Rattle.tt_share.specs.contracts.jobs.Found as Found
 use Rattle.tt_share.specs.contracts.workers.HandedBack as HandedBack
 
@@ -146,3 +156,23 @@ seat_send = search (sendable, crosses, table_seat_send) depth 40
 
 pub handed_back_send : IsSend HandedBack.the_row
 handed_back_send = search (sendable, crosses, found_send, seat_send) depth 40
+
+shared_sync : IsSync (Arc.the_row Proof.the_row Global.the_row ghosts)
+shared_sync = search (sendable, crosses, proof_send, proof_sync) depth 40
+
+abbrev Handle : RattleType
+Handle = Arc.the_row Proof.the_row Global.the_row ghosts
+
+-- a log is a row of buckets, each a row of slots, between two counters
+table_sync : IsSync (Boxes.the_row Handle Anything.the_row Global.the_row (any.ghosts Handle) ghosts)
+table_sync = view_sync _ _ _ _ _ (declared_sync (BoxesInside.the_type Handle Anything.the_row Global.the_row (any.ghosts Handle) ghosts)
+    (search (sendable, crosses, slot_send, slot_sync, shared_send, shared_sync) depth 40, (search (sendable, crosses) depth 20, (as_row_sync Tag.the_field tag_sync, tt))))
+
+entries_sync : IsSync (Entries.the_row Handle Global.the_row Anything.the_row ghosts (any.ghosts Handle))
+entries_sync = view_sync _ _ _ _ _ (declared_sync (EntriesInside.the_type Handle Global.the_row Anything.the_row ghosts (any.ghosts Handle)) (
+  search (sendable, crosses) depth 20,
+  (as_row_sync (Boxes.the_field Handle Anything.the_row Global.the_row (any.ghosts Handle) ghosts) table_sync, (search (sendable, crosses) depth 20, tt)),
+))
+
+pub log_sync : IsSync CertLog.the_row
+log_sync = view_sync _ _ _ _ _ (declared_sync LogInside.the_type (as_row_sync (Entries.the_field Handle Global.the_row Anything.the_row ghosts (any.ghosts Handle)) entries_sync, tt))

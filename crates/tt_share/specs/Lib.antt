@@ -1,6 +1,7 @@
 -- What public contracts cite.
 pub mod Answers
 pub mod Table
+pub mod Log
 pub mod Desk
 pub mod Seats
 pub mod DeskLaw
@@ -11,3 +12,4 @@ pub mod Beginning
 pub mod Workers
 pub mod Gathering
 pub mod Places
+pub mod Taking

@@ -13,11 +13,15 @@ mod gate;
 mod jobs;
 pub mod laws;
 mod locked;
+mod log;
+mod log_store;
 mod results;
 mod root;
 mod rule;
 mod table;
+mod taken;
 mod together;
+mod view;
 mod workers;
 
 pub use alone::solve_one;
@@ -25,8 +29,11 @@ pub use answer::{Answer, Stuck};
 pub use desk::{Desk, Seat};
 pub use gate::{Gate, NoGate};
 pub use locked::{LockedStore, Table};
+pub use log::{CertLog, Token};
+pub use log_store::LogStore;
 pub use table::TableState;
 pub use together::solve;
+pub use view::View;
 
 #[cfg(test)]
 mod alone_tests;

@@ -1,0 +1,116 @@
+//! The log: proofs that threads push and read without a lock.
+
+ghost use Rattle.std.specs.Prelude.{◌≡◌, IfOk, IfSome};
+ghost use Rattle.std.specs.Arc.{arc_value};
+ghost use Rattle.tt_share.specs.Log.{IsOf};
+
+use boxcar::Pushed;
+use std::alloc::Global;
+use std::marker::Model;
+use std::sync::{Arc, Wait};
+use tt_proof::Proof;
+use tt_sgf::NoMemory;
+
+/// Proofs that several threads share. An entry stays as it was pushed, at its place.
+#[derive(Drop)]
+pub struct CertLog {
+    entries: boxcar::Vec<Arc<Proof>>,
+}
+
+impl Model for CertLog {
+    ghost use Rattle.boxcar.specs.Table.{Shelves, shelves_coded};
+
+    ghost Value = { Shelves };
+
+    ghost coded = { shelves_coded };
+
+    ghost view = { λ l. l.entries };
+}
+
+/// What shows that a log holds a proof at a place: 24 bytes.
+#[derive(Drop)]
+pub struct Token {
+    shown: Pushed<Arc<Proof>>,
+}
+
+impl Model for Token {
+    ghost use Rattle.std.specs.Coded.{codes};
+    ghost use Rattle.std.specs.Arc.{arc_value};
+    ghost use Rattle.tt_sgf.specs.contracts.sets.PointSet as points;
+    ghost use Rattle.tt_proof.specs.StrategyCode.{strategy_code};
+    ghost use Rattle.tt_share.specs.Log.{Ticket};
+
+    ghost Value = { Ticket };
+
+    ghost coded = { Prim.hlevel (codes, strategy_code, points.the_row.coded) };
+
+    ghost view = { λ t. record { place = t.shown.index; proof = arc_value t.shown.value; bucket = t.shown.bucket; row = t.shown.row } };
+}
+
+impl Token {
+    /// The place in the log, from 0 on.
+    pub fn place(&self) -> usize
+        ensures { result ≡ self.now.place }
+    {
+        self.shown.index()
+    }
+}
+
+impl CertLog {
+    /// An empty log. `NoMemory` where memory was refused.
+    pub fn new(alloc: Global) -> Result<CertLog, NoMemory> {
+        let entries = boxcar::Vec::new(alloc)?;
+        Ok(CertLog { entries })
+    }
+
+    /// The proof that was pushed for the token.
+    pub fn at(&self, t: &Token) -> &Proof
+        requires { IsOf self.now t.now }
+        ensures { result.now ≡ t.now.proof }
+    {
+        self.handle_at(t)
+    }
+
+    /// A handle of the proof that was pushed for the token.
+    pub(crate) fn handle_at(&self, t: &Token) -> &Arc<Proof>
+        requires { IsOf self.now t.now }
+        ensures { arc_value result.now ≡ t.now.proof }
+    {
+        self.entries.value(&t.shown)
+    }
+
+    /// Two tokens of one place have one proof. It does nothing.
+    pub fn agree(&self, a: &Token, b: &Token)
+        requires a { IsOf self.now a.now }
+        requires b { IsOf self.now b.now }
+        requires place { a.now.place ≡ b.now.place }
+        ensures { a.now.proof ≡ b.now.proof }
+    {
+        self.entries.agrees(&a.shown, &b.shown);
+    }
+
+    /// Pushes the proof, once.
+    pub(crate) fn push(&self, rt: &impl Wait, p: Arc<Proof>) -> Result<Token, NoMemory>
+        ensures log { IfOk result (IsOf self.now) }
+        ensures proof { IfOk result (λ t. t.proof ≡ arc_value p) }
+    {
+        match self.entries.push_shown(rt, p) {
+            Ok(shown) => Ok(Token { shown }),
+            Err(_) => Err(NoMemory),
+        }
+    }
+
+    /// How many pushes are finished.
+    pub(crate) fn count(&self) -> usize {
+        self.entries.count()
+    }
+
+    /// The token of a place, where its push is finished.
+    pub(crate) fn token(&self, place: usize) -> Option<Token>
+        ensures log { IfSome result (IsOf self.now) }
+        ensures place { IfSome result (λ t. t.place ≡ place) }
+    {
+        let shown = self.entries.witness(place)?;
+        Some(Token { shown })
+    }
+}

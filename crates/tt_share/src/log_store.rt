@@ -1,0 +1,96 @@
+//! A view of a log as a store.
+
+ghost use Rattle.std.specs.Prelude.{◌≡◌, ◌≢◌, ◌+◌, ◌↔◌, IfOk, IfSome};
+ghost use Rattle.std.specs.Option.{option_map};
+ghost use Rattle.std.specs.Arc.{arc_value};
+ghost use Rattle.tt_search.specs.Stores.{IsAnswer, IsNewest};
+ghost use Rattle.tt_search.specs.declared.store.Kept.TheVariants.{Stored, Full};
+ghost use Rattle.tt_share.specs.Log.{Keeps, Extends, most_kept, newest_first};
+
+use crate::view::View;
+use std::marker::Model;
+use std::sync::{Arc, Wait};
+use tt_game::{Line, Side};
+use tt_proof::Proof;
+use tt_search::{Kept, Store};
+use tt_sgf::NoMemory;
+
+/// A store that keeps proofs in a log, and answers those of a view of it: up to 4,096 proofs may be kept through it, and
+/// what it finds may have been kept through another store of the log. No call waits for another thread's, but that a keep
+/// may spin while another one stores a block of memory.
+#[derive(Drop)]
+pub struct LogStore<'a, R> {
+    rt: &'a R,
+    view: View<'a>,
+}
+
+impl<'a, R> Model for LogStore<'a, R> {
+    ghost use Rattle.std.specs.Coded.{codes};
+    ghost use Rattle.boxcar.specs.Table.{shelves_coded};
+    ghost use Rattle.tt_sgf.specs.contracts.sets.PointSet as points;
+    ghost use Rattle.tt_proof.specs.StrategyCode.{strategy_code};
+    ghost use Rattle.tt_share.specs.Log.{Seen};
+
+    ghost Value = { Seen };
+
+    ghost coded = { Prim.hlevel (codes, shelves_coded, strategy_code, points.the_row.coded) };
+
+    ghost view = { λ s. s.view };
+}
+
+impl<'a, R> LogStore<'a, R> {
+    /// The view as a store.
+    pub fn new(rt: &'a R, view: View<'a>) -> LogStore<'a, R>
+        ensures { result ≡ view.entry }
+    {
+        LogStore { rt, view }
+    }
+
+    /// The view.
+    pub fn into_view(self) -> View<'a>
+        ensures { result ≡ self.entry }
+    {
+        let LogStore { rt: _, view } = self;
+        view
+    }
+}
+
+impl<'a, R: Wait> Store for LogStore<'a, R> {
+    ghost capacity = { most_kept };
+
+    ghost kept = { λ s. s.kept };
+
+    ghost may_answer = { Unit {0} };
+
+    fn capacity(&self) -> usize {
+        self.view.capacity()
+    }
+
+    fn kept(&self) -> usize {
+        self.view.kept()
+    }
+
+    fn find(&mut self, line: &Line, s: Side) -> Result<Option<Arc<Proof>>, NoMemory>
+        ensures found { IfOk result (λ o. IfSome o (λ p. IsAnswer line.now s p.value)) }
+        ensures may { IfOk result (λ o. IfSome o (λ _. Unit {0})) }
+        ensures capacity { most_kept self.new ≡ most_kept self.old }
+        ensures kept { self.new.kept ≡ self.old.kept }
+        ensures log { self.new.log ≡ self.old.log }
+        ensures tokens { Extends self.old.tokens self.new.tokens }
+        ensures newest { IfOk result (λ o. IsNewest line.now s (newest_first self.new.tokens) (option_map (λ p. arc_value p) o)) }
+    {
+        self.view.find(line, s)
+    }
+
+    fn keep(&mut self, p: Arc<Proof>) -> Kept
+        ensures full { (result ≡ Full) ↔ (self.old.kept ≡ most_kept self.old) }
+        ensures stored { result ≡ Stored → self.new.kept ≡ self.old.kept + 1 }
+        ensures other { result ≢ Stored → self.new.kept ≡ self.old.kept }
+        ensures capacity { most_kept self.new ≡ most_kept self.old }
+        ensures log { self.new.log ≡ self.old.log }
+        ensures proof { result ≡ Stored → Keeps self.old self.new (arc_value p) }
+        ensures same { result ≢ Stored → self.new ≡ self.old }
+    {
+        self.view.keep(self.rt, p)
+    }
+}

@@ -1,0 +1,127 @@
+//! Tokens of a log that were taken in, and where the last one of each key and side is.
+
+ghost use Rattle.std.specs.Prelude.{◌≡◌, ◌<◌, ◌++◌, ◌∷◌, [], All, IfOk, IfSome};
+ghost use Rattle.std.specs.Option.{option_map};
+ghost use Rattle.std.specs.Arc.{arc_value};
+ghost use Rattle.tt_search.specs.Stores.{IsAnswer, IsNewest};
+ghost use Rattle.tt_share.specs.Log.{IsOf, newest_first};
+
+use crate::log::{CertLog, Token};
+use std::alloc::Global;
+use std::marker::Model;
+use std::sync::Arc;
+use tt_game::{Line, Side};
+use tt_proof::Proof;
+use tt_search::{KeyIndex, ProofRow};
+use tt_sgf::NoMemory;
+
+/// Tokens of a log, as a row of their proofs.
+#[derive(Drop)]
+struct Row<'a> {
+    log: &'a CertLog,
+    tokens: &'a Vec<Token>,
+    ghost of_log: { All (IsOf log.now) tokens.now.items },
+}
+
+impl<'a> ProofRow for Row<'a> {
+    ghost use Rattle.tt_share.specs.Log.{proofs_of};
+
+    ghost proofs = { λ t. proofs_of t.tokens.now.items };
+
+    fn proof(&self, place: usize) -> &Proof {
+        self.log.at(&self.tokens[place])
+    }
+}
+
+/// Tokens of a log, the oldest first, with an index of their proofs.
+#[derive(Drop)]
+pub(crate) struct Taken<'a> {
+    log: &'a CertLog,
+    tokens: Vec<Token>,
+    index: KeyIndex,
+}
+
+impl<'a> Model for Taken<'a> {
+    ghost use Rattle.std.specs.Prelude.{◌≡◌, ◌-◌, All, min, vec_len, vec_capacity};
+    ghost use Rattle.std.specs.Coded.{codes};
+    ghost use Rattle.boxcar.specs.Table.{shelves_coded};
+    ghost use Rattle.tt_sgf.specs.contracts.sets.PointSet as points;
+    ghost use Rattle.tt_proof.specs.StrategyCode.{strategy_code};
+    ghost use Rattle.tt_search.specs.KeyIndex.{marks_of};
+    ghost use Rattle.tt_share.specs.Log.{IsOf, proofs_of};
+    ghost use Rattle.tt_share.specs.Taking.{Holding};
+
+    ghost Value = { Holding };
+
+    ghost coded = { Prim.hlevel (codes, shelves_coded, strategy_code, points.the_row.coded) };
+
+    ghost view = { λ t. record {
+      log = t.log.now;
+      tokens = t.tokens.items;
+      room = min (vec_capacity t.tokens - vec_len t.tokens) t.index.room;
+    } };
+
+    ghost invariant = { λ t. record {
+      of_log : All (IsOf t.log.now) t.tokens.items;
+      indexed : t.index.marks ≡ marks_of (proofs_of t.tokens.items);
+    } };
+}
+
+impl<'a> Taken<'a> {
+    /// No tokens of the log. It takes no memory.
+    pub fn new(alloc: Global, log: &'a CertLog) -> Taken<'a>
+        ensures log { result.log ≡ log.now }
+        ensures tokens { result.tokens ≡ [] }
+    {
+        Taken {
+            log,
+            tokens: Vec::new(alloc),
+            index: KeyIndex::new(alloc),
+        }
+    }
+
+    /// The tokens.
+    pub fn tokens(&self) -> &[Token]
+        ensures tokens { result.now ≡ self.now.tokens }
+        ensures of_log { All (IsOf self.now.log) self.now.tokens }
+    {
+        self.tokens.as_slice()
+    }
+
+    /// Makes room for one more token.
+    pub fn reserve(&mut self) -> Result<(), NoMemory>
+        ensures log { self.new.log ≡ self.old.log }
+        ensures tokens { self.new.tokens ≡ self.old.tokens }
+        ensures room { IfOk result (λ _. 0 < self.new.room) }
+    {
+        self.tokens.reserve(1)?;
+        self.index.reserve()
+    }
+
+    /// Takes a token of the log in, where there is room.
+    pub fn put(&mut self, token: Token)
+        requires of_log { IsOf self.old.log token }
+        requires room { 0 < self.old.room }
+        ensures log { self.new.log ≡ self.old.log }
+        ensures tokens { self.new.tokens ≡ self.old.tokens ++ token ∷ [] }
+    {
+        self.index.push(self.log.at(&token));
+        self.tokens.push_reserved(token);
+    }
+
+    /// The proof of the last token of the line's key for the side.
+    pub fn newest(&self, line: &Line, side: Side) -> Option<&Arc<Proof>>
+        ensures newest { IsNewest line.now side (newest_first self.now.tokens) (option_map (λ p. arc_value p.now) result) }
+        ensures found { IfSome result (λ p. IsAnswer line.now side (arc_value p.now)) }
+    {
+        let place = self.index.newest(
+            line,
+            side,
+            &Row {
+                log: self.log,
+                tokens: &self.tokens,
+            },
+        )?;
+        Some(self.log.handle_at(&self.tokens[place]))
+    }
+}
