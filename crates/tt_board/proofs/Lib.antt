@@ -1,5 +1,6 @@
 pub mod BoardsLemmas
 pub mod ChainLemmas
+pub mod DifferencesLemmas
 pub mod LiftLemmas
 pub mod NearLemmas
 pub mod PlaneLemmas

@@ -1,50 +1,52 @@
--- How boards one after another are kept: the last one, and edits that lead back from it to the first.
+-- How colourings are kept by edits, and boards one after another by the last one and edits that lead back from it to the first.
 -- The view of `Boards` and private contracts cite these.
-use Rattle.std.specs.Prelude.{◌≡◌, ℕ, ◌<◌, ◌≤◌, List, [], ◌∷◌, ◌++◌, length, reverse, slice_set, All}
+use Rattle.std.specs.Prelude.{◌≡◌, ℕ, ◌<◌, ◌≤◌, List, [], ◌∷◌, ◌++◌, length, reverse, map, drop, Option, Some, None}
 use Rattle.tt_sgf.specs.declared.size.Size.{Size}
-use Rattle.tt_board.specs.declared.boards.Edit.{Edit}
-use Rattle.tt_board.specs.declared.boards.Edit.TheVariants.{Entry, Whole}
+use Rattle.tt_board.specs.declared.Colour.{Colour}
+use Rattle.tt_board.specs.declared.differences.Edit.{Edit}
+use Rattle.tt_board.specs.declared.differences.Edit.TheVariants.{Black, White, Empty}
 use Rattle.tt_board.specs.Position.{Position, Colouring}
 use Rattle.tt_board.specs.Reach.{entry_at}
+use Rattle.tt_board.specs.Differences.{edited, colourings_from}
 
--- the edit speaks of one of the first points
-abbrev pub IsOn : ℕ → Edit → Type 0
-IsOn n (Entry p e) = p < n
-IsOn n Whole = Unit {0}
-
--- a colouring after an edit
-abbrev pub edited : Colouring → Edit → Colouring
-edited c (Entry p e) = slice_set c p e
-edited c Whole = c
-
--- the board that an edit finishes
-abbrev pub finished : Size → Colouring → Edit → List Position
-finished g c (Entry p e) = []
-finished g c Whole = record { size = g; points = c } ∷ []
+-- the edit that puts an entry on a point
+abbrev pub edit_of : ℕ → Option Colour → Edit
+edit_of p (Some Colour.Black) = Black p
+edit_of p (Some Colour.White) = White p
+edit_of p None = Empty p
 
 -- a colouring after edits
-abbrev pub led_back : Colouring → List Edit → Colouring
-led_back c [] = c
-led_back c (e ∷ es) = led_back (edited c e) es
+abbrev pub led : Colouring → List Edit → Colouring
+led c [] = c
+led c (e ∷ es) = led (edited c e) es
 
--- the boards that edits finish, the newest first
-abbrev pub boards_before : Size → Colouring → List Edit → List Position
-boards_before g c [] = []
-boards_before g c (e ∷ es) = finished g c e ++ boards_before g (edited c e) es
+-- the board of a size with a colouring
+abbrev pub board_of : Size → Colouring → Position
+board_of g c = record { size = g; points = c }
 
--- all boards, oldest first
+-- the boards to which edits lead back, oldest first, and the last one behind them
 abbrev pub boards_of : Position → List Edit → List Position
-boards_of b es = reverse (boards_before b.size b.points es) ++ b ∷ []
+boards_of b es = reverse (map (board_of b.size) (colourings_from b.points es)) ++ b ∷ []
 
--- edits were added that lead back from the later colouring to the earlier one, and finish its board
-pub record IsLedBack (old new : List Edit) (later earlier : Colouring) : Type 0 where
-  pub on_board : All (IsOn (length later)) old → All (IsOn (length later)) new
-  pub points : (c : Colouring) → led_back c old ≡ later → led_back c new ≡ earlier
-  pub boards : (g : Size) (c : Colouring) → led_back c old ≡ later
-      → boards_before g c new ≡ boards_before g c old ++ record { size = g; points = earlier } ∷ []
+-- edits were added that lead from here to there, and finish the colouring there
+pub record IsLed (old new : List Edit) (here there : Colouring) : Type 0 where
+  pub points : (c : Colouring) → led c old ≡ here → led c new ≡ there
+  pub colourings : (c : Colouring) → led c old ≡ here → colourings_from c new ≡ colourings_from c old ++ there ∷ []
 
--- the first points have the earlier entries, the others the later ones
-pub record IsHalf (later earlier : Colouring) (n : ℕ) (c : Colouring) : Type 0 where
-  pub same_length : length c ≡ length later
-  pub first : (q : ℕ) → q < n → entry_at c q ≡ entry_at earlier q
-  pub others : (q : ℕ) → n ≤ q → entry_at c q ≡ entry_at later q
+-- the first points have their entries there, the others those here
+pub record IsHalf (here there : Colouring) (n : ℕ) (c : Colouring) : Type 0 where
+  pub same_length : length c ≡ length here
+  pub first : (q : ℕ) → q < n → entry_at c q ≡ entry_at there q
+  pub others : (q : ℕ) → n ≤ q → entry_at c q ≡ entry_at here q
+
+-- the edits from one place on finish a colouring next, and lead on from it behind another place
+pub record IsNext (es : List Edit) (from to : ℕ) (c next : Colouring) : Type 0 where
+  pub on : from < to
+  pub inside : to ≤ length es
+  pub colourings : colourings_from c (drop from es) ≡ next ∷ colourings_from next (drop to es)
+  pub end : led c (drop from es) ≡ led next (drop to es)
+
+-- the edits from one place on finish no colouring, and lead to the end
+pub record IsLast (es : List Edit) (from : ℕ) (c end : Colouring) : Type 0 where
+  pub none : colourings_from c (drop from es) ≡ []
+  pub led_on : led c (drop from es) ≡ end

@@ -8,6 +8,7 @@ pub mod ReachLaws
 pub mod Decided
 pub mod Play
 pub mod Stones
+pub mod Differences
 pub mod Laws
 -- What private contracts and proofs cite. Nobody has to believe these.
 pub mod Planes

@@ -1,5 +1,5 @@
 -- What a board shows (the Tromp-Taylor rules of Go: each point of the grid is black, white or empty).
-use Rattle.std.specs.Prelude.{List, Option}
+use Rattle.std.specs.Prelude.{List, Option, map}
 use Rattle.tt_board.specs.declared.Colour.{Colour}
 use Rattle.tt_sgf.specs.declared.size.Size.{Size}
 
@@ -11,3 +11,7 @@ Colouring = List (Option Colour)
 pub record Position : Type 0 where
   pub size : Size
   pub points : Colouring
+
+-- the colourings of boards
+abbrev pub colourings : List Position → List Colouring
+colourings bs = map (λ b. b.points) bs

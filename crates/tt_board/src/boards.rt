@@ -1,64 +1,31 @@
 //! Boards one after another, kept by their differences: a board of a history differs from the one before it by a stone and what
 //! the stone captured.
 
-ghost use Rattle.std.specs.Prelude.{◌≡◌, ℕ, ◌<◌, ◌↔◌, List, [], ◌∷◌, ◌++◌, length, All, IsTrue, IfOk, OnOk};
+ghost use Rattle.std.specs.Prelude.{◌≡◌, ◌<◌, ◌↔◌, List, ◌∷◌, ◌++◌, [], length, All, IsTrue, IfOk};
 ghost use Rattle.tt_sgf.specs.declared.size.Size.{Size};
 ghost use Rattle.tt_board.specs.Position.{Position};
-ghost use Rattle.tt_board.specs.Boards.{IsLedBack};
 
-use super::Colour;
 use super::board::Board;
-use super::colouring::Colouring;
-use std::alloc::{AllocError, Global};
+use super::differences::Differences;
+use std::alloc::Global;
 use std::marker::Model;
 use tt_sgf::NoMemory;
-
-/// A step back from a board to the one before it.
-#[derive(Clone, Copy)]
-enum Edit {
-    /// The point of this number held that entry.
-    Entry(u16, Option<Colour>),
-    /// Nothing else was different.
-    Whole,
-}
 
 /// Boards of one size, oldest first and at least one, in a few bytes for each. Contracts see their list.
 #[derive(Drop)]
 pub struct Boards {
     last: Board,
-    edits: Vec<Edit>,
+    before: Differences,
 }
 
 impl Model for Boards {
-    ghost use Rattle.std.specs.Prelude.{List, length, All};
+    ghost use Rattle.std.specs.Prelude.{List};
     ghost use Rattle.tt_board.specs.Position.{Position};
-    ghost use Rattle.tt_board.specs.Boards.{boards_of, IsOn};
+    ghost use Rattle.tt_board.specs.Boards.{boards_of};
 
     ghost Value = { List Position };
 
-    ghost view = { λ b. boards_of b.last b.edits.items };
-
-    ghost invariant = { λ b. All (IsOn (length b.last.points)) b.edits.items };
-}
-
-/// Adds the edits that lead back from a colouring to an earlier one of as many points.
-fn push_board(
-    edits: &mut Vec<Edit>,
-    later: &Colouring,
-    earlier: &Colouring,
-) -> Result<(), AllocError>
-    requires { length later.now ≡ length earlier.now }
-    ensures { OnOk result (IsLedBack edits.old.items edits.new.items later.now earlier.now) }
-{
-    let count = later.len();
-    let differing = later.apart(earlier);
-    let mut p = differing.first_from(0);
-    while p < count {
-        edits.push(Edit::Entry(p as u16, earlier.at(p)))?;
-        p = differing.first_from(p + 1);
-    }
-    edits.push(Edit::Whole)?;
-    Ok(())
+    ghost view = { λ b. boards_of b.last b.before };
 }
 
 impl Boards {
@@ -69,16 +36,16 @@ impl Boards {
         ensures { IfOk result (λ b. b ≡ boards.now) }
     {
         let last = boards.len() - 1;
-        let mut edits = Vec::with_capacity(alloc, last.saturating_mul(2))?;
+        let mut before = Differences::with_capacity(alloc, last.saturating_mul(2))?;
         let mut left = last;
         while left > 0 {
-            push_board(&mut edits, boards[left].points(), boards[left - 1].points())?;
+            before.push(boards[left].points(), boards[left - 1].points())?;
             left -= 1;
         }
-        edits.shrink_to_fit();
+        before.shrink_to_fit();
         Ok(Boards {
             last: boards[last].copy(),
-            edits,
+            before,
         })
     }
 
@@ -95,19 +62,16 @@ impl Boards {
             return false;
         }
         let mut points = self.last.points().copy();
-        for edit in &self.edits {
-            match edit {
-                Edit::Entry(p, entry) => points.set(usize::from(*p), *entry),
-                Edit::Whole => {
-                    if left == 0 {
-                        return false;
-                    }
-                    left -= 1;
-                    if !boards[left].shows(size, &points) {
-                        return false;
-                    }
-                }
+        let mut from = 0;
+        while let Some(next) = self.before.lead(from, &mut points) {
+            if left == 0 {
+                return false;
             }
+            left -= 1;
+            if !boards[left].shows(size, &points) {
+                return false;
+            }
+            from = next;
         }
         left == 0
     }

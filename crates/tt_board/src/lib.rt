@@ -1,6 +1,6 @@
 //! Boards of Go under the Tromp-Taylor rules: colourings in which each stone reaches empty, moves that capture, and area scores.
 //!
-//! A board takes no memory but its own: `Boards::of` alone asks for some, and says where there is none.
+//! A board takes no memory but its own: `Boards` and `Differences` alone ask for some, and say where there is none.
 //! A contract sees a board as a `Position`: its size, and its colouring as a list of entries, row by row.
 #![tactic(auto)]
 
@@ -13,6 +13,7 @@ mod boards;
 mod chain;
 mod clearing;
 mod colouring;
+mod differences;
 mod fill;
 pub mod laws;
 mod near;
@@ -21,6 +22,7 @@ mod stones;
 
 pub use board::{Board, Lifeless, Occupied};
 pub use boards::Boards;
+pub use differences::Differences;
 
 /// The colour of a stone, and of the player who puts it.
 #[derive(Clone, Copy, PartialEq, Eq, Hash)]
@@ -41,6 +43,8 @@ impl Colour {
     }
 }
 
+#[cfg(test)]
+mod differences_tests;
 #[cfg(test)]
 mod move_tests;
 #[cfg(test)]

@@ -1,7 +1,8 @@
 -- The course of a game, of a record or of a problem: its colourings so far, and the passes in a row. Positional superko.
-use Rattle.std.specs.Prelude.{ℕ, ◌+◌, List, [], ◌∷◌, ◌++◌, map, Contains}
+use Rattle.std.specs.Prelude.{ℕ, ◌+◌, List, [], ◌∷◌, ◌++◌, Contains}
 use Rattle.tt_sgf.specs.declared.size.Size.{Size}
-use Rattle.tt_board.specs.Position.{Position, Colouring}
+use Rattle.tt_board.specs.Position.{Colouring}
+pub use Rattle.tt_board.specs.Position.{colourings}
 
 -- the size of the board; the colourings before the present one, oldest first; the present one; the passes in a row
 pub record Course : Type 0 where
@@ -29,7 +30,3 @@ with_pass c = record { size = c.size; earlier = c.earlier; present = c.present; 
 -- the course that begins with this colouring
 abbrev pub first_course : Size → Colouring → Course
 first_course size c = record { size = size; earlier = []; present = c; passes = 0 }
-
--- the colourings of boards
-abbrev pub colourings : List Position → List Colouring
-colourings bs = map (λ b. b.points) bs

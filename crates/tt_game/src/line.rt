@@ -52,7 +52,7 @@ impl Model for Line {
 
 impl Line {
     ghost use Rattle.std.specs.Prelude.{Some, None, Err, Ok, [], MatchResult, EachIndex};
-    ghost use Rattle.tt_game.specs.Game.{history, winner_of, colour_of, made, IsLegal, after};
+    ghost use Rattle.tt_game.specs.Game.{history, winner_of, colour_of, made, IsLegal, IsBarred, after};
     ghost use Rattle.tt_board.specs.Reach.{entry_at};
     ghost use Rattle.std.specs.Prelude.{OnOk, OnErr, IfErr, IfOk};
     ghost use Rattle.tt_game.specs.Line.{HasTargets, IsRefusal, IsRefused, IsPushed};
@@ -155,6 +155,25 @@ impl Line {
             return Err(Why::Repeats);
         }
         Ok(next)
+    }
+
+    /// The board that a play of the side to move on an empty point of the region makes, where the line's history has its
+    /// colouring; none where the history hasn't, and for any other point. It takes no memory.
+    pub fn repeated(&self, p: Point) -> Option<Board>
+        ensures { MatchOption result (IsBarred self.now.frame self.now.state p → ⊥)
+            (λ b. IsBarred self.now.frame self.now.state p × (b ≡ record { size = self.now.frame.size; points = made self.now.frame self.now.state p })) }
+    {
+        if !self.frame.size.holds(p)
+            || !self.frame.region.has(p)
+            || self.present().at(p).is_some()
+        {
+            return None;
+        }
+        let next = self.board_after(p);
+        if !self.has_been(&next) {
+            return None;
+        }
+        Some(next)
     }
 
     /// Why a turn is refused, or none where it is legal: `Over` exactly where somebody has won. A play is

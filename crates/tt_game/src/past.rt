@@ -9,7 +9,7 @@ use crate::history::History;
 use crate::keys::{Key, key_at};
 use crate::line::Line;
 use std::marker::Model;
-use tt_board::Boards;
+use tt_board::{Board, Boards};
 use tt_sgf::NoMemory;
 
 /// Where a line stood: its frame, history, side to move and passes. The history's boards are kept by their differences.
@@ -71,10 +71,18 @@ impl Past {
         self.boards.are(line.history())
     }
 
+    /// The present board there.
+    pub fn present(&self) -> &Board
+        ensures size { result.now.size ≡ self.now.frame.size }
+        ensures points { result.now.points ≡ self.now.state.present }
+    {
+        self.boards.last()
+    }
+
     /// The key of the position there. It takes no memory.
     pub fn key(&self) -> Key
         ensures { result ≡ key_of self.now.frame self.now.state }
     {
-        key_at(&self.frame, self.boards.last(), self.to_move, self.passes)
+        key_at(&self.frame, self.present(), self.to_move, self.passes)
     }
 }

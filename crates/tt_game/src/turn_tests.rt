@@ -80,6 +80,27 @@ fn is_refused(line: &Line, letters: &[u8]) -> bool {
     usize::from(number) == size.point_count() + 1
 }
 
+/// Whether just the plays that superko alone refuses make a board of the history, where the game isn't over.
+fn repeats(line: &Line, causes: &[u8]) -> bool {
+    let size = line.frame().size;
+    let mut number = 0;
+    for cause in causes {
+        if let (Some(p), false) = (size.point(number), *cause == b'O') {
+            let has_been = match line.repeated(p) {
+                Some(next) => line.history().iter().any(|board| board.same(&next)),
+                None => false,
+            };
+            if has_been != (*cause == b'R') || has_been != line.repeated(p).is_some() {
+                return false;
+            }
+        }
+        if number < 361 {
+            number += 1;
+        }
+    }
+    true
+}
+
 /// The letters of who has won, if anybody, and of who moves, and the passes in a row.
 fn outcome(line: &Line) -> [u8; 3] {
     let winner = match line.winner() {
@@ -147,6 +168,9 @@ fn wrong_copy(alloc: Global, line: &Line) -> &'static str {
     if !past.stands_with(&copy) {
         return "the past stands with the copy";
     }
+    if !past.present().same(line.present()) {
+        return "the past has the line's board";
+    }
     if past.key() != line.key() {
         return "the past has the line's key";
     }
@@ -173,6 +197,9 @@ fn wrong(alloc: Global, case: Case) -> &'static str {
     }
     if !is_refused(&line, causes) {
         return "the causes of refusal";
+    }
+    if !repeats(&line, causes) {
+        return "the plays that repeat a board";
     }
     if !has_turns(&line, causes) {
         return "the legal turns";

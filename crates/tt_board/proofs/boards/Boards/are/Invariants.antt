@@ -1,10 +1,14 @@
-use Rattle.std.proofs.Common.{◌≡◌, ◌<◌, ◌++◌, length, drop, reverse}
-use Rattle.tt_board.specs.Boards.{boards_before}
+use Rattle.std.proofs.Common.{◌≡◌, ◌<◌, ◌≤◌, ◌-◌, length, drop}
+use Rattle.tt_board.specs.Differences.{colourings_from}
+use Rattle.tt_board.proofs.BoardsLemmas.{boards_back}
 use Rattle.tt_board.proofs.boards.Boards.are.Given as goal
 
-abbrev pub invariant-loop-edit : goal.invariant-loop-edit
-invariant-loop-edit l = record {
+abbrev pub invariant-loop-next : goal.invariant-loop-next
+invariant-loop-next l = record {
   inside : l.left < length l.boards;
-  fits : length l.points ≡ length l.initial.points;
-  boards : l.self ≡ reverse (boards_before l.size l.points (drop l.edit-index l.edit-items)) ++ drop l.left l.boards;
+  behind : l.from ≤ length l.self-inside.before;
+  boards : l.self ≡ boards_back l.size (colourings_from l.points (drop l.from l.self-inside.before)) (drop l.left l.boards);
 }
+
+abbrev pub decreases-loop-next : goal.decreases-loop-next
+decreases-loop-next l = length l.self-inside.before - l.from

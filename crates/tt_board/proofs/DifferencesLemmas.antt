@@ -1,0 +1,212 @@
+-- Colourings kept by their differences.
+use Rattle.std.proofs.Common.{◌≡◌, ◌≢◌, ◌↔◌, ◌⊎◌, ℕ, zero, suc, ◌+◌, ◌<◌, ◌≤◌, List, [], ◌∷◌, ◌++◌, length, take, drop, set as put, Option, Some, None, Contains}
+use Rattle.std.proofs.Common.{refl, sym, ap, subst, ◌∙◌, arith, inl, inr}
+use Rattle.std.proofs.lemmas.Bool.{cases_lt, cases_eq}
+use Rattle.std.proofs.lemmas.List.Elements.{Contains-append_left, Contains-append_right, Contains-append_cases, Contains-push}
+use Rattle.std.proofs.lemmas.List.{append-nil, append_assoc, length-set, get_or-set_same, get_or-set_other, ext_get_or}
+use Rattle.std.proofs.lemmas.List.{length-take, take_at, take-append-drop, take-append-le}
+use Rattle.tt_board.specs.declared.Colour.{Colour}
+use Rattle.tt_board.specs.declared.differences.Edit.{Edit}
+use Rattle.tt_board.specs.declared.differences.Edit.TheVariants.{Black, White, Empty, Whole}
+use Rattle.tt_board.specs.Position.{Colouring}
+use Rattle.tt_board.specs.Reach.{entry_at}
+use Rattle.tt_board.specs.Differences.{edited, finished, colourings_from}
+use Rattle.tt_board.specs.Boards.{edit_of, led, IsLed, IsHalf, IsNext, IsLast}
+
+-- ---- one more edit
+
+-- one more edit changes what the others led to
+led_push : (c : Colouring) (es : List Edit) (e : Edit) → led c (es ++ e ∷ []) ≡ edited (led c es) e
+led_push c [] e = refl
+led_push c (x ∷ es) e = led_push (edited c x) es e
+
+-- one more edit adds the colouring that it finishes, or none
+from_push : (c : Colouring) (es : List Edit) (e : Edit) → colourings_from c (es ++ e ∷ []) ≡ colourings_from c es ++ finished (led c es) e
+from_push c [] e = append-nil (finished c e)
+from_push c (x ∷ es) e =
+    ap (λ cs. finished c x ++ cs) (from_push (edited c x) es e) ∙ sym (append_assoc (finished c x) (colourings_from (edited c x) es) (finished (led (edited c x) es) e))
+
+-- an edit keeps the number of entries
+length_edited : (c : Colouring) (e : Edit) → length (edited c e) ≡ length c
+length_edited c (Black p) = length-set c p (Some Colour.Black)
+length_edited c (White p) = length-set c p (Some Colour.White)
+length_edited c (Empty p) = length-set c p None
+length_edited c Whole = refl
+
+-- so do edits one after another
+pub length_led : (c : Colouring) (es : List Edit) → length (led c es) ≡ length c
+length_led c [] = refl
+length_led c (e ∷ es) = length_led (edited c e) es ∙ length_edited c e
+
+-- the edit of an entry puts it on its point, and finishes no colouring
+edited_entry : (c : Colouring) (p : ℕ) (e : Option Colour) → edited c (edit_of p e) ≡ put c p e
+edited_entry c p (Some Colour.Black) = refl
+edited_entry c p (Some Colour.White) = refl
+edited_entry c p None = refl
+
+finished_none : (c : Colouring) (p : ℕ) (e : Option Colour) → finished c (edit_of p e) ≡ []
+finished_none c p (Some Colour.Black) = refl
+finished_none c p (Some Colour.White) = refl
+finished_none c p None = refl
+
+-- ---- from one colouring to the next
+
+-- at the start all entries are those here
+pub half_none : (here there c : Colouring) → c ≡ here → ((q : ℕ) → q < 0 → entry_at here q ≡ entry_at there q) → IsHalf here there 0 c
+half_none here there c is h = record { same_length = ap length is; first = λ q below. absurd (omega arith); others = λ q above. ap (λ x. entry_at x q) is }
+
+-- entries that are the same in both count as led on
+pub half_more : (here there c : Colouring) (n m : ℕ) → IsHalf here there n c → n ≤ m → ((q : ℕ) → n ≤ q → q < m → entry_at here q ≡ entry_at there q) → IsHalf here there m c
+half_more here there c n m h le alike = record {
+  same_length = h.same_length;
+  first = λ q below. elim (cases_lt q n) [
+    | inl done ↦ h.first q done
+    | inr next ↦ h.others q next ∙ alike q next below
+  ];
+  others = λ q above. h.others q (omega arith);
+}
+
+-- one more entry is led on
+half_set : (here there c : Colouring) (n : ℕ) → IsHalf here there n c → n < length here → IsHalf here there (n + 1) (put c n (entry_at there n))
+half_set here there c n h below = record {
+  same_length = length-set c n (entry_at there n) ∙ h.same_length;
+  first = λ q lt. elim (cases_eq q n) [
+    | inl same ↦ rw same (get_or-set_same c n (entry_at there n) None (omega (arith, h.same_length)))
+    | inr other ↦ get_or-set_other c n q (entry_at there n) None other ∙ h.first q (let d : q ≢ n = other in omega arith)
+  ];
+  others = λ q above. get_or-set_other c n q (entry_at there n) None (λ e. absurd (omega arith)) ∙ h.others q (omega arith);
+}
+
+-- once all entries are led on, the colouring is that there
+half_done : (here there c : Colouring) (n : ℕ) → IsHalf here there n c → length here ≡ length there → length here ≤ n → c ≡ there
+half_done here there c n h fits all =
+    let counts = h.same_length in
+    ext_get_or None c there (counts ∙ fits) (λ q below. h.first q (omega (arith, below, counts)))
+
+-- an edit for an entry leads on to the next one that differs
+pub half_pushed : (here there c : Colouring) (es new : List Edit) (p next : ℕ) → IsHalf here there p (led c es)
+    → new ≡ es ++ edit_of p (entry_at there p) ∷ [] → p < length here → p + 1 ≤ next
+    → ((q : ℕ) → p + 1 ≤ q → q < next → entry_at here q ≡ entry_at there q) → IsHalf here there next (led c new)
+half_pushed here there c es new p next h is below le alike =
+    subst (IsHalf here there next) (sym (ap (led c) is ∙ led_push c es (edit_of p (entry_at there p)) ∙ edited_entry (led c es) p (entry_at there p)))
+    (half_more here there (put (led c es) p (entry_at there p)) (p + 1) next (half_set here there (led c es) p h below) le alike)
+
+-- an edit of an entry finishes no colouring
+pub from_same : (c : Colouring) (es new : List Edit) (p : ℕ) (e : Option Colour) → new ≡ es ++ edit_of p e ∷ [] → colourings_from c new ≡ colourings_from c es
+from_same c es new p e is =
+    ap (colourings_from c) is ∙ from_push c es (edit_of p e) ∙ ap (λ cs. colourings_from c es ++ cs) (finished_none (led c es) p e) ∙ append-nil (colourings_from c es)
+
+-- once all entries are led on, the edits lead there and finish that colouring
+pub led_whole : (here there : Colouring) (old es new : List Edit) (p : ℕ)
+    → ((c : Colouring) → led c old ≡ here → IsHalf here there p (led c es))
+    → ((c : Colouring) → colourings_from c es ≡ colourings_from c old)
+    → new ≡ es ++ Whole ∷ [] → length here ≡ length there → length here ≤ p → IsLed old new here there
+led_whole here there old es new p half same is fits all = record {
+  points = λ c from. ap (led c) is ∙ led_push c es Whole ∙ done c from;
+  colourings = λ c from. ap (colourings_from c) is ∙ from_push c es Whole
+      ∙ ap (λ cs. cs ++ finished (led c es) Whole) (same c)
+      ∙ ap (λ (x : Colouring). colourings_from c old ++ finished x Whole) (done c from);
+}
+  where
+    done : (c : Colouring) → led c old ≡ here → led c es ≡ there
+    done c from = half_done here there (led c es) p (half c from) fits all
+
+-- what more than the items of a list begin with stays at the front of it
+pub front_kept : (old es new : List Edit) → take (length old) es ≡ old → take (length es) new ≡ es → take (length old) new ≡ old
+front_kept old es new kept more =
+    ap (take (length old)) (sym (take-append-drop (length es) new) ∙ ap (λ xs. xs ++ drop (length es) new) more)
+    ∙ take-append-le (length old) es (drop (length es) new) (omega (arith, ap length kept, length-take (length old) es)) ∙ kept
+
+-- one more item behind a list keeps what stood at its front
+pub front_pushed : (old es new : List Edit) (e : Edit) → take (length old) es ≡ old → new ≡ es ++ e ∷ [] → take (length old) new ≡ old
+front_pushed old es new e kept is = front_kept old es new kept (ap (take (length es)) is ∙ take_at es (e ∷ []) (length es) refl)
+
+-- ---- what is held
+
+-- held are the colourings of before, and one more
+abbrev pub IsAdded : Colouring → List Edit → List Edit → Colouring → Type 0
+IsAdded base old new there = (x : Colouring) → Contains (colourings_from base new) x ↔ (Contains (colourings_from base old) x ⊎ (x ≡ there))
+
+-- an item of a list is its first, or stands behind it
+first_or_behind : {X : Type 0} (x y : X) (xs : List X) → Contains (x ∷ xs) y → (y ≡ x) ⊎ Contains xs y
+first_or_behind x y xs h = elim (Contains-append_cases (x ∷ []) xs y h) [ inl at_first ↦ inl (only at_first) | inr behind ↦ inr behind ]
+  where
+    only : Contains (x ∷ []) y → y ≡ x
+    only (zero, lt, is) = sym is
+    only (suc k, lt, is) = absurd (omega (arith, lt))
+
+-- the next colouring is held
+pub next_held : (es : List Edit) (from to : ℕ) (c next : Colouring) → IsNext es from to c next → Contains (colourings_from c (drop from es)) next
+next_held es from to c next n = subst (λ cs. Contains cs next) (sym n.colourings) (0, omega arith, refl)
+
+-- so are those behind it
+pub behind_held : (es : List Edit) (from to : ℕ) (c next x : Colouring) → IsNext es from to c next
+    → Contains (colourings_from next (drop to es)) x → Contains (colourings_from c (drop from es)) x
+behind_held es from to c next x n h = subst (λ cs. Contains cs x) (sym n.colourings) (Contains-append_right (next ∷ []) (colourings_from next (drop to es)) x h)
+
+-- and no others
+pub held_cases : (es : List Edit) (from to : ℕ) (c next x : Colouring) → IsNext es from to c next
+    → Contains (colourings_from c (drop from es)) x → (x ≡ next) ⊎ Contains (colourings_from next (drop to es)) x
+held_cases es from to c next x n h = first_or_behind next x (colourings_from next (drop to es)) (subst (λ cs. Contains cs x) n.colourings h)
+
+-- at the end nothing is held
+pub none_held : (es : List Edit) (from : ℕ) (c end x : Colouring) → IsLast es from c end → Contains (colourings_from c (drop from es)) x → ⊥
+none_held es from c end x n h = absurd (omega (arith, h.1, ap length n.none))
+
+-- what was added is held, with what was held before
+pub added_cases : (old new : List Edit) (c here there x : Colouring) → IsLed old new here there → led c old ≡ here
+    → Contains (colourings_from c new) x ↔ (Contains (colourings_from c old) x ⊎ (x ≡ there))
+added_cases old new c here there x h from =
+    let is = h.colourings c from in (
+      λ has. elim (Contains-append_cases (colourings_from c old) (there ∷ []) x (subst (λ cs. Contains cs x) is has)) [
+        | inl before ↦ inl before
+        | inr at_last ↦ elim (first_or_behind there x [] at_last) [ inl same ↦ inr same | inr none ↦ absurd (omega (arith, none.1)) ]
+      ],
+      λ either. subst (λ cs. Contains cs x) (sym is) (elim either [
+        | inl before ↦ Contains-append_left (colourings_from c old) (there ∷ []) x before
+        | inr same ↦ subst (Contains (colourings_from c old ++ there ∷ [])) (sym same) (Contains-push (colourings_from c old) there)
+      ]),
+    )
+
+-- ---- what is appended
+
+-- the next colouring was added, and isn't excepted
+pub next_added : (held new behind rest except : List Colouring) (next : Colouring)
+    → ((x : Colouring) → Contains new x ↔ (Contains held x ⊎ (x ≡ next))) → (Contains except next → ⊥)
+    → Contains rest next → ((x : Colouring) → Contains behind x → Contains rest x) → ((x : Colouring) → Contains rest x → (x ≡ next) ⊎ Contains behind x)
+    → (x : Colouring) → (Contains new x ⊎ (Contains behind x × (Contains except x → ⊥))) ↔ (Contains held x ⊎ (Contains rest x × (Contains except x → ⊥)))
+next_added held new behind rest except next added apart first later cases x = (
+  λ either. elim either [
+    | inl has ↦ elim ((added x).0 has) [
+      | inl before ↦ inl before
+      | inr is ↦ inr (subst (Contains rest) (sym is) first, λ h. apart (subst (Contains except) is h))
+    ]
+    | inr left ↦ inr (later x left.0, left.1)
+  ],
+  λ either. elim either [
+    | inl before ↦ inl ((added x).1 (inl before))
+    | inr left ↦ elim (cases x left.0) [
+      | inl is ↦ inl ((added x).1 (inr is))
+      | inr more ↦ inr (more, left.1)
+    ]
+  ],
+)
+
+-- the next colouring is excepted
+pub next_left : (held behind rest except : List Colouring) (next : Colouring) → Contains except next
+    → ((x : Colouring) → Contains behind x → Contains rest x) → ((x : Colouring) → Contains rest x → (x ≡ next) ⊎ Contains behind x)
+    → (x : Colouring) → (Contains held x ⊎ (Contains behind x × (Contains except x → ⊥))) ↔ (Contains held x ⊎ (Contains rest x × (Contains except x → ⊥)))
+next_left held behind rest except next among later cases x = (
+  λ either. elim either [ inl before ↦ inl before | inr left ↦ inr (later x left.0, left.1) ],
+  λ either. elim either [
+    | inl before ↦ inl before
+    | inr left ↦ elim (cases x left.0) [
+      | inl is ↦ absurd (left.1 (subst (Contains except) (sym is) among))
+      | inr more ↦ inr (more, left.1)
+    ]
+  ],
+)
+
+-- two equivalences one after another
+pub both_ways : {A B C : Type 0} → A ↔ B → B ↔ C → A ↔ C
+both_ways f g = (λ a. g.0 (f.0 a), λ c. f.1 (g.1 c))
