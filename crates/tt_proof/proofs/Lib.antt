@@ -3,6 +3,9 @@ pub mod EntryLemmas
 pub mod ForcesLemmas
 pub mod FitsLemmas
 pub mod NeedLemmas
+pub mod FootprintLemmas
+pub mod RepeatLemmas
+pub mod ResultLemmas
 pub mod ListLemmas
 pub mod ReadLemmas
 pub mod ProvenLemmas

@@ -3,6 +3,7 @@ pub mod Strategy
 pub mod Nodes
 pub mod Wins
 pub mod Footprints
+pub mod KeptFootprints
 pub mod Laws
 pub mod Proven
 pub mod Rejections
@@ -11,4 +12,5 @@ pub mod CertificateFaults
 -- What private contracts and proofs cite. Nobody has to believe these.
 pub mod StrategyCode
 pub mod Replaying
+pub mod Collecting
 pub mod CertificateReading

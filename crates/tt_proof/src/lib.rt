@@ -4,6 +4,7 @@
 mod building;
 mod certificate_read;
 mod certificate_write;
+mod footprints;
 pub mod laws;
 mod measures;
 mod plan;
@@ -13,6 +14,7 @@ mod tree;
 
 pub use certificate_read::{CertFault, read_cert};
 pub use certificate_write::{put_turn, write_cert};
+pub use footprints::{Footprint, footprint_of};
 pub use plan::{Plan, Replies};
 pub use proven::{Proof, Rejected};
 pub use replays::replay;
