@@ -1,7 +1,13 @@
 pub mod BoardsLemmas
+pub mod CaptureLemmas
 pub mod ChainLemmas
+pub mod CountLemmas
+pub mod JoinLemmas
 pub mod LiftLemmas
+pub mod LinkLemmas
+pub mod NameLemmas
 pub mod NearLemmas
 pub mod PlaneLemmas
 pub mod PlayLemmas
+pub mod StartLemmas
 pub mod StoneLemmas

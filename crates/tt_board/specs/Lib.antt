@@ -13,3 +13,4 @@ pub mod Laws
 pub mod Planes
 pub mod Boards
 pub mod Chain
+pub mod Chains
