@@ -7,6 +7,7 @@ pub mod LiftLemmas
 pub mod LinkLemmas
 pub mod NameLemmas
 pub mod NearLemmas
+pub mod PlacedLemmas
 pub mod PlaneLemmas
 pub mod PlayLemmas
 pub mod StartLemmas

@@ -10,6 +10,7 @@ use Rattle.tt_sgf.specs.Sizes.{point_count}
 use Rattle.tt_board.specs.Near.{IsNeighbour}
 use Rattle.tt_board.specs.Position.{Colouring}
 use Rattle.tt_board.specs.Reach.{entry_at}
+use Rattle.tt_board.specs.Play.{IsAlive}
 use Rattle.tt_board.specs.Decided.{Decision, both, some_below, neighbour}
 
 -- a path of adjacent points of one colour leads from p to q
@@ -82,6 +83,22 @@ pub record AreCounted (s : Size) (ns stones liberties : List ℕ) : Type 0 where
   pub rooted : (p : ℕ) → name_at ns p ≢ 0 → name_at ns (root_of (name_at ns p)) ≡ name_at ns p
   pub stones_true : (p : ℕ) → name_at ns p ≢ 0 → name_at stones (root_of (name_at ns p)) ≡ stone_count ns (name_at ns p)
   pub liberties_true : (p : ℕ) → name_at ns p ≢ 0 → name_at liberties (root_of (name_at ns p)) ≡ liberty_count s ns (name_at ns p)
+
+-- a board with its chains: the name on each place, and counts of stones and of liberties
+pub record ChainBoard : Type 0 where
+  pub size : Size
+  pub points : Colouring
+  pub names : List ℕ
+  pub stones : List ℕ
+  pub liberties : List ℕ
+
+-- each stone reaches empty, the names name the chains, and their counts are true
+pub record IsChainBoard (b : ChainBoard) : Type 0 where
+  pub fits : length b.points ≡ point_count b.size
+  pub wide : (length b.names ≡ 361) × (length b.stones ≡ 361) × (length b.liberties ≡ 361)
+  pub named : AreNames b.size b.points b.names
+  pub counted : AreCounted b.size b.names b.stones b.liberties
+  pub alive : IsAlive b.size b.points
 
 -- ---- how the code gets there
 

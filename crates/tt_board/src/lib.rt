@@ -12,6 +12,7 @@ mod board;
 mod boards;
 mod captures;
 mod chain;
+mod chains;
 mod clearing;
 mod colouring;
 mod fill;
