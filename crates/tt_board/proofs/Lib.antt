@@ -5,6 +5,8 @@ pub mod CountLemmas
 pub mod JoinLemmas
 pub mod LiftLemmas
 pub mod LinkLemmas
+pub mod LookLemmas
+pub mod MakeLemmas
 pub mod NameLemmas
 pub mod NearLemmas
 pub mod PlacedLemmas

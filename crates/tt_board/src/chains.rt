@@ -3,17 +3,18 @@
 //! A play asks these counts which chains go, and looks at no stone but those that come, join or go.
 //! `Board` doesn't use them yet.
 
-ghost use Rattle.std.specs.Prelude.{◌≡◌, ◌≢◌, ℕ, ◌/◌, ◌<◌, ◌≤◌, length, map, replicate, slice_set, Some, None};
+ghost use Rattle.std.specs.Prelude.{◌≡◌, ◌≢◌, ℕ, ◌/◌, ◌<◌, ◌≤◌, ◌↔◌, length, map, replicate, slice_set, Contains, IsTrue, Some, None};
 ghost use Rattle.tt_sgf.specs.Sizes.{point_count};
 ghost use Rattle.tt_board.specs.Reach.{entry_at};
-ghost use Rattle.tt_board.specs.Play.{IsAlive};
-ghost use Rattle.tt_board.specs.Chains.{name_at, root_of, code_of, renamed};
+ghost use Rattle.tt_board.specs.Play.{IsAlive, play_of};
+ghost use Rattle.tt_board.specs.Chains.{name_at, root_of, code_of, renamed, IsEachOnce};
 
 use super::Colour;
 use super::captures::release;
 use super::colouring::Colouring;
 use super::joins::{join_beside, start};
-use super::names::root_of;
+use super::looks::{Look, has_more, last_liberty};
+use super::names::{chains_beside, empty_beside, root_of};
 use std::marker::Model;
 use tt_sgf::Size;
 
@@ -111,6 +112,7 @@ impl Chains {
     pub(crate) fn take(&mut self, name: u16)
         requires living { (name ≢ 0) × (name_at self.old.names (root_of name) ≡ name) }
         ensures size { self.new.size ≡ self.old.size }
+        ensures fits { length self.new.points ≡ length self.old.points }
         ensures names { self.new.names ≡ map (renamed name 0) self.old.names }
         ensures gone { (q : ℕ) → name_at self.old.names q ≡ name → entry_at self.new.points q ≡ None }
         ensures kept { (q : ℕ) → name_at self.old.names q ≢ name → entry_at self.new.points q ≡ entry_at self.old.points q }
@@ -140,5 +142,62 @@ impl Chains {
             }
         }
         made
+    }
+
+    /// What a play of `colour` on the empty point `p` does (the Tromp-Taylor rules of Go).
+    ///
+    /// A chain goes with it exactly where `p` is its one liberty: the opponent's; or one's own, where none of the opponent's goes,
+    /// no point beside `p` is empty, and no own chain beside it has another liberty.
+    pub(crate) fn look(&self, colour: Colour, p: usize) -> Look
+        requires on_board { p < point_count self.now.size }
+        requires free { entry_at self.now.points p ≡ None }
+        ensures fits { length self.now.points ≡ point_count self.now.size }
+        ensures goes { (q : ℕ) → entry_at self.now.points q ≢ None
+            → (entry_at (play_of self.now.size self.now.points colour p) q ≡ None) ↔ Contains result.goes.items (name_at self.now.names q) }
+        ensures suicide { IsTrue result.suicide ↔ (entry_at (play_of self.now.size self.now.points colour p) p ≡ None) }
+        ensures once { IsEachOnce result.goes.items }
+        ensures living { (m : ℕ) → Contains result.goes.items m → (m ≢ 0) × (name_at self.now.names (root_of m) ≡ m) }
+    {
+        let near = chains_beside(self.size, &self.names, p, 0);
+        let weak = last_liberty(&self.liberties, near.as_slice(), colour.other());
+        if !weak.is_empty() {
+            return Look {
+                goes: weak,
+                suicide: false,
+            };
+        }
+        if empty_beside(self.size, &self.names, p) > 0 {
+            return Look {
+                goes: weak,
+                suicide: false,
+            };
+        }
+        if has_more(&self.liberties, near.as_slice(), colour) {
+            return Look {
+                goes: weak,
+                suicide: false,
+            };
+        }
+        Look {
+            goes: last_liberty(&self.liberties, near.as_slice(), colour),
+            suicide: true,
+        }
+    }
+
+    /// Plays `colour` on the empty point `p`: the stone is put, then the other colour is cleared, then `colour` (the Tromp-Taylor
+    /// rules of Go). What goes is taken off before the stone comes, which the counts allow.
+    pub(crate) fn make(&mut self, colour: Colour, p: usize)
+        requires on_board { p < point_count self.old.size }
+        requires free { entry_at self.old.points p ≡ None }
+        ensures size { self.new.size ≡ self.old.size }
+        ensures points { self.new.points ≡ play_of self.old.size self.old.points colour p }
+    {
+        let look = self.look(colour, p);
+        for name in look.goes.as_slice() {
+            self.take(*name);
+        }
+        if !look.suicide {
+            self.place(colour, p);
+        }
     }
 }

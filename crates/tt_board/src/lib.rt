@@ -18,6 +18,7 @@ mod colouring;
 mod fill;
 mod joins;
 pub mod laws;
+mod looks;
 mod names;
 mod near;
 mod setup;
