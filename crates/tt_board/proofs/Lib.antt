@@ -1,8 +1,17 @@
 pub mod BoardsLemmas
+pub mod CaptureLemmas
 pub mod ChainLemmas
 pub mod DifferencesLemmas
+pub mod CountLemmas
+pub mod JoinLemmas
 pub mod LiftLemmas
+pub mod LinkLemmas
+pub mod LookLemmas
+pub mod MakeLemmas
+pub mod NameLemmas
 pub mod NearLemmas
+pub mod PlacedLemmas
 pub mod PlaneLemmas
 pub mod PlayLemmas
+pub mod StartLemmas
 pub mod StoneLemmas

@@ -7,6 +7,8 @@ use Rattle.std.proofs.lemmas.Option.{none-some}
 use Rattle.tt_sgf.specs.declared.size.Size.{Size}
 use Rattle.tt_sgf.specs.Sizes.{point_count}
 use Rattle.tt_board.specs.Near.{IsBeside, IsNeighbour, IsThere, IsOneOf}
+use Rattle.tt_board.specs.Chains.{IsEachOnce}
+use Rattle.tt_board.proofs.CountLemmas.{once_push}
 
 -- the four places beside p, as the code finds them
 pub data Side : ℕ → ℕ → ℕ → ℕ → Type 0 where
@@ -110,6 +112,34 @@ module _ (s : Size) (p : ℕ) (pos : 0 < s.columns) (in_p : p < point_count s) (
   -- the listed points are the neighbours
   pub near_all : (q : ℕ) → Contains n4 q ↔ IsNeighbour s p q
   near_all q = (λ has. of_side s p q pos in_p (only_sides q has), λ near. listed q (side_of s.columns s.rows p q pos in_p near.0 near.1))
+
+  -- each stands once
+  pub near_once : IsEachOnce n4
+  near_once =
+      let w = s.columns in
+      let rows = div-add-mod' p w in
+      let wide : 0 < p / w → w ≤ p = λ up. omega (arith, rows, row_before (p / w) w up) in
+      let column = mod_below p w pos in
+      let o1 = more [] n1 (p - w) first (λ i j lt in'. absurd (omega arith)) (λ _ has. none_yet (p - w) has) in
+      let o2 = more n1 n2 (p - 1) second o1 (λ back has. elim (added [] n1 (p - w) (p - 1) first has) [
+        | inl none ↦ none_yet (p - 1) none
+        | inr up ↦ omega (arith, wide up.0, up.1, back, column)
+      ]) in
+      let o3 = more n2 n3 (p + 1) third o2 (λ on has. elim (added n1 n2 (p - 1) (p + 1) second has) [
+        | inl has1 ↦ elim (added [] n1 (p - w) (p + 1) first has1) [ inl none ↦ none_yet (p + 1) none | inr up ↦ omega (arith, up.1) ]
+        | inr back ↦ omega (arith, back.1)
+      ]) in
+      more n3 n4 (p + w) fourth o3 (λ down has. elim (added n2 n3 (p + 1) (p + w) third has) [
+        | inl has2 ↦ elim (added n1 n2 (p - 1) (p + w) second has2) [
+          | inl has1 ↦ elim (added [] n1 (p - w) (p + w) first has1) [ inl none ↦ none_yet (p + w) none | inr up ↦ omega (arith, up.1, pos) ]
+          | inr back ↦ omega (arith, back.1, pos)
+        ]
+        | inr on ↦ omega (arith, on.0, on.1)
+      ])
+    where
+      more : {P : Type 0} (xs ys : List ℕ) (x : ℕ) → Adds xs ys P x → IsEachOnce xs → (P → Contains xs x → ⊥) → IsEachOnce ys
+      more xs ys x (inl (h, e)) once fresh = rw e (once_push xs x once (fresh h))
+      more xs ys x (inr (_, e)) once fresh = rw e once
 
 -- the item at an index is a neighbour
 pub near_at : (s : Size) (p : ℕ) (items xs : List ℕ) (k : ℕ) → xs ≡ items → ((q : ℕ) → Contains items q ↔ IsNeighbour s p q) → k < length xs → IsNeighbour s p (get_or xs k 0)

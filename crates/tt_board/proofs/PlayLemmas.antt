@@ -1,4 +1,4 @@
-use Rattle.std.proofs.Common.{◌≡◌, ◌≢◌, ℕ, ◌+◌, ◌<◌, ◌&&◌, List, length, count_by, Option, Some, None, Bool, true, false, not, cond, inl, inr, refl, sym, ◌∙◌, set, arith}
+use Rattle.std.proofs.Common.{◌≡◌, ◌≢◌, ℕ, ◌+◌, ◌<◌, ◌⊎◌, ◌&&◌, List, length, count_by, Option, Some, None, Bool, true, false, not, cond, inl, inr, refl, sym, ◌∙◌, set, arith}
 use Rattle.std.specs.List.{range_with_len}
 use Rattle.std.proofs.lemmas.Bool.{cases_Bool, cond-true, cond-false, and_left, and_right}
 use Rattle.std.proofs.lemmas.Bool.Decides.{same_from_decides}
@@ -124,3 +124,10 @@ score_more f n =
     let g : ℕ → ℕ = λ p. cond (f p) 1 0 in
     let h = sum_by-map-range_with_len_more g (λ p. p) 0 n n (omega arith) in
     simp map-id at h
+
+-- a cleared point is empty, or as it was
+pub cleared_either : (s : Size) (c : List (Option Colour)) (k : Colour) (p : ℕ) → (cleared_entry s c k p ≡ None) ⊎ (cleared_entry s c k p ≡ entry_at c p)
+cleared_either s c k p = elim (cases_Bool (is_stone_of (entry_at c p) k && not (reaches s c p None))) [
+  | inl on ↦ inl (cond-true _ None (entry_at c p) on)
+  | inr off ↦ inr (cond-false _ None (entry_at c p) off)
+]

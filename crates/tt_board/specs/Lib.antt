@@ -14,3 +14,4 @@ pub mod Laws
 pub mod Planes
 pub mod Boards
 pub mod Chain
+pub mod Chains

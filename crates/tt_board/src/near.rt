@@ -3,6 +3,7 @@
 ghost use Rattle.std.specs.Prelude.{◌≡◌, ℕ, ◌+◌, ◌-◌, ◌<◌, ◌≤◌, ◌↔◌, Contains, IsTrue};
 ghost use Rattle.tt_sgf.specs.Sizes.{point_count};
 ghost use Rattle.tt_board.specs.Near.{IsNeighbour, IsThere, IsOneOf};
+ghost use Rattle.tt_board.specs.Chains.{IsEachOnce};
 
 use arrayvec::ArrayVec;
 use tt_sgf::Size;
@@ -10,7 +11,8 @@ use tt_sgf::Size;
 /// The points above, left of, right of and below `p`, as far as the board has them.
 pub(crate) fn neighbours(size: Size, p: usize) -> ArrayVec<usize, 4>
     requires { p < point_count size }
-    ensures { (q : ℕ) → Contains result.items q ↔ IsNeighbour size p q }
+    ensures all { (q : ℕ) → Contains result.items q ↔ IsNeighbour size p q }
+    ensures once { IsEachOnce result.items }
 {
     let columns = usize::from(size.columns());
     let rows = usize::from(size.rows());

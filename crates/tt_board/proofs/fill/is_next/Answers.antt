@@ -10,18 +10,18 @@ use Rattle.tt_board.proofs.fill.is_next.Goals as goal
 
 pub offset_bounds-points-q : goal.offset_bounds-points-q
 offset_bounds-points-q c =
-    let n = near_at c.args.size c.args.p _ _ c.loop-q.q-index c.as_slice-q-items.ensures.value c.neighbours-near.ensures c.loop-q-test.true in
+    let n = near_at c.args.size c.args.p _ _ c.loop-q.q-index c.as_slice-q-items.ensures.value c.neighbours-near.ensures.all c.loop-q-test.true in
     let lt : get_or c.as_slice-q-items.result.now c.loop-q.q-index 0 < length c.args.points.now = omega (arith, n.0) in
     search rules
 
 pub bounds-points-q : goal.bounds-points-q
 bounds-points-q c =
-    let n = near_at c.args.size c.args.p _ _ c.loop-q.q-index c.as_slice-q-items.ensures.value c.neighbours-near.ensures c.loop-q-test.true in
+    let n = near_at c.args.size c.args.p _ _ c.loop-q.q-index c.as_slice-q-items.ensures.value c.neighbours-near.ensures.all c.loop-q-test.true in
     omega (arith, n.0)
 
 pub bounds-marks-q : goal.bounds-marks-q
 bounds-marks-q c =
-    let n = near_at c.args.size c.args.p _ _ c.loop-q.q-index c.as_slice-q-items.ensures.value c.neighbours-near.ensures c.loop-q-test.true in
+    let n = near_at c.args.size c.args.p _ _ c.loop-q.q-index c.as_slice-q-items.ensures.value c.neighbours-near.ensures.all c.loop-q-test.true in
     omega (arith, n.0)
 
 -- a point none of whose neighbours leads on isn't next
@@ -40,16 +40,16 @@ pub returns : goal.returns
 returns c = (
   λ no. absurd (false≢true no),
   λ next.
-      absurd (none_next c.args.size c.args.points.now c.args.wanted c.args.marks.now c.args.p _ _ c.as_slice-q-items.ensures.value c.neighbours-near.ensures
+      absurd (none_next c.args.size c.args.points.now c.args.wanted c.args.marks.now c.args.p _ _ c.as_slice-q-items.ensures.value c.neighbours-near.ensures.all
       (λ k h. c.loop-q.invariant k (omega arith)) next),
 )
 
 pub returns-then-eq-2 : goal.returns-then-eq-2
 returns-then-eq-2 c =
-    let n = near_at c.args.size c.args.p _ _ c.loop-q.q-index c.as_slice-q-items.ensures.value c.neighbours-near.ensures c.loop-q-test.true in
+    let n = near_at c.args.size c.args.p _ _ c.loop-q.q-index c.as_slice-q-items.ensures.value c.neighbours-near.ensures.all c.loop-q-test.true in
     (λ yes. (search rules, (_, n, inl (search rules))), λ _. refl)
 
 pub returns-then-marks-q : goal.returns-then-marks-q
 returns-then-marks-q c =
-    let n = near_at c.args.size c.args.p _ _ c.loop-q.q-index c.as_slice-q-items.ensures.value c.neighbours-near.ensures c.loop-q-test.true in
+    let n = near_at c.args.size c.args.p _ _ c.loop-q.q-index c.as_slice-q-items.ensures.value c.neighbours-near.ensures.all c.loop-q-test.true in
     (λ yes. (search rules, (_, n, inr (search rules, search rules))), λ _. refl)

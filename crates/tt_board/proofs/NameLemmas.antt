@@ -1,0 +1,180 @@
+-- Names of chains as they change place by place, and what that does to the counts.
+use Rattle.std.proofs.Common.{◌≡◌, ◌≢◌, ℕ, ◌+◌, ◌<◌, ◌≤◌, ◌⊎◌, ◌↔◌, ◌&&◌, List, [], ◌∷◌, Bool, true, false, not, cond, count_by, eqb, get_or, set, take, length, Contains, ◌++◌}
+use Rattle.std.proofs.Common.{inl, inr, sym, ap, subst, ◌∙◌, arith}
+use Rattle.std.specs.List.{range_with_len}
+use Rattle.std.proofs.lemmas.Bool.{false≢true, cases_eq, cases_Bool, and_from, and_left, and_right, eq-eqb, ne_eqb}
+use Rattle.std.proofs.lemmas.List.{get_or-set_same, get_or-set_other, length_push, take_all}
+use Rattle.std.proofs.lemmas.List.Elements.{Contains-push, Contains-append_left, Contains-push_cases}
+use Rattle.std.proofs.lemmas.List.FromFn.{length-range_with_len}
+use Rattle.std.proofs.lemmas.List.Sums.{count_by-le-length}
+use Rattle.tt_sgf.specs.declared.size.Size.{Size}
+use Rattle.tt_sgf.specs.Sizes.{point_count}
+use Rattle.tt_board.specs.Near.{IsNeighbour}
+use Rattle.tt_board.specs.Decided.{neighbour}
+use Rattle.tt_board.specs.Chains.{name_at, Touches, touching, decided, decided_is, is_liberty, liberty_count, IsEachOnce, is_new, count_beside}
+use Rattle.tt_board.proofs.CountLemmas.{same_decided, decided_not, count_change, count_same, count_both, count_within, in_list, once_push}
+use Rattle.tt_board.proofs.LiftLemmas.{near_back}
+
+-- a count over a list that has each neighbour once is a count of the points beside p
+pub beside_counted : (s : Size) (f : ℕ → Bool) (p n : ℕ) (items xs : List ℕ) → xs ≡ items → ((q : ℕ) → Contains items q ↔ IsNeighbour s p q) → IsEachOnce items
+    → length xs ≤ n → count_by f (take n xs) ≡ count_beside s f p
+unfolding count_beside
+beside_counted s f p n items xs same all once past =
+    let whole : take n xs ≡ items = take_all n xs past ∙ same in
+    ap (count_by f) whole
+    ∙ sym (count_within f (point_count s) items once (λ q has. ((all q).0 has).0))
+    ∙ sym (count_same (λ q. f q && decided (in_list items q)) (λ q. f q && decided (neighbour s p q)) (point_count s)
+    (λ k below. ap (λ b. f k && b) (same_decided (in_list items k) (neighbour s p k) (all k).0 (all k).1)))
+
+-- the different names found so far beside p
+pub record Found (s : Size) (ns : List ℕ) (p but : ℕ) (near : List ℕ) (i : ℕ) (found : List ℕ) : Type 0 where
+  pub room : length found ≤ i
+  pub only : (m : ℕ) → Contains found m → (m ≢ 0) × (m ≢ but) × Touches s ns m p
+  pub all : (k : ℕ) → k < i → name_at ns (get_or near k 0) ≢ 0 → name_at ns (get_or near k 0) ≢ but → Contains found (name_at ns (get_or near k 0))
+  pub once : IsEachOnce found
+
+pub found_more : (s : Size) (ns : List ℕ) (p but : ℕ) (near : List ℕ) (i : ℕ) (found : List ℕ) → Found s ns p but near i found
+    → IsNeighbour s p (get_or near i 0) → name_at ns (get_or near i 0) ≢ 0 → name_at ns (get_or near i 0) ≢ but → (Contains found (name_at ns (get_or near i 0)) → ⊥)
+    → Found s ns p but near (i + 1) (found ++ name_at ns (get_or near i 0) ∷ [])
+found_more s ns p but near i found f next stone other fresh =
+    let q = get_or near i 0 in
+    record {
+      room = omega (arith, length_push found (name_at ns q), f.room);
+      only = λ m has. elim (Contains-push_cases found (name_at ns q) m has) [
+        | inl old ↦ f.only m old
+        | inr new ↦ ((λ e. stone (new ∙ e)), (λ e. other (new ∙ e)), (q, next.0, (next, new)))
+      ];
+      all = λ k below st oth. elim (cases_eq k i) [
+        | inl same ↦ subst (λ x. Contains (found ++ name_at ns q ∷ []) (name_at ns (get_or near x 0))) (sym same) (Contains-push found (name_at ns q))
+        | inr apart ↦ Contains-append_left found (name_at ns q ∷ []) (name_at ns (get_or near k 0)) (f.all k (omega arith) st oth)
+      ];
+      once = once_push found (name_at ns q) f.once fresh;
+    }
+
+pub found_same : (s : Size) (ns : List ℕ) (p but : ℕ) (near : List ℕ) (i : ℕ) (found : List ℕ) → Found s ns p but near i found
+    → (name_at ns (get_or near i 0) ≢ 0 → name_at ns (get_or near i 0) ≢ but → Contains found (name_at ns (get_or near i 0))) → Found s ns p but near (i + 1) found
+found_same s ns p but near i found f here = record {
+  room = omega (arith, f.room);
+  only = f.only;
+  all = λ k below st oth. elim (cases_eq k i) [
+    | inl same ↦ subst (λ x. Contains found (name_at ns (get_or near x 0))) (sym same)
+        (here (subst (λ x. name_at ns (get_or near x 0) ≢ 0) same st) (subst (λ x. name_at ns (get_or near x 0) ≢ but) same oth))
+    | inr apart ↦ f.all k (omega arith) st oth
+  ];
+  once = f.once;
+}
+
+-- a count of liberties is no more than the board has points
+pub liberty_count_le : (s : Size) (ns : List ℕ) (m : ℕ) → liberty_count s ns m ≤ point_count s
+unfolding liberty_count
+liberty_count_le s ns m = subst (λ n. count_by (is_liberty s ns m) (range_with_len 0 (point_count s)) ≤ n) (length-range_with_len 0 (point_count s))
+    (count_by-le-length (is_liberty s ns m) (range_with_len 0 (point_count s)))
+
+-- tests of a name
+bare_false : (x : ℕ) → x ≢ 0 → eqb x 0 ≡ false
+bare_false x h = ne_eqb x 0 h
+
+bare_true : (x : ℕ) → x ≡ 0 → eqb x 0 ≡ true
+bare_true x h = eq-eqb x 0 h
+
+-- one place gets another name
+module _ (s : Size) (ns : List ℕ) (p x : ℕ) (in_p : p < point_count s) (wide : p < length ns) where
+  -- the place has the new name, the others the old ones
+  pub at_p : name_at (set ns p x) p ≡ x
+  at_p = get_or-set_same ns p x 0 wide
+
+  pub off_p : (k : ℕ) → k ≢ p → name_at (set ns p x) k ≡ name_at ns k
+  off_p k apart = get_or-set_other ns p k x 0 apart
+
+  -- chains of other names have the stones that they had
+  touch_other : (m q : ℕ) → m ≢ name_at ns p → m ≢ x → decided (touching s ns m q) ≡ decided (touching s (set ns p x) m q)
+  touch_other m q old new = same_decided (touching s ns m q) (touching s (set ns p x) m q)
+      (λ t. (t.0, t.1, (t.2.0, off_p t.0 (λ e. old (sym t.2.1 ∙ ap (name_at ns) e)) ∙ t.2.1)))
+      (λ t. elim (cases_eq t.0 p) [
+        | inl at ↦ absurd (new (sym t.2.1 ∙ ap (name_at (set ns p x)) at ∙ at_p))
+        | inr away ↦ (t.0, t.1, (t.2.0, sym (off_p t.0 away) ∙ t.2.1))
+      ])
+
+  -- their liberties change at the place alone
+  pub count_changed : (m : ℕ) → m ≢ name_at ns p → m ≢ x
+      → liberty_count s (set ns p x) m + cond (is_liberty s ns m p) 1 0 ≡ liberty_count s ns m + cond (is_liberty s (set ns p x) m p) 1 0
+  unfolding liberty_count
+  count_changed m old new = (count_change (is_liberty s ns m) (is_liberty s (set ns p x) m) (point_count s) p (λ k below away.
+      ap (λ y. eqb y 0 && decided (touching s ns m k)) (sym (off_p k away)) ∙ ap (λ b. eqb (name_at (set ns p x) k) 0 && b) (touch_other m k old new))).0 in_p
+
+  -- an emptied place is a liberty of each other chain beside it
+  pub count_emptied : (m : ℕ) → m ≢ name_at ns p → m ≢ x → name_at ns p ≢ 0 → x ≡ 0
+      → liberty_count s (set ns p x) m ≡ liberty_count s ns m + cond (decided (touching s (set ns p x) m p)) 1 0
+  count_emptied m old new stone bare =
+      let was : ◌≡◌ {A = ℕ} (cond (is_liberty s ns m p) 1 0) 0 = ap (λ b. cond b 1 0) (and_left (eqb (name_at ns p) 0) (decided (touching s ns m p)) (bare_false (name_at ns p) stone)) in
+      let now : ◌≡◌ {A = ℕ} (cond (is_liberty s (set ns p x) m p) 1 0) (cond (decided (touching s (set ns p x) m p)) 1 0) =
+      ap (λ b. cond (b && decided (touching s (set ns p x) m p)) 1 0) (bare_true _ (at_p ∙ bare)) in
+      omega (arith, count_changed m old new, was, now)
+
+  -- a place that is filled is a liberty no more of each other chain beside it
+  pub count_filled : (m : ℕ) → m ≢ name_at ns p → m ≢ x → name_at ns p ≡ 0 → x ≢ 0
+      → liberty_count s (set ns p x) m + cond (decided (touching s ns m p)) 1 0 ≡ liberty_count s ns m
+  count_filled m old new bare stone =
+      let was : ◌≡◌ {A = ℕ} (cond (is_liberty s ns m p) 1 0) (cond (decided (touching s ns m p)) 1 0) =
+      ap (λ b. cond (b && decided (touching s ns m p)) 1 0) (bare_true (name_at ns p) bare) in
+      let now : ◌≡◌ {A = ℕ} (cond (is_liberty s (set ns p x) m p) 1 0) 0 =
+      ap (λ b. cond b 1 0) (and_left (eqb (name_at (set ns p x) p) 0) (decided (touching s (set ns p x) m p)) (bare_false _ (λ e. stone (sym at_p ∙ e)))) in
+      omega (arith, count_changed m old new, was, now)
+
+  -- the liberties of a chain with one more stone are its own, and the new ones of the stone
+  pub count_joined : name_at ns p ≢ 0 → x ≢ 0 → name_at ns p ≢ x → liberty_count s (set ns p x) x ≡ liberty_count s ns x + count_beside s (is_new s ns x) p
+  unfolding liberty_count count_beside
+  count_joined stone living other =
+      count_both (is_liberty s ns x) (λ q. is_new s ns x q && decided (neighbour s p q)) (is_liberty s (set ns p x) x) (point_count s) (λ k below. each k below)
+    where
+      away : (k : ℕ) → name_at ns k ≡ 0 → k ≢ p
+      away k bare same = stone (sym (ap (name_at ns) same) ∙ bare)
+
+      each : (k : ℕ) → k < point_count s → ((is_liberty s (set ns p x) x k ≡ is_liberty s ns x k) × ((is_new s ns x k && decided (neighbour s p k)) ≡ false))
+          ⊎ ((is_liberty s (set ns p x) x k ≡ true) × (is_liberty s ns x k ≡ false) × ((is_new s ns x k && decided (neighbour s p k)) ≡ true))
+      each k below = elim (cases_eq (name_at ns k) 0) [
+        | inr filled ↦
+            let old = bare_false (name_at ns k) filled in
+            let new : eqb (name_at (set ns p x) k) 0 ≡ false = bare_false _ (elim (cases_eq k p) [
+              | inl at ↦ λ e. living (sym at_p ∙ ap (name_at (set ns p x)) (sym at) ∙ e)
+              | inr apart ↦ λ e. filled (sym (off_p k apart) ∙ e)
+            ]) in
+            inl (
+              and_left _ (decided (touching s (set ns p x) x k)) new ∙ sym (and_left _ (decided (touching s ns x k)) old),
+              and_left (is_new s ns x k) (decided (neighbour s p k)) (and_left _ (not (decided (touching s ns x k))) old),
+            )
+        | inl bare ↦
+            let old = bare_true (name_at ns k) bare in
+            let new : eqb (name_at (set ns p x) k) 0 ≡ true = bare_true _ (off_p k (away k bare) ∙ bare) in
+            elim (cases_Bool (decided (touching s ns x k))) [
+              | inl on ↦
+                  let t = (decided_is (touching s ns x k)).0 on in
+                  let on' : decided (touching s (set ns p x) x k) ≡ true = (decided_is (touching s (set ns p x) x k)).1
+                  (t.0, t.1, (t.2.0, off_p t.0 (λ e. other (sym (ap (name_at ns) e) ∙ t.2.1)) ∙ t.2.1)) in
+                  inl (and_from _ _ new on' ∙ sym (and_from _ _ old on), and_left (is_new s ns x k) (decided (neighbour s p k)) (and_right _ _ (ap not on)))
+              | inr off ↦ elim (cases_Bool (decided (neighbour s p k))) [
+                | inl near ↦
+                    let back = near_back s p k in_p ((decided_is (neighbour s p k)).0 near) in
+                    let on' : decided (touching s (set ns p x) x k) ≡ true = (decided_is (touching s (set ns p x) x k)).1 (p, in_p, (back, at_p)) in
+                    inr (and_from _ _ new on', and_right _ _ off, and_from (is_new s ns x k) (decided (neighbour s p k)) (and_from _ _ old (ap not off)) near)
+                | inr far ↦
+                    let off' : decided (touching s (set ns p x) x k) ≡ false = decided_not (touching s (set ns p x) x k) (λ t. elim (cases_eq t.0 p) [
+                      | inl at ↦ false≢true (sym far ∙ (decided_is (neighbour s p k)).1 (near_back s k p below (subst (λ y. IsNeighbour s k y) at t.2.0)))
+                      | inr apart ↦ false≢true (sym off ∙ (decided_is (touching s ns x k)).1 (t.0, t.1, (t.2.0, sym (off_p t.0 apart) ∙ t.2.1)))
+                    ]) in
+                    inl (and_right _ _ off' ∙ sym (and_right _ _ off), and_right (is_new s ns x k) (decided (neighbour s p k)) far)
+              ]
+            ]
+      ]
+
+  -- the liberties of a new chain of one stone are the empty points beside it
+  pub count_alone : x ≢ 0 → ((k : ℕ) → name_at ns k ≢ x) → liberty_count s (set ns p x) x ≡ count_beside s (λ q. eqb (name_at (set ns p x) q) 0) p
+  unfolding liberty_count count_beside
+  count_alone living fresh =
+      count_same (λ q. eqb (name_at (set ns p x) q) 0 && decided (neighbour s p q)) (is_liberty s (set ns p x) x) (point_count s) (λ k below.
+      ap (λ b. eqb (name_at (set ns p x) k) 0 && b) (same_decided (neighbour s p k) (touching s (set ns p x) x k)
+      (λ near. (p, in_p, (near_back s p k in_p near, at_p)))
+      (λ t. elim (cases_eq t.0 p) [
+        | inl at ↦ near_back s k p below (subst (λ y. IsNeighbour s k y) at t.2.0)
+        | inr apart ↦ absurd (fresh t.0 (sym (off_p t.0 apart) ∙ t.2.1))
+      ])))

@@ -1,0 +1,123 @@
+-- The counts when a stone comes as a chain of its own.
+use Rattle.std.proofs.Common.{◌≡◌, ◌≢◌, ℕ, ◌+◌, ◌<◌, ◌↔◌, ◌==◌, List, cond, set, length, Contains, inl, inr, sym, ap, subst, ◌∙◌, arith}
+use Rattle.std.proofs.lemmas.Bool.{cases_eq, cases_Bool, false≢true}
+use Rattle.std.proofs.lemmas.List.{get_or-set_same, get_or-set_other, get_or_default}
+use Rattle.std.proofs.lemmas.List.Elements.{Contains-get_or}
+use Rattle.tt_sgf.specs.declared.size.Size.{Size}
+use Rattle.tt_sgf.specs.Sizes.{point_count}
+use Rattle.tt_board.specs.Chains.{name_at, root_of, Touches, touching, decided, decided_is, liberty_count, stone_count, count_beside, AreCounted, IsEachOnce, AreRootsApart}
+use Rattle.tt_board.proofs.NameLemmas.{count_filled, count_alone, at_p, off_p}
+use Rattle.tt_board.proofs.JoinLemmas.{roots_apart, root_below, stones_none, stones_more, stones_same}
+
+-- names of chains that stones beside p have
+module _ (s : Size) (ns near : List ℕ) (p : ℕ) (roots : (m : ℕ) → Touches s ns m p → m ≢ 0 → Contains near m → name_at ns (root_of m) ≡ m)
+    (only : (m : ℕ) → Contains near m → (m ≢ 0) × Touches s ns m p) where
+  -- each of them is living
+  pub near_living : (i : ℕ) → i < length near → (name_at near i ≢ 0) × Touches s ns (name_at near i) p
+  near_living i in' = only (name_at near i) (Contains-get_or near i 0 in')
+
+  -- each has its root
+  pub near_rooted : (i : ℕ) → i < length near → name_at ns (root_of (name_at near i)) ≡ name_at near i
+  near_rooted i in' =
+      let t = near_living i in' in
+      roots (name_at near i) t.1 t.0 (Contains-get_or near i 0 in')
+
+  -- the roots are places, and differ
+  pub near_below : (i : ℕ) → i < length near → root_of (name_at near i) < length ns
+  near_below i in' = root_below ns (name_at near i) (near_living i in').0 (near_rooted i in')
+
+  pub near_apart : IsEachOnce near → AreRootsApart near
+  near_apart once i j before in' = roots_apart ns (name_at near i) (name_at near j) (near_rooted i (omega arith)) (near_rooted j in') (once i j before in')
+
+  -- a chain that isn't beside p has another root
+  pub away : (m : ℕ) → name_at ns (root_of m) ≡ m → (Touches s ns m p → ⊥) → (i : ℕ) → i < length near → root_of (name_at near i) ≢ root_of m
+  away m root none i in' = roots_apart ns (name_at near i) m (near_rooted i in') root (λ e. none (subst (λ x. Touches s ns x p) e (near_living i in').1))
+
+-- where all chains have their roots, those beside p have
+pub all_rooted : (s : Size) (ns near : List ℕ) (p : ℕ) → ((q : ℕ) → name_at ns q ≢ 0 → name_at ns (root_of (name_at ns q)) ≡ name_at ns q)
+    → (m : ℕ) → Touches s ns m p → m ≢ 0 → Contains near m → name_at ns (root_of m) ≡ m
+all_rooted s ns near p rooted m t some has = subst (λ x. name_at ns (root_of x) ≡ x) t.2.1 (rooted t.0 (λ e. some (sym t.2.1 ∙ e)))
+
+module _ (s : Size) (ns stones liberties : List ℕ) (p e : ℕ) (in_p : p < point_count s) (wide : p < length ns) (few : p < length stones)
+    (free : name_at ns p ≡ 0) (living : e ≢ 0) (root_e : root_of e ≡ p) (counted : AreCounted s ns stones liberties)
+    (near : List ℕ) (all : (m : ℕ) → Contains near m ↔ ((m ≢ 0) × (m ≢ 0) × Touches s ns m p)) where
+  -- what is listed is beside p
+  pub only_near : (m : ℕ) → Contains near m → (m ≢ 0) × Touches s ns m p
+  only_near m has = let h = (all m).0 has in (h.0, h.2)
+
+  -- no stone has the new name
+  fresh : (k : ℕ) → name_at ns k ≢ e
+  fresh k is = living (sym is ∙ sym (counted.rooted k (λ z. living (sym is ∙ z))) ∙ ap (λ x. name_at ns (root_of x)) is ∙ ap (name_at ns) root_e ∙ free)
+
+  -- each chain beside p has a liberty to lose
+  pub some_liberty : (i : ℕ) → i < length near → 0 < name_at liberties (root_of (name_at near i))
+  some_liberty i in' =
+      let m = name_at near i in
+      let t = near_living s ns near p (all_rooted s ns near p counted.rooted) only_near i in' in
+      let true' : name_at liberties (root_of m) ≡ liberty_count s ns m = subst (λ x. name_at liberties (root_of x) ≡ liberty_count s ns x) t.1.2.1
+      (counted.liberties_true t.1.0 (λ z. t.0 (sym t.1.2.1 ∙ z))) in
+      let one : ◌≡◌ {A = ℕ} (cond (decided (touching s ns m p)) 1 0) 1 = ap (λ b. cond b 1 0) ((decided_is (touching s ns m p)).1 t.1) in
+      let filled = count_filled s ns p e in_p wide m (λ h. t.0 (h ∙ free)) (λ h. fresh t.1.0 (t.1.2.1 ∙ h)) free living in
+      omega (arith, true', one, filled)
+
+  -- the counts are true with the new chain
+  pub counted_started : (fewer : List ℕ) (alone : ℕ) → p < length fewer → alone ≡ count_beside s (λ q. name_at (set ns p e) q == 0) p
+      → ((i : ℕ) → i < length near → name_at fewer (root_of (name_at near i)) + 1 ≡ name_at liberties (root_of (name_at near i)))
+      → ((r : ℕ) → ((i : ℕ) → i < length near → root_of (name_at near i) ≢ r) → name_at fewer r ≡ name_at liberties r)
+      → AreCounted s (set ns p e) (set stones p 1) (set fewer p alone)
+  counted_started fewer alone also is_alone less same = record {
+    rooted = λ q some. elim (cases_eq q p) [
+      | inl at ↦ at_root q at
+      | inr apart ↦ let m = old q apart some in
+          subst (λ x. name_at (set ns p e) (root_of x) ≡ x) (sym m.0) (get_or-set_other ns p _ e 0 m.2 ∙ counted.rooted q m.1)
+    ];
+    stones_true = λ q some. elim (cases_eq q p) [
+      | inl at ↦ subst (λ x. name_at (set stones p 1) (root_of x) ≡ stone_count (set ns p e) x) (sym (name_new q at))
+          (ap (name_at (set stones p 1)) root_e ∙ get_or-set_same stones p 1 0 few ∙ sym one_stone)
+      | inr apart ↦ let m = old q apart some in
+          subst (λ x. name_at (set stones p 1) (root_of x) ≡ stone_count (set ns p e) x) (sym m.0)
+          (get_or-set_other stones p _ 1 0 m.2 ∙ counted.stones_true q m.1
+          ∙ sym (stones_same ns p e (name_at ns q) wide (λ h. m.1 (sym h ∙ free)) (λ h. fresh q (sym h))))
+    ];
+    liberties_true = λ q some. elim (cases_eq q p) [
+      | inl at ↦ subst (λ x. name_at (set fewer p alone) (root_of x) ≡ liberty_count s (set ns p e) x) (sym (name_new q at))
+          (ap (name_at (set fewer p alone)) root_e ∙ get_or-set_same fewer p alone 0 also ∙ is_alone ∙ sym (count_alone s ns p e in_p wide living fresh))
+      | inr apart ↦ let m = old q apart some in
+          subst (λ x. name_at (set fewer p alone) (root_of x) ≡ liberty_count s (set ns p e) x) (sym m.0)
+          (get_or-set_other fewer p _ alone 0 m.2 ∙ lost q m.1)
+    ];
+  }
+    where
+      name_new : (q : ℕ) → q ≡ p → name_at (set ns p e) q ≡ e
+      name_new q at = ap (name_at (set ns p e)) at ∙ at_p s ns p e in_p wide
+
+      at_root : (q : ℕ) → q ≡ p → name_at (set ns p e) (root_of (name_at (set ns p e) q)) ≡ name_at (set ns p e) q
+      at_root q at = subst (λ x. name_at (set ns p e) (root_of x) ≡ x) (sym (name_new q at)) (ap (name_at (set ns p e)) root_e ∙ at_p s ns p e in_p wide)
+
+      old : (q : ℕ) → q ≢ p → name_at (set ns p e) q ≢ 0 → (name_at (set ns p e) q ≡ name_at ns q) × (name_at ns q ≢ 0) × (root_of (name_at ns q) ≢ p)
+      old q apart some =
+          let same' = off_p s ns p e in_p wide q apart in
+          let was : name_at ns q ≢ 0 = λ z. some (same' ∙ z) in
+          (same', was, λ r. was (sym (counted.rooted q was) ∙ ap (name_at ns) r ∙ free))
+
+      one_stone : stone_count (set ns p e) e ≡ 1
+      one_stone = let more = stones_more ns p e wide (λ h. living (sym h ∙ free)) in let none = stones_none ns e (λ k below. fresh k) in omega (arith, more, none)
+
+      lost : (q : ℕ) → name_at ns q ≢ 0 → name_at fewer (root_of (name_at ns q)) ≡ liberty_count s (set ns p e) (name_at ns q)
+      lost q was =
+          let m = name_at ns q in
+          let filled = count_filled s ns p e in_p wide m (λ h. was (h ∙ free)) (λ h. fresh q h) free living in
+          let true' = counted.liberties_true q was in
+          elim (cases_Bool (decided (touching s ns m p))) [
+            | inl on ↦
+                let one : ◌≡◌ {A = ℕ} (cond (decided (touching s ns m p)) 1 0) 1 = ap (λ b. cond b 1 0) on in
+                let has = (all m).1 (was, was, (decided_is (touching s ns m p)).0 on) in
+                let is : name_at near has.0 ≡ m = get_or_default near has.0 0 m has.1 ∙ has.2 in
+                let h = subst (λ x. name_at fewer (root_of x) + 1 ≡ name_at liberties (root_of x)) is (less has.0 has.1) in
+                omega (arith, one, filled, true', h)
+            | inr off ↦
+                let none : ◌≡◌ {A = ℕ} (cond (decided (touching s ns m p)) 1 0) 0 = ap (λ b. cond b 1 0) off in
+                let h = same (root_of m) (away s ns near p (all_rooted s ns near p counted.rooted) only_near m (counted.rooted q was)
+                (λ t. false≢true (sym off ∙ (decided_is (touching s ns m p)).1 t))) in
+                omega (arith, none, filled, true', h)
+          ]

@@ -1,0 +1,22 @@
+use Rattle.std.proofs.Common.{◌≡◌, ◌+◌, arith, sym, ap, ◌∙◌}
+use Rattle.tt_board.specs.Chains.{name_at, liberty_count}
+use Rattle.tt_board.proofs.NameLemmas.{count_joined}
+use Rattle.tt_board.proofs.JoinLemmas.{one_renamed, root_below, root_on_board}
+use Rattle.tt_board.proofs.joins.rename_one.Goals as goal
+
+pub returns-clause-renamed : goal.returns-clause-renamed
+returns-clause-renamed c =
+    let ns = c.args.names.now in
+    rw c.root_of-p.ensures.value (one_renamed ns c.args.from c.args.to c.requires.living.0 c.requires.apart (root_below ns c.args.from c.requires.living.0 c.requires.rooted)
+    c.requires.rooted c.requires.counted)
+
+pub returns-clause-gained : goal.returns-clause-gained
+returns-clause-gained c =
+    let ns = c.args.names.now in let a = c.args.from in
+    let at = root_on_board c.args.size ns a c.requires.ends c.requires.living.0 c.requires.rooted in
+    let within = root_below ns a c.requires.living.0 c.requires.rooted in
+    let p = c.root_of-p.result in
+    let is = c.root_of-p.ensures.value in
+    let here : name_at ns p ≡ a = ap (name_at ns) is ∙ c.requires.rooted in
+    count_joined c.args.size ns p c.args.to (omega (arith, at, is)) (omega (arith, within, is)) (λ e. c.requires.living.0 (sym here ∙ e)) c.requires.living.1 (λ e. c.requires.apart (sym here ∙ e))
+    ∙ ap (λ x. liberty_count c.args.size ns c.args.to + x) (sym c.new_liberties-gained.ensures)

@@ -1,0 +1,137 @@
+-- Chains (the rules of Go): their stones and liberties, and the names by which a board finds them. Private contracts alone cite these.
+use Rattle.std.specs.Prelude.{◌≡◌, ◌≢◌, ℕ, ◌%◌, ◌/◌, ◌<◌, ◌↔◌, ◌==◌, ◌&&◌, List, [], ◌∷◌, length, Option, Some, None, Bool, true, false, not, if◌then◌else◌, count_by, slice_index_or}
+use Rattle.std.specs.List.{range_with_len}
+use Rattle.std.proofs.Common.{inl, inr, refl}
+use Rattle.std.proofs.lemmas.Bool.{cases_eq, false≢true}
+use Rattle.tt_board.specs.declared.Colour.{Colour}
+use Rattle.tt_board.specs.declared.Colour.TheVariants.{Black, White}
+use Rattle.tt_sgf.specs.declared.size.Size.{Size}
+use Rattle.tt_sgf.specs.Sizes.{point_count}
+use Rattle.tt_board.specs.Near.{IsNeighbour}
+use Rattle.tt_board.specs.Position.{Colouring}
+use Rattle.tt_board.specs.Reach.{entry_at}
+use Rattle.tt_board.specs.Play.{IsAlive}
+use Rattle.tt_board.specs.Decided.{Decision, both, some_below, neighbour}
+
+-- a path of adjacent points of one colour leads from p to q
+abbrev pub Leads : Size → Colouring → ℕ → List ℕ → ℕ → Type 0
+Leads s c p [] q = p ≡ q
+Leads s c p (r ∷ rest) q = IsNeighbour s p r × (entry_at c r ≡ entry_at c p) × Leads s c r rest q
+
+-- p and q are of one chain
+abbrev pub AreLinked : Size → Colouring → ℕ → ℕ → Type 0
+AreLinked s c p q = (path : List ℕ) × Leads s c p path q
+
+-- the name of the chain on the place p; 0 where it is empty
+abbrev pub name_at : List ℕ → ℕ → ℕ
+name_at ns p = slice_index_or ns p 0
+
+-- the place where the counts of a chain are kept: one of its stones
+abbrev pub root_of : ℕ → ℕ
+root_of e = e % 512
+
+-- a colour as part of a name
+abbrev pub code_of : Colour → ℕ
+code_of Black = 1
+code_of White = 2
+
+-- a name fits what stands on a place
+abbrev pub IsNamed : Option Colour → ℕ → Type 0
+IsNamed None e = e ≡ 0
+IsNamed (Some k) e = e / 512 ≡ code_of k
+
+-- the names name the chains: two stones have one name exactly where they are of one chain
+pub record AreNames (s : Size) (c : Colouring) (ns : List ℕ) : Type 0 where
+  pub named : (q : ℕ) → IsNamed (entry_at c q) (name_at ns q)
+  pub linked : (p q : ℕ) → p < point_count s → q < point_count s → entry_at c p ≢ None → entry_at c q ≢ None
+      → (name_at ns p ≡ name_at ns q) ↔ AreLinked s c p q
+
+-- a stone of chain e is beside q
+abbrev pub Touches : Size → List ℕ → ℕ → ℕ → Type 0
+Touches s ns e q = (r : ℕ) × (r < point_count s) × (IsNeighbour s q r × (name_at ns r ≡ e))
+
+pub touching : (s : Size) (ns : List ℕ) (e q : ℕ) → Decision (Touches s ns e q)
+touching s ns e q = some_below (λ r. IsNeighbour s q r × (name_at ns r ≡ e)) (λ r. both (neighbour s q r) (same (name_at ns r) e)) (point_count s)
+  where
+    same : (a b : ℕ) → Decision (a ≡ b)
+    same a b = cases_eq a b
+
+-- the answer of a decision
+pub decided : {P : Type 0} → Decision P → Bool
+decided (inl _) = true
+decided (inr _) = false
+
+pub decided_is : {P : Type 0} (d : Decision P) → (decided d ≡ true → P) × (P → decided d ≡ true)
+unfolding decided
+decided_is (inl p) = (λ _. p, λ _. refl)
+decided_is (inr n) = (λ h. absurd (false≢true h), λ p. absurd (n p))
+
+-- q is a liberty of chain e: an empty point beside one of its stones
+abbrev pub is_liberty : Size → List ℕ → ℕ → ℕ → Bool
+is_liberty s ns e q = (name_at ns q == 0) && decided (touching s ns e q)
+
+-- how many liberties chain e has
+unfoldable pub liberty_count : Size → List ℕ → ℕ → ℕ
+liberty_count s ns e = count_by (is_liberty s ns e) (range_with_len 0 (point_count s))
+
+-- how many stones chain e has
+unfoldable pub stone_count : List ℕ → ℕ → ℕ
+stone_count ns e = count_by (λ x. x == e) ns
+
+-- the counts of each chain stand at its root, and are true
+pub record AreCounted (s : Size) (ns stones liberties : List ℕ) : Type 0 where
+  pub rooted : (p : ℕ) → name_at ns p ≢ 0 → name_at ns (root_of (name_at ns p)) ≡ name_at ns p
+  pub stones_true : (p : ℕ) → name_at ns p ≢ 0 → name_at stones (root_of (name_at ns p)) ≡ stone_count ns (name_at ns p)
+  pub liberties_true : (p : ℕ) → name_at ns p ≢ 0 → name_at liberties (root_of (name_at ns p)) ≡ liberty_count s ns (name_at ns p)
+
+-- a board with its chains: the name on each place, and counts of stones and of liberties
+pub record ChainBoard : Type 0 where
+  pub size : Size
+  pub points : Colouring
+  pub names : List ℕ
+  pub stones : List ℕ
+  pub liberties : List ℕ
+
+-- each stone reaches empty, the names name the chains, and their counts are true
+pub record IsChainBoard (b : ChainBoard) : Type 0 where
+  pub fits : length b.points ≡ point_count b.size
+  pub wide : (length b.names ≡ 361) × (length b.stones ≡ 361) × (length b.liberties ≡ 361)
+  pub named : AreNames b.size b.points b.names
+  pub counted : AreCounted b.size b.names b.stones b.liberties
+  pub alive : IsAlive b.size b.points
+
+-- ---- how the code gets there
+
+-- the numbers of a list differ
+abbrev pub IsEachOnce : List ℕ → Type 0
+IsEachOnce xs = (i j : ℕ) → i < j → j < length xs → name_at xs i ≢ name_at xs j
+
+-- names of different roots
+abbrev pub AreRootsApart : List ℕ → Type 0
+AreRootsApart xs = (i j : ℕ) → i < j → j < length xs → root_of (name_at xs i) ≢ root_of (name_at xs j)
+
+-- the name b in place of a
+abbrev pub renamed : ℕ → ℕ → ℕ → ℕ
+renamed a b x = if x == a then b else x
+
+-- q is empty, and beside no stone of chain e
+abbrev pub is_new : Size → List ℕ → ℕ → ℕ → Bool
+is_new s ns e q = (name_at ns q == 0) && not (decided (touching s ns e q))
+
+-- how many points beside p pass a test
+unfoldable pub count_beside : Size → (ℕ → Bool) → ℕ → ℕ
+count_beside s test p = count_by (λ q. test q && decided (neighbour s p q)) (range_with_len 0 (point_count s))
+
+-- each chain but one has its root
+abbrev pub IsRootedBut : List ℕ → ℕ → Type 0
+IsRootedBut ns e = (p : ℕ) → name_at ns p ≢ 0 → name_at ns p ≢ e → name_at ns (root_of (name_at ns p)) ≡ name_at ns p
+
+-- the counts of liberties are true of each chain but one
+abbrev pub IsCountedBut : Size → List ℕ → List ℕ → ℕ → Type 0
+IsCountedBut s ns liberties e = (p : ℕ) → name_at ns p ≢ 0 → name_at ns p ≢ e → name_at liberties (root_of (name_at ns p)) ≡ liberty_count s ns (name_at ns p)
+
+-- names that name the chains, but that the stone on p isn't joined with those beside it yet
+pub record AreNamesBut (s : Size) (c : Colouring) (ns : List ℕ) (p : ℕ) : Type 0 where
+  pub named : (q : ℕ) → IsNamed (entry_at c q) (name_at ns q)
+  pub one_chain : (x y : ℕ) → x < point_count s → y < point_count s → name_at ns x ≢ 0 → name_at ns x ≡ name_at ns y → AreLinked s c x y
+  pub one_name : (x y : ℕ) → x < point_count s → IsNeighbour s x y → x ≢ p → y ≢ p → entry_at c x ≢ None → entry_at c y ≡ entry_at c x → name_at ns x ≡ name_at ns y

@@ -1,0 +1,99 @@
+//! A chain goes: each of its stones leaves a liberty to each other chain beside it.
+
+ghost use Rattle.std.specs.Prelude.{◌≡◌, ◌≢◌, ℕ, ◌<◌, ◌≤◌, length, map, slice_set, None};
+ghost use Rattle.tt_sgf.specs.Sizes.{point_count};
+ghost use Rattle.tt_board.specs.Reach.{entry_at};
+ghost use Rattle.tt_board.specs.Chains.{name_at, root_of, renamed, stone_count, IsRootedBut, IsCountedBut};
+
+use super::colouring::Colouring;
+use super::names::{chains_beside, give_liberty, root_of};
+use tt_sgf::Size;
+
+/// Takes the stone of the chain `name` on `p` off, which gives a liberty to each other chain beside it.
+fn release_stone(
+    size: Size,
+    points: &mut Colouring,
+    names: &mut [u16],
+    liberties: &mut [u16],
+    name: u16,
+    p: usize,
+)
+    requires fits { length points.old ≡ point_count size }
+    requires wide { (length names.old ≡ 361) × (length liberties.old ≡ 361) }
+    requires on_board { p < point_count size }
+    requires living { name ≢ 0 }
+    requires stone { name_at names.old p ≡ name }
+    requires rooted { IsRootedBut names.old name }
+    requires counted { IsCountedBut size names.old liberties.old name }
+    ensures names { names.new ≡ slice_set names.old p 0 }
+    ensures points { points.new ≡ slice_set points.old p None }
+    ensures still_counted { IsCountedBut size names.new liberties.new name }
+{
+    names[p] = 0;
+    points.set(p, None);
+    let near = chains_beside(size, names, p, name);
+    give_liberty(liberties, near.as_slice());
+}
+
+/// Takes the stones of the chain `name`, so many, off the board.
+fn release_all(
+    size: Size,
+    points: &mut Colouring,
+    names: &mut [u16],
+    liberties: &mut [u16],
+    name: u16,
+    stones: u16,
+)
+    requires fits { length points.old ≡ point_count size }
+    requires wide { (length names.old ≡ 361) × (length liberties.old ≡ 361) }
+    requires living { name ≢ 0 }
+    requires ends { (q : ℕ) → point_count size ≤ q → name_at names.old q ≡ 0 }
+    requires stones { stones ≡ stone_count names.old name }
+    requires rooted { IsRootedBut names.old name }
+    requires counted { IsCountedBut size names.old liberties.old name }
+    ensures names { names.new ≡ map (renamed name 0) names.old }
+    ensures still_fits { length points.new ≡ length points.old }
+    ensures gone { (q : ℕ) → name_at names.old q ≡ name → entry_at points.new q ≡ None }
+    ensures kept { (q : ℕ) → name_at names.old q ≢ name → entry_at points.new q ≡ entry_at points.old q }
+    ensures still_counted { IsCountedBut size names.new liberties.new name }
+{
+    let mut left = stones;
+    for p in 0..size.point_count() {
+        if left == 0 {
+            return;
+        }
+        if names[p] == name {
+            release_stone(size, points, names, liberties, name, p);
+            left -= 1;
+        }
+    }
+}
+
+/// Takes the chain `name` of so many stones off the board.
+pub(crate) fn release(
+    size: Size,
+    points: &mut Colouring,
+    names: &mut [u16],
+    liberties: &mut [u16],
+    name: u16,
+    stones: u16,
+)
+    requires fits { length points.old ≡ point_count size }
+    requires wide { (length names.old ≡ 361) × (length liberties.old ≡ 361) }
+    requires living { (name ≢ 0) × (name_at names.old (root_of name) ≡ name) }
+    requires ends { (q : ℕ) → point_count size ≤ q → name_at names.old q ≡ 0 }
+    requires stones { stones ≡ stone_count names.old name }
+    requires rooted { IsRootedBut names.old name }
+    requires counted { IsCountedBut size names.old liberties.old name }
+    ensures names { names.new ≡ map (renamed name 0) names.old }
+    ensures still_fits { length points.new ≡ length points.old }
+    ensures gone { (q : ℕ) → name_at names.old q ≡ name → entry_at points.new q ≡ None }
+    ensures kept { (q : ℕ) → name_at names.old q ≢ name → entry_at points.new q ≡ entry_at points.old q }
+    ensures still_counted { IsCountedBut size names.new liberties.new name }
+{
+    if stones == 1 {
+        release_stone(size, points, names, liberties, name, root_of(name));
+    } else {
+        release_all(size, points, names, liberties, name, stones);
+    }
+}

@@ -1,0 +1,203 @@
+//! A board's chains, each with the counts of its stones and of its liberties.
+//!
+//! A play asks these counts which chains go, and looks at no stone but those that come, join or go.
+//! `Board` doesn't use them yet.
+
+ghost use Rattle.std.specs.Prelude.{◌≡◌, ◌≢◌, ℕ, ◌/◌, ◌<◌, ◌≤◌, ◌↔◌, length, map, replicate, slice_set, Contains, IsTrue, Some, None};
+ghost use Rattle.tt_sgf.specs.Sizes.{point_count};
+ghost use Rattle.tt_board.specs.Reach.{entry_at};
+ghost use Rattle.tt_board.specs.Play.{IsAlive, play_of};
+ghost use Rattle.tt_board.specs.Chains.{name_at, root_of, code_of, renamed, IsEachOnce};
+
+use super::Colour;
+use super::captures::release;
+use super::colouring::Colouring;
+use super::joins::{join_beside, start};
+use super::looks::{Look, has_more, last_liberty};
+use super::names::{chains_beside, empty_beside, root_of};
+use std::marker::Model;
+use tt_sgf::Size;
+
+/// A size, a colouring of its points in which each stone reaches empty, and its chains: the name of the chain on each place, 0 where
+/// it is empty, and each chain's counts of stones and of liberties at its root.
+#[derive(Drop)]
+pub(crate) struct Chains {
+    size: Size,
+    points: Colouring,
+    names: [u16; 361],
+    stones: [u16; 361],
+    liberties: [u16; 361],
+}
+
+impl Model for Chains {
+    ghost use Rattle.tt_board.specs.Chains.{ChainBoard, IsChainBoard};
+
+    ghost Value = { ChainBoard };
+
+    ghost view = { λ b. record { size = b.size; points = b.points; names = b.names; stones = b.stones; liberties = b.liberties } };
+
+    ghost invariant = { λ b. IsChainBoard (record { size = b.size; points = b.points; names = b.names; stones = b.stones; liberties = b.liberties }) };
+}
+
+/// A number 0 for each place.
+fn zeros() -> [u16; 361]
+    ensures { result ≡ replicate 361 0 }
+{
+    [0; 361]
+}
+
+/// The name of a new chain of this colour with its root on `p`.
+fn new_name(colour: Colour, p: usize) -> u16
+    requires { p < 361 }
+    ensures colour { result / 512 ≡ code_of colour }
+    ensures root { root_of result ≡ p }
+    ensures living { 512 ≤ result }
+{
+    match colour {
+        Colour::Black => 512 + p as u16,
+        Colour::White => 1024 + p as u16,
+    }
+}
+
+impl Chains {
+    /// The board of this size without any stone.
+    pub(crate) fn empty(size: Size) -> Chains
+        ensures size { result.size ≡ size }
+        ensures points { result.points ≡ replicate (point_count size) None }
+    {
+        Chains {
+            size,
+            points: Colouring::empty(size.point_count()),
+            names: zeros(),
+            stones: zeros(),
+            liberties: zeros(),
+        }
+    }
+
+    /// The colouring.
+    pub(crate) fn points(&self) -> &Colouring
+        ensures value { result.now ≡ self.now.points }
+        ensures fits { length self.now.points ≡ point_count self.now.size }
+    {
+        &self.points
+    }
+
+    /// Puts a stone on the empty point `p`, where each stone reaches empty then, and makes it one with the chains of its colour beside it.
+    pub(crate) fn place(&mut self, colour: Colour, p: usize)
+        requires on_board { p < point_count self.old.size }
+        requires free { entry_at self.old.points p ≡ None }
+        requires alive { IsAlive self.old.size (slice_set self.old.points p (Some colour)) }
+        ensures size { self.new.size ≡ self.old.size }
+        ensures points { self.new.points ≡ slice_set self.old.points p (Some colour) }
+    {
+        self.points.set(p, Some(colour));
+        start(
+            self.size,
+            &mut self.names,
+            &mut self.stones,
+            &mut self.liberties,
+            p,
+            new_name(colour, p),
+        );
+        join_beside(
+            self.size,
+            &mut self.names,
+            &mut self.stones,
+            &mut self.liberties,
+            p,
+        );
+    }
+
+    /// Takes the chain of this name off the board.
+    pub(crate) fn take(&mut self, name: u16)
+        requires living { (name ≢ 0) × (name_at self.old.names (root_of name) ≡ name) }
+        ensures size { self.new.size ≡ self.old.size }
+        ensures fits { length self.new.points ≡ length self.old.points }
+        ensures names { self.new.names ≡ map (renamed name 0) self.old.names }
+        ensures gone { (q : ℕ) → name_at self.old.names q ≡ name → entry_at self.new.points q ≡ None }
+        ensures kept { (q : ℕ) → name_at self.old.names q ≢ name → entry_at self.new.points q ≡ entry_at self.old.points q }
+    {
+        let stones = self.stones[root_of(name)];
+        release(
+            self.size,
+            &mut self.points,
+            &mut self.names,
+            &mut self.liberties,
+            name,
+            stones,
+        );
+    }
+
+    /// The board of this colouring, made stone by stone.
+    pub(crate) fn of(size: Size, points: &Colouring) -> Chains
+        requires fits { length points.now ≡ point_count size }
+        requires alive { IsAlive size points.now }
+        ensures size { result.size ≡ size }
+        ensures points { result.points ≡ points.now }
+    {
+        let mut made = Chains::empty(size);
+        for p in 0..size.point_count() {
+            if let Some(colour) = points.at(p) {
+                made.place(colour, p);
+            }
+        }
+        made
+    }
+
+    /// What a play of `colour` on the empty point `p` does (the Tromp-Taylor rules of Go).
+    ///
+    /// A chain goes with it exactly where `p` is its one liberty: the opponent's; or one's own, where none of the opponent's goes,
+    /// no point beside `p` is empty, and no own chain beside it has another liberty.
+    pub(crate) fn look(&self, colour: Colour, p: usize) -> Look
+        requires on_board { p < point_count self.now.size }
+        requires free { entry_at self.now.points p ≡ None }
+        ensures fits { length self.now.points ≡ point_count self.now.size }
+        ensures goes { (q : ℕ) → entry_at self.now.points q ≢ None
+            → (entry_at (play_of self.now.size self.now.points colour p) q ≡ None) ↔ Contains result.goes.items (name_at self.now.names q) }
+        ensures suicide { IsTrue result.suicide ↔ (entry_at (play_of self.now.size self.now.points colour p) p ≡ None) }
+        ensures once { IsEachOnce result.goes.items }
+        ensures living { (m : ℕ) → Contains result.goes.items m → (m ≢ 0) × (name_at self.now.names (root_of m) ≡ m) }
+    {
+        let near = chains_beside(self.size, &self.names, p, 0);
+        let weak = last_liberty(&self.liberties, near.as_slice(), colour.other());
+        if !weak.is_empty() {
+            return Look {
+                goes: weak,
+                suicide: false,
+            };
+        }
+        if empty_beside(self.size, &self.names, p) > 0 {
+            return Look {
+                goes: weak,
+                suicide: false,
+            };
+        }
+        if has_more(&self.liberties, near.as_slice(), colour) {
+            return Look {
+                goes: weak,
+                suicide: false,
+            };
+        }
+        Look {
+            goes: last_liberty(&self.liberties, near.as_slice(), colour),
+            suicide: true,
+        }
+    }
+
+    /// Plays `colour` on the empty point `p`: the stone is put, then the other colour is cleared, then `colour` (the Tromp-Taylor
+    /// rules of Go). What goes is taken off before the stone comes, which the counts allow.
+    pub(crate) fn make(&mut self, colour: Colour, p: usize)
+        requires on_board { p < point_count self.old.size }
+        requires free { entry_at self.old.points p ≡ None }
+        ensures size { self.new.size ≡ self.old.size }
+        ensures points { self.new.points ≡ play_of self.old.size self.old.points colour p }
+    {
+        let look = self.look(colour, p);
+        for name in look.goes.as_slice() {
+            self.take(*name);
+        }
+        if !look.suicide {
+            self.place(colour, p);
+        }
+    }
+}

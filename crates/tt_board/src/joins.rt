@@ -1,0 +1,157 @@
+//! A stone comes: the chains of its colour beside it become one with it, their liberties counted stone by stone.
+
+ghost use Rattle.std.specs.Prelude.{◌≡◌, ◌≢◌, ℕ, ◌+◌, ◌<◌, ◌≤◌, ◌⊎◌, length, map, slice_set, None};
+ghost use Rattle.tt_sgf.specs.Sizes.{point_count};
+ghost use Rattle.tt_board.specs.Position.{Colouring};
+ghost use Rattle.tt_board.specs.Reach.{entry_at};
+ghost use Rattle.tt_board.specs.Chains.{name_at, root_of, renamed, liberty_count, stone_count, AreCounted, AreNames, AreNamesBut};
+
+use super::names::{chains_beside, empty_beside, new_liberties, root_of, take_liberty};
+use super::near::neighbours;
+use tt_sgf::Size;
+
+/// Puts a stone on the empty place `p` as a chain of its own, which takes a liberty from each chain beside it.
+pub(crate) fn start(
+    size: Size,
+    names: &mut [u16],
+    stones: &mut [u16],
+    liberties: &mut [u16],
+    p: usize,
+    name: u16,
+)
+    requires wide { (length names.old ≡ 361) × (length stones.old ≡ 361) × (length liberties.old ≡ 361) }
+    requires on_board { p < point_count size }
+    requires free { name_at names.old p ≡ 0 }
+    requires named { (name ≢ 0) × (root_of name ≡ p) }
+    requires counted { AreCounted size names.old stones.old liberties.old }
+    ensures put { names.new ≡ slice_set names.old p name }
+    ensures still_counted { AreCounted size names.new stones.new liberties.new }
+{
+    let near = chains_beside(size, names, p, 0);
+    take_liberty(liberties, near.as_slice());
+    names[p] = name;
+    stones[p] = 1;
+    liberties[p] = empty_beside(size, names, p);
+}
+
+/// Gives the stones of the chain `from` the name `to`, and says how many liberties they bring that chain.
+fn rename(size: Size, names: &mut [u16], from: u16, to: u16, stones: u16) -> u16
+    requires wide { length names.old ≡ 361 }
+    requires ends { (q : ℕ) → point_count size ≤ q → name_at names.old q ≡ 0 }
+    requires living { (from ≢ 0) × (to ≢ 0) }
+    requires apart { from ≢ to }
+    requires counted { stones ≡ stone_count names.old from }
+    ensures renamed { names.new ≡ map (renamed from to) names.old }
+    ensures gained { liberty_count size names.new to ≡ liberty_count size names.old to + result }
+{
+    let mut left = stones;
+    let mut gained = 0;
+    for p in 0..size.point_count() {
+        if left == 0 {
+            return gained;
+        }
+        if names[p] == from {
+            gained += new_liberties(size, names, to, p);
+            names[p] = to;
+            left -= 1;
+        }
+    }
+    gained
+}
+
+/// Gives the one stone of the chain `from` the name `to`, and says how many liberties it brings that chain.
+fn rename_one(size: Size, names: &mut [u16], from: u16, to: u16) -> u16
+    requires wide { length names.old ≡ 361 }
+    requires ends { (q : ℕ) → point_count size ≤ q → name_at names.old q ≡ 0 }
+    requires living { (from ≢ 0) × (to ≢ 0) }
+    requires apart { from ≢ to }
+    requires rooted { name_at names.old (root_of from) ≡ from }
+    requires counted { stone_count names.old from ≡ 1 }
+    ensures renamed { names.new ≡ map (renamed from to) names.old }
+    ensures gained { liberty_count size names.new to ≡ liberty_count size names.old to + result }
+{
+    let p = root_of(from);
+    let gained = new_liberties(size, names, to, p);
+    names[p] = to;
+    gained
+}
+
+/// Makes the chain `from` part of the chain `to`.
+fn absorb(
+    size: Size,
+    names: &mut [u16],
+    stones: &mut [u16],
+    liberties: &mut [u16],
+    from: u16,
+    to: u16,
+)
+    requires wide { (length names.old ≡ 361) × (length stones.old ≡ 361) × (length liberties.old ≡ 361) }
+    requires ends { (q : ℕ) → point_count size ≤ q → name_at names.old q ≡ 0 }
+    requires living { (from ≢ 0) × (to ≢ 0) }
+    requires apart { from ≢ to }
+    requires rooted { (name_at names.old (root_of from) ≡ from) × (name_at names.old (root_of to) ≡ to) }
+    requires counted { AreCounted size names.old stones.old liberties.old }
+    ensures renamed { names.new ≡ map (renamed from to) names.old }
+    ensures still_counted { AreCounted size names.new stones.new liberties.new }
+{
+    let count = stones[root_of(from)];
+    let gained = if count == 1 {
+        rename_one(size, names, from, to)
+    } else {
+        rename(size, names, from, to, count)
+    };
+    let root = root_of(to);
+    liberties[root] += gained;
+    stones[root] += count;
+}
+
+/// Makes two chains one: the smaller gets the name of the greater.
+fn unite(
+    size: Size,
+    names: &mut [u16],
+    stones: &mut [u16],
+    liberties: &mut [u16],
+    one: u16,
+    two: u16,
+)
+    requires wide { (length names.old ≡ 361) × (length stones.old ≡ 361) × (length liberties.old ≡ 361) }
+    requires ends { (q : ℕ) → point_count size ≤ q → name_at names.old q ≡ 0 }
+    requires living { (one ≢ 0) × (two ≢ 0) }
+    requires apart { one ≢ two }
+    requires rooted { (name_at names.old (root_of one) ≡ one) × (name_at names.old (root_of two) ≡ two) }
+    requires counted { AreCounted size names.old stones.old liberties.old }
+    ensures renamed { (names.new ≡ map (renamed one two) names.old) ⊎ (names.new ≡ map (renamed two one) names.old) }
+    ensures still_counted { AreCounted size names.new stones.new liberties.new }
+{
+    if stones[root_of(one)] < stones[root_of(two)] {
+        absorb(size, names, stones, liberties, one, two);
+    } else {
+        absorb(size, names, stones, liberties, two, one);
+    }
+}
+
+/// Makes the stone on `p` one with the chains of its colour beside it.
+pub(crate) fn join_beside(
+    size: Size,
+    names: &mut [u16],
+    stones: &mut [u16],
+    liberties: &mut [u16],
+    p: usize,
+)
+    requires wide { (length names.old ≡ 361) × (length stones.old ≡ 361) × (length liberties.old ≡ 361) }
+    requires ends { (q : ℕ) → point_count size ≤ q → name_at names.old q ≡ 0 }
+    requires on_board { p < point_count size }
+    requires stone { 512 ≤ name_at names.old p }
+    requires counted { AreCounted size names.old stones.old liberties.old }
+    ensures joined { (c : Colouring) → AreNamesBut size c names.old p → AreNames size c names.new }
+    ensures still_counted { AreCounted size names.new stones.new liberties.new }
+{
+    let near = neighbours(size, p);
+    for q in near.as_slice() {
+        let other = names[*q];
+        let own = names[p];
+        if other / 512 == own / 512 && other != own {
+            unite(size, names, stones, liberties, other, own);
+        }
+    }
+}
