@@ -4,7 +4,7 @@ use Rattle.tt_board.specs.Chains.{name_at}
 use Rattle.tt_board.proofs.LinkLemmas.{names_whole, stone_named}
 use Rattle.tt_board.proofs.JoinLemmas.{Joining, joining_same, joining_united, alike_codes}
 use Rattle.tt_board.proofs.NearLemmas.{near_at, index_of}
-use Rattle.tt_board.proofs.StoneLemmas.{few_points}
+use Rattle.tt_sgf.specs.SizeLaws.{few_points}
 use Rattle.tt_board.proofs.joins.join_beside.Goals as goal
 use Rattle.tt_board.proofs.joins.join_beside.Goals.{then-other-own+then-other-own-2, else-other-own, else-other-own-via-then-other-own+else-other-own-2, else-other-own-via-else-other-own}
 

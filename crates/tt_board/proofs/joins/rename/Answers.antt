@@ -4,7 +4,7 @@ use Rattle.std.proofs.lemmas.List.{get_or-set_same, get_or-set_other}
 use Rattle.tt_sgf.specs.Sizes.{point_count}
 use Rattle.tt_board.specs.Chains.{name_at}
 use Rattle.tt_board.proofs.NameLemmas.{count_joined, liberty_count_le}
-use Rattle.tt_board.proofs.StoneLemmas.{few_points}
+use Rattle.tt_sgf.specs.SizeLaws.{few_points}
 use Rattle.tt_board.proofs.JoinLemmas.{partly_none, partly_more, partly_kept, partly_whole, stones_fewer, none_stones}
 use Rattle.tt_board.proofs.joins.rename.Goals as goal
 use Rattle.tt_board.proofs.joins.rename.Goals.{then-names-p, else-names-p}

@@ -1,5 +1,5 @@
 use Rattle.std.proofs.Common.{arith}
-use Rattle.tt_board.proofs.StoneLemmas.{few_points}
+use Rattle.tt_sgf.specs.SizeLaws.{few_points}
 use Rattle.tt_board.proofs.StartLemmas.{all_rooted, near_below, near_apart, some_liberty, counted_started}
 use Rattle.tt_board.proofs.joins.start.Goals as goal
 

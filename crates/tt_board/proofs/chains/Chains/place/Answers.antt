@@ -4,7 +4,7 @@ use Rattle.tt_sgf.specs.Sizes.{point_count}
 use Rattle.tt_board.specs.Reach.{entry_at}
 use Rattle.tt_board.specs.Play.{IsAlive}
 use Rattle.tt_board.specs.Chains.{ChainBoard, AreNames, AreNamesBut}
-use Rattle.tt_board.proofs.StoneLemmas.{few_points}
+use Rattle.tt_sgf.specs.SizeLaws.{few_points}
 use Rattle.tt_board.proofs.PlacedLemmas.{but_placed}
 use Rattle.tt_board.proofs.chains.Chains.place.Goals as goal
 
