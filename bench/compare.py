@@ -55,10 +55,14 @@ def main():
     parser.add_argument("--runs", type=int, default=3)
     parser.add_argument("--only", default="")
     args = parser.parse_args()
+    chosen = list(rows(args.only))
+    if not chosen:
+        print(f"compare.py: no row of bench/rows.txt has {args.only}", file=sys.stderr)
+        return 2
     differ = 0
     print("| Input | Words | Time, ratio | By the clock, ratio | Memory, ratio | Seconds by the clock | Answers |")
     print("|---|---|---|---|---|---|---|")
-    for name, words in rows(args.only):
+    for name, words in chosen:
         data = open(os.path.join(HERE, "inputs", name), "rb").read()
         ours = least(args.program, words, data, args.runs)
         other = least(args.other, words, data, args.runs)

@@ -12,10 +12,15 @@ use Rattle.tsumego.specs.declared.request.Command.TheVariants.{Score, Check, Sol
 abbrev pub needing_subcommand : App → App
 needing_subcommand a = record a { top = record a.top { subcommand_required = true } }
 
+-- `--version` and `-V` ask for the version
+abbrev pub telling_version : App → App
+telling_version a = record a { top = record a.top { has_version = true } }
+
 -- an option with a number from 1 to `most`
 abbrev pub number_rule : Text → ℕ → Text → Rule
 number_rule name most default = record (new_rule name) {
   long = Some name;
+  value_names = 1;
   parser = Some (Signed (pos 1) (pos most));
   defaults = default ∷ [];
 }
@@ -34,7 +39,7 @@ solve_app = with_rule (with_rule (with_rule (with_rule (new_app (codes "solve"))
 -- the program's commands and options, as the argument parser reads them
 unfoldable pub tool : App
 tool = with_subcommand (with_subcommand (with_subcommand
-    (needing_subcommand (new_app (codes "tsumego")))
+    (needing_subcommand (telling_version (new_app (codes "tsumego"))))
     (new_app (codes "score")).top) (new_app (codes "check")).top) solve_app.top
 
 -- the number that an option's text spells

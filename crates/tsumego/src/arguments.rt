@@ -22,11 +22,13 @@ const WORKERS_HELP: &str = "How many threads search first turns side by side, 1 
 
 const CERT_HELP: &str = "Write the certificate on a line of its own";
 
+/// The version, which CHANGELOG, README and the manual page name too.
+const VERSION: &str = "0.1.0";
+
 /// What stands at the end of the program's help.
 const TOOL_END: &str = "Each command reads standard input to its end:
   tsumego solve < problem.sgf
-Status: 0 all answered, 1 something refused or invalid, 2 these words or the run failed
-Version 0.1.0";
+Status: 0 all answered, 1 something refused or invalid, 2 these words or the run failed";
 
 const SOLVE_END: &str = "Reads problems from standard input:
   tsumego solve < problem.sgf
@@ -67,6 +69,7 @@ fn number_option<'a>(
 {
     Arg::new(alloc, name)
         .long(name)
+        .value_name("N")
         .help(help)
         .value_parser(value_parser!(u32).range(1..=i64::from(most)))
         .default_value(default)
@@ -117,7 +120,8 @@ fn parser<'a>(alloc: Global) -> Result<Parser<'a>, AllocError>
     );
     let solve = solve_parser(alloc)?;
     let about = "Life-and-death problems of Go, read from standard input";
-    let top = named(alloc, "tsumego", about, TOOL_END).subcommand_required(true);
+    let plain = named(alloc, "tsumego", about, TOOL_END).version(VERSION);
+    let top = plain.subcommand_required(true);
     let two = top.subcommand(score)?.subcommand(check)?;
     two.subcommand(solve)
 }

@@ -24,8 +24,8 @@ use answer::run;
 use arguments::{ArgFault, command};
 use devices::Watched;
 use std::alloc::AllocError;
-use std::env;
 use std::process::ExitCode;
+use std::{env, io};
 
 fn words_of(rt: &HostRuntime) -> Result<Vec<String>, ArgFault> {
     let alloc = rt.alloc();
@@ -38,6 +38,14 @@ fn words_of(rt: &HostRuntime) -> Result<Vec<String>, ArgFault> {
     }
 }
 
+/// Writes the text of a refusal on standard error, which ends its last line itself; an empty line where there is none.
+fn tell(rt: &HostRuntime, text: &str) -> io::Result<()> {
+    if text.is_empty() {
+        return rt.eprintln("");
+    }
+    rt.eprint(text)
+}
+
 fn main(rt: HostRuntime) -> ExitCode {
     let asked = match words_of(&rt) {
         Ok(words) => command(rt.alloc(), words.as_slice()),
@@ -46,7 +54,7 @@ fn main(rt: HostRuntime) -> ExitCode {
     let command = match asked {
         Ok(command) => command,
         Err(fault) => {
-            let _ = rt.eprintln(fault.0);
+            let _ = tell(&rt, fault.0.as_str());
             return ExitCode::from(2);
         }
     };
