@@ -2,6 +2,7 @@ pub mod BoardsLemmas
 pub mod CaptureLemmas
 pub mod ChainLemmas
 pub mod CountLemmas
+pub mod ExactLemmas
 pub mod JoinLemmas
 pub mod LiftLemmas
 pub mod LinkLemmas
