@@ -3,6 +3,7 @@ pub mod CaptureLemmas
 pub mod ChainLemmas
 pub mod DifferencesLemmas
 pub mod CountLemmas
+pub mod ExactLemmas
 pub mod JoinLemmas
 pub mod LiftLemmas
 pub mod LinkLemmas

@@ -1,5 +1,5 @@
 -- Chains (the rules of Go): their stones and liberties, and the names by which a board finds them. Private contracts alone cite these.
-use Rattle.std.specs.Prelude.{◌≡◌, ◌≢◌, ℕ, ◌%◌, ◌/◌, ◌<◌, ◌↔◌, ◌==◌, ◌&&◌, List, [], ◌∷◌, length, Option, Some, None, Bool, true, false, not, if◌then◌else◌, count_by, slice_index_or}
+use Rattle.std.specs.Prelude.{◌≡◌, ◌≢◌, ℕ, ◌%◌, ◌/◌, ◌<◌, ◌↔◌, ◌==◌, ◌&&◌, List, [], ◌∷◌, length, Option, Some, None, Bool, true, false, not, Contains, if◌then◌else◌, count_by, slice_index_or}
 use Rattle.std.specs.List.{range_with_len}
 use Rattle.std.proofs.Common.{inl, inr, refl}
 use Rattle.std.proofs.lemmas.Bool.{cases_eq, false≢true}
@@ -21,6 +21,20 @@ Leads s c p (r ∷ rest) q = IsNeighbour s p r × (entry_at c r ≡ entry_at c p
 -- p and q are of one chain
 abbrev pub AreLinked : Size → Colouring → ℕ → ℕ → Type 0
 AreLinked s c p q = (path : List ℕ) × Leads s c p path q
+
+-- the numbers of a list differ
+abbrev pub IsEachOnce : List ℕ → Type 0
+IsEachOnce xs = (i j : ℕ) → i < j → j < length xs → slice_index_or xs i 0 ≢ slice_index_or xs j 0
+
+-- n is how many points P holds of
+abbrev pub IsCountOf : ℕ → (ℕ → Type 0) → Type 0
+IsCountOf n P = (points : List ℕ) × (length points ≡ n) × IsEachOnce points × ((q : ℕ) → Contains points q ↔ P q)
+
+-- q is a liberty of the chain of p: an empty point beside one of its stones
+abbrev pub IsLibertyOf : Size → Colouring → ℕ → ℕ → Type 0
+IsLibertyOf s c p q = (entry_at c q ≡ None) × ((r : ℕ) × AreLinked s c p r × IsNeighbour s r q)
+
+-- ---- how a board keeps them
 
 -- the name of the chain on the place p; 0 where it is empty
 abbrev pub name_at : List ℕ → ℕ → ℕ
@@ -101,10 +115,6 @@ pub record IsChainBoard (b : ChainBoard) : Type 0 where
   pub alive : IsAlive b.size b.points
 
 -- ---- how the code gets there
-
--- the numbers of a list differ
-abbrev pub IsEachOnce : List ℕ → Type 0
-IsEachOnce xs = (i j : ℕ) → i < j → j < length xs → name_at xs i ≢ name_at xs j
 
 -- names of different roots
 abbrev pub AreRootsApart : List ℕ → Type 0

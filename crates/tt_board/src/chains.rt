@@ -7,7 +7,7 @@ ghost use Rattle.std.specs.Prelude.{◌≡◌, ◌≢◌, ℕ, ◌/◌, ◌<◌,
 ghost use Rattle.tt_sgf.specs.Sizes.{point_count};
 ghost use Rattle.tt_board.specs.Reach.{entry_at};
 ghost use Rattle.tt_board.specs.Play.{IsAlive, play_of};
-ghost use Rattle.tt_board.specs.Chains.{name_at, root_of, code_of, renamed, IsEachOnce};
+ghost use Rattle.tt_board.specs.Chains.{name_at, root_of, code_of, renamed, IsEachOnce, IsCountOf, IsLibertyOf, AreLinked};
 
 use super::Colour;
 use super::captures::release;
@@ -74,12 +74,45 @@ impl Chains {
         }
     }
 
+    /// The size.
+    pub(crate) fn size(&self) -> Size
+        ensures { result ≡ self.now.size }
+    {
+        self.size
+    }
+
     /// The colouring.
     pub(crate) fn points(&self) -> &Colouring
         ensures value { result.now ≡ self.now.points }
         ensures fits { length self.now.points ≡ point_count self.now.size }
     {
         &self.points
+    }
+
+    /// The name of the chain on `p`, 0 where it is empty; two stones have one name exactly where they are of one chain.
+    pub(crate) fn name(&self, p: usize) -> u16
+        requires { p < point_count self.now.size }
+        ensures { result ≡ name_at self.now.names p }
+    {
+        self.names[p]
+    }
+
+    /// How many stones the chain of the stone on `p` has, 1 to 360.
+    pub(crate) fn stones(&self, p: usize) -> u16
+        requires on_board { p < point_count self.now.size }
+        requires stone { entry_at self.now.points p ≢ None }
+        ensures { IsCountOf result (AreLinked self.now.size self.now.points p) }
+    {
+        self.stones[root_of(self.names[p])]
+    }
+
+    /// How many liberties the chain of the stone on `p` has, 1 to 360.
+    pub(crate) fn liberties(&self, p: usize) -> u16
+        requires on_board { p < point_count self.now.size }
+        requires stone { entry_at self.now.points p ≢ None }
+        ensures { IsCountOf result (IsLibertyOf self.now.size self.now.points p) }
+    {
+        self.liberties[root_of(self.names[p])]
     }
 
     /// Puts a stone on the empty point `p`, where each stone reaches empty then, and makes it one with the chains of its colour beside it.

@@ -49,7 +49,7 @@ pub(crate) fn shows(board: &Board, text: &[u8]) -> bool {
 }
 
 /// The number of the point of a move in letters, column before row; past the board for `--`, a pass.
-fn number_of(size: Size, word: &[u8]) -> u16 {
+pub(crate) fn number_of(size: Size, word: &[u8]) -> u16 {
     if word.len() < 2 || word[0] < b'a' || word[1] < b'a' {
         return u16::MAX;
     }
