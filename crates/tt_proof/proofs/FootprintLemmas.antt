@@ -13,8 +13,8 @@ use Rattle.tt_game.specs.declared.turns.Turn.TheVariants.{Play, Pass}
 use Rattle.tt_proof.specs.declared.footprints.Footprint.{Footprint}
 use Rattle.tt_proof.specs.Strategy.{Strategy, done, pick, reply, none, entries_of}
 use Rattle.tt_proof.specs.Footprints.{IsNeeded, IsNeededBehind, IsAvoided, IsAvoidedBehind, IsRepeated, longer}
-use Rattle.tt_proof.specs.KeptFootprints.{IsFootprint}
-use Rattle.tt_proof.specs.Collecting.{IsGiven, IsPicked, IsEntryJoined}
+use Rattle.tt_proof.specs.KeptFootprints.{IsFootprint, IsEntryJoined}
+use Rattle.tt_proof.specs.Collecting.{IsGiven, IsPicked}
 use Rattle.tt_proof.proofs.NeedLemmas.{needed_less, needed_more}
 use Rattle.tt_proof.proofs.ListLemmas.{in_of_contains, contains_of_in}
 

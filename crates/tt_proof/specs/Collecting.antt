@@ -8,8 +8,6 @@ use Rattle.tt_game.specs.declared.frame.Frame.{Frame}
 use Rattle.tt_game.specs.declared.turns.Turn.{Turn}
 use Rattle.tt_game.specs.declared.turns.Turn.TheVariants.{Play, Pass}
 use Rattle.tt_proof.specs.declared.footprints.Footprint.{Footprint}
-use Rattle.tt_proof.specs.Strategy.{Strategy, reply, entries_of}
-use Rattle.tt_proof.specs.KeptFootprints.{IsFootprint}
 
 -- superko bars a play on a point below the number, which would make the colouring
 abbrev pub RepeatsBelow : Frame → State → ℕ → Colouring → Type 0
@@ -29,8 +27,3 @@ IsPlayed (Play p) points c = c ≡ points
 pub record IsPicked (t : Turn) (base points : Colouring) (behind x : Footprint) : Type 0 where
   pub needed : (c : Colouring) → Contains (colourings_from base x.needs) c ↔ IsGiven t points behind.needs c
   pub avoided : (c : Colouring) → Contains (colourings_from base x.avoids) c ↔ (IsPlayed t points c ⊎ Contains (colourings_from points behind.avoids) c)
-
--- one more entry was joined, whatever the entries before it
-abbrev pub IsEntryJoined : Frame → State → Turn → Strategy → Footprint → Footprint → Type 0
-IsEntryJoined f s t u old new =
-    (es : List (Turn × Strategy)) → IsFootprint f s (reply (entries_of es)) old → IsFootprint f s (reply (entries_of (es ++ (t, u) ∷ []))) new

@@ -1,12 +1,12 @@
 -- Footprints as they are kept: by how their colourings differ from the present one.
-use Rattle.std.specs.Prelude.{◌≡◌, ◌↔◌, [], Contains}
+use Rattle.std.specs.Prelude.{◌≡◌, ◌↔◌, List, [], ◌∷◌, ◌++◌, Contains}
 use Rattle.tt_board.specs.Position.{Position, Colouring}
 use Rattle.tt_board.specs.Differences.{colourings_from}
 use Rattle.tt_game.specs.Game.{State, after, history}
 use Rattle.tt_game.specs.declared.frame.Frame.{Frame}
 use Rattle.tt_game.specs.declared.turns.Turn.{Turn}
 use Rattle.tt_proof.specs.declared.footprints.Footprint.{Footprint}
-use Rattle.tt_proof.specs.Strategy.{Strategy}
+use Rattle.tt_proof.specs.Strategy.{Strategy, reply, entries_of}
 use Rattle.tt_proof.specs.Footprints.{IsNeeded, IsAvoided}
 
 -- the footprint is that of the strategy at the state: from the present colouring on it shows exactly what the strategy needs
@@ -18,3 +18,8 @@ pub record IsFootprint (f : Frame) (s : State) (u : Strategy) (x : Footprint) : 
 -- the board is the one after the turn
 abbrev pub IsBoardAfter : Frame → State → Turn → Position → Type 0
 IsBoardAfter f s t b = b ≡ record { size = f.size; points = (after f s t).present }
+
+-- the footprint of a reply has become that with one more entry behind the others, whichever these are
+abbrev pub IsEntryJoined : Frame → State → Turn → Strategy → Footprint → Footprint → Type 0
+IsEntryJoined f s t u old new =
+    (es : List (Turn × Strategy)) → IsFootprint f s (reply (entries_of es)) old → IsFootprint f s (reply (entries_of (es ++ (t, u) ∷ []))) new

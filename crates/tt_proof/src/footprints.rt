@@ -8,8 +8,8 @@ ghost use Rattle.tt_game.specs.declared.turns.Turn.{Turn};
 ghost use Rattle.tt_game.specs.declared.frame.Frame.{Frame};
 ghost use Rattle.tt_proof.specs.Strategy.{Strategy, done, pick, reply, none, depth, depth_of_entries, strategy_of, entries_of, entries_of_trees, IsInOrder, AreInOrder, IsOnBoard};
 ghost use Rattle.tt_proof.specs.Footprints.{IsRepeated};
-ghost use Rattle.tt_proof.specs.KeptFootprints.{IsFootprint, IsBoardAfter};
-ghost use Rattle.tt_proof.specs.Collecting.{IsGiven, IsPlayed, IsEntryJoined};
+ghost use Rattle.tt_proof.specs.KeptFootprints.{IsFootprint, IsBoardAfter, IsEntryJoined};
+ghost use Rattle.tt_proof.specs.Collecting.{IsGiven, IsPlayed};
 
 use crate::tree::Tree;
 use std::alloc::Global;
