@@ -29,6 +29,7 @@ module _ (s : Size) (ns : List ℕ) (p e : ℕ) (in_p : p < point_count s) (wide
       (off_p s ns p 0 in_p wide (root_of (name_at ns q)) (λ at. other (was ∙ sym root ∙ ap (name_at ns) at ∙ stone)) ∙ root)
 
   module _ (near : List ℕ) (all : (m : ℕ) → Contains near m ↔ ((m ≢ 0) × (m ≢ e) × Touches s (set ns p 0) m p)) where
+    -- what is listed is beside p, and has its root
     pub only_beside : (m : ℕ) → Contains near m → (m ≢ 0) × Touches s (set ns p 0) m p
     only_beside m has = let h = (all m).0 has in (h.0, h.2)
 
@@ -44,6 +45,7 @@ module _ (s : Size) (ns : List ℕ) (p e : ℕ) (in_p : p < point_count s) (wide
           let was = (others_were r (λ z. some (sym is ∙ z))).1 in
           subst (λ x. name_at liberties (root_of x) ≡ liberty_count s ns x) (sym was ∙ is) (counted r (λ z. some (sym is ∙ was ∙ z)) (λ z. other (sym is ∙ was ∙ z)))
 
+      -- there is room for one liberty more
       pub few_liberties : (i : ℕ) → i < length near → name_at liberties (root_of (name_at near i)) ≤ point_count s
       few_liberties i in' =
           let h = (all (name_at near i)).0 (Contains-get_or near i 0 in') in
@@ -103,12 +105,14 @@ releasing_more s old before e ns after left p r in_p wide within living stone = 
     off : (q : ℕ) → q ≢ p → name_at (set ns p 0) q ≡ name_at ns q
     off q apart = off_p s ns p 0 in_p wide q apart
 
+    -- a stone that has the name still had it from the first
     partly_kept' : (q : ℕ) → name_at ns q ≡ e → name_at ns q ≡ name_at old q
     partly_kept' q is = elim (cases_eq (name_at old q) e) [ inl was ↦ is ∙ sym was | inr wasnt ↦ partly_kept e 0 old ns q r.partly wasnt ]
 
 -- when none is left they are gone
 module _ (s : Size) (old : List ℕ) (before : Colouring) (e : ℕ) (ns : List ℕ) (after : Colouring) (left : ℕ) (r : Releasing s old before e ns after left) (living : e ≢ 0)
     (same : length ns ≡ length old) (none : (k : ℕ) → k < length ns → name_at ns k ≢ e) where
+  -- the name stands nowhere, so all its places are empty
   no_more : (k : ℕ) → name_at ns k ≢ e
   no_more k is = elim (cases_lt k (length ns)) [
     | inl inside ↦ none k inside is

@@ -101,6 +101,11 @@ count_both f g h (suc n) agree =
           omega (arith, mf, mg, mh, before, eh, ef, eg)
     ]
 
+-- a test and a true one is the test
+and_true : (a b : Bool) → b ≡ true → (a && b) ≡ a
+and_true true b e = e
+and_true false b e = refl
+
 -- where two or more pass, one other than p does
 pub another_counted : (f : ℕ → Bool) (n p : ℕ) → 1 < count_by f (range_with_len 0 n) → (k : ℕ) × (k < n) × (f k ≡ true) × (k ≢ p)
 another_counted f n p many =
@@ -118,10 +123,6 @@ another_counted f n p many =
     let w = some_counted g n some in
     let parts = and_parts (f w.0) _ w.2 in
     (w.0, w.1, parts.0, λ same. false≢true (sym (ap not ((decided_is {P = w.0 ≡ p} (cases_eq w.0 p)).1 same)) ∙ parts.1))
-  where
-    and_true : (a b : Bool) → b ≡ true → (a && b) ≡ a
-    and_true true b e = e
-    and_true false b e = refl
 
 -- where one passes, and one other, the count is more than one
 pub two_counted : (f : ℕ → Bool) (n p q : ℕ) → p < n → q < n → q ≢ p → f p ≡ true → f q ≡ true → 1 < count_by f (range_with_len 0 n)
@@ -134,10 +135,6 @@ two_counted f n p q in_p in_q apart on also =
     let still : g q ≡ true = and_from (f q) _ also (ap not (decided_not {P = q ≡ p} (cases_eq q p) apart)) in
     let some = count_some g n q in_q still in
     omega (arith, change, none, one, some)
-  where
-    and_true : (a b : Bool) → b ≡ true → (a && b) ≡ a
-    and_true true b e = e
-    and_true false b e = refl
 
 -- whether a list has a number
 pub in_list : (xs : List ℕ) (q : ℕ) → Decision (Contains xs q)
@@ -170,10 +167,7 @@ count_within f n (x ∷ xs) once inside =
     let on : ◌≡◌ {A = ℕ} (cond (new x) 1 0) (cond (f x) 1 0) = ap (λ b. cond b 1 0) (and_true (f x) _ ((decided_is (in_list (x ∷ xs) x)).1 head)) in
     omega (arith, change, off, on, rest, sum_by-cons (λ q. cond (f q) 1 0) x xs)
   where
-    and_true : (a b : Bool) → b ≡ true → (a && b) ≡ a
-    and_true true b e = e
-    and_true false b e = refl
-
+    -- another number that the longer list has, the shorter one has
     earlier : (k : ℕ) → k ≢ x → Contains (x ∷ xs) k → Contains xs k
     earlier k apart (zero, in', is) = absurd (apart (sym is))
     earlier k apart (suc i, in', is) = (i, omega arith, is)

@@ -1,21 +1,17 @@
 -- The counts of a chain, as counts of points.
-use Rattle.std.proofs.Common.{◌≡◌, ◌≢◌, ℕ, zero, suc, add-one, ◌+◌, ◌<◌, ◌≤◌, ◌↔◌, ◌⊎◌, List, [], ◌∷◌, ◌++◌, Option, Some, None, Bool, true, false, cond, count_by, eqb, get_or, take, length, Contains}
+use Rattle.std.proofs.Common.{◌≡◌, ◌≢◌, ℕ, zero, suc, add-one, ◌+◌, ◌<◌, ◌≤◌, ◌↔◌, List, [], ◌∷◌, ◌++◌, None, Bool, true, false, cond, count_by, eqb, take, length, Contains}
 use Rattle.std.proofs.Common.{inl, inr, refl, sym, ap, subst, ◌∙◌, arith}
 use Rattle.std.specs.List.{range_with_len}
 use Rattle.std.proofs.lemmas.Bool.{cases_eq, cases_lt, cases_Bool, false≢true, and_from, and_parts, eq-eqb, eqb-true}
 use Rattle.std.proofs.lemmas.List.{length_push, get_or_past, take_all}
 use Rattle.std.proofs.lemmas.List.Elements.{Contains-push, Contains-push_cases, Contains-append_left}
 use Rattle.std.proofs.lemmas.List.Sums.{count_by_more_yes, count_by_more_no}
-use Rattle.tt_board.specs.declared.Colour.{Colour}
-use Rattle.tt_sgf.specs.declared.size.Size.{Size}
 use Rattle.tt_sgf.specs.Sizes.{point_count}
-use Rattle.tt_board.specs.Near.{IsNeighbour}
-use Rattle.tt_board.specs.Position.{Colouring}
 use Rattle.tt_board.specs.Reach.{entry_at}
-use Rattle.tt_board.specs.Chains.{AreLinked, IsEachOnce, IsCountOf, IsLibertyOf, name_at, root_of, touching, decided, decided_is, is_liberty, liberty_count, stone_count, AreNames}
-use Rattle.tt_board.specs.Chains.{AreCounted, ChainBoard, IsChainBoard}
+use Rattle.tt_board.specs.Chains.{AreLinked, IsCountOf, IsLibertyOf, name_at, root_of, touching, decided_is, is_liberty, liberty_count, stone_count}
+use Rattle.tt_board.specs.Chains.{ChainBoard, IsChainBoard}
 use Rattle.tt_board.proofs.CountLemmas.{once_push}
-use Rattle.tt_board.proofs.LinkLemmas.{linked_on_board, linked_colour, linked_trans, named_stone, stone_named, named_bare, bare_named}
+use Rattle.tt_board.proofs.LinkLemmas.{linked_on_board, linked_colour, named_stone, stone_named, named_bare, bare_named}
 use Rattle.tt_board.proofs.LiftLemmas.{near_back}
 use Rattle.tt_board.proofs.PlayLemmas.{score_more}
 
@@ -81,6 +77,7 @@ recount : (n m : ℕ) (P Q : ℕ → Type 0) → IsCountOf n P → m ≡ n → (
 recount n m P Q c same swap = (c.0, c.1 ∙ sym same, c.2, λ q. ((λ has. (swap q).0 ((c.3 q).0 has)), (λ h. (c.3 q).1 ((swap q).1 h))))
 
 module _ (b : ChainBoard) (p : ℕ) (is : IsChainBoard b) (in_p : p < point_count b.size) (stone : entry_at b.points p ≢ None) where
+  -- the stone's chain has a name
   some : name_at b.names p ≢ 0
   some = named_stone _ _ (is.named.named p) stone
 

@@ -40,6 +40,7 @@ pub partly_none : (a b : ℕ) (old : List ℕ) → IsPartly a b old old
 unfolding IsPartly
 partly_none a b old k = inl refl
 
+-- one more place that had it
 pub partly_more : (a b : ℕ) (old new : List ℕ) (p : ℕ) → p < length new → name_at new p ≡ a → IsPartly a b old new → IsPartly a b old (set new p b)
 unfolding IsPartly
 partly_more a b old new p in_p is h k = elim (cases_eq k p) [
@@ -183,6 +184,7 @@ liberties_others s a b m ns living_a living_b old new =
       | inr apart ↦ sym (renamed_not a b _ apart) ∙ sym (name_renamed a b ns r living_a) ∙ is
     ]
 
+    -- the same places are empty
     empty_same : (k : ℕ) → eqb (name_at (map (renamed a b) ns) k) 0 ≡ eqb (name_at ns k) 0
     empty_same k = elim (cases_eq (name_at ns k) a) [
       | inl at ↦ ne_eqb _ 0 (λ e. living_b (sym (renamed_is a b _ at) ∙ sym (name_renamed a b ns k living_a) ∙ e)) ∙ sym (ne_eqb _ 0 (λ e. living_a (sym at ∙ e)))
@@ -213,6 +215,7 @@ roots_apart ns e f re rf apart same = apart (sym re ∙ ap (name_at ns) same ∙
 module _ (s : Size) (ns stones liberties : List ℕ) (a b gained : ℕ) (counted : AreCounted s ns stones liberties) (living_a : a ≢ 0) (living_b : b ≢ 0) (apart : a ≢ b)
     (root_a : name_at ns (root_of a) ≡ a) (root_b : name_at ns (root_of b) ≡ b) (few : length stones ≡ length ns) (also : length liberties ≡ length ns)
     (gain : liberty_count s (map (renamed a b) ns) b ≡ liberty_count s ns b + gained) where
+  -- what stands at the two roots is true
   counts_stones : name_at stones (root_of a) ≡ stone_count ns a
   counts_stones = subst (λ e. name_at stones (root_of e) ≡ stone_count ns e) root_a (counted.stones_true (root_of a) (λ e. living_a (sym root_a ∙ e)))
 
@@ -239,6 +242,7 @@ module _ (s : Size) (ns stones liberties : List ℕ) (a b gained : ℕ) (counted
         elim (cases_eq (name_at ns p) b) [ inl is ↦ inl (same ∙ is) | inr isnt ↦ inr (same, away, isnt) ]
   ]
 
+  -- with them all counts are true
   pub counted_joined : AreCounted s (map (renamed a b) ns) (set stones (root_of b) (name_at stones (root_of b) + name_at stones (root_of a)))
       (set liberties (root_of b) (name_at liberties (root_of b) + gained))
   counted_joined =
@@ -289,6 +293,7 @@ codes_alike (Some White) (Some White) a b h g living same = refl
 codes_alike (Some Black) (Some White) a b h g living same = absurd (omega arith)
 codes_alike (Some White) (Some Black) a b h g living same = absurd (omega arith)
 
+-- points alike have names of one colour
 pub alike_codes : (e f : Option Colour) (a b : ℕ) → IsNamed e a → IsNamed f b → e ≡ f → a / 512 ≡ b / 512
 alike_codes None f a b h g same = ap (λ x. x / 512) (h ∙ sym (named_bare f b g (sym same)))
 alike_codes (Some k) f a b h g same = h ∙ sym (subst (λ x. IsNamed x b) (sym same) g)
@@ -320,6 +325,7 @@ but_united s c ns p a b x y n living_a living_b same in_x in_y is_a is_b link = 
     now_same : (q : ℕ) → name_at ns q ≢ a → name_at (map (renamed a b) ns) q ≡ name_at ns q
     now_same q away = name_renamed a b ns q living_a ∙ renamed_not a b _ away
 
+    -- a stone of the one chain is linked with each of the other
     through : (z w : ℕ) → z < point_count s → w < point_count s → name_at ns z ≡ a → name_at ns w ≡ b → AreLinked s c z w
     through z w in_z in_w zs ws = linked_trans s c z x w (n.one_chain z x in_z in_x (λ h. living_a (sym zs ∙ h)) (zs ∙ sym is_a))
         (linked_trans s c x y w link (n.one_chain y w in_y in_w (λ h. living_b (sym is_b ∙ h)) (is_b ∙ sym ws)))

@@ -14,6 +14,7 @@ use Rattle.tt_board.specs.Chains.{Leads, AreLinked, name_at, IsNamed, AreNames, 
 use Rattle.tt_board.proofs.LiftLemmas.{near_back}
 
 module _ (s : Size) (c : Colouring) where
+  -- a point is linked with itself, with what an adjacent point like it is, and with what linked points are
   pub linked_self : (p : ℕ) → AreLinked s c p p
   linked_self p = ([], refl)
 
@@ -27,6 +28,7 @@ module _ (s : Size) (c : Colouring) where
   pub linked_trans : (p q r : ℕ) → AreLinked s c p q → AreLinked s c q r → AreLinked s c p r
   linked_trans p q r l m = joined p q r l.0 l.1 m
 
+  -- the path the other way
   turned : (p q : ℕ) (path : List ℕ) → p < point_count s → Leads s c p path q → AreLinked s c q p
   turned p q [] in_p h = subst (λ x. AreLinked s c x p) h (linked_self p)
   turned p q (x ∷ rest) in_p h =
@@ -56,6 +58,7 @@ module _ (s : Size) (c : Colouring) where
   reaches_along p q [] e h r = subst (λ x. Reaches s c x e) (sym h) r
   reaches_along p q (x ∷ rest) e h r = reaches_on s c e p x h.0 h.1 (reaches_along x q rest e h.2 r)
 
+  -- where it is linked by some path
   pub reaches_linked : (p q : ℕ) (e : Option Colour) → AreLinked s c p q → Reaches s c q e → Reaches s c p e
   reaches_linked p q e l r = reaches_along p q l.0 e l.1 r
 
@@ -82,6 +85,7 @@ named_stone None n h some = absurd (some refl)
 named_stone (Some Black) n h some = λ z. omega arith
 named_stone (Some White) n h some = λ z. omega arith
 
+-- a point without a name is empty, one with a name is not
 pub bare_named : (e : Option Colour) (n : ℕ) → IsNamed e n → n ≡ 0 → e ≡ None
 bare_named None n h is = refl
 bare_named (Some Black) n h is = absurd (omega arith)

@@ -62,6 +62,7 @@ code_colour (Some White) n White h code = refl
 code_colour (Some Black) n White h code = absurd (omega arith)
 code_colour (Some White) n Black h code = absurd (omega arith)
 
+-- and a stone of a colour has that colour in its name
 colour_code : (e : Option Colour) (n : ℕ) (k : Colour) → IsNamed e n → e ≡ Some k → n / 512 ≡ code_of k
 colour_code e n k h is = subst (λ x. IsNamed x n) is h
 
@@ -69,6 +70,7 @@ colour_code e n k h is = subst (λ x. IsNamed x n) is h
 pub emptied : Size → (ℕ → Bool) → Colouring → Colouring
 emptied s test c = map (λ q. cond (test q) None (entry_at c q)) (range_with_len 0 (point_count s))
 
+-- it has as many places, the ones meant are bare, and the others as they were
 length-emptied : (s : Size) (test : ℕ → Bool) (c : Colouring) → length (emptied s test c) ≡ point_count s
 unfolding emptied
 length-emptied s test c = length-map-range_with_len (λ q. cond (test q) None (entry_at c q)) 0 (point_count s)
@@ -95,10 +97,7 @@ pub record IsLook (b : ChainBoard) (k : Colour) (p : ℕ) (chains : List ℕ) (e
   pub living : (m : ℕ) → Contains chains m → (m ≢ 0) × (name_at b.names (root_of m) ≡ m)
 
 module _ (b : ChainBoard) (k : Colour) (p : ℕ) (is : IsChainBoard b) (in_p : p < point_count b.size) (free : entry_at b.points p ≡ None) where
-  -- the colouring with the stone
-  abbrev put : Colouring
-  put = set b.points p (Some k)
-
+  -- the stone stands on p, and all else is as it was
   here : entry_at (set b.points p (Some k)) p ≡ Some k
   here = get_or-set_same b.points p (Some k) None (subst (λ n. p < n) (sym is.fits) in_p)
 
@@ -170,9 +169,7 @@ module _ (b : ChainBoard) (k : Colour) (p : ℕ) (is : IsChainBoard b) (in_p : p
         let h = (last m).0 has in let t = (all m).0 h.0 in
         (t.0, t.2, h.1, sym (counted_at m t.2.0 t.0 t.2.2.1) ∙ h.2)
 
-    abbrev goes_at : ℕ → Bool
-    goes_at q = decided (in_list weak (name_at b.names q))
-
+    -- the board with the stone, and without these
     abbrev taken : Colouring
     taken = emptied b.size (λ q. decided (in_list weak (name_at b.names q))) (set b.points p (Some k))
 
@@ -192,6 +189,7 @@ module _ (b : ChainBoard) (k : Colour) (p : ℕ) (is : IsChainBoard b) (in_p : p
         let stone = named_here q w.0 in
         (code_colour _ _ (other k) (is.named.named q) w.2, elsewhere q stone)
 
+    -- they are whole chains of the opponent that no empty point is beside
     first : IsLifted b.size (set b.points p (Some k)) (other k) taken
     first = lifted_set b.size (set b.points p (Some k)) taken (other k) (λ q. Contains weak (name_at b.names q)) (length-emptied b.size _ (set b.points p (Some k)))
         (λ q. elim (in_list weak (name_at b.names q)) [ inl has ↦ inr (has, taken_gone q has) | inr none ↦ inl (taken_kept q none) ])
@@ -208,6 +206,7 @@ module _ (b : ChainBoard) (k : Colour) (p : ℕ) (is : IsChainBoard b) (in_p : p
           ],
         ))
 
+    -- each other chain of the opponent beside p reaches empty
     looked : (q : ℕ) → IsNeighbour b.size p q → entry_at (set b.points p (Some k)) q ≡ Some (other k) → Reaches b.size (set b.points p (Some k)) q None ⊎ (entry_at taken q ≡ None)
     looked q near' theirs = elim (cases_eq q p) [
       | inl same ↦ absurd (other_differs k (sym here ∙ ap (entry_at (set b.points p (Some k))) (sym same) ∙ theirs))
@@ -266,6 +265,7 @@ module _ (b : ChainBoard) (k : Colour) (p : ℕ) (is : IsChainBoard b) (in_p : p
       λ has. ap (λ xs. entry_at xs q) (sym same) ∙ taken_gone q has,
     )
 
+    -- and the stone stays
     pub quiet_stays : taken ≡ play_of b.size b.points k p → entry_at (play_of b.size b.points k p) p ≢ None
     quiet_stays same bare = none-some k (sym bare ∙ ap (λ xs. entry_at xs p) (sym same) ∙ here_taken)
 
@@ -296,6 +296,7 @@ module _ (b : ChainBoard) (k : Colour) (p : ℕ) (is : IsChainBoard b) (in_p : p
           let h = (last_mine m).0 has in let t = (all m).0 h.0 in
           (t.0, t.2, h.1, sym (counted_at m t.2.0 t.0 t.2.2.1) ∙ h.2)
 
+      -- the board without these, and without the stone
       abbrev left : Colouring
       left = emptied b.size (λ q. decided (in_list mine (name_at b.names q))) b.points
 
@@ -312,6 +313,7 @@ module _ (b : ChainBoard) (k : Colour) (p : ℕ) (is : IsChainBoard b) (in_p : p
       abbrev Goes : ℕ → Type 0
       Goes q = (q ≡ p) ⊎ Contains mine (name_at b.names q)
 
+      -- a stone of a chain that goes is an own one
       own_stone : (q : ℕ) → Contains mine (name_at b.names q) → (entry_at b.points q ≡ Some k) × (q ≢ p)
       own_stone q has =
           let w = mine_is (name_at b.names q) has in
@@ -325,6 +327,7 @@ module _ (b : ChainBoard) (k : Colour) (p : ℕ) (is : IsChainBoard b) (in_p : p
           let code = colour_code _ _ k (is.named.named q) own in
           (last_mine (name_at b.names q)).1 (has, code, none_more (name_at b.names q) has code)
 
+      -- no empty point is beside those that go, and an own stone beside one of them goes too
       enclosed : (x q : ℕ) → Goes x → IsNeighbour b.size x q → (entry_at (set b.points p (Some k)) q ≢ None) × (entry_at (set b.points p (Some k)) q ≡ Some k → Goes q)
       enclosed x q (inl at) near' =
           let beside = subst (λ z. IsNeighbour b.size z q) at near' in (
@@ -347,6 +350,7 @@ module _ (b : ChainBoard) (k : Colour) (p : ℕ) (is : IsChainBoard b) (in_p : p
             ],
           )
 
+      -- so they are whole chains without liberties
       second : IsLifted b.size (set b.points p (Some k)) k left
       second = lifted_set b.size (set b.points p (Some k)) left k Goes (length-emptied b.size _ b.points)
           (λ q. elim (cases_eq q p) [
@@ -370,6 +374,7 @@ module _ (b : ChainBoard) (k : Colour) (p : ℕ) (is : IsChainBoard b) (in_p : p
         ]
       ]
 
+      -- they are all that goes
       left_is : left ≡ play_of b.size b.points k p
       left_is = play_is b.size b.points k p is.fits in_p is.alive free (set b.points p (Some k)) left
           (lifted_none b.size (set b.points p (Some k)) (other k) put_fits) stay second (λ _. inr left_p)
@@ -398,6 +403,7 @@ empty_there s c ns p names some =
     let parts = and_parts _ _ f.2 in
     (f.0, (decided_is (neighbour s p f.0)).0 parts.1, bare_named _ _ (names.named f.0) (eqb-true (name_at ns f.0) 0 parts.0))
 
+-- where the count is 0 there is none
 pub none_empty : (s : Size) (c : Colouring) (ns : List ℕ) (p : ℕ) → AreNames s c ns → count_beside s (λ q. name_at ns q == 0) p ≤ 0
     → (q : ℕ) → IsNeighbour s p q → entry_at c q ≢ None
 unfolding count_beside
@@ -415,6 +421,7 @@ pub record LastOnes (near liberties : List ℕ) (k : Colour) (i : ℕ) (found : 
   pub all : (j : ℕ) → j < i → name_at near j / 512 ≡ code_of k → name_at liberties (root_of (name_at near j)) ≡ 1 → Contains found (name_at near j)
   pub once : IsEachOnce found
 
+-- one more that is of the colour and has one liberty
 pub last_more : (near liberties : List ℕ) (k : Colour) (i : ℕ) (found : List ℕ) → LastOnes near liberties k i found → IsEachOnce near → i < length near
     → name_at near i / 512 ≡ code_of k → name_at liberties (root_of (name_at near i)) ≡ 1 → LastOnes near liberties k (i + 1) (found ++ name_at near i ∷ [])
 last_more near liberties k i found l once in' code one = record {
@@ -430,6 +437,7 @@ last_more near liberties k i found l once in' code one = record {
   once = once_push found (name_at near i) l.once (λ has. let h = l.only (name_at near i) has in once h.0 i h.1 in' h.2);
 }
 
+-- one more that is not
 pub last_same : (near liberties : List ℕ) (k : Colour) (i : ℕ) (found : List ℕ) → LastOnes near liberties k i found
     → (name_at near i / 512 ≡ code_of k → name_at liberties (root_of (name_at near i)) ≡ 1 → ⊥) → LastOnes near liberties k (i + 1) found
 last_same near liberties k i found l isnt = record {

@@ -105,6 +105,7 @@ taking_next old before goes i ns after t once in' rooted = (t.kept (root_of (nam
 
 -- when all are gone
 module _ (old : List ℕ) (before : Colouring) (goes : List ℕ) (i : ℕ) (ns : List ℕ) (after : Colouring) (t : Taking old before goes i ns after) (end : i ≡ length goes) where
+  -- the stones of all listed chains are gone, and no others
   pub taken_gone : (q : ℕ) → Contains goes (name_at old q) → entry_at after q ≡ None
   taken_gone q has = t.gone q has.0 (subst (λ n. has.0 < n) (sym end) has.1) (get_or_default goes has.0 0 (name_at old q) has.1 ∙ has.2)
 

@@ -33,6 +33,7 @@ pub record Found (s : Size) (ns : List ℕ) (p but : ℕ) (near : List ℕ) (i :
   pub all : (k : ℕ) → k < i → name_at ns (get_or near k 0) ≢ 0 → name_at ns (get_or near k 0) ≢ but → Contains found (name_at ns (get_or near k 0))
   pub once : IsEachOnce found
 
+-- one more name, which is new
 pub found_more : (s : Size) (ns : List ℕ) (p but : ℕ) (near : List ℕ) (i : ℕ) (found : List ℕ) → Found s ns p but near i found
     → IsNeighbour s p (get_or near i 0) → name_at ns (get_or near i 0) ≢ 0 → name_at ns (get_or near i 0) ≢ but → (Contains found (name_at ns (get_or near i 0)) → ⊥)
     → Found s ns p but near (i + 1) (found ++ name_at ns (get_or near i 0) ∷ [])
@@ -51,6 +52,7 @@ found_more s ns p but near i found f next stone other fresh =
       once = once_push found (name_at ns q) f.once fresh;
     }
 
+-- one more place, with no name or one that is found already
 pub found_same : (s : Size) (ns : List ℕ) (p but : ℕ) (near : List ℕ) (i : ℕ) (found : List ℕ) → Found s ns p but near i found
     → (name_at ns (get_or near i 0) ≢ 0 → name_at ns (get_or near i 0) ≢ but → Contains found (name_at ns (get_or near i 0))) → Found s ns p but near (i + 1) found
 found_same s ns p but near i found f here = record {

@@ -41,6 +41,7 @@ module _ (s : Size) (c : Colouring) (ns : List ℕ) (k : Colour) (p e : ℕ) (in
   pub bare_p : name_at ns p ≡ 0
   bare_p = named_bare _ _ (names.named p) free
 
+  -- no stone has the new name: its root would stand on p
   unused : (q : ℕ) → name_at ns q ≢ e
   unused q is = living (sym is ∙ sym (rooted q (λ z. living (sym is ∙ z))) ∙ ap (λ x. name_at ns (root_of x)) is ∙ ap (name_at ns) root_e ∙ bare_p)
 

@@ -91,18 +91,22 @@ module _ (s : Size) (ns stones liberties : List ℕ) (p e : ℕ) (in_p : p < poi
       name_new : (q : ℕ) → q ≡ p → name_at (set ns p e) q ≡ e
       name_new q at = ap (name_at (set ns p e)) at ∙ at_p s ns p e in_p wide
 
+      -- the new chain has its root on p
       at_root : (q : ℕ) → q ≡ p → name_at (set ns p e) (root_of (name_at (set ns p e) q)) ≡ name_at (set ns p e) q
       at_root q at = subst (λ x. name_at (set ns p e) (root_of x) ≡ x) (sym (name_new q at)) (ap (name_at (set ns p e)) root_e ∙ at_p s ns p e in_p wide)
 
+      -- another stone keeps its name, and its root is elsewhere
       old : (q : ℕ) → q ≢ p → name_at (set ns p e) q ≢ 0 → (name_at (set ns p e) q ≡ name_at ns q) × (name_at ns q ≢ 0) × (root_of (name_at ns q) ≢ p)
       old q apart some =
           let same' = off_p s ns p e in_p wide q apart in
           let was : name_at ns q ≢ 0 = λ z. some (same' ∙ z) in
           (same', was, λ r. was (sym (counted.rooted q was) ∙ ap (name_at ns) r ∙ free))
 
+      -- the new chain has one stone
       one_stone : stone_count (set ns p e) e ≡ 1
       one_stone = let more = stones_more ns p e wide (λ h. living (sym h ∙ free)) in let none = stones_none ns e (λ k below. fresh k) in omega (arith, more, none)
 
+      -- each other chain beside p has lost a liberty, and no other chain
       lost : (q : ℕ) → name_at ns q ≢ 0 → name_at fewer (root_of (name_at ns q)) ≡ liberty_count s (set ns p e) (name_at ns q)
       lost q was =
           let m = name_at ns q in
