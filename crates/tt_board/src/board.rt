@@ -149,10 +149,11 @@ impl Board {
         self.shows(other.size, &other.points)
     }
 
-    /// The colouring, with an entry for each point of the board.
+    /// The colouring, with an entry for each point of the board, in which each stone reaches empty.
     pub(crate) fn points(&self) -> &Colouring
         ensures value { result.now ≡ self.now.points }
         ensures fits { length self.now.points ≡ point_count self.now.size }
+        ensures alive { IsAlive self.now.size self.now.points }
     {
         &self.points
     }

@@ -49,6 +49,8 @@ impl Colour {
 }
 
 #[cfg(test)]
+mod chain_tests;
+#[cfg(test)]
 mod differences_tests;
 #[cfg(test)]
 mod move_tests;
