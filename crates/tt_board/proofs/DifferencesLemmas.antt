@@ -1,10 +1,10 @@
 -- Colourings kept by their differences.
-use Rattle.std.proofs.Common.{◌≡◌, ◌≢◌, ◌↔◌, ◌⊎◌, ℕ, zero, suc, ◌+◌, ◌<◌, ◌≤◌, List, [], ◌∷◌, ◌++◌, length, take, drop, set as put, Option, Some, None, Contains}
+use Rattle.std.proofs.Common.{◌≡◌, ◌≢◌, ◌↔◌, ◌⊎◌, ℕ, zero, suc, ◌+◌, ◌<◌, ◌≤◌, List, [], ◌∷◌, ◌++◌, length, take, drop, get_or, set as put, Option, Some, None, Contains}
 use Rattle.std.proofs.Common.{refl, sym, ap, subst, ◌∙◌, arith, inl, inr}
 use Rattle.std.proofs.lemmas.Bool.{cases_lt, cases_eq}
 use Rattle.std.proofs.lemmas.List.Elements.{Contains-append_left, Contains-append_right, Contains-append_cases, Contains-push}
 use Rattle.std.proofs.lemmas.List.{append-nil, append_assoc, length-set, get_or-set_same, get_or-set_other, ext_get_or}
-use Rattle.std.proofs.lemmas.List.{length-take, take_at, take-append-drop, take-append-le}
+use Rattle.std.proofs.lemmas.List.{length-take, take_at, take_more, take-append-drop, take-append-le}
 use Rattle.tt_board.specs.declared.Colour.{Colour}
 use Rattle.tt_board.specs.declared.differences.Edit.{Edit}
 use Rattle.tt_board.specs.declared.differences.Edit.TheVariants.{Black, White, Empty, Whole}
@@ -20,6 +20,10 @@ led_push : (c : Colouring) (es : List Edit) (e : Edit) → led c (es ++ e ∷ []
 led_push c [] e = refl
 led_push c (x ∷ es) e = led_push (edited c x) es e
 
+-- the next edit of a list changes what those before it led to
+pub led_more : (c : Colouring) (es : List Edit) (i : ℕ) (d : Edit) → i < length es → led c (take (i + 1) es) ≡ edited (led c (take i es)) (get_or es i d)
+led_more c es i d inside = ap (led c) (take_more es i d inside) ∙ led_push c (take i es) (get_or es i d)
+
 -- one more edit adds the colouring that it finishes, or none
 from_push : (c : Colouring) (es : List Edit) (e : Edit) → colourings_from c (es ++ e ∷ []) ≡ colourings_from c es ++ finished (led c es) e
 from_push c [] e = append-nil (finished c e)
@@ -31,7 +35,7 @@ length_edited : (c : Colouring) (e : Edit) → length (edited c e) ≡ length c
 length_edited c (Black p) = length-set c p (Some Colour.Black)
 length_edited c (White p) = length-set c p (Some Colour.White)
 length_edited c (Empty p) = length-set c p None
-length_edited c Whole = refl
+length_edited c (Whole sum) = refl
 
 -- so do edits one after another
 pub length_led : (c : Colouring) (es : List Edit) → length (led c es) ≡ length c
@@ -97,15 +101,15 @@ from_same c es new p e is =
     ap (colourings_from c) is ∙ from_push c es (edit_of p e) ∙ ap (λ cs. colourings_from c es ++ cs) (finished_none (led c es) p e) ∙ append-nil (colourings_from c es)
 
 -- once all entries are led on, the edits lead there and finish that colouring
-pub led_whole : (here there : Colouring) (old es new : List Edit) (p : ℕ)
+pub led_whole : (here there : Colouring) (old es new : List Edit) (p sum : ℕ)
     → ((c : Colouring) → led c old ≡ here → IsHalf here there p (led c es))
     → ((c : Colouring) → colourings_from c es ≡ colourings_from c old)
-    → new ≡ es ++ Whole ∷ [] → length here ≡ length there → length here ≤ p → IsLed old new here there
-led_whole here there old es new p half same is fits all = record {
-  points = λ c from. ap (led c) is ∙ led_push c es Whole ∙ done c from;
-  colourings = λ c from. ap (colourings_from c) is ∙ from_push c es Whole
-      ∙ ap (λ cs. cs ++ finished (led c es) Whole) (same c)
-      ∙ ap (λ (x : Colouring). colourings_from c old ++ finished x Whole) (done c from);
+    → new ≡ es ++ Whole sum ∷ [] → length here ≡ length there → length here ≤ p → IsLed old new here there
+led_whole here there old es new p sum half same is fits all = record {
+  points = λ c from. ap (led c) is ∙ led_push c es (Whole sum) ∙ done c from;
+  colourings = λ c from. ap (colourings_from c) is ∙ from_push c es (Whole sum)
+      ∙ ap (λ cs. cs ++ finished (led c es) (Whole sum)) (same c)
+      ∙ ap (λ (x : Colouring). colourings_from c old ++ finished x (Whole sum)) (done c from);
 }
   where
     done : (c : Colouring) → led c old ≡ here → led c es ≡ there

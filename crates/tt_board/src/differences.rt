@@ -3,7 +3,7 @@
 ghost use Rattle.std.specs.Prelude.{◌≡◌, ◌≤◌, ◌↔◌, ◌⊎◌, [], length, take, Contains, IsTrue, IfOk, OnOk, OnErr, MatchOption};
 ghost use Rattle.tt_board.specs.Position.{Colouring as Entries, colourings};
 ghost use Rattle.tt_board.specs.Differences.{edited, colourings_from};
-ghost use Rattle.tt_board.specs.Boards.{edit_of, IsLed, IsNext, IsLast};
+ghost use Rattle.tt_board.specs.Boards.{edit_of, led, IsLed, IsNext, IsLast};
 
 use super::Colour;
 use super::board::Board;
@@ -18,8 +18,8 @@ enum Edit {
     Black(u16),
     White(u16),
     Empty(u16),
-    /// The next colouring is whole.
-    Whole,
+    /// The next colouring is whole; this is its sum.
+    Whole(u16),
 }
 
 /// Colourings of boards of one size, in a few bytes for each: the first is kept by how it differs from a base, which every
@@ -58,7 +58,7 @@ fn edit_points(points: &mut Colouring, edit: Edit)
         Edit::Black(number) => (number, Some(Colour::Black)),
         Edit::White(number) => (number, Some(Colour::White)),
         Edit::Empty(number) => (number, None),
-        Edit::Whole => return,
+        Edit::Whole(_) => return,
     };
     let p = usize::from(number);
     if p < points.len() {
@@ -80,7 +80,7 @@ fn push_edits(edits: &mut Vec<Edit>, here: &Colouring, there: &Colouring) -> Res
         edits.push(edit_of(p as u16, there.at(p)))?;
         p = differing.first_from(p + 1);
     }
-    edits.push(Edit::Whole)?;
+    edits.push(Edit::Whole(there.sum()))?;
     Ok(())
 }
 
@@ -158,7 +158,7 @@ impl Differences {
         while at < self.edits.len() {
             let edit = self.edits[at];
             at += 1;
-            if let Edit::Whole = edit {
+            if let Edit::Whole(_) = edit {
                 return Some(at);
             }
             edit_points(points, edit);
@@ -166,23 +166,66 @@ impl Differences {
         None
     }
 
-    /// Adds a colouring that isn't held yet; without memory it is as it was.
-    fn put(&mut self, base: &Colouring, points: &Colouring) -> Result<(), NoMemory>
-        requires { length points.now ≡ length base.now }
+    /// Where the edits lead to from a base.
+    fn end(&self, base: &Colouring) -> Colouring
+        ensures { result ≡ led base.now self.now }
+    {
+        let mut points = base.copy();
+        for edit in &self.edits {
+            edit_points(&mut points, *edit);
+        }
+        points
+    }
+
+    /// Whether some colouring that is held has that sum.
+    fn has_sum(&self, sum: u16) -> bool {
+        for edit in &self.edits {
+            if let Edit::Whole(held) = edit {
+                if *held == sum {
+                    return true;
+                }
+            }
+        }
+        false
+    }
+
+    /// Whether the colouring is held.
+    fn holds(&self, base: &Colouring, points: &Colouring) -> bool
+        ensures { IsTrue result → Contains (colourings_from base.now self.now) points.now }
+    {
+        let mut held = base.copy();
+        let mut from = 0;
+        while let Some(next) = self.lead(from, &mut held) {
+            if held.same(points) {
+                return true;
+            }
+            from = next;
+        }
+        false
+    }
+
+    /// Adds a colouring where it isn't held yet; `last` is where the edits lead to from the base. Without memory it is as it
+    /// was. Sums are looked at first: most colourings are new, and their sums are, too.
+    fn put(
+        &mut self,
+        base: &Colouring,
+        last: &mut Colouring,
+        points: &Colouring,
+    ) -> Result<(), NoMemory>
+        requires fits { length points.now ≡ length base.now }
+        requires last { last.old ≡ led base.now self.old }
         ensures ok { OnOk result ((c : Entries) → Contains (colourings_from base.now self.new) c
             ↔ (Contains (colourings_from base.now self.old) c ⊎ (c ≡ points.now))) }
         ensures err { OnErr result (self.new ≡ self.old) }
         ensures kept { take (length self.old) self.new ≡ self.old }
+        ensures last { last.new ≡ led base.now self.new }
     {
-        let mut last = base.copy();
-        let mut from = 0;
-        while let Some(next) = self.lead(from, &mut last) {
-            if last.same(points) {
-                return Ok(());
-            }
-            from = next;
+        if self.has_sum(points.sum()) && self.holds(base, points) {
+            return Ok(());
         }
-        self.push(&last, points)
+        self.push(last, points)?;
+        *last = points.copy();
+        Ok(())
     }
 
     /// Adds the colouring of a board of the base's size, where it isn't held yet. Without memory it is as it was.
@@ -192,7 +235,9 @@ impl Differences {
             ↔ (Contains (colourings_from base.now.points self.old) c ⊎ (c ≡ board.now.points))) }
         ensures err { OnErr result (self.new ≡ self.old) }
     {
-        self.put(base.points(), board.points())
+        let own = base.points();
+        let mut last = self.end(own);
+        self.put(own, &mut last, board.points())
     }
 
     /// Adds each colouring that others hold from a base of the same size, but for those boards' colourings, where it isn't
@@ -212,10 +257,11 @@ impl Differences {
     {
         let before = self.edits.len();
         let own = base.points();
+        let mut last = self.end(own);
         let mut points = others_base.points().copy();
         let mut from = 0;
         while let Some(next) = others.lead(from, &mut points) {
-            if !is_among(&points, except) && self.put(own, &points).is_err() {
+            if !is_among(&points, except) && self.put(own, &mut last, &points).is_err() {
                 self.edits.truncate(before);
                 return Err(NoMemory);
             }

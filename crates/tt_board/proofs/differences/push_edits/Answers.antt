@@ -23,7 +23,8 @@ loop-p-preserved c =
 pub returns-clause-ok : goal.returns-clause-ok
 returns-clause-ok c =
     let es = c.loop-p.edits.items in
-    let is : c.push-2.new.self.items ≡ es ++ Whole ∷ [] = search rules in
-    led_whole c.args.here.now c.args.there.now c.args.edits.now.items es c.push-2.new.self.items c.loop-p.p
+    let sum = c.sum.result in
+    let is : c.push-2.new.self.items ≡ es ++ Whole sum ∷ [] = search rules in
+    led_whole c.args.here.now c.args.there.now c.args.edits.now.items es c.push-2.new.self.items c.loop-p.p sum
     c.loop-p.invariant.half c.loop-p.invariant.colourings is c.requires
     (omega (arith, c.loop-p-test.false, c.len-count.ensures.value))

@@ -5,6 +5,7 @@ use Rattle.std.proofs.lemmas.List.{take_all}
 use Rattle.tt_sgf.specs.Sizes.{point_count}
 use Rattle.tt_board.specs.Position.{Colouring, colourings}
 use Rattle.tt_board.specs.Differences.{colourings_from}
+use Rattle.tt_board.specs.Boards.{led}
 use Rattle.tt_board.proofs.DifferencesLemmas.{next_held, behind_held, held_cases, none_held, front_kept, IsAdded, next_added, next_left, both_ways}
 use Rattle.tt_board.proofs.differences.Differences.append.Goals as goal
 use Rattle.tt_board.proofs.differences.Differences.append.Goals.{else-not-is_among-via-then-not-is_among+else-is_err, else-not-is_among-via-else-not-is_among}
@@ -19,6 +20,7 @@ loop-next-init c =
     let start : c.copy-points.result ≡ c.args.others_base.now.points = c.copy-points.ensures ∙ c.points.ensures.value in
     record {
       inside = omega arith;
+      last = c.end-last.ensures ∙ ap (λ (b : Colouring). led b c.args.self.now) c.points-own.ensures.value;
       fits = ap length start ∙ c.points.ensures.fits ∙ ap point_count c.requires ∙ sym c.points-own.ensures.fits;
       kept = take_all (length c.args.self.now) c.args.self.now (omega arith);
       held = λ x. rw start (λ h. h, λ h. h);
@@ -43,21 +45,25 @@ loop-next-preserved c =
       | else-not-is_among-via-then-not-is_among+else-is_err w ↦
           let new = w.put.new.self in
           let is : c.else-not-is_among.self ≡ new = search rules in
+          let last : c.else-not-is_among.last ≡ w.put.new.last = search rules in
           let apart : Contains except points → ⊥ = λ has. false≢true (search rules) in
           let added : IsAdded base c.loop-next.self new points =
           subst (λ (b : Colouring). IsAdded b c.loop-next.self new points) c.points-own.ensures.value
           (on_no_err w.put.result (search rules) w.put.ensures.ok) in
           record {
             inside = n.inside;
+            last = last ∙ w.put.ensures.last ∙ ap (λ (b : Colouring). led b new) c.points-own.ensures.value ∙ ap (led base) (sym is);
             fits = fits;
             kept = ap (take (length c.args.self.now)) is ∙ front_kept c.args.self.now c.loop-next.self new inv.kept w.put.ensures.kept;
             held = λ x. rw is (both_ways (next_added held (colourings_from base new) behind rest except points added apart first later cases x) (inv.held x));
           }
       | else-not-is_among-via-else-not-is_among w ↦
           let is : c.else-not-is_among.self ≡ c.loop-next.self = search rules in
+          let last : c.else-not-is_among.last ≡ c.loop-next.last = search rules in
           let among : Contains except points = search rules in
           record {
             inside = n.inside;
+            last = last ∙ inv.last ∙ ap (led base) (sym is);
             fits = fits;
             kept = ap (take (length c.args.self.now)) is ∙ inv.kept;
             held = λ x. rw is (both_ways (next_left held behind rest except points among later cases x) (inv.held x));

@@ -1,11 +1,13 @@
 use Rattle.std.proofs.Common.{◌≡◌, ◌≤◌, ◌-◌, ◌↔◌, ◌⊎◌, length, take, drop, Contains}
 use Rattle.tt_board.specs.Position.{Colouring, colourings}
 use Rattle.tt_board.specs.Differences.{colourings_from}
+use Rattle.tt_board.specs.Boards.{led}
 use Rattle.tt_board.proofs.differences.Differences.append.Given as goal
 
 abbrev pub invariant-loop-next : goal.invariant-loop-next
 invariant-loop-next l = record {
   inside : l.from ≤ length l.others;
+  last : l.last ≡ led l.base.points l.self;
   fits : length l.points ≡ length l.base.points;
   kept : take (length l.initial.self) l.self ≡ l.initial.self;
   held : (c : Colouring) → (Contains (colourings_from l.base.points l.self) c

@@ -1,0 +1,11 @@
+use Rattle.std.proofs.Common.{get_or, sym, ap, ◌∙◌}
+use Rattle.tt_board.specs.declared.differences.Edit.TheVariants.{Black}
+use Rattle.tt_board.specs.Position.{Colouring}
+use Rattle.tt_board.specs.Differences.{edited}
+use Rattle.tt_board.proofs.DifferencesLemmas.{led_more}
+use Rattle.tt_board.proofs.differences.Differences.end.Goals as goal
+
+pub loop-edit-preserved : goal.loop-edit-preserved
+loop-edit-preserved c =
+    let items = c.deref-edit-items.result.now in let i = c.loop-edit.edit-index in
+    c.edit_points.ensures ∙ ap (λ (x : Colouring). edited x (get_or items i (Black 0))) c.loop-edit.invariant ∙ sym (led_more c.args.base.now items i (Black 0) c.loop-edit-test.true)
