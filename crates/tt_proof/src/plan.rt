@@ -1,6 +1,6 @@
 //! Trees with their measures.
 
-ghost use Rattle.std.specs.Prelude.{◌≡◌, ◌++◌, ◌∷◌, [], ◌-◌, ◌^◌, min, OnOk, IfOk};
+ghost use Rattle.std.specs.Prelude.{◌≡◌, ◌++◌, ◌∷◌, [], ◌-◌, ◌^◌, min, OnOk, OnErr, IfOk};
 ghost use Rattle.tt_proof.specs.Strategy.{done, pick, reply, depth, strategy_of, entries_of};
 ghost use Rattle.tt_proof.specs.Nodes.{nodes};
 
@@ -143,7 +143,8 @@ impl Replies {
 
     /// Adds a turn, with the plan that answers it.
     pub fn push(&mut self, turn: Turn, child: Plan) -> Result<(), NoMemory>
-        ensures { OnOk result (self.new ≡ self.old ++ (turn, child) ∷ []) }
+        ensures ok { OnOk result (self.new ≡ self.old ++ (turn, child) ∷ []) }
+        ensures err { OnErr result (self.new ≡ self.old) }
     {
         let Plan { tree, levels, size } = child;
         self.entries.push((turn, tree))?;

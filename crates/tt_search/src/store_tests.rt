@@ -17,9 +17,14 @@ const SPLIT: &[u8] = b"(;SZ[4:1]AW[ba][da]PL[B]TR[ba])";
 /// The first search of it over an empty store, with its numbers; how many nodes are expanded and how many proofs are kept.
 const STEPS: &str = "E1,2 E1,2 E0,inf S0,inf 3 3";
 
-/// A store with room for a hundred proofs, which refuses to keep any.
+/// A store with room for a hundred proofs, which refuses to keep any. It counts the questions, those out of turn, since the
+/// attacker is to be asked for before the defender, and the offers.
 #[derive(Drop)]
-struct Refusing;
+struct Refusing {
+    questions: u32,
+    astray: u32,
+    offers: u32,
+}
 
 impl Store for Refusing {
     ghost capacity = { λ _. 100 };
@@ -37,10 +42,16 @@ impl Store for Refusing {
     }
 
     fn find(&mut self, line: &Line, s: Side) -> Result<Option<Arc<Proof>>, NoMemory> {
+        let first = self.questions % 2 == 0;
+        self.questions = self.questions.wrapping_add(1);
+        if first != (s == Side::Attacker) {
+            self.astray = self.astray.wrapping_add(1);
+        }
         Ok(None)
     }
 
     fn keep(&mut self, p: Arc<Proof>) -> Kept {
+        self.offers = self.offers.wrapping_add(1);
         Kept::NoMemory
     }
 }
@@ -111,10 +122,18 @@ fn searches_over_one_place(rt: HostRuntime) -> Result<(), Fail> {
     Ok(())
 }
 
+/// Neither the search nor the offers stop where a proof isn't kept: three nodes are settled, by three expansions, and the
+/// store is asked twice for each.
 #[test]
 fn a_refused_keep_stops_no_search(rt: HostRuntime) -> Result<(), Fail> {
-    let steps = trace(rt.alloc(), SPLIT, 100, 512, &mut Refusing)?;
+    let mut store = Refusing {
+        questions: 0,
+        astray: 0,
+        offers: 0,
+    };
+    let steps = trace(rt.alloc(), SPLIT, 100, 512, &mut store)?;
     assert!(&rt; steps.as_str() == "E1,2 E1,2 E0,inf S0,inf 3 0", "{steps}");
+    assert!(&rt; store.questions == 6 && store.astray == 0 && store.offers == 3);
     Ok(())
 }
 

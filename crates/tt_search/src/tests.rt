@@ -142,6 +142,25 @@ fn searches_over_one_store(rt: HostRuntime) -> Result<(), Fail> {
     Ok(())
 }
 
+/// The same colouring reached by moves, none of which Black repeats: a proof of the problem above wins here too.
+const REACHED: &[u8] = b"(;SZ[4:1]AW[da];B[];W[ba]TR[ba])";
+
+/// A kept proof closes a leaf where it wins, whichever history it is from, and where it is as deep as the limit: three
+/// turns.
+#[test]
+fn closes_by_a_proof_of_another_history(rt: HostRuntime) -> Result<(), Fail> {
+    let alloc = rt.alloc();
+    let mut store = PrivateStore::new(alloc);
+    trace(alloc, SPLIT, 100, 512, &mut store)?;
+    for text in [SPLIT, REACHED] {
+        for depth in [512u16, 3] {
+            let steps = trace(alloc, text, 100, depth, &mut store)?;
+            assert!(&rt; steps.as_str() == "C0,inf S0,inf 0 3", "depth {depth}");
+        }
+    }
+    Ok(())
+}
+
 #[test]
 fn runs(rt: HostRuntime) -> Result<(), Fail> {
     let alloc = rt.alloc();

@@ -118,7 +118,7 @@ pub(crate) fn verdict(alloc: Global, line: &Line, answer: Answer) -> Result<Vec<
 }
 
 /// The answer to a problem: the verdict and the first turn.
-fn solved<S: Store>(
+pub(crate) fn solved<S: Store>(
     alloc: Global,
     text: &[u8],
     budget: u32,

@@ -42,6 +42,10 @@ mod desk_tests;
 #[cfg(test)]
 mod planted_tests;
 #[cfg(test)]
+mod root_tests;
+#[cfg(test)]
 mod table_tests;
 #[cfg(test)]
 mod together_tests;
+#[cfg(test)]
+mod worker_tests;

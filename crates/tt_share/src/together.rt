@@ -21,7 +21,7 @@ use tt_search::Limits;
 use tt_sgf::NoMemory;
 
 /// Searches the jobs by workers, and puts their results at their places.
-fn search_together<R: Threads + Wait + Sync, G: Gate>(
+pub(crate) fn search_together<R: Threads + Wait + Sync, G: Gate>(
     rt: &R,
     results: &mut Results<'_>,
     workers: usize,

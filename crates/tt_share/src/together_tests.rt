@@ -3,14 +3,15 @@
 ghost use Rattle.std.specs.Prelude.{◌≤◌};
 
 use crate::alone_tests::{posed, verdict};
-use crate::{Gate, NoGate, Table, solve};
+use crate::{Gate, LockedStore, NoGate, Table, solve};
 use std::alloc::Global;
 use std::sync::Wait;
 use std::sync::atomic::{AtomicU64, Ordering};
 use std::test::Fail;
 use std::thread;
 use std::thread::Threads;
-use tt_search::Limits;
+use tt_game::Side;
+use tt_search::{Limits, Store};
 
 /// The answer to a problem by so many workers over the table: the verdict and the first turn.
 fn solved<R: Threads + Wait + Sync, G: Gate>(
@@ -272,21 +273,69 @@ fn a_job_begins_before_it_ends(rt: HostRuntime) -> Result<(), Fail> {
     Ok(())
 }
 
-/// The proof of a solved line is offered to the table, which has it for the same line: no job begins.
-#[test]
-fn a_solved_line_is_found(rt: HostRuntime) -> Result<(), Fail> {
-    let alloc = rt.alloc();
+/// How many jobs begin where two workers solve a problem that was solved before over the same table.
+fn begun_again<R: Threads + Wait + Sync>(
+    rt: &R,
+    alloc: Global,
+    problem: &[u8],
+    want: &[u8],
+) -> Result<u64, Fail> {
     let table = Table::new(alloc)?;
-    let problem = b"(;SZ[4:1]AW[ba][da]PL[B]TR[ba])";
     let limits = Limits::new(100_000, 512);
-    solved(&rt, alloc, problem, limits, 2, &table, &NoGate)?;
+    let first = solved(rt, alloc, problem, limits, 2, &table, &NoGate)?;
     let gate = Counting {
         begun: AtomicU64::new(0),
         ended: AtomicU64::new(0),
     };
-    let limits = Limits::new(100_000, 512);
-    let again = solved(&rt, alloc, problem, limits, 2, &table, &gate)?;
-    assert!(&rt; again.as_slice() == b"killed ca".as_slice());
-    assert!(&rt; gate.begun.load(Ordering::SeqCst) == 0);
+    let again = solved(rt, alloc, problem, limits, 2, &table, &gate)?;
+    if first.as_slice() != want || again.as_slice() != want {
+        return Err(Fail::new("another answer"));
+    }
+    Ok(gate.begun.load(Ordering::SeqCst))
+}
+
+/// The proof of a solved line is offered to the table, whichever side it is for, and the table has it for the same line: no
+/// job begins.
+#[test]
+fn a_solved_line_is_found(rt: HostRuntime) -> Result<(), Fail> {
+    let alloc = rt.alloc();
+    let rows: [(&[u8], &[u8]); 2] = [
+        (b"(;SZ[4:1]AW[ba][da]PL[B]TR[ba])", b"killed ca"),
+        (b"(;SZ[4:1]AW[ba]PL[B]TR[ba])", b"lives"),
+    ];
+    for (problem, want) in rows {
+        assert!(&rt; begun_again(&rt, alloc, problem, want)? == 0);
+    }
     Ok(())
+}
+
+/// Fails unless the newest proof that the table has for a problem stands at that problem, after two workers solved another
+/// one over it.
+fn newest_stands<R: Threads + Wait + Sync>(
+    rt: &R,
+    alloc: Global,
+    problem: &[u8],
+    other: &[u8],
+) -> Result<(), Fail> {
+    let table = Table::new(alloc)?;
+    let limits = Limits::new(100_000, 512);
+    solved(rt, alloc, problem, limits, 2, &table, &NoGate)?;
+    let got = solved(rt, alloc, other, limits, 2, &table, &NoGate)?;
+    if got.as_slice() != b"killed ca".as_slice() {
+        return Err(Fail::new("another answer"));
+    }
+    let line = posed(alloc, problem)?;
+    match LockedStore::new(rt, &table).find(&line, Side::Attacker)? {
+        Some(found) if found.stands_at(&line) => Ok(()),
+        Some(_) => Err(Fail::new("found at another line")),
+        None => Err(Fail::new("not found")),
+    }
+}
+
+/// An answer that came from the table isn't offered to it: its proof would stand at a line with another history.
+#[test]
+fn a_found_answer_is_not_offered(rt: HostRuntime) -> Result<(), Fail> {
+    let split = b"(;SZ[4:1]AW[ba][da]PL[B]TR[ba])";
+    let reached = b"(;SZ[4:1]AW[da];B[];W[ba]TR[ba])";
+    newest_stands(&rt, rt.alloc(), split, reached)
 }

@@ -25,7 +25,12 @@ pub(crate) struct HandedBack {
 }
 
 /// Searches a job, and tells the gate before and after.
-fn search_drawn<S: Store, G: Gate>(jobs: &Jobs<'_>, gate: &G, job: usize, store: &mut S) -> End
+pub(crate) fn search_drawn<S: Store, G: Gate>(
+    jobs: &Jobs<'_>,
+    gate: &G,
+    job: usize,
+    store: &mut S,
+) -> End
     requires job { job < length jobs.now.turns.items }
     ensures { IsResultOf jobs.now.line.now jobs.now.limits job result }
 {

@@ -50,7 +50,7 @@ settled::replied-loop-edge-preserved t c =
     (sym c.behind-rest.ensures) in
     record {
       made =
-          ap (λ zs. joined zs rest) c.in_ok-push.ensures
+          ap (λ zs. joined zs rest) c.in_ok-push.ensures.ok
           ∙ joined_push c.loop-edge.answers (c.turn.result, c.in_ok-child.child) rest
           ∙ ap (λ u. joined c.loop-edge.answers (entry u c.in_ok-child.child rest)) c.turn.ensures
           ∙ ap (λ u. joined c.loop-edge.answers (entry (turn_of e) u rest)) c.in_ok-child.ensures

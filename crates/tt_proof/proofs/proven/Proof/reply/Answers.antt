@@ -22,7 +22,7 @@ loop-turn-preserved c =
           append_snoc c.loop-turn.yielded (c.in-Some.turn, c.in-Some.child) _
           ∙ ap (λ r. c.loop-turn.yielded ++ r) (sym c.in-Some.ensures.steps.0) ∙ c.loop-turn.invariant.order;
       same =
-          c.in_ok-push.ensures
+          c.in_ok-push.ensures.ok
           ∙ ap (λ xs. xs ++ ((c.in-Some.turn, c.child.inside.plan) ∷ [])) c.loop-turn.invariant.same
           ∙ ap (λ y. trees_of c.loop-turn.yielded ++ ((c.in-Some.turn, y) ∷ [])) (ap (λ (p : Proven). p.tree) c.child.view_is)
           ∙ sym (trees_of_push c.loop-turn.yielded (c.in-Some.turn, c.in-Some.child));

@@ -1,0 +1,74 @@
+//! What a store is asked for the problem itself, and which of its proofs are used.
+
+ghost use Rattle.std.specs.Prelude.{◌≡◌};
+
+use crate::alone_tests::{posed, solved};
+use crate::worker_tests::{Asked, LONE};
+use crate::{Answer, solve_one};
+use std::alloc::Global;
+use std::sync::Arc;
+use std::sync::atomic::AtomicU64;
+use std::test::Fail;
+use tt_proof::Proof;
+use tt_search::{Kept, Limits, NoStore, PrivateStore, Store};
+
+/// White's two stones with liberties on both sides: Black to move kills, by a strategy that is three turns deep.
+const SPLIT: &[u8] = b"(;SZ[4:1]AW[ba][da]PL[B]TR[ba])";
+
+/// The same position reached by moves. The strategy repeats no board of theirs, so it wins here too.
+const REACHED: &[u8] = b"(;SZ[4:1]AW[da];B[];W[ba]TR[ba])";
+
+/// The problem is asked for before its turns, and each time the attacker's proof before the defender's. There are six
+/// pairs of questions: for the problem, at two steps behind each play, and at the one step that settles the pass.
+#[test]
+fn the_attacker_is_asked_for_first(rt: HostRuntime) -> Result<(), Fail> {
+    let told = AtomicU64::new(1);
+    let mut store = Asked {
+        told: &told,
+        within: 0,
+        astray: 0,
+    };
+    let got = solved(rt.alloc(), LONE, 1, 512, &mut store)?;
+    assert!(&rt; got.as_slice() == b"budget".as_slice());
+    assert!(&rt; store.within == 12 && store.astray == 0);
+    Ok(())
+}
+
+/// The proof of a problem that is settled.
+fn proof_of(alloc: Global, text: &[u8]) -> Result<Arc<Proof>, Fail> {
+    let line = posed(alloc, text)?;
+    let Some(limits) = Limits::new(100, 512) else {
+        return Err(Fail::new("no limits"));
+    };
+    if line.winner().is_some() {
+        return Err(Fail::new("nothing to solve"));
+    }
+    match solve_one(alloc, &line, &limits, &mut NoStore) {
+        Answer::Settled { proof, first: _ } => Ok(proof),
+        Answer::Unsettled(_) => Err(Fail::new("unsettled")),
+    }
+}
+
+/// The answer with a budget of one expansion and this depth, over a store that has the proof of another problem alone.
+fn solved_with(alloc: Global, text: &[u8], depth: u16, other: &[u8]) -> Result<Vec<u8>, Fail> {
+    let mut store = PrivateStore::new(alloc);
+    match store.keep(proof_of(alloc, other)?) {
+        Kept::Stored => solved(alloc, text, 1, depth, &mut store),
+        Kept::Full | Kept::NoMemory => Err(Fail::new("not kept")),
+    }
+}
+
+/// A found proof is used where it is as deep as the limit, and where it was found under another history. Without it the
+/// budget isn't enough.
+#[test]
+fn a_found_proof_is_used(rt: HostRuntime) -> Result<(), Fail> {
+    let alloc = rt.alloc();
+    let rows: [(&[u8], u16); 4] = [(SPLIT, 512), (SPLIT, 3), (REACHED, 512), (REACHED, 3)];
+    for (problem, depth) in rows {
+        let without = solved(alloc, problem, 1, depth, &mut NoStore)?;
+        assert!(&rt; without.as_slice() == b"budget".as_slice());
+        let got = solved_with(alloc, problem, depth, SPLIT)?;
+        assert!(&rt; got.as_slice() == b"killed ca".as_slice());
+    }
+    Ok(())
+}

@@ -1,0 +1,142 @@
+//! What workers do for a job, and what becomes of their results.
+
+ghost use Rattle.std.specs.Prelude.{◌≡◌, ◌≤◌};
+
+use crate::alone_tests::posed;
+use crate::gate::{Gate, NoGate};
+use crate::jobs::Jobs;
+use crate::locked::Table;
+use crate::results::Results;
+use crate::together::search_together;
+use crate::workers::search_drawn;
+use std::alloc::Global;
+use std::sync::atomic::{AtomicU64, Ordering};
+use std::sync::{Arc, Wait};
+use std::test::Fail;
+use std::thread::Threads;
+use tt_game::{Line, Side};
+use tt_proof::Proof;
+use tt_search::{End, Kept, Limits, Store};
+use tt_sgf::NoMemory;
+
+/// A lone white stone, which lives: three turns, and none wins.
+pub(crate) const LONE: &[u8] = b"(;SZ[4:1]AW[ba]PL[B]TR[ba])";
+
+/// Counts what it is told.
+#[derive(Drop)]
+struct Told<'a> {
+    told: &'a AtomicU64,
+}
+
+impl Gate for Told<'_> {
+    fn begin(&self, _job: usize) {
+        self.told.fetch_add(1, Ordering::SeqCst);
+    }
+
+    fn end(&self, _job: usize) {
+        self.told.fetch_add(1, Ordering::SeqCst);
+    }
+}
+
+/// Counts the questions after one thing was told, the attacker's and then the defender's, and those at another time or out
+/// of turn. It keeps nothing.
+#[derive(Drop)]
+pub(crate) struct Asked<'a> {
+    pub told: &'a AtomicU64,
+    pub within: u64,
+    pub astray: u64,
+}
+
+impl Store for Asked<'_> {
+    ghost capacity = { λ _. 0 };
+
+    ghost kept = { λ _. 0 };
+
+    ghost may_answer = { ⊥ };
+
+    fn capacity(&self) -> usize {
+        0
+    }
+
+    fn kept(&self) -> usize {
+        0
+    }
+
+    fn find(&mut self, line: &Line, s: Side) -> Result<Option<Arc<Proof>>, NoMemory> {
+        let due = if self.within % 2 == 0 {
+            Side::Attacker
+        } else {
+            Side::Defender
+        };
+        if self.told.load(Ordering::SeqCst) == 1 && s == due {
+            self.within = self.within.wrapping_add(1);
+        } else {
+            self.astray = self.astray.wrapping_add(1);
+        }
+        Ok(None)
+    }
+
+    fn keep(&mut self, p: Arc<Proof>) -> Kept {
+        Kept::Full
+    }
+}
+
+/// A search asks its store at each of its steps, for the attacker and then for the defender: here at two, behind `begin`
+/// and before `end`.
+#[test]
+fn a_job_is_searched_between_begin_and_end(rt: HostRuntime) -> Result<(), Fail> {
+    let alloc = rt.alloc();
+    let Some(limits) = Limits::new(1, 511) else {
+        return Err(Fail::new("no limits"));
+    };
+    let line = posed(alloc, LONE)?;
+    if line.winner().is_some() || limits.depth() == 0 {
+        return Err(Fail::new("nothing to search"));
+    }
+    let jobs = Jobs::of(alloc, &line, limits);
+    let told = AtomicU64::new(0);
+    let mut store = Asked {
+        told: &told,
+        within: 0,
+        astray: 0,
+    };
+    match search_drawn(&jobs, &Told { told: &told }, 0, &mut store) {
+        End::Settled(_) => return Err(Fail::new("settled")),
+        End::Stuck(_, _) => {}
+    }
+    assert!(&rt; told.load(Ordering::SeqCst) == 2);
+    assert!(&rt; store.within == 4 && store.astray == 0);
+    Ok(())
+}
+
+/// How many jobs there are, and how many of them have results after so many workers searched them.
+fn gathered<R: Threads + Wait + Sync>(
+    rt: &R,
+    alloc: Global,
+    workers: usize,
+) -> Result<(usize, usize), Fail>
+    requires { (1 ≤ workers) × (workers ≤ 64) }
+{
+    let Some(limits) = Limits::new(1, 512) else {
+        return Err(Fail::new("no limits"));
+    };
+    let line = posed(alloc, LONE)?;
+    if line.winner().is_some() || limits.depth() == 0 {
+        return Err(Fail::new("nothing to search"));
+    }
+    let table = Table::new(alloc)?;
+    let mut results = Results::of(alloc, &line, limits)?;
+    search_together(rt, &mut results, workers, &table, &NoGate)?;
+    let known = results.ends.iter().filter(|end| end.is_some()).count();
+    Ok((results.count(), known))
+}
+
+/// Where no turn wins, each job has the result that a worker handed back, and none is left to the caller.
+#[test]
+fn each_result_is_gathered(rt: HostRuntime) -> Result<(), Fail> {
+    let alloc = rt.alloc();
+    for workers in [1usize, 2, 64] {
+        assert!(&rt; gathered(&rt, alloc, workers)? == (3, 3));
+    }
+    Ok(())
+}
