@@ -1,5 +1,6 @@
 -- How far the entries of a reply were read.
 use Rattle.std.proofs.Common.{◌≡◌, ◌≤◌, ◌<◌, ◌+◌, ℕ, zero, suc, ◌⊎◌, inl, inr, arith, List, [], ◌∷◌, ◌++◌, ◌∙◌, refl, sym, ap, subst, append_assoc}
+use Rattle.tt_sgf.specs.Bytes.{semicolon}
 use Rattle.tt_sgf.specs.declared.size.Size.{Size}
 use Rattle.tt_game.specs.declared.turns.Turn.{Turn}
 use Rattle.tt_proof.specs.declared.tree.Tree.{Tree}
@@ -33,7 +34,7 @@ walked_fault size d least start now list NoMemory w h = tt
 
 -- where `;` stands at the place that was reached, the entries are those of the list
 pub walked_end : (size : Size) (d least : ℕ) (start now rest : List ℕ) (list : List (Turn × Tree)) → Walked size d start least now list →
-    now ≡ 59 ∷ rest → EntriesAt size d 0 (entries_of_trees list) start rest
+    now ≡ semicolon ∷ rest → EntriesAt size d 0 (entries_of_trees list) start rest
 walked_end size d least start now rest list w e =
     subst (λ es. EntriesAt size d 0 es start rest) (before_none list)
     (w.read none rest (record { in_order = tt; low = omega arith; text = e }))
@@ -126,7 +127,7 @@ module _ (size : Size) (some : 1 ≤ size.columns) where
   -- ---- faults at an entry
 
   -- where neither `;` nor a turn stands, there are no entries
-  pub no_entry : (d least : ℕ) (now : List ℕ) → ((y : List ℕ) → now ≡ 59 ∷ y → ⊥) → NoTurn size now → EntriesFaultAt size d least now Syntax
+  pub no_entry : (d least : ℕ) (now : List ℕ) → ((y : List ℕ) → now ≡ semicolon ∷ y → ⊥) → NoTurn size now → EntriesFaultAt size d least now Syntax
   no_entry d least now end turn =
       (λ es y h. no es y h.in_order h.text, λ h. deep h.entries d h.beginning h.follows h.in_order h.ends h.text)
     where

@@ -8,6 +8,7 @@ use Rattle.tt_game.specs.declared.frame.Side.TheVariants.{Attacker, Defender}
 use Rattle.tt_game.specs.declared.frame.Frame.{Frame}
 use Rattle.tt_game.specs.declared.turns.Turn.{Turn}
 use Rattle.tt_game.specs.declared.turns.Turn.TheVariants.{Play, Pass}
+use Rattle.tt_proof.specs.declared.tree.TheConstants.{MOST_DEPTH}
 use Rattle.tt_proof.specs.Proven.{Proven, IsWon, IsChild, AreChildren, turns_of, trees_of}
 use Rattle.tt_proof.specs.Replaying.{HasEntry, LegalWin}
 use Rattle.tt_proof.specs.Strategy.{done, pick, reply, entries_of, depth_of_entries, IsOnBoard, AreInOrder, number_on}
@@ -86,8 +87,8 @@ module _ (f : Frame) (s : State) where
   children_win [] h w = tt
   children_win (e ∷ es) h w = (λ l. (child_won f s (opponent s.to_move) e.0 e.1 h.0 w.0).wins, children_win es h.1 w.1)
 
-  -- replies with children's trees are at most 512 deep
-  children_low : (es : List (Turn × Proven)) → AreChildren f s es → depth_of_entries (entries_of (trees_of es)) ≤ 512
+  -- replies with children's trees are at most `MOST_DEPTH` deep
+  children_low : (es : List (Turn × Proven)) → AreChildren f s es → depth_of_entries (entries_of (trees_of es)) ≤ MOST_DEPTH
   children_low [] h = omega arith
   children_low (e ∷ es) h = let low = h.0.low in omega (arith, low, children_low es h.1)
 
