@@ -20,10 +20,6 @@ pub record Walked (size : Size) (d : ℕ) (start : List ℕ) (least : ℕ) (now 
   pub deep : EntriesDeepAt size d least now → EntriesDeepAt size d 0 start
   pub deep_only : EntriesDeepAt size d 0 start → EntriesDeepAt size d least now
 
--- before the first entry, the place that was reached is the start
-pub walked_none : (size : Size) (d : ℕ) (r : List ℕ) → Walked size d r 0 r []
-walked_none size d r = record { read = λ es y h. h; only = λ es y h. (es, h); deep = λ h. h; deep_only = λ h. h }
-
 -- a fault at the place that was reached is one at the start
 pub walked_fault : (size : Size) (d least : ℕ) (start now : List ℕ) (list : List (Turn × Tree)) (f : CertFault) →
     Walked size d start least now list → EntriesFaultAt size d least now f → EntriesFaultAt size d 0 start f
