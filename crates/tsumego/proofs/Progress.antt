@@ -3,7 +3,7 @@ use Rattle.std.proofs.Common.{◌≡◌, ◌≢◌, ◌≤◌, ◌<◌, ◌+◌,
 use Rattle.std.proofs.Common.{take, drop, arith, append-nil, append_assoc, subst, length-append, suc, if◌then◌else◌}
 use Rattle.std.specs.declared.result.Result.{Result}
 use Rattle.std.proofs.Math.Seq.{take-append-add}
-use Rattle.std.proofs.KnownBytes.{Appends-kept, Appends-nil, Appends-trans}
+use Rattle.std.proofs.KnownBytes.{Appends-kept, Appends-trans}
 use Rattle.std.proofs.lemmas.List.{take_all, length-drop}
 use Rattle.std.proofs.lemmas.List.Folds.{list_any-append}
 use Rattle.std.specs.List.{list_any}
@@ -57,10 +57,6 @@ pub record Progress (allowed : List Node → Outcome → Type 0) (input rest : L
   pub small : (os ≡ []) ⊎ (length input ≤ most_bytes)
   pub bad : refused ≡ list_any is_refused os
   pub told : Appends a b (lines_from 1 os)
-
--- before the first tree nothing is read or written
-pub progress_start : (allowed : List Node → Outcome → Type 0) (input : List ℕ) (a : Option (List ℕ)) → Progress allowed input input 1 false a a
-progress_start allowed input a = record { os = []; count = refl; reads = refl; small = inl refl; bad = refl; told = Appends-nil a }
 
 module _ {allowed : List Node → Outcome → Type 0} {input rest : List ℕ} {number : ℕ} {refused : Bool} {a b : Option (List ℕ)} (p : Progress allowed input rest number refused a b) where
   -- how a run that writes on the trees ends

@@ -1,5 +1,5 @@
 -- Lemmas on the text of a verdict.
-use Rattle.std.proofs.Common.{◌≡◌, ◌≤◌, ℕ, Bool, true, false, List, [], ◌++◌, Option, IfSome, IsSome, refl, sym, ap₂, ◌∙◌, subst, if◌then◌else◌}
+use Rattle.std.proofs.Common.{◌≡◌, ◌≤◌, ℕ, Bool, true, false, List, [], ◌++◌, Option, IsSome, refl, sym, ap₂, ◌∙◌, subst, if◌then◌else◌}
 use Rattle.tt_sgf.specs.declared.size.Size.{Size}
 use Rattle.tt_game.specs.declared.frame.Frame.{Frame}
 use Rattle.tt_game.specs.declared.frame.Side.{Side}
@@ -10,7 +10,7 @@ use Rattle.tt_game.specs.Line.{Standing}
 use Rattle.tt_game.proofs.SomeSide.{state_after, values_forced}
 use Rattle.tt_proof.specs.CertificateText.{certificate_text}
 use Rattle.tt_proof.specs.Proven.{IsWon, Proven, first_of}
-use Rattle.tt_proof.specs.Strategy.{Strategy, done, pick, reply, depth, IsInOrder, IsOnBoard}
+use Rattle.tt_proof.specs.Strategy.{Strategy, done, pick, reply, depth}
 use Rattle.tt_proof.specs.Wins.{Wins}
 use Rattle.tt_proof.proofs.ForcesLemmas.{win_forces}
 use Rattle.tt_search.specs.declared.limits.Limits.{Limits}
@@ -20,16 +20,6 @@ use Rattle.tt_share.specs.declared.answer.Stuck.{Stuck}
 use Rattle.tt_share.specs.Answers.{IsSettled}
 use Rattle.tt_share.specs.Answers as answer
 use Rattle.tsumego.specs.Solving.{Follows, IsFirst, IsUnsettled, Verdict, certificate_line, decided, decided_text, unsettled, unsettled_text}
-
--- the first turn of a strategy in order is on the board
-pub first_on_board : (size : Size) (u : Strategy) (first : Option Turn) → first ≡ first_of u → IsInOrder size u → IfSome first (IsOnBoard size)
-first_on_board size u first e h = subst (λ (o : Option Turn). IfSome o (IsOnBoard size)) (sym e) (begins u h)
-  where
-    -- so it is with each strategy
-    begins : (v : Strategy) → IsInOrder size v → IfSome (first_of v) (IsOnBoard size)
-    begins done h = tt
-    begins (pick t v) h = h.0
-    begins (reply es) h = tt
 
 -- a strategy that wins says the value
 won_value : (side : Side) (f : Frame) (u : Strategy) (s : State) → IsState f s → Wins side f u s → HasValue f s (value_for side)

@@ -30,9 +30,6 @@ abbrev pub IsSoFar : List ℕ → ℕ → List ℕ → List ℕ → Bool → Typ
 IsSoFar input k rest text refused =
     (more : List ℕ) (other : Bool) → Tells k rest more other → Tells 1 input (text ++ more) (refused || other)
 
-pub at_start : (input : List ℕ) → IsSoFar input 1 input [] false
-at_start input = λ more other h. h
-
 -- one more tree
 pub tree_more : (input : List ℕ) (k : ℕ) (rest text : List ℕ) (refused : Bool) (used : ℕ) (t : GameTree) (nodes : List Node) (text' : List ℕ) (bad : Bool)
     → IsSoFar input k rest text refused → SpelledUpTo rest used t → nodes ≡ main_line t
@@ -54,9 +51,6 @@ pub record Progress (input rest text : List ℕ) (k : ℕ) (refused : Bool) : Ty
   pub some : 1 ≤ k
   pub small : ((k ≡ 1) × (rest ≡ input) × (text ≡ [])) ⊎ (length input ≤ most_bytes)
   pub far : IsSoFar input k rest text refused
-
-pub progress_start : (input : List ℕ) → Progress input input [] 1 false
-progress_start input = record { some = omega arith; small = inl (refl, refl, refl); far = at_start input }
 
 module _ {input rest text : List ℕ} {k : ℕ} {refused : Bool} (p : Progress input rest text k refused) where
   small_whole : length rest ≤ most_bytes → length input ≤ most_bytes
@@ -120,8 +114,3 @@ pub problem_behind : {A E : Type 0} (r : Result A E) (k : ℕ) (p : Standing) (b
 problem_behind (Ok y) k p behind old mid new e w =
     (problem_text k p ++ w.0, (w.0, w.1, refl), w.2 ∙ ap (λ (x : List ℕ). x ++ w.0) e ∙ append_assoc old (problem_text k p) w.0)
 problem_behind (Err y) k p behind old mid new e w = w
-
--- the same of the tree that is this problem
-pub tree_is : (r s : Result Standing GameFault) (k : ℕ) (behind old new : List ℕ) → r ≡ s → (x : List ℕ) × IsTreeText k s behind x × (new ≡ old ++ x)
-    → (x : List ℕ) × IsTreeText k r behind x × (new ≡ old ++ x)
-tree_is r s k behind old new e w = (w.0, subst (λ (q : Result Standing GameFault). IsTreeText k q behind w.0) (sym e) w.1, w.2)

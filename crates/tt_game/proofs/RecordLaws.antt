@@ -40,7 +40,7 @@ use Rattle.tt_game.specs.Records.{all_alive, and_then, as_turn, begin_at, begin_
 use Rattle.tt_game.specs.Records.{turn_by, turn_named, turn_of}
 use Rattle.tt_game.specs.RecordLaws.{UnmarkedAreNoProblems}
 use Rattle.tt_game.specs.RecordLaws.{ArePlays, IsByTheRules, IsOfLeastNode, IsPlay, LeastNodesRefuse, ProblemsAreGames, ProblemsAreRecords, RecordsAreGames, SetupsBeginHistories, SuperkoDecides}
-use Rattle.tt_game.specs.Turns.{IsOn}
+use Rattle.tt_game.specs.Turns.{IsOnBoard}
 use Rattle.tt_game.proofs.OpenProblems.{step_made}
 
 -- ---- choices
@@ -129,7 +129,7 @@ turn_made r t q e = elim (choice (r.game.passes == 2) _ _ _ e) [
     gone (Some why) h = let bad : Err _ ≡ Ok q = h in cc
 
 -- a lawful turn keeps a history by the rules and the count within 2,000
-goes_on : (r : Replay) (t : Turn) → IsOn r.game.size t → refusal_of r.game t ≡ None → r.turns < 2000 → GoesOn r (after_turn r t)
+goes_on : (r : Replay) (t : Turn) → IsOnBoard r.game.size t → refusal_of r.game t ≡ None → r.turns < 2000 → GoesOn r (after_turn r t)
 goes_on r Pass on taken few = record { lawful = λ h. (h.0, omega (arith, few)); grows = inl refl }
 goes_on r (Play p) on taken few =
     let s = r.game in
@@ -146,11 +146,11 @@ goes_on r (Play p) on taken few =
     }
 
 -- so does a turn that was taken
-one_turn : (r : Replay) (t : Turn) (q : Replay) → IsOn r.game.size t → turn_of r t ≡ Ok q → GoesOn r q
+one_turn : (r : Replay) (t : Turn) (q : Replay) → IsOnBoard r.game.size t → turn_of r t ≡ Ok q → GoesOn r q
 one_turn r t q on e = let made = turn_made r t q e in subst (λ (x : Replay). GoesOn r x) made.2 (goes_on r t on made.0 made.1)
 
 -- and a turn of a colour, with the pass before it where that is needed
-turns_by : (r : Replay) (k : Colour) (t : Turn) (q : Replay) → IsOn r.game.size t → turn_by r k t ≡ Ok q → GoesOn r q
+turns_by : (r : Replay) (k : Colour) (t : Turn) (q : Replay) → IsOnBoard r.game.size t → turn_by r k t ≡ Ok q → GoesOn r q
 turns_by r k t q on e = elim (choice (same_colour r.game.to_move k) _ _ _ e) [
   | inl its ↦ one_turn r t q on its.1
   | inr others ↦
@@ -174,7 +174,7 @@ place_on size c d p e = elim (choice ((nat_le 97 c && nat_lt (c - 97) size.colum
 ]
 
 -- a value's turn is on the board
-value_on : (size : Size) (text : List ℕ) (v : PointOrPass) → point_of size text ≡ Some v → IsOn size (as_turn v)
+value_on : (size : Size) (text : List ℕ) (v : PointOrPass) → point_of size text ≡ Some v → IsOnBoard size (as_turn v)
 unfolding point_of
 value_on size text values.Pass e = tt
 value_on size [] (On p) e = let bad : Some values.Pass ≡ Some (On p) = e in cc

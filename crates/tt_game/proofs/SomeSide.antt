@@ -66,10 +66,6 @@ twice Defender = refl
 room : Frame → State → ℕ
 room f s = 2 * new_count (history s) (point_count f.size) + (2 - s.passes)
 
--- one side or the other, for a side that is named
-OneForces : Frame → Side → ℕ → State → Type 0
-OneForces f side n s = Forces f side n s ⊎ Forces f (opponent side) n s
-
 -- one side or the other, told for either of the two sides
 turned : (f : Frame) (side to : Side) (n : ℕ) (s : State) → Forces f Attacker n s ⊎ Forces f Defender n s → Forces f side n s ⊎ Forces f (opponent side) n s
 turned f Attacker to n s h = h

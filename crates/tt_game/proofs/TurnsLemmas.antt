@@ -1,31 +1,16 @@
 -- The walk over the points, one point after the other.
-use Rattle.std.proofs.Common.{◌≡◌, ℕ, zero, suc, ◌+◌, ◌-◌, ◌<◌, ◌≤◌, List, [], ◌∷◌, ◌++◌, length, map, None, Bool, true, false, cond, refl, sym, ap, ◌∙◌, arith}
+use Rattle.std.proofs.Common.{◌≡◌, ℕ, zero, suc, ◌+◌, ◌-◌, ◌<◌, ◌≤◌, List, [], ◌∷◌, ◌++◌, map, None, Bool, true, false, cond, refl, sym, ap, ◌∙◌, arith}
 use Rattle.std.specs.List.{filter}
-use Rattle.std.proofs.lemmas.List.{map-append, append-nil, length-map}
+use Rattle.std.proofs.lemmas.List.{map-append, append-nil}
 use Rattle.std.proofs.lemmas.List.Elements.{filter-append}
-use Rattle.std.proofs.lemmas.List.FromFn.{filter_of_map_range_with_len_more, length-map-range_with_len}
-use Rattle.std.proofs.lemmas.List.Sums.{length-filter, count_by-le-length}
+use Rattle.std.proofs.lemmas.List.FromFn.{filter_of_map_range_with_len_more}
 use Rattle.tt_sgf.specs.Sizes.{point_count}
 use Rattle.tt_game.specs.declared.frame.Frame.{Frame}
-use Rattle.tt_game.specs.declared.faults.Why.{Why}
-use Rattle.tt_game.specs.declared.faults.Why.TheVariants.{Over, Occupied, Outside, Repeats}
 use Rattle.tt_game.specs.declared.turns.Turn.{Turn}
 use Rattle.tt_game.specs.declared.turns.Turn.TheVariants.{Play, Pass}
 use Rattle.tt_game.specs.declared.turns.Successor.{Successor}
 use Rattle.tt_game.specs.Game.{State, IsLegal, winner_of}
-use Rattle.tt_game.specs.Line.{IsRefusal}
 use Rattle.tt_game.specs.Turns.{plays, all_turns, is_legal, is_legal_is, legal_turns, successor, successors_of}
-
--- a turn that is refused is not legal
-pub refused_illegal : (f : Frame) (s : State) (t : Turn) (why : Why) → IsRefusal f s t why → IsLegal f s t → ⊥
-refused_illegal f s Pass Over r l = r l
-refused_illegal f s (Play p) Over r l = r l.0
-refused_illegal f s Pass Occupied r l = r
-refused_illegal f s (Play p) Occupied r l = r.1 l.2
-refused_illegal f s Pass Outside r l = r
-refused_illegal f s (Play p) Outside r l = r.2 l.3
-refused_illegal f s Pass Repeats r l = r
-refused_illegal f s (Play p) Repeats r l = l.4 r.3
 
 -- what the plays on the first n points lead to
 unfoldable pub successors_below : Frame → State → ℕ → List Successor
@@ -62,18 +47,6 @@ pub below_gap : (f : Frame) (s : State) (n m : ℕ) → n ≤ m → ((q : ℕ) �
 below_gap f s n m le none =
     let d : n + (m - n) ≡ m = omega arith in
     ap (successors_below f s) (sym d) ∙ gap_of f s n (m - n) (λ q after before. none q after (omega arith))
-
--- n points have n legal plays at the most
-pub length-below : (f : Frame) (s : State) (n : ℕ) → length (successors_below f s n) ≤ n
-unfolding successors_below
-length-below f s n =
-    omega (
-      arith,
-      length-map (filter (is_legal f s) (plays n)) (successor f s),
-      length-filter (is_legal f s) (plays n),
-      count_by-le-length (is_legal f s) (plays n),
-      length-map-range_with_len (λ q. Play q) 0 n,
-    )
 
 -- nobody has won: the plays, and the pass
 pub below_all : (f : Frame) (s : State) (n : ℕ) → n ≡ point_count f.size → winner_of f s ≡ None → successors_below f s n ++ successor f s Pass ∷ [] ≡ successors_of f s

@@ -1,9 +1,12 @@
 -- What equal keys tell: they agree in all fields, so the test by which a table compares them tells keys apart.
 use Rattle.std.specs.Prelude.{◌≡◌, Bool, true}
-use Rattle.std.proofs.Common.{rules, arith, subst}
+use Rattle.std.proofs.Common.{rules, arith, ap, subst}
 use Rattle.std.specs.Cmp.{IsEquivalence}
 use Rattle.tt_sgf.specs.SizeLaws.{sizes_same}
 use Rattle.tt_game.specs.declared.keys.Key.{Key}
+use Rattle.tt_game.specs.declared.frame.Frame.{Frame}
+use Rattle.tt_game.specs.Game.{State}
+use Rattle.tt_game.specs.Keys.{key_of}
 use Rattle.tt_game.specs.contracts.keys.KeyPartialEq.TheImpl as key_eq
 use Rattle.tt_game.specs.contracts.keys.KeyEq.TheImpl.Laws as key_laws
 
@@ -37,3 +40,8 @@ same_key_same a b e =
 -- and back
 pub same_key_is : (a b : Key) → a ≡ b → same_key a b ≡ true
 same_key_is a b e = subst (λ c. same_key a c ≡ true) e (same_key_equiv.refl a)
+
+-- positions of one key have boards of one size
+pub same_size : (f g : Frame) (s t : State) → key_of f s ≡ key_of g t → f.size ≡ g.size
+unfolding key_of
+same_size f g s t e = ap (λ (k : Key). k.size) e

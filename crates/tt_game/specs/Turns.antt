@@ -12,18 +12,21 @@ use Rattle.tt_game.specs.History.{decided, decided_is}
 use Rattle.tt_game.specs.Legality.{legal}
 
 -- the turn is a pass or names a point of a board of this size
-abbrev pub IsOn : Size → Turn → Type 0
-IsOn size Pass = Unit {0}
-IsOn size (Play p) = p < point_count size
+abbrev pub IsOnBoard : Size → Turn → Type 0
+IsOnBoard size Pass = Unit {0}
+IsOnBoard size (Play p) = p < point_count size
 
 -- the turn is a pass or names a point of the board
 abbrev pub OnBoard : Frame → Turn → Type 0
-OnBoard f t = IsOn f.size t
+OnBoard f t = IsOnBoard f.size t
 
--- a turn's number: that of its point; the pass comes last
+-- a turn's number on a board of this size: that of its point; the pass comes last
+abbrev pub number_on : Size → Turn → ℕ
+number_on size (Play p) = p
+number_on size Pass = point_count size
+
 abbrev pub turn_number : Frame → Turn → ℕ
-turn_number f (Play p) = p
-turn_number f Pass = point_count f.size
+turn_number f t = number_on f.size t
 
 -- the turns rise by their numbers
 abbrev pub IsRising : Frame → List Turn → Type 0

@@ -32,7 +32,7 @@ impl Game {
     ghost use Rattle.std.specs.FinSet as set;
     ghost use Rattle.tt_board.specs.Reach.{entry_at};
     ghost use Rattle.tt_game.specs.Games.{Played, IsHalted, made_by, all_of, move_refusal, refusal_of, turned, empty_game, begun_with};
-    ghost use Rattle.tt_game.specs.Turns.{IsOn};
+    ghost use Rattle.tt_game.specs.Turns.{IsOnBoard};
     ghost use Rattle.tt_game.specs.History.{repeats};
     ghost use Rattle.tt_board.specs.Stones.{LiesOn};
     ghost use Rattle.tt_game.specs.Problems.{posed};
@@ -105,7 +105,7 @@ impl Game {
     /// Why a turn is refused, or none where it is legal: `Over` exactly where two passes ended the game. A
     /// play is on a point of the board.
     pub fn refusal(&self, t: Turn) -> Option<Why>
-        requires { IsOn self.now.size t }
+        requires { IsOnBoard self.now.size t }
         ensures { result ≡ refusal_of self.now t }
     {
         if self.history.passes() == 2 {
@@ -148,7 +148,7 @@ impl Game {
     /// Makes a turn: a pass, or a play on a point of the board. `Illegal` where it is refused, `NoMemory` where memory
     /// was; the game is then as it was.
     pub fn push(&mut self, t: Turn) -> Result<(), Refused>
-        requires { IsOn self.old.size t }
+        requires { IsOnBoard self.old.size t }
         ensures ok { OnOk result ((refusal_of self.old t ≡ None) × (self.new ≡ turned self.old t)) }
         ensures err { OnErr result (self.new ≡ self.old) }
         ensures why { IfErr result (λ e. IsHalted self.old t e) }

@@ -1,6 +1,6 @@
 //! Problems and their legal turns, with what they come to by a program written from the rules alone.
 
-ghost use Rattle.tt_game.specs.Turns.{IsOn};
+ghost use Rattle.tt_game.specs.Turns.{IsOnBoard};
 
 use super::{Line, Turn, problem};
 use std::alloc::Global;
@@ -19,7 +19,7 @@ pub(crate) fn posed(alloc: Global, text: &str) -> Result<Line, u8> {
 
 /// The turn of this number on boards of this size.
 pub(crate) fn turn(size: Size, number: u16) -> Turn
-    ensures { IsOn size result }
+    ensures { IsOnBoard size result }
 {
     match size.point(number) {
         Some(p) => Turn::Play(p),

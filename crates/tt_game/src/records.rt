@@ -4,7 +4,7 @@ ghost use Rattle.std.specs.Prelude.{◌≡◌, Some};
 ghost use Rattle.tt_sgf.specs.Values.{point_of, trimmed};
 ghost use Rattle.tt_sgf.specs.Entries.{set_of};
 ghost use Rattle.tt_board.specs.Play.{placed};
-ghost use Rattle.tt_game.specs.Turns.{IsOn};
+ghost use Rattle.tt_game.specs.Turns.{IsOnBoard};
 ghost use Rattle.tt_game.specs.Nodes.{values_of, colour_named, AB, AW, AE, PL, B, W};
 ghost use Rattle.tt_game.specs.Records.{Gives, Becomes, fault_of, as_turn, turn_of, turn_by, turn_named, move_of, begun, set_up_by, step_node, begin_at, begin_node, begin_line, run_nodes, record_at, record_of};
 
@@ -61,7 +61,7 @@ fn as_turn(value: PointOrPass) -> Turn
 impl Replay {
     /// A turn of the side to move.
     fn turn(&mut self, t: Turn) -> Result<(), GameFault>
-        requires { IsOn self.old.game.size t }
+        requires { IsOnBoard self.old.game.size t }
         ensures { Becomes result self.new (turn_of self.old t) }
     {
         if self.game.passes() == 2 {
@@ -82,7 +82,7 @@ impl Replay {
 
     /// A turn of a colour; where the other is to move it passes first.
     fn turn_by(&mut self, colour: Colour, t: Turn) -> Result<(), GameFault>
-        requires { IsOn self.old.game.size t }
+        requires { IsOnBoard self.old.game.size t }
         ensures { Becomes result self.new (turn_by self.old colour t) }
     {
         if self.game.to_move() != colour {

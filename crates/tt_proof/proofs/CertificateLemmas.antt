@@ -6,6 +6,7 @@ use Rattle.tt_game.specs.declared.frame.Side.{Side}
 use Rattle.tt_game.specs.declared.frame.Side.TheVariants.{Attacker, Defender}
 use Rattle.tt_proof.specs.declared.certificate_read.CertFault.{CertFault}
 use Rattle.tt_proof.specs.declared.certificate_read.CertFault.TheVariants.{Syntax, TooDeep, NoMemory}
+use Rattle.tt_proof.specs.declared.tree.TheConstants.{MOST_DEPTH}
 use Rattle.tt_proof.specs.Strategy.{Strategy}
 use Rattle.tt_proof.specs.CertificateText.{tree_text, side_text, IsCertificate, IsTooDeep}
 use Rattle.tt_proof.specs.CertificateReading.{TreeAt, DeepAt, FaultAt}
@@ -32,12 +33,12 @@ module _ (size : Size) (some : 1 ≤ size.columns) where
     rest_of side q e = (side_apart s side rest q (sym at ∙ e)).1
 
     -- of a certificate, the rest is the text of its tree
-    cert_tree : (side : Side) (u : Strategy) → IsCertificate size bytes side u → TreeAt size 512 u rest []
+    cert_tree : (side : Side) (u : Strategy) → IsCertificate size bytes side u → TreeAt size MOST_DEPTH u rest []
     cert_tree side u c =
         record { in_order = c.in_order; low = c.low; text = rest_of side (tree_text size u) c.text ∙ sym (append-nil (tree_text size u)) }
 
     -- where the bytes are too deep, the rest is
-    too_deep : IsTooDeep size bytes → DeepAt size 512 rest
+    too_deep : IsTooDeep size bytes → DeepAt size MOST_DEPTH rest
     too_deep h = record {
       tree = h.tree;
       beginning = h.beginning;
@@ -47,14 +48,14 @@ module _ (size : Size) (some : 1 ≤ size.columns) where
       text = rest_of h.side (h.beginning ++ h.follows) h.text;
     }
 
-    -- where the rest begins with the text of a tree at most 512 deep, the bytes aren't too deep
-    not_too_deep : (u : Strategy) (y : List ℕ) → TreeAt size 512 u rest y → IsTooDeep size bytes → ⊥
+    -- where the rest begins with the text of a tree at most `MOST_DEPTH` deep, the bytes aren't too deep
+    not_too_deep : (u : Strategy) (y : List ℕ) → TreeAt size MOST_DEPTH u rest y → IsTooDeep size bytes → ⊥
     not_too_deep u y h deep =
         let d = too_deep deep in
-        not_deep size some u d.tree 512 d.beginning y d.follows h.low (sym h.text ∙ d.text) d.ends
+        not_deep size some u d.tree MOST_DEPTH d.beginning y d.follows h.low (sym h.text ∙ d.text) d.ends
 
     -- where nothing follows that tree, the bytes are its certificate, and aren't too deep
-    pub cert_read : (u : Strategy) (y : List ℕ) → TreeAt size 512 u rest y → y ≡ [] → IsCertificate size bytes s u × (IsTooDeep size bytes → ⊥)
+    pub cert_read : (u : Strategy) (y : List ℕ) → TreeAt size MOST_DEPTH u rest y → y ≡ [] → IsCertificate size bytes s u × (IsTooDeep size bytes → ⊥)
     cert_read u y h e = (
       record {
         in_order = h.in_order;
@@ -65,12 +66,12 @@ module _ (size : Size) (some : 1 ≤ size.columns) where
     )
 
     -- where something follows it, they are no certificate
-    pub cert_more : (u : Strategy) (y : List ℕ) → TreeAt size 512 u rest y → (y ≡ [] → ⊥) → IsFault size bytes Syntax
+    pub cert_more : (u : Strategy) (y : List ℕ) → TreeAt size MOST_DEPTH u rest y → (y ≡ [] → ⊥) → IsFault size bytes Syntax
     cert_more u y h n =
         (λ side v c. let k = cert_tree side v c in n ((same_tree size some u v y [] (sym h.text ∙ k.text)).1), not_too_deep u y h)
 
     -- a fault of the rest is one of the bytes
-    pub cert_fault : (f : CertFault) → FaultAt size 512 rest f → IsFault size bytes f
+    pub cert_fault : (f : CertFault) → FaultAt size MOST_DEPTH rest f → IsFault size bytes f
     cert_fault Syntax h = (λ side u c. h.0 u [] (cert_tree side u c), λ deep. h.1 (too_deep deep))
     cert_fault TooDeep h = record {
       side = s;

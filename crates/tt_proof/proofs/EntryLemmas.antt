@@ -1,5 +1,6 @@
 -- How far the entries of a reply were read.
 use Rattle.std.proofs.Common.{◌≡◌, ◌≤◌, ◌<◌, ◌+◌, ℕ, zero, suc, ◌⊎◌, inl, inr, arith, List, [], ◌∷◌, ◌++◌, ◌∙◌, refl, sym, ap, subst, append_assoc}
+use Rattle.tt_sgf.specs.Bytes.{semicolon}
 use Rattle.tt_sgf.specs.declared.size.Size.{Size}
 use Rattle.tt_game.specs.declared.turns.Turn.{Turn}
 use Rattle.tt_proof.specs.declared.tree.Tree.{Tree}
@@ -19,10 +20,6 @@ pub record Walked (size : Size) (d : ℕ) (start : List ℕ) (least : ℕ) (now 
   pub deep : EntriesDeepAt size d least now → EntriesDeepAt size d 0 start
   pub deep_only : EntriesDeepAt size d 0 start → EntriesDeepAt size d least now
 
--- before the first entry, the place that was reached is the start
-pub walked_none : (size : Size) (d : ℕ) (r : List ℕ) → Walked size d r 0 r []
-walked_none size d r = record { read = λ es y h. h; only = λ es y h. (es, h); deep = λ h. h; deep_only = λ h. h }
-
 -- a fault at the place that was reached is one at the start
 pub walked_fault : (size : Size) (d least : ℕ) (start now : List ℕ) (list : List (Turn × Tree)) (f : CertFault) →
     Walked size d start least now list → EntriesFaultAt size d least now f → EntriesFaultAt size d 0 start f
@@ -33,7 +30,7 @@ walked_fault size d least start now list NoMemory w h = tt
 
 -- where `;` stands at the place that was reached, the entries are those of the list
 pub walked_end : (size : Size) (d least : ℕ) (start now rest : List ℕ) (list : List (Turn × Tree)) → Walked size d start least now list →
-    now ≡ 59 ∷ rest → EntriesAt size d 0 (entries_of_trees list) start rest
+    now ≡ semicolon ∷ rest → EntriesAt size d 0 (entries_of_trees list) start rest
 walked_end size d least start now rest list w e =
     subst (λ es. EntriesAt size d 0 es start rest) (before_none list)
     (w.read none rest (record { in_order = tt; low = omega arith; text = e }))
@@ -126,7 +123,7 @@ module _ (size : Size) (some : 1 ≤ size.columns) where
   -- ---- faults at an entry
 
   -- where neither `;` nor a turn stands, there are no entries
-  pub no_entry : (d least : ℕ) (now : List ℕ) → ((y : List ℕ) → now ≡ 59 ∷ y → ⊥) → NoTurn size now → EntriesFaultAt size d least now Syntax
+  pub no_entry : (d least : ℕ) (now : List ℕ) → ((y : List ℕ) → now ≡ semicolon ∷ y → ⊥) → NoTurn size now → EntriesFaultAt size d least now Syntax
   no_entry d least now end turn =
       (λ es y h. no es y h.in_order h.text, λ h. deep h.entries d h.beginning h.follows h.in_order h.ends h.text)
     where

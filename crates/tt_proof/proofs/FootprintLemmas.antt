@@ -16,7 +16,7 @@ use Rattle.tt_proof.specs.Footprints.{IsNeeded, IsNeededBehind, IsAvoided, IsAvo
 use Rattle.tt_proof.specs.KeptFootprints.{IsFootprint, IsEntryJoined}
 use Rattle.tt_proof.specs.Collecting.{IsGiven, IsPicked}
 use Rattle.tt_proof.proofs.NeedLemmas.{needed_less, needed_more}
-use Rattle.tt_proof.proofs.ListLemmas.{in_of_contains, contains_of_in}
+use Rattle.tt_game.specs.Members.{in_of_contains, contains_of_in}
 
 -- ---- what a child gives
 

@@ -6,7 +6,6 @@ pub mod NeedLemmas
 pub mod FootprintLemmas
 pub mod RepeatLemmas
 pub mod ResultLemmas
-pub mod ListLemmas
 pub mod ReadLemmas
 pub mod ProvenLemmas
 pub mod MeasureLemmas

@@ -1,28 +1,24 @@
 -- The trees that the constructors make win.
-use Rattle.std.proofs.Common.{◌≡◌, ◌≤◌, ◌<◌, ◌↔◌, ◌+◌, ◌++◌, ℕ, suc, inl, inr, arith, Some, None, List, [], ◌∷◌, length, Contains, slice_index_or, refl, sym, ap, subst}
-use Rattle.tt_game.specs.Turns.{IsRising, OnBoard, turn_number, legal_turns}
-use Rattle.tt_game.specs.TurnLaws.{contains-legal_turns, rising-legal_turns}
+use Rattle.std.proofs.Common.{◌≡◌, ◌≤◌, ◌↔◌, ◌+◌, ◌++◌, ℕ, inl, inr, arith, Some, None, List, [], ◌∷◌, Contains, refl, sym, ap, subst}
+use Rattle.tt_game.specs.Turns.{legal_turns}
+use Rattle.tt_game.specs.TurnLaws.{RisesFrom, contains-legal_turns, legal_on_board, rises_from_0}
 use Rattle.tt_game.specs.Game.{State, IsLegal, after, winner_of, opponent}
 use Rattle.tt_game.specs.declared.frame.Side.{Side}
 use Rattle.tt_game.specs.declared.frame.Side.TheVariants.{Attacker, Defender}
 use Rattle.tt_game.specs.declared.frame.Frame.{Frame}
 use Rattle.tt_game.specs.declared.turns.Turn.{Turn}
 use Rattle.tt_game.specs.declared.turns.Turn.TheVariants.{Play, Pass}
+use Rattle.tt_proof.specs.declared.tree.TheConstants.{MOST_DEPTH}
 use Rattle.tt_proof.specs.Proven.{Proven, IsWon, IsChild, AreChildren, turns_of, trees_of}
 use Rattle.tt_proof.specs.Replaying.{HasEntry, LegalWin}
-use Rattle.tt_proof.specs.Strategy.{done, pick, reply, entries_of, depth_of_entries, IsOnBoard, AreInOrder, number_on}
+use Rattle.tt_proof.specs.Strategy.{done, pick, reply, entries_of, depth_of_entries, AreInOrder, number_on}
 use Rattle.tt_proof.proofs.WinsLemmas.{reply_wins}
-use Rattle.tt_proof.proofs.ListLemmas.{IsIn, in_of_contains, contains_of_in}
+use Rattle.tt_game.specs.Members.{IsIn, in_of_contains}
 
 -- where the side has won, playing nothing more wins
 pub won_done : (side : Side) (f f' : Frame) (s s' : State) → f' ≡ f → s' ≡ s → winner_of f s ≡ Some side → IsWon side f' s' done
 won_done side f f' s s' same_f same_s e =
     rw (same_f, same_s) record { wins = e; low = omega arith; in_order = tt }
-
--- a legal turn lies on the board
-legal_on_board : (f : Frame) (s : State) (t : Turn) → IsLegal f s t → IsOnBoard f.size t
-legal_on_board f s (Play p) l = l.1
-legal_on_board f s Pass l = tt
 
 -- where a turn is legal, nobody has won
 legal_nobody : (f : Frame) (s : State) (t : Turn) → IsLegal f s t → winner_of f s ≡ None
@@ -59,26 +55,6 @@ abbrev pub AllWon : List (Turn × Proven) → Type 0
 AllWon [] = Unit {0}
 AllWon (e ∷ es) = IsWon e.1.side e.1.frame e.1.state e.1.tree × AllWon es
 
--- the turns rise, and none has a number below the least
-abbrev RisesFrom : Frame → ℕ → List Turn → Type 0
-RisesFrom f least [] = Unit {0}
-RisesFrom f least (t ∷ ts) = (least ≤ number_on f.size t) × RisesFrom f (number_on f.size t + 1) ts
-
--- the number that a strategy gives a turn is the turn's
-same_number : (f : Frame) (t : Turn) → number_on f.size t ≡ turn_number f t
-same_number f (Play p) = refl
-same_number f Pass = refl
-
--- turns that rise do so from any number on that the first is no less than
-rises_from : (f : Frame) (least : ℕ) (ts : List Turn) → IsRising f ts →
-    ((d : Turn) → 0 < length ts → least ≤ turn_number f (slice_index_or ts 0 d)) → RisesFrom f least ts
-rises_from f least [] up low = tt
-rises_from f least (t ∷ ts) up low = (
-  omega (arith, low t (omega arith), same_number f t),
-  rises_from f (number_on f.size t + 1) ts (λ i j d before in'. up (suc i) (suc j) d (omega (arith, before)) (omega (arith, in')))
-      (λ d some. omega (arith, up 0 1 d (omega arith) (omega (arith, some)), same_number f t)),
-)
-
 module _ (f : Frame) (s : State) where
   -- each child's tree that is won wins after its turn
   children_win : (es : List (Turn × Proven)) → AreChildren f s es → AllWon es →
@@ -86,21 +62,20 @@ module _ (f : Frame) (s : State) where
   children_win [] h w = tt
   children_win (e ∷ es) h w = (λ l. (child_won f s (opponent s.to_move) e.0 e.1 h.0 w.0).wins, children_win es h.1 w.1)
 
-  -- replies with children's trees are at most 512 deep
-  children_low : (es : List (Turn × Proven)) → AreChildren f s es → depth_of_entries (entries_of (trees_of es)) ≤ 512
+  -- replies with children's trees are at most `MOST_DEPTH` deep
+  children_low : (es : List (Turn × Proven)) → AreChildren f s es → depth_of_entries (entries_of (trees_of es)) ≤ MOST_DEPTH
   children_low [] h = omega arith
   children_low (e ∷ es) h = let low = h.0.low in omega (arith, low, children_low es h.1)
 
-  -- they are in order where the turns are legal and rise
+  -- they are in order where the turns lie on the board and rise
   children_in_order : (least : ℕ) (es : List (Turn × Proven)) → AreChildren f s es → AllWon es →
-      RisesFrom f least (turns_of es) → ((t : Turn) → IsIn (turns_of es) t → IsLegal f s t) →
-      AreInOrder f.size least (entries_of (trees_of es))
-  children_in_order least [] h w r l = tt
-  children_in_order least (e ∷ es) h w r l = (
+      RisesFrom f.size least (turns_of es) → AreInOrder f.size least (entries_of (trees_of es))
+  children_in_order least [] h w r = tt
+  children_in_order least (e ∷ es) h w r = (
     r.0,
-    legal_on_board f s e.0 (l e.0 (inl refl)),
+    r.1,
     (child_won f s (opponent s.to_move) e.0 e.1 h.0 w.0).in_order,
-    children_in_order (number_on f.size e.0 + 1) es h.1 w.1 r.1 (λ t i. l t (inr i)),
+    children_in_order (number_on f.size e.0 + 1) es h.1 w.1 r.2,
   )
 
   -- each child's turn has an entry
@@ -115,9 +90,8 @@ module _ (f : Frame) (s : State) where
       IsWon side f' s' (reply (entries_of (trees_of es)))
   won_reply f' s' side es same_f same_s theirs nobody same h w =
       let ts = turns_of es in
-      let up = subst (IsRising f) (sym same) (rising-legal_turns f s) in
       let legal : (t : Turn) → Contains ts t ↔ IsLegal f s t = subst (λ xs. (t : Turn) → Contains xs t ↔ IsLegal f s t) (sym same) (contains-legal_turns f s) in
-      let order = children_in_order 0 es h w (rises_from f 0 ts up (λ d some. omega arith)) (λ t i. (legal t).0 (contains_of_in ts t i)) in
+      let order = children_in_order 0 es h w (subst (RisesFrom f.size 0) (sym same) (rises_from_0 f s)) in
       rw (same_f, same_s, theirs)
       record {
         wins =
@@ -138,8 +112,3 @@ all_won_push (x ∷ es) e h w = (h.0, all_won_push es e h.1 w)
 pub trees_of_push : (es : List (Turn × Proven)) (e : Turn × Proven) → trees_of (es ++ e ∷ []) ≡ trees_of es ++ ((e.0, e.1.tree) ∷ [])
 trees_of_push [] e = refl
 trees_of_push (x ∷ es) e = ap (λ r. (x.0, x.1.tree) ∷ r) (trees_of_push es e)
-
--- a turn that strategies take to lie on the board is on it
-pub on_board : (f : Frame) (t : Turn) → IsOnBoard f.size t → OnBoard f t
-on_board f (Play p) h = h
-on_board f Pass h = tt

@@ -7,7 +7,7 @@ use Rattle.tt_game.specs.Game.{State, IsBarred, history, made}
 use Rattle.tt_game.specs.declared.frame.Frame.{Frame}
 use Rattle.tt_proof.specs.Footprints.{IsRepeated}
 use Rattle.tt_proof.specs.Collecting.{RepeatsBelow}
-use Rattle.tt_proof.proofs.ListLemmas.{in_of_contains}
+use Rattle.tt_game.specs.Members.{in_of_contains}
 
 module _ (f : Frame) (s : State) where
   -- where superko bars a play on p, the colouring that it would make is one more

@@ -6,6 +6,7 @@ use Rattle.tt_proof.specs.declared.tree.Tree.{Tree, fold-roll-Tree, Done, Pick, 
 use Rattle.tt_proof.specs.declared.tree.Tree.TheVariants.{rolls-Done, rolls-Pick, rolls-Reply}
 use Rattle.tt_proof.specs.declared.tree.Tree.TheOpen as layer
 use Rattle.tt_proof.specs.Strategy.{Strategy, Entries, done, pick, reply, none, entry, strategy_of, strategy_step, entries_of, entries_of_trees}
+use Rattle.tt_proof.specs.Laws.{TreesAreStrategies}
 
 -- `Done` is nothing more to play
 pub strategy_of_done : strategy_of Done ≡ done
@@ -27,6 +28,10 @@ pub strategy_of_reply : (b : Arc (Vec (Turn × Tree) Global) Global) → strateg
 unfolding strategy_of
 strategy_of_reply b =
     ap strategy_of (sym (rolls-Reply b)) ∙ fold-roll-Tree Strategy strategy_step (layer.Reply b) ∙ ap reply (entries_map b.value.items)
+
+-- so each form of a tree is the strategy that the law says
+pub trees_are_strategies : TreesAreStrategies
+trees_are_strategies = record { of_done = strategy_of_done; of_pick = strategy_of_pick; of_reply = strategy_of_reply }
 
 -- the list, and then es
 abbrev pub before : List (Turn × Tree) → Entries → Entries

@@ -1,5 +1,6 @@
 -- Certificates have one reading.
 use Rattle.std.proofs.Common.{◌≡◌, ◌≤◌, ◌*◌, ◌/◌, ℕ, zero, suc, inl, inr, arith, List, [], ◌∷◌, ◌++◌, ◌∙◌, refl, sym, ap, append_assoc}
+use Rattle.tt_sgf.specs.Bytes.{semicolon}
 use Rattle.tt_sgf.specs.declared.size.Size.{Size}
 use Rattle.tt_game.specs.declared.turns.Turn.{Turn}
 use Rattle.tt_game.specs.declared.turns.Turn.TheVariants.{Play, Pass}
@@ -25,7 +26,7 @@ module _ (size : Size) (some : 1 ≤ size.columns) where
   same_turn Pass Pass a b = refl
 
   -- no turn's text begins with `;`
-  pub turn_not_end : (t : Turn) → first_byte size t ≡ 59 → ⊥
+  pub turn_not_end : (t : Turn) → first_byte size t ≡ semicolon → ⊥
   turn_not_end (Play p) e = omega (arith, e)
   turn_not_end Pass e = omega (arith, e)
 
@@ -58,7 +59,7 @@ module _ (size : Size) (some : 1 ≤ size.columns) where
         (ap (λ x. entry x u us) t_is ∙ ap (λ x. entry s x us) r.0 ∙ ap (λ x. entry s v x) q.0, q.1)
 
   -- what begins with `;` has no beginning that ends with a turn of entries
-  end_not_turn : (us : Entries) (d : ℕ) (x y z : List ℕ) → (59 ∷ []) ++ y ≡ x ++ z → EndsBehind size us d x → ⊥
+  end_not_turn : (us : Entries) (d : ℕ) (x y z : List ℕ) → (semicolon ∷ []) ++ y ≡ x ++ z → EndsBehind size us d x → ⊥
   end_not_turn none d x y z e h = h
   end_not_turn (entry t u us) zero x y z e (inl h) = turn_not_end t (sym (heads (e ∙ ap (λ w. w ++ z) h)))
   end_not_turn (entry t u us) zero x y z e (inr h) = turn_not_end t (sym (heads (e ∙ ap (λ w. w ++ z) h.1.0)))

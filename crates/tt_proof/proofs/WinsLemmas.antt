@@ -1,8 +1,7 @@
 -- A reply wins exactly where each legal turn has an entry and each entry of a legal turn wins.
-use Rattle.std.proofs.Common.{◌≡◌, ℕ, ◌+◌, ◌≤◌, ◌↔◌, inl, inr, arith, subst, refl, sym, ap}
-use Rattle.tt_game.specs.Game.{State, IsLegal, after, opponent}
+use Rattle.std.proofs.Common.{ℕ, ◌+◌, ◌≤◌, ◌↔◌, inl, inr, arith, subst, refl, sym, ap}
+use Rattle.tt_game.specs.Game.{State, IsLegal, after}
 use Rattle.tt_game.specs.declared.frame.Side.{Side}
-use Rattle.tt_game.specs.declared.frame.Side.TheVariants.{Attacker, Defender}
 use Rattle.tt_game.specs.declared.turns.Turn.{Turn}
 use Rattle.tt_game.specs.declared.frame.Frame.{Frame}
 use Rattle.tt_proof.specs.Strategy.{Entries, reply, none, entry, AreInOrder, number_on}
@@ -65,10 +64,3 @@ module _ (side : Side) (f : Frame) (s : State) where
   pub reply_wins : (es : Entries) → AreInOrder f.size 0 es → AnswersEach side f s es → LegalWin side f s es ↔ Wins side f (reply es) s
   reply_wins es o a =
       (λ w. (a.0.0, a.0.1, λ t l. win_behind es t l w (a.1 t l)), λ w. legal_win 0 es o (λ t h l. w.2 t l))
-
--- a side that is not this one is its opponent
-pub not_same : (a b : Side) → (a ≡ b → ⊥) → a ≡ opponent b
-not_same Attacker Attacker n = absurd (n refl)
-not_same Attacker Defender n = refl
-not_same Defender Attacker n = refl
-not_same Defender Defender n = absurd (n refl)

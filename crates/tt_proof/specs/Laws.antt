@@ -1,12 +1,17 @@
 -- Laws of strategies and their texts.
 use Rattle.std.specs.Prelude.{ℕ, ◌≡◌, ◌≢◌, ◌↔◌, List, [], ◌∷◌, ◌++◌}
+use Rattle.std.specs.Global.{Global}
+use Rattle.std.specs.declared.sync.Arc.{Arc}
+use Rattle.std.specs.declared.vec.Vec.{Vec}
 use Rattle.tt_sgf.specs.declared.size.Size.{Size}
 use Rattle.tt_board.specs.Position.{Colouring}
 use Rattle.tt_game.specs.Game.{State, Forces, after, history, made}
 use Rattle.tt_game.specs.declared.frame.Side.{Side}
 use Rattle.tt_game.specs.declared.frame.Frame.{Frame}
+use Rattle.tt_game.specs.declared.turns.Turn.{Turn}
 use Rattle.tt_game.specs.declared.turns.Turn.TheVariants.{Play}
-use Rattle.tt_proof.specs.Strategy.{Strategy, depth}
+use Rattle.tt_proof.specs.declared.tree.Tree.{Tree, Done, Pick, Reply}
+use Rattle.tt_proof.specs.Strategy.{Strategy, depth, done, pick, reply, strategy_of, entries_of_trees}
 use Rattle.tt_proof.specs.Wins.{Wins}
 use Rattle.tt_proof.specs.Footprints.{IsNeeded, Fits}
 use Rattle.tt_proof.specs.CertificateText.{tree_text}
@@ -29,3 +34,9 @@ ChildNeeds =
 -- a text is of one strategy, and none is a proper beginning of another
 abbrev pub OneReading : Type 0
 OneReading = (size : Size) (u v : Strategy) (y z : List ℕ) → tree_text size u ++ y ≡ tree_text size v ++ z → (u ≡ v) × (y ≡ z)
+
+-- what strategy a tree is, at each of its forms
+pub record TreesAreStrategies : Type 0 where
+  pub of_done : strategy_of Done ≡ done
+  pub of_pick : (t : Turn) (b : Arc Tree Global) → strategy_of (Pick t b) ≡ pick t (strategy_of b.value)
+  pub of_reply : (b : Arc (Vec (Turn × Tree) Global) Global) → strategy_of (Reply b) ≡ reply (entries_of_trees b.value.items)

@@ -1,9 +1,8 @@
 -- Strategies: what a side plays, and how it answers each turn of the other side.
-use Rattle.std.specs.Prelude.{ℕ, ◌+◌, ◌<◌, ◌≤◌, max, List, [], ◌∷◌}
+use Rattle.std.specs.Prelude.{ℕ, ◌+◌, ◌≤◌, max, List, [], ◌∷◌}
 use Rattle.tt_sgf.specs.declared.size.Size.{Size}
-use Rattle.tt_sgf.specs.Sizes.{point_count}
 use Rattle.tt_game.specs.declared.turns.Turn.{Turn}
-use Rattle.tt_game.specs.declared.turns.Turn.TheVariants.{Play, Pass}
+pub use Rattle.tt_game.specs.Turns.{IsOnBoard, number_on}
 use Rattle.tt_proof.specs.declared.tree.Tree.{Tree, fold-Tree}
 use Rattle.tt_proof.specs.declared.tree.Tree.TheOpen as layer
 
@@ -29,16 +28,6 @@ abbrev mutual
   pub depth_of_entries : Entries → ℕ
   depth_of_entries none = 0
   depth_of_entries (entry t u es) = max (depth u + 1) (depth_of_entries es)
-
--- the turn is a pass or names a point of the board
-abbrev pub IsOnBoard : Size → Turn → Type 0
-IsOnBoard size (Play p) = p < point_count size
-IsOnBoard size Pass = Unit {0}
-
--- a turn's number: that of its point; the pass is last
-abbrev pub number_on : Size → Turn → ℕ
-number_on size (Play p) = p
-number_on size Pass = point_count size
 
 abbrev mutual
   -- the turns lie on the board, and those of each reply rise by their numbers

@@ -3,6 +3,7 @@
 ghost use Rattle.std.specs.Prelude.{◌≡◌, ◌<◌, ◌≤◌, ◌+◌, ◌/◌, ◌%◌, ◌++◌, ◌∷◌, ℕ, List, MatchOption, MatchResult};
 ghost use Rattle.tt_sgf.specs.Bytes.{lower_a, semicolon};
 ghost use Rattle.tt_sgf.specs.Sizes.{point_count};
+ghost use Rattle.tt_sgf.specs.declared.size.TheConstants.{MOST_POINTS};
 ghost use Rattle.tt_game.specs.declared.turns.Turn.{Turn};
 ghost use Rattle.tt_proof.specs.Strategy.{strategy_of, entries_of_trees, number_on, IsOnBoard};
 ghost use Rattle.tt_proof.specs.CertificateText.{pick_mark, reply_mark, turn_text, side_text, IsCertificate, IsTooDeep};
@@ -92,7 +93,7 @@ fn read_point(first: u8, second: u8, size: Size) -> Option<Point>
 fn read_turn(bytes: &[u8], size: Size) -> Option<(Turn, u16, &[u8])>
     ensures { MatchOption result
         ((t : Turn) (y : List ℕ) → IsOnBoard size t → bytes.now ≡ turn_text size t ++ y → ⊥)
-        (λ r. IsOnBoard size r.0 × (r.1 ≡ number_on size r.0) × (r.1 ≤ 361) × (bytes.now ≡ turn_text size r.0 ++ r.2.now)) }
+        (λ r. IsOnBoard size r.0 × (r.1 ≡ number_on size r.0) × (r.1 ≤ MOST_POINTS) × (bytes.now ≡ turn_text size r.0 ++ r.2.now)) }
 {
     let (first, rest) = bytes.split_first()?;
     let (second, rest) = rest.split_first()?;

@@ -1,6 +1,6 @@
 //! Laws of trees and of certificates, over the definitions alone.
 
-ghost use Rattle.tt_proof.specs.Laws.{WinningForces, FittingWins, ChildNeeds, OneReading};
+ghost use Rattle.tt_proof.specs.Laws.{WinningForces, FittingWins, ChildNeeds, OneReading, TreesAreStrategies};
 
 /// A winning tree of depth n makes its side force a win within n turns.
 pub fn l1()
@@ -21,4 +21,10 @@ pub fn child_needs()
 /// A text is of one tree, and no tree's text goes on to be another's.
 pub fn one_reading()
     ensures { OneReading }
+{}
+
+/// A tree is the strategy that its form says: nothing more to play, a turn and what its child is, or an answer to each turn of
+/// its list.
+pub fn strategies()
+    ensures { TreesAreStrategies }
 {}

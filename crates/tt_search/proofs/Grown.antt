@@ -147,10 +147,6 @@ new_leaves_stay : (size : Size) (room : ℕ) (f : Frame) (s : State) (turns : Li
 new_leaves_stay size room f s [] = tt
 new_leaves_stay size room f s (t ∷ turns) = (leaf_stays size room (winner_of f (after f s t)), new_leaves_stay size room f s turns)
 
--- a new leaf stays within any room
-pub new_leaf_stays : (size : Size) (room : ℕ) (f : Frame) (s : State) → StaysWithin size room (new_leaf f s)
-new_leaf_stays size room f s = leaf_stays size room (winner_of f s)
-
 -- an expansion stays within any room but 0
 pub expansion_stays : (size : Size) (room : ℕ) (f : Frame) (s : State) → 0 < room → StaysWithin size room (expansion f s)
 expansion_stays size room f s h = (h, new_leaves_stay size (room - 1) f s (legal_turns f s))

@@ -1,21 +1,13 @@
 -- What a proof says at a line that has its key.
-use Rattle.std.proofs.Common.{◌≡◌, ◌≤◌, ℕ, ap, subst, sym}
-use Rattle.tt_game.specs.declared.frame.Frame.{Frame}
+use Rattle.std.proofs.Common.{◌≡◌, ◌≤◌, ℕ, subst, sym}
 use Rattle.tt_game.specs.declared.frame.Side.{Side}
-use Rattle.tt_game.specs.declared.keys.Key.{Key}
-use Rattle.tt_game.specs.Game.{State}
-use Rattle.tt_game.specs.Keys.{key_of}
+use Rattle.tt_game.specs.KeyLaws.{same_size}
 use Rattle.tt_game.specs.Line.{Standing}
 use Rattle.tt_proof.specs.Strategy.{Strategy, IsInOrder, depth}
 use Rattle.tt_proof.specs.Proven.{Proven, IsWon}
 use Rattle.tt_proof.specs.Wins.{Wins}
 use Rattle.tt_search.specs.Stores.{IsAnswer}
 use Rattle.tt_search.specs.Usable.{IsUsable}
-
--- positions with the same key have boards of the same size
-same_size : (f g : Frame) (s t : State) → key_of f s ≡ key_of g t → f.size ≡ g.size
-unfolding key_of
-same_size f g s t e = ap (λ (k : Key). k.size) e
 
 -- its strategy is in order there
 pub ordered_at : (line : Standing) (side : Side) (p : Proven) (u : Strategy) → IsAnswer line side p → u ≡ p.tree → IsWon p.side p.frame p.state p.tree → IsInOrder line.frame.size u

@@ -9,7 +9,6 @@ pub mod Steady
 pub mod Sprouted
 pub mod WayDown
 pub mod Advanced
-pub mod TurnLemmas
 pub mod Strategies
 pub mod Successors
 pub mod Replies

@@ -68,12 +68,6 @@ counted_more Fresh a b l = l
 counted_more (Won side) a b l = l
 counted_more Grown a b l = omega (arith, l)
 
--- counting a child takes nothing off
-counted_least : (m : Mark) (a : ℕ) → a ≤ counted m a
-counted_least Fresh a = omega arith
-counted_least (Won side) a = omega arith
-counted_least Grown a = omega arith
-
 -- and adds at most one
 pub counted_most : (m : Mark) (a : ℕ) → counted m a ≤ suc a
 counted_most Fresh a = omega arith

@@ -1,5 +1,5 @@
 -- Numbers of the children.
-use Rattle.std.proofs.Common.{◌≡◌, ◌≢◌, ℕ, ◌+◌, ◌<◌, ◌≤◌, min, sum, List, [], ◌∷◌, if◌then◌else◌, ltb, refl, arith}
+use Rattle.std.proofs.Common.{◌≡◌, ℕ, ◌+◌, ◌<◌, ◌≤◌, min, sum, List, [], ◌∷◌, if◌then◌else◌, ltb, refl, arith}
 use Rattle.std.proofs.lemmas.Grind.{common_steps}
 use Rattle.tt_game.specs.declared.frame.Side.{Side}
 use Rattle.tt_game.specs.declared.frame.Side.TheVariants.{Attacker, Defender}
@@ -19,14 +19,6 @@ sum_from total xs = if has_infinite xs then infinite else min (total + sum xs) c
 -- the place of the least, where v is the least of those looked at, p its place and i the next place
 abbrev pub best_from : ℕ → ℕ → ℕ → List ℕ → ℕ
 best_from p v i xs = if ltb (least xs) v then i + first_least xs else p
-
--- adding a finite number to the sum so far, up to the cap, leaves what comes out in the end
-pub sum_from_finite : (total x : ℕ) (xs : List ℕ) → x ≢ infinite → sum_from (min (total + x) cap) xs ≡ sum_from total (x ∷ xs)
-sum_from_finite total x xs h = grind (arith, common_steps)
-
--- with an infinite number, infinite comes out
-pub sum_from_infinite : (total : ℕ) (xs : List ℕ) → sum_from total (infinite ∷ xs) ≡ infinite
-sum_from_infinite total xs = refl
 
 -- a number below the least so far is the new least, and its place the new place
 pub best_from_less : (p v i x : ℕ) (xs : List ℕ) → x < v → best_from i x (i + 1) xs ≡ best_from p v i (x ∷ xs)

@@ -97,10 +97,6 @@ pub record IsUnderWay (pace : Pace) (at : Stand) (old now : Stage) : Type 0 wher
   pub one : pace ≡ OneStep → rounds ≡ 0
   pub may_grow : MayGrow at now.tree
 
--- before the first round they are under way
-pub under_way : (pace : Pace) (at : Stand) (old : Stage) → MayGrow at old.tree → IsUnderWay pace at old old
-under_way pace at old m = record { rounds = 0; steady = refl; one = λ e. refl; may_grow = m }
-
 module _ (pace : Pace) (at : Stand) (old now : Stage) (step : Step) (new : Stage) (steps : AreStepsAt pace at now step new) where
   -- the steps of a round that is the last one
   pub last_round : IsUnderWay pace at old now → AreStepsAt pace at old step new

@@ -7,6 +7,9 @@ use Rattle.tt_game.specs.declared.frame.Side.TheVariants.{Attacker, Defender}
 use Rattle.tt_game.specs.declared.turns.Turn.{Turn}
 use Rattle.tt_game.specs.declared.frame.Frame.{Frame}
 use Rattle.tt_game.specs.Game.{State, IsLegal, after, winner_of}
+use Rattle.tt_game.specs.Members.{IsIn, in_of_contains}
+use Rattle.tt_game.specs.TurnLaws.{AreLegal, RisesFrom, are_legal, contains-legal_turns, rises_from_0}
+use Rattle.tt_game.specs.Turns.{legal_turns}
 use Rattle.tt_proof.specs.Strategy.{Strategy, Entries, depth, depth_of_entries, IsInOrder, AreInOrder, number_on}
 use Rattle.tt_proof.specs.Proven.{IsWon}
 use Rattle.tt_proof.specs.Wins.{Wins, WinsBehind}
@@ -15,7 +18,6 @@ use Rattle.tt_search.specs.Numbers.{is_same, least, capped_sum, decided_number, 
 use Rattle.tt_search.specs.MostProving.{place}
 use Rattle.tt_search.specs.Growing.{IsPartialTree, ArePartialTrees}
 use Rattle.tt_search.specs.Within.{StaysWithin, AllStayWithin}
-use Rattle.tt_search.proofs.TurnLemmas.{AreLegal, IsIn, RiseFrom, are_legal, is_in, rise}
 use Rattle.tt_search.specs.Settled.{strategy_for, first_settled, picked_or_replied, pick_at, replies}
 
 -- ---- numbers that are 0
@@ -111,7 +113,7 @@ mutual
       (λ e. pick_wins side f s (first_settled side children) turns children p.0 (sym p.1 ∙ same_is_same side mover e) (subst (AreLegal f s) (sym p.2) (are_legal f s)) p.3
       (zero_at side children (own_zero side mover turns children e z)))
       (λ e t l. replies_win side f s turns children t p.3 (all_zero side children (zero_sum (numbers side children) (other_zero side mover turns children e z)))
-      (subst (IsIn t) (sym p.2) (is_in f s t l)))
+      (subst (λ ts. IsIn ts t) (sym p.2) (in_of_contains (legal_turns f s) t ((contains-legal_turns f s t).1 l))))
 
   -- so does the pick of a child with the number 0, where the side is to move
   pick_wins : (side : Side) (f : Frame) (s : State) (i : ℕ) (turns : List Turn) (children : Children) → winner_of f s ≡ None → s.to_move ≡ side → AreLegal f s turns
@@ -124,7 +126,7 @@ mutual
 
   -- and some reply to each of the turns, where each child's number is 0
   replies_win : (side : Side) (f : Frame) (s : State) (turns : List Turn) (children : Children) (t : Turn) → ArePartialTrees f s turns children → AreZero side children
-      → IsIn t turns → WinsBehind side f (replies side turns children) t s
+      → IsIn turns t → WinsBehind side f (replies side turns children) t s
   replies_win side f s [] children t p z in' = absurd in'
   replies_win side f s (u ∷ us) no_more t p z in' = absurd p
   replies_win side f s (u ∷ us) (more tree children) t p z (inl e) = inl (e, subst (λ x. Wins side f (strategy_for side tree) (after f s x)) e (wins side f (after f s u) tree p.0 z.0))
@@ -176,13 +178,13 @@ mutual
   in_order side f s room (won winner) p h = tt
   in_order side f s room (closed winner strategy) p h = h.1
   in_order side f s room (expanded mover turns children) p h =
-      let up = subst (RiseFrom f.size 0) (sym p.2) (rise f s) in
+      let up = subst (RisesFrom f.size 0) (sym p.2) (rises_from_0 f s) in
       ordered_either (is_same side mover) f.size (pick_at side (first_settled side children) turns children) (replies side turns children)
       (pick_in_order side f s (room - 1) 0 (first_settled side children) turns children up p.3 h.1)
       (replies_in_order side f s (room - 1) 0 turns children up p.3 h.1)
 
   -- so is the pick at a place
-  pick_in_order : (side : Side) (f : Frame) (s : State) (room from i : ℕ) (turns : List Turn) (children : Children) → RiseFrom f.size from turns
+  pick_in_order : (side : Side) (f : Frame) (s : State) (room from i : ℕ) (turns : List Turn) (children : Children) → RisesFrom f.size from turns
       → ArePartialTrees f s turns children → AllStayWithin f.size room children → IsInOrder f.size (pick_at side i turns children)
   pick_in_order side f s room from i [] children up p h = tt
   pick_in_order side f s room from i (t ∷ ts) no_more up p h = tt
@@ -191,7 +193,7 @@ mutual
       pick_in_order side f s room (number_on f.size t + 1) i ts children up.2 p.1 h.1
 
   -- and so are the replies, from the number on from which the turns rise
-  replies_in_order : (side : Side) (f : Frame) (s : State) (room from : ℕ) (turns : List Turn) (children : Children) → RiseFrom f.size from turns
+  replies_in_order : (side : Side) (f : Frame) (s : State) (room from : ℕ) (turns : List Turn) (children : Children) → RisesFrom f.size from turns
       → ArePartialTrees f s turns children → AllStayWithin f.size room children → AreInOrder f.size from (replies side turns children)
   replies_in_order side f s room from [] children up p h = tt
   replies_in_order side f s room from (t ∷ ts) no_more up p h = tt

@@ -81,15 +81,7 @@ or_with_true : (b : Bool) → (b || true) ≡ true
 or_with_true true = refl
 or_with_true false = refl
 
-or_with_false : (b : Bool) → (b || false) ≡ b
-or_with_false true = refl
-or_with_false false = refl
-
 module _ (t : set.FinSet nat_cmp) (f : ℕ → Bool) where
-  -- before the first number the set is as it was
-  pub filled_none : (q : ℕ) → set.contains t q ≡ (set.contains t q || (ltb q 0 && f q))
-  filled_none q = rw (le-ltb q 0 (omega arith)) (sym (or_with_false (set.contains t q)))
-
   -- a number other than n is below n + 1 exactly where it is below n
   same_below : (q n : ℕ) → (q ≡ n → ⊥) → ltb q (n + 1) ≡ ltb q n
   same_below q n ne = elim (cases_lt q n) [

@@ -76,10 +76,6 @@ raw_at-nil false = refl
 abbrev pub raw_so_far : List ℕ → ℕ → Bool → Option (List ℕ × List ℕ)
 raw_so_far bytes i escaped = raw_at escaped (drop i bytes) >>= with_front (take i bytes)
 
--- at the start nothing was read
-pub raw_start : (bytes : List ℕ) → raw_so_far bytes 0 false ≡ raw_at false bytes
-raw_start bytes = elim (raw_at false bytes) as (λ o. (o >>= with_front []) ≡ o) [ None ↦ refl | Some p ↦ refl ]
-
 -- a byte that joins the value leaves the total as it was
 raw_cons : (bytes : List ℕ) (i : ℕ) (e e' : Bool) → i < length bytes
     → raw_at e (get_or bytes i 0 ∷ drop (i + 1) bytes) ≡ (raw_at e' (drop (i + 1) bytes) >>= with_first (get_or bytes i 0))

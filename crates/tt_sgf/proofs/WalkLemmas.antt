@@ -247,10 +247,6 @@ pub record Far (bytes rest : List ℕ) (p : Place) (d : ℕ) (on_main : Bool) (n
   pub so_far : line events ≡ nodes
   pub closed : has_close events ≡ not on_main
 
--- nothing was read at the start
-pub far_start : (bytes : List ℕ) → Far bytes bytes Opened 0 true []
-far_start bytes = record { events = []; goes = refl; at = refl; so_far = refl; closed = refl }
-
 module _ (bytes rest : List ℕ) (p : Place) (d : ℕ) (on_main : Bool) (nodes : List Node) (far : Far bytes rest p d on_main nodes) where
   -- one event more leads on from the place
   step_to : (e : Event) (s : State) → step (within p d) e ≡ s → run (within Opened 0) (far.events ++ e ∷ []) ≡ s

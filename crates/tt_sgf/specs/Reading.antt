@@ -74,11 +74,6 @@ value_at bytes = raw_at false (behind (after_blanks bytes))
 unfoldable pub values_at : List ℕ → Option (List (List ℕ) × List ℕ)
 values_at bytes = repeat opens_value value_at (suc (length bytes)) bytes
 
--- the value, where the test is true
-abbrev pub some_if : {X : Type 0} → Bool → X → Option X
-some_if true x = Some x
-some_if false x = None
-
 -- no item is in the list
 abbrev pub is_empty : {X : Type 0} → List X → Bool
 is_empty [] = true

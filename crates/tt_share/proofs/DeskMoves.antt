@@ -1,18 +1,18 @@
 -- Each step keeps the rule of the desk.
-use Rattle.std.proofs.Common.{◌≡◌, ℕ, zero, suc, ◌+◌, ◌-◌, ◌%◌, ◌^◌, ◌<◌, ◌≤◌, ◌≢◌, Bool, true, false, ◌||◌, List, [], ◌∷◌, ◌++◌, length, get_or, set, max, sum_by, slice_index}
-use Rattle.std.proofs.Common.{cond, leb, nat_eq, true≢false, refl, sym, ap, ◌∙◌, zero-add, subst, ⊎_elim, arith, zero-le}
+use Rattle.std.proofs.Common.{◌≡◌, ℕ, ◌+◌, ◌-◌, ◌%◌, ◌^◌, ◌<◌, ◌≤◌, ◌≢◌, Bool, true, false, ◌||◌, List, [], ◌∷◌, ◌++◌, length, get_or, set, max, sum_by, slice_index}
+use Rattle.std.proofs.Common.{cond, leb, nat_eq, true≢false, refl, sym, ap, ◌∙◌, subst, ⊎_elim, arith, zero-le}
 use Rattle.std.proofs.lemmas.Bool.Decides.{nat_tests}
 use Rattle.std.proofs.lemmas.List.Sums.{sum_by_push, sum_by-append}
 use Rattle.std.specs.List.Sorted.{IsStrictlyIncreasing}
-use mathlib.Core.Option.{some, some-injective, some-ne-none}
+use mathlib.Core.Option.{some, some-injective}
 use mathlib.Core.Logic.{dite}
 use native.Mathlib.Decide.{ℕ_discrete}
 use lib.ListN.{get_elem?}
 use Rattle.atomic_table.proofs.Lists.{at_set, at_snoc, set_here, set_else, at_longer}
-use Rattle.atomic_table.specs.Table.{keeps, Allows, Splits, Joins, opening}
+use Rattle.atomic_table.specs.Table.{keeps, Allows, Splits, Joins}
 use Rattle.tt_share.specs.declared.rule.View.{View}
 use Rattle.tt_share.specs.declared.rule.Plan.{Plan}
-use Rattle.tt_share.specs.Desk.{blank, whole_view, one_seat, no_seat, fewer, joined, with_draw, with_mark, with_sighting, spare_count, EachView, SomeView, Counts, IsMark, IsDesk}
+use Rattle.tt_share.specs.Desk.{blank, one_seat, no_seat, fewer, joined, with_draw, with_mark, with_sighting, spare_count, EachView, SomeView, Counts, IsMark, IsDesk}
 use Rattle.tt_share.specs.Desk.{DeskHolds, SeatState, IsNext, Draws, Raises, Looks}
 use Rattle.tt_share.specs.Seats.{last_number}
 use Rattle.tt_share.proofs.DeskLists.{at_within, sum_set, sum_at, sum_le, spare_below, none_below, below_by_weight, rising_push, rising_short, no_spares}
@@ -27,11 +27,6 @@ each_cut : (P : View → Type 0) (views : List View) (id : ℕ) (w new : View) �
 each_cut P views id w new one two all seat u is =
     ⊎_elim (λ (was : get_elem? (set views id w) seat ≡ some u). each_set P views id w one all seat u was) (λ (same : new ≡ u). subst P same two) (at_snoc (set views id w) new u seat is)
 
--- what holds at the one view holds at each
-each_one : (P : View → Type 0) (v : View) → P v → EachView P (v ∷ [])
-each_one P v mine zero u at = subst P (some-injective v u at) mine
-each_one P v mine (suc i) u at = absurd (some-ne-none u (sym at))
-
 -- some view still meets P where one changed, if the change keeps P
 some_set : (P : View → Type 0) (views : List View) (id : ℕ) (v w : View) → get_elem? views id ≡ some v → (P v → P w) → SomeView P views → SomeView P (set views id w)
 some_set P views id v w at keep has =
@@ -45,10 +40,6 @@ no_rise k h = absurd (omega arith)
 
 -- the lists of one kind of number, and how each step changes what they count
 module _ (numbers : View → List ℕ) (limit : ℕ) where
-  -- what a view's numbers weigh
-  weigh : (ℕ → ℕ) → View → ℕ
-  weigh weight v = sum_by weight (numbers v)
-
   -- the count is at most the limit and the parts of all views
   pub counts_room : (count : ℕ) (views : List View) → Counts numbers limit count views → count ≤ limit + sum_by (λ v. v.parts) views
   counts_room count views h =
@@ -65,14 +56,6 @@ module _ (numbers : View → List ℕ) (limit : ℕ) where
       let nothing = none_below count count (omega arith) in
       let mine = sum_at (λ u. sum_by weight (numbers u)) views id v at in
       below_by_weight (numbers v) count k (omega arith) lt
-
-  -- one view without numbers counts none
-  counts_begin : (v : View) → numbers v ≡ [] → Counts numbers limit 0 (v ∷ [])
-  counts_begin v none_yet = record {
-    each_once = λ weight. zero-add (sum_by weight (numbers v)) ∙ ap (sum_by weight) none_yet;
-    spares = each_one (λ u. spare_count limit (numbers u) ≤ u.parts) v (subst (λ (l : List ℕ). spare_count limit l ≤ v.parts) (sym none_yet) zero-le);
-    rising = each_one (λ u. u.parts ≡ 1 → IsStrictlyIncreasing (numbers u)) v (λ _. subst IsStrictlyIncreasing (sym none_yet) no_rise);
-  }
 
   -- where a view changes and keeps its numbers and its parts, the count stays
   counts_same : (count : ℕ) (views : List View) (id : ℕ) (v w : View) → Counts numbers limit count views → get_elem? views id ≡ some v → numbers w ≡ numbers v → w.parts ≡ v.parts
@@ -163,24 +146,6 @@ mark_kept mark views id v w at same_mark same_sighting h = record {
   raised = λ is. some_set (λ u. u.mark ≡ true) views id v w at (λ p. same_mark ∙ p) (h.raised is);
   known = each_set (λ u. (u.mark || u.sighting) ≡ true → mark ≡ 1) views id w (λ p. h.known id v at (sym (λ k. same_mark k || same_sighting k) ∙ p)) h.known;
 }
-
--- a new desk meets the rule
-pub begins : (plan : Plan) → DeskHolds plan (opening (0 ∷ 0 ∷ []) [] (whole_view plan))
-begins plan = (
-  0,
-  0,
-  refl,
-  record {
-    parts = zero-add plan.seats;
-    spent = each_one (λ u. u.parts ≡ 0 → u ≡ no_seat) (whole_view plan) (λ e. ap blank e);
-    draws = counts_begin (λ v. v.numbers) plan.jobs (whole_view plan) refl;
-    marked = record {
-      bit = zero-le;
-      raised = λ is. absurd (omega arith);
-      known = each_one (λ u. (u.mark || u.sighting) ≡ true → 0 ≡ 1) (whole_view plan) (λ p. absurd (true≢false (sym p)));
-    };
-  },
-)
 
 -- the number after a draw does not wrap
 no_wrap : (n m : ℕ) → n ≤ m → m + 1 < 2 ^ 64 → (n + 1) % 2 ^ 64 ≡ n + 1

@@ -1,5 +1,5 @@
 -- Jobs that have a win for a side, and jobs that have a result.
-use Rattle.std.proofs.Common.{◌≡◌, ℕ, ◌+◌, ◌<◌, ◌≤◌, ◌≢◌, true, is_some, get_or, List, length, Option, Some, None, slice_get, slice_set, refl, sym, ap, ◌∙◌, subst, arith, inl, inr}
+use Rattle.std.proofs.Common.{◌≡◌, ℕ, ◌+◌, ◌<◌, ◌≤◌, ◌≢◌, get_or, List, length, Option, Some, None, slice_get, slice_set, refl, sym, ap, ◌∙◌, subst, arith, inl, inr}
 use Rattle.std.proofs.lemmas.Bool.{cases_lt}
 use Rattle.std.proofs.lemmas.Option.{same_Some, none-some, slice_get_within, slice_get_read, get_or_from_slice_get}
 use Rattle.tt_game.specs.declared.frame.Side.{Side}
@@ -79,11 +79,6 @@ pub filled_more : (old new : List (Option End)) (i : ℕ) → FilledBelow i old 
 filled_more old new i below same this =
     let others : FilledBelow i new = λ k low. (let had = below k low in let other : k ≢ i = λ e. absurd (omega (arith, low, e)) in (had.0, same k other ∙ had.1)) in
     below_more (λ k. IsFilled new k) i others this
-
--- a job whose place isn't free has a result
-pub has_end : (ends : List (Option End)) (job : ℕ) (slot : Option End) → job < length ends → slot ≡ get_or ends job slot → is_some slot ≡ true → IsFilled ends job
-has_end ends job None within read some = absurd (grind (arith, some))
-has_end ends job (Some end) within read some = (end, slice_get_read ends (length ends) job (Some end) refl within read)
 
 -- all is ready where a job has a win
 pub ready_by : {side : Side} {ends : List (Option End)} {job : ℕ} → IsLeastWin side ends job → IsReady side ends

@@ -1,6 +1,7 @@
 use Rattle.tt_proof.specs.declared.certificate_read.CertFault.TheVariants.{Syntax, TooDeep}
 use Rattle.std.proofs.Common.{length, rules, arith, ◌≡◌, ◌+◌, ◌-◌, ◌++◌, ◌⊎◌, ℕ, suc, [], ◌∷◌, ◌∙◌, sym, ap, subst, inl, inr}
 use Rattle.tt_proof.specs.Strategy.{strategy_of, pick, number_on}
+use Rattle.tt_proof.specs.CertificateText.{won_mark, pick_mark, reply_mark}
 use Rattle.tt_proof.specs.CertificateReading.{TreeAt, DeepAt, EntriesDeepAt, FaultAt, EntriesFaultAt}
 use Rattle.tt_proof.proofs.StrategyLemmas.{strategy_of_done, strategy_of_pick, strategy_of_reply}
 use Rattle.tt_proof.proofs.ReadLemmas.{not_tree, pick_no_turn, pick_deep, pick_read, pick_fault, reply_read, reply_fault}
@@ -26,18 +27,18 @@ read_pick-returns-in-None t c = pick_no_turn c.args.size c.args.left c.args.byte
 
 pub read_pick-returns-then-left-eq0 : goal.read_pick-returns-then-left-eq0
 read_pick-returns-then-left-eq0 t c =
-    subst (λ k. DeepAt c.args.size k (33 ∷ c.args.bytes.now)) (sym c.if-left-eq0.true)
+    subst (λ k. DeepAt c.args.size k (pick_mark ∷ c.args.bytes.now)) (sym c.if-left-eq0.true)
     (pick_deep c.args.size c.in-Some.turn c.args.bytes.now c.in-Some.after.now c.in-Some.ensures.0 c.in-Some.ensures.3)
 
 pub read_pick-returns-in-Err : goal.read_pick-returns-in-Err
 read_pick-returns-in-Err t c =
-    subst (λ k. FaultAt c.args.size k (33 ∷ c.args.bytes.now) c.in-Err.fault) (sym (one_more c.args.left c.if-left-eq0.false))
+    subst (λ k. FaultAt c.args.size k (pick_mark ∷ c.args.bytes.now) c.in-Err.fault) (sym (one_more c.args.left c.if-left-eq0.false))
     (pick_fault c.args.size (c.args.left - 1) c.in-Some.turn c.args.bytes.now c.in-Some.after.now c.in-Err.fault c.in-Some.ensures.0 c.in-Some.ensures.3 c.in-Err.ensures)
 
 pub read_pick-returns-in-Ok-new : goal.read_pick-returns-in-Ok-new
 read_pick-returns-in-Ok-new t c =
     rw (strategy_of_pick, c.in-Ok-new.ensures.ok)
-    (subst (λ k. TreeAt c.args.size k (pick c.in-Some.turn (strategy_of c.in-Ok.child)) (33 ∷ c.args.bytes.now) c.in-Ok.rest.now)
+    (subst (λ k. TreeAt c.args.size k (pick c.in-Some.turn (strategy_of c.in-Ok.child)) (pick_mark ∷ c.args.bytes.now) c.in-Ok.rest.now)
     (sym (one_more c.args.left c.if-left-eq0.false))
     (pick_read c.args.size (c.args.left - 1) c.in-Some.turn (strategy_of c.in-Ok.child) c.args.bytes.now c.in-Some.after.now c.in-Ok.rest.now
     c.in-Some.ensures.0 c.in-Some.ensures.3 c.in-Ok.ensures))
@@ -102,7 +103,7 @@ read_tree-returns-then-first-eq46 t c =
     })
 
 -- a byte that is none of the three marks is no mark
-neither : (first b : ℕ) → first ≡ b → (first ≡ 46 → ⊥) → (first ≡ 33 → ⊥) → (first ≡ 63 → ⊥) → (b ≡ 46) ⊎ ((b ≡ 33) ⊎ (b ≡ 63)) → ⊥
+neither : (first b : ℕ) → first ≡ b → (first ≡ won_mark → ⊥) → (first ≡ pick_mark → ⊥) → (first ≡ reply_mark → ⊥) → (b ≡ won_mark) ⊎ ((b ≡ pick_mark) ⊎ (b ≡ reply_mark)) → ⊥
 neither first b e x y z (inl h) = x (e ∙ h)
 neither first b e x y z (inr (inl h)) = y (e ∙ h)
 neither first b e x y z (inr (inr h)) = z (e ∙ h)

@@ -1,4 +1,5 @@
 use Rattle.std.proofs.Common.{◌+◌, ◌*◌, ◌-◌, ◌≤◌}
+use Rattle.tt_sgf.specs.declared.size.TheConstants.{MOST_POINTS}
 use Rattle.tt_proof.proofs.EntryLemmas.{Walked}
 use Rattle.tt_proof.proofs.certificate_read.+read.Given as goal
 
@@ -17,8 +18,8 @@ decreases-read_entries l = 3 * l.left
 abbrev pub invariant-read_entries-loop-rest : goal.invariant-read_entries-loop-rest
 invariant-read_entries-loop-rest l = record {
   walked : Walked l.size l.left l.bytes l.least l.now l.list.items;
-  small : l.least ≤ 362;
+  small : l.least ≤ MOST_POINTS + 1;
 }
 
 abbrev pub decreases-read_entries-loop-rest : goal.decreases-read_entries-loop-rest
-decreases-read_entries-loop-rest l = 363 - l.least
+decreases-read_entries-loop-rest l = MOST_POINTS + 2 - l.least

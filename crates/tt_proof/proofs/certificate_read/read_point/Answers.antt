@@ -1,5 +1,6 @@
 use Rattle.std.proofs.Common.{arith, ap, sym, ◌≡◌, ◌∙◌, ◌<◌, ◌≤◌, ◌+◌, ◌*◌, ◌/◌, ◌%◌, ℕ, Option, Some, None, MatchOption}
 use Rattle.std.proofs.lemmas.Grind.{common_steps}
+use Rattle.tt_sgf.specs.Bytes.{lower_a}
 use Rattle.tt_proof.proofs.certificate_read.read_point.Goals as goal
 
 -- a point's row is one of the board's
@@ -41,6 +42,6 @@ returns-in-Some-letter_index c =
     each_option c.point.result _ _ _ _ (λ out. absurd (omega (arith, within, out)))
     (λ p h. (
       omega (arith, h.0, within),
-      c.in-Some.ensures.1 ∙ ap (λ n. 97 + n) (sym (column_of c.args.size.columns c.in-Some.column c.in-Some-letter_index.row p column h.0)),
-      c.in-Some-letter_index.ensures.1 ∙ ap (λ n. 97 + n) (sym (row_of c.args.size.columns c.in-Some.column c.in-Some-letter_index.row p column h.0)),
+      c.in-Some.ensures.1 ∙ ap (λ n. lower_a + n) (sym (column_of c.args.size.columns c.in-Some.column c.in-Some-letter_index.row p column h.0)),
+      c.in-Some-letter_index.ensures.1 ∙ ap (λ n. lower_a + n) (sym (row_of c.args.size.columns c.in-Some.column c.in-Some-letter_index.row p column h.0)),
     )) point

@@ -1,4 +1,5 @@
 use Rattle.std.proofs.Common.{◌≡◌, ◌↔◌, ◌≤◌, ℕ, drop}
+use Rattle.tt_proof.specs.declared.tree.TheConstants.{MOST_DEPTH}
 use Rattle.tt_proof.specs.Strategy.{entries_of_trees, AreInOrder, depth_of_entries}
 use Rattle.tt_proof.specs.Replaying.{LegalWin}
 use Rattle.tt_proof.proofs.replays.+replay.Given as goal
@@ -7,6 +8,6 @@ abbrev pub invariant-replay_each-loop-turn : goal.invariant-replay_each-loop-tur
 invariant-replay_each-loop-turn l = record {
   same : l.line ≡ l.fn.line;
   wins : LegalWin l.s l.line.frame l.line.state (entries_of_trees l.list) ↔ LegalWin l.s l.line.frame l.line.state (entries_of_trees (drop l.turn-index l.list));
-  depth : depth_of_entries (entries_of_trees (drop l.turn-index l.list)) ≤ 512;
+  depth : depth_of_entries (entries_of_trees (drop l.turn-index l.list)) ≤ MOST_DEPTH;
   in_order : (least : ℕ) × AreInOrder l.line.frame.size least (entries_of_trees (drop l.turn-index l.list));
 }

@@ -1,4 +1,5 @@
 use Rattle.std.proofs.Common.{ℕ, ◌<◌, ◌≤◌, ◌-◌, length}
+use Rattle.tt_sgf.specs.declared.size.TheConstants.{MOST_POINTS}
 use Rattle.tt_proof.specs.Strategy.{entries_of_trees}
 use Rattle.tt_proof.specs.Replaying.{HasEntry}
 use Rattle.tt_game.specs.declared.turns.Turn.TheVariants.{Play}
@@ -12,4 +13,4 @@ invariant-loop-p l = record {
 }
 
 abbrev pub decreases-loop-p : goal.decreases-loop-p
-decreases-loop-p l = 361 - l.from
+decreases-loop-p l = MOST_POINTS - l.from
