@@ -1,45 +1,26 @@
 -- An input has one text and one status that answer `check`.
-use Rattle.std.proofs.Common.{◌≡◌, ℕ, List, [], ◌∷◌, Ok, Err, refl, sym, ap, ◌∙◌, drop, arith, append-nil, subst}
+use Rattle.std.proofs.Common.{◌≡◌, ℕ, List, Ok, Err, refl, sym, ap, ◌∙◌, drop, arith, subst}
 use Rattle.std.specs.declared.result.Result.{Result}
-use Rattle.tt_sgf.specs.declared.size.Size.{Size}
 use Rattle.tt_sgf.specs.Grammar.{GameTree, main_line}
 use Rattle.tt_sgf.specs.Values.{trimmed}
 use Rattle.tt_game.specs.declared.faults.GameFault.{GameFault}
 use Rattle.tt_game.specs.declared.frame.Side.{Side}
-use Rattle.tt_game.specs.declared.frame.Side.TheVariants.{Attacker, Defender}
 use Rattle.tt_game.specs.Line.{Standing}
 use Rattle.tt_game.specs.Problems.{problem_of}
-use Rattle.tt_proof.specs.CertificateText.{IsCertificate, side_text, tree_text}
-use Rattle.std.proofs.lemmas.List.{append_cancel_left}
-use Rattle.tt_proof.specs.Laws.{OneReading}
+use Rattle.tt_proof.specs.CertificateText.{IsCertificate}
+use Rattle.tt_proof.specs.Laws.{OneCertificate}
 use Rattle.tt_proof.specs.Strategy.{Strategy}
 use Rattle.tt_proof.specs.Wins.{Wins}
 use Rattle.tsumego.specs.declared.finding.Finding.{Finding}
 use Rattle.tsumego.specs.Checking.{Finds, FindsAt, FindsOn, IsCheckText, finding_line, finding_status, first_tree, loses, no_certificate, no_tree, too_deep, too_long, wins}
 use Rattle.tsumego.proofs.OneText as text
 
--- the first byte, or 0
-abbrev first : List ℕ → ℕ
-first [] = 0
-first (b ∷ bs) = b
-
-module _ (one : OneReading) where
-  -- equal texts of trees are of equal trees
-  tree_same : (size : Size) (u v : Strategy) → tree_text size u ≡ tree_text size v → u ≡ v
-  tree_same size u v e = (one size u v [] [] (append-nil (tree_text size u) ∙ e ∙ sym (append-nil (tree_text size v)))).0
-
-  -- bytes are the certificate of one side and one tree
-  texts_same : (size : Size) (s t : Side) (u v : Strategy) (bytes : List ℕ) → IsCertificate size bytes s u → IsCertificate size bytes t v → (s ≡ t) × (u ≡ v)
-  texts_same size Attacker Attacker u v bytes a b = (refl, tree_same size u v (append_cancel_left (side_text Attacker) (tree_text size u) (tree_text size v) (sym a.text ∙ b.text)))
-  texts_same size Defender Defender u v bytes a b = (refl, tree_same size u v (append_cancel_left (side_text Defender) (tree_text size u) (tree_text size v) (sym a.text ∙ b.text)))
-  texts_same size Attacker Defender u v bytes a b = let bad : 107 ≡ 108 = ap first (sym a.text ∙ b.text) in absurd (omega (arith, bad))
-  texts_same size Defender Attacker u v bytes a b = let bad : 108 ≡ 107 = ap first (sym a.text ∙ b.text) in absurd (omega (arith, bad))
-
+module _ (one : OneCertificate) where
   -- a tree doesn't win and lose
   not_both : (p : Standing) (bytes : List ℕ) (s t : Side) (u v : Strategy) → IsCertificate p.frame.size bytes s u → IsCertificate p.frame.size bytes t v
       → Wins s p.frame u p.state → (Wins t p.frame v p.state → ⊥) → ⊥
   not_both p bytes s t u v a b w l =
-      let same = texts_same p.frame.size s t u v bytes a b in
+      let same = one p.frame.size bytes s t u v a b in
       l (subst (λ (x : Side). Wins x p.frame v p.state) same.0 (subst (λ (x : Strategy). Wins s p.frame x p.state) same.1 w))
 
   -- one thing is found on bytes at a problem

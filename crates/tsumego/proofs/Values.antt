@@ -9,22 +9,17 @@ use Rattle.tt_game.specs.declared.turns.Turn.{Turn}
 use Rattle.tt_game.specs.declared.turns.Turn.TheVariants.{Play, Pass}
 use Rattle.tt_game.specs.Game.{HasValue, value_for}
 use Rattle.tt_game.specs.Line.{Standing}
+use Rattle.tt_game.specs.SideLaws.{words_apart}
+use Rattle.tt_game.specs.Sides.{side_word}
 use Rattle.tt_search.specs.declared.limits.Limits.{Limits}
 use Rattle.tsumego.specs.Laws.{VerdictsAreValues}
-use Rattle.tsumego.specs.Solving.{IsFirst, Verdict, decided, decided_text, first_text, shown_turn, side_word, unsettled}
+use Rattle.tsumego.specs.Solving.{IsFirst, Verdict, decided, decided_text, first_text, shown_turn, unsettled}
 
 -- the byte in a place, or 0
 abbrev byte : ℕ → List ℕ → ℕ
 byte n [] = 0
 byte zero (b ∷ bs) = b
 byte (suc n) (b ∷ bs) = byte n bs
-
--- a text that begins with a side's word tells the side and what follows
-words_same : (s t : Side) (x y : List ℕ) → side_word s ++ x ≡ side_word t ++ y → (s ≡ t) × (x ≡ y)
-words_same Attacker Attacker x y e = (refl, append_cancel_left (side_word Attacker) x y e)
-words_same Defender Defender x y e = (refl, append_cancel_left (side_word Defender) x y e)
-words_same Attacker Defender x y e = let bad : 107 ≡ 108 = ap (byte 0) e in absurd (omega (arith, bad))
-words_same Defender Attacker x y e = let bad : 108 ≡ 107 = ap (byte 0) e in absurd (omega (arith, bad))
 
 less : (x y : ℕ) → 97 + x ≡ 97 + y → x ≡ y
 less x y e = omega (arith, e)
@@ -63,7 +58,7 @@ says p limits cert side rest text (decided s first lines valued keeps more) e =
     let size = p.frame.size in
     let parts : decided_text size s first ++ lines ≡ side_word s ++ (first_text size first ++ 10 ∷ lines) =
     append_assoc (side_word s) (first_text size first ++ 10 ∷ []) lines ∙ ap (λ (x : List ℕ). side_word s ++ x) (append_assoc (first_text size first) (10 ∷ []) lines) in
-    let same = words_same s side (first_text size first ++ 10 ∷ lines) rest (sym parts ∙ e) in
+    let same = words_apart s side (first_text size first ++ 10 ∷ lines) rest (sym parts ∙ e) in
     record {
       first = first;
       lines = lines;

@@ -4,8 +4,9 @@ use Rattle.tt_game.specs.declared.frame.Side.{Side}
 use Rattle.tt_game.specs.declared.turns.Turn.{Turn}
 use Rattle.tt_game.specs.Game.{HasValue, value_for}
 use Rattle.tt_game.specs.Line.{Standing}
+use Rattle.tt_game.specs.Sides.{side_word}
 use Rattle.tt_search.specs.declared.limits.Limits.{Limits}
-use Rattle.tsumego.specs.Solving.{IsFirst, Verdict, first_text, side_word}
+use Rattle.tsumego.specs.Solving.{IsFirst, Verdict, first_text}
 
 -- a verdict that begins with a side's word names the problem's value, and the turn behind the word, or its absence, is so
 abbrev pub VerdictsAreValues : Type 0

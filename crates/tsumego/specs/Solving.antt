@@ -5,13 +5,13 @@ use Rattle.tt_sgf.specs.declared.nodes.Node.{Node}
 use Rattle.tt_sgf.specs.declared.size.Size.{Size}
 use Rattle.tt_game.specs.declared.faults.GameFault.{GameFault}
 use Rattle.tt_game.specs.declared.frame.Side.{Side}
-use Rattle.tt_game.specs.declared.frame.Side.TheVariants.{Attacker, Defender}
 use Rattle.tt_game.specs.declared.turns.Turn.{Turn}
 use Rattle.tt_game.specs.declared.turns.Turn.TheVariants.{Play, Pass}
 use Rattle.tt_game.specs.Faults.{code_of}
 use Rattle.tt_game.specs.Game.{HasValue, IsLegal, after, value_for}
 use Rattle.tt_game.specs.Line.{Standing}
 use Rattle.tt_game.specs.Problems.{problem_of}
+use Rattle.tt_game.specs.Sides.{side_word}
 use Rattle.tt_proof.specs.CertificateText.{IsCertificate, certificate_text, turn_text}
 use Rattle.tt_proof.specs.Proven.{first_of}
 use Rattle.tt_proof.specs.Strategy.{Strategy, depth}
@@ -25,11 +25,6 @@ use Rattle.tsumego.specs.declared.outcome.Outcome.{Outcome}
 use Rattle.tsumego.specs.declared.outcome.Outcome.TheVariants.{Answered, Refused}
 
 -- ---- texts; byte 10 ends each line
-
--- the side that wins: the attacker kills, the defender lives
-abbrev pub side_word : Side → List ℕ
-side_word Attacker = codes "killed"
-side_word Defender = codes "lives"
 
 -- `ca` is the third column of the first row
 abbrev pub shown_turn : Size → Turn → List ℕ

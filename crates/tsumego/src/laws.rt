@@ -17,7 +17,7 @@ pub fn one_check_text()
     ensures { (input s t : List ℕ) (m n : ℕ) → IsAnswer Command.Check input s m → IsAnswer Command.Check input t n → (s ≡ t) × (m ≡ n) }
 {
     tt_sgf::laws::one_reading();
-    tt_proof::laws::one_reading();
+    tt_proof::laws::one_certificate();
 }
 
 /// A verdict of `solve` that names a side says the problem's value. The turn that it shows keeps that value, and where it

@@ -4,7 +4,7 @@ ghost use Rattle.tt_game.specs.Laws.{IsState};
 ghost use Rattle.tt_proof.specs.Proven.{IsWon, first_of};
 ghost use Rattle.tt_proof.specs.Strategy.{IsOnBoard};
 ghost use Rattle.tt_share.specs.Answers.{IsAnswer};
-ghost use Rattle.tsumego.specs.Solving.{Verdict, certificate_line, decided_text, first_text, reason_word, shown_turn, side_word, unsettled_text};
+ghost use Rattle.tsumego.specs.Solving.{Verdict, certificate_line, decided_text, first_text, reason_word, shown_turn, unsettled_text};
 
 use std::alloc::Global;
 use tt_game::{Line, Side, Turn};
@@ -12,16 +12,6 @@ use tt_proof::{Proof, put_turn, write_cert};
 use tt_search::{Limits, Reason};
 use tt_sgf::{NoMemory, Size};
 use tt_share::Answer;
-
-/// Says which side wins.
-fn side_word(side: Side) -> &'static [u8]
-    ensures { result.now ≡ side_word side }
-{
-    match side {
-        Side::Attacker => b"killed",
-        Side::Defender => b"lives",
-    }
-}
 
 /// Says why nobody's win was found.
 fn reason_word(reason: Reason) -> &'static [u8]
@@ -94,7 +84,7 @@ fn decided(
 {
     let side = proof.side();
     let mut out = Vec::new(alloc);
-    out.extend_from_slice(side_word(side))?;
+    out.extend_from_slice(side.word())?;
     put_first(&mut out, first, size)?;
     out.push(b'\n')?;
     if cert {

@@ -1,18 +1,14 @@
 -- An input has one text and one status.
-use Rattle.std.proofs.Common.{◌≡◌, ℕ, Bool, List, [], ◌∷◌, ◌++◌, ◌||◌, ◌+◌, inl, inr, Ok, Err, refl, sym, ap, ap₂, ◌∙◌, drop, arith, append-nil, subst, Contains, if◌then◌else◌}
+use Rattle.std.proofs.Common.{◌≡◌, ℕ, Bool, List, ◌++◌, ◌||◌, ◌+◌, inl, inr, Ok, Err, refl, sym, ap, ap₂, ◌∙◌, drop, arith, subst, Contains, if◌then◌else◌}
 use Rattle.std.specs.declared.result.Result.{Result}
-use Rattle.std.proofs.lemmas.List.{append_cancel_left}
 use Rattle.std.proofs.lemmas.List.Elements.{Contains-append_left, Contains-append_right}
-use Rattle.tt_sgf.specs.declared.size.Size.{Size}
 use Rattle.tt_sgf.specs.Grammar.{GameTree, SpelledUpTo, game, main_line}
 use Rattle.tt_sgf.specs.Values.{trimmed}
 use Rattle.tt_game.specs.declared.faults.GameFault.{GameFault}
 use Rattle.tt_game.specs.declared.frame.Side.{Side}
-use Rattle.tt_game.specs.declared.frame.Side.TheVariants.{Attacker, Defender}
 use Rattle.tt_game.specs.Line.{Standing}
 use Rattle.tt_game.specs.Problems.{problem_of}
-use Rattle.tt_proof.specs.CertificateText.{IsCertificate, side_text, tree_text}
-use Rattle.tt_proof.specs.Laws.{OneReading}
+use Rattle.tt_proof.specs.Laws.{OneCertificate}
 use Rattle.tt_proof.specs.Strategy.{Strategy}
 use Rattle.tsumego_show.proofs.FirstTurn.{turn_same}
 use Rattle.tsumego_show.specs.Drawing.{Draws, DrawsFirst, begins, begins_none, deep_drawn, drawn, none_drawn, strategy_text, turned_text}
@@ -24,25 +20,11 @@ spelled_opens bytes count (game nodes below) s =
     let opens : Contains s.text 40 = subst (λ (x : List ℕ). Contains x 40) (sym s.spells.7) (0, omega arith, refl) in
     subst (λ (x : List ℕ). Contains x 40) (sym s.parts) (Contains-append_right s.skipped (s.text ++ s.rest) 40 (Contains-append_left s.text s.rest 40 opens))
 
-abbrev first : List ℕ → ℕ
-first [] = 0
-first (b ∷ bs) = b
-
 -- from the first bracket on, the bytes begin with a text of one tree at most
 abbrev pub OneTree : Type 0
 OneTree = (bytes : List ℕ) (n m : ℕ) (s t : GameTree) → SpelledUpTo bytes n s → SpelledUpTo bytes m t → (n ≡ m) × (s ≡ t)
 
-module _ (one : OneReading) where
-  tree_same : (size : Size) (u v : Strategy) → tree_text size u ≡ tree_text size v → u ≡ v
-  tree_same size u v e = (one size u v [] [] (append-nil (tree_text size u) ∙ e ∙ sym (append-nil (tree_text size v)))).0
-
-  -- equal certificates are of one side and one strategy
-  texts_same : (size : Size) (s t : Side) (u v : Strategy) (bytes : List ℕ) → IsCertificate size bytes s u → IsCertificate size bytes t v → (s ≡ t) × (u ≡ v)
-  texts_same size Attacker Attacker u v bytes a b = (refl, tree_same size u v (append_cancel_left (side_text Attacker) (tree_text size u) (tree_text size v) (sym a.text ∙ b.text)))
-  texts_same size Defender Defender u v bytes a b = (refl, tree_same size u v (append_cancel_left (side_text Defender) (tree_text size u) (tree_text size v) (sym a.text ∙ b.text)))
-  texts_same size Attacker Defender u v bytes a b = let bad : 107 ≡ 108 = ap first (sym a.text ∙ b.text) in absurd (omega (arith, bad))
-  texts_same size Defender Attacker u v bytes a b = let bad : 108 ≡ 107 = ap first (sym a.text ∙ b.text) in absurd (omega (arith, bad))
-
+module _ (one : OneCertificate) where
   first_same : (p : Standing) (side : Side) (u : Strategy) (s t : List ℕ) → DrawsFirst p side u s → DrawsFirst p side u t → s ≡ t
   first_same p side u s t (begins a x) (begins b y) = ap (turned_text p) (turn_same a b (sym x.0 ∙ y.0))
   first_same p side u s t (begins a x) (begins_none none) = absurd (none a x)
@@ -51,7 +33,7 @@ module _ (one : OneReading) where
 
   drawn_same : (p : Standing) (bytes s t : List ℕ) → Draws p bytes s → Draws p bytes t → s ≡ t
   drawn_same p bytes s t (drawn a u x is flat its_first) (drawn b v y are low others) =
-      let same = texts_same p.frame.size a b u v bytes is are in
+      let same = one p.frame.size bytes a b u v is are in
       let its : DrawsFirst p b v x = subst (λ (k : Side). DrawsFirst p k v x) same.0 (subst (λ (w : Strategy). DrawsFirst p a w x) same.1 its_first) in
       ap₂ (λ (k : Side) (w : Strategy). x ++ strategy_text p k w) same.0 same.1 ∙ ap (λ (l : List ℕ). l ++ strategy_text p b v) (first_same p b v x y its others)
   drawn_same p bytes s t (drawn a u x is flat its_first) (none_drawn none low) = absurd (none a u is)

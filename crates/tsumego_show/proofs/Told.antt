@@ -3,7 +3,6 @@ use Rattle.std.proofs.Common.{◌≡◌, ◌≤◌, ◌<◌, ◌+◌, ◌-◌, �
 use Rattle.std.proofs.Common.{append_assoc, subst, if◌then◌else◌, Ok, Err, OnOk}
 use Rattle.std.specs.declared.result.Result.{Result}
 use Rattle.tt_sgf.specs.Values.{trimmed}
-use Rattle.tt_game.specs.declared.faults.GameFault.{GameFault}
 use Rattle.tt_game.specs.Line.{Standing}
 use Rattle.tsumego_show.specs.Drawing.{Draws}
 use Rattle.std.proofs.lemmas.List.{take_all, length-drop}

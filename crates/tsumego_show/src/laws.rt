@@ -7,5 +7,5 @@ pub fn one_text()
     ensures { (input s t : List ℕ) (m n : ℕ) → IsShown input s m → IsShown input t n → (s ≡ t) × (m ≡ n) }
 {
     tt_sgf::laws::one_reading();
-    tt_proof::laws::one_reading();
+    tt_proof::laws::one_certificate();
 }

@@ -1,6 +1,7 @@
 -- What public contracts cite.
 pub mod Course
 pub mod Game
+pub mod Sides
 pub mod History
 pub mod Legality
 pub mod Turns
@@ -18,3 +19,4 @@ pub mod Undoing
 pub mod Members
 pub mod TurnLaws
 pub mod KeyLaws
+pub mod SideLaws

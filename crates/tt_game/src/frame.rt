@@ -76,6 +76,7 @@ impl Frame {
 
 impl Side {
     ghost use Rattle.tt_game.specs.Game.{opponent};
+    ghost use Rattle.tt_game.specs.Sides.{side_word};
 
     /// The other side.
     pub fn opponent(self) -> Side
@@ -84,6 +85,15 @@ impl Side {
         match self {
             Side::Attacker => Side::Defender,
             Side::Defender => Side::Attacker,
+        }
+    }
+    /// The word that says that this side wins.
+    pub fn word(self) -> &'static [u8]
+        ensures { result.now ≡ side_word self }
+    {
+        match self {
+            Side::Attacker => b"killed",
+            Side::Defender => b"lives",
         }
     }
 }

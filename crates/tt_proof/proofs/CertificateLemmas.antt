@@ -1,30 +1,27 @@
 -- A certificate as a whole.
-use Rattle.std.proofs.Common.{◌≡◌, ◌≤◌, ℕ, arith, List, [], ◌∷◌, ◌++◌, ◌∙◌, refl, sym, ap}
+use Rattle.std.proofs.Common.{◌≡◌, ◌≤◌, ℕ, List, [], ◌∷◌, ◌++◌, ◌∙◌, sym, ap, append_assoc}
 use Rattle.std.proofs.lemmas.List.{append-nil}
 use Rattle.tt_sgf.specs.declared.size.Size.{Size}
+use Rattle.tt_sgf.specs.Bytes.{space}
 use Rattle.tt_game.specs.declared.frame.Side.{Side}
 use Rattle.tt_game.specs.declared.frame.Side.TheVariants.{Attacker, Defender}
 use Rattle.tt_proof.specs.declared.certificate_read.CertFault.{CertFault}
 use Rattle.tt_proof.specs.declared.certificate_read.CertFault.TheVariants.{Syntax, TooDeep, NoMemory}
 use Rattle.tt_proof.specs.declared.tree.TheConstants.{MOST_DEPTH}
+use Rattle.tt_game.specs.SideLaws.{words_apart}
+use Rattle.tt_game.specs.Sides.{side_word}
 use Rattle.tt_proof.specs.Strategy.{Strategy}
 use Rattle.tt_proof.specs.CertificateText.{tree_text, side_text, IsCertificate, IsTooDeep}
 use Rattle.tt_proof.specs.CertificateReading.{TreeAt, DeepAt, FaultAt}
 use Rattle.tt_proof.specs.CertificateFaults.{IsFault}
-use Rattle.tt_proof.proofs.TextLemmas.{heads, tails, same_tree, not_deep}
-
--- what follows one beginning in one text is one
-cancel : (xs a b : List ℕ) → xs ++ a ≡ xs ++ b → a ≡ b
-cancel [] a b e = e
-cancel (x ∷ xs) a b e = cancel xs a b (tails e)
+use Rattle.tt_proof.proofs.TextLemmas.{tails, same_tree, not_deep}
 
 module _ (size : Size) (some : 1 ≤ size.columns) where
   -- a text that begins with the words of a side tells the side and what follows
   side_apart : (a b : Side) (r q : List ℕ) → side_text a ++ r ≡ side_text b ++ q → (a ≡ b) × (r ≡ q)
-  side_apart Attacker Attacker r q e = (refl, cancel (side_text Attacker) r q e)
-  side_apart Attacker Defender r q e = absurd (omega (arith, heads e))
-  side_apart Defender Attacker r q e = absurd (omega (arith, heads e))
-  side_apart Defender Defender r q e = (refl, cancel (side_text Defender) r q e)
+  side_apart a b r q e =
+      let both = words_apart a b (space ∷ r) (space ∷ q) (sym (append_assoc (side_word a) (space ∷ []) r) ∙ e ∙ append_assoc (side_word b) (space ∷ []) q) in
+      (both.0, tails both.1)
 
   -- what is said of the rest is said of the whole
   module _ (bytes rest : List ℕ) (s : Side) (at : bytes ≡ side_text s ++ rest) where
@@ -93,3 +90,11 @@ module _ (size : Size) (some : 1 ≤ size.columns) where
       no : (side : Side) (y : List ℕ) → bytes ≡ side_text side ++ y → ⊥
       no Attacker y e = a y e
       no Defender y e = d y e
+
+-- equal certificates are of one side and one strategy
+pub same_certificate : (size : Size) (bytes : List ℕ) (s t : Side) (u v : Strategy) → IsCertificate size bytes s u → IsCertificate size bytes t v → (s ≡ t) × (u ≡ v)
+same_certificate size bytes s t u v a b =
+    let some = size.columns_in.0 in
+    let both = side_apart size some s t (tree_text size u) (tree_text size v) (sym a.text ∙ b.text) in
+    let one = same_tree size some u v [] [] (append-nil (tree_text size u) ∙ both.1 ∙ sym (append-nil (tree_text size v))) in
+    (both.0, one.0)

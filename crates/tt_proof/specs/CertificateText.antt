@@ -1,9 +1,9 @@
 -- The text of a certificate. Points are written as SGF FF[4] writes them: the letter of the column, then that of the row.
-use Rattle.std.specs.Prelude.{◌≡◌, ℕ, zero, suc, ◌+◌, ◌/◌, ◌%◌, ◌≤◌, ◌⊎◌, List, [], ◌∷◌, ◌++◌, codes}
-use Rattle.tt_sgf.specs.Bytes.{lower_a, semicolon}
+use Rattle.std.specs.Prelude.{◌≡◌, ℕ, zero, suc, ◌+◌, ◌/◌, ◌%◌, ◌≤◌, ◌⊎◌, List, [], ◌∷◌, ◌++◌}
+use Rattle.tt_sgf.specs.Bytes.{lower_a, semicolon, space}
 use Rattle.tt_sgf.specs.declared.size.Size.{Size}
 use Rattle.tt_game.specs.declared.frame.Side.{Side}
-use Rattle.tt_game.specs.declared.frame.Side.TheVariants.{Attacker, Defender}
+use Rattle.tt_game.specs.Sides.{side_word}
 use Rattle.tt_game.specs.declared.turns.Turn.{Turn}
 use Rattle.tt_game.specs.declared.turns.Turn.TheVariants.{Play, Pass}
 use Rattle.tt_proof.specs.declared.tree.TheConstants.{MOST_DEPTH}
@@ -23,9 +23,10 @@ abbrev pub dash : ℕ
 dash = 45
 
 -- ---- texts
+
+-- the word of the side that wins, and a blank
 abbrev pub side_text : Side → List ℕ
-side_text Attacker = codes "killed "
-side_text Defender = codes "lives "
+side_text side = side_word side ++ space ∷ []
 
 module _ (size : Size) where
   -- the letter of the column, or a dash

@@ -14,7 +14,7 @@ use Rattle.tt_proof.specs.declared.tree.Tree.{Tree, Done, Pick, Reply}
 use Rattle.tt_proof.specs.Strategy.{Strategy, depth, done, pick, reply, strategy_of, entries_of_trees}
 use Rattle.tt_proof.specs.Wins.{Wins}
 use Rattle.tt_proof.specs.Footprints.{IsNeeded, Fits}
-use Rattle.tt_proof.specs.CertificateText.{tree_text}
+use Rattle.tt_proof.specs.CertificateText.{IsCertificate, tree_text}
 
 -- a strategy that wins makes its side force, within its depth
 abbrev pub WinningForces : Type 0
@@ -34,6 +34,11 @@ ChildNeeds =
 -- a text is of one strategy, and none is a proper beginning of another
 abbrev pub OneReading : Type 0
 OneReading = (size : Size) (u v : Strategy) (y z : List ℕ) → tree_text size u ++ y ≡ tree_text size v ++ z → (u ≡ v) × (y ≡ z)
+
+-- bytes are the certificate of one side and one strategy at the most
+abbrev pub OneCertificate : Type 0
+OneCertificate =
+    (size : Size) (bytes : List ℕ) (s t : Side) (u v : Strategy) → IsCertificate size bytes s u → IsCertificate size bytes t v → (s ≡ t) × (u ≡ v)
 
 -- what strategy a tree is, at each of its forms
 pub record TreesAreStrategies : Type 0 where

@@ -225,11 +225,8 @@ fn read_entries(
 fn after_side(bytes: &[u8], s: Side) -> Option<&[u8]>
     ensures { MatchOption result ((y : List ℕ) → bytes.now ≡ side_text s ++ y → ⊥) (λ r. bytes.now ≡ side_text s ++ r.now) }
 {
-    let word: &[u8] = match s {
-        Side::Attacker => b"killed ",
-        Side::Defender => b"lives ",
-    };
-    bytes.strip_prefix(word)
+    let blank = bytes.strip_prefix(s.word())?;
+    blank.strip_prefix(b" ".as_slice())
 }
 
 /// The side and the tree that the bytes spell, where `rest` follows the side's word.

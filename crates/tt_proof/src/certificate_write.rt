@@ -87,11 +87,8 @@ pub fn write_cert(alloc: Global, s: Side, t: &Tree, size: Size) -> Result<Vec<u8
     ensures { IfOk result (λ v. v.items ≡ certificate_text size s (strategy_of t.now)) }
 {
     let mut out = Vec::new(alloc);
-    let side: &[u8] = match s {
-        Side::Attacker => b"killed ",
-        Side::Defender => b"lives ",
-    };
-    out.extend_from_slice(side)?;
+    out.extend_from_slice(s.word())?;
+    put(&mut out, b' ')?;
     put_tree(&mut out, t, size)?;
     Ok(out)
 }

@@ -1,6 +1,6 @@
 //! Laws of trees and of certificates, over the definitions alone.
 
-ghost use Rattle.tt_proof.specs.Laws.{WinningForces, FittingWins, ChildNeeds, OneReading, TreesAreStrategies};
+ghost use Rattle.tt_proof.specs.Laws.{WinningForces, FittingWins, ChildNeeds, OneReading, OneCertificate, TreesAreStrategies};
 
 /// A winning tree of depth n makes its side force a win within n turns.
 pub fn l1()
@@ -21,6 +21,11 @@ pub fn child_needs()
 /// A text is of one tree, and no tree's text goes on to be another's.
 pub fn one_reading()
     ensures { OneReading }
+{}
+
+/// Bytes are the certificate of one side and one tree at the most.
+pub fn one_certificate()
+    ensures { OneCertificate }
 {}
 
 /// A tree is the strategy that its form says: nothing more to play, a turn and what its child is, or an answer to each turn of
