@@ -15,5 +15,6 @@ pub mod Faults
 pub mod RecordLaws
 -- What private contracts and proofs cite. Nobody has to believe these.
 pub mod Undoing
+pub mod Roots
 pub mod TurnLaws
 pub mod KeyLaws
