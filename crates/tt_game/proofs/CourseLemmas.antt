@@ -3,7 +3,9 @@ use Rattle.tt_sgf.specs.declared.size.Size.{Size}
 use Rattle.std.proofs.Common.{◌≡◌, ℕ, ◌+◌, ◌-◌, ◌<◌, List, [], ◌∷◌, ◌++◌, length, take, get_or, All, drop, suc, refl, sym, ap, ◌∙◌, arith}
 use Rattle.std.proofs.lemmas.List.{length-map, take_more, take_all, take_at, get_or_push, length_push}
 use Rattle.tt_board.specs.Position.{Position, Colouring}
-use Rattle.tt_game.specs.Game.{State, history}
+use Rattle.tt_game.specs.declared.frame.Side.{Side}
+use Rattle.tt_game.specs.declared.frame.Side.TheVariants.{Attacker, Defender}
+use Rattle.tt_game.specs.Game.{State, history, opponent}
 use Rattle.tt_game.specs.Course.{Course, so_far, colourings}
 use Rattle.tt_game.specs.Undoing.{course_of, state_at, front, last}
 
@@ -56,3 +58,8 @@ same_boards g (b ∷ bs) (c ∷ cs) h k e =
   where
     one : (x y : Position) → x.size ≡ y.size → x.points ≡ y.points → x ≡ y
     one x y s p = ap (λ (z : Size). let w : Position = record { size = z; points = x.points } in w) s ∙ ap (λ (z : Colouring). let w : Position = record { size = y.size; points = z } in w) p
+
+-- the other side's other side is the side
+pub twice : (side : Side) → opponent (opponent side) ≡ side
+twice Attacker = refl
+twice Defender = refl

@@ -15,6 +15,7 @@ use Rattle.tt_game.specs.declared.turns.Turn.{Turn}
 use Rattle.tt_game.specs.declared.turns.Turn.TheVariants.{Play, Pass}
 use Rattle.tt_game.specs.declared.frame.Frame.{Frame}
 use Rattle.tt_game.specs.Game.{State, history, winner_of, made, after, opponent, IsLegal, Forces, colour_of, longest}
+use Rattle.tt_game.proofs.CourseLemmas.{twice}
 use Rattle.tt_game.specs.Legality.{legal}
 use Rattle.tt_game.specs.Laws.{IsState, SomeSideForces, TurnsKeepStates, ValuesAreForced}
 use Rattle.tt_game.proofs.OneSide.{not_both}
@@ -57,10 +58,6 @@ some_or_all P Q (suc n) each =
         | inr all ↦ inr (λ k below. elim (cases_eq k n) [ inl same ↦ subst Q (sym same) q | inr apart ↦ all k (omega arith) ])
       ]
     ]
-
-twice : (side : Side) → opponent (opponent side) ≡ side
-twice Attacker = refl
-twice Defender = refl
 
 -- how many turns are left at the most: two for each new colouring, and the passes still open
 room : Frame → State → ℕ

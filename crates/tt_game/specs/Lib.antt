@@ -17,6 +17,7 @@ pub mod RecordLaws
 -- What private contracts and proofs cite. Nobody has to believe these.
 pub mod Undoing
 pub mod Members
+pub mod Roots
 pub mod TurnLaws
 pub mod KeyLaws
 pub mod SideLaws

@@ -177,10 +177,15 @@ impl Game {
     }
 
     /// The game as a problem: the history and the side to move stay.
-    pub(crate) fn pose(self, region: PointSet, targets: PointSet, defender: Colour) -> Line
+    pub(crate) fn pose(
+        self,
+        region: PointSet,
+        targets: PointSet,
+        defender: Colour,
+    ) -> Result<Line, NoMemory>
         requires some { 0 < set.len targets }
         requires on_board { LiesOn self.size targets }
-        ensures { result ≡ posed self region targets defender }
+        ensures { IfOk result (λ l. l ≡ posed self region targets defender) }
     {
         let to_move = if self.to_move == defender {
             Side::Defender

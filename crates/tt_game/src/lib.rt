@@ -14,6 +14,7 @@ mod nodes;
 mod past;
 mod problems;
 mod records;
+mod root;
 mod turns;
 
 pub use faults::{GameFault, Refused, Why};

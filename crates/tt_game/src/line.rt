@@ -8,8 +8,10 @@ use crate::faults::{Refused, Why};
 use crate::frame::{Frame, Side};
 use crate::history::History;
 use crate::past::Past;
+use crate::root::Root;
 use crate::turns::Turn;
 use std::marker::Model;
+use std::sync::Arc;
 use tt_board::{Board, Colour};
 use tt_sgf::{NoMemory, Point};
 
@@ -20,10 +22,12 @@ enum Undo {
     UndoPass,
 }
 
-/// A problem and a game of it. Contracts see its frame, its state, and the states that pops lead back to.
+/// A problem and a game of it. Contracts see its frame, its state, and the states that pops lead back to. The root is what
+/// all that is kept of it shares.
 #[derive(Drop)]
 pub struct Line {
     frame: Frame,
+    root: Arc<Root>,
     history: History,
     to_move: Side,
     pushes: Vec<Undo>,
@@ -32,7 +36,9 @@ pub struct Line {
 impl Model for Line {
     ghost use Rattle.std.specs.Prelude.{◌≡◌, ◌<◌, ◌≤◌, reverse, length, All};
     ghost use Rattle.tt_sgf.specs.Sizes.{point_count};
+    ghost use Rattle.std.specs.Arc.{arc_value};
     ghost use Rattle.tt_game.specs.Line.{Standing, HasTargets};
+    ghost use Rattle.tt_game.specs.Roots.{AreRooted};
     ghost use Rattle.tt_game.specs.Undoing.{standing_of, state_at, IsUndoable};
     ghost use Rattle.tt_sgf.specs.contracts.sets.PointSet as points;
     ghost use Rattle.std.specs.Coded.{codes};
@@ -47,6 +53,8 @@ impl Model for Line {
       size : l.history.size ≡ l.frame.size;
       targets : HasTargets l.frame;
       undoable : IsUndoable (state_at l.history l.to_move) (reverse l.pushes.items);
+      same_frame : (arc_value l.root).frame ≡ l.frame;
+      rooted : AreRooted (arc_value l.root).begun (state_at l.history l.to_move) (reverse l.pushes.items);
     } };
 }
 
@@ -61,18 +69,20 @@ impl Line {
     ghost use Rattle.tt_game.specs.declared.turns.Turn.{Turn};
 
     /// The line that begins with this history, with nothing to undo.
-    pub(crate) fn begin(frame: Frame, history: History, to_move: Side) -> Line
+    pub(crate) fn begin(frame: Frame, history: History, to_move: Side) -> Result<Line, NoMemory>
         requires size { history.size ≡ frame.size }
         requires targets { HasTargets frame }
-        ensures { result ≡ record { frame = frame; state = state_at history to_move; before = [] } }
+        ensures { IfOk result (λ l. l ≡ record { frame = frame; state = state_at history to_move; before = [] }) }
     {
+        let root = Arc::new(history.alloc(), Root::of(&frame, &history)?)?;
         let pushes = Vec::new(history.alloc());
-        Line {
+        Ok(Line {
             frame,
+            root,
             history,
             to_move,
             pushes,
-        }
+        })
     }
 
     /// Who moves next.
@@ -309,17 +319,26 @@ impl Line {
     }
 
     /// Where the line stands, to be kept in little memory.
+    #[tactic(auto, using(crate::proofs::RootLemmas::rooted_here))]
     pub fn past(&self) -> Result<Past, NoMemory>
         ensures { IfOk result (λ p. p ≡ record { frame = self.now.frame; state = self.now.state }) }
     {
-        Past::of(&self.frame, &self.history, self.to_move)
+        Past::of(&self.root, &self.history, self.to_move)
     }
 
-    /// The same line, with nothing to undo.
+    /// The same line, with nothing to undo. What is kept of both shares one root.
+    #[tactic(auto, using(crate::proofs::RootLemmas::rooted_here))]
     pub fn try_clone(&self) -> Result<Line, NoMemory>
         ensures { IfOk result (λ l. l ≡ record { frame = self.now.frame; state = self.now.state; before = [] }) }
     {
         let history = self.history.copy()?;
-        Ok(Line::begin(self.frame.copy(), history, self.to_move))
+        let pushes = Vec::new(history.alloc());
+        Ok(Line {
+            frame: self.frame.copy(),
+            root: Arc::try_clone(&self.root)?,
+            history,
+            to_move: self.to_move,
+            pushes,
+        })
     }
 }

@@ -1,58 +1,109 @@
 //! Where lines stood, kept in little memory.
 
-ghost use Rattle.std.specs.Prelude.{◌≡◌, ◌<◌, ◌↔◌, length, All, IsTrue, IfOk};
+ghost use Rattle.std.specs.Prelude.{◌≡◌, ◌<◌, ◌++◌, ◌↔◌, length, All, IsTrue, IfOk};
+ghost use Rattle.std.specs.Arc.{arc_value};
+ghost use Rattle.tt_sgf.specs.declared.size.Size.{Size};
+ghost use Rattle.tt_game.specs.Course.{so_far, colourings};
+ghost use Rattle.tt_game.specs.Game.{history};
 ghost use Rattle.tt_game.specs.Keys.{key_of};
 ghost use Rattle.tt_game.specs.Undoing.{state_at};
+ghost use Rattle.tt_game.specs.Roots.{Begins, since};
 
-use crate::frame::{Frame, Side};
+use crate::frame::Side;
 use crate::history::History;
 use crate::keys::{Key, key_at};
 use crate::line::Line;
+use crate::root::Root;
+use std::alloc::Global;
 use std::marker::Model;
+use std::sync::Arc;
 use tt_board::{Board, Boards};
 use tt_sgf::NoMemory;
 
-/// Where a line stood: its frame, history, side to move and passes. The history's boards are kept by their differences.
+/// Where a line stood: its frame, history, side to move and passes. What the line shares with others of its beginning stands
+/// once; the boards since then are kept by their differences.
 #[derive(Drop)]
 pub struct Past {
-    frame: Frame,
-    boards: Boards,
+    root: Arc<Root>,
+    later: Option<Boards>,
     to_move: Side,
     passes: u8,
 }
 
 impl Model for Past {
-    ghost use Rattle.std.specs.Prelude.{◌≡◌, ◌<◌, length, All};
+    ghost use Rattle.std.specs.Prelude.{◌≡◌, ◌<◌, ◌++◌, length, All};
+    ghost use Rattle.std.specs.Arc.{arc_value};
     ghost use Rattle.std.specs.Coded.{codes};
     ghost use Rattle.tt_sgf.specs.contracts.sets.PointSet as points;
     ghost use Rattle.tt_game.specs.Line.{Stood};
+    ghost use Rattle.tt_game.specs.Roots.{since};
     ghost use Rattle.tt_game.specs.Undoing.{course_of, state_at};
 
     ghost Value = { Stood };
 
     ghost coded = { Prim.hlevel (codes, points.the_row.coded) };
 
-    ghost view = { λ p. record { frame = p.frame; state = state_at (course_of p.frame.size p.boards p.passes) p.to_move } };
+    ghost view = { λ p. record {
+      frame = (arc_value p.root).frame;
+      state = state_at (course_of (arc_value p.root).frame.size ((arc_value p.root).begun ++ since p.later) p.passes) p.to_move;
+    } };
 
     ghost invariant = { λ p. record {
-      some_board : 0 < length p.boards;
-      sizes : All (λ b. b.size ≡ p.frame.size) p.boards;
+      some_board : 0 < length ((arc_value p.root).begun ++ since p.later);
+      sizes : All (λ b. b.size ≡ (arc_value p.root).frame.size) ((arc_value p.root).begun ++ since p.later);
     } };
 }
 
+/// Boards of one size, kept by their differences; nothing where there are none.
+fn kept(alloc: Global, boards: &[Board]) -> Result<Option<Boards>, NoMemory>
+    requires { (g : Size) × All (λ b. b.size ≡ g) boards.now }
+    ensures { IfOk result (λ b. since b ≡ boards.now) }
+{
+    if boards.is_empty() {
+        return Ok(None);
+    }
+    Ok(Some(Boards::of(alloc, boards)?))
+}
+
+/// Whether these boards are exactly those that are kept, none where nothing is.
+fn are_kept(kept: &Option<Boards>, boards: &[Board]) -> bool
+    ensures { IsTrue result ↔ (since kept.now ≡ boards.now) }
+{
+    match kept {
+        Some(kept) => kept.are(boards),
+        None => boards.is_empty(),
+    }
+}
+
 impl Past {
-    /// What stands in this frame after this history.
-    pub(crate) fn of(frame: &Frame, history: &History, to_move: Side) -> Result<Past, NoMemory>
-        requires { history.now.size ≡ frame.now.size }
-        ensures { IfOk result (λ p. p ≡ record { frame = frame.now; state = state_at history.now to_move }) }
+    /// What stands after this history, which begins as the root's lines began.
+    pub(crate) fn of(root: &Arc<Root>, history: &History, to_move: Side) -> Result<Past, NoMemory>
+        requires size { history.now.size ≡ (arc_value root.now).frame.size }
+        requires begins { Begins (arc_value root.now).begun (so_far history.now) }
+        ensures { IfOk result (λ p. p ≡ record { frame = (arc_value root.now).frame; state = state_at history.now to_move }) }
     {
-        let boards = Boards::of(history.alloc(), history.boards())?;
+        let later = kept(history.alloc(), &history.boards()[root.count()..])?;
         Ok(Past {
-            frame: frame.copy(),
-            boards,
+            root: Arc::try_clone(root)?,
+            later,
             to_move,
             passes: history.passes(),
         })
+    }
+
+    /// Whether the boards are exactly those of the history there.
+    fn has_history(&self, boards: &[Board]) -> bool
+        requires { All (λ b. b.size ≡ self.now.frame.size) boards.now }
+        ensures { IsTrue result ↔ (history self.now.state ≡ colourings boards.now) }
+    {
+        let begun = self.root.count();
+        if boards.len() < begun {
+            return false;
+        }
+        if !are_kept(&self.later, &boards[begun..]) {
+            return false;
+        }
+        self.root.began_with(&boards[..begun])
     }
 
     /// Whether the line stands there: with the same frame, history, side to move and passes. It takes no memory.
@@ -65,10 +116,10 @@ impl Past {
         if self.passes != line.passes() {
             return false;
         }
-        if !self.frame.same(line.frame()) {
+        if !self.root.frame().same(line.frame()) {
             return false;
         }
-        self.boards.are(line.history())
+        self.has_history(line.history())
     }
 
     /// The present board there.
@@ -76,13 +127,16 @@ impl Past {
         ensures size { result.now.size ≡ self.now.frame.size }
         ensures points { result.now.points ≡ self.now.state.present }
     {
-        self.boards.last()
+        match &self.later {
+            Some(later) => later.last(),
+            None => self.root.last(),
+        }
     }
 
     /// The key of the position there. It takes no memory.
     pub fn key(&self) -> Key
         ensures { result ≡ key_of self.now.frame self.now.state }
     {
-        key_at(&self.frame, self.present(), self.to_move, self.passes)
+        key_at(self.root.frame(), self.present(), self.to_move, self.passes)
     }
 }

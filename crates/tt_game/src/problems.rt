@@ -69,7 +69,10 @@ fn pose(game: Game, node: &Node) -> Result<Line, GameFault>
     let Some(defender) = common_colour(game.present(), &targets) else {
         return Err(GameFault::MixedTargets);
     };
-    Ok(game.pose(region, targets, defender))
+    match game.pose(region, targets, defender) {
+        Ok(line) => Ok(line),
+        Err(_) => Err(GameFault::NoMemory),
+    }
 }
 
 /// The problem at the first of these nodes with TR.

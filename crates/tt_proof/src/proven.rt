@@ -75,6 +75,19 @@ impl Proof {
         &self.plan
     }
 
+    /// The tree with its measures, and nothing of where the proof stood.
+    fn into_plan(self) -> Plan
+        ensures plan { result ≡ self.tree }
+        ensures wins { IsWon self.side self.frame self.state self.tree }
+    {
+        let Proof {
+            past: _,
+            side: _,
+            plan,
+        } = self;
+        plan
+    }
+
     /// The turn that the side plays first, where it is to move.
     pub fn first(&self) -> Option<Turn>
         ensures { result ≡ first_of self.now.tree }
@@ -172,11 +185,8 @@ impl Proof {
         ensures { IfOk result (λ p. StandsAt p line.now.frame line.now.state × (p.side ≡ child.side)
             × (p.tree ≡ pick t child.tree)) }
     {
-        let Proof {
-            past: _,
-            side,
-            plan,
-        } = child;
+        let side = child.side();
+        let plan = child.into_plan();
         let past = line.past()?;
         let plan = Plan::pick(alloc, t, plan)?;
         Ok(Proof { past, side, plan })
@@ -198,12 +208,7 @@ impl Proof {
     {
         let mut replies = Replies::with_capacity(alloc, children.len())?;
         for (turn, child) in children {
-            let Proof {
-                past: _,
-                side: _,
-                plan,
-            } = child;
-            replies.push(turn, plan)?;
+            replies.push(turn, child.into_plan())?;
         }
         let past = line.past()?;
         let plan = replies.into_plan(alloc)?;

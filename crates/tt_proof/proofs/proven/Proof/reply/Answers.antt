@@ -3,7 +3,7 @@ use Rattle.std.proofs.Math.Seq.{append_snoc}
 use Rattle.std.proofs.lemmas.List.{append-nil}
 use Rattle.tt_game.specs.Game.{opponent}
 use Rattle.tt_game.specs.Line.{Stood}
-use Rattle.tt_proof.specs.Proven.{AreChildren, IsWon, Proven, trees_of}
+use Rattle.tt_proof.specs.Proven.{AreChildren, trees_of}
 use Rattle.tt_proof.specs.Strategy.{reply, entries_of}
 use Rattle.tt_proof.proofs.ProvenLemmas.{AllWon, won_reply, all_won_push, trees_of_push}
 use Rattle.tt_proof.proofs.proven.Proof.reply.Goals as goal
@@ -15,7 +15,6 @@ at_end xs (y ∷ ys) zs e h = absurd (omega (arith, h))
 
 pub loop-turn-preserved : goal.loop-turn-preserved
 loop-turn-preserved c =
-    let won = subst (λ (p : Proven). IsWon p.side p.frame p.state p.tree) c.child.view_is c.child.invariant in
     let left = subst (λ xs. AreChildren c.args.line.now.frame c.args.line.now.state xs) c.in-Some.ensures.steps.0 c.loop-turn.invariant.left in
     record {
       order =
@@ -23,10 +22,10 @@ loop-turn-preserved c =
           ∙ ap (λ r. c.loop-turn.yielded ++ r) (sym c.in-Some.ensures.steps.0) ∙ c.loop-turn.invariant.order;
       same =
           c.in_ok-push.ensures.ok
-          ∙ ap (λ xs. xs ++ ((c.in-Some.turn, c.child.inside.plan) ∷ [])) c.loop-turn.invariant.same
-          ∙ ap (λ y. trees_of c.loop-turn.yielded ++ ((c.in-Some.turn, y) ∷ [])) (ap (λ (p : Proven). p.tree) c.child.view_is)
+          ∙ ap (λ xs. xs ++ ((c.in-Some.turn, c.into_plan.result) ∷ [])) c.loop-turn.invariant.same
+          ∙ ap (λ y. trees_of c.loop-turn.yielded ++ ((c.in-Some.turn, y) ∷ [])) c.into_plan.ensures.plan
           ∙ sym (trees_of_push c.loop-turn.yielded (c.in-Some.turn, c.in-Some.child));
-      won = all_won_push c.loop-turn.yielded (c.in-Some.turn, c.in-Some.child) c.loop-turn.invariant.won won;
+      won = all_won_push c.loop-turn.yielded (c.in-Some.turn, c.in-Some.child) c.loop-turn.invariant.won c.into_plan.ensures.wins;
       left = left.1;
     }
 

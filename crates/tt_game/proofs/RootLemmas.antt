@@ -1,0 +1,105 @@
+-- What lines and what is kept of them have in common: the boards of their beginning.
+use Rattle.tt_sgf.specs.declared.size.Size.{Size}
+use Rattle.std.proofs.Common.{◌≡◌, ℕ, ◌<◌, ◌≤◌, min, All, List, [], ◌∷◌, ◌++◌, length, take, drop, reverse, refl, sym, ap, subst, ◌∙◌, arith}
+use Rattle.std.proofs.lemmas.List.{take-append-le, take-append-drop, take_at, drop_at, length-take, drop-map, map-append, reverse-append, length_push}
+use Rattle.tt_board.specs.Position.{Position, Colouring}
+use Rattle.tt_game.specs.declared.frame.Side.{Side}
+use Rattle.tt_game.specs.declared.line.Undo.{Undo}
+use Rattle.tt_game.specs.declared.line.Undo.TheVariants.{UndoPlay, UndoPass}
+use Rattle.tt_game.specs.Game.{State, history, opponent}
+use Rattle.tt_game.specs.Course.{Course, so_far, colourings, with_play, with_pass}
+use Rattle.tt_game.specs.Undoing.{course_of, state_at, undone, IsUndoable}
+use Rattle.tt_game.specs.Roots.{Begins, AreRooted}
+use Rattle.tt_game.proofs.CourseLemmas.{length-colourings, course_from, front_push, last_push, history_is, same_boards, twice}
+
+-- a history has at least as many colourings as boards that it begins with
+pub begins_long : (bs : List Position) (h : List Colouring) → Begins bs h → length bs ≤ length h
+begins_long bs h b =
+    let e : min (length bs) (length h) ≡ length bs = sym (length-take (length bs) h) ∙ ap length b ∙ length-colourings bs in
+    omega (arith, e)
+
+-- a history that goes on begins as it did
+pub begins_on : (bs : List Position) (h t : List Colouring) → Begins bs h → Begins bs (h ++ t)
+begins_on bs h t b = take-append-le (length bs) h t (begins_long bs h b) ∙ b
+
+-- the present history begins with the root's boards
+pub rooted_here : (bs : List Position) (s : State) (us : List Undo) → AreRooted bs s us → Begins bs (history s)
+rooted_here bs s [] r = r
+rooted_here bs s (u ∷ us) r = r.0
+
+-- a push that leads back to a rooted state, behind pushes that are rooted
+rooted_push : (bs : List Position) (s t : State) (u : Undo) (ps : List Undo) → undone t u ≡ s → Begins bs (history t) → AreRooted bs s (reverse ps)
+    → AreRooted bs t (reverse (ps ++ u ∷ []))
+rooted_push bs s t u ps back here r =
+    subst (λ us. AreRooted bs t us) (sym (reverse-append ps (u ∷ []))) (here, subst (λ z. AreRooted bs z (reverse ps)) (sym back) r)
+
+-- two states are one where their parts are
+same_state : (xs ys : List Colouring) (x y : Colouring) (a b : Side) (n m : ℕ) → xs ≡ ys → x ≡ y → a ≡ b → n ≡ m
+    → (let s : State = record { earlier = xs; present = x; to_move = a; passes = n } in s) ≡ (let s : State = record { earlier = ys; present = y; to_move = b; passes = m } in s)
+same_state xs ys x y a b n m e f g h = cc
+
+-- a pass leads back to the state before it, and so does a play
+before_pass : (c : Course) (side : Side) → undone (state_at (with_pass c) (opponent side)) UndoPass ≡ state_at c side
+before_pass c side = same_state c.earlier c.earlier c.present c.present _ side _ c.passes refl refl (twice side) (omega arith)
+
+before_play : (c : Course) (side : Side) (next : Colouring) → undone (state_at (with_play c next) (opponent side)) (UndoPlay c.passes) ≡ state_at c side
+before_play c side next = same_state _ c.earlier _ c.present _ side c.passes c.passes (front_push c.earlier c.present) (last_push c.earlier c.present) (twice side) refl
+
+-- a pass keeps the histories
+pub rooted_pass : (bs : List Position) (c : Course) (side : Side) (ps : List Undo) → AreRooted bs (state_at c side) (reverse ps)
+    → AreRooted bs (state_at (with_pass c) (opponent side)) (reverse (ps ++ UndoPass ∷ []))
+rooted_pass bs c side ps r =
+    rooted_push bs (state_at c side) (state_at (with_pass c) (opponent side)) UndoPass ps
+    (before_pass c side) (rooted_here bs (state_at c side) (reverse ps) r) r
+
+-- a play goes on with them
+pub rooted_play : (bs : List Position) (c : Course) (side : Side) (ps : List Undo) (next : Colouring) → AreRooted bs (state_at c side) (reverse ps)
+    → AreRooted bs (state_at (with_play c next) (opponent side)) (reverse (ps ++ UndoPlay c.passes ∷ []))
+rooted_play bs c side ps next r =
+    rooted_push bs (state_at c side) (state_at (with_play c next) (opponent side)) (UndoPlay c.passes) ps
+    (before_play c side next) (begins_on bs (so_far c) (next ∷ []) (rooted_here bs (state_at c side) (reverse ps) r)) r
+
+-- a pass can be undone, and so can what could before it
+pub undoable_pass : (c : Course) (side : Side) (ps : List Undo) → IsUndoable (state_at c side) (reverse ps)
+    → IsUndoable (state_at (with_pass c) (opponent side)) (reverse (ps ++ UndoPass ∷ []))
+undoable_pass c side ps u =
+    subst (λ us. IsUndoable (state_at (with_pass c) (opponent side)) us) (sym (reverse-append ps (UndoPass ∷ [])))
+    (omega arith, subst (λ s. IsUndoable s (reverse ps)) (sym (before_pass c side)) u)
+
+-- so can a play
+pub undoable_play : (c : Course) (side : Side) (ps : List Undo) (next : Colouring) → c.passes ≤ 2 → IsUndoable (state_at c side) (reverse ps)
+    → IsUndoable (state_at (with_play c next) (opponent side)) (reverse (ps ++ UndoPlay c.passes ∷ []))
+undoable_play c side ps next most u =
+    subst (λ us. IsUndoable (state_at (with_play c next) (opponent side)) us) (sym (reverse-append ps (UndoPlay c.passes ∷ [])))
+    (omega (arith, length_push c.earlier c.present), most, subst (λ s. IsUndoable s (reverse ps)) (sym (before_play c side next)) u)
+
+-- boards that a history begins with and the boards behind them show the history
+pub begun_and_since : (bs there : List Position) → Begins bs (colourings there) → colourings (bs ++ drop (length bs) there) ≡ colourings there
+begun_and_since bs there b =
+    map-append (λ (x : Position). x.points) bs (drop (length bs) there)
+    ∙ ap (λ cs. cs ++ colourings (drop (length bs) there)) (sym b)
+    ∙ ap (λ cs. take (length bs) (colourings there) ++ cs) (sym (drop-map (λ (x : Position). x.points) (length bs) there))
+    ∙ take-append-drop (length bs) (colourings there)
+
+-- what is kept of a course that begins with boards, those and the boards behind them, shows the course
+pub kept_shows : (c : Course) (bs there : List Position) (side : Side) → colourings there ≡ so_far c → Begins bs (so_far c)
+    → state_at (course_of c.size (bs ++ drop (length bs) there) c.passes) side ≡ state_at c side
+kept_shows c bs there side e b =
+    ap (λ (x : Course). state_at x side) (course_from (bs ++ drop (length bs) there) c (begun_and_since bs there (ap (take (length bs)) e ∙ b) ∙ e))
+
+-- boards are two lists one behind the other exactly where they begin with the first and go on with the second
+pub two_parts : (bs later there : List Position) → bs ++ later ≡ there → (bs ≡ take (length bs) there) × (later ≡ drop (length bs) there)
+two_parts bs later there e =
+    (sym (take_at bs later (length bs) refl) ∙ ap (take (length bs)) e, sym (drop_at bs later (length bs) refl) ∙ ap (drop (length bs)) e)
+
+pub of_two_parts : (bs later there : List Position) → bs ≡ take (length bs) there → later ≡ drop (length bs) there → bs ++ later ≡ there
+of_two_parts bs later there e f =
+    ap (λ xs. xs ++ later) e ∙ ap (λ xs. take (length bs) there ++ xs) f ∙ take-append-drop (length bs) there
+
+-- a state that boards show has their history, and no other boards of their size have it
+pub shows_boards : (g : Size) (bs there : List Position) (passes : ℕ) (side : Side) (s : State) → 0 < length bs
+    → All (λ (b : Position). b.size ≡ g) bs → All (λ (b : Position). b.size ≡ g) there → state_at (course_of g bs passes) side ≡ s
+    → (history s ≡ colourings there → bs ≡ there) × (bs ≡ there → history s ≡ colourings there)
+shows_boards g bs there passes side s some sizes others shown =
+    let own : history s ≡ colourings bs = ap history (sym shown) ∙ history_is g bs passes some in
+    (λ e. same_boards g bs there sizes others (sym own ∙ e), λ e. own ∙ ap colourings e)

@@ -1,0 +1,27 @@
+-- What lines of one beginning share, and what is kept of them. For private contracts and for proofs.
+use Rattle.std.specs.Prelude.{◌≡◌, List, [], ◌∷◌, length, take, Option, Some, None}
+use Rattle.tt_board.specs.Position.{Position, Colouring}
+use Rattle.tt_game.specs.declared.frame.Frame.{Frame}
+use Rattle.tt_game.specs.Course.{colourings}
+use Rattle.tt_game.specs.declared.line.Undo.{Undo}
+use Rattle.tt_game.specs.Game.{State, history}
+use Rattle.tt_game.specs.Undoing.{undone}
+
+-- a frame, and the boards that lines had when the first of them began, oldest first
+pub record Rooted : Type 0 where
+  pub frame : Frame
+  pub begun : List Position
+
+-- a history begins with the colourings of these boards
+abbrev pub Begins : List Position → List Colouring → Type 0
+Begins begun h = take (length begun) h ≡ colourings begun
+
+-- the histories of a state, and of the states that pops lead back to, begin with these boards
+abbrev pub AreRooted : List Position → State → List Undo → Type 0
+AreRooted begun s [] = Begins begun (history s)
+AreRooted begun s (u ∷ us) = Begins begun (history s) × AreRooted begun (undone s u) us
+
+-- the boards behind the root's, none where nothing is kept
+abbrev pub since : Option (List Position) → List Position
+since None = []
+since (Some bs) = bs
