@@ -77,17 +77,17 @@ child_at goal v [] d h e = absurd (h e)
 child_at goal v (tree ∷ trees) d h e = child_here goal v tree trees d e (child_at goal v trees d h) (number goal tree == v) refl
 
 -- an expanded node's number for the side to move is the least of its children's
-own_number : (mover : Side) (turns : List Turn) (children : Children) → number mover (expanded mover turns children) ≡ least (numbers mover children)
+pub own_number : (mover : Side) (turns : List Turn) (children : Children) → number mover (expanded mover turns children) ≡ least (numbers mover children)
 own_number Attacker turns children = refl
 own_number Defender turns children = refl
 
 -- and its number for the other side is their capped sum
-other_number : (mover : Side) (turns : List Turn) (children : Children) → number (opponent mover) (expanded mover turns children) ≡ capped_sum (numbers (opponent mover) children)
+pub other_number : (mover : Side) (turns : List Turn) (children : Children) → number (opponent mover) (expanded mover turns children) ≡ capped_sum (numbers (opponent mover) children)
 other_number Attacker turns children = refl
 other_number Defender turns children = refl
 
 -- at an undecided tree no side's number is 0
-undecided_number : (tree : PartialTree) → IsUndecided tree → (goal : Side) → number goal tree ≢ 0
+pub undecided_number : (tree : PartialTree) → IsUndecided tree → (goal : Side) → number goal tree ≢ 0
 undecided_number tree u Attacker = u.0
 undecided_number tree u Defender = u.1
 

@@ -8,6 +8,7 @@ pub mod Open
 pub mod Steady
 pub mod Sprouted
 pub mod WayDown
+pub mod Changed
 pub mod Advanced
 pub mod Strategies
 pub mod Successors

@@ -287,3 +287,37 @@ lighter_here es ts us i n e l r d =
 -- past the last edge there are no replies
 pub replies_at_end : (side : Side) (es : List Edge) (rest : List PartialTree) (i : ℕ) → length es ≤ i → replies side (turns_of (drop i es)) (children_of (trees_of (drop i es) rest)) ≡ none
 replies_at_end side es rest i l = at_drop_all (λ xs. replies side (turns_of xs) (children_of (trees_of xs rest))) es i l
+
+-- ---- as many nodes as children that have grown
+
+-- where as many nodes are left as have grown, a child that has grown has its node
+some_node : (m : Mark) (n k : ℕ) → counted m n ≡ k → counted m 0 ≤ k
+some_node Fresh n k h = omega arith
+some_node (Won side) n k h = omega arith
+some_node Grown n k h = omega (arith, h)
+
+-- and behind it as many are left
+nodes_behind : (m : Mark) (n : ℕ) (ts : List PartialTree) → counted m n ≡ length ts → n ≡ length (grown_behind m ts)
+nodes_behind Fresh n ts h = h
+nodes_behind (Won side) n ts h = h
+nodes_behind Grown n [] h = absurd (omega (arith, h))
+nodes_behind Grown n (t ∷ ts) h = omega (arith, h)
+
+-- so it is at each place of a loop over the edges
+module _ (es : List Edge) (ts : List PartialTree) (i : ℕ) (e : Edge) (l : i < length es) (whole : grown_in (drop i es) ≡ length ts) where
+  counted_here : counted (mark_of (get_or es i e)) (grown_in (drop (i + 1) es)) ≡ length ts
+  counted_here = sym (at_drop_more grown_in es i e l) ∙ whole
+
+  -- the child there has its node, if it has grown
+  pub node_there : counted (mark_of (get_or es i e)) 0 ≤ length ts
+  node_there = some_node (mark_of (get_or es i e)) (grown_in (drop (i + 1) es)) (length ts) counted_here
+
+  -- and behind it there are as many nodes as have grown
+  pub whole_behind : grown_in (drop (i + 1) es) ≡ length (grown_behind (mark_of (get_or es i e)) ts)
+  whole_behind = nodes_behind (mark_of (get_or es i e)) (grown_in (drop (i + 1) es)) ts counted_here
+
+-- another edge at a place leaves those before it
+pub take_set : (es : List Edge) (i : ℕ) (e : Edge) → take i (set es i e) ≡ take i es
+take_set [] i e = refl
+take_set (x ∷ es) zero e = refl
+take_set (x ∷ es) (suc i) e = ap (λ ys. x ∷ ys) (take_set es i e)

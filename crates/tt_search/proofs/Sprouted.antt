@@ -2,14 +2,14 @@
 use Rattle.std.proofs.Common.{◌≡◌, ℕ, zero, suc, ◌<◌, ◌≤◌, List, [], ◌∷◌, None, length, get_or, set, take, drop, insert, refl, sym, ◌∙◌, ap, subst, arith}
 use Rattle.tt_game.specs.declared.frame.Side.{Side}
 use Rattle.tt_game.specs.Game.{winner_of}
-use Rattle.tt_search.specs.PartialTree.{PartialTree, fresh}
+use Rattle.tt_search.specs.PartialTree.{PartialTree, fresh, won}
 use Rattle.tt_search.specs.Numbers.{IsUndecided}
 use Rattle.tt_search.specs.Edges.{turn_of, mark_of, turns_of, trees_of, tree_of, grown_in, child_at}
-use Rattle.tt_search.specs.Shape.{HasItsNodes}
+use Rattle.tt_search.specs.Packed.{HasItsNodes, child_of}
 use Rattle.tt_search.specs.Walking.{Stand, stage, stand_of}
 use Rattle.tt_search.specs.Taken.{Taken}
 use Rattle.tt_search.specs.Steady.{AreStepsAt}
-use Rattle.tt_search.specs.Sprouting.{IsFreshAt, child_of, IsPut, Sprouts, StepsBelowAt, StepsBelow}
+use Rattle.tt_search.specs.Sprouting.{IsFreshAt, IsPut, Sprouts, StepsBelowAt, StepsBelow}
 use Rattle.tt_search.specs.declared.edges.Edge.{Edge}
 use Rattle.tt_search.specs.declared.edges.Mark.{Mark}
 use Rattle.tt_search.specs.declared.edges.Mark.TheVariants.{Fresh, Won, Grown}
@@ -17,7 +17,7 @@ use Rattle.tt_search.specs.declared.limits.Reason.{Reason}
 use Rattle.tt_search.specs.declared.limits.Reason.TheVariants.{Budget, Depth, Memory}
 use Rattle.tt_search.specs.declared.limits.Step.{Step}
 use Rattle.tt_search.specs.declared.limits.Step.TheVariants.{Expanded, Stuck}
-use Rattle.tt_search.specs.declared.node.Expansion.{Expansion}
+use Rattle.tt_search.specs.declared.children.Packed.{Packed}
 use Rattle.tt_search.specs.declared.walk.Pace.{Pace}
 use Rattle.tt_search.specs.declared.walk.Walk.{Walk}
 use Rattle.tt_search.proofs.Grown.{won_decided}
@@ -31,28 +31,27 @@ stuck_fresh at left Depth tree k = (k.0, k.1, refl)
 stuck_fresh at left Memory tree k = refl
 
 -- a child that stays fresh changes nothing
-put_nothing : (place : ℕ) (x y : Expansion) → IsFreshAt place x.edges.items → y.mover ≡ x.mover → y.edges.items ≡ x.edges.items → y.grown.items ≡ x.grown.items → IsPut place x fresh y
-put_nothing place x y there mover edges row = record {
-  mover = mover;
+put_nothing : (place : ℕ) (x y : Packed) → IsFreshAt place x.edges.items → y.edges.items ≡ x.edges.items → y.grown.items ≡ x.grown.items → IsPut place x fresh y
+put_nothing place x y there edges row = record {
   turns = ap turns_of edges;
   trees = ap (λ es. trees_of es y.grown.items) edges ∙ ap (trees_of x.edges.items) row ∙ sym (fresh_tree x.edges.items x.grown.items place there);
 }
 
 -- where the step is stuck, nothing changes
-pub stays_fresh : (walk after : Walk) (place : ℕ) (x : Expansion) (step : Step) (reason : Reason) (tree : PartialTree) → IsFreshAt place x.edges.items → after ≡ walk
+pub stays_fresh : (walk after : Walk) (place : ℕ) (x : Packed) (step : Step) (reason : Reason) (tree : PartialTree) → IsFreshAt place x.edges.items → after ≡ walk
     → Taken (stand_of walk) (stage fresh walk.left) step tree → step ≡ Stuck reason → Sprouts walk place x (Stuck reason) x after
 stays_fresh walk after place x step reason tree there same h e = (
   fresh,
   stuck_fresh (stand_of walk) walk.left reason tree (subst (λ s. Taken (stand_of walk) (stage fresh walk.left) s tree) e h),
   ap (λ (w : Walk). w.left) (sym same),
-  put_nothing place x x there refl refl refl,
+  put_nothing place x x there refl refl,
 )
 
 -- nor where there is no memory for the node
-pub stays_for_memory : (walk after : Walk) (place : ℕ) (x y : Expansion) → IsFreshAt place x.edges.items → after ≡ walk → y.mover ≡ x.mover → y.edges.items ≡ x.edges.items
+pub stays_for_memory : (walk after : Walk) (place : ℕ) (x y : Packed) → IsFreshAt place x.edges.items → after ≡ walk → y.edges.items ≡ x.edges.items
     → y.grown.items ≡ x.grown.items → Sprouts walk place x (Stuck Memory) y after
-stays_for_memory walk after place x y there same mover edges row =
-    (fresh, refl, ap (λ (w : Walk). w.left) (sym same), put_nothing place x y there mover edges row)
+stays_for_memory walk after place x y there same edges row =
+    (fresh, refl, ap (λ (w : Walk). w.left) (sym same), put_nothing place x y there edges row)
 
 -- the tree of an expanded leaf may be offered
 pub leaf_offerable : (walk after : Walk) (step : Step) (new : PartialTree) → after ≡ walk → winner_of walk.line.frame walk.line.state ≡ None → step ≡ Expanded
@@ -62,16 +61,15 @@ leaf_offerable walk after step new e nobody is h =
     subst (λ (w : Walk). IsOfferable w.line new) (sym e) (expansion_offerable walk.line new nobody expands.1.1)
 
 -- the new node stands among those that have grown, and its edge says so
-module _ (x y : Expansion) (place rank : ℕ) (d e : Edge) (tree : PartialTree) (there : IsFreshAt place x.edges.items) (whole : HasItsNodes x)
+module _ (x y : Packed) (place rank : ℕ) (d e : Edge) (tree : PartialTree) (there : IsFreshAt place x.edges.items) (whole : HasItsNodes x)
     (r : rank ≡ grown_in (take place x.edges.items)) (mark : mark_of e ≡ Grown) (edges : y.edges.items ≡ set x.edges.items place e) (row : y.grown.items ≡ insert x.grown.items rank tree) where
   -- the rank is a place to insert at
   in_nodes : rank ≤ length x.grown.items
   in_nodes = omega (arith, r, rank_within x.edges.items place, whole)
 
   -- the child at the place becomes the new tree, and all else stays
-  pub put : y.mover ≡ x.mover → turn_of e ≡ turn_of (get_or x.edges.items place d) → IsPut place x tree y
-  put mover turn = record {
-    mover = mover;
+  pub put : turn_of e ≡ turn_of (get_or x.edges.items place d) → IsPut place x tree y
+  put turn = record {
     turns = rw edges (same_turns x.edges.items place d e (fresh_there x.edges.items place there) turn);
     trees =
         rw edges
@@ -115,6 +113,10 @@ module _ (es : List Edge) (ts : List PartialTree) (i : ℕ) (e : Edge) (l : i < 
   pub fresh_child : mark_of e ≡ Fresh → child_at i es ts ≡ fresh
   fresh_child m = child_is ∙ ap (λ k. tree_of k (drop (grown_in (take i es)) ts)) m
 
+  -- a child whose edge says that a side has won is won
+  pub won_child : (s : Side) → mark_of e ≡ Won s → child_at i es ts ≡ won s
+  won_child s m = child_is ∙ ap (λ k. tree_of k (drop (grown_in (take i es)) ts)) m
+
   -- the edge of an undecided child doesn't say that a side has won
   pub not_won : IsUndecided (child_at i es ts) → (m : Mark) → mark_of e ≡ m → (s : Side) → m ≡ Won s → ⊥
   not_won u m h s w = won_decided s (subst IsUndecided (child_is ∙ ap (λ k. tree_of k (drop (grown_in (take i es)) ts)) (h ∙ w)) u)
@@ -138,7 +140,7 @@ any_default (t ∷ ts) zero a b l = refl
 any_default (t ∷ ts) (suc i) a b l = any_default ts i a b (omega arith)
 
 -- the node of a child that has grown
-module _ (x : Expansion) (i rank : ℕ) (e : Edge) (node : PartialTree) (l : i < length x.edges.items) (is : e ≡ get_or x.edges.items i e) (whole : HasItsNodes x)
+module _ (x : Packed) (i rank : ℕ) (e : Edge) (node : PartialTree) (l : i < length x.edges.items) (is : e ≡ get_or x.edges.items i e) (whole : HasItsNodes x)
     (mark : Grown ≡ mark_of e) (r : rank ≡ grown_in (take i x.edges.items)) where
   -- the rank is that of a node
   pub rank_within_nodes : rank < length x.grown.items
@@ -153,14 +155,13 @@ module _ (x : Expansion) (i rank : ℕ) (e : Edge) (node : PartialTree) (l : i <
       ∙ sym n
 
   -- steps of the node are steps of the child
-  pub node_steps : (pace : Pace) (at : Stand) (left : ℕ) (step : Step) (new : PartialTree) (left_after : ℕ) (y : Expansion) → y.mover ≡ x.mover → y.edges.items ≡ x.edges.items
+  pub node_steps : (pace : Pace) (at : Stand) (left : ℕ) (step : Step) (new : PartialTree) (left_after : ℕ) (y : Packed) → y.edges.items ≡ x.edges.items
       → y.grown.items ≡ set x.grown.items rank new → node ≡ get_or x.grown.items rank node → AreStepsAt pace at (stage node left) step (stage new left_after)
       → StepsBelowAt pace at i x left step y left_after
-  node_steps pace at left step new left_after y mover edges row n k = (
+  node_steps pace at left step new left_after y edges row n k = (
     new,
     subst (λ t. AreStepsAt pace at (stage t left) step (stage new left_after)) (sym (child_node n)) k,
     record {
-      mover = mover;
       turns = rw edges refl;
       trees =
           rw (edges, row)
@@ -170,7 +171,7 @@ module _ (x : Expansion) (i rank : ℕ) (e : Edge) (node : PartialTree) (l : i <
   )
 
 -- a step at a fresh child is one of its steps
-pub one_step : (pace : Pace) (walk : Walk) (place : ℕ) (x : Expansion) (step : Step) (y : Expansion) (after : Walk) → child_of x place ≡ fresh → Sprouts walk place x step y after
+pub one_step : (pace : Pace) (walk : Walk) (place : ℕ) (x : Packed) (step : Step) (y : Packed) (after : Walk) → child_of x place ≡ fresh → Sprouts walk place x step y after
     → StepsBelow pace walk place x step y after
 one_step pace walk place x step y after c (tree, taken, counted, put) = (
   tree,

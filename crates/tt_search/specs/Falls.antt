@@ -6,13 +6,17 @@ use Rattle.tt_search.specs.PartialTree.{PartialTree}
 use Rattle.tt_search.specs.Weight.{weight, weight_all}
 use Rattle.tt_search.specs.Children.{children_of}
 use Rattle.tt_search.specs.Edges.{tree_of, grown_behind, trees_of, mark_of, counted, grown_in}
-use Rattle.tt_search.specs.Shape.{shape, IsWhole}
+use Rattle.tt_search.specs.Choices.{weight_below}
+use Rattle.tt_search.specs.Packed.{choices_of}
+use Rattle.tt_search.specs.Kept.{IsKept}
+use Rattle.tt_search.specs.Shape.{shape}
 use Rattle.tt_search.specs.declared.edges.Edge.{Edge}
 use Rattle.tt_search.specs.declared.edges.Mark.{Mark}
 use Rattle.tt_search.specs.declared.edges.Mark.TheVariants as mark
 use Rattle.tt_search.specs.declared.node.Growth.{Growth}
 use Rattle.tt_search.specs.declared.node.Growth.TheVariants.{Fresh, Won, Closed, Expanded}
-use Rattle.tt_search.specs.declared.node.Node.TheDeep.{deep-Growth}
+use Rattle.tt_search.specs.declared.children.Children.TheInside.{Inside}
+use Rattle.tt_search.specs.declared.children.Children.TheDeep.{deep-Growth, deep-Children}
 
 -- the grown nodes weigh no more than all children, if that holds for the list without its first edge
 most-behind : (m : Mark) (es : List Edge) (ts : List PartialTree)
@@ -29,9 +33,13 @@ most-weight [] [] h = omega arith
 most-weight [] (t ∷ ts) h = absurd (omega (arith, h))
 most-weight (e ∷ es) ts h = most-behind (mark_of e) es ts (most-weight es) h
 
--- each node that a growth holds weighs less than the growth's tree
-pub deep-weight : (g : Growth) → IsWhole g → max (deep-Growth g) 0 ≤ weight (shape g)
-deep-weight Fresh h = omega arith
-deep-weight (Won s) h = omega arith
-deep-weight (Closed p) h = omega arith
-deep-weight (Expanded x) h = omega (arith, most-weight x.value.edges.items x.value.grown.items h)
+-- each node that children hold weighs less than all of them
+pub children-fall : (a : Inside) → IsKept a → deep-Children a ≤ weight_below (choices_of a.mover a.packed)
+children-fall a h = omega (arith, most-weight a.packed.edges.items a.packed.grown.items h.whole)
+
+-- the children that a growth holds weigh less than its tree
+pub deep-weight : (g : Growth) → max (deep-Growth g) 0 ≤ weight (shape g)
+deep-weight Fresh = omega arith
+deep-weight (Won s) = omega arith
+deep-weight (Closed p) = omega arith
+deep-weight (Expanded x) = omega arith

@@ -13,6 +13,11 @@ pub mod Children
 pub mod PartialTreeCode
 pub mod Weight
 pub mod Edges
+pub mod Choices
+pub mod Packed
+pub mod Kept
+pub mod Child
+pub mod Pairs
 pub mod Shape
 pub mod Cached
 pub mod Offered

@@ -9,10 +9,10 @@ use Rattle.tt_game.specs.contracts.turns.Turn as turn_type
 use Rattle.tt_proof.specs.StrategyCode.{strategy_code}
 use Rattle.tt_search.specs.PartialTree.{PartialTree, fresh, won, closed, expanded, Children, no_more, more}
 
-abbrev side_code : Coded Side
+abbrev pub side_code : Coded Side
 side_code = side_type.the_row.coded
 
-abbrev turns_code : Coded (List Turn)
+abbrev pub turns_code : Coded (List Turn)
 turns_code = coded_list turn_type.the_row.coded
 
 abbrev mutual

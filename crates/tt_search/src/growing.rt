@@ -4,19 +4,22 @@ ghost use Rattle.std.specs.Prelude.{◌≡◌, ◌<◌, ◌≤◌, ◌↔◌, �
 ghost use Rattle.tt_game.specs.Game.{winner_of};
 ghost use Rattle.tt_proof.specs.declared.tree.TheConstants.{MOST_DEPTH};
 ghost use Rattle.tt_search.specs.PartialTree.{fresh};
-ghost use Rattle.tt_search.specs.Edges.{grown_in};
-ghost use Rattle.tt_search.specs.Shape.{HasItsNodes};
+ghost use Rattle.tt_search.specs.Choices.{node_with, best_place, best_child};
+ghost use Rattle.tt_search.specs.Packed.{HasItsNodes, IsRank, child_of};
+ghost use Rattle.tt_search.specs.Pairs.{ArePair};
 ghost use Rattle.tt_search.specs.Walking.{stage, stand_of, MayGrow};
-ghost use Rattle.tt_search.specs.Sprouting.{IsFreshAt, child_of, Sprouts, StepsBelow};
+ghost use Rattle.tt_search.specs.Sprouting.{IsFreshAt, Sprouts, StepsBelow, BestSteps};
 ghost use Rattle.tt_search.specs.Taken.{Taken, IsLeft};
 ghost use Rattle.tt_search.specs.Steady.{AreSteps};
 ghost use Rattle.tt_search.specs.declared.limits.Step.TheVariants.{Expanded, Closed, Stuck};
 
+use crate::children::{Children, Packed};
 use crate::closing::closing;
 use crate::edges::Mark;
 use crate::leaves::{closed_leaf, expanded_at, new_leaf};
 use crate::limits::{Reason, Step};
-use crate::node::{Expansion, Growth, Node};
+use crate::node::{Growth, Node};
+use crate::numbers::Pair;
 use crate::store::Store;
 use crate::walk::{Pace, Walk};
 use tt_game::Side;
@@ -106,19 +109,23 @@ impl Node {
         ensures may { result ≡ Closed → S.may_answer }
         ensures steps { AreSteps pace walk.old self.old result self.new walk.new }
     {
+        let (proof, disproof) = (self.proof, self.disproof);
         match &mut self.growth {
             Growth::Expanded(expansion) => {
                 let expansion = &mut **expansion;
-                let (place, rank) = expansion.best();
-                let Ok(()) = walk.go_down(expansion.edges[place].turn()) else {
+                let mover = expansion.children.mover();
+                let Ok(()) = walk.go_down(expansion.children.best_turn()) else {
                     return Step::Stuck(Reason::Memory);
                 };
-                let step = expansion.grow_child(place, rank, walk, pace, store);
+                let was = Pair::of(mover, proof, disproof);
+                let (step, numbers) = expansion.children.grow_best(was, walk, pace, store);
                 walk.go_up();
-                let (proof, disproof) = expansion.numbers();
+                let (proof, disproof) = numbers.by_goal(mover);
                 self.proof = proof;
                 self.disproof = disproof;
-                walk.offering = self.offer(walk, store);
+                if let Some(side) = self.settled_for() {
+                    walk.offering = self.offer(side, walk, store);
+                }
                 step
             }
             Growth::Won(_) | Growth::Closed(_) => unreachable!(),
@@ -137,7 +144,9 @@ impl Node {
     {
         let (step, mut node) = leaf_step(walk, store);
         if let Step::Expanded = step {
-            walk.offering = node.offer(walk, store);
+            if let Some(side) = node.settled_for() {
+                walk.offering = node.offer(side, walk, store);
+            }
         }
         *self = node;
         walk.left = left_after(step, walk.left);
@@ -145,11 +154,51 @@ impl Node {
     }
 }
 
-impl Expansion {
+impl Children {
+    /// Steps at the child to go to, which is undecided, where the walk stands at it; and the numbers of the node after
+    /// them, where these were its numbers before. A new child to go to is looked for only where the least number has risen.
+    #[cycle(descent)]
+    fn grow_best<S: Store>(
+        &mut self,
+        was: Pair,
+        walk: &mut Walk,
+        pace: Pace,
+        store: &mut S,
+    ) -> (Step, Pair)
+        requires was { ArePair self.old.mover (node_with self.old) was }
+        requires there { best_place self.old < length self.old.trees }
+        requires may_grow { MayGrow (stand_of walk.old) (best_child self.old) }
+        requires room { walk.old.room ≤ MOST_DEPTH }
+        ensures line { walk.new.line ≡ walk.old.line }
+        ensures room { walk.new.room ≡ walk.old.room }
+        ensures may { result.0 ≡ Closed → S.may_answer }
+        ensures steps { BestSteps pace walk.old self.old result.0 self.new walk.new }
+        ensures numbers { ArePair self.new.mover (node_with self.new) result.1 }
+    {
+        let (place, rank) = (usize::from(self.place), usize::from(self.rank));
+        let goal = self.mover.opponent();
+        let old = self.packed.child(place, rank).number(goal);
+        let step = self.packed.grow_at(place, rank, walk, pace, store);
+        let child = self.packed.child(place, rank);
+        let own = child.number(self.mover);
+        let new = child.number(goal);
+        let other = self.packed.sum_after(self.mover, was.other, old, new);
+        if own <= was.own {
+            return (step, Pair { own, other });
+        }
+        let best = self.packed.best(self.mover);
+        self.place = best.place;
+        self.rank = best.rank;
+        let own = best.least;
+        (step, Pair { own, other })
+    }
+}
+
+impl Packed {
     /// Steps at the child of a place, which is undecided, where the walk stands at it: those of its node where it has
     /// grown, and one step where it is fresh.
     #[cycle(descent)]
-    fn grow_child<S: Store>(
+    fn grow_at<S: Store>(
         &mut self,
         place: usize,
         rank: usize,
@@ -158,7 +207,7 @@ impl Expansion {
         store: &mut S,
     ) -> Step
         requires there { place < length self.old.edges.items }
-        requires rank { rank ≡ grown_in (take place self.old.edges.items) }
+        requires rank { IsRank rank place self.old }
         requires whole { HasItsNodes self.old }
         requires may_grow { MayGrow (stand_of walk.old) (child_of self.old place) }
         requires room { walk.old.room ≤ MOST_DEPTH }
@@ -166,7 +215,7 @@ impl Expansion {
         ensures room { walk.new.room ≡ walk.old.room }
         ensures may { result ≡ Closed → S.may_answer }
         ensures whole { HasItsNodes self.new }
-        ensures offered { self.new.offered ≡ self.old.offered }
+        ensures before { take place self.new.edges.items ≡ take place self.old.edges.items }
         ensures steps { StepsBelow pace walk.old place self.old result self.new walk.new }
     {
         match self.edges[place].mark() {
@@ -188,13 +237,13 @@ impl Expansion {
         requires open { winner_of walk.old.line.frame walk.old.line.state ≡ None }
         requires whole { HasItsNodes self.old }
         requires there { IsFreshAt place self.old.edges.items }
-        requires rank { rank ≡ grown_in (take place self.old.edges.items) }
+        requires rank { IsRank rank place self.old }
         ensures line { walk.new.line ≡ walk.old.line }
         ensures room { walk.new.room ≡ walk.old.room }
         ensures may { result ≡ Closed → S.may_answer }
         ensures kept { (reason : _) → result ≡ Stuck reason → S.kept store.new ≡ S.kept store.old }
         ensures whole { HasItsNodes self.new }
-        ensures offered { self.new.offered ≡ self.old.offered }
+        ensures before { take place self.new.edges.items ≡ take place self.old.edges.items }
         ensures sprouts { Sprouts walk.old place self.old result self.new walk.new }
     {
         let (step, mut node) = leaf_step(walk, store);
@@ -205,7 +254,9 @@ impl Expansion {
             return Step::Stuck(Reason::Memory);
         }
         if let Step::Expanded = step {
-            walk.offering = node.offer(walk, store);
+            if let Some(side) = node.settled_for() {
+                walk.offering = node.offer(side, walk, store);
+            }
         }
         let Ok(()) = self.grown.insert(rank, node) else {
             unreachable!();

@@ -1,14 +1,16 @@
 //! New leaves, expanded leaves and closed leaves.
 
-ghost use Rattle.std.specs.Prelude.{◌≡◌, [], IfOk};
+ghost use Rattle.std.specs.Prelude.{◌≡◌, ◌≤◌, [], length, IfOk};
 ghost use Rattle.tt_search.specs.PartialTree.{expanded, closed};
 ghost use Rattle.tt_search.specs.Children.{children_of};
+ghost use Rattle.tt_search.specs.declared.edges.TheConstants.{TURNS};
 ghost use Rattle.tt_search.specs.Edges.{turn_of, mark_of, tree_of, turns_of, trees_of, counted, grown_in};
 ghost use Rattle.tt_search.specs.Growing.{leaf_for, expansion};
 
+use crate::children::Children;
 use crate::edges::{Edge, Mark};
 use crate::node::{Expansion, Growth, Node};
-use crate::numbers::{both_numbers, decided_number};
+use crate::numbers::decided_number;
 use std::alloc::Global;
 use std::sync::Arc;
 use tt_game::{Line, Side, Successor};
@@ -47,17 +49,16 @@ pub(crate) fn closed_leaf(proof: Arc<Proof>) -> Node
 
 /// An expanded node at which no child has grown.
 fn expanded_node(alloc: Global, mover: Side, edges: Vec<Edge>) -> Result<Node, NoMemory>
-    requires { grown_in edges.items ≡ 0 }
+    requires few { length edges.items ≤ TURNS }
+    requires none { grown_in edges.items ≡ 0 }
     ensures { IfOk result (λ node. node ≡ expanded mover (turns_of edges.items) (children_of (trees_of edges.items []))) }
 {
-    let grown = Vec::new(alloc);
-    let (proof, disproof) = both_numbers(mover, edges.as_slice(), grown.as_slice());
+    let (children, numbers) = Children::new(alloc, mover, edges);
+    let (proof, disproof) = numbers.by_goal(mover);
     let expansion = Box::new(
         alloc,
         Expansion {
-            mover,
-            edges,
-            grown,
+            children,
             offered: None,
         },
     )?;

@@ -7,6 +7,7 @@
 
 #![tactic(auto)]
 
+mod children;
 mod closing;
 mod edges;
 mod growing;

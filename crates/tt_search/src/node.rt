@@ -2,7 +2,7 @@
 
 ghost use Rattle.std.specs.Prelude.{◌≡◌};
 
-use crate::edges::Edge;
+use crate::children::Children;
 use std::marker::Model;
 use std::sync::Arc;
 use tt_game::Side;
@@ -26,15 +26,12 @@ pub(crate) enum Growth {
     Expanded(Box<Expansion>),
 }
 
-/// The side to move at an expanded node, an edge for each of its legal turns, and a node for each child that has grown, in
-/// the order of the edges. Most children never grow, and take no more than their edge. A settled node holds the proof that
-/// it offered, so that the nodes above take its tree from there.
+/// The children of an expanded node. A settled one holds the proof that it offered, so that the nodes above take its tree
+/// from there.
 #[cycle(node)]
 #[derive(Drop)]
 pub(crate) struct Expansion {
-    pub(crate) mover: Side,
-    pub(crate) edges: Vec<Edge>,
-    pub(crate) grown: Vec<Node>,
+    pub(crate) children: Children,
     pub(crate) offered: Option<Arc<Proof>>,
 }
 
@@ -48,19 +45,18 @@ impl Model for Node {
     ghost coded = { partial_code };
 
     ghost use Rattle.tt_search.specs.Shape.{shape};
-    ghost use Rattle.tt_search.specs.Shape.{IsWhole};
     ghost use Rattle.tt_search.specs.Cached.{IsCached};
     ghost use Rattle.tt_search.specs.Offered.{HoldsItsProof};
 
     ghost view = { λ a. shape a.growth };
 
-    ghost invariant = { λ a. (IsCached a.proof a.disproof (shape a.growth) × HoldsItsProof a.growth) × IsWhole a.growth };
+    ghost invariant = { λ a. IsCached a.proof a.disproof (shape a.growth) × HoldsItsProof a.growth };
 
     ghost size = { weight };
 
     ghost use Rattle.tt_search.specs.Falls.{deep-weight};
 
-    ghost size_decreases = { λ a h. deep-weight a.growth h.1 };
+    ghost size_decreases = { λ a h. deep-weight a.growth };
 }
 
 impl Node {

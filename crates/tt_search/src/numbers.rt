@@ -1,17 +1,16 @@
 //! Proof and disproof numbers of nodes.
 
-ghost use Rattle.std.specs.Prelude.{◌≡◌, ◌<◌, ◌≤◌, length, take, drop};
-ghost use Rattle.tt_game.specs.declared.frame.Side.TheVariants.{Attacker, Defender};
-ghost use Rattle.tt_game.specs.Game.{opponent};
-ghost use Rattle.tt_search.specs.Edges.{mark_of, tree_of, grown_behind, trees_of, counted, grown_in};
-ghost use Rattle.tt_search.specs.Numbers.{number, numbers, least, capped_sum, combined, is_same, decided_number};
+ghost use Rattle.std.specs.Prelude.{◌≡◌, ◌<◌, ◌≤◌, length, take};
+ghost use Rattle.tt_search.specs.Edges.{mark_of, trees_of, counted, grown_in};
+ghost use Rattle.tt_search.specs.Numbers.{is_same, decided_number, cap, numbers, least, capped_sum};
 ghost use Rattle.tt_search.specs.Children.{children_of};
+ghost use Rattle.tt_search.specs.declared.edges.TheConstants.{TURNS};
 ghost use Rattle.tt_search.specs.MostProving.{best};
 ghost use Rattle.tt_search.specs.Settled.{first_settled};
-ghost use Rattle.tt_search.specs.Shape.{node_of};
 
+use crate::children::{Child, Packed};
 use crate::edges::{Edge, Mark};
-use crate::node::{Expansion, Node};
+use crate::node::Node;
 use tt_game::Side;
 
 /// The proof or disproof number of what can't be proved or disproved any more.
@@ -20,6 +19,21 @@ pub(crate) const INFINITE: u32 = 4_294_967_295;
 /// The greatest finite number.
 pub(crate) const CAP: u32 = 1_000_000_000;
 
+/// The number of a side and that of its opponent.
+#[derive(Clone, Copy)]
+pub(crate) struct Pair {
+    pub(crate) own: u32,
+    pub(crate) other: u32,
+}
+
+/// The child to go to: its place, how many before it have grown, and the mover's number of it.
+#[derive(Clone, Copy)]
+pub(crate) struct Best {
+    pub(crate) place: u16,
+    pub(crate) rank: u16,
+    pub(crate) least: u32,
+}
+
 /// Whether two sides are the same.
 pub(crate) fn is_same(a: Side, b: Side) -> bool
     ensures { result ≡ is_same a b }
@@ -27,82 +41,117 @@ pub(crate) fn is_same(a: Side, b: Side) -> bool
     a == b
 }
 
-/// The number of a child, where these are the nodes of the children that have grown, from this one on.
-fn child_number(goal: Side, edge: Edge, rest: &[Node]) -> u32
-    ensures { result ≡ number goal (tree_of (mark_of edge) rest.now) }
+/// The number of a goal at a leaf that is decided for the side.
+pub(crate) fn decided_number(goal: Side, side: Side) -> u32
+    ensures { result ≡ decided_number goal side }
 {
-    match edge.mark() {
-        Mark::Fresh => 1,
-        Mark::Won(side) => decided_number(goal, side),
-        Mark::Grown => match rest.split_first() {
-            Some((node, _)) => node.number(goal),
-            None => 1,
-        },
-    }
+    if is_same(goal, side) { 0 } else { INFINITE }
 }
 
-/// The two numbers of a child: the goal's, and that of the other side.
-fn child_numbers(goal: Side, edge: Edge, rest: &[Node]) -> (u32, u32)
-    ensures own { result.0 ≡ number goal (tree_of (mark_of edge) rest.now) }
-    ensures other { result.1 ≡ number (opponent goal) (tree_of (mark_of edge) rest.now) }
-{
-    match edge.mark() {
-        Mark::Fresh => (1, 1),
-        Mark::Won(side) => (
-            decided_number(goal, side),
-            decided_number(goal.opponent(), side),
-        ),
-        Mark::Grown => match rest.split_first() {
-            Some((node, _)) => (node.number(goal), node.number(goal.opponent())),
-            None => (1, 1),
-        },
-    }
-}
+impl Pair {
+    ghost use Rattle.tt_search.specs.PartialTree.{PartialTree};
+    ghost use Rattle.tt_search.specs.Pairs.{ArePair};
+    ghost use Rattle.tt_search.specs.Cached.{IsCached};
 
-/// The nodes of the children that have grown behind this one.
-pub(crate) fn behind(edge: Edge, rest: &[Node]) -> &[Node]
-    ensures { result.now ≡ grown_behind (mark_of edge) rest.now }
-{
-    if edge.mark() != Mark::Grown {
-        return rest;
-    }
-    match rest.split_first() {
-        Some((_, nodes)) => nodes,
-        None => rest,
-    }
-}
-
-/// The least of the mover's numbers of the children, and the sum of the other side's: infinite where one of them is, and
-/// otherwise at most the greatest finite one.
-fn least_and_sum(mover: Side, edges: &[Edge], grown: &[Node]) -> (u32, u32)
-    ensures least { result.0 ≡ least (numbers mover (children_of (trees_of edges.now grown.now))) }
-    ensures sum { result.1 ≡ capped_sum (numbers (opponent mover) (children_of (trees_of edges.now grown.now))) }
-{
-    let mut least = INFINITE;
-    let mut total: u32 = 0;
-    let mut rest = grown;
-    for edge in edges {
-        let (own, other) = child_numbers(mover, *edge, rest);
-        if other == INFINITE {
-            // The mover's number of this child is 0.
-            return (0, INFINITE);
+    /// The numbers of the side and of its opponent, from the proof number and the disproof number.
+    pub(crate) fn of(side: Side, proof: u32, disproof: u32) -> Pair
+        ensures { (tree : PartialTree) → IsCached proof disproof tree → ArePair side tree result }
+    {
+        match side {
+            Side::Attacker => Pair {
+                own: proof,
+                other: disproof,
+            },
+            Side::Defender => Pair {
+                own: disproof,
+                other: proof,
+            },
         }
-        least = least.min(own);
-        total = total.saturating_add(other).min(CAP);
-        rest = behind(*edge, rest);
     }
-    (least, total)
+
+    /// The proof number and the disproof number, where these are the numbers of the side and of its opponent.
+    pub(crate) fn by_goal(self, side: Side) -> (u32, u32)
+        ensures { (tree : PartialTree) → ArePair side tree self → IsCached result.0 result.1 tree }
+    {
+        match side {
+            Side::Attacker => (self.own, self.other),
+            Side::Defender => (self.other, self.own),
+        }
+    }
 }
 
-/// The proof number and the disproof number of a node with these children.
-pub(crate) fn both_numbers(mover: Side, edges: &[Edge], grown: &[Node]) -> (u32, u32)
-    ensures proof { result.0 ≡ combined Attacker mover (numbers Attacker (children_of (trees_of edges.now grown.now))) }
-    ensures disproof { result.1 ≡ combined Defender mover (numbers Defender (children_of (trees_of edges.now grown.now))) }
-{
-    let (least, sum) = least_and_sum(mover, edges, grown);
-    match mover {
-        Side::Attacker => (least, sum),
-        Side::Defender => (sum, least),
+impl Child<'_> {
+    ghost use Rattle.tt_search.specs.Child.{child_tree};
+    ghost use Rattle.tt_search.specs.Numbers.{number};
+
+    /// The number of a goal.
+    pub(crate) fn number(self, goal: Side) -> u32
+        ensures { result ≡ number goal (child_tree self.entry) }
+    {
+        match self {
+            Child::Fresh => 1,
+            Child::Won(side) => decided_number(goal, side),
+            Child::Grown(node) => node.number(goal),
+        }
+    }
+}
+
+impl Packed {
+    ghost use Rattle.tt_game.specs.Game.{opponent};
+    ghost use Rattle.tt_search.specs.Numbers.{numbers, least, capped_sum};
+    ghost use Rattle.tt_search.specs.MostProving.{best};
+    ghost use Rattle.tt_search.specs.Settled.{first_settled};
+    ghost use Rattle.tt_search.specs.Packed.{children_in, HasItsNodes, IsRank, AreFew};
+    ghost use Rattle.tt_search.specs.Pairs.{changed_sum};
+
+    /// The child to go to: the first one with the least number of the side to move.
+    pub(crate) fn best(&self, mover: Side) -> Best
+        requires few { AreFew self.now }
+        requires whole { HasItsNodes self.now }
+        ensures place { result.place ≡ best mover (children_in self.now) }
+        ensures rank { IsRank result.rank result.place self.now }
+        ensures least { result.least ≡ least (numbers mover (children_in self.now)) }
+    {
+        best_of(mover, self.edges.as_slice(), self.grown.as_slice())
+    }
+
+    /// The sum of the other side's numbers: infinite where one of them is, and otherwise at most the greatest finite one.
+    pub(crate) fn sum(&self, mover: Side) -> u32
+        requires { HasItsNodes self.now }
+        ensures { result ≡ capped_sum (numbers (opponent mover) (children_in self.now)) }
+    {
+        sum_of(
+            mover.opponent(),
+            self.edges.as_slice(),
+            self.grown.as_slice(),
+        )
+    }
+
+    /// The same sum, where it was this one before a child's number became another. Up from the cap, and from what is
+    /// infinite, a difference says nothing.
+    pub(crate) fn sum_after(&self, mover: Side, was: u32, old: u32, new: u32) -> u32
+        requires whole { HasItsNodes self.now }
+        requires part { was < cap → old ≤ was }
+        requires changed { was < cap → changed_sum was old new ≡ capped_sum (numbers (opponent mover) (children_in self.now)) }
+        ensures { result ≡ capped_sum (numbers (opponent mover) (children_in self.now)) }
+    {
+        if was >= CAP {
+            return self.sum(mover);
+        }
+        if new == INFINITE {
+            return INFINITE;
+        }
+        (was - old).saturating_add(new).min(CAP)
+    }
+
+    /// The place of the first child that is settled for the side, or how many children there are where none is, and its
+    /// rank.
+    pub(crate) fn first_settled(&self, side: Side) -> (usize, usize)
+        requires { HasItsNodes self.now }
+        ensures place { result.0 ≡ first_settled side (children_in self.now) }
+        ensures rank { IsRank result.1 result.0 self.now }
+    {
+        settled_of(side, self.edges.as_slice(), self.grown.as_slice())
     }
 }
 
@@ -118,11 +167,13 @@ fn counted(edge: Edge, number: usize) -> usize
     }
 }
 
-/// The place of the child to go to, the first one with the least number of the side to move, and its rank: how many
-/// children before it have grown.
-pub(crate) fn best_child(mover: Side, edges: &[Edge], grown: &[Node]) -> (usize, usize)
-    ensures place { result.0 ≡ best mover (children_of (trees_of edges.now grown.now)) }
-    ensures rank { result.1 ≡ grown_in (take result.0 edges.now) }
+/// The first child with the least number of the side to move.
+fn best_of(mover: Side, edges: &[Edge], grown: &[Node]) -> Best
+    requires few { length edges.now ≤ TURNS }
+    requires whole { grown_in edges.now ≡ length grown.now }
+    ensures place { result.place ≡ best mover (children_of (trees_of edges.now grown.now)) }
+    ensures rank { result.rank ≡ grown_in (take result.place edges.now) }
+    ensures least { result.least ≡ least (numbers mover (children_of (trees_of edges.now grown.now))) }
 {
     let mut place = 0;
     let mut rank = 0;
@@ -130,63 +181,57 @@ pub(crate) fn best_child(mover: Side, edges: &[Edge], grown: &[Node]) -> (usize,
     let mut passed = 0;
     let mut rest = grown;
     for (i, edge) in edges.iter().enumerate() {
-        let number = child_number(mover, *edge, rest);
+        let (child, behind) = Child::first(*edge, rest);
+        let number = child.number(mover);
         if number < least {
             place = i;
             rank = passed;
             least = number;
         }
         passed = counted(*edge, passed);
-        rest = behind(*edge, rest);
+        rest = behind;
     }
-    (place, rank)
+    Best {
+        place: place as u16,
+        rank: rank as u16,
+        least,
+    }
+}
+
+/// The sum of the numbers of the goal.
+fn sum_of(goal: Side, edges: &[Edge], grown: &[Node]) -> u32
+    requires { grown_in edges.now ≡ length grown.now }
+    ensures { result ≡ capped_sum (numbers goal (children_of (trees_of edges.now grown.now))) }
+{
+    let mut total: u32 = 0;
+    let mut rest = grown;
+    for edge in edges {
+        let (child, behind) = Child::first(*edge, rest);
+        let number = child.number(goal);
+        if number == INFINITE {
+            return INFINITE;
+        }
+        total = total.saturating_add(number).min(CAP);
+        rest = behind;
+    }
+    total
 }
 
 /// The place of the first child that is settled for the side, or how many children there are where none is, and its rank.
-pub(crate) fn first_settled(side: Side, edges: &[Edge], grown: &[Node]) -> (usize, usize)
+fn settled_of(side: Side, edges: &[Edge], grown: &[Node]) -> (usize, usize)
+    requires { grown_in edges.now ≡ length grown.now }
     ensures place { result.0 ≡ first_settled side (children_of (trees_of edges.now grown.now)) }
     ensures rank { result.1 ≡ grown_in (take result.0 edges.now) }
 {
     let mut rank = 0;
     let mut rest = grown;
     for (i, edge) in edges.iter().enumerate() {
-        if child_number(side, *edge, rest) == 0 {
+        let (child, behind) = Child::first(*edge, rest);
+        if child.number(side) == 0 {
             return (i, rank);
         }
         rank = counted(*edge, rank);
-        rest = behind(*edge, rest);
+        rest = behind;
     }
     (edges.len(), rank)
-}
-
-impl Expansion {
-    /// The place of the child to go to, and its rank.
-    pub(crate) fn best(&self) -> (usize, usize)
-        ensures place { result.0 ≡ best self.now.mover (children_of (trees_of self.now.edges.items self.now.grown.items)) }
-        ensures rank { result.1 ≡ grown_in (take result.0 self.now.edges.items) }
-    {
-        best_child(self.mover, self.edges.as_slice(), self.grown.as_slice())
-    }
-
-    /// The proof number and the disproof number of the node.
-    pub(crate) fn numbers(&self) -> (u32, u32)
-        ensures proof { result.0 ≡ number Attacker (node_of self.now) }
-        ensures disproof { result.1 ≡ number Defender (node_of self.now) }
-    {
-        both_numbers(self.mover, self.edges.as_slice(), self.grown.as_slice())
-    }
-}
-
-/// The nodes from a rank on.
-pub(crate) fn from_rank(grown: &[Node], rank: usize) -> &[Node]
-    ensures { result.now ≡ drop rank grown.now }
-{
-    &grown[rank.min(grown.len())..]
-}
-
-/// The number of a goal at a leaf that is decided for the side.
-pub(crate) fn decided_number(goal: Side, side: Side) -> u32
-    ensures { result ≡ decided_number goal side }
-{
-    if is_same(goal, side) { 0 } else { INFINITE }
 }

@@ -12,11 +12,15 @@ ghost use Rattle.tt_search.specs.Settled.{strategy_for, first_settled, pick_at, 
 ghost use Rattle.tt_search.specs.Offered.{HoldsProof, IsProofOfTree};
 ghost use Rattle.tt_search.specs.Shape.{node_of};
 ghost use Rattle.tt_search.specs.Children.{children_of};
-ghost use Rattle.tt_search.specs.Edges.{mark_of, tree_of, turns_of, trees_of};
+ghost use Rattle.tt_search.specs.Edges.{turns_of, trees_of, grown_in};
+ghost use Rattle.tt_search.specs.Choices.{node_with};
+ghost use Rattle.tt_search.specs.Packed.{HasItsNodes, children_in};
+ghost use Rattle.tt_search.specs.Child.{child_tree};
 
-use crate::edges::{Edge, Mark};
+use crate::children::{Child, Children, Packed};
+use crate::edges::Edge;
 use crate::node::{Expansion, Growth, Node};
-use crate::numbers::{behind, first_settled, from_rank, is_same};
+use crate::numbers::is_same;
 use crate::store::Store;
 use crate::walk::Walk;
 use std::alloc::Global;
@@ -40,13 +44,7 @@ impl Node {
                 if let Some(proof) = expansion.offered_for(side) {
                     return proof.plan().try_clone();
                 }
-                let edges = expansion.edges.as_slice();
-                let grown = expansion.grown.as_slice();
-                if is_same(side, expansion.mover) {
-                    picked(alloc, side, edges, grown)
-                } else {
-                    replied(alloc, side, edges, grown)
-                }
+                expansion.children.plan(alloc, side)
             }
         }
     }
@@ -89,17 +87,15 @@ impl Node {
         }
     }
 
-    /// Offers the proof of a settled node to the store, where the walk stands at the node, and answers whether the walk may
-    /// offer on. None is made for a store that is full, nor where the proof of a node below it couldn't be made.
-    pub(crate) fn offer<S: Store>(&mut self, walk: &Walk, store: &mut S) -> bool
+    /// Offers the proof of a node that is settled for the side to the store, where the walk stands at the node, and
+    /// answers whether the walk may offer on. None is made for a store that is full, nor where the proof of a node below it
+    /// couldn't be made.
+    pub(crate) fn offer<S: Store>(&mut self, side: Side, walk: &Walk, store: &mut S) -> bool
+        requires settled { number side self.old ≡ 0 }
         requires partial { IsPartialTree walk.now.line.frame walk.now.line.state self.old }
         requires stays { StaysWithin walk.now.line.frame.size MOST_DEPTH self.old }
-        ensures same { self.new ≡ self.old }
-        ensures undecided { IsUndecided self.old → S.kept store.new ≡ S.kept store.old }
+        ensures { self.new ≡ self.old }
     {
-        let Some(side) = self.settled_for() else {
-            return walk.offering;
-        };
         if !walk.offering || store.kept() == store.capacity() {
             return walk.offering;
         }
@@ -130,46 +126,65 @@ impl Expansion {
     }
 }
 
-/// The strategy of a child, where these are the nodes of the children that have grown, from this one on.
-#[cycle(plan_of)]
-fn child_plan(alloc: Global, side: Side, edge: Edge, rest: &[Node]) -> Result<Plan, NoMemory>
-    ensures { IfOk result (λ p. p ≡ strategy_for side (tree_of (mark_of edge) rest.now)) }
-{
-    match edge.mark() {
-        Mark::Fresh => Ok(Plan::done()),
-        Mark::Won(_) => Ok(Plan::done()),
-        Mark::Grown => match rest.split_first() {
-            Some((node, _)) => node.plan(alloc, side),
-            None => Ok(Plan::done()),
-        },
+impl Child<'_> {
+    /// The strategy of a child for the side that it is settled for.
+    #[cycle(plan_of)]
+    fn plan(self, alloc: Global, side: Side) -> Result<Plan, NoMemory>
+        ensures { IfOk result (λ p. p ≡ strategy_for side (child_tree self.entry)) }
+    {
+        match self {
+            Child::Fresh | Child::Won(_) => Ok(Plan::done()),
+            Child::Grown(node) => node.plan(alloc, side),
+        }
+    }
+}
+
+impl Children {
+    /// The strategy of the node for the side that it is settled for.
+    #[cycle(plan_of)]
+    fn plan(&self, alloc: Global, side: Side) -> Result<Plan, NoMemory>
+        ensures { IfOk result (λ p. p ≡ strategy_for side (node_with self.now)) }
+    {
+        if is_same(side, self.mover) {
+            picked(alloc, side, &self.packed)
+        } else {
+            replied(
+                alloc,
+                side,
+                self.packed.edges.as_slice(),
+                self.packed.grown.as_slice(),
+            )
+        }
     }
 }
 
 /// The strategy that picks the first child that is settled for the side.
 #[cycle(plan_of)]
-fn picked(alloc: Global, side: Side, edges: &[Edge], grown: &[Node]) -> Result<Plan, NoMemory>
-    ensures { IfOk result (λ p. p ≡ pick_at side (first_settled side (children_of (trees_of edges.now grown.now))) (turns_of edges.now) (children_of (trees_of edges.now grown.now))) }
+fn picked(alloc: Global, side: Side, children: &Packed) -> Result<Plan, NoMemory>
+    requires { HasItsNodes children.now }
+    ensures { IfOk result (λ p. p ≡ pick_at side (first_settled side (children_in children.now)) (turns_of children.now.edges.items) (children_in children.now)) }
 {
-    let (place, rank) = first_settled(side, edges, grown);
-    if place >= edges.len() {
+    let (place, rank) = children.first_settled(side);
+    if place >= children.edges.len() {
         return Ok(Plan::done());
     }
-    let edge = edges[place];
-    let child = child_plan(alloc, side, edge, from_rank(grown, rank))?;
-    Plan::pick(alloc, edge.turn(), child)
+    let child = children.child(place, rank).plan(alloc, side)?;
+    Plan::pick(alloc, children.edges[place].turn(), child)
 }
 
 /// The strategy that replies to each turn.
 #[cycle(plan_of)]
 fn replied(alloc: Global, side: Side, edges: &[Edge], grown: &[Node]) -> Result<Plan, NoMemory>
+    requires { grown_in edges.now ≡ length grown.now }
     ensures { IfOk result (λ p. p ≡ reply (replies side (turns_of edges.now) (children_of (trees_of edges.now grown.now)))) }
 {
     let mut answers = Replies::with_capacity(alloc, edges.len())?;
     let mut rest = grown;
     for edge in edges {
-        let child = child_plan(alloc, side, *edge, rest)?;
-        answers.push(edge.turn(), child)?;
-        rest = behind(*edge, rest);
+        let (child, behind) = Child::first(*edge, rest);
+        let answer = child.plan(alloc, side)?;
+        answers.push(edge.turn(), answer)?;
+        rest = behind;
     }
     answers.into_plan(alloc)
 }

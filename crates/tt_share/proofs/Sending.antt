@@ -25,8 +25,8 @@ use Rattle.tt_proof.specs.contracts.proven.Proof as Proof
 use Rattle.tt_proof.specs.contracts.proven.Proof.TheInside as Inside
 use Rattle.tt_search.specs.contracts.limits.Limits as Limits
 use Rattle.tt_search.specs.contracts.node.Node as Node
-use Rattle.tt_search.specs.contracts.node.Node.TheKnot as NodeKnot
-use Rattle.tt_search.specs.declared.node.Node.TheDeep as Deep
+use Rattle.tt_search.specs.contracts.children.Children.TheKnot as NodeKnot
+use Rattle.tt_search.specs.declared.children.Children.TheDeep as Deep
 use Rattle.tt_search.specs.contracts.search.Search as Search
 use Rattle.tt_search.specs.contracts.search.Search.TheInside as Within
 use Rattle.tt_search.specs.contracts.walk.Walk as Walk
@@ -108,6 +108,12 @@ shared_send : IsSend (Arc.the_row Proof.the_row Global.the_row ghosts)
 shared_send = search (sendable, crosses, proof_send, proof_sync) depth 40
 
 module _ (h : RattleType) (below : IsSend h) where
+  packed_layer : IsSend (NodeKnot.layer-Packed h)
+  packed_layer = search (sendable, crosses) depth 40
+
+  children_layer : IsSend (NodeKnot.layer-Children h)
+  children_layer = search (sendable, crosses, side_send) depth 40
+
   expansion_layer : IsSend (NodeKnot.layer-Expansion h)
   expansion_layer = search (sendable, crosses, shared_send) depth 40
 
@@ -121,10 +127,15 @@ module _ (h : RattleType) (below : IsSend h) where
 rejoined_send : (R : RattleType) (D : Type 0) (split : D → R.Denot) (join : R.Denot → D) (joins : (d : D) → join (split d) ≡ d) → IsSend R → IsSend (rejoined R D split join joins)
 rejoined_send R D split join joins = recorded_send R D split (split_one R D split join joins)
 
--- where the nodes below cross threads, so does a node
+-- where the nodes and children below cross threads, so do nodes and children
 node_keeps : (p : Parts NodeKnot.frame) → ((j : Deep.the_members) → IsSend (rows NodeKnot.frame p j)) → (i : Deep.the_members) → IsSend (rows NodeKnot.frame (NodeKnot.step p) i)
+node_keeps p all Deep.member-Children =
+    let packed : IsSend (NodeKnot.at-Packed p) = rejoined_send _ _ Deep.split-Packed Deep.join-Packed Deep.joins-Packed (packed_layer _ (all Deep.member-Node)) in
+    let children : IsSend (NodeKnot.at-Children p) = rejoined_send _ _ Deep.split-Children Deep.join-Children Deep.joins-Children (children_layer _ packed) in
+    let view : IsSend (NodeKnot.view-Children p) = view_send _ _ _ _ _ children in
+    record { owned = view.owned; leaving = λ k x w. tt }
 node_keeps p all Deep.member-Node =
-    let expansion : IsSend (NodeKnot.at-Expansion p) = rejoined_send _ _ Deep.split-Expansion Deep.join-Expansion Deep.joins-Expansion (expansion_layer _ (all Deep.member-Node)) in
+    let expansion : IsSend (NodeKnot.at-Expansion p) = rejoined_send _ _ Deep.split-Expansion Deep.join-Expansion Deep.joins-Expansion (expansion_layer _ (all Deep.member-Children)) in
     let growth : IsSend (NodeKnot.at-Growth p) = rejoined_send _ _ Deep.split-Growth Deep.join-Growth Deep.joins-Growth (growth_layer _ expansion) in
     let node : IsSend (NodeKnot.at-Node p) = rejoined_send _ _ Deep.split-Node Deep.join-Node Deep.joins-Node (node_layer _ growth) in
     let view : IsSend (NodeKnot.view-Node p) = view_send _ _ _ _ _ node in

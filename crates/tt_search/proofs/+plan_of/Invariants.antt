@@ -1,6 +1,8 @@
-use Rattle.std.proofs.Common.{◌≡◌, ◌≤◌, ◌*◌, ◌+◌, drop}
+use Rattle.std.proofs.Common.{◌≡◌, ◌≤◌, ◌*◌, ◌+◌, length, drop}
 use Rattle.tt_search.specs.Children.{children_of}
-use Rattle.tt_search.specs.Edges.{turns_of, trees_of, tree_of, mark_of}
+use Rattle.tt_search.specs.Edges.{turns_of, trees_of, grown_in}
+use Rattle.tt_search.specs.Choices.{weight_below}
+use Rattle.tt_search.specs.Child.{child_tree}
 use Rattle.tt_search.specs.Settled.{replies}
 use Rattle.tt_search.specs.Weight.{weight, weight_all}
 use Rattle.tt_search.proofs.Replies.{joined}
@@ -9,11 +11,14 @@ use Rattle.tt_search.proofs.+plan_of.Given as goal
 abbrev pub decreases-node::Node::plan : goal.decreases-node::Node::plan
 decreases-node::Node::plan l = weight l.self.now * 3 + 2
 
-abbrev pub decreases-settled::child_plan : goal.decreases-settled::child_plan
-decreases-settled::child_plan l = weight (tree_of (mark_of l.edge) l.rest.now) * 3 + 3
+abbrev pub decreases-children::Child::plan : goal.decreases-children::Child::plan
+decreases-children::Child::plan l = weight (child_tree l.self) * 3 + 3
+
+abbrev pub decreases-children::Children::plan : goal.decreases-children::Children::plan
+decreases-children::Children::plan l = weight_below l.self.now * 3 + 3
 
 abbrev pub decreases-settled::picked : goal.decreases-settled::picked
-decreases-settled::picked l = weight_all (children_of (trees_of l.edges.now l.grown.now)) * 3 + 1
+decreases-settled::picked l = weight_all (children_of (trees_of l.children.now.edges.items l.children.now.grown.items)) * 3 + 1
 
 abbrev pub decreases-settled::replied : goal.decreases-settled::replied
 decreases-settled::replied l = weight_all (children_of (trees_of l.edges.now l.grown.now)) * 3 + 1
@@ -22,5 +27,6 @@ abbrev pub invariant-settled::replied-loop-edge : goal.invariant-settled::replie
 invariant-settled::replied-loop-edge l = record {
   made : joined l.answers (replies l.side (turns_of (drop l.edge-index l.edges)) (children_of (trees_of (drop l.edge-index l.edges) l.rest))) ≡ replies l.side (turns_of l.edges)
       (children_of (trees_of l.edges l.grown));
+  whole : grown_in (drop l.edge-index l.edges) ≡ length l.rest;
   lighter : weight_all (children_of (trees_of (drop l.edge-index l.edges) l.rest)) ≤ weight_all (children_of (trees_of l.edges l.grown));
 }

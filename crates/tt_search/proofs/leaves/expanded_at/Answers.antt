@@ -1,10 +1,11 @@
-use Rattle.std.proofs.Common.{◌≡◌, ◌∙◌, IfOk, [], ◌∷◌, ◌++◌, map, sym, ap, subst, arith}
+use Rattle.std.proofs.Common.{◌≡◌, ◌∙◌, IfOk, [], ◌∷◌, ◌++◌, map, length, sym, ap, subst, arith}
 use Rattle.std.proofs.lemmas.List.{take_all}
 use Rattle.tt_game.specs.declared.turns.Successor.{Successor}
+use Rattle.tt_game.specs.TurnLaws.{length-legal_turns}
 use Rattle.tt_search.specs.Growing.{leaf_for}
 use Rattle.tt_search.specs.Edges.{turns_of, trees_of, grown_in}
-use Rattle.tt_search.proofs.Places.{turns_push, trees_push, grown_push}
-use Rattle.tt_search.proofs.Successors.{expansion_of, map_next}
+use Rattle.tt_search.proofs.Places.{length-turns_of, turns_push, trees_push, grown_push}
+use Rattle.tt_search.proofs.Successors.{expansion_of, map_next, turns_of-successors}
 use Rattle.tt_search.proofs.leaves.expanded_at.Goals as goal
 
 pub loop-successor-preserved : goal.loop-successor-preserved
@@ -23,6 +24,13 @@ loop-successor-preserved c = record {
       ∙ ap (λ ts. ts ++ leaf_for c.successor-item.result.winner ∷ []) c.loop-successor.invariant.leaves
       ∙ sym (map_next (λ x. leaf_for x.winner) c.as_slice-successor-items.result.now c.loop-successor.successor-index c.successor-item.result c.successor-item.is c.loop-successor-test.true);
 }
+
+pub expanded_node-requires-clause-few : goal.expanded_node-requires-clause-few
+expanded_node-requires-clause-few c =
+    let x = c.args.line.now in
+    let whole = take_all c.loop-successor.successor-index c.as_slice-successor-items.result.now (omega (arith, c.loop-successor-test.false)) in
+    let turns = c.loop-successor.invariant.turns ∙ ap (map (λ (x : Successor). x.turn)) (whole ∙ c.as_slice-successor-items.ensures.value ∙ c.in_ok-successors.ensures) ∙ turns_of-successors x.frame x.state in
+    omega (arith, length-turns_of c.loop-successor.edges.items, ap length turns, length-legal_turns x.frame x.state)
 
 pub returns : goal.returns
 returns c =

@@ -1,15 +1,15 @@
-use Rattle.std.proofs.Common.{rules, ◌≡◌, ◌∙◌, ℕ, ◌+◌, ◌<◌, ◌≤◌, List, ◌∷◌, length, get_or, drop, refl, sym, ap, arith}
+use Rattle.std.proofs.Common.{rules, ◌≡◌, ◌∙◌, ℕ, ◌+◌, ◌<◌, ◌≤◌, min, List, ◌∷◌, length, get_or, drop, refl, sym, ap, arith}
 use Rattle.std.proofs.lemmas.List.{at_drop_more}
 use Rattle.tt_game.specs.declared.frame.Side.{Side}
 use Rattle.tt_search.specs.PartialTree.{PartialTree}
 use Rattle.tt_search.specs.Children.{children_of}
-use Rattle.tt_search.specs.Numbers.{number, numbers}
+use Rattle.tt_search.specs.Numbers.{number, numbers, least}
 use Rattle.tt_search.specs.Edges.{mark_of, tree_of, trees_of, grown_behind, counted}
 use Rattle.tt_search.specs.declared.edges.Edge.{Edge}
-use Rattle.tt_search.proofs.Places.{rank_next, counted_most}
-use Rattle.tt_search.proofs.Rows.{best_from, best_from_start, best_from_less, best_from_same}
-use Rattle.tt_search.proofs.numbers.best_child.Goals.{then-number-least, else-number-least}
-use Rattle.tt_search.proofs.numbers.best_child.Goals as goal
+use Rattle.tt_search.proofs.Places.{rank_next, counted_most, whole_behind}
+use Rattle.tt_search.proofs.Rows.{least_le, best_from, best_from_start, best_from_less, best_from_same}
+use Rattle.tt_search.proofs.numbers.best_of.Goals.{then-number-least, else-number-least}
+use Rattle.tt_search.proofs.numbers.best_of.Goals as goal
 
 abbrev first : Edge
 first = record { code = 0 }
@@ -27,6 +27,13 @@ module _ (mover : Side) (es : List Edge) (rest behind : List PartialTree) (i x :
       ∙ ap (λ us. best_from p v i (number mover (tree_of (mark_of (get_or es i first)) rest) ∷ row us)) b
       ∙ sym (at_drop_more (λ xs. best_from p v i (numbers mover (children_of (trees_of xs rest)))) es i first l)
 
+  -- the least from the place on is that of the child's number and of those behind
+  least_here : least (numbers mover (children_of (trees_of (drop i es) rest))) ≡ min x (least (row behind))
+  least_here =
+      at_drop_more (λ xs. least (numbers mover (children_of (trees_of xs rest)))) es i first l
+      ∙ ap (λ us. least (number mover (tree_of (mark_of (get_or es i first)) rest) ∷ row us)) (sym b)
+      ∙ ap (λ y. least (y ∷ row behind)) (sym is)
+
   -- a child with a lesser number is the best one so far
   less : x < v → best_from i x (i + 1) (row behind) ≡ best_from p v i (numbers mover (children_of (trees_of (drop i es) rest)))
   less h = best_from_less p v i x (row behind) h ∙ here
@@ -39,27 +46,41 @@ pub loop-i-init : goal.loop-i-init
 loop-i-init c = record {
   most = omega arith;
   place = best_from_start c.args.mover (children_of (trees_of c.args.edges.now c.args.grown.now));
+  least = omega (arith, least_le (numbers c.args.mover (children_of (trees_of c.args.edges.now c.args.grown.now))));
+  looked_at = omega arith;
   few = omega arith;
+  fewer = omega arith;
   passed = refl;
   rank = refl;
+  whole = c.requires.whole;
 }
 
 pub loop-i-preserved : goal.loop-i-preserved
 loop-i-preserved c =
     let e : Edge = get_or c.args.edges.now c.loop-i.i first in
+    let is = c.number-number.ensures ∙ ap (number c.args.mover) c.first.ensures.child in
+    let least = least_here c.args.mover c.args.edges.now c.loop-i.rest.now c.first.result.1.now c.loop-i.i c.number-number.result c.loop-i-test.true is
+    c.first.ensures.behind c.loop-i.place c.loop-i.least in
     record {
       most = search rules;
       place = elim c.if-number-least.branch [
         | then-number-least w ↦
             rw (w.place-is, w.least-is)
-            (less c.args.mover c.args.edges.now c.loop-i.rest.now c.behind-rest.result.now c.loop-i.i c.child_number-number.result c.loop-i-test.true c.child_number-number.ensures
-            c.behind-rest.ensures c.loop-i.place c.loop-i.least w.if-number-least.true ∙ c.loop-i.invariant.place)
+            (less c.args.mover c.args.edges.now c.loop-i.rest.now c.first.result.1.now c.loop-i.i c.number-number.result c.loop-i-test.true is
+            c.first.ensures.behind c.loop-i.place c.loop-i.least w.if-number-least.true ∙ c.loop-i.invariant.place)
         | else-number-least w ↦
             rw (w.place-is, w.least-is)
-            (same c.args.mover c.args.edges.now c.loop-i.rest.now c.behind-rest.result.now c.loop-i.i c.child_number-number.result c.loop-i-test.true c.child_number-number.ensures
-            c.behind-rest.ensures c.loop-i.place c.loop-i.least w.if-number-least.false ∙ c.loop-i.invariant.place)
+            (same c.args.mover c.args.edges.now c.loop-i.rest.now c.first.result.1.now c.loop-i.i c.number-number.result c.loop-i-test.true is
+            c.first.ensures.behind c.loop-i.place c.loop-i.least w.if-number-least.false ∙ c.loop-i.invariant.place)
       ];
+      least = elim c.if-number-least.branch [
+        | then-number-least w ↦ omega (arith, w.least-is, w.if-number-least.true, least, c.loop-i.invariant.least)
+        | else-number-least w ↦ omega (arith, w.least-is, w.if-number-least.false, least, c.loop-i.invariant.least)
+      ];
+      looked_at = elim c.if-number-least.branch [ then-number-least w ↦ search rules | else-number-least w ↦ search rules ];
       few = omega (arith, c.counted-passed.ensures, counted_most (mark_of e) c.loop-i.passed, c.loop-i.invariant.few);
+      fewer = elim c.if-number-least.branch [ then-number-least w ↦ search rules | else-number-least w ↦ search rules ];
       passed = c.counted-passed.ensures ∙ ap (counted (mark_of e)) c.loop-i.invariant.passed ∙ sym (rank_next c.args.edges.now c.loop-i.i first c.loop-i-test.true);
       rank = elim c.if-number-least.branch [ then-number-least w ↦ search rules | else-number-least w ↦ search rules ];
+      whole = whole_behind c.args.edges.now c.loop-i.rest.now c.loop-i.i first c.loop-i-test.true c.loop-i.invariant.whole ∙ ap length (sym c.first.ensures.behind);
     }

@@ -8,8 +8,8 @@ use Rattle.tt_search.specs.Numbers.{number, numbers}
 use Rattle.tt_search.specs.MostProving.{place}
 use Rattle.tt_search.specs.Edges.{mark_of, tree_of, trees_of, grown_behind, counted}
 use Rattle.tt_search.specs.declared.edges.Edge.{Edge}
-use Rattle.tt_search.proofs.Places.{rank_next, counted_most}
-use Rattle.tt_search.proofs.numbers.first_settled.Goals as goal
+use Rattle.tt_search.proofs.Places.{rank_next, counted_most, whole_behind}
+use Rattle.tt_search.proofs.numbers.settled_of.Goals as goal
 
 abbrev first : Edge
 first = record { code = 0 }
@@ -35,10 +35,12 @@ module _ (side : Side) (es : List Edge) (rest behind : List PartialTree) (i x : 
 pub loop-i-preserved : goal.loop-i-preserved
 loop-i-preserved c =
     let e : Edge = get_or c.args.edges.now c.loop-i.i first in
+    let is = c.number.ensures ∙ ap (number c.args.side) c.first.ensures.child in
     record {
       place =
-          past c.args.side c.args.edges.now c.loop-i.rest.now c.behind-rest.result.now c.loop-i.i c.child_number.result c.loop-i-test.true c.child_number.ensures
-          c.behind-rest.ensures c.if-child_number-eq0.false ∙ c.loop-i.invariant.place;
+          past c.args.side c.args.edges.now c.loop-i.rest.now c.first.result.1.now c.loop-i.i c.number.result c.loop-i-test.true is
+          c.first.ensures.behind c.if-number-eq0.false ∙ c.loop-i.invariant.place;
       few = omega (arith, c.counted-rank.ensures, counted_most (mark_of e) c.loop-i.rank, c.loop-i.invariant.few);
       rank = c.counted-rank.ensures ∙ ap (counted (mark_of e)) c.loop-i.invariant.rank ∙ sym (rank_next c.args.edges.now c.loop-i.i first c.loop-i-test.true);
+      whole = whole_behind c.args.edges.now c.loop-i.rest.now c.loop-i.i first c.loop-i-test.true c.loop-i.invariant.whole ∙ ap length (sym c.first.ensures.behind);
     }

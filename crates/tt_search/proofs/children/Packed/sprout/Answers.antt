@@ -2,11 +2,11 @@ use Rattle.std.proofs.Common.{rules, ◌≡◌, ◌∙◌, length, insert, refl,
 use Rattle.std.specs.Vec.{with_item}
 use Rattle.tt_search.specs.Edges.{turn_of}
 use Rattle.tt_search.specs.Taken.{IsLeft}
-use Rattle.tt_search.specs.declared.node.Expansion.{Expansion}
+use Rattle.tt_search.specs.declared.children.Packed.{Packed}
 use Rattle.tt_search.specs.declared.walk.Walk.{Walk}
-use Rattle.tt_search.proofs.Places.{fresh_there, rank_within}
+use Rattle.tt_search.proofs.Places.{fresh_there, rank_within, take_set}
 use Rattle.tt_search.proofs.Sprouted.{stays_fresh, stays_for_memory, leaf_offerable, put, put_whole}
-use Rattle.tt_search.proofs.node.Expansion.sprout.Goals as goal
+use Rattle.tt_search.proofs.children.Packed.sprout.Goals as goal
 
 pub returns-in-Stuck-clause-sprouts : goal.returns-in-Stuck-clause-sprouts
 returns-in-Stuck-clause-sprouts g c =
@@ -20,15 +20,15 @@ returns-then-is_err g c = record {
   may = λ e. cc;
   kept = λ reason e. c.leaf_step-step.ensures.kept;
   whole = c.requires.whole ∙ ap length (sym c.reserve_exact.ensures.items);
-  offered = refl;
-  sprouts = stays_for_memory c.args.walk.now c.leaf_step-step.new.walk c.args.place c.args.self.now _ c.requires.there c.leaf_step-step.ensures.walk refl refl c.reserve_exact.ensures.items;
+  before = refl;
+  sprouts = stays_for_memory c.args.walk.now c.leaf_step-step.new.walk c.args.place c.args.self.now _ c.requires.there c.leaf_step-step.ensures.walk refl c.reserve_exact.ensures.items;
 }
 
 pub offer-walk-requires : goal.offer-walk-requires
 offer-walk-requires g c =
     let leaf = c.leaf_step-step in
     let h = leaf_offerable c.args.walk.now leaf.new.walk leaf.result.0 leaf.result.1 leaf.ensures.walk c.requires.«open» c.in-Expanded.is leaf.ensures.taken in
-    record { partial = h.0; stays = h.1 }
+    record { settled = c.in-Some.ensures; partial = h.0; stays = h.1 }
 
 pub insert-requires : goal.insert-requires
 insert-requires g c =
@@ -46,7 +46,7 @@ returns g c =
     let same : c.match-step-2.node ≡ leaf.result.1 = search rules in
     let row = c.in-Ok.ensures.items ∙ ap (insert c.reserve_exact.new.self.items c.args.rank) same ∙ ap (λ ts. insert ts c.args.rank leaf.result.1) c.reserve_exact.ensures.items in
     let turn = c.grown.ensures.turn ∙ ap turn_of c.index.ensures in
-    let new : Expansion = record { mover = c.args.self.now.mover; edges = with_item c.args.self.now.edges c.args.place c.grown.result; grown = c.insert.new.self; offered = c.args.self.now.offered } in
+    let new : Packed = record { edges = with_item c.args.self.now.edges c.args.place c.grown.result; grown = c.insert.new.self } in
     let left : c.match-step-2.walk.left ≡ c.args.walk.now.left = search rules in
     record {
       line = search rules;
@@ -54,11 +54,11 @@ returns g c =
       may = leaf.ensures.may;
       kept = search rules;
       whole = put_whole c.args.self.now new c.args.place c.args.rank c.index.result.now c.grown.result leaf.result.1 c.requires.there c.requires.whole c.requires.rank c.grown.ensures.mark refl row;
-      offered = refl;
+      before = take_set c.args.self.now.edges.items c.args.place c.grown.result;
       sprouts = (
         leaf.result.1,
         leaf.ensures.taken,
         subst (λ n. IsLeft leaf.result.0 n c.left_after-walk.result) left c.left_after-walk.ensures,
-        put c.args.self.now new c.args.place c.args.rank c.index.result.now c.grown.result leaf.result.1 c.requires.there c.requires.whole c.requires.rank c.grown.ensures.mark refl row refl turn,
+        put c.args.self.now new c.args.place c.args.rank c.index.result.now c.grown.result leaf.result.1 c.requires.there c.requires.whole c.requires.rank c.grown.ensures.mark refl row turn,
       );
     }

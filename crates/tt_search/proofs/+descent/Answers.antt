@@ -1,0 +1,311 @@
+use Rattle.std.proofs.Common.{rules, ◌≡◌, ◌<◌, ◌⊎◌, length, take, refl, sym, ◌∙◌, ap, subst, arith}
+use Rattle.tt_game.specs.declared.frame.Side.TheVariants.{Attacker, Defender}
+use Rattle.tt_search.specs.PartialTree.{PartialTree}
+use Rattle.tt_search.specs.Shape.{node_of, shape}
+use Rattle.tt_search.specs.Choices.{Choices, node_with, best_place, best_child}
+use Rattle.tt_search.specs.Packed.{choices_of, child_of}
+use Rattle.tt_search.specs.Child.{child_tree}
+use Rattle.tt_search.specs.Pairs.{ArePair}
+use Rattle.tt_search.specs.Cached.{IsCached}
+use Rattle.tt_search.specs.Offered.{IsProofOfTree, HoldsProof, HoldsItsProof}
+use Rattle.tt_search.specs.Edges.{mark_of, grown_in, trees_of}
+use Rattle.tt_search.specs.Numbers.{number, IsUndecided}
+use Rattle.tt_search.specs.Growing.{IsPartialTree}
+use Rattle.tt_search.specs.Walking.{stage, stand_of, MayGrow}
+use Rattle.tt_search.specs.Steady.{AreStepsAt}
+use Rattle.tt_search.specs.declared.limits.Step.TheVariants.{Expanded, Closed}
+use Rattle.tt_search.proofs.Sprouted.{fresh_here, fresh_child, not_won, rank_within_nodes, child_node, node_steps, one_step}
+use Rattle.tt_search.proofs.Steady.{last_round, next_round, round_falls, same_numbers, same_stand, steps_offerable}
+use Rattle.tt_search.proofs.Steps.{IsOfferable}
+use Rattle.tt_search.proofs.Places.{length-trees_of}
+use Rattle.tt_search.proofs.Changed.{few_stay, place_there, in_trees, part_was, sum_now, place_now, own_now, pair_of, none_held}
+use Rattle.tt_search.proofs.WayDown.{turn_there, child_there, has_room, way_down, child_may_grow, round_steps}
+use Rattle.tt_search.proofs.+descent.Goals as goal
+
+-- ---- below a node
+
+pub children::Packed::grow_at-index_mut-requires : goal.children::Packed::grow_at-index_mut-requires
+children::Packed::grow_at-index_mut-requires g t c =
+    let edge = c.index.result.now in
+    omega (
+      arith,
+      rank_within_nodes c.args.self.now c.args.place c.args.rank edge
+          (child_of c.args.self.now c.args.place) c.requires.there c.index.ensures c.requires.whole c.in-Grown.ensures c.requires.rank,
+      c.args.self.now.grown.ok.0,
+    )
+
+pub children::Packed::grow_at-grow-requires : goal.children::Packed::grow_at-grow-requires
+children::Packed::grow_at-grow-requires g t c κs within =
+    let node = c.index_mut.result.now in
+    let here = child_node c.args.self.now c.args.place c.args.rank c.index.result.now node c.requires.there c.index.ensures c.requires.whole c.in-Grown.ensures c.requires.rank
+    c.index_mut.ensures.value in
+    (omega (arith, c.decreases), (within, (subst (MayGrow (stand_of c.args.walk.now)) here c.requires.may_grow, c.requires.room)))
+
+pub children::Packed::grow_at-sprout-requires-clause-open : goal.children::Packed::grow_at-sprout-requires-clause-open
+children::Packed::grow_at-sprout-requires-clause-open g t c =
+    let x = c.args.self.now in
+    let line = c.args.walk.now.line in
+    let is = fresh_child x.edges.items x.grown.items c.args.place c.index.result.now c.requires.there c.index.ensures (sym c.in-Fresh.ensures) in
+    subst (IsPartialTree line.frame line.state) is c.requires.may_grow.partial
+
+pub children::Packed::grow_at-sprout-requires-clause-there : goal.children::Packed::grow_at-sprout-requires-clause-there
+children::Packed::grow_at-sprout-requires-clause-there g t c =
+    let x = c.args.self.now in
+    fresh_here x.edges.items x.grown.items c.args.place c.index.result.now c.requires.there c.index.ensures (sym c.in-Fresh.ensures)
+
+pub children::Packed::grow_at-unreachable-requires : goal.children::Packed::grow_at-unreachable-requires
+children::Packed::grow_at-unreachable-requires g t c =
+    let x = c.args.self.now in
+    let edge = c.index.result.now in
+    not_won x.edges.items x.grown.items c.args.place edge c.requires.there c.index.ensures c.requires.may_grow.undecided (mark_of edge) refl c.in-Won.field-0 (sym c.in-Won.ensures)
+
+pub children::Packed::grow_at-returns-in-Grown-clause-steps : goal.children::Packed::grow_at-returns-in-Grown-clause-steps
+children::Packed::grow_at-returns-in-Grown-clause-steps g t c =
+    let node = c.index_mut.result.now in
+    let walk = c.args.walk.now in
+    node_steps c.args.self.now c.args.place c.args.rank c.index.result.now node c.requires.there c.index.ensures c.requires.whole c.in-Grown.ensures c.requires.rank
+    c.args.pace (stand_of walk) walk.left c.grow.result c.grow.new.self c.grow.new.walk.left _ refl refl c.index_mut.ensures.value c.grow.ensures.steps
+
+pub children::Packed::grow_at-returns-in-Fresh-clause-steps : goal.children::Packed::grow_at-returns-in-Fresh-clause-steps
+children::Packed::grow_at-returns-in-Fresh-clause-steps g t c =
+    let x = c.args.self.now in
+    let is = fresh_child x.edges.items x.grown.items c.args.place c.index.result.now c.requires.there c.index.ensures (sym c.in-Fresh.ensures) in
+    one_step c.args.pace c.args.walk.now c.args.place x c.sprout.result c.sprout.new.self c.sprout.new.walk is c.sprout.ensures.sprouts
+
+-- ---- the rounds at a node
+
+pub node::Node::grow-returns-then-is_one_step-clause-steps : goal.node::Node::grow-returns-then-is_one_step-clause-steps
+node::Node::grow-returns-then-is_one_step-clause-steps g t c =
+    let first = stage c.args.self.now c.args.walk.now.left in
+    let now = stage c.rounds.self c.rounds.walk.left in
+    let new = stage c.round-step.new.self c.round-step.new.walk.left in
+    let same = same_stand c.rounds.walk c.args.walk.now c.rounds.invariant.line c.rounds.invariant.room in
+    let steps = subst (λ at. AreStepsAt c.args.pace at now c.round-step.result new) same c.round-step.ensures.steps in
+    last_round c.args.pace (stand_of c.args.walk.now) first now c.round-step.result new steps c.rounds.invariant.under_way
+
+pub node::Node::grow-returns-then-number-proof-clause-steps : goal.node::Node::grow-returns-then-number-proof-clause-steps
+node::Node::grow-returns-then-number-proof-clause-steps g t c =
+    let first = stage c.args.self.now c.args.walk.now.left in
+    let now = stage c.rounds.self c.rounds.walk.left in
+    let new = stage c.round-step.new.self c.round-step.new.walk.left in
+    let same = same_stand c.rounds.walk c.args.walk.now c.rounds.invariant.line c.rounds.invariant.room in
+    let steps = subst (λ at. AreStepsAt c.args.pace at now c.round-step.result new) same c.round-step.ensures.steps in
+    last_round c.args.pace (stand_of c.args.walk.now) first now c.round-step.result new steps c.rounds.invariant.under_way
+
+pub node::Node::grow-rounds-smaller : goal.node::Node::grow-rounds-smaller
+node::Node::grow-rounds-smaller g t c =
+    let changed : (c.round-step.result ≡ Expanded) ⊎ (c.round-step.result ≡ Closed) = search rules in
+    let now = stage c.rounds.self c.rounds.walk.left in
+    let new = stage c.round-step.new.self c.round-step.new.walk.left in
+    round_falls c.args.pace (stand_of c.rounds.walk) now now c.round-step.result new c.round-step.ensures.steps changed c.rounds.invariant.under_way.may_grow.undecided
+
+pub node::Node::grow-rounds-preserved : goal.node::Node::grow-rounds-preserved
+node::Node::grow-rounds-preserved g t c =
+    let changed : (c.round-step.result ≡ Expanded) ⊎ (c.round-step.result ≡ Closed) = search rules in
+    let proof : number Attacker c.round-step.new.self ≡ number Attacker c.rounds.self = search rules in
+    let disproof : number Defender c.round-step.new.self ≡ number Defender c.rounds.self = search rules in
+    let first = stage c.args.self.now c.args.walk.now.left in
+    let now = stage c.rounds.self c.rounds.walk.left in
+    let new = stage c.round-step.new.self c.round-step.new.walk.left in
+    let same = same_stand c.rounds.walk c.args.walk.now c.rounds.invariant.line c.rounds.invariant.room in
+    let steps = subst (λ at. AreStepsAt c.args.pace at now c.round-step.result new) same c.round-step.ensures.steps in
+    record {
+      line = c.round-step.ensures.line ∙ c.rounds.invariant.line;
+      room = c.round-step.ensures.room ∙ c.rounds.invariant.room;
+      under_way =
+          next_round c.args.pace (stand_of c.args.walk.now) first now c.round-step.result new steps
+          c.is_one_step.result c.is_one_step.ensures c.if-is_one_step.false c.rounds.invariant.under_way changed (same_numbers c.rounds.self c.round-step.new.self proof disproof);
+    }
+
+-- ---- the best child of a node
+
+pub children::Children::grow_best-child-requires-clause-there : goal.children::Children::grow_best-child-requires-clause-there
+children::Children::grow_best-child-requires-clause-there g t c =
+    let x = c.self.inside.packed in
+    let there = subst (λ (v : Choices). best_place v < length v.trees) (sym c.self.view_is) c.requires.there in
+    omega (arith, there, c.from-place.ensures, c.self.invariant.place, length-trees_of x.edges.items x.grown.items)
+
+pub children::Children::grow_best-grow_at-step-requires : goal.children::Children::grow_best-grow_at-step-requires
+children::Children::grow_best-grow_at-step-requires g t c κs within =
+    let x = c.self.inside.packed in
+    let there = subst (λ (v : Choices). best_place v < length v.trees) (sym c.self.view_is) c.requires.there in
+    let may_grow = subst (λ (v : Choices). MayGrow (stand_of c.args.walk.now) (best_child v)) (sym c.self.view_is) c.requires.may_grow in
+    let place = c.from-place.ensures ∙ c.self.invariant.place in
+    let rank = c.from-rank.ensures ∙ c.self.invariant.rank ∙ ap (λ i. grown_in (take i x.edges.items)) (sym c.from-place.ensures) in (
+      omega (arith, c.decreases),
+      (
+        within,
+        (
+          omega (arith, there, place, length-trees_of x.edges.items x.grown.items),
+          (
+            rank,
+            (
+              c.self.invariant.whole,
+              (
+                subst (λ i. MayGrow (stand_of c.args.walk.now) (child_of x i)) (sym place) may_grow,
+                c.requires.room,
+              ),
+            ),
+          ),
+        ),
+      ),
+    )
+
+pub children::Children::grow_best-child-child-requires-clause-there : goal.children::Children::grow_best-child-child-requires-clause-there
+children::Children::grow_best-child-child-requires-clause-there g t c =
+    let x = c.self.inside.packed in
+    let is = c.from-place.ensures ∙ c.self.invariant.place in
+    let there = subst (λ (v : Choices). best_place v < length v.trees) (sym c.self.view_is) c.requires.there in
+    let in_trees : c.from-place.result < length (trees_of x.edges.items x.grown.items) = omega (arith, is, there) in
+    let steps = c.grow_at-step.ensures.steps in
+    place_there c.self.inside.mover x c.grow_at-step.new.self c.from-place.result steps.0 is in_trees steps.2
+
+pub children::Children::grow_best-sum_after-other-requires-clause-part : goal.children::Children::grow_best-sum_after-other-requires-clause-part
+children::Children::grow_best-sum_after-other-requires-clause-part g t c =
+    let a = c.self.inside in
+    let steps = c.grow_at-step.ensures.steps in
+    let is = c.from-place.ensures ∙ c.self.invariant.place in
+    part_was a.mover a.packed c.grow_at-step.new.self c.from-place.result c.args.self.now c.args.was c.self.view_is c.requires.was is c.requires.there steps.0 steps.2
+    (child_tree c.child-child.result) c.child-child.ensures c.opponent-goal.result c.opponent-goal.ensures (child_tree c.child.result) c.child.ensures
+    c.number-old.result c.number-new.result c.number-old.ensures c.number-new.ensures
+
+pub children::Children::grow_best-sum_after-other-requires-clause-changed : goal.children::Children::grow_best-sum_after-other-requires-clause-changed
+children::Children::grow_best-sum_after-other-requires-clause-changed g t c =
+    let a = c.self.inside in
+    let steps = c.grow_at-step.ensures.steps in
+    let is = c.from-place.ensures ∙ c.self.invariant.place in
+    sum_now a.mover a.packed c.grow_at-step.new.self c.from-place.result c.args.self.now c.args.was c.self.view_is c.requires.was is c.requires.there steps.0 steps.2
+    (child_tree c.child-child.result) c.child-child.ensures c.opponent-goal.result c.opponent-goal.ensures (child_tree c.child.result) c.child.ensures
+    c.number-old.result c.number-new.result c.number-old.ensures c.number-new.ensures
+
+pub children::Children::grow_best-invariant_of-self : goal.children::Children::grow_best-invariant_of-self
+children::Children::grow_best-invariant_of-self g t c =
+    let a = c.self.inside in
+    let steps = c.grow_at-step.ensures.steps in
+    let is = c.from-place.ensures ∙ c.self.invariant.place in
+    let new = c.grow_at-step.new.self in
+    let there = in_trees a.mover a.packed new c.from-place.result c.args.self.now c.args.was c.self.view_is c.requires.was is c.requires.there steps.0 steps.2
+    (child_tree c.child-child.result) c.child-child.ensures in
+    record {
+      few = few_stay a.mover a.packed new c.from-place.result steps.0 is there steps.2 c.self.invariant.few;
+      whole = c.grow_at-step.ensures.whole;
+      place = sym c.from-place.ensures ∙ place_now a.mover a.packed new c.from-place.result c.args.self.now c.args.was c.self.view_is c.requires.was is c.requires.there steps.0 steps.2
+          (child_tree c.child-child.result) c.child-child.ensures c.number-own.result c.number-own.ensures c.if-own-was.true;
+      rank = c.self.invariant.rank ∙ ap (λ i. grown_in (take i a.packed.edges.items)) (sym c.from-place.ensures) ∙ ap grown_in (sym c.grow_at-step.ensures.before)
+          ∙ ap (λ i. grown_in (take i new.edges.items)) c.from-place.ensures;
+    }
+
+pub children::Children::grow_best-returns-then-own-was-clause-numbers : goal.children::Children::grow_best-returns-then-own-was-clause-numbers
+children::Children::grow_best-returns-then-own-was-clause-numbers g t c =
+    let a = c.self.inside in
+    let steps = c.grow_at-step.ensures.steps in
+    let is = c.from-place.ensures ∙ c.self.invariant.place in
+    let new = c.grow_at-step.new.self in
+    pair_of (choices_of a.mover new) c.number-own.result c.sum_after-other.result
+    (own_now a.mover a.packed new c.from-place.result c.args.self.now c.args.was c.self.view_is c.requires.was is c.requires.there steps.0 steps.2
+    (child_tree c.child-child.result) c.child-child.ensures c.number-own.result c.number-own.ensures c.if-own-was.true) c.sum_after-other.ensures
+
+pub children::Children::grow_best-returns-clause-numbers : goal.children::Children::grow_best-returns-clause-numbers
+children::Children::grow_best-returns-clause-numbers g t c =
+    pair_of (choices_of c.self.inside.mover c.grow_at-step.new.self) c.best-best.result.least c.sum_after-other.result c.best-best.ensures.least c.sum_after-other.ensures
+
+-- ---- the descent of a round
+
+pub node::Node::round-best_turn-requires : goal.node::Node::round-best_turn-requires
+node::Node::round-best_turn-requires g t c =
+    let x = c.deref_mut-expansion.result.now in
+    let is = ap node_of c.deref_mut-expansion.ensures.value ∙ sym (ap shape c.in-Expanded.is) ∙ c.self.view_is in
+    turn_there (stand_of c.args.walk.now) x.children c.args.self.now is c.requires.may_grow
+
+pub node::Node::round-go_down-requires-clause-legal : goal.node::Node::round-go_down-requires-clause-legal
+node::Node::round-go_down-requires-clause-legal g t c =
+    let x = c.deref_mut-expansion.result.now in
+    let is = ap node_of c.deref_mut-expansion.ensures.value ∙ sym (ap shape c.in-Expanded.is) ∙ c.self.view_is in
+    (way_down (stand_of c.args.walk.now) x.children c.args.self.now is c.requires.may_grow c.best_turn.result c.best_turn.ensures).legal
+
+pub node::Node::round-grow_best-step-requires : goal.node::Node::round-grow_best-step-requires
+node::Node::round-grow_best-step-requires g t c κs within =
+    let x = c.deref_mut-expansion.result.now in
+    let shaped = ap node_of c.deref_mut-expansion.ensures.value ∙ sym (ap shape c.in-Expanded.is) in
+    let is = shaped ∙ c.self.view_is in
+    let walk = c.args.walk.now in
+    let way = way_down (stand_of walk) x.children c.args.self.now is c.requires.may_grow c.best_turn.result c.best_turn.ensures in
+    let gone = c.in-Ok.ensures.ok in
+    let room = has_room (stand_of walk) x.children c.args.self.now is c.requires.may_grow in
+    let cached = subst (IsCached c.self.inside.proof c.self.inside.disproof) (sym shaped) c.self.invariant.0 in
+    let pair = subst (λ side. ArePair side (node_with x.children) c.of-was.result) c.mover-mover.ensures (c.of-was.ensures (node_with x.children) cached) in
+    let there = child_there (stand_of walk) x.children c.args.self.now is c.requires.may_grow in
+    let may_grow = child_may_grow walk x.children c.args.self.now c.best_turn.result way c.go_down.new.self gone in
+    (omega (arith, c.decreases, gone.room, room), (within, (pair, (there, (may_grow, omega (arith, gone.room, c.requires.room))))))
+
+pub node::Node::round-invariant_of-self-in-Expanded : goal.node::Node::round-invariant_of-self-in-Expanded
+node::Node::round-invariant_of-self-in-Expanded g t c =
+    let x = c.deref_mut-expansion.result.now in
+    let shaped = ap node_of c.deref_mut-expansion.ensures.value ∙ sym (ap shape c.in-Expanded.is) in
+    let new = c.grow_best-step.new.self in
+    let put = c.grow_best-step.ensures.steps.2 in
+    let mover = ap (λ (d : Choices). d.mover) put ∙ sym c.mover-mover.ensures in
+    let pair = subst (λ side. ArePair side (node_with new) c.grow_best-step.result.1) mover c.grow_best-step.ensures.numbers in
+    let undecided = subst IsUndecided (sym (shaped ∙ c.self.view_is)) c.requires.may_grow.undecided in
+    let holds : HoldsProof x = subst HoldsProof (sym c.deref_mut-expansion.ensures.value) (subst HoldsItsProof c.in-Expanded.is c.self.invariant.1) in (
+      c.by_goal-proof.ensures (node_with new) pair,
+      none_held (node_of x) x.offered (λ p. p.value.side) (λ p. IsProofOfTree (node_of x) p.value) (λ p. IsProofOfTree (node_with new) p.value) undecided (λ p (h : IsProofOfTree (node_of x) p.value). h.settled) holds,
+    )
+
+pub node::Node::round-offer-walk-requires-clause-partial : goal.node::Node::round-offer-walk-requires-clause-partial
+node::Node::round-offer-walk-requires-clause-partial g t c =
+    let x = c.deref_mut-expansion.result.now in
+    let shaped = ap node_of c.deref_mut-expansion.ensures.value ∙ sym (ap shape c.in-Expanded.is) in
+    let is = shaped ∙ c.self.view_is in
+    let walk = c.args.walk.now in
+    let way = way_down (stand_of walk) x.children c.args.self.now is c.requires.may_grow c.best_turn.result c.best_turn.ensures in
+    let gone = c.in-Ok.ensures.ok in
+    let new = c.grow_best-step.new.self in
+    let steps = round_steps walk x.children c.args.self.now c.best_turn.result way c.go_down.new.self gone c.args.pace c.grow_best-step.result.0 new
+    c.grow_best-step.new.walk c.go_up.new.self c.grow_best-step.ensures.steps c.go_up.ensures.left in
+    let back : c.go_up.new.self.line ≡ walk.line = search rules in
+    let offerable = steps_offerable c.args.pace walk.line walk.room (stage c.args.self.now walk.left) c.grow_best-step.result.0
+    (stage (node_with new) c.go_up.new.self.left) c.requires.room c.requires.may_grow steps in
+    (subst (λ line. IsOfferable line (node_with new)) (sym back) offerable).0
+
+pub node::Node::round-offer-walk-requires-clause-stays : goal.node::Node::round-offer-walk-requires-clause-stays
+node::Node::round-offer-walk-requires-clause-stays g t c =
+    let x = c.deref_mut-expansion.result.now in
+    let shaped = ap node_of c.deref_mut-expansion.ensures.value ∙ sym (ap shape c.in-Expanded.is) in
+    let is = shaped ∙ c.self.view_is in
+    let walk = c.args.walk.now in
+    let way = way_down (stand_of walk) x.children c.args.self.now is c.requires.may_grow c.best_turn.result c.best_turn.ensures in
+    let gone = c.in-Ok.ensures.ok in
+    let new = c.grow_best-step.new.self in
+    let steps = round_steps walk x.children c.args.self.now c.best_turn.result way c.go_down.new.self gone c.args.pace c.grow_best-step.result.0 new
+    c.grow_best-step.new.walk c.go_up.new.self c.grow_best-step.ensures.steps c.go_up.ensures.left in
+    let back : c.go_up.new.self.line ≡ walk.line = search rules in
+    let offerable = steps_offerable c.args.pace walk.line walk.room (stage c.args.self.now walk.left) c.grow_best-step.result.0
+    (stage (node_with new) c.go_up.new.self.left) c.requires.room c.requires.may_grow steps in
+    (subst (λ line. IsOfferable line (node_with new)) (sym back) offerable).1
+
+pub node::Node::round-returns-in-Some-clause-steps : goal.node::Node::round-returns-in-Some-clause-steps
+node::Node::round-returns-in-Some-clause-steps g t c =
+    let x = c.deref_mut-expansion.result.now in
+    let shaped = ap node_of c.deref_mut-expansion.ensures.value ∙ sym (ap shape c.in-Expanded.is) in
+    let is = shaped ∙ c.self.view_is in
+    let walk = c.args.walk.now in
+    let way = way_down (stand_of walk) x.children c.args.self.now is c.requires.may_grow c.best_turn.result c.best_turn.ensures in
+    let gone = c.in-Ok.ensures.ok in
+    let new = c.grow_best-step.new.self in
+    let steps = round_steps walk x.children c.args.self.now c.best_turn.result way c.go_down.new.self gone c.args.pace c.grow_best-step.result.0 new
+    c.grow_best-step.new.walk c.go_up.new.self c.grow_best-step.ensures.steps c.go_up.ensures.left in
+    subst (λ (tree : PartialTree). AreStepsAt c.args.pace (stand_of walk) (stage c.args.self.now walk.left) c.grow_best-step.result.0 (stage tree c.go_up.new.self.left)) (sym c.offer-walk.ensures) steps
+
+pub node::Node::round-returns-in_default-settled_for-clause-steps : goal.node::Node::round-returns-in_default-settled_for-clause-steps
+node::Node::round-returns-in_default-settled_for-clause-steps g t c =
+    let x = c.deref_mut-expansion.result.now in
+    let shaped = ap node_of c.deref_mut-expansion.ensures.value ∙ sym (ap shape c.in-Expanded.is) in
+    let is = shaped ∙ c.self.view_is in
+    let walk = c.args.walk.now in
+    let way = way_down (stand_of walk) x.children c.args.self.now is c.requires.may_grow c.best_turn.result c.best_turn.ensures in
+    let gone = c.in-Ok.ensures.ok in
+    let new = c.grow_best-step.new.self in
+    let steps = round_steps walk x.children c.args.self.now c.best_turn.result way c.go_down.new.self gone c.args.pace c.grow_best-step.result.0 new
+    c.grow_best-step.new.walk c.go_up.new.self c.grow_best-step.ensures.steps c.go_up.ensures.left in
+    steps

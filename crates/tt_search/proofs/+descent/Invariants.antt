@@ -1,0 +1,27 @@
+use Rattle.std.proofs.Common.{◌≡◌, ◌+◌, ◌*◌}
+use Rattle.tt_search.specs.Walking.{stage, stand_of}
+use Rattle.tt_search.proofs.Steady.{IsUnderWay, to_do}
+use Rattle.tt_search.proofs.+descent.Given as goal
+
+-- each descent below a node has less room, and a node's rounds have its own
+abbrev pub decreases-node::Node::grow : goal.decreases-node::Node::grow
+decreases-node::Node::grow g l = l.walk.now.room * 4 + 1
+
+abbrev pub decreases-node::Node::round : goal.decreases-node::Node::round
+decreases-node::Node::round g l = l.walk.now.room * 4
+
+abbrev pub decreases-children::Packed::grow_at : goal.decreases-children::Packed::grow_at
+decreases-children::Packed::grow_at g l = l.walk.now.room * 4 + 2
+
+abbrev pub decreases-children::Children::grow_best : goal.decreases-children::Children::grow_best
+decreases-children::Children::grow_best g l = l.walk.now.room * 4 + 3
+
+abbrev pub invariant-node::Node::grow-rounds : goal.invariant-node::Node::grow-rounds
+invariant-node::Node::grow-rounds g l = record {
+  line : l.walk.line ≡ l.fn.walk.line;
+  room : l.walk.room ≡ l.fn.walk.room;
+  under_way : IsUnderWay l.pace (stand_of l.fn.walk) (stage l.fn.self l.fn.walk.left) (stage l.self l.walk.left);
+}
+
+abbrev pub decreases-node::Node::grow-rounds : goal.decreases-node::Node::grow-rounds
+decreases-node::Node::grow-rounds g l = to_do (stage l.self l.walk.left)

@@ -1,0 +1,33 @@
+-- The children of an expanded node as the code keeps them. For private contracts and proofs.
+use Rattle.std.specs.Prelude.{◌≡◌, ℕ, ◌≤◌, length, take}
+use Rattle.tt_game.specs.declared.frame.Side.{Side}
+use Rattle.tt_search.specs.PartialTree.{PartialTree, Children}
+use Rattle.tt_search.specs.Children.{children_of}
+use Rattle.tt_search.specs.Choices.{Choices}
+use Rattle.tt_search.specs.Edges.{turns_of, trees_of, grown_in, child_at}
+use Rattle.tt_search.specs.declared.edges.TheConstants.{TURNS}
+use Rattle.tt_search.specs.declared.children.Packed.{Packed}
+
+-- what they offer to the side to move
+abbrev pub choices_of : Side → Packed → Choices
+choices_of mover p = record { mover = mover; turns = turns_of p.edges.items; trees = trees_of p.edges.items p.grown.items }
+
+-- the children themselves
+abbrev pub children_in : Packed → Children
+children_in p = children_of (trees_of p.edges.items p.grown.items)
+
+-- each child that has grown has its node
+abbrev pub HasItsNodes : Packed → Type 0
+HasItsNodes p = grown_in p.edges.items ≡ length p.grown.items
+
+-- the tree of the child at a place
+abbrev pub child_of : Packed → ℕ → PartialTree
+child_of p place = child_at place p.edges.items p.grown.items
+
+-- so many children have grown before the place
+abbrev pub IsRank : ℕ → ℕ → Packed → Type 0
+IsRank rank place p = rank ≡ grown_in (take place p.edges.items)
+
+-- there are no more than a place can tell apart
+abbrev pub AreFew : Packed → Type 0
+AreFew p = length p.edges.items ≤ TURNS
