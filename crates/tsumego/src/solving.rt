@@ -13,9 +13,9 @@ use std::sync::Wait;
 use std::thread::Threads;
 use tt_game::{GameFault, Line, problem};
 use tt_sgf::{Items, MainLine, NoMemory};
-use tt_share::{Answer, NoGate, Table};
+use tt_share::{Answer, CertLog, NoGate};
 
-/// Solves the problem at a line over a table of its own.
+/// Solves the problem at a line over a log of its own.
 fn solve_problem<X: Threads + Wait + Sync>(
     rt: &X,
     alloc: Global,
@@ -25,14 +25,14 @@ fn solve_problem<X: Threads + Wait + Sync>(
     requires { winner_of line.now.frame line.now.state ≡ None }
     ensures { IfOk result (λ answer. IsAnswer line.now options.limits answer) }
 {
-    let table = Table::new(alloc)?;
+    let log = CertLog::new(alloc)?;
     let answer = tt_share::solve(
         rt,
         alloc,
         line,
         &options.limits,
         options.workers,
-        &table,
+        &log,
         &NoGate,
     );
     Ok(answer)

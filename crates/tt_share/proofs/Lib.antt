@@ -8,6 +8,7 @@ pub mod Lost
 pub mod StuckBehind
 pub mod Found
 pub mod Sending
+pub mod ViewSending
 pub mod ResultLemmas
 pub mod LastWins
 pub mod Placing

@@ -3,6 +3,12 @@ use denote.RattleType.{RattleType}
 use denote.Struct.Field.{u16-field, u64-field}
 use denote.Hole.FixSend.{Crosses, both_send, both_sync}
 use mathlib.Core.Path.{◌≡◌}
+use mathlib.Core.List.{[], ◌∷◌}
+use mir.Syntax.{Sym}
+use denote.Param.{param}
+use denote.Ref.{NamedLft}
+use denote.Struct.Field.{shr_ref_field}
+use denote.Struct.Tuple.{TupleAt, type_at}
 use denote.Model.Cut.{rejoined, split_one}
 use denote.Model.Local.{Parts, rows}
 use denote.Model.Marks.{tied_send}
@@ -15,7 +21,9 @@ use Rattle.std.specs.contracts.sync.Arc as Arc
 use Rattle.atomic_table.specs.contracts.shared.Seat as TableSeat
 use Rattle.atomic_table.proofs.Sent.{seat_keyless}
 use Rattle.tt_game.specs.contracts.frame.Side as Side
+use Rattle.tt_game.specs.contracts.history.History as History
 use Rattle.tt_game.specs.contracts.line.Line as Line
+use Rattle.tt_game.specs.contracts.root.Root as Root
 use Rattle.tt_game.specs.contracts.past.Past as Past
 use Rattle.tt_proof.specs.contracts.tree.Tree as Tree
 use Rattle.tt_proof.specs.contracts.tree.Tree.TheKnot as TreeKnot
@@ -33,7 +41,11 @@ use Rattle.tt_search.specs.contracts.walk.Walk as Walk
 use Rattle.boxcar.specs.contracts.vec.Anything as Anything
 use Rattle.boxcar.specs.contracts.vec.AnythingKeeps.TheImpl as any
 use Rattle.boxcar.specs.contracts.tag.Tag as Tag
+use Rattle.tt_share.specs.contracts.desk.Desk as Desk
 use Rattle.tt_share.specs.contracts.desk.Seat as Seat
+use Rattle.tt_share.specs.contracts.jobs.Jobs as Jobs
+use Rattle.tt_share.proofs.desk.Desk.TheSendSync.{the_sync as desk_sync}
+use Rattle.tt_share.proofs.jobs.Jobs.TheSendSync.{the_sync as jobs_sync}
 use Rattle.tt_share.specs.contracts.log.CertLog as CertLog
 use Rattle.tt_share.specs.contracts.log.CertLog.TheInside as LogInside
 use Rattle.boxcar.specs.contracts.vec.Vec as Entries
@@ -44,14 +56,27 @@ use Rattle.boxcar.proofs.Sent.{tag_sync, slot_send, slot_sync}
 use Rattle.tt_share.specs.contracts.jobs.Found as Found
 use Rattle.tt_share.specs.contracts.workers.HandedBack as HandedBack
 
+root_send : IsSend Root.the_row
+root_send = search (sendable, crosses) depth 40
+
+root_sync : IsSync Root.the_row
+root_sync = search (sendable, crosses) depth 40
+
+-- what lines begin with is held through a handle
+rooted_send : IsSend (Arc.the_row Root.the_row Global.the_row ghosts)
+rooted_send = search (sendable, crosses, root_send, root_sync) depth 40
+
+history_send : IsSend History.the_row
+history_send = search (sendable, crosses) depth 40
+
 line_send : IsSend Line.the_row
-line_send = search (sendable, crosses) depth 40
+line_send = search (sendable, crosses, history_send, rooted_send) depth 40 fits 10000
 
 past_send : IsSend Past.the_row
-past_send = search (sendable, crosses) depth 40
+past_send = search (sendable, crosses, root_send, root_sync) depth 40
 
 past_sync : IsSync Past.the_row
-past_sync = search (sendable, crosses) depth 40
+past_sync = search (sendable, crosses, root_send, root_sync) depth 40
 
 -- a tree holds its parts through handles, so each law of a layer asks both laws of the trees below
 module _ (h : TreeKnot.the_members → RattleType) (below : IsSend (h TreeKnot.member-Tree)) (shared : IsSync (h TreeKnot.member-Tree)) where
@@ -104,7 +129,7 @@ proof_send = view_send _ _ _ _ _ (declared_send Inside.the_type (as_row_send Pas
 proof_sync : IsSync Proof.the_row
 proof_sync = view_sync _ _ _ _ _ (declared_sync Inside.the_type (as_row_sync Past.the_field past_sync, (side_sync, (as_row_sync Plan.the_field plan_sync, tt))))
 
-shared_send : IsSend (Arc.the_row Proof.the_row Global.the_row ghosts)
+pub shared_send : IsSend (Arc.the_row Proof.the_row Global.the_row ghosts)
 shared_send = search (sendable, crosses, proof_send, proof_sync) depth 40
 
 module _ (h : RattleType) (below : IsSend h) where
@@ -171,7 +196,7 @@ handed_back_send = search (sendable, crosses, found_send, seat_send) depth 40
 shared_sync : IsSync (Arc.the_row Proof.the_row Global.the_row ghosts)
 shared_sync = search (sendable, crosses, proof_send, proof_sync) depth 40
 
-abbrev Handle : RattleType
+abbrev pub Handle : RattleType
 Handle = Arc.the_row Proof.the_row Global.the_row ghosts
 
 -- a log is a row of buckets, each a row of slots, between two counters
@@ -187,3 +212,13 @@ entries_sync = view_sync _ _ _ _ _ (declared_sync (EntriesInside.the_type Handle
 
 pub log_sync : IsSync CertLog.the_row
 log_sync = view_sync _ _ _ _ _ (declared_sync LogInside.the_type (as_row_sync (Entries.the_field Handle Global.the_row Anything.the_row ghosts (any.ghosts Handle)) entries_sync, tt))
+
+-- the closure that each worker runs holds a handle of the system, the jobs, the desk, the log and the gate, all shared
+pub worker_sync : (ν : Sym) (R G : RattleType) (a b c d e f : NamedLft) → IsSync R → IsSync G
+    → IsSync (TupleAt ν ((shr_ref_field a (param 0 R) tt).row ∷ (shr_ref_field b (Jobs.the_row c) tt).row ∷ (shr_ref_field d Desk.the_row tt).row
+    ∷ (shr_ref_field e CertLog.the_row tt).row ∷ (shr_ref_field f (param 1 G) tt).row ∷ []))
+worker_sync ν R G a b c d e f r g = declared_sync (type_at ν ((shr_ref_field a (param 0 R) tt).row ∷ (shr_ref_field b (Jobs.the_row c) tt).row
+    ∷ (shr_ref_field d Desk.the_row tt).row ∷ (shr_ref_field e CertLog.the_row tt).row ∷ (shr_ref_field f (param 1 G) tt).row ∷ [])) (
+      search sendable depth 20,
+      (search (sendable, jobs_sync) depth 20, (search (sendable, desk_sync) depth 20, (search (sendable, log_sync) depth 20, (search sendable depth 20, tt)))),
+    )

@@ -1,6 +1,6 @@
 //! Solving: the legal turns of a problem are searched each by itself, and their results make the answer.
 //!
-//! `solve_one` searches them one after the other; `solve` by workers in threads, which share a `Table` of proofs. Each
+//! `solve_one` searches them one after the other; `solve` by workers in threads, which share a `CertLog` of proofs. Each
 //! answer that is settled holds a proof that stands at the problem's line, whatever the schedule of threads.
 
 #![tactic(auto)]
@@ -39,6 +39,8 @@ pub use view::View;
 mod alone_tests;
 #[cfg(test)]
 mod desk_tests;
+#[cfg(test)]
+mod log_tests;
 #[cfg(test)]
 mod planted_tests;
 #[cfg(test)]

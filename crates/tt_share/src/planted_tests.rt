@@ -1,16 +1,16 @@
-//! Proofs planted into a table, without which a budget of one expansion isn't enough.
+//! Proofs planted into a log, without which a budget of one expansion isn't enough.
 
 ghost use Rattle.std.specs.Prelude.{◌≤◌};
 
 use crate::alone_tests::{posed, put_first, verdict};
-use crate::{Answer, LockedStore, NoGate, Stuck, Table, solve};
+use crate::{Answer, CertLog, NoGate, Stuck, View, solve};
 use std::alloc::Global;
 use std::sync::{Arc, Wait};
 use std::test::Fail;
 use std::thread::Threads;
 use tt_game::Line;
 use tt_proof::Proof;
-use tt_search::{End, Kept, Limits, NoStore, Reason, Search, Store};
+use tt_search::{End, Kept, Limits, NoStore, Reason, Search};
 
 /// White's two stones with liberties on both sides: Black to move kills at the third point.
 const SPLIT: &[u8] = b"(;SZ[4:1]AW[ba][da]PL[B]TR[ba])";
@@ -36,23 +36,30 @@ fn searched(alloc: Global, text: &[u8]) -> Result<Arc<Proof>, Fail> {
     }
 }
 
-/// A table that holds the proof of one problem.
-fn planted<R: Wait>(rt: &R, alloc: Global, text: &[u8]) -> Result<Table, Fail> {
-    let table = Table::new(alloc)?;
+/// Keeps the proof of one problem in a log, through a view of its own.
+fn plant<R: Wait>(rt: &R, alloc: Global, text: &[u8], log: &CertLog) -> Result<(), Fail> {
     let proof = searched(alloc, text)?;
-    if LockedStore::new(rt, &table).keep(proof) != Kept::Stored {
+    let mut view = View::new(alloc, log)?;
+    if view.keep(rt, proof) != Kept::Stored {
         return Err(Fail::new("not kept"));
     }
-    Ok(table)
+    Ok(())
 }
 
-/// The answer to a line by so many workers over the table, with a budget of one expansion.
+/// A log that holds the proof of one problem.
+fn planted<R: Wait>(rt: &R, alloc: Global, text: &[u8]) -> Result<CertLog, Fail> {
+    let log = CertLog::new(alloc)?;
+    plant(rt, alloc, text, &log)?;
+    Ok(log)
+}
+
+/// The answer to a line by so many workers over the log, with a budget of one expansion.
 fn answered<R: Threads + Wait + Sync>(
     rt: &R,
     alloc: Global,
     line: &Line,
     workers: usize,
-    table: &Table,
+    log: &CertLog,
 ) -> Result<Answer, Fail>
     requires { (1 ≤ workers) × (workers ≤ 64) }
 {
@@ -62,25 +69,25 @@ fn answered<R: Threads + Wait + Sync>(
     if line.winner().is_some() {
         return Err(Fail::new("nothing to solve"));
     }
-    Ok(solve(rt, alloc, line, &limits, workers, table, &NoGate))
+    Ok(solve(rt, alloc, line, &limits, workers, log, &NoGate))
 }
 
-/// The verdict on a problem, by so many workers over the table.
+/// The verdict on a problem, by so many workers over the log.
 fn solved<R: Threads + Wait + Sync>(
     rt: &R,
     alloc: Global,
     text: &[u8],
     workers: usize,
-    table: &Table,
+    log: &CertLog,
 ) -> Result<Vec<u8>, Fail>
     requires { (1 ≤ workers) × (workers ≤ 64) }
 {
     let line = posed(alloc, text)?;
-    let answer = answered(rt, alloc, &line, workers, table)?;
+    let answer = answered(rt, alloc, &line, workers, log)?;
     verdict(alloc, &line, answer)
 }
 
-/// The verdicts on a problem by 1, 2 and 64 workers, over a table with the proof of another.
+/// The verdicts on a problem by 1, 2 and 64 workers, over a log with the proof of another.
 fn solved_with<R: Threads + Wait + Sync>(
     rt: &R,
     alloc: Global,
@@ -138,38 +145,38 @@ fn stuck_turn(alloc: Global, line: &Line, stuck: &Stuck) -> Result<Vec<u8>, Fail
     Ok(out)
 }
 
-/// The turn that is stuck at a problem, by so many workers over the table.
+/// The turn that is stuck at a problem, by so many workers over the log.
 fn stuck_at<R: Threads + Wait + Sync>(
     rt: &R,
     alloc: Global,
     text: &[u8],
     workers: usize,
-    table: &Table,
+    log: &CertLog,
 ) -> Result<Vec<u8>, Fail>
     requires { (1 ≤ workers) × (workers ≤ 64) }
 {
     let line = posed(alloc, text)?;
-    match answered(rt, alloc, &line, workers, table)? {
+    match answered(rt, alloc, &line, workers, log)? {
         Answer::Settled { proof: _, first: _ } => Err(Fail::new("settled")),
         Answer::Unsettled(stuck) => stuck_turn(alloc, &line, &stuck),
     }
 }
 
-/// Over a new table it is the least turn that is stuck.
+/// Over a new log it is the least turn that is stuck.
 #[test]
 fn the_least_turn_is_stuck(rt: HostRuntime) -> Result<(), Fail> {
     let alloc = rt.alloc();
     for problem in [SPLIT, LONE] {
         for workers in [1usize, 2, 64] {
-            let table = Table::new(alloc)?;
-            let turn = stuck_at(&rt, alloc, problem, workers, &table)?;
+            let log = CertLog::new(alloc)?;
+            let turn = stuck_at(&rt, alloc, problem, workers, &log)?;
             assert!(&rt; turn.as_slice() == b" ca".as_slice());
         }
     }
     Ok(())
 }
 
-/// The turn that is stuck by so many workers where the least one's proof is in the table.
+/// The turn that is stuck by so many workers where the least one's proof is in the log.
 fn stuck_next<R: Threads + Wait + Sync>(
     rt: &R,
     alloc: Global,
@@ -177,11 +184,11 @@ fn stuck_next<R: Threads + Wait + Sync>(
 ) -> Result<Vec<u8>, Fail>
     requires { (1 ≤ workers) × (workers ≤ 64) }
 {
-    let table = planted(rt, alloc, LONE_AFTER)?;
-    stuck_at(rt, alloc, LONE, workers, &table)
+    let log = planted(rt, alloc, LONE_AFTER)?;
+    stuck_at(rt, alloc, LONE, workers, &log)
 }
 
-/// With the least turn's proof in the table it is the next one.
+/// With the least turn's proof in the log it is the next one.
 #[test]
 fn the_next_turn_is_stuck(rt: HostRuntime) -> Result<(), Fail> {
     let alloc = rt.alloc();

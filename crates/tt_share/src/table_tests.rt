@@ -28,7 +28,11 @@ fn posed(alloc: Global, record: &[u8]) -> Result<Line, Fail> {
 }
 
 /// The proof of a certificate at a problem.
-fn proof_of(alloc: Global, record: &[u8], certificate: &[u8]) -> Result<Arc<Proof>, Fail> {
+pub(crate) fn proof_of(
+    alloc: Global,
+    record: &[u8],
+    certificate: &[u8],
+) -> Result<Arc<Proof>, Fail> {
     let mut line = posed(alloc, record)?;
     let size = line.frame().size;
     let Ok((side, tree)) = read_cert(alloc, certificate, size) else {

@@ -10,8 +10,10 @@ use crate::answer::Answer;
 use crate::conclude::no_memory;
 use crate::desk::Desk;
 use crate::gate::Gate;
-use crate::locked::{LockedStore, Table};
+use crate::log::CertLog;
+use crate::log_store::LogStore;
 use crate::results::Results;
+use crate::view::View;
 use crate::workers::{gather, run_workers};
 use std::alloc::Global;
 use std::sync::Wait;
@@ -25,7 +27,7 @@ pub(crate) fn search_together<R: Threads + Wait + Sync, G: Gate>(
     rt: &R,
     results: &mut Results<'_>,
     workers: usize,
-    table: &Table,
+    log: &CertLog,
     gate: &G,
 ) -> Result<(), NoMemory>
     requires workers { (1 ≤ workers) × (workers ≤ 64) }
@@ -35,7 +37,7 @@ pub(crate) fn search_together<R: Threads + Wait + Sync, G: Gate>(
     let alloc = results.jobs.alloc;
     let seats = Vec::with_capacity(alloc, workers)?;
     let (desk, all) = Desk::new(alloc, results.jobs.turns.len(), workers)?;
-    let work = run_workers(rt, &results.jobs, &desk, table, gate, all)?;
+    let work = run_workers(rt, &results.jobs, &desk, log, gate, all)?;
     let seats = gather(&desk, results, work, seats);
     match desk.close(seats) {
         Ok(_) => Ok(()),
@@ -43,17 +45,18 @@ pub(crate) fn search_together<R: Threads + Wait + Sync, G: Gate>(
     }
 }
 
-/// Solves the line by 1 to 64 workers, which share the table. The table is asked first for a proof that wins at the line
-/// itself. Else each legal turn, in rising order, is a job: workers draw them and search each with the same budget and a
-/// depth one less, until one is settled for the side to move. The caller searches what they left, and the proof that the
-/// results make is offered to the table. The depth is at least 1, and nobody has won at the line.
+/// Solves the line by 1 to 64 workers, which share the log. Each of them, and the caller, has a view of it. The log is asked
+/// first for a proof that wins at the line itself. Else each legal turn, in rising order, is a job: workers draw them and
+/// search each with the same budget and a depth one less, until one is settled for the side to move. The caller searches
+/// what they left, and the proof that the results make is offered to the log. The depth is at least 1, and nobody has won
+/// at the line.
 pub fn solve<R: Threads + Wait + Sync, G: Gate>(
     rt: &R,
     alloc: Global,
     line: &Line,
     limits: &Limits,
     workers: usize,
-    table: &Table,
+    log: &CertLog,
     gate: &G,
 ) -> Answer
     requires workers { (1 ≤ workers) × (workers ≤ 64) }
@@ -61,10 +64,13 @@ pub fn solve<R: Threads + Wait + Sync, G: Gate>(
     requires open { winner_of line.now.frame line.now.state ≡ None }
     ensures { IsAnswer line.now limits.now result }
 {
-    let mut store = LockedStore::new(rt, table);
+    let Ok(view) = View::new(alloc, log) else {
+        return no_memory();
+    };
+    let mut store = LogStore::new(rt, view);
     match begin(alloc, line, limits, &mut store) {
         Ok(mut results) => {
-            if search_together(rt, &mut results, workers, table, gate).is_err() {
+            if search_together(rt, &mut results, workers, log, gate).is_err() {
                 return no_memory();
             }
             finish(results, &mut store)

@@ -3,7 +3,7 @@
 ghost use Rattle.std.specs.Prelude.{◌≤◌};
 
 use crate::alone_tests::{posed, verdict};
-use crate::{Gate, LockedStore, NoGate, Table, solve};
+use crate::{CertLog, Gate, LogStore, NoGate, View, solve};
 use std::alloc::Global;
 use std::sync::Wait;
 use std::sync::atomic::{AtomicU64, Ordering};
@@ -13,14 +13,14 @@ use std::thread::Threads;
 use tt_game::Side;
 use tt_search::{Limits, Store};
 
-/// The answer to a problem by so many workers over the table: the verdict and the first turn.
+/// The answer to a problem by so many workers over the log: the verdict and the first turn.
 fn solved<R: Threads + Wait + Sync, G: Gate>(
     rt: &R,
     alloc: Global,
     text: &[u8],
     limits: Option<Limits>,
     workers: usize,
-    table: &Table,
+    log: &CertLog,
     gate: &G,
 ) -> Result<Vec<u8>, Fail>
     requires { (1 ≤ workers) × (workers ≤ 64) }
@@ -32,7 +32,7 @@ fn solved<R: Threads + Wait + Sync, G: Gate>(
     if limits.depth() == 0 || line.winner().is_some() {
         return Err(Fail::new("nothing to solve"));
     }
-    let answer = solve(rt, alloc, &line, &limits, workers, table, gate);
+    let answer = solve(rt, alloc, &line, &limits, workers, log, gate);
     verdict(alloc, &line, answer)
 }
 
@@ -56,20 +56,20 @@ fn verdicts_by_workers(rt: HostRuntime) -> Result<(), Fail> {
     ];
     for (problem, budget, depth, want) in rows {
         for workers in [1usize, 2, 64] {
-            let table = Table::new(alloc)?;
+            let log = CertLog::new(alloc)?;
             let limits = Limits::new(budget, depth);
-            let got = solved(&rt, alloc, problem, limits, workers, &table, &NoGate)?;
+            let got = solved(&rt, alloc, problem, limits, workers, &log, &NoGate)?;
             assert!(&rt; got.as_slice() == want);
         }
     }
     Ok(())
 }
 
-/// What was found for one problem serves the next one over the same table, and the same problem again.
+/// What was found for one problem serves the next one over the same log, and the same problem again.
 #[test]
-fn one_table_for_two_problems(rt: HostRuntime) -> Result<(), Fail> {
+fn one_log_for_two_problems(rt: HostRuntime) -> Result<(), Fail> {
     let alloc = rt.alloc();
-    let table = Table::new(alloc)?;
+    let log = CertLog::new(alloc)?;
     let rows: [(&[u8], &[u8]); 4] = [
         (b"(;SZ[4:1]AW[ba][da]PL[B]TR[ba])", b"killed ca"),
         (b"(;SZ[4:1]AW[ba][da]PL[B]TR[ba])", b"killed ca"),
@@ -78,7 +78,7 @@ fn one_table_for_two_problems(rt: HostRuntime) -> Result<(), Fail> {
     ];
     for (problem, want) in rows {
         let limits = Limits::new(100_000, 512);
-        let got = solved(&rt, alloc, problem, limits, 2, &table, &NoGate)?;
+        let got = solved(&rt, alloc, problem, limits, 2, &log, &NoGate)?;
         assert!(&rt; got.as_slice() == want);
     }
     Ok(())
@@ -110,20 +110,32 @@ impl Gate for SideBySide {
     fn end(&self, _job: usize) {}
 }
 
-#[test]
-fn jobs_run_side_by_side(rt: HostRuntime) -> Result<(), Fail> {
-    let alloc = rt.alloc();
-    let table = Table::new(alloc)?;
+/// Whether so many workers meet at two jobs.
+fn meet<R: Threads + Wait + Sync>(rt: &R, alloc: Global, workers: usize) -> Result<bool, Fail>
+    requires { (1 ≤ workers) × (workers ≤ 64) }
+{
+    let log = CertLog::new(alloc)?;
     let gate = SideBySide {
         second: AtomicU64::new(0),
         missed: AtomicU64::new(0),
     };
     let problem = b"(;SZ[4:1]AW[ba][da]PL[B]TR[ba])";
     let limits = Limits::new(100_000, 512);
-    let got = solved(&rt, alloc, problem, limits, 2, &table, &gate)?;
-    assert!(&rt; got.as_slice() == b"killed ca".as_slice());
-    assert!(&rt; gate.second.load(Ordering::SeqCst) == 1);
-    assert!(&rt; gate.missed.load(Ordering::SeqCst) == 0);
+    let got = solved(rt, alloc, problem, limits, workers, &log, &gate)?;
+    if got.as_slice() != b"killed ca".as_slice() {
+        return Err(Fail::new("another answer"));
+    }
+    let second = gate.second.load(Ordering::SeqCst);
+    let missed = gate.missed.load(Ordering::SeqCst);
+    Ok(second == 1 && missed == 0)
+}
+
+#[test]
+fn jobs_run_side_by_side(rt: HostRuntime) -> Result<(), Fail> {
+    let alloc = rt.alloc();
+    for workers in [2usize, 64] {
+        assert!(&rt; meet(&rt, alloc, workers)?, "{workers} workers");
+    }
     Ok(())
 }
 
@@ -148,14 +160,14 @@ impl Gate for Counting {
 fn told<R: Threads + Wait + Sync>(rt: &R, alloc: Global, workers: usize) -> Result<(u64, u64), Fail>
     requires { (1 ≤ workers) × (workers ≤ 64) }
 {
-    let table = Table::new(alloc)?;
+    let log = CertLog::new(alloc)?;
     let gate = Counting {
         begun: AtomicU64::new(0),
         ended: AtomicU64::new(0),
     };
     let problem = b"(;SZ[4:1]AW[ba]PL[B]TR[ba])";
     let limits = Limits::new(100_000, 512);
-    solved(rt, alloc, problem, limits, workers, &table, &gate)?;
+    solved(rt, alloc, problem, limits, workers, &log, &gate)?;
     let begun = gate.begun.load(Ordering::SeqCst);
     let ended = gate.ended.load(Ordering::SeqCst);
     Ok((begun, ended))
@@ -171,7 +183,7 @@ fn each_job_is_told(rt: HostRuntime) -> Result<(), Fail> {
     Ok(())
 }
 
-/// How many jobs begin and how many end where one worker searches a problem. The table holds nothing.
+/// How many jobs begin and how many end where one worker searches a problem. The log holds nothing.
 fn told_alone<R: Threads + Wait + Sync>(
     rt: &R,
     alloc: Global,
@@ -179,13 +191,13 @@ fn told_alone<R: Threads + Wait + Sync>(
     budget: u32,
     want: &[u8],
 ) -> Result<(u64, u64), Fail> {
-    let table = Table::new(alloc)?;
+    let log = CertLog::new(alloc)?;
     let gate = Counting {
         begun: AtomicU64::new(0),
         ended: AtomicU64::new(0),
     };
     let limits = Limits::new(budget, 512);
-    let got = solved(rt, alloc, problem, limits, 1, &table, &gate)?;
+    let got = solved(rt, alloc, problem, limits, 1, &log, &gate)?;
     if got.as_slice() != want {
         return Err(Fail::new("another answer"));
     }
@@ -245,14 +257,14 @@ impl Gate for InTurn {
 fn each_in_turn<R: Threads + Wait + Sync>(rt: &R, alloc: Global, workers: usize) -> Result<(), Fail>
     requires { (1 ≤ workers) × (workers ≤ 64) }
 {
-    let table = Table::new(alloc)?;
+    let log = CertLog::new(alloc)?;
     let gate = InTurn {
         told: [AtomicU64::new(0), AtomicU64::new(0), AtomicU64::new(0)],
         astray: AtomicU64::new(0),
     };
     let problem = b"(;SZ[4:1]AW[ba]PL[B]TR[ba])";
     let limits = Limits::new(100_000, 512);
-    solved(rt, alloc, problem, limits, workers, &table, &gate)?;
+    solved(rt, alloc, problem, limits, workers, &log, &gate)?;
     if gate.astray.load(Ordering::SeqCst) != 0 {
         return Err(Fail::new("out of turn"));
     }
@@ -273,28 +285,28 @@ fn a_job_begins_before_it_ends(rt: HostRuntime) -> Result<(), Fail> {
     Ok(())
 }
 
-/// How many jobs begin where two workers solve a problem that was solved before over the same table.
+/// How many jobs begin where two workers solve a problem that was solved before over the same log.
 fn begun_again<R: Threads + Wait + Sync>(
     rt: &R,
     alloc: Global,
     problem: &[u8],
     want: &[u8],
 ) -> Result<u64, Fail> {
-    let table = Table::new(alloc)?;
+    let log = CertLog::new(alloc)?;
     let limits = Limits::new(100_000, 512);
-    let first = solved(rt, alloc, problem, limits, 2, &table, &NoGate)?;
+    let first = solved(rt, alloc, problem, limits, 2, &log, &NoGate)?;
     let gate = Counting {
         begun: AtomicU64::new(0),
         ended: AtomicU64::new(0),
     };
-    let again = solved(rt, alloc, problem, limits, 2, &table, &gate)?;
+    let again = solved(rt, alloc, problem, limits, 2, &log, &gate)?;
     if first.as_slice() != want || again.as_slice() != want {
         return Err(Fail::new("another answer"));
     }
     Ok(gate.begun.load(Ordering::SeqCst))
 }
 
-/// The proof of a solved line is offered to the table, whichever side it is for, and the table has it for the same line: no
+/// The proof of a solved line is offered to the log, whichever side it is for, and the log has it for the same line: no
 /// job begins.
 #[test]
 fn a_solved_line_is_found(rt: HostRuntime) -> Result<(), Fail> {
@@ -309,7 +321,7 @@ fn a_solved_line_is_found(rt: HostRuntime) -> Result<(), Fail> {
     Ok(())
 }
 
-/// Fails unless the newest proof that the table has for a problem stands at that problem, after two workers solved another
+/// Fails unless the newest proof that the log has for a problem stands at that problem, after two workers solved another
 /// one over it.
 fn newest_stands<R: Threads + Wait + Sync>(
     rt: &R,
@@ -317,22 +329,22 @@ fn newest_stands<R: Threads + Wait + Sync>(
     problem: &[u8],
     other: &[u8],
 ) -> Result<(), Fail> {
-    let table = Table::new(alloc)?;
+    let log = CertLog::new(alloc)?;
     let limits = Limits::new(100_000, 512);
-    solved(rt, alloc, problem, limits, 2, &table, &NoGate)?;
-    let got = solved(rt, alloc, other, limits, 2, &table, &NoGate)?;
+    solved(rt, alloc, problem, limits, 2, &log, &NoGate)?;
+    let got = solved(rt, alloc, other, limits, 2, &log, &NoGate)?;
     if got.as_slice() != b"killed ca".as_slice() {
         return Err(Fail::new("another answer"));
     }
     let line = posed(alloc, problem)?;
-    match LockedStore::new(rt, &table).find(&line, Side::Attacker)? {
+    match LogStore::new(rt, View::new(alloc, &log)?).find(&line, Side::Attacker)? {
         Some(found) if found.stands_at(&line) => Ok(()),
         Some(_) => Err(Fail::new("found at another line")),
         None => Err(Fail::new("not found")),
     }
 }
 
-/// An answer that came from the table isn't offered to it: its proof would stand at a line with another history.
+/// An answer that came from the log isn't offered to it: its proof would stand at a line with another history.
 #[test]
 fn a_found_answer_is_not_offered(rt: HostRuntime) -> Result<(), Fail> {
     let split = b"(;SZ[4:1]AW[ba][da]PL[B]TR[ba])";

@@ -5,7 +5,7 @@ ghost use Rattle.std.specs.Prelude.{◌≡◌, ◌≤◌};
 use crate::alone_tests::posed;
 use crate::gate::{Gate, NoGate};
 use crate::jobs::Jobs;
-use crate::locked::Table;
+use crate::log::CertLog;
 use crate::results::Results;
 use crate::together::search_together;
 use crate::workers::search_drawn;
@@ -124,9 +124,9 @@ fn gathered<R: Threads + Wait + Sync>(
     if line.winner().is_some() || limits.depth() == 0 {
         return Err(Fail::new("nothing to search"));
     }
-    let table = Table::new(alloc)?;
+    let log = CertLog::new(alloc)?;
     let mut results = Results::of(alloc, &line, limits)?;
-    search_together(rt, &mut results, workers, &table, &NoGate)?;
+    search_together(rt, &mut results, workers, &log, &NoGate)?;
     let known = results.ends.iter().filter(|end| end.is_some()).count();
     Ok((results.count(), known))
 }

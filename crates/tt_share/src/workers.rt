@@ -9,8 +9,10 @@ ghost use Rattle.tt_share.specs.Workers.{SomeWin, IsWork, IsPlaced, AllPlaced, A
 use crate::desk::{Desk, Seat};
 use crate::gate::Gate;
 use crate::jobs::{Found, Jobs, is_stuck, trimmed};
-use crate::locked::{LockedStore, Table};
+use crate::log::CertLog;
+use crate::log_store::LogStore;
 use crate::results::Results;
+use crate::view::View;
 use std::sync::Wait;
 use std::thread;
 use std::thread::Threads;
@@ -94,12 +96,38 @@ pub(crate) fn work<S: Store, G: Gate>(
     HandedBack { seat, found }
 }
 
+/// Works over a view of the log. Where there is no memory for a view it hands its seat back, and no results.
+fn work_over<R: Wait, G: Gate>(
+    rt: &R,
+    jobs: &Jobs<'_>,
+    desk: &Desk,
+    log: &CertLog,
+    gate: &G,
+    seat: Seat,
+) -> HandedBack
+    requires jobs { desk.now.jobs ≡ length jobs.now.turns.items }
+    requires seat { seat.desk ≡ desk.now.id }
+    ensures work { IsWork jobs.now.line.now jobs.now.limits desk.now.id result }
+    ensures drawn { AddsSpare desk.now.jobs (seat.numbers ++ jobs_of result.found.items) result.seat.numbers }
+{
+    match View::new(jobs.alloc, log) {
+        Ok(view) => {
+            let mut store = LogStore::new(rt, view);
+            work(jobs, desk, gate, seat, &mut store)
+        }
+        Err(_) => HandedBack {
+            seat,
+            found: Vec::new(jobs.alloc),
+        },
+    }
+}
+
 /// Each seat works in a thread of its own, where one can be made. Where memory is refused the seats are gone.
 pub(crate) fn run_workers<R: Threads + Wait + Sync, G: Gate>(
     rt: &R,
     jobs: &Jobs<'_>,
     desk: &Desk,
-    table: &Table,
+    log: &CertLog,
     gate: &G,
     seats: Vec<Seat>,
 ) -> Result<Vec<HandedBack>, NoMemory>
@@ -113,10 +141,7 @@ pub(crate) fn run_workers<R: Threads + Wait + Sync, G: Gate>(
         requires { (desk.now.jobs ≡ length jobs.now.turns.items) × (seat.desk ≡ desk.now.id) }
         ensures work { IsWork jobs.entry.now.line.now jobs.entry.now.limits desk.entry.now.id result }
         ensures drawn { AddsSpare desk.entry.now.jobs (seat.numbers ++ jobs_of result.found.items) result.seat.numbers }
-    {
-        let mut store = LockedStore::new(rt, table);
-        work(jobs, desk, gate, seat, &mut store)
-    };
+    { work_over(rt, jobs, desk, log, gate, seat) };
     match thread::map_vec(rt, seats, &worker) {
         Ok(work) => Ok(work),
         Err(_) => Err(NoMemory),

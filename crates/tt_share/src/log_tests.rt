@@ -1,0 +1,245 @@
+//! The log and its views, and searches over each kind of store that is shared.
+
+use crate::alone_tests::posed;
+use crate::table_tests::proof_of;
+use crate::{CertLog, LockedStore, LogStore, Table, View};
+use std::alloc::Global;
+use std::sync::{Arc, Wait};
+use std::test::Fail;
+use std::thread;
+use std::thread::Threads;
+use tt_game::{Line, Side};
+use tt_proof::Proof;
+use tt_search::{Kept, Limits, PrivateStore, Reason, Search, Step, Store};
+
+/// White's two stones with liberties on both sides: Black to move wins.
+const SPLIT: &[u8] = b"(;SZ[4:1]AW[ba][da]PL[B]TR[ba])";
+
+/// The same colouring reached by moves, so that Black may not repeat the board before.
+const REPEATED: &[u8] = b"(;SZ[4:1]AW[ba];B[ca];W[da]TR[ba])";
+
+/// The record of a white stone in the corner that Black captures, on the board of a number below 200: 2 to 13 columns, and
+/// 2 to 19 rows but not as many.
+fn record(alloc: Global, number: u32) -> Result<String, Fail> {
+    let columns = 2 + number / 17;
+    let mut rows = 2 + number % 17;
+    if rows >= columns {
+        rows += 1;
+    }
+    Ok(format!(in alloc; "(;SZ[{columns}:{rows}]AW[aa]AB[ba]PL[B]TR[aa])")?)
+}
+
+/// The line of that problem.
+fn cornered(alloc: Global, number: u32) -> Result<Line, Fail> {
+    posed(alloc, record(alloc, number)?.as_bytes())
+}
+
+/// The proof that Black captures the stone.
+fn captured(alloc: Global, number: u32) -> Result<Arc<Proof>, Fail> {
+    proof_of(alloc, record(alloc, number)?.as_bytes(), b"killed !ab.")
+}
+
+/// The proofs of a hundred of those boards, from a number on.
+fn hundred(alloc: Global, from: u32) -> Result<Vec<Arc<Proof>>, Fail> {
+    let mut proofs = Vec::new(alloc);
+    for number in 0..100u32 {
+        proofs.push(captured(alloc, from.saturating_add(number))?)?;
+    }
+    Ok(proofs)
+}
+
+/// Keeps the proofs through the view, the first one first.
+fn keep_all<'a, R: Wait>(rt: &R, mut view: View<'a>, proofs: Vec<Arc<Proof>>) -> View<'a> {
+    for p in proofs {
+        match view.keep(rt, p) {
+            Kept::Stored | Kept::Full | Kept::NoMemory => {}
+        }
+    }
+    view
+}
+
+/// Two threads keep proofs, each through a view of its own.
+fn keep_at_once<'a, R: Threads + Wait + Sync>(
+    rt: &R,
+    one: View<'a>,
+    first: Vec<Arc<Proof>>,
+    other: View<'a>,
+    second: Vec<Arc<Proof>>,
+) -> (View<'a>, View<'a>) {
+    thread::join(
+        rt,
+        move || keep_all(rt, one, first),
+        move || keep_all(rt, other, second),
+    )
+}
+
+/// Whether the view's tokens are of the boards' proofs, from a number on, by what the log shows for them.
+fn shows(alloc: Global, view: &View<'_>, from: u32) -> Result<bool, Fail> {
+    let log = view.log();
+    let mut number = from;
+    for token in view.tokens() {
+        let line = cornered(alloc, number)?;
+        if !log.at(token).stands_at(&line) {
+            return Ok(false);
+        }
+        number = number.saturating_add(1);
+    }
+    Ok(view.tokens().len() == 100 && view.kept() == 100)
+}
+
+/// How many of those boards' proofs a store finds.
+fn found_by<S: Store>(alloc: Global, store: &mut S) -> Result<u32, Fail> {
+    let mut count = 0u32;
+    for number in 0..200u32 {
+        let line = cornered(alloc, number)?;
+        if let Some(p) = store.find(&line, Side::Attacker)? {
+            if p.stands_at(&line) {
+                count = count.saturating_add(1);
+            }
+        }
+    }
+    Ok(count)
+}
+
+#[test]
+fn kept_by_threads_found_by_a_third_store(rt: HostRuntime) -> Result<(), Fail> {
+    let alloc = rt.alloc();
+    let log = CertLog::new(alloc)?;
+    let one = View::new(alloc, &log)?;
+    let other = View::new(alloc, &log)?;
+    let first = hundred(alloc, 0)?;
+    let second = hundred(alloc, 100)?;
+    let (one, other) = keep_at_once(&rt, one, first, other, second);
+    assert!(&rt; shows(alloc, &one, 0)?);
+    assert!(&rt; shows(alloc, &other, 100)?);
+    let mut third = LogStore::new(&rt, View::new(alloc, &log)?);
+    assert!(&rt; found_by(alloc, &mut third)? == 200);
+    let view = third.into_view();
+    assert!(&rt; view.tokens().len() == 200);
+    assert!(&rt; view.kept() == 0);
+    let mut first = LogStore::new(&rt, one);
+    assert!(&rt; found_by(alloc, &mut first)? == 200);
+    assert!(&rt; first.into_view().tokens().len() == 200);
+    Ok(())
+}
+
+#[test]
+fn kept_and_found_at_once(rt: HostRuntime) -> Result<(), Fail> {
+    let alloc = rt.alloc();
+    let log = CertLog::new(alloc)?;
+    let mut view = View::new(alloc, &log)?;
+    let line = cornered(alloc, 0)?;
+    assert!(&rt; view.find(&line, Side::Attacker)?.is_none());
+    assert!(&rt; view.keep(&rt, captured(alloc, 0)?) == Kept::Stored);
+    assert!(&rt; view.find(&line, Side::Attacker)?.is_some());
+    assert!(&rt; view.find(&line, Side::Defender)?.is_none());
+    assert!(&rt; view.tokens().len() == 1);
+    Ok(())
+}
+
+/// A view keeps 4,096 proofs, and no more; another one takes them all in.
+#[test]
+fn a_view_is_full(rt: HostRuntime) -> Result<(), Fail> {
+    let alloc = rt.alloc();
+    let log = CertLog::new(alloc)?;
+    let mut view = View::new(alloc, &log)?;
+    let proof = captured(alloc, 7)?;
+    for _ in 0..4_096u32 {
+        assert!(&rt; view.keep(&rt, Arc::try_clone(&proof)?) == Kept::Stored);
+    }
+    assert!(&rt; view.keep(&rt, Arc::try_clone(&proof)?) == Kept::Full);
+    assert!(&rt; view.kept() == view.capacity());
+    let mut other = View::new(alloc, &log)?;
+    let line = cornered(alloc, 7)?;
+    assert!(&rt; other.find(&line, Side::Attacker)?.is_some());
+    assert!(&rt; other.tokens().len() == 4_096);
+    assert!(&rt; other.keep(&rt, proof) == Kept::Stored);
+    Ok(())
+}
+
+/// The letter of what a step answered.
+fn letter(step: Step) -> char {
+    match step {
+        Step::Expanded => 'E',
+        Step::Closed => 'C',
+        Step::Settled => 'S',
+        Step::Stuck(Reason::Budget) => 'B',
+        Step::Stuck(Reason::Depth) => 'D',
+        Step::Stuck(Reason::Memory) => 'M',
+    }
+}
+
+/// A number, or its name where it is infinite.
+fn shown(alloc: Global, number: u32) -> Result<String, Fail> {
+    if number == 4_294_967_295 {
+        return Ok(format!(in alloc; "inf")?);
+    }
+    Ok(format!(in alloc; "{number}")?)
+}
+
+/// What a step answered, with the root's numbers after it.
+fn told(alloc: Global, step: Step, search: &Search) -> Result<String, Fail> {
+    let (proof, disproof) = search.numbers();
+    let proof = shown(alloc, proof)?;
+    let disproof = shown(alloc, disproof)?;
+    Ok(format!(in alloc; "{}{proof},{disproof} ", letter(step))?)
+}
+
+/// The steps of a search up to its end, how many nodes are expanded, and how many proofs are kept.
+fn trace<S: Store>(alloc: Global, text: &[u8], store: &mut S) -> Result<String, Fail> {
+    let Some(limits) = Limits::new(100, 512) else {
+        return Err(Fail::new("no limits"));
+    };
+    let mut search = Search::new(alloc, posed(alloc, text)?, limits)?;
+    let mut steps = String::new(alloc);
+    for _ in 0..8u32 {
+        let step = search.step(store);
+        steps.push_str(told(alloc, step, &search)?.as_str())?;
+        if step != Step::Expanded && step != Step::Closed {
+            break;
+        }
+    }
+    let end = format!(in alloc; "{} {}", search.expanded(), store.kept())?;
+    steps.push_str(end.as_str())?;
+    Ok(steps)
+}
+
+/// Fails unless a search over the store goes as the row says.
+fn search_row<S: Store>(alloc: Global, text: &[u8], store: &mut S, want: &str) -> Result<(), Fail> {
+    if trace(alloc, text, store)?.as_str() != want {
+        return Err(Fail::new(want));
+    }
+    Ok(())
+}
+
+/// Whether the store answers the proof of the first problem at the second one, which has its key, and none for the other
+/// side.
+fn finds_the_first<S: Store>(alloc: Global, store: &mut S) -> Result<bool, Fail> {
+    let first = posed(alloc, SPLIT)?;
+    let line = posed(alloc, REPEATED)?;
+    let Some(found) = store.find(&line, Side::Attacker)? else {
+        return Ok(false);
+    };
+    let other = store.find(&line, Side::Defender)?;
+    Ok(found.stands_at(&first) && !found.stands_at(&line) && other.is_none())
+}
+
+/// Fails unless searches over one store go as they go over a private one: the table of `tt_search`.
+fn search_thrice<S: Store>(alloc: Global, store: &mut S) -> Result<(), Fail> {
+    search_row(alloc, SPLIT, store, "E1,2 E1,2 E0,inf S0,inf 3 3")?;
+    search_row(alloc, SPLIT, store, "C0,inf S0,inf 0 3")?;
+    if !finds_the_first(alloc, store)? {
+        return Err(Fail::new("another proof is found"));
+    }
+    search_row(alloc, REPEATED, store, "E1,1 Einf,0 Sinf,0 2 5")
+}
+
+#[test]
+fn searches_over_each_store(rt: HostRuntime) -> Result<(), Fail> {
+    let alloc = rt.alloc();
+    search_thrice(alloc, &mut PrivateStore::new(alloc))?;
+    let table = Table::new(alloc)?;
+    search_thrice(alloc, &mut LockedStore::new(&rt, &table))?;
+    let log = CertLog::new(alloc)?;
+    search_thrice(alloc, &mut LogStore::new(&rt, View::new(alloc, &log)?))
+}
