@@ -1,5 +1,4 @@
 pub mod Checks
-pub mod FirstTree
 pub mod Getters
 pub mod Limit
 pub mod OneCheck

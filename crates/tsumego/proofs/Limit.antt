@@ -1,8 +1,6 @@
 -- Lemmas on inputs past the limit, of which only a part is read.
-use Rattle.std.proofs.Common.{refl, true, false, ◌≡◌, ◌≤◌, ◌⊎◌, ℕ, List, [], inl, inr, Option, None, Some, Ok, Err, length, take, arith, subst}
+use Rattle.std.proofs.Common.{refl, true, false, ◌≡◌, ◌≤◌, ℕ, List, [], inl, inr, Option, None, Some, Ok, Err, length, take, arith, subst}
 use Rattle.std.specs.declared.result.Result.{Result}
-use Rattle.std.proofs.lemmas.List.{take_all, length-take-le}
-use Rattle.std.proofs.lemmas.Bool.{cases_lt}
 use Rattle.std.proofs.KnownBytes.{Appends-nil, Keeps-refl}
 use Rattle.tsumego.specs.declared.request.Command.{Command}
 use Rattle.devices.specs.declared.fault.RunFault.{RunFault}
@@ -17,16 +15,10 @@ use Rattle.tsumego.specs.Solving.{Solves}
 use Rattle.tsumego.specs.Text.{BeginsAnswer, IsAnswer, IsEarlierPart, Scores}
 use Rattle.tsumego.specs.Trees.{AreOutcomes, BeginsTreesText, EarlierTreesText, IsTreesText, all_lines, all_read, before_more, no_line, nothing, some_lines, stopped, too_long}
 use Rattle.devices.specs.Watching.{IsInput}
+use Rattle.devices.specs.PartLaws.{cut_or_whole}
 use Rattle.devices.specs.Faults.{is_output_fault}
 use Rattle.devices.specs.Writing.{ForInput}
 use Rattle.tsumego.specs.Writing.{Writes}
-
--- the part of an input up to a limit is the whole, or as long as the limit
-cut_or_whole : (most : ℕ) (input : List ℕ) → (take most input ≡ input) ⊎ ((length (take most input) ≡ most) × (most ≤ length input))
-cut_or_whole most input = elim (cases_lt most (length input)) [
-  | inl lt ↦ let le : most ≤ length input = omega arith in inr (length-take-le most input le, le)
-  | inr le ↦ inl (take_all most input le)
-]
 
 module _ (allowed : List Node → Outcome → Type 0) where
   -- outcomes for a part of the input that is too long as well are outcomes for the input

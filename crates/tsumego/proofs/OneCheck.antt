@@ -1,7 +1,7 @@
 -- An input has one text and one status that answer `check`.
 use Rattle.std.proofs.Common.{◌≡◌, ℕ, List, Ok, Err, refl, sym, ap, ◌∙◌, drop, arith, subst}
 use Rattle.std.specs.declared.result.Result.{Result}
-use Rattle.tt_sgf.specs.Grammar.{GameTree, main_line}
+use Rattle.tt_sgf.specs.Grammar.{GameTree, main_line, OneSpelling}
 use Rattle.tt_sgf.specs.Values.{trimmed}
 use Rattle.tt_game.specs.declared.faults.GameFault.{GameFault}
 use Rattle.tt_game.specs.declared.frame.Side.{Side}
@@ -13,7 +13,6 @@ use Rattle.tt_proof.specs.Strategy.{Strategy}
 use Rattle.tt_proof.specs.Wins.{Wins}
 use Rattle.tsumego.specs.declared.finding.Finding.{Finding}
 use Rattle.tsumego.specs.Checking.{Finds, FindsAt, FindsOn, IsCheckText, finding_line, finding_status, first_tree, loses, no_certificate, no_tree, too_deep, too_long, wins}
-use Rattle.tsumego.proofs.OneText as text
 
 module _ (one : OneCertificate) where
   -- a tree doesn't win and lose
@@ -47,7 +46,7 @@ module _ (one : OneCertificate) where
   found_on (Ok p) bytes o q a b = found_at p bytes o q a b
   found_on (Err e) bytes o q a b = a ∙ sym b
 
-  module _ (reading : text.OneReading) where
+  module _ (reading : OneSpelling) where
     -- one thing is found on an input
     found_same : (input : List ℕ) (o q : Finding) → Finds input o → Finds input q → o ≡ q
     found_same input o q (too_long long) (too_long more) = refl

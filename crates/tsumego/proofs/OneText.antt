@@ -1,28 +1,18 @@
 -- An input has one text and one status that answer `score`.
-use Rattle.std.proofs.Common.{◌≡◌, ◌≢◌, ◌⊎◌, ℕ, List, [], ◌∷◌, ◌++◌, inl, inr, refl, sym, ap, ap₂, ◌∙◌, drop, arith, subst, Contains}
-use Rattle.std.proofs.lemmas.List.Elements.{Contains-append_left, Contains-append_right}
-use Rattle.tt_sgf.specs.Grammar.{GameTree, HasNoTree, SpelledUpTo, game, main_line}
+use Rattle.std.proofs.Common.{◌≡◌, ◌≢◌, ◌⊎◌, ℕ, List, [], ◌∷◌, ◌++◌, inl, inr, refl, sym, ap, ap₂, ◌∙◌, drop, arith, subst}
+use Rattle.tt_sgf.specs.Grammar.{GameTree, HasNoTree, SpelledUpTo, main_line, HasOpen, OneSpelling}
+use Rattle.tt_sgf.specs.TreeLaws.{spelled_opens}
 use Rattle.tt_game.specs.Records.{record_of}
 use Rattle.tsumego.specs.declared.outcome.Outcome.{Outcome}
 use Rattle.tsumego.specs.declared.outcome.Outcome.TheVariants.{Refused}
 use Rattle.tsumego.specs.Text.{Scores, scored}
-use Rattle.tsumego.specs.Trees.{AreOutcomes, HasOpen, IsTreesText, Reads, all_read, lines_from, status_of, stopped, too_long}
-
--- where a tree is spelled, a `(` stands in the bytes
-spelled_opens : (bytes : List ℕ) (count : ℕ) (t : GameTree) → SpelledUpTo bytes count t → HasOpen bytes
-spelled_opens bytes count (game nodes trees) s =
-    let opens : Contains s.text 40 = subst (λ (x : List ℕ). Contains x 40) (sym s.spells.7) (0, omega arith, refl) in
-    subst (λ (x : List ℕ). Contains x 40) (sym s.parts) (Contains-append_right s.skipped (s.text ++ s.rest) 40 (Contains-append_left s.text s.rest 40 opens))
+use Rattle.tsumego.specs.Trees.{AreOutcomes, IsTreesText, Reads, all_read, lines_from, status_of, stopped, too_long}
 
 -- without a `(` no tree is spelled
 none_spelled : (bytes : List ℕ) → (HasOpen bytes → ⊥) → HasNoTree bytes
 none_spelled bytes none t count s = none (spelled_opens bytes count t s)
 
--- from the first bracket on, the bytes begin with a text of one tree at most
-abbrev pub OneReading : Type 0
-OneReading = (bytes : List ℕ) (n m : ℕ) (s t : GameTree) → SpelledUpTo bytes n s → SpelledUpTo bytes m t → (n ≡ m) × (s ≡ t)
-
-module _ (one : OneReading) where
+module _ (one : OneSpelling) where
   -- two readings up to where no tree is spelled agree
   reads_same : (bytes : List ℕ) (os ps : List Outcome) (rest left : List ℕ) → Reads Scores bytes os rest → Reads Scores bytes ps left → HasNoTree rest → HasNoTree left
       → (os ≡ ps) × (rest ≡ left)

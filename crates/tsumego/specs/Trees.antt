@@ -1,8 +1,8 @@
 -- What is written on the game trees of an input: a line each, numbered from 1.
-use Rattle.std.specs.Prelude.{◌≡◌, ◌≢◌, ◌⊎◌, ◌+◌, ◌<◌, ◌≤◌, ℕ, Bool, true, false, List, [], ◌∷◌, ◌++◌, length, drop, codes, decimal, if◌then◌else◌, Contains}
+use Rattle.std.specs.Prelude.{◌≡◌, ◌≢◌, ◌⊎◌, ◌+◌, ◌<◌, ◌≤◌, ℕ, Bool, true, false, List, [], ◌∷◌, ◌++◌, length, drop, codes, decimal, if◌then◌else◌}
 use Rattle.std.specs.List.{list_any}
 use Rattle.tt_sgf.specs.declared.nodes.Node.{Node}
-use Rattle.tt_sgf.specs.Grammar.{GameTree, HasNoTree, SpelledUpTo, main_line}
+use Rattle.tt_sgf.specs.Grammar.{GameTree, HasNoTree, HasOpen, SpelledUpTo, main_line}
 use Rattle.tsumego.specs.declared.outcome.Outcome.{Outcome}
 use Rattle.tsumego.specs.declared.outcome.Outcome.TheVariants.{Scored, Answered, Refused}
 
@@ -40,10 +40,6 @@ Reads allowed bytes (o ∷ os) rest = (count : ℕ) × (t : GameTree) × Spelled
 -- the longest input whose trees are read
 abbrev pub most_bytes : ℕ
 most_bytes = 1048576
-
--- a `(` stands in the bytes
-abbrev pub HasOpen : List ℕ → Type 0
-HasOpen bytes = Contains bytes 40
 
 -- These are the outcomes for the whole input: it is too long; or it has trees and no further `(`; or reading stops where
 -- no tree is spelled, at a `(` or before the first tree.

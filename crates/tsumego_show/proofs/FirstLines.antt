@@ -25,10 +25,12 @@ unfolding first_lines
 lines_over out rest behind whole out' b left e z h more =
     more ∙ ap₂ (λ (x : List ℕ) n. out ++ first_lines n x) (sym e) (sym z) ∙ h
 
+-- where a line is left, the first byte is shown, and then the first lines of the rest
 one_line : (n b : ℕ) (bs : List ℕ) → (n ≡ 0 → ⊥) → first_lines n (b ∷ bs) ≡ b ∷ first_lines (if b == 10 then n - 1 else n) bs
 unfolding first_lines
 one_line n b bs some = ap (λ (x : Bool). if x then codes "...\n" else b ∷ first_lines (if b == 10 then n - 1 else n) bs) off
   where
+    -- some line is left
     off : nat_eq n 0 ≡ false
     off = elim (cases_Bool (nat_eq n 0)) [ inl on ↦ absurd (some (search (rules, on))) | inr e ↦ e ]
 
@@ -41,6 +43,7 @@ lines_more out rest behind whole out' b left next e some h more is =
 
 -- the size of the line's frame is that of its problem
 module _ (p : Standing) (f : Frame) (bytes : List ℕ) (same : f ≡ p.frame) where
+  -- what is drawn of a certificate on the frame's board is drawn at the problem
   pub drawn_at : {A E : Type 0} (r : Result A E) (old new : List ℕ) (side : Side) (u : Strategy) → IsCertificate f.size bytes side u × (IsTooDeep f.size bytes → ⊥)
       → OnOk r ((first : List ℕ) × DrawsFirst p side u first × (new ≡ old ++ (first ++ strategy_text p side u))) → OnOk r ((x : List ℕ) × Draws p bytes x × (new ≡ old ++ x))
   drawn_at (Ok y) old new side u h e =
@@ -48,6 +51,7 @@ module _ (p : Standing) (f : Frame) (bytes : List ℕ) (same : f ≡ p.frame) wh
       (e.0 ++ strategy_text p side u, drawn side u e.0 k.0 k.1 e.1, e.2)
   drawn_at (Err y) old new side u h e = e
 
+  -- so is what is said where bytes are no certificate
   pub none_at : {A E : Type 0} (r : Result A E) (old new : List ℕ) (e : CertFault) → e ≡ Syntax → IsFault f.size bytes e → OnOk r (new ≡ old ++ none_line bytes)
       → OnOk r ((x : List ℕ) × Draws p bytes x × (new ≡ old ++ x))
   none_at (Ok y) old new e is h w =
@@ -55,6 +59,7 @@ module _ (p : Standing) (f : Frame) (bytes : List ℕ) (same : f ≡ p.frame) wh
       (none_line bytes, none_drawn k.0 k.1, w)
   none_at (Err y) old new e is h w = w
 
+  -- and where they go too deep
   pub deep_at : {A E : Type 0} (r : Result A E) (old new : List ℕ) (e : CertFault) → e ≡ TooDeep → IsFault f.size bytes e → OnOk r (new ≡ old ++ deep_line)
       → OnOk r ((x : List ℕ) × Draws p bytes x × (new ≡ old ++ x))
   deep_at (Ok y) old new e is h w =

@@ -1,5 +1,4 @@
 pub mod FirstLines
-pub mod FirstTree
 pub mod Limit
 pub mod OneText
 pub mod FirstTurn

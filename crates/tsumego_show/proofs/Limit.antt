@@ -1,35 +1,30 @@
 -- Lemmas on inputs past the limit, of which only a part is read, and on how writing a text ends.
-use Rattle.std.proofs.Common.{refl, [], true, false, ◌≡◌, ◌≤◌, ◌⊎◌, ℕ, Bool, List, inl, inr, Option, None, Some, Ok, Err, length, take, arith, subst, sym, ◌∙◌, append-nil}
+use Rattle.std.proofs.Common.{refl, [], true, false, ◌≡◌, ◌≤◌, ℕ, Bool, List, inl, inr, Option, None, Some, Ok, Err, length, take, arith, subst, sym, ◌∙◌, append-nil}
 use Rattle.std.specs.declared.result.Result.{Result}
-use Rattle.std.proofs.lemmas.List.{take_all, length-take-le}
-use Rattle.std.proofs.lemmas.Bool.{cases_lt}
 use Rattle.std.proofs.KnownBytes.{Appends-nil, Keeps-refl}
 use Rattle.devices.specs.declared.fault.RunFault.{RunFault}
 use Rattle.devices.specs.declared.fault.RunFault.TheVariants.{Input, Output, Memory}
 use Rattle.std.specs.Io.KnownBytes.{Appends, Keeps}
+use Rattle.devices.specs.PartLaws.{cut_or_whole}
 use Rattle.devices.specs.Faults.{is_output_fault}
 use Rattle.devices.specs.Watching.{IsInput}
 use Rattle.devices.specs.Writing.{Breaks, ForInput}
 use Rattle.tsumego_show.specs.Shown.{IsShown, IsTold, too_long, trees}
 use Rattle.tsumego_show.specs.Writing.{Writes}
 
--- the input fits, or its part up to the limit is too long as well
-cut_or_whole : (most : ℕ) (input : List ℕ) → (take most input ≡ input) ⊎ ((length (take most input) ≡ most) × (most ≤ length input))
-cut_or_whole most input = elim (cases_lt most (length input)) [
-  | inl lt ↦ let le : most ≤ length input = omega arith in inr (length-take-le most input le, le)
-  | inr le ↦ inl (take_all most input le)
-]
-
+-- what is told of a part that is too long is told of the input
 long_told : (input part text : List ℕ) (refused : Bool) → length part ≡ 1048577 → 1048577 ≤ length input → IsTold part text refused → IsTold input text refused
 long_told input part text refused e le (too_long long) = too_long (omega arith)
 long_told input part text refused e le (trees text' refused' small h) = absurd (omega arith)
 
+-- what is shown of the part up to the limit is shown of the input
 shown_whole : (input text : List ℕ) (status : ℕ) → IsShown (take 1048577 input) text status → IsShown input text status
 shown_whole input text status h = elim (cut_or_whole 1048577 input) [
   | inl e ↦ subst (λ (x : List ℕ). IsShown x text status) e h
   | inr p ↦ (h.0, long_told input (take 1048577 input) text h.0 p.0 p.1 h.1, h.2)
 ]
 
+-- and what is written of it is written of the input
 writes_whole : (input : List ℕ) (r : Result ℕ RunFault) (a b : Option (List ℕ)) → Writes (take 1048577 input) r a b → Writes input r a b
 writes_whole input (Ok status) a b w = (w.0, shown_whole input w.0 status w.1, w.2)
 writes_whole input (Err Input) a b w = w
@@ -48,6 +43,7 @@ nothing_written input Input a quiet = Keeps-refl a
 nothing_written input Output a quiet = let bad : true ≡ false = quiet in cc
 nothing_written input Memory a quiet = ([], refl, Appends-nil a)
 
+-- so it is where the reader tells what it had to give
 pub writes_nothing : (told : Option (List ℕ)) (e : RunFault) (a : Option (List ℕ)) → is_output_fault {A = ℕ} (Err e) ≡ false → ForInput told (λ input. Writes input (Err e) a a)
 writes_nothing None e a quiet = ([], nothing_written [] e a quiet)
 writes_nothing (Some input) e a quiet = nothing_written input e a quiet

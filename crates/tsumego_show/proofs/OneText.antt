@@ -1,8 +1,8 @@
 -- An input has one text and one status.
-use Rattle.std.proofs.Common.{◌≡◌, ℕ, Bool, List, ◌++◌, ◌||◌, ◌+◌, inl, inr, Ok, Err, refl, sym, ap, ap₂, ◌∙◌, drop, arith, subst, Contains, if◌then◌else◌}
+use Rattle.std.proofs.Common.{◌≡◌, ℕ, Bool, List, ◌++◌, ◌||◌, ◌+◌, inl, inr, Ok, Err, refl, sym, ap, ap₂, ◌∙◌, drop, arith, subst, if◌then◌else◌}
 use Rattle.std.specs.declared.result.Result.{Result}
-use Rattle.std.proofs.lemmas.List.Elements.{Contains-append_left, Contains-append_right}
-use Rattle.tt_sgf.specs.Grammar.{GameTree, SpelledUpTo, game, main_line}
+use Rattle.tt_sgf.specs.Grammar.{GameTree, main_line, OneSpelling}
+use Rattle.tt_sgf.specs.TreeLaws.{spelled_opens}
 use Rattle.tt_sgf.specs.Values.{trimmed}
 use Rattle.tt_game.specs.declared.faults.GameFault.{GameFault}
 use Rattle.tt_game.specs.declared.frame.Side.{Side}
@@ -12,25 +12,17 @@ use Rattle.tt_proof.specs.Laws.{OneCertificate}
 use Rattle.tt_proof.specs.Strategy.{Strategy}
 use Rattle.tsumego_show.proofs.FirstTurn.{turn_same}
 use Rattle.tsumego_show.specs.Drawing.{Draws, DrawsFirst, begins, begins_none, deep_drawn, drawn, none_drawn, strategy_text, turned_text}
-use Rattle.tsumego_show.specs.Shown.{DrawsBehind, HasOpen, IsShown, IsTold, IsTreeText, Tells, ended, is_refused, last_tree, more_trees, problem_text, stopped, too_long, tree, trees}
-
--- the text of a tree begins with a bracket
-spelled_opens : (bytes : List ℕ) (count : ℕ) (t : GameTree) → SpelledUpTo bytes count t → HasOpen bytes
-spelled_opens bytes count (game nodes below) s =
-    let opens : Contains s.text 40 = subst (λ (x : List ℕ). Contains x 40) (sym s.spells.7) (0, omega arith, refl) in
-    subst (λ (x : List ℕ). Contains x 40) (sym s.parts) (Contains-append_right s.skipped (s.text ++ s.rest) 40 (Contains-append_left s.text s.rest 40 opens))
-
--- from the first bracket on, the bytes begin with a text of one tree at most
-abbrev pub OneTree : Type 0
-OneTree = (bytes : List ℕ) (n m : ℕ) (s t : GameTree) → SpelledUpTo bytes n s → SpelledUpTo bytes m t → (n ≡ m) × (s ≡ t)
+use Rattle.tsumego_show.specs.Shown.{DrawsBehind, IsShown, IsTold, IsTreeText, Tells, ended, is_refused, last_tree, more_trees, problem_text, stopped, too_long, tree, trees}
 
 module _ (one : OneCertificate) where
+  -- a strategy has one text of its first turn
   first_same : (p : Standing) (side : Side) (u : Strategy) (s t : List ℕ) → DrawsFirst p side u s → DrawsFirst p side u t → s ≡ t
   first_same p side u s t (begins a x) (begins b y) = ap (turned_text p) (turn_same a b (sym x.0 ∙ y.0))
   first_same p side u s t (begins a x) (begins_none none) = absurd (none a x)
   first_same p side u s t (begins_none none) (begins b y) = absurd (none b y)
   first_same p side u s t (begins_none none) (begins_none never) = refl
 
+  -- bytes behind a problem have one drawing
   drawn_same : (p : Standing) (bytes s t : List ℕ) → Draws p bytes s → Draws p bytes t → s ≡ t
   drawn_same p bytes s t (drawn a u x is flat its_first) (drawn b v y are low others) =
       let same = one p.frame.size bytes a b u v is are in
@@ -45,17 +37,20 @@ module _ (one : OneCertificate) where
   drawn_same p bytes s t (deep_drawn deep) (none_drawn none low) = absurd (low deep)
   drawn_same p bytes s t (deep_drawn deep) (deep_drawn more) = refl
 
+  -- what follows a problem has one text
   behind_same : (p : Standing) (behind s t : List ℕ) → DrawsBehind p behind s → DrawsBehind p behind t → s ≡ t
   behind_same p behind s t (more_trees a) (more_trees b) = refl
   behind_same p behind s t (more_trees a) (last_tree t' none d) = absurd (none a)
   behind_same p behind s t (last_tree s' none d) (more_trees b) = absurd (none b)
   behind_same p behind s t (last_tree s' none d) (last_tree t' never e) = drawn_same p (trimmed behind) s' t' d e
 
+  -- and so has a tree
   tree_text_same : (k : ℕ) (r : Result Standing GameFault) (behind s t : List ℕ) → IsTreeText k r behind s → IsTreeText k r behind t → s ≡ t
   tree_text_same k (Ok p) behind s t a b = a.2 ∙ ap (λ (x : List ℕ). problem_text k p ++ x) (behind_same p behind a.0 b.0 a.1 b.1) ∙ sym b.2
   tree_text_same k (Err e) behind s t a b = a ∙ sym b
 
-  module _ (reading : OneTree) where
+  module _ (reading : OneSpelling) where
+    -- bytes are told in one way from a tree's number on
     told_same : (k : ℕ) (bytes s t : List ℕ) (a b : Bool) → Tells k bytes s a → Tells k bytes t b → (s ≡ t) × (a ≡ b)
     told_same k bytes s t a b (tree _ _ n g x more refused spells is rest) (tree _ _ m h y more' refused' spells' is' rest') =
         let same = reading bytes n m g h spells spells' in
@@ -76,12 +71,14 @@ module _ (one : OneCertificate) where
     told_same k bytes s t a b (stopped _ _ (inr opens) none) (ended _ _ many none') = absurd (none' opens)
     told_same k bytes s t a b (stopped _ _ why none) (stopped _ _ why' none') = (refl, refl)
 
+    -- an input is told in one way
     whole_same : (input s t : List ℕ) (a b : Bool) → IsTold input s a → IsTold input t b → (s ≡ t) × (a ≡ b)
     whole_same input s t a b (too_long long) (too_long more) = (refl, refl)
     whole_same input s t a b (too_long long) (trees t' b' small h) = absurd (omega arith)
     whole_same input s t a b (trees s' a' small h) (too_long long) = absurd (omega arith)
     whole_same input s t a b (trees s' a' small h) (trees t' b' little g) = told_same 1 input s' t' a' b' h g
 
+    -- an input has one text and one status
     pub shown_same : (input s t : List ℕ) (m n : ℕ) → IsShown input s m → IsShown input t n → (s ≡ t) × (m ≡ n)
     shown_same input s t m n a b =
         let same = whole_same input s t a.0 b.0 a.1 b.1 in

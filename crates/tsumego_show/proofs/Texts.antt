@@ -9,6 +9,7 @@ pieces_more f a zero j e = ap f (let s : j ≡ a = omega (arith, e) in s) ∙ sy
 pieces_more f a (suc n) j e =
     append_assoc (f a) (flat_map f (range_with_len (a + 1) n)) (f j) ∙ ap (λ l. f a ++ l) (pieces_more f (a + 1) n j (omega (arith, e)))
 
+-- and one more piece behind a text
 pub next_text : (f : ℕ → List ℕ) (old : List ℕ) (n : ℕ) → (old ++ flat_map f (range_with_len 0 n)) ++ f n ≡ old ++ flat_map f (range_with_len 0 (n + 1))
 next_text f old n = append_assoc old (flat_map f (range_with_len 0 n)) (f n) ∙ ap (λ l. old ++ l) (pieces_more f 0 n n (omega arith))
     ∙ ap (λ k. old ++ flat_map f (range_with_len 0 k)) (let e : suc n ≡ n + 1 = omega arith in e)

@@ -7,11 +7,12 @@ use Rattle.tt_game.specs.Line.{Standing}
 use Rattle.tsumego_show.specs.Drawing.{Draws}
 use Rattle.std.proofs.lemmas.List.{take_all, length-drop}
 use Rattle.tt_sgf.specs.declared.nodes.Node.{Node}
-use Rattle.tt_sgf.specs.Grammar.{GameTree, HasNoTree, SpelledUpTo, main_line}
+use Rattle.tt_sgf.specs.Grammar.{GameTree, HasNoTree, SpelledUpTo, main_line, HasOpen}
 use Rattle.tt_game.specs.Problems.{problem_of}
-use Rattle.tsumego_show.specs.Shown.{DrawsBehind, HasOpen, IsShown, IsTold, IsTreeText, Tells, ended, is_refused, last_tree, more_trees, most_bytes, problem_text, refusal, stopped}
+use Rattle.tsumego_show.specs.Shown.{DrawsBehind, IsShown, IsTold, IsTreeText, Tells, ended, is_refused, last_tree, more_trees, most_bytes, problem_text, refusal, stopped}
 use Rattle.tsumego_show.specs.Shown.{too_long, tree, trees}
 
+-- the brackets of an `or` of three
 or_assoc : (x y z : Bool) → ((x || y) || z) ≡ (x || (y || z))
 or_assoc true y z = refl
 or_assoc false y z = refl
@@ -52,12 +53,14 @@ pub record Progress (input rest text : List ℕ) (k : ℕ) (refused : Bool) : Ty
   pub far : IsSoFar input k rest text refused
 
 module _ {input rest text : List ℕ} {k : ℕ} {refused : Bool} (p : Progress input rest text k refused) where
+  -- where the rest is not too long, the input isn't
   small_whole : length rest ≤ most_bytes → length input ≤ most_bytes
   small_whole le = elim p.small [
     | inl e ↦ subst (λ (x : List ℕ). length x ≤ most_bytes) e.1 le
     | inr whole ↦ whole
   ]
 
+  -- one more tree is read and told
   pub progress_step : (used : ℕ) (t : GameTree) (nodes : List Node) (text' : List ℕ) (bad : Bool) → SpelledUpTo rest used t → nodes ≡ main_line t
       → length rest ≤ most_bytes → (x : List ℕ) × IsTreeText k (problem_of nodes) (take (length rest - used) (drop used rest)) x × (text' ≡ text ++ x) → bad ≡ is_refused (problem_of nodes)
       → Progress input (take (length rest - used) (drop used rest)) text' (k + 1) (refused || bad)
@@ -102,6 +105,7 @@ module _ {input rest text : List ℕ} {k : ℕ} {refused : Bool} (p : Progress i
 pub behind_more : (p : Standing) (behind old : List ℕ) → HasOpen behind → (x : List ℕ) × DrawsBehind p behind x × (old ≡ old ++ x)
 behind_more p behind old h = ([], more_trees h, sym (append-nil old))
 
+-- no tree follows, so what follows is drawn
 pub behind_last : {A E : Type 0} (r : Result A E) (p : Standing) (behind bytes old new : List ℕ) → (HasOpen behind → ⊥) → bytes ≡ trimmed behind
     → OnOk r ((x : List ℕ) × Draws p bytes x × (new ≡ old ++ x)) → OnOk r ((x : List ℕ) × DrawsBehind p behind x × (new ≡ old ++ x))
 behind_last (Ok y) p behind bytes old new none is w = (w.0, last_tree w.0 none (subst (λ (x : List ℕ). Draws p x w.0) is w.1), w.2)

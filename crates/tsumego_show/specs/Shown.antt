@@ -1,7 +1,7 @@
 -- What is written for an input: a text on each of its game trees.
-use Rattle.std.specs.Prelude.{◌≡◌, ◌⊎◌, ◌+◌, ◌<◌, ◌≤◌, ℕ, Bool, true, false, ◌||◌, List, [], ◌∷◌, ◌++◌, length, drop, codes, decimal, Ok, Err, if◌then◌else◌, Contains}
+use Rattle.std.specs.Prelude.{◌≡◌, ◌⊎◌, ◌+◌, ◌<◌, ◌≤◌, ℕ, Bool, true, false, ◌||◌, List, [], ◌∷◌, ◌++◌, length, drop, codes, decimal, Ok, Err, if◌then◌else◌}
 use Rattle.std.specs.declared.result.Result.{Result}
-use Rattle.tt_sgf.specs.Grammar.{GameTree, HasNoTree, SpelledUpTo, main_line}
+use Rattle.tt_sgf.specs.Grammar.{GameTree, HasNoTree, HasOpen, SpelledUpTo, main_line}
 use Rattle.tt_game.specs.declared.faults.GameFault.{GameFault}
 use Rattle.tt_game.specs.Faults.{code_of}
 use Rattle.tt_game.specs.Line.{Standing}
@@ -14,10 +14,6 @@ use Rattle.tsumego_show.specs.Picture.{picture}
 -- the line on a refusal of tree number k, which byte 10 ends
 abbrev pub refusal : ℕ → ℕ → List ℕ
 refusal k code = decimal k ++ (codes " refused " ++ (decimal code ++ 10 ∷ []))
-
--- a `(` stands in the bytes
-abbrev pub HasOpen : List ℕ → Type 0
-HasOpen bytes = Contains bytes 40
 
 -- The text on what follows a problem: nothing where a tree may follow; else that on a certificate, without the white space
 -- at both ends.

@@ -3,7 +3,8 @@ ghost use Rattle.std.specs.Prelude.{◌≡◌, ◌∷◌, ◌++◌, ◌+◌, ◌
 ghost use Rattle.std.specs.List.{flat_map, range_with_len};
 ghost use Rattle.tt_sgf.specs.Sizes.{point_count};
 ghost use Rattle.tt_game.specs.Game.{colour_of};
-ghost use Rattle.tsumego_show.specs.Picture.{asked_line, board_text, colour_name, columns_text, earlier_text, letter, letters_line, mark_at, mover_text, picture, row_line, shown_in, small_mark, stone_mark, target_text};
+ghost use Rattle.tsumego_show.specs.Picture.{asked_line, board_text, colour_name, columns_text, earlier_text, letter, letters_line, mark_at};
+ghost use Rattle.tsumego_show.specs.Picture.{mover_text, picture, row_line, shown_in, small_mark, stone_mark, target_text};
 
 use std::alloc::Global;
 use tt_board::Colour;

@@ -6,7 +6,8 @@ ghost use Rattle.tt_sgf.specs.Entries.{set_of};
 ghost use Rattle.tt_board.specs.Play.{placed};
 ghost use Rattle.tt_game.specs.Turns.{IsOnBoard};
 ghost use Rattle.tt_game.specs.Nodes.{values_of, colour_named, AB, AW, AE, PL, B, W};
-ghost use Rattle.tt_game.specs.Records.{Gives, Becomes, fault_of, as_turn, turn_of, turn_by, turn_named, move_of, begun, set_up_by, step_node, begin_at, begin_node, begin_line, run_nodes, record_at, record_of};
+ghost use Rattle.tt_game.specs.Records.{Gives, Becomes, fault_of, as_turn, turn_of, turn_by, turn_named, move_of, begun};
+ghost use Rattle.tt_game.specs.Records.{set_up_by, step_node, begin_at, begin_node, begin_line, run_nodes, record_at, record_of};
 
 use crate::faults::{GameFault, Refused, Why};
 use crate::game::Game;

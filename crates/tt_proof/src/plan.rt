@@ -58,7 +58,8 @@ impl Model for Replies {
 
     ghost view = { λ r. map (λ e. (e.0, strategy_of e.1)) r.entries.items };
 
-    ghost invariant = { λ r. (r.levels ≡ min (depth_of_entries (entries_of_trees r.entries.items)) (2 ^ 16 - 1)) × (r.size ≡ min (nodes_of_entries (entries_of_trees r.entries.items) + 1) (2 ^ 64 - 1)) };
+    ghost invariant = { λ r. (r.levels ≡ min (depth_of_entries (entries_of_trees r.entries.items)) (2 ^ 16 - 1))
+        × (r.size ≡ min (nodes_of_entries (entries_of_trees r.entries.items) + 1) (2 ^ 64 - 1)) };
 }
 
 impl Plan {

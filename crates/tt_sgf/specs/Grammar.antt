@@ -1,6 +1,6 @@
 -- Game trees of SGF FF[4] (https://www.red-bean.com/sgf/sgf4.html, "EBNF Definition"), by cases over nested trees. As
 -- in older files, lower-case letters of an identifier are skipped; digits are kept.
-use Rattle.std.specs.Prelude.{◌≡◌, ◌≢◌, ℕ, Bool, true, false, ◌&&◌, ◌||◌, ◌==◌, nat_le, ◌+◌, List, [], ◌∷◌, ◌++◌, length}
+use Rattle.std.specs.Prelude.{◌≡◌, ◌≢◌, Contains, ℕ, Bool, true, false, ◌&&◌, ◌||◌, ◌==◌, nat_le, ◌+◌, List, [], ◌∷◌, ◌++◌, length}
 use Rattle.std.specs.List.{filter, list_any, AllByRecursion}
 use Rattle.tt_sgf.specs.Bytes.{backslash, close_tree, close_value, digit_0, digit_9, lower_a, lower_z, open_tree, open_value, semicolon, space, upper_A, upper_Z}
 use Rattle.tt_sgf.specs.declared.nodes.Node.{Node}
@@ -116,6 +116,14 @@ pub record SpelledUpTo (bytes : List ℕ) (count : ℕ) (t : GameTree) : Type 0 
   pub spells : Spells text t
   pub parts : bytes ≡ skipped ++ (text ++ rest)
   pub count_is : count ≡ length skipped + length text
+
+-- a `(` stands in the bytes, so that a tree may begin there
+abbrev pub HasOpen : List ℕ → Type 0
+HasOpen bytes = Contains bytes open_tree
+
+-- from the first `(` on, bytes spell one tree at most, and it ends in one place
+abbrev pub OneSpelling : Type 0
+OneSpelling = (bytes : List ℕ) (n m : ℕ) (s t : GameTree) → SpelledUpTo bytes n s → SpelledUpTo bytes m t → (n ≡ m) × (s ≡ t)
 
 -- no tree begins at the first `(`, or there is none
 abbrev pub HasNoTree : List ℕ → Type 0

@@ -8,5 +8,6 @@ pub mod Entries
 pub mod Words
 -- What private contracts and proofs cite. Nobody has to believe these.
 pub mod Reading
+pub mod TreeLaws
 pub mod SizeLaws
 pub mod PointLaws

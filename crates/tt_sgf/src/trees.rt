@@ -1,9 +1,9 @@
 //! Game trees (SGF FF[4]): the nodes of the main line. Trees may be nested as deep as the input is long: one counter
 //! says how many of them are open.
 
-ghost use Rattle.std.specs.Prelude.{◌≡◌, ℕ, ◌<◌, ◌≤◌, ◌⊎◌, List, length, false, IsTrue, IfOk, ◌↔◌, take, MatchOption, ◌∷◌, ◌==◌, Err, slice_index, Contains};
+ghost use Rattle.std.specs.Prelude.{◌≡◌, ℕ, ◌<◌, ◌≤◌, ◌⊎◌, List, length, false, IsTrue, IfOk, ◌↔◌, take, MatchOption, ◌∷◌, ◌==◌, Err, slice_index};
 ghost use Rattle.std.specs.List.{list_any};
-ghost use Rattle.tt_sgf.specs.Grammar.{GameTree, main_line, SpelledUpTo, HasNoTree, IsMainLine};
+ghost use Rattle.tt_sgf.specs.Grammar.{GameTree, main_line, SpelledUpTo, HasNoTree, HasOpen, IsMainLine};
 ghost use Rattle.tt_sgf.specs.Reading.{event_at, Begins, Gives};
 
 use super::faults::SgfFault;
@@ -114,7 +114,7 @@ fn first_open(bytes: &[u8]) -> Option<usize>
 
 /// Whether a `(` occurs, so that a game tree may begin there. Takes no memory.
 pub fn has_tree(bytes: &[u8]) -> bool
-    ensures { IsTrue result ↔ Contains bytes.now 40 }
+    ensures { IsTrue result ↔ HasOpen bytes.now }
 {
     bytes.contains(&b'(')
 }
@@ -132,6 +132,7 @@ pub fn has_tree(bytes: &[u8]) -> bool
 pub fn read_tree(alloc: Global, bytes: &[u8]) -> Result<(MainLine, usize), SgfFault>
     ensures found { IfOk result (λ x. (t : GameTree) × SpelledUpTo bytes.now x.1 t × (x.0.nodes ≡ main_line t)) }
     ensures line { IfOk result (λ x. IsMainLine x.0.nodes) }
+    ensures within { IfOk result (λ x. (1 ≤ x.1) × (x.1 ≤ length bytes.now) × (length bytes.now ≤ MAX_BYTES)) }
     ensures syntax { result ≡ Err SgfFault.Syntax → (length bytes.now ≤ MAX_BYTES) × HasNoTree bytes.now }
     ensures no_tree { length bytes.now ≤ MAX_BYTES → HasNoTree bytes.now → (result ≡ Err SgfFault.Syntax) ⊎ (result ≡ Err SgfFault.NoMemory) }
     ensures too_long { (result ≡ Err SgfFault.TooLong) ↔ (MAX_BYTES < length bytes.now) }

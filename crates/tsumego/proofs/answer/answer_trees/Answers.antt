@@ -1,8 +1,7 @@
 use Rattle.std.proofs.Common.{◌≡◌, ◌⊎◌, inl, inr, rules, arith, length, take, drop, ◌-◌}
 use Rattle.std.proofs.lemmas.List.{length-drop, length-take-le}
-use Rattle.tsumego.specs.Trees.{HasOpen}
+use Rattle.tt_sgf.specs.Grammar.{HasOpen}
 use Rattle.tsumego.proofs.Progress.{progress_ended, progress_fault, progress_kept, progress_long, progress_step, progress_stopped}
-use Rattle.tsumego.proofs.FirstTree.{read_small, tree_within}
 use Rattle.tsumego.proofs.answer.answer_trees.Goals as goal
 use Rattle.tsumego.proofs.answer.answer_trees.Goals.{then-number-eq1, else-number-eq1+then-has_tree}
 
@@ -12,14 +11,14 @@ returns-in-Err-clause-written g c =
     let goes : (c.loop-number.number ≡ 1) ⊎ HasOpen c.loop-number.rest.now =
     elim c.if-number-eq1.branch [ then-number-eq1 w ↦ inl w.if-number-eq1.true | else-number-eq1+then-has_tree w ↦ inr (search (rules, w.if-has_tree.true)) ] in
     progress_fault c.loop-number.invariant.progress _ goes c.in-Ok.used found.0 c.in-Ok.main.nodes c.in-Err.fault found.1 found.2
-    (read_small c.read_tree.result _ _ c.in-Ok.is c.read_tree.ensures.too_long) c.in-Err.ensures.written
+    c.in-Ok.ensures.within.2 c.in-Err.ensures.written
 
 pub loop-number-smaller : goal.loop-number-smaller
 loop-number-smaller g c =
     let rest = c.loop-number.rest.now in
     let used = c.in-Ok.used in
     let left : length (take (length rest - used) (drop used rest)) ≡ length rest - used = length-take-le (length rest - used) (drop used rest) (omega (arith, length-drop used rest)) in
-    let within = tree_within rest used c.in-Ok.ensures.found.0 c.in-Ok.ensures.found.1 in
+    let within = c.in-Ok.ensures.within in
     omega (arith, left, within.0, within.1)
 
 pub loop-number-preserved : goal.loop-number-preserved
@@ -28,12 +27,12 @@ loop-number-preserved g c =
     let used = c.in-Ok.used in
     let found = c.in-Ok.ensures.found in
     let left : length (take (length rest - used) (drop used rest)) ≡ length rest - used = length-take-le (length rest - used) (drop used rest) (omega (arith, length-drop used rest)) in
-    let within = tree_within rest used found.0 found.1 in
+    let within = c.in-Ok.ensures.within in
     record {
       worked = c.in-Ok-answer_tree.ensures.failed;
       bound = omega (arith, left, within.0, within.1, c.loop-number.invariant.bound);
       progress = progress_step c.loop-number.invariant.progress _ used found.0 c.in-Ok.main.nodes c.in-Ok-answer_tree.bad found.1 found.2
-          (read_small c.read_tree.result _ _ c.in-Ok.is c.read_tree.ensures.too_long) c.in-Ok-answer_tree.ensures.written;
+          c.in-Ok.ensures.within.2 c.in-Ok-answer_tree.ensures.written;
     }
 
 pub returns-in-Err-Syntax-clause-written : goal.returns-in-Err-Syntax-clause-written

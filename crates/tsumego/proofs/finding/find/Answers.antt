@@ -2,14 +2,13 @@ use Rattle.std.proofs.Common.{rules}
 use Rattle.std.proofs.lemmas.Result.{IfOk-weaker}
 use Rattle.tsumego.specs.Checking.{no_tree, too_long}
 use Rattle.tsumego.proofs.Checks.{found_behind}
-use Rattle.tsumego.proofs.FirstTree.{read_small}
 use Rattle.tsumego.proofs.finding.find.Goals as goal
 
 pub returns-in-Ok : goal.returns-in-Ok
 returns-in-Ok c =
     let found = c.in-Ok.ensures.found in
     IfOk-weaker c.find_on.result _ _ (λ o h. found_behind c.args.input.now c.in-Ok.used found.0 c.in-Ok.main.nodes c.trim.result.now o
-    (read_small c.read_tree.result _ _ c.in-Ok.is c.read_tree.ensures.too_long) found.1 found.2 c.trim.ensures h) c.find_on.ensures
+    c.in-Ok.ensures.within.2 found.1 found.2 c.trim.ensures h) c.find_on.ensures
 
 pub returns-in-Err-Syntax : goal.returns-in-Err-Syntax
 returns-in-Err-Syntax c = let none = c.in-Err-Syntax.ensures.syntax (search rules) in no_tree none.0 none.1

@@ -1,4 +1,5 @@
-use Rattle.std.proofs.Common.{rules, ◌≡◌, ◌∙◌, ◌++◌, List, ℕ, Result, Ok, Err, OnOk, ap, append_assoc, append-nil, sym}
+use Rattle.std.proofs.Common.{rules, ◌≡◌, ◌∙◌, ◌++◌, List, ℕ, ap, append_assoc, append-nil, sym}
+use Rattle.std.proofs.lemmas.Result.{on_ok_weaker}
 use Rattle.tt_proof.specs.declared.tree.Tree.TheViews.{the_lemmas}
 use Rattle.tt_proof.proofs.StrategyLemmas.{trees_are_strategies}
 use Rattle.tsumego_show.proofs.drawing.+draw.Goals as goal
@@ -19,14 +20,10 @@ put_tree-put_entries-requires t c =
 pub put_tree-returns-in-Done : goal.put_tree-returns-in-Done
 put_tree-returns-in-Done t c = rw (c.in-Done.is, trees_are_strategies.of_done) (sym (append-nil c.args.out.now.items))
 
-on_ok : {A E : Type 0} (r : Result A E) (P Q : Type 0) → (P → Q) → OnOk r P → OnOk r Q
-on_ok (Ok x) P Q f h = f h
-on_ok (Err e) P Q f h = h
-
 pub put_tree-returns-in_ok-put_line-in-Pick : goal.put_tree-returns-in_ok-put_line-in-Pick
 put_tree-returns-in_ok-put_line-in-Pick t c =
     rw (c.in-Pick.is, trees_are_strategies.of_pick, ← c.deref.ensures)
-    (on_ok c.put_tree.result _ _ (λ e. e ∙ joined _ _ _ _ c.in_ok-put_line-in-Pick.ensures) (rw c.deeper.ensures at c.put_tree.ensures))
+    (on_ok_weaker c.put_tree.result (λ e. e ∙ joined _ _ _ _ c.in_ok-put_line-in-Pick.ensures) (rw c.deeper.ensures at c.put_tree.ensures))
   where
     joined : (a b x y : List ℕ) → b ≡ a ++ x → b ++ y ≡ a ++ (x ++ y)
     joined a b x y e = ap (λ w. w ++ y) e ∙ append_assoc a x y

@@ -1,8 +1,7 @@
 use Rattle.std.proofs.Common.{◌≡◌, ◌⊎◌, inl, inr, rules, arith, length, take, drop, ◌-◌}
 use Rattle.std.proofs.lemmas.List.{length-drop, length-take-le}
-use Rattle.tsumego_show.specs.Shown.{HasOpen}
+use Rattle.tt_sgf.specs.Grammar.{HasOpen}
 use Rattle.tsumego_show.proofs.Told.{progress_ended, progress_long, progress_step, progress_stopped}
-use Rattle.tsumego_show.proofs.FirstTree.{read_small, tree_within}
 use Rattle.tsumego_show.proofs.showing.show.Goals as goal
 use Rattle.tsumego_show.proofs.showing.show.Goals.{then-number-eq1, else-number-eq1+then-has_tree}
 
@@ -11,7 +10,7 @@ loop-number-smaller c =
     let rest = c.loop-number.rest.now in
     let used = c.in-Ok.used in
     let left : length (take (length rest - used) (drop used rest)) ≡ length rest - used = length-take-le (length rest - used) (drop used rest) (omega (arith, length-drop used rest)) in
-    let within = tree_within rest used c.in-Ok.ensures.found.0 c.in-Ok.ensures.found.1 in
+    let within = c.in-Ok.ensures.within in
     omega (arith, left, within.0, within.1)
 
 pub loop-number-preserved : goal.loop-number-preserved
@@ -20,11 +19,11 @@ loop-number-preserved c =
     let used = c.in-Ok.used in
     let found = c.in-Ok.ensures.found in
     let left : length (take (length rest - used) (drop used rest)) ≡ length rest - used = length-take-le (length rest - used) (drop used rest) (omega (arith, length-drop used rest)) in
-    let within = tree_within rest used found.0 found.1 in
+    let within = c.in-Ok.ensures.within in
     record {
       bound = omega (arith, left, within.0, within.1, c.loop-number.invariant.bound);
       progress = progress_step c.loop-number.invariant.progress used found.0 c.in-Ok.main.nodes _ _ found.1 found.2
-          (read_small c.read_tree.result _ _ c.in-Ok.is c.read_tree.ensures.too_long) (search rules) (search rules);
+          c.in-Ok.ensures.within.2 (search rules) (search rules);
     }
 
 pub returns-in-Err-Syntax : goal.returns-in-Err-Syntax

@@ -1,5 +1,6 @@
 use Rattle.std.proofs.Common.{rules, ◌≡◌, ◌∙◌, ◌++◌, List, [], ◌∷◌, ℕ, Result, Ok, Err, OnOk, ap, append_assoc}
 use Rattle.tt_proof.specs.CertificateText.{pick_mark, reply_mark}
+use Rattle.std.proofs.lemmas.Result.{on_ok_weaker}
 use Rattle.tt_proof.specs.declared.tree.Tree.TheViews.{the_lemmas}
 use Rattle.tt_proof.proofs.StrategyLemmas.{strategy_of_done, strategy_of_pick, strategy_of_reply}
 use Rattle.tt_proof.proofs.certificate_write.+put.Goals as goal
@@ -20,15 +21,10 @@ put_tree-put_entries-requires t c =
 pub put_tree-returns-in-Done : goal.put_tree-returns-in-Done
 put_tree-returns-in-Done t c = rw (c.in-Done.is, strategy_of_done) c.put.ensures
 
--- what follows from what a result says on Ok it says on Ok too
-on_ok : {A E : Type 0} (r : Result A E) (P Q : Type 0) → (P → Q) → OnOk r P → OnOk r Q
-on_ok (Ok x) P Q f h = f h
-on_ok (Err e) P Q f h = h
-
 pub put_tree-returns-in_ok-put_turn-in-Pick : goal.put_tree-returns-in_ok-put_turn-in-Pick
 put_tree-returns-in_ok-put_turn-in-Pick t c =
     rw (c.in-Pick.is, strategy_of_pick, ← c.deref.ensures)
-    (on_ok c.put_tree.result _ _ (λ e. e ∙ joined _ _ _ _ _ c.in_ok-put-in-Pick.ensures c.in_ok-put_turn-in-Pick.ensures.ok) c.put_tree.ensures)
+    (on_ok_weaker c.put_tree.result (λ e. e ∙ joined _ _ _ _ _ c.in_ok-put-in-Pick.ensures c.in_ok-put_turn-in-Pick.ensures.ok) c.put_tree.ensures)
   where
     -- what is written behind `!` and a turn
     joined : (a b d x y : List ℕ) → b ≡ a ++ (pick_mark ∷ []) → d ≡ b ++ x → d ++ y ≡ a ++ (pick_mark ∷ (x ++ y))
@@ -38,7 +34,7 @@ put_tree-returns-in_ok-put_turn-in-Pick t c =
 pub put_tree-returns-in_ok-put-in-Reply : goal.put_tree-returns-in_ok-put-in-Reply
 put_tree-returns-in_ok-put-in-Reply t c =
     rw (c.in-Reply.is, strategy_of_reply, ← c.deref-in-Reply.ensures, ← c.deref-in-Reply-2.ensures.value)
-    (on_ok c.put_entries.result _ _ (λ e. e ∙ joined _ _ _ c.in_ok-put-in-Reply.ensures) c.put_entries.ensures)
+    (on_ok_weaker c.put_entries.result (λ e. e ∙ joined _ _ _ c.in_ok-put-in-Reply.ensures) c.put_entries.ensures)
   where
     -- what is written behind `?`
     joined : (a b y : List ℕ) → b ≡ a ++ (reply_mark ∷ []) → b ++ y ≡ a ++ (reply_mark ∷ y)
