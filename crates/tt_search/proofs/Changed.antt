@@ -3,13 +3,12 @@ use Rattle.std.proofs.Common.{◌≡◌, ℕ, zero, suc, ◌+◌, ◌-◌, ◌<�
 use Rattle.std.proofs.lemmas.Grind.{common_steps}
 use Rattle.std.proofs.lemmas.List.{get_or-set_same}
 use Rattle.tt_game.specs.declared.frame.Side.{Side}
-use Rattle.tt_game.specs.declared.turns.Turn.{Turn}
 use Rattle.tt_game.specs.Game.{opponent}
 use Rattle.tt_search.specs.PartialTree.{PartialTree, fresh}
 use Rattle.tt_search.specs.Numbers.{infinite, cap, least, has_infinite, capped_sum, number, numbers, IsUndecided}
 use Rattle.tt_search.specs.MostProving.{place, first_least}
 use Rattle.tt_search.specs.Children.{children_of}
-use Rattle.tt_search.specs.Choices.{Choices, node_with, best_place, with_best}
+use Rattle.tt_search.specs.Choices.{Choices, node_with, best_place}
 use Rattle.tt_search.specs.Pairs.{changed_sum, ArePair}
 use Rattle.tt_search.specs.Edges.{turns_of, trees_of}
 use Rattle.tt_search.specs.Packed.{choices_of, child_of, AreFew}
@@ -91,8 +90,12 @@ infinite_set m (x ∷ xs) (suc i) l h =
     let rec = infinite_set m xs i (omega arith) tail in
     grind (arith, common_steps)
 
--- where the sum was below the cap, the change gives the new sum
-sum_changed : (m : ℕ) (xs : List ℕ) (i : ℕ) → i < length xs → capped_sum xs < cap → (get_or xs i 0 ≤ capped_sum xs) × (changed_sum (capped_sum xs) (get_or xs i 0) m ≡ capped_sum (set xs i m))
+-- the old number is a part of what the sum was, and the change to the new one gives the sum that is now
+abbrev IsChange : ℕ → ℕ → ℕ → ℕ → Type 0
+IsChange was old new now = (old ≤ was) × (changed_sum was old new ≡ now)
+
+-- so it is where the sum was below the cap
+sum_changed : (m : ℕ) (xs : List ℕ) (i : ℕ) → i < length xs → capped_sum xs < cap → IsChange (capped_sum xs) (get_or xs i 0) m (capped_sum (set xs i m))
 sum_changed m xs i l h =
     let f = finite_sum xs h in
     let s = sum_set m xs i l in
@@ -130,15 +133,6 @@ module _ (mover : Side) (old new : Packed) (p : ℕ) (tree : PartialTree) (is : 
 
   abbrev row : Side → List ℕ
   row goal = numbers goal (children_of trees)
-
-  -- the choices have the tree in the best child's place
-  pub with_tree : choices_of mover new ≡ with_best (choices_of mover old) tree
-  with_tree =
-      ap (choices mover (trees_of new.edges.items new.grown.items)) put.turns
-      ∙ ap (λ us. choices mover us (turns_of old.edges.items)) (put.trees ∙ ap (λ i. set trees i tree) is)
-    where
-      choices : Side → List PartialTree → List Turn → Choices
-      choices m us ts = record { mover = m; turns = ts; trees = us }
 
   -- there are as many edges
   edges_stay : length new.edges.items ≡ length old.edges.items
@@ -184,8 +178,8 @@ module _ (mover : Side) (old new : Packed) (p : ℕ) (tree : PartialTree) (is : 
 
   -- where the sum was below the cap, the change gives the new sum
   pub sum_here : capped_sum (row (opponent mover)) < cap
-      → (number (opponent mover) (child_of old p) ≤ capped_sum (row (opponent mover))) × (changed_sum (capped_sum (row (opponent mover))) (number (opponent mover) (child_of old p)) (number (opponent mover) tree)
-      ≡ capped_sum (numbers (opponent mover) (children_of (trees_of new.edges.items new.grown.items))))
+      → IsChange (capped_sum (row (opponent mover))) (number (opponent mover) (child_of old p)) (number (opponent mover) tree)
+      (capped_sum (numbers (opponent mover) (children_of (trees_of new.edges.items new.grown.items))))
   sum_here h =
       let goal : Side = opponent mover in
       let k = sum_changed (number goal tree) (row goal) p (in_row goal) h in
@@ -193,7 +187,8 @@ module _ (mover : Side) (old new : Packed) (p : ℕ) (tree : PartialTree) (is : 
       (omega (arith, k.0, at), ap (λ n. changed_sum (capped_sum (row goal)) n (number goal tree)) (sym at) ∙ k.1 ∙ ap capped_sum (sym (row_is goal)))
 
 -- what steps of the best child make of the node's numbers, where it was the first child, and is the second one now
-module _ (mover : Side) (old new : Packed) (p : ℕ) (v : Choices) (was : Pair) (view_is : choices_of mover old ≡ v) (pair : ArePair v.mover (node_with v) was) (is : p ≡ best_place (choices_of mover old))
+module _ (mover : Side) (old new : Packed) (p : ℕ) (v : Choices) (was : Pair) (view_is : choices_of mover old ≡ v)
+    (pair : ArePair v.mover (node_with v) was) (is : p ≡ best_place (choices_of mover old))
     (there : best_place v < length v.trees) (tree : PartialTree) (put : IsPut p old tree new) (second : PartialTree) (second_is : second ≡ child_of new p) where
   abbrev before : Side → List ℕ
   before goal = numbers goal (children_of (trees_of old.edges.items old.grown.items))
@@ -225,8 +220,8 @@ module _ (mover : Side) (old new : Packed) (p : ℕ) (v : Choices) (was : Pair) 
     b_now : number (opponent mover) tree ≡ b
     b_now = sym (b_is ∙ ap (number goal) (sym tree_is) ∙ ap (λ side. number side tree) goal_is)
 
-    here : was.other < cap → (number (opponent mover) (child_of old p) ≤ capped_sum (before (opponent mover))) × (changed_sum (capped_sum (before (opponent mover))) (number (opponent mover) (child_of old p)) (number (opponent mover) tree)
-        ≡ capped_sum (after (opponent mover)))
+    here : was.other < cap
+        → IsChange (capped_sum (before (opponent mover))) (number (opponent mover) (child_of old p)) (number (opponent mover) tree) (capped_sum (after (opponent mover)))
     here h = sum_here mover old new p tree is in_trees put (omega (arith, h, other_was))
 
     -- the child's number was a part of a sum below the cap

@@ -1,5 +1,5 @@
 -- The children of a node, place by place.
-use Rattle.std.proofs.Common.{◌≡◌, ℕ, zero, suc, ◌+◌, ◌<◌, ◌≤◌, List, [], ◌∷◌, ◌++◌, length, get_or, set, take, drop, refl, sym, ◌∙◌, ap, subst, add-one, arith}
+use Rattle.std.proofs.Common.{◌≡◌, ℕ, zero, suc, ◌+◌, ◌<◌, ◌≤◌, List, [], ◌∷◌, ◌++◌, length, get_or, set, take, drop, refl, sym, ◌∙◌, ap, add-one, arith}
 use Rattle.std.proofs.lemmas.List.{drop_all, at_drop_all, at_drop_more}
 use Rattle.tt_game.specs.declared.frame.Side.{Side}
 use Rattle.tt_proof.specs.Strategy.{entry, none}
@@ -11,7 +11,6 @@ use Rattle.tt_search.specs.PartialTree.{PartialTree, fresh}
 use Rattle.tt_search.specs.Edges.{turn_of, mark_of, turns_of, tree_of, grown_behind, trees_of, counted, grown_in}
 use Rattle.tt_search.specs.Sprouting.{IsFreshAt}
 use Rattle.tt_search.specs.declared.edges.Edge.{Edge}
-use Rattle.tt_search.proofs.Lifted.{weight_at}
 use Rattle.tt_search.specs.declared.edges.Mark.{Mark}
 use Rattle.tt_search.specs.declared.edges.Mark.TheVariants.{Fresh, Won, Grown}
 
@@ -124,13 +123,6 @@ grown_at_place es ts i e d l m w =
     tree_at_place es ts i e d l
     ∙ ap (λ k. tree_of k (drop (grown_in (take i es)) ts)) m
     ∙ tree_of_node ts (grown_in (take i es)) d (omega (arith, rank_there es i e l m, w))
-
--- the tree at a place is its edge's, of the nodes from its rank on
-pub tree_here : (es : List Edge) (ts us : List PartialTree) (i n : ℕ) (e : Edge) → i < length es → n ≡ grown_in (take i es) → us ≡ drop n ts
-    → get_or (trees_of es ts) i (tree_of (mark_of (get_or es i e)) us) ≡ tree_of (mark_of (get_or es i e)) us
-tree_here es ts us i n e l r d =
-    tree_at_place es ts i e (tree_of (mark_of (get_or es i e)) us) l
-    ∙ ap (tree_of (mark_of (get_or es i e))) (sym (d ∙ ap (λ k. drop k ts) r))
 
 -- ---- a child that has grown grows on
 
@@ -276,27 +268,13 @@ pub weight_step : (es : List Edge) (rest : List PartialTree) (i : ℕ) (e : Edge
     (children_of (trees_of (drop (i + 1) es) (grown_behind (mark_of (get_or es i e)) rest)))
 weight_step es rest i e l = at_drop_more (λ xs. weight_all (children_of (trees_of xs rest))) es i e l
 
--- a child weighs less than all children
-pub lighter_here : (es : List Edge) (ts us : List PartialTree) (i n : ℕ) (e : Edge) → i < length es → n ≡ grown_in (take i es) → us ≡ drop n ts
-    → weight (tree_of (mark_of (get_or es i e)) us) < weight_all (children_of (trees_of es ts))
-lighter_here es ts us i n e l r d =
-    let tree : PartialTree = tree_of (mark_of (get_or es i e)) us in
-    let at = tree_here es ts us i n e l r d in
-    subst (λ t. weight t < weight_all (children_of (trees_of es ts))) at (weight_at (trees_of es ts) i tree (omega (arith, l, length-trees_of es ts)))
-
 -- past the last edge there are no replies
 pub replies_at_end : (side : Side) (es : List Edge) (rest : List PartialTree) (i : ℕ) → length es ≤ i → replies side (turns_of (drop i es)) (children_of (trees_of (drop i es) rest)) ≡ none
 replies_at_end side es rest i l = at_drop_all (λ xs. replies side (turns_of xs) (children_of (trees_of xs rest))) es i l
 
 -- ---- as many nodes as children that have grown
 
--- where as many nodes are left as have grown, a child that has grown has its node
-some_node : (m : Mark) (n k : ℕ) → counted m n ≡ k → counted m 0 ≤ k
-some_node Fresh n k h = omega arith
-some_node (Won side) n k h = omega arith
-some_node Grown n k h = omega (arith, h)
-
--- and behind it as many are left
+-- where as many nodes are left as have grown, as many are left behind a child
 nodes_behind : (m : Mark) (n : ℕ) (ts : List PartialTree) → counted m n ≡ length ts → n ≡ length (grown_behind m ts)
 nodes_behind Fresh n ts h = h
 nodes_behind (Won side) n ts h = h
@@ -308,11 +286,7 @@ module _ (es : List Edge) (ts : List PartialTree) (i : ℕ) (e : Edge) (l : i < 
   counted_here : counted (mark_of (get_or es i e)) (grown_in (drop (i + 1) es)) ≡ length ts
   counted_here = sym (at_drop_more grown_in es i e l) ∙ whole
 
-  -- the child there has its node, if it has grown
-  pub node_there : counted (mark_of (get_or es i e)) 0 ≤ length ts
-  node_there = some_node (mark_of (get_or es i e)) (grown_in (drop (i + 1) es)) (length ts) counted_here
-
-  -- and behind it there are as many nodes as have grown
+  -- behind the child there, there are as many nodes as have grown
   pub whole_behind : grown_in (drop (i + 1) es) ≡ length (grown_behind (mark_of (get_or es i e)) ts)
   whole_behind = nodes_behind (mark_of (get_or es i e)) (grown_in (drop (i + 1) es)) ts counted_here
 

@@ -22,4 +22,4 @@ abbrev pub HoldsItsProof : Growth → Type 0
 HoldsItsProof Fresh = Unit {0}
 HoldsItsProof (Won side) = Unit {0}
 HoldsItsProof (Closed proof) = Unit {0}
-HoldsItsProof (Expanded x) = HoldsProof x.value
+HoldsItsProof (Expanded x) = HoldsProof x

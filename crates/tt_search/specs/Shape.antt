@@ -12,4 +12,4 @@ abbrev pub shape : Growth → PartialTree
 shape Fresh = fresh
 shape (Won side) = won side
 shape (Closed proof) = closed proof.value.side proof.value.tree
-shape (Expanded x) = node_of x.value
+shape (Expanded x) = node_of x

@@ -1,6 +1,7 @@
 //! Steps of a search: the tree grows at its most-proving leaf, and the numbers on the way to it are brought up to date.
 
-ghost use Rattle.std.specs.Prelude.{◌≡◌, ◌<◌, ◌≤◌, ◌↔◌, ◌⊎◌, true, None, length, take};
+ghost use Rattle.std.specs.Prelude.{◌≡◌, ◌<◌, ◌≤◌, ◌↔◌, ◌⊎◌, true, None, length, take, OnOk};
+ghost use Rattle.std.specs.Vec.{vec_len, vec_capacity};
 ghost use Rattle.tt_game.specs.Game.{winner_of};
 ghost use Rattle.tt_proof.specs.declared.tree.TheConstants.{MOST_DEPTH};
 ghost use Rattle.tt_search.specs.PartialTree.{fresh};
@@ -23,6 +24,7 @@ use crate::numbers::Pair;
 use crate::store::Store;
 use crate::walk::{Pace, Walk};
 use tt_game::Side;
+use tt_sgf::NoMemory;
 
 /// Whether the step changed its tree.
 fn grows(step: Step) -> bool
@@ -70,6 +72,19 @@ fn left_after(step: Step, left: u32) -> u32
     }
 }
 
+/// Makes room for one more node: where there is none, for a quarter of as many as there are, so that they move seldom and
+/// little room stays unused.
+fn room_for_one(nodes: &mut Vec<Node>) -> Result<(), NoMemory>
+    ensures items { nodes.new.items ≡ nodes.old.items }
+    ensures room { OnOk result (vec_len nodes.new < vec_capacity nodes.new) }
+{
+    if nodes.len() < nodes.capacity() {
+        return Ok(());
+    }
+    nodes.reserve_exact(nodes.len() / 4 + 1)?;
+    Ok(())
+}
+
 impl Node {
     /// Steps at an undecided node, where the walk stands at it: one step, or steps up to the first that changes the node's
     /// numbers or is stuck. While they stay, every node above keeps its numbers and its choice, so the way down still leads
@@ -112,7 +127,6 @@ impl Node {
         let (proof, disproof) = (self.proof, self.disproof);
         match &mut self.growth {
             Growth::Expanded(expansion) => {
-                let expansion = &mut **expansion;
                 let mover = expansion.children.mover();
                 let Ok(()) = walk.go_down(expansion.children.best_turn()) else {
                     return Step::Stuck(Reason::Memory);
@@ -250,7 +264,7 @@ impl Packed {
         if let Step::Stuck(reason) = step {
             return Step::Stuck(reason);
         }
-        if self.grown.reserve_exact(1).is_err() {
+        if room_for_one(&mut self.grown).is_err() {
             return Step::Stuck(Reason::Memory);
         }
         if let Step::Expanded = step {

@@ -48,25 +48,21 @@ pub(crate) fn closed_leaf(proof: Arc<Proof>) -> Node
 }
 
 /// An expanded node at which no child has grown.
-fn expanded_node(alloc: Global, mover: Side, edges: Vec<Edge>) -> Result<Node, NoMemory>
+fn expanded_node(alloc: Global, mover: Side, edges: Vec<Edge>) -> Node
     requires few { length edges.items ≤ TURNS }
     requires none { grown_in edges.items ≡ 0 }
-    ensures { IfOk result (λ node. node ≡ expanded mover (turns_of edges.items) (children_of (trees_of edges.items []))) }
+    ensures { result ≡ expanded mover (turns_of edges.items) (children_of (trees_of edges.items [])) }
 {
     let (children, numbers) = Children::new(alloc, mover, edges);
     let (proof, disproof) = numbers.by_goal(mover);
-    let expansion = Box::new(
-        alloc,
-        Expansion {
-            children,
-            offered: None,
-        },
-    )?;
-    Ok(Node {
+    Node {
         proof,
         disproof,
-        growth: Growth::Expanded(expansion),
-    })
+        growth: Growth::Expanded(Expansion {
+            children,
+            offered: None,
+        }),
+    }
 }
 
 /// The edge of a successor to a new leaf.
@@ -90,5 +86,5 @@ pub(crate) fn expanded_at(alloc: Global, line: &Line) -> Result<Node, NoMemory>
     for successor in successors.as_slice() {
         edges.push(new_edge(successor))?;
     }
-    expanded_node(alloc, line.to_move(), edges)
+    Ok(expanded_node(alloc, line.to_move(), edges))
 }

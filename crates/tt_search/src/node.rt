@@ -23,7 +23,7 @@ pub(crate) enum Growth {
     Fresh,
     Won(Side),
     Closed(Arc<Proof>),
-    Expanded(Box<Expansion>),
+    Expanded(Expansion),
 }
 
 /// The children of an expanded node. A settled one holds the proof that it offered, so that the nodes above take its tree

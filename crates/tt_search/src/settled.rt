@@ -40,7 +40,6 @@ impl Node {
             Growth::Won(_) => Ok(Plan::done()),
             Growth::Closed(proof) => proof.plan().try_clone(),
             Growth::Expanded(expansion) => {
-                let expansion = &**expansion;
                 if let Some(proof) = expansion.offered_for(side) {
                     return proof.plan().try_clone();
                 }

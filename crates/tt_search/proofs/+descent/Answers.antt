@@ -213,20 +213,20 @@ children::Children::grow_best-returns-clause-numbers g t c =
 
 pub node::Node::round-best_turn-requires : goal.node::Node::round-best_turn-requires
 node::Node::round-best_turn-requires g t c =
-    let x = c.deref_mut-expansion.result.now in
-    let is = ap node_of c.deref_mut-expansion.ensures.value ∙ sym (ap shape c.in-Expanded.is) ∙ c.self.view_is in
+    let x = c.in-Expanded.expansion in
+    let is = sym (ap shape c.in-Expanded.is) ∙ c.self.view_is in
     turn_there (stand_of c.args.walk.now) x.children c.args.self.now is c.requires.may_grow
 
 pub node::Node::round-go_down-requires-clause-legal : goal.node::Node::round-go_down-requires-clause-legal
 node::Node::round-go_down-requires-clause-legal g t c =
-    let x = c.deref_mut-expansion.result.now in
-    let is = ap node_of c.deref_mut-expansion.ensures.value ∙ sym (ap shape c.in-Expanded.is) ∙ c.self.view_is in
+    let x = c.in-Expanded.expansion in
+    let is = sym (ap shape c.in-Expanded.is) ∙ c.self.view_is in
     (way_down (stand_of c.args.walk.now) x.children c.args.self.now is c.requires.may_grow c.best_turn.result c.best_turn.ensures).legal
 
 pub node::Node::round-grow_best-step-requires : goal.node::Node::round-grow_best-step-requires
 node::Node::round-grow_best-step-requires g t c κs within =
-    let x = c.deref_mut-expansion.result.now in
-    let shaped = ap node_of c.deref_mut-expansion.ensures.value ∙ sym (ap shape c.in-Expanded.is) in
+    let x = c.in-Expanded.expansion in
+    let shaped = sym (ap shape c.in-Expanded.is) in
     let is = shaped ∙ c.self.view_is in
     let walk = c.args.walk.now in
     let way = way_down (stand_of walk) x.children c.args.self.now is c.requires.may_grow c.best_turn.result c.best_turn.ensures in
@@ -240,22 +240,23 @@ node::Node::round-grow_best-step-requires g t c κs within =
 
 pub node::Node::round-invariant_of-self-in-Expanded : goal.node::Node::round-invariant_of-self-in-Expanded
 node::Node::round-invariant_of-self-in-Expanded g t c =
-    let x = c.deref_mut-expansion.result.now in
-    let shaped = ap node_of c.deref_mut-expansion.ensures.value ∙ sym (ap shape c.in-Expanded.is) in
+    let x = c.in-Expanded.expansion in
+    let shaped = sym (ap shape c.in-Expanded.is) in
     let new = c.grow_best-step.new.self in
     let put = c.grow_best-step.ensures.steps.2 in
     let mover = ap (λ (d : Choices). d.mover) put ∙ sym c.mover-mover.ensures in
     let pair = subst (λ side. ArePair side (node_with new) c.grow_best-step.result.1) mover c.grow_best-step.ensures.numbers in
     let undecided = subst IsUndecided (sym (shaped ∙ c.self.view_is)) c.requires.may_grow.undecided in
-    let holds : HoldsProof x = subst HoldsProof (sym c.deref_mut-expansion.ensures.value) (subst HoldsItsProof c.in-Expanded.is c.self.invariant.1) in (
+    let holds : HoldsProof x = subst HoldsItsProof c.in-Expanded.is c.self.invariant.1 in (
       c.by_goal-proof.ensures (node_with new) pair,
-      none_held (node_of x) x.offered (λ p. p.value.side) (λ p. IsProofOfTree (node_of x) p.value) (λ p. IsProofOfTree (node_with new) p.value) undecided (λ p (h : IsProofOfTree (node_of x) p.value). h.settled) holds,
+      none_held (node_of x) x.offered (λ p. p.value.side) (λ p. IsProofOfTree (node_of x) p.value) (λ p. IsProofOfTree (node_with new) p.value) undecided
+          (λ p (h : IsProofOfTree (node_of x) p.value). h.settled) holds,
     )
 
 pub node::Node::round-offer-walk-requires-clause-partial : goal.node::Node::round-offer-walk-requires-clause-partial
 node::Node::round-offer-walk-requires-clause-partial g t c =
-    let x = c.deref_mut-expansion.result.now in
-    let shaped = ap node_of c.deref_mut-expansion.ensures.value ∙ sym (ap shape c.in-Expanded.is) in
+    let x = c.in-Expanded.expansion in
+    let shaped = sym (ap shape c.in-Expanded.is) in
     let is = shaped ∙ c.self.view_is in
     let walk = c.args.walk.now in
     let way = way_down (stand_of walk) x.children c.args.self.now is c.requires.may_grow c.best_turn.result c.best_turn.ensures in
@@ -270,8 +271,8 @@ node::Node::round-offer-walk-requires-clause-partial g t c =
 
 pub node::Node::round-offer-walk-requires-clause-stays : goal.node::Node::round-offer-walk-requires-clause-stays
 node::Node::round-offer-walk-requires-clause-stays g t c =
-    let x = c.deref_mut-expansion.result.now in
-    let shaped = ap node_of c.deref_mut-expansion.ensures.value ∙ sym (ap shape c.in-Expanded.is) in
+    let x = c.in-Expanded.expansion in
+    let shaped = sym (ap shape c.in-Expanded.is) in
     let is = shaped ∙ c.self.view_is in
     let walk = c.args.walk.now in
     let way = way_down (stand_of walk) x.children c.args.self.now is c.requires.may_grow c.best_turn.result c.best_turn.ensures in
@@ -286,8 +287,8 @@ node::Node::round-offer-walk-requires-clause-stays g t c =
 
 pub node::Node::round-returns-in-Some-clause-steps : goal.node::Node::round-returns-in-Some-clause-steps
 node::Node::round-returns-in-Some-clause-steps g t c =
-    let x = c.deref_mut-expansion.result.now in
-    let shaped = ap node_of c.deref_mut-expansion.ensures.value ∙ sym (ap shape c.in-Expanded.is) in
+    let x = c.in-Expanded.expansion in
+    let shaped = sym (ap shape c.in-Expanded.is) in
     let is = shaped ∙ c.self.view_is in
     let walk = c.args.walk.now in
     let way = way_down (stand_of walk) x.children c.args.self.now is c.requires.may_grow c.best_turn.result c.best_turn.ensures in
@@ -295,12 +296,14 @@ node::Node::round-returns-in-Some-clause-steps g t c =
     let new = c.grow_best-step.new.self in
     let steps = round_steps walk x.children c.args.self.now c.best_turn.result way c.go_down.new.self gone c.args.pace c.grow_best-step.result.0 new
     c.grow_best-step.new.walk c.go_up.new.self c.grow_best-step.ensures.steps c.go_up.ensures.left in
-    subst (λ (tree : PartialTree). AreStepsAt c.args.pace (stand_of walk) (stage c.args.self.now walk.left) c.grow_best-step.result.0 (stage tree c.go_up.new.self.left)) (sym c.offer-walk.ensures) steps
+    subst
+    (λ (tree : PartialTree). AreStepsAt c.args.pace (stand_of walk) (stage c.args.self.now walk.left) c.grow_best-step.result.0 (stage tree c.go_up.new.self.left))
+    (sym c.offer-walk.ensures) steps
 
 pub node::Node::round-returns-in_default-settled_for-clause-steps : goal.node::Node::round-returns-in_default-settled_for-clause-steps
 node::Node::round-returns-in_default-settled_for-clause-steps g t c =
-    let x = c.deref_mut-expansion.result.now in
-    let shaped = ap node_of c.deref_mut-expansion.ensures.value ∙ sym (ap shape c.in-Expanded.is) in
+    let x = c.in-Expanded.expansion in
+    let shaped = sym (ap shape c.in-Expanded.is) in
     let is = shaped ∙ c.self.view_is in
     let walk = c.args.walk.now in
     let way = way_down (stand_of walk) x.children c.args.self.now is c.requires.may_grow c.best_turn.result c.best_turn.ensures in

@@ -1,4 +1,4 @@
-use Rattle.std.proofs.Common.{◌≡◌, ◌∙◌, IfOk, [], ◌∷◌, ◌++◌, map, length, sym, ap, subst, arith}
+use Rattle.std.proofs.Common.{◌∙◌, [], ◌∷◌, ◌++◌, map, length, sym, ap, arith}
 use Rattle.std.proofs.lemmas.List.{take_all}
 use Rattle.tt_game.specs.declared.turns.Successor.{Successor}
 use Rattle.tt_game.specs.TurnLaws.{length-legal_turns}
@@ -29,7 +29,8 @@ pub expanded_node-requires-clause-few : goal.expanded_node-requires-clause-few
 expanded_node-requires-clause-few c =
     let x = c.args.line.now in
     let whole = take_all c.loop-successor.successor-index c.as_slice-successor-items.result.now (omega (arith, c.loop-successor-test.false)) in
-    let turns = c.loop-successor.invariant.turns ∙ ap (map (λ (x : Successor). x.turn)) (whole ∙ c.as_slice-successor-items.ensures.value ∙ c.in_ok-successors.ensures) ∙ turns_of-successors x.frame x.state in
+    let all = whole ∙ c.as_slice-successor-items.ensures.value ∙ c.in_ok-successors.ensures in
+    let turns = c.loop-successor.invariant.turns ∙ ap (map (λ (x : Successor). x.turn)) all ∙ turns_of-successors x.frame x.state in
     omega (arith, length-turns_of c.loop-successor.edges.items, ap length turns, length-legal_turns x.frame x.state)
 
 pub returns : goal.returns
@@ -38,4 +39,4 @@ returns c =
     let e = expansion_of c.args.line.now.frame c.args.line.now.state c.to_move.result c.as_slice-successor-items.result.now _ _ c.to_move.ensures
     (c.as_slice-successor-items.ensures.value ∙ c.in_ok-successors.ensures) (c.loop-successor.invariant.turns ∙ ap (map (λ (x : Successor). x.turn)) whole)
     (c.loop-successor.invariant.leaves ∙ ap (map (λ (x : Successor). leaf_for x.winner)) whole) in
-    subst (λ tree. IfOk c.expanded_node.result (λ node. node ≡ tree)) e c.expanded_node.ensures
+    c.expanded_node.ensures ∙ e

@@ -19,9 +19,9 @@ returns-then-is_err g c = record {
   room = ap (λ (w : Walk). w.room) c.leaf_step-step.ensures.walk;
   may = λ e. cc;
   kept = λ reason e. c.leaf_step-step.ensures.kept;
-  whole = c.requires.whole ∙ ap length (sym c.reserve_exact.ensures.items);
+  whole = c.requires.whole ∙ ap length (sym c.room_for_one.ensures.items);
   before = refl;
-  sprouts = stays_for_memory c.args.walk.now c.leaf_step-step.new.walk c.args.place c.args.self.now _ c.requires.there c.leaf_step-step.ensures.walk refl c.reserve_exact.ensures.items;
+  sprouts = stays_for_memory c.args.walk.now c.leaf_step-step.new.walk c.args.place c.args.self.now _ c.requires.there c.leaf_step-step.ensures.walk refl c.room_for_one.ensures.items;
 }
 
 pub offer-walk-requires : goal.offer-walk-requires
@@ -32,7 +32,7 @@ offer-walk-requires g c =
 
 pub insert-requires : goal.insert-requires
 insert-requires g c =
-    omega (arith, c.requires.rank, rank_within c.args.self.now.edges.items c.args.place, c.requires.whole, ap length c.reserve_exact.ensures.items, c.reserve_exact.new.self.ok.0)
+    omega (arith, c.requires.rank, rank_within c.args.self.now.edges.items c.args.place, c.requires.whole, ap length c.room_for_one.ensures.items, c.room_for_one.new.nodes.ok.0)
 
 pub index-requires : goal.index-requires
 index-requires g c = omega (arith, fresh_there c.args.self.now.edges.items c.args.place c.requires.there, c.args.self.now.edges.ok.0)
@@ -44,7 +44,7 @@ pub returns : goal.returns
 returns g c =
     let leaf = c.leaf_step-step in
     let same : c.match-step-2.node ≡ leaf.result.1 = search rules in
-    let row = c.in-Ok.ensures.items ∙ ap (insert c.reserve_exact.new.self.items c.args.rank) same ∙ ap (λ ts. insert ts c.args.rank leaf.result.1) c.reserve_exact.ensures.items in
+    let row = c.in-Ok.ensures.items ∙ ap (insert c.room_for_one.new.nodes.items c.args.rank) same ∙ ap (λ ts. insert ts c.args.rank leaf.result.1) c.room_for_one.ensures.items in
     let turn = c.grown.ensures.turn ∙ ap turn_of c.index.ensures in
     let new : Packed = record { edges = with_item c.args.self.now.edges c.args.place c.grown.result; grown = c.insert.new.self } in
     let left : c.match-step-2.walk.left ≡ c.args.walk.now.left = search rules in
