@@ -1,7 +1,7 @@
 //! The strategies and proofs of settled nodes, and their offer to a store. What a node offers is a new root over trees that
 //! are there already: a found proof's tree is taken as it is.
 
-ghost use Rattle.std.specs.Prelude.{◌≡◌, ◌≤◌, ◌<◌, length, IfOk, IfSome, MatchOption};
+ghost use Rattle.std.specs.Prelude.{◌≡◌, ◌≤◌, ◌<◌, false, length, IfOk, IfSome, MatchOption};
 ghost use Rattle.tt_proof.specs.Strategy.{reply};
 ghost use Rattle.tt_proof.specs.Proven.{StandsAt};
 ghost use Rattle.tt_proof.specs.declared.tree.TheConstants.{MOST_DEPTH};
@@ -96,6 +96,7 @@ impl Node {
         requires stays { StaysWithin walk.now.line.frame.size MOST_DEPTH self.old }
         ensures same { self.new ≡ self.old }
         ensures undecided { IsUndecided self.old → S.kept store.new ≡ S.kept store.old }
+        ensures shut { walk.now.offering ≡ false → (result ≡ false) × (S.kept store.new ≡ S.kept store.old) }
     {
         let Some(side) = self.settled_for() else {
             return walk.offering;
