@@ -1,7 +1,7 @@
 //! The strategies and proofs of settled nodes, and their offer to a store. What a node offers is a new root over trees that
 //! are there already: a found proof's tree is taken as it is.
 
-ghost use Rattle.std.specs.Prelude.{◌≡◌, ◌≤◌, ◌<◌, length, IfOk, IfSome, MatchOption};
+ghost use Rattle.std.specs.Prelude.{◌≡◌, ◌≤◌, ◌<◌, false, length, IfOk, IfSome, MatchOption};
 ghost use Rattle.tt_proof.specs.Strategy.{reply};
 ghost use Rattle.tt_proof.specs.Proven.{StandsAt};
 ghost use Rattle.tt_proof.specs.declared.tree.TheConstants.{MOST_DEPTH};
@@ -93,7 +93,8 @@ impl Node {
         requires settled { number side self.old ≡ 0 }
         requires partial { IsPartialTree walk.now.line.frame walk.now.line.state self.old }
         requires stays { StaysWithin walk.now.line.frame.size MOST_DEPTH self.old }
-        ensures { self.new ≡ self.old }
+        ensures same { self.new ≡ self.old }
+        ensures shut { walk.now.offering ≡ false → (result ≡ false) × (S.kept store.new ≡ S.kept store.old) }
     {
         if !walk.offering || store.kept() == store.capacity() {
             return walk.offering;

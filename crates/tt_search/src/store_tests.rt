@@ -122,18 +122,36 @@ fn searches_over_one_place(rt: HostRuntime) -> Result<(), Fail> {
     Ok(())
 }
 
-/// Neither the search nor the offers stop where a proof isn't kept: three nodes are settled, by three expansions, and the
-/// store is asked twice for each.
-#[test]
-fn a_refused_keep_stops_no_search(rt: HostRuntime) -> Result<(), Fail> {
+/// A search at that problem over a store that refuses to keep, with how often it asked, and offered.
+fn refused(alloc: Global, depth: u16) -> Result<(String, u32, u32), Fail> {
     let mut store = Refusing {
         questions: 0,
         astray: 0,
         offers: 0,
     };
-    let steps = trace(rt.alloc(), SPLIT, 100, 512, &mut store)?;
+    let steps = trace(alloc, SPLIT, 100, depth, &mut store)?;
+    if store.astray != 0 {
+        return Err(Fail::new("asked for the defender first"));
+    }
+    Ok((steps, store.questions, store.offers))
+}
+
+/// Neither the search nor the offers stop where a proof isn't kept: three nodes are settled, by three expansions, and the
+/// store is asked twice for each.
+#[test]
+fn a_refused_keep_stops_no_search(rt: HostRuntime) -> Result<(), Fail> {
+    let (steps, questions, offers) = refused(rt.alloc(), 512)?;
     assert!(&rt; steps.as_str() == "E1,2 E1,2 E0,inf S0,inf 3 0", "{steps}");
-    assert!(&rt; store.questions == 6 && store.astray == 0 && store.offers == 3);
+    assert!(&rt; questions == 6 && offers == 3);
+    Ok(())
+}
+
+/// The store is asked before the depth is looked at, too.
+#[test]
+fn asks_at_the_limit_on_depth(rt: HostRuntime) -> Result<(), Fail> {
+    let (steps, questions, offers) = refused(rt.alloc(), 1)?;
+    assert!(&rt; steps.as_str() == "E1,2 D1,2 1 0", "{steps}");
+    assert!(&rt; questions == 4 && offers == 0);
     Ok(())
 }
 
