@@ -298,7 +298,7 @@ node::Node::round-returns-in-Some-clause-steps g t c =
     c.grow_best-step.new.walk c.go_up.new.self c.grow_best-step.ensures.steps c.go_up.ensures.left in
     subst
     (λ (tree : PartialTree). AreStepsAt c.args.pace (stand_of walk) (stage c.args.self.now walk.left) c.grow_best-step.result.0 (stage tree c.go_up.new.self.left))
-    (sym c.offer-walk.ensures) steps
+    (sym c.offer-walk.ensures.same) steps
 
 pub node::Node::round-returns-in_default-settled_for-clause-steps : goal.node::Node::round-returns-in_default-settled_for-clause-steps
 node::Node::round-returns-in_default-settled_for-clause-steps g t c =
