@@ -1,12 +1,14 @@
 -- An index of proofs by their keys and sides.
-use Rattle.std.specs.Prelude.{ℕ, ◌%◌, ◌^◌, List, map, fold, Option, Some, None, slice_get}
+use Rattle.std.specs.Prelude.{ℕ, ◌%◌, ◌^◌, ◌<◌, List, map, fold, length, reverse, Option, Some, None, IfSome, slice_get}
 use Rattle.std.specs.Hash.FoldHasher as hasher
 use Rattle.tt_game.specs.declared.frame.Side.{Side}
 use Rattle.tt_game.specs.declared.keys.Key.{Key}
 use Rattle.tt_game.specs.Keys.{key_of}
+use Rattle.tt_game.specs.Line.{Standing}
 use Rattle.tt_game.specs.contracts.keys.KeyHash.TheImpl as key_hash
 use Rattle.tt_game.specs.contracts.frame.SideHash.TheImpl as side_hash
 use Rattle.tt_proof.specs.Proven.{Proven}
+use Rattle.tt_search.specs.Stores.{IsAnswer, IsNewest}
 
 -- a number of 32 bits that a key and a side have: a hash of both
 unfoldable pub mark_of : Key → Side → ℕ
@@ -26,3 +28,9 @@ pub record Marking : Type 0 where
 abbrev pub proof_at : List Proven → Option ℕ → Option Proven
 proof_at ps None = None
 proof_at ps (Some place) = slice_get ps place
+
+-- the place is that of the last proof of the line's key for the side, or there is none
+pub record IsPlaceOfNewest (line : Standing) (side : Side) (ps : List Proven) (place : Option ℕ) : Type 0 where
+  pub newest : IsNewest line side (reverse ps) (proof_at ps place)
+  pub within : IfSome place (λ n. n < length ps)
+  pub found : IfSome (proof_at ps place) (IsAnswer line side)

@@ -1,37 +1,27 @@
 //! Kept proofs that may be used at a leaf.
 
-ghost use Rattle.std.specs.Prelude.{◌≡◌, ◌≤◌, IfOk, IfSome};
+ghost use Rattle.std.specs.Prelude.{◌≡◌, ◌≤◌, IfOk, IfSome, IsTrue};
+ghost use Rattle.tt_search.specs.Stores.{IsAnswer};
 ghost use Rattle.tt_search.specs.Usable.{IsUsable};
 
-use crate::store::Store;
+use crate::store::{BothSides, Store};
 use std::sync::Arc;
 use tt_game::{Line, Side};
 use tt_proof::{Proof, replay};
 use tt_sgf::NoMemory;
 
-/// The store's proof for the side, where it may be used at the line with room for as many turns: its tree is no deeper,
-/// and it wins there by replay, since it may have been found under another history.
-fn usable<S: Store>(
-    line: &mut Line,
-    room: u16,
-    side: Side,
-    store: &mut S,
-) -> Result<Option<Arc<Proof>>, NoMemory>
-    ensures usable { IfOk result (λ o. IfSome o (λ p. IsUsable room line.old p.value)) }
+/// Whether the found proof may be used at the line with room for as many turns: its tree is no deeper, and it wins there by
+/// replay, since it may have been found under another history.
+fn is_usable(line: &mut Line, room: u16, side: Side, proof: &Proof) -> Result<bool, NoMemory>
+    requires { IsAnswer line.old side proof.now }
+    ensures usable { IfOk result (λ b. IsTrue b → IsUsable room line.old proof.now) }
     ensures line { line.new ≡ line.old }
-    ensures may { IfOk result (λ o. IfSome o (λ _. S.may_answer)) }
-    ensures kept { S.kept store.new ≡ S.kept store.old }
 {
-    let Some(proof) = store.find(line, side)? else {
-        return Ok(None);
-    };
     if proof.depth() > room {
-        return Ok(None);
+        return Ok(false);
     }
-    if replay(proof.tree(), side, line)? {
-        return Ok(Some(proof));
-    }
-    Ok(None)
+    let wins = replay(proof.tree(), side, line)?;
+    Ok(wins)
 }
 
 /// A kept proof that may be used at the line: the attacker's, or else the defender's.
@@ -45,8 +35,16 @@ pub(crate) fn closing<S: Store>(
     ensures may { IfOk result (λ o. IfSome o (λ _. S.may_answer)) }
     ensures kept { S.kept store.new ≡ S.kept store.old }
 {
-    if let Some(proof) = usable(line, room, Side::Attacker, store)? {
-        return Ok(Some(proof));
+    let BothSides { attacker, defender } = store.find_both(line)?;
+    if let Some(proof) = attacker {
+        if is_usable(line, room, Side::Attacker, &proof)? {
+            return Ok(Some(proof));
+        }
     }
-    usable(line, room, Side::Defender, store)
+    if let Some(proof) = defender {
+        if is_usable(line, room, Side::Defender, &proof)? {
+            return Ok(Some(proof));
+        }
+    }
+    Ok(None)
 }

@@ -3,8 +3,9 @@
 ghost use Rattle.std.specs.Prelude.{◌≡◌, ℕ, ◌+◌, ◌<◌, ◌++◌, ◌∷◌, [], ◌↔◌, List, Some, IfOk, IfSome, IsTrue, length, vec_len, vec_capacity, reverse, slice_get};
 ghost use Rattle.tt_game.specs.Keys.{key_of};
 ghost use Rattle.tt_proof.specs.Proven.{Proven};
+ghost use Rattle.tt_game.specs.declared.frame.Side.TheVariants.{Attacker, Defender};
 ghost use Rattle.tt_search.specs.Stores.{IsAnswer, IsNewest};
-ghost use Rattle.tt_search.specs.KeyIndex.{mark_of, marks_of, proof_at};
+ghost use Rattle.tt_search.specs.KeyIndex.{mark_of, marks_of, proof_at, IsPlaceOfNewest};
 ghost use Rattle.tt_search.specs.KeyChains.{AreSized, IsChained};
 
 use std::alloc::Global;
@@ -32,6 +33,21 @@ fn mark_of(key: &Key, side: Side) -> u32
     key.hash(&mut hasher);
     side.hash(&mut hasher);
     (hasher.finish() % 0x1_0000_0000) as u32
+}
+
+/// The hashes of a key for the attacker and for the defender.
+fn marks_for(key: &Key) -> (u32, u32)
+    ensures { result ≡ (mark_of key.now Attacker, mark_of key.now Defender) }
+{
+    let mut hasher = FoldHasher::default();
+    key.hash(&mut hasher);
+    let mut other = hasher;
+    Side::Attacker.hash(&mut hasher);
+    Side::Defender.hash(&mut other);
+    (
+        (hasher.finish() % 0x1_0000_0000) as u32,
+        (other.finish() % 0x1_0000_0000) as u32,
+    )
 }
 
 /// Whether the proof has the key and is for the side.
@@ -172,9 +188,18 @@ impl KeyIndex {
         link(&mut self.heads, &mut self.before, &self.marks, place);
     }
 
-    /// The place of the row's last proof of the line's key for the side. The index was told the row's proofs.
-    pub fn newest<P: ProofRow>(&self, line: &Line, side: Side, row: &P) -> Option<usize>
-        requires { self.now.marks ≡ marks_of (P.proofs row.now) }
+    /// The place of the row's last proof of the key, which is the line's, for the side, whose mark it is.
+    fn last_of<P: ProofRow>(
+        &self,
+        line: &Line,
+        key: &Key,
+        side: Side,
+        mark: u32,
+        row: &P,
+    ) -> Option<usize>
+        requires key { key.now ≡ key_of line.now.frame line.now.state }
+        requires mark { mark ≡ mark_of key.now side }
+        requires told { self.now.marks ≡ marks_of (P.proofs row.now) }
         ensures newest { IsNewest line.now side (reverse (P.proofs row.now)) (proof_at (P.proofs row.now) result) }
         ensures within { IfSome result (λ place. place < length (P.proofs row.now)) }
         ensures found { IfSome (proof_at (P.proofs row.now) result) (IsAnswer line.now side) }
@@ -182,16 +207,37 @@ impl KeyIndex {
         if self.heads.is_empty() {
             return None;
         }
-        let key = line.key();
-        let mark = mark_of(&key, side);
         let mut next = self.heads[mark as usize % self.heads.len()] as usize;
         while 0 < next {
             let place = next - 1;
-            if self.marks[place] == mark && is_for(row.proof(place), &key, side) {
+            if self.marks[place] == mark && is_for(row.proof(place), key, side) {
                 return Some(place);
             }
             next = self.before[place] as usize;
         }
         None
+    }
+
+    /// The place of the row's last proof of the line's key for the side. The index was told the row's proofs.
+    pub fn newest<P: ProofRow>(&self, line: &Line, side: Side, row: &P) -> Option<usize>
+        requires { self.now.marks ≡ marks_of (P.proofs row.now) }
+        ensures { IsPlaceOfNewest line.now side (P.proofs row.now) result }
+    {
+        let key = line.key();
+        self.last_of(line, &key, side, mark_of(&key, side), row)
+    }
+
+    /// What `newest` answers for the attacker and for the defender.
+    pub fn newest_both<P: ProofRow>(&self, line: &Line, row: &P) -> (Option<usize>, Option<usize>)
+        requires { self.now.marks ≡ marks_of (P.proofs row.now) }
+        ensures attacker { IsPlaceOfNewest line.now Attacker (P.proofs row.now) result.0 }
+        ensures defender { IsPlaceOfNewest line.now Defender (P.proofs row.now) result.1 }
+    {
+        let key = line.key();
+        let (attacker, defender) = marks_for(&key);
+        (
+            self.last_of(line, &key, Side::Attacker, attacker, row),
+            self.last_of(line, &key, Side::Defender, defender, row),
+        )
     }
 }

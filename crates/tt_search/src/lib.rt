@@ -26,7 +26,7 @@ pub use key_index::{KeyIndex, ProofRow};
 pub use limits::{Limits, MOST_EXPANDED, Reason, Step};
 pub use private::PrivateStore;
 pub use search::{End, Search};
-pub use store::{Kept, NoStore, Store};
+pub use store::{BothSides, Kept, NoStore, Store};
 
 #[cfg(test)]
 mod store_tests;

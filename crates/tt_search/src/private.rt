@@ -1,13 +1,15 @@
 //! A store of one search's own.
 
-ghost use Rattle.std.specs.Prelude.{◌≡◌, ◌≢◌, ◌<◌, ◌≤◌, ◌+◌, ◌∷◌, [], ◌↔◌, IfOk, IfSome, MatchOption, length};
+ghost use Rattle.std.specs.Prelude.{◌≡◌, ◌≢◌, ◌<◌, ◌≤◌, ◌+◌, ◌∷◌, [], ◌↔◌, IfOk, IfSome, MatchOption, length, map};
 ghost use Rattle.std.specs.Option.{option_map};
 ghost use Rattle.std.specs.Arc.{arc_value};
+ghost use Rattle.tt_game.specs.declared.frame.Side.TheVariants.{Attacker, Defender};
 ghost use Rattle.tt_search.specs.Stores.{IsAnswer, IsNewest};
+ghost use Rattle.tt_search.specs.KeyIndex.{proof_at};
 ghost use Rattle.tt_search.specs.declared.store.Kept.TheVariants.{Stored, Full};
 
 use crate::key_index::{KeyIndex, ProofRow};
-use crate::store::{Kept, Store};
+use crate::store::{BothSides, Kept, Store};
 use std::alloc::Global;
 use std::marker::Model;
 use std::sync::Arc;
@@ -80,23 +82,20 @@ impl PrivateStore {
             capacity,
         })
     }
-
-    /// The last proof of the line's key for the side.
-    fn answer(&self, line: &Line, side: Side) -> Option<&Arc<Proof>>
-        ensures newest { IsNewest line.now side self.now.proofs (option_map (λ r. arc_value r.now) result) }
-        ensures found { IfSome result (λ r. IsAnswer line.now side (arc_value r.now)) }
-    {
-        let place = self.index.newest(line, side, &self.proofs)?;
-        self.proofs.get(place)
-    }
 }
 
-/// Another handle of the same proof.
-fn handle_of(p: &Arc<Proof>) -> Result<Arc<Proof>, NoMemory>
-    ensures { IfOk result (λ q. arc_value q ≡ arc_value p.now) }
+/// Another handle of the proof at the place, if it is one's.
+fn handle_at(proofs: &Vec<Arc<Proof>>, place: Option<usize>) -> Result<Option<Arc<Proof>>, NoMemory>
+    ensures { IfOk result (λ o. option_map (λ p. arc_value p) o ≡ proof_at (map arc_value proofs.now.items) place) }
 {
+    let Some(place) = place else {
+        return Ok(None);
+    };
+    let Some(p) = proofs.get(place) else {
+        return Ok(None);
+    };
     let handle = Arc::try_clone(p)?;
-    Ok(handle)
+    Ok(Some(handle))
 }
 
 impl Store for PrivateStore {
@@ -122,11 +121,24 @@ impl Store for PrivateStore {
         ensures kept { length self.new.proofs ≡ length self.old.proofs }
         ensures same { self.new ≡ self.old }
     {
-        let Some(p) = self.answer(line, s) else {
-            return Ok(None);
-        };
-        let handle = handle_of(p)?;
-        Ok(Some(handle))
+        handle_at(&self.proofs, self.index.newest(line, s, &self.proofs))
+    }
+
+    fn find_both(&mut self, line: &Line) -> Result<BothSides, NoMemory>
+        ensures newest_attacker { IfOk result (λ a. IsNewest line.now Attacker self.old.proofs (option_map (λ p. p.value) a.attacker)) }
+        ensures newest_defender { IfOk result (λ a. IsNewest line.now Defender self.old.proofs (option_map (λ p. p.value) a.defender)) }
+        ensures attacker { IfOk result (λ a. IfSome a.attacker (λ p. IsAnswer line.now Attacker p.value)) }
+        ensures defender { IfOk result (λ a. IfSome a.defender (λ p. IsAnswer line.now Defender p.value)) }
+        ensures may_attacker { IfOk result (λ a. IfSome a.attacker (λ _. Unit {0})) }
+        ensures may_defender { IfOk result (λ a. IfSome a.defender (λ _. Unit {0})) }
+        ensures capacity { self.new.capacity ≡ self.old.capacity }
+        ensures kept { length self.new.proofs ≡ length self.old.proofs }
+        ensures same { self.new ≡ self.old }
+    {
+        let (attacker, defender) = self.index.newest_both(line, &self.proofs);
+        let attacker = handle_at(&self.proofs, attacker)?;
+        let defender = handle_at(&self.proofs, defender)?;
+        Ok(BothSides { attacker, defender })
     }
 
     fn keep(&mut self, p: Arc<Proof>) -> Kept

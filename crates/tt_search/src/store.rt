@@ -1,6 +1,7 @@
 //! Where a search keeps the proofs of settled nodes, and looks for them again.
 
 ghost use Rattle.std.specs.Prelude.{◌≡◌, ◌≢◌, ℕ, ◌+◌, ◌↔◌, Ok, None, IfOk, IfSome};
+ghost use Rattle.tt_game.specs.declared.frame.Side.TheVariants.{Attacker, Defender};
 ghost use Rattle.tt_search.specs.Stores.{IsAnswer};
 ghost use Rattle.tt_search.specs.declared.store.Kept.TheVariants.{Stored, Full};
 
@@ -15,6 +16,13 @@ pub enum Kept {
     Stored,
     Full,
     NoMemory,
+}
+
+/// What a store answers of one key: a proof of each side, or none.
+#[derive(Drop)]
+pub struct BothSides {
+    pub attacker: Option<Arc<Proof>>,
+    pub defender: Option<Arc<Proof>>,
 }
 
 /// A place for proofs. It keeps so many of them, and answers those of a line's key again. A proof that it answers may
@@ -42,6 +50,20 @@ pub trait Store {
         ensures may { IfOk result (λ o. IfSome o (λ _. may_answer)) }
         ensures capacity { capacity self.new ≡ capacity self.old }
         ensures kept { kept self.new ≡ kept self.old };
+
+    /// What `find` answers for both sides, in one look.
+    fn find_both(&mut self, line: &Line) -> Result<BothSides, NoMemory>
+        ensures attacker { IfOk result (λ a. IfSome a.attacker (λ p. IsAnswer line.now Attacker p.value)) }
+        ensures defender { IfOk result (λ a. IfSome a.defender (λ p. IsAnswer line.now Defender p.value)) }
+        ensures may_attacker { IfOk result (λ a. IfSome a.attacker (λ _. may_answer)) }
+        ensures may_defender { IfOk result (λ a. IfSome a.defender (λ _. may_answer)) }
+        ensures capacity { capacity self.new ≡ capacity self.old }
+        ensures kept { kept self.new ≡ kept self.old }
+    {
+        let attacker = self.find(line, Side::Attacker)?;
+        let defender = self.find(line, Side::Defender)?;
+        Ok(BothSides { attacker, defender })
+    }
 
     /// Keeps the proof, where there is room and memory for it.
     fn keep(&mut self, p: Arc<Proof>) -> Kept

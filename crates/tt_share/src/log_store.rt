@@ -3,6 +3,7 @@
 ghost use Rattle.std.specs.Prelude.{◌≡◌, ◌≢◌, ◌+◌, ◌↔◌, IfOk, IfSome};
 ghost use Rattle.std.specs.Option.{option_map};
 ghost use Rattle.std.specs.Arc.{arc_value};
+ghost use Rattle.tt_game.specs.declared.frame.Side.TheVariants.{Attacker, Defender};
 ghost use Rattle.tt_search.specs.Stores.{IsAnswer, IsNewest};
 ghost use Rattle.tt_search.specs.declared.store.Kept.TheVariants.{Stored, Full};
 ghost use Rattle.tt_share.specs.Log.{Keeps, Extends, most_kept, newest_first};
@@ -12,7 +13,7 @@ use std::marker::Model;
 use std::sync::{Arc, Wait};
 use tt_game::{Line, Side};
 use tt_proof::Proof;
-use tt_search::{Kept, Store};
+use tt_search::{BothSides, Kept, Store};
 use tt_sgf::NoMemory;
 
 /// A store that keeps proofs in a log, and answers those of a view of it: up to 4,096 proofs may be kept through it, and
@@ -80,6 +81,21 @@ impl<'a, R: Wait> Store for LogStore<'a, R> {
         ensures newest { IfOk result (λ o. IsNewest line.now s (newest_first self.new.tokens) (option_map (λ p. arc_value p) o)) }
     {
         self.view.find(line, s)
+    }
+
+    fn find_both(&mut self, line: &Line) -> Result<BothSides, NoMemory>
+        ensures attacker { IfOk result (λ b. IfSome b.attacker (λ p. IsAnswer line.now Attacker p.value)) }
+        ensures defender { IfOk result (λ b. IfSome b.defender (λ p. IsAnswer line.now Defender p.value)) }
+        ensures may_attacker { IfOk result (λ b. IfSome b.attacker (λ _. Unit {0})) }
+        ensures may_defender { IfOk result (λ b. IfSome b.defender (λ _. Unit {0})) }
+        ensures capacity { most_kept self.new ≡ most_kept self.old }
+        ensures kept { self.new.kept ≡ self.old.kept }
+        ensures log { self.new.log ≡ self.old.log }
+        ensures tokens { Extends self.old.tokens self.new.tokens }
+        ensures newest_attacker { IfOk result (λ b. IsNewest line.now Attacker (newest_first self.new.tokens) (option_map (λ p. arc_value p) b.attacker)) }
+        ensures newest_defender { IfOk result (λ b. IsNewest line.now Defender (newest_first self.new.tokens) (option_map (λ p. arc_value p) b.defender)) }
+    {
+        self.view.find_both(line)
     }
 
     fn keep(&mut self, p: Arc<Proof>) -> Kept

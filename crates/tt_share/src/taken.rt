@@ -3,8 +3,10 @@
 ghost use Rattle.std.specs.Prelude.{◌≡◌, ◌<◌, ◌++◌, ◌∷◌, [], All, IfOk, IfSome};
 ghost use Rattle.std.specs.Option.{option_map};
 ghost use Rattle.std.specs.Arc.{arc_value};
+ghost use Rattle.tt_game.specs.declared.frame.Side.TheVariants.{Attacker, Defender};
 ghost use Rattle.tt_search.specs.Stores.{IsAnswer, IsNewest};
-ghost use Rattle.tt_share.specs.Log.{IsOf, newest_first};
+ghost use Rattle.tt_search.specs.KeyIndex.{proof_at};
+ghost use Rattle.tt_share.specs.Log.{IsOf, newest_first, proofs_of};
 
 use crate::log::{CertLog, Token};
 use std::alloc::Global;
@@ -109,19 +111,40 @@ impl<'a> Taken<'a> {
         self.tokens.push_reserved(token);
     }
 
+    /// The tokens as a row of proofs.
+    fn row(&self) -> Row<'_>
+        ensures { result.tokens.now.items ≡ self.now.tokens }
+    {
+        Row {
+            log: self.log,
+            tokens: &self.tokens,
+        }
+    }
+
+    /// The handle of the token at the place, if it is one's.
+    fn handle_at(&self, place: Option<usize>) -> Option<&Arc<Proof>>
+        ensures { option_map (λ p. arc_value p.now) result ≡ proof_at (proofs_of self.now.tokens) place }
+    {
+        let token = self.tokens.get(place?)?;
+        Some(self.log.handle_at(token))
+    }
+
     /// The proof of the last token of the line's key for the side.
     pub fn newest(&self, line: &Line, side: Side) -> Option<&Arc<Proof>>
         ensures newest { IsNewest line.now side (newest_first self.now.tokens) (option_map (λ p. arc_value p.now) result) }
         ensures found { IfSome result (λ p. IsAnswer line.now side (arc_value p.now)) }
     {
-        let place = self.index.newest(
-            line,
-            side,
-            &Row {
-                log: self.log,
-                tokens: &self.tokens,
-            },
-        )?;
-        Some(self.log.handle_at(&self.tokens[place]))
+        self.handle_at(self.index.newest(line, side, &self.row()))
+    }
+
+    /// What `newest` answers for the attacker and for the defender.
+    pub fn newest_both(&self, line: &Line) -> (Option<&Arc<Proof>>, Option<&Arc<Proof>>)
+        ensures attacker { IsNewest line.now Attacker (newest_first self.now.tokens) (option_map (λ p. arc_value p.now) result.0) }
+        ensures defender { IsNewest line.now Defender (newest_first self.now.tokens) (option_map (λ p. arc_value p.now) result.1) }
+        ensures found_attacker { IfSome result.0 (λ p. IsAnswer line.now Attacker (arc_value p.now)) }
+        ensures found_defender { IfSome result.1 (λ p. IsAnswer line.now Defender (arc_value p.now)) }
+    {
+        let (attacker, defender) = self.index.newest_both(line, &self.row());
+        (self.handle_at(attacker), self.handle_at(defender))
     }
 }

@@ -3,6 +3,7 @@
 ghost use Rattle.std.specs.Prelude.{◌≡◌, ◌≢◌, ◌≤◌, ◌<◌, ◌+◌, ◌↔◌, ◌++◌, ◌∷◌, [], All, IfOk, IfSome, length};
 ghost use Rattle.std.specs.Option.{option_map};
 ghost use Rattle.std.specs.Arc.{arc_value};
+ghost use Rattle.tt_game.specs.declared.frame.Side.TheVariants.{Attacker, Defender};
 ghost use Rattle.tt_search.specs.Stores.{IsAnswer, IsNewest};
 ghost use Rattle.tt_search.specs.declared.store.Kept.TheVariants.{Stored, Full};
 ghost use Rattle.tt_share.specs.Log.{IsOf, Keeps, Extends, newest_first};
@@ -14,7 +15,7 @@ use std::marker::Model;
 use std::sync::{Arc, Wait};
 use tt_game::{Line, Side};
 use tt_proof::Proof;
-use tt_search::Kept;
+use tt_search::{BothSides, Kept};
 use tt_sgf::NoMemory;
 
 // How many proofs may be kept through one view.
@@ -177,12 +178,36 @@ impl<'a> View<'a> {
         ensures found { IfOk result (λ o. IfSome o (λ p. IsAnswer line.now s (arc_value p))) }
     {
         self.read_on();
-        let Some(p) = self.taken.newest(line, s) else {
-            return Ok(None);
-        };
-        match Arc::try_clone(p) {
+        handle_of(self.taken.newest(line, s))
+    }
+
+    /// What `find` answers for both sides, from the same tokens.
+    pub fn find_both(&mut self, line: &Line) -> Result<BothSides, NoMemory>
+        ensures log { self.new.log ≡ self.old.log }
+        ensures kept { self.new.kept ≡ self.old.kept }
+        ensures tokens { Extends self.old.tokens self.new.tokens }
+        ensures newest_attacker { IfOk result (λ b. IsNewest line.now Attacker (newest_first self.new.tokens) (option_map (λ p. arc_value p) b.attacker)) }
+        ensures newest_defender { IfOk result (λ b. IsNewest line.now Defender (newest_first self.new.tokens) (option_map (λ p. arc_value p) b.defender)) }
+        ensures attacker { IfOk result (λ b. IfSome b.attacker (λ p. IsAnswer line.now Attacker (arc_value p))) }
+        ensures defender { IfOk result (λ b. IfSome b.defender (λ p. IsAnswer line.now Defender (arc_value p))) }
+    {
+        self.read_on();
+        let (attacker, defender) = self.taken.newest_both(line);
+        let attacker = handle_of(attacker)?;
+        let defender = handle_of(defender)?;
+        Ok(BothSides { attacker, defender })
+    }
+}
+
+/// Another handle of the proof, if there is one.
+fn handle_of(found: Option<&Arc<Proof>>) -> Result<Option<Arc<Proof>>, NoMemory>
+    ensures { IfOk result (λ o. option_map (λ p. arc_value p) o ≡ option_map (λ p. arc_value p.now) found.entry) }
+{
+    match found {
+        Some(p) => match Arc::try_clone(p) {
             Ok(handle) => Ok(Some(handle)),
             Err(_) => Err(NoMemory),
-        }
+        },
+        None => Ok(None),
     }
 }

@@ -2,15 +2,13 @@ use Rattle.std.proofs.Common.{◌≡◌, ◌-◌, ◌%◌, ◌<◌, ◌≤◌, l
 use Rattle.tt_game.specs.Keys.{key_of}
 use Rattle.tt_search.specs.KeyIndex.{mark_of}
 use Rattle.tt_search.specs.KeyChains.{NoneFrom}
-use Rattle.tt_search.proofs.key_index.KeyIndex.newest.Given as goal
+use Rattle.tt_search.proofs.key_index.KeyIndex.last_of.Given as goal
 
 abbrev pub invariant-loop-next : goal.invariant-loop-next
 invariant-loop-next g l = record {
   low : l.next ≤ length l.self-inside.marks.items;
   none : NoneFrom l.line l.side (g.P.ProofRow.proofs l.row) l.next;
   inside : 0 < l.next → get_or l.self-inside.marks.items (l.next - 1) 0 % length l.self-inside.heads.items ≡ l.mark % length l.self-inside.heads.items;
-  mark : l.mark ≡ mark_of l.key l.side;
-  key : l.key ≡ key_of l.line.frame l.line.state;
 }
 
 abbrev pub decreases-loop-next : goal.decreases-loop-next

@@ -5,8 +5,8 @@ use Rattle.tt_search.specs.Stores.{IsAnswer, IsNewest}
 use Rattle.tt_search.specs.KeyIndex.{mark_of, marks_of, Marking}
 use Rattle.tt_search.specs.KeyChains.{NoneFrom}
 use Rattle.tt_search.proofs.Chains.{chain_read, head_low, before_low, head_inside, before_inside, none_past_head, none_past_next, not_found, answers_mark, found_newest, none_newest}
-use Rattle.tt_search.proofs.key_index.KeyIndex.newest.Goals.{else-index-mark-via-then-index-mark+else-is_for, else-index-mark-via-else-index-mark}
-use Rattle.tt_search.proofs.key_index.KeyIndex.newest.Goals as goal
+use Rattle.tt_search.proofs.key_index.KeyIndex.last_of.Goals.{else-index-mark-via-then-index-mark+else-is_for, else-index-mark-via-else-index-mark}
+use Rattle.tt_search.proofs.key_index.KeyIndex.last_of.Goals as goal
 
 pub loop-next-init : goal.loop-next-init
 loop-next-init g c =
@@ -14,22 +14,20 @@ loop-next-init g c =
     let before = c.self.inside.before.items in
     let marks = c.self.inside.marks.items in
     let some : 0 < length heads = grind (arith, c.if-is_empty.false, c.is_empty.ensures, c.self.inside.heads.ok.0) in
-    let is = chain_read heads c.mark_of-mark.result c.len.result c.index.result.now (c.len.ensures ∙ c.self.inside.heads.ok.0) some c.index.ensures in
-    let mark = c.mark_of-mark.ensures ∙ ap (λ k. mark_of k c.args.side) c.key-key.ensures in
-    let all : marks ≡ marks_of (g.P.ProofRow.proofs c.args.row.now) = ap (λ (v : Marking). v.marks) c.self.view_is ∙ c.requires in
+    let is = chain_read heads c.args.mark c.len.result c.index.result.now (c.len.ensures ∙ c.self.inside.heads.ok.0) some c.index.ensures in
+    let mark = c.requires.mark ∙ ap (λ k. mark_of k c.args.side) c.requires.key in
+    let all : marks ≡ marks_of (g.P.ProofRow.proofs c.args.row.now) = ap (λ (v : Marking). v.marks) c.self.view_is ∙ c.requires.told in
     record {
-      low = head_low heads before marks c.mark_of-mark.result c.index.result.now some c.self.invariant.chained is;
-      none = none_past_head c.args.line.now c.args.side heads before marks _ c.mark_of-mark.result c.index.result.now all mark some c.self.invariant.chained is;
-      inside = head_inside heads before marks c.mark_of-mark.result c.index.result.now some c.self.invariant.chained is;
-      mark = c.mark_of-mark.ensures;
-      key = c.key-key.ensures;
+      low = head_low heads before marks c.args.mark c.index.result.now some c.self.invariant.chained is;
+      none = none_past_head c.args.line.now c.args.side heads before marks _ c.args.mark c.index.result.now all mark some c.self.invariant.chained is;
+      inside = head_inside heads before marks c.args.mark c.index.result.now some c.self.invariant.chained is;
     }
 
 pub returns-then-is_for-clause-newest : goal.returns-then-is_for-clause-newest
 returns-then-is_for-clause-newest g c =
     let ps = g.P.ProofRow.proofs c.args.row.now in
     let found = c.is_for.ensures.0 c.if-is_for.true in
-    let answers : IsAnswer c.args.line.now c.args.side c.proof.result.now = record { same_key = found.0 ∙ c.key-key.ensures; for_side = found.1 } in
+    let answers : IsAnswer c.args.line.now c.args.side c.proof.result.now = record { same_key = found.0 ∙ c.requires.key; for_side = found.1 } in
     let on : NoneFrom c.args.line.now c.args.side ps (suc (c.loop-next.next - 1)) = λ i p low. c.loop-next.invariant.none i p (omega (arith, low)) in
     let newest = found_newest c.args.line.now c.args.side ps (c.loop-next.next - 1) c.proof.result.now c.proof.ensures answers on in
     subst (IsNewest c.args.line.now c.args.side _) (sym c.proof.ensures) newest
@@ -51,8 +49,8 @@ loop-next-preserved g c =
     let ps = g.P.ProofRow.proofs c.args.row.now in
     let place = c.loop-next.next - 1 in
     let next = c.index-in-loop-next-2.result.now in
-    let all : marks ≡ marks_of ps = ap (λ (v : Marking). v.marks) c.self.view_is ∙ c.requires in
-    let mark = c.mark_of-mark.ensures ∙ ap (λ k. mark_of k c.args.side) c.key-key.ensures in
+    let all : marks ≡ marks_of ps = ap (λ (v : Marking). v.marks) c.self.view_is ∙ c.requires.told in
+    let mark = c.requires.mark ∙ ap (λ k. mark_of k c.args.side) c.requires.key in
     let within : place < length marks = omega (arith, c.loop-next.invariant.low, c.loop-next-test.true) in
     let is = get_or_read before place next (omega (arith, within, c.self.invariant.sized.one_each)) c.index-in-loop-next-2.ensures 0 in
     let low = before_low heads before marks place next c.self.invariant.chained within is in
@@ -60,16 +58,14 @@ loop-next-preserved g c =
     let on : NoneFrom line c.args.side ps (place + 1) = λ i p late. c.loop-next.invariant.none i p (omega (arith, late)) in
     let here : (p : Proven) → slice_get ps place ≡ Some p → IsAnswer line c.args.side p → ⊥ = λ p at. elim c.else-index-mark.branch [
       | else-index-mark-via-then-index-mark+else-is_for w ↦
-          not_found line c.args.side ps place w.is_for.result c.key-key.result p w.proof.result.now w.proof.ensures at w.if-is_for.false w.is_for.ensures c.key-key.ensures
-      | else-index-mark-via-else-index-mark w ↦ (λ a. w.if-index-mark.false (there ∙ answers_mark line c.args.side marks ps place c.mark_of-mark.result p all mark at a))
+          not_found line c.args.side ps place w.is_for.result c.args.key.now p w.proof.result.now w.proof.ensures at w.if-is_for.false w.is_for.ensures c.requires.key
+      | else-index-mark-via-else-index-mark w ↦ (λ a. w.if-index-mark.false (there ∙ answers_mark line c.args.side marks ps place c.args.mark p all mark at a))
     ] in
     record {
       low = omega (arith, low, within);
-      none = none_past_next line c.args.side heads before marks ps c.mark_of-mark.result place next all mark c.self.invariant.chained within
+      none = none_past_next line c.args.side heads before marks ps c.args.mark place next all mark c.self.invariant.chained within
           (c.loop-next.invariant.inside c.loop-next-test.true) is on here;
-      inside = before_inside heads before marks c.mark_of-mark.result place next c.self.invariant.chained within (c.loop-next.invariant.inside c.loop-next-test.true) is;
-      mark = c.mark_of-mark.ensures;
-      key = c.key-key.ensures;
+      inside = before_inside heads before marks c.args.mark place next c.self.invariant.chained within (c.loop-next.invariant.inside c.loop-next-test.true) is;
     }
 
 pub returns-clause-newest : goal.returns-clause-newest
