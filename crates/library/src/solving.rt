@@ -9,16 +9,13 @@ ghost use Rattle.library.specs.Winning.{IsWinning};
 use std::alloc::Global;
 use std::sync::Arc;
 use tt_game::Line;
-use tt_proof::{CertFault, Proof, read_cert, replay, write_cert};
+use tt_proof::{CertFault, MOST_DEPTH, Proof, read_cert, replay, write_cert};
 use tt_search::{Limits, PrivateStore};
 use tt_sgf::NoMemory;
 use tt_share::{Answer, solve_one};
 
 /// How many nodes may be expanded behind each first turn.
 const BUDGET: u32 = 100_000;
-
-/// How many turns deep a search may go.
-const DEPTH: u16 = 512;
 
 /// A proof that stands at the line, where the limits and memory suffice for one and nobody has won yet.
 pub fn proof_at(alloc: Global, line: &Line) -> Option<Arc<Proof>>
@@ -27,7 +24,7 @@ pub fn proof_at(alloc: Global, line: &Line) -> Option<Arc<Proof>>
     if line.winner().is_some() {
         return None;
     }
-    let Some(limits) = Limits::new(BUDGET, DEPTH) else {
+    let Some(limits) = Limits::new(BUDGET, MOST_DEPTH) else {
         unreachable!();
     };
     let mut store = PrivateStore::new(alloc);

@@ -2,6 +2,7 @@
 use Rattle.std.proofs.Common.{◌≡◌, ◌≤◌, ◌-◌, ℕ, List, [], inr, Option, Err, refl, ap, ◌∙◌, length, take, drop, arith, subst}
 use Rattle.std.proofs.KnownBytes.{Appends-kept, Appends-nil}
 use Rattle.std.proofs.lemmas.List.{take_all, length-drop}
+use Rattle.tt_sgf.specs.declared.trees.TheConstants.{MAX_BYTES}
 use Rattle.tt_sgf.specs.declared.nodes.Node.{Node}
 use Rattle.tt_sgf.specs.Grammar.{GameTree, SpelledUpTo, main_line}
 use Rattle.tt_sgf.specs.Values.{trimmed}
@@ -22,7 +23,6 @@ use Rattle.tsumego.specs.declared.finding.Finding.{Finding}
 use Rattle.tsumego.specs.declared.finding.Finding.TheVariants.{Valid, Invalid, Refused}
 use Rattle.tsumego.specs.Checking.{Finds, FindsAt, FindsOn, finding_line, finding_status, first_tree, loses, no_certificate, too_deep, wins}
 use Rattle.devices.specs.Writing.{Breaks}
-use Rattle.tsumego.specs.Trees.{most_bytes}
 use Rattle.tsumego.specs.Writing.{Writes}
 
 -- the size of the line's frame is that of its problem
@@ -48,7 +48,7 @@ module _ (p : Standing) (f : Frame) (bytes : List ℕ) (same : f ≡ p.frame) wh
       too_deep k
 
 -- what is found behind the first tree
-pub found_behind : (input : List ℕ) (used : ℕ) (t : GameTree) (nodes : List Node) (bytes : List ℕ) (o : Finding) → length input ≤ most_bytes → SpelledUpTo input used t
+pub found_behind : (input : List ℕ) (used : ℕ) (t : GameTree) (nodes : List Node) (bytes : List ℕ) (o : Finding) → length input ≤ MAX_BYTES → SpelledUpTo input used t
     → nodes ≡ main_line t → bytes ≡ trimmed (take (length input - used) (drop used input)) → FindsOn (problem_of nodes) bytes o → Finds input o
 found_behind input used t nodes bytes o small s same is h =
     let whole : take (length input - used) (drop used input) ≡ drop used input = take_all _ _ (omega (arith, length-drop used input)) in

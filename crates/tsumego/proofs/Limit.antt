@@ -1,7 +1,8 @@
 -- Lemmas on inputs past the limit, of which only a part is read.
-use Rattle.std.proofs.Common.{refl, true, false, ◌≡◌, ◌≤◌, ℕ, List, [], inl, inr, Option, None, Some, Ok, Err, length, take, arith, subst}
+use Rattle.std.proofs.Common.{refl, true, false, ◌≡◌, ◌≤◌, ◌+◌, ℕ, List, [], inl, inr, Option, None, Some, Ok, Err, length, take, arith, subst}
 use Rattle.std.specs.declared.result.Result.{Result}
 use Rattle.std.proofs.KnownBytes.{Appends-nil, Keeps-refl}
+use Rattle.tt_sgf.specs.declared.trees.TheConstants.{MAX_BYTES}
 use Rattle.tsumego.specs.declared.request.Command.{Command}
 use Rattle.devices.specs.declared.fault.RunFault.{RunFault}
 use Rattle.devices.specs.declared.fault.RunFault.TheVariants.{Input, Output, Memory}
@@ -22,71 +23,71 @@ use Rattle.tsumego.specs.Writing.{Writes}
 
 module _ (allowed : List Node → Outcome → Type 0) where
   -- outcomes for a part of the input that is too long as well are outcomes for the input
-  long_outcomes : (input part : List ℕ) (os : List Outcome) → length part ≡ 1048577 → 1048577 ≤ length input → AreOutcomes allowed part os → AreOutcomes allowed input os
+  long_outcomes : (input part : List ℕ) (os : List Outcome) → length part ≡ MAX_BYTES + 1 → MAX_BYTES + 1 ≤ length input → AreOutcomes allowed part os → AreOutcomes allowed input os
   long_outcomes input part os e le (too_long long) = too_long (omega arith)
   long_outcomes input part os e le (all_read os' rest small reads some none) = absurd (omega arith)
   long_outcomes input part os e le (stopped os' rest small reads why none) = absurd (omega arith)
 
   -- outcomes for the part up to the limit are outcomes for the input
-  outcomes_whole : (input : List ℕ) (os : List Outcome) → AreOutcomes allowed (take 1048577 input) os → AreOutcomes allowed input os
-  outcomes_whole input os h = elim (cut_or_whole 1048577 input) [
+  outcomes_whole : (input : List ℕ) (os : List Outcome) → AreOutcomes allowed (take (MAX_BYTES + 1) input) os → AreOutcomes allowed input os
+  outcomes_whole input os h = elim (cut_or_whole (MAX_BYTES + 1) input) [
     | inl e ↦ subst (λ (x : List ℕ). AreOutcomes allowed x os) e h
-    | inr p ↦ long_outcomes input (take 1048577 input) os p.0 p.1 h
+    | inr p ↦ long_outcomes input (take (MAX_BYTES + 1) input) os p.0 p.1 h
   ]
 
   -- a text on that part's trees is one on the input's
-  trees_whole : (input text : List ℕ) (status : ℕ) → IsTreesText allowed (take 1048577 input) text status → IsTreesText allowed input text status
+  trees_whole : (input text : List ℕ) (status : ℕ) → IsTreesText allowed (take (MAX_BYTES + 1) input) text status → IsTreesText allowed input text status
   trees_whole input text status h = record { outcomes = h.outcomes; are = outcomes_whole input h.outcomes h.are; lines = h.lines; status_is = h.status_is }
 
   -- a beginning of a text on that part is a beginning of one on the input
-  trees_begun : (input text : List ℕ) → BeginsTreesText allowed (take 1048577 input) text → BeginsTreesText allowed input text
+  trees_begun : (input text : List ℕ) → BeginsTreesText allowed (take (MAX_BYTES + 1) input) text → BeginsTreesText allowed input text
   trees_begun input text no_line = no_line
   trees_begun input text (all_lines os h) = all_lines os (outcomes_whole input os h)
-  trees_begun input text (some_lines os rest small reads) = elim (cut_or_whole 1048577 input) [
+  trees_begun input text (some_lines os rest small reads) = elim (cut_or_whole (MAX_BYTES + 1) input) [
     | inl e ↦ subst (λ (x : List ℕ). BeginsTreesText allowed x text) e (some_lines os rest small reads)
     | inr p ↦ absurd (omega (arith, p.0))
   ]
 
   -- and so it is with an earlier part
-  trees_earlier : (input text : List ℕ) → EarlierTreesText allowed (take 1048577 input) text → EarlierTreesText allowed input text
+  trees_earlier : (input text : List ℕ) → EarlierTreesText allowed (take (MAX_BYTES + 1) input) text → EarlierTreesText allowed input text
   trees_earlier input text nothing = nothing
-  trees_earlier input text (before_more os rest small reads more) = elim (cut_or_whole 1048577 input) [
+  trees_earlier input text (before_more os rest small reads more) = elim (cut_or_whole (MAX_BYTES + 1) input) [
     | inl e ↦ subst (λ (x : List ℕ). EarlierTreesText allowed x text) e (before_more os rest small reads more)
     | inr p ↦ absurd (omega (arith, p.0))
   ]
 
 -- what is found on a part of the input that is too long as well is found on the input
-long_found : (input part : List ℕ) (o : Finding) → length part ≡ 1048577 → 1048577 ≤ length input → Finds part o → Finds input o
+long_found : (input part : List ℕ) (o : Finding) → length part ≡ MAX_BYTES + 1 → MAX_BYTES + 1 ≤ length input → Finds part o → Finds input o
 long_found input part o e le (find.too_long long) = find.too_long (omega arith)
 long_found input part o e le (no_tree small none) = absurd (omega arith)
 long_found input part o e le (first_tree count t o' small s h) = absurd (omega arith)
 
 -- what is found on the part up to the limit is found on the input
-found_whole : (input : List ℕ) (o : Finding) → Finds (take 1048577 input) o → Finds input o
-found_whole input o h = elim (cut_or_whole 1048577 input) [
+found_whole : (input : List ℕ) (o : Finding) → Finds (take (MAX_BYTES + 1) input) o → Finds input o
+found_whole input o h = elim (cut_or_whole (MAX_BYTES + 1) input) [
   | inl e ↦ subst (λ (x : List ℕ). Finds x o) e h
-  | inr p ↦ long_found input (take 1048577 input) o p.0 p.1 h
+  | inr p ↦ long_found input (take (MAX_BYTES + 1) input) o p.0 p.1 h
 ]
 
 -- what `check` writes for that part it writes for the input
-check_whole : (input text : List ℕ) (status : ℕ) → IsCheckText (take 1048577 input) text status → IsCheckText input text status
+check_whole : (input text : List ℕ) (status : ℕ) → IsCheckText (take (MAX_BYTES + 1) input) text status → IsCheckText input text status
 check_whole input text status h = record { finding = h.finding; finds = found_whole input h.finding h.finds; line = h.line; status_is = h.status_is }
 
 -- an answer to the part up to the limit is one to the input
-answer_whole : (c : Command) (input text : List ℕ) (status : ℕ) → IsAnswer c (take 1048577 input) text status → IsAnswer c input text status
+answer_whole : (c : Command) (input text : List ℕ) (status : ℕ) → IsAnswer c (take (MAX_BYTES + 1) input) text status → IsAnswer c input text status
 answer_whole Score input text status h = trees_whole Scores input text status h
 answer_whole Check input text status h = check_whole input text status h
 answer_whole (Solve limits workers cert) input text status h = trees_whole (Solves limits cert) input text status h
 
 -- a beginning of an answer to that part is a beginning of one to the input
-begun_whole : (c : Command) (input text : List ℕ) → BeginsAnswer c (take 1048577 input) text → BeginsAnswer c input text
+begun_whole : (c : Command) (input text : List ℕ) → BeginsAnswer c (take (MAX_BYTES + 1) input) text → BeginsAnswer c input text
 begun_whole Score input text h = trees_begun Scores input text h
 begun_whole Check input text (inl e) = inl e
 begun_whole Check input text (inr h) = inr (h.0, check_whole input text h.0 h.1)
 begun_whole (Solve limits workers cert) input text h = trees_begun (Solves limits cert) input text h
 
 -- and so it is with an earlier part
-earlier_whole : (c : Command) (input text : List ℕ) → IsEarlierPart c (take 1048577 input) text → IsEarlierPart c input text
+earlier_whole : (c : Command) (input text : List ℕ) → IsEarlierPart c (take (MAX_BYTES + 1) input) text → IsEarlierPart c input text
 earlier_whole Score input text h = trees_earlier Scores input text h
 earlier_whole Check input text e = e
 earlier_whole (Solve limits workers cert) input text h = trees_earlier (Solves limits cert) input text h
@@ -99,14 +100,14 @@ nothing_earlier (Solve limits workers cert) input = nothing
 
 module _ (c : Command) where
   -- what is written on the part up to the limit is written on the input
-  writes_whole : (input : List ℕ) (r : Result ℕ RunFault) (a b : Option (List ℕ)) → Writes c (take 1048577 input) r a b → Writes c input r a b
+  writes_whole : (input : List ℕ) (r : Result ℕ RunFault) (a b : Option (List ℕ)) → Writes c (take (MAX_BYTES + 1) input) r a b → Writes c input r a b
   writes_whole input (Ok status) a b w = (w.0, answer_whole c input w.0 status w.1, w.2)
   writes_whole input (Err Input) a b w = w
   writes_whole input (Err Output) a b w = (w.0, w.1, begun_whole c input w.0 w.2, w.3)
   writes_whole input (Err Memory) a b w = (w.0, earlier_whole c input w.0 w.1, w.2)
 
   -- what is written on what was read up to the limit is written on what the reader had to give
-  pub writes_read : (told : Option (List ℕ)) (bytes : List ℕ) (r : Result ℕ RunFault) (a b : Option (List ℕ)) → IsInput 1048577 told bytes → Writes c bytes r a b
+  pub writes_read : (told : Option (List ℕ)) (bytes : List ℕ) (r : Result ℕ RunFault) (a b : Option (List ℕ)) → IsInput (MAX_BYTES + 1) told bytes → Writes c bytes r a b
       → ForInput told (λ input. Writes c input r a b)
   writes_read None bytes r a b e w = (bytes, w)
   writes_read (Some input) bytes r a b e w = writes_whole input r a b (subst (λ (x : List ℕ). Writes c x r a b) e w)

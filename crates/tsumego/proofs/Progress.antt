@@ -8,6 +8,7 @@ use Rattle.std.proofs.lemmas.List.{take_all, length-drop}
 use Rattle.std.proofs.lemmas.List.Folds.{list_any-append}
 use Rattle.std.specs.List.{list_any}
 use Rattle.std.specs.Io.KnownBytes.{Appends, Keeps}
+use Rattle.tt_sgf.specs.declared.trees.TheConstants.{MAX_BYTES}
 use Rattle.tt_sgf.specs.declared.nodes.Node.{Node}
 use Rattle.tt_sgf.specs.Grammar.{GameTree, HasNoTree, SpelledUpTo, main_line, HasOpen}
 use Rattle.devices.specs.declared.fault.RunFault.{RunFault}
@@ -16,7 +17,7 @@ use Rattle.tsumego.specs.declared.outcome.Outcome.{Outcome}
 use Rattle.tsumego.specs.declared.outcome.Outcome.TheVariants.{Scored, Answered, Refused}
 use Rattle.tsumego.specs.Lines.{WritesOutcome}
 use Rattle.tsumego.specs.Trees.{AreOutcomes, BeginsTreesText, EarlierTreesText, IsTreesText, Reads, all_lines, all_read, before_more, is_refused, line_of, lines_from}
-use Rattle.tsumego.specs.Trees.{most_bytes, nothing, some_lines, stopped, too_long}
+use Rattle.tsumego.specs.Trees.{nothing, some_lines, stopped, too_long}
 use Rattle.devices.specs.Writing.{WritesOf, WritesText}
 
 -- one more tree
@@ -54,7 +55,7 @@ pub record Progress (allowed : List Node → Outcome → Type 0) (input rest : L
   pub os : List Outcome
   pub count : number ≡ length os + 1
   pub reads : Reads allowed input os rest
-  pub small : (os ≡ []) ⊎ (length input ≤ most_bytes)
+  pub small : (os ≡ []) ⊎ (length input ≤ MAX_BYTES)
   pub bad : refused ≡ list_any is_refused os
   pub told : Appends a b (lines_from 1 os)
 
@@ -72,14 +73,14 @@ module _ {allowed : List Node → Outcome → Type 0} {input rest : List ℕ} {n
   nothing_read os e r = subst (λ (x : List Outcome). Reads allowed input x rest) e r
 
   -- where the rest is not too long, nor is the input
-  small_whole : length rest ≤ most_bytes → length input ≤ most_bytes
+  small_whole : length rest ≤ MAX_BYTES → length input ≤ MAX_BYTES
   small_whole le = elim p.small [
-    | inl e ↦ subst (λ (x : List ℕ). length x ≤ most_bytes) (sym (nothing_read p.os e p.reads)) le
+    | inl e ↦ subst (λ (x : List ℕ). length x ≤ MAX_BYTES) (sym (nothing_read p.os e p.reads)) le
     | inr whole ↦ whole
   ]
 
   -- one more tree was read, and its line written
-  pub progress_step : (d : Option (List ℕ)) (used : ℕ) (t : GameTree) (nodes : List Node) (bad : Bool) → SpelledUpTo rest used t → nodes ≡ main_line t → length rest ≤ most_bytes
+  pub progress_step : (d : Option (List ℕ)) (used : ℕ) (t : GameTree) (nodes : List Node) (bad : Bool) → SpelledUpTo rest used t → nodes ≡ main_line t → length rest ≤ MAX_BYTES
       → WritesOutcome allowed number nodes (Ok bad) b d
       → Progress allowed input (take (length rest - used) (drop used rest)) (number + 1) (refused || bad) a d
   progress_step d used t nodes bad s same small w = record {
@@ -112,7 +113,7 @@ module _ {allowed : List Node → Outcome → Type 0} {input rest : List ℕ} {n
 
   -- a fault came where the line of one more tree was to be written
   pub progress_fault : (d : Option (List ℕ)) → (number ≡ 1) ⊎ HasOpen rest → (used : ℕ) (t : GameTree) (nodes : List Node) (e : RunFault) → SpelledUpTo rest used t
-      → nodes ≡ main_line t → length rest ≤ most_bytes
+      → nodes ≡ main_line t → length rest ≤ MAX_BYTES
       → WritesOutcome allowed number nodes (Err e) b d → EndsAs (Err e) a d
   progress_fault d why used t nodes Input s same small w = absurd w
   progress_fault d why used t nodes Memory s same small w = progress_kept d why w
@@ -143,7 +144,7 @@ module _ {allowed : List Node → Outcome → Type 0} {input rest : List ℕ} {n
       (lines_from 1 (p.os ++ Refused code ∷ []), length (lines_from 1 p.os) + w.0, all_lines (p.os ++ Refused code ∷ []) h, cut d (Refused code) w.0 w.1)
 
   -- no tree is spelled, at a bracket or before the first tree
-  pub progress_stopped : (d : Option (List ℕ)) (r : Result ℕ RunFault) → (number ≡ 1) ⊎ HasOpen rest → length rest ≤ most_bytes → HasNoTree rest
+  pub progress_stopped : (d : Option (List ℕ)) (r : Result ℕ RunFault) → (number ≡ 1) ⊎ HasOpen rest → length rest ≤ MAX_BYTES → HasNoTree rest
       → IfOk r (λ status. status ≡ 1) → WritesText (line_of number (Refused 1)) r b d → EndsAs r a d
   progress_stopped d r why small none one w = progress_last d why 1 r (stopped p.os rest (small_whole small) p.reads (goes_on why) none) one w
     where
@@ -153,11 +154,11 @@ module _ {allowed : List Node → Outcome → Type 0} {input rest : List ℕ} {n
       goes_on (inr e) = inr e
 
   -- the rest is too long, which can be at the start alone
-  pub progress_long : (d : Option (List ℕ)) → (number ≡ 1) ⊎ HasOpen rest → (r : Result ℕ RunFault) → most_bytes < length rest → number + length rest ≤ length input + 1
+  pub progress_long : (d : Option (List ℕ)) → (number ≡ 1) ⊎ HasOpen rest → (r : Result ℕ RunFault) → MAX_BYTES < length rest → number + length rest ≤ length input + 1
       → IfOk r (λ status. status ≡ 1) → WritesText (line_of number (Refused 2)) r b d → EndsAs r a d
   progress_long d why r long bound one w = progress_last d why 2 r (elim p.small [
     | inl e ↦ subst (λ (x : List Outcome). AreOutcomes allowed input (x ++ Refused 2 ∷ [])) (sym e)
-        (too_long (subst (λ (x : List ℕ). most_bytes < length x) (sym (nothing_read p.os e p.reads)) long))
+        (too_long (subst (λ (x : List ℕ). MAX_BYTES < length x) (sym (nothing_read p.os e p.reads)) long))
     | inr small ↦ absurd (omega (arith, p.count))
   ]) one w
 
@@ -174,5 +175,5 @@ module _ {allowed : List Node → Outcome → Type 0} {input rest : List ℕ} {n
       some e = more (p.count ∙ ap (λ (l : List Outcome). length l + 1) e)
 
       -- so the input is not too long
-      small : length input ≤ most_bytes
+      small : length input ≤ MAX_BYTES
       small = elim p.small [ inl e ↦ absurd (some e) | inr le ↦ le ]

@@ -2,6 +2,7 @@
 use Rattle.std.proofs.Common.{◌≡◌, ◌+◌, ◌*◌, ◌/◌, ◌%◌, ℕ, zero, suc, Bool, List, [], ◌∷◌, ◌++◌, Option, None, Some, refl, sym, ap, ap₂, ◌∙◌, arith, append_assoc, subst}
 use Rattle.std.proofs.lemmas.List.{append_cancel_left}
 use Rattle.std.proofs.Math.Nat.{div-add-mod}
+use Rattle.tt_sgf.specs.Bytes.{lower_a, space}
 use Rattle.tt_sgf.specs.declared.size.Size.{Size}
 use Rattle.tt_game.specs.declared.frame.Side.{Side}
 use Rattle.tt_game.specs.declared.frame.Side.TheVariants.{Attacker, Defender}
@@ -21,11 +22,11 @@ byte n [] = 0
 byte zero (b ∷ bs) = b
 byte (suc n) (b ∷ bs) = byte n bs
 
-less : (x y : ℕ) → 97 + x ≡ 97 + y → x ≡ y
+less : (x y : ℕ) → lower_a + x ≡ lower_a + y → x ≡ y
 less x y e = omega (arith, e)
 
 -- a point is read off its letters
-points_same : (size : Size) (p q : ℕ) → 97 + p % size.columns ≡ 97 + q % size.columns → 97 + p / size.columns ≡ 97 + q / size.columns → p ≡ q
+points_same : (size : Size) (p q : ℕ) → lower_a + p % size.columns ≡ lower_a + q % size.columns → lower_a + p / size.columns ≡ lower_a + q / size.columns → p ≡ q
 points_same size p q column row =
     let joined = ap₂ (λ x y. size.columns * x + y) (less _ _ row) (less _ _ column) in
     sym (div-add-mod p size.columns) ∙ joined ∙ div-add-mod q size.columns
@@ -40,9 +41,9 @@ turns_same size Pass Pass x y e = refl
 -- and so is a first turn, or that there is none
 firsts_same : (size : Size) (first second : Option Turn) (x y : List ℕ) → first_text size first ++ 10 ∷ x ≡ first_text size second ++ 10 ∷ y → first ≡ second
 firsts_same size None None x y e = refl
-firsts_same size None (Some t) x y e = let bad : 10 ≡ 32 = ap (byte 0) e in absurd (omega (arith, bad))
-firsts_same size (Some t) None x y e = let bad : 32 ≡ 10 = ap (byte 0) e in absurd (omega (arith, bad))
-firsts_same size (Some t) (Some u) x y e = ap Some (turns_same size t u x y (append_cancel_left (32 ∷ []) (shown_turn size t ++ 10 ∷ x) (shown_turn size u ++ 10 ∷ y) e))
+firsts_same size None (Some t) x y e = let bad : 10 ≡ space = ap (byte 0) e in absurd (omega (arith, bad))
+firsts_same size (Some t) None x y e = let bad : space ≡ 10 = ap (byte 0) e in absurd (omega (arith, bad))
+firsts_same size (Some t) (Some u) x y e = ap Some (turns_same size t u x y (append_cancel_left (space ∷ []) (shown_turn size t ++ 10 ∷ x) (shown_turn size u ++ 10 ∷ y) e))
 
 -- what a verdict that begins with the side's word says
 record Says (p : Standing) (side : Side) (rest : List ℕ) : Type 0 where

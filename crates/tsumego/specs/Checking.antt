@@ -1,6 +1,7 @@
 -- What `check` writes for an input: one line on the certificate that follows the first tree.
 use Rattle.std.specs.Prelude.{◌≡◌, ◌<◌, ◌≤◌, ℕ, List, [], ◌∷◌, ◌++◌, length, drop, codes, decimal, Ok, Err}
 use Rattle.std.specs.declared.result.Result.{Result}
+use Rattle.tt_sgf.specs.declared.trees.TheConstants.{MAX_BYTES}
 use Rattle.tt_sgf.specs.Grammar.{GameTree, HasNoTree, SpelledUpTo, main_line}
 use Rattle.tt_sgf.specs.Values.{trimmed}
 use Rattle.tt_game.specs.declared.faults.GameFault.{GameFault}
@@ -13,7 +14,6 @@ use Rattle.tt_proof.specs.Strategy.{Strategy}
 use Rattle.tt_proof.specs.Wins.{Wins}
 use Rattle.tsumego.specs.declared.finding.Finding.{Finding}
 use Rattle.tsumego.specs.declared.finding.Finding.TheVariants.{Valid, Invalid, Refused}
-use Rattle.tsumego.specs.Trees.{most_bytes}
 
 -- What is found on bytes at a problem: a turn lies too deep; or they are no certificate; or they are one, and its tree
 -- wins at the problem or doesn't.
@@ -34,9 +34,9 @@ FindsOn (Err e) bytes o = o ≡ Refused (code_of e)
 -- What is found on the whole input: it is too long; or it has no tree; or the first tree is the problem, and what follows it,
 -- without the white space at both ends, is to be the certificate.
 pub data Finds (input : List ℕ) : Finding → Type 0 where
-  too_long : most_bytes < length input → Finds input (Refused 2)
-  no_tree : length input ≤ most_bytes → HasNoTree input → Finds input (Refused 1)
-  first_tree : (count : ℕ) (t : GameTree) (o : Finding) → length input ≤ most_bytes → SpelledUpTo input count t
+  too_long : MAX_BYTES < length input → Finds input (Refused 2)
+  no_tree : length input ≤ MAX_BYTES → HasNoTree input → Finds input (Refused 1)
+  first_tree : (count : ℕ) (t : GameTree) (o : Finding) → length input ≤ MAX_BYTES → SpelledUpTo input count t
       → FindsOn (problem_of (main_line t)) (trimmed (drop count input)) o → Finds input o
 
 -- the line on a finding; byte 10 ends it

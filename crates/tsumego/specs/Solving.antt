@@ -1,6 +1,7 @@
 -- What `solve` says of a problem: killed or lives with the first turn and a certificate, or unsettled.
 use Rattle.std.specs.Prelude.{◌≡◌, ◌≢◌, ◌≤◌, ℕ, Bool, true, false, List, [], ◌∷◌, ◌++◌, Option, Some, None, Ok, Err, codes}
 use Rattle.std.specs.declared.result.Result.{Result}
+use Rattle.tt_sgf.specs.Bytes.{space}
 use Rattle.tt_sgf.specs.declared.nodes.Node.{Node}
 use Rattle.tt_sgf.specs.declared.size.Size.{Size}
 use Rattle.tt_game.specs.declared.faults.GameFault.{GameFault}
@@ -34,7 +35,7 @@ shown_turn size Pass = codes "pass"
 -- a blank and the first turn, where there is one
 abbrev pub first_text : Size → Option Turn → List ℕ
 first_text size None = []
-first_text size (Some t) = 32 ∷ shown_turn size t
+first_text size (Some t) = space ∷ shown_turn size t
 
 -- the line of a decided problem
 abbrev pub decided_text : Size → Side → Option Turn → List ℕ

@@ -1,6 +1,8 @@
 -- What is written on the game trees of an input: a line each, numbered from 1.
 use Rattle.std.specs.Prelude.{◌≡◌, ◌≢◌, ◌⊎◌, ◌+◌, ◌<◌, ◌≤◌, ℕ, Bool, true, false, List, [], ◌∷◌, ◌++◌, length, drop, codes, decimal, if◌then◌else◌}
 use Rattle.std.specs.List.{list_any}
+use Rattle.tt_sgf.specs.declared.trees.TheConstants.{MAX_BYTES}
+use Rattle.tt_sgf.specs.Bytes.{space}
 use Rattle.tt_sgf.specs.declared.nodes.Node.{Node}
 use Rattle.tt_sgf.specs.Grammar.{GameTree, HasNoTree, HasOpen, SpelledUpTo, main_line}
 use Rattle.tsumego.specs.declared.outcome.Outcome.{Outcome}
@@ -13,7 +15,7 @@ abbrev pub line_of : ℕ → Outcome → List ℕ
 line_of k (Scored r) =
     decimal k ++ (codes " black " ++ (decimal r.black ++ (codes " white " ++ (decimal r.white
     ++ (codes " " ++ ((if r.finished then codes "finished" else codes "unfinished") ++ 10 ∷ []))))))
-line_of k (Answered text) = decimal k ++ (32 ∷ text)
+line_of k (Answered text) = decimal k ++ (space ∷ text)
 line_of k (Refused code) = decimal k ++ (codes " refused " ++ (decimal code ++ 10 ∷ []))
 
 -- the lines on outcomes, the first of which has number k
@@ -37,17 +39,13 @@ Reads allowed bytes [] rest = bytes ≡ rest
 Reads allowed bytes (o ∷ os) rest = (count : ℕ) × (t : GameTree) × SpelledUpTo bytes count t
     × allowed (main_line t) o × Reads allowed (drop count bytes) os rest
 
--- the longest input whose trees are read
-abbrev pub most_bytes : ℕ
-most_bytes = 1048576
-
 -- These are the outcomes for the whole input: it is too long; or it has trees and no further `(`; or reading stops where
 -- no tree is spelled, at a `(` or before the first tree.
 pub data AreOutcomes (allowed : List Node → Outcome → Type 0) (input : List ℕ) : List Outcome → Type 0 where
-  too_long : most_bytes < length input → AreOutcomes allowed input (Refused 2 ∷ [])
-  all_read : (os : List Outcome) (rest : List ℕ) → length input ≤ most_bytes → Reads allowed input os rest
+  too_long : MAX_BYTES < length input → AreOutcomes allowed input (Refused 2 ∷ [])
+  all_read : (os : List Outcome) (rest : List ℕ) → length input ≤ MAX_BYTES → Reads allowed input os rest
       → os ≢ [] → (HasOpen rest → ⊥) → AreOutcomes allowed input os
-  stopped : (os : List Outcome) (rest : List ℕ) → length input ≤ most_bytes → Reads allowed input os rest
+  stopped : (os : List Outcome) (rest : List ℕ) → length input ≤ MAX_BYTES → Reads allowed input os rest
       → (os ≡ []) ⊎ HasOpen rest → HasNoTree rest → AreOutcomes allowed input (os ++ Refused 1 ∷ [])
 
 -- the text is the lines on all outcomes for the input
@@ -60,12 +58,12 @@ pub record IsTreesText (allowed : List Node → Outcome → Type 0) (input text 
 -- the text is the lines on some trees at the input's front, or on all outcomes
 pub data BeginsTreesText (allowed : List Node → Outcome → Type 0) (input : List ℕ) : List ℕ → Type 0 where
   no_line : BeginsTreesText allowed input []
-  some_lines : (os : List Outcome) (rest : List ℕ) → length input ≤ most_bytes → Reads allowed input os rest
+  some_lines : (os : List Outcome) (rest : List ℕ) → length input ≤ MAX_BYTES → Reads allowed input os rest
       → BeginsTreesText allowed input (lines_from 1 os)
   all_lines : (os : List Outcome) → AreOutcomes allowed input os → BeginsTreesText allowed input (lines_from 1 os)
 
 -- the text is the lines on the first trees, each of them whole, and more is to be said: what follows has a `(`
 pub data EarlierTreesText (allowed : List Node → Outcome → Type 0) (input : List ℕ) : List ℕ → Type 0 where
   nothing : EarlierTreesText allowed input []
-  before_more : (os : List Outcome) (rest : List ℕ) → length input ≤ most_bytes → Reads allowed input os rest → HasOpen rest
+  before_more : (os : List Outcome) (rest : List ℕ) → length input ≤ MAX_BYTES → Reads allowed input os rest → HasOpen rest
       → EarlierTreesText allowed input (lines_from 1 os)

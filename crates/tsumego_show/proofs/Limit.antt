@@ -1,7 +1,8 @@
 -- Lemmas on inputs past the limit, of which only a part is read, and on how writing a text ends.
-use Rattle.std.proofs.Common.{refl, [], true, false, ◌≡◌, ◌≤◌, ℕ, Bool, List, inl, inr, Option, None, Some, Ok, Err, length, take, arith, subst, sym, ◌∙◌, append-nil}
+use Rattle.std.proofs.Common.{refl, [], true, false, ◌≡◌, ◌≤◌, ◌+◌, ℕ, Bool, List, inl, inr, Option, None, Some, Ok, Err, length, take, arith, subst, sym, ◌∙◌, append-nil}
 use Rattle.std.specs.declared.result.Result.{Result}
 use Rattle.std.proofs.KnownBytes.{Appends-nil, Keeps-refl}
+use Rattle.tt_sgf.specs.declared.trees.TheConstants.{MAX_BYTES}
 use Rattle.devices.specs.declared.fault.RunFault.{RunFault}
 use Rattle.devices.specs.declared.fault.RunFault.TheVariants.{Input, Output, Memory}
 use Rattle.std.specs.Io.KnownBytes.{Appends, Keeps}
@@ -13,26 +14,26 @@ use Rattle.tsumego_show.specs.Shown.{IsShown, IsTold, too_long, trees}
 use Rattle.tsumego_show.specs.Writing.{Writes}
 
 -- what is told of a part that is too long is told of the input
-long_told : (input part text : List ℕ) (refused : Bool) → length part ≡ 1048577 → 1048577 ≤ length input → IsTold part text refused → IsTold input text refused
+long_told : (input part text : List ℕ) (refused : Bool) → length part ≡ MAX_BYTES + 1 → MAX_BYTES + 1 ≤ length input → IsTold part text refused → IsTold input text refused
 long_told input part text refused e le (too_long long) = too_long (omega arith)
 long_told input part text refused e le (trees text' refused' small h) = absurd (omega arith)
 
 -- what is shown of the part up to the limit is shown of the input
-shown_whole : (input text : List ℕ) (status : ℕ) → IsShown (take 1048577 input) text status → IsShown input text status
-shown_whole input text status h = elim (cut_or_whole 1048577 input) [
+shown_whole : (input text : List ℕ) (status : ℕ) → IsShown (take (MAX_BYTES + 1) input) text status → IsShown input text status
+shown_whole input text status h = elim (cut_or_whole (MAX_BYTES + 1) input) [
   | inl e ↦ subst (λ (x : List ℕ). IsShown x text status) e h
-  | inr p ↦ (h.0, long_told input (take 1048577 input) text h.0 p.0 p.1 h.1, h.2)
+  | inr p ↦ (h.0, long_told input (take (MAX_BYTES + 1) input) text h.0 p.0 p.1 h.1, h.2)
 ]
 
 -- and what is written of it is written of the input
-writes_whole : (input : List ℕ) (r : Result ℕ RunFault) (a b : Option (List ℕ)) → Writes (take 1048577 input) r a b → Writes input r a b
+writes_whole : (input : List ℕ) (r : Result ℕ RunFault) (a b : Option (List ℕ)) → Writes (take (MAX_BYTES + 1) input) r a b → Writes input r a b
 writes_whole input (Ok status) a b w = (w.0, shown_whole input w.0 status w.1, w.2)
 writes_whole input (Err Input) a b w = w
 writes_whole input (Err Output) a b w = (w.0, w.1, (w.2.0, shown_whole input w.0 w.2.0 w.2.1), w.3)
 writes_whole input (Err Memory) a b w = w
 
 -- what is written on the part up to the limit is written on the input
-pub writes_read : (told : Option (List ℕ)) (bytes : List ℕ) (r : Result ℕ RunFault) (a b : Option (List ℕ)) → IsInput 1048577 told bytes → Writes bytes r a b
+pub writes_read : (told : Option (List ℕ)) (bytes : List ℕ) (r : Result ℕ RunFault) (a b : Option (List ℕ)) → IsInput (MAX_BYTES + 1) told bytes → Writes bytes r a b
     → ForInput told (λ input. Writes input r a b)
 writes_read None bytes r a b e w = (bytes, w)
 writes_read (Some input) bytes r a b e w = writes_whole input r a b (subst (λ (x : List ℕ). Writes x r a b) e w)

@@ -2,6 +2,7 @@
 use Rattle.std.proofs.Common.{◌≡◌, ◌≤◌, ◌<◌, ◌+◌, ◌-◌, ◌⊎◌, ℕ, List, [], ◌++◌, Bool, true, false, ◌||◌, inl, inr, refl, sym, ap, ap₂, ◌∙◌, length, take, drop, arith, append-nil}
 use Rattle.std.proofs.Common.{append_assoc, subst, if◌then◌else◌, Ok, Err, OnOk}
 use Rattle.std.specs.declared.result.Result.{Result}
+use Rattle.tt_sgf.specs.declared.trees.TheConstants.{MAX_BYTES}
 use Rattle.tt_sgf.specs.Values.{trimmed}
 use Rattle.tt_game.specs.Line.{Standing}
 use Rattle.tsumego_show.specs.Drawing.{Draws}
@@ -9,7 +10,7 @@ use Rattle.std.proofs.lemmas.List.{take_all, length-drop}
 use Rattle.tt_sgf.specs.declared.nodes.Node.{Node}
 use Rattle.tt_sgf.specs.Grammar.{GameTree, HasNoTree, SpelledUpTo, main_line, HasOpen}
 use Rattle.tt_game.specs.Problems.{problem_of}
-use Rattle.tsumego_show.specs.Shown.{DrawsBehind, IsShown, IsTold, IsTreeText, Tells, ended, is_refused, last_tree, more_trees, most_bytes, problem_text, refusal, stopped}
+use Rattle.tsumego_show.specs.Shown.{DrawsBehind, IsShown, IsTold, IsTreeText, Tells, ended, is_refused, last_tree, more_trees, problem_text, refusal, stopped}
 use Rattle.tsumego_show.specs.Shown.{too_long, tree, trees}
 
 -- the brackets of an `or` of three
@@ -49,20 +50,20 @@ tree_more input k rest text refused used t nodes text' bad far s same w b = λ m
 -- what is read and told so far; an input with a tree is not too long
 pub record Progress (input rest text : List ℕ) (k : ℕ) (refused : Bool) : Type 0 where
   pub some : 1 ≤ k
-  pub small : ((k ≡ 1) × (rest ≡ input) × (text ≡ [])) ⊎ (length input ≤ most_bytes)
+  pub small : ((k ≡ 1) × (rest ≡ input) × (text ≡ [])) ⊎ (length input ≤ MAX_BYTES)
   pub far : IsSoFar input k rest text refused
 
 module _ {input rest text : List ℕ} {k : ℕ} {refused : Bool} (p : Progress input rest text k refused) where
   -- where the rest is not too long, the input isn't
-  small_whole : length rest ≤ most_bytes → length input ≤ most_bytes
+  small_whole : length rest ≤ MAX_BYTES → length input ≤ MAX_BYTES
   small_whole le = elim p.small [
-    | inl e ↦ subst (λ (x : List ℕ). length x ≤ most_bytes) e.1 le
+    | inl e ↦ subst (λ (x : List ℕ). length x ≤ MAX_BYTES) e.1 le
     | inr whole ↦ whole
   ]
 
   -- one more tree is read and told
   pub progress_step : (used : ℕ) (t : GameTree) (nodes : List Node) (text' : List ℕ) (bad : Bool) → SpelledUpTo rest used t → nodes ≡ main_line t
-      → length rest ≤ most_bytes → (x : List ℕ) × IsTreeText k (problem_of nodes) (take (length rest - used) (drop used rest)) x × (text' ≡ text ++ x) → bad ≡ is_refused (problem_of nodes)
+      → length rest ≤ MAX_BYTES → (x : List ℕ) × IsTreeText k (problem_of nodes) (take (length rest - used) (drop used rest)) x × (text' ≡ text ++ x) → bad ≡ is_refused (problem_of nodes)
       → Progress input (take (length rest - used) (drop used rest)) text' (k + 1) (refused || bad)
   progress_step used t nodes text' bad s same small e b = record {
     some = omega (arith, p.some);
@@ -71,7 +72,7 @@ module _ {input rest text : List ℕ} {k : ℕ} {refused : Bool} (p : Progress i
   }
 
   -- no tree is spelled, at a bracket or before the first tree
-  pub progress_stopped : (k ≡ 1) ⊎ HasOpen rest → length rest ≤ most_bytes → HasNoTree rest → (text' : List ℕ) → text' ≡ text ++ refusal k 1 → IsShown input text' 1
+  pub progress_stopped : (k ≡ 1) ⊎ HasOpen rest → length rest ≤ MAX_BYTES → HasNoTree rest → (text' : List ℕ) → text' ≡ text ++ refusal k 1 → IsShown input text' 1
   progress_stopped why small none text' e = (
     refused || true,
     trees text' (refused || true) (small_whole small)
@@ -80,11 +81,11 @@ module _ {input rest text : List ℕ} {k : ℕ} {refused : Bool} (p : Progress i
   )
 
   -- the rest is too long, which can be at the start alone
-  pub progress_long : most_bytes < length rest → k + length rest ≤ length input + 1 → (text' : List ℕ) → text' ≡ text ++ refusal k 2 → IsShown input text' 1
+  pub progress_long : MAX_BYTES < length rest → k + length rest ≤ length input + 1 → (text' : List ℕ) → text' ≡ text ++ refusal k 2 → IsShown input text' 1
   progress_long long bound text' e = elim p.small [
     | inl h ↦
         let told : text' ≡ refusal 1 2 = e ∙ ap₂ (λ (x : List ℕ) n. x ++ refusal n 2) h.2 h.0 in
-        (true, subst (λ (x : List ℕ). IsTold input x true) (sym told) (too_long (subst (λ (x : List ℕ). most_bytes < length x) h.1 long)), refl)
+        (true, subst (λ (x : List ℕ). IsTold input x true) (sym told) (too_long (subst (λ (x : List ℕ). MAX_BYTES < length x) h.1 long)), refl)
     | inr small ↦ absurd (omega (arith, p.some))
   ]
 

@@ -1,6 +1,7 @@
 -- What is drawn of a certificate: the board after the first turn of its side, and its strategy as an indented tree, a line for each
 -- turn, and what follows it further in.
 use Rattle.std.specs.Prelude.{◌≡◌, ◌+◌, ◌-◌, ◌==◌, ℕ, nat_lt, nat_eq, List, [], ◌∷◌, ◌++◌, codes, replicate, Some, if◌then◌else◌}
+use Rattle.tt_sgf.specs.Bytes.{space}
 use Rattle.tt_sgf.specs.declared.size.Size.{Size}
 use Rattle.tt_board.specs.declared.Colour.{Colour}
 use Rattle.tt_board.specs.Play.{other}
@@ -26,7 +27,7 @@ module _ (size : Size) where
 
   -- blanks, who plays, and the turn; byte 10 ends the line
   unfoldable pub turn_line : ℕ → Colour → Turn → List ℕ
-  turn_line level k t = replicate level 32 ++ (colour_name k ++ (32 ∷ (shown_turn t ++ 10 ∷ [])))
+  turn_line level k t = replicate level space ++ (colour_name k ++ (space ∷ (shown_turn t ++ 10 ∷ [])))
 
   module _ (own : Colour) where
     abbrev mutual
@@ -76,7 +77,7 @@ module _ (p : Standing) where
 
   -- `After Black ca:`
   abbrev pub turned_head : Turn → List ℕ
-  turned_head t = codes "After " ++ (colour_name (colour_of p.frame p.state.to_move) ++ (32 ∷ (shown_turn p.frame.size t ++ codes ":\n")))
+  turned_head t = codes "After " ++ (colour_name (colour_of p.frame p.state.to_move) ++ (space ∷ (shown_turn p.frame.size t ++ codes ":\n")))
 
   -- that, and the board then
   abbrev pub turned_text : Turn → List ℕ

@@ -3,6 +3,7 @@
 use Rattle.std.specs.Prelude.{ℕ, zero, suc, ◌+◌, ◌-◌, ◌%◌, ◌&&◌, ◌||◌, not, nat_eq, nat_le, nat_lt, Bool, false, List, [], ◌∷◌, ◌++◌, codes, map, slice_index_or, if◌then◌else◌}
 use Rattle.std.specs.List.{flat_map, range_with_len}
 use Rattle.std.specs.FinSet as set
+use Rattle.tt_sgf.specs.Bytes.{space}
 use Rattle.tt_sgf.specs.declared.size.Size.{Size}
 use Rattle.tt_sgf.specs.Sizes.{point_count}
 use Rattle.tt_board.specs.declared.Colour.{Colour}
@@ -135,7 +136,7 @@ module _ (p : Standing) where
 
   -- a blank and the name of a point, where it is marked
   unfoldable pub name_if : List Bool → ℕ → List ℕ
-  name_if m q = if is_marked m q then 32 ∷ turn_text p.frame.size (Play q) else []
+  name_if m q = if is_marked m q then space ∷ turn_text p.frame.size (Play q) else []
 
   -- the names of the marked points
   abbrev pub points_text : List Bool → List ℕ

@@ -2,6 +2,7 @@
 use Rattle.std.specs.Prelude.{ℕ, nat_eq, ◌+◌, ◌*◌, Bool, true, false, List, [], ◌∷◌, ◌++◌, codes, decimal, length, Option, Some, None, if◌then◌else◌}
 use Rattle.std.specs.List.{flat_map, range_with_len}
 use Rattle.std.specs.FinSet as set
+use Rattle.tt_sgf.specs.Bytes.{lower_a, space}
 use Rattle.tt_sgf.specs.declared.size.Size.{Size}
 use Rattle.tt_board.specs.declared.Colour.{Colour}
 use Rattle.tt_board.specs.declared.Colour.TheVariants.{Black, White}
@@ -37,15 +38,15 @@ mark_at p n = mark_of (set.contains p.frame.targets n) (set.contains p.frame.reg
 
 -- what is shown in each of so many columns, with a blank in front
 abbrev pub columns_text : (ℕ → ℕ) → ℕ → List ℕ
-columns_text shown columns = flat_map (λ column. 32 ∷ shown column ∷ []) (range_with_len 0 columns)
+columns_text shown columns = flat_map (λ column. space ∷ shown column ∷ []) (range_with_len 0 columns)
 
 -- the letter of a column or a row: a is the first
 abbrev pub letter : ℕ → ℕ
-letter n = 97 + n
+letter n = lower_a + n
 
 -- the letters of the columns
 abbrev pub letters_line : Size → List ℕ
-letters_line size = 32 ∷ (columns_text letter size.columns ++ 10 ∷ [])
+letters_line size = space ∷ (columns_text letter size.columns ++ 10 ∷ [])
 
 -- what is shown of the points of a row, column by column
 abbrev pub shown_in : Standing → ℕ → ℕ → ℕ

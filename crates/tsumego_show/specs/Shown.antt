@@ -1,6 +1,8 @@
 -- What is written for an input: a text on each of its game trees.
 use Rattle.std.specs.Prelude.{◌≡◌, ◌⊎◌, ◌+◌, ◌<◌, ◌≤◌, ℕ, Bool, true, false, ◌||◌, List, [], ◌∷◌, ◌++◌, length, drop, codes, decimal, Ok, Err, if◌then◌else◌}
 use Rattle.std.specs.declared.result.Result.{Result}
+use Rattle.tt_sgf.specs.declared.trees.TheConstants.{MAX_BYTES}
+use Rattle.tt_sgf.specs.Bytes.{space}
 use Rattle.tt_sgf.specs.Grammar.{GameTree, HasNoTree, HasOpen, SpelledUpTo, main_line}
 use Rattle.tt_game.specs.declared.faults.GameFault.{GameFault}
 use Rattle.tt_game.specs.Faults.{code_of}
@@ -23,7 +25,7 @@ pub data DrawsBehind (p : Standing) (behind : List ℕ) : List ℕ → Type 0 wh
 
 -- the number, the picture and the hints
 abbrev pub problem_text : ℕ → Standing → List ℕ
-problem_text k p = decimal k ++ (32 ∷ (picture p ++ hints p))
+problem_text k p = decimal k ++ (space ∷ (picture p ++ hints p))
 
 -- the text on tree number k, which is a problem or refused, and is followed by these bytes
 abbrev pub IsTreeText : ℕ → Result Standing GameFault → List ℕ → List ℕ → Type 0
@@ -43,14 +45,10 @@ pub data Tells : ℕ → List ℕ → List ℕ → Bool → Type 0 where
   ended : (k : ℕ) (bytes : List ℕ) → 1 < k → (HasOpen bytes → ⊥) → Tells k bytes [] false
   stopped : (k : ℕ) (bytes : List ℕ) → (k ≡ 1) ⊎ HasOpen bytes → HasNoTree bytes → Tells k bytes (refusal k 1) true
 
--- the longest input whose trees are read
-abbrev pub most_bytes : ℕ
-most_bytes = 1048576
-
 -- the text for an input, and whether something is refused: the input is too long, or its trees are told from number 1 on
 pub data IsTold (input : List ℕ) : List ℕ → Bool → Type 0 where
-  too_long : most_bytes < length input → IsTold input (refusal 1 2) true
-  trees : (text : List ℕ) (refused : Bool) → length input ≤ most_bytes → Tells 1 input text refused → IsTold input text refused
+  too_long : MAX_BYTES < length input → IsTold input (refusal 1 2) true
+  trees : (text : List ℕ) (refused : Bool) → length input ≤ MAX_BYTES → Tells 1 input text refused → IsTold input text refused
 
 -- the text for an input and the exit status: 1 where something is refused
 abbrev pub IsShown : List ℕ → List ℕ → ℕ → Type 0

@@ -1,5 +1,6 @@
 //! Draws what follows a problem: the first turn and the strategy of a certificate.
 ghost use Rattle.std.specs.Prelude.{◌≡◌, ◌≢◌, ◌++◌, ◌∷◌, ◌==◌, ◌-◌, [], ℕ, List, replicate, if◌then◌else◌, OnOk};
+ghost use Rattle.tt_sgf.specs.Bytes.{space};
 ghost use Rattle.tt_proof.specs.Strategy.{AreInOrder, IsInOrder, IsOnBoard, entries_of_trees, strategy_of};
 ghost use Rattle.tsumego_show.specs.Picture.{colour_name};
 ghost use Rattle.tsumego_show.specs.Drawing.{Draws, DrawsFirst, deep_line, deeper, entries_lines, first_lines, heading, most_lines, none_line, shown_turn, strategy_text, tree_lines, turn_line};
@@ -25,7 +26,7 @@ fn deeper(level: usize) -> usize
 
 /// Writes so many blanks behind the text.
 fn put_blanks(out: &mut Vec<u8>, level: usize) -> Result<(), NoMemory>
-    ensures { OnOk result (out.new.items ≡ out.old.items ++ replicate level 32) }
+    ensures { OnOk result (out.new.items ≡ out.old.items ++ replicate level space) }
 {
     for _blank in 0..level {
         out.push(b' ')?;
@@ -36,7 +37,7 @@ fn put_blanks(out: &mut Vec<u8>, level: usize) -> Result<(), NoMemory>
 /// Writes who plays and a turn behind the text.
 fn put_played(out: &mut Vec<u8>, turn: Turn, size: Size, colour: Colour) -> Result<(), NoMemory>
     requires { IsOnBoard size turn }
-    ensures { OnOk result (out.new.items ≡ out.old.items ++ colour_name colour ++ 32 ∷ (shown_turn size turn ++ 10 ∷ [])) }
+    ensures { OnOk result (out.new.items ≡ out.old.items ++ colour_name colour ++ space ∷ (shown_turn size turn ++ 10 ∷ [])) }
 {
     out.extend_from_slice(colour_name(colour))?;
     out.push(b' ')?;

@@ -1,6 +1,7 @@
 //! The picture of a problem.
 ghost use Rattle.std.specs.Prelude.{◌≡◌, ◌∷◌, ◌++◌, ◌+◌, ◌*◌, ◌<◌, [], length, OnOk};
 ghost use Rattle.std.specs.List.{flat_map, range_with_len};
+ghost use Rattle.tt_sgf.specs.Bytes.{space};
 ghost use Rattle.tt_sgf.specs.Sizes.{point_count};
 ghost use Rattle.tt_game.specs.Game.{colour_of};
 ghost use Rattle.tsumego_show.specs.Picture.{asked_line, board_text, colour_name, columns_text, earlier_text, letter, letters_line, mark_at};
@@ -71,7 +72,7 @@ fn point_at(size: Size, column: u16, row: u16) -> Point
 
 /// Writes a blank and a mark behind the text.
 fn put_spaced(out: &mut Vec<u8>, mark: u8) -> Result<(), NoMemory>
-    ensures { OnOk result (out.new.items ≡ out.old.items ++ 32 ∷ mark ∷ []) }
+    ensures { OnOk result (out.new.items ≡ out.old.items ++ space ∷ mark ∷ []) }
 {
     out.push(b' ')?;
     out.push(mark)?;

@@ -11,6 +11,8 @@ use Rattle.std.specs.Prelude.{bit_and, bit_or, bit_xor, ◌↔◌, Option, Some,
 use Rattle.std.specs.Cmp.{nat_cmp_total, unsigned_tied}
 use Rattle.std.specs.Ordering.{nat_cmp, eq_by_cmp}
 use Rattle.std.specs.FinSet as set
+use Rattle.tt_sgf.specs.declared.size.TheConstants.{MOST_POINTS}
+use Rattle.tt_sgf.specs.declared.bits.TheConstants.{BITS}
 use Rattle.tt_sgf.specs.Points.{passing}
 use Rattle.tt_sgf.specs.PointLaws.{passing-zero, passing-in, passing-out, contains-passing}
 use Rattle.tt_sgf.specs.Words.{bit_in, points_of, IsLow, AreSameBits, AreOfPoints, AreCovered}
@@ -42,7 +44,7 @@ unfolding bit_in
 no_bit q = rw (zeros (q / 64), bit_at-zero (q % 64)) refl
 
 -- a word put in place of another, in which one bit is set or cleared
-module _ (words : List ℕ) (n : ℕ) (within : n < 384) (wide : length words ≡ 6) where
+module _ (words : List ℕ) (n : ℕ) (within : n < BITS) (wide : length words ≡ 6) where
   -- a bit is read from the word that was put in its place
   bit_of-word : (w : ℕ) (value : ℕ) → bit_at w (n % 64) ≡ value → bit_in (put words (n / 64) w) n ≡ eqb value 1
   unfolding bit_in
@@ -106,38 +108,40 @@ tied : (q n : ℕ) → eq_by_cmp nat_cmp q n ≡ eqb q n
 tied q n = unsigned_tied q n
 
 -- a number is in the set where it is a point's and its bit is 1
-pub contains-points : (words : List ℕ) (q : ℕ) → set.contains (points_of words) q ≡ (ltb q 361 && bit_in words q)
+pub contains-points : (words : List ℕ) (q : ℕ) → set.contains (points_of words) q ≡ (ltb q MOST_POINTS && bit_in words q)
 unfolding points_of
-contains-points words q = contains-passing (bit_in words) 361 q
+contains-points words q = contains-passing (bit_in words) MOST_POINTS q
 
 -- below 361 a number is in the set exactly where its bit is 1
-pub has_point : (words : List ℕ) (q : ℕ) → q < 361 → set.contains (points_of words) q ≡ bit_in words q
-has_point words q lt = contains-points words q ∙ rw (lt-ltb q 361 lt) refl
+pub has_point : (words : List ℕ) (q : ℕ) → q < MOST_POINTS → set.contains (points_of words) q ≡ bit_in words q
+has_point words q lt = contains-points words q ∙ rw (lt-ltb q MOST_POINTS lt) refl
 
 -- a set is known by its members
 same_points : (s t : set.FinSet nat_cmp) → ((q : ℕ) → set.contains s q ≡ set.contains t q) → s ≡ t
 same_points s t h = set.same_set nat_cmp_total set.nat_cmp-IsAntisymmetric s t h
 
 -- one more bit is one more point
-pub points-with : (words made : List ℕ) (p : ℕ) → p < 361 → bit_in made p ≡ true → ((q : ℕ) → q < 384 → (q ≡ p → ⊥) → bit_in made q ≡ bit_in words q) → points_of made ≡ set.insert (points_of words) p
+pub points-with : (words made : List ℕ) (p : ℕ) → p < MOST_POINTS → bit_in made p ≡ true → ((q : ℕ) → q < BITS → (q ≡ p → ⊥) → bit_in made q ≡ bit_in words q)
+    → points_of made ≡ set.insert (points_of words) p
 points-with words made p lt same others = same_points _ _ (λ q.
     contains-points made q ∙ sym (set.contains-insert nat_cmp_total (points_of words) p q ∙ rw (tied q p, contains-points words q) (elim (cases_eq q p) [
-      | inl e ↦ rw (e, eq-eqb p p refl, lt-ltb p 361 lt, same) refl
-      | inr d ↦ rw (ne_eqb q p d) (elim (cases_lt q 361) [
-        | inl below ↦ rw (lt-ltb q 361 below, others q (omega arith) d) refl
-        | inr above ↦ rw (le-ltb q 361 above) refl
+      | inl e ↦ rw (e, eq-eqb p p refl, lt-ltb p MOST_POINTS lt, same) refl
+      | inr d ↦ rw (ne_eqb q p d) (elim (cases_lt q MOST_POINTS) [
+        | inl below ↦ rw (lt-ltb q MOST_POINTS below, others q (omega arith) d) refl
+        | inr above ↦ rw (le-ltb q MOST_POINTS above) refl
       ])
     ])))
 
 -- ---- how many, and the least
 
--- a number that passes counts as one more, and one that doesn't as none
+-- a number that passes counts as one more
 pub len-passing-in : (f : ℕ → Bool) (n : ℕ) → f n ≡ true → set.len (passing f (n + 1)) ≡ set.len (passing f n) + 1
 len-passing-in f n h =
     let out : set.contains (passing f n) n ≡ false = contains-passing f n n ∙ rw (le-ltb n n (omega arith)) refl in
     let up : n + 1 ≡ suc n = omega arith in
     ap (λ k. set.len (passing f k)) up ∙ ap set.len (passing-in f n h) ∙ set.len-insert nat_cmp_total (passing f n) n ∙ rw out refl
 
+-- a number that doesn't pass counts as none
 pub len-passing-out : (f : ℕ → Bool) (n : ℕ) → f n ≡ false → set.len (passing f (n + 1)) ≡ set.len (passing f n)
 len-passing-out f n h =
     let up : n + 1 ≡ suc n = omega arith in
@@ -147,15 +151,15 @@ len-passing-out f n h =
 pub len-passing-none : (f : ℕ → Bool) → set.len (passing f 0) ≡ 0
 len-passing-none f = ap set.len (passing-zero f) ∙ set.len-empty nat_cmp
 
-pub len-points : (words : List ℕ) → set.len (points_of words) ≡ set.len (passing (bit_in words) 361)
+pub len-points : (words : List ℕ) → set.len (points_of words) ≡ set.len (passing (bit_in words) MOST_POINTS)
 unfolding points_of
 len-points words = refl
 
 -- no point is in a set without bits
-pub points-empty : (words : List ℕ) → ((q : ℕ) → q < 361 → bit_in words q ≡ false) → points_of words ≡ set.empty
-points-empty words h = same_points _ _ (λ q. contains-points words q ∙ elim (cases_lt q 361) [
-  | inl below ↦ rw (h q below) (and_false (ltb q 361))
-  | inr above ↦ rw (le-ltb q 361 above) refl
+pub points-empty : (words : List ℕ) → ((q : ℕ) → q < MOST_POINTS → bit_in words q ≡ false) → points_of words ≡ set.empty
+points-empty words h = same_points _ _ (λ q. contains-points words q ∙ elim (cases_lt q MOST_POINTS) [
+  | inl below ↦ rw (h q below) (and_false (ltb q MOST_POINTS))
+  | inr above ↦ rw (le-ltb q MOST_POINTS above) refl
 ] ∙ sym (set.contains-empty nat_cmp q))
 
 -- the least point from 0 on is the least of all
@@ -211,14 +215,14 @@ other_bit (suc (suc y)) h = absurd (omega arith)
 
 module _ (made a b : List ℕ) where
   -- the words' `and` has the bits that both have
-  pub bit-and : ((k : ℕ) → k < 6 → get_or made k 0 ≡ bit_and (get_or a k 0) (get_or b k 0)) → (q : ℕ) → q < 384 → bit_in made q ≡ (bit_in a q && bit_in b q)
+  pub bit-and : ((k : ℕ) → k < 6 → get_or made k 0 ≡ bit_and (get_or a k 0) (get_or b k 0)) → (q : ℕ) → q < BITS → bit_in made q ≡ (bit_in a q && bit_in b q)
   unfolding bit_in
   bit-and h q lt =
       ap (λ w. eqb (bit_at w (q % 64)) 1) (h (q / 64) (omega arith)) ∙ ap (λ x. eqb x 1) (bit_at_and (get_or a (q / 64) 0) (get_or b (q / 64) 0) (q % 64))
       ∙ two_bits (bit_at (get_or a (q / 64) 0) (q % 64)) (bit_at (get_or b (q / 64) 0) (q % 64)) (bit_at-lt _ _) (bit_at-lt _ _)
 
   -- the `and` of words and of others' complement has the bits of the first ones alone
-  pub bit-minus : ((k : ℕ) → k < 6 → get_or b k 0 < 2 ^ 64) → ((k : ℕ) → k < 6 → get_or made k 0 ≡ bit_and (get_or a k 0) (bit_not w64 (get_or b k 0))) → (q : ℕ) → q < 384
+  pub bit-minus : ((k : ℕ) → k < 6 → get_or b k 0 < 2 ^ 64) → ((k : ℕ) → k < 6 → get_or made k 0 ≡ bit_and (get_or a k 0) (bit_not w64 (get_or b k 0))) → (q : ℕ) → q < BITS
       → bit_in made q ≡ (bit_in a q && not (bit_in b q))
   unfolding bit_in
   bit-minus fits h q lt =
@@ -230,38 +234,38 @@ module _ (made a b : List ℕ) where
       ∙ two_bits (bit_at x i) (1 - bit_at y i) (bit_at-lt x i) (omega (arith, bit_at-lt y i)) ∙ ap (λ z. eqb (bit_at x i) 1 && z) (other_bit (bit_at y i) (bit_at-lt y i))
 
   -- the bits that both have are the points that both sets have
-  pub points-and : ((q : ℕ) → q < 384 → bit_in made q ≡ (bit_in a q && bit_in b q)) → points_of made ≡ set.intersection (points_of a) (points_of b)
+  pub points-and : ((q : ℕ) → q < BITS → bit_in made q ≡ (bit_in a q && bit_in b q)) → points_of made ≡ set.intersection (points_of a) (points_of b)
   points-and h = same_points _ _ (λ q. contains-points made q
-      ∙ sym (set.contains-intersection nat_cmp_total (points_of a) (points_of b) q ∙ rw (contains-points a q, contains-points b q) (elim (cases_lt q 361) [
-        | inl below ↦ rw (lt-ltb q 361 below) (sym (h q (omega arith)))
-        | inr above ↦ rw (le-ltb q 361 above) refl
+      ∙ sym (set.contains-intersection nat_cmp_total (points_of a) (points_of b) q ∙ rw (contains-points a q, contains-points b q) (elim (cases_lt q MOST_POINTS) [
+        | inl below ↦ rw (lt-ltb q MOST_POINTS below) (sym (h q (omega arith)))
+        | inr above ↦ rw (le-ltb q MOST_POINTS above) refl
       ])))
 
   -- the bits of the first words alone are the points of the first set alone
-  pub points-minus : ((q : ℕ) → q < 384 → bit_in made q ≡ (bit_in a q && not (bit_in b q))) → points_of made ≡ set.difference (points_of a) (points_of b)
+  pub points-minus : ((q : ℕ) → q < BITS → bit_in made q ≡ (bit_in a q && not (bit_in b q))) → points_of made ≡ set.difference (points_of a) (points_of b)
   points-minus h = same_points _ _ (λ q. contains-points made q
-      ∙ sym (set.contains-difference nat_cmp_total (points_of a) (points_of b) q ∙ rw (contains-points a q, contains-points b q) (elim (cases_lt q 361) [
-        | inl below ↦ rw (lt-ltb q 361 below) (sym (h q (omega arith)))
-        | inr above ↦ rw (le-ltb q 361 above) refl
+      ∙ sym (set.contains-difference nat_cmp_total (points_of a) (points_of b) q ∙ rw (contains-points a q, contains-points b q) (elim (cases_lt q MOST_POINTS) [
+        | inl below ↦ rw (lt-ltb q MOST_POINTS below) (sym (h q (omega arith)))
+        | inr above ↦ rw (le-ltb q MOST_POINTS above) refl
       ])))
 
   -- the words' `or` has the bits that one of them has
-  pub bit-or : ((k : ℕ) → k < 6 → get_or made k 0 ≡ bit_or (get_or a k 0) (get_or b k 0)) → (q : ℕ) → q < 384 → bit_in made q ≡ (bit_in a q || bit_in b q)
+  pub bit-or : ((k : ℕ) → k < 6 → get_or made k 0 ≡ bit_or (get_or a k 0) (get_or b k 0)) → (q : ℕ) → q < BITS → bit_in made q ≡ (bit_in a q || bit_in b q)
   unfolding bit_in
   bit-or h q lt =
       ap (λ w. eqb (bit_at w (q % 64)) 1) (h (q / 64) (omega arith)) ∙ ap (λ x. eqb x 1) (bit_at_or (get_or a (q / 64) 0) (get_or b (q / 64) 0) (q % 64))
       ∙ two_bits_or (bit_at (get_or a (q / 64) 0) (q % 64)) (bit_at (get_or b (q / 64) 0) (q % 64)) (bit_at-lt _ _) (bit_at-lt _ _)
 
   -- the bits that one of them has are the points that one of the sets has
-  pub points-or : ((q : ℕ) → q < 384 → bit_in made q ≡ (bit_in a q || bit_in b q)) → points_of made ≡ set.union (points_of a) (points_of b)
+  pub points-or : ((q : ℕ) → q < BITS → bit_in made q ≡ (bit_in a q || bit_in b q)) → points_of made ≡ set.union (points_of a) (points_of b)
   points-or h = same_points _ _ (λ q. contains-points made q
-      ∙ sym (set.contains-union nat_cmp_total (points_of a) (points_of b) q ∙ rw (contains-points a q, contains-points b q) (elim (cases_lt q 361) [
-        | inl below ↦ rw (lt-ltb q 361 below) (sym (h q (omega arith)))
-        | inr above ↦ rw (le-ltb q 361 above) refl
+      ∙ sym (set.contains-union nat_cmp_total (points_of a) (points_of b) q ∙ rw (contains-points a q, contains-points b q) (elim (cases_lt q MOST_POINTS) [
+        | inl below ↦ rw (lt-ltb q MOST_POINTS below) (sym (h q (omega arith)))
+        | inr above ↦ rw (le-ltb q MOST_POINTS above) refl
       ])))
 
   -- a bit of the words' `xor` is 0 exactly where the two agree
-  pub bit-xor : ((k : ℕ) → k < 6 → get_or made k 0 ≡ bit_xor (get_or a k 0) (get_or b k 0)) → (q : ℕ) → q < 384 → (bit_in made q ≡ false) ↔ (bit_in a q ≡ bit_in b q)
+  pub bit-xor : ((k : ℕ) → k < 6 → get_or made k 0 ≡ bit_xor (get_or a k 0) (get_or b k 0)) → (q : ℕ) → q < BITS → (bit_in made q ≡ false) ↔ (bit_in a q ≡ bit_in b q)
   unfolding bit_in
   bit-xor h q lt =
       let x = get_or a (q / 64) 0 in
@@ -285,11 +289,11 @@ low_mask word count few = λ i small.
 
 module _ (made words : List ℕ) (count : ℕ) (low : (k : ℕ) → k < 6 → IsLow (get_or made k 0) (get_or words k 0) (count - 64 * k)) where
   -- where each word keeps its lowest bits, those below the count stay and all others are 0
-  pub low_kept : (q : ℕ) → q < 384 → q < count → bit_in made q ≡ bit_in words q
+  pub low_kept : (q : ℕ) → q < BITS → q < count → bit_in made q ≡ bit_in words q
   unfolding bit_in
   low_kept q lt below = ap (λ x. eqb x 1) ((low (q / 64) (omega arith) (q % 64) (omega arith)).0 (omega arith))
 
-  pub low_none : (q : ℕ) → q < 384 → count ≤ q → bit_in made q ≡ false
+  pub low_none : (q : ℕ) → q < BITS → count ≤ q → bit_in made q ≡ false
   unfolding bit_in
   low_none q lt above = ap (λ x. eqb x 1) ((low (q / 64) (omega arith) (q % 64) (omega arith)).1 (omega arith))
 
@@ -297,7 +301,7 @@ module _ (made words : List ℕ) (count : ℕ) (low : (k : ℕ) → k < 6 → Is
 bit_from : (word i j : ℕ) → bit_at (word / 2 ^ i) j ≡ bit_at word (i + j)
 bit_from word i j = ap (λ x. x % 2) (shr-shr word i j)
 
-module _ (words : List ℕ) (n : ℕ) (lt : n < 384) where
+module _ (words : List ℕ) (n : ℕ) (lt : n < BITS) where
   -- a bit of the word of n, from n on, is one of what is left of the word, shifted down to n
   rest_bit : (rest : ℕ) → rest ≡ get_or words (n / 64) 0 / 2 ^ (n % 64) → (q : ℕ) → n ≤ q → q / 64 ≡ n / 64 → bit_in words q ≡ eqb (bit_at rest (q - n)) 1
   unfolding bit_in
@@ -307,7 +311,7 @@ module _ (words : List ℕ) (n : ℕ) (lt : n < 384) where
 
   -- the lowest bit of what is left of a word
   pub first_here : (rest : ℕ) → rest ≡ get_or words (n / 64) 0 / 2 ^ (n % 64) → 0 < rest → get_or words (n / 64) 0 < 2 ^ 64
-      → (bit_in words (n + trailing_zeros w64 rest) ≡ true) × (n + trailing_zeros w64 rest < 384) × ((q : ℕ) → n ≤ q → q < n + trailing_zeros w64 rest → bit_in words q ≡ false)
+      → (bit_in words (n + trailing_zeros w64 rest) ≡ true) × (n + trailing_zeros w64 rest < BITS) × ((q : ℕ) → n ≤ q → q < n + trailing_zeros w64 rest → bit_in words q ≡ false)
   first_here rest is some fits =
       let small : rest < 2 ^ 64 = omega (arith, is, Rattle.std.proofs.lemmas.Nat.shr_le (get_or words (n / 64) 0) (n % 64)) in
       let t = trailing_zeros w64 rest in
@@ -330,22 +334,22 @@ module _ (words : List ℕ) (n : ℕ) (lt : n < 384) where
       rest_bit rest is q after (omega arith) ∙ ap (λ x. eqb (bit_at x (q - n)) 1) none ∙ ap (λ x. eqb x 1) (bit_at-zero (q - n))
 
 -- a number is not in the set where its bit is 0
-pub no_point : (words : List ℕ) (q : ℕ) → (q < 361 → bit_in words q ≡ false) → set.contains (points_of words) q ≡ false
-no_point words q h = contains-points words q ∙ elim (cases_lt q 361) [
-  | inl below ↦ rw (h below) (and_false (ltb q 361))
-  | inr above ↦ rw (le-ltb q 361 above) refl
+pub no_point : (words : List ℕ) (q : ℕ) → (q < MOST_POINTS → bit_in words q ≡ false) → set.contains (points_of words) q ≡ false
+no_point words q h = contains-points words q ∙ elim (cases_lt q MOST_POINTS) [
+  | inl below ↦ rw (h below) (and_false (ltb q MOST_POINTS))
+  | inr above ↦ rw (le-ltb q MOST_POINTS above) refl
 ]
 
 -- sets are the same exactly where the bits are, since those of no point are 0
 pub points_from-bits : (words others : List ℕ) → AreSameBits words others → points_of words ≡ points_of others
-points_from-bits words others same = same_points _ _ (λ q. contains-points words q ∙ elim (cases_lt q 361) [
-  | inl below ↦ ap (λ b. ltb q 361 && b) (same q (omega arith))
-  | inr above ↦ rw (le-ltb q 361 above) refl
+points_from-bits words others same = same_points _ _ (λ q. contains-points words q ∙ elim (cases_lt q MOST_POINTS) [
+  | inl below ↦ ap (λ b. ltb q MOST_POINTS && b) (same q (omega arith))
+  | inr above ↦ rw (le-ltb q MOST_POINTS above) refl
 ] ∙ sym (contains-points others q))
 
 -- the same sets have the same bits, where the bits of no point are 0
 pub bits_from-points : (words others : List ℕ) → AreOfPoints words → AreOfPoints others → points_of words ≡ points_of others → AreSameBits words others
-bits_from-points words others alone others_alone same = λ q small. elim (cases_lt q 361) [
+bits_from-points words others alone others_alone same = λ q small. elim (cases_lt q MOST_POINTS) [
   | inl below ↦ sym (has_point words q below) ∙ ap (λ s. set.contains s q) same ∙ has_point others q below
   | inr above ↦ alone q above small ∙ sym (others_alone q above small)
 ]

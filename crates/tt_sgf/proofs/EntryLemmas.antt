@@ -6,6 +6,8 @@ use Rattle.std.proofs.lemmas.Nat.{mul-le, mul-add-lt, div-mul-add, mod-mul-add}
 use Rattle.std.specs.Cmp.{nat_cmp_total, unsigned_tied}
 use Rattle.std.specs.Ordering.{nat_cmp, eq_by_cmp}
 use Rattle.std.specs.FinSet as set
+use Rattle.tt_sgf.specs.Bytes.{colon, lower_a}
+use Rattle.tt_sgf.specs.declared.size.TheConstants.{MOST_POINTS}
 use Rattle.tt_sgf.specs.declared.size.Size.{Size}
 use Rattle.tt_sgf.specs.declared.entries.Rectangle.{Rectangle}
 use Rattle.std.specs.List.{list_any, list_all}
@@ -39,7 +41,7 @@ five (a ∷ b ∷ c ∷ d ∷ e ∷ f ∷ xs) h = absurd (omega arith)
 
 module _ (size : Size) where
   -- the letters of one point name it on the board, and no entry off it
-  pub two_in : (c r : ℕ) → corner_in size c r ≡ true → entry_of size (c ∷ r ∷ []) ≡ Some (between (c - 97) (r - 97) (c - 97) (r - 97))
+  pub two_in : (c r : ℕ) → corner_in size c r ≡ true → entry_of size (c ∷ r ∷ []) ≡ Some (between (c - lower_a) (r - lower_a) (c - lower_a) (r - lower_a))
   unfolding entry_of
   two_in c r h = rw h refl
 
@@ -48,27 +50,28 @@ module _ (size : Size) where
   two_out c r h = rw h refl
 
   -- the letters of two corners name their rectangle on the board, and no entry with one of them off it
-  pub five_in : (c r m d s : ℕ) → m ≡ 58 → corner_in size c r ≡ true → corner_in size d s ≡ true → entry_of size (c ∷ r ∷ m ∷ d ∷ s ∷ []) ≡ Some (between (c - 97) (r - 97) (d - 97) (s - 97))
+  pub five_in : (c r m d s : ℕ) → m ≡ colon → corner_in size c r ≡ true → corner_in size d s ≡ true
+      → entry_of size (c ∷ r ∷ m ∷ d ∷ s ∷ []) ≡ Some (between (c - lower_a) (r - lower_a) (d - lower_a) (s - lower_a))
   unfolding entry_of
   five_in c r m d s e h k = rw (e, h, k) refl
 
-  pub five_first : (c r m d s : ℕ) → m ≡ 58 → corner_in size c r ≡ false → entry_of size (c ∷ r ∷ m ∷ d ∷ s ∷ []) ≡ None
+  pub five_first : (c r m d s : ℕ) → m ≡ colon → corner_in size c r ≡ false → entry_of size (c ∷ r ∷ m ∷ d ∷ s ∷ []) ≡ None
   unfolding entry_of
   five_first c r m d s e h = rw (e, h) refl
 
-  pub five_second : (c r m d s : ℕ) → m ≡ 58 → corner_in size c r ≡ true → corner_in size d s ≡ false → entry_of size (c ∷ r ∷ m ∷ d ∷ s ∷ []) ≡ None
+  pub five_second : (c r m d s : ℕ) → m ≡ colon → corner_in size c r ≡ true → corner_in size d s ≡ false → entry_of size (c ∷ r ∷ m ∷ d ∷ s ∷ []) ≡ None
   unfolding entry_of
   five_second c r m d s e h k = rw (e, h, k) refl
 
   -- a text of another length, or of five bytes with no colon amid them, is no entry
-  pub no_entry : (xs : List ℕ) → (length xs ≡ 2 → ⊥) → (length xs ≡ 5 → get_or xs 2 0 ≡ 58 → ⊥) → entry_of size xs ≡ None
+  pub no_entry : (xs : List ℕ) → (length xs ≡ 2 → ⊥) → (length xs ≡ 5 → get_or xs 2 0 ≡ colon → ⊥) → entry_of size xs ≡ None
   unfolding entry_of
   no_entry [] h k = refl
   no_entry (a ∷ []) h k = refl
   no_entry (a ∷ b ∷ []) h k = absurd (h (omega arith))
   no_entry (a ∷ b ∷ c ∷ []) h k = refl
   no_entry (a ∷ b ∷ c ∷ d ∷ []) h k = refl
-  no_entry (a ∷ b ∷ c ∷ d ∷ e ∷ []) h k = rw (ne_eqb c 58 (k (omega arith))) refl
+  no_entry (a ∷ b ∷ c ∷ d ∷ e ∷ []) h k = rw (ne_eqb c colon (k (omega arith))) refl
   no_entry (a ∷ b ∷ c ∷ d ∷ e ∷ f ∷ xs) h k = refl
 
 -- ---- the loop over the board
@@ -104,49 +107,51 @@ module _ (t : set.FinSet nat_cmp) (f : ℕ → Bool) where
       | inr d ↦ rw (same_below q n d) refl
     ]
 
+-- the same corners have the same rectangle
 pub between_is : (c r d s c' r' d' s' : ℕ) → c ≡ c' → r ≡ r' → d ≡ d' → s ≡ s' → between c r d s ≡ between c' r' d' s'
 between_is c r d s c' r' d' s' h k l m = rw (h, k, l, m) refl
 
 -- ---- an entry
 
 -- the letters of a corner are `a` or later ones, and name a column and a row of the board
-corner_parts : (size : Size) (c r : ℕ) → corner_in size c r ≡ true → (97 ≤ c) × (c - 97 < size.columns) × (97 ≤ r) × (r - 97 < size.rows)
+corner_parts : (size : Size) (c r : ℕ) → corner_in size c r ≡ true → (lower_a ≤ c) × (c - lower_a < size.columns) × (lower_a ≤ r) × (r - lower_a < size.rows)
 corner_parts size c r h =
-    let both = and_parts (leb 97 c && ltb (c - 97) size.columns) (leb 97 r && ltb (r - 97) size.rows) h in
-    let first = and_parts (leb 97 c) (ltb (c - 97) size.columns) both.0 in
-    let second = and_parts (leb 97 r) (ltb (r - 97) size.rows) both.1 in
-    (leb-true 97 c first.0, ltb-true (c - 97) size.columns first.1, leb-true 97 r second.0, ltb-true (r - 97) size.rows second.1)
+    let both = and_parts (leb lower_a c && ltb (c - lower_a) size.columns) (leb lower_a r && ltb (r - lower_a) size.rows) h in
+    let first = and_parts (leb lower_a c) (ltb (c - lower_a) size.columns) both.0 in
+    let second = and_parts (leb lower_a r) (ltb (r - lower_a) size.rows) both.1 in
+    (leb-true lower_a c first.0, ltb-true (c - lower_a) size.columns first.1, leb-true lower_a r second.0, ltb-true (r - lower_a) size.rows second.1)
 
 -- the letters of a column and a row of the board are a corner
-corner_made : (size : Size) (c r : ℕ) → c < size.columns → r < size.rows → corner_in size (97 + c) (97 + r) ≡ true
+corner_made : (size : Size) (c r : ℕ) → c < size.columns → r < size.rows → corner_in size (lower_a + c) (lower_a + r) ≡ true
 corner_made size c r h k =
-    let c-is : 97 + c - 97 ≡ c = omega arith in
-    let r-is : 97 + r - 97 ≡ r = omega arith in
-    rw (c-is, r-is, le-leb 97 (97 + c) (omega arith), le-leb 97 (97 + r) (omega arith), lt-ltb c size.columns h, lt-ltb r size.rows k) refl
+    let c-is : lower_a + c - lower_a ≡ c = omega arith in
+    let r-is : lower_a + r - lower_a ≡ r = omega arith in
+    rw (c-is, r-is, le-leb lower_a (lower_a + c) (omega arith), le-leb lower_a (lower_a + r) (omega arith), lt-ltb c size.columns h, lt-ltb r size.rows k) refl
 
-letter_is_no_blank : (b : ℕ) → 58 ≤ b → is_blank b ≡ false
+-- no byte from the colon on is white space
+letter_is_no_blank : (b : ℕ) → colon ≤ b → is_blank b ≡ false
 unfolding is_blank
 letter_is_no_blank b h = grind arith
 
 -- an entry is read as the rectangle of its corners
 pub entry_again : (size : Size) (v : List ℕ) (c r d s : ℕ) → IsEntry size v c r d s → entry_of size (trimmed v) ≡ Some (between c r d s)
 entry_again size v c r d s h =
-    let c-is : 97 + c - 97 ≡ c = omega arith in
-    let r-is : 97 + r - 97 ≡ r = omega arith in
-    let d-is : 97 + d - 97 ≡ d = omega arith in
-    let s-is : 97 + s - 97 ≡ s = omega arith in
-    let bc = letter_is_no_blank (97 + c) (omega arith) in
-    let br = letter_is_no_blank (97 + r) (omega arith) in
-    let bd = letter_is_no_blank (97 + d) (omega arith) in
-    let bs = letter_is_no_blank (97 + s) (omega arith) in
-    let bm = letter_is_no_blank 58 (omega arith) in
+    let c-is : lower_a + c - lower_a ≡ c = omega arith in
+    let r-is : lower_a + r - lower_a ≡ r = omega arith in
+    let d-is : lower_a + d - lower_a ≡ d = omega arith in
+    let s-is : lower_a + s - lower_a ≡ s = omega arith in
+    let bc = letter_is_no_blank (lower_a + c) (omega arith) in
+    let br = letter_is_no_blank (lower_a + r) (omega arith) in
+    let bd = letter_is_no_blank (lower_a + d) (omega arith) in
+    let bs = letter_is_no_blank (lower_a + s) (omega arith) in
+    let bm = letter_is_no_blank colon (omega arith) in
     elim h.stands [
       | inl x ↦
-          ap (entry_of size) (trimmed_is ((97 + c) ∷ (97 + r) ∷ []) v (bc, (br, tt)) x.2) ∙ two_in size (97 + c) (97 + r) (corner_made size c r h.c_in h.r_in)
+          ap (entry_of size) (trimmed_is ((lower_a + c) ∷ (lower_a + r) ∷ []) v (bc, (br, tt)) x.2) ∙ two_in size (lower_a + c) (lower_a + r) (corner_made size c r h.c_in h.r_in)
           ∙ ap (λ (e : Rectangle). Some e) (between_is _ _ _ _ c r d s c-is r-is (c-is ∙ sym x.0) (r-is ∙ sym x.1))
       | inr x ↦
-          ap (entry_of size) (trimmed_is ((97 + c) ∷ (97 + r) ∷ 58 ∷ (97 + d) ∷ (97 + s) ∷ []) v (bc, (br, (bm, (bd, (bs, tt))))) x)
-          ∙ five_in size (97 + c) (97 + r) 58 (97 + d) (97 + s) refl (corner_made size c r h.c_in h.r_in) (corner_made size d s h.d_in h.s_in)
+          ap (entry_of size) (trimmed_is ((lower_a + c) ∷ (lower_a + r) ∷ colon ∷ (lower_a + d) ∷ (lower_a + s) ∷ []) v (bc, (br, (bm, (bd, (bs, tt))))) x)
+          ∙ five_in size (lower_a + c) (lower_a + r) colon (lower_a + d) (lower_a + s) refl (corner_made size c r h.c_in h.r_in) (corner_made size d s h.d_in h.s_in)
           ∙ ap (λ (e : Rectangle). Some e) (between_is _ _ _ _ c r d s c-is r-is d-is s-is)
     ]
 
@@ -154,20 +159,21 @@ entry_again size v c r d s h =
 abbrev EntryAt : Size → List ℕ → Rectangle → Type 0
 EntryAt size v e = (h : HasCorners size v) × (e ≡ between h.0 h.1 h.2 h.3)
 
--- letters from `a` on stand there as 97 and the numbers of columns and rows
-five_stands : (v : List ℕ) (c r m d s : ℕ) → m ≡ 58 → 97 ≤ c → 97 ≤ r → 97 ≤ d → 97 ≤ s → StandsIn (c ∷ r ∷ m ∷ d ∷ s ∷ []) v
-    → StandsIn ((97 + (c - 97)) ∷ (97 + (r - 97)) ∷ 58 ∷ (97 + (d - 97)) ∷ (97 + (s - 97)) ∷ []) v
+-- letters from `a` on stand there as `a` and the numbers of columns and rows: five bytes
+five_stands : (v : List ℕ) (c r m d s : ℕ) → m ≡ colon → lower_a ≤ c → lower_a ≤ r → lower_a ≤ d → lower_a ≤ s → StandsIn (c ∷ r ∷ m ∷ d ∷ s ∷ []) v
+    → StandsIn ((lower_a + (c - lower_a)) ∷ (lower_a + (r - lower_a)) ∷ colon ∷ (lower_a + (d - lower_a)) ∷ (lower_a + (s - lower_a)) ∷ []) v
 five_stands v c r m d s e hc hr hd hs x =
-    let c-is : 97 + (c - 97) ≡ c = omega arith in
-    let r-is : 97 + (r - 97) ≡ r = omega arith in
-    let d-is : 97 + (d - 97) ≡ d = omega arith in
-    let s-is : 97 + (s - 97) ≡ s = omega arith in
+    let c-is : lower_a + (c - lower_a) ≡ c = omega arith in
+    let r-is : lower_a + (r - lower_a) ≡ r = omega arith in
+    let d-is : lower_a + (d - lower_a) ≡ d = omega arith in
+    let s-is : lower_a + (s - lower_a) ≡ s = omega arith in
     rw (c-is, r-is, d-is, s-is) (subst (λ (y : ℕ). StandsIn (c ∷ r ∷ y ∷ d ∷ s ∷ []) v) e x)
 
-two_stands : (v : List ℕ) (c r : ℕ) → 97 ≤ c → 97 ≤ r → StandsIn (c ∷ r ∷ []) v → StandsIn ((97 + (c - 97)) ∷ (97 + (r - 97)) ∷ []) v
+-- and two
+two_stands : (v : List ℕ) (c r : ℕ) → lower_a ≤ c → lower_a ≤ r → StandsIn (c ∷ r ∷ []) v → StandsIn ((lower_a + (c - lower_a)) ∷ (lower_a + (r - lower_a)) ∷ []) v
 two_stands v c r hc hr x =
-    let c-is : 97 + (c - 97) ≡ c = omega arith in
-    let r-is : 97 + (r - 97) ≡ r = omega arith in
+    let c-is : lower_a + (c - lower_a) ≡ c = omega arith in
+    let r-is : lower_a + (r - lower_a) ≡ r = omega arith in
     rw (c-is, r-is) x
 
 -- something that is given only under a test: the test is true, and it is that
@@ -183,18 +189,19 @@ taken size (c ∷ []) v e x h = absurd cc
 taken size (c ∷ r ∷ []) v e x h =
     let k = some_if (corner_in size c r) _ e h in
     let p = corner_parts size c r k.0 in
-    let is : between (c - 97) (r - 97) (c - 97) (r - 97) ≡ e = same_Some _ _ k.1 in
-    ((c - 97, r - 97, c - 97, r - 97, record { c_in = p.1; r_in = p.3; d_in = p.1; s_in = p.3; stands = inl (refl, refl, two_stands v c r p.0 p.2 x) }), sym is)
+    let is : between (c - lower_a) (r - lower_a) (c - lower_a) (r - lower_a) ≡ e = same_Some _ _ k.1 in
+    ((c - lower_a, r - lower_a, c - lower_a, r - lower_a, record { c_in = p.1; r_in = p.3; d_in = p.1; s_in = p.3; stands = inl (refl, refl, two_stands v c r p.0 p.2 x) }), sym is)
 taken size (c ∷ r ∷ m ∷ []) v e x h = absurd cc
 taken size (c ∷ r ∷ m ∷ d ∷ []) v e x h = absurd cc
 taken size (c ∷ r ∷ m ∷ d ∷ s ∷ []) v e x h =
-    let a = some_if (eqb m 58) _ e h in
+    let a = some_if (eqb m colon) _ e h in
     let k = some_if (corner_in size c r) _ e a.1 in
     let l = some_if (corner_in size d s) _ e k.1 in
     let p = corner_parts size c r k.0 in
     let q = corner_parts size d s l.0 in
-    let is : between (c - 97) (r - 97) (d - 97) (s - 97) ≡ e = same_Some _ _ l.1 in
-    ((c - 97, r - 97, d - 97, s - 97, record { c_in = p.1; r_in = p.3; d_in = q.1; s_in = q.3; stands = inr (five_stands v c r m d s (eqb-true m 58 a.0) p.0 p.2 q.0 q.2 x) }), sym is)
+    let is : between (c - lower_a) (r - lower_a) (d - lower_a) (s - lower_a) ≡ e = same_Some _ _ l.1 in
+    let stands = five_stands v c r m d s (eqb-true m colon a.0) p.0 p.2 q.0 q.2 x in
+    ((c - lower_a, r - lower_a, d - lower_a, s - lower_a, record { c_in = p.1; r_in = p.3; d_in = q.1; s_in = q.3; stands = inr stands }), sym is)
 taken size (c ∷ r ∷ m ∷ d ∷ s ∷ y ∷ ys) v e x h = absurd cc
 
 -- a value read as a rectangle is an entry with this rectangle
@@ -291,9 +298,9 @@ and_false : (a : Bool) → (a && false) ≡ false
 and_false true = refl
 and_false false = refl
 
--- what is covered is on the board, which has 361 points at most
-pub covers_below : (size : Size) (v : List ℕ) (q : ℕ) → covers size v q ≡ true → q < 361
-covers_below size v q h = elim (entry_of size (trimmed v)) as (λ o. covers_by size o q ≡ true → q < 361) [
+-- what is covered is on the board, which has `MOST_POINTS` points at most
+pub covers_below : (size : Size) (v : List ℕ) (q : ℕ) → covers size v q ≡ true → q < MOST_POINTS
+covers_below size v q h = elim (entry_of size (trimmed v)) as (λ o. covers_by size o q ≡ true → q < MOST_POINTS) [
   | None ↦ λ k. absurd (let f : false ≡ true = k in cc)
   | Some e ↦ λ k.
       let b = ltb-true q (size.columns * size.rows) (and_parts (ltb q (size.columns * size.rows)) (in_rectangle size.columns e q) k).0 in
@@ -301,7 +308,7 @@ covers_below size v q h = elim (entry_of size (trimmed v)) as (λ o. covers_by s
 ] h
 
 -- so is what one of the values covers
-pub any_below : (size : Size) (vs : List (List ℕ)) (q : ℕ) → list_any (λ v. covers size v q) vs ≡ true → q < 361
+pub any_below : (size : Size) (vs : List (List ℕ)) (q : ℕ) → list_any (λ v. covers size v q) vs ≡ true → q < MOST_POINTS
 any_below size [] q h = absurd (let f : false ≡ true = h in cc)
 any_below size (v ∷ vs) q h = elim (or_cases (covers size v q) (list_any (λ w. covers size w q) vs) h) [ inl x ↦ covers_below size v q x | inr x ↦ any_below size vs q x ]
 
@@ -310,10 +317,10 @@ pub set_some : (size : Size) (vs : List (List ℕ)) (s : set.FinSet nat_cmp) →
     → set_of size vs ≡ Some s
 unfolding set_of
 set_some size vs s h all =
-    let same : passing (λ q. list_any (λ v. covers size v q) vs) 361 ≡ s = set.same_set nat_cmp_total set.nat_cmp-IsAntisymmetric _ _
-    (λ q. contains-passing (λ p. list_any (λ v. covers size v p) vs) 361 q ∙ elim (cases_Bool (list_any (λ v. covers size v q) vs)) [
-      | inl b ↦ rw (b, lt-ltb q 361 (any_below size vs q b)) (sym (h q ∙ b))
-      | inr b ↦ rw (b) (and_false (ltb q 361) ∙ sym (h q ∙ b))
+    let same : passing (λ q. list_any (λ v. covers size v q) vs) MOST_POINTS ≡ s = set.same_set nat_cmp_total set.nat_cmp-IsAntisymmetric _ _
+    (λ q. contains-passing (λ p. list_any (λ v. covers size v p) vs) MOST_POINTS q ∙ elim (cases_Bool (list_any (λ v. covers size v q) vs)) [
+      | inl b ↦ rw (b, lt-ltb q MOST_POINTS (any_below size vs q b)) (sym (h q ∙ b))
+      | inr b ↦ rw (b) (and_false (ltb q MOST_POINTS) ∙ sym (h q ∙ b))
     ]) in
     rw (all) (ap (λ (x : set.FinSet nat_cmp). Some x) same)
 

@@ -4,6 +4,7 @@ use Rattle.std.proofs.Common.{arith, ◌⊎◌, inl, inr}
 use Rattle.std.proofs.lemmas.Bool.{eqb-true}
 use Rattle.std.proofs.lemmas.Option.{some_pair_parts}
 use Rattle.std.proofs.lemmas.List.{length-append}
+use Rattle.tt_sgf.specs.Bytes.{close_tree, open_tree, semicolon}
 use Rattle.tt_sgf.specs.declared.nodes.Node.{Node}
 use Rattle.tt_sgf.specs.declared.trees.Event.{Event}
 use Rattle.tt_sgf.specs.declared.trees.Event.TheVariants.{Open, Close, Item}
@@ -17,9 +18,9 @@ use Rattle.tt_sgf.proofs.ListLemmas.{Ends, after_blanks_at, properties_take, pro
 
 -- the text of an event: white space, and what stands behind it up to the rest
 abbrev pub EventText : Event → List ℕ → List ℕ → Type 0
-EventText Open text rest = text ≡ 40 ∷ rest
-EventText Close text rest = text ≡ 41 ∷ rest
-EventText (Item n) text rest = (properties : List ℕ) × AreProperties properties n.properties × (text ≡ 59 ∷ (properties ++ rest))
+EventText Open text rest = text ≡ open_tree ∷ rest
+EventText Close text rest = text ≡ close_tree ∷ rest
+EventText (Item n) text rest = (properties : List ℕ) × AreProperties properties n.properties × (text ≡ semicolon ∷ (properties ++ rest))
 
 -- a choice that gives something gives what its test chose
 cond_cases : {A : Type 0} (b : Bool) (x y : Option A) (z : A) → cond b x y ≡ Some z → ((b ≡ true) × (x ≡ Some z)) ⊎ ((b ≡ false) × (y ≡ Some z))
@@ -34,16 +35,16 @@ event_of_takes : (bytes : List ℕ) (e : Event) (r : List ℕ) → event_of byte
 unfolding properties_at
 event_of_takes [] e r h = absurd cc
 event_of_takes (b ∷ bs) e r h =
-    elim (cond_cases (eqb b 40) _ _ (e, r) h) [
-      | inl p ↦ let same = some_pair_parts Open e bs r p.1 in EventText-moved e Open (b ∷ bs) r bs same.0 same.1 (ap (λ (x : ℕ). x ∷ bs) (eqb-true b 40 p.0))
-      | inr q ↦ elim (cond_cases (eqb b 41) _ _ (e, r) q.1) [
-        | inl p ↦ let same = some_pair_parts Close e bs r p.1 in EventText-moved e Close (b ∷ bs) r bs same.0 same.1 (ap (λ (x : ℕ). x ∷ bs) (eqb-true b 41 p.0))
-        | inr s ↦ elim (cond_cases (eqb b 59) (properties_at bs >>= λ x. Some (Item (record { properties = x.0 }), x.1)) None (e, r) s.1) [
+    elim (cond_cases (eqb b open_tree) _ _ (e, r) h) [
+      | inl p ↦ let same = some_pair_parts Open e bs r p.1 in EventText-moved e Open (b ∷ bs) r bs same.0 same.1 (ap (λ (x : ℕ). x ∷ bs) (eqb-true b open_tree p.0))
+      | inr q ↦ elim (cond_cases (eqb b close_tree) _ _ (e, r) q.1) [
+        | inl p ↦ let same = some_pair_parts Close e bs r p.1 in EventText-moved e Close (b ∷ bs) r bs same.0 same.1 (ap (λ (x : ℕ). x ∷ bs) (eqb-true b close_tree p.0))
+        | inr s ↦ elim (cond_cases (eqb b semicolon) (properties_at bs >>= λ x. Some (Item (record { properties = x.0 }), x.1)) None (e, r) s.1) [
           | inl p ↦
               let x = bind_some (properties_at bs) (λ x. Some (Item (record { properties = x.0 }), x.1)) (e, r) p.1 in
               let t = properties_take _ bs x.0.0 x.0.1 x.1 in
               let same = some_pair_parts (Item (record { properties = x.0.0 })) e x.0.1 r x.2 in
-              EventText-moved e (Item (record { properties = x.0.0 })) (b ∷ bs) r x.0.1 same.0 same.1 (t.text, t.are, rw (eqb-true b 59 p.0) (ap (λ (y : List ℕ). 59 ∷ y) t.parts))
+              EventText-moved e (Item (record { properties = x.0.0 })) (b ∷ bs) r x.0.1 same.0 same.1 (t.text, t.are, rw (eqb-true b semicolon p.0) (ap (λ (y : List ℕ). semicolon ∷ y) t.parts))
           | inr u ↦ absurd (let n = u.1 in cc)
         ]
       ]
@@ -69,45 +70,45 @@ pub event_behind_blanks : (w bytes : List ℕ) → IsBlank w → event_at (w ++ 
 unfolding event_at
 event_behind_blanks w bytes h = ap event_of (after_blanks-again w bytes h)
 
-no_blank_40 : is_blank 40 ≡ false
+no_blank_40 : is_blank open_tree ≡ false
 unfolding is_blank
 no_blank_40 = refl
 
-no_blank_41 : is_blank 41 ≡ false
+no_blank_41 : is_blank close_tree ≡ false
 unfolding is_blank
 no_blank_41 = refl
 
-no_blank_59 : is_blank 59 ≡ false
+no_blank_59 : is_blank semicolon ≡ false
 unfolding is_blank
 no_blank_59 = refl
 
 -- brackets are read as such, and a semicolon with properties as a node
-pub event_open : (r : List ℕ) → event_at (40 ∷ r) ≡ Some (Open, r)
+pub event_open : (r : List ℕ) → event_at (open_tree ∷ r) ≡ Some (Open, r)
 unfolding event_at
-event_open r = ap event_of (after_blanks-other 40 r no_blank_40)
+event_open r = ap event_of (after_blanks-other open_tree r no_blank_40)
 
-pub event_close : (r : List ℕ) → event_at (41 ∷ r) ≡ Some (Close, r)
+pub event_close : (r : List ℕ) → event_at (close_tree ∷ r) ≡ Some (Close, r)
 unfolding event_at
-event_close r = ap event_of (after_blanks-other 41 r no_blank_41)
+event_close r = ap event_of (after_blanks-other close_tree r no_blank_41)
 
-pub event_item : (n : Node) (text r : List ℕ) → AreProperties text n.properties → Ends r → event_at (59 ∷ (text ++ r)) ≡ Some (Item n, r)
+pub event_item : (n : Node) (text r : List ℕ) → AreProperties text n.properties → Ends r → event_at (semicolon ∷ (text ++ r)) ≡ Some (Item n, r)
 unfolding event_at properties_at
-event_item n text r h e = rw (after_blanks-other 59 (text ++ r) no_blank_59, properties_again n.properties text r h e) refl
+event_item n text r h e = rw (after_blanks-other semicolon (text ++ r) no_blank_59, properties_again n.properties text r h e) refl
 
 -- no value and no property stands before an event
-no_word_40 : (is_word 40 ≡ false) × (is_word 41 ≡ false) × (is_word 59 ≡ false)
+no_word_40 : (is_word open_tree ≡ false) × (is_word close_tree ≡ false) × (is_word semicolon ≡ false)
 unfolding is_word is_upper is_digit is_lower
 no_word_40 = (refl, refl, refl)
 
 -- before a bracket or a semicolon no value and no property stands
-pub Ends_open : (w r : List ℕ) → IsBlank w → Ends (w ++ (40 ∷ r))
-Ends_open w r h = let a = after_blanks_at w 40 r h no_blank_40 in record { no_value = rw a refl; no_property = rw a (no_word_40.0) }
+pub Ends_open : (w r : List ℕ) → IsBlank w → Ends (w ++ (open_tree ∷ r))
+Ends_open w r h = let a = after_blanks_at w open_tree r h no_blank_40 in record { no_value = rw a refl; no_property = rw a (no_word_40.0) }
 
-pub Ends_close : (w r : List ℕ) → IsBlank w → Ends (w ++ (41 ∷ r))
-Ends_close w r h = let a = after_blanks_at w 41 r h no_blank_41 in record { no_value = rw a refl; no_property = rw a (no_word_40.1) }
+pub Ends_close : (w r : List ℕ) → IsBlank w → Ends (w ++ (close_tree ∷ r))
+Ends_close w r h = let a = after_blanks_at w close_tree r h no_blank_41 in record { no_value = rw a refl; no_property = rw a (no_word_40.1) }
 
-pub Ends_item : (w r : List ℕ) → IsBlank w → Ends (w ++ (59 ∷ r))
-Ends_item w r h = let a = after_blanks_at w 59 r h no_blank_59 in record { no_value = rw a refl; no_property = rw a (no_word_40.2) }
+pub Ends_item : (w r : List ℕ) → IsBlank w → Ends (w ++ (semicolon ∷ r))
+Ends_item w r h = let a = after_blanks_at w semicolon r h no_blank_59 in record { no_value = rw a refl; no_property = rw a (no_word_40.2) }
 
 -- ---- a row of events
 

@@ -3,6 +3,7 @@ use Rattle.std.proofs.Common.{◌≡◌, ℕ, ◌+◌, ◌-◌, ◌<◌, ◌≤�
 use Rattle.std.specs.List.{list_any}
 use Rattle.std.proofs.lemmas.List.{length-append, length-take, drop_more, take-append-drop, take_rest}
 use Rattle.std.specs.List.{AllByRecursion}
+use Rattle.tt_sgf.specs.Bytes.{open_tree}
 use Rattle.tt_sgf.specs.declared.nodes.Node.{Node}
 use Rattle.tt_sgf.proofs.GrammarLemmas.{one_tree}
 use Rattle.tt_sgf.specs.declared.nodes.Property.{Property}
@@ -11,16 +12,16 @@ use Rattle.tt_sgf.specs.Reading.{Begins}
 
 -- some byte is a `(`
 abbrev pub has_open : List ℕ → Bool
-has_open bytes = list_any (λ b. eqb b 40) bytes
+has_open bytes = list_any (λ b. eqb b open_tree) bytes
 
 -- the text of a tree begins with a `(`
-starts : (t : GameTree) (text : List ℕ) → Spells text t → (inner : List ℕ) × (text ≡ 40 ∷ inner)
+starts : (t : GameTree) (text : List ℕ) → Spells text t → (inner : List ℕ) × (text ≡ open_tree ∷ inner)
 starts (game ns ts) text h = (_, h.7)
 
 -- bytes with a `(` behind others have a `(`
-has_open-there : (xs r : List ℕ) → has_open (xs ++ (40 ∷ r)) ≡ true
+has_open-there : (xs r : List ℕ) → has_open (xs ++ (open_tree ∷ r)) ≡ true
 has_open-there [] r = refl
-has_open-there (x ∷ xs) r = elim (eqb x 40) as (λ b. (b || has_open (xs ++ (40 ∷ r))) ≡ true) [ true ↦ refl | false ↦ has_open-there xs r ]
+has_open-there (x ∷ xs) r = elim (eqb x open_tree) as (λ b. (b || has_open (xs ++ (open_tree ∷ r))) ≡ true) [ true ↦ refl | false ↦ has_open-there xs r ]
 
 -- an `or` is false only where both sides are
 or_false : (a b : Bool) → (a || b) ≡ false → (a ≡ false) × (b ≡ false)
@@ -28,47 +29,47 @@ or_false true b h = absurd cc
 or_false false b h = (refl, h)
 
 -- bytes are split at their first `(` in one way alone
-same_split : (xs ys r q : List ℕ) → has_open xs ≡ false → has_open ys ≡ false → xs ++ (40 ∷ r) ≡ ys ++ (40 ∷ q) → (xs ≡ ys) × (r ≡ q)
+same_split : (xs ys r q : List ℕ) → has_open xs ≡ false → has_open ys ≡ false → xs ++ (open_tree ∷ r) ≡ ys ++ (open_tree ∷ q) → (xs ≡ ys) × (r ≡ q)
 same_split [] [] r q h k e = (refl, cc)
-same_split [] (y ∷ ys) r q h k e = let f : 40 ≡ y = cc in absurd (let g = rw (← f) at k in cc)
-same_split (x ∷ xs) [] r q h k e = let f : x ≡ 40 = cc in absurd (let g = rw f at h in cc)
+same_split [] (y ∷ ys) r q h k e = let f : open_tree ≡ y = cc in absurd (let g = rw (← f) at k in cc)
+same_split (x ∷ xs) [] r q h k e = let f : x ≡ open_tree = cc in absurd (let g = rw f at h in cc)
 same_split (x ∷ xs) (y ∷ ys) r q h k e =
     let f : x ≡ y = cc in
-    let g : xs ++ (40 ∷ r) ≡ ys ++ (40 ∷ q) = cc in
-    let i = same_split xs ys r q (or_false (eqb x 40) _ h).1 (or_false (eqb y 40) _ k).1 g in
+    let g : xs ++ (open_tree ∷ r) ≡ ys ++ (open_tree ∷ q) = cc in
+    let i = same_split xs ys r q (or_false (eqb x open_tree) _ h).1 (or_false (eqb y open_tree) _ k).1 g in
     (ap (λ (z : ℕ). z ∷ xs) f ∙ ap (λ (z : List ℕ). y ∷ z) i.0, i.1)
 
 -- in bytes without a `(` no tree is spelled
 pub no_tree_without : (bytes : List ℕ) → has_open bytes ≡ false → (t : GameTree) (count : ℕ) → SpelledUpTo bytes count t → ⊥
 no_tree_without bytes h t count s =
     let i = starts t s.text s.spells in
-    let is : bytes ≡ s.skipped ++ (40 ∷ (i.0 ++ s.rest)) = s.parts ∙ ap (λ (x : List ℕ). s.skipped ++ (x ++ s.rest)) i.1 in
+    let is : bytes ≡ s.skipped ++ (open_tree ∷ (i.0 ++ s.rest)) = s.parts ∙ ap (λ (x : List ℕ). s.skipped ++ (x ++ s.rest)) i.1 in
     absurd (let e = has_open-there s.skipped (i.0 ++ s.rest) in let f = ap has_open is in cc)
 
-module _ (bytes : List ℕ) (i : ℕ) (lt : i < length bytes) (none : has_open (take i bytes) ≡ false) (there : get_or bytes i 0 ≡ 40) where
+module _ (bytes : List ℕ) (i : ℕ) (lt : i < length bytes) (none : has_open (take i bytes) ≡ false) (there : get_or bytes i 0 ≡ open_tree) where
   -- the bytes are those before the bracket, the bracket, and those behind it
-  bytes-are : bytes ≡ take i bytes ++ (40 ∷ drop (i + 1) bytes)
+  bytes-are : bytes ≡ take i bytes ++ (open_tree ∷ drop (i + 1) bytes)
   bytes-are = sym (take-append-drop i bytes) ∙ ap (λ (x : List ℕ). take i bytes ++ x) (drop_more bytes i 0 lt ∙ ap (λ (b : ℕ). b ∷ drop (i + 1) bytes) there)
 
   -- where no tree begins at the first `(`, the bytes spell none
-  pub no_tree_there : ((t : GameTree) (rest : List ℕ) → Begins (40 ∷ drop (i + 1) bytes) t rest → ⊥) → (t : GameTree) (count : ℕ) → SpelledUpTo bytes count t → ⊥
+  pub no_tree_there : ((t : GameTree) (rest : List ℕ) → Begins (open_tree ∷ drop (i + 1) bytes) t rest → ⊥) → (t : GameTree) (count : ℕ) → SpelledUpTo bytes count t → ⊥
   no_tree_there never t count s =
       let k = starts t s.text s.spells in
-      let is : take i bytes ++ (40 ∷ drop (i + 1) bytes) ≡ s.skipped ++ (40 ∷ (k.0 ++ s.rest)) = sym bytes-are ∙ s.parts ∙ ap (λ (x : List ℕ). s.skipped ++ (x ++ s.rest)) k.1 in
+      let is : take i bytes ++ (open_tree ∷ drop (i + 1) bytes) ≡ s.skipped ++ (open_tree ∷ (k.0 ++ s.rest)) = sym bytes-are ∙ s.parts ∙ ap (λ (x : List ℕ). s.skipped ++ (x ++ s.rest)) k.1 in
       let same = same_split (take i bytes) s.skipped (drop (i + 1) bytes) (k.0 ++ s.rest) none s.no_open is in
-      never t s.rest (record { text = s.text; spells = s.spells; parts = ap (λ (x : List ℕ). 40 ∷ x) same.1 ∙ ap (λ (x : List ℕ). x ++ s.rest) (sym k.1) })
+      never t s.rest (record { text = s.text; spells = s.spells; parts = ap (λ (x : List ℕ). open_tree ∷ x) same.1 ∙ ap (λ (x : List ℕ). x ++ s.rest) (sym k.1) })
 
   -- the length is that of what is skipped, of the tree's text and of the rest
-  begins_len : (t : GameTree) (rest : List ℕ) → (b : Begins (40 ∷ drop (i + 1) bytes) t rest) → length bytes ≡ i + (length b.text + length rest)
+  begins_len : (t : GameTree) (rest : List ℕ) → (b : Begins (open_tree ∷ drop (i + 1) bytes) t rest) → length bytes ≡ i + (length b.text + length rest)
   begins_len t rest b =
       ap length bytes-are ∙ ap length (ap (λ (x : List ℕ). take i bytes ++ x) b.parts) ∙ omega (arith, length-append (take i bytes) (b.text ++ rest), length-append b.text rest, length-take i bytes)
 
   -- what is left behind a tree is no longer than the bytes
-  pub rest_fits : (t : GameTree) (rest : List ℕ) → Begins (40 ∷ drop (i + 1) bytes) t rest → length rest ≤ length bytes
+  pub rest_fits : (t : GameTree) (rest : List ℕ) → Begins (open_tree ∷ drop (i + 1) bytes) t rest → length rest ≤ length bytes
   rest_fits t rest b = let e = begins_len t rest b in omega arith
 
   -- a tree that begins at the first `(` is spelled up to where the rest begins
-  pub tree_there : (t : GameTree) (rest : List ℕ) → Begins (40 ∷ drop (i + 1) bytes) t rest → SpelledUpTo bytes (length bytes - length rest) t
+  pub tree_there : (t : GameTree) (rest : List ℕ) → Begins (open_tree ∷ drop (i + 1) bytes) t rest → SpelledUpTo bytes (length bytes - length rest) t
   tree_there t rest b = record {
     skipped = take i bytes;
     text = b.text;
@@ -80,11 +81,11 @@ module _ (bytes : List ℕ) (i : ℕ) (lt : i < length bytes) (none : has_open (
   }
 
 -- the bytes from a place to the end are all that are left there: a tree begins in both or in none
-pub begins_rest : (bytes : List ℕ) (i : ℕ) (t : GameTree) (rest : List ℕ) → Begins (40 ∷ take (length bytes - i) (drop i bytes)) t rest → Begins (40 ∷ drop i bytes) t rest
+pub begins_rest : (bytes : List ℕ) (i : ℕ) (t : GameTree) (rest : List ℕ) → Begins (open_tree ∷ take (length bytes - i) (drop i bytes)) t rest → Begins (open_tree ∷ drop i bytes) t rest
 begins_rest bytes i t rest b = rw take_rest at b
 
-pub never_rest : (bytes : List ℕ) (i : ℕ) → ((t : GameTree) (rest : List ℕ) → Begins (40 ∷ take (length bytes - i) (drop i bytes)) t rest → ⊥) → (t : GameTree) (rest : List ℕ)
-    → Begins (40 ∷ drop i bytes) t rest → ⊥
+pub never_rest : (bytes : List ℕ) (i : ℕ) → ((t : GameTree) (rest : List ℕ) → Begins (open_tree ∷ take (length bytes - i) (drop i bytes)) t rest → ⊥) → (t : GameTree) (rest : List ℕ)
+    → Begins (open_tree ∷ drop i bytes) t rest → ⊥
 never_rest bytes i h t rest b = h t rest (rw take_rest b)
 
 -- ---- what a main line has
@@ -126,10 +127,10 @@ pub one_reading : (bytes : List ℕ) (n m : ℕ) (s t : GameTree) → SpelledUpT
 one_reading bytes n m s t h k =
     let i = starts s h.text h.spells in
     let j = starts t k.text k.spells in
-    let is : h.skipped ++ (40 ∷ (i.0 ++ h.rest)) ≡ k.skipped ++ (40 ∷ (j.0 ++ k.rest)) =
+    let is : h.skipped ++ (open_tree ∷ (i.0 ++ h.rest)) ≡ k.skipped ++ (open_tree ∷ (j.0 ++ k.rest)) =
     sym (ap (λ (x : List ℕ). h.skipped ++ (x ++ h.rest)) i.1) ∙ sym h.parts ∙ k.parts ∙ ap (λ (x : List ℕ). k.skipped ++ (x ++ k.rest)) j.1 in
     let same = same_split h.skipped k.skipped (i.0 ++ h.rest) (j.0 ++ k.rest) h.no_open k.no_open is in
     let texts : h.text ++ h.rest ≡ k.text ++ k.rest =
-    ap (λ (x : List ℕ). x ++ h.rest) i.1 ∙ ap (λ (x : List ℕ). 40 ∷ x) same.1 ∙ ap (λ (x : List ℕ). x ++ k.rest) (sym j.1) in
+    ap (λ (x : List ℕ). x ++ h.rest) i.1 ∙ ap (λ (x : List ℕ). open_tree ∷ x) same.1 ∙ ap (λ (x : List ℕ). x ++ k.rest) (sym j.1) in
     let one = one_tree h.text k.text s t h.rest k.rest h.spells k.spells texts in
     (h.count_is ∙ ap (λ (x : List ℕ). length x + length h.text) same.0 ∙ ap (λ (x : List ℕ). length k.skipped + length x) one.0 ∙ sym k.count_is, one.1)

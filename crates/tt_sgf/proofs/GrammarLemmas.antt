@@ -2,6 +2,7 @@
 use Rattle.std.proofs.Common.{◌≡◌, ◌≢◌, ℕ, List, [], ◌∷◌, ◌++◌, refl, sym, ap, subst, ◌∙◌}
 use Rattle.std.proofs.Common.{append_assoc, inl, inr}
 use Rattle.std.proofs.lemmas.List.{append_cancel_right}
+use Rattle.tt_sgf.specs.Bytes.{close_tree, open_tree, semicolon}
 use Rattle.tt_sgf.specs.declared.nodes.Node.{Node}
 use Rattle.tt_sgf.specs.declared.trees.Event.{Event}
 use Rattle.tt_sgf.specs.declared.trees.Event.TheVariants.{Open, Close, Item}
@@ -52,23 +53,23 @@ nodes_again : (ns : List Node) (text r : List ℕ) (es : List Event) (q : List �
 nodes_again [] text r es q h g = rw h g
 nodes_again (n ∷ ns) text r es q h g =
     let i = nodes_again ns h.2 r es q h.5 g in
-    let is : text ++ r ≡ h.0 ++ (59 ∷ (h.1 ++ (h.2 ++ r))) = ap (λ (t : List ℕ). t ++ r) h.6 ∙ simp append_assoc in
-    rw is ((h.2 ++ r, event_behind_blanks h.0 (59 ∷ (h.1 ++ (h.2 ++ r))) h.3 ∙ event_item n h.1 (h.2 ++ r) h.4 i.1, i.0), Ends_item h.0 (h.1 ++ (h.2 ++ r)) h.3)
+    let is : text ++ r ≡ h.0 ++ (semicolon ∷ (h.1 ++ (h.2 ++ r))) = ap (λ (t : List ℕ). t ++ r) h.6 ∙ simp append_assoc in
+    rw is ((h.2 ++ r, event_behind_blanks h.0 (semicolon ∷ (h.1 ++ (h.2 ++ r))) h.3 ∙ event_item n h.1 (h.2 ++ r) h.4 i.1, i.0), Ends_item h.0 (h.1 ++ (h.2 ++ r)) h.3)
 
 -- behind white space
-blank_then_close : (w r : List ℕ) (es : List Event) (q : List ℕ) → IsBlank w → EventsAt r es q → Goes (w ++ (41 ∷ r)) (Close ∷ es) q
-blank_then_close w r es q h g = ((r, event_behind_blanks w (41 ∷ r) h ∙ event_close r, g), Ends_close w r h)
+blank_then_close : (w r : List ℕ) (es : List Event) (q : List ℕ) → IsBlank w → EventsAt r es q → Goes (w ++ (close_tree ∷ r)) (Close ∷ es) q
+blank_then_close w r es q h g = ((r, event_behind_blanks w (close_tree ∷ r) h ∙ event_close r, g), Ends_close w r h)
 
 -- so has the text of a tree, behind white space or none
 mutual
   pub tree_again : (t : GameTree) (text r : List ℕ) (es : List Event) (q : List ℕ) → Spells text t → EventsAt r es q
-      → (inner : List ℕ) × (text ++ r ≡ 40 ∷ inner) × ((w : List ℕ) → IsBlank w → EventsAt (w ++ (40 ∷ inner)) (tree_then t es) q)
+      → (inner : List ℕ) × (text ++ r ≡ open_tree ∷ inner) × ((w : List ℕ) → IsBlank w → EventsAt (w ++ (open_tree ∷ inner)) (tree_then t es) q)
   tree_again (game ns ts) text r es q h g =
       let close = blank_then_close h.2 r es q h.6 g in
-      let trees = trees_again ts h.1 (h.2 ++ (41 ∷ r)) (Close ∷ es) q h.5 close in
-      let nodes = nodes_again ns h.0 (h.1 ++ (h.2 ++ (41 ∷ r))) (trees_then ts (Close ∷ es)) q h.4 trees in
-      let inner = h.0 ++ (h.1 ++ (h.2 ++ (41 ∷ r))) in
-      (inner, (ap (λ (t : List ℕ). t ++ r) h.7 ∙ simp append_assoc), λ w b. (inner, event_behind_blanks w (40 ∷ inner) b ∙ event_open inner, nodes.0))
+      let trees = trees_again ts h.1 (h.2 ++ (close_tree ∷ r)) (Close ∷ es) q h.5 close in
+      let nodes = nodes_again ns h.0 (h.1 ++ (h.2 ++ (close_tree ∷ r))) (trees_then ts (Close ∷ es)) q h.4 trees in
+      let inner = h.0 ++ (h.1 ++ (h.2 ++ (close_tree ∷ r))) in
+      (inner, (ap (λ (t : List ℕ). t ++ r) h.7 ∙ simp append_assoc), λ w b. (inner, event_behind_blanks w (open_tree ∷ inner) b ∙ event_open inner, nodes.0))
 
   -- and a text of trees
   trees_again : (ts : Trees) (text r : List ℕ) (es : List Event) (q : List ℕ) → AreTrees text ts → Goes r es q → Goes (text ++ r) (trees_then ts es) q
@@ -76,7 +77,7 @@ mutual
   trees_again (more_trees t ts) text r es q h g =
       let others = trees_again ts h.2 r es q h.5 g in
       let one = tree_again t h.1 (h.2 ++ r) (trees_then ts es) q h.4 others.0 in
-      let is : text ++ r ≡ h.0 ++ (40 ∷ one.0) = ap (λ (t : List ℕ). t ++ r) h.6 ∙ (simp append_assoc) ∙ ap (λ (t : List ℕ). h.0 ++ t) one.1 in
+      let is : text ++ r ≡ h.0 ++ (open_tree ∷ one.0) = ap (λ (t : List ℕ). t ++ r) h.6 ∙ (simp append_assoc) ∙ ap (λ (t : List ℕ). h.0 ++ t) one.1 in
       rw is (one.2 h.0 h.3, Ends_open h.0 one.0 h.3)
 
 -- a text of a tree has its events, and then what follows it
@@ -110,10 +111,10 @@ nodes_text (n ∷ ns) bytes es q h =
     let i = nodes_text ns h.0 es q h.2 in
     let p = t.3 in
     record {
-      text = t.0 ++ (59 ∷ (p.0 ++ i.text));
+      text = t.0 ++ (semicolon ∷ (p.0 ++ i.text));
       rest = i.rest;
       are = (t.0, p.0, i.text, t.2, p.1, i.are, refl);
-      parts = t.4 ∙ ap (λ (x : List ℕ). t.0 ++ x) p.2 ∙ ap (λ (x : List ℕ). t.0 ++ (59 ∷ (p.0 ++ x))) i.parts ∙ (simp append_assoc);
+      parts = t.4 ∙ ap (λ (x : List ℕ). t.0 ++ x) p.2 ∙ ap (λ (x : List ℕ). t.0 ++ (semicolon ∷ (p.0 ++ x))) i.parts ∙ (simp append_assoc);
       goes = i.goes;
     }
 
@@ -130,7 +131,7 @@ pub record InsideBefore (bytes : List ℕ) (t : GameTree) (es : List Event) (q :
   pub text : List ℕ
   pub rest : List ℕ
   pub spells : Spells text t
-  pub parts : 40 ∷ bytes ≡ text ++ rest
+  pub parts : open_tree ∷ bytes ≡ text ++ rest
   pub goes : EventsAt rest es q
 
 -- a text of nodes, one of trees and a bracket that closes are the inside of a tree
@@ -139,10 +140,10 @@ pub inside_text : (ns : List Node) (ts : Trees) (bytes : List ℕ) (es : List Ev
 inside_text ns ts bytes es q ne n t =
     let c = event_takes t.rest Close t.goes.0 t.goes.1 in
     record {
-      text = 40 ∷ (n.text ++ (t.text ++ (c.0 ++ (41 ∷ []))));
+      text = open_tree ∷ (n.text ++ (t.text ++ (c.0 ++ (close_tree ∷ []))));
       rest = t.goes.0;
       spells = (n.text, t.text, c.0, ne, n.are, t.are, c.2, refl);
-      parts = ap (λ (x : List ℕ). 40 ∷ x) (n.parts ∙ ap (λ (x : List ℕ). n.text ++ x) t.parts
+      parts = ap (λ (x : List ℕ). open_tree ∷ x) (n.parts ∙ ap (λ (x : List ℕ). n.text ++ x) t.parts
           ∙ ap (λ (x : List ℕ). n.text ++ (t.text ++ x)) (c.4 ∙ ap (λ (x : List ℕ). c.0 ++ x) c.3) ∙ (simp append_assoc));
       goes = t.goes.2;
     }
@@ -164,7 +165,7 @@ trees_text (more_trees (game ns us) ts) bytes es q whole h =
     }
 
 -- the events of a tree, behind its first bracket
-pub inside_begins : (ns : List Node) (ts : Trees) (bytes q : List ℕ) → ns ≢ [] → AreWhole ts → EventsAt bytes (items_then ns (trees_then ts (Close ∷ []))) q → Begins (40 ∷ bytes) (game ns ts) q
+pub inside_begins : (ns : List Node) (ts : Trees) (bytes q : List ℕ) → ns ≢ [] → AreWhole ts → EventsAt bytes (items_then ns (trees_then ts (Close ∷ []))) q → Begins (open_tree ∷ bytes) (game ns ts) q
 inside_begins ns ts bytes q ne whole h =
     let n = nodes_text ns bytes (trees_then ts (Close ∷ [])) q h in
     let i = inside_text ns ts bytes [] q ne n (trees_text ts n.rest (Close ∷ []) q whole n.goes) in

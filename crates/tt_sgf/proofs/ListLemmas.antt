@@ -4,6 +4,7 @@ use Rattle.std.specs.List.{filter, list_any}
 use Rattle.std.proofs.lemmas.Bool.{eqb-true}
 use Rattle.std.proofs.lemmas.Option.{some_pair_parts}
 use Rattle.std.proofs.lemmas.List.{length-append}
+use Rattle.tt_sgf.specs.Bytes.{close_value, open_value}
 use Rattle.tt_sgf.specs.declared.nodes.Property.{Property}
 use Rattle.tt_sgf.specs.Grammar.{is_blank, is_word, is_upper, is_kept, is_digit, is_lower, IsBlank, IsRaw, IsWord, IsIdent, AreValues, AreProperties}
 use Rattle.tt_sgf.specs.Reading.{◌>>=◌, with_first, begins, behind, is_empty, word_of, after_word, repeat, opens_value, value_at, values_at, property_at, opens_property}
@@ -26,18 +27,18 @@ begins_with c (b ∷ bs) e = ap (λ (x : ℕ). x ∷ bs) (eqb-true b c e)
 
 -- what a value takes
 pub value_takes : (bytes : List ℕ) (x : List ℕ × List ℕ) → opens_value bytes ≡ true → value_at bytes ≡ Some x
-    → (w : List ℕ) × IsBlank w × IsRaw false x.0 × (bytes ≡ w ++ (91 ∷ (x.0 ++ (93 ∷ x.1))))
+    → (w : List ℕ) × IsBlank w × IsRaw false x.0 × (bytes ≡ w ++ (open_value ∷ (x.0 ++ (close_value ∷ x.1))))
 value_takes bytes x e f =
     let w = blanks_take bytes in
     let r = raw_takes false (behind (after_blanks bytes)) x.0 x.1 f in
-    let s = begins_with 91 (after_blanks bytes) e in
-    (w.0, w.1, r.raw, w.2 ∙ ap (λ (t : List ℕ). w.0 ++ t) (s ∙ ap (λ (t : List ℕ). 91 ∷ t) r.parts))
+    let s = begins_with open_value (after_blanks bytes) e in
+    (w.0, w.1, r.raw, w.2 ∙ ap (λ (t : List ℕ). w.0 ++ t) (s ∙ ap (λ (t : List ℕ). open_value ∷ t) r.parts))
 
 -- each value takes something
 pub values_shrink : Shrinks opens_value value_at
 values_shrink bytes x e f =
     let t = value_takes bytes x e f in
-    omega (arith, ap length t.3, length-append t.0 (91 ∷ (x.0 ++ (93 ∷ x.1))), length-append x.0 (93 ∷ x.1))
+    omega (arith, ap length t.3, length-append t.0 (open_value ∷ (x.0 ++ (close_value ∷ x.1))), length-append x.0 (close_value ∷ x.1))
 
 -- the text of what was read
 pub record IsValuesAt (bytes : List ℕ) (vs : List (List ℕ)) (r : List ℕ) : Type 0 where
@@ -49,7 +50,7 @@ pub record IsValuesAt (bytes : List ℕ) (vs : List (List ℕ)) (r : List ℕ) :
 IsValuesAt-moved : (bytes : List ℕ) (vs us : List (List ℕ)) (r s : List ℕ) → us ≡ vs → s ≡ r → IsValuesAt bytes us s → IsValuesAt bytes vs r
 IsValuesAt-moved bytes vs us r s e f h = rw (← e, ← f) h
 
-four : (w v t r : List ℕ) → w ++ (91 ∷ (v ++ (93 ∷ (t ++ r)))) ≡ (w ++ (91 ∷ (v ++ (93 ∷ t)))) ++ r
+four : (w v t r : List ℕ) → w ++ (open_value ∷ (v ++ (close_value ∷ (t ++ r)))) ≡ (w ++ (open_value ∷ (v ++ (close_value ∷ t)))) ++ r
 four w v t r = simp append_assoc
 
 -- values that were read are the values of a text in the grammar, and no value follows
@@ -68,9 +69,9 @@ values_take (suc n) bytes vs r e =
             let i = values_take n x.1 y.0.0 y.0.1 y.1 in
             let same = some_pair_parts (x.0 ∷ y.0.0) vs y.0.1 r y.2 in
             IsValuesAt-moved bytes vs (x.0 ∷ y.0.0) r y.0.1 same.0 same.1 (record {
-              text = v.0 ++ (91 ∷ (x.0 ++ (93 ∷ i.text)));
+              text = v.0 ++ (open_value ∷ (x.0 ++ (close_value ∷ i.text)));
               are = (v.0, i.text, v.1, v.2, i.are, refl);
-              parts = v.3 ∙ ap (λ (s : List ℕ). v.0 ++ (91 ∷ (x.0 ++ (93 ∷ s)))) i.parts ∙ four v.0 x.0 i.text y.0.1;
+              parts = v.3 ∙ ap (λ (s : List ℕ). v.0 ++ (open_value ∷ (x.0 ++ (close_value ∷ s)))) i.parts ∙ four v.0 x.0 i.text y.0.1;
               ends = i.ends;
             })
       ] refl
@@ -80,7 +81,7 @@ values_take (suc n) bytes vs r e =
 pub after_blanks_at : (w : List ℕ) (b : ℕ) (bs : List ℕ) → IsBlank w → is_blank b ≡ false → after_blanks (w ++ (b ∷ bs)) ≡ b ∷ bs
 after_blanks_at w b bs h e = after_blanks-again w (b ∷ bs) h ∙ after_blanks-other b bs e
 
-no_blank_91 : is_blank 91 ≡ false
+no_blank_91 : is_blank open_value ≡ false
 unfolding is_blank
 no_blank_91 = refl
 
@@ -89,9 +90,9 @@ pub values_again : (vs : List (List ℕ)) (text r : List ℕ) → AreValues text
 values_again [] text r h e = rw h (repeat_stop opens_value value_at (length r) r e)
 values_again (v ∷ vs) text r h e =
     let more = h.1 in
-    let bytes = h.0 ++ (91 ∷ (v ++ (93 ∷ (more ++ r)))) in
+    let bytes = h.0 ++ (open_value ∷ (v ++ (close_value ∷ (more ++ r)))) in
     let is : text ++ r ≡ bytes = ap (λ (t : List ℕ). t ++ r) h.5 ∙ sym (four h.0 v more r) in
-    let behind-is : after_blanks bytes ≡ 91 ∷ (v ++ (93 ∷ (more ++ r))) = after_blanks_at h.0 91 (v ++ (93 ∷ (more ++ r))) h.2 no_blank_91 in
+    let behind-is : after_blanks bytes ≡ open_value ∷ (v ++ (close_value ∷ (more ++ r))) = after_blanks_at h.0 open_value (v ++ (close_value ∷ (more ++ r))) h.2 no_blank_91 in
     let opens : opens_value bytes ≡ true = rw behind-is refl in
     let value : value_at bytes ≡ Some (v, more ++ r) = rw behind-is (raw_again false v (more ++ r) h.3) in
     rw is (all_item opens_value value_at values_shrink bytes (v, more ++ r) opens value ∙ rw (values_again vs more r h.4 e) refl)
@@ -159,7 +160,7 @@ property_takes bytes p r e =
       ends = v.ends;
     })
 
-no_word_91 : is_word 91 ≡ false
+no_word_91 : is_word open_value ≡ false
 unfolding is_word is_upper is_digit is_lower
 no_word_91 = refl
 
@@ -167,7 +168,7 @@ no_word_91 = refl
 values_no_word : (vs : List (List ℕ)) (text r : List ℕ) → vs ≢ [] → AreValues text vs → begins is_word (text ++ r) ≡ false
 values_no_word [] text r ne h = absurd (ne refl)
 values_no_word (v ∷ vs) text r ne h =
-    rw (h.5) (elim (h.0) as (λ w. IsBlank w → begins is_word ((w ++ (91 ∷ (v ++ (93 ∷ h.1)))) ++ r) ≡ false) [
+    rw (h.5) (elim (h.0) as (λ w. IsBlank w → begins is_word ((w ++ (open_value ∷ (v ++ (close_value ∷ h.1)))) ++ r) ≡ false) [
       | [] ↦ λ b. no_word_91
       | b ∷ bs ↦ λ k. blank_is_no_word b k.0
     ] h.2)
@@ -241,7 +242,7 @@ word_is_no_blank : (b : ℕ) → is_word b ≡ true → is_blank b ≡ false
 unfolding is_blank is_word is_upper is_digit is_lower
 word_is_no_blank b e = grind arith
 
-word_is_not_91 : (b : ℕ) → is_word b ≡ true → eqb b 91 ≡ false
+word_is_not_91 : (b : ℕ) → is_word b ≡ true → eqb b open_value ≡ false
 unfolding is_word is_upper is_digit is_lower
 word_is_not_91 b e = grind arith
 

@@ -1,6 +1,7 @@
 -- The steps of the loops over values and properties, with what was read before.
 use Rattle.std.proofs.Common.{◌≡◌, ℕ, ◌<◌, false, true, List, [], ◌∷◌, ◌++◌, length, Option, Some, None, Result, Err, ◌⊎◌, inl, inr, refl, sym, ap, ◌∙◌}
 use Rattle.std.proofs.lemmas.List.{append-nil}
+use Rattle.tt_sgf.specs.Bytes.{open_value}
 use Rattle.tt_sgf.specs.declared.faults.SgfFault.{SgfFault}
 use Rattle.tt_sgf.specs.declared.faults.SgfFault.TheVariants as faults
 use Rattle.tt_sgf.specs.declared.nodes.Property.{Property}
@@ -16,7 +17,7 @@ fails_on faults.Syntax x y f h = f h
 fails_on faults.TooLong x y f h = h
 fails_on faults.NoMemory x y f h = tt
 
-module _ (bytes opened : List ℕ) (is : after_blanks bytes ≡ 91 ∷ opened) where
+module _ (bytes opened : List ℕ) (is : after_blanks bytes ≡ open_value ∷ opened) where
   -- behind a `[` stands a value: what is read from there on
   opens : opens_value bytes ≡ true
   opens = rw is refl

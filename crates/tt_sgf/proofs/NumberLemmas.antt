@@ -2,6 +2,7 @@
 use Rattle.std.proofs.Common.{◌≡◌, ◌≢◌, ℕ, ◌+◌, ◌-◌, ◌*◌, ◌<◌, ◌≤◌, true, false, cond, eqb, List, [], ◌∷◌, ◌++◌, length, get_or, drop, Some, None, refl, sym, ap, subst, ◌∙◌, arith, inl, inr}
 use Rattle.std.proofs.lemmas.Bool.{eqb-true, le-leb, cases_Bool, cases_lt, lt-leb}
 use Rattle.std.proofs.lemmas.List.{append-nil, drop_more, drop_all}
+use Rattle.tt_sgf.specs.Bytes.{digit_0, plus}
 use Rattle.tt_sgf.specs.Grammar.{is_blank, is_digit, IsBlank}
 use Rattle.tt_sgf.specs.Values.{after_blanks, StandsIn, AreDigits, decimal, IsNumeral, IsNumber, first_or_none, without_end, trimmed, digits_of, some_digits, behind_plus, numeral_of, number_of}
 use Rattle.tt_sgf.proofs.TokenLemmas.{after_blanks-again, after_blanks-other, after_blanks-nil, blanks_take}
@@ -83,13 +84,13 @@ trimmed_is (b ∷ bs) bytes n s =
 -- ---- digits
 
 -- a first byte: a digit that fits, one that makes the number too large, or no digit
-pub digits_of-digit : (n b : ℕ) (bs : List ℕ) → is_digit b ≡ true → n * 10 + (b - 48) ≤ 65535 → digits_of n (b ∷ bs) ≡ digits_of (n * 10 + (b - 48)) bs
+pub digits_of-digit : (n b : ℕ) (bs : List ℕ) → is_digit b ≡ true → n * 10 + (b - digit_0) ≤ 65535 → digits_of n (b ∷ bs) ≡ digits_of (n * 10 + (b - digit_0)) bs
 unfolding digits_of
-digits_of-digit n b bs e h = rw (e, le-leb (n * 10 + (b - 48)) 65535 h) refl
+digits_of-digit n b bs e h = rw (e, le-leb (n * 10 + (b - digit_0)) 65535 h) refl
 
-pub digits_of-large : (n b : ℕ) (bs : List ℕ) → is_digit b ≡ true → 65535 < n * 10 + (b - 48) → digits_of n (b ∷ bs) ≡ None
+pub digits_of-large : (n b : ℕ) (bs : List ℕ) → is_digit b ≡ true → 65535 < n * 10 + (b - digit_0) → digits_of n (b ∷ bs) ≡ None
 unfolding digits_of
-digits_of-large n b bs e h = rw (e, lt-leb (n * 10 + (b - 48)) 65535 h) refl
+digits_of-large n b bs e h = rw (e, lt-leb (n * 10 + (b - digit_0)) 65535 h) refl
 
 pub digits_of-other : (n b : ℕ) (bs : List ℕ) → is_digit b ≡ false → digits_of n (b ∷ bs) ≡ None
 unfolding digits_of
@@ -102,16 +103,16 @@ digits_of-nil n = refl
 -- digits behind a number never make it less
 decimal_le : (n : ℕ) (bs : List ℕ) → n ≤ decimal n bs
 decimal_le n [] = omega arith
-decimal_le n (b ∷ bs) = let i = decimal_le (n * 10 + (b - 48)) bs in omega arith
+decimal_le n (b ∷ bs) = let i = decimal_le (n * 10 + (b - digit_0)) bs in omega arith
 
 -- what is read as a number is digits of that worth, at most 65,535
 pub digits_take : (n : ℕ) (bs : List ℕ) (m : ℕ) → n ≤ 65535 → digits_of n bs ≡ Some m → AreDigits bs × (m ≡ decimal n bs) × (m ≤ 65535)
 digits_take n [] m le h = let e : n ≡ m = (let k = digits_of-nil n in cc) in (tt, sym e, omega arith)
 digits_take n (b ∷ bs) m le h =
     elim (cases_Bool (is_digit b)) [
-      | inl d ↦ elim (cases_lt 65535 (n * 10 + (b - 48))) [
+      | inl d ↦ elim (cases_lt 65535 (n * 10 + (b - digit_0))) [
         | inl lt ↦ absurd (let k = digits_of-large n b bs d lt in cc)
-        | inr ge ↦ let i = digits_take (n * 10 + (b - 48)) bs m ge (sym (digits_of-digit n b bs d ge) ∙ h) in ((d, i.0), i.1, i.2)
+        | inr ge ↦ let i = digits_take (n * 10 + (b - digit_0)) bs m ge (sym (digits_of-digit n b bs d ge) ∙ h) in ((d, i.0), i.1, i.2)
       ]
       | inr o ↦ absurd (let k = digits_of-other n b bs o in cc)
     ]
@@ -120,17 +121,17 @@ digits_take n (b ∷ bs) m le h =
 pub digits_again : (n : ℕ) (bs : List ℕ) → AreDigits bs → decimal n bs ≤ 65535 → digits_of n bs ≡ Some (decimal n bs)
 digits_again n [] d le = digits_of-nil n
 digits_again n (b ∷ bs) d le =
-    digits_of-digit n b bs d.0 (let i = decimal_le (n * 10 + (b - 48)) bs in omega arith) ∙ digits_again (n * 10 + (b - 48)) bs d.1 le
+    digits_of-digit n b bs d.0 (let i = decimal_le (n * 10 + (b - digit_0)) bs in omega arith) ∙ digits_again (n * 10 + (b - digit_0)) bs d.1 le
 
 digit_is_no_blank : (b : ℕ) → is_digit b ≡ true → is_blank b ≡ false
 unfolding is_digit is_blank
 digit_is_no_blank b e = grind arith
 
-digit_is_no_plus : (b : ℕ) → is_digit b ≡ true → eqb b 43 ≡ false
+digit_is_no_plus : (b : ℕ) → is_digit b ≡ true → eqb b plus ≡ false
 unfolding is_digit
 digit_is_no_plus b e = grind arith
 
-no_blank_43 : is_blank 43 ≡ false
+no_blank_43 : is_blank plus ≡ false
 unfolding is_blank
 no_blank_43 = refl
 
@@ -179,8 +180,8 @@ some_takes (b ∷ bs) n h = let d = digits_take 0 (b ∷ bs) n (omega arith) h i
 pub numeral_takes : (t : List ℕ) (n : ℕ) → numeral_of t ≡ Some n → IsNumeral t n
 numeral_takes [] n h = absurd cc
 numeral_takes (b ∷ bs) n h =
-    elim (eqb b 43) as (λ c. eqb b 43 ≡ c → some_digits (cond c bs (b ∷ bs)) ≡ Some n → IsNumeral (b ∷ bs) n) [
-      | true ↦ λ e k. let d = some_takes bs n k in record { digits = bs; some = d.0; are = d.1; value = d.2; fits = d.3; stands = inr (ap (λ (x : ℕ). x ∷ bs) (eqb-true b 43 e)) }
+    elim (eqb b plus) as (λ c. eqb b plus ≡ c → some_digits (cond c bs (b ∷ bs)) ≡ Some n → IsNumeral (b ∷ bs) n) [
+      | true ↦ λ e k. let d = some_takes bs n k in record { digits = bs; some = d.0; are = d.1; value = d.2; fits = d.3; stands = inr (ap (λ (x : ℕ). x ∷ bs) (eqb-true b plus e)) }
       | false ↦ λ e k. let d = some_takes (b ∷ bs) n k in record { digits = b ∷ bs; some = d.0; are = d.1; value = d.2; fits = d.3; stands = inl refl }
     ] refl h
 
@@ -191,7 +192,7 @@ number_takes bytes n h = (trimmed bytes, numeral_takes (trimmed bytes) n h, trim
 
 -- ---- the loop over the digits
 
-pub digit_from : (b : ℕ) → is_digit b ≡ true → 48 ≤ b
+pub digit_from : (b : ℕ) → is_digit b ≡ true → digit_0 ≤ b
 unfolding is_digit
 digit_from b e = grind arith
 
@@ -202,12 +203,12 @@ some_is (b ∷ bs) e = refl
 
 module _ (bytes : List ℕ) (i n : ℕ) (lt : i < length bytes) (so_far : digits_of n (drop i bytes) ≡ digits_of 0 bytes) where
   -- one digit more that fits: the total stays
-  pub digits_more : (m : ℕ) → is_digit (get_or bytes i 0) ≡ true → m ≡ n * 10 + (get_or bytes i 0 - 48) → m ≤ 65535 → digits_of m (drop (i + 1) bytes) ≡ digits_of 0 bytes
+  pub digits_more : (m : ℕ) → is_digit (get_or bytes i 0) ≡ true → m ≡ n * 10 + (get_or bytes i 0 - digit_0) → m ≤ 65535 → digits_of m (drop (i + 1) bytes) ≡ digits_of 0 bytes
   digits_more m e is le =
       ap (λ (x : ℕ). digits_of x (drop (i + 1) bytes)) is ∙ sym (digits_of-digit n (get_or bytes i 0) (drop (i + 1) bytes) e (omega arith)) ∙ ap (digits_of n) (sym (drop_more bytes i 0 lt)) ∙ so_far
 
   -- a digit that makes the number too large: there is no total
-  pub digits_past : is_digit (get_or bytes i 0) ≡ true → 65535 < n * 10 + (get_or bytes i 0 - 48) → digits_of 0 bytes ≡ None
+  pub digits_past : is_digit (get_or bytes i 0) ≡ true → 65535 < n * 10 + (get_or bytes i 0 - digit_0) → digits_of 0 bytes ≡ None
   digits_past e gt = sym so_far ∙ ap (digits_of n) (drop_more bytes i 0 lt) ∙ digits_of-large n (get_or bytes i 0) (drop (i + 1) bytes) e gt
 
   -- a byte that is no digit: there is no total

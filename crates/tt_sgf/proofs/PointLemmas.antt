@@ -2,6 +2,7 @@
 use Rattle.std.proofs.Common.{◌≡◌, ℕ, ◌+◌, ◌-◌, ◌*◌, ◌≤◌, ◌<◌, true, false, ◌&&◌, eqb, leb, ltb, List, [], ◌∷◌, length, Some, None, refl, sym, ap, subst, ◌∙◌, arith, inl, inr}
 use Rattle.std.proofs.lemmas.Bool.{eqb-true, eq-eqb, ne_eqb, leb-true, ltb-true, le-leb, lt-ltb, and_parts, cases_Bool}
 use Rattle.std.proofs.lemmas.Option.{cond_some, same_Some}
+use Rattle.tt_sgf.specs.Bytes.{lower_a, lower_t}
 use Rattle.tt_sgf.specs.declared.size.Size.{Size}
 use Rattle.tt_sgf.specs.declared.size.PointOrPass.{PointOrPass}
 use Rattle.tt_sgf.specs.declared.size.PointOrPass.TheVariants.{On, Pass}
@@ -9,7 +10,8 @@ use Rattle.tt_sgf.specs.Grammar.{is_blank}
 use Rattle.tt_sgf.specs.Values.{StandsIn, IsPoint, IsPointOrPass, trimmed, place, point_of}
 use Rattle.tt_sgf.proofs.NumberLemmas.{trimmed_is, trimmed_stands}
 
-letter_is_no_blank : (b : ℕ) → 97 ≤ b → is_blank b ≡ false
+-- no letter is white space
+letter_is_no_blank : (b : ℕ) → lower_a ≤ b → is_blank b ≡ false
 unfolding is_blank
 letter_is_no_blank b h = grind arith
 
@@ -22,18 +24,20 @@ pub point_of-one : (size : Size) (c : ℕ) → point_of size (c ∷ []) ≡ None
 unfolding point_of
 point_of-one size c = refl
 
--- by the length of the text
+-- by the length of the text: no byte is a pass
 pub point_of-empty : (size : Size) (xs : List ℕ) → length xs < 1 → Some Pass ≡ point_of size xs
 unfolding point_of
 point_of-empty size [] h = refl
 point_of-empty size (x ∷ xs) h = absurd (omega (arith, h))
 
+-- one byte is neither
 pub point_of-letter : (size : Size) (xs : List ℕ) → 1 ≤ length xs → length xs < 2 → None ≡ point_of size xs
 unfolding point_of
 point_of-letter size [] l h = absurd (omega (arith, l))
 point_of-letter size (x ∷ []) l h = refl
 point_of-letter size (x ∷ y ∷ ys) l h = absurd (omega (arith, h))
 
+-- nor are three and more
 pub point_of-long : (size : Size) (xs : List ℕ) → 3 ≤ length xs → None ≡ point_of size xs
 unfolding point_of
 point_of-long size [] l = absurd (omega (arith, l))
@@ -41,54 +45,57 @@ point_of-long size (x ∷ []) l = absurd (omega (arith, l))
 point_of-long size (x ∷ y ∷ []) l = absurd (omega (arith, l))
 point_of-long size (x ∷ y ∷ z ∷ zs) l = refl
 
-pub point_of-pass : (size : Size) (c r : ℕ) → c ≡ 116 → r ≡ 116 → point_of size (c ∷ r ∷ []) ≡ Some Pass
+pub point_of-pass : (size : Size) (c r : ℕ) → c ≡ lower_t → r ≡ lower_t → point_of size (c ∷ r ∷ []) ≡ Some Pass
 unfolding point_of
 point_of-pass size c r h k = rw (h, k) refl
 
-pub point_of-first : (size : Size) (c r : ℕ) → (c ≡ 116 → ⊥) → point_of size (c ∷ r ∷ []) ≡ place size c r
+pub point_of-first : (size : Size) (c r : ℕ) → (c ≡ lower_t → ⊥) → point_of size (c ∷ r ∷ []) ≡ place size c r
 unfolding point_of
-point_of-first size c r h = rw (ne_eqb c 116 h) refl
+point_of-first size c r h = rw (ne_eqb c lower_t h) refl
 
-pub point_of-second : (size : Size) (c r : ℕ) → c ≡ 116 → (r ≡ 116 → ⊥) → point_of size (c ∷ r ∷ []) ≡ place size c r
+pub point_of-second : (size : Size) (c r : ℕ) → c ≡ lower_t → (r ≡ lower_t → ⊥) → point_of size (c ∷ r ∷ []) ≡ place size c r
 unfolding point_of
-point_of-second size c r h k = rw (h, ne_eqb r 116 k) refl
+point_of-second size c r h k = rw (h, ne_eqb r lower_t k) refl
 
 -- a value that is a point or a pass is read as it
 pub point_again : (size : Size) (bytes : List ℕ) (q : PointOrPass) → IsPointOrPass size bytes q → point_of size (trimmed bytes) ≡ Some q
 point_again size bytes (On p) h =
-    let c = 97 + h.column in
-    let r = 97 + h.row in
+    let c = lower_a + h.column in
+    let r = lower_a + h.row in
     let text = trimmed_is (c ∷ r ∷ []) bytes (letter_is_no_blank c (omega arith), (letter_is_no_blank r (omega arith), tt)) h.stands in
-    let c-is : c - 97 ≡ h.column = omega arith in
-    let r-is : r - 97 ≡ h.row = omega arith in
+    let c-is : c - lower_a ≡ h.column = omega arith in
+    let r-is : r - lower_a ≡ h.row = omega arith in
     let wide = size.columns_in in
     let column_in = h.column_in in
     ap (point_of size) text ∙ point_of-first size c r (λ e. absurd (omega arith))
-    ∙ rw (c-is, r-is, le-leb 97 c (omega arith), le-leb 97 r (omega arith), lt-ltb h.column size.columns h.column_in, lt-ltb h.row size.rows h.row_in) (ap (λ (n : ℕ). Some (On n)) (sym h.number))
+    ∙ rw (c-is, r-is, le-leb lower_a c (omega arith), le-leb lower_a r (omega arith), lt-ltb h.column size.columns h.column_in, lt-ltb h.row size.rows h.row_in)
+    (ap (λ (n : ℕ). Some (On n)) (sym h.number))
 point_again size bytes Pass h =
     elim h [
       | inl s ↦ ap (point_of size) (trimmed_is [] bytes tt s) ∙ point_of-nil size
-      | inr s ↦ ap (point_of size) (trimmed_is (116 ∷ 116 ∷ []) bytes (letter_is_no_blank 116 (omega arith), (letter_is_no_blank 116 (omega arith), tt)) s) ∙ point_of-pass size 116 116 refl refl
+      | inr s ↦
+          let no_blank = letter_is_no_blank lower_t (omega arith) in
+          ap (point_of size) (trimmed_is (lower_t ∷ lower_t ∷ []) bytes (no_blank, (no_blank, tt)) s) ∙ point_of-pass size lower_t lower_t refl refl
     ]
 
 -- two letters read as a point are that point
 place_takes : (size : Size) (bytes : List ℕ) (c r : ℕ) (q : PointOrPass) → StandsIn (c ∷ r ∷ []) bytes → place size c r ≡ Some q → IsPointOrPass size bytes q
 place_takes size bytes c r q s h =
-    let k = cond_some ((leb 97 c && ltb (c - 97) size.columns) && (leb 97 r && ltb (r - 97) size.rows)) (On ((r - 97) * size.columns + (c - 97))) q h in
-    let both = and_parts (leb 97 c && ltb (c - 97) size.columns) (leb 97 r && ltb (r - 97) size.rows) k.0 in
-    let first = and_parts (leb 97 c) (ltb (c - 97) size.columns) both.0 in
-    let second = and_parts (leb 97 r) (ltb (r - 97) size.rows) both.1 in
-    let c-le = leb-true 97 c first.0 in
-    let r-le = leb-true 97 r second.0 in
-    let c-is : c ≡ 97 + (c - 97) = omega arith in
-    let r-is : r ≡ 97 + (r - 97) = omega arith in
-    let made : IsPoint size bytes ((r - 97) * size.columns + (c - 97)) = record {
-      column = c - 97;
-      row = r - 97;
-      column_in = ltb-true (c - 97) size.columns first.1;
-      row_in = ltb-true (r - 97) size.rows second.1;
+    let k = cond_some ((leb lower_a c && ltb (c - lower_a) size.columns) && (leb lower_a r && ltb (r - lower_a) size.rows)) (On ((r - lower_a) * size.columns + (c - lower_a))) q h in
+    let both = and_parts (leb lower_a c && ltb (c - lower_a) size.columns) (leb lower_a r && ltb (r - lower_a) size.rows) k.0 in
+    let first = and_parts (leb lower_a c) (ltb (c - lower_a) size.columns) both.0 in
+    let second = and_parts (leb lower_a r) (ltb (r - lower_a) size.rows) both.1 in
+    let c-le = leb-true lower_a c first.0 in
+    let r-le = leb-true lower_a r second.0 in
+    let c-is : c ≡ lower_a + (c - lower_a) = omega arith in
+    let r-is : r ≡ lower_a + (r - lower_a) = omega arith in
+    let made : IsPoint size bytes ((r - lower_a) * size.columns + (c - lower_a)) = record {
+      column = c - lower_a;
+      row = r - lower_a;
+      column_in = ltb-true (c - lower_a) size.columns first.1;
+      row_in = ltb-true (r - lower_a) size.rows second.1;
       number = refl;
-      stands = subst (λ (x : ℕ). StandsIn (x ∷ (97 + (r - 97)) ∷ []) bytes) c-is (subst (λ (y : ℕ). StandsIn (c ∷ y ∷ []) bytes) r-is s);
+      stands = subst (λ (x : ℕ). StandsIn (x ∷ (lower_a + (r - lower_a)) ∷ []) bytes) c-is (subst (λ (y : ℕ). StandsIn (c ∷ y ∷ []) bytes) r-is s);
     } in
     subst (λ (x : PointOrPass). IsPointOrPass size bytes x) k.1 made
 
@@ -97,16 +104,16 @@ takes : (size : Size) (text bytes : List ℕ) (q : PointOrPass) → StandsIn tex
 takes size [] bytes q s h = subst (λ (x : PointOrPass). IsPointOrPass size bytes x) (same_Some Pass q (sym (point_of-nil size) ∙ h)) (inl s)
 takes size (c ∷ []) bytes q s h = absurd (let e : point_of size (c ∷ []) ≡ None = point_of-one size c in cc)
 takes size (c ∷ r ∷ []) bytes q s h =
-    elim (cases_Bool (eqb c 116)) [
-      | inl e ↦ elim (cases_Bool (eqb r 116)) [
+    elim (cases_Bool (eqb c lower_t)) [
+      | inl e ↦ elim (cases_Bool (eqb r lower_t)) [
         | inl f ↦
-            let c-is = eqb-true c 116 e in
-            let r-is = eqb-true r 116 f in
+            let c-is = eqb-true c lower_t e in
+            let r-is = eqb-true r lower_t f in
             subst (λ (x : PointOrPass). IsPointOrPass size bytes x) (same_Some Pass q (sym (point_of-pass size c r c-is r-is) ∙ h))
-            (inr (subst (λ (x : ℕ). StandsIn (x ∷ 116 ∷ []) bytes) c-is (subst (λ (y : ℕ). StandsIn (c ∷ y ∷ []) bytes) r-is s)))
-        | inr f ↦ place_takes size bytes c r q s (sym (point_of-second size c r (eqb-true c 116 e) (λ k. absurd (let g = eq-eqb r 116 k in let u : true ≡ false = sym g ∙ f in cc))) ∙ h)
+            (inr (subst (λ (x : ℕ). StandsIn (x ∷ lower_t ∷ []) bytes) c-is (subst (λ (y : ℕ). StandsIn (c ∷ y ∷ []) bytes) r-is s)))
+        | inr f ↦ place_takes size bytes c r q s (sym (point_of-second size c r (eqb-true c lower_t e) (λ k. absurd (let g = eq-eqb r lower_t k in let u : true ≡ false = sym g ∙ f in cc))) ∙ h)
       ]
-      | inr e ↦ place_takes size bytes c r q s (sym (point_of-first size c r (λ k. absurd (let g = eq-eqb c 116 k in let u : true ≡ false = sym g ∙ e in cc))) ∙ h)
+      | inr e ↦ place_takes size bytes c r q s (sym (point_of-first size c r (λ k. absurd (let g = eq-eqb c lower_t k in let u : true ≡ false = sym g ∙ e in cc))) ∙ h)
     ]
 takes size (c ∷ r ∷ x ∷ xs) bytes q s h = absurd (let e : None ≡ point_of size (c ∷ r ∷ x ∷ xs) = point_of-long size (c ∷ r ∷ x ∷ xs) (omega arith) in cc)
 

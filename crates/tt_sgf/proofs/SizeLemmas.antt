@@ -4,6 +4,7 @@ use Rattle.std.proofs.Common.{subst, ◌∙◌, inl, inr}
 use Rattle.std.proofs.lemmas.Bool.{eqb-true}
 use Rattle.std.proofs.lemmas.List.{drop_more, take-append-drop, take_all}
 use Rattle.std.specs.List.{list_any}
+use Rattle.tt_sgf.specs.Bytes.{colon}
 use Rattle.tt_sgf.specs.declared.size.Size.{Size}
 use Rattle.tt_sgf.specs.Grammar.{is_blank, is_digit}
 use Rattle.tt_sgf.specs.SizeLaws.{sized_is, sized_takes}
@@ -14,48 +15,48 @@ use Rattle.tt_sgf.proofs.NumberLemmas.{NoBlank, trimmed_is, trimmed_stands, nume
 
 -- some byte is a colon
 abbrev pub has_colon : List ℕ → Bool
-has_colon text = list_any (λ b. eqb b 58) text
+has_colon text = list_any (λ b. eqb b colon) text
 
 -- nothing stands behind the colon of a text without one
 pub colon_none : (text : List ℕ) → has_colon text ≡ false → behind_colon text ≡ None
 unfolding behind_colon
 colon_none [] h = refl
-colon_none (b ∷ bs) h = elim (eqb b 58) as (λ c. (c || has_colon bs) ≡ false → cond c (Some bs) (behind_colon bs) ≡ None) [
+colon_none (b ∷ bs) h = elim (eqb b colon) as (λ c. (c || has_colon bs) ≡ false → cond c (Some bs) (behind_colon bs) ≡ None) [
   | true ↦ λ e. absurd cc
   | false ↦ λ e. colon_none bs e
 ] h
 
 -- behind a text without a colon the next one is the first: what stands behind it
-pub colon_behind : (c r : List ℕ) → has_colon c ≡ false → behind_colon (c ++ (58 ∷ r)) ≡ Some r
+pub colon_behind : (c r : List ℕ) → has_colon c ≡ false → behind_colon (c ++ (colon ∷ r)) ≡ Some r
 unfolding behind_colon
 colon_behind [] r h = refl
-colon_behind (b ∷ bs) r h = elim (eqb b 58) as (λ c. (c || has_colon bs) ≡ false → cond c (Some (bs ++ (58 ∷ r))) (behind_colon (bs ++ (58 ∷ r))) ≡ Some r) [
+colon_behind (b ∷ bs) r h = elim (eqb b colon) as (λ c. (c || has_colon bs) ≡ false → cond c (Some (bs ++ (colon ∷ r))) (behind_colon (bs ++ (colon ∷ r))) ≡ Some r) [
   | true ↦ λ e. absurd cc
   | false ↦ λ e. colon_behind bs r e
 ] h
 
 -- and what stands before it
-pub colon_before : (c r : List ℕ) → has_colon c ≡ false → before_colon (c ++ (58 ∷ r)) ≡ c
+pub colon_before : (c r : List ℕ) → has_colon c ≡ false → before_colon (c ++ (colon ∷ r)) ≡ c
 unfolding before_colon
 colon_before [] r h = refl
-colon_before (b ∷ bs) r h = elim (eqb b 58) as (λ c. (c || has_colon bs) ≡ false → cond c [] (b ∷ before_colon (bs ++ (58 ∷ r))) ≡ b ∷ bs) [
+colon_before (b ∷ bs) r h = elim (eqb b colon) as (λ c. (c || has_colon bs) ≡ false → cond c [] (b ∷ before_colon (bs ++ (colon ∷ r))) ≡ b ∷ bs) [
   | true ↦ λ e. absurd cc
   | false ↦ λ e. ap (λ (x : List ℕ). b ∷ x) (colon_before bs r e)
 ] h
 
 -- a text is what stands before its first colon, the colon, and what stands behind it
-colon_parts : (text r : List ℕ) → behind_colon text ≡ Some r → text ≡ before_colon text ++ (58 ∷ r)
+colon_parts : (text r : List ℕ) → behind_colon text ≡ Some r → text ≡ before_colon text ++ (colon ∷ r)
 unfolding before_colon behind_colon
 colon_parts [] r h = absurd cc
-colon_parts (b ∷ bs) r h = elim (eqb b 58) as (λ c. eqb b 58 ≡ c → cond c (Some bs) (behind_colon bs) ≡ Some r → b ∷ bs ≡ cond c [] (b ∷ before_colon bs) ++ (58 ∷ r)) [
-  | true ↦ λ e k. let is = eqb-true b 58 e in let same : bs ≡ r = cc in ap (λ (x : ℕ). x ∷ bs) is ∙ ap (λ (x : List ℕ). 58 ∷ x) same
+colon_parts (b ∷ bs) r h = elim (eqb b colon) as (λ c. eqb b colon ≡ c → cond c (Some bs) (behind_colon bs) ≡ Some r → b ∷ bs ≡ cond c [] (b ∷ before_colon bs) ++ (colon ∷ r)) [
+  | true ↦ λ e k. let is = eqb-true b colon e in let same : bs ≡ r = cc in ap (λ (x : ℕ). x ∷ bs) is ∙ ap (λ (x : List ℕ). colon ∷ x) same
   | false ↦ λ e k. ap (λ (x : List ℕ). b ∷ x) (colon_parts bs r k)
 ] refl h
 
 -- the loop that looks for it
-module _ (text : List ℕ) (i : ℕ) (lt : i < length text) (none : has_colon (take i text) ≡ false) (there : get_or text i 0 ≡ 58) where
+module _ (text : List ℕ) (i : ℕ) (lt : i < length text) (none : has_colon (take i text) ≡ false) (there : get_or text i 0 ≡ colon) where
   -- the text is what stands before the colon found, the colon, and what stands behind it
-  text-is : text ≡ take i text ++ (58 ∷ drop (i + 1) text)
+  text-is : text ≡ take i text ++ (colon ∷ drop (i + 1) text)
   text-is = sym (take-append-drop i text) ∙ ap (λ (x : List ℕ). take i text ++ x) (drop_more text i 0 lt ∙ ap (λ (b : ℕ). b ∷ drop (i + 1) text) there)
 
   -- the colon found is the first one
@@ -71,7 +72,7 @@ found_none text i le h = colon_none text (ap has_colon (sym (take_all i text le)
 
 -- ---- numbers have no colon and no white space
 
-digit_is_no_colon : (b : ℕ) → is_digit b ≡ true → eqb b 58 ≡ false
+digit_is_no_colon : (b : ℕ) → is_digit b ≡ true → eqb b colon ≡ false
 unfolding is_digit
 digit_is_no_colon b e = grind arith
 
@@ -87,12 +88,12 @@ numeral_no_colon t n h = elim h.stands [
   | inr s ↦ ap has_colon s ∙ digits_no_colon h.digits h.are
 ]
 
-no_blank_58 : is_blank 58 ≡ false
+no_blank_58 : is_blank colon ≡ false
 unfolding is_blank
 no_blank_58 = refl
 
 -- texts without white space have none with a colon between them
-NoBlank-append : (c r : List ℕ) → NoBlank c → NoBlank r → NoBlank (c ++ (58 ∷ r))
+NoBlank-append : (c r : List ℕ) → NoBlank c → NoBlank r → NoBlank (c ++ (colon ∷ r))
 NoBlank-append [] r h k = (no_blank_58, k)
 NoBlank-append (b ∷ bs) r h k = (h.0, NoBlank-append bs r h.1 k)
 

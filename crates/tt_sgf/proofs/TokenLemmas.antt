@@ -3,6 +3,7 @@ use Rattle.std.proofs.Common.{◌≡◌, ℕ, ◌+◌, ◌<◌, ◌≤◌, Bool,
 use Rattle.std.proofs.lemmas.Bool.{eqb-true}
 use Rattle.std.proofs.lemmas.Option.{some_pair_parts}
 use Rattle.std.proofs.lemmas.List.{append-nil, drop_more, take_more, drop_all, take_all}
+use Rattle.tt_sgf.specs.Bytes.{backslash, close_value}
 use Rattle.tt_sgf.specs.Grammar.{is_blank, is_word, IsBlank, IsRaw, IsWord}
 use Rattle.tt_sgf.specs.Reading.{◌>>=◌, with_first, raw_at, word_of, after_word, begins}
 use Rattle.tt_sgf.specs.Values.{after_blanks}
@@ -59,14 +60,15 @@ pub raw_at-escaped : (b : ℕ) (bs : List ℕ) → raw_at true (b ∷ bs) ≡ (r
 unfolding raw_at
 raw_at-escaped b bs = refl
 
-pub raw_at-end : (b : ℕ) (bs : List ℕ) → eqb b 93 ≡ true → raw_at false (b ∷ bs) ≡ Some ([], bs)
+pub raw_at-end : (b : ℕ) (bs : List ℕ) → eqb b close_value ≡ true → raw_at false (b ∷ bs) ≡ Some ([], bs)
 unfolding raw_at
 raw_at-end b bs e = rw e refl
 
-pub raw_at-plain : (b : ℕ) (bs : List ℕ) → eqb b 93 ≡ false → raw_at false (b ∷ bs) ≡ (raw_at (eqb b 92) bs >>= with_first b)
+pub raw_at-plain : (b : ℕ) (bs : List ℕ) → eqb b close_value ≡ false → raw_at false (b ∷ bs) ≡ (raw_at (eqb b backslash) bs >>= with_first b)
 unfolding raw_at
 raw_at-plain b bs e = rw e refl
 
+-- nothing ends where no byte is left
 pub raw_at-nil : (escaped : Bool) → raw_at escaped [] ≡ None
 unfolding raw_at
 raw_at-nil true = refl
@@ -86,11 +88,11 @@ raw_cons bytes i e e' lt h =
 pub raw_more_escaped : (bytes : List ℕ) (i : ℕ) → i < length bytes → raw_so_far bytes (i + 1) false ≡ raw_so_far bytes i true
 raw_more_escaped bytes i lt = raw_cons bytes i true false lt (raw_at-escaped _ _)
 
-pub raw_more_plain : (bytes : List ℕ) (i : ℕ) → i < length bytes → eqb (get_or bytes i 0) 93 ≡ false → raw_so_far bytes (i + 1) (eqb (get_or bytes i 0) 92) ≡ raw_so_far bytes i false
+pub raw_more_plain : (bytes : List ℕ) (i : ℕ) → i < length bytes → eqb (get_or bytes i 0) close_value ≡ false → raw_so_far bytes (i + 1) (eqb (get_or bytes i 0) backslash) ≡ raw_so_far bytes i false
 raw_more_plain bytes i lt e = raw_cons bytes i false _ lt (raw_at-plain _ _ e)
 
 -- at the bracket the value is what was read, and the rest stands behind it
-pub raw_ends : (bytes : List ℕ) (i : ℕ) → i < length bytes → eqb (get_or bytes i 0) 93 ≡ true → raw_so_far bytes i false ≡ Some (take i bytes, drop (i + 1) bytes)
+pub raw_ends : (bytes : List ℕ) (i : ℕ) → i < length bytes → eqb (get_or bytes i 0) close_value ≡ true → raw_so_far bytes i false ≡ Some (take i bytes, drop (i + 1) bytes)
 raw_ends bytes i lt e = rw (drop_more bytes i 0 lt, raw_at-end _ _ e) (ap (λ (x : List ℕ). Some (x, drop (i + 1) bytes)) (append-nil (take i bytes)))
 
 -- at the end of the bytes the value has no bracket
@@ -98,15 +100,15 @@ pub raw_stops : (bytes : List ℕ) (i : ℕ) (e : Bool) → length bytes ≤ i �
 raw_stops bytes i e le = rw (drop_all i bytes le, raw_at-nil e) refl
 
 -- what is in the grammar is read
-pub raw_again : (escaped : Bool) (v r : List ℕ) → IsRaw escaped v → raw_at escaped (v ++ (93 ∷ r)) ≡ Some (v, r)
-raw_again escaped [] r h = rw h (raw_at-end 93 r refl)
-raw_again true (b ∷ bs) r h = rw (raw_at-escaped b (bs ++ (93 ∷ r)), raw_again false bs r h) refl
-raw_again false (b ∷ bs) r h = rw (raw_at-plain b (bs ++ (93 ∷ r)) h.0, raw_again (eqb b 92) bs r h.1) refl
+pub raw_again : (escaped : Bool) (v r : List ℕ) → IsRaw escaped v → raw_at escaped (v ++ (close_value ∷ r)) ≡ Some (v, r)
+raw_again escaped [] r h = rw h (raw_at-end close_value r refl)
+raw_again true (b ∷ bs) r h = rw (raw_at-escaped b (bs ++ (close_value ∷ r)), raw_again false bs r h) refl
+raw_again false (b ∷ bs) r h = rw (raw_at-plain b (bs ++ (close_value ∷ r)) h.0, raw_again (eqb b backslash) bs r h.1) refl
 
 -- what is read is in the grammar
 pub record IsRawAt (escaped : Bool) (bytes v r : List ℕ) : Type 0 where
   pub raw : IsRaw escaped v
-  pub parts : bytes ≡ v ++ (93 ∷ r)
+  pub parts : bytes ≡ v ++ (close_value ∷ r)
 
 -- a byte more before a value
 IsRawAt-first : (escaped e : Bool) (b : ℕ) (bs v r : List ℕ) → (x : List ℕ × List ℕ) → IsRawAt e bs x.0 x.1 → with_first b x ≡ Some (v, r) → (IsRaw e x.0 → IsRaw escaped (b ∷ x.0))
@@ -122,12 +124,12 @@ raw_takes true (b ∷ bs) v r e =
     let s = bind_some (raw_at false bs) (with_first b) (v, r) (sym (raw_at-escaped b bs) ∙ e) in
     IsRawAt-first true false b bs v r s.0 (raw_takes false bs s.0.0 s.0.1 s.1) s.2 (λ h. h)
 raw_takes false (b ∷ bs) v r e =
-    elim (eqb b 93) as (λ t. eqb b 93 ≡ t → IsRawAt false (b ∷ bs) v r) [
+    elim (eqb b close_value) as (λ t. eqb b close_value ≡ t → IsRawAt false (b ∷ bs) v r) [
       | true ↦ λ t.
           let same = some_pair_parts [] v bs r (sym (raw_at-end b bs t) ∙ e) in
-          rw (← same.0, ← same.1, eqb-true b 93 t) (record { raw = refl; parts = refl })
-      | false ↦ λ t. let s = bind_some (raw_at (eqb b 92) bs) (with_first b) (v, r) (sym (raw_at-plain b bs t) ∙ e) in
-          IsRawAt-first false (eqb b 92) b bs v r s.0 (raw_takes (eqb b 92) bs s.0.0 s.0.1 s.1) s.2 (λ h. (t, h))
+          rw (← same.0, ← same.1, eqb-true b close_value t) (record { raw = refl; parts = refl })
+      | false ↦ λ t. let s = bind_some (raw_at (eqb b backslash) bs) (with_first b) (v, r) (sym (raw_at-plain b bs t) ∙ e) in
+          IsRawAt-first false (eqb b backslash) b bs v r s.0 (raw_takes (eqb b backslash) bs s.0.0 s.0.1 s.1) s.2 (λ h. (t, h))
     ] refl
 
 -- ---- words
@@ -137,6 +139,7 @@ pub word_of-word : (b : ℕ) (bs : List ℕ) → is_word b ≡ true → word_of 
 unfolding word_of
 word_of-word b bs e = rw e refl
 
+-- before another byte, or none, the word is empty
 pub word_of-other : (bytes : List ℕ) → begins is_word bytes ≡ false → word_of bytes ≡ []
 unfolding word_of
 word_of-other [] e = refl
@@ -146,6 +149,7 @@ pub after_word-word : (b : ℕ) (bs : List ℕ) → is_word b ≡ true → after
 unfolding after_word
 after_word-word b bs e = rw e refl
 
+-- and all is left behind it
 pub after_word-other : (bytes : List ℕ) → begins is_word bytes ≡ false → after_word bytes ≡ bytes
 unfolding after_word
 after_word-other [] e = refl

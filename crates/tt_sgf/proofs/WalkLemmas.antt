@@ -4,6 +4,7 @@ use Rattle.std.proofs.Common.{arith, inl, inr}
 use Rattle.std.proofs.lemmas.Bool.{cases_Bool}
 use Rattle.std.proofs.lemmas.Option.{some_pair_parts}
 use Rattle.std.proofs.lemmas.List.{append-nil}
+use Rattle.tt_sgf.specs.Bytes.{open_tree}
 use Rattle.tt_sgf.specs.declared.nodes.Node.{Node}
 use Rattle.tt_sgf.specs.declared.trees.Event.{Event}
 use Rattle.tt_sgf.specs.declared.trees.Event.TheVariants.{Open, Close, Item}
@@ -134,6 +135,7 @@ closes_open p (suc d) es b h =
       o.6,
     )
 
+-- a node before the ends of all open trees is the first of their nodes
 closes_item : (p : Place) (d : ℕ) (n : Node) (es : List Event) → ((ns : List Node) → Begun p (n ∷ ns)) → Closes Nodes d es → Closes p d (Item n ∷ es)
 closes_item p zero n es b h = (n ∷ h.0, h.1, b h.0, h.3, ap (λ (x : List Event). Item n ∷ x) h.4)
 closes_item p (suc d) n es b h = (n ∷ h.0, h.1, h.2, b h.0, h.4, ap (λ (x : List Event). Item n ∷ x) h.5, h.6)
@@ -319,7 +321,7 @@ module _ (bytes rest : List ℕ) (p : Place) (d : ℕ) (on_main : Bool) (nodes :
   no_way (z ∷ zs) q dead h k = not_done zs (ap (λ (x : State). run x zs) (sym (dead z h.0 h.1)) ∙ k)
 
   -- the last bracket of the whole tree
-  pub far_done : (after : List ℕ) → event_at rest ≡ Some (Close, after) → (p ≢ Opened) → d ≡ 0 → (t : GameTree) × Begins (40 ∷ bytes) t after × (nodes ≡ main_line t)
+  pub far_done : (after : List ℕ) → event_at rest ≡ Some (Close, after) → (p ≢ Opened) → d ≡ 0 → (t : GameTree) × Begins (open_tree ∷ bytes) t after × (nodes ≡ main_line t)
   far_done after h ne e =
       let events = far.events ++ Close ∷ [] in
       let finished : run (within Opened 0) events ≡ done = step_to Close done (ap (λ (k : ℕ). step (within p k) Close) e ∙ step_last p ne) in
@@ -333,10 +335,10 @@ module _ (bytes rest : List ℕ) (p : Place) (d : ℕ) (on_main : Bool) (nodes :
       (game c.0 c.1, begins, sym nodes-are ∙ ap line c.4 ∙ line-inside c.0 c.1 [])
 
   -- a place where no event leads on: no text of a tree is at the front
-  pub far_dead : ((e : Event) (after : List ℕ) → event_at rest ≡ Some (e, after) → step (within p d) e ≡ stuck) → (t : GameTree) (q : List ℕ) → Begins (40 ∷ bytes) t q → ⊥
+  pub far_dead : ((e : Event) (after : List ℕ) → event_at rest ≡ Some (e, after) → step (within p d) e ≡ stuck) → (t : GameTree) (q : List ℕ) → Begins (open_tree ∷ bytes) t q → ⊥
   far_dead dead (game ns ts) q b =
       let whole = spelled_whole (game ns ts) b.text b.spells in
-      let all : EventsAt (40 ∷ bytes) (tree_then (game ns ts) []) q = rw b.parts (spelled (game ns ts) b.text q b.spells) in
+      let all : EventsAt (open_tree ∷ bytes) (tree_then (game ns ts) []) q = rw b.parts (spelled (game ns ts) b.text q b.spells) in
       let first = some_pair_parts Open Open bytes all.0 (sym (event_open bytes) ∙ all.1) in
       let inside : EventsAt bytes (items_then ns (trees_then ts (Close ∷ []))) q = subst (λ (x : List ℕ). EventsAt x (items_then ns (trees_then ts (Close ∷ []))) q) (sym first.1) all.2 in
       let finished = run-tree ns ts whole.0 whole.1 in
@@ -351,19 +353,19 @@ module _ (bytes rest : List ℕ) (p : Place) (d : ℕ) (on_main : Bool) (nodes :
       ]
 
   -- a place where no event is read: no text of a tree is at the front
-  pub far_none : event_at rest ≡ None → (t : GameTree) (q : List ℕ) → Begins (40 ∷ bytes) t q → ⊥
+  pub far_none : event_at rest ≡ None → (t : GameTree) (q : List ℕ) → Begins (open_tree ∷ bytes) t q → ⊥
   far_none h = far_dead (λ e after k. absurd (let x = h in cc))
 
   -- a place where the event read doesn't lead on: no text of a tree is at the front
-  refused : (e : Event) (after : List ℕ) → event_at rest ≡ Some (e, after) → step (within p d) e ≡ stuck → (t : GameTree) (q : List ℕ) → Begins (40 ∷ bytes) t q → ⊥
+  refused : (e : Event) (after : List ℕ) → event_at rest ≡ Some (e, after) → step (within p d) e ≡ stuck → (t : GameTree) (q : List ℕ) → Begins (open_tree ∷ bytes) t q → ⊥
   refused e after h s = far_dead (λ f other k. ap (step (within p d)) (sym (some_pair_parts e f after other (sym h ∙ k)).0) ∙ s)
 
   -- brackets right behind an opening one, and nodes behind sub-trees, don't lead on
-  pub far_refused_open : (after : List ℕ) → event_at rest ≡ Some (Open, after) → p ≡ Opened → (t : GameTree) (q : List ℕ) → Begins (40 ∷ bytes) t q → ⊥
+  pub far_refused_open : (after : List ℕ) → event_at rest ≡ Some (Open, after) → p ≡ Opened → (t : GameTree) (q : List ℕ) → Begins (open_tree ∷ bytes) t q → ⊥
   far_refused_open after h e = refused Open after h (ap (λ (x : Place). step (within x d) Open) e)
 
-  pub far_refused_close : (after : List ℕ) → event_at rest ≡ Some (Close, after) → p ≡ Opened → (t : GameTree) (q : List ℕ) → Begins (40 ∷ bytes) t q → ⊥
+  pub far_refused_close : (after : List ℕ) → event_at rest ≡ Some (Close, after) → p ≡ Opened → (t : GameTree) (q : List ℕ) → Begins (open_tree ∷ bytes) t q → ⊥
   far_refused_close after h e = refused Close after h (ap (λ (x : Place). step (within x d) Close) e)
 
-  pub far_refused_item : (n : Node) (after : List ℕ) → event_at rest ≡ Some (Item n, after) → p ≡ Behind → (t : GameTree) (q : List ℕ) → Begins (40 ∷ bytes) t q → ⊥
+  pub far_refused_item : (n : Node) (after : List ℕ) → event_at rest ≡ Some (Item n, after) → p ≡ Behind → (t : GameTree) (q : List ℕ) → Begins (open_tree ∷ bytes) t q → ⊥
   far_refused_item n after h e = refused (Item n) after h (ap (λ (x : Place). step (within x d) (Item n)) e)

@@ -2,6 +2,7 @@
 
 ghost use Rattle.std.specs.Prelude.{◌≡◌, ℕ, ◌-◌, ◌*◌, ◌<◌, ◌↔◌, true, false, ◌&&◌, ◌||◌, nat_lt, OnOk, OnErr, IfOk, MatchOption, MatchResult, Some, None};
 ghost use Rattle.std.specs.FinSet as set;
+ghost use Rattle.tt_sgf.specs.Bytes.{lower_a};
 ghost use Rattle.tt_sgf.specs.Entries.{AnyCovers, AreEntries, between, corner_in, entry_of, in_rectangle, set_of};
 
 use super::faults::BadPoint;
@@ -22,7 +23,7 @@ struct Rectangle {
 /// The column and the row of two letters, where they are on the board.
 fn corner(column: u8, row: u8, size: Size) -> Option<(u16, u16)>
     ensures { MatchOption result (corner_in size column row ≡ false)
-        (λ p. (corner_in size column row ≡ true) × (p.0 ≡ column - 97) × (p.1 ≡ row - 97)) }
+        (λ p. (corner_in size column row ≡ true) × (p.0 ≡ column - lower_a) × (p.1 ≡ row - lower_a)) }
 {
     if column < b'a' || row < b'a' {
         return None;

@@ -3,6 +3,7 @@
 
 ghost use Rattle.std.specs.Prelude.{◌≡◌, ℕ, ◌<◌, ◌≤◌, ◌⊎◌, List, length, false, IsTrue, IfOk, ◌↔◌, take, MatchOption, ◌∷◌, ◌==◌, Err, slice_index};
 ghost use Rattle.std.specs.List.{list_any};
+ghost use Rattle.tt_sgf.specs.Bytes.{open_tree};
 ghost use Rattle.tt_sgf.specs.Grammar.{GameTree, main_line, SpelledUpTo, HasNoTree, HasOpen, IsMainLine};
 ghost use Rattle.tt_sgf.specs.Reading.{event_at, Begins, Gives};
 
@@ -52,8 +53,8 @@ enum Place {
 
 /// A game tree whose first bracket is read: its main line, and what is left behind it.
 fn tree(alloc: Global, bytes: &[u8]) -> Result<(Vec<Node>, &[u8]), SgfFault>
-    ensures found { IfOk result (λ x. (t : GameTree) × Begins (40 ∷ bytes.now) t x.1.now × (x.0.items ≡ main_line t)) }
-    ensures none { result ≡ Err SgfFault.Syntax → (t : GameTree) (rest : List ℕ) → Begins (40 ∷ bytes.now) t rest → ⊥ }
+    ensures found { IfOk result (λ x. (t : GameTree) × Begins (open_tree ∷ bytes.now) t x.1.now × (x.0.items ≡ main_line t)) }
+    ensures none { result ≡ Err SgfFault.Syntax → (t : GameTree) (rest : List ℕ) → Begins (open_tree ∷ bytes.now) t rest → ⊥ }
     ensures short { result ≡ Err SgfFault.TooLong → ⊥ }
 {
     let mut nodes = Vec::new(alloc);
@@ -101,8 +102,8 @@ pub const MAX_BYTES: usize = 1_048_576;
 
 /// Where the first `(` stands.
 fn first_open(bytes: &[u8]) -> Option<usize>
-    ensures { MatchOption result (list_any (λ b. b == 40) bytes.now ≡ false)
-        (λ i. (i < length bytes.now) × (list_any (λ b. b == 40) (take i bytes.now) ≡ false) × (slice_index bytes.now i ≡ 40)) }
+    ensures { MatchOption result (list_any (λ b. b == open_tree) bytes.now ≡ false)
+        (λ i. (i < length bytes.now) × (list_any (λ b. b == open_tree) (take i bytes.now) ≡ false) × (slice_index bytes.now i ≡ open_tree)) }
 {
     for (i, b) in bytes.iter().enumerate() {
         if *b == b'(' {

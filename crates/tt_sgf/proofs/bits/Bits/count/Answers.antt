@@ -1,5 +1,6 @@
 use Rattle.std.proofs.Common.{◌≡◌, ap, sym, ◌∙◌, ◌+◌, arith}
 use Rattle.std.specs.FinSet as set
+use Rattle.tt_sgf.specs.declared.size.TheConstants.{MOST_POINTS}
 use Rattle.tt_sgf.specs.Points.{passing}
 use Rattle.tt_sgf.specs.Words.{bit_in}
 use Rattle.tt_sgf.proofs.BitLemmas.{len-passing-none, len-passing-in, len-passing-out, len-points}
@@ -21,5 +22,5 @@ loop-n-preserved c =
 pub returns : goal.returns
 returns c =
     let words = c.args.self.now.words in
-    let full : c.loop-n.n ≡ 361 = omega arith in
+    let full : c.loop-n.n ≡ MOST_POINTS = omega arith in
     c.loop-n.invariant.0 ∙ ap (λ k. set.len (passing (bit_in words) k)) full ∙ sym (len-points words)
