@@ -2,7 +2,7 @@
 use Rattle.std.proofs.Common.{◌≡◌, ◌+◌, ◌*◌, ◌/◌, ◌%◌, ℕ, zero, suc, Bool, List, [], ◌∷◌, ◌++◌, Option, None, Some, refl, sym, ap, ap₂, ◌∙◌, arith, append_assoc, subst}
 use Rattle.std.proofs.lemmas.List.{append_cancel_left}
 use Rattle.std.proofs.Math.Nat.{div-add-mod}
-use Rattle.tt_sgf.specs.Bytes.{lower_a, space}
+use Rattle.tt_sgf.specs.Bytes.{lower_a, newline, space}
 use Rattle.tt_sgf.specs.declared.size.Size.{Size}
 use Rattle.tt_game.specs.declared.frame.Side.{Side}
 use Rattle.tt_game.specs.declared.frame.Side.TheVariants.{Attacker, Defender}
@@ -12,9 +12,10 @@ use Rattle.tt_game.specs.Game.{HasValue, value_for}
 use Rattle.tt_game.specs.Line.{Standing}
 use Rattle.tt_game.specs.SideLaws.{words_apart}
 use Rattle.tt_game.specs.Sides.{side_word}
+use Rattle.tt_proof.specs.CertificateText.{shown_turn}
 use Rattle.tt_search.specs.declared.limits.Limits.{Limits}
 use Rattle.tsumego.specs.Laws.{VerdictsAreValues}
-use Rattle.tsumego.specs.Solving.{IsFirst, Verdict, decided, decided_text, first_text, shown_turn, unsettled}
+use Rattle.tsumego.specs.Solving.{IsFirst, Verdict, decided, decided_text, first_text, unsettled}
 
 -- the byte in a place, or 0
 abbrev byte : ℕ → List ℕ → ℕ
@@ -32,18 +33,18 @@ points_same size p q column row =
     sym (div-add-mod p size.columns) ∙ joined ∙ div-add-mod q size.columns
 
 -- a turn is read off its letters
-turns_same : (size : Size) (t u : Turn) (x y : List ℕ) → shown_turn size t ++ 10 ∷ x ≡ shown_turn size u ++ 10 ∷ y → t ≡ u
+turns_same : (size : Size) (t u : Turn) (x y : List ℕ) → shown_turn size t ++ newline ∷ x ≡ shown_turn size u ++ newline ∷ y → t ≡ u
 turns_same size (Play p) (Play q) x y e = ap Play (points_same size p q (ap (byte 0) e) (ap (byte 1) e))
-turns_same size (Play p) Pass x y e = let bad : 10 ≡ 115 = ap (byte 2) e in absurd (omega (arith, bad))
-turns_same size Pass (Play q) x y e = let bad : 115 ≡ 10 = ap (byte 2) e in absurd (omega (arith, bad))
+turns_same size (Play p) Pass x y e = let bad : newline ≡ 115 = ap (byte 2) e in absurd (omega (arith, bad))
+turns_same size Pass (Play q) x y e = let bad : 115 ≡ newline = ap (byte 2) e in absurd (omega (arith, bad))
 turns_same size Pass Pass x y e = refl
 
 -- and so is a first turn, or that there is none
-firsts_same : (size : Size) (first second : Option Turn) (x y : List ℕ) → first_text size first ++ 10 ∷ x ≡ first_text size second ++ 10 ∷ y → first ≡ second
+firsts_same : (size : Size) (first second : Option Turn) (x y : List ℕ) → first_text size first ++ newline ∷ x ≡ first_text size second ++ newline ∷ y → first ≡ second
 firsts_same size None None x y e = refl
-firsts_same size None (Some t) x y e = let bad : 10 ≡ space = ap (byte 0) e in absurd (omega (arith, bad))
-firsts_same size (Some t) None x y e = let bad : space ≡ 10 = ap (byte 0) e in absurd (omega (arith, bad))
-firsts_same size (Some t) (Some u) x y e = ap Some (turns_same size t u x y (append_cancel_left (space ∷ []) (shown_turn size t ++ 10 ∷ x) (shown_turn size u ++ 10 ∷ y) e))
+firsts_same size None (Some t) x y e = let bad : newline ≡ space = ap (byte 0) e in absurd (omega (arith, bad))
+firsts_same size (Some t) None x y e = let bad : space ≡ newline = ap (byte 0) e in absurd (omega (arith, bad))
+firsts_same size (Some t) (Some u) x y e = ap Some (turns_same size t u x y (append_cancel_left (space ∷ []) (shown_turn size t ++ newline ∷ x) (shown_turn size u ++ newline ∷ y) e))
 
 -- what a verdict that begins with the side's word says
 record Says (p : Standing) (side : Side) (rest : List ℕ) : Type 0 where
@@ -51,15 +52,15 @@ record Says (p : Standing) (side : Side) (rest : List ℕ) : Type 0 where
   lines : List ℕ
   valued : HasValue p.frame p.state (value_for side)
   first_is : IsFirst p side first
-  text : first_text p.frame.size first ++ 10 ∷ lines ≡ rest
+  text : first_text p.frame.size first ++ newline ∷ lines ≡ rest
 
 -- a verdict that begins with a side's word says so
 says : (p : Standing) (limits : Limits) (cert : Bool) (side : Side) (rest text : List ℕ) → Verdict p limits cert text → text ≡ side_word side ++ rest → Says p side rest
 says p limits cert side rest text (decided s first lines valued keeps more) e =
     let size = p.frame.size in
-    let parts : decided_text size s first ++ lines ≡ side_word s ++ (first_text size first ++ 10 ∷ lines) =
-    append_assoc (side_word s) (first_text size first ++ 10 ∷ []) lines ∙ ap (λ (x : List ℕ). side_word s ++ x) (append_assoc (first_text size first) (10 ∷ []) lines) in
-    let same = words_apart s side (first_text size first ++ 10 ∷ lines) rest (sym parts ∙ e) in
+    let parts : decided_text size s first ++ lines ≡ side_word s ++ (first_text size first ++ newline ∷ lines) =
+    append_assoc (side_word s) (first_text size first ++ newline ∷ []) lines ∙ ap (λ (x : List ℕ). side_word s ++ x) (append_assoc (first_text size first) (newline ∷ []) lines) in
+    let same = words_apart s side (first_text size first ++ newline ∷ lines) rest (sym parts ∙ e) in
     record {
       first = first;
       lines = lines;

@@ -1,6 +1,7 @@
 -- What `check` writes for an input: one line on the certificate that follows the first tree.
 use Rattle.std.specs.Prelude.{◌≡◌, ◌<◌, ◌≤◌, ℕ, List, [], ◌∷◌, ◌++◌, length, drop, codes, decimal, Ok, Err}
 use Rattle.std.specs.declared.result.Result.{Result}
+use Rattle.tt_sgf.specs.Bytes.{newline}
 use Rattle.tt_sgf.specs.declared.trees.TheConstants.{MAX_BYTES}
 use Rattle.tt_sgf.specs.Grammar.{GameTree, HasNoTree, SpelledUpTo, main_line}
 use Rattle.tt_sgf.specs.Values.{trimmed}
@@ -39,11 +40,11 @@ pub data Finds (input : List ℕ) : Finding → Type 0 where
   first_tree : (count : ℕ) (t : GameTree) (o : Finding) → length input ≤ MAX_BYTES → SpelledUpTo input count t
       → FindsOn (problem_of (main_line t)) (trimmed (drop count input)) o → Finds input o
 
--- the line on a finding; byte 10 ends it
+-- the line on a finding; a newline ends it
 abbrev pub finding_line : Finding → List ℕ
-finding_line Valid = codes "valid" ++ 10 ∷ []
-finding_line Invalid = codes "invalid" ++ 10 ∷ []
-finding_line (Refused code) = codes "refused " ++ (decimal code ++ 10 ∷ [])
+finding_line Valid = codes "valid" ++ newline ∷ []
+finding_line Invalid = codes "invalid" ++ newline ∷ []
+finding_line (Refused code) = codes "refused " ++ (decimal code ++ newline ∷ [])
 
 -- the exit status: 0 where the certificate is valid
 abbrev pub finding_status : Finding → ℕ

@@ -1,5 +1,6 @@
 -- Laws of verdicts.
 use Rattle.std.specs.Prelude.{◌≡◌, Bool, List, ℕ, ◌∷◌, ◌++◌, Option}
+use Rattle.tt_sgf.specs.Bytes.{newline}
 use Rattle.tt_game.specs.declared.frame.Side.{Side}
 use Rattle.tt_game.specs.declared.turns.Turn.{Turn}
 use Rattle.tt_game.specs.Game.{HasValue, value_for}
@@ -12,4 +13,4 @@ use Rattle.tsumego.specs.Solving.{IsFirst, Verdict, first_text}
 abbrev pub VerdictsAreValues : Type 0
 VerdictsAreValues = (p : Standing) (limits : Limits) (cert : Bool) (side : Side) (rest : List ℕ) → Verdict p limits cert (side_word side ++ rest)
     → HasValue p.frame p.state (value_for side)
-    × ((first : Option Turn) (lines : List ℕ) → rest ≡ first_text p.frame.size first ++ 10 ∷ lines → IsFirst p side first)
+    × ((first : Option Turn) (lines : List ℕ) → rest ≡ first_text p.frame.size first ++ newline ∷ lines → IsFirst p side first)

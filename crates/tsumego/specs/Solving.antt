@@ -1,19 +1,18 @@
 -- What `solve` says of a problem: killed or lives with the first turn and a certificate, or unsettled.
 use Rattle.std.specs.Prelude.{◌≡◌, ◌≢◌, ◌≤◌, ℕ, Bool, true, false, List, [], ◌∷◌, ◌++◌, Option, Some, None, Ok, Err, codes}
 use Rattle.std.specs.declared.result.Result.{Result}
-use Rattle.tt_sgf.specs.Bytes.{space}
+use Rattle.tt_sgf.specs.Bytes.{newline, space}
 use Rattle.tt_sgf.specs.declared.nodes.Node.{Node}
 use Rattle.tt_sgf.specs.declared.size.Size.{Size}
 use Rattle.tt_game.specs.declared.faults.GameFault.{GameFault}
 use Rattle.tt_game.specs.declared.frame.Side.{Side}
 use Rattle.tt_game.specs.declared.turns.Turn.{Turn}
-use Rattle.tt_game.specs.declared.turns.Turn.TheVariants.{Play, Pass}
 use Rattle.tt_game.specs.Faults.{code_of}
 use Rattle.tt_game.specs.Game.{HasValue, IsLegal, after, value_for}
 use Rattle.tt_game.specs.Line.{Standing}
 use Rattle.tt_game.specs.Problems.{problem_of}
 use Rattle.tt_game.specs.Sides.{side_word}
-use Rattle.tt_proof.specs.CertificateText.{IsCertificate, certificate_text, turn_text}
+use Rattle.tt_proof.specs.CertificateText.{IsCertificate, certificate_text, shown_turn}
 use Rattle.tt_proof.specs.Proven.{first_of}
 use Rattle.tt_proof.specs.Strategy.{Strategy, depth}
 use Rattle.tt_proof.specs.Wins.{Wins}
@@ -25,12 +24,7 @@ use Rattle.tt_share.specs.Answers.{IsStuckBehind}
 use Rattle.tsumego.specs.declared.outcome.Outcome.{Outcome}
 use Rattle.tsumego.specs.declared.outcome.Outcome.TheVariants.{Answered, Refused}
 
--- ---- texts; byte 10 ends each line
-
--- `ca` is the third column of the first row
-abbrev pub shown_turn : Size → Turn → List ℕ
-shown_turn size (Play p) = turn_text size (Play p)
-shown_turn size Pass = codes "pass"
+-- ---- texts; a newline ends each line
 
 -- a blank and the first turn, where there is one
 abbrev pub first_text : Size → Option Turn → List ℕ
@@ -39,11 +33,11 @@ first_text size (Some t) = space ∷ shown_turn size t
 
 -- the line of a decided problem
 abbrev pub decided_text : Size → Side → Option Turn → List ℕ
-decided_text size side first = side_word side ++ (first_text size first ++ 10 ∷ [])
+decided_text size side first = side_word side ++ (first_text size first ++ newline ∷ [])
 
 -- the line of a certificate
 abbrev pub certificate_line : Size → Side → Strategy → List ℕ
-certificate_line size side u = certificate_text size side u ++ 10 ∷ []
+certificate_line size side u = certificate_text size side u ++ newline ∷ []
 
 abbrev pub reason_word : Reason → List ℕ
 reason_word Budget = codes "budget"
@@ -52,7 +46,7 @@ reason_word Memory = codes "memory"
 
 -- the line of an unsettled problem
 abbrev pub unsettled_text : Reason → List ℕ
-unsettled_text reason = codes "unsettled " ++ (reason_word reason ++ 10 ∷ [])
+unsettled_text reason = codes "unsettled " ++ (reason_word reason ++ newline ∷ [])
 
 -- ---- what they say
 
@@ -73,7 +67,7 @@ pub record IsWinningCertificate (p : Standing) (limits : Limits) (side : Side) (
 -- nothing follows, or a certificate on a line of its own where it is asked for
 abbrev pub Follows : Standing → Limits → Side → Option Turn → Bool → List ℕ → Type 0
 Follows p limits side first false lines = lines ≡ []
-Follows p limits side first true lines = (bytes : List ℕ) × IsWinningCertificate p limits side first bytes × (lines ≡ bytes ++ 10 ∷ [])
+Follows p limits side first true lines = (bytes : List ℕ) × IsWinningCertificate p limits side first bytes × (lines ≡ bytes ++ newline ∷ [])
 
 -- behind some legal turn the search is stuck for the reason, and the lesser turns lose; of memory nothing is said
 abbrev pub IsUnsettled : Standing → Limits → Reason → Type 0

@@ -2,7 +2,7 @@
 use Rattle.std.specs.Prelude.{◌≡◌, ◌≢◌, ◌⊎◌, ◌+◌, ◌<◌, ◌≤◌, ℕ, Bool, true, false, List, [], ◌∷◌, ◌++◌, length, drop, codes, decimal, if◌then◌else◌}
 use Rattle.std.specs.List.{list_any}
 use Rattle.tt_sgf.specs.declared.trees.TheConstants.{MAX_BYTES}
-use Rattle.tt_sgf.specs.Bytes.{space}
+use Rattle.tt_sgf.specs.Bytes.{newline, space}
 use Rattle.tt_sgf.specs.declared.nodes.Node.{Node}
 use Rattle.tt_sgf.specs.Grammar.{GameTree, HasNoTree, HasOpen, SpelledUpTo, main_line}
 use Rattle.tsumego.specs.declared.outcome.Outcome.{Outcome}
@@ -10,13 +10,13 @@ use Rattle.tsumego.specs.declared.outcome.Outcome.TheVariants.{Scored, Answered,
 
 -- ---- lines
 
--- the line on the outcome of tree number k, which byte 10 ends; an answer's text brings its own bytes 10
+-- the line on the outcome of tree number k, which a newline ends; an answer's text brings its own newlines
 abbrev pub line_of : ℕ → Outcome → List ℕ
 line_of k (Scored r) =
     decimal k ++ (codes " black " ++ (decimal r.black ++ (codes " white " ++ (decimal r.white
-    ++ (codes " " ++ ((if r.finished then codes "finished" else codes "unfinished") ++ 10 ∷ []))))))
+    ++ (codes " " ++ ((if r.finished then codes "finished" else codes "unfinished") ++ newline ∷ []))))))
 line_of k (Answered text) = decimal k ++ (space ∷ text)
-line_of k (Refused code) = decimal k ++ (codes " refused " ++ (decimal code ++ 10 ∷ []))
+line_of k (Refused code) = decimal k ++ (codes " refused " ++ (decimal code ++ newline ∷ []))
 
 -- the lines on outcomes, the first of which has number k
 abbrev pub lines_from : ℕ → List Outcome → List ℕ

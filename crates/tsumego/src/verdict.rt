@@ -4,11 +4,11 @@ ghost use Rattle.tt_game.specs.Laws.{IsState};
 ghost use Rattle.tt_proof.specs.Proven.{IsWon, first_of};
 ghost use Rattle.tt_proof.specs.Strategy.{IsOnBoard};
 ghost use Rattle.tt_share.specs.Answers.{IsAnswer};
-ghost use Rattle.tsumego.specs.Solving.{Verdict, certificate_line, decided_text, first_text, reason_word, shown_turn, unsettled_text};
+ghost use Rattle.tsumego.specs.Solving.{Verdict, certificate_line, decided_text, first_text, reason_word, unsettled_text};
 
 use std::alloc::Global;
 use tt_game::{Line, Side, Turn};
-use tt_proof::{Proof, put_turn, write_cert};
+use tt_proof::{Proof, put_shown, write_cert};
 use tt_search::{Limits, Reason};
 use tt_sgf::{NoMemory, Size};
 use tt_share::Answer;
@@ -24,20 +24,6 @@ fn reason_word(reason: Reason) -> &'static [u8]
     }
 }
 
-/// Writes a turn behind the bytes: the letters of its column and row, or `pass`.
-fn put_shown(out: &mut Vec<u8>, turn: &Turn, size: Size) -> Result<(), NoMemory>
-    requires { IsOnBoard size turn.now }
-    ensures { OnOk result (out.new.items ≡ out.old.items ++ shown_turn size turn.now) }
-{
-    match turn {
-        Turn::Play(_) => put_turn(out, *turn, size),
-        Turn::Pass => {
-            out.extend_from_slice(b"pass")?;
-            Ok(())
-        }
-    }
-}
-
 /// Writes a blank and the first turn behind the bytes, where there is one.
 fn put_first(out: &mut Vec<u8>, first: &Option<Turn>, size: Size) -> Result<(), NoMemory>
     requires { IfSome first.now (IsOnBoard size) }
@@ -47,7 +33,7 @@ fn put_first(out: &mut Vec<u8>, first: &Option<Turn>, size: Size) -> Result<(), 
         None => Ok(()),
         Some(turn) => {
             out.push(b' ')?;
-            put_shown(out, turn, size)
+            put_shown(out, *turn, size)
         }
     }
 }

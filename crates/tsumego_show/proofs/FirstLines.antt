@@ -2,6 +2,7 @@
 use Rattle.std.proofs.Common.{◌≡◌, inl, inr, ℕ, ◌-◌, Bool, false, nat_eq, rules, List, [], length, suc, ◌∷◌, ◌++◌, codes, sym, ◌∙◌, if◌then◌else◌, ◌==◌, ap, ap₂, append-nil}
 use Rattle.std.proofs.Common.{append_assoc, subst, Result, Ok, Err, OnOk, arith}
 use Rattle.std.proofs.lemmas.Bool.{cases_Bool}
+use Rattle.tt_sgf.specs.Bytes.{newline}
 use Rattle.tt_game.specs.declared.frame.Frame.{Frame}
 use Rattle.tt_game.specs.declared.frame.Side.{Side}
 use Rattle.tt_game.specs.Line.{Standing}
@@ -26,9 +27,9 @@ lines_over out rest behind whole out' b left e z h more =
     more ∙ ap₂ (λ (x : List ℕ) n. out ++ first_lines n x) (sym e) (sym z) ∙ h
 
 -- where a line is left, the first byte is shown, and then the first lines of the rest
-one_line : (n b : ℕ) (bs : List ℕ) → (n ≡ 0 → ⊥) → first_lines n (b ∷ bs) ≡ b ∷ first_lines (if b == 10 then n - 1 else n) bs
+one_line : (n b : ℕ) (bs : List ℕ) → (n ≡ 0 → ⊥) → first_lines n (b ∷ bs) ≡ b ∷ first_lines (if b == newline then n - 1 else n) bs
 unfolding first_lines
-one_line n b bs some = ap (λ (x : Bool). if x then codes "...\n" else b ∷ first_lines (if b == 10 then n - 1 else n) bs) off
+one_line n b bs some = ap (λ (x : Bool). if x then codes "...\n" else b ∷ first_lines (if b == newline then n - 1 else n) bs) off
   where
     -- some line is left
     off : nat_eq n 0 ≡ false
@@ -36,9 +37,9 @@ one_line n b bs some = ap (λ (x : Bool). if x then codes "...\n" else b ∷ fir
 
 -- one more byte
 pub lines_more : (out rest behind whole out' : List ℕ) (b left next : ℕ) → rest ≡ b ∷ behind → (left ≡ 0 → ⊥) → out ++ first_lines left rest ≡ whole → out' ≡ out ++ b ∷ []
-    → next ≡ (if b == 10 then left - 1 else left) → out' ++ first_lines next behind ≡ whole
+    → next ≡ (if b == newline then left - 1 else left) → out' ++ first_lines next behind ≡ whole
 lines_more out rest behind whole out' b left next e some h more is =
-    ap₂ (λ (x : List ℕ) n. x ++ first_lines n behind) more is ∙ append_assoc out (b ∷ []) (first_lines (if b == 10 then left - 1 else left) behind)
+    ap₂ (λ (x : List ℕ) n. x ++ first_lines n behind) more is ∙ append_assoc out (b ∷ []) (first_lines (if b == newline then left - 1 else left) behind)
     ∙ ap (λ (x : List ℕ). out ++ x) (sym (one_line left b behind some)) ∙ ap (λ (x : List ℕ). out ++ first_lines left x) (sym e) ∙ h
 
 -- the size of the line's frame is that of its problem

@@ -1,16 +1,15 @@
 -- What is drawn of a certificate: the board after the first turn of its side, and its strategy as an indented tree, a line for each
 -- turn, and what follows it further in.
 use Rattle.std.specs.Prelude.{◌≡◌, ◌+◌, ◌-◌, ◌==◌, ℕ, nat_lt, nat_eq, List, [], ◌∷◌, ◌++◌, codes, replicate, Some, if◌then◌else◌}
-use Rattle.tt_sgf.specs.Bytes.{space}
+use Rattle.tt_sgf.specs.Bytes.{newline, space}
 use Rattle.tt_sgf.specs.declared.size.Size.{Size}
 use Rattle.tt_board.specs.declared.Colour.{Colour}
 use Rattle.tt_board.specs.Play.{other}
 use Rattle.tt_game.specs.declared.frame.Side.{Side}
 use Rattle.tt_game.specs.declared.turns.Turn.{Turn}
-use Rattle.tt_game.specs.declared.turns.Turn.TheVariants.{Play, Pass}
 use Rattle.tt_game.specs.Game.{IsLegal, after, colour_of}
 use Rattle.tt_game.specs.Line.{Standing}
-use Rattle.tt_proof.specs.CertificateText.{IsCertificate, IsTooDeep, turn_text}
+use Rattle.tt_proof.specs.CertificateText.{IsCertificate, IsTooDeep, shown_turn}
 use Rattle.tt_proof.specs.Proven.{first_of}
 use Rattle.tt_proof.specs.Strategy.{Strategy, Entries, done, pick, reply, none, entry}
 use Rattle.tsumego_show.specs.Picture.{board_text, colour_name}
@@ -20,14 +19,9 @@ abbrev pub deeper : ℕ → ℕ
 deeper level = if nat_lt level 40 then level + 1 else level
 
 module _ (size : Size) where
-  -- `ca` is the third column of the first row
-  abbrev pub shown_turn : Turn → List ℕ
-  shown_turn (Play p) = turn_text size (Play p)
-  shown_turn Pass = codes "pass"
-
-  -- blanks, who plays, and the turn; byte 10 ends the line
+  -- blanks, who plays, and the turn; a newline ends the line
   unfoldable pub turn_line : ℕ → Colour → Turn → List ℕ
-  turn_line level k t = replicate level space ++ (colour_name k ++ (space ∷ (shown_turn t ++ 10 ∷ [])))
+  turn_line level k t = replicate level space ++ (colour_name k ++ (space ∷ (shown_turn size t ++ newline ∷ [])))
 
   module _ (own : Colour) where
     abbrev mutual
@@ -44,7 +38,7 @@ module _ (size : Size) where
 -- the first n lines, and a line of three dots where there are more
 unfoldable pub first_lines : ℕ → List ℕ → List ℕ
 first_lines n [] = []
-first_lines n (b ∷ bs) = if nat_eq n 0 then codes "...\n" else b ∷ first_lines (if b == 10 then n - 1 else n) bs
+first_lines n (b ∷ bs) = if nat_eq n 0 then codes "...\n" else b ∷ first_lines (if b == newline then n - 1 else n) bs
 
 -- how many lines of a strategy are shown
 abbrev pub most_lines : ℕ

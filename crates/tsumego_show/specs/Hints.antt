@@ -3,7 +3,7 @@
 use Rattle.std.specs.Prelude.{ℕ, zero, suc, ◌+◌, ◌-◌, ◌%◌, ◌&&◌, ◌||◌, not, nat_eq, nat_le, nat_lt, Bool, false, List, [], ◌∷◌, ◌++◌, codes, map, slice_index_or, if◌then◌else◌}
 use Rattle.std.specs.List.{flat_map, range_with_len}
 use Rattle.std.specs.FinSet as set
-use Rattle.tt_sgf.specs.Bytes.{space}
+use Rattle.tt_sgf.specs.Bytes.{newline, space}
 use Rattle.tt_sgf.specs.declared.size.Size.{Size}
 use Rattle.tt_sgf.specs.Sizes.{point_count}
 use Rattle.tt_board.specs.declared.Colour.{Colour}
@@ -132,7 +132,7 @@ module _ (p : Standing) where
   abbrev pub is_wide : Bool
   is_wide = nat_lt most_points (point_count p.frame.size) && nat_eq (set.len p.frame.region) (point_count p.frame.size)
 
-  -- ---- their lines; byte 10 ends each, and 32 is a blank
+  -- ---- their lines; a newline ends each
 
   -- a blank and the name of a point, where it is marked
   unfoldable pub name_if : List Bool → ℕ → List ℕ
@@ -145,7 +145,7 @@ module _ (p : Standing) where
   -- the words and the points, where there are points
   abbrev pub listed : List ℕ → List ℕ → List ℕ
   listed words [] = []
-  listed words (b ∷ bs) = words ++ (b ∷ bs ++ 10 ∷ [])
+  listed words (b ∷ bs) = words ++ (b ∷ bs ++ newline ∷ [])
 
   abbrev pub leaks_line : List ℕ
   leaks_line = listed (codes "hint: empty and not in the region, so that nobody can fill them:") (points_text leaks)
@@ -157,7 +157,7 @@ module _ (p : Standing) where
   strangers_line = listed (codes "hint: stones like T in or beside the region, of other chains:") (points_text strangers)
 
   abbrev pub wide_line : List ℕ
-  wide_line = if is_wide then codes "hint: the region is the whole board" ++ 10 ∷ [] else []
+  wide_line = if is_wide then codes "hint: the region is the whole board" ++ newline ∷ [] else []
 
   abbrev pub hints : List ℕ
   hints = leaks_line ++ (takeables_line ++ (strangers_line ++ wide_line))

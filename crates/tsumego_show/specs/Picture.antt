@@ -2,7 +2,7 @@
 use Rattle.std.specs.Prelude.{ℕ, nat_eq, ◌+◌, ◌*◌, Bool, true, false, List, [], ◌∷◌, ◌++◌, codes, decimal, length, Option, Some, None, if◌then◌else◌}
 use Rattle.std.specs.List.{flat_map, range_with_len}
 use Rattle.std.specs.FinSet as set
-use Rattle.tt_sgf.specs.Bytes.{lower_a, space}
+use Rattle.tt_sgf.specs.Bytes.{lower_a, newline, space}
 use Rattle.tt_sgf.specs.declared.size.Size.{Size}
 use Rattle.tt_board.specs.declared.Colour.{Colour}
 use Rattle.tt_board.specs.declared.Colour.TheVariants.{Black, White}
@@ -34,7 +34,7 @@ mark_of target region (Some k) = if region then small_mark target k else stone_m
 abbrev pub mark_at : Standing → ℕ → ℕ
 mark_at p n = mark_of (set.contains p.frame.targets n) (set.contains p.frame.region n) (entry_at p.state.present n)
 
--- ---- lines; byte 10 ends each, and 32 is a blank
+-- ---- lines; a newline ends each
 
 -- what is shown in each of so many columns, with a blank in front
 abbrev pub columns_text : (ℕ → ℕ) → ℕ → List ℕ
@@ -46,7 +46,7 @@ letter n = lower_a + n
 
 -- the letters of the columns
 abbrev pub letters_line : Size → List ℕ
-letters_line size = space ∷ (columns_text letter size.columns ++ 10 ∷ [])
+letters_line size = space ∷ (columns_text letter size.columns ++ newline ∷ [])
 
 -- what is shown of the points of a row, column by column
 abbrev pub shown_in : Standing → ℕ → ℕ → ℕ
@@ -54,7 +54,7 @@ shown_in p row column = mark_at p (row * p.frame.size.columns + column)
 
 -- the letter of a row, and what is shown of its points
 abbrev pub row_line : Standing → ℕ → List ℕ
-row_line p row = letter row ∷ (columns_text (shown_in p row) p.frame.size.columns ++ 10 ∷ [])
+row_line p row = letter row ∷ (columns_text (shown_in p row) p.frame.size.columns ++ newline ∷ [])
 
 -- the letters of the columns above the rows
 abbrev pub board_text : Standing → List ℕ
@@ -79,7 +79,7 @@ earlier_text n =
 
 -- `Black to move, T is White, after 1 earlier position`
 abbrev pub asked_line : Standing → List ℕ
-asked_line p = mover_text p ++ (target_text p ++ (earlier_text (length p.state.earlier) ++ 10 ∷ []))
+asked_line p = mover_text p ++ (target_text p ++ (earlier_text (length p.state.earlier) ++ newline ∷ []))
 
 -- the picture of a problem
 abbrev pub picture : Standing → List ℕ

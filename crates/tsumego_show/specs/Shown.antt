@@ -2,7 +2,7 @@
 use Rattle.std.specs.Prelude.{◌≡◌, ◌⊎◌, ◌+◌, ◌<◌, ◌≤◌, ℕ, Bool, true, false, ◌||◌, List, [], ◌∷◌, ◌++◌, length, drop, codes, decimal, Ok, Err, if◌then◌else◌}
 use Rattle.std.specs.declared.result.Result.{Result}
 use Rattle.tt_sgf.specs.declared.trees.TheConstants.{MAX_BYTES}
-use Rattle.tt_sgf.specs.Bytes.{space}
+use Rattle.tt_sgf.specs.Bytes.{newline, space}
 use Rattle.tt_sgf.specs.Grammar.{GameTree, HasNoTree, HasOpen, SpelledUpTo, main_line}
 use Rattle.tt_game.specs.declared.faults.GameFault.{GameFault}
 use Rattle.tt_game.specs.Faults.{code_of}
@@ -13,9 +13,9 @@ use Rattle.tsumego_show.specs.Drawing.{Draws}
 use Rattle.tsumego_show.specs.Hints.{hints}
 use Rattle.tsumego_show.specs.Picture.{picture}
 
--- the line on a refusal of tree number k, which byte 10 ends
+-- the line on a refusal of tree number k, which a newline ends
 abbrev pub refusal : ℕ → ℕ → List ℕ
-refusal k code = decimal k ++ (codes " refused " ++ (decimal code ++ 10 ∷ []))
+refusal k code = decimal k ++ (codes " refused " ++ (decimal code ++ newline ∷ []))
 
 -- The text on what follows a problem: nothing where a tree may follow; else that on a certificate, without the white space
 -- at both ends.

@@ -1,17 +1,17 @@
 //! Draws what follows a problem: the first turn and the strategy of a certificate.
 ghost use Rattle.std.specs.Prelude.{◌≡◌, ◌≢◌, ◌++◌, ◌∷◌, ◌==◌, ◌-◌, [], ℕ, List, replicate, if◌then◌else◌, OnOk};
-ghost use Rattle.tt_sgf.specs.Bytes.{space};
+ghost use Rattle.tt_sgf.specs.Bytes.{newline, space};
+ghost use Rattle.tt_proof.specs.CertificateText.{shown_turn};
 ghost use Rattle.tt_proof.specs.Strategy.{AreInOrder, IsInOrder, IsOnBoard, entries_of_trees, strategy_of};
 ghost use Rattle.tsumego_show.specs.Picture.{colour_name};
-ghost use Rattle.tsumego_show.specs.Drawing.{Draws, DrawsFirst, deep_line, deeper, entries_lines, first_lines, heading, most_lines, none_line, shown_turn, strategy_text, tree_lines, turn_line};
+ghost use Rattle.tsumego_show.specs.Drawing.{Draws, DrawsFirst, deep_line, deeper, entries_lines, first_lines, heading, most_lines, none_line, strategy_text, tree_lines, turn_line};
 
 use crate::opening::put_first;
 use crate::picture::{colour_name, colour_of};
-use crate::turns::put_shown;
 use std::alloc::Global;
 use tt_board::Colour;
 use tt_game::{Line, Side, Turn};
-use tt_proof::{CertFault, Tree, read_cert};
+use tt_proof::{CertFault, Tree, put_shown, read_cert};
 use tt_sgf::{NoMemory, Size};
 
 /// How many lines of a strategy are shown.
@@ -37,7 +37,7 @@ fn put_blanks(out: &mut Vec<u8>, level: usize) -> Result<(), NoMemory>
 /// Writes who plays and a turn behind the text.
 fn put_played(out: &mut Vec<u8>, turn: Turn, size: Size, colour: Colour) -> Result<(), NoMemory>
     requires { IsOnBoard size turn }
-    ensures { OnOk result (out.new.items ≡ out.old.items ++ colour_name colour ++ space ∷ (shown_turn size turn ++ 10 ∷ [])) }
+    ensures { OnOk result (out.new.items ≡ out.old.items ++ colour_name colour ++ space ∷ (shown_turn size turn ++ newline ∷ [])) }
 {
     out.extend_from_slice(colour_name(colour))?;
     out.push(b' ')?;
@@ -104,7 +104,7 @@ fn put_entries(
 /// How many lines are left behind a byte.
 fn fewer(left: usize, byte: u8) -> usize
     requires { left ≢ 0 }
-    ensures { result ≡ (if byte == 10 then left - 1 else left) }
+    ensures { result ≡ (if byte == newline then left - 1 else left) }
 {
     if byte == b'\n' { left - 1 } else { left }
 }

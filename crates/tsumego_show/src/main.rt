@@ -9,7 +9,6 @@ mod opening;
 mod picture;
 mod running;
 mod showing;
-mod turns;
 
 use devices::Watched;
 use running::run;

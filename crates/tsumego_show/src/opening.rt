@@ -5,9 +5,8 @@ ghost use Rattle.tt_proof.specs.Strategy.{IsInOrder, IsOnBoard, strategy_of};
 ghost use Rattle.tsumego_show.specs.Drawing.{DrawsFirst, turned, turned_head, turned_text};
 
 use crate::picture::{colour_name, colour_of, put_board};
-use crate::turns::put_shown;
 use tt_game::{Line, Side, Turn};
-use tt_proof::Tree;
+use tt_proof::{Tree, put_shown};
 use tt_sgf::NoMemory;
 
 /// Whether the side is to move, and the turn is legal.

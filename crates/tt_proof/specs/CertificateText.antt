@@ -1,5 +1,5 @@
 -- The text of a certificate. Points are written as SGF FF[4] writes them: the letter of the column, then that of the row.
-use Rattle.std.specs.Prelude.{◌≡◌, ℕ, zero, suc, ◌+◌, ◌/◌, ◌%◌, ◌≤◌, ◌⊎◌, List, [], ◌∷◌, ◌++◌}
+use Rattle.std.specs.Prelude.{◌≡◌, ℕ, zero, suc, ◌+◌, ◌/◌, ◌%◌, ◌≤◌, ◌⊎◌, List, [], ◌∷◌, ◌++◌, codes}
 use Rattle.tt_sgf.specs.Bytes.{lower_a, semicolon, space}
 use Rattle.tt_sgf.specs.declared.size.Size.{Size}
 use Rattle.tt_game.specs.declared.frame.Side.{Side}
@@ -42,6 +42,11 @@ module _ (size : Size) where
   -- `ca` is the third column of the first row, `--` a pass
   abbrev pub turn_text : Turn → List ℕ
   turn_text t = first_byte t ∷ second_byte t ∷ []
+
+  -- the same for people to read: a pass is `pass`
+  abbrev pub shown_turn : Turn → List ℕ
+  shown_turn (Play p) = turn_text (Play p)
+  shown_turn Pass = codes "pass"
 
   abbrev mutual
     -- `.`, `!` with a turn and a tree, or `?` with turns and trees up to `;`

@@ -5,7 +5,7 @@ ghost use Rattle.tt_sgf.specs.Bytes.{lower_a};
 ghost use Rattle.tt_sgf.specs.Sizes.{point_count};
 ghost use Rattle.tt_proof.specs.declared.tree.TheConstants.{MOST_DEPTH};
 ghost use Rattle.tt_proof.specs.Strategy.{depth, strategy_of, entries_of_trees, IsOnBoard, IsInOrder, AreInOrder};
-ghost use Rattle.tt_proof.specs.CertificateText.{turn_text, tree_text, entries_text, certificate_text};
+ghost use Rattle.tt_proof.specs.CertificateText.{shown_turn, turn_text, tree_text, entries_text, certificate_text};
 
 use crate::tree::Tree;
 use std::alloc::Global;
@@ -46,6 +46,22 @@ pub fn put_turn(out: &mut Vec<u8>, turn: Turn, size: Size) -> Result<(), NoMemor
     };
     out.extend_from_slice(&text)?;
     Ok(())
+}
+
+/// Writes a turn for people to read behind the bytes: the letters of its column and row, or `pass`. Where memory is refused
+/// nothing is written.
+pub fn put_shown(out: &mut Vec<u8>, turn: Turn, size: Size) -> Result<(), NoMemory>
+    requires { IsOnBoard size turn }
+    ensures ok { OnOk result (out.new.items ≡ out.old.items ++ shown_turn size turn) }
+    ensures err { OnErr result (out.new.items ≡ out.old.items) }
+{
+    match turn {
+        Turn::Play(_) => put_turn(out, turn, size),
+        Turn::Pass => {
+            out.extend_from_slice(b"pass")?;
+            Ok(())
+        }
+    }
 }
 
 #[cycle(put)]

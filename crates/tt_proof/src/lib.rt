@@ -13,7 +13,7 @@ mod replays;
 mod tree;
 
 pub use certificate_read::{CertFault, read_cert};
-pub use certificate_write::{put_turn, write_cert};
+pub use certificate_write::{put_shown, put_turn, write_cert};
 pub use footprints::{Footprint, footprint_of};
 pub use plan::{Plan, Replies};
 pub use proven::{Proof, Rejected};

@@ -31,6 +31,10 @@ colon = 58
 abbrev pub space : ℕ
 space = 32
 
+-- what ends a line
+abbrev pub newline : ℕ
+newline = 10
+
 -- the first digit and the last
 abbrev pub digit_0 : ℕ
 digit_0 = 48
