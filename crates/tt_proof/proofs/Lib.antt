@@ -2,6 +2,8 @@ pub mod TextLemmas
 pub mod EntryLemmas
 pub mod ForcesLemmas
 pub mod FitsLemmas
+pub mod FittingLemmas
+pub mod CarryLemmas
 pub mod NeedLemmas
 pub mod FootprintLemmas
 pub mod RepeatLemmas

@@ -1,5 +1,5 @@
 -- What the parts of a walk for a footprint find.
-use Rattle.std.specs.Prelude.{◌≡◌, ◌≢◌, ◌↔◌, ◌⊎◌, ℕ, ◌<◌, List, ◌∷◌, [], ◌++◌, Contains}
+use Rattle.std.specs.Prelude.{◌≡◌, ◌≢◌, ◌↔◌, ◌⊎◌, ℕ, ◌<◌, List, Contains}
 use Rattle.tt_board.specs.Position.{Colouring}
 use Rattle.tt_board.specs.Differences.{colourings_from}
 use Rattle.tt_board.specs.declared.differences.Edit.{Edit}

@@ -6,6 +6,7 @@ ghost use Rattle.tt_board.specs.Differences.{colourings_from};
 ghost use Rattle.tt_game.specs.Game.{State, IsLegal, IsBarred, after, history, made};
 ghost use Rattle.tt_game.specs.declared.turns.Turn.{Turn};
 ghost use Rattle.tt_game.specs.declared.frame.Frame.{Frame};
+ghost use Rattle.tt_proof.specs.declared.tree.TheConstants.{MOST_DEPTH};
 ghost use Rattle.tt_proof.specs.Strategy.{Strategy, done, pick, reply, none, depth, depth_of_entries, strategy_of, entries_of, entries_of_trees, IsInOrder, AreInOrder, IsOnBoard};
 ghost use Rattle.tt_proof.specs.Footprints.{IsRepeated};
 ghost use Rattle.tt_proof.specs.KeptFootprints.{IsFootprint, IsBoardAfter, IsEntryJoined};
@@ -53,20 +54,20 @@ impl Footprint {
     pub fn picked(
         alloc: Global,
         line: &Line,
-        turn: Turn,
+        turn: &Turn,
         board: &Board,
         behind: &Footprint,
     ) -> Result<Footprint, NoMemory>
-        requires legal { IsLegal line.now.frame line.now.state turn }
-        requires board { IsBoardAfter line.now.frame line.now.state turn board.now }
-        ensures { IfOk result (λ x. (u : Strategy) → IsFootprint line.now.frame (after line.now.frame line.now.state turn) u behind.now
-            → IsFootprint line.now.frame line.now.state (pick turn u) x) }
+        requires legal { IsLegal line.now.frame line.now.state turn.now }
+        requires board { IsBoardAfter line.now.frame line.now.state turn.now board.now }
+        ensures { IfOk result (λ x. (u : Strategy) → IsFootprint line.now.frame (after line.now.frame line.now.state turn.now) u behind.now
+            → IsFootprint line.now.frame line.now.state (pick turn.now u) x) }
     {
         let base = line.present();
         let mut needs = Differences::new(alloc);
-        give(&mut needs, base, &turn, board, &behind.needs)?;
+        give(&mut needs, base, turn, board, &behind.needs)?;
         let mut avoids = Differences::new(alloc);
-        put_played(&mut avoids, base, &turn, board)?;
+        put_played(&mut avoids, base, turn, board)?;
         avoids.append(base, &behind.avoids, board, &[])?;
         Ok(Footprint { needs, avoids })
     }
@@ -76,17 +77,17 @@ impl Footprint {
     pub fn join(
         &mut self,
         line: &Line,
-        turn: Turn,
+        turn: &Turn,
         board: &Board,
         behind: &Footprint,
     ) -> Result<(), NoMemory>
-        requires legal { IsLegal line.now.frame line.now.state turn }
-        requires board { IsBoardAfter line.now.frame line.now.state turn board.now }
-        ensures { OnOk result ((u : Strategy) → IsFootprint line.now.frame (after line.now.frame line.now.state turn) u behind.now
-            → IsEntryJoined line.now.frame line.now.state turn u self.old self.new) }
+        requires legal { IsLegal line.now.frame line.now.state turn.now }
+        requires board { IsBoardAfter line.now.frame line.now.state turn.now board.now }
+        ensures { OnOk result ((u : Strategy) → IsFootprint line.now.frame (after line.now.frame line.now.state turn.now) u behind.now
+            → IsEntryJoined line.now.frame line.now.state turn.now u self.old self.new) }
     {
         let base = line.present();
-        give(&mut self.needs, base, &turn, board, &behind.needs)?;
+        give(&mut self.needs, base, turn, board, &behind.needs)?;
         self.avoids.append(base, &behind.avoids, board, &[])
     }
 }
@@ -162,7 +163,7 @@ fn join_entry(
     line: &mut Line,
     footprint: &mut Footprint,
 ) -> Result<(), NoMemory>
-    requires depth { depth (strategy_of tree.now) ≤ 512 }
+    requires depth { depth (strategy_of tree.now) ≤ MOST_DEPTH }
     requires on_board { IsOnBoard line.old.frame.size turn.now }
     requires in_order { IsInOrder line.old.frame.size (strategy_of tree.now) }
     ensures exact { OnOk result (IsEntryJoined line.old.frame line.old.state turn.now (strategy_of tree.now) footprint.old footprint.new) }
@@ -174,7 +175,7 @@ fn join_entry(
             let found = footprint_of(alloc, tree, line);
             line.pop();
             match found {
-                Ok(behind) => footprint.join(line, *turn, &board, &behind),
+                Ok(behind) => footprint.join(line, turn, &board, &behind),
                 Err(e) => Err(e),
             }
         }
@@ -190,7 +191,7 @@ fn footprint_of_pick(
     tree: &Tree,
     line: &mut Line,
 ) -> Result<Footprint, NoMemory>
-    requires depth { depth (strategy_of tree.now) ≤ 512 }
+    requires depth { depth (strategy_of tree.now) ≤ MOST_DEPTH }
     requires on_board { IsOnBoard line.old.frame.size turn.now }
     requires in_order { IsInOrder line.old.frame.size (strategy_of tree.now) }
     ensures exact { IfOk result (λ x. IsFootprint line.old.frame line.old.state (pick turn.now (strategy_of tree.now)) x) }
@@ -202,7 +203,7 @@ fn footprint_of_pick(
             let found = footprint_of(alloc, tree, line);
             line.pop();
             match found {
-                Ok(behind) => Footprint::picked(alloc, line, *turn, &board, &behind),
+                Ok(behind) => Footprint::picked(alloc, line, turn, &board, &behind),
                 Err(e) => Err(e),
             }
         }
@@ -217,7 +218,7 @@ fn footprint_of_reply(
     list: &[(Turn, Tree)],
     line: &mut Line,
 ) -> Result<Footprint, NoMemory>
-    requires depth { depth_of_entries (entries_of_trees list.now) ≤ 512 }
+    requires depth { depth_of_entries (entries_of_trees list.now) ≤ MOST_DEPTH }
     requires in_order { AreInOrder line.old.frame.size 0 (entries_of_trees list.now) }
     ensures exact { IfOk result (λ x. IsFootprint line.old.frame line.old.state (reply (entries_of_trees list.now)) x) }
     ensures same { line.new ≡ line.old }
@@ -234,7 +235,7 @@ fn footprint_of_reply(
 /// rise. The line stands as before, also after want of memory.
 #[cycle(collect)]
 pub fn footprint_of(alloc: Global, t: &Tree, line: &mut Line) -> Result<Footprint, NoMemory>
-    requires depth { depth (strategy_of t.now) ≤ 512 }
+    requires depth { depth (strategy_of t.now) ≤ MOST_DEPTH }
     requires in_order { IsInOrder line.old.frame.size (strategy_of t.now) }
     ensures exact { IfOk result (λ x. IsFootprint line.old.frame line.old.state (strategy_of t.now) x) }
     ensures same { line.new ≡ line.old }

@@ -6,11 +6,11 @@ ghost use Rattle.tt_search.specs.Usable.{IsUsable};
 use crate::store::Store;
 use std::sync::Arc;
 use tt_game::{Line, Side};
-use tt_proof::{Proof, replay};
+use tt_proof::Proof;
 use tt_sgf::NoMemory;
 
 /// The store's proof for the side, where it may be used at the line with room for as many turns: its tree is no deeper,
-/// and it wins there by replay, since it may have been found under another history.
+/// and it wins there, too, though it may have been found under another history.
 fn usable<S: Store>(
     line: &mut Line,
     room: u16,
@@ -28,7 +28,7 @@ fn usable<S: Store>(
     if proof.depth() > room {
         return Ok(None);
     }
-    if replay(proof.tree(), side, line)? {
+    if proof.wins_at(line)? {
         return Ok(Some(proof));
     }
     Ok(None)

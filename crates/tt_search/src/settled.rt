@@ -71,7 +71,7 @@ impl Node {
         ensures tree { IfOk result (λ p. p.tree ≡ strategy_for side self.now) }
     {
         let plan = self.plan(alloc, side)?;
-        Proof::winning(line, side, plan)
+        Proof::winning(alloc, line, side, plan)
     }
 
     /// Holds a proof that the node offers, where memory for a handle is left.

@@ -10,6 +10,6 @@ returns c =
     let needs = rw (c.present-base.ensures.points, points) at c.in_ok-give.ensures in
     let avoids = rw (c.present-base.ensures.points, points) at c.append.ensures.ok in
     on_ok c.append.result _ _
-    (λ more u foot. foot_entry c.args.line.now.frame c.args.line.now.state c.args.turn u c.args.behind.now c.args.self.now _ c.requires.legal foot
+    (λ more u foot. foot_entry c.args.line.now.frame c.args.line.now.state c.args.turn.now u c.args.behind.now c.args.self.now _ c.requires.legal foot
     needs (λ x. otherwise _ _ _ _ (more x) (but_none _ x)))
     avoids

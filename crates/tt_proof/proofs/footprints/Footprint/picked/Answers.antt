@@ -9,7 +9,7 @@ returns c =
     let needs = rw (c.present-base.ensures.points, points) at c.in_ok-give.ensures in
     let played = rw (c.present-base.ensures.points, points) at c.in_ok-put_played.ensures in
     let avoids = rw (c.present-base.ensures.points, points) at c.in_ok-append.ensures.ok in
-    λ u foot. foot_pick c.args.line.now.frame c.args.line.now.state c.args.turn u c.args.behind.now _ c.requires.legal foot
+    λ u foot. foot_pick c.args.line.now.frame c.args.line.now.state c.args.turn.now u c.args.behind.now _ c.requires.legal foot
     (record {
       needed = λ x. only_more _ _ _ (none_shown _ _ x c.new-needs.ensures) (needs x);
       avoided = λ x. left_same _ _ _ _ (otherwise _ _ _ _ (avoids x) (but_none _ x)) (only_more _ _ _ (none_shown _ _ x c.new-avoids.ensures) (played x));
