@@ -1,4 +1,4 @@
--- What a strategy needs and avoids behind another history: one path and two histories, as where it is shown to win there.
+-- What a strategy needs, avoids and meets behind another history: one path and two histories, as where it is shown to win there.
 use Rattle.std.proofs.Common.{◌≡◌, ℕ, ◌⊎◌, ◌↔◌, inl, inr, List, [], ◌∷◌, ◌++◌, ◌∙◌, None, refl, sym, ap, subst, Contains}
 use Rattle.tt_board.specs.Position.{Colouring}
 use Rattle.tt_board.specs.Decided.{Decision}
@@ -138,8 +138,8 @@ module _ (side : Side) (f : Frame) (h k : List Colouring) where
 
   mutual
     same : (u : Strategy) (path : List Colouring) (a b : State) (c : Colouring) → Carried h k path a b → Stands u path a →
-        (IsNeeded f h u path a c ↔ IsNeeded f k u path b c) × (IsAvoided f u a c ↔ IsAvoided f u b c)
-    same done path a b c r g = ((λ m. m, λ m. m), (λ m. m, λ m. m))
+        (IsNeeded f h u path a c ↔ IsNeeded f k u path b c) × (IsAvoided f u a c ↔ IsAvoided f u b c) × (IsMet f u a c ↔ IsMet f u b c)
+    same done path a b c r g = ((λ m. m, λ m. m), (λ m. m, λ m. m), (λ m. m, λ m. m))
     same (pick t u) path a b c r g =
         let now = legal_now side f h k path a b t r g.wins.2 (λ x m. g.avoids x (g.wins.2, inl m)) in
         let w = same u (longer f a t path) (after f a t) (after f b t) c (carried_after side f h k path a b t r) (picked_stands t u path a g) in
@@ -152,6 +152,7 @@ module _ (side : Side) (f : Frame) (h k : List Colouring) where
             λ m. (now, either (makes_now path a b t c r) w.1.0 m.1),
             λ m. (g.wins.2, either (makes_before path a b t c r) w.1.1 m.1),
           ),
+          (λ m. (now, w.2.0 m.1), λ m. (g.wins.2, w.2.1 m.1)),
         )
     same (reply es) path a b c r g =
         let meets : (t : Turn) (x : Colouring) → IsLegal f a t → Makes f a t x → IsMetBehind f es a x =
@@ -163,17 +164,19 @@ module _ (side : Side) (f : Frame) (h k : List Colouring) where
             either (λ m. repeated_before path a b c r g.wins.0 (λ t l x. g.met c (meets t c l x) m.1) m) w.0.1,
           ),
           w.1,
+          w.2,
         )
 
     same_behind : (es : Entries) (path : List Colouring) (a b : State) (c : Colouring) → Carried h k path a b →
         ((t : Turn) → IsLegal f a t → IsLegal f b t) → ((t : Turn) → IsLegal f b t → IsLegal f a t) → AllStand es path a →
         (IsNeededBehind f h es path a c ↔ IsNeededBehind f k es path b c) × (IsAvoidedBehind f es a c ↔ IsAvoidedBehind f es b c)
-    same_behind none path a b c r forth back g = ((λ m. m, λ m. m), (λ m. m, λ m. m))
+        × (IsMetBehind f es a c ↔ IsMetBehind f es b c)
+    same_behind none path a b c r forth back g = ((λ m. m, λ m. m), (λ m. m, λ m. m), (λ m. m, λ m. m))
     same_behind (entry t u es) path a b c r forth back g =
         let w = same_behind es path a b c r forth back (others_stand t u es path a g) in
         let e = same_longer path a b t r in
         let first : IsLegal f a t → (IsNeeded f h u (longer f a t path) (after f a t) c ↔ IsNeeded f k u (longer f a t path) (after f b t) c)
-        × (IsAvoided f u (after f a t) c ↔ IsAvoided f u (after f b t) c) =
+        × (IsAvoided f u (after f a t) c ↔ IsAvoided f u (after f b t) c) × (IsMet f u (after f a t) c ↔ IsMet f u (after f b t) c) =
         λ l. same u (longer f a t path) (after f a t) (after f b t) c (carried_after side f h k path a b t r) (first_stands t u es path a g l) in (
           (
             either (λ m. (forth t m.0, subst (λ p. IsNeeded f k u p (after f b t) c) (sym e) ((first m.0).0.0 m.1))) w.0.0,
@@ -183,11 +186,16 @@ module _ (side : Side) (f : Frame) (h k : List Colouring) where
             either (λ m. (forth t m.0, (first m.0).1.0 m.1)) w.1.0,
             either (λ m. let l = back t m.0 in (l, (first l).1.1 m.1)) w.1.1,
           ),
+          (
+            either (λ m. (forth t m.0, either (makes_now path a b t c r) (first m.0).2.0 m.1)) w.2.0,
+            either (λ m. let l = back t m.0 in (l, either (makes_before path a b t c r) (first l).2.1 m.1)) w.2.1,
+          ),
         )
 
 pub footprint_carried : (side : Side) (f : Frame) (u : Strategy) (s s' : State) → Wins side f u s → IsInOrder f.size u → Fits f u s s' →
     ((c : Colouring) → IsMet f u s c → Contains (history s') c → ⊥) →
-    (c : Colouring) → (IsNeeded f (history s) u [] s c ↔ IsNeeded f (history s') u [] s' c) × (IsAvoided f u s c ↔ IsAvoided f u s' c)
+    (c : Colouring)
+    → (IsNeeded f (history s) u [] s c ↔ IsNeeded f (history s') u [] s' c) × (IsAvoided f u s c ↔ IsAvoided f u s' c) × (IsMet f u s c ↔ IsMet f u s' c)
 footprint_carried side f u s s' w o fits unmet c =
     same side f (history s) (history s') u [] s s' c
     (record {

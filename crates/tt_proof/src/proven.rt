@@ -165,12 +165,11 @@ impl Proof {
         if !self.past.is_position_of(line) {
             return false;
         }
-        let base = self.past.present();
         let history = line.history();
-        if !self.footprint.needs.all_in(base, history) {
+        if !self.footprint.needs.all_in(history) {
             return false;
         }
-        self.footprint.avoids.none_in(base, history)
+        self.footprint.avoids.none_in(history)
     }
 
     /// Whether the tree wins at the line, too: it does where it fits, and otherwise a replay decides. The line has a board of the
@@ -186,13 +185,22 @@ impl Proof {
         replay(self.tree(), self.side(), line)
     }
 
-    /// The footprint of the tree at the line, where it wins. The line stands as before, also after want of memory.
+    /// The footprint of the tree at the line, where it wins. It is the proof's own where the tree fits, and each board of the
+    /// line's history but the last has fewer stones of some colour than all boards that turns of the other side make; else
+    /// the tree is walked through. The line stands as before, also after want of memory.
     pub fn footprint_at(&self, alloc: Global, line: &mut Line) -> Result<Footprint, NoMemory>
         requires wins { IsWon self.now.side line.old.frame line.old.state self.now.tree }
         ensures exact { IfOk result (λ x. IsFootprint line.old.frame line.old.state self.now.tree x) }
         ensures same { line.new ≡ line.old }
     {
-        footprint_of(alloc, self.tree(), line)
+        let tree = self.tree();
+        let own = self.footprint();
+        let history = line.history();
+        let earlier = &history[..history.len().saturating_sub(1)];
+        if self.fits(line) && own.low.is_above(earlier) {
+            return own.try_clone(alloc);
+        }
+        footprint_of(alloc, tree, line)
     }
 
     /// A proof of the tree at the line, where it wins there; else the tree is handed back. The tree is at most 512 turns
