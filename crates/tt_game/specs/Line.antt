@@ -28,6 +28,10 @@ pub record Stood : Type 0 where
   pub frame : Frame
   pub state : State
 
+-- the state is of that frame, and has the present colouring, the side to move and the passes that stood there
+abbrev pub IsPosition : Stood → Frame → State → Type 0
+IsPosition p f s = (p.frame ≡ f) × (s.present ≡ p.state.present) × (s.to_move ≡ p.state.to_move) × (s.passes ≡ p.state.passes)
+
 -- why a turn is refused: the first cause that holds
 abbrev pub IsRefusal : Frame → State → Turn → Why → Type 0
 IsRefusal f s t Over = winner_of f s ≢ None

@@ -6,6 +6,7 @@ ghost use Rattle.tt_sgf.specs.declared.size.Size.{Size};
 ghost use Rattle.tt_game.specs.Course.{so_far, colourings};
 ghost use Rattle.tt_game.specs.Game.{history};
 ghost use Rattle.tt_game.specs.Keys.{key_of};
+ghost use Rattle.tt_game.specs.Line.{IsPosition};
 ghost use Rattle.tt_game.specs.Undoing.{state_at};
 ghost use Rattle.tt_game.specs.Roots.{Begins, since};
 
@@ -110,13 +111,7 @@ impl Past {
     pub fn stands_with(&self, line: &Line) -> bool
         ensures { IsTrue result ↔ ((self.now.frame ≡ line.now.frame) × (self.now.state ≡ line.now.state)) }
     {
-        if self.to_move != line.to_move() {
-            return false;
-        }
-        if self.passes != line.passes() {
-            return false;
-        }
-        if !self.root.frame().same(line.frame()) {
+        if !self.has_turn_of(line) {
             return false;
         }
         self.has_history(line.history())
@@ -131,6 +126,30 @@ impl Past {
             Some(later) => later.last(),
             None => self.root.last(),
         }
+    }
+
+    /// Whether the line stands in the same position: with the same frame, present board, side to move and passes, whatever
+    /// came before. It takes no memory.
+    pub fn is_position_of(&self, line: &Line) -> bool
+        ensures { IsTrue result ↔ IsPosition self.now line.now.frame line.now.state }
+    {
+        if !self.has_turn_of(line) {
+            return false;
+        }
+        self.present().same(line.present())
+    }
+
+    /// Whether the line has the same frame, side to move and passes.
+    fn has_turn_of(&self, line: &Line) -> bool
+        ensures { IsTrue result ↔ ((self.now.frame ≡ line.now.frame) × (self.now.state.to_move ≡ line.now.state.to_move) × (self.now.state.passes ≡ line.now.state.passes)) }
+    {
+        if self.to_move != line.to_move() {
+            return false;
+        }
+        if self.passes != line.passes() {
+            return false;
+        }
+        self.root.frame().same(line.frame())
     }
 
     /// The key of the position there. It takes no memory.

@@ -15,10 +15,10 @@ use Rattle.tt_proof.specs.Footprints.{IsNeeded, IsNeededBehind, IsAvoided, IsAvo
 use Rattle.tt_game.specs.Members.{in_of_contains}
 
 -- the history is h and the path, as sets
-record Splits (h path all : List Colouring) : Type 0 where
-  cases : (c : Colouring) → Contains all c → Contains h c ⊎ Contains path c
-  old : (c : Colouring) → Contains h c → Contains all c
-  new : (c : Colouring) → Contains path c → Contains all c
+pub record Splits (h path all : List Colouring) : Type 0 where
+  pub cases : (c : Colouring) → Contains all c → Contains h c ⊎ Contains path c
+  pub old : (c : Colouring) → Contains h c → Contains all c
+  pub new : (c : Colouring) → Contains path c → Contains all c
 
 splits_push : (h path all : List Colouring) (c : Colouring) → Splits h path all → Splits h (path ++ c ∷ []) (all ++ c ∷ [])
 splits_push h path all c r = record {
@@ -39,26 +39,26 @@ splits_push h path all c r = record {
     fresh d (inl m) = Contains-append_left all (c ∷ []) d (r.new d m)
     fresh d (inr m) = Contains-append_right all (c ∷ []) d m
 
-splits_none : (h : List Colouring) → Splits h [] h
+pub splits_none : (h : List Colouring) → Splits h [] h
 splits_none h = record { cases = λ c m. inl m; old = λ c m. m; new = λ c m. absurd (in_of_contains [] c m) }
 
 -- the states have one position; their histories are one path behind two
-record Carried (h k path : List Colouring) (a b : State) : Type 0 where
-  present : b.present ≡ a.present
-  to_move : b.to_move ≡ a.to_move
-  passes : b.passes ≡ a.passes
-  before : Splits h path (history a)
-  now : Splits k path (history b)
+pub record Carried (h k path : List Colouring) (a b : State) : Type 0 where
+  pub present : b.present ≡ a.present
+  pub to_move : b.to_move ≡ a.to_move
+  pub passes : b.passes ≡ a.passes
+  pub before : Splits h path (history a)
+  pub now : Splits k path (history b)
 
 module _ (side : Side) (f : Frame) (h k : List Colouring) where
-  same_made : (path : List Colouring) (a b : State) (p : ℕ) → Carried h k path a b → made f b p ≡ made f a p
+  pub same_made : (path : List Colouring) (a b : State) (p : ℕ) → Carried h k path a b → made f b p ≡ made f a p
   same_made path a b p r =
       ap (λ x. play_of f.size x (colour_of f b.to_move) p) r.present ∙ ap (λ x. play_of f.size a.present (colour_of f x) p) r.to_move
 
-  same_winner : (path : List Colouring) (a b : State) → Carried h k path a b → winner_of f b ≡ winner_of f a
+  pub same_winner : (path : List Colouring) (a b : State) → Carried h k path a b → winner_of f b ≡ winner_of f a
   same_winner path a b r = ap (λ x. winner_on f x b.passes) r.present ∙ ap (λ n. winner_on f a.present n) r.passes
 
-  carried_after : (path : List Colouring) (a b : State) (t : Turn) → Carried h k path a b →
+  pub carried_after : (path : List Colouring) (a b : State) (t : Turn) → Carried h k path a b →
       Carried h k (longer f a t path) (after f a t) (after f b t)
   carried_after path a b Pass r =
       record { present = r.present; to_move = ap opponent r.to_move; passes = ap (λ n. n + 1) r.passes; before = r.before; now = r.now }
@@ -72,7 +72,7 @@ module _ (side : Side) (f : Frame) (h k : List Colouring) where
       }
 
   -- a turn of the side stays legal where the other history has not the colouring that it makes
-  legal_now : (path : List Colouring) (a b : State) (t : Turn) → Carried h k path a b → IsLegal f a t →
+  pub legal_now : (path : List Colouring) (a b : State) (t : Turn) → Carried h k path a b → IsLegal f a t →
       ((c : Colouring) → Makes f a t c → Contains k c → ⊥) → IsLegal f b t
   legal_now path a b Pass r l n = same_winner path a b r ∙ l
   legal_now path a b (Play p) r l n = (
@@ -88,7 +88,7 @@ module _ (side : Side) (f : Frame) (h k : List Colouring) where
       pass (inr m) = l.4 (r.before.new _ m)
 
   -- a turn of the other side that is legal now was legal before, or repeats a colouring of h that k has not
-  legal_before : (path : List Colouring) (a b : State) (t : Turn) → Carried h k path a b → IsLegal f b t →
+  pub legal_before : (path : List Colouring) (a b : State) (t : Turn) → Carried h k path a b → IsLegal f b t →
       ((c : Colouring) → IsRepeated f h path a c → Contains k c) → IsLegal f a t
   legal_before path a b Pass r l n = sym (same_winner path a b r) ∙ l
   legal_before path a b (Play p) r l n =

@@ -1,8 +1,7 @@
 -- The footprints of a strategy's parts make up its own.
-use Rattle.std.proofs.Common.{◌≡◌, ◌≢◌, ◌↔◌, ◌⊎◌, ℕ, inl, inr, List, [], ◌∷◌, ◌++◌, sym, subst, ◌∙◌, Contains}
-use Rattle.tt_board.specs.Position.{Colouring}
-use Rattle.tt_board.specs.Differences.{colourings_from}
-use Rattle.tt_board.specs.declared.differences.Edit.{Edit}
+use Rattle.std.proofs.Common.{◌≡◌, ◌≢◌, ◌↔◌, ◌⊎◌, inl, inr, List, [], ◌∷◌, ◌++◌, sym, ap, subst, ◌∙◌, Contains, arith}
+use Rattle.tt_sgf.specs.declared.size.Size.{Size}
+use Rattle.tt_board.specs.Position.{Position, Colouring}
 use Rattle.tt_game.specs.Game.{State, IsLegal, after, history, made}
 use Rattle.tt_game.specs.Line.{IsRefusal}
 use Rattle.tt_game.specs.declared.faults.Why.{Why}
@@ -12,74 +11,90 @@ use Rattle.tt_game.specs.declared.turns.Turn.{Turn}
 use Rattle.tt_game.specs.declared.turns.Turn.TheVariants.{Play, Pass}
 use Rattle.tt_proof.specs.declared.footprints.Footprint.{Footprint}
 use Rattle.tt_proof.specs.Strategy.{Strategy, done, pick, reply, none, entries_of}
-use Rattle.tt_proof.specs.Footprints.{IsNeeded, IsNeededBehind, IsAvoided, IsAvoidedBehind, IsRepeated, longer}
-use Rattle.tt_proof.specs.KeptFootprints.{IsFootprint, IsEntryJoined}
-use Rattle.tt_proof.specs.Collecting.{IsGiven, IsPicked}
+use Rattle.tt_proof.specs.Footprints.{IsNeeded, IsNeededBehind, IsAvoided, IsAvoidedBehind, IsMet, IsMetBehind, Makes, IsRepeated, longer}
+use Rattle.tt_proof.specs.KeptFootprints.{IsFootprint, IsEntryJoined, AreSized, board_of}
+use Rattle.tt_proof.specs.Collecting.{IsGiven, IsPlayed, IsPicked, IsNoHigher, IsReachedBy}
+use Rattle.tt_proof.specs.declared.bounds.Bound.{Bound}
+use Rattle.tt_proof.specs.Bounds.{IsReached}
 use Rattle.tt_proof.proofs.NeedLemmas.{needed_less, needed_more}
 use Rattle.tt_game.specs.Members.{in_of_contains, contains_of_in}
 
+-- a board of this size and colouring
+pub board_is : (b : Position) (g : Size) (c : Colouring) → b.size ≡ g → b.points ≡ c → b ≡ record { size = g; points = c }
+board_is b g c e h =
+    ap (λ (z : Size). let w : Position = record { size = z; points = b.points } in w) e
+    ∙ ap (λ (z : Colouring). let w : Position = record { size = g; points = z } in w) h
+
+-- nothing is in an empty list
+pub none_held : (bs : List Position) (b : Position) → bs ≡ [] → Contains bs b → ⊥
+none_held bs b e m = in_of_contains [] b (subst (λ xs. Contains xs b) e m)
+
 -- ---- what a child gives
 
--- what a child needs in its parent's history is what it needs in its own, less the colouring that a play made
+-- what a child needs in its parent's history is what it needs in its own, less the board that a play made
 pub given : (f : Frame) (s : State) (t : Turn) (u : Strategy) (x : Footprint) → IsFootprint f (after f s t) u x → (c : Colouring) →
-    IsGiven t (after f s t).present x.needs c ↔ IsNeeded f (history s) u (longer f s t []) (after f s t) c
+    IsGiven t (board_of f (after f s t).present) x.needs (board_of f c) ↔ IsNeeded f (history s) u (longer f s t []) (after f s t) c
 given f s Pass u x foot c = foot.needed c
 given f s (Play p) u x foot c = (
-  λ g. needed_more f (history s) (made f s p) u [] (after f s (Play p)) c ((foot.needed c).0 g.0) g.1,
-  λ w. let r = needed_less f (history s) (made f s p) u [] (after f s (Play p)) c w in ((foot.needed c).1 r.0, r.1),
+  λ g. needed_more f (history s) (made f s p) u [] (after f s (Play p)) c ((foot.needed c).0 g.0) (λ e. g.1 (ap (board_of f) e)),
+  λ w. let r = needed_less f (history s) (made f s p) u [] (after f s (Play p)) c w in
+      ((foot.needed c).1 r.0, λ e. r.1 (ap (λ (b : Position). b.points) e)),
 )
+
+-- it stands in the child's list
+given_held : (t : Turn) (board : Position) (needs : List Position) (b : Position) → IsGiven t board needs b → Contains needs b
+given_held Pass board needs b g = g
+given_held (Play p) board needs b g = g.0
 
 -- ---- a pick
 
--- a pass made no colouring: all is as behind it
-foot_pass : (f : Frame) (s : State) (u : Strategy) (x y : Footprint) → IsLegal f s Pass → IsFootprint f (after f s Pass) u x →
-    IsPicked Pass s.present s.present x y → IsFootprint f s (pick Pass u) y
-foot_pass f s u x y l foot h = record {
-  needed = λ c. (λ m. (l, (foot.needed c).0 ((h.needed c).0 m)), λ w. (h.needed c).1 ((foot.needed c).1 w.1));
-  avoided = λ c. (λ m. (l, inr ((foot.avoided c).0 (up c ((h.avoided c).0 m)))), λ w. (h.avoided c).1 (down c w.1));
-}
-  where
-    up : (c : Colouring) → ⊥ ⊎ Contains (colourings_from s.present x.avoids) c → Contains (colourings_from s.present x.avoids) c
-    up c (inl w) = absurd w
-    up c (inr w) = w
+-- the board that a play made is of the frame's size
+played_sized : (f : Frame) (c : Colouring) (t : Turn) (b : Position) → IsPlayed t (board_of f c) b → b.size ≡ f.size
+played_sized f c Pass b w = absurd w
+played_sized f c (Play p) b e = ap (λ (w : Position). w.size) e
 
-    down : (c : Colouring) → ⊥ ⊎ IsAvoided f u (after f s Pass) c → ⊥ ⊎ Contains (colourings_from s.present x.avoids) c
-    down c (inl w) = absurd w
-    down c (inr w) = inr ((foot.avoided c).1 w)
-
--- a play made one colouring, which is not needed and is avoided
-foot_play : (f : Frame) (s : State) (p : ℕ) (u : Strategy) (x y : Footprint) → IsLegal f s (Play p) → IsFootprint f (after f s (Play p)) u x →
-    IsPicked (Play p) s.present (made f s p) x y → IsFootprint f s (pick (Play p) u) y
-foot_play f s p u x y l foot h = record {
-  needed = λ c. (
-    λ m. (l, (given f s (Play p) u x foot c).0 ((h.needed c).0 m)),
-    λ w. (h.needed c).1 ((given f s (Play p) u x foot c).1 w.1),
-  );
-  avoided = λ c. (λ m. (l, up c ((h.avoided c).0 m)), λ w. (h.avoided c).1 (down c w.1));
-}
-  where
-    up : (c : Colouring) → (c ≡ made f s p) ⊎ Contains (colourings_from (made f s p) x.avoids) c →
-        (made f s p ≡ c) ⊎ IsAvoided f u (after f s (Play p)) c
-    up c (inl e) = inl (sym e)
-    up c (inr m) = inr ((foot.avoided c).0 m)
-
-    down : (c : Colouring) → (made f s p ≡ c) ⊎ IsAvoided f u (after f s (Play p)) c →
-        (c ≡ made f s p) ⊎ Contains (colourings_from (made f s p) x.avoids) c
-    down c (inl e) = inl (sym e)
-    down c (inr w) = inr ((foot.avoided c).1 w)
+-- it is the one with the colouring that the turn makes
+played_made : (f : Frame) (s : State) (t : Turn) (c : Colouring) → IsPlayed t (board_of f (after f s t).present) (board_of f c) ↔ Makes f s t c
+played_made f s Pass c = (λ w. w, λ w. w)
+played_made f s (Play p) c = (λ e. sym (ap (λ (w : Position). w.points) e), λ e. ap (board_of f) (sym e))
 
 -- the footprint of a pick, from that of the strategy behind its turn
 pub foot_pick : (f : Frame) (s : State) (t : Turn) (u : Strategy) (x y : Footprint) → IsLegal f s t → IsFootprint f (after f s t) u x →
-    IsPicked t s.present (after f s t).present x y → IsFootprint f s (pick t u) y
-foot_pick f s Pass u x y l foot h = foot_pass f s u x y l foot h
-foot_pick f s (Play p) u x y l foot h = foot_play f s p u x y l foot h
+    IsPicked t (board_of f (after f s t).present) x y → IsFootprint f s (pick t u) y
+foot_pick f s t u x y l foot h = record {
+  needs_sized = λ b m. foot.needs_sized b (given_held t _ _ b ((h.needed b).0 m));
+  avoids_sized = λ b m. sized b ((h.avoided b).0 m);
+  needed = λ c. (
+    λ m. (l, (given f s t u x foot c).0 ((h.needed (board_of f c)).0 m)),
+    λ w. (h.needed (board_of f c)).1 ((given f s t u x foot c).1 w.1),
+  );
+  avoided = λ c. (λ m. (l, up c ((h.avoided (board_of f c)).0 m)), λ w. (h.avoided (board_of f c)).1 (down c w.1));
+  met = λ c m. subst (λ low. IsReached low c) (sym h.low) (foot.met c m.1);
+}
+  where
+    sized : (b : Position) → IsPlayed t (board_of f (after f s t).present) b ⊎ Contains x.avoids b → b.size ≡ f.size
+    sized b (inl e) = played_sized f (after f s t).present t b e
+    sized b (inr m) = foot.avoids_sized b m
 
--- a pick of a turn that is not legal needs and avoids nothing
+    up : (c : Colouring) → IsPlayed t (board_of f (after f s t).present) (board_of f c) ⊎ Contains x.avoids (board_of f c) →
+        Makes f s t c ⊎ IsAvoided f u (after f s t) c
+    up c (inl e) = inl ((played_made f s t c).0 e)
+    up c (inr m) = inr ((foot.avoided c).0 m)
+
+    down : (c : Colouring) → Makes f s t c ⊎ IsAvoided f u (after f s t) c →
+        IsPlayed t (board_of f (after f s t).present) (board_of f c) ⊎ Contains x.avoids (board_of f c)
+    down c (inl e) = inl ((played_made f s t c).1 e)
+    down c (inr w) = inr ((foot.avoided c).1 w)
+
+-- a pick of a turn that is not legal needs, avoids and meets nothing
 pub foot_no_pick : (f : Frame) (s : State) (t : Turn) (u : Strategy) (x : Footprint) → (IsLegal f s t → ⊥) → IsFootprint f s done x →
     IsFootprint f s (pick t u) x
 foot_no_pick f s t u x bars foot = record {
+  needs_sized = foot.needs_sized;
+  avoids_sized = foot.avoids_sized;
   needed = λ c. (λ m. absurd ((foot.needed c).0 m), λ w. absurd (bars w.0));
   avoided = λ c. (λ m. absurd ((foot.avoided c).0 m), λ w. absurd (bars w.0));
+  met = λ c m. absurd (bars m.0);
 }
 
 -- ---- a reply
@@ -134,6 +149,16 @@ module _ (f : Frame) (s : State) (t : Turn) (u : Strategy) (c : Colouring) where
       (IsLegal f s t × IsAvoided f u (after f s t) c) (IsAvoidedBehind f (entries_of (es ++ (t, u) ∷ [])) s c)
       (avoided_push es)
 
+  -- what they meet
+  met_push : (es : List (Turn × Strategy)) →
+      IsMetBehind f (entries_of (es ++ (t, u) ∷ [])) s c
+      ↔ (IsMetBehind f (entries_of es) s c ⊎ (IsLegal f s t × (Makes f s t c ⊎ IsMet f u (after f s t) c)))
+  met_push [] = last_one (IsLegal f s t × (Makes f s t c ⊎ IsMet f u (after f s t) c))
+  met_push (e ∷ es) =
+      regroup (IsLegal f s e.0 × (Makes f s e.0 c ⊎ IsMet f e.1 (after f s e.0) c)) (IsMetBehind f (entries_of es) s c)
+      (IsLegal f s t × (Makes f s t c ⊎ IsMet f u (after f s t) c)) (IsMetBehind f (entries_of (es ++ (t, u) ∷ [])) s c)
+      (met_push es)
+
 -- one list holds what another does and what more there is
 joined : (A B X N N' : Type 0) → (B ↔ (A ⊎ X)) → (A ↔ N) → (N' ↔ (N ⊎ X)) → B ↔ N'
 joined A B X N N' more old new = (λ b. new.1 (to (more.0 b)), λ n. more.1 (from (new.0 n)))
@@ -158,43 +183,67 @@ otherwise A B X Y h e = (λ b. to (h.0 b), λ w. h.1 (from w))
     from (inl a) = inl a
     from (inr y) = inr (e.1 y)
 
+-- what reaches a bound reaches one that is no higher
+reached_lower : (low other : Bound) (c : Colouring) → IsNoHigher low other → IsReached other c → IsReached low c
+reached_lower low other c le r = let a = le.0 in let b = le.1 in let m = r.0 in let n = r.1 in (omega (arith, a, m), omega (arith, b, n))
+
+-- what the turn makes reaches a bound that it was to reach
+reached_made : (f : Frame) (s : State) (t : Turn) (low : Bound) (c : Colouring) → IsReachedBy t (after f s t).present low → Makes f s t c → IsReached low c
+reached_made f s Pass low c r m = absurd m
+reached_made f s (Play p) low c r m = subst (λ x. IsReached low x) m r
+
+-- a bound of a reply with one more entry
+pub record IsLowered (f : Frame) (s : State) (t : Turn) (low old new : Bound) : Type 0 where
+  pub before : IsNoHigher new old
+  pub behind : IsNoHigher new low
+  pub made : IsReachedBy t (after f s t).present new
+
 -- the footprint of a reply with one more entry, whose turn is legal
 pub foot_entry : (f : Frame) (s : State) (t : Turn) (u : Strategy) (x old new : Footprint) → IsLegal f s t → IsFootprint f (after f s t) u x →
-    ((c : Colouring) → Contains (colourings_from s.present new.needs) c
-    ↔ (Contains (colourings_from s.present old.needs) c ⊎ IsGiven t (after f s t).present x.needs c)) →
-    ((c : Colouring) → Contains (colourings_from s.present new.avoids) c
-    ↔ (Contains (colourings_from s.present old.avoids) c ⊎ Contains (colourings_from (after f s t).present x.avoids) c)) →
-    IsEntryJoined f s t u old new
-foot_entry f s t u x old new l foot n a es before = record {
+    ((b : Position) → Contains new.needs b ↔ (Contains old.needs b ⊎ IsGiven t (board_of f (after f s t).present) x.needs b)) →
+    ((b : Position) → Contains new.avoids b ↔ (Contains old.avoids b ⊎ Contains x.avoids b)) →
+    IsLowered f s t x.low old.low new.low → IsEntryJoined f s t u old new
+foot_entry f s t u x old new l foot n a lower es before = record {
+  needs_sized = λ b m. elim ((n b).0 m) [ inl w ↦ before.needs_sized b w | inr g ↦ foot.needs_sized b (given_held t _ _ b g) ];
+  avoids_sized = λ b m. elim ((a b).0 m) [ inl w ↦ before.avoids_sized b w | inr g ↦ foot.avoids_sized b g ];
   needed = λ c. all c (needed_push f s t u c (history s) es);
   avoided = λ c.
-      joined (Contains (colourings_from s.present old.avoids) c) (Contains (colourings_from s.present new.avoids) c)
+      joined (Contains old.avoids (board_of f c)) (Contains new.avoids (board_of f c))
       (IsLegal f s t × IsAvoided f u (after f s t) c) (IsAvoidedBehind f (entries_of es) s c)
       (IsAvoidedBehind f (entries_of (es ++ (t, u) ∷ [])) s c)
-      (otherwise _ _ _ _ (a c) (λ m. (l, (foot.avoided c).0 m), λ w. (foot.avoided c).1 w.1)) (before.avoided c) (avoided_push f s t u c es);
+      (otherwise _ _ _ _ (a (board_of f c)) (λ m. (l, (foot.avoided c).0 m), λ w. (foot.avoided c).1 w.1)) (before.avoided c) (avoided_push f s t u c es);
+  met = λ c m. low c ((met_push f s t u c es).0 m);
 }
   where
     all : (c : Colouring)
         → (IsNeededBehind f (history s) (entries_of (es ++ (t, u) ∷ [])) [] s c
         ↔ (IsNeededBehind f (history s) (entries_of es) [] s c ⊎ (IsLegal f s t × IsNeeded f (history s) u (longer f s t []) (after f s t) c)))
-        → Contains (colourings_from s.present new.needs) c ↔ IsNeeded f (history s) (reply (entries_of (es ++ (t, u) ∷ []))) [] s c
+        → Contains new.needs (board_of f c) ↔ IsNeeded f (history s) (reply (entries_of (es ++ (t, u) ∷ []))) [] s c
     all c push =
-        joined (Contains (colourings_from s.present old.needs) c) (Contains (colourings_from s.present new.needs) c)
+        joined (Contains old.needs (board_of f c)) (Contains new.needs (board_of f c))
         (IsLegal f s t × IsNeeded f (history s) u (longer f s t []) (after f s t) c)
         (IsNeeded f (history s) (reply (entries_of es)) [] s c) (IsNeeded f (history s) (reply (entries_of (es ++ (t, u) ∷ []))) [] s c)
-        (otherwise _ _ _ _ (n c) (λ g. (l, (given f s t u x foot c).0 g), λ w. (given f s t u x foot c).1 w.1))
+        (otherwise _ _ _ _ (n (board_of f c)) (λ g. (l, (given f s t u x foot c).0 g), λ w. (given f s t u x foot c).1 w.1))
         (before.needed c) (regroup (IsRepeated f (history s) [] s c) _ _ _ push)
+
+    low : (c : Colouring) → IsMetBehind f (entries_of es) s c ⊎ (IsLegal f s t × (Makes f s t c ⊎ IsMet f u (after f s t) c)) → IsReached new.low c
+    low c (inl m) = reached_lower new.low old.low c lower.before (before.met c m)
+    low c (inr (w, inl m)) = reached_made f s t new.low c lower.made m
+    low c (inr (w, inr m)) = reached_lower new.low x.low c lower.behind (foot.met c m)
 
 -- an entry of a turn that is not legal adds nothing
 pub foot_no_entry : (f : Frame) (s : State) (t : Turn) (u : Strategy) (x : Footprint) → (IsLegal f s t → ⊥) → IsEntryJoined f s t u x x
 foot_no_entry f s t u x bars es before = record {
+  needs_sized = before.needs_sized;
+  avoids_sized = before.avoids_sized;
   needed = λ c.
       joined _ _ (IsLegal f s t × IsNeeded f (history s) u (longer f s t []) (after f s t) c) _ _
-      (same (Contains (colourings_from s.present x.needs) c) _ (λ w. bars w.0)) (before.needed c)
+      (same (Contains x.needs (board_of f c)) _ (λ w. bars w.0)) (before.needed c)
       (regroup (IsRepeated f (history s) [] s c) _ _ _ (needed_push f s t u c (history s) es));
   avoided = λ c.
       joined _ _ (IsLegal f s t × IsAvoided f u (after f s t) c) _ _
-      (same (Contains (colourings_from s.present x.avoids) c) _ (λ w. bars w.0)) (before.avoided c) (avoided_push f s t u c es);
+      (same (Contains x.avoids (board_of f c)) _ (λ w. bars w.0)) (before.avoided c) (avoided_push f s t u c es);
+  met = λ c m. elim ((met_push f s t u c es).0 m) [ inl w ↦ before.met c w | inr w ↦ absurd (bars w.0) ];
 }
   where
     same : (A X : Type 0) → (X → ⊥) → A ↔ (A ⊎ X)
@@ -205,33 +254,45 @@ foot_no_entry f s t u x bars es before = record {
         from (inr w) = absurd (n w)
 
 -- the footprint of a reply without entries
-pub foot_plays : (f : Frame) (s : State) (x : Footprint) →
-    ((c : Colouring) → Contains (colourings_from s.present x.needs) c ↔ IsRepeated f (history s) [] s c) → x.avoids ≡ [] →
-    IsFootprint f s (reply none) x
-foot_plays f s x n e = record {
+pub foot_plays : (f : Frame) (s : State) (x : Footprint) → AreSized f x.needs →
+    ((c : Colouring) → Contains x.needs (board_of f c) ↔ IsRepeated f (history s) [] s c) → x.avoids ≡ [] → IsFootprint f s (reply none) x
+foot_plays f s x sized n e = record {
+  needs_sized = sized;
+  avoids_sized = λ b m. absurd (none_held x.avoids b e m);
   needed = λ c. (λ m. inl ((n c).0 m), λ w. (n c).1 (first c w));
-  avoided = λ c. (λ m. in_of_contains [] c (subst (λ es. Contains (colourings_from s.present es) c) e m), λ w. absurd w);
+  avoided = λ c. (λ m. none_held x.avoids (board_of f c) e m, λ w. absurd w);
+  met = λ c m. absurd m;
 }
   where
     first : (c : Colouring) → IsRepeated f (history s) [] s c ⊎ ⊥ → IsRepeated f (history s) [] s c
     first c (inl r) = r
     first c (inr w) = absurd w
 
+-- that of a strategy that plays nothing more
+pub foot_done : (f : Frame) (s : State) (x : Footprint) → x.needs ≡ [] → x.avoids ≡ [] → IsFootprint f s done x
+foot_done f s x n a = record {
+  needs_sized = λ b m. absurd (none_held x.needs b n m);
+  avoids_sized = λ b m. absurd (none_held x.avoids b a m);
+  needed = λ c. (λ m. none_held x.needs (board_of f c) n m, λ w. absurd w);
+  avoided = λ c. (λ m. none_held x.avoids (board_of f c) a m, λ w. absurd w);
+  met = λ c m. absurd m;
+}
+
 -- ---- lists of which some are left out
 
 -- nothing is left out
-pub but_none : (B : Type 0) (c : Colouring) → (B × (Contains {X = Colouring} [] c → ⊥)) ↔ B
+pub but_none : (B : Type 0) (c : Position) → (B × (Contains {X = Position} [] c → ⊥)) ↔ B
 but_none B c = (λ w. w.0, λ b. (b, λ m. in_of_contains [] c m))
 
--- one colouring is left out
-pub but_one : (B : Type 0) (q points c : Colouring) → q ≡ points → (B × (Contains (q ∷ []) c → ⊥)) ↔ (B × (c ≢ points))
-but_one B q points c same = (
-  λ w. (w.0, λ e. w.1 (contains_of_in (q ∷ []) c (inl (same ∙ sym e)))),
-  λ w. (w.0, λ m. w.1 (one (in_of_contains (q ∷ []) c m))),
+-- one board is left out
+pub but_one : (B : Type 0) (board b : Position) → (B × (Contains (board ∷ []) b → ⊥)) ↔ (B × (b ≢ board))
+but_one B board b = (
+  λ w. (w.0, λ e. w.1 (contains_of_in (board ∷ []) b (inl (sym e)))),
+  λ w. (w.0, λ m. w.1 (one (in_of_contains (board ∷ []) b m))),
 )
   where
-    one : (q ≡ c) ⊎ ⊥ → c ≡ points
-    one (inl e) = sym e ∙ same
+    one : (board ≡ b) ⊎ ⊥ → b ≡ board
+    one (inl e) = sym e
     one (inr x) = absurd x
 
 -- what was joined to nothing
@@ -266,7 +327,3 @@ refused_bars f s Pass Outside r l = r
 refused_bars f s (Play p) Outside r l = r.2 l.3
 refused_bars f s Pass Repeats r l = r
 refused_bars f s (Play p) Repeats r l = l.4 r.3
-
--- no edits show nothing
-pub none_shown : (es : List Edit) (base c : Colouring) → es ≡ [] → Contains (colourings_from base es) c → ⊥
-none_shown es base c e m = in_of_contains [] c (subst (λ es. Contains (colourings_from base es) c) e m)

@@ -2,6 +2,11 @@ pub mod TextLemmas
 pub mod EntryLemmas
 pub mod ForcesLemmas
 pub mod FitsLemmas
+pub mod FittingLemmas
+pub mod CarryLemmas
+pub mod TakenLemmas
+pub mod SharedLemmas
+pub mod StoneLemmas
 pub mod NeedLemmas
 pub mod FootprintLemmas
 pub mod RepeatLemmas

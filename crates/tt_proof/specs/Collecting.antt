@@ -1,29 +1,39 @@
 -- What the parts of a walk for a footprint find.
-use Rattle.std.specs.Prelude.{◌≡◌, ◌≢◌, ◌↔◌, ◌⊎◌, ℕ, ◌<◌, List, ◌∷◌, [], ◌++◌, Contains}
-use Rattle.tt_board.specs.Position.{Colouring}
-use Rattle.tt_board.specs.Differences.{colourings_from}
-use Rattle.tt_board.specs.declared.differences.Edit.{Edit}
+use Rattle.std.specs.Prelude.{◌≡◌, ◌≢◌, ◌↔◌, ◌⊎◌, ℕ, ◌<◌, ◌≤◌, List, Contains}
+use Rattle.tt_board.specs.Position.{Position, Colouring}
 use Rattle.tt_game.specs.Game.{State, IsBarred, made}
 use Rattle.tt_game.specs.declared.frame.Frame.{Frame}
 use Rattle.tt_game.specs.declared.turns.Turn.{Turn}
 use Rattle.tt_game.specs.declared.turns.Turn.TheVariants.{Play, Pass}
+use Rattle.tt_proof.specs.declared.bounds.Bound.{Bound}
 use Rattle.tt_proof.specs.declared.footprints.Footprint.{Footprint}
+use Rattle.tt_proof.specs.Bounds.{IsReached}
 
 -- superko bars a play on a point below the number, which would make the colouring
 abbrev pub RepeatsBelow : Frame → State → ℕ → Colouring → Type 0
 RepeatsBelow f s n c = (p : ℕ) × (p < n) × IsBarred f s p × (made f s p ≡ c)
 
--- what a child needs in its parent's history too: all that it needs in its own, but the colouring that a play made
-abbrev pub IsGiven : Turn → Colouring → List Edit → Colouring → Type 0
-IsGiven Pass points needs c = Contains (colourings_from points needs) c
-IsGiven (Play p) points needs c = Contains (colourings_from points needs) c × (c ≢ points)
+-- what a child needs in its parent's history too: all that it needs in its own, but the board that a play made
+abbrev pub IsGiven : Turn → Position → List Position → Position → Type 0
+IsGiven Pass board needs b = Contains needs b
+IsGiven (Play p) board needs b = Contains needs b × (b ≢ board)
 
--- the turn is a play, and this is the colouring that it made
-abbrev pub IsPlayed : Turn → Colouring → Colouring → Type 0
-IsPlayed Pass points c = ⊥
-IsPlayed (Play p) points c = c ≡ points
+-- the turn is a play, and this is the board that it made
+abbrev pub IsPlayed : Turn → Position → Position → Type 0
+IsPlayed Pass board b = ⊥
+IsPlayed (Play p) board b = b ≡ board
 
--- what a pick of the turn needs and avoids, seen from the colouring before it, by what is needed and avoided behind it
-pub record IsPicked (t : Turn) (base points : Colouring) (behind x : Footprint) : Type 0 where
-  pub needed : (c : Colouring) → Contains (colourings_from base x.needs) c ↔ IsGiven t points behind.needs c
-  pub avoided : (c : Colouring) → Contains (colourings_from base x.avoids) c ↔ (IsPlayed t points c ⊎ Contains (colourings_from points behind.avoids) c)
+-- what a pick of the turn needs and avoids, by what is needed and avoided behind it
+pub record IsPicked (t : Turn) (board : Position) (behind x : Footprint) : Type 0 where
+  pub needed : (b : Position) → Contains x.needs b ↔ IsGiven t board behind.needs b
+  pub avoided : (b : Position) → Contains x.avoids b ↔ (IsPlayed t board b ⊎ Contains behind.avoids b)
+  pub low : x.low ≡ behind.low
+
+-- no number is greater than the other's
+abbrev pub IsNoHigher : Bound → Bound → Type 0
+IsNoHigher low other = (low.black ≤ other.black) × (low.white ≤ other.white)
+
+-- where the turn is a play, what it made reaches the bound
+abbrev pub IsReachedBy : Turn → Colouring → Bound → Type 0
+IsReachedBy Pass c low = Unit {0}
+IsReachedBy (Play p) c low = IsReached low c

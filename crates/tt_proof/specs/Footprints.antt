@@ -57,6 +57,18 @@ module _ (f : Frame) where
     IsAvoidedBehind none s c = ⊥
     IsAvoidedBehind (entry t u es) s c = (IsLegal f s t × IsAvoided u (after f s t) c) ⊎ IsAvoidedBehind es s c
 
+  abbrev mutual
+    -- the strategy meets the colouring: a legal turn of the other side that it has an entry for makes it, at a reached reply
+    pub IsMet : Strategy → State → Colouring → Type 0
+    IsMet done s c = ⊥
+    IsMet (pick t u) s c = IsLegal f s t × IsMet u (after f s t) c
+    IsMet (reply es) s c = IsMetBehind es s c
+
+    -- so does the strategy of some entry
+    pub IsMetBehind : Entries → State → Colouring → Type 0
+    IsMetBehind none s c = ⊥
+    IsMetBehind (entry t u es) s c = (IsLegal f s t × (Makes f s t c ⊎ IsMet u (after f s t) c)) ⊎ IsMetBehind es s c
+
 -- the strategy, from s, fits s': the position is the same, and the history has all that it needs and nothing that it avoids
 pub record Fits (f : Frame) (u : Strategy) (s s' : State) : Type 0 where
   pub present : s'.present ≡ s.present

@@ -1,5 +1,5 @@
 -- Laws of strategies and their texts.
-use Rattle.std.specs.Prelude.{ℕ, ◌≡◌, ◌≢◌, ◌↔◌, List, [], ◌∷◌, ◌++◌}
+use Rattle.std.specs.Prelude.{ℕ, ◌≡◌, ◌≢◌, ◌↔◌, List, [], ◌∷◌, ◌++◌, Contains}
 use Rattle.std.specs.Global.{Global}
 use Rattle.std.specs.declared.sync.Arc.{Arc}
 use Rattle.std.specs.declared.vec.Vec.{Vec}
@@ -11,9 +11,9 @@ use Rattle.tt_game.specs.declared.frame.Frame.{Frame}
 use Rattle.tt_game.specs.declared.turns.Turn.{Turn}
 use Rattle.tt_game.specs.declared.turns.Turn.TheVariants.{Play}
 use Rattle.tt_proof.specs.declared.tree.Tree.{Tree, Done, Pick, Reply}
-use Rattle.tt_proof.specs.Strategy.{Strategy, depth, done, pick, reply, strategy_of, entries_of_trees}
+use Rattle.tt_proof.specs.Strategy.{Strategy, depth, IsInOrder, done, pick, reply, strategy_of, entries_of_trees}
 use Rattle.tt_proof.specs.Wins.{Wins}
-use Rattle.tt_proof.specs.Footprints.{IsNeeded, Fits}
+use Rattle.tt_proof.specs.Footprints.{IsNeeded, IsAvoided, IsMet, Fits}
 use Rattle.tt_proof.specs.CertificateText.{IsCertificate, tree_text}
 
 -- a strategy that wins makes its side force, within its depth
@@ -23,6 +23,15 @@ WinningForces = (side : Side) (f : Frame) (u : Strategy) (s : State) → Wins si
 -- a strategy that wins from one state wins from each state that it fits
 abbrev pub FittingWins : Type 0
 FittingWins = (side : Side) (f : Frame) (u : Strategy) (s s' : State) → Wins side f u s → Fits f u s s' → Wins side f u s'
+
+-- where a strategy fits, and the history has no colouring that it meets, it needs, avoids and meets there what it does at its
+-- own state
+abbrev pub FootprintsCarried : Type 0
+FootprintsCarried =
+    (side : Side) (f : Frame) (u : Strategy) (s s' : State) → Wins side f u s → IsInOrder f.size u → Fits f u s s'
+    → ((c : Colouring) → IsMet f u s c → Contains (history s') c → ⊥)
+    → (c : Colouring)
+    → (IsNeeded f (history s) u [] s c ↔ IsNeeded f (history s') u [] s' c) × (IsAvoided f u s c ↔ IsAvoided f u s' c) × (IsMet f u s c ↔ IsMet f u s' c)
 
 -- after a play, a strategy needs in the history from before it what it needs in its own, less the colouring played
 abbrev pub ChildNeeds : Type 0

@@ -3,6 +3,7 @@ pub mod Strategy
 pub mod Nodes
 pub mod Wins
 pub mod Footprints
+pub mod Bounds
 pub mod KeptFootprints
 pub mod Laws
 pub mod Proven

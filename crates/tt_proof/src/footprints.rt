@@ -1,28 +1,32 @@
 //! Footprints: what a tree rests on in the history of its state.
 
 ghost use Rattle.std.specs.Prelude.{◌≡◌, ◌≤◌, ◌<◌, ◌↔◌, ◌⊎◌, List, [], ◌∷◌, ◌++◌, Contains, IfOk, OnOk};
-ghost use Rattle.tt_board.specs.Position.{Colouring};
-ghost use Rattle.tt_board.specs.Differences.{colourings_from};
+ghost use Rattle.tt_board.specs.Position.{Position, Colouring};
 ghost use Rattle.tt_game.specs.Game.{State, IsLegal, IsBarred, after, history, made};
 ghost use Rattle.tt_game.specs.declared.turns.Turn.{Turn};
 ghost use Rattle.tt_game.specs.declared.frame.Frame.{Frame};
+ghost use Rattle.tt_proof.specs.declared.tree.TheConstants.{MOST_DEPTH};
 ghost use Rattle.tt_proof.specs.Strategy.{Strategy, done, pick, reply, none, depth, depth_of_entries, strategy_of, entries_of, entries_of_trees, IsInOrder, AreInOrder, IsOnBoard};
 ghost use Rattle.tt_proof.specs.Footprints.{IsRepeated};
-ghost use Rattle.tt_proof.specs.KeptFootprints.{IsFootprint, IsBoardAfter, IsEntryJoined};
-ghost use Rattle.tt_proof.specs.Collecting.{IsGiven, IsPlayed};
+ghost use Rattle.tt_proof.specs.KeptFootprints.{IsFootprint, IsBoardAfter, IsEntryJoined, AreSized, board_of};
+ghost use Rattle.tt_proof.specs.Collecting.{IsGiven, IsPlayed, IsNoHigher, IsReachedBy};
 
+use crate::bounds::Bound;
+use crate::shared_boards::SharedBoards;
 use crate::tree::Tree;
 use std::alloc::Global;
-use tt_board::{Board, Differences};
+use std::slice;
+use tt_board::Board;
 use tt_game::{Line, Refused, Turn};
 use tt_sgf::{NoMemory, Point};
 
-/// What a tree needs in the history of its state, and what it avoids there: two sets of colourings, each kept by how it
-/// differs from the state's present one.
+/// What a tree needs in the history of its state, and what it avoids there: the boards of two sets of colourings. `low` has the
+/// least numbers of stones that are on the boards which turns of the other side make.
 #[derive(Drop)]
 pub struct Footprint {
-    pub needs: Differences,
-    pub avoids: Differences,
+    pub needs: SharedBoards,
+    pub avoids: SharedBoards,
+    pub low: Bound,
 }
 
 impl Footprint {
@@ -31,8 +35,9 @@ impl Footprint {
         ensures { (f : Frame) (s : State) → IsFootprint f s done result }
     {
         Footprint {
-            needs: Differences::new(alloc),
-            avoids: Differences::new(alloc),
+            needs: SharedBoards::new(alloc),
+            avoids: SharedBoards::new(alloc),
+            low: Bound::none(),
         }
     }
 
@@ -44,7 +49,8 @@ impl Footprint {
         let needs = repeats(alloc, line)?;
         Ok(Footprint {
             needs,
-            avoids: Differences::new(alloc),
+            avoids: SharedBoards::new(alloc),
+            low: Bound::none(),
         })
     }
 
@@ -53,22 +59,25 @@ impl Footprint {
     pub fn picked(
         alloc: Global,
         line: &Line,
-        turn: Turn,
+        turn: &Turn,
         board: &Board,
         behind: &Footprint,
     ) -> Result<Footprint, NoMemory>
-        requires legal { IsLegal line.now.frame line.now.state turn }
-        requires board { IsBoardAfter line.now.frame line.now.state turn board.now }
-        ensures { IfOk result (λ x. (u : Strategy) → IsFootprint line.now.frame (after line.now.frame line.now.state turn) u behind.now
-            → IsFootprint line.now.frame line.now.state (pick turn u) x) }
+        requires legal { IsLegal line.now.frame line.now.state turn.now }
+        requires board { IsBoardAfter line.now.frame line.now.state turn.now board.now }
+        ensures { IfOk result (λ x. (u : Strategy) → IsFootprint line.now.frame (after line.now.frame line.now.state turn.now) u behind.now
+            → IsFootprint line.now.frame line.now.state (pick turn.now u) x) }
     {
-        let base = line.present();
-        let mut needs = Differences::new(alloc);
-        give(&mut needs, base, &turn, board, &behind.needs)?;
-        let mut avoids = Differences::new(alloc);
-        put_played(&mut avoids, base, &turn, board)?;
-        avoids.append(base, &behind.avoids, board, &[])?;
-        Ok(Footprint { needs, avoids })
+        let mut needs = SharedBoards::new(alloc);
+        give(&mut needs, turn, board, &behind.needs)?;
+        let mut avoids = SharedBoards::new(alloc);
+        put_played(alloc, &mut avoids, turn, board)?;
+        avoids.append(&behind.avoids, &[])?;
+        Ok(Footprint {
+            needs,
+            avoids,
+            low: behind.low,
+        })
     }
 
     /// Joins that of the tree behind one more turn of a reply. The turn is legal at the line, and `board` is the one after
@@ -76,78 +85,107 @@ impl Footprint {
     pub fn join(
         &mut self,
         line: &Line,
-        turn: Turn,
+        turn: &Turn,
         board: &Board,
         behind: &Footprint,
     ) -> Result<(), NoMemory>
-        requires legal { IsLegal line.now.frame line.now.state turn }
-        requires board { IsBoardAfter line.now.frame line.now.state turn board.now }
-        ensures { OnOk result ((u : Strategy) → IsFootprint line.now.frame (after line.now.frame line.now.state turn) u behind.now
-            → IsEntryJoined line.now.frame line.now.state turn u self.old self.new) }
+        requires legal { IsLegal line.now.frame line.now.state turn.now }
+        requires board { IsBoardAfter line.now.frame line.now.state turn.now board.now }
+        ensures { OnOk result ((u : Strategy) → IsFootprint line.now.frame (after line.now.frame line.now.state turn.now) u behind.now
+            → IsEntryJoined line.now.frame line.now.state turn.now u self.old self.new) }
     {
-        let base = line.present();
-        give(&mut self.needs, base, &turn, board, &behind.needs)?;
-        self.avoids.append(base, &behind.avoids, board, &[])
+        give(&mut self.needs, turn, board, &behind.needs)?;
+        self.low = lowered(&self.low, turn, board, &behind.low);
+        self.avoids.append(&behind.avoids, &[])
+    }
+
+    /// The same footprint again, whose boards are those of this one.
+    pub fn try_clone(&self, alloc: Global) -> Result<Footprint, NoMemory>
+        ensures { IfOk result (λ x. x ≡ self.now) }
+    {
+        let needs = self.needs.try_clone(alloc)?;
+        let avoids = self.avoids.try_clone(alloc)?;
+        Ok(Footprint {
+            needs,
+            avoids,
+            low: self.low,
+        })
     }
 }
 
 /// Adds what the child of a turn, which led to the board, needs in its parent's history too.
 fn give(
-    needs: &mut Differences,
-    base: &Board,
+    needs: &mut SharedBoards,
     turn: &Turn,
     board: &Board,
-    behind: &Differences,
+    behind: &SharedBoards,
 ) -> Result<(), NoMemory>
-    requires { board.now.size ≡ base.now.size }
-    ensures { OnOk result ((c : Colouring) → Contains (colourings_from base.now.points needs.new) c
-        ↔ (Contains (colourings_from base.now.points needs.old) c ⊎ IsGiven turn.now board.now.points behind.now c)) }
+    ensures { OnOk result ((b : Position) → Contains needs.new b ↔ (Contains needs.old b ⊎ IsGiven turn.now board.now behind.now b)) }
 {
     match turn {
-        Turn::Pass => needs.append(base, behind, board, &[]),
-        Turn::Play(_) => needs.append(base, behind, board, &[board.copy()]),
+        Turn::Pass => needs.append(behind, &[]),
+        Turn::Play(_) => needs.append(behind, slice::from_ref(board)),
     }
 }
 
-/// Adds the colouring that a play made; a pass made none.
+/// Adds the board that a play made; a pass made none.
 fn put_played(
-    avoids: &mut Differences,
-    base: &Board,
+    alloc: Global,
+    avoids: &mut SharedBoards,
     turn: &Turn,
     board: &Board,
 ) -> Result<(), NoMemory>
-    requires { board.now.size ≡ base.now.size }
-    ensures { OnOk result ((c : Colouring) → Contains (colourings_from base.now.points avoids.new) c
-        ↔ (Contains (colourings_from base.now.points avoids.old) c ⊎ IsPlayed turn.now board.now.points c)) }
+    ensures { OnOk result ((b : Position) → Contains avoids.new b ↔ (Contains avoids.old b ⊎ IsPlayed turn.now board.now b)) }
 {
     match turn {
         Turn::Pass => Ok(()),
-        Turn::Play(_) => avoids.add(base, board),
+        Turn::Play(_) => avoids.add(alloc, board),
     }
 }
 
-/// Adds the colouring of the history that a play on the point would repeat.
-fn put_repeated(needs: &mut Differences, line: &Line, p: Point) -> Result<(), NoMemory>
-    ensures { OnOk result ((c : Colouring) → Contains (colourings_from line.now.state.present needs.new) c
-        ↔ (Contains (colourings_from line.now.state.present needs.old) c
+/// A bound for what is met behind the turns of a reply, from that behind others and from that behind one more, which led to
+/// the board.
+fn lowered(low: &Bound, turn: &Turn, board: &Board, behind: &Bound) -> Bound
+    ensures before { IsNoHigher result low.now }
+    ensures behind { IsNoHigher result behind.now }
+    ensures made { IsReachedBy turn.now board.now.points result }
+{
+    let both = low.least(behind);
+    match turn {
+        Turn::Pass => both,
+        Turn::Play(_) => both.least(&Bound::of(board)),
+    }
+}
+
+/// Adds the board of the history that a play on the point would repeat.
+fn put_repeated(
+    alloc: Global,
+    needs: &mut SharedBoards,
+    line: &Line,
+    p: Point,
+) -> Result<(), NoMemory>
+    ensures sized { OnOk result (AreSized line.now.frame needs.old → AreSized line.now.frame needs.new) }
+    ensures more { OnOk result ((c : Colouring) → Contains needs.new (board_of line.now.frame c)
+        ↔ (Contains needs.old (board_of line.now.frame c)
         ⊎ (IsBarred line.now.frame line.now.state p × (made line.now.frame line.now.state p ≡ c)))) }
 {
     match line.repeated(p) {
-        Some(board) => needs.add(line.present(), &board),
+        Some(board) => needs.add(alloc, &board),
         None => Ok(()),
     }
 }
 
-/// The colourings of the history that plays on empty points of the region would repeat.
-fn repeats(alloc: Global, line: &Line) -> Result<Differences, NoMemory>
-    ensures { IfOk result (λ needs. (c : Colouring) → Contains (colourings_from line.now.state.present needs) c
+/// The boards of the history that plays on empty points of the region would repeat.
+fn repeats(alloc: Global, line: &Line) -> Result<SharedBoards, NoMemory>
+    ensures sized { IfOk result (λ needs. AreSized line.now.frame needs) }
+    ensures exact { IfOk result (λ needs. (c : Colouring) → Contains needs (board_of line.now.frame c)
         ↔ IsRepeated line.now.frame (history line.now.state) [] line.now.state c) }
 {
     let region = &line.frame().region;
-    let mut needs = Differences::new(alloc);
+    let mut needs = SharedBoards::new(alloc);
     let mut from = 0;
     while let Some(p) = region.least_from(from) {
-        put_repeated(&mut needs, line, p)?;
+        put_repeated(alloc, &mut needs, line, p)?;
         from = p.number() + 1;
     }
     Ok(needs)
@@ -162,7 +200,7 @@ fn join_entry(
     line: &mut Line,
     footprint: &mut Footprint,
 ) -> Result<(), NoMemory>
-    requires depth { depth (strategy_of tree.now) ≤ 512 }
+    requires depth { depth (strategy_of tree.now) ≤ MOST_DEPTH }
     requires on_board { IsOnBoard line.old.frame.size turn.now }
     requires in_order { IsInOrder line.old.frame.size (strategy_of tree.now) }
     ensures exact { OnOk result (IsEntryJoined line.old.frame line.old.state turn.now (strategy_of tree.now) footprint.old footprint.new) }
@@ -174,7 +212,7 @@ fn join_entry(
             let found = footprint_of(alloc, tree, line);
             line.pop();
             match found {
-                Ok(behind) => footprint.join(line, *turn, &board, &behind),
+                Ok(behind) => footprint.join(line, turn, &board, &behind),
                 Err(e) => Err(e),
             }
         }
@@ -190,7 +228,7 @@ fn footprint_of_pick(
     tree: &Tree,
     line: &mut Line,
 ) -> Result<Footprint, NoMemory>
-    requires depth { depth (strategy_of tree.now) ≤ 512 }
+    requires depth { depth (strategy_of tree.now) ≤ MOST_DEPTH }
     requires on_board { IsOnBoard line.old.frame.size turn.now }
     requires in_order { IsInOrder line.old.frame.size (strategy_of tree.now) }
     ensures exact { IfOk result (λ x. IsFootprint line.old.frame line.old.state (pick turn.now (strategy_of tree.now)) x) }
@@ -202,7 +240,7 @@ fn footprint_of_pick(
             let found = footprint_of(alloc, tree, line);
             line.pop();
             match found {
-                Ok(behind) => Footprint::picked(alloc, line, *turn, &board, &behind),
+                Ok(behind) => Footprint::picked(alloc, line, turn, &board, &behind),
                 Err(e) => Err(e),
             }
         }
@@ -217,7 +255,7 @@ fn footprint_of_reply(
     list: &[(Turn, Tree)],
     line: &mut Line,
 ) -> Result<Footprint, NoMemory>
-    requires depth { depth_of_entries (entries_of_trees list.now) ≤ 512 }
+    requires depth { depth_of_entries (entries_of_trees list.now) ≤ MOST_DEPTH }
     requires in_order { AreInOrder line.old.frame.size 0 (entries_of_trees list.now) }
     ensures exact { IfOk result (λ x. IsFootprint line.old.frame line.old.state (reply (entries_of_trees list.now)) x) }
     ensures same { line.new ≡ line.old }
@@ -234,7 +272,7 @@ fn footprint_of_reply(
 /// rise. The line stands as before, also after want of memory.
 #[cycle(collect)]
 pub fn footprint_of(alloc: Global, t: &Tree, line: &mut Line) -> Result<Footprint, NoMemory>
-    requires depth { depth (strategy_of t.now) ≤ 512 }
+    requires depth { depth (strategy_of t.now) ≤ MOST_DEPTH }
     requires in_order { IsInOrder line.old.frame.size (strategy_of t.now) }
     ensures exact { IfOk result (λ x. IsFootprint line.old.frame line.old.state (strategy_of t.now) x) }
     ensures same { line.new ≡ line.old }

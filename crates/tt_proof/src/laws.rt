@@ -1,6 +1,6 @@
 //! Laws of trees and of certificates, over the definitions alone.
 
-ghost use Rattle.tt_proof.specs.Laws.{WinningForces, FittingWins, ChildNeeds, OneReading, OneCertificate, TreesAreStrategies};
+ghost use Rattle.tt_proof.specs.Laws.{WinningForces, FittingWins, FootprintsCarried, ChildNeeds, OneReading, OneCertificate, TreesAreStrategies};
 
 /// A winning tree of depth n makes its side force a win within n turns.
 pub fn l1()
@@ -10,6 +10,12 @@ pub fn l1()
 /// A tree that wins from one state wins from each state that it fits, whatever the path there.
 pub fn l3()
     ensures { FittingWins }
+{}
+
+/// A footprint may be taken to another history without a walk through its tree: where the tree fits, and the history has no
+/// colouring that a turn makes which the tree answers, the tree needs and avoids there what it did.
+pub fn carried()
+    ensures { FootprintsCarried }
 {}
 
 /// What a tree needs is joined from what its children need: the child of a play needs in the history from before the play

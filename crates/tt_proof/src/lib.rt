@@ -1,6 +1,7 @@
 //! Strategy trees, their exact replay, proofs that win, and certificates.
 #![tactic(auto)]
 
+mod bounds;
 mod building;
 mod certificate_read;
 mod certificate_write;
@@ -10,14 +11,17 @@ mod measures;
 mod plan;
 mod proven;
 mod replays;
+mod shared_boards;
 mod tree;
 
+pub use bounds::Bound;
 pub use certificate_read::{CertFault, read_cert};
 pub use certificate_write::{put_shown, put_turn, write_cert};
 pub use footprints::{Footprint, footprint_of};
 pub use plan::{Plan, Replies};
 pub use proven::{Proof, Rejected};
 pub use replays::replay;
+pub use shared_boards::SharedBoards;
 pub use tree::{MOST_DEPTH, Tree};
 
 #[cfg(test)]

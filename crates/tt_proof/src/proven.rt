@@ -8,30 +8,35 @@ ghost use Rattle.tt_game.specs.declared.turns.Turn.{Turn};
 ghost use Rattle.tt_proof.specs.declared.tree.TheConstants.{MOST_DEPTH};
 ghost use Rattle.tt_proof.specs.Strategy.{pick, reply, done, depth, strategy_of, IsInOrder, entries_of};
 ghost use Rattle.tt_proof.specs.Nodes.{nodes};
-ghost use Rattle.tt_proof.specs.Proven.{IsWon, StandsAt, IsChild, AreChildren, turns_of, trees_of, first_of};
+ghost use Rattle.tt_proof.specs.Proven.{IsWon, StandsAt, FitsAt, IsChild, AreChildren, turns_of, trees_of, first_of};
+ghost use Rattle.tt_proof.specs.KeptFootprints.{IsFootprint};
 ghost use Rattle.tt_proof.specs.Rejections.{IsRejected};
 
+use crate::footprints::{Footprint, footprint_of};
 use crate::plan::{Plan, Replies};
 use crate::replays::replay;
 use crate::tree::Tree;
 use std::alloc::Global;
 use std::marker::Model;
+use tt_board::Board;
 use tt_game::{Key, Line, Past, Side, Turn};
 use tt_sgf::NoMemory;
 
 /// A tree that wins for its side from where a line stood: of a depth of at most 512, with rising turns and points on
-/// the board.
+/// the board. Its footprint says at which other histories of the position it wins too.
 #[derive(Drop)]
 pub struct Proof {
     past: Past,
     side: Side,
     plan: Plan,
+    footprint: Footprint,
 }
 
 impl Model for Proof {
     ghost use Rattle.std.specs.Coded.{codes};
     ghost use Rattle.tt_sgf.specs.contracts.sets.PointSet as points;
-    ghost use Rattle.tt_proof.specs.Proven.{Proven, IsWon};
+    ghost use Rattle.tt_proof.specs.Proven.{Proven};
+    ghost use Rattle.tt_proof.specs.KeptFootprints.{IsFooted};
     ghost use Rattle.tt_proof.specs.StrategyCode.{strategy_code};
 
     ghost Value = { Proven };
@@ -40,7 +45,7 @@ impl Model for Proof {
 
     ghost view = { λ p. record { frame = p.past.frame; state = p.past.state; side = p.side; tree = p.plan } };
 
-    ghost invariant = { λ p. IsWon p.side p.past.frame p.past.state p.plan };
+    ghost invariant = { λ p. IsFooted p.side p.past.frame p.past.state p.plan p.footprint };
 }
 
 /// Why a tree was not made a proof. The tree comes back.
@@ -84,6 +89,7 @@ impl Proof {
             past: _,
             side: _,
             plan,
+            footprint: _,
         } = self;
         plan
     }
@@ -135,9 +141,71 @@ impl Proof {
         self.past.stands_with(line)
     }
 
+    /// The board of the proof's own position.
+    pub fn present(&self) -> &Board
+        ensures { result.now ≡ record { size = self.now.frame.size; points = self.now.state.present } }
+    {
+        self.past.present()
+    }
+
+    /// What the tree needs in its own history, and what it avoids there.
+    pub fn footprint(&self) -> &Footprint
+        ensures { IsFootprint self.now.frame self.now.state self.now.tree result.now }
+    {
+        &self.footprint
+    }
+
+    /// Whether the tree may be moved to the line: the line has the proof's frame, present colouring, side to move and pass
+    /// count, its history has each colouring that the tree needs, and none that it avoids. The tree wins at such a line. No
+    /// turn is played, and it takes no memory. A tree can win where it doesn't fit: there `replay` decides.
+    pub fn fits(&self, line: &Line) -> bool
+        ensures fits { IsTrue result ↔ FitsAt self.now line.now.frame line.now.state }
+        ensures wins { IsTrue result → IsWon self.now.side line.now.frame line.now.state self.now.tree }
+    {
+        if !self.past.is_position_of(line) {
+            return false;
+        }
+        let history = line.history();
+        if !self.footprint.needs.all_in(history) {
+            return false;
+        }
+        self.footprint.avoids.none_in(history)
+    }
+
+    /// Whether the tree wins at the line, too: it does where it fits, and otherwise a replay decides. The line has a board of the
+    /// proof's size. It stands as before, also after want of memory.
+    pub fn wins_at(&self, line: &mut Line) -> Result<bool, NoMemory>
+        requires { self.now.frame.size ≡ line.old.frame.size }
+        ensures exact { IfOk result (λ wins. IsTrue wins ↔ IsWon self.now.side line.old.frame line.old.state self.now.tree) }
+        ensures same { line.new ≡ line.old }
+    {
+        if self.fits(line) {
+            return Ok(true);
+        }
+        replay(self.tree(), self.side(), line)
+    }
+
+    /// The footprint of the tree at the line, where it wins. It is the proof's own where the tree fits, and each board of the
+    /// line's history but the last has fewer stones of some colour than all boards that turns of the other side make; else
+    /// the tree is walked through. The line stands as before, also after want of memory.
+    pub fn footprint_at(&self, alloc: Global, line: &mut Line) -> Result<Footprint, NoMemory>
+        requires wins { IsWon self.now.side line.old.frame line.old.state self.now.tree }
+        ensures exact { IfOk result (λ x. IsFootprint line.old.frame line.old.state self.now.tree x) }
+        ensures same { line.new ≡ line.old }
+    {
+        let tree = self.tree();
+        let own = self.footprint();
+        let history = line.history();
+        let earlier = &history[..history.len().saturating_sub(1)];
+        if self.fits(line) && own.low.is_above(earlier) {
+            return own.try_clone(alloc);
+        }
+        footprint_of(alloc, tree, line)
+    }
+
     /// A proof of the tree at the line, where it wins there; else the tree is handed back. The tree is at most 512 turns
     /// deep, its points lie on the board, and the turns of each reply rise. The line stands as before.
-    pub fn replayed(line: &mut Line, s: Side, t: Tree) -> Result<Proof, Rejected>
+    pub fn replayed(alloc: Global, line: &mut Line, s: Side, t: Tree) -> Result<Proof, Rejected>
         requires depth { depth (strategy_of t) ≤ MOST_DEPTH }
         requires in_order { IsInOrder line.old.frame.size (strategy_of t) }
         ensures made { IfOk result (λ p. StandsAt p line.old.frame line.old.state × (p.side ≡ s) × (p.tree ≡ strategy_of t)) }
@@ -147,11 +215,12 @@ impl Proof {
         match replay(&t, s, line) {
             Err(_) => Err(Rejected::NoMemory(t)),
             Ok(false) => Err(Rejected::NotWinning(t)),
-            Ok(true) => match line.past() {
-                Ok(past) => Ok(Proof {
+            Ok(true) => match rested(alloc, &t, line) {
+                Ok((past, footprint)) => Ok(Proof {
                     past,
                     side: s,
                     plan: Plan::of(t),
+                    footprint,
                 }),
                 Err(_) => Err(Rejected::NoMemory(t)),
             },
@@ -159,7 +228,7 @@ impl Proof {
     }
 
     /// The proof at a line where somebody has won.
-    pub fn done(line: &Line) -> Result<Proof, NoMemory>
+    pub fn done(alloc: Global, line: &Line) -> Result<Proof, NoMemory>
         requires { winner_of line.now.frame line.now.state ≢ None }
         ensures { IfOk result (λ p. StandsAt p line.now.frame line.now.state
             × (winner_of line.now.frame line.now.state ≡ Some p.side) × (p.tree ≡ done)) }
@@ -171,6 +240,7 @@ impl Proof {
                     past,
                     side,
                     plan: Plan::done(),
+                    footprint: Footprint::empty(alloc),
                 })
             }
             None => unreachable!(),
@@ -185,11 +255,17 @@ impl Proof {
         ensures { IfOk result (λ p. StandsAt p line.now.frame line.now.state × (p.side ≡ child.side)
             × (p.tree ≡ pick t child.tree)) }
     {
+        let footprint = Footprint::picked(alloc, line, &t, child.present(), child.footprint())?;
         let side = child.side();
         let plan = child.into_plan();
         let past = line.past()?;
         let plan = Plan::pick(alloc, t, plan)?;
-        Ok(Proof { past, side, plan })
+        Ok(Proof {
+            past,
+            side,
+            plan,
+            footprint,
+        })
     }
 
     /// The proof that answers each turn of the other side with that turn's child. The children are those of all legal
@@ -206,8 +282,10 @@ impl Proof {
         ensures { IfOk result (λ p. StandsAt p line.now.frame line.now.state × (p.side ≡ opponent line.now.state.to_move)
             × (p.tree ≡ reply (entries_of (trees_of children.items)))) }
     {
+        let mut footprint = Footprint::of_plays(alloc, line)?;
         let mut replies = Replies::with_capacity(alloc, children.len())?;
         for (turn, child) in children {
+            footprint.join(line, &turn, child.present(), child.footprint())?;
             replies.push(turn, child.into_plan())?;
         }
         let past = line.past()?;
@@ -216,12 +294,30 @@ impl Proof {
             past,
             side: line.to_move().opponent(),
             plan,
+            footprint,
         })
     }
 
-    /// The proof of a plan that is known to win at the line. No turn is played for it, and its tree is not looked at.
-    pub fn winning(line: &Line, s: Side, plan: Plan) -> Result<Proof, NoMemory>
+    /// The proof of a plan that is known to win at the line. Its footprint is found by a walk through its tree.
+    pub fn winning(alloc: Global, line: &Line, s: Side, plan: Plan) -> Result<Proof, NoMemory>
         requires { IsWon s line.now.frame line.now.state plan }
+        ensures { IfOk result (λ p. StandsAt p line.now.frame line.now.state × (p.side ≡ s) × (p.tree ≡ plan)) }
+    {
+        let mut own = line.try_clone()?;
+        let footprint = footprint_of(alloc, plan.tree(), &mut own)?;
+        Proof::winning_with(line, s, plan, footprint)
+    }
+
+    /// The proof of a plan that is known to win at the line, and of its footprint there. No turn is played for it, and its
+    /// tree is not looked at.
+    pub fn winning_with(
+        line: &Line,
+        s: Side,
+        plan: Plan,
+        footprint: Footprint,
+    ) -> Result<Proof, NoMemory>
+        requires wins { IsWon s line.now.frame line.now.state plan }
+        requires footprint { IsFootprint line.now.frame line.now.state plan footprint }
         ensures { IfOk result (λ p. StandsAt p line.now.frame line.now.state × (p.side ≡ s) × (p.tree ≡ plan)) }
     {
         let past = line.past()?;
@@ -229,6 +325,20 @@ impl Proof {
             past,
             side: s,
             plan,
+            footprint,
         })
     }
+}
+
+/// Where the line stands, and the footprint of the tree there. The line stands as before.
+fn rested(alloc: Global, t: &Tree, line: &mut Line) -> Result<(Past, Footprint), NoMemory>
+    requires depth { depth (strategy_of t.now) ≤ MOST_DEPTH }
+    requires in_order { IsInOrder line.old.frame.size (strategy_of t.now) }
+    ensures stands { IfOk result (λ r. (r.0.frame ≡ line.old.frame) × (r.0.state ≡ line.old.state)) }
+    ensures exact { IfOk result (λ r. IsFootprint line.old.frame line.old.state (strategy_of t.now) r.1) }
+    ensures same { line.new ≡ line.old }
+{
+    let footprint = footprint_of(alloc, t, line)?;
+    let past = line.past()?;
+    Ok((past, footprint))
 }

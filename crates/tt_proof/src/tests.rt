@@ -140,11 +140,11 @@ fn answered(alloc: Global, line: &mut Line, children: Vec<(Turn, Proof)>) -> Res
     }
 }
 
-fn won(line: &Line) -> Result<Proof, Fail> {
+fn won(alloc: Global, line: &Line) -> Result<Proof, Fail> {
     if line.winner().is_none() {
         return Err(Fail::from("nobody has won"));
     }
-    match Proof::done(line) {
+    match Proof::done(alloc, line) {
         Ok(proof) => Ok(proof),
         Err(_) => Err(Fail::from("no memory")),
     }
@@ -174,7 +174,7 @@ fn replayed(alloc: Global, line: &mut Line, certificate: &[u8]) -> Result<Proof,
     let size = line.frame().size;
     match read_cert(alloc, certificate, size) {
         Err(_) => Err(Fail::from("no certificate")),
-        Ok((side, tree)) => match Proof::replayed(line, side, tree) {
+        Ok((side, tree)) => match Proof::replayed(alloc, line, side, tree) {
             Ok(proof) => Ok(proof),
             Err(Rejected::NotWinning(_)) => Err(Fail::from("not winning")),
             Err(Rejected::NoMemory(_)) => Err(Fail::from("no memory")),
@@ -193,7 +193,7 @@ fn text_of(alloc: Global, proof: &Proof, line: &Line) -> Result<Vec<u8>, Fail> {
     }
 }
 
-fn problem_line(alloc: Global, record: &[u8]) -> Result<Line, Fail> {
+pub(crate) fn problem_line(alloc: Global, record: &[u8]) -> Result<Line, Fail> {
     match line_of(alloc, record) {
         Ok(line) => Ok(line),
         Err(_) => Err(Fail::from("no problem")),
@@ -222,8 +222,8 @@ fn reply_of_attacker(alloc: Global, asked: &mut Line, capture: Turn) -> Result<P
     let mut passed = after(asked, &Turn::Pass)?;
     let late = after(&passed, &capture)?;
     let mut children = Vec::new(alloc);
-    children.push((capture, won(&taken)?))?;
-    let pick = picked(alloc, &mut passed, &capture, won(&late)?)?;
+    children.push((capture, won(alloc, &taken)?))?;
+    let pick = picked(alloc, &mut passed, &capture, won(alloc, &late)?)?;
     children.push((Turn::Pass, pick))?;
     answered(alloc, asked, children)
 }
@@ -253,7 +253,7 @@ fn defender_proof(rt: HostRuntime) -> Result<(), Fail> {
     assert_eq!(rt; text_of(alloc, &found, &line)?.as_slice(), text);
     let mut asked = after(&line, &Turn::Pass)?;
     let over = after(&asked, &Turn::Pass)?;
-    let pick = picked(alloc, &mut asked, &Turn::Pass, won(&over)?)?;
+    let pick = picked(alloc, &mut asked, &Turn::Pass, won(alloc, &over)?)?;
     let mut children = Vec::new(alloc);
     children.push((Turn::Pass, pick))?;
     let made = answered(alloc, &mut line, children)?;
@@ -268,5 +268,49 @@ fn measures(rt: HostRuntime) -> Result<(), Fail> {
     let found = replayed(alloc, &mut line, b"killed !ca?aa.--!aa.;")?;
     assert_eq!(rt; found.nodes(), 5);
     assert_eq!(rt; found.plan().try_clone()?.depth(), 3);
+    Ok(())
+}
+
+#[test]
+fn proofs_that_fit(rt: HostRuntime) -> Result<(), Fail> {
+    let alloc = rt.alloc();
+    let mut p = problem_line(alloc, b"(;SZ[4:1]AW[ba][da]PL[B]TR[ba])")?;
+    let mut q = problem_line(alloc, b"(;SZ[4:1]AW[ba];B[ca];W[da]TR[ba])")?;
+    let other = problem_line(alloc, b"(;SZ[4:1]AW[da]PL[W];W[ba]TR[ba])")?;
+    let killed = replayed(alloc, &mut p, b"killed !ca?aa.--!aa.;")?;
+    let lives = replayed(alloc, &mut q, b"lives ?--!--.;")?;
+    assert!(&rt; killed.fits(&p));
+    assert!(&rt; !killed.fits(&q));
+    assert!(&rt; !lives.fits(&p));
+    assert!(&rt; lives.fits(&q));
+    assert!(&rt; killed.fits(&other));
+    assert!(&rt; !killed.stands_at(&other));
+    Ok(())
+}
+
+#[test]
+fn passes_fit(rt: HostRuntime) -> Result<(), Fail> {
+    let alloc = rt.alloc();
+    let q = problem_line(alloc, b"(;SZ[4:1]AW[ba];B[ca];W[da]TR[ba])")?;
+    let mut asked = after(&q, &Turn::Pass)?;
+    let lives = replayed(alloc, &mut asked, b"lives !--.")?;
+    let no_pass = problem_line(alloc, b"(;SZ[4:1]AW[ba][da]PL[W]TR[ba])")?;
+    assert!(&rt; lives.fits(&asked));
+    assert!(&rt; !lives.fits(&no_pass));
+    Ok(())
+}
+
+#[test]
+fn made_proofs_fit(rt: HostRuntime) -> Result<(), Fail> {
+    let alloc = rt.alloc();
+    let mut line = problem_line(alloc, b"(;SZ[4:1]AW[ba][da]PL[B]TR[ba])")?;
+    let q = problem_line(alloc, b"(;SZ[4:1]AW[ba];B[ca];W[da]TR[ba])")?;
+    let other = problem_line(alloc, b"(;SZ[4:1]AW[da]PL[W];W[ba]TR[ba])")?;
+    let first = play(&line, 2)?;
+    let capture = play(&line, 0)?;
+    let mut asked = after(&line, &first)?;
+    let reply = reply_of_attacker(alloc, &mut asked, capture)?;
+    let made = picked(alloc, &mut line, &first, reply)?;
+    assert!(&rt; made.fits(&line) && !made.fits(&q) && made.fits(&other));
     Ok(())
 }

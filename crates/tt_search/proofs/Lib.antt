@@ -13,6 +13,7 @@ pub mod Advanced
 pub mod Strategies
 pub mod Successors
 pub mod Replies
+pub mod Joins
 pub mod Keyed
 pub mod Ends
 pub mod Chains

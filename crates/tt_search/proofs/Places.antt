@@ -275,7 +275,7 @@ replies_at_end side es rest i l = at_drop_all (λ xs. replies side (turns_of xs)
 -- ---- as many nodes as children that have grown
 
 -- where as many nodes are left as have grown, as many are left behind a child
-nodes_behind : (m : Mark) (n : ℕ) (ts : List PartialTree) → counted m n ≡ length ts → n ≡ length (grown_behind m ts)
+pub nodes_behind : (m : Mark) (n : ℕ) (ts : List PartialTree) → counted m n ≡ length ts → n ≡ length (grown_behind m ts)
 nodes_behind Fresh n ts h = h
 nodes_behind (Won side) n ts h = h
 nodes_behind Grown n [] h = absurd (omega (arith, h))

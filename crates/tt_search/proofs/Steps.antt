@@ -85,7 +85,7 @@ counted_closed at old new u (side, strategy, w, o, d, e) = omega (arith, ap coun
 
 -- what stays within a room stays within a greater one
 mutual
-  stays_in_more : (size : Size) (room more' : ℕ) (tree : PartialTree) → room ≤ more' → StaysWithin size room tree → StaysWithin size more' tree
+  pub stays_in_more : (size : Size) (room more' : ℕ) (tree : PartialTree) → room ≤ more' → StaysWithin size room tree → StaysWithin size more' tree
   stays_in_more size room more' fresh l h = tt
   stays_in_more size room more' (won side) l h = tt
   stays_in_more size room more' (closed side strategy) l h = (omega (arith, l, h.0), h.1)

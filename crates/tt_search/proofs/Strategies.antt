@@ -19,6 +19,7 @@ use Rattle.tt_search.specs.MostProving.{place}
 use Rattle.tt_search.specs.Growing.{IsPartialTree, ArePartialTrees}
 use Rattle.tt_search.specs.Within.{StaysWithin, AllStayWithin}
 use Rattle.tt_search.specs.Settled.{strategy_for, first_settled, picked_or_replied, pick_at, replies}
+use Rattle.tt_search.specs.Joining.{AreZero}
 
 -- ---- numbers that are 0
 
@@ -35,11 +36,6 @@ IsZeroAt side i no_more = ⊥
 IsZeroAt side zero (more tree children) = number side tree ≡ 0
 IsZeroAt side (suc i) (more tree children) = IsZeroAt side i children
 
--- each child's number is 0
-abbrev pub AreZero : Side → Children → Type 0
-AreZero side no_more = Unit {0}
-AreZero side (more tree children) = (number side tree ≡ 0) × AreZero side children
-
 -- where the lesser of two numbers is 0 and the first one isn't, the second one is
 least_zero : (x y : ℕ) → min x y ≡ 0 → (x == 0) ≡ false → y ≡ 0
 least_zero x y e h = grind (arith, common_steps)
@@ -52,12 +48,12 @@ zero_by_first side tree children e below true q = rw q (grind (arith, common_ste
 zero_by_first side tree children e below false q = rw (q, add-one) (below (least_zero (number side tree) (least (numbers side children)) e q))
 
 -- where the least number is 0, the first child that is settled is there
-zero_at : (side : Side) (children : Children) → least (numbers side children) ≡ 0 → IsZeroAt side (first_settled side children) children
+pub zero_at : (side : Side) (children : Children) → least (numbers side children) ≡ 0 → IsZeroAt side (first_settled side children) children
 zero_at side no_more e = absurd (omega arith)
 zero_at side (more tree children) e = zero_by_first side tree children e (zero_at side children) (number side tree == 0) refl
 
 -- a capped sum of 0 is a sum of 0
-zero_sum : (xs : List ℕ) → capped_sum xs ≡ 0 → sum xs ≡ 0
+pub zero_sum : (xs : List ℕ) → capped_sum xs ≡ 0 → sum xs ≡ 0
 zero_sum xs e = grind (arith, common_steps)
 
 -- a sum is the first number and the sum of the others
@@ -65,7 +61,7 @@ sum_more : (x : ℕ) (xs : List ℕ) → sum (x ∷ xs) ≡ x + sum xs
 sum_more x xs = grind (arith, common_steps)
 
 -- where the children's numbers sum up to 0, each of them is 0
-all_zero : (side : Side) (children : Children) → sum (numbers side children) ≡ 0 → AreZero side children
+pub all_zero : (side : Side) (children : Children) → sum (numbers side children) ≡ 0 → AreZero side children
 all_zero side no_more e = tt
 all_zero side (more tree children) e =
     (omega (arith, e, sum_more (number side tree) (numbers side children)), all_zero side children (omega (arith, e, sum_more (number side tree) (numbers side children))))
@@ -73,14 +69,14 @@ all_zero side (more tree children) e =
 -- ---- who is to move
 
 -- where the side to move has the number 0, so is the least of the children's
-own_zero : (side mover : Side) (turns : List Turn) (children : Children) → is_same side mover ≡ true → number side (expanded mover turns children) ≡ 0 → least (numbers side children) ≡ 0
+pub own_zero : (side mover : Side) (turns : List Turn) (children : Children) → is_same side mover ≡ true → number side (expanded mover turns children) ≡ 0 → least (numbers side children) ≡ 0
 own_zero Attacker Attacker turns children e z = z
 own_zero Attacker Defender turns children e z = cc
 own_zero Defender Attacker turns children e z = cc
 own_zero Defender Defender turns children e z = z
 
 -- where the other side has it, so is their capped sum
-other_zero : (side mover : Side) (turns : List Turn) (children : Children) → is_same side mover ≡ false → number side (expanded mover turns children) ≡ 0 → capped_sum (numbers side children) ≡ 0
+pub other_zero : (side mover : Side) (turns : List Turn) (children : Children) → is_same side mover ≡ false → number side (expanded mover turns children) ≡ 0 → capped_sum (numbers side children) ≡ 0
 other_zero Attacker Attacker turns children e z = cc
 other_zero Attacker Defender turns children e z = z
 other_zero Defender Attacker turns children e z = z

@@ -21,6 +21,7 @@ pub mod Pairs
 pub mod Shape
 pub mod Cached
 pub mod Offered
+pub mod Joining
 pub mod Falls
 pub mod Within
 pub mod Walking

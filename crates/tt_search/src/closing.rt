@@ -1,26 +1,26 @@
 //! Kept proofs that may be used at a leaf.
 
 ghost use Rattle.std.specs.Prelude.{◌≡◌, ◌≤◌, IfOk, IfSome, IsTrue};
-ghost use Rattle.tt_search.specs.Stores.{IsAnswer};
+ghost use Rattle.tt_game.specs.Keys.{key_of};
 ghost use Rattle.tt_search.specs.Usable.{IsUsable};
 
 use crate::store::{BothSides, Store};
 use std::sync::Arc;
-use tt_game::{Line, Side};
-use tt_proof::{Proof, replay};
+use tt_game::Line;
+use tt_proof::Proof;
 use tt_sgf::NoMemory;
 
-/// Whether the found proof may be used at the line with room for as many turns: its tree is no deeper, and it wins there by
-/// replay, since it may have been found under another history.
-fn is_usable(line: &mut Line, room: u16, side: Side, proof: &Proof) -> Result<bool, NoMemory>
-    requires { IsAnswer line.old side proof.now }
+/// Whether the found proof may be used at the line with room for as many turns: its tree is no deeper, and it wins there,
+/// too, though it may have been found under another history.
+fn is_usable(line: &mut Line, room: u16, proof: &Proof) -> Result<bool, NoMemory>
+    requires { key_of proof.now.frame proof.now.state ≡ key_of line.old.frame line.old.state }
     ensures usable { IfOk result (λ b. IsTrue b → IsUsable room line.old proof.now) }
     ensures line { line.new ≡ line.old }
 {
     if proof.depth() > room {
         return Ok(false);
     }
-    let wins = replay(proof.tree(), side, line)?;
+    let wins = proof.wins_at(line)?;
     Ok(wins)
 }
 
@@ -37,12 +37,12 @@ pub(crate) fn closing<S: Store>(
 {
     let BothSides { attacker, defender } = store.find_both(line)?;
     if let Some(proof) = attacker {
-        if is_usable(line, room, Side::Attacker, &proof)? {
+        if is_usable(line, room, &proof)? {
             return Ok(Some(proof));
         }
     }
     if let Some(proof) = defender {
-        if is_usable(line, room, Side::Defender, &proof)? {
+        if is_usable(line, room, &proof)? {
             return Ok(Some(proof));
         }
     }

@@ -10,6 +10,7 @@
 mod children;
 mod closing;
 mod edges;
+mod footprints;
 mod growing;
 mod key_index;
 mod leaves;

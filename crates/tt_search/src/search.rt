@@ -129,14 +129,15 @@ impl Search {
         self.root.grow(&mut self.walk, pace, store)
     }
 
-    /// The proof of a settled root.
-    fn proof(&self) -> Result<Proof, NoMemory>
-        requires { IsUndecided self.now.tree → ⊥ }
-        ensures { IfOk result (λ p. IsProofOf self.now p) }
+    /// The proof of a settled root. The search is as before.
+    fn proof(&mut self) -> Result<Proof, NoMemory>
+        requires { IsUndecided self.old.tree → ⊥ }
+        ensures exact { IfOk result (λ p. IsProofOf self.old p) }
+        ensures same { self.new ≡ self.old }
     {
         let Some(side) = self.root.settled_for() else {
             unreachable!();
         };
-        self.root.proof(self.walk.alloc, &self.walk.line, side)
+        self.root.proof(self.walk.alloc, &mut self.walk.line, side)
     }
 }

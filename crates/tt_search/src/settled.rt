@@ -10,6 +10,7 @@ ghost use Rattle.tt_search.specs.Growing.{IsPartialTree};
 ghost use Rattle.tt_search.specs.Within.{StaysWithin};
 ghost use Rattle.tt_search.specs.Settled.{strategy_for, first_settled, pick_at, replies};
 ghost use Rattle.tt_search.specs.Offered.{HoldsProof, IsProofOfTree};
+ghost use Rattle.tt_search.specs.Joining.{IsSettledAt};
 ghost use Rattle.tt_search.specs.Shape.{node_of};
 ghost use Rattle.tt_search.specs.Children.{children_of};
 ghost use Rattle.tt_search.specs.Edges.{turns_of, trees_of, grown_in};
@@ -61,17 +62,23 @@ impl Node {
         None
     }
 
-    /// The proof of a settled node, where the line stands at it.
-    pub(crate) fn proof(&self, alloc: Global, line: &Line, side: Side) -> Result<Proof, NoMemory>
-        requires settled { number side self.now ≡ 0 }
-        requires partial { IsPartialTree line.now.frame line.now.state self.now }
-        requires stays { StaysWithin line.now.frame.size MOST_DEPTH self.now }
-        ensures stands { IfOk result (λ p. StandsAt p line.now.frame line.now.state) }
+    /// The proof of a settled node, where the line stands at it. Its tree is not walked through: the plan is a new root over
+    /// the children's, and the footprint is joined from theirs. The line stands as before.
+    pub(crate) fn proof(
+        &self,
+        alloc: Global,
+        line: &mut Line,
+        side: Side,
+    ) -> Result<Proof, NoMemory>
+        requires { IsSettledAt side line.old.frame line.old.state self.now }
+        ensures stands { IfOk result (λ p. StandsAt p line.old.frame line.old.state) }
         ensures side { IfOk result (λ p. p.side ≡ side) }
         ensures tree { IfOk result (λ p. p.tree ≡ strategy_for side self.now) }
+        ensures same { line.new ≡ line.old }
     {
         let plan = self.plan(alloc, side)?;
-        Proof::winning(line, side, plan)
+        let footprint = self.footprint(alloc, line, side)?;
+        Proof::winning_with(line, side, plan, footprint)
     }
 
     /// Holds a proof that the node offers, where memory for a handle is left.
@@ -89,17 +96,18 @@ impl Node {
     /// Offers the proof of a node that is settled for the side to the store, where the walk stands at the node, and
     /// answers whether the walk may offer on. None is made for a store that is full, nor where the proof of a node below it
     /// couldn't be made.
-    pub(crate) fn offer<S: Store>(&mut self, side: Side, walk: &Walk, store: &mut S) -> bool
+    pub(crate) fn offer<S: Store>(&mut self, side: Side, walk: &mut Walk, store: &mut S) -> bool
         requires settled { number side self.old ≡ 0 }
-        requires partial { IsPartialTree walk.now.line.frame walk.now.line.state self.old }
-        requires stays { StaysWithin walk.now.line.frame.size MOST_DEPTH self.old }
+        requires partial { IsPartialTree walk.old.line.frame walk.old.line.state self.old }
+        requires stays { StaysWithin walk.old.line.frame.size MOST_DEPTH self.old }
         ensures same { self.new ≡ self.old }
-        ensures shut { walk.now.offering ≡ false → (result ≡ false) × (S.kept store.new ≡ S.kept store.old) }
+        ensures walk { walk.new ≡ walk.old }
+        ensures shut { walk.old.offering ≡ false → (result ≡ false) × (S.kept store.new ≡ S.kept store.old) }
     {
         if !walk.offering || store.kept() == store.capacity() {
             return walk.offering;
         }
-        let Ok(proof) = self.proof(walk.alloc, &walk.line, side) else {
+        let Ok(proof) = self.proof(walk.alloc, &mut walk.line, side) else {
             return false;
         };
         let Ok(proof) = Arc::new(walk.alloc, proof) else {
@@ -113,9 +121,10 @@ impl Node {
 
 impl Expansion {
     /// The proof that the node offered, where it is the side's.
-    fn offered_for(&self, side: Side) -> Option<&Proof>
+    pub(crate) fn offered_for(&self, side: Side) -> Option<&Proof>
         requires { HoldsProof self.now }
-        ensures { IfSome result (λ p. p.now.tree ≡ strategy_for side (node_of self.now)) }
+        ensures tree { IfSome result (λ p. p.now.tree ≡ strategy_for side (node_of self.now)) }
+        ensures side { IfSome result (λ p. p.now.side ≡ side) }
     {
         if let Some(proof) = &self.offered {
             if is_same(proof.side(), side) {

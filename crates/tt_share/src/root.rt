@@ -11,28 +11,29 @@ use crate::conclude::settled;
 use std::alloc::Global;
 use std::sync::Arc;
 use tt_game::{Line, Side};
-use tt_proof::{Proof, replay};
+use tt_proof::Proof;
 use tt_search::{Kept, Limits, Store};
 use tt_sgf::NoMemory;
 
-/// A proof of the found tree at the line, where it wins there by replay: it may have been found under another history. The
-/// tree is shared.
-fn replayed_at(line: &Line, found: &Proof) -> Result<Option<Proof>, NoMemory>
+/// A proof of the found tree at the line, where it wins there, too: it may have been found under another history. The tree is
+/// shared.
+fn moved_to(alloc: Global, line: &Line, found: &Proof) -> Result<Option<Proof>, NoMemory>
     requires { found.now.frame.size ≡ line.now.frame.size }
     ensures stands { IfOk result (λ o. IfSome o (λ p. StandsAt p line.now.frame line.now.state)) }
     ensures tree { IfOk result (λ o. IfSome o (λ p. p.tree ≡ found.now.tree)) }
 {
     let mut own = line.try_clone()?;
-    if !replay(found.tree(), found.side(), &mut own)? {
+    if !found.wins_at(&mut own)? {
         return Ok(None);
     }
     let plan = found.plan().try_clone()?;
-    let proof = Proof::winning(line, found.side(), plan)?;
+    let proof = Proof::winning(alloc, line, found.side(), plan)?;
     Ok(Some(proof))
 }
 
 /// A proof at the line of the tree that the store has for the side, where it wins here and is within the limit on depth.
 fn proof_from<S: Store>(
+    alloc: Global,
     line: &Line,
     limits: Limits,
     side: Side,
@@ -47,7 +48,7 @@ fn proof_from<S: Store>(
     if found.depth() > limits.depth() {
         return Ok(None);
     }
-    replayed_at(line, &found)
+    moved_to(alloc, line, &found)
 }
 
 /// The answer that the store has for the line: a proof of the attacker, or else of the defender.
@@ -60,10 +61,10 @@ pub(crate) fn from_store<S: Store>(
     requires open { winner_of line.now.frame line.now.state ≡ None }
     ensures { IfOk result (λ o. IfSome o (λ a. IsAnswer line.now limits a)) }
 {
-    if let Some(proof) = proof_from(line, limits, Side::Attacker, store)? {
+    if let Some(proof) = proof_from(alloc, line, limits, Side::Attacker, store)? {
         return Ok(Some(settled(alloc, line, limits, proof)?));
     }
-    if let Some(proof) = proof_from(line, limits, Side::Defender, store)? {
+    if let Some(proof) = proof_from(alloc, line, limits, Side::Defender, store)? {
         return Ok(Some(settled(alloc, line, limits, proof)?));
     }
     Ok(None)

@@ -38,7 +38,7 @@ pub(crate) fn proof_of(
     let Ok((side, tree)) = read_cert(alloc, certificate, size) else {
         return Err(Fail::new("no certificate"));
     };
-    match Proof::replayed(&mut line, side, tree) {
+    match Proof::replayed(alloc, &mut line, side, tree) {
         Ok(proof) => Ok(Arc::new(alloc, proof)?),
         Err(Rejected::NotWinning(_)) => Err(Fail::new("not winning")),
         Err(Rejected::NoMemory(_)) => Err(Fail::new("no memory")),

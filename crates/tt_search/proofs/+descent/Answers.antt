@@ -14,6 +14,7 @@ use Rattle.tt_search.specs.Growing.{IsPartialTree}
 use Rattle.tt_search.specs.Walking.{stage, stand_of, MayGrow}
 use Rattle.tt_search.specs.Steady.{AreStepsAt}
 use Rattle.tt_search.specs.declared.limits.Step.TheVariants.{Expanded, Closed}
+use Rattle.tt_search.specs.declared.walk.Walk.{Walk}
 use Rattle.tt_search.proofs.Sprouted.{fresh_here, fresh_child, not_won, rank_within_nodes, child_node, node_steps, one_step}
 use Rattle.tt_search.proofs.Steady.{last_round, next_round, round_falls, same_numbers, same_stand, steps_offerable}
 use Rattle.tt_search.proofs.Steps.{IsOfferable}
@@ -297,8 +298,11 @@ node::Node::round-returns-in-Some-clause-steps g t c =
     let steps = round_steps walk x.children c.args.self.now c.best_turn.result way c.go_down.new.self gone c.args.pace c.grow_best-step.result.0 new
     c.grow_best-step.new.walk c.go_up.new.self c.grow_best-step.ensures.steps c.go_up.ensures.left in
     subst
+    (λ (after : Walk). AreStepsAt c.args.pace (stand_of walk) (stage c.args.self.now walk.left) c.grow_best-step.result.0 (stage c.offer-walk.new.self after.left))
+    (sym c.offer-walk.ensures.walk)
+    (subst
     (λ (tree : PartialTree). AreStepsAt c.args.pace (stand_of walk) (stage c.args.self.now walk.left) c.grow_best-step.result.0 (stage tree c.go_up.new.self.left))
-    (sym c.offer-walk.ensures.same) steps
+    (sym c.offer-walk.ensures.same) steps)
 
 pub node::Node::round-returns-in_default-settled_for-clause-steps : goal.node::Node::round-returns-in_default-settled_for-clause-steps
 node::Node::round-returns-in_default-settled_for-clause-steps g t c =

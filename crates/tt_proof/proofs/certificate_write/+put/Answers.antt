@@ -1,4 +1,4 @@
-use Rattle.std.proofs.Common.{rules, ◌≡◌, ◌∙◌, ◌++◌, List, [], ◌∷◌, ℕ, Result, Ok, Err, OnOk, ap, append_assoc}
+use Rattle.std.proofs.Common.{rules, ◌≡◌, ◌∙◌, ◌++◌, List, [], ◌∷◌, ℕ, ap, append_assoc}
 use Rattle.tt_proof.specs.CertificateText.{pick_mark, reply_mark}
 use Rattle.std.proofs.lemmas.Result.{on_ok_weaker}
 use Rattle.tt_proof.specs.declared.tree.Tree.TheViews.{the_lemmas}

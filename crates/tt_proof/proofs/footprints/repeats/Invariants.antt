@@ -1,12 +1,14 @@
 use Rattle.std.proofs.Common.{◌↔◌, ◌-◌, Contains}
 use Rattle.tt_board.specs.Position.{Colouring}
-use Rattle.tt_board.specs.Differences.{colourings_from}
+use Rattle.tt_proof.specs.KeptFootprints.{AreSized, board_of}
 use Rattle.tt_proof.specs.Collecting.{RepeatsBelow}
 use Rattle.tt_proof.proofs.footprints.repeats.Given as goal
 
 abbrev pub invariant-loop-p : goal.invariant-loop-p
-invariant-loop-p l =
-    (c : Colouring) → Contains (colourings_from l.line.state.present l.needs) c ↔ RepeatsBelow l.line.frame l.line.state l.from c
+invariant-loop-p l = record {
+  sized : AreSized l.line.frame l.needs;
+  shown : (c : Colouring) → Contains l.needs (board_of l.line.frame c) ↔ RepeatsBelow l.line.frame l.line.state l.from c;
+}
 
 abbrev pub decreases-loop-p : goal.decreases-loop-p
 decreases-loop-p l = 361 - l.from

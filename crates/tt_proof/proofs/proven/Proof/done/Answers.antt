@@ -7,7 +7,10 @@ pub invariant_of-result : goal.invariant_of-result
 invariant_of-result c =
     let own = c.in_ok-past-in-Some.ensures in
     rw c.done.ensures
-    (won_done _ c.args.line.now.frame _ c.args.line.now.state _ (ap (λ (l : Stood). l.frame) own) (ap (λ (l : Stood). l.state) own) (search rules))
+    (record {
+      won = won_done _ c.args.line.now.frame _ c.args.line.now.state _ (ap (λ (l : Stood). l.frame) own) (ap (λ (l : Stood). l.state) own) (search rules);
+      footprint = c.empty.ensures _ _;
+    })
 
 pub returns : goal.returns
 returns c =

@@ -1,15 +1,29 @@
-use Rattle.std.proofs.Common.{◌∙◌, ap}
+use Rattle.std.proofs.Common.{◌∙◌, ap, sym}
+use Rattle.tt_game.specs.Game.{after}
 use Rattle.tt_game.specs.Line.{Stood}
 use Rattle.tt_proof.specs.Strategy.{pick}
 use Rattle.tt_proof.proofs.ProvenLemmas.{won_pick}
+use Rattle.tt_proof.proofs.FittingLemmas.{foot_moved, board_there}
 use Rattle.tt_proof.proofs.proven.Proof.pick.Goals as goal
+
+pub picked-requires-clause-board : goal.picked-requires-clause-board
+picked-requires-clause-board c = board_there c.args.child _ _ _ c.present.ensures c.requires.child.stands
 
 pub invariant_of-result : goal.invariant_of-result
 invariant_of-result c =
     let own = c.in_ok-past.ensures in
+    let f = c.args.line.now.frame in
+    let s = c.args.line.now.state in
+    let behind = foot_moved _ f _ (after f s c.args.t) _ _ c.requires.child.stands.0 c.requires.child.stands.1 c.footprint.ensures in
     rw (c.in_ok-plan.ensures, c.into_plan-plan.ensures.plan, c.side-side.ensures.side)
-    (won_pick c.args.line.now.frame _ c.args.line.now.state _ c.args.t c.args.child (ap (λ (l : Stood). l.frame) own)
-    (ap (λ (l : Stood). l.state) own) c.requires.legal c.requires.child c.into_plan-plan.ensures.wins)
+    (record {
+      won =
+          won_pick f _ s _ c.args.t c.args.child (ap (λ (l : Stood). l.frame) own) (ap (λ (l : Stood). l.state) own) c.requires.legal
+          c.requires.child c.into_plan-plan.ensures.wins;
+      footprint =
+          foot_moved f _ s _ (pick c.args.t c.args.child.tree) _ (sym (ap (λ (l : Stood). l.frame) own)) (sym (ap (λ (l : Stood). l.state) own))
+          (c.in_ok-footprint.ensures c.args.child.tree behind);
+    })
 
 pub returns : goal.returns
 returns c =

@@ -1,44 +1,76 @@
-use Rattle.std.proofs.Common.{◌≡◌, ◌∙◌, ◌++◌, [], ◌∷◌, List, length, arith, sym, ap, subst}
+use Rattle.std.proofs.Common.{◌≡◌, ◌∙◌, ◌++◌, [], ◌∷◌, ◌↔◌, List, length, inl, inr, arith, refl, sym, ap, subst, Contains}
 use Rattle.std.proofs.Math.Seq.{append_snoc}
 use Rattle.std.proofs.lemmas.List.{append-nil}
-use Rattle.tt_game.specs.Game.{opponent}
+use Rattle.tt_game.specs.Game.{IsLegal, after, opponent}
 use Rattle.tt_game.specs.Line.{Stood}
-use Rattle.tt_proof.specs.Proven.{AreChildren, trees_of}
+use Rattle.tt_game.specs.TurnLaws.{contains-legal_turns}
+use Rattle.tt_game.specs.declared.turns.Turn.{Turn}
+use Rattle.tt_proof.specs.Proven.{AreChildren, trees_of, turns_of}
+use Rattle.tt_proof.specs.KeptFootprints.{IsFootprint}
 use Rattle.tt_proof.specs.Strategy.{reply, entries_of}
+use Rattle.tt_game.specs.Members.{IsIn, contains_of_in}
+use Rattle.tt_proof.proofs.FittingLemmas.{foot_moved, board_there}
 use Rattle.tt_proof.proofs.ProvenLemmas.{AllWon, won_reply, all_won_push, trees_of_push}
 use Rattle.tt_proof.proofs.proven.Proof.reply.Goals as goal
 
--- where nothing is left to come, what has come is all
 at_end : {X : Type 0} (xs ys zs : List X) → xs ++ ys ≡ zs → length ys ≡ 0 → xs ≡ zs
 at_end xs [] zs e h = sym (append-nil xs) ∙ e
 at_end xs (y ∷ ys) zs e h = absurd (omega (arith, h))
 
+pub join-requires-clause-legal : goal.join-requires-clause-legal
+join-requires-clause-legal c =
+    subst (λ xs. (t : Turn) → IsIn (turns_of xs) t → IsLegal c.args.line.now.frame c.args.line.now.state t) c.in-Some.ensures.steps.0
+    c.loop-turn.invariant.legal c.in-Some.turn (inl refl)
+
+pub join-requires-clause-board : goal.join-requires-clause-board
+join-requires-clause-board c =
+    let left = subst (λ xs. AreChildren c.args.line.now.frame c.args.line.now.state xs) c.in-Some.ensures.steps.0 c.loop-turn.invariant.left in
+    board_there c.in-Some.child _ _ _ c.present.ensures left.0.stands
+
 pub loop-turn-preserved : goal.loop-turn-preserved
 loop-turn-preserved c =
-    let left = subst (λ xs. AreChildren c.args.line.now.frame c.args.line.now.state xs) c.in-Some.ensures.steps.0 c.loop-turn.invariant.left in
+    let f = c.args.line.now.frame in
+    let s = c.args.line.now.state in
+    let turn = c.in-Some.turn in
+    let child = c.in-Some.child in
+    let left = subst (λ xs. AreChildren f s xs) c.in-Some.ensures.steps.0 c.loop-turn.invariant.left in
+    let legal = subst (λ xs. (t : Turn) → IsIn (turns_of xs) t → IsLegal f s t) c.in-Some.ensures.steps.0 c.loop-turn.invariant.legal in
+    let behind = foot_moved _ f _ (after f s turn) _ _ left.0.stands.0 left.0.stands.1 c.footprint.ensures in
     record {
       order =
-          append_snoc c.loop-turn.yielded (c.in-Some.turn, c.in-Some.child) _
+          append_snoc c.loop-turn.yielded (turn, child) _
           ∙ ap (λ r. c.loop-turn.yielded ++ r) (sym c.in-Some.ensures.steps.0) ∙ c.loop-turn.invariant.order;
       same =
           c.in_ok-push.ensures.ok
-          ∙ ap (λ xs. xs ++ ((c.in-Some.turn, c.into_plan.result) ∷ [])) c.loop-turn.invariant.same
-          ∙ ap (λ y. trees_of c.loop-turn.yielded ++ ((c.in-Some.turn, y) ∷ [])) c.into_plan.ensures.plan
-          ∙ sym (trees_of_push c.loop-turn.yielded (c.in-Some.turn, c.in-Some.child));
-      won = all_won_push c.loop-turn.yielded (c.in-Some.turn, c.in-Some.child) c.loop-turn.invariant.won c.into_plan.ensures.wins;
+          ∙ ap (λ xs. xs ++ ((turn, c.into_plan.result) ∷ [])) c.loop-turn.invariant.same
+          ∙ ap (λ y. trees_of c.loop-turn.yielded ++ ((turn, y) ∷ [])) c.into_plan.ensures.plan
+          ∙ sym (trees_of_push c.loop-turn.yielded (turn, child));
+      won = all_won_push c.loop-turn.yielded (turn, child) c.loop-turn.invariant.won c.into_plan.ensures.wins;
       left = left.1;
+      legal = λ t i. legal t (inr i);
+      joined =
+          subst (λ es. IsFootprint f s (reply (entries_of es)) c.join.new.self) (sym (trees_of_push c.loop-turn.yielded (turn, child)))
+          (c.in_ok-join.ensures child.tree behind (trees_of c.loop-turn.yielded) c.loop-turn.invariant.joined);
     }
 
 pub invariant_of-result : goal.invariant_of-result
 invariant_of-result c =
     let own = c.in_ok-past.ensures in
-    let left = c.loop-turn.turn-iterator.rest in
-    let all = at_end c.loop-turn.yielded left.items _ c.loop-turn.invariant.order (omega (arith, left.ok.0, c.in-None.ensures.steps.0)) in
+    let f = c.args.line.now.frame in
+    let s = c.args.line.now.state in
+    let rest = c.loop-turn.turn-iterator.rest in
+    let all = at_end c.loop-turn.yielded rest.items _ c.loop-turn.invariant.order (omega (arith, rest.ok.0, c.in-None.ensures.steps.0)) in
     let same = c.in_ok-plan.ensures ∙ ap (λ es. reply (entries_of es)) (c.loop-turn.invariant.same ∙ ap trees_of all) in
     rw same
-    (won_reply c.args.line.now.frame c.args.line.now.state _ _ _ c.args.children.items (ap (λ (l : Stood). l.frame) own) (ap (λ (l : Stood). l.state) own)
-    (c.opponent.ensures ∙ ap opponent c.to_move.ensures) c.requires.nobody
-    c.requires.turns c.requires.children (subst AllWon all c.loop-turn.invariant.won))
+    (record {
+      won =
+          won_reply f s _ _ _ c.args.children.items (ap (λ (l : Stood). l.frame) own) (ap (λ (l : Stood). l.state) own)
+          (c.opponent.ensures ∙ ap opponent c.to_move.ensures) c.requires.nobody
+          c.requires.turns c.requires.children (subst AllWon all c.loop-turn.invariant.won);
+      footprint =
+          foot_moved f _ s _ _ _ (sym (ap (λ (l : Stood). l.frame) own)) (sym (ap (λ (l : Stood). l.state) own))
+          (subst (λ es. IsFootprint f s (reply (entries_of (trees_of es))) c.loop-turn.footprint) all c.loop-turn.invariant.joined);
+    })
 
 pub returns : goal.returns
 returns c =
@@ -51,9 +83,17 @@ returns c =
     )
 
 pub loop-turn-init : goal.loop-turn-init
-loop-turn-init c = record {
-  order = c.into_iter-turn-iterator.ensures.into_iter_gives.0;
-  same = c.in_ok-replies.ensures;
-  won = tt;
-  left = rw c.into_iter-turn-iterator.ensures.into_iter_gives.0 c.requires.children;
-}
+loop-turn-init c =
+    let f = c.args.line.now.frame in
+    let s = c.args.line.now.state in
+    let ts = turns_of c.args.children.items in
+    let each : (t : Turn) → Contains ts t ↔ IsLegal f s t =
+    subst (λ xs. (t : Turn) → Contains xs t ↔ IsLegal f s t) (sym c.requires.turns) (contains-legal_turns f s) in
+    record {
+      order = c.into_iter-turn-iterator.ensures.into_iter_gives.0;
+      same = c.in_ok-replies.ensures;
+      won = tt;
+      left = rw c.into_iter-turn-iterator.ensures.into_iter_gives.0 c.requires.children;
+      legal = rw c.into_iter-turn-iterator.ensures.into_iter_gives.0 (λ t i. (each t).0 (contains_of_in ts t i));
+      joined = c.in_ok-footprint.ensures;
+    }

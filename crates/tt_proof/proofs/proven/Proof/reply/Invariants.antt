@@ -1,6 +1,11 @@
 use Rattle.std.proofs.Common.{◌≡◌, ◌++◌}
 use Rattle.std.specs.Vec.Iter.{into_iter_items}
-use Rattle.tt_proof.specs.Proven.{AreChildren, trees_of}
+use Rattle.tt_game.specs.Game.{IsLegal}
+use Rattle.tt_game.specs.declared.turns.Turn.{Turn}
+use Rattle.tt_proof.specs.Strategy.{reply, entries_of}
+use Rattle.tt_proof.specs.Proven.{AreChildren, trees_of, turns_of}
+use Rattle.tt_proof.specs.KeptFootprints.{IsFootprint}
+use Rattle.tt_game.specs.Members.{IsIn}
 use Rattle.tt_proof.proofs.ProvenLemmas.{AllWon}
 use Rattle.tt_proof.proofs.proven.Proof.reply.Given as goal
 
@@ -10,4 +15,6 @@ invariant-loop-turn l = record {
   same : l.replies ≡ trees_of l.yielded;
   won : AllWon l.yielded;
   left : AreChildren l.line.frame l.line.state (into_iter_items l.turn-iterator);
+  legal : (t : Turn) → IsIn (turns_of (into_iter_items l.turn-iterator)) t → IsLegal l.line.frame l.line.state t;
+  joined : IsFootprint l.line.frame l.line.state (reply (entries_of (trees_of l.yielded))) l.footprint;
 }

@@ -5,12 +5,14 @@ use Rattle.tt_search.proofs.Ends.{is_proof}
 use Rattle.tt_search.proofs.Steps.{offerable}
 use Rattle.tt_search.proofs.search.Search.proof.Goals as goal
 
-pub proof-requires-clause-stays : goal.proof-requires-clause-stays
-proof-requires-clause-stays c = (offerable c.self.inside.walk.line c.self.inside.walk.room c.self.inside.root
-    (subst (λ d. d ≤ 512) (sym c.self.invariant.room) c.self.inside.limits.depth_in) (c.self.invariant.partial, c.self.invariant.stays)).1
+pub proof-requires : goal.proof-requires
+proof-requires c =
+    let h = offerable c.self.inside.walk.line c.self.inside.walk.room c.self.inside.root (subst (λ d. d ≤ 512) (sym c.self.invariant.room) c.self.inside.limits.depth_in)
+    (c.self.invariant.partial, c.self.invariant.stays) in
+    record { settled = c.in-Some.ensures; partial = h.0; stays = h.1 }
 
-pub returns : goal.returns
-returns c =
+pub returns-clause-exact : goal.returns-clause-exact
+returns-clause-exact c =
     let search : Searched = record { line = c.self.inside.walk.line; limits = c.self.inside.limits; tree = c.self.inside.root } in
     let within = subst (λ d. StaysWithin c.self.inside.walk.line.frame.size d c.self.inside.root) c.self.invariant.room c.self.invariant.stays in
     subst (λ s. IfOk c.proof.result (λ p. IsProofOf s p)) c.self.view_is

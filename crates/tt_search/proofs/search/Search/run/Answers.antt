@@ -1,3 +1,5 @@
+use Rattle.std.proofs.Common.{sym, subst}
+use Rattle.tt_search.specs.Ended.{IsReached}
 use Rattle.tt_search.specs.declared.walk.Pace.TheVariants.{WhileNumbersStay}
 use Rattle.tt_search.proofs.Advanced.{advanced_falls, advanced_reached, settled_reached, stuck_reached}
 use Rattle.tt_search.proofs.search.Search.run.Goals as goal
@@ -10,10 +12,14 @@ loop-search-preserved g c = advanced_reached WhileNumbersStay c.args.self c.loop
     c.advance.ensures.advanced c.advance.ensures.problem c.in-Expanded.is
 
 pub returns-in-Ok : goal.returns-in-Ok
-returns-in-Ok g c = (c.advance.new.self, settled_reached WhileNumbersStay c.args.self c.loop-search.search c.advance.new.self c.loop-search.invariant c.in-Settled.ensures.advanced, c.in-Ok.ensures)
+returns-in-Ok g c = (c.advance.new.self, settled_reached WhileNumbersStay c.args.self c.loop-search.search c.advance.new.self c.loop-search.invariant c.in-Settled.ensures.advanced, c.in-Ok.ensures.exact)
 
 pub returns-in-Err : goal.returns-in-Err
-returns-in-Err g c = (settled_reached WhileNumbersStay c.args.self c.loop-search.search c.advance.new.self c.loop-search.invariant c.in-Settled.ensures.advanced, tt)
+returns-in-Err g c = (
+  subst (IsReached c.args.self) (sym c.proof.ensures.same)
+      (settled_reached WhileNumbersStay c.args.self c.loop-search.search c.advance.new.self c.loop-search.invariant c.in-Settled.ensures.advanced),
+  tt,
+)
 
 pub returns-in-Stuck : goal.returns-in-Stuck
 returns-in-Stuck g c = stuck_reached WhileNumbersStay c.args.self c.loop-search.search c.advance.new.self c.in-Stuck.reason c.loop-search.invariant c.in-Stuck.ensures.advanced

@@ -1,0 +1,81 @@
+-- When a proof with a footprint fits.
+use Rattle.std.proofs.Common.{◌≡◌, ◌∙◌, ◌↔◌, inl, inr, List, [], ◌∷◌, All, Contains, refl, sym, ap, subst}
+use Rattle.std.proofs.lemmas.List.Elements.{All-head, All-tail}
+use Rattle.tt_board.specs.Position.{Position, Colouring, colourings}
+use Rattle.tt_game.specs.Game.{State, history}
+use Rattle.tt_game.specs.Line.{IsPosition}
+use Rattle.tt_game.specs.Members.{IsIn, in_of_contains, contains_of_in}
+use Rattle.tt_game.specs.declared.frame.Frame.{Frame}
+use Rattle.tt_proof.specs.declared.footprints.Footprint.{Footprint}
+use Rattle.tt_proof.specs.Strategy.{Strategy}
+use Rattle.tt_proof.specs.Proven.{Proven, IsWon, StandsAt, FitsAt}
+use Rattle.tt_proof.specs.KeptFootprints.{IsFootprint, AreSized, board_of}
+use Rattle.tt_proof.proofs.FootprintLemmas.{board_is}
+use Rattle.tt_proof.proofs.FitsLemmas.{fitting_wins}
+
+-- a footprint at one state is that at the same state
+pub foot_moved : (f f' : Frame) (s s' : State) (u : Strategy) (x : Footprint) → f ≡ f' → s ≡ s' → IsFootprint f s u x → IsFootprint f' s' u x
+foot_moved f f' s s' u x e g h = subst (λ y. IsFootprint f' y u x) g (subst (λ y. IsFootprint y s u x) e h)
+
+-- the board of a proof that stands at a state
+pub board_there : (p : Proven) (f : Frame) (s : State) (b : Position) → b ≡ record { size = p.frame.size; points = p.state.present } → StandsAt p f s →
+    b ≡ record { size = f.size; points = s.present }
+board_there p f s b is h =
+    board_is b f.size s.present (ap (λ (w : Position). w.size) is ∙ ap (λ (g : Frame). g.size) h.0) (ap (λ (w : Position). w.points) is ∙ ap (λ (z : State). z.present) h.1)
+
+-- the colourings of boards of one size are those of the boards that show them
+colouring_in : (bs : List Position) (b : Position) → IsIn bs b → IsIn (colourings bs) b.points
+colouring_in [] b m = absurd m
+colouring_in (x ∷ bs) b (inl e) = inl (ap (λ (w : Position). w.points) e)
+colouring_in (x ∷ bs) b (inr m) = inr (colouring_in bs b m)
+
+board_in : (f : Frame) (bs : List Position) (c : Colouring) → All (λ (b : Position). b.size ≡ f.size) bs → IsIn (colourings bs) c → IsIn bs (board_of f c)
+board_in f [] c all m = absurd m
+board_in f (x ∷ bs) c all (inl e) = inl (board_is x f.size c (All-head (λ (b : Position). b.size ≡ f.size) x bs all) e)
+board_in f (x ∷ bs) c all (inr m) = inr (board_in f bs c (All-tail (λ (b : Position). b.size ≡ f.size) x bs all) m)
+
+module _ (p : Proven) (f : Frame) (s : State) (x : Footprint) (bs : List Position) (shows : colourings bs ≡ history s)
+    (sizes : All (λ (b : Position). b.size ≡ f.size) bs) (foot : IsFootprint p.frame p.state p.tree x) where
+  -- a colouring of the history is that of one of its boards
+  shown : (c : Colouring) → Contains bs (board_of f c) ↔ Contains (history s) c
+  shown c = (
+    λ m. subst (λ cs. Contains cs c) shows (contains_of_in (colourings bs) c (colouring_in bs (board_of f c) (in_of_contains bs (board_of f c) m))),
+    λ m. contains_of_in bs (board_of f c) (board_in f bs c sizes (in_of_contains (colourings bs) c (subst (λ cs. Contains cs c) (sym shows) m))),
+  )
+
+  -- a proof fits where the position is its own, and the lists stand right to the history's boards
+  pub fits_yes : IsPosition (record { frame = p.frame; state = p.state }) f s → ((b : Position) → Contains x.needs b → Contains bs b) →
+      ((b : Position) → Contains x.avoids b → Contains bs b → ⊥) → FitsAt p f s
+  fits_yes at n a = (
+    at.0,
+    record {
+      present = at.1;
+      to_move = at.2;
+      passes = at.3;
+      needs = λ c h. (shown c).0 (n (board_of f c) (subst (λ g. Contains x.needs (board_of g c)) at.0 ((foot.needed c).1 h)));
+      avoids = λ c h m. a (board_of f c) (subst (λ g. Contains x.avoids (board_of g c)) at.0 ((foot.avoided c).1 h)) ((shown c).1 m);
+    },
+  )
+
+  -- a board that is held shows its colouring, on the proof's frame and on this one
+  held : (bs' : List Position) (b : Position) → AreSized p.frame bs' → Contains bs' b → Contains bs' (board_of p.frame b.points)
+  held bs' b sized m = subst (λ w. Contains bs' w) (board_is b p.frame.size b.points (sized b m) refl) m
+
+  here : (b : Position) → FitsAt p f s → b.size ≡ p.frame.size → b ≡ board_of f b.points
+  here b h e = board_is b f.size b.points (e ∙ ap (λ (g : Frame). g.size) h.0) refl
+
+  pub fits_needs : FitsAt p f s → (b : Position) → Contains x.needs b → Contains bs b
+  fits_needs h b m =
+      subst (λ w. Contains bs w) (sym (here b h (foot.needs_sized b m)))
+      ((shown b.points).1 (h.1.needs b.points ((foot.needed b.points).0 (held x.needs b foot.needs_sized m))))
+
+  pub fits_avoids : FitsAt p f s → (b : Position) → Contains x.avoids b → Contains bs b → ⊥
+  fits_avoids h b m k =
+      h.1.avoids b.points ((foot.avoided b.points).0 (held x.avoids b foot.avoids_sized m))
+      ((shown b.points).0 (subst (λ w. Contains bs w) (here b h (foot.avoids_sized b m)) k))
+
+-- a proof wins where it fits
+pub won_where_fits : (p : Proven) (f : Frame) (s : State) → IsWon p.side p.frame p.state p.tree → FitsAt p f s → IsWon p.side f s p.tree
+won_where_fits p f s w h =
+    subst (λ y. IsWon p.side y s p.tree) h.0
+    (record { wins = fitting_wins p.side p.frame p.tree p.state s w.wins h.1; low = w.low; in_order = w.in_order })

@@ -1,0 +1,19 @@
+use Rattle.std.proofs.Common.{◌-◌, All, length, take, sym, subst}
+use Rattle.tt_board.specs.Position.{Position}
+use Rattle.tt_proof.specs.Bounds.{IsReached}
+use Rattle.tt_proof.specs.KeptFootprints.{IsFootprint}
+use Rattle.tt_proof.proofs.ResultLemmas.{if_ok}
+use Rattle.tt_proof.proofs.TakenLemmas.{footprint_taken}
+use Rattle.tt_proof.proofs.proven.Proof.footprint_at.Goals as goal
+
+pub returns-then-is_above-clause-exact : goal.returns-then-is_above-clause-exact
+returns-then-is_above-clause-exact c =
+    let p = c.args.self.now in
+    let line = c.args.line.now in
+    let own = c.footprint-own in
+    let boards = c.history-history in
+    let low : All (λ (b : Position). IsReached own.result.now.low b.points → ⊥) (take (length boards.result.now - 1) boards.result.now) =
+    rw (← c.saturating_sub.ensures) (c.is_above.ensures.0 c.if-is_above.true) in
+    let taken = footprint_taken p line.state own.result.now boards.result.now boards.ensures.colourings low line.frame c.tree-tree.ensures.wins
+    (c.fits.ensures.fits.0 c.if-fits.true) own.ensures in
+    if_ok c.try_clone.result _ _ (λ x e. subst (λ y. IsFootprint line.frame line.state p.tree y) (sym e) taken) c.try_clone.ensures

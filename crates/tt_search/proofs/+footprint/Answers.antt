@@ -1,0 +1,180 @@
+use Rattle.std.proofs.Common.{◌≡◌, ◌∙◌, ℕ, ◌+◌, ◌<◌, List, length, IfOk, get_or, drop, refl, sym, ap, subst, arith}
+use Rattle.tt_game.specs.declared.turns.Turn.{Turn}
+use Rattle.tt_game.specs.Game.{IsLegal, after}
+use Rattle.tt_game.specs.Line.{Standing}
+use Rattle.tt_proof.specs.Proven.{IsWon}
+use Rattle.tt_proof.specs.Strategy.{Entries, pick}
+use Rattle.tt_proof.specs.KeptFootprints.{IsFootprint, IsEntryJoined}
+use Rattle.tt_search.specs.PartialTree.{PartialTree, fresh}
+use Rattle.tt_search.specs.Shape.{shape, node_of}
+use Rattle.tt_search.specs.Children.{children_of}
+use Rattle.tt_search.specs.Choices.{Choices, node_with, weight_below}
+use Rattle.tt_search.specs.Child.{child_tree}
+use Rattle.tt_search.specs.Edges.{turn_of, mark_of, tree_of, grown_behind, turns_of, trees_of}
+use Rattle.tt_search.specs.Packed.{child_of, children_in}
+use Rattle.tt_search.specs.Settled.{strategy_for, first_settled, pick_at}
+use Rattle.tt_search.specs.Weight.{weight, weight_all}
+use Rattle.tt_search.specs.Joining.{IsSettledAt, AreSettledAt}
+use Rattle.tt_search.specs.declared.edges.Edge.{Edge}
+use Rattle.tt_search.proofs.Joins.{on_ok, picked_there, picked_here, replied_children, settled_here, replies_to, joined_here, joined_all}
+use Rattle.tt_search.proofs.Lifted.{weight_at}
+use Rattle.tt_search.proofs.Places.{length-turns_of, length-trees_of, turn_at_place, weight_step}
+use Rattle.tt_search.proofs.Replies.{picked}
+use Rattle.tt_search.proofs.Sprouted.{any_default}
+use Rattle.tt_search.proofs.Strategies.{makes_proof}
+use Rattle.tt_search.proofs.+footprint.Goals as goal
+
+abbrev first : Edge
+first = record { code = 0 }
+
+-- ---- a node, and its children
+
+pub node::Node::footprint-footprint_at-requires-in-Some : goal.node::Node::footprint-footprint_at-requires-in-Some
+node::Node::footprint-footprint_at-requires-in-Some t c =
+    let f = c.args.line.now.frame in
+    let s = c.args.line.now.state in
+    let p = c.in-Some.proof.now in
+    let is : node_of c.in-Expanded.expansion ≡ c.args.self.now = sym (ap shape c.in-Expanded.is) ∙ c.self.view_is in
+    let tree : p.tree ≡ strategy_for c.args.side c.args.self.now = c.in-Some.ensures.tree ∙ ap (strategy_for c.args.side) is in
+    let won = makes_proof c.args.side f s c.args.self.now p.tree tree c.requires.settled c.requires.partial c.requires.stays in
+    record { wins = subst (λ side. IsWon side f s p.tree) (sym c.in-Some.ensures.side) won }
+
+pub children::Children::footprint-replied-requires : goal.children::Children::footprint-replied-requires
+children::Children::footprint-replied-requires t c =
+    let x = c.self.inside.packed in
+    let edges = c.as_slice.ensures.value in
+    let grown = c.as_slice-else-is_same.ensures.value in
+    let settled = subst (λ (v : Choices). IsSettledAt c.args.side c.args.line.now.frame c.args.line.now.state (node_with v)) (sym c.self.view_is) c.requires in (
+      omega (
+        arith,
+        c.decreases,
+        ap weight_below c.self.view_is,
+        ap (λ es. weight_all (children_of (trees_of es c.as_slice-else-is_same.result.now))) edges,
+        ap (λ us. weight_all (children_of (trees_of x.edges.items us))) grown,
+      ),
+      rw (edges, grown)
+          (replied_children c.args.side c.args.line.now.frame c.args.line.now.state c.self.inside.mover x.edges.items x.grown.items
+          (sym c.is_same.ensures ∙ c.if-is_same.false) c.self.invariant.whole settled),
+    )
+
+-- ---- the child that is picked
+
+pub footprints::picked-index-requires : goal.footprints::picked-index-requires
+footprints::picked-index-requires t c =
+    let x = c.args.children.now in
+    omega (
+      arith,
+      picked_there c.args.side c.args.line.now.frame c.args.line.now.state x c.first_settled-place.result.0 c.requires.settled c.first_settled-place.ensures.place,
+      x.edges.ok.0,
+    )
+
+pub footprints::picked-child-child-requires-clause-there : goal.footprints::picked-child-child-requires-clause-there
+footprints::picked-child-child-requires-clause-there t c =
+    picked_there c.args.side c.args.line.now.frame c.args.line.now.state c.args.children.now c.first_settled-place.result.0 c.requires.settled c.first_settled-place.ensures.place
+
+pub footprints::picked-footprint_behind-requires : goal.footprints::picked-footprint_behind-requires
+footprints::picked-footprint_behind-requires t c =
+    let x = c.args.children.now in
+    let i : ℕ = c.first_settled-place.result.0 in
+    let f = c.args.line.now.frame in
+    let s = c.args.line.now.state in
+    let there = picked_there c.args.side f s x i c.requires.settled c.first_settled-place.ensures.place in
+    let w = weight_at (trees_of x.edges.items x.grown.items) i fresh (omega (arith, there, length-trees_of x.edges.items x.grown.items)) in (
+      omega (arith, c.decreases, w, ap weight c.child-child.ensures),
+      picked_here c.args.side f s x i c.index.result.now c.turn-turn.result (child_tree c.child-child.result)
+          c.requires.settled c.first_settled-place.ensures.place c.index.ensures c.turn-turn.ensures c.child-child.ensures,
+    )
+
+pub footprints::picked-picked-requires-clause-legal : goal.footprints::picked-picked-requires-clause-legal
+footprints::picked-picked-requires-clause-legal t c =
+    let line = c.args.line.now in
+    let here = picked_here c.args.side line.frame line.state c.args.children.now c.first_settled-place.result.0 c.index.result.now c.turn-turn.result (child_tree c.child-child.result)
+    c.requires.settled c.first_settled-place.ensures.place c.index.ensures c.turn-turn.ensures c.child-child.ensures in
+    subst (λ (l : Standing). IsLegal l.frame l.state c.turn-turn.result) (sym c.in_ok-board.ensures.same) here.0
+
+pub footprints::picked-returns-clause-exact : goal.footprints::picked-returns-clause-exact
+footprints::picked-returns-clause-exact t c =
+    let side = c.args.side in
+    let f = c.args.line.now.frame in
+    let s = c.args.line.now.state in
+    let x = c.args.children.now in
+    let turns : List Turn = turns_of x.edges.items in
+    let trees : List PartialTree = trees_of x.edges.items x.grown.items in
+    let i : ℕ = c.first_settled-place.result.0 in
+    let child : PartialTree = child_tree c.child-child.result in
+    let in_edges = picked_there side f s x i c.requires.settled c.first_settled-place.ensures.place in
+    let in_trees : i < length trees = omega (arith, in_edges, length-trees_of x.edges.items x.grown.items) in
+    let turn = c.turn-turn.ensures ∙ ap turn_of c.index.ensures ∙ sym (turn_at_place x.edges.items i c.index.result.now c.turn-turn.result in_edges) in
+    let e : pick c.turn-turn.result (strategy_for side child) ≡ pick_at side (first_settled side (children_in x)) turns (children_in x) =
+    picked side turns trees i c.turn-turn.result child (strategy_for side child) turn (c.child-child.ensures ∙ any_default trees i fresh child in_trees) refl
+    (omega (arith, in_edges, length-turns_of x.edges.items)) in_trees
+    ∙ ap (λ k. pick_at side k turns (children_of trees)) c.first_settled-place.ensures.place in
+    on_ok c.picked.result _ _ (λ y more. subst (λ u. IsFootprint f s u y) e (more (strategy_for side child) c.in_ok-board.ensures.exact))
+    (rw c.in_ok-board.ensures.same at c.picked.ensures)
+
+-- ---- the children that are replied to
+
+pub footprints::replied-footprint_behind-requires : goal.footprints::replied-footprint_behind-requires
+footprints::replied-footprint_behind-requires t c =
+    let side = c.args.side in
+    let f = c.args.line.now.frame in
+    let s = c.args.line.now.state in
+    let i : ℕ = c.loop-edge.edge-index in
+    let e : Edge = get_or c.args.edges.now i first in
+    let turn : Turn = c.turn-turn.result in
+    let child : PartialTree = child_tree c.first.result.0 in
+    let here = settled_here side f s c.args.edges.now c.loop-edge.rest.now i first c.loop-edge-test.true c.loop-edge.invariant.settled in
+    let is_child = subst (λ u. IsSettledAt side f (after f s (turn_of e)) u) (sym c.first.ensures.child) here.child in (
+      omega (
+        arith,
+        c.decreases,
+        c.loop-edge.invariant.lighter,
+        weight_step c.args.edges.now c.loop-edge.rest.now i first c.loop-edge-test.true,
+        ap weight c.first.ensures.child,
+      ),
+      (
+        subst (λ (l : Standing). IsLegal l.frame l.state turn) (sym c.loop-edge.invariant.same) (subst (IsLegal f s) (sym c.turn-turn.ensures) here.legal),
+        subst (λ (l : Standing). IsSettledAt side l.frame (after l.frame l.state turn) child) (sym c.loop-edge.invariant.same)
+            (subst (λ u. IsSettledAt side f (after f s u) child) (sym c.turn-turn.ensures) is_child),
+      ),
+    )
+
+pub footprints::replied-loop-edge-preserved : goal.footprints::replied-loop-edge-preserved
+footprints::replied-loop-edge-preserved t c =
+    let side = c.args.side in
+    let f = c.args.line.now.frame in
+    let s = c.args.line.now.state in
+    let i : ℕ = c.loop-edge.edge-index in
+    let e : Edge = get_or c.args.edges.now i first in
+    let left : List Edge = drop (i + 1) c.args.edges.now in
+    let turn : Turn = c.turn-turn.result in
+    let child : PartialTree = child_tree c.first.result.0 in
+    let behind : List PartialTree = c.first.result.1.now in
+    let all : Entries = replies_to side f s c.args.edges.now c.args.grown.now in
+    let same = c.in_ok-board.ensures.same ∙ c.loop-edge.invariant.same in
+    let here = settled_here side f s c.args.edges.now c.loop-edge.rest.now i first c.loop-edge-test.true c.loop-edge.invariant.settled in
+    let foot : IsFootprint f (after f s turn) (strategy_for side child) c.in_ok-board.below = rw c.loop-edge.invariant.same at c.in_ok-board.ensures.exact in
+    let more : IsEntryJoined f s turn (strategy_for side child) c.loop-edge.footprint c.join.new.self =
+    subst
+    (λ (l : Standing). IsFootprint l.frame (after l.frame l.state turn) (strategy_for side child) c.in_ok-board.below
+    → IsEntryJoined l.frame l.state turn (strategy_for side child) c.loop-edge.footprint c.join.new.self)
+    same (c.in_ok-join.ensures (strategy_for side child)) foot in
+    record {
+      same = same;
+      settled = subst (λ us. AreSettledAt side f s left us) (sym c.first.ensures.behind) here.others;
+      joined = joined_here side f s all c.args.edges.now c.loop-edge.rest.now i first turn child behind c.loop-edge.footprint c.join.new.self c.loop-edge-test.true
+          c.turn-turn.ensures c.first.ensures.child c.first.ensures.behind more c.loop-edge.invariant.joined;
+      lighter = omega (
+        arith,
+        weight_step c.args.edges.now c.loop-edge.rest.now i first c.loop-edge-test.true,
+        ap (λ us. weight_all (children_of (trees_of left us))) c.first.ensures.behind,
+        c.loop-edge.invariant.lighter,
+      );
+    }
+
+pub footprints::replied-returns-clause-exact : goal.footprints::replied-returns-clause-exact
+footprints::replied-returns-clause-exact t c =
+    let f = c.args.line.now.frame in
+    let s = c.args.line.now.state in
+    joined_all c.args.side f s (replies_to c.args.side f s c.args.edges.now c.args.grown.now) c.args.edges.now c.loop-edge.rest.now c.loop-edge.edge-index c.loop-edge.footprint
+    (omega (arith, c.loop-edge-test.false)) c.loop-edge.invariant.joined

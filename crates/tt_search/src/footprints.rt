@@ -1,0 +1,162 @@
+//! The footprints of settled nodes: each is joined from those of the node's children, so that no tree of a proof is walked
+//! through. Only a proof that was found under another history may need a walk, where its own footprint can't be taken over.
+
+ghost use Rattle.std.specs.Prelude.{◌≡◌, length, IfOk};
+ghost use Rattle.tt_game.specs.Game.{IsLegal, after};
+ghost use Rattle.tt_proof.specs.Strategy.{reply};
+ghost use Rattle.tt_proof.specs.KeptFootprints.{IsFootprint, IsBoardAfter};
+ghost use Rattle.tt_search.specs.Joining.{IsSettledAt, AreSettledAt};
+ghost use Rattle.tt_search.specs.Settled.{strategy_for, first_settled, pick_at, replies};
+ghost use Rattle.tt_search.specs.Children.{children_of};
+ghost use Rattle.tt_search.specs.Edges.{turns_of, trees_of};
+ghost use Rattle.tt_search.specs.Choices.{node_with};
+ghost use Rattle.tt_search.specs.Packed.{HasItsNodes, children_in, choices_of};
+ghost use Rattle.tt_search.specs.Child.{child_tree};
+
+use crate::children::{Child, Children, Packed};
+use crate::edges::Edge;
+use crate::node::{Growth, Node};
+use crate::numbers::is_same;
+use std::alloc::Global;
+use tt_board::Board;
+use tt_game::{Line, Side, Turn};
+use tt_proof::Footprint;
+use tt_sgf::NoMemory;
+
+impl Node {
+    /// The footprint of the strategy of a node for the side that it is settled for, where the line stands at it. The line
+    /// stands as before, also after want of memory.
+    #[cycle(footprint)]
+    pub(crate) fn footprint(
+        &self,
+        alloc: Global,
+        line: &mut Line,
+        side: Side,
+    ) -> Result<Footprint, NoMemory>
+        requires { IsSettledAt side line.old.frame line.old.state self.now }
+        ensures exact { IfOk result (λ x. IsFootprint line.old.frame line.old.state (strategy_for side self.now) x) }
+        ensures same { line.new ≡ line.old }
+    {
+        match &self.growth {
+            Growth::Fresh => Ok(Footprint::empty(alloc)),
+            Growth::Won(_) => Ok(Footprint::empty(alloc)),
+            Growth::Closed(proof) => proof.footprint_at(alloc, line),
+            Growth::Expanded(expansion) => {
+                if let Some(proof) = expansion.offered_for(side) {
+                    return proof.footprint_at(alloc, line);
+                }
+                expansion.children.footprint(alloc, line, side)
+            }
+        }
+    }
+}
+
+impl Child<'_> {
+    /// The footprint of a child's strategy for the side that it is settled for, where the line stands at it.
+    #[cycle(footprint)]
+    fn footprint(self, alloc: Global, line: &mut Line, side: Side) -> Result<Footprint, NoMemory>
+        requires { IsSettledAt side line.old.frame line.old.state (child_tree self) }
+        ensures exact { IfOk result (λ x. IsFootprint line.old.frame line.old.state (strategy_for side (child_tree self.entry)) x) }
+        ensures same { line.new ≡ line.old }
+    {
+        match self {
+            Child::Fresh | Child::Won(_) => Ok(Footprint::empty(alloc)),
+            Child::Grown(node) => node.footprint(alloc, line, side),
+        }
+    }
+
+    /// The same where the line stands at the node above, and the child is behind the turn; and the board after the turn.
+    #[cycle(footprint)]
+    fn footprint_behind(
+        self,
+        alloc: Global,
+        turn: Turn,
+        line: &mut Line,
+        side: Side,
+    ) -> Result<(Board, Footprint), NoMemory>
+        requires legal { IsLegal line.old.frame line.old.state turn }
+        requires settled { IsSettledAt side line.old.frame (after line.old.frame line.old.state turn) (child_tree self) }
+        ensures board { IfOk result (λ r. IsBoardAfter line.old.frame line.old.state turn r.0) }
+        ensures exact { IfOk result (λ r. IsFootprint line.old.frame (after line.old.frame line.old.state turn) (strategy_for side (child_tree self.entry)) r.1) }
+        ensures same { line.new ≡ line.old }
+    {
+        line.push_legal(turn)?;
+        let board = line.present().copy();
+        let found = self.footprint(alloc, line, side);
+        line.pop();
+        match found {
+            Ok(footprint) => Ok((board, footprint)),
+            Err(e) => Err(e),
+        }
+    }
+}
+
+impl Children {
+    /// The footprint of the node's strategy for the side that it is settled for, where the line stands at the node.
+    #[cycle(footprint)]
+    fn footprint(&self, alloc: Global, line: &mut Line, side: Side) -> Result<Footprint, NoMemory>
+        requires { IsSettledAt side line.old.frame line.old.state (node_with self.now) }
+        ensures exact { IfOk result (λ x. IsFootprint line.old.frame line.old.state (strategy_for side (node_with self.now)) x) }
+        ensures same { line.new ≡ line.old }
+    {
+        if is_same(side, self.mover) {
+            picked(alloc, line, side, &self.packed)
+        } else {
+            replied(
+                alloc,
+                line,
+                side,
+                self.packed.edges.as_slice(),
+                self.packed.grown.as_slice(),
+            )
+        }
+    }
+}
+
+/// The footprint of the strategy that picks the first child that is settled for the side, which is to move: that child's
+/// alone counts.
+#[cycle(footprint)]
+fn picked(
+    alloc: Global,
+    line: &mut Line,
+    side: Side,
+    children: &Packed,
+) -> Result<Footprint, NoMemory>
+    requires whole { HasItsNodes children.now }
+    requires settled { IsSettledAt side line.old.frame line.old.state (node_with (choices_of side children.now)) }
+    ensures exact { IfOk result (λ x. IsFootprint line.old.frame line.old.state
+        (pick_at side (first_settled side (children_in children.now)) (turns_of children.now.edges.items) (children_in children.now)) x) }
+    ensures same { line.new ≡ line.old }
+{
+    let (place, rank) = children.first_settled(side);
+    let turn = children.edges[place].turn();
+    let child = children.child(place, rank);
+    let (board, behind) = child.footprint_behind(alloc, turn, line, side)?;
+    Footprint::picked(alloc, line, &turn, &board, &behind)
+}
+
+/// The footprint of the strategy that replies to each turn: that of the node's own plays, and those of all children.
+#[cycle(footprint)]
+fn replied(
+    alloc: Global,
+    line: &mut Line,
+    side: Side,
+    edges: &[Edge],
+    grown: &[Node],
+) -> Result<Footprint, NoMemory>
+    requires { AreSettledAt side line.old.frame line.old.state edges.now grown.now }
+    ensures exact { IfOk result (λ x. IsFootprint line.old.frame line.old.state
+        (reply (replies side (turns_of edges.now) (children_of (trees_of edges.now grown.now)))) x) }
+    ensures same { line.new ≡ line.old }
+{
+    let mut footprint = Footprint::of_plays(alloc, line)?;
+    let mut rest = grown;
+    for edge in edges {
+        let (child, behind) = Child::first(*edge, rest);
+        let turn = edge.turn();
+        let (board, below) = child.footprint_behind(alloc, turn, line, side)?;
+        footprint.join(line, &turn, &board, &below)?;
+        rest = behind;
+    }
+    Ok(footprint)
+}
