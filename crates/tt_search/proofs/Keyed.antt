@@ -1,6 +1,5 @@
 -- What a proof says at a line that has its key.
 use Rattle.std.proofs.Common.{◌≡◌, ◌≤◌, ◌∙◌, ℕ, ap}
-use Rattle.tt_game.specs.declared.frame.Frame.{Frame}
 use Rattle.tt_game.specs.declared.frame.Side.{Side}
 use Rattle.tt_game.specs.KeyLaws.{same_size}
 use Rattle.tt_game.specs.Line.{Standing}
