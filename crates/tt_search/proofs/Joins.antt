@@ -1,5 +1,5 @@
 -- The footprint of a settled node is made up of its children's.
-use Rattle.std.proofs.Common.{◌≡◌, ℕ, zero, suc, ◌+◌, ◌<◌, ◌≤◌, List, [], ◌∷◌, ◌++◌, Bool, false, true, Ok, Err, IfOk, length, get_or, drop, refl, sym, ◌∙◌, ap, subst, arith}
+use Rattle.std.proofs.Common.{◌≡◌, ℕ, zero, suc, ◌+◌, ◌<◌, ◌≤◌, List, [], ◌∷◌, ◌++◌, false, true, Ok, Err, IfOk, length, get_or, drop, refl, sym, ◌∙◌, ap, subst, arith}
 use Rattle.std.specs.declared.result.Result.{Result}
 use Rattle.std.proofs.lemmas.List.{at_drop_more}
 use Rattle.tt_game.specs.declared.frame.Frame.{Frame}
@@ -10,7 +10,7 @@ use Rattle.tt_game.specs.declared.turns.Turn.TheVariants.{Pass}
 use Rattle.tt_game.specs.Game.{State, IsLegal, after}
 use Rattle.tt_game.specs.TurnLaws.{AreLegal, are_legal}
 use Rattle.tt_proof.specs.declared.footprints.Footprint.{Footprint}
-use Rattle.tt_proof.specs.Strategy.{Strategy, Entries, reply, none, entry, entries_of}
+use Rattle.tt_proof.specs.Strategy.{Strategy, Entries, reply, entry, entries_of}
 use Rattle.tt_proof.specs.KeptFootprints.{IsFootprint, IsEntryJoined}
 use Rattle.tt_search.specs.PartialTree.{PartialTree, fresh, expanded}
 use Rattle.tt_search.specs.Numbers.{is_same, numbers}

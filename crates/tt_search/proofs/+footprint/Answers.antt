@@ -1,21 +1,26 @@
-use Rattle.std.proofs.Common.{◌≡◌, ◌∙◌, ℕ, ◌+◌, ◌<◌, List, length, IfOk, get_or, drop, refl, sym, ap, subst, arith}
+use Rattle.std.proofs.Common.{◌≡◌, ◌∙◌, ◌⊎◌, inl, inr, ℕ, ◌+◌, ◌<◌, List, length, get_or, drop, refl, sym, ap, subst, arith}
 use Rattle.tt_game.specs.declared.turns.Turn.{Turn}
-use Rattle.tt_game.specs.Game.{IsLegal, after}
+use Rattle.tt_game.specs.declared.frame.Frame.{Frame}
+use Rattle.tt_game.specs.declared.frame.Side.{Side}
+use Rattle.tt_game.specs.Game.{State, IsLegal, after}
 use Rattle.tt_game.specs.Line.{Standing}
 use Rattle.tt_proof.specs.Proven.{IsWon}
-use Rattle.tt_proof.specs.Strategy.{Entries, pick}
+use Rattle.tt_proof.specs.declared.footprints.Footprint.{Footprint}
+use Rattle.tt_proof.specs.Strategy.{Entries, done, pick}
 use Rattle.tt_proof.specs.KeptFootprints.{IsFootprint, IsEntryJoined}
 use Rattle.tt_search.specs.PartialTree.{PartialTree, fresh}
 use Rattle.tt_search.specs.Shape.{shape, node_of}
 use Rattle.tt_search.specs.Children.{children_of}
 use Rattle.tt_search.specs.Choices.{Choices, node_with, weight_below}
 use Rattle.tt_search.specs.Child.{child_tree}
-use Rattle.tt_search.specs.Edges.{turn_of, mark_of, tree_of, grown_behind, turns_of, trees_of}
-use Rattle.tt_search.specs.Packed.{child_of, children_in}
+use Rattle.tt_search.specs.Edges.{turn_of, turns_of, trees_of}
+use Rattle.tt_search.specs.Packed.{children_in}
 use Rattle.tt_search.specs.Settled.{strategy_for, first_settled, pick_at}
 use Rattle.tt_search.specs.Weight.{weight, weight_all}
 use Rattle.tt_search.specs.Joining.{IsSettledAt, AreSettledAt}
 use Rattle.tt_search.specs.declared.edges.Edge.{Edge}
+use Rattle.tt_search.specs.declared.children.Child.{Child}
+use Rattle.tt_search.specs.declared.children.Child.TheVariants.{Fresh, Won}
 use Rattle.tt_search.proofs.Joins.{on_ok, picked_there, picked_here, replied_children, settled_here, replies_to, joined_here, joined_all}
 use Rattle.tt_search.proofs.Lifted.{weight_at}
 use Rattle.tt_search.proofs.Places.{length-turns_of, length-trees_of, turn_at_place, weight_step}
@@ -27,7 +32,25 @@ use Rattle.tt_search.proofs.+footprint.Goals as goal
 abbrev first : Edge
 first = record { code = 0 }
 
+-- the strategy behind a child that is fresh or won does nothing
+by_nothing : (side : Side) (f : Frame) (s : State) (x : Footprint) (child : Child) → (child ≡ Fresh) ⊎ ((winner : Side) × (child ≡ Won winner)) → IsFootprint f s done x
+    → IsFootprint f s (strategy_for side (child_tree child)) x
+by_nothing side f s x child (inl e) foot = subst (λ k. IsFootprint f s (strategy_for side (child_tree k)) x) (sym e) foot
+by_nothing side f s x child (inr (winner, e)) foot = subst (λ k. IsFootprint f s (strategy_for side (child_tree k)) x) (sym e) foot
+
 -- ---- a node, and its children
+
+pub children::Child::footprint-returns-in-Fresh : goal.children::Child::footprint-returns-in-Fresh
+children::Child::footprint-returns-in-Fresh t c =
+    let f = c.args.line.now.frame in
+    let s = c.args.line.now.state in
+    record { exact = by_nothing c.args.side f s c.empty.result c.args.self c.in-Fresh.is (c.empty.ensures f s); same = refl }
+
+pub node::Node::footprint-returns-in-Won-clause-exact : goal.node::Node::footprint-returns-in-Won-clause-exact
+node::Node::footprint-returns-in-Won-clause-exact t c =
+    let f = c.args.line.now.frame in
+    let s = c.args.line.now.state in
+    subst (λ tree. IsFootprint f s (strategy_for c.args.side tree) c.empty-in-Won.result) (sym (ap shape c.in-Won.is) ∙ c.self.view_is) (c.empty-in-Won.ensures f s)
 
 pub node::Node::footprint-footprint_at-requires-in-Some : goal.node::Node::footprint-footprint_at-requires-in-Some
 node::Node::footprint-footprint_at-requires-in-Some t c =
