@@ -20,6 +20,7 @@ use Rattle.std.specs.contracts.impls.GlobalAllocator.TheImpl.{ghosts}
 use Rattle.std.specs.contracts.sync.Arc as Arc
 use Rattle.atomic_table.specs.contracts.shared.Seat as TableSeat
 use Rattle.atomic_table.proofs.Sent.{seat_keyless}
+use Rattle.tt_board.specs.contracts.board.Board as Board
 use Rattle.tt_game.specs.contracts.frame.Side as Side
 use Rattle.tt_game.specs.contracts.history.History as History
 use Rattle.tt_game.specs.contracts.line.Line as Line
@@ -29,6 +30,8 @@ use Rattle.tt_proof.specs.contracts.tree.Tree as Tree
 use Rattle.tt_proof.specs.contracts.tree.Tree.TheKnot as TreeKnot
 use Rattle.tt_proof.specs.contracts.plan.Plan as Plan
 use Rattle.tt_proof.specs.contracts.plan.Plan.TheInside as Planned
+use Rattle.tt_proof.specs.contracts.shared_boards.SharedBoards as SharedBoards
+use Rattle.tt_proof.specs.contracts.footprints.Footprint as Footprint
 use Rattle.tt_proof.specs.contracts.proven.Proof as Proof
 use Rattle.tt_proof.specs.contracts.proven.Proof.TheInside as Inside
 use Rattle.tt_search.specs.contracts.limits.Limits as Limits
@@ -121,13 +124,32 @@ side_send = search (sendable, crosses) depth 40
 side_sync : IsSync Side.the_row
 side_sync = search (sendable, crosses) depth 40
 
+board_send : IsSend Board.the_row
+board_send = search (sendable, crosses) depth 40
+
+board_sync : IsSync Board.the_row
+board_sync = search (sendable, crosses) depth 40
+
+-- the boards of a footprint are held through handles
+boards_send : IsSend SharedBoards.the_row
+boards_send = search (sendable, crosses, board_send, board_sync) depth 40
+
+boards_sync : IsSync SharedBoards.the_row
+boards_sync = search (sendable, crosses, board_send, board_sync) depth 40
+
+footprint_send : IsSend Footprint.the_row
+footprint_send = search (sendable, crosses, boards_send) depth 40
+
+footprint_sync : IsSync Footprint.the_row
+footprint_sync = search (sendable, crosses, boards_sync) depth 40
+
 -- a proof crosses threads
 proof_send : IsSend Proof.the_row
-proof_send = view_send _ _ _ _ _ (declared_send Inside.the_type (as_row_send Past.the_field past_send, (side_send, (as_row_send Plan.the_field plan_send, tt))))
+proof_send = view_send _ _ _ _ _ (declared_send Inside.the_type (as_row_send Past.the_field past_send, (side_send, (as_row_send Plan.the_field plan_send, (footprint_send, tt)))))
 
 -- and is shared
 proof_sync : IsSync Proof.the_row
-proof_sync = view_sync _ _ _ _ _ (declared_sync Inside.the_type (as_row_sync Past.the_field past_sync, (side_sync, (as_row_sync Plan.the_field plan_sync, tt))))
+proof_sync = view_sync _ _ _ _ _ (declared_sync Inside.the_type (as_row_sync Past.the_field past_sync, (side_sync, (as_row_sync Plan.the_field plan_sync, (footprint_sync, tt)))))
 
 pub shared_send : IsSend (Arc.the_row Proof.the_row Global.the_row ghosts)
 shared_send = search (sendable, crosses, proof_send, proof_sync) depth 40

@@ -27,7 +27,8 @@ fn moved_to(alloc: Global, line: &Line, found: &Proof) -> Result<Option<Proof>, 
         return Ok(None);
     }
     let plan = found.plan().try_clone()?;
-    let proof = Proof::winning(alloc, line, found.side(), plan)?;
+    let footprint = found.footprint_at(alloc, &mut own)?;
+    let proof = Proof::winning_with(line, found.side(), plan, footprint)?;
     Ok(Some(proof))
 }
 

@@ -1,5 +1,5 @@
-use Rattle.std.proofs.Common.{◌≡◌, ◌+◌, ◌∷◌, [], ◌++◌, ◌∙◌, ap}
-use Rattle.tt_share.specs.Log.{Seen, Ticket}
+use Rattle.std.proofs.Common.{◌+◌, ◌∷◌, [], ◌++◌, ◌∙◌, ap}
+use Rattle.tt_share.specs.Log.{Seen}
 use Rattle.tt_share.proofs.view.View.keep.Goals as goal
 
 pub returns-clause-stored : goal.returns-clause-stored

@@ -1,5 +1,5 @@
 use Rattle.std.proofs.Common.{◌∷◌, [], ◌++◌, ◌∙◌, ap}
-use Rattle.tt_share.specs.Log.{Seen, Ticket}
+use Rattle.tt_share.specs.Log.{Seen}
 use Rattle.tt_share.proofs.view.View.read_one.Goals as goal
 
 pub returns-clause-tokens : goal.returns-clause-tokens
