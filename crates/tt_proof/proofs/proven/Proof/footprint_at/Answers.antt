@@ -3,6 +3,7 @@ use Rattle.tt_board.specs.Position.{Position}
 use Rattle.tt_proof.specs.Bounds.{IsReached}
 use Rattle.tt_proof.specs.KeptFootprints.{IsFootprint}
 use Rattle.tt_proof.proofs.ResultLemmas.{if_ok}
+use Rattle.tt_proof.proofs.FittingLemmas.{foot_moved}
 use Rattle.tt_proof.proofs.TakenLemmas.{footprint_taken}
 use Rattle.tt_proof.proofs.proven.Proof.footprint_at.Goals as goal
 
@@ -17,3 +18,12 @@ returns-then-is_above-clause-exact c =
     let taken = footprint_taken p line.state own.result.now boards.result.now boards.ensures.colourings low line.frame c.tree-tree.ensures.wins
     (c.fits.ensures.fits.0 c.if-fits.true) own.ensures in
     if_ok c.try_clone.result _ _ (λ x e. subst (λ y. IsFootprint line.frame line.state p.tree y) (sym e) taken) c.try_clone.ensures
+
+pub returns-then-stands_at-clause-exact : goal.returns-then-stands_at-clause-exact
+returns-then-stands_at-clause-exact c =
+    let p = c.args.self.now in
+    let line = c.args.line.now in
+    let own = c.footprint-own in
+    let stands = c.stands_at.ensures.0 c.if-stands_at.true in
+    let here = foot_moved p.frame line.frame p.state line.state p.tree own.result.now stands.0 stands.1 own.ensures in
+    if_ok c.try_clone-then-stands_at.result _ _ (λ x e. subst (λ y. IsFootprint line.frame line.state p.tree y) (sym e) here) c.try_clone-then-stands_at.ensures
