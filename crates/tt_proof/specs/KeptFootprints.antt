@@ -1,10 +1,13 @@
 -- Footprints as they are kept: as lists of boards, and a bound.
-use Rattle.std.specs.Prelude.{◌≡◌, ◌↔◌, List, [], ◌∷◌, ◌++◌, Contains}
+use Rattle.std.specs.Prelude.{◌≡◌, ◌↔◌, ℕ, List, [], ◌∷◌, ◌++◌, Contains, IsTrue}
+use Rattle.std.specs.FinSet as set
+use Rattle.tt_board.specs.Play.{Points}
 use Rattle.tt_board.specs.Position.{Position, Colouring}
-use Rattle.tt_game.specs.Game.{State, after, history}
+use Rattle.tt_game.specs.Game.{State, IsLegal, after, history}
 use Rattle.tt_game.specs.declared.frame.Frame.{Frame}
 use Rattle.tt_game.specs.declared.frame.Side.{Side}
 use Rattle.tt_game.specs.declared.turns.Turn.{Turn}
+use Rattle.tt_game.specs.declared.turns.Turn.TheVariants.{Play}
 use Rattle.tt_proof.specs.declared.footprints.Footprint.{Footprint}
 use Rattle.tt_proof.specs.Bounds.{IsReached}
 use Rattle.tt_proof.specs.Strategy.{Strategy, reply, entries_of}
@@ -27,6 +30,10 @@ pub record IsFootprint (f : Frame) (s : State) (u : Strategy) (x : Footprint) : 
   pub needed : (c : Colouring) → Contains x.needs (board_of f c) ↔ IsNeeded f (history s) u [] s c
   pub avoided : (c : Colouring) → Contains x.avoids (board_of f c) ↔ IsAvoided f u s c
   pub met : (c : Colouring) → IsMet f u s c → IsReached x.low c
+
+-- a play on each point of the set is legal
+abbrev pub AreLegalPlays : Frame → State → Points → Type 0
+AreLegalPlays f s points = (p : ℕ) → IsTrue (set.contains points p) → IsLegal f s (Play p)
 
 -- the board is the one after the turn
 abbrev pub IsBoardAfter : Frame → State → Turn → Position → Type 0

@@ -1,6 +1,6 @@
 //! Footprints: what a tree rests on in the history of its state.
 
-ghost use Rattle.std.specs.Prelude.{◌≡◌, ◌≤◌, ◌<◌, ◌↔◌, ◌⊎◌, List, [], ◌∷◌, ◌++◌, Contains, IfOk, OnOk};
+ghost use Rattle.std.specs.Prelude.{◌≡◌, ◌≤◌, ◌<◌, ◌↔◌, ◌⊎◌, List, [], ◌∷◌, ◌++◌, Contains, IfOk, OnOk, MatchOption};
 ghost use Rattle.tt_board.specs.Position.{Position, Colouring};
 ghost use Rattle.tt_game.specs.Game.{State, IsLegal, IsBarred, after, history, made};
 ghost use Rattle.tt_game.specs.declared.turns.Turn.{Turn};
@@ -8,7 +8,7 @@ ghost use Rattle.tt_game.specs.declared.frame.Frame.{Frame};
 ghost use Rattle.tt_proof.specs.declared.tree.TheConstants.{MOST_DEPTH};
 ghost use Rattle.tt_proof.specs.Strategy.{Strategy, done, pick, reply, none, depth, depth_of_entries, strategy_of, entries_of, entries_of_trees, IsInOrder, AreInOrder, IsOnBoard};
 ghost use Rattle.tt_proof.specs.Footprints.{IsRepeated};
-ghost use Rattle.tt_proof.specs.KeptFootprints.{IsFootprint, IsBoardAfter, IsEntryJoined, AreSized, board_of};
+ghost use Rattle.tt_proof.specs.KeptFootprints.{IsFootprint, IsBoardAfter, IsEntryJoined, AreSized, board_of, AreLegalPlays};
 ghost use Rattle.tt_proof.specs.Collecting.{IsGiven, IsPlayed, IsNoHigher, IsReachedBy};
 
 use crate::bounds::Bound;
@@ -18,7 +18,7 @@ use std::alloc::Global;
 use std::slice;
 use tt_board::Board;
 use tt_game::{Line, Refused, Turn};
-use tt_sgf::{NoMemory, Point};
+use tt_sgf::{NoMemory, Point, PointSet};
 
 /// What a tree needs in the history of its state, and what it avoids there: the boards of two sets of colourings. `low` has the
 /// least numbers of stones that are on the boards which turns of the other side make.
@@ -46,7 +46,19 @@ impl Footprint {
     pub fn of_plays(alloc: Global, line: &Line) -> Result<Footprint, NoMemory>
         ensures { IfOk result (λ x. IsFootprint line.now.frame line.now.state (reply none) x) }
     {
-        let needs = repeats(alloc, line)?;
+        Footprint::of_plays_beside(alloc, line, &PointSet::empty())
+    }
+
+    /// The same where plays on these points are known to be legal: such a play repeats nothing, and isn't tried.
+    pub fn of_plays_beside(
+        alloc: Global,
+        line: &Line,
+        legal: &PointSet,
+    ) -> Result<Footprint, NoMemory>
+        requires { AreLegalPlays line.now.frame line.now.state legal.now }
+        ensures { IfOk result (λ x. IsFootprint line.now.frame line.now.state (reply none) x) }
+    {
+        let needs = repeats(alloc, line, legal)?;
         Ok(Footprint {
             needs,
             avoids: SharedBoards::new(alloc),
@@ -157,26 +169,41 @@ fn lowered(low: &Bound, turn: &Turn, board: &Board, behind: &Bound) -> Bound
     }
 }
 
+/// The board of the history that a play on the point would repeat. A play that is known to be legal isn't tried.
+fn repeated(line: &Line, legal: &PointSet, p: Point) -> Option<Board>
+    requires { AreLegalPlays line.now.frame line.now.state legal.now }
+    ensures { MatchOption result (IsBarred line.now.frame line.now.state p → ⊥)
+        (λ b. IsBarred line.now.frame line.now.state p × (b ≡ board_of line.now.frame (made line.now.frame line.now.state p))) }
+{
+    if legal.has(p) {
+        return None;
+    }
+    line.repeated(p)
+}
+
 /// Adds the board of the history that a play on the point would repeat.
 fn put_repeated(
     alloc: Global,
     needs: &mut SharedBoards,
     line: &Line,
+    legal: &PointSet,
     p: Point,
 ) -> Result<(), NoMemory>
+    requires { AreLegalPlays line.now.frame line.now.state legal.now }
     ensures sized { OnOk result (AreSized line.now.frame needs.old → AreSized line.now.frame needs.new) }
     ensures more { OnOk result ((c : Colouring) → Contains needs.new (board_of line.now.frame c)
         ↔ (Contains needs.old (board_of line.now.frame c)
         ⊎ (IsBarred line.now.frame line.now.state p × (made line.now.frame line.now.state p ≡ c)))) }
 {
-    match line.repeated(p) {
+    match repeated(line, legal, p) {
         Some(board) => needs.add(alloc, &board),
         None => Ok(()),
     }
 }
 
 /// The boards of the history that plays on empty points of the region would repeat.
-fn repeats(alloc: Global, line: &Line) -> Result<SharedBoards, NoMemory>
+fn repeats(alloc: Global, line: &Line, legal: &PointSet) -> Result<SharedBoards, NoMemory>
+    requires { AreLegalPlays line.now.frame line.now.state legal.now }
     ensures sized { IfOk result (λ needs. AreSized line.now.frame needs) }
     ensures exact { IfOk result (λ needs. (c : Colouring) → Contains needs (board_of line.now.frame c)
         ↔ IsRepeated line.now.frame (history line.now.state) [] line.now.state c) }
@@ -185,7 +212,7 @@ fn repeats(alloc: Global, line: &Line) -> Result<SharedBoards, NoMemory>
     let mut needs = SharedBoards::new(alloc);
     let mut from = 0;
     while let Some(p) = region.least_from(from) {
-        put_repeated(alloc, &mut needs, line, p)?;
+        put_repeated(alloc, &mut needs, line, legal, p)?;
         from = p.number() + 1;
     }
     Ok(needs)

@@ -2,9 +2,11 @@
 //! through. Only a proof that was found under another history may need a walk, where its own footprint can't be taken over.
 
 ghost use Rattle.std.specs.Prelude.{◌≡◌, length, IfOk};
-ghost use Rattle.tt_game.specs.Game.{IsLegal, after};
+ghost use Rattle.tt_game.specs.declared.frame.Frame.{Frame};
+ghost use Rattle.tt_game.specs.Game.{State, IsLegal, after};
+ghost use Rattle.tt_game.specs.TurnLaws.{AreLegal};
 ghost use Rattle.tt_proof.specs.Strategy.{reply};
-ghost use Rattle.tt_proof.specs.KeptFootprints.{IsFootprint, IsBoardAfter};
+ghost use Rattle.tt_proof.specs.KeptFootprints.{IsFootprint, IsBoardAfter, AreLegalPlays};
 ghost use Rattle.tt_search.specs.Joining.{IsSettledAt, AreSettledAt};
 ghost use Rattle.tt_search.specs.Settled.{strategy_for, first_settled, pick_at, replies};
 ghost use Rattle.tt_search.specs.Children.{children_of};
@@ -21,7 +23,7 @@ use std::alloc::Global;
 use tt_board::Board;
 use tt_game::{Line, Side, Turn};
 use tt_proof::Footprint;
-use tt_sgf::NoMemory;
+use tt_sgf::{NoMemory, PointSet};
 
 impl Node {
     /// The footprint of the strategy of a node for the side that it is settled for, where the line stands at it. The line
@@ -135,6 +137,19 @@ fn picked(
     Footprint::picked(alloc, line, &turn, &board, &behind)
 }
 
+/// The points of the plays among the edges' turns.
+fn played(edges: &[Edge]) -> PointSet
+    ensures { (f : Frame) (s : State) → AreLegal f s (turns_of edges.now) → AreLegalPlays f s result }
+{
+    let mut points = PointSet::empty();
+    for edge in edges {
+        if let Turn::Play(p) = edge.turn() {
+            points = points.with(p);
+        }
+    }
+    points
+}
+
 /// The footprint of the strategy that replies to each turn: that of the node's own plays, and those of all children.
 #[cycle(footprint)]
 fn replied(
@@ -149,7 +164,7 @@ fn replied(
         (reply (replies side (turns_of edges.now) (children_of (trees_of edges.now grown.now)))) x) }
     ensures same { line.new ≡ line.old }
 {
-    let mut footprint = Footprint::of_plays(alloc, line)?;
+    let mut footprint = Footprint::of_plays_beside(alloc, line, &played(edges))?;
     let mut rest = grown;
     for edge in edges {
         let (child, behind) = Child::first(*edge, rest);

@@ -1,5 +1,7 @@
-use Rattle.tt_proof.proofs.FootprintLemmas.{foot_plays}
+use Rattle.std.proofs.Common.{◌≡◌, ◌∙◌, ap, sym}
+use Rattle.std.specs.FinSet as set
+use Rattle.std.specs.Ordering.{nat_cmp}
 use Rattle.tt_proof.proofs.footprints.Footprint.of_plays.Goals as goal
 
-pub returns : goal.returns
-returns c = foot_plays c.args.line.now.frame c.args.line.now.state _ c.in_ok-needs.ensures.sized c.in_ok-needs.ensures.exact c.new.ensures
+pub of_plays_beside-requires : goal.of_plays_beside-requires
+of_plays_beside-requires c = λ p there. absurd (cc (there, ap (λ s. set.contains s p) c.empty.ensures, set.contains-empty nat_cmp p))
