@@ -14,6 +14,7 @@ pub mod Strategies
 pub mod Successors
 pub mod Replies
 pub mod Joins
+pub mod LegalPlays
 pub mod Keyed
 pub mod Ends
 pub mod Chains

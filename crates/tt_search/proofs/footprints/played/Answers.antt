@@ -1,26 +1,19 @@
-use Rattle.std.proofs.Common.{rules, ◌≡◌, length, IfOk, ℕ, ◌+◌, ◌-◌, ◌*◌, ◌<◌, ◌≤◌, ◌/◌, ◌%◌, Bool, true, false, nat_eq, nat_lt, List, [], ◌∷◌, ◌++◌, slice_index_or, slice_set, bit_and, bit_or, Fits, w8, w32, w64, Bor, MutBor}
-use Rattle.tt_game.specs.declared.frame.Frame.{Frame}
-use Rattle.tt_game.specs.Game.{State, IsLegal, after}
-use Rattle.tt_game.specs.TurnLaws.{AreLegal}
-use Rattle.tt_proof.specs.Strategy.{reply}
-use Rattle.tt_proof.specs.KeptFootprints.{IsFootprint, IsBoardAfter, AreLegalPlays}
-use Rattle.tt_search.specs.Joining.{IsSettledAt, AreSettledAt}
-use Rattle.tt_search.specs.Settled.{strategy_for, first_settled, pick_at, replies}
-use Rattle.tt_search.specs.Children.{children_of}
-use Rattle.tt_search.specs.Edges.{turns_of, trees_of}
-use Rattle.tt_search.specs.Choices.{node_with}
-use Rattle.tt_search.specs.Packed.{HasItsNodes, children_in, choices_of}
-use Rattle.tt_search.specs.Child.{child_tree}
+use Rattle.std.proofs.Common.{◌≡◌, ◌∙◌, ap, sym, subst}
+use Rattle.std.specs.FinSet as set
+use Rattle.std.specs.Ordering.{nat_cmp}
+use Rattle.tt_game.specs.Game.{IsLegal}
+use Rattle.tt_proof.specs.KeptFootprints.{AreLegalPlays}
+use Rattle.tt_search.proofs.LegalPlays.{legal_at, legal_with}
+use Rattle.tt_search.proofs.footprints.played.Goals.{in-Play, in_default}
 use Rattle.tt_search.proofs.footprints.played.Goals as goal
 
--- src/footprints.rt:145:5
 pub loop-edge-init : goal.loop-edge-init
-loop-edge-init c = ?
+loop-edge-init c = λ f s legal p there. absurd (cc (there, ap (λ points. set.contains points p) c.empty-points.ensures, set.contains-empty nat_cmp p))
 
--- src/footprints.rt:145:5
 pub loop-edge-preserved : goal.loop-edge-preserved
-loop-edge-preserved c = ?
-
--- src/footprints.rt:141:1
-pub returns : goal.returns
-returns c = ?
+loop-edge-preserved c = λ f s legal. elim c.match-turn.branch [
+  | in-Play w ↦
+      let one = subst (IsLegal f s) (sym c.turn.ensures ∙ w.in-Play.is) (legal_at f s c.args.edges.now c.loop-edge.edge-index _ legal c.loop-edge-test.true) in
+      subst (AreLegalPlays f s) (sym (w.points-is ∙ w.with-points.ensures)) (legal_with f s c.loop-edge.points w.in-Play.p (c.loop-edge.invariant f s legal) one)
+  | in_default w ↦ subst (AreLegalPlays f s) (sym w.points-is) (c.loop-edge.invariant f s legal)
+]
