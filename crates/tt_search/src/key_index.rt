@@ -233,6 +233,9 @@ impl KeyIndex {
         ensures attacker { IsPlaceOfNewest line.now Attacker (P.proofs row.now) result.0 }
         ensures defender { IsPlaceOfNewest line.now Defender (P.proofs row.now) result.1 }
     {
+        if self.marks.is_empty() {
+            return (None, None);
+        }
         let key = line.key();
         let (attacker, defender) = marks_for(&key);
         (
