@@ -11,3 +11,4 @@ pub mod ProblemLemmas
 pub mod OpenProblems
 pub mod SizedProblems
 pub mod RecordLaws
+pub mod PlayedLemmas

@@ -17,3 +17,4 @@ pub mod RecordLaws
 pub mod Undoing
 pub mod TurnLaws
 pub mod KeyLaws
+pub mod Prints
