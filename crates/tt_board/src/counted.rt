@@ -59,6 +59,13 @@ impl CountedBoard {
         self.chains.size()
     }
 
+    /// The plain board that it is.
+    pub fn board(&self) -> Board
+        ensures { result ≡ self.now }
+    {
+        Board::showing(self.chains.size(), self.chains.points().copy())
+    }
+
     /// The board after a play of `colour` on `p`, an empty point: the stone is put, then the other colour is cleared, then
     /// `colour` (the Tromp-Taylor rules of Go). This one stays as it is.
     pub fn after(&self, colour: Colour, p: Point) -> Board
