@@ -80,10 +80,11 @@ impl Chains {
         self.size
     }
 
-    /// The colouring.
+    /// The colouring, in which each stone reaches empty.
     pub(crate) fn points(&self) -> &Colouring
         ensures value { result.now ≡ self.now.points }
         ensures fits { length self.now.points ≡ point_count self.now.size }
+        ensures alive { IsAlive self.now.size self.now.points }
     {
         &self.points
     }

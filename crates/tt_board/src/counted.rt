@@ -46,11 +46,24 @@ impl CountedBoard {
         }
     }
 
+    /// The chains.
+    #[cfg(test)]
+    pub(crate) fn chains(&self) -> &Chains {
+        &self.chains
+    }
+
     /// The size.
     pub fn size(&self) -> Size
         ensures { result ≡ self.now.size }
     {
         self.chains.size()
+    }
+
+    /// The plain board that it is.
+    pub fn board(&self) -> Board
+        ensures { result ≡ self.now }
+    {
+        Board::showing(self.chains.size(), self.chains.points().copy())
     }
 
     /// The board after a play of `colour` on `p`, an empty point: the stone is put, then the other colour is cleared, then

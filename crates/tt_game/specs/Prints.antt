@@ -15,7 +15,8 @@ stepped n w = ((n * MULTIPLIER) % 2 ^ 64 + w) % 2 ^ 64
 -- a print goes on over six words
 abbrev pub mixed : ℕ → List ℕ → ℕ
 mixed n ws =
-    stepped (stepped (stepped (stepped (stepped (stepped n (slice_index_or ws 0 0)) (slice_index_or ws 1 0)) (slice_index_or ws 2 0)) (slice_index_or ws 3 0)) (slice_index_or ws 4 0)) (slice_index_or ws 5 0)
+    stepped (stepped (stepped (stepped (stepped (stepped n (slice_index_or ws 0 0)) (slice_index_or ws 1 0)) (slice_index_or ws 2 0))
+    (slice_index_or ws 3 0)) (slice_index_or ws 4 0)) (slice_index_or ws 5 0)
 
 -- the print of a colouring on a board of a size
 unfoldable pub print_of : Size → Colouring → ℕ

@@ -221,11 +221,10 @@ impl Line {
         Ok(())
     }
 
-    /// Adds a play and the board that it makes; the line is unchanged where memory is refused.
-    fn push_board(&mut self, p: Point, next: Board) -> Result<(), NoMemory>
+    /// Adds a play on an empty point; the line is unchanged where memory is refused.
+    fn push_made(&mut self, p: Point) -> Result<(), NoMemory>
         requires on_board { p < point_count self.old.frame.size }
         requires free { entry_at self.old.state.present p ≡ None }
-        requires board { next ≡ board_on self.old.frame.size (made self.old.frame self.old.state p) }
         ensures ok { OnOk result (IsMoved self.old self.new (made self.old.frame self.old.state p)) }
         ensures err { OnErr result (self.new ≡ self.old) }
     {
@@ -235,6 +234,7 @@ impl Line {
             self.pushes.pop();
             return Err(error);
         }
+        let next = self.played.present().board();
         if let Err(error) = self.history.push(next) {
             self.played.pop();
             self.pushes.pop();
@@ -252,11 +252,10 @@ impl Line {
         ensures err { OnErr result (self.new ≡ self.old) }
         ensures why { IfErr result (λ e. IsRefused self.old.frame self.old.state (Turn.Play p) e) }
     {
-        let next = match self.made(p) {
-            Err(why) => return Err(Refused::Illegal(why)),
-            Ok(next) => next,
-        };
-        if self.push_board(p, next).is_err() {
+        if let Err(why) = self.made(p) {
+            return Err(Refused::Illegal(why));
+        }
+        if self.push_made(p).is_err() {
             return Err(Refused::NoMemory);
         }
         Ok(())
@@ -292,10 +291,7 @@ impl Line {
         ensures err { OnErr result (self.new ≡ self.old) }
     {
         match t {
-            Turn::Play(p) => {
-                let next = self.board_after(p);
-                self.push_board(p, next)?;
-            }
+            Turn::Play(p) => self.push_made(p)?,
             Turn::Pass => self.push_pass()?,
         }
         Ok(())
