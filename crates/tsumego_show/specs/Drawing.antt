@@ -74,10 +74,13 @@ module _ (p : Standing) where
   abbrev pub turned : Turn → Standing
   turned t = record { frame = p.frame; state = after p.frame p.state t; before = p.state ∷ [] }
 
-  -- `After Black ca:`, and the board then
+  -- `After Black ca:`
+  abbrev pub turned_head : Turn → List ℕ
+  turned_head t = codes "After " ++ (colour_name (colour_of p.frame p.state.to_move) ++ (32 ∷ (shown_turn p.frame.size t ++ codes ":\n")))
+
+  -- that, and the board then
   abbrev pub turned_text : Turn → List ℕ
-  turned_text t =
-      codes "After " ++ (colour_name (colour_of p.frame p.state.to_move) ++ (32 ∷ (shown_turn p.frame.size t ++ (codes ":\n" ++ board_text (turned t)))))
+  turned_text t = turned_head t ++ board_text (turned t)
 
   -- the side is to move, and begins with this turn, which is legal
   abbrev pub IsFirst : Side → Strategy → Turn → Type 0

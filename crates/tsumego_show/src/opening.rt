@@ -2,7 +2,7 @@
 ghost use Rattle.std.specs.Prelude.{◌≡◌, ◌↔◌, ◌++◌, ℕ, List, IfOk, IsTrue, OnOk};
 ghost use Rattle.tt_game.specs.Game.{IsLegal};
 ghost use Rattle.tt_proof.specs.Strategy.{IsInOrder, IsOnBoard, strategy_of};
-ghost use Rattle.tsumego_show.specs.Drawing.{DrawsFirst, turned, turned_text};
+ghost use Rattle.tsumego_show.specs.Drawing.{DrawsFirst, turned, turned_head, turned_text};
 
 use crate::picture::{colour_name, colour_of, put_board};
 use crate::turns::put_shown;
@@ -28,6 +28,18 @@ fn after(line: &Line, turn: Turn) -> Result<Line, NoMemory>
     Ok(next)
 }
 
+/// Writes who makes which turn behind the text.
+fn put_head(out: &mut Vec<u8>, line: &Line, turn: Turn) -> Result<(), NoMemory>
+    requires { IsOnBoard line.now.frame.size turn }
+    ensures { OnOk result (out.new.items ≡ out.old.items ++ turned_head line.now turn) }
+{
+    out.extend_from_slice(b"After ")?;
+    out.extend_from_slice(colour_name(colour_of(line, line.to_move())))?;
+    out.push(b' ')?;
+    put_shown(out, turn, line.frame().size)?;
+    Ok(out.extend_from_slice(b":\n")?)
+}
+
 /// Writes who makes which turn, and the board then, behind the text.
 fn put_turned(out: &mut Vec<u8>, line: &Line, turn: &Turn) -> Result<(), NoMemory>
     requires on_board { IsOnBoard line.now.frame.size turn.now }
@@ -35,11 +47,7 @@ fn put_turned(out: &mut Vec<u8>, line: &Line, turn: &Turn) -> Result<(), NoMemor
     ensures { OnOk result (out.new.items ≡ out.old.items ++ turned_text line.now turn.now) }
 {
     let next = after(line, *turn)?;
-    out.extend_from_slice(b"After ")?;
-    out.extend_from_slice(colour_name(colour_of(line, line.to_move())))?;
-    out.push(b' ')?;
-    put_shown(out, *turn, line.frame().size)?;
-    out.extend_from_slice(b":\n")?;
+    put_head(out, line, *turn)?;
     put_board(out, &next)
 }
 
