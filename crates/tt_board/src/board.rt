@@ -57,6 +57,15 @@ impl Board {
         }
     }
 
+    /// The board that shows this colouring, in which each stone reaches empty.
+    pub(crate) fn showing(size: Size, points: Colouring) -> Board
+        requires fits { length points ≡ point_count size }
+        requires alive { IsAlive size points }
+        ensures { result ≡ record { size = size; points = points } }
+    {
+        Board { size, points }
+    }
+
     /// The same board again: a copy of some hundred bytes, which takes no memory.
     pub fn copy(&self) -> Board
         ensures { result ≡ self.now }

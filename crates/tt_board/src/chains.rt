@@ -1,7 +1,6 @@
 //! A board's chains, each with the counts of its stones and of its liberties.
 //!
 //! A play asks these counts which chains go, and looks at no stone but those that come, join or go.
-//! `Board` doesn't use them yet.
 
 ghost use Rattle.std.specs.Prelude.{◌≡◌, ◌≢◌, ℕ, ◌/◌, ◌<◌, ◌≤◌, ◌↔◌, length, map, replicate, slice_set, Contains, IsTrue, Some, None};
 ghost use Rattle.tt_sgf.specs.Sizes.{point_count};
@@ -10,7 +9,7 @@ ghost use Rattle.tt_board.specs.Play.{IsAlive, play_of};
 ghost use Rattle.tt_board.specs.Chains.{name_at, root_of, code_of, renamed, IsEachOnce, IsCountOf, IsLibertyOf, AreLinked};
 
 use super::Colour;
-use super::captures::release;
+use super::captures::{lift_chain, release};
 use super::colouring::Colouring;
 use super::joins::{join_beside, start};
 use super::looks::{Look, has_more, last_liberty};
@@ -81,10 +80,11 @@ impl Chains {
         self.size
     }
 
-    /// The colouring.
+    /// The colouring, in which each stone reaches empty.
     pub(crate) fn points(&self) -> &Colouring
         ensures value { result.now ≡ self.now.points }
         ensures fits { length self.now.points ≡ point_count self.now.size }
+        ensures alive { IsAlive self.now.size self.now.points }
     {
         &self.points
     }
@@ -231,6 +231,59 @@ impl Chains {
         }
         if !look.suicide {
             self.place(colour, p);
+        }
+    }
+
+    /// Takes the stones of the chain of this name off a colouring of the board's points.
+    fn lift(&self, name: u16, points: &mut Colouring)
+        requires fits { length points.old ≡ point_count self.now.size }
+        requires living { (name ≢ 0) × (name_at self.now.names (root_of name) ≡ name) }
+        ensures still_fits { length points.new ≡ length points.old }
+        ensures gone { (q : ℕ) → name_at self.now.names q ≡ name → entry_at points.new q ≡ None }
+        ensures kept { (q : ℕ) → name_at self.now.names q ≢ name → entry_at points.new q ≡ entry_at points.old q }
+    {
+        let stones = self.stones[root_of(name)];
+        lift_chain(self.size, points, &self.names, name, stones);
+    }
+
+    /// The colouring after a play of `colour` on the empty point `p`; no chain is changed for it.
+    pub(crate) fn points_after(&self, colour: Colour, p: usize) -> Colouring
+        requires on_board { p < point_count self.now.size }
+        requires free { entry_at self.now.points p ≡ None }
+        ensures { result ≡ play_of self.now.size self.now.points colour p }
+    {
+        let look = self.look(colour, p);
+        let mut points = self.points.copy();
+        for name in look.goes.as_slice() {
+            self.lift(*name, &mut points);
+        }
+        if !look.suicide {
+            points.set(p, Some(colour));
+        }
+        points
+    }
+
+    /// Becomes the same as another one.
+    pub(crate) fn set_to(&mut self, other: &Chains)
+        ensures { self.new ≡ other.now }
+    {
+        self.size = other.size;
+        self.points = other.points.copy();
+        self.names = other.names;
+        self.stones = other.stones;
+        self.liberties = other.liberties;
+    }
+
+    /// The same again.
+    pub(crate) fn copy(&self) -> Chains
+        ensures { result ≡ self.now }
+    {
+        Chains {
+            size: self.size,
+            points: self.points.copy(),
+            names: self.names,
+            stones: self.stones,
+            liberties: self.liberties,
         }
     }
 }

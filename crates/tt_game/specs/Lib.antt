@@ -21,3 +21,4 @@ pub mod Roots
 pub mod TurnLaws
 pub mod KeyLaws
 pub mod SideLaws
+pub mod Prints

@@ -12,6 +12,8 @@ pub mod laws;
 mod line;
 mod nodes;
 mod past;
+mod played;
+mod prints;
 mod problems;
 mod records;
 mod root;

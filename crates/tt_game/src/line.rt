@@ -8,11 +8,12 @@ use crate::faults::{Refused, Why};
 use crate::frame::{Frame, Side};
 use crate::history::History;
 use crate::past::Past;
+use crate::played::Played;
 use crate::root::Root;
 use crate::turns::Turn;
 use std::marker::Model;
 use std::sync::Arc;
-use tt_board::{Board, Colour};
+use tt_board::{Board, Colour, CountedBoard};
 use tt_sgf::{NoMemory, Point};
 
 /// How a push is undone.
@@ -29,6 +30,7 @@ pub struct Line {
     frame: Frame,
     root: Arc<Root>,
     history: History,
+    played: Played,
     to_move: Side,
     pushes: Vec<Undo>,
 }
@@ -39,7 +41,7 @@ impl Model for Line {
     ghost use Rattle.std.specs.Arc.{arc_value};
     ghost use Rattle.tt_game.specs.Line.{Standing, HasTargets};
     ghost use Rattle.tt_game.specs.Roots.{AreRooted};
-    ghost use Rattle.tt_game.specs.Undoing.{standing_of, state_at, IsUndoable};
+    ghost use Rattle.tt_game.specs.Undoing.{standing_of, state_at, board_on, IsUndoable};
     ghost use Rattle.tt_sgf.specs.contracts.sets.PointSet as points;
     ghost use Rattle.std.specs.Coded.{codes};
 
@@ -52,7 +54,8 @@ impl Model for Line {
     ghost invariant = { λ l. record {
       size : l.history.size ≡ l.frame.size;
       targets : HasTargets l.frame;
-      undoable : IsUndoable (state_at l.history l.to_move) (reverse l.pushes.items);
+      board : l.played.present ≡ board_on l.frame.size l.history.present;
+      undoable : IsUndoable l.frame.size (state_at l.history l.to_move) (reverse l.pushes.items) l.played.below;
       same_frame : (arc_value l.root).frame ≡ l.frame;
       rooted : AreRooted (arc_value l.root).begun (state_at l.history l.to_move) (reverse l.pushes.items);
     } };
@@ -64,24 +67,31 @@ impl Line {
     ghost use Rattle.tt_board.specs.Reach.{entry_at};
     ghost use Rattle.std.specs.Prelude.{OnOk, OnErr, IfErr, IfOk};
     ghost use Rattle.tt_game.specs.Line.{HasTargets, IsRefusal, IsRefused, IsPushed};
-    ghost use Rattle.tt_game.specs.Undoing.{IsMoved, state_at};
+    ghost use Rattle.tt_game.specs.Undoing.{IsMoved, state_at, board_on};
     ghost use Rattle.tt_game.specs.Turns.{OnBoard};
     ghost use Rattle.tt_game.specs.declared.turns.Turn.{Turn};
 
-    /// The line that begins with this history, with nothing to undo.
-    pub(crate) fn begin(frame: Frame, history: History, to_move: Side) -> Result<Line, NoMemory>
+    /// The line that begins with this history, whose present board is given with its chains counted, with nothing to undo.
+    pub(crate) fn begin(
+        frame: Frame,
+        history: History,
+        to_move: Side,
+        board: CountedBoard,
+    ) -> Result<Line, NoMemory>
         requires size { history.size ≡ frame.size }
         requires targets { HasTargets frame }
+        requires board { board ≡ board_on frame.size history.present }
         ensures { IfOk result (λ l. l ≡ record { frame = frame; state = state_at history to_move; before = [] }) }
     {
-        let root = Arc::new(history.alloc(), Root::of(&frame, &history)?)?;
-        let pushes = Vec::new(history.alloc());
+        let alloc = history.alloc();
+        let root = Arc::new(alloc, Root::of(&frame, &history)?)?;
         Ok(Line {
             frame,
             root,
             history,
+            played: Played::of(alloc, board),
             to_move,
-            pushes,
+            pushes: Vec::new(alloc),
         })
     }
 
@@ -131,10 +141,7 @@ impl Line {
         requires free { entry_at self.now.state.present p ≡ None }
         ensures { result ≡ record { size = self.now.frame.size; points = made self.now.frame self.now.state p } }
     {
-        let Ok(next) = self.present().play(self.mover(), p) else {
-            unreachable!();
-        };
-        next
+        self.played.present().after(self.mover(), p)
     }
 
     /// Whether a board of the line's size has a colouring that has been.
@@ -214,15 +221,22 @@ impl Line {
         Ok(())
     }
 
-    /// Adds the board that a play made; the line is unchanged where memory is refused.
-    fn push_board(&mut self, next: Board) -> Result<(), NoMemory>
-        requires { next.size ≡ self.old.frame.size }
-        ensures ok { OnOk result
-            (IsMoved self.old self.new next.points) }
+    /// Adds a play on an empty point; the line is unchanged where memory is refused.
+    fn push_made(&mut self, p: Point) -> Result<(), NoMemory>
+        requires on_board { p < point_count self.old.frame.size }
+        requires free { entry_at self.old.state.present p ≡ None }
+        ensures ok { OnOk result (IsMoved self.old self.new (made self.old.frame self.old.state p)) }
         ensures err { OnErr result (self.new ≡ self.old) }
     {
+        let colour = self.mover();
         self.pushes.push(Undo::UndoPlay(self.history.passes()))?;
+        if let Err(error) = self.played.push(colour, p) {
+            self.pushes.pop();
+            return Err(error);
+        }
+        let next = self.played.present().board();
         if let Err(error) = self.history.push(next) {
+            self.played.pop();
             self.pushes.pop();
             return Err(error);
         }
@@ -238,11 +252,10 @@ impl Line {
         ensures err { OnErr result (self.new ≡ self.old) }
         ensures why { IfErr result (λ e. IsRefused self.old.frame self.old.state (Turn.Play p) e) }
     {
-        let next = match self.made(p) {
-            Err(why) => return Err(Refused::Illegal(why)),
-            Ok(next) => next,
-        };
-        if self.push_board(next).is_err() {
+        if let Err(why) = self.made(p) {
+            return Err(Refused::Illegal(why));
+        }
+        if self.push_made(p).is_err() {
             return Err(Refused::NoMemory);
         }
         Ok(())
@@ -278,10 +291,7 @@ impl Line {
         ensures err { OnErr result (self.new ≡ self.old) }
     {
         match t {
-            Turn::Play(p) => {
-                let next = self.board_after(p);
-                self.push_board(next)?;
-            }
+            Turn::Play(p) => self.push_made(p)?,
             Turn::Pass => self.push_pass()?,
         }
         Ok(())
@@ -297,7 +307,10 @@ impl Line {
         self.to_move = self.to_move.opponent();
         match self.pushes.pop() {
             Some(Undo::UndoPass) => self.history.undo_pass(),
-            Some(Undo::UndoPlay(passes)) => self.history.undo_play(passes),
+            Some(Undo::UndoPlay(passes)) => {
+                self.history.undo_play(passes);
+                self.played.pop();
+            }
             None => unreachable!(),
         }
     }
@@ -332,13 +345,14 @@ impl Line {
         ensures { IfOk result (λ l. l ≡ record { frame = self.now.frame; state = self.now.state; before = [] }) }
     {
         let history = self.history.copy()?;
-        let pushes = Vec::new(history.alloc());
+        let alloc = history.alloc();
         Ok(Line {
             frame: self.frame.copy(),
             root: Arc::try_clone(&self.root)?,
             history,
+            played: Played::of(alloc, self.played.present().copy()),
             to_move: self.to_move,
-            pushes,
+            pushes: Vec::new(alloc),
         })
     }
 }

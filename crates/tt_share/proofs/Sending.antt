@@ -25,6 +25,7 @@ use Rattle.tt_game.specs.contracts.history.History as History
 use Rattle.tt_game.specs.contracts.line.Line as Line
 use Rattle.tt_game.specs.contracts.root.Root as Root
 use Rattle.tt_game.specs.contracts.past.Past as Past
+use Rattle.tt_game.specs.contracts.played.Played as Played
 use Rattle.tt_proof.specs.contracts.tree.Tree as Tree
 use Rattle.tt_proof.specs.contracts.tree.Tree.TheKnot as TreeKnot
 use Rattle.tt_proof.specs.contracts.plan.Plan as Plan
@@ -69,8 +70,11 @@ rooted_send = search (sendable, crosses, root_send, root_sync) depth 40
 history_send : IsSend History.the_row
 history_send = search (sendable, crosses) depth 40
 
+played_send : IsSend Played.the_row
+played_send = search (sendable, crosses) depth 40
+
 line_send : IsSend Line.the_row
-line_send = search (sendable, crosses, history_send, rooted_send) depth 40 fits 10000
+line_send = search (sendable, crosses, history_send, rooted_send, played_send) depth 40 fits 10000
 
 past_send : IsSend Past.the_row
 past_send = search (sendable, crosses, root_send, root_sync) depth 40

@@ -1,0 +1,97 @@
+//! The board that a line plays on, and those to which it goes back.
+
+ghost use Rattle.std.specs.Prelude.{◌≡◌, ◌<◌, ◌∷◌, [], length, slice_index_or, slice_set, None, OnOk, OnErr};
+ghost use Rattle.tt_sgf.specs.Sizes.{point_count};
+ghost use Rattle.tt_board.specs.Reach.{entry_at};
+ghost use Rattle.tt_board.specs.Play.{play_of};
+ghost use Rattle.tt_game.specs.Undoing.{board_on};
+
+use std::alloc::Global;
+use std::marker::Model;
+use tt_board::{Colour, CountedBoard};
+use tt_sgf::{NoMemory, Point};
+
+/// The present board, counted, and those before the plays that may be undone. Contracts see it as `Stack`.
+///
+/// The boards above the present one stay, so that a play is written over the next of them and takes no memory.
+#[derive(Drop)]
+pub(crate) struct Played {
+    first: CountedBoard,
+    later: Vec<CountedBoard>,
+    live: usize,
+}
+
+impl Model for Played {
+    ghost use Rattle.std.specs.Prelude.{◌≤◌, length};
+    ghost use Rattle.tt_game.specs.Undoing.{Stack, stack_of};
+
+    ghost Value = { Stack };
+
+    ghost view = { λ s. stack_of s.first s.later.items s.live };
+
+    ghost invariant = { λ s. s.live ≤ length s.later.items };
+}
+
+/// Writes over the board in the place `k` what a play makes of the one before it.
+fn write_over(first: &CountedBoard, later: &mut [CountedBoard], k: usize, colour: Colour, p: Point)
+    requires room { k < length later.old }
+    requires on_board { p < point_count (slice_index_or (first.now ∷ later.old) k first.now).size }
+    requires free { entry_at (slice_index_or (first.now ∷ later.old) k first.now).points p ≡ None }
+    ensures { later.new ≡ slice_set later.old k (board_on (slice_index_or (first.now ∷ later.old) k first.now).size
+        (play_of (slice_index_or (first.now ∷ later.old) k first.now).size (slice_index_or (first.now ∷ later.old) k first.now).points colour p)) }
+{
+    if k == 0 {
+        later[0].become_after(first, colour, p);
+    } else {
+        let (below, above) = later.split_at_mut(k);
+        above[0].become_after(&below[k - 1], colour, p);
+    }
+}
+
+impl Played {
+    /// This board, with no play to undo.
+    pub(crate) fn of(alloc: Global, board: CountedBoard) -> Played
+        ensures { result ≡ record { present = board; below = [] } }
+    {
+        Played {
+            first: board,
+            later: Vec::new(alloc),
+            live: 0,
+        }
+    }
+
+    /// The present board.
+    pub(crate) fn present(&self) -> &CountedBoard
+        ensures { result.now ≡ self.now.present }
+    {
+        if self.live == 0 {
+            return &self.first;
+        }
+        &self.later[self.live - 1]
+    }
+
+    /// Plays `colour` on `p`, an empty point; without memory it is as it was.
+    pub(crate) fn push(&mut self, colour: Colour, p: Point) -> Result<(), NoMemory>
+        requires on_board { p < point_count self.old.present.size }
+        requires free { entry_at self.old.present.points p ≡ None }
+        ensures below { OnOk result (self.new.below ≡ self.old.present ∷ self.old.below) }
+        ensures present { OnOk result (self.new.present ≡ board_on self.old.present.size
+            (play_of self.old.present.size self.old.present.points colour p)) }
+        ensures err { OnErr result (self.new ≡ self.old) }
+    {
+        if self.live == self.later.len() {
+            self.later.push(self.first.copy())?;
+        }
+        write_over(&self.first, &mut self.later, self.live, colour, p);
+        self.live += 1;
+        Ok(())
+    }
+
+    /// Goes back to the board before the last play.
+    pub(crate) fn pop(&mut self)
+        requires { 0 < length self.old.below }
+        ensures { self.old.below ≡ self.new.present ∷ self.new.below }
+    {
+        self.live -= 1;
+    }
+}
