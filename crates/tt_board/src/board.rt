@@ -92,6 +92,14 @@ impl Board {
         self.points.at(usize::from(p.number()))
     }
 
+    /// Whether a stone of this colour stands on `p`, a point of the board.
+    pub fn has_stone(&self, colour: Colour, p: Point) -> bool
+        requires { p < point_count self.now.size }
+        ensures { result ≡ is_stone_of (entry_at self.now.points p) colour }
+    {
+        self.bits(colour).has(usize::from(p.number()))
+    }
+
     /// The stones of a colour as bits, in place.
     pub(crate) fn bits(&self, colour: Colour) -> &Bits
         ensures { AreBitsOf result.now.words (point_count self.now.size) (λ p. is_stone_of (entry_at self.now.points p) colour) }

@@ -14,6 +14,7 @@ use super::colouring::Colouring;
 use super::joins::{join_beside, start};
 use super::looks::{Look, has_more, last_liberty};
 use super::names::{chains_beside, empty_beside, root_of};
+use super::quiet::{code_of, names_beside};
 use std::marker::Model;
 use tt_sgf::Size;
 
@@ -177,6 +178,21 @@ impl Chains {
         made
     }
 
+    /// Whether a play of `colour` on the empty point `p` is known to take no stone off: no chain of the opponent's has `p` as its one
+    /// liberty, and the stone has one or joins a chain that has.
+    pub(crate) fn is_quiet(&self, colour: Colour, p: usize) -> bool
+        requires on_board { p < point_count self.now.size }
+        requires free { entry_at self.now.points p ≡ None }
+        ensures fits { length self.now.points ≡ point_count self.now.size }
+        ensures put { IsTrue result → play_of self.now.size self.now.points colour p ≡ slice_set self.now.points p (Some colour) }
+    {
+        let near = names_beside(self.size, &self.names, p);
+        if near.has_last(&self.liberties, code_of(colour.other())) {
+            return false;
+        }
+        near.has_open(&self.liberties, code_of(colour))
+    }
+
     /// What a play of `colour` on the empty point `p` does (the Tromp-Taylor rules of Go).
     ///
     /// A chain goes with it exactly where `p` is its one liberty: the opponent's; or one's own, where none of the opponent's goes,
@@ -217,9 +233,8 @@ impl Chains {
         }
     }
 
-    /// Plays `colour` on the empty point `p`: the stone is put, then the other colour is cleared, then `colour` (the Tromp-Taylor
-    /// rules of Go). What goes is taken off before the stone comes, which the counts allow.
-    pub(crate) fn make(&mut self, colour: Colour, p: usize)
+    /// A play by which stones may go: they are taken off before the stone comes, which the counts allow.
+    fn make_taking(&mut self, colour: Colour, p: usize)
         requires on_board { p < point_count self.old.size }
         requires free { entry_at self.old.points p ≡ None }
         ensures size { self.new.size ≡ self.old.size }
@@ -231,6 +246,21 @@ impl Chains {
         }
         if !look.suicide {
             self.place(colour, p);
+        }
+    }
+
+    /// Plays `colour` on the empty point `p`: the stone is put, then the other colour is cleared, then `colour` (the Tromp-Taylor
+    /// rules of Go).
+    pub(crate) fn make(&mut self, colour: Colour, p: usize)
+        requires on_board { p < point_count self.old.size }
+        requires free { entry_at self.old.points p ≡ None }
+        ensures size { self.new.size ≡ self.old.size }
+        ensures points { self.new.points ≡ play_of self.old.size self.old.points colour p }
+    {
+        if self.is_quiet(colour, p) {
+            self.place(colour, p);
+        } else {
+            self.make_taking(colour, p);
         }
     }
 

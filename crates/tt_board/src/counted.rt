@@ -2,7 +2,7 @@
 //!
 //! It has some two thousand bytes and a `Board` a hundred, so a history keeps that.
 
-ghost use Rattle.std.specs.Prelude.{◌≡◌, ◌<◌, None};
+ghost use Rattle.std.specs.Prelude.{◌≡◌, ◌<◌, length, slice_set, IsTrue, Some, None};
 ghost use Rattle.tt_sgf.specs.Sizes.{point_count};
 ghost use Rattle.tt_board.specs.Reach.{entry_at};
 ghost use Rattle.tt_board.specs.Play.{play_of};
@@ -64,6 +64,16 @@ impl CountedBoard {
         ensures { result ≡ self.now }
     {
         Board::showing(self.chains.size(), self.chains.points().copy())
+    }
+
+    /// Whether a play of `colour` on `p`, an empty point, is known to put a stone and to take none off.
+    pub fn is_quiet(&self, colour: Colour, p: Point) -> bool
+        requires on_board { p < point_count self.now.size }
+        requires free { entry_at self.now.points p ≡ None }
+        ensures fits { length self.now.points ≡ point_count self.now.size }
+        ensures put { IsTrue result → play_of self.now.size self.now.points colour p ≡ slice_set self.now.points p (Some colour) }
+    {
+        self.chains.is_quiet(colour, usize::from(p.number()))
     }
 
     /// The board after a play of `colour` on `p`, an empty point: the stone is put, then the other colour is cleared, then

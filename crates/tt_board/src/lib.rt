@@ -23,6 +23,7 @@ pub mod laws;
 mod looks;
 mod names;
 mod near;
+mod quiet;
 mod setup;
 mod stones;
 

@@ -1,8 +1,18 @@
 -- A stack of boards in a list that may go on above the present one.
-use Rattle.std.proofs.Common.{◌≡◌, ℕ, ◌+◌, ◌-◌, ◌<◌, ◌≤◌, List, [], ◌∷◌, ◌++◌, length, take, get_or, set, reverse, zero, suc, refl, sym, ap, ◌∙◌, arith}
-use Rattle.std.proofs.lemmas.List.{take_more, take-set, take-append-le, reverse-append, set-append_right, get_or-set_same, get_or_append_left, get_or_default}
+use Rattle.std.proofs.Common.{inl, inr, ◌≡◌, ℕ, ◌+◌, ◌-◌, ◌<◌, ◌≤◌, List, [], ◌∷◌, ◌++◌, length, take, get_or, set, reverse, zero, suc, refl, sym, ap, ◌∙◌, arith}
+use Rattle.std.proofs.lemmas.Bool.{cases_eq}
+use Rattle.std.proofs.lemmas.List.{get_or-set_other, take_more, take-set, take-append-le, reverse-append, set-append_right, get_or-set_same, get_or_append_left, get_or_default}
 use Rattle.tt_board.specs.Position.{Position}
-use Rattle.tt_game.specs.Undoing.{Stack, stack_of}
+use Rattle.tt_board.specs.declared.Colour.{Colour}
+use Rattle.tt_board.specs.Play.{play_of}
+use Rattle.tt_game.specs.Undoing.{Stack, stack_of, board_on, AreMade}
+
+-- the board in a place, and what a play makes of it
+abbrev get_or2 : Position → List Position → ℕ → Position
+get_or2 b bs k = get_or (b ∷ bs) k b
+
+abbrev pub after : Position → List Position → ℕ → Colour → ℕ → Position
+after b bs k c p = board_on (get_or (b ∷ bs) k b).size (play_of (get_or (b ∷ bs) k b).size (get_or (b ∷ bs) k b).points c p)
 
 -- stacks are one where their parts are
 same_stack : (x y : Position) (xs ys : List Position) → x ≡ y → xs ≡ ys
@@ -57,3 +67,36 @@ written_split b r y bs under over k make parts long some is =
     ∙ ap (λ ys. get_or ys (k - 1) b) (sym parts) ∙ sym (stack_at b bs (k - 1)) ∙ ap (λ n. get_or (b ∷ bs) n b) e in
     ap (λ z. under ++ set over 0 z) (is ∙ ap make below)
     ∙ sym (ap (λ ys. set ys k new) parts ∙ set-append_right under over k k new long (omega arith) ∙ ap (λ j. under ++ set over j new) none)
+
+-- the boards up to a place stay where the one above it is written over
+set_below : (b x : Position) (bs : List Position) (n k : ℕ) → k ≤ n → get_or (b ∷ set bs n x) k b ≡ get_or (b ∷ bs) k b
+set_below b x bs n zero within = refl
+set_below b x bs n (suc k) within = get_or-set_other bs n k x b (λ e. omega (arith, e, within))
+
+-- a board that is written over is what its play made, and those before it stay so
+pub made_more : (b : Position) (bs : List Position) (plays : List (Colour × ℕ)) (n : ℕ) (c : Colour) (p : ℕ) → AreMade b bs plays n → n < length bs → n < length plays
+    → AreMade b (set bs n (after b bs n c p)) (set plays n (c, p)) (n + 1)
+made_more b bs plays n c p old in_bs in_plays k play below is = elim (cases_eq k n) [
+  | inl same ↦
+      let here : play ≡ (c, p) = is ∙ ap (λ j. get_or (set plays n (c, p)) j play) same ∙ get_or-set_same plays n (c, p) play in_plays in
+      ap (λ j. get_or (set bs n (after b bs n c p)) j b) same ∙ get_or-set_same bs n (after b bs n c p) b in_bs
+      ∙ ap (λ (q : Position). board_on q.size (play_of q.size q.points c p)) (ap (get_or2 b bs) (sym same) ∙ sym (set_below b (after b bs n c p) bs n k (omega (arith, below))))
+      ∙ ap (λ (y : Colour × ℕ). after b (set bs n (after b bs n c p)) k y.0 y.1) (sym here)
+  | inr apart ↦
+      let lt : k < n = omega (arith, below, apart) in
+      get_or-set_other bs n k (after b bs n c p) b apart
+      ∙ old k play lt (is ∙ get_or-set_other plays n k (c, p) play apart)
+      ∙ ap (λ (q : Position). board_on q.size (play_of q.size q.points play.0 play.1)) (sym (set_below b (after b bs n c p) bs n k (omega (arith, below))))
+]
+
+-- more room above changes nothing of that
+pub made_room : (b x : Position) (bs : List Position) (plays : List (Colour × ℕ)) (y : Colour × ℕ) (n : ℕ) → AreMade b bs plays n → n ≤ length bs → n ≤ length plays
+    → AreMade b (bs ++ x ∷ []) (plays ++ y ∷ []) n
+made_room b x bs plays y n old in_bs in_plays k play below is =
+    get_or_append_left bs (x ∷ []) b k (omega (arith, below, in_bs))
+    ∙ old k play below (is ∙ get_or_append_left plays (y ∷ []) play k (omega (arith, below, in_plays)))
+    ∙ ap (λ (q : Position). board_on q.size (play_of q.size q.points play.0 play.1)) (sym (get_or_append_left (b ∷ bs) (x ∷ []) b k (omega (arith, below, in_bs))))
+
+-- fewer of them are made as well
+pub made_fewer : (b : Position) (bs : List Position) (plays : List (Colour × ℕ)) (n m : ℕ) → AreMade b bs plays n → m ≤ n → AreMade b bs plays m
+made_fewer b bs plays n m old fewer k play below is = old k play (omega (arith, below, fewer)) is

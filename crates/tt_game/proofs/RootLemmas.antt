@@ -71,8 +71,7 @@ pub undoable_play : (g : Size) (c : Course) (side : Side) (ps : List Undo) (next
     → b ≡ board_on g c.present → IsUndoable g (state_at c side) (reverse ps) below
     → IsUndoable g (state_at (with_play c next) (opponent side)) (reverse (ps ++ UndoPlay c.passes ∷ [])) (b ∷ below)
 undoable_play g c side ps next b below most here u =
-    subst (λ us. IsUndoable g (state_at (with_play c next) (opponent side)) us (b ∷ below)) (sym (reverse-append ps (UndoPlay c.passes ∷ [])))
-    (
+    subst (λ us. IsUndoable g (state_at (with_play c next) (opponent side)) us (b ∷ below)) (sym (reverse-append ps (UndoPlay c.passes ∷ []))) (
       omega (arith, length_push c.earlier c.present),
       most,
       here ∙ ap (board_on g) (sym (last_push c.earlier c.present)),

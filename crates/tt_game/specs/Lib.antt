@@ -21,4 +21,3 @@ pub mod Roots
 pub mod TurnLaws
 pub mod KeyLaws
 pub mod SideLaws
-pub mod Prints

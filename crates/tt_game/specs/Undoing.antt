@@ -1,7 +1,9 @@
 -- What a line keeps, and how it undoes its pushes. For private contracts and for proofs.
-use Rattle.std.specs.Prelude.{◌≡◌, ℕ, ◌-◌, ◌≤◌, List, [], ◌∷◌, length, take, reverse, slice_index_or}
+use Rattle.std.specs.Prelude.{◌≡◌, ℕ, ◌-◌, ◌<◌, ◌≤◌, List, [], ◌∷◌, length, take, reverse, slice_index_or}
 use Rattle.tt_sgf.specs.declared.size.Size.{Size}
+use Rattle.tt_board.specs.declared.Colour.{Colour}
 use Rattle.tt_board.specs.Position.{Position, Colouring}
+use Rattle.tt_board.specs.Play.{play_of}
 use Rattle.tt_game.specs.declared.frame.Frame.{Frame}
 use Rattle.tt_game.specs.declared.frame.Side.{Side}
 use Rattle.tt_game.specs.declared.line.Undo.{Undo}
@@ -51,6 +53,11 @@ pub record Stack : Type 0 where
 -- the stack of a first board and of later ones, the present one in this place
 abbrev pub stack_of : Position → List Position → ℕ → Stack
 stack_of b bs n = record { present = slice_index_or (b ∷ bs) n b; below = reverse (take n (b ∷ bs)) }
+
+-- each of the first so many boards behind the first one is what its play made of the board before it
+abbrev pub AreMade : Position → List Position → List (Colour × ℕ) → ℕ → Type 0
+AreMade b bs plays n = (k : ℕ) (play : Colour × ℕ) → k < n → play ≡ slice_index_or plays k play
+    → slice_index_or bs k b ≡ board_on (slice_index_or (b ∷ bs) k b).size (play_of (slice_index_or (b ∷ bs) k b).size (slice_index_or (b ∷ bs) k b).points play.0 play.1)
 
 -- the states before the pushes, the last push first
 abbrev pub states_before : State → List Undo → List State

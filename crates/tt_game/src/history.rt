@@ -1,14 +1,15 @@
 //! The course of a game: its boards so far and the passes in a row. Superko stands here, for problems and for records.
 
-ghost use Rattle.std.specs.Prelude.{◌≡◌, ◌≢◌, ◌<◌, ◌≤◌, ◌↔◌, length, All, IsTrue, OnOk, OnErr, IfOk};
+ghost use Rattle.std.specs.Prelude.{◌≡◌, ◌≢◌, ◌<◌, ◌≤◌, ◌↔◌, length, All, IsTrue, OnOk, OnErr, IfOk, Some};
+ghost use Rattle.tt_sgf.specs.Sizes.{point_count};
+ghost use Rattle.tt_board.specs.Position.{Colouring};
+ghost use Rattle.tt_board.specs.Reach.{entry_at};
 ghost use Rattle.tt_game.specs.Course.{HasBeen, colourings};
-ghost use Rattle.tt_game.specs.Prints.{print_of, prints_of};
 
-use crate::prints::print_of;
 use std::alloc::Global;
 use std::marker::Model;
-use tt_board::Board;
-use tt_sgf::{NoMemory, Size};
+use tt_board::{Board, Colour};
+use tt_sgf::{NoMemory, Point, Size};
 
 /// The boards of a game so far, the last one present, and how many passes were made in a row since the last play.
 /// Contracts see it as `Course`.
@@ -16,7 +17,6 @@ use tt_sgf::{NoMemory, Size};
 pub(crate) struct History {
     size: Size,
     boards: Vec<Board>,
-    prints: Vec<u64>,
     passes: u8,
     alloc: Global,
 }
@@ -25,7 +25,6 @@ impl Model for History {
     ghost use Rattle.std.specs.Prelude.{◌≡◌, ◌<◌, ◌≤◌, length, All};
     ghost use Rattle.tt_game.specs.Course.{Course};
     ghost use Rattle.tt_game.specs.Undoing.{course_of};
-    ghost use Rattle.tt_game.specs.Prints.{prints_of};
 
     ghost Value = { Course };
 
@@ -34,33 +33,30 @@ impl Model for History {
     ghost invariant = { λ h. record {
       some_board : 0 < length h.boards.items;
       sizes : All (λ b. b.size ≡ h.size) h.boards.items;
-      prints : h.prints.items ≡ prints_of h.size h.boards.items;
       passes : h.passes ≤ 2;
     } };
 }
 
-/// Whether two boards of one size have one colouring. Boards of different prints aren't compared.
-fn are_alike(board: &Board, print: u64, next: &Board, next_print: u64) -> bool
-    requires size { board.now.size ≡ next.now.size }
-    requires print { print ≡ print_of board.now.size board.now.points }
-    requires next_print { next_print ≡ print_of next.now.size next.now.points }
-    ensures { IsTrue result ↔ (board.now.points ≡ next.now.points) }
-{
-    if print != next_print {
-        return false;
-    }
-    board.same(next)
-}
-
-/// Whether the colouring of `next` is one of the boards', whose prints are these.
-fn repeats(boards: &[Board], prints: &[u64], next: &Board) -> bool
-    requires sizes { All (λ b. b.size ≡ next.now.size) boards.now }
-    requires prints { prints.now ≡ prints_of next.now.size boards.now }
+/// Whether the colouring of `next` is one of the boards'.
+fn repeats(boards: &[Board], next: &Board) -> bool
+    requires { All (λ b. b.size ≡ next.now.size) boards.now }
     ensures { IsTrue result ↔ HasBeen (colourings boards.now) next.now.points }
 {
-    let print = print_of(next);
-    for k in 0..boards.len() {
-        if are_alike(&boards[k], prints[k], next, print) {
+    for board in boards {
+        if board.same(next) {
+            return true;
+        }
+    }
+    false
+}
+
+/// Whether a stone of this colour stands on `p` on one of the boards.
+fn stood(boards: &[Board], colour: Colour, p: Point) -> bool
+    requires { All (λ b. p < point_count b.size) boards.now }
+    ensures { (c : Colouring) → HasBeen (colourings boards.now) c → entry_at c p ≡ Some colour → IsTrue result }
+{
+    for board in boards {
+        if board.has_stone(colour, p) {
             return true;
         }
     }
@@ -76,14 +72,11 @@ impl History {
         ensures { IfOk result (λ h. h ≡ first_course board.size board.points) }
     {
         let size = board.size();
-        let mut prints = Vec::new(alloc);
-        prints.push(print_of(&board))?;
         let mut boards = Vec::new(alloc);
         boards.push(board)?;
         Ok(History {
             size,
             boards,
-            prints,
             passes: 0,
             alloc,
         })
@@ -127,12 +120,20 @@ impl History {
         self.alloc
     }
 
+    /// Whether a stone of this colour stood on `p` on some board so far.
+    pub(crate) fn has_stood(&self, colour: Colour, p: Point) -> bool
+        requires { p < point_count self.now.size }
+        ensures { (c : Colouring) → HasBeen (so_far self.now) c → entry_at c p ≡ Some colour → IsTrue result }
+    {
+        stood(&self.boards, colour, p)
+    }
+
     /// Whether a board of this size has a colouring of the history.
     pub(crate) fn has_been(&self, next: &Board) -> bool
         requires { next.now.size ≡ self.now.size }
         ensures { IsTrue result ↔ HasBeen (so_far self.now) next.now.points }
     {
-        repeats(&self.boards, &self.prints, next)
+        repeats(&self.boards, next)
     }
 
     /// Adds the board that a play made; without memory it is as it was.
@@ -141,11 +142,7 @@ impl History {
         ensures ok { OnOk result (self.new ≡ with_play self.old next.points) }
         ensures err { OnErr result (self.new ≡ self.old) }
     {
-        self.prints.push(print_of(&next))?;
-        if self.boards.push(next).is_err() {
-            self.prints.pop();
-            return Err(NoMemory);
-        }
+        self.boards.push(next)?;
         self.passes = 0;
         Ok(())
     }
@@ -165,7 +162,6 @@ impl History {
         ensures { self.new ≡ without_play self.old passes }
     {
         self.boards.pop();
-        self.prints.pop();
         self.passes = passes;
     }
 
@@ -188,7 +184,6 @@ impl History {
     pub(crate) fn copy(&self) -> Result<History, NoMemory>
         ensures { IfOk result (λ h. h ≡ self.now) }
     {
-        let prints = Vec::from_slice(self.alloc, &self.prints)?;
         let mut boards = Vec::with_capacity(self.alloc, self.boards.len())?;
         for board in &self.boards {
             boards.push(board.copy())?;
@@ -196,7 +191,6 @@ impl History {
         Ok(History {
             size: self.size,
             boards,
-            prints,
             passes: self.passes,
             alloc: self.alloc,
         })

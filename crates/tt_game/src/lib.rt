@@ -13,7 +13,6 @@ mod line;
 mod nodes;
 mod past;
 mod played;
-mod prints;
 mod problems;
 mod records;
 mod root;

@@ -1,6 +1,6 @@
 //! A problem and a game of it (Tromp-Taylor rules with a region and targets): turns are made and undone.
 
-ghost use Rattle.std.specs.Prelude.{◌≡◌, ◌≢◌, ℕ, ◌+◌, ◌-◌, ◌<◌, ◌≤◌, ◌↔◌, ◌∷◌, length, IsTrue, IsSome, MatchOption, Contains, All};
+ghost use Rattle.std.specs.Prelude.{◌≡◌, ◌≢◌, ℕ, ◌+◌, ◌-◌, ◌<◌, ◌≤◌, ◌↔◌, ◌∷◌, length, slice_set, IsTrue, IsSome, MatchOption, Contains, All};
 ghost use Rattle.tt_game.specs.Course.{HasBeen, colourings};
 ghost use Rattle.tt_sgf.specs.Sizes.{point_count};
 
@@ -144,6 +144,18 @@ impl Line {
         self.played.present().after(self.mover(), p)
     }
 
+    /// Whether a play of the side to move on an empty point is known to take nothing off and to make a colouring that hasn't been:
+    /// on no board so far a stone of its colour stood there.
+    pub(crate) fn is_new(&self, p: Point) -> bool
+        requires on_board { p < point_count self.now.frame.size }
+        requires free { entry_at self.now.state.present p ≡ None }
+        ensures { IsTrue result → (HasBeen (history self.now.state) (made self.now.frame self.now.state p) → ⊥)
+            × (made self.now.frame self.now.state p ≡ slice_set self.now.state.present p (Some (colour_of self.now.frame self.now.state.to_move))) }
+    {
+        let colour = self.mover();
+        self.played.present().is_quiet(colour, p) && !self.history.has_stood(colour, p)
+    }
+
     /// Whether a board of the line's size has a colouring that has been.
     pub(crate) fn has_been(&self, next: &Board) -> bool
         requires { next.now.size ≡ self.now.frame.size }
@@ -152,26 +164,25 @@ impl Line {
         self.history.has_been(next)
     }
 
-    /// The board that a play of the side to move makes, or why the play is refused. Only a play on an empty point of
-    /// the region is made.
-    pub(crate) fn made(&self, p: Point) -> Result<Board, Why>
+    /// Why a play of the side to move is refused, or none where it is legal.
+    pub(crate) fn why_not(&self, p: Point) -> Option<Why>
         requires on_board { p < point_count self.now.frame.size }
         requires open { winner_of self.now.frame self.now.state ≡ None }
-        ensures { MatchResult result
-            (λ b. IsLegal self.now.frame self.now.state (Turn.Play p) × (b ≡ record { size = self.now.frame.size; points = made self.now.frame self.now.state p }))
-            (λ why. IsRefusal self.now.frame self.now.state (Turn.Play p) why) }
+        ensures { MatchOption result (IsLegal self.now.frame self.now.state (Turn.Play p)) (IsRefusal self.now.frame self.now.state (Turn.Play p)) }
     {
         if self.present().at(p).is_some() {
-            return Err(Why::Occupied);
+            return Some(Why::Occupied);
         }
         if !self.frame.region.has(p) {
-            return Err(Why::Outside);
+            return Some(Why::Outside);
         }
-        let next = self.board_after(p);
-        if self.has_been(&next) {
-            return Err(Why::Repeats);
+        if self.is_new(p) {
+            return None;
         }
-        Ok(next)
+        if self.has_been(&self.board_after(p)) {
+            return Some(Why::Repeats);
+        }
+        None
     }
 
     /// The board that a play of the side to move on an empty point of the region makes, where the line's history has its
@@ -205,7 +216,7 @@ impl Line {
         }
         match t {
             Turn::Pass => None,
-            Turn::Play(p) => self.made(p).err(),
+            Turn::Play(p) => self.why_not(p),
         }
     }
 
@@ -252,7 +263,7 @@ impl Line {
         ensures err { OnErr result (self.new ≡ self.old) }
         ensures why { IfErr result (λ e. IsRefused self.old.frame self.old.state (Turn.Play p) e) }
     {
-        if let Err(why) = self.made(p) {
+        if let Some(why) = self.why_not(p) {
             return Err(Refused::Illegal(why));
         }
         if self.push_made(p).is_err() {

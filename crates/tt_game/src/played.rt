@@ -1,6 +1,6 @@
 //! The board that a line plays on, and those to which it goes back.
 
-ghost use Rattle.std.specs.Prelude.{◌≡◌, ◌<◌, ◌∷◌, [], length, slice_index_or, slice_set, None, OnOk, OnErr};
+ghost use Rattle.std.specs.Prelude.{◌≡◌, ◌<◌, ◌∷◌, ◌++◌, [], length, slice_index_or, slice_set, None, OnOk, OnErr};
 ghost use Rattle.tt_sgf.specs.Sizes.{point_count};
 ghost use Rattle.tt_board.specs.Reach.{entry_at};
 ghost use Rattle.tt_board.specs.Play.{play_of};
@@ -13,23 +13,31 @@ use tt_sgf::{NoMemory, Point};
 
 /// The present board, counted, and those before the plays that may be undone. Contracts see it as `Stack`.
 ///
-/// The boards above the present one stay, so that a play is written over the next of them and takes no memory.
+/// The boards above the present one stay, so that a play is written over the next of them and takes no memory. The first `known`
+/// boards are still what their plays made, so that the same play again makes nothing.
 #[derive(Drop)]
 pub(crate) struct Played {
     first: CountedBoard,
     later: Vec<CountedBoard>,
+    plays: Vec<(Colour, Point)>,
     live: usize,
+    known: usize,
 }
 
 impl Model for Played {
-    ghost use Rattle.std.specs.Prelude.{◌≤◌, length};
-    ghost use Rattle.tt_game.specs.Undoing.{Stack, stack_of};
+    ghost use Rattle.std.specs.Prelude.{◌≡◌, ◌≤◌, length};
+    ghost use Rattle.tt_game.specs.Undoing.{Stack, stack_of, AreMade};
 
     ghost Value = { Stack };
 
     ghost view = { λ s. stack_of s.first s.later.items s.live };
 
-    ghost invariant = { λ s. s.live ≤ length s.later.items };
+    ghost invariant = { λ s. record {
+      live : s.live ≤ s.known;
+      known : s.known ≤ length s.later.items;
+      plays : length s.plays.items ≡ length s.later.items;
+      made : AreMade s.first s.later.items s.plays.items s.known;
+    } };
 }
 
 /// Writes over the board in the place `k` what a play makes of the one before it.
@@ -48,6 +56,26 @@ fn write_over(first: &CountedBoard, later: &mut [CountedBoard], k: usize, colour
     }
 }
 
+/// Adds a board and a play; without memory there are none more.
+fn grow(
+    board: &CountedBoard,
+    later: &mut Vec<CountedBoard>,
+    plays: &mut Vec<(Colour, Point)>,
+    colour: Colour,
+    p: Point,
+) -> Result<(), NoMemory>
+    ensures later { OnOk result (later.new.items ≡ later.old.items ++ board.now ∷ []) }
+    ensures plays { OnOk result (plays.new.items ≡ plays.old.items ++ (colour, p) ∷ []) }
+    ensures err { OnErr result ((later.new.items ≡ later.old.items) × (plays.new.items ≡ plays.old.items)) }
+{
+    later.push(board.copy())?;
+    if plays.push((colour, p)).is_err() {
+        later.pop();
+        return Err(NoMemory);
+    }
+    Ok(())
+}
+
 impl Played {
     /// This board, with no play to undo.
     pub(crate) fn of(alloc: Global, board: CountedBoard) -> Played
@@ -56,7 +84,9 @@ impl Played {
         Played {
             first: board,
             later: Vec::new(alloc),
+            plays: Vec::new(alloc),
             live: 0,
+            known: 0,
         }
     }
 
@@ -70,6 +100,25 @@ impl Played {
         &self.later[self.live - 1]
     }
 
+    /// Writes over the board above, or adds one, what a play of `colour` on `p`, an empty point, makes; without memory it is as it was.
+    fn write(&mut self, colour: Colour, p: Point) -> Result<(), NoMemory>
+        requires on_board { p < point_count self.old.present.size }
+        requires free { entry_at self.old.present.points p ≡ None }
+        ensures below { OnOk result (self.new.below ≡ self.old.present ∷ self.old.below) }
+        ensures present { OnOk result (self.new.present ≡ board_on self.old.present.size
+            (play_of self.old.present.size self.old.present.points colour p)) }
+        ensures err { OnErr result (self.new ≡ self.old) }
+    {
+        if self.live == self.later.len() {
+            grow(&self.first, &mut self.later, &mut self.plays, colour, p)?;
+        }
+        write_over(&self.first, &mut self.later, self.live, colour, p);
+        self.plays[self.live] = (colour, p);
+        self.live += 1;
+        self.known = self.live;
+        Ok(())
+    }
+
     /// Plays `colour` on `p`, an empty point; without memory it is as it was.
     pub(crate) fn push(&mut self, colour: Colour, p: Point) -> Result<(), NoMemory>
         requires on_board { p < point_count self.old.present.size }
@@ -79,12 +128,11 @@ impl Played {
             (play_of self.old.present.size self.old.present.points colour p)) }
         ensures err { OnErr result (self.new ≡ self.old) }
     {
-        if self.live == self.later.len() {
-            self.later.push(self.first.copy())?;
+        if self.live < self.known && self.plays[self.live] == (colour, p) {
+            self.live += 1;
+            return Ok(());
         }
-        write_over(&self.first, &mut self.later, self.live, colour, p);
-        self.live += 1;
-        Ok(())
+        self.write(colour, p)
     }
 
     /// Goes back to the board before the last play.

@@ -12,4 +12,4 @@ none bs next each (k, in', e) =
     each k lt (sym (get_or-map (λ b. b.points) bs k next next.points lt) ∙ e)
 
 pub returns : goal.returns
-returns c = (λ no. absurd (false≢true no), λ has. absurd (none c.args.boards.now c.args.next.now (λ k h. c.loop-k.invariant k (omega arith)) has))
+returns c = (λ no. absurd (false≢true no), λ has. absurd (none c.args.boards.now c.args.next.now (λ k h. c.loop-board.invariant k (omega arith)) has))
