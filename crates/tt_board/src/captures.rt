@@ -98,17 +98,25 @@ pub(crate) fn release(
     }
 }
 
-/// Takes the stones of a chain off a colouring.
-pub(crate) fn lift_named(size: Size, points: &mut Colouring, names: &[u16], name: u16)
+/// Takes the stones of the chain `name`, so many, off a colouring: a pass over the names that ends with the last of them.
+fn lift_named(size: Size, points: &mut Colouring, names: &[u16], name: u16, stones: u16)
     requires fits { length points.old ≡ point_count size }
     requires wide { length names.now ≡ 361 }
+    requires living { name ≢ 0 }
+    requires ends { (q : ℕ) → point_count size ≤ q → name_at names.now q ≡ 0 }
+    requires stones { stones ≡ stone_count names.now name }
     ensures still_fits { length points.new ≡ length points.old }
     ensures gone { (q : ℕ) → name_at names.now q ≡ name → entry_at points.new q ≡ None }
     ensures kept { (q : ℕ) → name_at names.now q ≢ name → entry_at points.new q ≡ entry_at points.old q }
 {
+    let mut left = stones;
     for p in 0..size.point_count() {
+        if left == 0 {
+            return;
+        }
         if names[p] == name {
             points.set(p, None);
+            left -= 1;
         }
     }
 }
@@ -127,6 +135,6 @@ pub(crate) fn lift_chain(size: Size, points: &mut Colouring, names: &[u16], name
     if stones == 1 {
         points.set(root_of(name), None);
     } else {
-        lift_named(size, points, names, name);
+        lift_named(size, points, names, name, stones);
     }
 }

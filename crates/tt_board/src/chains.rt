@@ -276,8 +276,8 @@ impl Chains {
         lift_chain(self.size, points, &self.names, name, stones);
     }
 
-    /// The colouring after a play of `colour` on the empty point `p`; no chain is changed for it.
-    pub(crate) fn points_after(&self, colour: Colour, p: usize) -> Colouring
+    /// The colouring after a play by which stones may go.
+    fn points_after_taking(&self, colour: Colour, p: usize) -> Colouring
         requires on_board { p < point_count self.now.size }
         requires free { entry_at self.now.points p ≡ None }
         ensures { result ≡ play_of self.now.size self.now.points colour p }
@@ -290,6 +290,20 @@ impl Chains {
         if !look.suicide {
             points.set(p, Some(colour));
         }
+        points
+    }
+
+    /// The colouring after a play of `colour` on the empty point `p`; no chain is changed for it.
+    pub(crate) fn points_after(&self, colour: Colour, p: usize) -> Colouring
+        requires on_board { p < point_count self.now.size }
+        requires free { entry_at self.now.points p ≡ None }
+        ensures { result ≡ play_of self.now.size self.now.points colour p }
+    {
+        if !self.is_quiet(colour, p) {
+            return self.points_after_taking(colour, p);
+        }
+        let mut points = self.points.copy();
+        points.set(p, Some(colour));
         points
     }
 

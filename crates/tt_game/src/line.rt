@@ -89,7 +89,7 @@ impl Line {
             frame,
             root,
             history,
-            played: Played::of(alloc, board),
+            played: Played::of(alloc, board)?,
             to_move,
             pushes: Vec::new(alloc),
         })
@@ -361,7 +361,7 @@ impl Line {
             frame: self.frame.copy(),
             root: Arc::try_clone(&self.root)?,
             history,
-            played: Played::of(alloc, self.played.present().copy()),
+            played: self.played.again(alloc)?,
             to_move: self.to_move,
             pushes: Vec::new(alloc),
         })

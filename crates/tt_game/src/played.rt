@@ -1,6 +1,6 @@
 //! The board that a line plays on, and those to which it goes back.
 
-ghost use Rattle.std.specs.Prelude.{◌≡◌, ◌<◌, ◌∷◌, ◌++◌, [], length, slice_index_or, slice_set, None, OnOk, OnErr};
+ghost use Rattle.std.specs.Prelude.{◌≡◌, ◌<◌, ◌∷◌, ◌++◌, [], length, slice_index_or, slice_set, None, OnOk, OnErr, IfOk};
 ghost use Rattle.tt_sgf.specs.Sizes.{point_count};
 ghost use Rattle.tt_board.specs.Reach.{entry_at};
 ghost use Rattle.tt_board.specs.Play.{play_of};
@@ -8,16 +8,18 @@ ghost use Rattle.tt_game.specs.Undoing.{board_on};
 
 use std::alloc::Global;
 use std::marker::Model;
+use std::sync::Arc;
 use tt_board::{Colour, CountedBoard};
 use tt_sgf::{NoMemory, Point};
 
 /// The present board, counted, and those before the plays that may be undone. Contracts see it as `Stack`.
 ///
-/// The boards above the present one stay, so that a play is written over the next of them and takes no memory. The first `known`
-/// boards are still what their plays made, so that the same play again makes nothing.
+/// The first board is held through a handle, so that a line has a small size and lines that begin alike share it. The boards above
+/// the present one stay, so that a play is written over the next of them and takes no memory. The first `known` boards are still what
+/// their plays made, so that the same play again makes nothing.
 #[derive(Drop)]
 pub(crate) struct Played {
-    first: CountedBoard,
+    first: Arc<CountedBoard>,
     later: Vec<CountedBoard>,
     plays: Vec<(Colour, Point)>,
     live: usize,
@@ -26,17 +28,18 @@ pub(crate) struct Played {
 
 impl Model for Played {
     ghost use Rattle.std.specs.Prelude.{◌≡◌, ◌≤◌, length};
+    ghost use Rattle.std.specs.Arc.{arc_value};
     ghost use Rattle.tt_game.specs.Undoing.{Stack, stack_of, AreMade};
 
     ghost Value = { Stack };
 
-    ghost view = { λ s. stack_of s.first s.later.items s.live };
+    ghost view = { λ s. stack_of (arc_value s.first) s.later.items s.live };
 
     ghost invariant = { λ s. record {
       live : s.live ≤ s.known;
       known : s.known ≤ length s.later.items;
       plays : length s.plays.items ≡ length s.later.items;
-      made : AreMade s.first s.later.items s.plays.items s.known;
+      made : AreMade (arc_value s.first) s.later.items s.plays.items s.known;
     } };
 }
 
@@ -58,17 +61,17 @@ fn write_over(first: &CountedBoard, later: &mut [CountedBoard], k: usize, colour
 
 /// Adds a board and a play; without memory there are none more.
 fn grow(
-    board: &CountedBoard,
+    board: CountedBoard,
     later: &mut Vec<CountedBoard>,
     plays: &mut Vec<(Colour, Point)>,
     colour: Colour,
     p: Point,
 ) -> Result<(), NoMemory>
-    ensures later { OnOk result (later.new.items ≡ later.old.items ++ board.now ∷ []) }
+    ensures later { OnOk result (later.new.items ≡ later.old.items ++ board ∷ []) }
     ensures plays { OnOk result (plays.new.items ≡ plays.old.items ++ (colour, p) ∷ []) }
     ensures err { OnErr result ((later.new.items ≡ later.old.items) × (plays.new.items ≡ plays.old.items)) }
 {
-    later.push(board.copy())?;
+    later.push(board)?;
     if plays.push((colour, p)).is_err() {
         later.pop();
         return Err(NoMemory);
@@ -78,16 +81,32 @@ fn grow(
 
 impl Played {
     /// This board, with no play to undo.
-    pub(crate) fn of(alloc: Global, board: CountedBoard) -> Played
-        ensures { result ≡ record { present = board; below = [] } }
+    pub(crate) fn of(alloc: Global, board: CountedBoard) -> Result<Played, NoMemory>
+        ensures { IfOk result (λ s. s ≡ record { present = board; below = [] }) }
     {
-        Played {
-            first: board,
+        Ok(Played {
+            first: Arc::new(alloc, board)?,
             later: Vec::new(alloc),
             plays: Vec::new(alloc),
             live: 0,
             known: 0,
+        })
+    }
+
+    /// The same present board, with no play to undo.
+    pub(crate) fn again(&self, alloc: Global) -> Result<Played, NoMemory>
+        ensures { IfOk result (λ s. s ≡ record { present = self.now.present; below = [] }) }
+    {
+        if self.live > 0 {
+            return Played::of(alloc, self.present().copy());
         }
+        Ok(Played {
+            first: Arc::try_clone(&self.first)?,
+            later: Vec::new(alloc),
+            plays: Vec::new(alloc),
+            live: 0,
+            known: 0,
+        })
     }
 
     /// The present board.
@@ -95,7 +114,7 @@ impl Played {
         ensures { result.now ≡ self.now.present }
     {
         if self.live == 0 {
-            return &self.first;
+            return &*self.first;
         }
         &self.later[self.live - 1]
     }
@@ -110,9 +129,10 @@ impl Played {
         ensures err { OnErr result (self.new ≡ self.old) }
     {
         if self.live == self.later.len() {
-            grow(&self.first, &mut self.later, &mut self.plays, colour, p)?;
+            let above = self.first.copy();
+            grow(above, &mut self.later, &mut self.plays, colour, p)?;
         }
-        write_over(&self.first, &mut self.later, self.live, colour, p);
+        write_over(&*self.first, &mut self.later, self.live, colour, p);
         self.plays[self.live] = (colour, p);
         self.live += 1;
         self.known = self.live;

@@ -5,7 +5,7 @@ use Rattle.tt_board.specs.Reach.{entry_at}
 use Rattle.tt_board.specs.Play.{play_of}
 use Rattle.tt_board.specs.Chains.{name_at}
 use Rattle.tt_board.proofs.MakeLemmas.{lifting_more, lifted_gone, lifted_kept, made_quiet, made_suicide}
-use Rattle.tt_board.proofs.chains.Chains.points_after.Goals as goal
+use Rattle.tt_board.proofs.chains.Chains.points_after_taking.Goals as goal
 
 pub lift-requires-clause-living : goal.lift-requires-clause-living
 lift-requires-clause-living c =
