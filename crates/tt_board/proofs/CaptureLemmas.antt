@@ -1,7 +1,8 @@
 -- The counts and names when a chain goes.
-use Rattle.std.proofs.Common.{◌≡◌, ◌≢◌, ℕ, ◌+◌, ◌<◌, ◌≤◌, ◌↔◌, List, None, cond, set, map, length, Contains, inl, inr, refl, sym, ap, subst, ◌∙◌, arith}
-use Rattle.std.proofs.lemmas.Bool.{cases_eq, cases_lt, cases_Bool, false≢true}
-use Rattle.std.proofs.lemmas.List.{length-set, get_or-set_same, get_or-set_other, get_or_default, get_or_past}
+use Rattle.std.proofs.Common.{◌≡◌, ◌≢◌, ℕ, ◌+◌, ◌-◌, ◌<◌, ◌≤◌, ◌↔◌, List, None, cond, eqb, drop, set, map, length, Contains, inl, inr, refl, sym, ap, subst, ◌∙◌, arith}
+use Rattle.std.proofs.lemmas.Bool.{cases_eq, cases_lt, cases_Bool, eq-eqb, ne_eqb, false≢true}
+use Rattle.std.proofs.lemmas.List.Sums.{sum_by-drop_more}
+use Rattle.std.proofs.lemmas.List.{length-drop, get_or-drop, length-set, get_or-set_same, get_or-set_other, get_or_default, get_or_past}
 use Rattle.std.proofs.lemmas.List.Elements.{Contains-get_or}
 use Rattle.tt_sgf.specs.declared.size.Size.{Size}
 use Rattle.tt_sgf.specs.Sizes.{point_count}
@@ -10,7 +11,7 @@ use Rattle.tt_board.specs.Reach.{entry_at}
 use Rattle.tt_board.specs.Chains.{name_at, root_of, Touches, touching, decided, decided_is, liberty_count, stone_count, renamed, IsRootedBut, IsCountedBut}
 use Rattle.tt_board.proofs.NameLemmas.{count_emptied, at_p, off_p, liberty_count_le}
 use Rattle.tt_board.proofs.StartLemmas.{away}
-use Rattle.tt_board.proofs.JoinLemmas.{IsPartly, partly_more, partly_kept, partly_whole, stones_fewer}
+use Rattle.tt_board.proofs.JoinLemmas.{IsPartly, partly_more, partly_kept, partly_whole, stones_fewer, none_stones}
 
 -- a stone of chain e on p is taken off
 module _ (s : Size) (ns : List ℕ) (p e : ℕ) (in_p : p < point_count s) (wide : p < length ns) (living : e ≢ 0) (stone : name_at ns p ≡ e) (rooted : IsRootedBut ns e) where
@@ -124,3 +125,26 @@ module _ (s : Size) (old : List ℕ) (before : Colouring) (e : ℕ) (ns : List �
 
   pub released_gone : (q : ℕ) → name_at old q ≡ e → entry_at after q ≡ None
   released_gone q was = r.gone q was (no_more q)
+
+-- ---- the stones of a chain from a place on
+
+-- a stone of the chain on that place is one of them, and one of another isn't
+pub stones_from : (ns : List ℕ) (m p : ℕ) → p < length ns → stone_count (drop p ns) m ≡ cond (eqb (name_at ns p) m) 1 0 + stone_count (drop (p + 1) ns) m
+unfolding stone_count
+stones_from ns m p below = sum_by-drop_more (λ y. cond (eqb y m) 1 0) ns p 0 below
+
+pub stones_here : (ns : List ℕ) (m p : ℕ) → p < length ns → name_at ns p ≡ m → stone_count (drop p ns) m ≡ stone_count (drop (p + 1) ns) m + 1
+stones_here ns m p below is =
+    let one : ◌≡◌ {A = ℕ} (cond (eqb (name_at ns p) m) 1 0) 1 = ap (λ b. cond b 1 0) (eq-eqb (name_at ns p) m is) in
+    omega (arith, stones_from ns m p below, one)
+
+pub stones_not_here : (ns : List ℕ) (m p : ℕ) → p < length ns → name_at ns p ≢ m → stone_count (drop p ns) m ≡ stone_count (drop (p + 1) ns) m
+stones_not_here ns m p below other =
+    let none : ◌≡◌ {A = ℕ} (cond (eqb (name_at ns p) m) 1 0) 0 = ap (λ b. cond b 1 0) (ne_eqb (name_at ns p) m other) in
+    omega (arith, stones_from ns m p below, none)
+
+-- where there are none, no place from there on has the name
+pub none_from : (ns : List ℕ) (m p q : ℕ) → stone_count (drop p ns) m ≡ 0 → p ≤ q → q < length ns → name_at ns q ≢ m
+none_from ns m p q none from below is =
+    let at : p + (q - p) ≡ q = omega (arith, from) in
+    none_stones (drop p ns) m none (q - p) (omega (arith, length-drop p ns, from, below)) (get_or-drop p ns (q - p) 0 ∙ ap (name_at ns) at ∙ is)

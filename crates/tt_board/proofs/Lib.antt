@@ -14,5 +14,6 @@ pub mod NearLemmas
 pub mod PlacedLemmas
 pub mod PlaneLemmas
 pub mod PlayLemmas
+pub mod QuietLemmas
 pub mod StartLemmas
 pub mod StoneLemmas

@@ -111,3 +111,36 @@ module _ (old : List ℕ) (before : Colouring) (goes : List ℕ) (i : ℕ) (ns :
 
   pub taken_kept : (q : ℕ) → (Contains goes (name_at old q) → ⊥) → entry_at after q ≡ entry_at before q
   taken_kept q none = (t.kept q (λ j below e. none (subst (Contains goes) e (Contains-get_or goes j 0 (subst (λ n. j < n) end below))))).1
+
+-- ---- a colouring that loses the listed chains one by one, with no chain changed
+
+-- the first of the listed chains are gone from it
+pub record Lifting (ns : List ℕ) (before : Colouring) (goes : List ℕ) (i : ℕ) (after : Colouring) : Type 0 where
+  pub fits : length after ≡ length before
+  pub gone : (q j : ℕ) → j < i → name_at goes j ≡ name_at ns q → entry_at after q ≡ None
+  pub kept : (q : ℕ) → ((j : ℕ) → j < i → name_at goes j ≢ name_at ns q) → entry_at after q ≡ entry_at before q
+
+-- one more goes
+pub lifting_more : (ns : List ℕ) (before : Colouring) (goes : List ℕ) (i : ℕ) (after next : Colouring) → Lifting ns before goes i after
+    → length next ≡ length after → ((q : ℕ) → name_at ns q ≡ name_at goes i → entry_at next q ≡ None)
+    → ((q : ℕ) → name_at ns q ≢ name_at goes i → entry_at next q ≡ entry_at after q) → Lifting ns before goes (i + 1) next
+lifting_more ns before goes i after next t fits gone kept = record {
+  fits = fits ∙ t.fits;
+  gone = λ q j below is. elim (cases_eq (name_at ns q) (name_at goes i)) [
+    | inl now ↦ gone q now
+    | inr other ↦ elim (cases_eq j i) [
+      | inl same ↦ absurd (other (sym is ∙ ap (name_at goes) same))
+      | inr apart ↦ kept q other ∙ t.gone q j (omega arith) is
+    ]
+  ];
+  kept = λ q none. kept q (λ e. none i (omega arith) (sym e)) ∙ t.kept q (λ j less. none j (omega arith));
+}
+
+-- when all are gone
+module _ (ns : List ℕ) (before : Colouring) (goes : List ℕ) (i : ℕ) (after : Colouring) (t : Lifting ns before goes i after) (end : i ≡ length goes) where
+  -- the stones of all listed chains are gone, and no others
+  pub lifted_gone : (q : ℕ) → Contains goes (name_at ns q) → entry_at after q ≡ None
+  lifted_gone q has = t.gone q has.0 (subst (λ n. has.0 < n) (sym end) has.1) (get_or_default goes has.0 0 (name_at ns q) has.1 ∙ has.2)
+
+  pub lifted_kept : (q : ℕ) → (Contains goes (name_at ns q) → ⊥) → entry_at after q ≡ entry_at before q
+  lifted_kept q none = t.kept q (λ j below e. none (subst (Contains goes) e (Contains-get_or goes j 0 (subst (λ n. j < n) end below))))

@@ -6,8 +6,6 @@ use Rattle.std.specs.FinSet as set
 use Rattle.std.specs.Cmp.{unsigned_tied}
 use Rattle.std.specs.Ordering.{nat_cmp, eq_by_cmp}
 use Rattle.std.proofs.lemmas.Bool.{cases_lt, true≢false, false≢true, or_cases, eqb-true, eq-eqb}
-use Rattle.tt_sgf.specs.declared.size.Size.{Size}
-use Rattle.tt_sgf.specs.Sizes.{point_count}
 use Rattle.tt_sgf.specs.Words.{bit_in, AreBitsOf, AreCovered}
 use Rattle.tt_board.specs.declared.Colour.{Colour}
 use Rattle.tt_board.specs.declared.Colour.TheVariants.{Black, White}

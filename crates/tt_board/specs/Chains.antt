@@ -1,5 +1,5 @@
 -- Chains (the rules of Go): their stones and liberties, and the names by which a board finds them. Private contracts alone cite these.
-use Rattle.std.specs.Prelude.{◌≡◌, ◌≢◌, ℕ, ◌%◌, ◌/◌, ◌<◌, ◌↔◌, ◌==◌, ◌&&◌, List, [], ◌∷◌, length, Option, Some, None, Bool, true, false, not, Contains, if◌then◌else◌, count_by, slice_index_or}
+use Rattle.std.specs.Prelude.{◌≡◌, ◌≢◌, ℕ, ◌%◌, ◌/◌, ◌<◌, ◌⊎◌, ◌↔◌, ◌==◌, ◌&&◌, List, [], ◌∷◌, length, Option, Some, None, Bool, true, false, not, Contains, if◌then◌else◌, count_by, slice_index_or}
 use Rattle.std.specs.List.{range_with_len}
 use Rattle.std.proofs.Common.{inl, inr, refl}
 use Rattle.std.proofs.lemmas.Bool.{cases_eq, false≢true}
@@ -115,6 +115,10 @@ pub record IsChainBoard (b : ChainBoard) : Type 0 where
   pub alive : IsAlive b.size b.points
 
 -- ---- how the code gets there
+
+-- m is one of four names
+abbrev pub IsOneName : ℕ → ℕ → ℕ → ℕ → ℕ → Type 0
+IsOneName a b c d m = (a ≡ m) ⊎ (b ≡ m) ⊎ (c ≡ m) ⊎ (d ≡ m)
 
 -- names of different roots
 abbrev pub AreRootsApart : List ℕ → Type 0

@@ -57,6 +57,15 @@ impl Board {
         }
     }
 
+    /// The board that shows this colouring, in which each stone reaches empty.
+    pub(crate) fn showing(size: Size, points: Colouring) -> Board
+        requires fits { length points ≡ point_count size }
+        requires alive { IsAlive size points }
+        ensures { result ≡ record { size = size; points = points } }
+    {
+        Board { size, points }
+    }
+
     /// The same board again: a copy of some hundred bytes, which takes no memory.
     pub fn copy(&self) -> Board
         ensures { result ≡ self.now }
@@ -81,6 +90,14 @@ impl Board {
         ensures { result ≡ entry_at self.now.points p }
     {
         self.points.at(usize::from(p.number()))
+    }
+
+    /// Whether a stone of this colour stands on `p`, a point of the board.
+    pub fn has_stone(&self, colour: Colour, p: Point) -> bool
+        requires { p < point_count self.now.size }
+        ensures { result ≡ is_stone_of (entry_at self.now.points p) colour }
+    {
+        self.bits(colour).has(usize::from(p.number()))
     }
 
     /// The stones of a colour as bits, in place.

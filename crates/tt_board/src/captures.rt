@@ -1,4 +1,4 @@
-//! A chain goes: each of its stones leaves a liberty to each other chain beside it.
+//! A chain goes: each of its stones leaves a liberty to each other chain beside it. Or a colouring loses it, and no count changes.
 
 ghost use Rattle.std.specs.Prelude.{◌≡◌, ◌≢◌, ℕ, ◌<◌, ◌≤◌, length, map, slice_set, None};
 ghost use Rattle.tt_sgf.specs.Sizes.{point_count};
@@ -95,5 +95,46 @@ pub(crate) fn release(
         release_stone(size, points, names, liberties, name, root_of(name));
     } else {
         release_all(size, points, names, liberties, name, stones);
+    }
+}
+
+/// Takes the stones of the chain `name`, so many, off a colouring: a pass over the names that ends with the last of them.
+fn lift_named(size: Size, points: &mut Colouring, names: &[u16], name: u16, stones: u16)
+    requires fits { length points.old ≡ point_count size }
+    requires wide { length names.now ≡ 361 }
+    requires living { name ≢ 0 }
+    requires ends { (q : ℕ) → point_count size ≤ q → name_at names.now q ≡ 0 }
+    requires stones { stones ≡ stone_count names.now name }
+    ensures still_fits { length points.new ≡ length points.old }
+    ensures gone { (q : ℕ) → name_at names.now q ≡ name → entry_at points.new q ≡ None }
+    ensures kept { (q : ℕ) → name_at names.now q ≢ name → entry_at points.new q ≡ entry_at points.old q }
+{
+    let mut left = stones;
+    for p in 0..size.point_count() {
+        if left == 0 {
+            return;
+        }
+        if names[p] == name {
+            points.set(p, None);
+            left -= 1;
+        }
+    }
+}
+
+/// Takes the stones of the chain `name`, so many, off a colouring.
+pub(crate) fn lift_chain(size: Size, points: &mut Colouring, names: &[u16], name: u16, stones: u16)
+    requires fits { length points.old ≡ point_count size }
+    requires wide { length names.now ≡ 361 }
+    requires living { (name ≢ 0) × (name_at names.now (root_of name) ≡ name) }
+    requires ends { (q : ℕ) → point_count size ≤ q → name_at names.now q ≡ 0 }
+    requires stones { stones ≡ stone_count names.now name }
+    ensures still_fits { length points.new ≡ length points.old }
+    ensures gone { (q : ℕ) → name_at names.now q ≡ name → entry_at points.new q ≡ None }
+    ensures kept { (q : ℕ) → name_at names.now q ≢ name → entry_at points.new q ≡ entry_at points.old q }
+{
+    if stones == 1 {
+        points.set(root_of(name), None);
+    } else {
+        lift_named(size, points, names, name, stones);
     }
 }

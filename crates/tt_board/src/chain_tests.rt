@@ -5,9 +5,9 @@ use super::looks::Look;
 use super::names::root_of;
 use super::near::neighbours;
 use super::tests::number_of;
-use super::{Board, Colour};
+use super::{Board, Colour, CountedBoard};
 use arrayvec::ArrayVec;
-use tt_sgf::Size;
+use tt_sgf::{Point, Size};
 
 /// Gives each stone the least mark of the stones of its colour beside it, in a pass to or fro; whether any mark changed.
 fn lower(size: Size, entries: &[Option<Colour>; 361], marks: &mut [u16; 361], to: bool) -> bool {
@@ -167,6 +167,24 @@ impl Most {
     }
 }
 
+/// The board after a play; none where it isn't made, or where a counted board says otherwise, asked for it, or written over.
+fn both_played(board: &Board, colour: Colour, p: Point) -> Option<Board> {
+    if !board.size().holds(p) {
+        return None;
+    }
+    let next = board.play(colour, p).ok()?;
+    let counted = CountedBoard::of(board);
+    let mut above = CountedBoard::of(&Board::empty(board.size()));
+    above.become_after(&counted, colour, p);
+    if !counted.after(colour, p).same(&next) {
+        return None;
+    }
+    if !agree(&next, above.chains()) {
+        return None;
+    }
+    Some(next)
+}
+
 /// What the plays of a game do at the most; none where the chains aren't the board's after some turn.
 fn played(size: Size, turns: &[u8]) -> Option<Most> {
     let mut board = Board::empty(size);
@@ -186,7 +204,7 @@ fn played(size: Size, turns: &[u8]) -> Option<Most> {
             let look = chains.look(colour, p);
             most = most.with(&chains, colour, p, &look);
             chains.make(colour, p);
-            board = board.play(colour, point).ok()?;
+            board = both_played(&board, colour, point)?;
             if !agree(&board, &chains) {
                 return None;
             }

@@ -1,7 +1,6 @@
 //! A board's chains, each with the counts of its stones and of its liberties.
 //!
 //! A play asks these counts which chains go, and looks at no stone but those that come, join or go.
-//! `Board` doesn't use them yet.
 
 ghost use Rattle.std.specs.Prelude.{◌≡◌, ◌≢◌, ℕ, ◌/◌, ◌<◌, ◌≤◌, ◌↔◌, length, map, replicate, slice_set, Contains, IsTrue, Some, None};
 ghost use Rattle.tt_sgf.specs.Sizes.{point_count};
@@ -10,11 +9,12 @@ ghost use Rattle.tt_board.specs.Play.{IsAlive, play_of};
 ghost use Rattle.tt_board.specs.Chains.{name_at, root_of, code_of, renamed, IsEachOnce, IsCountOf, IsLibertyOf, AreLinked};
 
 use super::Colour;
-use super::captures::release;
+use super::captures::{lift_chain, release};
 use super::colouring::Colouring;
 use super::joins::{join_beside, start};
 use super::looks::{Look, has_more, last_liberty};
 use super::names::{chains_beside, empty_beside, root_of};
+use super::quiet::{code_of, names_beside};
 use std::marker::Model;
 use tt_sgf::Size;
 
@@ -81,10 +81,11 @@ impl Chains {
         self.size
     }
 
-    /// The colouring.
+    /// The colouring, in which each stone reaches empty.
     pub(crate) fn points(&self) -> &Colouring
         ensures value { result.now ≡ self.now.points }
         ensures fits { length self.now.points ≡ point_count self.now.size }
+        ensures alive { IsAlive self.now.size self.now.points }
     {
         &self.points
     }
@@ -177,6 +178,21 @@ impl Chains {
         made
     }
 
+    /// Whether a play of `colour` on the empty point `p` is known to take no stone off: no chain of the opponent's has `p` as its one
+    /// liberty, and the stone has one or joins a chain that has.
+    pub(crate) fn is_quiet(&self, colour: Colour, p: usize) -> bool
+        requires on_board { p < point_count self.now.size }
+        requires free { entry_at self.now.points p ≡ None }
+        ensures fits { length self.now.points ≡ point_count self.now.size }
+        ensures put { IsTrue result → play_of self.now.size self.now.points colour p ≡ slice_set self.now.points p (Some colour) }
+    {
+        let near = names_beside(self.size, &self.names, p);
+        if near.has_last(&self.liberties, code_of(colour.other())) {
+            return false;
+        }
+        near.has_open(&self.liberties, code_of(colour))
+    }
+
     /// What a play of `colour` on the empty point `p` does (the Tromp-Taylor rules of Go).
     ///
     /// A chain goes with it exactly where `p` is its one liberty: the opponent's; or one's own, where none of the opponent's goes,
@@ -217,9 +233,8 @@ impl Chains {
         }
     }
 
-    /// Plays `colour` on the empty point `p`: the stone is put, then the other colour is cleared, then `colour` (the Tromp-Taylor
-    /// rules of Go). What goes is taken off before the stone comes, which the counts allow.
-    pub(crate) fn make(&mut self, colour: Colour, p: usize)
+    /// A play by which stones may go: they are taken off before the stone comes, which the counts allow.
+    fn make_taking(&mut self, colour: Colour, p: usize)
         requires on_board { p < point_count self.old.size }
         requires free { entry_at self.old.points p ≡ None }
         ensures size { self.new.size ≡ self.old.size }
@@ -231,6 +246,88 @@ impl Chains {
         }
         if !look.suicide {
             self.place(colour, p);
+        }
+    }
+
+    /// Plays `colour` on the empty point `p`: the stone is put, then the other colour is cleared, then `colour` (the Tromp-Taylor
+    /// rules of Go).
+    pub(crate) fn make(&mut self, colour: Colour, p: usize)
+        requires on_board { p < point_count self.old.size }
+        requires free { entry_at self.old.points p ≡ None }
+        ensures size { self.new.size ≡ self.old.size }
+        ensures points { self.new.points ≡ play_of self.old.size self.old.points colour p }
+    {
+        if self.is_quiet(colour, p) {
+            self.place(colour, p);
+        } else {
+            self.make_taking(colour, p);
+        }
+    }
+
+    /// Takes the stones of the chain of this name off a colouring of the board's points.
+    fn lift(&self, name: u16, points: &mut Colouring)
+        requires fits { length points.old ≡ point_count self.now.size }
+        requires living { (name ≢ 0) × (name_at self.now.names (root_of name) ≡ name) }
+        ensures still_fits { length points.new ≡ length points.old }
+        ensures gone { (q : ℕ) → name_at self.now.names q ≡ name → entry_at points.new q ≡ None }
+        ensures kept { (q : ℕ) → name_at self.now.names q ≢ name → entry_at points.new q ≡ entry_at points.old q }
+    {
+        let stones = self.stones[root_of(name)];
+        lift_chain(self.size, points, &self.names, name, stones);
+    }
+
+    /// The colouring after a play by which stones may go.
+    fn points_after_taking(&self, colour: Colour, p: usize) -> Colouring
+        requires on_board { p < point_count self.now.size }
+        requires free { entry_at self.now.points p ≡ None }
+        ensures { result ≡ play_of self.now.size self.now.points colour p }
+    {
+        let look = self.look(colour, p);
+        let mut points = self.points.copy();
+        for name in look.goes.as_slice() {
+            self.lift(*name, &mut points);
+        }
+        if !look.suicide {
+            points.set(p, Some(colour));
+        }
+        points
+    }
+
+    /// The colouring after a play of `colour` on the empty point `p`; no chain is changed for it.
+    pub(crate) fn points_after(&self, colour: Colour, p: usize) -> Colouring
+        requires on_board { p < point_count self.now.size }
+        requires free { entry_at self.now.points p ≡ None }
+        ensures { result ≡ play_of self.now.size self.now.points colour p }
+    {
+        if !self.is_quiet(colour, p) {
+            return self.points_after_taking(colour, p);
+        }
+        let mut points = self.points.copy();
+        points.set(p, Some(colour));
+        points
+    }
+
+    /// Becomes the same as another one.
+    pub(crate) fn set_to(&mut self, other: &Chains)
+        ensures { self.new ≡ other.now }
+    {
+        self.size = other.size;
+        self.points = other.points.copy();
+        self.names = other.names;
+        self.stones = other.stones;
+        self.liberties = other.liberties;
+    }
+
+    /// The same again.
+    pub(crate) fn copy(&self) -> Chains
+        ensures { result ≡ self.now }
+    {
+        Chains {
+            size: self.size,
+            points: self.points.copy(),
+            names: self.names,
+            stones: self.stones,
+            liberties: self.liberties,
         }
     }
 }

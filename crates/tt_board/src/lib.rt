@@ -15,6 +15,7 @@ mod chain;
 mod chains;
 mod clearing;
 mod colouring;
+mod counted;
 mod differences;
 mod fill;
 mod joins;
@@ -22,11 +23,13 @@ pub mod laws;
 mod looks;
 mod names;
 mod near;
+mod quiet;
 mod setup;
 mod stones;
 
 pub use board::{Board, Lifeless, Occupied};
 pub use boards::Boards;
+pub use counted::CountedBoard;
 pub use differences::Differences;
 
 /// The colour of a stone, and of the player who puts it.

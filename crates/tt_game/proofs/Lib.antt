@@ -12,3 +12,4 @@ pub mod OpenProblems
 pub mod SizedProblems
 pub mod RecordLaws
 pub mod RootLemmas
+pub mod PlayedLemmas

@@ -8,7 +8,7 @@ use Rattle.tt_game.specs.declared.line.Undo.{Undo}
 use Rattle.tt_game.specs.declared.line.Undo.TheVariants.{UndoPlay, UndoPass}
 use Rattle.tt_game.specs.Game.{State, history, opponent}
 use Rattle.tt_game.specs.Course.{Course, so_far, colourings, with_play, with_pass}
-use Rattle.tt_game.specs.Undoing.{course_of, state_at, undone, IsUndoable}
+use Rattle.tt_game.specs.Undoing.{course_of, state_at, undone, board_on, IsUndoable}
 use Rattle.tt_game.specs.Roots.{Begins, AreRooted}
 use Rattle.tt_game.proofs.CourseLemmas.{length-colourings, course_from, front_push, last_push, history_is, same_boards, twice}
 
@@ -60,18 +60,23 @@ rooted_play bs c side ps next r =
     (before_play c side next) (begins_on bs (so_far c) (next ∷ []) (rooted_here bs (state_at c side) (reverse ps) r)) r
 
 -- a pass can be undone, and so can what could before it
-pub undoable_pass : (c : Course) (side : Side) (ps : List Undo) → IsUndoable (state_at c side) (reverse ps)
-    → IsUndoable (state_at (with_pass c) (opponent side)) (reverse (ps ++ UndoPass ∷ []))
-undoable_pass c side ps u =
-    subst (λ us. IsUndoable (state_at (with_pass c) (opponent side)) us) (sym (reverse-append ps (UndoPass ∷ [])))
-    (omega arith, subst (λ s. IsUndoable s (reverse ps)) (sym (before_pass c side)) u)
+pub undoable_pass : (g : Size) (c : Course) (side : Side) (ps : List Undo) (below : List Position) → IsUndoable g (state_at c side) (reverse ps) below
+    → IsUndoable g (state_at (with_pass c) (opponent side)) (reverse (ps ++ UndoPass ∷ [])) below
+undoable_pass g c side ps below u =
+    subst (λ us. IsUndoable g (state_at (with_pass c) (opponent side)) us below) (sym (reverse-append ps (UndoPass ∷ [])))
+    (omega arith, subst (λ s. IsUndoable g s (reverse ps) below) (sym (before_pass c side)) u)
 
--- so can a play
-pub undoable_play : (c : Course) (side : Side) (ps : List Undo) (next : Colouring) → c.passes ≤ 2 → IsUndoable (state_at c side) (reverse ps)
-    → IsUndoable (state_at (with_play c next) (opponent side)) (reverse (ps ++ UndoPlay c.passes ∷ []))
-undoable_play c side ps next most u =
-    subst (λ us. IsUndoable (state_at (with_play c next) (opponent side)) us) (sym (reverse-append ps (UndoPlay c.passes ∷ [])))
-    (omega (arith, length_push c.earlier c.present), most, subst (λ s. IsUndoable s (reverse ps)) (sym (before_play c side next)) u)
+-- so can a play, where the board before it is kept
+pub undoable_play : (g : Size) (c : Course) (side : Side) (ps : List Undo) (next : Colouring) (b : Position) (below : List Position) → c.passes ≤ 2
+    → b ≡ board_on g c.present → IsUndoable g (state_at c side) (reverse ps) below
+    → IsUndoable g (state_at (with_play c next) (opponent side)) (reverse (ps ++ UndoPlay c.passes ∷ [])) (b ∷ below)
+undoable_play g c side ps next b below most here u =
+    subst (λ us. IsUndoable g (state_at (with_play c next) (opponent side)) us (b ∷ below)) (sym (reverse-append ps (UndoPlay c.passes ∷ []))) (
+      omega (arith, length_push c.earlier c.present),
+      most,
+      here ∙ ap (board_on g) (sym (last_push c.earlier c.present)),
+      subst (λ s. IsUndoable g s (reverse ps) below) (sym (before_play c side next)) u,
+    )
 
 -- boards that a history begins with and the boards behind them show the history
 pub begun_and_since : (bs there : List Position) → Begins bs (colourings there) → colourings (bs ++ drop (length bs) there) ≡ colourings there

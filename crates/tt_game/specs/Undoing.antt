@@ -1,7 +1,9 @@
 -- What a line keeps, and how it undoes its pushes. For private contracts and for proofs.
-use Rattle.std.specs.Prelude.{◌≡◌, ℕ, ◌-◌, ◌≤◌, List, [], ◌∷◌, length, take, slice_index_or}
+use Rattle.std.specs.Prelude.{◌≡◌, ℕ, ◌-◌, ◌<◌, ◌≤◌, List, [], ◌∷◌, length, take, reverse, slice_index_or}
 use Rattle.tt_sgf.specs.declared.size.Size.{Size}
+use Rattle.tt_board.specs.declared.Colour.{Colour}
 use Rattle.tt_board.specs.Position.{Position, Colouring}
+use Rattle.tt_board.specs.Play.{play_of}
 use Rattle.tt_game.specs.declared.frame.Frame.{Frame}
 use Rattle.tt_game.specs.declared.frame.Side.{Side}
 use Rattle.tt_game.specs.declared.line.Undo.{Undo}
@@ -39,16 +41,36 @@ abbrev pub undone : State → Undo → State
 undone s UndoPass = record { earlier = s.earlier; present = s.present; to_move = opponent s.to_move; passes = s.passes - 1 }
 undone s (UndoPlay n) = record { earlier = front s.earlier; present = last s.earlier; to_move = opponent s.to_move; passes = n }
 
+-- the board of a size that shows a colouring
+abbrev pub board_on : Size → Colouring → Position
+board_on g c = record { size = g; points = c }
+
+-- the present board, and those before the plays that may be undone, the last play first
+pub record Stack : Type 0 where
+  pub present : Position
+  pub below : List Position
+
+-- the stack of a first board and of later ones, the present one in this place
+abbrev pub stack_of : Position → List Position → ℕ → Stack
+stack_of b bs n = record { present = slice_index_or (b ∷ bs) n b; below = reverse (take n (b ∷ bs)) }
+
+-- each of the first so many boards behind the first one is what its play made of the board before it
+abbrev pub AreMade : Position → List Position → List (Colour × ℕ) → ℕ → Type 0
+AreMade b bs plays n = (k : ℕ) (play : Colour × ℕ) → k < n → play ≡ slice_index_or plays k play
+    → slice_index_or bs k b ≡ board_on (slice_index_or (b ∷ bs) k b).size (play_of (slice_index_or (b ∷ bs) k b).size (slice_index_or (b ∷ bs) k b).points play.0 play.1)
+
 -- the states before the pushes, the last push first
 abbrev pub states_before : State → List Undo → List State
 states_before s [] = []
 states_before s (u ∷ us) = undone s u ∷ states_before (undone s u) us
 
--- each push can be undone: a pass was counted, a play left a board and a count
-abbrev pub IsUndoable : State → List Undo → Type 0
-IsUndoable s [] = Unit {0}
-IsUndoable s (UndoPass ∷ us) = (1 ≤ s.passes) × IsUndoable (undone s UndoPass) us
-IsUndoable s (UndoPlay n ∷ us) = (1 ≤ length s.earlier) × (n ≤ 2) × IsUndoable (undone s (UndoPlay n)) us
+-- each push can be undone: a pass was counted, a play left a board and a count, and the board before it is kept
+abbrev pub IsUndoable : Size → State → List Undo → List Position → Type 0
+IsUndoable g s [] bs = Unit {0}
+IsUndoable g s (UndoPass ∷ us) bs = (1 ≤ s.passes) × IsUndoable g (undone s UndoPass) us bs
+IsUndoable g s (UndoPlay n ∷ us) [] = ⊥
+IsUndoable g s (UndoPlay n ∷ us) (b ∷ bs) =
+    (1 ≤ length s.earlier) × (n ≤ 2) × (b ≡ board_on g (last s.earlier)) × IsUndoable g (undone s (UndoPlay n)) us bs
 
 -- what a line shows, from its parts; the pushes are given the last one first
 abbrev pub standing_of : Frame → State → List Undo → Standing

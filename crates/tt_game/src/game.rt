@@ -10,7 +10,7 @@ use crate::line::Line;
 use crate::turns::Turn;
 use std::alloc::Global;
 use std::marker::Model;
-use tt_board::{Board, Colour};
+use tt_board::{Board, Colour, CountedBoard};
 use tt_sgf::{NoMemory, Point, PointSet, Size};
 
 /// A game: its history, who moves, and the passes in a row. Contracts see it as `Played`.
@@ -198,6 +198,7 @@ impl Game {
             targets,
             defender,
         };
-        Line::begin(frame, self.history.without_passes(), to_move)
+        let board = CountedBoard::of(self.present());
+        Line::begin(frame, self.history.without_passes(), to_move, board)
     }
 }

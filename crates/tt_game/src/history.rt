@@ -1,12 +1,15 @@
 //! The course of a game: its boards so far and the passes in a row. Superko stands here, for problems and for records.
 
-ghost use Rattle.std.specs.Prelude.{◌≡◌, ◌≢◌, ◌<◌, ◌≤◌, ◌↔◌, length, All, IsTrue, OnOk, OnErr, IfOk};
+ghost use Rattle.std.specs.Prelude.{◌≡◌, ◌≢◌, ◌<◌, ◌≤◌, ◌↔◌, length, All, IsTrue, OnOk, OnErr, IfOk, Some};
+ghost use Rattle.tt_sgf.specs.Sizes.{point_count};
+ghost use Rattle.tt_board.specs.Position.{Colouring};
+ghost use Rattle.tt_board.specs.Reach.{entry_at};
 ghost use Rattle.tt_game.specs.Course.{HasBeen, colourings};
 
 use std::alloc::Global;
 use std::marker::Model;
-use tt_board::Board;
-use tt_sgf::{NoMemory, Size};
+use tt_board::{Board, Colour};
+use tt_sgf::{NoMemory, Point, Size};
 
 /// The boards of a game so far, the last one present, and how many passes were made in a row since the last play.
 /// Contracts see it as `Course`.
@@ -41,6 +44,19 @@ fn repeats(boards: &[Board], next: &Board) -> bool
 {
     for board in boards {
         if board.same(next) {
+            return true;
+        }
+    }
+    false
+}
+
+/// Whether a stone of this colour stands on `p` on one of the boards.
+fn stood(boards: &[Board], colour: Colour, p: Point) -> bool
+    requires { All (λ b. p < point_count b.size) boards.now }
+    ensures { (c : Colouring) → HasBeen (colourings boards.now) c → entry_at c p ≡ Some colour → IsTrue result }
+{
+    for board in boards {
+        if board.has_stone(colour, p) {
             return true;
         }
     }
@@ -102,6 +118,14 @@ impl History {
     /// Where its memory comes from.
     pub(crate) fn alloc(&self) -> Global {
         self.alloc
+    }
+
+    /// Whether a stone of this colour stood on `p` on some board so far.
+    pub(crate) fn has_stood(&self, colour: Colour, p: Point) -> bool
+        requires { p < point_count self.now.size }
+        ensures { (c : Colouring) → HasBeen (so_far self.now) c → entry_at c p ≡ Some colour → IsTrue result }
+    {
+        stood(&self.boards, colour, p)
     }
 
     /// Whether a board of this size has a colouring of the history.

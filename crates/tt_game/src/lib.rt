@@ -12,6 +12,7 @@ pub mod laws;
 mod line;
 mod nodes;
 mod past;
+mod played;
 mod problems;
 mod records;
 mod root;

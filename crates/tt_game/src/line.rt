@@ -1,6 +1,6 @@
 //! A problem and a game of it (Tromp-Taylor rules with a region and targets): turns are made and undone.
 
-ghost use Rattle.std.specs.Prelude.{◌≡◌, ◌≢◌, ℕ, ◌+◌, ◌-◌, ◌<◌, ◌≤◌, ◌↔◌, ◌∷◌, length, IsTrue, IsSome, MatchOption, Contains, All};
+ghost use Rattle.std.specs.Prelude.{◌≡◌, ◌≢◌, ℕ, ◌+◌, ◌-◌, ◌<◌, ◌≤◌, ◌↔◌, ◌∷◌, length, slice_set, IsTrue, IsSome, MatchOption, Contains, All};
 ghost use Rattle.tt_game.specs.Course.{HasBeen, colourings};
 ghost use Rattle.tt_sgf.specs.Sizes.{point_count};
 
@@ -8,11 +8,12 @@ use crate::faults::{Refused, Why};
 use crate::frame::{Frame, Side};
 use crate::history::History;
 use crate::past::Past;
+use crate::played::Played;
 use crate::root::Root;
 use crate::turns::Turn;
 use std::marker::Model;
 use std::sync::Arc;
-use tt_board::{Board, Colour};
+use tt_board::{Board, Colour, CountedBoard};
 use tt_sgf::{NoMemory, Point};
 
 /// How a push is undone.
@@ -29,6 +30,7 @@ pub struct Line {
     frame: Frame,
     root: Arc<Root>,
     history: History,
+    played: Played,
     to_move: Side,
     pushes: Vec<Undo>,
 }
@@ -39,7 +41,7 @@ impl Model for Line {
     ghost use Rattle.std.specs.Arc.{arc_value};
     ghost use Rattle.tt_game.specs.Line.{Standing, HasTargets};
     ghost use Rattle.tt_game.specs.Roots.{AreRooted};
-    ghost use Rattle.tt_game.specs.Undoing.{standing_of, state_at, IsUndoable};
+    ghost use Rattle.tt_game.specs.Undoing.{standing_of, state_at, board_on, IsUndoable};
     ghost use Rattle.tt_sgf.specs.contracts.sets.PointSet as points;
     ghost use Rattle.std.specs.Coded.{codes};
 
@@ -52,7 +54,8 @@ impl Model for Line {
     ghost invariant = { λ l. record {
       size : l.history.size ≡ l.frame.size;
       targets : HasTargets l.frame;
-      undoable : IsUndoable (state_at l.history l.to_move) (reverse l.pushes.items);
+      board : l.played.present ≡ board_on l.frame.size l.history.present;
+      undoable : IsUndoable l.frame.size (state_at l.history l.to_move) (reverse l.pushes.items) l.played.below;
       same_frame : (arc_value l.root).frame ≡ l.frame;
       rooted : AreRooted (arc_value l.root).begun (state_at l.history l.to_move) (reverse l.pushes.items);
     } };
@@ -64,24 +67,31 @@ impl Line {
     ghost use Rattle.tt_board.specs.Reach.{entry_at};
     ghost use Rattle.std.specs.Prelude.{OnOk, OnErr, IfErr, IfOk};
     ghost use Rattle.tt_game.specs.Line.{HasTargets, IsRefusal, IsRefused, IsPushed};
-    ghost use Rattle.tt_game.specs.Undoing.{IsMoved, state_at};
+    ghost use Rattle.tt_game.specs.Undoing.{IsMoved, state_at, board_on};
     ghost use Rattle.tt_game.specs.Turns.{OnBoard};
     ghost use Rattle.tt_game.specs.declared.turns.Turn.{Turn};
 
-    /// The line that begins with this history, with nothing to undo.
-    pub(crate) fn begin(frame: Frame, history: History, to_move: Side) -> Result<Line, NoMemory>
+    /// The line that begins with this history, whose present board is given with its chains counted, with nothing to undo.
+    pub(crate) fn begin(
+        frame: Frame,
+        history: History,
+        to_move: Side,
+        board: CountedBoard,
+    ) -> Result<Line, NoMemory>
         requires size { history.size ≡ frame.size }
         requires targets { HasTargets frame }
+        requires board { board ≡ board_on frame.size history.present }
         ensures { IfOk result (λ l. l ≡ record { frame = frame; state = state_at history to_move; before = [] }) }
     {
-        let root = Arc::new(history.alloc(), Root::of(&frame, &history)?)?;
-        let pushes = Vec::new(history.alloc());
+        let alloc = history.alloc();
+        let root = Arc::new(alloc, Root::of(&frame, &history)?)?;
         Ok(Line {
             frame,
             root,
             history,
+            played: Played::of(alloc, board)?,
             to_move,
-            pushes,
+            pushes: Vec::new(alloc),
         })
     }
 
@@ -131,10 +141,19 @@ impl Line {
         requires free { entry_at self.now.state.present p ≡ None }
         ensures { result ≡ record { size = self.now.frame.size; points = made self.now.frame self.now.state p } }
     {
-        let Ok(next) = self.present().play(self.mover(), p) else {
-            unreachable!();
-        };
-        next
+        self.played.present().after(self.mover(), p)
+    }
+
+    /// Whether a play of the side to move on an empty point is known to take nothing off and to make a colouring that hasn't been:
+    /// on no board so far a stone of its colour stood there.
+    pub(crate) fn is_new(&self, p: Point) -> bool
+        requires on_board { p < point_count self.now.frame.size }
+        requires free { entry_at self.now.state.present p ≡ None }
+        ensures { IsTrue result → (HasBeen (history self.now.state) (made self.now.frame self.now.state p) → ⊥)
+            × (made self.now.frame self.now.state p ≡ slice_set self.now.state.present p (Some (colour_of self.now.frame self.now.state.to_move))) }
+    {
+        let colour = self.mover();
+        self.played.present().is_quiet(colour, p) && !self.history.has_stood(colour, p)
     }
 
     /// Whether a board of the line's size has a colouring that has been.
@@ -145,26 +164,25 @@ impl Line {
         self.history.has_been(next)
     }
 
-    /// The board that a play of the side to move makes, or why the play is refused. Only a play on an empty point of
-    /// the region is made.
-    pub(crate) fn made(&self, p: Point) -> Result<Board, Why>
+    /// Why a play of the side to move is refused, or none where it is legal.
+    pub(crate) fn why_not(&self, p: Point) -> Option<Why>
         requires on_board { p < point_count self.now.frame.size }
         requires open { winner_of self.now.frame self.now.state ≡ None }
-        ensures { MatchResult result
-            (λ b. IsLegal self.now.frame self.now.state (Turn.Play p) × (b ≡ record { size = self.now.frame.size; points = made self.now.frame self.now.state p }))
-            (λ why. IsRefusal self.now.frame self.now.state (Turn.Play p) why) }
+        ensures { MatchOption result (IsLegal self.now.frame self.now.state (Turn.Play p)) (IsRefusal self.now.frame self.now.state (Turn.Play p)) }
     {
         if self.present().at(p).is_some() {
-            return Err(Why::Occupied);
+            return Some(Why::Occupied);
         }
         if !self.frame.region.has(p) {
-            return Err(Why::Outside);
+            return Some(Why::Outside);
         }
-        let next = self.board_after(p);
-        if self.has_been(&next) {
-            return Err(Why::Repeats);
+        if self.is_new(p) {
+            return None;
         }
-        Ok(next)
+        if self.has_been(&self.board_after(p)) {
+            return Some(Why::Repeats);
+        }
+        None
     }
 
     /// The board that a play of the side to move on an empty point of the region makes, where the line's history has its
@@ -198,7 +216,7 @@ impl Line {
         }
         match t {
             Turn::Pass => None,
-            Turn::Play(p) => self.made(p).err(),
+            Turn::Play(p) => self.why_not(p),
         }
     }
 
@@ -214,15 +232,22 @@ impl Line {
         Ok(())
     }
 
-    /// Adds the board that a play made; the line is unchanged where memory is refused.
-    fn push_board(&mut self, next: Board) -> Result<(), NoMemory>
-        requires { next.size ≡ self.old.frame.size }
-        ensures ok { OnOk result
-            (IsMoved self.old self.new next.points) }
+    /// Adds a play on an empty point; the line is unchanged where memory is refused.
+    fn push_made(&mut self, p: Point) -> Result<(), NoMemory>
+        requires on_board { p < point_count self.old.frame.size }
+        requires free { entry_at self.old.state.present p ≡ None }
+        ensures ok { OnOk result (IsMoved self.old self.new (made self.old.frame self.old.state p)) }
         ensures err { OnErr result (self.new ≡ self.old) }
     {
+        let colour = self.mover();
         self.pushes.push(Undo::UndoPlay(self.history.passes()))?;
+        if let Err(error) = self.played.push(colour, p) {
+            self.pushes.pop();
+            return Err(error);
+        }
+        let next = self.played.present().board();
         if let Err(error) = self.history.push(next) {
+            self.played.pop();
             self.pushes.pop();
             return Err(error);
         }
@@ -238,11 +263,10 @@ impl Line {
         ensures err { OnErr result (self.new ≡ self.old) }
         ensures why { IfErr result (λ e. IsRefused self.old.frame self.old.state (Turn.Play p) e) }
     {
-        let next = match self.made(p) {
-            Err(why) => return Err(Refused::Illegal(why)),
-            Ok(next) => next,
-        };
-        if self.push_board(next).is_err() {
+        if let Some(why) = self.why_not(p) {
+            return Err(Refused::Illegal(why));
+        }
+        if self.push_made(p).is_err() {
             return Err(Refused::NoMemory);
         }
         Ok(())
@@ -278,10 +302,7 @@ impl Line {
         ensures err { OnErr result (self.new ≡ self.old) }
     {
         match t {
-            Turn::Play(p) => {
-                let next = self.board_after(p);
-                self.push_board(next)?;
-            }
+            Turn::Play(p) => self.push_made(p)?,
             Turn::Pass => self.push_pass()?,
         }
         Ok(())
@@ -297,7 +318,10 @@ impl Line {
         self.to_move = self.to_move.opponent();
         match self.pushes.pop() {
             Some(Undo::UndoPass) => self.history.undo_pass(),
-            Some(Undo::UndoPlay(passes)) => self.history.undo_play(passes),
+            Some(Undo::UndoPlay(passes)) => {
+                self.history.undo_play(passes);
+                self.played.pop();
+            }
             None => unreachable!(),
         }
     }
@@ -332,13 +356,14 @@ impl Line {
         ensures { IfOk result (λ l. l ≡ record { frame = self.now.frame; state = self.now.state; before = [] }) }
     {
         let history = self.history.copy()?;
-        let pushes = Vec::new(history.alloc());
+        let alloc = history.alloc();
         Ok(Line {
             frame: self.frame.copy(),
             root: Arc::try_clone(&self.root)?,
             history,
+            played: self.played.again(alloc)?,
             to_move: self.to_move,
-            pushes,
+            pushes: Vec::new(alloc),
         })
     }
 }

@@ -66,6 +66,12 @@ impl Line {
         if self.present().at(p).is_some() {
             return None;
         }
+        if self.is_new(p) {
+            return Some(Successor {
+                turn: Turn::Play(p),
+                winner: None,
+            });
+        }
         let next = self.board_after(p);
         if self.has_been(&next) {
             return None;

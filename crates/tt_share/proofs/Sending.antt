@@ -21,11 +21,13 @@ use Rattle.std.specs.contracts.sync.Arc as Arc
 use Rattle.atomic_table.specs.contracts.shared.Seat as TableSeat
 use Rattle.atomic_table.proofs.Sent.{seat_keyless}
 use Rattle.tt_board.specs.contracts.board.Board as Board
+use Rattle.tt_board.specs.contracts.counted.CountedBoard as CountedBoard
 use Rattle.tt_game.specs.contracts.frame.Side as Side
 use Rattle.tt_game.specs.contracts.history.History as History
 use Rattle.tt_game.specs.contracts.line.Line as Line
 use Rattle.tt_game.specs.contracts.root.Root as Root
 use Rattle.tt_game.specs.contracts.past.Past as Past
+use Rattle.tt_game.specs.contracts.played.Played as Played
 use Rattle.tt_proof.specs.contracts.tree.Tree as Tree
 use Rattle.tt_proof.specs.contracts.tree.Tree.TheKnot as TreeKnot
 use Rattle.tt_proof.specs.contracts.plan.Plan as Plan
@@ -72,8 +74,21 @@ rooted_send = search (sendable, crosses, root_send, root_sync) depth 40
 history_send : IsSend History.the_row
 history_send = search (sendable, crosses) depth 40
 
+counted_send : IsSend CountedBoard.the_row
+counted_send = search (sendable, crosses) depth 40
+
+counted_sync : IsSync CountedBoard.the_row
+counted_sync = search (sendable, crosses) depth 40
+
+-- the board that a line begins with is held through a handle
+first_send : IsSend (Arc.the_row CountedBoard.the_row Global.the_row ghosts)
+first_send = search (sendable, crosses, counted_send, counted_sync) depth 40
+
+played_send : IsSend Played.the_row
+played_send = search (sendable, crosses, first_send) depth 40
+
 line_send : IsSend Line.the_row
-line_send = search (sendable, crosses, history_send, rooted_send) depth 40 fits 10000
+line_send = search (sendable, crosses, history_send, rooted_send, played_send) depth 40 fits 10000
 
 past_send : IsSend Past.the_row
 past_send = search (sendable, crosses, root_send, root_sync) depth 40

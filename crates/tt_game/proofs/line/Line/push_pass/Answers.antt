@@ -20,7 +20,8 @@ invariant_of-self-2 c =
     record {
       size = search rules;
       targets = c.self.invariant.targets;
-      undoable = rw (pushed, passed, turned) (undoable_pass i.history i.to_move i.pushes.items c.self.invariant.undoable);
+      board = rw passed c.self.invariant.board;
+      undoable = rw (pushed, passed, turned) (undoable_pass i.frame.size i.history i.to_move i.pushes.items i.played.below c.self.invariant.undoable);
       same_frame = c.self.invariant.same_frame;
       rooted = rooted;
     }

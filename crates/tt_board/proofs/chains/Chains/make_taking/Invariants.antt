@@ -1,6 +1,6 @@
 use Rattle.std.proofs.Common.{◌≡◌}
 use Rattle.tt_board.proofs.MakeLemmas.{Taking}
-use Rattle.tt_board.proofs.chains.Chains.make.Given as goal
+use Rattle.tt_board.proofs.chains.Chains.make_taking.Given as goal
 
 abbrev pub invariant-loop-name : goal.invariant-loop-name
 invariant-loop-name l = record {

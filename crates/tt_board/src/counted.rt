@@ -1,0 +1,108 @@
+//! The board on which one plays: it has its chains counted, so a play takes no fill and no walk.
+//!
+//! It has some two thousand bytes and a `Board` a hundred, so a history keeps that.
+
+ghost use Rattle.std.specs.Prelude.{◌≡◌, ◌<◌, length, slice_set, IsTrue, Some, None};
+ghost use Rattle.tt_sgf.specs.Sizes.{point_count};
+ghost use Rattle.tt_board.specs.Reach.{entry_at};
+ghost use Rattle.tt_board.specs.Play.{play_of};
+
+use super::Colour;
+use super::board::Board;
+use super::chains::Chains;
+use std::marker::Model;
+use tt_sgf::{Point, Size};
+
+/// A board with its chains counted. Contracts see the board that it is.
+#[derive(Drop)]
+pub struct CountedBoard {
+    chains: Chains,
+}
+
+impl Model for CountedBoard {
+    ghost use Rattle.tt_board.specs.Position.{Position};
+
+    ghost Value = { Position };
+
+    ghost view = { λ b. record { size = b.chains.size; points = b.chains.points } };
+}
+
+impl CountedBoard {
+    /// The same board with its chains counted.
+    pub fn of(board: &Board) -> CountedBoard
+        ensures { result ≡ board.now }
+    {
+        CountedBoard {
+            chains: Chains::of(board.size(), board.points()),
+        }
+    }
+
+    /// The same board again.
+    pub fn copy(&self) -> CountedBoard
+        ensures { result ≡ self.now }
+    {
+        CountedBoard {
+            chains: self.chains.copy(),
+        }
+    }
+
+    /// The chains.
+    #[cfg(test)]
+    pub(crate) fn chains(&self) -> &Chains {
+        &self.chains
+    }
+
+    /// The size.
+    pub fn size(&self) -> Size
+        ensures { result ≡ self.now.size }
+    {
+        self.chains.size()
+    }
+
+    /// The plain board that it is.
+    pub fn board(&self) -> Board
+        ensures { result ≡ self.now }
+    {
+        Board::showing(self.chains.size(), self.chains.points().copy())
+    }
+
+    /// Whether a play of `colour` on `p`, an empty point, is known to put a stone and to take none off.
+    pub fn is_quiet(&self, colour: Colour, p: Point) -> bool
+        requires on_board { p < point_count self.now.size }
+        requires free { entry_at self.now.points p ≡ None }
+        ensures fits { length self.now.points ≡ point_count self.now.size }
+        ensures put { IsTrue result → play_of self.now.size self.now.points colour p ≡ slice_set self.now.points p (Some colour) }
+    {
+        self.chains.is_quiet(colour, usize::from(p.number()))
+    }
+
+    /// The board after a play of `colour` on `p`, an empty point: the stone is put, then the other colour is cleared, then
+    /// `colour` (the Tromp-Taylor rules of Go). This one stays as it is.
+    pub fn after(&self, colour: Colour, p: Point) -> Board
+        requires on_board { p < point_count self.now.size }
+        requires free { entry_at self.now.points p ≡ None }
+        ensures { result ≡ record { size = self.now.size; points = play_of self.now.size self.now.points colour p } }
+    {
+        let points = self.chains.points_after(colour, usize::from(p.number()));
+        Board::showing(self.chains.size(), points)
+    }
+
+    /// Plays `colour` on `p`, an empty point.
+    pub fn play(&mut self, colour: Colour, p: Point)
+        requires on_board { p < point_count self.old.size }
+        requires free { entry_at self.old.points p ≡ None }
+        ensures { self.new ≡ record { size = self.old.size; points = play_of self.old.size self.old.points colour p } }
+    {
+        self.chains.make(colour, usize::from(p.number()));
+    }
+
+    /// Becomes what another board is after a play of `colour` on `p`, an empty point of that one.
+    pub fn become_after(&mut self, other: &CountedBoard, colour: Colour, p: Point)
+        requires on_board { p < point_count other.now.size }
+        requires free { entry_at other.now.points p ≡ None }
+        ensures { self.new ≡ record { size = other.now.size; points = play_of other.now.size other.now.points colour p } }
+    {
+        self.chains.set_to(&other.chains);
+        self.play(colour, p);
+    }
+}

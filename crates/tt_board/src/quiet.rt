@@ -1,0 +1,108 @@
+//! Plays by which nothing goes: four names are looked at, and the counts of their chains.
+
+ghost use Rattle.std.specs.Prelude.{◌≡◌, ◌≢◌, ℕ, ◌/◌, ◌<◌, ◌≤◌, ◌⊎◌, ◌↔◌, length, IsTrue, Some, MatchOption, false};
+ghost use Rattle.tt_sgf.specs.Sizes.{point_count};
+ghost use Rattle.tt_board.specs.declared.quiet.TheConstants.{NOWHERE};
+ghost use Rattle.tt_board.specs.Chains.{name_at, root_of, code_of, Touches, IsOneName};
+
+use super::Colour;
+use super::names::root_of;
+use super::near::beside;
+use tt_sgf::Size;
+
+/// In the place of a name where the board has no place. No chain has it.
+pub(crate) const NOWHERE: u16 = 1536;
+
+/// The names on the four places beside a point; `NOWHERE` where the board has no such place.
+#[derive(Clone, Copy)]
+pub(crate) struct Names {
+    pub(crate) above: u16,
+    pub(crate) left: u16,
+    pub(crate) right: u16,
+    pub(crate) below: u16,
+}
+
+/// A colour as part of a name.
+#[inline]
+pub(crate) fn code_of(colour: Colour) -> u16
+    ensures { result ≡ code_of colour }
+{
+    match colour {
+        Colour::Black => 1,
+        Colour::White => 2,
+    }
+}
+
+/// The name on a place; `NOWHERE` for no place.
+#[inline]
+fn name_there(names: &[u16], place: Option<usize>) -> u16
+    requires { (q : ℕ) → place ≡ Some q → q < length names.now }
+    ensures { MatchOption place (result ≡ NOWHERE) (λ q. result ≡ name_at names.now q) }
+{
+    match place {
+        Some(q) => names[q],
+        None => NOWHERE,
+    }
+}
+
+/// The names beside `p`.
+#[inline]
+pub(crate) fn names_beside(size: Size, names: &[u16], p: usize) -> Names
+    requires wide { point_count size ≤ length names.now }
+    requires on_board { p < point_count size }
+    ensures { (m : ℕ) → m ≢ NOWHERE → IsOneName result.above result.left result.right result.below m ↔ Touches size names.now m p }
+{
+    let near = beside(size, p);
+    Names {
+        above: name_there(names, near.above),
+        left: name_there(names, near.left),
+        right: name_there(names, near.right),
+        below: name_there(names, near.below),
+    }
+}
+
+/// Whether the name is of a chain of the colour of this code, with one liberty.
+#[inline]
+fn is_last(liberties: &[u16], name: u16, code: u16) -> bool
+    requires { root_of name < length liberties.now }
+    ensures { IsTrue result ↔ ((name / 512 ≡ code) × (name_at liberties.now (root_of name) ≡ 1)) }
+{
+    name / 512 == code && liberties[root_of(name)] == 1
+}
+
+/// Whether the name is that of an empty place, or of a chain of the colour of this code, with another number of liberties than one.
+#[inline]
+fn is_open(liberties: &[u16], name: u16, code: u16) -> bool
+    requires { root_of name < length liberties.now }
+    ensures { IsTrue result ↔ ((name ≡ 0) ⊎ ((name / 512 ≡ code) × (name_at liberties.now (root_of name) ≢ 1))) }
+{
+    name == 0 || (name / 512 == code && liberties[root_of(name)] != 1)
+}
+
+impl Names {
+    /// Whether a chain of the colour of this code has one liberty.
+    #[inline]
+    pub(crate) fn has_last(self, liberties: &[u16], code: u16) -> bool
+        requires { (m : ℕ) → IsOneName self.above self.left self.right self.below m → root_of m < length liberties.now }
+        ensures { result ≡ false → (m : ℕ) → IsOneName self.above self.left self.right self.below m → m / 512 ≡ code
+            → name_at liberties.now (root_of m) ≢ 1 }
+    {
+        is_last(liberties, self.above, code)
+            || is_last(liberties, self.left, code)
+            || is_last(liberties, self.right, code)
+            || is_last(liberties, self.below, code)
+    }
+
+    /// Whether a place is empty, or a chain of the colour of this code has not one liberty.
+    #[inline]
+    pub(crate) fn has_open(self, liberties: &[u16], code: u16) -> bool
+        requires { (m : ℕ) → IsOneName self.above self.left self.right self.below m → root_of m < length liberties.now }
+        ensures { IsTrue result → (m : ℕ) × IsOneName self.above self.left self.right self.below m
+            × ((m ≡ 0) ⊎ ((m / 512 ≡ code) × (name_at liberties.now (root_of m) ≢ 1))) }
+    {
+        is_open(liberties, self.above, code)
+            || is_open(liberties, self.left, code)
+            || is_open(liberties, self.right, code)
+            || is_open(liberties, self.below, code)
+    }
+}
