@@ -63,7 +63,7 @@ code_colour (Some Black) n White h code = absurd (omega arith)
 code_colour (Some White) n Black h code = absurd (omega arith)
 
 -- and a stone of a colour has that colour in its name
-colour_code : (e : Option Colour) (n : ℕ) (k : Colour) → IsNamed e n → e ≡ Some k → n / 512 ≡ code_of k
+pub colour_code : (e : Option Colour) (n : ℕ) (k : Colour) → IsNamed e n → e ≡ Some k → n / 512 ≡ code_of k
 colour_code e n k h is = subst (λ x. IsNamed x n) is h
 
 -- a colouring in which some places are bare
@@ -161,23 +161,9 @@ module _ (b : ChainBoard) (k : Colour) (p : ℕ) (is : IsChainBoard b) (in_p : p
   counted_at : (m x : ℕ) → m ≢ 0 → name_at b.names x ≡ m → name_at b.liberties (root_of m) ≡ liberty_count b.size b.names m
   counted_at m x some of = subst (λ y. name_at b.liberties (root_of y) ≡ liberty_count b.size b.names y) of (is.counted.liberties_true x (λ z. some (sym of ∙ z)))
 
-  -- where no chain of the opponent's beside p has one liberty, and a point beside p is empty or an own chain there has several, the stone
-  -- is put and nothing goes
-  module _ (strong : (m : ℕ) → Touches b.size b.names m p → m / 512 ≡ code_of (other k) → name_at b.liberties (root_of m) ≢ 1)
-      (n : ℕ) (t : Touches b.size b.names n p) (way : (n ≡ 0) ⊎ ((n / 512 ≡ code_of k) × (name_at b.liberties (root_of n) ≢ 1))) where
-    -- the stone reaches empty by that point or chain
-    own_reaches : Reaches b.size (set b.points p (Some k)) p None
-    own_reaches = elim way [
-      | inl zero ↦ reaches_beside b.size (set b.points p (Some k)) None p t.0 (λ none. none-some k (sym none ∙ here)) t.2.0
-          (off t.0 (near_other b.size p t.0 t.2.0) ∙ bare_named _ _ (is.named.named t.0) (t.2.1 ∙ zero))
-      | inr h ↦
-          let mine : entry_at b.points t.0 ≡ Some k = code_colour _ _ k (is.named.named t.0) (ap (λ x. x / 512) t.2.1 ∙ h.0) in
-          let some : n ≢ 0 = λ z. named_stone _ _ (is.named.named t.0) (λ bare. none-some k (sym bare ∙ mine)) (t.2.1 ∙ z) in
-          reaches_on b.size (set b.points p (Some k)) None p t.0 t.2.0 (off t.0 (near_other b.size p t.0 t.2.0) ∙ mine ∙ sym here)
-          (more_liberties n t.0 t (λ e. h.1 (counted_at n t.0 some t.2.1 ∙ e)) some t.2.1)
-    ]
-
-    -- and so does each of the opponent's beside it
+  -- where no chain of the opponent's beside p has one liberty
+  module _ (strong : (m : ℕ) → Touches b.size b.names m p → m / 512 ≡ code_of (other k) → name_at b.liberties (root_of m) ≢ 1) where
+    -- each of the opponent's stones beside p reaches empty with the stone put
     theirs_reach : (q : ℕ) → IsNeighbour b.size p q → entry_at (set b.points p (Some k)) q ≡ Some (other k) → Reaches b.size (set b.points p (Some k)) q None
     theirs_reach q near' theirs =
         let apart = near_other b.size p q near' in
@@ -187,12 +173,44 @@ module _ (b : ChainBoard) (k : Colour) (p : ℕ) (is : IsChainBoard b) (in_p : p
         let touch : Touches b.size b.names m p = (q, near'.0, (near', refl)) in
         more_liberties m q touch (λ e. strong m touch (colour_code _ _ (other k) (is.named.named q) mine) (counted_at m q some refl ∙ e)) some refl
 
-    pub put_quiet : play_of b.size b.points k p ≡ set b.points p (Some k)
-    put_quiet =
-        let fits = length-set b.points p (Some k) ∙ is.fits in
-        sym (play_is b.size b.points k p is.fits in_p is.alive free (set b.points p (Some k)) (set b.points p (Some k))
-        (lifted_none b.size (set b.points p (Some k)) (other k) fits) (λ q near' theirs. inl (theirs_reach q near' theirs))
-        (lifted_none b.size (set b.points p (Some k)) k fits) (λ _. inl own_reaches))
+    -- and a point beside p is empty or an own chain there has several: the stone is put and nothing goes
+    module _ (n : ℕ) (t : Touches b.size b.names n p) (way : (n ≡ 0) ⊎ ((n / 512 ≡ code_of k) × (name_at b.liberties (root_of n) ≢ 1))) where
+      -- the stone reaches empty by that point or chain
+      own_reaches : Reaches b.size (set b.points p (Some k)) p None
+      own_reaches = elim way [
+        | inl zero ↦ reaches_beside b.size (set b.points p (Some k)) None p t.0 (λ none. none-some k (sym none ∙ here)) t.2.0
+            (off t.0 (near_other b.size p t.0 t.2.0) ∙ bare_named _ _ (is.named.named t.0) (t.2.1 ∙ zero))
+        | inr h ↦
+            let mine : entry_at b.points t.0 ≡ Some k = code_colour _ _ k (is.named.named t.0) (ap (λ x. x / 512) t.2.1 ∙ h.0) in
+            let some : n ≢ 0 = λ z. named_stone _ _ (is.named.named t.0) (λ bare. none-some k (sym bare ∙ mine)) (t.2.1 ∙ z) in
+            reaches_on b.size (set b.points p (Some k)) None p t.0 t.2.0 (off t.0 (near_other b.size p t.0 t.2.0) ∙ mine ∙ sym here)
+            (more_liberties n t.0 t (λ e. h.1 (counted_at n t.0 some t.2.1 ∙ e)) some t.2.1)
+      ]
+
+      pub put_quiet : play_of b.size b.points k p ≡ set b.points p (Some k)
+      put_quiet =
+          let fits = length-set b.points p (Some k) ∙ is.fits in
+          sym (play_is b.size b.points k p is.fits in_p is.alive free (set b.points p (Some k)) (set b.points p (Some k))
+          (lifted_none b.size (set b.points p (Some k)) (other k) fits) (λ q near' theirs. inl (theirs_reach q near' theirs))
+          (lifted_none b.size (set b.points p (Some k)) k fits) (λ _. inl own_reaches))
+
+    -- and only stones of the opponent's are beside p: the stone goes at once, alone
+    pub put_vain : ((q : ℕ) → IsNeighbour b.size p q → (entry_at b.points q ≢ None) × (entry_at b.points q ≢ Some k)) → play_of b.size b.points k p ≡ b.points
+    put_vain closed =
+        let put = set b.points p (Some k) in
+        let alone : IsLifted b.size put k b.points = lifted_set b.size put b.points k (λ q. q ≡ p) is.fits
+        (λ q. elim (cases_eq q p) [
+          | inl same ↦ inr (same, ap (entry_at b.points) same ∙ free)
+          | inr apart ↦ inl (sym (off q apart))
+        ])
+        (λ q same. (ap (entry_at b.points) same ∙ free, ap (entry_at put) same ∙ here, subst (λ x. x < point_count b.size) (sym same) in_p))
+        (λ x q same near'.
+        let n = subst (λ y. IsNeighbour b.size y q) same near' in
+        let apart = near_other b.size p q n in
+        let h = closed q n in
+        ((λ none. h.0 (sym (off q apart) ∙ none)), (λ mine. absurd (h.1 (sym (off q apart) ∙ mine))))) in
+        sym (play_is b.size b.points k p is.fits in_p is.alive free put b.points
+        (lifted_none b.size put (other k) (length-set b.points p (Some k) ∙ is.fits)) (λ q near' theirs. inl (theirs_reach q near' theirs)) alone (λ _. inr free))
 
   module _ (near weak : List ℕ) (all : (m : ℕ) → Contains near m ↔ ((m ≢ 0) × (m ≢ 0) × Touches b.size b.names m p))
       (last : (m : ℕ) → Contains weak m ↔ (Contains near m × (m / 512 ≡ code_of (other k)) × (name_at b.liberties (root_of m) ≡ 1))) where

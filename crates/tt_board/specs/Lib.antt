@@ -7,6 +7,7 @@ pub mod Fill
 pub mod ReachLaws
 pub mod Decided
 pub mod Play
+pub mod Glance
 pub mod Stones
 pub mod Differences
 pub mod Laws

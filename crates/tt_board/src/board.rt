@@ -101,7 +101,7 @@ impl Board {
     }
 
     /// The stones of a colour as bits, in place.
-    pub(crate) fn bits(&self, colour: Colour) -> &Bits
+    pub fn bits(&self, colour: Colour) -> &Bits
         ensures { AreBitsOf result.now.words (point_count self.now.size) (λ p. is_stone_of (entry_at self.now.points p) colour) }
     {
         self.points.bits(colour)

@@ -6,6 +6,7 @@ ghost use Rattle.std.specs.Prelude.{◌≡◌, ◌≢◌, ℕ, ◌/◌, ◌<◌,
 ghost use Rattle.tt_sgf.specs.Sizes.{point_count};
 ghost use Rattle.tt_board.specs.Reach.{entry_at};
 ghost use Rattle.tt_board.specs.Play.{IsAlive, play_of};
+ghost use Rattle.tt_board.specs.Glance.{IsTold};
 ghost use Rattle.tt_board.specs.Chains.{name_at, root_of, code_of, renamed, IsEachOnce, IsCountOf, IsLibertyOf, AreLinked};
 
 use super::Colour;
@@ -14,7 +15,7 @@ use super::colouring::Colouring;
 use super::joins::{join_beside, start};
 use super::looks::{Look, has_more, last_liberty};
 use super::names::{chains_beside, empty_beside, root_of};
-use super::quiet::{code_of, names_beside};
+use super::quiet::{Glance, code_of, names_beside};
 use std::marker::Model;
 use tt_sgf::Size;
 
@@ -178,19 +179,39 @@ impl Chains {
         made
     }
 
-    /// Whether a play of `colour` on the empty point `p` is known to take no stone off: no chain of the opponent's has `p` as its one
-    /// liberty, and the stone has one or joins a chain that has.
-    pub(crate) fn is_quiet(&self, colour: Colour, p: usize) -> bool
+    /// What four names tell of a play of `colour` on the empty point `p`, where no chain of the opponent's has `p` as its one liberty.
+    /// It takes no stone off where the stone has a liberty or joins a chain that has another one, and it is in vain where the opponent's
+    /// stones are all that is beside `p`.
+    pub(crate) fn glance(&self, colour: Colour, p: usize) -> Glance
+        requires on_board { p < point_count self.now.size }
+        requires free { entry_at self.now.points p ≡ None }
+        ensures fits { length self.now.points ≡ point_count self.now.size }
+        ensures told { IsTold result self.now.size self.now.points colour p }
+    {
+        let near = names_beside(self.size, &self.names, p);
+        if near.has_last(&self.liberties, code_of(colour.other())) {
+            return Glance::Unclear;
+        }
+        if near.has_open(&self.liberties, code_of(colour)) {
+            return Glance::Quiet;
+        }
+        if near.has_own(code_of(colour)) {
+            return Glance::Unclear;
+        }
+        Glance::Vain
+    }
+
+    /// Whether a play of `colour` on the empty point `p` is known to put a stone and to take none off.
+    fn is_quiet(&self, colour: Colour, p: usize) -> bool
         requires on_board { p < point_count self.now.size }
         requires free { entry_at self.now.points p ≡ None }
         ensures fits { length self.now.points ≡ point_count self.now.size }
         ensures put { IsTrue result → play_of self.now.size self.now.points colour p ≡ slice_set self.now.points p (Some colour) }
     {
-        let near = names_beside(self.size, &self.names, p);
-        if near.has_last(&self.liberties, code_of(colour.other())) {
-            return false;
+        match self.glance(colour, p) {
+            Glance::Quiet => true,
+            Glance::Vain | Glance::Unclear => false,
         }
-        near.has_open(&self.liberties, code_of(colour))
     }
 
     /// What a play of `colour` on the empty point `p` does (the Tromp-Taylor rules of Go).

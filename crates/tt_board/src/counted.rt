@@ -6,10 +6,12 @@ ghost use Rattle.std.specs.Prelude.{◌≡◌, ◌<◌, length, slice_set, IsTru
 ghost use Rattle.tt_sgf.specs.Sizes.{point_count};
 ghost use Rattle.tt_board.specs.Reach.{entry_at};
 ghost use Rattle.tt_board.specs.Play.{play_of};
+ghost use Rattle.tt_board.specs.Glance.{IsTold};
 
 use super::Colour;
 use super::board::Board;
 use super::chains::Chains;
+use super::quiet::Glance;
 use std::marker::Model;
 use tt_sgf::{Point, Size};
 
@@ -66,14 +68,14 @@ impl CountedBoard {
         Board::showing(self.chains.size(), self.chains.points().copy())
     }
 
-    /// Whether a play of `colour` on `p`, an empty point, is known to put a stone and to take none off.
-    pub fn is_quiet(&self, colour: Colour, p: Point) -> bool
+    /// What is told of a play of `colour` on `p`, an empty point, by the points beside it.
+    pub fn glance(&self, colour: Colour, p: Point) -> Glance
         requires on_board { p < point_count self.now.size }
         requires free { entry_at self.now.points p ≡ None }
         ensures fits { length self.now.points ≡ point_count self.now.size }
-        ensures put { IsTrue result → play_of self.now.size self.now.points colour p ≡ slice_set self.now.points p (Some colour) }
+        ensures told { IsTold result self.now.size self.now.points colour p }
     {
-        self.chains.is_quiet(colour, usize::from(p.number()))
+        self.chains.glance(colour, usize::from(p.number()))
     }
 
     /// The board after a play of `colour` on `p`, an empty point: the stone is put, then the other colour is cleared, then

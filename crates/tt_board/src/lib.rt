@@ -31,6 +31,7 @@ pub use board::{Board, Lifeless, Occupied};
 pub use boards::Boards;
 pub use counted::CountedBoard;
 pub use differences::Differences;
+pub use quiet::Glance;
 
 /// The colour of a stone, and of the player who puts it.
 #[derive(Clone, Copy, PartialEq, Eq, Hash)]

@@ -1,4 +1,4 @@
-//! Plays by which nothing goes: four names are looked at, and the counts of their chains.
+//! Plays that are told by four names and the counts of their chains: those by which nothing goes, and those that change nothing.
 
 ghost use Rattle.std.specs.Prelude.{◌≡◌, ◌≢◌, ℕ, ◌/◌, ◌<◌, ◌≤◌, ◌⊎◌, ◌↔◌, length, IsTrue, Some, MatchOption, false};
 ghost use Rattle.tt_sgf.specs.Sizes.{point_count};
@@ -9,6 +9,17 @@ use super::Colour;
 use super::names::root_of;
 use super::near::beside;
 use tt_sgf::Size;
+
+/// What a glance at the points beside an empty point tells of a play there.
+#[derive(Clone, Copy, PartialEq, Eq)]
+pub enum Glance {
+    /// The stone is put, and no stone goes.
+    Quiet,
+    /// The stone goes at once and alone, so that the colouring stays.
+    Vain,
+    /// More has to be looked at.
+    Unclear,
+}
 
 /// In the place of a name where the board has no place. No chain has it.
 pub(crate) const NOWHERE: u16 = 1536;
@@ -97,12 +108,24 @@ impl Names {
     #[inline]
     pub(crate) fn has_open(self, liberties: &[u16], code: u16) -> bool
         requires { (m : ℕ) → IsOneName self.above self.left self.right self.below m → root_of m < length liberties.now }
-        ensures { IsTrue result → (m : ℕ) × IsOneName self.above self.left self.right self.below m
+        ensures some { IsTrue result → (m : ℕ) × IsOneName self.above self.left self.right self.below m
             × ((m ≡ 0) ⊎ ((m / 512 ≡ code) × (name_at liberties.now (root_of m) ≢ 1))) }
+        ensures none { result ≡ false → (m : ℕ) → IsOneName self.above self.left self.right self.below m → m ≢ 0 }
     {
         is_open(liberties, self.above, code)
             || is_open(liberties, self.left, code)
             || is_open(liberties, self.right, code)
             || is_open(liberties, self.below, code)
+    }
+
+    /// Whether one is of a chain of the colour of this code.
+    #[inline]
+    pub(crate) fn has_own(self, code: u16) -> bool
+        ensures { result ≡ false → (m : ℕ) → IsOneName self.above self.left self.right self.below m → m / 512 ≢ code }
+    {
+        self.above / 512 == code
+            || self.left / 512 == code
+            || self.right / 512 == code
+            || self.below / 512 == code
     }
 }
