@@ -1,7 +1,7 @@
 -- Courses and the boards that show them.
 use Rattle.tt_sgf.specs.declared.size.Size.{Size}
-use Rattle.std.proofs.Common.{◌≡◌, ℕ, ◌+◌, ◌-◌, ◌<◌, List, [], ◌∷◌, ◌++◌, length, take, get_or, All, drop, suc, refl, sym, ap, ◌∙◌, arith}
-use Rattle.std.proofs.lemmas.List.{length-map, take_more, take_all, take_at, get_or_push, length_push}
+use Rattle.std.proofs.Common.{◌≡◌, ℕ, ◌+◌, ◌-◌, ◌<◌, List, [], ◌∷◌, ◌++◌, length, take, get_or, All, Contains, drop, suc, refl, sym, ap, subst, ◌∙◌, arith}
+use Rattle.std.proofs.lemmas.List.{length-map, get_or-map, get_or_default, take_more, take_all, take_at, get_or_push, length_push}
 use Rattle.tt_board.specs.Position.{Position, Colouring}
 use Rattle.tt_game.specs.declared.frame.Side.{Side}
 use Rattle.tt_game.specs.declared.frame.Side.TheVariants.{Attacker, Defender}
@@ -28,6 +28,18 @@ last_push cs c = get_or_push cs c [] _ (omega (arith, length_push cs c))
 -- there is a colouring for each board
 pub length-colourings : (bs : List Position) → length (colourings bs) ≡ length bs
 length-colourings bs = length-map bs (λ b. b.points)
+
+-- a colouring of boards is that of one of them
+pub been_at : (bs : List Position) (c : Colouring) → Contains (colourings bs) c → (j : ℕ) × (b : Position) × (j < length bs) × ((d : Position) → get_or bs j d ≡ b) × (b.points ≡ c)
+been_at [] c (j, in', e) = absurd (omega (arith, in'))
+been_at (b ∷ bs) c (j, in', e) =
+    let lt : j < length (b ∷ bs) = subst (λ n. j < n) (length-map (b ∷ bs) (λ x. x.points)) in' in (
+      j,
+      get_or (b ∷ bs) j b,
+      lt,
+      λ d. get_or_default (b ∷ bs) j d b lt,
+      sym (get_or-map (λ x. x.points) (b ∷ bs) j b b.points lt) ∙ get_or_default (colourings (b ∷ bs)) j b.points c in' ∙ e,
+    )
 
 -- the colourings of the course are those of the boards
 pub history_is : (g : Size) (bs : List Position) (passes : ℕ) → 0 < length bs → so_far (course_of g bs passes) ≡ colourings bs

@@ -1,62 +1,75 @@
 -- The walk over the points, one point after the other.
-use Rattle.std.proofs.Common.{◌≡◌, ℕ, zero, suc, ◌+◌, ◌-◌, ◌<◌, ◌≤◌, List, [], ◌∷◌, ◌++◌, map, None, Bool, true, false, cond, refl, sym, ap, ◌∙◌, arith}
-use Rattle.std.specs.List.{filter}
-use Rattle.std.proofs.lemmas.List.{map-append, append-nil}
-use Rattle.std.proofs.lemmas.List.Elements.{filter-append}
-use Rattle.std.proofs.lemmas.List.FromFn.{filter_of_map_range_with_len_more}
+use Rattle.std.proofs.Common.{◌≡◌, ℕ, zero, suc, ◌+◌, ◌-◌, ◌<◌, ◌≤◌, List, [], ◌∷◌, ◌++◌, map, Option, None, Bool, true, false, cond, refl, sym, ap, ◌∙◌, arith}
+use Rattle.std.specs.List.{filter, range_with_len}
+use Rattle.std.proofs.lemmas.List.{append_assoc}
 use Rattle.tt_sgf.specs.Sizes.{point_count}
 use Rattle.tt_game.specs.declared.frame.Frame.{Frame}
+use Rattle.tt_game.specs.declared.frame.Side.{Side}
 use Rattle.tt_game.specs.declared.turns.Turn.{Turn}
 use Rattle.tt_game.specs.declared.turns.Turn.TheVariants.{Play, Pass}
 use Rattle.tt_game.specs.declared.turns.Successor.{Successor}
-use Rattle.tt_game.specs.Game.{State, IsLegal, winner_of}
-use Rattle.tt_game.specs.Turns.{plays, all_turns, is_legal, is_legal_is, legal_turns, successor, successors_of}
+use Rattle.tt_game.specs.Game.{State, IsLegal, winner_of, after}
+use Rattle.tt_game.specs.Turns.{all_turns, is_legal, is_legal_is, legal_turns, successor, successors_of, successors_from}
 
--- what the plays on the first n points lead to
-unfoldable pub successors_below : Frame → State → ℕ → List Successor
-successors_below f s n = map (successor f s) (filter (is_legal f s) (plays n))
+-- the first point of those that are left is the first in the list
+first : (f : Frame) (s : State) (n : ℕ) → n < point_count f.size
+    → successors_from f s n ≡ cond (is_legal f s (Play n)) (successor f s (Play n) ∷ successors_from f s (n + 1)) (successors_from f s (n + 1))
+unfolding successors_from
+first f s n lt =
+    let rest = filter (is_legal f s) (map (λ p. Play p) (range_with_len (n + 1) (point_count f.size - (n + 1))) ++ Pass ∷ []) in
+    let e : point_count f.size - n ≡ suc (point_count f.size - (n + 1)) = omega (arith, lt) in
+    ap (λ k. map (successor f s) (filter (is_legal f s) (map (λ p. Play p) (range_with_len n k) ++ Pass ∷ []))) e
+    ∙ mapped (is_legal f s (Play n)) rest
+  where
+    mapped : (b : Bool) (ts : List Turn) → map (successor f s) (cond b (Play n ∷ ts) ts) ≡ cond b (successor f s (Play n) ∷ map (successor f s) ts) (map (successor f s) ts)
+    mapped true ts = refl
+    mapped false ts = refl
 
--- before the first point no play leads anywhere
-pub below_none : (f : Frame) (s : State) → successors_below f s 0 ≡ []
-unfolding successors_below
-below_none f s = refl
+-- a legal play comes first, and none is passed over
+pub from_more : (f : Frame) (s : State) (n : ℕ) → IsLegal f s (Play n) → successors_from f s n ≡ successor f s (Play n) ∷ successors_from f s (n + 1)
+from_more f s n l =
+    first f s n l.1 ∙ ap (λ b. cond b (successor f s (Play n) ∷ successors_from f s (n + 1)) (successors_from f s (n + 1))) ((is_legal_is f s (Play n)).1 l)
 
--- one point more: its play adds what it leads to, or nothing
-step : (f : Frame) (s : State) (n : ℕ) → successors_below f s (n + 1) ≡ successors_below f s n ++ map (successor f s) (cond (is_legal f s (Play n)) (Play n ∷ []) [])
-unfolding successors_below
-step f s n =
-    ap (map (successor f s)) (filter_of_map_range_with_len_more (is_legal f s) (λ q. Play q) 0 n n (omega arith))
-    ∙ map-append (successor f s) (filter (is_legal f s) (plays n)) (cond (is_legal f s (Play n)) (Play n ∷ []) [])
+pub from_skip : (f : Frame) (s : State) (n : ℕ) → n < point_count f.size → (IsLegal f s (Play n) → ⊥) → successors_from f s n ≡ successors_from f s (n + 1)
+from_skip f s n lt h =
+    first f s n lt ∙ ap (λ b. cond b (successor f s (Play n) ∷ successors_from f s (n + 1)) (successors_from f s (n + 1))) ((is_legal_is f s (Play n)).2 h)
 
--- a legal play adds what it leads to, and none adds nothing
-pub below_more : (f : Frame) (s : State) (n : ℕ) → IsLegal f s (Play n) → successors_below f s (n + 1) ≡ successors_below f s n ++ successor f s (Play n) ∷ []
-below_more f s n l = step f s n ∙ ap (λ b. successors_below f s n ++ map (successor f s) (cond b (Play n ∷ []) [])) ((is_legal_is f s (Play n)).1 l)
+-- so from one point to the next with a legal play nothing changes
+gap_of : (f : Frame) (s : State) (n d : ℕ) → n + d ≤ point_count f.size → ((q : ℕ) → n ≤ q → q < n + d → IsLegal f s (Play q) → ⊥) → successors_from f s n ≡ successors_from f s (n + d)
+gap_of f s n zero le none = let here : n ≡ n + 0 = omega arith in ap (successors_from f s) here
+gap_of f s n (suc d) le none =
+    let more : n + d + 1 ≡ n + suc d = omega arith in
+    gap_of f s n d (omega (arith, le)) (λ q after before. none q after (omega arith))
+    ∙ from_skip f s (n + d) (omega (arith, le)) (none (n + d) (omega arith) (omega arith))
+    ∙ ap (successors_from f s) more
 
-pub below_skip : (f : Frame) (s : State) (n : ℕ) → (IsLegal f s (Play n) → ⊥) → successors_below f s (n + 1) ≡ successors_below f s n
-below_skip f s n h = step f s n ∙ ap (λ b. successors_below f s n ++ map (successor f s) (cond b (Play n ∷ []) [])) ((is_legal_is f s (Play n)).2 h) ∙ append-nil (successors_below f s n)
-
--- points without a legal play add nothing
-gap_of : (f : Frame) (s : State) (n d : ℕ) → ((q : ℕ) → n ≤ q → q < n + d → IsLegal f s (Play q) → ⊥) → successors_below f s (n + d) ≡ successors_below f s n
-gap_of f s n zero none = let here : n + 0 ≡ n = omega arith in ap (successors_below f s) here
-gap_of f s n (suc d) none =
-    let more : n + suc d ≡ n + d + 1 = omega arith in
-    ap (successors_below f s) more ∙ below_skip f s (n + d) (none (n + d) (omega arith) (omega arith)) ∙ gap_of f s n d (λ q after before. none q after (omega arith))
-
--- so from one point to the next with a legal play nothing is added
-pub below_gap : (f : Frame) (s : State) (n m : ℕ) → n ≤ m → ((q : ℕ) → n ≤ q → q < m → IsLegal f s (Play q) → ⊥) → successors_below f s m ≡ successors_below f s n
-below_gap f s n m le none =
+pub from_gap : (f : Frame) (s : State) (n m : ℕ) → n ≤ m → m ≤ point_count f.size → ((q : ℕ) → n ≤ q → q < m → IsLegal f s (Play q) → ⊥) → successors_from f s n ≡ successors_from f s m
+from_gap f s n m le in' none =
     let d : n + (m - n) ≡ m = omega arith in
-    ap (successors_below f s) (sym d) ∙ gap_of f s n (m - n) (λ q after before. none q after (omega arith))
+    gap_of f s n (m - n) (omega (arith, d, in')) (λ q after before. none q after (omega arith)) ∙ ap (successors_from f s) d
 
--- nobody has won: the plays, and the pass
-pub below_all : (f : Frame) (s : State) (n : ℕ) → n ≡ point_count f.size → winner_of f s ≡ None → successors_below f s n ++ successor f s Pass ∷ [] ≡ successors_of f s
-unfolding successors_below successors_of legal_turns all_turns
-below_all f s n e on =
+-- behind the last point nobody plays, and only the pass is left
+last : (f : Frame) (s : State) → winner_of f s ≡ None → successors_from f s (point_count f.size) ≡ successor f s Pass ∷ []
+unfolding successors_from
+last f s on =
+    let none : point_count f.size - point_count f.size ≡ 0 = omega arith in
     let pass : is_legal f s Pass ≡ true = (is_legal_is f s Pass).1 on in
-    ap (λ k. map (successor f s) (filter (is_legal f s) (plays k)) ++ successor f s Pass ∷ []) e
-    ∙ sym (ap (map (successor f s)) (filter-append (is_legal f s) (plays (point_count f.size)) (Pass ∷ []))
-    ∙ map-append (successor f s) (filter (is_legal f s) (plays (point_count f.size))) (filter (is_legal f s) (Pass ∷ []))
-    ∙ ap (λ b. map (successor f s) (filter (is_legal f s) (plays (point_count f.size))) ++ map (successor f s) (cond b (Pass ∷ []) [])) pass)
+    ap (λ k. map (successor f s) (filter (is_legal f s) (map (λ p. Play p) (range_with_len (point_count f.size) k) ++ Pass ∷ []))) none
+    ∙ ap (λ b. map (successor f s) (cond b (Pass ∷ []) [])) pass
+
+pub from_last : (f : Frame) (s : State) (n : ℕ) → n ≤ point_count f.size → winner_of f s ≡ None → ((q : ℕ) → n ≤ q → IsLegal f s (Play q) → ⊥) → successors_from f s n ≡ successor f s Pass ∷ []
+from_last f s n le on none = from_gap f s n (point_count f.size) le (omega arith) (λ q after before. none q after) ∙ last f s on
+
+-- what was found, and one play more, is as many as before
+pub one_more : (f : Frame) (s : State) (found made : List Successor) (from p n : ℕ) (winner : Option Side) → made ≡ found ++ (let x : Successor = record { turn = Play p; winner = winner } in x) ∷ []
+    → winner ≡ winner_of f (after f s (Play p)) → successors_from f s from ≡ successor f s (Play p) ∷ successors_from f s (p + 1) → n ≡ p → found ++ successors_from f s from ≡ successors_of f s
+    → made ++ successors_from f s (n + 1) ≡ successors_of f s
+one_more f s found made from p n winner is won more here all =
+    ap (λ xs. xs ++ successors_from f s (n + 1)) is
+    ∙ append_assoc found ((let x : Successor = record { turn = Play p; winner = winner } in x) ∷ []) (successors_from f s (n + 1))
+    ∙ ap (λ w. found ++ (let x : Successor = record { turn = Play p; winner = w } in x) ∷ successors_from f s (n + 1)) won
+    ∙ ap (λ k. found ++ successor f s (Play p) ∷ successors_from f s (k + 1)) here
+    ∙ ap (λ xs. found ++ xs) (sym more) ∙ all
 
 -- no turn is legal once somebody has won
 over : (f : Frame) (s : State) → (winner_of f s ≡ None → ⊥) → (t : Turn) → is_legal f s t ≡ false

@@ -18,6 +18,7 @@ pub mod RecordLaws
 pub mod Undoing
 pub mod Members
 pub mod Roots
+pub mod Seen
 pub mod TurnLaws
 pub mod KeyLaws
 pub mod SideLaws

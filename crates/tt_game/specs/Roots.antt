@@ -1,8 +1,12 @@
 -- What lines of one beginning share, and what is kept of them. For private contracts and for proofs.
-use Rattle.std.specs.Prelude.{◌≡◌, List, [], ◌∷◌, length, take, Option, Some, None}
+use Rattle.std.specs.Prelude.{◌≡◌, ℕ, ◌<◌, List, [], ◌∷◌, length, take, All, Option, Some, None, true}
+use Rattle.tt_sgf.specs.Sizes.{point_count}
+use Rattle.tt_sgf.specs.Words.{bit_in}
+use Rattle.tt_board.specs.declared.Colour.{Colour}
 use Rattle.tt_board.specs.Position.{Position, Colouring}
+use Rattle.tt_board.specs.Reach.{entry_at}
 use Rattle.tt_game.specs.declared.frame.Frame.{Frame}
-use Rattle.tt_game.specs.Course.{colourings}
+use Rattle.tt_game.specs.Course.{HasBeen, colourings}
 use Rattle.tt_game.specs.declared.line.Undo.{Undo}
 use Rattle.tt_game.specs.Game.{State, history}
 use Rattle.tt_game.specs.Undoing.{undone}
@@ -25,3 +29,8 @@ AreRooted begun s (u ∷ us) = Begins begun (history s) × AreRooted begun (undo
 abbrev pub since : Option (List Position) → List Position
 since None = []
 since (Some bs) = bs
+
+-- the bits are 1 of all points where a stone of this colour stands on one of these boards; of others they may be 1 too
+abbrev pub AreStonesOf : Colour → List Position → List ℕ → Type 0
+AreStonesOf k bs words =
+    (c : Colouring) (p : ℕ) → HasBeen (colourings bs) c → All (λ (b : Position). p < point_count b.size) bs → entry_at c p ≡ Some k → bit_in words p ≡ true

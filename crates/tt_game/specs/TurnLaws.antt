@@ -1,6 +1,6 @@
 -- What is so of the list of legal turns: it holds the legal turns, rises, and is no longer than a board has turns.
-use Rattle.std.specs.Prelude.{◌≡◌, ℕ, ◌+◌, ◌<◌, ◌≤◌, ◌↔◌, List, [], ◌∷◌, ◌++◌, length, Contains, Bool, true, false, cond}
-use Rattle.std.specs.List.{filter}
+use Rattle.std.specs.Prelude.{◌≡◌, ℕ, ◌+◌, ◌-◌, ◌<◌, ◌≤◌, ◌↔◌, List, [], ◌∷◌, ◌++◌, length, map, Contains, Bool, true, false, cond}
+use Rattle.std.specs.List.{filter, range_with_len}
 use Rattle.std.proofs.Common.{zero, suc, inl, inr, sym, ap, subst, ◌∙◌, arith, get_or, add-one}
 use Rattle.std.proofs.lemmas.Bool.{cases_lt}
 use Rattle.std.proofs.lemmas.List.{get_or_append_left, get_or_push, length_push, length-map}
@@ -14,7 +14,7 @@ use Rattle.tt_game.specs.declared.frame.Frame.{Frame}
 use Rattle.tt_game.specs.declared.turns.Turn.{Turn}
 use Rattle.tt_game.specs.declared.turns.Turn.TheVariants.{Play, Pass}
 use Rattle.tt_game.specs.Game.{State, IsLegal}
-use Rattle.tt_game.specs.Turns.{IsOnBoard, number_on, turn_number, IsRising, plays, all_turns, is_legal, is_legal_is, legal_turns}
+use Rattle.tt_game.specs.Turns.{IsOnBoard, number_on, turn_number, IsRising, plays, all_turns, is_legal, is_legal_is, legal_turns, successor, successors_of, successors_from}
 
 -- what is in a list and passes a test is among those that pass
 contains_filter : {X : Type 0} (p : X → Bool) (xs : List X) (x : X) → Contains xs x → p x ≡ true → Contains (filter p xs) x
@@ -154,3 +154,10 @@ rises_on f s n (t ∷ ts) l up from = (
 -- the list rises from 0 on
 pub rises_from_0 : (f : Frame) (s : State) → RisesFrom f.size 0 (legal_turns f s)
 rises_from_0 f s = rises_on f s 0 (legal_turns f s) (are_legal f s) (rising-legal_turns f s) (λ h. omega arith)
+
+-- from the first number on the successors are all
+pub from_all : (f : Frame) (s : State) → successors_from f s 0 ≡ successors_of f s
+unfolding successors_from successors_of legal_turns all_turns
+from_all f s =
+    let e : point_count f.size - 0 ≡ point_count f.size = omega arith in
+    ap (λ k. map (successor f s) (filter (is_legal f s) (map (λ p. Play p) (range_with_len 0 k) ++ Pass ∷ []))) e

@@ -1,5 +1,5 @@
 -- The legal turns of a state as a list, and what each of them leads to.
-use Rattle.std.specs.Prelude.{◌≡◌, ℕ, ◌<◌, List, [], ◌∷◌, ◌++◌, length, map, Bool, true, false, slice_index_or}
+use Rattle.std.specs.Prelude.{◌≡◌, ℕ, ◌-◌, ◌<◌, List, [], ◌∷◌, ◌++◌, length, map, Bool, true, false, slice_index_or}
 use Rattle.std.specs.List.{filter, range_with_len}
 use Rattle.tt_sgf.specs.declared.size.Size.{Size}
 use Rattle.tt_sgf.specs.Sizes.{point_count}
@@ -60,3 +60,7 @@ successor f s t = record { turn = t; winner = winner_of f (after f s t) }
 -- the legal turns, each with who has won after it
 unfoldable pub successors_of : Frame → State → List Successor
 successors_of f s = map (successor f s) (legal_turns f s)
+
+-- those of them whose number is at least n: of the plays on the points from n on, and of the pass
+unfoldable pub successors_from : Frame → State → ℕ → List Successor
+successors_from f s n = map (successor f s) (filter (is_legal f s) (map (λ p. Play p) (range_with_len n (point_count f.size - n)) ++ Pass ∷ []))

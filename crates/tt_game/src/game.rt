@@ -7,6 +7,7 @@ use crate::faults::{Refused, Why};
 use crate::frame::{Frame, Side};
 use crate::history::History;
 use crate::line::Line;
+use crate::seen::Seen;
 use crate::turns::Turn;
 use std::alloc::Global;
 use std::marker::Model;
@@ -14,18 +15,32 @@ use tt_board::{Board, Colour, CountedBoard};
 use tt_sgf::{NoMemory, Point, PointSet, Size};
 
 /// A game: its history, who moves, and the passes in a row. Contracts see it as `Played`.
+///
+/// Moves are made on one board with its chains counted, and their colourings are noted by prints, by which superko knows most of the
+/// new ones.
 #[derive(Drop)]
 pub struct Game {
     history: History,
+    board: CountedBoard,
+    seen: Seen,
     to_move: Colour,
 }
 
 impl Model for Game {
+    ghost use Rattle.std.specs.Prelude.{◌≡◌};
+    ghost use Rattle.tt_game.specs.Course.{so_far};
     ghost use Rattle.tt_game.specs.Games.{Played, game_at};
+    ghost use Rattle.tt_game.specs.Seen.{AreSeen};
+    ghost use Rattle.tt_game.specs.Undoing.{board_on};
 
     ghost Value = { Played };
 
     ghost view = { λ g. game_at g.history g.to_move };
+
+    ghost invariant = { λ g. record {
+      board : g.board ≡ board_on g.history.size g.history.present;
+      seen : AreSeen g.seen g.history.size (so_far g.history);
+    } };
 }
 
 impl Game {
@@ -42,8 +57,11 @@ impl Game {
     pub fn empty(alloc: Global, size: Size) -> Result<Game, NoMemory>
         ensures { IfOk result (λ g. g ≡ empty_game size) }
     {
+        let board = Board::empty(size);
         Ok(Game {
-            history: History::of(alloc, Board::empty(size))?,
+            board: CountedBoard::of(&board),
+            seen: Seen::of(&board),
+            history: History::of(alloc, board)?,
             to_move: Colour::Black,
         })
     }
@@ -83,6 +101,9 @@ impl Game {
         requires { next.now.size ≡ self.now.size }
         ensures { result ≡ repeats (all_of self.now) next.now.points }
     {
+        if !self.seen.has(next) {
+            return false;
+        }
         self.history.has_been(next)
     }
 
@@ -93,9 +114,10 @@ impl Game {
             (λ b. (move_refusal self.now p ≡ None) × (b ≡ record { size = self.now.size; points = made_by self.now p }))
             (λ why. move_refusal self.now p ≡ Some why) }
     {
-        let Ok(next) = self.present().play(self.to_move, p) else {
+        if self.present().at(p).is_some() {
             return Err(Why::Occupied);
-        };
+        }
+        let next = self.board.after(self.to_move, p);
         if self.has_been(&next) {
             return Err(Why::Repeats);
         }
@@ -141,6 +163,8 @@ impl Game {
         if self.history.push(next).is_err() {
             return Err(Refused::NoMemory);
         }
+        self.seen.add(self.history.present());
+        self.board.play(self.to_move, p);
         self.to_move = self.to_move.other();
         Ok(())
     }
@@ -171,7 +195,12 @@ impl Game {
         ensures ok { OnOk result (self.new ≡ begun_with self.old.size board.points colour) }
         ensures err { OnErr result (self.new ≡ self.old) }
     {
-        self.history = History::of(self.history.alloc(), board)?;
+        let history = History::of(self.history.alloc(), board.copy())?;
+        if !self.present().same(&board) {
+            self.board = CountedBoard::of(&board);
+        }
+        self.seen = Seen::of(&board);
+        self.history = history;
         self.to_move = colour;
         Ok(())
     }
@@ -198,7 +227,6 @@ impl Game {
             targets,
             defender,
         };
-        let board = CountedBoard::of(self.present());
-        Line::begin(frame, self.history.without_passes(), to_move, board)
+        Line::begin(frame, self.history.without_passes(), to_move, self.board)
     }
 }

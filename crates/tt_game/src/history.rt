@@ -1,6 +1,6 @@
 //! The course of a game: its boards so far and the passes in a row. Superko stands here, for problems and for records.
 
-ghost use Rattle.std.specs.Prelude.{◌≡◌, ◌≢◌, ◌<◌, ◌≤◌, ◌↔◌, length, All, IsTrue, OnOk, OnErr, IfOk, Some};
+ghost use Rattle.std.specs.Prelude.{◌≡◌, ◌≢◌, ◌<◌, ◌≤◌, ◌↔◌, length, drop, All, IsTrue, OnOk, OnErr, IfOk, Some};
 ghost use Rattle.tt_sgf.specs.Sizes.{point_count};
 ghost use Rattle.tt_board.specs.Position.{Colouring};
 ghost use Rattle.tt_board.specs.Reach.{entry_at};
@@ -37,13 +37,13 @@ impl Model for History {
     } };
 }
 
-/// Whether the colouring of `next` is one of the boards'.
+/// Whether the colouring of `next` is one of the boards'. The last one is looked at first: a stone that dies at once makes it again.
 fn repeats(boards: &[Board], next: &Board) -> bool
     requires { All (λ b. b.size ≡ next.now.size) boards.now }
     ensures { IsTrue result ↔ HasBeen (colourings boards.now) next.now.points }
 {
-    for board in boards {
-        if board.same(next) {
+    for k in 0..boards.len() {
+        if boards[boards.len() - 1 - k].same(next) {
             return true;
         }
     }
@@ -120,12 +120,13 @@ impl History {
         self.alloc
     }
 
-    /// Whether a stone of this colour stood on `p` on some board so far.
-    pub(crate) fn has_stood(&self, colour: Colour, p: Point) -> bool
-        requires { p < point_count self.now.size }
-        ensures { (c : Colouring) → HasBeen (so_far self.now) c → entry_at c p ≡ Some colour → IsTrue result }
+    /// Whether a stone of this colour stood on `p` on some board behind the first `from`.
+    pub(crate) fn has_stood(&self, from: usize, colour: Colour, p: Point) -> bool
+        requires on_board { p < point_count self.now.size }
+        requires within { from ≤ length (so_far self.now) }
+        ensures { (c : Colouring) → HasBeen (drop from (so_far self.now)) c → entry_at c p ≡ Some colour → IsTrue result }
     {
-        stood(&self.boards, colour, p)
+        stood(&self.boards[from..], colour, p)
     }
 
     /// Whether a board of this size has a colouring of the history.

@@ -16,6 +16,7 @@ mod played;
 mod problems;
 mod records;
 mod root;
+mod seen;
 mod turns;
 
 pub use faults::{GameFault, Refused, Why};

@@ -2,6 +2,7 @@
 
 ghost use Rattle.std.specs.Prelude.{◌≡◌, ◌≢◌, ℕ, ◌+◌, ◌-◌, ◌<◌, ◌≤◌, ◌↔◌, ◌∷◌, length, slice_set, IsTrue, IsSome, MatchOption, Contains, All};
 ghost use Rattle.tt_game.specs.Course.{HasBeen, colourings};
+ghost use Rattle.tt_board.specs.Position.{Colouring};
 ghost use Rattle.tt_sgf.specs.Sizes.{point_count};
 
 use crate::faults::{Refused, Why};
@@ -13,7 +14,7 @@ use crate::root::Root;
 use crate::turns::Turn;
 use std::marker::Model;
 use std::sync::Arc;
-use tt_board::{Board, Colour, CountedBoard};
+use tt_board::{Board, Colour, CountedBoard, Glance};
 use tt_sgf::{NoMemory, Point};
 
 /// How a push is undone.
@@ -67,7 +68,7 @@ impl Line {
     ghost use Rattle.tt_board.specs.Reach.{entry_at};
     ghost use Rattle.std.specs.Prelude.{OnOk, OnErr, IfErr, IfOk};
     ghost use Rattle.tt_game.specs.Line.{HasTargets, IsRefusal, IsRefused, IsPushed};
-    ghost use Rattle.tt_game.specs.Undoing.{IsMoved, state_at, board_on};
+    ghost use Rattle.tt_game.specs.Undoing.{IsMoved, IsForetold, state_at, board_on};
     ghost use Rattle.tt_game.specs.Turns.{OnBoard};
     ghost use Rattle.tt_game.specs.declared.turns.Turn.{Turn};
 
@@ -144,23 +145,62 @@ impl Line {
         self.played.present().after(self.mover(), p)
     }
 
-    /// Whether a play of the side to move on an empty point is known to take nothing off and to make a colouring that hasn't been:
-    /// on no board so far a stone of its colour stood there.
-    pub(crate) fn is_new(&self, p: Point) -> bool
-        requires on_board { p < point_count self.now.frame.size }
-        requires free { entry_at self.now.state.present p ≡ None }
-        ensures { IsTrue result → (HasBeen (history self.now.state) (made self.now.frame self.now.state p) → ⊥)
-            × (made self.now.frame self.now.state p ≡ slice_set self.now.state.present p (Some (colour_of self.now.frame self.now.state.to_move))) }
+    /// Whether a stone of this colour stood on `p` on some board so far.
+    fn has_stood(&self, colour: Colour, p: Point) -> bool
+        requires { p < point_count self.now.frame.size }
+        ensures { (c : Colouring) → HasBeen (history self.now.state) c → entry_at c p ≡ Some colour → IsTrue result }
     {
-        let colour = self.mover();
-        self.played.present().is_quiet(colour, p) && !self.history.has_stood(colour, p)
+        if self.root.has_stood(colour, p) {
+            return true;
+        }
+        self.history.has_stood(self.root.count(), colour, p)
     }
 
-    /// Whether a board of the line's size has a colouring that has been.
-    pub(crate) fn has_been(&self, next: &Board) -> bool
-        requires { next.now.size ≡ self.now.frame.size }
+    /// What is told of a play of the side to move on an empty point, by the points beside it and by the stones that stood there.
+    /// It is quiet where it takes nothing off and makes a colouring that hasn't been, and vain where its colouring is the present one.
+    pub(crate) fn glance(&self, p: Point) -> Glance
+        requires on_board { p < point_count self.now.frame.size }
+        requires free { entry_at self.now.state.present p ≡ None }
+        ensures { IsForetold result self.now.frame self.now.state p }
+    {
+        let colour = self.mover();
+        match self.played.present().glance(colour, p) {
+            Glance::Vain => Glance::Vain,
+            Glance::Unclear => Glance::Unclear,
+            Glance::Quiet => {
+                if self.has_stood(colour, p) {
+                    Glance::Unclear
+                } else {
+                    Glance::Quiet
+                }
+            }
+        }
+    }
+
+    /// Whether a play of the side to move on an empty point makes a colouring that has been.
+    fn repeats(&self, p: Point) -> bool
+        requires on_board { p < point_count self.now.frame.size }
+        requires free { entry_at self.now.state.present p ≡ None }
+        ensures { IsTrue result ↔ HasBeen (history self.now.state) (made self.now.frame self.now.state p) }
+    {
+        match self.glance(p) {
+            Glance::Quiet => false,
+            Glance::Vain => true,
+            Glance::Unclear => self.has_been(p, &self.board_after(p)),
+        }
+    }
+
+    /// Whether a board of the line's size, which a play of the side to move on `p` may have made, has a colouring that has been. Where
+    /// its stone stands on `p` and never did before, no board is compared.
+    pub(crate) fn has_been(&self, p: Point, next: &Board) -> bool
+        requires on_board { p < point_count self.now.frame.size }
+        requires size { next.now.size ≡ self.now.frame.size }
         ensures { IsTrue result ↔ HasBeen (history self.now.state) next.now.points }
     {
+        let colour = self.mover();
+        if next.has_stone(colour, p) && !self.has_stood(colour, p) {
+            return false;
+        }
         self.history.has_been(next)
     }
 
@@ -176,10 +216,7 @@ impl Line {
         if !self.frame.region.has(p) {
             return Some(Why::Outside);
         }
-        if self.is_new(p) {
-            return None;
-        }
-        if self.has_been(&self.board_after(p)) {
+        if self.repeats(p) {
             return Some(Why::Repeats);
         }
         None
@@ -198,7 +235,7 @@ impl Line {
             return None;
         }
         let next = self.board_after(p);
-        if !self.has_been(&next) {
+        if !self.has_been(p, &next) {
             return None;
         }
         Some(next)

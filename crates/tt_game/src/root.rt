@@ -1,28 +1,36 @@
 //! What lines of one beginning share: it stands once, however many places are kept of them.
 
-ghost use Rattle.std.specs.Prelude.{◌≡◌, ◌<◌, ◌↔◌, List, ◌∷◌, ◌++◌, [], length, All, IsTrue, IfOk};
-ghost use Rattle.tt_board.specs.Position.{Position};
-ghost use Rattle.tt_game.specs.Course.{so_far, colourings};
+ghost use Rattle.std.specs.Prelude.{◌≡◌, ◌<◌, ◌↔◌, List, ◌∷◌, ◌++◌, [], length, All, IsTrue, IfOk, Some};
+ghost use Rattle.tt_sgf.specs.Sizes.{point_count};
+ghost use Rattle.tt_board.specs.Position.{Position, Colouring};
+ghost use Rattle.tt_board.specs.Reach.{entry_at};
+ghost use Rattle.tt_game.specs.Course.{HasBeen, so_far, colourings};
+ghost use Rattle.tt_game.specs.Roots.{AreStonesOf};
 
 use crate::frame::Frame;
 use crate::history::History;
 use std::marker::Model;
-use tt_board::{Board, Boards};
-use tt_sgf::NoMemory;
+use tt_board::{Board, Boards, Colour};
+use tt_sgf::{Bits, NoMemory, Point};
 
 /// A frame, and the boards that lines had when the first of them began. Contracts see it as `Rooted`.
+///
+/// The stones of all these boards stand together in twelve words, so that superko asks once for what hundreds of boards never had.
 #[derive(Drop)]
 pub(crate) struct Root {
     frame: Frame,
     boards: Boards,
     count: usize,
+    black: Bits,
+    white: Bits,
 }
 
 impl Model for Root {
     ghost use Rattle.std.specs.Prelude.{◌≡◌, ◌<◌, length, All};
     ghost use Rattle.std.specs.Coded.{codes};
     ghost use Rattle.tt_sgf.specs.contracts.sets.PointSet as points;
-    ghost use Rattle.tt_game.specs.Roots.{Rooted};
+    ghost use Rattle.tt_board.specs.declared.Colour.TheVariants.{Black, White};
+    ghost use Rattle.tt_game.specs.Roots.{Rooted, AreStonesOf};
 
     ghost Value = { Rooted };
 
@@ -34,7 +42,20 @@ impl Model for Root {
       count : r.count ≡ length r.boards;
       some_board : 0 < length r.boards;
       sizes : All (λ b. b.size ≡ r.frame.size) r.boards;
+      black : AreStonesOf Black r.boards r.black.words;
+      white : AreStonesOf White r.boards r.white.words;
     } };
+}
+
+/// The stones of a colour on all of these boards.
+fn stones_of(boards: &[Board], colour: Colour) -> Bits
+    ensures { AreStonesOf colour boards.now result.words }
+{
+    let mut stones = Bits::none();
+    for board in boards {
+        stones = stones.or(board.bits(colour));
+    }
+    stones
 }
 
 impl Root {
@@ -48,6 +69,8 @@ impl Root {
             frame: frame.copy(),
             boards: Boards::of(history.alloc(), boards)?,
             count: boards.len(),
+            black: stones_of(boards, Colour::Black),
+            white: stones_of(boards, Colour::White),
         })
     }
 
@@ -65,6 +88,18 @@ impl Root {
         ensures sizes { All (λ b. b.size ≡ self.now.frame.size) self.now.begun }
     {
         self.count
+    }
+
+    /// Whether a stone of this colour stood on `p` on some board of the beginning.
+    pub(crate) fn has_stood(&self, colour: Colour, p: Point) -> bool
+        requires { p < point_count self.now.frame.size }
+        ensures { (c : Colouring) → HasBeen (colourings self.now.begun) c → entry_at c p ≡ Some colour → IsTrue result }
+    {
+        let index = usize::from(p.number());
+        match colour {
+            Colour::Black => self.black.has(index),
+            Colour::White => self.white.has(index),
+        }
     }
 
     /// Whether these are exactly the boards of the beginning. It takes no memory.

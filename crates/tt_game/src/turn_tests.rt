@@ -6,14 +6,6 @@ use super::{Line, Side, Why};
 use std::alloc::Global;
 use tt_board::{Board, Boards, Colour};
 
-/// Whether both lists of a line's legal turns are one, with ample memory.
-fn lists_turns(alloc: Global, line: &Line) -> bool {
-    let Ok(listed) = line.successors_in(alloc) else {
-        return false;
-    };
-    listed.as_slice() == line.successors().as_slice()
-}
-
 /// Whether a board is what the letters draw, point by point.
 fn is_drawn(board: &Board, letters: &[u8]) -> bool {
     let size = board.size();
@@ -203,9 +195,6 @@ fn wrong(alloc: Global, case: Case) -> &'static str {
     }
     if !has_turns(&line, causes) {
         return "the legal turns";
-    }
-    if !lists_turns(alloc, &line) {
-        return "both lists of the legal turns";
     }
     wrong_copy(alloc, &line)
 }

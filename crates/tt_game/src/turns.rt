@@ -1,14 +1,14 @@
 //! Turns, and the walk over the legal ones.
 
-ghost use Rattle.std.specs.Prelude.{◌≡◌, ℕ, ◌<◌, ◌≤◌, ◌↔◌, length, Contains, IsTrue, IfOk, MatchOption};
+ghost use Rattle.std.specs.Prelude.{◌≡◌, ℕ, ◌+◌, ◌<◌, ◌≤◌, ◌↔◌, [], ◌∷◌, length, Contains, IsTrue, MatchOption};
 ghost use Rattle.std.specs.FinSet as set;
 ghost use Rattle.tt_sgf.specs.Sizes.{point_count};
 
 use crate::frame::Side;
 use crate::line::Line;
 use arrayvec::ArrayVec;
-use std::alloc::Global;
-use tt_sgf::{NoMemory, Point};
+use tt_board::Glance;
+use tt_sgf::Point;
 
 /// A play on a point, or a pass. A turn's number is that of its point, and the pass has the number of the points; so the
 /// pass comes last.
@@ -26,15 +26,14 @@ pub struct Successor {
     pub winner: Option<Side>,
 }
 
-/// A vector of successors has room for so many at first: small regions have no more.
-const USUAL_TURNS: usize = 16;
-
 /// A list of turns, with room for all of a board of 19 by 19: 361 plays and the pass.
 pub type Turns = ArrayVec<Turn, 362>;
 
 impl Line {
+    ghost use Rattle.std.specs.Prelude.{None};
+    ghost use Rattle.tt_board.specs.Reach.{entry_at};
     ghost use Rattle.tt_game.specs.Game.{winner_of, after, IsLegal};
-    ghost use Rattle.tt_game.specs.Turns.{legal_turns, successor, successors_of, IsRising};
+    ghost use Rattle.tt_game.specs.Turns.{legal_turns, successor, successors_of, successors_from, IsRising};
     ghost use Rattle.tt_game.specs.declared.turns.Turn.{Turn};
 
     /// The first point of the region from a number on: none where the board has no such point.
@@ -54,8 +53,27 @@ impl Line {
         Some(p)
     }
 
-    /// What a play on a point of the region leads to, where it is legal. The board that it makes is looked at in place:
-    /// it isn't copied, as `made` would.
+    /// What a play on an empty point of the region leads to, where it is legal, by the board that it makes.
+    fn successor_made(&self, p: Point) -> Option<Successor>
+        requires on_board { p < point_count self.now.frame.size }
+        requires inside { IsTrue (set.contains self.now.frame.region p) }
+        requires free { entry_at self.now.state.present p ≡ None }
+        requires open { winner_of self.now.frame self.now.state ≡ None }
+        ensures { MatchOption result (IsLegal self.now.frame self.now.state (Turn.Play p) → ⊥)
+            (λ x. IsLegal self.now.frame self.now.state (Turn.Play p) × (x ≡ successor self.now.frame self.now.state (Turn.Play p))) }
+    {
+        let next = self.board_after(p);
+        if self.has_been(p, &next) {
+            return None;
+        }
+        Some(Successor {
+            turn: Turn::Play(p),
+            winner: self.frame().winner_on(&next, 0),
+        })
+    }
+
+    /// What a play on a point of the region leads to, where it is legal. Most plays are told by the points beside them, and no board is
+    /// made for them.
     fn successor_on(&self, p: Point) -> Option<Successor>
         requires on_board { p < point_count self.now.frame.size }
         requires inside { IsTrue (set.contains self.now.frame.region p) }
@@ -66,28 +84,42 @@ impl Line {
         if self.present().at(p).is_some() {
             return None;
         }
-        if self.is_new(p) {
-            return Some(Successor {
+        match self.glance(p) {
+            Glance::Quiet => Some(Successor {
                 turn: Turn::Play(p),
                 winner: None,
-            });
+            }),
+            Glance::Vain => None,
+            Glance::Unclear => self.successor_made(p),
         }
-        let next = self.board_after(p);
-        if self.has_been(&next) {
-            return None;
-        }
-        Some(Successor {
-            turn: Turn::Play(p),
-            winner: self.frame().winner_on(&next, 0),
-        })
     }
 
     /// Who has won after a pass, where nobody has won before it.
-    fn winner_by_pass(&self) -> Option<Side>
+    pub fn winner_by_pass(&self) -> Option<Side>
         requires { winner_of self.now.frame self.now.state ≡ None }
         ensures { result ≡ winner_of self.now.frame (after self.now.frame self.now.state Turn.Pass) }
     {
         self.frame().winner_on(self.present(), self.passes() + 1)
+    }
+
+    /// The first legal play on a point from a number on, and who has won after it. Each point is looked at once.
+    pub fn next_play(&self, first: u16) -> Option<(Point, Option<Side>)>
+        requires open { winner_of self.now.frame self.now.state ≡ None }
+        requires inside { first ≤ point_count self.now.frame.size }
+        ensures { MatchOption result
+            (successors_from self.now.frame self.now.state first ≡ successor self.now.frame self.now.state Turn.Pass ∷ [])
+            (λ x. (first ≤ x.0) × (x.0 < point_count self.now.frame.size)
+            × (x.1 ≡ winner_of self.now.frame (after self.now.frame self.now.state (Turn.Play x.0)))
+            × (successors_from self.now.frame self.now.state first ≡ successor self.now.frame self.now.state (Turn.Play x.0) ∷ successors_from self.now.frame self.now.state (x.0 + 1))) }
+    {
+        let mut from = first;
+        while let Some(p) = self.next_point(from) {
+            if let Some(next) = self.successor_on(p) {
+                return Some((p, next.winner));
+            }
+            from = p.number() + 1;
+        }
+        None
     }
 
     /// The legal turns, rising by their numbers, each with who has won after it. Each play is made once.
@@ -100,10 +132,11 @@ impl Line {
             return found;
         }
         let mut from = 0;
-        while let Some(p) = self.next_point(from) {
-            if let Some(next) = self.successor_on(p) {
-                found.push(next);
-            }
+        while let Some((p, winner)) = self.next_play(from) {
+            found.push(Successor {
+                turn: Turn::Play(p),
+                winner,
+            });
             from = p.number() + 1;
         }
         found.push(Successor {
@@ -111,29 +144,6 @@ impl Line {
             winner: self.winner_by_pass(),
         });
         found
-    }
-
-    /// The legal turns, rising by their numbers, each with who has won after it, in a vector that grows with them. Each
-    /// play is made once.
-    pub fn successors_in(&self, alloc: Global) -> Result<Vec<Successor>, NoMemory>
-        ensures { IfOk result (λ found. found.items ≡ successors_of self.now.frame self.now.state) }
-    {
-        let mut found = Vec::with_capacity(alloc, USUAL_TURNS)?;
-        if self.winner().is_some() {
-            return Ok(found);
-        }
-        let mut from = 0;
-        while let Some(p) = self.next_point(from) {
-            if let Some(next) = self.successor_on(p) {
-                found.push(next)?;
-            }
-            from = p.number() + 1;
-        }
-        found.push(Successor {
-            turn: Turn::Pass,
-            winner: self.winner_by_pass(),
-        })?;
-        Ok(found)
     }
 
     /// The legal turns, rising by their numbers.

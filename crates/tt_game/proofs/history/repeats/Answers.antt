@@ -1,6 +1,6 @@
-use Rattle.std.proofs.Common.{◌≡◌, ℕ, ◌<◌, List, length, get_or, Contains, sym, subst, ◌∙◌, arith}
+use Rattle.std.proofs.Common.{◌≡◌, ℕ, ◌-◌, ◌<◌, List, length, get_or, Contains, refl, sym, ap, subst, ◌∙◌, arith}
 use Rattle.std.proofs.lemmas.Bool.{false≢true}
-use Rattle.std.proofs.lemmas.List.{get_or-map, length-map}
+use Rattle.std.proofs.lemmas.List.{get_or-map, get_or_default, length-map}
 use Rattle.tt_board.specs.Position.{Position}
 use Rattle.tt_game.specs.Course.{colourings}
 use Rattle.tt_game.proofs.history.repeats.Goals as goal
@@ -12,4 +12,13 @@ none bs next each (k, in', e) =
     each k lt (sym (get_or-map (λ b. b.points) bs k next next.points lt) ∙ e)
 
 pub returns : goal.returns
-returns c = (λ no. absurd (false≢true no), λ has. absurd (none c.args.boards.now c.args.next.now (λ k h. c.loop-board.invariant k (omega arith)) has))
+returns c = (λ no. absurd (false≢true no), λ has. absurd (none c.args.boards.now c.args.next.now (λ k h. c.loop-k.invariant k h (omega arith)) has))
+
+pub returns-then-same : goal.returns-then-same
+returns-then-same c =
+    let bs = c.args.boards.now in let next = c.args.next.now in let board = c.index-boards-boards.result in
+    let j = length bs - 1 - c.loop-k.k in
+    let lt : j < length bs = omega (arith, c.loop-k-test.true) in
+    let is : get_or bs j next ≡ next = get_or_default bs j next board lt ∙ sym c.index-boards-boards.is ∙ c.same.ensures.0 c.if-same.true in
+    let shown : get_or (colourings bs) j next.points ≡ next.points = get_or-map (λ (b : Position). b.points) bs j next next.points lt ∙ ap (λ (b : Position). b.points) is in
+    (λ _. (j, subst (λ n. j < n) (sym (length-map bs (λ b. b.points))) lt, shown), λ _. refl)

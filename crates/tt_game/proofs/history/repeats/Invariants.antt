@@ -1,5 +1,5 @@
-use Rattle.std.proofs.Common.{◌≡◌, ℕ, ◌<◌, get_or}
+use Rattle.std.proofs.Common.{◌≡◌, ℕ, ◌+◌, ◌<◌, ◌≤◌, length, get_or}
 use Rattle.tt_game.proofs.history.repeats.Given as goal
 
-abbrev pub invariant-loop-board : goal.invariant-loop-board
-invariant-loop-board l = (k : ℕ) → k < l.board-index → (get_or l.boards k l.next).points ≡ l.next.points → ⊥
+abbrev pub invariant-loop-k : goal.invariant-loop-k
+invariant-loop-k l = (j : ℕ) → j < length l.boards → length l.boards ≤ j + l.k → (get_or l.boards j l.next).points ≡ l.next.points → ⊥

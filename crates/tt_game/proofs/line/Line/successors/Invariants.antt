@@ -1,11 +1,11 @@
-use Rattle.std.proofs.Common.{◌≡◌, ◌≤◌, ◌-◌, length}
+use Rattle.std.proofs.Common.{◌≡◌, ◌≤◌, ◌-◌, ◌++◌, length}
 use Rattle.tt_sgf.specs.Sizes.{point_count}
-use Rattle.tt_game.proofs.TurnsLemmas.{successors_below}
+use Rattle.tt_game.specs.Turns.{successors_of, successors_from}
 use Rattle.tt_game.proofs.line.Line.successors.Given as goal
 
 abbrev pub invariant-loop-p : goal.invariant-loop-p
 invariant-loop-p l = record {
-  list : l.found.items ≡ successors_below l.self.frame l.self.state l.from;
+  list : l.found.items ++ successors_from l.self.frame l.self.state l.from ≡ successors_of l.self.frame l.self.state;
   few : length l.found.items ≤ l.from;
   inside : l.from ≤ point_count l.self.frame.size;
 }

@@ -1,11 +1,12 @@
 use Rattle.std.proofs.Common.{◌≡◌, ◌≤◌, ◌-◌}
 use Rattle.tt_sgf.specs.Sizes.{point_count}
-use Rattle.tt_game.proofs.TurnsLemmas.{successors_below}
-use Rattle.tt_game.proofs.line.Line.successors_in.Given as goal
+use Rattle.tt_game.specs.Turns.{successors_from}
+use Rattle.tt_game.proofs.line.Line.next_play.Given as goal
 
 abbrev pub invariant-loop-p : goal.invariant-loop-p
 invariant-loop-p l = record {
-  list : l.found.items ≡ successors_below l.self.frame l.self.state l.from;
+  same : successors_from l.self.frame l.self.state l.first ≡ successors_from l.self.frame l.self.state l.from;
+  after : l.first ≤ l.from;
   inside : l.from ≤ point_count l.self.frame.size;
 }
 

@@ -1,0 +1,32 @@
+-- Prints of colourings, and which of them were noted. Private contracts alone cite these: they say nothing of a game.
+use Rattle.std.specs.Prelude.{◌≡◌, ℕ, ◌+◌, ◌*◌, ◌/◌, ◌%◌, ◌^◌, List, [], ◌∷◌, slice_index_or, true}
+use Rattle.tt_sgf.specs.declared.bits.Bits.{Bits}
+use Rattle.tt_sgf.specs.declared.bits.TheConstants.{BITS}
+use Rattle.tt_sgf.specs.declared.size.Size.{Size}
+use Rattle.tt_sgf.specs.Words.{bit_in}
+use Rattle.tt_board.specs.declared.Colour.TheVariants.{Black, White}
+use Rattle.tt_board.specs.Position.{Colouring}
+use Rattle.tt_board.specs.Reach.{entry_at}
+use Rattle.tt_board.specs.Play.{is_stone_of}
+use Rattle.tt_game.specs.declared.seen.Seen.{Seen}
+use Rattle.tt_game.specs.declared.seen.TheConstants.{LOW, MIXER, PRINTS}
+use Rattle.tt_game.specs.Course.{HasBeen}
+use Rattle.tt_game.specs.Keys.{packed}
+
+-- what words, one after the other, make of a number
+unfoldable pub mix : ℕ → List ℕ → ℕ
+mix sum [] = sum
+mix sum (w ∷ ws) = mix ((sum * MIXER % 2 ^ 64 + w) % 2 ^ 64) ws
+
+-- the print of a colouring
+unfoldable pub print_of : Size → Colouring → ℕ
+print_of size c =
+    mix (mix 0 (packed size (λ p. is_stone_of (entry_at c p) Black))) (packed size (λ p. is_stone_of (entry_at c p) White)) / LOW % PRINTS
+
+-- a print was noted
+abbrev pub IsSeen : Seen → ℕ → Type 0
+IsSeen s n = (d : Bits) → bit_in (slice_index_or s.rows (n / BITS) d).words (n % BITS) ≡ true
+
+-- the prints of all colourings of a history were noted
+abbrev pub AreSeen : Seen → Size → List Colouring → Type 0
+AreSeen s size h = (c : Colouring) → HasBeen h c → IsSeen s (print_of size c)
