@@ -23,7 +23,8 @@ abbrev pub AreSized : Frame → List Position → Type 0
 AreSized f bs = (b : Position) → Contains bs b → b.size ≡ f.size
 
 -- the footprint is that of the strategy at the state: its boards are exactly those of the colourings that the strategy needs
--- in the history, and exactly those of the colourings that it avoids; what it meets has the least numbers of stones
+-- in the history, and exactly those of the colourings that it avoids; no colouring that
+-- it meets has fewer stones of a colour than the bound
 pub record IsFootprint (f : Frame) (s : State) (u : Strategy) (x : Footprint) : Type 0 where
   pub needs_sized : AreSized f x.needs
   pub avoids_sized : AreSized f x.avoids

@@ -20,8 +20,8 @@ use tt_board::Board;
 use tt_game::{Line, Refused, Turn};
 use tt_sgf::{NoMemory, Point, PointSet};
 
-/// What a tree needs in the history of its state, and what it avoids there: the boards of two sets of colourings. `low` has the
-/// least numbers of stones that are on the boards which turns of the other side make.
+/// What a tree needs in the history of its state, and what it avoids there: the boards of two sets of colourings. No board that
+/// a turn of the other side makes has fewer stones of a colour than `low`.
 #[derive(Drop)]
 pub struct Footprint {
     pub needs: SharedBoards,

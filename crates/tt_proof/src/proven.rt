@@ -1,6 +1,6 @@
 //! Proofs: trees that win.
 
-ghost use Rattle.std.specs.Prelude.{◌≡◌, ◌≢◌, ◌↔◌, ◌≤◌, ◌+◌, ◌-◌, ◌^◌, min, IfOk, IfErr, IsTrue, None, Some};
+ghost use Rattle.std.specs.Prelude.{◌≡◌, ◌≢◌, ◌↔◌, ◌≤◌, ◌+◌, ◌-◌, ◌^◌, min, IfOk, IfErr, IsTrue, true, None, Some, Ok};
 ghost use Rattle.tt_game.specs.Game.{winner_of, opponent, IsLegal, after};
 ghost use Rattle.tt_game.specs.Turns.{legal_turns};
 ghost use Rattle.tt_game.specs.Keys.{key_of};
@@ -177,6 +177,7 @@ impl Proof {
     pub fn wins_at(&self, line: &mut Line) -> Result<bool, NoMemory>
         requires { self.now.frame.size ≡ line.old.frame.size }
         ensures exact { IfOk result (λ wins. IsTrue wins ↔ IsWon self.now.side line.old.frame line.old.state self.now.tree) }
+        ensures unasked { FitsAt self.now line.old.frame line.old.state → result ≡ Ok true }
         ensures same { line.new ≡ line.old }
     {
         if self.fits(line) {

@@ -7,6 +7,7 @@ ghost use Rattle.tt_proof.specs.Proven.{IsChild, AreChildren, turns_of};
 
 use crate::{Proof, Rejected, Tree, read_cert, replay, write_cert};
 use std::alloc::Global;
+use std::process::Abort;
 use std::test::Fail;
 use tt_game::{Line, Side, Turn, problem};
 use tt_sgf::{Size, read_tree};
@@ -193,124 +194,236 @@ fn text_of(alloc: Global, proof: &Proof, line: &Line) -> Result<Vec<u8>, Fail> {
     }
 }
 
-pub(crate) fn problem_line(alloc: Global, record: &[u8]) -> Result<Line, Fail> {
+fn problem_line(alloc: Global, record: &[u8]) -> Result<Line, Fail> {
     match line_of(alloc, record) {
         Ok(line) => Ok(line),
         Err(_) => Err(Fail::from("no problem")),
     }
 }
 
-#[test]
-fn attacker_proof_by_replay(rt: HostRuntime) -> Result<(), Fail> {
-    let alloc = rt.alloc();
-    let text = b"killed !ca?aa.--!aa.;".as_slice();
-    let mut line = problem_line(alloc, b"(;SZ[4:1]AW[ba][da]PL[B]TR[ba])")?;
-    let found = replayed(alloc, &mut line, text)?;
-    assert_eq!(rt; text_of(alloc, &found, &line)?.as_slice(), text);
-    assert!(&rt; found.side() == Side::Attacker);
-    assert!(&rt; found.first() == Some(play(&line, 2)?));
-    assert_eq!(rt; found.depth(), 3);
-    assert!(&rt; found.has_key(&line.key()));
-    let asked = after(&line, &play(&line, 2)?)?;
-    assert!(&rt; !found.has_key(&asked.key()));
+/// Black to move, with White's two stones that have liberties on both sides, the first one the target; the same after
+/// moves; and the same after one move.
+const SPLIT: &[u8] = b"(;SZ[4:1]AW[ba][da]PL[B]TR[ba])";
+
+const PLAYED: &[u8] = b"(;SZ[4:1]AW[ba];B[ca];W[da]TR[ba])";
+
+const ONE_MOVE: &[u8] = b"(;SZ[4:1]AW[da]PL[W];W[ba]TR[ba])";
+
+/// The certificates of the first problem and of the second one.
+const KILLED: &[u8] = b"killed !ca?aa.--!aa.;";
+
+const LIVES: &[u8] = b"lives ?--!--.;";
+
+/// Fails unless this is the certificate of the proof at the line.
+fn has_text(
+    rt: &impl Abort,
+    alloc: Global,
+    proof: &Proof,
+    line: &Line,
+    text: &[u8],
+) -> Result<(), Fail> {
+    assert_eq!(rt; text_of(alloc, proof, line)?.as_slice(), text);
     Ok(())
 }
 
-/// The proof at the line after the attacker's first turn, which answers a capture and a pass.
+/// Fails unless a proof has the key of its line, and not the key of the line after a turn.
+fn has_own_key(rt: &impl Abort, proof: &Proof, line: &Line, turn: &Turn) -> Result<(), Fail> {
+    let next = after(line, turn)?;
+    assert!(rt; proof.has_key(&line.key()));
+    assert!(rt; !proof.has_key(&next.key()));
+    Ok(())
+}
+
+/// Fails unless a proof of the first problem says what its certificate does.
+fn shows_killed(rt: &impl Abort, alloc: Global, proof: &Proof, line: &Line) -> Result<(), Fail> {
+    let first = play(line, 2)?;
+    assert!(rt; proof.side() == Side::Attacker);
+    assert!(rt; proof.first() == Some(first));
+    assert_eq!(rt; proof.depth(), 3);
+    has_own_key(rt, proof, line, &first)?;
+    has_text(rt, alloc, proof, line, KILLED)
+}
+
+#[test]
+fn attacker_proof_by_replay(rt: HostRuntime) -> Result<(), Fail> {
+    let alloc = rt.alloc();
+    let mut line = problem_line(alloc, SPLIT)?;
+    let found = replayed(alloc, &mut line, KILLED)?;
+    shows_killed(&rt, alloc, &found, &line)
+}
+
+/// The proof after a turn with which the problem is won.
+fn won_after(alloc: Global, line: &Line, turn: &Turn) -> Result<Proof, Fail> {
+    let over = after(line, turn)?;
+    won(alloc, &over)
+}
+
+/// The proof after a pass, which picks a turn with which the problem is won.
+fn picked_after_pass(alloc: Global, line: &Line, turn: &Turn) -> Result<Proof, Fail> {
+    let mut passed = after(line, &Turn::Pass)?;
+    let child = won_after(alloc, &passed, turn)?;
+    picked(alloc, &mut passed, turn, child)
+}
+
+/// The proof after the attacker's first turn, which answers a capture and a pass.
 fn reply_of_attacker(alloc: Global, asked: &mut Line, capture: Turn) -> Result<Proof, Fail> {
-    let taken = after(asked, &capture)?;
-    let mut passed = after(asked, &Turn::Pass)?;
-    let late = after(&passed, &capture)?;
     let mut children = Vec::new(alloc);
-    children.push((capture, won(alloc, &taken)?))?;
-    let pick = picked(alloc, &mut passed, &capture, won(alloc, &late)?)?;
-    children.push((Turn::Pass, pick))?;
+    children.push((capture, won_after(alloc, asked, &capture)?))?;
+    children.push((Turn::Pass, picked_after_pass(alloc, asked, &capture)?))?;
     answered(alloc, asked, children)
+}
+
+/// That proof, of the line at which the attacker has the first turn.
+fn reply_after(alloc: Global, line: &Line, first: &Turn, capture: Turn) -> Result<Proof, Fail> {
+    let mut asked = after(line, first)?;
+    reply_of_attacker(alloc, &mut asked, capture)
+}
+
+/// The attacker's proof of the first problem, made turn by turn.
+fn made_by_attacker(alloc: Global, line: &mut Line) -> Result<Proof, Fail> {
+    let first = play(line, 2)?;
+    let capture = play(line, 0)?;
+    let reply = reply_after(alloc, line, &first, capture)?;
+    picked(alloc, line, &first, reply)
 }
 
 #[test]
 fn attacker_proof_by_parts(rt: HostRuntime) -> Result<(), Fail> {
     let alloc = rt.alloc();
-    let mut line = problem_line(alloc, b"(;SZ[4:1]AW[ba][da]PL[B]TR[ba])")?;
-    let first = play(&line, 2)?;
-    let capture = play(&line, 0)?;
-    let mut asked = after(&line, &first)?;
-    let reply = reply_of_attacker(alloc, &mut asked, capture)?;
-    let made = picked(alloc, &mut line, &first, reply)?;
-    assert_eq!(rt;
-        text_of(alloc, &made, &line)?.as_slice(),
-        b"killed !ca?aa.--!aa.;".as_slice()
-    );
-    Ok(())
+    let mut line = problem_line(alloc, SPLIT)?;
+    let made = made_by_attacker(alloc, &mut line)?;
+    has_text(&rt, alloc, &made, &line, KILLED)
 }
 
 #[test]
-fn defender_proof(rt: HostRuntime) -> Result<(), Fail> {
+fn defender_proof_by_replay(rt: HostRuntime) -> Result<(), Fail> {
     let alloc = rt.alloc();
-    let text = b"lives ?--!--.;".as_slice();
-    let mut line = problem_line(alloc, b"(;SZ[4:1]AW[ba];B[ca];W[da]TR[ba])")?;
-    let found = replayed(alloc, &mut line, text)?;
-    assert_eq!(rt; text_of(alloc, &found, &line)?.as_slice(), text);
-    let mut asked = after(&line, &Turn::Pass)?;
-    let over = after(&asked, &Turn::Pass)?;
-    let pick = picked(alloc, &mut asked, &Turn::Pass, won(alloc, &over)?)?;
+    let mut line = problem_line(alloc, PLAYED)?;
+    let found = replayed(alloc, &mut line, LIVES)?;
+    has_text(&rt, alloc, &found, &line, LIVES)
+}
+
+/// The defender's proof of the second problem, made turn by turn.
+fn made_by_defender(alloc: Global, line: &mut Line) -> Result<Proof, Fail> {
     let mut children = Vec::new(alloc);
-    children.push((Turn::Pass, pick))?;
-    let made = answered(alloc, &mut line, children)?;
-    assert_eq!(rt; text_of(alloc, &made, &line)?.as_slice(), text);
-    Ok(())
+    children.push((Turn::Pass, picked_after_pass(alloc, line, &Turn::Pass)?))?;
+    answered(alloc, line, children)
+}
+
+#[test]
+fn defender_proof_by_parts(rt: HostRuntime) -> Result<(), Fail> {
+    let alloc = rt.alloc();
+    let mut line = problem_line(alloc, PLAYED)?;
+    let made = made_by_defender(alloc, &mut line)?;
+    has_text(&rt, alloc, &made, &line, LIVES)
+}
+
+/// How many nodes a proof has, and how deep a copy of its plan is.
+fn sizes(proof: &Proof) -> Result<(u64, u16), Fail> {
+    let copy = proof.plan().try_clone()?;
+    Ok((proof.nodes(), copy.depth()))
 }
 
 #[test]
 fn measures(rt: HostRuntime) -> Result<(), Fail> {
     let alloc = rt.alloc();
-    let mut line = problem_line(alloc, b"(;SZ[4:1]AW[ba][da]PL[B]TR[ba])")?;
-    let found = replayed(alloc, &mut line, b"killed !ca?aa.--!aa.;")?;
-    assert_eq!(rt; found.nodes(), 5);
-    assert_eq!(rt; found.plan().try_clone()?.depth(), 3);
+    let mut line = problem_line(alloc, SPLIT)?;
+    let found = replayed(alloc, &mut line, KILLED)?;
+    assert!(&rt; sizes(&found)? == (5, 3));
+    Ok(())
+}
+
+/// Whether the proof of a certificate at the first problem fits the line of the other.
+fn fits(alloc: Global, record: &[u8], certificate: &[u8], other: &[u8]) -> Result<bool, Fail> {
+    let mut line = problem_line(alloc, record)?;
+    let proof = replayed(alloc, &mut line, certificate)?;
+    fits_at(alloc, &proof, other)
+}
+
+/// Whether a proof fits the line of a problem.
+fn fits_at(alloc: Global, proof: &Proof, record: &[u8]) -> Result<bool, Fail> {
+    let line = problem_line(alloc, record)?;
+    Ok(proof.fits(&line))
+}
+
+/// Whether the proof of a certificate at the first problem stands at the line of the other.
+fn stands(alloc: Global, record: &[u8], certificate: &[u8], other: &[u8]) -> Result<bool, Fail> {
+    let mut line = problem_line(alloc, record)?;
+    let proof = replayed(alloc, &mut line, certificate)?;
+    stands_at(alloc, &proof, other)
+}
+
+/// Whether a proof stands at the line of a problem.
+fn stands_at(alloc: Global, proof: &Proof, record: &[u8]) -> Result<bool, Fail> {
+    let line = problem_line(alloc, record)?;
+    Ok(proof.stands_at(&line))
+}
+
+#[test]
+fn killed_fits(rt: HostRuntime) -> Result<(), Fail> {
+    let alloc = rt.alloc();
+    assert!(&rt; fits(alloc, SPLIT, KILLED, SPLIT)?, "where it was found");
+    assert!(&rt;
+        !fits(alloc, SPLIT, KILLED, PLAYED)?,
+        "what it avoids has been"
+    );
+    assert!(&rt; fits(alloc, SPLIT, KILLED, ONE_MOVE)?, "after one move");
+    assert!(&rt;
+        !stands(alloc, SPLIT, KILLED, ONE_MOVE)?,
+        "it stands after no move"
+    );
     Ok(())
 }
 
 #[test]
-fn proofs_that_fit(rt: HostRuntime) -> Result<(), Fail> {
+fn lives_fits(rt: HostRuntime) -> Result<(), Fail> {
     let alloc = rt.alloc();
-    let mut p = problem_line(alloc, b"(;SZ[4:1]AW[ba][da]PL[B]TR[ba])")?;
-    let mut q = problem_line(alloc, b"(;SZ[4:1]AW[ba];B[ca];W[da]TR[ba])")?;
-    let other = problem_line(alloc, b"(;SZ[4:1]AW[da]PL[W];W[ba]TR[ba])")?;
-    let killed = replayed(alloc, &mut p, b"killed !ca?aa.--!aa.;")?;
-    let lives = replayed(alloc, &mut q, b"lives ?--!--.;")?;
-    assert!(&rt; killed.fits(&p));
-    assert!(&rt; !killed.fits(&q));
-    assert!(&rt; !lives.fits(&p));
-    assert!(&rt; lives.fits(&q));
-    assert!(&rt; killed.fits(&other));
-    assert!(&rt; !killed.stands_at(&other));
+    assert!(&rt;
+        !fits(alloc, PLAYED, LIVES, SPLIT)?,
+        "what it needs is missing"
+    );
+    assert!(&rt; fits(alloc, PLAYED, LIVES, PLAYED)?, "where it was found");
+    Ok(())
+}
+
+/// Fails unless the proof of a line at which a side has passed fits that line, and not one at which nobody has.
+fn fits_passed(
+    rt: &impl Abort,
+    alloc: Global,
+    passed: &mut Line,
+    certificate: &[u8],
+    not_passed: &[u8],
+) -> Result<(), Fail> {
+    let proof = replayed(alloc, passed, certificate)?;
+    assert!(rt; proof.fits(passed), "after the pass");
+    assert!(rt;
+        !fits_at(alloc, &proof, not_passed)?,
+        "where nobody has passed"
+    );
     Ok(())
 }
 
 #[test]
 fn passes_fit(rt: HostRuntime) -> Result<(), Fail> {
     let alloc = rt.alloc();
-    let q = problem_line(alloc, b"(;SZ[4:1]AW[ba];B[ca];W[da]TR[ba])")?;
-    let mut asked = after(&q, &Turn::Pass)?;
-    let lives = replayed(alloc, &mut asked, b"lives !--.")?;
-    let no_pass = problem_line(alloc, b"(;SZ[4:1]AW[ba][da]PL[W]TR[ba])")?;
-    assert!(&rt; lives.fits(&asked));
-    assert!(&rt; !lives.fits(&no_pass));
-    Ok(())
+    let line = problem_line(alloc, PLAYED)?;
+    let mut passed = after(&line, &Turn::Pass)?;
+    let white = b"(;SZ[4:1]AW[ba][da]PL[W]TR[ba])";
+    fits_passed(&rt, alloc, &mut passed, b"lives !--.", white)
+}
+
+/// Whether the proof that is made turn by turn fits the line of a problem.
+fn made_fits(alloc: Global, record: &[u8]) -> Result<bool, Fail> {
+    let mut line = problem_line(alloc, SPLIT)?;
+    let made = made_by_attacker(alloc, &mut line)?;
+    fits_at(alloc, &made, record)
 }
 
 #[test]
 fn made_proofs_fit(rt: HostRuntime) -> Result<(), Fail> {
     let alloc = rt.alloc();
-    let mut line = problem_line(alloc, b"(;SZ[4:1]AW[ba][da]PL[B]TR[ba])")?;
-    let q = problem_line(alloc, b"(;SZ[4:1]AW[ba];B[ca];W[da]TR[ba])")?;
-    let other = problem_line(alloc, b"(;SZ[4:1]AW[da]PL[W];W[ba]TR[ba])")?;
-    let first = play(&line, 2)?;
-    let capture = play(&line, 0)?;
-    let mut asked = after(&line, &first)?;
-    let reply = reply_of_attacker(alloc, &mut asked, capture)?;
-    let made = picked(alloc, &mut line, &first, reply)?;
-    assert!(&rt; made.fits(&line) && !made.fits(&q) && made.fits(&other));
+    assert!(&rt; made_fits(alloc, SPLIT)?, "where it was made");
+    assert!(&rt; !made_fits(alloc, PLAYED)?, "what it avoids has been");
+    assert!(&rt; made_fits(alloc, ONE_MOVE)?, "after one move");
     Ok(())
 }
