@@ -5,6 +5,7 @@ use Rattle.tt_game.specs.Game.{State}
 use Rattle.tt_game.specs.Line.{Standing}
 use Rattle.tt_search.specs.PartialTree.{PartialTree}
 use Rattle.tt_search.specs.Numbers.{count, IsUndecided}
+use Rattle.tt_search.specs.MostProving.{most_proving_depth}
 use Rattle.tt_search.specs.Growing.{IsExpansion, IsClosing, Grows, GrownBy, GrownFrom}
 use Rattle.tt_search.specs.Walking.{Stand, Stage, stage, stand}
 use Rattle.tt_search.specs.Taken.{Taken, IsLeft}
@@ -15,7 +16,7 @@ use Rattle.tt_search.specs.Ended.{IsReached}
 use Rattle.tt_search.specs.Advanced.{IsAdvanced}
 use Rattle.tt_search.specs.declared.limits.Limits.{Limits}
 use Rattle.tt_search.specs.declared.limits.Reason.{Reason}
-use Rattle.tt_search.specs.declared.limits.Reason.TheVariants.{Budget, Depth, Memory}
+use Rattle.tt_search.specs.declared.limits.Reason.TheVariants.{Budget, Depth, Total, Memory}
 use Rattle.tt_search.specs.declared.limits.Step.{Step}
 use Rattle.tt_search.specs.declared.limits.Step.TheVariants.{Expanded, Closed, Settled, Stuck}
 use Rattle.tt_search.specs.declared.walk.Pace.{Pace}
@@ -46,6 +47,7 @@ module _ (at : Stand) (limits : Limits) where
   taken_with old Settled new h u k l = absurd k
   taken_with old (Stuck Budget) new h u k l = same_with old new h k.1 l
   taken_with old (Stuck Depth) new h u k l = same_with old new h k.2 l
+  taken_with old (Stuck Total) new h u k l = same_with old new h k.2 l
   taken_with old (Stuck Memory) new h u k l = same_with old new h k l
 
   -- and so do steps together
@@ -80,6 +82,7 @@ module _ (line : Standing) (room : ℕ) (limits : Limits) where
   step_of old Settled new h u k l = absurd k
   step_of old (Stuck Budget) new h u k l = ((u, omega (arith, k.0, h.counted)), ap (searched line limits) k.1)
   step_of old (Stuck Depth) new h u k l = ((u, omega (arith, k.0, h.counted), k.1 ∙ h.room), ap (searched line limits) k.2)
+  step_of old (Stuck Total) new h u k l = ((u, omega (arith, k.0, h.counted), subst (λ (r : ℕ). most_proving_depth old.tree < r) h.room k.1), ap (searched line limits) k.2)
   step_of old (Stuck Memory) new h u k l = (u, ap (searched line limits) k)
 
   -- no growths leave the tree as it was
@@ -162,6 +165,7 @@ settled_reached pace start old new r h = subst (IsReached start) (sym h.taken.1)
 stuck_of : (reason : Reason) (old new : Searched) → StepOf old (Stuck reason) new → IsStuckFor reason old × (new ≡ old)
 stuck_of Budget old new h = h
 stuck_of Depth old new h = h
+stuck_of Total old new h = h
 stuck_of Memory old new h = (tt, h.1)
 
 -- steps that end stuck lead to a search that is reached and stuck for the reason

@@ -6,6 +6,7 @@ pub mod Places
 pub mod Steps
 pub mod Open
 pub mod Steady
+pub mod Asking
 pub mod Sprouted
 pub mod WayDown
 pub mod Changed

@@ -20,7 +20,7 @@ use Rattle.tt_search.specs.Children.{children_of}
 use Rattle.tt_search.proofs.Best.{best_child}
 use Rattle.tt_search.specs.declared.limits.Step.{Step}
 use Rattle.tt_search.specs.declared.limits.Step.TheVariants.{Expanded, Closed, Settled, Stuck}
-use Rattle.tt_search.specs.declared.limits.Reason.TheVariants.{Budget, Depth, Memory}
+use Rattle.tt_search.specs.declared.limits.Reason.TheVariants.{Budget, Depth, Total, Memory}
 
 -- there are as many turns as children
 pub lengths : (f : Frame) (s : State) (turns : List Turn) (trees : List PartialTree) → ArePartialTrees f s turns (children_of trees) → length turns ≡ length trees
@@ -133,6 +133,7 @@ module _ (at : Stand) (mover : Side) (turns : List Turn) (trees : List PartialTr
   lifted left Settled new pos h = h
   lifted left (Stuck Budget) new pos h = (h.0, same_is new h.1)
   lifted left (Stuck Depth) new pos h = (h.0, omega (arith, h.1, leaf_depth_is), same_is new h.2)
+  lifted left (Stuck Total) new pos h = (h.0, omega (arith, h.1, leaf_depth_is), same_is new h.2)
   lifted left (Stuck Memory) new pos h = same_is new h
 
 -- what is known at an undecided node of the place of its best child

@@ -14,7 +14,7 @@ use Rattle.tt_search.specs.declared.edges.Edge.{Edge}
 use Rattle.tt_search.specs.declared.edges.Mark.{Mark}
 use Rattle.tt_search.specs.declared.edges.Mark.TheVariants.{Fresh, Won, Grown}
 use Rattle.tt_search.specs.declared.limits.Reason.{Reason}
-use Rattle.tt_search.specs.declared.limits.Reason.TheVariants.{Budget, Depth, Memory}
+use Rattle.tt_search.specs.declared.limits.Reason.TheVariants.{Budget, Depth, Total, Memory}
 use Rattle.tt_search.specs.declared.limits.Step.{Step}
 use Rattle.tt_search.specs.declared.limits.Step.TheVariants.{Expanded, Stuck}
 use Rattle.tt_search.specs.declared.children.Packed.{Packed}
@@ -28,6 +28,7 @@ use Rattle.tt_search.proofs.Places.{fresh_there, fresh_tree, rank_within, same_t
 stuck_fresh : (at : Stand) (left : ℕ) (reason : Reason) (tree : PartialTree) → Taken at (stage fresh left) (Stuck reason) tree → Taken at (stage fresh left) (Stuck reason) fresh
 stuck_fresh at left Budget tree k = (k.0, refl)
 stuck_fresh at left Depth tree k = (k.0, k.1, refl)
+stuck_fresh at left Total tree k = (k.0, k.1, refl)
 stuck_fresh at left Memory tree k = refl
 
 -- a child that stays fresh changes nothing
@@ -52,6 +53,13 @@ pub stays_for_memory : (walk after : Walk) (place : ℕ) (x y : Packed) → IsFr
     → y.grown.items ≡ x.grown.items → Sprouts walk place x (Stuck Memory) y after
 stays_for_memory walk after place x y there same edges row =
     (fresh, refl, ap (λ (w : Walk). w.left) (sym same), put_nothing place x y there edges row)
+
+-- nor where the expansion is refused
+pub stays_ungranted : (walk after : Walk) (place : ℕ) (x y : Packed) (step : Step) (tree : PartialTree) → IsFreshAt place x.edges.items → after ≡ walk → y.edges.items ≡ x.edges.items
+    → y.grown.items ≡ x.grown.items → Taken (stand_of walk) (stage fresh walk.left) step tree → step ≡ Expanded → Sprouts walk place x (Stuck Total) y after
+stays_ungranted walk after place x y step tree there same edges row h e =
+    let expands = subst (λ s. Taken (stand_of walk) (stage fresh walk.left) s tree) e h in
+    (fresh, (expands.0, expands.1.0, refl), ap (λ (w : Walk). w.left) (sym same), put_nothing place x y there edges row)
 
 -- the tree of an expanded leaf may be offered
 pub leaf_offerable : (walk after : Walk) (step : Step) (new : PartialTree) → after ≡ walk → winner_of walk.line.frame walk.line.state ≡ None → step ≡ Expanded

@@ -14,7 +14,7 @@ use Rattle.tt_search.specs.Walking.{Stand, Stage, stand, MayGrow}
 use Rattle.tt_search.specs.declared.limits.Limits.{Limits}
 use Rattle.tt_search.specs.declared.limits.Step.{Step}
 use Rattle.tt_search.specs.declared.limits.Step.TheVariants.{Expanded, Closed, Settled, Stuck}
-use Rattle.tt_search.specs.declared.limits.Reason.TheVariants.{Budget, Depth, Memory}
+use Rattle.tt_search.specs.declared.limits.Reason.TheVariants.{Budget, Depth, Total, Memory}
 use Rattle.tt_search.proofs.Grown.{count_grown, leaf_open, partial_grown, stays_grown, expansion_partial, expansion_stays, expansion_count}
 
 module _ (at : Stand) (limits : Limits) (old new : Stage) (is : IsSearch at limits old) (u : IsUndecided old.tree) where
@@ -69,6 +69,7 @@ taken_keeps at old Closed new m (side, strategy, w, o, d, e) = (
 taken_keeps at old Settled new m h = absurd h
 taken_keeps at old (Stuck Budget) new m h = subst (IsTreeWithin at) (sym h.1) (m.partial, m.stays)
 taken_keeps at old (Stuck Depth) new m h = subst (IsTreeWithin at) (sym h.2) (m.partial, m.stays)
+taken_keeps at old (Stuck Total) new m h = subst (IsTreeWithin at) (sym h.2) (m.partial, m.stays)
 taken_keeps at old (Stuck Memory) new m h = subst (IsTreeWithin at) (sym h) (m.partial, m.stays)
 
 -- an expansion counts one more node

@@ -1,13 +1,18 @@
 -- The expansion of a node from its successors.
-use Rattle.std.proofs.Common.{◌≡◌, ℕ, zero, suc, ◌+◌, ◌<◌, List, [], ◌∷◌, ◌++◌, map, take, length, get_or, refl, sym, ◌∙◌, ap, add-one, arith}
+use Rattle.std.proofs.Common.{◌≡◌, ℕ, ◌+◌, List, [], ◌∷◌, ◌++◌, map, Option, refl, sym, ◌∙◌, ap}
+use Rattle.std.proofs.lemmas.List.{append_assoc}
 use Rattle.tt_game.specs.declared.frame.Side.{Side}
 use Rattle.tt_game.specs.declared.frame.Frame.{Frame}
 use Rattle.tt_game.specs.declared.turns.Turn.{Turn}
+use Rattle.tt_game.specs.declared.turns.Turn.TheVariants.{Play, Pass}
 use Rattle.tt_game.specs.declared.turns.Successor.{Successor}
-use Rattle.tt_game.specs.Game.{State, after}
-use Rattle.tt_game.specs.Turns.{legal_turns, successor, successors_of}
+use Rattle.tt_game.specs.Game.{State, after, winner_of}
+use Rattle.tt_game.specs.Turns.{legal_turns, successor, successors_of, successors_from}
 use Rattle.tt_search.specs.PartialTree.{PartialTree, more, expanded}
 use Rattle.tt_search.specs.Children.{children_of}
+use Rattle.tt_search.specs.declared.edges.Edge.{Edge}
+use Rattle.tt_search.specs.Edges.{turn_of, mark_of, tree_of, turns_of, trees_of}
+use Rattle.tt_search.proofs.Places.{turns_push, trees_push}
 use Rattle.tt_search.specs.Growing.{leaf_for, new_leaf, new_leaves, expansion}
 
 -- the turns of the successors of turns are these turns
@@ -38,12 +43,45 @@ expansion_of f s mover xs turns leaves m e t l =
     ∙ ap (λ ts. expanded s.to_move ts (children_of leaves)) (t ∙ ap (map (λ x. x.turn)) e ∙ turns_of-successors f s)
     ∙ ap (expanded s.to_move (legal_turns f s)) (ap children_of (l ∙ ap (map (λ x. leaf_for x.winner)) e) ∙ leaves_of-successors f s)
 
--- one more of a list maps to one more
-map_suc : {X Y : Type 0} (f : X → Y) (xs : List X) (i : ℕ) (d : X) → i < length xs → map f (take (suc i) xs) ≡ map f (take i xs) ++ f (get_or xs i d) ∷ []
-map_suc f [] i d l = absurd (omega arith)
-map_suc f (x ∷ xs) zero d l = refl
-map_suc f (x ∷ xs) (suc i) d l = ap (λ ys. f x ∷ ys) (map_suc f xs i d (omega arith))
+-- what was made, and what is left, is the whole
+shifted : {X : Type 0} (done made rest next whole : List X) (x : X) → made ≡ done ++ x ∷ [] → next ≡ x ∷ rest → done ++ next ≡ whole → made ++ rest ≡ whole
+shifted done made rest next whole x is here all =
+    ap (λ ys. ys ++ rest) is ∙ append_assoc done (x ∷ []) rest ∙ ap (λ ys. done ++ ys) (sym here) ∙ all
 
--- one more of a list that is looked at in order
-pub map_next : {X Y : Type 0} (f : X → Y) (xs : List X) (i : ℕ) (x : X) → x ≡ get_or xs i x → i < length xs → map f (take (i + 1) xs) ≡ map f (take i xs) ++ f x ∷ []
-map_next f xs i x e l = rw add-one (map_suc f xs i x l) ∙ ap (λ y. map f (take i xs) ++ f y ∷ []) (sym e)
+-- an edge to the next legal play: the turns behind the edges, and those left, are the legal ones
+pub turns_more : (f : Frame) (s : State) (es made : List Edge) (e : Edge) (from p n : ℕ) → made ≡ es ++ e ∷ [] → turn_of e ≡ Play p
+    → successors_from f s from ≡ successor f s (Play p) ∷ successors_from f s (p + 1) → n ≡ p
+    → turns_of es ++ map (λ x. x.turn) (successors_from f s from) ≡ legal_turns f s → turns_of made ++ map (λ x. x.turn) (successors_from f s (n + 1)) ≡ legal_turns f s
+turns_more f s es made e from p n is turn next here all =
+    shifted (turns_of es) (turns_of made) _ (map (λ x. x.turn) (successors_from f s from)) (legal_turns f s) (Play p)
+    (ap turns_of is ∙ turns_push es e ∙ ap (λ t. turns_of es ++ t ∷ []) turn)
+    (ap (map (λ x. x.turn)) next ∙ ap (λ k. Play p ∷ map (λ x. x.turn) (successors_from f s (k + 1))) (sym here))
+    all
+
+-- and so are the new leaves
+pub leaves_more : (f : Frame) (s : State) (es made : List Edge) (e : Edge) (winner : Option Side) (from p n : ℕ) → made ≡ es ++ e ∷ [] → tree_of (mark_of e) [] ≡ leaf_for winner
+    → winner ≡ winner_of f (after f s (Play p)) → successors_from f s from ≡ successor f s (Play p) ∷ successors_from f s (p + 1) → n ≡ p
+    → trees_of es [] ++ map (λ x. leaf_for x.winner) (successors_from f s from) ≡ map (λ x. leaf_for x.winner) (successors_of f s)
+    → trees_of made [] ++ map (λ x. leaf_for x.winner) (successors_from f s (n + 1)) ≡ map (λ x. leaf_for x.winner) (successors_of f s)
+leaves_more f s es made e winner from p n is tree won next here all =
+    shifted (trees_of es []) (trees_of made []) _ (map (λ x. leaf_for x.winner) (successors_from f s from)) (map (λ x. leaf_for x.winner) (successors_of f s))
+    (leaf_for (winner_of f (after f s (Play p))))
+    (ap (λ ys. trees_of ys []) is ∙ trees_push es e ∙ ap (λ t. trees_of es [] ++ t ∷ []) (tree ∙ ap leaf_for won))
+    (ap (map (λ x. leaf_for x.winner)) next
+    ∙ ap (λ k. leaf_for (winner_of f (after f s (Play p))) ∷ map (λ x. leaf_for x.winner) (successors_from f s (k + 1))) (sym here))
+    all
+
+-- the edge to a pass ends them: the turns are the legal ones
+pub turns_last : (f : Frame) (s : State) (es made : List Edge) (e : Edge) (from : ℕ) → made ≡ es ++ e ∷ [] → turn_of e ≡ Pass → successors_from f s from ≡ successor f s Pass ∷ []
+    → turns_of es ++ map (λ x. x.turn) (successors_from f s from) ≡ legal_turns f s → turns_of made ≡ map (λ x. x.turn) (successors_of f s)
+turns_last f s es made e from is turn next all =
+    ap turns_of is ∙ turns_push es e ∙ ap (λ t. turns_of es ++ t ∷ []) turn ∙ ap (λ xs. turns_of es ++ map (λ x. x.turn) xs) (sym next) ∙ all ∙ sym (turns_of-successors f s)
+
+-- and the leaves are new leaves for all successors
+pub leaves_last : (f : Frame) (s : State) (es made : List Edge) (e : Edge) (winner : Option Side) (from : ℕ) → made ≡ es ++ e ∷ [] → tree_of (mark_of e) [] ≡ leaf_for winner
+    → winner ≡ winner_of f (after f s Pass) → successors_from f s from ≡ successor f s Pass ∷ []
+    → trees_of es [] ++ map (λ x. leaf_for x.winner) (successors_from f s from) ≡ map (λ x. leaf_for x.winner) (successors_of f s)
+    → trees_of made [] ≡ map (λ x. leaf_for x.winner) (successors_of f s)
+leaves_last f s es made e winner from is tree won next all =
+    ap (λ ys. trees_of ys []) is ∙ trees_push es e ∙ ap (λ t. trees_of es [] ++ t ∷ []) (tree ∙ ap leaf_for won)
+    ∙ ap (λ xs. trees_of es [] ++ map (λ x. leaf_for x.winner) xs) (sym next) ∙ all

@@ -1,7 +1,10 @@
 -- How a run ends.
-use Rattle.std.specs.Prelude.{Some, None}
+use Rattle.std.specs.Prelude.{◌≡◌, ◌+◌, true, Some, None}
+use Rattle.tt_search.specs.Numbers.{count}
+use Rattle.tt_search.specs.Grants.{Asked}
 use Rattle.tt_search.specs.Growing.{GrownFrom}
 use Rattle.tt_search.specs.Searched.{Searched, IsSameProblem, IsProofOf, IsStuckFor}
+use Rattle.tt_search.specs.declared.limits.Reason.TheVariants.{Budget, Depth, Total, Memory}
 use Rattle.tt_search.specs.declared.search.End.{End}
 use Rattle.tt_search.specs.declared.search.End.TheVariants.{Settled, Stuck}
 
@@ -16,3 +19,18 @@ abbrev pub EndOf : Searched → End → Type 0
 EndOf start (Settled proof) = (search : Searched) × IsReached start search × IsProofOf search proof
 EndOf start (Stuck reason (Some search)) = IsReached start search × IsStuckFor reason search
 EndOf start (Stuck reason None) = ⊥
+
+-- from one search to another one, as many expansions were granted as the tree's count rose by
+abbrev pub HasSpent : Searched → Asked → Searched → Asked → Type 0
+HasSpent start old search new = new.granted + count start.tree ≡ old.granted + count search.tree
+
+-- what a run spent, by its end: the grants are the expansions of the search that it holds, or of the one whose proof it
+-- answers; one was refused where it is stuck for the total, and elsewhere none was in the run
+abbrev pub SpentBy : Searched → Asked → End → Asked → Type 0
+SpentBy start old (Settled proof) new =
+    (search : Searched) × IsReached start search × IsProofOf search proof × HasSpent start old search new × (new.refused ≡ old.refused)
+SpentBy start old (Stuck Budget (Some search)) new = HasSpent start old search new × (new.refused ≡ old.refused)
+SpentBy start old (Stuck Depth (Some search)) new = HasSpent start old search new × (new.refused ≡ old.refused)
+SpentBy start old (Stuck Total (Some search)) new = HasSpent start old search new × (new.refused ≡ true)
+SpentBy start old (Stuck Memory (Some search)) new = HasSpent start old search new × (new.refused ≡ old.refused)
+SpentBy start old (Stuck reason None) new = ⊥

@@ -7,6 +7,7 @@ pub mod Settled
 pub mod Searched
 pub mod Ended
 pub mod Stores
+pub mod Grants
 pub mod KeyIndex
 -- What private contracts and proofs cite. Nobody has to believe these.
 pub mod Children
@@ -27,6 +28,7 @@ pub mod Within
 pub mod Walking
 pub mod Taken
 pub mod Steady
+pub mod Asking
 pub mod Sprouting
 pub mod Usable
 pub mod Searching

@@ -12,7 +12,7 @@ use Rattle.tt_search.specs.declared.limits.Limits.{Limits}
 use Rattle.tt_search.specs.declared.limits.Step.{Step}
 use Rattle.tt_search.specs.declared.limits.Step.TheVariants.{Expanded, Closed, Settled, Stuck}
 use Rattle.tt_search.specs.declared.limits.Reason.{Reason}
-use Rattle.tt_search.specs.declared.limits.Reason.TheVariants.{Budget, Depth, Memory}
+use Rattle.tt_search.specs.declared.limits.Reason.TheVariants.{Budget, Depth, Total, Memory}
 
 -- the line of a search, its limits and its tree
 pub record Searched : Type 0 where
@@ -30,6 +30,8 @@ abbrev pub IsStuckFor : Reason → Searched → Type 0
 IsStuckFor Budget search = IsUndecided search.tree × (count search.tree ≡ search.limits.budget)
 IsStuckFor Depth search =
     IsUndecided search.tree × (count search.tree < search.limits.budget) × (most_proving_depth search.tree ≡ search.limits.depth)
+IsStuckFor Total search =
+    IsUndecided search.tree × (count search.tree < search.limits.budget) × (most_proving_depth search.tree < search.limits.depth)
 IsStuckFor Memory search = Unit {0}
 
 -- what each answer of a step says
@@ -40,6 +42,7 @@ StepOf old Closed new = IsUndecided old.tree × IsClosing old.limits.depth old.l
 StepOf old Settled new = (IsUndecided old.tree → ⊥) × (new ≡ old)
 StepOf old (Stuck Budget) new = IsStuckFor Budget old × (new ≡ old)
 StepOf old (Stuck Depth) new = IsStuckFor Depth old × (new ≡ old)
+StepOf old (Stuck Total) new = IsStuckFor Total old × (new ≡ old)
 StepOf old (Stuck Memory) new = IsUndecided old.tree × (new ≡ old)
 
 -- the proof stands at the search's line, within its limit on depth, and its strategy is that of the search's tree

@@ -1,7 +1,9 @@
 //! Kept proofs that may be used at a leaf.
 
-ghost use Rattle.std.specs.Prelude.{◌≡◌, ◌≤◌, IfOk, IfSome, IsTrue};
+ghost use Rattle.std.specs.Prelude.{◌≡◌, ◌≤◌, ◌↔◌, IfOk, IfSome, IsTrue, true, Ok};
 ghost use Rattle.tt_game.specs.Keys.{key_of};
+ghost use Rattle.tt_proof.specs.Proven.{FitsAt};
+ghost use Rattle.tt_proof.specs.Strategy.{depth};
 ghost use Rattle.tt_search.specs.Usable.{IsUsable};
 
 use crate::store::{BothSides, Store};
@@ -14,7 +16,8 @@ use tt_sgf::NoMemory;
 /// too, though it may have been found under another history.
 fn is_usable(line: &mut Line, room: u16, proof: &Proof) -> Result<bool, NoMemory>
     requires { key_of proof.now.frame proof.now.state ≡ key_of line.old.frame line.old.state }
-    ensures usable { IfOk result (λ b. IsTrue b → IsUsable room line.old proof.now) }
+    ensures usable { IfOk result (λ b. IsTrue b ↔ IsUsable room line.old proof.now) }
+    ensures unasked { FitsAt proof.now line.old.frame line.old.state → depth proof.now.tree ≤ room → result ≡ Ok true }
     ensures line { line.new ≡ line.old }
 {
     if proof.depth() > room {

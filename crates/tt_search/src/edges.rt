@@ -16,7 +16,7 @@ pub(crate) enum Mark {
 }
 
 /// A turn, and the mark of the child behind it. The number of the turn is that of its point, or `MOST_POINTS` for a pass.
-#[derive(Clone, Copy)]
+#[derive(Clone, Copy, Default)]
 pub(crate) struct Edge {
     pub(crate) code: u16,
 }

@@ -1,6 +1,6 @@
 //! Steps of a search: the tree grows at its most-proving leaf, and the numbers on the way to it are brought up to date.
 
-ghost use Rattle.std.specs.Prelude.{◌≡◌, ◌<◌, ◌≤◌, ◌↔◌, ◌⊎◌, true, None, length, take, OnOk};
+ghost use Rattle.std.specs.Prelude.{◌≡◌, ◌≢◌, ◌+◌, ◌-◌, ◌^◌, ◌<◌, ◌≤◌, ◌↔◌, ◌⊎◌, true, false, None, length, take, OnOk};
 ghost use Rattle.std.specs.Vec.{vec_len, vec_capacity};
 ghost use Rattle.tt_game.specs.Game.{winner_of};
 ghost use Rattle.tt_proof.specs.declared.tree.TheConstants.{MOST_DEPTH};
@@ -12,11 +12,15 @@ ghost use Rattle.tt_search.specs.Walking.{stage, stand_of, MayGrow};
 ghost use Rattle.tt_search.specs.Sprouting.{IsFreshAt, Sprouts, StepsBelow, BestSteps};
 ghost use Rattle.tt_search.specs.Taken.{Taken, IsLeft};
 ghost use Rattle.tt_search.specs.Steady.{AreSteps};
+ghost use Rattle.tt_search.specs.Grants.{AskedBy};
+ghost use Rattle.tt_search.specs.Asking.{AreAsked};
+ghost use Rattle.tt_search.specs.declared.limits.Reason.TheVariants.{Total};
 ghost use Rattle.tt_search.specs.declared.limits.Step.TheVariants.{Expanded, Closed, Stuck};
 
 use crate::children::{Children, Packed};
 use crate::closing::closing;
 use crate::edges::Mark;
+use crate::grants::Grants;
 use crate::leaves::{closed_leaf, expanded_at, new_leaf};
 use crate::limits::{Reason, Step};
 use crate::node::{Growth, Node};
@@ -34,12 +38,13 @@ fn grows(step: Step) -> bool
 }
 
 /// A step at a fresh leaf, and the node that it becomes: a kept proof closes it, or it is expanded where the budget and the
-/// room allow it.
+/// room allow it. The expansion is still to be asked for.
 fn leaf_step<S: Store>(walk: &mut Walk, store: &mut S) -> (Step, Node)
     requires open { winner_of walk.old.line.frame walk.old.line.state ≡ None }
     ensures walk { walk.new ≡ walk.old }
     ensures may { result.0 ≡ Closed → S.may_answer }
     ensures kept { S.kept store.new ≡ S.kept store.old }
+    ensures unasked { result.0 ≢ Stuck Total }
     ensures taken { Taken (stand_of walk.old) (stage fresh walk.old.left) result.0 result.1 }
 {
     match closing(&mut walk.line, walk.room, store) {
@@ -56,6 +61,20 @@ fn leaf_step<S: Store>(walk: &mut Walk, store: &mut S) -> (Step, Node)
     match expanded_at(walk.alloc, &mut walk.line) {
         Ok(node) => (Step::Expanded, node),
         Err(_) => (Step::Stuck(Reason::Memory), new_leaf(None)),
+    }
+}
+
+/// Whether a step may be taken: an expansion is asked for, and nothing else.
+fn is_granted<G: Grants>(step: Step, grants: &mut G) -> bool
+    requires room { step ≡ Expanded → (G.asked grants.old).granted < 2 ^ 64 - 1 }
+    requires unasked { step ≢ Stuck Total }
+    ensures granted { result ≡ true → AskedBy (G.asked grants.old) step (G.asked grants.new) }
+    ensures refused { result ≡ false → (step ≡ Expanded) × AskedBy (G.asked grants.old) (Stuck Total) (G.asked grants.new) }
+    ensures source { G.source grants.new ≡ G.source grants.old }
+{
+    match step {
+        Step::Expanded => grants.ask(),
+        Step::Closed | Step::Settled | Step::Stuck(_) => true,
     }
 }
 
@@ -90,12 +109,22 @@ impl Node {
     /// numbers or is stuck. While they stay, every node above keeps its numbers and its choice, so the way down still leads
     /// through this node.
     #[cycle(descent)]
-    pub(crate) fn grow<S: Store>(&mut self, walk: &mut Walk, pace: Pace, store: &mut S) -> Step
+    pub(crate) fn grow<S: Store, G: Grants>(
+        &mut self,
+        walk: &mut Walk,
+        pace: Pace,
+        store: &mut S,
+        grants: &mut G,
+    ) -> Step
         requires may_grow { MayGrow (stand_of walk.old) self.old }
         requires room { walk.old.room ≤ MOST_DEPTH }
+        requires grants { (G.asked grants.old).granted + walk.old.left < 2 ^ 64 }
         ensures line { walk.new.line ≡ walk.old.line }
         ensures room { walk.new.room ≡ walk.old.room }
         ensures may { result ≡ Closed → S.may_answer }
+        ensures granted { (G.asked grants.new).granted + walk.new.left ≡ (G.asked grants.old).granted + walk.old.left }
+        ensures asked { AreAsked pace (G.asked grants.old) result (G.asked grants.new) }
+        ensures source { G.source grants.new ≡ G.source grants.old }
         ensures steps { AreSteps pace walk.old self.old result self.new walk.new }
     {
         'rounds: loop {
@@ -103,7 +132,7 @@ impl Node {
             let disproof = self.number(Side::Defender);
             // A new step may offer again, though a proof couldn't be made in the last one.
             walk.offering = true;
-            let step = self.round(walk, pace, store);
+            let step = self.round(walk, pace, store, grants);
             if pace.is_one_step() || !grows(step) {
                 return step;
             }
@@ -116,12 +145,22 @@ impl Node {
     /// Steps at an undecided node, as `grow`, by one descent: one step at a leaf, and otherwise the steps of its best
     /// child. Each node that becomes settled is offered to the store, the deepest first.
     #[cycle(descent)]
-    fn round<S: Store>(&mut self, walk: &mut Walk, pace: Pace, store: &mut S) -> Step
+    fn round<S: Store, G: Grants>(
+        &mut self,
+        walk: &mut Walk,
+        pace: Pace,
+        store: &mut S,
+        grants: &mut G,
+    ) -> Step
         requires may_grow { MayGrow (stand_of walk.old) self.old }
         requires room { walk.old.room ≤ MOST_DEPTH }
+        requires grants { (G.asked grants.old).granted + walk.old.left < 2 ^ 64 }
         ensures line { walk.new.line ≡ walk.old.line }
         ensures room { walk.new.room ≡ walk.old.room }
         ensures may { result ≡ Closed → S.may_answer }
+        ensures granted { (G.asked grants.new).granted + walk.new.left ≡ (G.asked grants.old).granted + walk.old.left }
+        ensures asked { AreAsked pace (G.asked grants.old) result (G.asked grants.new) }
+        ensures source { G.source grants.new ≡ G.source grants.old }
         ensures steps { AreSteps pace walk.old self.old result self.new walk.new }
     {
         let (proof, disproof) = (self.proof, self.disproof);
@@ -132,7 +171,7 @@ impl Node {
                     return Step::Stuck(Reason::Memory);
                 };
                 let was = Pair::of(mover, proof, disproof);
-                let (step, numbers) = expansion.children.grow_best(was, walk, pace, store);
+                let (step, numbers) = expansion.children.grow_best(was, walk, pace, store, grants);
                 walk.go_up();
                 let (proof, disproof) = numbers.by_goal(mover);
                 self.proof = proof;
@@ -143,20 +182,33 @@ impl Node {
                 step
             }
             Growth::Won(_) | Growth::Closed(_) => unreachable!(),
-            Growth::Fresh => self.first_step(walk, store),
+            Growth::Fresh => self.first_step(walk, store, grants),
         }
     }
 
-    /// A step at a fresh node.
-    fn first_step<S: Store>(&mut self, walk: &mut Walk, store: &mut S) -> Step
+    /// A step at a fresh node. Its expansion is asked for once it is made, and then nothing can fail.
+    fn first_step<S: Store, G: Grants>(
+        &mut self,
+        walk: &mut Walk,
+        store: &mut S,
+        grants: &mut G,
+    ) -> Step
         requires open { winner_of walk.old.line.frame walk.old.line.state ≡ None }
+        requires grants { (G.asked grants.old).granted + walk.old.left < 2 ^ 64 }
         ensures line { walk.new.line ≡ walk.old.line }
         ensures room { walk.new.room ≡ walk.old.room }
         ensures may { result ≡ Closed → S.may_answer }
+        ensures granted { (G.asked grants.new).granted + walk.new.left ≡ (G.asked grants.old).granted + walk.old.left }
+        ensures asked { AskedBy (G.asked grants.old) result (G.asked grants.new) }
+        ensures source { G.source grants.new ≡ G.source grants.old }
         ensures taken { Taken (stand_of walk.old) (stage fresh walk.old.left) result self.new }
         ensures left { IsLeft result walk.old.left walk.new.left }
     {
         let (step, mut node) = leaf_step(walk, store);
+        if !is_granted(step, grants) {
+            *self = new_leaf(None);
+            return Step::Stuck(Reason::Total);
+        }
         if let Step::Expanded = step {
             if let Some(side) = node.settled_for() {
                 walk.offering = node.offer(side, walk, store);
@@ -172,27 +224,32 @@ impl Children {
     /// Steps at the child to go to, which is undecided, where the walk stands at it; and the numbers of the node after
     /// them, where these were its numbers before. A new child to go to is looked for only where the least number has risen.
     #[cycle(descent)]
-    fn grow_best<S: Store>(
+    fn grow_best<S: Store, G: Grants>(
         &mut self,
         was: Pair,
         walk: &mut Walk,
         pace: Pace,
         store: &mut S,
+        grants: &mut G,
     ) -> (Step, Pair)
         requires was { ArePair self.old.mover (node_with self.old) was }
         requires there { best_place self.old < length self.old.trees }
         requires may_grow { MayGrow (stand_of walk.old) (best_child self.old) }
         requires room { walk.old.room ≤ MOST_DEPTH }
+        requires grants { (G.asked grants.old).granted + walk.old.left < 2 ^ 64 }
         ensures line { walk.new.line ≡ walk.old.line }
         ensures room { walk.new.room ≡ walk.old.room }
         ensures may { result.0 ≡ Closed → S.may_answer }
+        ensures granted { (G.asked grants.new).granted + walk.new.left ≡ (G.asked grants.old).granted + walk.old.left }
+        ensures asked { AreAsked pace (G.asked grants.old) result.0 (G.asked grants.new) }
+        ensures source { G.source grants.new ≡ G.source grants.old }
         ensures steps { BestSteps pace walk.old self.old result.0 self.new walk.new }
         ensures numbers { ArePair self.new.mover (node_with self.new) result.1 }
     {
         let (place, rank) = (usize::from(self.place), usize::from(self.rank));
         let goal = self.mover.opponent();
         let old = self.packed.child(place, rank).number(goal);
-        let step = self.packed.grow_at(place, rank, walk, pace, store);
+        let step = self.packed.grow_at(place, rank, walk, pace, store, grants);
         let child = self.packed.child(place, rank);
         let own = child.number(self.mover);
         let new = child.number(goal);
@@ -212,52 +269,62 @@ impl Packed {
     /// Steps at the child of a place, which is undecided, where the walk stands at it: those of its node where it has
     /// grown, and one step where it is fresh.
     #[cycle(descent)]
-    fn grow_at<S: Store>(
+    fn grow_at<S: Store, G: Grants>(
         &mut self,
         place: usize,
         rank: usize,
         walk: &mut Walk,
         pace: Pace,
         store: &mut S,
+        grants: &mut G,
     ) -> Step
         requires there { place < length self.old.edges.items }
         requires rank { IsRank rank place self.old }
         requires whole { HasItsNodes self.old }
         requires may_grow { MayGrow (stand_of walk.old) (child_of self.old place) }
         requires room { walk.old.room ≤ MOST_DEPTH }
+        requires grants { (G.asked grants.old).granted + walk.old.left < 2 ^ 64 }
         ensures line { walk.new.line ≡ walk.old.line }
         ensures room { walk.new.room ≡ walk.old.room }
         ensures may { result ≡ Closed → S.may_answer }
         ensures whole { HasItsNodes self.new }
         ensures before { take place self.new.edges.items ≡ take place self.old.edges.items }
+        ensures granted { (G.asked grants.new).granted + walk.new.left ≡ (G.asked grants.old).granted + walk.old.left }
+        ensures asked { AreAsked pace (G.asked grants.old) result (G.asked grants.new) }
+        ensures source { G.source grants.new ≡ G.source grants.old }
         ensures steps { StepsBelow pace walk.old place self.old result self.new walk.new }
     {
         match self.edges[place].mark() {
-            Mark::Grown => self.grown[rank].grow(walk, pace, store),
-            Mark::Fresh => self.sprout(place, rank, walk, store),
+            Mark::Grown => self.grown[rank].grow(walk, pace, store, grants),
+            Mark::Fresh => self.sprout(place, rank, walk, store, grants),
             Mark::Won(_) => unreachable!(),
         }
     }
 
     /// A step at a fresh child, whose node then is put among those that have grown. There is room for the node before its
-    /// proof is offered, so none is kept of a node that the search can't hold.
-    fn sprout<S: Store>(
+    /// expansion is asked for and its proof is offered, so nothing is granted or kept of a node that the search can't hold.
+    fn sprout<S: Store, G: Grants>(
         &mut self,
         place: usize,
         rank: usize,
         walk: &mut Walk,
         store: &mut S,
+        grants: &mut G,
     ) -> Step
         requires open { winner_of walk.old.line.frame walk.old.line.state ≡ None }
         requires whole { HasItsNodes self.old }
         requires there { IsFreshAt place self.old.edges.items }
         requires rank { IsRank rank place self.old }
+        requires grants { (G.asked grants.old).granted + walk.old.left < 2 ^ 64 }
         ensures line { walk.new.line ≡ walk.old.line }
         ensures room { walk.new.room ≡ walk.old.room }
         ensures may { result ≡ Closed → S.may_answer }
         ensures kept { (reason : _) → result ≡ Stuck reason → S.kept store.new ≡ S.kept store.old }
         ensures whole { HasItsNodes self.new }
         ensures before { take place self.new.edges.items ≡ take place self.old.edges.items }
+        ensures granted { (G.asked grants.new).granted + walk.new.left ≡ (G.asked grants.old).granted + walk.old.left }
+        ensures asked { AskedBy (G.asked grants.old) result (G.asked grants.new) }
+        ensures source { G.source grants.new ≡ G.source grants.old }
         ensures sprouts { Sprouts walk.old place self.old result self.new walk.new }
     {
         let (step, mut node) = leaf_step(walk, store);
@@ -266,6 +333,9 @@ impl Packed {
         }
         if room_for_one(&mut self.grown).is_err() {
             return Step::Stuck(Reason::Memory);
+        }
+        if !is_granted(step, grants) {
+            return Step::Stuck(Reason::Total);
         }
         if let Step::Expanded = step {
             if let Some(side) = node.settled_for() {

@@ -1,6 +1,7 @@
 //! New leaves, expanded leaves and closed leaves.
 
-ghost use Rattle.std.specs.Prelude.{◌≡◌, ◌≤◌, [], length, IfOk};
+ghost use Rattle.std.specs.Prelude.{◌≡◌, ◌≤◌, None, [], length, IfOk};
+ghost use Rattle.tt_game.specs.Game.{winner_of};
 ghost use Rattle.tt_search.specs.PartialTree.{expanded, closed};
 ghost use Rattle.tt_search.specs.Children.{children_of};
 ghost use Rattle.tt_search.specs.declared.edges.TheConstants.{TURNS};
@@ -11,9 +12,10 @@ use crate::children::Children;
 use crate::edges::{Edge, Mark};
 use crate::node::{Expansion, Growth, Node};
 use crate::numbers::decided_number;
+use arrayvec::ArrayVec;
 use std::alloc::Global;
 use std::sync::Arc;
-use tt_game::{Line, Side, Successor};
+use tt_game::{Line, Side, Turn};
 use tt_proof::Proof;
 use tt_sgf::NoMemory;
 
@@ -65,26 +67,31 @@ fn expanded_node(alloc: Global, mover: Side, edges: Vec<Edge>) -> Node
     }
 }
 
-/// The edge of a successor to a new leaf.
-fn new_edge(successor: &Successor) -> Edge
-    ensures turn { turn_of result ≡ successor.now.turn }
-    ensures tree { tree_of (mark_of result) [] ≡ leaf_for successor.now.winner }
+/// The edge of a turn to a new leaf.
+fn new_edge(turn: Turn, winner: Option<Side>) -> Edge
+    ensures turn { turn_of result ≡ turn }
+    ensures tree { tree_of (mark_of result) [] ≡ leaf_for winner }
     ensures small { counted (mark_of result) 0 ≡ 0 }
 {
-    match successor.winner {
-        None => Edge::new(successor.turn, Mark::Fresh),
-        Some(side) => Edge::new(successor.turn, Mark::Won(side)),
+    match winner {
+        None => Edge::new(turn, Mark::Fresh),
+        Some(side) => Edge::new(turn, Mark::Won(side)),
     }
 }
 
-/// The line's node with a new leaf for each legal turn. Each turn is played once.
+/// The line's node with a new leaf for each legal turn. Each play is made once.
 pub(crate) fn expanded_at(alloc: Global, line: &Line) -> Result<Node, NoMemory>
+    requires open { winner_of line.now.frame line.now.state ≡ None }
     ensures { IfOk result (λ node. node ≡ expansion line.now.frame line.now.state) }
 {
-    let successors = line.successors_in(alloc)?;
-    let mut edges = Vec::with_capacity(alloc, successors.len())?;
-    for successor in successors.as_slice() {
-        edges.push(new_edge(successor))?;
+    let mut edges: ArrayVec<Edge, 362> = ArrayVec::new();
+    let mut from = 0;
+    while let Some((p, winner)) = line.next_play(from) {
+        edges.push(new_edge(Turn::Play(p), winner));
+        from = p.number() + 1;
     }
-    Ok(expanded_node(alloc, line.to_move(), edges))
+    edges.push(new_edge(Turn::Pass, line.winner_by_pass()));
+    let mut kept = Vec::with_capacity(alloc, edges.len())?;
+    kept.extend_from_slice(edges.as_slice())?;
+    Ok(expanded_node(alloc, line.to_move(), kept))
 }

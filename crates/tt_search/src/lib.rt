@@ -3,7 +3,7 @@
 //! A `Search` grows a partial tree of a problem at its most-proving leaf, within `Limits`, until the root is settled. Its
 //! tree, the numbers of it and the ways in which it may grow are defined over the whole tree in `specs/`; the code
 //! updates one path. A `Store` keeps the proofs of settled nodes; a proof that it answers closes a leaf only where it
-//! wins there by replay.
+//! wins there, since it fits or by replay.
 
 #![tactic(auto)]
 
@@ -11,6 +11,7 @@ mod children;
 mod closing;
 mod edges;
 mod footprints;
+mod grants;
 mod growing;
 mod key_index;
 mod leaves;
@@ -23,12 +24,15 @@ mod settled;
 mod store;
 mod walk;
 
+pub use grants::{Free, Grants};
 pub use key_index::{KeyIndex, ProofRow};
 pub use limits::{Limits, MOST_EXPANDED, Reason, Step};
 pub use private::PrivateStore;
 pub use search::{End, Search};
 pub use store::{BothSides, Kept, NoStore, Store};
 
+#[cfg(test)]
+mod grants_tests;
 #[cfg(test)]
 mod store_tests;
 #[cfg(test)]

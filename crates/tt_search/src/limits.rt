@@ -49,11 +49,13 @@ impl Limits {
     }
 }
 
-/// Why a search is stuck: its budget is spent, its next leaf is as deep as it may go, or memory was refused.
+/// Why a search is stuck: its budget is spent, its next leaf is as deep as it may go, its expansion isn't granted, or memory
+/// was refused.
 #[derive(Clone, Copy, Debug, PartialEq, Eq)]
 pub enum Reason {
     Budget,
     Depth,
+    Total,
     Memory,
 }
 

@@ -1,14 +1,17 @@
 //! A search over one line.
 
-ghost use Rattle.std.specs.Prelude.{◌≡◌, IfOk};
+ghost use Rattle.std.specs.Prelude.{◌≡◌, ◌+◌, ◌^◌, ◌<◌, ◌≤◌, IfOk};
 ghost use Rattle.tt_search.specs.declared.limits.Step.TheVariants.{Closed};
 ghost use Rattle.tt_search.specs.Numbers.{proof_number, disproof_number, count, IsUndecided};
 ghost use Rattle.tt_search.specs.Growing.{new_leaf, IsGrown};
 ghost use Rattle.tt_search.specs.Searched.{IsSameProblem, StepOf};
-ghost use Rattle.tt_search.specs.Ended.{EndOf};
+ghost use Rattle.tt_search.specs.Ended.{EndOf, HasSpent, SpentBy};
+ghost use Rattle.tt_search.specs.Grants.{AskedBy};
+ghost use Rattle.tt_search.specs.Asking.{AreAsked};
 ghost use Rattle.tt_search.specs.Advanced.{IsAdvanced};
 ghost use Rattle.tt_search.specs.Searched.{IsProofOf};
 
+use crate::grants::Grants;
 use crate::leaves::new_leaf;
 use crate::limits::{Limits, Reason, Step};
 use crate::node::Node;
@@ -88,22 +91,31 @@ impl Search {
         )
     }
 
-    /// Expands the most-proving leaf, or closes it by a proof of the store.
-    pub fn step<S: Store>(&mut self, store: &mut S) -> Step
+    /// Expands the most-proving leaf, or closes it by a proof of the store. An expansion is asked for once nothing can hinder
+    /// it any more. The grants have room for what the budget has left.
+    pub fn step<S: Store, G: Grants>(&mut self, store: &mut S, grants: &mut G) -> Step
+        requires grants { (G.asked grants.old).granted + self.old.limits.budget < 2 ^ 64 + count self.old.tree }
         ensures problem { IsSameProblem self.old self.new }
         ensures taken { StepOf self.old result self.new }
         ensures may { result ≡ Closed → S.may_answer }
+        ensures asked { AskedBy (G.asked grants.old) result (G.asked grants.new) }
+        ensures spent { HasSpent self.old (G.asked grants.old) self.new (G.asked grants.new) }
+        ensures source { G.source grants.new ≡ G.source grants.old }
     {
-        self.advance(store, Pace::OneStep)
+        self.advance(store, grants, Pace::OneStep)
     }
 
-    /// Steps until the root is settled or a step is stuck.
-    pub fn run<S: Store>(self, store: &mut S) -> End
-        ensures { EndOf self result }
+    /// Steps until the root is settled or a step is stuck. The grants have room for what the budget has left.
+    pub fn run<S: Store, G: Grants>(self, store: &mut S, grants: &mut G) -> End
+        requires grants { (G.asked grants.old).granted + self.limits.budget < 2 ^ 64 + count self.tree }
+        ensures end { EndOf self result }
+        ensures spent { SpentBy self (G.asked grants.old) result (G.asked grants.new) }
+        ensures few { (G.asked grants.new).granted + count self.tree ≤ (G.asked grants.old).granted + self.limits.budget }
+        ensures source { G.source grants.new ≡ G.source grants.old }
     {
         let mut search = self;
         loop {
-            match search.advance(store, Pace::WhileNumbersStay) {
+            match search.advance(store, grants, Pace::WhileNumbersStay) {
                 Step::Expanded | Step::Closed => {}
                 Step::Settled => {
                     return match search.proof() {
@@ -117,16 +129,21 @@ impl Search {
     }
 
     /// Steps: one step, or up to one that changes the root's numbers or is stuck. The answer is that of the last step.
-    fn advance<S: Store>(&mut self, store: &mut S, pace: Pace) -> Step
+    fn advance<S: Store, G: Grants>(&mut self, store: &mut S, grants: &mut G, pace: Pace) -> Step
+        requires grants { (G.asked grants.old).granted + self.old.limits.budget < 2 ^ 64 + count self.old.tree }
         ensures problem { IsSameProblem self.old self.new }
         ensures advanced { IsAdvanced pace self.old result self.new }
         ensures may { result ≡ Closed → S.may_answer }
+        ensures asked { AreAsked pace (G.asked grants.old) result (G.asked grants.new) }
+        ensures spent { HasSpent self.old (G.asked grants.old) self.new (G.asked grants.new) }
+        ensures source { G.source grants.new ≡ G.source grants.old }
+        ensures few { count self.new.tree ≤ self.new.limits.budget }
     {
         let (proof, disproof) = self.numbers();
         if proof == 0 || disproof == 0 {
             return Step::Settled;
         }
-        self.root.grow(&mut self.walk, pace, store)
+        self.root.grow(&mut self.walk, pace, store, grants)
     }
 
     /// The proof of a settled root. The search is as before.

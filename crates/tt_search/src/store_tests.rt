@@ -2,8 +2,8 @@
 
 ghost use Rattle.std.specs.Prelude.{◌≡◌, ◌+◌, ◌≤◌};
 
-use crate::tests::{letter, posed, shown, trace};
-use crate::{Kept, Limits, PrivateStore, Reason, Search, Step, Store};
+use crate::tests::{counts, posed, told, trace};
+use crate::{Free, Kept, Limits, PrivateStore, Reason, Search, Step, Store};
 use std::alloc::Global;
 use std::sync::Arc;
 use std::test::Fail;
@@ -155,8 +155,37 @@ fn asks_at_the_limit_on_depth(rt: HostRuntime) -> Result<(), Fail> {
     Ok(())
 }
 
-/// The steps of a search at that problem up to its end, but for those that were refused memory, with how many nodes are
-/// expanded and how many proofs are kept; and how many steps were refused.
+/// Writes the steps of a search up to its end, but for those that were refused memory, with how many nodes are expanded and
+/// how many proofs are kept. Answers how many steps were refused.
+fn put_steps(
+    alloc: Global,
+    search: &mut Search,
+    store: &mut RefusedOnce,
+    steps: &mut String,
+) -> Result<u32, Fail> {
+    let mut refusals = 0u32;
+    for _ in 0..8u32 {
+        let numbers = search.numbers();
+        let expanded = search.expanded();
+        let step = search.step(store, &mut Free::new());
+        if step == Step::Stuck(Reason::Memory) {
+            if search.numbers() != numbers || search.expanded() != expanded {
+                return Err(Fail::new("a refused step changed the search"));
+            }
+            refusals = refusals.saturating_add(1);
+        } else {
+            steps.push_str(told(alloc, step, search)?.as_str())?;
+            if step != Step::Expanded {
+                break;
+            }
+        }
+    }
+    steps.push_str(counts(alloc, search, store.kept())?.as_str())?;
+    Ok(refusals)
+}
+
+/// Those steps of a search at that problem over a store that is refused memory after so many questions, and how many of them
+/// were refused.
 fn steps_past_refusals(alloc: Global, before: u32) -> Result<(String, u32), Fail> {
     let Some(limits) = Limits::new(100, 512) else {
         return Err(Fail::new("no limits"));
@@ -164,29 +193,7 @@ fn steps_past_refusals(alloc: Global, before: u32) -> Result<(String, u32), Fail
     let mut store = RefusedOnce { before, kept: 0 };
     let mut search = Search::new(alloc, posed(alloc, SPLIT)?, limits)?;
     let mut steps = String::new(alloc);
-    let mut refusals = 0u32;
-    for _ in 0..8u32 {
-        let numbers = search.numbers();
-        let expanded = search.expanded();
-        let step = search.step(&mut store);
-        let (proof, disproof) = search.numbers();
-        if step == Step::Stuck(Reason::Memory) {
-            if (proof, disproof) != numbers || search.expanded() != expanded {
-                return Err(Fail::new("a refused step changed the search"));
-            }
-            refusals = refusals.saturating_add(1);
-        } else {
-            let proof = shown(alloc, proof)?;
-            let disproof = shown(alloc, disproof)?;
-            let piece = format!(in alloc; "{}{proof},{disproof} ", letter(step))?;
-            steps.push_str(piece.as_str())?;
-            if step != Step::Expanded {
-                break;
-            }
-        }
-    }
-    let end = format!(in alloc; "{} {}", search.expanded(), store.kept())?;
-    steps.push_str(end.as_str())?;
+    let refusals = put_steps(alloc, &mut search, &mut store, &mut steps)?;
     Ok((steps, refusals))
 }
 

@@ -1,9 +1,11 @@
 //! Searches, with the answers of each of their steps. The tables are by a program written from the definitions alone.
 
-use super::{End, Limits, NoStore, PrivateStore, Reason, Search, Step, Store};
+use super::{End, Free, Limits, NoStore, PrivateStore, Reason, Search, Step, Store};
 use std::alloc::Global;
+use std::sync::Arc;
 use std::test::Fail;
 use tt_game::{Line, Side, problem};
+use tt_proof::Proof;
 use tt_sgf::read_tree;
 
 /// The problem that the text is.
@@ -21,16 +23,30 @@ pub(crate) fn letter(step: Step) -> char {
         Step::Settled => 'S',
         Step::Stuck(Reason::Budget) => 'B',
         Step::Stuck(Reason::Depth) => 'D',
+        Step::Stuck(Reason::Total) => 'T',
         Step::Stuck(Reason::Memory) => 'M',
     }
 }
 
 /// A number, or its name where it is infinite.
-pub(crate) fn shown(alloc: Global, number: u32) -> Result<String, Fail> {
+fn shown(alloc: Global, number: u32) -> Result<String, Fail> {
     if number == 4_294_967_295 {
         return Ok(format!(in alloc; "inf")?);
     }
     Ok(format!(in alloc; "{number}")?)
+}
+
+/// What a step answered, with the root's numbers after it.
+pub(crate) fn told(alloc: Global, step: Step, search: &Search) -> Result<String, Fail> {
+    let (proof, disproof) = search.numbers();
+    let proof = shown(alloc, proof)?;
+    let disproof = shown(alloc, disproof)?;
+    Ok(format!(in alloc; "{}{proof},{disproof} ", letter(step))?)
+}
+
+/// How many nodes are expanded, and how many proofs are kept.
+pub(crate) fn counts(alloc: Global, search: &Search, kept: usize) -> Result<String, Fail> {
+    Ok(format!(in alloc; "{} {kept}", search.expanded())?)
 }
 
 /// Each step of a search with the root's numbers after it, up to a step that leaves the search as it is; then how many
@@ -49,23 +65,31 @@ pub(crate) fn trace<S: Store>(
     let line = posed(alloc, text)?;
     let mut search = Search::new(alloc, line, limits)?;
     for _ in 0..100 {
-        let step = search.step(store);
-        let (proof, disproof) = search.numbers();
-        let proof = shown(alloc, proof)?;
-        let disproof = shown(alloc, disproof)?;
-        let piece = format!(in alloc; "{}{proof},{disproof} ", letter(step))?;
-        shown_steps.push_str(piece.as_str())?;
+        let step = search.step(store, &mut Free::new());
+        shown_steps.push_str(told(alloc, step, &search)?.as_str())?;
         if step != Step::Expanded && step != Step::Closed {
             break;
         }
     }
-    let end = format!(in alloc; "{} {}", search.expanded(), store.kept())?;
-    shown_steps.push_str(end.as_str())?;
+    shown_steps.push_str(counts(alloc, &search, store.kept())?.as_str())?;
     Ok(shown_steps)
 }
 
-/// What the trace of a search ends with, by a run of it: where it is stuck the letter for the reason, the root's numbers
-/// and how many nodes are expanded; then how many proofs are kept.
+/// What a trace ends with where the search ended so: where it is stuck the letter for the reason, the root's numbers and how
+/// many nodes are expanded; then how many proofs are kept.
+fn last_step(alloc: Global, end: &End, kept: usize) -> Result<String, Fail> {
+    match end {
+        End::Settled(_) => Ok(format!(in alloc; " {kept}")?),
+        End::Stuck(_, None) => Err(Fail::new("no search is handed back")),
+        End::Stuck(reason, Some(search)) => {
+            let mut piece = told(alloc, Step::Stuck(*reason), search)?;
+            piece.push_str(counts(alloc, search, kept)?.as_str())?;
+            Ok(piece)
+        }
+    }
+}
+
+/// What the trace of a search ends with, by a run of it.
 pub(crate) fn end_of_run<S: Store>(
     alloc: Global,
     text: &[u8],
@@ -77,17 +101,8 @@ pub(crate) fn end_of_run<S: Store>(
         return Err(Fail::new("no limits"));
     };
     let line = posed(alloc, text)?;
-    match Search::new(alloc, line, limits)?.run(store) {
-        End::Settled(_) => Ok(format!(in alloc; " {}", store.kept())?),
-        End::Stuck(_, None) => Err(Fail::new("no search is handed back")),
-        End::Stuck(reason, Some(search)) => {
-            let (proof, disproof) = search.numbers();
-            let proof = shown(alloc, proof)?;
-            let disproof = shown(alloc, disproof)?;
-            let piece = format!(in alloc; "{}{proof},{disproof}", letter(Step::Stuck(reason)))?;
-            Ok(format!(in alloc; "{piece} {} {}", search.expanded(), store.kept())?)
-        }
-    }
+    let end = Search::new(alloc, line, limits)?.run(store, &mut Free::new());
+    last_step(alloc, &end, store.kept())
 }
 
 #[test]
@@ -120,6 +135,46 @@ fn steps_without_a_store(rt: HostRuntime) -> Result<(), Fail> {
     Ok(())
 }
 
+/// The proof that a store has for a problem and a side.
+fn found_at(
+    alloc: Global,
+    text: &[u8],
+    side: Side,
+    store: &mut PrivateStore,
+) -> Result<Option<Arc<Proof>>, Fail> {
+    let line = posed(alloc, text)?;
+    Ok(store.find(&line, side)?)
+}
+
+/// Whether a proof stands at a problem.
+fn stands_at(alloc: Global, proof: &Proof, text: &[u8]) -> Result<bool, Fail> {
+    let line = posed(alloc, text)?;
+    Ok(proof.stands_at(&line))
+}
+
+/// Fails unless a proof stands at the first problem and not at the second one.
+fn stands_at_the_first(alloc: Global, proof: &Proof) -> Result<(), Fail> {
+    if !stands_at(alloc, proof, SPLIT)? {
+        return Err(Fail::new("it doesn't stand at its problem"));
+    }
+    if stands_at(alloc, proof, REPEATED)? {
+        return Err(Fail::new("it stands at another history"));
+    }
+    Ok(())
+}
+
+/// Fails unless the proof of the first problem is found at the second one, which has its key, and none for the defender.
+fn finds_the_first(alloc: Global, store: &mut PrivateStore) -> Result<(), Fail> {
+    match found_at(alloc, REPEATED, Side::Attacker, store)? {
+        Some(found) => stands_at_the_first(alloc, &found)?,
+        None => return Err(Fail::new("no proof is kept")),
+    }
+    match found_at(alloc, REPEATED, Side::Defender, store)? {
+        Some(_) => Err(Fail::new("the defender has a proof")),
+        None => Ok(()),
+    }
+}
+
 #[test]
 fn searches_over_one_store(rt: HostRuntime) -> Result<(), Fail> {
     let alloc = rt.alloc();
@@ -128,14 +183,7 @@ fn searches_over_one_store(rt: HostRuntime) -> Result<(), Fail> {
         trace(alloc, SPLIT, 100, 512, &mut store)?.as_str() == "E1,2 E1,2 E0,inf S0,inf 3 3"
     );
     assert!(&rt; trace(alloc, SPLIT, 100, 512, &mut store)?.as_str() == "C0,inf S0,inf 0 3");
-    let mut line = posed(alloc, REPEATED)?;
-    let Some(found) = store.find(&line, Side::Attacker)? else {
-        return Err(Fail::new("no proof is kept"));
-    };
-    let split = posed(alloc, SPLIT)?;
-    assert!(&rt; found.stands_at(&split));
-    assert!(&rt; !found.stands_at(&line));
-    assert!(&rt; store.find(&line, Side::Defender)?.is_none());
+    finds_the_first(alloc, &mut store)?;
     assert!(&rt;
         trace(alloc, REPEATED, 100, 512, &mut store)?.as_str() == "E1,1 Einf,0 Sinf,0 2 5"
     );
@@ -161,31 +209,60 @@ fn closes_by_a_proof_of_another_history(rt: HostRuntime) -> Result<(), Fail> {
     Ok(())
 }
 
-#[test]
-fn runs(rt: HostRuntime) -> Result<(), Fail> {
-    let alloc = rt.alloc();
+/// What a run at a problem ends with, within two expansions and over no store.
+fn run_of(alloc: Global, text: &[u8]) -> Result<End, Fail> {
     let Some(limits) = Limits::new(2, 512) else {
         return Err(Fail::new("no limits"));
     };
-    let line = posed(alloc, REPEATED)?;
-    match Search::new(alloc, line, limits)?.run(&mut NoStore) {
-        End::Settled(proof) => {
-            assert!(&rt; proof.side() == Side::Defender);
-            assert!(&rt; proof.first().is_none());
-            assert!(&rt; proof.depth() == 2);
-        }
-        End::Stuck(_, _) => return Err(Fail::new("stuck")),
+    let line = posed(alloc, text)?;
+    Ok(Search::new(alloc, line, limits)?.run(&mut NoStore, &mut Free::new()))
+}
+
+/// Fails unless a proof is the defender's, begins with no turn and is two turns deep.
+fn is_held(proof: &Proof) -> Result<(), Fail> {
+    if proof.side() != Side::Defender {
+        return Err(Fail::new("the side"));
     }
-    let line = posed(alloc, SPLIT)?;
-    match Search::new(alloc, line, limits)?.run(&mut NoStore) {
-        End::Settled(_) => return Err(Fail::new("settled")),
-        End::Stuck(reason, search) => {
-            assert!(&rt; reason == Reason::Budget);
-            let Some(search) = search else {
-                return Err(Fail::new("no search is handed back"));
-            };
-            assert!(&rt; search.expanded() == 2);
-        }
+    if proof.first().is_some() {
+        return Err(Fail::new("the first turn"));
+    }
+    if proof.depth() != 2 {
+        return Err(Fail::new("the depth"));
     }
     Ok(())
+}
+
+/// Fails unless a search is stuck for want of budget, and has expanded two nodes.
+fn is_spent(reason: Reason, search: &Search) -> Result<(), Fail> {
+    if reason != Reason::Budget {
+        return Err(Fail::new("the reason"));
+    }
+    if search.expanded() != 2 {
+        return Err(Fail::new("the expanded nodes"));
+    }
+    Ok(())
+}
+
+/// Fails unless a search ended with such a proof.
+fn ends_held(end: &End) -> Result<(), Fail> {
+    match end {
+        End::Settled(proof) => is_held(proof),
+        End::Stuck(_, _) => Err(Fail::new("stuck")),
+    }
+}
+
+/// Fails unless a search ended stuck so.
+fn ends_spent(end: &End) -> Result<(), Fail> {
+    match end {
+        End::Settled(_) => Err(Fail::new("settled")),
+        End::Stuck(_, None) => Err(Fail::new("no search is handed back")),
+        End::Stuck(reason, Some(search)) => is_spent(*reason, search),
+    }
+}
+
+#[test]
+fn runs(rt: HostRuntime) -> Result<(), Fail> {
+    let alloc = rt.alloc();
+    ends_held(&run_of(alloc, REPEATED)?)?;
+    ends_spent(&run_of(alloc, SPLIT)?)
 }

@@ -14,6 +14,44 @@ fn bounded(alloc: Global, capacity: usize) -> Result<PrivateStore, Fail> {
     }
 }
 
+/// A problem, the limits of its searches, and how many proofs their store keeps.
+#[derive(Clone, Copy)]
+struct Row<'a> {
+    problem: &'a [u8],
+    budget: u32,
+    depth: u16,
+    capacity: usize,
+}
+
+/// Whether a search over the store has this trace.
+fn steps(alloc: Global, row: &Row<'_>, store: &mut PrivateStore, want: &str) -> Result<bool, Fail> {
+    Ok(trace(alloc, row.problem, row.budget, row.depth, store)?.as_str() == want)
+}
+
+/// Whether a run over the store ends as this trace.
+fn runs(alloc: Global, row: &Row<'_>, store: &mut PrivateStore, want: &str) -> Result<bool, Fail> {
+    let end = end_of_run(alloc, row.problem, row.budget, row.depth, store)?;
+    Ok(want.ends_with(end.as_str()))
+}
+
+/// Whether two searches over one store have these traces.
+fn steps_twice(alloc: Global, row: &Row<'_>, traces: (&str, &str)) -> Result<bool, Fail> {
+    let mut store = bounded(alloc, row.capacity)?;
+    Ok(steps(alloc, row, &mut store, traces.0)? && steps(alloc, row, &mut store, traces.1)?)
+}
+
+/// Whether a run ends as the first trace, and a search over the same store has the second one.
+fn runs_then_steps(alloc: Global, row: &Row<'_>, traces: (&str, &str)) -> Result<bool, Fail> {
+    let mut store = bounded(alloc, row.capacity)?;
+    Ok(runs(alloc, row, &mut store, traces.0)? && steps(alloc, row, &mut store, traces.1)?)
+}
+
+/// Whether two runs over one store end as these traces.
+fn runs_twice(alloc: Global, row: &Row<'_>, traces: (&str, &str)) -> Result<bool, Fail> {
+    let mut store = bounded(alloc, row.capacity)?;
+    Ok(runs(alloc, row, &mut store, traces.0)? && runs(alloc, row, &mut store, traces.1)?)
+}
+
 /// Fails unless two searches of the problem over one store have these traces, and runs end as the steps do, the second
 /// one too, with the same store.
 fn search_twice(
@@ -24,18 +62,16 @@ fn search_twice(
     capacity: usize,
     traces: (&str, &str),
 ) -> Result<(), Fail> {
-    let (first, second) = traces;
-    let mut store = bounded(alloc, capacity)?;
-    let stepped = trace(alloc, problem, budget, depth, &mut store)?.as_str() == first
-        && trace(alloc, problem, budget, depth, &mut store)?.as_str() == second;
-    let mut store = bounded(alloc, capacity)?;
-    let end = end_of_run(alloc, problem, budget, depth, &mut store)?;
-    let same_store = trace(alloc, problem, budget, depth, &mut store)?.as_str() == second;
-    let mut store = bounded(alloc, capacity)?;
-    end_of_run(alloc, problem, budget, depth, &mut store)?;
-    let again = end_of_run(alloc, problem, budget, depth, &mut store)?;
-    let ran = first.ends_with(end.as_str()) && second.ends_with(again.as_str());
-    if stepped && same_store && ran {
+    let row = Row {
+        problem,
+        budget,
+        depth,
+        capacity,
+    };
+    if steps_twice(alloc, &row, traces)?
+        && runs_then_steps(alloc, &row, traces)?
+        && runs_twice(alloc, &row, traces)?
+    {
         return Ok(());
     }
     let text = from_utf8(problem).unwrap_or("");

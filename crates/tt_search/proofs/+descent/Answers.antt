@@ -1,4 +1,4 @@
-use Rattle.std.proofs.Common.{rules, ◌≡◌, ◌<◌, ◌⊎◌, length, take, refl, sym, ◌∙◌, ap, subst, arith}
+use Rattle.std.proofs.Common.{rules, ◌≡◌, ◌+◌, ◌^◌, ◌<◌, ◌⊎◌, ℕ, length, take, refl, sym, ◌∙◌, ap, subst, arith}
 use Rattle.tt_game.specs.declared.frame.Side.TheVariants.{Attacker, Defender}
 use Rattle.tt_search.specs.PartialTree.{PartialTree}
 use Rattle.tt_search.specs.Shape.{node_of, shape}
@@ -17,6 +17,7 @@ use Rattle.tt_search.specs.declared.limits.Step.TheVariants.{Expanded, Closed}
 use Rattle.tt_search.specs.declared.walk.Walk.{Walk}
 use Rattle.tt_search.proofs.Sprouted.{fresh_here, fresh_child, not_won, rank_within_nodes, child_node, node_steps, one_step}
 use Rattle.tt_search.proofs.Steady.{last_round, next_round, round_falls, same_numbers, same_stand, steps_offerable}
+use Rattle.tt_search.proofs.Asking.{asked_once, asked_last, granted_more}
 use Rattle.tt_search.proofs.Steps.{IsOfferable}
 use Rattle.tt_search.proofs.Places.{length-trees_of}
 use Rattle.tt_search.proofs.Changed.{few_stay, place_there, in_trees, part_was, sum_now, place_now, own_now, pair_of, none_held}
@@ -40,7 +41,7 @@ children::Packed::grow_at-grow-requires g t c κs within =
     let node = c.index_mut.result.now in
     let here = child_node c.args.self.now c.args.place c.args.rank c.index.result.now node c.requires.there c.index.ensures c.requires.whole c.in-Grown.ensures c.requires.rank
     c.index_mut.ensures.value in
-    (omega (arith, c.decreases), (within, (subst (MayGrow (stand_of c.args.walk.now)) here c.requires.may_grow, c.requires.room)))
+    (omega (arith, c.decreases), (within.0, (within.1, (subst (MayGrow (stand_of c.args.walk.now)) here c.requires.may_grow, (c.requires.room, c.requires.grants)))))
 
 pub children::Packed::grow_at-sprout-requires-clause-open : goal.children::Packed::grow_at-sprout-requires-clause-open
 children::Packed::grow_at-sprout-requires-clause-open g t c =
@@ -73,6 +74,10 @@ children::Packed::grow_at-returns-in-Fresh-clause-steps g t c =
     let is = fresh_child x.edges.items x.grown.items c.args.place c.index.result.now c.requires.there c.index.ensures (sym c.in-Fresh.ensures) in
     one_step c.args.pace c.args.walk.now c.args.place x c.sprout.result c.sprout.new.self c.sprout.new.walk is c.sprout.ensures.sprouts
 
+pub children::Packed::grow_at-returns-in-Fresh-clause-asked : goal.children::Packed::grow_at-returns-in-Fresh-clause-asked
+children::Packed::grow_at-returns-in-Fresh-clause-asked g t c =
+    asked_once c.args.pace (g.G.Grants.asked c.args.grants.now) (g.G.Grants.asked c.sprout.new.grants) c.sprout.result c.sprout.ensures.asked
+
 -- ---- the rounds at a node
 
 pub node::Node::grow-returns-then-is_one_step-clause-steps : goal.node::Node::grow-returns-then-is_one_step-clause-steps
@@ -92,6 +97,28 @@ node::Node::grow-returns-then-number-proof-clause-steps g t c =
     let same = same_stand c.rounds.walk c.args.walk.now c.rounds.invariant.line c.rounds.invariant.room in
     let steps = subst (λ at. AreStepsAt c.args.pace at now c.round-step.result new) same c.round-step.ensures.steps in
     last_round c.args.pace (stand_of c.args.walk.now) first now c.round-step.result new steps c.rounds.invariant.under_way
+
+pub node::Node::grow-returns-then-is_one_step-clause-granted : goal.node::Node::grow-returns-then-is_one_step-clause-granted
+node::Node::grow-returns-then-is_one_step-clause-granted g t c = c.round-step.ensures.granted ∙ c.rounds.invariant.granted
+
+pub node::Node::grow-returns-then-number-proof-clause-granted : goal.node::Node::grow-returns-then-number-proof-clause-granted
+node::Node::grow-returns-then-number-proof-clause-granted g t c = c.round-step.ensures.granted ∙ c.rounds.invariant.granted
+
+pub node::Node::grow-returns-then-is_one_step-clause-source : goal.node::Node::grow-returns-then-is_one_step-clause-source
+node::Node::grow-returns-then-is_one_step-clause-source g t c = c.round-step.ensures.source ∙ c.rounds.invariant.source
+
+pub node::Node::grow-returns-then-number-proof-clause-source : goal.node::Node::grow-returns-then-number-proof-clause-source
+node::Node::grow-returns-then-number-proof-clause-source g t c = c.round-step.ensures.source ∙ c.rounds.invariant.source
+
+pub node::Node::grow-returns-then-is_one_step-clause-asked : goal.node::Node::grow-returns-then-is_one_step-clause-asked
+node::Node::grow-returns-then-is_one_step-clause-asked g t c =
+    asked_last c.args.pace (g.G.Grants.asked c.args.grants.now) (g.G.Grants.asked c.rounds.grants) (g.G.Grants.asked c.round-step.new.grants) c.round-step.result
+    c.rounds.invariant.far c.round-step.ensures.asked
+
+pub node::Node::grow-returns-then-number-proof-clause-asked : goal.node::Node::grow-returns-then-number-proof-clause-asked
+node::Node::grow-returns-then-number-proof-clause-asked g t c =
+    asked_last c.args.pace (g.G.Grants.asked c.args.grants.now) (g.G.Grants.asked c.rounds.grants) (g.G.Grants.asked c.round-step.new.grants) c.round-step.result
+    c.rounds.invariant.far c.round-step.ensures.asked
 
 pub node::Node::grow-rounds-smaller : goal.node::Node::grow-rounds-smaller
 node::Node::grow-rounds-smaller g t c =
@@ -113,6 +140,11 @@ node::Node::grow-rounds-preserved g t c =
     record {
       line = c.round-step.ensures.line ∙ c.rounds.invariant.line;
       room = c.round-step.ensures.room ∙ c.rounds.invariant.room;
+      granted = c.round-step.ensures.granted ∙ c.rounds.invariant.granted;
+      source = c.round-step.ensures.source ∙ c.rounds.invariant.source;
+      far =
+          granted_more c.args.pace (g.G.Grants.asked c.args.grants.now) (g.G.Grants.asked c.rounds.grants) (g.G.Grants.asked c.round-step.new.grants) c.round-step.result
+          c.rounds.invariant.far c.round-step.ensures.asked c.is_one_step.result c.is_one_step.ensures c.if-is_one_step.false changed;
       under_way =
           next_round c.args.pace (stand_of c.args.walk.now) first now c.round-step.result new steps
           c.is_one_step.result c.is_one_step.ensures c.if-is_one_step.false c.rounds.invariant.under_way changed (same_numbers c.rounds.self c.round-step.new.self proof disproof);
@@ -135,16 +167,19 @@ children::Children::grow_best-grow_at-step-requires g t c κs within =
     let rank = c.from-rank.ensures ∙ c.self.invariant.rank ∙ ap (λ i. grown_in (take i x.edges.items)) (sym c.from-place.ensures) in (
       omega (arith, c.decreases),
       (
-        within,
+        within.0,
         (
-          omega (arith, there, place, length-trees_of x.edges.items x.grown.items),
+          within.1,
           (
-            rank,
+            omega (arith, there, place, length-trees_of x.edges.items x.grown.items),
             (
-              c.self.invariant.whole,
+              rank,
               (
-                subst (λ i. MayGrow (stand_of c.args.walk.now) (child_of x i)) (sym place) may_grow,
-                c.requires.room,
+                c.self.invariant.whole,
+                (
+                  subst (λ i. MayGrow (stand_of c.args.walk.now) (child_of x i)) (sym place) may_grow,
+                  (c.requires.room, c.requires.grants),
+                ),
               ),
             ),
           ),
@@ -237,7 +272,8 @@ node::Node::round-grow_best-step-requires g t c κs within =
     let pair = subst (λ side. ArePair side (node_with x.children) c.of-was.result) c.mover-mover.ensures (c.of-was.ensures (node_with x.children) cached) in
     let there = child_there (stand_of walk) x.children c.args.self.now is c.requires.may_grow in
     let may_grow = child_may_grow walk x.children c.args.self.now c.best_turn.result way c.go_down.new.self gone in
-    (omega (arith, c.decreases, gone.room, room), (within, (pair, (there, (may_grow, omega (arith, gone.room, c.requires.room))))))
+    let grants = subst (λ (n : ℕ). (g.G.Grants.asked c.args.grants.now).granted + n < 2 ^ 64) (sym gone.left) c.requires.grants in
+    (omega (arith, c.decreases, gone.room, room), (within.0, (within.1, (pair, (there, (may_grow, (omega (arith, gone.room, c.requires.room), grants)))))))
 
 pub node::Node::round-invariant_of-self-in-Expanded : goal.node::Node::round-invariant_of-self-in-Expanded
 node::Node::round-invariant_of-self-in-Expanded g t c =

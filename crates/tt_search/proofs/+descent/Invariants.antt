@@ -1,6 +1,7 @@
 use Rattle.std.proofs.Common.{◌≡◌, ◌+◌, ◌*◌}
 use Rattle.tt_search.specs.Walking.{stage, stand_of}
 use Rattle.tt_search.proofs.Steady.{IsUnderWay, to_do}
+use Rattle.tt_search.proofs.Asking.{IsGranted}
 use Rattle.tt_search.proofs.+descent.Given as goal
 
 -- each descent below a node has less room, and a node's rounds have its own
@@ -20,6 +21,9 @@ abbrev pub invariant-node::Node::grow-rounds : goal.invariant-node::Node::grow-r
 invariant-node::Node::grow-rounds g l = record {
   line : l.walk.line ≡ l.fn.walk.line;
   room : l.walk.room ≡ l.fn.walk.room;
+  granted : (g.G.Grants.asked l.grants).granted + l.walk.left ≡ (g.G.Grants.asked l.fn.grants).granted + l.fn.walk.left;
+  source : g.G.Grants.source l.grants ≡ g.G.Grants.source l.fn.grants;
+  far : IsGranted l.pace (g.G.Grants.asked l.fn.grants) (g.G.Grants.asked l.grants);
   under_way : IsUnderWay l.pace (stand_of l.fn.walk) (stage l.fn.self l.fn.walk.left) (stage l.self l.walk.left);
 }
 

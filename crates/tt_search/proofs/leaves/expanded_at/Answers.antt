@@ -1,42 +1,60 @@
-use Rattle.std.proofs.Common.{◌∙◌, [], ◌∷◌, ◌++◌, map, length, sym, ap, arith}
-use Rattle.std.proofs.lemmas.List.{take_all}
+use Rattle.std.proofs.Common.{◌++◌, [], map, length, refl, ap, ◌∙◌, arith}
 use Rattle.tt_game.specs.declared.turns.Successor.{Successor}
-use Rattle.tt_game.specs.TurnLaws.{length-legal_turns}
+use Rattle.tt_game.specs.Turns.{successors_of, successors_from}
+use Rattle.tt_game.specs.TurnLaws.{length-legal_turns, from_all}
 use Rattle.tt_search.specs.Growing.{leaf_for}
 use Rattle.tt_search.specs.Edges.{turns_of, trees_of, grown_in}
-use Rattle.tt_search.proofs.Places.{length-turns_of, turns_push, trees_push, grown_push}
-use Rattle.tt_search.proofs.Successors.{expansion_of, map_next, turns_of-successors}
+use Rattle.tt_search.proofs.Places.{length-turns_of, grown_push}
+use Rattle.tt_search.proofs.Successors.{expansion_of, turns_of-successors, turns_more, leaves_more, turns_last, leaves_last}
 use Rattle.tt_search.proofs.leaves.expanded_at.Goals as goal
 
-pub loop-successor-preserved : goal.loop-successor-preserved
-loop-successor-preserved c = record {
-  small = ap grown_in c.in_ok-push.ensures.items ∙ grown_push c.loop-successor.edges.items c.new_edge.result c.new_edge.ensures.small ∙ c.loop-successor.invariant.small;
-  turns =
-      ap turns_of c.in_ok-push.ensures.items
-      ∙ turns_push c.loop-successor.edges.items c.new_edge.result
-      ∙ ap (λ t. turns_of c.loop-successor.edges.items ++ t ∷ []) c.new_edge.ensures.turn
-      ∙ ap (λ ts. ts ++ c.successor-item.result.turn ∷ []) c.loop-successor.invariant.turns
-      ∙ sym (map_next (λ x. x.turn) c.as_slice-successor-items.result.now c.loop-successor.successor-index c.successor-item.result c.successor-item.is c.loop-successor-test.true);
-  leaves =
-      ap (λ es. trees_of es []) c.in_ok-push.ensures.items
-      ∙ trees_push c.loop-successor.edges.items c.new_edge.result
-      ∙ ap (λ t. trees_of c.loop-successor.edges.items [] ++ t ∷ []) c.new_edge.ensures.tree
-      ∙ ap (λ ts. ts ++ leaf_for c.successor-item.result.winner ∷ []) c.loop-successor.invariant.leaves
-      ∙ sym (map_next (λ x. leaf_for x.winner) c.as_slice-successor-items.result.now c.loop-successor.successor-index c.successor-item.result c.successor-item.is c.loop-successor-test.true);
-}
+pub loop-p-init : goal.loop-p-init
+loop-p-init c =
+    let f = c.args.line.now.frame in let s = c.args.line.now.state in
+    record {
+      small = ap grown_in c.new-edges.ensures;
+      turns = ap (λ es. turns_of es ++ map (λ (x : Successor). x.turn) (successors_from f s 0)) c.new-edges.ensures
+          ∙ ap (map (λ (x : Successor). x.turn)) (from_all f s) ∙ turns_of-successors f s;
+      leaves = ap (λ es. trees_of es [] ++ map (λ (x : Successor). leaf_for x.winner) (successors_from f s 0)) c.new-edges.ensures
+          ∙ ap (map (λ (x : Successor). leaf_for x.winner)) (from_all f s);
+      few = omega (arith, ap length c.new-edges.ensures);
+      inside = omega arith;
+    }
+
+pub loop-p-preserved : goal.loop-p-preserved
+loop-p-preserved c =
+    let f = c.args.line.now.frame in let s = c.args.line.now.state in
+    let is = c.number-from.ensures.number in
+    let items = c.push.ensures.items in
+    record {
+      small = ap grown_in items ∙ grown_push c.loop-p.edges.items c.new_edge.result c.new_edge.ensures.small ∙ c.loop-p.invariant.small;
+      turns = turns_more f s c.loop-p.edges.items c.push.new.self.items c.new_edge.result c.loop-p.from _ c.number-from.result
+          items c.new_edge.ensures.turn c.in-Some.ensures.3 is c.loop-p.invariant.turns;
+      leaves = leaves_more f s c.loop-p.edges.items c.push.new.self.items c.new_edge.result _ c.loop-p.from _ c.number-from.result
+          items c.new_edge.ensures.tree c.in-Some.ensures.2 c.in-Some.ensures.3 is c.loop-p.invariant.leaves;
+      few = omega (arith, c.push.ensures.len, c.loop-p.invariant.few, is, c.in-Some.ensures.0);
+      inside = omega (arith, c.in-Some.ensures.1, is);
+    }
 
 pub expanded_node-requires-clause-few : goal.expanded_node-requires-clause-few
 expanded_node-requires-clause-few c =
-    let x = c.args.line.now in
-    let whole = take_all c.loop-successor.successor-index c.as_slice-successor-items.result.now (omega (arith, c.loop-successor-test.false)) in
-    let all = whole ∙ c.as_slice-successor-items.ensures.value ∙ c.in_ok-successors.ensures in
-    let turns = c.loop-successor.invariant.turns ∙ ap (map (λ (x : Successor). x.turn)) all ∙ turns_of-successors x.frame x.state in
-    omega (arith, length-turns_of c.loop-successor.edges.items, ap length turns, length-legal_turns x.frame x.state)
+    let f = c.args.line.now.frame in let s = c.args.line.now.state in
+    let whole = c.in_ok-extend_from_slice.ensures.items ∙ ap (λ es. es ++ c.as_slice.result.now) c.in_ok-kept.ensures.items ∙ c.as_slice.ensures.value in
+    let turns = turns_last f s c.loop-p.edges.items c.push-2.new.self.items c.new_edge-2.result c.loop-p.from c.push-2.ensures.items c.new_edge-2.ensures.turn c.in_default.ensures c.loop-p.invariant.turns
+    ∙ turns_of-successors f s in
+    omega (arith, ap length whole, length-turns_of c.push-2.new.self.items, ap length turns, length-legal_turns f s)
+
+pub expanded_node-requires-clause-none : goal.expanded_node-requires-clause-none
+expanded_node-requires-clause-none c =
+    let whole = c.in_ok-extend_from_slice.ensures.items ∙ ap (λ es. es ++ c.as_slice.result.now) c.in_ok-kept.ensures.items ∙ c.as_slice.ensures.value in
+    ap grown_in (whole ∙ c.push-2.ensures.items) ∙ grown_push c.loop-p.edges.items c.new_edge-2.result c.new_edge-2.ensures.small ∙ c.loop-p.invariant.small
 
 pub returns : goal.returns
 returns c =
-    let whole = take_all c.loop-successor.successor-index c.as_slice-successor-items.result.now (omega (arith, c.loop-successor-test.false)) in
-    let e = expansion_of c.args.line.now.frame c.args.line.now.state c.to_move.result c.as_slice-successor-items.result.now _ _ c.to_move.ensures
-    (c.as_slice-successor-items.ensures.value ∙ c.in_ok-successors.ensures) (c.loop-successor.invariant.turns ∙ ap (map (λ (x : Successor). x.turn)) whole)
-    (c.loop-successor.invariant.leaves ∙ ap (map (λ (x : Successor). leaf_for x.winner)) whole) in
-    c.expanded_node.ensures ∙ e
+    let f = c.args.line.now.frame in let s = c.args.line.now.state in
+    let whole = c.in_ok-extend_from_slice.ensures.items ∙ ap (λ es. es ++ c.as_slice.result.now) c.in_ok-kept.ensures.items ∙ c.as_slice.ensures.value in
+    let turns = turns_last f s c.loop-p.edges.items c.push-2.new.self.items c.new_edge-2.result c.loop-p.from c.push-2.ensures.items c.new_edge-2.ensures.turn c.in_default.ensures c.loop-p.invariant.turns in
+    let leaves = leaves_last f s c.loop-p.edges.items c.push-2.new.self.items c.new_edge-2.result c.winner_by_pass.result c.loop-p.from
+    c.push-2.ensures.items c.new_edge-2.ensures.tree c.winner_by_pass.ensures c.in_default.ensures c.loop-p.invariant.leaves in
+    c.expanded_node.ensures
+    ∙ expansion_of f s c.to_move.result (successors_of f s) _ _ c.to_move.ensures refl (ap turns_of whole ∙ turns) (ap (λ es. trees_of es []) whole ∙ leaves)

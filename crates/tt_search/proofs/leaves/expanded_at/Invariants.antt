@@ -1,11 +1,18 @@
-use Rattle.std.proofs.Common.{◌≡◌, [], map, take}
+use Rattle.std.proofs.Common.{◌≡◌, ◌≤◌, ◌-◌, ◌++◌, [], map, length}
+use Rattle.tt_sgf.specs.Sizes.{point_count}
+use Rattle.tt_game.specs.Turns.{legal_turns, successors_of, successors_from}
 use Rattle.tt_search.specs.Growing.{leaf_for}
 use Rattle.tt_search.specs.Edges.{turns_of, trees_of, grown_in}
 use Rattle.tt_search.proofs.leaves.expanded_at.Given as goal
 
-abbrev pub invariant-loop-successor : goal.invariant-loop-successor
-invariant-loop-successor l = record {
+abbrev pub invariant-loop-p : goal.invariant-loop-p
+invariant-loop-p l = record {
   small : grown_in l.edges.items ≡ 0;
-  turns : turns_of l.edges.items ≡ map (λ x. x.turn) (take l.successor-index l.successor-items);
-  leaves : trees_of l.edges.items [] ≡ map (λ x. leaf_for x.winner) (take l.successor-index l.successor-items);
+  turns : turns_of l.edges.items ++ map (λ x. x.turn) (successors_from l.line.frame l.line.state l.from) ≡ legal_turns l.line.frame l.line.state;
+  leaves : trees_of l.edges.items [] ++ map (λ x. leaf_for x.winner) (successors_from l.line.frame l.line.state l.from) ≡ map (λ x. leaf_for x.winner) (successors_of l.line.frame l.line.state);
+  few : length l.edges.items ≤ l.from;
+  inside : l.from ≤ point_count l.line.frame.size;
 }
+
+abbrev pub decreases-loop-p : goal.decreases-loop-p
+decreases-loop-p l = 361 - l.from

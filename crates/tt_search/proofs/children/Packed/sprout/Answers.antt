@@ -1,11 +1,15 @@
-use Rattle.std.proofs.Common.{rules, ◌≡◌, ◌∙◌, length, insert, refl, sym, ap, subst, arith}
+use Rattle.std.proofs.Common.{rules, ◌≡◌, ◌∙◌, ◌+◌, length, insert, refl, sym, ap, subst, arith}
 use Rattle.std.specs.Vec.{with_item}
+use Rattle.tt_search.specs.PartialTree.{fresh}
 use Rattle.tt_search.specs.Edges.{turn_of}
+use Rattle.tt_search.specs.Walking.{stage, stand_of}
+use Rattle.tt_search.specs.Grants.{Asked}
 use Rattle.tt_search.specs.Taken.{IsLeft}
 use Rattle.tt_search.specs.declared.children.Packed.{Packed}
 use Rattle.tt_search.specs.declared.walk.Walk.{Walk}
 use Rattle.tt_search.proofs.Places.{fresh_there, rank_within, take_set}
-use Rattle.tt_search.proofs.Sprouted.{stays_fresh, stays_for_memory, leaf_offerable, put, put_whole}
+use Rattle.tt_search.proofs.Asking.{unasked_stuck, room_to_ask, spent_by}
+use Rattle.tt_search.proofs.Sprouted.{stays_fresh, stays_for_memory, stays_ungranted, leaf_offerable, put, put_whole}
 use Rattle.tt_search.proofs.children.Packed.sprout.Goals as goal
 
 pub returns-in-Stuck-clause-sprouts : goal.returns-in-Stuck-clause-sprouts
@@ -21,8 +25,40 @@ returns-then-is_err g c = record {
   kept = λ reason e. c.leaf_step-step.ensures.kept;
   whole = c.requires.whole ∙ ap length (sym c.room_for_one.ensures.items);
   before = refl;
+  granted = ap (λ (w : Walk). (g.G.Grants.asked c.args.grants.now).granted + w.left) c.leaf_step-step.ensures.walk;
+  asked = refl;
+  source = refl;
   sprouts = stays_for_memory c.args.walk.now c.leaf_step-step.new.walk c.args.place c.args.self.now _ c.requires.there c.leaf_step-step.ensures.walk refl c.room_for_one.ensures.items;
 }
+
+pub is_granted-requires-clause-room : goal.is_granted-requires-clause-room
+is_granted-requires-clause-room g c =
+    let walk = c.args.walk.now in
+    let leaf = c.leaf_step-step in
+    room_to_ask (stand_of walk) (stage fresh walk.left) leaf.result.0 leaf.result.1 (g.G.Grants.asked c.args.grants.now).granted leaf.ensures.taken c.requires.grants
+
+pub returns-in-Stuck-clause-asked : goal.returns-in-Stuck-clause-asked
+returns-in-Stuck-clause-asked g c =
+    unasked_stuck (g.G.Grants.asked c.args.grants.now) c.in-Stuck.reason (λ e. c.leaf_step-step.ensures.unasked (c.in-Stuck.is ∙ e))
+
+pub returns-then-not-is_granted : goal.returns-then-not-is_granted
+returns-then-not-is_granted g c =
+    let leaf = c.leaf_step-step in
+    let refused = c.is_granted.ensures.refused (search rules) in
+    let granted = ap (λ (a : Asked). a.granted) refused.1 in
+    let left = ap (λ (w : Walk). w.left) leaf.ensures.walk in record {
+      line = ap (λ (w : Walk). w.line) leaf.ensures.walk;
+      room = ap (λ (w : Walk). w.room) leaf.ensures.walk;
+      may = λ e. cc;
+      kept = λ reason e. leaf.ensures.kept;
+      whole = c.requires.whole ∙ ap length (sym c.room_for_one.ensures.items);
+      before = refl;
+      granted = omega (arith, granted, left);
+      asked = refused.1;
+      source = c.is_granted.ensures.source;
+      sprouts = stays_ungranted c.args.walk.now leaf.new.walk c.args.place c.args.self.now _ leaf.result.0 leaf.result.1 c.requires.there leaf.ensures.walk refl c.room_for_one.ensures.items
+          leaf.ensures.taken refused.0;
+    }
 
 pub offer-walk-requires : goal.offer-walk-requires
 offer-walk-requires g c =
@@ -48,6 +84,8 @@ returns g c =
     let turn = c.grown.ensures.turn ∙ ap turn_of c.index.ensures in
     let new : Packed = record { edges = with_item c.args.self.now.edges c.args.place c.grown.result; grown = c.insert.new.self } in
     let left : c.match-step-2.walk.left ≡ c.args.walk.now.left = search rules in
+    let after = subst (λ n. IsLeft leaf.result.0 n c.left_after-walk.result) left c.left_after-walk.ensures in
+    let asked = c.is_granted.ensures.granted (search rules) in
     record {
       line = search rules;
       room = search rules;
@@ -55,10 +93,13 @@ returns g c =
       kept = search rules;
       whole = put_whole c.args.self.now new c.args.place c.args.rank c.index.result.now c.grown.result leaf.result.1 c.requires.there c.requires.whole c.requires.rank c.grown.ensures.mark refl row;
       before = take_set c.args.self.now.edges.items c.args.place c.grown.result;
+      granted = spent_by (g.G.Grants.asked c.args.grants.now) (g.G.Grants.asked c.is_granted.new.grants) leaf.result.0 c.args.walk.now.left c.left_after-walk.result asked after;
+      asked = asked;
+      source = c.is_granted.ensures.source;
       sprouts = (
         leaf.result.1,
         leaf.ensures.taken,
-        subst (λ n. IsLeft leaf.result.0 n c.left_after-walk.result) left c.left_after-walk.ensures,
+        after,
         put c.args.self.now new c.args.place c.args.rank c.index.result.now c.grown.result leaf.result.1 c.requires.there c.requires.whole c.requires.rank c.grown.ensures.mark refl row turn,
       );
     }

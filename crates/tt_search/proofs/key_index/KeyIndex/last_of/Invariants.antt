@@ -1,6 +1,4 @@
 use Rattle.std.proofs.Common.{◌≡◌, ◌-◌, ◌%◌, ◌<◌, ◌≤◌, length, get_or}
-use Rattle.tt_game.specs.Keys.{key_of}
-use Rattle.tt_search.specs.KeyIndex.{mark_of}
 use Rattle.tt_search.specs.KeyChains.{NoneFrom}
 use Rattle.tt_search.proofs.key_index.KeyIndex.last_of.Given as goal
 

@@ -1,10 +1,12 @@
-use Rattle.std.proofs.Common.{rules, sym, subst}
+use Rattle.std.proofs.Common.{rules, ◌≡◌, ◌+◌, ◌^◌, ◌<◌, ◌≤◌, refl, sym, subst, arith}
 use Rattle.tt_game.specs.Line.{Standing}
-use Rattle.tt_search.specs.Numbers.{IsUndecided}
+use Rattle.tt_search.specs.Numbers.{count, IsUndecided}
 use Rattle.tt_search.specs.Walking.{stage, stand_of}
 use Rattle.tt_search.specs.Searched.{Searched}
 use Rattle.tt_search.specs.Searching.{IsSearch}
 use Rattle.tt_search.specs.Advanced.{IsAdvanced}
+use Rattle.tt_search.specs.declared.limits.Step.TheVariants.{Settled}
+use Rattle.tt_search.proofs.Asking.{asked_once}
 use Rattle.tt_search.proofs.Steady.{same_stand}
 use Rattle.tt_search.proofs.Advanced.{steps_with, advanced, advanced_settled}
 use Rattle.tt_search.proofs.search.Search.advance.Goals as goal
@@ -30,3 +32,37 @@ returns-clause-advanced g c =
     let search = advanced now.walk.line now.walk.room now.limits c.args.pace (stage now.root now.walk.left) c.grow.result new c.self.invariant u c.grow.ensures.steps in
     subst (λ (l : Standing). IsAdvanced c.args.pace c.args.self.now c.grow.result (record { line = l; limits = now.limits; tree = c.grow.new.self })) (sym c.grow.ensures.line)
     (subst (λ (old : Searched). IsAdvanced c.args.pace old c.grow.result (record { line = now.walk.line; limits = now.limits; tree = c.grow.new.self })) c.self.view_is search)
+
+pub grow-requires-clause-grants : goal.grow-requires-clause-grants
+grow-requires-clause-grants g c =
+    let granted = (g.G.Grants.asked c.args.grants.now).granted in
+    let room = subst (λ (s : Searched). granted + s.limits.budget < 2 ^ 64 + count s.tree) (sym c.self.view_is) c.requires.grants in
+    omega (arith, c.self.invariant.counted, room)
+
+pub returns-then-proof-eq0-clause-asked : goal.returns-then-proof-eq0-clause-asked
+returns-then-proof-eq0-clause-asked g c = let asked = g.G.Grants.asked c.args.grants.now in asked_once c.args.pace asked asked Settled refl
+
+pub returns-clause-spent : goal.returns-clause-spent
+returns-clause-spent g c =
+    let now = c.self.inside in
+    let u : IsUndecided now.root = search rules in
+    let new = stage c.grow.new.self c.grow.new.walk.left in
+    let after = steps_with (stand_of now.walk) now.limits c.args.pace (stage now.root now.walk.left) c.grow.result new c.self.invariant u c.grow.ensures.steps in
+    let before = (g.G.Grants.asked c.args.grants.now).granted in
+    let granted = (g.G.Grants.asked c.grow.new.grants).granted in
+    let spent : granted + count now.root ≡ before + count c.grow.new.self = omega (arith, c.self.invariant.counted, after.counted, c.grow.ensures.granted) in
+    subst (λ (s : Searched). granted + count s.tree ≡ before + count c.grow.new.self) c.self.view_is spent
+
+pub returns-then-proof-eq0-clause-few : goal.returns-then-proof-eq0-clause-few
+returns-then-proof-eq0-clause-few g c =
+    let now = c.self.inside in
+    let few : count now.root ≤ now.limits.budget = omega (arith, c.self.invariant.counted) in
+    subst (λ (s : Searched). count s.tree ≤ s.limits.budget) c.self.view_is few
+
+pub returns-clause-few : goal.returns-clause-few
+returns-clause-few g c =
+    let now = c.self.inside in
+    let u : IsUndecided now.root = search rules in
+    let new = stage c.grow.new.self c.grow.new.walk.left in
+    let after = steps_with (stand_of now.walk) now.limits c.args.pace (stage now.root now.walk.left) c.grow.result new c.self.invariant u c.grow.ensures.steps in
+    omega (arith, after.counted)

@@ -1,0 +1,88 @@
+-- What steps together ask for, and what they spend.
+use Rattle.std.proofs.Common.{◌≡◌, ◌≢◌, ◌↔◌, ℕ, ◌+◌, ◌-◌, ◌^◌, ◌<◌, ◌⊎◌, Bool, true, false, Some, inl, inr, refl, sym, ◌∙◌, ap, subst, arith}
+use Rattle.tt_search.specs.Grants.{Asked, AskedBy}
+use Rattle.tt_search.specs.Asking.{AreAsked}
+use Rattle.tt_search.specs.PartialTree.{PartialTree}
+use Rattle.tt_search.specs.Walking.{Stand, Stage}
+use Rattle.tt_search.specs.Taken.{Taken, IsLeft}
+use Rattle.tt_search.specs.Searched.{Searched}
+use Rattle.tt_search.specs.Ended.{HasSpent, SpentBy}
+use Rattle.tt_search.specs.declared.search.End.TheVariants as end
+use Rattle.tt_search.specs.declared.limits.Reason.{Reason}
+use Rattle.tt_search.specs.declared.limits.Reason.TheVariants.{Budget, Depth, Total, Memory}
+use Rattle.tt_search.specs.declared.limits.Step.{Step}
+use Rattle.tt_search.specs.declared.limits.Step.TheVariants.{Expanded, Closed, Settled, Stuck}
+use Rattle.tt_search.specs.declared.walk.Pace.{Pace}
+use Rattle.tt_search.specs.declared.walk.Pace.TheVariants.{OneStep}
+
+-- a step that is stuck for another reason than the total asks for nothing
+pub unasked_stuck : (asked : Asked) (reason : Reason) → Stuck reason ≢ Stuck Total → AskedBy asked (Stuck reason) asked
+unasked_stuck asked Budget h = refl
+unasked_stuck asked Depth h = refl
+unasked_stuck asked Total h = absurd (h refl)
+unasked_stuck asked Memory h = refl
+
+-- where a step is taken, what is granted and what is left add up to what they were
+pub spent_by : (old new : Asked) (step : Step) (left after : ℕ) → AskedBy old step new → IsLeft step left after → new.granted + after ≡ old.granted + left
+spent_by old new Expanded left after h l = omega (arith, ap (λ (a : Asked). a.granted) h.1, l)
+spent_by old new Closed left after h l = omega (arith, ap (λ (a : Asked). a.granted) h, l)
+spent_by old new Settled left after h l = omega (arith, ap (λ (a : Asked). a.granted) h, l)
+spent_by old new (Stuck Budget) left after h l = omega (arith, ap (λ (a : Asked). a.granted) h, l)
+spent_by old new (Stuck Depth) left after h l = omega (arith, ap (λ (a : Asked). a.granted) h, l)
+spent_by old new (Stuck Total) left after h l = omega (arith, ap (λ (a : Asked). a.granted) h, l)
+spent_by old new (Stuck Memory) left after h l = omega (arith, ap (λ (a : Asked). a.granted) h, l)
+
+-- an expansion needs some of what is left
+pub room_to_ask : (at : Stand) (old : Stage) (step : Step) (tree : PartialTree) (granted : ℕ) → Taken at old step tree → granted + old.left < 2 ^ 64 → step ≡ Expanded → granted < 2 ^ 64 - 1
+room_to_ask at old step tree granted h room e =
+    let some = (subst (λ s. Taken at old s tree) e h).0 in
+    let left : 0 < old.left = grind arith in
+    omega (arith, left, room)
+
+-- one step asks for what it asks
+pub asked_once : (pace : Pace) (old new : Asked) (step : Step) → AskedBy old step new → AreAsked pace old step new
+asked_once pace old new step h = record { before = old; granted = refl; one = λ e. refl; asked = h }
+
+-- what was granted so far, where none was refused
+pub record IsGranted (pace : Pace) (old now : Asked) : Type 0 where
+  pub same : now.refused ≡ old.refused
+  pub one : pace ≡ OneStep → now ≡ old
+
+-- nothing yet
+pub granted_first : (pace : Pace) (old : Asked) → IsGranted pace old old
+granted_first pace old = record { same = refl; one = λ e. refl }
+
+module _ (pace : Pace) (old now new : Asked) (step : Step) (far : IsGranted pace old now) (h : AreAsked pace now step new) where
+  -- a round that is the last one
+  pub asked_last : AreAsked pace old step new
+  asked_last = record { before = h.before; granted = h.granted ∙ far.same; one = λ e. h.one e ∙ far.one e; asked = h.asked }
+
+  -- an expansion is asked for only where none was refused, and then none is
+  kept_by : (before : Asked) → (step ≡ Expanded) ⊎ (step ≡ Closed) → AskedBy before step new → new.refused ≡ before.refused
+  kept_by before (inl e) k = let was = subst (λ s. AskedBy before s new) e k in ap (λ (a : Asked). a.refused) was.1 ∙ sym was.0
+  kept_by before (inr e) k = ap (λ (a : Asked). a.refused) (subst (λ s. AskedBy before s new) e k)
+
+  -- a round that changes its tree, where others follow
+  pub granted_more : (once : Bool) → (once ≡ true) ↔ (pace ≡ OneStep) → once ≡ false → (step ≡ Expanded) ⊎ (step ≡ Closed) → IsGranted pace old new
+  granted_more once says more changed = record {
+    same = kept_by h.before changed h.asked ∙ h.granted ∙ far.same;
+    one = λ e. let is : once ≡ true = says.1 e in cc;
+  }
+
+-- ---- runs
+
+-- where the last step expands or closes, none is refused
+pub kept_refused : (pace : Pace) (old new : Asked) (step : Step) → AreAsked pace old step new → (step ≡ Expanded) ⊎ (step ≡ Closed) → new.refused ≡ old.refused
+kept_refused pace old new step h changed = kept_by pace old old new step (granted_first pace old) h h.before changed h.asked ∙ h.granted
+
+-- nor where it finds the search settled
+pub settled_refused : (pace : Pace) (old new : Asked) → AreAsked pace old Settled new → new.refused ≡ old.refused
+settled_refused pace old new h = ap (λ (a : Asked). a.refused) h.asked ∙ h.granted
+
+-- what a run spent that ends stuck
+pub spent_stuck : (pace : Pace) (start search : Searched) (first old new : Asked) (reason : Reason) → HasSpent start first search new → old.refused ≡ first.refused
+    → AreAsked pace old (Stuck reason) new → SpentBy start first (end.Stuck reason (Some search)) new
+spent_stuck pace start search first old new Budget spent same h = (spent, ap (λ (a : Asked). a.refused) h.asked ∙ h.granted ∙ same)
+spent_stuck pace start search first old new Depth spent same h = (spent, ap (λ (a : Asked). a.refused) h.asked ∙ h.granted ∙ same)
+spent_stuck pace start search first old new Total spent same h = (spent, ap (λ (a : Asked). a.refused) h.asked)
+spent_stuck pace start search first old new Memory spent same h = (spent, ap (λ (a : Asked). a.refused) h.asked ∙ h.granted ∙ same)
