@@ -1,6 +1,6 @@
 -- What a desk shows once one view has every part.
-use Rattle.std.proofs.Common.{◌≡◌, ℕ, zero, suc, ◌+◌, ◌-◌, ◌<◌, ◌≤◌, Bool, true, false, ◌||◌, List, [], ◌∷◌, length, set, sum_by, All, Contains, cond, leb, nat_eq, refl, sym, ap}
-use Rattle.std.proofs.Common.{◌∙◌, zero-add, subst, arith}
+use Rattle.std.proofs.Common.{◌≡◌, ℕ, zero, suc, ◌+◌, ◌-◌, ◌<◌, ◌≤◌, Bool, true, false, ◌||◌, List, [], ◌∷◌, length, set, sum_by, All, Contains, cond, leb, ltb, min, nat_eq, refl, sym, ap}
+use Rattle.std.proofs.Common.{◌∙◌, zero-add, subst, arith, Option, Some, None, MatchOption, IfSome, IsTrue}
 use Rattle.std.specs.List.{list_any}
 use Rattle.std.proofs.lemmas.Bool.Decides.{nat_tests}
 use Rattle.std.proofs.lemmas.List.Sums.{sum_by-cons, sum_by-append, get_or-le-sum_by}
@@ -12,7 +12,7 @@ use lib.ListN.{get_elem?}
 use Rattle.tt_share.specs.declared.rule.View.{View}
 use Rattle.tt_share.specs.declared.rule.Plan.{Plan}
 use Rattle.tt_share.specs.Desk.{view_of, no_seat, joined, weight_below, spare_count, EachView, IsDesk}
-use Rattle.tt_share.specs.Seats.{DeskView, SeatView, EachOnce, AllJobsDrawn, EndsSpare, Closes}
+use Rattle.tt_share.specs.Seats.{DeskView, SeatView, EachOnce, AllJobsDrawn, EndsSpare, Spends}
 use Rattle.tt_share.specs.Gathering.{Gathers}
 use Rattle.tt_share.proofs.DeskLists.{at_within, at_read, sum_set, sum_at, sum_le}
 use Rattle.tt_share.proofs.DeskMoves.{counts_room, each_set, right_true}
@@ -41,13 +41,14 @@ or_swap false false c e = e
 
 -- what the table's seat of a seat knows
 abbrev pub sat_as : SeatView → View
-sat_as s = view_of 1 s.numbers s.mark s.sighting
+sat_as s = view_of 1 s.numbers s.grants s.mark s.sighting
 
 -- the view of one seat gathers that seat
 pub gathers_first : (s : SeatView) → Gathers (s ∷ []) (sat_as s)
 gathers_first s = record {
   parts = refl;
   numbers = λ weight. zero-add (sum_by weight s.numbers);
+  grants = λ weight. zero-add (sum_by weight s.grants);
   marks = or_nothing s.mark;
   sightings = or_nothing s.sighting;
 }
@@ -60,6 +61,11 @@ gathers_more s taken v h = record {
       let was = h.numbers weight in
       let c = sum_by-cons (λ (t : SeatView). sum_by weight t.numbers) s taken in
       let a = sum_by-append weight v.numbers s.numbers in
+      omega arith;
+  grants = λ weight.
+      let was = h.grants weight in
+      let c = sum_by-cons (λ (t : SeatView). sum_by weight t.grants) s taken in
+      let a = sum_by-append weight v.grants s.grants in
       omega arith;
   marks = or_swap s.mark v.mark (list_any (λ t. t.mark) taken) h.marks;
   sightings = or_swap s.sighting v.sighting (list_any (λ t. t.sighting) taken) h.sightings;
@@ -107,6 +113,11 @@ is_set : (b : Bool) → 1 ≤ cond b 1 0 → b ≡ true
 is_set true h = refl
 is_set false h = absurd (omega arith)
 
+-- of the numbers below n, as many are below the limit as the lesser of both
+least_below : (limit n : ℕ) → weight_below (λ k. cond (ltb k limit) 1 0) n ≡ min n limit
+least_below limit zero = omega arith
+least_below limit (suc n) = let e = least_below limit n in grind (arith, nat_tests)
+
 -- what the lists of all seats show, where however numbers are weighed they weigh as those below the count
 module _ (list : SeatView → List ℕ) (count : ℕ) (seats : List SeatView) (weights : (weight : ℕ → ℕ) → sum_by (λ (s : SeatView). sum_by weight (list s)) seats ≡ weight_below weight count) where
   -- the numbers in the lists are those below the count, each once
@@ -143,16 +154,35 @@ module _ (list : SeatView → List ℕ) (count : ℕ) (seats : List SeatView) (w
       let exact = spares limit in
       omega arith
 
+-- what the seats show of the grants of a total
+spends : (total word : ℕ) (seats : List SeatView) → 0 < total → ((weight : ℕ → ℕ) → sum_by (λ (s : SeatView). sum_by weight s.grants) seats ≡ weight_below weight word)
+    → Spends total (min word total) seats
+spends total word seats positive weights = record {
+  asked = (word, each_once (λ s. s.grants) word seats weights, refl);
+  granted_is = sym (weights (λ k. cond (ltb k total) 1 0) ∙ least_below total word);
+  refused = λ s has ends. let b = beyond (λ t. t.grants) word seats weights total positive s has ends in omega arith;
+}
+
+-- what seats of a closed desk show, where its words are known
+pub record End (desk : DeskView) (seats : List SeatView) (drawn asked : ℕ) : Type 0 where
+  pub draws : EachOnce (λ s. s.numbers) drawn seats
+  pub jobs_drawn : AllJobsDrawn (λ s. s.numbers) desk.jobs seats
+  pub draws_most : drawn ≤ desk.jobs + desk.seats
+  pub draws_are : All (λ s. EndsSpare desk.jobs s.numbers) seats → drawn ≡ desk.jobs + desk.seats
+  pub sighted : IsTrue (list_any (λ s. s.sighting) seats) → IsTrue (list_any (λ s. s.mark) seats)
+  pub grants : (total : ℕ) → 0 < total → Spends total (min asked total) seats
+
 -- where one view gathers all seats and has every part, they show what seats of a closed desk show
-pub closes : (desk : DeskView) (plan : Plan) (drawn mark : ℕ) (views : List View) (id : ℕ) (v : View) (seats : List SeatView) → plan.jobs ≡ desk.jobs → plan.seats ≡ desk.seats
+pub closes : (desk : DeskView) (plan : Plan) (drawn mark asked : ℕ) (views : List View) (id : ℕ) (v : View) (seats : List SeatView) → plan.jobs ≡ desk.jobs → plan.seats ≡ desk.seats
     → length seats ≡ desk.seats
-    → 0 < desk.jobs → 0 < desk.seats → Gathers seats v → IsDesk plan drawn mark views → get_elem? views id ≡ some v → Closes desk seats drawn
-closes desk plan drawn mark views id v seats same_jobs same_seats len some_job some_seat g h at =
+    → 0 < desk.jobs → 0 < desk.seats → Gathers seats v → IsDesk plan drawn mark asked views → get_elem? views id ≡ some v → End desk seats drawn asked
+closes desk plan drawn mark asked views id v seats same_jobs same_seats len some_job some_seat g h at =
     let all_parts : sum_by (λ u. u.parts) views ≡ v.parts = let p = h.parts in let q = g.parts in omega arith in
     let numbers : (weight : ℕ → ℕ) → sum_by (λ (s : SeatView). sum_by weight s.numbers) seats ≡ weight_below weight drawn = λ weight.
-    g.numbers weight ∙ (sym (alone (λ u. sum_by weight u.numbers) views id v at all_parts refl h.spent) ∙ h.draws.each_once weight) in record {
-      seats_are_all = len;
-      draws_each_once = each_once (λ s. s.numbers) drawn seats numbers;
+    g.numbers weight ∙ (sym (alone (λ u. sum_by weight u.numbers) views id v at all_parts refl h.spent) ∙ h.draws.each_once weight) in
+    let grants : (weight : ℕ → ℕ) → sum_by (λ (s : SeatView). sum_by weight s.grants) seats ≡ weight_below weight asked = λ weight.
+    g.grants weight ∙ (sym (alone (λ u. sum_by weight u.grants) views id v at all_parts refl h.spent) ∙ h.grants.each_once weight) in record {
+      draws = each_once (λ s. s.numbers) drawn seats numbers;
       jobs_drawn = uses (λ s. s.numbers) drawn seats numbers desk.jobs some_job;
       draws_most = let most = counts_room (λ u. u.numbers) plan.jobs drawn views h.draws in omega arith;
       draws_are = λ all.
@@ -166,4 +196,11 @@ closes desk plan drawn mark views id v seats same_jobs same_seats len some_job s
           let one = sum_at bit views has.0 has.1 has.2 in
           let its_bit : bit has.1 ≡ 1 = ap (λ (b : Bool). cond b 1 0) has.3 in
           g.marks ∙ is_set v.mark (let e = alone bit views id v at all_parts refl h.spent in omega arith);
+      grants = λ total positive. spends total asked seats positive grants;
     }
+
+-- what is known of the grants, where there is a total and where there is none
+pub grants_by : (total : Option ℕ) (key granted asked : ℕ) (seats : List SeatView) → MatchOption total (granted ≡ 0) (λ n. granted ≡ min asked n) → IfSome total (λ n. (key ≡ n) × (0 < n))
+    → ((n : ℕ) → 0 < n → Spends n (min asked n) seats) → MatchOption total (granted ≡ 0) (λ n. Spends n granted seats)
+grants_by None key granted asked seats is positive all = is
+grants_by (Some n) key granted asked seats is positive all = subst (λ (g : ℕ). Spends n g seats) (sym is) (all n positive.1)

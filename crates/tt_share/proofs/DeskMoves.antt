@@ -12,8 +12,8 @@ use Rattle.atomic_table.proofs.Lists.{at_set, at_snoc, set_here, set_else, at_lo
 use Rattle.atomic_table.specs.Table.{keeps, Allows, Splits, Joins}
 use Rattle.tt_share.specs.declared.rule.View.{View}
 use Rattle.tt_share.specs.declared.rule.Plan.{Plan}
-use Rattle.tt_share.specs.Desk.{blank, one_seat, no_seat, fewer, joined, with_draw, with_mark, with_sighting, spare_count, EachView, SomeView, Counts, IsMark, IsDesk}
-use Rattle.tt_share.specs.Desk.{DeskHolds, SeatState, IsNext, Draws, Raises, Looks}
+use Rattle.tt_share.specs.Desk.{blank, one_seat, no_seat, fewer, joined, with_draw, with_grant, with_mark, with_sighting, spare_count, EachView, SomeView, Counts, IsMark, IsDesk}
+use Rattle.tt_share.specs.Desk.{DeskHolds, SeatState, IsNext, Draws, Grants, Raises, Looks}
 use Rattle.tt_share.specs.Seats.{last_number}
 use Rattle.tt_share.proofs.DeskLists.{at_within, sum_set, sum_at, sum_le, spare_below, none_below, below_by_weight, rising_push, rising_short, no_spares}
 
@@ -162,21 +162,45 @@ pub draws : (plan : Plan) (slots id : ℕ) (me : SeatState) → plan.jobs + plan
     → Allows (DeskHolds plan) slots id me 0 (λ n. (n + 1) % 2 ^ 64) (λ n after. Draws me n after)
 draws plan slots id me small empty one job s h homes at fits =
     let v : View = me.0 in
-    let here : slice_index s.words 0 ≡ h.0 = ap (λ (l : List ℕ). slice_index l 0) h.2 in
-    let room = counts_room (λ u. u.numbers) plan.jobs h.0 s.views h.3.draws in
-    let next : (slice_index s.words 0 + 1) % 2 ^ 64 ≡ h.0 + 1 = ap (λ (n : ℕ). (n + 1) % 2 ^ 64) here ∙ no_wrap h.0 (plan.jobs + plan.seats) (let p = h.3.parts in omega arith) small in
+    let here : slice_index s.words 0 ≡ h.0 = ap (λ (l : List ℕ). slice_index l 0) h.3 in
+    let room = counts_room (λ u. u.numbers) plan.jobs h.0 s.views h.4.draws in
+    let next : (slice_index s.words 0 + 1) % 2 ^ 64 ≡ h.0 + 1 = ap (λ (n : ℕ). (n + 1) % 2 ^ 64) here ∙ no_wrap h.0 (plan.jobs + plan.seats) (let p = h.4.parts in omega arith) small in
     let w : View = with_draw v h.0 in
-    let desk : IsDesk plan (h.0 + 1) h.1 (set s.views id w) = record {
-      parts = parts_same s.views id v w at refl ∙ h.3.parts;
-      spent = spent_same s.views id w one h.3.spent;
-      draws = counts_add (λ u. u.numbers) plan.jobs h.0 s.views id v w h.3.draws at one job refl one;
-      marked = mark_kept h.1 s.views id v w at refl refl h.3.marked;
+    let desk : IsDesk plan (h.0 + 1) h.1 h.2 (set s.views id w) = record {
+      parts = parts_same s.views id v w at refl ∙ h.4.parts;
+      spent = spent_same s.views id w one h.4.spent;
+      draws = counts_add (λ u. u.numbers) plan.jobs h.0 s.views id v w h.4.draws at one job refl one;
+      marked = mark_kept h.1 s.views id v w at refl refl h.4.marked;
+      grants = counts_same (λ u. u.grants) plan.total h.2 s.views id v w h.4.grants at refl refl;
     } in (
       with_draw v (slice_index s.words 0),
       keeps,
       tt,
-      (h.0 + 1, h.1, (λ k. set (h.2 k) 0 (next k)), subst (λ (n : ℕ). IsDesk plan (h.0 + 1) h.1 (set s.views id (with_draw v n))) (sym here) desk),
-      (refl, subst (λ (n : ℕ). IsNext v.numbers n) (sym here) (next_one (λ u. u.numbers) plan.jobs h.0 s.views id v h.3.draws at one)),
+      (h.0 + 1, h.1, h.2, (λ k. set (h.3 k) 0 (next k)), subst (λ (n : ℕ). IsDesk plan (h.0 + 1) h.1 h.2 (set s.views id (with_draw v n))) (sym here) desk),
+      (refl, subst (λ (n : ℕ). IsNext v.numbers n) (sym here) (next_one (λ u. u.numbers) plan.jobs h.0 s.views id v h.4.draws at one)),
+    )
+
+-- an ask for a grant keeps the rule, and finds the seat's next number
+pub grants : (plan : Plan) (slots id : ℕ) (me : SeatState) → plan.total + plan.seats + 1 < 2 ^ 64 → me.1 ≡ [] → me.0.parts ≡ 1 → last_number me.0.grants < plan.total
+    → Allows (DeskHolds plan) slots id me 2 (λ n. (n + 1) % 2 ^ 64) (λ n after. Grants me n after)
+grants plan slots id me small empty one left s h homes at fits =
+    let v : View = me.0 in
+    let here : slice_index s.words 2 ≡ h.2 = ap (λ (l : List ℕ). slice_index l 2) h.3 in
+    let room = counts_room (λ u. u.grants) plan.total h.2 s.views h.4.grants in
+    let next : (slice_index s.words 2 + 1) % 2 ^ 64 ≡ h.2 + 1 = ap (λ (n : ℕ). (n + 1) % 2 ^ 64) here ∙ no_wrap h.2 (plan.total + plan.seats) (let p = h.4.parts in omega arith) small in
+    let w : View = with_grant v h.2 in
+    let desk : IsDesk plan h.0 h.1 (h.2 + 1) (set s.views id w) = record {
+      parts = parts_same s.views id v w at refl ∙ h.4.parts;
+      spent = spent_same s.views id w one h.4.spent;
+      draws = counts_same (λ u. u.numbers) plan.jobs h.0 s.views id v w h.4.draws at refl refl;
+      marked = mark_kept h.1 s.views id v w at refl refl h.4.marked;
+      grants = counts_add (λ u. u.grants) plan.total h.2 s.views id v w h.4.grants at one left refl one;
+    } in (
+      with_grant v (slice_index s.words 2),
+      keeps,
+      tt,
+      (h.0, h.1, h.2 + 1, (λ k. set (h.3 k) 2 (next k)), subst (λ (n : ℕ). IsDesk plan h.0 h.1 (h.2 + 1) (set s.views id (with_grant v n))) (sym here) desk),
+      (refl, subst (λ (n : ℕ). IsNext v.grants n) (sym here) (next_one (λ u. u.grants) plan.total h.2 s.views id v h.4.grants at one)),
     )
 
 -- raising the mark keeps the rule
@@ -184,24 +208,26 @@ pub raises : (plan : Plan) (slots id : ℕ) (me : SeatState) → me.1 ≡ [] →
 raises plan slots id me empty one s h homes at fits =
     let v : View = me.0 in
     let w : View = with_mark v in
-    let here : slice_index s.words 1 ≡ h.1 = ap (λ (l : List ℕ). slice_index l 1) h.2 in
-    let next : max (slice_index s.words 1) 1 ≡ 1 = let b = h.3.marked.bit in omega arith in (
+    let here : slice_index s.words 1 ≡ h.1 = ap (λ (l : List ℕ). slice_index l 1) h.3 in
+    let next : max (slice_index s.words 1) 1 ≡ 1 = let b = h.4.marked.bit in omega arith in (
       w,
       keeps,
       tt,
       (
         h.0,
         1,
-        (λ k. set (h.2 k) 1 (next k)),
+        h.2,
+        (λ k. set (h.3 k) 1 (next k)),
         record {
-          parts = parts_same s.views id v w at refl ∙ h.3.parts;
-          spent = spent_same s.views id w one h.3.spent;
-          draws = counts_same (λ u. u.numbers) plan.jobs h.0 s.views id v w h.3.draws at refl refl;
+          parts = parts_same s.views id v w at refl ∙ h.4.parts;
+          spent = spent_same s.views id w one h.4.spent;
+          draws = counts_same (λ u. u.numbers) plan.jobs h.0 s.views id v w h.4.draws at refl refl;
           marked = record {
             bit = omega arith;
             raised = λ is. (id, w, set_here s.views id w (at_within s.views id v at), refl);
             known = λ seat u e p. refl;
           };
+          grants = counts_same (λ u. u.grants) plan.total h.2 s.views id v w h.4.grants at refl refl;
         },
       ),
       refl,
@@ -214,9 +240,9 @@ seen_now false true c φ p old new = old refl
 seen_now false false c φ p old new = new p
 
 -- a view that looks at the mark leaves a desk a desk
-desk_looks : (plan : Plan) (drawn mark : ℕ) (views : List View) (id : ℕ) (v : View) → IsDesk plan drawn mark views → get_elem? views id ≡ some v → v.parts ≡ 1
-    → IsDesk plan drawn mark (set views id (with_sighting v (nat_eq mark 1)))
-desk_looks plan drawn mark views id v h at one = let w : View = with_sighting v (nat_eq mark 1) in record {
+desk_looks : (plan : Plan) (drawn mark asked : ℕ) (views : List View) (id : ℕ) (v : View) → IsDesk plan drawn mark asked views → get_elem? views id ≡ some v → v.parts ≡ 1
+    → IsDesk plan drawn mark asked (set views id (with_sighting v (nat_eq mark 1)))
+desk_looks plan drawn mark asked views id v h at one = let w : View = with_sighting v (nat_eq mark 1) in record {
   parts = parts_same views id v w at refl ∙ h.parts;
   spent = spent_same views id w one h.spent;
   draws = counts_same (λ u. u.numbers) plan.jobs drawn views id v w h.draws at refl refl;
@@ -226,29 +252,31 @@ desk_looks plan drawn mark views id v h at one = let w : View = with_sighting v 
     known = each_set (λ u. (u.mark || u.sighting) ≡ true → mark ≡ 1) views id w
         (λ p. seen_now v.mark v.sighting (nat_eq mark 1) (mark ≡ 1) p (h.marked.known id v at) (λ e. grind (arith, nat_tests))) h.marked.known;
   };
+  grants = counts_same (λ u. u.grants) plan.total asked views id v w h.grants at refl refl;
 }
 
 -- looking at the mark keeps the rule
 pub looks : (plan : Plan) (slots id : ℕ) (me : SeatState) → me.1 ≡ [] → me.0.parts ≡ 1 → Allows (DeskHolds plan) slots id me 1 (λ n. n) (λ n after. Looks me n after)
 looks plan slots id me empty one s h homes at fits =
     let v : View = me.0 in
-    let here : slice_index s.words 1 ≡ h.1 = ap (λ (l : List ℕ). slice_index l 1) h.2 in (
+    let here : slice_index s.words 1 ≡ h.1 = ap (λ (l : List ℕ). slice_index l 1) h.3 in (
       with_sighting v (nat_eq (slice_index s.words 1) 1),
       keeps,
       tt,
       (
         h.0,
         h.1,
-        (λ k. set (h.2 k) 1 (here k)),
-        subst (λ (n : ℕ). IsDesk plan h.0 h.1 (set s.views id (with_sighting v (nat_eq n 1)))) (sym here) (desk_looks plan h.0 h.1 s.views id v h.3 at one),
+        h.2,
+        (λ k. set (h.3 k) 1 (here k)),
+        subst (λ (n : ℕ). IsDesk plan h.0 h.1 h.2 (set s.views id (with_sighting v (nat_eq n 1)))) (sym here) (desk_looks plan h.0 h.1 h.2 s.views id v h.4 at one),
       ),
-      (refl, λ p. here ∙ h.3.marked.known id v at p),
+      (refl, λ p. here ∙ h.4.marked.known id v at p),
     )
 
 -- one part of a view that has made no step becomes a seat of its own
-desk_cuts : (plan : Plan) (drawn mark : ℕ) (views : List View) (id parts more : ℕ) → more ≡ parts + 1 → IsDesk plan drawn mark views → get_elem? views id ≡ some (blank more)
-    → IsDesk plan drawn mark (set views id (blank parts) ++ one_seat ∷ [])
-desk_cuts plan drawn mark views id parts more is_more h at =
+desk_cuts : (plan : Plan) (drawn mark asked : ℕ) (views : List View) (id parts more : ℕ) → more ≡ parts + 1 → IsDesk plan drawn mark asked views → get_elem? views id ≡ some (blank more)
+    → IsDesk plan drawn mark asked (set views id (blank parts) ++ one_seat ∷ [])
+desk_cuts plan drawn mark asked views id parts more is_more h at =
     let v : View = blank more in
     let w : View = blank parts in record {
       parts =
@@ -263,13 +291,14 @@ desk_cuts plan drawn mark views id parts more is_more h at =
             (has.0, has.1, at_longer (set views id w) (one_seat ∷ []) has.0 has.1 has.2, has.3);
         known = each_cut (λ u. (u.mark || u.sighting) ≡ true → mark ≡ 1) views id w one_seat (λ p. absurd (true≢false (sym p))) (λ p. absurd (true≢false (sym p))) h.marked.known;
       };
+      grants = counts_cut (λ u. u.grants) plan.total asked views id v w one_seat h.grants at refl refl refl;
     }
 
 -- handing out a seat keeps the rule
 pub cuts : (plan : Plan) (id : ℕ) (v : View) → v ≡ blank v.parts → 0 < v.parts → Splits (DeskHolds plan) id v (fewer v) one_seat
 cuts plan id v is_blank some_part =
     subst (λ (u : View). Splits (DeskHolds plan) id u (fewer u) one_seat) (sym is_blank)
-    (λ s h at. (h.0, h.1, h.2, desk_cuts plan h.0 h.1 s.views id (v.parts - 1) v.parts (omega arith) h.3 at))
+    (λ s h at. (h.0, h.1, h.2, h.3, desk_cuts plan h.0 h.1 h.2 s.views id (v.parts - 1) v.parts (omega arith) h.4 at))
 
 -- what follows from each of two follows where one of them is true
 or_true : (a b : Bool) (φ : Type 0) → (a || b) ≡ true → (a ≡ true → φ) → (b ≡ true → φ) → φ
@@ -285,9 +314,9 @@ right_true true b e = refl
 right_true false b e = e
 
 -- two views that are joined leave a desk a desk
-desk_joins : (plan : Plan) (drawn mark : ℕ) (views : List View) (id : ℕ) (v : View) (other : ℕ) (w : View) → IsDesk plan drawn mark views → get_elem? views id ≡ some v
-    → ¬ (other ≡ id) → get_elem? (set views id (joined v w)) other ≡ some w → 0 < v.parts → 0 < w.parts → IsDesk plan drawn mark (set (set views id (joined v w)) other no_seat)
-desk_joins plan drawn mark views id v other w h at two at' some_v some_w =
+desk_joins : (plan : Plan) (drawn mark asked : ℕ) (views : List View) (id : ℕ) (v : View) (other : ℕ) (w : View) → IsDesk plan drawn mark asked views → get_elem? views id ≡ some v
+    → ¬ (other ≡ id) → get_elem? (set views id (joined v w)) other ≡ some w → 0 < v.parts → 0 < w.parts → IsDesk plan drawn mark asked (set (set views id (joined v w)) other no_seat)
+desk_joins plan drawn mark asked views id v other w h at two at' some_v some_w =
     let both : View = joined v w in
     let mid : List View = set views id both in
     let was : get_elem? views other ≡ some w = sym (set_else views id other both two) ∙ at' in
@@ -315,8 +344,9 @@ desk_joins plan drawn mark views id v other w h at two at' some_v some_w =
             (λ q. or_true v.sighting w.sighting (mark ≡ 1) q (λ r. h.marked.known id v at (right_true v.mark v.sighting r)) (λ r. h.marked.known other w was (right_true w.mark w.sighting r))))
             (λ p. absurd (true≢false (sym p))) h.marked.known;
       };
+      grants = counts_join (λ u. u.grants) plan.total asked views id v other w both no_seat h.grants at was at' refl refl refl some_v some_w;
     }
 
 -- joining two seats keeps the rule
 pub joins : (plan : Plan) (id : ℕ) (v : View) (other : ℕ) (w : View) → 0 < v.parts → 0 < w.parts → Joins (DeskHolds plan) id v other w (joined v w) no_seat
-joins plan id v other w some_v some_w s h at two at' = (h.0, h.1, h.2, desk_joins plan h.0 h.1 s.views id v other w h.3 at two at' some_v some_w)
+joins plan id v other w some_v some_w s h at two at' = (h.0, h.1, h.2, h.3, desk_joins plan h.0 h.1 h.2 s.views id v other w h.4 at two at' some_v some_w)

@@ -17,5 +17,5 @@ drawn_more first old drawn new found more f was is same all =
 pub drawn_all : (jobs : ℕ) (first old new : List ℕ) (found more : List Found) → old ≡ first ++ jobs_of found → more ≡ found → AddsSpare jobs old new → AddsSpare jobs (first ++ jobs_of more) new
 drawn_all jobs first old new found more was same spare = (spare.0, spare.1 ∙ ap (λ ns. ns ++ spare.0) (was ∙ ap (λ fs. first ++ jobs_of fs) (sym same)), spare.2)
 
-pub numbers_of : (s : SeatView) (desk : TableId) (numbers : List ℕ) (mark sighting : Bool) → s ≡ seat_of desk numbers mark sighting → s.numbers ≡ numbers
-numbers_of s desk numbers mark sighting is = ap (λ (t : SeatView). t.numbers) is
+pub numbers_of : (s : SeatView) (desk : TableId) (numbers grants : List ℕ) (mark sighting : Bool) → s ≡ seat_of desk numbers grants mark sighting → s.numbers ≡ numbers
+numbers_of s desk numbers grants mark sighting is = ap (λ (t : SeatView). t.numbers) is

@@ -25,8 +25,8 @@ marked mark false won is down = (λ up. sym is ∙ up, λ up. is ∙ up)
 pub marks_again : (before after : Bool) → after ≡ before → IsTrue before → IsTrue after
 marks_again before after same up = same ∙ up
 
-pub mark_of : (s : SeatView) (desk : TableId) (numbers : List ℕ) (mark sighting : Bool) → s ≡ seat_of desk numbers mark sighting → s.mark ≡ mark
-mark_of s desk numbers mark sighting is = ap (λ (t : SeatView). t.mark) is
+pub mark_of : (s : SeatView) (desk : TableId) (numbers grants : List ℕ) (mark sighting : Bool) → s ≡ seat_of desk numbers grants mark sighting → s.mark ≡ mark
+mark_of s desk numbers grants mark sighting is = ap (λ (t : SeatView). t.mark) is
 
 -- what is read of a longer list was there, or is the last
 pub read_more : {X : Type 0} (xs : List X) (x : X) (i : ℕ) (y : X) → slice_get (xs ++ x ∷ []) i ≡ Some y → (slice_get xs i ≡ Some y) ⊎ ((i ≡ length xs) × (x ≡ y))

@@ -14,3 +14,8 @@ pub mod LastWins
 pub mod Placing
 pub mod Wins
 pub mod Drawn
+pub mod Counting
+pub mod Noting
+pub mod Asked
+pub mod Apart
+pub mod Spending

@@ -9,11 +9,11 @@ use Rattle.std.specs.Option.{option_map}
 use mathlib.Core.Logic.{dite}
 use native.Mathlib.Decide.{dec_lt}
 use Rattle.tt_game.specs.declared.frame.Side.{Side}
-use Rattle.tt_game.specs.declared.keys.Key.{Key}
 use Rattle.tt_game.specs.Keys.{key_of}
+use Rattle.tt_game.specs.Line.{Standing}
 use Rattle.tt_proof.specs.Proven.{Proven}
+use Rattle.tt_search.specs.Stores.{IsAnswer, IsNewest}
 use Rattle.tt_share.specs.Table.{same_key, places_from, places_of}
-use Rattle.tt_share.specs.Places.{IsFor, IsNewest}
 use Rattle.tt_game.specs.KeyLaws.{same_key_is}
 use Rattle.tt_share.proofs.PlaceLemmas.{place_low}
 
@@ -23,45 +23,45 @@ some_none : {X : Type 0} (x : X) → Some x ≡ None → ⊥
 some_none x e = cc
 
 -- no proof is for the key and the side
-abbrev NoneFor : Key → Side → List Proven → Type 0
-NoneFor k side ps = (i : ℕ) (p : Proven) → slice_get ps i ≡ Some p → IsFor k side p → ⊥
+abbrev NoneFor : Standing → Side → List Proven → Type 0
+NoneFor line side ps = (i : ℕ) (p : Proven) → slice_get ps i ≡ Some p → IsAnswer line side p → ⊥
 
 -- older proofs behind leave the newest one as it was
-more_before : (k : Key) (side : Side) (ps qs : List Proven) (p : Proven) → IsNewest k side ps (Some p) → IsNewest k side (ps ++ qs) (Some p)
-more_before k side [] qs p h = absurd (some_none p h)
-more_before k side (q ∷ ps) qs p (inl h) = inl h
-more_before k side (q ∷ ps) qs p (inr h) = inr (h.0, more_before k side ps qs p h.1)
+more_before : (line : Standing) (side : Side) (ps qs : List Proven) (p : Proven) → IsNewest line side ps (Some p) → IsNewest line side (ps ++ qs) (Some p)
+more_before line side [] qs p h = absurd (some_none p h)
+more_before line side (q ∷ ps) qs p (inl h) = inl h
+more_before line side (q ∷ ps) qs p (inr h) = inr (h.0, more_before line side ps qs p h.1)
 
 -- a list with one more in front, reversed, has that one at its end
 turned : (p : Proven) (ps qs : List Proven) → reverse (p ∷ ps) ++ qs ≡ reverse ps ++ p ∷ qs
 turned p ps qs = ap (λ (l : List Proven). l ++ qs) (reverse-append (p ∷ []) ps) ∙ append_assoc (reverse ps) (p ∷ []) qs
 
 -- newer proofs that are not for the key and the side leave the newest one as it was
-none_after : (k : Key) (side : Side) (ps qs : List Proven) (o : Option Proven) → NoneFor k side ps → IsNewest k side qs o → IsNewest k side (reverse ps ++ qs) o
-none_after k side [] qs o none h = h
-none_after k side (p ∷ ps) qs o none h =
-    let rest = none_after k side ps (p ∷ qs) o (λ i q at is. none (suc i) q at is) (inr (λ is. none 0 p refl is, h)) in
-    subst (λ l. IsNewest k side l o) (sym (turned p ps qs)) rest
+none_after : (line : Standing) (side : Side) (ps qs : List Proven) (o : Option Proven) → NoneFor line side ps → IsNewest line side qs o → IsNewest line side (reverse ps ++ qs) o
+none_after line side [] qs o none h = h
+none_after line side (p ∷ ps) qs o none h =
+    let rest = none_after line side ps (p ∷ qs) o (λ i q at is. none (suc i) q at is) (inr (λ is. none 0 p refl is, h)) in
+    subst (λ l. IsNewest line side l o) (sym (turned p ps qs)) rest
 
 -- where no proof is for them, there is no newest one
-none_newest : (k : Key) (side : Side) (ps : List Proven) → NoneFor k side ps → IsNewest k side (reverse ps) None
-none_newest k side [] none = refl
-none_newest k side (p ∷ ps) none =
-    let rest = none_after k side ps (p ∷ []) None (λ i q at is. none (suc i) q at is) (inr (λ is. none 0 p refl is, refl)) in
-    subst (λ l. IsNewest k side l None) (sym (reverse-append (p ∷ []) ps)) rest
+none_newest : (line : Standing) (side : Side) (ps : List Proven) → NoneFor line side ps → IsNewest line side (reverse ps) None
+none_newest line side [] none = refl
+none_newest line side (p ∷ ps) none =
+    let rest = none_after line side ps (p ∷ []) None (λ i q at is. none (suc i) q at is) (inr (λ is. none 0 p refl is, refl)) in
+    subst (λ l. IsNewest line side l None) (sym (reverse-append (p ∷ []) ps)) rest
 
 -- the last proof that is for them is the newest one
-last_newest : (k : Key) (side : Side) (ps : List Proven) (i : ℕ) (p : Proven) → slice_get ps i ≡ Some p → IsFor k side p
-    → ((j : ℕ) (q : Proven) → i < j → slice_get ps j ≡ Some q → IsFor k side q → ⊥) → IsNewest k side (reverse ps) (Some p)
-last_newest k side [] i p at is later = absurd (some_none p (sym at))
-last_newest k side (q ∷ ps) zero p at is later =
+last_newest : (line : Standing) (side : Side) (ps : List Proven) (i : ℕ) (p : Proven) → slice_get ps i ≡ Some p → IsAnswer line side p
+    → ((j : ℕ) (q : Proven) → i < j → slice_get ps j ≡ Some q → IsAnswer line side q → ⊥) → IsNewest line side (reverse ps) (Some p)
+last_newest line side [] i p at is later = absurd (some_none p (sym at))
+last_newest line side (q ∷ ps) zero p at is later =
     let same : q ≡ p = cc in
-    let this : IsNewest k side (q ∷ []) (Some p) = inl (subst (IsFor k side) (sym same) is, ap Some (sym same)) in
-    let rest = none_after k side ps (q ∷ []) (Some p) (λ j r there for. later (suc j) r (omega arith) there for) this in
-    subst (λ l. IsNewest k side l (Some p)) (sym (reverse-append (q ∷ []) ps)) rest
-last_newest k side (q ∷ ps) (suc i) p at is later =
-    let front = last_newest k side ps i p at is (λ j r more there for. later (suc j) r (omega (arith, more)) there for) in
-    subst (λ l. IsNewest k side l (Some p)) (sym (reverse-append (q ∷ []) ps)) (more_before k side (reverse ps) (q ∷ []) p front)
+    let this : IsNewest line side (q ∷ []) (Some p) = inl (subst (IsAnswer line side) (sym same) is, ap Some (sym same)) in
+    let rest = none_after line side ps (q ∷ []) (Some p) (λ j r there for. later (suc j) r (omega arith) there for) this in
+    subst (λ l. IsNewest line side l (Some p)) (sym (reverse-append (q ∷ []) ps)) rest
+last_newest line side (q ∷ ps) (suc i) p at is later =
+    let front = last_newest line side ps i p at is (λ j r more there for. later (suc j) r (omega (arith, more)) there for) in
+    subst (λ l. IsNewest line side l (Some p)) (sym (reverse-append (q ∷ []) ps)) (more_before line side (reverse ps) (q ∷ []) p front)
 
 -- ---- the places of what passes a test
 
@@ -103,13 +103,13 @@ rise t n (y ∷ ys) j k le h = rise_step (t y) n (places_from t (n + 1) ys) j k 
 -- ---- from the last place of the key down
 
 -- each proof of the key for the side stands at one of the first so many places
-abbrev pub AmongFirst : Key → Side → List Proven → List ℕ → ℕ → Type 0
-AmongFirst k side ps places left = (i : ℕ) (p : Proven) → slice_get ps i ≡ Some p → IsFor k side p → (j : ℕ) × (j < left) × (get_or places j 0 ≡ i)
+abbrev pub AmongFirst : Standing → Side → List Proven → List ℕ → ℕ → Type 0
+AmongFirst line side ps places left = (i : ℕ) (p : Proven) → slice_get ps i ≡ Some p → IsAnswer line side p → (j : ℕ) × (j < left) × (get_or places j 0 ≡ i)
 
 -- each of them stands at one of the key's places
-pub among_all : (k : Key) (side : Side) (ps : List Proven) (places : List ℕ) → places ≡ places_of k ps → AmongFirst k side ps places (length places)
-among_all k side ps places are i p at is =
-    let all = placed (λ (d : Proven). same_key k (key_of d.frame d.state)) 0 ps p i at (same_key_is k (key_of p.frame p.state) (sym is.has_key)) in
+pub among_all : (line : Standing) (side : Side) (ps : List Proven) (places : List ℕ) → places ≡ places_of (key_of line.frame line.state) ps → AmongFirst line side ps places (length places)
+among_all line side ps places are i p at is =
+    let all = placed (λ (d : Proven). same_key (key_of line.frame line.state) (key_of d.frame d.state)) 0 ps p i at (same_key_is (key_of line.frame line.state) (key_of p.frame p.state) (sym is.same_key)) in
     subst (λ (l : List ℕ). (j : ℕ) × (j < length l) × (get_or l j 0 ≡ i)) (sym are) (all.0, all.1, all.2 ∙ zero-add i)
 
 -- where the value at a place is p, what stands there has the value p
@@ -119,9 +119,9 @@ read_value value xs i None p e is = absurd (some_none p (sym is))
 read_value value xs i (Some x) p e is = (x, e, cc is)
 
 -- where the last of these places has no such proof, they stand at those before it
-pub among_fewer : {A : Type 0} (value : A → Proven) (k : Key) (side : Side) (xs : List A) (ps : List Proven) (places : List ℕ) (left : ℕ) → map value xs ≡ ps
-    → ((x : A) → slice_get xs (get_or places (left - 1) 0) ≡ Some x → (value x).side ≡ side → ⊥) → AmongFirst k side ps places left → AmongFirst k side ps places (left - 1)
-among_fewer value k side xs ps places left all other among i p at is =
+pub among_fewer : {A : Type 0} (value : A → Proven) (line : Standing) (side : Side) (xs : List A) (ps : List Proven) (places : List ℕ) (left : ℕ) → map value xs ≡ ps
+    → ((x : A) → slice_get xs (get_or places (left - 1) 0) ≡ Some x → (value x).side ≡ side → ⊥) → AmongFirst line side ps places left → AmongFirst line side ps places (left - 1)
+among_fewer value line side xs ps places left all other among i p at is =
     let first = among i p at is in
     dite (dec_lt first.0 (left - 1)) (λ lt. (first.0, lt, first.2))
     (λ ge. let h = first.1 in
@@ -140,23 +140,23 @@ read_side value xs i x y side inside is at for =
     ap (λ z. (value z).side) same ∙ for
 
 -- where none of the places is left, there is no newest proof
-pub none_is_newest : (k : Key) (side : Side) (ps : List Proven) (places : List ℕ) (left : ℕ) → left ≡ 0 → AmongFirst k side ps places left → IsNewest k side (reverse ps) None
-none_is_newest k side ps places left done among =
-    none_newest k side ps (λ i p at is. let first = among i p at is in let h = first.1 in absurd (omega (arith, h, done)))
+pub none_is_newest : (line : Standing) (side : Side) (ps : List Proven) (places : List ℕ) (left : ℕ) → left ≡ 0 → AmongFirst line side ps places left → IsNewest line side (reverse ps) None
+none_is_newest line side ps places left done among =
+    none_newest line side ps (λ i p at is. let first = among i p at is in let h = first.1 in absurd (omega (arith, h, done)))
 
 -- a proof for the side at the last of the places that are left is the newest one
-pub found_is_newest : {A : Type 0} (value : A → Proven) (k : Key) (side : Side) (xs : List A) (ps : List Proven) (x : A) (places : List ℕ) (left : ℕ) → map value xs ≡ ps → places ≡ places_of k ps
-    → left - 1 < length places → get_or places (left - 1) 0 < length xs → x ≡ get_or xs (get_or places (left - 1) 0) x → IsFor k side (value x) → AmongFirst k side ps places left
-    → IsNewest k side (reverse ps) (Some (value x))
-found_is_newest value k side xs ps x places left all are h inside is answers among =
+pub found_is_newest : {A : Type 0} (value : A → Proven) (line : Standing) (side : Side) (xs : List A) (ps : List Proven) (x : A) (places : List ℕ) (left : ℕ) → map value xs ≡ ps → places ≡ places_of (key_of line.frame line.state) ps
+    → left - 1 < length places → get_or places (left - 1) 0 < length xs → x ≡ get_or xs (get_or places (left - 1) 0) x → IsAnswer line side (value x) → AmongFirst line side ps places left
+    → IsNewest line side (reverse ps) (Some (value x))
+found_is_newest value line side xs ps x places left all are h inside is answers among =
     let place = get_or places (left - 1) 0 in
     let at : slice_get xs place ≡ Some x = slice_get_read xs (length xs) place x refl inside is in
     let there : slice_get ps place ≡ Some (value x) = subst (λ l. slice_get l place ≡ Some (value x)) all (slice_get-map value xs place ∙ ap (option_map value) at) in
-    last_newest k side ps place (value x) there answers
+    last_newest line side ps place (value x) there answers
     (λ j q more at_j for.
     let first = among j q at_j for in
     let lt = first.1 in
     let at_first = first.2 in
     let up = subst (λ (l : List ℕ). get_or l first.0 0 ≤ get_or l (left - 1) 0) (sym are)
-    (rise (λ (d : Proven). same_key k (key_of d.frame d.state)) 0 ps first.0 (left - 1) (omega (arith, lt)) (subst (λ (l : List ℕ). left - 1 < length l) are h)) in
+    (rise (λ (d : Proven). same_key (key_of line.frame line.state) (key_of d.frame d.state)) 0 ps first.0 (left - 1) (omega (arith, lt)) (subst (λ (l : List ℕ). left - 1 < length l) are h)) in
     omega (arith, more, up, at_first))

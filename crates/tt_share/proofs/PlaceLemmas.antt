@@ -1,13 +1,12 @@
 -- One more proof in a table, and what the place of a key says.
 use Rattle.std.proofs.Math.Nat.{zero-add}
-use Rattle.std.proofs.Common.{◌≡◌, ℕ, ◌+◌, ◌-◌, ◌^◌, ◌<◌, ◌≤◌, min, Bool, true, false, cond, List, [], ◌∷◌, ◌++◌, Some, slice_get, Result, Ok, Err, OnOk, get_or, zero, suc, length}
+use Rattle.std.proofs.Common.{◌≡◌, ℕ, ◌+◌, ◌-◌, ◌^◌, ◌<◌, ◌≤◌, min, Bool, true, false, cond, List, [], ◌∷◌, ◌++◌, Some, slice_get, get_or, zero, suc, length}
 use Rattle.std.proofs.Common.{map, refl, sym, ap, subst, ◌∙◌, arith}
 use Rattle.std.proofs.lemmas.List.{map-append}
 use Rattle.std.proofs.lemmas.Option.{slice_get_read, slice_get-map}
 use Rattle.std.specs.Option.{option_map}
 use Rattle.std.proofs.lemmas.List.Sums.{sum_by-append}
 use Rattle.std.specs.HashMap.{HashMap}
-use Rattle.std.specs.Result.{is_err}
 use Rattle.std.specs.declared.vec.Vec.{Vec}
 use Rattle.std.specs.declared.alloc.Global.{Global}
 use Rattle.tt_game.specs.declared.keys.Key.{Key}
@@ -47,11 +46,6 @@ nodes-snoc ps p total n was is = let e = sum_by-append (λ (d : Proven). nodes d
 -- one more element maps to one more
 pub map-snoc : {A B : Type 0} (f : A → B) (xs ys zs : List A) (x : A) → ys ≡ xs → zs ≡ ys ++ x ∷ [] → map f zs ≡ map f xs ++ f x ∷ []
 map-snoc f xs ys zs x e d = let a = map-append f xs (x ∷ []) in rw (d, e, a) refl
-
--- what holds on Ok holds where there is no error
-pub on_no_err : {T E P : Type 0} (r : Result T E) → is_err r ≡ false → OnOk r P → P
-on_no_err (Ok x) e p = p
-on_no_err (Err x) e p = absurd (grind (arith, e))
 
 -- with the first place in front or without it, no place is below it
 low_step : (b : Bool) (n : ℕ) (ps : List ℕ) (j : ℕ) → ((k : ℕ) → k < length ps → n + 1 ≤ get_or ps k 0) → j < length (cond b (n ∷ ps) ps) → n ≤ get_or (cond b (n ∷ ps) ps) j 0

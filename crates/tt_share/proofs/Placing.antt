@@ -2,6 +2,7 @@
 use Rattle.std.proofs.Common.{◌≡◌, ◌≢◌, ℕ, zero, suc, ◌<◌, inl, inr, List, [], ◌∷◌, ◌++◌, All, Option, Some, None, slice_get, slice_set, get_or, length, refl, sym, ap, subst, ◌∙◌, arith, append_assoc}
 use Rattle.std.proofs.lemmas.Option.{same_Some, none-some}
 use Rattle.tt_game.specs.Line.{Standing}
+use Rattle.tt_game.specs.declared.turns.Turn.{Turn}
 use Rattle.tt_search.specs.declared.limits.Limits.{Limits}
 use Rattle.tt_search.specs.declared.search.End.{End}
 use Rattle.tt_share.specs.declared.jobs.Found.{Found}
@@ -12,25 +13,25 @@ use Rattle.tt_share.specs.Workers.{IsPlaced, AllPlaced, IsGiven, AreGiven, AllGi
 use Rattle.tt_share.proofs.ResultLemmas.{read_after, get_set_same, get_set_other}
 
 -- what is known of what contracts see is known of the fields of results
-pub seen : (P : Standing → Limits → Type 0) (line : Standing) (limits : Limits) (ends : List (Option End)) (p : Progress) → record { line = line; limits = limits; ends = ends } ≡ p
-    → P p.line p.limits → P line limits
-seen P line limits ends p same h =
+pub seen : (P : Standing → Limits → Type 0) (line : Standing) (limits : Limits) (ends : List (Option End)) (spent : List (Turn × ℕ)) (p : Progress)
+    → record { line = line; limits = limits; ends = ends; spent = spent } ≡ p → P p.line p.limits → P line limits
+seen P line limits ends spent p same h =
     subst (λ l. P line l) (sym (ap (λ (q : Progress). q.limits) same)) (subst (λ l. P l p.limits) (sym (ap (λ (q : Progress). q.line) same)) h)
 
 -- and what is known of the fields is known of what contracts see
-pub shown : (P : Standing → Limits → List (Option End) → Type 0) (line : Standing) (limits : Limits) (ends : List (Option End)) (p : Progress)
-    → record { line = line; limits = limits; ends = ends } ≡ p
+pub shown : (P : Standing → Limits → List (Option End) → Type 0) (line : Standing) (limits : Limits) (ends : List (Option End)) (spent : List (Turn × ℕ)) (p : Progress)
+    → record { line = line; limits = limits; ends = ends; spent = spent } ≡ p
     → P line limits ends → P p.line p.limits p.ends
-shown P line limits ends p same h = subst (λ (q : Progress). P q.line q.limits q.ends) same h
+shown P line limits ends spent p same h = subst (λ (q : Progress). P q.line q.limits q.ends) same h
 
--- what holds of a line and limits holds where the ends alone changed
-pub same_asked : (P : Standing → Limits → Type 0) (old new : Progress) → new ≡ record old { ends = new.ends } → P old.line old.limits → P new.line new.limits
+-- what holds of a line and limits holds where the ends and their counts alone changed
+pub same_asked : (P : Standing → Limits → Type 0) (old new : Progress) → new ≡ record old { ends = new.ends; spent = new.spent } → P old.line old.limits → P new.line new.limits
 same_asked P old new same h =
     subst (λ l. P new.line l) (sym (ap (λ (p : Progress). p.limits) same)) (subst (λ l. P l old.limits) (sym (ap (λ (p : Progress). p.line) same)) h)
 
--- twice the ends alone changed
-pub same_twice : (a b c : Progress) → b ≡ record a { ends = b.ends } → c ≡ record b { ends = c.ends } → c ≡ record a { ends = c.ends }
-same_twice a b c first second = second ∙ ap (λ (p : Progress). record p { ends = c.ends }) first
+-- twice the ends and their counts alone changed
+pub same_twice : (a b c : Progress) → b ≡ record a { ends = b.ends; spent = b.spent } → c ≡ record b { ends = c.ends; spent = c.spent } → c ≡ record a { ends = c.ends; spent = c.spent }
+same_twice a b c first second = second ∙ ap (λ (p : Progress). record p { ends = c.ends; spent = c.spent }) first
 
 -- a place within the list is there
 none_past : {X : Type 0} (xs : List X) (i : ℕ) → i < length xs → slice_get xs i ≡ None → ⊥

@@ -47,15 +47,16 @@ stop_law word views h = record {
 }
 
 -- what a desk says in plain words
-state_law : (plan : Plan) (drawn mark : ℕ) (views : List View) → IsDesk plan drawn mark views → IsDeskState plan (drawn ∷ mark ∷ []) views
-state_law plan drawn mark views h = record {
-  two_words = refl;
+state_law : (plan : Plan) (drawn mark asked : ℕ) (views : List View) → IsDesk plan drawn mark asked views → IsDeskState plan (drawn ∷ mark ∷ asked ∷ []) views
+state_law plan drawn mark asked views h = record {
+  three_words = refl;
   parts = h.parts;
   spent = h.spent;
   draws = count_law (λ v. v.numbers) plan.jobs drawn views h.draws;
   stop = stop_law mark views h.marked;
+  grants = count_law (λ v. v.grants) plan.total asked views h.grants;
 }
 
 -- what the rule says of each state in plain words
 pub desk_law : DeskLaw
-desk_law plan s h = subst (λ (words : List ℕ). IsDeskState plan words s.views) (sym h.2) (state_law plan h.0 h.1 s.views h.3)
+desk_law plan s h = subst (λ (words : List ℕ). IsDeskState plan words s.views) (sym h.3) (state_law plan h.0 h.1 h.2 s.views h.4)

@@ -1,15 +1,16 @@
 -- The answer of a stuck search.
-use Rattle.std.proofs.Common.{◌≡◌, Option, Some, None, refl, subst, inr}
+use Rattle.std.proofs.Common.{◌≡◌, ℕ, List, Option, Some, None, refl, sym, subst, ◌∙◌, inr}
 use Rattle.tt_game.specs.declared.turns.Turn.{Turn}
 use Rattle.tt_game.specs.Game.{IsLegal}
 use Rattle.tt_game.specs.Line.{Standing}
 use Rattle.tt_search.specs.Searched.{Searched}
 use Rattle.tt_search.specs.declared.limits.Limits.{Limits}
 use Rattle.tt_search.specs.declared.limits.Reason.{Reason}
-use Rattle.tt_search.specs.declared.limits.Reason.TheVariants.{Budget, Depth, Memory}
+use Rattle.tt_search.specs.declared.limits.Reason.TheVariants.{Budget, Depth, Total, Memory}
 use Rattle.tt_search.specs.declared.search.End.TheVariants.{Stuck}
+use Rattle.tt_share.specs.declared.answer.Stuck as answer
 use Rattle.tt_search.specs.Growing.{IsGrown}
-use Rattle.tt_share.specs.Answers.{IsBehind, LesserLose, IsUnsettled}
+use Rattle.tt_share.specs.Answers.{IsBehind, LesserLose, IsSpent, told_of, IsUnsettled}
 use Rattle.tt_share.specs.Jobs.{EndsBehind}
 
 none_held : (search : Searched) → None ≡ Some search → ⊥
@@ -22,13 +23,19 @@ held_behind line limits t search held behind grown e =
     let same : search ≡ held = cc in
     subst (λ (x : Searched). IsBehind line limits t x × IsGrown x.limits x.line.frame x.line.state x.tree) same (behind, grown)
 
--- it says what is stuck
-pub says : (line : Standing) (limits : Limits) (reason : Reason) (o : Option Searched) (t : Turn) → IsLegal line.frame line.state t → LesserLose line.frame line.state t
-    → EndsBehind line limits t (Stuck reason o) → IsUnsettled line limits reason (record { turn = t; reason = reason; search = o })
-says line limits Budget None t legal lesser stuck = absurd stuck
-says line limits Budget (Some search) t legal lesser stuck = (search, refl, record { legal = legal; behind = stuck.0; grown = stuck.1; stuck_for = stuck.2; lesser = lesser })
-says line limits Depth None t legal lesser stuck = absurd stuck
-says line limits Depth (Some search) t legal lesser stuck = (search, refl, record { legal = legal; behind = stuck.0; grown = stuck.1; stuck_for = stuck.2; lesser = lesser })
-says line limits Memory None t legal lesser stuck = record { turn = inr (legal, lesser); behind = λ search held. absurd (none_held search held) }
-says line limits Memory (Some search) t legal lesser stuck =
-    record { turn = inr (legal, lesser); behind = λ other held. held_behind line limits t search other stuck.0 stuck.1 held }
+-- it says what is stuck, where the turn's counts are all of the total if that is why
+module _ (line : Standing) (limits : Limits) (total : Option ℕ) (stuck : answer.Stuck) (legal : IsLegal line.frame line.state stuck.turn) (lesser : LesserLose line.frame line.state stuck.turn)
+    (spent : List (Turn × ℕ)) where
+  pub says : (reason : Reason) (o : Option Searched) → stuck.search ≡ o → EndsBehind line limits stuck.turn (Stuck reason o) → stuck.spent.items ≡ told_of reason spent
+      → ((held : Searched) → reason ≡ Total → o ≡ Some held → (n : ℕ) × (total ≡ Some n) × IsSpent line limits n stuck.turn held spent) → IsUnsettled line limits total reason stuck
+  says Budget None is behind told all = absurd behind
+  says Budget (Some held) is behind told all = (held, is, record { legal = legal; behind = behind.0; grown = behind.1; stuck_for = behind.2; lesser = lesser }, told)
+  says Depth None is behind told all = absurd behind
+  says Depth (Some held) is behind told all = (held, is, record { legal = legal; behind = behind.0; grown = behind.1; stuck_for = behind.2; lesser = lesser }, told)
+  says Total None is behind told all = absurd behind
+  says Total (Some held) is behind told all =
+      let h = all held refl refl in
+      (h.0, h.1, held, is, record { legal = legal; behind = behind.0; grown = behind.1; stuck_for = behind.2; lesser = lesser }, subst (IsSpent line limits h.0 stuck.turn held) (sym told) h.2)
+  says Memory None is behind told all = (record { turn = inr (legal, lesser); behind = λ other held. absurd (none_held other (sym is ∙ held)) }, told)
+  says Memory (Some held) is behind told all =
+      (record { turn = inr (legal, lesser); behind = λ other at. held_behind line limits stuck.turn held other behind.0 behind.1 (sym is ∙ at) }, told)

@@ -14,7 +14,6 @@ use Rattle.tt_search.specs.Searched.{Searched}
 use Rattle.tt_game.specs.declared.turns.Turn.{Turn}
 use Rattle.tt_game.specs.Line.{Standing}
 use Rattle.tt_game.specs.Turns.{legal_turns}
-use Rattle.tt_share.specs.declared.answer.Answer.TheVariants.{Unsettled}
 use Rattle.tt_share.specs.Jobs.{EndsBehind, IsResultOf, IsJob, IsStuck, HasWon}
 use Rattle.tt_share.specs.Results.{HasWonIn, AllWon, IsStuckIn, IsStuckAt, IsWinIn, HasEnd, IsFilled, IsWinAt, NoWin, IsLeastWin, IsLeastStuck, FilledBelow, IsReady, StopsAtWin}
 use Rattle.tt_share.proofs.ResultLemmas.{get_set_other}
@@ -91,6 +90,13 @@ not_missing side ends now i none ready within same missing = elim ready [
   | inr h ↦ let had = h i within in none-some had.0 (same_Some None (Some had.0) (sym missing ∙ (same ∙ had.1)))
 ]
 
+-- nor is any
+pub all_filled : (side : Side) (ends : List (Option End)) → NoWin side ends → IsReady side ends → FilledBelow (length ends) ends
+all_filled side ends none ready = elim ready [
+  | inl h ↦ absurd (none h.0 h.1)
+  | inr h ↦ h
+]
+
 -- there is one least win
 least_same : (side : Side) (ends : List (Option End)) (a b : ℕ) → IsLeastWin side ends a → IsLeastWin side ends b → a ≡ b
 least_same side ends a b v w = elim (cases_lt a b) [
@@ -122,14 +128,14 @@ stuck_same ends i job r reason o search here lesser least = elim (cases_lt i job
 -- and it says one thing
 pub same_stuck : (line : Standing) (ends : List (Option End)) (i job : ℕ) (t turn : Turn) (r reason : Reason) (o search : Option Searched) → i ≡ job → HasEnd ends i (Stuck r o)
     → HasEnd ends job (Stuck reason search)
-    → IsJob line i t → IsJob line job turn → Unsettled (record { turn = t; reason = r; search = o }) ≡ Unsettled (record { turn = turn; reason = reason; search = search })
+    → IsJob line i t → IsJob line job turn → (t ≡ turn) × (r ≡ reason) × (o ≡ search)
 same_stuck line ends i job t turn r reason o search same here there at_i at_job =
     let both : Some (Some (Stuck r o)) ≡ Some (Some (Stuck reason search)) = sym here ∙ (ap (λ n. slice_get ends n) same ∙ there) in
     let turns : Some t ≡ Some turn = sym at_i ∙ (ap (λ n. slice_get (legal_turns line.frame line.state) n) same ∙ at_job) in
     let a : t ≡ turn = same_Some t turn turns in
     let b : r ≡ reason = cc in
     let d : o ≡ search = cc in
-    rw (a, b, d) refl
+    (a, b, d)
 
 -- a job whose result is a proof isn't stuck
 pub settled_here : (ends : List (Option End)) (i : ℕ) (end : End) (p : Proven) → HasEnd ends i end → end ≡ Settled p → ¬ IsStuckAt ends i

@@ -1,17 +1,18 @@
 -- What the answer to a line says.
-use Rattle.std.specs.Prelude.{◌≡◌, ℕ, ◌+◌, ◌<◌, ◌≤◌, ◌↔◌, ◌⊎◌, Option, Some, None, IsSome}
+use Rattle.std.specs.Prelude.{◌≡◌, ℕ, ◌+◌, ◌<◌, ◌≤◌, ◌↔◌, ◌⊎◌, List, [], Option, Some, None, All, Contains, IsSome, map, sum_by}
 use Rattle.std.specs.Arc.{arc_value}
 use Rattle.tt_game.specs.declared.frame.Frame.{Frame}
 use Rattle.tt_game.specs.declared.turns.Turn.{Turn}
 use Rattle.tt_game.specs.declared.turns.Turn.TheVariants.{Pass}
 use Rattle.tt_game.specs.Game.{State, IsLegal, after, opponent, Forces}
 use Rattle.tt_game.specs.Line.{Standing}
-use Rattle.tt_game.specs.Turns.{turn_number}
+use Rattle.tt_game.specs.Turns.{turn_number, legal_turns}
 use Rattle.tt_proof.specs.Strategy.{depth}
 use Rattle.tt_proof.specs.Proven.{Proven, StandsAt, first_of}
 use Rattle.tt_search.specs.declared.limits.Limits.{Limits}
 use Rattle.tt_search.specs.declared.limits.Reason.{Reason}
-use Rattle.tt_search.specs.declared.limits.Reason.TheVariants.{Budget, Depth, Memory}
+use Rattle.tt_search.specs.declared.limits.Reason.TheVariants.{Budget, Depth, Total, Memory}
+use Rattle.tt_search.specs.Numbers.{count}
 use Rattle.tt_search.specs.Growing.{IsGrown}
 use Rattle.tt_search.specs.Searched.{Searched, IsStuckFor}
 use Rattle.tt_share.specs.declared.answer.Answer.{Answer}
@@ -32,6 +33,33 @@ pub record IsBehind (line : Standing) (limits : Limits) (t : Turn) (search : Sea
   pub budget : search.limits.budget ≡ limits.budget
   pub depth_is : search.limits.depth + 1 ≡ limits.depth
 
+-- some search behind the turn is grown from there and has so many expanded nodes
+abbrev pub IsCountBehind : Standing → Limits → Turn → ℕ → Type 0
+IsCountBehind line limits t n =
+    (search : Searched) × IsBehind line limits t search × IsGrown search.limits search.line.frame search.line.state search.tree × (count search.tree ≡ n)
+
+-- how many nodes are expanded in all
+abbrev pub spent_in_all : List (Turn × ℕ) → ℕ
+spent_in_all spent = sum_by (λ (e : Turn × ℕ). e.1) spent
+
+-- How a total was spent, where the search is behind the turn
+pub record IsSpent (line : Standing) (limits : Limits) (total : ℕ) (t : Turn) (search : Searched) (spent : List (Turn × ℕ)) : Type 0 where
+  -- each legal turn is there, in rising order
+  pub turns : map (λ (e : Turn × ℕ). e.0) spent ≡ legal_turns line.frame line.state
+  -- each with the count of a grown search behind it, under the same budget and a depth one less
+  pub counts : All (λ (e : Turn × ℕ). IsCountBehind line limits e.0 e.1) spent
+  -- the search's own count is there
+  pub own : Contains spent (t, count search.tree)
+  -- the counts add up to the total
+  pub in_all : spent_in_all spent ≡ total
+
+-- what is told of the counts: all of them where the total is spent, and else nothing
+abbrev pub told_of : Reason → List (Turn × ℕ) → List (Turn × ℕ)
+told_of Budget spent = []
+told_of Depth spent = []
+told_of Total spent = spent
+told_of Memory spent = []
+
 -- after each legal turn of a lesser number the side that is not to move can force its win
 abbrev pub LesserLose : Frame → State → Turn → Type 0
 LesserLose f s t =
@@ -51,13 +79,18 @@ pub record IsRefused (line : Standing) (limits : Limits) (stuck : Stuck) : Type 
   pub turn : ((stuck.turn ≡ Pass) × (stuck.search ≡ None)) ⊎ (IsLegal line.frame line.state stuck.turn × LesserLose line.frame line.state stuck.turn)
   pub behind : (search : Searched) → stuck.search ≡ Some search → IsBehind line limits stuck.turn search × IsGrown search.limits search.line.frame search.line.state search.tree
 
--- the search that is held is stuck behind the turn, or memory was refused
-abbrev pub IsUnsettled : Standing → Limits → Reason → Stuck → Type 0
-IsUnsettled line limits Budget stuck = (search : Searched) × (stuck.search ≡ Some search) × IsStuckBehind line limits Budget stuck.turn search
-IsUnsettled line limits Depth stuck = (search : Searched) × (stuck.search ≡ Some search) × IsStuckBehind line limits Depth stuck.turn search
-IsUnsettled line limits Memory stuck = IsRefused line limits stuck
+-- the search that is held is stuck behind the turn, or memory was refused; it is stuck for the total only where there is one, and
+-- then all of it is spent
+abbrev pub IsUnsettled : Standing → Limits → Option ℕ → Reason → Stuck → Type 0
+IsUnsettled line limits total Budget stuck =
+    (search : Searched) × (stuck.search ≡ Some search) × IsStuckBehind line limits Budget stuck.turn search × (stuck.spent.items ≡ [])
+IsUnsettled line limits total Depth stuck =
+    (search : Searched) × (stuck.search ≡ Some search) × IsStuckBehind line limits Depth stuck.turn search × (stuck.spent.items ≡ [])
+IsUnsettled line limits total Total stuck = (n : ℕ) × (total ≡ Some n) × (search : Searched) × (stuck.search ≡ Some search)
+    × IsStuckBehind line limits Total stuck.turn search × IsSpent line limits n stuck.turn search stuck.spent.items
+IsUnsettled line limits total Memory stuck = IsRefused line limits stuck × (stuck.spent.items ≡ [])
 
 -- a proof of the line and its first turn, or what is stuck
-abbrev pub IsAnswer : Standing → Limits → Answer → Type 0
-IsAnswer line limits (Settled proof first) = IsSettled line limits (arc_value proof) first
-IsAnswer line limits (Unsettled stuck) = IsUnsettled line limits stuck.reason stuck
+abbrev pub IsAnswer : Standing → Limits → Option ℕ → Answer → Type 0
+IsAnswer line limits total (Settled proof first) = IsSettled line limits (arc_value proof) first
+IsAnswer line limits total (Unsettled stuck) = IsUnsettled line limits total stuck.reason stuck

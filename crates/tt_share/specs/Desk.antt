@@ -1,4 +1,4 @@
--- The rule of a desk. Word 0 counts the draws, and word 1 is the mark that stops them.
+-- The rule of a desk. Word 0 counts the draws, word 1 is the mark that stops them, and word 2 counts the asks for a grant.
 use Rattle.std.specs.Prelude.{◌≡◌, ℕ, zero, suc, ◌+◌, ◌-◌, ◌≤◌, Bool, true, false, ◌||◌, leb, nat_eq, List, [], ◌∷◌, ◌++◌, length, sum_by, count_by}
 use Rattle.std.specs.List.Sorted.{IsStrictlyIncreasing}
 use mathlib.Core.Option.{some}
@@ -7,12 +7,12 @@ use Rattle.atomic_table.specs.Table.{State, Me}
 use Rattle.tt_share.specs.declared.rule.View.{View}
 use Rattle.tt_share.specs.declared.rule.Plan.{Plan}
 
-abbrev pub view_of : ℕ → List ℕ → Bool → Bool → View
-view_of parts numbers mark sighting = record { parts = parts; numbers = numbers; mark = mark; sighting = sighting }
+abbrev pub view_of : ℕ → List ℕ → List ℕ → Bool → Bool → View
+view_of parts numbers grants mark sighting = record { parts = parts; numbers = numbers; grants = grants; mark = mark; sighting = sighting }
 
 -- a view that has made no step
 abbrev pub blank : ℕ → View
-blank parts = view_of parts [] false false
+blank parts = view_of parts [] [] false false
 
 -- the view of the one seat that a new desk has
 abbrev pub whole_view : Plan → View
@@ -27,26 +27,29 @@ abbrev pub no_seat : View
 no_seat = blank 0
 
 abbrev pub fewer : View → View
-fewer v = view_of (v.parts - 1) v.numbers v.mark v.sighting
+fewer v = view_of (v.parts - 1) v.numbers v.grants v.mark v.sighting
 
 abbrev pub joined : View → View → View
-joined v w = view_of (v.parts + w.parts) (v.numbers ++ w.numbers) (v.mark || w.mark) (v.sighting || w.sighting)
+joined v w = view_of (v.parts + w.parts) (v.numbers ++ w.numbers) (v.grants ++ w.grants) (v.mark || w.mark) (v.sighting || w.sighting)
 
 abbrev pub with_draw : View → ℕ → View
-with_draw v n = view_of v.parts (v.numbers ++ n ∷ []) v.mark v.sighting
+with_draw v n = view_of v.parts (v.numbers ++ n ∷ []) v.grants v.mark v.sighting
+
+abbrev pub with_grant : View → ℕ → View
+with_grant v n = view_of v.parts v.numbers (v.grants ++ n ∷ []) v.mark v.sighting
 
 abbrev pub with_mark : View → View
-with_mark v = view_of v.parts v.numbers true v.sighting
+with_mark v = view_of v.parts v.numbers v.grants true v.sighting
 
 abbrev pub with_sighting : View → Bool → View
-with_sighting v seen = view_of v.parts v.numbers v.mark (v.sighting || seen)
+with_sighting v seen = view_of v.parts v.numbers v.grants v.mark (v.sighting || seen)
 
 -- the weights of the numbers below n, added up
 abbrev pub weight_below : (ℕ → ℕ) → ℕ → ℕ
 weight_below weight zero = 0
 weight_below weight (suc n) = weight_below weight n + weight n
 
--- how many of the numbers are spare: not below the limit, so no jobs
+-- how many of the numbers are spare: not below the limit, so no jobs, or no grants
 abbrev pub spare_count : ℕ → List ℕ → ℕ
 spare_count limit numbers = count_by (λ n. leb limit n) numbers
 
@@ -72,15 +75,16 @@ pub record IsMark (mark : ℕ) (views : List View) : Type 0 where
   pub known : EachView (λ v. (v.mark || v.sighting) ≡ true → mark ≡ 1) views
 
 -- The parts of all views are the desk's seats, and a view with no part holds nothing
-pub record IsDesk (plan : Plan) (drawn mark : ℕ) (views : List View) : Type 0 where
+pub record IsDesk (plan : Plan) (drawn mark asked : ℕ) (views : List View) : Type 0 where
   pub parts : sum_by (λ v. v.parts) views ≡ plan.seats
   pub spent : EachView (λ v. v.parts ≡ 0 → v ≡ no_seat) views
   pub draws : Counts (λ v. v.numbers) plan.jobs drawn views
   pub marked : IsMark mark views
+  pub grants : Counts (λ v. v.grants) plan.total asked views
 
--- What holds between any two steps: the first word counts the draws, the second is the mark
+-- What holds between any two steps: the first word counts the draws, the second is the mark, and the third counts the asks
 abbrev pub DeskHolds : Plan → State (Unit {0}) View → Type 0
-DeskHolds plan s = (drawn : ℕ) × (mark : ℕ) × (s.words ≡ drawn ∷ mark ∷ []) × IsDesk plan drawn mark s.views
+DeskHolds plan s = (drawn : ℕ) × (mark : ℕ) × (asked : ℕ) × (s.words ≡ drawn ∷ mark ∷ asked ∷ []) × IsDesk plan drawn mark asked s.views
 
 abbrev pub SeatState : Type 0
 SeatState = Me (Unit {0}) View
@@ -91,6 +95,9 @@ IsNext numbers n = IsStrictlyIncreasing (numbers ++ n ∷ []) × (length numbers
 
 abbrev pub Draws : SeatState → ℕ → SeatState → Type 0
 Draws before found after = (after ≡ (with_draw before.0 found, before.1)) × IsNext before.0.numbers found
+
+abbrev pub Grants : SeatState → ℕ → SeatState → Type 0
+Grants before found after = (after ≡ (with_grant before.0 found, before.1)) × IsNext before.0.grants found
 
 abbrev pub Raises : SeatState → SeatState → Type 0
 Raises before after = after ≡ (with_mark before.0, before.1)

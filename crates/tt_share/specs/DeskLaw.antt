@@ -27,14 +27,15 @@ pub record IsStop (word : ℕ) (views : List View) : Type 0 where
   pub mark : EachView (λ v. v.mark ≡ true → word ≡ 1) views
   pub sighting : EachView (λ v. v.sighting ≡ true → word ≡ 1) views
 
--- There are two words: the count of draws and the mark. The parts of all views are the desk's seats, and a view with no
--- part holds nothing
+-- There are three words: the count of draws, the mark, and the count of the asks for a grant. The parts of all views are the
+-- desk's seats, and a view with no part holds nothing
 pub record IsDeskState (plan : Plan) (words : List ℕ) (views : List View) : Type 0 where
-  pub two_words : length words ≡ 2
+  pub three_words : length words ≡ 3
   pub parts : sum_by (λ v. v.parts) views ≡ plan.seats
   pub spent : EachView (λ v. v.parts ≡ 0 → v ≡ no_seat) views
   pub draws : IsCount (λ v. v.numbers) plan.jobs (slice_index words 0) views
   pub stop : IsStop (slice_index words 1) views
+  pub grants : IsCount (λ v. v.grants) plan.total (slice_index words 2) views
 
 abbrev pub DeskLaw : Type 0
 DeskLaw = (plan : Plan) (s : State (Unit {0}) View) → DeskHolds plan s → IsDeskState plan s.words s.views

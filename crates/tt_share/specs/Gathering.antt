@@ -8,5 +8,6 @@ use Rattle.tt_share.specs.Seats.{SeatView}
 pub record Gathers (seats : List SeatView) (v : View) : Type 0 where
   pub parts : v.parts ≡ length seats
   pub numbers : (weight : ℕ → ℕ) → sum_by (λ s. sum_by weight s.numbers) seats ≡ sum_by weight v.numbers
+  pub grants : (weight : ℕ → ℕ) → sum_by (λ s. sum_by weight s.grants) seats ≡ sum_by weight v.grants
   pub marks : list_any (λ s. s.mark) seats ≡ v.mark
   pub sightings : list_any (λ s. s.sighting) seats ≡ v.sighting

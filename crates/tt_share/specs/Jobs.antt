@@ -7,14 +7,25 @@ use Rattle.tt_game.specs.Line.{Standing}
 use Rattle.tt_game.specs.Turns.{legal_turns}
 use Rattle.tt_proof.specs.Strategy.{depth}
 use Rattle.tt_proof.specs.Proven.{StandsAt, IsWon}
+use Rattle.tt_search.specs.Numbers.{count}
+use Rattle.tt_search.specs.Grants.{Asked}
 use Rattle.tt_search.specs.Growing.{IsGrown}
 use Rattle.tt_search.specs.Searched.{IsStuckFor}
 use Rattle.tt_search.specs.declared.limits.Limits.{Limits}
-use Rattle.tt_search.specs.declared.limits.Reason.TheVariants.{Budget, Depth, Memory}
+use Rattle.tt_search.specs.declared.limits.TheConstants.{MOST_EXPANDED}
+use Rattle.tt_search.specs.declared.limits.Reason.TheVariants.{Budget, Depth, Total, Memory}
 use Rattle.tt_search.specs.declared.search.End.{End}
 use Rattle.tt_search.specs.declared.search.End.TheVariants.{Settled, Stuck}
-use Rattle.tt_share.specs.Answers.{IsBehind}
+use Rattle.tt_share.specs.Answers.{IsBehind, IsCountBehind}
 use Rattle.tt_share.specs.declared.jobs.Found.{Found}
+
+-- the search is stuck for the total
+abbrev pub IsForTotal : End → Type 0
+IsForTotal (Settled p) = ⊥
+IsForTotal (Stuck Budget search) = ⊥
+IsForTotal (Stuck Depth search) = ⊥
+IsForTotal (Stuck Total search) = Unit {0}
+IsForTotal (Stuck Memory search) = ⊥
 
 -- how the search behind a turn ends: with a proof that leaves room for the turn, or stuck
 abbrev pub EndsBehind : Standing → Limits → Turn → End → Type 0
@@ -23,7 +34,25 @@ EndsBehind line limits t (Stuck reason (Some search)) =
     IsBehind line limits t search × IsGrown search.limits search.line.frame search.line.state search.tree × IsStuckFor reason search
 EndsBehind line limits t (Stuck Budget None) = ⊥
 EndsBehind line limits t (Stuck Depth None) = ⊥
+EndsBehind line limits t (Stuck Total None) = ⊥
 EndsBehind line limits t (Stuck Memory None) = Unit {0}
+
+-- a search that is held has so many expanded nodes
+abbrev pub IsOwnCount : ℕ → End → Type 0
+IsOwnCount n (Settled p) = Unit {0}
+IsOwnCount n (Stuck reason (Some search)) = count search.tree ≡ n
+IsOwnCount n (Stuck reason None) = Unit {0}
+
+-- so many nodes were expanded behind the turn in the search that ends so
+abbrev pub IsCounted : Standing → Limits → Turn → ℕ → End → Type 0
+IsCounted line limits t n end = IsCountBehind line limits t n × IsOwnCount n end
+
+-- what a search asks for: so many expansions are granted; one is refused where it is stuck for the total, and later ones are too
+pub record AsksFor (old : Asked) (n : ℕ) (end : End) (new : Asked) : Type 0 where
+  pub granted : new.granted ≡ old.granted + n
+  pub few : n ≤ MOST_EXPANDED
+  pub refused : IsForTotal end → new.refused ≡ true
+  pub still : old.refused ≡ true → new.refused ≡ true
 
 -- the turn has this place among the line's legal turns
 abbrev pub IsJob : Standing → ℕ → Turn → Type 0
@@ -33,8 +62,12 @@ IsJob line job t = slice_get (legal_turns line.frame line.state) job ≡ Some t
 abbrev pub IsResultOf : Standing → Limits → ℕ → End → Type 0
 IsResultOf line limits job end = (t : Turn) → IsJob line job t → EndsBehind line limits t end
 
+-- the count is that of the search behind the job's turn
+abbrev pub IsCountOf : Standing → Limits → ℕ → ℕ → End → Type 0
+IsCountOf line limits job n end = (t : Turn) → IsJob line job t → IsCounted line limits t n end
+
 abbrev pub IsResult : Standing → Limits → Found → Type 0
-IsResult line limits found = IsResultOf line limits found.job found.end
+IsResult line limits found = IsResultOf line limits found.job found.end × IsCountOf line limits found.job found.spent found.end
 
 -- each end that is known is its job's
 abbrev pub AreResults : Standing → Limits → List (Option End) → Type 0

@@ -13,3 +13,4 @@ pub mod Workers
 pub mod Gathering
 pub mod Places
 pub mod Taking
+pub mod Tallies

@@ -20,10 +20,6 @@ pub record Seen : Type 0 where
   pub tokens : List Ticket
   pub kept : ℕ
 
--- how many proofs may be kept through a view
-abbrev pub most_kept : Seen → ℕ
-most_kept v = 4096
-
 -- the tokens' proofs
 abbrev pub proofs_of : List Ticket → List Proven
 proofs_of tokens = map (λ (t : Ticket). t.proof) tokens

@@ -1,12 +1,10 @@
 -- How a table finds the places of a key by an index. Only private contracts cite these.
-use Rattle.std.specs.Prelude.{◌≡◌, ℕ, ◌⊎◌, Bool, List, [], ◌∷◌, Option, Some, None, unwrap_or}
+use Rattle.std.specs.Prelude.{◌≡◌, ℕ, Bool, List, [], unwrap_or}
 use Rattle.std.specs.Option.{option_map}
 use Rattle.std.specs.HashMap.{HashMap, get}
 use Rattle.std.specs.declared.vec.Vec.{Vec}
 use Rattle.std.specs.declared.alloc.Global.{Global}
-use Rattle.tt_game.specs.declared.frame.Side.{Side}
 use Rattle.tt_game.specs.declared.keys.Key.{Key}
-use Rattle.tt_game.specs.Keys.{key_of}
 use Rattle.tt_proof.specs.Proven.{Proven}
 use Rattle.tt_share.specs.Table.{same_key, places_of}
 
@@ -17,13 +15,3 @@ places_at eq index k = unwrap_or (option_map (λ (v : Vec ℕ Global). v.items) 
 -- the index has the places of each key
 abbrev pub IsIndexOf : {S : Type 0} → HashMap Key (Vec ℕ Global) S → List Proven → Type 0
 IsIndexOf index ps = (k : Key) → places_at same_key index k ≡ places_of k ps
-
--- the proof's position has the key, and it is for the side
-pub record IsFor (k : Key) (side : Side) (p : Proven) : Type 0 where
-  pub has_key : key_of p.frame p.state ≡ k
-  pub for_side : p.side ≡ side
-
--- the answer is the newest proof of the key for the side, or none where there is none; the list begins with the newest
-abbrev pub IsNewest : Key → Side → List Proven → Option Proven → Type 0
-IsNewest k side [] o = o ≡ None
-IsNewest k side (p ∷ ps) o = (IsFor k side p × (o ≡ Some p)) ⊎ ((IsFor k side p → ⊥) × IsNewest k side ps o)

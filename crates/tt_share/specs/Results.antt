@@ -1,5 +1,5 @@
 -- How the jobs of a line ended, as far as it is known. Only private contracts cite these.
-use Rattle.std.specs.Prelude.{◌≡◌, ◌≢◌, ℕ, ◌+◌, ◌<◌, ◌≤◌, ◌⊎◌, ◌↔◌, Bool, IsTrue, All, List, Option, Some, None, slice_get, slice_set, take, length}
+use Rattle.std.specs.Prelude.{◌≡◌, ◌≢◌, ℕ, ◌+◌, ◌<◌, ◌≤◌, ◌⊎◌, ◌↔◌, Bool, true, IsTrue, All, List, Option, Some, None, slice_get, slice_set, take, length, map, replicate}
 use Rattle.tt_game.specs.declared.frame.Side.{Side}
 use Rattle.tt_game.specs.declared.turns.Turn.{Turn}
 use Rattle.tt_game.specs.Game.{after, opponent}
@@ -7,23 +7,54 @@ use Rattle.tt_game.specs.Line.{Standing}
 use Rattle.tt_game.specs.Turns.{legal_turns}
 use Rattle.tt_proof.specs.Strategy.{depth}
 use Rattle.tt_proof.specs.Proven.{Proven, StandsAt, IsWon, turns_of}
+use Rattle.tt_search.specs.Grants.{Asked}
 use Rattle.tt_search.specs.Searched.{Searched}
 use Rattle.tt_search.specs.declared.limits.Limits.{Limits}
 use Rattle.tt_search.specs.declared.limits.Reason.{Reason}
 use Rattle.tt_search.specs.declared.search.End.{End}
 use Rattle.tt_search.specs.declared.search.End.TheVariants.{Stuck}
-use Rattle.tt_share.specs.Jobs.{IsWinFor, IsStuck, HasWon, kept_of}
+use Rattle.tt_share.specs.Answers.{spent_in_all}
+use Rattle.tt_share.specs.Jobs.{IsWinFor, IsStuck, IsForTotal, IsCounted, HasWon, kept_of}
 use Rattle.tt_share.specs.declared.jobs.Found.{Found}
 
--- a line, the limits on its search, and the ends of its jobs, as far as they are known
+-- a line, the limits on its search, and the ends of its jobs, as far as they are known; and the jobs' turns, each with how many
+-- nodes its search expanded
 pub record Progress : Type 0 where
   pub line : Standing
   pub limits : Limits
   pub ends : List (Option End)
+  pub spent : List (Turn × ℕ)
 
 -- the job has this result
 abbrev pub HasEnd : List (Option End) → ℕ → End → Type 0
 HasEnd ends job end = slice_get ends job ≡ Some (Some end)
+
+-- what is noted of the jobs: the turns, and for each job that has a result its count; the others expanded nothing
+pub record AreNoted (line : Standing) (limits : Limits) (ends : List (Option End)) (spent : List (Turn × ℕ)) : Type 0 where
+  pub turns : map (λ (e : Turn × ℕ). e.0) spent ≡ legal_turns line.frame line.state
+  pub each : length spent ≡ length ends
+  pub unspent : (job : ℕ) (e : Turn × ℕ) → slice_get ends job ≡ Some None → slice_get spent job ≡ Some e → e.1 ≡ 0
+  pub noted : (job : ℕ) (end : End) (e : Turn × ℕ) → HasEnd ends job end → slice_get spent job ≡ Some e → IsCounted line limits e.0 e.1 end
+
+-- nothing is known of any job
+pub record IsBlank (p : Progress) : Type 0 where
+  pub none : p.ends ≡ replicate (length (legal_turns p.line.frame p.line.state)) None
+  pub unspent : spent_in_all p.spent ≡ 0
+
+-- some job is stuck for the total
+abbrev pub HasTotal : List (Option End) → Type 0
+HasTotal ends = (job : ℕ) × (end : End) × HasEnd ends job end × IsForTotal end
+
+-- where some job is stuck for the total, all of it is spent
+abbrev pub IsAllSpent : Option ℕ → Progress → Type 0
+IsAllSpent total p = HasTotal p.ends → (n : ℕ) × (total ≡ Some n) × (spent_in_all p.spent ≡ n)
+
+-- what was asked for while results were put: as many were granted as the counts rose by, and one was refused where a job is newly
+-- stuck for the total
+pub record AskedFor (before : Progress) (old : Asked) (after : Progress) (new : Asked) : Type 0 where
+  pub spent : spent_in_all after.spent + old.granted ≡ spent_in_all before.spent + new.granted
+  pub refused : HasTotal after.ends → HasTotal before.ends ⊎ (new.refused ≡ true)
+  pub still : old.refused ≡ true → new.refused ≡ true
 
 -- the job has a result
 abbrev pub IsFilled : List (Option End) → ℕ → Type 0
@@ -96,6 +127,11 @@ pub record Puts (before after : List (Option End)) (found : Found) : Type 0 wher
       × (after ≡ slice_set before found.job (Some (kept_of past_stuck found.end)))
   pub dropped : slice_get before found.job ≢ Some None → after ≡ before
   pub len : length after ≡ length before
+
+-- a result's count is noted where the result is put
+pub record Notes (before after : Progress) (found : Found) : Type 0 where
+  pub put : slice_get before.ends found.job ≡ Some None → spent_in_all after.spent ≡ spent_in_all before.spent + found.spent
+  pub dropped : slice_get before.ends found.job ≢ Some None → after.spent ≡ before.spent
 
 -- nothing was searched behind a win
 abbrev pub StopsAtWin : Side → List (Option End) → List (Option End) → Type 0

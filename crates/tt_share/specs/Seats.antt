@@ -1,34 +1,38 @@
 -- What contracts see of a desk and of a seat.
-use Rattle.std.specs.Prelude.{◌≡◌, ℕ, ◌+◌, ◌-◌, ◌<◌, ◌≤◌, Bool, false, ltb, cond, List, [], ◌∷◌, ◌++◌, length, slice_index, Option, Some, None, sum_by, count_by, nat_eq, IsTrue, All, Contains}
+use Rattle.std.specs.Prelude.{◌≡◌, ℕ, ◌+◌, ◌-◌, ◌<◌, ◌≤◌, Bool, false, ltb, cond, min, List, [], ◌∷◌, ◌++◌, length, slice_index, Option, Some, None}
+use Rattle.std.specs.Prelude.{sum_by, count_by, nat_eq, IsTrue, All, Contains, MatchOption}
 use Rattle.std.specs.List.{list_any}
 use Rattle.std.specs.List.Sorted.{IsStrictlyIncreasing}
 use Rattle.atomic_table.specs.Seated.{TableId}
+use Rattle.tt_share.specs.declared.desk.Closed.{Closed}
 
--- which desk it is, and how many jobs and seats it has
+-- which desk it is, how many jobs and seats it has, and how many grants it gives: none for no bound
 pub record DeskView : Type 0 where
   pub id : TableId
   pub jobs : ℕ
   pub seats : ℕ
+  pub total : Option ℕ
 
--- the desk that made the seat, the numbers that the seat drew, whether it raised the mark and whether it saw it
+-- the desk that made the seat, the numbers that the seat drew and those that it got as grants, whether it raised the mark and whether it saw it
 pub record SeatView : Type 0 where
   pub desk : TableId
   pub numbers : List ℕ
+  pub grants : List ℕ
   pub mark : Bool
   pub sighting : Bool
 
-abbrev pub seat_of : TableId → List ℕ → Bool → Bool → SeatView
-seat_of desk numbers mark sighting = record { desk = desk; numbers = numbers; mark = mark; sighting = sighting }
+abbrev pub seat_of : TableId → List ℕ → List ℕ → Bool → Bool → SeatView
+seat_of desk numbers grants mark sighting = record { desk = desk; numbers = numbers; grants = grants; mark = mark; sighting = sighting }
 
 -- a seat that has made no step
 abbrev pub fresh : TableId → SeatView
-fresh desk = seat_of desk [] false false
+fresh desk = seat_of desk [] [] false false
 
 -- the last number, or 0 where there is none
 abbrev pub last_number : List ℕ → ℕ
 last_number numbers = slice_index numbers (length numbers - 1)
 
--- the list ends with a spare number: one that is not below the limit, so no job
+-- the list ends with a spare number: one that is not below the limit, so no job, or no grant
 abbrev pub EndsSpare : ℕ → List ℕ → Type 0
 EndsSpare limit numbers = limit ≤ last_number numbers
 
@@ -40,9 +44,19 @@ pub record Joins (before : List ℕ) (n : ℕ) (after : List ℕ) : Type 0 where
 
 -- the seat drew n
 pub record Adds (jobs : ℕ) (before : SeatView) (n : ℕ) (answer : Option ℕ) (after : SeatView) : Type 0 where
-  pub seat : after ≡ seat_of before.desk after.numbers before.mark before.sighting
+  pub seat : after ≡ seat_of before.desk after.numbers before.grants before.mark before.sighting
   pub joins : Joins before.numbers n after.numbers
   pub answer_is : answer ≡ cond (ltb n jobs) (Some n) None
+
+-- the seat asked for a grant and got n, which is one where it is below the total
+pub record Gains (total : ℕ) (before : SeatView) (n : ℕ) (answer : Bool) (after : SeatView) : Type 0 where
+  pub seat : after ≡ seat_of before.desk before.numbers after.grants before.mark before.sighting
+  pub joins : Joins before.grants n after.grants
+  pub answer_is : answer ≡ ltb n total
+
+-- how many of the numbers are grants: below the total
+abbrev pub granted_of : ℕ → List ℕ → ℕ
+granted_of total grants = count_by (λ n. ltb n total) grants
 
 -- how often the number stands in the seats' lists
 abbrev pub occurrences : (SeatView → List ℕ) → ℕ → List SeatView → ℕ
@@ -58,17 +72,28 @@ pub record EachOnce (list : SeatView → List ℕ) (count : ℕ) (seats : List S
 abbrev pub AllJobsDrawn : (SeatView → List ℕ) → ℕ → List SeatView → Type 0
 AllJobsDrawn list limit seats = (s : SeatView) → Contains seats s → EndsSpare limit (list s) → (number : ℕ) → number < limit → occurrences list number seats ≡ 1
 
+-- What all seats show of the grants of a desk with a total, once it is closed
+pub record Spends (total granted : ℕ) (seats : List SeatView) : Type 0 where
+  -- the numbers that they got are those below the count of asks, each once; that count or the total, the lesser, was granted
+  pub asked : (word : ℕ) × EachOnce (λ s. s.grants) word seats × (granted ≡ min word total)
+  -- so many of the numbers that they got are grants
+  pub granted_is : granted ≡ sum_by (λ s. granted_of total s.grants) seats
+  -- where some seat was refused, all of the total was granted
+  pub refused : (s : SeatView) → Contains seats s → EndsSpare total s.grants → granted ≡ total
+
 -- What all seats of a desk show once it is closed
-pub record Closes (desk : DeskView) (seats : List SeatView) (draws : ℕ) : Type 0 where
+pub record Closes (desk : DeskView) (seats : List SeatView) (closed : Closed) : Type 0 where
   -- these are all of the desk's seats
   pub seats_are_all : length seats ≡ desk.seats
-  -- the answer is the count of the numbers that they drew, which are those below it, each once
-  pub draws_each_once : EachOnce (λ s. s.numbers) draws seats
+  -- the count of draws is that of the numbers that they drew, which are those below it, each once
+  pub draws_each_once : EachOnce (λ s. s.numbers) closed.draws seats
   -- where some seat drew a number that is no job, each job was drawn, once
   pub jobs_drawn : AllJobsDrawn (λ s. s.numbers) desk.jobs seats
   -- no more numbers were drawn than there are jobs and seats
-  pub draws_most : draws ≤ desk.jobs + desk.seats
+  pub draws_most : closed.draws ≤ desk.jobs + desk.seats
   -- where every seat did, there were as many draws as jobs and seats
-  pub draws_are : All (λ s. EndsSpare desk.jobs s.numbers) seats → draws ≡ desk.jobs + desk.seats
+  pub draws_are : All (λ s. EndsSpare desk.jobs s.numbers) seats → closed.draws ≡ desk.jobs + desk.seats
   -- where some seat saw the mark, some seat raised it
   pub sighted : IsTrue (list_any (λ s. s.sighting) seats) → IsTrue (list_any (λ s. s.mark) seats)
+  -- what was granted of the total; without one nothing is counted
+  pub granted : MatchOption desk.total (closed.granted ≡ 0) (λ total. Spends total closed.granted seats)

@@ -1,13 +1,12 @@
 -- What workers hand back. Only private contracts cite these.
-use Rattle.std.specs.Prelude.{◌≡◌, ℕ, ◌+◌, ◌++◌, ◌<◌, ◌≤◌, ◌⊎◌, Bool, IsTrue, All, List, Option, length, map, Some, slice_get}
-use Rattle.atomic_table.specs.Seated.{TableId}
+use Rattle.std.specs.Prelude.{◌≡◌, ℕ, ◌+◌, ◌++◌, ◌<◌, ◌≤◌, ◌⊎◌, Bool, IsTrue, All, List, Option, length, map, Some, None, slice_get, sum_by, count_by, nat_eq}
 use Rattle.tt_game.specs.declared.frame.Side.{Side}
 use Rattle.tt_game.specs.Line.{Standing}
 use Rattle.tt_search.specs.declared.limits.Limits.{Limits}
 use Rattle.tt_search.specs.declared.search.End.{End}
-use Rattle.tt_share.specs.Jobs.{IsResult, IsWinFor, kept_of}
+use Rattle.tt_share.specs.Jobs.{IsResult, IsForTotal, IsWinFor, kept_of}
 use Rattle.tt_share.specs.Results.{HasEnd, IsFilled, IsPastStuck}
-use Rattle.tt_share.specs.Seats.{SeatView}
+use Rattle.tt_share.specs.Seats.{DeskView, SeatView, EndsSpare, granted_of}
 use Rattle.tt_share.specs.declared.jobs.Found.{Found}
 use Rattle.tt_share.specs.declared.workers.HandedBack.{HandedBack}
 
@@ -32,11 +31,53 @@ abbrev pub AllDrawn : ℕ → List SeatView → List HandedBack → Type 0
 AllDrawn jobs seats work = (i : ℕ) (seat : SeatView) (back : HandedBack) → slice_get seats i ≡ Some seat → slice_get work i ≡ Some back
     → AddsSpare jobs (seat.numbers ++ jobs_of back.found.items) back.seat.numbers
 
--- the seat is the desk's, each result is that of its job's turn, and no job was searched after one that was won
-pub record IsWork (line : Standing) (limits : Limits) (desk : TableId) (back : HandedBack) : Type 0 where
-  pub seat : back.seat.desk ≡ desk
+-- how often the job is among those of the results
+abbrev pub times : ℕ → List Found → ℕ
+times job found = count_by (λ (f : Found). nat_eq f.job job) found
+
+-- how many nodes were expanded for the results
+abbrev pub spent_on : List Found → ℕ
+spent_on found = sum_by (λ (f : Found). f.spent) found
+
+-- and by all workers
+abbrev pub spent_by_all : List HandedBack → ℕ
+spent_by_all work = sum_by (λ (b : HandedBack). spent_on b.found.items) work
+
+-- 0 where the job is one of the line's and has no result, else 1
+abbrev pub held_in : Option (Option End) → ℕ
+held_in None = 1
+held_in (Some None) = 0
+held_in (Some (Some end)) = 1
+
+abbrev pub held : List (Option End) → ℕ → ℕ
+held ends job = held_in (slice_get ends job)
+
+-- each result is of a job that has none yet, and no two are of one job
+abbrev pub AreApart : List (Option End) → List Found → Type 0
+AreApart ends found = (job : ℕ) → held ends job + times job found ≤ 1
+
+-- so it is with the results of all workers
+abbrev pub AllApart : List (Option End) → List HandedBack → Type 0
+AllApart ends work = (job : ℕ) → held ends job + sum_by (λ (b : HandedBack). times job b.found.items) work ≤ 1
+
+-- some result is stuck for the total
+abbrev pub SomeTotal : List Found → Type 0
+SomeTotal found = (i : ℕ) × (f : Found) × (slice_get found i ≡ Some f) × IsForTotal f.end
+
+-- What a worker hands back to a desk
+pub record IsWork (line : Standing) (limits : Limits) (desk : DeskView) (back : HandedBack) : Type 0 where
+  -- the seat is the desk's
+  pub seat : back.seat.desk ≡ desk.id
+  -- each result is that of its job's turn
   pub found : All (IsResult line limits) back.found.items
+  -- no job was searched after one that was won
   pub wins : WinsAreLast line.state.to_move back.seat.mark back.found.items
+  -- each is of a job that the seat drew, as often at most
+  pub jobs : All (λ (f : Found). f.job < desk.jobs) back.found.items
+  pub drawn : (job : ℕ) → times job back.found.items ≤ count_by (λ n. nat_eq n job) back.seat.numbers
+  -- what was expanded for them is what the seat was granted of the total, and it was refused where one is stuck for the total
+  pub spent : (total : ℕ) → desk.total ≡ Some total → spent_on back.found.items ≡ granted_of total back.seat.grants
+  pub refused : SomeTotal back.found.items → (total : ℕ) × (desk.total ≡ Some total) × EndsSpare total back.seat.grants
 
 -- the job has a result, unless it is none of the line's
 abbrev pub IsPlaced : List (Option End) → Found → Type 0

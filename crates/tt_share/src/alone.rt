@@ -1,8 +1,9 @@
 //! Solving by the caller alone, and how each solving begins and ends.
 
-ghost use Rattle.std.specs.Prelude.{◌≡◌, ◌≤◌, None, IfErr, IfOk};
+ghost use Rattle.std.specs.Prelude.{◌≡◌, ℕ, ◌≤◌, Option, None, IfErr, IfOk};
 ghost use Rattle.tt_game.specs.Game.{winner_of};
 ghost use Rattle.tt_share.specs.Answers.{IsAnswer};
+ghost use Rattle.tt_share.specs.Results.{IsReady, IsAllSpent, IsBlank};
 
 use crate::answer::Answer;
 use crate::conclude::no_memory;
@@ -10,7 +11,7 @@ use crate::results::Results;
 use crate::root::{from_store, offer};
 use std::alloc::Global;
 use tt_game::Line;
-use tt_search::{Limits, Store};
+use tt_search::{Free, Limits, Store};
 
 /// The results of the line's jobs, none of them known yet; or the answer, where the store has one or memory was refused.
 pub(crate) fn begin<'a, S: Store>(
@@ -23,30 +24,31 @@ pub(crate) fn begin<'a, S: Store>(
     requires open { winner_of line.now.frame line.now.state ≡ None }
     ensures line { IfOk result (λ r. r.line ≡ line.now) }
     ensures limits { IfOk result (λ r. r.limits ≡ limits.now) }
-    ensures answer { IfErr result (IsAnswer line.now limits.now) }
+    ensures blank { IfOk result (λ r. IsBlank r) }
+    ensures answer { (total : Option ℕ) → IfErr result (IsAnswer line.now limits.now total) }
 {
     match from_store(alloc, line, *limits, store) {
         Ok(Some(answer)) => return Err(answer),
         Ok(None) => {}
-        Err(_) => return Err(no_memory()),
+        Err(_) => return Err(no_memory(alloc)),
     }
     match Results::of(alloc, line, *limits) {
         Ok(results) => Ok(results),
-        Err(_) => Err(no_memory()),
+        Err(_) => Err(no_memory(alloc)),
     }
 }
 
-/// Searches the jobs that have no result, where none wins. The results make the answer, whose proof is offered to the store.
-pub(crate) fn finish<S: Store>(mut results: Results<'_>, store: &mut S) -> Answer
-    ensures { IsAnswer results.entry.line results.entry.limits result }
+/// The answer that the results make. Its proof is offered to the store.
+pub(crate) fn finish<S: Store>(alloc: Global, results: Results<'_>, store: &mut S) -> Answer
+    requires ready { IsReady results.line.state.to_move results.ends }
+    ensures { (total : Option ℕ) → IsAllSpent total results.entry → IsAnswer results.entry.line results.entry.limits total result }
 {
-    results.search_missing(store);
     match results.conclude() {
         Ok(answer) => {
             offer(&answer, store);
             answer
         }
-        Err(_) => no_memory(),
+        Err(_) => no_memory(alloc),
     }
 }
 
@@ -56,10 +58,13 @@ pub(crate) fn finish<S: Store>(mut results: Results<'_>, store: &mut S) -> Answe
 pub fn solve_one<S: Store>(alloc: Global, line: &Line, limits: &Limits, store: &mut S) -> Answer
     requires limits { 1 ≤ limits.now.depth }
     requires open { winner_of line.now.frame line.now.state ≡ None }
-    ensures { IsAnswer line.now limits.now result }
+    ensures { IsAnswer line.now limits.now None result }
 {
     match begin(alloc, line, limits, store) {
-        Ok(results) => finish(results, store),
+        Ok(mut results) => {
+            results.search_missing(store, &mut Free::new());
+            finish(alloc, results, store)
+        }
         Err(answer) => answer,
     }
 }

@@ -5,6 +5,7 @@ ghost use Rattle.std.specs.Prelude.{◌≡◌, ◌+◌, ◌≤◌};
 
 use crate::{Answer, solve_one};
 use std::alloc::Global;
+use std::process::Abort;
 use std::sync::Arc;
 use std::test::Fail;
 use tt_game::{Line, Side, Turn, problem};
@@ -97,24 +98,52 @@ pub(crate) fn put_first(out: &mut Vec<u8>, size: Size, first: &Option<Turn>) -> 
     }
 }
 
-/// The verdict of an answer and the first turn.
-pub(crate) fn verdict(alloc: Global, line: &Line, answer: Answer) -> Result<Vec<u8>, Fail> {
-    let mut out = Vec::new(alloc);
+/// The word for why a search is stuck.
+fn word_of(reason: Reason) -> &'static [u8] {
+    match reason {
+        Reason::Budget => b"budget",
+        Reason::Depth => b"depth",
+        Reason::Total => b"total",
+        Reason::Memory => b"memory",
+    }
+}
+
+/// Writes the verdict of an answer and the first turn.
+fn put_verdict(out: &mut Vec<u8>, size: Size, answer: &Answer) -> Result<(), Fail> {
     match answer {
         Answer::Settled { proof, first } => {
             match proof.side() {
                 Side::Attacker => out.extend_from_slice(b"killed")?,
                 Side::Defender => out.extend_from_slice(b"lives")?,
             }
-            put_first(&mut out, line.frame().size, &first)?;
+            put_first(out, size, first)
         }
-        Answer::Unsettled(stuck) => match stuck.reason {
-            Reason::Budget => out.extend_from_slice(b"budget")?,
-            Reason::Depth => out.extend_from_slice(b"depth")?,
-            Reason::Memory => out.extend_from_slice(b"memory")?,
-        },
+        Answer::Unsettled(stuck) => Ok(out.extend_from_slice(word_of(stuck.reason))?),
     }
+}
+
+/// The verdict of an answer and the first turn.
+pub(crate) fn verdict(alloc: Global, line: &Line, answer: Answer) -> Result<Vec<u8>, Fail> {
+    let mut out = Vec::new(alloc);
+    put_verdict(&mut out, line.frame().size, &answer)?;
     Ok(out)
+}
+
+/// The answer to a line.
+fn answered<S: Store>(
+    alloc: Global,
+    line: &Line,
+    budget: u32,
+    depth: u16,
+    store: &mut S,
+) -> Result<Answer, Fail> {
+    let Some(limits) = Limits::new(budget, depth) else {
+        return Err(Fail::new("no limits"));
+    };
+    if limits.depth() == 0 || line.winner().is_some() {
+        return Err(Fail::new("nothing to solve"));
+    }
+    Ok(solve_one(alloc, line, &limits, store))
 }
 
 /// The answer to a problem: the verdict and the first turn.
@@ -126,32 +155,26 @@ pub(crate) fn solved<S: Store>(
     store: &mut S,
 ) -> Result<Vec<u8>, Fail> {
     let line = posed(alloc, text)?;
-    let Some(limits) = Limits::new(budget, depth) else {
-        return Err(Fail::new("no limits"));
-    };
-    if limits.depth() == 0 || line.winner().is_some() {
-        return Err(Fail::new("nothing to solve"));
-    }
-    let answer = solve_one(alloc, &line, &limits, store);
+    let answer = answered(alloc, &line, budget, depth, store)?;
     verdict(alloc, &line, answer)
+}
+
+/// The certificate of an answer that is settled.
+fn certificate(alloc: Global, line: &Line, answer: &Answer) -> Result<Vec<u8>, Fail> {
+    let Answer::Settled { proof, first: _ } = answer else {
+        return Err(Fail::new("unsettled"));
+    };
+    if !proof.stands_at(line) {
+        return Err(Fail::new("not at the line"));
+    }
+    Ok(write_cert(alloc, proof.side(), proof.tree(), line.frame().size)?)
 }
 
 /// The certificate of a problem that is settled.
 fn certified<S: Store>(alloc: Global, text: &[u8], store: &mut S) -> Result<Vec<u8>, Fail> {
     let line = posed(alloc, text)?;
-    let Some(limits) = Limits::new(100_000, 512) else {
-        return Err(Fail::new("no limits"));
-    };
-    if line.winner().is_some() {
-        return Err(Fail::new("nothing to solve"));
-    }
-    match solve_one(alloc, &line, &limits, store) {
-        Answer::Settled { proof, first: _ } => {
-            let size = line.frame().size;
-            Ok(write_cert(alloc, proof.side(), proof.tree(), size)?)
-        }
-        Answer::Unsettled(_) => Err(Fail::new("unsettled")),
-    }
+    let answer = answered(alloc, &line, 100_000, 512, store)?;
+    certificate(alloc, &line, &answer)
 }
 
 /// A store that keeps so many proofs.
@@ -162,31 +185,43 @@ fn bounded(alloc: Global, capacity: usize) -> Result<PrivateStore, Fail> {
     }
 }
 
-/// The answers to a problem over stores that keep nothing: none, one that refuses, and one that forgets.
-fn over_empty_stores(
+/// Whether a problem has this answer over a store.
+fn is_solved<S: Store>(
     alloc: Global,
     text: &[u8],
-    budget: u32,
-    depth: u16,
-) -> Result<[Vec<u8>; 3], Fail> {
-    let mut forgetful = Forgetful { kept: 0 };
-    Ok([
-        solved(alloc, text, budget, depth, &mut NoStore)?,
-        solved(alloc, text, budget, depth, &mut Refusing)?,
-        solved(alloc, text, budget, depth, &mut forgetful)?,
-    ])
+    limits: (u32, u16),
+    want: &[u8],
+    store: &mut S,
+) -> Result<bool, Fail> {
+    let (budget, depth) = limits;
+    Ok(solved(alloc, text, budget, depth, store)?.as_slice() == want)
 }
 
-/// The answers to a problem over a store of its own that keeps so many proofs at most.
-fn over_small_store(
+/// Whether a problem has this answer over stores that keep nothing: none, one that refuses, and one that forgets.
+fn is_solved_over_empty_stores(
     alloc: Global,
     text: &[u8],
-    budget: u32,
-    depth: u16,
+    limits: (u32, u16),
+    want: &[u8],
+) -> Result<bool, Fail> {
+    let mut forgetful = Forgetful { kept: 0 };
+    Ok(
+        is_solved(alloc, text, limits, want, &mut NoStore)?
+            && is_solved(alloc, text, limits, want, &mut Refusing)?
+            && is_solved(alloc, text, limits, want, &mut forgetful)?,
+    )
+}
+
+/// Whether a problem has this answer over a store of its own that keeps so many proofs at most.
+fn is_solved_over_small_store(
+    alloc: Global,
+    text: &[u8],
+    limits: (u32, u16),
+    want: &[u8],
     capacity: usize,
-) -> Result<Vec<u8>, Fail> {
+) -> Result<bool, Fail> {
     let mut store = bounded(alloc, capacity)?;
-    solved(alloc, text, budget, depth, &mut store)
+    is_solved(alloc, text, limits, want, &mut store)
 }
 
 /// Whether a problem has this answer over each kind of store.
@@ -197,13 +232,12 @@ fn has_answer(
     depth: u16,
     want: &[u8],
 ) -> Result<bool, Fail> {
-    for got in &over_empty_stores(alloc, text, budget, depth)? {
-        if got.as_slice() != want {
-            return Ok(false);
-        }
+    let limits = (budget, depth);
+    if !is_solved_over_empty_stores(alloc, text, limits, want)? {
+        return Ok(false);
     }
     for capacity in [0usize, 1, 2, 4096] {
-        if over_small_store(alloc, text, budget, depth, capacity)?.as_slice() != want {
+        if !is_solved_over_small_store(alloc, text, limits, want, capacity)? {
             return Ok(false);
         }
     }
@@ -213,41 +247,37 @@ fn has_answer(
 #[test]
 fn verdicts_over_each_store(rt: HostRuntime) -> Result<(), Fail> {
     let alloc = rt.alloc();
-    let table: [(&[u8], u32, u16, &[u8]); 11] = [
-        (b"(;SZ[2:1]AW[ba]PL[B]TR[ba])", 100_000, 512, b"killed aa"),
-        (b"(;SZ[2:1]AW[ba]PL[W]TR[ba])", 100_000, 512, b"killed"),
-        (b"(;SZ[3:1]AW[ba]PL[W]TR[ba])", 100_000, 512, b"lives pass"),
-        (b"(;SZ[4:1]AW[ba]PL[B]TR[ba])", 100_000, 512, b"lives"),
+    let table: [(&str, u32, u16, &[u8]); 11] = [
+        ("(;SZ[2:1]AW[ba]PL[B]TR[ba])", 100_000, 512, b"killed aa"),
+        ("(;SZ[2:1]AW[ba]PL[W]TR[ba])", 100_000, 512, b"killed"),
+        ("(;SZ[3:1]AW[ba]PL[W]TR[ba])", 100_000, 512, b"lives pass"),
+        ("(;SZ[4:1]AW[ba]PL[B]TR[ba])", 100_000, 512, b"lives"),
         (
-            b"(;SZ[4:1]AW[ba]PL[B]TR[ba]SQ[aa][ca])",
+            "(;SZ[4:1]AW[ba]PL[B]TR[ba]SQ[aa][ca])",
             100_000,
             512,
             b"killed ca",
         ),
         (
-            b"(;SZ[4:1]AW[ba]PL[B]TR[ba]SQ[aa:da])",
+            "(;SZ[4:1]AW[ba]PL[B]TR[ba]SQ[aa:da])",
             100_000,
             512,
             b"lives",
         ),
         (
-            b"(;SZ[4:1]AW[ba][da]PL[B]TR[ba])",
+            "(;SZ[4:1]AW[ba][da]PL[B]TR[ba])",
             100_000,
             512,
             b"killed ca",
         ),
-        (
-            b"(;SZ[4:1]AW[ba];B[ca];W[da]TR[ba])",
-            100_000,
-            512,
-            b"lives",
-        ),
-        (b"(;SZ[4:1]AW[ba]PL[B]TR[ba])", 1, 512, b"budget"),
-        (b"(;SZ[4:1]AW[ba]PL[B]TR[ba])", 100_000, 1, b"depth"),
-        (b"(;SZ[4:1]AB[ba]AW[ca]PL[B]TR[ca])", 1, 512, b"killed da"),
+        ("(;SZ[4:1]AW[ba];B[ca];W[da]TR[ba])", 100_000, 512, b"lives"),
+        ("(;SZ[4:1]AW[ba]PL[B]TR[ba])", 1, 512, b"budget"),
+        ("(;SZ[4:1]AW[ba]PL[B]TR[ba])", 100_000, 1, b"depth"),
+        ("(;SZ[4:1]AB[ba]AW[ca]PL[B]TR[ca])", 1, 512, b"killed da"),
     ];
     for (problem, budget, depth, want) in table {
-        assert!(&rt; has_answer(alloc, problem, budget, depth, want)?);
+        let found = has_answer(alloc, problem.as_bytes(), budget, depth, want)?;
+        assert!(&rt; found, "{problem} {budget} {depth}");
     }
     Ok(())
 }
@@ -256,45 +286,55 @@ fn verdicts_over_each_store(rt: HostRuntime) -> Result<(), Fail> {
 #[test]
 fn verdicts_by_history(rt: HostRuntime) -> Result<(), Fail> {
     let alloc = rt.alloc();
-    let table: [(&[u8], &[u8]); 2] = [
-        (b"(;SZ[5:1]AW[aa];B[ca]TR[ca])", b"killed da"),
-        (b"(;SZ[7:1];B[ga];W[ea];B[ba]TR[ea])", b"killed"),
+    let table: [(&str, &[u8]); 2] = [
+        ("(;SZ[5:1]AW[aa];B[ca]TR[ca])", b"killed da"),
+        ("(;SZ[7:1];B[ga];W[ea];B[ba]TR[ea])", b"killed"),
     ];
     for (problem, want) in table {
-        assert!(&rt; has_answer(alloc, problem, 100_000, 512, want)?);
+        let found = has_answer(alloc, problem.as_bytes(), 100_000, 512, want)?;
+        assert!(&rt; found, "{problem}");
     }
     Ok(())
 }
 
-/// The certificates of a problem over stores that keep nothing: none, one that refuses, and one that forgets.
-fn certified_over_empty_stores(alloc: Global, text: &[u8]) -> Result<[Vec<u8>; 3], Fail> {
-    let mut forgetful = Forgetful { kept: 0 };
-    Ok([
-        certified(alloc, text, &mut NoStore)?,
-        certified(alloc, text, &mut Refusing)?,
-        certified(alloc, text, &mut forgetful)?,
-    ])
-}
-
-/// The certificate of a problem over a store of its own that keeps so many proofs at most.
-fn certified_over_small_store(
+/// Whether a problem has this certificate over a store.
+fn is_certified<S: Store>(
     alloc: Global,
     text: &[u8],
+    want: &[u8],
+    store: &mut S,
+) -> Result<bool, Fail> {
+    Ok(certified(alloc, text, store)?.as_slice() == want)
+}
+
+/// Whether a problem has this certificate over stores that keep nothing: none, one that refuses, and one that forgets.
+fn is_certified_over_empty_stores(alloc: Global, text: &[u8], want: &[u8]) -> Result<bool, Fail> {
+    let mut forgetful = Forgetful { kept: 0 };
+    Ok(
+        is_certified(alloc, text, want, &mut NoStore)?
+            && is_certified(alloc, text, want, &mut Refusing)?
+            && is_certified(alloc, text, want, &mut forgetful)?,
+    )
+}
+
+/// Whether a problem has this certificate over a store of its own that keeps so many proofs at most.
+fn is_certified_over_small_store(
+    alloc: Global,
+    text: &[u8],
+    want: &[u8],
     capacity: usize,
-) -> Result<Vec<u8>, Fail> {
+) -> Result<bool, Fail> {
     let mut store = bounded(alloc, capacity)?;
-    certified(alloc, text, &mut store)
+    is_certified(alloc, text, want, &mut store)
 }
 
 /// Whether a problem has this certificate over each kind of store.
 fn has_certificate(alloc: Global, text: &[u8], want: &[u8]) -> Result<bool, Fail> {
-    for got in &certified_over_empty_stores(alloc, text)? {
-        if got.as_slice() != want {
-            return Ok(false);
-        }
+    if !is_certified_over_empty_stores(alloc, text, want)? {
+        return Ok(false);
     }
     for capacity in [0usize, 1, 2, 4096] {
-        if certified_over_small_store(alloc, text, capacity)?.as_slice() != want {
+        if !is_certified_over_small_store(alloc, text, want, capacity)? {
             return Ok(false);
         }
     }
@@ -304,12 +344,15 @@ fn has_certificate(alloc: Global, text: &[u8], want: &[u8]) -> Result<bool, Fail
 #[test]
 fn certificates(rt: HostRuntime) -> Result<(), Fail> {
     let alloc = rt.alloc();
-    let table: [(&[u8], &[u8]); 2] = [
-        (b"(;SZ[4:1]AW[ba][da]PL[B]TR[ba])", b"killed !ca?aa.--!aa.;"),
-        (b"(;SZ[4:1]AW[ba];B[ca];W[da]TR[ba])", b"lives ?--!--.;"),
+    let table: [(&str, &[u8]); 2] = [
+        ("(;SZ[4:1]AW[ba][da]PL[B]TR[ba])", b"killed !ca?aa.--!aa.;"),
+        ("(;SZ[4:1]AW[ba];B[ca];W[da]TR[ba])", b"lives ?--!--.;"),
     ];
     for (problem, want) in table {
-        assert!(&rt; has_certificate(alloc, problem, want)?);
+        assert!(&rt;
+            has_certificate(alloc, problem.as_bytes(), want)?,
+            "{problem}"
+        );
     }
     Ok(())
 }
@@ -321,33 +364,44 @@ fn longer_certificate(rt: HostRuntime) -> Result<(), Fail> {
     let want =
         b"killed !da?ba!aa.ea!ba?aa!ba?da.--!da.;ba!da?aa.--!aa.;da!ba.--!ba?aa!da?ba.--!ba.;da.--!da.;;--!ba.;";
     let mut store = PrivateStore::new(alloc);
-    let text = certified(alloc, b"(;SZ[5:1]AW[aa];B[ca]TR[ca])", &mut store)?;
-    assert!(&rt; text.as_slice() == want.as_slice());
+    let problem = b"(;SZ[5:1]AW[aa];B[ca]TR[ca])";
+    assert!(&rt; is_certified(alloc, problem, want, &mut store)?);
     Ok(())
 }
 
-/// A line's own proof is kept, answered again, and used for another history only where it wins there.
+/// Whether the attacker's proof that a store has for a problem stands there.
+fn found_stands(alloc: Global, text: &[u8], store: &mut PrivateStore) -> Result<bool, Fail> {
+    let line = posed(alloc, text)?;
+    match store.find(&line, Side::Attacker)? {
+        Some(found) => Ok(found.stands_at(&line)),
+        None => Err(Fail::new("no proof is kept")),
+    }
+}
+
+/// Fails unless a line's own proof is kept, answered again, and used for another history only where it wins there.
+fn serves_two_lines(rt: &impl Abort, alloc: Global, store: &mut PrivateStore) -> Result<(), Fail> {
+    let split = b"(;SZ[4:1]AW[ba][da]PL[B]TR[ba])";
+    let killed = b"killed !ca?aa.--!aa.;";
+    assert!(rt; is_certified(alloc, split, killed, store)?, "first");
+    let kept = store.kept();
+    assert!(rt;
+        found_stands(alloc, split, store)?,
+        "the proof that is kept"
+    );
+    assert!(rt; is_certified(alloc, split, killed, store)?, "once more");
+    assert!(rt; store.kept() == kept, "it is kept twice");
+    let repeated = b"(;SZ[4:1]AW[ba];B[ca];W[da]TR[ba])";
+    let lives = b"lives ?--!--.;";
+    assert!(rt;
+        is_certified(alloc, repeated, lives, store)?,
+        "another history"
+    );
+    Ok(())
+}
+
 #[test]
 fn one_store_for_two_lines(rt: HostRuntime) -> Result<(), Fail> {
     let alloc = rt.alloc();
     let mut store = PrivateStore::new(alloc);
-    let split = b"(;SZ[4:1]AW[ba][da]PL[B]TR[ba])";
-    assert!(&rt;
-        certified(alloc, split, &mut store)?.as_slice() == b"killed !ca?aa.--!aa.;".as_slice()
-    );
-    let kept = store.kept();
-    let line = posed(alloc, split)?;
-    let Some(found) = store.find(&line, Side::Attacker)? else {
-        return Err(Fail::new("no proof is kept"));
-    };
-    assert!(&rt; found.stands_at(&line));
-    assert!(&rt;
-        certified(alloc, split, &mut store)?.as_slice() == b"killed !ca?aa.--!aa.;".as_slice()
-    );
-    assert!(&rt; store.kept() == kept);
-    let repeated = b"(;SZ[4:1]AW[ba];B[ca];W[da]TR[ba])";
-    assert!(&rt;
-        certified(alloc, repeated, &mut store)?.as_slice() == b"lives ?--!--.;".as_slice()
-    );
-    Ok(())
+    serves_two_lines(&rt, alloc, &mut store)
 }

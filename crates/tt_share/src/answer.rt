@@ -22,8 +22,11 @@ pub enum Answer {
 pub struct Stuck {
     /// A legal turn; after each lesser legal one the side that isn't to move can force its win.
     pub turn: Turn,
-    /// `Budget`, `Depth` or `Memory`.
+    /// `Budget`, `Depth`, `Total` or `Memory`.
     pub reason: Reason,
-    /// The search behind the turn: there for `Budget` and `Depth`, and for `Memory` where it had begun.
+    /// The search behind the turn: there for `Budget`, `Depth` and `Total`, and for `Memory` where it had begun.
     pub search: Option<Search>,
+    /// For `Total` each legal turn, in rising order, with how many nodes its search expanded: all together they are the
+    /// total. Empty for every other reason.
+    pub spent: Vec<(Turn, u32)>,
 }

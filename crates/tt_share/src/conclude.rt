@@ -11,11 +11,10 @@ ghost use Rattle.tt_search.specs.Searched.{Searched};
 ghost use Rattle.tt_search.specs.declared.limits.Limits.{Limits};
 ghost use Rattle.tt_search.specs.declared.limits.Reason.{Reason};
 ghost use Rattle.tt_search.specs.declared.search.End.{End};
-ghost use Rattle.tt_share.specs.declared.answer.Answer.TheVariants.{Unsettled};
-ghost use Rattle.tt_share.specs.Answers.{IsAnswer};
-ghost use Rattle.tt_share.specs.Beginning.{BeginsWith};
+ghost use Rattle.tt_share.specs.Answers.{IsAnswer, told_of};
+ghost use Rattle.tt_share.specs.Beginning.{BeginsWith, IsStuckWith};
 ghost use Rattle.tt_share.specs.Jobs.{EndsBehind, IsJob};
-ghost use Rattle.tt_share.specs.Results.{HaveLost, IsLeastWin, IsLeastStuck, IsReady, NoneStuck, NoWin};
+ghost use Rattle.tt_share.specs.Results.{IsAllSpent, HaveLost, IsLeastWin, IsLeastStuck, IsReady, NoneStuck, NoWin};
 
 use crate::answer::{Answer, Stuck};
 use crate::jobs::Jobs;
@@ -28,13 +27,14 @@ use tt_search::{End, Limits, Reason};
 use tt_sgf::NoMemory;
 
 /// The answer where memory was refused outside a search.
-pub(crate) fn no_memory() -> Answer
-    ensures { (line : Standing) (limits : Limits) → IsAnswer line limits result }
+pub(crate) fn no_memory(alloc: Global) -> Answer
+    ensures { (line : Standing) (limits : Limits) (total : Option ℕ) → IsAnswer line limits total result }
 {
     Answer::Unsettled(Stuck {
         turn: Turn::Pass,
         reason: Reason::Memory,
         search: None,
+        spent: Vec::new(alloc),
     })
 }
 
@@ -61,7 +61,7 @@ pub(crate) fn settled(
     requires open { winner_of line.now.frame line.now.state ≡ None }
     requires stands { StandsAt proof line.now.frame line.now.state }
     requires low { depth proof.tree ≤ limits.depth }
-    ensures answer { IfOk result (IsAnswer line.now limits) }
+    ensures answer { (total : Option ℕ) → IfOk result (IsAnswer line.now limits total) }
     ensures begins { IfOk result (BeginsWith (first_of proof.tree)) }
 {
     let first = first_turn(line, &proof);
@@ -79,13 +79,23 @@ fn take_end(ends: &mut Vec<Option<End>>, job: usize) -> Option<End>
     ends[job].take()
 }
 
+/// What is told of the counts: all of them where the total is spent, and else nothing.
+fn told(alloc: Global, reason: Reason, spent: Vec<(Turn, u32)>) -> Vec<(Turn, u32)>
+    ensures { result.items ≡ told_of reason spent.items }
+{
+    match reason {
+        Reason::Total => spent,
+        Reason::Budget | Reason::Depth | Reason::Memory => Vec::new(alloc),
+    }
+}
+
 impl<'a> Jobs<'a> {
     /// The answer of a proof after a turn, for the side to move.
     fn picked(&self, turn: Turn, child: Proof) -> Result<Answer, NoMemory>
         requires legal { IsLegal self.now.line.now.frame self.now.line.now.state turn }
         requires child { EndsBehind self.now.line.now self.now.limits turn (End.Settled child) }
         requires side { child.side ≡ self.now.line.now.state.to_move }
-        ensures answer { IfOk result (IsAnswer self.now.line.now self.now.limits) }
+        ensures answer { (total : Option ℕ) → IfOk result (IsAnswer self.now.line.now self.now.limits total) }
         ensures begins { IfOk result (BeginsWith (Some turn)) }
     {
         let proof = Proof::pick(self.alloc, self.line, turn, child)?;
@@ -96,7 +106,7 @@ impl<'a> Jobs<'a> {
     fn replied(&self, children: Vec<(Turn, Proof)>) -> Result<Answer, NoMemory>
         requires lost { HaveLost self.now.line.now self.now.limits children.items }
         requires all { vec_len children ≡ length (legal_turns self.now.line.now.frame self.now.line.now.state) }
-        ensures answer { IfOk result (IsAnswer self.now.line.now self.now.limits) }
+        ensures answer { (total : Option ℕ) → IfOk result (IsAnswer self.now.line.now self.now.limits total) }
         ensures begins { IfOk result (BeginsWith None) }
     {
         let proof = Proof::reply(self.alloc, self.line, children)?;
@@ -109,15 +119,19 @@ impl<'a> Results<'a> {
     /// the least turn whose search is stuck, with its own reason and search.
     pub fn conclude(self) -> Result<Answer, NoMemory>
         requires ready { IsReady self.line.state.to_move self.ends }
-        ensures answer { IfOk result (IsAnswer self.entry.line self.entry.limits) }
+        ensures answer { (total : Option ℕ) → IsAllSpent total self.entry → IfOk result (IsAnswer self.entry.line self.entry.limits total) }
         ensures picks { (job : ℕ) (turn : Turn) → IsLeastWin self.entry.line.state.to_move self.entry.ends job → IsJob self.entry.line job turn →
             IfOk result (BeginsWith (Some turn)) }
         ensures replies { NoWin self.entry.line.state.to_move self.entry.ends → NoneStuck self.entry.ends → IfOk result (BeginsWith None) }
         ensures stuck { (job : ℕ) (turn : Turn) (reason : Reason) (search : Option Searched) → NoWin self.entry.line.state.to_move self.entry.ends →
             IsLeastStuck self.entry.ends job reason search → IsJob self.entry.line job turn →
-            IfOk result (λ a. a ≡ Unsettled (record { turn = turn; reason = reason; search = search })) }
+            IfOk result (IsStuckWith turn reason search (told_of reason self.entry.spent)) }
     {
-        let Results { jobs, mut ends } = self;
+        let Results {
+            jobs,
+            mut ends,
+            spent,
+        } = self;
         let turns = jobs.turns.as_slice();
         if let Some(job) = win_at(ends.as_slice(), jobs.line.to_move()) {
             return match take_end(&mut ends, job) {
@@ -134,6 +148,7 @@ impl<'a> Results<'a> {
                         turn: *turn,
                         reason,
                         search,
+                        spent: told(jobs.alloc, reason, spent),
                     }));
                 }
                 None => unreachable!(),

@@ -1,10 +1,11 @@
 //! The desk and its seats.
-ghost use Rattle.std.specs.Prelude.{◌≡◌, ℕ, ◌≢◌, ◌<◌, ◌≤◌, true, false, ◌||◌, [], ◌∷◌, ◌++◌, length, vec_capacity, replicate, IfOk, IfSome, IfNone, MatchResult, IsTrue, All};
+ghost use Rattle.std.specs.Prelude.{◌≡◌, ℕ, ◌≢◌, ◌+◌, ◌<◌, ◌≤◌, true, false, ◌||◌, [], ◌∷◌, ◌++◌, cond, length, min, vec_capacity, replicate, None};
+ghost use Rattle.std.specs.Prelude.{IfOk, IfSome, IfNone, MatchOption, MatchResult, IsTrue, All};
 ghost use Rattle.tt_share.specs.Desk.{blank, view_of};
-ghost use Rattle.tt_share.specs.Seats.{seat_of, fresh, EndsSpare, Adds, Closes};
+ghost use Rattle.tt_share.specs.Seats.{seat_of, fresh, EndsSpare, Adds, Gains, granted_of, Closes};
 ghost use Rattle.tt_share.specs.Gathering.{Gathers};
 
-use crate::rule::{AtDesk, Both, Cut, Draw, Look, Plan, Raise, View};
+use crate::rule::{AtDesk, Both, Cut, Draw, Grant, Look, Plan, Raise, View};
 use atomic_table::Table;
 use std::alloc::Global;
 use std::marker::Model;
@@ -12,29 +13,41 @@ use tt_sgf::NoMemory;
 
 type Words = Table<(), View, Plan, AtDesk, Global>;
 
-/// Jobs that threads draw, none twice, and a mark that each of them can raise. Each thread has a seat of its own.
+/// What a closed desk counted: the steps that all draws made, and the grants that it gave of its total, or 0 where it had
+/// none.
+#[derive(Debug, Drop, PartialEq, Eq)]
+pub struct Closed {
+    pub draws: u64,
+    pub granted: u64,
+}
+
+/// Jobs that threads draw, none twice, a mark that each of them can raise, and grants, of which it gives `total` in all where
+/// it has one. Each thread has a seat of its own.
 #[derive(Drop)]
 pub struct Desk {
     table: Words,
     jobs: usize,
     seats: usize,
+    total: Option<u32>,
 }
 
 impl Model for Desk {
-    ghost use Rattle.std.specs.Prelude.{◌≡◌, ◌<◌, ◌≤◌};
+    ghost use Rattle.std.specs.Prelude.{◌≡◌, ◌^◌, ◌<◌, ◌≤◌, IfSome};
     ghost use Rattle.tt_share.specs.Seats.{DeskView};
 
     ghost Value = { DeskView };
 
-    ghost view = { λ d. record { id = d.table.shared.table_id; jobs = d.jobs; seats = d.seats } };
+    ghost view = { λ d. record { id = d.table.shared.table_id; jobs = d.jobs; seats = d.seats; total = d.total } };
 
     ghost invariant = { λ d. record {
-      two_words : d.table.shared.table_id.words ≡ 2;
+      three_words : d.table.shared.table_id.words ≡ 3;
       no_slots : d.table.shared.table_id.slots ≡ 0;
       jobs_are : d.table.shared.key.jobs ≡ d.jobs;
       seats_are : d.table.shared.key.seats ≡ d.seats;
+      total_is : IfSome d.total (λ n. (d.table.shared.key.total ≡ n) × (0 < n));
       jobs : (0 < d.jobs) × (d.jobs ≤ 362);
-      seats : (0 < d.seats) × (d.seats ≤ 64);
+      seats : (0 < d.seats) × (d.seats ≤ 65);
+      grants : d.table.shared.key.total < 2 ^ 32;
     } };
 }
 
@@ -43,6 +56,7 @@ impl Model for Desk {
 pub struct Seat {
     seat: atomic_table::Seat<(), View>,
     last: u64,
+    last_grant: u64,
 }
 
 impl Model for Seat {
@@ -51,19 +65,20 @@ impl Model for Seat {
 
     ghost Value = { SeatView };
 
-    ghost view = { λ s. seat_of s.seat.table_id s.seat.me.0.numbers s.seat.me.0.mark s.seat.me.0.sighting };
+    ghost view = { λ s. seat_of s.seat.table_id s.seat.me.0.numbers s.seat.me.0.grants s.seat.me.0.mark s.seat.me.0.sighting };
 
     ghost invariant = { λ s. record {
       one_part : s.seat.me.0.parts ≡ 1;
       no_slot : s.seat.me.1 ≡ [];
       last : s.last ≡ last_number s.seat.me.0.numbers;
+      last_grant : s.last_grant ≡ last_number s.seat.me.0.grants;
     } };
 }
 
 impl Seat {
     fn into_inner(self) -> atomic_table::Seat<(), View>
         ensures desk { result.table_id ≡ self.desk }
-        ensures me { result.me ≡ (view_of 1 self.numbers self.mark self.sighting, []) }
+        ensures me { result.me ≡ (view_of 1 self.numbers self.grants self.mark self.sighting, []) }
     {
         let Seat { seat, .. } = self;
         seat
@@ -73,7 +88,11 @@ impl Seat {
         requires { seat.me ≡ (blank 1, []) }
         ensures { result ≡ fresh seat.table_id }
     {
-        Seat { seat, last: 0 }
+        Seat {
+            seat,
+            last: 0,
+            last_grant: 0,
+        }
     }
 }
 
@@ -115,24 +134,50 @@ fn join_all(table: &Words, last: Seat, mut seats: Vec<Seat>) -> atomic_table::Se
     whole
 }
 
+// What was granted, of as many as were asked for.
+fn capped(asked: u64, total: Option<u32>) -> u64
+    ensures { MatchOption total (result ≡ 0) (λ n. result ≡ min asked n) }
+{
+    match total {
+        Some(n) => asked.min(u64::from(n)),
+        None => 0,
+    }
+}
+
 impl Desk {
-    /// A desk of 1 to 362 jobs with all its 1 to 64 seats, none of which has made a step. `NoMemory` where memory was
-    /// refused.
-    pub fn new(alloc: Global, jobs: usize, seats: usize) -> Result<(Desk, Vec<Seat>), NoMemory>
+    /// A desk of 1 to 362 jobs with all its 1 to 65 seats, none of which has made a step. It gives as many grants as `total`,
+    /// which is at least 1, or any number where there is none. `NoMemory` where memory was refused.
+    pub fn new(
+        alloc: Global,
+        jobs: usize,
+        seats: usize,
+        total: Option<u32>,
+    ) -> Result<(Desk, Vec<Seat>), NoMemory>
         requires jobs { (0 < jobs) × (jobs ≤ 362) }
-        requires seats { (0 < seats) × (seats ≤ 64) }
-        ensures desk { IfOk result (λ r. (r.0.jobs ≡ jobs) × (r.0.seats ≡ seats)) }
+        requires seats { (0 < seats) × (seats ≤ 65) }
+        requires total { IfSome total (λ n. 0 < n) }
+        ensures desk { IfOk result (λ r. (r.0.jobs ≡ jobs) × (r.0.seats ≡ seats) × (r.0.total ≡ total)) }
         ensures seats { IfOk result (λ r. r.1.items ≡ replicate seats (fresh r.0.id)) }
     {
         let Ok(all) = Vec::with_capacity(alloc, seats) else {
             return Err(NoMemory);
         };
-        let plan = Plan { jobs, seats };
-        let Ok((table, first)) = Table::of_words(alloc, &[0, 0], &plan) else {
+        let plan = Plan {
+            jobs,
+            seats,
+            total: total.unwrap_or(0),
+        };
+        let Ok((table, first)) = Table::of_words(alloc, &[0, 0, 0], &plan) else {
             return Err(NoMemory);
         };
         let all = cut_all(&table, first, seats, all);
-        Ok((Desk { table, jobs, seats }, all))
+        let desk = Desk {
+            table,
+            jobs,
+            seats,
+            total,
+        };
+        Ok((desk, all))
     }
 
     /// A job, below the desk's number of jobs, that no other draw gave, by one step; or none where no job is left. Once a
@@ -161,7 +206,7 @@ impl Desk {
     /// Raises the mark, by one step. Nothing lowers it. The seat is one of this desk's.
     pub fn raise(&self, s: &mut Seat)
         requires { s.old.desk ≡ self.now.id }
-        ensures { s.new ≡ seat_of s.old.desk s.old.numbers true s.old.sighting }
+        ensures { s.new ≡ seat_of s.old.desk s.old.numbers s.old.grants true s.old.sighting }
     {
         self.table.shared.fetch_max::<Raise>(&mut s.seat, 1, 1);
     }
@@ -170,17 +215,42 @@ impl Desk {
     /// though another seat has raised it. The seat is one of this desk's.
     pub fn raised(&self, s: &mut Seat) -> bool
         requires { s.old.desk ≡ self.now.id }
-        ensures sighting { s.new ≡ seat_of s.old.desk s.old.numbers s.old.mark (s.old.sighting || result) }
+        ensures sighting { s.new ≡ seat_of s.old.desk s.old.numbers s.old.grants s.old.mark (s.old.sighting || result) }
         ensures again { IsTrue (s.old.mark || s.old.sighting) → IsTrue result }
     {
         self.table.shared.load::<Look>(&mut s.seat, 1) == 1
     }
 
-    /// How many steps all draws made, those that found no job among them, exactly where as many seats come back as the desk
-    /// has, so all of them; else the desk and the seats, unchanged. The seats are this desk's.
-    pub fn close(self, mut seats: Vec<Seat>) -> Result<u64, (Desk, Vec<Seat>)>
+    /// Whether one more of the desk's total was left, by one step. Once a seat was refused, each later call on that seat is
+    /// refused and makes no step. Without a total the answer is always true, and no step is made. The seat is one of this
+    /// desk's.
+    pub fn grant(&self, s: &mut Seat) -> bool
+        requires { s.old.desk ≡ self.now.id }
+        ensures unbounded { self.now.total ≡ None → (result ≡ true) × (s.new ≡ s.old) }
+        ensures spent { IfSome self.now.total (λ total. EndsSpare total s.old.grants → (result ≡ false) × (s.new ≡ s.old)) }
+        ensures grants { IfSome self.now.total (λ total. ¬ EndsSpare total s.old.grants → (n : ℕ) × Gains total s.old n result s.new) }
+        ensures tally { IfSome self.now.total (λ total. granted_of total s.new.grants ≡ granted_of total s.old.grants + cond result 1 0) }
+        ensures refused { IfSome self.now.total (λ total. result ≡ false → EndsSpare total s.new.grants) }
+        ensures stays { s.new ≡ seat_of s.old.desk s.old.numbers s.new.grants s.old.mark s.old.sighting }
+        ensures desk { s.new.desk ≡ s.old.desk }
+    {
+        let Some(total) = self.total else {
+            return true;
+        };
+        if s.last_grant >= u64::from(total) {
+            return false;
+        }
+        let number = self.table.shared.fetch_add::<Grant>(&mut s.seat, 2, 1);
+        s.last_grant = number;
+        number < u64::from(total)
+    }
+
+    /// How many steps all draws made, those that found no job among them, and how many grants the desk gave of its total,
+    /// exactly where as many seats come back as the desk has, so all of them; else the desk and the seats, unchanged. The
+    /// seats are this desk's.
+    pub fn close(self, mut seats: Vec<Seat>) -> Result<Closed, (Desk, Vec<Seat>)>
         requires { All (λ s. s.desk ≡ self.id) seats.items }
-        ensures { MatchResult result (λ draws. Closes self seats.items draws) (λ back. (length seats.items ≢ self.seats) × (back.0 ≡ self) × (back.1.items ≡ seats.items)) }
+        ensures { MatchResult result (λ closed. Closes self seats.items closed) (λ back. (length seats.items ≢ self.seats) × (back.0 ≡ self) × (back.1.items ≡ seats.items)) }
     {
         if seats.len() != self.seats {
             return Err((self, seats));
@@ -189,10 +259,11 @@ impl Desk {
             unreachable!()
         };
         let whole = join_all(&self.table, first, seats);
-        let Desk { table, .. } = self;
+        let Desk { table, total, .. } = self;
         let words = table.close_with(whole);
         let draws = words.word(0);
+        let granted = capped(words.word(2), total);
         words.free();
-        Ok(draws)
+        Ok(Closed { draws, granted })
     }
 }

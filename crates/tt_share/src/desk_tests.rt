@@ -1,9 +1,10 @@
 //! The desk, with one thread and with many.
-ghost use Rattle.std.specs.Prelude.{◌≡◌, ◌+◌, ◌≤◌, ◌<◌, IfOk};
+ghost use Rattle.std.specs.Prelude.{◌≡◌, ◌+◌, ◌≤◌, ◌<◌, Some, IfOk};
 ghost use Rattle.tt_share.specs.Seats.{EndsSpare};
 
-use crate::desk::{Desk, Seat};
+use crate::desk::{Closed, Desk, Seat};
 use std::alloc::Global;
+use std::sync::atomic::{AtomicU64, Ordering};
 use std::test::Fail;
 use std::thread;
 use std::thread::Threads;
@@ -27,23 +28,59 @@ fn exhausted<R: Threads + Sync>(
     seats: usize,
 ) -> Result<u64, NoMemory>
     requires jobs { (0 < jobs) × (jobs ≤ 362) }
-    requires seats { (0 < seats) × (seats ≤ 64) }
+    requires seats { (0 < seats) × (seats ≤ 65) }
     ensures { IfOk result (λ n. n ≡ jobs + seats) }
 {
-    let (desk, seats) = Desk::new(alloc, jobs, seats)?;
+    let (desk, seats) = Desk::new(alloc, jobs, seats, None)?;
     let shared = &desk;
     let Ok(seats) = thread::map_vec(rt, seats, &|seat| draw_all(shared, seat)) else {
         return Err(NoMemory);
     };
     match desk.close(seats) {
-        Ok(draws) => Ok(draws),
+        Ok(closed) => Ok(closed.draws),
+        Err(_) => unreachable!(),
+    }
+}
+
+// Asks for grants until the seat is refused, and counts what it got.
+fn ask_all(desk: &Desk, total: u32, trues: &AtomicU64, mut seat: Seat) -> Seat
+    requires desk { seat.desk ≡ desk.now.id }
+    requires total { desk.now.total ≡ Some total }
+    ensures desk { result.desk ≡ desk.now.id }
+    ensures refused { EndsSpare total result.grants }
+{
+    while desk.grant(&mut seat) {
+        trues.fetch_add(1, Ordering::SeqCst);
+    }
+    seat
+}
+
+// What the desk gave, after each seat has asked in a thread of its own until it was refused, and counted what it got.
+fn spent<R: Threads + Sync>(
+    rt: &R,
+    alloc: Global,
+    seats: usize,
+    total: u32,
+    trues: &AtomicU64,
+) -> Result<u64, NoMemory>
+    requires seats { (0 < seats) × (seats ≤ 65) }
+    requires total { 0 < total }
+    ensures { IfOk result (λ n. n ≡ total) }
+{
+    let (desk, seats) = Desk::new(alloc, 1, seats, Some(total))?;
+    let shared = &desk;
+    let Ok(seats) = thread::map_vec(rt, seats, &|seat| ask_all(shared, total, trues, seat)) else {
+        return Err(NoMemory);
+    };
+    match desk.close(seats) {
+        Ok(closed) => Ok(closed.granted),
         Err(_) => unreachable!(),
     }
 }
 
 #[test]
 fn two_seats_draw_in_turn(rt: HostRuntime) -> Result<(), Fail> {
-    let Ok((desk, mut seats)) = Desk::new(rt.alloc(), 2, 2) else {
+    let Ok((desk, mut seats)) = Desk::new(rt.alloc(), 2, 2, None) else {
         panic!(rt; "memory")
     };
     let first = desk.draw(&mut seats[0]);
@@ -60,7 +97,11 @@ fn two_seats_draw_in_turn(rt: HostRuntime) -> Result<(), Fail> {
         panic!(rt; "a seat is missing")
     };
     seats.push(last)?;
-    assert!(rt; desk.close(seats).ok() == Some(4));
+    let wanted = Closed {
+        draws: 4,
+        granted: 0,
+    };
+    assert!(rt; desk.close(seats).ok() == Some(wanted));
     Ok(())
 }
 
@@ -71,8 +112,31 @@ fn seats_in_threads_draw_each_job(rt: HostRuntime) -> Result<(), Fail> {
 }
 
 #[test]
+fn seats_in_threads_get_the_whole_total(rt: HostRuntime) -> Result<(), Fail> {
+    let trues = AtomicU64::new(0);
+    assert!(rt; spent(&rt, rt.alloc(), 65, 1000, &trues).ok() == Some(1000));
+    assert!(rt; trues.load(Ordering::SeqCst) == 1000);
+    Ok(())
+}
+
+#[test]
+fn a_desk_without_a_total_refuses_nothing(rt: HostRuntime) -> Result<(), Fail> {
+    let Ok((desk, mut seats)) = Desk::new(rt.alloc(), 1, 1, None) else {
+        panic!(rt; "memory")
+    };
+    assert!(rt; desk.grant(&mut seats[0]));
+    assert!(rt; desk.grant(&mut seats[0]));
+    let wanted = Closed {
+        draws: 0,
+        granted: 0,
+    };
+    assert!(rt; desk.close(seats).ok() == Some(wanted));
+    Ok(())
+}
+
+#[test]
 fn a_joined_thread_shows_its_mark(rt: HostRuntime) -> Result<(), Fail> {
-    let Ok((desk, mut seats)) = Desk::new(rt.alloc(), 1, 2) else {
+    let Ok((desk, mut seats)) = Desk::new(rt.alloc(), 1, 2, None) else {
         panic!(rt; "memory")
     };
     let Some(mut second) = seats.pop() else {

@@ -1,20 +1,23 @@
 //! Jobs: the legal turns of a line, each searched by itself.
 
-ghost use Rattle.std.specs.Prelude.{◌≡◌, ◌+◌, ◌≤◌, ◌<◌, ◌↔◌, Bool, None, IfOk, IsTrue, length};
+ghost use Rattle.std.specs.Prelude.{◌≡◌, ◌+◌, ◌^◌, ◌≤◌, ◌<◌, ◌↔◌, Bool, None, IfOk, IsTrue, length};
 ghost use Rattle.tt_game.specs.Game.{IsLegal, after, winner_of};
 ghost use Rattle.tt_game.specs.Turns.{legal_turns};
-ghost use Rattle.tt_share.specs.Jobs.{EndsBehind, IsResultOf, IsWinFor, IsStuck, HasWon, kept_of};
+ghost use Rattle.tt_search.specs.Numbers.{count};
+ghost use Rattle.tt_search.specs.Ended.{EndOf, SpentBy};
+ghost use Rattle.tt_share.specs.Jobs.{EndsBehind, IsCounted, AsksFor, IsResultOf, IsCountOf, IsWinFor, IsStuck, HasWon, kept_of};
 
 use std::alloc::Global;
 use tt_game::{Line, Side, Turn, Turns};
-use tt_search::{End, Limits, Reason, Search, Store};
+use tt_search::{End, Grants, Limits, Reason, Search, Store};
 use tt_sgf::NoMemory;
 
-/// The result of a job, and its place among the legal turns.
+/// The result of a job, its place among the legal turns, and how many nodes its search expanded.
 #[derive(Drop)]
 pub(crate) struct Found {
     pub job: usize,
     pub end: End,
+    pub spent: u32,
 }
 
 /// The jobs of a line: its legal turns in rising order, and what the search of the line may use.
@@ -28,6 +31,21 @@ pub(crate) struct Jobs<'a> {
     ghost deep: { 1 ≤ limits.depth },
     ghost listed: { turns.items ≡ legal_turns line.now.frame line.now.state },
     ghost few: { (1 ≤ length turns.items) × (length turns.items ≤ 362) },
+}
+
+/// Runs a new search to its end, and counts the nodes that it expands.
+fn run_counted<S: Store, G: Grants>(search: Search, store: &mut S, grants: &mut G) -> (End, u32)
+    requires new { count search.tree ≡ 0 }
+    requires grants { (G.asked grants.old).granted < 2 ^ 62 }
+    ensures end { EndOf search result.0 }
+    ensures spent { SpentBy search (G.asked grants.old) result.0 (G.asked grants.new) }
+    ensures asks { AsksFor (G.asked grants.old) result.1 result.0 (G.asked grants.new) }
+    ensures source { G.source grants.new ≡ G.source grants.old }
+{
+    let before = grants.granted();
+    let end = search.run(store, grants);
+    let spent = (grants.granted() - before) as u32;
+    (end, spent)
 }
 
 impl<'a> Jobs<'a> {
@@ -69,26 +87,46 @@ impl<'a> Jobs<'a> {
         Ok(behind)
     }
 
-    /// Searches the line after a legal turn.
-    fn search_behind<S: Store>(&self, turn: Turn, store: &mut S) -> End
+    /// Searches the line after a legal turn, and counts the nodes that are expanded.
+    fn search_behind<S: Store, G: Grants>(
+        &self,
+        turn: Turn,
+        store: &mut S,
+        grants: &mut G,
+    ) -> (End, u32)
         requires legal { IsLegal self.now.line.now.frame self.now.line.now.state turn }
-        ensures { EndsBehind self.now.line.now self.now.limits turn result }
+        requires grants { (G.asked grants.old).granted < 2 ^ 62 }
+        ensures ends { EndsBehind self.now.line.now self.now.limits turn result.0 }
+        ensures counted { IsCounted self.now.line.now self.now.limits turn result.1 result.0 }
+        ensures asks { AsksFor (G.asked grants.old) result.1 result.0 (G.asked grants.new) }
+        ensures source { G.source grants.new ≡ G.source grants.old }
     {
+        let limits = self.limits_behind();
         let Ok(behind) = self.line_behind(turn) else {
-            return End::Stuck(Reason::Memory, None);
+            return (End::Stuck(Reason::Memory, None), 0);
         };
-        match Search::new(self.alloc, behind, self.limits_behind()) {
-            Ok(search) => search.run(store),
-            Err(_) => End::Stuck(Reason::Memory, None),
+        match Search::new(self.alloc, behind, limits) {
+            Ok(search) => run_counted(search, store, grants),
+            Err(_) => (End::Stuck(Reason::Memory, None), 0),
         }
     }
 
-    /// Searches a job: the line after its turn, with the same budget and a depth one less.
-    pub fn search<S: Store>(&self, job: usize, store: &mut S) -> End
+    /// Searches a job: the line after its turn, with the same budget and a depth one less. Answers how the search ends, and
+    /// how many nodes it expanded.
+    pub fn search<S: Store, G: Grants>(
+        &self,
+        job: usize,
+        store: &mut S,
+        grants: &mut G,
+    ) -> (End, u32)
         requires job { job < length self.now.turns.items }
-        ensures { IsResultOf self.now.line.now self.now.limits job result }
+        requires grants { (G.asked grants.old).granted < 2 ^ 62 }
+        ensures ends { IsResultOf self.now.line.now self.now.limits job result.0 }
+        ensures counted { IsCountOf self.now.line.now self.now.limits job result.1 result.0 }
+        ensures asks { AsksFor (G.asked grants.old) result.1 result.0 (G.asked grants.new) }
+        ensures source { G.source grants.new ≡ G.source grants.old }
     {
-        self.search_behind(self.turns.as_slice()[job], store)
+        self.search_behind(self.turns.as_slice()[job], store, grants)
     }
 
     /// Whether a result is a proof for the side to move.

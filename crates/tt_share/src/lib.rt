@@ -7,9 +7,11 @@
 
 mod alone;
 mod answer;
+mod bounds;
 mod conclude;
 mod desk;
 mod gate;
+mod grants;
 mod jobs;
 pub mod laws;
 mod locked;
@@ -26,7 +28,8 @@ mod workers;
 
 pub use alone::solve_one;
 pub use answer::{Answer, Stuck};
-pub use desk::{Desk, Seat};
+pub use bounds::MOST_KEPT;
+pub use desk::{Closed, Desk, Seat};
 pub use gate::{Gate, NoGate};
 pub use locked::{LockedStore, Table};
 pub use log::{CertLog, Token};
@@ -39,6 +42,8 @@ pub use view::View;
 mod alone_tests;
 #[cfg(test)]
 mod desk_tests;
+#[cfg(test)]
+mod grants_tests;
 #[cfg(test)]
 mod log_tests;
 #[cfg(test)]

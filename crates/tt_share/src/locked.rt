@@ -4,6 +4,7 @@ ghost use Rattle.std.specs.Prelude.{◌≡◌, ◌≢◌, ◌≤◌, ◌+◌, �
 ghost use Rattle.tt_search.specs.Stores.{IsAnswer};
 ghost use Rattle.tt_search.specs.declared.store.Kept.TheVariants.{Stored, Full};
 
+use crate::bounds::MOST_KEPT;
 use crate::table::TableState;
 use std::alloc::Global;
 use std::marker::Model;
@@ -29,9 +30,6 @@ impl Table {
     }
 }
 
-// How many proofs may be kept through one handle.
-const MOST_KEPT: usize = 4096;
-
 /// A handle on a table, through which at most 4,096 proofs may be kept. What it finds may have been kept through another
 /// handle.
 #[derive(Drop)]
@@ -43,12 +41,13 @@ pub struct LockedStore<'a, R> {
 
 impl<'a, R> Model for LockedStore<'a, R> {
     ghost use Rattle.std.specs.Prelude.{◌≤◌, ℕ};
+    ghost use Rattle.tt_share.specs.declared.bounds.TheConstants.{MOST_KEPT};
 
     ghost Value = { ℕ };
 
     ghost view = { λ s. s.kept };
 
-    ghost invariant = { λ s. s.kept ≤ 4096 };
+    ghost invariant = { λ s. s.kept ≤ MOST_KEPT };
 }
 
 impl<'a, R> LockedStore<'a, R> {
@@ -61,7 +60,7 @@ impl<'a, R> LockedStore<'a, R> {
 
     /// How many proofs may be kept through this handle: 4,096.
     pub fn capacity(&self) -> usize
-        ensures { result ≡ 4096 }
+        ensures { result ≡ MOST_KEPT }
     {
         MOST_KEPT
     }
@@ -75,7 +74,9 @@ impl<'a, R> LockedStore<'a, R> {
 }
 
 impl<'a, R: Wait> Store for LockedStore<'a, R> {
-    ghost capacity = { λ _. 4096 };
+    ghost use Rattle.tt_share.specs.declared.bounds.TheConstants.{MOST_KEPT};
+
+    ghost capacity = { λ _. MOST_KEPT };
 
     ghost kept = { λ s. s };
 
@@ -90,9 +91,8 @@ impl<'a, R: Wait> Store for LockedStore<'a, R> {
     }
 
     fn find(&mut self, line: &Line, s: Side) -> Result<Option<Arc<Proof>>, NoMemory> {
-        let key = line.key();
         let state = self.table.state.lock(self.rt);
-        state.find(&key, s)
+        state.find(line, s)
     }
 
     fn keep(&mut self, p: Arc<Proof>) -> Kept {

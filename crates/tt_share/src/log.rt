@@ -4,6 +4,7 @@ ghost use Rattle.std.specs.Prelude.{◌≡◌, IfOk, IfSome};
 ghost use Rattle.std.specs.Arc.{arc_value};
 ghost use Rattle.tt_share.specs.Log.{IsOf};
 
+use crate::bounds::ROOM_BEFORE_A_PUSH;
 use boxcar::Pushed;
 use std::alloc::Global;
 use std::marker::Model;
@@ -89,11 +90,13 @@ impl CertLog {
         self.entries.agrees(&a.shown, &b.shown);
     }
 
-    /// Pushes the proof, once.
+    /// Pushes the proof, once. Room for it, and for what others push meanwhile, comes first: an entry that was begun and
+    /// finds no memory would leave its place empty for good.
     pub(crate) fn push(&self, rt: &impl Wait, p: Arc<Proof>) -> Result<Token, NoMemory>
         ensures log { IfOk result (IsOf self.now) }
         ensures proof { IfOk result (λ t. t.proof ≡ arc_value p) }
     {
+        self.entries.reserve(ROOM_BEFORE_A_PUSH)?;
         match self.entries.push_shown(rt, p) {
             Ok(shown) => Ok(Token { shown }),
             Err(_) => Err(NoMemory),

@@ -1,13 +1,14 @@
 //! A view of a log as a store.
 
-ghost use Rattle.std.specs.Prelude.{◌≡◌, ◌≢◌, ◌+◌, ◌↔◌, IfOk, IfSome};
+ghost use Rattle.std.specs.Prelude.{◌≡◌, ◌≢◌, ◌≤◌, ◌+◌, ◌↔◌, IfOk, IfSome};
 ghost use Rattle.std.specs.Option.{option_map};
 ghost use Rattle.std.specs.Arc.{arc_value};
 ghost use Rattle.tt_game.specs.declared.frame.Side.TheVariants.{Attacker, Defender};
 ghost use Rattle.tt_search.specs.Stores.{IsAnswer, IsNewest};
 ghost use Rattle.tt_search.specs.declared.store.Kept.TheVariants.{Stored, Full};
-ghost use Rattle.tt_share.specs.Log.{Keeps, Extends, most_kept, newest_first};
+ghost use Rattle.tt_share.specs.Log.{Keeps, Extends, newest_first};
 
+use crate::bounds::MOST_KEPT;
 use crate::view::View;
 use std::marker::Model;
 use std::sync::{Arc, Wait};
@@ -56,25 +57,43 @@ impl<'a, R> LogStore<'a, R> {
     }
 }
 
+impl<'a, R> LogStore<'a, R> {
+    /// How many proofs may be kept through this store: 4,096.
+    pub fn capacity(&self) -> usize
+        ensures { result ≡ MOST_KEPT }
+    {
+        self.view.capacity()
+    }
+
+    /// How many proofs were kept through this store: at most 4,096.
+    pub fn kept(&self) -> usize
+        ensures kept { result ≡ self.now.kept }
+        ensures most { result ≤ MOST_KEPT }
+    {
+        self.view.kept()
+    }
+}
+
 impl<'a, R: Wait> Store for LogStore<'a, R> {
-    ghost capacity = { most_kept };
+    ghost use Rattle.tt_share.specs.declared.bounds.TheConstants.{MOST_KEPT};
+
+    ghost capacity = { λ _. MOST_KEPT };
 
     ghost kept = { λ s. s.kept };
 
     ghost may_answer = { Unit {0} };
 
     fn capacity(&self) -> usize {
-        self.view.capacity()
+        LogStore::capacity(self)
     }
 
     fn kept(&self) -> usize {
-        self.view.kept()
+        LogStore::kept(self)
     }
 
     fn find(&mut self, line: &Line, s: Side) -> Result<Option<Arc<Proof>>, NoMemory>
         ensures found { IfOk result (λ o. IfSome o (λ p. IsAnswer line.now s p.value)) }
         ensures may { IfOk result (λ o. IfSome o (λ _. Unit {0})) }
-        ensures capacity { most_kept self.new ≡ most_kept self.old }
         ensures kept { self.new.kept ≡ self.old.kept }
         ensures log { self.new.log ≡ self.old.log }
         ensures tokens { Extends self.old.tokens self.new.tokens }
@@ -88,7 +107,6 @@ impl<'a, R: Wait> Store for LogStore<'a, R> {
         ensures defender { IfOk result (λ b. IfSome b.defender (λ p. IsAnswer line.now Defender p.value)) }
         ensures may_attacker { IfOk result (λ b. IfSome b.attacker (λ _. Unit {0})) }
         ensures may_defender { IfOk result (λ b. IfSome b.defender (λ _. Unit {0})) }
-        ensures capacity { most_kept self.new ≡ most_kept self.old }
         ensures kept { self.new.kept ≡ self.old.kept }
         ensures log { self.new.log ≡ self.old.log }
         ensures tokens { Extends self.old.tokens self.new.tokens }
@@ -99,10 +117,9 @@ impl<'a, R: Wait> Store for LogStore<'a, R> {
     }
 
     fn keep(&mut self, p: Arc<Proof>) -> Kept
-        ensures full { (result ≡ Full) ↔ (self.old.kept ≡ most_kept self.old) }
+        ensures full { (result ≡ Full) ↔ (self.old.kept ≡ MOST_KEPT) }
         ensures stored { result ≡ Stored → self.new.kept ≡ self.old.kept + 1 }
         ensures other { result ≢ Stored → self.new.kept ≡ self.old.kept }
-        ensures capacity { most_kept self.new ≡ most_kept self.old }
         ensures log { self.new.log ≡ self.old.log }
         ensures proof { result ≡ Stored → Keeps self.old self.new (arc_value p) }
         ensures same { result ≢ Stored → self.new ≡ self.old }

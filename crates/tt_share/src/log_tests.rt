@@ -4,13 +4,14 @@ use crate::alone_tests::posed;
 use crate::table_tests::proof_of;
 use crate::{CertLog, LockedStore, LogStore, Table, View};
 use std::alloc::Global;
+use std::process::Abort;
 use std::sync::{Arc, Wait};
 use std::test::Fail;
 use std::thread;
 use std::thread::Threads;
 use tt_game::{Line, Side};
 use tt_proof::Proof;
-use tt_search::{Kept, Limits, PrivateStore, Reason, Search, Step, Store};
+use tt_search::{BothSides, Free, Kept, Limits, PrivateStore, Reason, Search, Step, Store};
 
 /// White's two stones with liberties on both sides: Black to move wins.
 const SPLIT: &[u8] = b"(;SZ[4:1]AW[ba][da]PL[B]TR[ba])";
@@ -101,26 +102,75 @@ fn found_by<S: Store>(alloc: Global, store: &mut S) -> Result<u32, Fail> {
     Ok(count)
 }
 
+/// The views through which two threads have kept a hundred of those proofs each, at once.
+fn hundreds<'a, R: Threads + Wait + Sync>(
+    rt: &R,
+    alloc: Global,
+    log: &'a CertLog,
+) -> Result<(View<'a>, View<'a>), Fail> {
+    let first = hundred(alloc, 0)?;
+    let second = hundred(alloc, 100)?;
+    let one = View::new(alloc, log)?;
+    let other = View::new(alloc, log)?;
+    Ok(keep_at_once(rt, one, first, other, second))
+}
+
+/// Fails unless a store over the view finds each of those proofs, and takes it in once. The view is handed back.
+fn finds_all<'a, R: Abort + Wait>(
+    rt: &'a R,
+    alloc: Global,
+    view: View<'a>,
+) -> Result<View<'a>, Fail> {
+    let mut store = LogStore::new(rt, view);
+    assert!(rt; found_by(alloc, &mut store)? == 200);
+    let view = store.into_view();
+    assert!(rt; view.tokens().len() == 200);
+    Ok(view)
+}
+
+/// The same of a new store, which keeps nothing.
+fn finds_all_anew<R: Abort + Wait>(rt: &R, alloc: Global, log: &CertLog) -> Result<(), Fail> {
+    let view = finds_all(rt, alloc, View::new(alloc, log)?)?;
+    assert!(rt; view.kept() == 0);
+    Ok(())
+}
+
 #[test]
 fn kept_by_threads_found_by_a_third_store(rt: HostRuntime) -> Result<(), Fail> {
     let alloc = rt.alloc();
     let log = CertLog::new(alloc)?;
-    let one = View::new(alloc, &log)?;
-    let other = View::new(alloc, &log)?;
-    let first = hundred(alloc, 0)?;
-    let second = hundred(alloc, 100)?;
-    let (one, other) = keep_at_once(&rt, one, first, other, second);
-    assert!(&rt; shows(alloc, &one, 0)?);
-    assert!(&rt; shows(alloc, &other, 100)?);
-    let mut third = LogStore::new(&rt, View::new(alloc, &log)?);
-    assert!(&rt; found_by(alloc, &mut third)? == 200);
-    let view = third.into_view();
-    assert!(&rt; view.tokens().len() == 200);
-    assert!(&rt; view.kept() == 0);
-    let mut first = LogStore::new(&rt, one);
-    assert!(&rt; found_by(alloc, &mut first)? == 200);
-    assert!(&rt; first.into_view().tokens().len() == 200);
+    let (one, other) = hundreds(&rt, alloc, &log)?;
+    assert!(&rt; shows(alloc, &one, 0)?, "the first hundred");
+    assert!(&rt; shows(alloc, &other, 100)?, "the second hundred");
+    finds_all_anew(&rt, alloc, &log)?;
+    finds_all(&rt, alloc, one)?;
     Ok(())
+}
+
+/// Whether a view that kept nothing itself answers the attacker's proof, and none of the defender, when it is asked for
+/// both at once.
+fn finds_both(mut view: View<'_>, line: &Line) -> Result<bool, Fail> {
+    let BothSides { attacker, defender } = view.find_both(line)?;
+    Ok(attacker.is_some() && defender.is_none() && view.tokens().len() == 1)
+}
+
+/// What one view kept another one takes in, also where it is asked for both sides at once.
+#[test]
+fn both_sides_are_found_by_another_view(rt: HostRuntime) -> Result<(), Fail> {
+    let alloc = rt.alloc();
+    let log = CertLog::new(alloc)?;
+    let mut view = View::new(alloc, &log)?;
+    assert!(&rt; view.keep(&rt, captured(alloc, 0)?) == Kept::Stored);
+    assert!(&rt; finds_both(View::new(alloc, &log)?, &cornered(alloc, 0)?)?);
+    let store = LogStore::new(&rt, view);
+    assert!(&rt; store.capacity() == 4_096 && store.kept() == 1);
+    Ok(())
+}
+
+/// Whether the view has a proof of that board for the side.
+fn has_found(alloc: Global, view: &mut View<'_>, number: u32, side: Side) -> Result<bool, Fail> {
+    let line = cornered(alloc, number)?;
+    Ok(view.find(&line, side)?.is_some())
 }
 
 #[test]
@@ -128,12 +178,27 @@ fn kept_and_found_at_once(rt: HostRuntime) -> Result<(), Fail> {
     let alloc = rt.alloc();
     let log = CertLog::new(alloc)?;
     let mut view = View::new(alloc, &log)?;
-    let line = cornered(alloc, 0)?;
-    assert!(&rt; view.find(&line, Side::Attacker)?.is_none());
+    assert!(&rt; !has_found(alloc, &mut view, 0, Side::Attacker)?, "before");
     assert!(&rt; view.keep(&rt, captured(alloc, 0)?) == Kept::Stored);
-    assert!(&rt; view.find(&line, Side::Attacker)?.is_some());
-    assert!(&rt; view.find(&line, Side::Defender)?.is_none());
+    assert!(&rt; has_found(alloc, &mut view, 0, Side::Attacker)?, "kept");
+    assert!(&rt;
+        !has_found(alloc, &mut view, 0, Side::Defender)?,
+        "the other side"
+    );
     assert!(&rt; view.tokens().len() == 1);
+    Ok(())
+}
+
+/// Keeps a proof 4,096 times, as often as a view can, and then fails unless the view is full.
+fn fills<R: Abort + Wait>(rt: &R, view: &mut View<'_>, proof: &Arc<Proof>) -> Result<(), Fail> {
+    for number in 0..4_096u32 {
+        assert!(rt;
+            view.keep(rt, Arc::try_clone(proof)?) == Kept::Stored,
+            "proof {number}"
+        );
+    }
+    assert!(rt; view.keep(rt, Arc::try_clone(proof)?) == Kept::Full);
+    assert!(rt; view.kept() == view.capacity());
     Ok(())
 }
 
@@ -142,16 +207,11 @@ fn kept_and_found_at_once(rt: HostRuntime) -> Result<(), Fail> {
 fn a_view_is_full(rt: HostRuntime) -> Result<(), Fail> {
     let alloc = rt.alloc();
     let log = CertLog::new(alloc)?;
-    let mut view = View::new(alloc, &log)?;
     let proof = captured(alloc, 7)?;
-    for _ in 0..4_096u32 {
-        assert!(&rt; view.keep(&rt, Arc::try_clone(&proof)?) == Kept::Stored);
-    }
-    assert!(&rt; view.keep(&rt, Arc::try_clone(&proof)?) == Kept::Full);
-    assert!(&rt; view.kept() == view.capacity());
+    let mut view = View::new(alloc, &log)?;
+    fills(&rt, &mut view, &proof)?;
     let mut other = View::new(alloc, &log)?;
-    let line = cornered(alloc, 7)?;
-    assert!(&rt; other.find(&line, Side::Attacker)?.is_some());
+    assert!(&rt; has_found(alloc, &mut other, 7, Side::Attacker)?);
     assert!(&rt; other.tokens().len() == 4_096);
     assert!(&rt; other.keep(&rt, proof) == Kept::Stored);
     Ok(())
@@ -165,6 +225,7 @@ fn letter(step: Step) -> char {
         Step::Settled => 'S',
         Step::Stuck(Reason::Budget) => 'B',
         Step::Stuck(Reason::Depth) => 'D',
+        Step::Stuck(Reason::Total) => 'T',
         Step::Stuck(Reason::Memory) => 'M',
     }
 }
@@ -193,7 +254,7 @@ fn trace<S: Store>(alloc: Global, text: &[u8], store: &mut S) -> Result<String, 
     let mut search = Search::new(alloc, posed(alloc, text)?, limits)?;
     let mut steps = String::new(alloc);
     for _ in 0..8u32 {
-        let step = search.step(store);
+        let step = search.step(store, &mut Free::new());
         steps.push_str(told(alloc, step, &search)?.as_str())?;
         if step != Step::Expanded && step != Step::Closed {
             break;

@@ -10,7 +10,7 @@ use std::test::Fail;
 use std::thread::Threads;
 use tt_game::Line;
 use tt_proof::Proof;
-use tt_search::{End, Kept, Limits, NoStore, Reason, Search};
+use tt_search::{End, Free, Kept, Limits, NoStore, Reason, Search};
 
 /// White's two stones with liberties on both sides: Black to move kills at the third point.
 const SPLIT: &[u8] = b"(;SZ[4:1]AW[ba][da]PL[B]TR[ba])";
@@ -30,7 +30,7 @@ fn searched(alloc: Global, text: &[u8]) -> Result<Arc<Proof>, Fail> {
         return Err(Fail::new("no limits"));
     };
     let line = posed(alloc, text)?;
-    match Search::new(alloc, line, limits)?.run(&mut NoStore) {
+    match Search::new(alloc, line, limits)?.run(&mut NoStore, &mut Free::new()) {
         End::Settled(proof) => Ok(Arc::new(alloc, proof)?),
         End::Stuck(_, _) => Err(Fail::new("stuck")),
     }
@@ -69,7 +69,7 @@ fn answered<R: Threads + Wait + Sync>(
     if line.winner().is_some() {
         return Err(Fail::new("nothing to solve"));
     }
-    Ok(solve(rt, alloc, line, &limits, workers, log, &NoGate))
+    Ok(solve(rt, alloc, line, &limits, None, workers, log, &NoGate))
 }
 
 /// The verdict on a problem, by so many workers over the log.
@@ -87,28 +87,29 @@ fn solved<R: Threads + Wait + Sync>(
     verdict(alloc, &line, answer)
 }
 
-/// The verdicts on a problem by 1, 2 and 64 workers, over a log with the proof of another.
+/// The verdict on a problem by so many workers, over a log with the proof of another.
 fn solved_with<R: Threads + Wait + Sync>(
     rt: &R,
     alloc: Global,
     text: &[u8],
     other: &[u8],
-) -> Result<[Vec<u8>; 3], Fail> {
-    let one = planted(rt, alloc, other)?;
-    let two = planted(rt, alloc, other)?;
-    let many = planted(rt, alloc, other)?;
-    Ok([
-        solved(rt, alloc, text, 1, &one)?,
-        solved(rt, alloc, text, 2, &two)?,
-        solved(rt, alloc, text, 64, &many)?,
-    ])
+    workers: usize,
+) -> Result<Vec<u8>, Fail>
+    requires { (1 ≤ workers) × (workers ≤ 64) }
+{
+    let log = planted(rt, alloc, other)?;
+    solved(rt, alloc, text, workers, &log)
 }
 
 /// A proof behind a first turn is found by the workers.
 #[test]
 fn workers_find_a_planted_proof(rt: HostRuntime) -> Result<(), Fail> {
-    for got in &solved_with(&rt, rt.alloc(), SPLIT, SPLIT_AFTER)? {
-        assert!(&rt; got.as_slice() == b"killed ca".as_slice());
+    for workers in [1usize, 2, 64] {
+        let got = solved_with(&rt, rt.alloc(), SPLIT, SPLIT_AFTER, workers)?;
+        assert!(&rt;
+            got.as_slice() == b"killed ca".as_slice(),
+            "{workers} workers"
+        );
     }
     Ok(())
 }
@@ -116,11 +117,12 @@ fn workers_find_a_planted_proof(rt: HostRuntime) -> Result<(), Fail> {
 /// A proof of the problem itself is found before they start, of either side.
 #[test]
 fn the_problem_itself_is_found(rt: HostRuntime) -> Result<(), Fail> {
-    for got in &solved_with(&rt, rt.alloc(), SPLIT, SPLIT)? {
-        assert!(&rt; got.as_slice() == b"killed ca".as_slice());
-    }
-    for got in &solved_with(&rt, rt.alloc(), LONE, LONE)? {
-        assert!(&rt; got.as_slice() == b"lives".as_slice());
+    let rows: [(&[u8], &str); 2] = [(SPLIT, "killed ca"), (LONE, "lives")];
+    for (problem, want) in rows {
+        for workers in [1usize, 2, 64] {
+            let got = solved_with(&rt, rt.alloc(), problem, problem, workers)?;
+            assert!(&rt; got.as_slice() == want.as_bytes(), "{want} {workers}");
+        }
     }
     Ok(())
 }
@@ -129,8 +131,9 @@ fn the_problem_itself_is_found(rt: HostRuntime) -> Result<(), Fail> {
 /// search is kept, though it isn't its worker's first.
 #[test]
 fn a_stuck_search_is_kept_behind_a_settled_one(rt: HostRuntime) -> Result<(), Fail> {
-    for got in &solved_with(&rt, rt.alloc(), LONE, LONE_AFTER)? {
-        assert!(&rt; got.as_slice() == b"budget".as_slice());
+    for workers in [1usize, 2, 64] {
+        let got = solved_with(&rt, rt.alloc(), LONE, LONE_AFTER, workers)?;
+        assert!(&rt; got.as_slice() == b"budget".as_slice(), "{workers} workers");
     }
     Ok(())
 }
@@ -166,11 +169,11 @@ fn stuck_at<R: Threads + Wait + Sync>(
 #[test]
 fn the_least_turn_is_stuck(rt: HostRuntime) -> Result<(), Fail> {
     let alloc = rt.alloc();
-    for problem in [SPLIT, LONE] {
+    for (name, problem) in [("split", SPLIT), ("lone", LONE)] {
         for workers in [1usize, 2, 64] {
             let log = CertLog::new(alloc)?;
             let turn = stuck_at(&rt, alloc, problem, workers, &log)?;
-            assert!(&rt; turn.as_slice() == b" ca".as_slice());
+            assert!(&rt; turn.as_slice() == b" ca".as_slice(), "{name} {workers}");
         }
     }
     Ok(())
@@ -193,7 +196,8 @@ fn stuck_next<R: Threads + Wait + Sync>(
 fn the_next_turn_is_stuck(rt: HostRuntime) -> Result<(), Fail> {
     let alloc = rt.alloc();
     for workers in [1usize, 2, 64] {
-        assert!(&rt; stuck_next(&rt, alloc, workers)?.as_slice() == b" da".as_slice());
+        let turn = stuck_next(&rt, alloc, workers)?;
+        assert!(&rt; turn.as_slice() == b" da".as_slice(), "{workers} workers");
     }
     Ok(())
 }

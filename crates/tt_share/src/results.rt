@@ -1,25 +1,29 @@
 //! Results: how the jobs of a line ended, as far as it is known.
 
-ghost use Rattle.std.specs.Prelude.{◌≡◌, ◌≢◌, ◌≤◌, ◌<◌, ◌↔◌, ℕ, false, None, Some, IfOk, IfNone, IsTrue, MatchOption, slice_get, slice_set, length, replicate, vec_len};
+ghost use Rattle.std.specs.Prelude.{◌≡◌, ◌≢◌, ◌+◌, ◌^◌, ◌≤◌, ◌<◌, ◌↔◌, ◌⊎◌, ℕ, false, true, None, Some, IfOk, IfNone, IsTrue, MatchOption, slice_get, slice_set, length, map, replicate, All, vec_len};
 ghost use Rattle.tt_game.specs.Game.{winner_of};
+ghost use Rattle.tt_game.specs.declared.turns.Turn.{Turn};
 ghost use Rattle.tt_game.specs.Turns.{legal_turns};
+ghost use Rattle.tt_search.specs.declared.limits.TheConstants.{MOST_EXPANDED};
 ghost use Rattle.tt_search.specs.declared.search.End.{End};
+ghost use Rattle.tt_share.specs.Answers.{spent_in_all};
 ghost use Rattle.tt_share.specs.Jobs.{IsResult, IsWinFor};
-ghost use Rattle.tt_share.specs.Results.{HasEnd, IsFilled, HasWonIn, AllWon, IsPastStuck, IsStuckIn, IsWinIn, IsWinAt, NoWin, IsLeastWin, IsReady, StopsAtWin, KeepsEnds, Puts};
+ghost use Rattle.tt_share.specs.Results.{Notes, AskedFor, HasEnd, IsFilled, HasWonIn, AllWon, IsPastStuck, IsStuckIn, IsWinIn, IsWinAt, NoWin, IsLeastWin, IsReady, StopsAtWin, KeepsEnds, Puts};
 
 use crate::jobs::{Found, Jobs, is_stuck, is_win, trimmed};
 use std::alloc::Global;
 use std::marker::Model;
-use tt_game::{Line, Side};
-use tt_search::{End, Limits, Store};
+use tt_game::{Line, Side, Turn};
+use tt_search::{End, Grants, Limits, Store};
 use tt_sgf::NoMemory;
 
-/// How the search of each job of a line ended, as far as it is known. Contracts see the line, the limits, and the list of
-/// the ends by the jobs' numbers.
+/// How the search of each job of a line ended, as far as it is known, and how many nodes it expanded. Contracts see the line,
+/// the limits, the list of the ends by the jobs' numbers, and that of the jobs' turns with their counts.
 #[derive(Drop)]
 pub(crate) struct Results<'a> {
     pub jobs: Jobs<'a>,
     pub ends: Vec<Option<End>>,
+    pub spent: Vec<(Turn, u32)>,
 }
 
 impl<'a> Model for Results<'a> {
@@ -29,16 +33,17 @@ impl<'a> Model for Results<'a> {
     ghost use Rattle.tt_proof.specs.StrategyCode.{strategy_code};
     ghost use Rattle.tt_search.specs.PartialTreeCode.{partial_code};
     ghost use Rattle.tt_share.specs.Jobs.{AreResults};
-    ghost use Rattle.tt_share.specs.Results.{Progress};
+    ghost use Rattle.tt_share.specs.Results.{Progress, AreNoted};
 
     ghost Value = { Progress };
 
     ghost coded = { Prim.hlevel (codes, strategy_code, partial_code, points.the_row.coded) };
 
-    ghost view = { λ r. record { line = r.jobs.line.now; limits = r.jobs.limits; ends = r.ends.items } };
+    ghost view = { λ r. record { line = r.jobs.line.now; limits = r.jobs.limits; ends = r.ends.items; spent = r.spent.items } };
 
     ghost invariant = { λ r. record {
       are : AreResults r.jobs.line.now r.jobs.limits r.ends.items;
+      noted : AreNoted r.jobs.line.now r.jobs.limits r.ends.items r.spent.items;
       one_each : vec_len r.ends ≡ length r.jobs.turns.items;
     } };
 }
@@ -94,6 +99,27 @@ fn fill(ends: &mut Vec<Option<End>>, job: usize, end: End)
     ends[job] = Some(end);
 }
 
+/// Notes how many nodes the search of a job expanded.
+fn note(spent: &mut Vec<(Turn, u32)>, job: usize, count: u32)
+    requires { job < vec_len spent.old }
+    ensures noted { (e : Turn × ℕ) × (slice_get spent.old.items job ≡ Some e) × (spent.new.items ≡ slice_set spent.old.items job (e.0, count)) }
+{
+    let (turn, _) = spent[job];
+    spent[job] = (turn, count);
+}
+
+/// The turns, each with no expanded node, in a list of its own.
+fn unspent(alloc: Global, turns: &[Turn]) -> Result<Vec<(Turn, u32)>, NoMemory>
+    ensures turns { IfOk result (λ v. map (λ (e : Turn × ℕ). e.0) v.items ≡ turns.now) }
+    ensures none { IfOk result (λ v. All (λ (e : Turn × ℕ). e.1 ≡ 0) v.items) }
+{
+    let mut spent = Vec::with_capacity(alloc, turns.len())?;
+    for turn in turns {
+        spent.push_reserved((*turn, 0));
+    }
+    Ok(spent)
+}
+
 /// Whether the search of a lesser job is stuck.
 fn is_past_stuck(ends: &[Option<End>], job: usize) -> bool
     ensures { IsTrue result ↔ IsPastStuck ends.now job }
@@ -117,19 +143,22 @@ impl<'a> Results<'a> {
         ensures line { IfOk result (λ r. r.line ≡ line.now) }
         ensures limits { IfOk result (λ r. r.limits ≡ limits) }
         ensures none { IfOk result (λ r. r.ends ≡ replicate (length (legal_turns line.now.frame line.now.state)) None) }
+        ensures unspent { IfOk result (λ r. spent_in_all r.spent ≡ 0) }
     {
         let jobs = Jobs::of(alloc, line, limits);
         let count = jobs.turns.len();
+        let spent = unspent(alloc, jobs.turns.as_slice())?;
         let mut ends = Vec::with_capacity(alloc, count)?;
         for _ in 0..count {
             ends.push_reserved(None);
         }
-        Ok(Results { jobs, ends })
+        Ok(Results { jobs, ends, spent })
     }
 
     /// How many jobs the line has.
     pub fn count(&self) -> usize
-        ensures { result ≡ length self.now.ends }
+        ensures count { result ≡ length self.now.ends }
+        ensures few { result ≤ 362 }
     {
         self.ends.len()
     }
@@ -153,33 +182,48 @@ impl<'a> Results<'a> {
     /// Puts a result at the place of its job. A double and a stranger are dropped.
     pub fn put(&mut self, found: Found)
         requires found { IsResult self.old.line self.old.limits found }
-        ensures same { self.new ≡ record self.old { ends = self.new.ends } }
+        ensures same { self.new ≡ record self.old { ends = self.new.ends; spent = self.new.spent } }
         ensures puts { Puts self.old.ends self.new.ends found }
+        ensures notes { Notes self.old self.new found }
     {
-        let Found { job, end } = found;
+        let Found { job, end, spent } = found;
         if self.is_free(job) {
             let past_stuck = is_past_stuck(self.ends.as_slice(), job);
             fill(&mut self.ends, job, trimmed(past_stuck, end));
+            note(&mut self.spent, job, spent);
         }
     }
 
     /// Searches a job that has no result, and answers whether it wins for the side to move.
-    fn search_free<S: Store>(&mut self, job: usize, store: &mut S) -> bool
+    fn search_free<S: Store, G: Grants>(
+        &mut self,
+        job: usize,
+        store: &mut S,
+        grants: &mut G,
+    ) -> bool
         requires free { slice_get self.old.ends job ≡ Some None }
-        ensures same { self.new ≡ record self.old { ends = self.new.ends } }
+        requires grants { (G.asked grants.old).granted < 2 ^ 62 }
+        ensures same { self.new ≡ record self.old { ends = self.new.ends; spent = self.new.spent } }
         ensures put { (end : End) × (self.new.ends ≡ slice_set self.old.ends job (Some end))
             × (IsTrue result ↔ IsWinFor self.old.line.state.to_move end) }
+        ensures asks { AskedFor self.old (G.asked grants.old) self.new (G.asked grants.new) }
+        ensures source { G.source grants.new ≡ G.source grants.old }
+        ensures few { (G.asked grants.new).granted ≤ (G.asked grants.old).granted + MOST_EXPANDED }
     {
-        let end = self.jobs.search(job, store);
+        let (end, spent) = self.jobs.search(job, store, grants);
         let won = self.jobs.is_won(&end);
-        self.put(Found { job, end });
+        self.put(Found { job, end, spent });
         won
     }
 
     /// Searches a job if it has no result, and answers whether it was searched and wins for the side to move.
-    fn search_job<S: Store>(&mut self, job: usize, store: &mut S) -> bool
+    fn search_job<S: Store, G: Grants>(&mut self, job: usize, store: &mut S, grants: &mut G) -> bool
         requires within { job < length self.old.ends }
-        ensures same { self.new ≡ record self.old { ends = self.new.ends } }
+        requires grants { (G.asked grants.old).granted < 2 ^ 62 }
+        ensures same { self.new ≡ record self.old { ends = self.new.ends; spent = self.new.spent } }
+        ensures asks { AskedFor self.old (G.asked grants.old) self.new (G.asked grants.new) }
+        ensures source { G.source grants.new ≡ G.source grants.old }
+        ensures few { (G.asked grants.new).granted ≤ (G.asked grants.old).granted + MOST_EXPANDED }
         ensures len { length self.new.ends ≡ length self.old.ends }
         ensures filled { IsFilled self.new.ends job }
         ensures kept { KeepsEnds self.old.ends self.new.ends }
@@ -191,12 +235,15 @@ impl<'a> Results<'a> {
         if !self.is_free(job) {
             return false;
         }
-        self.search_free(job, store)
+        self.search_free(job, store, grants)
     }
 
     /// Where no job wins for the side to move, searches each that has no result, in rising order, until one does.
-    pub fn search_missing<S: Store>(&mut self, store: &mut S)
-        ensures same { self.new ≡ record self.old { ends = self.new.ends } }
+    pub fn search_missing<S: Store, G: Grants>(&mut self, store: &mut S, grants: &mut G)
+        requires grants { (G.asked grants.old).granted ≡ 0 }
+        ensures same { self.new ≡ record self.old { ends = self.new.ends; spent = self.new.spent } }
+        ensures asks { AskedFor self.old (G.asked grants.old) self.new (G.asked grants.new) }
+        ensures source { G.source grants.new ≡ G.source grants.old }
         ensures ready { IsReady self.new.line.state.to_move self.new.ends }
         ensures kept { KeepsEnds self.old.ends self.new.ends }
         ensures won { (job : ℕ) → IsWinAt self.old.line.state.to_move self.old.ends job → self.new ≡ self.old }
@@ -206,7 +253,7 @@ impl<'a> Results<'a> {
             return;
         }
         for job in 0..self.count() {
-            if self.search_job(job, store) {
+            if self.search_job(job, store, grants) {
                 return;
             }
         }

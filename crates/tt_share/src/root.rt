@@ -1,9 +1,9 @@
 //! What a store has for the line itself, and what it is offered.
 
-ghost use Rattle.std.specs.Prelude.{◌≡◌, ◌≤◌, None, IfOk, IfSome};
+ghost use Rattle.std.specs.Prelude.{◌≡◌, ℕ, ◌≤◌, Option, None, IfOk, IfSome, IfNone};
 ghost use Rattle.tt_game.specs.Game.{winner_of};
 ghost use Rattle.tt_proof.specs.Strategy.{depth};
-ghost use Rattle.tt_proof.specs.Proven.{StandsAt};
+ghost use Rattle.tt_proof.specs.Proven.{IsWon, StandsAt};
 ghost use Rattle.tt_share.specs.Answers.{IsAnswer};
 
 use crate::answer::Answer;
@@ -21,6 +21,7 @@ fn moved_to(alloc: Global, line: &Line, found: &Proof) -> Result<Option<Proof>, 
     requires { found.now.frame.size ≡ line.now.frame.size }
     ensures stands { IfOk result (λ o. IfSome o (λ p. StandsAt p line.now.frame line.now.state)) }
     ensures tree { IfOk result (λ o. IfSome o (λ p. p.tree ≡ found.now.tree)) }
+    ensures none { IfOk result (λ o. IfNone o (IsWon found.now.side line.now.frame line.now.state found.now.tree → ⊥)) }
 {
     let mut own = line.try_clone()?;
     if !found.wins_at(&mut own)? {
@@ -60,7 +61,7 @@ pub(crate) fn from_store<S: Store>(
     store: &mut S,
 ) -> Result<Option<Answer>, NoMemory>
     requires open { winner_of line.now.frame line.now.state ≡ None }
-    ensures { IfOk result (λ o. IfSome o (λ a. IsAnswer line.now limits a)) }
+    ensures { (total : Option ℕ) → IfOk result (λ o. IfSome o (λ a. IsAnswer line.now limits total a)) }
 {
     if let Some(proof) = proof_from(alloc, line, limits, Side::Attacker, store)? {
         return Ok(Some(settled(alloc, line, limits, proof)?));

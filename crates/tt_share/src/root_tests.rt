@@ -63,12 +63,20 @@ fn solved_with(alloc: Global, text: &[u8], depth: u16, other: &[u8]) -> Result<V
 #[test]
 fn a_found_proof_is_used(rt: HostRuntime) -> Result<(), Fail> {
     let alloc = rt.alloc();
-    let rows: [(&[u8], u16); 4] = [(SPLIT, 512), (SPLIT, 3), (REACHED, 512), (REACHED, 3)];
-    for (problem, depth) in rows {
+    let rows: [(&str, &[u8], u16); 4] = [
+        ("split", SPLIT, 512),
+        ("split", SPLIT, 3),
+        ("reached", REACHED, 512),
+        ("reached", REACHED, 3),
+    ];
+    for (name, problem, depth) in rows {
         let without = solved(alloc, problem, 1, depth, &mut NoStore)?;
-        assert!(&rt; without.as_slice() == b"budget".as_slice());
+        assert!(&rt;
+            without.as_slice() == b"budget".as_slice(),
+            "{name} {depth}"
+        );
         let got = solved_with(alloc, problem, depth, SPLIT)?;
-        assert!(&rt; got.as_slice() == b"killed ca".as_slice());
+        assert!(&rt; got.as_slice() == b"killed ca".as_slice(), "{name} {depth}");
     }
     Ok(())
 }

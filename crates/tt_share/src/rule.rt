@@ -2,18 +2,20 @@
 use atomic_table::{Join, Play, Split, TableRule};
 use std::collections::LinkedList;
 
-/// How many jobs and seats a desk has.
+/// How many jobs, seats and grants a desk has. Where it has no total it grants without a step, and `total` is 0.
 #[derive(Drop)]
 pub struct Plan {
     pub jobs: usize,
     pub seats: usize,
+    pub total: u32,
 }
 
-/// What a seat knows: how many of the desk's seats it stands for, the numbers that it drew,
+/// What a seat knows: how many of the desk's seats it stands for, the numbers that it drew and those that it got as grants,
 /// whether it raised the mark and whether it saw the mark. No value of it is made.
 pub struct View {
     pub parts: u64,
     pub numbers: LinkedList<u64>,
+    pub grants: LinkedList<u64>,
     pub mark: bool,
     pub sighting: bool,
 }
@@ -36,6 +38,15 @@ impl Play<(), View> for Draw {
     ghost use Rattle.tt_share.specs.Desk.{Draws};
 
     ghost then = { λ step before found after. Draws before found after };
+}
+
+/// A grant was asked for: the number says whether it was given.
+pub struct Grant;
+
+impl Play<(), View> for Grant {
+    ghost use Rattle.tt_share.specs.Desk.{Grants};
+
+    ghost then = { λ step before found after. Grants before found after };
 }
 
 /// The mark was raised.

@@ -5,7 +5,8 @@ ghost use Rattle.std.specs.Arc.{arc_value};
 ghost use Rattle.std.specs.Option.{option_map};
 ghost use Rattle.tt_game.specs.Keys.{key_of};
 ghost use Rattle.tt_proof.specs.Nodes.{nodes};
-ghost use Rattle.tt_share.specs.Places.{IsFor, IsNewest, places_at};
+ghost use Rattle.tt_search.specs.Stores.{IsAnswer, IsNewest};
+ghost use Rattle.tt_share.specs.Places.{places_at};
 ghost use Rattle.tt_share.specs.Table.{same_key, places_of, nodes_of};
 
 use std::alloc::Global;
@@ -13,7 +14,7 @@ use std::collections::HashMap;
 use std::hash::Hash;
 use std::marker::Model;
 use std::sync::Arc;
-use tt_game::{Key, Side};
+use tt_game::{Key, Line, Side};
 use tt_proof::Proof;
 use tt_sgf::NoMemory;
 
@@ -56,15 +57,11 @@ fn note_place<K: Copy + Drop + Eq + Hash>(
     ensures err { OnErr result ((q : _) → places_at K.eq index.new q ≡ places_at K.eq index.old q) }
 {
     if let Some(places) = index.get_mut(key) {
-        return match places.push(place) {
-            Ok(()) => Ok(()),
-            Err(_) => Err(NoMemory),
-        };
+        places.push(place)?;
+        return Ok(());
     }
     let mut places = Vec::new(alloc);
-    if places.push(place).is_err() {
-        return Err(NoMemory);
-    }
+    places.push(place)?;
     match index.insert(*key, places) {
         Ok(_) => Ok(()),
         Err(_) => Err(NoMemory),
@@ -91,13 +88,9 @@ impl TableState {
         ensures ok { IfOk result (λ place. (self.new ≡ self.old ++ arc_value p ∷ []) × (place ≡ length self.old)) }
         ensures err { OnErr result (self.new ≡ self.old) }
     {
-        if self.proofs.reserve(1).is_err() {
-            return Err(NoMemory);
-        }
+        self.proofs.reserve(1)?;
         let place = self.proofs.len();
-        if note_place(self.alloc, &mut self.index, key, place).is_err() {
-            return Err(NoMemory);
-        }
+        note_place(self.alloc, &mut self.index, key, place)?;
         self.total = self.total.saturating_add(size);
         self.proofs.push_reserved(p);
         Ok(place)
@@ -137,12 +130,13 @@ impl TableState {
         self.proofs.len()
     }
 
-    /// The last proof of the key for the side.
-    fn newest(&self, k: &Key, s: Side) -> Option<&Arc<Proof>>
-        ensures newest { IsNewest k.now s (reverse self.now) (option_map (λ r. arc_value r.now) result) }
-        ensures found { IfSome result (λ r. IsFor k.now s (arc_value r.now)) }
+    /// The last proof of the line's key for the side.
+    fn newest(&self, line: &Line, s: Side) -> Option<&Arc<Proof>>
+        ensures newest { IsNewest line.now s (reverse self.now) (option_map (λ r. arc_value r.now) result) }
+        ensures found { IfSome result (λ r. IsAnswer line.now s (arc_value r.now)) }
     {
-        let places = self.places(k);
+        let key = line.key();
+        let places = self.places(&key);
         let mut left = places.len();
         while 0 < left {
             left -= 1;
@@ -155,17 +149,15 @@ impl TableState {
         None
     }
 
-    /// A handle of the last proof of the key for the side, or none.
-    pub(crate) fn find(&self, k: &Key, s: Side) -> Result<Option<Arc<Proof>>, NoMemory>
-        ensures newest { IfOk result (λ o. IsNewest k.now s (reverse self.now) (option_map (λ p. arc_value p) o)) }
-        ensures found { IfOk result (λ o. IfSome o (λ p. IsFor k.now s (arc_value p))) }
+    /// A handle of the last proof of the line's key for the side, or none.
+    pub(crate) fn find(&self, line: &Line, s: Side) -> Result<Option<Arc<Proof>>, NoMemory>
+        ensures newest { IfOk result (λ o. IsNewest line.now s (reverse self.now) (option_map (λ p. arc_value p) o)) }
+        ensures found { IfOk result (λ o. IfSome o (λ p. IsAnswer line.now s (arc_value p))) }
     {
-        let Some(p) = self.newest(k, s) else {
+        let Some(p) = self.newest(line, s) else {
             return Ok(None);
         };
-        match Arc::try_clone(p) {
-            Ok(handle) => Ok(Some(handle)),
-            Err(_) => Err(NoMemory),
-        }
+        let handle = Arc::try_clone(p)?;
+        Ok(Some(handle))
     }
 }

@@ -3,6 +3,7 @@
 use crate::locked::{LockedStore, Table};
 use crate::table::TableState;
 use std::alloc::Global;
+use std::process::Abort;
 use std::sync::{Arc, Wait};
 use std::test::Fail;
 use std::thread;
@@ -57,13 +58,34 @@ fn text_of(alloc: Global, p: &Proof, line: &Line) -> Result<Vec<u8>, Fail> {
     Ok(text)
 }
 
-#[test]
-fn places_and_nodes(rt: HostRuntime) -> Result<(), Fail> {
-    let alloc = rt.alloc();
-    let mut table = TableState::new(alloc)?;
-    let split = posed(alloc, SPLIT)?.key();
-    let narrow = posed(alloc, NARROW)?.key();
-    assert!(&rt; table.places(&split).is_empty());
+/// Whether a table has the proofs of a problem's key at these places.
+fn has_places(
+    alloc: Global,
+    table: &TableState,
+    record: &[u8],
+    want: &[usize],
+) -> Result<bool, Fail> {
+    let line = posed(alloc, record)?;
+    Ok(table.places(&line.key()) == want)
+}
+
+/// Fails unless the proof of a certificate goes to this place, and the table has so many nodes with it.
+fn inserts(
+    rt: &impl Abort,
+    table: &mut TableState,
+    proof: Arc<Proof>,
+    place: usize,
+    nodes: u64,
+) -> Result<(), Fail> {
+    assert_eq!(rt; table.len(), place, "at {place}");
+    assert_eq!(rt; table.insert(proof)?, place, "at {place}");
+    assert_eq!(rt; table.nodes(), nodes, "at {place}");
+    Ok(())
+}
+
+/// Fails unless a new table tells the places of what is put into it, and the nodes of all.
+fn tells_places(rt: &impl Abort, alloc: Global, table: &mut TableState) -> Result<(), Fail> {
+    assert!(rt; has_places(alloc, table, SPLIT, &[])?, "an empty table");
     assert_eq!(rt; table.nodes(), 0);
     let steps: [(&[u8], &[u8], usize, u64); 5] = [
         (SPLIT, b"killed !ca?aa.--!aa.;", 0, 5),
@@ -73,15 +95,102 @@ fn places_and_nodes(rt: HostRuntime) -> Result<(), Fail> {
         (NARROW, b"killed ?aa.--!aa.;", 4, 22),
     ];
     for (record, certificate, place, nodes) in steps {
-        assert_eq!(rt; table.len(), place);
         let proof = proof_of(alloc, record, certificate)?;
-        assert_eq!(rt; table.insert(proof)?, place);
-        assert_eq!(rt; table.nodes(), nodes);
+        inserts(rt, table, proof, place, nodes)?;
     }
-    assert!(&rt; table.places(&split) == [0, 1, 3].as_slice());
-    assert!(&rt; table.places(&posed(alloc, REPEATED)?.key()) == [0, 1, 3].as_slice());
-    assert!(&rt; table.places(&narrow) == [2, 4].as_slice());
+    assert!(rt; has_places(alloc, table, SPLIT, &[0, 1, 3])?, "split");
+    assert!(rt; has_places(alloc, table, REPEATED, &[0, 1, 3])?, "repeated");
+    assert!(rt; has_places(alloc, table, NARROW, &[2, 4])?, "narrow");
     assert_eq!(rt; table.len(), 5);
+    Ok(())
+}
+
+#[test]
+fn places_and_nodes(rt: HostRuntime) -> Result<(), Fail> {
+    let alloc = rt.alloc();
+    let mut table = TableState::new(alloc)?;
+    tells_places(&rt, alloc, &mut table)
+}
+
+/// Fails unless a proof is the side's, and has this certificate at the line.
+fn is_certified(
+    rt: &impl Abort,
+    alloc: Global,
+    proof: &Proof,
+    line: &Line,
+    side: Side,
+    certificate: &str,
+) -> Result<(), Fail> {
+    assert!(rt; proof.side() == side, "{certificate}");
+    let text = text_of(alloc, proof, line)?;
+    assert!(rt; text.as_slice() == certificate.as_bytes(), "{certificate}");
+    Ok(())
+}
+
+/// Fails unless the proof of a certificate that one store keeps is found by another one.
+fn kept_and_found<A: Store, B: Store>(
+    rt: &impl Abort,
+    alloc: Global,
+    one: &mut A,
+    other: &mut B,
+    record: &[u8],
+    certificate: &str,
+) -> Result<(), Fail> {
+    let line = posed(alloc, record)?;
+    let proof = proof_of(alloc, record, certificate.as_bytes())?;
+    let side = proof.side();
+    assert!(rt; one.keep(proof) == Kept::Stored, "{certificate}");
+    match other.find(&line, side)? {
+        Some(found) => is_certified(rt, alloc, &found, &line, side, certificate),
+        None => Err(Fail::new(certificate)),
+    }
+}
+
+/// Whether a store has the attacker's proof of a problem.
+fn has_found<S: Store>(alloc: Global, store: &mut S, record: &[u8]) -> Result<bool, Fail> {
+    let line = posed(alloc, record)?;
+    Ok(store.find(&line, Side::Attacker)?.is_some())
+}
+
+/// Whether what a store has for the defender at one problem stands at another one.
+fn found_stands<S: Store>(
+    alloc: Global,
+    store: &mut S,
+    record: &[u8],
+    other: &[u8],
+) -> Result<bool, Fail> {
+    let line = posed(alloc, record)?;
+    let there = posed(alloc, other)?;
+    match store.find(&line, Side::Defender)? {
+        Some(found) => Ok(found.stands_at(&there)),
+        None => Err(Fail::new("not found")),
+    }
+}
+
+/// Fails unless two stores of a new table share what the first one keeps.
+fn share_a_table<A: Store, B: Store>(
+    rt: &impl Abort,
+    alloc: Global,
+    one: &mut A,
+    other: &mut B,
+) -> Result<(), Fail> {
+    assert!(rt; !has_found(alloc, other, SPLIT)?, "an empty table");
+    let steps: [(&[u8], &str); 3] = [
+        (SPLIT, "killed !ca?aa.--!aa.;"),
+        (REPEATED, "lives ?--!--.;"),
+        (SPLIT, "killed !ca?aa.da.--!aa.;"),
+    ];
+    for (record, certificate) in steps {
+        kept_and_found(rt, alloc, one, other, record, certificate)?;
+    }
+    assert!(rt;
+        found_stands(alloc, other, SPLIT, REPEATED)?,
+        "the same key"
+    );
+    assert!(rt; !has_found(alloc, other, NARROW)?, "another key");
+    assert_eq!(rt; one.kept(), 3);
+    assert_eq!(rt; other.kept(), 0);
+    assert_eq!(rt; other.capacity(), 4096);
     Ok(())
 }
 
@@ -91,38 +200,7 @@ fn kept_by_one_found_by_another(rt: HostRuntime) -> Result<(), Fail> {
     let table = Table::new(alloc)?;
     let mut one = LockedStore::new(&rt, &table);
     let mut other = LockedStore::new(&rt, &table);
-    let split = posed(alloc, SPLIT)?;
-    let repeated = posed(alloc, REPEATED)?;
-    assert!(&rt; other.find(&split, Side::Attacker)?.is_none());
-    let steps: [(&[u8], &[u8]); 3] = [
-        (SPLIT, b"killed !ca?aa.--!aa.;"),
-        (REPEATED, b"lives ?--!--.;"),
-        (SPLIT, b"killed !ca?aa.da.--!aa.;"),
-    ];
-    for (record, certificate) in steps {
-        let proof = proof_of(alloc, record, certificate)?;
-        let side = proof.side();
-        let line = posed(alloc, record)?;
-        assert!(&rt; one.keep(proof) == Kept::Stored);
-        let Some(found) = other.find(&line, side)? else {
-            return Err(Fail::new("not found"));
-        };
-        assert!(&rt; found.side() == side);
-        assert!(&rt; text_of(alloc, &found, &line)?.as_slice() == certificate);
-    }
-    let Some(found) = other.find(&split, Side::Defender)? else {
-        return Err(Fail::new("not found"));
-    };
-    assert!(&rt; found.stands_at(&repeated));
-    assert!(&rt;
-        other
-            .find(&posed(alloc, NARROW)?, Side::Attacker)?
-            .is_none()
-    );
-    assert_eq!(rt; one.kept(), 3);
-    assert_eq!(rt; other.kept(), 0);
-    assert_eq!(rt; other.capacity(), 4096);
-    Ok(())
+    share_a_table(&rt, alloc, &mut one, &mut other)
 }
 
 /// Two threads, each with a handle of its own, keep a proof each.
@@ -149,11 +227,7 @@ fn kept_by_threads(rt: HostRuntime) -> Result<(), Fail> {
     assert!(&rt; one == Kept::Stored);
     assert!(&rt; other == Kept::Stored);
     let mut store = LockedStore::new(&rt, &table);
-    assert!(&rt; store.find(&posed(alloc, SPLIT)?, Side::Attacker)?.is_some());
-    assert!(&rt;
-        store
-            .find(&posed(alloc, NARROW)?, Side::Attacker)?
-            .is_some()
-    );
+    assert!(&rt; has_found(alloc, &mut store, SPLIT)?, "split");
+    assert!(&rt; has_found(alloc, &mut store, NARROW)?, "narrow");
     Ok(())
 }

@@ -1,15 +1,16 @@
 //! Solving by workers in threads.
 
-ghost use Rattle.std.specs.Prelude.{◌≡◌, ◌≤◌, None};
+ghost use Rattle.std.specs.Prelude.{◌≡◌, ◌≤◌, ◌<◌, None, IfSome, OnOk};
 ghost use Rattle.tt_game.specs.Game.{winner_of};
 ghost use Rattle.tt_share.specs.Answers.{IsAnswer};
-ghost use Rattle.tt_share.specs.Results.{KeepsEnds};
+ghost use Rattle.tt_share.specs.Results.{IsBlank, IsReady, IsAllSpent};
 
 use crate::alone::{begin, finish};
 use crate::answer::Answer;
 use crate::conclude::no_memory;
 use crate::desk::Desk;
 use crate::gate::Gate;
+use crate::grants::SeatGrants;
 use crate::log::CertLog;
 use crate::log_store::LogStore;
 use crate::results::Results;
@@ -19,62 +20,91 @@ use std::alloc::Global;
 use std::sync::Wait;
 use std::thread::Threads;
 use tt_game::Line;
-use tt_search::Limits;
+use tt_search::{Limits, Store};
 use tt_sgf::NoMemory;
 
-/// Searches the jobs by workers, and puts their results at their places.
-pub(crate) fn search_together<R: Threads + Wait + Sync, G: Gate>(
+/// Searches the jobs by workers, puts their results at their places, and searches what they left. All searches ask one desk
+/// for their expansions, each worker through its seat and the caller through one of its own.
+pub(crate) fn search_together<R: Threads + Wait + Sync, G: Gate, S: Store>(
     rt: &R,
     results: &mut Results<'_>,
+    total: Option<u32>,
     workers: usize,
     log: &CertLog,
     gate: &G,
+    store: &mut S,
 ) -> Result<(), NoMemory>
+    requires total { IfSome total (λ n. 0 < n) }
     requires workers { (1 ≤ workers) × (workers ≤ 64) }
-    ensures same { results.new ≡ record results.old { ends = results.new.ends } }
-    ensures kept { KeepsEnds results.old.ends results.new.ends }
+    requires blank { IsBlank results.old }
+    ensures line { (results.new.line ≡ results.old.line) × (results.new.limits ≡ results.old.limits) }
+    ensures ready { OnOk result (IsReady results.new.line.state.to_move results.new.ends) }
+    ensures spent { OnOk result (IsAllSpent total results.new) }
 {
     let alloc = results.jobs.alloc;
-    let seats = Vec::with_capacity(alloc, workers)?;
-    let (desk, all) = Desk::new(alloc, results.jobs.turns.len(), workers)?;
+    let seats = Vec::with_capacity(alloc, workers + 1)?;
+    let (desk, mut all) = Desk::new(alloc, results.jobs.turns.len(), workers + 1, total)?;
+    let Some(own) = all.pop() else { unreachable!() };
     let work = run_workers(rt, &results.jobs, &desk, log, gate, all)?;
-    let seats = gather(&desk, results, work, seats);
+    let mut seats = gather(&desk, results, work, seats);
+    let mut grants = SeatGrants::new(&desk, own);
+    results.search_missing(store, &mut grants);
+    seats.push_reserved(grants.into_seat());
     match desk.close(seats) {
         Ok(_) => Ok(()),
         Err(_) => unreachable!(),
     }
 }
 
+/// The answer to a line for which the store had none.
+fn solve_rest<R: Threads + Wait + Sync, G: Gate, S: Store>(
+    rt: &R,
+    alloc: Global,
+    mut results: Results<'_>,
+    total: Option<u32>,
+    workers: usize,
+    log: &CertLog,
+    gate: &G,
+    store: &mut S,
+) -> Answer
+    requires total { IfSome total (λ n. 0 < n) }
+    requires workers { (1 ≤ workers) × (workers ≤ 64) }
+    requires blank { IsBlank results }
+    ensures { IsAnswer results.entry.line results.entry.limits total result }
+{
+    match search_together(rt, &mut results, total, workers, log, gate, store) {
+        Ok(()) => finish(alloc, results, store),
+        Err(_) => no_memory(alloc),
+    }
+}
+
 /// Solves the line by 1 to 64 workers, which share the log. Each of them, and the caller, has a view of it. The log is asked
 /// first for a proof that wins at the line itself. Else each legal turn, in rising order, is a job: workers draw them and
 /// search each with the same budget and a depth one less, until one is settled for the side to move. The caller searches
-/// what they left, and the proof that the results make is offered to the log. The depth is at least 1, and nobody has won
-/// at the line.
+/// what they left, and the proof that the results make is offered to the log. Where there is a total, which is at least 1, all
+/// searches together expand at most so many nodes. The depth is at least 1, and nobody has won at the line.
 pub fn solve<R: Threads + Wait + Sync, G: Gate>(
     rt: &R,
     alloc: Global,
     line: &Line,
     limits: &Limits,
+    total: Option<u32>,
     workers: usize,
     log: &CertLog,
     gate: &G,
 ) -> Answer
     requires workers { (1 ≤ workers) × (workers ≤ 64) }
     requires limits { 1 ≤ limits.now.depth }
+    requires total { IfSome total (λ n. 0 < n) }
     requires open { winner_of line.now.frame line.now.state ≡ None }
-    ensures { IsAnswer line.now limits.now result }
+    ensures { IsAnswer line.now limits.now total result }
 {
     let Ok(view) = View::new(alloc, log) else {
-        return no_memory();
+        return no_memory(alloc);
     };
     let mut store = LogStore::new(rt, view);
     match begin(alloc, line, limits, &mut store) {
-        Ok(mut results) => {
-            if search_together(rt, &mut results, workers, log, gate).is_err() {
-                return no_memory();
-            }
-            finish(results, &mut store)
-        }
+        Ok(results) => solve_rest(rt, alloc, results, total, workers, log, gate, &mut store),
         Err(answer) => answer,
     }
 }

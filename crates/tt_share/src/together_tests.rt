@@ -3,15 +3,15 @@
 ghost use Rattle.std.specs.Prelude.{◌≤◌};
 
 use crate::alone_tests::{posed, verdict};
-use crate::{CertLog, Gate, LogStore, NoGate, View, solve};
+use crate::{Answer, CertLog, Gate, LogStore, NoGate, Stuck, View, solve};
 use std::alloc::Global;
 use std::sync::Wait;
 use std::sync::atomic::{AtomicU64, Ordering};
 use std::test::Fail;
 use std::thread;
 use std::thread::Threads;
-use tt_game::Side;
-use tt_search::{Limits, Store};
+use tt_game::{Line, Side, Turn};
+use tt_search::{Limits, Reason, Store};
 
 /// The answer to a problem by so many workers over the log: the verdict and the first turn.
 fn solved<R: Threads + Wait + Sync, G: Gate>(
@@ -32,36 +32,129 @@ fn solved<R: Threads + Wait + Sync, G: Gate>(
     if limits.depth() == 0 || line.winner().is_some() {
         return Err(Fail::new("nothing to solve"));
     }
-    let answer = solve(rt, alloc, &line, &limits, workers, log, gate);
+    let answer = solve(rt, alloc, &line, &limits, None, workers, log, gate);
     verdict(alloc, &line, answer)
 }
 
 #[test]
 fn verdicts_by_workers(rt: HostRuntime) -> Result<(), Fail> {
     let alloc = rt.alloc();
-    let rows: [(&[u8], u32, u16, &[u8]); 8] = [
-        (b"(;SZ[2:1]AW[ba]PL[B]TR[ba])", 100_000, 512, b"killed aa"),
-        (b"(;SZ[2:1]AW[ba]PL[W]TR[ba])", 100_000, 512, b"killed"),
-        (b"(;SZ[3:1]AW[ba]PL[W]TR[ba])", 100_000, 512, b"lives pass"),
-        (b"(;SZ[4:1]AW[ba]PL[B]TR[ba])", 100_000, 512, b"lives"),
+    let rows: [(&str, u32, u16, &[u8]); 8] = [
+        ("(;SZ[2:1]AW[ba]PL[B]TR[ba])", 100_000, 512, b"killed aa"),
+        ("(;SZ[2:1]AW[ba]PL[W]TR[ba])", 100_000, 512, b"killed"),
+        ("(;SZ[3:1]AW[ba]PL[W]TR[ba])", 100_000, 512, b"lives pass"),
+        ("(;SZ[4:1]AW[ba]PL[B]TR[ba])", 100_000, 512, b"lives"),
         (
-            b"(;SZ[4:1]AW[ba]PL[B]TR[ba]SQ[aa][ca])",
+            "(;SZ[4:1]AW[ba]PL[B]TR[ba]SQ[aa][ca])",
             100_000,
             512,
             b"killed ca",
         ),
-        (b"(;SZ[4:1]AW[ba]PL[B]TR[ba])", 1, 512, b"budget"),
-        (b"(;SZ[4:1]AW[ba]PL[B]TR[ba])", 100_000, 1, b"depth"),
-        (b"(;SZ[4:1]AB[ba]AW[ca]PL[B]TR[ca])", 1, 512, b"killed da"),
+        ("(;SZ[4:1]AW[ba]PL[B]TR[ba])", 1, 512, b"budget"),
+        ("(;SZ[4:1]AW[ba]PL[B]TR[ba])", 100_000, 1, b"depth"),
+        ("(;SZ[4:1]AB[ba]AW[ca]PL[B]TR[ca])", 1, 512, b"killed da"),
     ];
     for (problem, budget, depth, want) in rows {
         for workers in [1usize, 2, 64] {
             let log = CertLog::new(alloc)?;
             let limits = Limits::new(budget, depth);
-            let got = solved(&rt, alloc, problem, limits, workers, &log, &NoGate)?;
-            assert!(&rt; got.as_slice() == want);
+            let text = problem.as_bytes();
+            let got = solved(&rt, alloc, text, limits, workers, &log, &NoGate)?;
+            assert!(&rt; got.as_slice() == want, "{problem} {workers}");
         }
     }
+    Ok(())
+}
+
+/// The answer to a line by so many workers, under a budget and a total.
+fn within<R: Threads + Wait + Sync>(
+    rt: &R,
+    alloc: Global,
+    line: &Line,
+    budget: u32,
+    total: u32,
+    workers: usize,
+) -> Result<Answer, Fail>
+    requires total { 1 ≤ total }
+    requires workers { (1 ≤ workers) × (workers ≤ 64) }
+{
+    let log = CertLog::new(alloc)?;
+    let Some(limits) = Limits::new(budget, 512) else {
+        return Err(Fail::new("no limits"));
+    };
+    if line.winner().is_some() {
+        return Err(Fail::new("nothing to solve"));
+    }
+    Ok(solve(
+        rt,
+        alloc,
+        line,
+        &limits,
+        Some(total),
+        workers,
+        &log,
+        &NoGate,
+    ))
+}
+
+/// How the one expansion of a total was spent behind the two turns, where the answer tells it rightly: behind the stuck one, a
+/// play, as many as its search has expanded, and the rest behind a pass.
+fn spent_behind(stuck: &Stuck) -> Option<(u32, u32)> {
+    let [(play, first), (pass, second)] = stuck.spent.as_slice() else {
+        return None;
+    };
+    match &stuck.search {
+        Some(search) if search.expanded() == *first && *play == stuck.turn => {}
+        _ => return None,
+    }
+    if *pass != Turn::Pass || stuck.reason != Reason::Total {
+        return None;
+    }
+    Some((*first, *second))
+}
+
+/// Whether so many workers tell rightly how a total of one was spent, and settle the line under a total of three. The one is
+/// spent behind the play, or by a second worker behind the pass.
+fn is_told_by<R: Threads + Wait + Sync>(
+    rt: &R,
+    alloc: Global,
+    line: &Line,
+    workers: usize,
+) -> Result<bool, Fail>
+    requires { (1 ≤ workers) × (workers ≤ 64) }
+{
+    let Answer::Unsettled(stuck) = within(rt, alloc, line, 100_000, 1, workers)? else {
+        return Ok(false);
+    };
+    let spent = spent_behind(&stuck);
+    let answer = within(rt, alloc, line, 100_000, 3, workers)?;
+    let told = spent == Some((1, 0)) || workers > 1 && spent == Some((0, 1));
+    Ok(told && verdict(alloc, line, answer)?.as_slice() == b"killed ca".as_slice())
+}
+
+/// A play at the third point wins, and takes two expansions; a pass loses after one. So under a total of one the play is stuck,
+/// whichever of the two is granted it.
+#[test]
+fn totals_over_workers(rt: HostRuntime) -> Result<(), Fail> {
+    let alloc = rt.alloc();
+    let line = posed(alloc, b"(;SZ[4:1]AW[ba][da]PL[B]TR[ba])")?;
+    assert!(&rt; is_told_by(&rt, alloc, &line, 1)?, "1 worker");
+    assert!(&rt; is_told_by(&rt, alloc, &line, 2)?, "2 workers");
+    assert!(&rt; is_told_by(&rt, alloc, &line, 64)?, "64 workers");
+    Ok(())
+}
+
+/// One worker alone spends as many as the first turn needs, and where both budgets are spent, that of the first turn is named.
+#[test]
+fn the_budget_is_named_before_the_total(rt: HostRuntime) -> Result<(), Fail> {
+    let alloc = rt.alloc();
+    let line = posed(alloc, b"(;SZ[4:1]AW[ba][da]PL[B]TR[ba])")?;
+    let answer = within(&rt, alloc, &line, 100_000, 2, 1)?;
+    assert!(&rt; verdict(alloc, &line, answer)?.as_slice() == b"killed ca".as_slice());
+    let Answer::Unsettled(stuck) = within(&rt, alloc, &line, 1, 1, 1)? else {
+        return Err(Fail::new("settled"));
+    };
+    assert!(&rt; stuck.reason == Reason::Budget && stuck.spent.is_empty());
     Ok(())
 }
 
@@ -70,18 +163,29 @@ fn verdicts_by_workers(rt: HostRuntime) -> Result<(), Fail> {
 fn one_log_for_two_problems(rt: HostRuntime) -> Result<(), Fail> {
     let alloc = rt.alloc();
     let log = CertLog::new(alloc)?;
-    let rows: [(&[u8], &[u8]); 4] = [
-        (b"(;SZ[4:1]AW[ba][da]PL[B]TR[ba])", b"killed ca"),
-        (b"(;SZ[4:1]AW[ba][da]PL[B]TR[ba])", b"killed ca"),
-        (b"(;SZ[4:1]AW[ba];B[ca];W[da]TR[ba])", b"lives"),
-        (b"(;SZ[4:1]AW[ba][da]PL[B]TR[ba])", b"killed ca"),
+    let rows: [(&str, &[u8]); 4] = [
+        ("(;SZ[4:1]AW[ba][da]PL[B]TR[ba])", b"killed ca"),
+        ("(;SZ[4:1]AW[ba][da]PL[B]TR[ba])", b"killed ca"),
+        ("(;SZ[4:1]AW[ba];B[ca];W[da]TR[ba])", b"lives"),
+        ("(;SZ[4:1]AW[ba][da]PL[B]TR[ba])", b"killed ca"),
     ];
     for (problem, want) in rows {
         let limits = Limits::new(100_000, 512);
-        let got = solved(&rt, alloc, problem, limits, 2, &log, &NoGate)?;
-        assert!(&rt; got.as_slice() == want);
+        let got = solved(&rt, alloc, problem.as_bytes(), limits, 2, &log, &NoGate)?;
+        assert!(&rt; got.as_slice() == want, "{problem}");
     }
     Ok(())
+}
+
+/// Waits for another thread to set the flag, and answers whether it did in time.
+fn is_set_in_time(flag: &AtomicU64) -> bool {
+    for _ in 0..10_000_000u32 {
+        if flag.load(Ordering::SeqCst) == 1 {
+            return true;
+        }
+        thread::yield_now();
+    }
+    false
 }
 
 /// Holds the first job back until the second one has begun.
@@ -96,13 +200,7 @@ impl Gate for SideBySide {
         if job == 1 {
             self.second.store(1, Ordering::SeqCst);
         }
-        if job == 0 {
-            for _ in 0..10_000_000u32 {
-                if self.second.load(Ordering::SeqCst) == 1 {
-                    return;
-                }
-                thread::yield_now();
-            }
+        if job == 0 && !is_set_in_time(&self.second) {
             self.missed.store(1, Ordering::SeqCst);
         }
     }
@@ -135,6 +233,70 @@ fn jobs_run_side_by_side(rt: HostRuntime) -> Result<(), Fail> {
     let alloc = rt.alloc();
     for workers in [2usize, 64] {
         assert!(&rt; meet(&rt, alloc, workers)?, "{workers} workers");
+    }
+    Ok(())
+}
+
+/// Holds the first job back until the second one has ended, and its worker has had time to raise the mark.
+#[derive(Drop)]
+struct HeldBack {
+    ended: AtomicU64,
+    missed: AtomicU64,
+}
+
+impl Gate for HeldBack {
+    fn begin(&self, job: usize) {
+        if job != 0 {
+            return;
+        }
+        if !is_set_in_time(&self.ended) {
+            self.missed.store(1, Ordering::SeqCst);
+        }
+        for _ in 0..10_000u32 {
+            thread::yield_now();
+        }
+    }
+
+    fn end(&self, job: usize) {
+        if job == 1 {
+            self.ended.store(1, Ordering::SeqCst);
+        }
+    }
+}
+
+/// The answer by so many workers to a problem at which two turns win, where the least one's search begins after the other
+/// one has won.
+fn held_back<R: Threads + Wait + Sync>(
+    rt: &R,
+    alloc: Global,
+    workers: usize,
+) -> Result<Vec<u8>, Fail>
+    requires { (1 ≤ workers) × (workers ≤ 64) }
+{
+    let log = CertLog::new(alloc)?;
+    let gate = HeldBack {
+        ended: AtomicU64::new(0),
+        missed: AtomicU64::new(0),
+    };
+    let problem = b"(;SZ[7:1]AB[ca][ea]AW[ba][fa]PL[B]TR[ba][fa]SQ[aa][ga])";
+    let limits = Limits::new(100_000, 512);
+    let got = solved(rt, alloc, problem, limits, workers, &log, &gate)?;
+    if gate.missed.load(Ordering::SeqCst) != 0 {
+        return Err(Fail::new("the second job hasn't ended"));
+    }
+    Ok(got)
+}
+
+/// A job that was drawn is searched, though another one has won meanwhile: so the least turn that wins is shown.
+#[test]
+fn a_drawn_job_is_searched_after_a_win(rt: HostRuntime) -> Result<(), Fail> {
+    let alloc = rt.alloc();
+    for workers in [2usize, 64] {
+        let got = held_back(&rt, alloc, workers)?;
+        assert!(&rt;
+            got.as_slice() == b"killed aa".as_slice(),
+            "{workers} workers"
+        );
     }
     Ok(())
 }
@@ -178,7 +340,7 @@ fn told<R: Threads + Wait + Sync>(rt: &R, alloc: Global, workers: usize) -> Resu
 fn each_job_is_told(rt: HostRuntime) -> Result<(), Fail> {
     let alloc = rt.alloc();
     for workers in [1usize, 2, 64] {
-        assert!(&rt; told(&rt, alloc, workers)? == (3, 3));
+        assert!(&rt; told(&rt, alloc, workers)? == (3, 3), "{workers} workers");
     }
     Ok(())
 }
@@ -211,14 +373,15 @@ fn told_alone<R: Threads + Wait + Sync>(
 #[test]
 fn no_job_after_a_win(rt: HostRuntime) -> Result<(), Fail> {
     let alloc = rt.alloc();
-    let rows: [(&[u8], u32, &[u8], u64); 4] = [
-        (b"(;SZ[2:1]AW[ba]PL[B]TR[ba])", 100_000, b"killed aa", 1),
-        (b"(;SZ[4:1]AW[ba][da]PL[B]TR[ba])", 100_000, b"killed ca", 1),
-        (b"(;SZ[4:1]AB[ba]AW[ca]PL[B]TR[ca])", 1, b"killed da", 2),
-        (b"(;SZ[3:1]AW[ba]PL[W]TR[ba])", 100_000, b"lives pass", 3),
+    let rows: [(&str, u32, &[u8], u64); 4] = [
+        ("(;SZ[2:1]AW[ba]PL[B]TR[ba])", 100_000, b"killed aa", 1),
+        ("(;SZ[4:1]AW[ba][da]PL[B]TR[ba])", 100_000, b"killed ca", 1),
+        ("(;SZ[4:1]AB[ba]AW[ca]PL[B]TR[ca])", 1, b"killed da", 2),
+        ("(;SZ[3:1]AW[ba]PL[W]TR[ba])", 100_000, b"lives pass", 3),
     ];
     for (problem, budget, want, jobs) in rows {
-        assert!(&rt; told_alone(&rt, alloc, problem, budget, want)? == (jobs, jobs));
+        let told = told_alone(&rt, alloc, problem.as_bytes(), budget, want)?;
+        assert!(&rt; told == (jobs, jobs), "{problem}");
     }
     Ok(())
 }
@@ -311,12 +474,13 @@ fn begun_again<R: Threads + Wait + Sync>(
 #[test]
 fn a_solved_line_is_found(rt: HostRuntime) -> Result<(), Fail> {
     let alloc = rt.alloc();
-    let rows: [(&[u8], &[u8]); 2] = [
-        (b"(;SZ[4:1]AW[ba][da]PL[B]TR[ba])", b"killed ca"),
-        (b"(;SZ[4:1]AW[ba]PL[B]TR[ba])", b"lives"),
+    let rows: [(&str, &[u8]); 2] = [
+        ("(;SZ[4:1]AW[ba][da]PL[B]TR[ba])", b"killed ca"),
+        ("(;SZ[4:1]AW[ba]PL[B]TR[ba])", b"lives"),
     ];
     for (problem, want) in rows {
-        assert!(&rt; begun_again(&rt, alloc, problem, want)? == 0);
+        let begun = begun_again(&rt, alloc, problem.as_bytes(), want)?;
+        assert!(&rt; begun == 0, "{problem}");
     }
     Ok(())
 }

@@ -8,6 +8,7 @@ ghost use Rattle.tt_search.specs.Stores.{IsAnswer, IsNewest};
 ghost use Rattle.tt_search.specs.declared.store.Kept.TheVariants.{Stored, Full};
 ghost use Rattle.tt_share.specs.Log.{IsOf, Keeps, Extends, newest_first};
 
+use crate::bounds::MOST_KEPT;
 use crate::log::{CertLog, Token};
 use crate::taken::Taken;
 use std::alloc::Global;
@@ -18,12 +19,9 @@ use tt_proof::Proof;
 use tt_search::{BothSides, Kept};
 use tt_sgf::NoMemory;
 
-// How many proofs may be kept through one view.
-const MOST_KEPT: usize = 4096;
-
 /// What one store has taken in of a log: tokens, the oldest first, and how many proofs were kept through it. It takes 24
-/// bytes a token and 12 to 16 for the index of each, and up to twice that while it grows; the proofs stand in the log
-/// alone.
+/// bytes a token and 12 to 16 for the index of each, and 8 for each proof that was kept through it. Each of these lists
+/// holds up to twice as much once it has grown, and three times while it grows. The proofs stand in the log alone.
 #[derive(Drop)]
 pub struct View<'a> {
     log: &'a CertLog,
@@ -41,6 +39,7 @@ impl<'a> Model for View<'a> {
     ghost use Rattle.tt_sgf.specs.contracts.sets.PointSet as points;
     ghost use Rattle.tt_proof.specs.StrategyCode.{strategy_code};
     ghost use Rattle.tt_share.specs.Log.{Seen};
+    ghost use Rattle.tt_share.specs.declared.bounds.TheConstants.{MOST_KEPT};
 
     ghost Value = { Seen };
 
@@ -50,7 +49,7 @@ impl<'a> Model for View<'a> {
 
     ghost invariant = { λ v. record {
       of_log : v.taken.log ≡ v.log.now;
-      most : v.kept ≤ 4096;
+      most : v.kept ≤ MOST_KEPT;
     } };
 }
 
@@ -73,7 +72,7 @@ impl<'a> View<'a> {
 
     /// How many proofs may be kept through this view: 4,096.
     pub fn capacity(&self) -> usize
-        ensures { result ≡ 4096 }
+        ensures { result ≡ MOST_KEPT }
     {
         MOST_KEPT
     }
@@ -81,7 +80,7 @@ impl<'a> View<'a> {
     /// How many proofs were kept through this view: at most 4,096.
     pub fn kept(&self) -> usize
         ensures kept { result ≡ self.now.kept }
-        ensures most { result ≤ 4096 }
+        ensures most { result ≤ MOST_KEPT }
     {
         self.kept
     }
@@ -104,7 +103,7 @@ impl<'a> View<'a> {
     /// Keeps the proof: pushes it once, and takes its token in, where there is room and memory for it.
     pub fn keep(&mut self, rt: &impl Wait, p: Arc<Proof>) -> Kept
         ensures log { self.new.log ≡ self.old.log }
-        ensures full { (result ≡ Full) ↔ (self.old.kept ≡ 4096) }
+        ensures full { (result ≡ Full) ↔ (self.old.kept ≡ MOST_KEPT) }
         ensures stored { result ≡ Stored → Keeps self.old self.new (arc_value p) }
         ensures same { result ≢ Stored → self.new ≡ self.old }
     {
@@ -204,10 +203,7 @@ fn handle_of(found: Option<&Arc<Proof>>) -> Result<Option<Arc<Proof>>, NoMemory>
     ensures { IfOk result (λ o. option_map (λ p. arc_value p) o ≡ option_map (λ p. arc_value p.now) found.entry) }
 {
     match found {
-        Some(p) => match Arc::try_clone(p) {
-            Ok(handle) => Ok(Some(handle)),
-            Err(_) => Err(NoMemory),
-        },
+        Some(p) => Ok(Some(Arc::try_clone(p)?)),
         None => Ok(None),
     }
 }

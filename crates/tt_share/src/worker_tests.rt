@@ -16,7 +16,7 @@ use std::test::Fail;
 use std::thread::Threads;
 use tt_game::{Line, Side};
 use tt_proof::Proof;
-use tt_search::{End, Kept, Limits, Store};
+use tt_search::{End, Free, Kept, Limits, Store};
 use tt_sgf::NoMemory;
 
 /// A lone white stone, which lives: three turns, and none wins.
@@ -81,11 +81,12 @@ impl Store for Asked<'_> {
     }
 }
 
-/// A search asks its store at each of its steps, for the attacker and then for the defender: here at two, behind `begin`
-/// and before `end`.
-#[test]
-fn a_job_is_searched_between_begin_and_end(rt: HostRuntime) -> Result<(), Fail> {
-    let alloc = rt.alloc();
+/// How the search of the first job ends and how much it expanded, with the gate and the store that are told of it.
+fn search_of_first(
+    alloc: Global,
+    told: &AtomicU64,
+    store: &mut Asked<'_>,
+) -> Result<(End, u32), Fail> {
     let Some(limits) = Limits::new(1, 511) else {
         return Err(Fail::new("no limits"));
     };
@@ -94,25 +95,39 @@ fn a_job_is_searched_between_begin_and_end(rt: HostRuntime) -> Result<(), Fail> 
         return Err(Fail::new("nothing to search"));
     }
     let jobs = Jobs::of(alloc, &line, limits);
+    let gate = Told { told };
+    Ok(search_drawn(&jobs, &gate, 0, store, &mut Free::new()))
+}
+
+fn is_settled(end: &End) -> bool {
+    match end {
+        End::Settled(_) => true,
+        End::Stuck(_, _) => false,
+    }
+}
+
+/// A search asks its store at each of its steps, for the attacker and then for the defender: here at two, behind `begin`
+/// and before `end`.
+#[test]
+fn a_job_is_searched_between_begin_and_end(rt: HostRuntime) -> Result<(), Fail> {
     let told = AtomicU64::new(0);
     let mut store = Asked {
         told: &told,
         within: 0,
         astray: 0,
     };
-    match search_drawn(&jobs, &Told { told: &told }, 0, &mut store) {
-        End::Settled(_) => return Err(Fail::new("settled")),
-        End::Stuck(_, _) => {}
-    }
+    let (end, spent) = search_of_first(rt.alloc(), &told, &mut store)?;
+    assert!(&rt; !is_settled(&end) && spent == 1);
     assert!(&rt; told.load(Ordering::SeqCst) == 2);
     assert!(&rt; store.within == 4 && store.astray == 0);
     Ok(())
 }
 
-/// How many jobs there are, and how many of them have results after so many workers searched them.
-fn gathered<R: Threads + Wait + Sync>(
+/// How many jobs a line has, and how many of them have results after so many workers searched them.
+fn gathered_at<R: Threads + Wait + Sync>(
     rt: &R,
     alloc: Global,
+    line: &Line,
     workers: usize,
 ) -> Result<(usize, usize), Fail>
     requires { (1 ≤ workers) × (workers ≤ 64) }
@@ -120,23 +135,47 @@ fn gathered<R: Threads + Wait + Sync>(
     let Some(limits) = Limits::new(1, 512) else {
         return Err(Fail::new("no limits"));
     };
-    let line = posed(alloc, LONE)?;
     if line.winner().is_some() || limits.depth() == 0 {
         return Err(Fail::new("nothing to search"));
     }
     let log = CertLog::new(alloc)?;
-    let mut results = Results::of(alloc, &line, limits)?;
-    search_together(rt, &mut results, workers, &log, &NoGate)?;
+    let told = AtomicU64::new(0);
+    let mut store = Asked {
+        told: &told,
+        within: 0,
+        astray: 0,
+    };
+    let mut results = Results::of(alloc, line, limits)?;
+    search_together(rt, &mut results, None, workers, &log, &NoGate, &mut store)?;
+    if store.within > 0 || store.astray > 0 {
+        return Err(Fail::new("the caller searched"));
+    }
     let known = results.ends.iter().filter(|end| end.is_some()).count();
     Ok((results.count(), known))
 }
 
-/// Where no turn wins, each job has the result that a worker handed back, and none is left to the caller.
+/// The same for that problem.
+fn gathered<R: Threads + Wait + Sync>(
+    rt: &R,
+    alloc: Global,
+    workers: usize,
+) -> Result<(usize, usize), Fail>
+    requires { (1 ≤ workers) × (workers ≤ 64) }
+{
+    let line = posed(alloc, LONE)?;
+    gathered_at(rt, alloc, &line, workers)
+}
+
+/// Where no turn wins, each job has the result that a worker handed back, and none is left to the caller, whose store is asked
+/// nothing.
 #[test]
 fn each_result_is_gathered(rt: HostRuntime) -> Result<(), Fail> {
     let alloc = rt.alloc();
     for workers in [1usize, 2, 64] {
-        assert!(&rt; gathered(&rt, alloc, workers)? == (3, 3));
+        assert!(&rt;
+            gathered(&rt, alloc, workers)? == (3, 3),
+            "{workers} workers"
+        );
     }
     Ok(())
 }

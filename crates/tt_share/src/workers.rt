@@ -1,13 +1,16 @@
 //! Workers: threads that draw the jobs of a line at a desk and search them, and what comes back of them.
 
-ghost use Rattle.std.specs.Prelude.{◌≡◌, ◌≤◌, ◌<◌, ◌↔◌, ◌⊎◌, ◌||◌, [], ◌∷◌, ◌++◌, All, None, IfOk, IfNone, IfSome, IsTrue, length, vec_len, vec_capacity};
-ghost use Rattle.tt_share.specs.Jobs.{IsResultOf, IsResult};
+ghost use Rattle.std.specs.Prelude.{◌≡◌, ◌≤◌, ◌<◌, ◌↔◌, ◌+◌, ◌^◌, ◌⊎◌, ◌||◌, ℕ, [], ◌∷◌, ◌++◌, All, None, IfOk, IfNone, IfSome, IsTrue, length, sum_by, vec_len, vec_capacity};
+ghost use Rattle.tt_share.specs.Jobs.{IsResultOf, IsCountOf, AsksFor, IsResult};
 ghost use Rattle.tt_share.specs.Results.{KeepsEnds};
-ghost use Rattle.tt_share.specs.Seats.{seat_of};
-ghost use Rattle.tt_share.specs.Workers.{SomeWin, IsWork, IsPlaced, AllPlaced, AddsSpare, AllDrawn, jobs_of, AreGiven, AllGiven};
+ghost use Rattle.tt_share.specs.Answers.{spent_in_all};
+ghost use Rattle.tt_share.specs.Seats.{SeatView, seat_of};
+ghost use Rattle.tt_share.specs.declared.workers.HandedBack.{HandedBack};
+ghost use Rattle.tt_share.specs.Workers.{SomeWin, IsWork, held, times, spent_on, spent_by_all, AreApart, AllApart, IsPlaced, AllPlaced, AddsSpare, AllDrawn, jobs_of, AreGiven, AllGiven};
 
 use crate::desk::{Desk, Seat};
 use crate::gate::Gate;
+use crate::grants::SeatGrants;
 use crate::jobs::{Found, Jobs, is_stuck, trimmed};
 use crate::log::CertLog;
 use crate::log_store::LogStore;
@@ -16,7 +19,7 @@ use crate::view::View;
 use std::sync::Wait;
 use std::thread;
 use std::thread::Threads;
-use tt_search::{End, Store};
+use tt_search::{End, Grants, Store};
 use tt_sgf::NoMemory;
 
 /// What a worker hands back: its seat, and the results of the jobs that it drew.
@@ -27,46 +30,53 @@ pub(crate) struct HandedBack {
 }
 
 /// Searches a job, and tells the gate before and after.
-pub(crate) fn search_drawn<S: Store, G: Gate>(
+pub(crate) fn search_drawn<S: Store, G: Gate, A: Grants>(
     jobs: &Jobs<'_>,
     gate: &G,
     job: usize,
     store: &mut S,
-) -> End
+    grants: &mut A,
+) -> (End, u32)
     requires job { job < length jobs.now.turns.items }
-    ensures { IsResultOf jobs.now.line.now jobs.now.limits job result }
+    requires grants { (A.asked grants.old).granted < 2 ^ 62 }
+    ensures ends { IsResultOf jobs.now.line.now jobs.now.limits job result.0 }
+    ensures counted { IsCountOf jobs.now.line.now jobs.now.limits job result.1 result.0 }
+    ensures asks { AsksFor (A.asked grants.old) result.1 result.0 (A.asked grants.new) }
+    ensures source { A.source grants.new ≡ A.source grants.old }
 {
     gate.begin(job);
-    let end = jobs.search(job, store);
+    let (end, spent) = jobs.search(job, store, grants);
     gate.end(job);
-    end
+    (end, spent)
 }
 
 /// Raises the mark where a job was settled for the side to move.
-fn raise_for(desk: &Desk, seat: &mut Seat, won: bool)
-    requires { seat.old.desk ≡ desk.now.id }
-    ensures { seat.new ≡ seat_of seat.old.desk seat.old.numbers (seat.old.mark || won) seat.old.sighting }
+fn raise_for(grants: &mut SeatGrants<'_>, won: bool)
+    ensures desk { grants.new.desk.now ≡ grants.old.desk.now }
+    ensures counts { (grants.new.granted ≡ grants.old.granted) × (grants.new.refused ≡ grants.old.refused) }
+    ensures seat { grants.new.seat ≡ seat_of grants.old.seat.desk grants.old.seat.numbers grants.old.seat.grants (grants.old.seat.mark || won) grants.old.seat.sighting }
 {
     if won {
-        desk.raise(seat);
+        grants.desk.raise(&mut grants.seat);
     }
 }
 
 /// Draws a job, with room for its result. A seat that raised the mark, or sees it or saw it before, draws no more.
-fn next_job(desk: &Desk, seat: &mut Seat, found: &mut Vec<Found>) -> Option<usize>
-    requires { seat.old.desk ≡ desk.now.id }
-    ensures seat { (seat.new.desk ≡ seat.old.desk) × (seat.new.mark ≡ seat.old.mark) }
-    ensures saw { IsTrue seat.old.sighting → IsTrue seat.new.sighting }
-    ensures stopped { IsTrue (seat.new.mark || seat.new.sighting) → (result ≡ None) × (seat.new.numbers ≡ seat.old.numbers) }
-    ensures job { IfSome result (λ n. (n < desk.now.jobs) × (length seat.old.numbers ≤ n) × (seat.new.numbers ≡ seat.old.numbers ++ n ∷ [])) }
-    ensures spare { IfNone result (AddsSpare desk.now.jobs seat.old.numbers seat.new.numbers) }
+fn next_job(grants: &mut SeatGrants<'_>, found: &mut Vec<Found>) -> Option<usize>
+    ensures desk { grants.new.desk.now ≡ grants.old.desk.now }
+    ensures counts { (grants.new.granted ≡ grants.old.granted) × (grants.new.refused ≡ grants.old.refused) }
+    ensures seat { (grants.new.seat.desk ≡ grants.old.seat.desk) × (grants.new.seat.mark ≡ grants.old.seat.mark) }
+    ensures saw { IsTrue grants.old.seat.sighting → IsTrue grants.new.seat.sighting }
+    ensures stopped { IsTrue (grants.new.seat.mark || grants.new.seat.sighting) → (result ≡ None) × (grants.new.seat.numbers ≡ grants.old.seat.numbers) }
+    ensures job { IfSome result (λ n. (n < grants.old.desk.now.jobs) × (length grants.old.seat.numbers ≤ n) × (grants.new.seat.numbers ≡ grants.old.seat.numbers ++ n ∷ [])) }
+    ensures spare { IfNone result (AddsSpare grants.old.desk.now.jobs grants.old.seat.numbers grants.new.seat.numbers) }
     ensures room { IfSome result (λ _. vec_len found.new < vec_capacity found.new) }
     ensures found { found.new.items ≡ found.old.items }
 {
-    if desk.raised(seat) || found.reserve(1).is_err() {
+    if grants.desk.raised(&mut grants.seat) || found.reserve(1).is_err() {
         return None;
     }
-    desk.draw(seat)
+    grants.desk.draw(&mut grants.seat)
 }
 
 /// Draws jobs and searches them until no job is left, the mark is seen or memory is refused. Room for a result comes
@@ -76,23 +86,26 @@ pub(crate) fn work<S: Store, G: Gate>(
     jobs: &Jobs<'_>,
     desk: &Desk,
     gate: &G,
-    mut seat: Seat,
+    seat: Seat,
     store: &mut S,
 ) -> HandedBack
     requires jobs { desk.now.jobs ≡ length jobs.now.turns.items }
-    requires seat { seat.desk ≡ desk.now.id }
-    ensures work { IsWork jobs.now.line.now jobs.now.limits desk.now.id result }
+    requires seat { (seat.desk ≡ desk.now.id) × (seat.grants ≡ []) }
+    ensures work { IsWork jobs.now.line.now jobs.now.limits desk.now result }
     ensures drawn { AddsSpare desk.now.jobs (seat.numbers ++ jobs_of result.found.items) result.seat.numbers }
     ensures mark { IsTrue result.seat.mark → IsTrue seat.mark ⊎ SomeWin jobs.now.line.now.state.to_move result.found.items }
 {
     let mut found = Vec::new(jobs.alloc);
     let mut past_stuck = false;
-    while let Some(job) = next_job(desk, &mut seat, &mut found) {
-        let end = trimmed(past_stuck, search_drawn(jobs, gate, job, store));
+    let mut grants = SeatGrants::new(desk, seat);
+    while let Some(job) = next_job(&mut grants, &mut found) {
+        let (end, spent) = search_drawn(jobs, gate, job, store, &mut grants);
+        let end = trimmed(past_stuck, end);
         past_stuck = past_stuck || is_stuck(&end);
-        raise_for(desk, &mut seat, jobs.is_won(&end));
-        found.push_reserved(Found { job, end });
+        raise_for(&mut grants, jobs.is_won(&end));
+        found.push_reserved(Found { job, end, spent });
     }
+    let seat = grants.into_seat();
     HandedBack { seat, found }
 }
 
@@ -106,8 +119,8 @@ fn work_over<R: Wait, G: Gate>(
     seat: Seat,
 ) -> HandedBack
     requires jobs { desk.now.jobs ≡ length jobs.now.turns.items }
-    requires seat { seat.desk ≡ desk.now.id }
-    ensures work { IsWork jobs.now.line.now jobs.now.limits desk.now.id result }
+    requires seat { (seat.desk ≡ desk.now.id) × (seat.grants ≡ []) }
+    ensures work { IsWork jobs.now.line.now jobs.now.limits desk.now result }
     ensures drawn { AddsSpare desk.now.jobs (seat.numbers ++ jobs_of result.found.items) result.seat.numbers }
 {
     match View::new(jobs.alloc, log) {
@@ -132,14 +145,14 @@ pub(crate) fn run_workers<R: Threads + Wait + Sync, G: Gate>(
     seats: Vec<Seat>,
 ) -> Result<Vec<HandedBack>, NoMemory>
     requires jobs { desk.now.jobs ≡ length jobs.now.turns.items }
-    requires seats { All (λ s. s.desk ≡ desk.now.id) seats.items }
-    ensures work { IfOk result (λ v. All (IsWork jobs.now.line.now jobs.now.limits desk.now.id) v.items) }
+    requires seats { All (λ s. (s.desk ≡ desk.now.id) × (s.grants ≡ [])) seats.items }
+    ensures work { IfOk result (λ v. All (IsWork jobs.now.line.now jobs.now.limits desk.now) v.items) }
     ensures drawn { IfOk result (λ v. AllDrawn desk.now.jobs seats.items v.items) }
     ensures len { IfOk result (λ v. vec_len v ≡ vec_len seats) }
 {
     let worker = |seat: Seat| -> HandedBack
-        requires { (desk.now.jobs ≡ length jobs.now.turns.items) × (seat.desk ≡ desk.now.id) }
-        ensures work { IsWork jobs.entry.now.line.now jobs.entry.now.limits desk.entry.now.id result }
+        requires { (desk.now.jobs ≡ length jobs.now.turns.items) × (seat.desk ≡ desk.now.id) × (seat.grants ≡ []) }
+        ensures work { IsWork jobs.entry.now.line.now jobs.entry.now.limits desk.entry.now result }
         ensures drawn { AddsSpare desk.entry.now.jobs (seat.numbers ++ jobs_of result.found.items) result.seat.numbers }
     { work_over(rt, jobs, desk, log, gate, seat) };
     match thread::map_vec(rt, seats, &worker) {
@@ -151,7 +164,9 @@ pub(crate) fn run_workers<R: Threads + Wait + Sync, G: Gate>(
 /// Puts the results of one worker at their places.
 fn gather_one(results: &mut Results<'_>, mut found: Vec<Found>)
     requires found { All (IsResult results.old.line results.old.limits) found.items }
-    ensures same { results.new ≡ record results.old { ends = results.new.ends } }
+    ensures same { results.new ≡ record results.old { ends = results.new.ends; spent = results.new.spent } }
+    ensures held { (job : ℕ) → held results.new.ends job ≤ held results.old.ends job + times job found.items }
+    ensures spent { AreApart results.old.ends found.items → spent_in_all results.new.spent ≡ spent_in_all results.old.spent + spent_on found.items }
     ensures len { length results.new.ends ≡ length results.old.ends }
     ensures kept { KeepsEnds results.old.ends results.new.ends }
     ensures placed { All (IsPlaced results.new.ends) found.items }
@@ -162,16 +177,19 @@ fn gather_one(results: &mut Results<'_>, mut found: Vec<Found>)
     }
 }
 
-/// Puts the results of all workers at their places, and their seats into a list that has room for them.
+/// Puts the results of all workers at their places, and their seats into a list that has room for one more.
 pub(crate) fn gather(
     desk: &Desk,
     results: &mut Results<'_>,
     mut work: Vec<HandedBack>,
     mut seats: Vec<Seat>,
 ) -> Vec<Seat>
-    requires work { All (IsWork results.old.line results.old.limits desk.now.id) work.items }
-    requires room { (seats.items ≡ []) × (vec_len work ≤ vec_capacity seats) }
-    ensures same { results.new ≡ record results.old { ends = results.new.ends } }
+    requires work { All (IsWork results.old.line results.old.limits desk.now) work.items }
+    requires room { (seats.items ≡ []) × (vec_len work < vec_capacity seats) }
+    ensures same { results.new ≡ record results.old { ends = results.new.ends; spent = results.new.spent } }
+    ensures spent { AllApart results.old.ends work.items → spent_in_all results.new.spent ≡ spent_in_all results.old.spent + spent_by_all work.items }
+    ensures backs { (weight : SeatView → ℕ) → sum_by weight result.items ≡ sum_by (λ (b : HandedBack). weight b.seat) work.items }
+    ensures room { vec_len result < vec_capacity result }
     ensures kept { KeepsEnds results.old.ends results.new.ends }
     ensures placed { All (AllPlaced results.new.ends) work.items }
     ensures given { AllGiven results.old.ends results.new.ends work.items }

@@ -1,3 +1,6 @@
+use Rattle.std.proofs.Common.{Option, IfSome, subst}
+use Rattle.tt_share.specs.declared.answer.Answer.{Answer}
+use Rattle.tt_share.specs.Answers.{IsAnswer}
 use Rattle.tt_share.proofs.alone.begin.Goals as goal
 
 pub returns-in-Err-clause-answer : goal.returns-in-Err-clause-answer
@@ -5,3 +8,7 @@ returns-in-Err-clause-answer g c = c.no_memory.ensures c.args.line.now c.args.li
 
 pub returns-in-Err-of-clause-answer : goal.returns-in-Err-of-clause-answer
 returns-in-Err-of-clause-answer g c = c.no_memory-in-Err-of.ensures c.args.line.now c.args.limits.now
+
+pub returns-in-Ok-Some-clause-answer : goal.returns-in-Ok-Some-clause-answer
+returns-in-Ok-Some-clause-answer g c = λ total. subst
+    (λ (o : Option Answer). IfSome o (λ (a : Answer). IsAnswer c.args.line.now c.args.limits.now total a)) c.in-Ok-Some.field-0-is (c.in-Ok-Some.ensures total)

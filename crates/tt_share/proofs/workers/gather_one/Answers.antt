@@ -1,8 +1,9 @@
-use Rattle.std.proofs.Common.{◌∷◌, All, Some, ◌∙◌}
+use Rattle.std.proofs.Common.{◌∷◌, All, Some, ◌∙◌, arith}
 use Rattle.std.proofs.lemmas.List.Elements.{All-pop}
 use Rattle.tt_share.specs.Jobs.{IsResult}
 use Rattle.tt_share.specs.Workers.{IsPlaced}
 use Rattle.tt_share.proofs.Placing.{same_asked, same_twice, keeps, places, keeps_twice, all_still, all_more, taken_more, taken_there, given_more}
+use Rattle.tt_share.proofs.Apart.{held_fewer, spent_fewer}
 use Rattle.tt_share.proofs.workers.gather_one.Goals as goal
 
 pub loop-one-preserved : goal.loop-one-preserved
@@ -16,6 +17,11 @@ loop-one-preserved c =
     record {
       left = same_asked (λ line limits. All (IsResult line limits) c.pop.new.self.items) old new c.put.ensures.same both.0;
       same = same_twice c.args.results.now old new c.loop-one.invariant.same c.put.ensures.same;
+      spent = λ apart.
+          (let most = apart one.job in
+          spent_fewer old new one c.loop-one.found.items c.pop.new.self.items _ c.in-Some.ensures.items (omega (arith, most, c.loop-one.invariant.held one.job)) c.put.ensures.notes
+          (c.loop-one.invariant.spent apart));
+      held = λ job. held_fewer old.ends new.ends one c.loop-one.found.items c.pop.new.self.items c.in-Some.ensures.items c.put.ensures.puts job _ (c.loop-one.invariant.held job);
       len = c.put.ensures.puts.len ∙ c.loop-one.invariant.len;
       kept = keeps_twice c.args.results.now.ends old.ends new.ends c.loop-one.invariant.kept kept;
       given = given_more c.args.results.now.ends old.ends new.ends c.args.found.items _ one (taken_there _ _ _ was.0 one was.1 c.in-Some.ensures.items) c.put.ensures.puts c.loop-one.invariant.given;
@@ -25,3 +31,6 @@ loop-one-preserved c =
         all_more (IsPlaced new.ends) one was.0 (places old.ends new.ends one c.put.ensures.puts) (all_still old.ends new.ends was.0 c.put.ensures.puts.len kept was.2),
       );
     }
+
+pub put-requires : goal.put-requires
+put-requires c = record { found = (All-pop (IsResult c.loop-one.results.line c.loop-one.results.limits) _ _ (Some c.in-Some.one) c.in-Some.ensures.items c.loop-one.invariant.left).1 }

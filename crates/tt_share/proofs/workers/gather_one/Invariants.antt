@@ -1,14 +1,17 @@
-use Rattle.std.proofs.Common.{◌≡◌, ◌++◌, All, List, length, vec_len}
+use Rattle.std.proofs.Common.{◌≡◌, ℕ, ◌+◌, ◌≤◌, ◌++◌, All, List, length, vec_len}
 use Rattle.tt_share.specs.declared.jobs.Found.{Found}
 use Rattle.tt_share.specs.Jobs.{IsResult}
 use Rattle.tt_share.specs.Results.{KeepsEnds}
-use Rattle.tt_share.specs.Workers.{IsPlaced, AreGiven}
+use Rattle.tt_share.specs.Answers.{spent_in_all}
+use Rattle.tt_share.specs.Workers.{times, spent_on, held, AreApart, IsPlaced, AreGiven}
 use Rattle.tt_share.proofs.workers.gather_one.Given as goal
 
 abbrev pub invariant-loop-one : goal.invariant-loop-one
 invariant-loop-one l = record {
   left : All (IsResult l.results.line l.results.limits) l.found.items;
-  same : l.results ≡ record l.initial.results { ends = l.results.ends };
+  same : l.results ≡ record l.initial.results { ends = l.results.ends; spent = l.results.spent };
+  spent : AreApart l.initial.results.ends l.fn.found.items → spent_in_all l.results.spent + spent_on l.found.items ≡ spent_in_all l.initial.results.spent + spent_on l.fn.found.items;
+  held : (job : ℕ) → held l.results.ends job + times job l.found.items ≤ held l.initial.results.ends job + times job l.fn.found.items;
   len : length l.results.ends ≡ length l.initial.results.ends;
   kept : KeepsEnds l.initial.results.ends l.results.ends;
   given : AreGiven l.initial.results.ends l.results.ends l.fn.found.items;

@@ -1,9 +1,9 @@
-use Rattle.std.proofs.Common.{ℕ, List, sym, ap, ◌∙◌, subst, ◌≡◌, arith}
+use Rattle.std.proofs.Common.{◌≡◌, ℕ, List, Option, MatchOption, min, sym, ap, ◌∙◌, subst, arith}
 use lib.ListN.{get_elem?}
 use mathlib.Core.Option.{some-injective}
-use Rattle.tt_share.specs.Seats.{DeskView, SeatView, Closes}
+use Rattle.tt_share.specs.Seats.{DeskView, SeatView, EachOnce, Spends}
 use Rattle.tt_share.specs.Gathering.{Gathers}
-use Rattle.tt_share.proofs.DeskClosing.{closes}
+use Rattle.tt_share.proofs.DeskClosing.{End, closes, grants_by}
 use Rattle.tt_share.proofs.desk.Desk.close.Goals as goal
 
 pub returns : goal.returns
@@ -14,7 +14,18 @@ returns c =
     let seats : List SeatView = c.args.seats.items in
     let jobs = ap (λ (d : DeskView). d.jobs) c.self.view_is in
     let places = ap (λ (d : DeskView). d.seats) c.self.view_is in
-    let draws : kept.0 ≡ c.word-draws.result = some-injective _ _ (sym (ap (λ (l : List ℕ). get_elem? l 0) (sym end.2 ∙ kept.2)) ∙ c.word-draws.ensures) in
+    let total = ap (λ (d : DeskView). d.total) c.self.view_is in
+    let words = sym end.2 ∙ kept.3 in
+    let draws : kept.0 ≡ c.word-draws.result = some-injective _ _ (sym (ap (λ (l : List ℕ). get_elem? l 0) words) ∙ c.word-draws.ensures) in
+    let asked : kept.2 ≡ c.word.result = some-injective _ _ (sym (ap (λ (l : List ℕ). get_elem? l 2) words) ∙ c.word.ensures) in
     let all = subst (λ (l : List SeatView). Gathers l c.join_all-whole.result.me.0) (sym c.in-Some.ensures.items) c.join_all-whole.ensures.view in
-    subst (λ (n : ℕ). Closes desk seats n) draws
-    (closes desk _ _ _ _ _ _ seats (omega arith) (omega arith) (omega arith) (omega arith) (omega arith) all kept.3 end.1.1)
+    let shown : End desk seats kept.0 kept.2 = closes desk _ _ _ _ _ _ _ seats (omega arith) (omega arith) (omega arith) (omega arith) (omega arith) all kept.4 end.1.1 in record {
+      seats_are_all = omega arith;
+      draws_each_once = subst (λ (n : ℕ). EachOnce (λ (s : SeatView). s.numbers) n seats) draws shown.draws;
+      jobs_drawn = shown.jobs_drawn;
+      draws_most = let e = shown.draws_most in omega arith;
+      draws_are = λ each. let e = shown.draws_are each in omega arith;
+      sighted = shown.sighted;
+      granted = subst (λ (o : Option ℕ). MatchOption o (c.capped-granted.result ≡ 0) (λ n. Spends n c.capped-granted.result seats)) total
+          (grants_by c.self.inside.total _ _ c.word.result seats c.capped-granted.ensures c.self.invariant.total_is (λ n p. subst (λ (w : ℕ). Spends n (min w n) seats) asked (shown.grants n p)));
+    }

@@ -2,15 +2,20 @@ use Rattle.std.proofs.Common.{◌≡◌, ◌<◌, ◌∷◌, ◌++◌, [], Some,
 use Rattle.tt_game.specs.declared.turns.Turn.{Turn}
 use Rattle.tt_game.specs.Turns.{legal_turns}
 use Rattle.tt_proof.specs.Proven.{Proven}
+use Rattle.tt_search.specs.Searched.{Searched}
+use Rattle.tt_search.specs.declared.limits.Reason.{Reason}
 use Rattle.tt_search.specs.declared.search.End.{End}
 use Rattle.tt_search.specs.declared.search.End.TheVariants.{Settled, Stuck}
 use Rattle.tt_share.specs.Beginning.{BeginsWith}
 use Rattle.tt_share.specs.Jobs.{AreResults, EndsBehind, IsJob, HasWon}
-use Rattle.tt_share.specs.Results.{Progress, HasEnd, HaveLost, IsLost, AllWon, NoWin, IsStuckAt}
+use Rattle.tt_share.specs.Answers.{IsAnswer, told_of}
+use Rattle.tt_share.specs.Results.{Progress, AreNoted, HasEnd, HaveLost, IsLost, AllWon, NoWin, IsStuckAt}
 use Rattle.tt_share.proofs.Lost.{legal_job, lesser_lose, one_more}
 use Rattle.tt_share.proofs.Placing.{seen, shown}
+use Rattle.tt_share.proofs.Noting.{spent_told}
 use Rattle.tt_share.proofs.StuckBehind.{says}
-use Rattle.tt_share.proofs.Wins.{none_at, least_at, same_turn, stuck_same, same_stuck, settled_here, not_stuck_more, stuck_within, job_here, rest_same, not_missing, lost_side, win_within, ends_here}
+use Rattle.tt_share.proofs.Wins.{all_filled, none_at, least_at, same_turn, stuck_same, same_stuck, settled_here, not_stuck_more}
+use Rattle.tt_share.proofs.Wins.{stuck_within, job_here, rest_same, not_missing, lost_side, win_within, ends_here}
 use Rattle.tt_share.proofs.results.Results.conclude.Goals as goal
 
 pub picked-requires-clause-legal : goal.picked-requires-clause-legal
@@ -72,7 +77,7 @@ returns-in-Some-Stuck-clause-answer c =
     let i = c.loop-job.job in
     let turn = c.index-turns-job-in-loop-job.result in
     let are : AreResults c.args.self.line c.args.self.limits c.args.self.ends = shown
-    (λ l m es. AreResults l m es) c.self.inside.jobs.line.now c.self.inside.jobs.limits c.self.inside.ends.items c.args.self c.self.view_is c.self.invariant.are in
+    (λ l m es. AreResults l m es) c.self.inside.jobs.line.now c.self.inside.jobs.limits c.self.inside.ends.items c.self.inside.spent.items c.args.self c.self.view_is c.self.invariant.are in
     let job : IsJob c.args.self.line i turn = job_here c.args.self.line c.as_slice-turns.result.now i i turn turns refl c.loop-job-test.true c.index-turns-job-in-loop-job.is in
     let next : IsJob c.args.self.line (length c.loop-job.children.items) turn =
     job_here c.args.self.line c.as_slice-turns.result.now i (length c.loop-job.children.items) turn turns
@@ -81,7 +86,17 @@ returns-in-Some-Stuck-clause-answer c =
     ap (λ (p : Progress). slice_get p.ends i) (sym c.self.view_is) ∙ (sym (c.loop-job.invariant.same i (omega arith)) ∙ c.in-Some-Stuck.ensures.taken) in
     let behind = ends_here c.args.self.line c.args.self.limits i turn c.in-Some-Stuck.field-0 _ c.in-Some-Stuck.field-0-is (are i c.in-Some-Stuck.field-0 there) job in
     let lesser = lesser_lose c.args.self.line c.args.self.limits c.loop-job.children.items turn next c.loop-job.invariant.lost in
-    says c.args.self.line c.args.self.limits c.in-Some-Stuck.reason c.in-Some-Stuck.search turn (legal_job c.args.self.line i turn job) lesser behind
+    let this : HasEnd c.args.self.ends i (Stuck c.in-Some-Stuck.reason c.in-Some-Stuck.search) = subst (HasEnd c.args.self.ends i) c.in-Some-Stuck.field-0-is there in
+    let side : c.to_move.result ≡ c.args.self.line.state.to_move = c.to_move.ensures ∙ ap (λ (p : Progress). p.line.state.to_move) c.self.view_is in
+    let ends : c.as_slice.result.now ≡ c.args.self.ends = c.as_slice.ensures.value ∙ ap (λ (p : Progress). p.ends) c.self.view_is in
+    let none : NoWin c.args.self.line.state.to_move c.args.self.ends = none_at c.args.self.line.state.to_move c.to_move.result c.args.self.ends c.as_slice.result.now
+    side ends c.in_default.ensures.least in
+    let noted = subst (λ (p : Progress). AreNoted p.line p.limits p.ends p.spent) c.self.view_is c.self.invariant.noted in
+    let told = c.told.ensures ∙ ap (λ (p : Progress). told_of c.in-Some-Stuck.reason p.spent) c.self.view_is in
+    λ total all. says c.args.self.line c.args.self.limits total _ (legal_job c.args.self.line i turn job) lesser c.args.self.spent c.in-Some-Stuck.reason c.in-Some-Stuck.search refl behind told
+    (λ held reason is. spent_told c.args.self total i turn held noted (all_filled c.args.self.line.state.to_move c.args.self.ends none c.requires.ready)
+    (subst (λ (r : Reason). HasEnd c.args.self.ends i (Stuck r (Some held))) reason (subst (λ (o : Option Searched). HasEnd c.args.self.ends i (Stuck c.in-Some-Stuck.reason o)) is this))
+    job all)
 
 pub returns-in-Some-Stuck-clause-picks : goal.returns-in-Some-Stuck-clause-picks
 returns-in-Some-Stuck-clause-picks c =
@@ -98,7 +113,7 @@ returns-in-Some-Stuck-clause-stuck c =
     let i = c.loop-job.job in
     let turn = c.index-turns-job-in-loop-job.result in
     let are : AreResults c.args.self.line c.args.self.limits c.args.self.ends = shown
-    (λ l m es. AreResults l m es) c.self.inside.jobs.line.now c.self.inside.jobs.limits c.self.inside.ends.items c.args.self c.self.view_is c.self.invariant.are in
+    (λ l m es. AreResults l m es) c.self.inside.jobs.line.now c.self.inside.jobs.limits c.self.inside.ends.items c.self.inside.spent.items c.args.self c.self.view_is c.self.invariant.are in
     let job : IsJob c.args.self.line i turn = job_here c.args.self.line c.as_slice-turns.result.now i i turn turns refl c.loop-job-test.true c.index-turns-job-in-loop-job.is in
     let next : IsJob c.args.self.line (length c.loop-job.children.items) turn =
     job_here c.args.self.line c.as_slice-turns.result.now i (length c.loop-job.children.items) turn turns
@@ -106,9 +121,11 @@ returns-in-Some-Stuck-clause-stuck c =
     let there : HasEnd c.args.self.ends i c.in-Some-Stuck.field-0 =
     ap (λ (p : Progress). slice_get p.ends i) (sym c.self.view_is) ∙ (sym (c.loop-job.invariant.same i (omega arith)) ∙ c.in-Some-Stuck.ensures.taken) in
     let this : HasEnd c.args.self.ends i (Stuck c.in-Some-Stuck.reason c.in-Some-Stuck.search) = subst (HasEnd c.args.self.ends i) c.in-Some-Stuck.field-0-is there in
+    let told = c.told.ensures ∙ ap (λ (p : Progress). told_of c.in-Some-Stuck.reason p.spent) c.self.view_is in
     λ other t reason search none least at.
-    same_stuck c.args.self.line c.args.self.ends i other turn t c.in-Some-Stuck.reason reason c.in-Some-Stuck.search search
-    (stuck_same c.args.self.ends i other c.in-Some-Stuck.reason reason c.in-Some-Stuck.search search this c.loop-job.invariant.unstuck least) this least.stuck job at
+    (let same = same_stuck c.args.self.line c.args.self.ends i other turn t c.in-Some-Stuck.reason reason c.in-Some-Stuck.search search
+    (stuck_same c.args.self.ends i other c.in-Some-Stuck.reason reason c.in-Some-Stuck.search search this c.loop-job.invariant.unstuck least) this least.stuck job at in
+    (same.0, same.1, same.2, told ∙ ap (λ (r : Reason). told_of r c.args.self.spent) same.1))
 
 pub returns-in-Some-Stuck-clause-replies : goal.returns-in-Some-Stuck-clause-replies
 returns-in-Some-Stuck-clause-replies c =
@@ -142,7 +159,7 @@ loop-job-preserved c =
     let i = c.loop-job.job in
     let turn = c.index-turns-job-in-loop-job.result in
     let are : AreResults c.args.self.line c.args.self.limits c.args.self.ends = shown
-    (λ l m es. AreResults l m es) c.self.inside.jobs.line.now c.self.inside.jobs.limits c.self.inside.ends.items c.args.self c.self.view_is c.self.invariant.are in
+    (λ l m es. AreResults l m es) c.self.inside.jobs.line.now c.self.inside.jobs.limits c.self.inside.ends.items c.self.inside.spent.items c.args.self c.self.view_is c.self.invariant.are in
     let job : IsJob c.args.self.line i turn = job_here c.args.self.line c.as_slice-turns.result.now i i turn turns refl c.loop-job-test.true c.index-turns-job-in-loop-job.is in
     let next : IsJob c.args.self.line (length c.loop-job.children.items) turn =
     job_here c.args.self.line c.as_slice-turns.result.now i (length c.loop-job.children.items) turn turns
@@ -169,7 +186,8 @@ loop-job-preserved c =
 
 pub replied-requires-clause-lost : goal.replied-requires-clause-lost
 replied-requires-clause-lost c =
-    seen (λ l m. HaveLost l m c.loop-job.children.items) c.self.inside.jobs.line.now c.self.inside.jobs.limits c.self.inside.ends.items c.args.self c.self.view_is c.loop-job.invariant.lost
+    seen (λ l m. HaveLost l m c.loop-job.children.items) c.self.inside.jobs.line.now c.self.inside.jobs.limits c.self.inside.ends.items c.self.inside.spent.items c.args.self c.self.view_is
+    c.loop-job.invariant.lost
 
 pub replied-requires-clause-all : goal.replied-requires-clause-all
 replied-requires-clause-all c =
@@ -192,3 +210,13 @@ returns-clause-stuck c =
     (let here : IsStuckAt c.args.self.ends job = (Stuck reason search, stuck.stuck, tt) in
     let within = stuck_within c.args.self.ends job here in
     absurd (c.loop-job.invariant.unstuck job (omega (arith, within, long, all, c.self.inside.ends.ok.0, c.self.invariant.one_each, c.loop-job-test.false)) here))
+
+pub returns-in-Some-clause-answer : goal.returns-in-Some-clause-answer
+returns-in-Some-clause-answer c = λ total all. shown
+    (λ l m es. IfOk c.picked.result (IsAnswer l m total)) c.self.inside.jobs.line.now c.self.inside.jobs.limits c.self.inside.ends.items c.self.inside.spent.items c.args.self c.self.view_is
+    (c.picked.ensures.answer total)
+
+pub returns-clause-answer : goal.returns-clause-answer
+returns-clause-answer c = λ total all. shown
+    (λ l m es. IfOk c.replied.result (IsAnswer l m total)) c.self.inside.jobs.line.now c.self.inside.jobs.limits c.self.inside.ends.items c.self.inside.spent.items c.args.self c.self.view_is
+    (c.replied.ensures.answer total)

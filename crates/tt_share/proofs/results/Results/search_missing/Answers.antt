@@ -2,6 +2,7 @@ use Rattle.std.proofs.Common.{◌∙◌, ◌<◌, ◌+◌, ℕ, sym, ap, subst, 
 use Rattle.tt_game.specs.declared.frame.Side.{Side}
 use Rattle.tt_share.specs.Results.{Progress, IsWinAt, StopsAtWin}
 use Rattle.tt_share.proofs.Placing.{same_twice, keeps_twice}
+use Rattle.tt_share.proofs.Asked.{asked_nothing, asked_twice}
 use Rattle.tt_share.proofs.Wins.{ready_by, filled_more, no_win, win_kept, lost_more, same_more, stops_at, stops_never}
 use Rattle.tt_share.proofs.results.Results.search_missing.Goals as goal
 
@@ -47,9 +48,21 @@ loop-job-preserved g c =
     → ¬ IsWinAt old.line.state.to_move new.ends k = lost_more old.line.state.to_move old.ends new.ends c.loop-job.job c.loop-job.invariant.lost c.search_job.ensures.others this in
     record {
       same = same_twice first old new c.loop-job.invariant.same c.search_job.ensures.same;
+      asks = asked_twice first old new (g.G.Grants.asked c.args.grants.now) (g.G.Grants.asked c.loop-job.grants) (g.G.Grants.asked c.search_job.new.grants)
+          c.loop-job.invariant.asks c.search_job.ensures.asks;
+      few = omega (arith, c.loop-job.invariant.few, c.search_job.ensures.few);
+      source = c.search_job.ensures.source ∙ c.loop-job.invariant.source;
       len = c.search_job.ensures.len ∙ c.loop-job.invariant.len;
       kept = keeps_twice first.ends old.ends new.ends c.loop-job.invariant.kept c.search_job.ensures.kept;
       filled = filled_more old.ends new.ends c.loop-job.job c.loop-job.invariant.filled c.search_job.ensures.others c.search_job.ensures.filled;
       lost = subst (λ (s : Side). (k : ℕ) → k < c.loop-job.job + 1 → ¬ IsWinAt s new.ends k) (sym side) lost;
       rest = same_more first.ends old.ends new.ends c.loop-job.job c.loop-job.invariant.rest c.search_job.ensures.others;
     }
+
+pub returns-in-Some-clause-asks : goal.returns-in-Some-clause-asks
+returns-in-Some-clause-asks g c = asked_nothing c.args.self.now (g.G.Grants.asked c.args.grants.now)
+
+pub returns-then-search_job-clause-asks : goal.returns-then-search_job-clause-asks
+returns-then-search_job-clause-asks g c =
+    asked_twice c.args.self.now c.loop-job.self c.search_job.new.self (g.G.Grants.asked c.args.grants.now) (g.G.Grants.asked c.loop-job.grants) (g.G.Grants.asked c.search_job.new.grants)
+    c.loop-job.invariant.asks c.search_job.ensures.asks

@@ -1,12 +1,12 @@
-use Rattle.std.proofs.Common.{map, rules, ◌∙◌, sym, arith}
+use Rattle.std.proofs.Common.{map, rules, arith}
 use Rattle.std.specs.Arc.{arc_value}
 use Rattle.std.proofs.lemmas.List.{length-map}
-use Rattle.tt_share.proofs.PlaceLemmas.{index-snoc, nodes-snoc, map-snoc, on_no_err}
+use Rattle.tt_share.proofs.PlaceLemmas.{index-snoc, nodes-snoc, map-snoc}
 use Rattle.tt_share.proofs.table.TableState.append.Goals as goal
 
 pub invariant_of-self-2 : goal.invariant_of-self-2
 invariant_of-self-2 c =
-    let noted = on_no_err c.note_place.result (sym c.is_err-2.ensures.value ∙ c.if-is_err-2.false) c.note_place.ensures.ok in
+    let noted = c.in_ok-note_place.ensures.ok in
     let m = map-snoc arc_value c.self.inside.proofs.items c.reserve.new.self.items c.push_reserved.new.self.items c.args.p c.reserve.ensures.items c.push_reserved.ensures.items in
     let added = c.saturating_add-self-inside.ensures in
     let size = c.requires.size in

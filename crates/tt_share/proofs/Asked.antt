@@ -1,0 +1,49 @@
+-- What is asked for while results are put.
+use Rattle.std.proofs.Common.{◌≡◌, inl, inr, Bool, true, false, Option, Some, None, slice_get, refl, sym, ap, subst, ◌∙◌, arith, List}
+use Rattle.std.proofs.lemmas.Option.{same_Some}
+use Rattle.tt_search.specs.Grants.{Asked}
+use Rattle.tt_search.specs.declared.search.End.{End}
+use Rattle.tt_search.specs.declared.search.End.TheVariants.{Settled, Stuck}
+use Rattle.tt_share.specs.declared.jobs.Found.{Found}
+use Rattle.tt_share.specs.Jobs.{IsForTotal, AsksFor, kept_of}
+use Rattle.tt_share.specs.Results.{Progress, AskedFor, Puts, Notes}
+use Rattle.tt_share.proofs.ResultLemmas.{read_after}
+
+-- what is kept as stuck for the total was so
+pub total_kept : (past : Bool) (end : End) → IsForTotal (kept_of past end) → IsForTotal end
+total_kept past (Settled p) h = h
+total_kept false (Stuck reason o) h = h
+total_kept true (Stuck reason o) h = absurd h
+
+-- a result of a job that had none, with what was asked for it
+pub asked_put : (old new : Progress) (f : Found) (before after : Asked) → slice_get old.ends f.job ≡ Some None → Puts old.ends new.ends f → Notes old new f → AsksFor before f.spent f.end after
+    → AskedFor old before new after
+asked_put old new f before after free puts notes asks = record {
+  spent = let s = notes.put free in let g = asks.granted in omega (arith, s, g);
+  refused = λ h. (
+      let p = puts.put free in
+      let read = ap (λ (l : List (Option End)). slice_get l h.0) (sym p.2) ∙ h.2 in
+      elim (read_after old.ends f.job h.0 (Some (kept_of p.0 f.end)) (Some h.1) read) [
+        | inl k ↦ inr (asks.refused (total_kept p.0 f.end (subst IsForTotal (sym (same_Some (kept_of p.0 f.end) h.1 k.1)) h.3)))
+        | inr k ↦ inl (h.0, h.1, k, h.3)
+      ]);
+  still = asks.still;
+}
+
+-- nothing is asked for where nothing is put
+pub asked_nothing : (p : Progress) (asked : Asked) → AskedFor p asked p asked
+asked_nothing p asked = record { spent = refl; refused = λ h. inl h; still = λ e. e }
+
+-- what is asked for in two parts
+pub asked_twice : (a b c : Progress) (x y z : Asked) → AskedFor a x b y → AskedFor b y c z → AskedFor a x c z
+asked_twice a b c x y z first second = record {
+  spent = let s = first.spent in let t = second.spent in omega (arith, s, t);
+  refused = λ h. elim (second.refused h) [
+    | inl k ↦ elim (first.refused k) [
+      | inl m ↦ inl m
+      | inr m ↦ inr (second.still m)
+    ]
+    | inr k ↦ inr k
+  ];
+  still = λ e. second.still (first.still e);
+}

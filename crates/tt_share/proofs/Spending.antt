@@ -1,0 +1,186 @@
+-- All of a total is spent where a search was refused.
+use Rattle.std.proofs.Common.{◌≡◌, ℕ, zero, suc, ◌+◌, ◌<◌, ◌≤◌, List, [], ◌∷◌, ◌++◌, Option, Some, None, All, Contains, Bool, true, false, slice_get, replicate, sum_by, count_by, cond, leb, nat_eq}
+use Rattle.std.proofs.Common.{MatchOption}
+use Rattle.std.proofs.Common.{inl, inr, true≢false, refl, sym, ap, subst, ◌∙◌, arith, zero-le}
+use Rattle.std.proofs.lemmas.Bool.{cases_lt}
+use Rattle.std.proofs.lemmas.Bool.Decides.{nat_tests}
+use Rattle.std.proofs.lemmas.List.Elements.{Contains-push}
+use Rattle.std.proofs.lemmas.List.Sums.{sum_by_push, sum_by-cons}
+use Rattle.std.proofs.lemmas.Option.{none-some, same_Some}
+use mathlib.Core.Logic.{dite}
+use native.Mathlib.Decide.{ℕ_discrete}
+use Rattle.tt_game.specs.Line.{Standing}
+use Rattle.tt_search.specs.Grants.{Asked}
+use Rattle.tt_search.specs.declared.limits.Limits.{Limits}
+use Rattle.tt_search.specs.declared.search.End.{End}
+use Rattle.tt_share.specs.declared.desk.Closed.{Closed}
+use Rattle.tt_share.specs.declared.jobs.Found.{Found}
+use Rattle.tt_share.specs.declared.workers.HandedBack.{HandedBack}
+use Rattle.tt_share.specs.Answers.{spent_in_all}
+use Rattle.tt_share.specs.Jobs.{IsForTotal}
+use Rattle.tt_share.specs.Results.{Progress, HasTotal, IsAllSpent, AskedFor}
+use Rattle.tt_share.specs.Seats.{DeskView, SeatView, EndsSpare, EachOnce, Spends, Closes, granted_of, last_number, occurrences}
+use Rattle.tt_share.specs.Tallies.{Tallies}
+use Rattle.tt_share.specs.Workers.{times, spent_on, spent_by_all, held, held_in, AllApart, AllGiven, SomeTotal, IsWork}
+use Rattle.tt_share.proofs.Apart.{none_times, held_most}
+use Rattle.tt_share.proofs.Asked.{total_kept}
+use Rattle.tt_share.proofs.LastWins.{read_more}
+use Rattle.tt_share.proofs.Noting.{all_at, blank_none}
+
+-- ---- lists
+
+-- where each element weighs no more than it does otherwise, so do all
+sum_most : {A : Type 0} (P : A → Type 0) (f g : A → ℕ) (xs : List A) → ((a : A) → P a → f a ≤ g a) → All P xs → sum_by f xs ≤ sum_by g xs
+sum_most P f g [] each all = zero-le
+sum_most P f g (x ∷ xs) each all =
+    let one = each x (all 0 x (omega arith)) in
+    let more = sum_most P f g xs each (λ k d short. all (suc k) d (omega (arith, short))) in
+    omega (arith, one, more, sum_by-cons f x xs, sum_by-cons g x xs)
+
+-- an element weighs no more than the list
+weighs : {A : Type 0} (f : A → ℕ) (xs : List A) (i : ℕ) (x : A) → slice_get xs i ≡ Some x → f x ≤ sum_by f xs
+weighs f [] i x is = absurd (none-some x is)
+weighs f (y ∷ ys) zero x is = let e = ap f (same_Some y x is) in omega (arith, e, sum_by-cons f y ys)
+weighs f (y ∷ ys) (suc i) x is = let e = weighs f ys i x is in omega (arith, e, sum_by-cons f y ys)
+
+-- what weighs something has an element that does
+some_weighs : {A : Type 0} (f : A → ℕ) (xs : List A) → 0 < sum_by f xs → (x : A) × Contains xs x × (0 < f x)
+some_weighs f [] more = absurd (omega (arith, more))
+some_weighs {A} f (y ∷ ys) more = dite (ℕ_discrete (f y) 0)
+    (λ none.
+    (let h = some_weighs f ys (omega (arith, more, none, sum_by-cons f y ys)) in
+    let low = h.1.1 in
+    (h.0, (suc h.1.0, omega (arith, low), h.1.2), h.2)))
+    (λ some_here. (y, (0, omega arith, refl), omega (arith, some_here)))
+
+-- one value again and again is read at each place
+blank_at : {X : Type 0} (x : X) (n i : ℕ) → i < n → slice_get (replicate n x) i ≡ Some x
+blank_at x zero i low = absurd (omega (arith, low))
+blank_at x (suc n) zero low = refl
+blank_at x (suc n) (suc i) low = blank_at x n i (omega (arith, low))
+
+-- weights of nothing add up to nothing
+nothing : {A : Type 0} (xs : List A) → sum_by (λ (_ : A). 0) xs ≡ 0
+nothing [] = refl
+nothing {A} (x ∷ xs) = let e = nothing xs in omega (arith, e, sum_by-cons (λ (_ : A). 0) x xs)
+
+-- ---- seats that were refused
+
+-- 1 where the numbers end with one that is no grant
+abbrev refusal : ℕ → SeatView → ℕ
+refusal total s = cond (leb total (last_number s.grants)) 1 0
+
+refused_weighs : (total : ℕ) (s : SeatView) → EndsSpare total s.grants → refusal total s ≡ 1
+refused_weighs total s e = grind (arith, nat_tests, e)
+
+weighs_refused : (total : ℕ) (s : SeatView) → 0 < refusal total s → EndsSpare total s.grants
+weighs_refused total s e = grind (arith, nat_tests, e)
+
+-- a count that says that one was refused says so of a total
+pub refused_total : (total : Option ℕ) (grants : List ℕ) (count : ℕ) (refused : Bool) → Tallies total grants count refused → refused ≡ true → (n : ℕ) × (total ≡ Some n) × EndsSpare n grants
+refused_total None grants count refused h up = absurd (true≢false (sym up ∙ h.0 refl))
+refused_total (Some n) grants count refused h up = (n, refl, (h.1 n refl).1 up)
+
+-- where one more result is stuck for the total, one was refused
+pub refused_more : (found more : List Found) (f : Found) (before after : Bool) → more ≡ found ++ f ∷ [] → (IsForTotal f.end → after ≡ true) → (before ≡ true → after ≡ true)
+    → (SomeTotal found → before ≡ true) → SomeTotal more → after ≡ true
+refused_more found more f before after is this still was (i, g, at, stuck) = elim (read_more found f i g (sym (ap (λ (l : List Found). slice_get l i) is) ∙ at)) [
+  | inl h ↦ still (was (i, g, h, stuck))
+  | inr h ↦ this (subst (λ (x : Found). IsForTotal x.end) (sym h.1) stuck)
+]
+
+most_one : (list : SeatView → List ℕ) (drawn : ℕ) (seats : List SeatView) → EachOnce list drawn seats → (job : ℕ) → occurrences list job seats ≤ 1
+most_one list drawn seats once job = elim (cases_lt job drawn) [
+  | inl h ↦ let e = once.below job h in omega (arith, e)
+  | inr h ↦ let e = once.above job (omega arith) in omega (arith, e)
+]
+
+-- where none was refused, no job is stuck for a total
+pub none_asked : (n : ℕ) (first last : Progress) (before after : Asked) (total : Option ℕ) → first.ends ≡ replicate n None → after.refused ≡ false → AskedFor first before last after
+    → IsAllSpent total last
+none_asked n first last before after total blank none asked h = elim (asked.refused h) [
+  | inl was ↦ absurd (blank_none n was.0 was.1 (ap (λ (l : List (Option End)). slice_get l was.0) (sym blank) ∙ was.2))
+  | inr up ↦ absurd (true≢false (sym up ∙ none))
+]
+
+-- ---- all workers and the caller
+
+module _ (line : Standing) (limits : Limits) (desk : DeskView) (closed : Closed) (work : List HandedBack) (seats : List SeatView) (own : SeatView)
+    (works : All (IsWork line limits desk) work)
+    (backs : (weight : SeatView → ℕ) → sum_by weight seats ≡ sum_by (λ (b : HandedBack). weight b.seat) work)
+    (closes : Closes desk (seats ++ own ∷ []) closed) where
+  -- no job comes twice, as the desk gave out no number twice
+  pub all_apart : (ends : List (Option End)) → ends ≡ replicate desk.jobs None → AllApart ends work
+  all_apart ends blank job = elim (cases_lt job desk.jobs) [
+    | inl h ↦
+        let weight = λ (s : SeatView). count_by (λ n. nat_eq n job) s.numbers in
+        let free : held ends job ≡ 0 = ap held_in (ap (λ (l : List (Option End)). slice_get l job) blank ∙ blank_at None desk.jobs job h) in
+        let drawn = sum_most (IsWork line limits desk) (λ (b : HandedBack). times job b.found.items) (λ (b : HandedBack). weight b.seat) work (λ b w. w.drawn job) works in
+        let once = most_one (λ s. s.numbers) closed.draws (seats ++ own ∷ []) closes.draws_each_once job in
+        omega (arith, free, drawn, once, backs weight, sum_by_push weight seats own)
+    | inr h ↦
+        let past : desk.jobs ≤ job = omega arith in
+        let none = sum_most (IsWork line limits desk) (λ (b : HandedBack). times job b.found.items) (λ (b : HandedBack). 0) work
+        (λ b w. let e = none_times job desk.jobs b.found.items past w.jobs in omega (arith, e)) works in
+        omega (arith, none, nothing work, held_most (slice_get ends job))
+  ]
+
+  -- what all searches expanded is what all seats were granted
+  spent_granted : (total : ℕ) → desk.total ≡ Some total → spent_by_all work ≡ sum_by (λ (s : SeatView). granted_of total s.grants) seats
+  spent_granted total is =
+      let weight = λ (s : SeatView). granted_of total s.grants in
+      let less = sum_most (IsWork line limits desk) (λ (b : HandedBack). spent_on b.found.items) (λ (b : HandedBack). weight b.seat) work
+      (λ b w. let e = w.spent total is in omega (arith, e)) works in
+      let more = sum_most (IsWork line limits desk) (λ (b : HandedBack). weight b.seat) (λ (b : HandedBack). spent_on b.found.items) work
+      (λ b w. let e = w.spent total is in omega (arith, e)) works in
+      omega (arith, less, more, backs weight)
+
+  -- a worker's seat that was refused is among the seats
+  refused_there : (i : ℕ) (b : HandedBack) (total : ℕ) → slice_get work i ≡ Some b → EndsSpare total b.seat.grants → (s : SeatView) × Contains (seats ++ own ∷ []) s × EndsSpare total s.grants
+  refused_there i b total at spare =
+      let one = weighs (λ (c : HandedBack). refusal total c.seat) work i b at in
+      let some_seat = some_weighs (refusal total) (seats ++ own ∷ [])
+      (omega (arith, one, refused_weighs total b.seat spare, backs (refusal total), sum_by_push (refusal total) seats own)) in
+      (some_seat.0, some_seat.1, weighs_refused total some_seat.0 some_seat.2)
+
+  module _ (first mid last : Progress) (before : Asked) (count : ℕ) (refused : Bool) (none : before.granted ≡ 0) (blank : first.ends ≡ replicate desk.jobs None)
+      (unspent : spent_in_all first.spent ≡ 0)
+      (gathered : AllApart first.ends work → spent_in_all mid.spent ≡ spent_in_all first.spent + spent_by_all work) (given : AllGiven first.ends mid.ends work)
+      (asked : AskedFor mid before last (record { granted = count; refused = refused })) (tally : Tallies desk.total own.grants count refused) where
+    -- some seat was refused where a job is stuck for the total
+    some_refused : HasTotal last.ends → (total : ℕ) × (desk.total ≡ Some total) × ((s : SeatView) × Contains (seats ++ own ∷ []) s × EndsSpare total s.grants)
+    some_refused h = elim (asked.refused h) [
+      | inr up ↦ let t = refused_total desk.total own.grants count refused tally up in (t.0, t.1, (own, Contains-push seats own, t.2))
+      | inl was ↦ elim (given was.0 was.1 was.2) [
+        | inl had ↦ absurd (blank_none desk.jobs was.0 was.1 (sym (ap (λ (l : List (Option End)). slice_get l was.0) blank) ∙ had))
+        | inr g ↦
+            let f = g.3.1 in
+            let stuck : IsForTotal f.end = total_kept g.3.2 f.end (subst IsForTotal g.3.6 was.3) in
+            let w = all_at (IsWork line limits desk) work g.0 g.1 g.2 works in
+            let t = w.refused (g.3.0, f, g.3.3, stuck) in
+            (t.0, t.1, refused_there g.0 g.1 t.0 g.2 t.2)
+      ]
+    ]
+
+    -- then all of it is spent
+    pub all_spent : IsAllSpent desk.total last
+    all_spent h =
+        let s = some_refused h in
+        let spends = subst (λ (o : Option ℕ). MatchOption o (closed.granted ≡ 0) (λ total. Spends total closed.granted (seats ++ own ∷ []))) s.1 closes.granted in
+        let all = spends.refused s.2.0 s.2.1 s.2.2 in
+        let granted = spends.granted_is in
+        let caller = (tally.1 s.0 s.1).0 in (
+          s.0,
+          s.1,
+          omega (
+            arith,
+            all,
+            granted,
+            caller,
+            sum_by_push (λ (t : SeatView). granted_of s.0 t.grants) seats own,
+            spent_granted s.0 s.1,
+            gathered (all_apart first.ends blank),
+            unspent,
+            asked.spent,
+          ),
+        )
