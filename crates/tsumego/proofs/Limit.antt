@@ -77,26 +77,26 @@ check_whole input text status h = record { finding = h.finding; finds = found_wh
 answer_whole : (c : Command) (input text : List ℕ) (status : ℕ) → IsAnswer c (take (MAX_BYTES + 1) input) text status → IsAnswer c input text status
 answer_whole Score input text status h = trees_whole Scores input text status h
 answer_whole Check input text status h = check_whole input text status h
-answer_whole (Solve limits workers cert) input text status h = trees_whole (Solves limits cert) input text status h
+answer_whole (Solve limits total workers cert) input text status h = trees_whole (Solves limits total cert) input text status h
 
 -- a beginning of an answer to that part is a beginning of one to the input
 begun_whole : (c : Command) (input text : List ℕ) → BeginsAnswer c (take (MAX_BYTES + 1) input) text → BeginsAnswer c input text
 begun_whole Score input text h = trees_begun Scores input text h
 begun_whole Check input text (inl e) = inl e
 begun_whole Check input text (inr h) = inr (h.0, check_whole input text h.0 h.1)
-begun_whole (Solve limits workers cert) input text h = trees_begun (Solves limits cert) input text h
+begun_whole (Solve limits total workers cert) input text h = trees_begun (Solves limits total cert) input text h
 
 -- and so it is with an earlier part
 earlier_whole : (c : Command) (input text : List ℕ) → IsEarlierPart c (take (MAX_BYTES + 1) input) text → IsEarlierPart c input text
 earlier_whole Score input text h = trees_earlier Scores input text h
 earlier_whole Check input text e = e
-earlier_whole (Solve limits workers cert) input text h = trees_earlier (Solves limits cert) input text h
+earlier_whole (Solve limits total workers cert) input text h = trees_earlier (Solves limits total cert) input text h
 
 -- the empty text is an earlier part of an answer
 nothing_earlier : (c : Command) (input : List ℕ) → IsEarlierPart c input []
 nothing_earlier Score input = nothing
 nothing_earlier Check input = refl
-nothing_earlier (Solve limits workers cert) input = nothing
+nothing_earlier (Solve limits total workers cert) input = nothing
 
 module _ (c : Command) where
   -- what is written on the part up to the limit is written on the input

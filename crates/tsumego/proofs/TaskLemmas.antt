@@ -18,7 +18,8 @@ pub written : (c : Command) (t : Task) (input : List ℕ) (r : Result ℕ RunFau
 written Score tasks.Score input r a b e h = h
 written Score (tasks.Solve options) input r a b e h = absurd e
 written Check t input r a b e h = absurd e
-written (Solve limits workers cert) tasks.Score input r a b e h = absurd e
-written (Solve limits workers cert) (tasks.Solve options) input r a b e h =
-    subst (λ (l : Limits). Writes (Solve l workers cert) input r a b) e.0
-    (subst (λ (x : Bool). Writes (Solve options.limits workers x) input r a b) e.2 h)
+written (Solve limits total workers cert) tasks.Score input r a b e h = absurd e
+written (Solve limits total workers cert) (tasks.Solve options) input r a b e h =
+    subst (λ (l : Limits). Writes (Solve l total workers cert) input r a b) e.0
+    (subst (λ (o : Option ℕ). Writes (Solve options.limits o workers cert) input r a b) e.1
+    (subst (λ (x : Bool). Writes (Solve options.limits options.total workers x) input r a b) e.3 h))

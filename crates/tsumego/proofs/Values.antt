@@ -55,8 +55,8 @@ record Says (p : Standing) (side : Side) (rest : List ℕ) : Type 0 where
   text : first_text p.frame.size first ++ newline ∷ lines ≡ rest
 
 -- a verdict that begins with a side's word says so
-says : (p : Standing) (limits : Limits) (cert : Bool) (side : Side) (rest text : List ℕ) → Verdict p limits cert text → text ≡ side_word side ++ rest → Says p side rest
-says p limits cert side rest text (decided s first lines valued keeps more) e =
+says : (p : Standing) (limits : Limits) (total : Option ℕ) (cert : Bool) (side : Side) (rest text : List ℕ) → Verdict p limits total cert text → text ≡ side_word side ++ rest → Says p side rest
+says p limits total cert side rest text (decided s first lines valued keeps more) e =
     let size = p.frame.size in
     let parts : decided_text size s first ++ lines ≡ side_word s ++ (first_text size first ++ newline ∷ lines) =
     append_assoc (side_word s) (first_text size first ++ newline ∷ []) lines ∙ ap (λ (x : List ℕ). side_word s ++ x) (append_assoc (first_text size first) (newline ∷ []) lines) in
@@ -68,11 +68,11 @@ says p limits cert side rest text (decided s first lines valued keeps more) e =
       first_is = subst (λ (x : Side). IsFirst p x first) same.0 keeps;
       text = same.1;
     }
-says p limits cert Attacker rest text (unsettled reason h) e = let bad : 117 ≡ 107 = ap (byte 0) e in absurd (omega (arith, bad))
-says p limits cert Defender rest text (unsettled reason h) e = let bad : 117 ≡ 108 = ap (byte 0) e in absurd (omega (arith, bad))
+says p limits total cert Attacker rest text (unsettled reason h) e = let bad : 117 ≡ 107 = ap (byte 0) e in absurd (omega (arith, bad))
+says p limits total cert Defender rest text (unsettled reason h) e = let bad : 117 ≡ 108 = ap (byte 0) e in absurd (omega (arith, bad))
 
 -- verdicts name the value, and the turn behind the word
 pub are_values : VerdictsAreValues
-are_values p limits cert side rest v =
-    let said = says p limits cert side rest (side_word side ++ rest) v refl in
+are_values p limits total cert side rest v =
+    let said = says p limits total cert side rest (side_word side ++ rest) v refl in
     (said.valued, λ first lines e. subst (λ (o : Option Turn). IsFirst p side o) (firsts_same p.frame.size said.first first said.lines lines (said.text ∙ e)) said.first_is)

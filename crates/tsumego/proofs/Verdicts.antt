@@ -15,7 +15,7 @@ use Rattle.tt_proof.specs.Wins.{Wins}
 use Rattle.tt_proof.proofs.ForcesLemmas.{win_forces}
 use Rattle.tt_search.specs.declared.limits.Limits.{Limits}
 use Rattle.tt_search.specs.declared.limits.Reason.{Reason}
-use Rattle.tt_search.specs.declared.limits.Reason.TheVariants.{Budget, Depth, Memory}
+use Rattle.tt_search.specs.declared.limits.Reason.TheVariants.{Budget, Depth, Total, Memory}
 use Rattle.tt_share.specs.declared.answer.Stuck.{Stuck}
 use Rattle.tt_share.specs.Answers.{IsSettled}
 use Rattle.tt_share.specs.Answers as answer
@@ -44,31 +44,32 @@ module _ (line : Standing) (is : IsState line.frame line.state) where
   )
 
   -- a strategy that wins within the limit on depth makes a verdict
-  won_verdict : (limits : Limits) (side : Side) (u : Strategy) (cert : Bool) → IsWon side line.frame line.state u → depth u ≤ limits.depth
+  won_verdict : (limits : Limits) (total : Option ℕ) (side : Side) (u : Strategy) (cert : Bool) → IsWon side line.frame line.state u → depth u ≤ limits.depth
       → (side ≡ line.state.to_move → IsSome (first_of u))
-      → Verdict line limits cert (decided_text line.frame.size side (first_of u) ++ (if cert then certificate_line line.frame.size side u else []))
-  won_verdict limits side u cert w low shown =
+      → Verdict line limits total cert (decided_text line.frame.size side (first_of u) ++ (if cert then certificate_line line.frame.size side u else []))
+  won_verdict limits total side u cert w low shown =
       decided side (first_of u) (if cert then certificate_line line.frame.size side u else []) (won_value side line.frame u line.state is w.wins)
       (first_keeps side u w.wins shown) (follows limits side u cert w low)
 
   -- the text of a proof that stands at the problem
-  pub settled_verdict : (limits : Limits) (cert : Bool) (p : Proven) (first : Option Turn) (size : Size) (text : List ℕ) → IsSettled line limits p first
+  pub settled_verdict : (limits : Limits) (total : Option ℕ) (cert : Bool) (p : Proven) (first : Option Turn) (size : Size) (text : List ℕ) → IsSettled line limits p first
       → IsWon p.side p.frame p.state p.tree → size ≡ line.frame.size
-      → text ≡ decided_text size p.side first ++ (if cert then certificate_line size p.side p.tree else []) → Verdict line limits cert text
-  settled_verdict limits cert p first size text h w same e =
+      → text ≡ decided_text size p.side first ++ (if cert then certificate_line size p.side p.tree else []) → Verdict line limits total cert text
+  settled_verdict limits total cert p first size text h w same e =
       let won : IsWon p.side line.frame line.state p.tree =
       subst (λ (s : State). IsWon p.side line.frame s p.tree) h.stands.1 (subst (λ (f : Frame). IsWon p.side f p.state p.tree) h.stands.0 w) in
       let shown : p.side ≡ line.state.to_move → IsSome (first_of p.tree) = λ is. subst (λ (o : Option Turn). IsSome o) h.first_is (h.shown.1 is) in
       let is = e ∙ ap₂ (λ (x : Size) (o : Option Turn). decided_text x p.side o ++ (if cert then certificate_line x p.side p.tree else [])) same h.first_is in
-      subst (λ (x : List ℕ). Verdict line limits cert x) (sym is) (won_verdict limits p.side p.tree cert won h.low shown)
+      subst (λ (x : List ℕ). Verdict line limits total cert x) (sym is) (won_verdict limits total p.side p.tree cert won h.low shown)
 
 -- the text of a stuck turn
-pub stuck_verdict : (line : Standing) (limits : Limits) (cert : Bool) (stuck : Stuck) (text : List ℕ) → answer.IsUnsettled line limits stuck.reason stuck
-    → text ≡ unsettled_text stuck.reason → Verdict line limits cert text
-stuck_verdict line limits cert stuck text h e = subst (λ (x : List ℕ). Verdict line limits cert x) (sym e) (unsettled stuck.reason (held stuck.reason h))
+pub stuck_verdict : (line : Standing) (limits : Limits) (total : Option ℕ) (cert : Bool) (stuck : Stuck) (text : List ℕ) → answer.IsUnsettled line limits total stuck.reason stuck
+    → text ≡ unsettled_text stuck.reason → Verdict line limits total cert text
+stuck_verdict line limits total cert stuck text h e = subst (λ (x : List ℕ). Verdict line limits total cert x) (sym e) (unsettled stuck.reason (held stuck.reason h))
   where
     -- what the stuck turn says is what the verdict says for the reason
-    held : (reason : Reason) → answer.IsUnsettled line limits reason stuck → IsUnsettled line limits reason
+    held : (reason : Reason) → answer.IsUnsettled line limits total reason stuck → IsUnsettled line limits total reason
     held Budget h = (stuck.turn, h.0, h.2)
     held Depth h = (stuck.turn, h.0, h.2)
+    held Total h = (h.0, h.1, stuck.turn, h.2, stuck.spent.items, h.4, h.5)
     held Memory h = tt

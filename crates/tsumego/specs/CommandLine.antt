@@ -1,10 +1,11 @@
 -- What the command line says.
-use Rattle.std.specs.Prelude.{◌≡◌, ◌≤◌, ℕ, Bool, true, List, [], ◌∷◌, Option, Some, None, codes, pos}
+use Rattle.std.specs.Prelude.{◌≡◌, ◌≤◌, ℕ, Bool, true, List, [], ◌∷◌, Option, Some, None, IfSome, codes, pos}
 use Rattle.std.specs.Str.Parse.{IsNumeral, digits_value, without_leading_plus}
 use Rattle.clap.specs.Values.{bool_text}
 use Rattle.clap.specs.Words.{App, Row, Rule, Text, new_app, new_rule, one_of, with_rule, with_subcommand}
 use Rattle.clap.specs.declared.builder.action.ArgAction.TheVariants.{SetTrue}
 use Rattle.clap.specs.declared.builder.value_parser.ValueParser.TheVariants.{Signed}
+use Rattle.tsumego.specs.declared.request.TheConstants.{MOST_IN_ALL}
 use Rattle.tsumego.specs.declared.request.Command.{Command}
 use Rattle.tsumego.specs.declared.request.Command.TheVariants.{Score, Check, Solve}
 
@@ -25,14 +26,23 @@ number_rule name most default = record (new_rule name) {
   defaults = default ∷ [];
 }
 
+-- one that may be left out
+abbrev pub optional_rule : Text → ℕ → Rule
+optional_rule name most = record (new_rule name) {
+  long = Some name;
+  value_names = 1;
+  parser = Some (Signed (pos 1) (pos most));
+}
+
 abbrev pub flag_rule : Text → Rule
 flag_rule name = record (new_rule name) { long = Some name; action = Some SetTrue }
 
 -- the options of `solve`
 unfoldable pub solve_app : App
-solve_app = with_rule (with_rule (with_rule (with_rule (new_app (codes "solve"))
+solve_app = with_rule (with_rule (with_rule (with_rule (with_rule (new_app (codes "solve"))
     (number_rule (codes "budget") 1000000 (codes "100000")))
     (number_rule (codes "depth") 512 (codes "512")))
+    (optional_rule (codes "total") 362000000))
     (number_rule (codes "workers") 64 (codes "1")))
     (flag_rule (codes "cert"))
 
@@ -47,15 +57,20 @@ abbrev pub HasNumber : Text → List Row → ℕ → Type 0
 HasNumber name rows n = (text : Text) × (one_of name rows ≡ Some text)
     × IsNumeral 10 (without_leading_plus text) × (n ≡ digits_value 10 (without_leading_plus text))
 
+-- the number that an option's text spells, where it was given
+abbrev pub GivesNumber : Text → List Row → Option ℕ → Type 0
+GivesNumber name rows None = one_of name rows ≡ None
+GivesNumber name rows (Some n) = HasNumber name rows n
+
 -- the flag was given, or not
 abbrev pub HasFlag : Text → List Row → Bool → Type 0
 HasFlag name rows b = one_of name rows ≡ Some (bool_text b)
 
 -- the command is `solve` with the options in these matches
 abbrev pub AsksSolve : List Row → Command → Type 0
-AsksSolve rows (Solve limits workers cert) = HasNumber (codes "budget") rows limits.budget
-    × HasNumber (codes "depth") rows limits.depth × HasNumber (codes "workers") rows workers
-    × HasFlag (codes "cert") rows cert
+AsksSolve rows (Solve limits total workers cert) = HasNumber (codes "budget") rows limits.budget
+    × HasNumber (codes "depth") rows limits.depth × GivesNumber (codes "total") rows total
+    × HasNumber (codes "workers") rows workers × HasFlag (codes "cert") rows cert
 AsksSolve rows _ = ⊥
 
 -- the subcommand that was met, with its matches, is this command
@@ -63,11 +78,12 @@ abbrev pub Asks : Option (Text × List Row) → Command → Type 0
 Asks None c = ⊥
 Asks (Some p) Score = p.0 ≡ codes "score"
 Asks (Some p) Check = p.0 ≡ codes "check"
-Asks (Some p) (Solve limits workers cert) =
-    (p.0 ≡ codes "solve") × AsksSolve p.1 (Solve limits workers cert)
+Asks (Some p) (Solve limits total workers cert) =
+    (p.0 ≡ codes "solve") × AsksSolve p.1 (Solve limits total workers cert)
 
 -- the options of `solve` lie in their ranges; those of the budget and the greatest depth are facts of the limits
 abbrev pub IsInRange : Command → Type 0
 IsInRange Score = Unit {0}
 IsInRange Check = Unit {0}
-IsInRange (Solve limits workers cert) = (1 ≤ limits.depth) × (1 ≤ workers) × (workers ≤ 64)
+IsInRange (Solve limits total workers cert) =
+    (1 ≤ limits.depth) × IfSome total (λ n. (1 ≤ n) × (n ≤ MOST_IN_ALL)) × (1 ≤ workers) × (workers ≤ 64)

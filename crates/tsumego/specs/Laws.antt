@@ -11,6 +11,6 @@ use Rattle.tsumego.specs.Solving.{IsFirst, Verdict, first_text}
 
 -- a verdict that begins with a side's word names the problem's value, and the turn behind the word, or its absence, is so
 abbrev pub VerdictsAreValues : Type 0
-VerdictsAreValues = (p : Standing) (limits : Limits) (cert : Bool) (side : Side) (rest : List ℕ) → Verdict p limits cert (side_word side ++ rest)
+VerdictsAreValues = (p : Standing) (limits : Limits) (total : Option ℕ) (cert : Bool) (side : Side) (rest : List ℕ) → Verdict p limits total cert (side_word side ++ rest)
     → HasValue p.frame p.state (value_for side)
     × ((first : Option Turn) (lines : List ℕ) → rest ≡ first_text p.frame.size first ++ newline ∷ lines → IsFirst p side first)

@@ -18,9 +18,9 @@ use Rattle.tt_proof.specs.Strategy.{Strategy, depth}
 use Rattle.tt_proof.specs.Wins.{Wins}
 use Rattle.tt_search.specs.declared.limits.Limits.{Limits}
 use Rattle.tt_search.specs.declared.limits.Reason.{Reason}
-use Rattle.tt_search.specs.declared.limits.Reason.TheVariants.{Budget, Depth, Memory}
+use Rattle.tt_search.specs.declared.limits.Reason.TheVariants.{Budget, Depth, Total, Memory}
 use Rattle.tt_search.specs.Searched.{Searched}
-use Rattle.tt_share.specs.Answers.{IsStuckBehind}
+use Rattle.tt_share.specs.Answers.{IsSpent, IsStuckBehind}
 use Rattle.tsumego.specs.declared.outcome.Outcome.{Outcome}
 use Rattle.tsumego.specs.declared.outcome.Outcome.TheVariants.{Answered, Refused}
 
@@ -42,6 +42,7 @@ certificate_line size side u = certificate_text size side u ++ newline ∷ []
 abbrev pub reason_word : Reason → List ℕ
 reason_word Budget = codes "budget"
 reason_word Depth = codes "depth"
+reason_word Total = codes "total"
 reason_word Memory = codes "memory"
 
 -- the line of an unsettled problem
@@ -69,23 +70,26 @@ abbrev pub Follows : Standing → Limits → Side → Option Turn → Bool → L
 Follows p limits side first false lines = lines ≡ []
 Follows p limits side first true lines = (bytes : List ℕ) × IsWinningCertificate p limits side first bytes × (lines ≡ bytes ++ newline ∷ [])
 
--- behind some legal turn the search is stuck for the reason, and the lesser turns lose; of memory nothing is said
-abbrev pub IsUnsettled : Standing → Limits → Reason → Type 0
-IsUnsettled p limits Budget = (t : Turn) × (search : Searched) × IsStuckBehind p limits Budget t search
-IsUnsettled p limits Depth = (t : Turn) × (search : Searched) × IsStuckBehind p limits Depth t search
-IsUnsettled p limits Memory = Unit {0}
+-- behind some legal turn the search is stuck for the reason, and the lesser turns lose; for the total only where there is one, and
+-- then the count of this search and those of grown searches behind the other legal turns add up to it; of memory nothing is said
+abbrev pub IsUnsettled : Standing → Limits → Option ℕ → Reason → Type 0
+IsUnsettled p limits total Budget = (t : Turn) × (search : Searched) × IsStuckBehind p limits Budget t search
+IsUnsettled p limits total Depth = (t : Turn) × (search : Searched) × IsStuckBehind p limits Depth t search
+IsUnsettled p limits total Total = (n : ℕ) × (total ≡ Some n) × (t : Turn) × (search : Searched) × (spent : List (Turn × ℕ))
+    × IsStuckBehind p limits Total t search × IsSpent p limits n t search spent
+IsUnsettled p limits total Memory = Unit {0}
 
 -- The text is a verdict on the problem: its value, killed or lives; or that no win was found, for a reason.
-pub data Verdict (p : Standing) (limits : Limits) (cert : Bool) : List ℕ → Type 0 where
+pub data Verdict (p : Standing) (limits : Limits) (total : Option ℕ) (cert : Bool) : List ℕ → Type 0 where
   decided : (side : Side) (first : Option Turn) (lines : List ℕ) → HasValue p.frame p.state (value_for side) → IsFirst p side first
-      → Follows p limits side first cert lines → Verdict p limits cert (decided_text p.frame.size side first ++ lines)
-  unsettled : (reason : Reason) → IsUnsettled p limits reason → Verdict p limits cert (unsettled_text reason)
+      → Follows p limits side first cert lines → Verdict p limits total cert (decided_text p.frame.size side first ++ lines)
+  unsettled : (reason : Reason) → IsUnsettled p limits total reason → Verdict p limits total cert (unsettled_text reason)
 
 -- a verdict on the problem, or the number of its refusal
-abbrev pub SolvesAs : Limits → Bool → Result Standing GameFault → Outcome → Type 0
-SolvesAs limits cert (Ok p) o = (text : List ℕ) × (o ≡ Answered text) × Verdict p limits cert text
-SolvesAs limits cert (Err e) o = o ≡ Refused (code_of e)
+abbrev pub SolvesAs : Limits → Option ℕ → Bool → Result Standing GameFault → Outcome → Type 0
+SolvesAs limits total cert (Ok p) o = (text : List ℕ) × (o ≡ Answered text) × Verdict p limits total cert text
+SolvesAs limits total cert (Err e) o = o ≡ Refused (code_of e)
 
 -- what `solve` makes of a main line
-abbrev pub Solves : Limits → Bool → List Node → Outcome → Type 0
-Solves limits cert nodes o = SolvesAs limits cert (problem_of nodes) o
+abbrev pub Solves : Limits → Option ℕ → Bool → List Node → Outcome → Type 0
+Solves limits total cert nodes o = SolvesAs limits total cert (problem_of nodes) o

@@ -12,12 +12,12 @@ use Rattle.tsumego.specs.Text.{Scores}
 -- the outcomes that the task gives to a main line
 abbrev pub Makes : Task → List Node → Outcome → Type 0
 Makes Score nodes o = Scores nodes o
-Makes (Solve options) nodes o = Solves options.limits options.cert nodes o
+Makes (Solve options) nodes o = Solves options.limits options.total options.cert nodes o
 
 -- what the command does with each tree, where it goes tree by tree: with the options as they were given
 abbrev pub IsTaskOf : Command → Option Task → Type 0
 IsTaskOf commands.Score (Some Score) = Unit {0}
 IsTaskOf commands.Check None = Unit {0}
-IsTaskOf (commands.Solve limits workers cert) (Some (Solve options)) =
-    (options.limits ≡ limits) × (options.workers ≡ workers) × (options.cert ≡ cert)
+IsTaskOf (commands.Solve limits total workers cert) (Some (Solve options)) =
+    (options.limits ≡ limits) × (options.total ≡ total) × (options.workers ≡ workers) × (options.cert ≡ cert)
 IsTaskOf c t = ⊥

@@ -27,16 +27,16 @@ Scores nodes o = o ≡ scored (record_of nodes)
 abbrev pub IsAnswer : Command → List ℕ → List ℕ → ℕ → Type 0
 IsAnswer Score input text status = IsTreesText Scores input text status
 IsAnswer Check input text status = IsCheckText input text status
-IsAnswer (Solve limits workers cert) input text status = IsTreesText (Solves limits cert) input text status
+IsAnswer (Solve limits total workers cert) input text status = IsTreesText (Solves limits total cert) input text status
 
 -- the text is whole lines at the front of an answer
 abbrev pub BeginsAnswer : Command → List ℕ → List ℕ → Type 0
 BeginsAnswer Score input text = BeginsTreesText Scores input text
 BeginsAnswer Check input text = (text ≡ []) ⊎ ((status : ℕ) × IsCheckText input text status)
-BeginsAnswer (Solve limits workers cert) input text = BeginsTreesText (Solves limits cert) input text
+BeginsAnswer (Solve limits total workers cert) input text = BeginsTreesText (Solves limits total cert) input text
 
 -- the text is what is written of an answer before memory is refused: the lines on earlier trees
 abbrev pub IsEarlierPart : Command → List ℕ → List ℕ → Type 0
 IsEarlierPart Score input text = EarlierTreesText Scores input text
 IsEarlierPart Check input text = text ≡ []
-IsEarlierPart (Solve limits workers cert) input text = EarlierTreesText (Solves limits cert) input text
+IsEarlierPart (Solve limits total workers cert) input text = EarlierTreesText (Solves limits total cert) input text

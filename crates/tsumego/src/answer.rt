@@ -149,10 +149,12 @@ fn task_of(command: &Command) -> Option<Task>
         Command::Check => None,
         Command::Solve {
             limits,
+            total,
             workers,
             cert,
         } => Some(Task::Solve(Options {
             limits: *limits,
+            total: *total,
             workers: *workers,
             cert: *cert,
         })),

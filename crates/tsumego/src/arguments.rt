@@ -2,12 +2,14 @@
 ghost use Rattle.std.specs.Prelude.{◌≡◌, ◌≤◌, false, [], true, IfErr, IfOk, OnOk, IfSome, map, string_bytes};
 ghost use Rattle.clap.specs.Words.{app_of, subcommand_of, subcommand_rows_of, fault_of, takes, kind_of, new_app, rows_of, rule_of, found_of};
 ghost use Rattle.clap.specs.declared.builder.command.Command.TheViews.{out-Command};
-ghost use Rattle.tsumego.specs.CommandLine.{Asks, AsksSolve, HasFlag, HasNumber, IsInRange, flag_rule, number_rule, solve_app, tool};
+ghost use Rattle.tsumego.specs.declared.request.TheConstants.{MOST_IN_ALL};
+ghost use Rattle.tsumego.specs.CommandLine.{Asks, AsksSolve, GivesNumber, HasFlag, HasNumber, IsInRange, flag_rule, number_rule, optional_rule, solve_app, tool};
 
-use crate::request::Command;
+use crate::request::{Command, MOST_IN_ALL};
 use clap::error::ErrorKind;
 use clap::{Arg, ArgAction, ArgMatches, Command as Parser, Error, value_parser};
 use std::alloc::{AllocError, Global};
+use std::num::ParseIntError;
 use tt_search::Limits;
 
 /// Why a command line was refused: the parser's text, empty where memory was refused or the words couldn't be read.
@@ -17,6 +19,9 @@ pub struct ArgFault(pub String);
 const BUDGET_HELP: &str = "How many nodes may be expanded behind each first turn, 1 to 1000000";
 
 const DEPTH_HELP: &str = "How many turns deep a search may go from the problem, 1 to 512";
+
+const TOTAL_HELP: &str =
+    "How many nodes may be expanded behind all first turns together, 1 to 362000000";
 
 const WORKERS_HELP: &str = "How many threads search first turns side by side, 1 to 64";
 
@@ -38,7 +43,7 @@ Answers, where K counts the problems:
   K killed         the defender is to move, and the attacker wins
   K lives TURN     the defender is to move and wins, by this turn
   K lives          the attacker is to move, and the defender wins
-  K unsettled WHY  a limit came first: budget, depth or memory
+  K unsettled WHY  a limit came first: budget, depth, total or memory
   K refused N      no problem, for the reason with this number
 Status: 0 all answered, 1 something refused, 2 these words or the run failed";
 
@@ -75,6 +80,19 @@ fn number_option<'a>(
         .default_value(default)
 }
 
+/// An option with a number from 1 to `most` that may be left out.
+fn optional_number<'a>(alloc: Global, name: &'a str, most: u32, help: &'a str) -> Arg<'a>
+    requires { 1 ≤ most }
+    ensures rule { rule_of result ≡ optional_rule name.entry.now most }
+    ensures local { result.global ≡ false }
+{
+    Arg::new(alloc, name)
+        .long(name)
+        .value_name("N")
+        .help(help)
+        .value_parser(value_parser!(u32).range(1..=i64::from(most)))
+}
+
 /// A flag.
 fn flag<'a>(alloc: Global, name: &'a str, help: &'a str) -> Arg<'a>
     ensures rule { rule_of result ≡ flag_rule name.entry.now }
@@ -100,12 +118,14 @@ fn solve_parser<'a>(alloc: Global) -> Result<Parser<'a>, AllocError>
 {
     let budget = number_option(alloc, "budget", 1_000_000, "100000", BUDGET_HELP);
     let depth = number_option(alloc, "depth", 512, "512", DEPTH_HELP);
+    let total = optional_number(alloc, "total", MOST_IN_ALL, TOTAL_HELP);
     let workers = number_option(alloc, "workers", 64, "1", WORKERS_HELP);
     let cert = flag(alloc, "cert", CERT_HELP);
     let one = named(alloc, "solve", "Solve problems", SOLVE_END).arg(budget)?;
     let two = one.arg(depth)?;
-    let three = two.arg(workers)?;
-    three.arg(cert)
+    let three = two.arg(total)?;
+    let four = three.arg(workers)?;
+    four.arg(cert)
 }
 
 fn parser<'a>(alloc: Global) -> Result<Parser<'a>, AllocError>
@@ -146,11 +166,28 @@ fn number_of(matches: &ArgMatches<'_>, name: &str) -> Option<u32>
     matches.get_one::<u32>(name)
 }
 
+/// The number of an option that may be left out: none where it was, and an error where it isn't a number.
+fn given_number(matches: &ArgMatches<'_>, name: &str) -> Result<Option<u32>, ParseIntError>
+    ensures { IfOk result (GivesNumber name.now (rows_of (found_of matches.now))) }
+{
+    matches.try_get_one::<u32>(name)
+}
+
 /// Whether a flag was given.
 fn flag_of(matches: &ArgMatches<'_>, name: &str) -> Option<bool>
     ensures { IfSome result (HasFlag name.now (rows_of (found_of matches.now))) }
 {
     matches.get_one::<bool>(name)
+}
+
+/// Whether a total is in its range, where one was given.
+fn is_total(total: Option<u32>) -> bool
+    ensures { result ≡ true → IfSome total (λ n. (1 ≤ n) × (n ≤ MOST_IN_ALL)) }
+{
+    match total {
+        Some(n) => n >= 1 && n <= MOST_IN_ALL,
+        None => true,
+    }
 }
 
 /// The options of `solve`.
@@ -160,14 +197,16 @@ fn solve_asked(matches: &ArgMatches<'_>) -> Option<Command>
 {
     let budget = number_of(matches, "budget")?;
     let depth = number_of(matches, "depth")?;
+    let total = given_number(matches, "total").ok()?;
     let workers = number_of(matches, "workers")?;
     let cert = flag_of(matches, "cert")?;
-    if depth < 1 || depth > 512 || workers < 1 || workers > 64 {
+    if depth < 1 || depth > 512 || workers < 1 || workers > 64 || !is_total(total) {
         return None;
     }
     let limits = Limits::new(budget, depth as u16)?;
     Some(Command::Solve {
         limits,
+        total,
         workers: workers as usize,
         cert,
     })

@@ -1,5 +1,6 @@
 //! The options of `solve`.
-ghost use Rattle.std.specs.Prelude.{◌≤◌};
+ghost use Rattle.std.specs.Prelude.{◌<◌, ◌≤◌, IfSome};
+ghost use Rattle.std.proofs.Props.{props};
 
 use tt_search::Limits;
 
@@ -9,10 +10,13 @@ pub struct Options {
     /// How many expansions each first turn may take, and how many turns deep the search may go from the
     /// problem: at least 1.
     pub limits: Limits,
+    /// How many expansions all first turns may take together, where there is such a total: at least 1.
+    pub total: Option<u32>,
     /// How many workers search: 1 to 64.
     pub workers: usize,
     /// Whether the certificate of each verdict is written.
     pub cert: bool,
     ghost depth_in: { 1 ≤ limits.depth },
+    ghost total_in: { IfSome total (λ n. 0 < n) } by { Prim.hlevel props },
     ghost workers_in: { (1 ≤ workers) × (workers ≤ 64) },
 }

@@ -2,6 +2,9 @@
 
 use tt_search::Limits;
 
+/// The greatest total: the greatest budget behind each of 362 first turns.
+pub const MOST_IN_ALL: u32 = 362_000_000;
+
 /// What the program is asked to do.
 #[derive(Clone, Copy, Debug, PartialEq, Eq)]
 pub enum Command {
@@ -14,6 +17,8 @@ pub enum Command {
         /// How many expansions each first turn may take, and how many turns deep the search may go from the
         /// problem: at least 1.
         limits: Limits,
+        /// How many expansions all first turns may take together, where there is such a total: 1 to `MOST_IN_ALL`.
+        total: Option<u32>,
         /// How many workers search: 1 to 64.
         workers: usize,
         /// Whether the certificate of each verdict is written.

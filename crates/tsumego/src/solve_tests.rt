@@ -9,7 +9,19 @@ use std::thread::Threads;
 use tt_search::Limits;
 
 /// An option and its value, empty where it has none; the input; the answer and the status.
-const ROWS: [((&str, &str), &str, &str, u8); 22] = [
+const ROWS: [((&str, &str), &str, &str, u8); 25] = [
+    (
+        ("--total", "1"),
+        "(;SZ[4:1]AW[ba][da]PL[B]TR[ba])",
+        "1 unsettled total\n",
+        0,
+    ),
+    (
+        ("--total", "3"),
+        "(;SZ[4:1]AW[ba][da]PL[B]TR[ba])",
+        "1 killed ca\n",
+        0,
+    ),
     (("", ""), "(;SZ[2:1]AW[ba]PL[B]TR[ba])", "1 killed aa\n", 0),
     (("", ""), "(;SZ[2:1]AW[ba]PL[W]TR[ba])", "1 killed\n", 0),
     (("", ""), "(;SZ[3:1]AW[ba]PL[W]TR[ba])", "1 lives pass\n", 0),
@@ -36,6 +48,13 @@ const ROWS: [((&str, &str), &str, &str, u8); 22] = [
         ("--cert", ""),
         "(;SZ[4:1]AW[ba];B[ca];W[da]TR[ba])",
         "1 lives\nlives ?--!--.;\n",
+        0,
+    ),
+    // The first problem once more, behind a play.
+    (
+        ("--cert", ""),
+        "(;SZ[4:1]AW[da]PL[W];W[ba]TR[ba])",
+        "1 killed ca\nkilled !ca?aa.--!aa.;\n",
         0,
     ),
     (
@@ -153,6 +172,20 @@ fn answers_rows(rt: HostRuntime) -> Result<(), Fail> {
     Ok(())
 }
 
+/// One worker alone spends as many as the first turn needs, and where both budgets are spent, that of the first turn is named.
+#[test]
+fn answers_within_totals(rt: HostRuntime) -> Result<(), Fail> {
+    let alloc = rt.alloc();
+    let input = b"(;SZ[4:1]AW[ba][da]PL[B]TR[ba])";
+    let two = ["solve", "--total", "2"];
+    let (out, status) = answered(&rt, alloc, &two, input)?;
+    assert!(&rt; out.as_slice() == b"1 killed ca\n".as_slice() && status == 0);
+    let both = ["solve", "--budget", "1", "--total", "1"];
+    let (out, status) = answered(&rt, alloc, &both, input)?;
+    assert!(&rt; out.as_slice() == b"1 unsettled budget\n".as_slice() && status == 0);
+    Ok(())
+}
+
 #[test]
 fn refuses_options(rt: HostRuntime) -> Result<(), Fail> {
     let alloc = rt.alloc();
@@ -164,7 +197,8 @@ fn refuses_options(rt: HostRuntime) -> Result<(), Fail> {
         ("--workers", "0"),
         ("--workers", "65"),
         ("--cert", "yes"),
-        ("--total", "1"),
+        ("--total", "0"),
+        ("--total", "362000001"),
     ] {
         assert!(rt;
             asked(alloc, &["solve", option, value])?.is_err(),
@@ -198,6 +232,7 @@ fn reads_options(rt: HostRuntime) -> Result<(), Fail> {
             "--depth",
             "007",
             "--budget=+5",
+            "--total=362000000",
         ],
     )?;
     assert!(rt; plain.is_ok() && full.is_ok());
@@ -206,6 +241,7 @@ fn reads_options(rt: HostRuntime) -> Result<(), Fail> {
             command
                 == Command::Solve {
                     limits: most,
+                    total: None,
                     workers: 1,
                     cert: false
                 }
@@ -216,6 +252,7 @@ fn reads_options(rt: HostRuntime) -> Result<(), Fail> {
             command
                 == Command::Solve {
                     limits: few,
+                    total: Some(362_000_000),
                     workers: 64,
                     cert: true
                 }

@@ -23,7 +23,7 @@ fn solve_problem<X: Threads + Wait + Sync>(
     options: Options,
 ) -> Result<Answer, NoMemory>
     requires { winner_of line.now.frame line.now.state ≡ None }
-    ensures { IfOk result (λ answer. IsAnswer line.now options.limits answer) }
+    ensures { IfOk result (λ answer. IsAnswer line.now options.limits options.total answer) }
 {
     let log = CertLog::new(alloc)?;
     let answer = tt_share::solve(
@@ -31,6 +31,7 @@ fn solve_problem<X: Threads + Wait + Sync>(
         alloc,
         line,
         &options.limits,
+        options.total,
         options.workers,
         &log,
         &NoGate,
@@ -47,10 +48,17 @@ fn solve_at<X: Threads + Wait + Sync>(
 ) -> Result<Items<u8>, NoMemory>
     requires open { winner_of line.now.frame line.now.state ≡ None }
     requires state { IsState line.now.frame line.now.state }
-    ensures { IfOk result (λ text. Verdict line.now options.limits options.cert text) }
+    ensures { IfOk result (λ text. Verdict line.now options.limits options.total options.cert text) }
 {
     let answer = solve_problem(rt, alloc, line, options)?;
-    let text = verdict_text(alloc, line, &options.limits, &answer, options.cert)?;
+    let text = verdict_text(
+        alloc,
+        line,
+        &options.limits,
+        options.total,
+        &answer,
+        options.cert,
+    )?;
     Ok(Items::from_vec(text))
 }
 
@@ -61,7 +69,7 @@ pub fn solve<X: Threads + Wait + Sync>(
     main: &MainLine,
     options: Options,
 ) -> Result<Outcome, NoMemory>
-    ensures { IfOk result (λ outcome. Solves options.limits options.cert main.now.nodes outcome) }
+    ensures { IfOk result (λ outcome. Solves options.limits options.total options.cert main.now.nodes outcome) }
 {
     match problem(alloc, main) {
         Ok(line) => {

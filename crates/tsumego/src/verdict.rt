@@ -20,6 +20,7 @@ fn reason_word(reason: Reason) -> &'static [u8]
     match reason {
         Reason::Budget => b"budget",
         Reason::Depth => b"depth",
+        Reason::Total => b"total",
         Reason::Memory => b"memory",
     }
 }
@@ -95,12 +96,13 @@ pub fn verdict_text(
     alloc: Global,
     line: &Line,
     limits: &Limits,
+    total: Option<u32>,
     answer: &Answer,
     cert: bool,
 ) -> Result<Vec<u8>, NoMemory>
     requires state { IsState line.now.frame line.now.state }
-    requires answer { IsAnswer line.now limits.now answer.now }
-    ensures { IfOk result (λ text. Verdict line.now limits.now cert text.items) }
+    requires answer { IsAnswer line.now limits.now total answer.now }
+    ensures { IfOk result (λ text. Verdict line.now limits.now total cert text.items) }
 {
     match answer {
         Answer::Settled { proof, first } => {

@@ -10,11 +10,11 @@ pub returns-in-Settled : goal.returns-in-Settled
 returns-in-Settled c =
     let same : c.in-Settled.proof.value ≡ c.deref.result.now = search (rules, c.deref.ensures) in
     let settled = subst (λ (p : Proven). IsSettled c.args.line.now c.args.limits.now p c.in-Settled.first) same
-    (subst (λ (a : Answer). IsAnswer c.args.line.now c.args.limits.now a) c.in-Settled.is c.requires.answer) in
-    IfOk-weaker c.decided.result _ _ (λ text e. settled_verdict c.args.line.now c.requires.state c.args.limits.now c.args.cert c.deref.result.now c.in-Settled.first c.frame.result.now.size text.items
-    settled c.decided.ensures.won (search (rules, c.frame.ensures.value)) e) c.decided.ensures.text
+    (subst (λ (a : Answer). IsAnswer c.args.line.now c.args.limits.now c.args.total a) c.in-Settled.is c.requires.answer) in
+    IfOk-weaker c.decided.result _ _ (λ text e. settled_verdict c.args.line.now c.requires.state c.args.limits.now c.args.total c.args.cert c.deref.result.now
+    c.in-Settled.first c.frame.result.now.size text.items settled c.decided.ensures.won (search (rules, c.frame.ensures.value)) e) c.decided.ensures.text
 
 pub returns-in-Unsettled : goal.returns-in-Unsettled
 returns-in-Unsettled c =
-    let stuck = subst (λ (a : Answer). IsAnswer c.args.line.now c.args.limits.now a) c.in-Unsettled.is c.requires.answer in
-    IfOk-weaker c.unsettled.result _ _ (λ text e. stuck_verdict c.args.line.now c.args.limits.now c.args.cert c.in-Unsettled.stuck text.items stuck e) c.unsettled.ensures
+    let stuck = subst (λ (a : Answer). IsAnswer c.args.line.now c.args.limits.now c.args.total a) c.in-Unsettled.is c.requires.answer in
+    IfOk-weaker c.unsettled.result _ _ (λ text e. stuck_verdict c.args.line.now c.args.limits.now c.args.total c.args.cert c.in-Unsettled.stuck text.items stuck e) c.unsettled.ensures
