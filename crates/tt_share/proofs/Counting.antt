@@ -73,13 +73,16 @@ module _ (line : Standing) (limits : Limits) (t : Turn) (start : Searched) (behi
   reached_count : (search : Searched) (old new : Asked) (n : ℕ) → IsReached start search → HasSpent start old search new → new.granted ≡ old.granted + n → IsCountBehind line limits t n
   reached_count search old new n h spent granted = (search, reached_behind search h, reached_grown search h, omega (arith, spent, granted, start_count))
 
+  -- its count is what was asked for
   stuck_count : (search : Searched) (old new : Asked) (n : ℕ) → IsReached start search → HasSpent start old search new → new.granted ≡ old.granted + n
       → IsCountBehind line limits t n × (count search.tree ≡ n)
   stuck_count search old new n h spent granted = (reached_count search old new n h spent granted, omega (arith, spent, granted, start_count))
 
   -- a run from there counts the nodes that it expands
   pub counted : (old new : Asked) (end : End) (n : ℕ) → EndOf start end → SpentBy start old end new → new.granted ≡ old.granted + n → IsCounted line limits t n end
-  counted old new (Settled p) n h k granted = (reached_count k.0 old new n k.1 k.3 granted, tt)
+  counted old new (Settled p) n h k granted =
+      let both = stuck_count k.0 old new n k.1 k.3 granted in
+      (both.0, (k.0, reached_behind k.0 k.1, reached_grown k.0 k.1, k.2, both.1))
   counted old new (Stuck Budget None) n h k granted = absurd k
   counted old new (Stuck Depth None) n h k granted = absurd k
   counted old new (Stuck Total None) n h k granted = absurd k

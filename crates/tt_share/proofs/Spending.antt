@@ -18,7 +18,7 @@ use Rattle.tt_share.specs.declared.jobs.Found.{Found}
 use Rattle.tt_share.specs.declared.workers.HandedBack.{HandedBack}
 use Rattle.tt_share.specs.Answers.{spent_in_all}
 use Rattle.tt_share.specs.Jobs.{IsForTotal}
-use Rattle.tt_share.specs.Results.{Progress, HasTotal, IsAllSpent, AskedFor}
+use Rattle.tt_share.specs.Results.{Progress, HasTotal, IsAllSpent, SpendsTotal, AskedFor}
 use Rattle.tt_share.specs.Seats.{DeskView, SeatView, EndsSpare, EachOnce, Spends, Closes, granted_of, last_number, occurrences}
 use Rattle.tt_share.specs.Tallies.{Tallies}
 use Rattle.tt_share.specs.Workers.{times, spent_on, spent_by_all, held, held_in, AllApart, AllGiven, SomeTotal, IsWork}
@@ -162,25 +162,23 @@ module _ (line : Standing) (limits : Limits) (desk : DeskView) (closed : Closed)
       ]
     ]
 
-    -- then all of it is spent
-    pub all_spent : IsAllSpent desk.total last
-    all_spent h =
-        let s = some_refused h in
-        let spends = subst (λ (o : Option ℕ). MatchOption o (closed.granted ≡ 0) (λ total. Spends total closed.granted (seats ++ own ∷ []))) s.1 closes.granted in
-        let all = spends.refused s.2.0 s.2.1 s.2.2 in
-        let granted = spends.granted_is in
-        let caller = (tally.1 s.0 s.1).0 in (
-          s.0,
-          s.1,
-          omega (
-            arith,
-            all,
-            granted,
-            caller,
-            sum_by_push (λ (t : SeatView). granted_of s.0 t.grants) seats own,
-            spent_granted s.0 s.1,
-            gathered (all_apart first.ends blank),
-            unspent,
-            asked.spent,
-          ),
-        )
+    spends : (total : ℕ) → desk.total ≡ Some total → Spends total closed.granted (seats ++ own ∷ [])
+    spends total is = subst (λ (o : Option ℕ). MatchOption o (closed.granted ≡ 0) (λ n. Spends n closed.granted (seats ++ own ∷ []))) is closes.granted
+
+    -- what is spent is what was granted
+    spent_is : (total : ℕ) → desk.total ≡ Some total → spent_in_all last.spent ≡ closed.granted
+    spent_is total is =
+        let granted = (spends total is).granted_is in
+        let caller = (tally.1 total is).0 in
+        let seats_and_own = sum_by_push (λ (s : SeatView). granted_of total s.grants) seats own in
+        omega (arith, none, granted, caller, seats_and_own, spent_granted total is, gathered (all_apart first.ends blank), unspent, asked.spent)
+
+    -- no more than the total is spent, and all of it where some job is stuck for it
+    pub total_spent : SpendsTotal desk.total last
+    total_spent = record {
+      within = λ total is. let granted = (spends total is).asked.2 in grind (arith, spent_is total is, granted);
+      all = λ h.
+          let s = some_refused h in
+          let all = (spends s.0 s.1).refused s.2.0 s.2.1 s.2.2 in
+          (s.0, s.1, spent_is s.0 s.1 ∙ all);
+    }

@@ -10,7 +10,7 @@ use Rattle.tt_proof.specs.Proven.{StandsAt, IsWon}
 use Rattle.tt_search.specs.Numbers.{count}
 use Rattle.tt_search.specs.Grants.{Asked}
 use Rattle.tt_search.specs.Growing.{IsGrown}
-use Rattle.tt_search.specs.Searched.{IsStuckFor}
+use Rattle.tt_search.specs.Searched.{Searched, IsProofOf, IsStuckFor}
 use Rattle.tt_search.specs.declared.limits.Limits.{Limits}
 use Rattle.tt_search.specs.declared.limits.TheConstants.{MOST_EXPANDED}
 use Rattle.tt_search.specs.declared.limits.Reason.TheVariants.{Budget, Depth, Total, Memory}
@@ -37,15 +37,16 @@ EndsBehind line limits t (Stuck Depth None) = ⊥
 EndsBehind line limits t (Stuck Total None) = ⊥
 EndsBehind line limits t (Stuck Memory None) = Unit {0}
 
--- a search that is held has so many expanded nodes
-abbrev pub IsOwnCount : ℕ → End → Type 0
-IsOwnCount n (Settled p) = Unit {0}
-IsOwnCount n (Stuck reason (Some search)) = count search.tree ≡ n
-IsOwnCount n (Stuck reason None) = Unit {0}
+-- the search that ends so has so many expanded nodes: the one that is held, or one behind the turn whose proof it is
+abbrev pub IsOwnCount : Standing → Limits → Turn → ℕ → End → Type 0
+IsOwnCount line limits t n (Settled p) = (search : Searched) × IsBehind line limits t search
+    × IsGrown search.limits search.line.frame search.line.state search.tree × IsProofOf search p × (count search.tree ≡ n)
+IsOwnCount line limits t n (Stuck reason (Some search)) = count search.tree ≡ n
+IsOwnCount line limits t n (Stuck reason None) = Unit {0}
 
 -- so many nodes were expanded behind the turn in the search that ends so
 abbrev pub IsCounted : Standing → Limits → Turn → ℕ → End → Type 0
-IsCounted line limits t n end = IsCountBehind line limits t n × IsOwnCount n end
+IsCounted line limits t n end = IsCountBehind line limits t n × IsOwnCount line limits t n end
 
 -- what a search asks for: so many expansions are granted; one is refused where it is stuck for the total, and later ones are too
 pub record AsksFor (old : Asked) (n : ℕ) (end : End) (new : Asked) : Type 0 where

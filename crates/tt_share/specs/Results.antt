@@ -49,6 +49,13 @@ HasTotal ends = (job : ℕ) × (end : End) × HasEnd ends job end × IsForTotal 
 abbrev pub IsAllSpent : Option ℕ → Progress → Type 0
 IsAllSpent total p = HasTotal p.ends → (n : ℕ) × (total ≡ Some n) × (spent_in_all p.spent ≡ n)
 
+-- How the searches spend a total, where there is one
+pub record SpendsTotal (total : Option ℕ) (p : Progress) : Type 0 where
+  -- no more than it, whatever the results are
+  pub within : (n : ℕ) → total ≡ Some n → spent_in_all p.spent ≤ n
+  -- all of it where some job is stuck for it
+  pub all : IsAllSpent total p
+
 -- what was asked for while results were put: as many were granted as the counts rose by, and one was refused where a job is newly
 -- stuck for the total
 pub record AskedFor (before : Progress) (old : Asked) (after : Progress) (new : Asked) : Type 0 where

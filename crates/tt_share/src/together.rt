@@ -3,7 +3,7 @@
 ghost use Rattle.std.specs.Prelude.{◌≡◌, ◌≤◌, ◌<◌, None, IfSome, OnOk};
 ghost use Rattle.tt_game.specs.Game.{winner_of};
 ghost use Rattle.tt_share.specs.Answers.{IsAnswer};
-ghost use Rattle.tt_share.specs.Results.{IsBlank, IsReady, IsAllSpent};
+ghost use Rattle.tt_share.specs.Results.{IsBlank, IsReady, SpendsTotal};
 
 use crate::alone::{begin, finish};
 use crate::answer::Answer;
@@ -39,7 +39,7 @@ pub(crate) fn search_together<R: Threads + Wait + Sync, G: Gate, S: Store>(
     requires blank { IsBlank results.old }
     ensures line { (results.new.line ≡ results.old.line) × (results.new.limits ≡ results.old.limits) }
     ensures ready { OnOk result (IsReady results.new.line.state.to_move results.new.ends) }
-    ensures spent { OnOk result (IsAllSpent total results.new) }
+    ensures spent { OnOk result (SpendsTotal total results.new) }
 {
     let alloc = results.jobs.alloc;
     let seats = Vec::with_capacity(alloc, workers + 1)?;

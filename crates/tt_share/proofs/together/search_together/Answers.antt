@@ -2,10 +2,10 @@ use Rattle.std.proofs.Common.{◌≡◌, ℕ, List, [], ◌∷◌, ◌++◌, Opt
 use Rattle.std.proofs.lemmas.List.Elements.{All-push}
 use Rattle.tt_game.specs.declared.turns.Turn.{Turn}
 use Rattle.tt_game.specs.Turns.{legal_turns}
-use Rattle.tt_share.specs.Results.{Progress, IsAllSpent}
+use Rattle.tt_share.specs.Results.{Progress, SpendsTotal}
 use Rattle.tt_share.specs.Seats.{DeskView, SeatView, Closes}
 use Rattle.tt_share.specs.Tallies.{Tallies}
-use Rattle.tt_share.proofs.Spending.{all_spent}
+use Rattle.tt_share.proofs.Spending.{total_spent}
 use Rattle.tt_share.proofs.together.search_together.Goals as goal
 
 pub close-requires : goal.close-requires
@@ -34,7 +34,7 @@ returns-clause-spent g c =
     let tally : Tallies desk.total own.grants grants.granted grants.refused =
     subst (λ (s : SeatView). Tallies desk.total s.grants grants.granted grants.refused) (sym c.into_seat.ensures)
     (subst (λ (d : DeskView). Tallies d.total grants.seat.grants grants.granted grants.refused) same grants.tally) in
-    subst (λ (o : Option ℕ). IsAllSpent o last) c.in_ok-desk.ensures.desk.2
-    (all_spent jobs.line.now jobs.limits desk c.in-Ok.field-0 c.in_ok-work.work.items c.gather-seats.result.items own c.in_ok-work.ensures.work c.gather-seats.ensures.backs closes
+    subst (λ (o : Option ℕ). SpendsTotal o last) c.in_ok-desk.ensures.desk.2
+    (total_spent jobs.line.now jobs.limits desk c.in-Ok.field-0 c.in_ok-work.work.items c.gather-seats.result.items own c.in_ok-work.ensures.work c.gather-seats.ensures.backs closes
     first mid last _ grants.granted grants.refused c.new-grants.ensures.granted blank c.requires.blank.unspent c.gather-seats.ensures.spent c.gather-seats.ensures.given
     c.search_missing.ensures.asks tally)
