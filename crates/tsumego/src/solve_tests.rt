@@ -9,7 +9,7 @@ use std::thread::Threads;
 use tt_search::Limits;
 
 /// An option and its value, empty where it has none; the input; the answer and the status.
-const ROWS: [((&str, &str), &str, &str, u8); 25] = [
+const ROWS: [((&str, &str), &str, &str, u8); 26] = [
     (
         ("--total", "1"),
         "(;SZ[4:1]AW[ba][da]PL[B]TR[ba])",
@@ -20,6 +20,13 @@ const ROWS: [((&str, &str), &str, &str, u8); 25] = [
         ("--total", "3"),
         "(;SZ[4:1]AW[ba][da]PL[B]TR[ba])",
         "1 killed ca\n",
+        0,
+    ),
+    // The second turn wins at once, though all of the total may be spent behind the first one.
+    (
+        ("--total", "1"),
+        "(;SZ[4:1]AB[ba]AW[ca]PL[B]TR[ca])",
+        "1 killed da\n",
         0,
     ),
     (("", ""), "(;SZ[2:1]AW[ba]PL[B]TR[ba])", "1 killed aa\n", 0),

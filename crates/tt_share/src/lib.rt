@@ -39,20 +39,6 @@ pub use together::solve;
 pub use view::View;
 
 #[cfg(test)]
-mod alone_tests;
-#[cfg(test)]
-mod desk_tests;
-#[cfg(test)]
 mod grants_tests;
-#[cfg(test)]
-mod log_tests;
-#[cfg(test)]
-mod planted_tests;
-#[cfg(test)]
-mod root_tests;
-#[cfg(test)]
-mod table_tests;
-#[cfg(test)]
-mod together_tests;
 #[cfg(test)]
 mod worker_tests;

@@ -2,7 +2,6 @@
 
 use crate::alone_tests::posed;
 use crate::table_tests::proof_of;
-use crate::{CertLog, LockedStore, LogStore, Table, View};
 use std::alloc::Global;
 use std::process::Abort;
 use std::sync::{Arc, Wait};
@@ -12,6 +11,7 @@ use std::thread::Threads;
 use tt_game::{Line, Side};
 use tt_proof::Proof;
 use tt_search::{BothSides, Free, Kept, Limits, PrivateStore, Reason, Search, Step, Store};
+use tt_share::{CertLog, LockedStore, LogStore, Table, View};
 
 /// White's two stones with liberties on both sides: Black to move wins.
 const SPLIT: &[u8] = b"(;SZ[4:1]AW[ba][da]PL[B]TR[ba])";

@@ -3,7 +3,6 @@
 ghost use Rattle.std.specs.Prelude.{◌≤◌};
 
 use crate::alone_tests::{posed, put_first, verdict};
-use crate::{Answer, CertLog, NoGate, Stuck, View, solve};
 use std::alloc::Global;
 use std::sync::{Arc, Wait};
 use std::test::Fail;
@@ -11,6 +10,7 @@ use std::thread::Threads;
 use tt_game::Line;
 use tt_proof::Proof;
 use tt_search::{End, Free, Kept, Limits, NoStore, Reason, Search};
+use tt_share::{Answer, CertLog, NoGate, Stuck, View, solve};
 
 /// White's two stones with liberties on both sides: Black to move kills at the third point.
 const SPLIT: &[u8] = b"(;SZ[4:1]AW[ba][da]PL[B]TR[ba])";

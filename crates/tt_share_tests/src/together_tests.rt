@@ -3,7 +3,6 @@
 ghost use Rattle.std.specs.Prelude.{◌≤◌};
 
 use crate::alone_tests::{posed, verdict};
-use crate::{Answer, CertLog, Gate, LogStore, NoGate, Stuck, View, solve};
 use std::alloc::Global;
 use std::sync::Wait;
 use std::sync::atomic::{AtomicU64, Ordering};
@@ -12,6 +11,7 @@ use std::thread;
 use std::thread::Threads;
 use tt_game::{Line, Side, Turn};
 use tt_search::{Limits, Reason, Store};
+use tt_share::{Answer, CertLog, Gate, LogStore, NoGate, Stuck, View, solve};
 
 /// The answer to a problem by so many workers over the log: the verdict and the first turn.
 fn solved<R: Threads + Wait + Sync, G: Gate>(
@@ -341,6 +341,45 @@ fn each_job_is_told(rt: HostRuntime) -> Result<(), Fail> {
     let alloc = rt.alloc();
     for workers in [1usize, 2, 64] {
         assert!(&rt; told(&rt, alloc, workers)? == (3, 3), "{workers} workers");
+    }
+    Ok(())
+}
+
+/// The same where all searches together may expand one node.
+fn told_within_one<R: Threads + Wait + Sync>(
+    rt: &R,
+    alloc: Global,
+    workers: usize,
+) -> Result<(u64, u64), Fail>
+    requires { (1 ≤ workers) × (workers ≤ 64) }
+{
+    let log = CertLog::new(alloc)?;
+    let gate = Counting {
+        begun: AtomicU64::new(0),
+        ended: AtomicU64::new(0),
+    };
+    let line = posed(alloc, b"(;SZ[4:1]AW[ba]PL[B]TR[ba])")?;
+    let Some(limits) = Limits::new(100_000, 512) else {
+        return Err(Fail::new("no limits"));
+    };
+    if line.winner().is_some() {
+        return Err(Fail::new("nothing to solve"));
+    }
+    let _answer = solve(rt, alloc, &line, &limits, Some(1), workers, &log, &gate);
+    let begun = gate.begun.load(Ordering::SeqCst);
+    let ended = gate.ended.load(Ordering::SeqCst);
+    Ok((begun, ended))
+}
+
+/// A worker that is refused an expansion draws on.
+#[test]
+fn each_job_is_told_though_the_total_is_spent(rt: HostRuntime) -> Result<(), Fail> {
+    let alloc = rt.alloc();
+    for workers in [1usize, 2, 64] {
+        assert!(&rt;
+            told_within_one(&rt, alloc, workers)? == (3, 3),
+            "{workers} workers"
+        );
     }
     Ok(())
 }

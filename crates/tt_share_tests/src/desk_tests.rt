@@ -2,13 +2,13 @@
 ghost use Rattle.std.specs.Prelude.{◌≡◌, ◌+◌, ◌≤◌, ◌<◌, Some, IfOk};
 ghost use Rattle.tt_share.specs.Seats.{EndsSpare};
 
-use crate::desk::{Closed, Desk, Seat};
 use std::alloc::Global;
 use std::sync::atomic::{AtomicU64, Ordering};
 use std::test::Fail;
 use std::thread;
 use std::thread::Threads;
 use tt_sgf::NoMemory;
+use tt_share::{Closed, Desk, Seat};
 
 // Draws until there is no job left.
 fn draw_all(desk: &Desk, mut seat: Seat) -> Seat

@@ -1,7 +1,5 @@
 //! The table and its handles, on problems with certificates whose nodes are counted by hand.
 
-use crate::locked::{LockedStore, Table};
-use crate::table::TableState;
 use std::alloc::Global;
 use std::process::Abort;
 use std::sync::{Arc, Wait};
@@ -12,6 +10,7 @@ use tt_game::{Line, Side, problem};
 use tt_proof::{Proof, Rejected, read_cert, write_cert};
 use tt_search::{Kept, Store};
 use tt_sgf::read_tree;
+use tt_share::{LockedStore, Table, TableState};
 
 /// White's two stones with liberties on both sides: Black to move kills.
 const SPLIT: &[u8] = b"(;SZ[4:1]AW[ba][da]PL[B]TR[ba])";

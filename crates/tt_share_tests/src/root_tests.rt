@@ -1,38 +1,20 @@
-//! What a store is asked for the problem itself, and which of its proofs are used.
+//! Which proofs of a store are used for the problem itself.
 
 ghost use Rattle.std.specs.Prelude.{◌≡◌};
 
 use crate::alone_tests::{posed, solved};
-use crate::worker_tests::{Asked, LONE};
-use crate::{Answer, solve_one};
 use std::alloc::Global;
 use std::sync::Arc;
-use std::sync::atomic::AtomicU64;
 use std::test::Fail;
 use tt_proof::Proof;
 use tt_search::{Kept, Limits, NoStore, PrivateStore, Store};
+use tt_share::{Answer, solve_one};
 
 /// White's two stones with liberties on both sides: Black to move kills, by a strategy that is three turns deep.
 const SPLIT: &[u8] = b"(;SZ[4:1]AW[ba][da]PL[B]TR[ba])";
 
 /// The same position reached by moves. The strategy repeats no board of theirs, so it wins here too.
 const REACHED: &[u8] = b"(;SZ[4:1]AW[da];B[];W[ba]TR[ba])";
-
-/// The problem is asked for before its turns, and each time the attacker's proof before the defender's. There are six
-/// pairs of questions: for the problem, at two steps behind each play, and at the one step that settles the pass.
-#[test]
-fn the_attacker_is_asked_for_first(rt: HostRuntime) -> Result<(), Fail> {
-    let told = AtomicU64::new(1);
-    let mut store = Asked {
-        told: &told,
-        within: 0,
-        astray: 0,
-    };
-    let got = solved(rt.alloc(), LONE, 1, 512, &mut store)?;
-    assert!(&rt; got.as_slice() == b"budget".as_slice());
-    assert!(&rt; store.within == 12 && store.astray == 0);
-    Ok(())
-}
 
 /// The proof of a problem that is settled.
 fn proof_of(alloc: Global, text: &[u8]) -> Result<Arc<Proof>, Fail> {

@@ -3,7 +3,6 @@
 
 ghost use Rattle.std.specs.Prelude.{◌≡◌, ◌+◌, ◌≤◌};
 
-use crate::{Answer, solve_one};
 use std::alloc::Global;
 use std::process::Abort;
 use std::sync::Arc;
@@ -12,6 +11,7 @@ use tt_game::{Line, Side, Turn, problem};
 use tt_proof::{Proof, put_turn, write_cert};
 use tt_search::{Kept, Limits, NoStore, PrivateStore, Reason, Store};
 use tt_sgf::{NoMemory, Size, read_tree};
+use tt_share::{Answer, solve_one};
 
 /// A store that keeps some proofs and forgets them at once.
 #[derive(Drop)]
