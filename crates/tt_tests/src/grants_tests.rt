@@ -2,10 +2,10 @@
 
 ghost use Rattle.std.specs.Prelude.{◌≡◌};
 
-use crate::tests::{letter, posed};
-use crate::{End, Free, Grants, Limits, NoStore, Reason, Search, Step};
+use crate::search_tests::{letter, posed};
 use std::alloc::Global;
 use std::test::Fail;
+use tt_search::{End, Free, Grants, Limits, NoStore, Reason, Search, Step};
 
 /// White's two stones with liberties on both sides: Black to move wins by the third expansion.
 const SPLIT: &[u8] = b"(;SZ[4:1]AW[ba][da]PL[B]TR[ba])";
