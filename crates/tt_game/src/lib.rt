@@ -1,5 +1,6 @@
 //! The game of Go problems under Tromp-Taylor rules: histories of colourings with positional superko, legal turns, who
-//! has won, and how the main line of an SGF game tree becomes a record or a problem.
+//! has won, and how the main line of an SGF game tree becomes a record or a problem. Its tests stand in `tt_tests`:
+//! `record_tests`, `problem_tests` and `turn_tests`.
 
 #![tactic(auto)]
 
@@ -28,10 +29,3 @@ pub use past::Past;
 pub use problems::problem;
 pub use records::{Record, play_record};
 pub use turns::{Successor, Turn, Turns};
-
-#[cfg(test)]
-mod problem_tests;
-#[cfg(test)]
-mod record_tests;
-#[cfg(test)]
-mod turn_tests;

@@ -1,4 +1,4 @@
-//! Strategy trees, their exact replay, proofs that win, and certificates.
+//! Strategy trees, their exact replay, proofs that win, and certificates. Their tests stand in `tt_tests`: `proof_tests`.
 #![tactic(auto)]
 
 mod bounds;
@@ -23,6 +23,3 @@ pub use proven::{Proof, Rejected};
 pub use replays::replay;
 pub use shared_boards::SharedBoards;
 pub use tree::{MOST_DEPTH, Tree};
-
-#[cfg(test)]
-mod tests;

@@ -4,6 +4,8 @@
 //! tree, the numbers of it and the ways in which it may grow are defined over the whole tree in `specs/`; the code
 //! updates one path. A `Store` keeps the proofs of settled nodes; a proof that it answers closes a leaf only where it
 //! wins there, since it fits or by replay.
+//!
+//! Its tests stand in `tt_tests`: `search_tests`, `trace_tests`, `store_tests` and `grants_tests`.
 
 #![tactic(auto)]
 
@@ -30,12 +32,3 @@ pub use limits::{Limits, MOST_EXPANDED, Reason, Step};
 pub use private::PrivateStore;
 pub use search::{End, Search};
 pub use store::{BothSides, Kept, NoStore, Store};
-
-#[cfg(test)]
-mod grants_tests;
-#[cfg(test)]
-mod store_tests;
-#[cfg(test)]
-mod tests;
-#[cfg(test)]
-mod trace_tests;

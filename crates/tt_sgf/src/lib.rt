@@ -10,6 +10,8 @@
 //! | `size`, `sets`, `bits` | `Size`, `Point`, `PointOrPass`, `PointSet`, and the `Bits` that it is made of |
 //! | `faults` | `SgfFault`, `BadPoint`, `NoMemory` |
 //! | `laws` | one tree a text, and one reading of the bytes |
+//!
+//! Its tests stand in `tt_tests`: `sgf_tests`.
 #![tactic(auto)]
 
 mod bits;
@@ -35,6 +37,3 @@ pub use size::{MOST_POINTS, Point, PointOrPass, Size};
 pub use tokens::skip_blanks;
 pub use trees::{MAX_BYTES, has_tree, read_tree};
 pub use value_kinds::{board_size, number, point, trim};
-
-#[cfg(test)]
-mod tests;

@@ -1,10 +1,10 @@
 //! Turns of problems: histories, causes of refusal, ends and legal turns, with what they come to by a program written
 //! from the rules alone.
 
-use super::problem_tests::{has_turns, posed, turn};
-use super::{Line, Side, Why};
+use crate::problem_tests::{has_turns, posed, turn};
 use std::alloc::Global;
 use tt_board::{Board, Boards, Colour};
+use tt_game::{Line, Side, Why};
 
 /// Whether a board is what the letters draw, point by point.
 fn is_drawn(board: &Board, letters: &[u8]) -> bool {

@@ -1,8 +1,8 @@
 //! Records and games, with what they come to by a program written from the rules alone.
 
-use super::problem_tests::turn;
-use super::{Game, Turn, play_record};
+use crate::problem_tests::turn;
 use std::alloc::Global;
+use tt_game::{Game, Turn, play_record};
 use tt_sgf::{Size, read_tree};
 
 /// Black's and White's points and whether the game is over, or the number of the refusal.

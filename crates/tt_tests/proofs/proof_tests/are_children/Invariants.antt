@@ -1,6 +1,6 @@
 use Rattle.std.proofs.Common.{◌≡◌, drop}
 use Rattle.tt_proof.specs.Proven.{AreChildren, turns_of}
-use Rattle.tt_proof.proofs.tests.are_children.Given as goal
+use Rattle.tt_tests.proofs.proof_tests.are_children.Given as goal
 
 abbrev pub invariant-loop-place : goal.invariant-loop-place
 invariant-loop-place l = record {

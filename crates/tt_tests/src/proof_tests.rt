@@ -5,11 +5,11 @@ ghost use Rattle.tt_game.specs.Game.{IsLegal};
 ghost use Rattle.tt_game.specs.Turns.{OnBoard};
 ghost use Rattle.tt_proof.specs.Proven.{IsChild, AreChildren, turns_of};
 
-use crate::{Proof, Rejected, Tree, read_cert, replay, write_cert};
 use std::alloc::Global;
 use std::process::Abort;
 use std::test::Fail;
 use tt_game::{Line, Side, Turn, problem};
+use tt_proof::{Proof, Rejected, Tree, read_cert, replay, write_cert};
 use tt_sgf::{Size, read_tree};
 
 /// The problem of a record, or the number of the refusal.

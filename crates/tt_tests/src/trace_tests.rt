@@ -1,10 +1,10 @@
 //! Traces of searches from outside: the answer of each step, with the numbers behind it.
 
-use crate::PrivateStore;
-use crate::tests::{end_of_run, trace};
+use crate::search_tests::{end_of_run, trace};
 use std::alloc::Global;
 use std::str::from_utf8;
 use std::test::Fail;
+use tt_search::PrivateStore;
 
 /// A store that keeps so many proofs.
 fn bounded(alloc: Global, capacity: usize) -> Result<PrivateStore, Fail> {

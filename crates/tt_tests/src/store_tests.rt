@@ -2,13 +2,13 @@
 
 ghost use Rattle.std.specs.Prelude.{◌≡◌, ◌+◌, ◌≤◌};
 
-use crate::tests::{counts, posed, told, trace};
-use crate::{Free, Kept, Limits, PrivateStore, Reason, Search, Step, Store};
+use crate::search_tests::{counts, posed, told, trace};
 use std::alloc::Global;
 use std::sync::Arc;
 use std::test::Fail;
 use tt_game::{Line, Side};
 use tt_proof::Proof;
+use tt_search::{Free, Kept, Limits, PrivateStore, Reason, Search, Step, Store};
 use tt_sgf::NoMemory;
 
 /// White's two stones with liberties on both sides: Black to move wins.

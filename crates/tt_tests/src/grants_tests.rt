@@ -2,10 +2,10 @@
 
 ghost use Rattle.std.specs.Prelude.{◌≡◌};
 
-use crate::tests::{letter, posed};
-use crate::{End, Free, Grants, Limits, NoStore, Reason, Search, Step};
+use crate::search_tests::{letter, posed, trace};
 use std::alloc::Global;
 use std::test::Fail;
+use tt_search::{End, Free, Grants, Limits, NoStore, PrivateStore, Reason, Search, Step};
 
 /// White's two stones with liberties on both sides: Black to move wins by the third expansion.
 const SPLIT: &[u8] = b"(;SZ[4:1]AW[ba][da]PL[B]TR[ba])";
@@ -127,5 +127,38 @@ fn a_run_spends_no_more_than_it_needs(rt: HostRuntime) -> Result<(), Fail> {
     let end = searching(rt.alloc())?.run(&mut NoStore, &mut grants);
     assert!(&rt; is_settled(&end));
     assert!(&rt; grants.granted() == 3 && !grants.refused());
+    Ok(())
+}
+
+/// A search at that problem after two steps over the store.
+fn stepped_twice(alloc: Global, store: &mut PrivateStore) -> Result<Search, Fail> {
+    let mut search = searching(alloc)?;
+    let first = search.step(store, &mut Free::new());
+    let second = search.step(store, &mut Free::new());
+    if first == Step::Expanded && second == Step::Expanded {
+        return Ok(search);
+    }
+    Err(Fail::new("another step"))
+}
+
+/// A step of a search that is refused each expansion.
+fn refused_step(search: &mut Search, store: &mut PrivateStore) -> Result<Step, Fail> {
+    let mut grants = granting(0);
+    if grants.ask() {
+        return Err(Fail::new("granted"));
+    }
+    Ok(search.step(store, &mut grants))
+}
+
+/// The store is asked before a grant is: a kept proof closes a leaf where each ask is refused, too.
+#[test]
+fn a_kept_proof_closes_without_a_grant(rt: HostRuntime) -> Result<(), Fail> {
+    let alloc = rt.alloc();
+    let Some(mut store) = PrivateStore::bounded(alloc, 1) else {
+        return Err(Fail::new("no store"));
+    };
+    trace(alloc, SPLIT, 100, 512, &mut store)?;
+    let mut search = stepped_twice(alloc, &mut store)?;
+    assert!(&rt; refused_step(&mut search, &mut store)? == Step::Closed);
     Ok(())
 }

@@ -2,8 +2,8 @@
 
 ghost use Rattle.tt_game.specs.Turns.{IsOnBoard};
 
-use super::{Line, Turn, problem};
 use std::alloc::Global;
+use tt_game::{Line, Turn, problem};
 use tt_sgf::{Size, read_tree};
 
 /// The problem that a text is, or the number of the refusal.

@@ -1,10 +1,10 @@
 //! Texts and values whose readings come from the format itself, and not from this reader.
 
-use super::{
+use std::alloc::{AllocError, Global};
+use tt_sgf::{
     BadPoint, Point, PointOrPass, PointSet, SgfFault, Size, board_size, has_tree, number, point,
     point_set, read_tree, skip_blanks,
 };
-use std::alloc::{AllocError, Global};
 
 /// How many nodes the main line has and where the tree ends, or the fault.
 fn shape(alloc: Global, bytes: &[u8]) -> Result<(usize, usize), SgfFault> {

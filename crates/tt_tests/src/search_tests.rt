@@ -1,11 +1,11 @@
 //! Searches, with the answers of each of their steps. The tables are by a program written from the definitions alone.
 
-use super::{End, Free, Limits, NoStore, PrivateStore, Reason, Search, Step, Store};
 use std::alloc::Global;
 use std::sync::Arc;
 use std::test::Fail;
 use tt_game::{Line, Side, problem};
 use tt_proof::Proof;
+use tt_search::{End, Free, Limits, NoStore, PrivateStore, Reason, Search, Step, Store};
 use tt_sgf::read_tree;
 
 /// The problem that the text is.

@@ -1,0 +1,33 @@
+//! Tests of the crates below the threads, by what each of them makes public. They stand in a crate of their own, since a
+//! crate that has tests is proved twice, with and without them.
+//!
+//! | Module | What it tests |
+//! |---|---|
+//! | `sgf_tests` | `tt_sgf`: trees and values |
+//! | `record_tests` | `tt_game`: records and games |
+//! | `problem_tests`, `turn_tests` | `tt_game`: problems, and their turns |
+//! | `proof_tests` | `tt_proof`: certificates and proofs |
+//! | `search_tests`, `trace_tests` | `tt_search`: searches, and their traces |
+//! | `store_tests` | `tt_search`: searches over stores that are full, refuse or are refused |
+//! | `grants_tests` | `tt_search`: searches whose expansions are granted |
+
+#![tactic(auto)]
+
+#[cfg(test)]
+mod grants_tests;
+#[cfg(test)]
+mod problem_tests;
+#[cfg(test)]
+mod proof_tests;
+#[cfg(test)]
+mod record_tests;
+#[cfg(test)]
+mod search_tests;
+#[cfg(test)]
+mod sgf_tests;
+#[cfg(test)]
+mod store_tests;
+#[cfg(test)]
+mod trace_tests;
+#[cfg(test)]
+mod turn_tests;
