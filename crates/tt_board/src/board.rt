@@ -136,7 +136,8 @@ impl Board {
 
     /// The board with black stones, white stones and empty points put over whatever stands there; nothing is cleared.
     /// A point of several sets is black before it is white, and white before it is empty. Points past the board aren't looked at.
-    /// `Lifeless` exactly where some stone doesn't reach empty then, with the least point of such a stone.
+    /// `Lifeless` exactly where some stone doesn't reach empty then, with the least point of such a stone. Where nothing changes no
+    /// stone is looked at.
     pub fn set_up(
         &self,
         black: &PointSet,
@@ -150,6 +151,9 @@ impl Board {
     {
         let mut points = self.points.copy();
         cover(self.size, &mut points, black, white, clear);
+        if points.same(&self.points) {
+            return Ok(self.copy());
+        }
         if let Some(p) = first_lifeless(self.size, &points) {
             return Err(Lifeless(p));
         }
