@@ -7,12 +7,17 @@
 //! | `record_tests` | `tt_game`: records and games |
 //! | `problem_tests`, `turn_tests` | `tt_game`: problems, and their turns |
 //! | `proof_tests` | `tt_proof`: certificates and proofs |
+//! | `footprint_tests`, `footprint_tables` | `tt_proof`: footprints, and their tables |
 //! | `search_tests`, `trace_tests` | `tt_search`: searches, and their traces |
 //! | `store_tests` | `tt_search`: searches over stores that are full, refuse or are refused |
 //! | `grants_tests` | `tt_search`: searches whose expansions are granted |
 
 #![tactic(auto)]
 
+#[cfg(test)]
+mod footprint_tables;
+#[cfg(test)]
+mod footprint_tests;
 #[cfg(test)]
 mod grants_tests;
 #[cfg(test)]

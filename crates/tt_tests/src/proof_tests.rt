@@ -171,7 +171,7 @@ fn play(line: &Line, number: u16) -> Result<Turn, Fail> {
 }
 
 /// The proof of a certificate, by a replay.
-fn replayed(alloc: Global, line: &mut Line, certificate: &[u8]) -> Result<Proof, Fail> {
+pub(crate) fn replayed(alloc: Global, line: &mut Line, certificate: &[u8]) -> Result<Proof, Fail> {
     let size = line.frame().size;
     match read_cert(alloc, certificate, size) {
         Err(_) => Err(Fail::from("no certificate")),
@@ -194,7 +194,8 @@ fn text_of(alloc: Global, proof: &Proof, line: &Line) -> Result<Vec<u8>, Fail> {
     }
 }
 
-fn problem_line(alloc: Global, record: &[u8]) -> Result<Line, Fail> {
+/// The problem of a record.
+pub(crate) fn problem_line(alloc: Global, record: &[u8]) -> Result<Line, Fail> {
     match line_of(alloc, record) {
         Ok(line) => Ok(line),
         Err(_) => Err(Fail::from("no problem")),
