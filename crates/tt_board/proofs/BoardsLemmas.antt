@@ -1,9 +1,9 @@
 -- Boards in a row, kept by how each differs from the one behind it.
-use Rattle.std.proofs.Common.{◌≡◌, ℕ, ◌-◌, ◌<◌, List, [], ◌∷◌, ◌++◌, length, reverse, map, drop, get_or, sym, ap, ◌∙◌, arith}
+use Rattle.std.proofs.Common.{◌≡◌, ℕ, suc, ◌-◌, ◌<◌, List, [], ◌∷◌, ◌++◌, length, reverse, map, drop, get_or, All, refl, sym, ap, ◌∙◌, arith}
 use Rattle.std.proofs.lemmas.List.{reverse-append, map-append, drop_more}
 use Rattle.tt_sgf.specs.declared.size.Size.{Size}
 use Rattle.tt_board.specs.declared.differences.Edit.{Edit}
-use Rattle.tt_board.specs.Position.{Position, Colouring}
+use Rattle.tt_board.specs.Position.{Position, Colouring, colourings}
 use Rattle.tt_board.specs.Differences.{colourings_from}
 use Rattle.tt_board.specs.Boards.{led, board_of, boards_of, IsLed}
 
@@ -27,3 +27,10 @@ one_before last b old new here boards left d h from sizes some inside is all =
     ∙ ap (λ (x : Position). x ∷ drop left boards) is
     ∙ ap (λ n. get_or boards (left - 1) d ∷ drop n boards) (omega arith)
     ∙ sym (drop_more boards (left - 1) d (omega arith))
+
+-- boards of one size are those of their colourings
+pub shown_boards : (g : Size) (bs : List Position) → All (λ (b : Position). b.size ≡ g) bs → map (board_of g) (colourings bs) ≡ bs
+shown_boards g [] all = refl
+shown_boards g (b ∷ bs) all =
+    let own : board_of g b.points ≡ b = ap (λ (s : Size). board_of s b.points) (sym (all 0 b (omega arith))) in
+    ap (λ (x : Position). x ∷ map (board_of g) (colourings bs)) own ∙ ap (λ xs. b ∷ xs) (shown_boards g bs (λ k d lt. all (suc k) d (omega (arith, lt))))

@@ -1,12 +1,13 @@
 -- How colourings are kept by edits, and boards one after another by the last one and edits that lead back from it to the first.
 -- The view of `Boards` and private contracts cite these.
-use Rattle.std.specs.Prelude.{◌≡◌, ℕ, ◌<◌, ◌≤◌, List, [], ◌∷◌, ◌++◌, length, reverse, map, drop, Option, Some, None}
+use Rattle.std.specs.Prelude.{◌≡◌, ◌≢◌, ℕ, ◌<◌, ◌≤◌, List, [], ◌∷◌, ◌++◌, length, reverse, map, drop, Option, Some, None}
 use Rattle.tt_sgf.specs.declared.size.Size.{Size}
 use Rattle.tt_board.specs.declared.Colour.{Colour}
 use Rattle.tt_board.specs.declared.differences.Edit.{Edit}
 use Rattle.tt_board.specs.declared.differences.Edit.TheVariants.{Black, White, Empty}
 use Rattle.tt_board.specs.Position.{Position, Colouring}
 use Rattle.tt_board.specs.Reach.{entry_at}
+use Rattle.tt_board.specs.Play.{IsAlive}
 use Rattle.tt_board.specs.Differences.{edited, colourings_from}
 
 -- the edit that puts an entry on a point
@@ -27,6 +28,15 @@ board_of g c = record { size = g; points = c }
 -- the boards to which edits lead back, oldest first, and the last one behind them
 abbrev pub boards_of : Position → List Edit → List Position
 boards_of b es = reverse (map (board_of b.size) (colourings_from b.points es)) ++ b ∷ []
+
+-- the boards to which edits lead from a base of their size, oldest first
+abbrev pub trail_of : Position → List Edit → List Position
+trail_of b es = map (board_of b.size) (colourings_from b.points es)
+
+-- where edits finish colourings, they end with the last of them; where they end, each stone reaches empty
+pub record IsTrail (b : Position) (es : List Edit) : Type 0 where
+  pub alive : IsAlive b.size (led b.points es)
+  pub ends : es ≢ [] → (before : List Colouring) × (colourings_from b.points es ≡ before ++ led b.points es ∷ [])
 
 -- edits were added that lead from here to there, and finish the colouring there
 pub record IsLed (old new : List Edit) (here there : Colouring) : Type 0 where

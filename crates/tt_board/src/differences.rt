@@ -166,8 +166,15 @@ impl Differences {
         None
     }
 
+    /// Whether there are no edits.
+    pub(crate) fn is_empty(&self) -> bool
+        ensures { IsTrue result ↔ (self.now ≡ []) }
+    {
+        self.edits.is_empty()
+    }
+
     /// Where the edits lead to from a base.
-    fn end(&self, base: &Colouring) -> Colouring
+    pub(crate) fn end(&self, base: &Colouring) -> Colouring
         ensures { result ≡ led base.now self.now }
     {
         let mut points = base.copy();

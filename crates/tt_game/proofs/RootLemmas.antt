@@ -2,13 +2,14 @@
 use Rattle.tt_sgf.specs.declared.size.Size.{Size}
 use Rattle.std.proofs.Common.{◌≡◌, ℕ, ◌<◌, ◌≤◌, min, All, List, [], ◌∷◌, ◌++◌, length, take, drop, reverse, refl, sym, ap, subst, ◌∙◌, arith}
 use Rattle.std.proofs.lemmas.List.{take-append-le, take-append-drop, take_at, drop_at, length-take, drop-map, map-append, reverse-append, length_push}
+use Rattle.std.proofs.lemmas.List.Elements.{All-drop}
 use Rattle.tt_board.specs.Position.{Position, Colouring}
 use Rattle.tt_game.specs.declared.frame.Side.{Side}
 use Rattle.tt_game.specs.declared.line.Undo.{Undo}
 use Rattle.tt_game.specs.declared.line.Undo.TheVariants.{UndoPlay, UndoPass}
 use Rattle.tt_game.specs.Game.{State, history, opponent}
 use Rattle.tt_game.specs.Course.{Course, so_far, colourings, with_play, with_pass}
-use Rattle.tt_game.specs.Undoing.{course_of, state_at, undone, board_on, IsUndoable}
+use Rattle.tt_game.specs.Undoing.{course_of, state_at, undone, board_on, last, IsUndoable}
 use Rattle.tt_game.specs.Roots.{Begins, AreRooted}
 use Rattle.tt_game.proofs.CourseLemmas.{length-colourings, course_from, front_push, last_push, history_is, same_boards, twice}
 
@@ -108,3 +109,14 @@ pub shows_boards : (g : Size) (bs there : List Position) (passes : ℕ) (side : 
 shows_boards g bs there passes side s some sizes others shown =
     let own : history s ≡ colourings bs = ap history (sym shown) ∙ history_is g bs passes some in
     (λ e. same_boards g bs there sizes others (sym own ∙ e), λ e. own ∙ ap colourings e)
+
+-- of boards that end with one, that one is present
+pub last_shown : (bs before : List Position) (b : Position) → bs ≡ before ++ b ∷ [] → last (colourings bs) ≡ b.points
+last_shown bs before b e =
+    ap (λ xs. last (colourings xs)) e ∙ ap last (map-append (λ (x : Position). x.points) before (b ∷ [])) ∙ last_push (colourings before) b.points
+
+-- and it has the size of all
+pub last_sized : (g : Size) (bs before : List Position) (b : Position) → bs ≡ before ++ b ∷ [] → All (λ (x : Position). x.size ≡ g) bs → b.size ≡ g
+last_sized g bs before b e all =
+    subst (All (λ (x : Position). x.size ≡ g)) (drop_at before (b ∷ []) (length before) refl)
+    (All-drop (λ (x : Position). x.size ≡ g) (length before) (before ++ b ∷ []) (subst (All (λ (x : Position). x.size ≡ g)) e all)) 0 b (omega arith)

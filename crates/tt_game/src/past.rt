@@ -2,31 +2,29 @@
 
 ghost use Rattle.std.specs.Prelude.{◌≡◌, ◌<◌, ◌++◌, ◌↔◌, length, All, IsTrue, IfOk};
 ghost use Rattle.std.specs.Arc.{arc_value};
-ghost use Rattle.tt_sgf.specs.declared.size.Size.{Size};
 ghost use Rattle.tt_game.specs.Course.{so_far, colourings};
 ghost use Rattle.tt_game.specs.Game.{history};
 ghost use Rattle.tt_game.specs.Keys.{key_of};
 ghost use Rattle.tt_game.specs.Line.{IsPosition};
 ghost use Rattle.tt_game.specs.Undoing.{state_at};
-ghost use Rattle.tt_game.specs.Roots.{Begins, since};
+ghost use Rattle.tt_game.specs.Roots.{Begins};
 
 use crate::frame::Side;
 use crate::history::History;
 use crate::keys::{Key, key_at};
 use crate::line::Line;
 use crate::root::Root;
-use std::alloc::Global;
 use std::marker::Model;
 use std::sync::Arc;
-use tt_board::{Board, Boards};
+use tt_board::{Board, Trail};
 use tt_sgf::NoMemory;
 
 /// Where a line stood: its frame, history, side to move and passes. What the line shares with others of its beginning stands
-/// once; the boards since then are kept by their differences.
+/// once; the boards since then are kept by their differences, and none of them stands here.
 #[derive(Drop)]
 pub struct Past {
     root: Arc<Root>,
-    later: Option<Boards>,
+    later: Trail,
     to_move: Side,
     passes: u8,
 }
@@ -37,7 +35,6 @@ impl Model for Past {
     ghost use Rattle.std.specs.Coded.{codes};
     ghost use Rattle.tt_sgf.specs.contracts.sets.PointSet as points;
     ghost use Rattle.tt_game.specs.Line.{Stood};
-    ghost use Rattle.tt_game.specs.Roots.{since};
     ghost use Rattle.tt_game.specs.Undoing.{course_of, state_at};
 
     ghost Value = { Stood };
@@ -46,34 +43,13 @@ impl Model for Past {
 
     ghost view = { λ p. record {
       frame = (arc_value p.root).frame;
-      state = state_at (course_of (arc_value p.root).frame.size ((arc_value p.root).begun ++ since p.later) p.passes) p.to_move;
+      state = state_at (course_of (arc_value p.root).frame.size ((arc_value p.root).begun ++ p.later) p.passes) p.to_move;
     } };
 
     ghost invariant = { λ p. record {
-      some_board : 0 < length ((arc_value p.root).begun ++ since p.later);
-      sizes : All (λ b. b.size ≡ (arc_value p.root).frame.size) ((arc_value p.root).begun ++ since p.later);
+      some_board : 0 < length ((arc_value p.root).begun ++ p.later);
+      sizes : All (λ b. b.size ≡ (arc_value p.root).frame.size) ((arc_value p.root).begun ++ p.later);
     } };
-}
-
-/// Boards of one size, kept by their differences; nothing where there are none.
-fn kept(alloc: Global, boards: &[Board]) -> Result<Option<Boards>, NoMemory>
-    requires { (g : Size) × All (λ b. b.size ≡ g) boards.now }
-    ensures { IfOk result (λ b. since b ≡ boards.now) }
-{
-    if boards.is_empty() {
-        return Ok(None);
-    }
-    Ok(Some(Boards::of(alloc, boards)?))
-}
-
-/// Whether these boards are exactly those that are kept, none where nothing is.
-fn are_kept(kept: &Option<Boards>, boards: &[Board]) -> bool
-    ensures { IsTrue result ↔ (since kept.now ≡ boards.now) }
-{
-    match kept {
-        Some(kept) => kept.are(boards),
-        None => boards.is_empty(),
-    }
 }
 
 impl Past {
@@ -83,7 +59,11 @@ impl Past {
         requires begins { Begins (arc_value root.now).begun (so_far history.now) }
         ensures { IfOk result (λ p. p ≡ record { frame = (arc_value root.now).frame; state = state_at history.now to_move }) }
     {
-        let later = kept(history.alloc(), &history.boards()[root.count()..])?;
+        let later = Trail::of(
+            history.alloc(),
+            root.base(),
+            &history.boards()[root.count()..],
+        )?;
         Ok(Past {
             root: Arc::try_clone(root)?,
             later,
@@ -101,7 +81,7 @@ impl Past {
         if boards.len() < begun {
             return false;
         }
-        if !are_kept(&self.later, &boards[begun..]) {
+        if !self.later.are(&boards[begun..]) {
             return false;
         }
         self.root.began_with(&boards[..begun])
@@ -117,14 +97,14 @@ impl Past {
         self.has_history(line.history())
     }
 
-    /// The present board there.
-    pub fn present(&self) -> &Board
-        ensures size { result.now.size ≡ self.now.frame.size }
-        ensures points { result.now.points ≡ self.now.state.present }
+    /// The present board there, made anew: a copy of some hundred bytes, which takes no memory.
+    pub fn present(&self) -> Board
+        ensures size { result.size ≡ self.now.frame.size }
+        ensures points { result.points ≡ self.now.state.present }
     {
-        match &self.later {
-            Some(later) => later.last(),
-            None => self.root.last(),
+        match self.later.last() {
+            Some(board) => board,
+            None => self.root.last().copy(),
         }
     }
 
@@ -156,6 +136,6 @@ impl Past {
     pub fn key(&self) -> Key
         ensures { result ≡ key_of self.now.frame self.now.state }
     {
-        key_at(self.root.frame(), self.present(), self.to_move, self.passes)
+        key_at(self.root.frame(), &self.present(), self.to_move, self.passes)
     }
 }

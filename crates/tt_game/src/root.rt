@@ -1,6 +1,7 @@
 //! What lines of one beginning share: it stands once, however many places are kept of them.
 
 ghost use Rattle.std.specs.Prelude.{◌≡◌, ◌<◌, ◌↔◌, List, ◌∷◌, ◌++◌, [], length, All, IsTrue, IfOk, Some};
+ghost use Rattle.std.specs.Arc.{arc_value};
 ghost use Rattle.tt_sgf.specs.Sizes.{point_count};
 ghost use Rattle.tt_board.specs.Position.{Position, Colouring};
 ghost use Rattle.tt_board.specs.Reach.{entry_at};
@@ -10,23 +11,27 @@ ghost use Rattle.tt_game.specs.Roots.{AreStonesOf};
 use crate::frame::Frame;
 use crate::history::History;
 use std::marker::Model;
+use std::sync::Arc;
 use tt_board::{Board, Boards, Colour};
 use tt_sgf::{Bits, NoMemory, Point};
 
 /// A frame, and the boards that lines had when the first of them began. Contracts see it as `Rooted`.
 ///
 /// The stones of all these boards stand together in twelve words, so that superko asks once for what hundreds of boards never had.
+/// The base is a board from which those of later places are told by how they differ.
 #[derive(Drop)]
 pub(crate) struct Root {
     frame: Frame,
     boards: Boards,
     count: usize,
+    base: Arc<Board>,
     black: Bits,
     white: Bits,
 }
 
 impl Model for Root {
     ghost use Rattle.std.specs.Prelude.{◌≡◌, ◌<◌, length, All};
+    ghost use Rattle.std.specs.Arc.{arc_value};
     ghost use Rattle.std.specs.Coded.{codes};
     ghost use Rattle.tt_sgf.specs.contracts.sets.PointSet as points;
     ghost use Rattle.tt_board.specs.declared.Colour.TheVariants.{Black, White};
@@ -42,6 +47,7 @@ impl Model for Root {
       count : r.count ≡ length r.boards;
       some_board : 0 < length r.boards;
       sizes : All (λ b. b.size ≡ r.frame.size) r.boards;
+      base : (arc_value r.base).size ≡ r.frame.size;
       black : AreStonesOf Black r.boards r.black.words;
       white : AreStonesOf White r.boards r.white.words;
     } };
@@ -64,11 +70,13 @@ impl Root {
         requires { history.now.size ≡ frame.now.size }
         ensures { IfOk result (λ r. (r.frame ≡ frame.now) × (colourings r.begun ≡ so_far history.now)) }
     {
+        let alloc = history.alloc();
         let boards = history.boards();
         Ok(Root {
             frame: frame.copy(),
-            boards: Boards::of(history.alloc(), boards)?,
+            boards: Boards::of(alloc, boards)?,
             count: boards.len(),
+            base: Arc::new(alloc, history.present().copy())?,
             black: stones_of(boards, Colour::Black),
             white: stones_of(boards, Colour::White),
         })
@@ -88,6 +96,13 @@ impl Root {
         ensures sizes { All (λ b. b.size ≡ self.now.frame.size) self.now.begun }
     {
         self.count
+    }
+
+    /// The base.
+    pub(crate) fn base(&self) -> &Arc<Board>
+        ensures { (arc_value result.now).size ≡ self.now.frame.size }
+    {
+        &self.base
     }
 
     /// Whether a stone of this colour stood on `p` on some board of the beginning.

@@ -141,9 +141,9 @@ impl Proof {
         self.past.stands_with(line)
     }
 
-    /// The board of the proof's own position.
-    pub fn present(&self) -> &Board
-        ensures { result.now ≡ record { size = self.now.frame.size; points = self.now.state.present } }
+    /// The board of the proof's own position, made anew.
+    pub fn present(&self) -> Board
+        ensures { result ≡ record { size = self.now.frame.size; points = self.now.state.present } }
     {
         self.past.present()
     }
@@ -259,7 +259,7 @@ impl Proof {
         ensures { IfOk result (λ p. StandsAt p line.now.frame line.now.state × (p.side ≡ child.side)
             × (p.tree ≡ pick t child.tree)) }
     {
-        let footprint = Footprint::picked(alloc, line, &t, child.present(), child.footprint())?;
+        let footprint = Footprint::picked(alloc, line, &t, &child.present(), child.footprint())?;
         let side = child.side();
         let plan = child.into_plan();
         let past = line.past()?;
@@ -289,7 +289,7 @@ impl Proof {
         let mut footprint = Footprint::of_plays(alloc, line)?;
         let mut replies = Replies::with_capacity(alloc, children.len())?;
         for (turn, child) in children {
-            footprint.join(line, &turn, child.present(), child.footprint())?;
+            footprint.join(line, &turn, &child.present(), child.footprint())?;
             replies.push(turn, child.into_plan())?;
         }
         let past = line.past()?;

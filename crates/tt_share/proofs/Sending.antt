@@ -61,11 +61,18 @@ use Rattle.boxcar.proofs.Sent.{tag_sync, slot_send, slot_sync}
 use Rattle.tt_share.specs.contracts.jobs.Found as Found
 use Rattle.tt_share.specs.contracts.workers.HandedBack as HandedBack
 
+board_send : IsSend Board.the_row
+board_send = search (sendable, crosses) depth 40
+
+board_sync : IsSync Board.the_row
+board_sync = search (sendable, crosses) depth 40
+
+-- what lines begin with holds a board through a handle
 root_send : IsSend Root.the_row
-root_send = search (sendable, crosses) depth 40
+root_send = search (sendable, crosses, board_send, board_sync) depth 40
 
 root_sync : IsSync Root.the_row
-root_sync = search (sendable, crosses) depth 40
+root_sync = search (sendable, crosses, board_send, board_sync) depth 40
 
 -- what lines begin with is held through a handle
 rooted_send : IsSend (Arc.the_row Root.the_row Global.the_row ghosts)
@@ -91,10 +98,10 @@ line_send : IsSend Line.the_row
 line_send = search (sendable, crosses, history_send, rooted_send, played_send) depth 40 fits 10000
 
 past_send : IsSend Past.the_row
-past_send = search (sendable, crosses, root_send, root_sync) depth 40
+past_send = search (sendable, crosses, root_send, root_sync, board_send, board_sync) depth 40
 
 past_sync : IsSync Past.the_row
-past_sync = search (sendable, crosses, root_send, root_sync) depth 40
+past_sync = search (sendable, crosses, root_send, root_sync, board_send, board_sync) depth 40
 
 -- a tree holds its parts through handles, so each law of a layer asks both laws of the trees below
 module _ (h : TreeKnot.the_members → RattleType) (below : IsSend (h TreeKnot.member-Tree)) (shared : IsSync (h TreeKnot.member-Tree)) where
@@ -138,12 +145,6 @@ side_send = search (sendable, crosses) depth 40
 
 side_sync : IsSync Side.the_row
 side_sync = search (sendable, crosses) depth 40
-
-board_send : IsSend Board.the_row
-board_send = search (sendable, crosses) depth 40
-
-board_sync : IsSync Board.the_row
-board_sync = search (sendable, crosses) depth 40
 
 -- the boards of a footprint are held through handles
 boards_send : IsSend SharedBoards.the_row
