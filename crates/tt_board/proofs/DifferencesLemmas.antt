@@ -1,8 +1,7 @@
 -- Colourings kept by their differences.
-use Rattle.std.proofs.Common.{◌≡◌, ◌≢◌, ◌↔◌, ◌⊎◌, ℕ, zero, suc, ◌+◌, ◌<◌, ◌≤◌, List, [], ◌∷◌, ◌++◌, length, take, drop, get_or, set as put, Option, Some, None, Contains}
+use Rattle.std.proofs.Common.{◌≡◌, ◌≢◌, ℕ, ◌+◌, ◌<◌, ◌≤◌, List, [], ◌∷◌, ◌++◌, length, take, drop, get_or, set as put, Option, Some, None}
 use Rattle.std.proofs.Common.{refl, sym, ap, subst, ◌∙◌, arith, inl, inr}
 use Rattle.std.proofs.lemmas.Bool.{cases_lt, cases_eq}
-use Rattle.std.proofs.lemmas.List.Elements.{Contains-append_left, Contains-append_right, Contains-append_cases, Contains-push}
 use Rattle.std.proofs.lemmas.List.{append-nil, append_assoc, length-set, get_or-set_same, get_or-set_other, ext_get_or}
 use Rattle.std.proofs.lemmas.List.{length-take, take_at, take_more, take-append-drop, take-append-le}
 use Rattle.tt_board.specs.declared.Colour.{Colour}
@@ -11,7 +10,7 @@ use Rattle.tt_board.specs.declared.differences.Edit.TheVariants.{Black, White, E
 use Rattle.tt_board.specs.Position.{Colouring}
 use Rattle.tt_board.specs.Reach.{entry_at}
 use Rattle.tt_board.specs.Differences.{edited, finished, colourings_from}
-use Rattle.tt_board.specs.Boards.{edit_of, led, IsLed, IsHalf, IsNext, IsLast}
+use Rattle.tt_board.specs.Boards.{edit_of, led, IsLed, IsHalf}
 
 -- ---- one more edit
 
@@ -35,7 +34,7 @@ length_edited : (c : Colouring) (e : Edit) → length (edited c e) ≡ length c
 length_edited c (Black p) = length-set c p (Some Colour.Black)
 length_edited c (White p) = length-set c p (Some Colour.White)
 length_edited c (Empty p) = length-set c p None
-length_edited c (Whole sum) = refl
+length_edited c Whole = refl
 
 -- so do edits one after another
 pub length_led : (c : Colouring) (es : List Edit) → length (led c es) ≡ length c
@@ -101,15 +100,15 @@ from_same c es new p e is =
     ap (colourings_from c) is ∙ from_push c es (edit_of p e) ∙ ap (λ cs. colourings_from c es ++ cs) (finished_none (led c es) p e) ∙ append-nil (colourings_from c es)
 
 -- once all entries are led on, the edits lead there and finish that colouring
-pub led_whole : (here there : Colouring) (old es new : List Edit) (p sum : ℕ)
+pub led_whole : (here there : Colouring) (old es new : List Edit) (p : ℕ)
     → ((c : Colouring) → led c old ≡ here → IsHalf here there p (led c es))
     → ((c : Colouring) → colourings_from c es ≡ colourings_from c old)
-    → new ≡ es ++ Whole sum ∷ [] → length here ≡ length there → length here ≤ p → IsLed old new here there
-led_whole here there old es new p sum half same is fits all = record {
-  points = λ c from. ap (led c) is ∙ led_push c es (Whole sum) ∙ done c from;
-  colourings = λ c from. ap (colourings_from c) is ∙ from_push c es (Whole sum)
-      ∙ ap (λ cs. cs ++ finished (led c es) (Whole sum)) (same c)
-      ∙ ap (λ (x : Colouring). colourings_from c old ++ finished x (Whole sum)) (done c from);
+    → new ≡ es ++ Whole ∷ [] → length here ≡ length there → length here ≤ p → IsLed old new here there
+led_whole here there old es new p half same is fits all = record {
+  points = λ c from. ap (led c) is ∙ led_push c es Whole ∙ done c from;
+  colourings = λ c from. ap (colourings_from c) is ∙ from_push c es Whole
+      ∙ ap (λ cs. cs ++ finished (led c es) Whole) (same c)
+      ∙ ap (λ (x : Colouring). colourings_from c old ++ finished x Whole) (done c from);
 }
   where
     done : (c : Colouring) → led c old ≡ here → led c es ≡ there
@@ -124,93 +123,3 @@ front_kept old es new kept more =
 -- one more item behind a list keeps what stood at its front
 pub front_pushed : (old es new : List Edit) (e : Edit) → take (length old) es ≡ old → new ≡ es ++ e ∷ [] → take (length old) new ≡ old
 front_pushed old es new e kept is = front_kept old es new kept (ap (take (length es)) is ∙ take_at es (e ∷ []) (length es) refl)
-
--- ---- what is held
-
--- held are the colourings of before, and one more
-abbrev pub IsAdded : Colouring → List Edit → List Edit → Colouring → Type 0
-IsAdded base old new there = (x : Colouring) → Contains (colourings_from base new) x ↔ (Contains (colourings_from base old) x ⊎ (x ≡ there))
-
--- an item of a list is its first, or stands behind it
-first_or_behind : {X : Type 0} (x y : X) (xs : List X) → Contains (x ∷ xs) y → (y ≡ x) ⊎ Contains xs y
-first_or_behind x y xs h = elim (Contains-append_cases (x ∷ []) xs y h) [ inl at_first ↦ inl (only at_first) | inr behind ↦ inr behind ]
-  where
-    only : Contains (x ∷ []) y → y ≡ x
-    only (zero, lt, is) = sym is
-    only (suc k, lt, is) = absurd (omega (arith, lt))
-
--- the next colouring is held
-pub next_held : (es : List Edit) (from to : ℕ) (c next : Colouring) → IsNext es from to c next → Contains (colourings_from c (drop from es)) next
-next_held es from to c next n = subst (λ cs. Contains cs next) (sym n.colourings) (0, omega arith, refl)
-
--- so are those behind it
-pub behind_held : (es : List Edit) (from to : ℕ) (c next x : Colouring) → IsNext es from to c next
-    → Contains (colourings_from next (drop to es)) x → Contains (colourings_from c (drop from es)) x
-behind_held es from to c next x n h = subst (λ cs. Contains cs x) (sym n.colourings) (Contains-append_right (next ∷ []) (colourings_from next (drop to es)) x h)
-
--- and no others
-pub held_cases : (es : List Edit) (from to : ℕ) (c next x : Colouring) → IsNext es from to c next
-    → Contains (colourings_from c (drop from es)) x → (x ≡ next) ⊎ Contains (colourings_from next (drop to es)) x
-held_cases es from to c next x n h = first_or_behind next x (colourings_from next (drop to es)) (subst (λ cs. Contains cs x) n.colourings h)
-
--- at the end nothing is held
-pub none_held : (es : List Edit) (from : ℕ) (c end x : Colouring) → IsLast es from c end → Contains (colourings_from c (drop from es)) x → ⊥
-none_held es from c end x n h = absurd (omega (arith, h.1, ap length n.none))
-
--- what was added is held, with what was held before
-pub added_cases : (old new : List Edit) (c here there x : Colouring) → IsLed old new here there → led c old ≡ here
-    → Contains (colourings_from c new) x ↔ (Contains (colourings_from c old) x ⊎ (x ≡ there))
-added_cases old new c here there x h from =
-    let is = h.colourings c from in (
-      λ has. elim (Contains-append_cases (colourings_from c old) (there ∷ []) x (subst (λ cs. Contains cs x) is has)) [
-        | inl before ↦ inl before
-        | inr at_last ↦ elim (first_or_behind there x [] at_last) [ inl same ↦ inr same | inr none ↦ absurd (omega (arith, none.1)) ]
-      ],
-      λ either. subst (λ cs. Contains cs x) (sym is) (elim either [
-        | inl before ↦ Contains-append_left (colourings_from c old) (there ∷ []) x before
-        | inr same ↦ subst (Contains (colourings_from c old ++ there ∷ [])) (sym same) (Contains-push (colourings_from c old) there)
-      ]),
-    )
-
--- ---- what is appended
-
--- the next colouring was added, and isn't excepted
-pub next_added : (held new behind rest except : List Colouring) (next : Colouring)
-    → ((x : Colouring) → Contains new x ↔ (Contains held x ⊎ (x ≡ next))) → (Contains except next → ⊥)
-    → Contains rest next → ((x : Colouring) → Contains behind x → Contains rest x) → ((x : Colouring) → Contains rest x → (x ≡ next) ⊎ Contains behind x)
-    → (x : Colouring) → (Contains new x ⊎ (Contains behind x × (Contains except x → ⊥))) ↔ (Contains held x ⊎ (Contains rest x × (Contains except x → ⊥)))
-next_added held new behind rest except next added apart first later cases x = (
-  λ either. elim either [
-    | inl has ↦ elim ((added x).0 has) [
-      | inl before ↦ inl before
-      | inr is ↦ inr (subst (Contains rest) (sym is) first, λ h. apart (subst (Contains except) is h))
-    ]
-    | inr left ↦ inr (later x left.0, left.1)
-  ],
-  λ either. elim either [
-    | inl before ↦ inl ((added x).1 (inl before))
-    | inr left ↦ elim (cases x left.0) [
-      | inl is ↦ inl ((added x).1 (inr is))
-      | inr more ↦ inr (more, left.1)
-    ]
-  ],
-)
-
--- the next colouring is excepted
-pub next_left : (held behind rest except : List Colouring) (next : Colouring) → Contains except next
-    → ((x : Colouring) → Contains behind x → Contains rest x) → ((x : Colouring) → Contains rest x → (x ≡ next) ⊎ Contains behind x)
-    → (x : Colouring) → (Contains held x ⊎ (Contains behind x × (Contains except x → ⊥))) ↔ (Contains held x ⊎ (Contains rest x × (Contains except x → ⊥)))
-next_left held behind rest except next among later cases x = (
-  λ either. elim either [ inl before ↦ inl before | inr left ↦ inr (later x left.0, left.1) ],
-  λ either. elim either [
-    | inl before ↦ inl before
-    | inr left ↦ elim (cases x left.0) [
-      | inl is ↦ absurd (left.1 (subst (Contains except) (sym is) among))
-      | inr more ↦ inr (more, left.1)
-    ]
-  ],
-)
-
--- two equivalences one after another
-pub both_ways : {A B C : Type 0} → A ↔ B → B ↔ C → A ↔ C
-both_ways f g = (λ a. g.0 (f.0 a), λ c. f.1 (g.1 c))

@@ -1,14 +1,18 @@
 -- How colourings are kept by edits, and boards one after another by the last one and edits that lead back from it to the first.
 -- The view of `Boards` and private contracts cite these.
-use Rattle.std.specs.Prelude.{◌≡◌, ◌≢◌, ℕ, ◌<◌, ◌≤◌, List, [], ◌∷◌, ◌++◌, length, reverse, map, drop, Option, Some, None}
+use Rattle.std.specs.Prelude.{◌≡◌, ◌≢◌, ◌==◌, if◌then◌else◌, ℕ, ◌<◌, ◌≤◌, List, [], ◌∷◌, ◌++◌, length, reverse, map, drop, Option, Some, None}
 use Rattle.tt_sgf.specs.declared.size.Size.{Size}
 use Rattle.tt_board.specs.declared.Colour.{Colour}
 use Rattle.tt_board.specs.declared.differences.Edit.{Edit}
-use Rattle.tt_board.specs.declared.differences.Edit.TheVariants.{Black, White, Empty}
+use Rattle.tt_board.specs.declared.differences.Edit.TheVariants.{Black, White, Empty, Whole}
 use Rattle.tt_board.specs.Position.{Position, Colouring}
 use Rattle.tt_board.specs.Reach.{entry_at}
 use Rattle.tt_board.specs.Play.{IsAlive}
 use Rattle.tt_board.specs.Differences.{edited, colourings_from}
+
+-- the edit of a kind, at a point
+abbrev pub edit_at : ℕ → ℕ → Edit
+edit_at kind p = if kind == 0 then Black p else (if kind == 1 then White p else (if kind == 2 then Empty p else Whole))
 
 -- the edit that puts an entry on a point
 abbrev pub edit_of : ℕ → Option Colour → Edit

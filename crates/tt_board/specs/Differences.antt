@@ -10,14 +10,14 @@ abbrev pub edited : Colouring → Edit → Colouring
 edited c (Black p) = slice_set c p (Some Colour.Black)
 edited c (White p) = slice_set c p (Some Colour.White)
 edited c (Empty p) = slice_set c p None
-edited c (Whole sum) = c
+edited c Whole = c
 
 -- the colouring that an edit finishes
 abbrev pub finished : Colouring → Edit → List Colouring
 finished c (Black p) = []
 finished c (White p) = []
 finished c (Empty p) = []
-finished c (Whole sum) = c ∷ []
+finished c Whole = c ∷ []
 
 -- the colourings to which edits lead from a base, in their order
 abbrev pub colourings_from : Colouring → List Edit → List Colouring

@@ -9,10 +9,10 @@ pub mod Decided
 pub mod Play
 pub mod Glance
 pub mod Stones
-pub mod Differences
 pub mod Laws
 -- What private contracts and proofs cite. Nobody has to believe these.
 pub mod Planes
+pub mod Differences
 pub mod Boards
 pub mod Chain
 pub mod Chains

@@ -32,9 +32,6 @@ impl Model for Colouring {
     ghost invariant = { λ c. IsPlain c.count c.black.words c.white.words };
 }
 
-/// An odd number with bits of both kinds all over: 2^64 by the golden ratio.
-const MIXER: u64 = 0x9e37_79b9_7f4a_7c15;
-
 /// Whether the entry is a stone of this colour.
 fn is_stone_of(entry: Option<Colour>, colour: Colour) -> bool
     ensures { result ≡ is_stone_of entry colour }
@@ -112,18 +109,6 @@ impl Colouring {
             Colour::Black => &self.black,
             Colour::White => &self.white,
         }
-    }
-
-    /// A number that colourings with other entries mostly haven't. Contracts say nothing of it.
-    pub(crate) fn sum(&self) -> u16 {
-        let mut sum: u64 = 0;
-        for word in self.black.words() {
-            sum = (sum ^ word).wrapping_mul(MIXER);
-        }
-        for word in self.white.words() {
-            sum = (sum ^ word).wrapping_mul(MIXER);
-        }
-        (sum >> 48) as u16
     }
 
     /// Whether both have the same entries. Boards of one history differ in their stones, so these come first.

@@ -1,12 +1,11 @@
 //! Colourings kept by their differences: those of one game differ from one another by few stones and what these captured.
 
-ghost use Rattle.std.specs.Prelude.{◌≡◌, ◌≤◌, ◌↔◌, ◌⊎◌, [], length, take, Contains, IsTrue, IfOk, OnOk, OnErr, MatchOption};
-ghost use Rattle.tt_board.specs.Position.{Colouring as Entries, colourings};
-ghost use Rattle.tt_board.specs.Differences.{edited, colourings_from};
-ghost use Rattle.tt_board.specs.Boards.{edit_of, led, IsLed, IsNext, IsLast};
+ghost use Rattle.std.specs.Prelude.{◌≡◌, ◌<◌, ◌≤◌, ◌↔◌, [], length, take, IsTrue, IfOk, OnOk, OnErr, MatchOption};
+ghost use Rattle.tt_board.specs.Differences.{edited};
+ghost use Rattle.tt_board.specs.Boards.{edit_at, edit_of, led, IsLed, IsNext, IsLast};
+ghost use Rattle.tt_board.specs.declared.differences.TheConstants.{PLACES};
 
 use super::Colour;
-use super::board::Board;
 use super::colouring::Colouring;
 use std::alloc::{AllocError, Global};
 use std::marker::Model;
@@ -18,16 +17,58 @@ enum Edit {
     Black(u16),
     White(u16),
     Empty(u16),
-    /// The next colouring is whole; this is its sum.
-    Whole(u16),
+    /// The next colouring is whole.
+    Whole,
+}
+
+/// How many numbers there are for the points of each kind of edit.
+const PLACES: u16 = 512;
+
+/// An edit in two bytes: its kind so many times `PLACES`, and its point. Contracts see the edit.
+#[derive(Drop)]
+struct Step(u16);
+
+impl Model for Step {
+    ghost use Rattle.std.specs.Prelude.{◌/◌, ◌%◌};
+    ghost use Rattle.tt_board.specs.declared.differences.Edit.{Edit};
+    ghost use Rattle.tt_board.specs.declared.differences.TheConstants.{PLACES};
+    ghost use Rattle.tt_board.specs.Boards.{edit_at};
+
+    ghost Value = { Edit };
+
+    ghost view = { λ s. edit_at (s.0 / PLACES) (s.0 % PLACES) };
+}
+
+impl Step {
+    /// The step of this kind at a point.
+    fn new(kind: u16, p: u16) -> Step
+        requires kind { kind < 4 }
+        requires point { p < PLACES }
+        ensures { result ≡ edit_at kind p }
+    {
+        Step(kind * PLACES + p)
+    }
+
+    /// The edit that it stands for.
+    fn edit(&self) -> Edit
+        ensures { result ≡ self.now }
+    {
+        let p = self.0 % PLACES;
+        match self.0 / PLACES {
+            0 => Edit::Black(p),
+            1 => Edit::White(p),
+            2 => Edit::Empty(p),
+            _ => Edit::Whole,
+        }
+    }
 }
 
 /// Colourings of boards of one size, in a few bytes for each: the first is kept by how it differs from a base, which every
 /// call is given anew and which isn't kept, each other one by how it differs from the one before it. Contracts see the
 /// edits; `colourings_from` a base says which colourings they are.
 #[derive(Drop)]
-pub struct Differences {
-    edits: Vec<Edit>,
+pub(crate) struct Differences {
+    edits: Vec<Step>,
 }
 
 impl Model for Differences {
@@ -40,13 +81,14 @@ impl Model for Differences {
 }
 
 /// The edit that puts an entry on a point.
-fn edit_of(p: u16, entry: Option<Colour>) -> Edit
+fn edit_of(p: u16, entry: Option<Colour>) -> Step
+    requires { p < PLACES }
     ensures { result ≡ edit_of p entry }
 {
     match entry {
-        Some(Colour::Black) => Edit::Black(p),
-        Some(Colour::White) => Edit::White(p),
-        None => Edit::Empty(p),
+        Some(Colour::Black) => Step::new(0, p),
+        Some(Colour::White) => Step::new(1, p),
+        None => Step::new(2, p),
     }
 }
 
@@ -58,7 +100,7 @@ fn edit_points(points: &mut Colouring, edit: Edit)
         Edit::Black(number) => (number, Some(Colour::Black)),
         Edit::White(number) => (number, Some(Colour::White)),
         Edit::Empty(number) => (number, None),
-        Edit::Whole(_) => return,
+        Edit::Whole => return,
     };
     let p = usize::from(number);
     if p < points.len() {
@@ -68,7 +110,7 @@ fn edit_points(points: &mut Colouring, edit: Edit)
 
 /// Adds the edits that lead from a colouring to another one of as many points. Where memory is refused, some of them may
 /// stand behind those of before.
-fn push_edits(edits: &mut Vec<Edit>, here: &Colouring, there: &Colouring) -> Result<(), AllocError>
+fn push_edits(edits: &mut Vec<Step>, here: &Colouring, there: &Colouring) -> Result<(), AllocError>
     requires { length here.now ≡ length there.now }
     ensures ok { OnOk result (IsLed edits.old.items edits.new.items here.now there.now) }
     ensures kept { take (length edits.old.items) edits.new.items ≡ edits.old.items }
@@ -80,32 +122,11 @@ fn push_edits(edits: &mut Vec<Edit>, here: &Colouring, there: &Colouring) -> Res
         edits.push(edit_of(p as u16, there.at(p)))?;
         p = differing.first_from(p + 1);
     }
-    edits.push(Edit::Whole(there.sum()))?;
+    edits.push(Step::new(3, 0))?;
     Ok(())
 }
 
-/// Whether the colouring is that of one of the boards.
-fn is_among(points: &Colouring, boards: &[Board]) -> bool
-    ensures { IsTrue result ↔ Contains (colourings boards.now) points.now }
-{
-    for board in boards {
-        if board.points().same(points) {
-            return true;
-        }
-    }
-    false
-}
-
 impl Differences {
-    /// None at all, which takes no memory.
-    pub fn new(alloc: Global) -> Differences
-        ensures { result ≡ [] }
-    {
-        Differences {
-            edits: Vec::new(alloc),
-        }
-    }
-
     /// None at all, with room for so many edits.
     pub(crate) fn with_capacity(alloc: Global, edits: usize) -> Result<Differences, NoMemory>
         ensures { IfOk result (λ d. d ≡ []) }
@@ -115,17 +136,8 @@ impl Differences {
         })
     }
 
-    /// The same differences again.
-    pub fn try_clone(&self, alloc: Global) -> Result<Differences, NoMemory>
-        ensures { IfOk result (λ d. d ≡ self.now) }
-    {
-        Ok(Differences {
-            edits: Vec::from_slice(alloc, &self.edits)?,
-        })
-    }
-
     /// Gives back memory that isn't needed.
-    pub fn shrink_to_fit(&mut self)
+    pub(crate) fn shrink_to_fit(&mut self)
         ensures { self.new ≡ self.old }
     {
         self.edits.shrink_to_fit();
@@ -156,9 +168,9 @@ impl Differences {
     {
         let mut at = from;
         while at < self.edits.len() {
-            let edit = self.edits[at];
+            let edit = self.edits[at].edit();
             at += 1;
-            if let Edit::Whole(_) = edit {
+            if let Edit::Whole = edit {
                 return Some(at);
             }
             edit_points(points, edit);
@@ -179,133 +191,8 @@ impl Differences {
     {
         let mut points = base.copy();
         for edit in &self.edits {
-            edit_points(&mut points, *edit);
+            edit_points(&mut points, edit.edit());
         }
         points
-    }
-
-    /// Whether some colouring that is held has that sum.
-    fn has_sum(&self, sum: u16) -> bool {
-        for edit in &self.edits {
-            if let Edit::Whole(held) = edit {
-                if *held == sum {
-                    return true;
-                }
-            }
-        }
-        false
-    }
-
-    /// Whether the colouring is held.
-    fn holds(&self, base: &Colouring, points: &Colouring) -> bool
-        ensures { IsTrue result → Contains (colourings_from base.now self.now) points.now }
-    {
-        let mut held = base.copy();
-        let mut from = 0;
-        while let Some(next) = self.lead(from, &mut held) {
-            if held.same(points) {
-                return true;
-            }
-            from = next;
-        }
-        false
-    }
-
-    /// Adds a colouring where it isn't held yet; `last` is where the edits lead to from the base. Without memory it is as it
-    /// was. Sums are looked at first: most colourings are new, and their sums are, too.
-    fn put(
-        &mut self,
-        base: &Colouring,
-        last: &mut Colouring,
-        points: &Colouring,
-    ) -> Result<(), NoMemory>
-        requires fits { length points.now ≡ length base.now }
-        requires last { last.old ≡ led base.now self.old }
-        ensures ok { OnOk result ((c : Entries) → Contains (colourings_from base.now self.new) c
-            ↔ (Contains (colourings_from base.now self.old) c ⊎ (c ≡ points.now))) }
-        ensures err { OnErr result (self.new ≡ self.old) }
-        ensures kept { take (length self.old) self.new ≡ self.old }
-        ensures last { last.new ≡ led base.now self.new }
-    {
-        if self.has_sum(points.sum()) && self.holds(base, points) {
-            return Ok(());
-        }
-        self.push(last, points)?;
-        *last = points.copy();
-        Ok(())
-    }
-
-    /// Adds the colouring of a board of the base's size, where it isn't held yet. Without memory it is as it was.
-    pub fn add(&mut self, base: &Board, board: &Board) -> Result<(), NoMemory>
-        requires { board.now.size ≡ base.now.size }
-        ensures ok { OnOk result ((c : Entries) → Contains (colourings_from base.now.points self.new) c
-            ↔ (Contains (colourings_from base.now.points self.old) c ⊎ (c ≡ board.now.points))) }
-        ensures err { OnErr result (self.new ≡ self.old) }
-    {
-        let own = base.points();
-        let mut last = self.end(own);
-        self.put(own, &mut last, board.points())
-    }
-
-    /// Adds each colouring that others hold from a base of the same size, but for those boards' colourings, where it isn't
-    /// held yet. Without memory it is as it was.
-    pub fn append(
-        &mut self,
-        base: &Board,
-        others: &Differences,
-        others_base: &Board,
-        except: &[Board],
-    ) -> Result<(), NoMemory>
-        requires { others_base.now.size ≡ base.now.size }
-        ensures ok { OnOk result ((c : Entries) → Contains (colourings_from base.now.points self.new) c
-            ↔ (Contains (colourings_from base.now.points self.old) c
-            ⊎ (Contains (colourings_from others_base.now.points others.now) c × (Contains (colourings except.now) c → ⊥)))) }
-        ensures err { OnErr result (self.new ≡ self.old) }
-    {
-        let before = self.edits.len();
-        let own = base.points();
-        let mut last = self.end(own);
-        let mut points = others_base.points().copy();
-        let mut from = 0;
-        while let Some(next) = others.lead(from, &mut points) {
-            if !is_among(&points, except) && self.put(own, &mut last, &points).is_err() {
-                self.edits.truncate(before);
-                return Err(NoMemory);
-            }
-            from = next;
-        }
-        Ok(())
-    }
-
-    /// Whether each colouring that is held is that of one of the boards. It takes no memory.
-    pub fn all_in(&self, base: &Board, boards: &[Board]) -> bool
-        ensures { IsTrue result ↔ ((c : Entries) → Contains (colourings_from base.now.points self.now) c
-            → Contains (colourings boards.now) c) }
-    {
-        let mut points = base.points().copy();
-        let mut from = 0;
-        while let Some(next) = self.lead(from, &mut points) {
-            if !is_among(&points, boards) {
-                return false;
-            }
-            from = next;
-        }
-        true
-    }
-
-    /// Whether no colouring that is held is that of one of the boards. It takes no memory.
-    pub fn none_in(&self, base: &Board, boards: &[Board]) -> bool
-        ensures { IsTrue result ↔ ((c : Entries) → Contains (colourings_from base.now.points self.now) c
-            → Contains (colourings boards.now) c → ⊥) }
-    {
-        let mut points = base.points().copy();
-        let mut from = 0;
-        while let Some(next) = self.lead(from, &mut points) {
-            if is_among(&points, boards) {
-                return false;
-            }
-            from = next;
-        }
-        true
     }
 }

@@ -1,6 +1,6 @@
 //! Boards of Go under the Tromp-Taylor rules: colourings in which each stone reaches empty, moves that capture, and area scores.
 //!
-//! A board takes no memory but its own: `Boards`, `Trail` and `Differences` alone ask for some, and say where there is none.
+//! A board takes no memory but its own: `Boards` and `Trail` alone ask for some, and say where there is none.
 //! A contract sees a board as a `Position`: its size, and its colouring as a list of entries, row by row.
 #![tactic(auto)]
 
@@ -31,7 +31,6 @@ mod trail;
 pub use board::{Board, Lifeless, Occupied};
 pub use boards::Boards;
 pub use counted::CountedBoard;
-pub use differences::Differences;
 pub use quiet::Glance;
 pub use trail::Trail;
 
@@ -57,8 +56,8 @@ impl Colour {
 #[cfg(test)]
 mod chain_tests;
 #[cfg(test)]
-mod differences_tests;
-#[cfg(test)]
 mod move_tests;
 #[cfg(test)]
 mod tests;
+#[cfg(test)]
+mod trail_tests;

@@ -23,8 +23,7 @@ loop-p-preserved c =
 pub returns-clause-ok : goal.returns-clause-ok
 returns-clause-ok c =
     let es = c.loop-p.edits.items in
-    let sum = c.sum.result in
-    let is : c.push-2.new.self.items ≡ es ++ Whole sum ∷ [] = search rules in
-    led_whole c.args.here.now c.args.there.now c.args.edits.now.items es c.push-2.new.self.items c.loop-p.p sum
+    let is : c.push-2.new.self.items ≡ es ++ Whole ∷ [] = search rules in
+    led_whole c.args.here.now c.args.there.now c.args.edits.now.items es c.push-2.new.self.items c.loop-p.p
     c.loop-p.invariant.half c.loop-p.invariant.colourings is c.requires
     (omega (arith, c.loop-p-test.false, c.len-count.ensures.value))

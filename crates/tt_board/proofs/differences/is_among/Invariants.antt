@@ -1,6 +1,0 @@
-use Rattle.std.proofs.Common.{◌≡◌, ℕ, ◌<◌, get_or}
-use Rattle.tt_board.specs.Position.{Position}
-use Rattle.tt_board.proofs.differences.is_among.Given as goal
-
-abbrev pub invariant-loop-board : goal.invariant-loop-board
-invariant-loop-board l = (k : ℕ) (d : Position) → k < l.board-index → (get_or l.boards k d).points ≡ l.points → ⊥
