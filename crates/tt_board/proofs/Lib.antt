@@ -4,6 +4,7 @@ pub mod ChainLemmas
 pub mod DifferencesLemmas
 pub mod CountLemmas
 pub mod ExactLemmas
+pub mod FillLemmas
 pub mod JoinLemmas
 pub mod LiftLemmas
 pub mod LinkLemmas

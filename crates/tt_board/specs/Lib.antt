@@ -15,4 +15,5 @@ pub mod Planes
 pub mod Differences
 pub mod Boards
 pub mod Chain
+pub mod Filling
 pub mod Chains

@@ -1,7 +1,7 @@
-use Rattle.std.proofs.Common.{rules, ◌≡◌, length, take, map, ap, ◌∙◌, arith}
+use Rattle.std.proofs.Common.{rules, ◌≡◌, map, ap, ◌∙◌, arith}
 use Rattle.std.proofs.lemmas.List.{take_all}
 use Rattle.std.specs.Arc.{arc_value}
-use Rattle.tt_board.specs.Position.{Position, colourings}
+use Rattle.tt_board.specs.Position.{colourings}
 use Rattle.tt_board.specs.Differences.{colourings_from}
 use Rattle.tt_board.specs.Boards.{board_of}
 use Rattle.tt_board.proofs.BoardsLemmas.{shown_boards}
