@@ -52,8 +52,8 @@ node::Node::footprint-returns-in-Won-clause-exact t c =
     let s = c.args.line.now.state in
     subst (λ tree. IsFootprint f s (strategy_for c.args.side tree) c.empty-in-Won.result) (sym (ap shape c.in-Won.is) ∙ c.self.view_is) (c.empty-in-Won.ensures f s)
 
-pub node::Node::footprint-footprint_at-requires-in-Some : goal.node::Node::footprint-footprint_at-requires-in-Some
-node::Node::footprint-footprint_at-requires-in-Some t c =
+pub node::Node::footprint-offered_footprint-requires : goal.node::Node::footprint-offered_footprint-requires
+node::Node::footprint-offered_footprint-requires t c =
     let f = c.args.line.now.frame in
     let s = c.args.line.now.state in
     let p = c.in-Some.proof.now in
