@@ -16,6 +16,5 @@ pub mod Successors
 pub mod Replies
 pub mod Joins
 pub mod LegalPlays
-pub mod Keyed
 pub mod Ends
 pub mod Chains

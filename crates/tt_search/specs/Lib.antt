@@ -7,6 +7,7 @@ pub mod Settled
 pub mod Searched
 pub mod Ended
 pub mod Stores
+pub mod Usable
 pub mod Grants
 pub mod KeyIndex
 -- What private contracts and proofs cite. Nobody has to believe these.
@@ -30,7 +31,6 @@ pub mod Taken
 pub mod Steady
 pub mod Asking
 pub mod Sprouting
-pub mod Usable
 pub mod Searching
 pub mod Advanced
 pub mod KeyChains

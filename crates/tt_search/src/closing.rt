@@ -1,4 +1,4 @@
-//! Kept proofs that may be used at a leaf.
+//! Kept proofs that may be used at a line.
 
 ghost use Rattle.std.specs.Prelude.{◌≡◌, ◌≤◌, ◌↔◌, IfOk, IfSome, IsTrue, true, Ok};
 ghost use Rattle.tt_game.specs.Keys.{key_of};
@@ -27,8 +27,9 @@ fn is_usable(line: &mut Line, room: u16, proof: &Proof) -> Result<bool, NoMemory
     Ok(wins)
 }
 
-/// A kept proof that may be used at the line: the attacker's, or else the defender's.
-pub(crate) fn closing<S: Store>(
+/// A kept proof that may be used at the line, with room for as many turns: the attacker's, or else the defender's. Its tree
+/// wins there, and is no deeper. `NoMemory` where memory was refused. The line stands as before.
+pub fn usable<S: Store>(
     line: &mut Line,
     room: u16,
     store: &mut S,

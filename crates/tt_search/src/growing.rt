@@ -18,7 +18,7 @@ ghost use Rattle.tt_search.specs.declared.limits.Reason.TheVariants.{Total};
 ghost use Rattle.tt_search.specs.declared.limits.Step.TheVariants.{Expanded, Closed, Stuck};
 
 use crate::children::{Children, Packed};
-use crate::closing::closing;
+use crate::closing::usable;
 use crate::edges::Mark;
 use crate::grants::Grants;
 use crate::leaves::{closed_leaf, expanded_at, new_leaf};
@@ -47,7 +47,7 @@ fn leaf_step<S: Store>(walk: &mut Walk, store: &mut S) -> (Step, Node)
     ensures unasked { result.0 ≢ Stuck Total }
     ensures taken { Taken (stand_of walk.old) (stage fresh walk.old.left) result.0 result.1 }
 {
-    match closing(&mut walk.line, walk.room, store) {
+    match usable(&mut walk.line, walk.room, store) {
         Err(_) => return (Step::Stuck(Reason::Memory), new_leaf(None)),
         Ok(Some(proof)) => return (Step::Closed, closed_leaf(proof)),
         Ok(None) => {}

@@ -26,6 +26,7 @@ mod settled;
 mod store;
 mod walk;
 
+pub use closing::usable;
 pub use grants::{Free, Grants};
 pub use key_index::{KeyIndex, ProofRow};
 pub use limits::{Limits, MOST_EXPANDED, Reason, Step};
