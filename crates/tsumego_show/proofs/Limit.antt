@@ -10,11 +10,11 @@ use Rattle.devices.specs.PartLaws.{cut_or_whole}
 use Rattle.devices.specs.Faults.{is_output_fault}
 use Rattle.devices.specs.Watching.{IsInput}
 use Rattle.devices.specs.Writing.{Breaks, ForInput}
-use Rattle.tsumego_show.specs.Shown.{IsShown, IsTold, too_long, trees}
-use Rattle.tsumego_show.specs.Writing.{Writes}
+use Rattle.tsumego_show.specs.Shown.{IsShown, IsInputText, too_long, trees}
+use Rattle.tsumego_show.specs.Writing.{WritesShown}
 
 -- what is told of a part that is too long is told of the input
-long_told : (input part text : List ℕ) (refused : Bool) → length part ≡ MAX_BYTES + 1 → MAX_BYTES + 1 ≤ length input → IsTold part text refused → IsTold input text refused
+long_told : (input part text : List ℕ) (refused : Bool) → length part ≡ MAX_BYTES + 1 → MAX_BYTES + 1 ≤ length input → IsInputText part text refused → IsInputText input text refused
 long_told input part text refused e le (too_long long) = too_long (omega arith)
 long_told input part text refused e le (trees text' refused' small h) = absurd (omega arith)
 
@@ -26,26 +26,26 @@ shown_whole input text status h = elim (cut_or_whole (MAX_BYTES + 1) input) [
 ]
 
 -- and what is written of it is written of the input
-writes_whole : (input : List ℕ) (r : Result ℕ RunFault) (a b : Option (List ℕ)) → Writes (take (MAX_BYTES + 1) input) r a b → Writes input r a b
+writes_whole : (input : List ℕ) (r : Result ℕ RunFault) (a b : Option (List ℕ)) → WritesShown (take (MAX_BYTES + 1) input) r a b → WritesShown input r a b
 writes_whole input (Ok status) a b w = (w.0, shown_whole input w.0 status w.1, w.2)
 writes_whole input (Err Input) a b w = w
 writes_whole input (Err Output) a b w = (w.0, w.1, (w.2.0, shown_whole input w.0 w.2.0 w.2.1), w.3)
 writes_whole input (Err Memory) a b w = w
 
 -- what is written on the part up to the limit is written on the input
-pub writes_read : (told : Option (List ℕ)) (bytes : List ℕ) (r : Result ℕ RunFault) (a b : Option (List ℕ)) → IsInput (MAX_BYTES + 1) told bytes → Writes bytes r a b
-    → ForInput told (λ input. Writes input r a b)
+pub writes_read : (told : Option (List ℕ)) (bytes : List ℕ) (r : Result ℕ RunFault) (a b : Option (List ℕ)) → IsInput (MAX_BYTES + 1) told bytes → WritesShown bytes r a b
+    → ForInput told (λ input. WritesShown input r a b)
 writes_read None bytes r a b e w = (bytes, w)
-writes_read (Some input) bytes r a b e w = writes_whole input r a b (subst (λ (x : List ℕ). Writes x r a b) e w)
+writes_read (Some input) bytes r a b e w = writes_whole input r a b (subst (λ (x : List ℕ). WritesShown x r a b) e w)
 
 -- nothing is written where nothing was read
-nothing_written : (input : List ℕ) (e : RunFault) (a : Option (List ℕ)) → is_output_fault {A = ℕ} (Err e) ≡ false → Writes input (Err e) a a
+nothing_written : (input : List ℕ) (e : RunFault) (a : Option (List ℕ)) → is_output_fault {A = ℕ} (Err e) ≡ false → WritesShown input (Err e) a a
 nothing_written input Input a quiet = Keeps-refl a
 nothing_written input Output a quiet = let bad : true ≡ false = quiet in cc
 nothing_written input Memory a quiet = ([], refl, Appends-nil a)
 
 -- so it is where the reader tells what it had to give
-pub writes_nothing : (told : Option (List ℕ)) (e : RunFault) (a : Option (List ℕ)) → is_output_fault {A = ℕ} (Err e) ≡ false → ForInput told (λ input. Writes input (Err e) a a)
+pub writes_nothing : (told : Option (List ℕ)) (e : RunFault) (a : Option (List ℕ)) → is_output_fault {A = ℕ} (Err e) ≡ false → ForInput told (λ input. WritesShown input (Err e) a a)
 writes_nothing None e a quiet = ([], nothing_written [] e a quiet)
 writes_nothing (Some input) e a quiet = nothing_written input e a quiet
 
@@ -56,7 +56,7 @@ kept_whole (Some x) None w = absurd w
 kept_whole (Some x) (Some y) w = w ∙ sym (append-nil x)
 
 -- a fault came where a text was to be written
-pub text_breaks : (input text : List ℕ) (status : ℕ) (e : RunFault) (a b : Option (List ℕ)) → IsShown input text status → Breaks text e a b → Writes input (Err e) a b
+pub text_breaks : (input text : List ℕ) (status : ℕ) (e : RunFault) (a b : Option (List ℕ)) → IsShown input text status → Breaks text e a b → WritesShown input (Err e) a b
 text_breaks input text status Input a b h w = absurd w
 text_breaks input text status Output a b h w = (text, w.0, (status, h), w.1)
 text_breaks input text status Memory a b h w = ([], refl, kept_whole a b w)

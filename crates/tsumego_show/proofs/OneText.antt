@@ -12,7 +12,7 @@ use Rattle.tt_proof.specs.Laws.{OneCertificate}
 use Rattle.tt_proof.specs.Strategy.{Strategy}
 use Rattle.tsumego_show.proofs.FirstTurn.{turn_same}
 use Rattle.tsumego_show.specs.Drawing.{Draws, DrawsFirst, begins, begins_none, deep_drawn, drawn, none_drawn, strategy_text, turned_text}
-use Rattle.tsumego_show.specs.Shown.{DrawsBehind, IsShown, IsTold, IsTreeText, Tells, ended, is_refused, last_tree, more_trees, problem_text, stopped, too_long, tree, trees}
+use Rattle.tsumego_show.specs.Shown.{DrawsBehind, IsShown, IsInputText, IsTreeText, Tells, ended, is_no_problem, last_tree, more_trees, problem_text, stopped, too_long, tree, trees}
 
 module _ (one : OneCertificate) where
   -- a strategy has one text of its first turn
@@ -58,7 +58,7 @@ module _ (one : OneCertificate) where
         subst (λ (q : GameTree). IsTreeText k (problem_of (main_line q)) (drop m bytes) x) same.1 (subst (λ q. IsTreeText k (problem_of (main_line g)) (drop q bytes) x) same.0 is) in
         let go = told_same (k + 1) (drop m bytes) more more' refused refused' (subst (λ q. Tells (k + 1) (drop q bytes) more refused) same.0 rest) rest' in (
           ap₂ (λ (q w : List ℕ). q ++ w) (tree_text_same k (problem_of (main_line h)) (drop m bytes) x y its is') go.0,
-          ap₂ (λ (q : GameTree) (w : Bool). is_refused (problem_of (main_line q)) || w) same.1 go.1,
+          ap₂ (λ (q : GameTree) (w : Bool). is_no_problem (problem_of (main_line q)) || w) same.1 go.1,
         )
     told_same k bytes s t a b (tree _ _ n g x more refused spells is rest) (ended _ _ many none) = absurd (none (spelled_opens bytes n g spells))
     told_same k bytes s t a b (tree _ _ n g x more refused spells is rest) (stopped _ _ why none) = absurd (none g n spells)
@@ -72,7 +72,7 @@ module _ (one : OneCertificate) where
     told_same k bytes s t a b (stopped _ _ why none) (stopped _ _ why' none') = (refl, refl)
 
     -- an input is told in one way
-    whole_same : (input s t : List ℕ) (a b : Bool) → IsTold input s a → IsTold input t b → (s ≡ t) × (a ≡ b)
+    whole_same : (input s t : List ℕ) (a b : Bool) → IsInputText input s a → IsInputText input t b → (s ≡ t) × (a ≡ b)
     whole_same input s t a b (too_long long) (too_long more) = (refl, refl)
     whole_same input s t a b (too_long long) (trees t' b' small h) = absurd (omega arith)
     whole_same input s t a b (trees s' a' small h) (too_long long) = absurd (omega arith)

@@ -10,7 +10,7 @@ use Rattle.std.proofs.lemmas.List.{take_all, length-drop}
 use Rattle.tt_sgf.specs.declared.nodes.Node.{Node}
 use Rattle.tt_sgf.specs.Grammar.{GameTree, HasNoTree, SpelledUpTo, main_line, HasOpen}
 use Rattle.tt_game.specs.Problems.{problem_of}
-use Rattle.tsumego_show.specs.Shown.{DrawsBehind, IsShown, IsTold, IsTreeText, Tells, ended, is_refused, last_tree, more_trees, problem_text, refusal, stopped}
+use Rattle.tsumego_show.specs.Shown.{DrawsBehind, IsShown, IsInputText, IsTreeText, Tells, ended, is_no_problem, last_tree, more_trees, problem_text, refusal, stopped}
 use Rattle.tsumego_show.specs.Shown.{too_long, tree, trees}
 
 -- the brackets of an `or` of three
@@ -35,17 +35,17 @@ IsSoFar input k rest text refused =
 pub tree_more : (input : List ℕ) (k : ℕ) (rest text : List ℕ) (refused : Bool) (used : ℕ) (t : GameTree) (nodes : List Node) (text' : List ℕ) (bad : Bool)
     → IsSoFar input k rest text refused → SpelledUpTo rest used t → nodes ≡ main_line t
     → (x : List ℕ) × IsTreeText k (problem_of nodes) (take (length rest - used) (drop used rest)) x × (text' ≡ text ++ x)
-    → bad ≡ is_refused (problem_of nodes) → IsSoFar input (k + 1) (take (length rest - used) (drop used rest)) text' (refused || bad)
+    → bad ≡ is_no_problem (problem_of nodes) → IsSoFar input (k + 1) (take (length rest - used) (drop used rest)) text' (refused || bad)
 tree_more input k rest text refused used t nodes text' bad far s same w b = λ more other h.
     let all : take (length rest - used) (drop used rest) ≡ drop used rest = take_all (length rest - used) (drop used rest) (omega (arith, length-drop used rest)) in
     let its_text : IsTreeText k (problem_of (main_line t)) (drop used rest) w.0 =
     subst (λ (x : List Node). IsTreeText k (problem_of x) (drop used rest) w.0) same (subst (λ (x : List ℕ). IsTreeText k (problem_of nodes) x w.0) all w.1) in
     let one = tree k rest used t w.0 more other s its_text (subst (λ (x : List ℕ). Tells (k + 1) x more other) all h) in
-    let its : is_refused (problem_of (main_line t)) ≡ bad = ap (λ (x : List Node). is_refused (problem_of x)) (sym same) ∙ sym b in
+    let its : is_no_problem (problem_of (main_line t)) ≡ bad = ap (λ (x : List Node). is_no_problem (problem_of x)) (sym same) ∙ sym b in
     let words : text ++ (w.0 ++ more) ≡ text' ++ more = sym (append_assoc text w.0 more) ∙ ap (λ (x : List ℕ). x ++ more) (sym w.2) in
-    let flag : (refused || (is_refused (problem_of (main_line t)) || other)) ≡ ((refused || bad) || other) =
+    let flag : (refused || (is_no_problem (problem_of (main_line t)) || other)) ≡ ((refused || bad) || other) =
     ap (λ (x : Bool). refused || (x || other)) its ∙ sym (or_assoc refused bad other) in
-    subst (λ (x : Bool). Tells 1 input (text' ++ more) x) flag (subst (λ (x : List ℕ). Tells 1 input x (refused || (is_refused (problem_of (main_line t)) || other))) words (far _ _ one))
+    subst (λ (x : Bool). Tells 1 input (text' ++ more) x) flag (subst (λ (x : List ℕ). Tells 1 input x (refused || (is_no_problem (problem_of (main_line t)) || other))) words (far _ _ one))
 
 -- what is read and told so far; an input with a tree is not too long
 pub record Progress (input rest text : List ℕ) (k : ℕ) (refused : Bool) : Type 0 where
@@ -63,7 +63,7 @@ module _ {input rest text : List ℕ} {k : ℕ} {refused : Bool} (p : Progress i
 
   -- one more tree is read and told
   pub progress_step : (used : ℕ) (t : GameTree) (nodes : List Node) (text' : List ℕ) (bad : Bool) → SpelledUpTo rest used t → nodes ≡ main_line t
-      → length rest ≤ MAX_BYTES → (x : List ℕ) × IsTreeText k (problem_of nodes) (take (length rest - used) (drop used rest)) x × (text' ≡ text ++ x) → bad ≡ is_refused (problem_of nodes)
+      → length rest ≤ MAX_BYTES → (x : List ℕ) × IsTreeText k (problem_of nodes) (take (length rest - used) (drop used rest)) x × (text' ≡ text ++ x) → bad ≡ is_no_problem (problem_of nodes)
       → Progress input (take (length rest - used) (drop used rest)) text' (k + 1) (refused || bad)
   progress_step used t nodes text' bad s same small e b = record {
     some = omega (arith, p.some);
@@ -85,7 +85,7 @@ module _ {input rest text : List ℕ} {k : ℕ} {refused : Bool} (p : Progress i
   progress_long long bound text' e = elim p.small [
     | inl h ↦
         let told : text' ≡ refusal 1 2 = e ∙ ap₂ (λ (x : List ℕ) n. x ++ refusal n 2) h.2 h.0 in
-        (true, subst (λ (x : List ℕ). IsTold input x true) (sym told) (too_long (subst (λ (x : List ℕ). MAX_BYTES < length x) h.1 long)), refl)
+        (true, subst (λ (x : List ℕ). IsInputText input x true) (sym told) (too_long (subst (λ (x : List ℕ). MAX_BYTES < length x) h.1 long)), refl)
     | inr small ↦ absurd (omega (arith, p.some))
   ]
 

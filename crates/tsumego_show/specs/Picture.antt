@@ -26,13 +26,13 @@ small_mark false White = 111
 
 -- what is shown of a point, where `target` and `region` say whether it is one of them: + is an empty point of the region,
 -- and . another one
-abbrev pub mark_of : Bool → Bool → Option Colour → ℕ
-mark_of target region None = if region then 43 else 46
-mark_of target region (Some k) = if region then small_mark target k else stone_mark target k
+abbrev pub shown_of : Bool → Bool → Option Colour → ℕ
+shown_of target region None = if region then 43 else 46
+shown_of target region (Some k) = if region then small_mark target k else stone_mark target k
 
 -- what is shown of the point with this number
-abbrev pub mark_at : Standing → ℕ → ℕ
-mark_at p n = mark_of (set.contains p.frame.targets n) (set.contains p.frame.region n) (entry_at p.state.present n)
+abbrev pub shown_at : Standing → ℕ → ℕ
+shown_at p n = shown_of (set.contains p.frame.targets n) (set.contains p.frame.region n) (entry_at p.state.present n)
 
 -- ---- lines; a newline ends each
 
@@ -50,7 +50,7 @@ letters_line size = space ∷ (columns_text letter size.columns ++ newline ∷ [
 
 -- what is shown of the points of a row, column by column
 abbrev pub shown_in : Standing → ℕ → ℕ → ℕ
-shown_in p row column = mark_at p (row * p.frame.size.columns + column)
+shown_in p row column = shown_at p (row * p.frame.size.columns + column)
 
 -- the letter of a row, and what is shown of its points
 abbrev pub row_line : Standing → ℕ → List ℕ

@@ -32,24 +32,24 @@ abbrev pub IsTreeText : ℕ → Result Standing GameFault → List ℕ → List 
 IsTreeText k (Ok p) behind text = (drawn : List ℕ) × DrawsBehind p behind drawn × (text ≡ problem_text k p ++ drawn)
 IsTreeText k (Err e) behind text = text ≡ refusal k (code_of e)
 
-abbrev pub is_refused : Result Standing GameFault → Bool
-is_refused (Ok p) = false
-is_refused (Err e) = true
+abbrev pub is_no_problem : Result Standing GameFault → Bool
+is_no_problem (Ok p) = false
+is_no_problem (Err e) = true
 
 -- The text on bytes whose first tree has number k, and whether something is refused: a tree and what follows it; or no tree is
 -- left, and none was wanted; or none is spelled where one is wanted: at a `(`, or where no tree was read yet.
 pub data Tells : ℕ → List ℕ → List ℕ → Bool → Type 0 where
   tree : (k : ℕ) (bytes : List ℕ) (count : ℕ) (t : GameTree) (text more : List ℕ) (refused : Bool) → SpelledUpTo bytes count t
       → IsTreeText k (problem_of (main_line t)) (drop count bytes) text → Tells (k + 1) (drop count bytes) more refused
-      → Tells k bytes (text ++ more) (is_refused (problem_of (main_line t)) || refused)
+      → Tells k bytes (text ++ more) (is_no_problem (problem_of (main_line t)) || refused)
   ended : (k : ℕ) (bytes : List ℕ) → 1 < k → (HasOpen bytes → ⊥) → Tells k bytes [] false
   stopped : (k : ℕ) (bytes : List ℕ) → (k ≡ 1) ⊎ HasOpen bytes → HasNoTree bytes → Tells k bytes (refusal k 1) true
 
 -- the text for an input, and whether something is refused: the input is too long, or its trees are told from number 1 on
-pub data IsTold (input : List ℕ) : List ℕ → Bool → Type 0 where
-  too_long : MAX_BYTES < length input → IsTold input (refusal 1 2) true
-  trees : (text : List ℕ) (refused : Bool) → length input ≤ MAX_BYTES → Tells 1 input text refused → IsTold input text refused
+pub data IsInputText (input : List ℕ) : List ℕ → Bool → Type 0 where
+  too_long : MAX_BYTES < length input → IsInputText input (refusal 1 2) true
+  trees : (text : List ℕ) (refused : Bool) → length input ≤ MAX_BYTES → Tells 1 input text refused → IsInputText input text refused
 
 -- the text for an input and the exit status: 1 where something is refused
 abbrev pub IsShown : List ℕ → List ℕ → ℕ → Type 0
-IsShown input text status = (refused : Bool) × IsTold input text refused × (status ≡ (if refused then 1 else 0))
+IsShown input text status = (refused : Bool) × IsInputText input text refused × (status ≡ (if refused then 1 else 0))

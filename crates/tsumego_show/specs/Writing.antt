@@ -6,5 +6,5 @@ use Rattle.devices.specs.Writing.{WritesOf}
 use Rattle.tsumego_show.specs.Shown.{IsShown}
 
 -- the whole text for the input, or a beginning of it; and where memory was refused nothing
-abbrev pub Writes : List ℕ → Result ℕ RunFault → Option (List ℕ) → Option (List ℕ) → Type 0
-Writes input = WritesOf (IsShown input) (λ text. (status : ℕ) × IsShown input text status) (λ text. text ≡ [])
+abbrev pub WritesShown : List ℕ → Result ℕ RunFault → Option (List ℕ) → Option (List ℕ) → Type 0
+WritesShown input = WritesOf (IsShown input) (λ text. (status : ℕ) × IsShown input text status) (λ text. text ≡ [])

@@ -4,7 +4,7 @@ ghost use Rattle.std.specs.List.{flat_map, range_with_len};
 ghost use Rattle.tt_sgf.specs.Bytes.{space};
 ghost use Rattle.tt_sgf.specs.Sizes.{point_count};
 ghost use Rattle.tt_game.specs.Game.{colour_of};
-ghost use Rattle.tsumego_show.specs.Picture.{asked_line, board_text, colour_name, columns_text, earlier_text, letter, letters_line, mark_at};
+ghost use Rattle.tsumego_show.specs.Picture.{asked_line, board_text, colour_name, columns_text, earlier_text, letter, letters_line, shown_at};
 ghost use Rattle.tsumego_show.specs.Picture.{mover_text, picture, row_line, shown_in, small_mark, stone_mark, target_text};
 
 use std::alloc::Global;
@@ -41,7 +41,7 @@ fn small_mark(is_target: bool, colour: Colour) -> u8
 /// What is shown of a point.
 fn mark(line: &Line, point: Point) -> u8
     requires { point < point_count line.now.frame.size }
-    ensures { result ≡ mark_at line.now point }
+    ensures { result ≡ shown_at line.now point }
 {
     let is_target = line.frame().targets.has(point);
     let is_playable = line.frame().region.has(point);

@@ -3,7 +3,7 @@ ghost use Rattle.std.specs.Prelude.{◌≡◌, false};
 ghost use Rattle.devices.specs.Faults.{is_input_fault, is_output_fault};
 ghost use Rattle.devices.specs.Watching.{TakesAtMost};
 ghost use Rattle.devices.specs.Writing.{ForInput};
-ghost use Rattle.tsumego_show.specs.Writing.{Writes};
+ghost use Rattle.tsumego_show.specs.Writing.{WritesShown};
 
 use crate::showing::show;
 use devices::{RunFault, Watched, read_input, write_bytes};
@@ -17,7 +17,7 @@ const MOST_READ: usize = MAX_BYTES + 1;
 /// Writes the text for an input.
 fn answer<W: Write>(alloc: Global, input: &[u8], writer: &mut Watched<W>) -> Result<u8, RunFault>
     requires { writer.old.failed ≡ false }
-    ensures written { Writes input.now result (W.contents writer.old.device) (W.contents writer.new.device) }
+    ensures written { WritesShown input.now result (W.contents writer.old.device) (W.contents writer.new.device) }
     ensures reading { is_input_fault result ≡ false }
     ensures failed { writer.new.failed ≡ is_output_fault result }
 {
@@ -44,7 +44,7 @@ pub fn run<R: Read, W: Write>(
     requires reader { reader.old.failed ≡ false }
     requires writer { writer.old.failed ≡ false }
     ensures written { ForInput (R.remaining reader.old.device) (λ input.
-        Writes input result (W.contents writer.old.device) (W.contents writer.new.device)) }
+        WritesShown input result (W.contents writer.old.device) (W.contents writer.new.device)) }
     ensures taken { TakesAtMost MOST_READ (R.remaining reader.old.device) (R.remaining reader.new.device) }
     ensures input { reader.new.failed ≡ is_input_fault result }
     ensures output { writer.new.failed ≡ is_output_fault result }

@@ -1,7 +1,7 @@
 //! The text for an input.
 ghost use Rattle.std.specs.Prelude.{◌≡◌, ◌++◌, if◌then◌else◌, ℕ, List, IfOk, OnOk, Ok};
 ghost use Rattle.tt_game.specs.Problems.{problem_of};
-ghost use Rattle.tsumego_show.specs.Shown.{DrawsBehind, IsShown, IsTreeText, is_refused, problem_text, refusal};
+ghost use Rattle.tsumego_show.specs.Shown.{DrawsBehind, IsShown, IsTreeText, is_no_problem, problem_text, refusal};
 
 use crate::drawing::put_certificate;
 use crate::hints::put_hints;
@@ -63,7 +63,7 @@ fn put_tree(
 ) -> Result<bool, NoMemory>
     ensures text { OnOk result ((text : List ℕ) × IsTreeText number (problem_of main.now.nodes) behind.now text
         × (out.new.items ≡ out.old.items ++ text)) }
-    ensures refused { IfOk result (λ refused. refused ≡ is_refused (problem_of main.now.nodes)) }
+    ensures refused { IfOk result (λ refused. refused ≡ is_no_problem (problem_of main.now.nodes)) }
 {
     match problem(alloc, main) {
         Ok(line) => {

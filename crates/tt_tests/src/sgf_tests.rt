@@ -1,6 +1,7 @@
 //! Texts and values whose readings come from the format itself, and not from this reader.
 
 use std::alloc::{AllocError, Global};
+use std::test::Fail;
 use tt_sgf::{
     BadPoint, Point, PointOrPass, PointSet, SgfFault, Size, board_size, has_tree, number, point,
     point_set, read_tree, skip_blanks,
@@ -16,32 +17,33 @@ const NONE: Result<(usize, usize), SgfFault> = Err(SgfFault::Syntax);
 
 #[test]
 fn trees(rt: HostRuntime) {
-    let table: [(&[u8], Result<(usize, usize), SgfFault>); 22] = [
-        (b"(;GM[1]FF[4]SZ[2];B[aa];W[];B[])", Ok((4, 32))),
-        (b"(;SZ[3:1](;B[aa])(;B[ba]))", Ok((2, 26))),
-        (b"x(;SZ[2:1]AB[ba:aa])", Ok((1, 20))),
-        (b"(;C[a\\]b]GaMe[1]SiZe[1]X2[])", Ok((1, 28))),
-        (b"(;SZ[1])(;SZ[1];B[aa])(;SZ[0])", Ok((1, 8))),
-        (b"\xef\xbb\xbf(;\n)", Ok((1, 7))),
-        (b"x(;\x0b\x0c;\x0b\x0c;\n\n ) ", Ok((3, 13))),
-        (b"(;\x0b\x0c; \n)y", Ok((2, 8))),
-        (b"(;(\x0b\x0c;)\t\r)y", Ok((2, 10))),
-        (b"", NONE),
-        (b"(;GM[1]", NONE),
-        (b"(;C[\\]", NONE),
-        (b"(;C[]])", NONE),
-        (b"() ", NONE),
-        (b"(\n \\()A", NONE),
-        (b"(;A\r\n\x0b\x0c)y", NONE),
-        (b"x( ;a\x0b\x0c\x0b\x0c;  ) ", NONE),
-        (b"(; \x0b\x0c; (\n; ;SiZe\x0b\x0c[ b[] B2[a]\n[])(;)", NONE),
-        (b"\xef\xbb\xbf(\x0b\x0c;b[b]\nb[)(]\n\t\r)", NONE),
-        (b"(;A[1](;B[aa]);C[2])", NONE),
-        (b"x;\x0b\x0c;C[]\x0b;)", NONE),
-        (b"B)[Aa(B(1", NONE),
+    let table: [(&str, Result<(usize, usize), SgfFault>); 22] = [
+        ("(;GM[1]FF[4]SZ[2];B[aa];W[];B[])", Ok((4, 32))),
+        ("(;SZ[3:1](;B[aa])(;B[ba]))", Ok((2, 26))),
+        ("x(;SZ[2:1]AB[ba:aa])", Ok((1, 20))),
+        ("(;C[a\\]b]GaMe[1]SiZe[1]X2[])", Ok((1, 28))),
+        ("(;SZ[1])(;SZ[1];B[aa])(;SZ[0])", Ok((1, 8))),
+        ("\u{feff}(;\n)", Ok((1, 7))),
+        ("x(;\x0b\x0c;\x0b\x0c;\n\n ) ", Ok((3, 13))),
+        ("(;\x0b\x0c; \n)y", Ok((2, 8))),
+        ("(;(\x0b\x0c;)\t\r)y", Ok((2, 10))),
+        ("", NONE),
+        ("(;GM[1]", NONE),
+        ("(;C[\\]", NONE),
+        ("(;C[]])", NONE),
+        ("() ", NONE),
+        ("(\n \\()A", NONE),
+        ("(;A\r\n\x0b\x0c)y", NONE),
+        ("x( ;a\x0b\x0c\x0b\x0c;  ) ", NONE),
+        ("(; \x0b\x0c; (\n; ;SiZe\x0b\x0c[ b[] B2[a]\n[])(;)", NONE),
+        ("\u{feff}(\x0b\x0c;b[b]\nb[)(]\n\t\r)", NONE),
+        ("(;A[1](;B[aa]);C[2])", NONE),
+        ("x;\x0b\x0c;C[]\x0b;)", NONE),
+        ("B)[Aa(B(1", NONE),
     ];
     for (text, want) in table {
-        assert!(&rt; shape(rt.alloc(), text) == want);
+        let found = shape(rt.alloc(), text.as_bytes());
+        assert!(&rt; found == want, "{text:?}");
     }
     assert!(&rt; has_tree(b"a("));
     assert!(&rt; !has_tree(b"a)"));
@@ -64,7 +66,7 @@ fn long(alloc: Global, blanks: usize, trees: usize) -> Result<Vec<u8>, AllocErro
 }
 
 #[test]
-fn limits(rt: HostRuntime) {
+fn limits(rt: HostRuntime) -> Result<(), Fail> {
     let alloc = rt.alloc();
     let table = [
         (1_048_577, 0, Err(SgfFault::TooLong)),
@@ -73,14 +75,13 @@ fn limits(rt: HostRuntime) {
         (2, 349_525, Err(SgfFault::TooLong)),
     ];
     for (blanks, trees, want) in table {
-        let made = long(alloc, blanks, trees).map(|text| shape(alloc, &text));
-        assert!(&rt; made == Ok(want));
+        let found = shape(alloc, &long(alloc, blanks, trees)?);
+        assert!(&rt; found == want, "{blanks} blanks, {trees} trees");
     }
-    let Ok(mut cut) = long(alloc, 0, 349_525) else {
-        return;
-    };
+    let mut cut = long(alloc, 0, 349_525)?;
     cut.pop();
-    assert!(&rt; shape(alloc, &cut) == NONE);
+    assert!(&rt; shape(alloc, &cut) == NONE, "a tree that isn't closed");
+    Ok(())
 }
 
 /// The names of the first node's properties, and whether they are these.
@@ -100,6 +101,80 @@ fn has_names(alloc: Global, bytes: &[u8], names: &[&[u8]]) -> bool {
     properties.len() == names.len()
 }
 
+#[test]
+fn names(rt: HostRuntime) {
+    assert!(&rt;
+        has_names(
+            rt.alloc(),
+            b"(;C[a\\]b]GaMe[1]SiZe[1]X2[])",
+            &[b"C", b"GM", b"SZ", b"X2"]
+        )
+    );
+}
+
+#[test]
+fn numbers(rt: HostRuntime) {
+    let table: [(&str, Option<u16>); 9] = [
+        (" +0019\n", Some(19)),
+        ("0", Some(0)),
+        ("65535", Some(65_535)),
+        ("65536", None),
+        ("", None),
+        ("+", None),
+        ("-1", None),
+        ("1 2", None),
+        ("\\1", None),
+    ];
+    for (text, want) in table {
+        assert!(&rt; number(text.as_bytes()) == want, "{text:?}");
+    }
+}
+
+#[test]
+fn sizes(rt: HostRuntime) {
+    let table: [(&str, Option<Size>); 10] = [
+        ("19", Size::new(19, 19)),
+        ("+02", Size::new(2, 2)),
+        (" 3:1 ", Size::new(3, 1)),
+        ("+2:003", Size::new(2, 3)),
+        ("4:4", Size::new(4, 4)),
+        ("20", None),
+        ("2:20", None),
+        ("0", None),
+        ("2 :3", None),
+        ("2:3:4", None),
+    ];
+    for (text, want) in table {
+        assert!(&rt; board_size(text.as_bytes()) == want, "{text:?}");
+    }
+}
+
+/// A board of one row of 19 points.
+fn row() -> Result<Size, Fail> {
+    match Size::new(19, 1) {
+        Some(size) => Ok(size),
+        None => Err(Fail::new("no size")),
+    }
+}
+
+#[test]
+fn points(rt: HostRuntime) -> Result<(), Fail> {
+    let size = row()?;
+    let table: [(&str, Option<PointOrPass>); 7] = [
+        ("sa", size.point(18).map(PointOrPass::On)),
+        ("\taa ", size.point(0).map(PointOrPass::On)),
+        (" tt ", Some(PointOrPass::Pass)),
+        ("", Some(PointOrPass::Pass)),
+        ("ab", None),
+        ("Aa", None),
+        ("ta", None),
+    ];
+    for (text, want) in table {
+        assert!(&rt; point(text.as_bytes(), size) == want, "{text:?}");
+    }
+    Ok(())
+}
+
 /// How many points the first property of the first node names, and the least of them.
 fn named(
     alloc: Global,
@@ -115,70 +190,25 @@ fn named(
 }
 
 #[test]
-fn values(rt: HostRuntime) {
+fn lists(rt: HostRuntime) -> Result<(), Fail> {
     let alloc = rt.alloc();
-    assert!(&rt;
-        has_names(
-            alloc,
-            b"(;C[a\\]b]GaMe[1]SiZe[1]X2[])",
-            &[b"C", b"GM", b"SZ", b"X2"]
-        )
-    );
-    let numbers: [(&[u8], Option<u16>); 9] = [
-        (b" +0019\n", Some(19)),
-        (b"0", Some(0)),
-        (b"65535", Some(65_535)),
-        (b"65536", None),
-        (b"", None),
-        (b"+", None),
-        (b"-1", None),
-        (b"1 2", None),
-        (b"\\1", None),
+    let size = row()?;
+    let table: [(&str, Option<Result<(u16, Option<Point>), BadPoint>>); 6] = [
+        ("(;AB[ba:aa])", Some(Ok((2, size.point(0))))),
+        ("(;SQ[da:ba][ba][ea])", Some(Ok((4, size.point(1))))),
+        ("(;SQ[ca:ca])", Some(Ok((1, size.point(2))))),
+        ("(;SQ[tt])", Some(Err(BadPoint))),
+        ("(;SQ[aa][])", Some(Err(BadPoint))),
+        ("(;SQ[aa:ab])", Some(Err(BadPoint))),
     ];
-    for (text, want) in numbers {
-        assert!(&rt; number(text) == want);
+    for (text, want) in table {
+        assert!(&rt; named(alloc, text.as_bytes(), size) == want, "{text}");
     }
-    let sizes: [(&[u8], Option<Size>); 10] = [
-        (b"19", Size::new(19, 19)),
-        (b"+02", Size::new(2, 2)),
-        (b" 3:1 ", Size::new(3, 1)),
-        (b"+2:003", Size::new(2, 3)),
-        (b"4:4", Size::new(4, 4)),
-        (b"20", None),
-        (b"2:20", None),
-        (b"0", None),
-        (b"2 :3", None),
-        (b"2:3:4", None),
-    ];
-    for (text, want) in sizes {
-        assert!(&rt; board_size(text) == want);
-    }
-    let Some(size) = Size::new(19, 1) else {
-        return;
-    };
-    let points: [(&[u8], Option<PointOrPass>); 7] = [
-        (b"sa", size.point(18).map(PointOrPass::On)),
-        (b"\taa ", size.point(0).map(PointOrPass::On)),
-        (b" tt ", Some(PointOrPass::Pass)),
-        (b"", Some(PointOrPass::Pass)),
-        (b"ab", None),
-        (b"Aa", None),
-        (b"ta", None),
-    ];
-    for (text, want) in points {
-        assert!(&rt; point(text, size) == want);
-    }
-    let lists: [(&[u8], Option<Result<(u16, Option<Point>), BadPoint>>); 6] = [
-        (b"(;AB[ba:aa])", Some(Ok((2, size.point(0))))),
-        (b"(;SQ[da:ba][ba][ea])", Some(Ok((4, size.point(1))))),
-        (b"(;SQ[ca:ca])", Some(Ok((1, size.point(2))))),
-        (b"(;SQ[tt])", Some(Err(BadPoint))),
-        (b"(;SQ[aa][])", Some(Err(BadPoint))),
-        (b"(;SQ[aa:ab])", Some(Err(BadPoint))),
-    ];
-    for (text, want) in lists {
-        assert!(&rt; named(alloc, text, size) == want);
-    }
-    assert!(&rt; PointSet::whole(size).count() == 19);
+    assert!(&rt; PointSet::whole(size).count() == 19, "the whole board");
+    Ok(())
+}
+
+#[test]
+fn blanks(rt: HostRuntime) {
     assert!(&rt; skip_blanks(b" \t\x0b\x0c\r\nB") == b"B".as_slice());
 }
