@@ -1,5 +1,5 @@
--- How colourings are kept by edits, and boards one after another by the last one and edits that lead back from it to the first.
--- The view of `Boards` and private contracts cite these.
+-- How colourings are kept by edits, and boards one after another: by the last one and edits that lead back from it to the first, or
+-- by a base and edits that lead on from it. The views of `Boards` and `Trail` and private contracts cite these.
 use Rattle.std.specs.Prelude.{◌≡◌, ◌≢◌, ◌==◌, if◌then◌else◌, ℕ, ◌<◌, ◌≤◌, List, [], ◌∷◌, ◌++◌, length, reverse, map, drop, Option, Some, None}
 use Rattle.tt_sgf.specs.declared.size.Size.{Size}
 use Rattle.tt_board.specs.declared.Colour.{Colour}

@@ -1,5 +1,5 @@
 -- What lines of one beginning share, and what is kept of them. For private contracts and for proofs.
-use Rattle.std.specs.Prelude.{◌≡◌, ℕ, ◌<◌, List, [], ◌∷◌, length, take, All, Option, Some, None, true}
+use Rattle.std.specs.Prelude.{◌≡◌, ℕ, ◌<◌, List, [], ◌∷◌, length, take, All, Some, true}
 use Rattle.tt_sgf.specs.Sizes.{point_count}
 use Rattle.tt_sgf.specs.Words.{bit_in}
 use Rattle.tt_board.specs.declared.Colour.{Colour}
@@ -24,11 +24,6 @@ Begins begun h = take (length begun) h ≡ colourings begun
 abbrev pub AreRooted : List Position → State → List Undo → Type 0
 AreRooted begun s [] = Begins begun (history s)
 AreRooted begun s (u ∷ us) = Begins begun (history s) × AreRooted begun (undone s u) us
-
--- the boards behind the root's, none where nothing is kept
-abbrev pub since : Option (List Position) → List Position
-since None = []
-since (Some bs) = bs
 
 -- the bits are 1 of all points where a stone of this colour stands on one of these boards; of others they may be 1 too
 abbrev pub AreStonesOf : Colour → List Position → List ℕ → Type 0

@@ -302,16 +302,6 @@ impl Proof {
         })
     }
 
-    /// The proof of a plan that is known to win at the line. Its footprint is found by a walk through its tree.
-    pub fn winning(alloc: Global, line: &Line, s: Side, plan: Plan) -> Result<Proof, NoMemory>
-        requires { IsWon s line.now.frame line.now.state plan }
-        ensures { IfOk result (λ p. StandsAt p line.now.frame line.now.state × (p.side ≡ s) × (p.tree ≡ plan)) }
-    {
-        let mut own = line.try_clone()?;
-        let footprint = footprint_of(alloc, plan.tree(), &mut own)?;
-        Proof::winning_with(line, s, plan, footprint)
-    }
-
     /// The proof of a plan that is known to win at the line, and of its footprint there. No turn is played for it, and its
     /// tree is not looked at.
     pub fn winning_with(
