@@ -4,6 +4,7 @@ pub mod DeskClosing
 pub mod PlainDesk
 pub mod PlaceLemmas
 pub mod Newest
+pub mod Tokens
 pub mod Lost
 pub mod StuckBehind
 pub mod Found

@@ -1,7 +1,10 @@
 -- A log of proofs, and what its tokens and views show.
-use Rattle.std.specs.Prelude.{◌≡◌, ℕ, ◌+◌, ◌++◌, ◌∷◌, [], List, map, reverse}
+use Rattle.std.specs.Prelude.{◌≡◌, ℕ, ◌+◌, ◌++◌, ◌∷◌, [], List, Some, map, reverse}
 use Rattle.boxcar.specs.Table.{Shelves, id_at}
+use Rattle.tt_game.specs.declared.frame.Side.{Side}
+use Rattle.tt_game.specs.Line.{Standing}
 use Rattle.tt_proof.specs.Proven.{Proven}
+use Rattle.tt_search.specs.Stores.{IsNewest}
 
 -- a place in a log, and the proof there; the other two numbers tell of which log it is
 pub record Ticket : Type 0 where
@@ -27,6 +30,10 @@ proofs_of tokens = map (λ (t : Ticket). t.proof) tokens
 -- and the last token's first
 abbrev pub newest_first : List Ticket → List Proven
 newest_first tokens = reverse (proofs_of tokens)
+
+-- among the tokens is one of the line's key for the side: a last one
+abbrev pub HasNewest : Standing → Side → List Ticket → Type 0
+HasNewest line side tokens = (p : Proven) × IsNewest line side (newest_first tokens) (Some p)
 
 -- the later tokens are the earlier ones with none or more behind them
 abbrev pub Extends : List Ticket → List Ticket → Type 0

@@ -1,12 +1,12 @@
 //! A view of a log as a store.
 
-ghost use Rattle.std.specs.Prelude.{◌≡◌, ◌≢◌, ◌≤◌, ◌+◌, ◌↔◌, IfOk, IfSome};
+ghost use Rattle.std.specs.Prelude.{◌≡◌, ◌≢◌, ◌≤◌, ◌+◌, ◌↔◌, ◌⊎◌, IfErr, IfOk, IfSome};
 ghost use Rattle.std.specs.Option.{option_map};
 ghost use Rattle.std.specs.Arc.{arc_value};
 ghost use Rattle.tt_game.specs.declared.frame.Side.TheVariants.{Attacker, Defender};
 ghost use Rattle.tt_search.specs.Stores.{IsAnswer, IsNewest};
 ghost use Rattle.tt_search.specs.declared.store.Kept.TheVariants.{Stored, Full};
-ghost use Rattle.tt_share.specs.Log.{Keeps, Extends, newest_first};
+ghost use Rattle.tt_share.specs.Log.{Keeps, Extends, newest_first, HasNewest};
 
 use crate::bounds::MOST_KEPT;
 use crate::view::View;
@@ -98,6 +98,7 @@ impl<'a, R: Wait> Store for LogStore<'a, R> {
         ensures log { self.new.log ≡ self.old.log }
         ensures tokens { Extends self.old.tokens self.new.tokens }
         ensures newest { IfOk result (λ o. IsNewest line.now s (newest_first self.new.tokens) (option_map (λ p. arc_value p) o)) }
+        ensures memory { IfErr result (λ _. HasNewest line.now s self.new.tokens) }
     {
         self.view.find(line, s)
     }
@@ -112,6 +113,7 @@ impl<'a, R: Wait> Store for LogStore<'a, R> {
         ensures tokens { Extends self.old.tokens self.new.tokens }
         ensures newest_attacker { IfOk result (λ b. IsNewest line.now Attacker (newest_first self.new.tokens) (option_map (λ p. arc_value p) b.attacker)) }
         ensures newest_defender { IfOk result (λ b. IsNewest line.now Defender (newest_first self.new.tokens) (option_map (λ p. arc_value p) b.defender)) }
+        ensures memory { IfErr result (λ _. HasNewest line.now Attacker self.new.tokens ⊎ HasNewest line.now Defender self.new.tokens) }
     {
         self.view.find_both(line)
     }

@@ -1,12 +1,12 @@
 //! Views of a log: what one store has taken in of it.
 
-ghost use Rattle.std.specs.Prelude.{◌≡◌, ◌≢◌, ◌≤◌, ◌<◌, ◌+◌, ◌↔◌, ◌++◌, ◌∷◌, [], All, IfOk, IfSome, length};
+ghost use Rattle.std.specs.Prelude.{◌≡◌, ◌≢◌, ◌≤◌, ◌<◌, ◌+◌, ◌↔◌, ◌⊎◌, ◌++◌, ◌∷◌, [], All, IfErr, IfOk, IfSome, IsSome, length};
 ghost use Rattle.std.specs.Option.{option_map};
 ghost use Rattle.std.specs.Arc.{arc_value};
 ghost use Rattle.tt_game.specs.declared.frame.Side.TheVariants.{Attacker, Defender};
 ghost use Rattle.tt_search.specs.Stores.{IsAnswer, IsNewest};
 ghost use Rattle.tt_search.specs.declared.store.Kept.TheVariants.{Stored, Full};
-ghost use Rattle.tt_share.specs.Log.{IsOf, Keeps, Extends, newest_first};
+ghost use Rattle.tt_share.specs.Log.{IsOf, Keeps, Extends, newest_first, HasNewest};
 
 use crate::bounds::MOST_KEPT;
 use crate::log::{CertLog, Token};
@@ -168,13 +168,14 @@ impl<'a> View<'a> {
 
     /// The proof of the last token of the line's key for the side, or none where no token is. Before it answers, the view
     /// takes in the entries of the log that it hasn't read: those that are there, up to the first whose push isn't
-    /// finished, as far as it can grow.
+    /// finished, as far as it can grow. `NoMemory` only where there is a proof, and a handle of it was refused.
     pub fn find(&mut self, line: &Line, s: Side) -> Result<Option<Arc<Proof>>, NoMemory>
         ensures log { self.new.log ≡ self.old.log }
         ensures kept { self.new.kept ≡ self.old.kept }
         ensures tokens { Extends self.old.tokens self.new.tokens }
         ensures newest { IfOk result (λ o. IsNewest line.now s (newest_first self.new.tokens) (option_map (λ p. arc_value p) o)) }
         ensures found { IfOk result (λ o. IfSome o (λ p. IsAnswer line.now s (arc_value p))) }
+        ensures memory { IfErr result (λ _. HasNewest line.now s self.new.tokens) }
     {
         self.read_on();
         handle_of(self.taken.newest(line, s))
@@ -189,6 +190,7 @@ impl<'a> View<'a> {
         ensures newest_defender { IfOk result (λ b. IsNewest line.now Defender (newest_first self.new.tokens) (option_map (λ p. arc_value p) b.defender)) }
         ensures attacker { IfOk result (λ b. IfSome b.attacker (λ p. IsAnswer line.now Attacker (arc_value p))) }
         ensures defender { IfOk result (λ b. IfSome b.defender (λ p. IsAnswer line.now Defender (arc_value p))) }
+        ensures memory { IfErr result (λ _. HasNewest line.now Attacker self.new.tokens ⊎ HasNewest line.now Defender self.new.tokens) }
     {
         self.read_on();
         let (attacker, defender) = self.taken.newest_both(line);
@@ -200,7 +202,8 @@ impl<'a> View<'a> {
 
 /// Another handle of the proof, if there is one.
 fn handle_of(found: Option<&Arc<Proof>>) -> Result<Option<Arc<Proof>>, NoMemory>
-    ensures { IfOk result (λ o. option_map (λ p. arc_value p) o ≡ option_map (λ p. arc_value p.now) found.entry) }
+    ensures ok { IfOk result (λ o. option_map (λ p. arc_value p) o ≡ option_map (λ p. arc_value p.now) found.entry) }
+    ensures err { IfErr result (λ _. IsSome found.entry) }
 {
     match found {
         Some(p) => Ok(Some(Arc::try_clone(p)?)),
