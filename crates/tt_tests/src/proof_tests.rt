@@ -36,35 +36,58 @@ fn check(alloc: Global, record: &[u8], certificate: &[u8]) -> Result<bool, u8> {
     }
 }
 
+/// Black to move, with White's two stones that have liberties on both sides, the first one the target; and the same after
+/// moves.
+const SPLIT: &[u8] = b"(;SZ[4:1]AW[ba][da]PL[B]TR[ba])";
+
+const PLAYED: &[u8] = b"(;SZ[4:1]AW[ba];B[ca];W[da]TR[ba])";
+
+/// White to move, whose stone has one liberty.
+const NARROW: &[u8] = b"(;SZ[2:1]AW[ba]PL[W]TR[ba])";
+
+/// A problem, a certificate and what comes of them.
+type Row = (&'static [u8], &'static str, Result<bool, u8>);
+
+const CERTIFICATES: [Row; 16] = [
+    (SPLIT, "lives ?--!--.;", Ok(false)),
+    (PLAYED, "lives ?--!--.;", Ok(true)),
+    (PLAYED, "lives ?--!--.", Err(30)),
+    (SPLIT, "killed !ca?aa.;", Ok(false)),
+    (SPLIT, "killed !ca?aa.--!aa.;", Ok(true)),
+    (PLAYED, "killed !ca?aa.--!aa.;", Ok(false)),
+    (SPLIT, "killed !ca?aa.da.--!aa.;", Ok(true)),
+    (SPLIT, "killed !ca?--!aa.aa.;", Err(30)),
+    (NARROW, "killed ?aa.--!aa.;", Ok(true)),
+    (NARROW, "killed ?aa.;", Ok(false)),
+    (SPLIT, "lives .", Ok(false)),
+    (SPLIT, "killed ?;", Ok(false)),
+    (SPLIT, "killed !cc.", Err(30)),
+    (SPLIT, "", Err(30)),
+    (b"(;SZ[2:1]TR[aa])", "xyz", Err(22)),
+    (b"", "", Err(1)),
+];
+
 #[test]
-fn certificates(rt: HostRuntime) -> Result<(), Fail> {
+fn certificates(rt: HostRuntime) {
     let alloc = rt.alloc();
-    let p = b"(;SZ[4:1]AW[ba][da]PL[B]TR[ba])";
-    let q = b"(;SZ[4:1]AW[ba];B[ca];W[da]TR[ba])";
-    let s = b"(;SZ[2:1]AW[ba]PL[W]TR[ba])";
-    assert!(&rt; check(alloc, p, b"lives ?--!--.;") == Ok(false));
-    assert!(&rt; check(alloc, q, b"lives ?--!--.;") == Ok(true));
-    assert!(&rt; check(alloc, q, b"lives ?--!--.") == Err(30));
-    assert!(&rt; check(alloc, p, b"killed !ca?aa.;") == Ok(false));
-    assert!(&rt; check(alloc, p, b"killed !ca?aa.--!aa.;") == Ok(true));
-    assert!(&rt; check(alloc, q, b"killed !ca?aa.--!aa.;") == Ok(false));
-    assert!(&rt; check(alloc, p, b"killed !ca?aa.da.--!aa.;") == Ok(true));
-    assert!(&rt; check(alloc, p, b"killed !ca?--!aa.aa.;") == Err(30));
-    assert!(&rt; check(alloc, s, b"killed ?aa.--!aa.;") == Ok(true));
-    assert!(&rt; check(alloc, s, b"killed ?aa.;") == Ok(false));
-    assert!(&rt; check(alloc, p, b"lives .") == Ok(false));
-    assert!(&rt; check(alloc, p, b"killed ?;") == Ok(false));
-    assert!(&rt; check(alloc, p, b"killed !cc.") == Err(30));
-    assert!(&rt; check(alloc, p, b"") == Err(30));
-    assert!(&rt; check(alloc, b"(;SZ[2:1]TR[aa])", b"xyz") == Err(22));
-    assert!(&rt; check(alloc, b"", b"") == Err(1));
+    for place in 0..CERTIFICATES.len() {
+        let (problem, certificate, want) = CERTIFICATES[place];
+        let found = check(alloc, problem, certificate.as_bytes());
+        assert!(&rt; found == want, "row {place}: {certificate}");
+    }
+}
+
+/// As many levels as may be read, without an end, and one more.
+#[test]
+fn deep_certificates(rt: HostRuntime) -> Result<(), Fail> {
+    let alloc = rt.alloc();
     let mut deep = b"killed ".to_vec(alloc)?;
     for _ in 0..512 {
         deep.extend_from_slice(b"!--")?;
     }
-    assert!(&rt; check(alloc, p, &deep) == Err(30));
+    assert!(&rt; check(alloc, SPLIT, &deep) == Err(30), "512 levels");
     deep.extend_from_slice(b"!--.")?;
-    assert!(&rt; check(alloc, p, &deep) == Err(31));
+    assert!(&rt; check(alloc, SPLIT, &deep) == Err(31), "513 levels");
     Ok(())
 }
 
@@ -202,12 +225,7 @@ pub(crate) fn problem_line(alloc: Global, record: &[u8]) -> Result<Line, Fail> {
     }
 }
 
-/// Black to move, with White's two stones that have liberties on both sides, the first one the target; the same after
-/// moves; and the same after one move.
-const SPLIT: &[u8] = b"(;SZ[4:1]AW[ba][da]PL[B]TR[ba])";
-
-const PLAYED: &[u8] = b"(;SZ[4:1]AW[ba];B[ca];W[da]TR[ba])";
-
+/// The first problem after one move.
 const ONE_MOVE: &[u8] = b"(;SZ[4:1]AW[da]PL[W];W[ba]TR[ba])";
 
 /// The certificates of the first problem and of the second one.

@@ -60,7 +60,7 @@ pub(crate) fn trace<S: Store>(
 ) -> Result<String, Fail> {
     let mut shown_steps = String::new(alloc);
     let Some(limits) = Limits::new(budget, depth) else {
-        return Ok(shown_steps);
+        return Err(Fail::new("no limits"));
     };
     let line = posed(alloc, text)?;
     let mut search = Search::new(alloc, line, limits)?;
@@ -200,10 +200,13 @@ fn closes_by_a_proof_of_another_history(rt: HostRuntime) -> Result<(), Fail> {
     let alloc = rt.alloc();
     let mut store = PrivateStore::new(alloc);
     trace(alloc, SPLIT, 100, 512, &mut store)?;
-    for text in [SPLIT, REACHED] {
+    for (name, text) in [("the same", SPLIT), ("another", REACHED)] {
         for depth in [512u16, 3] {
             let steps = trace(alloc, text, 100, depth, &mut store)?;
-            assert!(&rt; steps.as_str() == "C0,inf S0,inf 0 3", "depth {depth}");
+            assert!(&rt;
+                steps.as_str() == "C0,inf S0,inf 0 3",
+                "{name} history, depth {depth}"
+            );
         }
     }
     Ok(())

@@ -75,7 +75,7 @@ fn search_twice(
         return Ok(());
     }
     let text = from_utf8(problem).unwrap_or("");
-    Err(Fail::new(format_args!("{text}, budget {budget}")))
+    Err(Fail::new(format_args!("{text}, budget {budget}, depth {depth}, room for {capacity}")))
 }
 
 #[test]
