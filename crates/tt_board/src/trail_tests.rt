@@ -30,11 +30,23 @@ fn a_trail_is_its_boards(rt: HostRuntime) -> Result<(), NoMemory> {
         &base,
         &[first.copy(), second.copy(), third.copy(), third.copy()],
     )?;
-    assert!(&rt; trail.are(&[first.copy(), second.copy(), third.copy(), third.copy()]), "all four");
-    assert!(&rt; !trail.are(&[first.copy(), second.copy(), third.copy()]), "three of four");
-    assert!(&rt; !trail.are(&[first.copy(), third.copy(), second.copy(), third.copy()]), "another order");
+    assert!(&rt;
+        trail.are(&[first.copy(), second.copy(), third.copy(), third.copy()]),
+        "all four"
+    );
+    assert!(&rt;
+        !trail.are(&[first.copy(), second.copy(), third.copy()]),
+        "three of four"
+    );
+    assert!(&rt;
+        !trail.are(&[first.copy(), third.copy(), second.copy(), third.copy()]),
+        "another order"
+    );
     assert!(&rt; !trail.are(&[]), "none of four");
-    assert!(&rt; trail.last().is_some_and(|last| last.same(&third)), "the last of four");
+    assert!(&rt;
+        trail.last().is_some_and(|last| last.same(&third)),
+        "the last of four"
+    );
     Ok(())
 }
 
