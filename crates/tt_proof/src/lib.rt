@@ -1,4 +1,4 @@
-//! Strategy trees, their exact replay, proofs that win, and certificates. Their tests stand in `tt_tests`: `proof_tests`.
+//! Strategy trees, their exact replay, proofs that win with their footprints, and certificates. Their tests stand in `tt_tests`: `proof_tests`.
 #![tactic(auto)]
 
 mod bounds;
