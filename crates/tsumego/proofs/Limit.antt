@@ -13,7 +13,7 @@ use Rattle.tsumego.specs.declared.finding.Finding.{Finding}
 use Rattle.tsumego.specs.Checking.{Finds, IsCheckText, first_tree, no_tree}
 use Rattle.tsumego.specs.Checking as find
 use Rattle.tsumego.specs.Solving.{Solves}
-use Rattle.tsumego.specs.Text.{BeginsAnswer, IsAnswer, IsEarlierPart, Scores}
+use Rattle.tsumego.specs.Text.{BeginsAnswer, IsAnswerText, IsEarlierPart, Scores}
 use Rattle.tsumego.specs.Trees.{AreOutcomes, BeginsTreesText, EarlierTreesText, IsTreesText, all_lines, all_read, before_more, no_line, nothing, some_lines, stopped, too_long}
 use Rattle.devices.specs.Watching.{IsInput}
 use Rattle.devices.specs.PartLaws.{cut_or_whole}
@@ -74,7 +74,7 @@ check_whole : (input text : List ℕ) (status : ℕ) → IsCheckText (take (MAX_
 check_whole input text status h = record { finding = h.finding; finds = found_whole input h.finding h.finds; line = h.line; status_is = h.status_is }
 
 -- an answer to the part up to the limit is one to the input
-answer_whole : (c : Command) (input text : List ℕ) (status : ℕ) → IsAnswer c (take (MAX_BYTES + 1) input) text status → IsAnswer c input text status
+answer_whole : (c : Command) (input text : List ℕ) (status : ℕ) → IsAnswerText c (take (MAX_BYTES + 1) input) text status → IsAnswerText c input text status
 answer_whole Score input text status h = trees_whole Scores input text status h
 answer_whole Check input text status h = check_whole input text status h
 answer_whole (Solve limits total workers cert) input text status h = trees_whole (Solves limits total cert) input text status h

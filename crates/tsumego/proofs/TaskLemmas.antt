@@ -7,14 +7,14 @@ use Rattle.tsumego.specs.declared.request.Command.TheVariants.{Score, Check, Sol
 use Rattle.tsumego.specs.declared.task.Task.{Task}
 use Rattle.tsumego.specs.declared.task.Task.TheVariants as tasks
 use Rattle.tt_search.specs.declared.limits.Limits.{Limits}
-use Rattle.tsumego.specs.Tasks.{IsTaskOf, Makes}
+use Rattle.tsumego.specs.Tasks.{IsTaskOf, MakesOutcome}
 use Rattle.tsumego.specs.Trees.{BeginsTreesText, EarlierTreesText, IsTreesText}
 use Rattle.devices.specs.Writing.{WritesOf}
 use Rattle.tsumego.specs.Writing.{Writes}
 
 -- what is written for the task is written for the command
 pub written : (c : Command) (t : Task) (input : List ℕ) (r : Result ℕ RunFault) (a b : Option (List ℕ)) → IsTaskOf c (Some t)
-    → WritesOf (IsTreesText (Makes t) input) (BeginsTreesText (Makes t) input) (EarlierTreesText (Makes t) input) r a b → Writes c input r a b
+    → WritesOf (IsTreesText (MakesOutcome t) input) (BeginsTreesText (MakesOutcome t) input) (EarlierTreesText (MakesOutcome t) input) r a b → Writes c input r a b
 written Score tasks.Score input r a b e h = h
 written Score (tasks.Solve options) input r a b e h = absurd e
 written Check t input r a b e h = absurd e

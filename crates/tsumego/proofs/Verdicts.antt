@@ -19,7 +19,7 @@ use Rattle.tt_search.specs.declared.limits.Reason.TheVariants.{Budget, Depth, To
 use Rattle.tt_share.specs.declared.answer.Stuck.{Stuck}
 use Rattle.tt_share.specs.Answers.{IsSettled}
 use Rattle.tt_share.specs.Answers as answer
-use Rattle.tsumego.specs.Solving.{Follows, IsFirst, IsUnsettled, Verdict, certificate_line, decided, decided_text, unsettled, unsettled_text}
+use Rattle.tsumego.specs.Solving.{Follows, IsFirst, IsUnsettledFor, Verdict, certificate_line, decided, decided_text, unsettled, unsettled_text}
 
 -- a strategy that wins says the value
 won_value : (side : Side) (f : Frame) (u : Strategy) (s : State) → IsState f s → Wins side f u s → HasValue f s (value_for side)
@@ -68,7 +68,7 @@ pub stuck_verdict : (line : Standing) (limits : Limits) (total : Option ℕ) (ce
 stuck_verdict line limits total cert stuck text h e = subst (λ (x : List ℕ). Verdict line limits total cert x) (sym e) (unsettled stuck.reason (held stuck.reason h))
   where
     -- what the stuck turn says is what the verdict says for the reason
-    held : (reason : Reason) → answer.IsUnsettled line limits total reason stuck → IsUnsettled line limits total reason
+    held : (reason : Reason) → answer.IsUnsettled line limits total reason stuck → IsUnsettledFor line limits total reason
     held Budget h = (stuck.turn, h.0, h.2)
     held Depth h = (stuck.turn, h.0, h.2)
     held Total h = (h.0, h.1, stuck.turn, h.2, stuck.spent.items, h.4, h.5)

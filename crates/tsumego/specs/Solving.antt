@@ -72,18 +72,18 @@ Follows p limits side first true lines = (bytes : List ℕ) × IsWinningCertific
 
 -- behind some legal turn the search is stuck for the reason, and the lesser turns lose; for the total only where there is one, and
 -- then the count of this search and those of grown searches behind the other legal turns add up to it; of memory nothing is said
-abbrev pub IsUnsettled : Standing → Limits → Option ℕ → Reason → Type 0
-IsUnsettled p limits total Budget = (t : Turn) × (search : Searched) × IsStuckBehind p limits Budget t search
-IsUnsettled p limits total Depth = (t : Turn) × (search : Searched) × IsStuckBehind p limits Depth t search
-IsUnsettled p limits total Total = (n : ℕ) × (total ≡ Some n) × (t : Turn) × (search : Searched) × (spent : List (Turn × ℕ))
+abbrev pub IsUnsettledFor : Standing → Limits → Option ℕ → Reason → Type 0
+IsUnsettledFor p limits total Budget = (t : Turn) × (search : Searched) × IsStuckBehind p limits Budget t search
+IsUnsettledFor p limits total Depth = (t : Turn) × (search : Searched) × IsStuckBehind p limits Depth t search
+IsUnsettledFor p limits total Total = (n : ℕ) × (total ≡ Some n) × (t : Turn) × (search : Searched) × (spent : List (Turn × ℕ))
     × IsStuckBehind p limits Total t search × IsSpent p limits n t search spent
-IsUnsettled p limits total Memory = Unit {0}
+IsUnsettledFor p limits total Memory = Unit {0}
 
 -- The text is a verdict on the problem: its value, killed or lives; or that no win was found, for a reason.
 pub data Verdict (p : Standing) (limits : Limits) (total : Option ℕ) (cert : Bool) : List ℕ → Type 0 where
   decided : (side : Side) (first : Option Turn) (lines : List ℕ) → HasValue p.frame p.state (value_for side) → IsFirst p side first
       → Follows p limits side first cert lines → Verdict p limits total cert (decided_text p.frame.size side first ++ lines)
-  unsettled : (reason : Reason) → IsUnsettled p limits total reason → Verdict p limits total cert (unsettled_text reason)
+  unsettled : (reason : Reason) → IsUnsettledFor p limits total reason → Verdict p limits total cert (unsettled_text reason)
 
 -- a verdict on the problem, or the number of its refusal
 abbrev pub SolvesAs : Limits → Option ℕ → Bool → Result Standing GameFault → Outcome → Type 0

@@ -10,9 +10,9 @@ use Rattle.tsumego.specs.Solving.{Solves}
 use Rattle.tsumego.specs.Text.{Scores}
 
 -- the outcomes that the task gives to a main line
-abbrev pub Makes : Task → List Node → Outcome → Type 0
-Makes Score nodes o = Scores nodes o
-Makes (Solve options) nodes o = Solves options.limits options.total options.cert nodes o
+abbrev pub MakesOutcome : Task → List Node → Outcome → Type 0
+MakesOutcome Score nodes o = Scores nodes o
+MakesOutcome (Solve options) nodes o = Solves options.limits options.total options.cert nodes o
 
 -- what the command does with each tree, where it goes tree by tree: with the options as they were given
 abbrev pub IsTaskOf : Command → Option Task → Type 0

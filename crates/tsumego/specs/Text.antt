@@ -24,10 +24,10 @@ abbrev pub Scores : List Node → Outcome → Type 0
 Scores nodes o = o ≡ scored (record_of nodes)
 
 -- the command answers the input with this text and this status; the number of workers has no part in it
-abbrev pub IsAnswer : Command → List ℕ → List ℕ → ℕ → Type 0
-IsAnswer Score input text status = IsTreesText Scores input text status
-IsAnswer Check input text status = IsCheckText input text status
-IsAnswer (Solve limits total workers cert) input text status = IsTreesText (Solves limits total cert) input text status
+abbrev pub IsAnswerText : Command → List ℕ → List ℕ → ℕ → Type 0
+IsAnswerText Score input text status = IsTreesText Scores input text status
+IsAnswerText Check input text status = IsCheckText input text status
+IsAnswerText (Solve limits total workers cert) input text status = IsTreesText (Solves limits total cert) input text status
 
 -- the text is whole lines at the front of an answer
 abbrev pub BeginsAnswer : Command → List ℕ → List ℕ → Type 0

@@ -5,7 +5,7 @@ ghost use Rattle.devices.specs.Watching.{TakesAtMost};
 ghost use Rattle.devices.specs.Writing.{ForInput, WritesOf, WritesText};
 ghost use Rattle.tsumego.specs.CommandLine.{IsInRange};
 ghost use Rattle.tsumego.specs.Lines.{WritesOutcome};
-ghost use Rattle.tsumego.specs.Tasks.{IsTaskOf, Makes};
+ghost use Rattle.tsumego.specs.Tasks.{IsTaskOf, MakesOutcome};
 ghost use Rattle.tsumego.specs.Trees.{BeginsTreesText, EarlierTreesText, IsTreesText, line_of};
 ghost use Rattle.tsumego.specs.Writing.{Writes};
 
@@ -51,7 +51,7 @@ fn answer_tree<X: Threads + Wait + Sync, W: Write>(
     writer: &mut Watched<W>,
 ) -> Result<bool, RunFault>
     requires { writer.old.failed ≡ false }
-    ensures written { WritesOutcome (Makes task.now) number main.now.nodes result (W.contents writer.old.device) (W.contents writer.new.device) }
+    ensures written { WritesOutcome (MakesOutcome task.now) number main.now.nodes result (W.contents writer.old.device) (W.contents writer.new.device) }
     ensures failed { writer.new.failed ≡ is_output_fault result }
 {
     let Ok(outcome) = task.outcome(rt, alloc, main) else {
@@ -90,8 +90,8 @@ fn answer_trees<X: Threads + Wait + Sync, W: Write>(
     writer: &mut Watched<W>,
 ) -> Result<u8, RunFault>
     requires { writer.old.failed ≡ false }
-    ensures written { WritesOf (IsTreesText (Makes task.now) input.now) (BeginsTreesText (Makes task.now) input.now)
-        (EarlierTreesText (Makes task.now) input.now) result (W.contents writer.old.device) (W.contents writer.new.device) }
+    ensures written { WritesOf (IsTreesText (MakesOutcome task.now) input.now) (BeginsTreesText (MakesOutcome task.now) input.now)
+        (EarlierTreesText (MakesOutcome task.now) input.now) result (W.contents writer.old.device) (W.contents writer.new.device) }
     ensures reading { is_input_fault result ≡ false }
     ensures failed { writer.new.failed ≡ is_output_fault result }
 {

@@ -1,6 +1,6 @@
 //! What is done with each tree of an input.
 ghost use Rattle.std.specs.Prelude.{IfOk};
-ghost use Rattle.tsumego.specs.Tasks.{Makes};
+ghost use Rattle.tsumego.specs.Tasks.{MakesOutcome};
 
 use crate::options::Options;
 use crate::outcome::{Outcome, score};
@@ -25,7 +25,7 @@ impl Task {
         alloc: Global,
         main: &MainLine,
     ) -> Result<Outcome, NoMemory>
-        ensures { IfOk result (Makes self.now main.now.nodes) }
+        ensures { IfOk result (MakesOutcome self.now main.now.nodes) }
     {
         match self {
             Task::Score => score(alloc, main),

@@ -10,7 +10,7 @@ use std::thread;
 use std::thread::Threads;
 use tt_game::{Line, Side};
 use tt_proof::Proof;
-use tt_search::{BothSides, Free, Kept, Limits, PrivateStore, Reason, Search, Step, Store};
+use tt_search::{BothSides, Free, Kept, Limits, PrivateStore, Search, Step, Store};
 use tt_share::{CertLog, LockedStore, LogStore, Table, View};
 
 /// White's two stones with liberties on both sides: Black to move wins.
@@ -217,59 +217,49 @@ fn a_view_is_full(rt: HostRuntime) -> Result<(), Fail> {
     Ok(())
 }
 
-/// The letter of what a step answered.
-fn letter(step: Step) -> char {
-    match step {
-        Step::Expanded => 'E',
-        Step::Closed => 'C',
-        Step::Settled => 'S',
-        Step::Stuck(Reason::Budget) => 'B',
-        Step::Stuck(Reason::Depth) => 'D',
-        Step::Stuck(Reason::Total) => 'T',
-        Step::Stuck(Reason::Memory) => 'M',
+/// What a step answers, and the root's numbers after it.
+type Told = (Step, (u32, u32));
+
+/// What a search comes to: its steps up to the end, how many nodes are expanded then, and how many proofs are kept.
+type Trace<'a> = (&'a [Told], u32, usize);
+
+/// A number that is infinite.
+const INFINITE: u32 = 4_294_967_295;
+
+/// Fails unless a search over the store steps so.
+fn steps_so<S: Store>(
+    rt: &impl Abort,
+    search: &mut Search,
+    store: &mut S,
+    steps: &[Told],
+    name: &str,
+) {
+    for place in 0..steps.len() {
+        let step = search.step(store, &mut Free::new());
+        assert!(rt;
+            (step, search.numbers()) == steps[place],
+            "{name}: step {place}"
+        );
     }
 }
 
-/// A number, or its name where it is infinite.
-fn shown(alloc: Global, number: u32) -> Result<String, Fail> {
-    if number == 4_294_967_295 {
-        return Ok(format!(in alloc; "inf")?);
-    }
-    Ok(format!(in alloc; "{number}")?)
-}
-
-/// What a step answered, with the root's numbers after it.
-fn told(alloc: Global, step: Step, search: &Search) -> Result<String, Fail> {
-    let (proof, disproof) = search.numbers();
-    let proof = shown(alloc, proof)?;
-    let disproof = shown(alloc, disproof)?;
-    Ok(format!(in alloc; "{}{proof},{disproof} ", letter(step))?)
-}
-
-/// The steps of a search up to its end, how many nodes are expanded, and how many proofs are kept.
-fn trace<S: Store>(alloc: Global, text: &[u8], store: &mut S) -> Result<String, Fail> {
+/// Fails unless a search at the problem over the store has this trace.
+fn has_trace<S: Store>(
+    rt: &impl Abort,
+    alloc: Global,
+    text: &[u8],
+    store: &mut S,
+    name: &str,
+    want: Trace<'_>,
+) -> Result<(), Fail> {
     let Some(limits) = Limits::new(100, 512) else {
         return Err(Fail::new("no limits"));
     };
     let mut search = Search::new(alloc, posed(alloc, text)?, limits)?;
-    let mut steps = String::new(alloc);
-    for _ in 0..8u32 {
-        let step = search.step(store, &mut Free::new());
-        steps.push_str(told(alloc, step, &search)?.as_str())?;
-        if step != Step::Expanded && step != Step::Closed {
-            break;
-        }
-    }
-    let end = format!(in alloc; "{} {}", search.expanded(), store.kept())?;
-    steps.push_str(end.as_str())?;
-    Ok(steps)
-}
-
-/// Fails unless a search over the store goes as the row says.
-fn search_row<S: Store>(alloc: Global, text: &[u8], store: &mut S, want: &str) -> Result<(), Fail> {
-    if trace(alloc, text, store)?.as_str() != want {
-        return Err(Fail::new(want));
-    }
+    let (steps, expanded, kept) = want;
+    steps_so(rt, &mut search, store, steps, name);
+    assert!(rt; search.expanded() == expanded, "{name}: expanded");
+    assert!(rt; store.kept() == kept, "{name}: kept");
     Ok(())
 }
 
@@ -285,22 +275,60 @@ fn finds_the_first<S: Store>(alloc: Global, store: &mut S) -> Result<bool, Fail>
     Ok(found.stands_at(&first) && !found.stands_at(&line) && other.is_none())
 }
 
+/// The first problem over an empty store: three nodes are expanded, and settled for the attacker.
+const ANEW: Trace<'static> = (
+    &[
+        (Step::Expanded, (1, 2)),
+        (Step::Expanded, (1, 2)),
+        (Step::Expanded, (0, INFINITE)),
+        (Step::Settled, (0, INFINITE)),
+    ],
+    3,
+    3,
+);
+
+/// The same once more over that store.
+const AGAIN: Trace<'static> = (
+    &[
+        (Step::Closed, (0, INFINITE)),
+        (Step::Settled, (0, INFINITE)),
+    ],
+    0,
+    3,
+);
+
+/// The second problem over it.
+const BEHIND: Trace<'static> = (
+    &[
+        (Step::Expanded, (1, 1)),
+        (Step::Expanded, (INFINITE, 0)),
+        (Step::Settled, (INFINITE, 0)),
+    ],
+    2,
+    5,
+);
+
 /// Fails unless searches over one store go as they go over a private one: the table of `tt_search`.
-fn search_thrice<S: Store>(alloc: Global, store: &mut S) -> Result<(), Fail> {
-    search_row(alloc, SPLIT, store, "E1,2 E1,2 E0,inf S0,inf 3 3")?;
-    search_row(alloc, SPLIT, store, "C0,inf S0,inf 0 3")?;
-    if !finds_the_first(alloc, store)? {
-        return Err(Fail::new("another proof is found"));
-    }
-    search_row(alloc, REPEATED, store, "E1,1 Einf,0 Sinf,0 2 5")
+fn search_thrice<S: Store>(
+    rt: &impl Abort,
+    alloc: Global,
+    name: &str,
+    store: &mut S,
+) -> Result<(), Fail> {
+    has_trace(rt, alloc, SPLIT, store, name, ANEW)?;
+    has_trace(rt, alloc, SPLIT, store, name, AGAIN)?;
+    assert!(rt; finds_the_first(alloc, store)?, "{name}: what is found");
+    has_trace(rt, alloc, REPEATED, store, name, BEHIND)
 }
 
 #[test]
 fn searches_over_each_store(rt: HostRuntime) -> Result<(), Fail> {
     let alloc = rt.alloc();
-    search_thrice(alloc, &mut PrivateStore::new(alloc))?;
+    search_thrice(&rt, alloc, "private", &mut PrivateStore::new(alloc))?;
     let table = Table::new(alloc)?;
-    search_thrice(alloc, &mut LockedStore::new(&rt, &table))?;
+    let mut locked = LockedStore::new(&rt, &table);
+    search_thrice(&rt, alloc, "locked", &mut locked)?;
     let log = CertLog::new(alloc)?;
-    search_thrice(alloc, &mut LogStore::new(&rt, View::new(alloc, &log)?))
+    let mut view = LogStore::new(&rt, View::new(alloc, &log)?);
+    search_thrice(&rt, alloc, "log", &mut view)
 }

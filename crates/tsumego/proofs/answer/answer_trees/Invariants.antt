@@ -1,5 +1,5 @@
 use Rattle.std.proofs.Common.{◌≡◌, ◌≤◌, ◌+◌, length, false}
-use Rattle.tsumego.specs.Tasks.{Makes}
+use Rattle.tsumego.specs.Tasks.{MakesOutcome}
 use Rattle.tsumego.proofs.Progress.{Progress}
 use Rattle.tsumego.proofs.answer.answer_trees.Given as goal
 
@@ -7,7 +7,7 @@ abbrev pub invariant-loop-number : goal.invariant-loop-number
 invariant-loop-number g l = record {
   worked : l.writer.failed ≡ false;
   bound : l.number + length l.rest ≤ length l.input + 1;
-  progress : Progress (Makes l.task) l.input l.rest l.number l.refused (g.W.Write.contents l.fn.writer.device) (g.W.Write.contents l.writer.device);
+  progress : Progress (MakesOutcome l.task) l.input l.rest l.number l.refused (g.W.Write.contents l.fn.writer.device) (g.W.Write.contents l.writer.device);
 }
 
 abbrev pub decreases-loop-number : goal.decreases-loop-number
