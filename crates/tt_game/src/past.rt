@@ -136,6 +136,11 @@ impl Past {
     pub fn key(&self) -> Key
         ensures { result ≡ key_of self.now.frame self.now.state }
     {
-        key_at(self.root.frame(), &self.present(), self.to_move, self.passes)
+        key_at(
+            self.root.frame(),
+            &self.present(),
+            self.to_move,
+            self.passes,
+        )
     }
 }
