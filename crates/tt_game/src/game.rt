@@ -1,6 +1,6 @@
 //! Games of Black and White under the Tromp-Taylor rules, as records have them: no region, no target.
 
-ghost use Rattle.std.specs.Prelude.{◌≡◌, ℕ, ◌+◌, ◌*◌, ◌<◌, ◌≤◌, ◌↔◌, length, map, Some, None, All, IsTrue, Contains, MatchResult, OnOk, OnErr, IfOk, IfErr};
+ghost use Rattle.std.specs.Prelude.{◌≡◌, ◌≢◌, ℕ, ◌+◌, ◌*◌, ◌<◌, ◌≤◌, ◌↔◌, length, map, Some, None, All, IsTrue, Contains, MatchResult, OnOk, OnErr, IfOk, IfErr};
 ghost use Rattle.tt_sgf.specs.Sizes.{point_count};
 
 use crate::faults::{Refused, Why};
@@ -11,23 +11,24 @@ use crate::seen::Seen;
 use crate::turns::Turn;
 use std::alloc::Global;
 use std::marker::Model;
-use tt_board::{Board, Colour, CountedBoard};
+use tt_board::{Board, Colour, CountedBoard, Occupied};
 use tt_sgf::{NoMemory, Point, PointSet, Size};
 
 /// A game: its history, who moves, and the passes in a row. Contracts see it as `Played`.
 ///
-/// Moves are made on one board with its chains counted, and their colourings are noted by prints, by which superko knows most of the
-/// new ones.
+/// Moves are made on one board with its chains counted, which the first move behind a setup counts anew: a record that only sets up
+/// stones pays for no count. Their colourings are noted by prints, by which superko knows most of the new ones.
 #[derive(Drop)]
 pub struct Game {
     history: History,
     board: CountedBoard,
+    counted: bool,
     seen: Seen,
     to_move: Colour,
 }
 
 impl Model for Game {
-    ghost use Rattle.std.specs.Prelude.{◌≡◌};
+    ghost use Rattle.std.specs.Prelude.{◌≡◌, IsTrue};
     ghost use Rattle.tt_game.specs.Course.{so_far};
     ghost use Rattle.tt_game.specs.Games.{Played, game_at};
     ghost use Rattle.tt_game.specs.Seen.{AreSeen};
@@ -38,7 +39,7 @@ impl Model for Game {
     ghost view = { λ g. game_at g.history g.to_move };
 
     ghost invariant = { λ g. record {
-      board : g.board ≡ board_on g.history.size g.history.present;
+      board : IsTrue g.counted → g.board ≡ board_on g.history.size g.history.present;
       seen : AreSeen g.seen g.history.size (so_far g.history);
     } };
 }
@@ -60,6 +61,7 @@ impl Game {
         let board = Board::empty(size);
         Ok(Game {
             board: CountedBoard::of(&board),
+            counted: true,
             seen: Seen::of(&board),
             history: History::of(alloc, board)?,
             to_move: Colour::Black,
@@ -107,6 +109,22 @@ impl Game {
         self.history.has_been(next)
     }
 
+    /// The board after a move, where its point is empty.
+    fn after(&self, p: Point) -> Result<Board, Occupied>
+        requires { p < point_count self.now.size }
+        ensures { MatchResult result
+            (λ b. (entry_at self.now.present p ≡ None) × (b ≡ record { size = self.now.size; points = made_by self.now p }))
+            (λ _. entry_at self.now.present p ≢ None) }
+    {
+        if !self.counted {
+            return self.present().play(self.to_move, p);
+        }
+        if self.present().at(p).is_some() {
+            return Err(Occupied);
+        }
+        Ok(self.board.after(self.to_move, p))
+    }
+
     /// The board that a move makes, or why the move is refused.
     fn made(&self, p: Point) -> Result<Board, Why>
         requires { p < point_count self.now.size }
@@ -114,10 +132,10 @@ impl Game {
             (λ b. (move_refusal self.now p ≡ None) × (b ≡ record { size = self.now.size; points = made_by self.now p }))
             (λ why. move_refusal self.now p ≡ Some why) }
     {
-        if self.present().at(p).is_some() {
-            return Err(Why::Occupied);
-        }
-        let next = self.board.after(self.to_move, p);
+        let next = match self.after(p) {
+            Err(Occupied) => return Err(Why::Occupied),
+            Ok(next) => next,
+        };
         if self.has_been(&next) {
             return Err(Why::Repeats);
         }
@@ -164,7 +182,12 @@ impl Game {
             return Err(Refused::NoMemory);
         }
         self.seen.add(self.history.present());
-        self.board.play(self.to_move, p);
+        if self.counted {
+            self.board.play(self.to_move, p);
+        } else {
+            self.board = CountedBoard::of(self.history.present());
+            self.counted = true;
+        }
         self.to_move = self.to_move.other();
         Ok(())
     }
@@ -197,12 +220,23 @@ impl Game {
     {
         let history = History::of(self.history.alloc(), board.copy())?;
         if !self.present().same(&board) {
-            self.board = CountedBoard::of(&board);
+            self.counted = false;
         }
         self.seen = Seen::of(&board);
         self.history = history;
         self.to_move = colour;
         Ok(())
+    }
+
+    /// The present board with its chains counted.
+    fn counted_board(&self) -> CountedBoard
+        ensures { result ≡ record { size = self.now.size; points = self.now.present } }
+    {
+        if self.counted {
+            self.board.copy()
+        } else {
+            CountedBoard::of(self.history.present())
+        }
     }
 
     /// The game as a problem: the history and the side to move stay.
@@ -227,6 +261,7 @@ impl Game {
             targets,
             defender,
         };
-        Line::begin(frame, self.history.without_passes(), to_move, self.board)
+        let board = self.counted_board();
+        Line::begin(frame, self.history.without_passes(), to_move, board)
     }
 }
