@@ -7,7 +7,6 @@ pub mod Newest
 pub mod Tokens
 pub mod Lost
 pub mod StuckBehind
-pub mod Found
 pub mod Sending
 pub mod ViewSending
 pub mod ResultLemmas
