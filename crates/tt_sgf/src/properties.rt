@@ -1,13 +1,25 @@
 //! Properties: an identifier with its values, and the lists of both.
 
-ghost use Rattle.std.specs.Prelude.{◌≡◌};
+ghost use Rattle.std.specs.Prelude.{◌≡◌, ◌++◌, ◌∷◌, [], OnOk};
 ghost use Rattle.tt_sgf.specs.Reading.{values_at, property_at, opens_property, properties_at, Gives};
 
 use super::faults::SgfFault;
 use super::items::Items;
 use super::nodes::Property;
 use super::tokens::{after_byte, has_upper, is_word, name_of, skip_blanks, value, word};
-use std::alloc::Global;
+use std::alloc::{AllocError, Global};
+
+/// Adds an item. Where there is no room for it, some is made for a quarter of as many as there are: most lists here hold one item,
+/// and a record has thousands of them.
+fn add<T: Drop>(items: &mut Vec<T>, item: T) -> Result<(), AllocError>
+    ensures { OnOk result (items.new.items ≡ items.old.items ++ item ∷ []) }
+{
+    if items.len() == items.capacity() {
+        items.reserve_exact(items.len() / 4 + 1)?;
+    }
+    items.push_reserved(item);
+    Ok(())
+}
 
 /// The values at the front, as long as a `[` follows.
 fn values(alloc: Global, bytes: &[u8]) -> Result<(Vec<Items<u8>>, &[u8]), SgfFault>
@@ -17,7 +29,7 @@ fn values(alloc: Global, bytes: &[u8]) -> Result<(Vec<Items<u8>>, &[u8]), SgfFau
     let mut rest = bytes;
     while let Some(opened) = after_byte(rest, b'[') {
         let (raw, after) = value(alloc, opened)?;
-        values.push(raw)?;
+        add(&mut values, raw)?;
         rest = after;
     }
     Ok((values, rest))
@@ -64,7 +76,7 @@ pub(crate) fn properties(alloc: Global, bytes: &[u8]) -> Result<(Vec<Property>, 
     let mut rest = bytes;
     while opens_property(rest) {
         let (one, after) = read_property(alloc, skip_blanks(rest))?;
-        properties.push(one)?;
+        add(&mut properties, one)?;
         rest = after;
     }
     Ok((properties, rest))

@@ -18,7 +18,7 @@ loop-alloc-smaller c =
 pub loop-alloc-preserved : goal.loop-alloc-preserved
 loop-alloc-preserved c =
     let e = rw c.skip_blanks.ensures at c.in_ok-one.ensures in
-    rw c.in_ok-push.ensures.items (properties_more c.loop-alloc.rest.now (sym c.loop-alloc-test.ensures) c.loop-alloc.properties.items c.in_ok-one.one c.in_ok-one.after.now _ e c.loop-alloc.invariant)
+    rw c.in_ok-add.ensures (properties_more c.loop-alloc.rest.now (sym c.loop-alloc-test.ensures) c.loop-alloc.properties.items c.in_ok-one.one c.in_ok-one.after.now _ e c.loop-alloc.invariant)
 
 pub returns : goal.returns
 returns c = properties_end c.loop-alloc.rest.now c.loop-alloc.properties.items _ (sym c.loop-alloc-test.ensures) c.loop-alloc.invariant

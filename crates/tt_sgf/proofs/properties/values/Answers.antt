@@ -12,7 +12,7 @@ loop-opened-smaller c = values_shorter c.loop-opened.rest.now c.in-Some.opened.n
 
 pub loop-opened-preserved : goal.loop-opened-preserved
 loop-opened-preserved c =
-    rw c.in_ok-push.ensures.items
+    rw c.in_ok-add.ensures
     (values_more c.loop-opened.rest.now c.in-Some.opened.now c.in-Some.ensures c.loop-opened.values.items c.in_ok-raw.raw c.in_ok-raw.after.now _ c.in_ok-raw.ensures c.loop-opened.invariant)
 
 pub returns : goal.returns
