@@ -1,8 +1,13 @@
 -- Colourings kept by their differences.
-use Rattle.std.proofs.Common.{◌≡◌, ◌≢◌, ℕ, ◌+◌, ◌<◌, ◌≤◌, List, [], ◌∷◌, ◌++◌, length, take, drop, get_or, set as put, Option, Some, None}
+use Rattle.std.proofs.Common.{◌≡◌, ◌≢◌, ℕ, ◌+◌, ◌-◌, ◌*◌, ◌/◌, ◌%◌, ◌^◌, ◌<◌, ◌≤◌, false, List, [], ◌∷◌, ◌++◌, length, take, drop, get_or, set as put, Option, Some, None}
 use Rattle.std.proofs.Common.{refl, sym, ap, subst, ◌∙◌, arith, inl, inr}
 use Rattle.std.proofs.lemmas.Bool.{cases_lt, cases_eq}
 use Rattle.std.proofs.lemmas.List.{append-nil, append_assoc, length-set, get_or-set_same, get_or-set_other, ext_get_or}
+use Rattle.std.proofs.lemmas.List.{get_or_past}
+use Rattle.std.proofs.lemmas.Nat.{shr-shr, shr_le}
+use Rattle.std.proofs.lemmas.Nat.Bits.{bit_at-zero, bit_at-trailing_zeros, bit_at_above}
+use Rattle.std.specs.Int.{w64, bit_at, trailing_zeros}
+use Rattle.tt_sgf.specs.Words.{bit_in}
 use Rattle.std.proofs.lemmas.List.{length-take, take_at, take_more, take-append-drop, take-append-le}
 use Rattle.tt_board.specs.declared.Colour.{Colour}
 use Rattle.tt_board.specs.declared.differences.Edit.{Edit}
@@ -10,7 +15,7 @@ use Rattle.tt_board.specs.declared.differences.Edit.TheVariants.{Black, White, E
 use Rattle.tt_board.specs.Position.{Colouring}
 use Rattle.tt_board.specs.Reach.{entry_at}
 use Rattle.tt_board.specs.Differences.{edited, finished, colourings_from}
-use Rattle.tt_board.specs.Boards.{edit_of, led, IsLed, IsHalf}
+use Rattle.tt_board.specs.Boards.{edit_of, led, IsLed, IsHalf, AreAlikeBy}
 
 -- ---- one more edit
 
@@ -93,6 +98,70 @@ pub half_pushed : (here there c : Colouring) (es new : List Edit) (p next : ℕ)
 half_pushed here there c es new p next h is below le alike =
     subst (IsHalf here there next) (sym (ap (led c) is ∙ led_push c es (edit_of p (entry_at there p)) ∙ edited_entry (led c es) p (entry_at there p)))
     (half_more here there (put (led c es) p (entry_at there p)) (p + 1) next (half_set here there (led c es) p h below) le alike)
+
+-- ---- the points of a word
+
+-- a bit of a word is that of its number among all words' bits
+pub word_bit : (words : List ℕ) (k i : ℕ) → i < 64 → bit_at (get_or words k 0) i ≡ 0 → bit_in words (64 * k + i) ≡ false
+unfolding bit_in
+word_bit words k i small none =
+    let word : (64 * k + i) / 64 ≡ k = omega arith in
+    let place : (64 * k + i) % 64 ≡ i = omega arith in
+    rw (word, place, none) refl
+
+-- what is left of a word from the bit of one point on
+module _ (word from p rest : ℕ) (after : from ≤ p) (is : rest ≡ word / 2 ^ (p - from)) where
+  -- its bits are the word's
+  left_bit : (q : ℕ) → p ≤ q → bit_at rest (q - p) ≡ bit_at word (q - from)
+  left_bit q on =
+      let place : p - from + (q - p) ≡ q - from = omega arith in
+      ap (λ x. bit_at x (q - p)) is ∙ ap (λ x. x % 2) (shr-shr word (p - from) (q - p)) ∙ ap (bit_at word) place
+
+  -- a point whose bit is 0 has the same entry in both
+  alike_left : (here there : Colouring) → AreAlikeBy word from here there → (q : ℕ) → p ≤ q → q < from + 64 → bit_at rest (q - p) ≡ 0 → entry_at here q ≡ entry_at there q
+  alike_left here there alike q on inside none =
+      let back : from + (q - from) ≡ q = omega arith in
+      subst (λ n. entry_at here n ≡ entry_at there n) back (alike (q - from) (omega arith) (sym (left_bit q on) ∙ none))
+
+  -- where nothing is left, all further points do
+  pub half_left : (here there c : Colouring) → AreAlikeBy word from here there → IsHalf here there p c → p ≤ from + 64 → rest ≡ 0 → IsHalf here there (from + 64) c
+  half_left here there c alike h within none =
+      half_more here there c p (from + 64) h within (λ q on inside. alike_left here there alike q on inside (ap (λ x. bit_at x (q - p)) none ∙ bit_at-zero (q - p)))
+
+  -- what is left behind one more bit
+  pub left_next : (t : ℕ) → rest / 2 ^ t / 2 ≡ word / 2 ^ (p + t + 1 - from)
+  left_next t =
+      let place : p - from + t + 1 ≡ p + t + 1 - from = omega arith in
+      ap (λ x. x / 2 ^ t / 2) is ∙ ap (λ x. x / 2) (shr-shr word (p - from) t) ∙ shr-shr word (p - from + t) 1 ∙ ap (λ n. word / 2 ^ n) place
+
+  module _ (some : 0 < rest) (fits : word < 2 ^ 64) where
+    lowest : (trailing_zeros w64 rest < 64) × (bit_at rest (trailing_zeros w64 rest) ≡ 1) × ((i : ℕ) → i < trailing_zeros w64 rest → bit_at rest i ≡ 0)
+    lowest = bit_at-trailing_zeros w64 rest some (omega (arith, is, shr_le word (p - from)))
+
+    -- the lowest bit that is left is one of the word's
+    pub lowest_inside : p + trailing_zeros w64 rest < from + 64
+    lowest_inside = elim (cases_lt (p + trailing_zeros w64 rest) (from + 64)) [
+      | inl below ↦ below
+      | inr above ↦
+          let back : p + trailing_zeros w64 rest - p ≡ trailing_zeros w64 rest = omega arith in
+          let one : bit_at word (p + trailing_zeros w64 rest - from) ≡ 1 = sym (left_bit (p + trailing_zeros w64 rest) (omega arith)) ∙ ap (bit_at rest) back ∙ lowest.1 in
+          absurd (omega (arith, one, bit_at_above word 64 (p + trailing_zeros w64 rest - from) fits (omega arith)))
+    ]
+
+    -- the points before it have the same entries in both
+    pub half_skipped : (here there c : Colouring) → AreAlikeBy word from here there → IsHalf here there p c → IsHalf here there (p + trailing_zeros w64 rest) c
+    half_skipped here there c alike h = half_more here there c p (p + trailing_zeros w64 rest) h (omega arith) (λ q on before.
+        alike_left here there alike q on (omega (arith, lowest_inside)) (lowest.2 (q - p) (omega arith)))
+
+-- no point past the last one differs
+pub half_past : (here there c : Colouring) (n m : ℕ) → IsHalf here there n c → n ≤ m → length here ≡ length there → length there ≤ n → IsHalf here there m c
+half_past here there c n m h le fits past = half_more here there c n m h le (λ q on before.
+    get_or_past here q None (omega arith) ∙ sym (get_or_past there q None (omega arith)))
+
+-- an edit for the entry of a point leads on to the next point
+pub half_edited : (here there c : Colouring) (es new : List Edit) (p : ℕ) → IsHalf here there p (led c es)
+    → new ≡ es ++ edit_of p (entry_at there p) ∷ [] → p < length here → IsHalf here there (p + 1) (led c new)
+half_edited here there c es new p h is below = half_pushed here there c es new p (p + 1) h is below (omega arith) (λ q on before. absurd (omega arith))
 
 -- an edit of an entry finishes no colouring
 pub from_same : (c : Colouring) (es new : List Edit) (p : ℕ) (e : Option Colour) → new ≡ es ++ edit_of p e ∷ [] → colourings_from c new ≡ colourings_from c es

@@ -1,6 +1,7 @@
 -- How colourings are kept by edits, and boards one after another: by the last one and edits that lead back from it to the first, or
 -- by a base and edits that lead on from it. The views of `Boards` and `Trail` and private contracts cite these.
-use Rattle.std.specs.Prelude.{◌≡◌, ◌≢◌, ◌==◌, if◌then◌else◌, ℕ, ◌<◌, ◌≤◌, List, [], ◌∷◌, ◌++◌, length, reverse, map, drop, Option, Some, None}
+use Rattle.std.specs.Int.{bit_at}
+use Rattle.std.specs.Prelude.{◌≡◌, ◌≢◌, ◌==◌, if◌then◌else◌, ℕ, ◌+◌, ◌<◌, ◌≤◌, List, [], ◌∷◌, ◌++◌, length, reverse, map, drop, Option, Some, None}
 use Rattle.tt_sgf.specs.declared.size.Size.{Size}
 use Rattle.tt_board.specs.declared.Colour.{Colour}
 use Rattle.tt_board.specs.declared.differences.Edit.{Edit}
@@ -52,6 +53,10 @@ pub record IsHalf (here there : Colouring) (n : ℕ) (c : Colouring) : Type 0 wh
   pub same_length : length c ≡ length here
   pub first : (q : ℕ) → q < n → entry_at c q ≡ entry_at there q
   pub others : (q : ℕ) → n ≤ q → entry_at c q ≡ entry_at here q
+
+-- the entries of 64 points, from one on, are alike wherever the bit of a word is 0
+abbrev pub AreAlikeBy : ℕ → ℕ → Colouring → Colouring → Type 0
+AreAlikeBy word from here there = (i : ℕ) → i < 64 → bit_at word i ≡ 0 → entry_at here (from + i) ≡ entry_at there (from + i)
 
 -- the edits from one place on finish a colouring next, and lead on from it behind another place
 pub record IsNext (es : List Edit) (from to : ℕ) (c next : Colouring) : Type 0 where

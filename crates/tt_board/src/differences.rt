@@ -1,8 +1,10 @@
 //! Colourings kept by their differences: those of one game differ from one another by few stones and what these captured.
 
-ghost use Rattle.std.specs.Prelude.{◌≡◌, ◌<◌, ◌≤◌, ◌↔◌, [], length, take, IsTrue, IfOk, OnOk, OnErr, MatchOption};
-ghost use Rattle.tt_board.specs.Differences.{edited};
-ghost use Rattle.tt_board.specs.Boards.{edit_at, edit_of, led, IsLed, IsNext, IsLast};
+ghost use Rattle.std.specs.Prelude.{◌≡◌, ◌+◌, ◌<◌, ◌≤◌, ◌↔◌, [], length, take, IsTrue, IfOk, OnOk, OnErr, MatchOption};
+ghost use Rattle.tt_sgf.specs.declared.size.TheConstants.{MOST_POINTS};
+ghost use Rattle.tt_board.specs.Position.{Colouring as Entries};
+ghost use Rattle.tt_board.specs.Differences.{edited, colourings_from};
+ghost use Rattle.tt_board.specs.Boards.{edit_at, edit_of, led, IsLed, IsHalf, AreAlikeBy, IsNext, IsLast};
 ghost use Rattle.tt_board.specs.declared.differences.TheConstants.{PLACES};
 
 use super::Colour;
@@ -108,19 +110,46 @@ fn edit_points(points: &mut Colouring, edit: Edit)
     }
 }
 
-/// Adds the edits that lead from a colouring to another one of as many points. Where memory is refused, some of them may
-/// stand behind those of before.
+/// Adds the edits of the points from one on that a word stands for: one for each point whose bit is 1. Where memory is refused,
+/// some of them may stand behind those of before.
+fn push_word(
+    edits: &mut Vec<Step>,
+    there: &Colouring,
+    from: usize,
+    word: u64,
+) -> Result<(), AllocError>
+    requires { from ≤ MOST_POINTS }
+    ensures half { OnOk result ((here c : Entries) → length here ≡ length there.now → AreAlikeBy word from here there.now
+        → IsHalf here there.now from (led c edits.old.items) → IsHalf here there.now (from + 64) (led c edits.new.items)) }
+    ensures colourings { OnOk result ((c : Entries) → colourings_from c edits.new.items ≡ colourings_from c edits.old.items) }
+    ensures kept { take (length edits.old.items) edits.new.items ≡ edits.old.items }
+{
+    let mut rest = word;
+    let mut p = from;
+    while rest != 0 {
+        let skipped = rest.trailing_zeros();
+        p += skipped as usize;
+        if p >= there.len() {
+            return Ok(());
+        }
+        edits.push(edit_of(p as u16, there.at(p)))?;
+        p += 1;
+        rest = rest >> skipped >> 1;
+    }
+    Ok(())
+}
+
+/// Adds the edits that lead from a colouring to another one of as many points: it goes by the words of both, since most of them
+/// are the same. Where memory is refused, some of the edits may stand behind those of before.
 fn push_edits(edits: &mut Vec<Step>, here: &Colouring, there: &Colouring) -> Result<(), AllocError>
     requires { length here.now ≡ length there.now }
     ensures ok { OnOk result (IsLed edits.old.items edits.new.items here.now there.now) }
     ensures kept { take (length edits.old.items) edits.new.items ≡ edits.old.items }
 {
-    let count = here.len();
-    let differing = here.apart(there);
-    let mut p = differing.first_from(0);
-    while p < count {
-        edits.push(edit_of(p as u16, there.at(p)))?;
-        p = differing.first_from(p + 1);
+    let words = here.apart(there).words();
+    let used = (here.len() + 63) / 64;
+    for k in 0..used {
+        push_word(edits, there, 64 * k, words[k])?;
     }
     edits.push(Step::new(3, 0))?;
     Ok(())

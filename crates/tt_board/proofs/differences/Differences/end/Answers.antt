@@ -10,4 +10,5 @@ pub loop-edit-preserved : goal.loop-edit-preserved
 loop-edit-preserved c =
     let items = c.deref-edit-items.result.now in let i = c.loop-edit.edit-index in
     let read : c.edit-item.result ≡ get_or items i (Black 0) = get_or_read items i c.edit-item.result c.loop-edit-test.true c.edit-item.is (Black 0) in
-    c.edit_points.ensures ∙ ap (edited c.loop-edit.points) (c.edit.ensures ∙ read) ∙ ap (λ (x : Colouring). edited x (get_or items i (Black 0))) c.loop-edit.invariant ∙ sym (led_more c.args.base.now items i (Black 0) c.loop-edit-test.true)
+    c.edit_points.ensures ∙ ap (edited c.loop-edit.points) (c.edit.ensures ∙ read)
+    ∙ ap (λ (x : Colouring). edited x (get_or items i (Black 0))) c.loop-edit.invariant ∙ sym (led_more c.args.base.now items i (Black 0) c.loop-edit-test.true)
