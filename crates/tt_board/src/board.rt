@@ -66,6 +66,16 @@ impl Board {
         Board { size, points }
     }
 
+    /// Becomes the board that shows this colouring, in which each stone reaches empty. It is written in place.
+    pub(crate) fn show(&mut self, size: Size, points: &Colouring)
+        requires fits { length points.now ≡ point_count size }
+        requires alive { IsAlive size points.now }
+        ensures { self.new ≡ record { size = size; points = points.now } }
+    {
+        self.size = size;
+        self.points.set_to(points);
+    }
+
     /// The same board again: a copy of some hundred bytes, which takes no memory.
     pub fn copy(&self) -> Board
         ensures { result ≡ self.now }

@@ -70,6 +70,15 @@ impl Colouring {
         }
     }
 
+    /// Becomes the same as another one, written in place.
+    pub(crate) fn set_to(&mut self, other: &Colouring)
+        ensures { self.new ≡ other.now }
+    {
+        self.count = other.count;
+        self.black = other.black;
+        self.white = other.white;
+    }
+
     /// How many points there are.
     pub(crate) fn len(&self) -> usize
         ensures value { result ≡ length self.now }

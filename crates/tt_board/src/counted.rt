@@ -2,11 +2,11 @@
 //!
 //! It has some two thousand bytes and a `Board` a hundred, so a history keeps that.
 
-ghost use Rattle.std.specs.Prelude.{◌≡◌, ◌<◌, length, slice_set, IsTrue, Some, None};
-ghost use Rattle.tt_sgf.specs.Sizes.{point_count};
 ghost use Rattle.tt_board.specs.Reach.{entry_at};
 ghost use Rattle.tt_board.specs.Play.{play_of};
 ghost use Rattle.tt_board.specs.Glance.{IsTold};
+ghost use Rattle.tt_sgf.specs.Sizes.{point_count};
+ghost use Rattle.std.specs.Prelude.{◌≡◌, ◌<◌, length, slice_set, IsTrue, Some, None};
 
 use super::Colour;
 use super::board::Board;
@@ -66,6 +66,13 @@ impl CountedBoard {
         ensures { result ≡ self.now }
     {
         Board::showing(self.chains.size(), self.chains.points().copy())
+    }
+
+    /// Makes another board the plain board that this one is. It is written in place, so that no board is moved.
+    pub fn show_on(&self, board: &mut Board)
+        ensures { board.new ≡ self.now }
+    {
+        board.show(self.chains.size(), self.chains.points());
     }
 
     /// What is told of a play of `colour` on `p`, an empty point, by the points beside it.

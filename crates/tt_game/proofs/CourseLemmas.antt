@@ -1,13 +1,13 @@
 -- Courses and the boards that show them.
 use Rattle.tt_sgf.specs.declared.size.Size.{Size}
-use Rattle.std.proofs.Common.{◌≡◌, ℕ, ◌+◌, ◌-◌, ◌<◌, List, [], ◌∷◌, ◌++◌, length, take, get_or, All, Contains, drop, suc, refl, sym, ap, subst, ◌∙◌, arith}
-use Rattle.std.proofs.lemmas.List.{length-map, get_or-map, get_or_default, take_more, take_all, take_at, get_or_push, length_push}
+use Rattle.std.proofs.Common.{◌≡◌, ℕ, ◌+◌, ◌-◌, ◌<◌, ◌≤◌, List, [], ◌∷◌, ◌++◌, length, take, get_or, All, Contains, drop, suc, refl, sym, ap, subst, ◌∙◌, arith}
+use Rattle.std.proofs.lemmas.List.{length-map, get_or-map, get_or_default, take_more, take_all, take_at, get_or_push, length_push, take-map, take-take, length-take-le}
 use Rattle.tt_board.specs.Position.{Position, Colouring}
 use Rattle.tt_game.specs.declared.frame.Side.{Side}
 use Rattle.tt_game.specs.declared.frame.Side.TheVariants.{Attacker, Defender}
 use Rattle.tt_game.specs.Game.{State, history, opponent}
 use Rattle.tt_game.specs.Course.{Course, so_far, colourings}
-use Rattle.tt_game.specs.Undoing.{course_of, state_at, front, last}
+use Rattle.tt_game.specs.Undoing.{course_of, without_play, state_at, front, last}
 
 -- two courses are one where their parts are
 same_course : (g : Size) (xs ys : List Colouring) (x y : Colouring) (n : ℕ) → xs ≡ ys → x ≡ y
@@ -49,6 +49,16 @@ history_is g bs passes some = front_last (colourings bs) (omega (arith, length-c
 pub course_from : (bs : List Position) (c : Course) → colourings bs ≡ so_far c → course_of c.size bs c.passes ≡ c
 course_from bs c e =
     same_course c.size _ _ _ _ c.passes (ap front e ∙ front_push c.earlier c.present) (ap last e ∙ last_push c.earlier c.present)
+
+-- all boards but the last show the course before the last play
+pub course_undone : (g : Size) (bs : List Position) (live passes back : ℕ) → live ≤ length bs → course_of g (take (live - 1) bs) back ≡ without_play (course_of g (take live bs) passes) back
+course_undone g bs live passes back inside =
+    let count : length (colourings (take live bs)) ≡ live = length-colourings (take live bs) ∙ length-take-le live bs inside in
+    let fewer : live - 1 ≤ live = omega arith in
+    let shorter : take (live - 1) (take live bs) ≡ take (live - 1) bs = take-take (live - 1) live bs fewer in
+    let all : colourings (take (live - 1) bs) ≡ front (colourings (take live bs)) =
+    ap colourings (sym shorter) ∙ sym (take-map (λ (x : Position). x.points) (live - 1) (take live bs)) ∙ ap (λ n. take (n - 1) (colourings (take live bs))) (sym count) in
+    ap (λ (cs : List Colouring). let c : Course = record { size = g; earlier = front cs; present = last cs; passes = back } in c) all
 
 -- boards that show a state's history show the state
 pub state_from : (g : Size) (bs : List Position) (s : State) → colourings bs ≡ history s → state_at (course_of g bs s.passes) s.to_move ≡ s

@@ -1,38 +1,43 @@
 //! The course of a game: its boards so far and the passes in a row. Superko stands here, for problems and for records.
 
-ghost use Rattle.std.specs.Prelude.{◌≡◌, ◌≢◌, ◌<◌, ◌≤◌, ◌↔◌, length, drop, All, IsTrue, OnOk, OnErr, IfOk, Some};
+ghost use Rattle.std.specs.Prelude.{◌≡◌, ◌≢◌, ◌+◌, ◌<◌, ◌≤◌, ◌↔◌, ◌∷◌, ◌++◌, [], length, take, drop, All, IsTrue, OnOk, OnErr, IfOk, Some};
 ghost use Rattle.tt_sgf.specs.Sizes.{point_count};
 ghost use Rattle.tt_board.specs.Position.{Colouring};
-ghost use Rattle.tt_board.specs.Reach.{entry_at};
 ghost use Rattle.tt_game.specs.Course.{HasBeen, colourings};
+ghost use Rattle.tt_board.specs.Reach.{entry_at};
 
 use std::alloc::Global;
 use std::marker::Model;
-use tt_board::{Board, Colour};
+use tt_board::{Board, Colour, CountedBoard};
 use tt_sgf::{NoMemory, Point, Size};
 
 /// The boards of a game so far, the last one present, and how many passes were made in a row since the last play.
 /// Contracts see it as `Course`.
+///
+/// The first `live` boards are those so far. Boards above them stay when plays are taken back, so that the next play is written over
+/// one of them: it moves no board and takes no memory.
 #[derive(Drop)]
 pub(crate) struct History {
     size: Size,
     boards: Vec<Board>,
+    live: usize,
     passes: u8,
     alloc: Global,
 }
 
 impl Model for History {
-    ghost use Rattle.std.specs.Prelude.{◌≡◌, ◌<◌, ◌≤◌, length, All};
+    ghost use Rattle.std.specs.Prelude.{◌≡◌, ◌<◌, ◌≤◌, length, take, All};
     ghost use Rattle.tt_game.specs.Course.{Course};
     ghost use Rattle.tt_game.specs.Undoing.{course_of};
 
     ghost Value = { Course };
 
-    ghost view = { λ h. course_of h.size h.boards.items h.passes };
+    ghost view = { λ h. course_of h.size (take h.live h.boards.items) h.passes };
 
     ghost invariant = { λ h. record {
-      some_board : 0 < length h.boards.items;
-      sizes : All (λ b. b.size ≡ h.size) h.boards.items;
+      some_board : 0 < h.live;
+      live : h.live ≤ length h.boards.items;
+      sizes : All (λ b. b.size ≡ h.size) (take h.live h.boards.items);
       passes : h.passes ≤ 2;
     } };
 }
@@ -63,6 +68,21 @@ fn stood(boards: &[Board], colour: Colour, p: Point) -> bool
     false
 }
 
+/// Writes a board over the one in the place `live`, or adds it there; without memory there are none more.
+fn write(boards: &mut Vec<Board>, live: usize, next: &CountedBoard) -> Result<(), NoMemory>
+    requires { live ≤ length boards.old.items }
+    ensures ok { OnOk result (take (live + 1) boards.new.items ≡ take live boards.old.items ++ next.now ∷ []) }
+    ensures wide { OnOk result (live < length boards.new.items) }
+    ensures err { OnErr result (boards.new.items ≡ boards.old.items) }
+{
+    if live < boards.len() {
+        next.show_on(&mut boards[live]);
+    } else {
+        boards.push(next.board())?;
+    }
+    Ok(())
+}
+
 impl History {
     ghost use Rattle.tt_game.specs.Course.{Course, so_far, with_play, with_pass, first_course};
     ghost use Rattle.tt_game.specs.Undoing.{without_play, without_pass};
@@ -77,6 +97,7 @@ impl History {
         Ok(History {
             size,
             boards,
+            live: 1,
             passes: 0,
             alloc,
         })
@@ -103,7 +124,7 @@ impl History {
         ensures sizes { All (λ b. b.size ≡ self.now.size) result.now }
         ensures some { 0 < length result.now }
     {
-        &self.boards
+        &self.boards[..self.live]
     }
 
     /// The present board.
@@ -111,8 +132,7 @@ impl History {
         ensures size { result.now.size ≡ self.now.size }
         ensures points { result.now.points ≡ self.now.present }
     {
-        let last = self.boards.len() - 1;
-        &self.boards[last]
+        &self.boards[self.live - 1]
     }
 
     /// Where its memory comes from.
@@ -126,7 +146,7 @@ impl History {
         requires within { from ≤ length (so_far self.now) }
         ensures { (c : Colouring) → HasBeen (drop from (so_far self.now)) c → entry_at c p ≡ Some colour → IsTrue result }
     {
-        stood(&self.boards[from..], colour, p)
+        stood(&self.boards()[from..], colour, p)
     }
 
     /// Whether a board of this size has a colouring of the history.
@@ -134,7 +154,7 @@ impl History {
         requires { next.now.size ≡ self.now.size }
         ensures { IsTrue result ↔ HasBeen (so_far self.now) next.now.points }
     {
-        repeats(&self.boards, next)
+        repeats(self.boards(), next)
     }
 
     /// Adds the board that a play made; without memory it is as it was.
@@ -143,7 +163,22 @@ impl History {
         ensures ok { OnOk result (self.new ≡ with_play self.old next.points) }
         ensures err { OnErr result (self.new ≡ self.old) }
     {
+        self.boards.truncate(self.live);
         self.boards.push(next)?;
+        self.live += 1;
+        self.passes = 0;
+        Ok(())
+    }
+
+    /// Adds the board that a play made, with its chains counted: it is written over the board above, where there is one. Without memory
+    /// the history is as it was.
+    pub(crate) fn push_counted(&mut self, next: &CountedBoard) -> Result<(), NoMemory>
+        requires { next.now.size ≡ self.old.size }
+        ensures ok { OnOk result (self.new ≡ with_play self.old next.now.points) }
+        ensures err { OnErr result (self.new ≡ self.old) }
+    {
+        write(&mut self.boards, self.live, next)?;
+        self.live += 1;
         self.passes = 0;
         Ok(())
     }
@@ -162,7 +197,7 @@ impl History {
         requires passes { passes ≤ 2 }
         ensures { self.new ≡ without_play self.old passes }
     {
-        self.boards.pop();
+        self.live -= 1;
         self.passes = passes;
     }
 
@@ -185,13 +220,14 @@ impl History {
     pub(crate) fn copy(&self) -> Result<History, NoMemory>
         ensures { IfOk result (λ h. h ≡ self.now) }
     {
-        let mut boards = Vec::with_capacity(self.alloc, self.boards.len())?;
-        for board in &self.boards {
+        let mut boards = Vec::with_capacity(self.alloc, self.live)?;
+        for board in self.boards() {
             boards.push(board.copy())?;
         }
         Ok(History {
             size: self.size,
             boards,
+            live: self.live,
             passes: self.passes,
             alloc: self.alloc,
         })

@@ -282,8 +282,7 @@ impl Line {
             self.pushes.pop();
             return Err(error);
         }
-        let next = self.played.present().board();
-        if let Err(error) = self.history.push(next) {
+        if let Err(error) = self.history.push_counted(self.played.present()) {
             self.played.pop();
             self.pushes.pop();
             return Err(error);

@@ -2,11 +2,11 @@
 
 ghost use Rattle.std.specs.Prelude.{◌≡◌, ◌<◌, ◌++◌, ◌↔◌, length, All, IsTrue, IfOk};
 ghost use Rattle.std.specs.Arc.{arc_value};
-ghost use Rattle.tt_game.specs.Course.{so_far, colourings};
 ghost use Rattle.tt_game.specs.Game.{history};
 ghost use Rattle.tt_game.specs.Keys.{key_of};
 ghost use Rattle.tt_game.specs.Line.{IsPosition};
 ghost use Rattle.tt_game.specs.Undoing.{state_at};
+ghost use Rattle.tt_game.specs.Course.{so_far, colourings};
 ghost use Rattle.tt_game.specs.Roots.{Begins};
 
 use crate::frame::Side;

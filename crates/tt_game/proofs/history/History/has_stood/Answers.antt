@@ -1,15 +1,12 @@
-use Rattle.std.proofs.Common.{rules, ◌≡◌, ◌-◌, length, take, drop, sym, ap, subst, ◌∙◌}
+use Rattle.std.proofs.Common.{◌≡◌, ◌-◌, length, take, drop, sym, ap, subst, ◌∙◌}
 use Rattle.std.proofs.lemmas.List.{take_rest, drop-map}
 use Rattle.tt_board.specs.Position.{Position}
 use Rattle.tt_game.specs.Course.{HasBeen, colourings, so_far}
-use Rattle.tt_game.proofs.CourseLemmas.{history_is}
 use Rattle.tt_game.proofs.history.History.has_stood.Goals as goal
 
 pub returns : goal.returns
 returns c = λ col has stone.
-    let i = c.self.inside in let from = c.args.from in let there = c.deref.result.now in
-    let all : so_far c.args.self.now ≡ colourings i.boards.items = ap so_far (sym c.self.view_is) ∙ history_is i.size i.boards.items i.passes c.self.invariant.some_board in
-    let same : there ≡ i.boards.items = search rules in
+    let from = c.args.from in let there = c.boards.result.now in
     let behind : drop from (so_far c.args.self.now) ≡ colourings (take (length there - from) (drop from there)) =
-    ap (drop from) (all ∙ ap colourings (sym same)) ∙ drop-map (λ (b : Position). b.points) from there ∙ ap colourings (sym (take_rest there from)) in
+    ap (drop from) (sym c.boards.ensures.colourings) ∙ drop-map (λ (b : Position). b.points) from there ∙ ap colourings (sym (take_rest there from)) in
     c.stood.ensures col (subst (λ h. HasBeen h col) behind has) stone

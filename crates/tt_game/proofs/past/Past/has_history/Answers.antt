@@ -14,8 +14,11 @@ returns-then-not-are c =
     let i = c.self.inside in let root = arc_value i.root in let there = c.args.boards.now in
     let found : c.deref.result.now ≡ root = search rules in
     let n : c.count-begun.result ≡ length root.begun = c.count-begun.ensures.value ∙ ap (λ (r : Rooted). length r.begun) found in
-    let sizes : All (λ (b : Position). b.size ≡ root.frame.size) there = subst (λ (f : Frame). All (λ (b : Position). b.size ≡ f.size) there) (sym (ap (λ (x : Stood). x.frame) c.self.view_is)) c.requires in
-    let same = shows_boards root.frame.size (root.begun ++ i.later) there i.passes i.to_move c.args.self.now.state c.self.invariant.some_board c.self.invariant.sizes sizes (ap (λ (x : Stood). x.state) c.self.view_is) in (
+    let sizes : All (λ (b : Position). b.size ≡ root.frame.size) there =
+    subst (λ (f : Frame). All (λ (b : Position). b.size ≡ f.size) there) (sym (ap (λ (x : Stood). x.frame) c.self.view_is)) c.requires in
+    let same =
+    shows_boards root.frame.size (root.begun ++ i.later) there i.passes i.to_move c.args.self.now.state
+    c.self.invariant.some_board c.self.invariant.sizes sizes (ap (λ (x : Stood). x.state) c.self.view_is) in (
       λ y. absurd (false≢true y),
       λ h. sym c.if-not-are.true ∙ c.are.ensures.1 ((two_parts root.begun i.later there (same.0 h)).1 ∙ ap (λ k. drop k there) (sym n) ∙ sym (take_rest there c.count-begun.result)),
     )
@@ -29,8 +32,11 @@ returns c =
     let begun : c.deref-2.result.now.begun ≡ root.begun = ap (λ (r : Rooted). r.begun) again in
     let kept : IsTrue c.are.result = search rules in
     let behind : i.later ≡ drop (length root.begun) there = c.are.ensures.0 kept ∙ take_rest there c.count-begun.result ∙ ap (λ k. drop k there) n in
-    let sizes : All (λ (b : Position). b.size ≡ root.frame.size) there = subst (λ (f : Frame). All (λ (b : Position). b.size ≡ f.size) there) (sym (ap (λ (x : Stood). x.frame) c.self.view_is)) c.requires in
-    let same = shows_boards root.frame.size (root.begun ++ i.later) there i.passes i.to_move c.args.self.now.state c.self.invariant.some_board c.self.invariant.sizes sizes (ap (λ (x : Stood). x.state) c.self.view_is) in (
+    let sizes : All (λ (b : Position). b.size ≡ root.frame.size) there =
+    subst (λ (f : Frame). All (λ (b : Position). b.size ≡ f.size) there) (sym (ap (λ (x : Stood). x.frame) c.self.view_is)) c.requires in
+    let same =
+    shows_boards root.frame.size (root.begun ++ i.later) there i.passes i.to_move c.args.self.now.state
+    c.self.invariant.some_board c.self.invariant.sizes sizes (ap (λ (x : Stood). x.state) c.self.view_is) in (
       λ y. same.1 (of_two_parts root.begun i.later there (sym begun ∙ c.began_with.ensures.0 y ∙ ap (λ k. take k there) n) behind),
       λ h. c.began_with.ensures.1 (begun ∙ (two_parts root.begun i.later there (same.0 h)).0 ∙ ap (λ k. take k there) (sym n)),
     )
