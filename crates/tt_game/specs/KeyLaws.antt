@@ -1,5 +1,5 @@
 -- What equal keys tell: they agree in all fields, so the test by which a table compares them tells keys apart.
-use Rattle.std.specs.Prelude.{◌≡◌, Bool, true}
+use Rattle.std.specs.Prelude.{◌≡◌, true}
 use Rattle.std.proofs.Common.{rules, arith, ap, subst}
 use Rattle.std.specs.Cmp.{IsEquivalence}
 use Rattle.tt_sgf.specs.SizeLaws.{sizes_same}
@@ -7,12 +7,8 @@ use Rattle.tt_game.specs.declared.keys.Key.{Key}
 use Rattle.tt_game.specs.declared.frame.Frame.{Frame}
 use Rattle.tt_game.specs.Game.{State}
 use Rattle.tt_game.specs.Keys.{key_of}
-use Rattle.tt_game.specs.contracts.keys.KeyPartialEq.TheImpl as key_eq
+use Rattle.tt_game.specs.SameKey.{same_key}
 use Rattle.tt_game.specs.contracts.keys.KeyEq.TheImpl.Laws as key_laws
-
--- whether two keys are one, as a table tests it
-abbrev pub same_key : Key → Key → Bool
-same_key = (key_eq.ghosts).eq
 
 -- the test is an equivalence
 pub same_key_equiv : IsEquivalence same_key

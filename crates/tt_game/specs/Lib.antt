@@ -6,6 +6,7 @@ pub mod History
 pub mod Legality
 pub mod Turns
 pub mod Keys
+pub mod SameKey
 pub mod Laws
 pub mod Line
 pub mod Games

@@ -13,7 +13,8 @@ use Rattle.tt_game.specs.Keys.{key_of}
 use Rattle.tt_game.specs.Line.{Standing}
 use Rattle.tt_proof.specs.Proven.{Proven}
 use Rattle.tt_search.specs.Stores.{IsAnswer, IsNewest}
-use Rattle.tt_share.specs.Table.{same_key, places_from, places_of}
+use Rattle.tt_game.specs.SameKey.{same_key}
+use Rattle.tt_share.specs.Table.{places_from, places_of}
 use Rattle.tt_game.specs.KeyLaws.{same_key_is}
 use Rattle.tt_share.proofs.PlaceLemmas.{place_low}
 
@@ -109,7 +110,9 @@ AmongFirst line side ps places left = (i : ℕ) (p : Proven) → slice_get ps i 
 -- each of them stands at one of the key's places
 pub among_all : (line : Standing) (side : Side) (ps : List Proven) (places : List ℕ) → places ≡ places_of (key_of line.frame line.state) ps → AmongFirst line side ps places (length places)
 among_all line side ps places are i p at is =
-    let all = placed (λ (d : Proven). same_key (key_of line.frame line.state) (key_of d.frame d.state)) 0 ps p i at (same_key_is (key_of line.frame line.state) (key_of p.frame p.state) (sym is.same_key)) in
+    let all =
+    placed (λ (d : Proven). same_key (key_of line.frame line.state) (key_of d.frame d.state)) 0 ps p i at
+    (same_key_is (key_of line.frame line.state) (key_of p.frame p.state) (sym is.same_key)) in
     subst (λ (l : List ℕ). (j : ℕ) × (j < length l) × (get_or l j 0 ≡ i)) (sym are) (all.0, all.1, all.2 ∙ zero-add i)
 
 -- where the value at a place is p, what stands there has the value p
@@ -145,7 +148,8 @@ none_is_newest line side ps places left done among =
     none_newest line side ps (λ i p at is. let first = among i p at is in let h = first.1 in absurd (omega (arith, h, done)))
 
 -- a proof for the side at the last of the places that are left is the newest one
-pub found_is_newest : {A : Type 0} (value : A → Proven) (line : Standing) (side : Side) (xs : List A) (ps : List Proven) (x : A) (places : List ℕ) (left : ℕ) → map value xs ≡ ps → places ≡ places_of (key_of line.frame line.state) ps
+pub found_is_newest : {A : Type 0} (value : A → Proven) (line : Standing) (side : Side) (xs : List A) (ps : List Proven) (x : A) (places : List ℕ) (left : ℕ)
+    → map value xs ≡ ps → places ≡ places_of (key_of line.frame line.state) ps
     → left - 1 < length places → get_or places (left - 1) 0 < length xs → x ≡ get_or xs (get_or places (left - 1) 0) x → IsAnswer line side (value x) → AmongFirst line side ps places left
     → IsNewest line side (reverse ps) (Some (value x))
 found_is_newest value line side xs ps x places left all are h inside is answers among =

@@ -11,11 +11,12 @@ use Rattle.std.specs.declared.vec.Vec.{Vec}
 use Rattle.std.specs.declared.alloc.Global.{Global}
 use Rattle.tt_game.specs.declared.keys.Key.{Key}
 use Rattle.tt_game.specs.Keys.{key_of}
+use Rattle.tt_game.specs.SameKey.{same_key}
 use Rattle.tt_game.specs.KeyLaws.{same_key_equiv, same_key_same}
 use Rattle.tt_proof.specs.Proven.{Proven}
 use Rattle.tt_proof.specs.Nodes.{nodes}
 use Rattle.tt_share.specs.Places.{places_at, IsIndexOf}
-use Rattle.tt_share.specs.Table.{same_key, places_from, places_of, nodes_of}
+use Rattle.tt_share.specs.Table.{places_from, places_of, nodes_of}
 
 -- one more element has its place at the end, if it passes
 pub places-snoc : {X : Type 0} (t : X → Bool) (n : ℕ) (xs : List X) (x : X) → places_from t n (xs ++ x ∷ []) ≡ cond (t x) (places_from t n xs ++ (n + length xs) ∷ []) (places_from t n xs)

@@ -6,7 +6,8 @@ use Rattle.std.specs.declared.vec.Vec.{Vec}
 use Rattle.std.specs.declared.alloc.Global.{Global}
 use Rattle.tt_game.specs.declared.keys.Key.{Key}
 use Rattle.tt_proof.specs.Proven.{Proven}
-use Rattle.tt_share.specs.Table.{same_key, places_of}
+use Rattle.tt_game.specs.SameKey.{same_key}
+use Rattle.tt_share.specs.Table.{places_of}
 
 -- the places that the index has at the key
 abbrev pub places_at : {K S : Type 0} → (K → K → Bool) → HashMap K (Vec ℕ Global) S → K → List ℕ

@@ -2,7 +2,7 @@
 use Rattle.std.specs.Prelude.{ℕ, ◌+◌, ◌-◌, ◌^◌, min, Bool, List, [], ◌∷◌, cond, sum_by}
 use Rattle.tt_game.specs.declared.keys.Key.{Key}
 use Rattle.tt_game.specs.Keys.{key_of}
-use Rattle.tt_game.specs.contracts.keys.KeyPartialEq.TheImpl as key_eq
+use Rattle.tt_game.specs.SameKey.{same_key}
 use Rattle.tt_proof.specs.Proven.{Proven}
 use Rattle.tt_proof.specs.Nodes.{nodes}
 
@@ -10,10 +10,6 @@ use Rattle.tt_proof.specs.Nodes.{nodes}
 abbrev pub places_from : {X : Type 0} → (X → Bool) → ℕ → List X → List ℕ
 places_from test n [] = []
 places_from test n (x ∷ xs) = cond (test x) (n ∷ places_from test (n + 1) xs) (places_from test (n + 1) xs)
-
--- whether two keys are one, as they are compared
-abbrev pub same_key : Key → Key → Bool
-same_key = (key_eq.ghosts).eq
 
 -- the rising places of the proofs whose position has the key
 abbrev pub places_of : Key → List Proven → List ℕ

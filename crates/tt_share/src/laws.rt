@@ -2,7 +2,7 @@
 ghost use Rattle.std.specs.Prelude.{◌≡◌};
 ghost use Rattle.std.specs.Bool.{Decides};
 ghost use Rattle.tt_share.specs.DeskLaw.{DeskLaw};
-ghost use Rattle.tt_share.specs.Table.{same_key};
+ghost use Rattle.tt_game.specs.SameKey.{same_key};
 
 /// Between any two steps at a desk the numbers that all seats drew are those below the count of draws, each once; the
 /// numbers of each seat rise, and at most one of them, its last, is no job; the mark is raised only where some seat raised

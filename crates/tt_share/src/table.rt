@@ -3,11 +3,11 @@
 ghost use Rattle.std.specs.Prelude.{◌≡◌, ◌++◌, ◌∷◌, [], ◌+◌, ◌-◌, ◌^◌, min, length, reverse, IfOk, IfSome, OnOk, OnErr, if◌then◌else◌};
 ghost use Rattle.std.specs.Arc.{arc_value};
 ghost use Rattle.std.specs.Option.{option_map};
+ghost use Rattle.tt_search.specs.Stores.{IsAnswer, IsNewest};
 ghost use Rattle.tt_game.specs.Keys.{key_of};
 ghost use Rattle.tt_proof.specs.Nodes.{nodes};
-ghost use Rattle.tt_search.specs.Stores.{IsAnswer, IsNewest};
 ghost use Rattle.tt_share.specs.Places.{places_at};
-ghost use Rattle.tt_share.specs.Table.{same_key, places_of, nodes_of};
+ghost use Rattle.tt_share.specs.Table.{places_of, nodes_of};
 
 use std::alloc::Global;
 use std::collections::HashMap;
@@ -29,9 +29,9 @@ pub struct TableState {
 
 impl Model for TableState {
     ghost use Rattle.std.specs.Prelude.{◌≡◌, List, map};
+    ghost use Rattle.tt_sgf.specs.contracts.sets.PointSet as points;
     ghost use Rattle.std.specs.Coded.{codes};
     ghost use Rattle.std.specs.Arc.{arc_value};
-    ghost use Rattle.tt_sgf.specs.contracts.sets.PointSet as points;
     ghost use Rattle.tt_proof.specs.Proven.{Proven};
     ghost use Rattle.tt_proof.specs.StrategyCode.{strategy_code};
     ghost use Rattle.tt_share.specs.Places.{IsIndexOf};
