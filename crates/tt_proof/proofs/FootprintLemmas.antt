@@ -1,5 +1,5 @@
 -- The footprints of a strategy's parts make up its own.
-use Rattle.std.proofs.Common.{◌≡◌, ◌≢◌, ◌↔◌, ◌⊎◌, inl, inr, List, [], ◌∷◌, ◌++◌, sym, ap, subst, ◌∙◌, Contains, arith}
+use Rattle.std.proofs.Common.{◌≡◌, ◌↔◌, ◌⊎◌, inl, inr, List, [], ◌∷◌, ◌++◌, sym, ap, subst, ◌∙◌, Contains, arith}
 use Rattle.tt_sgf.specs.declared.size.Size.{Size}
 use Rattle.tt_board.specs.Position.{Position, Colouring}
 use Rattle.tt_game.specs.Game.{State, IsLegal, after, history, made}
@@ -17,7 +17,7 @@ use Rattle.tt_proof.specs.Collecting.{IsGiven, IsPlayed, IsPicked, IsNoHigher, I
 use Rattle.tt_proof.specs.declared.bounds.Bound.{Bound}
 use Rattle.tt_proof.specs.Bounds.{IsReached}
 use Rattle.tt_proof.proofs.NeedLemmas.{needed_less, needed_more}
-use Rattle.tt_game.specs.Members.{in_of_contains, contains_of_in}
+use Rattle.tt_game.specs.Members.{in_of_contains}
 
 -- a board of this size and colouring
 pub board_is : (b : Position) (g : Size) (c : Colouring) → b.size ≡ g → b.points ≡ c → b ≡ record { size = g; points = c }
@@ -277,43 +277,6 @@ foot_done f s x n a = record {
   avoided = λ c. (λ m. none_held x.avoids (board_of f c) a m, λ w. absurd w);
   met = λ c m. absurd m;
 }
-
--- ---- lists of which some are left out
-
--- nothing is left out
-pub but_none : (B : Type 0) (c : Position) → (B × (Contains {X = Position} [] c → ⊥)) ↔ B
-but_none B c = (λ w. w.0, λ b. (b, λ m. in_of_contains [] c m))
-
--- one board is left out
-pub but_one : (B : Type 0) (board b : Position) → (B × (Contains (board ∷ []) b → ⊥)) ↔ (B × (b ≢ board))
-but_one B board b = (
-  λ w. (w.0, λ e. w.1 (contains_of_in (board ∷ []) b (inl (sym e)))),
-  λ w. (w.0, λ m. w.1 (one (in_of_contains (board ∷ []) b m))),
-)
-  where
-    one : (board ≡ b) ⊎ ⊥ → b ≡ board
-    one (inl e) = sym e
-    one (inr x) = absurd x
-
--- what was joined to nothing
-pub only_more : (A B X : Type 0) → (A → ⊥) → (B ↔ (A ⊎ X)) → B ↔ X
-only_more A B X none_old h = (λ b. to (h.0 b), λ x. h.1 (inr x))
-  where
-    to : A ⊎ X → X
-    to (inl a) = absurd (none_old a)
-    to (inr x) = x
-
--- a sum's left part may be said otherwise
-pub left_same : (A B C X : Type 0) → (C ↔ (A ⊎ X)) → (A ↔ B) → C ↔ (B ⊎ X)
-left_same A B C X h e = (λ c. to (h.0 c), λ w. h.1 (from w))
-  where
-    to : A ⊎ X → B ⊎ X
-    to (inl a) = inl (e.0 a)
-    to (inr x) = inr x
-
-    from : B ⊎ X → A ⊎ X
-    from (inl b) = inl (e.1 b)
-    from (inr x) = inr x
 
 -- ---- turns that are refused
 

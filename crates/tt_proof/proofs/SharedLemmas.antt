@@ -1,7 +1,10 @@
 -- Lists of boards held by handles, place by place.
-use Rattle.std.proofs.Common.{◌≡◌, ◌↔◌, ◌<◌, ◌+◌, ◌⊎◌, ℕ, inl, inr, arith, List, [], ◌∷◌, ◌++◌, length, get_or, take, map, Contains, sym, ap, subst, ◌∙◌}
+use Rattle.std.proofs.Common.{◌≡◌, ◌≢◌, ◌↔◌, ◌<◌, ◌+◌, ◌⊎◌, ℕ, inl, inr, arith, List, [], ◌∷◌, ◌++◌, length, get_or, map, Contains, sym, ap, subst, ◌∙◌}
 use Rattle.std.proofs.lemmas.Bool.{cases_lt}
-use Rattle.std.proofs.lemmas.List.{get_or-map, length-map, take_more}
+use Rattle.std.specs.List.{swap_remove}
+use Rattle.std.proofs.lemmas.List.{get_or-map, length-map}
+use Rattle.std.proofs.lemmas.List.Sorted.{IsPermutation-swap_remove, IsPermutation-map, IsPermutation-sym, Contains-permutation}
+use Rattle.std.specs.List.Sorted.{IsPermutation}
 use Rattle.std.proofs.lemmas.List.Elements.{Contains-append_left, Contains-append_right, Contains-append_cases}
 use Rattle.tt_board.specs.Position.{Position}
 use Rattle.tt_game.specs.Members.{IsIn, in_of_contains, contains_of_in}
@@ -51,47 +54,87 @@ held_already vs x b m = (λ w. inl w, back)
     back (inl w) = w
     back (inr e) = subst (λ y. Contains vs y) (sym e) m
 
--- the others as far as they were looked at, with one more place
-pub appended_more : (O A A' N : Position → Type 0) (vs : List Position) (n : ℕ) (x : Position) → n < length vs → ((d : Position) → get_or vs n d ≡ x) →
-    ((b : Position) → A b ↔ (O b ⊎ (Contains (take n vs) b × N b))) → ((b : Position) → A' b ↔ (A b ⊎ ((b ≡ x) × N b))) →
-    (b : Position) → A' b ↔ (O b ⊎ (Contains (take (n + 1) vs) b × N b))
-appended_more O A A' N vs n x lt here before more b = (λ a. to ((more b).0 a), λ w. (more b).1 (back w))
+-- one that is taken from the end of a second list and held by the first is still in one of them
+pub moved_one : (A A' O : Position → Type 0) (rest less : List Position) (x : Position) → rest ≡ less ++ x ∷ [] → ((b : Position) → A' b ↔ (A b ⊎ (b ≡ x))) →
+    ((b : Position) → (A b ⊎ Contains rest b) ↔ O b) → (b : Position) → (A' b ⊎ Contains less b) ↔ O b
+moved_one A A' O rest less x is more all b = (λ w. (all b).0 (back w), λ o. forth ((all b).1 o))
   where
-    grown : Contains (take (n + 1) vs) b ↔ (Contains (take n vs) b ⊎ (b ≡ x))
-    grown = subst (λ xs. Contains xs b ↔ (Contains (take n vs) b ⊎ (b ≡ x))) (sym (take_more vs n x lt ∙ ap (λ y. take n vs ++ y ∷ []) (here x))) (pushed (take n vs) x b)
+    both : Contains rest b ↔ (Contains less b ⊎ (b ≡ x))
+    both = subst (λ xs. Contains xs b ↔ (Contains less b ⊎ (b ≡ x))) (sym is) (pushed less x b)
 
-    wider : O b ⊎ (Contains (take n vs) b × N b) → O b ⊎ (Contains (take (n + 1) vs) b × N b)
-    wider (inl o) = inl o
-    wider (inr w) = inr (grown.1 (inl w.0), w.1)
+    held : A b ⊎ (b ≡ x) → A b ⊎ Contains rest b
+    held (inl a) = inl a
+    held (inr e) = inr (both.1 (inr e))
 
-    to : A b ⊎ ((b ≡ x) × N b) → O b ⊎ (Contains (take (n + 1) vs) b × N b)
-    to (inl a) = wider ((before b).0 a)
-    to (inr w) = inr (grown.1 (inr w.0), w.1)
+    back : A' b ⊎ Contains less b → A b ⊎ Contains rest b
+    back (inl a) = held ((more b).0 a)
+    back (inr m) = inr (both.1 (inl m))
 
-    either : Contains (take n vs) b ⊎ (b ≡ x) → N b → A b ⊎ ((b ≡ x) × N b)
-    either (inl m) k = inl ((before b).1 (inr (m, k)))
-    either (inr e) k = inr (e, k)
+    left : Contains less b ⊎ (b ≡ x) → A' b ⊎ Contains less b
+    left (inl m) = inr m
+    left (inr e) = inl ((more b).1 (inr e))
 
-    back : O b ⊎ (Contains (take (n + 1) vs) b × N b) → A b ⊎ ((b ≡ x) × N b)
-    back (inl o) = inl ((before b).1 (inl o))
-    back (inr w) = either (grown.0 w.0) w.1
+    forth : A b ⊎ Contains rest b → A' b ⊎ Contains less b
+    forth (inl a) = inl ((more b).1 (inl a))
+    forth (inr m) = left (both.0 m)
 
--- where one is left out, nothing more is added
-pub but_this : (A N : Position → Type 0) (x : Position) → (N x → ⊥) → (b : Position) → A b ↔ (A b ⊎ ((b ≡ x) × N b))
-but_this A N x out b = (λ a. inl a, back)
+-- where nothing is left in the second list, the first one holds all
+pub moved_all : (A O : Position → Type 0) (rest : List Position) → rest ≡ [] → ((b : Position) → (A b ⊎ Contains rest b) ↔ O b) → (b : Position) → A b ↔ O b
+moved_all A O rest e all b = (λ a. (all b).0 (inl a), λ o. to ((all b).1 o))
   where
-    back : A b ⊎ ((b ≡ x) × N b) → A b
-    back (inl a) = a
-    back (inr w) = absurd (out (subst N w.0 w.1))
+    to : A b ⊎ Contains rest b → A b
+    to (inl a) = a
+    to (inr m) = absurd (in_of_contains [] b (subst (λ xs. Contains xs b) e m))
 
--- and else it is added
-pub and_this : (A A' N : Position → Type 0) (x : Position) → N x → (b : Position) → (A' b ↔ (A b ⊎ (b ≡ x))) → A' b ↔ (A b ⊎ ((b ≡ x) × N b))
-and_this A A' N x k b h = (λ a. to (h.0 a), λ w. h.1 (from w))
+-- two lists in the other order
+pub other_order : (A B C : Type 0) → (C ↔ (A ⊎ B)) → C ↔ (B ⊎ A)
+other_order A B C h = (λ c. turn (h.0 c), λ w. h.1 (turn w))
   where
-    to : A b ⊎ (b ≡ x) → A b ⊎ ((b ≡ x) × N b)
-    to (inl a) = inl a
-    to (inr e) = inr (e, subst N (sym e) k)
+    turn : {X Y : Type 0} → X ⊎ Y → Y ⊎ X
+    turn (inl x) = inr x
+    turn (inr y) = inl y
 
-    from : A b ⊎ ((b ≡ x) × N b) → A b ⊎ (b ≡ x)
-    from (inl a) = inl a
-    from (inr w) = inr w.0
+-- where the handle at a place is taken out, a board that was held is still held, or it is the one that the handle shows
+pub swapped_out : {H : Type 0} (g : H → Position) (hs : List H) (k : ℕ) (h : H) → k < length hs → h ≡ get_or hs k h → (b : Position) →
+    Contains (map g hs) b ↔ (Contains (map g (swap_remove hs k h)) b ⊎ (get_or (map g hs) k b ≡ b))
+swapped_out g hs k h lt is b = (to, back)
+  where
+    shuffled : IsPermutation (map g hs) (g h ∷ map g (swap_remove hs k h))
+    shuffled = IsPermutation-map g hs (h ∷ swap_remove hs k h) (IsPermutation-swap_remove hs k h lt is)
+
+    there : get_or (map g hs) k b ≡ g h
+    there = get_or-map g hs k h b lt ∙ ap g (sym is)
+
+    first : IsIn (g h ∷ map g (swap_remove hs k h)) b → Contains (map g (swap_remove hs k h)) b ⊎ (get_or (map g hs) k b ≡ b)
+    first (inl e) = inr (there ∙ e)
+    first (inr m) = inl (contains_of_in (map g (swap_remove hs k h)) b m)
+
+    to : Contains (map g hs) b → Contains (map g (swap_remove hs k h)) b ⊎ (get_or (map g hs) k b ≡ b)
+    to m = first (in_of_contains (g h ∷ map g (swap_remove hs k h)) b (Contains-permutation (map g hs) (g h ∷ map g (swap_remove hs k h)) b shuffled m))
+
+    held : IsIn (g h ∷ map g (swap_remove hs k h)) b → Contains (map g hs) b
+    held m =
+        Contains-permutation (g h ∷ map g (swap_remove hs k h)) (map g hs) b (IsPermutation-sym (map g hs) (g h ∷ map g (swap_remove hs k h)) shuffled)
+        (contains_of_in (g h ∷ map g (swap_remove hs k h)) b m)
+
+    back : Contains (map g (swap_remove hs k h)) b ⊎ (get_or (map g hs) k b ≡ b) → Contains (map g hs) b
+    back (inl m) = held (inr (in_of_contains (map g (swap_remove hs k h)) b m))
+    back (inr e) = held (inl (sym there ∙ e))
+
+-- where a place that shows this board is taken out, each other board is held as before
+pub others_stay : (old now less : List Position) (x : Position) (k : ℕ) → ((d : Position) → get_or now k d ≡ x) →
+    ((b : Position) → Contains now b ↔ (Contains less b ⊎ (get_or now k b ≡ b))) → ((b : Position) → b ≢ x → Contains now b ↔ Contains old b) →
+    (b : Position) → b ≢ x → Contains less b ↔ Contains old b
+others_stay old now less x k there out before b apart = (λ m. (before b apart).0 ((out b).1 (inl m)), λ m. left ((out b).0 ((before b apart).1 m)))
+  where
+    left : Contains less b ⊎ (get_or now k b ≡ b) → Contains less b
+    left (inl m) = m
+    left (inr e) = absurd (apart (sym e ∙ there b))
+
+-- where this board is held no more and the others as before, those are left that are not this one
+pub none_left : (old now : List Position) (x : Position) → (Contains now x → ⊥) → ((b : Position) → b ≢ x → Contains now b ↔ Contains old b) →
+    (b : Position) → Contains now b ↔ (Contains old b × (b ≢ x))
+none_left old now x gone before b = (λ m. ((before b (other m)).0 m, other m), λ w. (before b w.1).1 w.0)
+  where
+    other : Contains now b → b ≢ x
+    other m e = gone (subst (λ y. Contains now y) e m)

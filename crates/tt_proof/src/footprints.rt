@@ -15,7 +15,6 @@ use crate::bounds::Bound;
 use crate::shared_boards::SharedBoards;
 use crate::tree::Tree;
 use std::alloc::Global;
-use std::slice;
 use tt_board::Board;
 use tt_game::{Line, Refused, Turn};
 use tt_sgf::{NoMemory, Point, PointSet};
@@ -73,23 +72,21 @@ impl Footprint {
         line: &Line,
         turn: &Turn,
         board: &Board,
-        behind: &Footprint,
+        behind: Footprint,
     ) -> Result<Footprint, NoMemory>
         requires legal { IsLegal line.now.frame line.now.state turn.now }
         requires board { IsBoardAfter line.now.frame line.now.state turn.now board.now }
-        ensures { IfOk result (λ x. (u : Strategy) → IsFootprint line.now.frame (after line.now.frame line.now.state turn.now) u behind.now
+        ensures { IfOk result (λ x. (u : Strategy) → IsFootprint line.now.frame (after line.now.frame line.now.state turn.now) u behind
             → IsFootprint line.now.frame line.now.state (pick turn.now u) x) }
     {
-        let mut needs = SharedBoards::new(alloc);
-        give(&mut needs, turn, board, &behind.needs)?;
-        let mut avoids = SharedBoards::new(alloc);
+        let Footprint {
+            mut needs,
+            mut avoids,
+            low,
+        } = behind;
+        take_made(&mut needs, turn, board);
         put_played(alloc, &mut avoids, turn, board)?;
-        avoids.append(&behind.avoids, &[])?;
-        Ok(Footprint {
-            needs,
-            avoids,
-            low: behind.low,
-        })
+        Ok(Footprint { needs, avoids, low })
     }
 
     /// Joins that of the tree behind one more turn of a reply. The turn is legal at the line, and `board` is the one after
@@ -99,16 +96,22 @@ impl Footprint {
         line: &Line,
         turn: &Turn,
         board: &Board,
-        behind: &Footprint,
+        behind: Footprint,
     ) -> Result<(), NoMemory>
         requires legal { IsLegal line.now.frame line.now.state turn.now }
         requires board { IsBoardAfter line.now.frame line.now.state turn.now board.now }
-        ensures { OnOk result ((u : Strategy) → IsFootprint line.now.frame (after line.now.frame line.now.state turn.now) u behind.now
+        ensures { OnOk result ((u : Strategy) → IsFootprint line.now.frame (after line.now.frame line.now.state turn.now) u behind
             → IsEntryJoined line.now.frame line.now.state turn.now u self.old self.new) }
     {
-        give(&mut self.needs, turn, board, &behind.needs)?;
-        self.low = lowered(&self.low, turn, board, &behind.low);
-        self.avoids.append(&behind.avoids, &[])
+        let Footprint {
+            mut needs,
+            avoids,
+            low,
+        } = behind;
+        take_made(&mut needs, turn, board);
+        self.needs.join(needs)?;
+        self.low = lowered(&self.low, turn, board, &low);
+        self.avoids.join(avoids)
     }
 
     /// The same footprint again, whose boards are those of this one.
@@ -125,22 +128,18 @@ impl Footprint {
     }
 }
 
-/// Adds what the child of a turn, which led to the board, needs in its parent's history too.
-fn give(
-    needs: &mut SharedBoards,
-    turn: &Turn,
-    board: &Board,
-    behind: &SharedBoards,
-) -> Result<(), NoMemory>
-    ensures { OnOk result ((b : Position) → Contains needs.new b ↔ (Contains needs.old b ⊎ IsGiven turn.now board.now behind.now b)) }
+/// Of what the child of a turn needs, which led to the board, only that stays which it needs in its parent's history too.
+fn take_made(needs: &mut SharedBoards, turn: &Turn, board: &Board)
+    ensures { (b : Position) → Contains needs.new b ↔ IsGiven turn.now board.now needs.old b }
 {
     match turn {
-        Turn::Pass => needs.append(behind, &[]),
-        Turn::Play(_) => needs.append(behind, slice::from_ref(board)),
+        Turn::Pass => {}
+        Turn::Play(_) => needs.remove(board),
     }
 }
 
-/// Adds the board that a play made; a pass made none.
+/// Adds the board that a play made; a pass made none. A play behind it would repeat that board, so a legal one doesn't make
+/// it, and it isn't among those that are avoided yet.
 fn put_played(
     alloc: Global,
     avoids: &mut SharedBoards,
@@ -151,7 +150,7 @@ fn put_played(
 {
     match turn {
         Turn::Pass => Ok(()),
-        Turn::Play(_) => avoids.add(alloc, board),
+        Turn::Play(_) => avoids.add_unseen(alloc, board),
     }
 }
 
@@ -239,7 +238,7 @@ fn join_entry(
             let found = footprint_of(alloc, tree, line);
             line.pop();
             match found {
-                Ok(behind) => footprint.join(line, turn, &board, &behind),
+                Ok(behind) => footprint.join(line, turn, &board, behind),
                 Err(e) => Err(e),
             }
         }
@@ -267,7 +266,7 @@ fn footprint_of_pick(
             let found = footprint_of(alloc, tree, line);
             line.pop();
             match found {
-                Ok(behind) => Footprint::picked(alloc, line, turn, &board, &behind),
+                Ok(behind) => Footprint::picked(alloc, line, turn, &board, behind),
                 Err(e) => Err(e),
             }
         }

@@ -80,18 +80,19 @@ impl Proof {
         &self.plan
     }
 
-    /// The tree with its measures, and nothing of where the proof stood.
-    fn into_plan(self) -> Plan
-        ensures plan { result ≡ self.tree }
+    /// The tree with its measures, and its footprint, and nothing of where the proof stood.
+    fn into_parts(self) -> (Plan, Footprint)
+        ensures plan { result.0 ≡ self.tree }
         ensures wins { IsWon self.side self.frame self.state self.tree }
+        ensures footprint { IsFootprint self.frame self.state self.tree result.1 }
     {
         let Proof {
             past: _,
             side: _,
             plan,
-            footprint: _,
+            footprint,
         } = self;
-        plan
+        (plan, footprint)
     }
 
     /// The turn that the side plays first, where it is to move.
@@ -259,11 +260,12 @@ impl Proof {
         ensures { IfOk result (λ p. StandsAt p line.now.frame line.now.state × (p.side ≡ child.side)
             × (p.tree ≡ pick t child.tree)) }
     {
-        let footprint = Footprint::picked(alloc, line, &t, &child.present(), child.footprint())?;
+        let board = child.present();
         let side = child.side();
-        let plan = child.into_plan();
+        let (below, behind) = child.into_parts();
+        let footprint = Footprint::picked(alloc, line, &t, &board, behind)?;
         let past = line.past()?;
-        let plan = Plan::pick(alloc, t, plan)?;
+        let plan = Plan::pick(alloc, t, below)?;
         Ok(Proof {
             past,
             side,
@@ -289,8 +291,10 @@ impl Proof {
         let mut footprint = Footprint::of_plays(alloc, line)?;
         let mut replies = Replies::with_capacity(alloc, children.len())?;
         for (turn, child) in children {
-            footprint.join(line, &turn, &child.present(), child.footprint())?;
-            replies.push(turn, child.into_plan())?;
+            let board = child.present();
+            let (plan, behind) = child.into_parts();
+            footprint.join(line, &turn, &board, behind)?;
+            replies.push(turn, plan)?;
         }
         let past = line.past()?;
         let plan = replies.into_plan(alloc)?;

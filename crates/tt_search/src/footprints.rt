@@ -148,7 +148,7 @@ fn picked(
     let turn = children.edges[place].turn();
     let child = children.child(place, rank);
     let (board, behind) = child.footprint_behind(alloc, turn, line, side)?;
-    Footprint::picked(alloc, line, &turn, &board, &behind)
+    Footprint::picked(alloc, line, &turn, &board, behind)
 }
 
 /// The points of the plays among the edges' turns.
@@ -184,7 +184,7 @@ fn replied(
         let (child, behind) = Child::first(*edge, rest);
         let turn = edge.turn();
         let (board, below) = child.footprint_behind(alloc, turn, line, side)?;
-        footprint.join(line, &turn, &board, &below)?;
+        footprint.join(line, &turn, &board, below)?;
         rest = behind;
     }
     Ok(footprint)

@@ -7,19 +7,19 @@ use Rattle.tt_proof.proofs.FittingLemmas.{foot_moved, board_there}
 use Rattle.tt_proof.proofs.proven.Proof.pick.Goals as goal
 
 pub picked-requires-clause-board : goal.picked-requires-clause-board
-picked-requires-clause-board c = board_there c.args.child _ _ _ c.present.ensures c.requires.child.stands
+picked-requires-clause-board c = board_there c.args.child _ _ _ c.present-board.ensures c.requires.child.stands
 
 pub invariant_of-result : goal.invariant_of-result
 invariant_of-result c =
     let own = c.in_ok-past.ensures in
     let f = c.args.line.now.frame in
     let s = c.args.line.now.state in
-    let behind = foot_moved _ f _ (after f s c.args.t) _ _ c.requires.child.stands.0 c.requires.child.stands.1 c.footprint.ensures in
-    rw (c.in_ok-plan.ensures, c.into_plan-plan.ensures.plan, c.side-side.ensures.side)
+    let behind = foot_moved _ f _ (after f s c.args.t) _ _ c.requires.child.stands.0 c.requires.child.stands.1 c.into_parts-below.ensures.footprint in
+    rw (c.in_ok-plan.ensures, c.into_parts-below.ensures.plan, c.side-side.ensures.side)
     (record {
       won =
           won_pick f _ s _ c.args.t c.args.child (ap (λ (l : Stood). l.frame) own) (ap (λ (l : Stood). l.state) own) c.requires.legal
-          c.requires.child c.into_plan-plan.ensures.wins;
+          c.requires.child c.into_parts-below.ensures.wins;
       footprint =
           foot_moved f _ s _ (pick c.args.t c.args.child.tree) _ (sym (ap (λ (l : Stood). l.frame) own)) (sym (ap (λ (l : Stood). l.state) own))
           (c.in_ok-footprint.ensures c.args.child.tree behind);
@@ -30,5 +30,5 @@ returns c =
     let own = c.in_ok-past.ensures in (
       (ap (λ (l : Stood). l.frame) own, ap (λ (l : Stood). l.state) own),
       c.side-side.ensures.side,
-      c.in_ok-plan.ensures ∙ ap (λ x. pick c.args.t x) c.into_plan-plan.ensures.plan,
+      c.in_ok-plan.ensures ∙ ap (λ x. pick c.args.t x) c.into_parts-below.ensures.plan,
     )

@@ -25,7 +25,7 @@ join-requires-clause-legal c =
 pub join-requires-clause-board : goal.join-requires-clause-board
 join-requires-clause-board c =
     let left = subst (λ xs. AreChildren c.args.line.now.frame c.args.line.now.state xs) c.in-Some.ensures.steps.0 c.loop-turn.invariant.left in
-    board_there c.in-Some.child _ _ _ c.present.ensures left.0.stands
+    board_there c.in-Some.child _ _ _ c.present-board.ensures left.0.stands
 
 pub loop-turn-preserved : goal.loop-turn-preserved
 loop-turn-preserved c =
@@ -35,17 +35,17 @@ loop-turn-preserved c =
     let child = c.in-Some.child in
     let left = subst (λ xs. AreChildren f s xs) c.in-Some.ensures.steps.0 c.loop-turn.invariant.left in
     let legal = subst (λ xs. (t : Turn) → IsIn (turns_of xs) t → IsLegal f s t) c.in-Some.ensures.steps.0 c.loop-turn.invariant.legal in
-    let behind = foot_moved _ f _ (after f s turn) _ _ left.0.stands.0 left.0.stands.1 c.footprint.ensures in
+    let behind = foot_moved _ f _ (after f s turn) _ _ left.0.stands.0 left.0.stands.1 c.into_parts-plan.ensures.footprint in
     record {
       order =
           append_snoc c.loop-turn.yielded (turn, child) _
           ∙ ap (λ r. c.loop-turn.yielded ++ r) (sym c.in-Some.ensures.steps.0) ∙ c.loop-turn.invariant.order;
       same =
           c.in_ok-push.ensures.ok
-          ∙ ap (λ xs. xs ++ ((turn, c.into_plan.result) ∷ [])) c.loop-turn.invariant.same
-          ∙ ap (λ y. trees_of c.loop-turn.yielded ++ ((turn, y) ∷ [])) c.into_plan.ensures.plan
+          ∙ ap (λ xs. xs ++ ((turn, c.into_parts-plan.result.0) ∷ [])) c.loop-turn.invariant.same
+          ∙ ap (λ y. trees_of c.loop-turn.yielded ++ ((turn, y) ∷ [])) c.into_parts-plan.ensures.plan
           ∙ sym (trees_of_push c.loop-turn.yielded (turn, child));
-      won = all_won_push c.loop-turn.yielded (turn, child) c.loop-turn.invariant.won c.into_plan.ensures.wins;
+      won = all_won_push c.loop-turn.yielded (turn, child) c.loop-turn.invariant.won c.into_parts-plan.ensures.wins;
       left = left.1;
       legal = λ t i. legal t (inr i);
       joined =
