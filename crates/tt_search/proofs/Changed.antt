@@ -1,11 +1,11 @@
 -- What a new number of one child makes of the least and of the sum of all.
-use Rattle.std.proofs.Common.{◌≡◌, ℕ, zero, suc, ◌+◌, ◌-◌, ◌<◌, ◌≤◌, min, sum, List, [], ◌∷◌, ◌==◌, Option, Some, None, IfSome, Bool, true, false, if◌then◌else◌, length, get_or, set, add-one, refl, sym, ◌∙◌, ap, subst, arith}
+use Rattle.std.proofs.Common.{◌≡◌, ℕ, zero, suc, ◌+◌, ◌-◌, ◌<◌, ◌≤◌, min, sum, List, [], ◌∷◌, ◌==◌, Bool, true, false, if◌then◌else◌, length, get_or, set, add-one, refl, sym, ◌∙◌, ap, subst, arith}
 use Rattle.std.proofs.lemmas.Grind.{common_steps}
 use Rattle.std.proofs.lemmas.List.{get_or-set_same}
 use Rattle.tt_game.specs.declared.frame.Side.{Side}
 use Rattle.tt_game.specs.Game.{opponent}
 use Rattle.tt_search.specs.PartialTree.{PartialTree, fresh}
-use Rattle.tt_search.specs.Numbers.{infinite, cap, least, has_infinite, capped_sum, number, numbers, IsUndecided}
+use Rattle.tt_search.specs.Numbers.{infinite, cap, least, has_infinite, capped_sum, number, numbers}
 use Rattle.tt_search.specs.MostProving.{place, first_least}
 use Rattle.tt_search.specs.Children.{children_of}
 use Rattle.tt_search.specs.Choices.{Choices, node_with, best_place}
@@ -16,7 +16,7 @@ use Rattle.tt_search.specs.Sprouting.{IsPut}
 use Rattle.tt_search.specs.declared.children.Packed.{Packed}
 use Rattle.tt_search.specs.declared.numbers.Pair.{Pair}
 use Rattle.tt_search.proofs.Places.{length-turns_of, length-trees_of}
-use Rattle.tt_search.proofs.Best.{own_number, other_number, undecided_number}
+use Rattle.tt_search.proofs.Best.{own_number, other_number}
 
 -- ---- numbers
 
@@ -252,8 +252,3 @@ module _ (mover : Side) (old new : Packed) (p : ℕ) (v : Choices) (was : Pair) 
 pub pair_of : (c : Choices) (own other : ℕ) → own ≡ least (numbers c.mover (children_of c.trees)) → other ≡ capped_sum (numbers (opponent c.mover) (children_of c.trees))
     → ArePair c.mover (node_with c) (record { own = own; other = other })
 pair_of c own other a b = record { own = a ∙ sym (own_number c.mover c.turns (children_of c.trees)); other = b ∙ sym (other_number c.mover c.turns (children_of c.trees)) }
-
--- of an undecided tree no proof is held, so what is said of the proof that is held may be said of any tree
-pub none_held : {A : Type 0} (tree : PartialTree) (o : Option A) (side : A → Side) (P Q : A → Type 0) → IsUndecided tree → ((a : A) → P a → number (side a) tree ≡ 0) → IfSome o P → IfSome o Q
-none_held tree None side P Q u f h = tt
-none_held tree (Some a) side P Q u f h = absurd (undecided_number tree u (side a) (f a h))

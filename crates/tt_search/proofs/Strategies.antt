@@ -83,7 +83,7 @@ other_zero Defender Attacker turns children e z = z
 other_zero Defender Defender turns children e z = cc
 
 -- the sides that the test calls the same are one
-same_is_same : (side mover : Side) → is_same side mover ≡ true → mover ≡ side
+pub same_is_same : (side mover : Side) → is_same side mover ≡ true → mover ≡ side
 same_is_same Attacker Attacker e = refl
 same_is_same Attacker Defender e = cc
 same_is_same Defender Attacker e = cc

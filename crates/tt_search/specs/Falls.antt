@@ -14,7 +14,7 @@ use Rattle.tt_search.specs.declared.edges.Edge.{Edge}
 use Rattle.tt_search.specs.declared.edges.Mark.{Mark}
 use Rattle.tt_search.specs.declared.edges.Mark.TheVariants as mark
 use Rattle.tt_search.specs.declared.node.Growth.{Growth}
-use Rattle.tt_search.specs.declared.node.Growth.TheVariants.{Fresh, Won, Closed, Expanded}
+use Rattle.tt_search.specs.declared.node.Growth.TheVariants.{Fresh, Won, Closed, Expanded, Offered}
 use Rattle.tt_search.specs.declared.children.Children.TheInside.{Inside}
 use Rattle.tt_search.specs.declared.children.Children.TheDeep.{deep-Growth, deep-Children}
 
@@ -42,4 +42,5 @@ pub deep-weight : (g : Growth) → max (deep-Growth g) 0 ≤ weight (shape g)
 deep-weight Fresh = omega arith
 deep-weight (Won s) = omega arith
 deep-weight (Closed p) = omega arith
-deep-weight (Expanded x) = omega arith
+deep-weight (Expanded children) = omega arith
+deep-weight (Offered children p) = omega arith

@@ -1,15 +1,12 @@
 -- The partial tree that a node holds. For private contracts and proofs.
 use Rattle.tt_search.specs.PartialTree.{PartialTree, fresh, won, closed}
 use Rattle.tt_search.specs.Choices.{node_with}
-use Rattle.tt_search.specs.declared.node.Expansion.{Expansion}
 use Rattle.tt_search.specs.declared.node.Growth.{Growth}
-use Rattle.tt_search.specs.declared.node.Growth.TheVariants.{Fresh, Won, Closed, Expanded}
-
-abbrev pub node_of : Expansion → PartialTree
-node_of x = node_with x.children
+use Rattle.tt_search.specs.declared.node.Growth.TheVariants.{Fresh, Won, Closed, Expanded, Offered}
 
 abbrev pub shape : Growth → PartialTree
 shape Fresh = fresh
 shape (Won side) = won side
 shape (Closed proof) = closed proof.value.side proof.value.tree
-shape (Expanded x) = node_of x
+shape (Expanded children) = node_with children
+shape (Offered children proof) = node_with children

@@ -44,11 +44,12 @@ impl Node {
             Growth::Fresh => Ok(Footprint::empty(alloc)),
             Growth::Won(_) => Ok(Footprint::empty(alloc)),
             Growth::Closed(proof) => proof.footprint_at(alloc, line),
-            Growth::Expanded(expansion) => {
-                if let Some(proof) = expansion.offered_for(side) {
+            Growth::Expanded(children) => children.footprint(alloc, line, side),
+            Growth::Offered(children, proof) => {
+                if is_same(proof.side(), side) {
                     return offered_footprint(alloc, line, proof);
                 }
-                expansion.children.footprint(alloc, line, side)
+                children.footprint(alloc, line, side)
             }
         }
     }

@@ -165,13 +165,13 @@ impl Node {
     {
         let (proof, disproof) = (self.proof, self.disproof);
         match &mut self.growth {
-            Growth::Expanded(expansion) => {
-                let mover = expansion.children.mover();
-                let Ok(()) = walk.go_down(expansion.children.best_turn()) else {
+            Growth::Expanded(children) => {
+                let mover = children.mover();
+                let Ok(()) = walk.go_down(children.best_turn()) else {
                     return Step::Stuck(Reason::Memory);
                 };
                 let was = Pair::of(mover, proof, disproof);
-                let (step, numbers) = expansion.children.grow_best(was, walk, pace, store, grants);
+                let (step, numbers) = children.grow_best(was, walk, pace, store, grants);
                 walk.go_up();
                 let (proof, disproof) = numbers.by_goal(mover);
                 self.proof = proof;
@@ -181,7 +181,7 @@ impl Node {
                 }
                 step
             }
-            Growth::Won(_) | Growth::Closed(_) => unreachable!(),
+            Growth::Won(_) | Growth::Closed(_) | Growth::Offered(_, _) => unreachable!(),
             Growth::Fresh => self.first_step(walk, store, grants),
         }
     }

@@ -10,7 +10,7 @@ ghost use Rattle.tt_search.specs.Growing.{leaf_for, expansion};
 
 use crate::children::Children;
 use crate::edges::{Edge, Mark};
-use crate::node::{Expansion, Growth, Node};
+use crate::node::{Growth, Node};
 use crate::numbers::decided_number;
 use arrayvec::ArrayVec;
 use std::alloc::Global;
@@ -60,10 +60,7 @@ fn expanded_node(alloc: Global, mover: Side, edges: Vec<Edge>) -> Node
     Node {
         proof,
         disproof,
-        growth: Growth::Expanded(Expansion {
-            children,
-            offered: None,
-        }),
+        growth: Growth::Expanded(children),
     }
 }
 

@@ -17,22 +17,16 @@ pub(crate) struct Node {
     pub(crate) growth: Growth,
 }
 
+/// What a node has become. An expanded node that has offered its proof is of its own kind, and holds the proof, so that the
+/// nodes above take its tree from there.
 #[cycle(node)]
 #[derive(Drop)]
 pub(crate) enum Growth {
     Fresh,
     Won(Side),
     Closed(Arc<Proof>),
-    Expanded(Expansion),
-}
-
-/// The children of an expanded node. A settled one holds the proof that it offered, so that the nodes above take its tree
-/// from there.
-#[cycle(node)]
-#[derive(Drop)]
-pub(crate) struct Expansion {
-    pub(crate) children: Children,
-    pub(crate) offered: Option<Arc<Proof>>,
+    Expanded(Children),
+    Offered(Children, Arc<Proof>),
 }
 
 impl Model for Node {

@@ -28,8 +28,8 @@ pub struct PrivateStore {
 impl Model for PrivateStore {
     ghost use Rattle.std.specs.Prelude.{◌≡◌, ◌≤◌, map, length, reverse};
     ghost use Rattle.std.specs.Coded.{codes};
-    ghost use Rattle.std.specs.Arc.{arc_value};
     ghost use Rattle.tt_sgf.specs.contracts.sets.PointSet as points;
+    ghost use Rattle.std.specs.Arc.{arc_value};
     ghost use Rattle.tt_proof.specs.StrategyCode.{strategy_code};
     ghost use Rattle.tt_search.specs.Stores.{Keeping};
     ghost use Rattle.tt_search.specs.KeyIndex.{marks_of};

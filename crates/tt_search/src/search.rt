@@ -4,12 +4,11 @@ ghost use Rattle.std.specs.Prelude.{◌≡◌, ◌+◌, ◌^◌, ◌<◌, ◌≤
 ghost use Rattle.tt_search.specs.declared.limits.Step.TheVariants.{Closed};
 ghost use Rattle.tt_search.specs.Numbers.{proof_number, disproof_number, count, IsUndecided};
 ghost use Rattle.tt_search.specs.Growing.{new_leaf, IsGrown};
-ghost use Rattle.tt_search.specs.Searched.{IsSameProblem, StepOf};
+ghost use Rattle.tt_search.specs.Searched.{IsProofOf, IsSameProblem, StepOf};
 ghost use Rattle.tt_search.specs.Ended.{EndOf, HasSpent, SpentBy};
 ghost use Rattle.tt_search.specs.Grants.{AskedBy};
 ghost use Rattle.tt_search.specs.Asking.{AreAsked};
 ghost use Rattle.tt_search.specs.Advanced.{IsAdvanced};
-ghost use Rattle.tt_search.specs.Searched.{IsProofOf};
 
 use crate::grants::Grants;
 use crate::leaves::new_leaf;
@@ -40,8 +39,8 @@ pub struct Search {
 }
 
 impl Model for Search {
-    ghost use Rattle.std.specs.Coded.{codes};
     ghost use Rattle.tt_sgf.specs.contracts.sets.PointSet as points;
+    ghost use Rattle.std.specs.Coded.{codes};
     ghost use Rattle.tt_search.specs.PartialTreeCode.{partial_code};
     ghost use Rattle.tt_search.specs.Searched.{Searched};
     ghost use Rattle.tt_search.specs.Searching.{IsSearch};

@@ -1,7 +1,7 @@
 //! The strategies and proofs of settled nodes, and their offer to a store. What a node offers is a new root over trees that
 //! are there already: a found proof's tree is taken as it is.
 
-ghost use Rattle.std.specs.Prelude.{◌≡◌, ◌≤◌, ◌<◌, false, length, IfOk, IfSome, MatchOption};
+ghost use Rattle.std.specs.Prelude.{◌≡◌, ◌≤◌, ◌<◌, false, length, IfOk, MatchOption};
 ghost use Rattle.tt_proof.specs.Strategy.{reply};
 ghost use Rattle.tt_proof.specs.Proven.{StandsAt};
 ghost use Rattle.tt_proof.specs.declared.tree.TheConstants.{MOST_DEPTH};
@@ -9,9 +9,8 @@ ghost use Rattle.tt_search.specs.Numbers.{number, IsUndecided};
 ghost use Rattle.tt_search.specs.Growing.{IsPartialTree};
 ghost use Rattle.tt_search.specs.Within.{StaysWithin};
 ghost use Rattle.tt_search.specs.Settled.{strategy_for, first_settled, pick_at, replies};
-ghost use Rattle.tt_search.specs.Offered.{HoldsProof, IsProofOfTree};
+ghost use Rattle.tt_search.specs.Offered.{IsProofOfTree};
 ghost use Rattle.tt_search.specs.Joining.{IsSettledAt};
-ghost use Rattle.tt_search.specs.Shape.{node_of};
 ghost use Rattle.tt_search.specs.Children.{children_of};
 ghost use Rattle.tt_search.specs.Edges.{turns_of, trees_of, grown_in};
 ghost use Rattle.tt_search.specs.Choices.{node_with};
@@ -20,11 +19,12 @@ ghost use Rattle.tt_search.specs.Child.{child_tree};
 
 use crate::children::{Child, Children, Packed};
 use crate::edges::Edge;
-use crate::node::{Expansion, Growth, Node};
+use crate::node::{Growth, Node};
 use crate::numbers::is_same;
 use crate::store::Store;
 use crate::walk::Walk;
 use std::alloc::Global;
+use std::mem;
 use std::sync::Arc;
 use tt_game::{Line, Side};
 use tt_proof::{Plan, Proof, Replies};
@@ -40,11 +40,12 @@ impl Node {
             Growth::Fresh => Ok(Plan::done()),
             Growth::Won(_) => Ok(Plan::done()),
             Growth::Closed(proof) => proof.plan().try_clone(),
-            Growth::Expanded(expansion) => {
-                if let Some(proof) = expansion.offered_for(side) {
+            Growth::Expanded(children) => children.plan(alloc, side),
+            Growth::Offered(children, proof) => {
+                if is_same(proof.side(), side) {
                     return proof.plan().try_clone();
                 }
-                expansion.children.plan(alloc, side)
+                children.plan(alloc, side)
             }
         }
     }
@@ -86,11 +87,13 @@ impl Node {
         requires { IsProofOfTree self.old proof.now.value }
         ensures { self.new ≡ self.old }
     {
-        if let Growth::Expanded(expansion) = &mut self.growth {
-            if let Ok(handle) = Arc::try_clone(proof) {
-                expansion.offered = Some(handle);
-            }
-        }
+        let Ok(handle) = Arc::try_clone(proof) else {
+            return;
+        };
+        self.growth = match mem::replace(&mut self.growth, Growth::Fresh) {
+            Growth::Expanded(children) => Growth::Offered(children, handle),
+            kept => kept,
+        };
     }
 
     /// Offers the proof of a node that is settled for the side to the store, where the walk stands at the node, and
@@ -116,22 +119,6 @@ impl Node {
         self.hold(&proof);
         let _kept = store.keep(proof);
         true
-    }
-}
-
-impl Expansion {
-    /// The proof that the node offered, where it is the side's.
-    pub(crate) fn offered_for(&self, side: Side) -> Option<&Proof>
-        requires { HoldsProof self.now }
-        ensures tree { IfSome result (λ p. p.now.tree ≡ strategy_for side (node_of self.now)) }
-        ensures side { IfSome result (λ p. p.now.side ≡ side) }
-    {
-        if let Some(proof) = &self.offered {
-            if is_same(proof.side(), side) {
-                return Some(proof);
-            }
-        }
-        None
     }
 }
 

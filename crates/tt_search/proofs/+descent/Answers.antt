@@ -1,15 +1,14 @@
 use Rattle.std.proofs.Common.{rules, ◌≡◌, ◌+◌, ◌^◌, ◌<◌, ◌⊎◌, ℕ, length, take, refl, sym, ◌∙◌, ap, subst, arith}
 use Rattle.tt_game.specs.declared.frame.Side.TheVariants.{Attacker, Defender}
 use Rattle.tt_search.specs.PartialTree.{PartialTree}
-use Rattle.tt_search.specs.Shape.{node_of, shape}
+use Rattle.tt_search.specs.Shape.{shape}
 use Rattle.tt_search.specs.Choices.{Choices, node_with, best_place, best_child}
 use Rattle.tt_search.specs.Packed.{choices_of, child_of}
 use Rattle.tt_search.specs.Child.{child_tree}
 use Rattle.tt_search.specs.Pairs.{ArePair}
 use Rattle.tt_search.specs.Cached.{IsCached}
-use Rattle.tt_search.specs.Offered.{IsProofOfTree, HoldsProof, HoldsItsProof}
 use Rattle.tt_search.specs.Edges.{mark_of, grown_in, trees_of}
-use Rattle.tt_search.specs.Numbers.{number, IsUndecided}
+use Rattle.tt_search.specs.Numbers.{number}
 use Rattle.tt_search.specs.Growing.{IsPartialTree}
 use Rattle.tt_search.specs.Walking.{stage, stand_of, MayGrow}
 use Rattle.tt_search.specs.Steady.{AreStepsAt}
@@ -20,7 +19,7 @@ use Rattle.tt_search.proofs.Steady.{last_round, next_round, round_falls, same_nu
 use Rattle.tt_search.proofs.Asking.{asked_once, asked_last, granted_more}
 use Rattle.tt_search.proofs.Steps.{IsOfferable}
 use Rattle.tt_search.proofs.Places.{length-trees_of}
-use Rattle.tt_search.proofs.Changed.{few_stay, place_there, in_trees, part_was, sum_now, place_now, own_now, pair_of, none_held}
+use Rattle.tt_search.proofs.Changed.{few_stay, place_there, in_trees, part_was, sum_now, place_now, own_now, pair_of}
 use Rattle.tt_search.proofs.WayDown.{turn_there, child_there, has_room, way_down, child_may_grow, round_steps}
 use Rattle.tt_search.proofs.+descent.Goals as goal
 
@@ -249,57 +248,51 @@ children::Children::grow_best-returns-clause-numbers g t c =
 
 pub node::Node::round-best_turn-requires : goal.node::Node::round-best_turn-requires
 node::Node::round-best_turn-requires g t c =
-    let x = c.in-Expanded.expansion in
+    let x = c.in-Expanded.children in
     let is = sym (ap shape c.in-Expanded.is) ∙ c.self.view_is in
-    turn_there (stand_of c.args.walk.now) x.children c.args.self.now is c.requires.may_grow
+    turn_there (stand_of c.args.walk.now) x c.args.self.now is c.requires.may_grow
 
 pub node::Node::round-go_down-requires-clause-legal : goal.node::Node::round-go_down-requires-clause-legal
 node::Node::round-go_down-requires-clause-legal g t c =
-    let x = c.in-Expanded.expansion in
+    let x = c.in-Expanded.children in
     let is = sym (ap shape c.in-Expanded.is) ∙ c.self.view_is in
-    (way_down (stand_of c.args.walk.now) x.children c.args.self.now is c.requires.may_grow c.best_turn.result c.best_turn.ensures).legal
+    (way_down (stand_of c.args.walk.now) x c.args.self.now is c.requires.may_grow c.best_turn.result c.best_turn.ensures).legal
 
 pub node::Node::round-grow_best-step-requires : goal.node::Node::round-grow_best-step-requires
 node::Node::round-grow_best-step-requires g t c κs within =
-    let x = c.in-Expanded.expansion in
+    let x = c.in-Expanded.children in
     let shaped = sym (ap shape c.in-Expanded.is) in
     let is = shaped ∙ c.self.view_is in
     let walk = c.args.walk.now in
-    let way = way_down (stand_of walk) x.children c.args.self.now is c.requires.may_grow c.best_turn.result c.best_turn.ensures in
+    let way = way_down (stand_of walk) x c.args.self.now is c.requires.may_grow c.best_turn.result c.best_turn.ensures in
     let gone = c.in-Ok.ensures.ok in
-    let room = has_room (stand_of walk) x.children c.args.self.now is c.requires.may_grow in
+    let room = has_room (stand_of walk) x c.args.self.now is c.requires.may_grow in
     let cached = subst (IsCached c.self.inside.proof c.self.inside.disproof) (sym shaped) c.self.invariant.0 in
-    let pair = subst (λ side. ArePair side (node_with x.children) c.of-was.result) c.mover-mover.ensures (c.of-was.ensures (node_with x.children) cached) in
-    let there = child_there (stand_of walk) x.children c.args.self.now is c.requires.may_grow in
-    let may_grow = child_may_grow walk x.children c.args.self.now c.best_turn.result way c.go_down.new.self gone in
+    let pair = subst (λ side. ArePair side (node_with x) c.of-was.result) c.mover-mover.ensures (c.of-was.ensures (node_with x) cached) in
+    let there = child_there (stand_of walk) x c.args.self.now is c.requires.may_grow in
+    let may_grow = child_may_grow walk x c.args.self.now c.best_turn.result way c.go_down.new.self gone in
     let grants = subst (λ (n : ℕ). (g.G.Grants.asked c.args.grants.now).granted + n < 2 ^ 64) (sym gone.left) c.requires.grants in
     (omega (arith, c.decreases, gone.room, room), (within.0, (within.1, (pair, (there, (may_grow, (omega (arith, gone.room, c.requires.room), grants)))))))
 
 pub node::Node::round-invariant_of-self-in-Expanded : goal.node::Node::round-invariant_of-self-in-Expanded
 node::Node::round-invariant_of-self-in-Expanded g t c =
-    let x = c.in-Expanded.expansion in
-    let shaped = sym (ap shape c.in-Expanded.is) in
+    let x = c.in-Expanded.children in
     let new = c.grow_best-step.new.self in
     let put = c.grow_best-step.ensures.steps.2 in
     let mover = ap (λ (d : Choices). d.mover) put ∙ sym c.mover-mover.ensures in
     let pair = subst (λ side. ArePair side (node_with new) c.grow_best-step.result.1) mover c.grow_best-step.ensures.numbers in
-    let undecided = subst IsUndecided (sym (shaped ∙ c.self.view_is)) c.requires.may_grow.undecided in
-    let holds : HoldsProof x = subst HoldsItsProof c.in-Expanded.is c.self.invariant.1 in (
-      c.by_goal-proof.ensures (node_with new) pair,
-      none_held (node_of x) x.offered (λ p. p.value.side) (λ p. IsProofOfTree (node_of x) p.value) (λ p. IsProofOfTree (node_with new) p.value) undecided
-          (λ p (h : IsProofOfTree (node_of x) p.value). h.settled) holds,
-    )
+    (c.by_goal-proof.ensures (node_with new) pair, tt)
 
 pub node::Node::round-offer-walk-requires-clause-partial : goal.node::Node::round-offer-walk-requires-clause-partial
 node::Node::round-offer-walk-requires-clause-partial g t c =
-    let x = c.in-Expanded.expansion in
+    let x = c.in-Expanded.children in
     let shaped = sym (ap shape c.in-Expanded.is) in
     let is = shaped ∙ c.self.view_is in
     let walk = c.args.walk.now in
-    let way = way_down (stand_of walk) x.children c.args.self.now is c.requires.may_grow c.best_turn.result c.best_turn.ensures in
+    let way = way_down (stand_of walk) x c.args.self.now is c.requires.may_grow c.best_turn.result c.best_turn.ensures in
     let gone = c.in-Ok.ensures.ok in
     let new = c.grow_best-step.new.self in
-    let steps = round_steps walk x.children c.args.self.now c.best_turn.result way c.go_down.new.self gone c.args.pace c.grow_best-step.result.0 new
+    let steps = round_steps walk x c.args.self.now c.best_turn.result way c.go_down.new.self gone c.args.pace c.grow_best-step.result.0 new
     c.grow_best-step.new.walk c.go_up.new.self c.grow_best-step.ensures.steps c.go_up.ensures.left in
     let back : c.go_up.new.self.line ≡ walk.line = search rules in
     let offerable = steps_offerable c.args.pace walk.line walk.room (stage c.args.self.now walk.left) c.grow_best-step.result.0
@@ -308,14 +301,14 @@ node::Node::round-offer-walk-requires-clause-partial g t c =
 
 pub node::Node::round-offer-walk-requires-clause-stays : goal.node::Node::round-offer-walk-requires-clause-stays
 node::Node::round-offer-walk-requires-clause-stays g t c =
-    let x = c.in-Expanded.expansion in
+    let x = c.in-Expanded.children in
     let shaped = sym (ap shape c.in-Expanded.is) in
     let is = shaped ∙ c.self.view_is in
     let walk = c.args.walk.now in
-    let way = way_down (stand_of walk) x.children c.args.self.now is c.requires.may_grow c.best_turn.result c.best_turn.ensures in
+    let way = way_down (stand_of walk) x c.args.self.now is c.requires.may_grow c.best_turn.result c.best_turn.ensures in
     let gone = c.in-Ok.ensures.ok in
     let new = c.grow_best-step.new.self in
-    let steps = round_steps walk x.children c.args.self.now c.best_turn.result way c.go_down.new.self gone c.args.pace c.grow_best-step.result.0 new
+    let steps = round_steps walk x c.args.self.now c.best_turn.result way c.go_down.new.self gone c.args.pace c.grow_best-step.result.0 new
     c.grow_best-step.new.walk c.go_up.new.self c.grow_best-step.ensures.steps c.go_up.ensures.left in
     let back : c.go_up.new.self.line ≡ walk.line = search rules in
     let offerable = steps_offerable c.args.pace walk.line walk.room (stage c.args.self.now walk.left) c.grow_best-step.result.0
@@ -324,14 +317,14 @@ node::Node::round-offer-walk-requires-clause-stays g t c =
 
 pub node::Node::round-returns-in-Some-clause-steps : goal.node::Node::round-returns-in-Some-clause-steps
 node::Node::round-returns-in-Some-clause-steps g t c =
-    let x = c.in-Expanded.expansion in
+    let x = c.in-Expanded.children in
     let shaped = sym (ap shape c.in-Expanded.is) in
     let is = shaped ∙ c.self.view_is in
     let walk = c.args.walk.now in
-    let way = way_down (stand_of walk) x.children c.args.self.now is c.requires.may_grow c.best_turn.result c.best_turn.ensures in
+    let way = way_down (stand_of walk) x c.args.self.now is c.requires.may_grow c.best_turn.result c.best_turn.ensures in
     let gone = c.in-Ok.ensures.ok in
     let new = c.grow_best-step.new.self in
-    let steps = round_steps walk x.children c.args.self.now c.best_turn.result way c.go_down.new.self gone c.args.pace c.grow_best-step.result.0 new
+    let steps = round_steps walk x c.args.self.now c.best_turn.result way c.go_down.new.self gone c.args.pace c.grow_best-step.result.0 new
     c.grow_best-step.new.walk c.go_up.new.self c.grow_best-step.ensures.steps c.go_up.ensures.left in
     subst
     (λ (after : Walk). AreStepsAt c.args.pace (stand_of walk) (stage c.args.self.now walk.left) c.grow_best-step.result.0 (stage c.offer-walk.new.self after.left))
@@ -342,13 +335,13 @@ node::Node::round-returns-in-Some-clause-steps g t c =
 
 pub node::Node::round-returns-in_default-settled_for-clause-steps : goal.node::Node::round-returns-in_default-settled_for-clause-steps
 node::Node::round-returns-in_default-settled_for-clause-steps g t c =
-    let x = c.in-Expanded.expansion in
+    let x = c.in-Expanded.children in
     let shaped = sym (ap shape c.in-Expanded.is) in
     let is = shaped ∙ c.self.view_is in
     let walk = c.args.walk.now in
-    let way = way_down (stand_of walk) x.children c.args.self.now is c.requires.may_grow c.best_turn.result c.best_turn.ensures in
+    let way = way_down (stand_of walk) x c.args.self.now is c.requires.may_grow c.best_turn.result c.best_turn.ensures in
     let gone = c.in-Ok.ensures.ok in
     let new = c.grow_best-step.new.self in
-    let steps = round_steps walk x.children c.args.self.now c.best_turn.result way c.go_down.new.self gone c.args.pace c.grow_best-step.result.0 new
+    let steps = round_steps walk x c.args.self.now c.best_turn.result way c.go_down.new.self gone c.args.pace c.grow_best-step.result.0 new
     c.grow_best-step.new.walk c.go_up.new.self c.grow_best-step.ensures.steps c.go_up.ensures.left in
     steps

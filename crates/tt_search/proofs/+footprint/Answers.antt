@@ -4,12 +4,13 @@ use Rattle.tt_game.specs.declared.frame.Frame.{Frame}
 use Rattle.tt_game.specs.declared.frame.Side.{Side}
 use Rattle.tt_game.specs.Game.{State, IsLegal, after}
 use Rattle.tt_game.specs.Line.{Standing}
-use Rattle.tt_proof.specs.Proven.{IsWon}
+use Rattle.tt_proof.specs.Proven.{Proven, IsWon}
 use Rattle.tt_proof.specs.declared.footprints.Footprint.{Footprint}
 use Rattle.tt_proof.specs.Strategy.{Entries, done, pick}
 use Rattle.tt_proof.specs.KeptFootprints.{IsFootprint, IsEntryJoined}
 use Rattle.tt_search.specs.PartialTree.{PartialTree, fresh}
-use Rattle.tt_search.specs.Shape.{shape, node_of}
+use Rattle.tt_search.specs.Offered.{IsProofOfTree, HoldsItsProof}
+use Rattle.tt_search.specs.Shape.{shape}
 use Rattle.tt_search.specs.Children.{children_of}
 use Rattle.tt_search.specs.Choices.{Choices, node_with, weight_below}
 use Rattle.tt_search.specs.Child.{child_tree}
@@ -17,6 +18,7 @@ use Rattle.tt_search.specs.Edges.{turn_of, turns_of, trees_of}
 use Rattle.tt_search.specs.Packed.{children_in}
 use Rattle.tt_search.specs.Settled.{strategy_for, first_settled, pick_at}
 use Rattle.tt_search.specs.Weight.{weight, weight_all}
+use Rattle.tt_search.specs.Numbers.{is_same}
 use Rattle.tt_search.specs.Joining.{IsSettledAt, AreSettledAt}
 use Rattle.tt_search.specs.declared.edges.Edge.{Edge}
 use Rattle.tt_search.specs.declared.children.Child.{Child}
@@ -26,7 +28,7 @@ use Rattle.tt_search.proofs.Lifted.{weight_at}
 use Rattle.tt_search.proofs.Places.{length-turns_of, length-trees_of, turn_at_place, weight_step}
 use Rattle.tt_search.proofs.Replies.{picked}
 use Rattle.tt_search.proofs.Sprouted.{any_default}
-use Rattle.tt_search.proofs.Strategies.{makes_proof}
+use Rattle.tt_search.proofs.Strategies.{makes_proof, same_is_same}
 use Rattle.tt_search.proofs.+footprint.Goals as goal
 
 abbrev first : Edge
@@ -56,11 +58,14 @@ pub node::Node::footprint-offered_footprint-requires : goal.node::Node::footprin
 node::Node::footprint-offered_footprint-requires t c =
     let f = c.args.line.now.frame in
     let s = c.args.line.now.state in
-    let p = c.in-Some.proof.now in
-    let is : node_of c.in-Expanded.expansion ≡ c.args.self.now = sym (ap shape c.in-Expanded.is) ∙ c.self.view_is in
-    let tree : p.tree ≡ strategy_for c.args.side c.args.self.now = c.in-Some.ensures.tree ∙ ap (strategy_for c.args.side) is in
+    let p = c.in-Offered.proof.value in
+    let holds : IsProofOfTree (node_with c.in-Offered.children) p = subst HoldsItsProof c.in-Offered.is c.self.invariant.1 in
+    let is : node_with c.in-Offered.children ≡ c.args.self.now = sym (ap shape c.in-Offered.is) ∙ c.self.view_is in
+    let read : c.side.result ≡ p.side = c.side.ensures.side ∙ ap (λ (q : Proven). q.side) c.deref-in-Offered.ensures in
+    let side : p.side ≡ c.args.side = sym (same_is_same p.side c.args.side (ap (λ side. is_same side c.args.side) (sym read) ∙ sym c.is_same.ensures ∙ c.if-is_same.true)) in
+    let tree : p.tree ≡ strategy_for c.args.side c.args.self.now = holds.strategy ∙ ap (λ side. strategy_for side (node_with c.in-Offered.children)) side ∙ ap (strategy_for c.args.side) is in
     let won = makes_proof c.args.side f s c.args.self.now p.tree tree c.requires.settled c.requires.partial c.requires.stays in
-    record { wins = subst (λ side. IsWon side f s p.tree) (sym c.in-Some.ensures.side) won }
+    record { wins = subst (λ (q : Proven). IsWon q.side f s q.tree) (sym c.deref-then-is_same.ensures) (subst (λ side. IsWon side f s p.tree) (sym side) won) }
 
 pub children::Children::footprint-replied-requires : goal.children::Children::footprint-replied-requires
 children::Children::footprint-replied-requires t c =

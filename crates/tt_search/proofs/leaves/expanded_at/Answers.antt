@@ -40,7 +40,8 @@ pub expanded_node-requires-clause-few : goal.expanded_node-requires-clause-few
 expanded_node-requires-clause-few c =
     let f = c.args.line.now.frame in let s = c.args.line.now.state in
     let whole = c.in_ok-extend_from_slice.ensures.items ∙ ap (λ es. es ++ c.as_slice.result.now) c.in_ok-kept.ensures.items ∙ c.as_slice.ensures.value in
-    let turns = turns_last f s c.loop-p.edges.items c.push-2.new.self.items c.new_edge-2.result c.loop-p.from c.push-2.ensures.items c.new_edge-2.ensures.turn c.in_default.ensures c.loop-p.invariant.turns
+    let turns =
+    turns_last f s c.loop-p.edges.items c.push-2.new.self.items c.new_edge-2.result c.loop-p.from c.push-2.ensures.items c.new_edge-2.ensures.turn c.in_default.ensures c.loop-p.invariant.turns
     ∙ turns_of-successors f s in
     omega (arith, ap length whole, length-turns_of c.push-2.new.self.items, ap length turns, length-legal_turns f s)
 
@@ -53,7 +54,8 @@ pub returns : goal.returns
 returns c =
     let f = c.args.line.now.frame in let s = c.args.line.now.state in
     let whole = c.in_ok-extend_from_slice.ensures.items ∙ ap (λ es. es ++ c.as_slice.result.now) c.in_ok-kept.ensures.items ∙ c.as_slice.ensures.value in
-    let turns = turns_last f s c.loop-p.edges.items c.push-2.new.self.items c.new_edge-2.result c.loop-p.from c.push-2.ensures.items c.new_edge-2.ensures.turn c.in_default.ensures c.loop-p.invariant.turns in
+    let turns =
+    turns_last f s c.loop-p.edges.items c.push-2.new.self.items c.new_edge-2.result c.loop-p.from c.push-2.ensures.items c.new_edge-2.ensures.turn c.in_default.ensures c.loop-p.invariant.turns in
     let leaves = leaves_last f s c.loop-p.edges.items c.push-2.new.self.items c.new_edge-2.result c.winner_by_pass.result c.loop-p.from
     c.push-2.ensures.items c.new_edge-2.ensures.tree c.winner_by_pass.ensures c.in_default.ensures c.loop-p.invariant.leaves in
     c.expanded_node.ensures
