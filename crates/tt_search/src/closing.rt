@@ -1,6 +1,6 @@
 //! Kept proofs that may be used at a line.
 
-ghost use Rattle.std.specs.Prelude.{◌≡◌, ◌≤◌, ◌↔◌, IfOk, IfSome, IsTrue, true, Ok};
+ghost use Rattle.std.specs.Prelude.{◌≡◌, ◌≤◌, ◌↔◌, ◌⊎◌, IfOk, IfSome, IsTrue, true, Ok, Some};
 ghost use Rattle.tt_game.specs.Keys.{key_of};
 ghost use Rattle.tt_proof.specs.Proven.{FitsAt};
 ghost use Rattle.tt_proof.specs.Strategy.{depth};
@@ -27,6 +27,36 @@ fn is_usable(line: &mut Line, room: u16, proof: &Proof) -> Result<bool, NoMemory
     Ok(wins)
 }
 
+/// Which of the proofs that were found for both sides is used at the line: the attacker's where it may be, else the defender's where
+/// that may be, else none. The line stands as before.
+fn first_usable(
+    line: &mut Line,
+    room: u16,
+    attacker: Option<Arc<Proof>>,
+    defender: Option<Arc<Proof>>,
+) -> Result<Option<Arc<Proof>>, NoMemory>
+    requires attacker { IfSome attacker (λ p. key_of p.value.frame p.value.state ≡ key_of line.old.frame line.old.state) }
+    requires defender { IfSome defender (λ p. key_of p.value.frame p.value.state ≡ key_of line.old.frame line.old.state) }
+    ensures attacker { IfOk result (λ o. IfSome attacker (λ p. IsUsable room line.old p.value → o ≡ attacker)) }
+    ensures defender { IfOk result (λ o. IfSome attacker (λ p. IsUsable room line.old p.value → ⊥)
+        → IfSome defender (λ p. IsUsable room line.old p.value → o ≡ defender)) }
+    ensures usable { IfOk result (λ o. IfSome o (λ p. IsUsable room line.old p.value)) }
+    ensures found { IfOk result (λ o. IfSome o (λ p. (attacker ≡ Some p) ⊎ (defender ≡ Some p))) }
+    ensures line { line.new ≡ line.old }
+{
+    if let Some(proof) = attacker {
+        if is_usable(line, room, &proof)? {
+            return Ok(Some(proof));
+        }
+    }
+    if let Some(proof) = defender {
+        if is_usable(line, room, &proof)? {
+            return Ok(Some(proof));
+        }
+    }
+    Ok(None)
+}
+
 /// A kept proof that may be used at the line, with room for as many turns: the attacker's, or else the defender's. Its tree
 /// wins there, and is no deeper. `NoMemory` where memory was refused. The line stands as before.
 pub fn usable<S: Store>(
@@ -40,15 +70,5 @@ pub fn usable<S: Store>(
     ensures kept { S.kept store.new ≡ S.kept store.old }
 {
     let BothSides { attacker, defender } = store.find_both(line)?;
-    if let Some(proof) = attacker {
-        if is_usable(line, room, &proof)? {
-            return Ok(Some(proof));
-        }
-    }
-    if let Some(proof) = defender {
-        if is_usable(line, room, &proof)? {
-            return Ok(Some(proof));
-        }
-    }
-    Ok(None)
+    first_usable(line, room, attacker, defender)
 }
