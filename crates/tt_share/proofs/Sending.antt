@@ -58,6 +58,8 @@ use Rattle.boxcar.specs.contracts.vec.Vec.TheInside as EntriesInside
 use Rattle.boxcar.specs.contracts.table.Table as Boxes
 use Rattle.boxcar.specs.contracts.table.Table.TheInside as BoxesInside
 use Rattle.boxcar.proofs.Sent.{tag_sync, slot_send, slot_sync}
+use Rattle.tt_share.specs.contracts.ended.Ended as Ended
+use Rattle.tt_share.specs.contracts.ended.Ended.TheInside as Boxed
 use Rattle.tt_share.specs.contracts.jobs.Found as Found
 use Rattle.tt_share.specs.contracts.workers.HandedBack as HandedBack
 
@@ -177,10 +179,7 @@ module _ (h : RattleType) (below : IsSend h) where
   children_layer : IsSend (NodeKnot.layer-Children h)
   children_layer = search (sendable, crosses, side_send) depth 40
 
-  expansion_layer : IsSend (NodeKnot.layer-Expansion h)
-  expansion_layer = search (sendable, crosses, shared_send) depth 40
-
-  growth_layer : IsSend (NodeKnot.layer-Growth h)
+  growth_layer : IsSend (NodeKnot.layer-Growth h h)
   growth_layer = search (sendable, crosses, shared_send) depth 40
 
   node_layer : IsSend (NodeKnot.layer-Node h)
@@ -198,8 +197,7 @@ node_keeps p all Deep.member-Children =
     let view : IsSend (NodeKnot.view-Children p) = view_send _ _ _ _ _ children in
     record { owned = view.owned; leaving = λ k x w. tt }
 node_keeps p all Deep.member-Node =
-    let expansion : IsSend (NodeKnot.at-Expansion p) = rejoined_send _ _ Deep.split-Expansion Deep.join-Expansion Deep.joins-Expansion (expansion_layer _ (all Deep.member-Children)) in
-    let growth : IsSend (NodeKnot.at-Growth p) = rejoined_send _ _ Deep.split-Growth Deep.join-Growth Deep.joins-Growth (growth_layer _ expansion) in
+    let growth : IsSend (NodeKnot.at-Growth p) = rejoined_send _ _ Deep.split-Growth Deep.join-Growth Deep.joins-Growth (growth_layer _ (all Deep.member-Children)) in
     let node : IsSend (NodeKnot.at-Node p) = rejoined_send _ _ Deep.split-Node Deep.join-Node Deep.joins-Node (node_layer _ growth) in
     let view : IsSend (NodeKnot.view-Node p) = view_send _ _ _ _ _ node in
     record { owned = view.owned; leaving = λ k x w. tt }
@@ -218,8 +216,12 @@ walk_send = search (sendable, crosses, line_send) depth 40
 search_send : IsSend Search.the_row
 search_send = view_send _ _ _ _ _ (declared_send Within.the_type (walk_send, (limits_send, (as_row_send Node.the_field node_send, tt))))
 
+-- the end of a search crosses threads in its box
+ended_send : IsSend Ended.the_row
+ended_send = view_send _ _ _ _ _ (declared_send Boxed.the_type (search (sendable, crosses, proof_send, search_send) depth 40, tt))
+
 found_send : IsSend Found.the_row
-found_send = search (sendable, crosses, proof_send, search_send) depth 40
+found_send = search (sendable, crosses, ended_send) depth 40
 
 -- a seat of a table crosses threads where what it holds does
 table_seat_send : (S V : RattleType) → IsSend S → IsSend (TableSeat.the_row S V)

@@ -6,6 +6,7 @@ pub mod Desk
 pub mod Seats
 pub mod DeskLaw
 -- What private contracts and proofs cite. Nobody has to believe these.
+pub mod Ended
 pub mod Jobs
 pub mod Results
 pub mod Beginning

@@ -17,6 +17,7 @@ ghost use Rattle.tt_share.specs.Jobs.{EndsBehind, IsJob};
 ghost use Rattle.tt_share.specs.Results.{IsAllSpent, HaveLost, IsLeastWin, IsLeastStuck, IsReady, NoneStuck, NoWin};
 
 use crate::answer::{Answer, Stuck};
+use crate::ended::Ended;
 use crate::jobs::Jobs;
 use crate::results::{Results, win_at};
 use std::alloc::Global;
@@ -70,13 +71,16 @@ pub(crate) fn settled(
 }
 
 /// The result of a job, taken out of its place.
-fn take_end(ends: &mut Vec<Option<End>>, job: usize) -> Option<End>
+fn take_end(ends: &mut Vec<Option<Ended>>, job: usize) -> Option<End>
     requires within { job < vec_len ends.old }
     ensures taken { slice_get ends.old.items job ≡ Some result }
     ensures rest { ends.new.items ≡ slice_set ends.old.items job None }
     ensures len { vec_len ends.new ≡ vec_len ends.old }
 {
-    ends[job].take()
+    match ends[job].take() {
+        Some(end) => Some(end.into_end()),
+        None => None,
+    }
 }
 
 /// What is told of the counts: all of them where the total is spent, and else nothing.

@@ -5,10 +5,11 @@ ghost use Rattle.tt_game.specs.Game.{IsLegal, after, winner_of};
 ghost use Rattle.tt_game.specs.Turns.{legal_turns};
 ghost use Rattle.tt_search.specs.Numbers.{count};
 ghost use Rattle.tt_search.specs.Ended.{EndOf, SpentBy};
-ghost use Rattle.tt_share.specs.Jobs.{EndsBehind, IsCounted, AsksFor, IsResultOf, IsCountOf, IsWinFor, IsStuck, HasWon, kept_of};
+ghost use Rattle.tt_share.specs.Jobs.{EndsBehind, IsCounted, AsksFor, IsResultOf, IsCountOf, IsWinFor};
 
+use crate::ended::{Ended, is_win};
 use std::alloc::Global;
-use tt_game::{Line, Side, Turn, Turns};
+use tt_game::{Line, Turn, Turns};
 use tt_search::{End, Grants, Limits, Reason, Search, Store};
 use tt_sgf::NoMemory;
 
@@ -16,7 +17,7 @@ use tt_sgf::NoMemory;
 #[derive(Drop)]
 pub(crate) struct Found {
     pub job: usize,
-    pub end: End,
+    pub end: Ended,
     pub spent: u32,
 }
 
@@ -46,6 +47,24 @@ fn run_counted<S: Store, G: Grants>(search: Search, store: &mut S, grants: &mut 
     let end = search.run(store, grants);
     let spent = (grants.granted() - before) as u32;
     (end, spent)
+}
+
+/// Runs a new search with a counted source of grants, and puts how it ends into the place.
+fn run_into<S: Store, G: Grants>(
+    place: Box<End>,
+    search: Search,
+    store: &mut S,
+    grants: &mut G,
+) -> (Ended, u32)
+    requires new { count search.tree ≡ 0 }
+    requires grants { (G.asked grants.old).granted < 2 ^ 62 }
+    ensures end { EndOf search result.0 }
+    ensures spent { SpentBy search (G.asked grants.old) result.0 (G.asked grants.new) }
+    ensures asks { AsksFor (G.asked grants.old) result.1 result.0 (G.asked grants.new) }
+    ensures source { G.source grants.new ≡ G.source grants.old }
+{
+    let (end, spent) = run_counted(search, store, grants);
+    (Ended::at(place, end), spent)
 }
 
 impl<'a> Jobs<'a> {
@@ -87,13 +106,24 @@ impl<'a> Jobs<'a> {
         Ok(behind)
     }
 
+    /// The line behind a turn, and a place for how the search there ends, which is taken before it begins.
+    fn start_behind(&self, turn: Turn) -> Result<(Line, Box<End>), NoMemory>
+        requires legal { IsLegal self.now.line.now.frame self.now.line.now.state turn }
+        ensures frame { IfOk result (λ x. x.0.frame ≡ self.now.line.now.frame) }
+        ensures state { IfOk result (λ x. x.0.state ≡ after self.now.line.now.frame self.now.line.now.state turn) }
+    {
+        let behind = self.line_behind(turn)?;
+        let place = Box::new(self.alloc, End::Stuck(Reason::Memory, None))?;
+        Ok((behind, place))
+    }
+
     /// Searches the line after a legal turn, and counts the nodes that are expanded.
     fn search_behind<S: Store, G: Grants>(
         &self,
         turn: Turn,
         store: &mut S,
         grants: &mut G,
-    ) -> (End, u32)
+    ) -> (Ended, u32)
         requires legal { IsLegal self.now.line.now.frame self.now.line.now.state turn }
         requires grants { (G.asked grants.old).granted < 2 ^ 62 }
         ensures ends { EndsBehind self.now.line.now self.now.limits turn result.0 }
@@ -102,12 +132,12 @@ impl<'a> Jobs<'a> {
         ensures source { G.source grants.new ≡ G.source grants.old }
     {
         let limits = self.limits_behind();
-        let Ok(behind) = self.line_behind(turn) else {
-            return (End::Stuck(Reason::Memory, None), 0);
+        let Ok((behind, place)) = self.start_behind(turn) else {
+            return (Ended::nowhere(), 0);
         };
         match Search::new(self.alloc, behind, limits) {
-            Ok(search) => run_counted(search, store, grants),
-            Err(_) => (End::Stuck(Reason::Memory, None), 0),
+            Ok(search) => run_into(place, search, store, grants),
+            Err(_) => (Ended::nowhere(), 0),
         }
     }
 
@@ -118,7 +148,7 @@ impl<'a> Jobs<'a> {
         job: usize,
         store: &mut S,
         grants: &mut G,
-    ) -> (End, u32)
+    ) -> (Ended, u32)
         requires job { job < length self.now.turns.items }
         requires grants { (G.asked grants.old).granted < 2 ^ 62 }
         ensures ends { IsResultOf self.now.line.now self.now.limits job result.0 }
@@ -130,46 +160,9 @@ impl<'a> Jobs<'a> {
     }
 
     /// Whether a result is a proof for the side to move.
-    pub fn is_won(&self, end: &End) -> bool
+    pub fn is_won(&self, end: &Ended) -> bool
         ensures { IsTrue result ↔ IsWinFor self.now.line.now.state.to_move end.now }
     {
         is_win(end, self.line.to_move())
-    }
-}
-
-/// Whether the result is a proof for the side.
-pub(crate) fn is_win(end: &End, side: Side) -> bool
-    ensures win { IsTrue result ↔ IsWinFor side end.now }
-    ensures won { HasWon end.now }
-{
-    match end {
-        End::Settled(proof) => proof.side() == side,
-        End::Stuck(_, _) => false,
-    }
-}
-
-/// Whether the result is a stuck search.
-pub(crate) fn is_stuck(end: &End) -> bool
-    ensures { IsTrue result ↔ IsStuck end.now }
-{
-    match end {
-        End::Settled(_) => false,
-        End::Stuck(_, _) => true,
-    }
-}
-
-/// A result as it is kept. A stuck search holds its whole tree, and only that of the least stuck turn is answered: so it
-/// is dropped where a lesser job is stuck.
-pub(crate) fn trimmed(past_stuck: bool, end: End) -> End
-    ensures { result ≡ kept_of past_stuck end }
-{
-    match end {
-        End::Settled(proof) => End::Settled(proof),
-        End::Stuck(reason, search) => {
-            if past_stuck {
-                return End::Stuck(Reason::Memory, None);
-            }
-            End::Stuck(reason, search)
-        }
     }
 }

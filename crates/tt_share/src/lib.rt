@@ -10,6 +10,7 @@ mod answer;
 mod bounds;
 mod conclude;
 mod desk;
+mod ended;
 mod gate;
 mod grants;
 mod jobs;
@@ -28,7 +29,7 @@ mod workers;
 
 pub use alone::solve_one;
 pub use answer::{Answer, Stuck};
-pub use bounds::MOST_KEPT;
+pub use bounds::{MOST_KEPT, MOST_WORKERS};
 pub use desk::{Closed, Desk, Seat};
 pub use gate::{Gate, NoGate};
 pub use locked::{LockedStore, Table};

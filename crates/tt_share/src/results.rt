@@ -10,11 +10,12 @@ ghost use Rattle.tt_share.specs.Answers.{spent_in_all};
 ghost use Rattle.tt_share.specs.Jobs.{IsResult, IsWinFor};
 ghost use Rattle.tt_share.specs.Results.{Notes, AskedFor, HasEnd, IsFilled, HasWonIn, AllWon, IsPastStuck, IsStuckIn, IsWinIn, IsWinAt, NoWin, IsLeastWin, IsReady, StopsAtWin, KeepsEnds, Puts};
 
-use crate::jobs::{Found, Jobs, is_stuck, is_win, trimmed};
+use crate::ended::{Ended, is_stuck, is_win, trimmed};
+use crate::jobs::{Found, Jobs};
 use std::alloc::Global;
 use std::marker::Model;
 use tt_game::{Line, Side, Turn};
-use tt_search::{End, Grants, Limits, Store};
+use tt_search::{Grants, Limits, Store};
 use tt_sgf::NoMemory;
 
 /// How the search of each job of a line ended, as far as it is known, and how many nodes it expanded. Contracts see the line,
@@ -22,7 +23,7 @@ use tt_sgf::NoMemory;
 #[derive(Drop)]
 pub(crate) struct Results<'a> {
     pub jobs: Jobs<'a>,
-    pub ends: Vec<Option<End>>,
+    pub ends: Vec<Option<Ended>>,
     pub spent: Vec<(Turn, u32)>,
 }
 
@@ -49,7 +50,7 @@ impl<'a> Model for Results<'a> {
 }
 
 /// Whether there is a result, and it is a proof for the side.
-fn is_win_in(end: &Option<End>, side: Side) -> bool
+fn is_win_in(end: &Option<Ended>, side: Side) -> bool
     ensures win { IsTrue result ↔ IsWinIn side end.now }
     ensures won { HasWonIn end.now }
 {
@@ -60,7 +61,7 @@ fn is_win_in(end: &Option<End>, side: Side) -> bool
 }
 
 /// Whether there is a result, and it is a stuck search.
-fn is_stuck_in(end: &Option<End>) -> bool
+fn is_stuck_in(end: &Option<Ended>) -> bool
     ensures { IsTrue result ↔ IsStuckIn end.now }
 {
     match end {
@@ -70,7 +71,7 @@ fn is_stuck_in(end: &Option<End>) -> bool
 }
 
 /// The least job whose result is a proof for the side.
-pub(crate) fn win_at(ends: &[Option<End>], side: Side) -> Option<usize>
+pub(crate) fn win_at(ends: &[Option<Ended>], side: Side) -> Option<usize>
     ensures least { MatchOption result (NoWin side ends.now) (IsLeastWin side ends.now) }
     ensures won { IfNone result (AllWon ends.now) }
 {
@@ -83,7 +84,7 @@ pub(crate) fn win_at(ends: &[Option<End>], side: Side) -> Option<usize>
 }
 
 /// Whether there is such a place, with no result.
-fn is_free_in(ends: &[Option<End>], job: usize) -> bool
+fn is_free_in(ends: &[Option<Ended>], job: usize) -> bool
     ensures free { IsTrue result ↔ (slice_get ends.now job ≡ Some None) }
     ensures filled { result ≡ false → job < length ends.now → IsFilled ends.now job }
 {
@@ -91,7 +92,7 @@ fn is_free_in(ends: &[Option<End>], job: usize) -> bool
 }
 
 /// Writes a result at its place.
-fn fill(ends: &mut Vec<Option<End>>, job: usize, end: End)
+fn fill(ends: &mut Vec<Option<Ended>>, job: usize, end: Ended)
     requires { job < vec_len ends.old }
     ensures filled { ends.new.items ≡ slice_set ends.old.items job (Some end) }
     ensures len { vec_len ends.new ≡ vec_len ends.old }
@@ -121,7 +122,7 @@ fn unspent(alloc: Global, turns: &[Turn]) -> Result<Vec<(Turn, u32)>, NoMemory>
 }
 
 /// Whether the search of a lesser job is stuck.
-fn is_past_stuck(ends: &[Option<End>], job: usize) -> bool
+fn is_past_stuck(ends: &[Option<Ended>], job: usize) -> bool
     ensures { IsTrue result ↔ IsPastStuck ends.now job }
 {
     for (lesser, end) in ends.iter().enumerate() {

@@ -9,9 +9,10 @@ ghost use Rattle.tt_share.specs.declared.workers.HandedBack.{HandedBack};
 ghost use Rattle.tt_share.specs.Workers.{SomeWin, IsWork, held, times, spent_on, spent_by_all, AreApart, AllApart, IsPlaced, AllPlaced, AddsSpare, AllDrawn, jobs_of, AreGiven, AllGiven};
 
 use crate::desk::{Desk, Seat};
+use crate::ended::{Ended, is_stuck, trimmed};
 use crate::gate::Gate;
 use crate::grants::SeatGrants;
-use crate::jobs::{Found, Jobs, is_stuck, trimmed};
+use crate::jobs::{Found, Jobs};
 use crate::log::CertLog;
 use crate::log_store::LogStore;
 use crate::results::Results;
@@ -19,7 +20,7 @@ use crate::view::View;
 use std::sync::Wait;
 use std::thread;
 use std::thread::Threads;
-use tt_search::{End, Grants, Store};
+use tt_search::{Grants, Store};
 use tt_sgf::NoMemory;
 
 /// What a worker hands back: its seat, and the results of the jobs that it drew.
@@ -36,7 +37,7 @@ pub(crate) fn search_drawn<S: Store, G: Gate, A: Grants>(
     job: usize,
     store: &mut S,
     grants: &mut A,
-) -> (End, u32)
+) -> (Ended, u32)
     requires job { job < length jobs.now.turns.items }
     requires grants { (A.asked grants.old).granted < 2 ^ 62 }
     ensures ends { IsResultOf jobs.now.line.now jobs.now.limits job result.0 }

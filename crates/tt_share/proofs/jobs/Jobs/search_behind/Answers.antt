@@ -1,14 +1,18 @@
 use Rattle.std.proofs.Common.{rules, ◌≡◌, refl, sym, subst}
 use Rattle.tt_search.specs.Growing.{new_leaf}
 use Rattle.tt_search.specs.Searched.{Searched}
+use Rattle.tt_search.specs.declared.search.End.{End}
 use Rattle.tt_share.specs.Answers.{IsBehind}
+use Rattle.tt_share.specs.Jobs.{IsOwnCount}
 use Rattle.tt_share.proofs.Counting.{counted, none_counted}
 use Rattle.tt_share.proofs.jobs.Jobs.search_behind.Goals as goal
 
 pub returns-in_default-clause-counted : goal.returns-in_default-clause-counted
 returns-in_default-clause-counted g c =
     let limits = c.limits_behind-limits in
-    (none_counted c.args.self.now.line.now c.args.self.now.limits limits.result c.args.turn limits.ensures.budget limits.ensures.depth, tt)
+    let own : IsOwnCount c.args.self.now.line.now c.args.self.now.limits c.args.turn 0 c.nowhere.result =
+    subst (λ (e : End). IsOwnCount c.args.self.now.line.now c.args.self.now.limits c.args.turn 0 e) (sym c.nowhere.ensures) tt in
+    (none_counted c.args.self.now.line.now c.args.self.now.limits limits.result c.args.turn limits.ensures.budget limits.ensures.depth, own)
 
 pub returns-in-Ok-new-clause-counted : goal.returns-in-Ok-new-clause-counted
 returns-in-Ok-new-clause-counted g c =
@@ -23,5 +27,5 @@ returns-in-Ok-new-clause-counted g c =
       depth_is = c.limits_behind-limits.ensures.depth;
     }) in
     let new_is : start.tree ≡ new_leaf start.line.frame start.line.state = subst (λ (s : Searched). s.tree ≡ new_leaf s.line.frame s.line.state) (sym is) refl in
-    counted line limits c.args.turn start behind new_is (g.G.Grants.asked c.args.grants.now) (g.G.Grants.asked c.run_counted.new.grants) c.run_counted.result.0 c.run_counted.result.1
-    c.run_counted.ensures.end c.run_counted.ensures.spent c.run_counted.ensures.asks.granted
+    counted line limits c.args.turn start behind new_is (g.G.Grants.asked c.args.grants.now) (g.G.Grants.asked c.run_into.new.grants) c.run_into.result.0 c.run_into.result.1
+    c.run_into.ensures.end c.run_into.ensures.spent c.run_into.ensures.asks.granted

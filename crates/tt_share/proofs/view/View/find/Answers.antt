@@ -6,4 +6,5 @@ use Rattle.tt_share.proofs.view.View.find.Goals as goal
 
 pub returns-clause-memory : goal.returns-clause-memory
 returns-clause-memory c =
-    IfErr-weaker c.handle_of.result _ _ (λ _ some. has_newest _ c.args.line.now c.args.s _ _ c.newest.result (ap (λ (v : Seen). v.tokens) c.self.view_is) c.newest.ensures.newest some) c.handle_of.ensures.err
+    IfErr-weaker c.handle_of.result _ _
+    (λ _ some. has_newest _ c.args.line.now c.args.s _ _ c.newest.result (ap (λ (v : Seen). v.tokens) c.self.view_is) c.newest.ensures.newest some) c.handle_of.ensures.err

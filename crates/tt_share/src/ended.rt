@@ -1,0 +1,115 @@
+//! How the search of a job ended, kept in little memory.
+
+ghost use Rattle.std.specs.Prelude.{◌≡◌, ◌↔◌, None, IsTrue};
+ghost use Rattle.tt_search.specs.declared.limits.Reason.TheVariants.{Memory};
+ghost use Rattle.tt_search.specs.declared.search.End.TheVariants.{Stuck};
+ghost use Rattle.tt_share.specs.Jobs.{IsWinFor, IsStuck, HasWon, kept_of};
+
+use std::marker::Model;
+use tt_game::Side;
+use tt_search::{End, Reason};
+
+/// How the search of a job ended. Contracts see the end.
+///
+/// The end stands in a box: a line has hundreds of jobs, and most of their ends hold nothing. Such an end, stuck for want of memory
+/// without a search, has no box.
+#[derive(Drop)]
+pub(crate) struct Ended {
+    place: Option<Box<End>>,
+}
+
+impl Model for Ended {
+    ghost use Rattle.std.specs.Coded.{codes};
+    ghost use Rattle.tt_sgf.specs.contracts.sets.PointSet as points;
+    ghost use Rattle.tt_proof.specs.StrategyCode.{strategy_code};
+    ghost use Rattle.tt_search.specs.PartialTreeCode.{partial_code};
+    ghost use Rattle.tt_search.specs.declared.search.End.{End};
+    ghost use Rattle.tt_share.specs.Ended.{end_in};
+
+    ghost Value = { End };
+
+    ghost coded = { Prim.hlevel (codes, strategy_code, partial_code, points.the_row.coded) };
+
+    ghost view = { λ e. end_in e.place };
+}
+
+/// Whether the end is a proof for the side.
+fn is_win_at(end: &End, side: Side) -> bool
+    ensures win { IsTrue result ↔ IsWinFor side end.now }
+    ensures won { HasWon end.now }
+{
+    match end {
+        End::Settled(proof) => proof.side() == side,
+        End::Stuck(_, _) => false,
+    }
+}
+
+/// Whether the end is a stuck search.
+fn is_stuck_at(end: &End) -> bool
+    ensures { IsTrue result ↔ IsStuck end.now }
+{
+    match end {
+        End::Settled(_) => false,
+        End::Stuck(_, _) => true,
+    }
+}
+
+impl Ended {
+    /// The end, put into this place.
+    pub(crate) fn at(place: Box<End>, end: End) -> Ended
+        ensures { result ≡ end }
+    {
+        let mut place = place;
+        *place = end;
+        Ended { place: Some(place) }
+    }
+
+    /// Stuck for want of memory, without a search.
+    pub(crate) fn nowhere() -> Ended
+        ensures { result ≡ Stuck Memory None }
+    {
+        Ended { place: None }
+    }
+
+    /// The end itself.
+    pub(crate) fn into_end(self) -> End
+        ensures { result ≡ self }
+    {
+        match self.place {
+            Some(place) => Box::into_inner(place),
+            None => End::Stuck(Reason::Memory, None),
+        }
+    }
+}
+
+/// Whether the result is a proof for the side.
+pub(crate) fn is_win(end: &Ended, side: Side) -> bool
+    ensures win { IsTrue result ↔ IsWinFor side end.now }
+    ensures won { HasWon end.now }
+{
+    match &end.place {
+        Some(place) => is_win_at(place, side),
+        None => false,
+    }
+}
+
+/// Whether the result is a stuck search.
+pub(crate) fn is_stuck(end: &Ended) -> bool
+    ensures { IsTrue result ↔ IsStuck end.now }
+{
+    match &end.place {
+        Some(place) => is_stuck_at(place),
+        None => true,
+    }
+}
+
+/// A result as it is kept. A stuck search holds its whole tree, and only that of the least stuck turn is answered: so it
+/// is dropped where a lesser job is stuck.
+pub(crate) fn trimmed(past_stuck: bool, end: Ended) -> Ended
+    ensures { result ≡ kept_of past_stuck end }
+{
+    if past_stuck && is_stuck(&end) {
+        return Ended::nowhere();
+    }
+    end
+}
