@@ -5,6 +5,7 @@ use Rattle.clap.specs.Values.{bool_text}
 use Rattle.clap.specs.Words.{App, Row, Rule, Text, new_app, new_rule, one_of, with_rule, with_subcommand}
 use Rattle.clap.specs.declared.builder.action.ArgAction.TheVariants.{SetTrue}
 use Rattle.clap.specs.declared.builder.value_parser.ValueParser.TheVariants.{Signed}
+use Rattle.tt_share.specs.declared.bounds.TheConstants.{MOST_WORKERS}
 use Rattle.tsumego.specs.declared.request.TheConstants.{MOST_IN_ALL}
 use Rattle.tsumego.specs.declared.request.Command.{Command}
 use Rattle.tsumego.specs.declared.request.Command.TheVariants.{Score, Check, Solve}
@@ -43,7 +44,7 @@ solve_app = with_rule (with_rule (with_rule (with_rule (with_rule (new_app (code
     (number_rule (codes "budget") 1000000 (codes "100000")))
     (number_rule (codes "depth") 512 (codes "512")))
     (optional_rule (codes "total") 362000000))
-    (number_rule (codes "workers") 64 (codes "1")))
+    (number_rule (codes "workers") MOST_WORKERS (codes "1")))
     (flag_rule (codes "cert"))
 
 -- the program's commands and options, as the argument parser reads them
@@ -86,4 +87,4 @@ abbrev pub IsInRange : Command → Type 0
 IsInRange Score = Unit {0}
 IsInRange Check = Unit {0}
 IsInRange (Solve limits total workers cert) =
-    (1 ≤ limits.depth) × IfSome total (λ n. (1 ≤ n) × (n ≤ MOST_IN_ALL)) × (1 ≤ workers) × (workers ≤ 64)
+    (1 ≤ limits.depth) × IfSome total (λ n. (1 ≤ n) × (n ≤ MOST_IN_ALL)) × (1 ≤ workers) × (workers ≤ MOST_WORKERS)

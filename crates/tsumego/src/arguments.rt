@@ -11,6 +11,7 @@ use clap::{Arg, ArgAction, ArgMatches, Command as Parser, Error, value_parser};
 use std::alloc::{AllocError, Global};
 use std::num::ParseIntError;
 use tt_search::Limits;
+use tt_share::MOST_WORKERS;
 
 /// Why a command line was refused: the parser's text, empty where memory was refused or the words couldn't be read.
 #[derive(Debug, Drop)]
@@ -119,7 +120,7 @@ fn solve_parser<'a>(alloc: Global) -> Result<Parser<'a>, AllocError>
     let budget = number_option(alloc, "budget", 1_000_000, "100000", BUDGET_HELP);
     let depth = number_option(alloc, "depth", 512, "512", DEPTH_HELP);
     let total = optional_number(alloc, "total", MOST_IN_ALL, TOTAL_HELP);
-    let workers = number_option(alloc, "workers", 64, "1", WORKERS_HELP);
+    let workers = number_option(alloc, "workers", MOST_WORKERS as u32, "1", WORKERS_HELP);
     let cert = flag(alloc, "cert", CERT_HELP);
     let one = named(alloc, "solve", "Solve problems", SOLVE_END).arg(budget)?;
     let two = one.arg(depth)?;
@@ -200,7 +201,12 @@ fn solve_asked(matches: &ArgMatches<'_>) -> Option<Command>
     let total = given_number(matches, "total").ok()?;
     let workers = number_of(matches, "workers")?;
     let cert = flag_of(matches, "cert")?;
-    if depth < 1 || depth > 512 || workers < 1 || workers > 64 || !is_total(total) {
+    if depth < 1
+        || depth > 512
+        || workers < 1
+        || workers > MOST_WORKERS as u32
+        || !is_total(total)
+    {
         return None;
     }
     let limits = Limits::new(budget, depth as u16)?;

@@ -1,6 +1,7 @@
 //! The options of `solve`.
 ghost use Rattle.std.specs.Prelude.{◌<◌, ◌≤◌, IfSome};
 ghost use Rattle.std.proofs.Props.{props};
+ghost use Rattle.tt_share.specs.declared.bounds.TheConstants.{MOST_WORKERS};
 
 use tt_search::Limits;
 
@@ -12,11 +13,11 @@ pub struct Options {
     pub limits: Limits,
     /// How many expansions all first turns may take together, where there is such a total: at least 1.
     pub total: Option<u32>,
-    /// How many workers search: 1 to 64.
+    /// How many workers search: 1 to `MOST_WORKERS`.
     pub workers: usize,
     /// Whether the certificate of each verdict is written.
     pub cert: bool,
     ghost depth_in: { 1 ≤ limits.depth },
     ghost total_in: { IfSome total (λ n. 0 < n) } by { Prim.hlevel props },
-    ghost workers_in: { (1 ≤ workers) × (workers ≤ 64) },
+    ghost workers_in: { (1 ≤ workers) × (workers ≤ MOST_WORKERS) },
 }

@@ -19,7 +19,7 @@ pub enum Command {
         limits: Limits,
         /// How many expansions all first turns may take together, where there is such a total: 1 to `MOST_IN_ALL`.
         total: Option<u32>,
-        /// How many workers search: 1 to 64.
+        /// How many workers search: 1 to `MOST_WORKERS`.
         workers: usize,
         /// Whether the certificate of each verdict is written.
         cert: bool,

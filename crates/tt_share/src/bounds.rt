@@ -1,8 +1,11 @@
-//! What bounds the stores that share proofs.
+//! What bounds the workers, and the stores that share proofs.
+
+/// How many workers may search a line together.
+pub const MOST_WORKERS: usize = 64;
 
 /// How many proofs may be kept through one handle of a table, and through one view of a log.
 pub const MOST_KEPT: usize = 4096;
 
 /// For how many more entries a log has room before each push: more than twice as many as there may be workers. So a push
 /// finds room for its entry, whatever other workers push meanwhile.
-pub(crate) const ROOM_BEFORE_A_PUSH: usize = 129;
+pub(crate) const ROOM_BEFORE_A_PUSH: usize = 2 * MOST_WORKERS + 1;

@@ -2,6 +2,7 @@
 
 ghost use Rattle.std.specs.Prelude.{◌≡◌, ◌≤◌, ◌<◌, None, IfSome, OnOk};
 ghost use Rattle.tt_game.specs.Game.{winner_of};
+ghost use Rattle.tt_share.specs.declared.bounds.TheConstants.{MOST_WORKERS};
 ghost use Rattle.tt_share.specs.Answers.{IsAnswer};
 ghost use Rattle.tt_share.specs.Results.{IsBlank, IsReady, SpendsTotal};
 
@@ -35,7 +36,7 @@ pub(crate) fn search_together<R: Threads + Wait + Sync, G: Gate, S: Store>(
     store: &mut S,
 ) -> Result<(), NoMemory>
     requires total { IfSome total (λ n. 0 < n) }
-    requires workers { (1 ≤ workers) × (workers ≤ 64) }
+    requires workers { (1 ≤ workers) × (workers ≤ MOST_WORKERS) }
     requires blank { IsBlank results.old }
     ensures line { (results.new.line ≡ results.old.line) × (results.new.limits ≡ results.old.limits) }
     ensures ready { OnOk result (IsReady results.new.line.state.to_move results.new.ends) }
@@ -68,7 +69,7 @@ fn solve_rest<R: Threads + Wait + Sync, G: Gate, S: Store>(
     store: &mut S,
 ) -> Answer
     requires total { IfSome total (λ n. 0 < n) }
-    requires workers { (1 ≤ workers) × (workers ≤ 64) }
+    requires workers { (1 ≤ workers) × (workers ≤ MOST_WORKERS) }
     requires blank { IsBlank results }
     ensures { IsAnswer results.entry.line results.entry.limits total result }
 {
@@ -78,7 +79,7 @@ fn solve_rest<R: Threads + Wait + Sync, G: Gate, S: Store>(
     }
 }
 
-/// Solves the line by 1 to 64 workers, which share the log. Each of them, and the caller, has a view of it. The log is asked
+/// Solves the line by 1 to `MOST_WORKERS` workers, which share the log. Each of them, and the caller, has a view of it. The log is asked
 /// first for a proof that wins at the line itself. Else each legal turn, in rising order, is a job: workers draw them and
 /// search each with the same budget and a depth one less, until one is settled for the side to move. The caller searches
 /// what they left, and the proof that the results make is offered to the log. Where there is a total, which is at least 1, all
@@ -93,7 +94,7 @@ pub fn solve<R: Threads + Wait + Sync, G: Gate>(
     log: &CertLog,
     gate: &G,
 ) -> Answer
-    requires workers { (1 ≤ workers) × (workers ≤ 64) }
+    requires workers { (1 ≤ workers) × (workers ≤ MOST_WORKERS) }
     requires limits { 1 ≤ limits.now.depth }
     requires total { IfSome total (λ n. 0 < n) }
     requires open { winner_of line.now.frame line.now.state ≡ None }

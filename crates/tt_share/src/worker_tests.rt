@@ -1,6 +1,7 @@
 //! What workers do for a job, and what becomes of their results.
 
 ghost use Rattle.std.specs.Prelude.{◌≡◌, ◌≤◌};
+ghost use Rattle.tt_share.specs.declared.bounds.TheConstants.{MOST_WORKERS};
 
 use crate::desk::Desk;
 use crate::gate::{Gate, NoGate};
@@ -134,14 +135,8 @@ fn search_of_first(
     }
     let jobs = Jobs::of(alloc, &line, limits);
     let gate = Told { told };
-    Ok(search_drawn(&jobs, &gate, 0, store, &mut Free::new()))
-}
-
-fn is_settled(end: &End) -> bool {
-    match end {
-        End::Settled(_) => true,
-        End::Stuck(_, _) => false,
-    }
+    let (end, spent) = search_drawn(&jobs, &gate, 0, store, &mut Free::new());
+    Ok((end.into_end(), spent))
 }
 
 /// A search asks its store at each of its steps, for the attacker and then for the defender: here at two, behind `begin`
@@ -155,7 +150,7 @@ fn a_job_is_searched_between_begin_and_end(rt: HostRuntime) -> Result<(), Fail> 
         astray: 0,
     };
     let (end, spent) = search_of_first(rt.alloc(), &told, &mut store)?;
-    assert!(&rt; !is_settled(&end) && spent == 1);
+    assert!(&rt; !matches!(&end, End::Settled(_)) && spent == 1);
     assert!(&rt; told.load(Ordering::SeqCst) == 2);
     assert!(&rt; store.within == 4 && store.astray == 0);
     Ok(())
@@ -202,7 +197,7 @@ fn gathered_at<R: Threads + Wait + Sync>(
     line: &Line,
     workers: usize,
 ) -> Result<(usize, usize), Fail>
-    requires { (1 ≤ workers) × (workers ≤ 64) }
+    requires workers { (1 ≤ workers) × (workers ≤ MOST_WORKERS) }
 {
     let Some(limits) = Limits::new(1, 512) else {
         return Err(Fail::new("no limits"));
@@ -220,7 +215,7 @@ fn gathered_at<R: Threads + Wait + Sync>(
     let mut results = Results::of(alloc, line, limits)?;
     search_together(rt, &mut results, None, workers, &log, &NoGate, &mut store)?;
     if store.within > 0 || store.astray > 0 {
-        return Err(Fail::new("the caller searched"));
+        return Err(Fail::new(format_args!("{workers} workers: the caller searched")));
     }
     let known = results.ends.iter().filter(|end| end.is_some()).count();
     Ok((results.count(), known))
@@ -232,7 +227,7 @@ fn gathered<R: Threads + Wait + Sync>(
     alloc: Global,
     workers: usize,
 ) -> Result<(usize, usize), Fail>
-    requires { (1 ≤ workers) × (workers ≤ 64) }
+    requires workers { (1 ≤ workers) × (workers ≤ MOST_WORKERS) }
 {
     let line = posed(alloc, LONE)?;
     gathered_at(rt, alloc, &line, workers)
