@@ -168,11 +168,12 @@ fn solved<X: Threads + Wait + Sync>(
 fn answers_rows(rt: HostRuntime) -> Result<(), Fail> {
     let alloc = rt.alloc();
     for (option, input, want, status) in ROWS {
+        let (name, value) = option;
         for workers in ["", "1", "2", "64"] {
             let (out, got) = solved(&rt, alloc, option, workers, input)?;
             assert!(rt;
                 out.as_slice() == want.as_bytes() && got == status,
-                "{workers} workers {input}"
+                "{name} {value} --workers {workers} {input}"
             );
         }
     }

@@ -105,13 +105,6 @@ fn expanded_at_the_total(end: &End) -> Option<u32> {
     }
 }
 
-fn is_settled(end: &End) -> bool {
-    match end {
-        End::Settled(_) => true,
-        End::Stuck(_, _) => false,
-    }
-}
-
 #[test]
 fn a_run_spends_what_is_granted(rt: HostRuntime) -> Result<(), Fail> {
     let mut grants = granting(2);
@@ -125,7 +118,7 @@ fn a_run_spends_what_is_granted(rt: HostRuntime) -> Result<(), Fail> {
 fn a_run_spends_no_more_than_it_needs(rt: HostRuntime) -> Result<(), Fail> {
     let mut grants = Free::new();
     let end = searching(rt.alloc())?.run(&mut NoStore, &mut grants);
-    assert!(&rt; is_settled(&end));
+    assert!(&rt; matches!(&end, End::Settled(_)));
     assert!(&rt; grants.granted() == 3 && !grants.refused());
     Ok(())
 }

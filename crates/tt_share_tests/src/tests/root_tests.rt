@@ -2,7 +2,7 @@
 
 ghost use Rattle.std.specs.Prelude.{◌≡◌};
 
-use crate::alone_tests::{posed, solved};
+use super::alone_tests::{posed, solved};
 use std::alloc::Global;
 use std::sync::Arc;
 use std::test::Fail;
@@ -35,7 +35,7 @@ fn proof_of(alloc: Global, text: &[u8]) -> Result<Arc<Proof>, Fail> {
 fn solved_with(alloc: Global, text: &[u8], depth: u16, other: &[u8]) -> Result<Vec<u8>, Fail> {
     let mut store = PrivateStore::new(alloc);
     match store.keep(proof_of(alloc, other)?) {
-        Kept::Stored => solved(alloc, text, 1, depth, &mut store),
+        Kept::Stored => solved(alloc, text, (1, depth), &mut store),
         Kept::Full | Kept::NoMemory => Err(Fail::new("not kept")),
     }
 }
@@ -52,7 +52,7 @@ fn a_found_proof_is_used(rt: HostRuntime) -> Result<(), Fail> {
         ("reached", REACHED, 3),
     ];
     for (name, problem, depth) in rows {
-        let without = solved(alloc, problem, 1, depth, &mut NoStore)?;
+        let without = solved(alloc, problem, (1, depth), &mut NoStore)?;
         assert!(&rt;
             without.as_slice() == b"budget".as_slice(),
             "{name} {depth}"

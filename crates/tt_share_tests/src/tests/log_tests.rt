@@ -1,7 +1,7 @@
 //! The log and its views, and searches over each kind of store that is shared.
 
-use crate::alone_tests::posed;
-use crate::table_tests::proof_of;
+use super::alone_tests::posed;
+use super::table_tests::proof_of;
 use std::alloc::Global;
 use std::process::Abort;
 use std::sync::{Arc, Wait};
@@ -189,6 +189,39 @@ fn kept_and_found_at_once(rt: HostRuntime) -> Result<(), Fail> {
     Ok(())
 }
 
+/// Fails unless a view, to which another one's proof of a board and then its own of the next board come, has so many tokens.
+fn reads_on<R: Abort + Wait>(
+    rt: &R,
+    alloc: Global,
+    view: &mut View<'_>,
+    other: &mut View<'_>,
+    number: u32,
+    tokens: usize,
+) -> Result<(), Fail> {
+    let theirs = captured(alloc, number)?;
+    assert!(rt; other.keep(rt, theirs) == Kept::Stored);
+    assert!(rt;
+        has_found(alloc, view, number, Side::Attacker)?,
+        "board {number}"
+    );
+    let own = captured(alloc, number.saturating_add(1))?;
+    assert!(rt; view.keep(rt, own) == Kept::Stored);
+    assert!(rt; view.tokens().len() == tokens, "behind board {number}");
+    Ok(())
+}
+
+/// A view takes in what another one keeps each time that it is asked, and what it kept itself no second time.
+#[test]
+fn a_view_reads_on(rt: HostRuntime) -> Result<(), Fail> {
+    let alloc = rt.alloc();
+    let log = CertLog::new(alloc)?;
+    let mut view = View::new(alloc, &log)?;
+    let mut other = View::new(alloc, &log)?;
+    reads_on(&rt, alloc, &mut view, &mut other, 0, 2)?;
+    reads_on(&rt, alloc, &mut view, &mut other, 2, 4)?;
+    reads_on(&rt, alloc, &mut view, &mut other, 4, 6)
+}
+
 /// Keeps a proof 4,096 times, as often as a view can, and then fails unless the view is full.
 fn fills<R: Abort + Wait>(rt: &R, view: &mut View<'_>, proof: &Arc<Proof>) -> Result<(), Fail> {
     for number in 0..4_096u32 {
@@ -308,8 +341,19 @@ const BEHIND: Trace<'static> = (
     5,
 );
 
+/// The second problem once more: of its key the store has the first problem's proof for the attacker, which doesn't win here, and
+/// the defender's own.
+const OF_BOTH: Trace<'static> = (
+    &[
+        (Step::Closed, (INFINITE, 0)),
+        (Step::Settled, (INFINITE, 0)),
+    ],
+    0,
+    5,
+);
+
 /// Fails unless searches over one store go as they go over a private one: the table of `tt_search`.
-fn search_thrice<S: Store>(
+fn search_in_turn<S: Store>(
     rt: &impl Abort,
     alloc: Global,
     name: &str,
@@ -318,17 +362,18 @@ fn search_thrice<S: Store>(
     has_trace(rt, alloc, SPLIT, store, name, ANEW)?;
     has_trace(rt, alloc, SPLIT, store, name, AGAIN)?;
     assert!(rt; finds_the_first(alloc, store)?, "{name}: what is found");
-    has_trace(rt, alloc, REPEATED, store, name, BEHIND)
+    has_trace(rt, alloc, REPEATED, store, name, BEHIND)?;
+    has_trace(rt, alloc, REPEATED, store, name, OF_BOTH)
 }
 
 #[test]
 fn searches_over_each_store(rt: HostRuntime) -> Result<(), Fail> {
     let alloc = rt.alloc();
-    search_thrice(&rt, alloc, "private", &mut PrivateStore::new(alloc))?;
+    search_in_turn(&rt, alloc, "private", &mut PrivateStore::new(alloc))?;
     let table = Table::new(alloc)?;
     let mut locked = LockedStore::new(&rt, &table);
-    search_thrice(&rt, alloc, "locked", &mut locked)?;
+    search_in_turn(&rt, alloc, "locked", &mut locked)?;
     let log = CertLog::new(alloc)?;
     let mut view = LogStore::new(&rt, View::new(alloc, &log)?);
-    search_thrice(&rt, alloc, "log", &mut view)
+    search_in_turn(&rt, alloc, "log", &mut view)
 }

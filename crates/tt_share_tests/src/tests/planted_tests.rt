@@ -2,12 +2,12 @@
 
 ghost use Rattle.std.specs.Prelude.{◌≤◌};
 
-use crate::alone_tests::{posed, put_first, verdict};
+use super::alone_tests::{posed, put_first, verdict};
 use std::alloc::Global;
 use std::sync::{Arc, Wait};
 use std::test::Fail;
 use std::thread::Threads;
-use tt_game::Line;
+use tt_game::{Line, Turn};
 use tt_proof::Proof;
 use tt_search::{End, Free, Kept, Limits, NoStore, Reason, Search};
 use tt_share::{Answer, CertLog, NoGate, Stuck, View, solve};
@@ -138,17 +138,15 @@ fn a_stuck_search_is_kept_behind_a_settled_one(rt: HostRuntime) -> Result<(), Fa
     Ok(())
 }
 
-/// The turn that is stuck for want of budget.
-fn stuck_turn(alloc: Global, line: &Line, stuck: &Stuck) -> Result<Vec<u8>, Fail> {
+/// The turn that is stuck for want of budget, with its search.
+fn stuck_turn(stuck: &Stuck) -> Option<Turn> {
     if stuck.reason != Reason::Budget || stuck.search.is_none() {
-        return Err(Fail::new("another reason"));
+        return None;
     }
-    let mut out = Vec::new(alloc);
-    put_first(&mut out, line.frame().size, &Some(stuck.turn))?;
-    Ok(out)
+    Some(stuck.turn)
 }
 
-/// The turn that is stuck at a problem, by so many workers over the log.
+/// The turn that is so stuck at a problem, by so many workers over the log; nothing where none is.
 fn stuck_at<R: Threads + Wait + Sync>(
     rt: &R,
     alloc: Global,
@@ -159,10 +157,13 @@ fn stuck_at<R: Threads + Wait + Sync>(
     requires { (1 ≤ workers) × (workers ≤ 64) }
 {
     let line = posed(alloc, text)?;
-    match answered(rt, alloc, &line, workers, log)? {
-        Answer::Settled { proof: _, first: _ } => Err(Fail::new("settled")),
-        Answer::Unsettled(stuck) => stuck_turn(alloc, &line, &stuck),
-    }
+    let turn = match answered(rt, alloc, &line, workers, log)? {
+        Answer::Settled { proof: _, first: _ } => None,
+        Answer::Unsettled(stuck) => stuck_turn(&stuck),
+    };
+    let mut out = Vec::new(alloc);
+    put_first(&mut out, line.frame().size, &turn)?;
+    Ok(out)
 }
 
 /// Over a new log it is the least turn that is stuck.

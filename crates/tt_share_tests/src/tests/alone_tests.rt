@@ -13,27 +13,20 @@ use tt_search::{Kept, Limits, NoStore, PrivateStore, Reason, Store};
 use tt_sgf::{NoMemory, Size, read_tree};
 use tt_share::{Answer, solve_one};
 
-/// A store that keeps some proofs and forgets them at once.
+/// A store with room for a hundred proofs, which answers none: it refuses to keep any, or forgets them at once.
 #[derive(Drop)]
-struct Forgetful {
+struct Empty {
     kept: usize,
     ghost few: { kept ≤ 100 },
+    refuses: bool,
 }
 
-impl Store for Forgetful {
+impl Store for Empty {
     ghost capacity = { λ _. 100 };
 
     ghost kept = { λ store. store.kept };
 
     ghost may_answer = { ⊥ };
-
-    fn capacity(&self) -> usize {
-        100
-    }
-
-    fn kept(&self) -> usize {
-        self.kept
-    }
 
     fn find(&mut self, line: &Line, s: Side) -> Result<Option<Arc<Proof>>, NoMemory> {
         Ok(None)
@@ -43,36 +36,19 @@ impl Store for Forgetful {
         if self.kept == 100 {
             return Kept::Full;
         }
+        if self.refuses {
+            return Kept::NoMemory;
+        }
         self.kept += 1;
         Kept::Stored
     }
-}
-
-/// A store with room for a hundred proofs, which refuses to keep any.
-#[derive(Drop)]
-struct Refusing;
-
-impl Store for Refusing {
-    ghost capacity = { λ _. 100 };
-
-    ghost kept = { λ _. 0 };
-
-    ghost may_answer = { ⊥ };
 
     fn capacity(&self) -> usize {
         100
     }
 
     fn kept(&self) -> usize {
-        0
-    }
-
-    fn find(&mut self, line: &Line, s: Side) -> Result<Option<Arc<Proof>>, NoMemory> {
-        Ok(None)
-    }
-
-    fn keep(&mut self, p: Arc<Proof>) -> Kept {
-        Kept::NoMemory
+        self.kept
     }
 }
 
@@ -133,10 +109,10 @@ pub(crate) fn verdict(alloc: Global, line: &Line, answer: Answer) -> Result<Vec<
 fn answered<S: Store>(
     alloc: Global,
     line: &Line,
-    budget: u32,
-    depth: u16,
+    limits: (u32, u16),
     store: &mut S,
 ) -> Result<Answer, Fail> {
+    let (budget, depth) = limits;
     let Some(limits) = Limits::new(budget, depth) else {
         return Err(Fail::new("no limits"));
     };
@@ -150,12 +126,11 @@ fn answered<S: Store>(
 pub(crate) fn solved<S: Store>(
     alloc: Global,
     text: &[u8],
-    budget: u32,
-    depth: u16,
+    limits: (u32, u16),
     store: &mut S,
 ) -> Result<Vec<u8>, Fail> {
     let line = posed(alloc, text)?;
-    let answer = answered(alloc, &line, budget, depth, store)?;
+    let answer = answered(alloc, &line, limits, store)?;
     verdict(alloc, &line, answer)
 }
 
@@ -173,7 +148,7 @@ fn certificate(alloc: Global, line: &Line, answer: &Answer) -> Result<Vec<u8>, F
 /// The certificate of a problem that is settled.
 fn certified<S: Store>(alloc: Global, text: &[u8], store: &mut S) -> Result<Vec<u8>, Fail> {
     let line = posed(alloc, text)?;
-    let answer = answered(alloc, &line, 100_000, 512, store)?;
+    let answer = answered(alloc, &line, (100_000, 512), store)?;
     certificate(alloc, &line, &answer)
 }
 
@@ -193,23 +168,19 @@ fn is_solved<S: Store>(
     want: &[u8],
     store: &mut S,
 ) -> Result<bool, Fail> {
-    let (budget, depth) = limits;
-    Ok(solved(alloc, text, budget, depth, store)?.as_slice() == want)
+    Ok(solved(alloc, text, limits, store)?.as_slice() == want)
 }
 
-/// Whether a problem has this answer over stores that keep nothing: none, one that refuses, and one that forgets.
-fn is_solved_over_empty_stores(
+/// Whether a problem has this answer over a store that refuses or forgets what it is to keep.
+fn is_solved_over_empty_store(
     alloc: Global,
     text: &[u8],
     limits: (u32, u16),
     want: &[u8],
+    refuses: bool,
 ) -> Result<bool, Fail> {
-    let mut forgetful = Forgetful { kept: 0 };
-    Ok(
-        is_solved(alloc, text, limits, want, &mut NoStore)?
-            && is_solved(alloc, text, limits, want, &mut Refusing)?
-            && is_solved(alloc, text, limits, want, &mut forgetful)?,
-    )
+    let mut store = Empty { refuses, kept: 0 };
+    is_solved(alloc, text, limits, want, &mut store)
 }
 
 /// Whether a problem has this answer over a store of its own that keeps so many proofs at most.
@@ -224,24 +195,27 @@ fn is_solved_over_small_store(
     is_solved(alloc, text, limits, want, &mut store)
 }
 
-/// Whether a problem has this answer over each kind of store.
+/// Fails unless a problem has this answer over each kind of store.
 fn has_answer(
+    rt: &impl Abort,
     alloc: Global,
-    text: &[u8],
-    budget: u32,
-    depth: u16,
+    problem: &str,
+    limits: (u32, u16),
     want: &[u8],
-) -> Result<bool, Fail> {
-    let limits = (budget, depth);
-    if !is_solved_over_empty_stores(alloc, text, limits, want)? {
-        return Ok(false);
+) -> Result<(), Fail> {
+    let text = problem.as_bytes();
+    let (budget, depth) = limits;
+    let found = is_solved(alloc, text, limits, want, &mut NoStore)?;
+    assert!(rt; found, "{problem} {budget} {depth}, without a store");
+    for refuses in [true, false] {
+        let found = is_solved_over_empty_store(alloc, text, limits, want, refuses)?;
+        assert!(rt; found, "{problem} {budget} {depth}, refused: {refuses}");
     }
     for capacity in [0usize, 1, 2, 4096] {
-        if !is_solved_over_small_store(alloc, text, limits, want, capacity)? {
-            return Ok(false);
-        }
+        let found = is_solved_over_small_store(alloc, text, limits, want, capacity)?;
+        assert!(rt; found, "{problem} {budget} {depth}, room for {capacity}");
     }
-    Ok(true)
+    Ok(())
 }
 
 #[test]
@@ -276,8 +250,7 @@ fn verdicts_over_each_store(rt: HostRuntime) -> Result<(), Fail> {
         ("(;SZ[4:1]AB[ba]AW[ca]PL[B]TR[ca])", 1, 512, b"killed da"),
     ];
     for (problem, budget, depth, want) in table {
-        let found = has_answer(alloc, problem.as_bytes(), budget, depth, want)?;
-        assert!(&rt; found, "{problem} {budget} {depth}");
+        has_answer(&rt, alloc, problem, (budget, depth), want)?;
     }
     Ok(())
 }
@@ -291,8 +264,7 @@ fn verdicts_by_history(rt: HostRuntime) -> Result<(), Fail> {
         ("(;SZ[7:1];B[ga];W[ea];B[ba]TR[ea])", b"killed"),
     ];
     for (problem, want) in table {
-        let found = has_answer(alloc, problem.as_bytes(), 100_000, 512, want)?;
-        assert!(&rt; found, "{problem}");
+        has_answer(&rt, alloc, problem, (100_000, 512), want)?;
     }
     Ok(())
 }
@@ -307,14 +279,15 @@ fn is_certified<S: Store>(
     Ok(certified(alloc, text, store)?.as_slice() == want)
 }
 
-/// Whether a problem has this certificate over stores that keep nothing: none, one that refuses, and one that forgets.
-fn is_certified_over_empty_stores(alloc: Global, text: &[u8], want: &[u8]) -> Result<bool, Fail> {
-    let mut forgetful = Forgetful { kept: 0 };
-    Ok(
-        is_certified(alloc, text, want, &mut NoStore)?
-            && is_certified(alloc, text, want, &mut Refusing)?
-            && is_certified(alloc, text, want, &mut forgetful)?,
-    )
+/// Whether a problem has this certificate over a store that refuses or forgets what it is to keep.
+fn is_certified_over_empty_store(
+    alloc: Global,
+    text: &[u8],
+    want: &[u8],
+    refuses: bool,
+) -> Result<bool, Fail> {
+    let mut store = Empty { refuses, kept: 0 };
+    is_certified(alloc, text, want, &mut store)
 }
 
 /// Whether a problem has this certificate over a store of its own that keeps so many proofs at most.
@@ -328,17 +301,20 @@ fn is_certified_over_small_store(
     is_certified(alloc, text, want, &mut store)
 }
 
-/// Whether a problem has this certificate over each kind of store.
-fn has_certificate(alloc: Global, text: &[u8], want: &[u8]) -> Result<bool, Fail> {
-    if !is_certified_over_empty_stores(alloc, text, want)? {
-        return Ok(false);
+/// Fails unless a problem has this certificate over each kind of store.
+fn has_certificate(rt: &impl Abort, alloc: Global, problem: &str, want: &[u8]) -> Result<(), Fail> {
+    let text = problem.as_bytes();
+    let found = is_certified(alloc, text, want, &mut NoStore)?;
+    assert!(rt; found, "{problem}, without a store");
+    for refuses in [true, false] {
+        let found = is_certified_over_empty_store(alloc, text, want, refuses)?;
+        assert!(rt; found, "{problem}, refused: {refuses}");
     }
     for capacity in [0usize, 1, 2, 4096] {
-        if !is_certified_over_small_store(alloc, text, want, capacity)? {
-            return Ok(false);
-        }
+        let found = is_certified_over_small_store(alloc, text, want, capacity)?;
+        assert!(rt; found, "{problem}, room for {capacity}");
     }
-    Ok(true)
+    Ok(())
 }
 
 #[test]
@@ -349,10 +325,7 @@ fn certificates(rt: HostRuntime) -> Result<(), Fail> {
         ("(;SZ[4:1]AW[ba];B[ca];W[da]TR[ba])", b"lives ?--!--.;"),
     ];
     for (problem, want) in table {
-        assert!(&rt;
-            has_certificate(alloc, problem.as_bytes(), want)?,
-            "{problem}"
-        );
+        has_certificate(&rt, alloc, problem, want)?;
     }
     Ok(())
 }

@@ -1,7 +1,7 @@
 use Rattle.std.proofs.Common.{rules, ◌<◌, List, All, length, get_or}
 use Rattle.std.proofs.lemmas.List.Elements.{Contains-get_or}
 use Rattle.tt_share.specs.Seats.{SeatView, EndsSpare, fresh}
-use Rattle.tt_share_tests.proofs.desk_tests.spent.Goals as goal
+use Rattle.tt_share_tests.proofs.tests.desk_tests.spent.Goals as goal
 
 pub returns : goal.returns
 returns g c =

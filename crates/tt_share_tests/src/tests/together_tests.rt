@@ -2,7 +2,7 @@
 
 ghost use Rattle.std.specs.Prelude.{◌≤◌};
 
-use crate::alone_tests::{posed, verdict};
+use super::alone_tests::{posed, verdict};
 use std::alloc::Global;
 use std::sync::Wait;
 use std::sync::atomic::{AtomicU64, Ordering};
@@ -118,8 +118,8 @@ fn spent_behind(stuck: &Stuck) -> Option<(u32, u32)> {
 fn is_told_by<R: Threads + Wait + Sync>(
     rt: &R,
     alloc: Global,
-    line: &Line,
     workers: usize,
+    line: &Line,
 ) -> Result<bool, Fail>
     requires { (1 ≤ workers) × (workers ≤ 64) }
 {
@@ -138,9 +138,9 @@ fn is_told_by<R: Threads + Wait + Sync>(
 fn totals_over_workers(rt: HostRuntime) -> Result<(), Fail> {
     let alloc = rt.alloc();
     let line = posed(alloc, b"(;SZ[4:1]AW[ba][da]PL[B]TR[ba])")?;
-    assert!(&rt; is_told_by(&rt, alloc, &line, 1)?, "1 worker");
-    assert!(&rt; is_told_by(&rt, alloc, &line, 2)?, "2 workers");
-    assert!(&rt; is_told_by(&rt, alloc, &line, 64)?, "64 workers");
+    assert!(&rt; is_told_by(&rt, alloc, 1, &line)?, "1 worker");
+    assert!(&rt; is_told_by(&rt, alloc, 2, &line)?, "2 workers");
+    assert!(&rt; is_told_by(&rt, alloc, 64, &line)?, "64 workers");
     Ok(())
 }
 
@@ -163,17 +163,46 @@ fn the_budget_is_named_before_the_total(rt: HostRuntime) -> Result<(), Fail> {
 fn one_log_for_two_problems(rt: HostRuntime) -> Result<(), Fail> {
     let alloc = rt.alloc();
     let log = CertLog::new(alloc)?;
-    let rows: [(&str, &[u8]); 4] = [
-        ("(;SZ[4:1]AW[ba][da]PL[B]TR[ba])", b"killed ca"),
-        ("(;SZ[4:1]AW[ba][da]PL[B]TR[ba])", b"killed ca"),
-        ("(;SZ[4:1]AW[ba];B[ca];W[da]TR[ba])", b"lives"),
-        ("(;SZ[4:1]AW[ba][da]PL[B]TR[ba])", b"killed ca"),
+    let split = "(;SZ[4:1]AW[ba][da]PL[B]TR[ba])";
+    let repeated = "(;SZ[4:1]AW[ba];B[ca];W[da]TR[ba])";
+    let rows: [(&str, &str, &[u8]); 4] = [
+        ("first", split, b"killed ca"),
+        ("the same again", split, b"killed ca"),
+        ("another history", repeated, b"lives"),
+        ("the first once more", split, b"killed ca"),
     ];
-    for (problem, want) in rows {
+    for (name, problem, want) in rows {
         let limits = Limits::new(100_000, 512);
         let got = solved(&rt, alloc, problem.as_bytes(), limits, 2, &log, &NoGate)?;
-        assert!(&rt; got.as_slice() == want, "{problem}");
+        assert!(&rt; got.as_slice() == want, "{name}");
     }
+    Ok(())
+}
+
+/// Whether a view of the log, made behind a run of so many workers, has the proof of the search behind the play that wins. Each run
+/// searches there, and offers what it found.
+fn is_kept_by<R: Threads + Wait + Sync>(rt: &R, alloc: Global, workers: usize) -> Result<bool, Fail>
+    requires { (1 ≤ workers) × (workers ≤ 64) }
+{
+    let log = CertLog::new(alloc)?;
+    let problem = b"(;SZ[4:1]AW[ba][da]PL[B]TR[ba])";
+    let limits = Limits::new(100_000, 512);
+    let got = solved(rt, alloc, problem, limits, workers, &log, &NoGate)?;
+    if got.as_slice() != b"killed ca".as_slice() {
+        return Err(Fail::new("another answer"));
+    }
+    let line = posed(alloc, b"(;SZ[4:1]AW[ba][da]PL[B];B[ca]TR[ba])")?;
+    let mut view = View::new(alloc, &log)?;
+    Ok(view.find(&line, Side::Attacker)?.is_some())
+}
+
+/// What a worker finds is in the log.
+#[test]
+fn workers_keep_in_the_log(rt: HostRuntime) -> Result<(), Fail> {
+    let alloc = rt.alloc();
+    assert!(&rt; is_kept_by(&rt, alloc, 1)?, "1 worker");
+    assert!(&rt; is_kept_by(&rt, alloc, 2)?, "2 workers");
+    assert!(&rt; is_kept_by(&rt, alloc, 64)?, "64 workers");
     Ok(())
 }
 
@@ -208,7 +237,7 @@ impl Gate for SideBySide {
     fn end(&self, _job: usize) {}
 }
 
-/// Whether so many workers meet at two jobs.
+/// Whether so many workers meet at two jobs, and solve the problem.
 fn meet<R: Threads + Wait + Sync>(rt: &R, alloc: Global, workers: usize) -> Result<bool, Fail>
     requires { (1 ≤ workers) × (workers ≤ 64) }
 {
@@ -220,12 +249,9 @@ fn meet<R: Threads + Wait + Sync>(rt: &R, alloc: Global, workers: usize) -> Resu
     let problem = b"(;SZ[4:1]AW[ba][da]PL[B]TR[ba])";
     let limits = Limits::new(100_000, 512);
     let got = solved(rt, alloc, problem, limits, workers, &log, &gate)?;
-    if got.as_slice() != b"killed ca".as_slice() {
-        return Err(Fail::new("another answer"));
-    }
     let second = gate.second.load(Ordering::SeqCst);
     let missed = gate.missed.load(Ordering::SeqCst);
-    Ok(second == 1 && missed == 0)
+    Ok(got.as_slice() == b"killed ca".as_slice() && second == 1 && missed == 0)
 }
 
 #[test]
@@ -282,7 +308,7 @@ fn held_back<R: Threads + Wait + Sync>(
     let limits = Limits::new(100_000, 512);
     let got = solved(rt, alloc, problem, limits, workers, &log, &gate)?;
     if gate.missed.load(Ordering::SeqCst) != 0 {
-        return Err(Fail::new("the second job hasn't ended"));
+        return Err(Fail::new(format_args!("{workers} workers: the second job hasn't ended")));
     }
     Ok(got)
 }
@@ -376,10 +402,8 @@ fn told_within_one<R: Threads + Wait + Sync>(
 fn each_job_is_told_though_the_total_is_spent(rt: HostRuntime) -> Result<(), Fail> {
     let alloc = rt.alloc();
     for workers in [1usize, 2, 64] {
-        assert!(&rt;
-            told_within_one(&rt, alloc, workers)? == (3, 3),
-            "{workers} workers"
-        );
+        let (begun, ended) = told_within_one(&rt, alloc, workers)?;
+        assert!(&rt; begun == 3 && ended == 3, "{workers} workers");
     }
     Ok(())
 }
@@ -388,7 +412,7 @@ fn each_job_is_told_though_the_total_is_spent(rt: HostRuntime) -> Result<(), Fai
 fn told_alone<R: Threads + Wait + Sync>(
     rt: &R,
     alloc: Global,
-    problem: &[u8],
+    problem: &str,
     budget: u32,
     want: &[u8],
 ) -> Result<(u64, u64), Fail> {
@@ -398,9 +422,9 @@ fn told_alone<R: Threads + Wait + Sync>(
         ended: AtomicU64::new(0),
     };
     let limits = Limits::new(budget, 512);
-    let got = solved(rt, alloc, problem, limits, 1, &log, &gate)?;
+    let got = solved(rt, alloc, problem.as_bytes(), limits, 1, &log, &gate)?;
     if got.as_slice() != want {
-        return Err(Fail::new("another answer"));
+        return Err(Fail::new(format_args!("{problem}: another answer")));
     }
     let begun = gate.begun.load(Ordering::SeqCst);
     let ended = gate.ended.load(Ordering::SeqCst);
@@ -419,7 +443,7 @@ fn no_job_after_a_win(rt: HostRuntime) -> Result<(), Fail> {
         ("(;SZ[3:1]AW[ba]PL[W]TR[ba])", 100_000, b"lives pass", 3),
     ];
     for (problem, budget, want, jobs) in rows {
-        let told = told_alone(&rt, alloc, problem.as_bytes(), budget, want)?;
+        let told = told_alone(&rt, alloc, problem, budget, want)?;
         assert!(&rt; told == (jobs, jobs), "{problem}");
     }
     Ok(())
@@ -468,11 +492,11 @@ fn each_in_turn<R: Threads + Wait + Sync>(rt: &R, alloc: Global, workers: usize)
     let limits = Limits::new(100_000, 512);
     solved(rt, alloc, problem, limits, workers, &log, &gate)?;
     if gate.astray.load(Ordering::SeqCst) != 0 {
-        return Err(Fail::new("out of turn"));
+        return Err(Fail::new(format_args!("{workers} workers: out of turn")));
     }
     for one in &gate.told {
         if one.load(Ordering::SeqCst) != 2 {
-            return Err(Fail::new("not told twice"));
+            return Err(Fail::new(format_args!("{workers} workers: not told twice")));
         }
     }
     Ok(())
@@ -491,19 +515,20 @@ fn a_job_begins_before_it_ends(rt: HostRuntime) -> Result<(), Fail> {
 fn begun_again<R: Threads + Wait + Sync>(
     rt: &R,
     alloc: Global,
-    problem: &[u8],
+    problem: &str,
     want: &[u8],
 ) -> Result<u64, Fail> {
     let log = CertLog::new(alloc)?;
     let limits = Limits::new(100_000, 512);
-    let first = solved(rt, alloc, problem, limits, 2, &log, &NoGate)?;
+    let text = problem.as_bytes();
+    let first = solved(rt, alloc, text, limits, 2, &log, &NoGate)?;
     let gate = Counting {
         begun: AtomicU64::new(0),
         ended: AtomicU64::new(0),
     };
-    let again = solved(rt, alloc, problem, limits, 2, &log, &gate)?;
+    let again = solved(rt, alloc, text, limits, 2, &log, &gate)?;
     if first.as_slice() != want || again.as_slice() != want {
-        return Err(Fail::new("another answer"));
+        return Err(Fail::new(format_args!("{problem}: another answer")));
     }
     Ok(gate.begun.load(Ordering::SeqCst))
 }
@@ -518,7 +543,7 @@ fn a_solved_line_is_found(rt: HostRuntime) -> Result<(), Fail> {
         ("(;SZ[4:1]AW[ba]PL[B]TR[ba])", b"lives"),
     ];
     for (problem, want) in rows {
-        let begun = begun_again(&rt, alloc, problem.as_bytes(), want)?;
+        let begun = begun_again(&rt, alloc, problem, want)?;
         assert!(&rt; begun == 0, "{problem}");
     }
     Ok(())
