@@ -26,8 +26,7 @@ impl Finding {
     {
         match self {
             Finding::Valid => 0,
-            Finding::Invalid => 1,
-            Finding::Refused(_) => 1,
+            Finding::Invalid | Finding::Refused(_) => 1,
         }
     }
 

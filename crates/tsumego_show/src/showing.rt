@@ -90,9 +90,9 @@ pub fn show(alloc: Global, input: &[u8]) -> Result<(Vec<u8>, u8), NoMemory>
     ensures { IfOk result (λ r. IsShown input.now r.0.items r.1) }
 {
     let mut out = Vec::new(alloc);
-    let mut refused = false;
     let mut number = 1;
     let mut rest = input;
+    let mut refused = false;
     while number == 1 || has_tree(rest) {
         match read_tree(alloc, rest) {
             Ok((main, used)) => {

@@ -11,7 +11,7 @@ ghost use Rattle.tt_proof.specs.CertificateReading.{TreeAt, EntriesAt, FaultAt, 
 ghost use Rattle.tt_proof.specs.CertificateFaults.{IsFault, code_of};
 
 use crate::tree::{MOST_DEPTH, Tree};
-use std::alloc::{AllocError, AllocFailed, Global};
+use std::alloc::Global;
 use std::sync::Arc;
 use tt_game::{Side, Turn};
 use tt_sgf::{Point, Size};
@@ -27,34 +27,12 @@ pub enum CertFault {
     NoMemory,
 }
 
-impl From<AllocError> for CertFault {
-    ghost use Rattle.std.specs.Prelude.{◌≡◌};
-    ghost use Rattle.tt_proof.specs.declared.certificate_read.CertFault.TheVariants.{NoMemory};
-
-    ghost from_gives = { λ _ e. e ≡ NoMemory };
-
-    fn from(_: AllocError) -> CertFault {
-        CertFault::NoMemory
-    }
-}
-
-impl<T: Drop> From<AllocFailed<T>> for CertFault {
-    ghost use Rattle.std.specs.Prelude.{◌≡◌};
-    ghost use Rattle.tt_proof.specs.declared.certificate_read.CertFault.TheVariants.{NoMemory};
-
-    ghost from_gives = { λ _ e. e ≡ NoMemory };
-
-    fn from(_: AllocFailed<T>) -> CertFault {
-        CertFault::NoMemory
-    }
-}
-
 impl CertFault {
     /// The number of the refusal: 30, 31 or 40.
     pub fn code(&self) -> u8
         ensures { result ≡ code_of self.now }
     {
-        match self {
+        match *self {
             CertFault::Syntax => 30,
             CertFault::TooDeep => 31,
             CertFault::NoMemory => 40,
