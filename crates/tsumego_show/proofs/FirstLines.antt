@@ -11,7 +11,7 @@ use Rattle.tt_proof.specs.declared.certificate_read.CertFault.TheVariants.{Synta
 use Rattle.tt_proof.specs.CertificateFaults.{IsFault}
 use Rattle.tt_proof.specs.CertificateText.{IsCertificate, IsTooDeep}
 use Rattle.tt_proof.specs.Strategy.{Strategy}
-use Rattle.tsumego_show.specs.Drawing.{Draws, DrawsFirst, drawn, deep_drawn, deep_line, first_lines, none_drawn, none_line, strategy_text}
+use Rattle.tsumego_show.specs.Drawing.{DrawsCertificate, DrawsFirst, drawn, deep_drawn, deep_line, first_lines, none_drawn, none_line, strategy_text}
 
 -- nothing is left
 pub lines_done : (out rest whole : List ℕ) (left : ℕ) → length rest ≡ 0 → out ++ first_lines left rest ≡ whole → out ≡ whole
@@ -46,7 +46,7 @@ lines_more out rest behind whole out' b left next e some h more is =
 module _ (p : Standing) (f : Frame) (bytes : List ℕ) (same : f ≡ p.frame) where
   -- what is drawn of a certificate on the frame's board is drawn at the problem
   pub drawn_at : {A E : Type 0} (r : Result A E) (old new : List ℕ) (side : Side) (u : Strategy) → IsCertificate f.size bytes side u × (IsTooDeep f.size bytes → ⊥)
-      → OnOk r ((first : List ℕ) × DrawsFirst p side u first × (new ≡ old ++ (first ++ strategy_text p side u))) → OnOk r ((x : List ℕ) × Draws p bytes x × (new ≡ old ++ x))
+      → OnOk r ((first : List ℕ) × DrawsFirst p side u first × (new ≡ old ++ (first ++ strategy_text p side u))) → OnOk r ((x : List ℕ) × DrawsCertificate p bytes x × (new ≡ old ++ x))
   drawn_at (Ok y) old new side u h e =
       let k = subst (λ (g : Frame). IsCertificate g.size bytes side u × (IsTooDeep g.size bytes → ⊥)) same h in
       (e.0 ++ strategy_text p side u, drawn side u e.0 k.0 k.1 e.1, e.2)
@@ -54,7 +54,7 @@ module _ (p : Standing) (f : Frame) (bytes : List ℕ) (same : f ≡ p.frame) wh
 
   -- so is what is said where bytes are no certificate
   pub none_at : {A E : Type 0} (r : Result A E) (old new : List ℕ) (e : CertFault) → e ≡ Syntax → IsFault f.size bytes e → OnOk r (new ≡ old ++ none_line bytes)
-      → OnOk r ((x : List ℕ) × Draws p bytes x × (new ≡ old ++ x))
+      → OnOk r ((x : List ℕ) × DrawsCertificate p bytes x × (new ≡ old ++ x))
   none_at (Ok y) old new e is h w =
       let k : IsFault p.frame.size bytes Syntax = subst (λ (g : Frame). IsFault g.size bytes Syntax) same (subst (λ (x : CertFault). IsFault f.size bytes x) is h) in
       (none_line bytes, none_drawn k.0 k.1, w)
@@ -62,7 +62,7 @@ module _ (p : Standing) (f : Frame) (bytes : List ℕ) (same : f ≡ p.frame) wh
 
   -- and where they go too deep
   pub deep_at : {A E : Type 0} (r : Result A E) (old new : List ℕ) (e : CertFault) → e ≡ TooDeep → IsFault f.size bytes e → OnOk r (new ≡ old ++ deep_line)
-      → OnOk r ((x : List ℕ) × Draws p bytes x × (new ≡ old ++ x))
+      → OnOk r ((x : List ℕ) × DrawsCertificate p bytes x × (new ≡ old ++ x))
   deep_at (Ok y) old new e is h w =
       let k : IsFault p.frame.size bytes TooDeep = subst (λ (g : Frame). IsFault g.size bytes TooDeep) same (subst (λ (x : CertFault). IsFault f.size bytes x) is h) in
       (deep_line, deep_drawn k, w)

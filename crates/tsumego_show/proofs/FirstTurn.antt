@@ -7,7 +7,7 @@ use Rattle.tt_game.specs.Game.{IsLegal}
 use Rattle.tt_game.specs.Line.{Standing}
 use Rattle.tt_proof.specs.Proven.{first_of}
 use Rattle.tt_proof.specs.Strategy.{Strategy}
-use Rattle.tsumego_show.specs.Drawing.{DrawsFirst, IsFirst, begins, begins_none, turned_text}
+use Rattle.tsumego_show.specs.Drawing.{DrawsFirst, BeginsWithTurn, begins, begins_none, turned_text}
 
 pub turn_same : (a b : Turn) → Some a ≡ Some b → a ≡ b
 turn_same a b e = cc
@@ -22,9 +22,9 @@ module _ (p : Standing) (side : Side) (u : Strategy) where
   begun (Ok y) t old new e may w = (turned_text p t, begins t (e, may.0, may.1), w)
   begun (Err y) t old new e may w = w
 
-  pub none_begun : (old : List ℕ) → ((t : Turn) → IsFirst p side u t → ⊥) → (text : List ℕ) × DrawsFirst p side u text × (old ≡ old ++ text)
+  pub none_begun : (old : List ℕ) → ((t : Turn) → BeginsWithTurn p side u t → ⊥) → (text : List ℕ) × DrawsFirst p side u text × (old ≡ old ++ text)
   none_begun old none = ([], begins_none none, sym (append-nil old))
 
   -- its first turn may not be made
-  pub not_begun : (t : Turn) → first_of u ≡ Some t → ((p.state.to_move ≡ side) × IsLegal p.frame p.state t → ⊥) → (s : Turn) → IsFirst p side u s → ⊥
+  pub not_begun : (t : Turn) → first_of u ≡ Some t → ((p.state.to_move ≡ side) × IsLegal p.frame p.state t → ⊥) → (s : Turn) → BeginsWithTurn p side u s → ⊥
   not_begun t e never s h = never (h.1, subst (λ (x : Turn). IsLegal p.frame p.state x) (turn_same s t (sym h.0 ∙ e)) h.2)

@@ -11,7 +11,7 @@ use Rattle.tt_game.specs.Problems.{problem_of}
 use Rattle.tt_proof.specs.Laws.{OneCertificate}
 use Rattle.tt_proof.specs.Strategy.{Strategy}
 use Rattle.tsumego_show.proofs.FirstTurn.{turn_same}
-use Rattle.tsumego_show.specs.Drawing.{Draws, DrawsFirst, begins, begins_none, deep_drawn, drawn, none_drawn, strategy_text, turned_text}
+use Rattle.tsumego_show.specs.Drawing.{DrawsCertificate, DrawsFirst, begins, begins_none, deep_drawn, drawn, none_drawn, strategy_text, turned_text}
 use Rattle.tsumego_show.specs.Shown.{DrawsBehind, IsShown, IsInputText, IsTreeText, Tells, ended, is_no_problem, last_tree, more_trees, problem_text, stopped, too_long, tree, trees}
 
 module _ (one : OneCertificate) where
@@ -23,7 +23,7 @@ module _ (one : OneCertificate) where
   first_same p side u s t (begins_none none) (begins_none never) = refl
 
   -- bytes behind a problem have one drawing
-  drawn_same : (p : Standing) (bytes s t : List ℕ) → Draws p bytes s → Draws p bytes t → s ≡ t
+  drawn_same : (p : Standing) (bytes s t : List ℕ) → DrawsCertificate p bytes s → DrawsCertificate p bytes t → s ≡ t
   drawn_same p bytes s t (drawn a u x is flat its_first) (drawn b v y are low others) =
       let same = one p.frame.size bytes a b u v is are in
       let its : DrawsFirst p b v x = subst (λ (k : Side). DrawsFirst p k v x) same.0 (subst (λ (w : Strategy). DrawsFirst p a w x) same.1 its_first) in

@@ -5,7 +5,7 @@ use Rattle.std.specs.declared.result.Result.{Result}
 use Rattle.tt_sgf.specs.declared.trees.TheConstants.{MAX_BYTES}
 use Rattle.tt_sgf.specs.Values.{trimmed}
 use Rattle.tt_game.specs.Line.{Standing}
-use Rattle.tsumego_show.specs.Drawing.{Draws}
+use Rattle.tsumego_show.specs.Drawing.{DrawsCertificate}
 use Rattle.std.proofs.lemmas.List.{take_all, length-drop}
 use Rattle.tt_sgf.specs.declared.nodes.Node.{Node}
 use Rattle.tt_sgf.specs.Grammar.{GameTree, HasNoTree, SpelledUpTo, main_line, HasOpen}
@@ -108,8 +108,8 @@ behind_more p behind old h = ([], more_trees h, sym (append-nil old))
 
 -- no tree follows, so what follows is drawn
 pub behind_last : {A E : Type 0} (r : Result A E) (p : Standing) (behind bytes old new : List ℕ) → (HasOpen behind → ⊥) → bytes ≡ trimmed behind
-    → OnOk r ((x : List ℕ) × Draws p bytes x × (new ≡ old ++ x)) → OnOk r ((x : List ℕ) × DrawsBehind p behind x × (new ≡ old ++ x))
-behind_last (Ok y) p behind bytes old new none is w = (w.0, last_tree w.0 none (subst (λ (x : List ℕ). Draws p x w.0) is w.1), w.2)
+    → OnOk r ((x : List ℕ) × DrawsCertificate p bytes x × (new ≡ old ++ x)) → OnOk r ((x : List ℕ) × DrawsBehind p behind x × (new ≡ old ++ x))
+behind_last (Ok y) p behind bytes old new none is w = (w.0, last_tree w.0 none (subst (λ (x : List ℕ). DrawsCertificate p x w.0) is w.1), w.2)
 behind_last (Err y) p behind bytes old new none is w = w
 
 -- a problem and what is drawn behind it

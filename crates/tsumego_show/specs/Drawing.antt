@@ -78,20 +78,20 @@ module _ (p : Standing) where
   turned_text t = turned_head t ++ board_text (turned t)
 
   -- the side is to move, and begins with this turn, which is legal
-  abbrev pub IsFirst : Side → Strategy → Turn → Type 0
-  IsFirst side u t = (first_of u ≡ Some t) × (p.state.to_move ≡ side) × IsLegal p.frame p.state t
+  abbrev pub BeginsWithTurn : Side → Strategy → Turn → Type 0
+  BeginsWithTurn side u t = (first_of u ≡ Some t) × (p.state.to_move ≡ side) × IsLegal p.frame p.state t
 
   -- the text on the first turn, where there is one
   pub data DrawsFirst (side : Side) (u : Strategy) : List ℕ → Type 0 where
-    begins : (t : Turn) → IsFirst side u t → DrawsFirst side u (turned_text t)
-    begins_none : ((t : Turn) → IsFirst side u t → ⊥) → DrawsFirst side u []
+    begins : (t : Turn) → BeginsWithTurn side u t → DrawsFirst side u (turned_text t)
+    begins_none : ((t : Turn) → BeginsWithTurn side u t → ⊥) → DrawsFirst side u []
 
   -- ---- what follows a problem
 
   -- the text on bytes that may be a certificate
-  pub data Draws (bytes : List ℕ) : List ℕ → Type 0 where
+  pub data DrawsCertificate (bytes : List ℕ) : List ℕ → Type 0 where
     drawn : (side : Side) (u : Strategy) (first : List ℕ) → IsCertificate p.frame.size bytes side u → (IsTooDeep p.frame.size bytes → ⊥)
-        → DrawsFirst side u first → Draws bytes (first ++ strategy_text side u)
+        → DrawsFirst side u first → DrawsCertificate bytes (first ++ strategy_text side u)
     none_drawn : ((side : Side) (u : Strategy) → IsCertificate p.frame.size bytes side u → ⊥) → (IsTooDeep p.frame.size bytes → ⊥)
-        → Draws bytes (none_line bytes)
-    deep_drawn : IsTooDeep p.frame.size bytes → Draws bytes deep_line
+        → DrawsCertificate bytes (none_line bytes)
+    deep_drawn : IsTooDeep p.frame.size bytes → DrawsCertificate bytes deep_line

@@ -9,14 +9,12 @@ use Rattle.tt_sgf.specs.Sizes.{point_count}
 use Rattle.tt_board.specs.declared.Colour.{Colour}
 use Rattle.tt_board.specs.Play.{is_empty, is_stone_of, other}
 use Rattle.tt_board.specs.Reach.{entry_at}
+use Rattle.tt_board.specs.Fill.{is_marked}
 use Rattle.tt_game.specs.declared.turns.Turn.TheVariants.{Play}
 use Rattle.tt_game.specs.Line.{Standing}
 use Rattle.tt_proof.specs.CertificateText.{turn_text}
 
 -- ---- marks: one for each point, row by row
-
-abbrev pub is_marked : List Bool → ℕ → Bool
-is_marked m q = slice_index_or m q false
 
 -- the marks on the points that are so
 abbrev pub marks_by : Size → (ℕ → Bool) → List Bool

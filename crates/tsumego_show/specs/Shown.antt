@@ -9,7 +9,7 @@ use Rattle.tt_game.specs.Faults.{code_of}
 use Rattle.tt_game.specs.Line.{Standing}
 use Rattle.tt_game.specs.Problems.{problem_of}
 use Rattle.tt_sgf.specs.Values.{trimmed}
-use Rattle.tsumego_show.specs.Drawing.{Draws}
+use Rattle.tsumego_show.specs.Drawing.{DrawsCertificate}
 use Rattle.tsumego_show.specs.Hints.{hints}
 use Rattle.tsumego_show.specs.Picture.{picture}
 
@@ -21,7 +21,7 @@ refusal k code = decimal k ++ (codes " refused " ++ (decimal code ++ newline ∷
 -- at both ends.
 pub data DrawsBehind (p : Standing) (behind : List ℕ) : List ℕ → Type 0 where
   more_trees : HasOpen behind → DrawsBehind p behind []
-  last_tree : (text : List ℕ) → (HasOpen behind → ⊥) → Draws p (trimmed behind) text → DrawsBehind p behind text
+  last_tree : (text : List ℕ) → (HasOpen behind → ⊥) → DrawsCertificate p (trimmed behind) text → DrawsBehind p behind text
 
 -- the number, the picture and the hints
 abbrev pub problem_text : ℕ → Standing → List ℕ

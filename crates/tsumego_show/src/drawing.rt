@@ -1,10 +1,10 @@
-//! Draws what follows a problem: the first turn and the strategy of a certificate.
+//! DrawsCertificate what follows a problem: the first turn and the strategy of a certificate.
 ghost use Rattle.std.specs.Prelude.{◌≡◌, ◌≢◌, ◌++◌, ◌∷◌, ◌==◌, ◌-◌, [], ℕ, List, replicate, if◌then◌else◌, OnOk};
 ghost use Rattle.tt_sgf.specs.Bytes.{newline, space};
 ghost use Rattle.tt_proof.specs.CertificateText.{shown_turn};
 ghost use Rattle.tt_proof.specs.Strategy.{AreInOrder, IsInOrder, IsOnBoard, entries_of_trees, strategy_of};
 ghost use Rattle.tsumego_show.specs.Picture.{colour_name};
-ghost use Rattle.tsumego_show.specs.Drawing.{Draws, DrawsFirst, deep_line, deeper, entries_lines, first_lines, heading, most_lines, none_line, strategy_text, tree_lines, turn_line};
+ghost use Rattle.tsumego_show.specs.Drawing.{DrawsCertificate, DrawsFirst, deep_line, deeper, entries_lines, first_lines, heading, most_lines, none_line, strategy_text, tree_lines, turn_line};
 
 use crate::opening::put_first;
 use crate::picture::{colour_name, colour_of};
@@ -201,7 +201,7 @@ pub fn put_certificate(
     line: &Line,
     bytes: &[u8],
 ) -> Result<(), NoMemory>
-    ensures { OnOk result ((text : List ℕ) × Draws line.now bytes.now text × (out.new.items ≡ out.old.items ++ text)) }
+    ensures { OnOk result ((text : List ℕ) × DrawsCertificate line.now bytes.now text × (out.new.items ≡ out.old.items ++ text)) }
 {
     match read_cert(alloc, bytes, line.frame().size) {
         Ok((side, tree)) => put_drawn(alloc, out, line, side, &tree),

@@ -1,7 +1,8 @@
 //! Marks on the points of a board, and the chains that are found by them.
 ghost use Rattle.std.specs.Prelude.{◌≡◌, ◌<◌, IfOk};
 ghost use Rattle.tt_sgf.specs.Sizes.{point_count};
-ghost use Rattle.tsumego_show.specs.Hints.{held_chains, is_attacker, is_beside, is_defender, is_free, is_held, is_inside, is_marked, is_reached};
+ghost use Rattle.tsumego_show.specs.Hints.{held_chains, is_attacker, is_beside, is_defender, is_free, is_held, is_inside, is_reached};
+ghost use Rattle.tt_board.specs.Fill.{is_marked};
 ghost use Rattle.tsumego_show.specs.Hints.{is_safe, is_stone, is_target, is_unfillable, marks_by, safe_chains, spread, target_chains, unfillables};
 
 use std::alloc::Global;

@@ -15,32 +15,32 @@ use Rattle.tt_board.specs.Reach.{entry_at, Reaches}
 use Rattle.tt_sgf.specs.Words.{bit_in}
 use Rattle.tt_board.specs.Fill.{is_marked}
 use Rattle.tt_board.specs.ReachLaws.{unmarked_fewer, reaches_beside, reaches_on}
-use Rattle.tt_board.specs.Chain.{IsEnclosed, IsLinked, IsGrowing, IsGrown, IsVisited, IsEmptyAt, IsClosedAt, marks_of}
+use Rattle.tt_board.specs.Chain.{IsEnclosed, IsLinked, IsGrowing, GrewByNeighbours, IsVisited, IsEmptyAt, IsClosedAt, marks_on}
 
 -- marks as bits in words
-pub mark_at : (words : List ℕ) (q : ℕ) → q < 361 → is_marked (marks_of words) q ≡ bit_in words q
-unfolding marks_of
+pub mark_at : (words : List ℕ) (q : ℕ) → q < 361 → is_marked (marks_on words) q ≡ bit_in words q
+unfolding marks_on
 mark_at words q small = get_or-map-range_with_len (bit_in words) 0 361 q q false small (omega arith)
 
 -- there is a mark for each of 361 points
-pub length-marks : (words : List ℕ) → length (marks_of words) ≡ 361
-unfolding marks_of
+pub length-marks : (words : List ℕ) → length (marks_on words) ≡ 361
+unfolding marks_on
 length-marks words = length-map-range_with_len (bit_in words) 0 361
 
 -- one more mark
 pub marks_set : (words after : List ℕ) (q : ℕ) → q < 361 → bit_in after q ≡ true
-    → ((r : ℕ) → r < 384 → (r ≡ q → ⊥) → bit_in after r ≡ bit_in words r) → set (marks_of words) q true ≡ marks_of after
+    → ((r : ℕ) → r < 384 → (r ≡ q → ⊥) → bit_in after r ≡ bit_in words r) → set (marks_on words) q true ≡ marks_on after
 marks_set words after q small on others =
-    ext_get_or false (set (marks_of words) q true) (marks_of after) (length-set (marks_of words) q true ∙ length-marks words ∙ sym (length-marks after)) (λ r below.
-    let in_r : r < 361 = omega (arith, length-set (marks_of words) q true, length-marks words) in
+    ext_get_or false (set (marks_on words) q true) (marks_on after) (length-set (marks_on words) q true ∙ length-marks words ∙ sym (length-marks after)) (λ r below.
+    let in_r : r < 361 = omega (arith, length-set (marks_on words) q true, length-marks words) in
     elim (cases_eq r q) [
-      | inl same ↦ rw same (get_or-set_same (marks_of words) q true false (omega (arith, length-marks words)) ∙ sym (mark_at after q small ∙ on))
-      | inr apart ↦ get_or-set_other (marks_of words) q r true false apart ∙ mark_at words r in_r ∙ sym (mark_at after r in_r ∙ others r (omega arith) apart)
+      | inl same ↦ rw same (get_or-set_same (marks_on words) q true false (omega (arith, length-marks words)) ∙ sym (mark_at after q small ∙ on))
+      | inr apart ↦ get_or-set_other (marks_on words) q r true false apart ∙ mark_at words r in_r ∙ sym (mark_at after r in_r ∙ others r (omega arith) apart)
     ])
 
 -- words without any bit are no marks
-marks_none : (words : List ℕ) → ((q : ℕ) → q < 384 → bit_in words q ≡ false) → marks_of words ≡ replicate 361 false
-marks_none words none = ext_get_or false (marks_of words) (replicate 361 false) (length-marks words ∙ sym (length-replicate {A = Bool} 361 false)) (λ r below.
+marks_none : (words : List ℕ) → ((q : ℕ) → q < 384 → bit_in words q ≡ false) → marks_on words ≡ replicate 361 false
+marks_none words none = ext_get_or false (marks_on words) (replicate 361 false) (length-marks words ∙ sym (length-replicate {A = Bool} 361 false)) (λ r below.
     let in_r : r < 361 = omega (arith, length-marks words) in
     mark_at words r in_r ∙ none r (omega arith) ∙ sym (get_or-replicate {A = Bool} 361 r false false in_r))
 
@@ -65,7 +65,7 @@ push_growing m xs q g small bare =
     }
 
 -- a list that stays has grown by nothing
-pub grown_none : (s : Size) (c : Colouring) (p : ℕ) (xs : List ℕ) → IsGrown s c p xs xs
+pub grown_none : (s : Size) (c : Colouring) (p : ℕ) (xs : List ℕ) → GrewByNeighbours s c p xs xs
 grown_none s c p xs = record {
   more = [];
   longer = sym (append-nil xs);
@@ -73,7 +73,8 @@ grown_none s c p xs = record {
 }
 
 -- it grows by neighbours that are alike
-pub push_grown : (s : Size) (c : Colouring) (p : ℕ) (before xs : List ℕ) (q : ℕ) → IsGrown s c p before xs → IsNeighbour s p q → entry_at c q ≡ entry_at c p → IsGrown s c p before (xs ++ q ∷ [])
+pub push_grown : (s : Size) (c : Colouring) (p : ℕ) (before xs : List ℕ) (q : ℕ) → GrewByNeighbours s c p before xs → IsNeighbour s p q
+    → entry_at c q ≡ entry_at c p → GrewByNeighbours s c p before (xs ++ q ∷ [])
 push_grown s c p before xs q g near like = record {
   more = g.more ++ q ∷ [];
   longer = ap (λ ys. ys ++ q ∷ []) g.longer ∙ append_assoc before g.more (q ∷ []);
@@ -84,15 +85,15 @@ push_grown s c p before xs q g near like = record {
 }
 
 -- what was in the list stays in it
-pub grown_kept : (s : Size) (c : Colouring) (p : ℕ) (before after : List ℕ) (q : ℕ) → IsGrown s c p before after → Contains before q → Contains after q
+pub grown_kept : (s : Size) (c : Colouring) (p : ℕ) (before after : List ℕ) (q : ℕ) → GrewByNeighbours s c p before after → Contains before q → Contains after q
 grown_kept s c p before after q g has = subst (λ ys. Contains ys q) (sym g.longer) (Contains-append_left before g.more q has)
 
 -- a place beside p that was looked at
 pub visit_grown : (s : Size) (c : Colouring) (p : ℕ) (own : Option Colour) (place : Option ℕ) (before xs ys : List ℕ) → own ≡ entry_at c p
-    → ((q : ℕ) → place ≡ Some q → IsNeighbour s p q) → IsGrown s c p before xs → IsVisited c own place xs ys → IsGrown s c p before ys
-visit_grown s c p own place before xs ys is_own near g (inl same) = subst (λ zs. IsGrown s c p before zs) (sym same) g
+    → ((q : ℕ) → place ≡ Some q → IsNeighbour s p q) → GrewByNeighbours s c p before xs → IsVisited c own place xs ys → GrewByNeighbours s c p before ys
+visit_grown s c p own place before xs ys is_own near g (inl same) = subst (λ zs. GrewByNeighbours s c p before zs) (sym same) g
 visit_grown s c p own place before xs ys is_own near g (inr (q, is, like, longer)) =
-    subst (λ zs. IsGrown s c p before zs) (sym longer) (push_grown s c p before xs q g (near q is) (like ∙ is_own))
+    subst (λ zs. GrewByNeighbours s c p before zs) (sym longer) (push_grown s c p before xs q g (near q is) (like ∙ is_own))
 
 -- what is known of the point of a place is known of the place
 pub closed_at : (c : Colouring) (own : Option Colour) (chain : List ℕ) (place : Option ℕ) (q : ℕ) → place ≡ Some q → entry_at c q ≢ None
@@ -123,9 +124,9 @@ closed_around s c p own chain a l r b is_own all up down back on q near =
 
 -- a list of one point, the only one that is marked
 pub start_growing : (words after : List ℕ) (q : ℕ) → ((r : ℕ) → r < 384 → bit_in words r ≡ false) → q < 361 → bit_in after q ≡ true
-    → ((r : ℕ) → r < 384 → (r ≡ q → ⊥) → bit_in after r ≡ bit_in words r) → IsGrowing (marks_of after) (q ∷ [])
+    → ((r : ℕ) → r < 384 → (r ≡ q → ⊥) → bit_in after r ≡ bit_in words r) → IsGrowing (marks_on after) (q ∷ [])
 start_growing words after q bare_words small on others =
-    let m = marks_of words in
+    let m = marks_on words in
     let none : m ≡ replicate 361 false = marks_none words bare_words in
     let wide : length m ≡ 361 = length-marks words in
     let bare : is_marked m q ≡ false = ap (λ xs. is_marked xs q) none ∙ get_or-replicate {A = Bool} 361 q false false small in
@@ -141,7 +142,7 @@ start_growing words after q bare_words small on others =
     }) small bare)
 
 -- what it grew by is linked to the start
-pub linked_more : (s : Size) (c : Colouring) (start p : ℕ) (before after : List ℕ) → IsGrown s c p before after → Contains before p
+pub linked_more : (s : Size) (c : Colouring) (start p : ℕ) (before after : List ℕ) → GrewByNeighbours s c p before after → Contains before p
     → ((q : ℕ) → Contains before q → IsLinked s c start q) → (q : ℕ) → Contains after q → IsLinked s c start q
 linked_more s c start p before after g member linked q has =
     elim (g.added q has) [
@@ -150,15 +151,15 @@ linked_more s c start p before after g member linked q has =
     ]
 
 -- a point that is enclosed stays so while the list grows
-enclosed_kept : (s : Size) (c : Colouring) (p : ℕ) (before after : List ℕ) → IsGrown s c p before after → (q : ℕ) → IsEnclosed s c before q → IsEnclosed s c after q
+enclosed_kept : (s : Size) (c : Colouring) (p : ℕ) (before after : List ℕ) → GrewByNeighbours s c p before after → (q : ℕ) → IsEnclosed s c before q → IsEnclosed s c after q
 enclosed_kept s c p before after g q h r near = let k = h r near in (k.0, λ like. grown_kept s c p before after r g (k.1 like))
 
 -- the list keeps its first items where they are
-same_place : (s : Size) (c : Colouring) (p : ℕ) (before after : List ℕ) (k : ℕ) → IsGrown s c p before after → k < length before → get_or after k 0 ≡ get_or before k 0
+same_place : (s : Size) (c : Colouring) (p : ℕ) (before after : List ℕ) (k : ℕ) → GrewByNeighbours s c p before after → k < length before → get_or after k 0 ≡ get_or before k 0
 same_place s c p before after k g below = ap (λ xs. get_or xs k 0) g.longer ∙ get_or_append_left before g.more 0 k below
 
 -- one more of its points is enclosed
-pub enclosed_more : (s : Size) (c : Colouring) (p : ℕ) (before after : List ℕ) (i : ℕ) → IsGrown s c p before after → i < length before → get_or before i 0 ≡ p → IsEnclosed s c after p
+pub enclosed_more : (s : Size) (c : Colouring) (p : ℕ) (before after : List ℕ) (i : ℕ) → GrewByNeighbours s c p before after → i < length before → get_or before i 0 ≡ p → IsEnclosed s c after p
     → ((k : ℕ) → k < i → IsEnclosed s c before (get_or before k 0)) → (k : ℕ) → k < i + 1 → IsEnclosed s c after (get_or after k 0)
 enclosed_more s c p before after i g below is here earlier k lt =
     elim (cases_eq k i) [

@@ -7,21 +7,14 @@ use Rattle.std.proofs.lemmas.Bool.Decides.{same_from_decides}
 use Rattle.std.proofs.lemmas.List.{get_or_append_left, get_or_push, length_push, get_or_default}
 use Rattle.std.proofs.lemmas.List.Elements.{Contains-get_or}
 use Rattle.std.proofs.lemmas.List.Sums.{sum_by-cons}
-use Rattle.tt_board.specs.Decided.{Decision, some_below}
-use Rattle.tt_board.specs.Chains.{decided, decided_is, IsEachOnce}
+use Rattle.tt_board.specs.Decided.{Decision, some_below, decided, decided_is, decided_not}
+use Rattle.tt_board.specs.Chains.{IsEachOnce}
 use Rattle.tt_board.proofs.PlayLemmas.{score_more}
 
 -- decisions of facts that follow from each other are alike
 pub same_decided : {P Q : Type 0} (d : Decision P) (e : Decision Q) → (P → Q) → (Q → P) → decided d ≡ decided e
 same_decided d e there back = same_from_decides {P = Rattle.std.specs.Prelude.IsTrue (decided e)} (decided d) (decided e)
     ((λ h. (decided_is e).1 (there ((decided_is d).0 h))), (λ h. (decided_is d).1 (back ((decided_is e).0 h)))) ((λ h. h), (λ h. h))
-
--- a decision of what doesn't hold is false
-pub decided_not : {P : Type 0} (d : Decision P) → (P → ⊥) → decided d ≡ false
-decided_not d none = elim (cases_Bool (decided d)) [
-  | inl on ↦ absurd (none ((decided_is d).0 on))
-  | inr off ↦ off
-]
 
 -- a count is more than 0 where something passes
 pub count_some : (f : ℕ → Bool) (n k : ℕ) → k < n → f k ≡ true → 0 < count_by f (range_with_len 0 n)

@@ -12,7 +12,7 @@ use Rattle.tt_sgf.specs.SizeLaws.{few_points}
 use Rattle.tt_board.specs.Near.{IsNeighbour}
 use Rattle.tt_board.specs.Position.{Colouring}
 use Rattle.tt_board.specs.Reach.{entry_at}
-use Rattle.tt_board.specs.Fill.{is_marked, IsNext, IsClosed}
+use Rattle.tt_board.specs.Fill.{is_marked, IsBesideMarked, IsClosed}
 use Rattle.tt_board.specs.ReachLaws.{sound_more}
 use Rattle.tt_board.specs.Chain.{IsGrowing}
 use Rattle.tt_board.specs.Filling.{IsEdge, IsFilling, IsListed, IsMore, IsSpread}
@@ -62,7 +62,7 @@ listed_growing m n xs ys p small g (inl (_, marks, list)) = rw (marks, list) g
 listed_growing m n xs ys p small g (inr (bare, marks, list)) = rw (marks, list) (push_growing m xs p g small bare)
 
 -- a point that is next may be listed
-pub listed_filling : (s : Size) (c : Colouring) (e : Option Colour) (m n : List Bool) (xs ys : List ℕ) (p : ℕ) → p < point_count s → IsNext s c e m p
+pub listed_filling : (s : Size) (c : Colouring) (e : Option Colour) (m n : List Bool) (xs ys : List ℕ) (p : ℕ) → p < point_count s → IsBesideMarked s c e m p
     → IsFilling s c e m xs → IsListed m xs n ys p → IsFilling s c e n ys
 listed_filling s c e m n xs ys p in_p next f (inl (_, marks, list)) = rw (marks, list) f
 listed_filling s c e m n xs ys p in_p next f (inr (bare, marks, list)) =
@@ -78,7 +78,7 @@ listed_filling s c e m n xs ys p in_p next f (inr (bare, marks, list)) =
 
 -- what is like a marked point, and beside it, is next
 pub spread_next : (s : Size) (c : Colouring) (e : Option Colour) (m n : List Bool) (xs ys : List ℕ) (p q : ℕ) → p < point_count s → IsFilling s c e m xs → IsTrue (is_marked m p)
-    → IsMore m xs n ys → IsNeighbour s p q → entry_at c q ≡ entry_at c p → IsNext s c e n q
+    → IsMore m xs n ys → IsNeighbour s p q → entry_at c q ≡ entry_at c p → IsBesideMarked s c e n q
 spread_next s c e m n xs ys p q in_p f marked a near like =
     (λ is. (f.sound p in_p marked).other (sym like ∙ is), (p, near_back s p q in_p near, inr (sym like, a.kept p marked)))
 

@@ -11,7 +11,8 @@ use Rattle.tt_sgf.specs.Sizes.{point_count}
 use Rattle.tt_board.specs.Near.{IsNeighbour}
 use Rattle.tt_board.specs.Position.{Colouring}
 use Rattle.tt_board.specs.Reach.{entry_at}
-use Rattle.tt_board.specs.Chains.{AreLinked, name_at, root_of, IsNamed, touching, decided, is_liberty, liberty_count, stone_count, renamed, AreCounted, AreNamesBut}
+use Rattle.tt_board.specs.Chains.{AreLinked, name_at, root_of, IsNamed, touching, is_liberty, liberty_count, stone_count, renamed, AreCounted, AreNamesBut}
+use Rattle.tt_board.specs.Decided.{decided}
 use Rattle.tt_board.proofs.CountLemmas.{same_decided, count_same}
 use Rattle.tt_board.proofs.LiftLemmas.{near_back}
 use Rattle.tt_board.proofs.LinkLemmas.{linked_trans, linked_sym, linked_on, linked_self, named_bare}

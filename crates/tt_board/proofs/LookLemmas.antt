@@ -16,11 +16,11 @@ use Rattle.tt_board.specs.Near.{IsNeighbour}
 use Rattle.tt_board.specs.Position.{Colouring}
 use Rattle.tt_board.specs.Reach.{entry_at, Reaches}
 use Rattle.tt_board.specs.ReachLaws.{reaches_beside, reaches_on, reaches_all}
-use Rattle.tt_board.specs.Decided.{neighbour}
+use Rattle.tt_board.specs.Decided.{neighbour, decided, decided_is, decided_not}
 use Rattle.tt_board.specs.Play.{other, play_of}
 use Rattle.tt_board.specs.Chain.{IsLifted}
-use Rattle.tt_board.specs.Chains.{name_at, root_of, code_of, IsNamed, Touches, touching, decided, decided_is, is_liberty, liberty_count, AreNames, ChainBoard, IsChainBoard, IsEachOnce, count_beside}
-use Rattle.tt_board.proofs.CountLemmas.{decided_not, once_push, count_some, some_counted, another_counted, two_counted, in_list}
+use Rattle.tt_board.specs.Chains.{name_at, root_of, colour_number, IsNamed, Touches, touching, is_liberty, liberty_count, AreNames, ChainBoard, IsChainBoard, IsEachOnce, count_beside}
+use Rattle.tt_board.proofs.CountLemmas.{once_push, count_some, some_counted, another_counted, two_counted, in_list}
 use Rattle.tt_board.proofs.LinkLemmas.{linked_kept, reaches_linked, named_bare, bare_named, named_stone, stone_named, one_name}
 use Rattle.tt_board.proofs.LiftLemmas.{near_back, lifted_none, play_is}
 use Rattle.tt_board.proofs.PlayLemmas.{other_differs}
@@ -54,7 +54,7 @@ near_other s p q (in_q, inl (row, step)) same = let e = ap (λ x. x % s.columns)
 near_other s p q (in_q, inr (column, step)) same = let e = ap (λ x. x / s.columns) same in elim step [ inl h ↦ omega (arith, e, h) | inr h ↦ omega (arith, e, h) ]
 
 -- a code is of one colour
-code_colour : (e : Option Colour) (n : ℕ) (k : Colour) → IsNamed e n → n / 512 ≡ code_of k → e ≡ Some k
+code_colour : (e : Option Colour) (n : ℕ) (k : Colour) → IsNamed e n → n / 512 ≡ colour_number k → e ≡ Some k
 code_colour None n Black h code = absurd (omega arith)
 code_colour None n White h code = absurd (omega arith)
 code_colour (Some Black) n Black h code = refl
@@ -63,7 +63,7 @@ code_colour (Some Black) n White h code = absurd (omega arith)
 code_colour (Some White) n Black h code = absurd (omega arith)
 
 -- and a stone of a colour has that colour in its name
-pub colour_code : (e : Option Colour) (n : ℕ) (k : Colour) → IsNamed e n → e ≡ Some k → n / 512 ≡ code_of k
+pub colour_code : (e : Option Colour) (n : ℕ) (k : Colour) → IsNamed e n → e ≡ Some k → n / 512 ≡ colour_number k
 colour_code e n k h is = subst (λ x. IsNamed x n) is h
 
 -- a colouring in which some places are bare
@@ -162,7 +162,7 @@ module _ (b : ChainBoard) (k : Colour) (p : ℕ) (is : IsChainBoard b) (in_p : p
   counted_at m x some of = subst (λ y. name_at b.liberties (root_of y) ≡ liberty_count b.size b.names y) of (is.counted.liberties_true x (λ z. some (sym of ∙ z)))
 
   -- where no chain of the opponent's beside p has one liberty
-  module _ (strong : (m : ℕ) → Touches b.size b.names m p → m / 512 ≡ code_of (other k) → name_at b.liberties (root_of m) ≢ 1) where
+  module _ (strong : (m : ℕ) → Touches b.size b.names m p → m / 512 ≡ colour_number (other k) → name_at b.liberties (root_of m) ≢ 1) where
     -- each of the opponent's stones beside p reaches empty with the stone put
     theirs_reach : (q : ℕ) → IsNeighbour b.size p q → entry_at (set b.points p (Some k)) q ≡ Some (other k) → Reaches b.size (set b.points p (Some k)) q None
     theirs_reach q near' theirs =
@@ -174,7 +174,7 @@ module _ (b : ChainBoard) (k : Colour) (p : ℕ) (is : IsChainBoard b) (in_p : p
         more_liberties m q touch (λ e. strong m touch (colour_code _ _ (other k) (is.named.named q) mine) (counted_at m q some refl ∙ e)) some refl
 
     -- and a point beside p is empty or an own chain there has several: the stone is put and nothing goes
-    module _ (n : ℕ) (t : Touches b.size b.names n p) (way : (n ≡ 0) ⊎ ((n / 512 ≡ code_of k) × (name_at b.liberties (root_of n) ≢ 1))) where
+    module _ (n : ℕ) (t : Touches b.size b.names n p) (way : (n ≡ 0) ⊎ ((n / 512 ≡ colour_number k) × (name_at b.liberties (root_of n) ≢ 1))) where
       -- the stone reaches empty by that point or chain
       own_reaches : Reaches b.size (set b.points p (Some k)) p None
       own_reaches = elim way [
@@ -213,9 +213,9 @@ module _ (b : ChainBoard) (k : Colour) (p : ℕ) (is : IsChainBoard b) (in_p : p
         (lifted_none b.size put (other k) (length-set b.points p (Some k) ∙ is.fits)) (λ q near' theirs. inl (theirs_reach q near' theirs)) alone (λ _. inr free))
 
   module _ (near weak : List ℕ) (all : (m : ℕ) → Contains near m ↔ ((m ≢ 0) × (m ≢ 0) × Touches b.size b.names m p))
-      (last : (m : ℕ) → Contains weak m ↔ (Contains near m × (m / 512 ≡ code_of (other k)) × (name_at b.liberties (root_of m) ≡ 1))) where
+      (last : (m : ℕ) → Contains weak m ↔ (Contains near m × (m / 512 ≡ colour_number (other k)) × (name_at b.liberties (root_of m) ≡ 1))) where
     -- the opponent's chains that go
-    weak_is : (m : ℕ) → Contains weak m → (m ≢ 0) × Touches b.size b.names m p × (m / 512 ≡ code_of (other k)) × (liberty_count b.size b.names m ≡ 1)
+    weak_is : (m : ℕ) → Contains weak m → (m ≢ 0) × Touches b.size b.names m p × (m / 512 ≡ colour_number (other k)) × (liberty_count b.size b.names m ≡ 1)
     weak_is m has =
         let h = (last m).0 has in let t = (all m).0 h.0 in
         (t.0, t.2, h.1, sym (counted_at m t.2.0 t.0 t.2.2.1) ∙ h.2)
@@ -294,7 +294,7 @@ module _ (b : ChainBoard) (k : Colour) (p : ℕ) (is : IsChainBoard b) (in_p : p
         (taken_kept q (λ has. (weak_is _ has).0 (named_bare _ _ (is.named.named q) bare)) ∙ off q apart ∙ bare)
 
     -- so is one that an own chain reaches, where none is captured
-    pub own_by_chain : ((m : ℕ) → Contains weak m → ⊥) → (m : ℕ) → Contains near m → m / 512 ≡ code_of k → name_at b.liberties (root_of m) ≢ 1 → Reaches b.size taken p None
+    pub own_by_chain : ((m : ℕ) → Contains weak m → ⊥) → (m : ℕ) → Contains near m → m / 512 ≡ colour_number k → name_at b.liberties (root_of m) ≢ 1 → Reaches b.size taken p None
     own_by_chain nobody m has code several =
         let h = (all m).0 has in
         let r = h.2.0 in
@@ -338,11 +338,11 @@ module _ (b : ChainBoard) (k : Colour) (p : ℕ) (is : IsChainBoard b) (in_p : p
         }
 
     -- ---- suicide: none of the opponent's goes, no point beside p is empty, and p is the one liberty of each own chain beside it
-    module _ (mine : List ℕ) (last_mine : (m : ℕ) → Contains mine m ↔ (Contains near m × (m / 512 ≡ code_of k) × (name_at b.liberties (root_of m) ≡ 1)))
+    module _ (mine : List ℕ) (last_mine : (m : ℕ) → Contains mine m ↔ (Contains near m × (m / 512 ≡ colour_number k) × (name_at b.liberties (root_of m) ≡ 1)))
         (nobody : (m : ℕ) → Contains weak m → ⊥) (filled : (q : ℕ) → IsNeighbour b.size p q → entry_at b.points q ≢ None)
-        (none_more : (m : ℕ) → Contains near m → m / 512 ≡ code_of k → name_at b.liberties (root_of m) ≡ 1) where
+        (none_more : (m : ℕ) → Contains near m → m / 512 ≡ colour_number k → name_at b.liberties (root_of m) ≡ 1) where
       -- one's own chains that go
-      mine_is : (m : ℕ) → Contains mine m → (m ≢ 0) × Touches b.size b.names m p × (m / 512 ≡ code_of k) × (liberty_count b.size b.names m ≡ 1)
+      mine_is : (m : ℕ) → Contains mine m → (m ≢ 0) × Touches b.size b.names m p × (m / 512 ≡ colour_number k) × (liberty_count b.size b.names m ≡ 1)
       mine_is m has =
           let h = (last_mine m).0 has in let t = (all m).0 h.0 in
           (t.0, t.2, h.1, sym (counted_at m t.2.0 t.0 t.2.2.1) ∙ h.2)
@@ -468,18 +468,18 @@ none_empty s c ns p names none q near bare =
 -- those of the first chains of a list that are of a colour and have one liberty
 pub record LastOnes (near liberties : List ℕ) (k : Colour) (i : ℕ) (found : List ℕ) : Type 0 where
   pub room : length found ≤ i
-  pub only : (m : ℕ) → Contains found m → (j : ℕ) × (j < i) × (name_at near j ≡ m) × (m / 512 ≡ code_of k) × (name_at liberties (root_of m) ≡ 1)
-  pub all : (j : ℕ) → j < i → name_at near j / 512 ≡ code_of k → name_at liberties (root_of (name_at near j)) ≡ 1 → Contains found (name_at near j)
+  pub only : (m : ℕ) → Contains found m → (j : ℕ) × (j < i) × (name_at near j ≡ m) × (m / 512 ≡ colour_number k) × (name_at liberties (root_of m) ≡ 1)
+  pub all : (j : ℕ) → j < i → name_at near j / 512 ≡ colour_number k → name_at liberties (root_of (name_at near j)) ≡ 1 → Contains found (name_at near j)
   pub once : IsEachOnce found
 
 -- one more that is of the colour and has one liberty
 pub last_more : (near liberties : List ℕ) (k : Colour) (i : ℕ) (found : List ℕ) → LastOnes near liberties k i found → IsEachOnce near → i < length near
-    → name_at near i / 512 ≡ code_of k → name_at liberties (root_of (name_at near i)) ≡ 1 → LastOnes near liberties k (i + 1) (found ++ name_at near i ∷ [])
+    → name_at near i / 512 ≡ colour_number k → name_at liberties (root_of (name_at near i)) ≡ 1 → LastOnes near liberties k (i + 1) (found ++ name_at near i ∷ [])
 last_more near liberties k i found l once in' code one = record {
   room = omega (arith, length_push found (name_at near i), l.room);
   only = λ m has. elim (Contains-push_cases found (name_at near i) m has) [
     | inl old ↦ let h = l.only m old in (h.0, omega (arith, h.1), h.2, h.3, h.4)
-    | inr new ↦ (i, omega arith, new, subst (λ x. x / 512 ≡ code_of k) new code, subst (λ x. name_at liberties (root_of x) ≡ 1) new one)
+    | inr new ↦ (i, omega arith, new, subst (λ x. x / 512 ≡ colour_number k) new code, subst (λ x. name_at liberties (root_of x) ≡ 1) new one)
   ];
   all = λ j below c o. elim (cases_eq j i) [
     | inl same ↦ subst (λ x. Contains (found ++ name_at near i ∷ []) (name_at near x)) (sym same) (Contains-push found (name_at near i))
@@ -490,12 +490,12 @@ last_more near liberties k i found l once in' code one = record {
 
 -- one more that is not
 pub last_same : (near liberties : List ℕ) (k : Colour) (i : ℕ) (found : List ℕ) → LastOnes near liberties k i found
-    → (name_at near i / 512 ≡ code_of k → name_at liberties (root_of (name_at near i)) ≡ 1 → ⊥) → LastOnes near liberties k (i + 1) found
+    → (name_at near i / 512 ≡ colour_number k → name_at liberties (root_of (name_at near i)) ≡ 1 → ⊥) → LastOnes near liberties k (i + 1) found
 last_same near liberties k i found l isnt = record {
   room = omega (arith, l.room);
   only = λ m has. let h = l.only m has in (h.0, omega (arith, h.1), h.2, h.3, h.4);
   all = λ j below c o. elim (cases_eq j i) [
-    | inl same ↦ absurd (isnt (subst (λ x. name_at near x / 512 ≡ code_of k) same c) (subst (λ x. name_at liberties (root_of (name_at near x)) ≡ 1) same o))
+    | inl same ↦ absurd (isnt (subst (λ x. name_at near x / 512 ≡ colour_number k) same c) (subst (λ x. name_at liberties (root_of (name_at near x)) ≡ 1) same o))
     | inr apart ↦ l.all j (omega arith) c o
   ];
   once = l.once;
@@ -503,10 +503,10 @@ last_same near liberties k i found l isnt = record {
 
 -- all of the list's
 pub last_all : (near liberties : List ℕ) (k : Colour) (i : ℕ) (found : List ℕ) → LastOnes near liberties k i found → i ≡ length near
-    → (m : ℕ) → Contains found m ↔ (Contains near m × (m / 512 ≡ code_of k) × (name_at liberties (root_of m) ≡ 1))
+    → (m : ℕ) → Contains found m ↔ (Contains near m × (m / 512 ≡ colour_number k) × (name_at liberties (root_of m) ≡ 1))
 last_all near liberties k i found l end m = (
   λ has. let h = l.only m has in (subst (Contains near) h.2 (Contains-get_or near h.0 0 (omega (arith, h.1, end))), h.3, h.4),
   λ h.
       let is : name_at near h.0.0 ≡ m = get_or_default near h.0.0 0 m h.0.1 ∙ h.0.2 in
-      subst (Contains found) is (l.all h.0.0 (omega (arith, h.0.1, end)) (subst (λ x. x / 512 ≡ code_of k) (sym is) h.1) (subst (λ x. name_at liberties (root_of x) ≡ 1) (sym is) h.2)),
+      subst (Contains found) is (l.all h.0.0 (omega (arith, h.0.1, end)) (subst (λ x. x / 512 ≡ colour_number k) (sym is) h.1) (subst (λ x. name_at liberties (root_of x) ≡ 1) (sym is) h.2)),
 )

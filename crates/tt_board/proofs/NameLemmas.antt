@@ -10,9 +10,9 @@ use Rattle.std.proofs.lemmas.List.Sums.{count_by-le-length}
 use Rattle.tt_sgf.specs.declared.size.Size.{Size}
 use Rattle.tt_sgf.specs.Sizes.{point_count}
 use Rattle.tt_board.specs.Near.{IsNeighbour}
-use Rattle.tt_board.specs.Decided.{neighbour}
-use Rattle.tt_board.specs.Chains.{name_at, Touches, touching, decided, decided_is, is_liberty, liberty_count, IsEachOnce, is_new, count_beside}
-use Rattle.tt_board.proofs.CountLemmas.{same_decided, decided_not, count_change, count_same, count_both, count_within, in_list, once_push}
+use Rattle.tt_board.specs.Decided.{neighbour, decided, decided_is, decided_not}
+use Rattle.tt_board.specs.Chains.{name_at, Touches, touching, is_liberty, liberty_count, IsEachOnce, is_new, count_beside}
+use Rattle.tt_board.proofs.CountLemmas.{same_decided, count_change, count_same, count_both, count_within, in_list, once_push}
 use Rattle.tt_board.proofs.LiftLemmas.{near_back}
 
 -- a count over a list that has each neighbour once is a count of the points beside p

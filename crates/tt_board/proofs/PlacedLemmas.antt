@@ -10,7 +10,7 @@ use Rattle.tt_board.specs.Reach.{entry_at, Reaches}
 use Rattle.tt_board.specs.ReachLaws.{reaches_beside, reaches_on, reaches_all}
 use Rattle.tt_board.specs.Decided.{same_entry}
 use Rattle.tt_board.specs.Play.{IsAlive}
-use Rattle.tt_board.specs.Chains.{AreLinked, name_at, root_of, code_of, IsNamed, stone_count, renamed, AreCounted, AreNames, AreNamesBut, IsCountedBut, IsChainBoard}
+use Rattle.tt_board.specs.Chains.{AreLinked, name_at, root_of, colour_number, IsNamed, stone_count, renamed, AreCounted, AreNames, AreNamesBut, IsCountedBut, IsChainBoard}
 use Rattle.tt_board.proofs.LinkLemmas.{linked_self, linked_kept, named_bare, stone_named, one_name}
 use Rattle.tt_board.proofs.NameLemmas.{at_p, off_p}
 use Rattle.tt_board.proofs.JoinLemmas.{name_renamed, renamed_is, renamed_not, stones_others}
@@ -36,7 +36,7 @@ alive_fewer s c d alive fewer x in_x stone =
 
 module _ (s : Size) (c : Colouring) (ns : List ℕ) (k : Colour) (p e : ℕ) (in_p : p < point_count s) (fits : p < length c) (wide : p < length ns) (free : entry_at c p ≡ None)
     (names : AreNames s c ns) (rooted : (q : ℕ) → name_at ns q ≢ 0 → name_at ns (root_of (name_at ns q)) ≡ name_at ns q)
-    (living : e ≢ 0) (root_e : root_of e ≡ p) (coded : e / 512 ≡ code_of k) where
+    (living : e ≢ 0) (root_e : root_of e ≡ p) (coded : e / 512 ≡ colour_number k) where
   -- the point has no name yet, and no stone the new one
   pub bare_p : name_at ns p ≡ 0
   bare_p = named_bare _ _ (names.named p) free

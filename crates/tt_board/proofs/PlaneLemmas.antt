@@ -8,7 +8,7 @@ use Rattle.tt_board.specs.declared.Colour.TheVariants.{Black, White}
 use Rattle.tt_board.specs.Position.{Colouring}
 use Rattle.tt_board.specs.Reach.{entry_at}
 use Rattle.tt_board.specs.Play.{is_stone_of}
-use Rattle.tt_board.specs.Planes.{entry_of, shown, IsPlain}
+use Rattle.tt_board.specs.Planes.{entry_of_bits, shown, IsPlain}
 use Rattle.tt_sgf.specs.Words.{bit_in, AreSameBits, AreBitsOf}
 
 -- neither of two is so where not one of them is
@@ -22,14 +22,14 @@ unfolding shown
 length-shown n black white = length-map-range_with_len _ 0 n
 
 -- what is shown on a point is what its bits say
-pub entry_at-shown : (n : ℕ) (black white : List ℕ) (p : ℕ) → p < n → entry_at (shown n black white) p ≡ entry_of (bit_in black p) (bit_in white p)
+pub entry_at-shown : (n : ℕ) (black white : List ℕ) (p : ℕ) → p < n → entry_at (shown n black white) p ≡ entry_of_bits (bit_in black p) (bit_in white p)
 unfolding shown
-entry_at-shown n black white p in_p = get_or-map-range_with_len (λ q. entry_of (bit_in black q) (bit_in white q)) 0 n p p None in_p (omega arith)
+entry_at-shown n black white p in_p = get_or-map-range_with_len (λ q. entry_of_bits (bit_in black q) (bit_in white q)) 0 n p p None in_p (omega arith)
 
 -- a list with these entries is what the words show
-pub shown_from : (n : ℕ) (black white : List ℕ) (c : Colouring) → length c ≡ n → ((p : ℕ) → p < n → entry_at c p ≡ entry_of (bit_in black p) (bit_in white p)) → c ≡ shown n black white
+pub shown_from : (n : ℕ) (black white : List ℕ) (c : Colouring) → length c ≡ n → ((p : ℕ) → p < n → entry_at c p ≡ entry_of_bits (bit_in black p) (bit_in white p)) → c ≡ shown n black white
 unfolding shown
-shown_from n black white c fits each = fill_by_all (λ q. entry_of (bit_in black q) (bit_in white q)) c n None fits each
+shown_from n black white c fits each = fill_by_all (λ q. entry_of_bits (bit_in black q) (bit_in white q)) c n None fits each
 
 -- what is known of a list that words show
 module _ (n : ℕ) (black white : List ℕ) (c : Colouring) (is : shown n black white ≡ c) where
@@ -37,11 +37,11 @@ module _ (n : ℕ) (black white : List ℕ) (c : Colouring) (is : shown n black 
   pub count_is : length c ≡ n
   count_is = sym (ap length is) ∙ length-shown n black white
 
-  pub entry_is : (p : ℕ) → p < length c → entry_at c p ≡ entry_of (bit_in black p) (bit_in white p)
+  pub entry_is : (p : ℕ) → p < length c → entry_at c p ≡ entry_of_bits (bit_in black p) (bit_in white p)
   entry_is p in_c = sym (ap (λ xs. entry_at xs p) is) ∙ entry_at-shown n black white p (omega (arith, count_is))
 
 -- an entry is known by whose stone it is
-by_stones : (e : Option Colour) → entry_of (is_stone_of e Black) (is_stone_of e White) ≡ e
+by_stones : (e : Option Colour) → entry_of_bits (is_stone_of e Black) (is_stone_of e White) ≡ e
 by_stones None = refl
 by_stones (Some Black) = refl
 by_stones (Some White) = refl
@@ -110,13 +110,14 @@ bits_of n black white plain p lt = elim (cases_lt p n) [
       rw (past, plain.black_ends p above lt, plain.white_ends p above lt) (refl, refl)
 ]
   where
-    bits : (b w : Bool) → (b ≡ true → w ≡ false) → (b ≡ is_stone_of (entry_of b w) Black) × (w ≡ is_stone_of (entry_of b w) White)
+    bits : (b w : Bool) → (b ≡ true → w ≡ false) → (b ≡ is_stone_of (entry_of_bits b w) Black) × (w ≡ is_stone_of (entry_of_bits b w) White)
     bits true w apart = (refl, apart refl)
     bits false true apart = (refl, refl)
     bits false false apart = (refl, refl)
 
 -- each entry is what its bits say, past the last point too
-pub entry_by_bits : (n : ℕ) (black white : List ℕ) (c : Colouring) → shown n black white ≡ c → IsPlain n black white → (p : ℕ) → p < 384 → entry_at c p ≡ entry_of (bit_in black p) (bit_in white p)
+pub entry_by_bits : (n : ℕ) (black white : List ℕ) (c : Colouring) → shown n black white ≡ c → IsPlain n black white → (p : ℕ) → p < 384
+    → entry_at c p ≡ entry_of_bits (bit_in black p) (bit_in white p)
 entry_by_bits n black white c is plain p lt =
     let bits = bits_of n black white plain p lt in
     ap (λ xs. entry_at xs p) (sym is) ∙ sym (by_stones (entry_at (shown n black white) p)) ∙ rw (← bits.0, ← bits.1) refl

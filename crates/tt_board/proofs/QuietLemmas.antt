@@ -8,7 +8,7 @@ use Rattle.tt_board.specs.declared.Colour.{Colour}
 use Rattle.tt_board.specs.declared.Colour.TheVariants.{Black, White}
 use Rattle.tt_board.specs.declared.quiet.TheConstants.{NOWHERE}
 use Rattle.tt_board.specs.Near.{IsNeighbour, IsOneOf}
-use Rattle.tt_board.specs.Chains.{name_at, root_of, code_of, Touches, IsOneName}
+use Rattle.tt_board.specs.Chains.{name_at, root_of, colour_number, Touches, IsOneName}
 
 module _ (s : Size) (ns : List ℕ) (p m : ℕ) where
   -- what is on a place that is there touches p
@@ -41,7 +41,7 @@ module _ (s : Size) (ns : List ℕ) (p m : ℕ) where
   )
 
 -- a name of a colour's code is of a chain
-pub coded : (m : ℕ) (k : Colour) → m / 512 ≡ code_of k → m ≢ NOWHERE
+pub coded : (m : ℕ) (k : Colour) → m / 512 ≡ colour_number k → m ≢ NOWHERE
 coded m Black code is = omega (arith, code, is)
 coded m White code is = omega (arith, code, is)
 

@@ -59,7 +59,7 @@ abbrev pub AreAlikeBy : ℕ → ℕ → Colouring → Colouring → Type 0
 AreAlikeBy word from here there = (i : ℕ) → i < 64 → bit_at word i ≡ 0 → entry_at here (from + i) ≡ entry_at there (from + i)
 
 -- the edits from one place on finish a colouring next, and lead on from it behind another place
-pub record IsNext (es : List Edit) (from to : ℕ) (c next : Colouring) : Type 0 where
+pub record FinishesNext (es : List Edit) (from to : ℕ) (c next : Colouring) : Type 0 where
   pub on : from < to
   pub inside : to ≤ length es
   pub colourings : colourings_from c (drop from es) ≡ next ∷ colourings_from next (drop to es)

@@ -20,8 +20,8 @@ abbrev pub IsLinked : Size → Colouring → ℕ → ℕ → Type 0
 IsLinked s c start p = (p < point_count s) × (entry_at c p ≡ entry_at c start) × (Reaches s c p None → Reaches s c start None)
 
 -- marks as bits in words
-unfoldable pub marks_of : List ℕ → List Bool
-marks_of words = map (bit_in words) (range_with_len 0 MOST_POINTS)
+unfoldable pub marks_on : List ℕ → List Bool
+marks_on words = map (bit_in words) (range_with_len 0 MOST_POINTS)
 
 -- a list that is being found: each marked point is in it, and there is room for the others
 pub record IsGrowing (marks : List Bool) (chain : List ℕ) : Type 0 where
@@ -30,7 +30,7 @@ pub record IsGrowing (marks : List Bool) (chain : List ℕ) : Type 0 where
   pub listed : (p : ℕ) → IsTrue (is_marked marks p) → Contains chain p
 
 -- the list grew at its end, by neighbours of p that are like it
-pub record IsGrown (s : Size) (c : Colouring) (p : ℕ) (before after : List ℕ) : Type 0 where
+pub record GrewByNeighbours (s : Size) (c : Colouring) (p : ℕ) (before after : List ℕ) : Type 0 where
   pub more : List ℕ
   pub longer : after ≡ before ++ more
   pub added : (q : ℕ) → Contains after q → Contains before q ⊎ (IsNeighbour s p q × (entry_at c q ≡ entry_at c p))

@@ -1,8 +1,7 @@
 -- Chains (the rules of Go): their stones and liberties, and the names by which a board finds them. Private contracts alone cite these.
 use Rattle.std.specs.Prelude.{◌≡◌, ◌≢◌, ℕ, ◌%◌, ◌/◌, ◌<◌, ◌⊎◌, ◌↔◌, ◌==◌, ◌&&◌, List, [], ◌∷◌, length, Option, Some, None, Bool, true, false, not, Contains, if◌then◌else◌, count_by, slice_index_or}
 use Rattle.std.specs.List.{range_with_len}
-use Rattle.std.proofs.Common.{inl, inr, refl}
-use Rattle.std.proofs.lemmas.Bool.{cases_eq, false≢true}
+use Rattle.std.proofs.lemmas.Bool.{cases_eq}
 use Rattle.tt_board.specs.declared.Colour.{Colour}
 use Rattle.tt_board.specs.declared.Colour.TheVariants.{Black, White}
 use Rattle.tt_sgf.specs.declared.size.Size.{Size}
@@ -11,7 +10,7 @@ use Rattle.tt_board.specs.Near.{IsNeighbour}
 use Rattle.tt_board.specs.Position.{Colouring}
 use Rattle.tt_board.specs.Reach.{entry_at}
 use Rattle.tt_board.specs.Play.{IsAlive}
-use Rattle.tt_board.specs.Decided.{Decision, both, some_below, neighbour}
+use Rattle.tt_board.specs.Decided.{Decision, both, some_below, neighbour, decided}
 
 -- a path of adjacent points of one colour leads from p to q
 abbrev pub Leads : Size → Colouring → ℕ → List ℕ → ℕ → Type 0
@@ -45,14 +44,14 @@ abbrev pub root_of : ℕ → ℕ
 root_of e = e % 512
 
 -- a colour as part of a name
-abbrev pub code_of : Colour → ℕ
-code_of Black = 1
-code_of White = 2
+abbrev pub colour_number : Colour → ℕ
+colour_number Black = 1
+colour_number White = 2
 
 -- a name fits what stands on a place
 abbrev pub IsNamed : Option Colour → ℕ → Type 0
 IsNamed None e = e ≡ 0
-IsNamed (Some k) e = e / 512 ≡ code_of k
+IsNamed (Some k) e = e / 512 ≡ colour_number k
 
 -- the names name the chains: two stones have one name exactly where they are of one chain
 pub record AreNames (s : Size) (c : Colouring) (ns : List ℕ) : Type 0 where
@@ -69,16 +68,6 @@ touching s ns e q = some_below (λ r. IsNeighbour s q r × (name_at ns r ≡ e))
   where
     same : (a b : ℕ) → Decision (a ≡ b)
     same a b = cases_eq a b
-
--- the answer of a decision
-pub decided : {P : Type 0} → Decision P → Bool
-decided (inl _) = true
-decided (inr _) = false
-
-pub decided_is : {P : Type 0} (d : Decision P) → (decided d ≡ true → P) × (P → decided d ≡ true)
-unfolding decided
-decided_is (inl p) = (λ _. p, λ _. refl)
-decided_is (inr n) = (λ h. absurd (false≢true h), λ p. absurd (n p))
 
 -- q is a liberty of chain e: an empty point beside one of its stones
 abbrev pub is_liberty : Size → List ℕ → ℕ → ℕ → Bool

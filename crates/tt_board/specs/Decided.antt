@@ -10,12 +10,29 @@ use Rattle.tt_sgf.specs.Sizes.{point_count}
 use Rattle.tt_board.specs.Near.{IsBeside, IsNeighbour}
 use Rattle.tt_board.specs.Position.{Colouring}
 use Rattle.tt_board.specs.Reach.{entry_at, Reaches}
-use Rattle.tt_board.specs.Fill.{is_marked, IsNext, IsSound, IsFilled, unmarked_count}
+use Rattle.tt_board.specs.Fill.{is_marked, IsBesideMarked, IsSound, IsFilled, unmarked_count}
 use Rattle.tt_board.specs.ReachLaws.{sound_more, unmarked_fewer, filled}
 
 -- a fact, or that it doesn't hold
 abbrev pub Decision : Type 0 → Type 0
 Decision P = P ⊎ (P → ⊥)
+
+-- a decision as a test
+pub decided : {P : Type 0} → Decision P → Bool
+decided (inl _) = true
+decided (inr _) = false
+
+-- the test is true exactly where the fact holds
+pub decided_is : {P : Type 0} (d : Decision P) → (decided d ≡ true → P) × (P → decided d ≡ true)
+unfolding decided
+decided_is (inl p) = (λ _. p, λ _. refl)
+decided_is (inr n) = (λ h. absurd (false≢true h), λ p. absurd (n p))
+
+-- and false where it doesn't
+pub decided_not : {P : Type 0} (d : Decision P) → (P → ⊥) → decided d ≡ false
+unfolding decided
+decided_not (inl p) none = absurd (none p)
+decided_not (inr _) none = refl
 
 -- both of two facts, one of them, or the opposite of one, decided by deciding these
 pub both : {P Q : Type 0} → Decision P → Decision Q → Decision (P × Q)
@@ -72,7 +89,7 @@ neighbour s p q = both (below q (point_count s))
 
 module _ (s : Size) (c : Colouring) (e : Option Colour) where
   -- whether a fill may mark p next
-  next : (m : List Bool) (p : ℕ) → Decision (IsNext s c e m p)
+  next : (m : List Bool) (p : ℕ) → Decision (IsBesideMarked s c e m p)
   next m p = elim (denied (same_entry (entry_at c p) e)) [
     | inr same ↦ inr (λ h. same h.0)
     | inl other ↦ elim (some_below (λ q. IsNeighbour s p q × ((entry_at c q ≡ e) ⊎ ((entry_at c q ≡ entry_at c p) × IsTrue (is_marked m q))))
@@ -90,7 +107,7 @@ module _ (s : Size) (c : Colouring) (e : Option Colour) where
       → (m' : List Bool) × IsFilled s c e m'
   grown zero m fits sound enough = absurd (omega arith)
   grown (suc room) m fits sound enough =
-      elim (some_below (λ p. IsNext s c e m p × (is_marked m p ≡ false)) (λ p. both (next m p) (bare p)) (point_count s)) [
+      elim (some_below (λ p. IsBesideMarked s c e m p × (is_marked m p ≡ false)) (λ p. both (next m p) (bare p)) (point_count s)) [
         | inl h ↦ grown room (slice_set m h.0 true) (length-set m h.0 true ∙ fits)
             (sound_more s c e m h.0 (omega (arith, h.1)) sound h.2.0) (omega (arith, unmarked_fewer m h.0 (omega (arith, h.1)) h.2.1))
         | inr none ↦ (m, filled s c e m sound (λ p in_p nx. elim (cases_Bool (is_marked m p)) [ inl on ↦ on | inr off ↦ absurd (none (p, in_p, (nx, off))) ]))

@@ -13,8 +13,8 @@ abbrev pub is_marked : List Bool → ℕ → Bool
 is_marked m p = slice_index_or m p false
 
 -- p, which is not e, is beside a point that is e, or beside a marked one that is like p
-abbrev pub IsNext : Size → Colouring → Option Colour → List Bool → ℕ → Type 0
-IsNext s c e m p =
+abbrev pub IsBesideMarked : Size → Colouring → Option Colour → List Bool → ℕ → Type 0
+IsBesideMarked s c e m p =
     (entry_at c p ≢ e) × ((q : ℕ) × IsNeighbour s p q × ((entry_at c q ≡ e) ⊎ ((entry_at c q ≡ entry_at c p) × IsTrue (is_marked m q))))
 
 -- only points that reach e are marked
@@ -23,7 +23,7 @@ IsSound s c e m = (p : ℕ) → p < point_count s → IsTrue (is_marked m p) →
 
 -- all that is next to what is marked is marked
 abbrev pub IsClosed : Size → Colouring → Option Colour → List Bool → Type 0
-IsClosed s c e m = (p : ℕ) → p < point_count s → IsNext s c e m p → IsTrue (is_marked m p)
+IsClosed s c e m = (p : ℕ) → p < point_count s → IsBesideMarked s c e m p → IsTrue (is_marked m p)
 
 -- exactly the points that reach e are marked
 abbrev pub IsFilled : Size → Colouring → Option Colour → List Bool → Type 0

@@ -10,14 +10,14 @@ use Rattle.tt_board.specs.declared.Colour.TheVariants.{Black, White}
 use Rattle.tt_board.specs.Position.{Colouring}
 
 -- what stands on a point, by its bits
-abbrev pub entry_of : Bool → Bool → Option Colour
-entry_of true w = Some Black
-entry_of false true = Some White
-entry_of false false = None
+abbrev pub entry_of_bits : Bool → Bool → Option Colour
+entry_of_bits true w = Some Black
+entry_of_bits false true = Some White
+entry_of_bits false false = None
 
 -- the colouring of the first points
 unfoldable pub shown : ℕ → List ℕ → List ℕ → Colouring
-shown count black white = map (λ p. entry_of (bit_in black p) (bit_in white p)) (range_with_len 0 count)
+shown count black white = map (λ p. entry_of_bits (bit_in black p) (bit_in white p)) (range_with_len 0 count)
 
 -- no point has both bits, and those past the last point are 0
 pub record IsPlain (count : ℕ) (black white : List ℕ) : Type 0 where

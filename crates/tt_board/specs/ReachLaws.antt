@@ -10,7 +10,7 @@ use Rattle.tt_sgf.specs.Sizes.{point_count}
 use Rattle.tt_board.specs.Near.{IsNeighbour}
 use Rattle.tt_board.specs.Position.{Colouring}
 use Rattle.tt_board.specs.Reach.{entry_at, IsPath, last_of, Reaches}
-use Rattle.tt_board.specs.Fill.{is_marked, IsNext, IsSound, IsClosed, IsFilled, unmarked_count}
+use Rattle.tt_board.specs.Fill.{is_marked, IsBesideMarked, IsSound, IsClosed, IsFilled, unmarked_count}
 
 module _ (s : Size) (c : Colouring) (e : Option Colour) where
   -- a point beside one with entry e reaches it
@@ -54,7 +54,7 @@ module _ (s : Size) (c : Colouring) (e : Option Colour) where
       (λ h. other (sym same ∙ h)) found near has)
 
   -- a step of the fill marks only what reaches e
-  pub next_reaches : (m : List Bool) (p : ℕ) → IsSound s c e m → IsNext s c e m p → Reaches s c p e
+  pub next_reaches : (m : List Bool) (p : ℕ) → IsSound s c e m → IsBesideMarked s c e m p → Reaches s c p e
   next_reaches m p sound (other, (q, near, inl has)) = reaches_beside p q other near has
   next_reaches m p sound (other, (q, near, inr like)) = reaches_on p q near like.0 (sound q near.0 like.1)
 
@@ -70,7 +70,7 @@ module _ (s : Size) (c : Colouring) (e : Option Colour) where
   )
 
   -- a point that is next may be marked
-  pub sound_more : (m : List Bool) (p : ℕ) → p < length m → IsSound s c e m → IsNext s c e m p → IsSound s c e (set m p true)
+  pub sound_more : (m : List Bool) (p : ℕ) → p < length m → IsSound s c e m → IsBesideMarked s c e m p → IsSound s c e (set m p true)
   sound_more m p in_m sound next q in_q marked =
       elim (cases_eq q p) [
         | inl same ↦ subst (λ x. Reaches s c x e) (sym same) (next_reaches m p sound next)
@@ -78,11 +78,11 @@ module _ (s : Size) (c : Colouring) (e : Option Colour) where
       ]
 
   -- the points looked at so far are closed, and so is the next one
-  pub closed_more : (m : List Bool) (p : ℕ) → ((k : ℕ) → k < p → IsNext s c e m k → IsTrue (is_marked m k))
-      → (IsNext s c e m p → IsTrue (is_marked m p)) → (k : ℕ) → k < p + 1 → IsNext s c e m k → IsTrue (is_marked m k)
+  pub closed_more : (m : List Bool) (p : ℕ) → ((k : ℕ) → k < p → IsBesideMarked s c e m k → IsTrue (is_marked m k))
+      → (IsBesideMarked s c e m p → IsTrue (is_marked m p)) → (k : ℕ) → k < p + 1 → IsBesideMarked s c e m k → IsTrue (is_marked m k)
   closed_more m p before here k below next =
       elim (cases_eq k p) [
-        | inl same ↦ subst (λ x. IsTrue (is_marked m x)) (sym same) (here (subst (λ x. IsNext s c e m x) same next))
+        | inl same ↦ subst (λ x. IsTrue (is_marked m x)) (sym same) (here (subst (λ x. IsBesideMarked s c e m x) same next))
         | inr apart ↦ before k (omega arith) next
       ]
 

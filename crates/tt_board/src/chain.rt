@@ -5,7 +5,7 @@ ghost use Rattle.tt_sgf.specs.declared.size.TheConstants.{MOST_POINTS};
 ghost use Rattle.tt_sgf.specs.Sizes.{point_count};
 ghost use Rattle.tt_board.specs.Near.{IsOneOf};
 ghost use Rattle.tt_board.specs.Reach.{entry_at, Reaches};
-ghost use Rattle.tt_board.specs.Chain.{IsEnclosed, IsGrowing, IsGrown, IsVisited, IsEmptyAt, IsClosedAt, marks_of, IsLifelessChain, IsChainLifted};
+ghost use Rattle.tt_board.specs.Chain.{IsEnclosed, IsGrowing, GrewByNeighbours, IsVisited, IsEmptyAt, IsClosedAt, marks_on, IsLifelessChain, IsChainLifted};
 
 use super::Colour;
 use super::colouring::Colouring;
@@ -23,8 +23,8 @@ fn visit(
 ) -> bool
     requires small { length points.now ≤ MOST_POINTS }
     requires on_board { (q : ℕ) → place ≡ Some q → q < length points.now }
-    requires growing { IsGrowing (marks_of marks.old.words) chain.old.items }
-    ensures still_growing { IsGrowing (marks_of marks.new.words) chain.new.items }
+    requires growing { IsGrowing (marks_on marks.old.words) chain.old.items }
+    ensures still_growing { IsGrowing (marks_on marks.new.words) chain.new.items }
     ensures visited { IsVisited points.now own place chain.old.items chain.new.items }
     ensures liberty { IsTrue result → IsEmptyAt points.now place }
     ensures enclosed { result ≡ false → IsClosedAt points.now own chain.new.items place }
@@ -56,9 +56,9 @@ fn grow(
     requires on_board { p < point_count size }
     requires stone { entry_at points.now p ≢ None }
     requires like { own ≡ entry_at points.now p }
-    requires growing { IsGrowing (marks_of marks.old.words) chain.old.items }
-    ensures still_growing { IsGrowing (marks_of marks.new.words) chain.new.items }
-    ensures grown { IsGrown size points.now p chain.old.items chain.new.items }
+    requires growing { IsGrowing (marks_on marks.old.words) chain.old.items }
+    ensures still_growing { IsGrowing (marks_on marks.new.words) chain.new.items }
+    ensures grown { GrewByNeighbours size points.now p chain.old.items chain.new.items }
     ensures liberty { IsTrue result → Reaches size points.now p None }
     ensures enclosed { result ≡ false → IsEnclosed size points.now chain.new.items p }
 {

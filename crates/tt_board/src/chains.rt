@@ -7,7 +7,7 @@ ghost use Rattle.tt_sgf.specs.Sizes.{point_count};
 ghost use Rattle.tt_board.specs.Reach.{entry_at};
 ghost use Rattle.tt_board.specs.Play.{IsAlive, play_of};
 ghost use Rattle.tt_board.specs.Glance.{IsTold};
-ghost use Rattle.tt_board.specs.Chains.{name_at, root_of, code_of, renamed, IsEachOnce, IsCountOf, IsLibertyOf, AreLinked};
+ghost use Rattle.tt_board.specs.Chains.{name_at, root_of, colour_number, renamed, IsEachOnce, IsCountOf, IsLibertyOf, AreLinked};
 
 use super::Colour;
 use super::captures::{lift_chain, release};
@@ -15,7 +15,7 @@ use super::colouring::Colouring;
 use super::joins::{join_beside, start};
 use super::looks::{Look, has_more, last_liberty};
 use super::names::{chains_beside, empty_beside, root_of};
-use super::quiet::{Glance, code_of, names_beside};
+use super::quiet::{Glance, colour_number, names_beside};
 use std::marker::Model;
 use tt_sgf::Size;
 
@@ -50,7 +50,7 @@ fn zeros() -> [u16; 361]
 /// The name of a new chain of this colour with its root on `p`.
 fn new_name(colour: Colour, p: usize) -> u16
     requires { p < 361 }
-    ensures colour { result / 512 ≡ code_of colour }
+    ensures colour { result / 512 ≡ colour_number colour }
     ensures root { root_of result ≡ p }
     ensures living { 512 ≤ result }
 {
@@ -189,13 +189,13 @@ impl Chains {
         ensures told { IsTold result self.now.size self.now.points colour p }
     {
         let near = names_beside(self.size, &self.names, p);
-        if near.has_last(&self.liberties, code_of(colour.other())) {
+        if near.has_last(&self.liberties, colour_number(colour.other())) {
             return Glance::Unclear;
         }
-        if near.has_open(&self.liberties, code_of(colour)) {
+        if near.has_open(&self.liberties, colour_number(colour)) {
             return Glance::Quiet;
         }
-        if near.has_own(code_of(colour)) {
+        if near.has_own(colour_number(colour)) {
             return Glance::Unclear;
         }
         Glance::Vain

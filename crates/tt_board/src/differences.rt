@@ -4,7 +4,7 @@ ghost use Rattle.std.specs.Prelude.{◌≡◌, ◌+◌, ◌<◌, ◌≤◌, ◌�
 ghost use Rattle.tt_sgf.specs.declared.size.TheConstants.{MOST_POINTS};
 ghost use Rattle.tt_board.specs.Position.{Colouring as Entries};
 ghost use Rattle.tt_board.specs.Differences.{edited, colourings_from};
-ghost use Rattle.tt_board.specs.Boards.{edit_at, edit_of, led, IsLed, IsHalf, AreAlikeBy, IsNext, IsLast};
+ghost use Rattle.tt_board.specs.Boards.{edit_at, edit_of, led, IsLed, IsHalf, AreAlikeBy, FinishesNext, IsLast};
 ghost use Rattle.tt_board.specs.declared.differences.TheConstants.{PLACES};
 
 use super::Colour;
@@ -192,7 +192,7 @@ impl Differences {
     pub(crate) fn lead(&self, from: usize, points: &mut Colouring) -> Option<usize>
         requires { from ≤ length self.now }
         ensures next { MatchOption result (IsLast self.now from points.old points.new)
-            (λ to. IsNext self.now from to points.old points.new) }
+            (λ to. FinishesNext self.now from to points.old points.new) }
         ensures fits { length points.new ≡ length points.old }
     {
         let mut at = from;

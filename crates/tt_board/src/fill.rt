@@ -4,7 +4,7 @@
 ghost use Rattle.std.specs.Prelude.{◌≡◌, ℕ, ◌<◌, ◌≤◌, ◌↔◌, length, Option, IsTrue};
 ghost use Rattle.tt_sgf.specs.declared.size.TheConstants.{MOST_POINTS};
 ghost use Rattle.tt_sgf.specs.Sizes.{point_count};
-ghost use Rattle.tt_board.specs.Fill.{is_marked, IsNext, IsFilled};
+ghost use Rattle.tt_board.specs.Fill.{is_marked, IsBesideMarked, IsFilled};
 ghost use Rattle.tt_board.specs.Chain.{IsGrowing};
 ghost use Rattle.tt_board.specs.Filling.{IsEdge, IsFilling, IsListed, IsMore, IsSpread};
 
@@ -24,7 +24,7 @@ fn is_next(
     requires points_fit { length points.now ≡ point_count size }
     requires marks_fit { point_count size ≤ length marks.now }
     requires on_board { p < point_count size }
-    ensures { IsTrue result ↔ IsNext size points.now wanted marks.now p }
+    ensures { IsTrue result ↔ IsBesideMarked size points.now wanted marks.now p }
 {
     let own = points[p];
     if own == wanted {

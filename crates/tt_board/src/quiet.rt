@@ -3,7 +3,7 @@
 ghost use Rattle.std.specs.Prelude.{◌≡◌, ◌≢◌, ℕ, ◌/◌, ◌<◌, ◌≤◌, ◌⊎◌, ◌↔◌, length, IsTrue, Some, MatchOption, false};
 ghost use Rattle.tt_sgf.specs.Sizes.{point_count};
 ghost use Rattle.tt_board.specs.declared.quiet.TheConstants.{NOWHERE};
-ghost use Rattle.tt_board.specs.Chains.{name_at, root_of, code_of, Touches, IsOneName};
+ghost use Rattle.tt_board.specs.Chains.{name_at, root_of, colour_number, Touches, IsOneName};
 
 use super::Colour;
 use super::names::root_of;
@@ -35,8 +35,8 @@ pub(crate) struct Names {
 
 /// A colour as part of a name.
 #[inline]
-pub(crate) fn code_of(colour: Colour) -> u16
-    ensures { result ≡ code_of colour }
+pub(crate) fn colour_number(colour: Colour) -> u16
+    ensures { result ≡ colour_number colour }
 {
     match colour {
         Colour::Black => 1,

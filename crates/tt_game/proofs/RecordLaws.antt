@@ -16,7 +16,7 @@ use Rattle.tt_sgf.specs.declared.size.PointOrPass.TheVariants as values
 use Rattle.tt_sgf.specs.declared.nodes.Node.{Node}
 use Rattle.tt_sgf.specs.Sizes.{point_count, sized}
 use Rattle.tt_sgf.specs.SizeLaws.{sized_is}
-use Rattle.tt_sgf.specs.Values.{place, point_of, trimmed}
+use Rattle.tt_sgf.specs.Values.{lettered_point, point_of, trimmed}
 use Rattle.tt_board.specs.declared.Colour.{Colour}
 use Rattle.tt_board.specs.declared.Colour.TheVariants.{Black, White}
 use Rattle.tt_board.specs.Position.{Colouring}
@@ -163,7 +163,7 @@ turns_by r k t q on e = elim (choice (same_colour r.game.to_move k) _ _ _ e) [
 ]
 
 -- the point of two letters is on the board
-place_on : (size : Size) (c d p : ℕ) → place size c d ≡ Some (On p) → p < point_count size
+place_on : (size : Size) (c d p : ℕ) → lettered_point size c d ≡ Some (On p) → p < point_count size
 place_on size c d p e = elim (choice ((nat_le 97 c && nat_lt (c - 97) size.columns) && (nat_le 97 d && nat_lt (d - 97) size.rows)) _ _ _ e) [
   | inr not_ ↦ let bad : None ≡ Some (On p) = not_.1 in cc
   | inl is ↦

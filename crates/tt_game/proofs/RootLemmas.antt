@@ -10,26 +10,26 @@ use Rattle.tt_game.specs.declared.line.Undo.TheVariants.{UndoPlay, UndoPass}
 use Rattle.tt_game.specs.Game.{State, history, opponent}
 use Rattle.tt_game.specs.Course.{Course, so_far, colourings, with_play, with_pass}
 use Rattle.tt_game.specs.Undoing.{course_of, state_at, undone, board_on, last, IsUndoable}
-use Rattle.tt_game.specs.Roots.{Begins, AreRooted}
+use Rattle.tt_game.specs.Roots.{BoardsBegin, AreRooted}
 use Rattle.tt_game.proofs.CourseLemmas.{length-colourings, course_from, front_push, last_push, history_is, same_boards, twice}
 
 -- a history has at least as many colourings as boards that it begins with
-pub begins_long : (bs : List Position) (h : List Colouring) → Begins bs h → length bs ≤ length h
+pub begins_long : (bs : List Position) (h : List Colouring) → BoardsBegin bs h → length bs ≤ length h
 begins_long bs h b =
     let e : min (length bs) (length h) ≡ length bs = sym (length-take (length bs) h) ∙ ap length b ∙ length-colourings bs in
     omega (arith, e)
 
 -- a history that goes on begins as it did
-pub begins_on : (bs : List Position) (h t : List Colouring) → Begins bs h → Begins bs (h ++ t)
+pub begins_on : (bs : List Position) (h t : List Colouring) → BoardsBegin bs h → BoardsBegin bs (h ++ t)
 begins_on bs h t b = take-append-le (length bs) h t (begins_long bs h b) ∙ b
 
 -- the present history begins with the root's boards
-pub rooted_here : (bs : List Position) (s : State) (us : List Undo) → AreRooted bs s us → Begins bs (history s)
+pub rooted_here : (bs : List Position) (s : State) (us : List Undo) → AreRooted bs s us → BoardsBegin bs (history s)
 rooted_here bs s [] r = r
 rooted_here bs s (u ∷ us) r = r.0
 
 -- a push that leads back to a rooted state, behind pushes that are rooted
-rooted_push : (bs : List Position) (s t : State) (u : Undo) (ps : List Undo) → undone t u ≡ s → Begins bs (history t) → AreRooted bs s (reverse ps)
+rooted_push : (bs : List Position) (s t : State) (u : Undo) (ps : List Undo) → undone t u ≡ s → BoardsBegin bs (history t) → AreRooted bs s (reverse ps)
     → AreRooted bs t (reverse (ps ++ u ∷ []))
 rooted_push bs s t u ps back here r =
     subst (λ us. AreRooted bs t us) (sym (reverse-append ps (u ∷ []))) (here, subst (λ z. AreRooted bs z (reverse ps)) (sym back) r)
@@ -80,7 +80,7 @@ undoable_play g c side ps next b below most here u =
     )
 
 -- boards that a history begins with and the boards behind them show the history
-pub begun_and_since : (bs there : List Position) → Begins bs (colourings there) → colourings (bs ++ drop (length bs) there) ≡ colourings there
+pub begun_and_since : (bs there : List Position) → BoardsBegin bs (colourings there) → colourings (bs ++ drop (length bs) there) ≡ colourings there
 begun_and_since bs there b =
     map-append (λ (x : Position). x.points) bs (drop (length bs) there)
     ∙ ap (λ cs. cs ++ colourings (drop (length bs) there)) (sym b)
@@ -88,7 +88,7 @@ begun_and_since bs there b =
     ∙ take-append-drop (length bs) (colourings there)
 
 -- what is kept of a course that begins with boards, those and the boards behind them, shows the course
-pub kept_shows : (c : Course) (bs there : List Position) (side : Side) → colourings there ≡ so_far c → Begins bs (so_far c)
+pub kept_shows : (c : Course) (bs there : List Position) (side : Side) → colourings there ≡ so_far c → BoardsBegin bs (so_far c)
     → state_at (course_of c.size (bs ++ drop (length bs) there) c.passes) side ≡ state_at c side
 kept_shows c bs there side e b =
     ap (λ (x : Course). state_at x side) (course_from (bs ++ drop (length bs) there) c (begun_and_since bs there (ap (take (length bs)) e ∙ b) ∙ e))

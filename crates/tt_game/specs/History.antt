@@ -1,21 +1,9 @@
 -- Whether a colouring is in a history.
 use Rattle.std.specs.Prelude.{◌≡◌, List, [], ◌∷◌, length, Bool, true, false, slice_index_or}
 use Rattle.std.proofs.Common.{inl, inr, refl}
-use Rattle.std.proofs.lemmas.Bool.{false≢true}
 use Rattle.tt_board.specs.Position.{Colouring}
 use Rattle.tt_game.specs.Course.{HasBeen}
-use Rattle.tt_board.specs.Decided.{Decision, some_below, same_entry}
-
--- a decision as a test
-pub decided : {P : Type 0} → Decision P → Bool
-decided (inl _) = true
-decided (inr _) = false
-
--- the test of a decided fact is true exactly where the fact holds, and false where it doesn't
-pub decided_is : {P : Type 0} (d : Decision P) → (decided d ≡ true → P) × (P → decided d ≡ true) × ((P → ⊥) → decided d ≡ false)
-unfolding decided
-decided_is (inl p) = (λ _. p, λ _. refl, λ h. absurd (h p))
-decided_is (inr h) = (λ e. absurd (false≢true e), λ p. absurd (h p), λ _. refl)
+use Rattle.tt_board.specs.Decided.{Decision, some_below, same_entry, decided, decided_is, decided_not}
 
 -- whether two colourings are equal
 pub same_colouring : (a b : Colouring) → Decision (a ≡ b)
@@ -39,4 +27,4 @@ repeats h c = decided (in_history h c)
 pub repeats_is : (h : List Colouring) (c : Colouring)
     → (repeats h c ≡ true → HasBeen h c) × (HasBeen h c → repeats h c ≡ true) × ((HasBeen h c → ⊥) → repeats h c ≡ false)
 unfolding repeats
-repeats_is h c = decided_is (in_history h c)
+repeats_is h c = ((decided_is (in_history h c)).0, (decided_is (in_history h c)).1, decided_not (in_history h c))

@@ -139,8 +139,8 @@ abbrev pub IsStopped : {A : Type 0} → GameFault → Result A GameFault → Typ
 IsStopped e want = (e ≡ NoMemory → ⊥) → want ≡ Err e
 
 -- a function returned what is wanted, or its error; but for want of memory
-abbrev pub Gives : {A : Type 0} → Result A GameFault → Result A GameFault → Type 0
-Gives result want = MatchResult result (λ x. want ≡ Ok x) (λ e. IsStopped e want)
+abbrev pub Returns : {A : Type 0} → Result A GameFault → Result A GameFault → Type 0
+Returns result want = MatchResult result (λ x. want ≡ Ok x) (λ e. IsStopped e want)
 
 -- a function changed its value to what is wanted, or returned the error; but for want of memory
 abbrev pub Becomes : {A B : Type 0} → Result B GameFault → A → Result A GameFault → Type 0

@@ -17,13 +17,13 @@ pub record Rooted : Type 0 where
   pub begun : List Position
 
 -- a history begins with the colourings of these boards
-abbrev pub Begins : List Position → List Colouring → Type 0
-Begins begun h = take (length begun) h ≡ colourings begun
+abbrev pub BoardsBegin : List Position → List Colouring → Type 0
+BoardsBegin begun h = take (length begun) h ≡ colourings begun
 
 -- the histories of a state, and of the states that pops lead back to, begin with these boards
 abbrev pub AreRooted : List Position → State → List Undo → Type 0
-AreRooted begun s [] = Begins begun (history s)
-AreRooted begun s (u ∷ us) = Begins begun (history s) × AreRooted begun (undone s u) us
+AreRooted begun s [] = BoardsBegin begun (history s)
+AreRooted begun s (u ∷ us) = BoardsBegin begun (history s) × AreRooted begun (undone s u) us
 
 -- the bits are 1 of all points where a stone of this colour stands on one of these boards; of others they may be 1 too
 abbrev pub AreStonesOf : Colour → List Position → List ℕ → Type 0

@@ -8,7 +8,7 @@ use Rattle.tt_game.specs.declared.turns.Turn.{Turn}
 use Rattle.tt_game.specs.declared.turns.Turn.TheVariants.{Play, Pass}
 use Rattle.tt_game.specs.declared.turns.Successor.{Successor}
 use Rattle.tt_game.specs.Game.{State, winner_of, after, IsLegal}
-use Rattle.tt_game.specs.History.{decided, decided_is}
+use Rattle.tt_board.specs.Decided.{decided, decided_is, decided_not}
 use Rattle.tt_game.specs.Legality.{legal}
 
 -- the turn is a pass or names a point of a board of this size
@@ -47,7 +47,7 @@ is_legal f s t = decided (legal f s t)
 -- the test is true exactly of the legal turns, and false of the others
 pub is_legal_is : (f : Frame) (s : State) (t : Turn) → (is_legal f s t ≡ true → IsLegal f s t) × (IsLegal f s t → is_legal f s t ≡ true) × ((IsLegal f s t → ⊥) → is_legal f s t ≡ false)
 unfolding is_legal
-is_legal_is f s t = decided_is (legal f s t)
+is_legal_is f s t = ((decided_is (legal f s t)).0, (decided_is (legal f s t)).1, decided_not (legal f s t))
 
 -- the legal turns, in the order of their numbers
 unfoldable pub legal_turns : Frame → State → List Turn

@@ -7,7 +7,7 @@ ghost use Rattle.tt_game.specs.Keys.{key_of};
 ghost use Rattle.tt_game.specs.Line.{IsPosition};
 ghost use Rattle.tt_game.specs.Undoing.{state_at};
 ghost use Rattle.tt_game.specs.Course.{so_far, colourings};
-ghost use Rattle.tt_game.specs.Roots.{Begins};
+ghost use Rattle.tt_game.specs.Roots.{BoardsBegin};
 
 use crate::frame::Side;
 use crate::history::History;
@@ -56,7 +56,7 @@ impl Past {
     /// What stands after this history, which begins as the root's lines began.
     pub(crate) fn of(root: &Arc<Root>, history: &History, to_move: Side) -> Result<Past, NoMemory>
         requires size { history.now.size ≡ (arc_value root.now).frame.size }
-        requires begins { Begins (arc_value root.now).begun (so_far history.now) }
+        requires begins { BoardsBegin (arc_value root.now).begun (so_far history.now) }
         ensures { IfOk result (λ p. p ≡ record { frame = (arc_value root.now).frame; state = state_at history.now to_move }) }
     {
         let later = Trail::of(

@@ -6,7 +6,7 @@ ghost use Rattle.tt_sgf.specs.Entries.{set_of};
 ghost use Rattle.tt_board.specs.Play.{placed};
 ghost use Rattle.tt_game.specs.Turns.{IsOnBoard};
 ghost use Rattle.tt_game.specs.Nodes.{values_of, colour_named, AB, AW, AE, PL, B, W};
-ghost use Rattle.tt_game.specs.Records.{Gives, Becomes, fault_of, as_turn, turn_of, turn_by, turn_named, move_of, begun};
+ghost use Rattle.tt_game.specs.Records.{Returns, Becomes, fault_of, as_turn, turn_of, turn_by, turn_named, move_of, begun};
 ghost use Rattle.tt_game.specs.Records.{set_up_by, step_node, begin_at, begin_node, begin_line, run_nodes, record_at, record_of};
 
 use crate::faults::{GameFault, Refused, Why};
@@ -178,7 +178,7 @@ impl Replay {
 
     /// Before the first turn on a board of this size.
     fn begin(alloc: Global, size: Size) -> Result<Replay, GameFault>
-        ensures { Gives result (begin_at (Some size)) }
+        ensures { Returns result (begin_at (Some size)) }
     {
         match Game::empty(alloc, size) {
             Ok(game) => Ok(Replay { game, turns: 0 }),
@@ -189,7 +189,7 @@ impl Replay {
     /// Before the first node: its game and its size.
     #[tactic(auto, unfolding(crate::specs::Records::begin_node))]
     fn before(alloc: Global, node: &Node) -> Result<Replay, GameFault>
-        ensures { Gives result (begin_node node.now) }
+        ensures { Returns result (begin_node node.now) }
     {
         if !says_go(node.properties.as_slice()) {
             return Err(GameFault::NotGo);
@@ -203,7 +203,7 @@ impl Replay {
 
 /// Before the first of these nodes; without a node the board is 19 by 19.
 pub(crate) fn begin_line(alloc: Global, nodes: &[Node]) -> Result<Replay, GameFault>
-    ensures { Gives result (begin_line nodes.now) }
+    ensures { Returns result (begin_line nodes.now) }
 {
     if let Some((first, _)) = nodes.split_first() {
         return Replay::before(alloc, first);
@@ -216,7 +216,7 @@ pub(crate) fn begin_line(alloc: Global, nodes: &[Node]) -> Result<Replay, GameFa
 
 /// After all nodes.
 fn run(replay: Replay, nodes: &[Node]) -> Result<Replay, GameFault>
-    ensures { Gives result (run_nodes replay nodes.now) }
+    ensures { Returns result (run_nodes replay nodes.now) }
 {
     let mut last = replay;
     let mut rest = nodes;
@@ -248,7 +248,7 @@ fn record_at(game: &Game) -> Record
 /// turns; or an allocation was refused.
 #[tactic(auto, unfolding(crate::specs::Records::record_of))]
 pub fn play_record(alloc: Global, line: &MainLine) -> Result<Record, GameFault>
-    ensures { Gives result (record_of line.now.nodes) }
+    ensures { Returns result (record_of line.now.nodes) }
 {
     let nodes = line.nodes.as_slice();
     let last = run(begin_line(alloc, nodes)?, nodes)?;

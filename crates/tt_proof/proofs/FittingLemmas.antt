@@ -9,7 +9,7 @@ use Rattle.tt_game.specs.declared.frame.Frame.{Frame}
 use Rattle.tt_proof.specs.declared.footprints.Footprint.{Footprint}
 use Rattle.tt_proof.specs.Strategy.{Strategy}
 use Rattle.tt_proof.specs.Proven.{Proven, IsWon, StandsAt, FitsAt}
-use Rattle.tt_proof.specs.KeptFootprints.{IsFootprint, AreSized, board_of}
+use Rattle.tt_proof.specs.KeptFootprints.{IsFootprint, AreSized, frame_board}
 use Rattle.tt_proof.proofs.FootprintLemmas.{board_is}
 use Rattle.tt_proof.proofs.FitsLemmas.{fitting_wins}
 
@@ -29,7 +29,7 @@ colouring_in [] b m = absurd m
 colouring_in (x ∷ bs) b (inl e) = inl (ap (λ (w : Position). w.points) e)
 colouring_in (x ∷ bs) b (inr m) = inr (colouring_in bs b m)
 
-board_in : (f : Frame) (bs : List Position) (c : Colouring) → All (λ (b : Position). b.size ≡ f.size) bs → IsIn (colourings bs) c → IsIn bs (board_of f c)
+board_in : (f : Frame) (bs : List Position) (c : Colouring) → All (λ (b : Position). b.size ≡ f.size) bs → IsIn (colourings bs) c → IsIn bs (frame_board f c)
 board_in f [] c all m = absurd m
 board_in f (x ∷ bs) c all (inl e) = inl (board_is x f.size c (All-head (λ (b : Position). b.size ≡ f.size) x bs all) e)
 board_in f (x ∷ bs) c all (inr m) = inr (board_in f bs c (All-tail (λ (b : Position). b.size ≡ f.size) x bs all) m)
@@ -37,10 +37,10 @@ board_in f (x ∷ bs) c all (inr m) = inr (board_in f bs c (All-tail (λ (b : Po
 module _ (p : Proven) (f : Frame) (s : State) (x : Footprint) (bs : List Position) (shows : colourings bs ≡ history s)
     (sizes : All (λ (b : Position). b.size ≡ f.size) bs) (foot : IsFootprint p.frame p.state p.tree x) where
   -- a colouring of the history is that of one of its boards
-  shown : (c : Colouring) → Contains bs (board_of f c) ↔ Contains (history s) c
+  shown : (c : Colouring) → Contains bs (frame_board f c) ↔ Contains (history s) c
   shown c = (
-    λ m. subst (λ cs. Contains cs c) shows (contains_of_in (colourings bs) c (colouring_in bs (board_of f c) (in_of_contains bs (board_of f c) m))),
-    λ m. contains_of_in bs (board_of f c) (board_in f bs c sizes (in_of_contains (colourings bs) c (subst (λ cs. Contains cs c) (sym shows) m))),
+    λ m. subst (λ cs. Contains cs c) shows (contains_of_in (colourings bs) c (colouring_in bs (frame_board f c) (in_of_contains bs (frame_board f c) m))),
+    λ m. contains_of_in bs (frame_board f c) (board_in f bs c sizes (in_of_contains (colourings bs) c (subst (λ cs. Contains cs c) (sym shows) m))),
   )
 
   -- a proof fits where the position is its own, and the lists stand right to the history's boards
@@ -52,16 +52,16 @@ module _ (p : Proven) (f : Frame) (s : State) (x : Footprint) (bs : List Positio
       present = at.1;
       to_move = at.2;
       passes = at.3;
-      needs = λ c h. (shown c).0 (n (board_of f c) (subst (λ g. Contains x.needs (board_of g c)) at.0 ((foot.needed c).1 h)));
-      avoids = λ c h m. a (board_of f c) (subst (λ g. Contains x.avoids (board_of g c)) at.0 ((foot.avoided c).1 h)) ((shown c).1 m);
+      needs = λ c h. (shown c).0 (n (frame_board f c) (subst (λ g. Contains x.needs (frame_board g c)) at.0 ((foot.needed c).1 h)));
+      avoids = λ c h m. a (frame_board f c) (subst (λ g. Contains x.avoids (frame_board g c)) at.0 ((foot.avoided c).1 h)) ((shown c).1 m);
     },
   )
 
   -- a board that is held shows its colouring, on the proof's frame and on this one
-  held : (bs' : List Position) (b : Position) → AreSized p.frame bs' → Contains bs' b → Contains bs' (board_of p.frame b.points)
+  held : (bs' : List Position) (b : Position) → AreSized p.frame bs' → Contains bs' b → Contains bs' (frame_board p.frame b.points)
   held bs' b sized m = subst (λ w. Contains bs' w) (board_is b p.frame.size b.points (sized b m) refl) m
 
-  here : (b : Position) → FitsAt p f s → b.size ≡ p.frame.size → b ≡ board_of f b.points
+  here : (b : Position) → FitsAt p f s → b.size ≡ p.frame.size → b ≡ frame_board f b.points
   here b h e = board_is b f.size b.points (e ∙ ap (λ (g : Frame). g.size) h.0) refl
 
   pub fits_needs : FitsAt p f s → (b : Position) → Contains x.needs b → Contains bs b

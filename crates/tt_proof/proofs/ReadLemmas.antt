@@ -5,7 +5,7 @@ use Rattle.tt_game.specs.declared.turns.Turn.{Turn}
 use Rattle.tt_proof.specs.declared.certificate_read.CertFault.{CertFault}
 use Rattle.tt_proof.specs.declared.certificate_read.CertFault.TheVariants.{Syntax, TooDeep, NoMemory}
 use Rattle.tt_proof.specs.Strategy.{Strategy, Entries, done, pick, reply, none, entry, depth, depth_of_entries, IsOnBoard, IsInOrder}
-use Rattle.tt_proof.specs.CertificateText.{won_mark, pick_mark, reply_mark, turn_text, tree_text, entries_text, EndsBelow, EndsBehind}
+use Rattle.tt_proof.specs.CertificateText.{won_mark, pick_mark, reply_mark, turn_text, tree_text, entries_text, EndsBelow, EndsInEntries}
 use Rattle.tt_proof.specs.CertificateReading.{TreeAt, DeepAt, EntriesAt, EntriesDeepAt, FaultAt, EntriesFaultAt}
 use Rattle.tt_proof.proofs.TextLemmas.{heads, tails}
 
@@ -26,7 +26,7 @@ module _ (size : Size) where
 
     -- so have entries that are deeper than e
     deep_entries : (es : Entries) (e : ℕ) → e < depth_of_entries es →
-        (x : List ℕ) × ((y : List ℕ) × (EndsBehind size es e x × (entries_text size es ≡ x ++ y)))
+        (x : List ℕ) × ((y : List ℕ) × (EndsInEntries size es e x × (entries_text size es ≡ x ++ y)))
     deep_entries none e lt = absurd (omega (arith, lt))
     deep_entries (entry t u es) zero lt = (turn_text size t, (tree_text size u ++ entries_text size es, (inl refl, refl)))
     deep_entries (entry t u es) (suc e) lt = pass (cases e (depth u) (depth_of_entries es) lt) (deep_tree u e) (deep_entries es (suc e))
@@ -55,8 +55,8 @@ module _ (size : Size) where
         -- the turn lies in the first entry's tree, or behind it
         pass : (e < depth u) ⊎ (suc e < depth_of_entries es) →
             (e < depth u → (x : List ℕ) × ((y : List ℕ) × (EndsBelow size u e x × (tree_text size u ≡ x ++ y)))) →
-            (suc e < depth_of_entries es → (x : List ℕ) × ((y : List ℕ) × (EndsBehind size es (suc e) x × (entries_text size es ≡ x ++ y)))) →
-            (x : List ℕ) × ((y : List ℕ) × (EndsBehind size (entry t u es) (suc e) x × (entries_text size (entry t u es) ≡ x ++ y)))
+            (suc e < depth_of_entries es → (x : List ℕ) × ((y : List ℕ) × (EndsInEntries size es (suc e) x × (entries_text size es ≡ x ++ y)))) →
+            (x : List ℕ) × ((y : List ℕ) × (EndsInEntries size (entry t u es) (suc e) x × (entries_text size (entry t u es) ≡ x ++ y)))
         pass (inl lt) f g =
             let r = f lt in (
               turn_text size t ++ r.0,

@@ -68,16 +68,16 @@ module _ (size : Size) where
     EndsBelow done d x = ⊥
     EndsBelow (pick t u) zero x = x ≡ pick_mark ∷ turn_text t
     EndsBelow (pick t u) (suc d) x = (y : List ℕ) × ((x ≡ pick_mark ∷ (turn_text t ++ y)) × EndsBelow u d y)
-    EndsBelow (reply es) d x = (y : List ℕ) × ((x ≡ reply_mark ∷ y) × EndsBehind es d y)
+    EndsBelow (reply es) d x = (y : List ℕ) × ((x ≡ reply_mark ∷ y) × EndsInEntries es d y)
 
     -- so with the entries' text
-    pub EndsBehind : Entries → ℕ → List ℕ → Type 0
-    EndsBehind none d x = ⊥
-    EndsBehind (entry t u es) zero x =
-        (x ≡ turn_text t) ⊎ ((y : List ℕ) × ((x ≡ turn_text t ++ (tree_text u ++ y)) × EndsBehind es zero y))
-    EndsBehind (entry t u es) (suc d) x =
+    pub EndsInEntries : Entries → ℕ → List ℕ → Type 0
+    EndsInEntries none d x = ⊥
+    EndsInEntries (entry t u es) zero x =
+        (x ≡ turn_text t) ⊎ ((y : List ℕ) × ((x ≡ turn_text t ++ (tree_text u ++ y)) × EndsInEntries es zero y))
+    EndsInEntries (entry t u es) (suc d) x =
         ((y : List ℕ) × ((x ≡ turn_text t ++ y) × EndsBelow u d y))
-        ⊎ ((y : List ℕ) × ((x ≡ turn_text t ++ (tree_text u ++ y)) × EndsBehind es (suc d) y))
+        ⊎ ((y : List ℕ) × ((x ≡ turn_text t ++ (tree_text u ++ y)) × EndsInEntries es (suc d) y))
 
   -- the bytes are the certificate of this side and tree, which is in order and has at most 512 turns on each way down
   pub record IsCertificate (bytes : List ℕ) (side : Side) (u : Strategy) : Type 0 where

@@ -14,9 +14,9 @@ abbrev pub RepeatsBelow : Frame → State → ℕ → Colouring → Type 0
 RepeatsBelow f s n c = (p : ℕ) × (p < n) × IsBarred f s p × (made f s p ≡ c)
 
 -- what a child needs in its parent's history too: all that it needs in its own, but the board that a play made
-abbrev pub IsGiven : Turn → Position → List Position → Position → Type 0
-IsGiven Pass board needs b = Contains needs b
-IsGiven (Play p) board needs b = Contains needs b × (b ≢ board)
+abbrev pub IsPassedUp : Turn → Position → List Position → Position → Type 0
+IsPassedUp Pass board needs b = Contains needs b
+IsPassedUp (Play p) board needs b = Contains needs b × (b ≢ board)
 
 -- the turn is a play, and this is the board that it made
 abbrev pub IsPlayed : Turn → Position → Position → Type 0
@@ -25,7 +25,7 @@ IsPlayed (Play p) board b = b ≡ board
 
 -- what a pick of the turn needs and avoids, by what is needed and avoided behind it
 pub record IsPicked (t : Turn) (board : Position) (behind x : Footprint) : Type 0 where
-  pub needed : (b : Position) → Contains x.needs b ↔ IsGiven t board behind.needs b
+  pub needed : (b : Position) → Contains x.needs b ↔ IsPassedUp t board behind.needs b
   pub avoided : (b : Position) → Contains x.avoids b ↔ (IsPlayed t board b ⊎ Contains behind.avoids b)
   pub low : x.low ≡ behind.low
 

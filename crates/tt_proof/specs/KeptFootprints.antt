@@ -15,8 +15,8 @@ use Rattle.tt_proof.specs.Footprints.{IsNeeded, IsAvoided, IsMet}
 use Rattle.tt_proof.specs.Proven.{IsWon}
 
 -- the frame's board with this colouring
-abbrev pub board_of : Frame → Colouring → Position
-board_of f c = record { size = f.size; points = c }
+abbrev pub frame_board : Frame → Colouring → Position
+frame_board f c = record { size = f.size; points = c }
 
 -- the boards are the frame's
 abbrev pub AreSized : Frame → List Position → Type 0
@@ -28,8 +28,8 @@ AreSized f bs = (b : Position) → Contains bs b → b.size ≡ f.size
 pub record IsFootprint (f : Frame) (s : State) (u : Strategy) (x : Footprint) : Type 0 where
   pub needs_sized : AreSized f x.needs
   pub avoids_sized : AreSized f x.avoids
-  pub needed : (c : Colouring) → Contains x.needs (board_of f c) ↔ IsNeeded f (history s) u [] s c
-  pub avoided : (c : Colouring) → Contains x.avoids (board_of f c) ↔ IsAvoided f u s c
+  pub needed : (c : Colouring) → Contains x.needs (frame_board f c) ↔ IsNeeded f (history s) u [] s c
+  pub avoided : (c : Colouring) → Contains x.avoids (frame_board f c) ↔ IsAvoided f u s c
   pub met : (c : Colouring) → IsMet f u s c → IsReached x.low c
 
 -- a play on each point of the set is legal
@@ -38,7 +38,7 @@ AreLegalPlays f s points = (p : ℕ) → IsTrue (set.contains points p) → IsLe
 
 -- the board is the one after the turn
 abbrev pub IsBoardAfter : Frame → State → Turn → Position → Type 0
-IsBoardAfter f s t b = b ≡ board_of f (after f s t).present
+IsBoardAfter f s t b = b ≡ frame_board f (after f s t).present
 
 -- the footprint of a reply has become that with one more entry behind the others, whichever these are
 abbrev pub IsEntryJoined : Frame → State → Turn → Strategy → Footprint → Footprint → Type 0

@@ -8,8 +8,8 @@ ghost use Rattle.tt_game.specs.declared.frame.Frame.{Frame};
 ghost use Rattle.tt_proof.specs.declared.tree.TheConstants.{MOST_DEPTH};
 ghost use Rattle.tt_proof.specs.Strategy.{Strategy, done, pick, reply, none, depth, depth_of_entries, strategy_of, entries_of, entries_of_trees, IsInOrder, AreInOrder, IsOnBoard};
 ghost use Rattle.tt_proof.specs.Footprints.{IsRepeated};
-ghost use Rattle.tt_proof.specs.KeptFootprints.{IsFootprint, IsBoardAfter, IsEntryJoined, AreSized, board_of, AreLegalPlays};
-ghost use Rattle.tt_proof.specs.Collecting.{IsGiven, IsPlayed, IsNoHigher, IsReachedBy};
+ghost use Rattle.tt_proof.specs.KeptFootprints.{IsFootprint, IsBoardAfter, IsEntryJoined, AreSized, frame_board, AreLegalPlays};
+ghost use Rattle.tt_proof.specs.Collecting.{IsPassedUp, IsPlayed, IsNoHigher, IsReachedBy};
 
 use crate::bounds::Bound;
 use crate::shared_boards::SharedBoards;
@@ -130,7 +130,7 @@ impl Footprint {
 
 /// Of what the child of a turn needs, which led to the board, only that stays which it needs in its parent's history too.
 fn take_made(needs: &mut SharedBoards, turn: &Turn, board: &Board)
-    ensures { (b : Position) → Contains needs.new b ↔ IsGiven turn.now board.now needs.old b }
+    ensures { (b : Position) → Contains needs.new b ↔ IsPassedUp turn.now board.now needs.old b }
 {
     match turn {
         Turn::Pass => {}
@@ -172,7 +172,7 @@ fn lowered(low: &Bound, turn: &Turn, board: &Board, behind: &Bound) -> Bound
 fn repeated(line: &Line, legal: &PointSet, p: Point) -> Option<Board>
     requires { AreLegalPlays line.now.frame line.now.state legal.now }
     ensures { MatchOption result (IsBarred line.now.frame line.now.state p → ⊥)
-        (λ b. IsBarred line.now.frame line.now.state p × (b ≡ board_of line.now.frame (made line.now.frame line.now.state p))) }
+        (λ b. IsBarred line.now.frame line.now.state p × (b ≡ frame_board line.now.frame (made line.now.frame line.now.state p))) }
 {
     if legal.has(p) {
         return None;
@@ -190,8 +190,8 @@ fn put_repeated(
 ) -> Result<(), NoMemory>
     requires { AreLegalPlays line.now.frame line.now.state legal.now }
     ensures sized { OnOk result (AreSized line.now.frame needs.old → AreSized line.now.frame needs.new) }
-    ensures more { OnOk result ((c : Colouring) → Contains needs.new (board_of line.now.frame c)
-        ↔ (Contains needs.old (board_of line.now.frame c)
+    ensures more { OnOk result ((c : Colouring) → Contains needs.new (frame_board line.now.frame c)
+        ↔ (Contains needs.old (frame_board line.now.frame c)
         ⊎ (IsBarred line.now.frame line.now.state p × (made line.now.frame line.now.state p ≡ c)))) }
 {
     match repeated(line, legal, p) {
@@ -204,7 +204,7 @@ fn put_repeated(
 fn repeats(alloc: Global, line: &Line, legal: &PointSet) -> Result<SharedBoards, NoMemory>
     requires { AreLegalPlays line.now.frame line.now.state legal.now }
     ensures sized { IfOk result (λ needs. AreSized line.now.frame needs) }
-    ensures exact { IfOk result (λ needs. (c : Colouring) → Contains needs (board_of line.now.frame c)
+    ensures exact { IfOk result (λ needs. (c : Colouring) → Contains needs (frame_board line.now.frame c)
         ↔ IsRepeated line.now.frame (history line.now.state) [] line.now.state c) }
 {
     let region = &line.frame().region;

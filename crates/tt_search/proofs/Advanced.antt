@@ -12,7 +12,7 @@ use Rattle.tt_search.specs.Taken.{Taken, IsLeft}
 use Rattle.tt_search.specs.Steady.{IsGrowth, Steady, AreStepsAt}
 use Rattle.tt_search.specs.Searching.{IsSearch}
 use Rattle.tt_search.specs.Searched.{Searched, IsSameProblem, IsStuckFor, StepOf}
-use Rattle.tt_search.specs.Ended.{IsReached}
+use Rattle.tt_search.specs.Ended.{RanTo}
 use Rattle.tt_search.specs.Advanced.{IsAdvanced}
 use Rattle.tt_search.specs.declared.limits.Limits.{Limits}
 use Rattle.tt_search.specs.declared.limits.Reason.{Reason}
@@ -117,7 +117,7 @@ grown_joined (suc n) limits f s a b c h (before, k, g) =
     (suc joined.0, (before, joined.1, g))
 
 -- what is reached from a search that is reached is reached
-pub reached_joined : (a b c : Searched) → IsReached a b → IsReached b c → IsReached a c
+pub reached_joined : (a b c : Searched) → RanTo a b → RanTo b c → RanTo a c
 reached_joined a b c h k = record {
   problem = same_problem a b c h.problem k.problem;
   grown =
@@ -138,7 +138,7 @@ grown_falls zero limits f s old new e = omega (arith, ap open_leaves e, ap count
 grown_falls (suc n) limits f s old new (before, k, g) = omega (arith, grown_falls n limits f s old before k, grows_falls limits f s before new g)
 
 -- a search that is reached has no more left to do
-reached_falls : (old new : Searched) → IsReached old new → left_to_do new ≤ left_to_do old
+reached_falls : (old new : Searched) → RanTo old new → left_to_do new ≤ left_to_do old
 reached_falls old new h = subst (λ l. open_leaves new.tree + (l.budget - count new.tree) * 363 ≤ left_to_do old) (sym h.problem.limits)
     (grown_falls h.grown.0 old.limits old.line.frame old.line.state old.tree new.tree h.grown.1)
 
@@ -152,14 +152,14 @@ advanced_falls pace old new step h same changed =
     omega (arith, reached_falls old h.before h.reached, falls h.before new step h.taken (since_before old h.before new h.reached.problem same) changed)
 
 -- from a search that is reached, steps whose last one expands or closes lead to one that is reached
-pub advanced_reached : (pace : Pace) (start old new : Searched) (step : Step) → IsReached start old → IsAdvanced pace old step new → IsSameProblem old new → (step ≡ Expanded)
-    ⊎ (step ≡ Closed) → IsReached start new
+pub advanced_reached : (pace : Pace) (start old new : Searched) (step : Step) → RanTo start old → IsAdvanced pace old step new → IsSameProblem old new → (step ≡ Expanded)
+    ⊎ (step ≡ Closed) → RanTo start new
 advanced_reached pace start old new step r h same changed =
     reached_more start h.before new step (reached_joined start old h.before r h.reached) (since_before old h.before new h.reached.problem same) h.taken changed
 
 -- so do steps whose last one finds the search settled
-pub settled_reached : (pace : Pace) (start old new : Searched) → IsReached start old → IsAdvanced pace old Settled new → IsReached start new
-settled_reached pace start old new r h = subst (IsReached start) (sym h.taken.1) (reached_joined start old h.before r h.reached)
+pub settled_reached : (pace : Pace) (start old new : Searched) → RanTo start old → IsAdvanced pace old Settled new → RanTo start new
+settled_reached pace start old new r h = subst (RanTo start) (sym h.taken.1) (reached_joined start old h.before r h.reached)
 
 -- a stuck step says that its search is stuck for the reason, and leaves it as it was
 stuck_of : (reason : Reason) (old new : Searched) → StepOf old (Stuck reason) new → IsStuckFor reason old × (new ≡ old)
@@ -169,7 +169,7 @@ stuck_of Total old new h = h
 stuck_of Memory old new h = (tt, h.1)
 
 -- steps that end stuck lead to a search that is reached and stuck for the reason
-pub stuck_reached : (pace : Pace) (start old new : Searched) (reason : Reason) → IsReached start old → IsAdvanced pace old (Stuck reason) new → IsReached start new × IsStuckFor reason new
+pub stuck_reached : (pace : Pace) (start old new : Searched) (reason : Reason) → RanTo start old → IsAdvanced pace old (Stuck reason) new → RanTo start new × IsStuckFor reason new
 stuck_reached pace start old new reason r h =
     let stuck = stuck_of reason h.before new h.taken in
-    (subst (IsReached start) (sym stuck.1) (reached_joined start old h.before r h.reached), subst (IsStuckFor reason) (sym stuck.1) stuck.0)
+    (subst (RanTo start) (sym stuck.1) (reached_joined start old h.before r h.reached), subst (IsStuckFor reason) (sym stuck.1) stuck.0)

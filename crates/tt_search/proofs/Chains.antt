@@ -11,8 +11,8 @@ use Rattle.tt_game.specs.Keys.{key_of}
 use Rattle.tt_game.specs.declared.keys.Key.{Key}
 use Rattle.tt_game.specs.Line.{Standing}
 use Rattle.tt_proof.specs.Proven.{Proven}
-use Rattle.tt_search.specs.Stores.{IsAnswer, IsNewest}
-use Rattle.tt_search.specs.KeyIndex.{mark_of, marks_of}
+use Rattle.tt_search.specs.Stores.{AnswersFor, IsNewest}
+use Rattle.tt_search.specs.KeyIndex.{key_mark, key_marks}
 use Rattle.tt_search.specs.KeyChains.{last_place, in_chain, IsChained, NoneFrom}
 
 -- ---- the last place that passes a test
@@ -106,38 +106,38 @@ module _ (line : Standing) (side : Side) where
   none_newest (p ∷ ps) h =
       reversed ps p None (newest_over (reverse ps) (p ∷ []) None (none_newest ps (λ i q low is. h (suc i) q (omega arith) is)) (inr (h 0 p (omega arith) refl, refl)))
 
-  pub found_newest : (ps : List Proven) (n : ℕ) (p : Proven) → slice_get ps n ≡ Some p → IsAnswer line side p → NoneFrom line side ps (suc n) → IsNewest line side (reverse ps) (Some p)
+  pub found_newest : (ps : List Proven) (n : ℕ) (p : Proven) → slice_get ps n ≡ Some p → AnswersFor line side p → NoneFrom line side ps (suc n) → IsNewest line side (reverse ps) (Some p)
   found_newest [] n p is a h = absurd (grind (arith, is))
   found_newest (q ∷ ps) zero p is a h = let same : q ≡ p = cc is in
-      reversed ps q (Some p) (newest_over (reverse ps) (q ∷ []) (Some p) (none_newest ps (none_behind ps q 0 h)) (inl (subst (IsAnswer line side) (sym same) a, ap Some (sym same))))
+      reversed ps q (Some p) (newest_over (reverse ps) (q ∷ []) (Some p) (none_newest ps (none_behind ps q 0 h)) (inl (subst (AnswersFor line side) (sym same) a, ap Some (sym same))))
   found_newest (q ∷ ps) (suc n) p is a h = reversed ps q (Some p) (newest_before (reverse ps) (q ∷ []) p (found_newest ps n p is a (none_behind ps q (suc n) h)))
 
   -- ---- the walk down a chain
 
-  mark_at : (marks : List ℕ) (ps : List Proven) (i : ℕ) (p : Proven) → marks ≡ marks_of ps → slice_get ps i ≡ Some p → get_or marks i 0 ≡ mark_of (key_of p.frame p.state) p.side
+  mark_at : (marks : List ℕ) (ps : List Proven) (i : ℕ) (p : Proven) → marks ≡ key_marks ps → slice_get ps i ≡ Some p → get_or marks i 0 ≡ key_mark (key_of p.frame p.state) p.side
   mark_at marks ps i p e is =
       ap (λ l. get_or l i 0) e
-      ∙ get_or_from_slice_get (marks_of ps) i (mark_of (key_of p.frame p.state) p.side) 0
-      (slice_get-map (λ (q : Proven). mark_of (key_of q.frame q.state) q.side) ps i ∙ ap (option_map (λ (q : Proven). mark_of (key_of q.frame q.state) q.side)) is)
+      ∙ get_or_from_slice_get (key_marks ps) i (key_mark (key_of p.frame p.state) p.side) 0
+      (slice_get-map (λ (q : Proven). key_mark (key_of q.frame q.state) q.side) ps i ∙ ap (option_map (λ (q : Proven). key_mark (key_of q.frame q.state) q.side)) is)
 
-  answer_mark : (p : Proven) → IsAnswer line side p → mark_of (key_of p.frame p.state) p.side ≡ mark_of (key_of line.frame line.state) side
+  answer_mark : (p : Proven) → AnswersFor line side p → key_mark (key_of p.frame p.state) p.side ≡ key_mark (key_of line.frame line.state) side
   answer_mark p a = rw (a.same_key, a.for_side) refl
 
   -- what answers has the mark of the question
-  pub answers_mark : (marks : List ℕ) (ps : List Proven) (i mark : ℕ) (p : Proven) → marks ≡ marks_of ps → mark ≡ mark_of (key_of line.frame line.state) side → slice_get ps i ≡ Some p
-      → IsAnswer line side p → get_or marks i 0 ≡ mark
+  pub answers_mark : (marks : List ℕ) (ps : List Proven) (i mark : ℕ) (p : Proven) → marks ≡ key_marks ps → mark ≡ key_mark (key_of line.frame line.state) side → slice_get ps i ≡ Some p
+      → AnswersFor line side p → get_or marks i 0 ≡ mark
   answers_mark marks ps i mark p all m is a = mark_at marks ps i p all is ∙ answer_mark p a ∙ sym m
 
   in_its_chain : (marks : List ℕ) (n mark i : ℕ) → get_or marks i 0 ≡ mark → in_chain marks n (mark % n) i ≡ true
   in_its_chain marks n mark i e = rw e (grind arith)
 
-  none_past : (marks : List ℕ) (ps : List Proven) (n mark k i : ℕ) (p : Proven) → marks ≡ marks_of ps → mark ≡ mark_of (key_of line.frame line.state) side
-      → last_place (in_chain marks n (mark % n)) k ≤ i → i < k → slice_get ps i ≡ Some p → IsAnswer line side p → ⊥
+  none_past : (marks : List ℕ) (ps : List Proven) (n mark k i : ℕ) (p : Proven) → marks ≡ key_marks ps → mark ≡ key_mark (key_of line.frame line.state) side
+      → last_place (in_chain marks n (mark % n)) k ≤ i → i < k → slice_get ps i ≡ Some p → AnswersFor line side p → ⊥
   none_past marks ps n mark k i p all m low high is a =
       false≢true (sym (last_beyond (in_chain marks n (mark % n)) k i low high) ∙ in_its_chain marks n mark i (answers_mark marks ps i mark p all m is a))
 
   -- no proof answers past the head of the question's chain
-  pub none_past_head : (heads before marks : List ℕ) (ps : List Proven) (mark next : ℕ) → marks ≡ marks_of ps → mark ≡ mark_of (key_of line.frame line.state) side
+  pub none_past_head : (heads before marks : List ℕ) (ps : List Proven) (mark next : ℕ) → marks ≡ key_marks ps → mark ≡ key_mark (key_of line.frame line.state) side
       → 0 < length heads → IsChained heads before marks (length marks) → next ≡ get_or heads (mark % length heads) 0 → NoneFrom line side ps next
   none_past_head heads before marks ps mark next all m some chained is i p low at a =
       let leads : next ≡ last_place (in_chain marks (length heads) (mark % length heads)) (length marks) = is ∙ chained.heads_lead (mark % length heads) (mod_below mark (length heads) some) in
@@ -145,9 +145,9 @@ module _ (line : Standing) (side : Side) where
       none_past marks ps (length heads) mark (length marks) i p all m (omega (arith, low, leads)) (omega (arith, many, slice_get_within ps i p at)) at a
 
   -- and none past the place before one that doesn't answer
-  pub none_past_next : (heads before marks : List ℕ) (ps : List Proven) (mark place next : ℕ) → marks ≡ marks_of ps → mark ≡ mark_of (key_of line.frame line.state) side
+  pub none_past_next : (heads before marks : List ℕ) (ps : List Proven) (mark place next : ℕ) → marks ≡ key_marks ps → mark ≡ key_mark (key_of line.frame line.state) side
       → IsChained heads before marks (length marks) → place < length marks → get_or marks place 0 % length heads ≡ mark % length heads → next ≡ get_or before place 0
-      → NoneFrom line side ps (place + 1) → ((p : Proven) → slice_get ps place ≡ Some p → IsAnswer line side p → ⊥) → NoneFrom line side ps next
+      → NoneFrom line side ps (place + 1) → ((p : Proven) → slice_get ps place ≡ Some p → AnswersFor line side p → ⊥) → NoneFrom line side ps next
   none_past_next heads before marks ps mark place next all m chained within same is later here i p low at a =
       let leads : next ≡ last_place (in_chain marks (length heads) (mark % length heads)) place =
       is ∙ chained.before_leads place within ∙ ap (λ c. last_place (in_chain marks (length heads) c) place) same in
@@ -161,10 +161,10 @@ module _ (line : Standing) (side : Side) where
 
   -- a proof at a place doesn't answer where the one that was looked at there fails the test
   pub not_found : (ps : List Proven) (place : ℕ) (b : Bool) (k : Key) (p q : Proven) → slice_get ps place ≡ Some q → slice_get ps place ≡ Some p → b ≡ false
-      → (IsTrue b ↔ ((key_of q.frame q.state ≡ k) × (q.side ≡ side))) → k ≡ key_of line.frame line.state → IsAnswer line side p → ⊥
+      → (IsTrue b ↔ ((key_of q.frame q.state ≡ k) × (q.side ≡ side))) → k ≡ key_of line.frame line.state → AnswersFor line side p → ⊥
   not_found ps place b k p q there at e h is a =
       let same : p ≡ q = cc (sym at ∙ there) in
-      let answers : IsAnswer line side q = subst (IsAnswer line side) same a in
+      let answers : AnswersFor line side q = subst (AnswersFor line side) same a in
       false≢true (sym e ∙ h.1 (answers.same_key ∙ sym is, answers.for_side))
 
 -- a place that a head or another place leads to is of the chain

@@ -10,7 +10,7 @@ use Rattle.tt_search.specs.MostProving.{place, first_least}
 use Rattle.tt_search.specs.Children.{children_of}
 use Rattle.tt_search.specs.Choices.{Choices, node_with, best_place}
 use Rattle.tt_search.specs.Pairs.{changed_sum, ArePair}
-use Rattle.tt_search.specs.Edges.{turns_of, trees_of}
+use Rattle.tt_search.specs.Edges.{edge_turns, edge_trees}
 use Rattle.tt_search.specs.Packed.{choices_of, child_of, AreFew}
 use Rattle.tt_search.specs.Sprouting.{IsPut}
 use Rattle.tt_search.specs.declared.children.Packed.{Packed}
@@ -126,10 +126,10 @@ length-numbers goal (t ∷ trees) = ap suc (length-numbers goal trees)
 
 -- ---- the best child has become another tree
 
-module _ (mover : Side) (old new : Packed) (p : ℕ) (tree : PartialTree) (is : p ≡ best_place (choices_of mover old)) (there : p < length (trees_of old.edges.items old.grown.items))
+module _ (mover : Side) (old new : Packed) (p : ℕ) (tree : PartialTree) (is : p ≡ best_place (choices_of mover old)) (there : p < length (edge_trees old.edges.items old.grown.items))
     (put : IsPut p old tree new) where
   abbrev trees : List PartialTree
-  trees = trees_of old.edges.items old.grown.items
+  trees = edge_trees old.edges.items old.grown.items
 
   abbrev row : Side → List ℕ
   row goal = numbers goal (children_of trees)
@@ -155,7 +155,7 @@ module _ (mover : Side) (old new : Packed) (p : ℕ) (tree : PartialTree) (is : 
   in_row goal = omega (arith, length-numbers goal trees, there)
 
   -- the numbers have that of the tree at the place
-  row_is : (goal : Side) → numbers goal (children_of (trees_of new.edges.items new.grown.items)) ≡ set (row goal) p (number goal tree)
+  row_is : (goal : Side) → numbers goal (children_of (edge_trees new.edges.items new.grown.items)) ≡ set (row goal) p (number goal tree)
   row_is goal = ap (λ us. numbers goal (children_of us)) put.trees ∙ numbers_set goal trees p tree
 
   -- the number at the place was the least
@@ -167,7 +167,7 @@ module _ (mover : Side) (old new : Packed) (p : ℕ) (tree : PartialTree) (is : 
     least_set_is : least (set (row mover) p (number mover tree)) ≡ number mover tree
     least_set_is = least_set (number mover tree) (row mover) p (in_row mover) (omega (arith, least_there)) no_more
 
-    pub least_stays : number mover tree ≡ least (numbers mover (children_of (trees_of new.edges.items new.grown.items)))
+    pub least_stays : number mover tree ≡ least (numbers mover (children_of (edge_trees new.edges.items new.grown.items)))
     least_stays = sym (ap least (row_is mover) ∙ least_set_is)
 
     -- and the place is that of the best child
@@ -179,7 +179,7 @@ module _ (mover : Side) (old new : Packed) (p : ℕ) (tree : PartialTree) (is : 
   -- where the sum was below the cap, the change gives the new sum
   pub sum_here : capped_sum (row (opponent mover)) < cap
       → IsChange (capped_sum (row (opponent mover))) (number (opponent mover) (child_of old p)) (number (opponent mover) tree)
-      (capped_sum (numbers (opponent mover) (children_of (trees_of new.edges.items new.grown.items))))
+      (capped_sum (numbers (opponent mover) (children_of (edge_trees new.edges.items new.grown.items))))
   sum_here h =
       let goal : Side = opponent mover in
       let k = sum_changed (number goal tree) (row goal) p (in_row goal) h in
@@ -191,13 +191,13 @@ module _ (mover : Side) (old new : Packed) (p : ℕ) (v : Choices) (was : Pair) 
     (pair : ArePair v.mover (node_with v) was) (is : p ≡ best_place (choices_of mover old))
     (there : best_place v < length v.trees) (tree : PartialTree) (put : IsPut p old tree new) (second : PartialTree) (second_is : second ≡ child_of new p) where
   abbrev before : Side → List ℕ
-  before goal = numbers goal (children_of (trees_of old.edges.items old.grown.items))
+  before goal = numbers goal (children_of (edge_trees old.edges.items old.grown.items))
 
   abbrev after : Side → List ℕ
-  after goal = numbers goal (children_of (trees_of new.edges.items new.grown.items))
+  after goal = numbers goal (children_of (edge_trees new.edges.items new.grown.items))
 
   -- the place is there
-  pub in_trees : p < length (trees_of old.edges.items old.grown.items)
+  pub in_trees : p < length (edge_trees old.edges.items old.grown.items)
   in_trees = omega (arith, is, subst (λ (c : Choices). best_place c < length c.trees) (sym view_is) there)
 
   pair_here : ArePair mover (node_with (choices_of mover old)) was
@@ -205,10 +205,10 @@ module _ (mover : Side) (old new : Packed) (p : ℕ) (v : Choices) (was : Pair) 
 
   -- the node's numbers were the least and the sum
   own_was : was.own ≡ least (before mover)
-  own_was = pair_here.own ∙ own_number mover (turns_of old.edges.items) (children_of (trees_of old.edges.items old.grown.items))
+  own_was = pair_here.own ∙ own_number mover (edge_turns old.edges.items) (children_of (edge_trees old.edges.items old.grown.items))
 
   other_was : was.other ≡ capped_sum (before (opponent mover))
-  other_was = pair_here.other ∙ other_number mover (turns_of old.edges.items) (children_of (trees_of old.edges.items old.grown.items))
+  other_was = pair_here.other ∙ other_number mover (edge_turns old.edges.items) (children_of (edge_trees old.edges.items old.grown.items))
 
   tree_is : tree ≡ second
   tree_is = sym (second_is ∙ tree_there mover old new p tree is in_trees put)

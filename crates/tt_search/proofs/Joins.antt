@@ -17,7 +17,7 @@ use Rattle.tt_search.specs.Numbers.{is_same, numbers}
 use Rattle.tt_search.specs.Growing.{ArePartialTrees}
 use Rattle.tt_search.specs.Within.{AllStayWithin}
 use Rattle.tt_search.specs.Children.{children_of}
-use Rattle.tt_search.specs.Edges.{turn_of, mark_of, turns_of, tree_of, trees_of, grown_behind, grown_in}
+use Rattle.tt_search.specs.Edges.{edge_turn, mark_of, edge_turns, tree_of, edge_trees, grown_behind, grown_in}
 use Rattle.tt_search.specs.Settled.{strategy_for, first_settled, replies}
 use Rattle.tt_search.specs.Joining.{IsSettledAt, AreSettledAt}
 use Rattle.tt_search.specs.Choices.{node_with}
@@ -75,16 +75,16 @@ module _ (side : Side) (f : Frame) (s : State) where
   -- so its place is there
   pub picked_there : (x : Packed) (i : ℕ) → IsSettledAt side f s (node_with (choices_of side x)) → i ≡ first_settled side (children_in x) → i < length x.edges.items
   picked_there x i h is =
-      omega (arith, is, length-trees_of x.edges.items x.grown.items, (picked_child (turns_of x.edges.items) (trees_of x.edges.items x.grown.items) Pass fresh h).there)
+      omega (arith, is, length-trees_of x.edges.items x.grown.items, (picked_child (edge_turns x.edges.items) (edge_trees x.edges.items x.grown.items) Pass fresh h).there)
 
   -- and what the code finds there is a legal turn, and a tree that is settled behind it
   pub picked_here : (x : Packed) (i : ℕ) (e : Edge) (t : Turn) (child : PartialTree) → IsSettledAt side f s (node_with (choices_of side x)) → i ≡ first_settled side (children_in x)
-      → e ≡ get_or x.edges.items i e → t ≡ turn_of e → child ≡ child_of x i → IsLegal f s t × IsSettledAt side f (after f s t) child
+      → e ≡ get_or x.edges.items i e → t ≡ edge_turn e → child ≡ child_of x i → IsLegal f s t × IsSettledAt side f (after f s t) child
   picked_here x i e t child h is at turn is_child =
-      let turns = turns_of x.edges.items in
-      let trees = trees_of x.edges.items x.grown.items in
+      let turns = edge_turns x.edges.items in
+      let trees = edge_trees x.edges.items x.grown.items in
       let r = subst (λ k. IsSettledChild k turns trees t child) (sym is) (picked_child turns trees t child h) in
-      let a : get_or turns i t ≡ t = turn_at_place x.edges.items i e t (picked_there x i h is) ∙ ap turn_of (sym at) ∙ sym turn in
+      let a : get_or turns i t ≡ t = turn_at_place x.edges.items i e t (picked_there x i h is) ∙ ap edge_turn (sym at) ∙ sym turn in
       let b : get_or trees i child ≡ child = any_default trees i child fresh r.there ∙ sym is_child in
       (subst (IsLegal f s) a r.legal, subst (λ u. IsSettledAt side f (after f s u) child) a (subst (λ d. IsSettledAt side f (after f s (get_or turns i t)) d) b r.child))
 
@@ -92,12 +92,12 @@ module _ (side : Side) (f : Frame) (s : State) where
 
   -- where the other side is to move, all children are settled
   pub replied_children : (mover : Side) (es : List Edge) (grown : List PartialTree) → is_same side mover ≡ false → grown_in es ≡ length grown
-      → IsSettledAt side f s (expanded mover (turns_of es) (children_of (trees_of es grown))) → AreSettledAt side f s es grown
+      → IsSettledAt side f s (expanded mover (edge_turns es) (children_of (edge_trees es grown))) → AreSettledAt side f s es grown
   replied_children mover es grown e whole h =
-      let children = children_of (trees_of es grown) in
+      let children = children_of (edge_trees es grown) in
       record {
         whole = whole;
-        settled = all_zero side children (zero_sum (numbers side children) (other_zero side mover (turns_of es) children e h.settled));
+        settled = all_zero side children (zero_sum (numbers side children) (other_zero side mover (edge_turns es) children e h.settled));
         legal = subst (AreLegal f s) (sym h.partial.2) (are_legal f s);
         partial = h.partial.3;
         stays = h.stays.1;
@@ -105,8 +105,8 @@ module _ (side : Side) (f : Frame) (s : State) where
 
   -- the first child, and those behind it
   pub record AreSettledFrom (e : Edge) (es : List Edge) (grown : List PartialTree) : Type 0 where
-    pub legal : IsLegal f s (turn_of e)
-    pub child : IsSettledAt side f (after f s (turn_of e)) (tree_of (mark_of e) grown)
+    pub legal : IsLegal f s (edge_turn e)
+    pub child : IsSettledAt side f (after f s (edge_turn e)) (tree_of (mark_of e) grown)
     pub others : AreSettledAt side f s es (grown_behind (mark_of e) grown)
 
   settled_from : (e : Edge) (es : List Edge) (grown : List PartialTree) → AreSettledAt side f s (e ∷ es) grown → AreSettledFrom e es grown
@@ -132,7 +132,7 @@ module _ (side : Side) (f : Frame) (s : State) where
 
   -- the replies to the edges
   abbrev pub replies_to : List Edge → List PartialTree → Entries
-  replies_to es grown = replies side (turns_of es) (children_of (trees_of es grown))
+  replies_to es grown = replies side (edge_turns es) (children_of (edge_trees es grown))
 
   -- the footprint is that of a reply with the first of these entries; the replies to these edges are the others
   abbrev pub IsJoinedUpTo : Entries → List Edge → List PartialTree → Footprint → Type 0
@@ -140,7 +140,7 @@ module _ (side : Side) (f : Frame) (s : State) where
 
   -- one child more
   pub joined_here : (all : Entries) (es : List Edge) (grown : List PartialTree) (i : ℕ) (e : Edge) (t : Turn) (tree : PartialTree) (behind : List PartialTree) (old new : Footprint)
-      → i < length es → t ≡ turn_of (get_or es i e) → tree ≡ tree_of (mark_of (get_or es i e)) grown → behind ≡ grown_behind (mark_of (get_or es i e)) grown
+      → i < length es → t ≡ edge_turn (get_or es i e) → tree ≡ tree_of (mark_of (get_or es i e)) grown → behind ≡ grown_behind (mark_of (get_or es i e)) grown
       → IsEntryJoined f s t (strategy_for side tree) old new → IsJoinedUpTo all (drop i es) grown old → IsJoinedUpTo all (drop (i + 1) es) behind new
   joined_here all es grown i e t tree behind old new l is_turn is_tree is_behind more (ys, made, foot) =
       let u = strategy_for side tree in
@@ -149,8 +149,8 @@ module _ (side : Side) (f : Frame) (s : State) where
       let here : joined (ys ++ (t, u) ∷ []) rest ≡ all =
       joined_push ys (t, u) rest
       ∙ ap (λ v. joined ys (entry v u rest)) is_turn
-      ∙ ap (λ v. joined ys (entry (turn_of (get_or es i e)) (strategy_for side v) rest)) is_tree
-      ∙ ap (λ us. joined ys (entry (turn_of (get_or es i e)) (strategy_for side (tree_of (mark_of (get_or es i e)) grown)) (replies_to (drop (i + 1) es) us))) is_behind
+      ∙ ap (λ v. joined ys (entry (edge_turn (get_or es i e)) (strategy_for side v) rest)) is_tree
+      ∙ ap (λ us. joined ys (entry (edge_turn (get_or es i e)) (strategy_for side (tree_of (mark_of (get_or es i e)) grown)) (replies_to (drop (i + 1) es) us))) is_behind
       ∙ ap (joined ys) (sym step)
       ∙ made in
       (ys ++ (t, u) ∷ [], here, more ys foot)

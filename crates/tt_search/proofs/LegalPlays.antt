@@ -10,11 +10,11 @@ use Rattle.tt_game.specs.declared.turns.Turn.TheVariants.{Play}
 use Rattle.tt_game.specs.Game.{State, IsLegal}
 use Rattle.tt_game.specs.TurnLaws.{AreLegal}
 use Rattle.tt_proof.specs.KeptFootprints.{AreLegalPlays}
-use Rattle.tt_search.specs.Edges.{turn_of, turns_of}
+use Rattle.tt_search.specs.Edges.{edge_turn, edge_turns}
 use Rattle.tt_search.specs.declared.edges.Edge.{Edge}
 
 -- each of the edges' turns is legal
-pub legal_at : (f : Frame) (s : State) (es : List Edge) (i : ℕ) (e : Edge) → AreLegal f s (turns_of es) → i < length es → IsLegal f s (turn_of (get_or es i e))
+pub legal_at : (f : Frame) (s : State) (es : List Edge) (i : ℕ) (e : Edge) → AreLegal f s (edge_turns es) → i < length es → IsLegal f s (edge_turn (get_or es i e))
 legal_at f s [] i e h lt = absurd (omega (arith, lt))
 legal_at f s (x ∷ es) zero e h lt = h.0
 legal_at f s (x ∷ es) (suc i) e h lt = legal_at f s es i e h.1 (omega (arith, lt))

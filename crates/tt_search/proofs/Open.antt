@@ -11,7 +11,7 @@ use Rattle.tt_search.specs.Numbers.{count, IsUndecided}
 use Rattle.tt_search.specs.MostProving.{best, most_proving_state, with_most_proving, with_below}
 use Rattle.tt_search.specs.Growing.{leaf_for, new_leaves, expansion, IsExpansion, IsClosing, Grows, GrownFrom}
 use Rattle.tt_search.specs.Searched.{Searched, StepOf, IsSameProblem}
-use Rattle.tt_search.specs.Ended.{IsReached}
+use Rattle.tt_search.specs.Ended.{RanTo}
 use Rattle.tt_search.specs.declared.limits.Step.{Step}
 use Rattle.tt_search.specs.declared.limits.Step.TheVariants.{Expanded, Closed}
 use Rattle.tt_search.proofs.Grown.{UndecidedAt, best_undecided, won_decided, closed_decided, count_grown, expansion_count}
@@ -113,11 +113,11 @@ pub same_problem : (a b c : Searched) → IsSameProblem a b → IsSameProblem b 
 same_problem a b c h k = record { line = k.line ∙ h.line; limits = k.limits ∙ h.limits }
 
 -- a search is reached from itself
-pub reached_itself : (start : Searched) → IsReached start start
+pub reached_itself : (start : Searched) → RanTo start start
 reached_itself start = record { problem = record { line = refl; limits = refl }; grown = (0, refl) }
 
 -- from a search that is reached, a step that expands or closes leads to one that is reached
-pub reached_more : (start old new : Searched) (step : Step) → IsReached start old → IsSameProblem old new → StepOf old step new → (step ≡ Expanded) ⊎ (step ≡ Closed) → IsReached start new
+pub reached_more : (start old new : Searched) (step : Step) → RanTo start old → IsSameProblem old new → StepOf old step new → (step ≡ Expanded) ⊎ (step ≡ Closed) → RanTo start new
 reached_more start old new step r same k h = record {
   problem = same_problem start old new r.problem same;
   grown = grows start old new step r.problem r.grown k h;

@@ -8,24 +8,24 @@ use Rattle.tt_search.specs.Settled.{strategy_for, replies}
 use Rattle.tt_search.specs.Weight.{weight, weight_all}
 use Rattle.tt_game.specs.declared.turns.Turn.{Turn}
 use Rattle.tt_search.specs.PartialTree.{PartialTree, fresh}
-use Rattle.tt_search.specs.Edges.{turn_of, mark_of, turns_of, tree_of, grown_behind, trees_of, counted, grown_in}
+use Rattle.tt_search.specs.Edges.{edge_turn, mark_of, edge_turns, tree_of, grown_behind, edge_trees, counted, grown_in}
 use Rattle.tt_search.specs.Sprouting.{IsFreshAt}
 use Rattle.tt_search.specs.declared.edges.Edge.{Edge}
 use Rattle.tt_search.specs.declared.edges.Mark.{Mark}
 use Rattle.tt_search.specs.declared.edges.Mark.TheVariants.{Fresh, Won, Grown}
 
 -- there are as many trees as edges
-pub length-trees_of : (es : List Edge) (ts : List PartialTree) → length (trees_of es ts) ≡ length es
+pub length-trees_of : (es : List Edge) (ts : List PartialTree) → length (edge_trees es ts) ≡ length es
 length-trees_of [] ts = refl
 length-trees_of (e ∷ es) ts = ap suc (length-trees_of es (grown_behind (mark_of e) ts))
 
 -- and as many turns
-pub length-turns_of : (es : List Edge) → length (turns_of es) ≡ length es
+pub length-turns_of : (es : List Edge) → length (edge_turns es) ≡ length es
 length-turns_of [] = refl
 length-turns_of (e ∷ es) = ap suc (length-turns_of es)
 
 -- the turn at a place is that of the edge there
-pub turn_at_place : (es : List Edge) (i : ℕ) (e : Edge) (t : Turn) → i < length es → get_or (turns_of es) i t ≡ turn_of (get_or es i e)
+pub turn_at_place : (es : List Edge) (i : ℕ) (e : Edge) (t : Turn) → i < length es → get_or (edge_turns es) i t ≡ edge_turn (get_or es i e)
 turn_at_place [] i e t l = absurd (omega arith)
 turn_at_place (x ∷ es) zero e t l = refl
 turn_at_place (x ∷ es) (suc i) e t l = turn_at_place es i e t (omega arith)
@@ -54,7 +54,7 @@ drop_behind Grown n (t ∷ ts) = refl
 
 -- the tree at a place is its edge's, once the nodes of those before are dropped
 pub tree_at_place : (es : List Edge) (ts : List PartialTree) (i : ℕ) (e : Edge) (d : PartialTree) → i < length es
-    → get_or (trees_of es ts) i d ≡ tree_of (mark_of (get_or es i e)) (drop (grown_in (take i es)) ts)
+    → get_or (edge_trees es ts) i d ≡ tree_of (mark_of (get_or es i e)) (drop (grown_in (take i es)) ts)
 tree_at_place [] ts i e d l = absurd (omega arith)
 tree_at_place (x ∷ es) ts zero e d l = refl
 tree_at_place (x ∷ es) ts (suc i) e d l =
@@ -118,7 +118,7 @@ tree_of_node (t ∷ ts) (suc n) d l = tree_of_node ts n d (omega arith)
 
 -- the tree of a child that has grown is the node at its rank
 pub grown_at_place : (es : List Edge) (ts : List PartialTree) (i : ℕ) (e : Edge) (d : PartialTree) → i < length es → mark_of (get_or es i e) ≡ Grown → grown_in es ≡ length ts
-    → get_or (trees_of es ts) i d ≡ get_or ts (grown_in (take i es)) d
+    → get_or (edge_trees es ts) i d ≡ get_or ts (grown_in (take i es)) d
 grown_at_place es ts i e d l m w =
     tree_at_place es ts i e d l
     ∙ ap (λ k. tree_of k (drop (grown_in (take i es)) ts)) m
@@ -128,7 +128,7 @@ grown_at_place es ts i e d l m w =
 
 -- a new first node is the tree of a grown first child, and the trees behind stay
 set_here : (m : Mark) (es : List Edge) (ts : List PartialTree) (tree : PartialTree) → m ≡ Grown → 0 < length ts
-    → tree_of m (set ts 0 tree) ∷ trees_of es (grown_behind m (set ts 0 tree)) ≡ tree ∷ trees_of es (grown_behind m ts)
+    → tree_of m (set ts 0 tree) ∷ edge_trees es (grown_behind m (set ts 0 tree)) ≡ tree ∷ edge_trees es (grown_behind m ts)
 set_here Fresh es ts tree g l = cc
 set_here (Won side) es ts tree g l = cc
 set_here Grown es [] tree g l = absurd (omega arith)
@@ -157,13 +157,13 @@ length_behind Grown n (t ∷ ts) l = omega (arith, l)
 
 -- a new node at the rank of a grown child is a new tree at its place
 pub grown_on : (es : List Edge) (ts : List PartialTree) (i : ℕ) (e : Edge) (tree : PartialTree) → i < length es → mark_of (get_or es i e) ≡ Grown → grown_in (take i es) < length ts
-    → trees_of es (set ts (grown_in (take i es)) tree) ≡ set (trees_of es ts) i tree
+    → edge_trees es (set ts (grown_in (take i es)) tree) ≡ set (edge_trees es ts) i tree
 grown_on [] ts i e tree l m r = absurd (omega arith)
 grown_on (x ∷ es) ts zero e tree l m r = set_here (mark_of x) es ts tree m r
 grown_on (x ∷ es) ts (suc i) e tree l m r =
     let n : ℕ = grown_in (take i es) in
-    ap (λ u. u ∷ trees_of es (grown_behind (mark_of x) (set ts (counted (mark_of x) n) tree))) (set_behind (mark_of x) n ts tree r)
-    ∙ ap (λ us. tree_of (mark_of x) ts ∷ trees_of es us) (behind_set (mark_of x) n ts tree r)
+    ap (λ u. u ∷ edge_trees es (grown_behind (mark_of x) (set ts (counted (mark_of x) n) tree))) (set_behind (mark_of x) n ts tree r)
+    ∙ ap (λ us. tree_of (mark_of x) ts ∷ edge_trees es us) (behind_set (mark_of x) n ts tree r)
     ∙ ap (λ us. tree_of (mark_of x) ts ∷ us) (grown_on es (grown_behind (mark_of x) ts) i e tree (omega arith) m (length_behind (mark_of x) n ts r))
 
 -- ---- a fresh child grows
@@ -175,16 +175,16 @@ fresh_there (x ∷ es) zero h = omega arith
 fresh_there (x ∷ es) (suc i) h = omega (arith, fresh_there es i h)
 
 -- a fresh tree in the place of a fresh child changes nothing
-pub fresh_tree : (es : List Edge) (ts : List PartialTree) (i : ℕ) → IsFreshAt i es → set (trees_of es ts) i fresh ≡ trees_of es ts
+pub fresh_tree : (es : List Edge) (ts : List PartialTree) (i : ℕ) → IsFreshAt i es → set (edge_trees es ts) i fresh ≡ edge_trees es ts
 fresh_tree [] ts i h = absurd h
-fresh_tree (x ∷ es) ts zero h = ap (λ m. fresh ∷ trees_of es (grown_behind (mark_of x) ts)) h ∙ ap (λ m. tree_of m ts ∷ trees_of es (grown_behind (mark_of x) ts)) (sym h)
+fresh_tree (x ∷ es) ts zero h = ap (λ m. fresh ∷ edge_trees es (grown_behind (mark_of x) ts)) h ∙ ap (λ m. tree_of m ts ∷ edge_trees es (grown_behind (mark_of x) ts)) (sym h)
 fresh_tree (x ∷ es) ts (suc i) h = ap (λ us. tree_of (mark_of x) ts ∷ us) (fresh_tree es (grown_behind (mark_of x) ts) i h)
 
 -- an edge of the same turn in the place of another leaves the turns as they were
-pub same_turns : (es : List Edge) (i : ℕ) (x e : Edge) → i < length es → turn_of e ≡ turn_of (get_or es i x) → turns_of (set es i e) ≡ turns_of es
+pub same_turns : (es : List Edge) (i : ℕ) (x e : Edge) → i < length es → edge_turn e ≡ edge_turn (get_or es i x) → edge_turns (set es i e) ≡ edge_turns es
 same_turns [] i x e l t = absurd (omega arith)
-same_turns (y ∷ es) zero x e l t = ap (λ u. u ∷ turns_of es) t
-same_turns (y ∷ es) (suc i) x e l t = ap (λ us. turn_of y ∷ us) (same_turns es i x e (omega arith) t)
+same_turns (y ∷ es) zero x e l t = ap (λ u. u ∷ edge_turns es) t
+same_turns (y ∷ es) (suc i) x e l t = ap (λ us. edge_turn y ∷ us) (same_turns es i x e (omega arith) t)
 
 -- one more behind a child is one more with it
 counted_suc : (m : Mark) (n : ℕ) → counted m (suc n) ≡ suc (counted m n)
@@ -222,32 +222,32 @@ most_behind Grown n (t ∷ ts) l = omega (arith, l)
 
 -- where a fresh child grows, a node inserted at its rank becomes the tree at its place
 pub sprouted : (es : List Edge) (ts : List PartialTree) (i : ℕ) (e : Edge) (tree : PartialTree) → IsFreshAt i es → mark_of e ≡ Grown → grown_in (take i es) ≤ length ts
-    → trees_of (set es i e) (take (grown_in (take i es)) ts ++ tree ∷ drop (grown_in (take i es)) ts) ≡ set (trees_of es ts) i tree
+    → edge_trees (set es i e) (take (grown_in (take i es)) ts ++ tree ∷ drop (grown_in (take i es)) ts) ≡ set (edge_trees es ts) i tree
 sprouted [] ts i e tree h g r = absurd h
 sprouted (x ∷ es) ts zero e tree h g r =
-    ap (λ m. tree_of m (tree ∷ ts) ∷ trees_of es (grown_behind m (tree ∷ ts))) g
-    ∙ ap (λ m. tree ∷ trees_of es (grown_behind m ts)) (sym h)
+    ap (λ m. tree_of m (tree ∷ ts) ∷ edge_trees es (grown_behind m (tree ∷ ts))) g
+    ∙ ap (λ m. tree ∷ edge_trees es (grown_behind m ts)) (sym h)
 sprouted (x ∷ es) ts (suc i) e tree h g r =
     let n : ℕ = grown_in (take i es) in
     let row : List PartialTree = take (counted (mark_of x) n) ts ++ tree ∷ drop (counted (mark_of x) n) ts in
-    ap (λ u. u ∷ trees_of (set es i e) (grown_behind (mark_of x) row)) (insert_first (mark_of x) n ts tree r)
-    ∙ ap (λ us. tree_of (mark_of x) ts ∷ trees_of (set es i e) us) (insert_behind (mark_of x) n ts tree r)
+    ap (λ u. u ∷ edge_trees (set es i e) (grown_behind (mark_of x) row)) (insert_first (mark_of x) n ts tree r)
+    ∙ ap (λ us. tree_of (mark_of x) ts ∷ edge_trees (set es i e) us) (insert_behind (mark_of x) n ts tree r)
     ∙ ap (λ us. tree_of (mark_of x) ts ∷ us) (sprouted es (grown_behind (mark_of x) ts) i e tree h g (most_behind (mark_of x) n ts r))
 
 -- ---- edges are added
 
 -- one more edge is one more turn
-pub turns_push : (es : List Edge) (e : Edge) → turns_of (es ++ e ∷ []) ≡ turns_of es ++ turn_of e ∷ []
+pub turns_push : (es : List Edge) (e : Edge) → edge_turns (es ++ e ∷ []) ≡ edge_turns es ++ edge_turn e ∷ []
 turns_push [] e = refl
-turns_push (x ∷ es) e = ap (λ us. turn_of x ∷ us) (turns_push es e)
+turns_push (x ∷ es) e = ap (λ us. edge_turn x ∷ us) (turns_push es e)
 
 -- without any nodes, one more edge is one more tree
-pub trees_push : (es : List Edge) (e : Edge) → trees_of (es ++ e ∷ []) [] ≡ trees_of es [] ++ tree_of (mark_of e) [] ∷ []
+pub trees_push : (es : List Edge) (e : Edge) → edge_trees (es ++ e ∷ []) [] ≡ edge_trees es [] ++ tree_of (mark_of e) [] ∷ []
 trees_push [] e = refl
 trees_push (x ∷ es) e =
-    ap (λ us. tree_of (mark_of x) [] ∷ trees_of (es ++ e ∷ []) us) (behind_none (mark_of x))
+    ap (λ us. tree_of (mark_of x) [] ∷ edge_trees (es ++ e ∷ []) us) (behind_none (mark_of x))
     ∙ ap (λ us. tree_of (mark_of x) [] ∷ us) (trees_push es e)
-    ∙ ap (λ us. tree_of (mark_of x) [] ∷ trees_of es us ++ tree_of (mark_of e) [] ∷ []) (sym (behind_none (mark_of x)))
+    ∙ ap (λ us. tree_of (mark_of x) [] ∷ edge_trees es us ++ tree_of (mark_of e) [] ∷ []) (sym (behind_none (mark_of x)))
 
 -- one more edge whose child has not grown leaves the count as it was
 pub grown_push : (es : List Edge) (e : Edge) → counted (mark_of e) 0 ≡ 0 → grown_in (es ++ e ∷ []) ≡ grown_in es
@@ -258,19 +258,19 @@ grown_push (x ∷ es) e h = ap (counted (mark_of x)) (grown_push es e h)
 
 -- the replies from a place on begin with that of the edge there
 pub replied_step : (side : Side) (es : List Edge) (rest : List PartialTree) (i : ℕ) (e : Edge) → i < length es
-    → replies side (turns_of (drop i es)) (children_of (trees_of (drop i es) rest)) ≡ entry (turn_of (get_or es i e)) (strategy_for side (tree_of (mark_of (get_or es i e)) rest))
-    (replies side (turns_of (drop (i + 1) es)) (children_of (trees_of (drop (i + 1) es) (grown_behind (mark_of (get_or es i e)) rest))))
-replied_step side es rest i e l = at_drop_more (λ xs. replies side (turns_of xs) (children_of (trees_of xs rest))) es i e l
+    → replies side (edge_turns (drop i es)) (children_of (edge_trees (drop i es) rest)) ≡ entry (edge_turn (get_or es i e)) (strategy_for side (tree_of (mark_of (get_or es i e)) rest))
+    (replies side (edge_turns (drop (i + 1) es)) (children_of (edge_trees (drop (i + 1) es) (grown_behind (mark_of (get_or es i e)) rest))))
+replied_step side es rest i e l = at_drop_more (λ xs. replies side (edge_turns xs) (children_of (edge_trees xs rest))) es i e l
 
 -- the weight from a place on: that of the child there and 1, and that from the next place on
 pub weight_step : (es : List Edge) (rest : List PartialTree) (i : ℕ) (e : Edge) → i < length es
-    → weight_all (children_of (trees_of (drop i es) rest)) ≡ weight (tree_of (mark_of (get_or es i e)) rest) + 1 + weight_all
-    (children_of (trees_of (drop (i + 1) es) (grown_behind (mark_of (get_or es i e)) rest)))
-weight_step es rest i e l = at_drop_more (λ xs. weight_all (children_of (trees_of xs rest))) es i e l
+    → weight_all (children_of (edge_trees (drop i es) rest)) ≡ weight (tree_of (mark_of (get_or es i e)) rest) + 1 + weight_all
+    (children_of (edge_trees (drop (i + 1) es) (grown_behind (mark_of (get_or es i e)) rest)))
+weight_step es rest i e l = at_drop_more (λ xs. weight_all (children_of (edge_trees xs rest))) es i e l
 
 -- past the last edge there are no replies
-pub replies_at_end : (side : Side) (es : List Edge) (rest : List PartialTree) (i : ℕ) → length es ≤ i → replies side (turns_of (drop i es)) (children_of (trees_of (drop i es) rest)) ≡ none
-replies_at_end side es rest i l = at_drop_all (λ xs. replies side (turns_of xs) (children_of (trees_of xs rest))) es i l
+pub replies_at_end : (side : Side) (es : List Edge) (rest : List PartialTree) (i : ℕ) → length es ≤ i → replies side (edge_turns (drop i es)) (children_of (edge_trees (drop i es) rest)) ≡ none
+replies_at_end side es rest i l = at_drop_all (λ xs. replies side (edge_turns xs) (children_of (edge_trees xs rest))) es i l
 
 -- ---- as many nodes as children that have grown
 

@@ -4,7 +4,7 @@ use Rattle.tt_game.specs.declared.frame.Side.{Side}
 use Rattle.tt_game.specs.Game.{winner_of}
 use Rattle.tt_search.specs.PartialTree.{PartialTree, fresh, won}
 use Rattle.tt_search.specs.Numbers.{IsUndecided}
-use Rattle.tt_search.specs.Edges.{turn_of, mark_of, turns_of, trees_of, tree_of, grown_in, child_at}
+use Rattle.tt_search.specs.Edges.{edge_turn, mark_of, edge_turns, edge_trees, tree_of, grown_in, child_at}
 use Rattle.tt_search.specs.Packed.{HasItsNodes, child_of}
 use Rattle.tt_search.specs.Walking.{Stand, stage, stand_of}
 use Rattle.tt_search.specs.Taken.{Taken}
@@ -34,8 +34,8 @@ stuck_fresh at left Memory tree k = refl
 -- a child that stays fresh changes nothing
 put_nothing : (place : ℕ) (x y : Packed) → IsFreshAt place x.edges.items → y.edges.items ≡ x.edges.items → y.grown.items ≡ x.grown.items → IsPut place x fresh y
 put_nothing place x y there edges row = record {
-  turns = ap turns_of edges;
-  trees = ap (λ es. trees_of es y.grown.items) edges ∙ ap (trees_of x.edges.items) row ∙ sym (fresh_tree x.edges.items x.grown.items place there);
+  turns = ap edge_turns edges;
+  trees = ap (λ es. edge_trees es y.grown.items) edges ∙ ap (edge_trees x.edges.items) row ∙ sym (fresh_tree x.edges.items x.grown.items place there);
 }
 
 -- where the step is stuck, nothing changes
@@ -76,12 +76,12 @@ module _ (x y : Packed) (place rank : ℕ) (d e : Edge) (tree : PartialTree) (th
   in_nodes = omega (arith, r, rank_within x.edges.items place, whole)
 
   -- the child at the place becomes the new tree, and all else stays
-  pub put : turn_of e ≡ turn_of (get_or x.edges.items place d) → IsPut place x tree y
+  pub put : edge_turn e ≡ edge_turn (get_or x.edges.items place d) → IsPut place x tree y
   put turn = record {
     turns = rw edges (same_turns x.edges.items place d e (fresh_there x.edges.items place there) turn);
     trees =
         rw edges
-        (ap (trees_of (set x.edges.items place e)) (row ∙ ap (λ n. insert x.grown.items n tree) r)
+        (ap (edge_trees (set x.edges.items place e)) (row ∙ ap (λ n. insert x.grown.items n tree) r)
         ∙ sprouted x.edges.items x.grown.items place e tree there mark (omega (arith, rank_within x.edges.items place, whole)));
   }
 
@@ -138,7 +138,7 @@ module _ (es : List Edge) (ts : List PartialTree) (i : ℕ) (e : Edge) (l : i < 
   grown_child w m = grown_at_place es ts i e fresh l (ap mark_of (sym is) ∙ m) w
 
   -- a new node at its rank is a new tree at its place
-  pub grown_put : grown_in es ≡ length ts → mark_of e ≡ Grown → (tree : PartialTree) → trees_of es (set ts (grown_in (take i es)) tree) ≡ set (trees_of es ts) i tree
+  pub grown_put : grown_in es ≡ length ts → mark_of e ≡ Grown → (tree : PartialTree) → edge_trees es (set ts (grown_in (take i es)) tree) ≡ set (edge_trees es ts) i tree
   grown_put w m tree = grown_on es ts i e tree l (ap mark_of (sym is) ∙ m) (grown_here w m)
 
 -- what a list has at a place doesn't hang on the default
@@ -173,7 +173,7 @@ module _ (x : Packed) (i rank : ℕ) (e : Edge) (node : PartialTree) (l : i < le
       turns = rw edges refl;
       trees =
           rw (edges, row)
-          (subst (λ q. trees_of x.edges.items (set x.grown.items q new) ≡ set (trees_of x.edges.items x.grown.items) i new) (sym r)
+          (subst (λ q. edge_trees x.edges.items (set x.grown.items q new) ≡ set (edge_trees x.edges.items x.grown.items) i new) (sym r)
           (grown_put x.edges.items x.grown.items i e l is whole (sym mark) new));
     },
   )

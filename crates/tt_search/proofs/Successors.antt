@@ -11,7 +11,7 @@ use Rattle.tt_game.specs.Turns.{legal_turns, successor, successors_of, successor
 use Rattle.tt_search.specs.PartialTree.{PartialTree, more, expanded}
 use Rattle.tt_search.specs.Children.{children_of}
 use Rattle.tt_search.specs.declared.edges.Edge.{Edge}
-use Rattle.tt_search.specs.Edges.{turn_of, mark_of, tree_of, turns_of, trees_of}
+use Rattle.tt_search.specs.Edges.{edge_turn, mark_of, tree_of, edge_turns, edge_trees}
 use Rattle.tt_search.proofs.Places.{turns_push, trees_push}
 use Rattle.tt_search.specs.Growing.{leaf_for, new_leaf, new_leaves, expansion}
 
@@ -49,39 +49,39 @@ shifted done made rest next whole x is here all =
     ap (λ ys. ys ++ rest) is ∙ append_assoc done (x ∷ []) rest ∙ ap (λ ys. done ++ ys) (sym here) ∙ all
 
 -- an edge to the next legal play: the turns behind the edges, and those left, are the legal ones
-pub turns_more : (f : Frame) (s : State) (es made : List Edge) (e : Edge) (from p n : ℕ) → made ≡ es ++ e ∷ [] → turn_of e ≡ Play p
+pub turns_more : (f : Frame) (s : State) (es made : List Edge) (e : Edge) (from p n : ℕ) → made ≡ es ++ e ∷ [] → edge_turn e ≡ Play p
     → successors_from f s from ≡ successor f s (Play p) ∷ successors_from f s (p + 1) → n ≡ p
-    → turns_of es ++ map (λ x. x.turn) (successors_from f s from) ≡ legal_turns f s → turns_of made ++ map (λ x. x.turn) (successors_from f s (n + 1)) ≡ legal_turns f s
+    → edge_turns es ++ map (λ x. x.turn) (successors_from f s from) ≡ legal_turns f s → edge_turns made ++ map (λ x. x.turn) (successors_from f s (n + 1)) ≡ legal_turns f s
 turns_more f s es made e from p n is turn next here all =
-    shifted (turns_of es) (turns_of made) _ (map (λ x. x.turn) (successors_from f s from)) (legal_turns f s) (Play p)
-    (ap turns_of is ∙ turns_push es e ∙ ap (λ t. turns_of es ++ t ∷ []) turn)
+    shifted (edge_turns es) (edge_turns made) _ (map (λ x. x.turn) (successors_from f s from)) (legal_turns f s) (Play p)
+    (ap edge_turns is ∙ turns_push es e ∙ ap (λ t. edge_turns es ++ t ∷ []) turn)
     (ap (map (λ x. x.turn)) next ∙ ap (λ k. Play p ∷ map (λ x. x.turn) (successors_from f s (k + 1))) (sym here))
     all
 
 -- and so are the new leaves
 pub leaves_more : (f : Frame) (s : State) (es made : List Edge) (e : Edge) (winner : Option Side) (from p n : ℕ) → made ≡ es ++ e ∷ [] → tree_of (mark_of e) [] ≡ leaf_for winner
     → winner ≡ winner_of f (after f s (Play p)) → successors_from f s from ≡ successor f s (Play p) ∷ successors_from f s (p + 1) → n ≡ p
-    → trees_of es [] ++ map (λ x. leaf_for x.winner) (successors_from f s from) ≡ map (λ x. leaf_for x.winner) (successors_of f s)
-    → trees_of made [] ++ map (λ x. leaf_for x.winner) (successors_from f s (n + 1)) ≡ map (λ x. leaf_for x.winner) (successors_of f s)
+    → edge_trees es [] ++ map (λ x. leaf_for x.winner) (successors_from f s from) ≡ map (λ x. leaf_for x.winner) (successors_of f s)
+    → edge_trees made [] ++ map (λ x. leaf_for x.winner) (successors_from f s (n + 1)) ≡ map (λ x. leaf_for x.winner) (successors_of f s)
 leaves_more f s es made e winner from p n is tree won next here all =
-    shifted (trees_of es []) (trees_of made []) _ (map (λ x. leaf_for x.winner) (successors_from f s from)) (map (λ x. leaf_for x.winner) (successors_of f s))
+    shifted (edge_trees es []) (edge_trees made []) _ (map (λ x. leaf_for x.winner) (successors_from f s from)) (map (λ x. leaf_for x.winner) (successors_of f s))
     (leaf_for (winner_of f (after f s (Play p))))
-    (ap (λ ys. trees_of ys []) is ∙ trees_push es e ∙ ap (λ t. trees_of es [] ++ t ∷ []) (tree ∙ ap leaf_for won))
+    (ap (λ ys. edge_trees ys []) is ∙ trees_push es e ∙ ap (λ t. edge_trees es [] ++ t ∷ []) (tree ∙ ap leaf_for won))
     (ap (map (λ x. leaf_for x.winner)) next
     ∙ ap (λ k. leaf_for (winner_of f (after f s (Play p))) ∷ map (λ x. leaf_for x.winner) (successors_from f s (k + 1))) (sym here))
     all
 
 -- the edge to a pass ends them: the turns are the legal ones
-pub turns_last : (f : Frame) (s : State) (es made : List Edge) (e : Edge) (from : ℕ) → made ≡ es ++ e ∷ [] → turn_of e ≡ Pass → successors_from f s from ≡ successor f s Pass ∷ []
-    → turns_of es ++ map (λ x. x.turn) (successors_from f s from) ≡ legal_turns f s → turns_of made ≡ map (λ x. x.turn) (successors_of f s)
+pub turns_last : (f : Frame) (s : State) (es made : List Edge) (e : Edge) (from : ℕ) → made ≡ es ++ e ∷ [] → edge_turn e ≡ Pass → successors_from f s from ≡ successor f s Pass ∷ []
+    → edge_turns es ++ map (λ x. x.turn) (successors_from f s from) ≡ legal_turns f s → edge_turns made ≡ map (λ x. x.turn) (successors_of f s)
 turns_last f s es made e from is turn next all =
-    ap turns_of is ∙ turns_push es e ∙ ap (λ t. turns_of es ++ t ∷ []) turn ∙ ap (λ xs. turns_of es ++ map (λ x. x.turn) xs) (sym next) ∙ all ∙ sym (turns_of-successors f s)
+    ap edge_turns is ∙ turns_push es e ∙ ap (λ t. edge_turns es ++ t ∷ []) turn ∙ ap (λ xs. edge_turns es ++ map (λ x. x.turn) xs) (sym next) ∙ all ∙ sym (turns_of-successors f s)
 
 -- and the leaves are new leaves for all successors
 pub leaves_last : (f : Frame) (s : State) (es made : List Edge) (e : Edge) (winner : Option Side) (from : ℕ) → made ≡ es ++ e ∷ [] → tree_of (mark_of e) [] ≡ leaf_for winner
     → winner ≡ winner_of f (after f s Pass) → successors_from f s from ≡ successor f s Pass ∷ []
-    → trees_of es [] ++ map (λ x. leaf_for x.winner) (successors_from f s from) ≡ map (λ x. leaf_for x.winner) (successors_of f s)
-    → trees_of made [] ≡ map (λ x. leaf_for x.winner) (successors_of f s)
+    → edge_trees es [] ++ map (λ x. leaf_for x.winner) (successors_from f s from) ≡ map (λ x. leaf_for x.winner) (successors_of f s)
+    → edge_trees made [] ≡ map (λ x. leaf_for x.winner) (successors_of f s)
 leaves_last f s es made e winner from is tree won next all =
-    ap (λ ys. trees_of ys []) is ∙ trees_push es e ∙ ap (λ t. trees_of es [] ++ t ∷ []) (tree ∙ ap leaf_for won)
-    ∙ ap (λ xs. trees_of es [] ++ map (λ x. leaf_for x.winner) xs) (sym next) ∙ all
+    ap (λ ys. edge_trees ys []) is ∙ trees_push es e ∙ ap (λ t. edge_trees es [] ++ t ∷ []) (tree ∙ ap leaf_for won)
+    ∙ ap (λ xs. edge_trees es [] ++ map (λ x. leaf_for x.winner) xs) (sym next) ∙ all

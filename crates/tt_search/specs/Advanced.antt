@@ -1,7 +1,7 @@
 -- How a search goes on: one step, or some steps together. For private contracts and proofs.
 use Rattle.std.specs.Prelude.{◌≡◌}
 use Rattle.tt_search.specs.Searched.{Searched, StepOf}
-use Rattle.tt_search.specs.Ended.{IsReached}
+use Rattle.tt_search.specs.Ended.{RanTo}
 use Rattle.tt_search.specs.declared.limits.Step.{Step}
 use Rattle.tt_search.specs.declared.walk.Pace.{Pace}
 use Rattle.tt_search.specs.declared.walk.Pace.TheVariants.{OneStep}
@@ -9,6 +9,6 @@ use Rattle.tt_search.specs.declared.walk.Pace.TheVariants.{OneStep}
 -- growths lead to a search, and a step of that one is the last; at the pace of one step it is the only one
 pub record IsAdvanced (pace : Pace) (old : Searched) (step : Step) (new : Searched) : Type 0 where
   pub before : Searched
-  pub reached : IsReached old before
+  pub reached : RanTo old before
   pub one : pace ≡ OneStep → before ≡ old
   pub taken : StepOf before step new

@@ -17,14 +17,14 @@ turn_at n = if ltb n MOST_POINTS then Play n else Pass
 abbrev pub mark_at : ℕ → Mark
 mark_at n = if n == 0 then Fresh else (if n == 1 then Won Attacker else (if n == 2 then Won Defender else Grown))
 
-abbrev pub turn_of : Edge → Turn
-turn_of e = turn_at (e.code % TURNS)
+abbrev pub edge_turn : Edge → Turn
+edge_turn e = turn_at (e.code % TURNS)
 
 abbrev pub mark_of : Edge → Mark
 mark_of e = mark_at (e.code / TURNS)
 
-abbrev pub turns_of : List Edge → List Turn
-turns_of es = map turn_of es
+abbrev pub edge_turns : List Edge → List Turn
+edge_turns es = map edge_turn es
 
 -- the tree of a child, where these are the trees of the children that have grown, from this one on
 abbrev pub tree_of : Mark → List PartialTree → PartialTree
@@ -40,9 +40,9 @@ grown_behind (Won side) grown = grown
 grown_behind Grown [] = []
 grown_behind Grown (tree ∷ trees) = trees
 
-abbrev pub trees_of : List Edge → List PartialTree → List PartialTree
-trees_of [] grown = []
-trees_of (e ∷ es) grown = tree_of (mark_of e) grown ∷ trees_of es (grown_behind (mark_of e) grown)
+abbrev pub edge_trees : List Edge → List PartialTree → List PartialTree
+edge_trees [] grown = []
+edge_trees (e ∷ es) grown = tree_of (mark_of e) grown ∷ edge_trees es (grown_behind (mark_of e) grown)
 
 -- one more where the child has grown
 abbrev pub counted : Mark → ℕ → ℕ
@@ -57,4 +57,4 @@ grown_in (e ∷ es) = counted (mark_of e) (grown_in es)
 
 -- the tree of the child at a place
 abbrev pub child_at : ℕ → List Edge → List PartialTree → PartialTree
-child_at i es grown = slice_index_or (trees_of es grown) i fresh
+child_at i es grown = slice_index_or (edge_trees es grown) i fresh

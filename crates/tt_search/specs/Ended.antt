@@ -9,15 +9,15 @@ use Rattle.tt_search.specs.declared.search.End.{End}
 use Rattle.tt_search.specs.declared.search.End.TheVariants.{Settled, Stuck}
 
 -- a search is on the same line under the same limits, and is reached by growth
-pub record IsReached (start search : Searched) : Type 0 where
+pub record RanTo (start search : Searched) : Type 0 where
   pub problem : IsSameProblem start search
   pub grown : GrownFrom start.limits start.line.frame start.line.state start.tree search.tree
 
 -- what each end of a run says: a proof of a search that is reached, or a search that is reached and stuck; a run that
 -- is stuck holds its search
 abbrev pub EndOf : Searched → End → Type 0
-EndOf start (Settled proof) = (search : Searched) × IsReached start search × IsProofOf search proof
-EndOf start (Stuck reason (Some search)) = IsReached start search × IsStuckFor reason search
+EndOf start (Settled proof) = (search : Searched) × RanTo start search × IsProofOf search proof
+EndOf start (Stuck reason (Some search)) = RanTo start search × IsStuckFor reason search
 EndOf start (Stuck reason None) = ⊥
 
 -- from one search to another one, as many expansions were granted as the tree's count rose by
@@ -28,7 +28,7 @@ HasSpent start old search new = new.granted + count start.tree ≡ old.granted +
 -- answers; one was refused where it is stuck for the total, and elsewhere none was in the run
 abbrev pub SpentBy : Searched → Asked → End → Asked → Type 0
 SpentBy start old (Settled proof) new =
-    (search : Searched) × IsReached start search × IsProofOf search proof × HasSpent start old search new × (new.refused ≡ old.refused)
+    (search : Searched) × RanTo start search × IsProofOf search proof × HasSpent start old search new × (new.refused ≡ old.refused)
 SpentBy start old (Stuck Budget (Some search)) new = HasSpent start old search new × (new.refused ≡ old.refused)
 SpentBy start old (Stuck Depth (Some search)) new = HasSpent start old search new × (new.refused ≡ old.refused)
 SpentBy start old (Stuck Total (Some search)) new = HasSpent start old search new × (new.refused ≡ true)

@@ -5,7 +5,7 @@ use denote.Param.Weighed.{most}
 use Rattle.tt_search.specs.PartialTree.{PartialTree}
 use Rattle.tt_search.specs.Weight.{weight, weight_all}
 use Rattle.tt_search.specs.Children.{children_of}
-use Rattle.tt_search.specs.Edges.{tree_of, grown_behind, trees_of, mark_of, counted, grown_in}
+use Rattle.tt_search.specs.Edges.{tree_of, grown_behind, edge_trees, mark_of, counted, grown_in}
 use Rattle.tt_search.specs.Choices.{weight_below}
 use Rattle.tt_search.specs.Packed.{choices_of}
 use Rattle.tt_search.specs.Kept.{IsKept}
@@ -20,15 +20,15 @@ use Rattle.tt_search.specs.declared.children.Children.TheDeep.{deep-Growth, deep
 
 -- the grown nodes weigh no more than all children, if that holds for the list without its first edge
 most-behind : (m : Mark) (es : List Edge) (ts : List PartialTree)
-    → ((us : List PartialTree) → grown_in es ≡ length us → most (λ t. weight t + 1) us ≤ weight_all (children_of (trees_of es us))) → counted m (grown_in es) ≡ length ts
-    → most (λ t. weight t + 1) ts ≤ weight_all (children_of (tree_of m ts ∷ trees_of es (grown_behind m ts)))
+    → ((us : List PartialTree) → grown_in es ≡ length us → most (λ t. weight t + 1) us ≤ weight_all (children_of (edge_trees es us))) → counted m (grown_in es) ≡ length ts
+    → most (λ t. weight t + 1) ts ≤ weight_all (children_of (tree_of m ts ∷ edge_trees es (grown_behind m ts)))
 most-behind mark.Fresh es ts below h = omega (arith, below ts (omega (arith, h)))
 most-behind (mark.Won side) es ts below h = omega (arith, below ts (omega (arith, h)))
 most-behind mark.Grown es [] below h = absurd (omega (arith, h))
 most-behind mark.Grown es (t ∷ ts) below h = omega (arith, below ts (omega (arith, h)))
 
 -- the nodes of the children that have grown weigh no more than all children
-most-weight : (es : List Edge) (ts : List PartialTree) → grown_in es ≡ length ts → most (λ t. weight t + 1) ts ≤ weight_all (children_of (trees_of es ts))
+most-weight : (es : List Edge) (ts : List PartialTree) → grown_in es ≡ length ts → most (λ t. weight t + 1) ts ≤ weight_all (children_of (edge_trees es ts))
 most-weight [] [] h = omega arith
 most-weight [] (t ∷ ts) h = absurd (omega (arith, h))
 most-weight (e ∷ es) ts h = most-behind (mark_of e) es ts (most-weight es) h

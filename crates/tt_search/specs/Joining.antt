@@ -10,7 +10,7 @@ use Rattle.tt_search.specs.Numbers.{number}
 use Rattle.tt_search.specs.Growing.{IsPartialTree, ArePartialTrees}
 use Rattle.tt_search.specs.Within.{StaysWithin, AllStayWithin}
 use Rattle.tt_search.specs.Children.{children_of}
-use Rattle.tt_search.specs.Edges.{turns_of, trees_of, grown_in}
+use Rattle.tt_search.specs.Edges.{edge_turns, edge_trees, grown_in}
 use Rattle.tt_search.specs.declared.edges.Edge.{Edge}
 
 -- each child's number is 0
@@ -27,7 +27,7 @@ pub record IsSettledAt (side : Side) (f : Frame) (s : State) (tree : PartialTree
 -- the trees behind legal turns of the state, each settled for the side; there is a node for each child that has grown
 pub record AreSettledAt (side : Side) (f : Frame) (s : State) (es : List Edge) (grown : List PartialTree) : Type 0 where
   pub whole : grown_in es ≡ length grown
-  pub settled : AreZero side (children_of (trees_of es grown))
-  pub legal : AreLegal f s (turns_of es)
-  pub partial : ArePartialTrees f s (turns_of es) (children_of (trees_of es grown))
-  pub stays : AllStayWithin f.size (MOST_DEPTH - 1) (children_of (trees_of es grown))
+  pub settled : AreZero side (children_of (edge_trees es grown))
+  pub legal : AreLegal f s (edge_turns es)
+  pub partial : ArePartialTrees f s (edge_turns es) (children_of (edge_trees es grown))
+  pub stays : AllStayWithin f.size (MOST_DEPTH - 1) (children_of (edge_trees es grown))

@@ -3,7 +3,7 @@ use Rattle.std.specs.Prelude.{◌≡◌, ℕ, zero, suc, ◌%◌, ◌<◌, ◌�
 use Rattle.tt_game.specs.declared.frame.Side.{Side}
 use Rattle.tt_game.specs.Line.{Standing}
 use Rattle.tt_proof.specs.Proven.{Proven}
-use Rattle.tt_search.specs.Stores.{IsAnswer}
+use Rattle.tt_search.specs.Stores.{AnswersFor}
 
 -- one more than the last place below n that passes the test, or 0 where none does
 abbrev pub last_place : (ℕ → Bool) → ℕ → ℕ
@@ -21,11 +21,11 @@ pub record IsChained (heads before marks : List ℕ) (n : ℕ) : Type 0 where
   pub before_leads : (place : ℕ) → place < n → get_or before place 0 ≡ last_place (in_chain marks (length heads) (get_or marks place 0 % length heads)) place
 
 -- each place has its mark and the one before it, and there are as many chains as places at least, fewer than 2 ^ 32
-pub record AreSized (heads before marks : List ℕ) : Type 0 where
+pub record AreLongEnough (heads before marks : List ℕ) : Type 0 where
   pub one_each : length before ≡ length marks
   pub enough : length marks ≤ length heads
   pub few : length heads < 4294967296
 
 -- no proof answers from this place on
 abbrev pub NoneFrom : Standing → Side → List Proven → ℕ → Type 0
-NoneFrom line side ps n = (i : ℕ) (p : Proven) → n ≤ i → slice_get ps i ≡ Some p → IsAnswer line side p → ⊥
+NoneFrom line side ps n = (i : ℕ) (p : Proven) → n ≤ i → slice_get ps i ≡ Some p → AnswersFor line side p → ⊥

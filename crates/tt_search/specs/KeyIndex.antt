@@ -8,16 +8,16 @@ use Rattle.tt_game.specs.Line.{Standing}
 use Rattle.tt_game.specs.contracts.keys.KeyHash.TheImpl as key_hash
 use Rattle.tt_game.specs.contracts.frame.SideHash.TheImpl as side_hash
 use Rattle.tt_proof.specs.Proven.{Proven}
-use Rattle.tt_search.specs.Stores.{IsAnswer, IsNewest}
+use Rattle.tt_search.specs.Stores.{AnswersFor, IsNewest}
 
 -- a number of 32 bits that a key and a side have: a hash of both
-unfoldable pub mark_of : Key → Side → ℕ
-mark_of key side =
+unfoldable pub key_mark : Key → Side → ℕ
+key_mark key side =
     hasher.finish (fold hasher.write (fold hasher.write hasher.initial ((key_hash.ghosts).hash_input key)) ((side_hash.ghosts).hash_input side)) % 2 ^ 32
 
 -- the marks of proofs
-abbrev pub marks_of : List Proven → List ℕ
-marks_of ps = map (λ (p : Proven). mark_of (key_of p.frame p.state) p.side) ps
+abbrev pub key_marks : List Proven → List ℕ
+key_marks ps = map (λ (p : Proven). key_mark (key_of p.frame p.state) p.side) ps
 
 -- the marks of the proofs that an index was told, and for how many more it has room
 pub record Marking : Type 0 where
@@ -33,4 +33,4 @@ proof_at ps (Some place) = slice_get ps place
 pub record IsPlaceOfNewest (line : Standing) (side : Side) (ps : List Proven) (place : Option ℕ) : Type 0 where
   pub newest : IsNewest line side (reverse ps) (proof_at ps place)
   pub within : IfSome place (λ n. n < length ps)
-  pub found : IfSome (proof_at ps place) (IsAnswer line side)
+  pub found : IfSome (proof_at ps place) (AnswersFor line side)

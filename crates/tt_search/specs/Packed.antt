@@ -4,17 +4,17 @@ use Rattle.tt_game.specs.declared.frame.Side.{Side}
 use Rattle.tt_search.specs.PartialTree.{PartialTree, Children}
 use Rattle.tt_search.specs.Children.{children_of}
 use Rattle.tt_search.specs.Choices.{Choices}
-use Rattle.tt_search.specs.Edges.{turns_of, trees_of, grown_in, child_at}
+use Rattle.tt_search.specs.Edges.{edge_turns, edge_trees, grown_in, child_at}
 use Rattle.tt_search.specs.declared.edges.TheConstants.{TURNS}
 use Rattle.tt_search.specs.declared.children.Packed.{Packed}
 
 -- what they offer to the side to move
 abbrev pub choices_of : Side → Packed → Choices
-choices_of mover p = record { mover = mover; turns = turns_of p.edges.items; trees = trees_of p.edges.items p.grown.items }
+choices_of mover p = record { mover = mover; turns = edge_turns p.edges.items; trees = edge_trees p.edges.items p.grown.items }
 
 -- the children themselves
 abbrev pub children_in : Packed → Children
-children_in p = children_of (trees_of p.edges.items p.grown.items)
+children_in p = children_of (edge_trees p.edges.items p.grown.items)
 
 -- each child that has grown has its node
 abbrev pub HasItsNodes : Packed → Type 0

@@ -1,7 +1,7 @@
 -- What steps at a child do to the children of a node. For private contracts and proofs.
 use Rattle.std.specs.Prelude.{◌≡◌, ℕ, zero, suc, List, [], ◌∷◌, slice_set}
 use Rattle.tt_search.specs.PartialTree.{PartialTree, fresh}
-use Rattle.tt_search.specs.Edges.{mark_of, turns_of, trees_of}
+use Rattle.tt_search.specs.Edges.{mark_of, edge_turns, edge_trees}
 use Rattle.tt_search.specs.Choices.{Choices, best_child, with_best}
 use Rattle.tt_search.specs.Packed.{child_of}
 use Rattle.tt_search.specs.Walking.{Stand, stage, stand_of}
@@ -22,8 +22,8 @@ IsFreshAt (suc i) (e ∷ es) = IsFreshAt i es
 
 -- the child at the place becomes this tree, and all else stays
 pub record IsPut (place : ℕ) (old : Packed) (tree : PartialTree) (new : Packed) : Type 0 where
-  pub turns : turns_of new.edges.items ≡ turns_of old.edges.items
-  pub trees : trees_of new.edges.items new.grown.items ≡ slice_set (trees_of old.edges.items old.grown.items) place tree
+  pub turns : edge_turns new.edges.items ≡ edge_turns old.edges.items
+  pub trees : edge_trees new.edges.items new.grown.items ≡ slice_set (edge_trees old.edges.items old.grown.items) place tree
 
 -- the fresh child at the place takes a step
 abbrev pub Sprouts : Walk → ℕ → Packed → Step → Packed → Walk → Type 0

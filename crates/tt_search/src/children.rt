@@ -2,7 +2,7 @@
 
 ghost use Rattle.std.specs.Prelude.{◌≡◌, ◌<◌, ◌≤◌, [], length, slice_index_or};
 ghost use Rattle.tt_search.specs.declared.edges.TheConstants.{TURNS};
-ghost use Rattle.tt_search.specs.Edges.{turns_of, trees_of, grown_in};
+ghost use Rattle.tt_search.specs.Edges.{edge_turns, edge_trees, grown_in};
 
 use crate::edges::{Edge, Mark};
 use crate::node::Node;
@@ -67,7 +67,7 @@ impl Children {
     pub(crate) fn new(alloc: Global, mover: Side, edges: Vec<Edge>) -> (Children, Pair)
         requires few { length edges.items ≤ TURNS }
         requires none { grown_in edges.items ≡ 0 }
-        ensures children { result.0 ≡ record { mover = mover; turns = turns_of edges.items; trees = trees_of edges.items [] } }
+        ensures children { result.0 ≡ record { mover = mover; turns = edge_turns edges.items; trees = edge_trees edges.items [] } }
         ensures numbers { ArePair mover (node_with result.0) result.1 }
     {
         let grown = Vec::new(alloc);

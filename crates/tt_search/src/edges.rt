@@ -1,7 +1,7 @@
 //! The ways from an expanded node to its children, two bytes each.
 
 ghost use Rattle.std.specs.Prelude.{◌≡◌};
-ghost use Rattle.tt_search.specs.Edges.{turn_of, mark_of};
+ghost use Rattle.tt_search.specs.Edges.{edge_turn, mark_of};
 
 use tt_game::{Side, Turn};
 use tt_sgf::{MOST_POINTS, Point};
@@ -27,7 +27,7 @@ const TURNS: u16 = 512;
 impl Edge {
     /// The edge of a turn to a child with the mark.
     pub(crate) fn new(turn: Turn, mark: Mark) -> Edge
-        ensures turn { turn_of result ≡ turn }
+        ensures turn { edge_turn result ≡ turn }
         ensures mark { mark_of result ≡ mark }
     {
         let number = match turn {
@@ -47,7 +47,7 @@ impl Edge {
 
     /// The turn.
     pub(crate) fn turn(self) -> Turn
-        ensures { result ≡ turn_of self }
+        ensures { result ≡ edge_turn self }
     {
         match Point::new(self.code % TURNS) {
             Some(point) => Turn::Play(point),
@@ -69,7 +69,7 @@ impl Edge {
 
     /// The edge of the same turn to a child that has grown.
     pub(crate) fn grown(self) -> Edge
-        ensures turn { turn_of result ≡ turn_of self }
+        ensures turn { edge_turn result ≡ edge_turn self }
         ensures mark { mark_of result ≡ Mark.Grown }
     {
         Edge {

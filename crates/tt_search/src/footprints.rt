@@ -11,7 +11,7 @@ ghost use Rattle.tt_proof.specs.KeptFootprints.{IsFootprint, IsBoardAfter, AreLe
 ghost use Rattle.tt_search.specs.Joining.{IsSettledAt, AreSettledAt};
 ghost use Rattle.tt_search.specs.Settled.{strategy_for, first_settled, pick_at, replies};
 ghost use Rattle.tt_search.specs.Children.{children_of};
-ghost use Rattle.tt_search.specs.Edges.{turns_of, trees_of};
+ghost use Rattle.tt_search.specs.Edges.{edge_turns, edge_trees};
 ghost use Rattle.tt_search.specs.Choices.{node_with};
 ghost use Rattle.tt_search.specs.Packed.{HasItsNodes, children_in, choices_of};
 ghost use Rattle.tt_search.specs.Child.{child_tree};
@@ -142,7 +142,7 @@ fn picked(
     requires whole { HasItsNodes children.now }
     requires settled { IsSettledAt side line.old.frame line.old.state (node_with (choices_of side children.now)) }
     ensures exact { IfOk result (λ x. IsFootprint line.old.frame line.old.state
-        (pick_at side (first_settled side (children_in children.now)) (turns_of children.now.edges.items) (children_in children.now)) x) }
+        (pick_at side (first_settled side (children_in children.now)) (edge_turns children.now.edges.items) (children_in children.now)) x) }
     ensures same { line.new ≡ line.old }
 {
     let (place, rank) = children.first_settled(side);
@@ -154,7 +154,7 @@ fn picked(
 
 /// The points of the plays among the edges' turns.
 fn played(edges: &[Edge]) -> PointSet
-    ensures { (f : Frame) (s : State) → AreLegal f s (turns_of edges.now) → AreLegalPlays f s result }
+    ensures { (f : Frame) (s : State) → AreLegal f s (edge_turns edges.now) → AreLegalPlays f s result }
 {
     let mut points = PointSet::empty();
     for edge in edges {
@@ -176,7 +176,7 @@ fn replied(
 ) -> Result<Footprint, NoMemory>
     requires { AreSettledAt side line.old.frame line.old.state edges.now grown.now }
     ensures exact { IfOk result (λ x. IsFootprint line.old.frame line.old.state
-        (reply (replies side (turns_of edges.now) (children_of (trees_of edges.now grown.now)))) x) }
+        (reply (replies side (edge_turns edges.now) (children_of (edge_trees edges.now grown.now)))) x) }
     ensures same { line.new ≡ line.old }
 {
     let mut footprint = Footprint::of_plays_beside(alloc, line, &played(edges))?;

@@ -4,9 +4,9 @@ ghost use Rattle.std.specs.Prelude.{◌≡◌, ℕ, ◌+◌, ◌<◌, ◌++◌, 
 ghost use Rattle.tt_game.specs.Keys.{key_of};
 ghost use Rattle.tt_proof.specs.Proven.{Proven};
 ghost use Rattle.tt_game.specs.declared.frame.Side.TheVariants.{Attacker, Defender};
-ghost use Rattle.tt_search.specs.Stores.{IsAnswer, IsNewest};
-ghost use Rattle.tt_search.specs.KeyIndex.{mark_of, marks_of, proof_at, IsPlaceOfNewest};
-ghost use Rattle.tt_search.specs.KeyChains.{AreSized, IsChained};
+ghost use Rattle.tt_search.specs.Stores.{AnswersFor, IsNewest};
+ghost use Rattle.tt_search.specs.KeyIndex.{key_mark, key_marks, proof_at, IsPlaceOfNewest};
+ghost use Rattle.tt_search.specs.KeyChains.{AreLongEnough, IsChained};
 
 use std::alloc::Global;
 use std::hash::{FoldHasher, Hash, Hasher};
@@ -27,7 +27,7 @@ pub trait ProofRow {
 
 /// The hash of a key and a side.
 fn mark_of(key: &Key, side: Side) -> u32
-    ensures { result ≡ mark_of key.now side }
+    ensures { result ≡ key_mark key.now side }
 {
     let mut hasher = FoldHasher::default();
     key.hash(&mut hasher);
@@ -37,7 +37,7 @@ fn mark_of(key: &Key, side: Side) -> u32
 
 /// The hashes of a key for the attacker and for the defender.
 fn marks_for(key: &Key) -> (u32, u32)
-    ensures { result ≡ (mark_of key.now Attacker, mark_of key.now Defender) }
+    ensures { result ≡ (key_mark key.now Attacker, key_mark key.now Defender) }
 {
     let mut hasher = FoldHasher::default();
     key.hash(&mut hasher);
@@ -60,9 +60,9 @@ fn is_for(p: &Proof, key: &Key, side: Side) -> bool
 /// Chains the place, behind all places before it.
 fn link(heads: &mut Vec<u32>, before: &mut Vec<u32>, marks: &Vec<u32>, place: usize)
     requires place { place < vec_len marks.now }
-    requires sized { AreSized heads.old.items before.old.items marks.now.items }
+    requires sized { AreLongEnough heads.old.items before.old.items marks.now.items }
     requires chained { IsChained heads.old.items before.old.items marks.now.items place }
-    ensures sized { AreSized heads.new.items before.new.items marks.now.items }
+    ensures sized { AreLongEnough heads.new.items before.new.items marks.now.items }
     ensures chained { IsChained heads.new.items before.new.items marks.now.items (place + 1) }
     ensures chains { vec_len heads.new ≡ vec_len heads.old }
     ensures room { vec_capacity before.new ≡ vec_capacity before.old }
@@ -74,9 +74,9 @@ fn link(heads: &mut Vec<u32>, before: &mut Vec<u32>, marks: &Vec<u32>, place: us
 
 /// Chains all places anew, where no head leads anywhere yet.
 fn link_all(heads: &mut Vec<u32>, before: &mut Vec<u32>, marks: &Vec<u32>)
-    requires sized { AreSized heads.old.items before.old.items marks.now.items }
+    requires sized { AreLongEnough heads.old.items before.old.items marks.now.items }
     requires fresh { IsChained heads.old.items before.old.items marks.now.items 0 }
-    ensures sized { AreSized heads.new.items before.new.items marks.now.items }
+    ensures sized { AreLongEnough heads.new.items before.new.items marks.now.items }
     ensures chained { IsChained heads.new.items before.new.items marks.now.items (length marks.now.items) }
     ensures chains { vec_len heads.new ≡ vec_len heads.old }
     ensures room { vec_capacity before.new ≡ vec_capacity before.old }
@@ -106,9 +106,9 @@ fn grow(
     before: &mut Vec<u32>,
     marks: &Vec<u32>,
 ) -> Result<(), NoMemory>
-    requires sized { AreSized heads.old.items before.old.items marks.now.items }
+    requires sized { AreLongEnough heads.old.items before.old.items marks.now.items }
     requires chained { IsChained heads.old.items before.old.items marks.now.items (length marks.now.items) }
-    ensures sized { AreSized heads.new.items before.new.items marks.now.items }
+    ensures sized { AreLongEnough heads.new.items before.new.items marks.now.items }
     ensures chained { IsChained heads.new.items before.new.items marks.now.items (length marks.now.items) }
     ensures more { IfOk result (λ _. vec_len heads.old < vec_len heads.new) }
     ensures room { vec_capacity before.new ≡ vec_capacity before.old }
@@ -136,7 +136,7 @@ pub struct KeyIndex {
 impl Model for KeyIndex {
     ghost use Rattle.std.specs.Prelude.{◌-◌, min, length, vec_len, vec_capacity};
     ghost use Rattle.tt_search.specs.KeyIndex.{Marking};
-    ghost use Rattle.tt_search.specs.KeyChains.{AreSized, IsChained};
+    ghost use Rattle.tt_search.specs.KeyChains.{AreLongEnough, IsChained};
 
     ghost Value = { Marking };
 
@@ -146,7 +146,7 @@ impl Model for KeyIndex {
     } };
 
     ghost invariant = { λ t. record {
-      sized : AreSized t.heads.items t.before.items t.marks.items;
+      sized : AreLongEnough t.heads.items t.before.items t.marks.items;
       chained : IsChained t.heads.items t.before.items t.marks.items (length t.marks.items);
     } };
 }
@@ -180,7 +180,7 @@ impl KeyIndex {
     /// Tells the index of the row's next proof, where there is room.
     pub fn push(&mut self, p: &Proof)
         requires { 0 < self.old.room }
-        ensures { self.new.marks ≡ self.old.marks ++ marks_of (p.now ∷ []) }
+        ensures { self.new.marks ≡ self.old.marks ++ key_marks (p.now ∷ []) }
     {
         let place = self.marks.len();
         self.marks.push_reserved(mark_of(&p.key(), p.side()));
@@ -198,11 +198,11 @@ impl KeyIndex {
         row: &P,
     ) -> Option<usize>
         requires key { key.now ≡ key_of line.now.frame line.now.state }
-        requires mark { mark ≡ mark_of key.now side }
-        requires told { self.now.marks ≡ marks_of (P.proofs row.now) }
+        requires mark { mark ≡ key_mark key.now side }
+        requires told { self.now.marks ≡ key_marks (P.proofs row.now) }
         ensures newest { IsNewest line.now side (reverse (P.proofs row.now)) (proof_at (P.proofs row.now) result) }
         ensures within { IfSome result (λ place. place < length (P.proofs row.now)) }
-        ensures found { IfSome (proof_at (P.proofs row.now) result) (IsAnswer line.now side) }
+        ensures found { IfSome (proof_at (P.proofs row.now) result) (AnswersFor line.now side) }
     {
         if self.heads.is_empty() {
             return None;
@@ -220,7 +220,7 @@ impl KeyIndex {
 
     /// The place of the row's last proof of the line's key for the side. The index was told the row's proofs.
     pub fn newest<P: ProofRow>(&self, line: &Line, side: Side, row: &P) -> Option<usize>
-        requires { self.now.marks ≡ marks_of (P.proofs row.now) }
+        requires { self.now.marks ≡ key_marks (P.proofs row.now) }
         ensures { IsPlaceOfNewest line.now side (P.proofs row.now) result }
     {
         let key = line.key();
@@ -229,7 +229,7 @@ impl KeyIndex {
 
     /// What `newest` answers for the attacker and for the defender.
     pub fn newest_both<P: ProofRow>(&self, line: &Line, row: &P) -> (Option<usize>, Option<usize>)
-        requires { self.now.marks ≡ marks_of (P.proofs row.now) }
+        requires { self.now.marks ≡ key_marks (P.proofs row.now) }
         ensures attacker { IsPlaceOfNewest line.now Attacker (P.proofs row.now) result.0 }
         ensures defender { IsPlaceOfNewest line.now Defender (P.proofs row.now) result.1 }
     {

@@ -5,7 +5,7 @@ ghost use Rattle.tt_game.specs.Game.{winner_of};
 ghost use Rattle.tt_search.specs.PartialTree.{expanded, closed};
 ghost use Rattle.tt_search.specs.Children.{children_of};
 ghost use Rattle.tt_search.specs.declared.edges.TheConstants.{TURNS};
-ghost use Rattle.tt_search.specs.Edges.{turn_of, mark_of, tree_of, turns_of, trees_of, counted, grown_in};
+ghost use Rattle.tt_search.specs.Edges.{edge_turn, mark_of, tree_of, edge_turns, edge_trees, counted, grown_in};
 ghost use Rattle.tt_search.specs.Growing.{leaf_for, expansion};
 
 use crate::children::Children;
@@ -53,7 +53,7 @@ pub(crate) fn closed_leaf(proof: Arc<Proof>) -> Node
 fn expanded_node(alloc: Global, mover: Side, edges: Vec<Edge>) -> Node
     requires few { length edges.items ≤ TURNS }
     requires none { grown_in edges.items ≡ 0 }
-    ensures { result ≡ expanded mover (turns_of edges.items) (children_of (trees_of edges.items [])) }
+    ensures { result ≡ expanded mover (edge_turns edges.items) (children_of (edge_trees edges.items [])) }
 {
     let (children, numbers) = Children::new(alloc, mover, edges);
     let (proof, disproof) = numbers.by_goal(mover);
@@ -66,7 +66,7 @@ fn expanded_node(alloc: Global, mover: Side, edges: Vec<Edge>) -> Node
 
 /// The edge of a turn to a new leaf.
 fn new_edge(turn: Turn, winner: Option<Side>) -> Edge
-    ensures turn { turn_of result ≡ turn }
+    ensures turn { edge_turn result ≡ turn }
     ensures tree { tree_of (mark_of result) [] ≡ leaf_for winner }
     ensures small { counted (mark_of result) 0 ≡ 0 }
 {

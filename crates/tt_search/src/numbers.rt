@@ -1,7 +1,7 @@
 //! Proof and disproof numbers of nodes.
 
 ghost use Rattle.std.specs.Prelude.{◌≡◌, ◌<◌, ◌≤◌, length, take};
-ghost use Rattle.tt_search.specs.Edges.{mark_of, trees_of, counted, grown_in};
+ghost use Rattle.tt_search.specs.Edges.{mark_of, edge_trees, counted, grown_in};
 ghost use Rattle.tt_search.specs.Numbers.{is_same, decided_number, cap, numbers, least, capped_sum};
 ghost use Rattle.tt_search.specs.Children.{children_of};
 ghost use Rattle.tt_search.specs.declared.edges.TheConstants.{TURNS};
@@ -171,9 +171,9 @@ fn counted(edge: Edge, number: usize) -> usize
 fn best_of(mover: Side, edges: &[Edge], grown: &[Node]) -> Best
     requires few { length edges.now ≤ TURNS }
     requires whole { grown_in edges.now ≡ length grown.now }
-    ensures place { result.place ≡ best mover (children_of (trees_of edges.now grown.now)) }
+    ensures place { result.place ≡ best mover (children_of (edge_trees edges.now grown.now)) }
     ensures rank { result.rank ≡ grown_in (take result.place edges.now) }
-    ensures least { result.least ≡ least (numbers mover (children_of (trees_of edges.now grown.now))) }
+    ensures least { result.least ≡ least (numbers mover (children_of (edge_trees edges.now grown.now))) }
 {
     let mut place = 0;
     let mut rank = 0;
@@ -201,7 +201,7 @@ fn best_of(mover: Side, edges: &[Edge], grown: &[Node]) -> Best
 /// The sum of the numbers of the goal.
 fn sum_of(goal: Side, edges: &[Edge], grown: &[Node]) -> u32
     requires { grown_in edges.now ≡ length grown.now }
-    ensures { result ≡ capped_sum (numbers goal (children_of (trees_of edges.now grown.now))) }
+    ensures { result ≡ capped_sum (numbers goal (children_of (edge_trees edges.now grown.now))) }
 {
     let mut total: u32 = 0;
     let mut rest = grown;
@@ -220,7 +220,7 @@ fn sum_of(goal: Side, edges: &[Edge], grown: &[Node]) -> u32
 /// The place of the first child that is settled for the side, or how many children there are where none is, and its rank.
 fn settled_of(side: Side, edges: &[Edge], grown: &[Node]) -> (usize, usize)
     requires { grown_in edges.now ≡ length grown.now }
-    ensures place { result.0 ≡ first_settled side (children_of (trees_of edges.now grown.now)) }
+    ensures place { result.0 ≡ first_settled side (children_of (edge_trees edges.now grown.now)) }
     ensures rank { result.1 ≡ grown_in (take result.0 edges.now) }
 {
     let mut rank = 0;

@@ -12,7 +12,7 @@ ghost use Rattle.tt_search.specs.Settled.{strategy_for, first_settled, pick_at, 
 ghost use Rattle.tt_search.specs.Offered.{IsProofOfTree};
 ghost use Rattle.tt_search.specs.Joining.{IsSettledAt};
 ghost use Rattle.tt_search.specs.Children.{children_of};
-ghost use Rattle.tt_search.specs.Edges.{turns_of, trees_of, grown_in};
+ghost use Rattle.tt_search.specs.Edges.{edge_turns, edge_trees, grown_in};
 ghost use Rattle.tt_search.specs.Choices.{node_with};
 ghost use Rattle.tt_search.specs.Packed.{HasItsNodes, children_in};
 ghost use Rattle.tt_search.specs.Child.{child_tree};
@@ -158,7 +158,7 @@ impl Children {
 #[cycle(plan_of)]
 fn picked(alloc: Global, side: Side, children: &Packed) -> Result<Plan, NoMemory>
     requires { HasItsNodes children.now }
-    ensures { IfOk result (λ p. p ≡ pick_at side (first_settled side (children_in children.now)) (turns_of children.now.edges.items) (children_in children.now)) }
+    ensures { IfOk result (λ p. p ≡ pick_at side (first_settled side (children_in children.now)) (edge_turns children.now.edges.items) (children_in children.now)) }
 {
     let (place, rank) = children.first_settled(side);
     if place >= children.edges.len() {
@@ -172,7 +172,7 @@ fn picked(alloc: Global, side: Side, children: &Packed) -> Result<Plan, NoMemory
 #[cycle(plan_of)]
 fn replied(alloc: Global, side: Side, edges: &[Edge], grown: &[Node]) -> Result<Plan, NoMemory>
     requires { grown_in edges.now ≡ length grown.now }
-    ensures { IfOk result (λ p. p ≡ reply (replies side (turns_of edges.now) (children_of (trees_of edges.now grown.now)))) }
+    ensures { IfOk result (λ p. p ≡ reply (replies side (edge_turns edges.now) (children_of (edge_trees edges.now grown.now)))) }
 {
     let mut answers = Replies::with_capacity(alloc, edges.len())?;
     let mut rest = grown;

@@ -7,7 +7,7 @@ use Rattle.std.proofs.lemmas.List.{length-append}
 use Rattle.tt_sgf.specs.Bytes.{close_value, open_value}
 use Rattle.tt_sgf.specs.declared.nodes.Property.{Property}
 use Rattle.tt_sgf.specs.Grammar.{is_blank, is_word, is_upper, is_kept, is_digit, is_lower, IsBlank, IsRaw, IsWord, IsIdent, AreValues, AreProperties}
-use Rattle.tt_sgf.specs.Reading.{◌>>=◌, with_first, begins, behind, is_empty, word_of, after_word, repeat, opens_value, value_at, values_at, property_at, opens_property}
+use Rattle.tt_sgf.specs.Reading.{◌>>=◌, with_first, begins, behind, has_none, word_of, after_word, repeat, opens_value, value_at, values_at, property_at, opens_property}
 use Rattle.tt_sgf.specs.Values.{after_blanks}
 use Rattle.tt_sgf.proofs.TokenLemmas.{bind_some, after_blanks-other, after_blanks-again, blanks_take, raw_again, raw_takes, word_again, word_takes}
 use Rattle.tt_sgf.proofs.RepeatLemmas.{repeat_stop, repeat_bad, repeat_item, repeat_none, Shrinks, all_at, all_item}
@@ -128,12 +128,12 @@ guard_some false o y e = (refl, e)
 guard_some true o y e = absurd cc
 
 -- a list isn't empty where the test says so
-not_empty : {X : Type 0} (xs : List X) → is_empty xs ≡ false → xs ≢ []
+not_empty : {X : Type 0} (xs : List X) → has_none xs ≡ false → xs ≢ []
 not_empty [] e = absurd cc
 not_empty (x ∷ xs) e = λ f. absurd cc
 
 -- the test says so of each list that isn't empty
-empty_not : {X : Type 0} (xs : List X) → xs ≢ [] → is_empty xs ≡ false
+empty_not : {X : Type 0} (xs : List X) → xs ≢ [] → has_none xs ≡ false
 empty_not [] e = absurd (e refl)
 empty_not (x ∷ xs) e = refl
 
@@ -142,11 +142,11 @@ pub property_takes : (bytes : List ℕ) (p : Property) (r : List ℕ) → proper
 unfolding property_at values_at
 property_takes bytes p r e =
     let word = word_of bytes in
-    let made : List (List ℕ) × List ℕ → Option (Property × List ℕ) = λ x. cond (is_empty x.0) None (Some (record { ident = filter is_kept word; values = x.0 }, x.1)) in
+    let made : List (List ℕ) × List ℕ → Option (Property × List ℕ) = λ x. cond (has_none x.0) None (Some (record { ident = filter is_kept word; values = x.0 }, x.1)) in
     let c = cond_some_at (list_any is_upper word) (values_at (after_word bytes) >>= made) (p, r) e in
     let x = bind_some (values_at (after_word bytes)) made (p, r) c.1 in
     let one : Property = record { ident = filter is_kept word; values = x.0.0 } in
-    let g = guard_some (is_empty x.0.0) (Some (one, x.0.1)) (p, r) x.2 in
+    let g = guard_some (has_none x.0.0) (Some (one, x.0.1)) (p, r) x.2 in
     let same = some_pair_parts one p x.0.1 r g.1 in
     let v = values_take _ (after_word bytes) x.0.0 x.0.1 x.1 in
     let w = word_takes bytes in

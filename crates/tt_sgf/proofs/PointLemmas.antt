@@ -7,7 +7,7 @@ use Rattle.tt_sgf.specs.declared.size.Size.{Size}
 use Rattle.tt_sgf.specs.declared.size.PointOrPass.{PointOrPass}
 use Rattle.tt_sgf.specs.declared.size.PointOrPass.TheVariants.{On, Pass}
 use Rattle.tt_sgf.specs.Grammar.{is_blank}
-use Rattle.tt_sgf.specs.Values.{StandsIn, IsPoint, IsPointOrPass, trimmed, place, point_of}
+use Rattle.tt_sgf.specs.Values.{StandsIn, IsPoint, IsPointOrPass, trimmed, lettered_point, point_of}
 use Rattle.tt_sgf.proofs.NumberLemmas.{trimmed_is, trimmed_stands}
 
 -- no letter is white space
@@ -49,11 +49,11 @@ pub point_of-pass : (size : Size) (c r : ℕ) → c ≡ lower_t → r ≡ lower_
 unfolding point_of
 point_of-pass size c r h k = rw (h, k) refl
 
-pub point_of-first : (size : Size) (c r : ℕ) → (c ≡ lower_t → ⊥) → point_of size (c ∷ r ∷ []) ≡ place size c r
+pub point_of-first : (size : Size) (c r : ℕ) → (c ≡ lower_t → ⊥) → point_of size (c ∷ r ∷ []) ≡ lettered_point size c r
 unfolding point_of
 point_of-first size c r h = rw (ne_eqb c lower_t h) refl
 
-pub point_of-second : (size : Size) (c r : ℕ) → c ≡ lower_t → (r ≡ lower_t → ⊥) → point_of size (c ∷ r ∷ []) ≡ place size c r
+pub point_of-second : (size : Size) (c r : ℕ) → c ≡ lower_t → (r ≡ lower_t → ⊥) → point_of size (c ∷ r ∷ []) ≡ lettered_point size c r
 unfolding point_of
 point_of-second size c r h k = rw (h, ne_eqb r lower_t k) refl
 
@@ -79,7 +79,7 @@ point_again size bytes Pass h =
     ]
 
 -- two letters read as a point are that point
-place_takes : (size : Size) (bytes : List ℕ) (c r : ℕ) (q : PointOrPass) → StandsIn (c ∷ r ∷ []) bytes → place size c r ≡ Some q → IsPointOrPass size bytes q
+place_takes : (size : Size) (bytes : List ℕ) (c r : ℕ) (q : PointOrPass) → StandsIn (c ∷ r ∷ []) bytes → lettered_point size c r ≡ Some q → IsPointOrPass size bytes q
 place_takes size bytes c r q s h =
     let k = cond_some ((leb lower_a c && ltb (c - lower_a) size.columns) && (leb lower_a r && ltb (r - lower_a) size.rows)) (On ((r - lower_a) * size.columns + (c - lower_a))) q h in
     let both = and_parts (leb lower_a c && ltb (c - lower_a) size.columns) (leb lower_a r && ltb (r - lower_a) size.rows) k.0 in

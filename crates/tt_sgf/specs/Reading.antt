@@ -75,14 +75,14 @@ unfoldable pub values_at : List ℕ → Option (List (List ℕ) × List ℕ)
 values_at bytes = repeat opens_value value_at (suc (length bytes)) bytes
 
 -- no item is in the list
-abbrev pub is_empty : {X : Type 0} → List X → Bool
-is_empty [] = true
-is_empty (x ∷ xs) = false
+abbrev pub has_none : {X : Type 0} → List X → Bool
+has_none [] = true
+has_none (x ∷ xs) = false
 
 -- a property with no white space before it
 unfoldable pub property_at : List ℕ → Option (Property × List ℕ)
 property_at bytes = cond (list_any is_upper (word_of bytes)) (values_at (after_word bytes) >>= λ x.
-    cond (is_empty x.0) None (Some (record { ident = filter is_kept (word_of bytes); values = x.0 }, x.1))) None
+    cond (has_none x.0) None (Some (record { ident = filter is_kept (word_of bytes); values = x.0 }, x.1))) None
 
 -- a letter or a digit follows
 abbrev pub opens_property : List ℕ → Bool

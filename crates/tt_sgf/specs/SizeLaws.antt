@@ -4,21 +4,21 @@ use Rattle.std.proofs.lemmas.Option.{same_Some}
 use Rattle.std.proofs.Math.Bridge.{le_prop}
 use Rattle.tt_sgf.specs.declared.size.Size.{Size}
 use Rattle.tt_sgf.specs.declared.size.TheConstants.{MOST_POINTS}
-use Rattle.tt_sgf.specs.Sizes.{IsSide, point_count, made, side, sized, sized_by}
+use Rattle.tt_sgf.specs.Sizes.{IsSide, point_count, size_with, side, sized, sized_by}
 
 -- that a number is a side is a fact in one way alone
 same_side : (n : ℕ) (a b : IsSide n) → a ≡ b
 same_side n a b = λ i. (le_prop a.0 b.0 i, le_prop a.1 b.1 i)
 
--- a size made of the same columns and rows is the same
-made_same : (c d r t : ℕ) (h : IsSide c) (k : IsSide r) (l : IsSide d) (m : IsSide t) → c ≡ d → r ≡ t → made c r h k ≡ made d t l m
+-- a size size_with of the same columns and rows is the same
+made_same : (c d r t : ℕ) (h : IsSide c) (k : IsSide r) (l : IsSide d) (m : IsSide t) → c ≡ d → r ≡ t → size_with c r h k ≡ size_with d t l m
 made_same c d r t h k l m e f =
-    subst (λ y. (x : IsSide y) → made c r h k ≡ made y t x m) e
-    (λ x. subst (λ y. (z : IsSide y) → made c r h k ≡ made c y x z) f (λ z. λ i. made c r (same_side c h x i) (same_side r k z i)) m) l
+    subst (λ y. (x : IsSide y) → size_with c r h k ≡ size_with y t x m) e
+    (λ x. subst (λ y. (z : IsSide y) → size_with c r h k ≡ size_with c y x z) f (λ z. λ i. size_with c r (same_side c h x i) (same_side r k z i)) m) l
 
 -- a size is known by its columns and rows
 pub sizes_same : (a b : Size) → a.columns ≡ b.columns → a.rows ≡ b.rows → a ≡ b
-unfolding made
+unfolding size_with
 sizes_same a b e f = made_same a.columns b.columns a.rows b.rows a.columns_in a.rows_in b.columns_in b.rows_in e f
 
 -- a board has no more points than the largest
@@ -27,12 +27,12 @@ few_points size = Rattle.std.proofs.Math.Nat.mul-le-mul size.columns_in.1 size.r
 
 -- a size is the one of its columns and rows
 pub sized_is : (s : Size) → sized s.columns s.rows ≡ Some s
-unfolding sized sized_by made
+unfolding sized sized_by size_with
 sized_is s = elim (side s.columns) as (λ x. sized_by s.columns s.rows x (side s.rows) ≡ Some s) [
   | inl out ↦ absurd (out s.columns_in)
   | inr h ↦ elim (side s.rows) as (λ y. sized_by s.columns s.rows (inr h) y ≡ Some s) [
     | inl out ↦ absurd (out s.rows_in)
-    | inr k ↦ λ i. Some (sizes_same (made s.columns s.rows h k) s refl refl i)
+    | inr k ↦ λ i. Some (sizes_same (size_with s.columns s.rows h k) s refl refl i)
   ]
 ]
 
@@ -47,9 +47,9 @@ sized_out c r out = elim (side c) as (λ x. sized_by c r x (side r) ≡ None) [
   ]
 ]
 
--- a size that was made has the columns and rows that it was made of
+-- a size that was size_with has the columns and rows that it was size_with of
 pub sized_takes : (c r : ℕ) (s : Size) → sized c r ≡ Some s → (s.columns ≡ c) × (s.rows ≡ r)
-unfolding sized sized_by made
+unfolding sized sized_by size_with
 sized_takes c r s = elim (side c) as (λ x. sized_by c r x (side r) ≡ Some s → (s.columns ≡ c) × (s.rows ≡ r)) [
   | inl _ ↦ λ e. absurd cc
   | inr h ↦ elim (side r) as (λ y. sized_by c r (inr h) y ≡ Some s → (s.columns ≡ c) × (s.rows ≡ r)) [

@@ -13,8 +13,8 @@ abbrev pub IsSide : ℕ → Type 0
 IsSide n = (1 ≤ n) × (n ≤ 19)
 
 -- the size of these columns and rows
-unfoldable pub made : (c r : ℕ) → IsSide c → IsSide r → Size
-made c r h k = record { columns = c; rows = r; columns_in = h; rows_in = k }
+unfoldable pub size_with : (c r : ℕ) → IsSide c → IsSide r → Size
+size_with c r h k = record { columns = c; rows = r; columns_in = h; rows_in = k }
 
 -- whether a board may have so many columns or rows
 pub side : (n : ℕ) → (IsSide n → ⊥) ⊎ IsSide n
@@ -30,7 +30,7 @@ side n = elim (cases_lt 0 n) [
 unfoldable pub sized_by : (c r : ℕ) → (IsSide c → ⊥) ⊎ IsSide c → (IsSide r → ⊥) ⊎ IsSide r → Option Size
 sized_by c r (inl _) k = None
 sized_by c r (inr h) (inl _) = None
-sized_by c r (inr h) (inr k) = Some (made c r h k)
+sized_by c r (inr h) (inr k) = Some (size_with c r h k)
 
 -- the size of so many columns and rows, where a board may have them
 unfoldable pub sized : ℕ → ℕ → Option Size

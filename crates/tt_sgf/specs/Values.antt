@@ -138,13 +138,13 @@ unfoldable pub size_of : List ℕ → Option Size
 size_of bytes = sides_of (trimmed bytes) (behind_colon (trimmed bytes))
 
 -- the point of two letters, where the board has it
-abbrev pub place : Size → ℕ → ℕ → Option PointOrPass
-place size column row = cond ((nat_le lower_a column && nat_lt (column - lower_a) size.columns) && (nat_le lower_a row && nat_lt (row - lower_a) size.rows))
+abbrev pub lettered_point : Size → ℕ → ℕ → Option PointOrPass
+lettered_point size column row = cond ((nat_le lower_a column && nat_lt (column - lower_a) size.columns) && (nat_le lower_a row && nat_lt (row - lower_a) size.rows))
     (Some (On ((row - lower_a) * size.columns + (column - lower_a)))) None
 
 -- the point or the pass that a text is
 unfoldable pub point_of : Size → List ℕ → Option PointOrPass
 point_of size [] = Some Pass
 point_of size (c ∷ []) = None
-point_of size (c ∷ r ∷ []) = cond (c == lower_t && r == lower_t) (Some Pass) (place size c r)
+point_of size (c ∷ r ∷ []) = cond (c == lower_t && r == lower_t) (Some Pass) (lettered_point size c r)
 point_of size (c ∷ r ∷ x ∷ xs) = None

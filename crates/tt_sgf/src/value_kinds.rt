@@ -3,7 +3,7 @@
 ghost use Rattle.std.specs.Prelude.{◌≡◌, ℕ, ◌↔◌, [], ◌∷◌, Some, None, MatchOption};
 ghost use Rattle.tt_sgf.specs.declared.size.PointOrPass.{PointOrPass};
 ghost use Rattle.tt_sgf.specs.declared.size.Size.{Size};
-ghost use Rattle.tt_sgf.specs.Values.{IsNumber, IsPointOrPass, trimmed, some_digits, number_of, numeral_of, before_colon, behind_colon, size_of, IsBoardSize, without_end, place, point_of};
+ghost use Rattle.tt_sgf.specs.Values.{IsNumber, IsPointOrPass, trimmed, some_digits, number_of, numeral_of, before_colon, behind_colon, size_of, IsBoardSize, without_end, lettered_point, point_of};
 
 use super::size::{PointOrPass, Size, point_numbered};
 use super::tokens::{is_blank, is_digit, skip_blanks};
@@ -78,7 +78,7 @@ pub fn number(bytes: &[u8]) -> Option<u16>
 
 /// The point of this column and row, where the board has it.
 fn on_board(column: u8, row: u8, size: Size) -> Option<PointOrPass>
-    ensures { result ≡ place size column row }
+    ensures { result ≡ lettered_point size column row }
 {
     if column < b'a' || row < b'a' {
         return None;

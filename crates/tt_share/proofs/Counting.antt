@@ -9,7 +9,7 @@ use Rattle.tt_search.specs.Grants.{Asked}
 use Rattle.tt_search.specs.Numbers.{count}
 use Rattle.tt_search.specs.Growing.{leaf_for, new_leaf, GrownFrom, IsGrown}
 use Rattle.tt_search.specs.Searched.{Searched}
-use Rattle.tt_search.specs.Ended.{IsReached, EndOf, HasSpent, SpentBy}
+use Rattle.tt_search.specs.Ended.{RanTo, EndOf, HasSpent, SpentBy}
 use Rattle.tt_search.specs.declared.limits.Limits.{Limits}
 use Rattle.tt_search.specs.declared.limits.Reason.{Reason}
 use Rattle.tt_search.specs.declared.limits.Reason.TheVariants.{Budget, Depth, Total, Memory}
@@ -56,12 +56,12 @@ new_count f s = leaf_count (winner_of f s)
 
 module _ (line : Standing) (limits : Limits) (t : Turn) (start : Searched) (behind : IsBehind line limits t start) (new_is : start.tree ≡ new_leaf start.line.frame start.line.state) where
   -- what is reached from a new search behind the turn is behind it, and grown
-  reached_behind : (search : Searched) → IsReached start search → IsBehind line limits t search
+  reached_behind : (search : Searched) → RanTo start search → IsBehind line limits t search
   reached_behind search h = subst (λ (l : Limits). IsBehind line limits t (record search { limits = l })) (sym h.problem.limits)
       (subst (λ (l : Standing). IsBehind line limits t (record { line = l; limits = start.limits; tree = search.tree })) (sym h.problem.line)
       (record { frame = behind.frame; state = behind.state; budget = behind.budget; depth_is = behind.depth_is }))
 
-  reached_grown : (search : Searched) → IsReached start search → IsGrown search.limits search.line.frame search.line.state search.tree
+  reached_grown : (search : Searched) → RanTo start search → IsGrown search.limits search.line.frame search.line.state search.tree
   reached_grown search h =
       subst (λ (l : Limits). IsGrown l search.line.frame search.line.state search.tree) (sym h.problem.limits)
       (subst (λ (l : Standing). IsGrown start.limits l.frame l.state search.tree) (sym h.problem.line)
@@ -70,11 +70,11 @@ module _ (line : Standing) (limits : Limits) (t : Turn) (start : Searched) (behi
   start_count : count start.tree ≡ 0
   start_count = ap count new_is ∙ new_count start.line.frame start.line.state
 
-  reached_count : (search : Searched) (old new : Asked) (n : ℕ) → IsReached start search → HasSpent start old search new → new.granted ≡ old.granted + n → IsCountBehind line limits t n
+  reached_count : (search : Searched) (old new : Asked) (n : ℕ) → RanTo start search → HasSpent start old search new → new.granted ≡ old.granted + n → IsCountBehind line limits t n
   reached_count search old new n h spent granted = (search, reached_behind search h, reached_grown search h, omega (arith, spent, granted, start_count))
 
   -- its count is what was asked for
-  stuck_count : (search : Searched) (old new : Asked) (n : ℕ) → IsReached start search → HasSpent start old search new → new.granted ≡ old.granted + n
+  stuck_count : (search : Searched) (old new : Asked) (n : ℕ) → RanTo start search → HasSpent start old search new → new.granted ≡ old.granted + n
       → IsCountBehind line limits t n × (count search.tree ≡ n)
   stuck_count search old new n h spent granted = (reached_count search old new n h spent granted, omega (arith, spent, granted, start_count))
 

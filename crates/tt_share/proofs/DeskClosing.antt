@@ -11,7 +11,7 @@ use native.Mathlib.Decide.{dec_lt}
 use lib.ListN.{get_elem?}
 use Rattle.tt_share.specs.declared.rule.View.{View}
 use Rattle.tt_share.specs.declared.rule.Plan.{Plan}
-use Rattle.tt_share.specs.Desk.{view_of, no_seat, joined, weight_below, spare_count, EachView, IsDesk}
+use Rattle.tt_share.specs.Desk.{view_of, no_seat, joined, sum_below, spare_count, EachView, IsDesk}
 use Rattle.tt_share.specs.Seats.{DeskView, SeatView, EachOnce, AllJobsDrawn, EndsSpare, Spends}
 use Rattle.tt_share.specs.Gathering.{Gathers}
 use Rattle.tt_share.proofs.DeskLists.{at_within, at_read, sum_set, sum_at, sum_le}
@@ -72,7 +72,7 @@ gathers_more s taken v h = record {
 }
 
 -- where each number weighs 1, those below n weigh n
-pub ones_below : (n : ℕ) → weight_below (λ _. 1) n ≡ n
+pub ones_below : (n : ℕ) → sum_below (λ _. 1) n ≡ n
 ones_below zero = refl
 ones_below (suc n) = let e = ones_below n in omega arith
 
@@ -87,18 +87,18 @@ sum_same f g [] same = refl
 sum_same f g (x ∷ xs) same = let e = sum_same f g xs same in let one = same x in omega (arith, sum_by-cons f x xs, sum_by-cons g x xs)
 
 -- no number below m is n, where n is m or more
-pub never_below : (n m : ℕ) → m ≤ n → weight_below (λ k. cond (nat_eq k n) 1 0) m ≡ 0
+pub never_below : (n m : ℕ) → m ≤ n → sum_below (λ k. cond (nat_eq k n) 1 0) m ≡ 0
 never_below n zero h = refl
 never_below n (suc m) h = let e = never_below n m (omega arith) in grind (arith, nat_tests)
 
 -- one number below m is n, where n is less
-pub once_below : (n m : ℕ) → n < m → weight_below (λ k. cond (nat_eq k n) 1 0) m ≡ 1
+pub once_below : (n m : ℕ) → n < m → sum_below (λ k. cond (nat_eq k n) 1 0) m ≡ 1
 once_below n zero h = absurd (omega arith)
 once_below n (suc m) h =
     dite (dec_lt n m) (λ lt. let e = once_below n m lt in grind (arith, nat_tests)) (λ ge. let e = never_below n m (omega arith) in grind (arith, nat_tests))
 
 -- as many numbers below n are spare as n is above the jobs
-spares_exact : (jobs n : ℕ) → weight_below (λ k. cond (leb jobs k) 1 0) n ≡ n - jobs
+spares_exact : (jobs n : ℕ) → sum_below (λ k. cond (leb jobs k) 1 0) n ≡ n - jobs
 spares_exact jobs zero = omega arith
 spares_exact jobs (suc n) = let e = spares_exact jobs n in grind (arith, nat_tests)
 
@@ -114,12 +114,12 @@ is_set true h = refl
 is_set false h = absurd (omega arith)
 
 -- of the numbers below n, as many are below the limit as the lesser of both
-least_below : (limit n : ℕ) → weight_below (λ k. cond (ltb k limit) 1 0) n ≡ min n limit
+least_below : (limit n : ℕ) → sum_below (λ k. cond (ltb k limit) 1 0) n ≡ min n limit
 least_below limit zero = omega arith
 least_below limit (suc n) = let e = least_below limit n in grind (arith, nat_tests)
 
 -- what the lists of all seats show, where however numbers are weighed they weigh as those below the count
-module _ (list : SeatView → List ℕ) (count : ℕ) (seats : List SeatView) (weights : (weight : ℕ → ℕ) → sum_by (λ (s : SeatView). sum_by weight (list s)) seats ≡ weight_below weight count) where
+module _ (list : SeatView → List ℕ) (count : ℕ) (seats : List SeatView) (weights : (weight : ℕ → ℕ) → sum_by (λ (s : SeatView). sum_by weight (list s)) seats ≡ sum_below weight count) where
   -- the numbers in the lists are those below the count, each once
   each_once : EachOnce list count seats
   each_once = record {
@@ -155,7 +155,7 @@ module _ (list : SeatView → List ℕ) (count : ℕ) (seats : List SeatView) (w
       omega arith
 
 -- what the seats show of the grants of a total
-spends : (total word : ℕ) (seats : List SeatView) → 0 < total → ((weight : ℕ → ℕ) → sum_by (λ (s : SeatView). sum_by weight s.grants) seats ≡ weight_below weight word)
+spends : (total word : ℕ) (seats : List SeatView) → 0 < total → ((weight : ℕ → ℕ) → sum_by (λ (s : SeatView). sum_by weight s.grants) seats ≡ sum_below weight word)
     → Spends total (min word total) seats
 spends total word seats positive weights = record {
   asked = (word, each_once (λ s. s.grants) word seats weights, refl);
@@ -178,9 +178,9 @@ pub closes : (desk : DeskView) (plan : Plan) (drawn mark asked : ℕ) (views : L
     → 0 < desk.jobs → 0 < desk.seats → Gathers seats v → IsDesk plan drawn mark asked views → get_elem? views id ≡ some v → End desk seats drawn asked
 closes desk plan drawn mark asked views id v seats same_jobs same_seats len some_job some_seat g h at =
     let all_parts : sum_by (λ u. u.parts) views ≡ v.parts = let p = h.parts in let q = g.parts in omega arith in
-    let numbers : (weight : ℕ → ℕ) → sum_by (λ (s : SeatView). sum_by weight s.numbers) seats ≡ weight_below weight drawn = λ weight.
+    let numbers : (weight : ℕ → ℕ) → sum_by (λ (s : SeatView). sum_by weight s.numbers) seats ≡ sum_below weight drawn = λ weight.
     g.numbers weight ∙ (sym (alone (λ u. sum_by weight u.numbers) views id v at all_parts refl h.spent) ∙ h.draws.each_once weight) in
-    let grants : (weight : ℕ → ℕ) → sum_by (λ (s : SeatView). sum_by weight s.grants) seats ≡ weight_below weight asked = λ weight.
+    let grants : (weight : ℕ → ℕ) → sum_by (λ (s : SeatView). sum_by weight s.grants) seats ≡ sum_below weight asked = λ weight.
     g.grants weight ∙ (sym (alone (λ u. sum_by weight u.grants) views id v at all_parts refl h.spent) ∙ h.grants.each_once weight) in record {
       draws = each_once (λ s. s.numbers) drawn seats numbers;
       jobs_drawn = uses (λ s. s.numbers) drawn seats numbers desk.jobs some_job;

@@ -9,7 +9,7 @@ use mathlib.Core.Logic.{dite}
 use native.Mathlib.Decide.{ℕ_discrete}
 use lib.ListN.{get_elem?}
 use Rattle.std.proofs.lemmas.Map.Keys.{sorted_from_strictly_increasing, below_from_sorted}
-use Rattle.tt_share.specs.Desk.{weight_below}
+use Rattle.tt_share.specs.Desk.{sum_below}
 use Rattle.tt_share.specs.Seats.{last_number}
 
 module _ {A : Type 0} where
@@ -46,12 +46,12 @@ module _ {A : Type 0} where
       omega (arith, sum_by-cons f x xs, sum_by-cons g x xs)
 
 -- at most `jobs` of the numbers below n are below `jobs`
-pub spare_below : (jobs n : ℕ) → n ≤ weight_below (λ k. cond (leb jobs k) 1 0) n + jobs
+pub spare_below : (jobs n : ℕ) → n ≤ sum_below (λ k. cond (leb jobs k) 1 0) n + jobs
 spare_below jobs zero = zero-le
 spare_below jobs (suc n) = let h = spare_below jobs n in grind (arith, nat_tests)
 
 -- no number below n is n or more
-pub none_below : (n m : ℕ) → m ≤ n → weight_below (λ k. cond (leb n k) 1 0) m ≡ 0
+pub none_below : (n m : ℕ) → m ≤ n → sum_below (λ k. cond (leb n k) 1 0) m ≡ 0
 none_below n zero h = refl
 none_below n (suc m) h = let e = none_below n m (omega arith) in grind (arith, nat_tests)
 

@@ -17,7 +17,7 @@ use Rattle.tt_search.specs.declared.limits.Reason.TheVariants.{Total}
 use Rattle.tt_search.specs.declared.search.End.{End}
 use Rattle.tt_search.specs.declared.search.End.TheVariants.{Settled, Stuck}
 use Rattle.tt_share.specs.Answers.{IsSpent, spent_in_all}
-use Rattle.tt_share.specs.Jobs.{IsCounted, IsCountOf, IsJob, kept_of}
+use Rattle.tt_share.specs.Jobs.{IsCounted, IsJobCount, IsJob, kept_of}
 use Rattle.tt_share.specs.Results.{Progress, AreNoted, HasEnd, FilledBelow, IsAllSpent}
 use Rattle.tt_share.proofs.ResultLemmas.{get_set_same, get_set_other}
 
@@ -46,7 +46,7 @@ kept_counted line limits t past n (Settled p) h = h
 kept_counted line limits t false n (Stuck reason o) h = h
 kept_counted line limits t true n (Stuck reason o) h = (h.0, tt)
 
-pub kept_count : (line : Standing) (limits : Limits) (job : ℕ) (past : Bool) (n : ℕ) (end : End) → IsCountOf line limits job n end → IsCountOf line limits job n (kept_of past end)
+pub kept_count : (line : Standing) (limits : Limits) (job : ℕ) (past : Bool) (n : ℕ) (end : End) → IsJobCount line limits job n end → IsJobCount line limits job n (kept_of past end)
 kept_count line limits job past n end h t at = kept_counted line limits t past n end (h t at)
 
 -- a result and its count are put where there was none
@@ -55,7 +55,7 @@ module _ (line : Standing) (limits : Limits) (ends : List (Option End)) (spent :
   own_turn : IsJob line job e.0
   own_turn = subst (λ (ts : List Turn). slice_get ts job ≡ Some e.0) was.turns (map_at (λ (x : Turn × ℕ). x.0) spent job e at)
 
-  pub noted_put : (end : End) (n : ℕ) → IsCountOf line limits job n end → AreNoted line limits (slice_set ends job (Some end)) (slice_set spent job (e.0, n))
+  pub noted_put : (end : End) (n : ℕ) → IsJobCount line limits job n end → AreNoted line limits (slice_set ends job (Some end)) (slice_set spent job (e.0, n))
   noted_put end n count = record {
     turns = map_put (λ (x : Turn × ℕ). x.0) spent job e (e.0, n) at refl ∙ was.turns;
     each = length-set spent job (e.0, n) ∙ (was.each ∙ sym (length-set ends job (Some end)));

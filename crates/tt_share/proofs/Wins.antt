@@ -15,7 +15,7 @@ use Rattle.tt_game.specs.declared.turns.Turn.{Turn}
 use Rattle.tt_game.specs.Line.{Standing}
 use Rattle.tt_game.specs.Turns.{legal_turns}
 use Rattle.tt_share.specs.Jobs.{EndsBehind, IsResultOf, IsJob, IsStuck, HasWon}
-use Rattle.tt_share.specs.Results.{HasWonIn, AllWon, IsStuckIn, IsStuckAt, IsWinIn, HasEnd, IsFilled, IsWinAt, NoWin, IsLeastWin, IsLeastStuck, FilledBelow, IsReady, StopsAtWin}
+use Rattle.tt_share.specs.Results.{HasWonIn, AllWon, IsStuckIn, IsStuckAt, IsWinIn, HasEnd, HasResult, IsWinAt, NoWin, IsLeastWin, IsLeastStuck, FilledBelow, IsReady, StopsAtWin}
 use Rattle.tt_share.proofs.ResultLemmas.{get_set_other}
 
 -- what holds below i and at i holds below the next
@@ -74,10 +74,10 @@ pub no_win : (side : Side) (ends : List (Option End)) → ((k : ℕ) → k < len
 no_win side ends none job win = none job (slice_get_within ends job (Some win.0) win.1) win
 
 -- one more job has a result
-pub filled_more : (old new : List (Option End)) (i : ℕ) → FilledBelow i old → ((k : ℕ) → k ≢ i → slice_get new k ≡ slice_get old k) → IsFilled new i → FilledBelow (i + 1) new
+pub filled_more : (old new : List (Option End)) (i : ℕ) → FilledBelow i old → ((k : ℕ) → k ≢ i → slice_get new k ≡ slice_get old k) → HasResult new i → FilledBelow (i + 1) new
 filled_more old new i below same this =
     let others : FilledBelow i new = λ k low. (let had = below k low in let other : k ≢ i = λ e. absurd (omega (arith, low, e)) in (had.0, same k other ∙ had.1)) in
-    below_more (λ k. IsFilled new k) i others this
+    below_more (λ k. HasResult new k) i others this
 
 -- all is ready where a job has a win
 pub ready_by : {side : Side} {ends : List (Option End)} {job : ℕ} → IsLeastWin side ends job → IsReady side ends

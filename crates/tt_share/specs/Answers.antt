@@ -75,7 +75,7 @@ pub record IsStuckBehind (line : Standing) (limits : Limits) (reason : Reason) (
 
 -- memory was refused: outside a job the turn is a pass and no search is held, inside one it is the job's, and the lesser
 -- turns lose; a search that is held is behind that turn
-pub record IsRefused (line : Standing) (limits : Limits) (stuck : Stuck) : Type 0 where
+pub record IsStuckForMemory (line : Standing) (limits : Limits) (stuck : Stuck) : Type 0 where
   pub turn : ((stuck.turn ≡ Pass) × (stuck.search ≡ None)) ⊎ (IsLegal line.frame line.state stuck.turn × LesserLose line.frame line.state stuck.turn)
   pub behind : (search : Searched) → stuck.search ≡ Some search → IsBehind line limits stuck.turn search × IsGrown search.limits search.line.frame search.line.state search.tree
 
@@ -88,7 +88,7 @@ IsUnsettled line limits total Depth stuck =
     (search : Searched) × (stuck.search ≡ Some search) × IsStuckBehind line limits Depth stuck.turn search × (stuck.spent.items ≡ [])
 IsUnsettled line limits total Total stuck = (n : ℕ) × (total ≡ Some n) × (search : Searched) × (stuck.search ≡ Some search)
     × IsStuckBehind line limits Total stuck.turn search × IsSpent line limits n stuck.turn search stuck.spent.items
-IsUnsettled line limits total Memory stuck = IsRefused line limits stuck × (stuck.spent.items ≡ [])
+IsUnsettled line limits total Memory stuck = IsStuckForMemory line limits stuck × (stuck.spent.items ≡ [])
 
 -- a proof of the line and its first turn, or what is stuck
 abbrev pub IsAnswer : Standing → Limits → Option ℕ → Answer → Type 0

@@ -45,9 +45,9 @@ abbrev pub with_sighting : View → Bool → View
 with_sighting v seen = view_of v.parts v.numbers v.grants v.mark (v.sighting || seen)
 
 -- the weights of the numbers below n, added up
-abbrev pub weight_below : (ℕ → ℕ) → ℕ → ℕ
-weight_below weight zero = 0
-weight_below weight (suc n) = weight_below weight n + weight n
+abbrev pub sum_below : (ℕ → ℕ) → ℕ → ℕ
+sum_below weight zero = 0
+sum_below weight (suc n) = sum_below weight n + weight n
 
 -- how many of the numbers are spare: not below the limit, so no jobs, or no grants
 abbrev pub spare_count : ℕ → List ℕ → ℕ
@@ -64,7 +64,7 @@ SomeView P views = (seat : ℕ) × (v : View) × (get_elem? views seat ≡ some 
 -- The numbers in the views' lists are those below `count`, each once: however numbers are weighed, both weigh the same.
 -- A view has at most as many numbers that are not below the limit as it has parts, and with one part its numbers rise
 pub record Counts (numbers : View → List ℕ) (limit count : ℕ) (views : List View) : Type 0 where
-  pub each_once : (weight : ℕ → ℕ) → sum_by (λ v. sum_by weight (numbers v)) views ≡ weight_below weight count
+  pub each_once : (weight : ℕ → ℕ) → sum_by (λ v. sum_by weight (numbers v)) views ≡ sum_below weight count
   pub spares : EachView (λ v. spare_count limit (numbers v) ≤ v.parts) views
   pub rising : EachView (λ v. v.parts ≡ 1 → IsStrictlyIncreasing (numbers v)) views
 

@@ -64,11 +64,11 @@ abbrev pub IsResultOf : Standing → Limits → ℕ → End → Type 0
 IsResultOf line limits job end = (t : Turn) → IsJob line job t → EndsBehind line limits t end
 
 -- the count is that of the search behind the job's turn
-abbrev pub IsCountOf : Standing → Limits → ℕ → ℕ → End → Type 0
-IsCountOf line limits job n end = (t : Turn) → IsJob line job t → IsCounted line limits t n end
+abbrev pub IsJobCount : Standing → Limits → ℕ → ℕ → End → Type 0
+IsJobCount line limits job n end = (t : Turn) → IsJob line job t → IsCounted line limits t n end
 
 abbrev pub IsResult : Standing → Limits → Found → Type 0
-IsResult line limits found = IsResultOf line limits found.job found.end × IsCountOf line limits found.job found.spent found.end
+IsResult line limits found = IsResultOf line limits found.job found.end × IsJobCount line limits found.job found.spent found.end
 
 -- each end that is known is its job's
 abbrev pub AreResults : Standing → Limits → List (Option End) → Type 0

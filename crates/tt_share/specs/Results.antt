@@ -37,7 +37,7 @@ pub record AreNoted (line : Standing) (limits : Limits) (ends : List (Option End
   pub noted : (job : ℕ) (end : End) (e : Turn × ℕ) → HasEnd ends job end → slice_get spent job ≡ Some e → IsCounted line limits e.0 e.1 end
 
 -- nothing is known of any job
-pub record IsBlank (p : Progress) : Type 0 where
+pub record KnowsNothing (p : Progress) : Type 0 where
   pub none : p.ends ≡ replicate (length (legal_turns p.line.frame p.line.state)) None
   pub unspent : spent_in_all p.spent ≡ 0
 
@@ -64,12 +64,12 @@ pub record AskedFor (before : Progress) (old : Asked) (after : Progress) (new : 
   pub still : old.refused ≡ true → new.refused ≡ true
 
 -- the job has a result
-abbrev pub IsFilled : List (Option End) → ℕ → Type 0
-IsFilled ends job = (end : End) × HasEnd ends job end
+abbrev pub HasResult : List (Option End) → ℕ → Type 0
+HasResult ends job = (end : End) × HasEnd ends job end
 
 -- each job below the count has a result
 abbrev pub FilledBelow : ℕ → List (Option End) → Type 0
-FilledBelow count ends = (job : ℕ) → job < count → IsFilled ends job
+FilledBelow count ends = (job : ℕ) → job < count → HasResult ends job
 
 -- there is a result, and it is a proof for the side
 abbrev pub IsWinIn : Side → Option End → Type 0

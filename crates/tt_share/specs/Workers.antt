@@ -5,7 +5,7 @@ use Rattle.tt_game.specs.Line.{Standing}
 use Rattle.tt_search.specs.declared.limits.Limits.{Limits}
 use Rattle.tt_search.specs.declared.search.End.{End}
 use Rattle.tt_share.specs.Jobs.{IsResult, IsForTotal, IsWinFor, kept_of}
-use Rattle.tt_share.specs.Results.{HasEnd, IsFilled, IsPastStuck}
+use Rattle.tt_share.specs.Results.{HasEnd, HasResult, IsPastStuck}
 use Rattle.tt_share.specs.Seats.{DeskView, SeatView, EndsSpare, granted_of}
 use Rattle.tt_share.specs.declared.jobs.Found.{Found}
 use Rattle.tt_share.specs.declared.workers.HandedBack.{HandedBack}
@@ -81,7 +81,7 @@ pub record IsWork (line : Standing) (limits : Limits) (desk : DeskView) (back : 
 
 -- the job has a result, unless it is none of the line's
 abbrev pub IsPlaced : List (Option End) → Found → Type 0
-IsPlaced ends found = found.job < length ends → IsFilled ends found.job
+IsPlaced ends found = found.job < length ends → HasResult ends found.job
 
 -- each job whose result the worker handed back has one: that, or one that stood at its place before
 abbrev pub AllPlaced : List (Option End) → HandedBack → Type 0

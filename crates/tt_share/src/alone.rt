@@ -3,7 +3,7 @@
 ghost use Rattle.std.specs.Prelude.{◌≡◌, ℕ, ◌≤◌, Option, None, IfErr, IfOk};
 ghost use Rattle.tt_game.specs.Game.{winner_of};
 ghost use Rattle.tt_share.specs.Answers.{IsAnswer};
-ghost use Rattle.tt_share.specs.Results.{IsReady, IsAllSpent, IsBlank};
+ghost use Rattle.tt_share.specs.Results.{IsReady, IsAllSpent, KnowsNothing};
 
 use crate::answer::Answer;
 use crate::conclude::no_memory;
@@ -24,7 +24,7 @@ pub(crate) fn begin<'a, S: Store>(
     requires open { winner_of line.now.frame line.now.state ≡ None }
     ensures line { IfOk result (λ r. r.line ≡ line.now) }
     ensures limits { IfOk result (λ r. r.limits ≡ limits.now) }
-    ensures blank { IfOk result (λ r. IsBlank r) }
+    ensures blank { IfOk result (λ r. KnowsNothing r) }
     ensures answer { (total : Option ℕ) → IfErr result (IsAnswer line.now limits.now total) }
 {
     match from_store(alloc, line, *limits, store) {

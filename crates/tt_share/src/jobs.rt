@@ -5,7 +5,7 @@ ghost use Rattle.tt_game.specs.Game.{IsLegal, after, winner_of};
 ghost use Rattle.tt_game.specs.Turns.{legal_turns};
 ghost use Rattle.tt_search.specs.Numbers.{count};
 ghost use Rattle.tt_search.specs.Ended.{EndOf, SpentBy};
-ghost use Rattle.tt_share.specs.Jobs.{EndsBehind, IsCounted, AsksFor, IsResultOf, IsCountOf, IsWinFor};
+ghost use Rattle.tt_share.specs.Jobs.{EndsBehind, IsCounted, AsksFor, IsResultOf, IsJobCount, IsWinFor};
 
 use crate::ended::{Ended, is_win};
 use std::alloc::Global;
@@ -152,7 +152,7 @@ impl<'a> Jobs<'a> {
         requires job { job < length self.now.turns.items }
         requires grants { (G.asked grants.old).granted < 2 ^ 62 }
         ensures ends { IsResultOf self.now.line.now self.now.limits job result.0 }
-        ensures counted { IsCountOf self.now.line.now self.now.limits job result.1 result.0 }
+        ensures counted { IsJobCount self.now.line.now self.now.limits job result.1 result.0 }
         ensures asks { AsksFor (G.asked grants.old) result.1 result.0 (G.asked grants.new) }
         ensures source { G.source grants.new ≡ G.source grants.old }
     {

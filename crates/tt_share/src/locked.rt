@@ -1,7 +1,7 @@
 //! A table behind a lock, and the stores that searches have of it.
 
 ghost use Rattle.std.specs.Prelude.{◌≡◌, ◌≢◌, ◌≤◌, ◌+◌, ◌↔◌, ℕ, IfOk, IfSome};
-ghost use Rattle.tt_search.specs.Stores.{IsAnswer};
+ghost use Rattle.tt_search.specs.Stores.{AnswersFor};
 ghost use Rattle.tt_search.specs.declared.store.Kept.TheVariants.{Stored, Full};
 
 use crate::bounds::MOST_KEPT;

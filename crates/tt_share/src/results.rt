@@ -8,7 +8,7 @@ ghost use Rattle.tt_search.specs.declared.limits.TheConstants.{MOST_EXPANDED};
 ghost use Rattle.tt_search.specs.declared.search.End.{End};
 ghost use Rattle.tt_share.specs.Answers.{spent_in_all};
 ghost use Rattle.tt_share.specs.Jobs.{IsResult, IsWinFor};
-ghost use Rattle.tt_share.specs.Results.{Notes, AskedFor, HasEnd, IsFilled, HasWonIn, AllWon, IsPastStuck, IsStuckIn, IsWinIn, IsWinAt, NoWin, IsLeastWin, IsReady, StopsAtWin, KeepsEnds, Puts};
+ghost use Rattle.tt_share.specs.Results.{Notes, AskedFor, HasEnd, HasResult, HasWonIn, AllWon, IsPastStuck, IsStuckIn, IsWinIn, IsWinAt, NoWin, IsLeastWin, IsReady, StopsAtWin, KeepsEnds, Puts};
 
 use crate::ended::{Ended, is_stuck, is_win, trimmed};
 use crate::jobs::{Found, Jobs};
@@ -86,7 +86,7 @@ pub(crate) fn win_at(ends: &[Option<Ended>], side: Side) -> Option<usize>
 /// Whether there is such a place, with no result.
 fn is_free_in(ends: &[Option<Ended>], job: usize) -> bool
     ensures free { IsTrue result ↔ (slice_get ends.now job ≡ Some None) }
-    ensures filled { result ≡ false → job < length ends.now → IsFilled ends.now job }
+    ensures filled { result ≡ false → job < length ends.now → HasResult ends.now job }
 {
     job < ends.len() && ends[job].is_none()
 }
@@ -175,7 +175,7 @@ impl<'a> Results<'a> {
     /// Whether the job is one of the line's and has no result.
     fn is_free(&self, job: usize) -> bool
         ensures free { IsTrue result ↔ (slice_get self.now.ends job ≡ Some None) }
-        ensures filled { result ≡ false → job < length self.now.ends → IsFilled self.now.ends job }
+        ensures filled { result ≡ false → job < length self.now.ends → HasResult self.now.ends job }
     {
         is_free_in(self.ends.as_slice(), job)
     }
@@ -226,7 +226,7 @@ impl<'a> Results<'a> {
         ensures source { G.source grants.new ≡ G.source grants.old }
         ensures few { (G.asked grants.new).granted ≤ (G.asked grants.old).granted + MOST_EXPANDED }
         ensures len { length self.new.ends ≡ length self.old.ends }
-        ensures filled { IsFilled self.new.ends job }
+        ensures filled { HasResult self.new.ends job }
         ensures kept { KeepsEnds self.old.ends self.new.ends }
         ensures others { (k : ℕ) → k ≢ job → slice_get self.new.ends k ≡ slice_get self.old.ends k }
         ensures won { IsTrue result → IsWinAt self.old.line.state.to_move self.new.ends job }

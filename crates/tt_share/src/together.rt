@@ -4,7 +4,7 @@ ghost use Rattle.std.specs.Prelude.{◌≡◌, ◌≤◌, ◌<◌, None, IfSome,
 ghost use Rattle.tt_game.specs.Game.{winner_of};
 ghost use Rattle.tt_share.specs.declared.bounds.TheConstants.{MOST_WORKERS};
 ghost use Rattle.tt_share.specs.Answers.{IsAnswer};
-ghost use Rattle.tt_share.specs.Results.{IsBlank, IsReady, SpendsTotal};
+ghost use Rattle.tt_share.specs.Results.{KnowsNothing, IsReady, SpendsTotal};
 
 use crate::alone::{begin, finish};
 use crate::answer::Answer;
@@ -37,7 +37,7 @@ pub(crate) fn search_together<R: Threads + Wait + Sync, G: Gate, S: Store>(
 ) -> Result<(), NoMemory>
     requires total { IfSome total (λ n. 0 < n) }
     requires workers { (1 ≤ workers) × (workers ≤ MOST_WORKERS) }
-    requires blank { IsBlank results.old }
+    requires blank { KnowsNothing results.old }
     ensures line { (results.new.line ≡ results.old.line) × (results.new.limits ≡ results.old.limits) }
     ensures ready { OnOk result (IsReady results.new.line.state.to_move results.new.ends) }
     ensures spent { OnOk result (SpendsTotal total results.new) }
@@ -70,7 +70,7 @@ fn solve_rest<R: Threads + Wait + Sync, G: Gate, S: Store>(
 ) -> Answer
     requires total { IfSome total (λ n. 0 < n) }
     requires workers { (1 ≤ workers) × (workers ≤ MOST_WORKERS) }
-    requires blank { IsBlank results }
+    requires blank { KnowsNothing results }
     ensures { IsAnswer results.entry.line results.entry.limits total result }
 {
     match search_together(rt, &mut results, total, workers, log, gate, store) {

@@ -1,7 +1,7 @@
 //! Workers: threads that draw the jobs of a line at a desk and search them, and what comes back of them.
 
 ghost use Rattle.std.specs.Prelude.{◌≡◌, ◌≤◌, ◌<◌, ◌↔◌, ◌+◌, ◌^◌, ◌⊎◌, ◌||◌, ℕ, [], ◌∷◌, ◌++◌, All, None, IfOk, IfNone, IfSome, IsTrue, length, sum_by, vec_len, vec_capacity};
-ghost use Rattle.tt_share.specs.Jobs.{IsResultOf, IsCountOf, AsksFor, IsResult};
+ghost use Rattle.tt_share.specs.Jobs.{IsResultOf, IsJobCount, AsksFor, IsResult};
 ghost use Rattle.tt_share.specs.Results.{KeepsEnds};
 ghost use Rattle.tt_share.specs.Answers.{spent_in_all};
 ghost use Rattle.tt_share.specs.Seats.{SeatView, seat_of};
@@ -41,7 +41,7 @@ pub(crate) fn search_drawn<S: Store, G: Gate, A: Grants>(
     requires job { job < length jobs.now.turns.items }
     requires grants { (A.asked grants.old).granted < 2 ^ 62 }
     ensures ends { IsResultOf jobs.now.line.now jobs.now.limits job result.0 }
-    ensures counted { IsCountOf jobs.now.line.now jobs.now.limits job result.1 result.0 }
+    ensures counted { IsJobCount jobs.now.line.now jobs.now.limits job result.1 result.0 }
     ensures asks { AsksFor (A.asked grants.old) result.1 result.0 (A.asked grants.new) }
     ensures source { A.source grants.new ≡ A.source grants.old }
 {

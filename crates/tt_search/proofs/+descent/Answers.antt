@@ -7,7 +7,7 @@ use Rattle.tt_search.specs.Packed.{choices_of, child_of}
 use Rattle.tt_search.specs.Child.{child_tree}
 use Rattle.tt_search.specs.Pairs.{ArePair}
 use Rattle.tt_search.specs.Cached.{IsCached}
-use Rattle.tt_search.specs.Edges.{mark_of, grown_in, trees_of}
+use Rattle.tt_search.specs.Edges.{mark_of, grown_in, edge_trees}
 use Rattle.tt_search.specs.Numbers.{number}
 use Rattle.tt_search.specs.Growing.{IsPartialTree}
 use Rattle.tt_search.specs.Walking.{stage, stand_of, MayGrow}
@@ -191,7 +191,7 @@ children::Children::grow_best-child-child-requires-clause-there g t c =
     let x = c.self.inside.packed in
     let is = c.from-place.ensures ∙ c.self.invariant.place in
     let there = subst (λ (v : Choices). best_place v < length v.trees) (sym c.self.view_is) c.requires.there in
-    let in_trees : c.from-place.result < length (trees_of x.edges.items x.grown.items) = omega (arith, is, there) in
+    let in_trees : c.from-place.result < length (edge_trees x.edges.items x.grown.items) = omega (arith, is, there) in
     let steps = c.grow_at-step.ensures.steps in
     place_there c.self.inside.mover x c.grow_at-step.new.self c.from-place.result steps.0 is in_trees steps.2
 

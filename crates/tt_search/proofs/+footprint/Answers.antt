@@ -14,7 +14,7 @@ use Rattle.tt_search.specs.Shape.{shape}
 use Rattle.tt_search.specs.Children.{children_of}
 use Rattle.tt_search.specs.Choices.{Choices, node_with, weight_below}
 use Rattle.tt_search.specs.Child.{child_tree}
-use Rattle.tt_search.specs.Edges.{turn_of, turns_of, trees_of}
+use Rattle.tt_search.specs.Edges.{edge_turn, edge_turns, edge_trees}
 use Rattle.tt_search.specs.Packed.{children_in}
 use Rattle.tt_search.specs.Settled.{strategy_for, first_settled, pick_at}
 use Rattle.tt_search.specs.Weight.{weight, weight_all}
@@ -77,8 +77,8 @@ children::Children::footprint-replied-requires t c =
         arith,
         c.decreases,
         ap weight_below c.self.view_is,
-        ap (λ es. weight_all (children_of (trees_of es c.as_slice-else-is_same.result.now))) edges,
-        ap (λ us. weight_all (children_of (trees_of x.edges.items us))) grown,
+        ap (λ es. weight_all (children_of (edge_trees es c.as_slice-else-is_same.result.now))) edges,
+        ap (λ us. weight_all (children_of (edge_trees x.edges.items us))) grown,
       ),
       rw (edges, grown)
           (replied_children c.args.side c.args.line.now.frame c.args.line.now.state c.self.inside.mover x.edges.items x.grown.items
@@ -107,7 +107,7 @@ footprints::picked-footprint_behind-requires t c =
     let f = c.args.line.now.frame in
     let s = c.args.line.now.state in
     let there = picked_there c.args.side f s x i c.requires.settled c.first_settled-place.ensures.place in
-    let w = weight_at (trees_of x.edges.items x.grown.items) i fresh (omega (arith, there, length-trees_of x.edges.items x.grown.items)) in (
+    let w = weight_at (edge_trees x.edges.items x.grown.items) i fresh (omega (arith, there, length-trees_of x.edges.items x.grown.items)) in (
       omega (arith, c.decreases, w, ap weight c.child-child.ensures),
       picked_here c.args.side f s x i c.index.result.now c.turn-turn.result (child_tree c.child-child.result)
           c.requires.settled c.first_settled-place.ensures.place c.index.ensures c.turn-turn.ensures c.child-child.ensures,
@@ -126,13 +126,13 @@ footprints::picked-returns-clause-exact t c =
     let f = c.args.line.now.frame in
     let s = c.args.line.now.state in
     let x = c.args.children.now in
-    let turns : List Turn = turns_of x.edges.items in
-    let trees : List PartialTree = trees_of x.edges.items x.grown.items in
+    let turns : List Turn = edge_turns x.edges.items in
+    let trees : List PartialTree = edge_trees x.edges.items x.grown.items in
     let i : ℕ = c.first_settled-place.result.0 in
     let child : PartialTree = child_tree c.child-child.result in
     let in_edges = picked_there side f s x i c.requires.settled c.first_settled-place.ensures.place in
     let in_trees : i < length trees = omega (arith, in_edges, length-trees_of x.edges.items x.grown.items) in
-    let turn = c.turn-turn.ensures ∙ ap turn_of c.index.ensures ∙ sym (turn_at_place x.edges.items i c.index.result.now c.turn-turn.result in_edges) in
+    let turn = c.turn-turn.ensures ∙ ap edge_turn c.index.ensures ∙ sym (turn_at_place x.edges.items i c.index.result.now c.turn-turn.result in_edges) in
     let e : pick c.turn-turn.result (strategy_for side child) ≡ pick_at side (first_settled side (children_in x)) turns (children_in x) =
     picked side turns trees i c.turn-turn.result child (strategy_for side child) turn (c.child-child.ensures ∙ any_default trees i fresh child in_trees) refl
     (omega (arith, in_edges, length-turns_of x.edges.items)) in_trees
@@ -155,7 +155,7 @@ footprints::replied-footprint_behind-requires t c =
     let turn : Turn = c.turn-turn.result in
     let child : PartialTree = child_tree c.first.result.0 in
     let here = settled_here side f s c.args.edges.now c.loop-edge.rest.now i first c.loop-edge-test.true c.loop-edge.invariant.settled in
-    let is_child = subst (λ u. IsSettledAt side f (after f s (turn_of e)) u) (sym c.first.ensures.child) here.child in (
+    let is_child = subst (λ u. IsSettledAt side f (after f s (edge_turn e)) u) (sym c.first.ensures.child) here.child in (
       omega (
         arith,
         c.decreases,
@@ -198,7 +198,7 @@ footprints::replied-loop-edge-preserved t c =
       lighter = omega (
         arith,
         weight_step c.args.edges.now c.loop-edge.rest.now i first c.loop-edge-test.true,
-        ap (λ us. weight_all (children_of (trees_of left us))) c.first.ensures.behind,
+        ap (λ us. weight_all (children_of (edge_trees left us))) c.first.ensures.behind,
         c.loop-edge.invariant.lighter,
       );
     }

@@ -1,6 +1,6 @@
 use Rattle.std.proofs.Common.{◌≡◌, ◌≤◌, ◌*◌, ◌+◌, drop}
 use Rattle.tt_search.specs.Children.{children_of}
-use Rattle.tt_search.specs.Edges.{trees_of}
+use Rattle.tt_search.specs.Edges.{edge_trees}
 use Rattle.tt_search.specs.Choices.{weight_below}
 use Rattle.tt_search.specs.Child.{child_tree}
 use Rattle.tt_search.specs.Joining.{AreSettledAt}
@@ -21,10 +21,10 @@ abbrev pub decreases-children::Children::footprint : goal.decreases-children::Ch
 decreases-children::Children::footprint l = weight_below l.self.now * 4 + 5
 
 abbrev pub decreases-footprints::picked : goal.decreases-footprints::picked
-decreases-footprints::picked l = weight_all (children_of (trees_of l.children.now.edges.items l.children.now.grown.items)) * 4 + 4
+decreases-footprints::picked l = weight_all (children_of (edge_trees l.children.now.edges.items l.children.now.grown.items)) * 4 + 4
 
 abbrev pub decreases-footprints::replied : goal.decreases-footprints::replied
-decreases-footprints::replied l = weight_all (children_of (trees_of l.edges.now l.grown.now)) * 4 + 4
+decreases-footprints::replied l = weight_all (children_of (edge_trees l.edges.now l.grown.now)) * 4 + 4
 
 -- what is joined is the footprint of a reply with the first entries, and all others are left
 abbrev pub invariant-footprints::replied-loop-edge : goal.invariant-footprints::replied-loop-edge
@@ -32,5 +32,5 @@ invariant-footprints::replied-loop-edge l = record {
   same : l.line ≡ l.fn.line;
   settled : AreSettledAt l.side l.fn.line.frame l.fn.line.state (drop l.edge-index l.edges) l.rest;
   joined : IsJoinedUpTo l.side l.fn.line.frame l.fn.line.state (replies_to l.side l.fn.line.frame l.fn.line.state l.edges l.grown) (drop l.edge-index l.edges) l.rest l.footprint;
-  lighter : weight_all (children_of (trees_of (drop l.edge-index l.edges) l.rest)) ≤ weight_all (children_of (trees_of l.edges l.grown));
+  lighter : weight_all (children_of (edge_trees (drop l.edge-index l.edges) l.rest)) ≤ weight_all (children_of (edge_trees l.edges l.grown));
 }

@@ -3,7 +3,7 @@ use Rattle.tt_game.specs.declared.turns.Turn.{Turn}
 use Rattle.tt_proof.specs.Strategy.{Entries, reply, entry}
 use Rattle.tt_search.specs.PartialTree.{PartialTree, fresh}
 use Rattle.tt_search.specs.Children.{children_of}
-use Rattle.tt_search.specs.Edges.{turn_of, mark_of, tree_of, turns_of, trees_of}
+use Rattle.tt_search.specs.Edges.{edge_turn, mark_of, tree_of, edge_turns, edge_trees}
 use Rattle.tt_search.specs.Settled.{strategy_for, pick_at, replies}
 use Rattle.tt_search.specs.Weight.{weight, weight_all}
 use Rattle.tt_search.specs.declared.edges.Edge.{Edge}
@@ -21,26 +21,26 @@ pub settled::picked-returns-then-place-len : goal.settled::picked-returns-then-p
 settled::picked-returns-then-place-len t c =
     let x = c.args.children.now in
     c.done.ensures ∙ sym (rw (← c.first_settled-place.ensures.place)
-    (pick_past_turns c.args.side (turns_of x.edges.items) (trees_of x.edges.items x.grown.items) c.first_settled-place.result.0
+    (pick_past_turns c.args.side (edge_turns x.edges.items) (edge_trees x.edges.items x.grown.items) c.first_settled-place.result.0
     (omega (arith, c.if-place-len.true, c.len.ensures, x.edges.ok.0, length-turns_of x.edges.items))))
 
 pub settled::picked-plan-requires : goal.settled::picked-plan-requires
 settled::picked-plan-requires t c =
     let x = c.args.children.now in
     let i : ℕ = c.first_settled-place.result.0 in
-    let w = weight_at (trees_of x.edges.items x.grown.items) i fresh (omega (arith, c.if-place-len.false, c.len.ensures, x.edges.ok.0, length-trees_of x.edges.items x.grown.items)) in
+    let w = weight_at (edge_trees x.edges.items x.grown.items) i fresh (omega (arith, c.if-place-len.false, c.len.ensures, x.edges.ok.0, length-trees_of x.edges.items x.grown.items)) in
     (omega (arith, c.decreases, w, ap weight c.child.ensures), tt)
 
 pub settled::picked-returns : goal.settled::picked-returns
 settled::picked-returns t c =
     let x = c.args.children.now in
-    let turns : List Turn = turns_of x.edges.items in
-    let trees : List PartialTree = trees_of x.edges.items x.grown.items in
+    let turns : List Turn = edge_turns x.edges.items in
+    let trees : List PartialTree = edge_trees x.edges.items x.grown.items in
     let i : ℕ = c.first_settled-place.result.0 in
     let child : PartialTree = child_of x i in
     let in_edges : i < length x.edges.items = omega (arith, c.if-place-len.false, c.len.ensures, x.edges.ok.0) in
     let in_trees : i < length trees = omega (arith, in_edges, length-trees_of x.edges.items x.grown.items) in
-    let turn = c.turn.ensures ∙ ap turn_of c.index.ensures ∙ sym (turn_at_place x.edges.items i c.index.result.now c.turn.result in_edges) in
+    let turn = c.turn.ensures ∙ ap edge_turn c.index.ensures ∙ sym (turn_at_place x.edges.items i c.index.result.now c.turn.result in_edges) in
     let e = picked c.args.side turns trees i c.turn.result child _ turn (any_default trees i fresh child in_trees) (c.in_ok-child.ensures ∙ ap (strategy_for c.args.side) c.child.ensures)
     (omega (arith, in_edges, length-turns_of x.edges.items)) in_trees in
     subst (λ u. IfOk c.pick.result (λ p. p ≡ u)) (e ∙ ap (λ i. pick_at c.args.side i turns (children_of trees)) c.first_settled-place.ensures.place) c.pick.ensures
@@ -51,23 +51,23 @@ settled::replied-loop-edge-preserved t c =
     let e : Edge = get_or c.args.edges.now i first in
     let left : List Edge = drop (i + 1) c.args.edges.now in
     let behind : List PartialTree = c.first.result.1.now in
-    let rest : Entries = replies c.args.side (turns_of left) (children_of (trees_of left behind)) in
+    let rest : Entries = replies c.args.side (edge_turns left) (children_of (edge_trees left behind)) in
     let step = replied_step c.args.side c.args.edges.now c.loop-edge.rest.now i first c.loop-edge-test.true
-    ∙ ap (λ us. entry (turn_of e) (strategy_for c.args.side (tree_of (mark_of e) c.loop-edge.rest.now)) (replies c.args.side (turns_of left) (children_of (trees_of left us))))
+    ∙ ap (λ us. entry (edge_turn e) (strategy_for c.args.side (tree_of (mark_of e) c.loop-edge.rest.now)) (replies c.args.side (edge_turns left) (children_of (edge_trees left us))))
     (sym c.first.ensures.behind) in
     record {
       made =
           ap (λ zs. joined zs rest) c.in_ok-push.ensures.ok
           ∙ joined_push c.loop-edge.answers (c.turn.result, c.in_ok-answer.answer) rest
           ∙ ap (λ u. joined c.loop-edge.answers (entry u c.in_ok-answer.answer rest)) c.turn.ensures
-          ∙ ap (λ u. joined c.loop-edge.answers (entry (turn_of e) u rest)) (c.in_ok-answer.ensures ∙ ap (strategy_for c.args.side) c.first.ensures.child)
+          ∙ ap (λ u. joined c.loop-edge.answers (entry (edge_turn e) u rest)) (c.in_ok-answer.ensures ∙ ap (strategy_for c.args.side) c.first.ensures.child)
           ∙ ap (joined c.loop-edge.answers) (sym step)
           ∙ c.loop-edge.invariant.made;
       whole = whole_behind c.args.edges.now c.loop-edge.rest.now i first c.loop-edge-test.true c.loop-edge.invariant.whole ∙ ap length (sym c.first.ensures.behind);
       lighter = omega (
         arith,
         weight_step c.args.edges.now c.loop-edge.rest.now i first c.loop-edge-test.true,
-        ap (λ us. weight_all (children_of (trees_of left us))) c.first.ensures.behind,
+        ap (λ us. weight_all (children_of (edge_trees left us))) c.first.ensures.behind,
         c.loop-edge.invariant.lighter,
       );
     }

@@ -1,6 +1,6 @@
 use Rattle.std.proofs.Common.{◌≡◌, ◌≤◌, ◌*◌, ◌+◌, length, drop}
 use Rattle.tt_search.specs.Children.{children_of}
-use Rattle.tt_search.specs.Edges.{turns_of, trees_of, grown_in}
+use Rattle.tt_search.specs.Edges.{edge_turns, edge_trees, grown_in}
 use Rattle.tt_search.specs.Choices.{weight_below}
 use Rattle.tt_search.specs.Child.{child_tree}
 use Rattle.tt_search.specs.Settled.{replies}
@@ -18,15 +18,15 @@ abbrev pub decreases-children::Children::plan : goal.decreases-children::Childre
 decreases-children::Children::plan l = weight_below l.self.now * 3 + 3
 
 abbrev pub decreases-settled::picked : goal.decreases-settled::picked
-decreases-settled::picked l = weight_all (children_of (trees_of l.children.now.edges.items l.children.now.grown.items)) * 3 + 1
+decreases-settled::picked l = weight_all (children_of (edge_trees l.children.now.edges.items l.children.now.grown.items)) * 3 + 1
 
 abbrev pub decreases-settled::replied : goal.decreases-settled::replied
-decreases-settled::replied l = weight_all (children_of (trees_of l.edges.now l.grown.now)) * 3 + 1
+decreases-settled::replied l = weight_all (children_of (edge_trees l.edges.now l.grown.now)) * 3 + 1
 
 abbrev pub invariant-settled::replied-loop-edge : goal.invariant-settled::replied-loop-edge
 invariant-settled::replied-loop-edge l = record {
-  made : joined l.answers (replies l.side (turns_of (drop l.edge-index l.edges)) (children_of (trees_of (drop l.edge-index l.edges) l.rest))) ≡ replies l.side (turns_of l.edges)
-      (children_of (trees_of l.edges l.grown));
+  made : joined l.answers (replies l.side (edge_turns (drop l.edge-index l.edges)) (children_of (edge_trees (drop l.edge-index l.edges) l.rest))) ≡ replies l.side (edge_turns l.edges)
+      (children_of (edge_trees l.edges l.grown));
   whole : grown_in (drop l.edge-index l.edges) ≡ length l.rest;
-  lighter : weight_all (children_of (trees_of (drop l.edge-index l.edges) l.rest)) ≤ weight_all (children_of (trees_of l.edges l.grown));
+  lighter : weight_all (children_of (edge_trees (drop l.edge-index l.edges) l.rest)) ≤ weight_all (children_of (edge_trees l.edges l.grown));
 }

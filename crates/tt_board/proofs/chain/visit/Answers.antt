@@ -2,7 +2,7 @@ use Rattle.std.proofs.Common.{rules, ◌≡◌, ◌≢◌, ◌++◌, None, [], �
 use Rattle.std.proofs.lemmas.List.Elements.{Contains-push}
 use Rattle.tt_board.specs.Reach.{entry_at}
 use Rattle.tt_board.specs.Fill.{is_marked}
-use Rattle.tt_board.specs.Chain.{IsGrowing, marks_of}
+use Rattle.tt_board.specs.Chain.{IsGrowing, marks_on}
 use Rattle.tt_board.proofs.ChainLemmas.{room_left, push_growing, mark_at, marks_set, closed_at}
 use Rattle.tt_board.proofs.chain.visit.Goals as goal
 use Rattle.tt_board.proofs.chain.visit.Goals.{else-eq-via-then-eq+else-not-has, else-eq-via-else-eq}
@@ -11,16 +11,16 @@ pub push-requires : goal.push-requires
 push-requires c =
     let q = c.in-Some.q in
     let inside = c.requires.on_board q c.in-Some.is in
-    let bare : is_marked (marks_of c.args.marks.now.words) q ≡ false = mark_at c.args.marks.now.words q (omega (arith, inside, c.requires.small)) ∙ sym c.has.ensures ∙ c.if-not-has.true in
-    let room = room_left (marks_of c.args.marks.now.words) c.args.chain.now.items q c.requires.growing (omega (arith, inside, c.requires.small)) bare in
+    let bare : is_marked (marks_on c.args.marks.now.words) q ≡ false = mark_at c.args.marks.now.words q (omega (arith, inside, c.requires.small)) ∙ sym c.has.ensures ∙ c.if-not-has.true in
+    let room = room_left (marks_on c.args.marks.now.words) c.args.chain.now.items q c.requires.growing (omega (arith, inside, c.requires.small)) bare in
     (omega arith, room)
 
 pub returns-then-not-has-clause-still_growing : goal.returns-then-not-has-clause-still_growing
 returns-then-not-has-clause-still_growing c =
     let q = c.in-Some.q in let m = c.args.marks.now.words in let xs = c.args.chain.now.items in
     let inside = c.requires.on_board q c.in-Some.is in
-    let bare : is_marked (marks_of m) q ≡ false = mark_at m q (omega (arith, inside, c.requires.small)) ∙ sym c.has.ensures ∙ c.if-not-has.true in
-    let grown = push_growing (marks_of m) xs q c.requires.growing (omega (arith, inside, c.requires.small)) bare in
+    let bare : is_marked (marks_on m) q ≡ false = mark_at m q (omega (arith, inside, c.requires.small)) ∙ sym c.has.ensures ∙ c.if-not-has.true in
+    let grown = push_growing (marks_on m) xs q c.requires.growing (omega (arith, inside, c.requires.small)) bare in
     rw c.push.ensures.items (subst (λ n. IsGrowing n (xs ++ q ∷ [])) (marks_set m c.set.new.self.words q (omega (arith, inside, c.requires.small)) c.set.ensures.same c.set.ensures.others) grown)
 
 pub returns-then-not-has-clause-enclosed : goal.returns-then-not-has-clause-enclosed

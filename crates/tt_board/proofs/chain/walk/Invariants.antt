@@ -1,10 +1,10 @@
 use Rattle.std.proofs.Common.{ℕ, ◌<◌, ◌-◌, get_or, Contains}
-use Rattle.tt_board.specs.Chain.{marks_of, IsGrowing, IsLinked, IsEnclosed}
+use Rattle.tt_board.specs.Chain.{marks_on, IsGrowing, IsLinked, IsEnclosed}
 use Rattle.tt_board.proofs.chain.walk.Given as goal
 
 abbrev pub invariant-loop-next : goal.invariant-loop-next
 invariant-loop-next l = record {
-  growing : IsGrowing (marks_of l.marks.words) l.chain.items;
+  growing : IsGrowing (marks_on l.marks.words) l.chain.items;
   has_start : Contains l.chain.items l.start;
   linked : (p : ℕ) → Contains l.chain.items p → IsLinked l.size l.points l.start p;
   enclosed : (k : ℕ) → k < l.next → IsEnclosed l.size l.points l.chain.items (get_or l.chain.items k 0);

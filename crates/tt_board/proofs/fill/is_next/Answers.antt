@@ -4,7 +4,7 @@ use Rattle.tt_board.specs.declared.Colour.{Colour}
 use Rattle.tt_sgf.specs.declared.size.Size.{Size}
 use Rattle.tt_board.specs.Near.{IsNeighbour}
 use Rattle.tt_board.specs.Reach.{entry_at}
-use Rattle.tt_board.specs.Fill.{IsNext, is_marked}
+use Rattle.tt_board.specs.Fill.{IsBesideMarked, is_marked}
 use Rattle.tt_board.proofs.NearLemmas.{near_at, index_of}
 use Rattle.tt_board.proofs.fill.is_next.Goals as goal
 
@@ -27,7 +27,7 @@ bounds-marks-q c =
 -- a point none of whose neighbours leads on isn't next
 none_next : (s : Size) (points : List (Option Colour)) (wanted : Option Colour) (m : List Bool) (p : ℕ) (items xs : List ℕ) → xs ≡ items → ((r : ℕ) → Contains items r ↔ IsNeighbour s p r)
     → ((k : ℕ) → k < length xs → (entry_at points (get_or xs k 0) ≢ wanted) × (entry_at points (get_or xs k 0) ≡ entry_at points p → IsTrue (is_marked m (get_or xs k 0)) → ⊥))
-    → IsNext s points wanted m p → ⊥
+    → IsBesideMarked s points wanted m p → ⊥
 none_next s points wanted m p items xs e all none (other, (q, near, how)) =
     let i = index_of s p items xs q e all near in
     let no = none i.0 i.1 in

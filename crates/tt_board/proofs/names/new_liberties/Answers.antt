@@ -1,8 +1,8 @@
 use Rattle.std.proofs.Common.{◌≡◌, ◌<◌, not, true, false, length, get_or, arith, rules, sym, ap, ◌∙◌}
 use Rattle.std.proofs.lemmas.Bool.{true≢false, and_from, and_left, and_right, eq-eqb, ne_eqb}
 use Rattle.std.proofs.lemmas.List.Sums.{count_by_more_yes, count_by_more_no}
-use Rattle.tt_board.specs.Chains.{is_new, decided, decided_is, touching}
-use Rattle.tt_board.proofs.CountLemmas.{decided_not}
+use Rattle.tt_board.specs.Chains.{is_new, touching}
+use Rattle.tt_board.specs.Decided.{decided, decided_is, decided_not}
 use Rattle.tt_board.proofs.NearLemmas.{near_at}
 use Rattle.tt_board.proofs.NameLemmas.{beside_counted}
 use Rattle.tt_board.proofs.names.new_liberties.Goals as goal

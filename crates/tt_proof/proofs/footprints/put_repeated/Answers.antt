@@ -1,6 +1,6 @@
 use Rattle.std.proofs.Common.{◌≡◌, ◌∙◌, sym, ap, inl, inr, Contains}
 use Rattle.tt_board.specs.Position.{Position}
-use Rattle.tt_proof.specs.KeptFootprints.{board_of}
+use Rattle.tt_proof.specs.KeptFootprints.{frame_board}
 use Rattle.tt_proof.proofs.ResultLemmas.{on_ok}
 use Rattle.tt_proof.proofs.FootprintLemmas.{board_is, otherwise}
 use Rattle.tt_proof.proofs.RepeatLemmas.{one_more}
@@ -18,7 +18,7 @@ returns-in-Some-clause-more c =
     let board = c.in-Some.board in
     let size : board.size ≡ f.size = ap (λ (w : Position). w.size) c.in-Some.ensures.1 in
     on_ok c.add.result _ _
-    (λ h. one_more f c.args.line.now.state (λ x. Contains c.args.needs.now (board_of f x)) (λ x. Contains c.add.new.self (board_of f x)) c.args.p board.points
+    (λ h. one_more f c.args.line.now.state (λ x. Contains c.args.needs.now (frame_board f x)) (λ x. Contains c.add.new.self (frame_board f x)) c.args.p board.points
     c.in-Some.ensures.0 (ap (λ (w : Position). w.points) c.in-Some.ensures.1)
-    (λ x. otherwise _ _ _ _ (h (board_of f x)) (λ e. ap (λ (w : Position). w.points) e, λ e. sym (board_is board f.size x size (sym e)))))
+    (λ x. otherwise _ _ _ _ (h (frame_board f x)) (λ e. ap (λ (w : Position). w.points) e, λ e. sym (board_is board f.size x size (sym e)))))
     c.add.ensures

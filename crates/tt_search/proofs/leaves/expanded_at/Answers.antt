@@ -3,7 +3,7 @@ use Rattle.tt_game.specs.declared.turns.Successor.{Successor}
 use Rattle.tt_game.specs.Turns.{successors_of, successors_from}
 use Rattle.tt_game.specs.TurnLaws.{length-legal_turns, from_all}
 use Rattle.tt_search.specs.Growing.{leaf_for}
-use Rattle.tt_search.specs.Edges.{turns_of, trees_of, grown_in}
+use Rattle.tt_search.specs.Edges.{edge_turns, edge_trees, grown_in}
 use Rattle.tt_search.proofs.Places.{length-turns_of, grown_push}
 use Rattle.tt_search.proofs.Successors.{expansion_of, turns_of-successors, turns_more, leaves_more, turns_last, leaves_last}
 use Rattle.tt_search.proofs.leaves.expanded_at.Goals as goal
@@ -13,9 +13,9 @@ loop-p-init c =
     let f = c.args.line.now.frame in let s = c.args.line.now.state in
     record {
       small = ap grown_in c.new-edges.ensures;
-      turns = ap (λ es. turns_of es ++ map (λ (x : Successor). x.turn) (successors_from f s 0)) c.new-edges.ensures
+      turns = ap (λ es. edge_turns es ++ map (λ (x : Successor). x.turn) (successors_from f s 0)) c.new-edges.ensures
           ∙ ap (map (λ (x : Successor). x.turn)) (from_all f s) ∙ turns_of-successors f s;
-      leaves = ap (λ es. trees_of es [] ++ map (λ (x : Successor). leaf_for x.winner) (successors_from f s 0)) c.new-edges.ensures
+      leaves = ap (λ es. edge_trees es [] ++ map (λ (x : Successor). leaf_for x.winner) (successors_from f s 0)) c.new-edges.ensures
           ∙ ap (map (λ (x : Successor). leaf_for x.winner)) (from_all f s);
       few = omega (arith, ap length c.new-edges.ensures);
       inside = omega arith;
@@ -59,4 +59,4 @@ returns c =
     let leaves = leaves_last f s c.loop-p.edges.items c.push-2.new.self.items c.new_edge-2.result c.winner_by_pass.result c.loop-p.from
     c.push-2.ensures.items c.new_edge-2.ensures.tree c.winner_by_pass.ensures c.in_default.ensures c.loop-p.invariant.leaves in
     c.expanded_node.ensures
-    ∙ expansion_of f s c.to_move.result (successors_of f s) _ _ c.to_move.ensures refl (ap turns_of whole ∙ turns) (ap (λ es. trees_of es []) whole ∙ leaves)
+    ∙ expansion_of f s c.to_move.result (successors_of f s) _ _ c.to_move.ensures refl (ap edge_turns whole ∙ turns) (ap (λ es. edge_trees es []) whole ∙ leaves)

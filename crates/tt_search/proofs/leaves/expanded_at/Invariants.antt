@@ -2,14 +2,14 @@ use Rattle.std.proofs.Common.{◌≡◌, ◌≤◌, ◌-◌, ◌++◌, [], map, 
 use Rattle.tt_sgf.specs.Sizes.{point_count}
 use Rattle.tt_game.specs.Turns.{legal_turns, successors_of, successors_from}
 use Rattle.tt_search.specs.Growing.{leaf_for}
-use Rattle.tt_search.specs.Edges.{turns_of, trees_of, grown_in}
+use Rattle.tt_search.specs.Edges.{edge_turns, edge_trees, grown_in}
 use Rattle.tt_search.proofs.leaves.expanded_at.Given as goal
 
 abbrev pub invariant-loop-p : goal.invariant-loop-p
 invariant-loop-p l = record {
   small : grown_in l.edges.items ≡ 0;
-  turns : turns_of l.edges.items ++ map (λ x. x.turn) (successors_from l.line.frame l.line.state l.from) ≡ legal_turns l.line.frame l.line.state;
-  leaves : trees_of l.edges.items [] ++ map (λ x. leaf_for x.winner) (successors_from l.line.frame l.line.state l.from) ≡ map (λ x. leaf_for x.winner) (successors_of l.line.frame l.line.state);
+  turns : edge_turns l.edges.items ++ map (λ x. x.turn) (successors_from l.line.frame l.line.state l.from) ≡ legal_turns l.line.frame l.line.state;
+  leaves : edge_trees l.edges.items [] ++ map (λ x. leaf_for x.winner) (successors_from l.line.frame l.line.state l.from) ≡ map (λ x. leaf_for x.winner) (successors_of l.line.frame l.line.state);
   few : length l.edges.items ≤ l.from;
   inside : l.from ≤ point_count l.line.frame.size;
 }

@@ -4,7 +4,7 @@ use Rattle.tt_game.specs.declared.frame.Side.{Side}
 use Rattle.tt_search.specs.PartialTree.{PartialTree}
 use Rattle.tt_search.specs.Children.{children_of}
 use Rattle.tt_search.specs.Numbers.{number, numbers, least}
-use Rattle.tt_search.specs.Edges.{mark_of, tree_of, trees_of, grown_behind, counted}
+use Rattle.tt_search.specs.Edges.{mark_of, tree_of, edge_trees, grown_behind, counted}
 use Rattle.tt_search.specs.declared.edges.Edge.{Edge}
 use Rattle.tt_search.proofs.Places.{rank_next, counted_most, whole_behind}
 use Rattle.tt_search.proofs.Rows.{least_le, best_from, best_from_start, best_from_less, best_from_same}
@@ -18,35 +18,35 @@ first = record { code = 0 }
 module _ (mover : Side) (es : List Edge) (rest behind : List PartialTree) (i x : ℕ) (l : i < length es) (is : x ≡ number mover (tree_of (mark_of (get_or es i first)) rest))
     (b : behind ≡ grown_behind (mark_of (get_or es i first)) rest) (p v : ℕ) where
   abbrev row : List PartialTree → List ℕ
-  row us = numbers mover (children_of (trees_of (drop (i + 1) es) us))
+  row us = numbers mover (children_of (edge_trees (drop (i + 1) es) us))
 
   -- what is known so far and the child's number and those behind give what the children from the place on give
-  here : best_from p v i (x ∷ row behind) ≡ best_from p v i (numbers mover (children_of (trees_of (drop i es) rest)))
+  here : best_from p v i (x ∷ row behind) ≡ best_from p v i (numbers mover (children_of (edge_trees (drop i es) rest)))
   here =
       ap (λ y. best_from p v i (y ∷ row behind)) is
       ∙ ap (λ us. best_from p v i (number mover (tree_of (mark_of (get_or es i first)) rest) ∷ row us)) b
-      ∙ sym (at_drop_more (λ xs. best_from p v i (numbers mover (children_of (trees_of xs rest)))) es i first l)
+      ∙ sym (at_drop_more (λ xs. best_from p v i (numbers mover (children_of (edge_trees xs rest)))) es i first l)
 
   -- the least from the place on is that of the child's number and of those behind
-  least_here : least (numbers mover (children_of (trees_of (drop i es) rest))) ≡ min x (least (row behind))
+  least_here : least (numbers mover (children_of (edge_trees (drop i es) rest))) ≡ min x (least (row behind))
   least_here =
-      at_drop_more (λ xs. least (numbers mover (children_of (trees_of xs rest)))) es i first l
+      at_drop_more (λ xs. least (numbers mover (children_of (edge_trees xs rest)))) es i first l
       ∙ ap (λ us. least (number mover (tree_of (mark_of (get_or es i first)) rest) ∷ row us)) (sym b)
       ∙ ap (λ y. least (y ∷ row behind)) (sym is)
 
   -- a child with a lesser number is the best one so far
-  less : x < v → best_from i x (i + 1) (row behind) ≡ best_from p v i (numbers mover (children_of (trees_of (drop i es) rest)))
+  less : x < v → best_from i x (i + 1) (row behind) ≡ best_from p v i (numbers mover (children_of (edge_trees (drop i es) rest)))
   less h = best_from_less p v i x (row behind) h ∙ here
 
   -- another child leaves the best one so far
-  same : v ≤ x → best_from p v (i + 1) (row behind) ≡ best_from p v i (numbers mover (children_of (trees_of (drop i es) rest)))
+  same : v ≤ x → best_from p v (i + 1) (row behind) ≡ best_from p v i (numbers mover (children_of (edge_trees (drop i es) rest)))
   same h = best_from_same p v i x (row behind) h ∙ here
 
 pub loop-i-init : goal.loop-i-init
 loop-i-init c = record {
   most = omega arith;
-  place = best_from_start c.args.mover (children_of (trees_of c.args.edges.now c.args.grown.now));
-  least = omega (arith, least_le (numbers c.args.mover (children_of (trees_of c.args.edges.now c.args.grown.now))));
+  place = best_from_start c.args.mover (children_of (edge_trees c.args.edges.now c.args.grown.now));
+  least = omega (arith, least_le (numbers c.args.mover (children_of (edge_trees c.args.edges.now c.args.grown.now))));
   looked_at = omega arith;
   few = omega arith;
   fewer = omega arith;

@@ -6,7 +6,7 @@ use Rattle.tt_search.specs.PartialTree.{PartialTree}
 use Rattle.tt_search.specs.Children.{children_of}
 use Rattle.tt_search.specs.Numbers.{number, numbers}
 use Rattle.tt_search.specs.MostProving.{place}
-use Rattle.tt_search.specs.Edges.{mark_of, tree_of, trees_of, grown_behind, counted}
+use Rattle.tt_search.specs.Edges.{mark_of, tree_of, edge_trees, grown_behind, counted}
 use Rattle.tt_search.specs.declared.edges.Edge.{Edge}
 use Rattle.tt_search.proofs.Places.{rank_next, counted_most, whole_behind}
 use Rattle.tt_search.proofs.numbers.settled_of.Goals as goal
@@ -22,15 +22,15 @@ place_past i x xs h = grind (arith, common_steps)
 module _ (side : Side) (es : List Edge) (rest behind : List PartialTree) (i x : ℕ) (l : i < length es) (is : x ≡ number side (tree_of (mark_of (get_or es i first)) rest))
     (b : behind ≡ grown_behind (mark_of (get_or es i first)) rest) where
   abbrev row : List PartialTree → List ℕ
-  row us = numbers side (children_of (trees_of (drop (i + 1) es) us))
+  row us = numbers side (children_of (edge_trees (drop (i + 1) es) us))
 
   -- the first child that is settled, looked for from this one on, is the first one looked for from the next one on
-  past : x ≢ 0 → i + 1 + place 0 (row behind) ≡ i + place 0 (numbers side (children_of (trees_of (drop i es) rest)))
+  past : x ≢ 0 → i + 1 + place 0 (row behind) ≡ i + place 0 (numbers side (children_of (edge_trees (drop i es) rest)))
   past h =
       place_past i x (row behind) h
       ∙ ap (λ y. i + place 0 (y ∷ row behind)) is
       ∙ ap (λ us. i + place 0 (number side (tree_of (mark_of (get_or es i first)) rest) ∷ row us)) b
-      ∙ sym (at_drop_more (λ xs. i + place 0 (numbers side (children_of (trees_of xs rest)))) es i first l)
+      ∙ sym (at_drop_more (λ xs. i + place 0 (numbers side (children_of (edge_trees xs rest)))) es i first l)
 
 pub loop-i-preserved : goal.loop-i-preserved
 loop-i-preserved c =

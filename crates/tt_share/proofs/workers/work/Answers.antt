@@ -3,7 +3,7 @@ use denote.Param.Send.{sendable}
 use Rattle.std.proofs.lemmas.List.{length-map}
 use Rattle.std.proofs.lemmas.List.Elements.{All-push}
 use Rattle.std.proofs.lemmas.List.Sums.{sum_by_push}
-use Rattle.tt_share.specs.Jobs.{IsResult, IsResultOf, IsCountOf, IsForTotal}
+use Rattle.tt_share.specs.Jobs.{IsResult, IsResultOf, IsJobCount, IsForTotal}
 use Rattle.tt_share.specs.Seats.{DeskView, SeatView}
 use Rattle.tt_share.specs.Tallies.{Tallies}
 use Rattle.tt_share.specs.Workers.{SomeWin, SomeTotal, WinsAreLast, AddsSpare, jobs_of, spent_on}
@@ -65,7 +65,7 @@ loop-job-preserved g c =
     f c.push_reserved.ensures.items c.next_job.ensures.found in
     let this : IsResult line limits f = (
       subst (IsResultOf line limits c.in-Some.job) (sym c.trimmed-end.ensures) (kept_result line limits c.in-Some.job past ended.result.0 ended.ensures.ends),
-      subst (IsCountOf line limits c.in-Some.job ended.result.1) (sym c.trimmed-end.ensures) (kept_count line limits c.in-Some.job past ended.result.1 ended.result.0 ended.ensures.counted),
+      subst (IsJobCount line limits c.in-Some.job ended.result.1) (sym c.trimmed-end.ensures) (kept_count line limits c.in-Some.job past ended.result.1 ended.result.0 ended.ensures.counted),
     ) in
     let more = All-push (IsResult line limits) c.loop-job.found.items f c.loop-job.invariant.found this in
     let down : IsTrue before.seat.mark → ⊥ = λ up. not_none c.next_job.result c.in-Some.job c.in-Some.is (c.next_job.ensures.stopped (left_true before.seat.mark before.seat.sighting up)).0 in

@@ -1,7 +1,7 @@
 use Rattle.std.proofs.Common.{rules, ◌≡◌, ◌∙◌, ◌+◌, length, insert, refl, sym, ap, subst, arith}
 use Rattle.std.specs.Vec.{with_item}
 use Rattle.tt_search.specs.PartialTree.{fresh}
-use Rattle.tt_search.specs.Edges.{turn_of}
+use Rattle.tt_search.specs.Edges.{edge_turn}
 use Rattle.tt_search.specs.Walking.{stage, stand_of}
 use Rattle.tt_search.specs.Grants.{Asked}
 use Rattle.tt_search.specs.Taken.{IsLeft}
@@ -81,7 +81,7 @@ returns g c =
     let leaf = c.leaf_step-step in
     let same : c.match-step-2.node ≡ leaf.result.1 = search rules in
     let row = c.in-Ok.ensures.items ∙ ap (insert c.room_for_one.new.nodes.items c.args.rank) same ∙ ap (λ ts. insert ts c.args.rank leaf.result.1) c.room_for_one.ensures.items in
-    let turn = c.grown.ensures.turn ∙ ap turn_of c.index.ensures in
+    let turn = c.grown.ensures.turn ∙ ap edge_turn c.index.ensures in
     let new : Packed = record { edges = with_item c.args.self.now.edges c.args.place c.grown.result; grown = c.insert.new.self } in
     let left : c.match-step-2.walk.left ≡ c.args.walk.now.left = search rules in
     let after = subst (λ n. IsLeft leaf.result.0 n c.left_after-walk.result) left c.left_after-walk.ensures in

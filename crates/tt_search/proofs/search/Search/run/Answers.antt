@@ -1,6 +1,6 @@
 use Rattle.std.proofs.Common.{◌∙◌, sym, ap, subst, arith}
 use Rattle.tt_search.specs.Searched.{Searched}
-use Rattle.tt_search.specs.Ended.{IsReached, HasSpent}
+use Rattle.tt_search.specs.Ended.{RanTo, HasSpent}
 use Rattle.tt_search.specs.declared.limits.Limits.{Limits}
 use Rattle.tt_search.specs.declared.walk.Pace.TheVariants.{WhileNumbersStay}
 use Rattle.tt_search.proofs.Advanced.{advanced_falls, advanced_reached, settled_reached, stuck_reached}
@@ -46,7 +46,7 @@ returns-in-Err g c =
     let spent : HasSpent c.args.self first c.advance.new.self new = omega (arith, run.spent, c.advance.ensures.spent) in
     let same = settled_refused WhileNumbersStay (g.G.Grants.asked c.loop-search.grants) new c.in-Settled.ensures.asked in
     let stays = sym c.proof.ensures.same in record {
-      end = (subst (IsReached c.args.self) stays reached, tt);
+      end = (subst (RanTo c.args.self) stays reached, tt);
       spent = (subst (λ (s : Searched). HasSpent c.args.self first s new) stays spent, same ∙ run.same);
       source = c.advance.ensures.source ∙ run.source;
       few = omega (arith, spent, c.advance.ensures.few, ap (λ (l : Limits). l.budget) reached.problem.limits);

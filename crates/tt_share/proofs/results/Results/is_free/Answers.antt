@@ -1,6 +1,6 @@
 use Rattle.std.proofs.Common.{◌≡◌, ◌↔◌, ◌∙◌, ◌<◌, IsTrue, false, List, Option, Some, None, slice_get, length, ap, subst}
 use Rattle.tt_search.specs.declared.search.End.{End}
-use Rattle.tt_share.specs.Results.{Progress, IsFilled}
+use Rattle.tt_share.specs.Results.{Progress, HasResult}
 use Rattle.tt_share.proofs.results.Results.is_free.Goals as goal
 
 pub returns-clause-free : goal.returns-clause-free
@@ -11,4 +11,4 @@ returns-clause-free c =
 pub returns-clause-filled : goal.returns-clause-filled
 returns-clause-filled c =
     let ends = c.as_slice.ensures.value ∙ ap (λ (p : Progress). p.ends) c.self.view_is in
-    subst (λ (l : List (Option End)). c.is_free_in.result ≡ false → c.args.job < length l → IsFilled l c.args.job) ends c.is_free_in.ensures.filled
+    subst (λ (l : List (Option End)). c.is_free_in.result ≡ false → c.args.job < length l → HasResult l c.args.job) ends c.is_free_in.ensures.filled

@@ -3,7 +3,7 @@ use Rattle.std.proofs.lemmas.List.{length-set}
 use Rattle.std.proofs.lemmas.Option.{slice_get_within}
 use Rattle.tt_search.specs.declared.search.End.{End}
 use Rattle.tt_share.specs.Answers.{spent_in_all}
-use Rattle.tt_share.specs.Jobs.{IsResultOf, IsCountOf, AreResults, kept_of}
+use Rattle.tt_share.specs.Jobs.{IsResultOf, IsJobCount, AreResults, kept_of}
 use Rattle.tt_share.specs.Results.{Progress, AreNoted, IsPastStuck}
 use Rattle.tt_share.proofs.Noting.{noted_put, sum_noted, kept_count}
 use Rattle.tt_share.proofs.ResultLemmas.{one_more_result, kept_result}
@@ -23,9 +23,9 @@ invariant_of-self c =
     let ends : c.self.inside.ends.items ≡ c.args.self.now.ends = ap (λ (p : Progress). p.ends) c.self.view_is in
     let free : slice_get c.self.inside.ends.items job ≡ Some None = ap (λ (l : List (Option End)). slice_get l job) ends ∙ c.is_free.ensures.free.0 c.if-is_free.true in
     let note = c.note.ensures.noted in
-    let count : IsCountOf line limits job c.args.found.spent c.args.found.end =
-    seen (λ l m. IsCountOf l m job c.args.found.spent c.args.found.end) line limits c.self.inside.ends.items c.self.inside.spent.items c.args.self.now c.self.view_is c.requires.found.1 in
-    let kept : IsCountOf line limits job c.args.found.spent c.trimmed.result = subst (IsCountOf line limits job c.args.found.spent) (sym c.trimmed.ensures)
+    let count : IsJobCount line limits job c.args.found.spent c.args.found.end =
+    seen (λ l m. IsJobCount l m job c.args.found.spent c.args.found.end) line limits c.self.inside.ends.items c.self.inside.spent.items c.args.self.now c.self.view_is c.requires.found.1 in
+    let kept : IsJobCount line limits job c.args.found.spent c.trimmed.result = subst (IsJobCount line limits job c.args.found.spent) (sym c.trimmed.ensures)
     (kept_count line limits job c.is_past_stuck-past_stuck.result c.args.found.spent c.args.found.end count) in
     let noted = noted_put line limits c.self.inside.ends.items c.self.inside.spent.items job note.0 c.self.invariant.noted free note.1 c.trimmed.result c.args.found.spent kept in
     record {
