@@ -1,12 +1,13 @@
 -- Lemmas on the first turn of a strategy.
 use Rattle.std.proofs.Common.{◌≡◌, List, ℕ, [], ◌++◌, None, Some, Ok, Err, OnOk, sym, ◌∙◌, append-nil, subst}
 use Rattle.std.specs.declared.result.Result.{Result}
+use Rattle.tt_sgf.specs.declared.size.Size.{Size}
 use Rattle.tt_game.specs.declared.frame.Side.{Side}
 use Rattle.tt_game.specs.declared.turns.Turn.{Turn}
 use Rattle.tt_game.specs.Game.{IsLegal}
 use Rattle.tt_game.specs.Line.{Standing}
 use Rattle.tt_proof.specs.Proven.{first_of}
-use Rattle.tt_proof.specs.Strategy.{Strategy}
+use Rattle.tt_proof.specs.Strategy.{Strategy, IsInOrder, IsOnBoard, done, pick, reply}
 use Rattle.tsumego_show.specs.Drawing.{DrawsFirst, BeginsWithTurn, begins, begins_none, turned_text}
 
 pub turn_same : (a b : Turn) → Some a ≡ Some b → a ≡ b
@@ -14,6 +15,12 @@ turn_same a b e = cc
 
 pub unlike : (t : Turn) → None ≡ Some t → ⊥
 unlike t e = cc
+
+-- the first turn of a strategy in order lies on the board
+pub first_on_board : (size : Size) (u : Strategy) (t : Turn) → IsInOrder size u → first_of u ≡ Some t → IsOnBoard size t
+first_on_board size done t o e = absurd (unlike t e)
+first_on_board size (pick s v) t o e = subst (IsOnBoard size) (turn_same s t e) o.0
+first_on_board size (reply es) t o e = absurd (unlike t e)
 
 module _ (p : Standing) (side : Side) (u : Strategy) where
   -- the side begins with this turn

@@ -1,4 +1,4 @@
-//! DrawsCertificate what follows a problem: the first turn and the strategy of a certificate.
+//! Draws what follows a problem: the first turn and the strategy of a certificate.
 ghost use Rattle.std.specs.Prelude.{◌≡◌, ◌≢◌, ◌++◌, ◌∷◌, ◌==◌, ◌-◌, [], ℕ, List, replicate, if◌then◌else◌, OnOk};
 ghost use Rattle.tt_sgf.specs.Bytes.{newline, space};
 ghost use Rattle.tt_proof.specs.CertificateText.{shown_turn};
@@ -80,6 +80,7 @@ fn put_tree(
             put_tree(out, child, size, own, deeper(level))
         }
         Tree::Reply(list) => put_entries(out, list, size, own, level),
+        Tree::Last(turn) => put_line(out, *turn, size, own, level),
     }
 }
 

@@ -56,14 +56,13 @@ pub fn put_first(out: &mut Vec<u8>, line: &Line, side: Side, tree: &Tree) -> Res
     requires { IsInOrder line.now.frame.size (strategy_of tree.now) }
     ensures { OnOk result ((text : List ℕ) × DrawsFirst line.now side (strategy_of tree.now) text × (out.new.items ≡ out.old.items ++ text)) }
 {
-    match tree {
-        Tree::Pick(turn, _) => {
-            if may_begin(line, side, *turn) {
-                return put_turned(out, line, turn);
+    match tree.first() {
+        Some(turn) => {
+            if may_begin(line, side, turn) {
+                return put_turned(out, line, &turn);
             }
             Ok(())
         }
-        Tree::Done => Ok(()),
-        Tree::Reply(_) => Ok(()),
+        None => Ok(()),
     }
 }

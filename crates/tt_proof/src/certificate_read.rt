@@ -129,8 +129,8 @@ fn read_pick(alloc: Global, bytes: &[u8], size: Size, left: u16) -> Result<(Tree
             }
             match read_tree(alloc, after, size, left - 1) {
                 Err(fault) => Err(fault),
-                Ok((child, rest)) => match Arc::new(alloc, child) {
-                    Ok(child) => Ok((Tree::Pick(turn, child), rest)),
+                Ok((child, rest)) => match Tree::pick(alloc, turn, child) {
+                    Ok(tree) => Ok((tree, rest)),
                     Err(_) => Err(CertFault::NoMemory),
                 },
             }

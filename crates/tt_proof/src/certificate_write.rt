@@ -4,7 +4,7 @@ ghost use Rattle.std.specs.Prelude.{◌≡◌, ◌<◌, ◌≤◌, ◌+◌, ◌/
 ghost use Rattle.tt_sgf.specs.Bytes.{lower_a};
 ghost use Rattle.tt_sgf.specs.Sizes.{point_count};
 ghost use Rattle.tt_proof.specs.declared.tree.TheConstants.{MOST_DEPTH};
-ghost use Rattle.tt_proof.specs.Strategy.{depth, strategy_of, entries_of_trees, IsOnBoard, IsInOrder, AreInOrder};
+ghost use Rattle.tt_proof.specs.Strategy.{done, pick, depth, strategy_of, entries_of_trees, IsOnBoard, IsInOrder, AreInOrder};
 ghost use Rattle.tt_proof.specs.CertificateText.{shown_turn, turn_text, tree_text, entries_text, certificate_text};
 
 use crate::tree::Tree;
@@ -64,6 +64,16 @@ pub fn put_shown(out: &mut Vec<u8>, turn: Turn, size: Size) -> Result<(), NoMemo
     }
 }
 
+/// Writes a turn behind which nothing more is played.
+fn put_last(out: &mut Vec<u8>, turn: Turn, size: Size) -> Result<(), NoMemory>
+    requires { IsOnBoard size turn }
+    ensures { OnOk result (out.new.items ≡ out.old.items ++ tree_text size (pick turn done)) }
+{
+    put(out, b'!')?;
+    put_turn(out, turn, size)?;
+    put(out, b'.')
+}
+
 #[cycle(put)]
 fn put_tree(out: &mut Vec<u8>, t: &Tree, size: Size) -> Result<(), NoMemory>
     requires in_order { IsInOrder size (strategy_of t.now) }
@@ -80,6 +90,7 @@ fn put_tree(out: &mut Vec<u8>, t: &Tree, size: Size) -> Result<(), NoMemory>
             put(out, b'?')?;
             put_entries(out, list, size)
         }
+        Tree::Last(turn) => put_last(out, *turn, size),
     }
 }
 

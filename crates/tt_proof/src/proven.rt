@@ -99,11 +99,7 @@ impl Proof {
     pub fn first(&self) -> Option<Turn>
         ensures { result ≡ first_of self.now.tree }
     {
-        match self.plan.tree() {
-            Tree::Pick(turn, _) => Some(*turn),
-            Tree::Done => None,
-            Tree::Reply(_) => None,
-        }
+        self.plan.tree().first()
     }
 
     /// How many turns the longest way down the tree has: at most 512.

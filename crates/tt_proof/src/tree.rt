@@ -2,6 +2,7 @@
 
 ghost use Rattle.std.specs.Prelude.{◌≡◌, IfOk};
 ghost use Rattle.tt_proof.specs.Strategy.{strategy_of};
+ghost use Rattle.tt_proof.specs.Proven.{first_of};
 
 use std::sync::Arc;
 use tt_game::Turn;
@@ -17,6 +18,8 @@ pub enum Tree {
     Done,
     /// The side plays this turn, and goes on with the tree.
     Pick(Turn, Arc<Tree>),
+    /// The side plays this turn, and has won. Such ends are many, and take no memory of their own.
+    Last(Turn),
     /// The other side plays; each turn, rising by their numbers, with the tree that answers it.
     Reply(Arc<Vec<(Turn, Tree)>>),
 }
@@ -36,6 +39,19 @@ impl Tree {
                 let list = Arc::try_clone(list)?;
                 Ok(Tree::Reply(list))
             }
+            Tree::Last(turn) => Ok(Tree::Last(*turn)),
+        }
+    }
+
+    /// The turn that the side plays first, where it plays one at once.
+    pub fn first(&self) -> Option<Turn>
+        ensures { result ≡ first_of (strategy_of self.now) }
+    {
+        match self {
+            Tree::Pick(turn, _) => Some(*turn),
+            Tree::Done => None,
+            Tree::Reply(_) => None,
+            Tree::Last(turn) => Some(*turn),
         }
     }
 }

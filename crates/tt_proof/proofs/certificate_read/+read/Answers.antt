@@ -35,14 +35,6 @@ read_pick-returns-in-Err t c =
     subst (λ k. FaultAt c.args.size k (pick_mark ∷ c.args.bytes.now) c.in-Err.fault) (sym (one_more c.args.left c.if-left-eq0.false))
     (pick_fault c.args.size (c.args.left - 1) c.in-Some.turn c.args.bytes.now c.in-Some.after.now c.in-Err.fault c.in-Some.ensures.0 c.in-Some.ensures.3 c.in-Err.ensures)
 
-pub read_pick-returns-in-Ok-new : goal.read_pick-returns-in-Ok-new
-read_pick-returns-in-Ok-new t c =
-    rw (strategy_of_pick, c.in-Ok-new.ensures.ok)
-    (subst (λ k. TreeAt c.args.size k (pick c.in-Some.turn (strategy_of c.in-Ok.child)) (pick_mark ∷ c.args.bytes.now) c.in-Ok.rest.now)
-    (sym (one_more c.args.left c.if-left-eq0.false))
-    (pick_read c.args.size (c.args.left - 1) c.in-Some.turn (strategy_of c.in-Ok.child) c.args.bytes.now c.in-Some.after.now c.in-Ok.rest.now
-    c.in-Some.ensures.0 c.in-Some.ensures.3 c.in-Ok.ensures))
-
 pub read_entries-returns-in-Some : goal.read_entries-returns-in-Some
 read_entries-returns-in-Some t c =
     walked_end c.args.size c.args.left c.loop-rest.least _ _ c.in-Some.rest.now _ c.loop-rest.invariant.walked c.in-Some.ensures
