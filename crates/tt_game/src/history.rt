@@ -157,6 +157,15 @@ impl History {
         repeats(self.boards(), next)
     }
 
+    /// Whether a board of this size has the colouring of some board behind the first `from`.
+    pub(crate) fn has_been_since(&self, from: usize, next: &Board) -> bool
+        requires size { next.now.size ≡ self.now.size }
+        requires within { from ≤ length (so_far self.now) }
+        ensures { IsTrue result ↔ HasBeen (drop from (so_far self.now)) next.now.points }
+    {
+        repeats(&self.boards()[from..], next)
+    }
+
     /// Adds the board that a play made; without memory it is as it was.
     pub(crate) fn push(&mut self, next: Board) -> Result<(), NoMemory>
         requires { next.size ≡ self.old.size }

@@ -191,7 +191,7 @@ impl Line {
     }
 
     /// Whether a board of the line's size, which a play of the side to move on `p` may have made, has a colouring that has been. Where
-    /// its stone stands on `p` and never did before, no board is compared.
+    /// its stone stands on `p` and never did before, no board is compared, and none of the beginning where its print tells it from them.
     pub(crate) fn has_been(&self, p: Point, next: &Board) -> bool
         requires on_board { p < point_count self.now.frame.size }
         requires size { next.now.size ≡ self.now.frame.size }
@@ -200,6 +200,9 @@ impl Line {
         let colour = self.mover();
         if next.has_stone(colour, p) && !self.has_stood(colour, p) {
             return false;
+        }
+        if self.root.unlike(next) {
+            return self.history.has_been_since(self.root.count(), next);
         }
         self.history.has_been(next)
     }

@@ -10,15 +10,19 @@ ghost use Rattle.tt_game.specs.Roots.{AreStonesOf};
 
 use crate::frame::Frame;
 use crate::history::History;
+use crate::seen::Seen;
 use std::marker::Model;
 use std::sync::Arc;
 use tt_board::{Board, Boards, Colour};
 use tt_sgf::{Bits, NoMemory, Point};
 
+/// To compare a colouring with so many boards costs about what its print costs.
+const FEW: usize = 8;
+
 /// A frame, and the boards that lines had when the first of them began. Contracts see it as `Rooted`.
 ///
-/// The stones of all these boards stand together in twelve words, so that superko asks once for what hundreds of boards never had.
-/// The base is a board from which those of later places are told by how they differ.
+/// The stones of all these boards stand together in twelve words, and their prints were noted, so that superko asks once for what
+/// hundreds of boards never had. The base is a board from which those of later places are told by how they differ.
 #[derive(Drop)]
 pub(crate) struct Root {
     frame: Frame,
@@ -27,6 +31,7 @@ pub(crate) struct Root {
     base: Arc<Board>,
     black: Bits,
     white: Bits,
+    seen: Seen,
 }
 
 impl Model for Root {
@@ -35,7 +40,9 @@ impl Model for Root {
     ghost use Rattle.std.specs.Coded.{codes};
     ghost use Rattle.tt_sgf.specs.contracts.sets.PointSet as points;
     ghost use Rattle.tt_board.specs.declared.Colour.TheVariants.{Black, White};
+    ghost use Rattle.tt_game.specs.Course.{colourings};
     ghost use Rattle.tt_game.specs.Roots.{Rooted, AreStonesOf};
+    ghost use Rattle.tt_game.specs.Seen.{AreSeen};
 
     ghost Value = { Rooted };
 
@@ -50,6 +57,7 @@ impl Model for Root {
       base : (arc_value r.base).size ≡ r.frame.size;
       black : AreStonesOf Black r.boards r.black.words;
       white : AreStonesOf White r.boards r.white.words;
+      seen : AreSeen r.seen r.frame.size (colourings r.boards);
     } };
 }
 
@@ -79,6 +87,7 @@ impl Root {
             base: Arc::new(alloc, history.present().copy())?,
             black: stones_of(boards, Colour::Black),
             white: stones_of(boards, Colour::White),
+            seen: Seen::of_all(boards),
         })
     }
 
@@ -115,6 +124,18 @@ impl Root {
             Colour::Black => self.black.has(index),
             Colour::White => self.white.has(index),
         }
+    }
+
+    /// Whether a board of the frame's size has a colouring that its print tells from those of all boards of the beginning. Where
+    /// those are few, no print is made.
+    pub(crate) fn unlike(&self, board: &Board) -> bool
+        requires { board.now.size ≡ self.now.frame.size }
+        ensures { IsTrue result → HasBeen (colourings self.now.begun) board.now.points → ⊥ }
+    {
+        if self.count <= FEW {
+            return false;
+        }
+        !self.seen.has(board)
     }
 
     /// Whether these are exactly the boards of the beginning. It takes no memory.

@@ -1,7 +1,9 @@
-//! Which colourings a game has had, told by prints: most new colourings are known as new without a look at the history.
+//! Which colourings were, told by prints: most new colourings are known as new without a look at the history.
 
-ghost use Rattle.std.specs.Prelude.{◌≡◌, ℕ, ◌<◌, ◌↔◌, IsTrue};
-ghost use Rattle.tt_game.specs.Seen.{mix, print_of, IsSeen};
+ghost use Rattle.std.specs.Prelude.{◌≡◌, ℕ, ◌<◌, ◌↔◌, All, IsTrue};
+ghost use Rattle.tt_sgf.specs.declared.size.Size.{Size};
+ghost use Rattle.tt_game.specs.Course.{colourings};
+ghost use Rattle.tt_game.specs.Seen.{mix, print_of, IsSeen, AreSeen};
 
 use tt_board::{Board, Colour};
 use tt_sgf::{BITS, Bits};
@@ -57,6 +59,17 @@ impl Seen {
     {
         let mut seen = Seen::none();
         seen.add(board);
+        seen
+    }
+
+    /// The colourings of these boards, which have one size.
+    pub(crate) fn of_all(boards: &[Board]) -> Seen
+        ensures { (g : Size) → All (λ b. b.size ≡ g) boards.now → AreSeen result g (colourings boards.now) }
+    {
+        let mut seen = Seen::none();
+        for board in boards {
+            seen.add(board);
+        }
         seen
     }
 

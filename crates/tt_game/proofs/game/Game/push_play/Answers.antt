@@ -1,20 +1,14 @@
-use Rattle.std.proofs.Common.{rules, ◌≡◌, ◌<◌, ◌∷◌, ◌++◌, [], inl, inr, sym, ap, subst, ◌∙◌, arith}
+use Rattle.std.proofs.Common.{rules, ◌≡◌, ◌∷◌, ◌++◌, [], inl, inr, sym, ap, subst, ◌∙◌}
 use Rattle.std.proofs.lemmas.List.Elements.{Contains-push_cases}
-use Rattle.tt_sgf.specs.declared.size.Size.{Size}
-use Rattle.tt_board.specs.Position.{Position, Colouring}
+use Rattle.tt_board.specs.Position.{Position}
 use Rattle.tt_board.specs.Play.{play_of}
-use Rattle.tt_game.specs.declared.seen.TheConstants.{PRINTS}
 use Rattle.tt_game.specs.Course.{Course, so_far, with_play}
 use Rattle.tt_game.specs.Games.{Played, made_by}
 use Rattle.tt_game.specs.Seen.{AreSeen, IsSeen, print_of}
 use Rattle.tt_game.specs.Undoing.{board_on}
+use Rattle.tt_game.proofs.SeenLemmas.{few_prints}
 use Rattle.tt_game.proofs.game.Game.push_play.Goals as goal
 use Rattle.tt_game.proofs.game.Game.push_play.Goals.{then-self, else-self}
-
--- each print is one of those that have a bit
-few : (size : Size) (c : Colouring) → print_of size c < PRINTS
-unfolding print_of
-few size c = omega arith
 
 pub invariant_of-self-2 : goal.invariant_of-self-2
 invariant_of-self-2 c =
@@ -25,7 +19,7 @@ invariant_of-self-2 c =
     let shown : c.present.result.now ≡ board_on h.size next.points = search rules in
     let noted : IsSeen c.add.new.self (print_of h.size next.points) = subst (λ (b : Position). IsSeen c.add.new.self (print_of b.size b.points)) shown c.add.ensures.here in
     let seen : AreSeen c.add.new.self h.size (so_far h ++ next.points ∷ []) = λ col has. elim (Contains-push_cases (so_far h) next.points col has) [
-      | inl before ↦ c.add.ensures.still (print_of h.size col) (few h.size col) (c.self.invariant.seen col before)
+      | inl before ↦ c.add.ensures.still (print_of h.size col) (few_prints h.size col) (c.self.invariant.seen col before)
       | inr same ↦ subst (λ x. IsSeen c.add.new.self (print_of h.size x)) same noted
     ] in
     let seen_then = subst (λ (x : Course). AreSeen c.add.new.self x.size (so_far x)) (sym pushed) seen in
