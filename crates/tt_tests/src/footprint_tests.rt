@@ -1,12 +1,15 @@
 //! Footprints, as another program worked them out from the definitions.
 
 use crate::footprint_tables::TABLES;
-use crate::proof_tests::{problem_line, replayed};
+use crate::proof_tests::{
+    KILLED, LIVES, ONE_MOVE, PLAYED, SPLIT, UNPASSED, after, made_by_attacker, made_by_defender,
+    problem_line, replayed,
+};
 use std::alloc::Global;
 use std::test::Fail;
 use tt_board::Board;
-use tt_game::Line;
-use tt_proof::{Footprint, SharedBoards, footprint_of, read_cert};
+use tt_game::{Line, Side, Turn};
+use tt_proof::{Footprint, Proof, SharedBoards, footprint_of, read_cert};
 use tt_sgf::{PointSet, Size};
 
 /// What stands before the first such byte, and what behind it; where it doesn't stand there, the whole text and nothing.
@@ -173,13 +176,125 @@ fn tables(rt: HostRuntime) -> Result<(), Fail> {
     Ok(())
 }
 
+/// Whether the proof needs and avoids the drawn boards, and no others.
+fn rests_on(alloc: Global, proof: &Proof, texts: (&[u8], &[u8])) -> Result<bool, Fail> {
+    is_of(alloc, proof.footprint(), proof.present().size(), texts)
+}
+
+/// Whether the certificate's proof needs and avoids the drawn boards, and no others.
+fn found_rests_on(
+    alloc: Global,
+    problem: &[u8],
+    certificate: &[u8],
+    texts: (&[u8], &[u8]),
+) -> Result<bool, Fail> {
+    let mut line = problem_line(alloc, problem)?;
+    let proof = replayed(alloc, &mut line, certificate)?;
+    rests_on(alloc, &proof, texts)
+}
+
+/// What the attacker's proof of the first problem needs and avoids, and what the defender's of the second does.
+const OF_KILLED: (&[u8], &[u8]) = (b".W.W", b".WB./B.B.");
+
+const OF_LIVES: (&[u8], &[u8]) = (b".W.W/.WB.", b"");
+
+#[test]
+fn of_killed(rt: HostRuntime) -> Result<(), Fail> {
+    let alloc = rt.alloc();
+    assert!(&rt; found_rests_on(alloc, SPLIT, KILLED, OF_KILLED)?);
+    Ok(())
+}
+
+#[test]
+fn of_lives(rt: HostRuntime) -> Result<(), Fail> {
+    let alloc = rt.alloc();
+    assert!(&rt; found_rests_on(alloc, PLAYED, LIVES, OF_LIVES)?);
+    Ok(())
+}
+
+#[test]
+fn of_killed_by_parts(rt: HostRuntime) -> Result<(), Fail> {
+    let alloc = rt.alloc();
+    let mut line = problem_line(alloc, SPLIT)?;
+    let made = made_by_attacker(alloc, &mut line)?;
+    assert!(&rt; rests_on(alloc, &made, OF_KILLED)?);
+    Ok(())
+}
+
+#[test]
+fn of_lives_by_parts(rt: HostRuntime) -> Result<(), Fail> {
+    let alloc = rt.alloc();
+    let mut line = problem_line(alloc, PLAYED)?;
+    let made = made_by_defender(alloc, &mut line)?;
+    assert!(&rt; rests_on(alloc, &made, OF_LIVES)?);
+    Ok(())
+}
+
+/// Whether the certificate's proof fits the line where it was found, and keeps the drawn boards there.
+fn stays(
+    alloc: Global,
+    problem: &[u8],
+    certificate: &[u8],
+    texts: (&[u8], &[u8]),
+) -> Result<bool, Fail> {
+    let found = carried(alloc, problem, certificate, problem)?;
+    let size = problem_line(alloc, problem)?.frame().size;
+    is_of(alloc, &found, size, texts)
+}
+
+#[test]
+fn at_its_own_history(rt: HostRuntime) -> Result<(), Fail> {
+    let alloc = rt.alloc();
+    assert!(&rt; stays(alloc, SPLIT, KILLED, OF_KILLED)?, "killed");
+    assert!(&rt; stays(alloc, PLAYED, LIVES, OF_LIVES)?, "lives");
+    Ok(())
+}
+
+/// How many boards the history of a problem has.
+fn history_length(alloc: Global, problem: &[u8]) -> Result<usize, Fail> {
+    let line = problem_line(alloc, problem)?;
+    Ok(line.history().len())
+}
+
 #[test]
 fn at_another_history(rt: HostRuntime) -> Result<(), Fail> {
     let alloc = rt.alloc();
-    let problem = b"(;SZ[4:1]AW[ba][da]PL[B]TR[ba])";
-    let other = b"(;SZ[4:1]AW[da]PL[W];W[ba]TR[ba])";
-    let found = carried(alloc, problem, b"killed !ca?aa.--!aa.;", other)?;
-    let size = problem_line(alloc, other)?.frame().size;
-    assert!(&rt; is_of(alloc, &found, size, (b".W.W", b".WB./B.B."))?);
+    assert!(&rt; history_length(alloc, SPLIT)? == 1);
+    assert!(&rt; history_length(alloc, ONE_MOVE)? == 2);
+    let found = carried(alloc, SPLIT, KILLED, ONE_MOVE)?;
+    let size = problem_line(alloc, ONE_MOVE)?.frame().size;
+    assert!(&rt; is_of(alloc, &found, size, OF_KILLED)?);
+    Ok(())
+}
+
+/// Whether the certificate's proof at the second problem after a pass needs nothing and avoids nothing.
+fn passed_rests_on_nothing(alloc: Global, certificate: &[u8]) -> Result<bool, Fail> {
+    let line = problem_line(alloc, PLAYED)?;
+    let mut passed = after(&line, &Turn::Pass)?;
+    let proof = replayed(alloc, &mut passed, certificate)?;
+    rests_on(alloc, &proof, (b"", b""))
+}
+
+#[test]
+fn of_a_pass(rt: HostRuntime) -> Result<(), Fail> {
+    let alloc = rt.alloc();
+    assert!(&rt; passed_rests_on_nothing(alloc, b"lives !--.")?);
+    Ok(())
+}
+
+/// The side to move, the pass count and the board of a line.
+fn position_of(line: &Line) -> (Side, u8, Board) {
+    (line.to_move(), line.passes(), line.present().copy())
+}
+
+/// The two lines between which the pass count decides differ in nothing else that is asked before the lists are.
+#[test]
+fn a_pass_alone(rt: HostRuntime) -> Result<(), Fail> {
+    let alloc = rt.alloc();
+    let passed = after(&problem_line(alloc, PLAYED)?, &Turn::Pass)?;
+    let (side, passes, board) = position_of(&passed);
+    let (other_side, other_passes, other) = position_of(&problem_line(alloc, UNPASSED)?);
+    assert!(&rt; side == other_side && board.same(&other));
+    assert!(&rt; passes == 1 && other_passes == 0);
     Ok(())
 }

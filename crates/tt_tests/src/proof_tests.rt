@@ -38,9 +38,12 @@ fn check(alloc: Global, record: &[u8], certificate: &[u8]) -> Result<bool, u8> {
 
 /// Black to move, with White's two stones that have liberties on both sides, the first one the target; and the same after
 /// moves.
-const SPLIT: &[u8] = b"(;SZ[4:1]AW[ba][da]PL[B]TR[ba])";
+pub(crate) const SPLIT: &[u8] = b"(;SZ[4:1]AW[ba][da]PL[B]TR[ba])";
 
-const PLAYED: &[u8] = b"(;SZ[4:1]AW[ba];B[ca];W[da]TR[ba])";
+pub(crate) const PLAYED: &[u8] = b"(;SZ[4:1]AW[ba];B[ca];W[da]TR[ba])";
+
+/// The position of the second problem after a pass, where nobody has passed.
+pub(crate) const UNPASSED: &[u8] = b"(;SZ[4:1]AW[ba][da]PL[W]TR[ba])";
 
 /// White to move, whose stone has one liberty.
 const NARROW: &[u8] = b"(;SZ[2:1]AW[ba]PL[W]TR[ba])";
@@ -48,13 +51,14 @@ const NARROW: &[u8] = b"(;SZ[2:1]AW[ba]PL[W]TR[ba])";
 /// A problem, a certificate and what comes of them.
 type Row = (&'static [u8], &'static str, Result<bool, u8>);
 
-const CERTIFICATES: [Row; 16] = [
+const CERTIFICATES: [Row; 17] = [
     (SPLIT, "lives ?--!--.;", Ok(false)),
     (PLAYED, "lives ?--!--.;", Ok(true)),
     (PLAYED, "lives ?--!--.", Err(30)),
     (SPLIT, "killed !ca?aa.;", Ok(false)),
     (SPLIT, "killed !ca?aa.--!aa.;", Ok(true)),
     (PLAYED, "killed !ca?aa.--!aa.;", Ok(false)),
+    (UNPASSED, "lives !--.", Ok(false)),
     (SPLIT, "killed !ca?aa.da.--!aa.;", Ok(true)),
     (SPLIT, "killed !ca?--!aa.aa.;", Err(30)),
     (NARROW, "killed ?aa.--!aa.;", Ok(true)),
@@ -175,7 +179,7 @@ fn won(alloc: Global, line: &Line) -> Result<Proof, Fail> {
 }
 
 /// The line after a turn.
-fn after(line: &Line, turn: &Turn) -> Result<Line, Fail> {
+pub(crate) fn after(line: &Line, turn: &Turn) -> Result<Line, Fail> {
     let mut next = line.try_clone()?;
     if !on_board(&next, turn) {
         return Err(Fail::from("off the board"));
@@ -226,12 +230,12 @@ pub(crate) fn problem_line(alloc: Global, record: &[u8]) -> Result<Line, Fail> {
 }
 
 /// The first problem after one move.
-const ONE_MOVE: &[u8] = b"(;SZ[4:1]AW[da]PL[W];W[ba]TR[ba])";
+pub(crate) const ONE_MOVE: &[u8] = b"(;SZ[4:1]AW[da]PL[W];W[ba]TR[ba])";
 
 /// The certificates of the first problem and of the second one.
-const KILLED: &[u8] = b"killed !ca?aa.--!aa.;";
+pub(crate) const KILLED: &[u8] = b"killed !ca?aa.--!aa.;";
 
-const LIVES: &[u8] = b"lives ?--!--.;";
+pub(crate) const LIVES: &[u8] = b"lives ?--!--.;";
 
 /// Fails unless this is the certificate of the proof at the line.
 fn has_text(
@@ -299,7 +303,7 @@ fn reply_after(alloc: Global, line: &Line, first: &Turn, capture: Turn) -> Resul
 }
 
 /// The attacker's proof of the first problem, made turn by turn.
-fn made_by_attacker(alloc: Global, line: &mut Line) -> Result<Proof, Fail> {
+pub(crate) fn made_by_attacker(alloc: Global, line: &mut Line) -> Result<Proof, Fail> {
     let first = play(line, 2)?;
     let capture = play(line, 0)?;
     let reply = reply_after(alloc, line, &first, capture)?;
@@ -323,7 +327,7 @@ fn defender_proof_by_replay(rt: HostRuntime) -> Result<(), Fail> {
 }
 
 /// The defender's proof of the second problem, made turn by turn.
-fn made_by_defender(alloc: Global, line: &mut Line) -> Result<Proof, Fail> {
+pub(crate) fn made_by_defender(alloc: Global, line: &mut Line) -> Result<Proof, Fail> {
     let mut children = Vec::new(alloc);
     children.push((Turn::Pass, picked_after_pass(alloc, line, &Turn::Pass)?))?;
     answered(alloc, line, children)
