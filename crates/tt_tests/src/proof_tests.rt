@@ -431,8 +431,7 @@ fn passes_fit(rt: HostRuntime) -> Result<(), Fail> {
     let alloc = rt.alloc();
     let line = problem_line(alloc, PLAYED)?;
     let mut passed = after(&line, &Turn::Pass)?;
-    let white = b"(;SZ[4:1]AW[ba][da]PL[W]TR[ba])";
-    fits_passed(&rt, alloc, &mut passed, b"lives !--.", white)
+    fits_passed(&rt, alloc, &mut passed, b"lives !--.", UNPASSED)
 }
 
 /// Whether the proof that is made turn by turn fits the line of a problem.
