@@ -18,10 +18,10 @@ unfoldable pub mix : ℕ → List ℕ → ℕ
 mix sum [] = sum
 mix sum (w ∷ ws) = mix ((sum * MIXER % 2 ^ 64 + w) % 2 ^ 64) ws
 
--- the print of a colouring
+-- the print of a colouring: what both colours' words make, multiplied once more, since the last word was only added
 unfoldable pub print_of : Size → Colouring → ℕ
 print_of size c =
-    mix (mix 0 (packed size (λ p. is_stone_of (entry_at c p) Black))) (packed size (λ p. is_stone_of (entry_at c p) White)) / LOW % PRINTS
+    mix (mix 0 (packed size (λ p. is_stone_of (entry_at c p) Black))) (packed size (λ p. is_stone_of (entry_at c p) White)) * MIXER % 2 ^ 64 / LOW % PRINTS
 
 -- a print was noted
 abbrev pub IsSeen : Seen → ℕ → Type 0

@@ -42,7 +42,7 @@ fn print_of(board: &Board) -> usize
 {
     let black = mix(0, &board.words(Colour::Black));
     let both = mix(black, &board.words(Colour::White));
-    (both / LOW) as usize % PRINTS
+    (both.wrapping_mul(MIXER) / LOW) as usize % PRINTS
 }
 
 impl Seen {

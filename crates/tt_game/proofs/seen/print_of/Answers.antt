@@ -1,9 +1,9 @@
-use Rattle.std.proofs.Common.{rules, ◌≡◌, ℕ, ◌/◌, ◌%◌, ◌<◌, ◌^◌, length, get_or, ap, ◌∙◌}
+use Rattle.std.proofs.Common.{rules, ◌≡◌, ℕ, ◌*◌, ◌/◌, ◌%◌, ◌<◌, ◌^◌, length, get_or, ap, ◌∙◌}
 use Rattle.tt_board.specs.declared.Colour.{Colour}
 use Rattle.tt_board.specs.declared.Colour.TheVariants.{Black, White}
 use Rattle.tt_board.specs.Reach.{entry_at}
 use Rattle.tt_board.specs.Play.{is_stone_of}
-use Rattle.tt_game.specs.declared.seen.TheConstants.{LOW, PRINTS}
+use Rattle.tt_game.specs.declared.seen.TheConstants.{LOW, MIXER, PRINTS}
 use Rattle.tt_game.specs.Keys.{packed}
 use Rattle.tt_game.specs.Seen.{mix, print_of}
 use Rattle.tt_game.proofs.KeyLemmas.{packed_is}
@@ -23,4 +23,4 @@ returns-clause-value c =
     let first : c.mix-black.result ≡ mix 0 (stones Black) = c.mix-black.ensures ∙ ap (mix 0) black in
     let both : c.mix-both.result ≡ mix (mix 0 (stones Black)) (stones White) =
     c.mix-both.ensures ∙ ap (λ sum. mix sum c.words-2.result) first ∙ ap (mix (mix 0 (stones Black))) white in
-    ap (λ sum. sum / LOW % PRINTS) both
+    ap (λ sum. sum * MIXER % 2 ^ 64 / LOW % PRINTS) both
