@@ -7,6 +7,7 @@ use Rattle.tt_game.specs.declared.keys.Key.{Key}
 use Rattle.tt_game.specs.declared.frame.Frame.{Frame}
 use Rattle.tt_game.specs.Game.{State}
 use Rattle.tt_game.specs.Keys.{key_of}
+use Rattle.tt_game.specs.KeyHash.{position_writes}
 use Rattle.tt_game.specs.SameKey.{same_key}
 use Rattle.tt_game.specs.contracts.keys.KeyEq.TheImpl.Laws as key_laws
 
@@ -41,3 +42,7 @@ same_key_is a b e = subst (λ c. same_key a c ≡ true) e (same_key_equiv.refl a
 pub same_size : (f g : Frame) (s t : State) → key_of f s ≡ key_of g t → f.size ≡ g.size
 unfolding key_of
 same_size f g s t e = ap (λ (k : Key). k.size) e
+
+-- keys that pass the test feed a hasher the same
+pub same_writes : (a b : Key) → same_key a b ≡ true → position_writes a ≡ position_writes b
+same_writes a b e = ap position_writes (same_key_same a b e)

@@ -7,6 +7,7 @@ pub mod Legality
 pub mod Turns
 pub mod Keys
 pub mod SameKey
+pub mod KeyHash
 pub mod Laws
 pub mod Line
 pub mod Games

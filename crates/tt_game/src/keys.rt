@@ -1,17 +1,22 @@
 //! Keys of positions, for tables.
 
-ghost use Rattle.std.specs.Prelude.{◌≡◌, ◌↔◌, IsTrue, []};
+ghost use Rattle.std.specs.Prelude.{◌≡◌, ◌≤◌, ◌↔◌, IsTrue, []};
 ghost use Rattle.tt_game.specs.Keys.{key_of};
+ghost use Rattle.tt_game.specs.KeyHash.{words_in_use};
 
 use crate::frame::{Frame, Side};
 use crate::line::Line;
+use std::hash::{Hash, Hasher};
 use tt_board::{Board, Colour};
 use tt_sgf::Size;
 
 /// What positions share that are looked up as one: the frame, the colouring, the side to move and the passes in a row,
 /// and no history. Two positions have one key exactly where they agree in these. Sets of points are kept as six words
 /// of 64 bits, a bit for each point of the board.
-#[derive(Clone, Copy, PartialEq, Eq, Hash)]
+///
+/// Keys of one problem share the frame, so the hash is of the position alone: keys that differ in their frames alone have
+/// one hash, and a table has to compare the keys that it finds by it.
+#[derive(Clone, Copy, PartialEq, Eq)]
 pub struct Key {
     size: Size,
     region: [u64; 6],
@@ -21,6 +26,31 @@ pub struct Key {
     white: [u64; 6],
     to_move: Side,
     passes: u8,
+}
+
+impl Hash for Key {
+    ghost use Rattle.tt_game.specs.KeyHash.{position_writes};
+    ghost use Rattle.tt_game.specs.KeyLaws.{same_writes};
+
+    ghost hash_input = { position_writes };
+
+    ghost respects_eq = { same_writes };
+
+    fn hash<H: Hasher>(&self, state: &mut H) {
+        let used = words_in_use(self.size);
+        Hash::hash_slice(&self.black[..used], state);
+        Hash::hash_slice(&self.white[..used], state);
+        self.to_move.hash(state);
+        self.passes.hash(state);
+    }
+}
+
+/// How many words have bits of points of the board: all behind them are 0.
+fn words_in_use(size: Size) -> usize
+    ensures value { result ≡ words_in_use size }
+    ensures most { result ≤ 6 }
+{
+    (size.point_count() + 63) / 64
 }
 
 /// The key of a position.

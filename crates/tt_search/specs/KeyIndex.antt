@@ -10,7 +10,7 @@ use Rattle.tt_game.specs.contracts.frame.SideHash.TheImpl as side_hash
 use Rattle.tt_proof.specs.Proven.{Proven}
 use Rattle.tt_search.specs.Stores.{AnswersFor, IsNewest}
 
--- a number of 32 bits that a key and a side have: a hash of both
+-- a number of 32 bits that a key and a side have: a hash of both. Others may have it too: nothing is found by it alone
 unfoldable pub key_mark : Key → Side → ℕ
 key_mark key side =
     hasher.finish (fold hasher.write (fold hasher.write hasher.initial ((key_hash.ghosts).hash_input key)) ((side_hash.ghosts).hash_input side)) % 2 ^ 32

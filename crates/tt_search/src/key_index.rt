@@ -25,7 +25,8 @@ pub trait ProofRow {
         ensures { slice_get (proofs self.now) place ≡ Some result.now };
 }
 
-/// The hash of a key and a side.
+/// The hash of a key and a side. That of a key is of its position alone, so keys of two frames may have one: who finds a proof by it
+/// compares the keys.
 fn mark_of(key: &Key, side: Side) -> u32
     ensures { result ≡ key_mark key.now side }
 {

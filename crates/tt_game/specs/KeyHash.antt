@@ -1,0 +1,17 @@
+-- What a key feeds a hasher. The frame is no part of it: keys of one problem share that.
+use Rattle.std.specs.Prelude.{ℕ, ◌+◌, ◌/◌, List, ◌++◌, take}
+use Rattle.std.specs.Hash as fed
+use Rattle.std.specs.List.{flat_map}
+use Rattle.tt_sgf.specs.declared.size.Size.{Size}
+use Rattle.tt_sgf.specs.Sizes.{point_count}
+use Rattle.tt_game.specs.declared.keys.Key.{Key}
+use Rattle.tt_game.specs.contracts.frame.SideHash.TheImpl as side_hash
+
+-- how many words of 64 bits have a bit for each point of a board
+abbrev pub words_in_use : Size → ℕ
+words_in_use size = (point_count size + 63) / 64
+
+-- the position: Black's words that are in use, White's, the side to move and the passes
+unfoldable pub position_writes : Key → List (List ℕ)
+position_writes k = flat_map fed.u64 (take (words_in_use k.size) k.black) ++ flat_map fed.u64 (take (words_in_use k.size) k.white)
+    ++ (side_hash.ghosts).hash_input k.to_move ++ fed.u8 k.passes
