@@ -11,6 +11,9 @@ use std::marker::Model;
 use tt_board::{Board, Colour, CountedBoard};
 use tt_sgf::{NoMemory, Point, Size};
 
+/// For how many plays a copy has room.
+const ROOM: usize = 16;
+
 /// The boards of a game so far, the last one present, and how many passes were made in a row since the last play.
 /// Contracts see it as `Course`.
 ///
@@ -225,11 +228,11 @@ impl History {
         History { passes: 0, ..self }
     }
 
-    /// The same history again.
+    /// The same history again, with room for some plays: they move no board.
     pub(crate) fn copy(&self) -> Result<History, NoMemory>
         ensures { IfOk result (λ h. h ≡ self.now) }
     {
-        let mut boards = Vec::with_capacity(self.alloc, self.live)?;
+        let mut boards = Vec::with_capacity(self.alloc, self.live.saturating_add(ROOM))?;
         for board in self.boards() {
             boards.push(board.copy())?;
         }
