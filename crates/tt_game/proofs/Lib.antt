@@ -13,4 +13,3 @@ pub mod SizedProblems
 pub mod RecordLaws
 pub mod RootLemmas
 pub mod PlayedLemmas
-pub mod SeenLemmas

@@ -1,5 +1,5 @@
 -- Prints of colourings, and which of them were noted. Private contracts alone cite these: they say nothing of a game.
-use Rattle.std.specs.Prelude.{◌≡◌, ℕ, ◌+◌, ◌*◌, ◌/◌, ◌%◌, ◌^◌, List, [], ◌∷◌, slice_index_or, true}
+use Rattle.std.specs.Prelude.{◌≡◌, ℕ, ◌+◌, ◌*◌, ◌/◌, ◌%◌, ◌^◌, ◌<◌, List, [], ◌∷◌, length, get_or, true}
 use Rattle.tt_sgf.specs.declared.bits.Bits.{Bits}
 use Rattle.tt_sgf.specs.declared.bits.TheConstants.{BITS}
 use Rattle.tt_sgf.specs.declared.size.Size.{Size}
@@ -23,9 +23,9 @@ unfoldable pub print_of : Size → Colouring → ℕ
 print_of size c =
     mix (mix 0 (packed size (λ p. is_stone_of (entry_at c p) Black))) (packed size (λ p. is_stone_of (entry_at c p) White)) * MIXER % 2 ^ 64 / LOW % PRINTS
 
--- a print was noted
+-- a print was noted, or no row has a bit for it
 abbrev pub IsSeen : Seen → ℕ → Type 0
-IsSeen s n = (d : Bits) → bit_in (slice_index_or s.rows (n / BITS) d).words (n % BITS) ≡ true
+IsSeen s n = (d : Bits) → n / BITS < length s.rows.items → bit_in (get_or s.rows.items (n / BITS) d).words (n % BITS) ≡ true
 
 -- the prints of all colourings of a history were noted
 abbrev pub AreSeen : Seen → Size → List Colouring → Type 0

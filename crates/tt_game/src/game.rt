@@ -2,17 +2,22 @@
 
 ghost use Rattle.std.specs.Prelude.{◌≡◌, ◌≢◌, ℕ, ◌+◌, ◌*◌, ◌<◌, ◌≤◌, ◌↔◌, length, map, Some, None, All, IsTrue, Contains, MatchResult, OnOk, OnErr, IfOk, IfErr};
 ghost use Rattle.tt_sgf.specs.Sizes.{point_count};
+ghost use Rattle.tt_game.specs.Course.{so_far};
+ghost use Rattle.tt_game.specs.Seen.{print_of, AreSeen};
 
 use crate::faults::{Refused, Why};
 use crate::frame::{Frame, Side};
 use crate::history::History;
 use crate::line::Line;
-use crate::seen::Seen;
+use crate::seen::{Seen, print_of};
 use crate::turns::Turn;
 use std::alloc::Global;
 use std::marker::Model;
 use tt_board::{Board, Colour, CountedBoard, Occupied};
 use tt_sgf::{NoMemory, Point, PointSet, Size};
+
+/// From so many boards on a game notes prints: to compare a colouring with fewer costs less than their rows.
+const MANY: usize = 32;
 
 /// A game: its history, who moves, and the passes in a row. Contracts see it as `Played`.
 ///
@@ -25,6 +30,20 @@ pub struct Game {
     counted: bool,
     seen: Seen,
     to_move: Colour,
+}
+
+/// Notes the present board, which has this print. From so many boards on all are noted.
+fn note(seen: &mut Seen, history: &History, print: usize)
+    requires print { print ≡ print_of history.now.size history.now.present }
+    requires before { AreSeen seen.old history.now.size history.now.earlier }
+    ensures { AreSeen seen.new history.now.size (so_far history.now) }
+{
+    let boards = history.boards();
+    if boards.len() == MANY {
+        *seen = Seen::of_all(history.alloc(), boards);
+    } else {
+        seen.add(print);
+    }
 }
 
 impl Model for Game {
@@ -62,7 +81,7 @@ impl Game {
         Ok(Game {
             board: CountedBoard::of(&board),
             counted: true,
-            seen: Seen::of(&board),
+            seen: Seen::blind(alloc),
             history: History::of(alloc, board)?,
             to_move: Colour::Black,
         })
@@ -98,12 +117,13 @@ impl Game {
         self.history.present()
     }
 
-    /// Whether a board of the game's size has a colouring of the history.
-    fn has_been(&self, next: &Board) -> bool
-        requires { next.now.size ≡ self.now.size }
+    /// Whether a board of the game's size, which has this print, has a colouring of the history.
+    fn has_been(&self, next: &Board, print: usize) -> bool
+        requires size { next.now.size ≡ self.now.size }
+        requires print { print ≡ print_of next.now.size next.now.points }
         ensures { result ≡ repeats (all_of self.now) next.now.points }
     {
-        if !self.seen.has(next) {
+        if !self.seen.has(print) {
             return false;
         }
         self.history.has_been(next)
@@ -136,7 +156,7 @@ impl Game {
             Err(Occupied) => return Err(Why::Occupied),
             Ok(next) => next,
         };
-        if self.has_been(&next) {
+        if self.has_been(&next, print_of(&next)) {
             return Err(Why::Repeats);
         }
         Ok(next)
@@ -181,7 +201,8 @@ impl Game {
         if self.history.push(next).is_err() {
             return Err(Refused::NoMemory);
         }
-        self.seen.add(self.history.present());
+        let print = print_of(self.history.present());
+        note(&mut self.seen, &self.history, print);
         if self.counted {
             self.board.play(self.to_move, p);
         } else {
@@ -222,7 +243,7 @@ impl Game {
         if !self.present().same(&board) {
             self.counted = false;
         }
-        self.seen = Seen::of(&board);
+        self.seen = Seen::blind(history.alloc());
         self.history = history;
         self.to_move = colour;
         Ok(())

@@ -10,7 +10,7 @@ ghost use Rattle.tt_game.specs.Roots.{AreStonesOf};
 
 use crate::frame::Frame;
 use crate::history::History;
-use crate::seen::Seen;
+use crate::seen::{Seen, print_of};
 use std::marker::Model;
 use std::sync::Arc;
 use tt_board::{Board, Boards, Colour};
@@ -80,6 +80,11 @@ impl Root {
     {
         let alloc = history.alloc();
         let boards = history.boards();
+        let seen = if boards.len() <= FEW {
+            Seen::blind(alloc)
+        } else {
+            Seen::of_all(alloc, boards)
+        };
         Ok(Root {
             frame: frame.copy(),
             boards: Boards::of(alloc, boards)?,
@@ -87,7 +92,7 @@ impl Root {
             base: Arc::new(alloc, history.present().copy())?,
             black: stones_of(boards, Colour::Black),
             white: stones_of(boards, Colour::White),
-            seen: Seen::of_all(boards),
+            seen,
         })
     }
 
@@ -135,7 +140,7 @@ impl Root {
         if self.count <= FEW {
             return false;
         }
-        !self.seen.has(board)
+        !self.seen.has(print_of(board))
     }
 
     /// Whether these are exactly the boards of the beginning. It takes no memory.

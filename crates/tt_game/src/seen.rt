@@ -5,11 +5,12 @@ ghost use Rattle.tt_sgf.specs.declared.size.Size.{Size};
 ghost use Rattle.tt_game.specs.Course.{colourings};
 ghost use Rattle.tt_game.specs.Seen.{mix, print_of, IsSeen, AreSeen};
 
+use std::alloc::Global;
 use tt_board::{Board, Colour};
 use tt_sgf::{BITS, Bits};
 
-/// How many prints there are: a bit for each fills 32 rows of `BITS`.
-const PRINTS: usize = 12288;
+/// How many prints there are: a bit for each fills 128 rows of `BITS`.
+const PRINTS: usize = 49152;
 
 /// An odd number with bits of both kinds all over: 2^64 by the golden ratio.
 const MIXER: u64 = 0x9e37_79b9_7f4a_7c15;
@@ -17,11 +18,14 @@ const MIXER: u64 = 0x9e37_79b9_7f4a_7c15;
 /// The lowest bits of a product say little of its factors, so a print is taken from those above.
 const LOW: u64 = 0x100_0000_0000;
 
+/// How many rows have a bit for each print.
+const ROWS: usize = 128;
+
 /// A bit for each print; it is 1 where a colouring with that print was noted. Two colourings may have one print, so a bit that is
-/// 1 says nothing.
+/// 1 says nothing. Without rows, as without memory for them, each print counts as noted: then nothing is told.
 #[derive(Drop)]
 pub(crate) struct Seen {
-    rows: [Bits; 32],
+    rows: Vec<Bits>,
 }
 
 /// What words, one after the other, make of a number.
@@ -36,9 +40,8 @@ fn mix(start: u64, words: &[u64]) -> u64
 }
 
 /// The print of a colouring: a number that others mostly haven't.
-fn print_of(board: &Board) -> usize
-    ensures value { result ≡ print_of board.now.size board.now.points }
-    ensures small { result < PRINTS }
+pub(crate) fn print_of(board: &Board) -> usize
+    ensures { result ≡ print_of board.now.size board.now.points }
 {
     let black = mix(0, &board.words(Colour::Black));
     let both = mix(black, &board.words(Colour::White));
@@ -46,47 +49,45 @@ fn print_of(board: &Board) -> usize
 }
 
 impl Seen {
-    /// No colouring yet.
-    fn none() -> Seen {
-        Seen {
-            rows: [Bits::none(); 32],
-        }
-    }
-
-    /// The colouring of this board alone.
-    pub(crate) fn of(board: &Board) -> Seen
-        ensures { IsSeen result (print_of board.now.size board.now.points) }
+    /// Tells nothing, and takes no memory.
+    pub(crate) fn blind(alloc: Global) -> Seen
+        ensures { (n : ℕ) → IsSeen result n }
     {
-        let mut seen = Seen::none();
-        seen.add(board);
-        seen
+        Seen {
+            rows: Vec::new(alloc),
+        }
     }
 
     /// The colourings of these boards, which have one size.
-    pub(crate) fn of_all(boards: &[Board]) -> Seen
+    pub(crate) fn of_all(alloc: Global, boards: &[Board]) -> Seen
         ensures { (g : Size) → All (λ b. b.size ≡ g) boards.now → AreSeen result g (colourings boards.now) }
     {
-        let mut seen = Seen::none();
+        let mut seen = Seen::blind(alloc);
+        if seen.rows.resize(ROWS, Bits::none()).is_err() {
+            return Seen::blind(alloc);
+        }
         for board in boards {
-            seen.add(board);
+            seen.add(print_of(board));
         }
         seen
     }
 
-    /// Notes the colouring of a board.
-    pub(crate) fn add(&mut self, board: &Board)
-        ensures here { IsSeen self.new (print_of board.now.size board.now.points) }
-        ensures still { (n : ℕ) → n < PRINTS → IsSeen self.old n → IsSeen self.new n }
+    /// Notes the colouring with this print.
+    pub(crate) fn add(&mut self, print: usize)
+        ensures here { IsSeen self.new print }
+        ensures still { (n : ℕ) → IsSeen self.old n → IsSeen self.new n }
     {
-        let print = print_of(board);
-        self.rows[print / BITS].set(print % BITS);
+        let row = print / BITS;
+        if row < self.rows.len() {
+            self.rows[row].set(print % BITS);
+        }
     }
 
-    /// Whether a colouring with the print of this board's was noted. Where it wasn't, this one wasn't.
-    pub(crate) fn has(&self, board: &Board) -> bool
-        ensures { IsTrue result ↔ IsSeen self.now (print_of board.now.size board.now.points) }
+    /// Whether a colouring with this print was noted. Where none was, no colouring that has it was.
+    pub(crate) fn has(&self, print: usize) -> bool
+        ensures { IsTrue result ↔ IsSeen self.now print }
     {
-        let print = print_of(board);
-        self.rows[print / BITS].has(print % BITS)
+        let row = print / BITS;
+        row >= self.rows.len() || self.rows[row].has(print % BITS)
     }
 }

@@ -9,9 +9,9 @@ use Rattle.tt_game.specs.Seen.{mix, print_of}
 use Rattle.tt_game.proofs.KeyLemmas.{packed_is}
 use Rattle.tt_game.proofs.seen.print_of.Goals as goal
 
-pub returns-clause-value : goal.returns-clause-value
+pub returns : goal.returns
 unfolding print_of
-returns-clause-value c =
+returns c =
     let b = c.args.board.now in
     let stones = λ (k : Colour). packed b.size (λ p. is_stone_of (entry_at b.points p) k) in
     let six : length c.words.result ≡ 6 = search rules in

@@ -14,9 +14,9 @@ returns c = subst (λ (s : Played). c.has_been.result ≡ repeats (all_of s) c.a
 pub returns-then-not-has : goal.returns-then-not-has
 returns-then-not-has c =
     let i = c.self.inside in let next = c.args.next.now in
-    let size : i.history.size ≡ next.size = ap (λ (s : Played). s.size) c.self.view_is ∙ sym c.requires in
+    let size : i.history.size ≡ next.size = ap (λ (s : Played). s.size) c.self.view_is ∙ sym c.requires.size in
     sym ((repeats_is (all_of c.args.self.now) next.points).2 (λ has.
     let here : HasBeen (so_far i.history) next.points = subst (λ (s : Played). HasBeen (all_of s) next.points) (sym c.self.view_is) has in
     let seen : IsSeen i.seen (print_of next.size next.points) =
     subst (λ (g : Size). IsSeen i.seen (print_of g next.points)) size (c.self.invariant.seen next.points here) in
-    false≢true (sym c.if-not-has.true ∙ c.has.ensures.1 seen)))
+    false≢true (sym c.if-not-has.true ∙ c.has.ensures.1 (subst (IsSeen i.seen) (sym c.requires.print) seen))))

@@ -5,7 +5,6 @@ use Rattle.tt_sgf.specs.declared.size.Size.{Size}
 use Rattle.tt_board.specs.Position.{Position, Colouring}
 use Rattle.tt_game.specs.Seen.{IsSeen, print_of}
 use Rattle.tt_game.proofs.CourseLemmas.{been_at}
-use Rattle.tt_game.proofs.SeenLemmas.{few_prints}
 use Rattle.tt_game.proofs.seen.Seen.of_all.Goals as goal
 
 pub returns : goal.returns
@@ -25,6 +24,8 @@ loop-board-preserved c = λ k b lt.
       | inl same ↦
           let here : c.board-item.result ≡ get_or bs k b =
           c.board-item.is ∙ get_or_default bs c.loop-board.board-index c.board-item.result b c.loop-board-test.true ∙ ap (λ j. get_or bs j b) (sym same) in
-          subst (λ (x : Position). IsSeen c.add.new.self (print_of x.size x.points)) here c.add.ensures.here
-      | inr apart ↦ c.add.ensures.still (print_of (get_or bs k b).size (get_or bs k b).points) (few_prints _ _) (c.loop-board.invariant k b (omega (arith, lt, apart)))
+          let item = c.board-item.result in
+          let noted : IsSeen c.add.new.self (print_of item.size item.points) = subst (IsSeen c.add.new.self) c.print_of.ensures c.add.ensures.here in
+          subst (λ (x : Position). IsSeen c.add.new.self (print_of x.size x.points)) here noted
+      | inr apart ↦ c.add.ensures.still (print_of (get_or bs k b).size (get_or bs k b).points) (c.loop-board.invariant k b (omega (arith, lt, apart)))
     ]
