@@ -22,7 +22,8 @@ const MANY: usize = 32;
 /// A game: its history, who moves, and the passes in a row. Contracts see it as `Played`.
 ///
 /// Moves are made on one board with its chains counted, which the first move behind a setup counts anew: a record that only sets up
-/// stones pays for no count. Their colourings are noted by prints, by which superko knows most of the new ones.
+/// stones pays for no count. Superko is asked of the board behind the move, so where it refuses that board is another's, and isn't
+/// counted. In a long game colourings are noted by prints, by which superko knows most of the new ones.
 #[derive(Drop)]
 pub struct Game {
     history: History,
@@ -30,6 +31,16 @@ pub struct Game {
     counted: bool,
     seen: Seen,
     to_move: Colour,
+}
+
+/// Counts the chains of the present board, where they aren't counted yet.
+fn count(board: &mut CountedBoard, counted: bool, present: &Board)
+    requires { IsTrue counted → board.old ≡ present.now }
+    ensures { board.new ≡ present.now }
+{
+    if !counted {
+        *board = CountedBoard::of(present);
+    }
 }
 
 /// Notes the present board, which has this print. From so many boards on all are noted.
@@ -194,21 +205,22 @@ impl Game {
         ensures err { OnErr result (self.new ≡ self.old) }
         ensures why { IfErr result (λ e. IsHalted self.old (Turn.Play p) e) }
     {
-        let next = match self.made(p) {
-            Err(why) => return Err(Refused::Illegal(why)),
-            Ok(next) => next,
-        };
+        if self.present().at(p).is_some() {
+            return Err(Refused::Illegal(Why::Occupied));
+        }
+        count(&mut self.board, self.counted, self.history.present());
+        self.board.play(self.to_move, p);
+        self.counted = false;
+        let next = self.board.board();
+        let print = print_of(&next);
+        if self.has_been(&next, print) {
+            return Err(Refused::Illegal(Why::Repeats));
+        }
         if self.history.push(next).is_err() {
             return Err(Refused::NoMemory);
         }
-        let print = print_of(self.history.present());
         note(&mut self.seen, &self.history, print);
-        if self.counted {
-            self.board.play(self.to_move, p);
-        } else {
-            self.board = CountedBoard::of(self.history.present());
-            self.counted = true;
-        }
+        self.counted = true;
         self.to_move = self.to_move.other();
         Ok(())
     }
