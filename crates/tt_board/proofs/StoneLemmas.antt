@@ -1,18 +1,21 @@
 -- Sets of points over the stones of a board, word by word.
-use Rattle.std.proofs.Common.{◌≡◌, ℕ, ◌<◌, ◌≤◌, Bool, true, false, not, ◌||◌, ◌&&◌, List, [], ◌∷◌, Option, Some}
+use Rattle.std.proofs.Common.{◌≡◌, ℕ, ◌<◌, ◌≤◌, ◌↔◌, Bool, true, false, not, ◌||◌, ◌&&◌, List, [], ◌∷◌, Option, Some}
 use Rattle.std.proofs.Common.{None, refl, sym, ap, ◌∙◌, arith, inl, inr}
 use Rattle.std.specs.List.{list_any, list_all}
 use Rattle.std.specs.FinSet as set
 use Rattle.std.specs.Cmp.{unsigned_tied}
 use Rattle.std.specs.Ordering.{nat_cmp, eq_by_cmp}
-use Rattle.std.proofs.lemmas.Bool.{cases_lt, true≢false, false≢true, or_cases, eqb-true, eq-eqb}
+use Rattle.std.proofs.lemmas.Bool.{cases_lt, true≢false, false≢true, or_cases, and_from, and_parts, eqb-true, eq-eqb}
+use Rattle.tt_sgf.specs.declared.size.Size.{Size}
+use Rattle.tt_sgf.specs.Sizes.{point_count}
+use Rattle.tt_sgf.specs.SizeLaws.{few_points}
 use Rattle.tt_sgf.specs.Words.{bit_in, AreBitsOf, AreCovered}
 use Rattle.tt_board.specs.declared.Colour.{Colour}
 use Rattle.tt_board.specs.declared.Colour.TheVariants.{Black, White}
 use Rattle.tt_board.specs.Position.{Colouring}
 use Rattle.tt_board.specs.Reach.{entry_at}
 use Rattle.tt_board.specs.Play.{Points, is_empty, is_stone_of}
-use Rattle.tt_board.specs.Stones.{any_empty, all_stones_of}
+use Rattle.tt_board.specs.Stones.{any_empty, all_stones_of, IsEmptyIn}
 
 -- ---- sets
 
@@ -126,3 +129,42 @@ module _ (s : Points) (n : ℕ) (small : n ≤ 361) (within : (p : ℕ) → set.
       not_not : (b : Bool) → not (not b) ≡ b
       not_not true = refl
       not_not false = refl
+
+-- ---- the next empty point
+
+-- no stone where the test says so
+bare : (e : Option Colour) → is_empty e ≡ true → e ≡ None
+bare None on = refl
+bare (Some k) on = absurd (false≢true on)
+
+-- words of a set, and those of both colours' stones on a board
+module _ (size : Size) (s : Points) (c : Colouring) (ws xs ys : List ℕ) (is : AreBitsOf ws 361 (λ p. set.contains s p))
+    (blacks : AreBitsOf xs (point_count size) (λ p. is_stone_of (entry_at c p) Black)) (whites : AreBitsOf ys (point_count size) (λ p. is_stone_of (entry_at c p) White)) where
+  -- where the bits of both colours are taken from the set's, those that are left on the board are of its empty points
+  left_told : (rest left : List ℕ) (p : ℕ) → p < point_count size → bit_in rest p ≡ (bit_in ws p && not (bit_in xs p)) → bit_in left p ≡ (bit_in rest p && not (bit_in ys p))
+      → bit_in left p ≡ (set.contains s p && is_empty (entry_at c p))
+  left_told rest left p lt first second =
+      let few : point_count size ≤ 361 = few_points size in
+      let small : p < 384 = omega (arith, lt, few) in
+      second ∙ ap (λ b. b && not (bit_in ys p)) first ∙ neither (bit_in ws p) (bit_in xs p) (bit_in ys p)
+      ∙ ap (λ b. b && not (bit_in xs p || bit_in ys p)) (is.below p (omega (arith, lt, few)) small)
+      ∙ ap (λ b. set.contains s p && not b) (bits_told (entry_at c p) (bit_in xs p) (bit_in ys p) (blacks.below p lt small) (whites.below p lt small))
+      ∙ ap (λ b. set.contains s p && b) (not_not (is_empty (entry_at c p)))
+    where
+      neither : (a b d : Bool) → ((a && not b) && not d) ≡ (a && not (b || d))
+      neither true true d = refl
+      neither true false d = refl
+      neither false b d = refl
+
+      not_not : (b : Bool) → not (not b) ≡ b
+      not_not true = refl
+      not_not false = refl
+
+  -- so each is that of an empty point, and the other way round
+  pub left_empty : (rest left : List ℕ) (p : ℕ) → p < point_count size → bit_in rest p ≡ (bit_in ws p && not (bit_in xs p)) → bit_in left p ≡ (bit_in rest p && not (bit_in ys p))
+      → (bit_in left p ≡ true) ↔ IsEmptyIn size s c p
+  left_empty rest left p lt first second =
+      let e = left_told rest left p lt first second in (
+        λ on. let r = and_parts (set.contains s p) (is_empty (entry_at c p)) (sym e ∙ on) in (lt, bare (entry_at c p) r.1, r.0),
+        λ free. e ∙ and_from (set.contains s p) (is_empty (entry_at c p)) free.2 (ap is_empty free.1),
+      )

@@ -1,5 +1,5 @@
 -- What stands on the points of a set.
-use Rattle.std.specs.Prelude.{◌≡◌, ℕ, ◌<◌, Bool, true}
+use Rattle.std.specs.Prelude.{◌≡◌, ℕ, ◌<◌, Bool, true, None}
 use Rattle.std.specs.List.{list_any, list_all}
 use Rattle.std.specs.FinSet as set
 use Rattle.tt_sgf.specs.declared.size.Size.{Size}
@@ -20,3 +20,7 @@ any_empty s c = list_any (λ p. is_empty (entry_at c p)) (set.items s)
 -- a stone of this colour stands on each point of the set
 unfoldable pub all_stones_of : Points → Colouring → Colour → Bool
 all_stones_of s c k = list_all (λ p. is_stone_of (entry_at c p) k) (set.items s)
+
+-- the number is that of an empty point of the board that the set has
+abbrev pub IsEmptyIn : Size → Points → Colouring → ℕ → Type 0
+IsEmptyIn size s c p = (p < point_count size) × (entry_at c p ≡ None) × (set.contains s p ≡ true)

@@ -4,6 +4,7 @@ pub mod Game
 pub mod Sides
 pub mod History
 pub mod Legality
+pub mod Surveys
 pub mod Turns
 pub mod Keys
 pub mod SameKey

@@ -130,6 +130,15 @@ impl History {
         &self.boards[..self.live]
     }
 
+    /// The boards behind the first `from`, oldest first.
+    pub(crate) fn since(&self, from: usize) -> &[Board]
+        requires { from ≤ length (so_far self.now) }
+        ensures colourings { colourings result.now ≡ drop from (so_far self.now) }
+        ensures sizes { All (λ b. b.size ≡ self.now.size) result.now }
+    {
+        &self.boards()[from..]
+    }
+
     /// The present board.
     pub(crate) fn present(&self) -> &Board
         ensures size { result.now.size ≡ self.now.size }

@@ -18,6 +18,7 @@ mod problems;
 mod records;
 mod root;
 mod seen;
+mod survey;
 mod turns;
 
 pub use faults::{GameFault, Refused, Why};
@@ -28,4 +29,5 @@ pub use line::Line;
 pub use past::Past;
 pub use problems::problem;
 pub use records::{Record, play_record};
+pub use survey::Survey;
 pub use turns::{Successor, Turn, Turns};

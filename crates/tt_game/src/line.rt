@@ -10,12 +10,12 @@ use crate::frame::{Frame, Side};
 use crate::history::History;
 use crate::past::Past;
 use crate::played::Played;
-use crate::root::Root;
+use crate::root::{Root, stones_of};
 use crate::turns::Turn;
 use std::marker::Model;
 use std::sync::Arc;
 use tt_board::{Board, Colour, CountedBoard, Glance};
-use tt_sgf::{NoMemory, Point};
+use tt_sgf::{Bits, NoMemory, Point};
 
 /// How a push is undone.
 #[derive(Clone, Copy)]
@@ -70,6 +70,7 @@ impl Line {
     ghost use Rattle.tt_game.specs.Line.{HasTargets, IsRefusal, IsRefused, IsPushed};
     ghost use Rattle.tt_game.specs.Undoing.{IsMoved, IsForetold, state_at, board_on};
     ghost use Rattle.tt_game.specs.Turns.{OnBoard};
+    ghost use Rattle.tt_game.specs.Surveys.{HaveStood};
     ghost use Rattle.tt_game.specs.declared.turns.Turn.{Turn};
 
     /// The line that begins with this history, whose present board is given with its chains counted, with nothing to undo.
@@ -112,7 +113,7 @@ impl Line {
     }
 
     /// The colour that moves next.
-    fn mover(&self) -> Colour
+    pub(crate) fn mover(&self) -> Colour
         ensures { result ≡ colour_of self.now.frame self.now.state.to_move }
     {
         match self.to_move {
@@ -127,6 +128,13 @@ impl Line {
         ensures points { result.now.points ≡ self.now.state.present }
     {
         self.history.present()
+    }
+
+    /// The present board, with its chains counted.
+    pub(crate) fn counted(&self) -> &CountedBoard
+        ensures { result.now ≡ board_on self.now.frame.size self.now.state.present }
+    {
+        self.played.present()
     }
 
     /// Who has won, if somebody has: the attacker where some target is empty, else the defender after two passes in a row.
@@ -154,6 +162,14 @@ impl Line {
             return true;
         }
         self.history.has_stood(self.root.count(), colour, p)
+    }
+
+    /// The stones of a colour on all boards so far.
+    pub(crate) fn stones_so_far(&self, colour: Colour) -> Bits
+        ensures { HaveStood colour self.now.frame.size (history self.now.state) result.words }
+    {
+        let later = stones_of(self.history.since(self.root.count()), colour);
+        self.root.stones(colour).or(&later)
     }
 
     /// What is told of a play of the side to move on an empty point, by the points beside it and by the stones that stood there.

@@ -62,7 +62,7 @@ impl Model for Root {
 }
 
 /// The stones of a colour on all of these boards.
-fn stones_of(boards: &[Board], colour: Colour) -> Bits
+pub(crate) fn stones_of(boards: &[Board], colour: Colour) -> Bits
     ensures { AreStonesOf colour boards.now result.words }
 {
     let mut stones = Bits::none();
@@ -117,6 +117,16 @@ impl Root {
         ensures { (arc_value result.now).size ≡ self.now.frame.size }
     {
         &self.base
+    }
+
+    /// The stones of a colour on all boards of the beginning.
+    pub(crate) fn stones(&self, colour: Colour) -> &Bits
+        ensures { AreStonesOf colour self.now.begun result.now.words }
+    {
+        match colour {
+            Colour::Black => &self.black,
+            Colour::White => &self.white,
+        }
     }
 
     /// Whether a stone of this colour stood on `p` on some board of the beginning.

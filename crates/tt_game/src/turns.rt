@@ -6,6 +6,7 @@ ghost use Rattle.tt_sgf.specs.Sizes.{point_count};
 
 use crate::frame::Side;
 use crate::line::Line;
+use crate::survey::Survey;
 use arrayvec::ArrayVec;
 use tt_board::Glance;
 use tt_sgf::Point;
@@ -33,64 +34,41 @@ impl Line {
     ghost use Rattle.std.specs.Prelude.{None};
     ghost use Rattle.tt_board.specs.Reach.{entry_at};
     ghost use Rattle.tt_game.specs.Game.{winner_of, after, IsLegal};
+    ghost use Rattle.tt_game.specs.Surveys.{IsSurvey};
     ghost use Rattle.tt_game.specs.Turns.{legal_turns, successor, successors_of, successors_from, IsRising};
     ghost use Rattle.tt_game.specs.declared.turns.Turn.{Turn};
 
-    /// The first point of the region from a number on: none where the board has no such point.
-    fn next_point(&self, from: u16) -> Option<Point>
-        ensures { MatchOption result
-            ((q : ℕ) → from ≤ q → IsLegal self.now.frame self.now.state (Turn.Play q) → ⊥)
-            (λ p. (p < point_count self.now.frame.size) × (from ≤ p) × ((q : ℕ) → from ≤ q → q < p → IsLegal self.now.frame self.now.state (Turn.Play q) → ⊥)
-            × IsTrue (set.contains self.now.frame.region p)) }
-    {
-        let frame = self.frame();
-        let Some(p) = frame.region.least_from(from) else {
-            return None;
-        };
-        if !frame.size.holds(p) {
-            return None;
-        }
-        Some(p)
-    }
-
-    /// What a play on an empty point of the region leads to, where it is legal, by the board that it makes.
-    fn successor_made(&self, p: Point) -> Option<Successor>
+    /// Who has won after a play on an empty point of the region, where it is legal, by the board that it makes.
+    fn winner_made(&self, p: Point) -> Option<Option<Side>>
         requires on_board { p < point_count self.now.frame.size }
         requires inside { IsTrue (set.contains self.now.frame.region p) }
         requires free { entry_at self.now.state.present p ≡ None }
         requires open { winner_of self.now.frame self.now.state ≡ None }
         ensures { MatchOption result (IsLegal self.now.frame self.now.state (Turn.Play p) → ⊥)
-            (λ x. IsLegal self.now.frame self.now.state (Turn.Play p) × (x ≡ successor self.now.frame self.now.state (Turn.Play p))) }
+            (λ w. IsLegal self.now.frame self.now.state (Turn.Play p) × (w ≡ winner_of self.now.frame (after self.now.frame self.now.state (Turn.Play p)))) }
     {
         let next = self.board_after(p);
         if self.has_been(p, &next) {
             return None;
         }
-        Some(Successor {
-            turn: Turn::Play(p),
-            winner: self.frame().winner_on(&next, 0),
-        })
+        Some(self.frame().winner_on(&next, 0))
     }
 
-    /// What a play on a point of the region leads to, where it is legal. Most plays are told by the points beside them, and no board is
-    /// made for them.
-    fn successor_on(&self, p: Point) -> Option<Successor>
+    /// Who has won after a play on an empty point of the region, where it is legal. Most plays are told by the points beside them, and
+    /// no board is made for them.
+    fn winner_by_play(&self, survey: &Survey, p: Point) -> Option<Option<Side>>
+        requires survey { IsSurvey survey.now self.now.frame self.now.state }
         requires on_board { p < point_count self.now.frame.size }
         requires inside { IsTrue (set.contains self.now.frame.region p) }
+        requires free { entry_at self.now.state.present p ≡ None }
         requires open { winner_of self.now.frame self.now.state ≡ None }
         ensures { MatchOption result (IsLegal self.now.frame self.now.state (Turn.Play p) → ⊥)
-            (λ x. IsLegal self.now.frame self.now.state (Turn.Play p) × (x ≡ successor self.now.frame self.now.state (Turn.Play p))) }
+            (λ w. IsLegal self.now.frame self.now.state (Turn.Play p) × (w ≡ winner_of self.now.frame (after self.now.frame self.now.state (Turn.Play p)))) }
     {
-        if self.present().at(p).is_some() {
-            return None;
-        }
-        match self.glance(p) {
-            Glance::Quiet => Some(Successor {
-                turn: Turn::Play(p),
-                winner: None,
-            }),
+        match self.glance_by(survey, p) {
+            Glance::Quiet => Some(None),
             Glance::Vain => None,
-            Glance::Unclear => self.successor_made(p),
+            Glance::Unclear => self.winner_made(p),
         }
     }
 
@@ -102,8 +80,10 @@ impl Line {
         self.frame().winner_on(self.present(), self.passes() + 1)
     }
 
-    /// The first legal play on a point from a number on, and who has won after it. Each point is looked at once.
-    pub fn next_play(&self, first: u16) -> Option<(Point, Option<Side>)>
+    /// The first legal play on a point from a number on, and who has won after it, by the survey that was made here. Each empty point
+    /// is looked at once, and no other.
+    pub fn next_play(&self, survey: &Survey, first: u16) -> Option<(Point, Option<Side>)>
+        requires survey { IsSurvey survey.now self.now.frame self.now.state }
         requires open { winner_of self.now.frame self.now.state ≡ None }
         requires inside { first ≤ point_count self.now.frame.size }
         ensures { MatchOption result
@@ -113,9 +93,9 @@ impl Line {
             × (successors_from self.now.frame self.now.state first ≡ successor self.now.frame self.now.state (Turn.Play x.0) ∷ successors_from self.now.frame self.now.state (x.0 + 1))) }
     {
         let mut from = first;
-        while let Some(p) = self.next_point(from) {
-            if let Some(next) = self.successor_on(p) {
-                return Some((p, next.winner));
+        while let Some(p) = self.next_point(survey, from) {
+            if let Some(winner) = self.winner_by_play(survey, p) {
+                return Some((p, winner));
             }
             from = p.number() + 1;
         }
@@ -131,8 +111,9 @@ impl Line {
         if self.winner().is_some() {
             return found;
         }
+        let survey = self.survey();
         let mut from = 0;
-        while let Some((p, winner)) = self.next_play(from) {
+        while let Some((p, winner)) = self.next_play(&survey, from) {
             found.push(Successor {
                 turn: Turn::Play(p),
                 winner,

@@ -82,8 +82,9 @@ pub(crate) fn expanded_at(alloc: Global, line: &Line) -> Result<Node, NoMemory>
     ensures { IfOk result (λ node. node ≡ expansion line.now.frame line.now.state) }
 {
     let mut edges: ArrayVec<Edge, 362> = ArrayVec::new();
+    let survey = line.survey();
     let mut from = 0;
-    while let Some((p, winner)) = line.next_play(from) {
+    while let Some((p, winner)) = line.next_play(&survey, from) {
         edges.push(new_edge(Turn::Play(p), winner));
         from = p.number() + 1;
     }

@@ -11,8 +11,8 @@ loop-p-init c = record {
   inside = c.requires.inside;
 }
 
-pub returns-in-Some-successor_on : goal.returns-in-Some-successor_on
-returns-in-Some-successor_on c =
+pub returns-in-Some-winner_by_play : goal.returns-in-Some-winner_by_play
+returns-in-Some-winner_by_play c =
     let f = c.args.self.now.frame in let s = c.args.self.now.state in let p = c.in-Some.p in
     let inside : p < point_count f.size = c.in-Some.ensures.0 in
     let after : c.loop-p.from ≤ p = c.in-Some.ensures.1 in
@@ -20,8 +20,8 @@ returns-in-Some-successor_on c =
     c.loop-p.invariant.same ∙ from_gap f s c.loop-p.from p after (omega (arith, inside)) c.in-Some.ensures.2 in (
       omega (arith, after, c.loop-p.invariant.after),
       inside,
-      ap (λ x. x.winner) c.in-Some-successor_on.ensures.1,
-      here ∙ from_more f s p c.in-Some-successor_on.ensures.0,
+      c.in-Some-winner_by_play.ensures.1,
+      here ∙ from_more f s p c.in-Some-winner_by_play.ensures.0,
     )
 
 pub loop-p-smaller : goal.loop-p-smaller
@@ -36,7 +36,7 @@ loop-p-preserved c =
     let step : p + 1 ≡ c.number-from.result + 1 = ap (λ n. n + 1) (sym is) in
     record {
       same = c.loop-p.invariant.same ∙ from_gap f s c.loop-p.from p after (omega (arith, inside)) c.in-Some.ensures.2
-          ∙ from_skip f s p inside c.in_default-successor_on.ensures ∙ ap (successors_from f s) step;
+          ∙ from_skip f s p inside c.in_default-winner_by_play.ensures ∙ ap (successors_from f s) step;
       after = omega (arith, after, is, c.loop-p.invariant.after);
       inside = omega (arith, inside, is);
     }

@@ -1,4 +1,4 @@
-use Rattle.std.proofs.Common.{rules, ◌≡◌, ◌||◌, ℕ, List, [], ◌∷◌, Bool, true, false, Some, None, set, Contains, inl, inr, sym, ap, subst, ◌∙◌}
+use Rattle.std.proofs.Common.{◌≡◌, ◌||◌, ℕ, List, [], ◌∷◌, Bool, true, false, Some, None, set, Contains, inl, inr, sym, ap, subst, ◌∙◌}
 use Rattle.std.specs.List.{list_any}
 use Rattle.std.proofs.lemmas.Bool.{cases_eq, cases_Bool, false≢true, cond-true, cond-false, or_cases}
 use Rattle.std.proofs.lemmas.Option.{none-some}
@@ -10,10 +10,8 @@ use Rattle.tt_board.specs.Reach.{entry_at}
 use Rattle.tt_board.specs.Play.{Points, is_empty}
 use Rattle.tt_board.specs.Stones.{any_empty}
 use Rattle.tt_game.specs.declared.frame.Side.TheVariants.{Attacker}
-use Rattle.tt_game.specs.declared.turns.Successor.{Successor}
-use Rattle.tt_game.specs.declared.turns.Turn.TheVariants.{Play}
 use Rattle.tt_game.specs.Game.{history, winner_on, made, colour_of}
-use Rattle.tt_game.proofs.line.Line.successor_on.Goals as goal
+use Rattle.tt_game.proofs.line.Line.winner_by_play.Goals as goal
 
 -- what passes a test passes a weaker one
 any_up : (f g : ℕ → Bool) (xs : List ℕ) → ((x : ℕ) → g x ≡ true → f x ≡ true) → list_any g xs ≡ true → list_any f xs ≡ true
@@ -40,7 +38,7 @@ still_filled ts c p k free filled = elim (cases_Bool (any_empty ts (set c p (Som
 pub returns-in-Quiet : goal.returns-in-Quiet
 returns-in-Quiet c =
     let l = c.args.self.now in let p = c.args.p in
-    let free : entry_at l.state.present p ≡ None = search rules in
+    let free : entry_at l.state.present p ≡ None = c.requires.free in
     let is = c.in-Quiet.ensures in
     let filled : any_empty l.frame.targets l.state.present ≡ false = elim (cases_Bool (any_empty l.frame.targets l.state.present)) [
       | inl dead ↦ absurd (none-some Attacker (sym c.requires.open ∙ cond-true _ _ _ dead))
@@ -49,7 +47,7 @@ returns-in-Quiet c =
     let later : any_empty l.frame.targets (made l.frame l.state p) ≡ false =
     ap (any_empty l.frame.targets) is.1 ∙ still_filled l.frame.targets l.state.present p (colour_of l.frame l.state.to_move) free filled in
     let nobody : winner_on l.frame (made l.frame l.state p) 0 ≡ None = cond-false _ _ _ later in
-    ((c.requires.open, c.requires.on_board, free, c.requires.inside, is.0), ap (λ w. let s : Successor = record { turn = Play p; winner = w } in s) (sym nobody))
+    ((c.requires.open, c.requires.on_board, free, c.requires.inside, is.0), sym nobody)
 
 pub returns-in-Vain : goal.returns-in-Vain
 returns-in-Vain c = λ legal.
