@@ -179,3 +179,10 @@ once_push xs y d fresh i j before in' =
           let ej = get_or_push xs y 0 j (omega arith) in
           λ e. fresh (subst (Contains xs) (sym ei ∙ e ∙ ej) (Contains-get_or xs i 0 (omega arith)))
     ]
+
+-- and one more at the head
+pub once_first : (y : ℕ) (xs : List ℕ) → IsEachOnce xs → (Contains xs y → ⊥) → IsEachOnce (y ∷ xs)
+once_first y xs d fresh zero zero before in' = absurd (omega arith)
+once_first y xs d fresh zero (suc j) before in' = λ e. fresh (subst (Contains xs) (sym e) (Contains-get_or xs j 0 (omega arith)))
+once_first y xs d fresh (suc i) zero before in' = absurd (omega arith)
+once_first y xs d fresh (suc i) (suc j) before in' = d i j (omega arith) (omega arith)

@@ -1,30 +1,43 @@
 -- Names of chains as they change place by place, and what that does to the counts.
-use Rattle.std.proofs.Common.{◌≡◌, ◌≢◌, ℕ, ◌+◌, ◌<◌, ◌≤◌, ◌⊎◌, ◌↔◌, ◌&&◌, List, [], ◌∷◌, Bool, true, false, not, cond, count_by, eqb, get_or, set, take, length, Contains, ◌++◌}
+use Rattle.std.proofs.Common.{◌≡◌, ◌≢◌, ℕ, ◌+◌, ◌<◌, ◌≤◌, ◌⊎◌, ◌↔◌, ◌&&◌, List, [], ◌∷◌, Option, Some, None, Bool, true, false, not, cond, count_by, eqb, get_or, set, length, Contains, ◌++◌}
 use Rattle.std.proofs.Common.{inl, inr, sym, ap, subst, ◌∙◌, arith}
 use Rattle.std.specs.List.{range_with_len}
 use Rattle.std.proofs.lemmas.Bool.{false≢true, cases_eq, cases_Bool, and_from, and_left, and_right, eq-eqb, ne_eqb}
-use Rattle.std.proofs.lemmas.List.{get_or-set_same, get_or-set_other, length_push, take_all}
+use Rattle.std.proofs.lemmas.List.{get_or-set_same, get_or-set_other, length_push}
 use Rattle.std.proofs.lemmas.List.Elements.{Contains-push, Contains-append_left, Contains-push_cases}
 use Rattle.std.proofs.lemmas.List.FromFn.{length-range_with_len}
-use Rattle.std.proofs.lemmas.List.Sums.{count_by-le-length}
+use Rattle.std.proofs.lemmas.List.Sums.{count_by-le-length, sum_by-cons}
 use Rattle.tt_sgf.specs.declared.size.Size.{Size}
 use Rattle.tt_sgf.specs.Sizes.{point_count}
-use Rattle.tt_board.specs.Near.{IsNeighbour}
+use Rattle.tt_board.specs.Near.{IsNeighbour, IsOneOf, ahead, places_there}
 use Rattle.tt_board.specs.Decided.{neighbour, decided, decided_is, decided_not}
-use Rattle.tt_board.specs.Chains.{name_at, Touches, touching, is_liberty, liberty_count, IsEachOnce, is_new, count_beside}
+use Rattle.tt_board.specs.Chains.{name_at, Touches, touching, is_liberty, liberty_count, IsEachOnce, is_new, passing, count_beside}
 use Rattle.tt_board.proofs.CountLemmas.{same_decided, count_change, count_same, count_both, count_within, in_list, once_push}
 use Rattle.tt_board.proofs.LiftLemmas.{near_back}
+use Rattle.tt_board.proofs.NearLemmas.{in_places}
 
--- a count over a list that has each neighbour once is a count of the points beside p
-pub beside_counted : (s : Size) (f : ℕ → Bool) (p n : ℕ) (items xs : List ℕ) → xs ≡ items → ((q : ℕ) → Contains items q ↔ IsNeighbour s p q) → IsEachOnce items
-    → length xs ≤ n → count_by f (take n xs) ≡ count_beside s f p
+-- a stone beside p touches it
+pub touch_at : (s : Size) (ns : List ℕ) (p m q : ℕ) → IsNeighbour s p q → name_at ns q ≡ m → Touches s ns m p
+touch_at s ns p m q near is = (q, near.0, (near, is))
+
+-- a count over a list with a place at its head
+count_ahead : (f : ℕ → Bool) (place : Option ℕ) (rest : List ℕ) → count_by f (ahead place rest) ≡ passing f place + count_by f rest
+count_ahead f None rest = omega arith
+count_ahead f (Some q) rest = sum_by-cons (λ k. cond (f k) 1 0) q rest
+
+-- the places that pass a test are the points beside p that do
+pub beside_counted : (s : Size) (f : ℕ → Bool) (p : ℕ) (a b c d : Option ℕ) → ((q : ℕ) → IsOneOf a b c d q ↔ IsNeighbour s p q) → IsEachOnce (places_there a b c d)
+    → passing f a + passing f b + passing f c + passing f d ≡ count_beside s f p
 unfolding count_beside
-beside_counted s f p n items xs same all once past =
-    let whole : take n xs ≡ items = take_all n xs past ∙ same in
-    ap (count_by f) whole
-    ∙ sym (count_within f (point_count s) items once (λ q has. ((all q).0 has).0))
+beside_counted s f p a b c d all once =
+    let items = places_there a b c d in
+    let sum : passing f a + passing f b + passing f c + passing f d ≡ count_by f items
+    = omega (arith, count_ahead f a (ahead b (ahead c (ahead d []))), count_ahead f b (ahead c (ahead d [])), count_ahead f c (ahead d []), count_ahead f d []) in
+    sum
+    ∙ sym (count_within f (point_count s) items once (λ q has. ((all q).0 ((in_places a b c d q).0 has)).0))
     ∙ sym (count_same (λ q. f q && decided (in_list items q)) (λ q. f q && decided (neighbour s p q)) (point_count s)
-    (λ k below. ap (λ b. f k && b) (same_decided (in_list items k) (neighbour s p k) (all k).0 (all k).1)))
+    (λ k below. ap (λ b. f k && b) (same_decided (in_list items k) (neighbour s p k)
+    (λ has. (all k).0 ((in_places a b c d k).0 has)) (λ near. (in_places a b c d k).1 ((all k).1 near)))))
 
 -- the different names found so far beside p
 pub record Found (s : Size) (ns : List ℕ) (p but : ℕ) (near : List ℕ) (i : ℕ) (found : List ℕ) : Type 0 where

@@ -1,4 +1,4 @@
-use Rattle.std.proofs.Common.{◌≡◌, ℕ, ◌+◌, ◌-◌, ◌*◌, ◌/◌, ◌%◌, ◌<◌, ◌≤◌, ◌↔◌, ◌⊎◌, List, [], ◌∷◌, ◌++◌, length, Contains, get_or, Option, Some, inl, inr, sym, ap, subst, ◌∙◌, arith}
+use Rattle.std.proofs.Common.{◌≡◌, ℕ, ◌+◌, ◌-◌, ◌*◌, ◌/◌, ◌%◌, ◌<◌, ◌≤◌, ◌↔◌, ◌⊎◌, List, [], ◌∷◌, ◌++◌, zero, suc, length, Contains, get_or, Option, Some, None, inl, inr, refl, sym, ap, subst, ◌∙◌, arith}
 use Rattle.std.proofs.lemmas.Bool.{cases_eq}
 use Rattle.std.proofs.lemmas.Nat.{div-mul-add, mod-mul-add, div-add-mod', mod_below, mul-add-lt, div_below}
 use Rattle.std.proofs.lemmas.List.Elements.{Contains-push, Contains-append_left, Contains-push_cases, Contains-get_or}
@@ -6,9 +6,9 @@ use Rattle.std.proofs.lemmas.List.{get_or_default}
 use Rattle.std.proofs.lemmas.Option.{none-some}
 use Rattle.tt_sgf.specs.declared.size.Size.{Size}
 use Rattle.tt_sgf.specs.Sizes.{point_count}
-use Rattle.tt_board.specs.Near.{IsBeside, IsNeighbour, IsThere, IsOneOf}
+use Rattle.tt_board.specs.Near.{IsBeside, IsNeighbour, IsThere, IsOneOf, ahead, places_there}
 use Rattle.tt_board.specs.Chains.{IsEachOnce}
-use Rattle.tt_board.proofs.CountLemmas.{once_push}
+use Rattle.tt_board.proofs.CountLemmas.{once_push, once_first}
 
 -- the four places beside p, as the code finds them
 pub data Side : ℕ → ℕ → ℕ → ℕ → Type 0 where
@@ -163,6 +163,50 @@ there_place : {P : Type 0} (place : Option ℕ) (x q : ℕ) → IsThere place P 
 there_place place x q (inl (_, e)) p same = e ∙ ap Some (sym same)
 there_place place x q (inr (none, _)) p same = absurd (none p)
 
+-- ---- a place at the head of a list, where it is there
+
+-- what such a list has, is the place or stands behind it
+pub of_ahead : (place : Option ℕ) (rest : List ℕ) (q : ℕ) → Contains (ahead place rest) q → (place ≡ Some q) ⊎ Contains rest q
+of_ahead None rest q has = inr has
+of_ahead (Some x) rest q (zero, in', is) = inl (ap Some is)
+of_ahead (Some x) rest q (suc i, in', is) = inr (i, omega arith, is)
+
+-- a list with the place, and the list behind it
+pub at_ahead : (place : Option ℕ) (rest : List ℕ) (q : ℕ) → place ≡ Some q → Contains (ahead place rest) q
+at_ahead None rest q is = absurd (none-some q is)
+at_ahead (Some x) rest q is = let same : ◌≡◌ {A = ℕ} x q = cc in (0, omega arith, same)
+
+pub past_ahead : (place : Option ℕ) (rest : List ℕ) (q : ℕ) → Contains rest q → Contains (ahead place rest) q
+past_ahead None rest q has = has
+past_ahead (Some x) rest q has = (suc has.0, omega (arith, has.1), has.2)
+
+-- a list of the place alone
+pub only_ahead : (place : Option ℕ) (q : ℕ) → Contains (ahead place []) q → place ≡ Some q
+only_ahead place q has = elim (of_ahead place [] q has) [ inl is ↦ is | inr none ↦ absurd (omega arith) ]
+
+-- a place that the list hasn't got
+once_ahead : (place : Option ℕ) (rest : List ℕ) → ((q : ℕ) → place ≡ Some q → Contains rest q → ⊥) → IsEachOnce rest → IsEachOnce (ahead place rest)
+once_ahead None rest fresh once = once
+once_ahead (Some x) rest fresh once = once_first x rest once (fresh x refl)
+
+-- the list of four places has them and nothing else
+pub in_places : (a b c d : Option ℕ) (q : ℕ) → Contains (places_there a b c d) q ↔ IsOneOf a b c d q
+in_places a b c d q = (
+  λ has. elim (of_ahead a (ahead b (ahead c (ahead d []))) q has) [
+    | inl is ↦ inl is
+    | inr has2 ↦ elim (of_ahead b (ahead c (ahead d [])) q has2) [
+      | inl is ↦ inr (inl is)
+      | inr has3 ↦ elim (of_ahead c (ahead d []) q has3) [ inl is ↦ inr (inr (inl is)) | inr has4 ↦ inr (inr (inr (only_ahead d q has4))) ]
+    ]
+  ],
+  λ one. elim one [
+    | inl is ↦ at_ahead a (ahead b (ahead c (ahead d []))) q is
+    | inr (inl is) ↦ past_ahead a _ q (at_ahead b (ahead c (ahead d [])) q is)
+    | inr (inr (inl is)) ↦ past_ahead a _ q (past_ahead b _ q (at_ahead c (ahead d []) q is))
+    | inr (inr (inr is)) ↦ past_ahead a _ q (past_ahead b _ q (past_ahead c _ q (at_ahead d [] q is)))
+  ],
+)
+
 -- the four places are the neighbours
 module _ (s : Size) (p : ℕ) (pos : 0 < s.columns) (in_p : p < point_count s) (a l r b : Option ℕ)
     (up : IsThere a (s.columns ≤ p) (p - s.columns)) (back : IsThere l (0 < p % s.columns) (p - 1))
@@ -200,3 +244,29 @@ module _ (s : Size) (p : ℕ) (pos : 0 < s.columns) (in_p : p < point_count s) (
   -- the places are the neighbours
   pub near_places : (q : ℕ) → IsOneOf a l r b q ↔ IsNeighbour s p q
   near_places q = (λ has. of_side s p q pos in_p (side_at q has), λ near. place_of q near.0 (side_of s.columns s.rows p q pos in_p near.0 near.1))
+
+  -- no place stands twice: they ascend
+  pub places_once : IsEachOnce (places_there a l r b)
+  places_once =
+      let rows = div-add-mod' p s.columns in
+      let column = mod_below p s.columns pos in
+      once_ahead a (ahead l (ahead r (ahead b []))) (λ q is has.
+      let u = place_there a _ q up is in
+      elim (of_ahead l (ahead r (ahead b [])) q has) [
+        | inl x ↦ let v = place_there l _ q back x in omega (arith, u.0, u.1, v.0, v.1, rows, column)
+        | inr has2 ↦ elim (of_ahead r (ahead b []) q has2) [
+          | inl x ↦ let v = place_there r _ q on x in omega (arith, u.1, v.1)
+          | inr has3 ↦ let v = place_there b _ q down (only_ahead b q has3) in omega (arith, u.1, v.1, pos)
+        ]
+      ])
+      (once_ahead l (ahead r (ahead b [])) (λ q is has.
+      let u = place_there l _ q back is in
+      elim (of_ahead r (ahead b []) q has) [
+        | inl x ↦ let v = place_there r _ q on x in omega (arith, u.1, v.1)
+        | inr has3 ↦ let v = place_there b _ q down (only_ahead b q has3) in omega (arith, u.1, v.1, pos)
+      ])
+      (once_ahead r (ahead b []) (λ q is has.
+      let u = place_there r _ q on is in
+      let v = place_there b _ q down (only_ahead b q has) in
+      omega (arith, u.0, u.1, v.1))
+      (once_ahead b [] (λ q is has. omega arith) (λ i j lt in'. absurd (omega arith)))))

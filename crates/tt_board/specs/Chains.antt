@@ -125,6 +125,11 @@ is_new s ns e q = (name_at ns q == 0) && not (decided (touching s ns e q))
 unfoldable pub count_beside : Size → (ℕ → Bool) → ℕ → ℕ
 count_beside s test p = count_by (λ q. test q && decided (neighbour s p q)) (range_with_len 0 (point_count s))
 
+-- 1 for a place that is there and passes a test, 0 for another one or none
+abbrev pub passing : (ℕ → Bool) → Option ℕ → ℕ
+passing test None = 0
+passing test (Some q) = if test q then 1 else 0
+
 -- each chain but one has its root
 abbrev pub IsRootedBut : List ℕ → ℕ → Type 0
 IsRootedBut ns e = (p : ℕ) → name_at ns p ≢ 0 → name_at ns p ≢ e → name_at ns (root_of (name_at ns p)) ≡ name_at ns p

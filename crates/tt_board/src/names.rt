@@ -1,10 +1,10 @@
 //! The names of chains on the places of a board: which chains are beside a point, and what a stone there brings them.
 
-ghost use Rattle.std.specs.Prelude.{◌≡◌, ◌≢◌, ℕ, ◌+◌, ◌<◌, ◌≤◌, ◌↔◌, ◌==◌, length, Contains, IsTrue};
+ghost use Rattle.std.specs.Prelude.{◌≡◌, ◌≢◌, ℕ, ◌+◌, ◌<◌, ◌≤◌, ◌↔◌, ◌==◌, length, Contains, IsTrue, Some};
 ghost use Rattle.tt_sgf.specs.Sizes.{point_count};
-ghost use Rattle.tt_board.specs.Chains.{name_at, root_of, Touches, IsEachOnce, AreRootsApart, is_new, count_beside};
+ghost use Rattle.tt_board.specs.Chains.{name_at, root_of, Touches, IsEachOnce, AreRootsApart, is_new, passing, count_beside};
 
-use super::near::neighbours;
+use super::near::{beside, neighbours};
 use arrayvec::ArrayVec;
 use tt_sgf::Size;
 
@@ -17,19 +17,55 @@ pub(crate) fn root_of(name: u16) -> usize
     usize::from(name % 512)
 }
 
+/// Whether the board has a place, and this name stands there.
+#[inline]
+fn has_name(names: &[u16], place: Option<usize>, name: u16) -> bool
+    requires { (q : ℕ) → place ≡ Some q → q < length names.now }
+    ensures { IsTrue result ↔ ((q : ℕ) × (place ≡ Some q) × (name_at names.now q ≡ name)) }
+{
+    match place {
+        Some(q) => names[q] == name,
+        None => false,
+    }
+}
+
 /// Whether a stone of the chain is beside `p`.
 fn touches(size: Size, names: &[u16], name: u16, p: usize) -> bool
     requires wide { point_count size ≤ length names.now }
     requires on_board { p < point_count size }
     ensures { IsTrue result ↔ Touches size names.now name p }
 {
-    let near = neighbours(size, p);
-    for q in near.as_slice() {
-        if names[*q] == name {
-            return true;
-        }
+    let near = beside(size, p);
+    if has_name(names, near.above, name) {
+        return true;
     }
-    false
+    if has_name(names, near.left, name) {
+        return true;
+    }
+    if has_name(names, near.right, name) {
+        return true;
+    }
+    has_name(names, near.below, name)
+}
+
+/// 1 for a place that is empty and that no stone of the chain is beside, 0 for another one or none.
+#[inline]
+fn new_there(size: Size, names: &[u16], name: u16, place: Option<usize>) -> u16
+    requires wide { point_count size ≤ length names.now }
+    requires on_board { (q : ℕ) → place ≡ Some q → q < point_count size }
+    ensures value { result ≡ passing (is_new size names.now name) place }
+    ensures small { result ≤ 1 }
+{
+    match place {
+        Some(q) => {
+            if names[q] == 0 && !touches(size, names, name, q) {
+                1
+            } else {
+                0
+            }
+        }
+        None => 0,
+    }
 }
 
 /// How many liberties a stone on `p` brings the chain: empty points beside `p` that no stone of the chain is beside.
@@ -38,30 +74,35 @@ pub(crate) fn new_liberties(size: Size, names: &[u16], name: u16, p: usize) -> u
     requires on_board { p < point_count size }
     ensures { result ≡ count_beside size (is_new size names.now name) p }
 {
-    let near = neighbours(size, p);
-    let mut count = 0;
-    for q in near.as_slice() {
-        if names[*q] == 0 && !touches(size, names, name, *q) {
-            count += 1;
-        }
-    }
-    count
+    let near = beside(size, p);
+    new_there(size, names, name, near.above)
+        + new_there(size, names, name, near.left)
+        + new_there(size, names, name, near.right)
+        + new_there(size, names, name, near.below)
+}
+
+/// 1 for an empty place, 0 for another one or none.
+#[inline]
+fn empty_there(names: &[u16], place: Option<usize>) -> u16
+    requires { (q : ℕ) → place ≡ Some q → q < length names.now }
+    ensures value { result ≡ passing (λ q. name_at names.now q == 0) place }
+    ensures small { result ≤ 1 }
+{
+    if has_name(names, place, 0) { 1 } else { 0 }
 }
 
 /// How many points beside `p` are empty.
+#[inline]
 pub(crate) fn empty_beside(size: Size, names: &[u16], p: usize) -> u16
     requires wide { point_count size ≤ length names.now }
     requires on_board { p < point_count size }
     ensures { result ≡ count_beside size (λ q. name_at names.now q == 0) p }
 {
-    let near = neighbours(size, p);
-    let mut count = 0;
-    for q in near.as_slice() {
-        if names[*q] == 0 {
-            count += 1;
-        }
-    }
-    count
+    let near = beside(size, p);
+    empty_there(names, near.above)
+        + empty_there(names, near.left)
+        + empty_there(names, near.right)
+        + empty_there(names, near.below)
 }
 
 /// The different chains beside `p`, but one.

@@ -2,7 +2,7 @@
 
 ghost use Rattle.std.specs.Prelude.{◌≡◌, ℕ, ◌+◌, ◌-◌, ◌<◌, ◌≤◌, ◌↔◌, Contains, IsTrue};
 ghost use Rattle.tt_sgf.specs.Sizes.{point_count};
-ghost use Rattle.tt_board.specs.Near.{IsNeighbour, IsThere, IsOneOf};
+ghost use Rattle.tt_board.specs.Near.{IsNeighbour, IsThere, IsOneOf, places_there};
 ghost use Rattle.tt_board.specs.Chains.{IsEachOnce};
 
 use arrayvec::ArrayVec;
@@ -63,7 +63,8 @@ fn after(there: bool, p: usize, distance: usize) -> Option<usize>
 #[inline]
 pub(crate) fn beside(size: Size, p: usize) -> Places
     requires { p < point_count size }
-    ensures { (q : ℕ) → IsOneOf result.above result.left result.right result.below q ↔ IsNeighbour size p q }
+    ensures all { (q : ℕ) → IsOneOf result.above result.left result.right result.below q ↔ IsNeighbour size p q }
+    ensures once { IsEachOnce (places_there result.above result.left result.right result.below) }
 {
     let count = size.point_count();
     let columns = usize::from(size.columns());

@@ -9,11 +9,11 @@ use Rattle.tt_board.proofs.LiftLemmas.{play_is, lifted_none, lifted_more, new_st
 use Rattle.tt_board.proofs.clearing.put.Goals as goal
 
 pub capture_beside-requires-clause-on_board : goal.capture_beside-requires-clause-on_board
-capture_beside-requires-clause-on_board c = λ q one. ((c.beside-near.ensures q).0 one).0
+capture_beside-requires-clause-on_board c = λ q one. ((c.beside-near.ensures.all q).0 one).0
 
 pub has_empty-requires : goal.has_empty-requires
 has_empty-requires c = λ q one.
-    let n = (c.beside-near.ensures q).0 one in
+    let n = (c.beside-near.ensures.all q).0 one in
     omega (arith, n.0, c.capture_beside.ensures.still_lifted.fits)
 
 pub returns-then-has_empty : goal.returns-then-has_empty
@@ -23,12 +23,12 @@ returns-then-has_empty c =
     let taken = c.capture_beside.new.after in
     let first : IsLifted s (set points p (Some k)) (other k) taken = rw (← placed, ← c.other-opponent.ensures) c.capture_beside.ensures.still_lifted in
     let looked : (q : ℕ) → IsNeighbour s p q → entry_at (set points p (Some k)) q ≡ Some (other k) → Reaches s (set points p (Some k)) q None ⊎ (entry_at taken q ≡ None) =
-    rw (← placed, ← c.other-opponent.ensures) (λ q near theirs. c.capture_beside.ensures.looked q ((c.beside-near.ensures q).1 near) theirs) in
+    rw (← placed, ← c.other-opponent.ensures) (λ q near theirs. c.capture_beside.ensures.looked q ((c.beside-near.ensures.all q).1 near) theirs) in
     let own = new_stone s points k p taken (omega (arith, c.requires.fits, c.requires.on_board)) first in
     let bare = c.has_empty.ensures c.if-has_empty.true in
     play_is s points k p c.requires.fits c.requires.on_board c.requires.alive c.requires.free taken taken first looked
     (lifted_none s taken k first.fits)
-    (λ _. inl (reaches_beside s taken None p bare.0 (λ none. none-some k (sym none ∙ own)) ((c.beside-near.ensures bare.0).0 bare.1) bare.2))
+    (λ _. inl (reaches_beside s taken None p bare.0 (λ none. none-some k (sym none ∙ own)) ((c.beside-near.ensures.all bare.0).0 bare.1) bare.2))
 
 pub returns : goal.returns
 returns c =
@@ -37,7 +37,7 @@ returns c =
     let taken = c.capture_beside.new.after in
     let first : IsLifted s (set points p (Some k)) (other k) taken = rw (← placed, ← c.other-opponent.ensures) c.capture_beside.ensures.still_lifted in
     let looked : (q : ℕ) → IsNeighbour s p q → entry_at (set points p (Some k)) q ≡ Some (other k) → Reaches s (set points p (Some k)) q None ⊎ (entry_at taken q ≡ None) =
-    rw (← placed, ← c.other-opponent.ensures) (λ q near theirs. c.capture_beside.ensures.looked q ((c.beside-near.ensures q).1 near) theirs) in
+    rw (← placed, ← c.other-opponent.ensures) (λ q near theirs. c.capture_beside.ensures.looked q ((c.beside-near.ensures.all q).1 near) theirs) in
     let own = new_stone s points k p taken (omega (arith, c.requires.fits, c.requires.on_board)) first in
     let done = play_is s points k p c.requires.fits c.requires.on_board c.requires.alive c.requires.free taken c.lift_lifeless.new.after first looked in
     let none_yet = lifted_none s taken k first.fits in

@@ -1,29 +1,42 @@
-use Rattle.std.proofs.Common.{◌<◌, length, get_or, arith, rules, refl, ap, ◌∙◌}
-use Rattle.std.proofs.lemmas.Bool.{false≢true}
-use Rattle.tt_board.specs.Chains.{name_at}
-use Rattle.tt_board.proofs.NearLemmas.{near_at, index_of}
+use Rattle.std.proofs.Common.{inl, inr, refl, sym, ◌∙◌, arith}
+use Rattle.std.proofs.lemmas.Bool.{true≢false}
+use Rattle.tt_board.proofs.NameLemmas.{touch_at}
 use Rattle.tt_board.proofs.names.touches.Goals as goal
 
-pub offset_bounds-names-q : goal.offset_bounds-names-q
-offset_bounds-names-q c =
-    let n = near_at c.args.size c.args.p _ _ c.loop-q.q-index c.as_slice-q-items.ensures.value c.neighbours-near.ensures.all c.loop-q-test.true in
-    let lt : get_or c.as_slice-q-items.result.now c.loop-q.q-index 0 < length c.args.names.now = omega (arith, n.0) in
-    search rules
+pub has_name-requires : goal.has_name-requires
+has_name-requires c = λ q is. let n = (c.beside-near.ensures.all q).0 (inl is) in omega (arith, n.0, c.requires.wide)
 
-pub bounds-names-q : goal.bounds-names-q
-bounds-names-q c =
-    let n = near_at c.args.size c.args.p _ _ c.loop-q.q-index c.as_slice-q-items.ensures.value c.neighbours-near.ensures.all c.loop-q-test.true in
-    omega (arith, n.0)
+pub has_name-requires-2 : goal.has_name-requires-2
+has_name-requires-2 c = λ q is. let n = (c.beside-near.ensures.all q).0 (inr (inl is)) in omega (arith, n.0, c.requires.wide)
+
+pub has_name-requires-3 : goal.has_name-requires-3
+has_name-requires-3 c = λ q is. let n = (c.beside-near.ensures.all q).0 (inr (inr (inl is))) in omega (arith, n.0, c.requires.wide)
+
+pub has_name-requires-4 : goal.has_name-requires-4
+has_name-requires-4 c = λ q is. let n = (c.beside-near.ensures.all q).0 (inr (inr (inr is))) in omega (arith, n.0, c.requires.wide)
+
+pub returns-then-has_name : goal.returns-then-has_name
+returns-then-has_name c =
+    let t = c.has_name.ensures.0 c.if-has_name.true in
+    (λ _. touch_at c.args.size c.args.names.now c.args.p c.args.name t.0 ((c.beside-near.ensures.all t.0).0 (inl t.1)) t.2, λ _. refl)
+
+pub returns-then-has_name-2 : goal.returns-then-has_name-2
+returns-then-has_name-2 c =
+    let t = c.has_name-2.ensures.0 c.if-has_name-2.true in
+    (λ _. touch_at c.args.size c.args.names.now c.args.p c.args.name t.0 ((c.beside-near.ensures.all t.0).0 (inr (inl t.1))) t.2, λ _. refl)
+
+pub returns-then-has_name-3 : goal.returns-then-has_name-3
+returns-then-has_name-3 c =
+    let t = c.has_name-3.ensures.0 c.if-has_name-3.true in
+    (λ _. touch_at c.args.size c.args.names.now c.args.p c.args.name t.0 ((c.beside-near.ensures.all t.0).0 (inr (inr (inl t.1)))) t.2, λ _. refl)
 
 pub returns : goal.returns
 returns c = (
-  λ h. absurd (false≢true h),
-  λ t.
-      let i = index_of c.args.size c.args.p _ _ t.0 c.as_slice-q-items.ensures.value c.neighbours-near.ensures.all t.2.0 in
-      absurd (c.loop-q.invariant i.0 (omega arith) (ap (name_at c.args.names.now) i.2 ∙ t.2.1)),
+  λ h. let t = c.has_name-4.ensures.0 h in touch_at c.args.size c.args.names.now c.args.p c.args.name t.0 ((c.beside-near.ensures.all t.0).0 (inr (inr (inr t.1)))) t.2,
+  λ t. elim ((c.beside-near.ensures.all t.0).1 t.2.0) [
+    | inl is ↦ absurd (true≢false (sym (c.has_name.ensures.1 (t.0, is, t.2.1)) ∙ c.if-has_name.false))
+    | inr (inl is) ↦ absurd (true≢false (sym (c.has_name-2.ensures.1 (t.0, is, t.2.1)) ∙ c.if-has_name-2.false))
+    | inr (inr (inl is)) ↦ absurd (true≢false (sym (c.has_name-3.ensures.1 (t.0, is, t.2.1)) ∙ c.if-has_name-3.false))
+    | inr (inr (inr is)) ↦ c.has_name-4.ensures.1 (t.0, is, t.2.1)
+  ],
 )
-
-pub returns-then-names-q : goal.returns-then-names-q
-returns-then-names-q c =
-    let n = near_at c.args.size c.args.p _ _ c.loop-q.q-index c.as_slice-q-items.ensures.value c.neighbours-near.ensures.all c.loop-q-test.true in
-    (λ _. (_, n.0, (n, search rules)), λ _. refl)

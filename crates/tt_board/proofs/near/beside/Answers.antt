@@ -2,10 +2,10 @@ use Rattle.std.proofs.Common.{arith, inl, inr, ◌<◌, ◌≤◌, ◌+◌, ◌%
 use Rattle.tt_sgf.specs.Sizes.{point_count}
 use Rattle.tt_board.specs.Near.{IsThere}
 use Rattle.tt_board.proofs.near.beside.Goals as goal
-use Rattle.tt_board.proofs.NearLemmas.{near_places}
+use Rattle.tt_board.proofs.NearLemmas.{near_places, places_once}
 
-pub returns : goal.returns
-returns c =
+pub returns-clause-all : goal.returns-clause-all
+returns-clause-all c =
     let s = c.args.size in let p = c.args.p in
     let up : IsThere c.before-2.result (s.columns ≤ p) (p - s.columns) =
     elim c.before-2.ensures [ inl h ↦ inl (grind arith, grind arith) | inr h ↦ inr (λ on. h.0 (grind arith), h.1) ] in
@@ -16,3 +16,16 @@ returns c =
     let down : IsThere c.after-2.result (p + s.columns < point_count s) (p + s.columns) =
     elim c.after-2.ensures [ inl h ↦ inl (grind arith, grind arith) | inr h ↦ inr (λ on. h.0 (grind arith), h.1) ] in
     near_places s p (omega arith) c.requires _ _ _ _ up back on down
+
+pub returns-clause-once : goal.returns-clause-once
+returns-clause-once c =
+    let s = c.args.size in let p = c.args.p in
+    let up : IsThere c.before-2.result (s.columns ≤ p) (p - s.columns) =
+    elim c.before-2.ensures [ inl h ↦ inl (grind arith, grind arith) | inr h ↦ inr (λ on. h.0 (grind arith), h.1) ] in
+    let back : IsThere c.before-3.result (0 < p % s.columns) (p - 1) =
+    elim c.before-3.ensures [ inl h ↦ inl (grind arith, grind arith) | inr h ↦ inr (λ on. h.0 (grind arith), h.1) ] in
+    let on : IsThere c.after.result (p % s.columns + 1 < s.columns) (p + 1) =
+    elim c.after.ensures [ inl h ↦ inl (grind arith, grind arith) | inr h ↦ inr (λ on. h.0 (grind arith), h.1) ] in
+    let down : IsThere c.after-2.result (p + s.columns < point_count s) (p + s.columns) =
+    elim c.after-2.ensures [ inl h ↦ inl (grind arith, grind arith) | inr h ↦ inr (λ on. h.0 (grind arith), h.1) ] in
+    places_once s p (omega arith) c.requires _ _ _ _ up back on down
