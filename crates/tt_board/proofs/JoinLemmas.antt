@@ -11,7 +11,7 @@ use Rattle.tt_sgf.specs.Sizes.{point_count}
 use Rattle.tt_board.specs.Near.{IsNeighbour}
 use Rattle.tt_board.specs.Position.{Colouring}
 use Rattle.tt_board.specs.Reach.{entry_at}
-use Rattle.tt_board.specs.Chains.{AreLinked, name_at, root_of, IsNamed, touching, is_liberty, liberty_count, stone_count, renamed, AreCounted, AreNamesBut}
+use Rattle.tt_board.specs.Chains.{AreLinked, name_at, root_of, IsNamed, touching, is_liberty, liberty_count, stone_count, renamed, AreCounted, AreNamesBut, IsJoinedAt}
 use Rattle.tt_board.specs.Decided.{decided}
 use Rattle.tt_board.proofs.CountLemmas.{same_decided, count_same}
 use Rattle.tt_board.proofs.LiftLemmas.{near_back}
@@ -331,77 +331,58 @@ but_united s c ns p a b x y n living_a living_b same in_x in_y is_a is_b link = 
     through z w in_z in_w zs ws = linked_trans s c z x w (n.one_chain z x in_z in_x (λ h. living_a (sym zs ∙ h)) (zs ∙ sym is_a))
         (linked_trans s c x y w link (n.one_chain y w in_y in_w (λ h. living_b (sym is_b ∙ h)) (is_b ∙ sym ws)))
 
--- the stone on p has been joined with the first of the points beside it
-pub record Joining (s : Size) (old near : List ℕ) (p i : ℕ) (ns : List ℕ) : Type 0 where
-  pub ends : (q : ℕ) → point_count s ≤ q → name_at ns q ≡ 0
-  pub stone : 512 ≤ name_at ns p
-  pub named : (c : Colouring) → AreNamesBut s c old p → AreNamesBut s c ns p
-  pub joined : (c : Colouring) → AreNamesBut s c old p → (k : ℕ) → k < i → entry_at c (name_at near k) ≡ entry_at c p → name_at ns (name_at near k) ≡ name_at ns p
+-- what is on the place has p's name already, or is of another colour, or the board has no such place
+pub joined_same : (s : Size) (ns : List ℕ) (p : ℕ) (place : Option ℕ) → ((q : ℕ) → point_count s ≤ q → name_at ns q ≡ 0) → 512 ≤ name_at ns p
+    → ((c : Colouring) → AreNamesBut s c ns p → (q : ℕ) → place ≡ Some q → entry_at c q ≡ entry_at c p → name_at ns q ≡ name_at ns p) → IsJoinedAt s ns ns p place
+joined_same s ns p place ends stone here = record { ends = ends; stone = stone; named = λ c n. n; joined = here; kept = λ q is. is }
 
--- one more has p's name already, or is of another colour
-pub joining_same : (s : Size) (old near : List ℕ) (p i : ℕ) (ns : List ℕ) → Joining s old near p i ns
-    → ((c : Colouring) → AreNamesBut s c ns p → entry_at c (name_at near i) ≡ entry_at c p → name_at ns (name_at near i) ≡ name_at ns p) → Joining s old near p (i + 1) ns
-joining_same s old near p i ns j here = record {
-  ends = j.ends;
-  stone = j.stone;
-  named = j.named;
-  joined = λ c n k below alike. elim (cases_eq k i) [
-    | inl same ↦
-        let e = ap (name_at near) same in
-        ap (name_at ns) e ∙ here c (j.named c n) (ap (entry_at c) (sym e) ∙ alike)
-    | inr apart ↦ j.joined c n k (omega arith) alike
-  ];
-}
+-- what is on the place q takes p's name, or p takes its name
+module _ (s : Size) (ns : List ℕ) (p q a b : ℕ) (in_p : p < point_count s) (ends : (r : ℕ) → point_count s ≤ r → name_at ns r ≡ 0) (stone : 512 ≤ name_at ns p)
+    (near_p : IsNeighbour s p q) (apart : a ≢ b) (codes : name_at ns q / 512 ≡ name_at ns p / 512)
+    (which : ((a ≡ name_at ns q) × (b ≡ name_at ns p)) ⊎ ((a ≡ name_at ns p) × (b ≡ name_at ns q))) where
+  living_a : a ≢ 0
+  living_a z = elim which [ inl w ↦ omega (arith, w.0, stone, codes) | inr w ↦ omega (arith, w.0, stone) ]
 
--- one more takes p's name, or p takes its name
-pub joining_united : (s : Size) (old near : List ℕ) (p i : ℕ) (ns : List ℕ) (a b : ℕ) → Joining s old near p i ns → p < point_count s → IsNeighbour s p (name_at near i) → a ≢ b
-    → name_at ns (name_at near i) / 512 ≡ name_at ns p / 512
-    → ((a ≡ name_at ns (name_at near i)) × (b ≡ name_at ns p)) ⊎ ((a ≡ name_at ns p) × (b ≡ name_at ns (name_at near i)))
-    → Joining s old near p (i + 1) (map (renamed a b) ns)
-joining_united s old near p i ns a b j in_p near_p apart codes which = record {
-  ends = λ q past. now_same q (λ e. living_a (sym e ∙ j.ends q past)) ∙ j.ends q past;
-  stone = elim which [
-    | inl w ↦ let h = now_same p (λ e. apart (sym e ∙ sym w.1)) in omega (arith, h, j.stone)
-    | inr w ↦ let h = now_b p (sym w.0) in omega (arith, h, w.1, j.stone, codes)
-  ];
-  named = λ c n. elim which [
-    | inl w ↦ but_united s c ns p a b (name_at near i) p (j.named c n) living_a living_b (codes_of w) near_p.0 in_p (sym w.0) (sym w.1) (link_q c (j.named c n))
-    | inr w ↦ but_united s c ns p a b p (name_at near i) (j.named c n) living_a living_b (codes_back w) in_p near_p.0 (sym w.0) (sym w.1) (link_p c (j.named c n))
-  ];
-  joined = λ c n k below alike. elim (cases_eq k i) [
-    | inl same ↦
-        ap (λ x. name_at (map (renamed a b) ns) (name_at near x)) same ∙ (elim which [
-          | inl w ↦ now_b (name_at near i) (sym w.0) ∙ w.1 ∙ sym (now_same p (λ e. apart (sym e ∙ sym w.1)))
-          | inr w ↦ now_same (name_at near i) (λ e. apart (sym e ∙ sym w.1)) ∙ sym w.1 ∙ sym (now_b p (sym w.0))
-        ])
-    | inr away ↦
-        name_renamed a b ns (name_at near k) living_a ∙ ap (renamed a b) (j.joined c n k (omega arith) alike) ∙ sym (name_renamed a b ns p living_a)
-  ];
-}
-  where
-    living_a : a ≢ 0
-    living_a z = elim which [ inl w ↦ omega (arith, w.0, j.stone, codes) | inr w ↦ omega (arith, w.0, j.stone) ]
+  living_b : b ≢ 0
+  living_b z = elim which [ inl w ↦ omega (arith, w.1, stone) | inr w ↦ omega (arith, w.1, stone, codes) ]
 
-    living_b : b ≢ 0
-    living_b z = elim which [ inl w ↦ omega (arith, w.1, j.stone) | inr w ↦ omega (arith, w.1, j.stone, codes) ]
+  now_b : (r : ℕ) → name_at ns r ≡ a → name_at (map (renamed a b) ns) r ≡ b
+  now_b r at = name_renamed a b ns r living_a ∙ renamed_is a b _ at
 
-    now_b : (q : ℕ) → name_at ns q ≡ a → name_at (map (renamed a b) ns) q ≡ b
-    now_b q at = name_renamed a b ns q living_a ∙ renamed_is a b _ at
+  now_same : (r : ℕ) → name_at ns r ≢ a → name_at (map (renamed a b) ns) r ≡ name_at ns r
+  now_same r away = name_renamed a b ns r living_a ∙ renamed_not a b _ away
 
-    now_same : (q : ℕ) → name_at ns q ≢ a → name_at (map (renamed a b) ns) q ≡ name_at ns q
-    now_same q away = name_renamed a b ns q living_a ∙ renamed_not a b _ away
+  codes_of : ((a ≡ name_at ns q) × (b ≡ name_at ns p)) → b / 512 ≡ a / 512
+  codes_of w = ap (λ x. x / 512) w.1 ∙ sym codes ∙ ap (λ x. x / 512) (sym w.0)
 
-    codes_of : ((a ≡ name_at ns (name_at near i)) × (b ≡ name_at ns p)) → b / 512 ≡ a / 512
-    codes_of w = ap (λ x. x / 512) w.1 ∙ sym codes ∙ ap (λ x. x / 512) (sym w.0)
+  codes_back : ((a ≡ name_at ns p) × (b ≡ name_at ns q)) → b / 512 ≡ a / 512
+  codes_back w = ap (λ x. x / 512) w.1 ∙ codes ∙ ap (λ x. x / 512) (sym w.0)
 
-    codes_back : ((a ≡ name_at ns p) × (b ≡ name_at ns (name_at near i))) → b / 512 ≡ a / 512
-    codes_back w = ap (λ x. x / 512) w.1 ∙ codes ∙ ap (λ x. x / 512) (sym w.0)
+  alike : (c : Colouring) → AreNamesBut s c ns p → entry_at c q ≡ entry_at c p
+  alike c n = codes_alike _ _ _ _ (n.named q) (n.named p) (λ e. omega (arith, e, stone)) codes
 
-    alike : (c : Colouring) → AreNamesBut s c ns p → entry_at c (name_at near i) ≡ entry_at c p
-    alike c n = codes_alike _ _ _ _ (n.named (name_at near i)) (n.named p) (λ e. omega (arith, e, j.stone)) codes
+  link_q : (c : Colouring) → AreNamesBut s c ns p → AreLinked s c q p
+  link_q c n = linked_on s c q p p (near_back s p q in_p near_p) (sym (alike c n)) (linked_self s c p)
 
-    link_q : (c : Colouring) → AreNamesBut s c ns p → AreLinked s c (name_at near i) p
-    link_q c n = linked_on s c (name_at near i) p p (near_back s p (name_at near i) in_p near_p) (sym (alike c n)) (linked_self s c p)
+  link_p : (c : Colouring) → AreNamesBut s c ns p → AreLinked s c p q
+  link_p c n = linked_on s c p q q near_p (alike c n) (linked_self s c q)
 
-    link_p : (c : Colouring) → AreNamesBut s c ns p → AreLinked s c p (name_at near i)
-    link_p c n = linked_on s c p (name_at near i) (name_at near i) near_p (alike c n) (linked_self s c (name_at near i))
+  pub joined_united : (place : Option ℕ) → place ≡ Some q → IsJoinedAt s ns (map (renamed a b) ns) p place
+  joined_united place at = record {
+    ends = λ r past. now_same r (λ e. living_a (sym e ∙ ends r past)) ∙ ends r past;
+    stone = elim which [
+      | inl w ↦ let h = now_same p (λ e. apart (sym e ∙ sym w.1)) in omega (arith, h, stone)
+      | inr w ↦ let h = now_b p (sym w.0) in omega (arith, h, w.1, stone, codes)
+    ];
+    named = λ c n. elim which [
+      | inl w ↦ but_united s c ns p a b q p n living_a living_b (codes_of w) near_p.0 in_p (sym w.0) (sym w.1) (link_q c n)
+      | inr w ↦ but_united s c ns p a b p q n living_a living_b (codes_back w) in_p near_p.0 (sym w.0) (sym w.1) (link_p c n)
+    ];
+    joined = λ c n r is _.
+        let same : ◌≡◌ {A = ℕ} r q = let e : Some r ≡ Some q = sym is ∙ at in cc in
+        ap (name_at (map (renamed a b) ns)) same ∙ (elim which [
+          | inl w ↦ now_b q (sym w.0) ∙ w.1 ∙ sym (now_same p (λ e. apart (sym e ∙ sym w.1)))
+          | inr w ↦ now_same q (λ e. apart (sym e ∙ sym w.1)) ∙ sym w.1 ∙ sym (now_b p (sym w.0))
+        ]);
+    kept = λ r is. name_renamed a b ns r living_a ∙ ap (renamed a b) is ∙ sym (name_renamed a b ns p living_a);
+  }

@@ -1,5 +1,5 @@
 -- Chains (the rules of Go): their stones and liberties, and the names by which a board finds them. Private contracts alone cite these.
-use Rattle.std.specs.Prelude.{◌≡◌, ◌≢◌, ℕ, ◌%◌, ◌/◌, ◌<◌, ◌⊎◌, ◌↔◌, ◌==◌, ◌&&◌, List, [], ◌∷◌, length, Option, Some, None, Bool, not, Contains, if◌then◌else◌, count_by, slice_index_or}
+use Rattle.std.specs.Prelude.{◌≡◌, ◌≢◌, ℕ, ◌%◌, ◌/◌, ◌<◌, ◌≤◌, ◌⊎◌, ◌↔◌, ◌==◌, ◌&&◌, List, [], ◌∷◌, length, Option, Some, None, Bool, not, Contains, if◌then◌else◌, count_by, slice_index_or}
 use Rattle.std.specs.List.{range_with_len}
 use Rattle.std.proofs.lemmas.Bool.{cases_eq}
 use Rattle.tt_board.specs.declared.Colour.{Colour}
@@ -143,3 +143,11 @@ pub record AreNamesBut (s : Size) (c : Colouring) (ns : List ℕ) (p : ℕ) : Ty
   pub named : (q : ℕ) → IsNamed (entry_at c q) (name_at ns q)
   pub one_chain : (x y : ℕ) → x < point_count s → y < point_count s → name_at ns x ≢ 0 → name_at ns x ≡ name_at ns y → AreLinked s c x y
   pub one_name : (x y : ℕ) → x < point_count s → IsNeighbour s x y → x ≢ p → y ≢ p → entry_at c x ≢ None → entry_at c y ≡ entry_at c x → name_at ns x ≡ name_at ns y
+
+-- the stone on p has become one with the chain on a place beside it, if that has its colour, and what was one with it still is
+pub record IsJoinedAt (s : Size) (old new : List ℕ) (p : ℕ) (place : Option ℕ) : Type 0 where
+  pub ends : (q : ℕ) → point_count s ≤ q → name_at new q ≡ 0
+  pub stone : 512 ≤ name_at new p
+  pub named : (c : Colouring) → AreNamesBut s c old p → AreNamesBut s c new p
+  pub joined : (c : Colouring) → AreNamesBut s c old p → (q : ℕ) → place ≡ Some q → entry_at c q ≡ entry_at c p → name_at new q ≡ name_at new p
+  pub kept : (q : ℕ) → name_at old q ≡ name_at old p → name_at new q ≡ name_at new p

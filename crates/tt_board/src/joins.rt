@@ -1,13 +1,14 @@
 //! A stone comes: the chains of its colour beside it become one with it, their liberties counted stone by stone.
 
-ghost use Rattle.std.specs.Prelude.{◌≡◌, ◌≢◌, ℕ, ◌+◌, ◌<◌, ◌≤◌, ◌⊎◌, length, map, slice_set, None};
+ghost use Rattle.std.specs.Prelude.{◌≡◌, ◌≢◌, ℕ, ◌+◌, ◌<◌, ◌≤◌, ◌⊎◌, length, map, slice_set, Some, None};
 ghost use Rattle.tt_sgf.specs.Sizes.{point_count};
+ghost use Rattle.tt_board.specs.Near.{IsNeighbour};
 ghost use Rattle.tt_board.specs.Position.{Colouring};
 ghost use Rattle.tt_board.specs.Reach.{entry_at};
-ghost use Rattle.tt_board.specs.Chains.{name_at, root_of, renamed, liberty_count, stone_count, AreCounted, AreNames, AreNamesBut};
+ghost use Rattle.tt_board.specs.Chains.{name_at, root_of, renamed, liberty_count, stone_count, AreCounted, AreNames, AreNamesBut, IsJoinedAt};
 
 use super::names::{chains_beside, empty_beside, new_liberties, root_of, take_liberty};
-use super::near::neighbours;
+use super::near::beside;
 use tt_sgf::Size;
 
 /// Puts a stone on the empty place `p` as a chain of its own, which takes a liberty from each chain beside it.
@@ -106,6 +107,7 @@ fn absorb(
 }
 
 /// Makes two chains one: the smaller gets the name of the greater.
+#[inline(never)]
 fn unite(
     size: Size,
     names: &mut [u16],
@@ -130,6 +132,34 @@ fn unite(
     }
 }
 
+/// Makes the stone on `p` one with the chain on a place beside it, where that is of its colour and another one.
+#[inline(always)]
+fn join_there(
+    size: Size,
+    names: &mut [u16],
+    stones: &mut [u16],
+    liberties: &mut [u16],
+    p: usize,
+    place: Option<usize>,
+)
+    requires wide { (length names.old ≡ 361) × (length stones.old ≡ 361) × (length liberties.old ≡ 361) }
+    requires ends { (q : ℕ) → point_count size ≤ q → name_at names.old q ≡ 0 }
+    requires on_board { p < point_count size }
+    requires near { (q : ℕ) → place ≡ Some q → IsNeighbour size p q }
+    requires stone { 512 ≤ name_at names.old p }
+    requires counted { AreCounted size names.old stones.old liberties.old }
+    ensures joined { IsJoinedAt size names.old names.new p place }
+    ensures still_counted { AreCounted size names.new stones.new liberties.new }
+{
+    if let Some(q) = place {
+        let other = names[q];
+        let own = names[p];
+        if other / 512 == own / 512 && other != own {
+            unite(size, names, stones, liberties, other, own);
+        }
+    }
+}
+
 /// Makes the stone on `p` one with the chains of its colour beside it.
 pub(crate) fn join_beside(
     size: Size,
@@ -146,12 +176,9 @@ pub(crate) fn join_beside(
     ensures joined { (c : Colouring) → AreNamesBut size c names.old p → AreNames size c names.new }
     ensures still_counted { AreCounted size names.new stones.new liberties.new }
 {
-    let near = neighbours(size, p);
-    for q in near.as_slice() {
-        let other = names[*q];
-        let own = names[p];
-        if other / 512 == own / 512 && other != own {
-            unite(size, names, stones, liberties, other, own);
-        }
-    }
+    let near = beside(size, p);
+    join_there(size, names, stones, liberties, p, near.above);
+    join_there(size, names, stones, liberties, p, near.left);
+    join_there(size, names, stones, liberties, p, near.right);
+    join_there(size, names, stones, liberties, p, near.below);
 }
