@@ -73,6 +73,14 @@ partly_whole a b old new living fits h none = renamed_from a b old new living fi
   | inr gone ↦ gone.1 ∙ sym (renamed_is a b (name_at old k) gone.0)
 ])
 
+-- a place that has it is on the board, where no name stands past that
+pub partly_on_board : (s : Size) (a b : ℕ) (old new : List ℕ) (p : ℕ) → ((q : ℕ) → point_count s ≤ q → name_at old q ≡ 0) → a ≢ 0 → IsPartly a b old new → name_at new p ≡ a
+    → p < point_count s
+partly_on_board s a b old new p ends living h is = elim (cases_lt p (point_count s)) [
+  | inl below ↦ below
+  | inr past ↦ let bare = ends p past in absurd (living (sym is ∙ partly_kept a b old new p h (λ e. living (sym e ∙ bare)) ∙ bare))
+]
+
 -- ---- stones
 
 -- one place gets another name
@@ -100,6 +108,18 @@ none_stones ns m none k below is =
     let one : ◌≡◌ {A = ℕ} (cond (eqb (name_at ns k) m) 1 0) 1 = ap (λ b. cond b 1 0) (eq-eqb (name_at ns k) m is) in
     let other : ◌≡◌ {A = ℕ} (cond (eqb (m + 1) m) 1 0) 0 = ap (λ b. cond b 1 0) (ne_eqb (m + 1) m (λ e. omega arith)) in
     omega (arith, stones_set ns k (m + 1) m below, one, other, none)
+
+-- one that has stones stands somewhere
+pub some_stone : (ns : List ℕ) (m : ℕ) → 0 < stone_count ns m → (k : ℕ) × (k < length ns) × (name_at ns k ≡ m)
+unfolding stone_count
+some_stone [] m some = absurd (omega arith)
+some_stone (x ∷ xs) m some = elim (cases_eq x m) [
+  | inl is ↦ (0, omega arith, is)
+  | inr isnt ↦
+      let here : ◌≡◌ {A = ℕ} (cond (eqb x m) 1 0) 0 = ap (λ b. cond b 1 0) (ne_eqb x m isnt) in
+      let t = some_stone xs m (omega (arith, sum_by-cons (λ y. cond (eqb y m) 1 0) x xs, here, some)) in
+      (suc t.0, omega (arith, t.1), t.2)
+]
 
 -- a place that another name takes is a stone fewer of the one, and a stone more of the other
 pub stones_fewer : (ns : List ℕ) (p x m : ℕ) → p < length ns → name_at ns p ≡ m → x ≢ m → stone_count (set ns p x) m + 1 ≡ stone_count ns m

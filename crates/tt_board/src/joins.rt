@@ -35,7 +35,23 @@ pub(crate) fn start(
     liberties[p] = empty_beside(size, names, p);
 }
 
+/// The first place from `start` on with this name, where there is one.
+fn next_named(names: &[u16], start: usize, name: u16) -> usize
+    requires { (q : ℕ) × (start ≤ q) × (q < length names.now) × (name_at names.now q ≡ name) }
+    ensures from { start ≤ result }
+    ensures found { (result < length names.now) × (name_at names.now result ≡ name) }
+    ensures first { (q : ℕ) → start ≤ q → q < result → name_at names.now q ≢ name }
+{
+    for p in start..names.len() {
+        if names[p] == name {
+            return p;
+        }
+    }
+    start
+}
+
 /// Gives the stones of the chain `from` the name `to`, and says how many liberties they bring that chain.
+#[inline(never)]
 fn rename(size: Size, names: &mut [u16], from: u16, to: u16, stones: u16) -> u16
     requires wide { length names.old ≡ 361 }
     requires ends { (q : ℕ) → point_count size ≤ q → name_at names.old q ≡ 0 }
@@ -45,17 +61,13 @@ fn rename(size: Size, names: &mut [u16], from: u16, to: u16, stones: u16) -> u16
     ensures renamed { names.new ≡ map (renamed from to) names.old }
     ensures gained { liberty_count size names.new to ≡ liberty_count size names.old to + result }
 {
-    let mut left = stones;
     let mut gained = 0;
-    for p in 0..size.point_count() {
-        if left == 0 {
-            return gained;
-        }
-        if names[p] == from {
-            gained += new_liberties(size, names, to, p);
-            names[p] = to;
-            left -= 1;
-        }
+    let mut next = 0;
+    for _ in 0..stones {
+        let p = next_named(names, next, from);
+        gained += new_liberties(size, names, to, p);
+        names[p] = to;
+        next = p + 1;
     }
     gained
 }
