@@ -8,7 +8,7 @@ use Rattle.tt_board.specs.declared.Colour.{Colour}
 use Rattle.tt_board.specs.declared.Colour.TheVariants.{Black, White}
 use Rattle.tt_board.specs.declared.quiet.TheConstants.{NOWHERE}
 use Rattle.tt_board.specs.Near.{IsNeighbour, IsOneOf}
-use Rattle.tt_board.specs.Chains.{name_at, root_of, colour_number, Touches, IsOneName}
+use Rattle.tt_board.specs.Chains.{name_at, root_of, colour_number, IsNamed, Touches, IsOneName}
 
 module _ (s : Size) (ns : List ℕ) (p m : ℕ) where
   -- what is on a place that is there touches p
@@ -61,3 +61,8 @@ roots_below s ns p m wide rooted touch = elim (cases_eq m NOWHERE) [
         ]
   ]
 ]
+
+-- no name on a board is that of no place
+pub never_nowhere : (e : Option Colour) (m : ℕ) → IsNamed e m → m ≢ NOWHERE
+never_nowhere None m named = omega (arith, named)
+never_nowhere (Some k) m named = coded m k named

@@ -1,11 +1,11 @@
 -- The counts when a stone comes as a chain of its own.
-use Rattle.std.proofs.Common.{◌≡◌, ◌≢◌, ℕ, ◌+◌, ◌<◌, ◌↔◌, ◌==◌, List, cond, set, length, Contains, inl, inr, sym, ap, subst, ◌∙◌, arith}
+use Rattle.std.proofs.Common.{◌≡◌, ◌≢◌, ℕ, ◌+◌, ◌<◌, ◌⊎◌, ◌==◌, List, cond, set, length, Contains, inl, inr, refl, sym, ap, subst, ◌∙◌, arith}
 use Rattle.std.proofs.lemmas.Bool.{cases_eq, cases_Bool, false≢true}
-use Rattle.std.proofs.lemmas.List.{get_or-set_same, get_or-set_other, get_or_default}
+use Rattle.std.proofs.lemmas.List.{get_or-set_same, get_or-set_other}
 use Rattle.std.proofs.lemmas.List.Elements.{Contains-get_or}
 use Rattle.tt_sgf.specs.declared.size.Size.{Size}
 use Rattle.tt_sgf.specs.Sizes.{point_count}
-use Rattle.tt_board.specs.Chains.{name_at, root_of, Touches, touching, liberty_count, stone_count, count_beside, AreCounted, IsEachOnce, AreRootsApart}
+use Rattle.tt_board.specs.Chains.{name_at, root_of, Touches, touching, liberty_count, stone_count, count_beside, AreCounted, IsEachOnce, IsOneName, IsFirst, AreRootsApart}
 use Rattle.tt_board.specs.Decided.{decided, decided_is}
 use Rattle.tt_board.proofs.NameLemmas.{count_filled, count_alone, at_p, off_p}
 use Rattle.tt_board.proofs.JoinLemmas.{roots_apart, root_below, stones_none, stones_more, stones_same}
@@ -34,37 +34,107 @@ module _ (s : Size) (ns near : List ℕ) (p : ℕ) (roots : (m : ℕ) → Touche
   pub away : (m : ℕ) → name_at ns (root_of m) ≡ m → (Touches s ns m p → ⊥) → (i : ℕ) → i < length near → root_of (name_at near i) ≢ root_of m
   away m root none i in' = roots_apart ns (name_at near i) m (near_rooted i in') root (λ e. none (subst (λ x. Touches s ns x p) e (near_living i in').1))
 
--- where all chains have their roots, those beside p have
+-- where all chains have their roots, one beside p has
+pub touch_rooted : (s : Size) (ns : List ℕ) (p : ℕ) → ((q : ℕ) → name_at ns q ≢ 0 → name_at ns (root_of (name_at ns q)) ≡ name_at ns q)
+    → (m : ℕ) → Touches s ns m p → m ≢ 0 → name_at ns (root_of m) ≡ m
+touch_rooted s ns p rooted m t some = subst (λ x. name_at ns (root_of x) ≡ x) t.2.1 (rooted t.0 (λ e. some (sym t.2.1 ∙ e)))
+
+-- and so has each of a list of them
 pub all_rooted : (s : Size) (ns near : List ℕ) (p : ℕ) → ((q : ℕ) → name_at ns q ≢ 0 → name_at ns (root_of (name_at ns q)) ≡ name_at ns q)
     → (m : ℕ) → Touches s ns m p → m ≢ 0 → Contains near m → name_at ns (root_of m) ≡ m
-all_rooted s ns near p rooted m t some has = subst (λ x. name_at ns (root_of x) ≡ x) t.2.1 (rooted t.0 (λ e. some (sym t.2.1 ∙ e)))
+all_rooted s ns near p rooted m t some has = touch_rooted s ns p rooted m t some
+
+-- names that are taken from one after another, each that none before it is: each chain among them is once
+module _ (a b c d u : ℕ) (l0 l1 l2 l3 l4 : List ℕ)
+    (apart : (m k : ℕ) → IsOneName a b c d m → IsOneName a b c d k → m ≢ 0 → m ≢ u → k ≢ 0 → k ≢ u → m ≢ k → root_of m ≢ root_of k)
+    (less1 : IsFirst u a 0 0 0 → name_at l1 (root_of a) + 1 ≡ name_at l0 (root_of a)) (same1 : (r : ℕ) → (IsFirst u a 0 0 0 → root_of a ≢ r) → name_at l1 r ≡ name_at l0 r)
+    (less2 : IsFirst u b a 0 0 → name_at l2 (root_of b) + 1 ≡ name_at l1 (root_of b)) (same2 : (r : ℕ) → (IsFirst u b a 0 0 → root_of b ≢ r) → name_at l2 r ≡ name_at l1 r)
+    (less3 : IsFirst u c a b 0 → name_at l3 (root_of c) + 1 ≡ name_at l2 (root_of c)) (same3 : (r : ℕ) → (IsFirst u c a b 0 → root_of c ≢ r) → name_at l3 r ≡ name_at l2 r)
+    (less4 : IsFirst u d a b c → name_at l4 (root_of d) + 1 ≡ name_at l3 (root_of d)) (same4 : (r : ℕ) → (IsFirst u d a b c → root_of d ≢ r) → name_at l4 r ≡ name_at l3 r) where
+  -- another name, or one that stands before, leaves m's count
+  leaves : (m x e f g : ℕ) → IsOneName a b c d m → IsOneName a b c d x → m ≢ 0 → m ≢ u → (x ≡ m → (e ≡ m) ⊎ (f ≡ m) ⊎ (g ≡ m)) → IsFirst u x e f g → root_of x ≢ root_of m
+  leaves m x e f g one_m one_x some there before (living, placed, not_e, not_f, not_g) = elim (cases_eq x m) [
+    | inr away ↦ apart x m one_x one_m living placed some there away
+    | inl is ↦ elim (before is) [
+      | inl at ↦ absurd (not_e (is ∙ sym at))
+      | inr (inl at) ↦ absurd (not_f (is ∙ sym at))
+      | inr (inr at) ↦ absurd (not_g (is ∙ sym at))
+    ]
+  ]
+
+  -- each chain has one fewer
+  pub each_fewer : (m : ℕ) → IsOneName a b c d m → m ≢ 0 → m ≢ u → name_at l4 (root_of m) + 1 ≡ name_at l0 (root_of m)
+  each_fewer m one some there =
+      let in_a : IsOneName a b c d a = inl refl in
+      let in_b : IsOneName a b c d b = inr (inl refl) in
+      let in_c : IsOneName a b c d c = inr (inr (inl refl)) in
+      let in_d : IsOneName a b c d d = inr (inr (inr refl)) in
+      elim (cases_eq a m) [
+        | inl at ↦
+            let e1 : name_at l1 (root_of m) + 1 ≡ name_at l0 (root_of m)
+            = subst (λ x. IsFirst u x 0 0 0 → name_at l1 (root_of x) + 1 ≡ name_at l0 (root_of x)) at less1 (some, there, some, some, some) in
+            let e2 = same2 (root_of m) (leaves m b a 0 0 one in_b some there (λ _. inl at)) in
+            let e3 = same3 (root_of m) (leaves m c a b 0 one in_c some there (λ _. inl at)) in
+            let e4 = same4 (root_of m) (leaves m d a b c one in_d some there (λ _. inl at)) in
+            omega (arith, e1, e2, e3, e4)
+        | inr not_a ↦
+            let e1 = same1 (root_of m) (leaves m a 0 0 0 one in_a some there (λ is. absurd (not_a is))) in
+            elim (cases_eq b m) [
+              | inl at ↦
+                  let e2 : name_at l2 (root_of m) + 1 ≡ name_at l1 (root_of m)
+                  = subst (λ x. IsFirst u x a 0 0 → name_at l2 (root_of x) + 1 ≡ name_at l1 (root_of x)) at less2 (some, there, (λ e. not_a (sym e)), some, some) in
+                  let e3 = same3 (root_of m) (leaves m c a b 0 one in_c some there (λ _. inr (inl at))) in
+                  let e4 = same4 (root_of m) (leaves m d a b c one in_d some there (λ _. inr (inl at))) in
+                  omega (arith, e1, e2, e3, e4)
+              | inr not_b ↦
+                  let e2 = same2 (root_of m) (leaves m b a 0 0 one in_b some there (λ is. absurd (not_b is))) in
+                  elim (cases_eq c m) [
+                    | inl at ↦
+                        let e3 : name_at l3 (root_of m) + 1 ≡ name_at l2 (root_of m)
+                        = subst (λ x. IsFirst u x a b 0 → name_at l3 (root_of x) + 1 ≡ name_at l2 (root_of x)) at less3 (some, there, (λ e. not_a (sym e)), (λ e. not_b (sym e)), some) in
+                        let e4 = same4 (root_of m) (leaves m d a b c one in_d some there (λ _. inr (inr at))) in
+                        omega (arith, e1, e2, e3, e4)
+                    | inr not_c ↦
+                        let e3 = same3 (root_of m) (leaves m c a b 0 one in_c some there (λ is. absurd (not_c is))) in
+                        let at : d ≡ m = elim one [
+                          | inl is ↦ absurd (not_a is)
+                          | inr (inl is) ↦ absurd (not_b is)
+                          | inr (inr (inl is)) ↦ absurd (not_c is)
+                          | inr (inr (inr is)) ↦ is
+                        ] in
+                        let e4 : name_at l4 (root_of m) + 1 ≡ name_at l3 (root_of m)
+                        = subst (λ x. IsFirst u x a b c → name_at l4 (root_of x) + 1 ≡ name_at l3 (root_of x)) at less4
+                        (some, there, (λ e. not_a (sym e)), (λ e. not_b (sym e)), (λ e. not_c (sym e))) in
+                        omega (arith, e1, e2, e3, e4)
+                  ]
+            ]
+      ]
+
+  -- no other count changes
+  pub others_same : (r : ℕ) → ((m : ℕ) → IsOneName a b c d m → m ≢ 0 → m ≢ u → root_of m ≢ r) → name_at l4 r ≡ name_at l0 r
+  others_same r away =
+      same4 r (λ f. away d (inr (inr (inr refl))) f.0 f.1) ∙ same3 r (λ f. away c (inr (inr (inl refl))) f.0 f.1)
+      ∙ same2 r (λ f. away b (inr (inl refl)) f.0 f.1) ∙ same1 r (λ f. away a (inl refl) f.0 f.1)
 
 module _ (s : Size) (ns stones liberties : List ℕ) (p e : ℕ) (in_p : p < point_count s) (wide : p < length ns) (few : p < length stones)
-    (free : name_at ns p ≡ 0) (living : e ≢ 0) (root_e : root_of e ≡ p) (counted : AreCounted s ns stones liberties)
-    (near : List ℕ) (all : (m : ℕ) → Contains near m ↔ ((m ≢ 0) × (m ≢ 0) × Touches s ns m p)) where
-  -- what is listed is beside p
-  pub only_near : (m : ℕ) → Contains near m → (m ≢ 0) × Touches s ns m p
-  only_near m has = let h = (all m).0 has in (h.0, h.2)
-
+    (free : name_at ns p ≡ 0) (living : e ≢ 0) (root_e : root_of e ≡ p) (counted : AreCounted s ns stones liberties) where
   -- no stone has the new name
   fresh : (k : ℕ) → name_at ns k ≢ e
   fresh k is = living (sym is ∙ sym (counted.rooted k (λ z. living (sym is ∙ z))) ∙ ap (λ x. name_at ns (root_of x)) is ∙ ap (name_at ns) root_e ∙ free)
 
   -- each chain beside p has a liberty to lose
-  pub some_liberty : (i : ℕ) → i < length near → 0 < name_at liberties (root_of (name_at near i))
-  some_liberty i in' =
-      let m = name_at near i in
-      let t = near_living s ns near p (all_rooted s ns near p counted.rooted) only_near i in' in
-      let true' : name_at liberties (root_of m) ≡ liberty_count s ns m = subst (λ x. name_at liberties (root_of x) ≡ liberty_count s ns x) t.1.2.1
-      (counted.liberties_true t.1.0 (λ z. t.0 (sym t.1.2.1 ∙ z))) in
-      let one : ◌≡◌ {A = ℕ} (cond (decided (touching s ns m p)) 1 0) 1 = ap (λ b. cond b 1 0) ((decided_is (touching s ns m p)).1 t.1) in
-      let filled = count_filled s ns p e in_p wide m (λ h. t.0 (h ∙ free)) (λ h. fresh t.1.0 (t.1.2.1 ∙ h)) free living in
+  pub some_liberty : (m : ℕ) → m ≢ 0 → Touches s ns m p → 0 < name_at liberties (root_of m)
+  some_liberty m some t =
+      let true' : name_at liberties (root_of m) ≡ liberty_count s ns m = subst (λ x. name_at liberties (root_of x) ≡ liberty_count s ns x) t.2.1
+      (counted.liberties_true t.0 (λ z. some (sym t.2.1 ∙ z))) in
+      let one : ◌≡◌ {A = ℕ} (cond (decided (touching s ns m p)) 1 0) 1 = ap (λ b. cond b 1 0) ((decided_is (touching s ns m p)).1 t) in
+      let filled = count_filled s ns p e in_p wide m (λ h. some (h ∙ free)) (λ h. fresh t.0 (t.2.1 ∙ h)) free living in
       omega (arith, true', one, filled)
 
   -- the counts are true with the new chain
   pub counted_started : (fewer : List ℕ) (alone : ℕ) → p < length fewer → alone ≡ count_beside s (λ q. name_at (set ns p e) q == 0) p
-      → ((i : ℕ) → i < length near → name_at fewer (root_of (name_at near i)) + 1 ≡ name_at liberties (root_of (name_at near i)))
-      → ((r : ℕ) → ((i : ℕ) → i < length near → root_of (name_at near i) ≢ r) → name_at fewer r ≡ name_at liberties r)
+      → ((m : ℕ) → m ≢ 0 → Touches s ns m p → name_at fewer (root_of m) + 1 ≡ name_at liberties (root_of m))
+      → ((r : ℕ) → ((m : ℕ) → m ≢ 0 → Touches s ns m p → root_of m ≢ r) → name_at fewer r ≡ name_at liberties r)
       → AreCounted s (set ns p e) (set stones p 1) (set fewer p alone)
   counted_started fewer alone also is_alone less same = record {
     rooted = λ q some. elim (cases_eq q p) [
@@ -116,13 +186,11 @@ module _ (s : Size) (ns stones liberties : List ℕ) (p e : ℕ) (in_p : p < poi
           elim (cases_Bool (decided (touching s ns m p))) [
             | inl on ↦
                 let one : ◌≡◌ {A = ℕ} (cond (decided (touching s ns m p)) 1 0) 1 = ap (λ b. cond b 1 0) on in
-                let has = (all m).1 (was, was, (decided_is (touching s ns m p)).0 on) in
-                let is : name_at near has.0 ≡ m = get_or_default near has.0 0 m has.1 ∙ has.2 in
-                let h = subst (λ x. name_at fewer (root_of x) + 1 ≡ name_at liberties (root_of x)) is (less has.0 has.1) in
+                let h = less m was ((decided_is (touching s ns m p)).0 on) in
                 omega (arith, one, filled, true', h)
             | inr off ↦
                 let none : ◌≡◌ {A = ℕ} (cond (decided (touching s ns m p)) 1 0) 0 = ap (λ b. cond b 1 0) off in
-                let h = same (root_of m) (away s ns near p (all_rooted s ns near p counted.rooted) only_near m (counted.rooted q was)
-                (λ t. false≢true (sym off ∙ (decided_is (touching s ns m p)).1 t))) in
+                let h = same (root_of m) (λ k some t. roots_apart ns k m (touch_rooted s ns p counted.rooted k t some) (counted.rooted q was)
+                (λ e. false≢true (sym off ∙ (decided_is (touching s ns m p)).1 (subst (λ x. Touches s ns x p) e t)))) in
                 omega (arith, none, filled, true', h)
           ]

@@ -109,6 +109,10 @@ pub record IsChainBoard (b : ChainBoard) : Type 0 where
 abbrev pub IsOneName : ℕ → ℕ → ℕ → ℕ → ℕ → Type 0
 IsOneName a b c d m = (a ≡ m) ⊎ (b ≡ m) ⊎ (c ≡ m) ⊎ (d ≡ m)
 
+-- m is the name of a chain, as u isn't, and none of three others
+abbrev pub IsFirst : ℕ → ℕ → ℕ → ℕ → ℕ → Type 0
+IsFirst u m a b c = (m ≢ 0) × (m ≢ u) × (m ≢ a) × (m ≢ b) × (m ≢ c)
+
 -- names of different roots
 abbrev pub AreRootsApart : List ℕ → Type 0
 AreRootsApart xs = (i j : ℕ) → i < j → j < length xs → root_of (name_at xs i) ≢ root_of (name_at xs j)

@@ -2,14 +2,47 @@
 
 ghost use Rattle.std.specs.Prelude.{◌≡◌, ◌≢◌, ℕ, ◌+◌, ◌<◌, ◌≤◌, ◌⊎◌, length, map, slice_set, Some, None};
 ghost use Rattle.tt_sgf.specs.Sizes.{point_count};
+ghost use Rattle.tt_board.specs.declared.quiet.TheConstants.{NOWHERE};
 ghost use Rattle.tt_board.specs.Near.{IsNeighbour};
 ghost use Rattle.tt_board.specs.Position.{Colouring};
 ghost use Rattle.tt_board.specs.Reach.{entry_at};
-ghost use Rattle.tt_board.specs.Chains.{name_at, root_of, renamed, liberty_count, stone_count, AreCounted, AreNames, AreNamesBut, IsJoinedAt};
+ghost use Rattle.tt_board.specs.Chains.{name_at, root_of, renamed, liberty_count, stone_count, AreCounted, AreNames, AreNamesBut, IsOneName, IsFirst, IsJoinedAt};
 
-use super::names::{chains_beside, empty_beside, new_liberties, root_of, take_liberty};
+use super::names::{empty_beside, new_liberties, root_of};
 use super::near::beside;
+use super::quiet::{NOWHERE, Names, names_beside};
 use tt_sgf::Size;
+
+/// Takes a liberty from the chain of this name, if it is one and not one of three others.
+#[inline]
+fn take_from(liberties: &mut [u16], name: u16, one: u16, two: u16, three: u16)
+    requires in_range { root_of name < length liberties.old }
+    requires some { IsFirst NOWHERE name one two three → 0 < name_at liberties.old (root_of name) }
+    ensures fewer { IsFirst NOWHERE name one two three → name_at liberties.new (root_of name) + 1 ≡ name_at liberties.old (root_of name) }
+    ensures same { (r : ℕ) → (IsFirst NOWHERE name one two three → root_of name ≢ r) → name_at liberties.new r ≡ name_at liberties.old r }
+{
+    if name != 0 && name != NOWHERE && name != one && name != two && name != three {
+        liberties[root_of(name)] -= 1;
+    }
+}
+
+/// Takes a liberty from each chain of which one of these names is.
+#[inline]
+fn take_beside(liberties: &mut [u16], near: Names)
+    requires in_range { (m : ℕ) → IsOneName near.above near.left near.right near.below m → root_of m < length liberties.old }
+    requires apart { (m k : ℕ) → IsOneName near.above near.left near.right near.below m → IsOneName near.above near.left near.right near.below k
+        → m ≢ 0 → m ≢ NOWHERE → k ≢ 0 → k ≢ NOWHERE → m ≢ k → root_of m ≢ root_of k }
+    requires some { (m : ℕ) → IsOneName near.above near.left near.right near.below m → m ≢ 0 → m ≢ NOWHERE → 0 < name_at liberties.old (root_of m) }
+    ensures fewer { (m : ℕ) → IsOneName near.above near.left near.right near.below m → m ≢ 0 → m ≢ NOWHERE
+        → name_at liberties.new (root_of m) + 1 ≡ name_at liberties.old (root_of m) }
+    ensures same { (r : ℕ) → ((m : ℕ) → IsOneName near.above near.left near.right near.below m → m ≢ 0 → m ≢ NOWHERE → root_of m ≢ r)
+        → name_at liberties.new r ≡ name_at liberties.old r }
+{
+    take_from(liberties, near.above, 0, 0, 0);
+    take_from(liberties, near.left, near.above, 0, 0);
+    take_from(liberties, near.right, near.above, near.left, 0);
+    take_from(liberties, near.below, near.above, near.left, near.right);
+}
 
 /// Puts a stone on the empty place `p` as a chain of its own, which takes a liberty from each chain beside it.
 pub(crate) fn start(
@@ -23,13 +56,13 @@ pub(crate) fn start(
     requires wide { (length names.old ≡ 361) × (length stones.old ≡ 361) × (length liberties.old ≡ 361) }
     requires on_board { p < point_count size }
     requires free { name_at names.old p ≡ 0 }
+    requires coloured { (q : ℕ) → name_at names.old q ≢ NOWHERE }
     requires named { (name ≢ 0) × (root_of name ≡ p) }
     requires counted { AreCounted size names.old stones.old liberties.old }
     ensures put { names.new ≡ slice_set names.old p name }
     ensures still_counted { AreCounted size names.new stones.new liberties.new }
 {
-    let near = chains_beside(size, names, p, 0);
-    take_liberty(liberties, near.as_slice());
+    take_beside(liberties, names_beside(size, names, p));
     names[p] = name;
     stones[p] = 1;
     liberties[p] = empty_beside(size, names, p);

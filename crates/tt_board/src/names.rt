@@ -136,17 +136,3 @@ pub(crate) fn give_liberty(liberties: &mut [u16], near: &[u16])
         liberties[root_of(*name)] += 1;
     }
 }
-
-/// Takes a liberty from each of these chains.
-pub(crate) fn take_liberty(liberties: &mut [u16], near: &[u16])
-    requires in_range { (i : ℕ) → i < length near.now → root_of (name_at near.now i) < length liberties.old }
-    requires apart { AreRootsApart near.now }
-    requires some { (i : ℕ) → i < length near.now → 0 < name_at liberties.old (root_of (name_at near.now i)) }
-    ensures fewer { (i : ℕ) → i < length near.now
-        → name_at liberties.new (root_of (name_at near.now i)) + 1 ≡ name_at liberties.old (root_of (name_at near.now i)) }
-    ensures same { (r : ℕ) → ((i : ℕ) → i < length near.now → root_of (name_at near.now i) ≢ r) → name_at liberties.new r ≡ name_at liberties.old r }
-{
-    for name in near {
-        liberties[root_of(*name)] -= 1;
-    }
-}

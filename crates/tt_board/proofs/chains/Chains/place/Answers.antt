@@ -6,7 +6,11 @@ use Rattle.tt_board.specs.Play.{IsAlive}
 use Rattle.tt_board.specs.Chains.{ChainBoard, AreNames, AreNamesBut}
 use Rattle.tt_sgf.specs.SizeLaws.{few_points}
 use Rattle.tt_board.proofs.PlacedLemmas.{but_placed}
+use Rattle.tt_board.proofs.QuietLemmas.{never_nowhere}
 use Rattle.tt_board.proofs.chains.Chains.place.Goals as goal
+
+pub start-requires-clause-coloured : goal.start-requires-clause-coloured
+start-requires-clause-coloured c = λ q. never_nowhere _ _ (c.self.invariant.named.named q)
 
 pub invariant_of-self : goal.invariant_of-self
 invariant_of-self c =
