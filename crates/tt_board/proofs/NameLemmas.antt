@@ -1,10 +1,9 @@
 -- Names of chains as they change place by place, and what that does to the counts.
-use Rattle.std.proofs.Common.{◌≡◌, ◌≢◌, ℕ, ◌+◌, ◌<◌, ◌≤◌, ◌⊎◌, ◌↔◌, ◌&&◌, List, [], ◌∷◌, Option, Some, None, Bool, true, false, not, cond, count_by, eqb, get_or, set, length, Contains, ◌++◌}
+use Rattle.std.proofs.Common.{◌≡◌, ◌≢◌, ℕ, ◌+◌, ◌<◌, ◌≤◌, ◌⊎◌, ◌↔◌, ◌&&◌, List, [], Option, Some, None, Bool, true, false, not, cond, count_by, eqb, set, length}
 use Rattle.std.proofs.Common.{inl, inr, sym, ap, subst, ◌∙◌, arith}
 use Rattle.std.specs.List.{range_with_len}
 use Rattle.std.proofs.lemmas.Bool.{false≢true, cases_eq, cases_Bool, and_from, and_left, and_right, eq-eqb, ne_eqb}
-use Rattle.std.proofs.lemmas.List.{get_or-set_same, get_or-set_other, length_push}
-use Rattle.std.proofs.lemmas.List.Elements.{Contains-push, Contains-append_left, Contains-push_cases}
+use Rattle.std.proofs.lemmas.List.{get_or-set_same, get_or-set_other}
 use Rattle.std.proofs.lemmas.List.FromFn.{length-range_with_len}
 use Rattle.std.proofs.lemmas.List.Sums.{count_by-le-length, sum_by-cons}
 use Rattle.tt_sgf.specs.declared.size.Size.{Size}
@@ -12,7 +11,7 @@ use Rattle.tt_sgf.specs.Sizes.{point_count}
 use Rattle.tt_board.specs.Near.{IsNeighbour, IsOneOf, ahead, places_there}
 use Rattle.tt_board.specs.Decided.{neighbour, decided, decided_is, decided_not}
 use Rattle.tt_board.specs.Chains.{name_at, Touches, touching, is_liberty, liberty_count, IsEachOnce, is_new, passing, count_beside}
-use Rattle.tt_board.proofs.CountLemmas.{same_decided, count_change, count_same, count_both, count_within, in_list, once_push}
+use Rattle.tt_board.proofs.CountLemmas.{same_decided, count_change, count_same, count_both, count_within, in_list}
 use Rattle.tt_board.proofs.LiftLemmas.{near_back}
 use Rattle.tt_board.proofs.NearLemmas.{in_places}
 
@@ -38,46 +37,6 @@ beside_counted s f p a b c d all once =
     ∙ sym (count_same (λ q. f q && decided (in_list items q)) (λ q. f q && decided (neighbour s p q)) (point_count s)
     (λ k below. ap (λ b. f k && b) (same_decided (in_list items k) (neighbour s p k)
     (λ has. (all k).0 ((in_places a b c d k).0 has)) (λ near. (in_places a b c d k).1 ((all k).1 near)))))
-
--- the different names found so far beside p
-pub record Found (s : Size) (ns : List ℕ) (p but : ℕ) (near : List ℕ) (i : ℕ) (found : List ℕ) : Type 0 where
-  pub room : length found ≤ i
-  pub only : (m : ℕ) → Contains found m → (m ≢ 0) × (m ≢ but) × Touches s ns m p
-  pub all : (k : ℕ) → k < i → name_at ns (get_or near k 0) ≢ 0 → name_at ns (get_or near k 0) ≢ but → Contains found (name_at ns (get_or near k 0))
-  pub once : IsEachOnce found
-
--- one more name, which is new
-pub found_more : (s : Size) (ns : List ℕ) (p but : ℕ) (near : List ℕ) (i : ℕ) (found : List ℕ) → Found s ns p but near i found
-    → IsNeighbour s p (get_or near i 0) → name_at ns (get_or near i 0) ≢ 0 → name_at ns (get_or near i 0) ≢ but → (Contains found (name_at ns (get_or near i 0)) → ⊥)
-    → Found s ns p but near (i + 1) (found ++ name_at ns (get_or near i 0) ∷ [])
-found_more s ns p but near i found f next stone other fresh =
-    let q = get_or near i 0 in
-    record {
-      room = omega (arith, length_push found (name_at ns q), f.room);
-      only = λ m has. elim (Contains-push_cases found (name_at ns q) m has) [
-        | inl old ↦ f.only m old
-        | inr new ↦ ((λ e. stone (new ∙ e)), (λ e. other (new ∙ e)), (q, next.0, (next, new)))
-      ];
-      all = λ k below st oth. elim (cases_eq k i) [
-        | inl same ↦ subst (λ x. Contains (found ++ name_at ns q ∷ []) (name_at ns (get_or near x 0))) (sym same) (Contains-push found (name_at ns q))
-        | inr apart ↦ Contains-append_left found (name_at ns q ∷ []) (name_at ns (get_or near k 0)) (f.all k (omega arith) st oth)
-      ];
-      once = once_push found (name_at ns q) f.once fresh;
-    }
-
--- one more place, with no name or one that is found already
-pub found_same : (s : Size) (ns : List ℕ) (p but : ℕ) (near : List ℕ) (i : ℕ) (found : List ℕ) → Found s ns p but near i found
-    → (name_at ns (get_or near i 0) ≢ 0 → name_at ns (get_or near i 0) ≢ but → Contains found (name_at ns (get_or near i 0))) → Found s ns p but near (i + 1) found
-found_same s ns p but near i found f here = record {
-  room = omega (arith, f.room);
-  only = f.only;
-  all = λ k below st oth. elim (cases_eq k i) [
-    | inl same ↦ subst (λ x. Contains found (name_at ns (get_or near x 0))) (sym same)
-        (here (subst (λ x. name_at ns (get_or near x 0) ≢ 0) same st) (subst (λ x. name_at ns (get_or near x 0) ≢ but) same oth))
-    | inr apart ↦ f.all k (omega arith) st oth
-  ];
-  once = f.once;
-}
 
 -- a count of liberties is no more than the board has points
 pub liberty_count_le : (s : Size) (ns : List ℕ) (m : ℕ) → liberty_count s ns m ≤ point_count s

@@ -1,10 +1,10 @@
 //! The names of chains on the places of a board: which chains are beside a point, and what a stone there brings them.
 
-ghost use Rattle.std.specs.Prelude.{◌≡◌, ◌≢◌, ℕ, ◌+◌, ◌<◌, ◌≤◌, ◌↔◌, ◌==◌, length, Contains, IsTrue, Some};
+ghost use Rattle.std.specs.Prelude.{◌≡◌, ◌≢◌, ℕ, ◌+◌, ◌<◌, ◌≤◌, ◌⊎◌, ◌↔◌, ◌==◌, length, Contains, IsTrue, Some};
 ghost use Rattle.tt_sgf.specs.Sizes.{point_count};
 ghost use Rattle.tt_board.specs.Chains.{name_at, root_of, Touches, IsEachOnce, AreRootsApart, is_new, passing, count_beside};
 
-use super::near::{beside, neighbours};
+use super::near::beside;
 use arrayvec::ArrayVec;
 use tt_sgf::Size;
 
@@ -105,6 +105,25 @@ pub(crate) fn empty_beside(size: Size, names: &[u16], p: usize) -> u16
         + empty_there(names, near.below)
 }
 
+/// Adds the chain on a place to those found, if there is one that is not among them, and but one.
+#[inline]
+fn push_there(found: &mut ArrayVec<u16, 4>, names: &[u16], place: Option<usize>, but: u16)
+    requires inside { (q : ℕ) → place ≡ Some q → q < length names.now }
+    requires room { length found.old.items < 4 }
+    requires once { IsEachOnce found.old.items }
+    ensures few { length found.new.items ≤ length found.old.items + 1 }
+    ensures still_once { IsEachOnce found.new.items }
+    ensures added { (m : ℕ) → Contains found.new.items m
+        ↔ (Contains found.old.items m ⊎ ((m ≢ 0) × (m ≢ but) × ((q : ℕ) × (place ≡ Some q) × (name_at names.now q ≡ m)))) }
+{
+    if let Some(q) = place {
+        let name = names[q];
+        if name != 0 && name != but && !found.as_slice().contains(&name) {
+            found.push(name);
+        }
+    }
+}
+
 /// The different chains beside `p`, but one.
 pub(crate) fn chains_beside(size: Size, names: &[u16], p: usize, but: u16) -> ArrayVec<u16, 4>
     requires wide { point_count size ≤ length names.now }
@@ -112,14 +131,12 @@ pub(crate) fn chains_beside(size: Size, names: &[u16], p: usize, but: u16) -> Ar
     ensures beside { (m : ℕ) → Contains result.items m ↔ ((m ≢ 0) × (m ≢ but) × Touches size names.now m p) }
     ensures once { IsEachOnce result.items }
 {
+    let near = beside(size, p);
     let mut found = ArrayVec::new();
-    let near = neighbours(size, p);
-    for q in near.as_slice() {
-        let name = names[*q];
-        if name != 0 && name != but && !found.as_slice().contains(&name) {
-            found.push(name);
-        }
-    }
+    push_there(&mut found, names, near.above, but);
+    push_there(&mut found, names, near.left, but);
+    push_there(&mut found, names, near.right, but);
+    push_there(&mut found, names, near.below, but);
     found
 }
 

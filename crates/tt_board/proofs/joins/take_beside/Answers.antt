@@ -26,8 +26,10 @@ take_from-requires-4-clause-some c = λ f.
 
 pub returns-clause-fewer : goal.returns-clause-fewer
 returns-clause-fewer c =
-    each_fewer _ _ _ _ _ _ _ _ _ _ c.requires.apart c.take_from.ensures.fewer c.take_from.ensures.same c.take_from-2.ensures.fewer c.take_from-2.ensures.same c.take_from-3.ensures.fewer c.take_from-3.ensures.same c.take_from-4.ensures.fewer c.take_from-4.ensures.same
+    each_fewer _ _ _ _ _ _ _ _ _ _ c.requires.apart c.take_from.ensures.fewer c.take_from.ensures.same c.take_from-2.ensures.fewer c.take_from-2.ensures.same
+    c.take_from-3.ensures.fewer c.take_from-3.ensures.same c.take_from-4.ensures.fewer c.take_from-4.ensures.same
 
 pub returns-clause-same : goal.returns-clause-same
 returns-clause-same c =
-    others_same _ _ _ _ _ _ _ _ _ _ c.requires.apart c.take_from.ensures.fewer c.take_from.ensures.same c.take_from-2.ensures.fewer c.take_from-2.ensures.same c.take_from-3.ensures.fewer c.take_from-3.ensures.same c.take_from-4.ensures.fewer c.take_from-4.ensures.same
+    others_same _ _ _ _ _ _ _ _ _ _ c.requires.apart c.take_from.ensures.fewer c.take_from.ensures.same c.take_from-2.ensures.fewer c.take_from-2.ensures.same
+    c.take_from-3.ensures.fewer c.take_from-3.ensures.same c.take_from-4.ensures.fewer c.take_from-4.ensures.same
