@@ -10,7 +10,7 @@ use Rattle.tt_sgf.specs.declared.size.Size.{Size}
 use Rattle.tt_sgf.specs.Sizes.{point_count}
 use Rattle.tt_board.specs.Near.{IsNeighbour, IsOneOf, ahead, places_there}
 use Rattle.tt_board.specs.Decided.{neighbour, decided, decided_is, decided_not}
-use Rattle.tt_board.specs.Chains.{name_at, Touches, touching, is_liberty, liberty_count, IsEachOnce, is_new, passing, count_beside}
+use Rattle.tt_board.specs.Chains.{name_at, Touches, touching, is_liberty, liberty_count, IsEachOnce, is_new, count_there, count_beside}
 use Rattle.tt_board.proofs.CountLemmas.{same_decided, count_change, count_same, count_both, count_within, in_list}
 use Rattle.tt_board.proofs.LiftLemmas.{near_back}
 use Rattle.tt_board.proofs.NearLemmas.{in_places}
@@ -20,17 +20,17 @@ pub touch_at : (s : Size) (ns : List ℕ) (p m q : ℕ) → IsNeighbour s p q �
 touch_at s ns p m q near is = (q, near.0, (near, is))
 
 -- a count over a list with a place at its head
-count_ahead : (f : ℕ → Bool) (place : Option ℕ) (rest : List ℕ) → count_by f (ahead place rest) ≡ passing f place + count_by f rest
+count_ahead : (f : ℕ → Bool) (place : Option ℕ) (rest : List ℕ) → count_by f (ahead place rest) ≡ count_there f place + count_by f rest
 count_ahead f None rest = omega arith
 count_ahead f (Some q) rest = sum_by-cons (λ k. cond (f k) 1 0) q rest
 
 -- the places that pass a test are the points beside p that do
 pub beside_counted : (s : Size) (f : ℕ → Bool) (p : ℕ) (a b c d : Option ℕ) → ((q : ℕ) → IsOneOf a b c d q ↔ IsNeighbour s p q) → IsEachOnce (places_there a b c d)
-    → passing f a + passing f b + passing f c + passing f d ≡ count_beside s f p
+    → count_there f a + count_there f b + count_there f c + count_there f d ≡ count_beside s f p
 unfolding count_beside
 beside_counted s f p a b c d all once =
     let items = places_there a b c d in
-    let sum : passing f a + passing f b + passing f c + passing f d ≡ count_by f items
+    let sum : count_there f a + count_there f b + count_there f c + count_there f d ≡ count_by f items
     = omega (arith, count_ahead f a (ahead b (ahead c (ahead d []))), count_ahead f b (ahead c (ahead d [])), count_ahead f c (ahead d []), count_ahead f d []) in
     sum
     ∙ sym (count_within f (point_count s) items once (λ q has. ((all q).0 ((in_places a b c d q).0 has)).0))

@@ -5,7 +5,7 @@ use Rattle.std.proofs.lemmas.List.{get_or-set_same, get_or-set_other}
 use Rattle.std.proofs.lemmas.List.Elements.{Contains-get_or}
 use Rattle.tt_sgf.specs.declared.size.Size.{Size}
 use Rattle.tt_sgf.specs.Sizes.{point_count}
-use Rattle.tt_board.specs.Chains.{name_at, root_of, Touches, touching, liberty_count, stone_count, count_beside, AreCounted, IsEachOnce, IsOneName, IsFirst, AreRootsApart}
+use Rattle.tt_board.specs.Chains.{name_at, root_of, Touches, touching, liberty_count, stone_count, count_beside, AreCounted, IsEachOnce, IsOneName, IsNewName, AreRootsApart}
 use Rattle.tt_board.specs.Decided.{decided, decided_is}
 use Rattle.tt_board.proofs.NameLemmas.{count_filled, count_alone, at_p, off_p}
 use Rattle.tt_board.proofs.JoinLemmas.{roots_apart, root_below, stones_none, stones_more, stones_same}
@@ -47,12 +47,12 @@ all_rooted s ns near p rooted m t some has = touch_rooted s ns p rooted m t some
 -- names that are taken from one after another, each that none before it is: each chain among them is once
 module _ (a b c d u : ℕ) (l0 l1 l2 l3 l4 : List ℕ)
     (apart : (m k : ℕ) → IsOneName a b c d m → IsOneName a b c d k → m ≢ 0 → m ≢ u → k ≢ 0 → k ≢ u → m ≢ k → root_of m ≢ root_of k)
-    (less1 : IsFirst u a 0 0 0 → name_at l1 (root_of a) + 1 ≡ name_at l0 (root_of a)) (same1 : (r : ℕ) → (IsFirst u a 0 0 0 → root_of a ≢ r) → name_at l1 r ≡ name_at l0 r)
-    (less2 : IsFirst u b a 0 0 → name_at l2 (root_of b) + 1 ≡ name_at l1 (root_of b)) (same2 : (r : ℕ) → (IsFirst u b a 0 0 → root_of b ≢ r) → name_at l2 r ≡ name_at l1 r)
-    (less3 : IsFirst u c a b 0 → name_at l3 (root_of c) + 1 ≡ name_at l2 (root_of c)) (same3 : (r : ℕ) → (IsFirst u c a b 0 → root_of c ≢ r) → name_at l3 r ≡ name_at l2 r)
-    (less4 : IsFirst u d a b c → name_at l4 (root_of d) + 1 ≡ name_at l3 (root_of d)) (same4 : (r : ℕ) → (IsFirst u d a b c → root_of d ≢ r) → name_at l4 r ≡ name_at l3 r) where
+    (less1 : IsNewName u a 0 0 0 → name_at l1 (root_of a) + 1 ≡ name_at l0 (root_of a)) (same1 : (r : ℕ) → (IsNewName u a 0 0 0 → root_of a ≢ r) → name_at l1 r ≡ name_at l0 r)
+    (less2 : IsNewName u b a 0 0 → name_at l2 (root_of b) + 1 ≡ name_at l1 (root_of b)) (same2 : (r : ℕ) → (IsNewName u b a 0 0 → root_of b ≢ r) → name_at l2 r ≡ name_at l1 r)
+    (less3 : IsNewName u c a b 0 → name_at l3 (root_of c) + 1 ≡ name_at l2 (root_of c)) (same3 : (r : ℕ) → (IsNewName u c a b 0 → root_of c ≢ r) → name_at l3 r ≡ name_at l2 r)
+    (less4 : IsNewName u d a b c → name_at l4 (root_of d) + 1 ≡ name_at l3 (root_of d)) (same4 : (r : ℕ) → (IsNewName u d a b c → root_of d ≢ r) → name_at l4 r ≡ name_at l3 r) where
   -- another name, or one that stands before, leaves m's count
-  leaves : (m x e f g : ℕ) → IsOneName a b c d m → IsOneName a b c d x → m ≢ 0 → m ≢ u → (x ≡ m → (e ≡ m) ⊎ (f ≡ m) ⊎ (g ≡ m)) → IsFirst u x e f g → root_of x ≢ root_of m
+  leaves : (m x e f g : ℕ) → IsOneName a b c d m → IsOneName a b c d x → m ≢ 0 → m ≢ u → (x ≡ m → (e ≡ m) ⊎ (f ≡ m) ⊎ (g ≡ m)) → IsNewName u x e f g → root_of x ≢ root_of m
   leaves m x e f g one_m one_x some there before (living, placed, not_e, not_f, not_g) = elim (cases_eq x m) [
     | inr away ↦ apart x m one_x one_m living placed some there away
     | inl is ↦ elim (before is) [
@@ -72,7 +72,7 @@ module _ (a b c d u : ℕ) (l0 l1 l2 l3 l4 : List ℕ)
       elim (cases_eq a m) [
         | inl at ↦
             let e1 : name_at l1 (root_of m) + 1 ≡ name_at l0 (root_of m)
-            = subst (λ x. IsFirst u x 0 0 0 → name_at l1 (root_of x) + 1 ≡ name_at l0 (root_of x)) at less1 (some, there, some, some, some) in
+            = subst (λ x. IsNewName u x 0 0 0 → name_at l1 (root_of x) + 1 ≡ name_at l0 (root_of x)) at less1 (some, there, some, some, some) in
             let e2 = same2 (root_of m) (leaves m b a 0 0 one in_b some there (λ _. inl at)) in
             let e3 = same3 (root_of m) (leaves m c a b 0 one in_c some there (λ _. inl at)) in
             let e4 = same4 (root_of m) (leaves m d a b c one in_d some there (λ _. inl at)) in
@@ -82,7 +82,7 @@ module _ (a b c d u : ℕ) (l0 l1 l2 l3 l4 : List ℕ)
             elim (cases_eq b m) [
               | inl at ↦
                   let e2 : name_at l2 (root_of m) + 1 ≡ name_at l1 (root_of m)
-                  = subst (λ x. IsFirst u x a 0 0 → name_at l2 (root_of x) + 1 ≡ name_at l1 (root_of x)) at less2 (some, there, (λ e. not_a (sym e)), some, some) in
+                  = subst (λ x. IsNewName u x a 0 0 → name_at l2 (root_of x) + 1 ≡ name_at l1 (root_of x)) at less2 (some, there, (λ e. not_a (sym e)), some, some) in
                   let e3 = same3 (root_of m) (leaves m c a b 0 one in_c some there (λ _. inr (inl at))) in
                   let e4 = same4 (root_of m) (leaves m d a b c one in_d some there (λ _. inr (inl at))) in
                   omega (arith, e1, e2, e3, e4)
@@ -91,7 +91,7 @@ module _ (a b c d u : ℕ) (l0 l1 l2 l3 l4 : List ℕ)
                   elim (cases_eq c m) [
                     | inl at ↦
                         let e3 : name_at l3 (root_of m) + 1 ≡ name_at l2 (root_of m)
-                        = subst (λ x. IsFirst u x a b 0 → name_at l3 (root_of x) + 1 ≡ name_at l2 (root_of x)) at less3 (some, there, (λ e. not_a (sym e)), (λ e. not_b (sym e)), some) in
+                        = subst (λ x. IsNewName u x a b 0 → name_at l3 (root_of x) + 1 ≡ name_at l2 (root_of x)) at less3 (some, there, (λ e. not_a (sym e)), (λ e. not_b (sym e)), some) in
                         let e4 = same4 (root_of m) (leaves m d a b c one in_d some there (λ _. inr (inr at))) in
                         omega (arith, e1, e2, e3, e4)
                     | inr not_c ↦
@@ -103,7 +103,7 @@ module _ (a b c d u : ℕ) (l0 l1 l2 l3 l4 : List ℕ)
                           | inr (inr (inr is)) ↦ is
                         ] in
                         let e4 : name_at l4 (root_of m) + 1 ≡ name_at l3 (root_of m)
-                        = subst (λ x. IsFirst u x a b c → name_at l4 (root_of x) + 1 ≡ name_at l3 (root_of x)) at less4
+                        = subst (λ x. IsNewName u x a b c → name_at l4 (root_of x) + 1 ≡ name_at l3 (root_of x)) at less4
                         (some, there, (λ e. not_a (sym e)), (λ e. not_b (sym e)), (λ e. not_c (sym e))) in
                         omega (arith, e1, e2, e3, e4)
                   ]

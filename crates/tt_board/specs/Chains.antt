@@ -110,8 +110,8 @@ abbrev pub IsOneName : ℕ → ℕ → ℕ → ℕ → ℕ → Type 0
 IsOneName a b c d m = (a ≡ m) ⊎ (b ≡ m) ⊎ (c ≡ m) ⊎ (d ≡ m)
 
 -- m is the name of a chain, as u isn't, and none of three others
-abbrev pub IsFirst : ℕ → ℕ → ℕ → ℕ → ℕ → Type 0
-IsFirst u m a b c = (m ≢ 0) × (m ≢ u) × (m ≢ a) × (m ≢ b) × (m ≢ c)
+abbrev pub IsNewName : ℕ → ℕ → ℕ → ℕ → ℕ → Type 0
+IsNewName u m a b c = (m ≢ 0) × (m ≢ u) × (m ≢ a) × (m ≢ b) × (m ≢ c)
 
 -- names of different roots
 abbrev pub AreRootsApart : List ℕ → Type 0
@@ -130,9 +130,9 @@ unfoldable pub count_beside : Size → (ℕ → Bool) → ℕ → ℕ
 count_beside s test p = count_by (λ q. test q && decided (neighbour s p q)) (range_with_len 0 (point_count s))
 
 -- 1 for a place that is there and passes a test, 0 for another one or none
-abbrev pub passing : (ℕ → Bool) → Option ℕ → ℕ
-passing test None = 0
-passing test (Some q) = if test q then 1 else 0
+abbrev pub count_there : (ℕ → Bool) → Option ℕ → ℕ
+count_there test None = 0
+count_there test (Some q) = if test q then 1 else 0
 
 -- each chain but one has its root
 abbrev pub IsRootedBut : List ℕ → ℕ → Type 0

@@ -6,7 +6,7 @@ ghost use Rattle.tt_board.specs.declared.quiet.TheConstants.{NOWHERE};
 ghost use Rattle.tt_board.specs.Near.{IsNeighbour};
 ghost use Rattle.tt_board.specs.Position.{Colouring};
 ghost use Rattle.tt_board.specs.Reach.{entry_at};
-ghost use Rattle.tt_board.specs.Chains.{name_at, root_of, renamed, liberty_count, stone_count, AreCounted, AreNames, AreNamesBut, IsOneName, IsFirst, IsJoinedAt};
+ghost use Rattle.tt_board.specs.Chains.{name_at, root_of, renamed, liberty_count, stone_count, AreCounted, AreNames, AreNamesBut, IsOneName, IsNewName, IsJoinedAt};
 
 use super::names::{empty_beside, new_liberties, root_of};
 use super::near::beside;
@@ -17,9 +17,9 @@ use tt_sgf::Size;
 #[inline]
 fn take_from(liberties: &mut [u16], name: u16, one: u16, two: u16, three: u16)
     requires in_range { root_of name < length liberties.old }
-    requires some { IsFirst NOWHERE name one two three → 0 < name_at liberties.old (root_of name) }
-    ensures fewer { IsFirst NOWHERE name one two three → name_at liberties.new (root_of name) + 1 ≡ name_at liberties.old (root_of name) }
-    ensures same { (r : ℕ) → (IsFirst NOWHERE name one two three → root_of name ≢ r) → name_at liberties.new r ≡ name_at liberties.old r }
+    requires some { IsNewName NOWHERE name one two three → 0 < name_at liberties.old (root_of name) }
+    ensures fewer { IsNewName NOWHERE name one two three → name_at liberties.new (root_of name) + 1 ≡ name_at liberties.old (root_of name) }
+    ensures same { (r : ℕ) → (IsNewName NOWHERE name one two three → root_of name ≢ r) → name_at liberties.new r ≡ name_at liberties.old r }
 {
     if name != 0 && name != NOWHERE && name != one && name != two && name != three {
         liberties[root_of(name)] -= 1;

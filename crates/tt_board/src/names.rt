@@ -2,7 +2,7 @@
 
 ghost use Rattle.std.specs.Prelude.{◌≡◌, ◌≢◌, ℕ, ◌+◌, ◌<◌, ◌≤◌, ◌⊎◌, ◌↔◌, ◌==◌, length, Contains, IsTrue, Some};
 ghost use Rattle.tt_sgf.specs.Sizes.{point_count};
-ghost use Rattle.tt_board.specs.Chains.{name_at, root_of, Touches, IsEachOnce, AreRootsApart, is_new, passing, count_beside};
+ghost use Rattle.tt_board.specs.Chains.{name_at, root_of, Touches, IsEachOnce, AreRootsApart, is_new, count_there, count_beside};
 
 use super::near::beside;
 use arrayvec::ArrayVec;
@@ -53,7 +53,7 @@ fn touches(size: Size, names: &[u16], name: u16, p: usize) -> bool
 fn new_there(size: Size, names: &[u16], name: u16, place: Option<usize>) -> u16
     requires wide { point_count size ≤ length names.now }
     requires on_board { (q : ℕ) → place ≡ Some q → q < point_count size }
-    ensures value { result ≡ passing (is_new size names.now name) place }
+    ensures value { result ≡ count_there (is_new size names.now name) place }
     ensures small { result ≤ 1 }
 {
     match place {
@@ -85,7 +85,7 @@ pub(crate) fn new_liberties(size: Size, names: &[u16], name: u16, p: usize) -> u
 #[inline]
 fn empty_there(names: &[u16], place: Option<usize>) -> u16
     requires { (q : ℕ) → place ≡ Some q → q < length names.now }
-    ensures value { result ≡ passing (λ q. name_at names.now q == 0) place }
+    ensures value { result ≡ count_there (λ q. name_at names.now q == 0) place }
     ensures small { result ≤ 1 }
 {
     if has_name(names, place, 0) { 1 } else { 0 }
