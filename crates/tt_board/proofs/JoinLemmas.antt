@@ -8,14 +8,15 @@ use Rattle.tt_board.specs.declared.Colour.{Colour}
 use Rattle.tt_board.specs.declared.Colour.TheVariants.{Black, White}
 use Rattle.tt_sgf.specs.declared.size.Size.{Size}
 use Rattle.tt_sgf.specs.Sizes.{point_count}
-use Rattle.tt_board.specs.Near.{IsNeighbour}
 use Rattle.tt_board.specs.Position.{Colouring}
 use Rattle.tt_board.specs.Reach.{entry_at}
-use Rattle.tt_board.specs.Chains.{AreLinked, name_at, root_of, IsNamed, touching, is_liberty, liberty_count, stone_count, renamed, AreCounted, AreNamesBut, IsJoinedAt}
+use Rattle.tt_board.specs.Chains.{AreLinked, name_at, root_of, IsNamed, touching, is_liberty, liberty_count, stone_count, renamed, AreCounted, AreNamesBut, AreGathered, Touches}
 use Rattle.tt_board.specs.Decided.{decided}
+use Rattle.tt_board.specs.declared.quiet.TheConstants.{NOWHERE}
 use Rattle.tt_board.proofs.CountLemmas.{same_decided, count_same}
 use Rattle.tt_board.proofs.LiftLemmas.{near_back}
 use Rattle.tt_board.proofs.LinkLemmas.{linked_trans, linked_sym, linked_on, linked_self, named_bare}
+use Rattle.tt_board.proofs.QuietLemmas.{never_nowhere}
 
 -- a name that changes, and one that doesn't
 pub renamed_is : (a b x : ℕ) → x ≡ a → renamed a b x ≡ b
@@ -351,15 +352,40 @@ but_united s c ns p a b x y n living_a living_b same in_x in_y is_a is_b link = 
     through z w in_z in_w zs ws = linked_trans s c z x w (n.one_chain z x in_z in_x (λ h. living_a (sym zs ∙ h)) (zs ∙ sym is_a))
         (linked_trans s c x y w link (n.one_chain y w in_y in_w (λ h. living_b (sym is_b ∙ h)) (is_b ∙ sym ws)))
 
--- what is on the place has p's name already, or is of another colour, or the board has no such place
-pub joined_same : (s : Size) (ns : List ℕ) (p : ℕ) (place : Option ℕ) → ((q : ℕ) → point_count s ≤ q → name_at ns q ≡ 0) → 512 ≤ name_at ns p
-    → ((c : Colouring) → AreNamesBut s c ns p → (q : ℕ) → place ≡ Some q → entry_at c q ≡ entry_at c p → name_at ns q ≡ name_at ns p) → IsJoinedAt s ns ns p place
-joined_same s ns p place ends stone here = record { ends = ends; stone = stone; named = λ c n. n; joined = here; kept = λ q is. is }
+-- nothing has become one with the stone on p
+pub gathered_none : (s : Size) (ns : List ℕ) (p : ℕ) → ((q : ℕ) → point_count s ≤ q → name_at ns q ≡ 0) → 512 ≤ name_at ns p → AreGathered s ns ns p
+gathered_none s ns p ends stone = record { ends = ends; stone = stone; named = λ c n. n; together = λ x y e. e; changed = λ x. inl refl }
 
--- what is on the place q takes p's name, or p takes its name
-module _ (s : Size) (ns : List ℕ) (p q a b : ℕ) (in_p : p < point_count s) (ends : (r : ℕ) → point_count s ≤ r → name_at ns r ≡ 0) (stone : 512 ≤ name_at ns p)
-    (near_p : IsNeighbour s p q) (apart : a ≢ b) (codes : name_at ns q / 512 ≡ name_at ns p / 512)
-    (which : ((a ≡ name_at ns q) × (b ≡ name_at ns p)) ⊎ ((a ≡ name_at ns p) × (b ≡ name_at ns q))) where
+-- some have, and then more
+pub gathered_more : (s : Size) (old mid new : List ℕ) (p : ℕ) → AreGathered s old mid p → AreGathered s mid new p → AreGathered s old new p
+gathered_more s old mid new p g h = record {
+  ends = h.ends;
+  stone = h.stone;
+  named = λ c n. h.named c (g.named c n);
+  together = λ x y e. h.together x y (g.together x y e);
+  changed = λ x. elim (h.changed x) [
+    | inl same ↦ elim (g.changed x) [ inl was ↦ inl (same ∙ was) | inr own ↦ inr (h.together x p own) ]
+    | inr own ↦ inr own
+  ];
+}
+
+-- a chain that still has its name is still beside p
+pub touches_still : (s : Size) (old new : List ℕ) (p m : ℕ) → AreGathered s old new p → name_at old (root_of m) ≡ m → name_at new (root_of m) ≡ m → Touches s old m p → Touches s new m p
+touches_still s old new p m g was is t = (t.0, t.1, (t.2.0, g.together t.0 (root_of m) (t.2.1 ∙ sym was) ∙ is))
+
+-- a stone of p's colour has become one with it, if the chain of its name did where that name was still there
+pub joined_still : (s : Size) (c : Colouring) (first old new : List ℕ) (p q m : ℕ) → AreGathered s first old p → AreGathered s old new p → AreNamesBut s c first p → AreNamesBut s c old p
+    → m ≡ name_at first q → name_at first (root_of m) ≡ m → entry_at c q ≡ entry_at c p
+    → (m / 512 ≡ name_at old p / 512 → name_at old (root_of m) ≡ m → name_at new (root_of m) ≡ name_at new p) → name_at new q ≡ name_at new p
+joined_still s c first old new p q m g h n0 n is was alike joined =
+    h.together q (root_of m) (g.together q (root_of m) (sym is ∙ sym was)) ∙ (elim (g.changed (root_of m)) [
+      | inl same ↦ joined (alike_codes _ _ m (name_at old p) (subst (IsNamed (entry_at c q)) (sym is) (n0.named q)) (n.named p) alike) (same ∙ was)
+      | inr own ↦ h.together (root_of m) p own
+    ])
+
+-- the chain m takes the name of that on p, or that on p takes its name
+module _ (s : Size) (ns : List ℕ) (p m a b : ℕ) (in_p : p < point_count s) (ends : (r : ℕ) → point_count s ≤ r → name_at ns r ≡ 0) (stone : 512 ≤ name_at ns p)
+    (apart : a ≢ b) (codes : m / 512 ≡ name_at ns p / 512) (which : ((a ≡ m) × (b ≡ name_at ns p)) ⊎ ((a ≡ name_at ns p) × (b ≡ m))) where
   living_a : a ≢ 0
   living_a z = elim which [ inl w ↦ omega (arith, w.0, stone, codes) | inr w ↦ omega (arith, w.0, stone) ]
 
@@ -372,37 +398,43 @@ module _ (s : Size) (ns : List ℕ) (p q a b : ℕ) (in_p : p < point_count s) (
   now_same : (r : ℕ) → name_at ns r ≢ a → name_at (map (renamed a b) ns) r ≡ name_at ns r
   now_same r away = name_renamed a b ns r living_a ∙ renamed_not a b _ away
 
-  codes_of : ((a ≡ name_at ns q) × (b ≡ name_at ns p)) → b / 512 ≡ a / 512
+  codes_of : ((a ≡ m) × (b ≡ name_at ns p)) → b / 512 ≡ a / 512
   codes_of w = ap (λ x. x / 512) w.1 ∙ sym codes ∙ ap (λ x. x / 512) (sym w.0)
 
-  codes_back : ((a ≡ name_at ns p) × (b ≡ name_at ns q)) → b / 512 ≡ a / 512
+  codes_back : ((a ≡ name_at ns p) × (b ≡ m)) → b / 512 ≡ a / 512
   codes_back w = ap (λ x. x / 512) w.1 ∙ codes ∙ ap (λ x. x / 512) (sym w.0)
 
-  alike : (c : Colouring) → AreNamesBut s c ns p → entry_at c q ≡ entry_at c p
-  alike c n = codes_alike _ _ _ _ (n.named q) (n.named p) (λ e. omega (arith, e, stone)) codes
-
-  link_q : (c : Colouring) → AreNamesBut s c ns p → AreLinked s c q p
-  link_q c n = linked_on s c q p p (near_back s p q in_p near_p) (sym (alike c n)) (linked_self s c p)
-
-  link_p : (c : Colouring) → AreNamesBut s c ns p → AreLinked s c p q
-  link_p c n = linked_on s c p q q near_p (alike c n) (linked_self s c q)
-
-  pub joined_united : (place : Option ℕ) → place ≡ Some q → IsJoinedAt s ns (map (renamed a b) ns) p place
-  joined_united place at = record {
+  -- where a stone of m is beside p they are linked, in each colouring that the names fit
+  pub gathered_united : (m ≢ NOWHERE → Touches s ns m p) → AreGathered s ns (map (renamed a b) ns) p
+  gathered_united touch = record {
     ends = λ r past. now_same r (λ e. living_a (sym e ∙ ends r past)) ∙ ends r past;
     stone = elim which [
       | inl w ↦ let h = now_same p (λ e. apart (sym e ∙ sym w.1)) in omega (arith, h, stone)
       | inr w ↦ let h = now_b p (sym w.0) in omega (arith, h, w.1, stone, codes)
     ];
-    named = λ c n. elim which [
-      | inl w ↦ but_united s c ns p a b q p n living_a living_b (codes_of w) near_p.0 in_p (sym w.0) (sym w.1) (link_q c n)
-      | inr w ↦ but_united s c ns p a b p q n living_a living_b (codes_back w) in_p near_p.0 (sym w.0) (sym w.1) (link_p c n)
+    named = λ c n.
+        let own : IsNamed (entry_at c p) m = named_code (entry_at c p) (name_at ns p) m (n.named p) (λ z. omega (arith, z, stone)) codes in
+        let t = touch (never_nowhere (entry_at c p) m own) in
+        let alike : entry_at c t.0 ≡ entry_at c p
+        = codes_alike _ _ _ _ (n.named t.0) (n.named p) (λ e. omega (arith, e, stone)) (ap (λ x. x / 512) t.2.1 ∙ codes) in
+        elim which [
+          | inl w ↦ but_united s c ns p a b t.0 p n living_a living_b (codes_of w) t.1 in_p (t.2.1 ∙ sym w.0) (sym w.1)
+              (linked_on s c t.0 p p (near_back s p t.0 in_p t.2.0) (sym alike) (linked_self s c p))
+          | inr w ↦ but_united s c ns p a b p t.0 n living_a living_b (codes_back w) in_p t.1 (sym w.0) (t.2.1 ∙ sym w.1) (linked_on s c p t.0 t.0 t.2.0 alike (linked_self s c t.0))
+        ];
+    together = λ x y e. name_renamed a b ns x living_a ∙ ap (renamed a b) e ∙ sym (name_renamed a b ns y living_a);
+    changed = λ x. elim (cases_eq (name_at ns x) a) [
+      | inr away ↦ inl (now_same x away)
+      | inl at ↦ inr (now_b x at ∙ (elim which [
+        | inl w ↦ w.1 ∙ sym (now_same p (λ e. apart (sym e ∙ sym w.1)))
+        | inr w ↦ sym (now_b p (sym w.0))
+      ]))
     ];
-    joined = λ c n r is _.
-        let same : ◌≡◌ {A = ℕ} r q = let e : Some r ≡ Some q = sym is ∙ at in cc in
-        ap (name_at (map (renamed a b) ns)) same ∙ (elim which [
-          | inl w ↦ now_b q (sym w.0) ∙ w.1 ∙ sym (now_same p (λ e. apart (sym e ∙ sym w.1)))
-          | inr w ↦ now_same q (λ e. apart (sym e ∙ sym w.1)) ∙ sym w.1 ∙ sym (now_b p (sym w.0))
-        ]);
-    kept = λ r is. name_renamed a b ns r living_a ∙ ap (renamed a b) is ∙ sym (name_renamed a b ns p living_a);
   }
+
+  -- the chain has p's name then
+  pub joined_united : name_at ns (root_of m) ≡ m → name_at (map (renamed a b) ns) (root_of m) ≡ name_at (map (renamed a b) ns) p
+  joined_united is = elim which [
+    | inl w ↦ now_b (root_of m) (is ∙ sym w.0) ∙ w.1 ∙ sym (now_same p (λ e. apart (sym e ∙ sym w.1)))
+    | inr w ↦ now_same (root_of m) (λ e. apart (sym e ∙ is ∙ sym w.1)) ∙ is ∙ sym w.1 ∙ sym (now_b p (sym w.0))
+  ]

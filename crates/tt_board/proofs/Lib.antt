@@ -1,3 +1,5 @@
+pub mod AmongLemmas
+pub mod AroundLemmas
 pub mod BoardsLemmas
 pub mod CaptureLemmas
 pub mod ChainLemmas

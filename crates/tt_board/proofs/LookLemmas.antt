@@ -54,7 +54,7 @@ near_other s p q (in_q, inl (row, step)) same = let e = ap (λ x. x % s.columns)
 near_other s p q (in_q, inr (column, step)) same = let e = ap (λ x. x / s.columns) same in elim step [ inl h ↦ omega (arith, e, h) | inr h ↦ omega (arith, e, h) ]
 
 -- a code is of one colour
-code_colour : (e : Option Colour) (n : ℕ) (k : Colour) → IsNamed e n → n / 512 ≡ colour_number k → e ≡ Some k
+pub code_colour : (e : Option Colour) (n : ℕ) (k : Colour) → IsNamed e n → n / 512 ≡ colour_number k → e ≡ Some k
 code_colour None n Black h code = absurd (omega arith)
 code_colour None n White h code = absurd (omega arith)
 code_colour (Some Black) n Black h code = refl

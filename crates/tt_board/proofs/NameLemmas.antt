@@ -8,9 +8,10 @@ use Rattle.std.proofs.lemmas.List.FromFn.{length-range_with_len}
 use Rattle.std.proofs.lemmas.List.Sums.{count_by-le-length, sum_by-cons}
 use Rattle.tt_sgf.specs.declared.size.Size.{Size}
 use Rattle.tt_sgf.specs.Sizes.{point_count}
+use Rattle.tt_board.specs.declared.quiet.Names.{Names}
 use Rattle.tt_board.specs.Near.{IsNeighbour, IsOneOf, ahead, places_there}
 use Rattle.tt_board.specs.Decided.{neighbour, decided, decided_is, decided_not}
-use Rattle.tt_board.specs.Chains.{name_at, Touches, touching, is_liberty, liberty_count, IsEachOnce, is_new, count_there, count_beside}
+use Rattle.tt_board.specs.Chains.{name_at, Touches, touching, is_liberty, liberty_count, IsEachOnce, AreNear, is_new, count_there, count_beside}
 use Rattle.tt_board.proofs.CountLemmas.{same_decided, count_change, count_same, count_both, count_within, in_list}
 use Rattle.tt_board.proofs.LiftLemmas.{near_back}
 use Rattle.tt_board.proofs.NearLemmas.{in_places}
@@ -152,3 +153,31 @@ module _ (s : Size) (ns : List ℕ) (p x : ℕ) (in_p : p < point_count s) (wide
         | inl at ↦ near_back s k p below (subst (λ y. IsNeighbour s k y) at t.2.0)
         | inr apart ↦ absurd (fresh t.0 (sym (off_p t.0 apart) ∙ t.2.1))
       ])))
+
+  -- a point isn't beside itself
+  away_from : (k : ℕ) → IsNeighbour s p k → k ≢ p
+  away_from k near same = itself (subst (λ y. IsNeighbour s p y) same near)
+    where
+      itself : IsNeighbour s p p → ⊥
+      itself (_, inl (_, inl e)) = omega (arith, e)
+      itself (_, inl (_, inr e)) = omega (arith, e)
+      itself (_, inr (_, inl e)) = omega (arith, e)
+      itself (_, inr (_, inr e)) = omega (arith, e)
+
+  -- so the names beside it stay
+  pub near_off : (near : Names) → AreNear s ns p near → AreNear s (set ns p x) p near
+  unfolding count_beside
+  near_off near n = record {
+    touching = λ m apart. (
+      λ one. let t = (n.touching m apart).0 one in (t.0, t.1, (t.2.0, off_p t.0 (away_from t.0 t.2.0) ∙ t.2.1)),
+      λ t. (n.touching m apart).1 (t.0, t.1, (t.2.0, sym (off_p t.0 (away_from t.0 t.2.0)) ∙ t.2.1)),
+    );
+    bare = n.bare
+        ∙ sym (count_same (λ q. eqb (name_at ns q) 0 && decided (neighbour s p q)) (λ q. eqb (name_at (set ns p x) q) 0 && decided (neighbour s p q)) (point_count s)
+        (λ k below. elim (cases_eq k p) [
+          | inr apart ↦ ap (λ y. eqb y 0 && decided (neighbour s p k)) (sym (off_p k apart))
+          | inl at ↦
+              let far : decided (neighbour s p k) ≡ false = decided_not (neighbour s p k) (λ near'. away_from k near' at) in
+              and_right _ _ far ∙ sym (and_right _ _ far)
+        ]));
+  }

@@ -19,7 +19,7 @@ pub data Side : ℕ → ℕ → ℕ → ℕ → Type 0 where
   below : (w h p q : ℕ) → p / w + 1 < h → q ≡ p + w → Side w h p q
 
 -- a point beside p is one of the four
-side_of : (w h p q : ℕ) → 0 < w → p < w * h → q < w * h
+pub side_of : (w h p q : ℕ) → 0 < w → p < w * h → q < w * h
     → ((p / w ≡ q / w) × IsBeside (p % w) (q % w)) ⊎ ((p % w ≡ q % w) × IsBeside (p / w) (q / w)) → Side w h p q
 side_of w h p q pos in_p in_q (inl (same, inl step)) =
     let rows = ap (λ r. r * w) same in
@@ -41,11 +41,11 @@ placed w h p q r k in_row in_rows e =
     (rw e (mul-add-lt r w k h in_rows in_row), rw e (div-mul-add r w k in_row), rw e (mod-mul-add r w k in_row))
 
 -- the row above
-row_before : (r w : ℕ) → 0 < r → (r - 1) * w + w ≡ r * w
+pub row_before : (r w : ℕ) → 0 < r → (r - 1) * w + w ≡ r * w
 row_before r w h = let m = r - 1 in let e : r ≡ m + 1 = omega arith in let f = ap (λ x. x * w) e in omega (arith, f)
 
 -- each of the four is a neighbour
-of_side : (s : Size) (p q : ℕ) → 0 < s.columns → p < point_count s → Side s.columns s.rows p q → IsNeighbour s p q
+pub of_side : (s : Size) (p q : ℕ) → 0 < s.columns → p < point_count s → Side s.columns s.rows p q → IsNeighbour s p q
 of_side s p q pos in_p (above w h _ _ up e) =
     let row = div_below p w h pos (omega arith) in
     let at = placed w h p q (p / w - 1) (p % w) (mod_below p w pos) (omega arith) (omega (arith, div-add-mod' p w, row_before (p / w) w up)) in
@@ -208,19 +208,17 @@ in_places a b c d q = (
   ],
 )
 
--- the four places are the neighbours
-module _ (s : Size) (p : ℕ) (pos : 0 < s.columns) (in_p : p < point_count s) (a l r b : Option ℕ)
-    (up : IsThere a (s.columns ≤ p) (p - s.columns)) (back : IsThere l (0 < p % s.columns) (p - 1))
-    (on : IsThere r (p % s.columns + 1 < s.columns) (p + 1)) (down : IsThere b (p + s.columns < point_count s) (p + s.columns)) where
+-- the rows beside that of a point
+module _ (s : Size) (p : ℕ) (pos : 0 < s.columns) where
   -- a point past the numbers of the first row has a row above it
-  row_above : s.columns ≤ p → 0 < p / s.columns
+  pub row_above : s.columns ≤ p → 0 < p / s.columns
   row_above le = elim (cases_eq (p / s.columns) 0) [
     | inl none ↦ let rows = ap (λ r. r * s.columns) none in absurd (omega (arith, div-add-mod' p s.columns, mod_below p s.columns pos))
     | inr some ↦ omega arith
   ]
 
   -- a point with a number of the board one row further has a row below it
-  row_below : p + s.columns < point_count s → p / s.columns + 1 < s.rows
+  pub row_below : p + s.columns < point_count s → p / s.columns + 1 < s.rows
   row_below lt =
       let e : (p / s.columns + 1) * s.columns + p % s.columns ≡ p + s.columns = omega (arith, div-add-mod' p s.columns) in
       let row = div-mul-add (p / s.columns + 1) s.columns (p % s.columns) (mod_below p s.columns pos) in
@@ -228,12 +226,16 @@ module _ (s : Size) (p : ℕ) (pos : 0 < s.columns) (in_p : p < point_count s) (
       let there = ap (λ x. x / s.columns) e in
       omega (arith, row, in_rows, there)
 
+-- the four places are the neighbours
+module _ (s : Size) (p : ℕ) (pos : 0 < s.columns) (in_p : p < point_count s) (a l r b : Option ℕ)
+    (up : IsThere a (s.columns ≤ p) (p - s.columns)) (back : IsThere l (0 < p % s.columns) (p - 1))
+    (on : IsThere r (p % s.columns + 1 < s.columns) (p + 1)) (down : IsThere b (p + s.columns < point_count s) (p + s.columns)) where
   -- each place is a side of the point
   side_at : (q : ℕ) → IsOneOf a l r b q → Side s.columns s.rows p q
-  side_at q (inl has) = let h = place_there a _ q up has in above _ _ p q (row_above h.0) h.1
+  side_at q (inl has) = let h = place_there a _ q up has in above _ _ p q (row_above s p pos h.0) h.1
   side_at q (inr (inl has)) = let h = place_there l _ q back has in left _ _ p q h.0 h.1
   side_at q (inr (inr (inl has))) = let h = place_there r _ q on has in right _ _ p q h.0 h.1
-  side_at q (inr (inr (inr has))) = let h = place_there b _ q down has in below _ _ p q (row_below h.0) h.1
+  side_at q (inr (inr (inr has))) = let h = place_there b _ q down has in below _ _ p q (row_below s p pos h.0) h.1
 
   -- each side of the point is a place
   place_of : (q : ℕ) → q < point_count s → Side s.columns s.rows p q → IsOneOf a l r b q

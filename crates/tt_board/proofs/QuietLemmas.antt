@@ -1,5 +1,5 @@
 -- The names on the four places beside a point.
-use Rattle.std.proofs.Common.{◌≡◌, ◌≢◌, ℕ, ◌/◌, ◌<◌, ◌≤◌, ◌↔◌, List, Option, Some, None, length, inl, inr, refl, sym, subst, ◌∙◌, arith}
+use Rattle.std.proofs.Common.{◌≡◌, ◌≢◌, ℕ, ◌/◌, ◌<◌, ◌≤◌, ◌↔◌, ◌==◌, List, Option, Some, None, length, inl, inr, refl, sym, ap, subst, ◌∙◌, arith}
 use Rattle.std.specs.Prelude.{MatchOption}
 use Rattle.std.proofs.lemmas.Bool.{cases_eq, cases_lt}
 use Rattle.std.proofs.lemmas.List.{get_or_past}
@@ -8,7 +8,7 @@ use Rattle.tt_board.specs.declared.Colour.{Colour}
 use Rattle.tt_board.specs.declared.Colour.TheVariants.{Black, White}
 use Rattle.tt_board.specs.declared.quiet.TheConstants.{NOWHERE}
 use Rattle.tt_board.specs.Near.{IsNeighbour, IsOneOf}
-use Rattle.tt_board.specs.Chains.{name_at, root_of, colour_number, IsNamed, Touches, IsOneName}
+use Rattle.tt_board.specs.Chains.{name_at, root_of, colour_number, IsNamed, Touches, IsOneName, bare_one, count_there}
 
 module _ (s : Size) (ns : List ℕ) (p m : ℕ) where
   -- what is on a place that is there touches p
@@ -39,6 +39,11 @@ module _ (s : Size) (ns : List ℕ) (p m : ℕ) where
       | inr (inr (inr is)) ↦ inr (inr (inr (given d z t.0 on_d is ∙ t.2.1)))
     ],
   )
+
+-- the name of a place is 0 exactly where the place is there and empty
+pub bare_place : (ns : List ℕ) (place : Option ℕ) (r : ℕ) → MatchOption place (r ≡ NOWHERE) (λ q. r ≡ name_at ns q) → bare_one r ≡ count_there (λ q. name_at ns q == 0) place
+bare_place ns None r h = ap bare_one h
+bare_place ns (Some q) r h = ap bare_one h
 
 -- a name of a colour's code is of a chain
 pub coded : (m : ℕ) (k : Colour) → m / 512 ≡ colour_number k → m ≢ NOWHERE

@@ -1,11 +1,13 @@
 -- Chains (the rules of Go): their stones and liberties, and the names by which a board finds them. Private contracts alone cite these.
-use Rattle.std.specs.Prelude.{◌≡◌, ◌≢◌, ℕ, ◌%◌, ◌/◌, ◌<◌, ◌≤◌, ◌⊎◌, ◌↔◌, ◌==◌, ◌&&◌, List, [], ◌∷◌, length, Option, Some, None, Bool, not, Contains, if◌then◌else◌, count_by, slice_index_or}
+use Rattle.std.specs.Prelude.{◌≡◌, ◌≢◌, ℕ, ◌+◌, ◌%◌, ◌/◌, ◌<◌, ◌≤◌, ◌⊎◌, ◌↔◌, ◌==◌, ◌&&◌, List, [], ◌∷◌, length, Option, Some, None, Bool, not, Contains, if◌then◌else◌, count_by, slice_index_or}
 use Rattle.std.specs.List.{range_with_len}
 use Rattle.std.proofs.lemmas.Bool.{cases_eq}
 use Rattle.tt_board.specs.declared.Colour.{Colour}
 use Rattle.tt_board.specs.declared.Colour.TheVariants.{Black, White}
 use Rattle.tt_sgf.specs.declared.size.Size.{Size}
 use Rattle.tt_sgf.specs.Sizes.{point_count}
+use Rattle.tt_board.specs.declared.quiet.Names.{Names}
+use Rattle.tt_board.specs.declared.quiet.TheConstants.{NOWHERE}
 use Rattle.tt_board.specs.Near.{IsNeighbour}
 use Rattle.tt_board.specs.Position.{Colouring}
 use Rattle.tt_board.specs.Reach.{entry_at}
@@ -134,6 +136,15 @@ abbrev pub count_there : (ℕ → Bool) → Option ℕ → ℕ
 count_there test None = 0
 count_there test (Some q) = if test q then 1 else 0
 
+-- 1 for the name of an empty place, 0 for another one
+abbrev pub bare_one : ℕ → ℕ
+bare_one m = if m == 0 then 1 else 0
+
+-- the names on the four places beside p; NOWHERE where the board has no such place
+pub record AreNear (s : Size) (ns : List ℕ) (p : ℕ) (near : Names) : Type 0 where
+  pub touching : (m : ℕ) → m ≢ NOWHERE → IsOneName near.above near.left near.right near.below m ↔ Touches s ns m p
+  pub bare : bare_one near.above + bare_one near.left + bare_one near.right + bare_one near.below ≡ count_beside s (λ q. name_at ns q == 0) p
+
 -- each chain but one has its root
 abbrev pub IsRootedBut : List ℕ → ℕ → Type 0
 IsRootedBut ns e = (p : ℕ) → name_at ns p ≢ 0 → name_at ns p ≢ e → name_at ns (root_of (name_at ns p)) ≡ name_at ns p
@@ -148,10 +159,10 @@ pub record AreNamesBut (s : Size) (c : Colouring) (ns : List ℕ) (p : ℕ) : Ty
   pub one_chain : (x y : ℕ) → x < point_count s → y < point_count s → name_at ns x ≢ 0 → name_at ns x ≡ name_at ns y → AreLinked s c x y
   pub one_name : (x y : ℕ) → x < point_count s → IsNeighbour s x y → x ≢ p → y ≢ p → entry_at c x ≢ None → entry_at c y ≡ entry_at c x → name_at ns x ≡ name_at ns y
 
--- the stone on p has become one with the chain on a place beside it, if that has its colour, and what was one with it still is
-pub record IsJoinedAt (s : Size) (old new : List ℕ) (p : ℕ) (place : Option ℕ) : Type 0 where
+-- stones have become one with that on p: those of one name still have one, and what has another name than before has p's
+pub record AreGathered (s : Size) (old new : List ℕ) (p : ℕ) : Type 0 where
   pub ends : (q : ℕ) → point_count s ≤ q → name_at new q ≡ 0
   pub stone : 512 ≤ name_at new p
   pub named : (c : Colouring) → AreNamesBut s c old p → AreNamesBut s c new p
-  pub joined : (c : Colouring) → AreNamesBut s c old p → (q : ℕ) → place ≡ Some q → entry_at c q ≡ entry_at c p → name_at new q ≡ name_at new p
-  pub kept : (q : ℕ) → name_at old q ≡ name_at old p → name_at new q ≡ name_at new p
+  pub together : (x y : ℕ) → name_at old x ≡ name_at old y → name_at new x ≡ name_at new y
+  pub changed : (x : ℕ) → (name_at new x ≡ name_at old x) ⊎ (name_at new x ≡ name_at new p)

@@ -17,3 +17,4 @@ pub mod Boards
 pub mod Chain
 pub mod Filling
 pub mod Chains
+pub mod Around

@@ -2,22 +2,24 @@
 //!
 //! A play asks these counts which chains go, and looks at no stone but those that come, join or go.
 
-ghost use Rattle.std.specs.Prelude.{◌≡◌, ◌≢◌, ℕ, ◌/◌, ◌<◌, ◌≤◌, ◌↔◌, length, map, replicate, slice_set, Contains, IsTrue, Some, None};
+ghost use Rattle.std.specs.Prelude.{◌≡◌, ◌≢◌, ℕ, ◌/◌, ◌<◌, ◌≤◌, ◌↔◌, length, map, replicate, slice_set, Contains, IsTrue, Some, None, true};
 ghost use Rattle.tt_sgf.specs.Sizes.{point_count};
+ghost use Rattle.tt_sgf.specs.Words.{bit_in};
 ghost use Rattle.tt_board.specs.Reach.{entry_at};
 ghost use Rattle.tt_board.specs.Play.{IsAlive, play_of};
 ghost use Rattle.tt_board.specs.Glance.{IsTold};
-ghost use Rattle.tt_board.specs.Chains.{name_at, root_of, colour_number, renamed, IsEachOnce, IsCountOf, IsLibertyOf, AreLinked};
+ghost use Rattle.tt_board.specs.Chains.{name_at, root_of, colour_number, renamed, IsEachOnce, IsOneName, IsCountOf, IsLibertyOf, AreLinked, AreNear};
 
 use super::Colour;
+use super::around::{around, first_column};
 use super::captures::{lift_chain, release};
 use super::colouring::Colouring;
 use super::joins::{join_beside, start};
 use super::looks::{Look, has_more, last_liberty};
-use super::names::{chains_beside, empty_beside, root_of};
-use super::quiet::{Glance, colour_number, names_beside};
+use super::names::{chains_beside, root_of};
+use super::quiet::{Glance, Names, colour_number, names_beside};
 use std::marker::Model;
-use tt_sgf::Size;
+use tt_sgf::{BITS, Bits, Size};
 
 /// A size, a colouring of its points in which each stone reaches empty, and its chains: the name of the chain on each place, 0 where
 /// it is empty, and each chain's counts of stones and of liberties at its root.
@@ -125,6 +127,19 @@ impl Chains {
         ensures size { self.new.size ≡ self.old.size }
         ensures points { self.new.points ≡ slice_set self.old.points p (Some colour) }
     {
+        let near = names_beside(self.size, &self.names, p);
+        self.put(colour, p, &near);
+    }
+
+    /// Puts a stone as `place` does, where these are the names beside `p`.
+    fn put(&mut self, colour: Colour, p: usize, near: &Names)
+        requires on_board { p < point_count self.old.size }
+        requires free { entry_at self.old.points p ≡ None }
+        requires alive { IsAlive self.old.size (slice_set self.old.points p (Some colour)) }
+        requires near { AreNear self.old.size self.old.names p near.now }
+        ensures size { self.new.size ≡ self.old.size }
+        ensures points { self.new.points ≡ slice_set self.old.points p (Some colour) }
+    {
         self.points.set(p, Some(colour));
         start(
             self.size,
@@ -133,6 +148,7 @@ impl Chains {
             &mut self.liberties,
             p,
             new_name(colour, p),
+            near,
         );
         join_beside(
             self.size,
@@ -140,6 +156,7 @@ impl Chains {
             &mut self.stones,
             &mut self.liberties,
             p,
+            near,
         );
     }
 
@@ -164,6 +181,7 @@ impl Chains {
     }
 
     /// The board of this colouring, made stone by stone.
+    #[inline(never)]
     pub(crate) fn of(size: Size, points: &Colouring) -> Chains
         requires fits { length points.now ≡ point_count size }
         requires alive { IsAlive size points.now }
@@ -182,6 +200,7 @@ impl Chains {
     /// What four names tell of a play of `colour` on the empty point `p`, where no chain of the opponent's has `p` as its one liberty.
     /// It takes no stone off where the stone has a liberty or joins a chain that has another one, and it is in vain where the opponent's
     /// stones are all that is beside `p`.
+    #[inline(always)]
     pub(crate) fn glance(&self, colour: Colour, p: usize) -> Glance
         requires on_board { p < point_count self.now.size }
         requires free { entry_at self.now.points p ≡ None }
@@ -189,6 +208,16 @@ impl Chains {
         ensures told { IsTold result self.now.size self.now.points colour p }
     {
         let near = names_beside(self.size, &self.names, p);
+        self.told(colour, &near)
+    }
+
+    /// What the names beside an empty point tell of a play of `colour` there.
+    #[inline(always)]
+    fn told(&self, colour: Colour, near: &Names) -> Glance
+        requires { (m : ℕ) → IsOneName near.now.above near.now.left near.now.right near.now.below m → root_of m < 361 }
+        ensures { (p : ℕ) → p < point_count self.now.size → entry_at self.now.points p ≡ None → AreNear self.now.size self.now.names p near.now
+            → IsTold result self.now.size self.now.points colour p }
+    {
         if near.has_last(&self.liberties, colour_number(colour.other())) {
             return Glance::Unclear;
         }
@@ -199,6 +228,37 @@ impl Chains {
             return Glance::Unclear;
         }
         Glance::Vain
+    }
+
+    /// Those of these stones whose chain has one liberty.
+    fn last_among(&self, stones: &Bits) -> Bits
+        requires { (q : ℕ) → q < BITS → bit_in stones.now.words q ≡ true → (q < point_count self.now.size) × (entry_at self.now.points q ≢ None) }
+        ensures { (q : ℕ) → q < BITS → (bit_in result.words q ≡ true) ↔ ((bit_in stones.now.words q ≡ true) × (name_at self.now.liberties (root_of (name_at self.now.names q)) ≡ 1)) }
+    {
+        let mut found = Bits::none();
+        let mut q = stones.first_from(0);
+        while q < BITS {
+            if self.liberties[root_of(self.names[q])] == 1 {
+                found.set(q);
+            }
+            q = stones.first_from(q + 1);
+        }
+        found
+    }
+
+    /// Some of these empty points on which a play of `colour` puts a stone and takes none off: those beside another of them, and
+    /// beside no stone of the opponent's whose chain has one liberty.
+    pub(crate) fn quiet_among(&self, colour: Colour, points: &Bits) -> Bits
+        requires { (q : ℕ) → q < point_count self.now.size → bit_in points.now.words q ≡ true → entry_at self.now.points q ≡ None }
+        ensures fits { length self.now.points ≡ point_count self.now.size }
+        ensures quiet { (p : ℕ) → p < BITS → bit_in result.words p ≡ true → (bit_in points.now.words p ≡ true)
+            × (play_of self.now.size self.now.points colour p ≡ slice_set self.now.points p (Some colour)) }
+    {
+        let first = first_column(self.size);
+        let points = points.below(self.size.point_count());
+        let near = around(self.size, &first, &points);
+        let last = self.last_among(&near.and(self.points.bits(colour.other())));
+        points.and(&near).minus(&around(self.size, &first, &last))
     }
 
     /// Whether a play of `colour` on the empty point `p` is known to put a stone and to take none off.
@@ -236,7 +296,7 @@ impl Chains {
                 suicide: false,
             };
         }
-        if empty_beside(self.size, &self.names, p) > 0 {
+        if names_beside(self.size, &self.names, p).empty() > 0 {
             return Look {
                 goes: weak,
                 suicide: false,
@@ -278,10 +338,10 @@ impl Chains {
         ensures size { self.new.size ≡ self.old.size }
         ensures points { self.new.points ≡ play_of self.old.size self.old.points colour p }
     {
-        if self.is_quiet(colour, p) {
-            self.place(colour, p);
-        } else {
-            self.make_taking(colour, p);
+        let near = names_beside(self.size, &self.names, p);
+        match self.told(colour, &near) {
+            Glance::Quiet => self.put(colour, p, &near),
+            Glance::Vain | Glance::Unclear => self.make_taking(colour, p),
         }
     }
 

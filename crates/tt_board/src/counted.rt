@@ -5,15 +5,17 @@
 ghost use Rattle.tt_board.specs.Reach.{entry_at};
 ghost use Rattle.tt_board.specs.Play.{play_of};
 ghost use Rattle.tt_board.specs.Glance.{IsTold};
+ghost use Rattle.tt_sgf.specs.declared.bits.TheConstants.{BITS};
 ghost use Rattle.tt_sgf.specs.Sizes.{point_count};
-ghost use Rattle.std.specs.Prelude.{◌≡◌, ◌<◌, length, slice_set, IsTrue, Some, None};
+ghost use Rattle.tt_sgf.specs.Words.{bit_in};
+ghost use Rattle.std.specs.Prelude.{◌≡◌, ℕ, ◌<◌, length, slice_set, IsTrue, Some, None, true};
 
 use super::Colour;
 use super::board::Board;
 use super::chains::Chains;
 use super::quiet::Glance;
 use std::marker::Model;
-use tt_sgf::{Point, Size};
+use tt_sgf::{BITS, Bits, Point, Size};
 
 /// A board with its chains counted. Contracts see the board that it is.
 #[derive(Drop)]
@@ -76,6 +78,7 @@ impl CountedBoard {
     }
 
     /// What is told of a play of `colour` on `p`, an empty point, by the points beside it.
+    #[inline(always)]
     pub fn glance(&self, colour: Colour, p: Point) -> Glance
         requires on_board { p < point_count self.now.size }
         requires free { entry_at self.now.points p ≡ None }
@@ -83,6 +86,16 @@ impl CountedBoard {
         ensures told { IsTold result self.now.size self.now.points colour p }
     {
         self.chains.glance(colour, usize::from(p.number()))
+    }
+
+    /// Some of these empty points on which a play of `colour` puts a stone and takes none off, by what is beside them.
+    pub fn quiet_among(&self, colour: Colour, points: &Bits) -> Bits
+        requires { (q : ℕ) → q < point_count self.now.size → bit_in points.now.words q ≡ true → entry_at self.now.points q ≡ None }
+        ensures fits { length self.now.points ≡ point_count self.now.size }
+        ensures quiet { (p : ℕ) → p < BITS → bit_in result.words p ≡ true → (bit_in points.now.words p ≡ true)
+            × (play_of self.now.size self.now.points colour p ≡ slice_set self.now.points p (Some colour)) }
+    {
+        self.chains.quiet_among(colour, points)
     }
 
     /// The board after a play of `colour` on `p`, an empty point: the stone is put, then the other colour is cleared, then

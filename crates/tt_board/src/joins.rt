@@ -1,16 +1,14 @@
 //! A stone comes: the chains of its colour beside it become one with it, their liberties counted stone by stone.
 
-ghost use Rattle.std.specs.Prelude.{◌≡◌, ◌≢◌, ℕ, ◌+◌, ◌<◌, ◌≤◌, ◌⊎◌, length, map, slice_set, Some, None};
+ghost use Rattle.std.specs.Prelude.{◌≡◌, ◌≢◌, ℕ, ◌+◌, ◌/◌, ◌<◌, ◌≤◌, ◌⊎◌, length, map, slice_set};
 ghost use Rattle.tt_sgf.specs.Sizes.{point_count};
 ghost use Rattle.tt_board.specs.declared.quiet.TheConstants.{NOWHERE};
-ghost use Rattle.tt_board.specs.Near.{IsNeighbour};
 ghost use Rattle.tt_board.specs.Position.{Colouring};
 ghost use Rattle.tt_board.specs.Reach.{entry_at};
-ghost use Rattle.tt_board.specs.Chains.{name_at, root_of, renamed, liberty_count, stone_count, AreCounted, AreNames, AreNamesBut, IsOneName, IsNewName, IsJoinedAt};
+ghost use Rattle.tt_board.specs.Chains.{name_at, root_of, renamed, liberty_count, stone_count, AreCounted, AreNames, AreNamesBut, AreNear, AreGathered, Touches, IsOneName, IsNewName};
 
-use super::names::{empty_beside, new_liberties, root_of};
-use super::near::beside;
-use super::quiet::{NOWHERE, Names, names_beside};
+use super::names::{new_liberties, root_of};
+use super::quiet::{NOWHERE, Names};
 use tt_sgf::Size;
 
 /// Takes a liberty from the chain of this name, if it is one and not one of three others.
@@ -28,14 +26,14 @@ fn take_from(liberties: &mut [u16], name: u16, one: u16, two: u16, three: u16)
 
 /// Takes a liberty from each chain of which one of these names is.
 #[inline]
-fn take_beside(liberties: &mut [u16], near: Names)
-    requires in_range { (m : ℕ) → IsOneName near.above near.left near.right near.below m → root_of m < length liberties.old }
-    requires apart { (m k : ℕ) → IsOneName near.above near.left near.right near.below m → IsOneName near.above near.left near.right near.below k
+fn take_beside(liberties: &mut [u16], near: &Names)
+    requires in_range { (m : ℕ) → IsOneName near.now.above near.now.left near.now.right near.now.below m → root_of m < length liberties.old }
+    requires apart { (m k : ℕ) → IsOneName near.now.above near.now.left near.now.right near.now.below m → IsOneName near.now.above near.now.left near.now.right near.now.below k
         → m ≢ 0 → m ≢ NOWHERE → k ≢ 0 → k ≢ NOWHERE → m ≢ k → root_of m ≢ root_of k }
-    requires some { (m : ℕ) → IsOneName near.above near.left near.right near.below m → m ≢ 0 → m ≢ NOWHERE → 0 < name_at liberties.old (root_of m) }
-    ensures fewer { (m : ℕ) → IsOneName near.above near.left near.right near.below m → m ≢ 0 → m ≢ NOWHERE
+    requires some { (m : ℕ) → IsOneName near.now.above near.now.left near.now.right near.now.below m → m ≢ 0 → m ≢ NOWHERE → 0 < name_at liberties.old (root_of m) }
+    ensures fewer { (m : ℕ) → IsOneName near.now.above near.now.left near.now.right near.now.below m → m ≢ 0 → m ≢ NOWHERE
         → name_at liberties.new (root_of m) + 1 ≡ name_at liberties.old (root_of m) }
-    ensures same { (r : ℕ) → ((m : ℕ) → IsOneName near.above near.left near.right near.below m → m ≢ 0 → m ≢ NOWHERE → root_of m ≢ r)
+    ensures same { (r : ℕ) → ((m : ℕ) → IsOneName near.now.above near.now.left near.now.right near.now.below m → m ≢ 0 → m ≢ NOWHERE → root_of m ≢ r)
         → name_at liberties.new r ≡ name_at liberties.old r }
 {
     take_from(liberties, near.above, 0, 0, 0);
@@ -52,20 +50,22 @@ pub(crate) fn start(
     liberties: &mut [u16],
     p: usize,
     name: u16,
+    near: &Names,
 )
     requires wide { (length names.old ≡ 361) × (length stones.old ≡ 361) × (length liberties.old ≡ 361) }
     requires on_board { p < point_count size }
     requires free { name_at names.old p ≡ 0 }
     requires coloured { (q : ℕ) → name_at names.old q ≢ NOWHERE }
     requires named { (name ≢ 0) × (root_of name ≡ p) }
+    requires near { AreNear size names.old p near.now }
     requires counted { AreCounted size names.old stones.old liberties.old }
     ensures put { names.new ≡ slice_set names.old p name }
     ensures still_counted { AreCounted size names.new stones.new liberties.new }
 {
-    take_beside(liberties, names_beside(size, names, p));
+    take_beside(liberties, near);
     names[p] = name;
     stones[p] = 1;
-    liberties[p] = empty_beside(size, names, p);
+    liberties[p] = near.empty();
 }
 
 /// The first place from `start` on with this name, where there is one.
@@ -177,53 +177,53 @@ fn unite(
     }
 }
 
-/// Makes the stone on `p` one with the chain on a place beside it, where that is of its colour and another one.
+/// Makes the stone on `p` one with the chain of this name, where that is of its colour, another one and still there.
 #[inline(always)]
-fn join_there(
+fn join_named(
     size: Size,
     names: &mut [u16],
     stones: &mut [u16],
     liberties: &mut [u16],
     p: usize,
-    place: Option<usize>,
+    name: u16,
 )
     requires wide { (length names.old ≡ 361) × (length stones.old ≡ 361) × (length liberties.old ≡ 361) }
     requires ends { (q : ℕ) → point_count size ≤ q → name_at names.old q ≡ 0 }
     requires on_board { p < point_count size }
-    requires near { (q : ℕ) → place ≡ Some q → IsNeighbour size p q }
     requires stone { 512 ≤ name_at names.old p }
+    requires in_range { root_of name < 361 }
+    requires near { 512 ≤ name → name ≢ NOWHERE → name_at names.old (root_of name) ≡ name → Touches size names.old name p }
     requires counted { AreCounted size names.old stones.old liberties.old }
-    ensures joined { IsJoinedAt size names.old names.new p place }
+    ensures gathered { AreGathered size names.old names.new p }
+    ensures joined { name / 512 ≡ name_at names.old p / 512 → name_at names.old (root_of name) ≡ name → name_at names.new (root_of name) ≡ name_at names.new p }
     ensures still_counted { AreCounted size names.new stones.new liberties.new }
 {
-    if let Some(q) = place {
-        let other = names[q];
-        let own = names[p];
-        if other / 512 == own / 512 && other != own {
-            unite(size, names, stones, liberties, other, own);
-        }
+    let own = names[p];
+    if name / 512 == own / 512 && name != own && names[root_of(name)] == name {
+        unite(size, names, stones, liberties, name, own);
     }
 }
 
-/// Makes the stone on `p` one with the chains of its colour beside it.
+/// Makes the stone on `p` one with the chains of its colour beside it, of which these are the names.
 pub(crate) fn join_beside(
     size: Size,
     names: &mut [u16],
     stones: &mut [u16],
     liberties: &mut [u16],
     p: usize,
+    near: &Names,
 )
     requires wide { (length names.old ≡ 361) × (length stones.old ≡ 361) × (length liberties.old ≡ 361) }
     requires ends { (q : ℕ) → point_count size ≤ q → name_at names.old q ≡ 0 }
     requires on_board { p < point_count size }
     requires stone { 512 ≤ name_at names.old p }
+    requires near { AreNear size names.old p near.now }
     requires counted { AreCounted size names.old stones.old liberties.old }
     ensures joined { (c : Colouring) → AreNamesBut size c names.old p → AreNames size c names.new }
     ensures still_counted { AreCounted size names.new stones.new liberties.new }
 {
-    let near = beside(size, p);
-    join_there(size, names, stones, liberties, p, near.above);
-    join_there(size, names, stones, liberties, p, near.left);
-    join_there(size, names, stones, liberties, p, near.right);
-    join_there(size, names, stones, liberties, p, near.below);
+    join_named(size, names, stones, liberties, p, near.above);
+    join_named(size, names, stones, liberties, p, near.left);
+    join_named(size, names, stones, liberties, p, near.right);
+    join_named(size, names, stones, liberties, p, near.below);
 }

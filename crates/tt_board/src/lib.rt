@@ -8,6 +8,7 @@ ghost use Rattle.std.specs.Prelude.{◌≡◌};
 ghost use Rattle.tt_board.specs.Play.{other};
 
 mod area;
+mod around;
 mod board;
 mod boards;
 mod captures;

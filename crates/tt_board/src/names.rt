@@ -81,30 +81,6 @@ pub(crate) fn new_liberties(size: Size, names: &[u16], name: u16, p: usize) -> u
         + new_there(size, names, name, near.below)
 }
 
-/// 1 for an empty place, 0 for another one or none.
-#[inline]
-fn empty_there(names: &[u16], place: Option<usize>) -> u16
-    requires { (q : ℕ) → place ≡ Some q → q < length names.now }
-    ensures value { result ≡ count_there (λ q. name_at names.now q == 0) place }
-    ensures small { result ≤ 1 }
-{
-    if has_name(names, place, 0) { 1 } else { 0 }
-}
-
-/// How many points beside `p` are empty.
-#[inline]
-pub(crate) fn empty_beside(size: Size, names: &[u16], p: usize) -> u16
-    requires wide { point_count size ≤ length names.now }
-    requires on_board { p < point_count size }
-    ensures { result ≡ count_beside size (λ q. name_at names.now q == 0) p }
-{
-    let near = beside(size, p);
-    empty_there(names, near.above)
-        + empty_there(names, near.left)
-        + empty_there(names, near.right)
-        + empty_there(names, near.below)
-}
-
 /// Adds the chain on a place to those found, if there is one that is not among them, and but one.
 #[inline]
 fn push_there(found: &mut ArrayVec<u16, 4>, names: &[u16], place: Option<usize>, but: u16)

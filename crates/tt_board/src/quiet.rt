@@ -1,9 +1,9 @@
 //! Plays that are told by four names and the counts of their chains: those by which nothing goes, and those that change nothing.
 
-ghost use Rattle.std.specs.Prelude.{◌≡◌, ◌≢◌, ℕ, ◌/◌, ◌<◌, ◌≤◌, ◌⊎◌, ◌↔◌, length, IsTrue, Some, MatchOption, false};
+ghost use Rattle.std.specs.Prelude.{◌≡◌, ◌≢◌, ℕ, ◌+◌, ◌/◌, ◌<◌, ◌≤◌, ◌⊎◌, ◌↔◌, length, IsTrue, Some, MatchOption, false};
 ghost use Rattle.tt_sgf.specs.Sizes.{point_count};
 ghost use Rattle.tt_board.specs.declared.quiet.TheConstants.{NOWHERE};
-ghost use Rattle.tt_board.specs.Chains.{name_at, root_of, colour_number, Touches, IsOneName};
+ghost use Rattle.tt_board.specs.Chains.{name_at, root_of, colour_number, IsOneName, AreNear, bare_one};
 
 use super::Colour;
 use super::names::root_of;
@@ -61,7 +61,7 @@ fn name_there(names: &[u16], place: Option<usize>) -> u16
 pub(crate) fn names_beside(size: Size, names: &[u16], p: usize) -> Names
     requires wide { point_count size ≤ length names.now }
     requires on_board { p < point_count size }
-    ensures { (m : ℕ) → m ≢ NOWHERE → IsOneName result.above result.left result.right result.below m ↔ Touches size names.now m p }
+    ensures { AreNear size names.now p result }
 {
     let near = beside(size, p);
     Names {
@@ -90,12 +90,28 @@ fn is_open(liberties: &[u16], name: u16, code: u16) -> bool
     name == 0 || (name / 512 == code && liberties[root_of(name)] != 1)
 }
 
+/// 1 for the name of an empty place, 0 for another one.
+#[inline]
+fn empty_one(name: u16) -> u16
+    ensures { result ≡ bare_one name }
+{
+    if name == 0 { 1 } else { 0 }
+}
+
 impl Names {
+    /// How many of the places are empty.
+    #[inline]
+    pub(crate) fn empty(&self) -> u16
+        ensures { result ≡ bare_one self.now.above + bare_one self.now.left + bare_one self.now.right + bare_one self.now.below }
+    {
+        empty_one(self.above) + empty_one(self.left) + empty_one(self.right) + empty_one(self.below)
+    }
+
     /// Whether a chain of the colour of this code has one liberty.
     #[inline]
-    pub(crate) fn has_last(self, liberties: &[u16], code: u16) -> bool
-        requires { (m : ℕ) → IsOneName self.above self.left self.right self.below m → root_of m < length liberties.now }
-        ensures { result ≡ false → (m : ℕ) → IsOneName self.above self.left self.right self.below m → m / 512 ≡ code
+    pub(crate) fn has_last(&self, liberties: &[u16], code: u16) -> bool
+        requires { (m : ℕ) → IsOneName self.now.above self.now.left self.now.right self.now.below m → root_of m < length liberties.now }
+        ensures { result ≡ false → (m : ℕ) → IsOneName self.now.above self.now.left self.now.right self.now.below m → m / 512 ≡ code
             → name_at liberties.now (root_of m) ≢ 1 }
     {
         is_last(liberties, self.above, code)
@@ -106,11 +122,11 @@ impl Names {
 
     /// Whether a place is empty, or a chain of the colour of this code has not one liberty.
     #[inline]
-    pub(crate) fn has_open(self, liberties: &[u16], code: u16) -> bool
-        requires { (m : ℕ) → IsOneName self.above self.left self.right self.below m → root_of m < length liberties.now }
-        ensures some { IsTrue result → (m : ℕ) × IsOneName self.above self.left self.right self.below m
+    pub(crate) fn has_open(&self, liberties: &[u16], code: u16) -> bool
+        requires { (m : ℕ) → IsOneName self.now.above self.now.left self.now.right self.now.below m → root_of m < length liberties.now }
+        ensures some { IsTrue result → (m : ℕ) × IsOneName self.now.above self.now.left self.now.right self.now.below m
             × ((m ≡ 0) ⊎ ((m / 512 ≡ code) × (name_at liberties.now (root_of m) ≢ 1))) }
-        ensures none { result ≡ false → (m : ℕ) → IsOneName self.above self.left self.right self.below m → m ≢ 0 }
+        ensures none { result ≡ false → (m : ℕ) → IsOneName self.now.above self.now.left self.now.right self.now.below m → m ≢ 0 }
     {
         is_open(liberties, self.above, code)
             || is_open(liberties, self.left, code)
@@ -120,8 +136,8 @@ impl Names {
 
     /// Whether one is of a chain of the colour of this code.
     #[inline]
-    pub(crate) fn has_own(self, code: u16) -> bool
-        ensures { result ≡ false → (m : ℕ) → IsOneName self.above self.left self.right self.below m → m / 512 ≢ code }
+    pub(crate) fn has_own(&self, code: u16) -> bool
+        ensures { result ≡ false → (m : ℕ) → IsOneName self.now.above self.now.left self.now.right self.now.below m → m / 512 ≢ code }
     {
         self.above / 512 == code
             || self.left / 512 == code

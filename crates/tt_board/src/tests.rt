@@ -2,7 +2,7 @@
 
 ghost use Rattle.std.specs.Prelude.{◌≡◌, IfOk};
 
-use super::{Board, Colour, Lifeless, Occupied};
+use super::{Board, Colour, CountedBoard, Lifeless, Occupied};
 use tt_sgf::{PointSet, Size};
 
 /// The points that hold this letter.
@@ -446,4 +446,29 @@ fn set_ups(rt: HostRuntime) {
     );
     assert!(&rt; shows(&cleared.ok().expect(&rt, "a board"), b"..W..."));
     super::laws::reaches();
+}
+
+/// Whether all empty points of a board, asked at once, are told as a row shows it for Black: `Q` where a play is told to be quiet.
+fn tells(size: Size, text: &[u8], quiet: &[u8]) -> bool {
+    match board_of(size, text) {
+        Ok(board) => {
+            let empty = board.empty_among(&PointSet::whole(size));
+            let told = CountedBoard::of(&board).quiet_among(Colour::Black, &empty);
+            told.same(holders(size, quiet, b'Q').bits())
+        }
+        Err(_) => false,
+    }
+}
+
+#[test]
+fn quiet_plays(rt: HostRuntime) {
+    for (columns, rows, text, quiet) in [
+        (1, 1, b".".as_slice(), b".".as_slice()),
+        (2, 2, b"B..B".as_slice(), b"....".as_slice()),
+        (2, 3, b".W.B..".as_slice(), b"..Q.QQ".as_slice()),
+        (3, 2, b".WB...".as_slice(), b"Q..QQQ".as_slice()),
+    ] {
+        let size = Size::new(columns, rows).expect(&rt, "a size");
+        assert!(&rt; tells(size, text, quiet), "{columns} by {rows}");
+    }
 }

@@ -13,3 +13,4 @@ pub mod SizedProblems
 pub mod RecordLaws
 pub mod RootLemmas
 pub mod PlayedLemmas
+pub mod SurveyLemmas

@@ -1,17 +1,15 @@
 -- What a line keeps, and how it undoes its pushes. For private contracts and for proofs.
-use Rattle.std.specs.Prelude.{◌≡◌, ℕ, ◌-◌, ◌<◌, ◌≤◌, List, [], ◌∷◌, length, take, reverse, slice_index_or, slice_set, Some}
+use Rattle.std.specs.Prelude.{◌≡◌, ℕ, ◌-◌, ◌<◌, ◌≤◌, List, [], ◌∷◌, length, take, reverse, slice_index_or}
 use Rattle.tt_sgf.specs.declared.size.Size.{Size}
 use Rattle.tt_board.specs.declared.Colour.{Colour}
-use Rattle.tt_board.specs.declared.quiet.Glance.{Glance}
-use Rattle.tt_board.specs.declared.quiet.Glance.TheVariants.{Quiet, Vain, Unclear}
 use Rattle.tt_board.specs.Position.{Position, Colouring}
 use Rattle.tt_board.specs.Play.{play_of}
 use Rattle.tt_game.specs.declared.frame.Frame.{Frame}
 use Rattle.tt_game.specs.declared.frame.Side.{Side}
 use Rattle.tt_game.specs.declared.line.Undo.{Undo}
 use Rattle.tt_game.specs.declared.line.Undo.TheVariants.{UndoPlay, UndoPass}
-use Rattle.tt_game.specs.Course.{Course, HasBeen, colourings}
-use Rattle.tt_game.specs.Game.{State, history, opponent, colour_of, made}
+use Rattle.tt_game.specs.Course.{Course, colourings}
+use Rattle.tt_game.specs.Game.{State, history, opponent}
 use Rattle.tt_game.specs.Line.{Standing}
 
 -- all but the last
@@ -85,9 +83,3 @@ IsMoved old new points = new ≡ record {
   state = record { earlier = history old.state; present = points; to_move = opponent old.state.to_move; passes = 0 };
   before = old.state ∷ old.before;
 }
-
--- what a glance foretells of a play: a quiet one makes a new colouring by its stone alone, a vain one the present colouring again
-abbrev pub IsForetold : Glance → Frame → State → ℕ → Type 0
-IsForetold Quiet f s p = (HasBeen (history s) (made f s p) → ⊥) × (made f s p ≡ slice_set s.present p (Some (colour_of f s.to_move)))
-IsForetold Vain f s p = made f s p ≡ s.present
-IsForetold Unclear f s p = Unit {0}

@@ -68,9 +68,9 @@ impl Line {
     ghost use Rattle.tt_board.specs.Reach.{entry_at};
     ghost use Rattle.std.specs.Prelude.{OnOk, OnErr, IfErr, IfOk};
     ghost use Rattle.tt_game.specs.Line.{HasTargets, IsRefusal, IsRefused, IsPushed};
-    ghost use Rattle.tt_game.specs.Undoing.{IsMoved, IsForetold, state_at, board_on};
+    ghost use Rattle.tt_game.specs.Undoing.{IsMoved, state_at, board_on};
     ghost use Rattle.tt_game.specs.Turns.{OnBoard};
-    ghost use Rattle.tt_game.specs.Surveys.{HaveStood};
+    ghost use Rattle.tt_game.specs.Surveys.{HaveStood, IsForetold};
     ghost use Rattle.tt_game.specs.declared.turns.Turn.{Turn};
 
     /// The line that begins with this history, whose present board is given with its chains counted, with nothing to undo.
@@ -162,6 +162,11 @@ impl Line {
             return true;
         }
         self.history.has_stood(self.root.count(), colour, p)
+    }
+
+    /// Whether the region has many points. Nothing goes by it but time.
+    pub(crate) fn has_many(&self) -> bool {
+        self.root.has_many()
     }
 
     /// The stones of a colour on all boards so far.

@@ -19,6 +19,9 @@ use tt_sgf::{Bits, NoMemory, Point};
 /// To compare a colouring with so many boards costs about what its print costs.
 const FEW: usize = 8;
 
+/// From so many points of the region on it pays to look at all of them at once, and with fewer one by one.
+pub(crate) const MANY: u16 = 20;
+
 /// A frame, and the boards that lines had when the first of them began. Contracts see it as `Rooted`.
 ///
 /// The stones of all these boards stand together in twelve words, and their prints were noted, so that superko asks once for what
@@ -26,6 +29,7 @@ const FEW: usize = 8;
 #[derive(Drop)]
 pub(crate) struct Root {
     frame: Frame,
+    many: bool,
     boards: Boards,
     count: usize,
     base: Arc<Board>,
@@ -87,6 +91,7 @@ impl Root {
         };
         Ok(Root {
             frame: frame.copy(),
+            many: frame.region.count() >= MANY,
             boards: Boards::of(alloc, boards)?,
             count: boards.len(),
             base: Arc::new(alloc, history.present().copy())?,
@@ -101,6 +106,11 @@ impl Root {
         ensures { result.now ≡ self.now.frame }
     {
         &self.frame
+    }
+
+    /// Whether the region has many points. Nothing goes by it but time.
+    pub(crate) fn has_many(&self) -> bool {
+        self.many
     }
 
     /// How many boards there were.

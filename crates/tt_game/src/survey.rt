@@ -1,27 +1,42 @@
 //! What is the same for all plays from where a line stands: it is worked out once, before they are looked at one by one.
 
-ghost use Rattle.std.specs.Prelude.{◌≡◌, ◌<◌, ◌≤◌, IsTrue, MatchOption};
+ghost use Rattle.std.specs.Prelude.{◌≡◌, ◌<◌, ◌≤◌, IsTrue, MatchOption, true};
 ghost use Rattle.std.specs.FinSet as set;
 ghost use Rattle.tt_sgf.specs.Sizes.{point_count};
+ghost use Rattle.tt_sgf.specs.Words.{bit_in};
 
 use crate::line::Line;
+use crate::root::MANY;
 use tt_board::{Colour, Glance};
 use tt_sgf::{BITS, Bits, Point};
 
-/// The colour that moves, the empty points of the region, and where stones of that colour have stood so far.
+/// The colour that moves, the empty points of the region, some of them where its play is quiet, and where stones of that colour have
+/// stood so far.
 #[derive(Clone, Copy)]
 pub struct Survey {
     colour: Colour,
     empty: Bits,
+    quiet: Bits,
     stood: Bits,
+}
+
+/// Whether at least `MANY` bits are 1. Nothing goes by it but time.
+fn has_many(points: &Bits) -> bool {
+    let mut wanted = u32::from(MANY);
+    for word in points.words() {
+        if word != 0 {
+            wanted = wanted.saturating_sub(word.count_ones());
+        }
+    }
+    wanted == 0
 }
 
 impl Line {
     ghost use Rattle.std.specs.Prelude.{ℕ, None};
     ghost use Rattle.tt_board.specs.Reach.{entry_at};
-    ghost use Rattle.tt_game.specs.Game.{IsLegal};
-    ghost use Rattle.tt_game.specs.Undoing.{IsForetold};
-    ghost use Rattle.tt_game.specs.Surveys.{IsSurvey};
+    ghost use Rattle.tt_board.specs.declared.quiet.Glance.TheVariants.{Quiet};
+    ghost use Rattle.tt_game.specs.Game.{IsLegal, history, colour_of};
+    ghost use Rattle.tt_game.specs.Surveys.{IsSurvey, HaveStood, IsForetold};
     ghost use Rattle.tt_game.specs.declared.turns.Turn.{Turn};
 
     /// What is the same for all plays of the side to move.
@@ -29,11 +44,32 @@ impl Line {
         ensures { IsSurvey result self.now.frame self.now.state }
     {
         let colour = self.mover();
+        let empty = self.present().empty_among(&self.frame().region);
+        let stood = self.stones_so_far(colour);
         Survey {
             colour,
-            empty: self.present().empty_among(&self.frame().region),
-            stood: self.stones_so_far(colour),
+            empty,
+            quiet: self.quiet_among(colour, &empty, &stood),
+            stood,
         }
+    }
+
+    /// Some of these empty points on which a play of the side to move is quiet, found all at once: none where few points are left on
+    /// which its stones never stood. A small region has few of them.
+    fn quiet_among(&self, colour: Colour, empty: &Bits, stood: &Bits) -> Bits
+        requires colour { colour ≡ colour_of self.now.frame self.now.state.to_move }
+        requires free { (p : ℕ) → p < point_count self.now.frame.size → bit_in empty.now.words p ≡ true → entry_at self.now.state.present p ≡ None }
+        requires stood { HaveStood colour self.now.frame.size (history self.now.state) stood.now.words }
+        ensures { (p : ℕ) → p < point_count self.now.frame.size → bit_in result.words p ≡ true → IsForetold Quiet self.now.frame self.now.state p }
+    {
+        if !self.has_many() {
+            return Bits::none();
+        }
+        let fresh = empty.minus(stood);
+        if !has_many(&fresh) {
+            return Bits::none();
+        }
+        self.counted().quiet_among(colour, &fresh)
     }
 
     /// The first empty point of the region from a number on: none where the board has no such point.
@@ -56,6 +92,9 @@ impl Line {
         requires free { entry_at self.now.state.present p ≡ None }
         ensures { IsForetold result self.now.frame self.now.state p }
     {
+        if survey.quiet.has(usize::from(p.number())) {
+            return Glance::Quiet;
+        }
         match self.counted().glance(survey.colour, p) {
             Glance::Vain => Glance::Vain,
             Glance::Unclear => Glance::Unclear,

@@ -39,6 +39,7 @@ impl Line {
     ghost use Rattle.tt_game.specs.declared.turns.Turn.{Turn};
 
     /// Who has won after a play on an empty point of the region, where it is legal, by the board that it makes.
+    #[inline(never)]
     fn winner_made(&self, p: Point) -> Option<Option<Side>>
         requires on_board { p < point_count self.now.frame.size }
         requires inside { IsTrue (set.contains self.now.frame.region p) }
@@ -82,6 +83,7 @@ impl Line {
 
     /// The first legal play on a point from a number on, and who has won after it, by the survey that was made here. Each empty point
     /// is looked at once, and no other.
+    #[inline(always)]
     pub fn next_play(&self, survey: &Survey, first: u16) -> Option<(Point, Option<Side>)>
         requires survey { IsSurvey survey.now self.now.frame self.now.state }
         requires open { winner_of self.now.frame self.now.state ≡ None }

@@ -10,4 +10,5 @@ pub mod NumberLemmas
 pub mod PointLemmas
 pub mod SizeLemmas
 pub mod BitLemmas
+pub mod ShiftLemmas
 pub mod EntryLemmas

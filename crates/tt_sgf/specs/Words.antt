@@ -1,5 +1,5 @@
 -- Bits in words, as sets of points and colourings keep them and hand them out.
-use Rattle.std.specs.Prelude.{◌≡◌, ℕ, ◌/◌, ◌%◌, ◌<◌, ◌≤◌, Bool, true, false, ◌||◌, List, ◌==◌}
+use Rattle.std.specs.Prelude.{◌≡◌, ℕ, ◌+◌, ◌-◌, ◌/◌, ◌%◌, ◌<◌, ◌≤◌, Bool, true, false, ◌||◌, List, ◌==◌}
 use Rattle.std.specs.List.{slice_index}
 use Rattle.std.specs.Int.{bit_at}
 use Rattle.std.specs.Ordering.{nat_cmp}
@@ -36,3 +36,10 @@ pub record AreBitsOf (words : List ℕ) (count : ℕ) (test : ℕ → Bool) : Ty
 -- the lowest bits of a word, with 0 for all others; a private contract alone cites it
 abbrev pub IsLow : ℕ → ℕ → ℕ → Type 0
 IsLow low word count = (i : ℕ) → i < 64 → (i < count → bit_at low i ≡ bit_at word i) × (count ≤ i → bit_at low i ≡ 0)
+
+-- a word moved up by k bits, or down, with the bits of its neighbour in the room that this makes; private contracts alone cite these
+abbrev pub IsRaised : ℕ → ℕ → ℕ → ℕ → Type 0
+IsRaised raised word below k = (i : ℕ) → i < 64 → (k ≤ i → bit_at raised i ≡ bit_at word (i - k)) × (i < k → bit_at raised i ≡ bit_at below (i + 64 - k))
+
+abbrev pub IsLowered : ℕ → ℕ → ℕ → ℕ → Type 0
+IsLowered lowered word above k = (i : ℕ) → i < 64 → (i + k < 64 → bit_at lowered i ≡ bit_at word (i + k)) × (64 ≤ i + k → bit_at lowered i ≡ bit_at above (i + k - 64))

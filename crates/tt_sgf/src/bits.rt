@@ -1,8 +1,8 @@
 //! Bits in six words: one for each of the numbers below `BITS`, which are more than the points of the largest board.
 
-ghost use Rattle.std.specs.Prelude.{◌≡◌, ℕ, ◌<◌, ◌≤◌, ◌↔◌, IsTrue, true, false, not, ◌&&◌, ◌||◌};
+ghost use Rattle.std.specs.Prelude.{◌≡◌, ℕ, ◌+◌, ◌<◌, ◌≤◌, ◌↔◌, IsTrue, true, false, not, ◌&&◌, ◌||◌};
 ghost use Rattle.std.specs.FinSet as set;
-ghost use Rattle.tt_sgf.specs.Words.{bit_in, points_of, IsLow, AreSameBits, AreCovered};
+ghost use Rattle.tt_sgf.specs.Words.{bit_in, points_of, IsLow, IsRaised, IsLowered, AreSameBits, AreCovered};
 
 use super::size::MOST_POINTS;
 
@@ -23,6 +23,26 @@ fn low_bits(word: u64, count: usize) -> u64
         return word;
     }
     word & ((1 << count) - 1)
+}
+
+/// A word moved up by `k` bits, with the highest bits of the word below it.
+#[inline]
+fn raised(word: u64, below: u64, k: usize) -> u64
+    requires some { 0 < k }
+    requires few { k < 64 }
+    ensures { IsRaised result word below k }
+{
+    (word << k) | (below >> (64 - k))
+}
+
+/// A word moved down by `k` bits, with the lowest bits of the word above it.
+#[inline]
+fn lowered(word: u64, above: u64, k: usize) -> u64
+    requires some { 0 < k }
+    requires few { k < 64 }
+    ensures { IsLowered result word above k }
+{
+    (word >> k) | (above << (64 - k))
 }
 
 impl Bits {
@@ -112,7 +132,7 @@ impl Bits {
     }
 
     /// The bits of the numbers below `count`, with 0 for all others.
-    pub(crate) fn below(&self, count: usize) -> Bits
+    pub fn below(&self, count: usize) -> Bits
         ensures kept { (q : ℕ) → q < BITS → q < count → bit_in result.words q ≡ bit_in self.now.words q }
         ensures none { (q : ℕ) → q < BITS → count ≤ q → bit_in result.words q ≡ false }
     {
@@ -167,6 +187,38 @@ impl Bits {
         Bits { words }
     }
 
+    /// The bits moved up: that of each number is the old one of the number `k` before it, and 0 where there is none.
+    #[inline]
+    pub fn up(&self, k: usize) -> Bits
+        requires some { 0 < k }
+        requires few { k < 64 }
+        ensures moved { (q : ℕ) → q + k < BITS → bit_in result.words (q + k) ≡ bit_in self.now.words q }
+        ensures low { (q : ℕ) → q < k → bit_in result.words q ≡ false }
+    {
+        let mut words = [0u64; 6];
+        words[0] = raised(self.words[0], 0, k);
+        for j in 1..6 {
+            words[j] = raised(self.words[j], self.words[j - 1], k);
+        }
+        Bits { words }
+    }
+
+    /// The bits moved down: that of each number is the old one of the number `k` behind it, and 0 where there is none.
+    #[inline]
+    pub fn down(&self, k: usize) -> Bits
+        requires some { 0 < k }
+        requires few { k < 64 }
+        ensures moved { (q : ℕ) → q + k < BITS → bit_in result.words q ≡ bit_in self.now.words (q + k) }
+        ensures high { (q : ℕ) → BITS ≤ q + k → q < BITS → bit_in result.words q ≡ false }
+    {
+        let mut words = [0u64; 6];
+        words[5] = lowered(self.words[5], 0, k);
+        for j in 0..5 {
+            words[j] = lowered(self.words[j], self.words[j + 1], k);
+        }
+        Bits { words }
+    }
+
     /// Whether each bit that is 1 here is 1 in one of the others too. It passes over words without a bit, since few words
     /// of a set of targets have some.
     pub fn are_covered(&self, one: &Bits, other: &Bits) -> bool
@@ -182,6 +234,14 @@ impl Bits {
             }
         }
         true
+    }
+
+    /// Whether both have the same bits of the numbers below 64, those of the first word. Most bits that aren't the same are
+    /// told apart by it, with no loop.
+    pub fn begin_alike(&self, other: &Bits) -> bool
+        ensures { IsTrue result ↔ ((q : ℕ) → q < 64 → bit_in self.now.words q ≡ bit_in other.now.words q) }
+    {
+        self.words[0] == other.words[0]
     }
 
     /// Whether both have the same bits; it stops at the first word that differs.

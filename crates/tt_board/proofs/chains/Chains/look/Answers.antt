@@ -1,7 +1,7 @@
-use Rattle.std.proofs.Common.{ℕ, ◌≡◌, ◌≢◌, ◌/◌, ◌↔◌, ◌==◌, inl, inr, length, Contains, arith, sym, subst, ◌∙◌}
+use Rattle.std.proofs.Common.{ℕ, ◌≡◌, ◌≢◌, ◌/◌, ◌↔◌, inl, inr, length, Contains, arith, sym, subst, ◌∙◌}
 use Rattle.std.proofs.lemmas.Bool.{true≢false, cases_eq, eqb-true, eqb-false}
 use Rattle.tt_board.specs.Play.{other}
-use Rattle.tt_board.specs.Chains.{ChainBoard, IsChainBoard, name_at, root_of, colour_number, Touches, count_beside}
+use Rattle.tt_board.specs.Chains.{ChainBoard, IsChainBoard, name_at, root_of, colour_number, Touches, AreNear}
 use Rattle.tt_board.proofs.StartLemmas.{all_rooted, near_below}
 use Rattle.tt_board.proofs.LookLemmas.{IsLook, quiet_look, own_by_capture, own_by_empty, own_by_chain, suicide_look, empty_there, none_empty}
 use Rattle.tt_board.proofs.chains.Chains.look.Goals as goal
@@ -44,15 +44,15 @@ returns-then-not-is_empty c =
     (own_by_capture c.args.self.now k p is c.requires.on_board c.requires.free near weak all last 0 (omega (arith, some))) in
     record { fits = is.fits; goes = l.goes; suicide = l.suicide; once = l.once; living = l.living }
 
-pub returns-then-empty_beside-gt0 : goal.returns-then-empty_beside-gt0
-returns-then-empty_beside-gt0 c =
+pub returns-then-empty-gt0 : goal.returns-then-empty-gt0
+returns-then-empty-gt0 c =
     let k = c.args.colour in let p = c.args.p in let near = c.chains_beside-near.result.items in let weak = c.last_liberty-weak.result.items in
     let is : IsChainBoard c.args.self.now = subst IsChainBoard c.self.view_is c.self.invariant in
     let all = subst (λ (v : ChainBoard). (m : ℕ) → Contains near m ↔ ((m ≢ 0) × (m ≢ 0) × Touches v.size v.names m p)) c.self.view_is c.chains_beside-near.ensures.beside in
     let last = subst (λ (v : ChainBoard). (m : ℕ) → Contains weak m ↔ (Contains near m × (m / 512 ≡ colour_number (other k)) × (name_at v.liberties (root_of m) ≡ 1))) c.self.view_is
     (rw (c.as_slice.ensures.value, c.other.ensures) at c.last_liberty-weak.ensures.found) in
-    let bare = subst (λ (v : ChainBoard). c.empty_beside.result ≡ count_beside v.size (λ q. name_at v.names q == 0) p) c.self.view_is c.empty_beside.ensures in
-    let f = empty_there c.args.self.now.size c.args.self.now.points c.args.self.now.names p is.named (omega (arith, bare, c.if-empty_beside-gt0.true)) in
+    let bare = c.empty.ensures ∙ (subst (λ (v : ChainBoard). AreNear v.size v.names p c.names_beside.result) c.self.view_is c.names_beside.ensures).bare in
+    let f = empty_there c.args.self.now.size c.args.self.now.points c.args.self.now.names p is.named (omega (arith, bare, c.if-empty-gt0.true)) in
     let l : IsLook c.args.self.now k p weak _ = quiet_look c.args.self.now k p is c.requires.on_board c.requires.free near weak all last c.last_liberty-weak.ensures.still_once
     (own_by_empty c.args.self.now k p is c.requires.on_board c.requires.free near weak all last f.0 f.1 f.2) in
     record { fits = is.fits; goes = l.goes; suicide = l.suicide; once = l.once; living = l.living }
@@ -81,11 +81,11 @@ returns c =
     (rw (c.as_slice.ensures.value, c.other.ensures) at c.last_liberty-weak.ensures.found) in
     let none : length weak ≡ 0 = eqb-true (length weak) 0 (sym c.is_empty.ensures ∙ c.if-not-is_empty.false) in
     let nobody : (m : ℕ) → Contains weak m → ⊥ = λ m has. omega (arith, has.1, none) in
-    let bare = subst (λ (v : ChainBoard). c.empty_beside.result ≡ count_beside v.size (λ q. name_at v.names q == 0) p) c.self.view_is c.empty_beside.ensures in
+    let bare = c.empty.ensures ∙ (subst (λ (v : ChainBoard). AreNear v.size v.names p c.names_beside.result) c.self.view_is c.names_beside.ensures).bare in
     let mine = c.last_liberty.result.items in
     let last_mine = subst (λ (v : ChainBoard). (m : ℕ) → Contains mine m ↔ (Contains near m × (m / 512 ≡ colour_number k) × (name_at v.liberties (root_of m) ≡ 1))) c.self.view_is
     (rw c.as_slice-3.ensures.value at c.last_liberty.ensures.found) in
-    let filled = none_empty c.args.self.now.size c.args.self.now.points c.args.self.now.names p is.named (omega (arith, bare, c.if-empty_beside-gt0.false)) in
+    let filled = none_empty c.args.self.now.size c.args.self.now.points c.args.self.now.names p is.named (omega (arith, bare, c.if-empty-gt0.false)) in
     let none_more = subst (λ (v : ChainBoard). (m : ℕ) → Contains near m → m / 512 ≡ colour_number k → name_at v.liberties (root_of m) ≡ 1) c.self.view_is
     (λ m has code. elim (cases_eq (name_at c.self.inside.liberties (root_of m)) 1) [
       | inl one ↦ one

@@ -1,9 +1,23 @@
 use Rattle.std.proofs.Common.{subst}
+use Rattle.tt_board.specs.Glance.{IsTold}
 use Rattle.tt_board.specs.Play.{IsAlive}
+use Rattle.tt_board.specs.Chains.{ChainBoard, AreNear}
 use Rattle.tt_board.proofs.PlayLemmas.{alive-play}
+use Rattle.tt_board.proofs.QuietLemmas.{roots_below}
 use Rattle.tt_board.proofs.chains.Chains.make.Goals as goal
 
-pub place-requires-clause-alive : goal.place-requires-clause-alive
-place-requires-clause-alive c =
+pub told-requires : goal.told-requires
+told-requires c = λ m one.
+    let b = c.self.inside in let i = c.self.invariant in
+    roots_below b.size b.names c.args.p m i.wide.0 i.counted.rooted (λ apart. (c.names_beside-near.ensures.touching m apart).0 one)
+
+pub put-requires-clause-near : goal.put-requires-clause-near
+put-requires-clause-near c =
+    subst (λ (v : ChainBoard). AreNear v.size v.names c.args.p c.names_beside-near.result) c.self.view_is c.names_beside-near.ensures
+
+pub put-requires-clause-alive : goal.put-requires-clause-alive
+put-requires-clause-alive c =
     let b = c.args.self.now in
-    subst (IsAlive b.size) (c.is_quiet.ensures.put c.if-is_quiet.true) (alive-play b.size b.points c.args.colour c.args.p)
+    let near = subst (λ (v : ChainBoard). AreNear v.size v.names c.args.p c.names_beside-near.result) c.self.view_is c.names_beside-near.ensures in
+    let put = subst (λ g. IsTold g b.size b.points c.args.colour c.args.p) c.in-Quiet.is (c.told.ensures c.args.p c.requires.on_board c.requires.free near) in
+    subst (IsAlive b.size) put (alive-play b.size b.points c.args.colour c.args.p)

@@ -1,0 +1,38 @@
+//! The points beside those of a set, all at once: six words are moved by a place and by a row.
+
+ghost use Rattle.std.specs.Prelude.{◌≡◌, ℕ, ◌%◌, ◌<◌, ◌≤◌, ◌↔◌, true, false};
+ghost use Rattle.tt_sgf.specs.declared.bits.TheConstants.{BITS};
+ghost use Rattle.tt_sgf.specs.Sizes.{point_count};
+ghost use Rattle.tt_sgf.specs.Words.{bit_in};
+ghost use Rattle.tt_board.specs.Around.{AreOn, IsBesideSome};
+
+use tt_sgf::{Bits, Size};
+
+/// The points of the first column.
+pub(crate) fn first_column(size: Size) -> Bits
+    ensures { (p : ℕ) → p < point_count size → (bit_in result.words p ≡ true) ↔ (p % size.columns ≡ 0) }
+{
+    let count = size.point_count();
+    let columns = usize::from(size.columns());
+    let mut found = Bits::none();
+    let mut p = 0;
+    while p < count {
+        found.set(p);
+        p += columns;
+    }
+    found
+}
+
+/// The points of the board beside those of a set. A row ends where the first column begins, so no point is beside one of another row there.
+pub(crate) fn around(size: Size, first: &Bits, points: &Bits) -> Bits
+    requires first { (p : ℕ) → p < point_count size → (bit_in first.now.words p ≡ true) ↔ (p % size.columns ≡ 0) }
+    requires on_board { AreOn size points.now.words }
+    ensures { (p : ℕ) → p < point_count size → (bit_in result.words p ≡ true) ↔ IsBesideSome size points.now.words p }
+{
+    let columns = usize::from(size.columns());
+    let left = points.minus(first).down(1);
+    let right = points.up(1).minus(first);
+    let above = points.down(columns);
+    let below = points.up(columns);
+    left.or(&right).or(&above.or(&below))
+}
