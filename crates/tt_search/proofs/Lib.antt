@@ -18,3 +18,4 @@ pub mod Joins
 pub mod LegalPlays
 pub mod Ends
 pub mod Chains
+pub mod FreshRows

@@ -1,5 +1,5 @@
 -- The children of an expanded node as the code keeps them: a short word for each, and the trees of those that have grown.
-use Rattle.std.specs.Prelude.{ℕ, suc, ◌/◌, ◌%◌, ◌==◌, if◌then◌else◌, List, [], ◌∷◌, map, slice_index_or, ltb}
+use Rattle.std.specs.Prelude.{◌≡◌, ℕ, suc, ◌/◌, ◌%◌, ◌==◌, if◌then◌else◌, List, [], ◌∷◌, map, slice_index_or, ltb}
 use Rattle.tt_sgf.specs.declared.size.TheConstants.{MOST_POINTS}
 use Rattle.tt_game.specs.declared.frame.Side.TheVariants.{Attacker, Defender}
 use Rattle.tt_game.specs.declared.turns.Turn.{Turn}
@@ -58,3 +58,8 @@ grown_in (e ∷ es) = counted (mark_of e) (grown_in es)
 -- the tree of the child at a place
 abbrev pub child_at : ℕ → List Edge → List PartialTree → PartialTree
 child_at i es grown = slice_index_or (edge_trees es grown) i fresh
+
+-- nothing is known of any of the children
+abbrev pub AreFresh : List Edge → Type 0
+AreFresh [] = Unit {0}
+AreFresh (e ∷ es) = (mark_of e ≡ Fresh) × AreFresh es

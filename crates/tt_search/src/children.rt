@@ -72,10 +72,10 @@ impl Children {
     {
         let grown = Vec::new(alloc);
         let packed = Packed { edges, grown };
-        let best = packed.best(mover);
+        let (best, sum) = packed.first_numbers(mover);
         let numbers = Pair {
             own: best.least,
-            other: packed.sum(mover),
+            other: sum,
         };
         let children = Children {
             mover,

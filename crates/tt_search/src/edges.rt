@@ -22,7 +22,7 @@ pub(crate) struct Edge {
 }
 
 /// What the number of a turn is below.
-const TURNS: u16 = 512;
+pub(crate) const TURNS: u16 = 512;
 
 impl Edge {
     /// The edge of a turn to a child with the mark.

@@ -1,7 +1,7 @@
 //! Proof and disproof numbers of nodes.
 
-ghost use Rattle.std.specs.Prelude.{◌≡◌, ◌<◌, ◌≤◌, length, take};
-ghost use Rattle.tt_search.specs.Edges.{mark_of, edge_trees, counted, grown_in};
+ghost use Rattle.std.specs.Prelude.{◌≡◌, ◌<◌, ◌≤◌, length, take, IsTrue};
+ghost use Rattle.tt_search.specs.Edges.{mark_of, edge_trees, counted, grown_in, AreFresh};
 ghost use Rattle.tt_search.specs.Numbers.{is_same, decided_number, cap, numbers, least, capped_sum};
 ghost use Rattle.tt_search.specs.Children.{children_of};
 ghost use Rattle.tt_search.specs.declared.edges.TheConstants.{TURNS};
@@ -9,7 +9,7 @@ ghost use Rattle.tt_search.specs.MostProving.{best};
 ghost use Rattle.tt_search.specs.Settled.{first_settled};
 
 use crate::children::{Child, Packed};
-use crate::edges::{Edge, Mark};
+use crate::edges::{Edge, Mark, TURNS};
 use crate::node::Node;
 use tt_game::Side;
 
@@ -127,6 +127,26 @@ impl Packed {
         )
     }
 
+    /// The child to go to, and the sum, where no child has grown. Mostly nobody has won behind any of them, so that each has the number 1.
+    pub(crate) fn first_numbers(&self, mover: Side) -> (Best, u32)
+        requires few { AreFew self.now }
+        requires whole { HasItsNodes self.now }
+        ensures place { result.0.place ≡ best mover (children_in self.now) }
+        ensures rank { IsRank result.0.rank result.0.place self.now }
+        ensures least { result.0.least ≡ least (numbers mover (children_in self.now)) }
+        ensures sum { result.1 ≡ capped_sum (numbers (opponent mover) (children_in self.now)) }
+    {
+        if are_fresh(self.edges.as_slice()) {
+            let best = Best {
+                place: 0,
+                rank: 0,
+                least: 1,
+            };
+            return (best, self.edges.len() as u32);
+        }
+        (self.best(mover), self.sum(mover))
+    }
+
     /// The same sum, where it was this one before a child's number became another. Up from the cap, and from what is
     /// infinite, a difference says nothing.
     pub(crate) fn sum_after(&self, mover: Side, was: u32, old: u32, new: u32) -> u32
@@ -165,6 +185,18 @@ fn counted(edge: Edge, number: usize) -> usize
         Mark::Won(_) => number,
         Mark::Grown => number + 1,
     }
+}
+
+/// Whether there are children, and nothing is known of any of them.
+fn are_fresh(edges: &[Edge]) -> bool
+    ensures { IsTrue result → AreFresh edges.now × (0 < length edges.now) }
+{
+    for edge in edges {
+        if edge.code >= TURNS {
+            return false;
+        }
+    }
+    !edges.is_empty()
 }
 
 /// The first child with the least number of the side to move.
