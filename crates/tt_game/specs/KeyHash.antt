@@ -1,10 +1,14 @@
--- What a key feeds a hasher. The frame is no part of it: keys of one problem share that.
-use Rattle.std.specs.Prelude.{ℕ, ◌+◌, ◌/◌, List, ◌++◌, take}
+-- What a key feeds a hasher, and its print. The frame is no part of either: keys of one problem share that.
+use Rattle.std.specs.Prelude.{ℕ, ◌+◌, ◌*◌, ◌/◌, ◌%◌, ◌^◌, List, [], ◌∷◌, ◌++◌, take}
 use Rattle.std.specs.Hash as fed
 use Rattle.std.specs.List.{flat_map}
 use Rattle.tt_sgf.specs.declared.size.Size.{Size}
 use Rattle.tt_sgf.specs.Sizes.{point_count}
+use Rattle.tt_game.specs.declared.frame.Side.{Side}
+use Rattle.tt_game.specs.declared.frame.Side.TheVariants.{Attacker, Defender}
 use Rattle.tt_game.specs.declared.keys.Key.{Key}
+use Rattle.tt_game.specs.declared.seen.TheConstants.{MIXER}
+use Rattle.tt_game.specs.Mixing.{mix}
 use Rattle.tt_game.specs.contracts.frame.SideHash.TheImpl as side_hash
 
 -- how many words of 64 bits have a bit for each point of a board
@@ -15,3 +19,12 @@ words_in_use size = (point_count size + 63) / 64
 unfoldable pub position_writes : Key → List (List ℕ)
 position_writes k = flat_map fed.u64 (take (words_in_use k.size) k.black) ++ flat_map fed.u64 (take (words_in_use k.size) k.white)
     ++ (side_hash.ghosts).hash_input k.to_move ++ fed.u8 k.passes
+
+-- the number of a side to move and so many passes
+abbrev pub turn_word : Side → ℕ → ℕ
+turn_word Attacker passes = passes
+turn_word Defender passes = 256 + passes
+
+-- a number that other keys mostly haven't: what the words, the side to move and the passes make, multiplied once more, since the last was only added
+unfoldable pub print_of_key : Key → ℕ
+print_of_key k = mix (mix (mix 0 k.black) k.white) (turn_word k.to_move k.passes ∷ []) * MIXER % 2 ^ 64

@@ -8,6 +8,7 @@ pub mod Surveys
 pub mod Turns
 pub mod Keys
 pub mod SameKey
+pub mod Mixing
 pub mod KeyHash
 pub mod Laws
 pub mod Line

@@ -1,5 +1,5 @@
 -- Prints of colourings, and which of them were noted. Private contracts alone cite these: they say nothing of a game.
-use Rattle.std.specs.Prelude.{◌≡◌, ℕ, ◌+◌, ◌*◌, ◌/◌, ◌%◌, ◌^◌, ◌<◌, List, [], ◌∷◌, length, get_or, true}
+use Rattle.std.specs.Prelude.{◌≡◌, ℕ, ◌*◌, ◌/◌, ◌%◌, ◌^◌, ◌<◌, List, length, get_or, true}
 use Rattle.tt_sgf.specs.declared.bits.Bits.{Bits}
 use Rattle.tt_sgf.specs.declared.bits.TheConstants.{BITS}
 use Rattle.tt_sgf.specs.declared.size.Size.{Size}
@@ -12,16 +12,15 @@ use Rattle.tt_game.specs.declared.seen.Seen.{Seen}
 use Rattle.tt_game.specs.declared.seen.TheConstants.{LOW, MIXER, PRINTS}
 use Rattle.tt_game.specs.Course.{HasBeen}
 use Rattle.tt_game.specs.Keys.{packed}
+use Rattle.tt_game.specs.Mixing.{mix}
 
--- what words, one after the other, make of a number
-unfoldable pub mix : ℕ → List ℕ → ℕ
-mix sum [] = sum
-mix sum (w ∷ ws) = mix ((sum * MIXER % 2 ^ 64 + w) % 2 ^ 64) ws
+-- what both colours' words make, Black's first
+abbrev pub mix_board : Size → Colouring → ℕ
+mix_board size c = mix (mix 0 (packed size (λ p. is_stone_of (entry_at c p) Black))) (packed size (λ p. is_stone_of (entry_at c p) White))
 
--- the print of a colouring: what both colours' words make, multiplied once more, since the last word was only added
+-- the print of a colouring: that number, multiplied once more, since the last word was only added
 unfoldable pub print_of : Size → Colouring → ℕ
-print_of size c =
-    mix (mix 0 (packed size (λ p. is_stone_of (entry_at c p) Black))) (packed size (λ p. is_stone_of (entry_at c p) White)) * MIXER % 2 ^ 64 / LOW % PRINTS
+print_of size c = mix_board size c * MIXER % 2 ^ 64 / LOW % PRINTS
 
 -- a print was noted, or no row has a bit for it
 abbrev pub IsSeen : Seen → ℕ → Type 0

@@ -2,10 +2,11 @@
 
 ghost use Rattle.std.specs.Prelude.{◌≡◌, ◌≤◌, ◌↔◌, IsTrue, []};
 ghost use Rattle.tt_game.specs.Keys.{key_of};
-ghost use Rattle.tt_game.specs.KeyHash.{words_in_use};
+ghost use Rattle.tt_game.specs.KeyHash.{words_in_use, turn_word, print_of_key};
 
 use crate::frame::{Frame, Side};
 use crate::line::Line;
+use crate::seen::{MIXER, mix, mix_board};
 use std::hash::{Hash, Hasher};
 use tt_board::{Board, Colour};
 use tt_sgf::Size;
@@ -53,6 +54,16 @@ fn words_in_use(size: Size) -> usize
     (size.point_count() + 63) / 64
 }
 
+/// The number of a side to move and so many passes, for a print.
+fn turn_word(to_move: Side, passes: u8) -> u64
+    ensures { result ≡ turn_word to_move passes }
+{
+    match to_move {
+        Side::Attacker => u64::from(passes),
+        Side::Defender => 256 + u64::from(passes),
+    }
+}
+
 /// The key of a position.
 pub(crate) fn key_at(frame: &Frame, board: &Board, to_move: Side, passes: u8) -> Key
     requires { board.now.size ≡ frame.now.size }
@@ -77,9 +88,27 @@ impl Line {
     {
         key_at(self.frame(), self.present(), self.to_move(), self.passes())
     }
+
+    /// The print of the line's key. It takes the line's board as it stands, so no key is made.
+    pub fn key_print(&self) -> u64
+        ensures { result ≡ print_of_key (key_of self.now.frame self.now.state) }
+    {
+        let turn = [turn_word(self.to_move(), self.passes())];
+        mix(mix_board(self.present()), &turn).wrapping_mul(MIXER)
+    }
 }
 
 impl Key {
+    /// A number that other keys mostly haven't, for tables. As the hash it is of the position alone: who finds a key by it compares
+    /// the keys.
+    pub fn print(&self) -> u64
+        ensures { result ≡ print_of_key self.now }
+    {
+        let both = mix(mix(0, &self.black), &self.white);
+        let turn = [turn_word(self.to_move, self.passes)];
+        mix(both, &turn).wrapping_mul(MIXER)
+    }
+
     /// Whether both keys are one.
     pub fn same(&self, other: &Key) -> bool
         ensures { IsTrue result ↔ (self.now ≡ other.now) }

@@ -3,7 +3,8 @@
 ghost use Rattle.std.specs.Prelude.{◌≡◌, ℕ, ◌<◌, ◌↔◌, All, IsTrue};
 ghost use Rattle.tt_sgf.specs.declared.size.Size.{Size};
 ghost use Rattle.tt_game.specs.Course.{colourings};
-ghost use Rattle.tt_game.specs.Seen.{mix, print_of, IsSeen, AreSeen};
+ghost use Rattle.tt_game.specs.Mixing.{mix};
+ghost use Rattle.tt_game.specs.Seen.{mix_board, print_of, IsSeen, AreSeen};
 
 use std::alloc::Global;
 use tt_board::{Board, Colour};
@@ -13,7 +14,7 @@ use tt_sgf::{BITS, Bits};
 const PRINTS: usize = 49152;
 
 /// An odd number with bits of both kinds all over: 2^64 by the golden ratio.
-const MIXER: u64 = 0x9e37_79b9_7f4a_7c15;
+pub(crate) const MIXER: u64 = 0x9e37_79b9_7f4a_7c15;
 
 /// The lowest bits of a product say little of its factors, so a print is taken from those above.
 const LOW: u64 = 0x100_0000_0000;
@@ -29,7 +30,7 @@ pub(crate) struct Seen {
 }
 
 /// What words, one after the other, make of a number.
-fn mix(start: u64, words: &[u64]) -> u64
+pub(crate) fn mix(start: u64, words: &[u64]) -> u64
     ensures { result ≡ mix start words.now }
 {
     let mut sum = start;
@@ -39,13 +40,19 @@ fn mix(start: u64, words: &[u64]) -> u64
     sum
 }
 
+/// What both colours' words make, Black's first.
+pub(crate) fn mix_board(board: &Board) -> u64
+    ensures { result ≡ mix_board board.now.size board.now.points }
+{
+    let black = mix(0, &board.words(Colour::Black));
+    mix(black, &board.words(Colour::White))
+}
+
 /// The print of a colouring: a number that others mostly haven't.
 pub(crate) fn print_of(board: &Board) -> usize
     ensures { result ≡ print_of board.now.size board.now.points }
 {
-    let black = mix(0, &board.words(Colour::Black));
-    let both = mix(black, &board.words(Colour::White));
-    (both.wrapping_mul(MIXER) / LOW) as usize % PRINTS
+    (mix_board(board).wrapping_mul(MIXER) / LOW) as usize % PRINTS
 }
 
 impl Seen {

@@ -1,7 +1,7 @@
 use Rattle.std.proofs.Common.{◌≡◌, ℕ, ◌+◌, ◌*◌, ◌%◌, ◌^◌, ◌<◌, ◌≤◌, List, length, get_or, drop, sym, ◌∙◌, arith}
 use Rattle.std.proofs.lemmas.List.{at_drop_more, at_drop_all}
 use Rattle.tt_game.specs.declared.seen.TheConstants.{MIXER}
-use Rattle.tt_game.specs.Seen.{mix}
+use Rattle.tt_game.specs.Mixing.{mix}
 use Rattle.tt_game.proofs.seen.mix.Goals as goal
 
 -- one word more

@@ -1,5 +1,5 @@
 use Rattle.std.proofs.Common.{◌≡◌, drop}
-use Rattle.tt_game.specs.Seen.{mix}
+use Rattle.tt_game.specs.Mixing.{mix}
 use Rattle.tt_game.proofs.seen.mix.Given as goal
 
 abbrev pub invariant-loop-word : goal.invariant-loop-word
