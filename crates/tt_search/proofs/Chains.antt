@@ -1,6 +1,6 @@
 -- The chains of an index, and how they lead to the newest proof of a key and side.
-use Rattle.std.proofs.Common.{◌≡◌, ℕ, zero, suc, ◌+◌, ◌-◌, ◌%◌, ◌<◌, ◌≤◌, Bool, true, false, cond, List, [], ◌∷◌, ◌++◌, length, get_or, nat_eq, Option, Some, None, slice_get, reverse, IsTrue, ◌↔◌}
-use Rattle.std.proofs.Common.{inl, inr, refl, sym, ap, ◌∙◌, subst, arith}
+use Rattle.std.proofs.Common.{◌≡◌, ◌≢◌, ℕ, zero, suc, ◌+◌, ◌-◌, ◌%◌, ◌<◌, ◌≤◌, Bool, true, false, cond, List, [], ◌∷◌, ◌++◌, length, get_or, nat_eq, Option, Some, None, slice_get}
+use Rattle.std.proofs.Common.{reverse, IsTrue, ◌↔◌, inl, inr, refl, sym, ap, ◌∙◌, subst, arith}
 use Rattle.std.specs.Option.{option_map}
 use Rattle.std.proofs.lemmas.Bool.{cases_lt, false≢true}
 use Rattle.std.proofs.lemmas.List.{reverse-append, get_or_append_left, get_or_read, length-map}
@@ -8,12 +8,11 @@ use Rattle.std.proofs.lemmas.Nat.{mod_below}
 use Rattle.std.proofs.lemmas.Option.{slice_get_within, slice_get-map, get_or_from_slice_get}
 use Rattle.tt_game.specs.declared.frame.Side.{Side}
 use Rattle.tt_game.specs.Keys.{key_of}
-use Rattle.tt_game.specs.declared.keys.Key.{Key}
 use Rattle.tt_game.specs.Line.{Standing}
 use Rattle.tt_proof.specs.Proven.{Proven}
 use Rattle.tt_search.specs.Stores.{AnswersFor, IsNewest}
 use Rattle.tt_search.specs.KeyIndex.{key_mark, key_marks}
-use Rattle.tt_search.specs.KeyChains.{last_place, in_chain, IsChained, NoneFrom}
+use Rattle.tt_search.specs.KeyChains.{last_place, in_chain, IsChained, NoneFrom, UnmarkedFrom}
 
 -- ---- the last place that passes a test
 
@@ -82,6 +81,42 @@ before_low heads before marks place next chained within is =
     let leads = is ∙ chained.before_leads place within in
     omega (arith, low, leads)
 
+-- ---- the walk down a chain to a mark
+
+in_its_chain : (marks : List ℕ) (n mark i : ℕ) → get_or marks i 0 ≡ mark → in_chain marks n (mark % n) i ≡ true
+in_its_chain marks n mark i e = rw e (grind arith)
+
+unmarked : (marks : List ℕ) (n mark k i : ℕ) → last_place (in_chain marks n (mark % n)) k ≤ i → i < k → get_or marks i 0 ≢ mark
+unmarked marks n mark k i low high e = false≢true (sym (last_beyond (in_chain marks n (mark % n)) k i low high) ∙ in_its_chain marks n mark i e)
+
+-- no place past the head of the mark's chain has the mark
+pub unmarked_past_head : (heads before marks : List ℕ) (mark next : ℕ) → 0 < length heads → IsChained heads before marks (length marks) → next ≡ get_or heads (mark % length heads) 0
+    → UnmarkedFrom marks mark next
+unmarked_past_head heads before marks mark next some chained is i low high =
+    let leads : next ≡ last_place (in_chain marks (length heads) (mark % length heads)) (length marks) = is ∙ chained.heads_lead (mark % length heads) (mod_below mark (length heads) some) in
+    unmarked marks (length heads) mark (length marks) i (omega (arith, low, leads)) high
+
+-- what holds of a place, past it and wherever another mark stands holds past the place before it in the mark's chain
+past_next : (Holds : ℕ → Type 0) (heads before marks : List ℕ) (mark place next : ℕ) → IsChained heads before marks (length marks) → place < length marks
+    → get_or marks place 0 % length heads ≡ mark % length heads → next ≡ get_or before place 0 → ((i : ℕ) → get_or marks i 0 ≢ mark → Holds i) → Holds place
+    → ((i : ℕ) → place + 1 ≤ i → Holds i) → (i : ℕ) → next ≤ i → Holds i
+past_next Holds heads before marks mark place next chained within same is other here later i low =
+    let leads : next ≡ last_place (in_chain marks (length heads) (mark % length heads)) place =
+    is ∙ chained.before_leads place within ∙ ap (λ c. last_place (in_chain marks (length heads) c) place) same in
+    elim (cases_lt i place) [
+      | inl lt ↦ other i (unmarked marks (length heads) mark place i (omega (arith, low, leads)) lt)
+      | inr ge ↦ (elim (cases_lt place i) [
+        | inl gt ↦ later i (omega (arith, gt))
+        | inr le ↦ (let e : place ≡ i = omega (arith, ge, le) in subst Holds e here)
+      ])
+    ]
+
+-- and none past the place before one that has another mark
+pub unmarked_past_next : (heads before marks : List ℕ) (mark place next : ℕ) → IsChained heads before marks (length marks) → place < length marks
+    → get_or marks place 0 % length heads ≡ mark % length heads → next ≡ get_or before place 0 → UnmarkedFrom marks mark (place + 1) → get_or marks place 0 ≢ mark → UnmarkedFrom marks mark next
+unmarked_past_next heads before marks mark place next chained within same is later here =
+    past_next (λ i. i < length marks → get_or marks i 0 ≢ mark) heads before marks mark place next chained within same is (λ i other _. other) (λ _. here) later
+
 -- ---- the newest proof
 
 module _ (line : Standing) (side : Side) where
@@ -114,58 +149,47 @@ module _ (line : Standing) (side : Side) where
 
   -- ---- the walk down a chain
 
-  mark_at : (marks : List ℕ) (ps : List Proven) (i : ℕ) (p : Proven) → marks ≡ key_marks ps → slice_get ps i ≡ Some p → get_or marks i 0 ≡ key_mark (key_of p.frame p.state) p.side
+  mark_at : (marks : List ℕ) (ps : List Proven) (i : ℕ) (p : Proven) → marks ≡ key_marks ps → slice_get ps i ≡ Some p → get_or marks i 0 ≡ key_mark (key_of p.frame p.state)
   mark_at marks ps i p e is =
       ap (λ l. get_or l i 0) e
-      ∙ get_or_from_slice_get (key_marks ps) i (key_mark (key_of p.frame p.state) p.side) 0
-      (slice_get-map (λ (q : Proven). key_mark (key_of q.frame q.state) q.side) ps i ∙ ap (option_map (λ (q : Proven). key_mark (key_of q.frame q.state) q.side)) is)
+      ∙ get_or_from_slice_get (key_marks ps) i (key_mark (key_of p.frame p.state)) 0
+      (slice_get-map (λ (q : Proven). key_mark (key_of q.frame q.state)) ps i ∙ ap (option_map (λ (q : Proven). key_mark (key_of q.frame q.state))) is)
 
-  answer_mark : (p : Proven) → AnswersFor line side p → key_mark (key_of p.frame p.state) p.side ≡ key_mark (key_of line.frame line.state) side
-  answer_mark p a = rw (a.same_key, a.for_side) refl
+  answer_mark : (p : Proven) → AnswersFor line side p → key_mark (key_of p.frame p.state) ≡ key_mark (key_of line.frame line.state)
+  answer_mark p a = ap key_mark a.same_key
 
   -- what answers has the mark of the question
-  pub answers_mark : (marks : List ℕ) (ps : List Proven) (i mark : ℕ) (p : Proven) → marks ≡ key_marks ps → mark ≡ key_mark (key_of line.frame line.state) side → slice_get ps i ≡ Some p
+  pub answers_mark : (marks : List ℕ) (ps : List Proven) (i mark : ℕ) (p : Proven) → marks ≡ key_marks ps → mark ≡ key_mark (key_of line.frame line.state) → slice_get ps i ≡ Some p
       → AnswersFor line side p → get_or marks i 0 ≡ mark
   answers_mark marks ps i mark p all m is a = mark_at marks ps i p all is ∙ answer_mark p a ∙ sym m
 
-  in_its_chain : (marks : List ℕ) (n mark i : ℕ) → get_or marks i 0 ≡ mark → in_chain marks n (mark % n) i ≡ true
-  in_its_chain marks n mark i e = rw e (grind arith)
-
-  none_past : (marks : List ℕ) (ps : List Proven) (n mark k i : ℕ) (p : Proven) → marks ≡ key_marks ps → mark ≡ key_mark (key_of line.frame line.state) side
-      → last_place (in_chain marks n (mark % n)) k ≤ i → i < k → slice_get ps i ≡ Some p → AnswersFor line side p → ⊥
-  none_past marks ps n mark k i p all m low high is a =
-      false≢true (sym (last_beyond (in_chain marks n (mark % n)) k i low high) ∙ in_its_chain marks n mark i (answers_mark marks ps i mark p all m is a))
-
-  -- no proof answers past the head of the question's chain
-  pub none_past_head : (heads before marks : List ℕ) (ps : List Proven) (mark next : ℕ) → marks ≡ key_marks ps → mark ≡ key_mark (key_of line.frame line.state) side
-      → 0 < length heads → IsChained heads before marks (length marks) → next ≡ get_or heads (mark % length heads) 0 → NoneFrom line side ps next
-  none_past_head heads before marks ps mark next all m some chained is i p low at a =
-      let leads : next ≡ last_place (in_chain marks (length heads) (mark % length heads)) (length marks) = is ∙ chained.heads_lead (mark % length heads) (mod_below mark (length heads) some) in
+  -- no proof answers from a place on from which no place has the question's mark
+  pub none_unmarked : (marks : List ℕ) (ps : List Proven) (mark n : ℕ) → marks ≡ key_marks ps → mark ≡ key_mark (key_of line.frame line.state) → UnmarkedFrom marks mark n
+      → NoneFrom line side ps n
+  none_unmarked marks ps mark n all m un i p low at a =
       let many : length marks ≡ length ps = ap length all ∙ length-map ps _ in
-      none_past marks ps (length heads) mark (length marks) i p all m (omega (arith, low, leads)) (omega (arith, many, slice_get_within ps i p at)) at a
+      un i low (omega (arith, many, slice_get_within ps i p at)) (answers_mark marks ps i mark p all m at a)
 
-  -- and none past the place before one that doesn't answer
-  pub none_past_next : (heads before marks : List ℕ) (ps : List Proven) (mark place next : ℕ) → marks ≡ key_marks ps → mark ≡ key_mark (key_of line.frame line.state) side
+  -- nothing answers where no place has the question's mark
+  pub newest_unmarked : (marks : List ℕ) (ps : List Proven) (mark n : ℕ) → marks ≡ key_marks ps → mark ≡ key_mark (key_of line.frame line.state) → UnmarkedFrom marks mark n → n ≡ 0
+      → IsNewest line side (reverse ps) None
+  newest_unmarked marks ps mark n all m un none = none_newest ps (λ i p low at. none_unmarked marks ps mark n all m un i p (omega (arith, none)) at)
+
+  -- no proof answers past the place before one that doesn't answer
+  pub none_past_next : (heads before marks : List ℕ) (ps : List Proven) (mark place next : ℕ) → marks ≡ key_marks ps → mark ≡ key_mark (key_of line.frame line.state)
       → IsChained heads before marks (length marks) → place < length marks → get_or marks place 0 % length heads ≡ mark % length heads → next ≡ get_or before place 0
       → NoneFrom line side ps (place + 1) → ((p : Proven) → slice_get ps place ≡ Some p → AnswersFor line side p → ⊥) → NoneFrom line side ps next
-  none_past_next heads before marks ps mark place next all m chained within same is later here i p low at a =
-      let leads : next ≡ last_place (in_chain marks (length heads) (mark % length heads)) place =
-      is ∙ chained.before_leads place within ∙ ap (λ c. last_place (in_chain marks (length heads) c) place) same in
-      elim (cases_lt i place) [
-        | inl lt ↦ none_past marks ps (length heads) mark place i p all m (omega (arith, low, leads)) lt at a
-        | inr ge ↦ (elim (cases_lt place i) [
-          | inl gt ↦ later i p (omega (arith, gt)) at a
-          | inr le ↦ (let e : i ≡ place = omega (arith, ge, le) in here p (subst (λ j. slice_get ps j ≡ Some p) e at) a)
-        ])
-      ]
+  none_past_next heads before marks ps mark place next all m chained within same is later here i p low =
+      past_next (λ j. (q : Proven) → slice_get ps j ≡ Some q → AnswersFor line side q → ⊥) heads before marks mark place next chained within same is
+      (λ j other q at a. other (answers_mark marks ps j mark q all m at a)) here (λ j late q. later j q late) i low p
 
   -- a proof at a place doesn't answer where the one that was looked at there fails the test
-  pub not_found : (ps : List Proven) (place : ℕ) (b : Bool) (k : Key) (p q : Proven) → slice_get ps place ≡ Some q → slice_get ps place ≡ Some p → b ≡ false
-      → (IsTrue b ↔ ((key_of q.frame q.state ≡ k) × (q.side ≡ side))) → k ≡ key_of line.frame line.state → AnswersFor line side p → ⊥
-  not_found ps place b k p q there at e h is a =
+  pub not_found : (ps : List Proven) (place : ℕ) (b : Bool) (p q : Proven) → slice_get ps place ≡ Some q → slice_get ps place ≡ Some p → b ≡ false
+      → (IsTrue b ↔ ((key_of q.frame q.state ≡ key_of line.frame line.state) × (q.side ≡ side))) → AnswersFor line side p → ⊥
+  not_found ps place b p q there at e h a =
       let same : p ≡ q = cc (sym at ∙ there) in
       let answers : AnswersFor line side q = subst (AnswersFor line side) same a in
-      false≢true (sym e ∙ h.1 (answers.same_key ∙ sym is, answers.for_side))
+      false≢true (sym e ∙ h.1 (answers.same_key, answers.for_side))
 
 -- a place that a head or another place leads to is of the chain
 leads_inside : (marks : List ℕ) (n c k next : ℕ) → next ≡ last_place (in_chain marks n c) k → 0 < next → get_or marks (next - 1) 0 % n ≡ c

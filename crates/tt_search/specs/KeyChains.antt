@@ -1,5 +1,5 @@
 -- How an index leads to the last proof of a key and side. Only private contracts cite these.
-use Rattle.std.specs.Prelude.{◌≡◌, ℕ, zero, suc, ◌%◌, ◌<◌, ◌≤◌, Bool, List, length, cond, get_or, nat_eq, slice_get, Some}
+use Rattle.std.specs.Prelude.{◌≡◌, ◌≢◌, ℕ, zero, suc, ◌-◌, ◌%◌, ◌<◌, ◌≤◌, Bool, List, length, cond, get_or, nat_eq, slice_get, Some}
 use Rattle.tt_game.specs.declared.frame.Side.{Side}
 use Rattle.tt_game.specs.Line.{Standing}
 use Rattle.tt_proof.specs.Proven.{Proven}
@@ -29,3 +29,13 @@ pub record AreLongEnough (heads before marks : List ℕ) : Type 0 where
 -- no proof answers from this place on
 abbrev pub NoneFrom : Standing → Side → List Proven → ℕ → Type 0
 NoneFrom line side ps n = (i : ℕ) (p : Proven) → n ≤ i → slice_get ps i ≡ Some p → AnswersFor line side p → ⊥
+
+-- no place from this one on has the mark
+abbrev pub UnmarkedFrom : List ℕ → ℕ → ℕ → Type 0
+UnmarkedFrom marks mark n = (i : ℕ) → n ≤ i → i < length marks → get_or marks i 0 ≢ mark
+
+-- a number is one more than the last place with the mark, or 0 where none has it
+pub record IsLastMarked (marks : List ℕ) (mark n : ℕ) : Type 0 where
+  pub low : n ≤ length marks
+  pub marked : 0 < n → get_or marks (n - 1) 0 ≡ mark
+  pub unmarked : UnmarkedFrom marks mark n

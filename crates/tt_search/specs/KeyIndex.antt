@@ -1,23 +1,20 @@
 -- An index of proofs by their keys and sides.
-use Rattle.std.specs.Prelude.{ℕ, ◌%◌, ◌^◌, ◌<◌, List, map, fold, length, reverse, Option, Some, None, IfSome, slice_get}
-use Rattle.std.specs.Hash.FoldHasher as hasher
+use Rattle.std.specs.Prelude.{ℕ, ◌/◌, ◌<◌, List, map, length, reverse, Option, Some, None, IfSome, slice_get}
 use Rattle.tt_game.specs.declared.frame.Side.{Side}
 use Rattle.tt_game.specs.declared.keys.Key.{Key}
 use Rattle.tt_game.specs.Keys.{key_of}
+use Rattle.tt_game.specs.KeyHash.{print_of_key}
 use Rattle.tt_game.specs.Line.{Standing}
-use Rattle.tt_game.specs.contracts.keys.KeyHash.TheImpl as key_hash
-use Rattle.tt_game.specs.contracts.frame.SideHash.TheImpl as side_hash
 use Rattle.tt_proof.specs.Proven.{Proven}
 use Rattle.tt_search.specs.Stores.{AnswersFor, IsNewest}
 
--- a number of 32 bits that a key and a side have: a hash of both. Others may have it too: nothing is found by it alone
-unfoldable pub key_mark : Key → Side → ℕ
-key_mark key side =
-    hasher.finish (fold hasher.write (fold hasher.write hasher.initial ((key_hash.ghosts).hash_input key)) ((side_hash.ghosts).hash_input side)) % 2 ^ 32
+-- a number of 32 bits that a key has, of its print. Other keys may have it too: nothing is found by it alone
+abbrev pub key_mark : Key → ℕ
+key_mark key = print_of_key key / 4294967296
 
 -- the marks of proofs
 abbrev pub key_marks : List Proven → List ℕ
-key_marks ps = map (λ (p : Proven). key_mark (key_of p.frame p.state) p.side) ps
+key_marks ps = map (λ (p : Proven). key_mark (key_of p.frame p.state)) ps
 
 -- the marks of the proofs that an index was told, and for how many more it has room
 pub record Marking : Type 0 where

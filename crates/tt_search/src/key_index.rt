@@ -1,17 +1,16 @@
 //! An index of the last proof of each key and side.
 
-ghost use Rattle.std.specs.Prelude.{◌≡◌, ℕ, ◌+◌, ◌<◌, ◌++◌, ◌∷◌, [], ◌↔◌, List, Some, IfOk, IfSome, IsTrue, length, vec_len, vec_capacity, reverse, slice_get};
+ghost use Rattle.std.specs.Prelude.{◌≡◌, ℕ, ◌+◌, ◌/◌, ◌<◌, ◌++◌, ◌∷◌, [], ◌↔◌, List, Some, IfOk, IfSome, IsTrue, length, vec_len, vec_capacity, reverse, slice_get};
 ghost use Rattle.tt_game.specs.Keys.{key_of};
 ghost use Rattle.tt_proof.specs.Proven.{Proven};
 ghost use Rattle.tt_game.specs.declared.frame.Side.TheVariants.{Attacker, Defender};
 ghost use Rattle.tt_search.specs.Stores.{AnswersFor, IsNewest};
 ghost use Rattle.tt_search.specs.KeyIndex.{key_mark, key_marks, proof_at, IsPlaceOfNewest};
-ghost use Rattle.tt_search.specs.KeyChains.{AreLongEnough, IsChained};
+ghost use Rattle.tt_search.specs.KeyChains.{AreLongEnough, IsChained, IsLastMarked};
 
 use std::alloc::Global;
-use std::hash::{FoldHasher, Hash, Hasher};
 use std::marker::Model;
-use tt_game::{Key, Line, Side};
+use tt_game::{Line, Side};
 use tt_proof::Proof;
 use tt_sgf::NoMemory;
 
@@ -25,37 +24,18 @@ pub trait ProofRow {
         ensures { slice_get (proofs self.now) place ≡ Some result.now };
 }
 
-/// The hash of a key and a side. That of a key is of its position alone, so keys of two frames may have one: who finds a proof by it
-/// compares the keys.
-fn mark_of(key: &Key, side: Side) -> u32
-    ensures { result ≡ key_mark key.now side }
+/// The mark of a key, from its print. Two keys may have one mark: who finds a proof by it compares the keys.
+fn mark_of(print: u64) -> u32
+    ensures { result ≡ print / 4294967296 }
 {
-    let mut hasher = FoldHasher::default();
-    key.hash(&mut hasher);
-    side.hash(&mut hasher);
-    (hasher.finish() % 0x1_0000_0000) as u32
+    (print / 0x1_0000_0000) as u32
 }
 
-/// The hashes of a key for the attacker and for the defender.
-fn marks_for(key: &Key) -> (u32, u32)
-    ensures { result ≡ (key_mark key.now Attacker, key_mark key.now Defender) }
+/// Whether the proof has the line's key and is for the side.
+fn is_for(p: &Proof, line: &Line, side: Side) -> bool
+    ensures { IsTrue result ↔ ((key_of p.now.frame p.now.state ≡ key_of line.now.frame line.now.state) × (p.now.side ≡ side)) }
 {
-    let mut hasher = FoldHasher::default();
-    key.hash(&mut hasher);
-    let mut other = hasher;
-    Side::Attacker.hash(&mut hasher);
-    Side::Defender.hash(&mut other);
-    (
-        (hasher.finish() % 0x1_0000_0000) as u32,
-        (other.finish() % 0x1_0000_0000) as u32,
-    )
-}
-
-/// Whether the proof has the key and is for the side.
-fn is_for(p: &Proof, key: &Key, side: Side) -> bool
-    ensures { IsTrue result ↔ ((key_of p.now.frame p.now.state ≡ key.now) × (p.now.side ≡ side)) }
-{
-    p.side() == side && p.has_key(key)
+    p.side() == side && p.has_key(&line.key())
 }
 
 /// Chains the place, behind all places before it.
@@ -184,34 +164,49 @@ impl KeyIndex {
         ensures { self.new.marks ≡ self.old.marks ++ key_marks (p.now ∷ []) }
     {
         let place = self.marks.len();
-        self.marks.push_reserved(mark_of(&p.key(), p.side()));
+        self.marks.push_reserved(mark_of(p.key().print()));
         self.before.push_reserved(0);
         link(&mut self.heads, &mut self.before, &self.marks, place);
     }
 
-    /// The place of the row's last proof of the key, which is the line's, for the side, whose mark it is.
+    /// One more than the last place with the mark, or 0 where none has it.
+    fn last_marked(&self, mark: u32) -> usize
+        ensures { IsLastMarked self.now.marks mark result }
+    {
+        if self.heads.is_empty() {
+            return 0;
+        }
+        let mut next = self.heads[mark as usize % self.heads.len()] as usize;
+        while 0 < next {
+            if self.marks[next - 1] == mark {
+                return next;
+            }
+            next = self.before[next - 1] as usize;
+        }
+        0
+    }
+
+    /// The place of the row's last proof of the line's key for the side, where the key has the mark and this is one more than the
+    /// last place with it.
     fn last_of<P: ProofRow>(
         &self,
         line: &Line,
-        key: &Key,
         side: Side,
         mark: u32,
+        last: usize,
         row: &P,
     ) -> Option<usize>
-        requires key { key.now ≡ key_of line.now.frame line.now.state }
-        requires mark { mark ≡ key_mark key.now side }
+        requires mark { mark ≡ key_mark (key_of line.now.frame line.now.state) }
         requires told { self.now.marks ≡ key_marks (P.proofs row.now) }
+        requires last { IsLastMarked self.now.marks mark last }
         ensures newest { IsNewest line.now side (reverse (P.proofs row.now)) (proof_at (P.proofs row.now) result) }
         ensures within { IfSome result (λ place. place < length (P.proofs row.now)) }
         ensures found { IfSome (proof_at (P.proofs row.now) result) (AnswersFor line.now side) }
     {
-        if self.heads.is_empty() {
-            return None;
-        }
-        let mut next = self.heads[mark as usize % self.heads.len()] as usize;
+        let mut next = last;
         while 0 < next {
             let place = next - 1;
-            if self.marks[place] == mark && is_for(row.proof(place), key, side) {
+            if self.marks[place] == mark && is_for(row.proof(place), line, side) {
                 return Some(place);
             }
             next = self.before[place] as usize;
@@ -224,8 +219,8 @@ impl KeyIndex {
         requires { self.now.marks ≡ key_marks (P.proofs row.now) }
         ensures { IsPlaceOfNewest line.now side (P.proofs row.now) result }
     {
-        let key = line.key();
-        self.last_of(line, &key, side, mark_of(&key, side), row)
+        let mark = mark_of(line.key_print());
+        self.last_of(line, side, mark, self.last_marked(mark), row)
     }
 
     /// What `newest` answers for the attacker and for the defender.
@@ -234,14 +229,14 @@ impl KeyIndex {
         ensures attacker { IsPlaceOfNewest line.now Attacker (P.proofs row.now) result.0 }
         ensures defender { IsPlaceOfNewest line.now Defender (P.proofs row.now) result.1 }
     {
-        if self.marks.is_empty() {
+        let mark = mark_of(line.key_print());
+        let last = self.last_marked(mark);
+        if last == 0 {
             return (None, None);
         }
-        let key = line.key();
-        let (attacker, defender) = marks_for(&key);
         (
-            self.last_of(line, &key, Side::Attacker, attacker, row),
-            self.last_of(line, &key, Side::Defender, defender, row),
+            self.last_of(line, Side::Attacker, mark, last, row),
+            self.last_of(line, Side::Defender, mark, last, row),
         )
     }
 }

@@ -1,33 +1,28 @@
-use Rattle.std.proofs.Common.{arith, ◌≡◌, suc, ◌-◌, ◌+◌, ◌<◌, ◌∙◌, sym, ap, subst, Some, length, slice_get}
+use Rattle.std.proofs.Common.{arith, ◌≡◌, suc, ◌-◌, ◌+◌, ◌%◌, ◌<◌, ◌∙◌, sym, ap, subst, Some, length, get_or, slice_get}
 use Rattle.std.proofs.lemmas.List.{get_or_read}
 use Rattle.tt_proof.specs.Proven.{Proven}
 use Rattle.tt_search.specs.Stores.{AnswersFor, IsNewest}
-use Rattle.tt_search.specs.KeyIndex.{key_mark, key_marks, Marking}
+use Rattle.tt_search.specs.KeyIndex.{key_marks, Marking}
 use Rattle.tt_search.specs.KeyChains.{NoneFrom}
-use Rattle.tt_search.proofs.Chains.{chain_read, head_low, before_low, head_inside, before_inside, none_past_head, none_past_next, not_found, answers_mark, found_newest, none_newest}
+use Rattle.tt_search.proofs.Chains.{before_low, before_inside, none_unmarked, none_past_next, not_found, answers_mark, found_newest, none_newest}
 use Rattle.tt_search.proofs.key_index.KeyIndex.last_of.Goals.{else-index-mark-via-then-index-mark+else-is_for, else-index-mark-via-else-index-mark}
 use Rattle.tt_search.proofs.key_index.KeyIndex.last_of.Goals as goal
 
 pub loop-next-init : goal.loop-next-init
 loop-next-init g c =
-    let heads = c.self.inside.heads.items in
-    let before = c.self.inside.before.items in
-    let marks = c.self.inside.marks.items in
-    let some : 0 < length heads = grind (arith, c.if-is_empty.false, c.is_empty.ensures, c.self.inside.heads.ok.0) in
-    let is = chain_read heads c.args.mark c.len.result c.index.result.now (c.len.ensures ∙ c.self.inside.heads.ok.0) some c.index.ensures in
-    let mark = c.requires.mark ∙ ap (λ k. key_mark k c.args.side) c.requires.key in
-    let all : marks ≡ key_marks (g.P.ProofRow.proofs c.args.row.now) = ap (λ (v : Marking). v.marks) c.self.view_is ∙ c.requires.told in
+    let told : _ ≡ key_marks (g.P.ProofRow.proofs c.args.row.now) = c.requires.told in
+    let view = ap (λ (v : Marking). v.marks) c.self.view_is in
     record {
-      low = head_low heads before marks c.args.mark c.index.result.now some c.self.invariant.chained is;
-      none = none_past_head c.args.line.now c.args.side heads before marks _ c.args.mark c.index.result.now all mark some c.self.invariant.chained is;
-      inside = head_inside heads before marks c.args.mark c.index.result.now some c.self.invariant.chained is;
+      low = omega (arith, c.requires.last.low, ap length view);
+      none = none_unmarked c.args.line.now c.args.side _ _ c.args.mark c.args.last told c.requires.mark c.requires.last.unmarked;
+      inside = λ some. ap (λ m. m % length c.self.inside.heads.items) (ap (λ l. get_or l (c.args.last - 1) 0) view ∙ c.requires.last.marked some);
     }
 
 pub returns-then-is_for-clause-newest : goal.returns-then-is_for-clause-newest
 returns-then-is_for-clause-newest g c =
     let ps = g.P.ProofRow.proofs c.args.row.now in
     let found = c.is_for.ensures.0 c.if-is_for.true in
-    let answers : AnswersFor c.args.line.now c.args.side c.proof.result.now = record { same_key = found.0 ∙ c.requires.key; for_side = found.1 } in
+    let answers : AnswersFor c.args.line.now c.args.side c.proof.result.now = record { same_key = found.0; for_side = found.1 } in
     let on : NoneFrom c.args.line.now c.args.side ps (suc (c.loop-next.next - 1)) = λ i p low. c.loop-next.invariant.none i p (omega (arith, low)) in
     let newest = found_newest c.args.line.now c.args.side ps (c.loop-next.next - 1) c.proof.result.now c.proof.ensures answers on in
     subst (IsNewest c.args.line.now c.args.side _) (sym c.proof.ensures) newest
@@ -36,8 +31,8 @@ pub loop-next-smaller : goal.loop-next-smaller
 loop-next-smaller g c =
     let place = c.loop-next.next - 1 in
     let within : place < length c.self.inside.marks.items = omega (arith, c.loop-next.invariant.low, c.loop-next-test.true) in
-    let is = get_or_read c.self.inside.before.items place c.index-in-loop-next-2.result.now (omega (arith, within, c.self.invariant.sized.one_each)) c.index-in-loop-next-2.ensures 0 in
-    let low = before_low c.self.inside.heads.items c.self.inside.before.items c.self.inside.marks.items place c.index-in-loop-next-2.result.now c.self.invariant.chained within is in
+    let is = get_or_read c.self.inside.before.items place c.index-in-loop-next.result.now (omega (arith, within, c.self.invariant.sized.one_each)) c.index-in-loop-next.ensures 0 in
+    let low = before_low c.self.inside.heads.items c.self.inside.before.items c.self.inside.marks.items place c.index-in-loop-next.result.now c.self.invariant.chained within is in
     omega (arith, low, c.loop-next-test.true)
 
 pub loop-next-preserved : goal.loop-next-preserved
@@ -48,17 +43,17 @@ loop-next-preserved g c =
     let line = c.args.line.now in
     let ps = g.P.ProofRow.proofs c.args.row.now in
     let place = c.loop-next.next - 1 in
-    let next = c.index-in-loop-next-2.result.now in
+    let next = c.index-in-loop-next.result.now in
     let all : marks ≡ key_marks ps = ap (λ (v : Marking). v.marks) c.self.view_is ∙ c.requires.told in
-    let mark = c.requires.mark ∙ ap (λ k. key_mark k c.args.side) c.requires.key in
+    let mark = c.requires.mark in
     let within : place < length marks = omega (arith, c.loop-next.invariant.low, c.loop-next-test.true) in
-    let is = get_or_read before place next (omega (arith, within, c.self.invariant.sized.one_each)) c.index-in-loop-next-2.ensures 0 in
+    let is = get_or_read before place next (omega (arith, within, c.self.invariant.sized.one_each)) c.index-in-loop-next.ensures 0 in
     let low = before_low heads before marks place next c.self.invariant.chained within is in
-    let there = get_or_read marks place c.index-in-loop-next.result.now within c.index-in-loop-next.ensures 0 in
+    let there = get_or_read marks place c.index.result.now within c.index.ensures 0 in
     let on : NoneFrom line c.args.side ps (place + 1) = λ i p late. c.loop-next.invariant.none i p (omega (arith, late)) in
     let here : (p : Proven) → slice_get ps place ≡ Some p → AnswersFor line c.args.side p → ⊥ = λ p at. elim c.else-index-mark.branch [
       | else-index-mark-via-then-index-mark+else-is_for w ↦
-          not_found line c.args.side ps place w.is_for.result c.args.key.now p w.proof.result.now w.proof.ensures at w.if-is_for.false w.is_for.ensures c.requires.key
+          not_found line c.args.side ps place w.is_for.result p w.proof.result.now w.proof.ensures at w.if-is_for.false w.is_for.ensures
       | else-index-mark-via-else-index-mark w ↦ (λ a. w.if-index-mark.false (there ∙ answers_mark line c.args.side marks ps place c.args.mark p all mark at a))
     ] in
     record {
