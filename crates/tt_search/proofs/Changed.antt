@@ -61,6 +61,12 @@ least_set m (x ∷ xs) zero l e h = omega (arith, e, h)
 least_set m (x ∷ xs) (suc i) l e h =
     omega (arith, h, least_set m xs i (omega arith) (omega (arith, e)) (omega (arith, h)))
 
+-- what is no more than any number, nor than a new one, is no more than any then
+least_above : (m v : ℕ) (xs : List ℕ) (i : ℕ) → v ≤ least xs → v ≤ m → v ≤ least (set xs i m)
+least_above m v [] i h k = h
+least_above m v (x ∷ xs) zero h k = omega (arith, h, k)
+least_above m v (x ∷ xs) (suc i) h k = omega (arith, h, least_above m v xs i (omega (arith, h)) k)
+
 -- a sum below the cap is that of finite numbers
 finite_sum : (xs : List ℕ) → capped_sum xs < cap → (has_infinite xs ≡ false) × (sum xs ≡ capped_sum xs)
 finite_sum xs h = below (has_infinite xs) refl
@@ -247,6 +253,15 @@ module _ (mover : Side) (old new : Packed) (p : ℕ) (v : Choices) (was : Pair) 
     -- and the child's number is the node's
     pub own_now : own ≡ least (after mover)
     own_now = own_is ∙ ap (number mover) (sym tree_is) ∙ least_stays mover old new p tree is in_trees put not_risen
+
+  -- where the child's number hasn't fallen, none is below what the least was
+  pub above_was : (own : ℕ) → own ≡ number mover second → was.own ≤ own → was.own ≤ least (after mover)
+  above_was own own_is more =
+      omega (
+        arith,
+        ap least (row_is mover old new p tree is in_trees put mover),
+        least_above (number mover tree) was.own (before mover) p (omega (arith, own_was)) (omega (arith, more, own_is, ap (number mover) tree_is)),
+      )
 
 -- the least and the sum are the node's numbers
 pub pair_of : (c : Choices) (own other : ℕ) → own ≡ least (numbers c.mover (children_of c.trees)) → other ≡ capped_sum (numbers (opponent c.mover) (children_of c.trees))

@@ -24,6 +24,10 @@ best_from p v i xs = if ltb (least xs) v then i + first_least xs else p
 pub best_from_less : (p v i x : ℕ) (xs : List ℕ) → x < v → best_from i x (i + 1) xs ≡ best_from p v i (x ∷ xs)
 best_from_less p v i x xs h = grind (arith, common_steps)
 
+-- what is no more than any number behind stays the least, and its place the place
+pub best_from_least : (p v i : ℕ) (xs : List ℕ) → v ≤ least xs → best_from p v i xs ≡ p
+best_from_least p v i xs h = grind (arith, common_steps)
+
 -- another number leaves the least so far and its place
 pub best_from_same : (p v i x : ℕ) (xs : List ℕ) → v ≤ x → best_from p v (i + 1) xs ≡ best_from p v i (x ∷ xs)
 best_from_same p v i x xs h = grind (arith, common_steps)

@@ -257,7 +257,7 @@ impl Children {
         if own <= was.own {
             return (step, Pair { own, other });
         }
-        let best = self.packed.best(self.mover);
+        let best = self.packed.best(self.mover, was.own);
         self.place = best.place;
         self.rank = best.rank;
         let own = best.least;

@@ -2,7 +2,7 @@
 
 ghost use Rattle.std.specs.Prelude.{◌≡◌, ◌<◌, ◌≤◌, length, take, IsTrue};
 ghost use Rattle.tt_search.specs.Edges.{mark_of, edge_trees, counted, grown_in, AreFresh};
-ghost use Rattle.tt_search.specs.Numbers.{is_same, decided_number, cap, numbers, least, capped_sum};
+ghost use Rattle.tt_search.specs.Numbers.{is_same, decided_number, cap, infinite, numbers, least, capped_sum};
 ghost use Rattle.tt_search.specs.Children.{children_of};
 ghost use Rattle.tt_search.specs.declared.edges.TheConstants.{TURNS};
 ghost use Rattle.tt_search.specs.MostProving.{best};
@@ -98,21 +98,24 @@ impl Child<'_> {
 
 impl Packed {
     ghost use Rattle.tt_game.specs.Game.{opponent};
-    ghost use Rattle.tt_search.specs.Numbers.{numbers, least, capped_sum};
+    ghost use Rattle.tt_search.specs.Numbers.{numbers, least, infinite, capped_sum};
     ghost use Rattle.tt_search.specs.MostProving.{best};
     ghost use Rattle.tt_search.specs.Settled.{first_settled};
     ghost use Rattle.tt_search.specs.Packed.{children_in, HasItsNodes, IsRank, AreFew};
     ghost use Rattle.tt_search.specs.Pairs.{changed_sum};
 
-    /// The child to go to: the first one with the least number of the side to move.
-    pub(crate) fn best(&self, mover: Side) -> Best
+    /// The child to go to: the first one with the least number of the side to move. None has a number below `from`, so the look ends at
+    /// the first one that has it.
+    pub(crate) fn best(&self, mover: Side, from: u32) -> Best
         requires few { AreFew self.now }
         requires whole { HasItsNodes self.now }
+        requires lowest { from ≤ least (numbers mover (children_in self.now)) }
+        requires finite { from < infinite }
         ensures place { result.place ≡ best mover (children_in self.now) }
         ensures rank { IsRank result.rank result.place self.now }
         ensures least { result.least ≡ least (numbers mover (children_in self.now)) }
     {
-        best_of(mover, self.edges.as_slice(), self.grown.as_slice())
+        best_of(mover, from, self.edges.as_slice(), self.grown.as_slice())
     }
 
     /// The sum of the other side's numbers: infinite where one of them is, and otherwise at most the greatest finite one.
@@ -144,7 +147,7 @@ impl Packed {
             };
             return (best, self.edges.len() as u32);
         }
-        (self.best(mover), self.sum(mover))
+        (self.best(mover, 0), self.sum(mover))
     }
 
     /// The same sum, where it was this one before a child's number became another. Up from the cap, and from what is
@@ -199,10 +202,12 @@ fn are_fresh(edges: &[Edge]) -> bool
     !edges.is_empty()
 }
 
-/// The first child with the least number of the side to move.
-fn best_of(mover: Side, edges: &[Edge], grown: &[Node]) -> Best
+/// The first child with the least number of the side to move, where none has a number below `from`.
+fn best_of(mover: Side, from: u32, edges: &[Edge], grown: &[Node]) -> Best
     requires few { length edges.now ≤ TURNS }
     requires whole { grown_in edges.now ≡ length grown.now }
+    requires lowest { from ≤ least (numbers mover (children_of (edge_trees edges.now grown.now))) }
+    requires finite { from < infinite }
     ensures place { result.place ≡ best mover (children_of (edge_trees edges.now grown.now)) }
     ensures rank { result.rank ≡ grown_in (take result.place edges.now) }
     ensures least { result.least ≡ least (numbers mover (children_of (edge_trees edges.now grown.now))) }
@@ -215,6 +220,13 @@ fn best_of(mover: Side, edges: &[Edge], grown: &[Node]) -> Best
     for (i, edge) in edges.iter().enumerate() {
         let (child, behind) = Child::first(*edge, rest);
         let number = child.number(mover);
+        if number <= from {
+            return Best {
+                place: i as u16,
+                rank: passed as u16,
+                least: number,
+            };
+        }
         if number < least {
             place = i;
             rank = passed;

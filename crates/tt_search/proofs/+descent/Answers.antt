@@ -19,7 +19,8 @@ use Rattle.tt_search.proofs.Steady.{last_round, next_round, round_falls, same_nu
 use Rattle.tt_search.proofs.Asking.{asked_once, asked_last, granted_more}
 use Rattle.tt_search.proofs.Steps.{IsOfferable}
 use Rattle.tt_search.proofs.Places.{length-trees_of}
-use Rattle.tt_search.proofs.Changed.{few_stay, place_there, in_trees, part_was, sum_now, place_now, own_now, pair_of}
+use Rattle.tt_search.proofs.Changed.{few_stay, place_there, in_trees, part_was, sum_now, place_now, own_now, above_was, pair_of}
+use Rattle.tt_search.proofs.Rows.{number_le}
 use Rattle.tt_search.proofs.WayDown.{turn_there, child_there, has_room, way_down, child_may_grow, round_steps}
 use Rattle.tt_search.proofs.+descent.Goals as goal
 
@@ -239,6 +240,18 @@ children::Children::grow_best-returns-then-own-was-clause-numbers g t c =
     pair_of (choices_of a.mover new) c.number-own.result c.sum_after-other.result
     (own_now a.mover a.packed new c.from-place.result c.args.self.now c.args.was c.self.view_is c.requires.was is c.requires.there steps.0 steps.2
     (child_tree c.child-child.result) c.child-child.ensures c.number-own.result c.number-own.ensures c.if-own-was.true) c.sum_after-other.ensures
+
+pub children::Children::grow_best-best-best-requires-clause-lowest : goal.children::Children::grow_best-best-best-requires-clause-lowest
+children::Children::grow_best-best-best-requires-clause-lowest g t c =
+    let a = c.self.inside in
+    let steps = c.grow_at-step.ensures.steps in
+    let is = c.from-place.ensures ∙ c.self.invariant.place in
+    above_was a.mover a.packed c.grow_at-step.new.self c.from-place.result c.args.self.now c.args.was c.self.view_is c.requires.was is c.requires.there steps.0 steps.2
+    (child_tree c.child-child.result) c.child-child.ensures c.number-own.result c.number-own.ensures (omega (arith, c.if-own-was.false))
+
+pub children::Children::grow_best-best-best-requires-clause-finite : goal.children::Children::grow_best-best-best-requires-clause-finite
+children::Children::grow_best-best-best-requires-clause-finite g t c =
+    omega (arith, c.if-own-was.false, c.number-own.ensures, number_le c.self.inside.mover (child_tree c.child-child.result))
 
 pub children::Children::grow_best-returns-clause-numbers : goal.children::Children::grow_best-returns-clause-numbers
 children::Children::grow_best-returns-clause-numbers g t c =

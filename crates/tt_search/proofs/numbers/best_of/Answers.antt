@@ -7,7 +7,7 @@ use Rattle.tt_search.specs.Numbers.{number, numbers, least}
 use Rattle.tt_search.specs.Edges.{mark_of, tree_of, edge_trees, grown_behind, counted}
 use Rattle.tt_search.specs.declared.edges.Edge.{Edge}
 use Rattle.tt_search.proofs.Places.{rank_next, counted_most, whole_behind}
-use Rattle.tt_search.proofs.Rows.{least_le, best_from, best_from_start, best_from_less, best_from_same}
+use Rattle.tt_search.proofs.Rows.{least_le, best_from, best_from_start, best_from_less, best_from_least, best_from_same}
 use Rattle.tt_search.proofs.numbers.best_of.Goals.{then-number-least, else-number-least}
 use Rattle.tt_search.proofs.numbers.best_of.Goals as goal
 
@@ -42,9 +42,29 @@ module _ (mover : Side) (es : List Edge) (rest behind : List PartialTree) (i x :
   same : v ≤ x → best_from p v (i + 1) (row behind) ≡ best_from p v i (numbers mover (children_of (edge_trees (drop i es) rest)))
   same h = best_from_same p v i x (row behind) h ∙ here
 
+  -- a child whose number none is below, where those looked at are above it, is the first with the least
+  ends : (from m : ℕ) → x ≤ from → from < v → from ≤ m → min v (least (numbers mover (children_of (edge_trees (drop i es) rest)))) ≡ m
+      → (i ≡ best_from p v i (numbers mover (children_of (edge_trees (drop i es) rest)))) × (x ≡ m)
+  ends from m low high bound is_least =
+      let lowest : x ≤ least (row behind) = omega (arith, low, high, bound, is_least, least_here) in
+      (sym (best_from_least i x (i + 1) (row behind) lowest) ∙ less (omega (arith, low, high)), omega (arith, low, high, bound, is_least, least_here))
+
+pub returns-then-number-from-clause-place : goal.returns-then-number-from-clause-place
+returns-then-number-from-clause-place c =
+    let is = c.number-number.ensures ∙ ap (number c.args.mover) c.first.ensures.child in
+    (ends c.args.mover c.args.edges.now c.loop-i.rest.now c.first.result.1.now c.loop-i.i c.number-number.result c.loop-i-test.true is c.first.ensures.behind
+    c.loop-i.place c.loop-i.least c.args.from _ c.if-number-from.true c.loop-i.invariant.higher c.requires.lowest c.loop-i.invariant.least).0 ∙ c.loop-i.invariant.place
+
+pub returns-then-number-from-clause-least : goal.returns-then-number-from-clause-least
+returns-then-number-from-clause-least c =
+    let is = c.number-number.ensures ∙ ap (number c.args.mover) c.first.ensures.child in
+    (ends c.args.mover c.args.edges.now c.loop-i.rest.now c.first.result.1.now c.loop-i.i c.number-number.result c.loop-i-test.true is c.first.ensures.behind
+    c.loop-i.place c.loop-i.least c.args.from _ c.if-number-from.true c.loop-i.invariant.higher c.requires.lowest c.loop-i.invariant.least).1
+
 pub loop-i-init : goal.loop-i-init
 loop-i-init c = record {
   most = omega arith;
+  higher = c.requires.finite;
   place = best_from_start c.args.mover (children_of (edge_trees c.args.edges.now c.args.grown.now));
   least = omega (arith, least_le (numbers c.args.mover (children_of (edge_trees c.args.edges.now c.args.grown.now))));
   looked_at = omega arith;
@@ -63,6 +83,10 @@ loop-i-preserved c =
     c.first.ensures.behind c.loop-i.place c.loop-i.least in
     record {
       most = search rules;
+      higher = elim c.if-number-least.branch [
+        | then-number-least w ↦ omega (arith, w.least-is, c.if-number-from.false)
+        | else-number-least w ↦ omega (arith, w.least-is, c.loop-i.invariant.higher)
+      ];
       place = elim c.if-number-least.branch [
         | then-number-least w ↦
             rw (w.place-is, w.least-is)

@@ -1,4 +1,4 @@
-use Rattle.std.proofs.Common.{◌≡◌, ◌≤◌, length, min, take, drop}
+use Rattle.std.proofs.Common.{◌≡◌, ◌<◌, ◌≤◌, length, min, take, drop}
 use Rattle.tt_search.specs.Numbers.{numbers, infinite, least}
 use Rattle.tt_search.specs.MostProving.{best}
 use Rattle.tt_search.specs.Children.{children_of}
@@ -9,6 +9,7 @@ use Rattle.tt_search.proofs.numbers.best_of.Given as goal
 abbrev pub invariant-loop-i : goal.invariant-loop-i
 invariant-loop-i l = record {
   most : l.least ≤ infinite;
+  higher : l.from < l.least;
   place : best_from l.place l.least l.i (numbers l.mover (children_of (edge_trees (drop l.i l.edges) l.rest))) ≡ best l.mover (children_of (edge_trees l.edges l.grown));
   least : min l.least (least (numbers l.mover (children_of (edge_trees (drop l.i l.edges) l.rest)))) ≡ least (numbers l.mover (children_of (edge_trees l.edges l.grown)));
   looked_at : l.place ≤ l.i;
