@@ -21,15 +21,21 @@ use super::quiet::{Glance, Names, colour_number, names_beside};
 use std::marker::Model;
 use tt_sgf::{BITS, Bits, Size};
 
-/// A size, a colouring of its points in which each stone reaches empty, and its chains: the name of the chain on each place, 0 where
-/// it is empty, and each chain's counts of stones and of liberties at its root.
+/// The name of the chain on each place, 0 where it is empty, and each chain's counts of stones and of liberties at its root. They lie
+/// side by side, so that a board takes them over from another one in one move.
+#[derive(Clone, Copy)]
+struct ChainCounts {
+    names: [u16; 361],
+    stones: [u16; 361],
+    liberties: [u16; 361],
+}
+
+/// A size, a colouring of its points in which each stone reaches empty, and its chains with their counts.
 #[derive(Drop)]
 pub(crate) struct Chains {
     size: Size,
     points: Colouring,
-    names: [u16; 361],
-    stones: [u16; 361],
-    liberties: [u16; 361],
+    counts: ChainCounts,
 }
 
 impl Model for Chains {
@@ -37,9 +43,9 @@ impl Model for Chains {
 
     ghost Value = { ChainBoard };
 
-    ghost view = { λ b. record { size = b.size; points = b.points; names = b.names; stones = b.stones; liberties = b.liberties } };
+    ghost view = { λ b. record { size = b.size; points = b.points; names = b.counts.names; stones = b.counts.stones; liberties = b.counts.liberties } };
 
-    ghost invariant = { λ b. IsChainBoard (record { size = b.size; points = b.points; names = b.names; stones = b.stones; liberties = b.liberties }) };
+    ghost invariant = { λ b. IsChainBoard (record { size = b.size; points = b.points; names = b.counts.names; stones = b.counts.stones; liberties = b.counts.liberties }) };
 }
 
 /// A number 0 for each place.
@@ -71,9 +77,11 @@ impl Chains {
         Chains {
             size,
             points: Colouring::empty(size.point_count()),
-            names: zeros(),
-            stones: zeros(),
-            liberties: zeros(),
+            counts: ChainCounts {
+                names: zeros(),
+                stones: zeros(),
+                liberties: zeros(),
+            },
         }
     }
 
@@ -98,7 +106,7 @@ impl Chains {
         requires { p < point_count self.now.size }
         ensures { result ≡ name_at self.now.names p }
     {
-        self.names[p]
+        self.counts.names[p]
     }
 
     /// How many stones the chain of the stone on `p` has, 1 to 360.
@@ -107,7 +115,7 @@ impl Chains {
         requires stone { entry_at self.now.points p ≢ None }
         ensures { IsCountOf result (AreLinked self.now.size self.now.points p) }
     {
-        self.stones[root_of(self.names[p])]
+        self.counts.stones[root_of(self.counts.names[p])]
     }
 
     /// How many liberties the chain of the stone on `p` has, 1 to 360.
@@ -116,7 +124,7 @@ impl Chains {
         requires stone { entry_at self.now.points p ≢ None }
         ensures { IsCountOf result (IsLibertyOf self.now.size self.now.points p) }
     {
-        self.liberties[root_of(self.names[p])]
+        self.counts.liberties[root_of(self.counts.names[p])]
     }
 
     /// Puts a stone on the empty point `p`, where each stone reaches empty then, and makes it one with the chains of its colour beside it.
@@ -127,7 +135,7 @@ impl Chains {
         ensures size { self.new.size ≡ self.old.size }
         ensures points { self.new.points ≡ slice_set self.old.points p (Some colour) }
     {
-        let near = names_beside(self.size, &self.names, p);
+        let near = names_beside(self.size, &self.counts.names, p);
         self.put(colour, p, &near);
     }
 
@@ -143,18 +151,18 @@ impl Chains {
         self.points.set(p, Some(colour));
         start(
             self.size,
-            &mut self.names,
-            &mut self.stones,
-            &mut self.liberties,
+            &mut self.counts.names,
+            &mut self.counts.stones,
+            &mut self.counts.liberties,
             p,
             new_name(colour, p),
             near,
         );
         join_beside(
             self.size,
-            &mut self.names,
-            &mut self.stones,
-            &mut self.liberties,
+            &mut self.counts.names,
+            &mut self.counts.stones,
+            &mut self.counts.liberties,
             p,
             near,
         );
@@ -169,12 +177,12 @@ impl Chains {
         ensures gone { (q : ℕ) → name_at self.old.names q ≡ name → entry_at self.new.points q ≡ None }
         ensures kept { (q : ℕ) → name_at self.old.names q ≢ name → entry_at self.new.points q ≡ entry_at self.old.points q }
     {
-        let stones = self.stones[root_of(name)];
+        let stones = self.counts.stones[root_of(name)];
         release(
             self.size,
             &mut self.points,
-            &mut self.names,
-            &mut self.liberties,
+            &mut self.counts.names,
+            &mut self.counts.liberties,
             name,
             stones,
         );
@@ -207,7 +215,7 @@ impl Chains {
         ensures fits { length self.now.points ≡ point_count self.now.size }
         ensures told { IsTold result self.now.size self.now.points colour p }
     {
-        let near = names_beside(self.size, &self.names, p);
+        let near = names_beside(self.size, &self.counts.names, p);
         self.told(colour, &near)
     }
 
@@ -218,10 +226,10 @@ impl Chains {
         ensures { (p : ℕ) → p < point_count self.now.size → entry_at self.now.points p ≡ None → AreNear self.now.size self.now.names p near.now
             → IsTold result self.now.size self.now.points colour p }
     {
-        if near.has_last(&self.liberties, colour_number(colour.other())) {
+        if near.has_last(&self.counts.liberties, colour_number(colour.other())) {
             return Glance::Unclear;
         }
-        if near.has_open(&self.liberties, colour_number(colour)) {
+        if near.has_open(&self.counts.liberties, colour_number(colour)) {
             return Glance::Quiet;
         }
         if near.has_own(colour_number(colour)) {
@@ -238,7 +246,7 @@ impl Chains {
         let mut found = Bits::none();
         let mut q = stones.first_from(0);
         while q < BITS {
-            if self.liberties[root_of(self.names[q])] == 1 {
+            if self.counts.liberties[root_of(self.counts.names[q])] == 1 {
                 found.set(q);
             }
             q = stones.first_from(q + 1);
@@ -288,28 +296,28 @@ impl Chains {
         ensures once { IsEachOnce result.goes.items }
         ensures living { (m : ℕ) → Contains result.goes.items m → (m ≢ 0) × (name_at self.now.names (root_of m) ≡ m) }
     {
-        let near = chains_beside(self.size, &self.names, p, 0);
-        let weak = last_liberty(&self.liberties, near.as_slice(), colour.other());
+        let near = chains_beside(self.size, &self.counts.names, p, 0);
+        let weak = last_liberty(&self.counts.liberties, near.as_slice(), colour.other());
         if !weak.is_empty() {
             return Look {
                 goes: weak,
                 suicide: false,
             };
         }
-        if names_beside(self.size, &self.names, p).empty() > 0 {
+        if names_beside(self.size, &self.counts.names, p).empty() > 0 {
             return Look {
                 goes: weak,
                 suicide: false,
             };
         }
-        if has_more(&self.liberties, near.as_slice(), colour) {
+        if has_more(&self.counts.liberties, near.as_slice(), colour) {
             return Look {
                 goes: weak,
                 suicide: false,
             };
         }
         Look {
-            goes: last_liberty(&self.liberties, near.as_slice(), colour),
+            goes: last_liberty(&self.counts.liberties, near.as_slice(), colour),
             suicide: true,
         }
     }
@@ -338,7 +346,7 @@ impl Chains {
         ensures size { self.new.size ≡ self.old.size }
         ensures points { self.new.points ≡ play_of self.old.size self.old.points colour p }
     {
-        let near = names_beside(self.size, &self.names, p);
+        let near = names_beside(self.size, &self.counts.names, p);
         match self.told(colour, &near) {
             Glance::Quiet => self.put(colour, p, &near),
             Glance::Vain | Glance::Unclear => self.make_taking(colour, p),
@@ -353,8 +361,8 @@ impl Chains {
         ensures gone { (q : ℕ) → name_at self.now.names q ≡ name → entry_at points.new q ≡ None }
         ensures kept { (q : ℕ) → name_at self.now.names q ≢ name → entry_at points.new q ≡ entry_at points.old q }
     {
-        let stones = self.stones[root_of(name)];
-        lift_chain(self.size, points, &self.names, name, stones);
+        let stones = self.counts.stones[root_of(name)];
+        lift_chain(self.size, points, &self.counts.names, name, stones);
     }
 
     /// The colouring after a play by which stones may go.
@@ -394,9 +402,7 @@ impl Chains {
     {
         self.size = other.size;
         self.points = other.points.copy();
-        self.names = other.names;
-        self.stones = other.stones;
-        self.liberties = other.liberties;
+        self.counts = other.counts;
     }
 
     /// The same again.
@@ -406,9 +412,7 @@ impl Chains {
         Chains {
             size: self.size,
             points: self.points.copy(),
-            names: self.names,
-            stones: self.stones,
-            liberties: self.liberties,
+            counts: self.counts,
         }
     }
 }

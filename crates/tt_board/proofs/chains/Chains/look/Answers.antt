@@ -10,8 +10,8 @@ pub last_liberty-weak-requires-clause-in_range : goal.last_liberty-weak-requires
 last_liberty-weak-requires-clause-in_range c =
     let b = c.self.inside in let i = c.self.invariant in
     rw c.as_slice.ensures.value (λ j in'.
-    let h = near_below b.size b.names c.chains_beside-near.result.items c.args.p
-    (all_rooted b.size b.names c.chains_beside-near.result.items c.args.p i.counted.rooted) (λ m has. let t = (c.chains_beside-near.ensures.beside m).0 has in (t.0, t.2)) j in' in
+    let h = near_below b.size b.counts.names c.chains_beside-near.result.items c.args.p
+    (all_rooted b.size b.counts.names c.chains_beside-near.result.items c.args.p i.counted.rooted) (λ m has. let t = (c.chains_beside-near.ensures.beside m).0 has in (t.0, t.2)) j in' in
     omega (arith, h, i.wide.0, i.wide.2))
 
 pub has_more-requires : goal.has_more-requires
@@ -19,8 +19,8 @@ has_more-requires c = record {
   in_range =
       let b = c.self.inside in let i = c.self.invariant in
       rw c.as_slice-2.ensures.value (λ j in'.
-      let h = near_below b.size b.names c.chains_beside-near.result.items c.args.p
-      (all_rooted b.size b.names c.chains_beside-near.result.items c.args.p i.counted.rooted) (λ m has. let t = (c.chains_beside-near.ensures.beside m).0 has in (t.0, t.2)) j in' in
+      let h = near_below b.size b.counts.names c.chains_beside-near.result.items c.args.p
+      (all_rooted b.size b.counts.names c.chains_beside-near.result.items c.args.p i.counted.rooted) (λ m has. let t = (c.chains_beside-near.ensures.beside m).0 has in (t.0, t.2)) j in' in
       omega (arith, h, i.wide.0, i.wide.2));
 }
 
@@ -28,8 +28,8 @@ pub last_liberty-requires-clause-in_range : goal.last_liberty-requires-clause-in
 last_liberty-requires-clause-in_range c =
     let b = c.self.inside in let i = c.self.invariant in
     rw c.as_slice-3.ensures.value (λ j in'.
-    let h = near_below b.size b.names c.chains_beside-near.result.items c.args.p
-    (all_rooted b.size b.names c.chains_beside-near.result.items c.args.p i.counted.rooted) (λ m has. let t = (c.chains_beside-near.ensures.beside m).0 has in (t.0, t.2)) j in' in
+    let h = near_below b.size b.counts.names c.chains_beside-near.result.items c.args.p
+    (all_rooted b.size b.counts.names c.chains_beside-near.result.items c.args.p i.counted.rooted) (λ m has. let t = (c.chains_beside-near.ensures.beside m).0 has in (t.0, t.2)) j in' in
     omega (arith, h, i.wide.0, i.wide.2))
 
 pub returns-then-not-is_empty : goal.returns-then-not-is_empty
@@ -87,7 +87,7 @@ returns c =
     (rw c.as_slice-3.ensures.value at c.last_liberty.ensures.found) in
     let filled = none_empty c.args.self.now.size c.args.self.now.points c.args.self.now.names p is.named (omega (arith, bare, c.if-empty-gt0.false)) in
     let none_more = subst (λ (v : ChainBoard). (m : ℕ) → Contains near m → m / 512 ≡ colour_number k → name_at v.liberties (root_of m) ≡ 1) c.self.view_is
-    (λ m has code. elim (cases_eq (name_at c.self.inside.liberties (root_of m)) 1) [
+    (λ m has code. elim (cases_eq (name_at c.self.inside.counts.liberties (root_of m)) 1) [
       | inl one ↦ one
       | inr several ↦ absurd (true≢false (sym (c.has_more.ensures.1 (m, subst (λ xs. Contains xs m) (sym c.as_slice-2.ensures.value) has, code, several)) ∙ c.if-has_more.false))
     ]) in

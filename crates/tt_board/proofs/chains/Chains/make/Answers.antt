@@ -9,7 +9,7 @@ use Rattle.tt_board.proofs.chains.Chains.make.Goals as goal
 pub told-requires : goal.told-requires
 told-requires c = λ m one.
     let b = c.self.inside in let i = c.self.invariant in
-    roots_below b.size b.names c.args.p m i.wide.0 i.counted.rooted (λ apart. (c.names_beside-near.ensures.touching m apart).0 one)
+    roots_below b.size b.counts.names c.args.p m i.wide.0 i.counted.rooted (λ apart. (c.names_beside-near.ensures.touching m apart).0 one)
 
 pub put-requires-clause-near : goal.put-requires-clause-near
 put-requires-clause-near c =

@@ -20,10 +20,10 @@ start-requires-clause-near c =
 pub join_beside-requires-clause-near : goal.join_beside-requires-clause-near
 join_beside-requires-clause-near c =
     let b = c.self.inside in let i = c.self.invariant in let p = c.args.p in
-    let near : AreNear b.size b.names p c.args.near.now = subst (λ (v : ChainBoard). AreNear v.size v.names p c.args.near.now) (sym c.self.view_is) c.requires.near in
+    let near : AreNear b.size b.counts.names p c.args.near.now = subst (λ (v : ChainBoard). AreNear v.size v.names p c.args.near.now) (sym c.self.view_is) c.requires.near in
     let on : p < point_count b.size = subst (λ (v : ChainBoard). p < point_count v.size) (sym c.self.view_is) c.requires.on_board in
     subst (λ ns. AreNear b.size ns p c.args.near.now) (sym c.start.ensures.put)
-    (near_off b.size b.names p c.new_name.result on (omega (arith, few_points b.size, i.wide.0, on)) c.args.near.now near)
+    (near_off b.size b.counts.names p c.new_name.result on (omega (arith, few_points b.size, i.wide.0, on)) c.args.near.now near)
 
 pub invariant_of-self : goal.invariant_of-self
 invariant_of-self c =
@@ -33,8 +33,8 @@ invariant_of-self c =
     let free : entry_at b.points p ≡ None = subst (λ (v : ChainBoard). entry_at v.points p ≡ None) (sym c.self.view_is) c.requires.free in
     let alive : IsAlive b.size (set b.points p (Some k)) = subst (λ (v : ChainBoard). IsAlive v.size (set v.points p (Some k))) (sym c.self.view_is) c.requires.alive in
     let living : c.new_name.result ≢ 0 = λ z. omega (arith, c.new_name.ensures.living) in
-    let but : AreNamesBut b.size (set b.points p (Some k)) (set b.names p c.new_name.result) p
-    = but_placed b.size b.points b.names k p c.new_name.result on (omega (arith, i.fits, on)) (omega (arith, few, i.wide.0, on)) free i.named i.counted.rooted
+    let but : AreNamesBut b.size (set b.points p (Some k)) (set b.counts.names p c.new_name.result) p
+    = but_placed b.size b.points b.counts.names k p c.new_name.result on (omega (arith, i.fits, on)) (omega (arith, few, i.wide.0, on)) free i.named i.counted.rooted
     living c.new_name.ensures.root c.new_name.ensures.colour in
     record {
       fits = ap length c.set.ensures ∙ length-set b.points p (Some k) ∙ i.fits;

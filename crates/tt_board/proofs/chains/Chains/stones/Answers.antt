@@ -7,5 +7,5 @@ pub returns : goal.returns
 returns c =
     let b = c.args.self.now in let p = c.args.p in
     subst (λ n. IsCountOf n (AreLinked b.size b.points p))
-    (sym (ap (λ (v : ChainBoard). name_at v.stones (root_of (name_at v.names p))) c.self.view_is) ∙ ap (name_at c.self.inside.stones) (sym c.root_of.ensures.value))
+    (sym (ap (λ (v : ChainBoard). name_at v.stones (root_of (name_at v.names p))) c.self.view_is) ∙ ap (name_at c.self.inside.counts.stones) (sym c.root_of.ensures.value))
     (stones_exact b p (subst IsChainBoard c.self.view_is c.self.invariant) c.requires.on_board c.requires.stone)

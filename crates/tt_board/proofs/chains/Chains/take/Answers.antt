@@ -9,9 +9,9 @@ invariant_of-self c =
     record {
       fits = r.still_fits ∙ i.fits;
       wide = (c.release.auto.names ∙ i.wide.0, i.wide.1, c.release.auto.liberties ∙ i.wide.2);
-      named = subst (AreNames b.size after.points) (sym r.names) (names_taken b.size b.points after.points b.names e c.requires.living.0 i.named r.gone r.kept);
-      counted = subst (λ ns. AreCounted b.size ns b.stones after.liberties) (sym r.names)
-          (counted_taken b.size b.names b.stones b.liberties after.liberties e c.requires.living.0 i.counted
+      named = subst (AreNames b.size after.points) (sym r.names) (names_taken b.size b.points after.points b.counts.names e c.requires.living.0 i.named r.gone r.kept);
+      counted = subst (λ ns. AreCounted b.size ns b.counts.stones after.liberties) (sym r.names)
+          (counted_taken b.size b.counts.names b.counts.stones b.counts.liberties after.liberties e c.requires.living.0 i.counted
           (subst (λ ns. IsCountedBut b.size ns after.liberties e) r.names r.still_counted));
-      alive = alive_fewer b.size b.points after.points i.alive (taken_fewer b.size b.points after.points b.names e c.requires.living.0 i.named r.gone r.kept);
+      alive = alive_fewer b.size b.points after.points i.alive (taken_fewer b.size b.points after.points b.counts.names e c.requires.living.0 i.named r.gone r.kept);
     }
