@@ -1,29 +1,31 @@
 -- What a play does, by the counts before it.
-use Rattle.std.proofs.Common.{◌≡◌, ◌≢◌, ℕ, ◌+◌, ◌/◌, ◌%◌, ◌<◌, ◌≤◌, ◌⊎◌, ◌↔◌, ◌&&◌, ◌==◌, ◌++◌, List, [], ◌∷◌, Option, Some, None, Bool, true, false, IsTrue, cond, eqb, get_or}
+use Rattle.std.proofs.Common.{◌≡◌, ◌≢◌, ℕ, ◌/◌, ◌%◌, ◌<◌, ◌≤◌, ◌⊎◌, ◌↔◌, List, Option, Some, None, Bool, true, false, IsTrue, cond, get_or}
 use Rattle.std.proofs.Common.{set, map, length, Contains}
 use Rattle.std.proofs.Common.{inl, inr, refl, sym, ap, subst, ◌∙◌, arith}
 use Rattle.std.specs.List.{range_with_len}
 use Rattle.std.proofs.lemmas.Bool.{cases_eq, cases_lt, false≢true, and_from, and_parts, eq-eqb, eqb-true}
 use Rattle.std.proofs.lemmas.Option.{none-some}
-use Rattle.std.proofs.lemmas.List.{length-set, get_or-set_same, get_or-set_other, get_or_past, ext_get_or, get_or_default, length_push}
-use Rattle.std.proofs.lemmas.List.Elements.{Contains-get_or, Contains-push, Contains-push_cases, Contains-append_left}
+use Rattle.std.proofs.lemmas.List.{length-set, get_or-set_same, get_or-set_other, get_or_past, ext_get_or}
+use Rattle.std.proofs.lemmas.List.Elements.{Contains-get_or}
 use Rattle.std.proofs.lemmas.List.FromFn.{get_or-map-range_with_len, length-map-range_with_len}
 use Rattle.tt_board.specs.declared.Colour.{Colour}
 use Rattle.tt_board.specs.declared.Colour.TheVariants.{Black, White}
 use Rattle.tt_sgf.specs.declared.size.Size.{Size}
 use Rattle.tt_sgf.specs.Sizes.{point_count}
+use Rattle.tt_board.specs.declared.quiet.Names.{Names}
 use Rattle.tt_board.specs.Near.{IsNeighbour}
 use Rattle.tt_board.specs.Position.{Colouring}
 use Rattle.tt_board.specs.Reach.{entry_at, Reaches}
 use Rattle.tt_board.specs.ReachLaws.{reaches_beside, reaches_on, reaches_all}
-use Rattle.tt_board.specs.Decided.{neighbour, decided, decided_is, decided_not}
+use Rattle.tt_board.specs.Decided.{decided, decided_is, decided_not}
 use Rattle.tt_board.specs.Play.{other, play_of}
 use Rattle.tt_board.specs.Chain.{IsLifted}
-use Rattle.tt_board.specs.Chains.{name_at, root_of, colour_number, IsNamed, Touches, touching, is_liberty, liberty_count, AreNames, ChainBoard, IsChainBoard, IsEachOnce, count_beside}
-use Rattle.tt_board.proofs.CountLemmas.{once_push, count_some, some_counted, another_counted, two_counted, in_list}
+use Rattle.tt_board.specs.Chains.{name_at, root_of, colour_number, IsNamed, Touches, touching, is_liberty, liberty_count, ChainBoard, IsChainBoard, IsEachOnce, IsOneName, AreNear}
+use Rattle.tt_board.proofs.CountLemmas.{count_some, another_counted, two_counted, in_list}
 use Rattle.tt_board.proofs.LinkLemmas.{linked_kept, reaches_linked, named_bare, bare_named, named_stone, stone_named, one_name}
 use Rattle.tt_board.proofs.LiftLemmas.{near_back, lifted_none, play_is}
 use Rattle.tt_board.proofs.PlayLemmas.{other_differs}
+use Rattle.tt_board.proofs.QuietLemmas.{coded}
 
 -- whole chains of colour k that no empty point is beside are lifted
 pub lifted_set : (s : Size) (c d : Colouring) (k : Colour) (In : ℕ → Type 0) → length d ≡ point_count s
@@ -212,8 +214,8 @@ module _ (b : ChainBoard) (k : Colour) (p : ℕ) (is : IsChainBoard b) (in_p : p
         sym (play_is b.size b.points k p is.fits in_p is.alive free put b.points
         (lifted_none b.size put (other k) (length-set b.points p (Some k) ∙ is.fits)) (λ q near' theirs. inl (theirs_reach q near' theirs)) alone (λ _. inr free))
 
-  module _ (near weak : List ℕ) (all : (m : ℕ) → Contains near m ↔ ((m ≢ 0) × (m ≢ 0) × Touches b.size b.names m p))
-      (last : (m : ℕ) → Contains weak m ↔ (Contains near m × (m / 512 ≡ colour_number (other k)) × (name_at b.liberties (root_of m) ≡ 1))) where
+  module _ (Near : ℕ → Type 0) (weak : List ℕ) (all : (m : ℕ) → Near m ↔ ((m ≢ 0) × (m ≢ 0) × Touches b.size b.names m p))
+      (last : (m : ℕ) → Contains weak m ↔ (Near m × (m / 512 ≡ colour_number (other k)) × (name_at b.liberties (root_of m) ≡ 1))) where
     -- the opponent's chains that go
     weak_is : (m : ℕ) → Contains weak m → (m ≢ 0) × Touches b.size b.names m p × (m / 512 ≡ colour_number (other k)) × (liberty_count b.size b.names m ≡ 1)
     weak_is m has =
@@ -294,7 +296,7 @@ module _ (b : ChainBoard) (k : Colour) (p : ℕ) (is : IsChainBoard b) (in_p : p
         (taken_kept q (λ has. (weak_is _ has).0 (named_bare _ _ (is.named.named q) bare)) ∙ off q apart ∙ bare)
 
     -- so is one that an own chain reaches, where none is captured
-    pub own_by_chain : ((m : ℕ) → Contains weak m → ⊥) → (m : ℕ) → Contains near m → m / 512 ≡ colour_number k → name_at b.liberties (root_of m) ≢ 1 → Reaches b.size taken p None
+    pub own_by_chain : ((m : ℕ) → Contains weak m → ⊥) → (m : ℕ) → Near m → m / 512 ≡ colour_number k → name_at b.liberties (root_of m) ≢ 1 → Reaches b.size taken p None
     own_by_chain nobody m has code several =
         let h = (all m).0 has in
         let r = h.2.0 in
@@ -338,9 +340,9 @@ module _ (b : ChainBoard) (k : Colour) (p : ℕ) (is : IsChainBoard b) (in_p : p
         }
 
     -- ---- suicide: none of the opponent's goes, no point beside p is empty, and p is the one liberty of each own chain beside it
-    module _ (mine : List ℕ) (last_mine : (m : ℕ) → Contains mine m ↔ (Contains near m × (m / 512 ≡ colour_number k) × (name_at b.liberties (root_of m) ≡ 1)))
+    module _ (mine : List ℕ) (last_mine : (m : ℕ) → Contains mine m ↔ (Near m × (m / 512 ≡ colour_number k) × (name_at b.liberties (root_of m) ≡ 1)))
         (nobody : (m : ℕ) → Contains weak m → ⊥) (filled : (q : ℕ) → IsNeighbour b.size p q → entry_at b.points q ≢ None)
-        (none_more : (m : ℕ) → Contains near m → m / 512 ≡ colour_number k → name_at b.liberties (root_of m) ≡ 1) where
+        (none_more : (m : ℕ) → Near m → m / 512 ≡ colour_number k → name_at b.liberties (root_of m) ≡ 1) where
       -- one's own chains that go
       mine_is : (m : ℕ) → Contains mine m → (m ≢ 0) × Touches b.size b.names m p × (m / 512 ≡ colour_number k) × (liberty_count b.size b.names m ≡ 1)
       mine_is m has =
@@ -445,68 +447,17 @@ module _ (b : ChainBoard) (k : Colour) (p : ℕ) (is : IsChainBoard b) (in_p : p
             (w.0, subst (λ x. name_at b.names (root_of x) ≡ x) w.1.2.1 (is.counted.rooted w.1.0 (λ z. w.0 (sym w.1.2.1 ∙ z))));
       }
 
--- a count of the empty points beside p tells whether there is one
-pub empty_there : (s : Size) (c : Colouring) (ns : List ℕ) (p : ℕ) → AreNames s c ns → 0 < count_beside s (λ q. name_at ns q == 0) p
-    → (q : ℕ) × IsNeighbour s p q × (entry_at c q ≡ None)
-unfolding count_beside
-empty_there s c ns p names some =
-    let f = some_counted (λ q. eqb (name_at ns q) 0 && decided (neighbour s p q)) (point_count s) some in
-    let parts = and_parts _ _ f.2 in
-    (f.0, (decided_is (neighbour s p f.0)).0 parts.1, bare_named _ _ (names.named f.0) (eqb-true (name_at ns f.0) 0 parts.0))
+-- ---- four names
 
--- where the count is 0 there is none
-pub none_empty : (s : Size) (c : Colouring) (ns : List ℕ) (p : ℕ) → AreNames s c ns → count_beside s (λ q. name_at ns q == 0) p ≤ 0
-    → (q : ℕ) → IsNeighbour s p q → entry_at c q ≢ None
-unfolding count_beside
-none_empty s c ns p names none q near bare =
-    let some = count_some (λ x. eqb (name_at ns x) 0 && decided (neighbour s p x)) (point_count s) q near.0
-    (and_from _ _ (eq-eqb (name_at ns q) 0 (named_bare _ _ (names.named q) bare)) ((decided_is (neighbour s p q)).1 near)) in
-    omega (arith, some, none)
-
--- ---- chains with one liberty
-
--- those of the first chains of a list that are of a colour and have one liberty
-pub record LastOnes (near liberties : List ℕ) (k : Colour) (i : ℕ) (found : List ℕ) : Type 0 where
-  pub room : length found ≤ i
-  pub only : (m : ℕ) → Contains found m → (j : ℕ) × (j < i) × (name_at near j ≡ m) × (m / 512 ≡ colour_number k) × (name_at liberties (root_of m) ≡ 1)
-  pub all : (j : ℕ) → j < i → name_at near j / 512 ≡ colour_number k → name_at liberties (root_of (name_at near j)) ≡ 1 → Contains found (name_at near j)
-  pub once : IsEachOnce found
-
--- one more that is of the colour and has one liberty
-pub last_more : (near liberties : List ℕ) (k : Colour) (i : ℕ) (found : List ℕ) → LastOnes near liberties k i found → IsEachOnce near → i < length near
-    → name_at near i / 512 ≡ colour_number k → name_at liberties (root_of (name_at near i)) ≡ 1 → LastOnes near liberties k (i + 1) (found ++ name_at near i ∷ [])
-last_more near liberties k i found l once in' code one = record {
-  room = omega (arith, length_push found (name_at near i), l.room);
-  only = λ m has. elim (Contains-push_cases found (name_at near i) m has) [
-    | inl old ↦ let h = l.only m old in (h.0, omega (arith, h.1), h.2, h.3, h.4)
-    | inr new ↦ (i, omega arith, new, subst (λ x. x / 512 ≡ colour_number k) new code, subst (λ x. name_at liberties (root_of x) ≡ 1) new one)
-  ];
-  all = λ j below c o. elim (cases_eq j i) [
-    | inl same ↦ subst (λ x. Contains (found ++ name_at near i ∷ []) (name_at near x)) (sym same) (Contains-push found (name_at near i))
-    | inr apart ↦ Contains-append_left found (name_at near i ∷ []) (name_at near j) (l.all j (omega arith) c o)
-  ];
-  once = once_push found (name_at near i) l.once (λ has. let h = l.only (name_at near i) has in once h.0 i h.1 in' h.2);
-}
-
--- one more that is not
-pub last_same : (near liberties : List ℕ) (k : Colour) (i : ℕ) (found : List ℕ) → LastOnes near liberties k i found
-    → (name_at near i / 512 ≡ colour_number k → name_at liberties (root_of (name_at near i)) ≡ 1 → ⊥) → LastOnes near liberties k (i + 1) found
-last_same near liberties k i found l isnt = record {
-  room = omega (arith, l.room);
-  only = λ m has. let h = l.only m has in (h.0, omega (arith, h.1), h.2, h.3, h.4);
-  all = λ j below c o. elim (cases_eq j i) [
-    | inl same ↦ absurd (isnt (subst (λ x. name_at near x / 512 ≡ colour_number k) same c) (subst (λ x. name_at liberties (root_of (name_at near x)) ≡ 1) same o))
-    | inr apart ↦ l.all j (omega arith) c o
-  ];
-  once = l.once;
-}
-
--- all of the list's
-pub last_all : (near liberties : List ℕ) (k : Colour) (i : ℕ) (found : List ℕ) → LastOnes near liberties k i found → i ≡ length near
-    → (m : ℕ) → Contains found m ↔ (Contains near m × (m / 512 ≡ colour_number k) × (name_at liberties (root_of m) ≡ 1))
-last_all near liberties k i found l end m = (
-  λ has. let h = l.only m has in (subst (Contains near) h.2 (Contains-get_or near h.0 0 (omega (arith, h.1, end))), h.3, h.4),
-  λ h.
-      let is : name_at near h.0.0 ≡ m = get_or_default near h.0.0 0 m h.0.1 ∙ h.0.2 in
-      subst (Contains found) is (l.all h.0.0 (omega (arith, h.0.1, end)) (subst (λ x. x / 512 ≡ colour_number k) (sym is) h.1) (subst (λ x. name_at liberties (root_of x) ≡ 1) (sym is) h.2)),
+-- a chain of a colour is one of the names beside p exactly where one of its stones is beside p
+pub one_beside : (s : Size) (ns : List ℕ) (p : ℕ) (near : Names) (k : Colour) (Q : ℕ → Type 0) → AreNear s ns p near
+    → (m : ℕ) → (IsOneName near.above near.left near.right near.below m × (m / 512 ≡ colour_number k) × Q m)
+    ↔ (((m ≢ 0) × (m ≢ 0) × Touches s ns m p) × (m / 512 ≡ colour_number k) × Q m)
+one_beside s ns p near k Q at m = (
+  λ h. let some = code_some m k h.1 in ((some, some, (at.touching m (coded m k h.1)).0 h.0), h.1, h.2),
+  λ h. ((at.touching m (coded m k h.1)).1 h.0.2, h.1, h.2),
 )
+  where
+    code_some : (n : ℕ) (j : Colour) → n / 512 ≡ colour_number j → n ≢ 0
+    code_some n Black code zero = omega (arith, code, zero)
+    code_some n White code zero = omega (arith, code, zero)

@@ -15,8 +15,8 @@ use super::around::{around, first_column};
 use super::captures::{lift_chain, release};
 use super::colouring::Colouring;
 use super::joins::{join_beside, start};
-use super::looks::{Look, has_more, last_liberty};
-use super::names::{chains_beside, root_of};
+use super::looks::{Look, last_ones};
+use super::names::root_of;
 use super::quiet::{Glance, Names, colour_number, names_beside};
 use std::marker::Model;
 use tt_sgf::{BITS, Bits, Size};
@@ -269,19 +269,6 @@ impl Chains {
         points.and(&near).minus(&around(self.size, &first, &last))
     }
 
-    /// Whether a play of `colour` on the empty point `p` is known to put a stone and to take none off.
-    fn is_quiet(&self, colour: Colour, p: usize) -> bool
-        requires on_board { p < point_count self.now.size }
-        requires free { entry_at self.now.points p ≡ None }
-        ensures fits { length self.now.points ≡ point_count self.now.size }
-        ensures put { IsTrue result → play_of self.now.size self.now.points colour p ≡ slice_set self.now.points p (Some colour) }
-    {
-        match self.glance(colour, p) {
-            Glance::Quiet => true,
-            Glance::Vain | Glance::Unclear => false,
-        }
-    }
-
     /// What a play of `colour` on the empty point `p` does (the Tromp-Taylor rules of Go).
     ///
     /// A chain goes with it exactly where `p` is its one liberty: the opponent's; or one's own, where none of the opponent's goes,
@@ -296,28 +283,22 @@ impl Chains {
         ensures once { IsEachOnce result.goes.items }
         ensures living { (m : ℕ) → Contains result.goes.items m → (m ≢ 0) × (name_at self.now.names (root_of m) ≡ m) }
     {
-        let near = chains_beside(self.size, &self.counts.names, p, 0);
-        let weak = last_liberty(&self.counts.liberties, near.as_slice(), colour.other());
+        let near = names_beside(self.size, &self.counts.names, p);
+        let weak = last_ones(&self.counts.liberties, &near, colour_number(colour.other()));
         if !weak.is_empty() {
             return Look {
                 goes: weak,
                 suicide: false,
             };
         }
-        if names_beside(self.size, &self.counts.names, p).empty() > 0 {
-            return Look {
-                goes: weak,
-                suicide: false,
-            };
-        }
-        if has_more(&self.counts.liberties, near.as_slice(), colour) {
+        if near.has_open(&self.counts.liberties, colour_number(colour)) {
             return Look {
                 goes: weak,
                 suicide: false,
             };
         }
         Look {
-            goes: last_liberty(&self.counts.liberties, near.as_slice(), colour),
+            goes: last_ones(&self.counts.liberties, &near, colour_number(colour)),
             suicide: true,
         }
     }
@@ -382,18 +363,22 @@ impl Chains {
         points
     }
 
-    /// The colouring after a play of `colour` on the empty point `p`; no chain is changed for it.
-    pub(crate) fn points_after(&self, colour: Colour, p: usize) -> Colouring
+    /// The colouring after a play of `colour` on the empty point `p`, of which this is told; no chain is changed for it.
+    pub(crate) fn points_after(&self, colour: Colour, p: usize, told: Glance) -> Colouring
         requires on_board { p < point_count self.now.size }
         requires free { entry_at self.now.points p ≡ None }
+        requires told { IsTold told self.now.size self.now.points colour p }
         ensures { result ≡ play_of self.now.size self.now.points colour p }
     {
-        if !self.is_quiet(colour, p) {
-            return self.points_after_taking(colour, p);
+        match told {
+            Glance::Quiet => {
+                let mut points = self.points.copy();
+                points.set(p, Some(colour));
+                points
+            }
+            Glance::Vain => self.points.copy(),
+            Glance::Unclear => self.points_after_taking(colour, p),
         }
-        let mut points = self.points.copy();
-        points.set(p, Some(colour));
-        points
     }
 
     /// Becomes the same as another one.

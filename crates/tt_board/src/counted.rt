@@ -105,7 +105,19 @@ impl CountedBoard {
         requires free { entry_at self.now.points p ≡ None }
         ensures { result ≡ record { size = self.now.size; points = play_of self.now.size self.now.points colour p } }
     {
-        let points = self.chains.points_after(colour, usize::from(p.number()));
+        self.after_told(colour, p, self.glance(colour, p))
+    }
+
+    /// The board after a play of `colour` on `p`, an empty point, of which this is told by the points beside it. This one stays as it is.
+    pub fn after_told(&self, colour: Colour, p: Point, told: Glance) -> Board
+        requires on_board { p < point_count self.now.size }
+        requires free { entry_at self.now.points p ≡ None }
+        requires told { IsTold told self.now.size self.now.points colour p }
+        ensures { result ≡ record { size = self.now.size; points = play_of self.now.size self.now.points colour p } }
+    {
+        let points = self
+            .chains
+            .points_after(colour, usize::from(p.number()), told);
         Board::showing(self.chains.size(), points)
     }
 

@@ -1,10 +1,9 @@
 //! What a play does, told by the counts before it: which chains go, and whether it is suicide. No board is made for it.
 
-ghost use Rattle.std.specs.Prelude.{◌≡◌, ◌≢◌, ℕ, ◌/◌, ◌<◌, ◌≤◌, ◌↔◌, length, Contains, IsTrue};
-ghost use Rattle.tt_board.specs.Chains.{name_at, root_of, colour_number, IsEachOnce};
+ghost use Rattle.std.specs.Prelude.{◌≡◌, ℕ, ◌+◌, ◌/◌, ◌<◌, ◌≤◌, ◌⊎◌, ◌↔◌, length, Contains};
+ghost use Rattle.tt_board.specs.Chains.{name_at, root_of, IsEachOnce, IsOneName};
 
-use super::Colour;
-use super::names::root_of;
+use super::quiet::{Names, is_last};
 use arrayvec::ArrayVec;
 
 /// What a play does: the names of the chains that go, one's own in a suicide and else the opponent's, and whether it is suicide.
@@ -14,42 +13,33 @@ pub(crate) struct Look {
     pub(crate) suicide: bool,
 }
 
-/// Whether the name is of a chain of this colour.
-fn is_of(name: u16, colour: Colour) -> bool
-    ensures { IsTrue result ↔ (name / 512 ≡ colour_number colour) }
+/// Adds the chain of this name to those found, if it is of the colour of this code, has one liberty and is not among them.
+#[inline]
+fn push_last(found: &mut ArrayVec<u16, 4>, liberties: &[u16], name: u16, code: u16)
+    requires in_range { root_of name < length liberties.now }
+    requires room { length found.old.items < 4 }
+    requires once { IsEachOnce found.old.items }
+    ensures few { length found.new.items ≤ length found.old.items + 1 }
+    ensures still_once { IsEachOnce found.new.items }
+    ensures added { (m : ℕ) → Contains found.new.items m
+        ↔ (Contains found.old.items m ⊎ ((name ≡ m) × (m / 512 ≡ code) × (name_at liberties.now (root_of m) ≡ 1))) }
 {
-    match colour {
-        Colour::Black => name / 512 == 1,
-        Colour::White => name / 512 == 2,
+    if is_last(liberties, name, code) && (found.is_empty() || !found.as_slice().contains(&name)) {
+        found.push(name);
     }
 }
 
-/// Those of these chains that are of this colour and have one liberty.
-pub(crate) fn last_liberty(liberties: &[u16], near: &[u16], colour: Colour) -> ArrayVec<u16, 4>
-    requires few { length near.now ≤ 4 }
-    requires in_range { (i : ℕ) → i < length near.now → root_of (name_at near.now i) < length liberties.now }
-    requires once { IsEachOnce near.now }
-    ensures found { (m : ℕ) → Contains result.items m ↔ (Contains near.now m × (m / 512 ≡ colour_number colour) × (name_at liberties.now (root_of m) ≡ 1)) }
-    ensures still_once { IsEachOnce result.items }
+/// The different chains of the colour of this code that have one liberty, among those of which these are the names.
+pub(crate) fn last_ones(liberties: &[u16], near: &Names, code: u16) -> ArrayVec<u16, 4>
+    requires in_range { (m : ℕ) → IsOneName near.now.above near.now.left near.now.right near.now.below m → root_of m < length liberties.now }
+    ensures found { (m : ℕ) → Contains result.items m
+        ↔ (IsOneName near.now.above near.now.left near.now.right near.now.below m × (m / 512 ≡ code) × (name_at liberties.now (root_of m) ≡ 1)) }
+    ensures once { IsEachOnce result.items }
 {
     let mut found = ArrayVec::new();
-    for name in near {
-        if is_of(*name, colour) && liberties[root_of(*name)] == 1 {
-            found.push(*name);
-        }
-    }
+    push_last(&mut found, liberties, near.above, code);
+    push_last(&mut found, liberties, near.left, code);
+    push_last(&mut found, liberties, near.right, code);
+    push_last(&mut found, liberties, near.below, code);
     found
-}
-
-/// Whether one of these chains is of this colour and has more liberties than one.
-pub(crate) fn has_more(liberties: &[u16], near: &[u16], colour: Colour) -> bool
-    requires in_range { (i : ℕ) → i < length near.now → root_of (name_at near.now i) < length liberties.now }
-    ensures { IsTrue result ↔ ((m : ℕ) × Contains near.now m × (m / 512 ≡ colour_number colour) × (name_at liberties.now (root_of m) ≢ 1)) }
-{
-    for name in near {
-        if is_of(*name, colour) && liberties[root_of(*name)] != 1 {
-            return true;
-        }
-    }
-    false
 }

@@ -74,7 +74,7 @@ pub(crate) fn names_beside(size: Size, names: &[u16], p: usize) -> Names
 
 /// Whether the name is of a chain of the colour of this code, with one liberty.
 #[inline]
-fn is_last(liberties: &[u16], name: u16, code: u16) -> bool
+pub(crate) fn is_last(liberties: &[u16], name: u16, code: u16) -> bool
     requires { root_of name < length liberties.now }
     ensures { IsTrue result ↔ ((name / 512 ≡ code) × (name_at liberties.now (root_of name) ≡ 1)) }
 {
@@ -127,6 +127,8 @@ impl Names {
         ensures some { IsTrue result → (m : ℕ) × IsOneName self.now.above self.now.left self.now.right self.now.below m
             × ((m ≡ 0) ⊎ ((m / 512 ≡ code) × (name_at liberties.now (root_of m) ≢ 1))) }
         ensures none { result ≡ false → (m : ℕ) → IsOneName self.now.above self.now.left self.now.right self.now.below m → m ≢ 0 }
+        ensures shut { result ≡ false → (m : ℕ) → IsOneName self.now.above self.now.left self.now.right self.now.below m → m / 512 ≡ code
+            → name_at liberties.now (root_of m) ≢ 1 → ⊥ }
     {
         is_open(liberties, self.above, code)
             || is_open(liberties, self.left, code)

@@ -2,7 +2,7 @@ use Rattle.std.proofs.Common.{length, sym, subst, ◌∙◌, ap}
 use Rattle.tt_sgf.specs.Sizes.{point_count}
 use Rattle.tt_board.specs.Play.{IsAlive}
 use Rattle.tt_board.proofs.PlayLemmas.{length-play, alive-play}
-use Rattle.tt_board.proofs.counted.CountedBoard.after.Goals as goal
+use Rattle.tt_board.proofs.counted.CountedBoard.after_told.Goals as goal
 
 pub showing-requires-clause-fits : goal.showing-requires-clause-fits
 showing-requires-clause-fits c =
