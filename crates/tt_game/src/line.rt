@@ -65,6 +65,7 @@ impl Model for Line {
 impl Line {
     ghost use Rattle.std.specs.Prelude.{Some, None, Err, Ok, [], MatchResult, EachIndex};
     ghost use Rattle.tt_game.specs.Game.{history, winner_of, colour_of, made, IsLegal, IsBarred, after};
+    ghost use Rattle.tt_board.specs.Glance.{IsTold};
     ghost use Rattle.tt_board.specs.Reach.{entry_at};
     ghost use Rattle.std.specs.Prelude.{OnOk, OnErr, IfErr, IfOk};
     ghost use Rattle.tt_game.specs.Line.{HasTargets, IsRefusal, IsRefused, IsPushed};
@@ -151,6 +152,16 @@ impl Line {
         ensures { result ≡ record { size = self.now.frame.size; points = made self.now.frame self.now.state p } }
     {
         self.played.present().after(self.mover(), p)
+    }
+
+    /// The board after a play of the side to move on an empty point, of which this is told by the points beside it.
+    pub(crate) fn board_told(&self, p: Point, told: Glance) -> Board
+        requires on_board { p < point_count self.now.frame.size }
+        requires free { entry_at self.now.state.present p ≡ None }
+        requires told { IsTold told self.now.frame.size self.now.state.present (colour_of self.now.frame self.now.state.to_move) p }
+        ensures { result ≡ record { size = self.now.frame.size; points = made self.now.frame self.now.state p } }
+    {
+        self.played.present().after_told(self.mover(), p, told)
     }
 
     /// Whether a stone of this colour stood on `p` on some board so far.

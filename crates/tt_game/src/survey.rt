@@ -34,6 +34,7 @@ fn has_many(points: &Bits) -> bool {
 impl Line {
     ghost use Rattle.std.specs.Prelude.{ℕ, None};
     ghost use Rattle.tt_board.specs.Reach.{entry_at};
+    ghost use Rattle.tt_board.specs.Glance.{IsTold};
     ghost use Rattle.tt_board.specs.declared.quiet.Glance.TheVariants.{Quiet};
     ghost use Rattle.tt_game.specs.Game.{IsLegal, history, colour_of};
     ghost use Rattle.tt_game.specs.Surveys.{IsSurvey, HaveStood, IsForetold};
@@ -84,25 +85,28 @@ impl Line {
         self.frame().size.point(n as u16)
     }
 
-    /// What is told of a play of the side to move on an empty point, by the points beside it and by the stones that stood there.
-    /// It is quiet where it takes nothing off and makes a colouring that hasn't been, and vain where its colouring is the present one.
-    pub(crate) fn glance_by(&self, survey: &Survey, p: Point) -> Glance
+    /// What is foretold of a play of the side to move on an empty point, by the points beside it and by the stones that stood there, and
+    /// what is told by the points beside it alone. It is quiet where it takes nothing off and makes a colouring that hasn't been, and
+    /// vain where its colouring is the present one.
+    pub(crate) fn glance_by(&self, survey: &Survey, p: Point) -> (Glance, Glance)
         requires survey { IsSurvey survey.now self.now.frame self.now.state }
         requires on_board { p < point_count self.now.frame.size }
         requires free { entry_at self.now.state.present p ≡ None }
-        ensures { IsForetold result self.now.frame self.now.state p }
+        ensures foretold { IsForetold result.0 self.now.frame self.now.state p }
+        ensures told { IsTold result.1 self.now.frame.size self.now.state.present (colour_of self.now.frame self.now.state.to_move) p }
     {
         if survey.quiet.has(usize::from(p.number())) {
-            return Glance::Quiet;
+            return (Glance::Quiet, Glance::Quiet);
         }
-        match self.counted().glance(survey.colour, p) {
-            Glance::Vain => Glance::Vain,
-            Glance::Unclear => Glance::Unclear,
+        let told = self.counted().glance(survey.colour, p);
+        match told {
+            Glance::Vain => (Glance::Vain, told),
+            Glance::Unclear => (Glance::Unclear, told),
             Glance::Quiet => {
                 if survey.stood.has(usize::from(p.number())) {
-                    Glance::Unclear
+                    (Glance::Unclear, told)
                 } else {
-                    Glance::Quiet
+                    (Glance::Quiet, told)
                 }
             }
         }

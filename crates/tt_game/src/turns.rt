@@ -33,22 +33,25 @@ pub type Turns = ArrayVec<Turn, 362>;
 impl Line {
     ghost use Rattle.std.specs.Prelude.{None};
     ghost use Rattle.tt_board.specs.Reach.{entry_at};
-    ghost use Rattle.tt_game.specs.Game.{winner_of, after, IsLegal};
+    ghost use Rattle.tt_board.specs.Glance.{IsTold};
+    ghost use Rattle.tt_game.specs.Game.{winner_of, after, colour_of, IsLegal};
     ghost use Rattle.tt_game.specs.Surveys.{IsSurvey};
     ghost use Rattle.tt_game.specs.Turns.{legal_turns, successor, successors_of, successors_from, IsRising};
     ghost use Rattle.tt_game.specs.declared.turns.Turn.{Turn};
 
-    /// Who has won after a play on an empty point of the region, where it is legal, by the board that it makes.
+    /// Who has won after a play on an empty point of the region, where it is legal, by the board that it makes. This is told of it by
+    /// the points beside it.
     #[inline(never)]
-    fn winner_made(&self, p: Point) -> Option<Option<Side>>
+    fn winner_made(&self, p: Point, told: Glance) -> Option<Option<Side>>
         requires on_board { p < point_count self.now.frame.size }
         requires inside { IsTrue (set.contains self.now.frame.region p) }
         requires free { entry_at self.now.state.present p ≡ None }
         requires open { winner_of self.now.frame self.now.state ≡ None }
+        requires told { IsTold told self.now.frame.size self.now.state.present (colour_of self.now.frame self.now.state.to_move) p }
         ensures { MatchOption result (IsLegal self.now.frame self.now.state (Turn.Play p) → ⊥)
             (λ w. IsLegal self.now.frame self.now.state (Turn.Play p) × (w ≡ winner_of self.now.frame (after self.now.frame self.now.state (Turn.Play p)))) }
     {
-        let next = self.board_after(p);
+        let next = self.board_told(p, told);
         if self.has_been(p, &next) {
             return None;
         }
@@ -66,10 +69,11 @@ impl Line {
         ensures { MatchOption result (IsLegal self.now.frame self.now.state (Turn.Play p) → ⊥)
             (λ w. IsLegal self.now.frame self.now.state (Turn.Play p) × (w ≡ winner_of self.now.frame (after self.now.frame self.now.state (Turn.Play p)))) }
     {
-        match self.glance_by(survey, p) {
+        let (foretold, told) = self.glance_by(survey, p);
+        match foretold {
             Glance::Quiet => Some(None),
             Glance::Vain => None,
-            Glance::Unclear => self.winner_made(p),
+            Glance::Unclear => self.winner_made(p, told),
         }
     }
 

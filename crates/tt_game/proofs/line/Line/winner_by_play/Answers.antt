@@ -11,6 +11,7 @@ use Rattle.tt_board.specs.Play.{Points, is_empty}
 use Rattle.tt_board.specs.Stones.{any_empty}
 use Rattle.tt_game.specs.declared.frame.Side.TheVariants.{Attacker}
 use Rattle.tt_game.specs.Game.{history, winner_on, made, colour_of}
+use Rattle.tt_game.specs.Surveys.{IsForetold}
 use Rattle.tt_game.proofs.line.Line.winner_by_play.Goals as goal
 
 -- what passes a test passes a weaker one
@@ -39,7 +40,7 @@ pub returns-in-Quiet : goal.returns-in-Quiet
 returns-in-Quiet c =
     let l = c.args.self.now in let p = c.args.p in
     let free : entry_at l.state.present p ≡ None = c.requires.free in
-    let is = c.in-Quiet.ensures in
+    let is = subst (λ g. IsForetold g l.frame l.state p) c.in-Quiet.is c.glance_by-foretold.ensures.foretold in
     let filled : any_empty l.frame.targets l.state.present ≡ false = elim (cases_Bool (any_empty l.frame.targets l.state.present)) [
       | inl dead ↦ absurd (none-some Attacker (sym c.requires.open ∙ cond-true _ _ _ dead))
       | inr alive ↦ alive
@@ -51,5 +52,6 @@ returns-in-Quiet c =
 
 pub returns-in-Vain : goal.returns-in-Vain
 returns-in-Vain c = λ legal.
-    let s = c.args.self.now.state in
-    legal.4 (subst (Contains (history s)) (sym c.in-Vain.ensures) (Contains-push s.earlier s.present))
+    let l = c.args.self.now in let s = l.state in
+    let same = subst (λ g. IsForetold g l.frame s c.args.p) c.in-Vain.is c.glance_by-foretold.ensures.foretold in
+    legal.4 (subst (Contains (history s)) (sym same) (Contains-push s.earlier s.present))
