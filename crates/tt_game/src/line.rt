@@ -233,6 +233,15 @@ impl Line {
         if next.has_stone(colour, p) && !self.has_stood(colour, p) {
             return false;
         }
+        self.is_among(next)
+    }
+
+    /// Whether a board of the line's size has a colouring that has been: none of the beginning is compared where its print tells it from
+    /// them.
+    pub(crate) fn is_among(&self, next: &Board) -> bool
+        requires { next.now.size ≡ self.now.frame.size }
+        ensures { IsTrue result ↔ HasBeen (history self.now.state) next.now.points }
+    {
         if self.root.unlike(next) {
             return self.history.has_been_since(self.root.count(), next);
         }

@@ -31,10 +31,10 @@ pub struct Successor {
 pub type Turns = ArrayVec<Turn, 362>;
 
 impl Line {
-    ghost use Rattle.std.specs.Prelude.{None};
+    ghost use Rattle.std.specs.Prelude.{None, Some, slice_set};
     ghost use Rattle.tt_board.specs.Reach.{entry_at};
     ghost use Rattle.tt_board.specs.Glance.{IsTold};
-    ghost use Rattle.tt_game.specs.Game.{winner_of, after, colour_of, IsLegal};
+    ghost use Rattle.tt_game.specs.Game.{winner_of, after, made, colour_of, IsLegal};
     ghost use Rattle.tt_game.specs.Surveys.{IsSurvey};
     ghost use Rattle.tt_game.specs.Turns.{legal_turns, successor, successors_of, successors_from, IsRising};
     ghost use Rattle.tt_game.specs.declared.turns.Turn.{Turn};
@@ -58,6 +58,24 @@ impl Line {
         Some(self.frame().winner_on(&next, 0))
     }
 
+    /// Who has won after a play on an empty point of the region by which nothing goes, where it is legal: nobody. Its stone stood there
+    /// before, so the board that it makes is looked for.
+    #[inline(never)]
+    fn winner_put(&self, p: Point) -> Option<Option<Side>>
+        requires on_board { p < point_count self.now.frame.size }
+        requires inside { IsTrue (set.contains self.now.frame.region p) }
+        requires free { entry_at self.now.state.present p ≡ None }
+        requires open { winner_of self.now.frame self.now.state ≡ None }
+        requires put { made self.now.frame self.now.state p ≡ slice_set self.now.state.present p (Some (colour_of self.now.frame self.now.state.to_move)) }
+        ensures { MatchOption result (IsLegal self.now.frame self.now.state (Turn.Play p) → ⊥)
+            (λ w. IsLegal self.now.frame self.now.state (Turn.Play p) × (w ≡ winner_of self.now.frame (after self.now.frame self.now.state (Turn.Play p)))) }
+    {
+        if self.is_among(&self.board_told(p, Glance::Quiet)) {
+            return None;
+        }
+        Some(None)
+    }
+
     /// Who has won after a play on an empty point of the region, where it is legal. Most plays are told by the points beside them, and
     /// no board is made for them.
     fn winner_by_play(&self, survey: &Survey, p: Point) -> Option<Option<Side>>
@@ -73,7 +91,13 @@ impl Line {
         match foretold {
             Glance::Quiet => Some(None),
             Glance::Vain => None,
-            Glance::Unclear => self.winner_made(p, told),
+            Glance::Unclear => {
+                if told == Glance::Quiet {
+                    self.winner_put(p)
+                } else {
+                    self.winner_made(p, told)
+                }
+            }
         }
     }
 
