@@ -1,6 +1,6 @@
 //! The board: a colouring in which each stone reaches empty.
 
-ghost use Rattle.std.specs.Prelude.{◌≡◌, ◌≢◌, ℕ, ◌<◌, ◌≤◌, ◌↔◌, length, take, replicate, IsTrue, None, MatchResult};
+ghost use Rattle.std.specs.Prelude.{◌≡◌, ◌≢◌, ℕ, ◌<◌, ◌≤◌, ◌↔◌, length, take, replicate, slice_set, IsTrue, None, Some, MatchResult};
 ghost use Rattle.tt_sgf.specs.declared.size.TheConstants.{MOST_POINTS};
 ghost use Rattle.tt_sgf.specs.Sizes.{point_count};
 
@@ -142,6 +142,15 @@ impl Board {
             size: self.size,
             points: put(self.size, &self.points, colour, index),
         })
+    }
+
+    /// Plays `colour` on `p`, an empty point, where the play takes nothing off: its stone is put, and that is all. It is written in place.
+    pub fn put_stone(&mut self, colour: Colour, p: Point)
+        requires on_board { p < point_count self.old.size }
+        requires quiet { play_of self.old.size self.old.points colour p ≡ slice_set self.old.points p (Some colour) }
+        ensures { self.new ≡ record { size = self.old.size; points = play_of self.old.size self.old.points colour p } }
+    {
+        self.points.set(usize::from(p.number()), Some(colour));
     }
 
     /// The board with black stones, white stones and empty points put over whatever stands there; nothing is cleared.

@@ -3,6 +3,7 @@
 ghost use Rattle.std.specs.Prelude.{◌≡◌, ℕ, ◌+◌, ◌/◌, ◌<◌, ◌≤◌, ◌⊎◌, ◌↔◌, length, Contains};
 ghost use Rattle.tt_board.specs.Chains.{name_at, root_of, IsEachOnce, IsOneName};
 
+use super::names::is_fresh;
 use super::quiet::{Names, is_last};
 use arrayvec::ArrayVec;
 
@@ -24,7 +25,7 @@ fn push_last(found: &mut ArrayVec<u16, 4>, liberties: &[u16], name: u16, code: u
     ensures added { (m : ℕ) → Contains found.new.items m
         ↔ (Contains found.old.items m ⊎ ((name ≡ m) × (m / 512 ≡ code) × (name_at liberties.now (root_of m) ≡ 1))) }
 {
-    if is_last(liberties, name, code) && (found.is_empty() || !found.as_slice().contains(&name)) {
+    if is_last(liberties, name, code) && is_fresh(found, name) {
         found.push(name);
     }
 }

@@ -1,6 +1,6 @@
 //! The names of chains on the places of a board: which chains are beside a point, and what a stone there brings them.
 
-ghost use Rattle.std.specs.Prelude.{◌≡◌, ◌≢◌, ℕ, ◌+◌, ◌<◌, ◌≤◌, ◌⊎◌, ◌↔◌, ◌==◌, length, Contains, IsTrue, Some};
+ghost use Rattle.std.specs.Prelude.{◌≡◌, ◌≢◌, ℕ, ◌+◌, ◌<◌, ◌≤◌, ◌⊎◌, ◌↔◌, ◌==◌, length, Contains, IsTrue, Some, false};
 ghost use Rattle.tt_sgf.specs.Sizes.{point_count};
 ghost use Rattle.tt_board.specs.Chains.{name_at, root_of, Touches, IsEachOnce, AreRootsApart, is_new, count_there, count_beside};
 
@@ -81,6 +81,15 @@ pub(crate) fn new_liberties(size: Size, names: &[u16], name: u16, p: usize) -> u
         + new_there(size, names, name, near.below)
 }
 
+/// Whether a name is not among those found. Mostly none is found yet.
+#[inline]
+pub(crate) fn is_fresh(found: &ArrayVec<u16, 4>, name: u16) -> bool
+    ensures fresh { IsTrue result → Contains found.now.items name → ⊥ }
+    ensures known { result ≡ false → Contains found.now.items name }
+{
+    found.is_empty() || !found.as_slice().contains(&name)
+}
+
 /// Adds the chain on a place to those found, if there is one that is not among them, and but one.
 #[inline]
 fn push_there(found: &mut ArrayVec<u16, 4>, names: &[u16], place: Option<usize>, but: u16)
@@ -94,7 +103,7 @@ fn push_there(found: &mut ArrayVec<u16, 4>, names: &[u16], place: Option<usize>,
 {
     if let Some(q) = place {
         let name = names[q];
-        if name != 0 && name != but && !found.as_slice().contains(&name) {
+        if name != 0 && name != but && is_fresh(found, name) {
             found.push(name);
         }
     }
