@@ -25,6 +25,7 @@ abbrev pub turn_word : Side → ℕ → ℕ
 turn_word Attacker passes = passes
 turn_word Defender passes = 256 + passes
 
--- a number that other keys mostly haven't: what the words, the side to move and the passes make, multiplied once more, since the last was only added
+-- a number of 32 bits that other keys mostly haven't: what the words, the side to move and the passes make, multiplied once more, since
+-- the last was only added; the lowest bits of the product say little, so it is the highest
 unfoldable pub print_of_key : Key → ℕ
-print_of_key k = mix (mix (mix 0 k.black) k.white) (turn_word k.to_move k.passes ∷ []) * MIXER % 2 ^ 64
+print_of_key k = mix (mix (mix 0 k.black) k.white) (turn_word k.to_move k.passes ∷ []) * MIXER % 2 ^ 64 / 2 ^ 32

@@ -1,8 +1,10 @@
 //! Keys of positions, for tables.
 
-ghost use Rattle.std.specs.Prelude.{◌≡◌, ◌≤◌, ◌↔◌, IsTrue, []};
+ghost use Rattle.std.specs.Prelude.{◌≡◌, ◌≤◌, ◌*◌, ◌/◌, ◌%◌, ◌^◌, ◌↔◌, IsTrue, [], ◌∷◌};
 ghost use Rattle.tt_game.specs.Keys.{key_of};
 ghost use Rattle.tt_game.specs.KeyHash.{words_in_use, turn_word, print_of_key};
+ghost use Rattle.tt_game.specs.Mixing.{mix};
+ghost use Rattle.tt_game.specs.declared.seen.TheConstants.{MIXER};
 
 use crate::frame::{Frame, Side};
 use crate::line::Line;
@@ -64,6 +66,13 @@ fn turn_word(to_move: Side, passes: u8) -> u64
     }
 }
 
+/// The print of the position of a board, a side to move and so many passes, by what the board's words make.
+fn print_with(board: u64, turn: u64) -> u32
+    ensures { result ≡ mix board (turn ∷ []) * MIXER % 2 ^ 64 / 2 ^ 32 }
+{
+    (mix(board, &[turn]).wrapping_mul(MIXER) >> 32) as u32
+}
+
 /// The key of a position.
 pub(crate) fn key_at(frame: &Frame, board: &Board, to_move: Side, passes: u8) -> Key
     requires { board.now.size ≡ frame.now.size }
@@ -90,23 +99,22 @@ impl Line {
     }
 
     /// The print of the line's key. It takes the line's board as it stands, so no key is made.
-    pub fn key_print(&self) -> u64
+    pub fn key_print(&self) -> u32
         ensures { result ≡ print_of_key (key_of self.now.frame self.now.state) }
     {
-        let turn = [turn_word(self.to_move(), self.passes())];
-        mix(mix_board(self.present()), &turn).wrapping_mul(MIXER)
+        let turn = turn_word(self.to_move(), self.passes());
+        print_with(mix_board(self.present()), turn)
     }
 }
 
 impl Key {
     /// A number that other keys mostly haven't, for tables. As the hash it is of the position alone: who finds a key by it compares
     /// the keys.
-    pub fn print(&self) -> u64
+    pub fn print(&self) -> u32
         ensures { result ≡ print_of_key self.now }
     {
         let both = mix(mix(0, &self.black), &self.white);
-        let turn = [turn_word(self.to_move, self.passes)];
-        mix(both, &turn).wrapping_mul(MIXER)
+        print_with(both, turn_word(self.to_move, self.passes))
     }
 
     /// Whether both keys are one.

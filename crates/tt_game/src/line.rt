@@ -427,7 +427,7 @@ impl Line {
     pub fn past(&self) -> Result<Past, NoMemory>
         ensures { IfOk result (λ p. p ≡ record { frame = self.now.frame; state = self.now.state }) }
     {
-        Past::of(&self.root, &self.history, self.to_move)
+        Past::of(&self.root, &self.history, self.to_move, self.key_print())
     }
 
     /// The same line, with nothing to undo. What is kept of both shares one root.

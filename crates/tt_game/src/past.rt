@@ -4,6 +4,7 @@ ghost use Rattle.std.specs.Prelude.{◌≡◌, ◌<◌, ◌++◌, ◌↔◌, len
 ghost use Rattle.std.specs.Arc.{arc_value};
 ghost use Rattle.tt_game.specs.Game.{history};
 ghost use Rattle.tt_game.specs.Keys.{key_of};
+ghost use Rattle.tt_game.specs.KeyHash.{print_of_key};
 ghost use Rattle.tt_game.specs.Line.{IsPosition};
 ghost use Rattle.tt_game.specs.Undoing.{state_at};
 ghost use Rattle.tt_game.specs.Course.{so_far, colourings};
@@ -20,11 +21,13 @@ use tt_board::{Board, Trail};
 use tt_sgf::NoMemory;
 
 /// Where a line stood: its frame, history, side to move and passes. What the line shares with others of its beginning stands
-/// once; the boards since then are kept by their differences, and none of them stands here.
+/// once; the boards since then are kept by their differences, and none of them stands here. The print of the position's key is kept
+/// too, so that a table takes the place in without its board.
 #[derive(Drop)]
 pub struct Past {
     root: Arc<Root>,
     later: Trail,
+    print: u32,
     to_move: Side,
     passes: u8,
 }
@@ -34,6 +37,8 @@ impl Model for Past {
     ghost use Rattle.std.specs.Arc.{arc_value};
     ghost use Rattle.std.specs.Coded.{codes};
     ghost use Rattle.tt_sgf.specs.contracts.sets.PointSet as points;
+    ghost use Rattle.tt_game.specs.Keys.{key_of};
+    ghost use Rattle.tt_game.specs.KeyHash.{print_of_key};
     ghost use Rattle.tt_game.specs.Line.{Stood};
     ghost use Rattle.tt_game.specs.Undoing.{course_of, state_at};
 
@@ -49,14 +54,22 @@ impl Model for Past {
     ghost invariant = { λ p. record {
       some_board : 0 < length ((arc_value p.root).begun ++ p.later);
       sizes : All (λ b. b.size ≡ (arc_value p.root).frame.size) ((arc_value p.root).begun ++ p.later);
+      print : p.print ≡ print_of_key (key_of (arc_value p.root).frame
+          (state_at (course_of (arc_value p.root).frame.size ((arc_value p.root).begun ++ p.later) p.passes) p.to_move));
     } };
 }
 
 impl Past {
-    /// What stands after this history, which begins as the root's lines began.
-    pub(crate) fn of(root: &Arc<Root>, history: &History, to_move: Side) -> Result<Past, NoMemory>
+    /// What stands after this history, which begins as the root's lines began, with the print of its key.
+    pub(crate) fn of(
+        root: &Arc<Root>,
+        history: &History,
+        to_move: Side,
+        print: u32,
+    ) -> Result<Past, NoMemory>
         requires size { history.now.size ≡ (arc_value root.now).frame.size }
         requires begins { BoardsBegin (arc_value root.now).begun (so_far history.now) }
+        requires print { print ≡ print_of_key (key_of (arc_value root.now).frame (state_at history.now to_move)) }
         ensures { IfOk result (λ p. p ≡ record { frame = (arc_value root.now).frame; state = state_at history.now to_move }) }
     {
         let later = Trail::of(
@@ -67,6 +80,7 @@ impl Past {
         Ok(Past {
             root: Arc::try_clone(root)?,
             later,
+            print,
             to_move,
             passes: history.passes(),
         })
@@ -130,6 +144,13 @@ impl Past {
             return false;
         }
         self.root.frame().same(line.frame())
+    }
+
+    /// The print of the position's key. No board is made for it.
+    pub fn key_print(&self) -> u32
+        ensures { result ≡ print_of_key (key_of self.now.frame self.now.state) }
+    {
+        self.print
     }
 
     /// The key of the position there. It takes no memory.

@@ -4,6 +4,7 @@ ghost use Rattle.std.specs.Prelude.{◌≡◌, ◌≢◌, ◌↔◌, ◌≤◌, 
 ghost use Rattle.tt_game.specs.Game.{winner_of, opponent, IsLegal, after};
 ghost use Rattle.tt_game.specs.Turns.{legal_turns};
 ghost use Rattle.tt_game.specs.Keys.{key_of};
+ghost use Rattle.tt_game.specs.KeyHash.{print_of_key};
 ghost use Rattle.tt_game.specs.declared.turns.Turn.{Turn};
 ghost use Rattle.tt_proof.specs.declared.tree.TheConstants.{MOST_DEPTH};
 ghost use Rattle.tt_proof.specs.Strategy.{pick, reply, done, depth, strategy_of, IsInOrder, entries_of};
@@ -122,6 +123,13 @@ impl Proof {
         ensures { result ≡ key_of self.now.frame self.now.state }
     {
         self.past.key()
+    }
+
+    /// The print of that key. No board is made for it.
+    pub fn key_print(&self) -> u32
+        ensures { result ≡ print_of_key (key_of self.now.frame self.now.state) }
+    {
+        self.past.key_print()
     }
 
     /// Whether the proof's own position has this key.

@@ -1,5 +1,5 @@
 -- An index of proofs by their keys and sides.
-use Rattle.std.specs.Prelude.{ℕ, ◌/◌, ◌<◌, List, map, length, reverse, Option, Some, None, IfSome, slice_get}
+use Rattle.std.specs.Prelude.{ℕ, ◌<◌, List, map, length, reverse, Option, Some, None, IfSome, slice_get}
 use Rattle.tt_game.specs.declared.frame.Side.{Side}
 use Rattle.tt_game.specs.declared.keys.Key.{Key}
 use Rattle.tt_game.specs.Keys.{key_of}
@@ -8,9 +8,9 @@ use Rattle.tt_game.specs.Line.{Standing}
 use Rattle.tt_proof.specs.Proven.{Proven}
 use Rattle.tt_search.specs.Stores.{AnswersFor, IsNewest}
 
--- a number of 32 bits that a key has, of its print. Other keys may have it too: nothing is found by it alone
+-- the print of a key marks it. Other keys may have it too: nothing is found by it alone
 abbrev pub key_mark : Key → ℕ
-key_mark key = print_of_key key / 4294967296
+key_mark = print_of_key
 
 -- the marks of proofs
 abbrev pub key_marks : List Proven → List ℕ

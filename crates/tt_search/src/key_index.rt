@@ -24,13 +24,6 @@ pub trait ProofRow {
         ensures { slice_get (proofs self.now) place ≡ Some result.now };
 }
 
-/// The mark of a key, from its print. Two keys may have one mark: who finds a proof by it compares the keys.
-fn mark_of(print: u64) -> u32
-    ensures { result ≡ print / 4294967296 }
-{
-    (print / 0x1_0000_0000) as u32
-}
-
 /// Whether the proof has the line's key and is for the side.
 fn is_for(p: &Proof, line: &Line, side: Side) -> bool
     ensures { IsTrue result ↔ ((key_of p.now.frame p.now.state ≡ key_of line.now.frame line.now.state) × (p.now.side ≡ side)) }
@@ -164,7 +157,7 @@ impl KeyIndex {
         ensures { self.new.marks ≡ self.old.marks ++ key_marks (p.now ∷ []) }
     {
         let place = self.marks.len();
-        self.marks.push_reserved(mark_of(p.key().print()));
+        self.marks.push_reserved(p.key_print());
         self.before.push_reserved(0);
         link(&mut self.heads, &mut self.before, &self.marks, place);
     }
@@ -219,7 +212,7 @@ impl KeyIndex {
         requires { self.now.marks ≡ key_marks (P.proofs row.now) }
         ensures { IsPlaceOfNewest line.now side (P.proofs row.now) result }
     {
-        let mark = mark_of(line.key_print());
+        let mark = line.key_print();
         self.last_of(line, side, mark, self.last_marked(mark), row)
     }
 
@@ -229,7 +222,7 @@ impl KeyIndex {
         ensures attacker { IsPlaceOfNewest line.now Attacker (P.proofs row.now) result.0 }
         ensures defender { IsPlaceOfNewest line.now Defender (P.proofs row.now) result.1 }
     {
-        let mark = mark_of(line.key_print());
+        let mark = line.key_print();
         let last = self.last_marked(mark);
         if last == 0 {
             return (None, None);

@@ -1,4 +1,4 @@
-use Rattle.std.proofs.Common.{◌≡◌, ◌*◌, ◌%◌, ◌^◌, [], ◌∷◌, ap, ◌∙◌}
+use Rattle.std.proofs.Common.{◌≡◌, ◌*◌, ◌/◌, ◌%◌, ◌^◌, [], ◌∷◌, ap, ◌∙◌}
 use Rattle.tt_game.specs.declared.seen.TheConstants.{MIXER}
 use Rattle.tt_game.specs.Keys.{key_of}
 use Rattle.tt_game.specs.KeyHash.{print_of_key, turn_word}
@@ -13,8 +13,7 @@ returns c =
     let s = c.args.self.now.state in
     let board : c.mix_board.result ≡ mix_board f.size s.present =
     c.mix_board.ensures ∙ ap (λ z. mix_board z c.present.result.now.points) c.present.ensures.size ∙ ap (mix_board f.size) c.present.ensures.points in
-    let turn : c.turn_word.result ≡ turn_word s.to_move s.passes =
-    c.turn_word.ensures ∙ ap (λ t. turn_word t c.passes.result) c.to_move.ensures ∙ ap (turn_word s.to_move) c.passes.ensures.value in
-    let all : c.mix.result ≡ mix (mix_board f.size s.present) (turn_word s.to_move s.passes ∷ []) =
-    c.mix.ensures ∙ ap (λ n. mix n (c.turn_word.result ∷ [])) board ∙ ap (λ w. mix (mix_board f.size s.present) (w ∷ [])) turn in
-    ap (λ n. n * MIXER % 2 ^ 64) all
+    let turn : c.turn_word-turn.result ≡ turn_word s.to_move s.passes =
+    c.turn_word-turn.ensures ∙ ap (λ t. turn_word t c.passes.result) c.to_move.ensures ∙ ap (turn_word s.to_move) c.passes.ensures.value in
+    c.print_with.ensures ∙ ap (λ n. mix n (c.turn_word-turn.result ∷ []) * MIXER % 2 ^ 64 / 2 ^ 32) board
+    ∙ ap (λ w. mix (mix_board f.size s.present) (w ∷ []) * MIXER % 2 ^ 64 / 2 ^ 32) turn

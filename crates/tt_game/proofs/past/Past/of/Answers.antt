@@ -4,6 +4,8 @@ use Rattle.std.proofs.lemmas.List.Elements.{All-append, All-drop}
 use Rattle.std.specs.Arc.{arc_value}
 use Rattle.tt_sgf.specs.declared.size.Size.{Size}
 use Rattle.tt_board.specs.Position.{Position}
+use Rattle.tt_game.specs.Keys.{key_of}
+use Rattle.tt_game.specs.KeyHash.{print_of_key}
 use Rattle.tt_game.specs.Line.{Stood}
 use Rattle.tt_game.specs.Undoing.{course_of, state_at}
 use Rattle.tt_game.specs.Roots.{Rooted}
@@ -33,9 +35,17 @@ invariant_of-result c =
     subst (λ bs. All (λ (b : Position). b.size ≡ g) bs) (sym behind) (All-drop (λ (b : Position). b.size ≡ g) c.count.result there sizes) in
     let some : 0 < length root.begun = subst (λ (r : Rooted). 0 < length r.begun) found c.count.ensures.some in
     let begun : All (λ (b : Position). b.size ≡ g) root.begun = subst (λ (r : Rooted). All (λ (b : Position). b.size ≡ r.frame.size) r.begun) found c.count.ensures.sizes in
+    let h = c.args.history.now in
+    let count : c.count.result ≡ length root.begun = c.count.ensures.value ∙ ap (λ (r : Rooted). length r.begun) found in
+    let passes : c.passes.result ≡ h.passes = c.passes.ensures.value in
+    let shown : state_at (course_of h.size (root.begun ++ drop (length root.begun) there) h.passes) c.args.to_move ≡ state_at h c.args.to_move =
+    kept_shows h root.begun there c.args.to_move c.boards.ensures.colourings c.requires.begins in
+    let kept : state_at (course_of root.frame.size (root.begun ++ c.in_ok-later.later) c.passes.result) c.args.to_move ≡ state_at h c.args.to_move =
+    rw (behind, count, passes, sym c.requires.size) shown in
     rw same_root (record {
       some_board = omega (arith, some, length-append root.begun c.in_ok-later.later);
       sizes = All-append (λ (b : Position). b.size ≡ g) root.begun c.in_ok-later.later begun later;
+      print = c.requires.print ∙ ap (λ s. print_of_key (key_of root.frame s)) (sym kept);
     })
 
 pub returns : goal.returns

@@ -1,11 +1,11 @@
-use Rattle.std.proofs.Common.{rules, ◌/◌, ap, ◌∙◌}
+use Rattle.std.proofs.Common.{rules}
 use Rattle.tt_game.specs.declared.frame.Side.TheVariants.{Attacker, Defender}
 use Rattle.tt_search.proofs.Chains.{newest_unmarked}
 use Rattle.tt_search.proofs.key_index.KeyIndex.newest_both.Goals as goal
 
 pub returns-then-last-eq0-clause-attacker : goal.returns-then-last-eq0-clause-attacker
 returns-then-last-eq0-clause-attacker g c =
-    let mark = c.mark_of-mark.ensures ∙ ap (λ n. n / 4294967296) c.key_print.ensures in
+    let mark = c.key_print-mark.ensures in
     record {
       newest = newest_unmarked c.args.line.now Attacker _ _ _ _ c.requires mark c.last_marked-last.ensures.unmarked c.if-last-eq0.true;
       within = search rules;
@@ -14,7 +14,7 @@ returns-then-last-eq0-clause-attacker g c =
 
 pub returns-then-last-eq0-clause-defender : goal.returns-then-last-eq0-clause-defender
 returns-then-last-eq0-clause-defender g c =
-    let mark = c.mark_of-mark.ensures ∙ ap (λ n. n / 4294967296) c.key_print.ensures in
+    let mark = c.key_print-mark.ensures in
     record {
       newest = newest_unmarked c.args.line.now Defender _ _ _ _ c.requires mark c.last_marked-last.ensures.unmarked c.if-last-eq0.true;
       within = search rules;
