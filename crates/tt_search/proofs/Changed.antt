@@ -132,25 +132,25 @@ length-numbers goal (t ∷ trees) = ap suc (length-numbers goal trees)
 
 -- ---- the best child has become another tree
 
-module _ (mover : Side) (old new : Packed) (p : ℕ) (tree : PartialTree) (is : p ≡ best_place (choices_of mover old)) (there : p < length (edge_trees old.edges.items old.grown.items))
+module _ (mover : Side) (old new : Packed) (p : ℕ) (tree : PartialTree) (is : p ≡ best_place (choices_of mover old)) (there : p < length (edge_trees old.edges old.grown.items))
     (put : IsPut p old tree new) where
   abbrev trees : List PartialTree
-  trees = edge_trees old.edges.items old.grown.items
+  trees = edge_trees old.edges old.grown.items
 
   abbrev row : Side → List ℕ
   row goal = numbers goal (children_of trees)
 
   -- there are as many edges
-  edges_stay : length new.edges.items ≡ length old.edges.items
-  edges_stay = omega (arith, ap length put.turns, length-turns_of new.edges.items, length-turns_of old.edges.items)
+  edges_stay : length new.edges ≡ length old.edges
+  edges_stay = omega (arith, ap length put.turns, length-turns_of new.edges, length-turns_of old.edges)
 
   -- so there are no more than before
   pub few_stay : AreFew old → AreFew new
   few_stay h = omega (arith, h, edges_stay)
 
   -- and the place is still there
-  pub place_there : p < length new.edges.items
-  place_there = omega (arith, there, length-trees_of old.edges.items old.grown.items, edges_stay)
+  pub place_there : p < length new.edges
+  place_there = omega (arith, there, length-trees_of old.edges old.grown.items, edges_stay)
 
   -- the child at the place is the tree
   pub tree_there : child_of new p ≡ tree
@@ -161,7 +161,7 @@ module _ (mover : Side) (old new : Packed) (p : ℕ) (tree : PartialTree) (is : 
   in_row goal = omega (arith, length-numbers goal trees, there)
 
   -- the numbers have that of the tree at the place
-  row_is : (goal : Side) → numbers goal (children_of (edge_trees new.edges.items new.grown.items)) ≡ set (row goal) p (number goal tree)
+  row_is : (goal : Side) → numbers goal (children_of (edge_trees new.edges new.grown.items)) ≡ set (row goal) p (number goal tree)
   row_is goal = ap (λ us. numbers goal (children_of us)) put.trees ∙ numbers_set goal trees p tree
 
   -- the number at the place was the least
@@ -173,7 +173,7 @@ module _ (mover : Side) (old new : Packed) (p : ℕ) (tree : PartialTree) (is : 
     least_set_is : least (set (row mover) p (number mover tree)) ≡ number mover tree
     least_set_is = least_set (number mover tree) (row mover) p (in_row mover) (omega (arith, least_there)) no_more
 
-    pub least_stays : number mover tree ≡ least (numbers mover (children_of (edge_trees new.edges.items new.grown.items)))
+    pub least_stays : number mover tree ≡ least (numbers mover (children_of (edge_trees new.edges new.grown.items)))
     least_stays = sym (ap least (row_is mover) ∙ least_set_is)
 
     -- and the place is that of the best child
@@ -185,7 +185,7 @@ module _ (mover : Side) (old new : Packed) (p : ℕ) (tree : PartialTree) (is : 
   -- where the sum was below the cap, the change gives the new sum
   pub sum_here : capped_sum (row (opponent mover)) < cap
       → IsChange (capped_sum (row (opponent mover))) (number (opponent mover) (child_of old p)) (number (opponent mover) tree)
-      (capped_sum (numbers (opponent mover) (children_of (edge_trees new.edges.items new.grown.items))))
+      (capped_sum (numbers (opponent mover) (children_of (edge_trees new.edges new.grown.items))))
   sum_here h =
       let goal : Side = opponent mover in
       let k = sum_changed (number goal tree) (row goal) p (in_row goal) h in
@@ -197,13 +197,13 @@ module _ (mover : Side) (old new : Packed) (p : ℕ) (v : Choices) (was : Pair) 
     (pair : ArePair v.mover (node_with v) was) (is : p ≡ best_place (choices_of mover old))
     (there : best_place v < length v.trees) (tree : PartialTree) (put : IsPut p old tree new) (second : PartialTree) (second_is : second ≡ child_of new p) where
   abbrev before : Side → List ℕ
-  before goal = numbers goal (children_of (edge_trees old.edges.items old.grown.items))
+  before goal = numbers goal (children_of (edge_trees old.edges old.grown.items))
 
   abbrev after : Side → List ℕ
-  after goal = numbers goal (children_of (edge_trees new.edges.items new.grown.items))
+  after goal = numbers goal (children_of (edge_trees new.edges new.grown.items))
 
   -- the place is there
-  pub in_trees : p < length (edge_trees old.edges.items old.grown.items)
+  pub in_trees : p < length (edge_trees old.edges old.grown.items)
   in_trees = omega (arith, is, subst (λ (c : Choices). best_place c < length c.trees) (sym view_is) there)
 
   pair_here : ArePair mover (node_with (choices_of mover old)) was
@@ -211,10 +211,10 @@ module _ (mover : Side) (old new : Packed) (p : ℕ) (v : Choices) (was : Pair) 
 
   -- the node's numbers were the least and the sum
   own_was : was.own ≡ least (before mover)
-  own_was = pair_here.own ∙ own_number mover (edge_turns old.edges.items) (children_of (edge_trees old.edges.items old.grown.items))
+  own_was = pair_here.own ∙ own_number mover (edge_turns old.edges) (children_of (edge_trees old.edges old.grown.items))
 
   other_was : was.other ≡ capped_sum (before (opponent mover))
-  other_was = pair_here.other ∙ other_number mover (edge_turns old.edges.items) (children_of (edge_trees old.edges.items old.grown.items))
+  other_was = pair_here.other ∙ other_number mover (edge_turns old.edges) (children_of (edge_trees old.edges old.grown.items))
 
   tree_is : tree ≡ second
   tree_is = sym (second_is ∙ tree_there mover old new p tree is in_trees put)

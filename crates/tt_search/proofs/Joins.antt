@@ -73,18 +73,18 @@ module _ (side : Side) (f : Frame) (s : State) where
       (zero_at side (children_of trees) (own_zero side side turns (children_of trees) (same_as_itself side) h.settled))
 
   -- so its place is there
-  pub picked_there : (x : Packed) (i : ℕ) → IsSettledAt side f s (node_with (choices_of side x)) → i ≡ first_settled side (children_in x) → i < length x.edges.items
+  pub picked_there : (x : Packed) (i : ℕ) → IsSettledAt side f s (node_with (choices_of side x)) → i ≡ first_settled side (children_in x) → i < length x.edges
   picked_there x i h is =
-      omega (arith, is, length-trees_of x.edges.items x.grown.items, (picked_child (edge_turns x.edges.items) (edge_trees x.edges.items x.grown.items) Pass fresh h).there)
+      omega (arith, is, length-trees_of x.edges x.grown.items, (picked_child (edge_turns x.edges) (edge_trees x.edges x.grown.items) Pass fresh h).there)
 
   -- and what the code finds there is a legal turn, and a tree that is settled behind it
   pub picked_here : (x : Packed) (i : ℕ) (e : Edge) (t : Turn) (child : PartialTree) → IsSettledAt side f s (node_with (choices_of side x)) → i ≡ first_settled side (children_in x)
-      → e ≡ get_or x.edges.items i e → t ≡ edge_turn e → child ≡ child_of x i → IsLegal f s t × IsSettledAt side f (after f s t) child
+      → e ≡ get_or x.edges i e → t ≡ edge_turn e → child ≡ child_of x i → IsLegal f s t × IsSettledAt side f (after f s t) child
   picked_here x i e t child h is at turn is_child =
-      let turns = edge_turns x.edges.items in
-      let trees = edge_trees x.edges.items x.grown.items in
+      let turns = edge_turns x.edges in
+      let trees = edge_trees x.edges x.grown.items in
       let r = subst (λ k. IsSettledChild k turns trees t child) (sym is) (picked_child turns trees t child h) in
-      let a : get_or turns i t ≡ t = turn_at_place x.edges.items i e t (picked_there x i h is) ∙ ap edge_turn (sym at) ∙ sym turn in
+      let a : get_or turns i t ≡ t = turn_at_place x.edges i e t (picked_there x i h is) ∙ ap edge_turn (sym at) ∙ sym turn in
       let b : get_or trees i child ≡ child = any_default trees i child fresh r.there ∙ sym is_child in
       (subst (IsLegal f s) a r.legal, subst (λ u. IsSettledAt side f (after f s u) child) a (subst (λ d. IsSettledAt side f (after f s (get_or turns i t)) d) b r.child))
 

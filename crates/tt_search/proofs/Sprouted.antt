@@ -32,14 +32,14 @@ stuck_fresh at left Total tree k = (k.0, k.1, refl)
 stuck_fresh at left Memory tree k = refl
 
 -- a child that stays fresh changes nothing
-put_nothing : (place : ℕ) (x y : Packed) → IsFreshAt place x.edges.items → y.edges.items ≡ x.edges.items → y.grown.items ≡ x.grown.items → IsPut place x fresh y
+put_nothing : (place : ℕ) (x y : Packed) → IsFreshAt place x.edges → y.edges ≡ x.edges → y.grown.items ≡ x.grown.items → IsPut place x fresh y
 put_nothing place x y there edges row = record {
   turns = ap edge_turns edges;
-  trees = ap (λ es. edge_trees es y.grown.items) edges ∙ ap (edge_trees x.edges.items) row ∙ sym (fresh_tree x.edges.items x.grown.items place there);
+  trees = ap (λ es. edge_trees es y.grown.items) edges ∙ ap (edge_trees x.edges) row ∙ sym (fresh_tree x.edges x.grown.items place there);
 }
 
 -- where the step is stuck, nothing changes
-pub stays_fresh : (walk after : Walk) (place : ℕ) (x : Packed) (step : Step) (reason : Reason) (tree : PartialTree) → IsFreshAt place x.edges.items → after ≡ walk
+pub stays_fresh : (walk after : Walk) (place : ℕ) (x : Packed) (step : Step) (reason : Reason) (tree : PartialTree) → IsFreshAt place x.edges → after ≡ walk
     → Taken (stand_of walk) (stage fresh walk.left) step tree → step ≡ Stuck reason → Sprouts walk place x (Stuck reason) x after
 stays_fresh walk after place x step reason tree there same h e = (
   fresh,
@@ -49,13 +49,13 @@ stays_fresh walk after place x step reason tree there same h e = (
 )
 
 -- nor where there is no memory for the node
-pub stays_for_memory : (walk after : Walk) (place : ℕ) (x y : Packed) → IsFreshAt place x.edges.items → after ≡ walk → y.edges.items ≡ x.edges.items
+pub stays_for_memory : (walk after : Walk) (place : ℕ) (x y : Packed) → IsFreshAt place x.edges → after ≡ walk → y.edges ≡ x.edges
     → y.grown.items ≡ x.grown.items → Sprouts walk place x (Stuck Memory) y after
 stays_for_memory walk after place x y there same edges row =
     (fresh, refl, ap (λ (w : Walk). w.left) (sym same), put_nothing place x y there edges row)
 
 -- nor where the expansion is refused
-pub stays_ungranted : (walk after : Walk) (place : ℕ) (x y : Packed) (step : Step) (tree : PartialTree) → IsFreshAt place x.edges.items → after ≡ walk → y.edges.items ≡ x.edges.items
+pub stays_ungranted : (walk after : Walk) (place : ℕ) (x y : Packed) (step : Step) (tree : PartialTree) → IsFreshAt place x.edges → after ≡ walk → y.edges ≡ x.edges
     → y.grown.items ≡ x.grown.items → Taken (stand_of walk) (stage fresh walk.left) step tree → step ≡ Expanded → Sprouts walk place x (Stuck Total) y after
 stays_ungranted walk after place x y step tree there same edges row h e =
     let expands = subst (λ s. Taken (stand_of walk) (stage fresh walk.left) s tree) e h in
@@ -69,20 +69,20 @@ leaf_offerable walk after step new e nobody is h =
     subst (λ (w : Walk). IsOfferable w.line new) (sym e) (expansion_offerable walk.line new nobody expands.1.1)
 
 -- the new node stands among those that have grown, and its edge says so
-module _ (x y : Packed) (place rank : ℕ) (d e : Edge) (tree : PartialTree) (there : IsFreshAt place x.edges.items) (whole : HasItsNodes x)
-    (r : rank ≡ grown_in (take place x.edges.items)) (mark : mark_of e ≡ Grown) (edges : y.edges.items ≡ set x.edges.items place e) (row : y.grown.items ≡ insert x.grown.items rank tree) where
+module _ (x y : Packed) (place rank : ℕ) (d e : Edge) (tree : PartialTree) (there : IsFreshAt place x.edges) (whole : HasItsNodes x)
+    (r : rank ≡ grown_in (take place x.edges)) (mark : mark_of e ≡ Grown) (edges : y.edges ≡ set x.edges place e) (row : y.grown.items ≡ insert x.grown.items rank tree) where
   -- the rank is a place to insert at
   in_nodes : rank ≤ length x.grown.items
-  in_nodes = omega (arith, r, rank_within x.edges.items place, whole)
+  in_nodes = omega (arith, r, rank_within x.edges place, whole)
 
   -- the child at the place becomes the new tree, and all else stays
-  pub put : edge_turn e ≡ edge_turn (get_or x.edges.items place d) → IsPut place x tree y
+  pub put : edge_turn e ≡ edge_turn (get_or x.edges place d) → IsPut place x tree y
   put turn = record {
-    turns = rw edges (same_turns x.edges.items place d e (fresh_there x.edges.items place there) turn);
+    turns = rw edges (same_turns x.edges place d e (fresh_there x.edges place there) turn);
     trees =
         rw edges
-        (ap (edge_trees (set x.edges.items place e)) (row ∙ ap (λ n. insert x.grown.items n tree) r)
-        ∙ sprouted x.edges.items x.grown.items place e tree there mark (omega (arith, rank_within x.edges.items place, whole)));
+        (ap (edge_trees (set x.edges place e)) (row ∙ ap (λ n. insert x.grown.items n tree) r)
+        ∙ sprouted x.edges x.grown.items place e tree there mark (omega (arith, rank_within x.edges place, whole)));
   }
 
   -- a list with one inserted is one longer
@@ -95,7 +95,7 @@ module _ (x y : Packed) (place rank : ℕ) (d e : Edge) (tree : PartialTree) (th
   pub put_whole : HasItsNodes y
   put_whole =
       ap grown_in edges
-      ∙ one_more x.edges.items place e there mark
+      ∙ one_more x.edges place e there mark
       ∙ ap suc whole
       ∙ sym (ap length row ∙ length_insert x.grown.items rank in_nodes)
 
@@ -148,22 +148,22 @@ any_default (t ∷ ts) zero a b l = refl
 any_default (t ∷ ts) (suc i) a b l = any_default ts i a b (omega arith)
 
 -- the node of a child that has grown
-module _ (x : Packed) (i rank : ℕ) (e : Edge) (node : PartialTree) (l : i < length x.edges.items) (is : e ≡ get_or x.edges.items i e) (whole : HasItsNodes x)
-    (mark : Grown ≡ mark_of e) (r : rank ≡ grown_in (take i x.edges.items)) where
+module _ (x : Packed) (i rank : ℕ) (e : Edge) (node : PartialTree) (l : i < length x.edges) (is : e ≡ get_or x.edges i e) (whole : HasItsNodes x)
+    (mark : Grown ≡ mark_of e) (r : rank ≡ grown_in (take i x.edges)) where
   -- the rank is that of a node
   pub rank_within_nodes : rank < length x.grown.items
-  rank_within_nodes = omega (arith, r, grown_here x.edges.items x.grown.items i e l is whole (sym mark))
+  rank_within_nodes = omega (arith, r, grown_here x.edges x.grown.items i e l is whole (sym mark))
 
   -- the child's tree is the node
   pub child_node : node ≡ get_or x.grown.items rank node → child_of x i ≡ node
   child_node n =
-      grown_child x.edges.items x.grown.items i e l is whole (sym mark)
+      grown_child x.edges x.grown.items i e l is whole (sym mark)
       ∙ ap (λ k. get_or x.grown.items k fresh) (sym r)
       ∙ any_default x.grown.items rank fresh node rank_within_nodes
       ∙ sym n
 
   -- steps of the node are steps of the child
-  pub node_steps : (pace : Pace) (at : Stand) (left : ℕ) (step : Step) (new : PartialTree) (left_after : ℕ) (y : Packed) → y.edges.items ≡ x.edges.items
+  pub node_steps : (pace : Pace) (at : Stand) (left : ℕ) (step : Step) (new : PartialTree) (left_after : ℕ) (y : Packed) → y.edges ≡ x.edges
       → y.grown.items ≡ set x.grown.items rank new → node ≡ get_or x.grown.items rank node → AreStepsAt pace at (stage node left) step (stage new left_after)
       → StepsBelowAt pace at i x left step y left_after
   node_steps pace at left step new left_after y edges row n k = (
@@ -173,8 +173,8 @@ module _ (x : Packed) (i rank : ℕ) (e : Edge) (node : PartialTree) (l : i < le
       turns = rw edges refl;
       trees =
           rw (edges, row)
-          (subst (λ q. edge_trees x.edges.items (set x.grown.items q new) ≡ set (edge_trees x.edges.items x.grown.items) i new) (sym r)
-          (grown_put x.edges.items x.grown.items i e l is whole (sym mark) new));
+          (subst (λ q. edge_trees x.edges (set x.grown.items q new) ≡ set (edge_trees x.edges x.grown.items) i new) (sym r)
+          (grown_put x.edges x.grown.items i e l is whole (sym mark) new));
     },
   )
 

@@ -35,7 +35,7 @@ most-weight (e ∷ es) ts h = most-behind (mark_of e) es ts (most-weight es) h
 
 -- each node that children hold weighs less than all of them
 pub children-fall : (a : Inside) → IsKept a → deep-Children a ≤ weight_below (choices_of a.mover a.packed)
-children-fall a h = omega (arith, most-weight a.packed.edges.items a.packed.grown.items h.whole)
+children-fall a h = omega (arith, most-weight a.packed.edges a.packed.grown.items h.whole)
 
 -- the children that a growth holds weigh less than its tree
 pub deep-weight : (g : Growth) → max (deep-Growth g) 0 ≤ weight (shape g)

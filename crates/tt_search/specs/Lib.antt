@@ -15,6 +15,7 @@ pub mod Children
 pub mod PartialTreeCode
 pub mod Weight
 pub mod Edges
+pub mod EdgeRow
 pub mod Choices
 pub mod Packed
 pub mod Kept

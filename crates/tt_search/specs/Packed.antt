@@ -10,24 +10,24 @@ use Rattle.tt_search.specs.declared.children.Packed.{Packed}
 
 -- what they offer to the side to move
 abbrev pub choices_of : Side → Packed → Choices
-choices_of mover p = record { mover = mover; turns = edge_turns p.edges.items; trees = edge_trees p.edges.items p.grown.items }
+choices_of mover p = record { mover = mover; turns = edge_turns p.edges; trees = edge_trees p.edges p.grown.items }
 
 -- the children themselves
 abbrev pub children_in : Packed → Children
-children_in p = children_of (edge_trees p.edges.items p.grown.items)
+children_in p = children_of (edge_trees p.edges p.grown.items)
 
 -- each child that has grown has its node
 abbrev pub HasItsNodes : Packed → Type 0
-HasItsNodes p = grown_in p.edges.items ≡ length p.grown.items
+HasItsNodes p = grown_in p.edges ≡ length p.grown.items
 
 -- the tree of the child at a place
 abbrev pub child_of : Packed → ℕ → PartialTree
-child_of p place = child_at place p.edges.items p.grown.items
+child_of p place = child_at place p.edges p.grown.items
 
 -- so many children have grown before the place
 abbrev pub IsRank : ℕ → ℕ → Packed → Type 0
-IsRank rank place p = rank ≡ grown_in (take place p.edges.items)
+IsRank rank place p = rank ≡ grown_in (take place p.edges)
 
 -- there are no more than a place can tell apart
 abbrev pub AreFew : Packed → Type 0
-AreFew p = length p.edges.items ≤ TURNS
+AreFew p = length p.edges ≤ TURNS

@@ -22,8 +22,8 @@ IsFreshAt (suc i) (e ∷ es) = IsFreshAt i es
 
 -- the child at the place becomes this tree, and all else stays
 pub record IsPut (place : ℕ) (old : Packed) (tree : PartialTree) (new : Packed) : Type 0 where
-  pub turns : edge_turns new.edges.items ≡ edge_turns old.edges.items
-  pub trees : edge_trees new.edges.items new.grown.items ≡ slice_set (edge_trees old.edges.items old.grown.items) place tree
+  pub turns : edge_turns new.edges ≡ edge_turns old.edges
+  pub trees : edge_trees new.edges new.grown.items ≡ slice_set (edge_trees old.edges old.grown.items) place tree
 
 -- the fresh child at the place takes a step
 abbrev pub Sprouts : Walk → ℕ → Packed → Step → Packed → Walk → Type 0

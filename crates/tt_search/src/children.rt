@@ -4,6 +4,7 @@ ghost use Rattle.std.specs.Prelude.{◌≡◌, ◌<◌, ◌≤◌, [], length, s
 ghost use Rattle.tt_search.specs.declared.edges.TheConstants.{TURNS};
 ghost use Rattle.tt_search.specs.Edges.{edge_turns, edge_trees, grown_in};
 
+use crate::edge_row::Edges;
 use crate::edges::{Edge, Mark};
 use crate::node::Node;
 use crate::numbers::Pair;
@@ -16,7 +17,7 @@ use tt_game::{Side, Turn};
 #[cycle(node)]
 #[derive(Drop)]
 pub(crate) struct Packed {
-    pub(crate) edges: Vec<Edge>,
+    pub(crate) edges: Edges,
     pub(crate) grown: Vec<Node>,
 }
 
@@ -64,10 +65,10 @@ impl Children {
     ghost use Rattle.tt_search.specs.Pairs.{ArePair};
 
     /// Children of which none has grown, and the numbers of the mover and of the other side at their node.
-    pub(crate) fn new(alloc: Global, mover: Side, edges: Vec<Edge>) -> (Children, Pair)
-        requires few { length edges.items ≤ TURNS }
-        requires none { grown_in edges.items ≡ 0 }
-        ensures children { result.0 ≡ record { mover = mover; turns = edge_turns edges.items; trees = edge_trees edges.items [] } }
+    pub(crate) fn new(alloc: Global, mover: Side, edges: Edges) -> (Children, Pair)
+        requires few { length edges ≤ TURNS }
+        requires none { grown_in edges ≡ 0 }
+        ensures children { result.0 ≡ record { mover = mover; turns = edge_turns edges; trees = edge_trees edges [] } }
         ensures numbers { ArePair mover (node_with result.0) result.1 }
     {
         let grown = Vec::new(alloc);
@@ -98,7 +99,7 @@ impl Children {
         requires { best_place self.now < length self.now.turns }
         ensures { result ≡ slice_index_or self.now.turns (best_place self.now) result }
     {
-        self.packed.edges[usize::from(self.place)].turn()
+        self.packed.edges.at(usize::from(self.place)).turn()
     }
 }
 
@@ -108,12 +109,12 @@ impl Packed {
 
     /// The child at a place, and of a rank.
     pub(crate) fn child(&self, place: usize, rank: usize) -> Child<'_>
-        requires there { place < length self.now.edges.items }
+        requires there { place < length self.now.edges }
         requires rank { IsRank rank place self.now }
         requires whole { HasItsNodes self.now }
         ensures { child_tree result ≡ child_of self.now place }
     {
-        match self.edges[place].mark() {
+        match self.edges.at(place).mark() {
             Mark::Fresh => Child::Fresh,
             Mark::Won(side) => Child::Won(side),
             Mark::Grown => Child::Grown(&self.grown[rank]),

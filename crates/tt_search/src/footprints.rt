@@ -142,11 +142,11 @@ fn picked(
     requires whole { HasItsNodes children.now }
     requires settled { IsSettledAt side line.old.frame line.old.state (node_with (choices_of side children.now)) }
     ensures exact { IfOk result (λ x. IsFootprint line.old.frame line.old.state
-        (pick_at side (first_settled side (children_in children.now)) (edge_turns children.now.edges.items) (children_in children.now)) x) }
+        (pick_at side (first_settled side (children_in children.now)) (edge_turns children.now.edges) (children_in children.now)) x) }
     ensures same { line.new ≡ line.old }
 {
     let (place, rank) = children.first_settled(side);
-    let turn = children.edges[place].turn();
+    let turn = children.edges.at(place).turn();
     let child = children.child(place, rank);
     let (board, behind) = child.footprint_behind(alloc, turn, line, side)?;
     Footprint::picked(alloc, line, &turn, &board, behind)

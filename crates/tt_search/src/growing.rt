@@ -278,7 +278,7 @@ impl Packed {
         store: &mut S,
         grants: &mut G,
     ) -> Step
-        requires there { place < length self.old.edges.items }
+        requires there { place < length self.old.edges }
         requires rank { IsRank rank place self.old }
         requires whole { HasItsNodes self.old }
         requires may_grow { MayGrow (stand_of walk.old) (child_of self.old place) }
@@ -288,13 +288,13 @@ impl Packed {
         ensures room { walk.new.room ≡ walk.old.room }
         ensures may { result ≡ Closed → S.may_answer }
         ensures whole { HasItsNodes self.new }
-        ensures before { take place self.new.edges.items ≡ take place self.old.edges.items }
+        ensures before { take place self.new.edges ≡ take place self.old.edges }
         ensures granted { (G.asked grants.new).granted + walk.new.left ≡ (G.asked grants.old).granted + walk.old.left }
         ensures asked { AreAsked pace (G.asked grants.old) result (G.asked grants.new) }
         ensures source { G.source grants.new ≡ G.source grants.old }
         ensures steps { StepsBelow pace walk.old place self.old result self.new walk.new }
     {
-        match self.edges[place].mark() {
+        match self.edges.at(place).mark() {
             Mark::Grown => self.grown[rank].grow(walk, pace, store, grants),
             Mark::Fresh => self.sprout(place, rank, walk, store, grants),
             Mark::Won(_) => unreachable!(),
@@ -313,7 +313,7 @@ impl Packed {
     ) -> Step
         requires open { winner_of walk.old.line.frame walk.old.line.state ≡ None }
         requires whole { HasItsNodes self.old }
-        requires there { IsFreshAt place self.old.edges.items }
+        requires there { IsFreshAt place self.old.edges }
         requires rank { IsRank rank place self.old }
         requires grants { (G.asked grants.old).granted + walk.old.left < 2 ^ 64 }
         ensures line { walk.new.line ≡ walk.old.line }
@@ -321,7 +321,7 @@ impl Packed {
         ensures may { result ≡ Closed → S.may_answer }
         ensures kept { (reason : _) → result ≡ Stuck reason → S.kept store.new ≡ S.kept store.old }
         ensures whole { HasItsNodes self.new }
-        ensures before { take place self.new.edges.items ≡ take place self.old.edges.items }
+        ensures before { take place self.new.edges ≡ take place self.old.edges }
         ensures granted { (G.asked grants.new).granted + walk.new.left ≡ (G.asked grants.old).granted + walk.old.left }
         ensures asked { AskedBy (G.asked grants.old) result (G.asked grants.new) }
         ensures source { G.source grants.new ≡ G.source grants.old }
@@ -345,7 +345,8 @@ impl Packed {
         let Ok(()) = self.grown.insert(rank, node) else {
             unreachable!();
         };
-        self.edges[place] = self.edges[place].grown();
+        let edge = self.edges.at(place).grown();
+        self.edges.set(place, edge);
         walk.left = left_after(step, walk.left);
         step
     }

@@ -9,6 +9,7 @@ ghost use Rattle.tt_search.specs.Edges.{edge_turn, mark_of, tree_of, edge_turns,
 ghost use Rattle.tt_search.specs.Growing.{leaf_for, expansion};
 
 use crate::children::Children;
+use crate::edge_row::Edges;
 use crate::edges::{Edge, Mark};
 use crate::node::{Growth, Node};
 use crate::numbers::decided_number;
@@ -50,10 +51,10 @@ pub(crate) fn closed_leaf(proof: Arc<Proof>) -> Node
 }
 
 /// An expanded node at which no child has grown.
-fn expanded_node(alloc: Global, mover: Side, edges: Vec<Edge>) -> Node
-    requires few { length edges.items ≤ TURNS }
-    requires none { grown_in edges.items ≡ 0 }
-    ensures { result ≡ expanded mover (edge_turns edges.items) (children_of (edge_trees edges.items [])) }
+fn expanded_node(alloc: Global, mover: Side, edges: Edges) -> Node
+    requires few { length edges ≤ TURNS }
+    requires none { grown_in edges ≡ 0 }
+    ensures { result ≡ expanded mover (edge_turns edges) (children_of (edge_trees edges [])) }
 {
     let (children, numbers) = Children::new(alloc, mover, edges);
     let (proof, disproof) = numbers.by_goal(mover);
@@ -89,7 +90,6 @@ pub(crate) fn expanded_at(alloc: Global, line: &Line) -> Result<Node, NoMemory>
         from = p.number() + 1;
     }
     edges.push(new_edge(Turn::Pass, line.winner_by_pass()));
-    let mut kept = Vec::with_capacity(alloc, edges.len())?;
-    kept.extend_from_slice(edges.as_slice())?;
+    let kept = Edges::of(alloc, edges.as_slice())?;
     Ok(expanded_node(alloc, line.to_move(), kept))
 }

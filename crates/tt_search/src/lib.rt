@@ -11,6 +11,7 @@
 
 mod children;
 mod closing;
+mod edge_row;
 mod edges;
 mod footprints;
 mod grants;

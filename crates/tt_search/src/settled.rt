@@ -158,14 +158,14 @@ impl Children {
 #[cycle(plan_of)]
 fn picked(alloc: Global, side: Side, children: &Packed) -> Result<Plan, NoMemory>
     requires { HasItsNodes children.now }
-    ensures { IfOk result (λ p. p ≡ pick_at side (first_settled side (children_in children.now)) (edge_turns children.now.edges.items) (children_in children.now)) }
+    ensures { IfOk result (λ p. p ≡ pick_at side (first_settled side (children_in children.now)) (edge_turns children.now.edges) (children_in children.now)) }
 {
     let (place, rank) = children.first_settled(side);
     if place >= children.edges.len() {
         return Ok(Plan::done());
     }
     let child = children.child(place, rank).plan(alloc, side)?;
-    Plan::pick(alloc, children.edges[place].turn(), child)
+    Plan::pick(alloc, children.edges.at(place).turn(), child)
 }
 
 /// The strategy that replies to each turn.

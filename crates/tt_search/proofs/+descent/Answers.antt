@@ -28,18 +28,18 @@ use Rattle.tt_search.proofs.+descent.Goals as goal
 
 pub children::Packed::grow_at-index_mut-requires : goal.children::Packed::grow_at-index_mut-requires
 children::Packed::grow_at-index_mut-requires g t c =
-    let edge = c.index.result.now in
+    let edge = c.at.result in
     omega (
       arith,
       rank_within_nodes c.args.self.now c.args.place c.args.rank edge
-          (child_of c.args.self.now c.args.place) c.requires.there c.index.ensures c.requires.whole c.in-Grown.ensures c.requires.rank,
+          (child_of c.args.self.now c.args.place) c.requires.there c.at.ensures c.requires.whole c.in-Grown.ensures c.requires.rank,
       c.args.self.now.grown.ok.0,
     )
 
 pub children::Packed::grow_at-grow-requires : goal.children::Packed::grow_at-grow-requires
 children::Packed::grow_at-grow-requires g t c κs within =
     let node = c.index_mut.result.now in
-    let here = child_node c.args.self.now c.args.place c.args.rank c.index.result.now node c.requires.there c.index.ensures c.requires.whole c.in-Grown.ensures c.requires.rank
+    let here = child_node c.args.self.now c.args.place c.args.rank c.at.result node c.requires.there c.at.ensures c.requires.whole c.in-Grown.ensures c.requires.rank
     c.index_mut.ensures.value in
     (omega (arith, c.decreases), (within.0, (within.1, (subst (MayGrow (stand_of c.args.walk.now)) here c.requires.may_grow, (c.requires.room, c.requires.grants)))))
 
@@ -47,31 +47,31 @@ pub children::Packed::grow_at-sprout-requires-clause-open : goal.children::Packe
 children::Packed::grow_at-sprout-requires-clause-open g t c =
     let x = c.args.self.now in
     let line = c.args.walk.now.line in
-    let is = fresh_child x.edges.items x.grown.items c.args.place c.index.result.now c.requires.there c.index.ensures (sym c.in-Fresh.ensures) in
+    let is = fresh_child x.edges x.grown.items c.args.place c.at.result c.requires.there c.at.ensures (sym c.in-Fresh.ensures) in
     subst (IsPartialTree line.frame line.state) is c.requires.may_grow.partial
 
 pub children::Packed::grow_at-sprout-requires-clause-there : goal.children::Packed::grow_at-sprout-requires-clause-there
 children::Packed::grow_at-sprout-requires-clause-there g t c =
     let x = c.args.self.now in
-    fresh_here x.edges.items x.grown.items c.args.place c.index.result.now c.requires.there c.index.ensures (sym c.in-Fresh.ensures)
+    fresh_here x.edges x.grown.items c.args.place c.at.result c.requires.there c.at.ensures (sym c.in-Fresh.ensures)
 
 pub children::Packed::grow_at-unreachable-requires : goal.children::Packed::grow_at-unreachable-requires
 children::Packed::grow_at-unreachable-requires g t c =
     let x = c.args.self.now in
-    let edge = c.index.result.now in
-    not_won x.edges.items x.grown.items c.args.place edge c.requires.there c.index.ensures c.requires.may_grow.undecided (mark_of edge) refl c.in-Won.field-0 (sym c.in-Won.ensures)
+    let edge = c.at.result in
+    not_won x.edges x.grown.items c.args.place edge c.requires.there c.at.ensures c.requires.may_grow.undecided (mark_of edge) refl c.in-Won.field-0 (sym c.in-Won.ensures)
 
 pub children::Packed::grow_at-returns-in-Grown-clause-steps : goal.children::Packed::grow_at-returns-in-Grown-clause-steps
 children::Packed::grow_at-returns-in-Grown-clause-steps g t c =
     let node = c.index_mut.result.now in
     let walk = c.args.walk.now in
-    node_steps c.args.self.now c.args.place c.args.rank c.index.result.now node c.requires.there c.index.ensures c.requires.whole c.in-Grown.ensures c.requires.rank
+    node_steps c.args.self.now c.args.place c.args.rank c.at.result node c.requires.there c.at.ensures c.requires.whole c.in-Grown.ensures c.requires.rank
     c.args.pace (stand_of walk) walk.left c.grow.result c.grow.new.self c.grow.new.walk.left _ refl refl c.index_mut.ensures.value c.grow.ensures.steps
 
 pub children::Packed::grow_at-returns-in-Fresh-clause-steps : goal.children::Packed::grow_at-returns-in-Fresh-clause-steps
 children::Packed::grow_at-returns-in-Fresh-clause-steps g t c =
     let x = c.args.self.now in
-    let is = fresh_child x.edges.items x.grown.items c.args.place c.index.result.now c.requires.there c.index.ensures (sym c.in-Fresh.ensures) in
+    let is = fresh_child x.edges x.grown.items c.args.place c.at.result c.requires.there c.at.ensures (sym c.in-Fresh.ensures) in
     one_step c.args.pace c.args.walk.now c.args.place x c.sprout.result c.sprout.new.self c.sprout.new.walk is c.sprout.ensures.sprouts
 
 pub children::Packed::grow_at-returns-in-Fresh-clause-asked : goal.children::Packed::grow_at-returns-in-Fresh-clause-asked
@@ -156,7 +156,7 @@ pub children::Children::grow_best-child-requires-clause-there : goal.children::C
 children::Children::grow_best-child-requires-clause-there g t c =
     let x = c.self.inside.packed in
     let there = subst (λ (v : Choices). best_place v < length v.trees) (sym c.self.view_is) c.requires.there in
-    omega (arith, there, c.from-place.ensures, c.self.invariant.place, length-trees_of x.edges.items x.grown.items)
+    omega (arith, there, c.from-place.ensures, c.self.invariant.place, length-trees_of x.edges x.grown.items)
 
 pub children::Children::grow_best-grow_at-step-requires : goal.children::Children::grow_best-grow_at-step-requires
 children::Children::grow_best-grow_at-step-requires g t c κs within =
@@ -164,14 +164,14 @@ children::Children::grow_best-grow_at-step-requires g t c κs within =
     let there = subst (λ (v : Choices). best_place v < length v.trees) (sym c.self.view_is) c.requires.there in
     let may_grow = subst (λ (v : Choices). MayGrow (stand_of c.args.walk.now) (best_child v)) (sym c.self.view_is) c.requires.may_grow in
     let place = c.from-place.ensures ∙ c.self.invariant.place in
-    let rank = c.from-rank.ensures ∙ c.self.invariant.rank ∙ ap (λ i. grown_in (take i x.edges.items)) (sym c.from-place.ensures) in (
+    let rank = c.from-rank.ensures ∙ c.self.invariant.rank ∙ ap (λ i. grown_in (take i x.edges)) (sym c.from-place.ensures) in (
       omega (arith, c.decreases),
       (
         within.0,
         (
           within.1,
           (
-            omega (arith, there, place, length-trees_of x.edges.items x.grown.items),
+            omega (arith, there, place, length-trees_of x.edges x.grown.items),
             (
               rank,
               (
@@ -192,7 +192,7 @@ children::Children::grow_best-child-child-requires-clause-there g t c =
     let x = c.self.inside.packed in
     let is = c.from-place.ensures ∙ c.self.invariant.place in
     let there = subst (λ (v : Choices). best_place v < length v.trees) (sym c.self.view_is) c.requires.there in
-    let in_trees : c.from-place.result < length (edge_trees x.edges.items x.grown.items) = omega (arith, is, there) in
+    let in_trees : c.from-place.result < length (edge_trees x.edges x.grown.items) = omega (arith, is, there) in
     let steps = c.grow_at-step.ensures.steps in
     place_there c.self.inside.mover x c.grow_at-step.new.self c.from-place.result steps.0 is in_trees steps.2
 
@@ -227,8 +227,8 @@ children::Children::grow_best-invariant_of-self g t c =
       whole = c.grow_at-step.ensures.whole;
       place = sym c.from-place.ensures ∙ place_now a.mover a.packed new c.from-place.result c.args.self.now c.args.was c.self.view_is c.requires.was is c.requires.there steps.0 steps.2
           (child_tree c.child-child.result) c.child-child.ensures c.number-own.result c.number-own.ensures c.if-own-was.true;
-      rank = c.self.invariant.rank ∙ ap (λ i. grown_in (take i a.packed.edges.items)) (sym c.from-place.ensures) ∙ ap grown_in (sym c.grow_at-step.ensures.before)
-          ∙ ap (λ i. grown_in (take i new.edges.items)) c.from-place.ensures;
+      rank = c.self.invariant.rank ∙ ap (λ i. grown_in (take i a.packed.edges)) (sym c.from-place.ensures) ∙ ap grown_in (sym c.grow_at-step.ensures.before)
+          ∙ ap (λ i. grown_in (take i new.edges)) c.from-place.ensures;
     }
 
 pub children::Children::grow_best-returns-then-own-was-clause-numbers : goal.children::Children::grow_best-returns-then-own-was-clause-numbers

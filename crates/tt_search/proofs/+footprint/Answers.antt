@@ -70,7 +70,7 @@ node::Node::footprint-offered_footprint-requires t c =
 pub children::Children::footprint-replied-requires : goal.children::Children::footprint-replied-requires
 children::Children::footprint-replied-requires t c =
     let x = c.self.inside.packed in
-    let edges = c.as_slice.ensures.value in
+    let edges = c.as_slice.ensures in
     let grown = c.as_slice-else-is_same.ensures.value in
     let settled = subst (λ (v : Choices). IsSettledAt c.args.side c.args.line.now.frame c.args.line.now.state (node_with v)) (sym c.self.view_is) c.requires in (
       omega (
@@ -78,22 +78,21 @@ children::Children::footprint-replied-requires t c =
         c.decreases,
         ap weight_below c.self.view_is,
         ap (λ es. weight_all (children_of (edge_trees es c.as_slice-else-is_same.result.now))) edges,
-        ap (λ us. weight_all (children_of (edge_trees x.edges.items us))) grown,
+        ap (λ us. weight_all (children_of (edge_trees x.edges us))) grown,
       ),
       rw (edges, grown)
-          (replied_children c.args.side c.args.line.now.frame c.args.line.now.state c.self.inside.mover x.edges.items x.grown.items
+          (replied_children c.args.side c.args.line.now.frame c.args.line.now.state c.self.inside.mover x.edges x.grown.items
           (sym c.is_same.ensures ∙ c.if-is_same.false) c.self.invariant.whole settled),
     )
 
 -- ---- the child that is picked
 
-pub footprints::picked-index-requires : goal.footprints::picked-index-requires
-footprints::picked-index-requires t c =
+pub footprints::picked-at-requires : goal.footprints::picked-at-requires
+footprints::picked-at-requires t c =
     let x = c.args.children.now in
     omega (
       arith,
       picked_there c.args.side c.args.line.now.frame c.args.line.now.state x c.first_settled-place.result.0 c.requires.settled c.first_settled-place.ensures.place,
-      x.edges.ok.0,
     )
 
 pub footprints::picked-child-child-requires-clause-there : goal.footprints::picked-child-child-requires-clause-there
@@ -107,17 +106,17 @@ footprints::picked-footprint_behind-requires t c =
     let f = c.args.line.now.frame in
     let s = c.args.line.now.state in
     let there = picked_there c.args.side f s x i c.requires.settled c.first_settled-place.ensures.place in
-    let w = weight_at (edge_trees x.edges.items x.grown.items) i fresh (omega (arith, there, length-trees_of x.edges.items x.grown.items)) in (
+    let w = weight_at (edge_trees x.edges x.grown.items) i fresh (omega (arith, there, length-trees_of x.edges x.grown.items)) in (
       omega (arith, c.decreases, w, ap weight c.child-child.ensures),
-      picked_here c.args.side f s x i c.index.result.now c.turn-turn.result (child_tree c.child-child.result)
-          c.requires.settled c.first_settled-place.ensures.place c.index.ensures c.turn-turn.ensures c.child-child.ensures,
+      picked_here c.args.side f s x i c.at.result c.turn-turn.result (child_tree c.child-child.result)
+          c.requires.settled c.first_settled-place.ensures.place c.at.ensures c.turn-turn.ensures c.child-child.ensures,
     )
 
 pub footprints::picked-picked-requires-clause-legal : goal.footprints::picked-picked-requires-clause-legal
 footprints::picked-picked-requires-clause-legal t c =
     let line = c.args.line.now in
-    let here = picked_here c.args.side line.frame line.state c.args.children.now c.first_settled-place.result.0 c.index.result.now c.turn-turn.result (child_tree c.child-child.result)
-    c.requires.settled c.first_settled-place.ensures.place c.index.ensures c.turn-turn.ensures c.child-child.ensures in
+    let here = picked_here c.args.side line.frame line.state c.args.children.now c.first_settled-place.result.0 c.at.result c.turn-turn.result (child_tree c.child-child.result)
+    c.requires.settled c.first_settled-place.ensures.place c.at.ensures c.turn-turn.ensures c.child-child.ensures in
     subst (λ (l : Standing). IsLegal l.frame l.state c.turn-turn.result) (sym c.in_ok-board.ensures.same) here.0
 
 pub footprints::picked-returns-clause-exact : goal.footprints::picked-returns-clause-exact
@@ -126,16 +125,16 @@ footprints::picked-returns-clause-exact t c =
     let f = c.args.line.now.frame in
     let s = c.args.line.now.state in
     let x = c.args.children.now in
-    let turns : List Turn = edge_turns x.edges.items in
-    let trees : List PartialTree = edge_trees x.edges.items x.grown.items in
+    let turns : List Turn = edge_turns x.edges in
+    let trees : List PartialTree = edge_trees x.edges x.grown.items in
     let i : ℕ = c.first_settled-place.result.0 in
     let child : PartialTree = child_tree c.child-child.result in
     let in_edges = picked_there side f s x i c.requires.settled c.first_settled-place.ensures.place in
-    let in_trees : i < length trees = omega (arith, in_edges, length-trees_of x.edges.items x.grown.items) in
-    let turn = c.turn-turn.ensures ∙ ap edge_turn c.index.ensures ∙ sym (turn_at_place x.edges.items i c.index.result.now c.turn-turn.result in_edges) in
+    let in_trees : i < length trees = omega (arith, in_edges, length-trees_of x.edges x.grown.items) in
+    let turn = c.turn-turn.ensures ∙ ap edge_turn c.at.ensures ∙ sym (turn_at_place x.edges i c.at.result c.turn-turn.result in_edges) in
     let e : pick c.turn-turn.result (strategy_for side child) ≡ pick_at side (first_settled side (children_in x)) turns (children_in x) =
     picked side turns trees i c.turn-turn.result child (strategy_for side child) turn (c.child-child.ensures ∙ any_default trees i fresh child in_trees) refl
-    (omega (arith, in_edges, length-turns_of x.edges.items)) in_trees
+    (omega (arith, in_edges, length-turns_of x.edges)) in_trees
     ∙ ap (λ k. pick_at side k turns (children_of trees)) c.first_settled-place.ensures.place in
     on_ok c.picked.result _ _ (λ y more. subst (λ u. IsFootprint f s u y) e (more (strategy_for side child) c.in_ok-board.ensures.exact))
     (rw c.in_ok-board.ensures.same at c.picked.ensures)

@@ -21,7 +21,7 @@ abbrev pub decreases-children::Children::footprint : goal.decreases-children::Ch
 decreases-children::Children::footprint l = weight_below l.self.now * 4 + 5
 
 abbrev pub decreases-footprints::picked : goal.decreases-footprints::picked
-decreases-footprints::picked l = weight_all (children_of (edge_trees l.children.now.edges.items l.children.now.grown.items)) * 4 + 4
+decreases-footprints::picked l = weight_all (children_of (edge_trees l.children.now.edges l.children.now.grown.items)) * 4 + 4
 
 abbrev pub decreases-footprints::replied : goal.decreases-footprints::replied
 decreases-footprints::replied l = weight_all (children_of (edge_trees l.edges.now l.grown.now)) * 4 + 4

@@ -21,28 +21,28 @@ pub settled::picked-returns-then-place-len : goal.settled::picked-returns-then-p
 settled::picked-returns-then-place-len t c =
     let x = c.args.children.now in
     c.done.ensures ∙ sym (rw (← c.first_settled-place.ensures.place)
-    (pick_past_turns c.args.side (edge_turns x.edges.items) (edge_trees x.edges.items x.grown.items) c.first_settled-place.result.0
-    (omega (arith, c.if-place-len.true, c.len.ensures, x.edges.ok.0, length-turns_of x.edges.items))))
+    (pick_past_turns c.args.side (edge_turns x.edges) (edge_trees x.edges x.grown.items) c.first_settled-place.result.0
+    (omega (arith, c.if-place-len.true, c.len.ensures, length-turns_of x.edges))))
 
 pub settled::picked-plan-requires : goal.settled::picked-plan-requires
 settled::picked-plan-requires t c =
     let x = c.args.children.now in
     let i : ℕ = c.first_settled-place.result.0 in
-    let w = weight_at (edge_trees x.edges.items x.grown.items) i fresh (omega (arith, c.if-place-len.false, c.len.ensures, x.edges.ok.0, length-trees_of x.edges.items x.grown.items)) in
+    let w = weight_at (edge_trees x.edges x.grown.items) i fresh (omega (arith, c.if-place-len.false, c.len.ensures, length-trees_of x.edges x.grown.items)) in
     (omega (arith, c.decreases, w, ap weight c.child.ensures), tt)
 
 pub settled::picked-returns : goal.settled::picked-returns
 settled::picked-returns t c =
     let x = c.args.children.now in
-    let turns : List Turn = edge_turns x.edges.items in
-    let trees : List PartialTree = edge_trees x.edges.items x.grown.items in
+    let turns : List Turn = edge_turns x.edges in
+    let trees : List PartialTree = edge_trees x.edges x.grown.items in
     let i : ℕ = c.first_settled-place.result.0 in
     let child : PartialTree = child_of x i in
-    let in_edges : i < length x.edges.items = omega (arith, c.if-place-len.false, c.len.ensures, x.edges.ok.0) in
-    let in_trees : i < length trees = omega (arith, in_edges, length-trees_of x.edges.items x.grown.items) in
-    let turn = c.turn.ensures ∙ ap edge_turn c.index.ensures ∙ sym (turn_at_place x.edges.items i c.index.result.now c.turn.result in_edges) in
+    let in_edges : i < length x.edges = omega (arith, c.if-place-len.false, c.len.ensures) in
+    let in_trees : i < length trees = omega (arith, in_edges, length-trees_of x.edges x.grown.items) in
+    let turn = c.turn.ensures ∙ ap edge_turn c.at.ensures ∙ sym (turn_at_place x.edges i c.at.result c.turn.result in_edges) in
     let e = picked c.args.side turns trees i c.turn.result child _ turn (any_default trees i fresh child in_trees) (c.in_ok-child.ensures ∙ ap (strategy_for c.args.side) c.child.ensures)
-    (omega (arith, in_edges, length-turns_of x.edges.items)) in_trees in
+    (omega (arith, in_edges, length-turns_of x.edges)) in_trees in
     subst (λ u. IfOk c.pick.result (λ p. p ≡ u)) (e ∙ ap (λ i. pick_at c.args.side i turns (children_of trees)) c.first_settled-place.ensures.place) c.pick.ensures
 
 pub settled::replied-loop-edge-preserved : goal.settled::replied-loop-edge-preserved

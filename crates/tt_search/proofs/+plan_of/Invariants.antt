@@ -18,7 +18,7 @@ abbrev pub decreases-children::Children::plan : goal.decreases-children::Childre
 decreases-children::Children::plan l = weight_below l.self.now * 3 + 3
 
 abbrev pub decreases-settled::picked : goal.decreases-settled::picked
-decreases-settled::picked l = weight_all (children_of (edge_trees l.children.now.edges.items l.children.now.grown.items)) * 3 + 1
+decreases-settled::picked l = weight_all (children_of (edge_trees l.children.now.edges l.children.now.grown.items)) * 3 + 1
 
 abbrev pub decreases-settled::replied : goal.decreases-settled::replied
 decreases-settled::replied l = weight_all (children_of (edge_trees l.edges.now l.grown.now)) * 3 + 1

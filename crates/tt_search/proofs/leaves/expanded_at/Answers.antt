@@ -39,7 +39,7 @@ loop-p-preserved c =
 pub expanded_node-requires-clause-few : goal.expanded_node-requires-clause-few
 expanded_node-requires-clause-few c =
     let f = c.args.line.now.frame in let s = c.args.line.now.state in
-    let whole = c.in_ok-extend_from_slice.ensures.items ∙ ap (λ es. es ++ c.as_slice.result.now) c.in_ok-kept.ensures.items ∙ c.as_slice.ensures.value in
+    let whole = c.in_ok-kept.ensures ∙ c.as_slice.ensures.value in
     let turns =
     turns_last f s c.loop-p.edges.items c.push-2.new.self.items c.new_edge-2.result c.loop-p.from c.push-2.ensures.items c.new_edge-2.ensures.turn c.in_default.ensures c.loop-p.invariant.turns
     ∙ turns_of-successors f s in
@@ -47,13 +47,13 @@ expanded_node-requires-clause-few c =
 
 pub expanded_node-requires-clause-none : goal.expanded_node-requires-clause-none
 expanded_node-requires-clause-none c =
-    let whole = c.in_ok-extend_from_slice.ensures.items ∙ ap (λ es. es ++ c.as_slice.result.now) c.in_ok-kept.ensures.items ∙ c.as_slice.ensures.value in
+    let whole = c.in_ok-kept.ensures ∙ c.as_slice.ensures.value in
     ap grown_in (whole ∙ c.push-2.ensures.items) ∙ grown_push c.loop-p.edges.items c.new_edge-2.result c.new_edge-2.ensures.small ∙ c.loop-p.invariant.small
 
 pub returns : goal.returns
 returns c =
     let f = c.args.line.now.frame in let s = c.args.line.now.state in
-    let whole = c.in_ok-extend_from_slice.ensures.items ∙ ap (λ es. es ++ c.as_slice.result.now) c.in_ok-kept.ensures.items ∙ c.as_slice.ensures.value in
+    let whole = c.in_ok-kept.ensures ∙ c.as_slice.ensures.value in
     let turns =
     turns_last f s c.loop-p.edges.items c.push-2.new.self.items c.new_edge-2.result c.loop-p.from c.push-2.ensures.items c.new_edge-2.ensures.turn c.in_default.ensures c.loop-p.invariant.turns in
     let leaves = leaves_last f s c.loop-p.edges.items c.push-2.new.self.items c.new_edge-2.result c.winner_by_pass.result c.loop-p.from

@@ -1,5 +1,4 @@
-use Rattle.std.proofs.Common.{rules, ◌≡◌, ◌∙◌, ◌+◌, length, insert, refl, sym, ap, subst, arith}
-use Rattle.std.specs.Vec.{with_item}
+use Rattle.std.proofs.Common.{rules, ◌≡◌, ◌∙◌, ◌+◌, length, insert, take, refl, sym, ap, subst, arith}
 use Rattle.tt_search.specs.PartialTree.{fresh}
 use Rattle.tt_search.specs.Edges.{edge_turn}
 use Rattle.tt_search.specs.Walking.{stage, stand_of}
@@ -68,21 +67,21 @@ offer-walk-requires g c =
 
 pub insert-requires : goal.insert-requires
 insert-requires g c =
-    omega (arith, c.requires.rank, rank_within c.args.self.now.edges.items c.args.place, c.requires.whole, ap length c.room_for_one.ensures.items, c.room_for_one.new.nodes.ok.0)
+    omega (arith, c.requires.rank, rank_within c.args.self.now.edges c.args.place, c.requires.whole, ap length c.room_for_one.ensures.items, c.room_for_one.new.nodes.ok.0)
 
-pub index-requires : goal.index-requires
-index-requires g c = omega (arith, fresh_there c.args.self.now.edges.items c.args.place c.requires.there, c.args.self.now.edges.ok.0)
+pub at-requires : goal.at-requires
+at-requires g c = omega (arith, fresh_there c.args.self.now.edges c.args.place c.requires.there)
 
-pub index_mut-requires : goal.index_mut-requires
-index_mut-requires g c = omega (arith, fresh_there c.args.self.now.edges.items c.args.place c.requires.there, c.args.self.now.edges.ok.0)
+pub set-requires : goal.set-requires
+set-requires g c = omega (arith, fresh_there c.args.self.now.edges c.args.place c.requires.there)
 
 pub returns : goal.returns
 returns g c =
     let leaf = c.leaf_step-step in
     let same : c.match-step-2.node ≡ leaf.result.1 = search rules in
     let row = c.in-Ok.ensures.items ∙ ap (insert c.room_for_one.new.nodes.items c.args.rank) same ∙ ap (λ ts. insert ts c.args.rank leaf.result.1) c.room_for_one.ensures.items in
-    let turn = c.grown.ensures.turn ∙ ap edge_turn c.index.ensures in
-    let new : Packed = record { edges = with_item c.args.self.now.edges c.args.place c.grown.result; grown = c.insert.new.self } in
+    let turn = c.grown-edge.ensures.turn ∙ ap edge_turn c.at.ensures in
+    let new : Packed = record { edges = c.set.new.self; grown = c.insert.new.self } in
     let left : c.match-step-2.walk.left ≡ c.args.walk.now.left = search rules in
     let after = subst (λ n. IsLeft leaf.result.0 n c.left_after-walk.result) left c.left_after-walk.ensures in
     let asked = c.is_granted.ensures.granted (search rules) in
@@ -91,8 +90,8 @@ returns g c =
       room = search rules;
       may = leaf.ensures.may;
       kept = search rules;
-      whole = put_whole c.args.self.now new c.args.place c.args.rank c.index.result.now c.grown.result leaf.result.1 c.requires.there c.requires.whole c.requires.rank c.grown.ensures.mark refl row;
-      before = take_set c.args.self.now.edges.items c.args.place c.grown.result;
+      whole = put_whole c.args.self.now new c.args.place c.args.rank c.at.result c.grown-edge.result leaf.result.1 c.requires.there c.requires.whole c.requires.rank c.grown-edge.ensures.mark c.set.ensures row;
+      before = ap (take c.args.place) c.set.ensures ∙ take_set c.args.self.now.edges c.args.place c.grown-edge.result;
       granted = spent_by (g.G.Grants.asked c.args.grants.now) (g.G.Grants.asked c.is_granted.new.grants) leaf.result.0 c.args.walk.now.left c.left_after-walk.result asked after;
       asked = asked;
       source = c.is_granted.ensures.source;
@@ -100,6 +99,6 @@ returns g c =
         leaf.result.1,
         leaf.ensures.taken,
         after,
-        put c.args.self.now new c.args.place c.args.rank c.index.result.now c.grown.result leaf.result.1 c.requires.there c.requires.whole c.requires.rank c.grown.ensures.mark refl row turn,
+        put c.args.self.now new c.args.place c.args.rank c.at.result c.grown-edge.result leaf.result.1 c.requires.there c.requires.whole c.requires.rank c.grown-edge.ensures.mark c.set.ensures row turn,
       );
     }

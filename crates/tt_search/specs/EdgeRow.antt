@@ -1,0 +1,15 @@
+-- The edges of a node as the code keeps them. For private contracts and proofs.
+use Rattle.std.specs.Prelude.{◌≤◌, List, take}
+use Rattle.tt_search.specs.declared.edge_row.Form.{Form}
+use Rattle.tt_search.specs.declared.edge_row.Form.TheVariants.{Short, Long}
+use Rattle.tt_search.specs.declared.edges.Edge.{Edge}
+
+-- the first ones of the array, or those of the block
+abbrev pub edges_of : Form → List Edge
+edges_of (Short count short) = take count short
+edges_of (Long long) = long.items
+
+-- no more than the array has
+abbrev pub AreWithin : Form → Type 0
+AreWithin (Short count short) = count ≤ 15
+AreWithin (Long long) = Unit {0}
