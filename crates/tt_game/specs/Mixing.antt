@@ -1,8 +1,19 @@
 -- What words make of a number: prints are made by it, of keys and of colourings.
 use Rattle.std.specs.Prelude.{ℕ, ◌+◌, ◌*◌, ◌%◌, ◌^◌, List, [], ◌∷◌}
+use Rattle.tt_sgf.specs.declared.size.Size.{Size}
+use Rattle.tt_board.specs.declared.Colour.TheVariants.{Black, White}
+use Rattle.tt_board.specs.Position.{Colouring}
+use Rattle.tt_board.specs.Reach.{entry_at}
+use Rattle.tt_board.specs.Play.{is_stone_of}
 use Rattle.tt_game.specs.declared.seen.TheConstants.{MIXER}
+use Rattle.tt_game.specs.Keys.{packed}
 
 -- what words, one after the other, make of a number
 unfoldable pub mix : ℕ → List ℕ → ℕ
 mix sum [] = sum
 mix sum (w ∷ ws) = mix ((sum * MIXER % 2 ^ 64 + w) % 2 ^ 64) ws
+
+-- what both colours' words make, Black's first, multiplied once more, since the last word was only added
+unfoldable pub board_print : Size → Colouring → ℕ
+board_print size c =
+    mix (mix 0 (packed size (λ p. is_stone_of (entry_at c p) Black))) (packed size (λ p. is_stone_of (entry_at c p) White)) * MIXER % 2 ^ 64

@@ -3,7 +3,7 @@
 ghost use Rattle.std.specs.Prelude.{◌≡◌, ℕ, ◌<◌, ◌↔◌, All, IsTrue};
 ghost use Rattle.tt_sgf.specs.declared.size.Size.{Size};
 ghost use Rattle.tt_game.specs.Course.{colourings};
-ghost use Rattle.tt_game.specs.Mixing.{mix};
+ghost use Rattle.tt_game.specs.Mixing.{mix, board_print};
 ghost use Rattle.tt_game.specs.Seen.{mix_board, print_of, IsSeen, AreSeen};
 
 use std::alloc::Global;
@@ -46,6 +46,13 @@ pub(crate) fn mix_board(board: &Board) -> u64
 {
     let black = mix(0, &board.words(Colour::Black));
     mix(black, &board.words(Colour::White))
+}
+
+/// A number that other boards mostly haven't, of which the highest bits say most.
+pub fn board_print(board: &Board) -> u64
+    ensures { result ≡ board_print board.now.size board.now.points }
+{
+    mix_board(board).wrapping_mul(MIXER)
 }
 
 /// The print of a colouring: a number that others mostly haven't.

@@ -29,7 +29,7 @@ colouring_in [] b m = absurd m
 colouring_in (x ∷ bs) b (inl e) = inl (ap (λ (w : Position). w.points) e)
 colouring_in (x ∷ bs) b (inr m) = inr (colouring_in bs b m)
 
-board_in : (f : Frame) (bs : List Position) (c : Colouring) → All (λ (b : Position). b.size ≡ f.size) bs → IsIn (colourings bs) c → IsIn bs (frame_board f c)
+pub board_in : (f : Frame) (bs : List Position) (c : Colouring) → All (λ (b : Position). b.size ≡ f.size) bs → IsIn (colourings bs) c → IsIn bs (frame_board f c)
 board_in f [] c all m = absurd m
 board_in f (x ∷ bs) c all (inl e) = inl (board_is x f.size c (All-head (λ (b : Position). b.size ≡ f.size) x bs all) e)
 board_in f (x ∷ bs) c all (inr m) = inr (board_in f bs c (All-tail (λ (b : Position). b.size ≡ f.size) x bs all) m)

@@ -15,7 +15,7 @@ use Rattle.tt_proof.specs.Footprints.{IsNeeded, IsNeededBehind, IsAvoided, IsAvo
 use Rattle.tt_proof.specs.KeptFootprints.{IsFootprint, IsEntryJoined, AreSized, frame_board}
 use Rattle.tt_proof.specs.Collecting.{IsPassedUp, IsPlayed, IsPicked, IsNoHigher, IsReachedBy}
 use Rattle.tt_proof.specs.declared.bounds.Bound.{Bound}
-use Rattle.tt_proof.specs.Bounds.{IsReached}
+use Rattle.tt_proof.specs.Bounds.{first_mark, second_mark, IsReached}
 use Rattle.tt_proof.proofs.NeedLemmas.{needed_less, needed_more}
 use Rattle.tt_game.specs.Members.{in_of_contains}
 
@@ -69,7 +69,7 @@ foot_pick f s t u x y l foot h = record {
     λ w. (h.needed (frame_board f c)).1 ((given f s t u x foot c).1 w.1),
   );
   avoided = λ c. (λ m. (l, up c ((h.avoided (frame_board f c)).0 m)), λ w. (h.avoided (frame_board f c)).1 (down c w.1));
-  met = λ c m. subst (λ low. IsReached low c) (sym h.low) (foot.met c m.1);
+  met = λ c m. subst (λ low. IsReached low (frame_board f c)) (sym h.low) (foot.met c m.1);
 }
   where
     sized : (b : Position) → IsPlayed t (frame_board f (after f s t).present) b ⊎ Contains x.avoids b → b.size ≡ f.size
@@ -184,19 +184,23 @@ otherwise A B X Y h e = (λ b. to (h.0 b), λ w. h.1 (from w))
     from (inr y) = inr (e.1 y)
 
 -- what reaches a bound reaches one that is no higher
-reached_lower : (low other : Bound) (c : Colouring) → IsNoHigher low other → IsReached other c → IsReached low c
-reached_lower low other c le r = let a = le.0 in let b = le.1 in let m = r.0 in let n = r.1 in (omega (arith, a, m), omega (arith, b, n))
+reached_lower : (low other : Bound) (b : Position) → IsNoHigher low other → IsReached other b → IsReached low b
+reached_lower low other b le r =
+    let black = le.black in
+    let white = le.white in
+    let m = r.0 in let n = r.1 in (omega (arith, black, m), omega (arith, white, n), (le.marks (first_mark b) r.2.0, le.marks (second_mark b) r.2.1))
 
 -- what the turn makes reaches a bound that it was to reach
-reached_made : (f : Frame) (s : State) (t : Turn) (low : Bound) (c : Colouring) → IsReachedBy t (after f s t).present low → Makes f s t c → IsReached low c
+reached_made : (f : Frame) (s : State) (t : Turn) (low : Bound) (c : Colouring) → IsReachedBy t (frame_board f (after f s t).present) low → Makes f s t c →
+    IsReached low (frame_board f c)
 reached_made f s Pass low c r m = absurd m
-reached_made f s (Play p) low c r m = subst (λ x. IsReached low x) m r
+reached_made f s (Play p) low c r m = subst (λ x. IsReached low (frame_board f x)) m r
 
 -- a bound of a reply with one more entry
 pub record IsLowered (f : Frame) (s : State) (t : Turn) (low old new : Bound) : Type 0 where
   pub before : IsNoHigher new old
   pub behind : IsNoHigher new low
-  pub made : IsReachedBy t (after f s t).present new
+  pub made : IsReachedBy t (frame_board f (after f s t).present) new
 
 -- the footprint of a reply with one more entry, whose turn is legal
 pub foot_entry : (f : Frame) (s : State) (t : Turn) (u : Strategy) (x old new : Footprint) → IsLegal f s t → IsFootprint f (after f s t) u x →
@@ -226,10 +230,11 @@ foot_entry f s t u x old new l foot n a lower es before = record {
         (otherwise _ _ _ _ (n (frame_board f c)) (λ g. (l, (given f s t u x foot c).0 g), λ w. (given f s t u x foot c).1 w.1))
         (before.needed c) (regroup (IsRepeated f (history s) [] s c) _ _ _ push)
 
-    low : (c : Colouring) → IsMetBehind f (entries_of es) s c ⊎ (IsLegal f s t × (Makes f s t c ⊎ IsMet f u (after f s t) c)) → IsReached new.low c
-    low c (inl m) = reached_lower new.low old.low c lower.before (before.met c m)
+    low : (c : Colouring) → IsMetBehind f (entries_of es) s c ⊎ (IsLegal f s t × (Makes f s t c ⊎ IsMet f u (after f s t) c)) →
+        IsReached new.low (frame_board f c)
+    low c (inl m) = reached_lower new.low old.low (frame_board f c) lower.before (before.met c m)
     low c (inr (w, inl m)) = reached_made f s t new.low c lower.made m
-    low c (inr (w, inr m)) = reached_lower new.low x.low c lower.behind (foot.met c m)
+    low c (inr (w, inr m)) = reached_lower new.low x.low (frame_board f c) lower.behind (foot.met c m)
 
 -- an entry of a turn that is not legal adds nothing
 pub foot_no_entry : (f : Frame) (s : State) (t : Turn) (u : Strategy) (x : Footprint) → (IsLegal f s t → ⊥) → IsEntryJoined f s t u x x

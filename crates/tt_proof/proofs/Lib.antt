@@ -3,6 +3,7 @@ pub mod EntryLemmas
 pub mod ForcesLemmas
 pub mod FitsLemmas
 pub mod FittingLemmas
+pub mod BoundLemmas
 pub mod CarryLemmas
 pub mod TakenLemmas
 pub mod SharedLemmas

@@ -1,5 +1,6 @@
 -- What the parts of a walk for a footprint find.
 use Rattle.std.specs.Prelude.{◌≡◌, ◌≢◌, ◌↔◌, ◌⊎◌, ℕ, ◌<◌, ◌≤◌, List, Contains}
+use Rattle.std.specs.Int.{bit_at}
 use Rattle.tt_board.specs.Position.{Position, Colouring}
 use Rattle.tt_game.specs.Game.{State, IsBarred, made}
 use Rattle.tt_game.specs.declared.frame.Frame.{Frame}
@@ -29,11 +30,13 @@ pub record IsPicked (t : Turn) (board : Position) (behind x : Footprint) : Type 
   pub avoided : (b : Position) → Contains x.avoids b ↔ (IsPlayed t board b ⊎ Contains behind.avoids b)
   pub low : x.low ≡ behind.low
 
--- no number is greater than the other's
-abbrev pub IsNoHigher : Bound → Bound → Type 0
-IsNoHigher low other = (low.black ≤ other.black) × (low.white ≤ other.white)
+-- no number is greater than the other's, and each of the other's marks is there
+pub record IsNoHigher (low other : Bound) : Type 0 where
+  pub black : low.black ≤ other.black
+  pub white : low.white ≤ other.white
+  pub marks : (mark : ℕ) → bit_at other.marks mark ≡ 1 → bit_at low.marks mark ≡ 1
 
--- where the turn is a play, what it made reaches the bound
-abbrev pub IsReachedBy : Turn → Colouring → Bound → Type 0
-IsReachedBy Pass c low = Unit {0}
-IsReachedBy (Play p) c low = IsReached low c
+-- where the turn is a play, the board that it made reaches the bound
+abbrev pub IsReachedBy : Turn → Position → Bound → Type 0
+IsReachedBy Pass b low = Unit {0}
+IsReachedBy (Play p) b low = IsReached low b

@@ -23,14 +23,14 @@ abbrev pub AreSized : Frame → List Position → Type 0
 AreSized f bs = (b : Position) → Contains bs b → b.size ≡ f.size
 
 -- the footprint is that of the strategy at the state: its boards are exactly those of the colourings that the strategy needs
--- in the history, and exactly those of the colourings that it avoids; no colouring that
--- it meets has fewer stones of a colour than the bound
+-- in the history, and exactly those of the colourings that it avoids; the board of each colouring that
+-- it meets reaches the bound
 pub record IsFootprint (f : Frame) (s : State) (u : Strategy) (x : Footprint) : Type 0 where
   pub needs_sized : AreSized f x.needs
   pub avoids_sized : AreSized f x.avoids
   pub needed : (c : Colouring) → Contains x.needs (frame_board f c) ↔ IsNeeded f (history s) u [] s c
   pub avoided : (c : Colouring) → Contains x.avoids (frame_board f c) ↔ IsAvoided f u s c
-  pub met : (c : Colouring) → IsMet f u s c → IsReached x.low c
+  pub met : (c : Colouring) → IsMet f u s c → IsReached x.low (frame_board f c)
 
 -- a play on each point of the set is legal
 abbrev pub AreLegalPlays : Frame → State → Points → Type 0

@@ -20,7 +20,7 @@ use tt_game::{Line, Refused, Turn};
 use tt_sgf::{NoMemory, Point, PointSet};
 
 /// What a tree needs in the history of its state, and what it avoids there: the boards of two sets of colourings. No board that
-/// a turn of the other side makes has fewer stones of a colour than `low`.
+/// a turn of the other side makes has fewer stones of a colour than `low`, or a mark that isn't there.
 #[derive(Drop)]
 pub struct Footprint {
     pub needs: SharedBoards,
@@ -159,7 +159,7 @@ fn put_played(
 fn lowered(low: &Bound, turn: &Turn, board: &Board, behind: &Bound) -> Bound
     ensures before { IsNoHigher result low.now }
     ensures behind { IsNoHigher result behind.now }
-    ensures made { IsReachedBy turn.now board.now.points result }
+    ensures made { IsReachedBy turn.now board.now result }
 {
     let both = low.least(behind);
     match turn {

@@ -192,8 +192,9 @@ impl Proof {
     }
 
     /// The footprint of the tree at the line, where it wins. It is the proof's own where the tree fits, and each board of the
-    /// line's history but the last has fewer stones of some colour than all boards that turns of the other side make, and where
-    /// the line is where the proof stands; else the tree is walked through. The line stands as before, also after want of memory.
+    /// line's history but the last is told from all boards that turns of the other side make, by its numbers of stones or by a
+    /// mark, and where the line is where the proof stands; else the tree is walked through. The line stands as before, also after
+    /// want of memory.
     pub fn footprint_at(&self, alloc: Global, line: &mut Line) -> Result<Footprint, NoMemory>
         requires wins { IsWon self.now.side line.old.frame line.old.state self.now.tree }
         ensures exact { IfOk result (λ x. IsFootprint line.old.frame line.old.state self.now.tree x) }

@@ -14,6 +14,6 @@ returns c =
     (record {
       before = c.lowered-self.ensures.before;
       behind = c.lowered-self.ensures.behind;
-      made = subst (λ (b : Position). IsReachedBy c.args.turn.now b.points c.lowered-self.result) c.requires.board c.lowered-self.ensures.made;
+      made = subst (λ (b : Position). IsReachedBy c.args.turn.now b c.lowered-self.result) c.requires.board c.lowered-self.ensures.made;
     }))
     c.join-2.ensures

@@ -13,9 +13,9 @@ returns-then-is_above-clause-exact c =
     let line = c.args.line.now in
     let own = c.footprint-own in
     let boards = c.history-history in
-    let low : All (λ (b : Position). IsReached own.result.now.low b.points → ⊥) (take (length boards.result.now - 1) boards.result.now) =
+    let low : All (λ (b : Position). IsReached own.result.now.low b → ⊥) (take (length boards.result.now - 1) boards.result.now) =
     rw (← c.saturating_sub.ensures) (c.is_above.ensures.0 c.if-is_above.true) in
-    let taken = footprint_taken p line.state own.result.now boards.result.now boards.ensures.colourings low line.frame c.tree-tree.ensures.wins
+    let taken = footprint_taken p line.frame line.state own.result.now boards.result.now boards.ensures.colourings boards.ensures.sizes low c.tree-tree.ensures.wins
     (c.fits.ensures.fits.0 c.if-fits.true) own.ensures in
     if_ok c.try_clone.result _ _ (λ x e. subst (λ y. IsFootprint line.frame line.state p.tree y) (sym e) taken) c.try_clone.ensures
 
