@@ -70,7 +70,9 @@ impl Line {
         ensures { MatchOption result (IsLegal self.now.frame self.now.state (Turn.Play p) → ⊥)
             (λ w. IsLegal self.now.frame self.now.state (Turn.Play p) × (w ≡ winner_of self.now.frame (after self.now.frame self.now.state (Turn.Play p)))) }
     {
-        if self.is_among(&self.board_told(p, Glance::Quiet)) {
+        let mut next = self.present().copy();
+        next.put_stone(self.mover(), p);
+        if self.is_among(&next) {
             return None;
         }
         Some(None)

@@ -1,6 +1,5 @@
-use Rattle.std.proofs.Common.{sym, subst, ◌∙◌}
+use Rattle.std.proofs.Common.{rules, ◌≡◌, sym, subst, ◌∙◌}
 use Rattle.std.proofs.lemmas.Bool.{false≢true}
-use Rattle.tt_board.specs.Position.{Position}
 use Rattle.tt_game.specs.Course.{HasBeen}
 use Rattle.tt_game.specs.Game.{history, made}
 use Rattle.tt_game.proofs.SurveyLemmas.{nobody_put}
@@ -9,6 +8,7 @@ use Rattle.tt_game.proofs.line.Line.winner_put.Goals as goal
 pub returns : goal.returns
 returns c =
     let l = c.args.self.now in let r = c.requires in
+    let shown : c.put_stone.new.self.points ≡ made l.frame l.state c.args.p = search rules in
     let new : HasBeen (history l.state) (made l.frame l.state c.args.p) → ⊥ = λ has.
-    false≢true (sym c.if-is_among.false ∙ c.is_among.ensures.1 (subst (λ (b : Position). HasBeen (history l.state) b.points) (sym c.board_told.ensures) has)) in
+    false≢true (sym c.if-is_among.false ∙ c.is_among.ensures.1 (subst (HasBeen (history l.state)) (sym shown) has)) in
     ((r.open, r.on_board, r.free, r.inside, new), sym (nobody_put l.frame l.state c.args.p r.open r.free r.put))
