@@ -8,6 +8,7 @@ pub mod Tokens
 pub mod Lost
 pub mod StuckBehind
 pub mod Sending
+pub mod Spares
 pub mod ViewSending
 pub mod ResultLemmas
 pub mod LastWins

@@ -89,6 +89,12 @@ abbrev pub HasWon : End → Type 0
 HasWon (Settled p) = IsWon p.side p.frame p.state p.tree
 HasWon (Stuck reason search) = Unit {0}
 
+-- the line is that of the search that is held
+abbrev pub IsLineOf : End → Standing → Type 0
+IsLineOf (Settled p) line = ⊥
+IsLineOf (Stuck reason (Some search)) line = line ≡ search.line
+IsLineOf (Stuck reason None) line = ⊥
+
 -- a result as it is kept: a stuck search is dropped where a lesser job is stuck
 abbrev pub kept_of : Bool → End → End
 kept_of past_stuck (Settled p) = Settled p

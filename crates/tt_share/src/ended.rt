@@ -1,12 +1,12 @@
 //! How the search of a job ended, kept in little memory.
 
-ghost use Rattle.std.specs.Prelude.{◌≡◌, ◌↔◌, None, IsTrue};
+ghost use Rattle.std.specs.Prelude.{◌≡◌, ◌↔◌, None, IfSome, IsTrue};
 ghost use Rattle.tt_search.specs.declared.limits.Reason.TheVariants.{Memory};
 ghost use Rattle.tt_search.specs.declared.search.End.TheVariants.{Stuck};
-ghost use Rattle.tt_share.specs.Jobs.{IsWinFor, IsStuck, HasWon, kept_of};
+ghost use Rattle.tt_share.specs.Jobs.{IsWinFor, IsStuck, IsLineOf, HasWon, kept_of};
 
 use std::marker::Model;
-use tt_game::Side;
+use tt_game::{Line, Side};
 use tt_search::{End, Reason};
 
 /// How the search of a job ended. Contracts see the end.
@@ -111,5 +111,28 @@ pub(crate) fn trimmed(past_stuck: bool, end: Ended) -> Ended
     if past_stuck && is_stuck(&end) {
         return Ended::nowhere();
     }
+    end
+}
+
+/// The line of the search that the end holds, if it holds one.
+fn line_of(end: Ended) -> Option<Line>
+    ensures { IfSome result (IsLineOf end) }
+{
+    match end.into_end() {
+        End::Stuck(_, Some(search)) => Some(search.into_line()),
+        End::Stuck(_, None) | End::Settled(_) => None,
+    }
+}
+
+/// A result as it is kept. The line of a search that is dropped is left in `spare`, for the next job.
+pub(crate) fn trimmed_to(past_stuck: bool, end: Ended, spare: &mut Option<Line>) -> Ended
+    ensures kept { result ≡ kept_of past_stuck end }
+    ensures spare { IfSome spare.new (IsLineOf end) }
+{
+    if is_stuck(&end) && past_stuck {
+        *spare = line_of(end);
+        return Ended::nowhere();
+    }
+    *spare = None;
     end
 }

@@ -1,7 +1,8 @@
 //! Jobs: the legal turns of a line, each searched by itself.
 
-ghost use Rattle.std.specs.Prelude.{◌≡◌, ◌+◌, ◌^◌, ◌≤◌, ◌<◌, ◌↔◌, Bool, None, IfOk, IsTrue, length};
+ghost use Rattle.std.specs.Prelude.{◌≡◌, ◌+◌, ◌^◌, ◌≤◌, ◌<◌, ◌↔◌, Bool, None, IfOk, IfSome, IsTrue, length};
 ghost use Rattle.tt_game.specs.Game.{IsLegal, after, winner_of};
+ghost use Rattle.tt_game.specs.Line.{GoesOn};
 ghost use Rattle.tt_game.specs.Turns.{legal_turns};
 ghost use Rattle.tt_search.specs.Numbers.{count};
 ghost use Rattle.tt_search.specs.Ended.{EndOf, SpentBy};
@@ -95,24 +96,37 @@ impl<'a> Jobs<'a> {
         }
     }
 
+    /// The line again, in the place of a spare one where there is one.
+    fn line_again(&self, spare: Option<Line>) -> Result<Line, NoMemory>
+        requires { IfSome spare (GoesOn self.now.line.now) }
+        ensures { IfOk result (λ l. (l.frame ≡ self.now.line.now.frame) × (l.state ≡ self.now.line.now.state)) }
+    {
+        match spare {
+            Some(longer) => self.line.try_clone_over(longer),
+            None => self.line.try_clone(),
+        }
+    }
+
     /// The line after a legal turn.
-    fn line_behind(&self, turn: Turn) -> Result<Line, NoMemory>
+    fn line_behind(&self, turn: Turn, spare: Option<Line>) -> Result<Line, NoMemory>
         requires legal { IsLegal self.now.line.now.frame self.now.line.now.state turn }
+        requires spare { IfSome spare (GoesOn self.now.line.now) }
         ensures frame { IfOk result (λ l. l.frame ≡ self.now.line.now.frame) }
         ensures state { IfOk result (λ l. l.state ≡ after self.now.line.now.frame self.now.line.now.state turn) }
     {
-        let mut behind = self.line.try_clone()?;
+        let mut behind = self.line_again(spare)?;
         behind.push_legal(turn)?;
         Ok(behind)
     }
 
     /// The line behind a turn, and a place for how the search there ends, which is taken before it begins.
-    fn start_behind(&self, turn: Turn) -> Result<(Line, Box<End>), NoMemory>
+    fn start_behind(&self, turn: Turn, spare: Option<Line>) -> Result<(Line, Box<End>), NoMemory>
         requires legal { IsLegal self.now.line.now.frame self.now.line.now.state turn }
+        requires spare { IfSome spare (GoesOn self.now.line.now) }
         ensures frame { IfOk result (λ x. x.0.frame ≡ self.now.line.now.frame) }
         ensures state { IfOk result (λ x. x.0.state ≡ after self.now.line.now.frame self.now.line.now.state turn) }
     {
-        let behind = self.line_behind(turn)?;
+        let behind = self.line_behind(turn, spare)?;
         let place = Box::new(self.alloc, End::Stuck(Reason::Memory, None))?;
         Ok((behind, place))
     }
@@ -121,10 +135,12 @@ impl<'a> Jobs<'a> {
     fn search_behind<S: Store, G: Grants>(
         &self,
         turn: Turn,
+        spare: Option<Line>,
         store: &mut S,
         grants: &mut G,
     ) -> (Ended, u32)
         requires legal { IsLegal self.now.line.now.frame self.now.line.now.state turn }
+        requires spare { IfSome spare (GoesOn self.now.line.now) }
         requires grants { (G.asked grants.old).granted < 2 ^ 62 }
         ensures ends { EndsBehind self.now.line.now self.now.limits turn result.0 }
         ensures counted { IsCounted self.now.line.now self.now.limits turn result.1 result.0 }
@@ -132,7 +148,7 @@ impl<'a> Jobs<'a> {
         ensures source { G.source grants.new ≡ G.source grants.old }
     {
         let limits = self.limits_behind();
-        let Ok((behind, place)) = self.start_behind(turn) else {
+        let Ok((behind, place)) = self.start_behind(turn, spare) else {
             return (Ended::nowhere(), 0);
         };
         match Search::new(self.alloc, behind, limits) {
@@ -142,21 +158,23 @@ impl<'a> Jobs<'a> {
     }
 
     /// Searches a job: the line after its turn, with the same budget and a depth one less. Answers how the search ends, and
-    /// how many nodes it expanded.
+    /// how many nodes it expanded. It takes over the boards of a spare line that goes on from the jobs' line.
     pub fn search<S: Store, G: Grants>(
         &self,
         job: usize,
+        spare: Option<Line>,
         store: &mut S,
         grants: &mut G,
     ) -> (Ended, u32)
         requires job { job < length self.now.turns.items }
+        requires spare { IfSome spare (GoesOn self.now.line.now) }
         requires grants { (G.asked grants.old).granted < 2 ^ 62 }
         ensures ends { IsResultOf self.now.line.now self.now.limits job result.0 }
         ensures counted { IsJobCount self.now.line.now self.now.limits job result.1 result.0 }
         ensures asks { AsksFor (G.asked grants.old) result.1 result.0 (G.asked grants.new) }
         ensures source { G.source grants.new ≡ G.source grants.old }
     {
-        self.search_behind(self.turns.as_slice()[job], store, grants)
+        self.search_behind(self.turns.as_slice()[job], spare, store, grants)
     }
 
     /// Whether a result is a proof for the side to move.

@@ -135,7 +135,7 @@ fn search_of_first(
     }
     let jobs = Jobs::of(alloc, &line, limits);
     let gate = Told { told };
-    let (end, spent) = search_drawn(&jobs, &gate, 0, store, &mut Free::new());
+    let (end, spent) = search_drawn(&jobs, &gate, 0, None, store, &mut Free::new());
     Ok((end.into_end(), spent))
 }
 

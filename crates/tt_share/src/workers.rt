@@ -1,6 +1,7 @@
 //! Workers: threads that draw the jobs of a line at a desk and search them, and what comes back of them.
 
 ghost use Rattle.std.specs.Prelude.{◌≡◌, ◌≤◌, ◌<◌, ◌↔◌, ◌+◌, ◌^◌, ◌⊎◌, ◌||◌, ℕ, [], ◌∷◌, ◌++◌, All, None, IfOk, IfNone, IfSome, IsTrue, length, sum_by, vec_len, vec_capacity};
+ghost use Rattle.tt_game.specs.Line.{GoesOn};
 ghost use Rattle.tt_share.specs.Jobs.{IsResultOf, IsJobCount, AsksFor, IsResult};
 ghost use Rattle.tt_share.specs.Results.{KeepsEnds};
 ghost use Rattle.tt_share.specs.Answers.{spent_in_all};
@@ -9,7 +10,7 @@ ghost use Rattle.tt_share.specs.declared.workers.HandedBack.{HandedBack};
 ghost use Rattle.tt_share.specs.Workers.{SomeWin, IsWork, held, times, spent_on, spent_by_all, AreApart, AllApart, IsPlaced, AllPlaced, AddsSpare, AllDrawn, jobs_of, AreGiven, AllGiven};
 
 use crate::desk::{Desk, Seat};
-use crate::ended::{Ended, is_stuck, trimmed};
+use crate::ended::{Ended, is_stuck, trimmed_to};
 use crate::gate::Gate;
 use crate::grants::SeatGrants;
 use crate::jobs::{Found, Jobs};
@@ -20,6 +21,7 @@ use crate::view::View;
 use std::sync::Wait;
 use std::thread;
 use std::thread::Threads;
+use tt_game::Line;
 use tt_search::{Grants, Store};
 use tt_sgf::NoMemory;
 
@@ -35,10 +37,12 @@ pub(crate) fn search_drawn<S: Store, G: Gate, A: Grants>(
     jobs: &Jobs<'_>,
     gate: &G,
     job: usize,
+    spare: Option<Line>,
     store: &mut S,
     grants: &mut A,
 ) -> (Ended, u32)
     requires job { job < length jobs.now.turns.items }
+    requires spare { IfSome spare (GoesOn jobs.now.line.now) }
     requires grants { (A.asked grants.old).granted < 2 ^ 62 }
     ensures ends { IsResultOf jobs.now.line.now jobs.now.limits job result.0 }
     ensures counted { IsJobCount jobs.now.line.now jobs.now.limits job result.1 result.0 }
@@ -46,7 +50,7 @@ pub(crate) fn search_drawn<S: Store, G: Gate, A: Grants>(
     ensures source { A.source grants.new ≡ A.source grants.old }
 {
     gate.begin(job);
-    let (end, spent) = jobs.search(job, store, grants);
+    let (end, spent) = jobs.search(job, spare, store, grants);
     gate.end(job);
     (end, spent)
 }
@@ -82,7 +86,7 @@ fn next_job(grants: &mut SeatGrants<'_>, found: &mut Vec<Found>) -> Option<usize
 
 /// Draws jobs and searches them until no job is left, the mark is seen or memory is refused. Room for a result comes
 /// before its draw, so each job that was drawn has its result. A job that is settled for the side to move raises the mark.
-/// The jobs of a worker rise, so it keeps the search of its first stuck job alone.
+/// The jobs of a worker rise, so it keeps the search of its first stuck job alone; the line of another one serves the next job.
 pub(crate) fn work<S: Store, G: Gate>(
     jobs: &Jobs<'_>,
     desk: &Desk,
@@ -98,10 +102,12 @@ pub(crate) fn work<S: Store, G: Gate>(
 {
     let mut found = Vec::new(jobs.alloc);
     let mut past_stuck = false;
+    let mut spare = None;
     let mut grants = SeatGrants::new(desk, seat);
     while let Some(job) = next_job(&mut grants, &mut found) {
-        let (end, spent) = search_drawn(jobs, gate, job, store, &mut grants);
-        let end = trimmed(past_stuck, end);
+        let line = spare.take();
+        let (end, spent) = search_drawn(jobs, gate, job, line, store, &mut grants);
+        let end = trimmed_to(past_stuck, end, &mut spare);
         past_stuck = past_stuck || is_stuck(&end);
         raise_for(&mut grants, jobs.is_won(&end));
         found.push_reserved(Found { job, end, spent });

@@ -1,8 +1,11 @@
-use Rattle.std.proofs.Common.{rules, ◌≡◌, ℕ, ◌<◌, ◌||◌, ◌⊎◌, Bool, IsTrue, List, [], ◌∷◌, ◌++◌, All, length, length-append, inr, sym, ap, subst, ◌∙◌, arith}
+use Rattle.std.proofs.Common.{rules, ◌≡◌, ℕ, ◌<◌, ◌||◌, ◌⊎◌, Bool, IsTrue, IfSome, List, [], ◌∷◌, ◌++◌, All, length, length-append, inr, sym, ap, subst, ◌∙◌, arith}
 use denote.Param.Send.{sendable}
 use Rattle.std.proofs.lemmas.List.{length-map}
 use Rattle.std.proofs.lemmas.List.Elements.{All-push}
 use Rattle.std.proofs.lemmas.List.Sums.{sum_by_push}
+use Rattle.tt_game.specs.declared.turns.Turn.{Turn}
+use Rattle.tt_game.specs.Line.{GoesOn}
+use Rattle.tt_game.specs.Turns.{legal_turns}
 use Rattle.tt_share.specs.Jobs.{IsResult, IsResultOf, IsJobCount, IsForTotal}
 use Rattle.tt_share.specs.Seats.{DeskView, SeatView}
 use Rattle.tt_share.specs.Tallies.{Tallies}
@@ -15,6 +18,7 @@ use Rattle.tt_share.proofs.Drawn.{drawn_more, drawn_all, numbers_of}
 use Rattle.tt_share.proofs.LastWins.{not_none, pushed, marked, marks_again, mark_of, wins_more, last_wins}
 use Rattle.tt_share.proofs.Noting.{kept_count}
 use Rattle.tt_share.proofs.ResultLemmas.{kept_result}
+use Rattle.tt_share.proofs.Spares.{spare_goes_on}
 use Rattle.tt_share.proofs.Spending.{refused_total, refused_more}
 use Rattle.tt_share.proofs.workers.work.Goals as goal
 
@@ -30,7 +34,10 @@ search_drawn-end-requires g c κs =
       search (rules, sendable),
       (
         omega (arith, job.0, jobs, c.requires.jobs),
-        omega (arith, job.0, job.1, jobs, drawn, found, long, c.requires.jobs, c.args.jobs.now.few.1, c.loop-job.invariant.few, c.next_job.ensures.counts.0),
+        (
+          subst (λ o. IfSome o (GoesOn c.args.jobs.now.line.now)) (sym c.take-line.ensures.value) c.loop-job.invariant.spare,
+          omega (arith, job.0, job.1, jobs, drawn, found, long, c.requires.jobs, c.args.jobs.now.few.1, c.loop-job.invariant.few, c.next_job.ensures.counts.0),
+        ),
       ),
     )
 
@@ -52,7 +59,7 @@ loop-job-preserved g c =
     let limits = c.args.jobs.now.limits in
     let past = c.loop-job.past_stuck in
     let ended = c.search_drawn-end in
-    let f : Found = record { job = c.in-Some.job; end = c.trimmed-end.result; spent = ended.result.1 } in
+    let f : Found = record { job = c.in-Some.job; end = c.trimmed_to-end.result; spent = ended.result.1 } in
     let before = c.next_job.new.grants in
     let searched = ended.new.grants in
     let after = c.raise_for.new.grants in
@@ -64,8 +71,8 @@ loop-job-preserved g c =
     let all : c.push_reserved.new.self.items ≡ c.loop-job.found.items ++ f ∷ [] = pushed c.loop-job.found.items c.next_job.new.found.items c.push_reserved.new.self.items
     f c.push_reserved.ensures.items c.next_job.ensures.found in
     let this : IsResult line limits f = (
-      subst (IsResultOf line limits c.in-Some.job) (sym c.trimmed-end.ensures) (kept_result line limits c.in-Some.job past ended.result.0 ended.ensures.ends),
-      subst (IsJobCount line limits c.in-Some.job ended.result.1) (sym c.trimmed-end.ensures) (kept_count line limits c.in-Some.job past ended.result.1 ended.result.0 ended.ensures.counted),
+      subst (IsResultOf line limits c.in-Some.job) (sym c.trimmed_to-end.ensures.kept) (kept_result line limits c.in-Some.job past ended.result.0 ended.ensures.ends),
+      subst (IsJobCount line limits c.in-Some.job ended.result.1) (sym c.trimmed_to-end.ensures.kept) (kept_count line limits c.in-Some.job past ended.result.1 ended.result.0 ended.ensures.counted),
     ) in
     let more = All-push (IsResult line limits) c.loop-job.found.items f c.loop-job.invariant.found this in
     let down : IsTrue before.seat.mark → ⊥ = λ up. not_none c.next_job.result c.in-Some.job c.in-Some.is (c.next_job.ensures.stopped (left_true before.seat.mark before.seat.sighting up)).0 in
@@ -73,6 +80,13 @@ loop-job-preserved g c =
     mark_of after.seat searched.seat.desk searched.seat.numbers searched.seat.grants (searched.seat.mark || won) searched.seat.sighting c.raise_for.ensures.seat ∙ ap (λ b. b || won) same_mark in
     let numbers : after.seat.numbers ≡ before.seat.numbers =
     numbers_of after.seat searched.seat.desk searched.seat.numbers searched.seat.grants (searched.seat.mark || won) searched.seat.sighting c.raise_for.ensures.seat ∙ same_numbers in
+    let inside : c.in-Some.job < length (legal_turns line.frame line.state) = omega (
+      arith,
+      c.in-Some.ensures.job.0,
+      ap (λ (d : DeskView). d.jobs) c.loop-job.invariant.desk,
+      c.requires.jobs,
+      ap (λ (ts : List Turn). length ts) c.args.jobs.now.listed,
+    ) in
     let sum = ap spent_on all in
     let long = ap (λ (l : List Found). length l) all in
     record {
@@ -100,7 +114,7 @@ loop-job-preserved g c =
         c.raise_for.ensures.counts.0,
       );
       refused = λ h. c.raise_for.ensures.counts.1 ∙ refused_more c.loop-job.found.items c.push_reserved.new.self.items f c.loop-job.grants.refused searched.refused all
-          (λ stuck. ended.ensures.asks.refused (total_kept past ended.result.0 (subst IsForTotal c.trimmed-end.ensures stuck)))
+          (λ stuck. ended.ensures.asks.refused (total_kept past ended.result.0 (subst IsForTotal c.trimmed_to-end.ensures.kept stuck)))
           (λ up. ended.ensures.asks.still (c.next_job.ensures.counts.1 ∙ up)) c.loop-job.invariant.refused h;
       found = subst (All (IsResult line limits)) (sym all) more;
       wins = subst (WinsAreLast side after.seat.mark) (sym all)
@@ -108,6 +122,7 @@ loop-job-preserved g c =
           (λ win. (marked after.seat.mark before.seat.mark won mark down).1 (c.is_won.ensures.1 win)) c.loop-job.invariant.wins);
       drawn = drawn_more c.args.seat.numbers c.loop-job.grants.seat.numbers before.seat.numbers after.seat.numbers c.loop-job.found.items c.push_reserved.new.self.items
           f c.loop-job.invariant.drawn c.in-Some.ensures.job.2 numbers all;
+      spare = spare_goes_on line limits c.in-Some.job ended.result.0 c.trimmed_to-end.new.spare inside ended.ensures.ends c.trimmed_to-end.ensures.spare;
       mark = λ up. inr (subst (SomeWin side) (sym all) (last_wins side c.loop-job.found.items f (c.is_won.ensures.0 ((marked after.seat.mark before.seat.mark won mark down).0 up))));
     }
 

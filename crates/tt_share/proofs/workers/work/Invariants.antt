@@ -1,4 +1,5 @@
-use Rattle.std.proofs.Common.{◌≡◌, ◌-◌, ◌*◌, ◌<◌, ◌≤◌, ◌++◌, ◌⊎◌, true, IsTrue, All, length}
+use Rattle.std.proofs.Common.{◌≡◌, ◌-◌, ◌*◌, ◌<◌, ◌≤◌, ◌++◌, ◌⊎◌, true, IfSome, IsTrue, All, length}
+use Rattle.tt_game.specs.Line.{GoesOn}
 use Rattle.tt_share.specs.Jobs.{IsResult}
 use Rattle.tt_share.specs.declared.jobs.Found.{Found}
 use Rattle.tt_share.specs.Workers.{SomeWin, SomeTotal, WinsAreLast, jobs_of, spent_on}
@@ -14,6 +15,7 @@ invariant-loop-job g l = record {
   found : All (IsResult l.jobs.line.now l.jobs.limits) l.found.items;
   wins : WinsAreLast l.jobs.line.now.state.to_move l.grants.seat.mark l.found.items;
   drawn : l.grants.seat.numbers ≡ l.fn.seat.numbers ++ jobs_of l.found.items;
+  spare : IfSome l.spare (GoesOn l.jobs.line.now);
   mark : IsTrue l.grants.seat.mark → IsTrue l.fn.seat.mark ⊎ SomeWin l.jobs.line.now.state.to_move l.found.items;
 }
 

@@ -12,7 +12,7 @@ search_behind-requires g c =
     let within = subst (λ (ts : List Turn). c.args.job < length ts) (sym c.as_slice.ensures.value) c.requires.job in
     let job : IsJob jobs.line.now c.args.job c.index-as_slice-job.result =
     job_here jobs.line.now c.as_slice.result.now c.args.job c.args.job c.index-as_slice-job.result (c.as_slice.ensures.value ∙ jobs.listed) refl within c.index-as_slice-job.is in
-    record { legal = legal_job jobs.line.now c.args.job c.index-as_slice-job.result job; grants = c.requires.grants }
+    record { legal = legal_job jobs.line.now c.args.job c.index-as_slice-job.result job; spare = c.requires.spare; grants = c.requires.grants }
 
 pub returns : goal.returns
 returns g c =
