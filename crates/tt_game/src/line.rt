@@ -164,6 +164,17 @@ impl Line {
         self.played.present().after_told(self.mover(), p, told)
     }
 
+    /// The board after a turn that is known to be legal. Nothing is pushed, and it takes no memory.
+    pub fn board_behind(&self, t: Turn) -> Board
+        requires { IsLegal self.now.frame self.now.state t }
+        ensures { result ≡ record { size = self.now.frame.size; points = (after self.now.frame self.now.state t).present } }
+    {
+        match t {
+            Turn::Play(p) => self.board_after(p),
+            Turn::Pass => self.present().copy(),
+        }
+    }
+
     /// Whether a stone of this colour stood on `p` on some board so far.
     fn has_stood(&self, colour: Colour, p: Point) -> bool
         requires { p < point_count self.now.frame.size }

@@ -53,6 +53,31 @@ impl Node {
             }
         }
     }
+
+    /// The same where the line stands at the node above, and this one is behind the turn; and the board after the turn.
+    #[cycle(footprint)]
+    fn footprint_behind(
+        &self,
+        alloc: Global,
+        turn: Turn,
+        line: &mut Line,
+        side: Side,
+    ) -> Result<(Board, Footprint), NoMemory>
+        requires legal { IsLegal line.old.frame line.old.state turn }
+        requires settled { IsSettledAt side line.old.frame (after line.old.frame line.old.state turn) self.now }
+        ensures board { IfOk result (λ r. IsBoardAfter line.old.frame line.old.state turn r.0) }
+        ensures exact { IfOk result (λ r. IsFootprint line.old.frame (after line.old.frame line.old.state turn) (strategy_for side self.now) r.1) }
+        ensures same { line.new ≡ line.old }
+    {
+        line.push_legal(turn)?;
+        let board = line.present().copy();
+        let found = self.footprint(alloc, line, side);
+        line.pop();
+        match found {
+            Ok(footprint) => Ok((board, footprint)),
+            Err(e) => Err(e),
+        }
+    }
 }
 
 /// The footprint of the proof that a node offered, where the line stands at the node. The proof stands there too, so that
@@ -69,20 +94,8 @@ fn offered_footprint(alloc: Global, line: &mut Line, proof: &Proof) -> Result<Fo
 }
 
 impl Child<'_> {
-    /// The footprint of a child's strategy for the side that it is settled for, where the line stands at it.
-    #[cycle(footprint)]
-    fn footprint(self, alloc: Global, line: &mut Line, side: Side) -> Result<Footprint, NoMemory>
-        requires { IsSettledAt side line.old.frame line.old.state (child_tree self) }
-        ensures exact { IfOk result (λ x. IsFootprint line.old.frame line.old.state (strategy_for side (child_tree self.entry)) x) }
-        ensures same { line.new ≡ line.old }
-    {
-        match self {
-            Child::Fresh | Child::Won(_) => Ok(Footprint::empty(alloc)),
-            Child::Grown(node) => node.footprint(alloc, line, side),
-        }
-    }
-
-    /// The same where the line stands at the node above, and the child is behind the turn; and the board after the turn.
+    /// The footprint of a child's strategy for the side that it is settled for, where the line stands at the node above, and the
+    /// child is behind the turn; and the board after the turn, which is pushed only where the child has grown.
     #[cycle(footprint)]
     fn footprint_behind(
         self,
@@ -97,13 +110,9 @@ impl Child<'_> {
         ensures exact { IfOk result (λ r. IsFootprint line.old.frame (after line.old.frame line.old.state turn) (strategy_for side (child_tree self.entry)) r.1) }
         ensures same { line.new ≡ line.old }
     {
-        line.push_legal(turn)?;
-        let board = line.present().copy();
-        let found = self.footprint(alloc, line, side);
-        line.pop();
-        match found {
-            Ok(footprint) => Ok((board, footprint)),
-            Err(e) => Err(e),
+        match self {
+            Child::Fresh | Child::Won(_) => Ok((line.board_behind(turn), Footprint::empty(alloc))),
+            Child::Grown(node) => node.footprint_behind(alloc, turn, line, side),
         }
     }
 }

@@ -42,11 +42,11 @@ by_nothing side f s x child (inr (winner, e)) foot = subst (λ k. IsFootprint f 
 
 -- ---- a node, and its children
 
-pub children::Child::footprint-returns-in-Fresh : goal.children::Child::footprint-returns-in-Fresh
-children::Child::footprint-returns-in-Fresh t c =
+pub children::Child::footprint_behind-returns-in-Fresh-clause-exact : goal.children::Child::footprint_behind-returns-in-Fresh-clause-exact
+children::Child::footprint_behind-returns-in-Fresh-clause-exact t c =
     let f = c.args.line.now.frame in
-    let s = c.args.line.now.state in
-    record { exact = by_nothing c.args.side f s c.empty.result c.args.self c.in-Fresh.is (c.empty.ensures f s); same = refl }
+    let s = after c.args.line.now.frame c.args.line.now.state c.args.turn in
+    by_nothing c.args.side f s c.empty.result c.args.self c.in-Fresh.is (c.empty.ensures f s)
 
 pub node::Node::footprint-returns-in-Won-clause-exact : goal.node::Node::footprint-returns-in-Won-clause-exact
 node::Node::footprint-returns-in-Won-clause-exact t c =

@@ -11,8 +11,8 @@ use Rattle.tt_search.proofs.+footprint.Given as goal
 abbrev pub decreases-node::Node::footprint : goal.decreases-node::Node::footprint
 decreases-node::Node::footprint l = weight l.self.now * 4 + 2
 
-abbrev pub decreases-children::Child::footprint : goal.decreases-children::Child::footprint
-decreases-children::Child::footprint l = weight (child_tree l.self) * 4 + 3
+abbrev pub decreases-node::Node::footprint_behind : goal.decreases-node::Node::footprint_behind
+decreases-node::Node::footprint_behind l = weight l.self.now * 4 + 3
 
 abbrev pub decreases-children::Child::footprint_behind : goal.decreases-children::Child::footprint_behind
 decreases-children::Child::footprint_behind l = weight (child_tree l.self) * 4 + 4
