@@ -5,22 +5,13 @@ use crate::proof_tests::{
     KILLED, LIVES, ONE_MOVE, PLAYED, SPLIT, UNPASSED, after, made_by_attacker, made_by_defender,
     problem_line, replayed,
 };
+use crate::rows::cut;
 use std::alloc::Global;
 use std::test::Fail;
 use tt_board::Board;
 use tt_game::{Line, Side, Turn};
 use tt_proof::{Footprint, Proof, SharedBoards, footprint_of, read_cert};
 use tt_sgf::{PointSet, Size};
-
-/// What stands before the first such byte, and what behind it; where it doesn't stand there, the whole text and nothing.
-fn cut(text: &[u8], end: u8) -> (&[u8], &[u8]) {
-    for i in 0..text.len() {
-        if text[i] == end {
-            return (&text[..i], &text[i + 1..]);
-        }
-    }
-    (text, &text[text.len()..])
-}
 
 /// The points of a drawn board that have this letter.
 fn points(size: Size, drawn: &[u8], letter: u8) -> PointSet {

@@ -5,12 +5,13 @@
 //! |---|---|
 //! | `sgf_tests` | `tt_sgf`: trees and values |
 //! | `record_tests` | `tt_game`: records and games |
-//! | `problem_tests`, `turn_tests` | `tt_game`: problems, and their turns |
+//! | `problem_tests`, `turn_tests`, `turn_tables` | `tt_game`: problems, their turns, and tables of these |
 //! | `proof_tests` | `tt_proof`: certificates and proofs |
 //! | `footprint_tests`, `footprint_tables` | `tt_proof`: footprints, and their tables |
-//! | `search_tests`, `trace_tests` | `tt_search`: searches, and their traces |
+//! | `search_tests`, `trace_tests`, `trace_tables` | `tt_search`: searches, their traces, and tables of these |
 //! | `store_tests` | `tt_search`: searches over stores that are full, refuse or are refused |
 //! | `grants_tests` | `tt_search`: searches whose expansions are granted |
+//! | `rows` | how a table is read that is one text |
 
 #![tactic(auto)]
 
@@ -27,12 +28,18 @@ mod proof_tests;
 #[cfg(test)]
 mod record_tests;
 #[cfg(test)]
+mod rows;
+#[cfg(test)]
 mod search_tests;
 #[cfg(test)]
 mod sgf_tests;
 #[cfg(test)]
 mod store_tests;
 #[cfg(test)]
+mod trace_tables;
+#[cfg(test)]
 mod trace_tests;
+#[cfg(test)]
+mod turn_tables;
 #[cfg(test)]
 mod turn_tests;
