@@ -49,6 +49,31 @@ pub(crate) fn counts(alloc: Global, search: &Search, kept: usize) -> Result<Stri
     Ok(format!(in alloc; "{} {kept}", search.expanded())?)
 }
 
+/// A search at the problem of the text.
+fn searching(alloc: Global, text: &[u8], budget: u32, depth: u16) -> Result<Search, Fail> {
+    let Some(limits) = Limits::new(budget, depth) else {
+        return Err(Fail::new("no limits"));
+    };
+    Ok(Search::new(alloc, posed(alloc, text)?, limits)?)
+}
+
+/// Adds each step of a search with the root's numbers after it, up to a step that leaves the search as it is.
+fn put_steps<S: Store>(
+    alloc: Global,
+    search: &mut Search,
+    store: &mut S,
+    shown: &mut String,
+) -> Result<(), Fail> {
+    for _ in 0..100 {
+        let step = search.step(store, &mut Free::new());
+        shown.push_str(told(alloc, step, search)?.as_str())?;
+        if step != Step::Expanded && step != Step::Closed {
+            return Ok(());
+        }
+    }
+    Ok(())
+}
+
 /// Each step of a search with the root's numbers after it, up to a step that leaves the search as it is; then how many
 /// nodes are expanded and how many proofs are kept.
 pub(crate) fn trace<S: Store>(
@@ -58,21 +83,11 @@ pub(crate) fn trace<S: Store>(
     depth: u16,
     store: &mut S,
 ) -> Result<String, Fail> {
-    let mut shown_steps = String::new(alloc);
-    let Some(limits) = Limits::new(budget, depth) else {
-        return Err(Fail::new("no limits"));
-    };
-    let line = posed(alloc, text)?;
-    let mut search = Search::new(alloc, line, limits)?;
-    for _ in 0..100 {
-        let step = search.step(store, &mut Free::new());
-        shown_steps.push_str(told(alloc, step, &search)?.as_str())?;
-        if step != Step::Expanded && step != Step::Closed {
-            break;
-        }
-    }
-    shown_steps.push_str(counts(alloc, &search, store.kept())?.as_str())?;
-    Ok(shown_steps)
+    let mut search = searching(alloc, text, budget, depth)?;
+    let mut shown = String::new(alloc);
+    put_steps(alloc, &mut search, store, &mut shown)?;
+    shown.push_str(counts(alloc, &search, store.kept())?.as_str())?;
+    Ok(shown)
 }
 
 /// What a trace ends with where the search ended so: where it is stuck the letter for the reason, the root's numbers and how
@@ -97,11 +112,7 @@ pub(crate) fn end_of_run<S: Store>(
     depth: u16,
     store: &mut S,
 ) -> Result<String, Fail> {
-    let Some(limits) = Limits::new(budget, depth) else {
-        return Err(Fail::new("no limits"));
-    };
-    let line = posed(alloc, text)?;
-    let end = Search::new(alloc, line, limits)?.run(store, &mut Free::new());
+    let end = searching(alloc, text, budget, depth)?.run(store, &mut Free::new());
     last_step(alloc, &end, store.kept())
 }
 
