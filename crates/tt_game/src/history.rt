@@ -253,6 +253,7 @@ impl History {
             alloc: self.alloc,
         })
     }
+
     /// This history again, where `longer` goes on from it: the boards of that one are kept, and none is copied. Where they have more
     /// memory than a copy takes, it is given back first.
     pub(crate) fn copy_over(&self, longer: History) -> Result<History, NoMemory>

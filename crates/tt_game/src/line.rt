@@ -457,6 +457,7 @@ impl Line {
             pushes: Vec::new(alloc),
         })
     }
+
     /// What `try_clone` makes, where the game of `longer` goes on from this line's: its boards are kept, and mostly none is copied.
     #[tactic(auto, using(crate::proofs::RootLemmas::rooted_here))]
     pub fn try_clone_over(&self, longer: Line) -> Result<Line, NoMemory>
