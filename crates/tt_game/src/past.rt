@@ -133,6 +133,17 @@ impl Past {
         self.present().same(line.present())
     }
 
+    /// Whether the line's position has the key of the one there. It mostly is that position, which is seen sooner than its key is made.
+    /// It takes no memory.
+    pub fn has_key_of(&self, line: &Line) -> bool
+        ensures { IsTrue result ↔ (key_of self.now.frame self.now.state ≡ key_of line.now.frame line.now.state) }
+    {
+        if self.is_position_of(line) {
+            return true;
+        }
+        self.key().same(&line.key())
+    }
+
     /// Whether the line has the same frame, side to move and passes.
     fn has_turn_of(&self, line: &Line) -> bool
         ensures { IsTrue result ↔ ((self.now.frame ≡ line.now.frame) × (self.now.state.to_move ≡ line.now.state.to_move) × (self.now.state.passes ≡ line.now.state.passes)) }

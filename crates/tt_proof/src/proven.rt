@@ -139,6 +139,13 @@ impl Proof {
         self.past.key().same(k)
     }
 
+    /// Whether the proof's own position has the key of the line's.
+    pub fn has_key_of(&self, line: &Line) -> bool
+        ensures { IsTrue result ↔ (key_of self.now.frame self.now.state ≡ key_of line.now.frame line.now.state) }
+    {
+        self.past.has_key_of(line)
+    }
+
     /// Whether the line has the proof's frame, history, side to move and pass count.
     pub fn stands_at(&self, line: &Line) -> bool
         ensures { IsTrue result ↔ StandsAt self.now line.now.frame line.now.state }

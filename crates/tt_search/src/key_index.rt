@@ -28,7 +28,7 @@ pub trait ProofRow {
 fn is_for(p: &Proof, line: &Line, side: Side) -> bool
     ensures { IsTrue result ↔ ((key_of p.now.frame p.now.state ≡ key_of line.now.frame line.now.state) × (p.now.side ≡ side)) }
 {
-    p.side() == side && p.has_key(&line.key())
+    p.side() == side && p.has_key_of(line)
 }
 
 /// Chains the place, behind all places before it.
