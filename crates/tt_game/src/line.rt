@@ -187,7 +187,7 @@ impl Line {
     }
 
     /// Whether the region has many points. Nothing goes by it but time.
-    pub(crate) fn has_many(&self) -> bool {
+    pub fn has_many(&self) -> bool {
         self.root.has_many()
     }
 

@@ -1,6 +1,6 @@
 //! The edges of a node in a row: a few stand in the node itself, more in a block of their own.
 
-ghost use Rattle.std.specs.Prelude.{◌≡◌, ◌<◌, ◌≤◌, IfOk, length, take, set, slice_index_or};
+ghost use Rattle.std.specs.Prelude.{◌≡◌, ◌<◌, ◌≤◌, ◌++◌, ◌∷◌, [], IfOk, IsTrue, length, take, set, slice_index_or};
 
 use crate::edges::Edge;
 use std::alloc::Global;
@@ -44,6 +44,57 @@ fn short_of(edges: &[Edge]) -> [Edge; 15]
     let mut short = [Edge::default(); 15];
     short[..edges.len()].copy_from_slice(edges);
     short
+}
+
+/// A row that is being made, of no more edges than stand in a node itself. Contracts see the edges so far.
+#[derive(Drop)]
+pub(crate) struct Few {
+    count: usize,
+    edges: [Edge; 15],
+}
+
+impl Model for Few {
+    ghost use Rattle.std.specs.Prelude.{◌≤◌, List, take};
+    ghost use Rattle.tt_search.specs.declared.edges.Edge.{Edge};
+
+    ghost Value = { List Edge };
+
+    ghost view = { λ r. take r.count r.edges };
+
+    ghost invariant = { λ r. r.count ≤ 15 };
+}
+
+impl Few {
+    /// No edges yet.
+    pub(crate) fn new() -> Few
+        ensures { result ≡ [] }
+    {
+        Few {
+            count: 0,
+            edges: [Edge::default(); 15],
+        }
+    }
+
+    /// Puts an edge behind the others, and says whether there was room for it.
+    pub(crate) fn push(&mut self, edge: Edge) -> bool
+        ensures { IsTrue result → self.new ≡ self.old ++ edge ∷ [] }
+    {
+        if self.count == SHORT {
+            return false;
+        }
+        self.edges[self.count] = edge;
+        self.count += 1;
+        true
+    }
+
+    /// The row of these edges.
+    pub(crate) fn into_row(self) -> Edges
+        ensures { result ≡ self }
+    {
+        let Few { count, edges } = self;
+        let form = Form::Short(count as u8, edges);
+        Edges { form }
+    }
 }
 
 impl Edges {

@@ -1,22 +1,24 @@
 //! New leaves, expanded leaves and closed leaves.
 
-ghost use Rattle.std.specs.Prelude.{◌≡◌, ◌≤◌, None, [], length, IfOk};
+ghost use Rattle.std.specs.Prelude.{◌≡◌, ◌≤◌, None, [], length, IfOk, IfSome};
 ghost use Rattle.tt_game.specs.Game.{winner_of};
 ghost use Rattle.tt_search.specs.PartialTree.{expanded, closed};
 ghost use Rattle.tt_search.specs.Children.{children_of};
 ghost use Rattle.tt_search.specs.declared.edges.TheConstants.{TURNS};
 ghost use Rattle.tt_search.specs.Edges.{edge_turn, mark_of, tree_of, edge_turns, edge_trees, counted, grown_in};
+ghost use Rattle.tt_game.specs.Surveys.{IsSurvey};
 ghost use Rattle.tt_search.specs.Growing.{leaf_for, expansion};
+ghost use Rattle.tt_search.specs.Expanding.{AreNewEdges};
 
 use crate::children::Children;
-use crate::edge_row::Edges;
+use crate::edge_row::{Edges, Few};
 use crate::edges::{Edge, Mark};
 use crate::node::{Growth, Node};
 use crate::numbers::decided_number;
 use arrayvec::ArrayVec;
 use std::alloc::Global;
 use std::sync::Arc;
-use tt_game::{Line, Side, Turn};
+use tt_game::{Line, Side, Survey, Turn};
 use tt_proof::Proof;
 use tt_sgf::NoMemory;
 
@@ -77,19 +79,61 @@ fn new_edge(turn: Turn, winner: Option<Side>) -> Edge
     }
 }
 
-/// The line's node with a new leaf for each legal turn. Each play is made once.
-pub(crate) fn expanded_at(alloc: Global, line: &Line) -> Result<Node, NoMemory>
+/// The edges of the line's legal turns, to new leaves. Each play is made once.
+fn edges_at(alloc: Global, line: &Line, survey: &Survey) -> Result<Edges, NoMemory>
     requires open { winner_of line.now.frame line.now.state ≡ None }
-    ensures { IfOk result (λ node. node ≡ expansion line.now.frame line.now.state) }
+    requires survey { IsSurvey survey.now line.now.frame line.now.state }
+    ensures { IfOk result (λ edges. AreNewEdges line.now.frame line.now.state edges) }
 {
     let mut edges: ArrayVec<Edge, 362> = ArrayVec::new();
-    let survey = line.survey();
     let mut from = 0;
-    while let Some((p, winner)) = line.next_play(&survey, from) {
+    while let Some((p, winner)) = line.next_play(survey, from) {
         edges.push(new_edge(Turn::Play(p), winner));
         from = p.number() + 1;
     }
     edges.push(new_edge(Turn::Pass, line.winner_by_pass()));
-    let kept = Edges::of(alloc, edges.as_slice())?;
-    Ok(expanded_node(alloc, line.to_move(), kept))
+    Edges::of(alloc, edges.as_slice())
+}
+
+/// The same edges where they are few: none where a node itself has no room for them. They are written where they are kept.
+fn few_edges_at(line: &Line, survey: &Survey) -> Option<Edges>
+    requires open { winner_of line.now.frame line.now.state ≡ None }
+    requires survey { IsSurvey survey.now line.now.frame line.now.state }
+    ensures { IfSome result (λ edges. AreNewEdges line.now.frame line.now.state edges) }
+{
+    let mut edges = Few::new();
+    let mut from = 0;
+    while let Some((p, winner)) = line.next_play(survey, from) {
+        if !edges.push(new_edge(Turn::Play(p), winner)) {
+            return None;
+        }
+        from = p.number() + 1;
+    }
+    if !edges.push(new_edge(Turn::Pass, line.winner_by_pass())) {
+        return None;
+    }
+    Some(edges.into_row())
+}
+
+/// The edges of the line's legal turns, to new leaves: of few at once where they are kept.
+fn new_edges_at(alloc: Global, line: &Line) -> Result<Edges, NoMemory>
+    requires open { winner_of line.now.frame line.now.state ≡ None }
+    ensures { IfOk result (λ edges. AreNewEdges line.now.frame line.now.state edges) }
+{
+    let survey = line.survey();
+    if !line.has_many() {
+        if let Some(edges) = few_edges_at(line, &survey) {
+            return Ok(edges);
+        }
+    }
+    edges_at(alloc, line, &survey)
+}
+
+/// The line's node with a new leaf for each legal turn.
+pub(crate) fn expanded_at(alloc: Global, line: &Line) -> Result<Node, NoMemory>
+    requires open { winner_of line.now.frame line.now.state ≡ None }
+    ensures { IfOk result (λ node. node ≡ expansion line.now.frame line.now.state) }
+{
+    let edges = new_edges_at(alloc, line)?;
+    Ok(expanded_node(alloc, line.to_move(), edges))
 }

@@ -1,0 +1,17 @@
+use Rattle.std.proofs.Common.{◌≡◌, ◌≤◌, ◌-◌, ◌++◌, [], map}
+use Rattle.tt_sgf.specs.Sizes.{point_count}
+use Rattle.tt_game.specs.Turns.{legal_turns, successors_of, successors_from}
+use Rattle.tt_search.specs.Growing.{leaf_for}
+use Rattle.tt_search.specs.Edges.{edge_turns, edge_trees, grown_in}
+use Rattle.tt_search.proofs.leaves.few_edges_at.Given as goal
+
+abbrev pub invariant-loop-p : goal.invariant-loop-p
+invariant-loop-p l = record {
+  small : grown_in l.edges ≡ 0;
+  turns : edge_turns l.edges ++ map (λ x. x.turn) (successors_from l.line.frame l.line.state l.from) ≡ legal_turns l.line.frame l.line.state;
+  leaves : edge_trees l.edges [] ++ map (λ x. leaf_for x.winner) (successors_from l.line.frame l.line.state l.from) ≡ map (λ x. leaf_for x.winner) (successors_of l.line.frame l.line.state);
+  inside : l.from ≤ point_count l.line.frame.size;
+}
+
+abbrev pub decreases-loop-p : goal.decreases-loop-p
+decreases-loop-p l = 361 - l.from
