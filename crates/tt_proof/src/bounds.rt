@@ -31,13 +31,16 @@ fn ones(word: u64) -> u16
     word.count_ones() as u16
 }
 
-/// How many stones of the colour are on the board. It looks at the words that its points have.
+/// How many stones of the colour are on the board. It looks at the words that its points have, and passes over those without a bit.
 fn stones(board: &Board, colour: Colour) -> u16
     ensures { result ≡ stones_of colour board.now.points }
 {
     let words = board.words(colour);
     let mut count: u16 = 0;
     for k in 0..board.size().point_count() / 64 + 1 {
+        if words[k] == 0 {
+            continue;
+        }
         count += ones(words[k]);
     }
     count
