@@ -176,13 +176,11 @@ impl SharedBoards {
     pub fn try_clone(&self, alloc: Global) -> Result<SharedBoards, NoMemory>
         ensures { IfOk result (λ r. r ≡ self.now) }
     {
-        let mut copy = SharedBoards {
-            boards: Vec::with_capacity(alloc, self.boards.len())?,
-        };
+        let mut boards = Vec::with_capacity(alloc, self.boards.len())?;
         for board in &self.boards {
-            copy.push(Arc::try_clone(board)?)?;
+            boards.push(Arc::try_clone(board)?)?;
         }
-        Ok(copy)
+        Ok(SharedBoards { boards })
     }
 
     /// Whether all are among the boards.

@@ -1,5 +1,5 @@
-use Rattle.std.proofs.Common.{rules, ◌≡◌, ◌<◌, ◌∷◌, [], ◌++◌, length, take, get_or, sym, ap, ◌∙◌, arith}
-use Rattle.std.proofs.lemmas.List.{take_more}
+use Rattle.std.proofs.Common.{rules, ◌≡◌, ◌<◌, ◌∷◌, [], ◌++◌, length, map, take, get_or, sym, ap, ◌∙◌, arith}
+use Rattle.std.proofs.lemmas.List.{take_more, map-append}
 use Rattle.std.specs.Arc.{arc_value}
 use Rattle.tt_proof.proofs.SharedLemmas.{shown_at, same_length}
 use Rattle.tt_proof.proofs.shared_boards.SharedBoards.try_clone.Goals as goal
@@ -13,6 +13,7 @@ loop-board-preserved c =
     let long = same_length arc_value items c.args.self.now c.self.view_is in
     let same : arc_value c.in_ok-try_clone.field-0 ≡ arc_value c.board-item.result = search rules in
     let here = shown_at arc_value items c.args.self.now n c.board-item.result c.self.view_is lt is in
-    c.in_ok-push.ensures ∙ ap (λ xs. xs ++ arc_value c.in_ok-try_clone.field-0 ∷ []) c.loop-board.invariant
+    let pushed : c.push.new.self.items ≡ c.loop-board.boards.items ++ c.in_ok-try_clone.field-0 ∷ [] = search rules in
+    ap (map arc_value) pushed ∙ map-append arc_value c.loop-board.boards.items (c.in_ok-try_clone.field-0 ∷ []) ∙ ap (λ xs. xs ++ arc_value c.in_ok-try_clone.field-0 ∷ []) c.loop-board.invariant
     ∙ ap (λ x. take n c.args.self.now ++ x ∷ []) (same ∙ sym (here (arc_value c.board-item.result)))
     ∙ sym (take_more c.args.self.now n (arc_value c.board-item.result) (omega (arith, lt, long)))
