@@ -468,19 +468,20 @@ impl Line {
             frame: _,
             root: _,
             history,
-            played: _,
+            played,
             to_move: _,
-            pushes: _,
+            mut pushes,
         } = longer;
         let history = self.history.copy_over(history)?;
         let alloc = history.alloc();
+        pushes.clear();
         Ok(Line {
             frame: self.frame.copy(),
             root: Arc::try_clone(&self.root)?,
             history,
-            played: self.played.again(alloc)?,
+            played: self.played.again_over(alloc, played)?,
             to_move: self.to_move,
-            pushes: Vec::new(alloc),
+            pushes,
         })
     }
 }

@@ -1,6 +1,7 @@
 //! The board that a line plays on, and those to which it goes back.
 
 ghost use Rattle.std.specs.Prelude.{◌≡◌, ◌<◌, ◌∷◌, ◌++◌, [], length, slice_index_or, slice_set, None, OnOk, OnErr, IfOk};
+ghost use Rattle.std.specs.Arc.{arc_value};
 ghost use Rattle.tt_sgf.specs.Sizes.{point_count};
 ghost use Rattle.tt_board.specs.Reach.{entry_at};
 ghost use Rattle.tt_board.specs.Play.{play_of};
@@ -11,6 +12,9 @@ use std::marker::Model;
 use std::sync::Arc;
 use tt_board::{Colour, CountedBoard};
 use tt_sgf::{NoMemory, Point};
+
+/// So many boards of another one are taken over at most.
+const KEPT: usize = 16;
 
 /// The present board, counted, and those before the plays that may be undone. Contracts see it as `Stack`.
 ///
@@ -93,19 +97,43 @@ impl Played {
         })
     }
 
+    /// The present board, to be shared.
+    fn shared(&self, alloc: Global) -> Result<Arc<CountedBoard>, NoMemory>
+        ensures { IfOk result (λ b. arc_value b ≡ self.now.present) }
+    {
+        if self.live > 0 {
+            return Ok(Arc::new(alloc, self.present().copy())?);
+        }
+        Ok(Arc::try_clone(&self.first)?)
+    }
+
     /// The same present board, with no play to undo.
     pub(crate) fn again(&self, alloc: Global) -> Result<Played, NoMemory>
         ensures { IfOk result (λ s. s ≡ record { present = self.now.present; below = [] }) }
     {
-        if self.live > 0 {
-            return Played::of(alloc, self.present().copy());
-        }
         Ok(Played {
-            first: Arc::try_clone(&self.first)?,
+            first: self.shared(alloc)?,
             later: Vec::new(alloc),
             plays: Vec::new(alloc),
             live: 0,
             known: 0,
+        })
+    }
+
+    /// What `again` makes: plays are written over the boards of another one. Where those are many they are given back first.
+    pub(crate) fn again_over(&self, alloc: Global, other: Played) -> Result<Played, NoMemory>
+        ensures { IfOk result (λ s. s ≡ record { present = self.now.present; below = [] }) }
+    {
+        if other.later.len() > KEPT {
+            drop(other);
+            return self.again(alloc);
+        }
+        let first = self.shared(alloc)?;
+        Ok(Played {
+            first,
+            live: 0,
+            known: 0,
+            ..other
         })
     }
 
