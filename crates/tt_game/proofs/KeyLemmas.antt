@@ -111,7 +111,7 @@ bit_binary (b ∷ bs) zero = bit_at_lowest (cond b 1 0 + 2 * binary bs) ∙ (dig
 bit_binary (b ∷ bs) (suc i) = bit_at-suc (cond b 1 0 + 2 * binary bs) i ∙ ap (λ m. bit_at m i) (digit b (binary bs)).1 ∙ bit_binary bs i
 
 -- as many words are made as are asked for
-length-words_of : (n : ℕ) (marks : List Bool) → length (words_of n marks) ≡ n
+pub length-words_of : (n : ℕ) (marks : List Bool) → length (words_of n marks) ≡ n
 unfolding words_of
 length-words_of zero marks = refl
 length-words_of (suc n) marks = ap suc (length-words_of n (drop 64 marks))

@@ -14,3 +14,4 @@ pub mod RecordLaws
 pub mod RootLemmas
 pub mod PlayedLemmas
 pub mod SurveyLemmas
+pub mod SumLemmas

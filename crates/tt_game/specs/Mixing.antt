@@ -13,7 +13,10 @@ unfoldable pub mix : ℕ → List ℕ → ℕ
 mix sum [] = sum
 mix sum (w ∷ ws) = mix ((sum * MIXER % 2 ^ 64 + w) % 2 ^ 64) ws
 
--- what both colours' words make, Black's first, multiplied once more, since the last word was only added
+-- what both colours' words make, Black's first
+abbrev pub mix_board : Size → Colouring → ℕ
+mix_board size c = mix (mix 0 (packed size (λ p. is_stone_of (entry_at c p) Black))) (packed size (λ p. is_stone_of (entry_at c p) White))
+
+-- that number, multiplied once more, since the last word was only added
 unfoldable pub board_print : Size → Colouring → ℕ
-board_print size c =
-    mix (mix 0 (packed size (λ p. is_stone_of (entry_at c p) Black))) (packed size (λ p. is_stone_of (entry_at c p) White)) * MIXER % 2 ^ 64
+board_print size c = mix_board size c * MIXER % 2 ^ 64

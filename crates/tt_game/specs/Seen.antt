@@ -4,19 +4,11 @@ use Rattle.tt_sgf.specs.declared.bits.Bits.{Bits}
 use Rattle.tt_sgf.specs.declared.bits.TheConstants.{BITS}
 use Rattle.tt_sgf.specs.declared.size.Size.{Size}
 use Rattle.tt_sgf.specs.Words.{bit_in}
-use Rattle.tt_board.specs.declared.Colour.TheVariants.{Black, White}
 use Rattle.tt_board.specs.Position.{Colouring}
-use Rattle.tt_board.specs.Reach.{entry_at}
-use Rattle.tt_board.specs.Play.{is_stone_of}
 use Rattle.tt_game.specs.declared.seen.Seen.{Seen}
 use Rattle.tt_game.specs.declared.seen.TheConstants.{LOW, MIXER, PRINTS}
 use Rattle.tt_game.specs.Course.{HasBeen}
-use Rattle.tt_game.specs.Keys.{packed}
-use Rattle.tt_game.specs.Mixing.{mix}
-
--- what both colours' words make, Black's first
-abbrev pub mix_board : Size → Colouring → ℕ
-mix_board size c = mix (mix 0 (packed size (λ p. is_stone_of (entry_at c p) Black))) (packed size (λ p. is_stone_of (entry_at c p) White))
+use Rattle.tt_game.specs.Mixing.{mix_board}
 
 -- the print of a colouring: that number, multiplied once more, since the last word was only added
 unfoldable pub print_of : Size → Colouring → ℕ

@@ -1,5 +1,5 @@
 -- What is told of plays without making them, and what is the same for all plays from where a line stands.
-use Rattle.std.specs.Prelude.{◌≡◌, ℕ, ◌<◌, ◌↔◌, List, slice_set, Some, true}
+use Rattle.std.specs.Prelude.{◌≡◌, ℕ, ◌<◌, ◌↔◌, List, slice_set, Some, IfSome, true}
 use Rattle.tt_sgf.specs.declared.size.Size.{Size}
 use Rattle.tt_sgf.specs.Sizes.{point_count}
 use Rattle.tt_sgf.specs.Words.{bit_in}
@@ -12,6 +12,7 @@ use Rattle.tt_board.specs.Stones.{IsEmptyIn}
 use Rattle.tt_game.specs.declared.frame.Frame.{Frame}
 use Rattle.tt_game.specs.declared.survey.Survey.{Survey}
 use Rattle.tt_game.specs.Course.{HasBeen}
+use Rattle.tt_game.specs.Mixing.{mix_board}
 use Rattle.tt_game.specs.Game.{State, history, colour_of, made}
 
 -- what a glance foretells of a play: a quiet one makes a new colouring by its stone alone, a vain one the present colouring again
@@ -25,9 +26,10 @@ abbrev pub HaveStood : Colour → Size → List Colouring → List ℕ → Type 
 HaveStood k size h words = (c : Colouring) (p : ℕ) → HasBeen h c → p < point_count size → entry_at c p ≡ Some k → bit_in words p ≡ true
 
 -- the survey was made of this state: it has the colour that moves, exactly the empty points of the region, and where that colour has stood;
--- the points that it tells at once are some of those where a play is quiet
+-- the points that it tells at once are some of those where a play is quiet, and if it has a sum that is what the words of the present board make
 pub record IsSurvey (v : Survey) (f : Frame) (s : State) : Type 0 where
   pub colour : v.colour ≡ colour_of f s.to_move
   pub empty : (p : ℕ) → p < point_count f.size → (bit_in v.empty.words p ≡ true) ↔ IsEmptyIn f.size f.region s.present p
   pub stood : HaveStood v.colour f.size (history s) v.stood.words
   pub quiet : (p : ℕ) → p < point_count f.size → bit_in v.quiet.words p ≡ true → IsForetold Quiet f s p
+  pub sum : IfSome v.sum (λ n. n ≡ mix_board f.size s.present)

@@ -1,7 +1,8 @@
 //! A problem and a game of it (Tromp-Taylor rules with a region and targets): turns are made and undone.
 
-ghost use Rattle.std.specs.Prelude.{◌≡◌, ◌≢◌, ℕ, ◌+◌, ◌-◌, ◌<◌, ◌≤◌, ◌↔◌, ◌∷◌, length, slice_set, IsTrue, IsSome, MatchOption, Contains, All};
+ghost use Rattle.std.specs.Prelude.{◌≡◌, ◌≢◌, ℕ, ◌+◌, ◌-◌, ◌<◌, ◌≤◌, ◌↔◌, ◌∷◌, length, slice_set, IsTrue, IsSome, IfSome, MatchOption, Contains, All};
 ghost use Rattle.tt_game.specs.Course.{HasBeen, colourings};
+ghost use Rattle.tt_game.specs.Mixing.{mix_board};
 ghost use Rattle.tt_board.specs.Position.{Colouring};
 ghost use Rattle.tt_sgf.specs.Sizes.{point_count};
 
@@ -11,6 +12,7 @@ use crate::history::History;
 use crate::past::Past;
 use crate::played::Played;
 use crate::root::{Root, stones_of};
+use crate::seen::{mix_board, print_with_stone};
 use crate::turns::Turn;
 use std::marker::Model;
 use std::sync::Arc;
@@ -257,6 +259,39 @@ impl Line {
             return self.history.has_been_since(self.root.count(), next);
         }
         self.history.has_been(next)
+    }
+
+    /// What the words of the present board make.
+    #[inline(never)]
+    fn present_sum(&self) -> u64
+        ensures { result ≡ mix_board self.now.frame.size self.now.state.present }
+    {
+        mix_board(self.present())
+    }
+
+    /// What the words of the present board make, where prints were noted of the boards of the beginning.
+    pub(crate) fn sum_here(&self) -> Option<u64>
+        ensures { IfSome result (λ n. n ≡ mix_board self.now.frame.size self.now.state.present) }
+    {
+        if !self.root.has_prints() {
+            return None;
+        }
+        Some(self.present_sum())
+    }
+
+    /// Whether a stone more, of `colour` on the empty point `p`, makes a colouring that is told from all so far: from those of the
+    /// beginning by its print, and from the others where none has that stone. `sum` is what the words make without it.
+    pub(crate) fn is_told_new(&self, sum: u64, colour: Colour, p: Point) -> bool
+        requires sum { sum ≡ mix_board self.now.frame.size self.now.state.present }
+        requires fits { length self.now.state.present ≡ point_count self.now.frame.size }
+        requires on_board { p < point_count self.now.frame.size }
+        requires free { entry_at self.now.state.present p ≡ None }
+        ensures { IsTrue result → HasBeen (history self.now.state) (slice_set self.now.state.present p (Some colour)) → ⊥ }
+    {
+        if self.root.has_print(print_with_stone(sum, colour, p)) {
+            return false;
+        }
+        !self.history.has_stood(self.root.count(), colour, p)
     }
 
     /// Why a play of the side to move is refused, or none where it is legal.

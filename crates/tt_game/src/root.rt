@@ -1,12 +1,13 @@
 //! What lines of one beginning share: it stands once, however many places are kept of them.
 
-ghost use Rattle.std.specs.Prelude.{◌≡◌, ◌<◌, ◌↔◌, List, ◌∷◌, ◌++◌, [], length, All, IsTrue, IfOk, Some};
+ghost use Rattle.std.specs.Prelude.{◌≡◌, ◌<◌, ◌↔◌, List, ◌∷◌, ◌++◌, [], length, All, IsTrue, IfOk, Some, false};
 ghost use Rattle.std.specs.Arc.{arc_value};
 ghost use Rattle.tt_sgf.specs.Sizes.{point_count};
 ghost use Rattle.tt_board.specs.Position.{Position, Colouring};
 ghost use Rattle.tt_board.specs.Reach.{entry_at};
 ghost use Rattle.tt_game.specs.Course.{HasBeen, so_far, colourings};
 ghost use Rattle.tt_game.specs.Roots.{AreStonesOf};
+ghost use Rattle.tt_game.specs.Seen.{print_of};
 
 use crate::frame::Frame;
 use crate::history::History;
@@ -161,6 +162,18 @@ impl Root {
             return false;
         }
         !self.seen.has(print_of(board))
+    }
+
+    /// Whether the boards of the beginning are so many that prints were noted of them. Nothing goes by it but time.
+    pub(crate) fn has_prints(&self) -> bool {
+        self.count > FEW
+    }
+
+    /// Whether some board of the beginning may have this print. Where none has, no colouring of theirs has it.
+    pub(crate) fn has_print(&self, print: usize) -> bool
+        ensures { result ≡ false → (c : Colouring) → print_of self.now.frame.size c ≡ print → HasBeen (colourings self.now.begun) c → ⊥ }
+    {
+        self.seen.has(print)
     }
 
     /// Whether these are exactly the boards of the beginning. It takes no memory.

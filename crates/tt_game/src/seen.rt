@@ -1,14 +1,18 @@
 //! Which colourings were, told by prints: most new colourings are known as new without a look at the history.
 
-ghost use Rattle.std.specs.Prelude.{◌≡◌, ℕ, ◌<◌, ◌↔◌, All, IsTrue};
+ghost use Rattle.std.specs.Prelude.{◌≡◌, ℕ, ◌*◌, ◌/◌, ◌%◌, ◌^◌, ◌<◌, ◌↔◌, length, slice_set, All, IsTrue, Some, None};
+ghost use Rattle.tt_sgf.specs.Sizes.{point_count};
+ghost use Rattle.tt_sgf.specs.declared.size.TheConstants.{MOST_POINTS};
+ghost use Rattle.tt_board.specs.Position.{Colouring};
+ghost use Rattle.tt_board.specs.Reach.{entry_at};
 ghost use Rattle.tt_sgf.specs.declared.size.Size.{Size};
 ghost use Rattle.tt_game.specs.Course.{colourings};
-ghost use Rattle.tt_game.specs.Mixing.{mix, board_print};
-ghost use Rattle.tt_game.specs.Seen.{mix_board, print_of, IsSeen, AreSeen};
+ghost use Rattle.tt_game.specs.Mixing.{mix, mix_board, board_print};
+ghost use Rattle.tt_game.specs.Seen.{print_of, IsSeen, AreSeen};
 
 use std::alloc::Global;
 use tt_board::{Board, Colour};
-use tt_sgf::{BITS, Bits};
+use tt_sgf::{BITS, Bits, Point};
 
 /// How many prints there are: a bit for each fills 128 rows of `BITS`.
 const PRINTS: usize = 49152;
@@ -18,6 +22,22 @@ pub(crate) const MIXER: u64 = 0x9e37_79b9_7f4a_7c15;
 
 /// The lowest bits of a product say little of its factors, so a print is taken from those above.
 const LOW: u64 = 0x100_0000_0000;
+
+/// The powers of `MIXER` by which words count, that of the last one first.
+const WEIGHTS: [u64; 12] = [
+    0x0000_0000_0000_0001,
+    0x9e37_79b9_7f4a_7c15,
+    0xdf44_2d22_ce48_59b9,
+    0x604a_5ce3_adde_f82d,
+    0xd943_63fc_5382_27b1,
+    0x2e2b_795f_2d10_fd85,
+    0x4be7_956e_30a3_37e9,
+    0x5ecb_31e4_ccd2_721d,
+    0x06d4_b261_1beb_6861,
+    0x0f10_cd6a_9be8_8bf5,
+    0x80e0_dcf7_6db0_2719,
+    0x7790_23cf_069d_510d,
+];
 
 /// How many rows have a bit for each print.
 const ROWS: usize = 128;
@@ -55,11 +75,34 @@ pub fn board_print(board: &Board) -> u64
     mix_board(board).wrapping_mul(MIXER)
 }
 
+/// The print by what both colours' words make: its highest bits, since the last word was only added.
+fn print_by(sum: u64) -> usize
+    ensures { result ≡ sum * MIXER % 2 ^ 64 / LOW % PRINTS }
+{
+    (sum.wrapping_mul(MIXER) / LOW) as usize % PRINTS
+}
+
+/// The print of a colouring with one stone more, which a play of `colour` puts on `p`, by what the words make without it. No board is
+/// made for it.
+pub(crate) fn print_with_stone(sum: u64, colour: Colour, p: Point) -> usize
+    requires { p < MOST_POINTS }
+    ensures { (g : Size) (c : Colouring) → length c ≡ point_count g → p < point_count g → entry_at c p ≡ None → sum ≡ mix_board g c
+        → result ≡ print_of g (slice_set c p (Some colour)) }
+{
+    let n = usize::from(p.number());
+    let first = match colour {
+        Colour::Black => 11,
+        Colour::White => 5,
+    };
+    let added = (1u64 << (n % 64)).wrapping_mul(WEIGHTS[first - n / 64]);
+    print_by(sum.wrapping_add(added))
+}
+
 /// The print of a colouring: a number that others mostly haven't.
 pub(crate) fn print_of(board: &Board) -> usize
     ensures { result ≡ print_of board.now.size board.now.points }
 {
-    (mix_board(board).wrapping_mul(MIXER) / LOW) as usize % PRINTS
+    print_by(mix_board(board))
 }
 
 impl Seen {

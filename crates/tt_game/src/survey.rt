@@ -10,14 +10,15 @@ use crate::root::MANY;
 use tt_board::{Colour, Glance};
 use tt_sgf::{BITS, Bits, Point};
 
-/// The colour that moves, the empty points of the region, some of them where its play is quiet, and where stones of that colour have
-/// stood so far.
+/// The colour that moves, the empty points of the region, some of them where its play is quiet, where stones of that colour have
+/// stood so far, and what the words of the present board make, where prints by it tell new colourings.
 #[derive(Clone, Copy)]
 pub struct Survey {
     colour: Colour,
     empty: Bits,
     quiet: Bits,
     stood: Bits,
+    sum: Option<u64>,
 }
 
 /// Whether at least `MANY` bits are 1. Nothing goes by it but time.
@@ -32,11 +33,12 @@ fn has_many(points: &Bits) -> bool {
 }
 
 impl Line {
-    ghost use Rattle.std.specs.Prelude.{ℕ, None};
+    ghost use Rattle.std.specs.Prelude.{ℕ, Some, None, slice_set};
+    ghost use Rattle.tt_game.specs.Course.{HasBeen};
     ghost use Rattle.tt_board.specs.Reach.{entry_at};
     ghost use Rattle.tt_board.specs.Glance.{IsTold};
     ghost use Rattle.tt_board.specs.declared.quiet.Glance.TheVariants.{Quiet};
-    ghost use Rattle.tt_game.specs.Game.{IsLegal, history, colour_of};
+    ghost use Rattle.tt_game.specs.Game.{IsLegal, history, colour_of, made};
     ghost use Rattle.tt_game.specs.Surveys.{IsSurvey, HaveStood, IsForetold};
     ghost use Rattle.tt_game.specs.declared.turns.Turn.{Turn};
 
@@ -52,6 +54,7 @@ impl Line {
             empty,
             quiet: self.quiet_among(colour, &empty, &stood),
             stood,
+            sum: self.sum_here(),
         }
     }
 
@@ -83,6 +86,21 @@ impl Line {
     {
         let n = survey.empty.first_from(usize::from(from).min(BITS));
         self.frame().size.point(n as u16)
+    }
+
+    /// Whether a play of the side to move by which nothing goes is told to make a colouring that hasn't been. No board is made for it.
+    #[inline(always)]
+    pub(crate) fn is_new(&self, survey: &Survey, p: Point) -> bool
+        requires survey { IsSurvey survey.now self.now.frame self.now.state }
+        requires on_board { p < point_count self.now.frame.size }
+        requires free { entry_at self.now.state.present p ≡ None }
+        requires put { made self.now.frame self.now.state p ≡ slice_set self.now.state.present p (Some (colour_of self.now.frame self.now.state.to_move)) }
+        ensures { IsTrue result → HasBeen (history self.now.state) (made self.now.frame self.now.state p) → ⊥ }
+    {
+        match survey.sum {
+            Some(sum) => self.is_told_new(sum, survey.colour, p),
+            None => false,
+        }
     }
 
     /// What is foretold of a play of the side to move on an empty point, by the points beside it and by the stones that stood there, and

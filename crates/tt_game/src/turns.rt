@@ -94,11 +94,13 @@ impl Line {
             Glance::Quiet => Some(None),
             Glance::Vain => None,
             Glance::Unclear => {
-                if told == Glance::Quiet {
-                    self.winner_put(p)
-                } else {
-                    self.winner_made(p, told)
+                if told != Glance::Quiet {
+                    return self.winner_made(p, told);
                 }
+                if self.is_new(survey, p) {
+                    return Some(None);
+                }
+                self.winner_put(p)
             }
         }
     }

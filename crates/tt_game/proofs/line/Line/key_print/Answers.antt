@@ -2,8 +2,7 @@ use Rattle.std.proofs.Common.{◌≡◌, ◌*◌, ◌/◌, ◌%◌, ◌^◌, [],
 use Rattle.tt_game.specs.declared.seen.TheConstants.{MIXER}
 use Rattle.tt_game.specs.Keys.{key_of}
 use Rattle.tt_game.specs.KeyHash.{print_of_key, turn_word}
-use Rattle.tt_game.specs.Mixing.{mix}
-use Rattle.tt_game.specs.Seen.{mix_board}
+use Rattle.tt_game.specs.Mixing.{mix, mix_board}
 use Rattle.tt_game.proofs.line.Line.key_print.Goals as goal
 
 pub returns : goal.returns

@@ -1,7 +1,7 @@
-use Rattle.std.proofs.Common.{◌≡◌, None, Contains, sym, subst}
+use Rattle.std.proofs.Common.{rules, ◌≡◌, Some, None, set, Contains, sym, subst}
 use Rattle.std.proofs.lemmas.List.Elements.{Contains-push}
 use Rattle.tt_board.specs.Reach.{entry_at}
-use Rattle.tt_game.specs.Game.{history}
+use Rattle.tt_game.specs.Game.{history, made, colour_of}
 use Rattle.tt_game.specs.Surveys.{IsForetold}
 use Rattle.tt_game.proofs.SurveyLemmas.{nobody_put}
 use Rattle.tt_game.proofs.line.Line.winner_by_play.Goals as goal
@@ -18,3 +18,9 @@ returns-in-Vain c = λ legal.
     let l = c.args.self.now in let s = l.state in
     let same = subst (λ g. IsForetold g l.frame s c.args.p) c.in-Vain.is c.glance_by-foretold.ensures.foretold in
     legal.4 (subst (Contains (history s)) (sym same) (Contains-push s.earlier s.present))
+
+pub returns-then-is_new : goal.returns-then-is_new
+returns-then-is_new c =
+    let l = c.args.self.now in let p = c.args.p in
+    let put : made l.frame l.state p ≡ set l.state.present p (Some (colour_of l.frame l.state.to_move)) = search rules in
+    ((c.requires.open, c.requires.on_board, c.requires.free, c.requires.inside, c.is_new.ensures c.if-is_new.true), sym (nobody_put l.frame l.state p c.requires.open c.requires.free put))
