@@ -20,3 +20,4 @@ pub mod PlayLemmas
 pub mod QuietLemmas
 pub mod StartLemmas
 pub mod StoneLemmas
+pub mod TrackLemmas

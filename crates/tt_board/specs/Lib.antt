@@ -14,6 +14,7 @@ pub mod Laws
 pub mod Planes
 pub mod Differences
 pub mod Boards
+pub mod Tracks
 pub mod Chain
 pub mod Filling
 pub mod Chains

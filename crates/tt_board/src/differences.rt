@@ -41,6 +41,14 @@ impl Model for Step {
     ghost view = { λ s. edit_at (s.0 / PLACES) (s.0 % PLACES) };
 }
 
+impl Clone for Step {
+    ghost is_clone = { λ x y. y ≡ x };
+
+    fn clone(&self) -> Result<Step, AllocError> {
+        Ok(Step(self.0))
+    }
+}
+
 impl Step {
     /// The step of this kind at a point.
     fn new(kind: u16, p: u16) -> Step
@@ -163,6 +171,30 @@ impl Differences {
         Ok(Differences {
             edits: Vec::with_capacity(alloc, edits)?,
         })
+    }
+
+    /// The first `count` edits again, in no more memory than they need.
+    pub(crate) fn first(&self, alloc: Global, count: usize) -> Result<Differences, NoMemory>
+        requires { count ≤ length self.now }
+        ensures { IfOk result (λ d. d ≡ take count self.now) }
+    {
+        let mut edits = Vec::with_capacity(alloc, count)?;
+        edits.extend_with_clones(&self.edits[..count])?;
+        Ok(Differences { edits })
+    }
+
+    /// How many edits there are.
+    pub(crate) fn len(&self) -> usize
+        ensures { result ≡ length self.now }
+    {
+        self.edits.len()
+    }
+
+    /// Takes back all edits behind the first `count`.
+    pub(crate) fn truncate(&mut self, count: usize)
+        ensures { self.new ≡ take count self.old }
+    {
+        self.edits.truncate(count);
     }
 
     /// Gives back memory that isn't needed.

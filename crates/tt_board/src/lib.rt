@@ -27,12 +27,14 @@ mod near;
 mod quiet;
 mod setup;
 mod stones;
+mod track;
 mod trail;
 
 pub use board::{Board, Lifeless, Occupied};
 pub use boards::Boards;
 pub use counted::CountedBoard;
 pub use quiet::Glance;
+pub use track::Track;
 pub use trail::Trail;
 
 /// The colour of a stone, and of the player who puts it.
