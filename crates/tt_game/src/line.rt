@@ -16,7 +16,7 @@ use crate::seen::{mix_board, print_with_stone};
 use crate::turns::Turn;
 use std::marker::Model;
 use std::sync::Arc;
-use tt_board::{Board, Colour, CountedBoard, Glance};
+use tt_board::{Board, Colour, CountedBoard, Glance, Track};
 use tt_sgf::{Bits, NoMemory, Point};
 
 /// How a push is undone.
@@ -36,6 +36,7 @@ pub struct Line {
     played: Played,
     to_move: Side,
     pushes: Vec<Undo>,
+    track: Track,
 }
 
 impl Model for Line {
@@ -60,6 +61,7 @@ impl Model for Line {
       board : l.played.present ≡ board_on l.frame.size l.history.present;
       undoable : IsUndoable l.frame.size (state_at l.history l.to_move) (reverse l.pushes.items) l.played.below;
       same_frame : (arc_value l.root).frame ≡ l.frame;
+      track : l.track.size ≡ l.frame.size;
       rooted : AreRooted (arc_value l.root).begun (state_at l.history l.to_move) (reverse l.pushes.items);
     } };
 }
@@ -90,6 +92,7 @@ impl Line {
     {
         let alloc = history.alloc();
         let root = Arc::new(alloc, Root::of(&frame, &history)?)?;
+        let track = Track::of(alloc, root.base())?;
         Ok(Line {
             frame,
             root,
@@ -97,6 +100,7 @@ impl Line {
             played: Played::of(alloc, board)?,
             to_move,
             pushes: Vec::new(alloc),
+            track,
         })
     }
 
@@ -473,7 +477,30 @@ impl Line {
     pub fn past(&self) -> Result<Past, NoMemory>
         ensures { IfOk result (λ p. p ≡ record { frame = self.now.frame; state = self.now.state }) }
     {
-        Past::of(&self.root, &self.history, self.to_move, self.key_print())
+        let mut track = Track::of(self.history.alloc(), self.root.base())?;
+        Past::of(
+            &self.root,
+            &mut track,
+            &self.history,
+            self.to_move,
+            self.key_print(),
+        )
+    }
+
+    /// What `past` gives. Where the last one that was asked for in this way had the same boards, they aren't compared anew.
+    #[tactic(auto, using(crate::proofs::RootLemmas::rooted_here))]
+    pub fn next_past(&mut self) -> Result<Past, NoMemory>
+        ensures past { IfOk result (λ p. p ≡ record { frame = self.old.frame; state = self.old.state }) }
+        ensures same { self.new ≡ self.old }
+    {
+        let print = self.key_print();
+        Past::of(
+            &self.root,
+            &mut self.track,
+            &self.history,
+            self.to_move,
+            print,
+        )
     }
 
     /// The same line, with nothing to undo. What is kept of both shares one root.
@@ -483,6 +510,7 @@ impl Line {
     {
         let history = self.history.copy()?;
         let alloc = history.alloc();
+        let track = Track::of(alloc, self.root.base())?;
         Ok(Line {
             frame: self.frame.copy(),
             root: Arc::try_clone(&self.root)?,
@@ -490,6 +518,7 @@ impl Line {
             played: self.played.again(alloc)?,
             to_move: self.to_move,
             pushes: Vec::new(alloc),
+            track,
         })
     }
 
@@ -506,9 +535,11 @@ impl Line {
             played,
             to_move: _,
             mut pushes,
+            track: _,
         } = longer;
         let history = self.history.copy_over(history)?;
         let alloc = history.alloc();
+        let track = Track::of(alloc, self.root.base())?;
         pushes.clear();
         Ok(Line {
             frame: self.frame.copy(),
@@ -517,6 +548,7 @@ impl Line {
             played: self.played.again_over(alloc, played)?,
             to_move: self.to_move,
             pushes,
+            track,
         })
     }
 }
