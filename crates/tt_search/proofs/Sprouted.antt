@@ -1,5 +1,6 @@
 -- What steps at a child make of the children.
-use Rattle.std.proofs.Common.{◌≡◌, ℕ, zero, suc, ◌<◌, ◌≤◌, List, [], ◌∷◌, None, length, get_or, set, take, drop, insert, refl, sym, ◌∙◌, ap, subst, arith}
+use Rattle.std.proofs.Common.{◌≡◌, ℕ, zero, suc, ◌<◌, ◌≤◌, List, [], ◌∷◌, None, length, get_or, set, take, drop, insert, remove, refl, sym, ◌∙◌, ap, subst, arith}
+use Rattle.std.proofs.lemmas.List.Edits.{length-insert}
 use Rattle.tt_game.specs.declared.frame.Side.{Side}
 use Rattle.tt_game.specs.Game.{winner_of}
 use Rattle.tt_search.specs.PartialTree.{PartialTree, fresh, won}
@@ -7,7 +8,7 @@ use Rattle.tt_search.specs.Numbers.{IsUndecided}
 use Rattle.tt_search.specs.Edges.{edge_turn, mark_of, edge_turns, edge_trees, tree_of, grown_in, child_at}
 use Rattle.tt_search.specs.Packed.{HasItsNodes, child_of}
 use Rattle.tt_search.specs.Walking.{Stand, stage, stand_of}
-use Rattle.tt_search.specs.Taken.{Taken}
+use Rattle.tt_search.specs.Taken.{Taken, IsLeft}
 use Rattle.tt_search.specs.Steady.{AreStepsAt}
 use Rattle.tt_search.specs.Sprouting.{IsFreshAt, IsPut, Sprouts, StepsBelowAt, StepsBelow}
 use Rattle.tt_search.specs.declared.edges.Edge.{Edge}
@@ -39,13 +40,14 @@ put_nothing place x y there edges row = record {
 }
 
 -- where the step is stuck, nothing changes
-pub stays_fresh : (walk after : Walk) (place : ℕ) (x : Packed) (step : Step) (reason : Reason) (tree : PartialTree) → IsFreshAt place x.edges → after ≡ walk
-    → Taken (stand_of walk) (stage fresh walk.left) step tree → step ≡ Stuck reason → Sprouts walk place x (Stuck reason) x after
-stays_fresh walk after place x step reason tree there same h e = (
+pub stays_fresh : (walk after : Walk) (place : ℕ) (x y : Packed) (step : Step) (reason : Reason) (tree : PartialTree) → IsFreshAt place x.edges → y.edges ≡ x.edges
+    → y.grown.items ≡ x.grown.items → Taken (stand_of walk) (stage fresh walk.left) step tree → IsLeft step walk.left after.left → step ≡ Stuck reason
+    → Sprouts walk place x (Stuck reason) y after
+stays_fresh walk after place x y step reason tree there edges row h left e = (
   fresh,
   stuck_fresh (stand_of walk) walk.left reason tree (subst (λ s. Taken (stand_of walk) (stage fresh walk.left) s tree) e h),
-  ap (λ (w : Walk). w.left) (sym same),
-  put_nothing place x x there refl refl,
+  subst (λ s. IsLeft s walk.left after.left) e left,
+  put_nothing place x y there edges row,
 )
 
 -- nor where there is no memory for the node
@@ -54,13 +56,6 @@ pub stays_for_memory : (walk after : Walk) (place : ℕ) (x y : Packed) → IsFr
 stays_for_memory walk after place x y there same edges row =
     (fresh, refl, ap (λ (w : Walk). w.left) (sym same), put_nothing place x y there edges row)
 
--- nor where the expansion is refused
-pub stays_ungranted : (walk after : Walk) (place : ℕ) (x y : Packed) (step : Step) (tree : PartialTree) → IsFreshAt place x.edges → after ≡ walk → y.edges ≡ x.edges
-    → y.grown.items ≡ x.grown.items → Taken (stand_of walk) (stage fresh walk.left) step tree → step ≡ Expanded → Sprouts walk place x (Stuck Total) y after
-stays_ungranted walk after place x y step tree there same edges row h e =
-    let expands = subst (λ s. Taken (stand_of walk) (stage fresh walk.left) s tree) e h in
-    (fresh, (expands.0, expands.1.0, refl), ap (λ (w : Walk). w.left) (sym same), put_nothing place x y there edges row)
-
 -- the tree of an expanded leaf may be offered
 pub leaf_offerable : (walk after : Walk) (step : Step) (new : PartialTree) → after ≡ walk → winner_of walk.line.frame walk.line.state ≡ None → step ≡ Expanded
     → Taken (stand_of walk) (stage fresh walk.left) step new → IsOfferable after.line new
@@ -68,13 +63,44 @@ leaf_offerable walk after step new e nobody is h =
     let expands = subst (λ x. Taken (stand_of walk) (stage fresh walk.left) x new) is h in
     subst (λ (w : Walk). IsOfferable w.line new) (sym e) (expansion_offerable walk.line new nobody expands.1.1)
 
+-- ---- a tree that is put among others, and becomes another one
+
+-- it is put there as that one
+set_inserted : (ts : List PartialTree) (n : ℕ) (a b : PartialTree) → n ≤ length ts → set (insert ts n a) n b ≡ insert ts n b
+set_inserted ts zero a b l = refl
+set_inserted [] (suc n) a b l = absurd (omega (arith, l))
+set_inserted (t ∷ ts) (suc n) a b l = ap (λ xs. t ∷ xs) (set_inserted ts n a b (omega (arith, l)))
+
+-- taken away again, it leaves the others
+remove_inserted : (ts : List PartialTree) (n : ℕ) (a : PartialTree) → n ≤ length ts → remove (insert ts n a) n ≡ ts
+remove_inserted ts zero a l = refl
+remove_inserted [] (suc n) a l = absurd (omega (arith, l))
+remove_inserted (t ∷ ts) (suc n) a l = ap (λ xs. t ∷ xs) (remove_inserted ts n a (omega (arith, l)))
+
+-- the same where the others have been given more room
+module _ (old roomy more : List PartialTree) (n : ℕ) (a b : PartialTree) (l : n ≤ length old) (same : roomy ≡ old) (is : more ≡ insert roomy n a) where
+  -- it is put there as the other tree
+  pub stands_inserted : set more n b ≡ insert old n b
+  stands_inserted = ap (λ ts. set ts n b) (is ∙ ap (λ ts. insert ts n a) same) ∙ set_inserted old n a b l
+
+  -- and leaves the others where it is taken away again
+  pub gone_again : remove (set more n b) n ≡ old
+  gone_again = ap (λ ts. remove ts n) stands_inserted ∙ remove_inserted old n b l
+
+-- the same nodes again are those of the children that have grown
+pub still_whole : (es : List Edge) (ts us : List PartialTree) → grown_in es ≡ length ts → {vs : List PartialTree} → us ≡ vs → vs ≡ ts → grown_in es ≡ length us
+still_whole es ts us whole is same = whole ∙ ap length (sym (is ∙ same))
+
+-- where one more child has grown and its node stands among the others, each child that has grown has its node
+pub put_whole : (es fs : List Edge) (ts us : List PartialTree) (place rank : ℕ) (e : Edge) (tree : PartialTree) → IsFreshAt place es → grown_in es ≡ length ts
+    → rank ≡ grown_in (take place es) → mark_of e ≡ Grown → fs ≡ set es place e → us ≡ insert ts rank tree → grown_in fs ≡ length us
+put_whole es fs ts us place rank e tree there whole r mark edges row =
+    let within : rank ≤ length ts = omega (arith, r, rank_within es place, whole) in
+    omega (arith, ap grown_in edges, one_more es place e there mark, whole, ap length row, length-insert ts rank tree within)
+
 -- the new node stands among those that have grown, and its edge says so
 module _ (x y : Packed) (place rank : ℕ) (d e : Edge) (tree : PartialTree) (there : IsFreshAt place x.edges) (whole : HasItsNodes x)
     (r : rank ≡ grown_in (take place x.edges)) (mark : mark_of e ≡ Grown) (edges : y.edges ≡ set x.edges place e) (row : y.grown.items ≡ insert x.grown.items rank tree) where
-  -- the rank is a place to insert at
-  in_nodes : rank ≤ length x.grown.items
-  in_nodes = omega (arith, r, rank_within x.edges place, whole)
-
   -- the child at the place becomes the new tree, and all else stays
   pub put : edge_turn e ≡ edge_turn (get_or x.edges place d) → IsPut place x tree y
   put turn = record {
@@ -84,20 +110,6 @@ module _ (x y : Packed) (place rank : ℕ) (d e : Edge) (tree : PartialTree) (th
         (ap (edge_trees (set x.edges place e)) (row ∙ ap (λ n. insert x.grown.items n tree) r)
         ∙ sprouted x.edges x.grown.items place e tree there mark (omega (arith, rank_within x.edges place, whole)));
   }
-
-  -- a list with one inserted is one longer
-  length_insert : (ts : List PartialTree) (n : ℕ) → n ≤ length ts → length (insert ts n tree) ≡ suc (length ts)
-  length_insert ts zero l = refl
-  length_insert [] (suc n) l = absurd (omega (arith, l))
-  length_insert (t ∷ ts) (suc n) l = ap suc (length_insert ts n (omega (arith, l)))
-
-  -- each child that has grown still has its node
-  pub put_whole : HasItsNodes y
-  put_whole =
-      ap grown_in edges
-      ∙ one_more x.edges place e there mark
-      ∙ ap suc whole
-      ∙ sym (ap length row ∙ length_insert x.grown.items rank in_nodes)
 
 -- ---- what is below a node
 

@@ -1,6 +1,6 @@
 //! Steps of a search: the tree grows at its most-proving leaf, and the numbers on the way to it are brought up to date.
 
-ghost use Rattle.std.specs.Prelude.{◌≡◌, ◌≢◌, ◌+◌, ◌-◌, ◌^◌, ◌<◌, ◌≤◌, ◌↔◌, ◌⊎◌, true, false, None, length, take, OnOk};
+ghost use Rattle.std.specs.Prelude.{◌≡◌, ◌≢◌, ◌+◌, ◌-◌, ◌^◌, ◌<◌, ◌≤◌, ◌↔◌, ◌⊎◌, true, false, None, length, take, insert, OnOk};
 ghost use Rattle.std.specs.Vec.{vec_len, vec_capacity};
 ghost use Rattle.tt_game.specs.Game.{winner_of};
 ghost use Rattle.tt_proof.specs.declared.tree.TheConstants.{MOST_DEPTH};
@@ -35,33 +35,6 @@ fn grows(step: Step) -> bool
     ensures { (result ≡ true) ↔ ((step ≡ Expanded) ⊎ (step ≡ Closed)) }
 {
     matches!(step, Step::Expanded | Step::Closed)
-}
-
-/// A step at a fresh leaf, and the node that it becomes: a kept proof closes it, or it is expanded where the budget and the
-/// room allow it. The expansion is still to be asked for.
-fn leaf_step<S: Store>(walk: &mut Walk, store: &mut S) -> (Step, Node)
-    requires open { winner_of walk.old.line.frame walk.old.line.state ≡ None }
-    ensures walk { walk.new ≡ walk.old }
-    ensures may { result.0 ≡ Closed → S.may_answer }
-    ensures kept { S.kept store.new ≡ S.kept store.old }
-    ensures unasked { result.0 ≢ Stuck Total }
-    ensures taken { Taken (stand_of walk.old) (stage fresh walk.old.left) result.0 result.1 }
-{
-    match usable(&mut walk.line, walk.room, store) {
-        Err(_) => return (Step::Stuck(Reason::Memory), new_leaf(None)),
-        Ok(Some(proof)) => return (Step::Closed, closed_leaf(proof)),
-        Ok(None) => {}
-    }
-    if walk.left == 0 {
-        return (Step::Stuck(Reason::Budget), new_leaf(None));
-    }
-    if walk.room == 0 {
-        return (Step::Stuck(Reason::Depth), new_leaf(None));
-    }
-    match expanded_at(walk.alloc, &mut walk.line) {
-        Ok(node) => (Step::Expanded, node),
-        Err(_) => (Step::Stuck(Reason::Memory), new_leaf(None)),
-    }
 }
 
 /// Whether a step may be taken: an expansion is asked for, and nothing else.
@@ -108,6 +81,22 @@ fn room_for_one(nodes: &mut Vec<Node>) -> Result<(), NoMemory>
     };
     nodes.reserve_exact(more)?;
     Ok(())
+}
+
+/// Puts a fresh node at a place among others, where there is room for it. It mostly comes last, and then no other one is looked at.
+fn put_fresh(nodes: &mut Vec<Node>, rank: usize)
+    requires within { rank ≤ vec_len nodes.old }
+    requires room { vec_len nodes.old < vec_capacity nodes.old }
+    ensures items { nodes.new.items ≡ insert nodes.old.items rank fresh }
+    ensures len { vec_len nodes.new ≡ vec_len nodes.old + 1 }
+{
+    if rank == nodes.len() {
+        nodes.push_reserved(new_leaf(None));
+        return;
+    }
+    let Ok(()) = nodes.insert(rank, new_leaf(None)) else {
+        unreachable!();
+    };
 }
 
 impl Node {
@@ -192,35 +181,85 @@ impl Node {
         }
     }
 
-    /// A step at a fresh node. Its expansion is asked for once it is made, and then nothing can fail.
+    /// Becomes what another node is, where nothing is known of this one: so there is nothing to give back.
+    fn open_into(&mut self, node: Node)
+        requires fresh { self.old ≡ fresh }
+        ensures { self.new ≡ node }
+    {
+        match &self.growth {
+            Growth::Fresh => *self = node,
+            Growth::Won(_) => unreachable!(),
+            Growth::Closed(_) => unreachable!(),
+            Growth::Expanded(_) => unreachable!(),
+            Growth::Offered(_, _) => unreachable!(),
+        }
+    }
+
+    /// A step at a fresh leaf, and what the node becomes: a kept proof closes it, or it is expanded where the budget and the
+    /// room allow it. The expansion is still to be asked for.
+    fn leaf_step<S: Store>(&mut self, walk: &mut Walk, store: &mut S) -> Step
+        requires fresh { self.old ≡ fresh }
+        requires open { winner_of walk.old.line.frame walk.old.line.state ≡ None }
+        ensures walk { walk.new ≡ walk.old }
+        ensures may { result ≡ Closed → S.may_answer }
+        ensures kept { S.kept store.new ≡ S.kept store.old }
+        ensures unasked { result ≢ Stuck Total }
+        ensures taken { Taken (stand_of walk.old) (stage fresh walk.old.left) result self.new }
+    {
+        match usable(&mut walk.line, walk.room, store) {
+            Err(_) => return Step::Stuck(Reason::Memory),
+            Ok(Some(proof)) => {
+                self.open_into(closed_leaf(proof));
+                return Step::Closed;
+            }
+            Ok(None) => {}
+        }
+        if walk.left == 0 {
+            return Step::Stuck(Reason::Budget);
+        }
+        if walk.room == 0 {
+            return Step::Stuck(Reason::Depth);
+        }
+        match expanded_at(walk.alloc, &mut walk.line) {
+            Ok(node) => {
+                self.open_into(node);
+                Step::Expanded
+            }
+            Err(_) => Step::Stuck(Reason::Memory),
+        }
+    }
+
+    /// A step at a fresh node. Its expansion is asked for once it is made, and then nothing can fail. Where the step is stuck, the node
+    /// stays fresh.
     fn first_step<S: Store, G: Grants>(
         &mut self,
         walk: &mut Walk,
         store: &mut S,
         grants: &mut G,
     ) -> Step
+        requires fresh { self.old ≡ fresh }
         requires open { winner_of walk.old.line.frame walk.old.line.state ≡ None }
         requires grants { (G.asked grants.old).granted + walk.old.left < 2 ^ 64 }
         ensures line { walk.new.line ≡ walk.old.line }
         ensures room { walk.new.room ≡ walk.old.room }
         ensures may { result ≡ Closed → S.may_answer }
+        ensures kept { (reason : _) → result ≡ Stuck reason → S.kept store.new ≡ S.kept store.old }
         ensures granted { (G.asked grants.new).granted + walk.new.left ≡ (G.asked grants.old).granted + walk.old.left }
         ensures asked { AskedBy (G.asked grants.old) result (G.asked grants.new) }
         ensures source { G.source grants.new ≡ G.source grants.old }
         ensures taken { Taken (stand_of walk.old) (stage fresh walk.old.left) result self.new }
         ensures left { IsLeft result walk.old.left walk.new.left }
     {
-        let (step, mut node) = leaf_step(walk, store);
+        let step = self.leaf_step(walk, store);
         if !is_granted(step, grants) {
             *self = new_leaf(None);
             return Step::Stuck(Reason::Total);
         }
         if let Step::Expanded = step {
-            if let Some(side) = node.settled_for() {
-                walk.offering = node.offer(side, walk, store);
+            if let Some(side) = self.settled_for() {
+                walk.offering = self.offer(side, walk, store);
             }
         }
-        *self = node;
         walk.left = left_after(step, walk.left);
         step
     }
@@ -307,8 +346,9 @@ impl Packed {
         }
     }
 
-    /// A step at a fresh child, whose node then is put among those that have grown. There is room for the node before its
-    /// expansion is asked for and its proof is offered, so nothing is granted or kept of a node that the search can't hold.
+    /// A step at a fresh child, whose node is put among those that have grown and takes the step there, so that it is written once. There is
+    /// room for the node before its expansion is asked for and its proof is offered, so nothing is granted or kept of a node that the
+    /// search can't hold. Where the step is stuck, the child has no node as before.
     fn sprout<S: Store, G: Grants>(
         &mut self,
         place: usize,
@@ -333,27 +373,17 @@ impl Packed {
         ensures source { G.source grants.new ≡ G.source grants.old }
         ensures sprouts { Sprouts walk.old place self.old result self.new walk.new }
     {
-        let (step, mut node) = leaf_step(walk, store);
-        if let Step::Stuck(reason) = step {
-            return Step::Stuck(reason);
-        }
         if room_for_one(&mut self.grown).is_err() {
             return Step::Stuck(Reason::Memory);
         }
-        if !is_granted(step, grants) {
-            return Step::Stuck(Reason::Total);
+        put_fresh(&mut self.grown, rank);
+        let step = self.grown[rank].first_step(walk, store, grants);
+        if let Step::Stuck(reason) = step {
+            let _fresh = self.grown.remove(rank);
+            return Step::Stuck(reason);
         }
-        if let Step::Expanded = step {
-            if let Some(side) = node.settled_for() {
-                walk.offering = node.offer(side, walk, store);
-            }
-        }
-        let Ok(()) = self.grown.insert(rank, node) else {
-            unreachable!();
-        };
         let edge = self.edges.at(place).grown();
         self.edges.set(place, edge);
-        walk.left = left_after(step, walk.left);
         step
     }
 }

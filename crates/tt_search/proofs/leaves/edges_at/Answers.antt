@@ -1,6 +1,6 @@
 use Rattle.std.proofs.Common.{◌++◌, [], map, length, sym, ap, subst, ◌∙◌, arith}
 use Rattle.tt_game.specs.declared.turns.Successor.{Successor}
-use Rattle.tt_game.specs.Turns.{successors_of, successors_from}
+use Rattle.tt_game.specs.Turns.{successors_from}
 use Rattle.tt_game.specs.TurnLaws.{from_all}
 use Rattle.tt_search.specs.Growing.{leaf_for}
 use Rattle.tt_search.specs.Edges.{edge_turns, edge_trees, grown_in}
