@@ -1,5 +1,5 @@
 -- Chains (the rules of Go): their stones and liberties, and the names by which a board finds them. Private contracts alone cite these.
-use Rattle.std.specs.Prelude.{◌≡◌, ◌≢◌, ℕ, ◌+◌, ◌%◌, ◌/◌, ◌<◌, ◌≤◌, ◌⊎◌, ◌↔◌, ◌==◌, ◌&&◌, List, [], ◌∷◌, length, Option, Some, None, Bool, not, Contains, if◌then◌else◌, count_by, slice_index_or}
+use Rattle.std.specs.Prelude.{◌≡◌, ◌≢◌, ℕ, ◌%◌, ◌/◌, ◌<◌, ◌≤◌, ◌⊎◌, ◌↔◌, ◌==◌, ◌&&◌, List, [], ◌∷◌, length, Option, Some, None, Bool, not, Contains, if◌then◌else◌, count_by, slice_index_or}
 use Rattle.std.specs.List.{range_with_len}
 use Rattle.std.proofs.lemmas.Bool.{cases_eq}
 use Rattle.tt_board.specs.declared.Colour.{Colour}
@@ -143,7 +143,7 @@ bare_one m = if m == 0 then 1 else 0
 -- the names on the four places beside p; NOWHERE where the board has no such place
 pub record AreNear (s : Size) (ns : List ℕ) (p : ℕ) (near : Names) : Type 0 where
   pub touching : (m : ℕ) → m ≢ NOWHERE → IsOneName near.above near.left near.right near.below m ↔ Touches s ns m p
-  pub bare : bare_one near.above + bare_one near.left + bare_one near.right + bare_one near.below ≡ count_beside s (λ q. name_at ns q == 0) p
+  pub bare : near.empty ≡ count_beside s (λ q. name_at ns q == 0) p
 
 -- each chain but one has its root
 abbrev pub IsRootedBut : List ℕ → ℕ → Type 0

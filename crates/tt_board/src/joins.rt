@@ -65,7 +65,7 @@ pub(crate) fn start(
     take_beside(liberties, near);
     names[p] = name;
     stones[p] = 1;
-    liberties[p] = near.empty();
+    liberties[p] = near.empty;
 }
 
 /// The first place from `start` on with this name, where there is one.

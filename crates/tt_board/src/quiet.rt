@@ -24,13 +24,14 @@ pub enum Glance {
 /// In the place of a name where the board has no place. No chain has it.
 pub(crate) const NOWHERE: u16 = 1536;
 
-/// The names on the four places beside a point; `NOWHERE` where the board has no such place.
+/// The names on the four places beside a point, `NOWHERE` where the board has no such place; and how many of them are empty.
 #[derive(Clone, Copy)]
 pub(crate) struct Names {
     pub(crate) above: u16,
     pub(crate) left: u16,
     pub(crate) right: u16,
     pub(crate) below: u16,
+    pub(crate) empty: u16,
 }
 
 /// A colour as part of a name.
@@ -64,11 +65,16 @@ pub(crate) fn names_beside(size: Size, names: &[u16], p: usize) -> Names
     ensures { AreNear size names.now p result }
 {
     let near = beside(size, p);
+    let above = name_there(names, near.above);
+    let left = name_there(names, near.left);
+    let right = name_there(names, near.right);
+    let below = name_there(names, near.below);
     Names {
-        above: name_there(names, near.above),
-        left: name_there(names, near.left),
-        right: name_there(names, near.right),
-        below: name_there(names, near.below),
+        above,
+        left,
+        right,
+        below,
+        empty: empty_one(above) + empty_one(left) + empty_one(right) + empty_one(below),
     }
 }
 
@@ -99,14 +105,6 @@ fn empty_one(name: u16) -> u16
 }
 
 impl Names {
-    /// How many of the places are empty.
-    #[inline]
-    pub(crate) fn empty(&self) -> u16
-        ensures { result ≡ bare_one self.now.above + bare_one self.now.left + bare_one self.now.right + bare_one self.now.below }
-    {
-        empty_one(self.above) + empty_one(self.left) + empty_one(self.right) + empty_one(self.below)
-    }
-
     /// Whether a chain of the colour of this code has one liberty.
     #[inline]
     pub(crate) fn has_last(&self, liberties: &[u16], code: u16) -> bool

@@ -28,8 +28,8 @@ returns-clause-still_counted c =
     counted_started c.args.size c.args.names.now c.args.stones.now c.args.liberties.now c.args.p c.args.name c.requires.on_board
     (omega (arith, few_points c.args.size, c.requires.wide.0)) (omega (arith, few_points c.args.size, c.requires.wide.1))
     c.requires.free c.requires.named.0 c.requires.named.1 c.requires.counted
-    c.take_beside.new.liberties c.empty.result (omega (arith, few_points c.args.size, c.requires.wide.2, c.take_beside.auto.liberties))
-    (c.empty.ensures ∙ (near_off c.args.size c.args.names.now c.args.p c.args.name c.requires.on_board (omega (arith, few_points c.args.size, c.requires.wide.0)) _ c.requires.near).bare)
+    c.take_beside.new.liberties c.args.near.now.empty (omega (arith, few_points c.args.size, c.requires.wide.2, c.take_beside.auto.liberties))
+    ((near_off c.args.size c.args.names.now c.args.p c.args.name c.requires.on_board (omega (arith, few_points c.args.size, c.requires.wide.0)) _ c.requires.near).bare)
     (λ m some t.
     let there : m ≢ NOWHERE = λ e. c.requires.coloured t.0 (t.2.1 ∙ e) in
     c.take_beside.ensures.fewer m ((c.requires.near.touching m there).1 t) some there)
