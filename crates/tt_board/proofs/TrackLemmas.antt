@@ -7,7 +7,7 @@ use Rattle.tt_board.specs.declared.track.Milestone.{Milestone}
 use Rattle.tt_board.specs.Position.{Position, Colouring}
 use Rattle.tt_board.specs.Play.{IsAlive}
 use Rattle.tt_board.specs.Differences.{colourings_from}
-use Rattle.tt_board.specs.Boards.{led, board_of, trail_of, IsLed, IsTrail}
+use Rattle.tt_board.specs.Boards.{board_of, IsLed, IsTrail}
 use Rattle.tt_board.specs.Tracks.{boards_along, start_of, milestone_at, LeadsThrough, AreMilestones}
 
 -- before the first board there are no edits

@@ -1,6 +1,6 @@
 //! Boards of Go under the Tromp-Taylor rules: colourings in which each stone reaches empty, moves that capture, and area scores.
 //!
-//! A board takes no memory but its own: `Boards` and `Trail` alone ask for some, and say where there is none.
+//! A board takes no memory but its own: `Boards`, `Trail` and `Track` alone ask for some, and say where there is none.
 //! A contract sees a board as a `Position`: its size, and its colouring as a list of entries, row by row.
 #![tactic(auto)]
 

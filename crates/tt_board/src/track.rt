@@ -70,7 +70,7 @@ fn alike(milestones: &[Milestone], boards: &[Board]) -> usize
     ensures same { boards_along (take result milestones.now) ≡ take result boards.now }
 {
     let mut k = 0;
-    while k < boards.len() && k < milestones.len() && milestones[k].board.same(&boards[k]) {
+    while k < boards.len() && k < milestones.len() && milestones[k].board.is_still(&boards[k]) {
         k += 1;
     }
     k

@@ -1,7 +1,5 @@
-use Rattle.std.proofs.Common.{rules, ◌≡◌, ◌+◌, ◌<◌, ◌++◌, ◌∷◌, ◌∙◌, [], length, take, drop, get_or, sym, ap, subst, arith}
+use Rattle.std.proofs.Common.{◌≡◌, ◌<◌, ◌++◌, ◌∷◌, ◌∙◌, [], length, drop, get_or, sym, ap, subst}
 use Rattle.std.proofs.lemmas.List.{take_rest}
-use Rattle.tt_board.specs.Position.{Position}
-use Rattle.tt_board.specs.Tracks.{boards_along}
 use Rattle.tt_board.proofs.TrackLemmas.{rest_more}
 use Rattle.tt_board.proofs.track.note.Goals as goal
 

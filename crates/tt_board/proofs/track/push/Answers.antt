@@ -1,5 +1,4 @@
-use Rattle.std.proofs.Common.{rules, ◌≡◌, ◌++◌, ◌∷◌, ◌∙◌, [], length, subst, sym, ap}
-use Rattle.tt_board.specs.declared.track.Milestone.{Milestone}
+use Rattle.std.proofs.Common.{rules, ◌≡◌, ◌∙◌, length, subst, sym, ap}
 use Rattle.tt_board.specs.Position.{Position, Colouring}
 use Rattle.tt_board.specs.Boards.{IsLed}
 use Rattle.tt_board.specs.Tracks.{milestone_at, AreMilestones}
