@@ -6,6 +6,7 @@ use Rattle.tt_sgf.specs.Words.{bit_in}
 use Rattle.tt_board.specs.declared.Colour.{Colour}
 use Rattle.tt_board.specs.declared.quiet.Glance.{Glance}
 use Rattle.tt_board.specs.declared.quiet.Glance.TheVariants.{Quiet, Vain, Unclear}
+use Rattle.tt_board.specs.Glance.{IsTold}
 use Rattle.tt_board.specs.Position.{Colouring}
 use Rattle.tt_board.specs.Reach.{entry_at}
 use Rattle.tt_board.specs.Stones.{IsEmptyIn}
@@ -26,10 +27,12 @@ abbrev pub HaveStood : Colour → Size → List Colouring → List ℕ → Type 
 HaveStood k size h words = (c : Colouring) (p : ℕ) → HasBeen h c → p < point_count size → entry_at c p ≡ Some k → bit_in words p ≡ true
 
 -- the survey was made of this state: it has the colour that moves, exactly the empty points of the region, and where that colour has stood;
--- the points that it tells at once are some of those where a play is quiet, and if it has a sum that is what the words of the present board make
+-- the points that it tells at once are some of those where a play takes nothing off, and of those where it is quiet; and if it has a sum, that is what
+-- the words of the present board make
 pub record IsSurvey (v : Survey) (f : Frame) (s : State) : Type 0 where
   pub colour : v.colour ≡ colour_of f s.to_move
   pub empty : (p : ℕ) → p < point_count f.size → (bit_in v.empty.words p ≡ true) ↔ IsEmptyIn f.size f.region s.present p
   pub stood : HaveStood v.colour f.size (history s) v.stood.words
+  pub put : (p : ℕ) → p < point_count f.size → bit_in v.put.words p ≡ true → IsTold Quiet f.size s.present (colour_of f s.to_move) p
   pub quiet : (p : ℕ) → p < point_count f.size → bit_in v.quiet.words p ≡ true → IsForetold Quiet f s p
   pub sum : IfSome v.sum (λ n. n ≡ mix_board f.size s.present)

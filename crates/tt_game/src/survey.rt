@@ -10,12 +10,14 @@ use crate::root::MANY;
 use tt_board::{Colour, Glance};
 use tt_sgf::{BITS, Bits, Point};
 
-/// The colour that moves, the empty points of the region, some of them where its play is quiet, where stones of that colour have
-/// stood so far, and what the words of the present board make, where prints by it tell new colourings.
+/// The colour that moves, the empty points of the region, some of them where its play takes nothing off, those of these where it is
+/// quiet, where stones of that colour have stood so far, and what the words of the present board make, where prints by it tell new
+/// colourings.
 #[derive(Clone, Copy)]
 pub struct Survey {
     colour: Colour,
     empty: Bits,
+    put: Bits,
     quiet: Bits,
     stood: Bits,
     sum: Option<u64>,
@@ -49,31 +51,43 @@ impl Line {
         let colour = self.mover();
         let empty = self.present().empty_among(&self.frame().region);
         let stood = self.stones_so_far(colour);
+        let put = self.put_among(colour, &empty);
         Survey {
             colour,
             empty,
-            quiet: self.quiet_among(colour, &empty, &stood),
+            put,
+            quiet: self.quiet_among(colour, &put, &stood),
             stood,
             sum: self.sum_here(),
         }
     }
 
-    /// Some of these empty points on which a play of the side to move is quiet, found all at once: none where few points are left on
-    /// which its stones never stood. A small region has few of them.
-    fn quiet_among(&self, colour: Colour, empty: &Bits, stood: &Bits) -> Bits
+    /// Some of these empty points on which a play of the side to move puts its stone and takes nothing off, found all at once: none
+    /// where they are few. A small region has few of them.
+    fn put_among(&self, colour: Colour, empty: &Bits) -> Bits
         requires colour { colour ≡ colour_of self.now.frame self.now.state.to_move }
         requires free { (p : ℕ) → p < point_count self.now.frame.size → bit_in empty.now.words p ≡ true → entry_at self.now.state.present p ≡ None }
-        requires stood { HaveStood colour self.now.frame.size (history self.now.state) stood.now.words }
-        ensures { (p : ℕ) → p < point_count self.now.frame.size → bit_in result.words p ≡ true → IsForetold Quiet self.now.frame self.now.state p }
+        ensures { (p : ℕ) → p < point_count self.now.frame.size → bit_in result.words p ≡ true
+            → IsTold Quiet self.now.frame.size self.now.state.present (colour_of self.now.frame self.now.state.to_move) p }
     {
         if !self.has_many() {
             return Bits::none();
         }
-        let fresh = empty.minus(stood);
-        if !has_many(&fresh) {
+        if !has_many(empty) {
             return Bits::none();
         }
-        self.counted().quiet_among(colour, &fresh)
+        self.counted().quiet_among(colour, empty)
+    }
+
+    /// Those of these points on which a play of the side to move is quiet, since its stones never stood there.
+    fn quiet_among(&self, colour: Colour, put: &Bits, stood: &Bits) -> Bits
+        requires colour { colour ≡ colour_of self.now.frame self.now.state.to_move }
+        requires put { (p : ℕ) → p < point_count self.now.frame.size → bit_in put.now.words p ≡ true
+            → IsTold Quiet self.now.frame.size self.now.state.present (colour_of self.now.frame self.now.state.to_move) p }
+        requires stood { HaveStood colour self.now.frame.size (history self.now.state) stood.now.words }
+        ensures { (p : ℕ) → p < point_count self.now.frame.size → bit_in result.words p ≡ true → IsForetold Quiet self.now.frame self.now.state p }
+    {
+        put.minus(stood)
     }
 
     /// The first empty point of the region from a number on: none where the board has no such point.
@@ -115,6 +129,9 @@ impl Line {
     {
         if survey.quiet.has(usize::from(p.number())) {
             return (Glance::Quiet, Glance::Quiet);
+        }
+        if survey.put.has(usize::from(p.number())) {
+            return (Glance::Unclear, Glance::Quiet);
         }
         let told = self.counted().glance(survey.colour, p);
         match told {

@@ -9,13 +9,13 @@ use Rattle.tt_game.specs.Undoing.{board_on}
 use Rattle.tt_game.proofs.SurveyLemmas.{quiet_where_new}
 use Rattle.tt_game.proofs.line.Line.glance_by.Goals as goal
 
-pub returns-else-has-2-clause-foretold : goal.returns-else-has-2-clause-foretold
-returns-else-has-2-clause-foretold c =
+pub returns-else-has-3-clause-foretold : goal.returns-else-has-3-clause-foretold
+returns-else-has-3-clause-foretold c =
     let l = c.args.self.now in let p = c.args.p in let v = c.args.survey.now in let k = v.colour in let made = c.requires.survey in
     let shown : c.counted.result.now ≡ board_on l.frame.size l.state.present = c.counted.ensures in
     let fits : length l.state.present ≡ point_count l.frame.size = subst (λ (b : Position). length b.points ≡ point_count b.size) shown c.glance-told.ensures.fits in
     let put : play_of l.frame.size l.state.present k p ≡ set l.state.present p (Some k) =
     subst (λ (b : Position). play_of b.size b.points k p ≡ set b.points p (Some k)) shown (subst (λ g. IsTold g c.counted.result.now.size c.counted.result.now.points k p) c.in-Quiet.is c.glance-told.ensures.told) in
     let index : c.from-in-Quiet.result ≡ p = search rules in
-    let new : bit_in v.stood.words p ≡ false = ap (bit_in v.stood.words) (sym index) ∙ sym c.has-in-Quiet.ensures ∙ c.if-has-2.false in
+    let new : bit_in v.stood.words p ≡ false = ap (bit_in v.stood.words) (sym index) ∙ sym c.has-in-Quiet.ensures ∙ c.if-has-3.false in
     quiet_where_new l.frame l.state k p made.colour fits c.requires.on_board put (λ d has stone. false≢true (sym new ∙ made.stood d p has c.requires.on_board stone))
