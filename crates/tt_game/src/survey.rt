@@ -45,6 +45,7 @@ impl Line {
     ghost use Rattle.tt_game.specs.declared.turns.Turn.{Turn};
 
     /// What is the same for all plays of the side to move.
+    #[inline(always)]
     pub fn survey(&self) -> Survey
         ensures { IsSurvey result self.now.frame self.now.state }
     {
