@@ -32,7 +32,7 @@ seen_send a = view_send _ _ _ _ _ (declared_send (ViewInside.the_type a) (
   search (sendable, log_sync) depth 20,
   (
     as_row_send (Taken.the_field a) (taken_send a),
-    (search sendable depth 20, (search (sendable, crosses) depth 40, (search sendable depth 20, (search sendable depth 20, tt)))),
+    (search sendable depth 20, (search (sendable, crosses) depth 40, (search sendable depth 20, (search sendable depth 20, (search sendable depth 20, tt))))),
   ),
 ))
 

@@ -9,3 +9,6 @@ pub const MOST_KEPT: usize = 4096;
 /// For how many more entries a log has room before each push: more than twice as many as there may be workers. So a push
 /// finds room for its entry, whatever other workers push meanwhile.
 pub(crate) const ROOM_BEFORE_A_PUSH: usize = 2 * MOST_WORKERS + 1;
+
+/// For how many pushes more a log makes room at once, where there isn't enough before a push.
+pub(crate) const ROOM_AT_ONCE: usize = 3;

@@ -4,7 +4,7 @@ ghost use Rattle.std.specs.Prelude.{◌≡◌, IfOk, IfSome};
 ghost use Rattle.std.specs.Arc.{arc_value};
 ghost use Rattle.tt_share.specs.Log.{IsOf};
 
-use crate::bounds::ROOM_BEFORE_A_PUSH;
+use crate::bounds::{ROOM_AT_ONCE, ROOM_BEFORE_A_PUSH};
 use boxcar::Pushed;
 use std::alloc::Global;
 use std::marker::Model;
@@ -91,12 +91,22 @@ impl CertLog {
     }
 
     /// Pushes the proof, once. Room for it, and for what others push meanwhile, comes first: an entry that was begun and
-    /// finds no memory would leave its place empty for good.
-    pub(crate) fn push(&self, rt: &impl Wait, p: Arc<Proof>) -> Result<Token, NoMemory>
+    /// finds no memory would leave its place empty for good. `roomy` is how many entries are known to have room: more is made
+    /// where these aren't enough, for many pushes at once.
+    pub(crate) fn push(
+        &self,
+        rt: &impl Wait,
+        p: Arc<Proof>,
+        roomy: &mut usize,
+    ) -> Result<Token, NoMemory>
         ensures log { IfOk result (IsOf self.now) }
         ensures proof { IfOk result (λ t. t.proof ≡ arc_value p) }
     {
-        self.entries.reserve(ROOM_BEFORE_A_PUSH)?;
+        let wanted = self.count().saturating_add(ROOM_BEFORE_A_PUSH);
+        if wanted > *roomy {
+            self.entries.reserve(ROOM_BEFORE_A_PUSH + ROOM_AT_ONCE)?;
+            *roomy = wanted.saturating_add(ROOM_AT_ONCE);
+        }
         match self.entries.push_shown(rt, p) {
             Ok(shown) => Ok(Token { shown }),
             Err(_) => Err(NoMemory),

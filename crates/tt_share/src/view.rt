@@ -30,6 +30,7 @@ pub struct View<'a> {
     own: Vec<usize>,
     skipped: usize,
     kept: usize,
+    roomy: usize,
 }
 
 impl<'a> Model for View<'a> {
@@ -67,6 +68,7 @@ impl<'a> View<'a> {
             own: Vec::new(alloc),
             skipped: 0,
             kept: 0,
+            roomy: 0,
         })
     }
 
@@ -113,7 +115,7 @@ impl<'a> View<'a> {
         if self.own.reserve(1).is_err() || self.taken.reserve().is_err() {
             return Kept::NoMemory;
         }
-        let Ok(token) = self.log.push(rt, p) else {
+        let Ok(token) = self.log.push(rt, p, &mut self.roomy) else {
             return Kept::NoMemory;
         };
         self.own.push_reserved(token.place());
