@@ -13,12 +13,12 @@ use Rattle.tt_proof.specs.declared.bounds.TheConstants.{FIRST, SECOND}
 unfoldable pub stones_of : Colour → Colouring → ℕ
 stones_of k c = count_by (λ e. is_stone_of e k) c
 
--- the two marks of a board, each a number below 32 that is taken from its print
+-- the two marks of a board, each a number below 64 that is taken from its print
 abbrev pub first_mark : Position → ℕ
 first_mark b = board_print b.size b.points / FIRST
 
 abbrev pub second_mark : Position → ℕ
-second_mark b = board_print b.size b.points / SECOND % 32
+second_mark b = board_print b.size b.points / SECOND % 64
 
 -- the bits of both marks of the board are 1
 abbrev pub IsMarked : ℕ → Position → Type 0

@@ -8,18 +8,18 @@ ghost use Rattle.tt_proof.specs.Bounds.{stones_of, first_mark, second_mark, IsMa
 use tt_board::{Board, Colour};
 use tt_game::board_print;
 
-/// The first mark of a board with this print: its five highest bits.
-const FIRST: u64 = 0x800_0000_0000_0000;
+/// The first mark of a board with this print: its six highest bits.
+const FIRST: u64 = 0x400_0000_0000_0000;
 
-/// The second mark: the five bits below them.
-const SECOND: u64 = 0x40_0000_0000_0000;
+/// The second mark: the six bits below them.
+const SECOND: u64 = 0x10_0000_0000_0000;
 
-/// Numbers of black and of white stones, and a bit for each of 32 marks that a board may have. Each board has two.
+/// Numbers of black and of white stones, and a bit for each of 64 marks that a board may have. Each board has two.
 #[derive(Clone, Copy)]
 pub struct Bound {
     pub black: u16,
     pub white: u16,
-    pub marks: u32,
+    pub marks: u64,
 }
 
 /// How many bits of the word are 1.
@@ -47,12 +47,12 @@ fn stones(board: &Board, colour: Colour) -> u16
 }
 
 /// The bits of both marks of the board.
-fn marks(board: &Board) -> u32
+fn marks(board: &Board) -> u64
     ensures first { bit_at result (first_mark board.now) ≡ 1 }
     ensures second { bit_at result (second_mark board.now) ≡ 1 }
 {
     let print = board_print(board);
-    (1 << (print / FIRST)) | (1 << (print / SECOND % 32))
+    (1 << (print / FIRST)) | (1 << (print / SECOND % 64))
 }
 
 impl Bound {
@@ -95,7 +95,7 @@ impl Bound {
 
     /// Whether the bit of a mark is 1.
     fn has_mark(&self, mark: u64) -> bool
-        requires { mark < 32 }
+        requires { mark < 64 }
         ensures { IsTrue result ↔ bit_at self.now.marks mark ≡ 1 }
     {
         (self.marks >> mark) & 1 == 1
@@ -106,7 +106,7 @@ impl Bound {
         ensures { IsTrue result ↔ IsMarked self.now.marks board.now }
     {
         let print = board_print(board);
-        self.has_mark(print / FIRST) && self.has_mark(print / SECOND % 32)
+        self.has_mark(print / FIRST) && self.has_mark(print / SECOND % 64)
     }
 
     /// Whether the board has at least so many stones of each colour.
