@@ -14,6 +14,7 @@ pub mod LookLemmas
 pub mod MakeLemmas
 pub mod NameLemmas
 pub mod NearLemmas
+pub mod OverLemmas
 pub mod PlacedLemmas
 pub mod PlaneLemmas
 pub mod PlayLemmas

@@ -137,7 +137,7 @@ counted_taken s ns stones liberties left e living counted true' = record {
 -- ---- no stone
 
 -- zeros name the chains of an empty board
-pub none_placed : (s : Size) → IsChainBoard (record { size = s; points = replicate (point_count s) None; names = replicate 361 0; stones = replicate 361 0; liberties = replicate 361 0 })
+pub none_placed : (s : Size) → IsChainBoard (record { size = s; points = replicate (point_count s) None; names = replicate 361 0; stones = replicate 361 0; liberties = replicate 361 0; end = 0 })
 none_placed s = record {
   fits = length-replicate {A = Option Colour} (point_count s) None;
   wide = (length-replicate {A = ℕ} 361 0, length-replicate {A = ℕ} 361 0, length-replicate {A = ℕ} 361 0);
@@ -151,6 +151,7 @@ none_placed s = record {
     liberties_true = λ q some. absurd (some (zero q));
   };
   alive = λ x in_x stone. absurd (stone (bare x));
+  rest = λ q _. bare q;
 }
   where
     bare : (q : ℕ) → entry_at (replicate (point_count s) None) q ≡ None

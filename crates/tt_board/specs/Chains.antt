@@ -96,6 +96,7 @@ pub record ChainBoard : Type 0 where
   pub names : List ℕ
   pub stones : List ℕ
   pub liberties : List ℕ
+  pub end : ℕ
 
 -- each stone reaches empty, the names name the chains, and their counts are true
 pub record IsChainBoard (b : ChainBoard) : Type 0 where
@@ -104,6 +105,7 @@ pub record IsChainBoard (b : ChainBoard) : Type 0 where
   pub named : AreNames b.size b.points b.names
   pub counted : AreCounted b.size b.names b.stones b.liberties
   pub alive : IsAlive b.size b.points
+  pub rest : (q : ℕ) → b.end ≤ q → entry_at b.points q ≡ None
 
 -- ---- how the code gets there
 

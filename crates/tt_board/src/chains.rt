@@ -16,10 +16,13 @@ use super::captures::{lift_chain, release};
 use super::colouring::Colouring;
 use super::joins::{join_beside, start};
 use super::looks::{Look, last_ones};
-use super::names::root_of;
+use super::names::{root_of, take_over};
 use super::quiet::{Glance, Names, colour_number, names_beside};
 use std::marker::Model;
 use tt_sgf::{BITS, Bits, Size};
+
+/// Of so many places the names and the counts are copied in three parts; of more in one, with those behind them.
+const FEW: usize = 180;
 
 /// The name of the chain on each place, 0 where it is empty, and each chain's counts of stones and of liberties at its root. They lie
 /// side by side, so that a board takes them over from another one in one move.
@@ -36,6 +39,7 @@ pub(crate) struct Chains {
     size: Size,
     points: Colouring,
     counts: ChainCounts,
+    end: usize,
 }
 
 impl Model for Chains {
@@ -43,9 +47,9 @@ impl Model for Chains {
 
     ghost Value = { ChainBoard };
 
-    ghost view = { λ b. record { size = b.size; points = b.points; names = b.counts.names; stones = b.counts.stones; liberties = b.counts.liberties } };
+    ghost view = { λ b. record { size = b.size; points = b.points; names = b.counts.names; stones = b.counts.stones; liberties = b.counts.liberties; end = b.end } };
 
-    ghost invariant = { λ b. IsChainBoard (record { size = b.size; points = b.points; names = b.counts.names; stones = b.counts.stones; liberties = b.counts.liberties }) };
+    ghost invariant = { λ b. IsChainBoard (record { size = b.size; points = b.points; names = b.counts.names; stones = b.counts.stones; liberties = b.counts.liberties; end = b.end }) };
 }
 
 /// A number 0 for each place.
@@ -53,6 +57,15 @@ fn zeros() -> [u16; 361]
     ensures { result ≡ replicate 361 0 }
 {
     [0; 361]
+}
+
+/// The greater of two ends.
+#[inline]
+fn later_end(one: usize, other: usize) -> usize
+    ensures one { one ≤ result }
+    ensures other { other ≤ result }
+{
+    if one < other { other } else { one }
 }
 
 /// The name of a new chain of this colour with its root on `p`.
@@ -82,6 +95,7 @@ impl Chains {
                 stones: zeros(),
                 liberties: zeros(),
             },
+            end: 0,
         }
     }
 
@@ -166,6 +180,7 @@ impl Chains {
             p,
             near,
         );
+        self.end = later_end(self.end, p + 1);
     }
 
     /// Takes the chain of this name off the board.
@@ -381,13 +396,22 @@ impl Chains {
         }
     }
 
-    /// Becomes the same as another one.
+    /// Becomes the same board as another one. Behind the last stone of both no name is copied, nor the counts of any.
     pub(crate) fn set_to(&mut self, other: &Chains)
-        ensures { self.new ≡ other.now }
+        ensures size { self.new.size ≡ other.now.size }
+        ensures points { self.new.points ≡ other.now.points }
     {
+        let end = later_end(self.end, other.end);
+        if end <= FEW {
+            take_over(&mut self.counts.names, &other.counts.names, end);
+            take_over(&mut self.counts.stones, &other.counts.stones, end);
+            take_over(&mut self.counts.liberties, &other.counts.liberties, end);
+        } else {
+            self.counts = other.counts;
+        }
         self.size = other.size;
-        self.points = other.points.copy();
-        self.counts = other.counts;
+        self.points.set_to(&other.points);
+        self.end = other.end;
     }
 
     /// The same again.
@@ -398,6 +422,7 @@ impl Chains {
             size: self.size,
             points: self.points.copy(),
             counts: self.counts,
+            end: self.end,
         }
     }
 }

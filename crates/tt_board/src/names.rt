@@ -1,6 +1,6 @@
 //! The names of chains on the places of a board: which chains are beside a point, and what a stone there brings them.
 
-ghost use Rattle.std.specs.Prelude.{◌≡◌, ◌≢◌, ℕ, ◌+◌, ◌<◌, ◌≤◌, ◌⊎◌, ◌↔◌, ◌==◌, length, Contains, IsTrue, Some, false};
+ghost use Rattle.std.specs.Prelude.{◌≡◌, ◌≢◌, ℕ, ◌+◌, ◌<◌, ◌≤◌, ◌⊎◌, ◌↔◌, ◌==◌, ◌++◌, length, take, drop, Contains, IsTrue, Some, false};
 ghost use Rattle.tt_sgf.specs.Sizes.{point_count};
 ghost use Rattle.tt_board.specs.Chains.{name_at, root_of, Touches, IsEachOnce, AreRootsApart, is_new, count_there, count_beside};
 
@@ -15,6 +15,15 @@ pub(crate) fn root_of(name: u16) -> usize
     ensures small { result < 512 }
 {
     usize::from(name % 512)
+}
+
+/// Copies the entries of the first `count` places, and no other.
+#[inline]
+pub(crate) fn take_over(entries: &mut [u16], from: &[u16], count: usize)
+    requires inside { (count ≤ length entries.old) × (count ≤ length from.now) }
+    ensures { entries.new ≡ take count from.now ++ drop count entries.old }
+{
+    entries[..count].copy_from_slice(&from[..count]);
 }
 
 /// Whether the board has a place, and this name stands there.

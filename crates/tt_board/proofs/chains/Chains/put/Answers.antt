@@ -1,5 +1,5 @@
 use Rattle.std.proofs.Common.{◌≡◌, ◌≢◌, ◌<◌, None, Some, set, length, arith, sym, ap, subst, ◌∙◌}
-use Rattle.std.proofs.lemmas.List.{length-set}
+use Rattle.std.proofs.lemmas.List.{length-set, get_or-set_other}
 use Rattle.tt_sgf.specs.Sizes.{point_count}
 use Rattle.tt_board.specs.Reach.{entry_at}
 use Rattle.tt_board.specs.Play.{IsAlive}
@@ -43,4 +43,8 @@ invariant_of-self c =
           (c.join_beside.ensures.joined (set b.points p (Some k)) (subst (λ ns. AreNamesBut b.size (set b.points p (Some k)) ns p) (sym c.start.ensures.put) but));
       counted = c.join_beside.ensures.still_counted;
       alive = subst (IsAlive b.size) (sym c.set.ensures) alive;
+      rest = λ q past.
+          ap (λ xs. entry_at xs q) c.set.ensures
+          ∙ get_or-set_other b.points p q (Some k) None (λ same. omega (arith, past, c.later_end-self-inside.ensures.other, same))
+          ∙ i.rest q (omega (arith, past, c.later_end-self-inside.ensures.one));
     }

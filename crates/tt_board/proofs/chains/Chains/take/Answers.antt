@@ -1,4 +1,4 @@
-use Rattle.std.proofs.Common.{sym, subst, ◌∙◌}
+use Rattle.std.proofs.Common.{inl, inr, sym, subst, ◌∙◌}
 use Rattle.tt_board.specs.Chains.{AreNames, AreCounted, IsCountedBut}
 use Rattle.tt_board.proofs.PlacedLemmas.{alive_fewer, names_taken, counted_taken, taken_fewer}
 use Rattle.tt_board.proofs.chains.Chains.take.Goals as goal
@@ -14,4 +14,5 @@ invariant_of-self c =
           (counted_taken b.size b.counts.names b.counts.stones b.counts.liberties after.liberties e c.requires.living.0 i.counted
           (subst (λ ns. IsCountedBut b.size ns after.liberties e) r.names r.still_counted));
       alive = alive_fewer b.size b.points after.points i.alive (taken_fewer b.size b.points after.points b.counts.names e c.requires.living.0 i.named r.gone r.kept);
+      rest = λ q past. elim (taken_fewer b.size b.points after.points b.counts.names e c.requires.living.0 i.named r.gone r.kept q) [ inl same ↦ same ∙ i.rest q past | inr bare ↦ bare ];
     }
