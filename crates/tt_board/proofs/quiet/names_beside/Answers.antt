@@ -23,6 +23,16 @@ returns c =
     let sum = beside_counted s (λ q. name_at ns q == 0) p _ _ _ _ all c.beside-near.ensures.once in
     record {
       touching = λ m apart. one_touches s ns p m _ _ _ _ _ _ _ _ all h1 h2 h3 h4 apart;
-      bare = omega (arith, sum, bare_place ns _ _ h1, bare_place ns _ _ h2, bare_place ns _ _ h3, bare_place ns _ _ h4,
-          c.empty_one.ensures, c.empty_one-2.ensures, c.empty_one-3.ensures, c.empty_one-4.ensures);
+      bare = omega (
+        arith,
+        sum,
+        bare_place ns _ _ h1,
+        bare_place ns _ _ h2,
+        bare_place ns _ _ h3,
+        bare_place ns _ _ h4,
+        c.empty_one.ensures,
+        c.empty_one-2.ensures,
+        c.empty_one-3.ensures,
+        c.empty_one-4.ensures,
+      );
     }
