@@ -115,14 +115,6 @@ impl Chains {
         &self.points
     }
 
-    /// The name of the chain on `p`, 0 where it is empty; two stones have one name exactly where they are of one chain.
-    pub(crate) fn name(&self, p: usize) -> u16
-        requires { p < point_count self.now.size }
-        ensures { result ≡ name_at self.now.names p }
-    {
-        self.counts.names[p]
-    }
-
     /// How many stones the chain of the stone on `p` has, 1 to 360.
     pub(crate) fn stones(&self, p: usize) -> u16
         requires on_board { p < point_count self.now.size }

@@ -50,12 +50,6 @@ impl CountedBoard {
         }
     }
 
-    /// The chains.
-    #[cfg(test)]
-    pub(crate) fn chains(&self) -> &Chains {
-        &self.chains
-    }
-
     /// The size.
     pub fn size(&self) -> Size
         ensures { result ≡ self.now.size }

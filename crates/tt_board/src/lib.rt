@@ -55,12 +55,3 @@ impl Colour {
         }
     }
 }
-
-#[cfg(test)]
-mod chain_tests;
-#[cfg(test)]
-mod move_tests;
-#[cfg(test)]
-mod tests;
-#[cfg(test)]
-mod trail_tests;

@@ -4,6 +4,7 @@
 //! | Module | What it tests |
 //! |---|---|
 //! | `sgf_tests` | `tt_sgf`: trees and values |
+//! | `board_tests`, `chain_tests`, `trail_tests`, `board_tables` | `tt_board`: boards and moves, counted chains, trails, and tables of these |
 //! | `record_tests` | `tt_game`: records and games |
 //! | `problem_tests`, `turn_tests`, `turn_tables` | `tt_game`: problems, their turns, and tables of these |
 //! | `proof_tests` | `tt_proof`: certificates and proofs |
@@ -11,10 +12,18 @@
 //! | `search_tests`, `trace_tests`, `trace_tables` | `tt_search`: searches, their traces, and tables of these |
 //! | `store_tests` | `tt_search`: searches over stores that are full, refuse or are refused |
 //! | `grants_tests` | `tt_search`: searches whose expansions are granted |
-//! | `rows` | how a table is read that is one text |
+//! | `rows`, `drawings` | how a table is read that is one text, and boards that are drawn in one |
 
 #![tactic(auto)]
 
+#[cfg(test)]
+mod board_tables;
+#[cfg(test)]
+mod board_tests;
+#[cfg(test)]
+mod chain_tests;
+#[cfg(test)]
+mod drawings;
 #[cfg(test)]
 mod footprint_tables;
 #[cfg(test)]
@@ -39,6 +48,8 @@ mod store_tests;
 mod trace_tables;
 #[cfg(test)]
 mod trace_tests;
+#[cfg(test)]
+mod trail_tests;
 #[cfg(test)]
 mod turn_tables;
 #[cfg(test)]

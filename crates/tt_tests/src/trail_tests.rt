@@ -2,9 +2,9 @@
 
 ghost use Rattle.std.specs.Prelude.{◌≡◌};
 
-use super::tests::board_of;
-use super::{Board, Trail};
+use crate::drawings::board_of;
 use std::sync::Arc;
+use tt_board::{Board, Trail};
 use tt_sgf::{NoMemory, Size};
 
 /// A board that a row shows, in which each stone reaches empty.
