@@ -1,258 +1,141 @@
 //! Inputs of strangers, with their lines: long, deep, cut off and repeated.
 
-use crate::tests::answered;
+use crate::rows::{cut, number};
+use crate::tests::answers;
 use std::alloc::Global;
+use std::str::from_utf8;
 use std::sync::Wait;
 use std::test::Fail;
 use std::thread::Threads;
 
 /// White's two stones with liberties on both sides: Black to move wins.
-const SPLIT: &str = "(;SZ[4:1]AW[ba][da]PL[B]TR[ba])";
+const SPLIT: &[u8] = b"(;SZ[4:1]AW[ba][da]PL[B]TR[ba])";
 
-/// A text that stands so many times.
-type Part = (&'static str, usize);
-
-/// The word behind the program's name; the parts of the input; the answer and the status.
-type Row = (&'static str, [Part; 5], &'static str, u8);
-
-/// No text.
-const NONE: Part = ("", 0);
-
-const SCORES: [Row; 14] = [
-    (
-        "score",
-        [(" ", 1_048_577), NONE, NONE, NONE, NONE],
-        "1 refused 2\n",
-        1,
-    ),
-    (
-        "score",
-        [(" ", 1_048_576), NONE, NONE, NONE, NONE],
-        "1 refused 1\n",
-        1,
-    ),
-    (
-        "score",
-        [("(;", 349_525), (")", 349_525), NONE, NONE, NONE],
-        "1 black 0 white 0 unfinished\n",
-        0,
-    ),
-    (
-        "score",
-        [("(;", 349_525), (")", 349_524), NONE, NONE, NONE],
-        "1 refused 1\n",
-        1,
-    ),
-    (
-        "score",
-        [("(;C[\\]", 1), NONE, NONE, NONE, NONE],
-        "1 refused 1\n",
-        1,
-    ),
-    (
-        "score",
-        [("(;C[]])", 1), NONE, NONE, NONE, NONE],
-        "1 refused 1\n",
-        1,
-    ),
-    (
-        "score",
-        [("(;B[aa] [bb])", 1), NONE, NONE, NONE, NONE],
-        "1 refused 14\n",
-        1,
-    ),
-    (
-        "score",
-        [
-            ("(;SZ[20])", 1),
-            ("(;SZ[2:20])", 1),
-            ("(;SZ[+02])", 1),
-            NONE,
-            NONE,
-        ],
-        "1 refused 11\n2 refused 11\n3 black 0 white 0 unfinished\n",
-        1,
-    ),
-    (
-        "score",
-        [("(;SZ[19:1];B[sa])", 1), NONE, NONE, NONE, NONE],
-        "1 black 19 white 0 unfinished\n",
-        0,
-    ),
-    (
-        "score",
-        [
-            ("(;SZ[1]", 1),
-            (";PL[B];B[];W[]", 1_000),
-            (")", 1),
-            NONE,
-            NONE,
-        ],
-        "1 black 0 white 0 finished\n",
-        0,
-    ),
-    (
-        "score",
-        [
-            ("(;SZ[1]", 1),
-            (";PL[B];B[];W[]", 1_000),
-            (";PL[B];B[]", 1),
-            (")", 1),
-            NONE,
-        ],
-        "1 refused 19\n",
-        1,
-    ),
-    (
-        "score",
-        [
-            ("(;SZ[1]", 1),
-            (";PL[B];B[];W[]", 1_000),
-            (";B[]", 1),
-            (")", 1),
-            NONE,
-        ],
-        "1 refused 18\n",
-        1,
-    ),
-    (
-        "check",
-        [(" ", 1_048_577), NONE, NONE, NONE, NONE],
-        "refused 2\n",
-        1,
-    ),
-    (
-        "check",
-        [(" ", 1_048_576), NONE, NONE, NONE, NONE],
-        "refused 1\n",
-        1,
-    ),
-];
+/// A line each, which a tilde ends: the word behind the program's name; the status; the answer; and the parts of the input, with how many times
+/// each of them stands.
+const SCORES: &str = "\
+score|1|1 refused 2\n| |1048577~\
+score|1|1 refused 1\n| |1048576~\
+score|0|1 black 0 white 0 unfinished\n|(;|349525|)|349525~\
+score|1|1 refused 1\n|(;|349525|)|349524~\
+score|1|1 refused 1\n|(;C[\\]|1~\
+score|1|1 refused 1\n|(;C[]])|1~\
+score|1|1 refused 14\n|(;B[aa] [bb])|1~\
+score|1|1 refused 11\n2 refused 11\n3 black 0 white 0 unfinished\n|(;SZ[20])|1|(;SZ[2:20])|1|(;SZ[+02])|1~\
+score|0|1 black 19 white 0 unfinished\n|(;SZ[19:1];B[sa])|1~\
+score|0|1 black 0 white 0 finished\n|(;SZ[1]|1|;PL[B];B[];W[]|1000|)|1~\
+score|1|1 refused 19\n|(;SZ[1]|1|;PL[B];B[];W[]|1000|;PL[B];B[]|1|)|1~\
+score|1|1 refused 18\n|(;SZ[1]|1|;PL[B];B[];W[]|1000|;B[]|1|)|1~\
+check|1|refused 2\n| |1048577~\
+check|1|refused 1\n| |1048576~\
+";
 
 /// Certificates of as many levels as may be read, and of one more.
-const DEEP: [Row; 6] = [
-    (
-        "check",
-        [(SPLIT, 1), ("killed ", 1), ("!--", 513), (".", 1), NONE],
-        "refused 31\n",
-        1,
-    ),
-    (
-        "check",
-        [(SPLIT, 1), ("killed ", 1), ("!--", 513), NONE, NONE],
-        "refused 31\n",
-        1,
-    ),
-    (
-        "check",
-        [(SPLIT, 1), ("killed ", 1), ("!--", 512), NONE, NONE],
-        "refused 30\n",
-        1,
-    ),
-    (
-        "check",
-        [(SPLIT, 1), ("killed ", 1), ("!--", 512), (".", 1), NONE],
-        "invalid\n",
-        1,
-    ),
-    (
-        "check",
-        [
-            (SPLIT, 1),
-            ("killed ", 1),
-            ("?--", 512),
-            (".", 1),
-            (";", 512),
-        ],
-        "invalid\n",
-        1,
-    ),
-    (
-        "check",
-        [
-            (SPLIT, 1),
-            ("killed ", 1),
-            ("?--", 513),
-            (".", 1),
-            (";", 513),
-        ],
-        "refused 31\n",
-        1,
-    ),
-];
+const DEEP: &str = "\
+check|1|refused 31\n|(;SZ[4:1]AW[ba][da]PL[B]TR[ba])|1|killed |1|!--|513|.|1~\
+check|1|refused 31\n|(;SZ[4:1]AW[ba][da]PL[B]TR[ba])|1|killed |1|!--|513~\
+check|1|refused 30\n|(;SZ[4:1]AW[ba][da]PL[B]TR[ba])|1|killed |1|!--|512~\
+check|1|invalid\n|(;SZ[4:1]AW[ba][da]PL[B]TR[ba])|1|killed |1|!--|512|.|1~\
+check|1|invalid\n|(;SZ[4:1]AW[ba][da]PL[B]TR[ba])|1|killed |1|?--|512|.|1|;|512~\
+check|1|refused 31\n|(;SZ[4:1]AW[ba][da]PL[B]TR[ba])|1|killed |1|?--|513|.|1|;|513~\
+";
 
-/// The text that the parts make.
-fn joined(alloc: Global, parts: &[Part]) -> Result<Vec<u8>, Fail> {
-    let mut text = Vec::new(alloc);
-    for (part, times) in parts {
-        for _ in 0..*times {
-            text.extend_from_slice(part.as_bytes())?;
-        }
-    }
-    Ok(text)
-}
-
-/// Fails unless each row's input has its answer and status.
-fn each_is_answered<X: Threads + Wait + Sync>(
-    rt: &X,
-    alloc: Global,
-    rows: &[Row],
-) -> Result<(), Fail> {
-    for place in 0..rows.len() {
-        let (word, parts, want, status) = rows[place];
-        let input = joined(alloc, parts.as_slice())?;
-        let (out, got) = answered(rt, alloc, &[word], input.as_slice())?;
-        if out.as_slice() != want.as_bytes() || got != status {
-            return Err(Fail::new(format_args!("row {place}: {word}")));
-        }
+/// Adds a part of an input so many times.
+fn put(text: &mut Vec<u8>, part: &[u8], times: usize) -> Result<(), Fail> {
+    for _ in 0..times {
+        text.extend_from_slice(part)?;
     }
     Ok(())
 }
 
+/// The text that the parts make.
+fn joined(alloc: Global, parts: &[u8]) -> Result<Vec<u8>, Fail> {
+    let mut text = Vec::new(alloc);
+    let mut rest = parts;
+    for _ in 0..parts.len() {
+        let (part, behind) = cut(rest, b'|');
+        let (times, behind) = cut(behind, b'|');
+        put(&mut text, part, number(times))?;
+        rest = behind;
+    }
+    Ok(text)
+}
+
+/// Whether a line of a table holds.
+fn row_holds<X: Threads + Wait + Sync>(rt: &X, alloc: Global, line: &[u8]) -> Result<bool, Fail> {
+    let (word, rest) = cut(line, b'|');
+    let (status, rest) = cut(rest, b'|');
+    let (want, parts) = cut(rest, b'|');
+    let input = joined(alloc, parts)?;
+    let word = from_utf8(word).unwrap_or("");
+    answers(rt, alloc, &[word], input.as_slice(), (want, status))
+}
+
+/// Fails unless each line of a table of so many holds.
+fn rows_hold<X: Threads + Wait + Sync>(
+    rt: &X,
+    alloc: Global,
+    table: &'static str,
+    count: u8,
+) -> Result<(), Fail> {
+    let mut rest = table.as_bytes();
+    for row in 0..count {
+        let (line, behind) = cut(rest, b'~');
+        if !row_holds(rt, alloc, line)? {
+            return Err(Fail::new(format_args!("row {row}")));
+        }
+        rest = behind;
+    }
+    if rest.is_empty() {
+        return Ok(());
+    }
+    Err(Fail::new("the table is longer"))
+}
+
 #[test]
 fn answers_records(rt: HostRuntime) -> Result<(), Fail> {
-    each_is_answered(&rt, rt.alloc(), SCORES.as_slice())
+    rows_hold(&rt, rt.alloc(), SCORES, 14)
 }
 
 #[test]
 fn answers_deep_certificates(rt: HostRuntime) -> Result<(), Fail> {
-    each_is_answered(&rt, rt.alloc(), DEEP.as_slice())
+    rows_hold(&rt, rt.alloc(), DEEP, 6)
+}
+
+/// Whether each proper beginning of a text behind another one is answered so.
+fn beginnings_end<X: Threads + Wait + Sync>(
+    rt: &X,
+    alloc: Global,
+    word: &str,
+    (before, text): (&[u8], &[u8]),
+    want: &[u8],
+) -> Result<bool, Fail> {
+    for end in 0..text.len() {
+        let mut input = Vec::new(alloc);
+        input.extend_from_slice(before)?;
+        input.extend_from_slice(&text[..end])?;
+        if !answers(rt, alloc, &[word], input.as_slice(), (want, b"1"))? {
+            return Ok(false);
+        }
+    }
+    Ok(true)
 }
 
 /// No proper beginning of a tree's text is one.
 #[test]
 fn refuses_beginnings(rt: HostRuntime) -> Result<(), Fail> {
     let alloc = rt.alloc();
-    for text in [
-        "(;SZ[3:1](;B[aa])(;B[ba]))",
-        "(;C[a\\]b]GaMe[1]SiZe[1]X2[])",
-    ] {
-        let bytes = text.as_bytes();
-        for end in 0..bytes.len() {
-            let (out, status) = answered(&rt, alloc, &["score"], &bytes[..end])?;
-            assert!(&rt;
-                out.as_slice() == b"1 refused 1\n".as_slice() && status == 1,
-                "the first {end} bytes of {text}"
-            );
-        }
-    }
+    let variations = (b"".as_slice(), b"(;SZ[3:1](;B[aa])(;B[ba]))".as_slice());
+    assert!(&rt; beginnings_end(&rt, alloc, "score", variations, b"1 refused 1\n")?);
+    let names = (b"".as_slice(), b"(;C[a\\]b]GaMe[1]SiZe[1]X2[])".as_slice());
+    assert!(&rt; beginnings_end(&rt, alloc, "score", names, b"1 refused 1\n")?);
     Ok(())
 }
 
 /// Nor is one of a certificate's.
 #[test]
 fn refuses_beginnings_of_a_certificate(rt: HostRuntime) -> Result<(), Fail> {
-    let alloc = rt.alloc();
-    let certificate = b"killed !ca?aa.--!aa.;".as_slice();
-    for end in 0..certificate.len() {
-        let mut input = Vec::new(alloc);
-        input.extend_from_slice(SPLIT.as_bytes())?;
-        input.extend_from_slice(&certificate[..end])?;
-        let (out, status) = answered(&rt, alloc, &["check"], input.as_slice())?;
-        assert!(&rt;
-            out.as_slice() == b"refused 30\n".as_slice() && status == 1,
-            "the first {end} bytes"
-        );
-    }
+    let certificate = (SPLIT, b"killed !ca?aa.--!aa.;".as_slice());
+    assert!(&rt; beginnings_end(&rt, rt.alloc(), "check", certificate, b"refused 30\n")?);
     Ok(())
 }

@@ -13,6 +13,8 @@ mod options;
 mod outcome;
 mod request;
 #[cfg(test)]
+mod rows;
+#[cfg(test)]
 mod solve_tests;
 mod solving;
 mod task;
