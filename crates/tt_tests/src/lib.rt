@@ -12,6 +12,7 @@
 //! | `search_tests`, `trace_tests`, `trace_tables` | `tt_search`: searches, their traces, and tables of these |
 //! | `store_tests` | `tt_search`: searches over stores that are full, refuse or are refused |
 //! | `grants_tests` | `tt_search`: searches whose expansions are granted |
+//! | `text_tables` | tables of texts: trees and values |
 //! | `rows`, `drawings` | how a table is read that is one text, and boards that are drawn in one |
 
 #![tactic(auto)]
@@ -44,6 +45,8 @@ mod search_tests;
 mod sgf_tests;
 #[cfg(test)]
 mod store_tests;
+#[cfg(test)]
+mod text_tables;
 #[cfg(test)]
 mod trace_tables;
 #[cfg(test)]

@@ -1,9 +1,10 @@
 //! Texts and values whose readings come from the format itself, and not from this reader.
 
+use crate::rows::{Table, cut, holding, short_number};
+use crate::{rows, text_tables as tables};
 use std::alloc::{AllocError, Global};
-use std::test::Fail;
 use tt_sgf::{
-    BadPoint, Point, PointOrPass, PointSet, SgfFault, Size, board_size, has_tree, number, point,
+    BadPoint, PointOrPass, PointSet, SgfFault, Size, board_size, has_tree, number, point,
     point_set, read_tree, skip_blanks,
 };
 
@@ -13,75 +14,68 @@ fn shape(alloc: Global, bytes: &[u8]) -> Result<(usize, usize), SgfFault> {
     Ok((line.nodes.as_slice().len(), count))
 }
 
-const NONE: Result<(usize, usize), SgfFault> = Err(SgfFault::Syntax);
+/// Whether a tree's shape is as it is written.
+fn has_shape(alloc: Global, bytes: &[u8], want: &[u8]) -> bool {
+    match shape(alloc, bytes) {
+        Ok((nodes, count)) => {
+            let (first, second) = cut(want, b' ');
+            nodes == rows::number(first) as usize && count == rows::number(second) as usize
+        }
+        Err(SgfFault::Syntax) => want == b"syntax".as_slice(),
+        Err(SgfFault::TooLong) => want == b"too long".as_slice(),
+        Err(SgfFault::NoMemory) => false,
+    }
+}
+
+struct TreeTable;
+
+impl Table for TreeTable {
+    fn holds(alloc: Global, line: &[u8]) -> bool {
+        let (want, text) = cut(line, b'|');
+        has_shape(alloc, text, want)
+    }
+}
 
 #[test]
 fn trees(rt: HostRuntime) {
-    let table: [(&str, Result<(usize, usize), SgfFault>); 22] = [
-        ("(;GM[1]FF[4]SZ[2];B[aa];W[];B[])", Ok((4, 32))),
-        ("(;SZ[3:1](;B[aa])(;B[ba]))", Ok((2, 26))),
-        ("x(;SZ[2:1]AB[ba:aa])", Ok((1, 20))),
-        ("(;C[a\\]b]GaMe[1]SiZe[1]X2[])", Ok((1, 28))),
-        ("(;SZ[1])(;SZ[1];B[aa])(;SZ[0])", Ok((1, 8))),
-        ("\u{feff}(;\n)", Ok((1, 7))),
-        ("x(;\x0b\x0c;\x0b\x0c;\n\n ) ", Ok((3, 13))),
-        ("(;\x0b\x0c; \n)y", Ok((2, 8))),
-        ("(;(\x0b\x0c;)\t\r)y", Ok((2, 10))),
-        ("", NONE),
-        ("(;GM[1]", NONE),
-        ("(;C[\\]", NONE),
-        ("(;C[]])", NONE),
-        ("() ", NONE),
-        ("(\n \\()A", NONE),
-        ("(;A\r\n\x0b\x0c)y", NONE),
-        ("x( ;a\x0b\x0c\x0b\x0c;  ) ", NONE),
-        ("(; \x0b\x0c; (\n; ;SiZe\x0b\x0c[ b[] B2[a]\n[])(;)", NONE),
-        ("\u{feff}(\x0b\x0c;b[b]\nb[)(]\n\t\r)", NONE),
-        ("(;A[1](;B[aa]);C[2])", NONE),
-        ("x;\x0b\x0c;C[]\x0b;)", NONE),
-        ("B)[Aa(B(1", NONE),
-    ];
-    for (text, want) in table {
-        let found = shape(rt.alloc(), text.as_bytes());
-        assert!(&rt; found == want, "{text:?}");
-    }
+    assert_eq!(&rt; holding::<TreeTable>(rt.alloc(), tables::TREES, b'~'), 22);
     assert!(&rt; has_tree(b"a("));
     assert!(&rt; !has_tree(b"a)"));
 }
 
-/// So many blanks, or so many times `(;` and as many `)`.
-fn long(alloc: Global, blanks: usize, trees: usize) -> Result<Vec<u8>, AllocError> {
+/// Adds a text so many times.
+fn put(text: &mut Vec<u8>, part: &[u8], times: usize) -> Result<(), AllocError> {
+    for _ in 0..times {
+        text.extend_from_slice(part)?;
+    }
+    Ok(())
+}
+
+/// So many blanks, and so many times `(;` and as many `)`, but for a number of these.
+fn long(alloc: Global, blanks: usize, trees: usize, open: usize) -> Result<Vec<u8>, AllocError> {
     let mut text = Vec::new(alloc);
-    for _ in 0..blanks {
-        text.push(b' ')?;
-    }
-    for _ in 0..trees {
-        text.push(b'(')?;
-        text.push(b';')?;
-    }
-    for _ in 0..trees {
-        text.push(b')')?;
-    }
+    put(&mut text, b" ", blanks)?;
+    put(&mut text, b"(;", trees)?;
+    put(&mut text, b")", trees.saturating_sub(open))?;
     Ok(text)
 }
 
-#[test]
-fn limits(rt: HostRuntime) -> Result<(), Fail> {
-    let alloc = rt.alloc();
-    let table = [
-        (1_048_577, 0, Err(SgfFault::TooLong)),
-        (1_048_576, 0, NONE),
-        (0, 349_525, Ok((349_525, 1_048_575))),
-        (2, 349_525, Err(SgfFault::TooLong)),
-    ];
-    for (blanks, trees, want) in table {
-        let found = shape(alloc, &long(alloc, blanks, trees)?);
-        assert!(&rt; found == want, "{blanks} blanks, {trees} trees");
+/// Whether such a text's shape is as it is written.
+fn is_read(alloc: Global, blanks: usize, trees: usize, open: usize, want: &[u8]) -> bool {
+    match long(alloc, blanks, trees, open) {
+        Ok(text) => has_shape(alloc, &text, want),
+        Err(AllocError) => false,
     }
-    let mut cut = long(alloc, 0, 349_525)?;
-    cut.pop();
-    assert!(&rt; shape(alloc, &cut) == NONE, "a tree that isn't closed");
-    Ok(())
+}
+
+#[test]
+fn limits(rt: HostRuntime) {
+    let alloc = rt.alloc();
+    assert!(&rt; is_read(alloc, 1_048_577, 0, 0, b"too long"));
+    assert!(&rt; is_read(alloc, 1_048_576, 0, 0, b"syntax"));
+    assert!(&rt; is_read(alloc, 0, 349_525, 0, b"349525 1048575"));
+    assert!(&rt; is_read(alloc, 2, 349_525, 0, b"too long"));
+    assert!(&rt; is_read(alloc, 0, 349_525, 1, b"syntax"));
 }
 
 /// The names of the first node's properties, and whether they are these.
@@ -112,100 +106,122 @@ fn names(rt: HostRuntime) {
     );
 }
 
+/// What stands in the tables where nothing comes of a text.
+const NONE: &[u8] = b"none";
+
+struct NumberTable;
+
+impl Table for NumberTable {
+    fn holds(_: Global, line: &[u8]) -> bool {
+        let (want, text) = cut(line, b'|');
+        match number(text) {
+            Some(found) => want != NONE && rows::number(want) == u32::from(found),
+            None => want == NONE,
+        }
+    }
+}
+
 #[test]
 fn numbers(rt: HostRuntime) {
-    let table: [(&str, Option<u16>); 9] = [
-        (" +0019\n", Some(19)),
-        ("0", Some(0)),
-        ("65535", Some(65_535)),
-        ("65536", None),
-        ("", None),
-        ("+", None),
-        ("-1", None),
-        ("1 2", None),
-        ("\\1", None),
-    ];
-    for (text, want) in table {
-        assert!(&rt; number(text.as_bytes()) == want, "{text:?}");
+    assert_eq!(&rt;
+        holding::<NumberTable>(rt.alloc(), tables::NUMBERS, b'~'),
+        9
+    );
+}
+
+struct SizeTable;
+
+impl Table for SizeTable {
+    fn holds(_: Global, line: &[u8]) -> bool {
+        let (want, text) = cut(line, b'|');
+        let (columns, rows) = cut(want, b' ');
+        match board_size(text) {
+            Some(found) => {
+                found.columns() == short_number(columns) && found.rows() == short_number(rows)
+            }
+            None => want == NONE,
+        }
     }
 }
 
 #[test]
 fn sizes(rt: HostRuntime) {
-    let table: [(&str, Option<Size>); 10] = [
-        ("19", Size::new(19, 19)),
-        ("+02", Size::new(2, 2)),
-        (" 3:1 ", Size::new(3, 1)),
-        ("+2:003", Size::new(2, 3)),
-        ("4:4", Size::new(4, 4)),
-        ("20", None),
-        ("2:20", None),
-        ("0", None),
-        ("2 :3", None),
-        ("2:3:4", None),
-    ];
-    for (text, want) in table {
-        assert!(&rt; board_size(text.as_bytes()) == want, "{text:?}");
-    }
+    assert_eq!(&rt; holding::<SizeTable>(rt.alloc(), tables::SIZES, b'~'), 10);
 }
 
-/// A board of one row of 19 points.
-fn row() -> Result<Size, Fail> {
-    match Size::new(19, 1) {
-        Some(size) => Ok(size),
-        None => Err(Fail::new("no size")),
+/// The point or the pass that is written in the table, on a row.
+fn written(row: Size, want: &[u8]) -> Option<PointOrPass> {
+    if want == b"pass".as_slice() {
+        return Some(PointOrPass::Pass);
+    }
+    if want == NONE {
+        return None;
+    }
+    row.point(short_number(want)).map(PointOrPass::On)
+}
+
+struct PointTable;
+
+impl Table for PointTable {
+    fn holds(_: Global, line: &[u8]) -> bool {
+        let (want, text) = cut(line, b'|');
+        match Size::new(19, 1) {
+            Some(row) => point(text, row) == written(row, want),
+            None => false,
+        }
     }
 }
 
 #[test]
-fn points(rt: HostRuntime) -> Result<(), Fail> {
-    let size = row()?;
-    let table: [(&str, Option<PointOrPass>); 7] = [
-        ("sa", size.point(18).map(PointOrPass::On)),
-        ("\taa ", size.point(0).map(PointOrPass::On)),
-        (" tt ", Some(PointOrPass::Pass)),
-        ("", Some(PointOrPass::Pass)),
-        ("ab", None),
-        ("Aa", None),
-        ("ta", None),
-    ];
-    for (text, want) in table {
-        assert!(&rt; point(text.as_bytes(), size) == want, "{text:?}");
-    }
-    Ok(())
+fn points(rt: HostRuntime) {
+    assert_eq!(&rt; holding::<PointTable>(rt.alloc(), tables::POINTS, b'~'), 7);
 }
 
-/// How many points the first property of the first node names, and the least of them.
-fn named(
-    alloc: Global,
-    bytes: &[u8],
-    size: Size,
-) -> Option<Result<(u16, Option<Point>), BadPoint>> {
-    let Ok((line, _)) = read_tree(alloc, bytes) else {
-        return None;
-    };
+/// The points that the first property of the first node names.
+fn named(alloc: Global, bytes: &[u8], size: Size) -> Option<Result<PointSet, BadPoint>> {
+    let (line, _) = read_tree(alloc, bytes).ok()?;
     let node = line.nodes.as_slice().first()?;
     let property = node.properties.as_slice().first()?;
-    Some(point_set(property.values.as_slice(), size).map(|s| (s.count(), s.least())))
+    Some(point_set(property.values.as_slice(), size))
+}
+
+/// Whether a set has so many points and such a least one.
+fn has_points(points: &PointSet, want: &[u8]) -> bool {
+    let (count, least) = cut(want, b' ');
+    match points.least() {
+        Some(p) => points.count() == short_number(count) && p.number() == short_number(least),
+        None => false,
+    }
+}
+
+struct ListTable;
+
+impl Table for ListTable {
+    fn holds(alloc: Global, line: &[u8]) -> bool {
+        let (want, text) = cut(line, b'|');
+        let Some(row) = Size::new(19, 1) else {
+            return false;
+        };
+        match named(alloc, text, row) {
+            Some(Ok(points)) => want != BAD && has_points(&points, want),
+            Some(Err(BadPoint)) => want == BAD,
+            None => false,
+        }
+    }
+}
+
+/// What stands in the table where a value is no point.
+const BAD: &[u8] = b"bad";
+
+/// How many points a board of one row of 19 points has, all of them in a set.
+fn whole_row() -> Option<u16> {
+    Some(PointSet::whole(Size::new(19, 1)?).count())
 }
 
 #[test]
-fn lists(rt: HostRuntime) -> Result<(), Fail> {
-    let alloc = rt.alloc();
-    let size = row()?;
-    let table: [(&str, Option<Result<(u16, Option<Point>), BadPoint>>); 6] = [
-        ("(;AB[ba:aa])", Some(Ok((2, size.point(0))))),
-        ("(;SQ[da:ba][ba][ea])", Some(Ok((4, size.point(1))))),
-        ("(;SQ[ca:ca])", Some(Ok((1, size.point(2))))),
-        ("(;SQ[tt])", Some(Err(BadPoint))),
-        ("(;SQ[aa][])", Some(Err(BadPoint))),
-        ("(;SQ[aa:ab])", Some(Err(BadPoint))),
-    ];
-    for (text, want) in table {
-        assert!(&rt; named(alloc, text.as_bytes(), size) == want, "{text}");
-    }
-    assert!(&rt; PointSet::whole(size).count() == 19, "the whole board");
-    Ok(())
+fn lists(rt: HostRuntime) {
+    assert_eq!(&rt; holding::<ListTable>(rt.alloc(), tables::LISTS, b'~'), 6);
+    assert!(&rt; whole_row() == Some(19));
 }
 
 #[test]
