@@ -98,7 +98,7 @@ pub record ChainBoard : Type 0 where
   pub liberties : List ℕ
   pub end : ℕ
 
--- each stone reaches empty, the names name the chains, and their counts are true
+-- each stone reaches empty and stands before the end, the names name the chains, and their counts are true
 pub record IsChainBoard (b : ChainBoard) : Type 0 where
   pub fits : length b.points ≡ point_count b.size
   pub wide : (length b.names ≡ 361) × (length b.stones ≡ 361) × (length b.liberties ≡ 361)

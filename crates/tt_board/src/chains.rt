@@ -33,7 +33,7 @@ struct ChainCounts {
     liberties: [u16; 361],
 }
 
-/// A size, a colouring of its points in which each stone reaches empty, and its chains with their counts.
+/// A size, a colouring of its points in which each stone reaches empty, and its chains with their counts. Its stones stand before `end`.
 #[derive(Drop)]
 pub(crate) struct Chains {
     size: Size,
