@@ -3,14 +3,16 @@
 
 ghost use Rattle.std.specs.Prelude.{◌≡◌, ◌+◌, ◌≤◌};
 
+use super::common::{SPLIT, certificate, posed, searched, verdict, want};
+use super::rows::{cut, number, short_number};
 use std::alloc::Global;
-use std::process::Abort;
+use std::str::from_utf8;
 use std::sync::Arc;
 use std::test::Fail;
-use tt_game::{Line, Side, Turn, problem};
-use tt_proof::{Proof, put_turn, write_cert};
-use tt_search::{Kept, Limits, NoStore, PrivateStore, Reason, Store};
-use tt_sgf::{NoMemory, Size, read_tree};
+use tt_game::{Line, Side};
+use tt_proof::Proof;
+use tt_search::{Kept, Limits, NoStore, PrivateStore, Store};
+use tt_sgf::NoMemory;
 use tt_share::{Answer, solve_one};
 
 /// A store with room for a hundred proofs, which answers none: it refuses to keep any, or forgets them at once.
@@ -52,67 +54,47 @@ impl Store for Empty {
     }
 }
 
-/// The line of a problem at which nobody has won.
-pub(crate) fn posed(alloc: Global, text: &[u8]) -> Result<Line, Fail> {
-    let (line, _) = read_tree(alloc, text)?;
-    let line = problem(alloc, &line)?;
-    Ok(line)
-}
-
-/// Writes a space and the turn.
-pub(crate) fn put_first(out: &mut Vec<u8>, size: Size, first: &Option<Turn>) -> Result<(), Fail> {
-    match first {
-        None => Ok(()),
-        Some(Turn::Pass) => Ok(out.extend_from_slice(b" pass")?),
-        Some(Turn::Play(p)) => {
-            if !size.holds(*p) {
-                return Err(Fail::new("no point of the board"));
-            }
-            out.push(b' ')?;
-            Ok(put_turn(out, Turn::Play(*p), size)?)
-        }
+/// A store that keeps so many proofs.
+fn bounded(alloc: Global, capacity: usize) -> Result<PrivateStore, Fail> {
+    match PrivateStore::bounded(alloc, capacity) {
+        Some(store) => Ok(store),
+        None => Err(Fail::new("too great a capacity")),
     }
 }
 
-/// The word for why a search is stuck.
-fn word_of(reason: Reason) -> &'static [u8] {
-    match reason {
-        Reason::Budget => b"budget",
-        Reason::Depth => b"depth",
-        Reason::Total => b"total",
-        Reason::Memory => b"memory",
-    }
+/// The line of a table: a problem, its limits, the verdict with the first turn, and the certificate where one is asked for.
+#[derive(Clone, Copy)]
+struct Row<'a> {
+    problem: &'a [u8],
+    budget: u32,
+    depth: u16,
+    verdict: &'a [u8],
+    certificate: &'a [u8],
 }
 
-/// Writes the verdict of an answer and the first turn.
-fn put_verdict(out: &mut Vec<u8>, size: Size, answer: &Answer) -> Result<(), Fail> {
-    match answer {
-        Answer::Settled { proof, first } => {
-            match proof.side() {
-                Side::Attacker => out.extend_from_slice(b"killed")?,
-                Side::Defender => out.extend_from_slice(b"lives")?,
-            }
-            put_first(out, size, first)
-        }
-        Answer::Unsettled(stuck) => Ok(out.extend_from_slice(word_of(stuck.reason))?),
+/// The line of a table, in which a bar ends each part but the last.
+fn row_of(line: &[u8]) -> Row<'_> {
+    let (problem, rest) = cut(line, b'|');
+    let (budget, rest) = cut(rest, b'|');
+    let (depth, rest) = cut(rest, b'|');
+    let (verdict, certificate) = cut(rest, b'|');
+    Row {
+        problem,
+        budget: number(budget),
+        depth: short_number(depth),
+        verdict,
+        certificate,
     }
-}
-
-/// The verdict of an answer and the first turn.
-pub(crate) fn verdict(alloc: Global, line: &Line, answer: Answer) -> Result<Vec<u8>, Fail> {
-    let mut out = Vec::new(alloc);
-    put_verdict(&mut out, line.frame().size, &answer)?;
-    Ok(out)
 }
 
 /// The answer to a line.
 fn answered<S: Store>(
     alloc: Global,
     line: &Line,
-    limits: (u32, u16),
+    budget: u32,
+    depth: u16,
     store: &mut S,
 ) -> Result<Answer, Fail> {
-    let (budget, depth) = limits;
     let Some(limits) = Limits::new(budget, depth) else {
         return Err(Fail::new("no limits"));
     };
@@ -122,259 +104,272 @@ fn answered<S: Store>(
     Ok(solve_one(alloc, line, &limits, store))
 }
 
-/// The answer to a problem: the verdict and the first turn.
-pub(crate) fn solved<S: Store>(
-    alloc: Global,
-    text: &[u8],
-    limits: (u32, u16),
-    store: &mut S,
-) -> Result<Vec<u8>, Fail> {
-    let line = posed(alloc, text)?;
-    let answer = answered(alloc, &line, limits, store)?;
-    verdict(alloc, &line, answer)
-}
-
-/// The certificate of an answer that is settled.
-fn certificate(alloc: Global, line: &Line, answer: &Answer) -> Result<Vec<u8>, Fail> {
-    let Answer::Settled { proof, first: _ } = answer else {
-        return Err(Fail::new("unsettled"));
-    };
-    if !proof.stands_at(line) {
-        return Err(Fail::new("not at the line"));
+/// Whether an answer is that of the row.
+fn is_wanted(alloc: Global, line: &Line, answer: &Answer, row: Row<'_>) -> Result<bool, Fail> {
+    if verdict(alloc, line, answer)?.as_slice() != row.verdict {
+        return Ok(false);
     }
-    Ok(write_cert(alloc, proof.side(), proof.tree(), line.frame().size)?)
-}
-
-/// The certificate of a problem that is settled.
-fn certified<S: Store>(alloc: Global, text: &[u8], store: &mut S) -> Result<Vec<u8>, Fail> {
-    let line = posed(alloc, text)?;
-    let answer = answered(alloc, &line, (100_000, 512), store)?;
-    certificate(alloc, &line, &answer)
-}
-
-/// A store that keeps so many proofs.
-fn bounded(alloc: Global, capacity: usize) -> Result<PrivateStore, Fail> {
-    match PrivateStore::bounded(alloc, capacity) {
-        Some(store) => Ok(store),
-        None => Err(Fail::new("too great a capacity")),
+    if row.certificate.is_empty() {
+        return Ok(true);
     }
+    Ok(certificate(alloc, line, answer)?.as_slice() == row.certificate)
 }
 
 /// Whether a problem has this answer over a store.
-fn is_solved<S: Store>(
-    alloc: Global,
-    text: &[u8],
-    limits: (u32, u16),
-    want: &[u8],
-    store: &mut S,
-) -> Result<bool, Fail> {
-    Ok(solved(alloc, text, limits, store)?.as_slice() == want)
+fn is_solved<S: Store>(alloc: Global, row: Row<'_>, store: &mut S) -> Result<bool, Fail> {
+    let line = posed(alloc, row.problem)?;
+    let answer = answered(alloc, &line, row.budget, row.depth, store)?;
+    is_wanted(alloc, &line, &answer, row)
 }
 
 /// Whether a problem has this answer over a store that refuses or forgets what it is to keep.
-fn is_solved_over_empty_store(
-    alloc: Global,
-    text: &[u8],
-    limits: (u32, u16),
-    want: &[u8],
-    refuses: bool,
-) -> Result<bool, Fail> {
+fn is_solved_over_empty_store(alloc: Global, row: Row<'_>, refuses: bool) -> Result<bool, Fail> {
     let mut store = Empty { refuses, kept: 0 };
-    is_solved(alloc, text, limits, want, &mut store)
+    is_solved(alloc, row, &mut store)
 }
 
 /// Whether a problem has this answer over a store of its own that keeps so many proofs at most.
-fn is_solved_over_small_store(
-    alloc: Global,
-    text: &[u8],
-    limits: (u32, u16),
-    want: &[u8],
-    capacity: usize,
-) -> Result<bool, Fail> {
+fn is_solved_over_small_store(alloc: Global, row: Row<'_>, capacity: usize) -> Result<bool, Fail> {
     let mut store = bounded(alloc, capacity)?;
-    is_solved(alloc, text, limits, want, &mut store)
+    is_solved(alloc, row, &mut store)
+}
+
+/// Fails with the problem and the store where the answer isn't so.
+fn over(so: bool, row: Row<'_>, store: &str) -> Result<(), Fail> {
+    if so {
+        return Ok(());
+    }
+    let text = from_utf8(row.problem).unwrap_or("a problem");
+    Err(Fail::new(format_args!("{text}, {store}")))
 }
 
 /// Fails unless a problem has this answer over each kind of store.
-fn has_answer(
-    rt: &impl Abort,
-    alloc: Global,
-    problem: &str,
-    limits: (u32, u16),
-    want: &[u8],
-) -> Result<(), Fail> {
-    let text = problem.as_bytes();
-    let (budget, depth) = limits;
-    let found = is_solved(alloc, text, limits, want, &mut NoStore)?;
-    assert!(rt; found, "{problem} {budget} {depth}, without a store");
-    for refuses in [true, false] {
-        let found = is_solved_over_empty_store(alloc, text, limits, want, refuses)?;
-        assert!(rt; found, "{problem} {budget} {depth}, refused: {refuses}");
-    }
-    for capacity in [0usize, 1, 2, 4096] {
-        let found = is_solved_over_small_store(alloc, text, limits, want, capacity)?;
-        assert!(rt; found, "{problem} {budget} {depth}, room for {capacity}");
-    }
-    Ok(())
+fn has_answer(alloc: Global, row: Row<'_>) -> Result<(), Fail> {
+    over(is_solved(alloc, row, &mut NoStore)?, row, "without a store")?;
+    over(
+        is_solved_over_empty_store(alloc, row, true)?,
+        row,
+        "refused",
+    )?;
+    over(
+        is_solved_over_empty_store(alloc, row, false)?,
+        row,
+        "forgotten",
+    )?;
+    over(
+        is_solved_over_small_store(alloc, row, 0)?,
+        row,
+        "room for 0",
+    )?;
+    over(
+        is_solved_over_small_store(alloc, row, 1)?,
+        row,
+        "room for 1",
+    )?;
+    over(
+        is_solved_over_small_store(alloc, row, 2)?,
+        row,
+        "room for 2",
+    )?;
+    over(
+        is_solved_over_small_store(alloc, row, 4096)?,
+        row,
+        "room for 4096",
+    )
 }
+
+/// Fails unless the lines of a table are so over each kind of store.
+fn hold(alloc: Global, table: &'static str, count: u8) -> Result<(), Fail> {
+    let mut rest = table.as_bytes();
+    for _ in 0..count {
+        let (line, behind) = cut(rest, b'\n');
+        has_answer(alloc, row_of(line))?;
+        rest = behind;
+    }
+    want(rest.is_empty(), "the table is longer")
+}
+
+const VERDICTS: &str = "\
+(;SZ[2:1]AW[ba]PL[B]TR[ba])|100000|512|killed aa
+(;SZ[2:1]AW[ba]PL[W]TR[ba])|100000|512|killed
+(;SZ[3:1]AW[ba]PL[W]TR[ba])|100000|512|lives pass
+(;SZ[4:1]AW[ba]PL[B]TR[ba])|100000|512|lives
+(;SZ[4:1]AW[ba]PL[B]TR[ba]SQ[aa][ca])|100000|512|killed ca
+(;SZ[4:1]AW[ba]PL[B]TR[ba]SQ[aa:da])|100000|512|lives
+(;SZ[4:1]AW[ba][da]PL[B]TR[ba])|100000|512|killed ca
+(;SZ[4:1]AW[ba];B[ca];W[da]TR[ba])|100000|512|lives
+(;SZ[4:1]AW[ba]PL[B]TR[ba])|1|512|budget ca
+(;SZ[4:1]AW[ba]PL[B]TR[ba])|100000|1|depth ca
+(;SZ[4:1]AB[ba]AW[ca]PL[B]TR[ca])|1|512|killed da
+";
 
 #[test]
 fn verdicts_over_each_store(rt: HostRuntime) -> Result<(), Fail> {
-    let alloc = rt.alloc();
-    let table: [(&str, u32, u16, &[u8]); 11] = [
-        ("(;SZ[2:1]AW[ba]PL[B]TR[ba])", 100_000, 512, b"killed aa"),
-        ("(;SZ[2:1]AW[ba]PL[W]TR[ba])", 100_000, 512, b"killed"),
-        ("(;SZ[3:1]AW[ba]PL[W]TR[ba])", 100_000, 512, b"lives pass"),
-        ("(;SZ[4:1]AW[ba]PL[B]TR[ba])", 100_000, 512, b"lives"),
-        (
-            "(;SZ[4:1]AW[ba]PL[B]TR[ba]SQ[aa][ca])",
-            100_000,
-            512,
-            b"killed ca",
-        ),
-        (
-            "(;SZ[4:1]AW[ba]PL[B]TR[ba]SQ[aa:da])",
-            100_000,
-            512,
-            b"lives",
-        ),
-        (
-            "(;SZ[4:1]AW[ba][da]PL[B]TR[ba])",
-            100_000,
-            512,
-            b"killed ca",
-        ),
-        ("(;SZ[4:1]AW[ba];B[ca];W[da]TR[ba])", 100_000, 512, b"lives"),
-        ("(;SZ[4:1]AW[ba]PL[B]TR[ba])", 1, 512, b"budget"),
-        ("(;SZ[4:1]AW[ba]PL[B]TR[ba])", 100_000, 1, b"depth"),
-        ("(;SZ[4:1]AB[ba]AW[ca]PL[B]TR[ca])", 1, 512, b"killed da"),
-    ];
-    for (problem, budget, depth, want) in table {
-        has_answer(&rt, alloc, problem, (budget, depth), want)?;
-    }
-    Ok(())
+    hold(rt.alloc(), VERDICTS, 11)
 }
 
 /// Problems whose verdicts turn where a kept proof is used with no replay.
+const BY_HISTORY: &str = "\
+(;SZ[5:1]AW[aa];B[ca]TR[ca])|100000|512|killed da
+(;SZ[7:1];B[ga];W[ea];B[ba]TR[ea])|100000|512|killed
+";
+
 #[test]
 fn verdicts_by_history(rt: HostRuntime) -> Result<(), Fail> {
-    let alloc = rt.alloc();
-    let table: [(&str, &[u8]); 2] = [
-        ("(;SZ[5:1]AW[aa];B[ca]TR[ca])", b"killed da"),
-        ("(;SZ[7:1];B[ga];W[ea];B[ba]TR[ea])", b"killed"),
-    ];
-    for (problem, want) in table {
-        has_answer(&rt, alloc, problem, (100_000, 512), want)?;
-    }
-    Ok(())
+    hold(rt.alloc(), BY_HISTORY, 2)
 }
 
-/// Whether a problem has this certificate over a store.
-fn is_certified<S: Store>(
-    alloc: Global,
-    text: &[u8],
-    want: &[u8],
-    store: &mut S,
-) -> Result<bool, Fail> {
-    Ok(certified(alloc, text, store)?.as_slice() == want)
-}
-
-/// Whether a problem has this certificate over a store that refuses or forgets what it is to keep.
-fn is_certified_over_empty_store(
-    alloc: Global,
-    text: &[u8],
-    want: &[u8],
-    refuses: bool,
-) -> Result<bool, Fail> {
-    let mut store = Empty { refuses, kept: 0 };
-    is_certified(alloc, text, want, &mut store)
-}
-
-/// Whether a problem has this certificate over a store of its own that keeps so many proofs at most.
-fn is_certified_over_small_store(
-    alloc: Global,
-    text: &[u8],
-    want: &[u8],
-    capacity: usize,
-) -> Result<bool, Fail> {
-    let mut store = bounded(alloc, capacity)?;
-    is_certified(alloc, text, want, &mut store)
-}
-
-/// Fails unless a problem has this certificate over each kind of store.
-fn has_certificate(rt: &impl Abort, alloc: Global, problem: &str, want: &[u8]) -> Result<(), Fail> {
-    let text = problem.as_bytes();
-    let found = is_certified(alloc, text, want, &mut NoStore)?;
-    assert!(rt; found, "{problem}, without a store");
-    for refuses in [true, false] {
-        let found = is_certified_over_empty_store(alloc, text, want, refuses)?;
-        assert!(rt; found, "{problem}, refused: {refuses}");
-    }
-    for capacity in [0usize, 1, 2, 4096] {
-        let found = is_certified_over_small_store(alloc, text, want, capacity)?;
-        assert!(rt; found, "{problem}, room for {capacity}");
-    }
-    Ok(())
-}
+const CERTIFICATES: &str = "\
+(;SZ[4:1]AW[ba][da]PL[B]TR[ba])|100000|512|killed ca|killed !ca?aa.--!aa.;
+(;SZ[4:1]AW[ba];B[ca];W[da]TR[ba])|100000|512|lives|lives ?--!--.;
+";
 
 #[test]
 fn certificates(rt: HostRuntime) -> Result<(), Fail> {
-    let alloc = rt.alloc();
-    let table: [(&str, &[u8]); 2] = [
-        ("(;SZ[4:1]AW[ba][da]PL[B]TR[ba])", b"killed !ca?aa.--!aa.;"),
-        ("(;SZ[4:1]AW[ba];B[ca];W[da]TR[ba])", b"lives ?--!--.;"),
-    ];
-    for (problem, want) in table {
-        has_certificate(&rt, alloc, problem, want)?;
-    }
-    Ok(())
+    hold(rt.alloc(), CERTIFICATES, 2)
+}
+
+/// Whether the line of a table is so over a store.
+fn is_so(alloc: Global, line: &str, store: &mut PrivateStore) -> Result<bool, Fail> {
+    is_solved(alloc, row_of(line.as_bytes()), store)
 }
 
 /// A longer certificate. What a store has may shorten its like, so it is that of the usual store.
+const LONGER: &str =
+    "(;SZ[5:1]AW[aa];B[ca]TR[ca])|100000|512|killed da|killed !da?ba!aa.ea!ba?aa!ba?da.--!da.;ba!da?aa.--!aa.;da!ba.--!ba?aa!da?ba.--!ba.;da.--!da.;;--!ba.;";
+
 #[test]
 fn longer_certificate(rt: HostRuntime) -> Result<(), Fail> {
     let alloc = rt.alloc();
-    let want =
-        b"killed !da?ba!aa.ea!ba?aa!ba?da.--!da.;ba!da?aa.--!aa.;da!ba.--!ba?aa!da?ba.--!ba.;da.--!da.;;--!ba.;";
-    let mut store = PrivateStore::new(alloc);
-    let problem = b"(;SZ[5:1]AW[aa];B[ca]TR[ca])";
-    assert!(&rt; is_certified(alloc, problem, want, &mut store)?);
-    Ok(())
+    want(
+        is_so(alloc, LONGER, &mut PrivateStore::new(alloc))?,
+        "another answer",
+    )
 }
+
+const KILLED: &str = "(;SZ[4:1]AW[ba][da]PL[B]TR[ba])|100000|512|killed ca|killed !ca?aa.--!aa.;";
+
+const LIVES: &str = "(;SZ[4:1]AW[ba];B[ca];W[da]TR[ba])|100000|512|lives|lives ?--!--.;";
 
 /// Whether the attacker's proof that a store has for a problem stands there.
 fn found_stands(alloc: Global, text: &[u8], store: &mut PrivateStore) -> Result<bool, Fail> {
     let line = posed(alloc, text)?;
     match store.find(&line, Side::Attacker)? {
         Some(found) => Ok(found.stands_at(&line)),
-        None => Err(Fail::new("no proof is kept")),
+        None => Ok(false),
     }
 }
 
-/// Fails unless a line's own proof is kept, answered again, and used for another history only where it wins there.
-fn serves_two_lines(rt: &impl Abort, alloc: Global, store: &mut PrivateStore) -> Result<(), Fail> {
-    let split = b"(;SZ[4:1]AW[ba][da]PL[B]TR[ba])";
-    let killed = b"killed !ca?aa.--!aa.;";
-    assert!(rt; is_certified(alloc, split, killed, store)?, "first");
-    let kept = store.kept();
-    assert!(rt;
-        found_stands(alloc, split, store)?,
-        "the proof that is kept"
-    );
-    assert!(rt; is_certified(alloc, split, killed, store)?, "once more");
-    assert!(rt; store.kept() == kept, "it is kept twice");
-    let repeated = b"(;SZ[4:1]AW[ba];B[ca];W[da]TR[ba])";
-    let lives = b"lives ?--!--.;";
-    assert!(rt;
-        is_certified(alloc, repeated, lives, store)?,
-        "another history"
-    );
-    Ok(())
-}
-
+/// A line's own proof is kept, answered again, and used for another history only where it wins there.
 #[test]
 fn one_store_for_two_lines(rt: HostRuntime) -> Result<(), Fail> {
     let alloc = rt.alloc();
     let mut store = PrivateStore::new(alloc);
-    serves_two_lines(&rt, alloc, &mut store)
+    want(is_so(alloc, KILLED, &mut store)?, "first")?;
+    let kept = store.kept();
+    want(
+        found_stands(alloc, SPLIT, &mut store)?,
+        "the proof that is kept",
+    )?;
+    want(is_so(alloc, KILLED, &mut store)?, "once more")?;
+    want(store.kept() == kept, "it is kept twice")?;
+    want(is_so(alloc, LIVES, &mut store)?, "another history")
+}
+
+/// The answer to a problem, as a text, with a budget of one expansion.
+fn solved_by_one<S: Store>(
+    alloc: Global,
+    text: &[u8],
+    depth: u16,
+    store: &mut S,
+) -> Result<Vec<u8>, Fail> {
+    let line = posed(alloc, text)?;
+    let answer = answered(alloc, &line, 1, depth, store)?;
+    verdict(alloc, &line, &answer)
+}
+
+/// Whether a problem is stuck for a budget of one expansion and this depth without a store, and killed over one that has the proof of
+/// the first problem alone.
+fn is_used(alloc: Global, text: &[u8], depth: u16) -> Result<bool, Fail> {
+    let mut store = PrivateStore::new(alloc);
+    let kept = store.keep(searched(alloc, SPLIT)?);
+    let without = solved_by_one(alloc, text, depth, &mut NoStore)?;
+    let with = solved_by_one(alloc, text, depth, &mut store)?;
+    Ok(
+        kept == Kept::Stored
+            && without.as_slice() == b"budget ca".as_slice()
+            && with.as_slice() == b"killed ca".as_slice(),
+    )
+}
+
+/// The position of the first problem reached by moves. The strategy there is three turns deep and repeats no board of theirs, so
+/// it wins here too.
+const REACHED: &[u8] = b"(;SZ[4:1]AW[da];B[];W[ba]TR[ba])";
+
+/// A found proof is used where it is as deep as the limit, and where it was found under another history. Without it the
+/// budget isn't enough.
+#[test]
+fn a_found_proof_is_used(rt: HostRuntime) -> Result<(), Fail> {
+    let alloc = rt.alloc();
+    want(is_used(alloc, SPLIT, 512)?, "split, 512")?;
+    want(is_used(alloc, SPLIT, 3)?, "split, 3")?;
+    want(is_used(alloc, REACHED, 512)?, "reached, 512")?;
+    want(is_used(alloc, REACHED, 3)?, "reached, 3")
+}
+
+/// Counts the questions, the attacker's and then the defender's, and those out of turn. It keeps nothing.
+#[derive(Drop)]
+struct Asked {
+    right: u64,
+    astray: u64,
+}
+
+impl Store for Asked {
+    ghost capacity = { λ _. 0 };
+
+    ghost kept = { λ _. 0 };
+
+    ghost may_answer = { ⊥ };
+
+    fn capacity(&self) -> usize {
+        0
+    }
+
+    fn kept(&self) -> usize {
+        0
+    }
+
+    fn find(&mut self, line: &Line, s: Side) -> Result<Option<Arc<Proof>>, NoMemory> {
+        let due = if self.right % 2 == 0 {
+            Side::Attacker
+        } else {
+            Side::Defender
+        };
+        if s == due {
+            self.right = self.right.wrapping_add(1);
+        } else {
+            self.astray = self.astray.wrapping_add(1);
+        }
+        Ok(None)
+    }
+
+    fn keep(&mut self, p: Arc<Proof>) -> Kept {
+        Kept::Full
+    }
+}
+
+/// A lone white stone, which lives: three turns, and none wins.
+const LONE: &[u8] = b"(;SZ[4:1]AW[ba]PL[B]TR[ba])";
+
+/// The problem is asked for before its turns, and each time the attacker's proof before the defender's. There are six
+/// pairs of questions: for the problem, at two steps behind each play, and at the one step that settles the pass.
+#[test]
+fn the_attacker_is_asked_for_first(rt: HostRuntime) -> Result<(), Fail> {
+    let mut store = Asked {
+        right: 0,
+        astray: 0,
+    };
+    let got = solved_by_one(rt.alloc(), LONE, 512, &mut store)?;
+    want(got.as_slice() == b"budget ca".as_slice(), "another answer")?;
+    want(store.right == 12 && store.astray == 0, "other questions")
 }

@@ -120,6 +120,27 @@ fn seats_in_threads_get_the_whole_total(rt: HostRuntime) -> Result<(), Fail> {
 }
 
 #[test]
+fn two_seats_share_a_total(rt: HostRuntime) -> Result<(), Fail> {
+    let Ok((desk, mut seats)) = Desk::new(rt.alloc(), 1, 2, Some(3)) else {
+        panic!(rt; "memory")
+    };
+    let first = desk.grant(&mut seats[0]);
+    let second = desk.grant(&mut seats[1]);
+    let third = desk.grant(&mut seats[0]);
+    assert!(rt; first && second && third);
+    let fourth = desk.grant(&mut seats[1]);
+    let fifth = desk.grant(&mut seats[0]);
+    let sixth = desk.grant(&mut seats[1]);
+    assert!(rt; !fourth && !fifth && !sixth);
+    let wanted = Closed {
+        draws: 0,
+        granted: 3,
+    };
+    assert!(rt; desk.close(seats).ok() == Some(wanted));
+    Ok(())
+}
+
+#[test]
 fn a_desk_without_a_total_refuses_nothing(rt: HostRuntime) -> Result<(), Fail> {
     let Ok((desk, mut seats)) = Desk::new(rt.alloc(), 1, 1, None) else {
         panic!(rt; "memory")

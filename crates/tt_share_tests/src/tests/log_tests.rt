@@ -1,6 +1,6 @@
 //! The log and its views, and searches over each kind of store that is shared.
 
-use super::alone_tests::posed;
+use super::common::posed;
 use super::table_tests::proof_of;
 use std::alloc::Global;
 use std::process::Abort;
