@@ -25,7 +25,7 @@ use tt_sgf::{BITS, Bits, Size};
 const FEW: usize = 180;
 
 /// The name of the chain on each place, 0 where it is empty, and each chain's counts of stones and of liberties at its root. They lie
-/// side by side, so that a board takes them over from another one in one move.
+/// side by side, so that a large board takes them over from another one in one move.
 #[derive(Clone, Copy)]
 struct ChainCounts {
     names: [u16; 361],
@@ -388,7 +388,7 @@ impl Chains {
         }
     }
 
-    /// Becomes the same board as another one. Behind the last stone of both no name is copied, nor the counts of any.
+    /// Becomes the same board as another one. Where the ends of both are near, no name and no count behind them is copied.
     pub(crate) fn set_to(&mut self, other: &Chains)
         ensures size { self.new.size ≡ other.now.size }
         ensures points { self.new.points ≡ other.now.points }

@@ -10,7 +10,7 @@ use Rattle.tt_game.specs.declared.seen.TheConstants.{LOW, MIXER, PRINTS}
 use Rattle.tt_game.specs.Course.{HasBeen}
 use Rattle.tt_game.specs.Mixing.{mix_board}
 
--- the print of a colouring: that number, multiplied once more, since the last word was only added
+-- the print of a colouring: what the words of both colours make, multiplied once more, since the last word was only added
 unfoldable pub print_of : Size → Colouring → ℕ
 print_of size c = mix_board size c * MIXER % 2 ^ 64 / LOW % PRINTS
 

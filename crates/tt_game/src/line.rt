@@ -487,7 +487,8 @@ impl Line {
         )
     }
 
-    /// What `past` gives. Where the last one that was asked for in this way had the same boards, they aren't compared anew.
+    /// What `past` gives. The boards with which the last one asked for in this way began, too, are only seen to be the same: what
+    /// differs between them isn't looked for anew.
     #[tactic(auto, using(crate::proofs::RootLemmas::rooted_here))]
     pub fn next_past(&mut self) -> Result<Past, NoMemory>
         ensures past { IfOk result (λ p. p ≡ record { frame = self.old.frame; state = self.old.state }) }

@@ -10,7 +10,7 @@ use crate::root::MANY;
 use tt_board::{Colour, Glance};
 use tt_sgf::{BITS, Bits, Point};
 
-/// The colour that moves, the empty points of the region, some of them where its play takes nothing off, those of these where it is
+/// The colour that moves, the empty points of the region, some of them where its play takes nothing off, some of these where it is
 /// quiet, where stones of that colour have stood so far, and what the words of the present board make, where prints by it tell new
 /// colourings.
 #[derive(Clone, Copy)]

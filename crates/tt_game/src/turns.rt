@@ -136,7 +136,7 @@ impl Line {
         None
     }
 
-    /// The legal turns, rising by their numbers, each with who has won after it. Each play is made once.
+    /// The legal turns, rising by their numbers, each with who has won after it. Each play is made once at most.
     pub fn successors(&self) -> ArrayVec<Successor, 362>
         ensures list { result.items ≡ successors_of self.now.frame self.now.state }
         ensures few { length result.items ≤ 362 }

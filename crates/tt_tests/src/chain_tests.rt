@@ -1,4 +1,4 @@
-//! Counted boards over stored games, held against plain ones and a fill after each turn. An independent program made the games from the rules.
+//! Counted boards over stored games, held against plain ones after each turn. An independent program made the games from the rules.
 
 ghost use Rattle.std.specs.Prelude.{◌≡◌, ◌<◌};
 ghost use Rattle.tt_sgf.specs.Sizes.{point_count};
@@ -185,7 +185,7 @@ fn done(before: &Board, colour: Colour, p: Point, after: &Board) -> Most {
     }
 }
 
-/// Whether a counted board says of a play of a colour what the plain one does, which fills; where none is made there is nothing to say.
+/// Whether a counted board says of a play of a colour what the plain one does, which walks chains and counts nothing.
 fn says(counted: &CountedBoard, board: &Board, colour: Colour, p: Point) -> bool
     requires same { counted.now ≡ board.now }
     requires on_board { p < point_count board.now.size }
@@ -210,7 +210,7 @@ fn agrees(counted: &CountedBoard, colour: Colour) -> bool {
     true
 }
 
-/// Whether a counted board is this plain one, and says of each play what that does: so its chains and their counts are those of a fill.
+/// Whether a counted board is this plain one, and says of each play what that does.
 fn counts(counted: &CountedBoard, board: &Board) -> bool {
     counted.board().same(board) && agrees(counted, Colour::Black) && agrees(counted, Colour::White)
 }
@@ -223,7 +223,7 @@ struct Counted {
 }
 
 impl Counted {
-    /// Plays on both, and the board after it by a fill; none where it isn't made, or where one of them says otherwise.
+    /// Plays on both, and the plain board after it; none where it isn't made, or where one of them says otherwise.
     fn play(&mut self, colour: Colour, p: Point) -> Option<Board> {
         let board = self.played.board();
         if !board.size().holds(p) {
