@@ -241,9 +241,10 @@ impl History {
     pub(crate) fn copy(&self) -> Result<History, NoMemory>
         ensures { IfOk result (λ h. h ≡ self.now) }
     {
-        let mut boards = Vec::with_capacity(self.alloc, self.live.saturating_add(ROOM))?;
-        for board in self.boards() {
-            boards.push(board.copy())?;
+        let so_far = self.boards();
+        let mut boards = Vec::with_capacity(self.alloc, so_far.len().saturating_add(ROOM))?;
+        for board in so_far {
+            boards.push_reserved(board.copy());
         }
         Ok(History {
             size: self.size,
