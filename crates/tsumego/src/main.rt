@@ -3,23 +3,13 @@
 
 mod answer;
 mod arguments;
-#[cfg(test)]
-mod device_tests;
 mod finding;
-#[cfg(test)]
-mod hostile_tests;
 mod laws;
 mod options;
 mod outcome;
 mod request;
-#[cfg(test)]
-mod rows;
-#[cfg(test)]
-mod solve_tests;
 mod solving;
 mod task;
-#[cfg(test)]
-mod tests;
 mod verdict;
 
 use answer::run;
