@@ -1,24 +1,15 @@
 -- What an expanded node offers to the side to move: its turns, and a tree behind each. For private contracts and proofs.
-use Rattle.std.specs.Prelude.{ℕ, List, refl, slice_index_or, slice_set}
-use Rattle.std.specs.Coded.{Coded, code_by, coded×, coded_list}
+use Rattle.std.specs.Prelude.{ℕ, List, slice_index_or, slice_set}
 use Rattle.tt_game.specs.declared.frame.Side.{Side}
 use Rattle.tt_game.specs.declared.turns.Turn.{Turn}
 use Rattle.tt_search.specs.PartialTree.{PartialTree, fresh, expanded}
-use Rattle.tt_search.specs.PartialTreeCode.{partial_code, side_code, turns_code}
 use Rattle.tt_search.specs.Children.{children_of}
 use Rattle.tt_search.specs.MostProving.{best}
-use Rattle.tt_search.specs.Weight.{weight_all}
 
 pub record Choices : Type 0 where
   pub mover : Side
   pub turns : List Turn
   pub trees : List PartialTree
-
--- how the logic stores them
-abbrev pub choices_code : Coded Choices
-choices_code =
-    code_by (Side × (List Turn × List PartialTree)) (coded× side_code (coded× turns_code (coded_list partial_code)))
-    (λ c. (c.mover, (c.turns, c.trees))) (λ p. record { mover = p.0; turns = p.1.0; trees = p.1.1 }) (λ _. refl)
 
 -- the node that has them
 abbrev pub node_with : Choices → PartialTree
@@ -35,7 +26,3 @@ best_child c = slice_index_or c.trees (best_place c) fresh
 -- the choices with this tree in its place
 abbrev pub with_best : Choices → PartialTree → Choices
 with_best c tree = record { mover = c.mover; turns = c.turns; trees = slice_set c.trees (best_place c) tree }
-
--- the size of the trees, by which a recursion over them ends
-abbrev pub weight_below : Choices → ℕ
-weight_below c = weight_all (children_of c.trees)

@@ -6,17 +6,16 @@ use Rattle.tt_search.specs.PartialTree.{PartialTree}
 use Rattle.tt_search.specs.Weight.{weight, weight_all}
 use Rattle.tt_search.specs.Children.{children_of}
 use Rattle.tt_search.specs.Edges.{tree_of, grown_behind, edge_trees, mark_of, counted, grown_in}
-use Rattle.tt_search.specs.Choices.{weight_below}
-use Rattle.tt_search.specs.Packed.{choices_of}
-use Rattle.tt_search.specs.Kept.{IsKept}
+use Rattle.tt_search.specs.Packed.{children_in, HasItsNodes}
+use Rattle.tt_search.specs.Offered.{HoldsItsOwn}
 use Rattle.tt_search.specs.Shape.{shape}
 use Rattle.tt_search.specs.declared.edges.Edge.{Edge}
 use Rattle.tt_search.specs.declared.edges.Mark.{Mark}
 use Rattle.tt_search.specs.declared.edges.Mark.TheVariants as mark
 use Rattle.tt_search.specs.declared.node.Growth.{Growth}
 use Rattle.tt_search.specs.declared.node.Growth.TheVariants.{Fresh, Won, Closed, Expanded, Offered}
-use Rattle.tt_search.specs.declared.children.Children.TheInside.{Inside}
-use Rattle.tt_search.specs.declared.children.Children.TheDeep.{deep-Growth, deep-Children}
+use Rattle.tt_search.specs.declared.children.Packed.{Packed}
+use Rattle.tt_search.specs.declared.node.Node.TheDeep.{deep-Growth, deep-Packed}
 
 -- the grown nodes weigh no more than all children, if that holds for the list without its first edge
 most-behind : (m : Mark) (es : List Edge) (ts : List PartialTree)
@@ -34,13 +33,13 @@ most-weight [] (t ∷ ts) h = absurd (omega (arith, h))
 most-weight (e ∷ es) ts h = most-behind (mark_of e) es ts (most-weight es) h
 
 -- each node that children hold weighs less than all of them
-pub children-fall : (a : Inside) → IsKept a → deep-Children a ≤ weight_below (choices_of a.mover a.packed)
-children-fall a h = omega (arith, most-weight a.packed.edges a.packed.grown.items h.whole)
+children-fall : (p : Packed) → HasItsNodes p → deep-Packed p ≤ weight_all (children_in p)
+children-fall p h = omega (arith, most-weight p.edges p.grown.items h)
 
 -- the children that a growth holds weigh less than its tree
-pub deep-weight : (g : Growth) → max (deep-Growth g) 0 ≤ weight (shape g)
-deep-weight Fresh = omega arith
-deep-weight (Won s) = omega arith
-deep-weight (Closed p) = omega arith
-deep-weight (Expanded children) = omega arith
-deep-weight (Offered children p) = omega arith
+pub deep-weight : (g : Growth) → HoldsItsOwn g → max (deep-Growth g) 0 ≤ weight (shape g)
+deep-weight Fresh h = omega arith
+deep-weight (Won s) h = omega arith
+deep-weight (Closed p) h = omega arith
+deep-weight (Expanded aim children) h = omega (arith, children-fall children h.whole)
+deep-weight (Offered mover children p) h = omega (arith, children-fall children h.whole)

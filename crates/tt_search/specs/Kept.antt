@@ -2,11 +2,12 @@
 use Rattle.std.specs.Prelude.{◌≡◌}
 use Rattle.tt_search.specs.Choices.{best_place}
 use Rattle.tt_search.specs.Packed.{choices_of, HasItsNodes, IsRank, AreFew}
-use Rattle.tt_search.specs.declared.children.Children.TheInside.{Inside}
+use Rattle.tt_search.specs.declared.children.Packed.{Packed}
+use Rattle.tt_search.specs.declared.children.Aim.{Aim}
 
 -- the place is that of the child to go to, and the rank says how many before it have grown
-pub record IsKept (a : Inside) : Type 0 where
-  pub few : AreFew a.packed
-  pub whole : HasItsNodes a.packed
-  pub place : a.place ≡ best_place (choices_of a.mover a.packed)
-  pub rank : IsRank a.rank a.place a.packed
+pub record IsKept (aim : Aim) (children : Packed) : Type 0 where
+  pub few : AreFew children
+  pub whole : HasItsNodes children
+  pub place : aim.place ≡ best_place (choices_of aim.mover children)
+  pub rank : IsRank aim.rank aim.place children

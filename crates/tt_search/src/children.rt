@@ -9,7 +9,6 @@ use crate::edges::{Edge, Mark};
 use crate::node::Node;
 use crate::numbers::Pair;
 use std::alloc::Global;
-use std::marker::Model;
 use tt_game::{Side, Turn};
 
 /// The children of a node as they are kept: an edge for each, and the nodes of those that have grown, in the order of the
@@ -21,35 +20,12 @@ pub(crate) struct Packed {
     pub(crate) grown: Vec<Node>,
 }
 
-/// The side to move at an expanded node, its children, the place of the child to go to, and how many before it have grown.
-#[cycle(node)]
-#[derive(Drop)]
-pub(crate) struct Children {
+/// The side to move at an expanded node, the place of the child to go to, and how many before it have grown.
+#[derive(Clone, Copy)]
+pub(crate) struct Aim {
     pub(crate) mover: Side,
     pub(crate) place: u16,
     pub(crate) rank: u16,
-    pub(crate) packed: Packed,
-}
-
-impl Model for Children {
-    ghost use Rattle.tt_search.specs.Choices.{Choices, choices_code, weight_below};
-
-    ghost Value = { Choices };
-
-    ghost coded = { choices_code };
-
-    ghost use Rattle.tt_search.specs.Packed.{choices_of};
-    ghost use Rattle.tt_search.specs.Kept.{IsKept};
-
-    ghost view = { λ a. choices_of a.mover a.packed };
-
-    ghost invariant = { λ a. IsKept a };
-
-    ghost size = { weight_below };
-
-    ghost use Rattle.tt_search.specs.Falls.{children-fall};
-
-    ghost size_decreases = { λ a h. children-fall a h };
 }
 
 /// A child: nothing is known of it, a side has won there, or it has grown and has a node.
@@ -60,16 +36,20 @@ pub(crate) enum Child<'a> {
     Grown(&'a Node),
 }
 
-impl Children {
-    ghost use Rattle.tt_search.specs.Choices.{node_with, best_place};
+impl Packed {
+    ghost use Rattle.tt_search.specs.Packed.{choices_of};
+    ghost use Rattle.tt_search.specs.Choices.{node_with};
+    ghost use Rattle.tt_search.specs.Kept.{IsKept};
     ghost use Rattle.tt_search.specs.Pairs.{ArePair};
 
-    /// Children of which none has grown, and the numbers of the mover and of the other side at their node.
-    pub(crate) fn new(alloc: Global, mover: Side, edges: Edges) -> (Children, Pair)
+    /// Children of which none has grown, which of them to go to, and the numbers of the mover and of the other side at
+    /// their node.
+    pub(crate) fn new(alloc: Global, mover: Side, edges: Edges) -> (Aim, Packed, Pair)
         requires few { length edges ≤ TURNS }
         requires none { grown_in edges ≡ 0 }
-        ensures children { result.0 ≡ record { mover = mover; turns = edge_turns edges; trees = edge_trees edges [] } }
-        ensures numbers { ArePair mover (node_with result.0) result.1 }
+        ensures children { choices_of result.0.mover result.1 ≡ record { mover = mover; turns = edge_turns edges; trees = edge_trees edges [] } }
+        ensures kept { IsKept result.0 result.1 }
+        ensures numbers { ArePair result.0.mover (node_with (choices_of result.0.mover result.1)) result.2 }
     {
         let grown = Vec::new(alloc);
         let packed = Packed { edges, grown };
@@ -78,28 +58,20 @@ impl Children {
             own: best.least,
             other: sum,
         };
-        let children = Children {
+        let aim = Aim {
             mover,
             place: best.place,
             rank: best.rank,
-            packed,
         };
-        (children, numbers)
-    }
-
-    /// The side to move.
-    pub(crate) fn mover(&self) -> Side
-        ensures { result ≡ self.now.mover }
-    {
-        self.mover
+        (aim, packed, numbers)
     }
 
     /// The turn to the child to go to.
-    pub(crate) fn best_turn(&self) -> Turn
-        requires { best_place self.now < length self.now.turns }
-        ensures { result ≡ slice_index_or self.now.turns (best_place self.now) result }
+    pub(crate) fn best_turn(&self, aim: Aim) -> Turn
+        requires { aim.place < length self.now.edges }
+        ensures { result ≡ slice_index_or (edge_turns self.now.edges) aim.place result }
     {
-        self.packed.edges.at(usize::from(self.place)).turn()
+        self.edges.at(usize::from(aim.place)).turn()
     }
 }
 

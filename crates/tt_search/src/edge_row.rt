@@ -7,7 +7,7 @@ use std::alloc::Global;
 use std::marker::Model;
 use tt_sgf::NoMemory;
 
-/// How many edges stand in the node itself. With so many it has 88 bytes.
+/// How many edges stand in the node itself. With so many it has 80 bytes.
 const SHORT: usize = 15;
 
 /// So many edges of the array, or a block of them.

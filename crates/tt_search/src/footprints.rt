@@ -16,7 +16,7 @@ ghost use Rattle.tt_search.specs.Choices.{node_with};
 ghost use Rattle.tt_search.specs.Packed.{HasItsNodes, children_in, choices_of};
 ghost use Rattle.tt_search.specs.Child.{child_tree};
 
-use crate::children::{Child, Children, Packed};
+use crate::children::{Child, Packed};
 use crate::edges::Edge;
 use crate::node::{Growth, Node};
 use crate::numbers::is_same;
@@ -44,12 +44,12 @@ impl Node {
             Growth::Fresh => Ok(Footprint::empty(alloc)),
             Growth::Won(_) => Ok(Footprint::empty(alloc)),
             Growth::Closed(proof) => proof.footprint_at(alloc, line),
-            Growth::Expanded(children) => children.footprint(alloc, line, side),
-            Growth::Offered(children, proof) => {
+            Growth::Expanded(aim, children) => children.footprint(alloc, line, aim.mover, side),
+            Growth::Offered(mover, children, proof) => {
                 if is_same(proof.side(), side) {
                     return offered_footprint(alloc, line, proof);
                 }
-                children.footprint(alloc, line, side)
+                children.footprint(alloc, line, *mover, side)
             }
         }
     }
@@ -117,23 +117,30 @@ impl Child<'_> {
     }
 }
 
-impl Children {
+impl Packed {
     /// The footprint of the node's strategy for the side that it is settled for, where the line stands at the node.
     #[cycle(footprint)]
-    fn footprint(&self, alloc: Global, line: &mut Line, side: Side) -> Result<Footprint, NoMemory>
-        requires { IsSettledAt side line.old.frame line.old.state (node_with self.now) }
-        ensures exact { IfOk result (λ x. IsFootprint line.old.frame line.old.state (strategy_for side (node_with self.now)) x) }
+    fn footprint(
+        &self,
+        alloc: Global,
+        line: &mut Line,
+        mover: Side,
+        side: Side,
+    ) -> Result<Footprint, NoMemory>
+        requires whole { HasItsNodes self.now }
+        requires settled { IsSettledAt side line.old.frame line.old.state (node_with (choices_of mover self.now)) }
+        ensures exact { IfOk result (λ x. IsFootprint line.old.frame line.old.state (strategy_for side (node_with (choices_of mover self.now))) x) }
         ensures same { line.new ≡ line.old }
     {
-        if is_same(side, self.mover) {
-            picked(alloc, line, side, &self.packed)
+        if is_same(side, mover) {
+            picked(alloc, line, side, self)
         } else {
             replied(
                 alloc,
                 line,
                 side,
-                self.packed.edges.as_slice(),
-                self.packed.grown.as_slice(),
+                self.edges.as_slice(),
+                self.grown.as_slice(),
             )
         }
     }

@@ -5,8 +5,9 @@ ghost use Rattle.std.specs.Vec.{vec_len, vec_capacity};
 ghost use Rattle.tt_game.specs.Game.{winner_of};
 ghost use Rattle.tt_proof.specs.declared.tree.TheConstants.{MOST_DEPTH};
 ghost use Rattle.tt_search.specs.PartialTree.{fresh};
-ghost use Rattle.tt_search.specs.Choices.{node_with, best_place, best_child};
-ghost use Rattle.tt_search.specs.Packed.{HasItsNodes, IsRank, child_of};
+ghost use Rattle.tt_search.specs.Packed.{HasItsNodes, IsRank, child_of, choices_of};
+ghost use Rattle.tt_search.specs.Choices.{node_with};
+ghost use Rattle.tt_search.specs.Kept.{IsKept};
 ghost use Rattle.tt_search.specs.Pairs.{ArePair};
 ghost use Rattle.tt_search.specs.Walking.{stage, stand_of, MayGrow};
 ghost use Rattle.tt_search.specs.Sprouting.{IsFreshAt, Sprouts, StepsBelow, BestSteps};
@@ -17,7 +18,7 @@ ghost use Rattle.tt_search.specs.Asking.{AreAsked};
 ghost use Rattle.tt_search.specs.declared.limits.Reason.TheVariants.{Total};
 ghost use Rattle.tt_search.specs.declared.limits.Step.TheVariants.{Expanded, Closed, Stuck};
 
-use crate::children::{Children, Packed};
+use crate::children::{Aim, Packed};
 use crate::closing::usable;
 use crate::edges::Mark;
 use crate::grants::Grants;
@@ -160,13 +161,13 @@ impl Node {
     {
         let (proof, disproof) = (self.proof, self.disproof);
         match &mut self.growth {
-            Growth::Expanded(children) => {
-                let mover = children.mover();
-                let Ok(()) = walk.go_down(children.best_turn()) else {
+            Growth::Expanded(aim, children) => {
+                let mover = aim.mover;
+                let Ok(()) = walk.go_down(children.best_turn(*aim)) else {
                     return Step::Stuck(Reason::Memory);
                 };
                 let was = Pair::of(mover, proof, disproof);
-                let (step, numbers) = children.grow_best(was, walk, pace, store, grants);
+                let (step, numbers) = children.grow_best(aim, was, walk, pace, store, grants);
                 walk.go_up();
                 let (proof, disproof) = numbers.by_goal(mover);
                 self.proof = proof;
@@ -176,7 +177,7 @@ impl Node {
                 }
                 step
             }
-            Growth::Won(_) | Growth::Closed(_) | Growth::Offered(_, _) => unreachable!(),
+            Growth::Won(_) | Growth::Closed(_) | Growth::Offered(_, _, _) => unreachable!(),
             Growth::Fresh => self.first_step(walk, store, grants),
         }
     }
@@ -190,8 +191,8 @@ impl Node {
             Growth::Fresh => *self = node,
             Growth::Won(_) => unreachable!(),
             Growth::Closed(_) => unreachable!(),
-            Growth::Expanded(_) => unreachable!(),
-            Growth::Offered(_, _) => unreachable!(),
+            Growth::Expanded(_, _) => unreachable!(),
+            Growth::Offered(_, _, _) => unreachable!(),
         }
     }
 
@@ -265,21 +266,23 @@ impl Node {
     }
 }
 
-impl Children {
+impl Packed {
     /// Steps at the child to go to, which is undecided, where the walk stands at it; and the numbers of the node after
     /// them, where these were its numbers before. A new child to go to is looked for only where the least number has risen.
     #[cycle(descent)]
     fn grow_best<S: Store, G: Grants>(
         &mut self,
+        aim: &mut Aim,
         was: Pair,
         walk: &mut Walk,
         pace: Pace,
         store: &mut S,
         grants: &mut G,
     ) -> (Step, Pair)
-        requires was { ArePair self.old.mover (node_with self.old) was }
-        requires there { best_place self.old < length self.old.trees }
-        requires may_grow { MayGrow (stand_of walk.old) (best_child self.old) }
+        requires kept { IsKept aim.old self.old }
+        requires was { ArePair aim.old.mover (node_with (choices_of aim.old.mover self.old)) was }
+        requires there { aim.old.place < length self.old.edges }
+        requires may_grow { MayGrow (stand_of walk.old) (child_of self.old aim.old.place) }
         requires room { walk.old.room ≤ MOST_DEPTH }
         requires grants { (G.asked grants.old).granted + walk.old.left < 2 ^ 64 }
         ensures line { walk.new.line ≡ walk.old.line }
@@ -288,23 +291,24 @@ impl Children {
         ensures granted { (G.asked grants.new).granted + walk.new.left ≡ (G.asked grants.old).granted + walk.old.left }
         ensures asked { AreAsked pace (G.asked grants.old) result.0 (G.asked grants.new) }
         ensures source { G.source grants.new ≡ G.source grants.old }
-        ensures steps { BestSteps pace walk.old self.old result.0 self.new walk.new }
-        ensures numbers { ArePair self.new.mover (node_with self.new) result.1 }
+        ensures steps { BestSteps pace walk.old (choices_of aim.old.mover self.old) result.0 (choices_of aim.new.mover self.new) walk.new }
+        ensures kept { IsKept aim.new self.new }
+        ensures numbers { ArePair aim.new.mover (node_with (choices_of aim.new.mover self.new)) result.1 }
     {
-        let (place, rank) = (usize::from(self.place), usize::from(self.rank));
-        let goal = self.mover.opponent();
-        let old = self.packed.child(place, rank).number(goal);
-        let step = self.packed.grow_at(place, rank, walk, pace, store, grants);
-        let child = self.packed.child(place, rank);
-        let own = child.number(self.mover);
+        let (place, rank) = (usize::from(aim.place), usize::from(aim.rank));
+        let goal = aim.mover.opponent();
+        let old = self.child(place, rank).number(goal);
+        let step = self.grow_at(place, rank, walk, pace, store, grants);
+        let child = self.child(place, rank);
+        let own = child.number(aim.mover);
         let new = child.number(goal);
-        let other = self.packed.sum_after(self.mover, was.other, old, new);
+        let other = self.sum_after(aim.mover, was.other, old, new);
         if own <= was.own {
             return (step, Pair { own, other });
         }
-        let best = self.packed.best(self.mover, was.own);
-        self.place = best.place;
-        self.rank = best.rank;
+        let best = self.best(aim.mover, was.own);
+        aim.place = best.place;
+        aim.rank = best.rank;
         let own = best.least;
         (step, Pair { own, other })
     }

@@ -10,7 +10,7 @@ ghost use Rattle.tt_game.specs.Surveys.{IsSurvey};
 ghost use Rattle.tt_search.specs.Growing.{leaf_for, expansion};
 ghost use Rattle.tt_search.specs.Expanding.{AreNewEdges};
 
-use crate::children::Children;
+use crate::children::Packed;
 use crate::edge_row::{Edges, Few};
 use crate::edges::{Edge, Mark};
 use crate::node::{Growth, Node};
@@ -58,12 +58,12 @@ fn expanded_node(alloc: Global, mover: Side, edges: Edges) -> Node
     requires none { grown_in edges ≡ 0 }
     ensures { result ≡ expanded mover (edge_turns edges) (children_of (edge_trees edges [])) }
 {
-    let (children, numbers) = Children::new(alloc, mover, edges);
-    let (proof, disproof) = numbers.by_goal(mover);
+    let (aim, children, numbers) = Packed::new(alloc, mover, edges);
+    let (proof, disproof) = numbers.by_goal(aim.mover);
     Node {
         proof,
         disproof,
-        growth: Growth::Expanded(children),
+        growth: Growth::Expanded(aim, children),
     }
 }
 

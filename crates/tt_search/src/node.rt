@@ -2,7 +2,7 @@
 
 ghost use Rattle.std.specs.Prelude.{◌≡◌};
 
-use crate::children::Children;
+use crate::children::{Aim, Packed};
 use std::marker::Model;
 use std::sync::Arc;
 use tt_game::Side;
@@ -25,8 +25,8 @@ pub(crate) enum Growth {
     Fresh,
     Won(Side),
     Closed(Arc<Proof>),
-    Expanded(Children),
-    Offered(Children, Arc<Proof>),
+    Expanded(Aim, Packed),
+    Offered(Side, Packed, Arc<Proof>),
 }
 
 impl Model for Node {
@@ -40,17 +40,17 @@ impl Model for Node {
 
     ghost use Rattle.tt_search.specs.Shape.{shape};
     ghost use Rattle.tt_search.specs.Cached.{IsCached};
-    ghost use Rattle.tt_search.specs.Offered.{HoldsItsProof};
+    ghost use Rattle.tt_search.specs.Offered.{HoldsItsOwn};
 
     ghost view = { λ a. shape a.growth };
 
-    ghost invariant = { λ a. IsCached a.proof a.disproof (shape a.growth) × HoldsItsProof a.growth };
+    ghost invariant = { λ a. IsCached a.proof a.disproof (shape a.growth) × HoldsItsOwn a.growth };
 
     ghost size = { weight };
 
     ghost use Rattle.tt_search.specs.Falls.{deep-weight};
 
-    ghost size_decreases = { λ a h. deep-weight a.growth };
+    ghost size_decreases = { λ a h. deep-weight a.growth h.1 };
 }
 
 impl Node {

@@ -14,10 +14,10 @@ ghost use Rattle.tt_search.specs.Joining.{IsSettledAt};
 ghost use Rattle.tt_search.specs.Children.{children_of};
 ghost use Rattle.tt_search.specs.Edges.{edge_turns, edge_trees, grown_in};
 ghost use Rattle.tt_search.specs.Choices.{node_with};
-ghost use Rattle.tt_search.specs.Packed.{HasItsNodes, children_in};
+ghost use Rattle.tt_search.specs.Packed.{HasItsNodes, children_in, choices_of};
 ghost use Rattle.tt_search.specs.Child.{child_tree};
 
-use crate::children::{Child, Children, Packed};
+use crate::children::{Child, Packed};
 use crate::edges::Edge;
 use crate::node::{Growth, Node};
 use crate::numbers::is_same;
@@ -40,12 +40,12 @@ impl Node {
             Growth::Fresh => Ok(Plan::done()),
             Growth::Won(_) => Ok(Plan::done()),
             Growth::Closed(proof) => proof.plan().try_clone(),
-            Growth::Expanded(children) => children.plan(alloc, side),
-            Growth::Offered(children, proof) => {
+            Growth::Expanded(aim, children) => children.plan(alloc, aim.mover, side),
+            Growth::Offered(mover, children, proof) => {
                 if is_same(proof.side(), side) {
                     return proof.plan().try_clone();
                 }
-                children.plan(alloc, side)
+                children.plan(alloc, *mover, side)
             }
         }
     }
@@ -91,7 +91,7 @@ impl Node {
             return;
         };
         self.growth = match mem::replace(&mut self.growth, Growth::Fresh) {
-            Growth::Expanded(children) => Growth::Offered(children, handle),
+            Growth::Expanded(aim, children) => Growth::Offered(aim.mover, children, handle),
             kept => kept,
         };
     }
@@ -135,21 +135,17 @@ impl Child<'_> {
     }
 }
 
-impl Children {
+impl Packed {
     /// The strategy of the node for the side that it is settled for.
     #[cycle(plan_of)]
-    fn plan(&self, alloc: Global, side: Side) -> Result<Plan, NoMemory>
-        ensures { IfOk result (λ p. p ≡ strategy_for side (node_with self.now)) }
+    fn plan(&self, alloc: Global, mover: Side, side: Side) -> Result<Plan, NoMemory>
+        requires { HasItsNodes self.now }
+        ensures { IfOk result (λ p. p ≡ strategy_for side (node_with (choices_of mover self.now))) }
     {
-        if is_same(side, self.mover) {
-            picked(alloc, side, &self.packed)
+        if is_same(side, mover) {
+            picked(alloc, side, self)
         } else {
-            replied(
-                alloc,
-                side,
-                self.packed.edges.as_slice(),
-                self.packed.grown.as_slice(),
-            )
+            replied(alloc, side, self.edges.as_slice(), self.grown.as_slice())
         }
     }
 }

@@ -1,13 +1,15 @@
-use Rattle.std.proofs.Common.{rules, ◌≡◌, ◌+◌, ◌^◌, ◌<◌, ◌⊎◌, ℕ, length, take, refl, sym, ◌∙◌, ap, subst, arith}
+use Rattle.std.proofs.Common.{rules, ◌≡◌, ◌+◌, ◌^◌, ◌<◌, ◌⊎◌, ℕ, length, take, get_or, refl, sym, ◌∙◌, ap, subst, arith}
 use Rattle.tt_game.specs.declared.frame.Side.TheVariants.{Attacker, Defender}
 use Rattle.tt_search.specs.PartialTree.{PartialTree}
 use Rattle.tt_search.specs.Shape.{shape}
-use Rattle.tt_search.specs.Choices.{Choices, node_with, best_place, best_child}
+use Rattle.tt_search.specs.Choices.{Choices, node_with, best_place}
 use Rattle.tt_search.specs.Packed.{choices_of, child_of}
 use Rattle.tt_search.specs.Child.{child_tree}
 use Rattle.tt_search.specs.Pairs.{ArePair}
 use Rattle.tt_search.specs.Cached.{IsCached}
-use Rattle.tt_search.specs.Edges.{mark_of, grown_in, edge_trees}
+use Rattle.tt_search.specs.Kept.{IsKept}
+use Rattle.tt_search.specs.Offered.{HoldsItsOwn}
+use Rattle.tt_search.specs.Edges.{mark_of, grown_in, edge_turns, edge_trees}
 use Rattle.tt_search.specs.Numbers.{number}
 use Rattle.tt_search.specs.Growing.{IsPartialTree}
 use Rattle.tt_search.specs.Walking.{stage, stand_of, MayGrow}
@@ -18,7 +20,7 @@ use Rattle.tt_search.proofs.Sprouted.{fresh_here, fresh_child, not_won, rank_wit
 use Rattle.tt_search.proofs.Steady.{last_round, next_round, round_falls, same_numbers, same_stand, steps_offerable}
 use Rattle.tt_search.proofs.Asking.{asked_once, asked_last, granted_more}
 use Rattle.tt_search.proofs.Steps.{IsOfferable}
-use Rattle.tt_search.proofs.Places.{length-trees_of}
+use Rattle.tt_search.proofs.Places.{length-trees_of, length-turns_of}
 use Rattle.tt_search.proofs.Changed.{few_stay, place_there, in_trees, part_was, sum_now, place_now, own_now, above_was, pair_of}
 use Rattle.tt_search.proofs.Rows.{number_le}
 use Rattle.tt_search.proofs.WayDown.{turn_there, child_there, has_room, way_down, child_may_grow, round_steps}
@@ -152,32 +154,28 @@ node::Node::grow-rounds-preserved g t c =
 
 -- ---- the best child of a node
 
-pub children::Children::grow_best-child-requires-clause-there : goal.children::Children::grow_best-child-requires-clause-there
-children::Children::grow_best-child-requires-clause-there g t c =
-    let x = c.self.inside.packed in
-    let there = subst (λ (v : Choices). best_place v < length v.trees) (sym c.self.view_is) c.requires.there in
-    omega (arith, there, c.from-place.ensures, c.self.invariant.place, length-trees_of x.edges x.grown.items)
+pub children::Packed::grow_best-child-requires-clause-there : goal.children::Packed::grow_best-child-requires-clause-there
+children::Packed::grow_best-child-requires-clause-there g t c =
+    let x = c.args.self.now in
+    omega (arith, c.requires.there, c.from-place.ensures)
 
-pub children::Children::grow_best-grow_at-step-requires : goal.children::Children::grow_best-grow_at-step-requires
-children::Children::grow_best-grow_at-step-requires g t c κs within =
-    let x = c.self.inside.packed in
-    let there = subst (λ (v : Choices). best_place v < length v.trees) (sym c.self.view_is) c.requires.there in
-    let may_grow = subst (λ (v : Choices). MayGrow (stand_of c.args.walk.now) (best_child v)) (sym c.self.view_is) c.requires.may_grow in
-    let place = c.from-place.ensures ∙ c.self.invariant.place in
-    let rank = c.from-rank.ensures ∙ c.self.invariant.rank ∙ ap (λ i. grown_in (take i x.edges)) (sym c.from-place.ensures) in (
+pub children::Packed::grow_best-grow_at-step-requires : goal.children::Packed::grow_best-grow_at-step-requires
+children::Packed::grow_best-grow_at-step-requires g t c κs within =
+    let x = c.args.self.now in
+    let rank = c.from-rank.ensures ∙ c.requires.kept.rank ∙ ap (λ i. grown_in (take i x.edges)) (sym c.from-place.ensures) in (
       omega (arith, c.decreases),
       (
         within.0,
         (
           within.1,
           (
-            omega (arith, there, place, length-trees_of x.edges x.grown.items),
+            omega (arith, c.requires.there, c.from-place.ensures),
             (
               rank,
               (
-                c.self.invariant.whole,
+                c.requires.kept.whole,
                 (
-                  subst (λ i. MayGrow (stand_of c.args.walk.now) (child_of x i)) (sym place) may_grow,
+                  subst (λ i. MayGrow (stand_of c.args.walk.now) (child_of x i)) (sym c.from-place.ensures) c.requires.may_grow,
                   (c.requires.room, c.requires.grants),
                 ),
               ),
@@ -187,124 +185,151 @@ children::Children::grow_best-grow_at-step-requires g t c κs within =
       ),
     )
 
-pub children::Children::grow_best-child-child-requires-clause-there : goal.children::Children::grow_best-child-child-requires-clause-there
-children::Children::grow_best-child-child-requires-clause-there g t c =
-    let x = c.self.inside.packed in
-    let is = c.from-place.ensures ∙ c.self.invariant.place in
-    let there = subst (λ (v : Choices). best_place v < length v.trees) (sym c.self.view_is) c.requires.there in
-    let in_trees : c.from-place.result < length (edge_trees x.edges x.grown.items) = omega (arith, is, there) in
+pub children::Packed::grow_best-child-child-requires-clause-there : goal.children::Packed::grow_best-child-child-requires-clause-there
+children::Packed::grow_best-child-child-requires-clause-there g t c =
+    let x = c.args.self.now in
+    let is = c.from-place.ensures ∙ c.requires.kept.place in
+    let in_trees : c.from-place.result < length (edge_trees x.edges x.grown.items) = omega (arith, c.requires.there, c.from-place.ensures, length-trees_of x.edges x.grown.items) in
     let steps = c.grow_at-step.ensures.steps in
-    place_there c.self.inside.mover x c.grow_at-step.new.self c.from-place.result steps.0 is in_trees steps.2
+    place_there c.args.aim.now.mover x c.grow_at-step.new.self c.from-place.result steps.0 is in_trees steps.2
 
-pub children::Children::grow_best-sum_after-other-requires-clause-part : goal.children::Children::grow_best-sum_after-other-requires-clause-part
-children::Children::grow_best-sum_after-other-requires-clause-part g t c =
-    let a = c.self.inside in
+pub children::Packed::grow_best-sum_after-other-requires-clause-part : goal.children::Packed::grow_best-sum_after-other-requires-clause-part
+children::Packed::grow_best-sum_after-other-requires-clause-part g t c =
+    let a = c.args.aim.now.mover in
+    let x = c.args.self.now in
+    let there : best_place (choices_of a x) < length (edge_trees x.edges x.grown.items) = omega (arith, c.requires.there, c.requires.kept.place, length-trees_of x.edges x.grown.items) in
     let steps = c.grow_at-step.ensures.steps in
-    let is = c.from-place.ensures ∙ c.self.invariant.place in
-    part_was a.mover a.packed c.grow_at-step.new.self c.from-place.result c.args.self.now c.args.was c.self.view_is c.requires.was is c.requires.there steps.0 steps.2
+    let is = c.from-place.ensures ∙ c.requires.kept.place in
+    part_was a x c.grow_at-step.new.self c.from-place.result (choices_of a x) c.args.was refl c.requires.was is there steps.0 steps.2
     (child_tree c.child-child.result) c.child-child.ensures c.opponent-goal.result c.opponent-goal.ensures (child_tree c.child.result) c.child.ensures
     c.number-old.result c.number-new.result c.number-old.ensures c.number-new.ensures
 
-pub children::Children::grow_best-sum_after-other-requires-clause-changed : goal.children::Children::grow_best-sum_after-other-requires-clause-changed
-children::Children::grow_best-sum_after-other-requires-clause-changed g t c =
-    let a = c.self.inside in
+pub children::Packed::grow_best-sum_after-other-requires-clause-changed : goal.children::Packed::grow_best-sum_after-other-requires-clause-changed
+children::Packed::grow_best-sum_after-other-requires-clause-changed g t c =
+    let a = c.args.aim.now.mover in
+    let x = c.args.self.now in
+    let there : best_place (choices_of a x) < length (edge_trees x.edges x.grown.items) = omega (arith, c.requires.there, c.requires.kept.place, length-trees_of x.edges x.grown.items) in
     let steps = c.grow_at-step.ensures.steps in
-    let is = c.from-place.ensures ∙ c.self.invariant.place in
-    sum_now a.mover a.packed c.grow_at-step.new.self c.from-place.result c.args.self.now c.args.was c.self.view_is c.requires.was is c.requires.there steps.0 steps.2
+    let is = c.from-place.ensures ∙ c.requires.kept.place in
+    sum_now a x c.grow_at-step.new.self c.from-place.result (choices_of a x) c.args.was refl c.requires.was is there steps.0 steps.2
     (child_tree c.child-child.result) c.child-child.ensures c.opponent-goal.result c.opponent-goal.ensures (child_tree c.child.result) c.child.ensures
     c.number-old.result c.number-new.result c.number-old.ensures c.number-new.ensures
 
-pub children::Children::grow_best-invariant_of-self : goal.children::Children::grow_best-invariant_of-self
-children::Children::grow_best-invariant_of-self g t c =
-    let a = c.self.inside in
+pub children::Packed::grow_best-returns-then-own-was-clause-kept : goal.children::Packed::grow_best-returns-then-own-was-clause-kept
+children::Packed::grow_best-returns-then-own-was-clause-kept g t c =
+    let a = c.args.aim.now.mover in
+    let x = c.args.self.now in
+    let there : best_place (choices_of a x) < length (edge_trees x.edges x.grown.items) = omega (arith, c.requires.there, c.requires.kept.place, length-trees_of x.edges x.grown.items) in
     let steps = c.grow_at-step.ensures.steps in
-    let is = c.from-place.ensures ∙ c.self.invariant.place in
+    let is = c.from-place.ensures ∙ c.requires.kept.place in
     let new = c.grow_at-step.new.self in
-    let there = in_trees a.mover a.packed new c.from-place.result c.args.self.now c.args.was c.self.view_is c.requires.was is c.requires.there steps.0 steps.2
+    let in_trees_here = in_trees a x new c.from-place.result (choices_of a x) c.args.was refl c.requires.was is there steps.0 steps.2
     (child_tree c.child-child.result) c.child-child.ensures in
     record {
-      few = few_stay a.mover a.packed new c.from-place.result steps.0 is there steps.2 c.self.invariant.few;
+      few = few_stay a x new c.from-place.result steps.0 is in_trees_here steps.2 c.requires.kept.few;
       whole = c.grow_at-step.ensures.whole;
-      place = sym c.from-place.ensures ∙ place_now a.mover a.packed new c.from-place.result c.args.self.now c.args.was c.self.view_is c.requires.was is c.requires.there steps.0 steps.2
+      place = sym c.from-place.ensures ∙ place_now a x new c.from-place.result (choices_of a x) c.args.was refl c.requires.was is there steps.0 steps.2
           (child_tree c.child-child.result) c.child-child.ensures c.number-own.result c.number-own.ensures c.if-own-was.true;
-      rank = c.self.invariant.rank ∙ ap (λ i. grown_in (take i a.packed.edges)) (sym c.from-place.ensures) ∙ ap grown_in (sym c.grow_at-step.ensures.before)
+      rank = c.requires.kept.rank ∙ ap (λ i. grown_in (take i x.edges)) (sym c.from-place.ensures) ∙ ap grown_in (sym c.grow_at-step.ensures.before)
           ∙ ap (λ i. grown_in (take i new.edges)) c.from-place.ensures;
     }
 
-pub children::Children::grow_best-returns-then-own-was-clause-numbers : goal.children::Children::grow_best-returns-then-own-was-clause-numbers
-children::Children::grow_best-returns-then-own-was-clause-numbers g t c =
-    let a = c.self.inside in
+pub children::Packed::grow_best-returns-then-own-was-clause-numbers : goal.children::Packed::grow_best-returns-then-own-was-clause-numbers
+children::Packed::grow_best-returns-then-own-was-clause-numbers g t c =
+    let a = c.args.aim.now.mover in
+    let x = c.args.self.now in
+    let there : best_place (choices_of a x) < length (edge_trees x.edges x.grown.items) = omega (arith, c.requires.there, c.requires.kept.place, length-trees_of x.edges x.grown.items) in
     let steps = c.grow_at-step.ensures.steps in
-    let is = c.from-place.ensures ∙ c.self.invariant.place in
+    let is = c.from-place.ensures ∙ c.requires.kept.place in
     let new = c.grow_at-step.new.self in
-    pair_of (choices_of a.mover new) c.number-own.result c.sum_after-other.result
-    (own_now a.mover a.packed new c.from-place.result c.args.self.now c.args.was c.self.view_is c.requires.was is c.requires.there steps.0 steps.2
+    pair_of (choices_of a new) c.number-own.result c.sum_after-other.result
+    (own_now a x new c.from-place.result (choices_of a x) c.args.was refl c.requires.was is there steps.0 steps.2
     (child_tree c.child-child.result) c.child-child.ensures c.number-own.result c.number-own.ensures c.if-own-was.true) c.sum_after-other.ensures
 
-pub children::Children::grow_best-best-best-requires-clause-lowest : goal.children::Children::grow_best-best-best-requires-clause-lowest
-children::Children::grow_best-best-best-requires-clause-lowest g t c =
-    let a = c.self.inside in
+pub children::Packed::grow_best-best-best-requires-clause-lowest : goal.children::Packed::grow_best-best-best-requires-clause-lowest
+children::Packed::grow_best-best-best-requires-clause-lowest g t c =
+    let a = c.args.aim.now.mover in
+    let x = c.args.self.now in
+    let there : best_place (choices_of a x) < length (edge_trees x.edges x.grown.items) = omega (arith, c.requires.there, c.requires.kept.place, length-trees_of x.edges x.grown.items) in
     let steps = c.grow_at-step.ensures.steps in
-    let is = c.from-place.ensures ∙ c.self.invariant.place in
-    above_was a.mover a.packed c.grow_at-step.new.self c.from-place.result c.args.self.now c.args.was c.self.view_is c.requires.was is c.requires.there steps.0 steps.2
+    let is = c.from-place.ensures ∙ c.requires.kept.place in
+    above_was a x c.grow_at-step.new.self c.from-place.result (choices_of a x) c.args.was refl c.requires.was is there steps.0 steps.2
     (child_tree c.child-child.result) c.child-child.ensures c.number-own.result c.number-own.ensures (omega (arith, c.if-own-was.false))
 
-pub children::Children::grow_best-best-best-requires-clause-finite : goal.children::Children::grow_best-best-best-requires-clause-finite
-children::Children::grow_best-best-best-requires-clause-finite g t c =
-    omega (arith, c.if-own-was.false, c.number-own.ensures, number_le c.self.inside.mover (child_tree c.child-child.result))
+pub children::Packed::grow_best-best-best-requires-clause-finite : goal.children::Packed::grow_best-best-best-requires-clause-finite
+children::Packed::grow_best-best-best-requires-clause-finite g t c =
+    omega (arith, c.if-own-was.false, c.number-own.ensures, number_le c.args.aim.now.mover (child_tree c.child-child.result))
 
-pub children::Children::grow_best-returns-clause-numbers : goal.children::Children::grow_best-returns-clause-numbers
-children::Children::grow_best-returns-clause-numbers g t c =
-    pair_of (choices_of c.self.inside.mover c.grow_at-step.new.self) c.best-best.result.least c.sum_after-other.result c.best-best.ensures.least c.sum_after-other.ensures
+pub children::Packed::grow_best-returns-clause-numbers : goal.children::Packed::grow_best-returns-clause-numbers
+children::Packed::grow_best-returns-clause-numbers g t c =
+    pair_of (choices_of c.args.aim.now.mover c.grow_at-step.new.self) c.best-best.result.least c.sum_after-other.result c.best-best.ensures.least c.sum_after-other.ensures
 
 -- ---- the descent of a round
 
 pub node::Node::round-best_turn-requires : goal.node::Node::round-best_turn-requires
 node::Node::round-best_turn-requires g t c =
-    let x = c.in-Expanded.children in
+    let aim = c.in-Expanded.aim in
+    let children = c.in-Expanded.children in
+    let x = choices_of aim.mover children in
+    let kept : IsKept aim children = subst HoldsItsOwn c.in-Expanded.is c.self.invariant.1 in
     let is = sym (ap shape c.in-Expanded.is) ∙ c.self.view_is in
-    turn_there (stand_of c.args.walk.now) x c.args.self.now is c.requires.may_grow
+    omega (arith, turn_there (stand_of c.args.walk.now) x c.args.self.now is c.requires.may_grow, kept.place, length-turns_of children.edges)
 
 pub node::Node::round-go_down-requires-clause-legal : goal.node::Node::round-go_down-requires-clause-legal
 node::Node::round-go_down-requires-clause-legal g t c =
-    let x = c.in-Expanded.children in
+    let aim = c.in-Expanded.aim in
+    let children = c.in-Expanded.children in
+    let x = choices_of aim.mover children in
+    let kept : IsKept aim children = subst HoldsItsOwn c.in-Expanded.is c.self.invariant.1 in
     let is = sym (ap shape c.in-Expanded.is) ∙ c.self.view_is in
-    (way_down (stand_of c.args.walk.now) x c.args.self.now is c.requires.may_grow c.best_turn.result c.best_turn.ensures).legal
+    let turn = c.best_turn.ensures ∙ ap (λ i. get_or (edge_turns children.edges) i c.best_turn.result) kept.place in
+    (way_down (stand_of c.args.walk.now) x c.args.self.now is c.requires.may_grow c.best_turn.result turn).legal
 
 pub node::Node::round-grow_best-step-requires : goal.node::Node::round-grow_best-step-requires
 node::Node::round-grow_best-step-requires g t c κs within =
-    let x = c.in-Expanded.children in
+    let aim = c.in-Expanded.aim in
+    let children = c.in-Expanded.children in
+    let x = choices_of aim.mover children in
+    let kept : IsKept aim children = subst HoldsItsOwn c.in-Expanded.is c.self.invariant.1 in
     let shaped = sym (ap shape c.in-Expanded.is) in
     let is = shaped ∙ c.self.view_is in
     let walk = c.args.walk.now in
-    let way = way_down (stand_of walk) x c.args.self.now is c.requires.may_grow c.best_turn.result c.best_turn.ensures in
+    let turn = c.best_turn.ensures ∙ ap (λ i. get_or (edge_turns children.edges) i c.best_turn.result) kept.place in
+    let way = way_down (stand_of walk) x c.args.self.now is c.requires.may_grow c.best_turn.result turn in
     let gone = c.in-Ok.ensures.ok in
     let room = has_room (stand_of walk) x c.args.self.now is c.requires.may_grow in
     let cached = subst (IsCached c.self.inside.proof c.self.inside.disproof) (sym shaped) c.self.invariant.0 in
-    let pair = subst (λ side. ArePair side (node_with x) c.of-was.result) c.mover-mover.ensures (c.of-was.ensures (node_with x) cached) in
-    let there = child_there (stand_of walk) x c.args.self.now is c.requires.may_grow in
-    let may_grow = child_may_grow walk x c.args.self.now c.best_turn.result way c.go_down.new.self gone in
+    let pair = c.of-was.ensures (node_with x) cached in
+    let there : aim.place < length children.edges = omega (arith, child_there (stand_of walk) x c.args.self.now is c.requires.may_grow, kept.place, length-trees_of children.edges children.grown.items) in
+    let may_grow = subst (λ i. MayGrow (stand_of c.go_down.new.self) (child_of children i)) (sym kept.place) (child_may_grow walk x c.args.self.now c.best_turn.result way c.go_down.new.self gone) in
     let grants = subst (λ (n : ℕ). (g.G.Grants.asked c.args.grants.now).granted + n < 2 ^ 64) (sym gone.left) c.requires.grants in
-    (omega (arith, c.decreases, gone.room, room), (within.0, (within.1, (pair, (there, (may_grow, (omega (arith, gone.room, c.requires.room), grants)))))))
+    (omega (arith, c.decreases, gone.room, room), (within.0, (within.1, (kept, (pair, (there, (may_grow, (omega (arith, gone.room, c.requires.room), grants))))))))
 
 pub node::Node::round-invariant_of-self-in-Expanded : goal.node::Node::round-invariant_of-self-in-Expanded
 node::Node::round-invariant_of-self-in-Expanded g t c =
-    let x = c.in-Expanded.children in
-    let new = c.grow_best-step.new.self in
+    let aim = c.in-Expanded.aim in
+    let children = c.in-Expanded.children in
+    let x = choices_of aim.mover children in
+    let kept : IsKept aim children = subst HoldsItsOwn c.in-Expanded.is c.self.invariant.1 in
+    let new = choices_of c.grow_best-step.new.aim.mover c.grow_best-step.new.self in
     let put = c.grow_best-step.ensures.steps.2 in
-    let mover = ap (λ (d : Choices). d.mover) put ∙ sym c.mover-mover.ensures in
+    let mover = ap (λ (d : Choices). d.mover) put in
     let pair = subst (λ side. ArePair side (node_with new) c.grow_best-step.result.1) mover c.grow_best-step.ensures.numbers in
-    (c.by_goal-proof.ensures (node_with new) pair, tt)
+    (c.by_goal-proof.ensures (node_with new) pair, c.grow_best-step.ensures.kept)
 
 pub node::Node::round-offer-walk-requires-clause-partial : goal.node::Node::round-offer-walk-requires-clause-partial
 node::Node::round-offer-walk-requires-clause-partial g t c =
-    let x = c.in-Expanded.children in
+    let aim = c.in-Expanded.aim in
+    let children = c.in-Expanded.children in
+    let x = choices_of aim.mover children in
+    let kept : IsKept aim children = subst HoldsItsOwn c.in-Expanded.is c.self.invariant.1 in
     let shaped = sym (ap shape c.in-Expanded.is) in
     let is = shaped ∙ c.self.view_is in
     let walk = c.args.walk.now in
-    let way = way_down (stand_of walk) x c.args.self.now is c.requires.may_grow c.best_turn.result c.best_turn.ensures in
+    let turn = c.best_turn.ensures ∙ ap (λ i. get_or (edge_turns children.edges) i c.best_turn.result) kept.place in
+    let way = way_down (stand_of walk) x c.args.self.now is c.requires.may_grow c.best_turn.result turn in
     let gone = c.in-Ok.ensures.ok in
-    let new = c.grow_best-step.new.self in
+    let new = choices_of c.grow_best-step.new.aim.mover c.grow_best-step.new.self in
     let steps = round_steps walk x c.args.self.now c.best_turn.result way c.go_down.new.self gone c.args.pace c.grow_best-step.result.0 new
     c.grow_best-step.new.walk c.go_up.new.self c.grow_best-step.ensures.steps c.go_up.ensures.left in
     let back : c.go_up.new.self.line ≡ walk.line = search rules in
@@ -314,13 +339,17 @@ node::Node::round-offer-walk-requires-clause-partial g t c =
 
 pub node::Node::round-offer-walk-requires-clause-stays : goal.node::Node::round-offer-walk-requires-clause-stays
 node::Node::round-offer-walk-requires-clause-stays g t c =
-    let x = c.in-Expanded.children in
+    let aim = c.in-Expanded.aim in
+    let children = c.in-Expanded.children in
+    let x = choices_of aim.mover children in
+    let kept : IsKept aim children = subst HoldsItsOwn c.in-Expanded.is c.self.invariant.1 in
     let shaped = sym (ap shape c.in-Expanded.is) in
     let is = shaped ∙ c.self.view_is in
     let walk = c.args.walk.now in
-    let way = way_down (stand_of walk) x c.args.self.now is c.requires.may_grow c.best_turn.result c.best_turn.ensures in
+    let turn = c.best_turn.ensures ∙ ap (λ i. get_or (edge_turns children.edges) i c.best_turn.result) kept.place in
+    let way = way_down (stand_of walk) x c.args.self.now is c.requires.may_grow c.best_turn.result turn in
     let gone = c.in-Ok.ensures.ok in
-    let new = c.grow_best-step.new.self in
+    let new = choices_of c.grow_best-step.new.aim.mover c.grow_best-step.new.self in
     let steps = round_steps walk x c.args.self.now c.best_turn.result way c.go_down.new.self gone c.args.pace c.grow_best-step.result.0 new
     c.grow_best-step.new.walk c.go_up.new.self c.grow_best-step.ensures.steps c.go_up.ensures.left in
     let back : c.go_up.new.self.line ≡ walk.line = search rules in
@@ -330,13 +359,17 @@ node::Node::round-offer-walk-requires-clause-stays g t c =
 
 pub node::Node::round-returns-in-Some-clause-steps : goal.node::Node::round-returns-in-Some-clause-steps
 node::Node::round-returns-in-Some-clause-steps g t c =
-    let x = c.in-Expanded.children in
+    let aim = c.in-Expanded.aim in
+    let children = c.in-Expanded.children in
+    let x = choices_of aim.mover children in
+    let kept : IsKept aim children = subst HoldsItsOwn c.in-Expanded.is c.self.invariant.1 in
     let shaped = sym (ap shape c.in-Expanded.is) in
     let is = shaped ∙ c.self.view_is in
     let walk = c.args.walk.now in
-    let way = way_down (stand_of walk) x c.args.self.now is c.requires.may_grow c.best_turn.result c.best_turn.ensures in
+    let turn = c.best_turn.ensures ∙ ap (λ i. get_or (edge_turns children.edges) i c.best_turn.result) kept.place in
+    let way = way_down (stand_of walk) x c.args.self.now is c.requires.may_grow c.best_turn.result turn in
     let gone = c.in-Ok.ensures.ok in
-    let new = c.grow_best-step.new.self in
+    let new = choices_of c.grow_best-step.new.aim.mover c.grow_best-step.new.self in
     let steps = round_steps walk x c.args.self.now c.best_turn.result way c.go_down.new.self gone c.args.pace c.grow_best-step.result.0 new
     c.grow_best-step.new.walk c.go_up.new.self c.grow_best-step.ensures.steps c.go_up.ensures.left in
     subst
@@ -348,13 +381,17 @@ node::Node::round-returns-in-Some-clause-steps g t c =
 
 pub node::Node::round-returns-in_default-settled_for-clause-steps : goal.node::Node::round-returns-in_default-settled_for-clause-steps
 node::Node::round-returns-in_default-settled_for-clause-steps g t c =
-    let x = c.in-Expanded.children in
+    let aim = c.in-Expanded.aim in
+    let children = c.in-Expanded.children in
+    let x = choices_of aim.mover children in
+    let kept : IsKept aim children = subst HoldsItsOwn c.in-Expanded.is c.self.invariant.1 in
     let shaped = sym (ap shape c.in-Expanded.is) in
     let is = shaped ∙ c.self.view_is in
     let walk = c.args.walk.now in
-    let way = way_down (stand_of walk) x c.args.self.now is c.requires.may_grow c.best_turn.result c.best_turn.ensures in
+    let turn = c.best_turn.ensures ∙ ap (λ i. get_or (edge_turns children.edges) i c.best_turn.result) kept.place in
+    let way = way_down (stand_of walk) x c.args.self.now is c.requires.may_grow c.best_turn.result turn in
     let gone = c.in-Ok.ensures.ok in
-    let new = c.grow_best-step.new.self in
+    let new = choices_of c.grow_best-step.new.aim.mover c.grow_best-step.new.self in
     let steps = round_steps walk x c.args.self.now c.best_turn.result way c.go_down.new.self gone c.args.pace c.grow_best-step.result.0 new
     c.grow_best-step.new.walk c.go_up.new.self c.grow_best-step.ensures.steps c.go_up.ensures.left in
     steps

@@ -14,8 +14,8 @@ decreases-node::Node::round g l = l.walk.now.room * 4
 abbrev pub decreases-children::Packed::grow_at : goal.decreases-children::Packed::grow_at
 decreases-children::Packed::grow_at g l = l.walk.now.room * 4 + 2
 
-abbrev pub decreases-children::Children::grow_best : goal.decreases-children::Children::grow_best
-decreases-children::Children::grow_best g l = l.walk.now.room * 4 + 3
+abbrev pub decreases-children::Packed::grow_best : goal.decreases-children::Packed::grow_best
+decreases-children::Packed::grow_best g l = l.walk.now.room * 4 + 3
 
 abbrev pub invariant-node::Node::grow-rounds : goal.invariant-node::Node::grow-rounds
 invariant-node::Node::grow-rounds g l = record {

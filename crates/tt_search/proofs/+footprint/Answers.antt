@@ -9,13 +9,13 @@ use Rattle.tt_proof.specs.declared.footprints.Footprint.{Footprint}
 use Rattle.tt_proof.specs.Strategy.{Entries, done, pick}
 use Rattle.tt_proof.specs.KeptFootprints.{IsFootprint, IsEntryJoined}
 use Rattle.tt_search.specs.PartialTree.{PartialTree, fresh}
-use Rattle.tt_search.specs.Offered.{IsProofOfTree, HoldsItsProof}
+use Rattle.tt_search.specs.Offered.{IsOffered, HoldsItsOwn}
 use Rattle.tt_search.specs.Shape.{shape}
 use Rattle.tt_search.specs.Children.{children_of}
-use Rattle.tt_search.specs.Choices.{Choices, node_with, weight_below}
+use Rattle.tt_search.specs.Choices.{node_with}
 use Rattle.tt_search.specs.Child.{child_tree}
 use Rattle.tt_search.specs.Edges.{edge_turn, edge_turns, edge_trees}
-use Rattle.tt_search.specs.Packed.{children_in}
+use Rattle.tt_search.specs.Packed.{choices_of, children_in}
 use Rattle.tt_search.specs.Settled.{strategy_for, first_settled, pick_at}
 use Rattle.tt_search.specs.Weight.{weight, weight_all}
 use Rattle.tt_search.specs.Numbers.{is_same}
@@ -59,30 +59,29 @@ node::Node::footprint-offered_footprint-requires t c =
     let f = c.args.line.now.frame in
     let s = c.args.line.now.state in
     let p = c.in-Offered.proof.value in
-    let holds : IsProofOfTree (node_with c.in-Offered.children) p = subst HoldsItsProof c.in-Offered.is c.self.invariant.1 in
-    let is : node_with c.in-Offered.children ≡ c.args.self.now = sym (ap shape c.in-Offered.is) ∙ c.self.view_is in
+    let tree_here = node_with (choices_of c.in-Offered.mover c.in-Offered.children) in
+    let holds : IsOffered c.in-Offered.mover c.in-Offered.children p = subst HoldsItsOwn c.in-Offered.is c.self.invariant.1 in
+    let is : tree_here ≡ c.args.self.now = sym (ap shape c.in-Offered.is) ∙ c.self.view_is in
     let read : c.side.result ≡ p.side = c.side.ensures.side ∙ ap (λ (q : Proven). q.side) c.deref-in-Offered.ensures in
     let side : p.side ≡ c.args.side = sym (same_is_same p.side c.args.side (ap (λ side. is_same side c.args.side) (sym read) ∙ sym c.is_same.ensures ∙ c.if-is_same.true)) in
-    let tree : p.tree ≡ strategy_for c.args.side c.args.self.now = holds.strategy ∙ ap (λ side. strategy_for side (node_with c.in-Offered.children)) side ∙ ap (strategy_for c.args.side) is in
+    let tree : p.tree ≡ strategy_for c.args.side c.args.self.now = holds.proof.strategy ∙ ap (λ side. strategy_for side tree_here) side ∙ ap (strategy_for c.args.side) is in
     let won = makes_proof c.args.side f s c.args.self.now p.tree tree c.requires.settled c.requires.partial c.requires.stays in
     record { wins = subst (λ (q : Proven). IsWon q.side f s q.tree) (sym c.deref-then-is_same.ensures) (subst (λ side. IsWon side f s p.tree) (sym side) won) }
 
-pub children::Children::footprint-replied-requires : goal.children::Children::footprint-replied-requires
-children::Children::footprint-replied-requires t c =
-    let x = c.self.inside.packed in
+pub children::Packed::footprint-replied-requires : goal.children::Packed::footprint-replied-requires
+children::Packed::footprint-replied-requires t c =
+    let x = c.args.self.now in
     let edges = c.as_slice.ensures in
-    let grown = c.as_slice-else-is_same.ensures.value in
-    let settled = subst (λ (v : Choices). IsSettledAt c.args.side c.args.line.now.frame c.args.line.now.state (node_with v)) (sym c.self.view_is) c.requires in (
+    let grown = c.as_slice-else-is_same.ensures.value in (
       omega (
         arith,
         c.decreases,
-        ap weight_below c.self.view_is,
         ap (λ es. weight_all (children_of (edge_trees es c.as_slice-else-is_same.result.now))) edges,
         ap (λ us. weight_all (children_of (edge_trees x.edges us))) grown,
       ),
       rw (edges, grown)
-          (replied_children c.args.side c.args.line.now.frame c.args.line.now.state c.self.inside.mover x.edges x.grown.items
-          (sym c.is_same.ensures ∙ c.if-is_same.false) c.self.invariant.whole settled),
+          (replied_children c.args.side c.args.line.now.frame c.args.line.now.state c.args.mover x.edges x.grown.items
+          (sym c.is_same.ensures ∙ c.if-is_same.false) c.requires.whole c.requires.settled),
     )
 
 -- ---- the child that is picked

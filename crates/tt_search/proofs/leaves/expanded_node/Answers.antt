@@ -1,6 +1,8 @@
-use Rattle.std.proofs.Common.{rules}
 use Rattle.tt_search.specs.Choices.{node_with}
+use Rattle.tt_search.specs.Packed.{choices_of}
 use Rattle.tt_search.proofs.leaves.expanded_node.Goals as goal
 
 pub invariant_of-result : goal.invariant_of-result
-invariant_of-result c = (c.by_goal-proof.ensures (node_with c.new-children.result.0) c.new-children.ensures.numbers, search rules)
+invariant_of-result c =
+    let new = c.new-children in
+    (c.by_goal-proof.ensures (node_with (choices_of new.result.0.mover new.result.1)) new.ensures.numbers, new.ensures.kept)
