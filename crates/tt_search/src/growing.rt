@@ -65,9 +65,9 @@ fn left_after(step: Step, left: u32) -> u32
     }
 }
 
-/// Makes room for one more node: where there is none, for a quarter of as many as there are, so that they move seldom and
-/// little room stays unused. Where there is one there come to be three or more in most lists, so the second makes room for
-/// the third.
+/// Makes room for one more node: where there is none, for an eighth of as many as there are, so that large lists move
+/// seldom and little room stays unused. Where there is one there come to be three or more in most lists, and where there are
+/// three, five or more, so the second makes room for the third and the fourth for the fifth.
 fn room_for_one(nodes: &mut Vec<Node>) -> Result<(), NoMemory>
     ensures items { nodes.new.items ≡ nodes.old.items }
     ensures room { OnOk result (vec_len nodes.new < vec_capacity nodes.new) }
@@ -75,10 +75,9 @@ fn room_for_one(nodes: &mut Vec<Node>) -> Result<(), NoMemory>
     if nodes.len() < nodes.capacity() {
         return Ok(());
     }
-    let more = if nodes.len() == 1 {
-        2
-    } else {
-        nodes.len() / 4 + 1
+    let more = match nodes.len() {
+        1 | 3 => 2,
+        len => len / 8 + 1,
     };
     nodes.reserve_exact(more)?;
     Ok(())
