@@ -12,6 +12,7 @@ pub mod WayDown
 pub mod Changed
 pub mod Advanced
 pub mod Strategies
+pub mod OneSide
 pub mod Successors
 pub mod Replies
 pub mod Joins

@@ -1,16 +1,21 @@
 -- The children of an expanded node as the code keeps them. For private contracts and proofs.
-use Rattle.std.specs.Prelude.{◌≡◌, ℕ, ◌≤◌, length, take}
+use Rattle.std.specs.Prelude.{◌≡◌, ℕ, ◌≤◌, List, length, take}
 use Rattle.tt_game.specs.declared.frame.Side.{Side}
 use Rattle.tt_search.specs.PartialTree.{PartialTree, Children}
 use Rattle.tt_search.specs.Children.{children_of}
 use Rattle.tt_search.specs.Choices.{Choices}
 use Rattle.tt_search.specs.Edges.{edge_turns, edge_trees, grown_in, child_at}
 use Rattle.tt_search.specs.declared.edges.TheConstants.{TURNS}
+use Rattle.tt_search.specs.declared.edges.Edge.{Edge}
 use Rattle.tt_search.specs.declared.children.Packed.{Packed}
+
+-- what children with these edges and nodes offer to the side to move
+abbrev pub choices_with : Side → List Edge → List PartialTree → Choices
+choices_with mover es grown = record { mover = mover; turns = edge_turns es; trees = edge_trees es grown }
 
 -- what they offer to the side to move
 abbrev pub choices_of : Side → Packed → Choices
-choices_of mover p = record { mover = mover; turns = edge_turns p.edges; trees = edge_trees p.edges p.grown.items }
+choices_of mover p = choices_with mover p.edges p.grown.items
 
 -- the children themselves
 abbrev pub children_in : Packed → Children

@@ -7,8 +7,11 @@ use std::alloc::Global;
 use std::marker::Model;
 use tt_sgf::NoMemory;
 
-/// How many edges stand in the node itself. With so many it has 80 bytes.
+/// How many edges stand in the node itself. With so many it has 72 bytes.
 const SHORT: usize = 15;
+
+/// How many stand in a node that holds a proof, too, and is no larger.
+const SHORTER: usize = 11;
 
 /// So many edges of the array, or a block of them.
 #[derive(Drop)]
@@ -34,6 +37,32 @@ impl Model for Edges {
     ghost view = { λ r. edges_of r.form };
 
     ghost invariant = { λ r. AreWithin r.form };
+}
+
+/// So many edges of the array, or a row of them in a block.
+#[derive(Drop)]
+enum LastForm {
+    Short(u8, [Edge; 11]),
+    Long(Box<Edges>),
+}
+
+/// Edges in a row that are never changed, in a little less room.
+#[derive(Drop)]
+pub(crate) struct LastEdges {
+    form: LastForm,
+}
+
+impl Model for LastEdges {
+    ghost use Rattle.std.specs.Prelude.{List};
+    ghost use Rattle.tt_search.specs.declared.edges.Edge.{Edge};
+
+    ghost Value = { List Edge };
+
+    ghost use Rattle.tt_search.specs.EdgeRow.{last_edges_of, AreWithinLast};
+
+    ghost view = { λ r. last_edges_of r.form };
+
+    ghost invariant = { λ r. AreWithinLast r.form };
 }
 
 /// So many edges in an array.
@@ -149,5 +178,31 @@ impl Edges {
             Form::Short(_, short) => short[place] = edge,
             Form::Long(long) => long[place] = edge,
         }
+    }
+}
+
+/// The first edges of an array.
+fn first_of(edges: &[Edge; 15]) -> [Edge; 11]
+    ensures { result ≡ take 11 edges.now }
+{
+    let mut first = [Edge::default(); 11];
+    first.copy_from_slice(&edges[..SHORTER]);
+    first
+}
+
+impl LastEdges {
+    /// The edges of this row. `NoMemory` where memory was refused.
+    pub(crate) fn of(alloc: Global, row: &Edges) -> Result<LastEdges, NoMemory>
+        ensures { IfOk result (λ last. last ≡ row.now) }
+    {
+        if let Form::Short(count, short) = &row.form {
+            if usize::from(*count) <= SHORTER {
+                let form = LastForm::Short(*count, first_of(short));
+                return Ok(LastEdges { form });
+            }
+        }
+        let row = Edges::of(alloc, row.as_slice())?;
+        let form = LastForm::Long(Box::new(alloc, row)?);
+        Ok(LastEdges { form })
     }
 }

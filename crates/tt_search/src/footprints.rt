@@ -45,12 +45,7 @@ impl Node {
             Growth::Won(_) => Ok(Footprint::empty(alloc)),
             Growth::Closed(proof) => proof.footprint_at(alloc, line),
             Growth::Expanded(aim, children) => children.footprint(alloc, line, aim.mover, side),
-            Growth::Offered(mover, children, proof) => {
-                if is_same(proof.side(), side) {
-                    return offered_footprint(alloc, line, proof);
-                }
-                children.footprint(alloc, line, *mover, side)
-            }
+            Growth::Offered(_, _, _, proof) => offered_footprint(alloc, line, proof),
         }
     }
 

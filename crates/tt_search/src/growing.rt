@@ -176,7 +176,7 @@ impl Node {
                 }
                 step
             }
-            Growth::Won(_) | Growth::Closed(_) | Growth::Offered(_, _, _) => unreachable!(),
+            Growth::Won(_) | Growth::Closed(_) | Growth::Offered(_, _, _, _) => unreachable!(),
             Growth::Fresh => self.first_step(walk, store, grants),
         }
     }
@@ -191,7 +191,7 @@ impl Node {
             Growth::Won(_) => unreachable!(),
             Growth::Closed(_) => unreachable!(),
             Growth::Expanded(_, _) => unreachable!(),
-            Growth::Offered(_, _, _) => unreachable!(),
+            Growth::Offered(_, _, _, _) => unreachable!(),
         }
     }
 

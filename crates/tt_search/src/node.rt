@@ -3,6 +3,7 @@
 ghost use Rattle.std.specs.Prelude.{◌≡◌};
 
 use crate::children::{Aim, Packed};
+use crate::edge_row::LastEdges;
 use std::marker::Model;
 use std::sync::Arc;
 use tt_game::Side;
@@ -17,8 +18,8 @@ pub(crate) struct Node {
     pub(crate) growth: Growth,
 }
 
-/// What a node has become. An expanded node that has offered its proof is of its own kind, and holds the proof, so that the
-/// nodes above take its tree from there.
+/// What a node has become. An expanded node that has offered its proof is of its own kind: it has its mover, the edges and the
+/// nodes of its children, and the proof, so that the nodes above take its tree from there.
 #[cycle(node)]
 #[derive(Drop)]
 pub(crate) enum Growth {
@@ -26,7 +27,7 @@ pub(crate) enum Growth {
     Won(Side),
     Closed(Arc<Proof>),
     Expanded(Aim, Packed),
-    Offered(Side, Packed, Arc<Proof>),
+    Offered(Side, LastEdges, Vec<Node>, Arc<Proof>),
 }
 
 impl Model for Node {

@@ -5,19 +5,22 @@ ghost use Rattle.std.specs.Prelude.{◌≡◌, ◌≤◌, ◌<◌, false, length
 ghost use Rattle.tt_proof.specs.Strategy.{reply};
 ghost use Rattle.tt_proof.specs.Proven.{StandsAt};
 ghost use Rattle.tt_proof.specs.declared.tree.TheConstants.{MOST_DEPTH};
-ghost use Rattle.tt_search.specs.Numbers.{number, IsUndecided};
+ghost use Rattle.tt_search.specs.Numbers.{number, numbers, least, IsUndecided};
 ghost use Rattle.tt_search.specs.Growing.{IsPartialTree};
 ghost use Rattle.tt_search.specs.Within.{StaysWithin};
 ghost use Rattle.tt_search.specs.Settled.{strategy_for, first_settled, pick_at, replies};
-ghost use Rattle.tt_search.specs.Offered.{IsProofOfTree};
-ghost use Rattle.tt_search.specs.Joining.{IsSettledAt};
+ghost use Rattle.tt_search.specs.Kept.{IsKept};
+ghost use Rattle.tt_search.specs.Shape.{shape};
+ghost use Rattle.tt_search.specs.Offered.{IsProofOfTree, HoldsItsOwn};
+ghost use Rattle.tt_search.specs.Joining.{IsSettledAt, AreZero};
 ghost use Rattle.tt_search.specs.Children.{children_of};
 ghost use Rattle.tt_search.specs.Edges.{edge_turns, edge_trees, grown_in};
 ghost use Rattle.tt_search.specs.Choices.{node_with};
 ghost use Rattle.tt_search.specs.Packed.{HasItsNodes, children_in, choices_of};
 ghost use Rattle.tt_search.specs.Child.{child_tree};
 
-use crate::children::{Child, Packed};
+use crate::children::{Aim, Child, Packed};
+use crate::edge_row::LastEdges;
 use crate::edges::Edge;
 use crate::node::{Growth, Node};
 use crate::numbers::is_same;
@@ -34,6 +37,7 @@ impl Node {
     /// The strategy of a node for the side that it is settled for.
     #[cycle(plan_of)]
     pub(crate) fn plan(&self, alloc: Global, side: Side) -> Result<Plan, NoMemory>
+        requires { number side self.now ≡ 0 }
         ensures { IfOk result (λ p. p ≡ strategy_for side self.now) }
     {
         match &self.growth {
@@ -41,12 +45,7 @@ impl Node {
             Growth::Won(_) => Ok(Plan::done()),
             Growth::Closed(proof) => proof.plan().try_clone(),
             Growth::Expanded(aim, children) => children.plan(alloc, aim.mover, side),
-            Growth::Offered(mover, children, proof) => {
-                if is_same(proof.side(), side) {
-                    return proof.plan().try_clone();
-                }
-                children.plan(alloc, *mover, side)
-            }
+            Growth::Offered(_, _, _, proof) => proof.plan().try_clone(),
         }
     }
 
@@ -82,8 +81,8 @@ impl Node {
         Proof::winning_with(line, side, plan, footprint)
     }
 
-    /// Holds a proof that the node offers, where memory for a handle is left.
-    fn hold(&mut self, proof: &Arc<Proof>)
+    /// Holds a proof that the node offers, where memory for a handle is left, and for the edges where they are many.
+    fn hold(&mut self, alloc: Global, proof: &Arc<Proof>)
         requires { IsProofOfTree self.old proof.now.value }
         ensures { self.new ≡ self.old }
     {
@@ -91,7 +90,7 @@ impl Node {
             return;
         };
         self.growth = match mem::replace(&mut self.growth, Growth::Fresh) {
-            Growth::Expanded(aim, children) => Growth::Offered(aim.mover, children, handle),
+            Growth::Expanded(aim, children) => offered(alloc, aim, children, handle),
             kept => kept,
         };
     }
@@ -116,9 +115,25 @@ impl Node {
         let Ok(proof) = Arc::new(walk.alloc, proof) else {
             return false;
         };
-        self.hold(&proof);
+        self.hold(walk.alloc, &proof);
         let _kept = store.keep(proof);
         true
+    }
+}
+
+/// What an expanded node with these children becomes with its proof: where memory for its edges is refused, it stays as it is.
+fn offered(alloc: Global, aim: Aim, children: Packed, proof: Arc<Proof>) -> Growth
+    requires kept { IsKept aim children }
+    requires proof { IsProofOfTree (node_with (choices_of aim.mover children)) proof.value }
+    ensures same { shape result ≡ node_with (choices_of aim.mover children) }
+    ensures holds { HoldsItsOwn result }
+{
+    match LastEdges::of(alloc, &children.edges) {
+        Ok(edges) => {
+            let Packed { edges: _, grown } = children;
+            Growth::Offered(aim.mover, edges, grown, proof)
+        }
+        Err(_) => Growth::Expanded(aim, children),
     }
 }
 
@@ -126,6 +141,7 @@ impl Child<'_> {
     /// The strategy of a child for the side that it is settled for.
     #[cycle(plan_of)]
     fn plan(self, alloc: Global, side: Side) -> Result<Plan, NoMemory>
+        requires { number side (child_tree self) ≡ 0 }
         ensures { IfOk result (λ p. p ≡ strategy_for side (child_tree self.entry)) }
     {
         match self {
@@ -139,7 +155,8 @@ impl Packed {
     /// The strategy of the node for the side that it is settled for.
     #[cycle(plan_of)]
     fn plan(&self, alloc: Global, mover: Side, side: Side) -> Result<Plan, NoMemory>
-        requires { HasItsNodes self.now }
+        requires whole { HasItsNodes self.now }
+        requires settled { number side (node_with (choices_of mover self.now)) ≡ 0 }
         ensures { IfOk result (λ p. p ≡ strategy_for side (node_with (choices_of mover self.now))) }
     {
         if is_same(side, mover) {
@@ -153,7 +170,8 @@ impl Packed {
 /// The strategy that picks the first child that is settled for the side.
 #[cycle(plan_of)]
 fn picked(alloc: Global, side: Side, children: &Packed) -> Result<Plan, NoMemory>
-    requires { HasItsNodes children.now }
+    requires whole { HasItsNodes children.now }
+    requires settled { least (numbers side (children_in children.now)) ≡ 0 }
     ensures { IfOk result (λ p. p ≡ pick_at side (first_settled side (children_in children.now)) (edge_turns children.now.edges) (children_in children.now)) }
 {
     let (place, rank) = children.first_settled(side);
@@ -167,7 +185,8 @@ fn picked(alloc: Global, side: Side, children: &Packed) -> Result<Plan, NoMemory
 /// The strategy that replies to each turn.
 #[cycle(plan_of)]
 fn replied(alloc: Global, side: Side, edges: &[Edge], grown: &[Node]) -> Result<Plan, NoMemory>
-    requires { grown_in edges.now ≡ length grown.now }
+    requires whole { grown_in edges.now ≡ length grown.now }
+    requires settled { AreZero side (children_of (edge_trees edges.now grown.now)) }
     ensures { IfOk result (λ p. p ≡ reply (replies side (edge_turns edges.now) (children_of (edge_trees edges.now grown.now)))) }
 {
     let mut answers = Replies::with_capacity(alloc, edges.len())?;

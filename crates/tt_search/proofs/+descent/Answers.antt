@@ -300,7 +300,8 @@ node::Node::round-grow_best-step-requires g t c κs within =
     let room = has_room (stand_of walk) x c.args.self.now is c.requires.may_grow in
     let cached = subst (IsCached c.self.inside.proof c.self.inside.disproof) (sym shaped) c.self.invariant.0 in
     let pair = c.of-was.ensures (node_with x) cached in
-    let there : aim.place < length children.edges = omega (arith, child_there (stand_of walk) x c.args.self.now is c.requires.may_grow, kept.place, length-trees_of children.edges children.grown.items) in
+    let below = child_there (stand_of walk) x c.args.self.now is c.requires.may_grow in
+    let there : aim.place < length children.edges = omega (arith, below, kept.place, length-trees_of children.edges children.grown.items) in
     let may_grow = subst (λ i. MayGrow (stand_of c.go_down.new.self) (child_of children i)) (sym kept.place) (child_may_grow walk x c.args.self.now c.best_turn.result way c.go_down.new.self gone) in
     let grants = subst (λ (n : ℕ). (g.G.Grants.asked c.args.grants.now).granted + n < 2 ^ 64) (sym gone.left) c.requires.grants in
     (omega (arith, c.decreases, gone.room, room), (within.0, (within.1, (kept, (pair, (there, (may_grow, (omega (arith, gone.room, c.requires.room), grants))))))))

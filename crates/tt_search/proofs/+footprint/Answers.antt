@@ -1,4 +1,4 @@
-use Rattle.std.proofs.Common.{◌≡◌, ◌∙◌, ◌⊎◌, inl, inr, ℕ, ◌+◌, ◌<◌, List, length, get_or, drop, refl, sym, ap, subst, arith}
+use Rattle.std.proofs.Common.{◌≡◌, ◌∙◌, ◌⊎◌, inl, inr, ℕ, ◌+◌, ◌<◌, List, length, get_or, drop, IfOk, refl, sym, ap, subst, arith}
 use Rattle.tt_game.specs.declared.turns.Turn.{Turn}
 use Rattle.tt_game.specs.declared.frame.Frame.{Frame}
 use Rattle.tt_game.specs.declared.frame.Side.{Side}
@@ -9,16 +9,14 @@ use Rattle.tt_proof.specs.declared.footprints.Footprint.{Footprint}
 use Rattle.tt_proof.specs.Strategy.{Entries, done, pick}
 use Rattle.tt_proof.specs.KeptFootprints.{IsFootprint, IsEntryJoined}
 use Rattle.tt_search.specs.PartialTree.{PartialTree, fresh}
-use Rattle.tt_search.specs.Offered.{IsOffered, HoldsItsOwn}
+use Rattle.tt_search.specs.Offered.{HoldsItsOwn}
 use Rattle.tt_search.specs.Shape.{shape}
 use Rattle.tt_search.specs.Children.{children_of}
-use Rattle.tt_search.specs.Choices.{node_with}
 use Rattle.tt_search.specs.Child.{child_tree}
 use Rattle.tt_search.specs.Edges.{edge_turn, edge_turns, edge_trees}
-use Rattle.tt_search.specs.Packed.{choices_of, children_in}
+use Rattle.tt_search.specs.Packed.{children_in}
 use Rattle.tt_search.specs.Settled.{strategy_for, first_settled, pick_at}
 use Rattle.tt_search.specs.Weight.{weight, weight_all}
-use Rattle.tt_search.specs.Numbers.{is_same}
 use Rattle.tt_search.specs.Joining.{IsSettledAt, AreSettledAt}
 use Rattle.tt_search.specs.declared.edges.Edge.{Edge}
 use Rattle.tt_search.specs.declared.children.Child.{Child}
@@ -28,7 +26,8 @@ use Rattle.tt_search.proofs.Lifted.{weight_at}
 use Rattle.tt_search.proofs.Places.{length-turns_of, length-trees_of, turn_at_place, weight_step}
 use Rattle.tt_search.proofs.Replies.{picked}
 use Rattle.tt_search.proofs.Sprouted.{any_default}
-use Rattle.tt_search.proofs.Strategies.{makes_proof, same_is_same}
+use Rattle.tt_search.proofs.OneSide.{offered_for}
+use Rattle.tt_search.proofs.Strategies.{makes_proof}
 use Rattle.tt_search.proofs.+footprint.Goals as goal
 
 abbrev first : Edge
@@ -59,14 +58,22 @@ node::Node::footprint-offered_footprint-requires t c =
     let f = c.args.line.now.frame in
     let s = c.args.line.now.state in
     let p = c.in-Offered.proof.value in
-    let tree_here = node_with (choices_of c.in-Offered.mover c.in-Offered.children) in
-    let holds : IsOffered c.in-Offered.mover c.in-Offered.children p = subst HoldsItsOwn c.in-Offered.is c.self.invariant.1 in
-    let is : tree_here ≡ c.args.self.now = sym (ap shape c.in-Offered.is) ∙ c.self.view_is in
-    let read : c.side.result ≡ p.side = c.side.ensures.side ∙ ap (λ (q : Proven). q.side) c.deref-in-Offered.ensures in
-    let side : p.side ≡ c.args.side = sym (same_is_same p.side c.args.side (ap (λ side. is_same side c.args.side) (sym read) ∙ sym c.is_same.ensures ∙ c.if-is_same.true)) in
-    let tree : p.tree ≡ strategy_for c.args.side c.args.self.now = holds.proof.strategy ∙ ap (λ side. strategy_for side tree_here) side ∙ ap (strategy_for c.args.side) is in
-    let won = makes_proof c.args.side f s c.args.self.now p.tree tree c.requires.settled c.requires.partial c.requires.stays in
-    record { wins = subst (λ (q : Proven). IsWon q.side f s q.tree) (sym c.deref-then-is_same.ensures) (subst (λ side. IsWon side f s p.tree) (sym side) won) }
+    let holds = subst HoldsItsOwn c.in-Offered.is c.self.invariant.1 in
+    let is = sym (ap shape c.in-Offered.is) ∙ c.self.view_is in
+    let offered = offered_for c.in-Offered.field-0 c.in-Offered.field-1 c.in-Offered.field-2.items p c.args.side c.args.self.now holds is c.requires.settled in
+    let won = makes_proof c.args.side f s c.args.self.now p.tree offered.1 c.requires.settled c.requires.partial c.requires.stays in
+    record { wins = subst (λ (q : Proven). IsWon q.side f s q.tree) (sym c.deref-in-Offered.ensures) (subst (λ side. IsWon side f s p.tree) (sym offered.0) won) }
+
+pub node::Node::footprint-returns-in-Offered-clause-exact : goal.node::Node::footprint-returns-in-Offered-clause-exact
+node::Node::footprint-returns-in-Offered-clause-exact t c =
+    let f = c.args.line.now.frame in
+    let s = c.args.line.now.state in
+    let p = c.in-Offered.proof.value in
+    let holds = subst HoldsItsOwn c.in-Offered.is c.self.invariant.1 in
+    let is = sym (ap shape c.in-Offered.is) ∙ c.self.view_is in
+    let offered = offered_for c.in-Offered.field-0 c.in-Offered.field-1 c.in-Offered.field-2.items p c.args.side c.args.self.now holds is c.requires.settled in
+    let tree : c.deref-in-Offered.result.now.tree ≡ strategy_for c.args.side c.args.self.now = ap (λ (q : Proven). q.tree) c.deref-in-Offered.ensures ∙ offered.1 in
+    subst (λ u. IfOk c.offered_footprint.result (λ x. IsFootprint f s u x)) tree c.offered_footprint.ensures.exact
 
 pub children::Packed::footprint-replied-requires : goal.children::Packed::footprint-replied-requires
 children::Packed::footprint-replied-requires t c =

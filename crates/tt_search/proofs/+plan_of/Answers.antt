@@ -1,5 +1,6 @@
 use Rattle.std.proofs.Common.{◌≡◌, ◌∙◌, ℕ, ◌+◌, ◌<◌, List, length, IfOk, get_or, drop, sym, ap, subst, arith}
 use Rattle.tt_game.specs.declared.turns.Turn.{Turn}
+use Rattle.tt_proof.specs.Proven.{Proven}
 use Rattle.tt_proof.specs.Strategy.{Entries, reply, entry}
 use Rattle.tt_search.specs.PartialTree.{PartialTree, fresh}
 use Rattle.tt_search.specs.Children.{children_of}
@@ -11,11 +12,49 @@ use Rattle.tt_search.proofs.Replies.{joined, joined_push, joined_none, picked, p
 use Rattle.tt_search.proofs.Places.{replies_at_end, length-turns_of, length-trees_of, turn_at_place, replied_step, weight_step, whole_behind}
 use Rattle.tt_search.proofs.Lifted.{weight_at}
 use Rattle.tt_search.proofs.Sprouted.{any_default}
-use Rattle.tt_search.specs.Packed.{child_of}
+use Rattle.tt_search.specs.Packed.{child_of, children_in}
+use Rattle.tt_search.specs.Numbers.{number, numbers}
+use Rattle.tt_search.specs.Joining.{AreZero}
+use Rattle.tt_search.specs.Shape.{shape}
+use Rattle.tt_search.specs.Offered.{HoldsItsOwn}
+use Rattle.tt_search.proofs.Strategies.{IsZeroAt, zero_at, own_zero, other_zero, all_zero, zero_sum}
+use Rattle.tt_search.proofs.OneSide.{offered_for, zero_step, zero_there}
 use Rattle.tt_search.proofs.+plan_of.Goals as goal
 
 abbrev first : Edge
 first = record { code = 0 }
+
+pub node::Node::plan-returns-in-Offered : goal.node::Node::plan-returns-in-Offered
+node::Node::plan-returns-in-Offered t c =
+    let p = c.in-Offered.proof.value in
+    let holds = subst HoldsItsOwn c.in-Offered.is c.self.invariant.1 in
+    let is = sym (ap shape c.in-Offered.is) ∙ c.self.view_is in
+    let tree = (offered_for c.in-Offered.field-0 c.in-Offered.field-1 c.in-Offered.field-2.items p c.args.side c.args.self.now holds is c.requires).1 in
+    let made = c.plan-in-Offered.ensures.plan ∙ ap (λ (q : Proven). q.tree) c.deref-in-Offered.ensures ∙ tree in
+    subst (λ u. IfOk c.try_clone-in-Offered.result (λ q. q ≡ u)) made c.try_clone-in-Offered.ensures
+
+pub children::Packed::plan-picked-requires : goal.children::Packed::plan-picked-requires
+children::Packed::plan-picked-requires t c =
+    let x = c.args.self.now in (
+      omega (arith, c.decreases),
+      (c.requires.whole, own_zero c.args.side c.args.mover (edge_turns x.edges) (children_in x) (sym c.is_same.ensures ∙ c.if-is_same.true) c.requires.settled),
+    )
+
+pub children::Packed::plan-replied-requires : goal.children::Packed::plan-replied-requires
+children::Packed::plan-replied-requires t c =
+    let x = c.args.self.now in
+    let side = c.args.side in
+    let edges = c.as_slice.ensures in
+    let grown = c.as_slice-else-is_same.ensures.value in
+    let sum = other_zero side c.args.mover (edge_turns x.edges) (children_in x) (sym c.is_same.ensures ∙ c.if-is_same.false) c.requires.settled in (
+      omega (
+        arith,
+        c.decreases,
+        ap (λ es. weight_all (children_of (edge_trees es c.as_slice-else-is_same.result.now))) edges,
+        ap (λ us. weight_all (children_of (edge_trees x.edges us))) grown,
+      ),
+      (rw (edges, grown) c.requires.whole, rw (edges, grown) (all_zero side (children_in x) (zero_sum (numbers side (children_in x)) sum))),
+    )
 
 pub settled::picked-returns-then-place-len : goal.settled::picked-returns-then-place-len
 settled::picked-returns-then-place-len t c =
@@ -29,7 +68,8 @@ settled::picked-plan-requires t c =
     let x = c.args.children.now in
     let i : ℕ = c.first_settled-place.result.0 in
     let w = weight_at (edge_trees x.edges x.grown.items) i fresh (omega (arith, c.if-place-len.false, c.len.ensures, length-trees_of x.edges x.grown.items)) in
-    (omega (arith, c.decreases, w, ap weight c.child.ensures), tt)
+    let z = subst (λ k. IsZeroAt c.args.side k (children_in x)) (sym c.first_settled-place.ensures.place) (zero_at c.args.side (children_in x) c.requires.settled) in
+    (omega (arith, c.decreases, w, ap weight c.child.ensures), ap (number c.args.side) c.child.ensures ∙ zero_there c.args.side (edge_trees x.edges x.grown.items) i fresh z)
 
 pub settled::picked-returns : goal.settled::picked-returns
 settled::picked-returns t c =
@@ -44,6 +84,20 @@ settled::picked-returns t c =
     let e = picked c.args.side turns trees i c.turn.result child _ turn (any_default trees i fresh child in_trees) (c.in_ok-child.ensures ∙ ap (strategy_for c.args.side) c.child.ensures)
     (omega (arith, in_edges, length-turns_of x.edges)) in_trees in
     subst (λ u. IfOk c.pick.result (λ p. p ≡ u)) (e ∙ ap (λ i. pick_at c.args.side i turns (children_of trees)) c.first_settled-place.ensures.place) c.pick.ensures
+
+pub settled::replied-plan-requires : goal.settled::replied-plan-requires
+settled::replied-plan-requires t c =
+    let i : ℕ = c.loop-edge.edge-index in
+    let here = zero_step c.args.side c.args.edges.now c.loop-edge.rest.now i first c.loop-edge-test.true c.loop-edge.invariant.settled in (
+      omega (
+        arith,
+        c.decreases,
+        c.loop-edge.invariant.lighter,
+        weight_step c.args.edges.now c.loop-edge.rest.now i first c.loop-edge-test.true,
+        ap weight c.first.ensures.child,
+      ),
+      ap (number c.args.side) c.first.ensures.child ∙ here.0,
+    )
 
 pub settled::replied-loop-edge-preserved : goal.settled::replied-loop-edge-preserved
 settled::replied-loop-edge-preserved t c =
@@ -64,6 +118,8 @@ settled::replied-loop-edge-preserved t c =
           ∙ ap (joined c.loop-edge.answers) (sym step)
           ∙ c.loop-edge.invariant.made;
       whole = whole_behind c.args.edges.now c.loop-edge.rest.now i first c.loop-edge-test.true c.loop-edge.invariant.whole ∙ ap length (sym c.first.ensures.behind);
+      settled = subst (λ us. AreZero c.args.side (children_of (edge_trees left us))) (sym c.first.ensures.behind)
+          (zero_step c.args.side c.args.edges.now c.loop-edge.rest.now i first c.loop-edge-test.true c.loop-edge.invariant.settled).1;
       lighter = omega (
         arith,
         weight_step c.args.edges.now c.loop-edge.rest.now i first c.loop-edge-test.true,

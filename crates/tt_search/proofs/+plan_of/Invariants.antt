@@ -4,6 +4,7 @@ use Rattle.tt_search.specs.Edges.{edge_turns, edge_trees, grown_in}
 use Rattle.tt_search.specs.Packed.{children_in}
 use Rattle.tt_search.specs.Child.{child_tree}
 use Rattle.tt_search.specs.Settled.{replies}
+use Rattle.tt_search.specs.Joining.{AreZero}
 use Rattle.tt_search.specs.Weight.{weight, weight_all}
 use Rattle.tt_search.proofs.Replies.{joined}
 use Rattle.tt_search.proofs.+plan_of.Given as goal
@@ -28,5 +29,6 @@ invariant-settled::replied-loop-edge l = record {
   made : joined l.answers (replies l.side (edge_turns (drop l.edge-index l.edges)) (children_of (edge_trees (drop l.edge-index l.edges) l.rest))) ≡ replies l.side (edge_turns l.edges)
       (children_of (edge_trees l.edges l.grown));
   whole : grown_in (drop l.edge-index l.edges) ≡ length l.rest;
+  settled : AreZero l.side (children_of (edge_trees (drop l.edge-index l.edges) l.rest));
   lighter : weight_all (children_of (edge_trees (drop l.edge-index l.edges) l.rest)) ≤ weight_all (children_of (edge_trees l.edges l.grown));
 }
