@@ -4,7 +4,6 @@ ghost use Rattle.std.specs.Prelude.{◌≡◌, IfOk};
 
 use crate::rows::cut;
 use std::alloc::Global;
-use std::test::Fail;
 use tt_board::{Board, Colour, Lifeless};
 use tt_sgf::{PointSet, Size};
 
@@ -35,19 +34,20 @@ pub(crate) fn board_of(size: Size, drawn: &[u8]) -> Result<Board, Lifeless>
     )
 }
 
-/// Adds the board that is drawn, unless it has a stone without a liberty: no game has such a board.
-fn put(boards: &mut Vec<Board>, size: Size, drawn: &[u8]) -> Result<(), Fail> {
+/// Adds the board that is drawn, unless it has a stone without a liberty: no game has such a board. None where the drawing is of
+/// another size, or memory is refused.
+fn put(boards: &mut Vec<Board>, size: Size, drawn: &[u8]) -> Option<()> {
     if drawn.len() != size.point_count() {
-        return Err(Fail::from("no board of this size"));
+        return None;
     }
-    if let Ok(board) = board_of(size, drawn) {
-        boards.push(board)?;
+    match board_of(size, drawn) {
+        Ok(board) => boards.push(board).ok(),
+        Err(Lifeless(_)) => Some(()),
     }
-    Ok(())
 }
 
 /// The boards of a text, with a stroke between two.
-pub(crate) fn boards_of(alloc: Global, size: Size, text: &[u8]) -> Result<Vec<Board>, Fail> {
+pub(crate) fn boards_of(alloc: Global, size: Size, text: &[u8]) -> Option<Vec<Board>> {
     let mut boards = Vec::new(alloc);
     let mut rest = text;
     for _ in 0..text.len() {
@@ -58,7 +58,7 @@ pub(crate) fn boards_of(alloc: Global, size: Size, text: &[u8]) -> Result<Vec<Bo
         put(&mut boards, size, drawn)?;
         rest = behind;
     }
-    Ok(boards)
+    Some(boards)
 }
 
 /// The letter of what stands on a point.

@@ -2,13 +2,9 @@
 
 ghost use Rattle.std.specs.Prelude.{◌≡◌};
 
-use crate::search_tests::{letter, posed, trace};
+use crate::search_tests::{AMPLE, Ended, SPLIT, end_of, has_trace, letter, searching, stepped};
 use std::alloc::Global;
-use std::test::Fail;
-use tt_search::{End, Free, Grants, Limits, NoStore, PrivateStore, Reason, Search, Step};
-
-/// White's two stones with liberties on both sides: Black to move wins by the third expansion.
-const SPLIT: &[u8] = b"(;SZ[4:1]AW[ba][da]PL[B]TR[ba])";
+use tt_search::{Free, Grants, NoStore, PrivateStore, Reason, Search, Step};
 
 /// Grants so many asks.
 #[derive(Drop)]
@@ -51,107 +47,129 @@ fn granting(most: u64) -> Few
     }
 }
 
-/// The letter of a step with so many asks granted before it stops. It fails where the grants don't tell what the step did.
-fn step_letter(search: &mut Search, granted: u64) -> Result<char, Fail> {
+/// Whether the grants of a step tell what it did.
+fn tells(grants: &Few, step: Step) -> bool {
+    grants.granted() == u64::from(step == Step::Expanded)
+        && grants.refused() == (step == Step::Stuck(Reason::Total))
+}
+
+/// The letter of a step with so many asks granted before it stops; none where the grants don't tell what the step did.
+fn step_letter(search: &mut Search, granted: u64) -> Option<char> {
     let mut grants = granting(granted);
     let step = search.step(&mut NoStore, &mut grants);
-    if grants.granted() != u64::from(step == Step::Expanded) {
-        return Err(Fail::new("a step counts what it doesn't expand"));
+    if tells(&grants, step) {
+        return Some(letter(step));
     }
-    if grants.refused() != (step == Step::Stuck(Reason::Total)) {
-        return Err(Fail::new("a step is refused otherwise than it says"));
-    }
-    Ok(letter(step))
+    None
 }
 
 /// Writes the letters of four steps.
-fn put_steps(search: &mut Search, most: u64, letters: &mut String) -> Result<(), Fail> {
+fn put_steps(search: &mut Search, most: u64, letters: &mut String) -> Option<()> {
     for _ in 0..4u32 {
         let granted = most.saturating_sub(u64::from(search.expanded()));
-        letters.push(step_letter(search, granted)?)?;
+        letters.push(step_letter(search, granted)?).ok()?;
     }
-    Ok(())
+    Some(())
 }
 
-/// A search at that problem.
-fn searching(alloc: Global) -> Result<Search, Fail> {
-    let Some(limits) = Limits::new(100, 512) else {
-        return Err(Fail::new("no limits"));
-    };
-    Ok(Search::new(alloc, posed(alloc, SPLIT)?, limits)?)
+/// A search at a problem whose third expansion settles it.
+fn split(alloc: Global) -> Option<Search> {
+    searching(alloc, SPLIT, 100, 512)
+}
+
+/// The letters of four steps of it.
+fn letters(alloc: Global, search: &mut Search, most: u64) -> Option<String> {
+    let mut letters = String::new(alloc);
+    put_steps(search, most, &mut letters)?;
+    Some(letters)
 }
 
 /// The letters of its first four steps.
-fn steps(alloc: Global, most: u64) -> Result<String, Fail> {
-    let mut search = searching(alloc)?;
-    let mut letters = String::new(alloc);
-    put_steps(&mut search, most, &mut letters)?;
-    Ok(letters)
+fn first_letters(alloc: Global, most: u64) -> Option<String> {
+    let mut search = split(alloc)?;
+    letters(alloc, &mut search, most)
 }
 
-#[test]
-fn a_refused_step_is_stuck_for_the_total(rt: HostRuntime) -> Result<(), Fail> {
-    assert!(&rt; steps(rt.alloc(), 0)?.as_str() == "TTTT");
-    assert!(&rt; steps(rt.alloc(), 2)?.as_str() == "EETT");
-    assert!(&rt; steps(rt.alloc(), 3)?.as_str() == "EEES");
-    Ok(())
-}
-
-/// How many nodes a search has expanded that ended stuck for the total.
-fn expanded_at_the_total(end: &End) -> Option<u32> {
-    match end {
-        End::Stuck(Reason::Total, Some(search)) => Some(search.expanded()),
-        End::Stuck(_, _) | End::Settled(_) => None,
+/// Whether they are these.
+fn are_letters(alloc: Global, most: u64, want: &[u8]) -> bool {
+    match first_letters(alloc, most) {
+        Some(letters) => letters.as_str().as_bytes() == want,
+        None => false,
     }
 }
 
 #[test]
-fn a_run_spends_what_is_granted(rt: HostRuntime) -> Result<(), Fail> {
+fn a_refused_step_is_stuck_for_the_total(rt: HostRuntime) {
+    let alloc = rt.alloc();
+    assert!(&rt; are_letters(alloc, 0, b"TTTT"));
+    assert!(&rt; are_letters(alloc, 2, b"EETT"));
+    assert!(&rt; are_letters(alloc, 3, b"EEES"));
+}
+
+/// Whether a run that is granted two expansions has them, and is refused the third one.
+fn spends_two(search: Search) -> bool {
     let mut grants = granting(2);
-    let end = searching(rt.alloc())?.run(&mut NoStore, &mut grants);
-    assert!(&rt; expanded_at_the_total(&end) == Some(2));
-    assert!(&rt; grants.granted() == 2 && grants.refused());
-    Ok(())
+    let end = end_of(search.run(&mut NoStore, &mut grants));
+    grants.granted() == 2 && grants.refused() && matches!(end, Ended::Stuck(Reason::Total, _, 2))
+}
+
+/// Whether a run that is granted all it asks for asks three times.
+fn spends_three(search: Search) -> bool {
+    let mut grants = Free::new();
+    let end = end_of(search.run(&mut NoStore, &mut grants));
+    grants.granted() == 3 && !grants.refused() && matches!(end, Ended::Settled(_))
 }
 
 #[test]
-fn a_run_spends_no_more_than_it_needs(rt: HostRuntime) -> Result<(), Fail> {
-    let mut grants = Free::new();
-    let end = searching(rt.alloc())?.run(&mut NoStore, &mut grants);
-    assert!(&rt; matches!(&end, End::Settled(_)));
-    assert!(&rt; grants.granted() == 3 && !grants.refused());
-    Ok(())
+fn a_run_spends_what_is_granted(rt: HostRuntime) {
+    assert!(&rt; split(rt.alloc()).is_some_and(spends_two));
+    assert!(&rt; split(rt.alloc()).is_some_and(spends_three));
 }
 
-/// A search at that problem after two steps over the store.
-fn stepped_twice(alloc: Global, store: &mut PrivateStore) -> Result<Search, Fail> {
-    let mut search = searching(alloc)?;
-    let first = search.step(store, &mut Free::new());
-    let second = search.step(store, &mut Free::new());
-    if first == Step::Expanded && second == Step::Expanded {
-        return Ok(search);
-    }
-    Err(Fail::new("another step"))
+/// Whether a step expands a node.
+fn expands(search: &mut Search, store: &mut PrivateStore) -> bool {
+    stepped(search, store) == Step::Expanded
 }
 
-/// A step of a search that is refused each expansion.
-fn refused_step(search: &mut Search, store: &mut PrivateStore) -> Result<Step, Fail> {
-    let mut grants = granting(0);
-    if grants.ask() {
-        return Err(Fail::new("granted"));
+/// Whether a step closes a leaf where each expansion is refused.
+fn closes_ungranted(search: &mut Search, store: &mut PrivateStore) -> bool {
+    search.step(store, &mut granting(0)) == Step::Closed
+}
+
+/// Whether the third step does, where the first two expand.
+fn closes_third(search: &mut Search, store: &mut PrivateStore) -> bool {
+    if !expands(search, store) {
+        return false;
     }
-    Ok(search.step(store, &mut grants))
+    if !expands(search, store) {
+        return false;
+    }
+    closes_ungranted(search, store)
+}
+
+/// Whether the third step of a search over the store does.
+fn closes_over(alloc: Global, store: &mut PrivateStore) -> Option<bool> {
+    let mut search = split(alloc)?;
+    Some(closes_third(&mut search, store))
+}
+
+/// Whether it does over a store with room for one proof, which has that of an earlier search.
+fn closes_by_a_kept_proof(alloc: Global) -> Option<bool> {
+    let mut store = PrivateStore::bounded(alloc, 1)?;
+    if !has_trace(
+        alloc,
+        SPLIT,
+        AMPLE,
+        &mut store,
+        b"E1,2 E1,2 E0,inf S0,inf 3 1",
+    ) {
+        return Some(false);
+    }
+    closes_over(alloc, &mut store)
 }
 
 /// The store is asked before a grant is: a kept proof closes a leaf where each ask is refused, too.
 #[test]
-fn a_kept_proof_closes_without_a_grant(rt: HostRuntime) -> Result<(), Fail> {
-    let alloc = rt.alloc();
-    let Some(mut store) = PrivateStore::bounded(alloc, 1) else {
-        return Err(Fail::new("no store"));
-    };
-    trace(alloc, SPLIT, 100, 512, &mut store)?;
-    let mut search = stepped_twice(alloc, &mut store)?;
-    assert!(&rt; refused_step(&mut search, &mut store)? == Step::Closed);
-    Ok(())
+fn a_kept_proof_closes_without_a_grant(rt: HostRuntime) {
+    assert!(&rt; closes_by_a_kept_proof(rt.alloc()) == Some(true));
 }

@@ -12,7 +12,7 @@
 //! | `search_tests`, `trace_tests`, `trace_tables` | `tt_search`: searches, their traces, and tables of these |
 //! | `store_tests` | `tt_search`: searches over stores that are full, refuse or are refused |
 //! | `grants_tests` | `tt_search`: searches whose expansions are granted |
-//! | `text_tables` | tables of texts: trees and values |
+//! | `text_tables` | tables of texts: trees, values, records, problems and certificates |
 //! | `rows`, `drawings` | how a table is read that is one text, and boards that are drawn in one |
 
 #![tactic(auto)]

@@ -2,13 +2,15 @@
 
 ghost use Rattle.tt_game.specs.Turns.{IsOnBoard};
 
+use crate::rows::{Table, cut, holding, short_number};
+use crate::text_tables::PROBLEMS;
 use std::alloc::Global;
 use tt_game::{Line, Turn, problem};
 use tt_sgf::{Size, read_tree};
 
 /// The problem that a text is, or the number of the refusal.
-pub(crate) fn posed(alloc: Global, text: &str) -> Result<Line, u8> {
-    let Ok((line, _)) = read_tree(alloc, text.as_bytes()) else {
+pub(crate) fn posed(alloc: Global, text: &[u8]) -> Result<Line, u8> {
+    let Ok((line, _)) = read_tree(alloc, text) else {
         return Err(1);
     };
     match problem(alloc, &line) {
@@ -50,32 +52,25 @@ pub(crate) fn has_turns(line: &Line, marks: &[u8]) -> bool {
     rest.len() == 0
 }
 
-/// The number of the refusal, or 0 where the line's legal turns are those that `marks` marks.
-fn problem_turns(alloc: Global, text: &str, marks: &[u8]) -> u8 {
+/// Whether a problem is refused with this number, or has the legal turns that are marked where the number is 0.
+fn is_posed(alloc: Global, text: &[u8], want: &[u8], marks: &[u8]) -> bool {
     match posed(alloc, text) {
-        Err(code) => code,
-        Ok(line) => { if has_turns(&line, marks) { 0 } else { 1 } }
+        Err(code) => u16::from(code) == short_number(want),
+        Ok(line) => want == b"0".as_slice() && has_turns(&line, marks),
+    }
+}
+
+struct ProblemTable;
+
+impl Table for ProblemTable {
+    fn holds(alloc: Global, line: &[u8]) -> bool {
+        let (want, rest) = cut(line, b'|');
+        let (text, marks) = cut(rest, b'|');
+        is_posed(alloc, text, want, marks)
     }
 }
 
 #[test]
 fn problems(rt: HostRuntime) {
-    let table: [(&str, &[u8], u8); 13] = [
-        ("(;SZ[2:1]AW[ba])", b"", 20),
-        ("(;SZ[2:1]TR[aa])", b"", 22),
-        ("(;SZ[4:1]AW[ba][da]PL[B]TR[ba][da])", b"  - -", 0),
-        ("(;SZ[4:1]AW[ba][da]PL[B]TR[ba][ba])", b"  - -", 0),
-        ("(;SZ[4:1]AW[ba][da]PL[B]TR[ba:ba])", b"  - -", 0),
-        ("(;SZ[4:1]AB[aa]AW[ca]TR[aa][ca])", b"", 23),
-        ("(;SZ[4:1]AW[ca]TR[ca][aa])", b"", 22),
-        ("(;SZ[4:1]AB[aa]AW[ca]TR[aa:ca])", b"", 22),
-        ("(;SZ[4:1]AB[aa]AW[ca]TR[aa][ca]SQ[ea])", b"", 12),
-        ("(;SZ[2:1]AW[ba]TR[ca])", b"", 12),
-        ("(;SZ[2:1]AW[ba]TR[ba]SQ[ca])", b"", 12),
-        ("(;SZ[4:1]AW[ba];B[ca];W[da]TR[ba])", b"    -", 0),
-        ("(;SZ[4:1]AW[ba][da]PL[B]TR[ba])", b"  - -", 0),
-    ];
-    for (text, marks, want) in table {
-        assert!(&rt; problem_turns(rt.alloc(), text, marks) == want, "{text}");
-    }
+    assert_eq!(&rt; holding::<ProblemTable>(rt.alloc(), PROBLEMS, b'\n'), 13);
 }

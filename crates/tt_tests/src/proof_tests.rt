@@ -5,35 +5,29 @@ ghost use Rattle.tt_game.specs.Game.{IsLegal};
 ghost use Rattle.tt_game.specs.Turns.{OnBoard};
 ghost use Rattle.tt_proof.specs.Proven.{IsChild, AreChildren, turns_of};
 
-use std::alloc::Global;
-use std::process::Abort;
-use std::test::Fail;
-use tt_game::{Line, Side, Turn, problem};
+use crate::problem_tests::{posed, turn};
+use crate::rows::{Table, cut, holding, short_number};
+use crate::sgf_tests::put;
+use crate::text_tables::{CERTIFICATES, FITS};
+use std::alloc::{AllocError, Global};
+use tt_game::{Line, Side, Turn};
 use tt_proof::{Proof, Rejected, Tree, read_cert, replay, write_cert};
-use tt_sgf::{Size, read_tree};
 
-/// The problem of a record, or the number of the refusal.
-fn line_of(alloc: Global, record: &[u8]) -> Result<Line, u8> {
-    let Ok((main, _)) = read_tree(alloc, record) else {
-        return Err(1);
-    };
-    match problem(alloc, &main) {
-        Ok(line) => Ok(line),
+/// Whether the certificate wins at the line, or the number of the refusal.
+fn replays(alloc: Global, line: &mut Line, certificate: &[u8]) -> Result<bool, u8> {
+    match read_cert(alloc, certificate, line.frame().size) {
         Err(fault) => Err(fault.code()),
+        Ok((side, tree)) => match replay(&tree, side, line) {
+            Ok(wins) => Ok(wins),
+            Err(_) => Err(40),
+        },
     }
 }
 
 /// Whether the certificate wins at the record's problem, or the number of the refusal.
 fn check(alloc: Global, record: &[u8], certificate: &[u8]) -> Result<bool, u8> {
-    let mut line = line_of(alloc, record)?;
-    let size = line.frame().size;
-    match read_cert(alloc, certificate, size) {
-        Err(fault) => Err(fault.code()),
-        Ok((side, tree)) => match replay(&tree, side, &mut line) {
-            Ok(wins) => Ok(wins),
-            Err(_) => Err(40),
-        },
-    }
+    let mut line = posed(alloc, record)?;
+    replays(alloc, &mut line, certificate)
 }
 
 /// Black to move, with White's two stones that have liberties on both sides, the first one the target; and the same after
@@ -45,54 +39,64 @@ pub(crate) const PLAYED: &[u8] = b"(;SZ[4:1]AW[ba];B[ca];W[da]TR[ba])";
 /// The position of the second problem after a pass, where nobody has passed.
 pub(crate) const UNPASSED: &[u8] = b"(;SZ[4:1]AW[ba][da]PL[W]TR[ba])";
 
-/// White to move, whose stone has one liberty.
-const NARROW: &[u8] = b"(;SZ[2:1]AW[ba]PL[W]TR[ba])";
+/// The first problem after one move.
+pub(crate) const ONE_MOVE: &[u8] = b"(;SZ[4:1]AW[da]PL[W];W[ba]TR[ba])";
 
-/// A problem, a certificate and what comes of them.
-type Row = (&'static [u8], &'static str, Result<bool, u8>);
+/// The certificates of the first problem and of the second one.
+pub(crate) const KILLED: &[u8] = b"killed !ca?aa.--!aa.;";
 
-const CERTIFICATES: [Row; 17] = [
-    (SPLIT, "lives ?--!--.;", Ok(false)),
-    (PLAYED, "lives ?--!--.;", Ok(true)),
-    (PLAYED, "lives ?--!--.", Err(30)),
-    (SPLIT, "killed !ca?aa.;", Ok(false)),
-    (SPLIT, "killed !ca?aa.--!aa.;", Ok(true)),
-    (PLAYED, "killed !ca?aa.--!aa.;", Ok(false)),
-    (UNPASSED, "lives !--.", Ok(false)),
-    (SPLIT, "killed !ca?aa.da.--!aa.;", Ok(true)),
-    (SPLIT, "killed !ca?--!aa.aa.;", Err(30)),
-    (NARROW, "killed ?aa.--!aa.;", Ok(true)),
-    (NARROW, "killed ?aa.;", Ok(false)),
-    (SPLIT, "lives .", Ok(false)),
-    (SPLIT, "killed ?;", Ok(false)),
-    (SPLIT, "killed !cc.", Err(30)),
-    (SPLIT, "", Err(30)),
-    (b"(;SZ[2:1]TR[aa])", "xyz", Err(22)),
-    (b"", "", Err(1)),
-];
+pub(crate) const LIVES: &[u8] = b"lives ?--!--.;";
+
+/// Whether what comes of a certificate at a problem is as it is written.
+fn comes_to(alloc: Global, record: &[u8], certificate: &[u8], want: &[u8]) -> bool {
+    match check(alloc, record, certificate) {
+        Ok(true) => want == b"wins".as_slice(),
+        Ok(false) => want == b"fails".as_slice(),
+        Err(code) => u16::from(code) == short_number(want),
+    }
+}
+
+struct CertificateTable;
+
+impl Table for CertificateTable {
+    fn holds(alloc: Global, line: &[u8]) -> bool {
+        let (want, rest) = cut(line, b'|');
+        let (record, certificate) = cut(rest, b'|');
+        comes_to(alloc, record, certificate, want)
+    }
+}
 
 #[test]
 fn certificates(rt: HostRuntime) {
-    let alloc = rt.alloc();
-    for place in 0..CERTIFICATES.len() {
-        let (problem, certificate, want) = CERTIFICATES[place];
-        let found = check(alloc, problem, certificate.as_bytes());
-        assert!(&rt; found == want, "row {place}: {certificate}");
+    assert_eq!(&rt;
+        holding::<CertificateTable>(rt.alloc(), CERTIFICATES, b'\n'),
+        17
+    );
+}
+
+/// A certificate of so many levels, with that end.
+fn deep(alloc: Global, levels: usize, end: &[u8]) -> Result<Vec<u8>, AllocError> {
+    let mut text = Vec::new(alloc);
+    put(&mut text, b"killed ", 1)?;
+    put(&mut text, b"!--", levels)?;
+    put(&mut text, end, 1)?;
+    Ok(text)
+}
+
+/// Whether it is refused with this number.
+fn deep_is(alloc: Global, levels: usize, end: &[u8], code: u8) -> bool {
+    match deep(alloc, levels, end) {
+        Ok(text) => check(alloc, SPLIT, &text) == Err(code),
+        Err(AllocError) => false,
     }
 }
 
 /// As many levels as may be read, without an end, and one more.
 #[test]
-fn deep_certificates(rt: HostRuntime) -> Result<(), Fail> {
+fn deep_certificates(rt: HostRuntime) {
     let alloc = rt.alloc();
-    let mut deep = b"killed ".to_vec(alloc)?;
-    for _ in 0..512 {
-        deep.extend_from_slice(b"!--")?;
-    }
-    assert!(&rt; check(alloc, SPLIT, &deep) == Err(30), "512 levels");
-    deep.extend_from_slice(b"!--.")?;
-    assert!(&rt; check(alloc, SPLIT, &deep) == Err(31), "513 levels");
-    Ok(())
+    assert!(&rt; deep_is(alloc, 512, b"", 30));
+    assert!(&rt; deep_is(alloc, 513, b".", 31));
 }
 
 /// Whether the turn names a point of the board.
@@ -121,15 +125,13 @@ fn is_child(line: &mut Line, side: Side, turn: &Turn, child: &Proof) -> bool
     stands && child.side() == side && child.depth() <= 511
 }
 
-fn picked(alloc: Global, line: &mut Line, turn: &Turn, child: Proof) -> Result<Proof, Fail> {
+/// The proof that picks a turn, where that is the child behind it.
+fn picked(alloc: Global, line: &mut Line, turn: &Turn, child: Proof) -> Option<Proof> {
     let side = line.to_move();
     if !is_child(line, side, turn, &child) {
-        return Err(Fail::from("no child of a pick"));
+        return None;
     }
-    match Proof::pick(alloc, line, *turn, child) {
-        Ok(proof) => Ok(proof),
-        Err(_) => Err(Fail::from("no memory")),
-    }
+    Proof::pick(alloc, line, *turn, child).ok()
 }
 
 /// Whether there is one child for each turn.
@@ -154,298 +156,281 @@ fn are_children(line: &mut Line, turns: &[Turn], children: &[(Turn, Proof)]) -> 
     true
 }
 
-fn answered(alloc: Global, line: &mut Line, children: Vec<(Turn, Proof)>) -> Result<Proof, Fail> {
+/// The proof that answers each turn, where those are the children behind them.
+fn answered(alloc: Global, line: &mut Line, children: Vec<(Turn, Proof)>) -> Option<Proof> {
     let turns = line.turns();
     if line.winner().is_some() {
-        return Err(Fail::from("somebody has won"));
+        return None;
     }
     if !are_children(line, turns.as_slice(), children.as_slice()) {
-        return Err(Fail::from("no children of a reply"));
+        return None;
     }
-    match Proof::reply(alloc, line, children) {
-        Ok(proof) => Ok(proof),
-        Err(_) => Err(Fail::from("no memory")),
-    }
+    Proof::reply(alloc, line, children).ok()
 }
 
-fn won(alloc: Global, line: &Line) -> Result<Proof, Fail> {
+/// The proof of a line that is won.
+fn won(alloc: Global, line: &Line) -> Option<Proof> {
     if line.winner().is_none() {
-        return Err(Fail::from("nobody has won"));
+        return None;
     }
-    match Proof::done(alloc, line) {
-        Ok(proof) => Ok(proof),
-        Err(_) => Err(Fail::from("no memory")),
-    }
+    Proof::done(alloc, line).ok()
 }
 
 /// The line after a turn.
-pub(crate) fn after(line: &Line, turn: &Turn) -> Result<Line, Fail> {
-    let mut next = line.try_clone()?;
-    if !on_board(&next, turn) {
-        return Err(Fail::from("off the board"));
+fn after(line: &Line, turn: &Turn) -> Option<Line> {
+    if !on_board(line, turn) {
+        return None;
     }
+    let mut next = line.try_clone().ok()?;
     match next.push(*turn) {
-        Ok(()) => Ok(next),
-        Err(_) => Err(Fail::from("not legal")),
+        Ok(()) => Some(next),
+        Err(_) => None,
     }
 }
 
-fn play(line: &Line, number: u16) -> Result<Turn, Fail> {
-    match line.frame().size.point(number) {
-        Some(p) => Ok(Turn::Play(p)),
-        None => Err(Fail::from("off the board")),
+/// The second problem after a pass.
+pub(crate) fn passed(alloc: Global) -> Option<Line> {
+    let line = posed(alloc, PLAYED).ok()?;
+    after(&line, &Turn::Pass)
+}
+
+/// The proof of a certificate at a line, by a replay.
+fn replayed(alloc: Global, line: &mut Line, certificate: &[u8]) -> Option<Proof> {
+    let (side, tree) = read_cert(alloc, certificate, line.frame().size).ok()?;
+    match Proof::replayed(alloc, line, side, tree) {
+        Ok(proof) => Some(proof),
+        Err(Rejected::NotWinning(_)) => None,
+        Err(Rejected::NoMemory(_)) => None,
     }
 }
 
-/// The proof of a certificate, by a replay.
-pub(crate) fn replayed(alloc: Global, line: &mut Line, certificate: &[u8]) -> Result<Proof, Fail> {
-    let size = line.frame().size;
-    match read_cert(alloc, certificate, size) {
-        Err(_) => Err(Fail::from("no certificate")),
-        Ok((side, tree)) => match Proof::replayed(alloc, line, side, tree) {
-            Ok(proof) => Ok(proof),
-            Err(Rejected::NotWinning(_)) => Err(Fail::from("not winning")),
-            Err(Rejected::NoMemory(_)) => Err(Fail::from("no memory")),
-        },
+/// The proof of a certificate at a problem.
+pub(crate) fn found(alloc: Global, record: &[u8], certificate: &[u8]) -> Option<Proof> {
+    let mut line = posed(alloc, record).ok()?;
+    replayed(alloc, &mut line, certificate)
+}
+
+/// The proof of a certificate at the second problem after a pass.
+pub(crate) fn found_passed(alloc: Global, certificate: &[u8]) -> Option<Proof> {
+    let mut line = passed(alloc)?;
+    replayed(alloc, &mut line, certificate)
+}
+
+/// Whether a proof is written as that certificate.
+fn has_text(alloc: Global, proof: &Proof, text: &[u8]) -> bool {
+    let size = proof.present().size();
+    match write_cert(alloc, proof.side(), proof.tree(), size) {
+        Ok(written) => written.as_slice() == text,
+        Err(_) => false,
     }
 }
 
-/// The certificate of a proof at the line.
-fn text_of(alloc: Global, proof: &Proof, line: &Line) -> Result<Vec<u8>, Fail> {
-    if !proof.stands_at(line) {
-        return Err(Fail::from("not at the line"));
-    }
-    match write_cert(alloc, proof.side(), proof.tree(), line.frame().size) {
-        Ok(text) => Ok(text),
-        Err(_) => Err(Fail::from("no memory")),
+/// Whether a copy of a proof's plan is so deep.
+fn has_copy(proof: &Proof, depth: u16) -> bool {
+    match proof.plan().try_clone() {
+        Ok(copy) => copy.depth() == depth,
+        Err(_) => false,
     }
 }
 
-/// The problem of a record.
-pub(crate) fn problem_line(alloc: Global, record: &[u8]) -> Result<Line, Fail> {
-    match line_of(alloc, record) {
-        Ok(line) => Ok(line),
-        Err(_) => Err(Fail::from("no problem")),
-    }
+/// Whether a proof of the first problem says what its certificate does, which begins with this turn.
+fn shows_killed(proof: &Proof, first: Turn) -> bool {
+    proof.side() == Side::Attacker
+        && proof.first() == Some(first)
+        && proof.depth() == 3
+        && proof.nodes() == 5
+        && has_copy(proof, 3)
 }
 
-/// The first problem after one move.
-pub(crate) const ONE_MOVE: &[u8] = b"(;SZ[4:1]AW[da]PL[W];W[ba]TR[ba])";
-
-/// The certificates of the first problem and of the second one.
-pub(crate) const KILLED: &[u8] = b"killed !ca?aa.--!aa.;";
-
-pub(crate) const LIVES: &[u8] = b"lives ?--!--.;";
-
-/// Fails unless this is the certificate of the proof at the line.
-fn has_text(
-    rt: &impl Abort,
-    alloc: Global,
-    proof: &Proof,
-    line: &Line,
-    text: &[u8],
-) -> Result<(), Fail> {
-    assert_eq!(rt; text_of(alloc, proof, line)?.as_slice(), text);
-    Ok(())
+/// Whether the proof of the first problem's certificate does.
+fn found_shows_killed(alloc: Global) -> Option<bool> {
+    let proof = found(alloc, SPLIT, KILLED)?;
+    Some(shows_killed(&proof, turn(proof.present().size(), 2)))
 }
 
-/// Fails unless a proof has the key of its line, and not the key of the line after a turn.
-fn has_own_key(rt: &impl Abort, proof: &Proof, line: &Line, turn: &Turn) -> Result<(), Fail> {
-    let next = after(line, turn)?;
-    assert!(rt; proof.has_key(&line.key()));
-    assert!(rt; !proof.has_key(&next.key()));
-    Ok(())
-}
-
-/// Fails unless a proof of the first problem says what its certificate does.
-fn shows_killed(rt: &impl Abort, alloc: Global, proof: &Proof, line: &Line) -> Result<(), Fail> {
-    let first = play(line, 2)?;
-    assert!(rt; proof.side() == Side::Attacker);
-    assert!(rt; proof.first() == Some(first));
-    assert_eq!(rt; proof.depth(), 3);
-    has_own_key(rt, proof, line, &first)?;
-    has_text(rt, alloc, proof, line, KILLED)
+/// Whether the proof of a certificate is written as it was read.
+fn found_has_text(alloc: Global, record: &[u8], certificate: &[u8]) -> Option<bool> {
+    let proof = found(alloc, record, certificate)?;
+    Some(has_text(alloc, &proof, certificate))
 }
 
 #[test]
-fn attacker_proof_by_replay(rt: HostRuntime) -> Result<(), Fail> {
+fn proofs_by_replay(rt: HostRuntime) {
     let alloc = rt.alloc();
-    let mut line = problem_line(alloc, SPLIT)?;
-    let found = replayed(alloc, &mut line, KILLED)?;
-    shows_killed(&rt, alloc, &found, &line)
+    assert!(&rt; found_shows_killed(alloc) == Some(true));
+    assert!(&rt; found_has_text(alloc, SPLIT, KILLED) == Some(true));
+    assert!(&rt; found_has_text(alloc, PLAYED, LIVES) == Some(true));
 }
 
 /// The proof after a turn with which the problem is won.
-fn won_after(alloc: Global, line: &Line, turn: &Turn) -> Result<Proof, Fail> {
+fn won_after(alloc: Global, line: &Line, turn: &Turn) -> Option<Proof> {
     let over = after(line, turn)?;
     won(alloc, &over)
 }
 
+/// The proof that picks a turn with which the problem is won.
+fn winning_pick(alloc: Global, line: &mut Line, turn: &Turn) -> Option<Proof> {
+    let child = won_after(alloc, line, turn)?;
+    picked(alloc, line, turn, child)
+}
+
 /// The proof after a pass, which picks a turn with which the problem is won.
-fn picked_after_pass(alloc: Global, line: &Line, turn: &Turn) -> Result<Proof, Fail> {
+fn picked_after_pass(alloc: Global, line: &Line, turn: &Turn) -> Option<Proof> {
     let mut passed = after(line, &Turn::Pass)?;
-    let child = won_after(alloc, &passed, turn)?;
-    picked(alloc, &mut passed, turn, child)
+    winning_pick(alloc, &mut passed, turn)
+}
+
+/// Adds a turn and the proof behind it.
+fn put_child(children: &mut Vec<(Turn, Proof)>, turn: Turn, child: Option<Proof>) -> Option<()> {
+    children.push((turn, child?)).ok()
 }
 
 /// The proof after the attacker's first turn, which answers a capture and a pass.
-fn reply_of_attacker(alloc: Global, asked: &mut Line, capture: Turn) -> Result<Proof, Fail> {
+fn reply_of_attacker(alloc: Global, asked: &mut Line, capture: Turn) -> Option<Proof> {
     let mut children = Vec::new(alloc);
-    children.push((capture, won_after(alloc, asked, &capture)?))?;
-    children.push((Turn::Pass, picked_after_pass(alloc, asked, &capture)?))?;
+    put_child(&mut children, capture, won_after(alloc, asked, &capture))?;
+    put_child(
+        &mut children,
+        Turn::Pass,
+        picked_after_pass(alloc, asked, &capture),
+    )?;
     answered(alloc, asked, children)
 }
 
 /// That proof, of the line at which the attacker has the first turn.
-fn reply_after(alloc: Global, line: &Line, first: &Turn, capture: Turn) -> Result<Proof, Fail> {
+fn reply_after(alloc: Global, line: &Line, first: &Turn, capture: Turn) -> Option<Proof> {
     let mut asked = after(line, first)?;
     reply_of_attacker(alloc, &mut asked, capture)
 }
 
+/// The proof that picks a turn, which is answered by a capture or a pass.
+fn pick_of_attacker(alloc: Global, line: &mut Line, first: &Turn, capture: Turn) -> Option<Proof> {
+    let reply = reply_after(alloc, line, first, capture)?;
+    picked(alloc, line, first, reply)
+}
+
 /// The attacker's proof of the first problem, made turn by turn.
-pub(crate) fn made_by_attacker(alloc: Global, line: &mut Line) -> Result<Proof, Fail> {
-    let first = play(line, 2)?;
-    let capture = play(line, 0)?;
-    let reply = reply_after(alloc, line, &first, capture)?;
-    picked(alloc, line, &first, reply)
+pub(crate) fn made_by_attacker(alloc: Global) -> Option<Proof> {
+    let mut line = posed(alloc, SPLIT).ok()?;
+    let size = line.frame().size;
+    pick_of_attacker(alloc, &mut line, &turn(size, 2), turn(size, 0))
 }
 
-#[test]
-fn attacker_proof_by_parts(rt: HostRuntime) -> Result<(), Fail> {
-    let alloc = rt.alloc();
-    let mut line = problem_line(alloc, SPLIT)?;
-    let made = made_by_attacker(alloc, &mut line)?;
-    has_text(&rt, alloc, &made, &line, KILLED)
-}
-
-#[test]
-fn defender_proof_by_replay(rt: HostRuntime) -> Result<(), Fail> {
-    let alloc = rt.alloc();
-    let mut line = problem_line(alloc, PLAYED)?;
-    let found = replayed(alloc, &mut line, LIVES)?;
-    has_text(&rt, alloc, &found, &line, LIVES)
-}
-
-/// The defender's proof of the second problem, made turn by turn.
-pub(crate) fn made_by_defender(alloc: Global, line: &mut Line) -> Result<Proof, Fail> {
+/// The proof that answers a pass, behind which it picks a pass.
+fn reply_of_defender(alloc: Global, line: &mut Line) -> Option<Proof> {
     let mut children = Vec::new(alloc);
-    children.push((Turn::Pass, picked_after_pass(alloc, line, &Turn::Pass)?))?;
+    put_child(
+        &mut children,
+        Turn::Pass,
+        picked_after_pass(alloc, line, &Turn::Pass),
+    )?;
     answered(alloc, line, children)
 }
 
-#[test]
-fn defender_proof_by_parts(rt: HostRuntime) -> Result<(), Fail> {
-    let alloc = rt.alloc();
-    let mut line = problem_line(alloc, PLAYED)?;
-    let made = made_by_defender(alloc, &mut line)?;
-    has_text(&rt, alloc, &made, &line, LIVES)
+/// The defender's proof of the second problem, made turn by turn.
+pub(crate) fn made_by_defender(alloc: Global) -> Option<Proof> {
+    let mut line = posed(alloc, PLAYED).ok()?;
+    reply_of_defender(alloc, &mut line)
 }
 
-/// How many nodes a proof has, and how deep a copy of its plan is.
-fn sizes(proof: &Proof) -> Result<(u64, u16), Fail> {
-    let copy = proof.plan().try_clone()?;
-    Ok((proof.nodes(), copy.depth()))
-}
-
-#[test]
-fn measures(rt: HostRuntime) -> Result<(), Fail> {
-    let alloc = rt.alloc();
-    let mut line = problem_line(alloc, SPLIT)?;
-    let found = replayed(alloc, &mut line, KILLED)?;
-    assert!(&rt; sizes(&found)? == (5, 3));
-    Ok(())
-}
-
-/// Whether the proof of a certificate at the first problem fits the line of the other.
-fn fits(alloc: Global, record: &[u8], certificate: &[u8], other: &[u8]) -> Result<bool, Fail> {
-    let mut line = problem_line(alloc, record)?;
-    let proof = replayed(alloc, &mut line, certificate)?;
-    fits_at(alloc, &proof, other)
-}
-
-/// Whether a proof fits the line of a problem.
-fn fits_at(alloc: Global, proof: &Proof, record: &[u8]) -> Result<bool, Fail> {
-    let line = problem_line(alloc, record)?;
-    Ok(proof.fits(&line))
-}
-
-/// Whether the proof of a certificate at the first problem stands at the line of the other.
-fn stands(alloc: Global, record: &[u8], certificate: &[u8], other: &[u8]) -> Result<bool, Fail> {
-    let mut line = problem_line(alloc, record)?;
-    let proof = replayed(alloc, &mut line, certificate)?;
-    stands_at(alloc, &proof, other)
-}
-
-/// Whether a proof stands at the line of a problem.
-fn stands_at(alloc: Global, proof: &Proof, record: &[u8]) -> Result<bool, Fail> {
-    let line = problem_line(alloc, record)?;
-    Ok(proof.stands_at(&line))
+/// Whether a proof that was made is written as that certificate.
+fn made_has_text(alloc: Global, made: Option<Proof>, text: &[u8]) -> Option<bool> {
+    let proof = made?;
+    Some(has_text(alloc, &proof, text))
 }
 
 #[test]
-fn killed_fits(rt: HostRuntime) -> Result<(), Fail> {
+fn proofs_by_parts(rt: HostRuntime) {
     let alloc = rt.alloc();
-    assert!(&rt; fits(alloc, SPLIT, KILLED, SPLIT)?, "where it was found");
-    assert!(&rt;
-        !fits(alloc, SPLIT, KILLED, PLAYED)?,
-        "what it avoids has been"
-    );
-    assert!(&rt; fits(alloc, SPLIT, KILLED, ONE_MOVE)?, "after one move");
-    assert!(&rt;
-        !stands(alloc, SPLIT, KILLED, ONE_MOVE)?,
-        "it stands after no move"
-    );
-    Ok(())
+    assert!(&rt; made_has_text(alloc, made_by_attacker(alloc), KILLED) == Some(true));
+    assert!(&rt; made_has_text(alloc, made_by_defender(alloc), LIVES) == Some(true));
 }
 
-#[test]
-fn lives_fits(rt: HostRuntime) -> Result<(), Fail> {
-    let alloc = rt.alloc();
-    assert!(&rt;
-        !fits(alloc, PLAYED, LIVES, SPLIT)?,
-        "what it needs is missing"
-    );
-    assert!(&rt; fits(alloc, PLAYED, LIVES, PLAYED)?, "where it was found");
-    Ok(())
+/// The letters of what is so of a proof and a line: `k` where it has the line's key, `f` where it fits the line, and `s` where
+/// it stands there; a dash where not.
+fn letters(proof: &Proof, line: &Line) -> [u8; 3] {
+    [
+        if proof.has_key(&line.key()) {
+            b'k'
+        } else {
+            b'-'
+        },
+        if proof.fits(line) { b'f' } else { b'-' },
+        if proof.stands_at(line) { b's' } else { b'-' },
+    ]
 }
 
-/// Fails unless the proof of a line at which a side has passed fits that line, and not one at which nobody has.
-fn fits_passed(
-    rt: &impl Abort,
+/// Whether that is so of a proof and the line of a problem.
+fn is_so_at(alloc: Global, proof: &Proof, record: &[u8], want: &[u8]) -> Option<bool> {
+    let line = posed(alloc, record).ok()?;
+    Some(letters(proof, &line).as_slice() == want)
+}
+
+/// Whether that is so of the proof of a certificate at the first problem, and the line of the other.
+fn found_is_so(
     alloc: Global,
-    passed: &mut Line,
+    record: &[u8],
     certificate: &[u8],
-    not_passed: &[u8],
-) -> Result<(), Fail> {
-    let proof = replayed(alloc, passed, certificate)?;
-    assert!(rt; proof.fits(passed), "after the pass");
-    assert!(rt;
-        !fits_at(alloc, &proof, not_passed)?,
-        "where nobody has passed"
-    );
-    Ok(())
+    other: &[u8],
+    want: &[u8],
+) -> Option<bool> {
+    let proof = found(alloc, record, certificate)?;
+    is_so_at(alloc, &proof, other, want)
+}
+
+struct FitTable;
+
+impl Table for FitTable {
+    fn holds(alloc: Global, line: &[u8]) -> bool {
+        let (want, rest) = cut(line, b'|');
+        let (record, rest) = cut(rest, b'|');
+        let (certificate, other) = cut(rest, b'|');
+        found_is_so(alloc, record, certificate, other, want) == Some(true)
+    }
+}
+
+/// Whether that is so of the proof that is made turn by turn, and the line of a problem.
+fn made_is_so(alloc: Global, record: &[u8], want: &[u8]) -> Option<bool> {
+    let made = made_by_attacker(alloc)?;
+    is_so_at(alloc, &made, record, want)
 }
 
 #[test]
-fn passes_fit(rt: HostRuntime) -> Result<(), Fail> {
+fn proofs_fit(rt: HostRuntime) {
     let alloc = rt.alloc();
-    let line = problem_line(alloc, PLAYED)?;
-    let mut passed = after(&line, &Turn::Pass)?;
-    fits_passed(&rt, alloc, &mut passed, b"lives !--.", UNPASSED)
+    assert_eq!(&rt; holding::<FitTable>(alloc, FITS, b'\n'), 6);
+    assert!(&rt; made_is_so(alloc, SPLIT, b"kfs") == Some(true));
+    assert!(&rt; made_is_so(alloc, PLAYED, b"k--") == Some(true));
+    assert!(&rt; made_is_so(alloc, ONE_MOVE, b"kf-") == Some(true));
 }
 
-/// Whether the proof that is made turn by turn fits the line of a problem.
-fn made_fits(alloc: Global, record: &[u8]) -> Result<bool, Fail> {
-    let mut line = problem_line(alloc, SPLIT)?;
-    let made = made_by_attacker(alloc, &mut line)?;
-    fits_at(alloc, &made, record)
+/// Whether a proof stands at the second problem after a pass.
+fn stands_passed(alloc: Global, proof: &Proof) -> Option<bool> {
+    let line = passed(alloc)?;
+    Some(letters(proof, &line).as_slice() == b"kfs".as_slice())
 }
 
+/// Whether the proof of a certificate at the second problem after a pass stands there.
+fn found_stands_passed(alloc: Global, certificate: &[u8]) -> Option<bool> {
+    let proof = found_passed(alloc, certificate)?;
+    stands_passed(alloc, &proof)
+}
+
+/// Whether that is so of the proof of a certificate at the second problem after a pass, and the line of a problem.
+fn found_passed_is_so(
+    alloc: Global,
+    certificate: &[u8],
+    other: &[u8],
+    want: &[u8],
+) -> Option<bool> {
+    let proof = found_passed(alloc, certificate)?;
+    is_so_at(alloc, &proof, other, want)
+}
+
+/// A proof behind a pass stands there, and does not even fit where nobody has passed.
 #[test]
-fn made_proofs_fit(rt: HostRuntime) -> Result<(), Fail> {
+fn passes_fit(rt: HostRuntime) {
     let alloc = rt.alloc();
-    assert!(&rt; made_fits(alloc, SPLIT)?, "where it was made");
-    assert!(&rt; !made_fits(alloc, PLAYED)?, "what it avoids has been");
-    assert!(&rt; made_fits(alloc, ONE_MOVE)?, "after one move");
-    Ok(())
+    assert!(&rt; found_stands_passed(alloc, b"lives !--.") == Some(true));
+    assert!(&rt; found_passed_is_so(alloc, b"lives !--.", UNPASSED, b"---") == Some(true));
 }

@@ -1,13 +1,15 @@
 //! Records and games, with what they come to by a program written from the rules alone.
 
 use crate::problem_tests::turn;
+use crate::rows::{Table, cut, holding, short_number};
+use crate::text_tables::RECORDS;
 use std::alloc::Global;
 use tt_game::{Game, Turn, play_record};
 use tt_sgf::{Size, read_tree};
 
 /// Black's and White's points and whether the game is over, or the number of the refusal.
-fn score(alloc: Global, text: &str) -> Result<(u16, u16, bool), u8> {
-    let Ok((line, _)) = read_tree(alloc, text.as_bytes()) else {
+fn score(alloc: Global, text: &[u8]) -> Result<(u16, u16, bool), u8> {
+    let Ok((line, _)) = read_tree(alloc, text) else {
         return Err(1);
     };
     match play_record(alloc, &line) {
@@ -16,41 +18,37 @@ fn score(alloc: Global, text: &str) -> Result<(u16, u16, bool), u8> {
     }
 }
 
+/// Whether a record's score is as it is written.
+fn has_score(alloc: Global, text: &[u8], want: &[u8]) -> bool {
+    let (black, rest) = cut(want, b' ');
+    let (white, end) = cut(rest, b' ');
+    match score(alloc, text) {
+        Ok((of_black, of_white, true)) => {
+            end == b"finished".as_slice()
+                && of_black == short_number(black)
+                && of_white == short_number(white)
+        }
+        Ok((of_black, of_white, false)) => {
+            end == b"unfinished".as_slice()
+                && of_black == short_number(black)
+                && of_white == short_number(white)
+        }
+        Err(code) => rest.is_empty() && u16::from(code) == short_number(black),
+    }
+}
+
+struct RecordTable;
+
+impl Table for RecordTable {
+    fn holds(alloc: Global, line: &[u8]) -> bool {
+        let (want, text) = cut(line, b'|');
+        has_score(alloc, text, want)
+    }
+}
+
 #[test]
 fn records(rt: HostRuntime) {
-    let table: [(&str, Result<(u16, u16, bool), u8>); 28] = [
-        ("(;GM[1]FF[4]SZ[2];B[aa];W[];B[])", Ok((4, 0, true))),
-        ("(;GM[1]SZ[19];B[ss];W[tt];B[])", Ok((361, 0, true))),
-        ("(;SZ[1])", Ok((0, 0, false))),
-        ("(;SZ[1];B[aa])", Err(17)),
-        ("(;SZ[2:1];B[aa];W[ba];B[];W[aa])", Err(17)),
-        ("(;SZ[4:1]AB[aa]AW[ca];B[ba])", Ok((0, 4, false))),
-        ("(;SZ[3:1];B[aa];B[ba])", Ok((3, 0, false))),
-        ("(;SZ[2];B[];W[];B[aa])", Err(18)),
-        ("x(;SZ[2:1]AB[ba:aa])", Err(15)),
-        ("(;SZ[0])", Err(11)),
-        ("(;SZ[2]AB[aa]AW[aa])", Err(13)),
-        ("(;SZ[2]AB[aa];B[bb]AW[ab])", Err(14)),
-        ("(;GM[3])", Err(10)),
-        ("(;SZ[2];B[ca])", Err(12)),
-        ("(;SZ[2]AB[aa];B[aa])", Err(16)),
-        ("(;SZ[3:1]AB[aa];W[ca]PL[W])", Ok((1, 1, false))),
-        ("(;SZ[3:1](;B[aa])(;B[ba]))", Ok((3, 0, false))),
-        ("(;SZ[3]AW[ba][ab]AB[ca][bb][ac];B[aa])", Ok((9, 0, false))),
-        ("(;SZ[19:1];B[sa])", Ok((19, 0, false))),
-        ("(;B[aa] [bb])", Err(14)),
-        ("(;SZ[20])", Err(11)),
-        ("(;SZ[2:20])", Err(11)),
-        ("(;SZ[+02])", Ok((0, 0, false))),
-        ("(;SZ[2 :3])", Err(11)),
-        ("(;SZ[2];B[];B[aa])", Err(18)),
-        ("(;GM[2]SZ[2])", Err(10)),
-        ("(;SZ[2]PL[x])", Err(12)),
-        ("(;SZ[2]PL[B\\]])", Ok((0, 0, false))),
-    ];
-    for (text, want) in table {
-        assert!(&rt; score(rt.alloc(), text) == want, "{text}");
-    }
+    assert_eq!(&rt; holding::<RecordTable>(rt.alloc(), RECORDS, b'~'), 28);
 }
 
 /// From an empty board of 2 by 2: a move, a move on its stone, and a pass.

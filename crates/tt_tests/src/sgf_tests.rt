@@ -44,7 +44,7 @@ fn trees(rt: HostRuntime) {
 }
 
 /// Adds a text so many times.
-fn put(text: &mut Vec<u8>, part: &[u8], times: usize) -> Result<(), AllocError> {
+pub(crate) fn put(text: &mut Vec<u8>, part: &[u8], times: usize) -> Result<(), AllocError> {
     for _ in 0..times {
         text.extend_from_slice(part)?;
     }

@@ -2,20 +2,13 @@
 
 ghost use Rattle.std.specs.Prelude.{◌≡◌, ◌+◌, ◌≤◌};
 
-use crate::search_tests::{counts, posed, told, trace};
+use crate::search_tests::{AMPLE, SPLIT, has_trace, put_counts, put_step, searching, stepped};
 use std::alloc::Global;
 use std::sync::Arc;
-use std::test::Fail;
 use tt_game::{Line, Side};
 use tt_proof::Proof;
-use tt_search::{Free, Kept, Limits, PrivateStore, Reason, Search, Step, Store};
+use tt_search::{Kept, PrivateStore, Reason, Search, Step, Store};
 use tt_sgf::NoMemory;
-
-/// White's two stones with liberties on both sides: Black to move wins.
-const SPLIT: &[u8] = b"(;SZ[4:1]AW[ba][da]PL[B]TR[ba])";
-
-/// The first search of it over an empty store, with its numbers; how many nodes are expanded and how many proofs are kept.
-const STEPS: &str = "E1,2 E1,2 E0,inf S0,inf 3 3";
 
 /// A store with room for a hundred proofs, which refuses to keep any. It counts the questions, those out of turn, since the
 /// attacker is to be asked for before the defender, and the offers.
@@ -98,117 +91,122 @@ impl Store for RefusedOnce {
     }
 }
 
+/// Whether a store may have room for so many proofs.
+fn is_room(alloc: Global, capacity: usize) -> bool {
+    PrivateStore::bounded(alloc, capacity).is_some()
+}
+
 #[test]
 fn no_store_past_the_limit(rt: HostRuntime) {
-    let alloc = rt.alloc();
-    assert!(&rt; PrivateStore::bounded(alloc, 4_096).is_some());
-    assert!(&rt; PrivateStore::bounded(alloc, 4_097).is_none());
+    assert!(&rt; is_room(rt.alloc(), 4_096));
+    assert!(&rt; !is_room(rt.alloc(), 4_097));
+}
+
+/// Whether two searches over a store with one place have these traces.
+fn searches_over_one(alloc: Global, first: &[u8], second: &[u8]) -> Option<bool> {
+    let mut store = PrivateStore::bounded(alloc, 1)?;
+    Some(
+        has_trace(alloc, SPLIT, AMPLE, &mut store, first)
+            && has_trace(alloc, SPLIT, AMPLE, &mut store, second),
+    )
 }
 
 /// A store of one proof has the deepest one alone, which closes a leaf of a second search.
 #[test]
-fn searches_over_one_place(rt: HostRuntime) -> Result<(), Fail> {
-    let alloc = rt.alloc();
-    let Some(mut store) = PrivateStore::bounded(alloc, 1) else {
-        return Err(Fail::new("no store"));
-    };
-    let first = trace(alloc, SPLIT, 100, 512, &mut store)?;
-    assert!(&rt; first.as_str() == "E1,2 E1,2 E0,inf S0,inf 3 1", "{first}");
-    let second = trace(alloc, SPLIT, 100, 512, &mut store)?;
-    assert!(&rt;
-        second.as_str() == "E1,2 E1,2 C0,inf S0,inf 2 1",
-        "{second}"
-    );
-    Ok(())
+fn searches_over_one_place(rt: HostRuntime) {
+    let first = b"E1,2 E1,2 E0,inf S0,inf 3 1";
+    let second = b"E1,2 E1,2 C0,inf S0,inf 2 1";
+    assert!(&rt; searches_over_one(rt.alloc(), first, second) == Some(true));
 }
 
-/// A search at that problem over a store that refuses to keep, with how often it asked, and offered.
-fn refused(alloc: Global, depth: u16) -> Result<(String, u32, u32), Fail> {
+/// Whether a search over a store that refuses to keep has this trace, with how often it asked, and offered.
+fn refused(alloc: Global, depth: u16, want: &[u8], questions: u32, offers: u32) -> bool {
     let mut store = Refusing {
         questions: 0,
         astray: 0,
         offers: 0,
     };
-    let steps = trace(alloc, SPLIT, 100, depth, &mut store)?;
-    if store.astray != 0 {
-        return Err(Fail::new("asked for the defender first"));
-    }
-    Ok((steps, store.questions, store.offers))
+    has_trace(alloc, SPLIT, (100, depth), &mut store, want)
+        && store.astray == 0
+        && store.questions == questions
+        && store.offers == offers
 }
 
 /// Neither the search nor the offers stop where a proof isn't kept: three nodes are settled, by three expansions, and the
 /// store is asked twice for each.
 #[test]
-fn a_refused_keep_stops_no_search(rt: HostRuntime) -> Result<(), Fail> {
-    let (steps, questions, offers) = refused(rt.alloc(), 512)?;
-    assert!(&rt; steps.as_str() == "E1,2 E1,2 E0,inf S0,inf 3 0", "{steps}");
-    assert!(&rt; questions == 6 && offers == 3);
-    Ok(())
+fn a_refused_keep_stops_no_search(rt: HostRuntime) {
+    assert!(&rt; refused(rt.alloc(), 512, b"E1,2 E1,2 E0,inf S0,inf 3 0", 6, 3));
 }
 
 /// The store is asked before the depth is looked at, too.
 #[test]
-fn asks_at_the_limit_on_depth(rt: HostRuntime) -> Result<(), Fail> {
-    let (steps, questions, offers) = refused(rt.alloc(), 1)?;
-    assert!(&rt; steps.as_str() == "E1,2 D1,2 1 0", "{steps}");
-    assert!(&rt; questions == 4 && offers == 0);
-    Ok(())
+fn asks_at_the_limit_on_depth(rt: HostRuntime) {
+    assert!(&rt; refused(rt.alloc(), 1, b"E1,2 D1,2 1 0", 4, 0));
 }
 
-/// Writes the steps of a search up to its end, but for those that were refused memory, with how many nodes are expanded and
-/// how many proofs are kept. Answers how many steps were refused.
+/// Makes a step. Whether it was refused memory and changed nothing; or what it answered is written, and it was not. None where a
+/// refused step changed the search.
+fn put_unless_refused(
+    alloc: Global,
+    search: &mut Search,
+    store: &mut RefusedOnce,
+    text: &mut String,
+) -> Option<Step> {
+    let before = (search.numbers(), search.expanded());
+    let step = stepped(search, store);
+    if step == Step::Stuck(Reason::Memory) {
+        if (search.numbers(), search.expanded()) != before {
+            return None;
+        }
+    } else {
+        put_step(alloc, step, search.numbers(), text)?;
+    }
+    Some(step)
+}
+
+/// Writes the steps of a search up to its end, but for those that were refused memory. Answers how many were refused.
 fn put_steps(
     alloc: Global,
     search: &mut Search,
     store: &mut RefusedOnce,
-    steps: &mut String,
-) -> Result<u32, Fail> {
+    text: &mut String,
+) -> Option<u32> {
     let mut refusals = 0u32;
     for _ in 0..8u32 {
-        let numbers = search.numbers();
-        let expanded = search.expanded();
-        let step = search.step(store, &mut Free::new());
-        if step == Step::Stuck(Reason::Memory) {
-            if search.numbers() != numbers || search.expanded() != expanded {
-                return Err(Fail::new("a refused step changed the search"));
-            }
-            refusals = refusals.saturating_add(1);
-        } else {
-            steps.push_str(told(alloc, step, search)?.as_str())?;
-            if step != Step::Expanded {
-                break;
-            }
+        match put_unless_refused(alloc, search, store, text)? {
+            Step::Expanded => {}
+            Step::Stuck(Reason::Memory) => refusals = refusals.saturating_add(1),
+            _ => return Some(refusals),
         }
     }
-    steps.push_str(counts(alloc, search, store.kept())?.as_str())?;
-    Ok(refusals)
+    Some(refusals)
 }
 
-/// Those steps of a search at that problem over a store that is refused memory after so many questions, and how many of them
-/// were refused.
-fn steps_past_refusals(alloc: Global, before: u32) -> Result<(String, u32), Fail> {
-    let Some(limits) = Limits::new(100, 512) else {
-        return Err(Fail::new("no limits"));
-    };
+/// Whether those steps, with how many nodes are expanded and how many proofs are kept, are as they are without a refusal, and so
+/// many steps were refused.
+fn goes_on(alloc: Global, search: &mut Search, store: &mut RefusedOnce, want: u32) -> Option<bool> {
+    let mut text = String::new(alloc);
+    let refusals = put_steps(alloc, search, store, &mut text)?;
+    put_counts(alloc, search.expanded(), store.kept(), &mut text)?;
+    Some(refusals == want && text.as_str() == "E1,2 E1,2 E0,inf S0,inf 3 3")
+}
+
+/// Whether a search goes on so over a store that is refused memory after so many questions, and once.
+fn goes_on_after(alloc: Global, before: u32) -> Option<bool> {
+    let mut search = searching(alloc, SPLIT, 100, 512)?;
     let mut store = RefusedOnce { before, kept: 0 };
-    let mut search = Search::new(alloc, posed(alloc, SPLIT)?, limits)?;
-    let mut steps = String::new(alloc);
-    let refusals = put_steps(alloc, &mut search, &mut store, &mut steps)?;
-    Ok((steps, refusals))
+    goes_on(alloc, &mut search, &mut store, u32::from(before < 6))
 }
 
 /// Three expansions ask the store twice each. Whichever question is refused memory, the next step goes on as if the
 /// refused one had never been asked for, and each node that is settled is still offered.
 #[test]
-fn goes_on_after_want_of_memory(rt: HostRuntime) -> Result<(), Fail> {
-    let alloc = rt.alloc();
+fn goes_on_after_want_of_memory(rt: HostRuntime) {
     for before in 0..7u32 {
-        let (steps, refusals) = steps_past_refusals(alloc, before)?;
         assert!(&rt;
-            steps.as_str() == STEPS,
-            "after {before} questions: {steps}"
+            goes_on_after(rt.alloc(), before) == Some(true),
+            "after {before} questions"
         );
-        assert!(&rt; (refusals == 1) == (before < 6), "after {before} questions");
     }
-    Ok(())
 }

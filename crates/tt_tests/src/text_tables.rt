@@ -74,3 +74,84 @@ bad|(;SQ[tt])~\
 bad|(;SQ[aa][])~\
 bad|(;SQ[aa:ab])~\
 ";
+
+/// Black's points, White's and whether the game is over; or the number of the refusal.
+pub(crate) const RECORDS: &str = "\
+4 0 finished|(;GM[1]FF[4]SZ[2];B[aa];W[];B[])~\
+361 0 finished|(;GM[1]SZ[19];B[ss];W[tt];B[])~\
+0 0 unfinished|(;SZ[1])~\
+17|(;SZ[1];B[aa])~\
+17|(;SZ[2:1];B[aa];W[ba];B[];W[aa])~\
+0 4 unfinished|(;SZ[4:1]AB[aa]AW[ca];B[ba])~\
+3 0 unfinished|(;SZ[3:1];B[aa];B[ba])~\
+18|(;SZ[2];B[];W[];B[aa])~\
+15|x(;SZ[2:1]AB[ba:aa])~\
+11|(;SZ[0])~\
+13|(;SZ[2]AB[aa]AW[aa])~\
+14|(;SZ[2]AB[aa];B[bb]AW[ab])~\
+10|(;GM[3])~\
+12|(;SZ[2];B[ca])~\
+16|(;SZ[2]AB[aa];B[aa])~\
+1 1 unfinished|(;SZ[3:1]AB[aa];W[ca]PL[W])~\
+3 0 unfinished|(;SZ[3:1](;B[aa])(;B[ba]))~\
+9 0 unfinished|(;SZ[3]AW[ba][ab]AB[ca][bb][ac];B[aa])~\
+19 0 unfinished|(;SZ[19:1];B[sa])~\
+14|(;B[aa] [bb])~\
+11|(;SZ[20])~\
+11|(;SZ[2:20])~\
+0 0 unfinished|(;SZ[+02])~\
+11|(;SZ[2 :3])~\
+18|(;SZ[2];B[];B[aa])~\
+10|(;GM[2]SZ[2])~\
+12|(;SZ[2]PL[x])~\
+0 0 unfinished|(;SZ[2]PL[B\\]])~\
+";
+
+/// The number of a problem's refusal, or 0; the problem; and a dash for each of its legal turns.
+pub(crate) const PROBLEMS: &str = "\
+20|(;SZ[2:1]AW[ba])|
+22|(;SZ[2:1]TR[aa])|
+0|(;SZ[4:1]AW[ba][da]PL[B]TR[ba][da])|  - -
+0|(;SZ[4:1]AW[ba][da]PL[B]TR[ba][ba])|  - -
+0|(;SZ[4:1]AW[ba][da]PL[B]TR[ba:ba])|  - -
+23|(;SZ[4:1]AB[aa]AW[ca]TR[aa][ca])|
+22|(;SZ[4:1]AW[ca]TR[ca][aa])|
+22|(;SZ[4:1]AB[aa]AW[ca]TR[aa:ca])|
+12|(;SZ[4:1]AB[aa]AW[ca]TR[aa][ca]SQ[ea])|
+12|(;SZ[2:1]AW[ba]TR[ca])|
+12|(;SZ[2:1]AW[ba]TR[ba]SQ[ca])|
+0|(;SZ[4:1]AW[ba];B[ca];W[da]TR[ba])|    -
+0|(;SZ[4:1]AW[ba][da]PL[B]TR[ba])|  - -
+";
+
+/// What comes of a certificate at a problem, or the number of the refusal; the problem; and the certificate.
+pub(crate) const CERTIFICATES: &str = "\
+fails|(;SZ[4:1]AW[ba][da]PL[B]TR[ba])|lives ?--!--.;
+wins|(;SZ[4:1]AW[ba];B[ca];W[da]TR[ba])|lives ?--!--.;
+30|(;SZ[4:1]AW[ba];B[ca];W[da]TR[ba])|lives ?--!--.
+fails|(;SZ[4:1]AW[ba][da]PL[B]TR[ba])|killed !ca?aa.;
+wins|(;SZ[4:1]AW[ba][da]PL[B]TR[ba])|killed !ca?aa.--!aa.;
+fails|(;SZ[4:1]AW[ba];B[ca];W[da]TR[ba])|killed !ca?aa.--!aa.;
+fails|(;SZ[4:1]AW[ba][da]PL[W]TR[ba])|lives !--.
+wins|(;SZ[4:1]AW[ba][da]PL[B]TR[ba])|killed !ca?aa.da.--!aa.;
+30|(;SZ[4:1]AW[ba][da]PL[B]TR[ba])|killed !ca?--!aa.aa.;
+wins|(;SZ[2:1]AW[ba]PL[W]TR[ba])|killed ?aa.--!aa.;
+fails|(;SZ[2:1]AW[ba]PL[W]TR[ba])|killed ?aa.;
+fails|(;SZ[4:1]AW[ba][da]PL[B]TR[ba])|lives .
+fails|(;SZ[4:1]AW[ba][da]PL[B]TR[ba])|killed ?;
+30|(;SZ[4:1]AW[ba][da]PL[B]TR[ba])|killed !cc.
+30|(;SZ[4:1]AW[ba][da]PL[B]TR[ba])|
+22|(;SZ[2:1]TR[aa])|xyz
+1||
+";
+
+/// What is so of a proof and a line: whether it has the line's key, fits the line and stands there, a letter each or a dash; the
+/// problem that is proved and the certificate; and the problem of the line.
+pub(crate) const FITS: &str = "\
+kfs|(;SZ[4:1]AW[ba][da]PL[B]TR[ba])|killed !ca?aa.--!aa.;|(;SZ[4:1]AW[ba][da]PL[B]TR[ba])
+k--|(;SZ[4:1]AW[ba][da]PL[B]TR[ba])|killed !ca?aa.--!aa.;|(;SZ[4:1]AW[ba];B[ca];W[da]TR[ba])
+kf-|(;SZ[4:1]AW[ba][da]PL[B]TR[ba])|killed !ca?aa.--!aa.;|(;SZ[4:1]AW[da]PL[W];W[ba]TR[ba])
+---|(;SZ[4:1]AW[ba][da]PL[B]TR[ba])|killed !ca?aa.--!aa.;|(;SZ[4:1]AW[ba][da]PL[W]TR[ba])
+k--|(;SZ[4:1]AW[ba];B[ca];W[da]TR[ba])|lives ?--!--.;|(;SZ[4:1]AW[ba][da]PL[B]TR[ba])
+kfs|(;SZ[4:1]AW[ba];B[ca];W[da]TR[ba])|lives ?--!--.;|(;SZ[4:1]AW[ba];B[ca];W[da]TR[ba])
+";

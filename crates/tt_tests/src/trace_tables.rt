@@ -1,7 +1,7 @@
 //! Tables of traces: a line each, with the problem, the budget, the limit on depth, how many proofs the store keeps, and the traces of
 //! two searches over one store. A bar ends each part but the last one.
 
-pub(crate) const TRACES_1: &str = "\
+pub(crate) const TRACES: &str = "\
 (;SZ[3:2];AW[ab][bb]PL[B]TR[bb]SQ[aa][ab][cb][ca][ba])|40|512|2|E1,5 E1,5 E1,5 E1,5 E1,5 E4,4 E4,4 E4,4 E4,4 E4,5 E4,5 E4,4 E3,4 E3,4 E3,4 E3,6 E3,6 E3,6 E2,6 E2,6 E2,6 E3,5 E3,5 E2,6 E2,6 E2,6 E3,6 E3,6 E2,7 E2,7 E2,7 E3,6 E2,6 E1,7 E1,7 E3,6 E3,6 E2,6 E1,8 E1,8 B1,8 40 2|E1,5 E1,5 E1,5 E1,5 E1,5 C4,4 E4,4 E4,4 E4,4 E4,5 E4,5 C4,4 E3,4 E3,4 E3,4 E3,6 E3,6 E3,6 E2,6 E2,6 E2,6 E3,5 E3,5 E2,6 E2,6 E2,6 E3,6 E3,6 E2,7 E2,7 E2,7 E3,6 E2,6 E1,7 E1,7 E3,6 E3,6 E2,6 E1,8 E1,8 E1,8 E3,7 B3,7 40 2
 (;SZ[2]AW[ab]PL[W];W[];B[aa]TR[ab])|8|0|0|D1,1 0 0|D1,1 0 0
 (;SZ[1:3]AW[aa];B[ac];W[ab]TR[ab])|40|0|0|D1,1 0 0|D1,1 0 0
@@ -18,9 +18,6 @@ pub(crate) const TRACES_1: &str = "\
 (;SZ[4:3];AB[dc]AW[ca][cc]PL[W];W[ab]TR[ab]SQ[cc][bb][dc])|40|1|1|E1,2 D1,2 1 0|E1,2 D1,2 1 0
 (;SZ[2:3]AB[ab][bc]PL[W];W[aa];W[ba]TR[aa])|3|1|5|E0,inf S0,inf 1 1|C0,inf S0,inf 0 1
 (;SZ[2:1]AB[aa]PL[W];W[ba];B[];W[aa];B[ba];W[];B[];TR[ba]SQ[ba])|3|512|4096|E1,1 Einf,0 Sinf,0 2 2|Cinf,0 Sinf,0 0 2
-";
-
-pub(crate) const TRACES_2: &str = "\
 (;SZ[4:2]AW[ca][ab]PL[B];W[cb];B[];W[aa];B[da];W[ba];B[db]TR[cb])|8|1|0|E4,1 D4,1 1 0|E4,1 D4,1 1 0
 (;SZ[1:6];;B[];W[ae];B[ac]TR[ae])|40|3|1|E5,1 E5,1 E5,1 E4,1 E3,1 E3,3 E3,3 E3,3 E4,2 D4,2 9 1|E5,1 E5,1 E5,1 C4,1 E3,1 E3,3 E3,3 E3,3 E4,2 D4,2 8 1
 (;SZ[5:1]AB[aa][ca]PL[W]TR[aa]SQ[ca][aa][ba][ea])|3|0|4096|D1,1 0 0|D1,1 0 0
@@ -37,9 +34,6 @@ pub(crate) const TRACES_2: &str = "\
 (;SZ[2]PL[B];B[ba];W[bb];B[aa];W[ab];B[];W[ba];TR[bb]SQ[ba][bb][ab])|40|6|0|E1,1 Einf,0 Sinf,0 2 0|E1,1 Einf,0 Sinf,0 2 0
 (;SZ[2];AB[ba]AW[ab][bb]TR[bb])|8|1|2|E0,inf S0,inf 1 1|C0,inf S0,inf 0 1
 (;SZ[1:6];B[ae];W[aa];B[ac]TR[ac])|3|3|0|E1,2 E1,2 E5,1 B5,1 3 0|E1,2 E1,2 E5,1 B5,1 3 0
-";
-
-pub(crate) const TRACES_3: &str = "\
 (;SZ[2:3]AB[ac][bc]PL[W];W[aa];B[bb]TR[ac]SQ[ab][ba][bc])|40|0|5|D1,1 0 0|D1,1 0 0
 (;SZ[4:2]AB[ab][db]AW[ba]PL[W];W[bb];B[aa];W[ca];TR[db])|3|6|1|E5,1 E5,1 E4,1 B4,1 3 1|E5,1 E5,1 C4,1 E4,1 B4,1 3 1
 (;SZ[3:2];B[aa];W[]TR[aa]SQ[bb][ab][aa][ca][cb][ba])|3|512|0|E6,1 E6,1 E6,1 B6,1 3 0|E6,1 E6,1 E6,1 B6,1 3 0
@@ -56,9 +50,6 @@ pub(crate) const TRACES_3: &str = "\
 (;SZ[3];AW[bb][cb]PL[B];B[aa];W[ab];B[cc]TR[cb]SQ[cb][bb][ac])|8|0|2|D1,1 0 0|D1,1 0 0
 (;SZ[2:3];AW[bb][ac][bc]TR[bc])|40|512|5|E1,4 E1,4 E1,4 E1,4 E3,3 E2,3 E1,3 E1,4 E1,4 E2,4 E2,4 E1,6 E1,6 E1,6 E2,5 E1,5 E0,inf S0,inf 17 5|E1,4 E1,4 E1,4 E1,4 C3,3 C2,3 C1,3 E1,4 E1,4 E2,4 E2,4 C1,6 E1,6 E1,6 C2,5 E1,5 E0,inf S0,inf 12 5
 (;SZ[2:1];B[];W[ba]TR[ba]SQ[ba])|3|3|4096|E1,1 Einf,0 Sinf,0 2 2|Cinf,0 Sinf,0 0 2
-";
-
-pub(crate) const TRACES_4: &str = "\
 (;SZ[7:1];AB[ca]AW[aa][ea]PL[W]TR[aa]SQ[fa][ea][ba][ga][aa][ca])|8|3|1|E3,1 E2,1 E1,1 E0,inf S0,inf 4 1|E3,1 C2,1 E1,1 E0,inf S0,inf 3 1
 (;SZ[1:2]PL[B];B[ab];W[];B[]TR[ab])|8|1|5|E0,inf S0,inf 1 1|C0,inf S0,inf 0 1
 (;SZ[9:2];B[ib]TR[ib]SQ[hb][ab])|8|6|1|E1,3 E1,3 E1,3 E2,2 E2,2 E2,1 E2,1 Einf,0 Sinf,0 8 1|E1,3 E1,3 E1,3 C2,2 E2,2 E2,1 E2,1 Einf,0 Sinf,0 7 1
@@ -75,9 +66,6 @@ pub(crate) const TRACES_4: &str = "\
 (;SZ[3:2]AB[aa][ab]AW[cb]TR[cb])|40|6|1|E1,4 E1,4 E1,4 E1,4 E3,3 E2,3 E1,3 E1,4 E1,4 E2,4 E2,4 E1,8 E1,8 E1,8 E1,8 E1,8 E2,7 E2,7 E1,11 E1,11 E1,11 E1,11 E1,11 E3,10 E3,10 E2,10 E1,11 E1,11 E3,10 E3,10 E2,10 E1,13 E1,13 E1,13 E1,13 E4,12 D4,12 36 1|E1,4 E1,4 E1,4 E1,4 C3,3 E2,3 E1,3 E1,4 E1,4 E2,4 E2,4 E1,8 E1,8 E1,8 E1,8 E1,8 E2,7 E2,7 E1,11 E1,11 E1,11 E1,11 E1,11 E3,10 E3,10 E2,10 E1,11 E1,11 E3,10 E3,10 E2,10 E1,13 E1,13 E1,13 E1,13 E4,12 D4,12 35 1
 (;SZ[3]AB[ab][ac][cc]AW[aa][ca]PL[W]TR[ca]SQ[bb])|8|6|2|E2,1 E2,1 Einf,0 Sinf,0 3 2|E2,1 Cinf,0 Sinf,0 1 2
 (;SZ[6:1];B[ea]TR[ea])|8|512|1|E1,5 E1,5 E1,5 E1,5 E1,5 E4,4 E4,4 E4,4 B4,4 8 1|E1,5 E1,5 E1,5 E1,5 E1,5 C4,4 E4,4 E4,4 E3,4 B3,4 8 1
-";
-
-pub(crate) const TRACES_5: &str = "\
 (;SZ[3:1];AW[aa]PL[B];B[ca]TR[ca]SQ[aa][ba][ca])|3|1|4096|E0,inf S0,inf 1 1|C0,inf S0,inf 0 1
 (;SZ[4:2];PL[B];B[aa];W[bb]TR[aa])|40|6|2|E7,1 E7,1 E7,1 E7,1 E6,1 E6,1 E6,1 E6,6 E6,6 E6,6 E6,6 E6,6 E6,6 E9,5 E8,5 E7,5 E6,5 E5,6 E5,6 E5,6 E5,6 E5,6 E5,6 E8,5 E7,5 E6,5 E5,5 E4,6 E4,6 E4,6 E4,6 E4,6 E4,6 E7,5 E6,5 E5,5 E4,5 E3,6 E3,6 E3,6 B3,6 40 2|E7,1 E7,1 E7,1 E7,1 C6,1 E6,1 E6,1 E6,6 E6,6 E6,6 E6,6 E6,6 E6,6 C9,5 E8,5 E7,5 E6,5 E5,6 E5,6 E5,6 E5,6 E5,6 E5,6 E8,5 E7,5 E6,5 E5,5 E4,6 E4,6 E4,6 E4,6 E4,6 E4,6 E7,5 E6,5 E5,5 E4,5 E3,6 E3,6 E3,6 E3,6 E3,6 B3,6 40 2
 (;SZ[4:3];B[];W[cc];TR[cc]SQ[cc][ca][bb][bc][dc])|40|3|2|E1,5 E1,5 E1,5 E1,5 E1,5 E4,4 E4,4 E4,4 E4,4 E4,6 D4,6 10 1|E1,5 E1,5 E1,5 E1,5 E1,5 C4,4 E4,4 E4,4 E4,4 E4,6 D4,6 9 1

@@ -2,7 +2,9 @@
 //! the turns that are made, the boards of the history then, who has won, who moves and how many passes stand in a row, and each turn's cause.
 //! A bar ends each part but the last one, and a stroke each board but the last one.
 
-pub(crate) const REPEATED_BOARDS: &str = "\
+/// Boards that would be repeated in eight lines, those of the record in eight more; captured targets in eight, held ones in six; passes in a
+/// row in eight; regions in eight; moves of a record in eight; and whole boards in eight.
+pub(crate) const TURNS: &str = "\
 (;SZ[3]AW[aa][bb][bc];B[ac];W[cb];B[ba]TR[bc])|9,3,0|W...W..W./W...W.BW./W...WWBW./WB..WWBW./.B.BWWBW./WB..WW.W.|-A0|SS--SSRSR-
 (;SZ[3];B[cb];W[];B[bb];W[ac];B[ca];W[cc]TR[bb]SQ[ba][cc][bb][cb][ca][bc])|9,1,7|........./.....B.../....BB.../....BBW../..B.BBW../..B.BBW.W/.WB.BBW.W/.WB.BBWB.|-A0|XSSXSSSSR-
 (;SZ[3:2];AW[aa][ca][bb][cb]PL[W]TR[ca]SQ[aa][ab])|6|W.W.WW|-A1|SXSRSS-
@@ -11,9 +13,6 @@ pub(crate) const REPEATED_BOARDS: &str = "\
 (;SZ[1:3]PL[W];W[];B[aa];W[ab];B[];TR[ab]SQ[ac][ab])|3|.../B../.W.|-A1|XSR-
 (;SZ[4:1];B[ca];W[aa];B[ba];W[];TR[ca]SQ[aa][ba][ca])|4|..../..B./W.B./.BB.|-A1|RSSX-
 (;SZ[4:2];AB[aa][db]AW[ca][ab][bb][cb]PL[B];B[da];W[ba];B[da]TR[bb]SQ[aa][db][ba])|7|B.W.WWWB/B.W.WWW./.WW.WWW./.WWBWWW./.WW.WWWW|-A0|RSSXSSSS-
-";
-
-pub(crate) const REPEATED_BOARDS_OF_THE_RECORD: &str = "\
 (;SZ[5:3];AB[ba][da][ea][db][bc]AW[aa][bb][eb][dc]PL[W];B[ac];W[ca];TR[aa]SQ[dc][ba][bb])||WB.BB.W.BW.B.W./WB.BB.W.BWBB.W./W.WBB.W.BWBB.W.|-A0|SRSSSXSXSSSSXSX-
 (;SZ[4:1]AW[ba]TR[ba]SQ[ca][ba][aa])||.W..|-A0|RS-X-
 (;SZ[5:1]AW[ea];B[da];B[ca];W[ba];B[];W[ea];B[da]TR[da]SQ[ea][ca][ba])||....W/...B./..BB./.WBB./.W..W/.W.B.|-A0|XS-SR-
@@ -22,9 +21,6 @@ pub(crate) const REPEATED_BOARDS_OF_THE_RECORD: &str = "\
 (;SZ[2:2]AB[aa]AW[ba]PL[W];W[ab]TR[ab]SQ[aa])||BW../.WW.|-A0|RSSX-
 (;SZ[4:3]AB[aa][cb][cc][dc]AW[ab][db]PL[B];B[];W[bc];B[da];W[ba];B[bb];W[]TR[ba]SQ[db][cc][aa][da][bc][dc])||B...W.BW..BB/B...W.BW.WBB/B..BW.B..WBB/.W.BW.B..WBB/.W.BWBB..WBB|-A0|RSXSSSS-XSSS-
 (;SZ[6:1]AB[ea];B[ba];W[ca];B[]TR[ca]SQ[ba][fa][ea][aa])||....B./.B..B./.BW.B.|-D0|-SSXSR-
-";
-
-pub(crate) const CAPTURED_TARGETS: &str = "\
 (;SZ[9:2]AB[ia]AW[bb][ib];B[cb]TR[ib]SQ[eb][hb][bb][fa])|5,16|........B.W......W/........B.WB.....W/.....W..B.WB.....W/.....W..B.WB....B.|AD0|OOOOOOOOOOOOOOOOOOO
 (;SZ[2:2]AB[ab]AW[ba]PL[B];B[aa];W[bb];W[ab];B[aa];W[ab];B[ba]TR[aa]SQ[aa][bb][ab][ba])|4,3,2|.WB./BWB./.W.W/.WWW/B.../B.W./BBW./BB.B/..W.|AD0|OOOOO
 (;SZ[2]AB[aa]AW[ab][bb]PL[W]TR[ab]SQ[aa][ba][bb])|4,1|B.WW/BB..|AD0|OOOOO
@@ -33,18 +29,12 @@ pub(crate) const CAPTURED_TARGETS: &str = "\
 (;SZ[3:1]AB[ba]PL[W];W[]TR[ba])|0,2|.B./BB./..W|AD0|OOOO
 (;SZ[3:2]AB[cb]AW[aa][ba][ca]PL[W];W[bb];B[]TR[aa])|3,5|WWW..B/WWW.W./WWWWW./.....B|AD0|OOOOOOO
 (;SZ[5:1]AB[aa];B[ea];TR[ea]SQ[ca][da][aa])|2,3|B..../B...B/B.W.B/B.W..|AA0|OOOOOO
-";
-
-pub(crate) const HELD_TARGETS: &str = "\
 (;SZ[3:2];PL[B];B[bb]TR[bb][bb]SQ[bb][ca][ba][ab])|3,2,1,6,6|....../....B./...WB./..BWB./.WBWB.|DD2|OOOOOOO
 (;SZ[4:3]AB[db]AW[aa][bb][ac][dc]PL[W];W[bc];B[ba];W[]TR[aa]SQ[ba][cb][ac])|6,12,12|W....W.BW..W/W....W.BWW.W/WB...W.BWW.W/WB...WBBWW.W|DD2|OOOOOOOOOOOOO
 (;SZ[3:2]AW[cb]TR[cb]SQ[ca][cb][ab][ba][aa])|2,3,6,0,6,6|.....W/..B..W/..BW.W/W.BW.W|DA2|OOOOOOO
 (;SZ[7:3];AB[ba][ab][db][fb]AW[ea][bb][ac]PL[W];TR[db]SQ[bb][ec][dc][db][ba][fa])|5,18,17,21,21|.B..W..BW.B.B.W....../.B..WW.BW.B.B.W....../.B..WW.BW.B.B.W...B../.B..WW.BW.B.B.W..WB..|DD2|OOOOOOOOOOOOOOOOOOOOOO
 (;SZ[6:1]AB[ba][ca][da][ea][fa]PL[B];B[aa];W[aa];B[da]TR[aa]SQ[ea])|4,6,6|.BBBBB/....../W...../W..B../W..BW.|DA2|OOOOOOO
 (;SZ[3];B[cc];W[cb];B[aa];W[ba];B[bc];W[ca];TR[cb]SQ[ab])|3,9,9|........./........B/.....W..B/B....W..B/BW...W..B/BW...W.BB/BWW..W.BB/BWWB.W.BB|DD2|OOOOOOOOOO
-";
-
-pub(crate) const PASSES_IN_A_ROW: &str = "\
 (;SZ[5:1];AB[ca][ea]AW[ba];B[da]TR[ba][ba]SQ[ba][aa][ea][ca])|0,4,5|.WB.B/.W.../WW.../WW..B|-A1|SS-XS-
 (;SZ[5:3];B[ca];W[cb];B[db];W[da]TR[db]SQ[ca][eb][ec])|15,14,15|.............../..B............/..B....W......./..B....WB....../..BW...WB....../..BW...WB.....W|-A1|XXSSXXXSS-XXXXS-
 (;SZ[2];PL[B];B[aa]TR[aa]SQ[bb][ba][aa])|4,3,4|..../B.../B..B|-D1|S-XS-
@@ -53,9 +43,6 @@ pub(crate) const PASSES_IN_A_ROW: &str = "\
 (;SZ[4];B[];W[dc];B[cb]TR[dc]SQ[db][aa][bc][bd][ca])|9,0,2,16,13,16|................/...........W..../......B....W..../......B..W.W..../B.....B..W.W..../B.W...B..W.W..../B.W...B..W.W.W..|-D1|SXSXXXS-XSXSXSXX-
 (;SZ[4:2]AB[ba][bb][db]AW[da]PL[B];B[aa];W[cb];B[ca];W[ab];B[];W[]TR[ab]SQ[ab][ba][aa][bb])|0,1,8|.B.W.B.B/BB.W.B.B/BB.W.BW./BBBW.BW./...WW.W./B..WW.W./.W.WW.W.|-D1|-SXSS-SX-
 (;SZ[4:3]AB[ab][db][ac]AW[aa][ca][bb][cb][cc]PL[B];W[dc];B[da];W[ba];B[bc]TR[cb]SQ[da][bc][ab])|12,9,12|W.W.BWWBB.W./W.W.BWWBB.WW/W.W.BWW.B.WW/WWW.BWW.B.WW/WWW..WW...WW/WWW..WW..BWW|-A1|SSS--SSXXSSS-
-";
-
-pub(crate) const REGIONS: &str = "\
 (;SZ[4:3];AB[ca][ab][db][bc][dc]AW[bb];B[ba]TR[bc]SQ[cc][ab][ba][cb][da][dc])|12,10,6|..B.BW.B.B.B/.BB.BW.B.B.B/.BB.BW.B.BBB/.BB.B..B.BBB|-D0|XSS-SX-SXSSS-
 (;SZ[4:2];B[aa]TR[aa]SQ[ca][bb][da][cb])|3,5,6|......../B......./B..W..../B..W.B../B..W.BW.|-D0|SX-SXSSX-
 (;SZ[9:2];AB[ca][ea][hb]AW[aa][fa][ia][gb]PL[B];B[eb];W[ga];B[db];W[ba];TR[fa]SQ[fa][ab][bb][db])|9,18,10|W.B.BW..W......WB./W.B.BW..W....B.WB./W.B.BWW.W....B.WB./W.B.BWW.W...BB.WB./WWB.BWW.W...BB.WB./WWB.BWW.WB..BB.WB./..B.BWW.WBB.BB.WB.|-D0|XXSXSSSXSSSXSSXSSX-
@@ -64,9 +51,6 @@ pub(crate) const REGIONS: &str = "\
 (;SZ[9:2];AB[fa]PL[B];B[bb];W[da]TR[da]SQ[fb][cb][hb][eb][bb][ia])|11,8,14,13,18,16|.....B............/.....B....B......./...W.B....B......./...W.B....BB....../...W.B..W.BB....../...W.B..W.BB..B.../...W.B..W.BB.WB.../...W.B..W.BB.WB.W.|-A0|XXXSXSXXSXSSXSSXSX-
 (;SZ[4:3];AB[aa]AW[ba][db][ac]PL[B];B[bc]TR[ac]SQ[da][bb][bc][cc])|10,3,12|BW.....WW.../BW.....WWB../BW.....WWBW./BW.B...WWBW.|-A1|SSXSX-XSSSSX-
 (;SZ[4:3];AB[bc]PL[W]TR[bc]SQ[bb][ca][cc][aa][dc])|0,12,11|.........B../W........B../W........B.W|-D0|SX-XX-XXXS-S-
-";
-
-pub(crate) const MOVES_OF_A_RECORD: &str = "\
 (;SZ[4:3]AB[aa][cb][ac]AW[ba][bb][db][bc][dc]PL[W];W[];B[ab];W[da];B[aa];W[cc];B[]TR[ba]SQ[aa][ac])||BW...WBWBW.W/.W...WBW.W.W/.W.W.WBW.W.W/BW.W.WBW.W.W/BW.W.WBW.WWW|-D0|SSXSXSSS-SSS-
 (;SZ[2:3];AB[bc]AW[ba][ab][bb]PL[B];B[ac];W[bc];W[ac];B[aa]TR[aa]SQ[ac][aa])||.WWW.B/.WWW../.WWW.W/.WWWWW/B.....|-A0|SXXX-X-
 (;SZ[2]AW[ab]PL[B];B[bb];W[aa];B[ba];W[aa];B[ab];W[aa]TR[aa]SQ[ba])||..W./..WB/W.WB/.B.B/WB.B/.BBB/W...|-A0|S-XX-
@@ -75,9 +59,6 @@ pub(crate) const MOVES_OF_A_RECORD: &str = "\
 (;SZ[2:2];B[aa];W[ab];B[bb];W[]TR[aa]SQ[bb])||..../B.../B.W./B..B|-D0|SXXS-
 (;SZ[5:5];AB[eb]AW[cb];B[dd];W[ea];B[ee]TR[ee]SQ[ea][de][ad][ce][ec][ba])||.......W.B.............../.......W.B........B....../....W..W.B........B....../....W..W.B........B.....B|-A0|X-XXSXXSXSXXXX--XXSXXX--S-
 (;SZ[5:1]AB[ba]AW[da]PL[W];W[ca];B[aa];W[aa]TR[ca]SQ[ca][da])||.B.W./.BWW./..WW./W.WW.|-A0|SXSSX-
-";
-
-pub(crate) const WHOLE_BOARDS: &str = "\
 (;SZ[1:5];AB[ae]AW[ab]PL[W];W[ac];B[ad];W[aa];B[ad]TR[ad])|2|.W..B/.WW.B/.WW../WWW../...B./..WB.|-D0|--SS--
 (;SZ[5:1]AB[ba][ca]PL[B];B[aa];W[];B[ea];W[da];B[ca];B[ea];TR[ca])|5|.BB../BBB../BBB.B/...W./..BW./..B.B|-D1|--S-S-
 (;SZ[2:3];AB[aa];B[ba];W[bb];B[bc];B[ac];W[ab];B[ac]TR[bb])|1,5,0|B...../BB..../BB.W../BB.W.B/BB.WBB/..WW../..WWB./.WWWB./.WWW../WWWW..|-A0|SSSS---

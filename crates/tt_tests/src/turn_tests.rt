@@ -1,34 +1,13 @@
 //! Turns of problems: histories, causes of refusal, ends and legal turns, with what they come to by a program written
 //! from the rules alone.
 
+use crate::drawings::is_drawn;
 use crate::problem_tests::{has_turns, posed, turn};
 use crate::rows::{cut, short_number};
-use crate::turn_tables as tables;
+use crate::turn_tables::TURNS;
 use std::alloc::{AllocError, Global};
-use std::str::from_utf8;
-use tt_board::{Board, Boards, Colour};
-use tt_game::{Line, Side, Why};
-
-/// Whether a board is what the letters draw, point by point.
-fn is_drawn(board: &Board, letters: &[u8]) -> bool {
-    let size = board.size();
-    let mut number = 0;
-    for letter in letters {
-        let Some(p) = size.point(number) else {
-            return false;
-        };
-        let drawn = match board.at(p) {
-            Some(Colour::Black) => b'B',
-            Some(Colour::White) => b'W',
-            None => b'.',
-        };
-        if *letter != drawn {
-            return false;
-        }
-        number += 1;
-    }
-    usize::from(number) == size.point_count()
-}
+use tt_board::{Board, Boards};
+use tt_game::{Line, Past, Side, Why};
 
 /// Whether the boards of a history are those that are drawn, with a stroke between two.
 fn is_history(boards: &[Board], drawn: &[u8]) -> bool {
@@ -165,32 +144,31 @@ fn keeps(alloc: Global, line: &Line) -> bool {
         && !kept.are(&boards[..boards.len() - 1])
 }
 
-/// The line of a case once its turns are made; none where a turn is refused, or where a kept past doesn't tell the line
-/// before a turn from the line after it.
-fn played(alloc: Global, text: &str, pushes: &[u16]) -> Option<Line> {
-    let mut line = posed(alloc, text).ok()?;
-    for number in pushes {
-        let past = line.past().ok()?;
-        let t = turn(line.frame().size, *number);
-        if !past.stands_with(&line) || line.push(t).is_err() || past.stands_with(&line) {
-            return None;
-        }
-    }
-    Some(line)
+/// Makes the turn of this number. Whether it is legal, and a kept past tells the line before it from the line after it.
+fn goes_on(line: &mut Line, number: u16) -> bool {
+    let Ok(past) = line.past() else {
+        return false;
+    };
+    let t = turn(line.frame().size, number);
+    past.stands_with(line) && line.push(t).is_ok() && !past.stands_with(line)
 }
 
-/// What isn't so of a line and of what is kept of it; nothing where all is.
-fn wrong_copy(alloc: Global, line: &Line) -> &'static str {
-    let Ok(copy) = line.try_clone() else {
-        return "the line is copied";
-    };
-    let Ok(past) = line.past() else {
-        return "the line is kept";
-    };
+/// Makes the turns of these numbers. Whether all go so.
+fn go_on(line: &mut Line, numbers: &[u16]) -> bool {
+    for number in numbers {
+        if !goes_on(line, *number) {
+            return false;
+        }
+    }
+    true
+}
+
+/// What isn't so of the past of a line, and of a copy of the line; nothing where all is.
+fn wrong_past(past: &Past, line: &Line, copy: &Line) -> &'static str {
     if !past.stands_with(line) {
         return "the past stands with the line";
     }
-    if !past.stands_with(&copy) {
+    if !past.stands_with(copy) {
         return "the past stands with the copy";
     }
     if !past.present().same(line.present()) {
@@ -202,37 +180,65 @@ fn wrong_copy(alloc: Global, line: &Line) -> &'static str {
     if line.key() != copy.key() {
         return "the copy has the line's key";
     }
-    if !keeps(alloc, line) {
-        return "the boards are kept";
-    }
     ""
 }
 
-/// What isn't so of a case; nothing where all is.
-fn wrong(alloc: Global, case: Case<'_>) -> &'static str {
-    let Ok(pushes) = numbers(alloc, case.pushes) else {
-        return "the turns are read";
-    };
-    let text = from_utf8(case.problem).unwrap_or("");
-    let Some(line) = played(alloc, text, pushes.as_slice()) else {
-        return "the turns are made";
-    };
+/// What isn't so of what is kept of a line, and of a copy of it.
+fn wrong_kept(line: &Line, copy: &Line) -> &'static str {
+    match line.past() {
+        Ok(past) => wrong_past(&past, line, copy),
+        Err(_) => "the line is kept",
+    }
+}
+
+/// What isn't so of a copy of a line, and of what is kept of it.
+fn wrong_copy(line: &Line) -> &'static str {
+    match line.try_clone() {
+        Ok(copy) => wrong_kept(line, &copy),
+        Err(_) => "the line is copied",
+    }
+}
+
+/// What isn't so of a case, once its turns are made; nothing where all is.
+fn wrong_after(alloc: Global, line: &Line, case: Case<'_>) -> &'static str {
     if !is_history(line.history(), case.history) {
         return "the history is as drawn";
     }
-    if outcome(&line).as_slice() != case.ending {
+    if outcome(line).as_slice() != case.ending {
         return "the outcome";
     }
-    if !is_refused(&line, case.causes) {
+    if !is_refused(line, case.causes) {
         return "the causes of refusal";
     }
-    if !repeats(&line, case.causes) {
+    if !repeats(line, case.causes) {
         return "the plays that repeat a board";
     }
-    if !has_turns(&line, case.causes) {
+    if !has_turns(line, case.causes) {
         return "the legal turns";
     }
-    wrong_copy(alloc, &line)
+    if !keeps(alloc, line) {
+        return "the boards are kept";
+    }
+    wrong_copy(line)
+}
+
+/// What isn't so of a case of these turns.
+fn wrong_with(alloc: Global, numbers: &[u16], case: Case<'_>) -> &'static str {
+    let Ok(mut line) = posed(alloc, case.problem) else {
+        return "the problem is posed";
+    };
+    if !go_on(&mut line, numbers) {
+        return "the turns are made";
+    }
+    wrong_after(alloc, &line, case)
+}
+
+/// What isn't so of a case.
+fn wrong(alloc: Global, case: Case<'_>) -> &'static str {
+    match numbers(alloc, case.pushes) {
+        Ok(numbers) => wrong_with(alloc, &numbers, case),
+        Err(AllocError) => "the turns are read",
+    }
 }
 
 /// The first line of a table of so many that isn't so, and what of it isn't; no words where all is.
@@ -254,49 +260,7 @@ fn first_wrong(alloc: Global, table: &'static str, count: u8) -> (u8, &'static s
 }
 
 #[test]
-fn repeated_boards(rt: HostRuntime) {
-    let (row, fact) = first_wrong(rt.alloc(), tables::REPEATED_BOARDS, 8);
-    assert!(&rt; fact.is_empty(), "line {row}: {fact}");
-}
-
-#[test]
-fn repeated_boards_of_the_record(rt: HostRuntime) {
-    let (row, fact) = first_wrong(rt.alloc(), tables::REPEATED_BOARDS_OF_THE_RECORD, 8);
-    assert!(&rt; fact.is_empty(), "line {row}: {fact}");
-}
-
-#[test]
-fn captured_targets(rt: HostRuntime) {
-    let (row, fact) = first_wrong(rt.alloc(), tables::CAPTURED_TARGETS, 8);
-    assert!(&rt; fact.is_empty(), "line {row}: {fact}");
-}
-
-#[test]
-fn held_targets(rt: HostRuntime) {
-    let (row, fact) = first_wrong(rt.alloc(), tables::HELD_TARGETS, 6);
-    assert!(&rt; fact.is_empty(), "line {row}: {fact}");
-}
-
-#[test]
-fn passes_in_a_row(rt: HostRuntime) {
-    let (row, fact) = first_wrong(rt.alloc(), tables::PASSES_IN_A_ROW, 8);
-    assert!(&rt; fact.is_empty(), "line {row}: {fact}");
-}
-
-#[test]
-fn regions(rt: HostRuntime) {
-    let (row, fact) = first_wrong(rt.alloc(), tables::REGIONS, 8);
-    assert!(&rt; fact.is_empty(), "line {row}: {fact}");
-}
-
-#[test]
-fn moves_of_a_record(rt: HostRuntime) {
-    let (row, fact) = first_wrong(rt.alloc(), tables::MOVES_OF_A_RECORD, 8);
-    assert!(&rt; fact.is_empty(), "line {row}: {fact}");
-}
-
-#[test]
-fn whole_boards(rt: HostRuntime) {
-    let (row, fact) = first_wrong(rt.alloc(), tables::WHOLE_BOARDS, 8);
+fn turns(rt: HostRuntime) {
+    let (row, fact) = first_wrong(rt.alloc(), TURNS, 62);
     assert!(&rt; fact.is_empty(), "line {row}: {fact}");
 }
