@@ -4,7 +4,7 @@
 //! | `alone_tests` | problems solved by the caller alone, over several stores, and which found proofs are used |
 //! | `together_tests` | problems solved by workers, and their totals |
 //! | `planted_tests` | workers that find proofs which were kept before |
-//! | `gate_tests` | when workers search their jobs, and what becomes of the results |
+//! | `gate_tests` | when workers search their jobs, and what a run leaves in the log |
 //! | `desk_tests` | the desk: jobs, the mark, grants |
 //! | `log_tests`, `table_tests` | the log, and the table behind a lock |
 

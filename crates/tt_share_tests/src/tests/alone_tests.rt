@@ -115,11 +115,21 @@ fn is_wanted(alloc: Global, line: &Line, answer: &Answer, row: Row<'_>) -> Resul
     Ok(certificate(alloc, line, answer)?.as_slice() == row.certificate)
 }
 
+/// Whether a line has the answer of the row over a store.
+fn is_answered<S: Store>(
+    alloc: Global,
+    line: &Line,
+    row: Row<'_>,
+    store: &mut S,
+) -> Result<bool, Fail> {
+    let answer = answered(alloc, line, row.budget, row.depth, store)?;
+    is_wanted(alloc, line, &answer, row)
+}
+
 /// Whether a problem has this answer over a store.
 fn is_solved<S: Store>(alloc: Global, row: Row<'_>, store: &mut S) -> Result<bool, Fail> {
     let line = posed(alloc, row.problem)?;
-    let answer = answered(alloc, &line, row.budget, row.depth, store)?;
-    is_wanted(alloc, &line, &answer, row)
+    is_answered(alloc, &line, row, store)
 }
 
 /// Whether a problem has this answer over a store that refuses or forgets what it is to keep.
@@ -134,48 +144,47 @@ fn is_solved_over_small_store(alloc: Global, row: Row<'_>, capacity: usize) -> R
     is_solved(alloc, row, &mut store)
 }
 
-/// Fails with the problem and the store where the answer isn't so.
-fn over(so: bool, row: Row<'_>, store: &str) -> Result<(), Fail> {
-    if so {
-        return Ok(());
+/// The kinds of stores.
+fn name_of(kind: u8) -> &'static str {
+    match kind {
+        0 => "without a store",
+        1 => "refused",
+        2 => "forgotten",
+        3 => "room for 0",
+        4 => "room for 1",
+        5 => "room for 2",
+        _ => "room for 4096",
     }
+}
+
+/// Whether a problem has this answer over a store of the kind.
+fn is_solved_over(alloc: Global, row: Row<'_>, kind: u8) -> Result<bool, Fail> {
+    match kind {
+        0 => is_solved(alloc, row, &mut NoStore),
+        1 => is_solved_over_empty_store(alloc, row, true),
+        2 => is_solved_over_empty_store(alloc, row, false),
+        3 => is_solved_over_small_store(alloc, row, 0),
+        4 => is_solved_over_small_store(alloc, row, 1),
+        5 => is_solved_over_small_store(alloc, row, 2),
+        _ => is_solved_over_small_store(alloc, row, 4096),
+    }
+}
+
+/// That a problem has another answer over a store of the kind.
+fn differs(row: Row<'_>, kind: u8) -> Fail {
     let text = from_utf8(row.problem).unwrap_or("a problem");
-    Err(Fail::new(format_args!("{text}, {store}")))
+    let name = name_of(kind);
+    Fail::new(format_args!("{text}, {name}"))
 }
 
 /// Fails unless a problem has this answer over each kind of store.
 fn has_answer(alloc: Global, row: Row<'_>) -> Result<(), Fail> {
-    over(is_solved(alloc, row, &mut NoStore)?, row, "without a store")?;
-    over(
-        is_solved_over_empty_store(alloc, row, true)?,
-        row,
-        "refused",
-    )?;
-    over(
-        is_solved_over_empty_store(alloc, row, false)?,
-        row,
-        "forgotten",
-    )?;
-    over(
-        is_solved_over_small_store(alloc, row, 0)?,
-        row,
-        "room for 0",
-    )?;
-    over(
-        is_solved_over_small_store(alloc, row, 1)?,
-        row,
-        "room for 1",
-    )?;
-    over(
-        is_solved_over_small_store(alloc, row, 2)?,
-        row,
-        "room for 2",
-    )?;
-    over(
-        is_solved_over_small_store(alloc, row, 4096)?,
-        row,
-        "room for 4096",
-    )
+    for kind in 0..7u8 {
+        if !is_solved_over(alloc, row, kind)? {
+            return Err(differs(row, kind));
+        }
+    }
+    Ok(())
 }
 
 /// Fails unless the lines of a table are so over each kind of store.
@@ -276,7 +285,18 @@ fn one_store_for_two_lines(rt: HostRuntime) -> Result<(), Fail> {
     want(is_so(alloc, LIVES, &mut store)?, "another history")
 }
 
-/// The answer to a problem, as a text, with a budget of one expansion.
+/// The answer to a line, as a text, with a budget of one expansion.
+fn told_by_one<S: Store>(
+    alloc: Global,
+    line: &Line,
+    depth: u16,
+    store: &mut S,
+) -> Result<Vec<u8>, Fail> {
+    let answer = answered(alloc, line, 1, depth, store)?;
+    verdict(alloc, line, &answer)
+}
+
+/// The same of a problem.
 fn solved_by_one<S: Store>(
     alloc: Global,
     text: &[u8],
@@ -284,21 +304,37 @@ fn solved_by_one<S: Store>(
     store: &mut S,
 ) -> Result<Vec<u8>, Fail> {
     let line = posed(alloc, text)?;
-    let answer = answered(alloc, &line, 1, depth, store)?;
-    verdict(alloc, &line, &answer)
+    told_by_one(alloc, &line, depth, store)
+}
+
+/// Whether a problem has this answer with a budget of one expansion.
+fn is_solved_by_one<S: Store>(
+    alloc: Global,
+    text: &[u8],
+    depth: u16,
+    store: &mut S,
+    want: &[u8],
+) -> Result<bool, Fail> {
+    Ok(solved_by_one(alloc, text, depth, store)?.as_slice() == want)
+}
+
+/// A store that has the proof of the first problem alone.
+fn store_of_one(alloc: Global) -> Result<PrivateStore, Fail> {
+    let proof = searched(alloc, SPLIT)?;
+    let mut store = PrivateStore::new(alloc);
+    match store.keep(proof) {
+        Kept::Stored => Ok(store),
+        Kept::Full | Kept::NoMemory => Err(Fail::new("not kept")),
+    }
 }
 
 /// Whether a problem is stuck for a budget of one expansion and this depth without a store, and killed over one that has the proof of
 /// the first problem alone.
 fn is_used(alloc: Global, text: &[u8], depth: u16) -> Result<bool, Fail> {
-    let mut store = PrivateStore::new(alloc);
-    let kept = store.keep(searched(alloc, SPLIT)?);
-    let without = solved_by_one(alloc, text, depth, &mut NoStore)?;
-    let with = solved_by_one(alloc, text, depth, &mut store)?;
+    let mut store = store_of_one(alloc)?;
     Ok(
-        kept == Kept::Stored
-            && without.as_slice() == b"budget ca".as_slice()
-            && with.as_slice() == b"killed ca".as_slice(),
+        is_solved_by_one(alloc, text, depth, &mut NoStore, b"budget ca")?
+            && is_solved_by_one(alloc, text, depth, &mut store, b"killed ca")?,
     )
 }
 

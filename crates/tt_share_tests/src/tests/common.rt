@@ -7,7 +7,7 @@ use std::sync::{Arc, Wait};
 use std::test::Fail;
 use std::thread::Threads;
 use tt_game::{Line, Side, Turn, problem};
-use tt_proof::{Proof, put_turn, write_cert};
+use tt_proof::{Proof, put_turn, read_cert, write_cert};
 use tt_search::{End, Free, Limits, NoStore, Reason, Search};
 use tt_sgf::{Size, read_tree};
 use tt_share::{Answer, CertLog, Gate, Stuck, solve};
@@ -31,6 +31,32 @@ pub(crate) fn posed(alloc: Global, text: &[u8]) -> Result<Line, Fail> {
     match line_of(alloc, text) {
         Some(line) => Ok(line),
         None => Err(Fail::new("no problem")),
+    }
+}
+
+/// The proof of a certificate at a line.
+fn certified(alloc: Global, line: &mut Line, certificate: &[u8]) -> Option<Proof> {
+    let size = line.frame().size;
+    let (side, tree) = read_cert(alloc, certificate, size).ok()?;
+    Proof::replayed(alloc, line, side, tree).ok()
+}
+
+/// The proof of a certificate at a problem, where it is one.
+pub(crate) fn handle_of(alloc: Global, problem: &[u8], certificate: &[u8]) -> Option<Arc<Proof>> {
+    let mut line = line_of(alloc, problem)?;
+    let proof = certified(alloc, &mut line, certificate)?;
+    Arc::new(alloc, proof).ok()
+}
+
+/// The same.
+pub(crate) fn proof_of(
+    alloc: Global,
+    problem: &[u8],
+    certificate: &[u8],
+) -> Result<Arc<Proof>, Fail> {
+    match handle_of(alloc, problem, certificate) {
+        Some(proof) => Ok(proof),
+        None => Err(Fail::new("no proof")),
     }
 }
 
@@ -80,6 +106,19 @@ pub(crate) fn answered<R: Threads + Wait + Sync, G: Gate>(
         return Err(Fail::new("nothing to solve"));
     }
     Ok(solve(rt, alloc, line, &limits, total, workers, log, gate))
+}
+
+/// The same as a text.
+pub(crate) fn verdict_by<R: Threads + Wait + Sync, G: Gate>(
+    rt: &R,
+    alloc: Global,
+    line: &Line,
+    with: Setting,
+    log: &CertLog,
+    gate: &G,
+) -> Result<Vec<u8>, Fail> {
+    let answer = answered(rt, alloc, line, with, log, gate)?;
+    verdict(alloc, line, &answer)
 }
 
 /// Writes a space and the turn.

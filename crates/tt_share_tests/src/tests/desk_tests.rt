@@ -1,6 +1,5 @@
 //! The desk, with one thread and with many.
-ghost use Rattle.std.specs.Prelude.{◌≡◌, ◌+◌, ◌≤◌, ◌<◌, Some, IfOk};
-ghost use Rattle.tt_share.specs.Seats.{EndsSpare};
+ghost use Rattle.std.specs.Prelude.{◌≡◌, ◌≤◌, ◌<◌, Some};
 
 use std::alloc::Global;
 use std::sync::atomic::{AtomicU64, Ordering};
@@ -10,44 +9,11 @@ use std::thread::Threads;
 use tt_sgf::NoMemory;
 use tt_share::{Closed, Desk, Seat};
 
-// Draws until there is no job left.
-fn draw_all(desk: &Desk, mut seat: Seat) -> Seat
-    requires { seat.desk ≡ desk.now.id }
-    ensures desk { result.desk ≡ desk.now.id }
-    ensures spent { EndsSpare desk.now.jobs result.numbers }
-{
-    while let Some(_job) = desk.draw(&mut seat) {}
-    seat
-}
-
-// The number of draws after each seat has drawn in a thread of its own until there was no job left.
-fn exhausted<R: Threads + Sync>(
-    rt: &R,
-    alloc: Global,
-    jobs: usize,
-    seats: usize,
-) -> Result<u64, NoMemory>
-    requires jobs { (0 < jobs) × (jobs ≤ 362) }
-    requires seats { (0 < seats) × (seats ≤ 65) }
-    ensures { IfOk result (λ n. n ≡ jobs + seats) }
-{
-    let (desk, seats) = Desk::new(alloc, jobs, seats, None)?;
-    let shared = &desk;
-    let Ok(seats) = thread::map_vec(rt, seats, &|seat| draw_all(shared, seat)) else {
-        return Err(NoMemory);
-    };
-    match desk.close(seats) {
-        Ok(closed) => Ok(closed.draws),
-        Err(_) => unreachable!(),
-    }
-}
-
 // Asks for grants until the seat is refused, and counts what it got.
 fn ask_all(desk: &Desk, total: u32, trues: &AtomicU64, mut seat: Seat) -> Seat
     requires desk { seat.desk ≡ desk.now.id }
     requires total { desk.now.total ≡ Some total }
     ensures desk { result.desk ≡ desk.now.id }
-    ensures refused { EndsSpare total result.grants }
 {
     while desk.grant(&mut seat) {
         trues.fetch_add(1, Ordering::SeqCst);
@@ -65,7 +31,6 @@ fn spent<R: Threads + Sync>(
 ) -> Result<u64, NoMemory>
     requires seats { (0 < seats) × (seats ≤ 65) }
     requires total { 0 < total }
-    ensures { IfOk result (λ n. n ≡ total) }
 {
     let (desk, seats) = Desk::new(alloc, 1, seats, Some(total))?;
     let shared = &desk;
@@ -106,12 +71,6 @@ fn two_seats_draw_in_turn(rt: HostRuntime) -> Result<(), Fail> {
 }
 
 #[test]
-fn seats_in_threads_draw_each_job(rt: HostRuntime) -> Result<(), Fail> {
-    assert!(rt; exhausted(&rt, rt.alloc(), 362, 64).ok() == Some(426));
-    Ok(())
-}
-
-#[test]
 fn seats_in_threads_get_the_whole_total(rt: HostRuntime) -> Result<(), Fail> {
     let trues = AtomicU64::new(0);
     assert!(rt; spent(&rt, rt.alloc(), 65, 1000, &trues).ok() == Some(1000));
@@ -135,21 +94,6 @@ fn two_seats_share_a_total(rt: HostRuntime) -> Result<(), Fail> {
     let wanted = Closed {
         draws: 0,
         granted: 3,
-    };
-    assert!(rt; desk.close(seats).ok() == Some(wanted));
-    Ok(())
-}
-
-#[test]
-fn a_desk_without_a_total_refuses_nothing(rt: HostRuntime) -> Result<(), Fail> {
-    let Ok((desk, mut seats)) = Desk::new(rt.alloc(), 1, 1, None) else {
-        panic!(rt; "memory")
-    };
-    assert!(rt; desk.grant(&mut seats[0]));
-    assert!(rt; desk.grant(&mut seats[0]));
-    let wanted = Closed {
-        draws: 0,
-        granted: 0,
     };
     assert!(rt; desk.close(seats).ok() == Some(wanted));
     Ok(())

@@ -1,6 +1,6 @@
-//! Gates that look when each job is searched, and what becomes of what the workers hand back.
+//! Gates that look when each job is searched, and what a run leaves in the log.
 
-use super::common::{SPLIT, Setting, answered, line_of, posed, verdict, want};
+use super::common::{SPLIT, Setting, line_of, posed, verdict_by, want};
 use std::alloc::Global;
 use std::sync::Wait;
 use std::sync::atomic::{AtomicU64, Ordering};
@@ -51,6 +51,19 @@ fn is_set_in_time(flag: &AtomicU64) -> bool {
     false
 }
 
+/// The answer to a problem by workers, as a text.
+fn solved<R: Threads + Wait + Sync, G: Gate>(
+    rt: &R,
+    alloc: Global,
+    text: &[u8],
+    with: Setting,
+    log: &CertLog,
+    gate: &G,
+) -> Result<Vec<u8>, Fail> {
+    let line = posed(alloc, text)?;
+    verdict_by(rt, alloc, &line, with, log, gate)
+}
+
 /// Whether a problem has this answer by so many workers over a new log, with a gate.
 fn is_solved<R: Threads + Wait + Sync, G: Gate>(
     rt: &R,
@@ -61,9 +74,8 @@ fn is_solved<R: Threads + Wait + Sync, G: Gate>(
     want: &[u8],
 ) -> Result<bool, Fail> {
     let log = CertLog::new(alloc)?;
-    let line = posed(alloc, text)?;
-    let answer = answered(rt, alloc, &line, ample(workers), &log, gate)?;
-    Ok(verdict(alloc, &line, &answer)?.as_slice() == want)
+    let got = solved(rt, alloc, text, ample(workers), &log, gate)?;
+    Ok(got.as_slice() == want)
 }
 
 /// Holds the first job back until the second one has begun.
@@ -223,12 +235,17 @@ struct Looking<'a> {
     astray: AtomicU64,
 }
 
+/// Whether a view has a proof of the line's key.
+fn has_any(view: &mut View<'_>, line: &Line) -> Option<bool> {
+    let BothSides { attacker, defender } = view.find_both(line).ok()?;
+    Some(attacker.is_some() || defender.is_some())
+}
+
 /// Whether a new view of the log has a proof of the line behind a turn.
 fn is_there(alloc: Global, log: &CertLog, job: usize) -> Option<bool> {
     let line = behind(alloc, job)?;
     let mut view = View::new(alloc, log).ok()?;
-    let BothSides { attacker, defender } = view.find_both(&line).ok()?;
-    Some(attacker.is_some() || defender.is_some())
+    has_any(&mut view, &line)
 }
 
 impl Looking<'_> {
@@ -265,8 +282,7 @@ fn are_searched_within<R: Threads + Wait + Sync>(
         right: AtomicU64::new(0),
         astray: AtomicU64::new(0),
     };
-    let line = posed(alloc, LONE)?;
-    answered(rt, alloc, &line, ample(workers), &log, &gate)?;
+    solved(rt, alloc, LONE, ample(workers), &log, &gate)?;
     Ok(gate.right.load(Ordering::SeqCst) == 6 && gate.astray.load(Ordering::SeqCst) == 0)
 }
 
@@ -278,20 +294,30 @@ fn a_job_is_searched_between_begin_and_end(rt: HostRuntime) -> Result<(), Fail> 
     want(are_searched_within(&rt, rt.alloc(), 64)?, "64 workers")
 }
 
+/// Whether a view has taken nothing in, as it was asked for the proofs of a line.
+fn takes_nothing(view: &mut View<'_>, line: &Line) -> Option<bool> {
+    has_any(view, line)?;
+    Some(view.tokens().is_empty())
+}
+
+/// Whether a new view of the log takes nothing in.
+fn is_empty(alloc: Global, log: &CertLog) -> Result<bool, Fail> {
+    let line = posed(alloc, SPLIT)?;
+    let mut view = View::new(alloc, log)?;
+    Ok(takes_nothing(&mut view, &line) == Some(true))
+}
+
 /// Whether the log is empty behind a run of one worker under a total of one.
 fn keeps_nothing<R: Threads + Wait + Sync>(rt: &R, alloc: Global) -> Result<bool, Fail> {
     let log = CertLog::new(alloc)?;
-    let line = posed(alloc, SPLIT)?;
     let with = Setting {
         budget: 100,
         depth: 512,
         total: 1,
         workers: 1,
     };
-    answered(rt, alloc, &line, with, &log, &NoGate)?;
-    let mut view = View::new(alloc, &log)?;
-    view.find_both(&line)?;
-    Ok(view.tokens().is_empty())
+    solved(rt, alloc, SPLIT, with, &log, &NoGate)?;
+    is_empty(alloc, &log)
 }
 
 /// A play takes two expansions here, and the pass one, whose search would be kept: with the one that the play was granted none is

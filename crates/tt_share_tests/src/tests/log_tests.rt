@@ -1,9 +1,7 @@
 //! The log and its views, and searches over each kind of store that is shared.
 
-use super::common::posed;
-use super::table_tests::proof_of;
+use super::common::{SPLIT, posed, proof_of, put_number, want};
 use std::alloc::Global;
-use std::process::Abort;
 use std::sync::{Arc, Wait};
 use std::test::Fail;
 use std::thread;
@@ -13,10 +11,7 @@ use tt_proof::Proof;
 use tt_search::{BothSides, Free, Kept, Limits, PrivateStore, Search, Step, Store};
 use tt_share::{CertLog, LockedStore, LogStore, Table, View};
 
-/// White's two stones with liberties on both sides: Black to move wins.
-const SPLIT: &[u8] = b"(;SZ[4:1]AW[ba][da]PL[B]TR[ba])";
-
-/// The same colouring reached by moves, so that Black may not repeat the board before.
+/// The colouring of the first problem reached by moves, so that Black may not repeat the board before.
 const REPEATED: &[u8] = b"(;SZ[4:1]AW[ba];B[ca];W[da]TR[ba])";
 
 /// The record of a white stone in the corner that Black captures, on the board of a number below 200: 2 to 13 columns, and
@@ -49,12 +44,15 @@ fn hundred(alloc: Global, from: u32) -> Result<Vec<Arc<Proof>>, Fail> {
     Ok(proofs)
 }
 
+/// Keeps the proof through the view, and answers whether it is stored.
+fn is_stored<R: Wait>(rt: &R, view: &mut View<'_>, proof: Arc<Proof>) -> bool {
+    view.keep(rt, proof) == Kept::Stored
+}
+
 /// Keeps the proofs through the view, the first one first.
 fn keep_all<'a, R: Wait>(rt: &R, mut view: View<'a>, proofs: Vec<Arc<Proof>>) -> View<'a> {
     for p in proofs {
-        match view.keep(rt, p) {
-            Kept::Stored | Kept::Full | Kept::NoMemory => {}
-        }
+        is_stored(rt, &mut view, p);
     }
     view
 }
@@ -88,15 +86,21 @@ fn shows(alloc: Global, view: &View<'_>, from: u32) -> Result<bool, Fail> {
     Ok(view.tokens().len() == 100 && view.kept() == 100)
 }
 
+/// Whether a store finds the attacker's proof of a line.
+fn finds<S: Store>(line: &Line, store: &mut S) -> Result<bool, Fail> {
+    match store.find(line, Side::Attacker)? {
+        Some(found) => Ok(found.stands_at(line)),
+        None => Ok(false),
+    }
+}
+
 /// How many of those boards' proofs a store finds.
 fn found_by<S: Store>(alloc: Global, store: &mut S) -> Result<u32, Fail> {
     let mut count = 0u32;
     for number in 0..200u32 {
         let line = cornered(alloc, number)?;
-        if let Some(p) = store.find(&line, Side::Attacker)? {
-            if p.stands_at(&line) {
-                count = count.saturating_add(1);
-            }
+        if finds(&line, store)? {
+            count = count.saturating_add(1);
         }
     }
     Ok(count)
@@ -116,42 +120,101 @@ fn hundreds<'a, R: Threads + Wait + Sync>(
 }
 
 /// Fails unless a store over the view finds each of those proofs, and takes it in once. The view is handed back.
-fn finds_all<'a, R: Abort + Wait>(
-    rt: &'a R,
-    alloc: Global,
-    view: View<'a>,
-) -> Result<View<'a>, Fail> {
+fn finds_all<'a, R: Wait>(rt: &'a R, alloc: Global, view: View<'a>) -> Result<View<'a>, Fail> {
     let mut store = LogStore::new(rt, view);
-    assert!(rt; found_by(alloc, &mut store)? == 200);
+    want(found_by(alloc, &mut store)? == 200, "not all are found")?;
     let view = store.into_view();
-    assert!(rt; view.tokens().len() == 200);
+    want(count_of(&view) == 200, "not all are taken in once")?;
     Ok(view)
 }
 
 /// The same of a new store, which keeps nothing.
-fn finds_all_anew<R: Abort + Wait>(rt: &R, alloc: Global, log: &CertLog) -> Result<(), Fail> {
+fn finds_all_anew<R: Wait>(rt: &R, alloc: Global, log: &CertLog) -> Result<(), Fail> {
     let view = finds_all(rt, alloc, View::new(alloc, log)?)?;
-    assert!(rt; view.kept() == 0);
-    Ok(())
+    want(view.kept() == 0, "it has kept one")
+}
+
+/// Fails unless each view has the tokens of its own proofs.
+fn show_theirs(alloc: Global, one: &View<'_>, other: &View<'_>) -> Result<(), Fail> {
+    want(shows(alloc, one, 0)?, "the first hundred")?;
+    want(shows(alloc, other, 100)?, "the second hundred")
+}
+
+/// The view through which one of two threads has kept a hundred of those proofs.
+fn kept_at_once<'a, R: Threads + Wait + Sync>(
+    rt: &R,
+    alloc: Global,
+    log: &'a CertLog,
+) -> Result<View<'a>, Fail> {
+    let (one, other) = hundreds(rt, alloc, log)?;
+    show_theirs(alloc, &one, &other)?;
+    Ok(one)
 }
 
 #[test]
 fn kept_by_threads_found_by_a_third_store(rt: HostRuntime) -> Result<(), Fail> {
     let alloc = rt.alloc();
     let log = CertLog::new(alloc)?;
-    let (one, other) = hundreds(&rt, alloc, &log)?;
-    assert!(&rt; shows(alloc, &one, 0)?, "the first hundred");
-    assert!(&rt; shows(alloc, &other, 100)?, "the second hundred");
-    finds_all_anew(&rt, alloc, &log)?;
+    let one = kept_at_once(&rt, alloc, &log)?;
     finds_all(&rt, alloc, one)?;
-    Ok(())
+    finds_all_anew(&rt, alloc, &log)
 }
 
-/// Whether a view that kept nothing itself answers the attacker's proof, and none of the defender, when it is asked for
-/// both at once.
-fn finds_both(mut view: View<'_>, line: &Line) -> Result<bool, Fail> {
+/// Whether the view has a proof of the line for the side.
+fn is_found(view: &mut View<'_>, line: &Line, side: Side) -> Result<bool, Fail> {
+    Ok(view.find(line, side)?.is_some())
+}
+
+/// Whether the view has a proof of that board for the side.
+fn has_found(alloc: Global, view: &mut View<'_>, number: u32, side: Side) -> Result<bool, Fail> {
+    let line = cornered(alloc, number)?;
+    is_found(view, &line, side)
+}
+
+/// How many tokens the view has.
+fn count_of(view: &View<'_>) -> usize {
+    view.tokens().len()
+}
+
+/// Keeps the proof of that board through the view, and answers whether it is stored.
+fn keeps<R: Wait>(rt: &R, alloc: Global, view: &mut View<'_>, number: u32) -> Result<bool, Fail> {
+    let proof = captured(alloc, number)?;
+    Ok(is_stored(rt, view, proof))
+}
+
+/// Whether a view answers the attacker's proof, and none of the defender, when it is asked for both at once.
+fn has_one_side(view: &mut View<'_>, line: &Line) -> Result<bool, Fail> {
     let BothSides { attacker, defender } = view.find_both(line)?;
-    Ok(attacker.is_some() && defender.is_none() && view.tokens().len() == 1)
+    Ok(attacker.is_some() && defender.is_none())
+}
+
+/// Whether a view that kept nothing itself does so, and takes one proof in.
+fn takes_one(alloc: Global, log: &CertLog, line: &Line) -> Result<bool, Fail> {
+    let mut view = View::new(alloc, log)?;
+    Ok(has_one_side(&mut view, line)? && count_of(&view) == 1)
+}
+
+/// Whether it does so at the board of number 0.
+fn finds_both(alloc: Global, log: &CertLog) -> Result<bool, Fail> {
+    let line = cornered(alloc, 0)?;
+    takes_one(alloc, log, &line)
+}
+
+/// Fails unless what one view keeps another one finds.
+fn shares_one<R: Wait>(
+    rt: &R,
+    alloc: Global,
+    log: &CertLog,
+    view: &mut View<'_>,
+) -> Result<(), Fail> {
+    want(keeps(rt, alloc, view, 0)?, "kept")?;
+    want(finds_both(alloc, log)?, "found")
+}
+
+/// Whether a store over the view counts what was kept through it.
+fn counts_one<R: Wait>(rt: &R, view: View<'_>) -> bool {
+    let store = LogStore::new(rt, view);
+    store.capacity() == 4_096 && store.kept() == 1
 }
 
 /// What one view kept another one takes in, also where it is asked for both sides at once.
@@ -160,17 +223,17 @@ fn both_sides_are_found_by_another_view(rt: HostRuntime) -> Result<(), Fail> {
     let alloc = rt.alloc();
     let log = CertLog::new(alloc)?;
     let mut view = View::new(alloc, &log)?;
-    assert!(&rt; view.keep(&rt, captured(alloc, 0)?) == Kept::Stored);
-    assert!(&rt; finds_both(View::new(alloc, &log)?, &cornered(alloc, 0)?)?);
-    let store = LogStore::new(&rt, view);
-    assert!(&rt; store.capacity() == 4_096 && store.kept() == 1);
-    Ok(())
+    shares_one(&rt, alloc, &log, &mut view)?;
+    want(counts_one(&rt, view), "counted")
 }
 
-/// Whether the view has a proof of that board for the side.
-fn has_found(alloc: Global, view: &mut View<'_>, number: u32, side: Side) -> Result<bool, Fail> {
-    let line = cornered(alloc, number)?;
-    Ok(view.find(&line, side)?.is_some())
+/// Fails unless a view of an empty log finds what it keeps, once it has kept it, and takes it in once.
+fn finds_its_own<R: Wait>(rt: &R, alloc: Global, view: &mut View<'_>) -> Result<(), Fail> {
+    want(!has_found(alloc, view, 0, Side::Attacker)?, "before")?;
+    want(keeps(rt, alloc, view, 0)?, "kept")?;
+    want(has_found(alloc, view, 0, Side::Attacker)?, "found")?;
+    want(!has_found(alloc, view, 0, Side::Defender)?, "the other")?;
+    want(count_of(view) == 1, "once")
 }
 
 #[test]
@@ -178,35 +241,41 @@ fn kept_and_found_at_once(rt: HostRuntime) -> Result<(), Fail> {
     let alloc = rt.alloc();
     let log = CertLog::new(alloc)?;
     let mut view = View::new(alloc, &log)?;
-    assert!(&rt; !has_found(alloc, &mut view, 0, Side::Attacker)?, "before");
-    assert!(&rt; view.keep(&rt, captured(alloc, 0)?) == Kept::Stored);
-    assert!(&rt; has_found(alloc, &mut view, 0, Side::Attacker)?, "kept");
-    assert!(&rt;
-        !has_found(alloc, &mut view, 0, Side::Defender)?,
-        "the other side"
-    );
-    assert!(&rt; view.tokens().len() == 1);
-    Ok(())
+    finds_its_own(&rt, alloc, &mut view)
 }
 
-/// Fails unless a view, to which another one's proof of a board and then its own of the next board come, has so many tokens.
-fn reads_on<R: Abort + Wait>(
+/// Whether a view, to which another one's proof of a board and then its own of the next board come, has so many tokens.
+fn reads_on<R: Wait>(
     rt: &R,
     alloc: Global,
     view: &mut View<'_>,
     other: &mut View<'_>,
     number: u32,
     tokens: usize,
+) -> Result<bool, Fail> {
+    let theirs = keeps(rt, alloc, other, number)?;
+    let found = has_found(alloc, view, number, Side::Attacker)?;
+    let own = keeps(rt, alloc, view, number.saturating_add(1))?;
+    Ok(theirs && found && own && count_of(view) == tokens)
+}
+
+/// Fails unless it is so three times in turn.
+fn reads_on_and_on<R: Wait>(
+    rt: &R,
+    alloc: Global,
+    view: &mut View<'_>,
+    other: &mut View<'_>,
 ) -> Result<(), Fail> {
-    let theirs = captured(alloc, number)?;
-    assert!(rt; other.keep(rt, theirs) == Kept::Stored);
-    assert!(rt;
-        has_found(alloc, view, number, Side::Attacker)?,
-        "board {number}"
-    );
-    let own = captured(alloc, number.saturating_add(1))?;
-    assert!(rt; view.keep(rt, own) == Kept::Stored);
-    assert!(rt; view.tokens().len() == tokens, "behind board {number}");
+    let mut number = 0u32;
+    let mut tokens = 2usize;
+    for _ in 0..3u8 {
+        want(
+            reads_on(rt, alloc, view, other, number, tokens)?,
+            "other tokens",
+        )?;
+        number = number.saturating_add(2);
+        tokens = tokens.saturating_add(2);
+    }
     Ok(())
 }
 
@@ -217,22 +286,49 @@ fn a_view_reads_on(rt: HostRuntime) -> Result<(), Fail> {
     let log = CertLog::new(alloc)?;
     let mut view = View::new(alloc, &log)?;
     let mut other = View::new(alloc, &log)?;
-    reads_on(&rt, alloc, &mut view, &mut other, 0, 2)?;
-    reads_on(&rt, alloc, &mut view, &mut other, 2, 4)?;
-    reads_on(&rt, alloc, &mut view, &mut other, 4, 6)
+    reads_on_and_on(&rt, alloc, &mut view, &mut other)
 }
 
-/// Keeps a proof 4,096 times, as often as a view can, and then fails unless the view is full.
-fn fills<R: Abort + Wait>(rt: &R, view: &mut View<'_>, proof: &Arc<Proof>) -> Result<(), Fail> {
-    for number in 0..4_096u32 {
-        assert!(rt;
-            view.keep(rt, Arc::try_clone(proof)?) == Kept::Stored,
-            "proof {number}"
-        );
+/// Keeps another handle of the proof, and answers whether it is stored.
+fn stores<R: Wait>(rt: &R, view: &mut View<'_>, proof: &Arc<Proof>) -> Result<bool, Fail> {
+    let handle = Arc::try_clone(proof)?;
+    Ok(is_stored(rt, view, handle))
+}
+
+/// Whether the view has kept as many proofs as it can.
+fn is_full(view: &View<'_>) -> bool {
+    view.kept() == view.capacity()
+}
+
+/// Fails unless a proof is kept 4,096 times, as often as a view can, and then no more.
+fn fills<R: Wait>(rt: &R, view: &mut View<'_>, proof: &Arc<Proof>) -> Result<(), Fail> {
+    for _ in 0..4_096u32 {
+        want(stores(rt, view, proof)?, "full too early")?;
     }
-    assert!(rt; view.keep(rt, Arc::try_clone(proof)?) == Kept::Full);
-    assert!(rt; view.kept() == view.capacity());
-    Ok(())
+    want(!stores(rt, view, proof)? && is_full(view), "not full")
+}
+
+/// Fails unless a new view does so.
+fn fills_anew<R: Wait>(
+    rt: &R,
+    alloc: Global,
+    log: &CertLog,
+    proof: &Arc<Proof>,
+) -> Result<(), Fail> {
+    let mut view = View::new(alloc, log)?;
+    fills(rt, &mut view, proof)
+}
+
+/// Whether another view takes them all in, and keeps one more.
+fn takes_all<R: Wait>(
+    rt: &R,
+    alloc: Global,
+    log: &CertLog,
+    proof: &Arc<Proof>,
+) -> Result<bool, Fail> {
+    let mut view = View::new(alloc, log)?;
+    let found = has_found(alloc, &mut view, 7, Side::Attacker)?;
+    Ok(found && count_of(&view) == 4_096 && stores(rt, &mut view, proof)?)
 }
 
 /// A view keeps 4,096 proofs, and no more; another one takes them all in.
@@ -241,139 +337,176 @@ fn a_view_is_full(rt: HostRuntime) -> Result<(), Fail> {
     let alloc = rt.alloc();
     let log = CertLog::new(alloc)?;
     let proof = captured(alloc, 7)?;
-    let mut view = View::new(alloc, &log)?;
-    fills(&rt, &mut view, &proof)?;
-    let mut other = View::new(alloc, &log)?;
-    assert!(&rt; has_found(alloc, &mut other, 7, Side::Attacker)?);
-    assert!(&rt; other.tokens().len() == 4_096);
-    assert!(&rt; other.keep(&rt, proof) == Kept::Stored);
+    fills_anew(&rt, alloc, &log, &proof)?;
+    want(takes_all(&rt, alloc, &log, &proof)?, "another view")
+}
+
+/// Steps a search that asks nobody for its expansions.
+fn stepped<S: Store>(search: &mut Search, store: &mut S) -> Step {
+    search.step(store, &mut Free::new())
+}
+
+/// The letter of what a step answered.
+fn letter_of(step: Step) -> u8 {
+    match step {
+        Step::Expanded => b'E',
+        Step::Closed => b'C',
+        Step::Settled => b'S',
+        Step::Stuck(_) => b'B',
+    }
+}
+
+/// Writes the root's numbers.
+fn put_numbers(out: &mut Vec<u8>, search: &Search) -> Result<(), Fail> {
+    let (proof, disproof) = search.numbers();
+    put_number(out, proof)?;
+    out.push(b',')?;
+    put_number(out, disproof)
+}
+
+/// Writes each step of a search with the root's numbers after it, up to one that leaves the search as it is.
+fn put_steps<S: Store>(out: &mut Vec<u8>, search: &mut Search, store: &mut S) -> Result<(), Fail> {
+    for _ in 0..9u32 {
+        let letter = letter_of(stepped(search, store));
+        out.push(letter)?;
+        put_numbers(out, search)?;
+        out.push(b' ')?;
+        if letter != b'E' && letter != b'C' {
+            return Ok(());
+        }
+    }
     Ok(())
 }
 
-/// What a step answers, and the root's numbers after it.
-type Told = (Step, (u32, u32));
+/// Writes how many nodes a search expanded.
+fn put_expanded(out: &mut Vec<u8>, search: &Search) -> Result<(), Fail> {
+    put_number(out, search.expanded())
+}
 
-/// What a search comes to: its steps up to the end, how many nodes are expanded then, and how many proofs are kept.
-type Trace<'a> = (&'a [Told], u32, usize);
+/// Writes how many proofs were kept through the store.
+fn put_kept<S: Store>(out: &mut Vec<u8>, store: &S) -> Result<(), Fail> {
+    out.push(b' ')?;
+    let kept = store.kept();
+    put_number(out, if kept < 16 { kept as u32 } else { 15 })
+}
 
-/// A number that is infinite.
-const INFINITE: u32 = 4_294_967_295;
-
-/// Fails unless a search over the store steps so.
-fn steps_so<S: Store>(
-    rt: &impl Abort,
-    search: &mut Search,
-    store: &mut S,
-    steps: &[Told],
-    name: &str,
-) {
-    for place in 0..steps.len() {
-        let step = search.step(store, &mut Free::new());
-        assert!(rt;
-            (step, search.numbers()) == steps[place],
-            "{name}: step {place}"
-        );
+/// A search at the problem.
+fn search_at(alloc: Global, text: &[u8]) -> Result<Search, Fail> {
+    let line = posed(alloc, text)?;
+    match Limits::new(100, 512) {
+        Some(limits) => Ok(Search::new(alloc, line, limits)?),
+        None => Err(Fail::new("no limits")),
     }
+}
+
+/// Writes each step of a search over the store, then how many nodes are expanded and how many proofs are kept.
+fn put_trace<S: Store>(out: &mut Vec<u8>, search: &mut Search, store: &mut S) -> Result<(), Fail> {
+    put_steps(out, search, store)?;
+    put_expanded(out, search)?;
+    put_kept(out, store)
+}
+
+/// The same of a search at the problem.
+fn put_search<S: Store>(
+    alloc: Global,
+    out: &mut Vec<u8>,
+    text: &[u8],
+    store: &mut S,
+) -> Result<(), Fail> {
+    let mut search = search_at(alloc, text)?;
+    put_trace(out, &mut search, store)
+}
+
+/// The same as a text of its own.
+fn trace<S: Store>(alloc: Global, text: &[u8], store: &mut S) -> Result<Vec<u8>, Fail> {
+    let mut out = Vec::new(alloc);
+    put_search(alloc, &mut out, text, store)?;
+    Ok(out)
 }
 
 /// Fails unless a search at the problem over the store has this trace.
 fn has_trace<S: Store>(
-    rt: &impl Abort,
     alloc: Global,
     text: &[u8],
     store: &mut S,
+    wanted: &[u8],
     name: &str,
-    want: Trace<'_>,
 ) -> Result<(), Fail> {
-    let Some(limits) = Limits::new(100, 512) else {
-        return Err(Fail::new("no limits"));
-    };
-    let mut search = Search::new(alloc, posed(alloc, text)?, limits)?;
-    let (steps, expanded, kept) = want;
-    steps_so(rt, &mut search, store, steps, name);
-    assert!(rt; search.expanded() == expanded, "{name}: expanded");
-    assert!(rt; store.kept() == kept, "{name}: kept");
-    Ok(())
+    want(trace(alloc, text, store)?.as_slice() == wanted, name)
 }
 
-/// Whether the store answers the proof of the first problem at the second one, which has its key, and none for the other
-/// side.
-fn finds_the_first<S: Store>(alloc: Global, store: &mut S) -> Result<bool, Fail> {
+/// Whether the proof that the store answers for the attacker at one line stands at another one, and not there.
+fn finds_another<S: Store>(line: &Line, other: &Line, store: &mut S) -> Result<bool, Fail> {
+    match store.find(line, Side::Attacker)? {
+        Some(found) => Ok(found.stands_at(other) && !found.stands_at(line)),
+        None => Ok(false),
+    }
+}
+
+/// Whether the store has no proof of the line for the defender.
+fn finds_no_defence<S: Store>(line: &Line, store: &mut S) -> Result<bool, Fail> {
+    Ok(store.find(line, Side::Defender)?.is_none())
+}
+
+/// Whether the store answers the proof of the first problem at the line.
+fn finds_first_at<S: Store>(alloc: Global, line: &Line, store: &mut S) -> Result<bool, Fail> {
     let first = posed(alloc, SPLIT)?;
+    finds_another(line, &first, store)
+}
+
+/// Whether it does so at the second problem, which has the key of the first.
+fn finds_the_first<S: Store>(alloc: Global, store: &mut S) -> Result<bool, Fail> {
     let line = posed(alloc, REPEATED)?;
-    let Some(found) = store.find(&line, Side::Attacker)? else {
-        return Ok(false);
-    };
-    let other = store.find(&line, Side::Defender)?;
-    Ok(found.stands_at(&first) && !found.stands_at(&line) && other.is_none())
+    finds_first_at(alloc, &line, store)
+}
+
+/// Whether the store has no proof of the second problem for the defender.
+fn finds_no_other<S: Store>(alloc: Global, store: &mut S) -> Result<bool, Fail> {
+    let line = posed(alloc, REPEATED)?;
+    finds_no_defence(&line, store)
 }
 
 /// The first problem over an empty store: three nodes are expanded, and settled for the attacker.
-const ANEW: Trace<'static> = (
-    &[
-        (Step::Expanded, (1, 2)),
-        (Step::Expanded, (1, 2)),
-        (Step::Expanded, (0, INFINITE)),
-        (Step::Settled, (0, INFINITE)),
-    ],
-    3,
-    3,
-);
+const ANEW: &[u8] = b"E1,2 E1,2 E0,inf S0,inf 3 3";
 
 /// The same once more over that store.
-const AGAIN: Trace<'static> = (
-    &[
-        (Step::Closed, (0, INFINITE)),
-        (Step::Settled, (0, INFINITE)),
-    ],
-    0,
-    3,
-);
+const AGAIN: &[u8] = b"C0,inf S0,inf 0 3";
 
 /// The second problem over it.
-const BEHIND: Trace<'static> = (
-    &[
-        (Step::Expanded, (1, 1)),
-        (Step::Expanded, (INFINITE, 0)),
-        (Step::Settled, (INFINITE, 0)),
-    ],
-    2,
-    5,
-);
+const BEHIND: &[u8] = b"E1,1 Einf,0 Sinf,0 2 5";
 
 /// The second problem once more: of its key the store has the first problem's proof for the attacker, which doesn't win here, and
 /// the defender's own.
-const OF_BOTH: Trace<'static> = (
-    &[
-        (Step::Closed, (INFINITE, 0)),
-        (Step::Settled, (INFINITE, 0)),
-    ],
-    0,
-    5,
-);
+const OF_BOTH: &[u8] = b"Cinf,0 Sinf,0 0 5";
 
 /// Fails unless searches over one store go as they go over a private one: the table of `tt_search`.
-fn search_in_turn<S: Store>(
-    rt: &impl Abort,
-    alloc: Global,
-    name: &str,
-    store: &mut S,
-) -> Result<(), Fail> {
-    has_trace(rt, alloc, SPLIT, store, name, ANEW)?;
-    has_trace(rt, alloc, SPLIT, store, name, AGAIN)?;
-    assert!(rt; finds_the_first(alloc, store)?, "{name}: what is found");
-    has_trace(rt, alloc, REPEATED, store, name, BEHIND)?;
-    has_trace(rt, alloc, REPEATED, store, name, OF_BOTH)
+fn search_in_turn<S: Store>(alloc: Global, store: &mut S) -> Result<(), Fail> {
+    has_trace(alloc, SPLIT, store, ANEW, "anew")?;
+    has_trace(alloc, SPLIT, store, AGAIN, "again")?;
+    want(finds_the_first(alloc, store)?, "what is found")?;
+    want(finds_no_other(alloc, store)?, "the other side")?;
+    has_trace(alloc, REPEATED, store, BEHIND, "behind")?;
+    has_trace(alloc, REPEATED, store, OF_BOTH, "of both")
+}
+
+/// The same over a table behind a lock.
+fn over_a_table<R: Wait>(rt: &R, alloc: Global) -> Result<(), Fail> {
+    let table = Table::new(alloc)?;
+    let mut store = LockedStore::new(rt, &table);
+    search_in_turn(alloc, &mut store)
+}
+
+/// The same over a log.
+fn over_a_log<R: Wait>(rt: &R, alloc: Global) -> Result<(), Fail> {
+    let log = CertLog::new(alloc)?;
+    let mut store = LogStore::new(rt, View::new(alloc, &log)?);
+    search_in_turn(alloc, &mut store)
 }
 
 #[test]
 fn searches_over_each_store(rt: HostRuntime) -> Result<(), Fail> {
     let alloc = rt.alloc();
-    search_in_turn(&rt, alloc, "private", &mut PrivateStore::new(alloc))?;
-    let table = Table::new(alloc)?;
-    let mut locked = LockedStore::new(&rt, &table);
-    search_in_turn(&rt, alloc, "locked", &mut locked)?;
-    let log = CertLog::new(alloc)?;
-    let mut view = LogStore::new(&rt, View::new(alloc, &log)?);
-    search_in_turn(&rt, alloc, "log", &mut view)
+    search_in_turn(alloc, &mut PrivateStore::new(alloc))?;
+    over_a_table(&rt, alloc)?;
+    over_a_log(&rt, alloc)
 }

@@ -1,61 +1,22 @@
 //! The table and its handles, on problems with certificates whose nodes are counted by hand.
 
+use super::common::{SPLIT, posed, proof_of, want};
+use super::rows::{cut, number, short_number};
 use std::alloc::Global;
-use std::process::Abort;
 use std::sync::{Arc, Wait};
 use std::test::Fail;
 use std::thread;
 use std::thread::Threads;
-use tt_game::{Line, Side, problem};
-use tt_proof::{Proof, Rejected, read_cert, write_cert};
+use tt_game::{Line, Side};
+use tt_proof::{Proof, write_cert};
 use tt_search::{Kept, Store};
-use tt_sgf::read_tree;
 use tt_share::{LockedStore, Table, TableState};
 
-/// White's two stones with liberties on both sides: Black to move kills.
-const SPLIT: &[u8] = b"(;SZ[4:1]AW[ba][da]PL[B]TR[ba])";
-
-/// The same colouring reached by moves, so that Black may not repeat the board before: White lives.
+/// The colouring of the first problem reached by moves, so that Black may not repeat the board before: White lives.
 const REPEATED: &[u8] = b"(;SZ[4:1]AW[ba];B[ca];W[da]TR[ba])";
 
 /// A lone white stone with one liberty: White to move fills it or passes, and the stone dies.
 const NARROW: &[u8] = b"(;SZ[2:1]AW[ba]PL[W]TR[ba])";
-
-fn posed(alloc: Global, record: &[u8]) -> Result<Line, Fail> {
-    let (main, _) = read_tree(alloc, record)?;
-    let line = problem(alloc, &main)?;
-    Ok(line)
-}
-
-/// The proof of a certificate at a problem.
-pub(crate) fn proof_of(
-    alloc: Global,
-    record: &[u8],
-    certificate: &[u8],
-) -> Result<Arc<Proof>, Fail> {
-    let mut line = posed(alloc, record)?;
-    let size = line.frame().size;
-    let Ok((side, tree)) = read_cert(alloc, certificate, size) else {
-        return Err(Fail::new("no certificate"));
-    };
-    match Proof::replayed(alloc, &mut line, side, tree) {
-        Ok(proof) => Ok(Arc::new(alloc, proof)?),
-        Err(Rejected::NotWinning(_)) => Err(Fail::new("not winning")),
-        Err(Rejected::NoMemory(_)) => Err(Fail::new("no memory")),
-    }
-}
-
-/// The certificate of a proof.
-fn text_of(alloc: Global, p: &Proof, line: &Line) -> Result<Vec<u8>, Fail> {
-    if !p.has_key(&line.key()) {
-        return Err(Fail::new("another key"));
-    }
-    if !p.stands_at(line) {
-        return Err(Fail::new("not at the line"));
-    }
-    let text = write_cert(alloc, p.side(), p.tree(), line.frame().size)?;
-    Ok(text)
-}
 
 /// Whether a table has the proofs of a problem's key at these places.
 fn has_places(
@@ -68,81 +29,131 @@ fn has_places(
     Ok(table.places(&line.key()) == want)
 }
 
-/// Fails unless the proof of a certificate goes to this place, and the table has so many nodes with it.
-fn inserts(
-    rt: &impl Abort,
+/// The place to which the proof of a certificate goes.
+fn place_of(
+    alloc: Global,
     table: &mut TableState,
-    proof: Arc<Proof>,
-    place: usize,
-    nodes: u64,
-) -> Result<(), Fail> {
-    assert_eq!(rt; table.len(), place, "at {place}");
-    assert_eq!(rt; table.insert(proof)?, place, "at {place}");
-    assert_eq!(rt; table.nodes(), nodes, "at {place}");
-    Ok(())
+    record: &[u8],
+    certificate: &[u8],
+) -> Result<usize, Fail> {
+    let proof = proof_of(alloc, record, certificate)?;
+    Ok(table.insert(proof)?)
 }
 
-/// Fails unless a new table tells the places of what is put into it, and the nodes of all.
-fn tells_places(rt: &impl Abort, alloc: Global, table: &mut TableState) -> Result<(), Fail> {
-    assert!(rt; has_places(alloc, table, SPLIT, &[])?, "an empty table");
-    assert_eq!(rt; table.nodes(), 0);
-    let steps: [(&[u8], &[u8], usize, u64); 5] = [
-        (SPLIT, b"killed !ca?aa.--!aa.;", 0, 5),
-        (REPEATED, b"lives ?--!--.;", 1, 8),
-        (NARROW, b"killed ?aa.--!aa.;", 2, 12),
-        (SPLIT, b"killed !ca?aa.da.--!aa.;", 3, 18),
-        (NARROW, b"killed ?aa.--!aa.;", 4, 22),
-    ];
-    for (record, certificate, place, nodes) in steps {
-        let proof = proof_of(alloc, record, certificate)?;
-        inserts(rt, table, proof, place, nodes)?;
+/// Whether the proof of the row's certificate goes to the row's place, and the table has so many nodes with it.
+fn is_put(alloc: Global, table: &mut TableState, row: &[u8]) -> Result<bool, Fail> {
+    let (record, rest) = cut(row, b'|');
+    let (certificate, rest) = cut(rest, b'|');
+    let (place, nodes) = cut(rest, b'|');
+    let put = place_of(alloc, table, record, certificate)?;
+    Ok(put == usize::from(short_number(place)) && table.nodes() == u64::from(number(nodes)))
+}
+
+/// Problems, certificates, the place of each proof, and the nodes of the table with it.
+const PUT: &str = "\
+(;SZ[4:1]AW[ba][da]PL[B]TR[ba])|killed !ca?aa.--!aa.;|0|5
+(;SZ[4:1]AW[ba];B[ca];W[da]TR[ba])|lives ?--!--.;|1|8
+(;SZ[2:1]AW[ba]PL[W]TR[ba])|killed ?aa.--!aa.;|2|12
+(;SZ[4:1]AW[ba][da]PL[B]TR[ba])|killed !ca?aa.da.--!aa.;|3|18
+(;SZ[2:1]AW[ba]PL[W]TR[ba])|killed ?aa.--!aa.;|4|22
+";
+
+/// Fails unless the rows are so in turn.
+fn are_put(alloc: Global, table: &mut TableState) -> Result<(), Fail> {
+    let mut rest = PUT.as_bytes();
+    for _ in 0..5u8 {
+        let (row, behind) = cut(rest, b'\n');
+        want(is_put(alloc, table, row)?, "another place or count")?;
+        rest = behind;
     }
-    assert!(rt; has_places(alloc, table, SPLIT, &[0, 1, 3])?, "split");
-    assert!(rt; has_places(alloc, table, REPEATED, &[0, 1, 3])?, "repeated");
-    assert!(rt; has_places(alloc, table, NARROW, &[2, 4])?, "narrow");
-    assert_eq!(rt; table.len(), 5);
-    Ok(())
+    want(rest.is_empty(), "the table is longer")
+}
+
+/// Fails unless a table in which these proofs are tells the places of each key.
+fn tells_places(alloc: Global, table: &TableState) -> Result<(), Fail> {
+    want(has_places(alloc, table, SPLIT, &[0, 1, 3])?, "split")?;
+    want(has_places(alloc, table, REPEATED, &[0, 1, 3])?, "repeated")?;
+    want(has_places(alloc, table, NARROW, &[2, 4])?, "narrow")?;
+    want(table.len() == 5, "five proofs")
 }
 
 #[test]
 fn places_and_nodes(rt: HostRuntime) -> Result<(), Fail> {
     let alloc = rt.alloc();
     let mut table = TableState::new(alloc)?;
-    tells_places(&rt, alloc, &mut table)
+    want(has_places(alloc, &table, SPLIT, &[])?, "an empty table")?;
+    want(table.nodes() == 0, "its nodes")?;
+    are_put(alloc, &mut table)?;
+    tells_places(alloc, &table)
 }
 
-/// Fails unless a proof is the side's, and has this certificate at the line.
+/// Whether a proof is the side's, and has this certificate at the line.
 fn is_certified(
-    rt: &impl Abort,
     alloc: Global,
-    proof: &Proof,
+    p: &Proof,
     line: &Line,
     side: Side,
-    certificate: &str,
-) -> Result<(), Fail> {
-    assert!(rt; proof.side() == side, "{certificate}");
-    let text = text_of(alloc, proof, line)?;
-    assert!(rt; text.as_slice() == certificate.as_bytes(), "{certificate}");
-    Ok(())
+    certificate: &[u8],
+) -> Result<bool, Fail> {
+    if p.side() != side || !p.has_key(&line.key()) || !p.stands_at(line) {
+        return Ok(false);
+    }
+    let text = write_cert(alloc, p.side(), p.tree(), line.frame().size)?;
+    Ok(text.as_slice() == certificate)
 }
 
-/// Fails unless the proof of a certificate that one store keeps is found by another one.
+/// The proof that a store has of a line for the side.
+fn found_in<S: Store>(store: &mut S, line: &Line, side: Side) -> Result<Arc<Proof>, Fail> {
+    match store.find(line, side)? {
+        Some(found) => Ok(found),
+        None => Err(Fail::new("not found")),
+    }
+}
+
+/// Keeps the proof, and answers whether it is stored.
+fn is_stored<S: Store>(store: &mut S, proof: Arc<Proof>) -> bool {
+    store.keep(proof) == Kept::Stored
+}
+
+/// Keeps the proof of a certificate, and answers its side.
+fn kept_side<S: Store>(
+    alloc: Global,
+    store: &mut S,
+    record: &[u8],
+    certificate: &[u8],
+) -> Result<Side, Fail> {
+    let proof = proof_of(alloc, record, certificate)?;
+    let side = proof.side();
+    if is_stored(store, proof) {
+        Ok(side)
+    } else {
+        Err(Fail::new("not kept"))
+    }
+}
+
+/// Whether a store has the proof of a certificate at a line.
+fn is_found<S: Store>(
+    alloc: Global,
+    store: &mut S,
+    line: &Line,
+    side: Side,
+    certificate: &[u8],
+) -> Result<bool, Fail> {
+    let found = found_in(store, line, side)?;
+    is_certified(alloc, &found, line, side, certificate)
+}
+
+/// Whether the proof of a certificate that one store keeps is found by another one.
 fn kept_and_found<A: Store, B: Store>(
-    rt: &impl Abort,
     alloc: Global,
     one: &mut A,
     other: &mut B,
     record: &[u8],
-    certificate: &str,
-) -> Result<(), Fail> {
+    certificate: &[u8],
+) -> Result<bool, Fail> {
+    let side = kept_side(alloc, one, record, certificate)?;
     let line = posed(alloc, record)?;
-    let proof = proof_of(alloc, record, certificate.as_bytes())?;
-    let side = proof.side();
-    assert!(rt; one.keep(proof) == Kept::Stored, "{certificate}");
-    match other.find(&line, side)? {
-        Some(found) => is_certified(rt, alloc, &found, &line, side, certificate),
-        None => Err(Fail::new(certificate)),
-    }
+    is_found(alloc, other, &line, side, certificate)
 }
 
 /// Whether a store has the attacker's proof of a problem.
@@ -151,7 +162,13 @@ fn has_found<S: Store>(alloc: Global, store: &mut S, record: &[u8]) -> Result<bo
     Ok(store.find(&line, Side::Attacker)?.is_some())
 }
 
-/// Whether what a store has for the defender at one problem stands at another one.
+/// Whether what a store has for the defender at one line stands at another one.
+fn stands_there<S: Store>(store: &mut S, line: &Line, there: &Line) -> Result<bool, Fail> {
+    let found = found_in(store, line, Side::Defender)?;
+    Ok(found.stands_at(there))
+}
+
+/// The same of two problems.
 fn found_stands<S: Store>(
     alloc: Global,
     store: &mut S,
@@ -160,37 +177,47 @@ fn found_stands<S: Store>(
 ) -> Result<bool, Fail> {
     let line = posed(alloc, record)?;
     let there = posed(alloc, other)?;
-    match store.find(&line, Side::Defender)? {
-        Some(found) => Ok(found.stands_at(&there)),
-        None => Err(Fail::new("not found")),
+    stands_there(store, &line, &there)
+}
+
+/// Problems, and certificates that are kept in turn.
+const KEPT: &str = "\
+(;SZ[4:1]AW[ba][da]PL[B]TR[ba])|killed !ca?aa.--!aa.;
+(;SZ[4:1]AW[ba];B[ca];W[da]TR[ba])|lives ?--!--.;
+(;SZ[4:1]AW[ba][da]PL[B]TR[ba])|killed !ca?aa.da.--!aa.;
+";
+
+/// Fails unless what one store keeps another one finds, row by row.
+fn are_found<A: Store, B: Store>(alloc: Global, one: &mut A, other: &mut B) -> Result<(), Fail> {
+    let mut rest = KEPT.as_bytes();
+    for _ in 0..3u8 {
+        let (row, behind) = cut(rest, b'\n');
+        let (record, certificate) = cut(row, b'|');
+        want(
+            kept_and_found(alloc, one, other, record, certificate)?,
+            "another proof",
+        )?;
+        rest = behind;
     }
+    want(rest.is_empty(), "the table is longer")
+}
+
+/// Whether so many proofs were kept through a store.
+fn has_kept<S: Store>(store: &S, count: usize) -> bool {
+    store.kept() == count && store.capacity() == 4_096
 }
 
 /// Fails unless two stores of a new table share what the first one keeps.
 fn share_a_table<A: Store, B: Store>(
-    rt: &impl Abort,
     alloc: Global,
     one: &mut A,
     other: &mut B,
 ) -> Result<(), Fail> {
-    assert!(rt; !has_found(alloc, other, SPLIT)?, "an empty table");
-    let steps: [(&[u8], &str); 3] = [
-        (SPLIT, "killed !ca?aa.--!aa.;"),
-        (REPEATED, "lives ?--!--.;"),
-        (SPLIT, "killed !ca?aa.da.--!aa.;"),
-    ];
-    for (record, certificate) in steps {
-        kept_and_found(rt, alloc, one, other, record, certificate)?;
-    }
-    assert!(rt;
-        found_stands(alloc, other, SPLIT, REPEATED)?,
-        "the same key"
-    );
-    assert!(rt; !has_found(alloc, other, NARROW)?, "another key");
-    assert_eq!(rt; one.kept(), 3);
-    assert_eq!(rt; other.kept(), 0);
-    assert_eq!(rt; other.capacity(), 4096);
-    Ok(())
+    want(!has_found(alloc, other, SPLIT)?, "an empty table")?;
+    are_found(alloc, one, other)?;
+    want(found_stands(alloc, other, SPLIT, REPEATED)?, "the same key")?;
+    want(!has_found(alloc, other, NARROW)?, "another key")?;
+    want(has_kept(one, 3) && has_kept(other, 0), "what they kept")
 }
 
 #[test]
@@ -199,7 +226,7 @@ fn kept_by_one_found_by_another(rt: HostRuntime) -> Result<(), Fail> {
     let table = Table::new(alloc)?;
     let mut one = LockedStore::new(&rt, &table);
     let mut other = LockedStore::new(&rt, &table);
-    share_a_table(&rt, alloc, &mut one, &mut other)
+    share_a_table(alloc, &mut one, &mut other)
 }
 
 /// Two threads, each with a handle of its own, keep a proof each.
@@ -223,10 +250,8 @@ fn kept_by_threads(rt: HostRuntime) -> Result<(), Fail> {
     let first = proof_of(alloc, SPLIT, b"killed !ca?aa.--!aa.;")?;
     let second = proof_of(alloc, NARROW, b"killed ?aa.--!aa.;")?;
     let (one, other) = keep_at_once(&rt, &table, first, second);
-    assert!(&rt; one == Kept::Stored);
-    assert!(&rt; other == Kept::Stored);
+    want(one == Kept::Stored && other == Kept::Stored, "kept")?;
     let mut store = LockedStore::new(&rt, &table);
-    assert!(&rt; has_found(alloc, &mut store, SPLIT)?, "split");
-    assert!(&rt; has_found(alloc, &mut store, NARROW)?, "narrow");
-    Ok(())
+    want(has_found(alloc, &mut store, SPLIT)?, "split")?;
+    want(has_found(alloc, &mut store, NARROW)?, "narrow")
 }

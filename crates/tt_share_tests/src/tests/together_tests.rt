@@ -1,13 +1,15 @@
 //! Problems solved by workers in threads. The verdicts are by a program written from the definitions alone.
 
-use super::common::{Setting, answered, posed, searched, verdict};
+use super::common::{Setting, posed, searched, verdict_by};
 use super::rows::{cut, number, short_number};
 use std::alloc::Global;
 use std::str::from_utf8;
-use std::sync::Wait;
 use std::sync::atomic::{AtomicU64, Ordering};
+use std::sync::{Arc, Wait};
 use std::test::Fail;
 use std::thread::Threads;
+use tt_game::Line;
+use tt_proof::Proof;
 use tt_search::{BothSides, Kept};
 use tt_share::{CertLog, Gate, View};
 
@@ -84,15 +86,26 @@ fn plant<R: Wait>(rt: &R, alloc: Global, log: &CertLog, text: &[u8]) -> Result<(
     Err(Fail::new("not kept"))
 }
 
-/// Whether a new view of the log finds a proof that stands at the problem's line.
+/// Whether there is a proof, and it stands at the line.
+fn stands(found: &Option<Arc<Proof>>, line: &Line) -> bool {
+    match found {
+        Some(proof) => proof.stands_at(line),
+        None => false,
+    }
+}
+
+/// Whether a view finds a proof for one side alone, and it stands at the line.
+fn finds_one(view: &mut View<'_>, line: &Line) -> Result<bool, Fail> {
+    let BothSides { attacker, defender } = view.find_both(line)?;
+    let one = attacker.is_some() != defender.is_some();
+    Ok(one && (stands(&attacker, line) || stands(&defender, line)))
+}
+
+/// Whether a new view of the log does so at the problem's line.
 fn is_kept(alloc: Global, log: &CertLog, problem: &[u8]) -> Result<bool, Fail> {
     let line = posed(alloc, problem)?;
     let mut view = View::new(alloc, log)?;
-    let BothSides { attacker, defender } = view.find_both(&line)?;
-    match (attacker, defender) {
-        (Some(found), None) | (None, Some(found)) => Ok(found.stands_at(&line)),
-        (None, None) | (Some(_), Some(_)) => Ok(false),
-    }
+    finds_one(&mut view, &line)
 }
 
 /// Whether the answer is the one that is wanted, or one of up to three with a stroke between them.
@@ -111,8 +124,7 @@ fn solved<R: Threads + Wait + Sync, G: Gate>(
     gate: &G,
 ) -> Result<Vec<u8>, Fail> {
     let line = posed(alloc, row.problem)?;
-    let answer = answered(rt, alloc, &line, row.with, log, gate)?;
-    verdict(alloc, &line, &answer)
+    verdict_by(rt, alloc, &line, row.with, log, gate)
 }
 
 /// Whether the line of a table is so over the log.

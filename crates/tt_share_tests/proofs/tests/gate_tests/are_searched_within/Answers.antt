@@ -4,5 +4,5 @@ use Rattle.tt_share.proofs.Sending.{log_sync}
 use Rattle.tt_share_tests.proofs.tests.gate_tests.are_searched_within.Goals as goal
 
 -- the gate holds the log
-pub answered-requires-sync-G : goal.answered-requires-sync-G
-answered-requires-sync-G g c κs within = search (sendable, crosses, log_sync) depth 40
+pub solved-requires-sync-G : goal.solved-requires-sync-G
+solved-requires-sync-G g c κs within = search (sendable, crosses, log_sync) depth 40
