@@ -38,8 +38,3 @@ pub use log_store::LogStore;
 pub use table::TableState;
 pub use together::solve;
 pub use view::View;
-
-#[cfg(test)]
-mod grants_tests;
-#[cfg(test)]
-mod worker_tests;
