@@ -48,7 +48,7 @@ pub(crate) fn handle_of(alloc: Global, problem: &[u8], certificate: &[u8]) -> Op
     Arc::new(alloc, proof).ok()
 }
 
-/// The same.
+/// That proof; fails where there is none.
 pub(crate) fn proof_of(
     alloc: Global,
     problem: &[u8],
@@ -135,12 +135,15 @@ fn put_first(out: &mut Vec<u8>, size: Size, first: Turn) -> Result<(), Fail> {
     }
 }
 
-/// Writes a number below ten, or that it is infinite.
+/// Writes a number below ten, or that it is infinite; fails at another one.
 pub(crate) fn put_number(out: &mut Vec<u8>, number: u32) -> Result<(), Fail> {
     if number == 4_294_967_295 {
         return Ok(out.extend_from_slice(b"inf")?);
     }
-    Ok(out.push(b'0'.wrapping_add((number % 16) as u8))?)
+    if number > 9 {
+        return Err(Fail::new("a number above nine"));
+    }
+    Ok(out.push(b'0'.wrapping_add(number as u8))?)
 }
 
 /// Writes how many nodes a turn's search expanded.

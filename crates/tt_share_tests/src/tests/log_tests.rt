@@ -383,11 +383,11 @@ fn put_expanded(out: &mut Vec<u8>, search: &Search) -> Result<(), Fail> {
     put_number(out, search.expanded())
 }
 
-/// Writes how many proofs were kept through the store.
+/// Writes how many proofs were kept through the store: fewer than ten.
 fn put_kept<S: Store>(out: &mut Vec<u8>, store: &S) -> Result<(), Fail> {
     out.push(b' ')?;
     let kept = store.kept();
-    put_number(out, if kept < 16 { kept as u32 } else { 15 })
+    put_number(out, if kept < 10 { kept as u32 } else { 10 })
 }
 
 /// A search at the problem.
