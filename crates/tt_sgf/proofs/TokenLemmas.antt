@@ -1,10 +1,11 @@
 -- White space, value bytes and words: the steps of their loops, and the readers against the grammar.
-use Rattle.std.proofs.Common.{◌≡◌, ℕ, ◌+◌, ◌<◌, ◌≤◌, Bool, true, false, eqb, List, [], ◌∷◌, ◌++◌, length, get_or, take, drop, Option, Some, None, refl, sym, ap, ◌∙◌, append_assoc, arith}
+use Rattle.std.proofs.Common.{◌≡◌, ℕ, ◌+◌, ◌<◌, ◌≤◌, Bool, true, false, eqb, List, [], ◌∷◌, ◌++◌, length, get_or, take, drop, Option, Some, None, refl, sym, ap, ◌∙◌, append_assoc, arith, not}
+use Rattle.std.specs.List.{filter, list_any}
 use Rattle.std.proofs.lemmas.Bool.{eqb-true}
 use Rattle.std.proofs.lemmas.Option.{some_pair_parts}
 use Rattle.std.proofs.lemmas.List.{append-nil, drop_more, take_more, drop_all, take_all}
 use Rattle.tt_sgf.specs.Bytes.{backslash, close_value}
-use Rattle.tt_sgf.specs.Grammar.{is_blank, is_word, IsBlank, IsRaw, IsWord}
+use Rattle.tt_sgf.specs.Grammar.{is_blank, is_word, is_kept, IsBlank, IsRaw, IsWord}
 use Rattle.tt_sgf.specs.Reading.{◌>>=◌, with_first, raw_at, word_of, after_word, begins}
 use Rattle.tt_sgf.specs.Values.{after_blanks}
 
@@ -200,3 +201,11 @@ pub word_all : (bytes : List ℕ) (i : ℕ) → length bytes ≤ i → word_so_f
 word_all bytes i le h =
     let s = word_ends bytes i (no_word_past bytes i le) h in
     (take_all (length bytes) bytes (omega arith) ∙ sym (take_all i bytes le) ∙ s.0, drop_all (length bytes) bytes (omega arith) ∙ sym (drop_all i bytes le) ∙ s.1)
+
+-- where no letter is left out, the name is the word
+pub kept_whole : (word : List ℕ) → list_any (λ b. not (is_kept b)) word ≡ false → filter is_kept word ≡ word
+kept_whole [] e = refl
+kept_whole (b ∷ bs) e = elim (is_kept b) as (λ t. is_kept b ≡ t → filter is_kept (b ∷ bs) ≡ b ∷ bs) [
+  | true ↦ λ k. rw k (ap (λ l. b ∷ l) (kept_whole bs (rw k at e)))
+  | false ↦ λ k. absurd (let h = rw k at e in cc)
+] refl

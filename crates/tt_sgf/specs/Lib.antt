@@ -11,3 +11,5 @@ pub mod Reading
 pub mod TreeLaws
 pub mod SizeLaws
 pub mod PointLaws
+pub mod ShortForms
+pub mod ValueRows

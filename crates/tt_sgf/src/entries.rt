@@ -6,9 +6,9 @@ ghost use Rattle.tt_sgf.specs.Bytes.{lower_a};
 ghost use Rattle.tt_sgf.specs.Entries.{AnyCovers, AreEntries, between, corner_in, entry_of, in_rectangle, set_of};
 
 use super::faults::BadPoint;
-use super::items::Items;
 use super::sets::PointSet;
 use super::size::{Size, point_numbered};
+use super::small_bytes::SmallBytes;
 use super::value_kinds::trim;
 
 /// A rectangle of points: its first and its last column and row, from 0.
@@ -96,7 +96,7 @@ fn with_rectangle(points: &PointSet, e: Rectangle, size: Size) -> PointSet
 ///
 /// # Errors
 /// `BadPoint` exactly where some value names no point or rectangle of the board.
-pub fn point_set(values: &[Items<u8>], size: Size) -> Result<PointSet, BadPoint>
+pub fn point_set(values: &[SmallBytes], size: Size) -> Result<PointSet, BadPoint>
     ensures reads { MatchResult result (λ s. set_of size values.now ≡ Some s) (λ _. set_of size values.now ≡ None) }
     ensures covered { IfOk result (λ s. (p : ℕ) → (set.contains s p ≡ true) ↔ AnyCovers size values.now p) }
     ensures ok { OnOk result (AreEntries size values.now) }

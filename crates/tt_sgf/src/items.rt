@@ -1,8 +1,21 @@
 //! Lists that contracts see as the list of their items.
 
-ghost use Rattle.std.specs.Prelude.{◌≡◌, List};
+ghost use Rattle.std.specs.Prelude.{◌≡◌, ◌++◌, ◌∷◌, [], List, OnOk};
 
+use std::alloc::AllocError;
 use std::marker::Model;
+
+/// Adds an item to a list that is being made. Where there is no room for it, some is made for a quarter of as many
+/// as there are: most lists here hold one item, and a record has thousands of them.
+pub(crate) fn add<T: Drop>(items: &mut Vec<T>, item: T) -> Result<(), AllocError>
+    ensures { OnOk result (items.new.items ≡ items.old.items ++ item ∷ []) }
+{
+    if items.len() == items.capacity() {
+        items.reserve_exact(items.len() / 4 + 1)?;
+    }
+    items.push_reserved(item);
+    Ok(())
+}
 
 /// A list. Contracts see its items alone, and not the memory that holds them.
 #[derive(Drop)]

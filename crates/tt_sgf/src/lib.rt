@@ -5,6 +5,7 @@
 //! | `trees` | `read_tree` and `has_tree`: from bytes to the nodes of the main line |
 //! | `properties`, `tokens` | what a node is made of |
 //! | `nodes`, `items` | `MainLine`, `Node`, `Property`, and the list that they are made of |
+//! | `small_bytes`, `values` | `SmallBytes` and `Values`: names and values, of which a few take no memory |
 //! | `value_kinds` | `number`, `point` and `board_size`: what one value says |
 //! | `entries` | `point_set`: what the values of a point list say together |
 //! | `size`, `sets`, `bits` | `Size`, `Point`, `PointOrPass`, `PointSet`, and the `Bits` that it is made of |
@@ -23,9 +24,11 @@ mod nodes;
 mod properties;
 mod sets;
 mod size;
+mod small_bytes;
 mod tokens;
 mod trees;
 mod value_kinds;
+mod values;
 
 pub use bits::{BITS, Bits};
 pub use entries::point_set;
@@ -34,6 +37,8 @@ pub use items::Items;
 pub use nodes::{MainLine, Node, Property};
 pub use sets::PointSet;
 pub use size::{MOST_POINTS, Point, PointOrPass, Size};
+pub use small_bytes::SmallBytes;
 pub use tokens::skip_blanks;
 pub use trees::{MAX_BYTES, has_tree, read_tree};
 pub use value_kinds::{board_size, number, point, trim};
+pub use values::Values;

@@ -1,14 +1,16 @@
 //! The nodes of a main line, with their properties as they were read.
 
 use super::items::Items;
+use super::small_bytes::SmallBytes;
+use super::values::Values;
 
 /// A property: its name, and at least one value where `read_tree` made it.
 #[derive(Drop)]
 pub struct Property {
     /// The upper-case letters and the digits of the identifier, in order: `GM` where it was `GaMe`.
-    pub ident: Items<u8>,
+    pub ident: SmallBytes,
     /// The bytes between the brackets of each value, backslashes among them.
-    pub values: Items<Items<u8>>,
+    pub values: Values,
 }
 
 /// A node: its properties in order. It may have none, and a name may stand in it twice.

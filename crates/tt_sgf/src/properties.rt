@@ -1,35 +1,24 @@
 //! Properties: an identifier with its values, and the lists of both.
 
-ghost use Rattle.std.specs.Prelude.{◌≡◌, ◌++◌, ◌∷◌, [], OnOk};
+ghost use Rattle.std.specs.Prelude.{◌≡◌};
 ghost use Rattle.tt_sgf.specs.Reading.{values_at, property_at, opens_property, properties_at, Gives};
 
 use super::faults::SgfFault;
-use super::items::Items;
+use super::items::add;
 use super::nodes::Property;
 use super::tokens::{after_byte, has_upper, is_word, name_of, skip_blanks, value, word};
-use std::alloc::{AllocError, Global};
-
-/// Adds an item. Where there is no room for it, some is made for a quarter of as many as there are: most lists here hold one item,
-/// and a record has thousands of them.
-fn add<T: Drop>(items: &mut Vec<T>, item: T) -> Result<(), AllocError>
-    ensures { OnOk result (items.new.items ≡ items.old.items ++ item ∷ []) }
-{
-    if items.len() == items.capacity() {
-        items.reserve_exact(items.len() / 4 + 1)?;
-    }
-    items.push_reserved(item);
-    Ok(())
-}
+use super::values::Values;
+use std::alloc::Global;
 
 /// The values at the front, as long as a `[` follows.
-fn values(alloc: Global, bytes: &[u8]) -> Result<(Vec<Items<u8>>, &[u8]), SgfFault>
-    ensures { Gives (λ x. (x.0.items, x.1.now)) result (values_at bytes.now) }
+fn values(alloc: Global, bytes: &[u8]) -> Result<(Values, &[u8]), SgfFault>
+    ensures { Gives (λ x. (x.0, x.1.now)) result (values_at bytes.now) }
 {
-    let mut values = Vec::new(alloc);
+    let mut values = Values::none();
     let mut rest = bytes;
     while let Some(opened) = after_byte(rest, b'[') {
         let (raw, after) = value(alloc, opened)?;
-        add(&mut values, raw)?;
+        values = values.with(alloc, raw)?;
         rest = after;
     }
     Ok((values, rest))
@@ -49,13 +38,7 @@ fn read_property(alloc: Global, bytes: &[u8]) -> Result<(Property, &[u8]), SgfFa
     if values.is_empty() {
         return Err(SgfFault::Syntax);
     }
-    Ok((
-        Property {
-            ident,
-            values: Items::from_vec(values),
-        },
-        after,
-    ))
+    Ok((Property { ident, values }, after))
 }
 
 /// Whether a letter or a digit follows.

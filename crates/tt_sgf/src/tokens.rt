@@ -1,13 +1,13 @@
 //! Tokens of the grammar: white space, identifiers, and what stands between the brackets of a value.
 
-ghost use Rattle.std.specs.Prelude.{◌≡◌, ◌+◌, ◌<◌, length, false, IfOk, take, drop, Some, None, MatchOption, ◌∷◌, ◌==◌};
+ghost use Rattle.std.specs.Prelude.{◌≡◌, ◌+◌, ◌<◌, length, false, not, IfOk, take, drop, Some, None, MatchOption, ◌∷◌, ◌==◌};
 ghost use Rattle.std.specs.List.{filter, list_any};
 ghost use Rattle.tt_sgf.specs.Grammar.{is_blank, is_word, is_kept, is_upper, is_digit};
 ghost use Rattle.tt_sgf.specs.Reading.{raw_at, word_of, after_word, begins, Gives};
 ghost use Rattle.tt_sgf.specs.Values.{after_blanks};
 
 use super::faults::SgfFault;
-use super::items::Items;
+use super::small_bytes::SmallBytes;
 use std::alloc::{AllocError, Global};
 
 /// Whether a byte is white space: 9 to 13, or 32.
@@ -79,14 +79,14 @@ fn raw_end(bytes: &[u8]) -> Option<usize>
 }
 
 /// The bytes of a value whose bracket is open.
-pub(crate) fn value(alloc: Global, bytes: &[u8]) -> Result<(Items<u8>, &[u8]), SgfFault>
+pub(crate) fn value(alloc: Global, bytes: &[u8]) -> Result<(SmallBytes, &[u8]), SgfFault>
     ensures { Gives (λ x. (x.0, x.1.now)) result (raw_at false bytes.now) }
 {
     let Some(end) = raw_end(bytes) else {
         return Err(SgfFault::Syntax);
     };
-    let raw = Vec::from_slice(alloc, &bytes[..end])?;
-    Ok((Items::from_vec(raw), &bytes[end + 1..]))
+    let raw = SmallBytes::copy_of(alloc, &bytes[..end])?;
+    Ok((raw, &bytes[end + 1..]))
 }
 
 /// The letters and digits at the front, and what is left.
@@ -102,12 +102,23 @@ pub(crate) fn word(bytes: &[u8]) -> (&[u8], &[u8])
     bytes.split_at(bytes.len())
 }
 
+/// Whether a letter of the word is left out of its name.
+fn is_shortened(word: &[u8]) -> bool
+    ensures { result ≡ list_any (λ b. not (is_kept b)) word.now }
+{
+    word.iter().any(|b| !is_kept(*b))
+}
+
 /// The name of an identifier: its upper-case letters and digits.
-pub(crate) fn name_of(alloc: Global, word: &[u8]) -> Result<Items<u8>, AllocError>
+#[tactic(auto, using(crate::proofs::TokenLemmas::kept_whole))]
+pub(crate) fn name_of(alloc: Global, word: &[u8]) -> Result<SmallBytes, AllocError>
     ensures { IfOk result (λ v. v ≡ filter is_kept word.now) }
 {
-    let name = word.iter().copied().filter(|b| is_kept(*b)).collect(alloc)?;
-    Ok(Items::from_vec(name))
+    if !is_shortened(word) {
+        return SmallBytes::copy_of(alloc, word);
+    }
+    let name: Vec<u8> = word.iter().copied().filter(|b| is_kept(*b)).collect(alloc)?;
+    SmallBytes::copy_of(alloc, name.as_slice())
 }
 
 /// Whether an upper-case letter is among the letters and digits.
