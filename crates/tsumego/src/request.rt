@@ -6,7 +6,7 @@ use tt_search::Limits;
 pub const MOST_IN_ALL: u32 = 362_000_000;
 
 /// What the program is asked to do.
-#[derive(Clone, Copy, Debug, PartialEq, Eq)]
+#[derive(Clone, Copy, Debug)]
 pub enum Command {
     /// Score each game record of the input.
     Score,

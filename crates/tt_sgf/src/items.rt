@@ -43,11 +43,4 @@ impl<T> Items<T> {
     {
         self.items.as_slice()
     }
-
-    /// Hands the items back. Takes no memory.
-    pub fn into_vec(self) -> Vec<T>
-        ensures { result.items ≡ self }
-    {
-        self.items
-    }
 }

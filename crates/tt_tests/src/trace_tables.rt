@@ -1,4 +1,4 @@
-//! Tables of traces: a line each, with the problem, the budget, the limit on depth, how many proofs the store keeps, and the traces of
+//! A table of traces: a line each, with the problem, the budget, the limit on depth, how many proofs the store keeps, and the traces of
 //! two searches over one store. A bar ends each part but the last one.
 
 pub(crate) const TRACES: &str = "\
