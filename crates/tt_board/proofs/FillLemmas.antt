@@ -1,145 +1,230 @@
--- How a fill by a list goes on and ends.
-use Rattle.std.proofs.Common.{◌≡◌, ℕ, ◌+◌, ◌<◌, ◌≤◌, List, [], ◌∷◌, ◌++◌, length, Option, Bool, true, false, IsTrue, get_or, set, replicate, inl, inr, refl, sym, ap, subst, ◌∙◌}
-use Rattle.std.proofs.Common.{append_assoc, append-nil, length-append, not, arith}
-use Rattle.std.proofs.lemmas.Bool.{cases_eq, cases_lt, false≢true}
-use Rattle.std.proofs.lemmas.List.{length-replicate, get_or-set_other, get_or-set_same, get_or-replicate, get_or_default, get_or_append_left, get_or_past}
+-- A fill over sets of points that are kept as bits: how it begins, goes on and ends.
+use Rattle.std.proofs.Common.{◌≡◌, ◌≢◌, ℕ, ◌-◌, ◌<◌, ◌≤◌, ◌⊎◌, ◌↔◌, Bool, true, false, not, ◌&&◌, ◌||◌, List, length, count_by, Option, Some, None, inl, inr, refl, sym, ◌∙◌, arith}
+use Rattle.std.specs.List.{range_with_len}
+use Rattle.std.proofs.lemmas.Bool.{cases_lt, cases_Bool, true≢false, not-true, and_parts, and_from, or_cases, or_left, or_right, not_from_false}
+use Rattle.std.proofs.lemmas.List.FromFn.{length-range_with_len}
 use Rattle.std.proofs.lemmas.List.Sums.{count_by-le-length}
-use Rattle.std.proofs.lemmas.List.Elements.{Contains-push_cases}
-use Rattle.tt_board.specs.declared.Colour.{Colour}
+use Rattle.std.proofs.lemmas.Option.{none-some}
 use Rattle.tt_sgf.specs.declared.size.Size.{Size}
+use Rattle.tt_sgf.specs.declared.bits.TheConstants.{BITS}
 use Rattle.tt_sgf.specs.Sizes.{point_count}
 use Rattle.tt_sgf.specs.SizeLaws.{few_points}
-use Rattle.tt_board.specs.Near.{IsNeighbour}
+use Rattle.tt_sgf.specs.Words.{bit_in, AreBitsOf}
+use Rattle.tt_board.specs.declared.Colour.{Colour}
+use Rattle.tt_board.specs.declared.Colour.TheVariants.{Black, White}
 use Rattle.tt_board.specs.Position.{Colouring}
-use Rattle.tt_board.specs.Reach.{entry_at}
-use Rattle.tt_board.specs.Fill.{is_marked, IsBesideMarked, IsClosed}
-use Rattle.tt_board.specs.ReachLaws.{sound_more}
-use Rattle.tt_board.specs.Chain.{IsGrowing}
-use Rattle.tt_board.specs.Filling.{IsEdge, IsFilling, IsListed, IsMore, IsSpread}
-use Rattle.tt_board.proofs.ChainLemmas.{push_growing}
-use Rattle.tt_board.proofs.LiftLemmas.{near_back}
+use Rattle.tt_board.specs.Reach.{entry_at, Reaches}
+use Rattle.tt_board.specs.ReachLaws.{reaches_beside, reaches_on, reaches_all}
+use Rattle.tt_board.specs.Play.{is_stone_of, IsAlive, IsLeastLifeless}
+use Rattle.tt_board.specs.Around.{AreOn, AreThose, AreReaching, IsBesideSome}
+use Rattle.tt_board.proofs.AroundLemmas.{off_if}
+use Rattle.tt_board.proofs.CountLemmas.{count_both, count_some}
+use Rattle.tt_board.proofs.PlaneLemmas.{neither}
 
--- nothing more
-pub more_none : (m : List Bool) (xs : List ℕ) → IsMore m xs m xs
-more_none m xs = record {
-  more = [];
-  longer = sym (append-nil xs);
-  kept = λ p marked. marked;
-}
+-- ---- the sets of a colouring
 
--- more, and then more
-pub more_then : (m n o : List Bool) (xs ys zs : List ℕ) → IsMore m xs n ys → IsMore n ys o zs → IsMore m xs o zs
-more_then m n o xs ys zs a b = record {
-  more = a.more ++ b.more;
-  longer = b.longer ∙ ap (λ l. l ++ b.more) a.longer ∙ append_assoc xs a.more b.more;
-  kept = λ p marked. b.kept p (a.kept p marked);
-}
+module _ (s : Size) (c : Colouring) (fits : length c ≡ point_count s) where
+  -- a point of the board has its bit
+  pub small : (p : ℕ) → p < point_count s → p < BITS
+  small p in_p = omega (arith, few_points s)
 
--- a mark stays when another one is made
-mark_kept : (m : List Bool) (p q : ℕ) → p < length m → IsTrue (is_marked m q) → IsTrue (is_marked (set m p true) q)
-mark_kept m p q in_m marked = elim (cases_eq q p) [
-  | inl same ↦ subst (λ x. IsTrue (is_marked (set m p true) x)) (sym same) (get_or-set_same m p true false in_m)
-  | inr apart ↦ get_or-set_other m p q true false apart ∙ marked
-]
+  -- bits of the stones of a colour are on the board
+  pub stones_on : (k : Colour) (words : List ℕ) → AreBitsOf words (length c) (λ p. is_stone_of (entry_at c p) k) → AreOn s words
+  stones_on k words are q past lt = are.behind q (omega (arith, past, fits)) lt
 
--- a point that is listed is one more, or none
-pub listed_more : (m n : List Bool) (xs ys : List ℕ) (p : ℕ) → p < length m → IsListed m xs n ys p → IsMore m xs n ys
-listed_more m n xs ys p in_m (inl (_, marks, list)) = rw (marks, list) (more_none m xs)
-listed_more m n xs ys p in_m (inr (_, marks, list)) = rw (marks, list) (record {
-  more = p ∷ [];
-  longer = refl;
-  kept = λ q marked. mark_kept m p q in_m marked;
-})
+  -- and are those points
+  pub stones_those : (k : Colour) (words : List ℕ) → AreBitsOf words (length c) (λ p. is_stone_of (entry_at c p) k) → AreThose s words c (Some k)
+  stones_those k words are p in_p =
+      let is = are.below p (omega (arith, in_p, fits)) (small p in_p) in
+      (λ on. stone_is (entry_at c p) k (sym is ∙ on), λ e. is ∙ is_stone (entry_at c p) k e)
+    where
+      stone_is : (x : Option Colour) (j : Colour) → is_stone_of x j ≡ true → x ≡ Some j
+      stone_is None j on = absurd (true≢false (sym on))
+      stone_is (Some Black) Black on = refl
+      stone_is (Some Black) White on = absurd (true≢false (sym on))
+      stone_is (Some White) Black on = absurd (true≢false (sym on))
+      stone_is (Some White) White on = refl
 
--- it is marked
-pub listed_marked : (m n : List Bool) (xs ys : List ℕ) (p : ℕ) → p < length m → IsListed m xs n ys p → IsTrue (is_marked n p)
-listed_marked m n xs ys p in_m (inl (marked, marks, list)) = rw marks marked
-listed_marked m n xs ys p in_m (inr (_, marks, list)) = rw marks (get_or-set_same m p true false in_m)
+      is_stone : (x : Option Colour) (j : Colour) → x ≡ Some j → is_stone_of x j ≡ true
+      is_stone x Black e = rw e refl
+      is_stone x White e = rw e refl
 
--- the list still has room
-pub listed_growing : (m n : List Bool) (xs ys : List ℕ) (p : ℕ) → p < 361 → IsGrowing m xs → IsListed m xs n ys p → IsGrowing n ys
-listed_growing m n xs ys p small g (inl (_, marks, list)) = rw (marks, list) g
-listed_growing m n xs ys p small g (inr (bare, marks, list)) = rw (marks, list) (push_growing m xs p g small bare)
+  -- what is neither a black stone nor a white one is empty
+  pub empty_those : (all left made black white : List ℕ) → ((p : ℕ) → p < point_count s → bit_in all p ≡ true)
+      → AreBitsOf black (length c) (λ p. is_stone_of (entry_at c p) Black) → AreBitsOf white (length c) (λ p. is_stone_of (entry_at c p) White)
+      → ((q : ℕ) → q < BITS → bit_in left q ≡ (bit_in all q && not (bit_in black q))) → ((q : ℕ) → q < BITS → bit_in made q ≡ (bit_in left q && not (bit_in white q)))
+      → AreThose s made c None
+  empty_those all left made black white on blacks whites left_is made_is p in_p =
+      let lt = small p in_p in
+      let inside : p < length c = omega (arith, in_p, fits) in
+      let is : bit_in made p ≡ ((true && not (is_stone_of (entry_at c p) Black)) && not (is_stone_of (entry_at c p) White)) =
+      made_is p lt ∙ rw (left_is p lt, on p in_p, blacks.below p inside lt, whites.below p inside lt) refl in
+      (λ h. bare (entry_at c p) (sym is ∙ h), λ e. is ∙ rw e refl)
+    where
+      bare : (x : Option Colour) → ((true && not (is_stone_of x Black)) && not (is_stone_of x White)) ≡ true → x ≡ None
+      bare None h = refl
+      bare (Some Black) h = absurd (true≢false (sym h))
+      bare (Some White) h = absurd (true≢false (sym h))
 
--- a point that is next may be listed
-pub listed_filling : (s : Size) (c : Colouring) (e : Option Colour) (m n : List Bool) (xs ys : List ℕ) (p : ℕ) → p < point_count s → IsBesideMarked s c e m p
-    → IsFilling s c e m xs → IsListed m xs n ys p → IsFilling s c e n ys
-listed_filling s c e m n xs ys p in_p next f (inl (_, marks, list)) = rw (marks, list) f
-listed_filling s c e m n xs ys p in_p next f (inr (bare, marks, list)) =
-    let in_m : p < length m = omega (arith, f.growing.wide, few_points s) in
-    rw (marks, list) (record {
-      growing = push_growing m xs p f.growing (omega (arith, few_points s)) bare;
-      sound = sound_more s c e m p in_m f.sound next;
-      only = λ q has. elim (Contains-push_cases xs p q has) [
-        | inl old ↦ let h = f.only q old in (h.0, mark_kept m p q in_m h.1)
-        | inr new ↦ subst (λ x. (x < point_count s) × IsTrue (is_marked (set m p true) x)) new (in_p, get_or-set_same m p true false in_m)
-      ];
-    })
+-- what is left of a set on the board is on it
+pub left_on : (s : Size) (words others made : List ℕ) → AreOn s words → ((q : ℕ) → q < BITS → bit_in made q ≡ (bit_in words q && not (bit_in others q))) → AreOn s made
+left_on s words others made on is q past lt = is q lt ∙ rw (on q past lt) refl
 
--- what is like a marked point, and beside it, is next
-pub spread_next : (s : Size) (c : Colouring) (e : Option Colour) (m n : List Bool) (xs ys : List ℕ) (p q : ℕ) → p < point_count s → IsFilling s c e m xs → IsTrue (is_marked m p)
-    → IsMore m xs n ys → IsNeighbour s p q → entry_at c q ≡ entry_at c p → IsBesideMarked s c e n q
-spread_next s c e m n xs ys p q in_p f marked a near like =
-    (λ is. (f.sound p in_p marked).other (sym like ∙ is), (p, near_back s p q in_p near, inr (sym like, a.kept p marked)))
+-- ---- the fill
 
--- of the points beside it those looked at so far are marked, and so is the next one
-pub done_more : (c : Colouring) (own : Option Colour) (near : List ℕ) (m n : List Bool) (i : ℕ) → ((p : ℕ) → IsTrue (is_marked m p) → IsTrue (is_marked n p))
-    → (entry_at c (get_or near i 0) ≡ own → IsTrue (is_marked n (get_or near i 0)))
-    → ((k : ℕ) → k < i → entry_at c (get_or near k 0) ≡ own → IsTrue (is_marked m (get_or near k 0)))
-    → (k : ℕ) → k < i + 1 → entry_at c (get_or near k 0) ≡ own → IsTrue (is_marked n (get_or near k 0))
-done_more c own near m n i kept here before k below like = elim (cases_eq k i) [
-  | inl same ↦ subst (λ x. entry_at c (get_or near x 0) ≡ own → IsTrue (is_marked n (get_or near x 0))) (sym same) here like
-  | inr apart ↦ kept (get_or near k 0) (before k (omega (arith, below, apart)) like)
-]
+-- what a fill has found so far: points of its own that reach what is wanted, and all beside that
+pub record IsFound (s : Size) (own wanted found : List ℕ) : Type 0 where
+  pub within : (q : ℕ) → q < BITS → bit_in found q ≡ true → bit_in own q ≡ true
+  pub sound : (c : Colouring) (a e : Option Colour) → a ≢ e → AreThose s own c a → AreThose s wanted c e
+      → (p : ℕ) → p < point_count s → bit_in found p ≡ true → Reaches s c p e
+  pub edges : (p : ℕ) → p < point_count s → bit_in own p ≡ true → IsBesideSome s wanted p → bit_in found p ≡ true
 
--- the longer list is no shorter
-pub more_length : (m n : List Bool) (xs ys : List ℕ) → IsMore m xs n ys → length xs ≤ length ys
-more_length m n xs ys a =
-    let h : length (xs ++ a.more) ≡ length xs + length a.more = simp length-append in
-    let e : length ys ≡ length (xs ++ a.more) = ap (λ l. length l) a.longer in
-    omega (arith, h, e)
+module _ (s : Size) (own wanted : List ℕ) (on : AreOn s own) where
+  -- a point of the board has its bit
+  fits : (p : ℕ) → p < point_count s → p < BITS
+  fits p in_p = omega (arith, few_points s)
 
--- no mark yet
-pub filling_none : (s : Size) (c : Colouring) (e : Option Colour) → IsFilling s c e (replicate 361 false) []
-filling_none s c e =
-    let wide : length (replicate {A = Bool} 361 false) ≡ 361 = length-replicate {A = Bool} 361 false in
-    let none : (p : ℕ) → IsTrue (is_marked (replicate 361 false) p) → ⊥ = λ p marked. elim (cases_lt p 361) [
-      | inl below ↦ false≢true (sym (get_or-replicate {A = Bool} 361 p false false below) ∙ marked)
-      | inr past ↦ false≢true (sym (get_or_past (replicate 361 false) p false (omega (arith, wide))) ∙ marked)
-    ] in
-    record {
-      growing = record {
-        wide = wide;
-        room = omega (arith, count_by-le-length not (replicate {A = Bool} 361 false), wide);
-        listed = λ p marked. absurd (none p marked);
-      };
-      sound = λ p in_p marked. absurd (none p marked);
-      only = λ p has. absurd (omega (arith, has.1));
-    }
+  -- what is found is on the board
+  pub found_on : (found : List ℕ) → IsFound s own wanted found → AreOn s found
+  found_on found f q past lt = off_if (bit_in found q) (λ h. true≢false (sym (f.within q lt h) ∙ on q past lt))
 
--- a point of the list stays where it is, and what it has spread to stays marked
-pub spread_kept : (s : Size) (c : Colouring) (m n : List Bool) (xs ys : List ℕ) → IsMore m xs n ys → (k : ℕ) → k < length xs → IsSpread s c m (get_or xs k 0)
-    → IsSpread s c n (get_or ys k 0)
-spread_kept s c m n xs ys a k below h =
-    let same : get_or ys k 0 ≡ get_or xs k 0 = ap (λ l. get_or l k 0) a.longer ∙ get_or_append_left xs a.more 0 k below in
-    subst (λ x. IsSpread s c n x) (sym same) (λ q near like. a.kept q (h q near like))
+  -- it begins with the points beside what is wanted
+  pub found_first : (near found : List ℕ) → ((p : ℕ) → p < point_count s → (bit_in near p ≡ true) ↔ IsBesideSome s wanted p)
+      → ((q : ℕ) → q < BITS → bit_in found q ≡ (bit_in near q && bit_in own q)) → IsFound s own wanted found
+  found_first near found near_is found_is = record {
+    within = λ q lt h. (and_parts (bit_in near q) (bit_in own q) (sym (found_is q lt) ∙ h)).1;
+    sound = λ c a e apart owns wants p in_p h.
+        let both = and_parts (bit_in near p) (bit_in own p) (sym (found_is p (fits p in_p)) ∙ h) in
+        let way = (near_is p in_p).0 both.0 in
+        let mine = (owns p in_p).0 both.1 in
+        reaches_beside s c e p way.0 (λ is. apart (sym mine ∙ is)) way.1 ((wants way.0 way.1.0).0 way.2);
+    edges = λ p in_p mine way. found_is p (fits p in_p) ∙ and_from _ _ ((near_is p in_p).1 way) mine;
+  }
 
--- the points of the list that have spread, and one more
-pub spread_more : (s : Size) (c : Colouring) (m n : List Bool) (xs ys : List ℕ) (i p : ℕ) → IsMore m xs n ys → i < length xs → get_or xs i 0 ≡ p → IsSpread s c n p
-    → ((k : ℕ) → k < i → IsSpread s c m (get_or xs k 0)) → (k : ℕ) → k < i + 1 → IsSpread s c n (get_or ys k 0)
-spread_more s c m n xs ys i p a in' is here before k below = elim (cases_eq k i) [
-  | inl same ↦
-      let there : get_or ys i 0 ≡ get_or xs i 0 = ap (λ l. get_or l i 0) a.longer ∙ get_or_append_left xs a.more 0 i in' in
-      subst (λ x. IsSpread s c n x) (sym (ap (λ j. get_or ys j 0) same ∙ there ∙ is)) here
-  | inr apart ↦ spread_kept s c m n xs ys a k (omega (arith, below, apart, in')) (before k (omega (arith, below, apart)))
-]
+  -- the points beside those found, and of these the ones that are its own and new
+  module _ (found near both more : List ℕ) (f : IsFound s own wanted found) (near_is : (p : ℕ) → p < point_count s → (bit_in near p ≡ true) ↔ IsBesideSome s found p)
+      (both_is : (q : ℕ) → q < BITS → bit_in both q ≡ (bit_in near q && bit_in own q)) (more_is : (q : ℕ) → q < BITS → bit_in more q ≡ (bit_in both q && not (bit_in found q))) where
+    -- what is new is beside what was found, its own, and wasn't found yet
+    news : (q : ℕ) → q < BITS → bit_in more q ≡ true → (bit_in near q ≡ true) × (bit_in own q ≡ true) × (bit_in found q ≡ false)
+    news q lt h =
+        let new = and_parts (bit_in both q) (not (bit_in found q)) (sym (more_is q lt) ∙ h) in
+        let old = and_parts (bit_in near q) (bit_in own q) (sym (both_is q lt) ∙ new.0) in
+        (old.0, old.1, not-true _ new.1)
 
--- once each point of the list has spread, all that is next is marked
-pub spread_closed : (s : Size) (c : Colouring) (e : Option Colour) (m : List Bool) (xs : List ℕ) (i : ℕ) → IsFilling s c e m xs
-    → ((p : ℕ) → p < point_count s → IsEdge s c e p → IsTrue (is_marked m p)) → length xs ≤ i → ((k : ℕ) → k < i → IsSpread s c m (get_or xs k 0)) → IsClosed s c e m
-spread_closed s c e m xs i f edges past each p in_p (other, (q, near, inl has)) = edges p in_p (other, (q, near, has))
-spread_closed s c e m xs i f edges past each p in_p (other, (q, near, inr (like, marked))) =
-    let has = f.growing.listed q marked in
-    let is : get_or xs has.0 0 ≡ q = get_or_default xs has.0 0 q has.1 ∙ has.2 in
-    let from : IsSpread s c m q = subst (λ x. IsSpread s c m x) is (each has.0 (omega (arith, has.1))) in
-    from p (near_back s p q in_p near) (sym like)
+    -- with these it goes on
+    module _ (made : List ℕ) (made_is : (q : ℕ) → q < BITS → bit_in made q ≡ (bit_in found q || bit_in more q)) where
+      pub found_more : IsFound s own wanted made
+      found_more = record {
+        within = λ q lt h. elim (or_cases _ _ (sym (made_is q lt) ∙ h)) [ inl old ↦ f.within q lt old | inr new ↦ (news q lt new).1 ];
+        sound = λ c a e apart owns wants p in_p h. elim (or_cases _ _ (sym (made_is p (fits p in_p)) ∙ h)) [
+          | inl old ↦ f.sound c a e apart owns wants p in_p old
+          | inr new ↦
+              let is = news p (fits p in_p) new in
+              let way = (near_is p in_p).0 is.0 in
+              let mine = (owns p in_p).0 is.1 in
+              let like = (owns way.0 way.1.0).0 (f.within way.0 (fits way.0 way.1.0) way.2) in
+              reaches_on s c e p way.0 way.1 (like ∙ sym mine) (f.sound c a e apart owns wants way.0 way.1.0 way.2)
+        ];
+        edges = λ p in_p mine way. made_is p (fits p in_p) ∙ or_left _ _ (f.edges p in_p mine way);
+      }
+
+      -- and fewer points are left
+      pub fewer_left : (q : ℕ) → q < BITS → bit_in more q ≡ true
+          → point_count s - count_by (bit_in made) (range_with_len 0 (point_count s)) < point_count s - count_by (bit_in found) (range_with_len 0 (point_count s))
+      fewer_left q lt h =
+          let in_q : q < point_count s = elim (cases_lt q (point_count s)) [ inl below ↦ below | inr past ↦ absurd (true≢false (sym (news q lt h).1 ∙ on q past lt)) ] in
+          let some = count_some (bit_in more) (point_count s) q in_q h in
+          let sum = count_both (bit_in found) (bit_in more) (bit_in made) (point_count s) (λ k below. each k (fits k below)) in
+          let most = count_by-le-length (bit_in made) (range_with_len 0 (point_count s)) in
+          omega (arith, some, sum, most, length-range_with_len 0 (point_count s))
+        where
+          or_none : (b : Bool) → (b || false) ≡ b
+          or_none true = refl
+          or_none false = refl
+
+          each : (k : ℕ) → k < BITS → ((bit_in made k ≡ bit_in found k) × (bit_in more k ≡ false)) ⊎ ((bit_in made k ≡ true) × (bit_in found k ≡ false) × (bit_in more k ≡ true))
+          each k below = elim (cases_Bool (bit_in more k)) [
+            | inl new ↦ inr (made_is k below ∙ or_right _ _ new, (news k below new).2, new)
+            | inr none ↦ inl (made_is k below ∙ rw none (or_none (bit_in found k)), none)
+          ]
+
+    -- where none is new, all that reach are found
+    pub found_all : ((q : ℕ) → q < BITS → bit_in more q ≡ false) → (c : Colouring) (a e : Option Colour) → a ≢ e → AreThose s own c a → AreThose s wanted c e → AreReaching s found c a e
+    found_all none c a e apart owns wants p in_p = (
+      λ h. ((owns p in_p).0 (f.within p (fits p in_p) h), f.sound c a e apart owns wants p in_p h),
+      λ h.
+          let r = h.1 in
+          reaches_all s c e (λ x. entry_at c x ≡ a → bit_in found x ≡ true)
+          (λ x q in_x other way has mine. f.edges x in_x ((owns x in_x).1 mine) (q, way, (wants q way.0).1 has))
+          (λ x q in_x other way same before mine. closed x in_x ((owns x in_x).1 mine) (q, way, before (same ∙ mine)))
+          p r.path in_p r.adjacent r.alike r.other r.found r.beside r.has_entry h.0,
+    )
+      where
+        closed : (x : ℕ) → x < point_count s → bit_in own x ≡ true → IsBesideSome s found x → bit_in found x ≡ true
+        closed x in_x mine way = elim (cases_Bool (bit_in found x)) [
+          | inl there ↦ there
+          | inr out ↦
+              let new = more_is x (fits x in_x) ∙ and_from _ _ (both_is x (fits x in_x) ∙ and_from _ _ ((near_is x in_x).1 way) mine) (not_from_false _ out) in
+              absurd (true≢false (sym new ∙ none x (fits x in_x)))
+        ]
+
+-- ---- the least lifeless stone
+
+-- the stones of each colour, those of them that reach empty and those that don't, and the least of these
+module _ (s : Size) (c : Colouring) (fit : length c ≡ point_count s) (black white black_alive white_alive black_dead white_dead dead : List ℕ)
+    (blacks : AreThose s black c (Some Black)) (whites : AreThose s white c (Some White))
+    (blacks_reach : AreReaching s black_alive c (Some Black) None) (whites_reach : AreReaching s white_alive c (Some White) None)
+    (black_is : (q : ℕ) → q < BITS → bit_in black_dead q ≡ (bit_in black q && not (bit_in black_alive q)))
+    (white_is : (q : ℕ) → q < BITS → bit_in white_dead q ≡ (bit_in white q && not (bit_in white_alive q)))
+    (dead_is : (q : ℕ) → q < BITS → bit_in dead q ≡ (bit_in black_dead q || bit_in white_dead q)) where
+  -- a stone of a colour that isn't among those that don't reach does
+  reaches_if : (k : Colour) (words alive gone : List ℕ) → AreThose s words c (Some k) → AreReaching s alive c (Some k) None
+      → ((q : ℕ) → q < BITS → bit_in gone q ≡ (bit_in words q && not (bit_in alive q))) → (p : ℕ) → p < point_count s → bit_in gone p ≡ false → entry_at c p ≡ Some k → Reaches s c p None
+  reaches_if k words alive gone those reach gone_is p in_p off mine = elim (cases_Bool (bit_in alive p)) [
+    | inl on ↦ ((reach p in_p).0 on).1
+    | inr out ↦ absurd (true≢false (sym (gone_is p (small s c fit p in_p) ∙ and_from _ _ ((those p in_p).1 mine) (not_from_false _ out)) ∙ off))
+  ]
+
+  -- and one that is among them doesn't
+  reaches_not : (k : Colour) (words alive gone : List ℕ) → AreThose s words c (Some k) → AreReaching s alive c (Some k) None
+      → ((q : ℕ) → q < BITS → bit_in gone q ≡ (bit_in words q && not (bit_in alive q))) → (p : ℕ) → p < point_count s → bit_in gone p ≡ true
+      → (entry_at c p ≡ Some k) × (Reaches s c p None → ⊥)
+  reaches_not k words alive gone those reach gone_is p in_p on =
+      let h = and_parts (bit_in words p) (not (bit_in alive p)) (sym (gone_is p (small s c fit p in_p)) ∙ on) in
+      let mine = (those p in_p).0 h.0 in
+      (mine, λ r. true≢false (sym ((reach p in_p).1 (mine, r)) ∙ not-true _ h.1))
+
+  -- a stone that isn't among the lifeless ones reaches empty
+  pub alive_if : (p : ℕ) → p < point_count s → bit_in dead p ≡ false → entry_at c p ≢ None → Reaches s c p None
+  alive_if p in_p off stone =
+      let lt = small s c fit p in_p in
+      let h = neither (bit_in black_dead p) (bit_in white_dead p) (sym (dead_is p lt) ∙ off) in
+      by (entry_at c p) refl h
+    where
+      by : (x : Option Colour) → entry_at c p ≡ x → (bit_in black_dead p ≡ false) × (bit_in white_dead p ≡ false) → Reaches s c p None
+      by None e h = absurd (stone e)
+      by (Some Black) e h = reaches_if Black black black_alive black_dead blacks blacks_reach black_is p in_p h.0 e
+      by (Some White) e h = reaches_if White white white_alive white_dead whites whites_reach white_is p in_p h.1 e
+
+  -- one that is among them is a stone that doesn't
+  pub lifeless_if : (p : ℕ) → p < point_count s → bit_in dead p ≡ true → (entry_at c p ≢ None) × (Reaches s c p None → ⊥)
+  lifeless_if p in_p on = elim (or_cases _ _ (sym (dead_is p (small s c fit p in_p)) ∙ on)) [
+    | inl b ↦ let h = reaches_not Black black black_alive black_dead blacks blacks_reach black_is p in_p b in (λ none. none-some Black (sym none ∙ h.0), h.1)
+    | inr w ↦ let h = reaches_not White white white_alive white_dead whites whites_reach white_is p in_p w in (λ none. none-some White (sym none ∙ h.0), h.1)
+  ]
+
+  -- so the first of them is the least lifeless stone
+  module _ (first : ℕ) (none : (q : ℕ) → 0 ≤ q → q < first → q < BITS → bit_in dead q ≡ false) where
+    pub least_lifeless : (first < BITS → bit_in dead first ≡ true) → first < point_count s → IsLeastLifeless s c first
+    least_lifeless found in_first =
+        let h = lifeless_if first in_first (found (small s c fit first in_first)) in
+        record {
+          on_board = in_first;
+          stone = h.0;
+          lifeless = h.1;
+          least = λ q before stone. alive_if q (omega arith) (none q (omega arith) before (small s c fit q (omega arith))) stone;
+        }
+
+    -- and where that is past the board there is none
+    pub none_lifeless : point_count s ≤ first → IsAlive s c
+    none_lifeless past p in_p stone = alive_if p in_p (none p (omega arith) (omega (arith, past, in_p)) (small s c fit p in_p)) stone

@@ -1,4 +1,5 @@
 pub mod AmongLemmas
+pub mod AreaLemmas
 pub mod AroundLemmas
 pub mod BoardsLemmas
 pub mod CaptureLemmas

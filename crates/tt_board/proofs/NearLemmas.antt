@@ -1,9 +1,8 @@
-use Rattle.std.proofs.Common.{◌≡◌, ℕ, ◌+◌, ◌-◌, ◌*◌, ◌/◌, ◌%◌, ◌<◌, ◌≤◌, ◌↔◌, ◌⊎◌, List, [], ◌∷◌, ◌++◌, zero, suc, length, Contains, get_or}
-use Rattle.std.proofs.Common.{Option, Some, None, inl, inr, refl, sym, ap, subst, ◌∙◌, arith}
+use Rattle.std.proofs.Common.{◌≡◌, ℕ, ◌+◌, ◌-◌, ◌*◌, ◌/◌, ◌%◌, ◌<◌, ◌≤◌, ◌↔◌, ◌⊎◌, List, [], ◌∷◌, ◌++◌, zero, suc, Contains}
+use Rattle.std.proofs.Common.{Option, Some, None, inl, inr, refl, sym, ap, ◌∙◌, arith}
 use Rattle.std.proofs.lemmas.Bool.{cases_eq}
 use Rattle.std.proofs.lemmas.Nat.{div-mul-add, mod-mul-add, div-add-mod', mod_below, mul-add-lt, div_below}
-use Rattle.std.proofs.lemmas.List.Elements.{Contains-push, Contains-append_left, Contains-push_cases, Contains-get_or}
-use Rattle.std.proofs.lemmas.List.{get_or_default}
+use Rattle.std.proofs.lemmas.List.Elements.{Contains-push, Contains-append_left, Contains-push_cases}
 use Rattle.std.proofs.lemmas.Option.{none-some}
 use Rattle.tt_sgf.specs.declared.size.Size.{Size}
 use Rattle.tt_sgf.specs.Sizes.{point_count}
@@ -141,16 +140,6 @@ module _ (s : Size) (p : ℕ) (pos : 0 < s.columns) (in_p : p < point_count s) (
       more : {P : Type 0} (xs ys : List ℕ) (x : ℕ) → Adds xs ys P x → IsEachOnce xs → (P → Contains xs x → ⊥) → IsEachOnce ys
       more xs ys x (inl (h, e)) once fresh = rw e (once_push xs x once (fresh h))
       more xs ys x (inr (_, e)) once fresh = rw e once
-
--- the item at an index is a neighbour
-pub near_at : (s : Size) (p : ℕ) (items xs : List ℕ) (k : ℕ) → xs ≡ items → ((q : ℕ) → Contains items q ↔ IsNeighbour s p q) → k < length xs → IsNeighbour s p (get_or xs k 0)
-near_at s p items xs k e all in' = (all (get_or xs k 0)).0 (subst (λ ys. Contains ys (get_or xs k 0)) e (Contains-get_or xs k 0 in'))
-
--- the index of a neighbour
-pub index_of : (s : Size) (p : ℕ) (items xs : List ℕ) (q : ℕ) → xs ≡ items → ((r : ℕ) → Contains items r ↔ IsNeighbour s p r) → IsNeighbour s p q → (k : ℕ) × (k < length xs) × (get_or xs k 0 ≡ q)
-index_of s p items xs q e all near =
-    let h : Contains xs q = subst (λ ys. Contains ys q) (sym e) ((all q).1 near) in
-    (h.0, h.1, get_or_default xs h.0 0 q h.1 ∙ h.2)
 
 -- a place that is there is the one meant, and what it needs holds
 place_there : {P : Type 0} (place : Option ℕ) (x q : ℕ) → IsThere place P x → place ≡ Some q → P × (q ≡ x)

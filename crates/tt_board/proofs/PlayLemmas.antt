@@ -1,7 +1,6 @@
 use Rattle.std.proofs.Common.{◌≡◌, ◌≢◌, ℕ, ◌+◌, ◌<◌, ◌⊎◌, ◌&&◌, List, length, count_by, Option, Some, None, Bool, true, false, not, cond, inl, inr, refl, sym, ◌∙◌, set, arith}
 use Rattle.std.specs.List.{range_with_len}
 use Rattle.std.proofs.lemmas.Bool.{cases_Bool, cond-true, cond-false, and_left, and_right}
-use Rattle.std.proofs.lemmas.Bool.Decides.{same_from_decides}
 use Rattle.std.proofs.lemmas.Option.{none-some}
 use Rattle.std.proofs.lemmas.List.{map-id}
 use Rattle.std.proofs.lemmas.List.FromFn.{fill_by_all, get_or-map-range_with_len, length-map-range_with_len, sum_by-map-range_with_len_more}
@@ -10,14 +9,9 @@ use Rattle.tt_board.specs.declared.Colour.TheVariants.{Black, White}
 use Rattle.tt_sgf.specs.declared.size.Size.{Size}
 use Rattle.tt_sgf.specs.Sizes.{point_count}
 use Rattle.tt_board.specs.Reach.{entry_at, Reaches}
-use Rattle.tt_board.specs.Fill.{is_marked, IsFilled}
 use Rattle.tt_board.specs.ReachLaws.{reaches_beside, reaches_on, reaches_all}
 use Rattle.tt_board.specs.Decided.{reaches, reaches_is}
 use Rattle.tt_board.specs.Play.{other, same_colour, is_stone_of, cleared_entry, clear, play_of, IsAlive}
-
--- a fill's mark is the answer of `reaches`
-pub mark_is : (s : Size) (c : List (Option Colour)) (e : Option Colour) (m : List Bool) (p : ℕ) → p < point_count s → IsFilled s c e m → is_marked m p ≡ reaches s c p e
-mark_is s c e m p in_p filled = same_from_decides {P = Reaches s c p e} _ _ (filled p in_p) (reaches_is s c p e in_p)
 
 same_colour_self : (k : Colour) → same_colour k k ≡ true
 same_colour_self Black = refl

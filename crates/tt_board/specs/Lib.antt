@@ -16,6 +16,5 @@ pub mod Differences
 pub mod Boards
 pub mod Tracks
 pub mod Chain
-pub mod Filling
 pub mod Chains
 pub mod Around

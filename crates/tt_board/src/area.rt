@@ -1,46 +1,63 @@
 //! The area score of one colour.
 
-ghost use Rattle.std.specs.Prelude.{◌≡◌, ◌&&◌, not, length, Some};
-ghost use Rattle.tt_sgf.specs.declared.size.TheConstants.{MOST_POINTS};
+ghost use Rattle.std.specs.Prelude.{◌≡◌, ◌≤◌, ◌<◌, ◌^◌, length, None, Some, count_by, count_ones};
+ghost use Rattle.std.specs.List.{range_with_len};
 ghost use Rattle.tt_sgf.specs.Sizes.{point_count};
-ghost use Rattle.tt_board.specs.Fill.{IsFilled};
+ghost use Rattle.tt_sgf.specs.Words.{bit_in};
+ghost use Rattle.tt_board.specs.Around.{AreOn, AreThose, AreReaching};
 ghost use Rattle.tt_board.specs.Play.{other, score_of};
 
 use super::Colour;
-use tt_sgf::Size;
+use super::colouring::Colouring;
+use super::fill::reaching;
+use tt_sgf::{Bits, Size};
 
-/// Whether an empty point counts for a colour, by whether it reaches that colour and the other one.
-fn counts_empty(own: bool, others: bool) -> bool
-    ensures { result ≡ (own && not others) }
+/// How many bits of the word are 1.
+fn ones(word: u64) -> u16
+    ensures value { result ≡ count_ones word }
+    ensures small { result ≤ 64 }
+    ensures fits { word < 2 ^ 64 }
 {
-    own && !others
+    word.count_ones() as u16
+}
+
+/// How many points of the board a set has. Words of no point of the board aren't looked at.
+fn count(size: Size, points: &Bits) -> u16
+    requires { AreOn size points.now.words }
+    ensures { result ≡ count_by (bit_in points.now.words) (range_with_len 0 (point_count size)) }
+{
+    let words = points.words();
+    let mut total: u16 = 0;
+    for k in 0..size.point_count() / 64 + 1 {
+        total += ones(words[k]);
+    }
+    total
+}
+
+/// The empty points that reach a colour.
+pub(crate) fn empty_reaching(size: Size, points: &Colouring, empty: &Bits, colour: Colour) -> Bits
+    requires fits { length points.now ≡ point_count size }
+    requires those { AreThose size empty.now.words points.now None }
+    requires on_board { AreOn size empty.now.words }
+    ensures reach { AreReaching size result.words points.now None (Some colour) }
+    ensures still_on_board { AreOn size result.words }
+{
+    reaching(size, empty, points.bits(colour))
 }
 
 /// How many points are `colour`'s: its stones, and the empty points that reach it alone.
 pub(crate) fn count_area(
     size: Size,
-    points: &[Option<Colour>],
+    points: &Colouring,
     colour: Colour,
-    own: &[bool],
-    others: &[bool],
+    own: &Bits,
+    others: &Bits,
 ) -> u16
     requires fits { length points.now ≡ point_count size }
-    requires own_fits { length own.now ≡ MOST_POINTS }
-    requires others_fit { length others.now ≡ MOST_POINTS }
-    requires own_marked { IsFilled size points.now (Some colour) own.now }
-    requires others_marked { IsFilled size points.now (Some (other colour)) others.now }
+    requires own_on_board { AreOn size own.now.words }
+    requires own_reach { AreReaching size own.now.words points.now None (Some colour) }
+    requires others_reach { AreReaching size others.now.words points.now None (Some (other colour)) }
     ensures { result ≡ score_of size points.now colour }
 {
-    let count = size.point_count();
-    let mut total = 0;
-    for p in 0..count {
-        let counted = match points[p] {
-            Some(stone) => stone == colour,
-            None => counts_empty(own[p], others[p]),
-        };
-        if counted {
-            total += 1;
-        }
-    }
-    total
+    count(size, &points.bits(colour).or(&own.minus(others)))
 }

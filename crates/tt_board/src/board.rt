@@ -5,10 +5,10 @@ ghost use Rattle.tt_sgf.specs.declared.size.TheConstants.{MOST_POINTS};
 ghost use Rattle.tt_sgf.specs.Sizes.{point_count};
 
 use super::Colour;
-use super::area::count_area;
+use super::area::{count_area, empty_reaching};
 use super::clearing::put;
 use super::colouring::Colouring;
-use super::fill::reaching;
+use super::fill::empty_points;
 use super::setup::{cover, first_lifeless};
 use std::marker::Model;
 use tt_sgf::{Bits, Point, PointSet, Size};
@@ -236,12 +236,11 @@ impl Board {
         ensures black { result.0 ≡ score_of self.now.size self.now.points Black }
         ensures white { result.1 ≡ score_of self.now.size self.now.points White }
     {
-        let entries = self.points.entries();
-        let points = &entries[..self.size.point_count()];
-        let by_black = reaching(self.size, points, Some(Colour::Black));
-        let by_white = reaching(self.size, points, Some(Colour::White));
-        let black = count_area(self.size, points, Colour::Black, &by_black, &by_white);
-        let white = count_area(self.size, points, Colour::White, &by_white, &by_black);
+        let empty = empty_points(self.size, &self.points);
+        let by_black = empty_reaching(self.size, &self.points, &empty, Colour::Black);
+        let by_white = empty_reaching(self.size, &self.points, &empty, Colour::White);
+        let black = count_area(self.size, &self.points, Colour::Black, &by_black, &by_white);
+        let white = count_area(self.size, &self.points, Colour::White, &by_white, &by_black);
         (black, white)
     }
 }

@@ -5,9 +5,8 @@ ghost use Rattle.tt_sgf.specs.Sizes.{point_count};
 ghost use Rattle.tt_board.specs.Play.{placed, IsAlive, IsLeastLifeless};
 
 use super::Colour;
-use super::chain::has_liberty;
 use super::colouring::Colouring;
-use super::fill::reaching;
+use super::fill::{empty_points, reaching};
 use tt_sgf::{Point, PointSet, Size};
 
 /// Puts the points of the sets over what stands there.
@@ -34,32 +33,16 @@ pub(crate) fn cover(
     }
 }
 
-/// The least point whose stone doesn't reach empty, found by a fill of the whole board.
-#[inline(never)]
-fn first_unfilled(size: Size, points: &Colouring) -> Option<Point>
-    requires { length points.now ≡ point_count size }
-    ensures { MatchOption result (IsAlive size points.now) (IsLeastLifeless size points.now) }
-{
-    let count = size.point_count();
-    let entries = points.entries();
-    let alive = reaching(size, &entries[..count], None);
-    for index in 0..count {
-        if points.at(index).is_some() && !alive[index] {
-            return size.point(index as u16);
-        }
-    }
-    None
-}
-
-/// The least point whose stone doesn't reach empty. A board on which each stone has a liberty of its own needs no fill.
+/// The least point whose stone doesn't reach empty.
 pub(crate) fn first_lifeless(size: Size, points: &Colouring) -> Option<Point>
     requires { length points.now ≡ point_count size }
     ensures { MatchOption result (IsAlive size points.now) (IsLeastLifeless size points.now) }
 {
-    for index in 0..size.point_count() {
-        if points.at(index).is_some() && !has_liberty(size, points, index) {
-            return first_unfilled(size, points);
-        }
-    }
-    None
+    let black = points.bits(Colour::Black);
+    let white = points.bits(Colour::White);
+    let empty = empty_points(size, points);
+    let black_alive = reaching(size, black, &empty);
+    let white_alive = reaching(size, white, &empty);
+    let lifeless = black.minus(&black_alive).or(&white.minus(&white_alive));
+    size.point(lifeless.first_from(0) as u16)
 }

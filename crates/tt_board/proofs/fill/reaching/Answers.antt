@@ -1,51 +1,33 @@
-use Rattle.std.proofs.Common.{◌≡◌, ◌<◌, ◌≤◌, get_or, length, replicate, false, refl, sym, ap, subst, ◌∙◌, arith}
-use Rattle.std.proofs.lemmas.List.Elements.{Contains-get_or}
-use Rattle.tt_sgf.specs.Sizes.{point_count}
-use Rattle.tt_sgf.specs.SizeLaws.{few_points}
-use Rattle.tt_board.specs.ReachLaws.{filled}
-use Rattle.tt_board.specs.Filling.{IsFilling}
-use Rattle.tt_board.proofs.FillLemmas.{filling_none, more_length, spread_more, spread_closed}
+use Rattle.std.proofs.Common.{◌<◌, arith}
+use Rattle.tt_board.proofs.FillLemmas.{found_first, found_more, fewer_left, found_all, found_on}
 use Rattle.tt_board.proofs.fill.reaching.Goals as goal
 
-pub loop-p-init : goal.loop-p-init
-loop-p-init c = record {
-  wide = refl;
-  fits = few_points c.args.size;
-  filling = subst (λ xs. IsFilling c.args.size c.args.points.now c.args.wanted (replicate 361 false) xs) (sym c.new-list.ensures)
-      (filling_none c.args.size c.args.points.now c.args.wanted);
-  edges = λ k below. absurd (omega (arith, below));
-}
+pub loop-size-init : goal.loop-size-init
+loop-size-init c =
+    found_first c.args.size c.args.own.now.words c.args.wanted.now.words c.requires.own_on_board c.around.result.words c.and-found.result.words c.around.ensures c.and-found.ensures
 
-pub spread-requires-clause-on_board : goal.spread-requires-clause-on_board
-spread-requires-clause-on_board c =
-    let list = c.loop-next.list.items in let i = c.loop-next.next in
-    let is : c.from-p.result ≡ get_or list i 0 = c.from-p.ensures ∙ ap (λ xs. get_or xs i 0) c.as_slice.ensures.value in
-    let below : i < length list = omega arith in
-    subst (λ x. x < point_count c.args.size) (sym is) (c.loop-next.invariant.filling.only (get_or list i 0) (Contains-get_or list i 0 below)).0
+pub around-requires-in-loop-size-clause-on_board : goal.around-requires-in-loop-size-clause-on_board
+around-requires-in-loop-size-clause-on_board c =
+    found_on c.args.size c.args.own.now.words c.args.wanted.now.words c.requires.own_on_board c.loop-size.found.words c.loop-size.invariant
 
-pub loop-next-preserved : goal.loop-next-preserved
-loop-next-preserved c =
-    let s = c.args.size in let points = c.args.points.now in
-    let m = c.loop-next.marks in let n = c.spread.new.marks in
-    let before = c.loop-next.list.items in let after = c.spread.new.list.items in
-    let i = c.loop-next.next in let p = c.from-p.result in
-    let is : p ≡ get_or before i 0 = c.from-p.ensures ∙ ap (λ xs. get_or xs i 0) c.as_slice.ensures.value in
-    let below : i < length before = omega arith in
-    let h = c.loop-next.invariant in
-    let filling = c.spread.ensures.still_filling c.args.wanted h.filling in
-    let more = c.spread.ensures.more in
-    record {
-      wide = filling.growing.wide;
-      fits = omega (arith, filling.growing.wide, few_points s);
-      filling = filling;
-      edges = λ k in_k edge. more.kept k (h.edges k in_k edge);
-      listed = omega (arith, below, more_length m n before after more);
-      done = spread_more s points m n before after i p more below (sym is) c.spread.ensures.spread h.done;
-    }
+pub returns-then-first_from-eq-BITS-clause-reaching : goal.returns-then-first_from-eq-BITS-clause-reaching
+returns-then-first_from-eq-BITS-clause-reaching c =
+    found_all c.args.size c.args.own.now.words c.args.wanted.now.words c.requires.own_on_board c.loop-size.found.words c.around-in-loop-size.result.words c.and.result.words
+    c.minus-more.result.words c.loop-size.invariant c.around-in-loop-size.ensures c.and.ensures c.minus-more.ensures
+    (λ q lt. c.first_from.ensures.none q (omega arith) (omega (arith, lt, c.if-first_from-eq-BITS.true)) lt)
 
-pub returns-clause-marked : goal.returns-clause-marked
-returns-clause-marked c =
-    let h = c.loop-next.invariant in
-    let s = c.args.size in let points = c.args.points.now in let e = c.args.wanted in
-    let past : length c.loop-next.list.items ≤ c.loop-next.next = omega arith in
-    filled s points e c.loop-next.marks h.filling.sound (spread_closed s points e c.loop-next.marks c.loop-next.list.items c.loop-next.next h.filling h.edges past h.done)
+pub returns-then-first_from-eq-BITS-clause-on_board : goal.returns-then-first_from-eq-BITS-clause-on_board
+returns-then-first_from-eq-BITS-clause-on_board c =
+    found_on c.args.size c.args.own.now.words c.args.wanted.now.words c.requires.own_on_board c.loop-size.found.words c.loop-size.invariant
+
+pub loop-size-smaller : goal.loop-size-smaller
+loop-size-smaller c =
+    let lt : c.first_from.result < 384 = omega (arith, c.first_from.ensures.most, c.if-first_from-eq-BITS.false) in
+    fewer_left c.args.size c.args.own.now.words c.args.wanted.now.words c.requires.own_on_board c.loop-size.found.words c.around-in-loop-size.result.words c.and.result.words
+    c.minus-more.result.words c.loop-size.invariant c.around-in-loop-size.ensures c.and.ensures c.minus-more.ensures c.or-found.result.words c.or-found.ensures
+    c.first_from.result lt (c.first_from.ensures.found lt)
+
+pub loop-size-preserved : goal.loop-size-preserved
+loop-size-preserved c =
+    found_more c.args.size c.args.own.now.words c.args.wanted.now.words c.requires.own_on_board c.loop-size.found.words c.around-in-loop-size.result.words c.and.result.words
+    c.minus-more.result.words c.loop-size.invariant c.around-in-loop-size.ensures c.and.ensures c.minus-more.ensures c.or-found.result.words c.or-found.ensures
