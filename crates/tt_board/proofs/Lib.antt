@@ -4,8 +4,9 @@ pub mod AroundLemmas
 pub mod BoardsLemmas
 pub mod CaptureLemmas
 pub mod ChainLemmas
-pub mod DifferencesLemmas
+pub mod ColumnLemmas
 pub mod CountLemmas
+pub mod DifferencesLemmas
 pub mod ExactLemmas
 pub mod FillLemmas
 pub mod JoinLemmas

@@ -1,14 +1,13 @@
-use Rattle.std.proofs.Common.{◌≡◌, ℕ, ◌+◌, ◌-◌, ◌*◌, ◌/◌, ◌%◌, ◌<◌, ◌≤◌, ◌↔◌, ◌⊎◌, List, [], ◌∷◌, ◌++◌, zero, suc, Contains}
+use Rattle.std.proofs.Common.{◌≡◌, ℕ, ◌+◌, ◌-◌, ◌*◌, ◌/◌, ◌%◌, ◌<◌, ◌≤◌, ◌↔◌, ◌⊎◌, List, [], zero, suc, Contains}
 use Rattle.std.proofs.Common.{Option, Some, None, inl, inr, refl, sym, ap, ◌∙◌, arith}
 use Rattle.std.proofs.lemmas.Bool.{cases_eq}
 use Rattle.std.proofs.lemmas.Nat.{div-mul-add, mod-mul-add, div-add-mod', mod_below, mul-add-lt, div_below}
-use Rattle.std.proofs.lemmas.List.Elements.{Contains-push, Contains-append_left, Contains-push_cases}
 use Rattle.std.proofs.lemmas.Option.{none-some}
 use Rattle.tt_sgf.specs.declared.size.Size.{Size}
 use Rattle.tt_sgf.specs.Sizes.{point_count}
 use Rattle.tt_board.specs.Near.{IsBeside, IsNeighbour, IsThere, IsOneOf, ahead, places_there}
 use Rattle.tt_board.specs.Chains.{IsEachOnce}
-use Rattle.tt_board.proofs.CountLemmas.{once_push, once_first}
+use Rattle.tt_board.proofs.CountLemmas.{once_first}
 
 -- the four places beside p, as the code finds them
 pub data Side : ℕ → ℕ → ℕ → ℕ → Type 0 where
@@ -60,86 +59,6 @@ of_side s p q pos in_p (right w h _ _ after e) =
 of_side s p q pos in_p (below w h _ _ down e) =
     let at = placed w h p q (p / w + 1) (p % w) (mod_below p w pos) down (omega (arith, div-add-mod' p w)) in
     (at.0, inr (sym at.2, inl (omega arith)))
-
--- ys is xs, with x at its end where P holds
-abbrev pub Adds : List ℕ → List ℕ → Type 0 → ℕ → Type 0
-Adds xs ys P x = (P × (ys ≡ xs ++ x ∷ [])) ⊎ ((P → ⊥) × (ys ≡ xs))
-
--- what the longer list has, the shorter one had or it is the item added
-added : {P : Type 0} (xs ys : List ℕ) (x q : ℕ) → Adds xs ys P x → Contains ys q → Contains xs q ⊎ (P × (q ≡ x))
-added xs ys x q (inl (p, e)) has =
-    let h = rw e at has in
-    elim (Contains-push_cases xs x q h) [ inl old ↦ inl old | inr new ↦ inr (p, sym new) ]
-added xs ys x q (inr (_, e)) has = inl (rw e at has)
-
--- what the shorter list had, the longer one has
-stays : {P : Type 0} (xs ys : List ℕ) (x q : ℕ) → Adds xs ys P x → Contains xs q → Contains ys q
-stays xs ys x q (inl (p, e)) has = rw e (Contains-append_left xs (x ∷ []) q has)
-stays xs ys x q (inr (_, e)) has = rw e has
-
--- and so has it the item added
-comes : {P : Type 0} (xs ys : List ℕ) (x q : ℕ) → Adds xs ys P x → P → q ≡ x → Contains ys q
-comes xs ys x q (inl (_, e)) p same = rw (same, e) (Contains-push xs x)
-comes xs ys x q (inr (none, _)) p same = absurd (none p)
-
-module _ (s : Size) (p : ℕ) (pos : 0 < s.columns) (in_p : p < point_count s) (n1 n2 n3 n4 : List ℕ)
-    (first : Adds [] n1 (0 < p / s.columns) (p - s.columns)) (second : Adds n1 n2 (0 < p % s.columns) (p - 1))
-    (third : Adds n2 n3 (p % s.columns + 1 < s.columns) (p + 1)) (fourth : Adds n3 n4 (p / s.columns + 1 < s.rows) (p + s.columns)) where
-  none_yet : (q : ℕ) → Contains {X = ℕ} [] q → ⊥
-  none_yet q has = omega arith
-
-  -- each side of the point is listed
-  listed : (q : ℕ) → Side s.columns s.rows p q → Contains n4 q
-  listed q (above w h _ _ up e) =
-      stays n3 n4 _ q fourth (stays n2 n3 _ q third (stays n1 n2 _ q second (comes [] n1 _ q first up e)))
-  listed q (left w h _ _ before e) = stays n3 n4 _ q fourth (stays n2 n3 _ q third (comes n1 n2 _ q second before e))
-  listed q (right w h _ _ after e) = stays n3 n4 _ q fourth (comes n2 n3 _ q third after e)
-  listed q (below w h _ _ down e) = comes n3 n4 _ q fourth down e
-
-  -- what is listed is a side of the point
-  only_sides : (q : ℕ) → Contains n4 q → Side s.columns s.rows p q
-  only_sides q has = elim (added n3 n4 _ q fourth has) [
-    | inr now ↦ below _ _ p q now.0 now.1
-    | inl h3 ↦ elim (added n2 n3 _ q third h3) [
-      | inr now ↦ right _ _ p q now.0 now.1
-      | inl h2 ↦ elim (added n1 n2 _ q second h2) [
-        | inr now ↦ left _ _ p q now.0 now.1
-        | inl h1 ↦ elim (added [] n1 _ q first h1) [ inr now ↦ above _ _ p q now.0 now.1 | inl h0 ↦ absurd (none_yet q h0) ]
-      ]
-    ]
-  ]
-
-  -- the listed points are the neighbours
-  pub near_all : (q : ℕ) → Contains n4 q ↔ IsNeighbour s p q
-  near_all q = (λ has. of_side s p q pos in_p (only_sides q has), λ near. listed q (side_of s.columns s.rows p q pos in_p near.0 near.1))
-
-  -- each stands once
-  pub near_once : IsEachOnce n4
-  near_once =
-      let w = s.columns in
-      let rows = div-add-mod' p w in
-      let wide : 0 < p / w → w ≤ p = λ up. omega (arith, rows, row_before (p / w) w up) in
-      let column = mod_below p w pos in
-      let o1 = more [] n1 (p - w) first (λ i j lt in'. absurd (omega arith)) (λ _ has. none_yet (p - w) has) in
-      let o2 = more n1 n2 (p - 1) second o1 (λ back has. elim (added [] n1 (p - w) (p - 1) first has) [
-        | inl none ↦ none_yet (p - 1) none
-        | inr up ↦ omega (arith, wide up.0, up.1, back, column)
-      ]) in
-      let o3 = more n2 n3 (p + 1) third o2 (λ on has. elim (added n1 n2 (p - 1) (p + 1) second has) [
-        | inl has1 ↦ elim (added [] n1 (p - w) (p + 1) first has1) [ inl none ↦ none_yet (p + 1) none | inr up ↦ omega (arith, up.1) ]
-        | inr back ↦ omega (arith, back.1)
-      ]) in
-      more n3 n4 (p + w) fourth o3 (λ down has. elim (added n2 n3 (p + 1) (p + w) third has) [
-        | inl has2 ↦ elim (added n1 n2 (p - 1) (p + w) second has2) [
-          | inl has1 ↦ elim (added [] n1 (p - w) (p + w) first has1) [ inl none ↦ none_yet (p + w) none | inr up ↦ omega (arith, up.1, pos) ]
-          | inr back ↦ omega (arith, back.1, pos)
-        ]
-        | inr on ↦ omega (arith, on.0, on.1)
-      ])
-    where
-      more : {P : Type 0} (xs ys : List ℕ) (x : ℕ) → Adds xs ys P x → IsEachOnce xs → (P → Contains xs x → ⊥) → IsEachOnce ys
-      more xs ys x (inl (h, e)) once fresh = rw e (once_push xs x once (fresh h))
-      more xs ys x (inr (_, e)) once fresh = rw e once
 
 -- a place that is there is the one meant, and what it needs holds
 place_there : {P : Type 0} (place : Option ℕ) (x q : ℕ) → IsThere place P x → place ≡ Some q → P × (q ≡ x)

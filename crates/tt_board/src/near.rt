@@ -1,37 +1,27 @@
 //! The points beside a point.
 
-ghost use Rattle.std.specs.Prelude.{◌≡◌, ℕ, ◌+◌, ◌-◌, ◌<◌, ◌≤◌, ◌↔◌, Contains, IsTrue};
+ghost use Rattle.std.specs.Prelude.{◌≡◌, ℕ, ◌+◌, ◌-◌, ◌%◌, ◌<◌, ◌≤◌, ◌↔◌, IsTrue};
 ghost use Rattle.tt_sgf.specs.Sizes.{point_count};
 ghost use Rattle.tt_board.specs.Near.{IsNeighbour, IsThere, IsOneOf, places_there};
 ghost use Rattle.tt_board.specs.Chains.{IsEachOnce};
 
-use arrayvec::ArrayVec;
 use tt_sgf::Size;
 
-/// The points above, left of, right of and below `p`, as far as the board has them.
-pub(crate) fn neighbours(size: Size, p: usize) -> ArrayVec<usize, 4>
+/// What 65,536 is, parted by so many columns and rounded up.
+const PARTS: [u32; 20] = [
+    0, 65536, 32768, 21846, 16384, 13108, 10923, 9363, 8192, 7282, 6554, 5958, 5462, 5042, 4682,
+    4370, 4096, 3856, 3641, 3450,
+];
+
+/// The column of a point. A product finds its row, since a division takes a processor several times as long.
+#[inline(always)]
+fn column_of(size: Size, p: usize) -> usize
     requires { p < point_count size }
-    ensures all { (q : ℕ) → Contains result.items q ↔ IsNeighbour size p q }
-    ensures once { IsEachOnce result.items }
+    ensures { result ≡ p % size.columns }
 {
     let columns = usize::from(size.columns());
-    let rows = usize::from(size.rows());
-    let row = p / columns;
-    let column = p % columns;
-    let mut near = ArrayVec::new();
-    if 0 < row {
-        near.push(p - columns);
-    }
-    if 0 < column {
-        near.push(p - 1);
-    }
-    if column + 1 < columns {
-        near.push(p + 1);
-    }
-    if row + 1 < rows {
-        near.push(p + columns);
-    }
-    near
+    let row = p * PARTS[columns] as usize / 65536;
+    p - row * columns
 }
 
 /// The four places beside a point, each where the board has it.
@@ -68,7 +58,7 @@ pub(crate) fn beside(size: Size, p: usize) -> Places
 {
     let count = size.point_count();
     let columns = usize::from(size.columns());
-    let column = usize::from(p as u16 % size.columns());
+    let column = column_of(size, p);
     Places {
         above: before(columns <= p, p, columns),
         left: before(0 < column, p, 1),
