@@ -1,10 +1,11 @@
 -- The chains of an index, and how they lead to the newest proof of a key and side.
-use Rattle.std.proofs.Common.{◌≡◌, ◌≢◌, ℕ, zero, suc, ◌+◌, ◌-◌, ◌%◌, ◌<◌, ◌≤◌, Bool, true, false, cond, List, [], ◌∷◌, ◌++◌, length, get_or, nat_eq, Option, Some, None, slice_get}
+use Rattle.std.proofs.Common.{◌≡◌, ◌≢◌, ℕ, zero, suc, ◌+◌, ◌-◌, ◌*◌, ◌<◌, ◌≤◌, Bool, true, false, cond, List, [], ◌∷◌, ◌++◌, length, get_or, nat_eq, Option, Some, None, slice_get}
 use Rattle.std.proofs.Common.{reverse, IsTrue, ◌↔◌, inl, inr, refl, sym, ap, ◌∙◌, subst, arith}
 use Rattle.std.specs.Option.{option_map}
 use Rattle.std.proofs.lemmas.Bool.{cases_lt, false≢true}
 use Rattle.std.proofs.lemmas.List.{reverse-append, get_or_append_left, get_or_read, length-map}
-use Rattle.std.proofs.lemmas.Nat.{mod_below}
+use Rattle.std.proofs.lemmas.Nat.{div_below, mul-lt}
+use Rattle.std.proofs.Math.Nat.{mul-lt-mul_of_pos_right, mul_comm}
 use Rattle.std.proofs.lemmas.Option.{slice_get_within, slice_get-map, get_or_from_slice_get}
 use Rattle.tt_game.specs.declared.frame.Side.{Side}
 use Rattle.tt_game.specs.Keys.{key_of}
@@ -12,7 +13,7 @@ use Rattle.tt_game.specs.Line.{Standing}
 use Rattle.tt_proof.specs.Proven.{Proven}
 use Rattle.tt_search.specs.Stores.{AnswersFor, IsNewest}
 use Rattle.tt_search.specs.KeyIndex.{key_mark, key_marks}
-use Rattle.tt_search.specs.KeyChains.{last_place, in_chain, IsChained, NoneFrom, UnmarkedFrom}
+use Rattle.tt_search.specs.KeyChains.{last_place, chain_of_mark, in_chain, IsChained, NoneFrom, UnmarkedFrom}
 
 -- ---- the last place that passes a test
 
@@ -48,60 +49,77 @@ last_same t u (suc n) h =
 -- ---- one more mark
 
 same_chain : (marks : List ℕ) (m n c i : ℕ) → i < length marks → in_chain marks n c i ≡ in_chain (marks ++ m ∷ []) n c i
-same_chain marks m n c i h = ap (λ x. nat_eq (x % n) c) (sym (get_or_append_left marks (m ∷ []) 0 i h))
+same_chain marks m n c i h = ap (λ x. nat_eq (chain_of_mark x n) c) (sym (get_or_append_left marks (m ∷ []) 0 i h))
 
 chained_on : (heads before marks : List ℕ) (m : ℕ) → length before ≡ length marks → IsChained heads before marks (length marks) → IsChained heads (before ++ 0 ∷ []) (marks ++ m ∷ []) (length marks)
 chained_on heads before marks m one was = record {
   heads_lead = λ c h. was.heads_lead c h ∙ last_same _ _ (length marks) (λ i lt. same_chain marks m (length heads) c i lt);
   before_leads = λ i h. get_or_append_left before (0 ∷ []) 0 i (omega (arith, one, h)) ∙ was.before_leads i h
-      ∙ last_same _ _ i (λ j lt. same_chain marks m (length heads) (get_or marks i 0 % length heads) j (omega (arith, lt, h)))
-      ∙ ap (λ x. last_place (in_chain (marks ++ m ∷ []) (length heads) (x % length heads)) i) (sym (get_or_append_left marks (m ∷ []) 0 i h));
+      ∙ last_same _ _ i (λ j lt. same_chain marks m (length heads) (chain_of_mark (get_or marks i 0) (length heads)) j (omega (arith, lt, h)))
+      ∙ ap (λ x. last_place (in_chain (marks ++ m ∷ []) (length heads) (chain_of_mark x (length heads))) i) (sym (get_or_append_left marks (m ∷ []) 0 i h));
 }
 
 pub chained_more : (heads before marks before' marks' : List ℕ) (m n : ℕ) → length before ≡ length marks → before' ≡ before ++ 0 ∷ [] → marks' ≡ marks ++ m ∷ [] → n ≡ length marks
     → IsChained heads before marks (length marks) → IsChained heads before' marks' n
 chained_more heads before marks before' marks' m n one b k e was = rw (b, k, e) (chained_on heads before marks m one was)
 
+-- ---- the chain of a mark
+
+pub product_low : (mark chains : ℕ) → mark < 4294967296 → chains < 4294967296 → mark * chains < 18446744073709551616
+product_low mark chains m c = mul-lt mark chains 4294967296 4294967296 m c
+
+pub chain_low : (mark chains : ℕ) → 0 < chains → mark < 4294967296 → chain_of_mark mark chains < chains
+unfolding chain_of_mark
+chain_low mark chains some m =
+    div_below (mark * chains) 4294967296 chains (omega arith) (subst (λ p. mark * chains < p) (mul_comm 4294967296 chains) (mul-lt-mul_of_pos_right m some))
+
 -- ---- what is read of an index
 
-pub chain_read : (xs : List ℕ) (mark len v : ℕ) → len ≡ length xs → 0 < length xs → v ≡ get_or xs (mark % len) v → v ≡ get_or xs (mark % length xs) 0
-chain_read xs mark len v e some is =
-    let within : mark % length xs < length xs = mod_below mark (length xs) some in
-    get_or_read xs (mark % length xs) v within (subst (λ n. v ≡ get_or xs (mark % n) v) e is) 0
+-- the mark's chain is one of them where the one that was worked out is
+pub chain_within : (mark len many chain : ℕ) → chain ≡ chain_of_mark mark len → len ≡ many → chain < len → chain_of_mark mark many < many
+chain_within mark len many chain c e h = subst (λ n. chain_of_mark mark n < n) e (subst (λ i. i < len) c h)
 
-pub head_low : (heads before marks : List ℕ) (mark next : ℕ) → 0 < length heads → IsChained heads before marks (length marks) → next ≡ get_or heads (mark % length heads) 0 → next ≤ length marks
-head_low heads before marks mark next some chained is =
-    let low = last_low (in_chain marks (length heads) (mark % length heads)) (length marks) in
-    let leads = is ∙ chained.heads_lead (mark % length heads) (mod_below mark (length heads) some) in
+-- what is read at the chain that was worked out is the head of the mark's chain
+pub chain_read : (xs : List ℕ) (mark len chain v : ℕ) → chain ≡ chain_of_mark mark len → len ≡ length xs → chain < len → v ≡ get_or xs chain v
+    → v ≡ get_or xs (chain_of_mark mark (length xs)) 0
+chain_read xs mark len chain v c e h is =
+    get_or_read xs chain v (subst (λ n. chain < n) e h) is 0 ∙ ap (λ i. get_or xs i 0) (c ∙ ap (λ n. chain_of_mark mark n) e)
+
+pub head_low : (heads before marks : List ℕ) (mark next : ℕ) → chain_of_mark mark (length heads) < length heads → IsChained heads before marks (length marks)
+    → next ≡ get_or heads (chain_of_mark mark (length heads)) 0 → next ≤ length marks
+head_low heads before marks mark next inside chained is =
+    let low = last_low (in_chain marks (length heads) (chain_of_mark mark (length heads))) (length marks) in
+    let leads = is ∙ chained.heads_lead (chain_of_mark mark (length heads)) inside in
     omega (arith, low, leads)
 
 pub before_low : (heads before marks : List ℕ) (place next : ℕ) → IsChained heads before marks (length marks) → place < length marks → next ≡ get_or before place 0 → next ≤ place
 before_low heads before marks place next chained within is =
-    let low = last_low (in_chain marks (length heads) (get_or marks place 0 % length heads)) place in
+    let low = last_low (in_chain marks (length heads) (chain_of_mark (get_or marks place 0) (length heads))) place in
     let leads = is ∙ chained.before_leads place within in
     omega (arith, low, leads)
 
 -- ---- the walk down a chain to a mark
 
-in_its_chain : (marks : List ℕ) (n mark i : ℕ) → get_or marks i 0 ≡ mark → in_chain marks n (mark % n) i ≡ true
+in_its_chain : (marks : List ℕ) (n mark i : ℕ) → get_or marks i 0 ≡ mark → in_chain marks n (chain_of_mark mark n) i ≡ true
 in_its_chain marks n mark i e = rw e (grind arith)
 
-unmarked : (marks : List ℕ) (n mark k i : ℕ) → last_place (in_chain marks n (mark % n)) k ≤ i → i < k → get_or marks i 0 ≢ mark
-unmarked marks n mark k i low high e = false≢true (sym (last_beyond (in_chain marks n (mark % n)) k i low high) ∙ in_its_chain marks n mark i e)
+unmarked : (marks : List ℕ) (n mark k i : ℕ) → last_place (in_chain marks n (chain_of_mark mark n)) k ≤ i → i < k → get_or marks i 0 ≢ mark
+unmarked marks n mark k i low high e = false≢true (sym (last_beyond (in_chain marks n (chain_of_mark mark n)) k i low high) ∙ in_its_chain marks n mark i e)
 
 -- no place past the head of the mark's chain has the mark
-pub unmarked_past_head : (heads before marks : List ℕ) (mark next : ℕ) → 0 < length heads → IsChained heads before marks (length marks) → next ≡ get_or heads (mark % length heads) 0
+pub unmarked_past_head : (heads before marks : List ℕ) (mark next : ℕ) → chain_of_mark mark (length heads) < length heads → IsChained heads before marks (length marks)
+    → next ≡ get_or heads (chain_of_mark mark (length heads)) 0
     → UnmarkedFrom marks mark next
-unmarked_past_head heads before marks mark next some chained is i low high =
-    let leads : next ≡ last_place (in_chain marks (length heads) (mark % length heads)) (length marks) = is ∙ chained.heads_lead (mark % length heads) (mod_below mark (length heads) some) in
+unmarked_past_head heads before marks mark next inside chained is i low high =
+    let leads : next ≡ last_place (in_chain marks (length heads) (chain_of_mark mark (length heads))) (length marks) = is ∙ chained.heads_lead (chain_of_mark mark (length heads)) inside in
     unmarked marks (length heads) mark (length marks) i (omega (arith, low, leads)) high
 
 -- what holds of a place, past it and wherever another mark stands holds past the place before it in the mark's chain
 past_next : (Holds : ℕ → Type 0) (heads before marks : List ℕ) (mark place next : ℕ) → IsChained heads before marks (length marks) → place < length marks
-    → get_or marks place 0 % length heads ≡ mark % length heads → next ≡ get_or before place 0 → ((i : ℕ) → get_or marks i 0 ≢ mark → Holds i) → Holds place
+    → chain_of_mark (get_or marks place 0) (length heads) ≡ chain_of_mark mark (length heads) → next ≡ get_or before place 0 → ((i : ℕ) → get_or marks i 0 ≢ mark → Holds i) → Holds place
     → ((i : ℕ) → place + 1 ≤ i → Holds i) → (i : ℕ) → next ≤ i → Holds i
 past_next Holds heads before marks mark place next chained within same is other here later i low =
-    let leads : next ≡ last_place (in_chain marks (length heads) (mark % length heads)) place =
+    let leads : next ≡ last_place (in_chain marks (length heads) (chain_of_mark mark (length heads))) place =
     is ∙ chained.before_leads place within ∙ ap (λ c. last_place (in_chain marks (length heads) c) place) same in
     elim (cases_lt i place) [
       | inl lt ↦ other i (unmarked marks (length heads) mark place i (omega (arith, low, leads)) lt)
@@ -113,7 +131,8 @@ past_next Holds heads before marks mark place next chained within same is other 
 
 -- and none past the place before one that has another mark
 pub unmarked_past_next : (heads before marks : List ℕ) (mark place next : ℕ) → IsChained heads before marks (length marks) → place < length marks
-    → get_or marks place 0 % length heads ≡ mark % length heads → next ≡ get_or before place 0 → UnmarkedFrom marks mark (place + 1) → get_or marks place 0 ≢ mark → UnmarkedFrom marks mark next
+    → chain_of_mark (get_or marks place 0) (length heads) ≡ chain_of_mark mark (length heads)
+    → next ≡ get_or before place 0 → UnmarkedFrom marks mark (place + 1) → get_or marks place 0 ≢ mark → UnmarkedFrom marks mark next
 unmarked_past_next heads before marks mark place next chained within same is later here =
     past_next (λ i. i < length marks → get_or marks i 0 ≢ mark) heads before marks mark place next chained within same is (λ i other _. other) (λ _. here) later
 
@@ -177,7 +196,7 @@ module _ (line : Standing) (side : Side) where
 
   -- no proof answers past the place before one that doesn't answer
   pub none_past_next : (heads before marks : List ℕ) (ps : List Proven) (mark place next : ℕ) → marks ≡ key_marks ps → mark ≡ key_mark (key_of line.frame line.state)
-      → IsChained heads before marks (length marks) → place < length marks → get_or marks place 0 % length heads ≡ mark % length heads → next ≡ get_or before place 0
+      → IsChained heads before marks (length marks) → place < length marks → chain_of_mark (get_or marks place 0) (length heads) ≡ chain_of_mark mark (length heads) → next ≡ get_or before place 0
       → NoneFrom line side ps (place + 1) → ((p : Proven) → slice_get ps place ≡ Some p → AnswersFor line side p → ⊥) → NoneFrom line side ps next
   none_past_next heads before marks ps mark place next all m chained within same is later here i p low =
       past_next (λ j. (q : Proven) → slice_get ps j ≡ Some q → AnswersFor line side q → ⊥) heads before marks mark place next chained within same is
@@ -192,18 +211,20 @@ module _ (line : Standing) (side : Side) where
       false≢true (sym e ∙ h.1 (answers.same_key, answers.for_side))
 
 -- a place that a head or another place leads to is of the chain
-leads_inside : (marks : List ℕ) (n c k next : ℕ) → next ≡ last_place (in_chain marks n c) k → 0 < next → get_or marks (next - 1) 0 % n ≡ c
+leads_inside : (marks : List ℕ) (n c k next : ℕ) → next ≡ last_place (in_chain marks n c) k → 0 < next → chain_of_mark (get_or marks (next - 1) 0) n ≡ c
 leads_inside marks n c k next is some =
     let e : last_place (in_chain marks n c) k ≡ suc (next - 1) = omega (arith, is, some) in
     let inside = last_passes (in_chain marks n c) k (next - 1) e in
     grind (arith, inside)
 
-pub head_inside : (heads before marks : List ℕ) (mark next : ℕ) → 0 < length heads → IsChained heads before marks (length marks) → next ≡ get_or heads (mark % length heads) 0 → 0 < next
-    → get_or marks (next - 1) 0 % length heads ≡ mark % length heads
-head_inside heads before marks mark next some chained is =
-    leads_inside marks (length heads) (mark % length heads) (length marks) next (is ∙ chained.heads_lead (mark % length heads) (mod_below mark (length heads) some))
+pub head_inside : (heads before marks : List ℕ) (mark next : ℕ) → chain_of_mark mark (length heads) < length heads → IsChained heads before marks (length marks)
+    → next ≡ get_or heads (chain_of_mark mark (length heads)) 0 → 0 < next
+    → chain_of_mark (get_or marks (next - 1) 0) (length heads) ≡ chain_of_mark mark (length heads)
+head_inside heads before marks mark next inside chained is =
+    leads_inside marks (length heads) (chain_of_mark mark (length heads)) (length marks) next (is ∙ chained.heads_lead (chain_of_mark mark (length heads)) inside)
 
-pub before_inside : (heads before marks : List ℕ) (mark place next : ℕ) → IsChained heads before marks (length marks) → place < length marks → get_or marks place 0 % length heads ≡ mark % length heads
-    → next ≡ get_or before place 0 → 0 < next → get_or marks (next - 1) 0 % length heads ≡ mark % length heads
+pub before_inside : (heads before marks : List ℕ) (mark place next : ℕ) → IsChained heads before marks (length marks) → place < length marks
+    → chain_of_mark (get_or marks place 0) (length heads) ≡ chain_of_mark mark (length heads)
+    → next ≡ get_or before place 0 → 0 < next → chain_of_mark (get_or marks (next - 1) 0) (length heads) ≡ chain_of_mark mark (length heads)
 before_inside heads before marks mark place next chained within same is =
-    leads_inside marks (length heads) (mark % length heads) place next (is ∙ chained.before_leads place within ∙ ap (λ c. last_place (in_chain marks (length heads) c) place) same)
+    leads_inside marks (length heads) (chain_of_mark mark (length heads)) place next (is ∙ chained.before_leads place within ∙ ap (λ c. last_place (in_chain marks (length heads) c) place) same)

@@ -1,5 +1,5 @@
 -- How an index leads to the last proof of a key and side. Only private contracts cite these.
-use Rattle.std.specs.Prelude.{◌≡◌, ◌≢◌, ℕ, zero, suc, ◌-◌, ◌%◌, ◌<◌, ◌≤◌, Bool, List, length, cond, get_or, nat_eq, slice_get, Some}
+use Rattle.std.specs.Prelude.{◌≡◌, ◌≢◌, ℕ, zero, suc, ◌-◌, ◌*◌, ◌/◌, ◌<◌, ◌≤◌, Bool, List, length, cond, get_or, nat_eq, slice_get, Some}
 use Rattle.tt_game.specs.declared.frame.Side.{Side}
 use Rattle.tt_game.specs.Line.{Standing}
 use Rattle.tt_proof.specs.Proven.{Proven}
@@ -10,15 +10,19 @@ abbrev pub last_place : (ℕ → Bool) → ℕ → ℕ
 last_place test zero = 0
 last_place test (suc n) = cond (test n) (suc n) (last_place test n)
 
+-- the chain of a mark of 32 bits, one of so many: all marks in as many equal parts, the lowest marks in the first
+unfoldable pub chain_of_mark : ℕ → ℕ → ℕ
+chain_of_mark mark chains = mark * chains / 4294967296
+
 -- whether the place is of the chain: one of so many, by its mark
 abbrev pub in_chain : List ℕ → ℕ → ℕ → ℕ → Bool
-in_chain marks chains chain place = nat_eq (get_or marks place 0 % chains) chain
+in_chain marks chains chain place = nat_eq (chain_of_mark (get_or marks place 0) chains) chain
 
 -- over the first n places, each chain's head leads to the chain's last place, and each place to the one before it in its
 -- chain
 pub record IsChained (heads before marks : List ℕ) (n : ℕ) : Type 0 where
   pub heads_lead : (chain : ℕ) → chain < length heads → get_or heads chain 0 ≡ last_place (in_chain marks (length heads) chain) n
-  pub before_leads : (place : ℕ) → place < n → get_or before place 0 ≡ last_place (in_chain marks (length heads) (get_or marks place 0 % length heads)) place
+  pub before_leads : (place : ℕ) → place < n → get_or before place 0 ≡ last_place (in_chain marks (length heads) (chain_of_mark (get_or marks place 0) (length heads))) place
 
 -- each place has its mark and the one before it, and there are as many chains as places at least, fewer than 2 ^ 32
 pub record AreLongEnough (heads before marks : List ℕ) : Type 0 where

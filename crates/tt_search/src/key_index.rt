@@ -6,7 +6,7 @@ ghost use Rattle.tt_proof.specs.Proven.{Proven};
 ghost use Rattle.tt_game.specs.declared.frame.Side.TheVariants.{Attacker, Defender};
 ghost use Rattle.tt_search.specs.Stores.{AnswersFor, IsNewest};
 ghost use Rattle.tt_search.specs.KeyIndex.{key_mark, key_marks, proof_at, IsPlaceOfNewest};
-ghost use Rattle.tt_search.specs.KeyChains.{AreLongEnough, IsChained, IsLastMarked};
+ghost use Rattle.tt_search.specs.KeyChains.{chain_of_mark, AreLongEnough, IsChained, IsLastMarked};
 
 use std::alloc::Global;
 use std::marker::Model;
@@ -31,6 +31,17 @@ fn is_for(p: &Proof, line: &Line, side: Side) -> bool
     p.side() == side && p.has_key_of(line)
 }
 
+/// The chain of a mark, one of so many: a product takes a fraction of a division's time, and the highest bits, which it goes by,
+/// say most of a key.
+fn chain_of(mark: u32, chains: usize) -> usize
+    requires some { 0 < chains }
+    requires few { chains < 4294967296 }
+    ensures chain { result ≡ chain_of_mark mark chains }
+    ensures within { result < chains }
+{
+    (u64::from(mark) * chains as u64 / 0x1_0000_0000) as usize
+}
+
 /// Chains the place, behind all places before it.
 fn link(heads: &mut Vec<u32>, before: &mut Vec<u32>, marks: &Vec<u32>, place: usize)
     requires place { place < vec_len marks.now }
@@ -41,7 +52,7 @@ fn link(heads: &mut Vec<u32>, before: &mut Vec<u32>, marks: &Vec<u32>, place: us
     ensures chains { vec_len heads.new ≡ vec_len heads.old }
     ensures room { vec_capacity before.new ≡ vec_capacity before.old }
 {
-    let chain = marks[place] as usize % heads.len();
+    let chain = chain_of(marks[place], heads.len());
     before[place] = heads[chain];
     heads[chain] = place as u32 + 1;
 }
@@ -169,7 +180,7 @@ impl KeyIndex {
         if self.heads.is_empty() {
             return 0;
         }
-        let mut next = self.heads[mark as usize % self.heads.len()] as usize;
+        let mut next = self.heads[chain_of(mark, self.heads.len())] as usize;
         while 0 < next {
             if self.marks[next - 1] == mark {
                 return next;

@@ -1,7 +1,7 @@
 use Rattle.std.proofs.Common.{arith, ◌≢◌, ◌-◌, ◌+◌, ◌<◌, ◌∙◌, length, get_or}
 use Rattle.std.proofs.lemmas.List.{get_or_read}
 use Rattle.tt_search.specs.KeyChains.{UnmarkedFrom}
-use Rattle.tt_search.proofs.Chains.{chain_read, head_low, head_inside, before_low, before_inside, unmarked_past_head, unmarked_past_next}
+use Rattle.tt_search.proofs.Chains.{chain_within, chain_read, head_low, head_inside, before_low, before_inside, unmarked_past_head, unmarked_past_next}
 use Rattle.tt_search.proofs.key_index.KeyIndex.last_marked.Goals as goal
 
 pub loop-next-init : goal.loop-next-init
@@ -10,12 +10,13 @@ loop-next-init c =
     let before = c.self.inside.before.items in
     let marks = c.self.inside.marks.items in
     let next = c.index.result.now in
-    let some : 0 < length heads = grind (arith, c.if-is_empty.false, c.is_empty.ensures, c.self.inside.heads.ok.0) in
-    let is = chain_read heads c.args.mark c.len.result next (c.len.ensures ∙ c.self.inside.heads.ok.0) some c.index.ensures in
+    let many = c.len.ensures ∙ c.self.inside.heads.ok.0 in
+    let within = chain_within c.args.mark c.len.result (length heads) c.chain_of.result c.chain_of.ensures.chain many c.chain_of.ensures.within in
+    let is = chain_read heads c.args.mark c.len.result c.chain_of.result next c.chain_of.ensures.chain many c.chain_of.ensures.within c.index.ensures in
     record {
-      low = head_low heads before marks c.args.mark next some c.self.invariant.chained is;
-      none = unmarked_past_head heads before marks c.args.mark next some c.self.invariant.chained is;
-      inside = head_inside heads before marks c.args.mark next some c.self.invariant.chained is;
+      low = head_low heads before marks c.args.mark next within c.self.invariant.chained is;
+      none = unmarked_past_head heads before marks c.args.mark next within c.self.invariant.chained is;
+      inside = head_inside heads before marks c.args.mark next within c.self.invariant.chained is;
     }
 
 pub loop-next-smaller : goal.loop-next-smaller

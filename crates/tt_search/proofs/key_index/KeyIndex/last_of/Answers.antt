@@ -1,9 +1,9 @@
-use Rattle.std.proofs.Common.{arith, ◌≡◌, suc, ◌-◌, ◌+◌, ◌%◌, ◌<◌, ◌∙◌, sym, ap, subst, Some, length, get_or, slice_get}
+use Rattle.std.proofs.Common.{arith, ◌≡◌, suc, ◌-◌, ◌+◌, ◌<◌, ◌∙◌, sym, ap, subst, Some, length, get_or, slice_get}
 use Rattle.std.proofs.lemmas.List.{get_or_read}
 use Rattle.tt_proof.specs.Proven.{Proven}
 use Rattle.tt_search.specs.Stores.{AnswersFor, IsNewest}
 use Rattle.tt_search.specs.KeyIndex.{key_marks, Marking}
-use Rattle.tt_search.specs.KeyChains.{NoneFrom}
+use Rattle.tt_search.specs.KeyChains.{chain_of_mark, NoneFrom}
 use Rattle.tt_search.proofs.Chains.{before_low, before_inside, none_unmarked, none_past_next, not_found, answers_mark, found_newest, none_newest}
 use Rattle.tt_search.proofs.key_index.KeyIndex.last_of.Goals.{else-index-mark-via-then-index-mark+else-is_for, else-index-mark-via-else-index-mark}
 use Rattle.tt_search.proofs.key_index.KeyIndex.last_of.Goals as goal
@@ -15,7 +15,7 @@ loop-next-init g c =
     record {
       low = omega (arith, c.requires.last.low, ap length view);
       none = none_unmarked c.args.line.now c.args.side _ _ c.args.mark c.args.last told c.requires.mark c.requires.last.unmarked;
-      inside = λ some. ap (λ m. m % length c.self.inside.heads.items) (ap (λ l. get_or l (c.args.last - 1) 0) view ∙ c.requires.last.marked some);
+      inside = λ some. ap (λ m. chain_of_mark m (length c.self.inside.heads.items)) (ap (λ l. get_or l (c.args.last - 1) 0) view ∙ c.requires.last.marked some);
     }
 
 pub returns-then-is_for-clause-newest : goal.returns-then-is_for-clause-newest
