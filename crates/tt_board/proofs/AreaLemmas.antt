@@ -123,10 +123,6 @@ module _ (s : Size) (c : Colouring) (k : Colour) (fits : length c ≡ point_coun
       is : bit_in area p ≡ (is_stone_of (entry_at c p) k || (bit_in own p && not (bit_in others p)))
       is = area_is p lt ∙ rw (stones_are.below p (omega (arith, in_p, fits)) lt, alone_is p lt) refl
 
-      or_none : (b : Bool) → (b || false) ≡ b
-      or_none true = refl
-      or_none false = refl
-
       here : (x : Option Colour) → entry_at c p ≡ x → bit_in area p ≡ counts_for s c k p
       here None e = is ∙ rw (e, empty_bits own (Some k) own_are p in_p e, empty_bits others (Some (other k)) others_are p in_p e) refl
       here (Some j) e =

@@ -1,4 +1,4 @@
--- The row of a point by a product: 65,536 parted by the columns and rounded up is off by less than a column in all.
+-- The row of a point by a product: 65,536 divided by the columns and rounded up is off by less than a column in all.
 use Rattle.std.proofs.Common.{◌≡◌, ℕ, zero, suc, ◌-◌, ◌*◌, ◌/◌, ◌%◌, ◌<◌, ◌≤◌, get_or, arith}
 use Rattle.std.proofs.lemmas.Nat.{div-add-mod'}
 use Rattle.tt_board.specs.declared.near.TheConstants.{PARTS}

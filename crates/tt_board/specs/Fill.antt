@@ -1,4 +1,4 @@
--- Marks on the points that reach something, as a fill finds them. Of contracts private ones alone cite these; `Decided` makes the
+-- Marks on the points that reach something, as the test of `Decided` finds them. Of contracts private ones alone cite these; `Decided` makes the
 -- test of reaching, which public ones cite, out of them.
 use Rattle.std.specs.Prelude.{◌≡◌, ◌≢◌, ℕ, ◌<◌, ◌⊎◌, List, Option, Bool, false, not, IsTrue, slice_index_or, count_by}
 use Rattle.tt_board.specs.declared.Colour.{Colour}

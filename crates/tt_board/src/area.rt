@@ -21,7 +21,7 @@ fn ones(word: u64) -> u16
     word.count_ones() as u16
 }
 
-/// How many points of the board a set has. Words of no point of the board aren't looked at.
+/// How many points of the board a set has.
 fn count(size: Size, points: &Bits) -> u16
     requires { AreOn size points.now.words }
     ensures { result ≡ count_by (bit_in points.now.words) (range_with_len 0 (point_count size)) }

@@ -7,7 +7,7 @@ ghost use Rattle.tt_board.specs.Chains.{IsEachOnce};
 
 use tt_sgf::Size;
 
-/// What 65,536 is, parted by so many columns and rounded up.
+/// 65,536 divided by each number of columns, rounded up.
 const PARTS: [u32; 20] = [
     0, 65536, 32768, 21846, 16384, 13108, 10923, 9363, 8192, 7282, 6554, 5958, 5462, 5042, 4682,
     4370, 4096, 3856, 3641, 3450,

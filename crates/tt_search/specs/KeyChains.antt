@@ -10,7 +10,7 @@ abbrev pub last_place : (ℕ → Bool) → ℕ → ℕ
 last_place test zero = 0
 last_place test (suc n) = cond (test n) (suc n) (last_place test n)
 
--- the chain of a mark of 32 bits, one of so many: all marks in as many equal parts, the lowest marks in the first
+-- the chain of a mark of 32 bits, one of so many: all marks in as many parts, equal but for one mark, the lowest marks in the first
 unfoldable pub chain_of_mark : ℕ → ℕ → ℕ
 chain_of_mark mark chains = mark * chains / 4294967296
 

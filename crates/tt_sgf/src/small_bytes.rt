@@ -5,7 +5,7 @@ ghost use Rattle.std.specs.Prelude.{◌≡◌, ◌≤◌, length, take, IfOk};
 use std::alloc::{AllocError, Global};
 use std::marker::Model;
 
-/// How many bytes stand in the value itself, which has 16 then.
+/// How many bytes stand in the value itself: with them it takes 16.
 const SHORT: usize = 14;
 
 /// So many bytes of the array, or a block of them.
@@ -44,7 +44,7 @@ fn short_of(bytes: &[u8]) -> [u8; 14]
 
 impl SmallBytes {
     /// The same bytes. Fourteen at most take no memory.
-    pub fn copy_of(alloc: Global, bytes: &[u8]) -> Result<SmallBytes, AllocError>
+    pub(crate) fn copy_of(alloc: Global, bytes: &[u8]) -> Result<SmallBytes, AllocError>
         ensures { IfOk result (λ b. b ≡ bytes.now) }
     {
         if bytes.len() <= SHORT {
