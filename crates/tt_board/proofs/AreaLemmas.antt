@@ -61,7 +61,9 @@ module _ (words : List ℕ) (n : ℕ) (past : (q : ℕ) → n ≤ q → q < BITS
         let lt : i < length (part j) =
         omega (arith, length-take 64 (drop (64 * j) (range_with_len 0 n)), length-drop (64 * j) (range_with_len 0 n), length-range_with_len 0 n, inside, small) in
         let from : 0 + (64 * j + i) ≡ 64 * j + i = omega arith in
-        ap (bit_in words) (sym (get_or-take 64 (drop (64 * j) (range_with_len 0 n)) i 0 small ∙ get_or-drop (64 * j) (range_with_len 0 n) i 0 ∙ get_or-range_with_len 0 n (64 * j + i) 0 inside ∙ from))
+        let there : get_or (part j) i 0 ≡ 64 * j + i =
+        get_or-take 64 (drop (64 * j) (range_with_len 0 n)) i 0 small ∙ get_or-drop (64 * j) (range_with_len 0 n) i 0 ∙ get_or-range_with_len 0 n (64 * j + i) 0 inside ∙ from in
+        ap (bit_in words) (sym there)
         ∙ sym (get_or-map (bit_in words) (part j) i 0 false lt)
     | inr outside ↦
         let long : length (map (bit_in words) (part j)) ≤ i =

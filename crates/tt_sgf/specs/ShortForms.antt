@@ -1,6 +1,7 @@
 -- Small bytes as the code keeps them. For private contracts and proofs.
 use Rattle.std.specs.Prelude.{ℕ, ◌≤◌, List, take}
 use Rattle.tt_sgf.specs.declared.small_bytes.Form.{Form}
+use Rattle.tt_sgf.specs.declared.small_bytes.TheConstants.{SHORT}
 use Rattle.tt_sgf.specs.declared.small_bytes.Form.TheVariants.{Short, Long}
 
 -- the first ones of the array, or those of the block
@@ -10,5 +11,5 @@ kept_bytes (Long long) = long.value.items
 
 -- no more than the array has
 abbrev pub AreBytesWithin : Form → Type 0
-AreBytesWithin (Short count short) = count ≤ 14
+AreBytesWithin (Short count short) = count ≤ SHORT
 AreBytesWithin (Long long) = Unit {0}

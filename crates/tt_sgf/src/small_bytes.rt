@@ -11,7 +11,7 @@ const SHORT: usize = 14;
 /// So many bytes of the array, or a block of them.
 #[derive(Drop)]
 enum Form {
-    Short(u8, [u8; 14]),
+    Short(u8, [u8; SHORT]),
     Long(Box<Vec<u8>>),
 }
 
@@ -33,11 +33,11 @@ impl Model for SmallBytes {
 }
 
 /// So many bytes in an array.
-fn short_of(bytes: &[u8]) -> [u8; 14]
-    requires { length bytes.now ≤ 14 }
+fn short_of(bytes: &[u8]) -> [u8; SHORT]
+    requires { length bytes.now ≤ SHORT }
     ensures { take (length bytes.now) result ≡ bytes.now }
 {
-    let mut short = [0; 14];
+    let mut short = [0; SHORT];
     short[..bytes.len()].copy_from_slice(bytes);
     short
 }
