@@ -260,13 +260,18 @@ const KILLED: &str = "(;SZ[4:1]AW[ba][da]PL[B]TR[ba])|100000|512|killed ca|kille
 
 const LIVES: &str = "(;SZ[4:1]AW[ba];B[ca];W[da]TR[ba])|100000|512|lives|lives ?--!--.;";
 
-/// Whether the attacker's proof that a store has for a problem stands there.
-fn found_stands(alloc: Global, text: &[u8], store: &mut PrivateStore) -> Result<bool, Fail> {
-    let line = posed(alloc, text)?;
-    match store.find(&line, Side::Attacker)? {
-        Some(found) => Ok(found.stands_at(&line)),
+/// Whether the attacker's proof that a store has for a line stands there.
+fn found_stands_at(line: &Line, store: &mut PrivateStore) -> Result<bool, Fail> {
+    match store.find(line, Side::Attacker)? {
+        Some(found) => Ok(found.stands_at(line)),
         None => Ok(false),
     }
+}
+
+/// The same of a problem.
+fn found_stands(alloc: Global, text: &[u8], store: &mut PrivateStore) -> Result<bool, Fail> {
+    let line = posed(alloc, text)?;
+    found_stands_at(&line, store)
 }
 
 /// A line's own proof is kept, answered again, and used for another history only where it wins there.

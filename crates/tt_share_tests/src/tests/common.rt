@@ -60,13 +60,18 @@ pub(crate) fn proof_of(
     }
 }
 
-/// The proof that a search at the problem ends with.
-pub(crate) fn searched(alloc: Global, text: &[u8]) -> Result<Arc<Proof>, Fail> {
+/// How a search at the problem ends.
+fn end_of(alloc: Global, text: &[u8]) -> Result<End, Fail> {
     let Some(limits) = Limits::new(100, 500) else {
         return Err(Fail::new("no limits"));
     };
     let line = posed(alloc, text)?;
-    match Search::new(alloc, line, limits)?.run(&mut NoStore, &mut Free::new()) {
+    Ok(Search::new(alloc, line, limits)?.run(&mut NoStore, &mut Free::new()))
+}
+
+/// The proof that a search at the problem ends with.
+pub(crate) fn searched(alloc: Global, text: &[u8]) -> Result<Arc<Proof>, Fail> {
+    match end_of(alloc, text)? {
         End::Settled(proof) => Ok(Arc::new(alloc, proof)?),
         End::Stuck(_, _) => Err(Fail::new("stuck")),
     }
@@ -164,6 +169,14 @@ fn word_of(reason: Reason) -> &'static [u8] {
     }
 }
 
+/// Writes how many nodes were expanded behind each turn.
+fn put_each(out: &mut Vec<u8>, size: Size, spent: &[(Turn, u32)]) -> Result<(), Fail> {
+    for (turn, count) in spent {
+        put_spent(out, size, *turn, *count)?;
+    }
+    Ok(())
+}
+
 /// Writes why a line is stuck, the turn where its search is there, and what was spent: how many nodes that search expanded, and
 /// how many behind each turn.
 fn put_stuck(out: &mut Vec<u8>, size: Size, stuck: &Stuck) -> Result<(), Fail> {
@@ -177,10 +190,7 @@ fn put_stuck(out: &mut Vec<u8>, size: Size, stuck: &Stuck) -> Result<(), Fail> {
     }
     out.push(b' ')?;
     put_number(out, search.expanded())?;
-    for (turn, count) in &stuck.spent {
-        put_spent(out, size, *turn, *count)?;
-    }
-    Ok(())
+    put_each(out, size, stuck.spent.as_slice())
 }
 
 /// Writes whether the proof's side kills or lives, and its first turn.

@@ -170,16 +170,20 @@ fn a_drawn_job_is_searched_after_a_win(rt: HostRuntime) -> Result<(), Fail> {
 /// Holds what was told of each of three jobs: 1 once it began, 2 once it ended. What comes out of turn is counted.
 #[derive(Drop)]
 struct InTurn {
-    told: [AtomicU64; 3],
+    first: AtomicU64,
+    second: AtomicU64,
+    third: AtomicU64,
     astray: AtomicU64,
 }
 
 impl InTurn {
     /// One more thing is told of the job, of which so many were told before.
     fn tell(&self, job: usize, before: u64) {
-        let found = match self.told.get(job) {
-            Some(one) => one.fetch_add(1, Ordering::SeqCst),
-            None => 3,
+        let found = match job {
+            0 => self.first.fetch_add(1, Ordering::SeqCst),
+            1 => self.second.fetch_add(1, Ordering::SeqCst),
+            2 => self.third.fetch_add(1, Ordering::SeqCst),
+            _ => 3,
         };
         if found != before {
             self.astray.fetch_add(1, Ordering::SeqCst);
@@ -188,11 +192,10 @@ impl InTurn {
 
     /// Whether each of the jobs was told of twice, and in turn.
     fn are_told(&self) -> bool {
-        let [first, second, third] = &self.told;
         self.astray.load(Ordering::SeqCst) == 0
-            && first.load(Ordering::SeqCst) == 2
-            && second.load(Ordering::SeqCst) == 2
-            && third.load(Ordering::SeqCst) == 2
+            && self.first.load(Ordering::SeqCst) == 2
+            && self.second.load(Ordering::SeqCst) == 2
+            && self.third.load(Ordering::SeqCst) == 2
     }
 }
 
@@ -213,7 +216,9 @@ fn each_in_turn<R: Threads + Wait + Sync>(
     workers: usize,
 ) -> Result<bool, Fail> {
     let gate = InTurn {
-        told: [AtomicU64::new(0), AtomicU64::new(0), AtomicU64::new(0)],
+        first: AtomicU64::new(0),
+        second: AtomicU64::new(0),
+        third: AtomicU64::new(0),
         astray: AtomicU64::new(0),
     };
     Ok(is_solved(rt, alloc, LONE, workers, &gate, b"lives")? && gate.are_told())
@@ -241,11 +246,16 @@ fn has_any(view: &mut View<'_>, line: &Line) -> Option<bool> {
     Some(attacker.is_some() || defender.is_some())
 }
 
+/// Whether a new view of the log has a proof of a line's key.
+fn is_there_at(alloc: Global, log: &CertLog, line: &Line) -> Option<bool> {
+    let mut view = View::new(alloc, log).ok()?;
+    has_any(&mut view, line)
+}
+
 /// Whether a new view of the log has a proof of the line behind a turn.
 fn is_there(alloc: Global, log: &CertLog, job: usize) -> Option<bool> {
     let line = behind(alloc, job)?;
-    let mut view = View::new(alloc, log).ok()?;
-    has_any(&mut view, &line)
+    is_there_at(alloc, log, &line)
 }
 
 impl Looking<'_> {
@@ -300,11 +310,16 @@ fn takes_nothing(view: &mut View<'_>, line: &Line) -> Option<bool> {
     Some(view.tokens().is_empty())
 }
 
+/// Whether a new view of the log takes nothing in, as it is asked for the proofs of a line.
+fn is_empty_at(alloc: Global, log: &CertLog, line: &Line) -> Result<bool, Fail> {
+    let mut view = View::new(alloc, log)?;
+    Ok(takes_nothing(&mut view, line) == Some(true))
+}
+
 /// Whether a new view of the log takes nothing in.
 fn is_empty(alloc: Global, log: &CertLog) -> Result<bool, Fail> {
     let line = posed(alloc, SPLIT)?;
-    let mut view = View::new(alloc, log)?;
-    Ok(takes_nothing(&mut view, &line) == Some(true))
+    is_empty_at(alloc, log, &line)
 }
 
 /// Whether the log is empty behind a run of one worker under a total of one.
