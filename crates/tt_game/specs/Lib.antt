@@ -9,6 +9,7 @@ pub mod Turns
 pub mod Keys
 pub mod SameKey
 pub mod Mixing
+pub mod Seen
 pub mod KeyHash
 pub mod Laws
 pub mod Line
@@ -22,7 +23,6 @@ pub mod RecordLaws
 pub mod Undoing
 pub mod Members
 pub mod Roots
-pub mod Seen
 pub mod TurnLaws
 pub mod KeyLaws
 pub mod SideLaws

@@ -1,4 +1,4 @@
--- Prints of colourings, and which of them were noted. Private contracts alone cite these: they say nothing of a game.
+-- Prints, and which of them were noted. They say nothing of a game.
 use Rattle.std.specs.Prelude.{◌≡◌, ℕ, ◌*◌, ◌/◌, ◌%◌, ◌^◌, ◌<◌, List, length, get_or, true}
 use Rattle.tt_sgf.specs.declared.bits.Bits.{Bits}
 use Rattle.tt_sgf.specs.declared.bits.TheConstants.{BITS}

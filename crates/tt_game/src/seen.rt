@@ -1,4 +1,4 @@
-//! Which colourings were, told by prints: most new colourings are known as new without a look at the history.
+//! What was, told by prints: most of what is new is known as new without a look at what was.
 
 ghost use Rattle.std.specs.Prelude.{◌≡◌, ℕ, ◌*◌, ◌/◌, ◌%◌, ◌^◌, ◌<◌, ◌↔◌, length, slice_set, All, IsTrue, Some, None};
 ghost use Rattle.tt_sgf.specs.Sizes.{point_count};
@@ -15,7 +15,7 @@ use tt_board::{Board, Colour};
 use tt_sgf::{BITS, Bits, Point};
 
 /// How many prints there are: a bit for each fills 128 rows of `BITS`.
-const PRINTS: usize = 49152;
+pub const PRINTS: usize = 49152;
 
 /// An odd number with bits of both kinds all over: 2^64 by the golden ratio.
 pub(crate) const MIXER: u64 = 0x9e37_79b9_7f4a_7c15;
@@ -42,10 +42,11 @@ const WEIGHTS: [u64; 12] = [
 /// How many rows have a bit for each print.
 const ROWS: usize = 128;
 
-/// A bit for each print; it is 1 where a colouring with that print was noted. Two colourings may have one print, so a bit that is
-/// 1 says nothing. Without rows, as without memory for them, each print counts as noted: then nothing is told.
+/// A bit for each print, a number below `PRINTS`; it is 1 where something with that print was noted. Two things may have one print,
+/// so a bit that is 1 says nothing. Without rows, as without memory for them, each print counts as noted: then nothing is told.
+/// With them it takes 6,144 bytes.
 #[derive(Drop)]
-pub(crate) struct Seen {
+pub struct Seen {
     rows: Vec<Bits>,
 }
 
@@ -107,7 +108,7 @@ pub(crate) fn print_of(board: &Board) -> usize
 
 impl Seen {
     /// Tells nothing, and takes no memory.
-    pub(crate) fn blind(alloc: Global) -> Seen
+    pub fn blind(alloc: Global) -> Seen
         ensures { (n : ℕ) → IsSeen result n }
     {
         Seen {
@@ -115,22 +116,28 @@ impl Seen {
         }
     }
 
-    /// The colourings of these boards, which have one size.
-    pub(crate) fn of_all(alloc: Global, boards: &[Board]) -> Seen
-        ensures { (g : Size) → All (λ b. b.size ≡ g) boards.now → AreSeen result g (colourings boards.now) }
-    {
+    /// Nothing was noted yet. Without memory for the rows it tells nothing.
+    pub fn empty(alloc: Global) -> Seen {
         let mut seen = Seen::blind(alloc);
         if seen.rows.resize(ROWS, Bits::none()).is_err() {
             return Seen::blind(alloc);
         }
+        seen
+    }
+
+    /// The colourings of these boards, which have one size.
+    pub(crate) fn of_all(alloc: Global, boards: &[Board]) -> Seen
+        ensures { (g : Size) → All (λ b. b.size ≡ g) boards.now → AreSeen result g (colourings boards.now) }
+    {
+        let mut seen = Seen::empty(alloc);
         for board in boards {
             seen.add(print_of(board));
         }
         seen
     }
 
-    /// Notes the colouring with this print.
-    pub(crate) fn add(&mut self, print: usize)
+    /// Notes what has this print.
+    pub fn add(&mut self, print: usize)
         ensures here { IsSeen self.new print }
         ensures still { (n : ℕ) → IsSeen self.old n → IsSeen self.new n }
     {
@@ -140,8 +147,8 @@ impl Seen {
         }
     }
 
-    /// Whether a colouring with this print was noted. Where none was, no colouring that has it was.
-    pub(crate) fn has(&self, print: usize) -> bool
+    /// Whether anything with this print was noted. Where nothing was, nothing that has it was.
+    pub fn has(&self, print: usize) -> bool
         ensures { IsTrue result ↔ IsSeen self.now print }
     {
         let row = print / BITS;

@@ -1,19 +1,22 @@
 -- The chains of an index, and how they lead to the newest proof of a key and side.
-use Rattle.std.proofs.Common.{◌≡◌, ◌≢◌, ℕ, zero, suc, ◌+◌, ◌-◌, ◌*◌, ◌<◌, ◌≤◌, Bool, true, false, cond, List, [], ◌∷◌, ◌++◌, length, get_or, nat_eq, Option, Some, None, slice_get}
+use Rattle.std.proofs.Common.{◌≡◌, ◌≢◌, ℕ, zero, suc, ◌+◌, ◌-◌, ◌*◌, ◌%◌, ◌<◌, ◌≤◌, Bool, true, false, cond, List, [], ◌∷◌, ◌++◌, length, length-append, get_or, nat_eq, Option, Some, None, slice_get}
 use Rattle.std.proofs.Common.{reverse, IsTrue, ◌↔◌, inl, inr, refl, sym, ap, ◌∙◌, subst, arith}
 use Rattle.std.specs.Option.{option_map}
 use Rattle.std.proofs.lemmas.Bool.{cases_lt, false≢true}
-use Rattle.std.proofs.lemmas.List.{reverse-append, get_or_append_left, get_or_read, length-map}
+use Rattle.std.proofs.lemmas.List.{reverse-append, get_or_append_left, get_or_push, get_or_read, length-map}
 use Rattle.std.proofs.lemmas.Nat.{div_below, mul-lt}
 use Rattle.std.proofs.Math.Nat.{mul-lt-mul_of_pos_right, mul_comm}
 use Rattle.std.proofs.lemmas.Option.{slice_get_within, slice_get-map, get_or_from_slice_get}
 use Rattle.tt_game.specs.declared.frame.Side.{Side}
+use Rattle.tt_game.specs.declared.seen.Seen.{Seen}
+use Rattle.tt_game.specs.declared.seen.TheConstants.{PRINTS}
 use Rattle.tt_game.specs.Keys.{key_of}
 use Rattle.tt_game.specs.Line.{Standing}
+use Rattle.tt_game.specs.Seen.{IsSeen}
 use Rattle.tt_proof.specs.Proven.{Proven}
 use Rattle.tt_search.specs.Stores.{AnswersFor, IsNewest}
 use Rattle.tt_search.specs.KeyIndex.{key_mark, key_marks}
-use Rattle.tt_search.specs.KeyChains.{last_place, chain_of_mark, in_chain, IsChained, NoneFrom, UnmarkedFrom}
+use Rattle.tt_search.specs.KeyChains.{last_place, chain_of_mark, in_chain, AreSeenMarks, IsChained, NoneFrom, UnmarkedFrom}
 
 -- ---- the last place that passes a test
 
@@ -228,3 +231,11 @@ pub before_inside : (heads before marks : List ℕ) (mark place next : ℕ) → 
     → next ≡ get_or before place 0 → 0 < next → chain_of_mark (get_or marks (next - 1) 0) (length heads) ≡ chain_of_mark mark (length heads)
 before_inside heads before marks mark place next chained within same is =
     leads_inside marks (length heads) (chain_of_mark mark (length heads)) place next (is ∙ chained.before_leads place within ∙ ap (λ c. last_place (in_chain marks (length heads) c) place) same)
+
+-- one more mark is noted
+pub seen_more : (before after : Seen) (marks : List ℕ) (mark : ℕ) → AreSeenMarks before marks → IsSeen after (mark % PRINTS) → ((n : ℕ) → IsSeen before n → IsSeen after n)
+    → AreSeenMarks after (marks ++ mark ∷ [])
+seen_more before after marks mark was here still place within = elim (cases_lt place (length marks)) [
+  | inl h ↦ subst (λ n. IsSeen after (n % PRINTS)) (sym (get_or_append_left marks (mark ∷ []) 0 place h)) (still _ (was place h))
+  | inr h ↦ subst (λ n. IsSeen after (n % PRINTS)) (sym (get_or_push marks mark 0 place (omega (arith, h, within, length-append marks (mark ∷ []))))) here
+]

@@ -1,7 +1,10 @@
 -- How an index leads to the last proof of a key and side. Only private contracts cite these.
-use Rattle.std.specs.Prelude.{◌≡◌, ◌≢◌, ℕ, zero, suc, ◌-◌, ◌*◌, ◌/◌, ◌<◌, ◌≤◌, Bool, List, length, cond, get_or, nat_eq, slice_get, Some}
+use Rattle.std.specs.Prelude.{◌≡◌, ◌≢◌, ℕ, zero, suc, ◌-◌, ◌*◌, ◌/◌, ◌%◌, ◌<◌, ◌≤◌, Bool, List, length, cond, get_or, nat_eq, slice_get, Some}
 use Rattle.tt_game.specs.declared.frame.Side.{Side}
+use Rattle.tt_game.specs.declared.seen.Seen.{Seen}
+use Rattle.tt_game.specs.declared.seen.TheConstants.{PRINTS}
 use Rattle.tt_game.specs.Line.{Standing}
+use Rattle.tt_game.specs.Seen.{IsSeen}
 use Rattle.tt_proof.specs.Proven.{Proven}
 use Rattle.tt_search.specs.Stores.{AnswersFor}
 
@@ -29,6 +32,10 @@ pub record AreLongEnough (heads before marks : List ℕ) : Type 0 where
   pub one_each : length before ≡ length marks
   pub enough : length marks ≤ length heads
   pub few : length heads < 4294967296
+
+-- the prints of the marks were noted
+abbrev pub AreSeenMarks : Seen → List ℕ → Type 0
+AreSeenMarks seen marks = (place : ℕ) → place < length marks → IsSeen seen (get_or marks place 0 % PRINTS)
 
 -- no proof answers from this place on
 abbrev pub NoneFrom : Standing → Side → List Proven → ℕ → Type 0

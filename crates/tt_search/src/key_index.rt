@@ -1,7 +1,8 @@
 //! An index of the last proof of each key and side.
 
-ghost use Rattle.std.specs.Prelude.{◌≡◌, ℕ, ◌+◌, ◌/◌, ◌<◌, ◌++◌, ◌∷◌, [], ◌↔◌, List, Some, IfOk, IfSome, IsTrue, length, vec_len, vec_capacity, reverse, slice_get};
+ghost use Rattle.std.specs.Prelude.{◌≡◌, ℕ, ◌+◌, ◌/◌, ◌%◌, ◌<◌, ◌++◌, ◌∷◌, [], ◌↔◌, List, Some, IfOk, IfSome, IsTrue, length, vec_len, vec_capacity, reverse, slice_get};
 ghost use Rattle.tt_game.specs.Keys.{key_of};
+ghost use Rattle.tt_game.specs.declared.seen.TheConstants.{PRINTS};
 ghost use Rattle.tt_proof.specs.Proven.{Proven};
 ghost use Rattle.tt_game.specs.declared.frame.Side.TheVariants.{Attacker, Defender};
 ghost use Rattle.tt_search.specs.Stores.{AnswersFor, IsNewest};
@@ -10,7 +11,7 @@ ghost use Rattle.tt_search.specs.KeyChains.{chain_of_mark, AreLongEnough, IsChai
 
 use std::alloc::Global;
 use std::marker::Model;
-use tt_game::{Line, Side};
+use tt_game::{Line, PRINTS, Seen, Side};
 use tt_proof::Proof;
 use tt_sgf::NoMemory;
 
@@ -22,6 +23,13 @@ pub trait ProofRow {
     fn proof(&self, place: usize) -> &Proof
         requires { place < length (proofs self.now) }
         ensures { slice_get (proofs self.now) place ≡ Some result.now };
+}
+
+/// The print of a mark, by which the index knows most marks as new at once.
+fn print_of_mark(mark: u32) -> usize
+    ensures { result ≡ mark % PRINTS }
+{
+    mark as usize % PRINTS
 }
 
 /// Whether the proof has the line's key and is for the side.
@@ -109,19 +117,21 @@ fn grow(
 
 /// An index of the last proof of each key and side, in a row of proofs that only grows. It holds no proofs and no keys, but
 /// a mark of 32 bits for each proof, by which the proofs are in chains; it looks at the proofs that it is shown. It takes
-/// 8 bytes a proof and 4 bytes a chain; there are at least as many chains as proofs, and at most twice as many or 16.
+/// 8 bytes a proof and 4 bytes a chain; there are at least as many chains as proofs, and at most twice as many or 16. Most lines
+/// have a key that no proof has, and for most of these one look at the prints of the marks says so: these take 6 KB more.
 #[derive(Drop)]
 pub struct KeyIndex {
     alloc: Global,
     heads: Vec<u32>,
     before: Vec<u32>,
     marks: Vec<u32>,
+    seen: Seen,
 }
 
 impl Model for KeyIndex {
     ghost use Rattle.std.specs.Prelude.{◌-◌, min, length, vec_len, vec_capacity};
     ghost use Rattle.tt_search.specs.KeyIndex.{Marking};
-    ghost use Rattle.tt_search.specs.KeyChains.{AreLongEnough, IsChained};
+    ghost use Rattle.tt_search.specs.KeyChains.{AreLongEnough, AreSeenMarks, IsChained};
 
     ghost Value = { Marking };
 
@@ -133,6 +143,7 @@ impl Model for KeyIndex {
     ghost invariant = { λ t. record {
       sized : AreLongEnough t.heads.items t.before.items t.marks.items;
       chained : IsChained t.heads.items t.before.items t.marks.items (length t.marks.items);
+      seen : AreSeenMarks t.seen t.marks.items;
     } };
 }
 
@@ -146,6 +157,7 @@ impl KeyIndex {
             heads: Vec::new(alloc),
             before: Vec::new(alloc),
             marks: Vec::new(alloc),
+            seen: Seen::blind(alloc),
         }
     }
 
@@ -156,6 +168,9 @@ impl KeyIndex {
     {
         self.marks.reserve(1)?;
         self.before.reserve(1)?;
+        if self.marks.is_empty() {
+            self.seen = Seen::empty(self.alloc);
+        }
         if self.heads.len() == self.marks.len() {
             grow(self.alloc, &mut self.heads, &mut self.before, &self.marks)?;
         }
@@ -168,13 +183,25 @@ impl KeyIndex {
         ensures { self.new.marks ≡ self.old.marks ++ key_marks (p.now ∷ []) }
     {
         let place = self.marks.len();
-        self.marks.push_reserved(p.key_print());
+        let mark = p.key_print();
+        self.marks.push_reserved(mark);
+        self.seen.add(print_of_mark(mark));
         self.before.push_reserved(0);
         link(&mut self.heads, &mut self.before, &self.marks, place);
     }
 
     /// One more than the last place with the mark, or 0 where none has it.
     fn last_marked(&self, mark: u32) -> usize
+        ensures { IsLastMarked self.now.marks mark result }
+    {
+        if !self.seen.has(print_of_mark(mark)) {
+            return 0;
+        }
+        self.last_in_chain(mark)
+    }
+
+    /// One more than the last place with the mark in the mark's chain, or 0 where none has it.
+    fn last_in_chain(&self, mark: u32) -> usize
         ensures { IsLastMarked self.now.marks mark result }
     {
         if self.heads.is_empty() {

@@ -2,7 +2,7 @@ use Rattle.std.proofs.Common.{arith, ◌≢◌, ◌-◌, ◌+◌, ◌<◌, ◌�
 use Rattle.std.proofs.lemmas.List.{get_or_read}
 use Rattle.tt_search.specs.KeyChains.{UnmarkedFrom}
 use Rattle.tt_search.proofs.Chains.{chain_within, chain_read, head_low, head_inside, before_low, before_inside, unmarked_past_head, unmarked_past_next}
-use Rattle.tt_search.proofs.key_index.KeyIndex.last_marked.Goals as goal
+use Rattle.tt_search.proofs.key_index.KeyIndex.last_in_chain.Goals as goal
 
 pub loop-next-init : goal.loop-next-init
 loop-next-init c =

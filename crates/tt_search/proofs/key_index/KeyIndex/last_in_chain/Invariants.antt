@@ -1,6 +1,6 @@
 use Rattle.std.proofs.Common.{◌≡◌, ◌-◌, ◌<◌, ◌≤◌, length, get_or}
 use Rattle.tt_search.specs.KeyChains.{chain_of_mark, UnmarkedFrom}
-use Rattle.tt_search.proofs.key_index.KeyIndex.last_marked.Given as goal
+use Rattle.tt_search.proofs.key_index.KeyIndex.last_in_chain.Given as goal
 
 abbrev pub invariant-loop-next : goal.invariant-loop-next
 invariant-loop-next l = record {
