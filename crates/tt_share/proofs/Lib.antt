@@ -15,6 +15,7 @@ pub mod LastWins
 pub mod Placing
 pub mod Wins
 pub mod Drawn
+pub mod Keeping
 pub mod Counting
 pub mod Noting
 pub mod Asked

@@ -1,5 +1,5 @@
 -- What workers hand back. Only private contracts cite these.
-use Rattle.std.specs.Prelude.{◌≡◌, ℕ, ◌+◌, ◌++◌, ◌<◌, ◌≤◌, ◌⊎◌, Bool, IsTrue, All, List, Option, length, map, Some, None, slice_get, sum_by, count_by, nat_eq}
+use Rattle.std.specs.Prelude.{◌≡◌, ℕ, ◌+◌, ◌++◌, ◌<◌, ◌≤◌, ◌⊎◌, Bool, IsTrue, All, List, [], ◌∷◌, Option, length, map, Some, None, slice_get, sum_by, count_by, nat_eq}
 use Rattle.tt_game.specs.declared.frame.Side.{Side}
 use Rattle.tt_game.specs.Line.{Standing}
 use Rattle.tt_search.specs.declared.limits.Limits.{Limits}
@@ -30,6 +30,17 @@ AddsSpare jobs before after = (spare : List ℕ) × (after ≡ before ++ spare) 
 abbrev pub AllDrawn : ℕ → List SeatView → List HandedBack → Type 0
 AllDrawn jobs seats work = (i : ℕ) (seat : SeatView) (back : HandedBack) → slice_get seats i ≡ Some seat → slice_get work i ≡ Some back
     → AddsSpare jobs (seat.numbers ++ jobs_of back.found.items) back.seat.numbers
+
+-- the result, or what is kept of it where its search is dropped
+abbrev pub IsTrimmed : Found → Found → Type 0
+IsTrimmed before after = (dropped : Bool) × (after ≡ record before { end = kept_of dropped before.end })
+
+-- so it is with each of them
+abbrev pub AreTrimmed : List Found → List Found → Type 0
+AreTrimmed [] [] = Unit {0}
+AreTrimmed [] (g ∷ gs) = ⊥
+AreTrimmed (f ∷ fs) [] = ⊥
+AreTrimmed (f ∷ fs) (g ∷ gs) = IsTrimmed f g × AreTrimmed fs gs
 
 -- how often the job is among those of the results
 abbrev pub times : ℕ → List Found → ℕ

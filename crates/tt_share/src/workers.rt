@@ -1,13 +1,13 @@
 //! Workers: threads that draw the jobs of a line at a desk and search them, and what comes back of them.
 
-ghost use Rattle.std.specs.Prelude.{◌≡◌, ◌≤◌, ◌<◌, ◌↔◌, ◌+◌, ◌^◌, ◌⊎◌, ◌||◌, ℕ, [], ◌∷◌, ◌++◌, All, None, IfOk, IfNone, IfSome, IsTrue, length, sum_by, vec_len, vec_capacity};
+ghost use Rattle.std.specs.Prelude.{Bool, ◌≡◌, ◌≤◌, ◌<◌, ◌↔◌, ◌+◌, ◌^◌, ◌⊎◌, ◌||◌, ℕ, [], ◌∷◌, ◌++◌, All, None, IfOk, IfNone, IfSome, IsTrue, length, sum_by, vec_len, vec_capacity};
 ghost use Rattle.tt_game.specs.Line.{GoesOn};
-ghost use Rattle.tt_share.specs.Jobs.{IsResultOf, IsJobCount, AsksFor, IsResult};
+ghost use Rattle.tt_share.specs.Jobs.{IsResultOf, IsJobCount, AsksFor, IsResult, IsLineOf, kept_of};
 ghost use Rattle.tt_share.specs.Results.{KeepsEnds};
 ghost use Rattle.tt_share.specs.Answers.{spent_in_all};
 ghost use Rattle.tt_share.specs.Seats.{SeatView, seat_of};
 ghost use Rattle.tt_share.specs.declared.workers.HandedBack.{HandedBack};
-ghost use Rattle.tt_share.specs.Workers.{SomeWin, IsWork, held, times, spent_on, spent_by_all, AreApart, AllApart, IsPlaced, AllPlaced, AddsSpare, AllDrawn, jobs_of, AreGiven, AllGiven};
+ghost use Rattle.tt_share.specs.Workers.{SomeWin, IsWork, held, times, spent_on, spent_by_all, AreApart, AllApart, IsPlaced, AllPlaced, AddsSpare, AllDrawn, AreTrimmed, jobs_of, AreGiven, AllGiven};
 
 use crate::desk::{Desk, Seat};
 use crate::ended::{Ended, is_stuck, trimmed_to};
@@ -84,9 +84,18 @@ fn next_job(grants: &mut SeatGrants<'_>, found: &mut Vec<Found>) -> Option<usize
     grants.desk.draw(&mut grants.seat)
 }
 
+/// A result as a worker keeps it: without its search where the desk knows of a lesser stuck job. Then its line is left in `spare`.
+fn trimmed_at(desk: &Desk, job: usize, end: Ended, spare: &mut Option<Line>) -> Ended
+    ensures kept { (past_stuck : Bool) × (result ≡ kept_of past_stuck end) }
+    ensures spare { IfSome spare.new (IsLineOf end) }
+{
+    let past_stuck = is_stuck(&end) && desk.tell_stuck(job);
+    trimmed_to(past_stuck, end, spare)
+}
+
 /// Draws jobs and searches them until no job is left, the mark is seen or memory is refused. Room for a result comes
 /// before its draw, so each job that was drawn has its result. A job that is settled for the side to move raises the mark.
-/// The jobs of a worker rise, so it keeps the search of its first stuck job alone; the line of another one serves the next job.
+/// It keeps the search of a stuck job only where the desk knows of no lesser one; the line of another one serves the next job.
 pub(crate) fn work<S: Store, G: Gate>(
     jobs: &Jobs<'_>,
     desk: &Desk,
@@ -101,19 +110,40 @@ pub(crate) fn work<S: Store, G: Gate>(
     ensures mark { IsTrue result.seat.mark → IsTrue seat.mark ⊎ SomeWin jobs.now.line.now.state.to_move result.found.items }
 {
     let mut found = Vec::new(jobs.alloc);
-    let mut past_stuck = false;
     let mut spare = None;
     let mut grants = SeatGrants::new(desk, seat);
     while let Some(job) = next_job(&mut grants, &mut found) {
         let line = spare.take();
         let (end, spent) = search_drawn(jobs, gate, job, line, store, &mut grants);
-        let end = trimmed_to(past_stuck, end, &mut spare);
-        past_stuck = past_stuck || is_stuck(&end);
+        let end = trimmed_at(desk, job, end, &mut spare);
         raise_for(&mut grants, jobs.is_won(&end));
         found.push_reserved(Found { job, end, spent });
     }
     let seat = grants.into_seat();
     HandedBack { seat, found }
+}
+
+/// Drops the search of a result, if it holds one.
+fn drop_search(found: &mut Vec<Found>, place: usize)
+    requires { place < vec_len found.old }
+    ensures kept { AreTrimmed found.old.items found.new.items }
+    ensures len { vec_len found.new ≡ vec_len found.old }
+{
+    if is_stuck(&found[place].end) {
+        found[place].end = Ended::nowhere();
+    }
+}
+
+/// Drops the searches of stuck jobs behind the least one that the desk knows of. Several workers do so side by side, where the
+/// caller would drop one after the other.
+fn drop_past_stuck(desk: &Desk, found: &mut Vec<Found>)
+    ensures { AreTrimmed found.old.items found.new.items }
+{
+    for place in 0..found.len() {
+        if desk.knows_stuck_below(found[place].job) {
+            drop_search(found, place);
+        }
+    }
 }
 
 /// Works over a view of the log. Where there is no memory for a view it hands its seat back, and no results.
@@ -133,7 +163,9 @@ fn work_over<R: Wait, G: Gate>(
     match View::new(jobs.alloc, log) {
         Ok(view) => {
             let mut store = LogStore::new(rt, view);
-            work(jobs, desk, gate, seat, &mut store)
+            let HandedBack { seat, mut found } = work(jobs, desk, gate, seat, &mut store);
+            drop_past_stuck(desk, &mut found);
+            HandedBack { seat, found }
         }
         Err(_) => HandedBack {
             seat,

@@ -57,9 +57,9 @@ loop-job-preserved g c =
     let side = c.args.jobs.now.line.now.state.to_move in
     let line = c.args.jobs.now.line.now in
     let limits = c.args.jobs.now.limits in
-    let past = c.loop-job.past_stuck in
+    let past = c.trimmed_at-end.ensures.kept.0 in
     let ended = c.search_drawn-end in
-    let f : Found = record { job = c.in-Some.job; end = c.trimmed_to-end.result; spent = ended.result.1 } in
+    let f : Found = record { job = c.in-Some.job; end = c.trimmed_at-end.result; spent = ended.result.1 } in
     let before = c.next_job.new.grants in
     let searched = ended.new.grants in
     let after = c.raise_for.new.grants in
@@ -71,8 +71,8 @@ loop-job-preserved g c =
     let all : c.push_reserved.new.self.items ≡ c.loop-job.found.items ++ f ∷ [] = pushed c.loop-job.found.items c.next_job.new.found.items c.push_reserved.new.self.items
     f c.push_reserved.ensures.items c.next_job.ensures.found in
     let this : IsResult line limits f = (
-      subst (IsResultOf line limits c.in-Some.job) (sym c.trimmed_to-end.ensures.kept) (kept_result line limits c.in-Some.job past ended.result.0 ended.ensures.ends),
-      subst (IsJobCount line limits c.in-Some.job ended.result.1) (sym c.trimmed_to-end.ensures.kept) (kept_count line limits c.in-Some.job past ended.result.1 ended.result.0 ended.ensures.counted),
+      subst (IsResultOf line limits c.in-Some.job) (sym c.trimmed_at-end.ensures.kept.1) (kept_result line limits c.in-Some.job past ended.result.0 ended.ensures.ends),
+      subst (IsJobCount line limits c.in-Some.job ended.result.1) (sym c.trimmed_at-end.ensures.kept.1) (kept_count line limits c.in-Some.job past ended.result.1 ended.result.0 ended.ensures.counted),
     ) in
     let more = All-push (IsResult line limits) c.loop-job.found.items f c.loop-job.invariant.found this in
     let down : IsTrue before.seat.mark → ⊥ = λ up. not_none c.next_job.result c.in-Some.job c.in-Some.is (c.next_job.ensures.stopped (left_true before.seat.mark before.seat.sighting up)).0 in
@@ -114,7 +114,7 @@ loop-job-preserved g c =
         c.raise_for.ensures.counts.0,
       );
       refused = λ h. c.raise_for.ensures.counts.1 ∙ refused_more c.loop-job.found.items c.push_reserved.new.self.items f c.loop-job.grants.refused searched.refused all
-          (λ stuck. ended.ensures.asks.refused (total_kept past ended.result.0 (subst IsForTotal c.trimmed_to-end.ensures.kept stuck)))
+          (λ stuck. ended.ensures.asks.refused (total_kept past ended.result.0 (subst IsForTotal c.trimmed_at-end.ensures.kept.1 stuck)))
           (λ up. ended.ensures.asks.still (c.next_job.ensures.counts.1 ∙ up)) c.loop-job.invariant.refused h;
       found = subst (All (IsResult line limits)) (sym all) more;
       wins = subst (WinsAreLast side after.seat.mark) (sym all)
@@ -122,7 +122,7 @@ loop-job-preserved g c =
           (λ win. (marked after.seat.mark before.seat.mark won mark down).1 (c.is_won.ensures.1 win)) c.loop-job.invariant.wins);
       drawn = drawn_more c.args.seat.numbers c.loop-job.grants.seat.numbers before.seat.numbers after.seat.numbers c.loop-job.found.items c.push_reserved.new.self.items
           f c.loop-job.invariant.drawn c.in-Some.ensures.job.2 numbers all;
-      spare = spare_goes_on line limits c.in-Some.job ended.result.0 c.trimmed_to-end.new.spare inside ended.ensures.ends c.trimmed_to-end.ensures.spare;
+      spare = spare_goes_on line limits c.in-Some.job ended.result.0 c.trimmed_at-end.new.spare inside ended.ensures.ends c.trimmed_at-end.ensures.spare;
       mark = λ up. inr (subst (SomeWin side) (sym all) (last_wins side c.loop-job.found.items f (c.is_won.ensures.0 ((marked after.seat.mark before.seat.mark won mark down).0 up))));
     }
 
