@@ -41,20 +41,21 @@ fn write_line<W: Write>(
     }
 }
 
-/// Writes what becomes of a tree by its main line, and says whether it was refused.
+/// Writes what becomes of a tree by its main line, and says whether it was refused. What the last tree took isn't freed.
 fn answer_tree<X: Threads + Wait + Sync, W: Write>(
     rt: &X,
     alloc: Global,
     task: &Task,
     number: usize,
     main: &MainLine,
+    last: bool,
     writer: &mut Watched<W>,
 ) -> Result<bool, RunFault>
     requires { writer.old.failed ≡ false }
     ensures written { WritesOutcome (MakesOutcome task.now) number main.now.nodes result (W.contents writer.old.device) (W.contents writer.new.device) }
     ensures failed { writer.new.failed ≡ is_output_fault result }
 {
-    let Ok(outcome) = task.outcome(rt, alloc, main) else {
+    let Ok(outcome) = task.outcome(rt, alloc, main, last) else {
         return Err(RunFault::Memory);
     };
     match write_line(alloc, writer, number, &outcome) {
@@ -101,11 +102,12 @@ fn answer_trees<X: Threads + Wait + Sync, W: Write>(
     while number == 1 || has_tree(rest) {
         match read_tree(alloc, rest) {
             Ok((main, used)) => {
-                match answer_tree(rt, alloc, task, number, &main, writer) {
+                rest = &rest[used..];
+                let last = !has_tree(rest);
+                match answer_tree(rt, alloc, task, number, &main, last, writer) {
                     Ok(bad) => refused |= bad,
                     Err(fault) => return Err(fault),
                 }
-                rest = &rest[used..];
                 number += 1;
             }
             Err(SgfFault::Syntax) => return refuse(alloc, writer, number, 1),
