@@ -16,6 +16,7 @@ pub mod Placing
 pub mod Wins
 pub mod Drawn
 pub mod Keeping
+pub mod Relaying
 pub mod Counting
 pub mod Noting
 pub mod Asked

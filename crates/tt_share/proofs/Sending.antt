@@ -22,6 +22,7 @@ use Rattle.std.specs.contracts.sync.Arc as Arc
 use Rattle.std.specs.contracts.vec.Vec as Vec
 use Rattle.atomic_table.specs.contracts.shared.Seat as TableSeat
 use Rattle.atomic_table.proofs.Sent.{seat_keyless}
+use Rattle.atomic_table.proofs.owned.Table.TheSendSync.{the_sync as places_sync}
 use Rattle.tt_board.specs.contracts.board.Board as Board
 use Rattle.tt_board.specs.contracts.counted.CountedBoard as CountedBoard
 use Rattle.tt_game.specs.contracts.frame.Side as Side
@@ -53,7 +54,7 @@ use Rattle.boxcar.specs.contracts.vec.AnythingKeeps.TheImpl as any
 use Rattle.boxcar.specs.contracts.tag.Tag as Tag
 use Rattle.tt_share.specs.contracts.desk.Desk as Desk
 use Rattle.tt_share.specs.contracts.desk.Seat as Seat
-use Rattle.tt_share.specs.contracts.jobs.Jobs as Jobs
+use Rattle.tt_share.specs.contracts.relay.Relay as Relay
 use Rattle.tt_share.proofs.desk.Desk.TheSendSync.{the_sync as desk_sync}
 use Rattle.tt_share.proofs.jobs.Jobs.TheSendSync.{the_sync as jobs_sync}
 use Rattle.tt_share.specs.contracts.log.CertLog as CertLog
@@ -284,12 +285,19 @@ entries_sync = view_sync _ _ _ _ _ (declared_sync (EntriesInside.the_type Handle
 pub log_sync : IsSync CertLog.the_row
 log_sync = view_sync _ _ _ _ _ (declared_sync LogInside.the_type (as_row_sync (Entries.the_field Handle Global.the_row Anything.the_row ghosts (any.ghosts Handle)) entries_sync, tt))
 
--- the closure that each worker runs holds a handle of the system, the jobs, the desk, the log and the gate, all shared
-pub worker_sync : (ν : Sym) (R G : RattleType) (a b c d e f : NamedLft) → IsSync R → IsSync G
-    → IsSync (TupleAt ν ((shr_ref_field a (param 0 R) tt).row ∷ (shr_ref_field b (Jobs.the_row c) tt).row ∷ (shr_ref_field d Desk.the_row tt).row
-    ∷ (shr_ref_field e CertLog.the_row tt).row ∷ (shr_ref_field f (param 1 G) tt).row ∷ []))
-worker_sync ν R G a b c d e f r g = declared_sync (type_at ν ((shr_ref_field a (param 0 R) tt).row ∷ (shr_ref_field b (Jobs.the_row c) tt).row
-    ∷ (shr_ref_field d Desk.the_row tt).row ∷ (shr_ref_field e CertLog.the_row tt).row ∷ (shr_ref_field f (param 1 G) tt).row ∷ [])) (
+-- a relay is shared, where its jobs are and results cross threads
+relay_sync : (a b : NamedLft) → IsSync (Relay.the_row a b)
+relay_sync a b = declared_sync (Relay.the_type a b) (
+  search (sendable, jobs_sync) depth 20,
+  (search sendable depth 20, (search sendable depth 20, (search (sendable, crosses, places_sync, found_send) depth 40, tt))),
+)
+
+-- the closure that each worker runs holds a handle of the system, the relay, the desk, the log and the gate, all shared
+pub worker_sync : (ν : Sym) (R G : RattleType) (a b c d e f h : NamedLft) → IsSync R → IsSync G
+    → IsSync (TupleAt ν ((shr_ref_field a (param 0 R) tt).row ∷ (shr_ref_field b (Relay.the_row c d) tt).row ∷ (shr_ref_field e Desk.the_row tt).row
+    ∷ (shr_ref_field f CertLog.the_row tt).row ∷ (shr_ref_field h (param 1 G) tt).row ∷ []))
+worker_sync ν R G a b c d e f h r g = declared_sync (type_at ν ((shr_ref_field a (param 0 R) tt).row ∷ (shr_ref_field b (Relay.the_row c d) tt).row
+    ∷ (shr_ref_field e Desk.the_row tt).row ∷ (shr_ref_field f CertLog.the_row tt).row ∷ (shr_ref_field h (param 1 G) tt).row ∷ [])) (
       search sendable depth 20,
-      (search (sendable, jobs_sync) depth 20, (search (sendable, desk_sync) depth 20, (search (sendable, log_sync) depth 20, (search sendable depth 20, tt)))),
+      (search (sendable, relay_sync) depth 20, (search (sendable, desk_sync) depth 20, (search (sendable, log_sync) depth 20, (search sendable depth 20, tt)))),
     )

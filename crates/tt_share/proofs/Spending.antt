@@ -1,5 +1,5 @@
 -- All of a total is spent where a search was refused.
-use Rattle.std.proofs.Common.{◌≡◌, ℕ, zero, suc, ◌+◌, ◌<◌, ◌≤◌, List, [], ◌∷◌, ◌++◌, Option, Some, None, All, Contains, Bool, true, false, slice_get, replicate, sum_by, count_by, cond, leb, nat_eq}
+use Rattle.std.proofs.Common.{◌≡◌, ℕ, zero, suc, ◌+◌, ◌<◌, ◌≤◌, List, [], ◌∷◌, ◌++◌, Option, Some, None, All, Contains, Bool, true, false, IfSome, slice_get, replicate, sum_by, count_by, cond, leb, nat_eq}
 use Rattle.std.proofs.Common.{MatchOption}
 use Rattle.std.proofs.Common.{inl, inr, true≢false, refl, sym, ap, subst, ◌∙◌, arith, zero-le}
 use Rattle.std.proofs.lemmas.Bool.{cases_lt}
@@ -21,7 +21,7 @@ use Rattle.tt_share.specs.Jobs.{IsForTotal}
 use Rattle.tt_share.specs.Results.{Progress, HasTotal, IsAllSpent, SpendsTotal, AskedFor}
 use Rattle.tt_share.specs.Seats.{DeskView, SeatView, EndsSpare, EachOnce, Spends, Closes, granted_of, last_number, occurrences}
 use Rattle.tt_share.specs.Tallies.{Tallies}
-use Rattle.tt_share.specs.Workers.{times, spent_on, spent_by_all, held, held_in, AllApart, AllGiven, SomeTotal, IsWork}
+use Rattle.tt_share.specs.Workers.{times, spent_on, spent_by_all, held, held_in, AllApart, AllGiven, AreGiven, SomeTotal, IsWork}
 use Rattle.tt_share.proofs.Apart.{none_times, held_most}
 use Rattle.tt_share.proofs.Asked.{total_kept}
 use Rattle.tt_share.proofs.LastWins.{read_more}
@@ -103,6 +103,19 @@ none_asked n first last before after total blank none asked h = elim (asked.refu
   | inr up ↦ absurd (true≢false (sym up ∙ none))
 ]
 
+-- where what is newly put is stuck for no total, nor is what stands there then
+none_newly : (before after : List (Option End)) (found : List Found) → AreGiven before after found → (SomeTotal found → ⊥) → (HasTotal before → ⊥) → HasTotal after → ⊥
+none_newly before after found given none was (job, end, at, stuck) = elim (given job end at) [
+  | inl h ↦ was (job, end, h, stuck)
+  | inr (i, f, past, there, same, dropped, is) ↦ none (i, f, there, total_kept past f.end (subst IsForTotal is stuck))
+]
+
+-- where there is a total, the desk has all jobs and none was handed on
+pub none_handed : (total : Option ℕ) (first count jobs handed : ℕ) (P : Type 0) → IfSome total (λ _. first ≡ count) → jobs ≡ first → handed + first ≤ count → (handed ≡ 0 → P)
+    → IfSome total (λ _. (count ≡ jobs) × P)
+none_handed None first count jobs handed P all are within put = tt
+none_handed (Some n) first count jobs handed P all are within put = (sym (are ∙ all), put (omega (arith, all, within)))
+
 -- ---- all workers and the caller
 
 module _ (line : Standing) (limits : Limits) (desk : DeskView) (closed : Closed) (work : List HandedBack) (seats : List SeatView) (own : SeatView)
@@ -182,3 +195,36 @@ module _ (line : Standing) (limits : Limits) (desk : DeskView) (closed : Closed)
           let all = (spends s.0 s.1).refused s.2.0 s.2.1 s.2.2 in
           (s.0, s.1, spent_is s.0 s.1 ∙ all);
     }
+
+-- What all workers and the caller spend, where jobs were handed on in between, which they are only where there is no total
+module _ (line : Standing) (limits : Limits) (desk : DeskView) (closed : Closed) (work : List HandedBack) (seats : List SeatView) (own : SeatView) (handed : List Found)
+    (works : All (IsWork line limits desk) work)
+    (backs : (weight : SeatView → ℕ) → sum_by weight seats ≡ sum_by (λ (b : HandedBack). weight b.seat) work)
+    (closes : Closes desk (seats ++ own ∷ []) closed)
+    (first mid next last : Progress) (before : Asked) (count jobs : ℕ) (refused : Bool) (none : before.granted ≡ 0) (blank : first.ends ≡ replicate jobs None)
+    (unspent : spent_in_all first.spent ≡ 0)
+    (gathered : AllApart first.ends work → spent_in_all mid.spent ≡ spent_in_all first.spent + spent_by_all work) (given : AllGiven first.ends mid.ends work)
+    (put : AreGiven mid.ends next.ends handed) (unpaused : SomeTotal handed → ⊥)
+    (asked : AskedFor next before last (record { granted = count; refused = refused })) (tally : Tallies desk.total own.grants count refused) where
+  -- without a total no worker's job is stuck for one
+  none_gathered : desk.total ≡ None → HasTotal mid.ends → ⊥
+  none_gathered without (job, end, at, stuck) = elim (given job end at) [
+    | inl had ↦ blank_none jobs job end (sym (ap (λ (l : List (Option End)). slice_get l job) blank) ∙ had)
+    | inr g ↦
+        let f = g.3.1 in
+        let w = all_at (IsWork line limits desk) work g.0 g.1 g.2 works in
+        let t = w.refused (g.3.0, f, g.3.3, total_kept g.3.2 f.end (subst IsForTotal g.3.6 stuck)) in
+        none-some t.0 (sym without ∙ t.1)
+  ]
+
+  none_at_last : desk.total ≡ None → HasTotal last.ends → ⊥
+  none_at_last without h = elim (asked.refused h) [
+    | inl was ↦ none_newly mid.ends next.ends handed put unpaused (none_gathered without) was
+    | inr up ↦ true≢false (sym up ∙ tally.0 without)
+  ]
+
+  pub handed_spent : (total : Option ℕ) → desk.total ≡ total → IfSome total (λ _. (jobs ≡ desk.jobs) × (next ≡ mid)) → SpendsTotal total last
+  handed_spent None is alone = record { within = λ n e. absurd (none-some n e); all = λ h. absurd (none_at_last is h) }
+  handed_spent (Some n) is alone = subst (λ (o : Option ℕ). SpendsTotal o last) is
+      (total_spent line limits desk closed work seats own works backs closes first mid last before count refused none (subst (λ k. first.ends ≡ replicate k None) alone.0 blank) unspent gathered given
+      (subst (λ (p : Progress). AskedFor p before last (record { granted = count; refused = refused })) alone.1 asked) tally)

@@ -89,6 +89,22 @@ abbrev pub HasWon : End → Type 0
 HasWon (Settled p) = IsWon p.side p.frame p.state p.tree
 HasWon (Stuck reason search) = Unit {0}
 
+-- the search is held
+abbrev pub HoldsSearch : Searched → End → Type 0
+HoldsSearch search (Settled p) = ⊥
+HoldsSearch search (Stuck reason (Some held)) = held ≡ search
+HoldsSearch search (Stuck reason None) = ⊥
+
+-- no search is held
+abbrev pub HoldsNone : End → Type 0
+HoldsNone (Settled p) = Unit {0}
+HoldsNone (Stuck reason (Some search)) = ⊥
+HoldsNone (Stuck reason None) = Unit {0}
+
+-- what is asked for while a search goes on: as many expansions as its count rises by
+abbrev pub GoesOnFrom : Found → Asked → Found → Asked → Type 0
+GoesOnFrom before old after new = (n : ℕ) × (after.spent ≡ before.spent + n) × AsksFor old n after.end new
+
 -- the line is that of the search that is held
 abbrev pub IsLineOf : End → Standing → Type 0
 IsLineOf (Settled p) line = ⊥

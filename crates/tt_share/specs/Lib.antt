@@ -15,3 +15,4 @@ pub mod Gathering
 pub mod Places
 pub mod Taking
 pub mod Tallies
+pub mod Relay

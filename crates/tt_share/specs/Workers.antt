@@ -81,7 +81,7 @@ pub record IsWork (line : Standing) (limits : Limits) (desk : DeskView) (back : 
   pub seat : back.seat.desk ≡ desk.id
   -- each result is that of its job's turn
   pub found : All (IsResult line limits) back.found.items
-  -- no job was searched after one that was won
+  -- no job was drawn after one that was won
   pub wins : WinsAreLast line.state.to_move back.seat.mark back.found.items
   -- each is of a job that the seat drew, as often at most
   pub jobs : All (λ (f : Found). f.job < desk.jobs) back.found.items

@@ -1,13 +1,14 @@
 //! How the search of a job ended, kept in little memory.
 
-ghost use Rattle.std.specs.Prelude.{◌≡◌, ◌↔◌, None, IfSome, IsTrue};
+ghost use Rattle.std.specs.Prelude.{◌≡◌, ◌↔◌, None, IfSome, IsTrue, MatchResult};
 ghost use Rattle.tt_search.specs.declared.limits.Reason.TheVariants.{Memory};
 ghost use Rattle.tt_search.specs.declared.search.End.TheVariants.{Stuck};
-ghost use Rattle.tt_share.specs.Jobs.{IsWinFor, IsStuck, IsLineOf, HasWon, kept_of};
+ghost use Rattle.tt_share.specs.Jobs.{IsWinFor, IsStuck, IsForTotal, IsLineOf, HoldsNone, HoldsSearch, HasWon, kept_of};
 
 use std::marker::Model;
+use std::mem;
 use tt_game::{Line, Side};
-use tt_search::{End, Reason};
+use tt_search::{End, Reason, Search};
 
 /// How the search of a job ended. Contracts see the end.
 ///
@@ -44,6 +45,16 @@ fn is_win_at(end: &End, side: Side) -> bool
     }
 }
 
+/// Whether the end is a search that is stuck for the total.
+fn is_for_total_at(end: &End) -> bool
+    ensures { IsTrue result ↔ IsForTotal end.now }
+{
+    match end {
+        End::Stuck(Reason::Total, _) => true,
+        End::Stuck(_, _) | End::Settled(_) => false,
+    }
+}
+
 /// Whether the end is a stuck search.
 fn is_stuck_at(end: &End) -> bool
     ensures { IsTrue result ↔ IsStuck end.now }
@@ -51,6 +62,18 @@ fn is_stuck_at(end: &End) -> bool
     match end {
         End::Settled(_) => false,
         End::Stuck(_, _) => true,
+    }
+}
+
+/// The search that the end in the place holds, with the place; or the end, where it holds none.
+fn search_at(place: Box<End>) -> Result<(Box<End>, Search), Ended>
+    ensures { MatchResult result (λ x. HoldsSearch x.1 place.value) (λ e. (e ≡ place.value) × HoldsNone place.value) }
+{
+    let mut place = place;
+    match mem::replace(&mut *place, End::Stuck(Reason::Memory, None)) {
+        End::Stuck(_, Some(search)) => Ok((place, search)),
+        End::Stuck(reason, None) => Err(Ended::at(place, End::Stuck(reason, None))),
+        End::Settled(proof) => Err(Ended::at(place, End::Settled(proof))),
     }
 }
 
@@ -69,6 +92,16 @@ impl Ended {
         ensures { result ≡ Stuck Memory None }
     {
         Ended { place: None }
+    }
+
+    /// The search that the end holds, with the place that it stood in; or the end, where it holds none.
+    pub(crate) fn into_search(self) -> Result<(Box<End>, Search), Ended>
+        ensures { MatchResult result (λ x. HoldsSearch x.1 self) (λ e. (e ≡ self) × HoldsNone self) }
+    {
+        match self.place {
+            Some(place) => search_at(place),
+            None => Err(Ended::nowhere()),
+        }
     }
 
     /// The end itself.
@@ -100,6 +133,16 @@ pub(crate) fn is_stuck(end: &Ended) -> bool
     match &end.place {
         Some(place) => is_stuck_at(place),
         None => true,
+    }
+}
+
+/// Whether the result is a search that is stuck for the total.
+pub(crate) fn is_for_total(end: &Ended) -> bool
+    ensures { IsTrue result ↔ IsForTotal end.now }
+{
+    match &end.place {
+        Some(place) => is_for_total_at(place),
+        None => false,
     }
 }
 

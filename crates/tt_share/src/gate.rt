@@ -6,7 +6,7 @@ pub trait Gate: Sync {
     /// A worker begins to search the job.
     fn begin(&self, job: usize);
 
-    /// The search that `begin` told of has ended.
+    /// The search that `begin` told of has ended, or is dropped, since another job has won.
     fn end(&self, job: usize);
 }
 

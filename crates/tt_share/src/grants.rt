@@ -1,6 +1,6 @@
 //! Grants of a desk, asked for through a seat.
-ghost use Rattle.std.specs.Prelude.{◌≡◌, ◌-◌, ◌<◌, ◌^◌, ◌∷◌, ◌++◌, ◌≤◌, [], length, IfSome, IfNone};
-ghost use Rattle.tt_share.specs.Seats.{DeskView, SeatView, EndsSpare};
+ghost use Rattle.std.specs.Prelude.{◌≡◌, ◌||◌, false, ℕ, ◌+◌, ◌-◌, ◌<◌, ◌^◌, ◌∷◌, ◌++◌, ◌≤◌, [], length, IfSome, IfNone};
+ghost use Rattle.tt_share.specs.Seats.{DeskView, SeatView, EndsSpare, seat_of};
 ghost use Rattle.tt_share.specs.Tallies.{Tallies, source_of};
 
 use crate::desk::{Desk, Seat};
@@ -34,6 +34,17 @@ impl<'a> SeatGrants<'a> {
         }
     }
 
+    /// Raises the mark where a job was settled for the side to move.
+    pub fn raise_for(&mut self, won: bool)
+        ensures desk { self.new.desk.now ≡ self.old.desk.now }
+        ensures counts { (self.new.granted ≡ self.old.granted) × (self.new.refused ≡ self.old.refused) }
+        ensures seat { self.new.seat ≡ seat_of self.old.seat.desk self.old.seat.numbers self.old.seat.grants (self.old.seat.mark || won) self.old.seat.sighting }
+    {
+        if won {
+            self.desk.raise(&mut self.seat);
+        }
+    }
+
     /// The seat.
     pub fn into_seat(self) -> Seat
         ensures { result ≡ self.entry.seat }
@@ -61,6 +72,55 @@ impl<'a> Grants for SeatGrants<'a> {
             self.refused = true;
         }
         granted
+    }
+
+    fn granted(&self) -> u64 {
+        self.granted
+    }
+
+    fn refused(&self) -> bool {
+        self.refused
+    }
+}
+
+/// Leave to expand so many nodes of a search, and no more.
+#[derive(Drop)]
+pub(crate) struct Share {
+    granted: u64,
+    left: u32,
+    refused: bool,
+}
+
+impl Share {
+    /// Leave to expand so many nodes.
+    pub fn of(left: u32) -> Share
+        ensures unasked { result.granted ≡ 0 }
+        ensures left { result.left ≡ left }
+    {
+        Share {
+            granted: 0,
+            left,
+            refused: false,
+        }
+    }
+}
+
+impl Grants for Share {
+    ghost asked = { λ s. record { granted = s.granted; refused = s.refused } };
+
+    ghost Source = { ℕ };
+
+    // How many it may grant in all.
+    ghost source = { λ s. s.granted + s.left };
+
+    fn ask(&mut self) -> bool {
+        self.refused = self.refused || self.left == 0;
+        if self.refused {
+            return false;
+        }
+        self.left -= 1;
+        self.granted += 1;
+        true
     }
 
     fn granted(&self) -> u64 {

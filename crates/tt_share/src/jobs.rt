@@ -6,7 +6,7 @@ ghost use Rattle.tt_game.specs.Line.{GoesOn};
 ghost use Rattle.tt_game.specs.Turns.{legal_turns};
 ghost use Rattle.tt_search.specs.Numbers.{count};
 ghost use Rattle.tt_search.specs.Ended.{EndOf, SpentBy};
-ghost use Rattle.tt_share.specs.Jobs.{EndsBehind, IsCounted, AsksFor, IsResultOf, IsJobCount, IsWinFor};
+ghost use Rattle.tt_share.specs.Jobs.{EndsBehind, IsCounted, AsksFor, GoesOnFrom, IsResult, IsWinFor};
 
 use crate::ended::{Ended, is_win};
 use std::alloc::Global;
@@ -14,7 +14,7 @@ use tt_game::{Line, Turn, Turns};
 use tt_search::{End, Grants, Limits, Reason, Search, Store};
 use tt_sgf::NoMemory;
 
-/// The result of a job, its place among the legal turns, and how many nodes its search expanded.
+/// The result of a job so far, its place among the legal turns, and how many nodes its search expanded.
 #[derive(Drop)]
 pub(crate) struct Found {
     pub job: usize,
@@ -35,13 +35,13 @@ pub(crate) struct Jobs<'a> {
     ghost few: { (1 ≤ length turns.items) × (length turns.items ≤ 362) },
 }
 
-/// Runs a new search to its end, and counts the nodes that it expands.
+/// Runs a search to its end, and counts the nodes that it expands.
 fn run_counted<S: Store, G: Grants>(search: Search, store: &mut S, grants: &mut G) -> (End, u32)
-    requires new { count search.tree ≡ 0 }
     requires grants { (G.asked grants.old).granted < 2 ^ 62 }
     ensures end { EndOf search result.0 }
     ensures spent { SpentBy search (G.asked grants.old) result.0 (G.asked grants.new) }
     ensures asks { AsksFor (G.asked grants.old) result.1 result.0 (G.asked grants.new) }
+    ensures few { result.1 + count search.tree ≤ search.limits.budget }
     ensures source { G.source grants.new ≡ G.source grants.old }
 {
     let before = grants.granted();
@@ -50,18 +50,18 @@ fn run_counted<S: Store, G: Grants>(search: Search, store: &mut S, grants: &mut 
     (end, spent)
 }
 
-/// Runs a new search with a counted source of grants, and puts how it ends into the place.
+/// Runs a search with a counted source of grants, and puts how it ends into the place.
 fn run_into<S: Store, G: Grants>(
     place: Box<End>,
     search: Search,
     store: &mut S,
     grants: &mut G,
 ) -> (Ended, u32)
-    requires new { count search.tree ≡ 0 }
     requires grants { (G.asked grants.old).granted < 2 ^ 62 }
     ensures end { EndOf search result.0 }
     ensures spent { SpentBy search (G.asked grants.old) result.0 (G.asked grants.new) }
     ensures asks { AsksFor (G.asked grants.old) result.1 result.0 (G.asked grants.new) }
+    ensures few { result.1 + count search.tree ≤ search.limits.budget }
     ensures source { G.source grants.new ≡ G.source grants.old }
 {
     let (end, spent) = run_counted(search, store, grants);
@@ -131,50 +131,80 @@ impl<'a> Jobs<'a> {
         Ok((behind, place))
     }
 
-    /// Searches the line after a legal turn, and counts the nodes that are expanded.
-    fn search_behind<S: Store, G: Grants>(
-        &self,
-        turn: Turn,
-        spare: Option<Line>,
-        store: &mut S,
-        grants: &mut G,
-    ) -> (Ended, u32)
+    /// A search of the line after a legal turn, of which nothing is expanded yet, held as one that is stuck for memory.
+    fn begin_behind(&self, turn: Turn, spare: Option<Line>) -> Ended
         requires legal { IsLegal self.now.line.now.frame self.now.line.now.state turn }
         requires spare { IfSome spare (GoesOn self.now.line.now) }
-        requires grants { (G.asked grants.old).granted < 2 ^ 62 }
-        ensures ends { EndsBehind self.now.line.now self.now.limits turn result.0 }
-        ensures counted { IsCounted self.now.line.now self.now.limits turn result.1 result.0 }
-        ensures asks { AsksFor (G.asked grants.old) result.1 result.0 (G.asked grants.new) }
-        ensures source { G.source grants.new ≡ G.source grants.old }
+        ensures ends { EndsBehind self.now.line.now self.now.limits turn result }
+        ensures counted { IsCounted self.now.line.now self.now.limits turn 0 result }
     {
         let limits = self.limits_behind();
         let Ok((behind, place)) = self.start_behind(turn, spare) else {
-            return (Ended::nowhere(), 0);
+            return Ended::nowhere();
         };
         match Search::new(self.alloc, behind, limits) {
-            Ok(search) => run_into(place, search, store, grants),
-            Err(_) => (Ended::nowhere(), 0),
+            Ok(search) => Ended::at(place, End::Stuck(Reason::Memory, Some(search))),
+            Err(_) => Ended::nowhere(),
         }
     }
 
-    /// Searches a job: the line after its turn, with the same budget and a depth one less. Answers how the search ends, and
-    /// how many nodes it expanded. It takes over the boards of a spare line that goes on from the jobs' line.
+    /// A job as it begins: the line after its turn, with the same budget and a depth one less. It takes over the boards of a
+    /// spare line that goes on from the jobs' line.
+    pub fn begin(&self, job: usize, spare: Option<Line>) -> Found
+        requires job { job < length self.now.turns.items }
+        requires spare { IfSome spare (GoesOn self.now.line.now) }
+        ensures job { result.job ≡ job }
+        ensures begun { IsResult self.now.line.now self.now.limits result }
+        ensures unspent { result.spent ≡ 0 }
+    {
+        Found {
+            job,
+            end: self.begin_behind(self.turns.as_slice()[job], spare),
+            spent: 0,
+        }
+    }
+
+    /// Goes on with the search that a result holds, and counts the nodes that are expanded in all.
+    pub fn go_on<S: Store, G: Grants>(&self, begun: Found, store: &mut S, grants: &mut G) -> Found
+        requires job { begun.job < length self.now.turns.items }
+        requires begun { IsResult self.now.line.now self.now.limits begun }
+        requires grants { (G.asked grants.old).granted < 2 ^ 62 }
+        ensures job { result.job ≡ begun.job }
+        ensures result { IsResult self.now.line.now self.now.limits result }
+        ensures asks { GoesOnFrom begun (G.asked grants.old) result (G.asked grants.new) }
+        ensures source { G.source grants.new ≡ G.source grants.old }
+    {
+        let Found { job, end, spent } = begun;
+        match end.into_search() {
+            Ok((place, search)) => {
+                let (end, more) = run_into(place, search, store, grants);
+                Found {
+                    job,
+                    end,
+                    spent: spent + more,
+                }
+            }
+            Err(end) => Found { job, end, spent },
+        }
+    }
+
+    /// Searches a job to its end. It takes over the boards of a spare line that goes on from the jobs' line.
     pub fn search<S: Store, G: Grants>(
         &self,
         job: usize,
         spare: Option<Line>,
         store: &mut S,
         grants: &mut G,
-    ) -> (Ended, u32)
+    ) -> Found
         requires job { job < length self.now.turns.items }
         requires spare { IfSome spare (GoesOn self.now.line.now) }
         requires grants { (G.asked grants.old).granted < 2 ^ 62 }
-        ensures ends { IsResultOf self.now.line.now self.now.limits job result.0 }
-        ensures counted { IsJobCount self.now.line.now self.now.limits job result.1 result.0 }
-        ensures asks { AsksFor (G.asked grants.old) result.1 result.0 (G.asked grants.new) }
+        ensures job { result.job ≡ job }
+        ensures result { IsResult self.now.line.now self.now.limits result }
+        ensures asks { AsksFor (G.asked grants.old) result.spent result.end (G.asked grants.new) }
         ensures source { G.source grants.new ≡ G.source grants.old }
     {
-        self.search_behind(self.turns.as_slice()[job], spare, store, grants)
+        self.go_on(self.begin(job, spare), store, grants)
     }
 
     /// Whether a result is a proof for the side to move.

@@ -211,9 +211,9 @@ impl<'a> Results<'a> {
         ensures source { G.source grants.new ≡ G.source grants.old }
         ensures few { (G.asked grants.new).granted ≤ (G.asked grants.old).granted + MOST_EXPANDED }
     {
-        let (end, spent) = self.jobs.search(job, None, store, grants);
-        let won = self.jobs.is_won(&end);
-        self.put(Found { job, end, spent });
+        let found = self.jobs.search(job, None, store, grants);
+        let won = self.jobs.is_won(&found.end);
+        self.put(found);
         won
     }
 

@@ -14,9 +14,10 @@ use crate::gate::Gate;
 use crate::grants::SeatGrants;
 use crate::log::CertLog;
 use crate::log_store::LogStore;
+use crate::relay::Relay;
 use crate::results::Results;
 use crate::view::View;
-use crate::workers::{gather, run_workers};
+use crate::workers::{gather, gather_one, run_workers};
 use std::alloc::Global;
 use std::sync::Wait;
 use std::thread::Threads;
@@ -25,7 +26,8 @@ use tt_search::{Limits, Store};
 use tt_sgf::NoMemory;
 
 /// Searches the jobs by workers, puts their results at their places, and searches what they left. All searches ask one desk
-/// for their expansions, each worker through its seat and the caller through one of its own.
+/// for their expansions, each worker through its seat and the caller through one of its own, but those of jobs that are handed
+/// on: these are where there is no total.
 pub(crate) fn search_together<R: Threads + Wait + Sync, G: Gate, S: Store>(
     rt: &R,
     results: &mut Results<'_>,
@@ -44,10 +46,14 @@ pub(crate) fn search_together<R: Threads + Wait + Sync, G: Gate, S: Store>(
 {
     let alloc = results.jobs.alloc;
     let seats = Vec::with_capacity(alloc, workers + 1)?;
-    let (desk, mut all) = Desk::new(alloc, results.jobs.turns.len(), workers + 1, total)?;
+    let room = Vec::with_capacity(alloc, workers)?;
+    let relay = Relay::of(&results.jobs, workers, total)?;
+    let (desk, mut all) = Desk::new(alloc, relay.first, workers + 1, total)?;
     let Some(own) = all.pop() else { unreachable!() };
-    let work = run_workers(rt, &results.jobs, &desk, log, gate, all)?;
+    let work = run_workers(rt, &relay, &desk, log, gate, all)?;
+    let handed_on = relay.ended(gate, room);
     let mut seats = gather(&desk, results, work, seats);
+    gather_one(results, handed_on);
     let mut grants = SeatGrants::new(&desk, own);
     results.search_missing(store, &mut grants);
     seats.push_reserved(grants.into_seat());
@@ -81,7 +87,8 @@ fn solve_rest<R: Threads + Wait + Sync, G: Gate, S: Store>(
 
 /// Solves the line by 1 to `MOST_WORKERS` workers, which share the log. Each of them, and the caller, has a view of it. The log is asked
 /// first for a proof that wins at the line itself. Else each legal turn, in rising order, is a job: workers draw them and
-/// search each with the same budget and a depth one less, until one is settled for the side to move. The caller searches
+/// search each with the same budget and a depth one less, until one is settled for the side to move. Where there is no total
+/// they hand the last ones on to one another, fewer than there are workers, so that all end together. The caller searches
 /// what they left, and the proof that the results make is offered to the log. Where there is a total, which is at least 1, all
 /// searches together expand at most so many nodes. The depth is at least 1, and nobody has won at the line.
 pub fn solve<R: Threads + Wait + Sync, G: Gate>(

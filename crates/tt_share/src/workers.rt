@@ -13,9 +13,11 @@ use crate::desk::{Desk, Seat};
 use crate::ended::{Ended, is_stuck, trimmed_to};
 use crate::gate::Gate;
 use crate::grants::SeatGrants;
+use crate::hand::Hand;
 use crate::jobs::{Found, Jobs};
 use crate::log::CertLog;
 use crate::log_store::LogStore;
+use crate::relay::Relay;
 use crate::results::Results;
 use crate::view::View;
 use std::sync::Wait;
@@ -50,20 +52,9 @@ pub(crate) fn search_drawn<S: Store, G: Gate, A: Grants>(
     ensures source { A.source grants.new ≡ A.source grants.old }
 {
     gate.begin(job);
-    let (end, spent) = jobs.search(job, spare, store, grants);
+    let Found { end, spent, .. } = jobs.search(job, spare, store, grants);
     gate.end(job);
     (end, spent)
-}
-
-/// Raises the mark where a job was settled for the side to move.
-fn raise_for(grants: &mut SeatGrants<'_>, won: bool)
-    ensures desk { grants.new.desk.now ≡ grants.old.desk.now }
-    ensures counts { (grants.new.granted ≡ grants.old.granted) × (grants.new.refused ≡ grants.old.refused) }
-    ensures seat { grants.new.seat ≡ seat_of grants.old.seat.desk grants.old.seat.numbers grants.old.seat.grants (grants.old.seat.mark || won) grants.old.seat.sighting }
-{
-    if won {
-        grants.desk.raise(&mut grants.seat);
-    }
 }
 
 /// Draws a job, with room for its result. A seat that raised the mark, or sees it or saw it before, draws no more.
@@ -96,14 +87,16 @@ fn trimmed_at(desk: &Desk, job: usize, end: Ended, spare: &mut Option<Line>) -> 
 /// Draws jobs and searches them until no job is left, the mark is seen or memory is refused. Room for a result comes
 /// before its draw, so each job that was drawn has its result. A job that is settled for the side to move raises the mark.
 /// It keeps the search of a stuck job only where the desk knows of no lesser one; the line of another one serves the next job.
+/// Between two jobs of its own, and behind the last one, it goes on with those that are handed on.
 pub(crate) fn work<S: Store, G: Gate>(
     jobs: &Jobs<'_>,
     desk: &Desk,
     gate: &G,
     seat: Seat,
+    hand: &mut Hand<'_, '_, '_>,
     store: &mut S,
 ) -> HandedBack
-    requires jobs { desk.now.jobs ≡ length jobs.now.turns.items }
+    requires jobs { desk.now.jobs ≤ length jobs.now.turns.items }
     requires seat { (seat.desk ≡ desk.now.id) × (seat.grants ≡ []) }
     ensures work { IsWork jobs.now.line.now jobs.now.limits desk.now result }
     ensures drawn { AddsSpare desk.now.jobs (seat.numbers ++ jobs_of result.found.items) result.seat.numbers }
@@ -116,9 +109,11 @@ pub(crate) fn work<S: Store, G: Gate>(
         let line = spare.take();
         let (end, spent) = search_drawn(jobs, gate, job, line, store, &mut grants);
         let end = trimmed_at(desk, job, end, &mut spare);
-        raise_for(&mut grants, jobs.is_won(&end));
+        grants.raise_for(jobs.is_won(&end));
         found.push_reserved(Found { job, end, spent });
+        hand.go_round(&mut grants, gate, false, store);
     }
+    hand.go_round(&mut grants, gate, true, store);
     let seat = grants.into_seat();
     HandedBack { seat, found }
 }
@@ -149,21 +144,25 @@ fn drop_past_stuck(desk: &Desk, found: &mut Vec<Found>)
 /// Works over a view of the log. Where there is no memory for a view it hands its seat back, and no results.
 fn work_over<R: Wait, G: Gate>(
     rt: &R,
-    jobs: &Jobs<'_>,
+    relay: &Relay<'_, '_>,
     desk: &Desk,
     log: &CertLog,
     gate: &G,
     seat: Seat,
 ) -> HandedBack
-    requires jobs { desk.now.jobs ≡ length jobs.now.turns.items }
+    requires jobs { desk.now.jobs ≤ length relay.now.jobs.now.turns.items }
     requires seat { (seat.desk ≡ desk.now.id) × (seat.grants ≡ []) }
-    ensures work { IsWork jobs.now.line.now jobs.now.limits desk.now result }
+    ensures work { IsWork relay.now.jobs.now.line.now relay.now.jobs.now.limits desk.now result }
     ensures drawn { AddsSpare desk.now.jobs (seat.numbers ++ jobs_of result.found.items) result.seat.numbers }
 {
+    let jobs = relay.jobs;
     match View::new(jobs.alloc, log) {
         Ok(view) => {
             let mut store = LogStore::new(rt, view);
-            let HandedBack { seat, mut found } = work(jobs, desk, gate, seat, &mut store);
+            let mut hand = Hand::new(relay);
+            let HandedBack { seat, mut found } = work(
+                jobs, desk, gate, seat, &mut hand, &mut store,
+            );
             drop_past_stuck(desk, &mut found);
             HandedBack { seat, found }
         }
@@ -177,23 +176,23 @@ fn work_over<R: Wait, G: Gate>(
 /// Each seat works in a thread of its own, where one can be made. Where memory is refused the seats are gone.
 pub(crate) fn run_workers<R: Threads + Wait + Sync, G: Gate>(
     rt: &R,
-    jobs: &Jobs<'_>,
+    relay: &Relay<'_, '_>,
     desk: &Desk,
     log: &CertLog,
     gate: &G,
     seats: Vec<Seat>,
 ) -> Result<Vec<HandedBack>, NoMemory>
-    requires jobs { desk.now.jobs ≡ length jobs.now.turns.items }
+    requires jobs { desk.now.jobs ≤ length relay.now.jobs.now.turns.items }
     requires seats { All (λ s. (s.desk ≡ desk.now.id) × (s.grants ≡ [])) seats.items }
-    ensures work { IfOk result (λ v. All (IsWork jobs.now.line.now jobs.now.limits desk.now) v.items) }
+    ensures work { IfOk result (λ v. All (IsWork relay.now.jobs.now.line.now relay.now.jobs.now.limits desk.now) v.items) }
     ensures drawn { IfOk result (λ v. AllDrawn desk.now.jobs seats.items v.items) }
     ensures len { IfOk result (λ v. vec_len v ≡ vec_len seats) }
 {
     let worker = |seat: Seat| -> HandedBack
-        requires { (desk.now.jobs ≡ length jobs.now.turns.items) × (seat.desk ≡ desk.now.id) × (seat.grants ≡ []) }
-        ensures work { IsWork jobs.entry.now.line.now jobs.entry.now.limits desk.entry.now result }
+        requires { (desk.now.jobs ≤ length relay.now.jobs.now.turns.items) × (seat.desk ≡ desk.now.id) × (seat.grants ≡ []) }
+        ensures work { IsWork relay.entry.now.jobs.now.line.now relay.entry.now.jobs.now.limits desk.entry.now result }
         ensures drawn { AddsSpare desk.entry.now.jobs (seat.numbers ++ jobs_of result.found.items) result.seat.numbers }
-    { work_over(rt, jobs, desk, log, gate, seat) };
+    { work_over(rt, relay, desk, log, gate, seat) };
     match thread::map_vec(rt, seats, &worker) {
         Ok(work) => Ok(work),
         Err(_) => Err(NoMemory),
@@ -201,7 +200,7 @@ pub(crate) fn run_workers<R: Threads + Wait + Sync, G: Gate>(
 }
 
 /// Puts the results of one worker at their places.
-fn gather_one(results: &mut Results<'_>, mut found: Vec<Found>)
+pub(crate) fn gather_one(results: &mut Results<'_>, mut found: Vec<Found>)
     requires found { All (IsResult results.old.line results.old.limits) found.items }
     ensures same { results.new ≡ record results.old { ends = results.new.ends; spent = results.new.spent } }
     ensures held { (job : ℕ) → held results.new.ends job ≤ held results.old.ends job + times job found.items }
@@ -210,6 +209,7 @@ fn gather_one(results: &mut Results<'_>, mut found: Vec<Found>)
     ensures kept { KeepsEnds results.old.ends results.new.ends }
     ensures placed { All (IsPlaced results.new.ends) found.items }
     ensures given { AreGiven results.old.ends results.new.ends found.items }
+    ensures nothing { vec_len found ≡ 0 → results.new ≡ results.old }
 {
     while let Some(one) = found.pop() {
         results.put(one);

@@ -290,16 +290,17 @@ fn workers_keep_in_the_log(rt: HostRuntime) -> Result<(), Fail> {
     hold(&rt, rt.alloc(), KEPT, 3)
 }
 
-/// Where no turn wins each legal turn is a job: two plays and a pass. A job begins once and ends once.
+/// Where no turn wins each legal turn is a job: two or four plays and a pass. A job begins once and ends once.
 const TOLD: &str = "\
 (;SZ[4:1]AW[ba]PL[B]TR[ba])|100000|512||1|lives|3
 (;SZ[4:1]AW[ba]PL[B]TR[ba])|100000|512||2|lives|3
 (;SZ[4:1]AW[ba]PL[B]TR[ba])|100000|512||64|lives|3
+(;SZ[6:1]AW[ba]PL[B]TR[ba])|100000|512||3|lives|5
 ";
 
 #[test]
 fn each_job_is_told(rt: HostRuntime) -> Result<(), Fail> {
-    hold(&rt, rt.alloc(), TOLD, 3)
+    hold(&rt, rt.alloc(), TOLD, 4)
 }
 
 /// The same where all searches together may expand one node, which one of the three is granted: the play at the third point, that

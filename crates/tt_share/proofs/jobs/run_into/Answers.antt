@@ -13,5 +13,6 @@ returns g c =
       end = subst (λ (e : End). EndOf c.args.search e) (sym c.at.ensures) ran.ensures.end;
       spent = subst (λ (e : End). SpentBy c.args.search old e new) (sym c.at.ensures) ran.ensures.spent;
       asks = subst (λ (e : End). AsksFor old ran.result.1 e new) (sym c.at.ensures) ran.ensures.asks;
+      few = ran.ensures.few;
       source = ran.ensures.source;
     }

@@ -1,5 +1,4 @@
-use Rattle.std.proofs.Common.{◌≡◌, List, refl, sym, ap, subst, ◌∙◌}
-use Rattle.tt_share.specs.declared.jobs.Found.{Found}
+use Rattle.std.proofs.Common.{refl, sym, ap, subst, ◌∙◌}
 use Rattle.tt_share.specs.Workers.{AreTrimmed}
 use Rattle.tt_share.proofs.Keeping.{kept_same, kept_twice}
 use Rattle.tt_share.proofs.workers.drop_past_stuck.Goals.{then-knows_stuck_below, else-knows_stuck_below}

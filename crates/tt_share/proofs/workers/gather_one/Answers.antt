@@ -24,6 +24,7 @@ loop-one-preserved c =
       held = λ job. held_fewer old.ends new.ends one c.loop-one.found.items c.pop.new.self.items c.in-Some.ensures.items c.put.ensures.puts job _ (c.loop-one.invariant.held job);
       len = c.put.ensures.puts.len ∙ c.loop-one.invariant.len;
       kept = keeps_twice c.args.results.now.ends old.ends new.ends c.loop-one.invariant.kept kept;
+      nothing = λ none. (let e = (c.loop-one.invariant.nothing none).0 in let more = c.in-Some.ensures.len in absurd (omega (arith, e, more)));
       given = given_more c.args.results.now.ends old.ends new.ends c.args.found.items _ one (taken_there _ _ _ was.0 one was.1 c.in-Some.ensures.items) c.put.ensures.puts c.loop-one.invariant.given;
       placed = (
         one ∷ was.0,

@@ -14,6 +14,7 @@ invariant-loop-one l = record {
   held : (job : ℕ) → held l.results.ends job + times job l.found.items ≤ held l.initial.results.ends job + times job l.fn.found.items;
   len : length l.results.ends ≡ length l.initial.results.ends;
   kept : KeepsEnds l.initial.results.ends l.results.ends;
+  nothing : vec_len l.fn.found ≡ 0 → (vec_len l.found ≡ 0) × (l.results ≡ l.initial.results);
   given : AreGiven l.initial.results.ends l.results.ends l.fn.found.items;
   placed : (put : List Found) × (l.fn.found.items ≡ l.found.items ++ put) × All (IsPlaced l.results.ends) put;
 }

@@ -1,11 +1,11 @@
-use Rattle.std.proofs.Common.{refl, sym, ap, subst, ◌++◌, List, ℕ}
+use Rattle.std.proofs.Common.{refl, sym, subst, ◌++◌, List, ℕ}
 use Rattle.tt_share.specs.Workers.{AddsSpare}
 use Rattle.tt_share.proofs.Keeping.{work_kept, kept_jobs}
 use Rattle.tt_share.proofs.workers.work_over.Goals as goal
 
 pub returns-in-Ok-clause-work : goal.returns-in-Ok-clause-work
 returns-in-Ok-clause-work g c =
-    work_kept c.args.jobs.now.line.now c.args.jobs.now.limits c.args.desk.now c.work-seat.result _ refl c.drop_past_stuck.ensures c.work-seat.ensures.work
+    work_kept c.args.relay.now.jobs.now.line.now c.args.relay.now.jobs.now.limits c.args.desk.now c.work-seat.result _ refl c.drop_past_stuck.ensures c.work-seat.ensures.work
 
 pub returns-in-Ok-clause-drawn : goal.returns-in-Ok-clause-drawn
 returns-in-Ok-clause-drawn g c =

@@ -1,19 +1,18 @@
+use Rattle.std.proofs.Common.{◌≡◌, Some, None, slice_get, sym, subst}
 use Rattle.tt_share.specs.Jobs.{IsResult}
-use Rattle.tt_share.specs.declared.jobs.Found.{Found}
 use Rattle.tt_share.proofs.Asked.{asked_put}
 use Rattle.tt_share.proofs.Placing.{shown}
 use Rattle.tt_share.proofs.results.Results.search_free.Goals as goal
 
 pub put-requires : goal.put-requires
-put-requires g c =
-    let f : Found = record { job = c.args.job; end = c.search-end.result.0; spent = c.search-end.result.1 } in
-    record {
-      found = shown (λ l m es. IsResult l m f) c.self.inside.jobs.line.now c.self.inside.jobs.limits c.self.inside.ends.items c.self.inside.spent.items c.args.self.now c.self.view_is
-          (c.search-end.ensures.ends, c.search-end.ensures.counted);
-    }
+put-requires g c = record {
+  found = shown (λ l m es. IsResult l m c.search-found.result) c.self.inside.jobs.line.now c.self.inside.jobs.limits c.self.inside.ends.items c.self.inside.spent.items c.args.self.now c.self.view_is
+      c.search-found.ensures.result;
+}
 
 pub returns-clause-asks : goal.returns-clause-asks
 returns-clause-asks g c =
-    let f : Found = record { job = c.args.job; end = c.search-end.result.0; spent = c.search-end.result.1 } in
-    asked_put c.args.self.now c.put.new.self f (g.G.Grants.asked c.args.grants.now) (g.G.Grants.asked c.search-end.new.grants) c.requires.free c.put.ensures.puts c.put.ensures.notes
-    c.search-end.ensures.asks
+    let f = c.search-found.result in
+    let free : slice_get c.args.self.now.ends f.job ≡ Some None = subst (λ n. slice_get c.args.self.now.ends n ≡ Some None) (sym c.search-found.ensures.job) c.requires.free in
+    asked_put c.args.self.now c.put.new.self f (g.G.Grants.asked c.args.grants.now) (g.G.Grants.asked c.search-found.new.grants) free c.put.ensures.puts c.put.ensures.notes
+    c.search-found.ensures.asks

@@ -1,0 +1,156 @@
+//! A worker at the relay.
+ghost use Rattle.std.specs.Prelude.{◌≡◌, ◌<◌, ◌≤◌, [], length};
+ghost use Rattle.tt_share.specs.Jobs.{IsResult};
+ghost use Rattle.tt_share.specs.Relay.{IsHanded, IsResultAt, posed_by};
+ghost use Rattle.tt_share.specs.Seats.{seat_of};
+
+use crate::desk::Desk;
+use crate::ended::{is_for_total, is_stuck, trimmed};
+use crate::gate::Gate;
+use crate::grants::{SeatGrants, Share};
+use crate::jobs::{Found, Jobs};
+use crate::relay::{Pass, Relay};
+use tt_search::Store;
+
+/// Goes on with the search of a job by a share. Where that ends the gate is told, and the search of a stuck job is dropped if
+/// the desk knows of a lesser one.
+fn go_on_by<S: Store, G: Gate>(
+    jobs: &Jobs<'_>,
+    desk: &Desk,
+    gate: &G,
+    begun: Found,
+    share: u32,
+    store: &mut S,
+) -> Found
+    requires job { begun.job < length jobs.now.turns.items }
+    requires begun { IsResult jobs.now.line.now jobs.now.limits begun }
+    ensures job { result.job ≡ begun.job }
+    ensures result { IsResult jobs.now.line.now jobs.now.limits result }
+{
+    let mut grants = Share::of(share);
+    let Found { job, end, spent } = jobs.go_on(begun, store, &mut grants);
+    if is_for_total(&end) {
+        return Found { job, end, spent };
+    }
+    gate.end(job);
+    let past_stuck = is_stuck(&end) && desk.tell_stuck(job);
+    let end = trimmed(past_stuck, end);
+    Found { job, end, spent }
+}
+
+/// Does a share of a job: begins it where nothing of it is done, and leaves it as it is at its end.
+fn do_share<S: Store, G: Gate>(
+    jobs: &Jobs<'_>,
+    desk: &Desk,
+    gate: &G,
+    job: usize,
+    lies: Option<Found>,
+    share: u32,
+    store: &mut S,
+) -> Found
+    requires job { job < length jobs.now.turns.items }
+    requires lies { IsHanded jobs.now.line.now jobs.now.limits job lies }
+    ensures { IsResultAt jobs.now.line.now jobs.now.limits job result }
+{
+    match lies {
+        Some(found) => {
+            if is_for_total(&found.end) {
+                return go_on_by(jobs, desk, gate, found, share, store);
+            }
+            found
+        }
+        None => {
+            gate.begin(job);
+            go_on_by(jobs, desk, gate, jobs.begin(job, None), share, store)
+        }
+    }
+}
+
+/// A worker at the relay: its pass, the jobs that it has taken, and up to which it goes on with them.
+#[derive(Drop)]
+pub(crate) struct Hand<'r, 'a, 'b> {
+    relay: &'r Relay<'a, 'b>,
+    pass: Pass,
+    served: Vec<usize>,
+    until: usize,
+    ghost table: { pass.table_id ≡ relay.now.table.shared.table_id },
+    ghost empty: { pass.me ≡ (posed_by relay.now.jobs.now, []) },
+    ghost within: { until ≤ length relay.now.jobs.now.turns.items },
+}
+
+impl<'r, 'a, 'b> Hand<'r, 'a, 'b> {
+    /// A worker that hasn't taken anything yet.
+    pub fn new(relay: &'r Relay<'a, 'b>) -> Hand<'r, 'a, 'b> {
+        Hand {
+            relay,
+            pass: relay.sit(),
+            served: Vec::new(relay.jobs.alloc),
+            until: relay.jobs.turns.len(),
+        }
+    }
+
+    /// Does a share of the job at a place, unless another worker has taken it. Where the job is won for the side to move, those
+    /// behind it needn't be searched.
+    fn serve<S: Store, G: Gate>(
+        &mut self,
+        desk: &Desk,
+        gate: &G,
+        place: usize,
+        share: u32,
+        store: &mut S,
+    )
+        requires place { place < length self.old.relay.now.jobs.now.turns.items }
+    {
+        let Some(lies) = self.relay.take(&mut self.pass, place) else {
+            return;
+        };
+        if self.served.reserve(1).is_ok() {
+            self.served.push_reserved(place);
+        }
+        let found = do_share(self.relay.jobs, desk, gate, place, lies, share, store);
+        if self.relay.jobs.is_won(&found.end) {
+            self.until = place;
+        }
+        self.relay.leave(&mut self.pass, place, Some(found));
+    }
+
+    /// Does a share of the job at a place, if it hasn't taken it before, or with `to_end` searches it to its end.
+    fn visit<S: Store, G: Gate>(
+        &mut self,
+        desk: &Desk,
+        gate: &G,
+        place: usize,
+        to_end: bool,
+        store: &mut S,
+    )
+        requires place { place < length self.old.relay.now.jobs.now.turns.items }
+    {
+        if to_end {
+            self.serve(desk, gate, place, u32::MAX, store);
+        } else if !self.served.as_slice().contains(&place) {
+            self.serve(desk, gate, place, self.relay.share, store);
+        }
+    }
+
+    /// Visits each job that is handed on and that no other worker has taken, until the mark is seen, or up to one that is won:
+    /// does a share of those that it hasn't taken before, or with `to_end` searches all to their ends. It raises no mark, since lesser jobs may still have to be drawn: the least turn
+    /// that wins is to be found.
+    pub fn go_round<S: Store, G: Gate>(
+        &mut self,
+        grants: &mut SeatGrants<'_>,
+        gate: &G,
+        to_end: bool,
+        store: &mut S,
+    )
+        ensures desk { grants.new.desk.now ≡ grants.old.desk.now }
+        ensures counts { (grants.new.granted ≡ grants.old.granted) × (grants.new.refused ≡ grants.old.refused) }
+        ensures seat { grants.new.seat ≡ seat_of grants.old.seat.desk grants.old.seat.numbers grants.old.seat.grants grants.old.seat.mark grants.new.seat.sighting }
+    {
+        for place in self.relay.first..self.until {
+            if place >= self.until || grants.desk.raised(&mut grants.seat) {
+                return;
+            }
+            self.visit(grants.desk, gate, place, to_end, store);
+        }
+    }
+}
