@@ -38,14 +38,15 @@ fn go_on_by<S: Store, G: Gate>(
     Found { job, end, spent }
 }
 
-/// Does a share of a job: begins it where nothing of it is done, and leaves it as it is at its end.
-fn do_share<S: Store, G: Gate>(
+/// Brings a job up to so many expansions: begins it where nothing of it is done, and leaves it as it is where it has as many, or
+/// is at its end.
+fn bring_up<S: Store, G: Gate>(
     jobs: &Jobs<'_>,
     desk: &Desk,
     gate: &G,
     job: usize,
     lies: Option<Found>,
-    share: u32,
+    reach: u32,
     store: &mut S,
 ) -> Found
     requires job { job < length jobs.now.turns.items }
@@ -54,24 +55,24 @@ fn do_share<S: Store, G: Gate>(
 {
     match lies {
         Some(found) => {
-            if is_for_total(&found.end) {
+            if is_for_total(&found.end) && found.spent < reach {
+                let share = reach - found.spent;
                 return go_on_by(jobs, desk, gate, found, share, store);
             }
             found
         }
         None => {
             gate.begin(job);
-            go_on_by(jobs, desk, gate, jobs.begin(job, None), share, store)
+            go_on_by(jobs, desk, gate, jobs.begin(job, None), reach, store)
         }
     }
 }
 
-/// A worker at the relay: its pass, the jobs that it has taken, and up to which it goes on with them.
+/// A worker at the relay: its pass, and up to which job it goes on with those that are handed on.
 #[derive(Drop)]
 pub(crate) struct Hand<'r, 'a, 'b> {
     relay: &'r Relay<'a, 'b>,
     pass: Pass,
-    served: Vec<usize>,
     until: usize,
     ghost table: { pass.table_id ≡ relay.now.table.shared.table_id },
     ghost empty: { pass.me ≡ (posed_by relay.now.jobs.now, []) },
@@ -84,19 +85,18 @@ impl<'r, 'a, 'b> Hand<'r, 'a, 'b> {
         Hand {
             relay,
             pass: relay.sit(),
-            served: Vec::new(relay.jobs.alloc),
             until: relay.jobs.turns.len(),
         }
     }
 
-    /// Does a share of the job at a place, unless another worker has taken it. Where the job is won for the side to move, those
-    /// behind it needn't be searched.
+    /// Brings the job at a place up to so many expansions, unless another worker has taken it. Where the job is won for the side
+    /// to move, those behind it needn't be searched.
     fn serve<S: Store, G: Gate>(
         &mut self,
         desk: &Desk,
         gate: &G,
         place: usize,
-        share: u32,
+        reach: u32,
         store: &mut S,
     )
         requires place { place < length self.old.relay.now.jobs.now.turns.items }
@@ -104,42 +104,20 @@ impl<'r, 'a, 'b> Hand<'r, 'a, 'b> {
         let Some(lies) = self.relay.take(&mut self.pass, place) else {
             return;
         };
-        if self.served.reserve(1).is_ok() {
-            self.served.push_reserved(place);
-        }
-        let found = do_share(self.relay.jobs, desk, gate, place, lies, share, store);
+        let found = bring_up(self.relay.jobs, desk, gate, place, lies, reach, store);
         if self.relay.jobs.is_won(&found.end) {
             self.until = place;
         }
         self.relay.leave(&mut self.pass, place, Some(found));
     }
 
-    /// Does a share of the job at a place, if it hasn't taken it before, or with `to_end` searches it to its end.
-    fn visit<S: Store, G: Gate>(
-        &mut self,
-        desk: &Desk,
-        gate: &G,
-        place: usize,
-        to_end: bool,
-        store: &mut S,
-    )
-        requires place { place < length self.old.relay.now.jobs.now.turns.items }
-    {
-        if to_end {
-            self.serve(desk, gate, place, u32::MAX, store);
-        } else if !self.served.as_slice().contains(&place) {
-            self.serve(desk, gate, place, self.relay.share, store);
-        }
-    }
-
-    /// Visits each job that is handed on and that no other worker has taken, until the mark is seen, or up to one that is won:
-    /// does a share of those that it hasn't taken before, or with `to_end` searches all to their ends. It raises no mark, since lesser jobs may still have to be drawn: the least turn
-    /// that wins is to be found.
-    pub fn go_round<S: Store, G: Gate>(
+    /// Brings each job that is handed on and that no other worker has taken up to so many expansions, until the mark is seen, or up
+    /// to one that is won. It raises no mark, since lesser jobs may still be searched: the least turn that wins is to be found.
+    fn go_round<S: Store, G: Gate>(
         &mut self,
         grants: &mut SeatGrants<'_>,
         gate: &G,
-        to_end: bool,
+        reach: u32,
         store: &mut S,
     )
         ensures desk { grants.new.desk.now ≡ grants.old.desk.now }
@@ -150,7 +128,27 @@ impl<'r, 'a, 'b> Hand<'r, 'a, 'b> {
             if place >= self.until || grants.desk.raised(&mut grants.seat) {
                 return;
             }
-            self.visit(grants.desk, gate, place, to_end, store);
+            self.serve(grants.desk, gate, place, reach, store);
+        }
+    }
+
+    /// Goes round by round until the jobs that are handed on are at their ends or with other workers: a share further in each round, so
+    /// that all of them get on alike, and workers that come one after the other end together.
+    pub fn go_rounds<S: Store, G: Gate>(
+        &mut self,
+        grants: &mut SeatGrants<'_>,
+        gate: &G,
+        store: &mut S,
+    )
+        ensures desk { grants.new.desk.now ≡ grants.old.desk.now }
+        ensures counts { (grants.new.granted ≡ grants.old.granted) × (grants.new.refused ≡ grants.old.refused) }
+        ensures seat { grants.new.seat ≡ seat_of grants.old.seat.desk grants.old.seat.numbers grants.old.seat.grants grants.old.seat.mark grants.new.seat.sighting }
+    {
+        let budget = self.relay.jobs.limits.budget();
+        let mut reach = 0u32;
+        while reach < budget {
+            reach = reach.saturating_add(self.relay.share);
+            self.go_round(grants, gate, reach, store);
         }
     }
 }

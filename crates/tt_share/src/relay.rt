@@ -14,6 +14,9 @@ use tt_game::Line;
 use tt_search::Limits;
 use tt_sgf::NoMemory;
 
+/// How many shares a search has at most.
+const MOST_SHARES: u32 = 32;
+
 /// The fewest expansions that make a share of a search.
 const LEAST_SHARE: u32 = 256;
 
@@ -79,6 +82,7 @@ pub(crate) struct Relay<'a, 'b> {
     ghost words_are: { table.shared.table_id.words ≡ length jobs.now.turns.items },
     ghost slots_are: { table.shared.table_id.slots ≡ length jobs.now.turns.items },
     ghost within: { (0 < first) × (first ≤ length jobs.now.turns.items) },
+    ghost some_share: { 0 < share },
 }
 
 /// A row of so many places where nothing lies.
@@ -92,19 +96,20 @@ fn empty_row(alloc: Global, count: usize) -> Result<Vec<Option<Found>>, NoMemory
     Ok(row)
 }
 
-/// How many of the jobs are handed on: those that are left over once each worker has searched as many as the others. None
-/// where there is a total, where a share would be small, or where not each worker has a job.
-fn left_over(jobs: usize, workers: usize, share: u32, total: Option<u32>) -> usize
+/// How many of the jobs are handed on: as many as there are workers, so that each has one at the end, and one more, since the
+/// last one is the pass, which is mostly settled soon. None where there is a total, where a search is one share, where one
+/// worker is alone, or where there are no more jobs than workers.
+fn handed_on(jobs: usize, workers: usize, shares: bool, total: Option<u32>) -> usize
     requires jobs { 0 < jobs }
-    requires workers { 0 < workers }
+    requires workers { workers ≤ MOST_WORKERS }
     ensures fewer { result < jobs }
-    ensures few { result < workers }
+    ensures few { result ≤ workers + 1 }
     ensures total { IfSome total (λ _. result ≡ 0) }
 {
-    if total.is_some() || share < LEAST_SHARE || jobs < workers {
+    if total.is_some() || !shares || workers == 1 || jobs <= workers {
         return 0;
     }
-    jobs % workers
+    (workers + 1).min(jobs - 1)
 }
 
 /// Puts a result that is at its end into a list with room for one more. Of one that is paused the gate is told the end.
@@ -131,19 +136,20 @@ impl<'a, 'b> Relay<'a, 'b> {
     ) -> Result<Relay<'a, 'b>, NoMemory>
         requires workers { (0 < workers) × (workers ≤ MOST_WORKERS) }
         ensures jobs { IfOk result (λ r. r.jobs.now ≡ jobs.now) }
-        ensures few { IfOk result (λ r. length jobs.now.turns.items < r.first + workers) }
+        ensures few { IfOk result (λ r. length jobs.now.turns.items ≤ r.first + workers + 1) }
         ensures total { IfSome total (λ _. IfOk result (λ r. r.first ≡ length jobs.now.turns.items)) }
     {
         let count = jobs.turns.len();
-        let share = jobs.limits.budget() / workers as u32;
-        let handed = left_over(count, workers, share, total);
+        let budget = jobs.limits.budget();
+        let share = (budget / MOST_SHARES).max(LEAST_SHARE);
+        let behind = handed_on(count, workers, share < budget, total);
         let words = vec![in jobs.alloc; 1u64; count]?;
         let row = empty_row(jobs.alloc, count)?;
         match Table::new(jobs.alloc, words.as_slice(), row, jobs) {
             Ok((table, _)) => Ok(Relay {
                 jobs,
-                first: count - handed,
-                share: share + 1,
+                first: count - behind,
+                share,
                 table,
             }),
             Err(_) => Err(NoMemory),

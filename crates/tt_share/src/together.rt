@@ -46,7 +46,7 @@ pub(crate) fn search_together<R: Threads + Wait + Sync, G: Gate, S: Store>(
 {
     let alloc = results.jobs.alloc;
     let seats = Vec::with_capacity(alloc, workers + 1)?;
-    let room = Vec::with_capacity(alloc, workers)?;
+    let room = Vec::with_capacity(alloc, workers + 1)?;
     let relay = Relay::of(&results.jobs, workers, total)?;
     let (desk, mut all) = Desk::new(alloc, relay.first, workers + 1, total)?;
     let Some(own) = all.pop() else { unreachable!() };
@@ -88,7 +88,7 @@ fn solve_rest<R: Threads + Wait + Sync, G: Gate, S: Store>(
 /// Solves the line by 1 to `MOST_WORKERS` workers, which share the log. Each of them, and the caller, has a view of it. The log is asked
 /// first for a proof that wins at the line itself. Else each legal turn, in rising order, is a job: workers draw them and
 /// search each with the same budget and a depth one less, until one is settled for the side to move. Where there is no total
-/// they hand the last ones on to one another, fewer than there are workers, so that all end together. The caller searches
+/// they hand the last ones on to one another, one more than there are workers, so that all end together. The caller searches
 /// what they left, and the proof that the results make is offered to the log. Where there is a total, which is at least 1, all
 /// searches together expand at most so many nodes. The depth is at least 1, and nobody has won at the line.
 pub fn solve<R: Threads + Wait + Sync, G: Gate>(

@@ -87,7 +87,7 @@ fn trimmed_at(desk: &Desk, job: usize, end: Ended, spare: &mut Option<Line>) -> 
 /// Draws jobs and searches them until no job is left, the mark is seen or memory is refused. Room for a result comes
 /// before its draw, so each job that was drawn has its result. A job that is settled for the side to move raises the mark.
 /// It keeps the search of a stuck job only where the desk knows of no lesser one; the line of another one serves the next job.
-/// Between two jobs of its own, and behind the last one, it goes on with those that are handed on.
+/// Behind the last one it goes on with those that are handed on.
 pub(crate) fn work<S: Store, G: Gate>(
     jobs: &Jobs<'_>,
     desk: &Desk,
@@ -111,9 +111,8 @@ pub(crate) fn work<S: Store, G: Gate>(
         let end = trimmed_at(desk, job, end, &mut spare);
         grants.raise_for(jobs.is_won(&end));
         found.push_reserved(Found { job, end, spent });
-        hand.go_round(&mut grants, gate, false, store);
     }
-    hand.go_round(&mut grants, gate, true, store);
+    hand.go_rounds(&mut grants, gate, store);
     let seat = grants.into_seat();
     HandedBack { seat, found }
 }

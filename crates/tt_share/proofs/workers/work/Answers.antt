@@ -47,11 +47,10 @@ loop-job-smaller g c =
     let searched = c.search_drawn-end.new.grants in
     let same = ap (λ (p : DeskView × SeatView). p.1) c.search_drawn-end.ensures.source in
     let raised = ap (λ (s : SeatView). length s.numbers) c.raise_for.ensures.seat in
-    let round = ap (λ (s : SeatView). length s.numbers) c.go_round.ensures.seat in
     let kept = ap (λ (s : SeatView). length s.numbers) same in
     let drawn = ap (λ (ns : List ℕ). length ns) c.in-Some.ensures.job.2 in
     let jobs = ap (λ (d : DeskView). d.jobs) c.loop-job.invariant.desk in
-    omega (arith, round, raised, kept, drawn, length-append c.loop-job.grants.seat.numbers (c.in-Some.job ∷ []), jobs, c.in-Some.ensures.job.0, c.in-Some.ensures.job.1)
+    omega (arith, raised, kept, drawn, length-append c.loop-job.grants.seat.numbers (c.in-Some.job ∷ []), jobs, c.in-Some.ensures.job.0, c.in-Some.ensures.job.1)
 
 pub loop-job-preserved : goal.loop-job-preserved
 loop-job-preserved g c =
@@ -63,9 +62,7 @@ loop-job-preserved g c =
     let f : Found = record { job = c.in-Some.job; end = c.trimmed_at-end.result; spent = ended.result.1 } in
     let before = c.next_job.new.grants in
     let searched = ended.new.grants in
-    let raised = c.raise_for.new.self in
-    let after = c.go_round.new.grants in
-    let round = c.go_round.ensures in
+    let after = c.raise_for.new.self in
     let won = c.is_won.result in
     let desk : searched.desk.now ≡ before.desk.now = ap (λ (p : DeskView × SeatView). p.0) ended.ensures.source in
     let seat = ap (λ (p : DeskView × SeatView). p.1) ended.ensures.source in
@@ -80,10 +77,9 @@ loop-job-preserved g c =
     let more = All-push (IsResult line limits) c.loop-job.found.items f c.loop-job.invariant.found this in
     let down : IsTrue before.seat.mark → ⊥ = λ up. not_none c.next_job.result c.in-Some.job c.in-Some.is (c.next_job.ensures.stopped (left_true before.seat.mark before.seat.sighting up)).0 in
     let mark : after.seat.mark ≡ (before.seat.mark || won) =
-    ap (λ (s : SeatView). s.mark) round.seat ∙ (mark_of raised.seat searched.seat.desk searched.seat.numbers searched.seat.grants (searched.seat.mark || won) searched.seat.sighting c.raise_for.ensures.seat ∙ ap (λ b. b || won) same_mark) in
+    mark_of after.seat searched.seat.desk searched.seat.numbers searched.seat.grants (searched.seat.mark || won) searched.seat.sighting c.raise_for.ensures.seat ∙ ap (λ b. b || won) same_mark in
     let numbers : after.seat.numbers ≡ before.seat.numbers =
-    ap (λ (s : SeatView). s.numbers) round.seat
-    ∙ (numbers_of raised.seat searched.seat.desk searched.seat.numbers searched.seat.grants (searched.seat.mark || won) searched.seat.sighting c.raise_for.ensures.seat ∙ same_numbers) in
+    numbers_of after.seat searched.seat.desk searched.seat.numbers searched.seat.grants (searched.seat.mark || won) searched.seat.sighting c.raise_for.ensures.seat ∙ same_numbers in
     let inside : c.in-Some.job < length (legal_turns line.frame line.state) = omega (
       arith,
       c.in-Some.ensures.job.0,
@@ -94,7 +90,7 @@ loop-job-preserved g c =
     let sum = ap spent_on all in
     let long = ap (λ (l : List Found). length l) all in
     record {
-      desk = round.desk ∙ (c.raise_for.ensures.desk ∙ (desk ∙ (c.next_job.ensures.desk ∙ c.loop-job.invariant.desk)));
+      desk = c.raise_for.ensures.desk ∙ (desk ∙ (c.next_job.ensures.desk ∙ c.loop-job.invariant.desk));
       jobs = subst (All (λ (h : Found). h.job < c.args.desk.now.jobs)) (sym all)
           (All-push (λ (h : Found). h.job < c.args.desk.now.jobs) c.loop-job.found.items f c.loop-job.invariant.jobs
           (subst (λ (d : DeskView). c.in-Some.job < d.jobs) c.loop-job.invariant.desk c.in-Some.ensures.job.0));
@@ -106,7 +102,6 @@ loop-job-preserved g c =
         ended.ensures.asks.granted,
         c.next_job.ensures.counts.0,
         c.raise_for.ensures.counts.0,
-        round.counts.0,
       );
       few = omega (
         arith,
@@ -117,11 +112,10 @@ loop-job-preserved g c =
         ended.ensures.asks.few,
         c.next_job.ensures.counts.0,
         c.raise_for.ensures.counts.0,
-        round.counts.0,
       );
-      refused = λ h. round.counts.1 ∙ (c.raise_for.ensures.counts.1 ∙ refused_more c.loop-job.found.items c.push_reserved.new.self.items f c.loop-job.grants.refused searched.refused all
+      refused = λ h. c.raise_for.ensures.counts.1 ∙ refused_more c.loop-job.found.items c.push_reserved.new.self.items f c.loop-job.grants.refused searched.refused all
           (λ stuck. ended.ensures.asks.refused (total_kept past ended.result.0 (subst IsForTotal c.trimmed_at-end.ensures.kept.1 stuck)))
-          (λ up. ended.ensures.asks.still (c.next_job.ensures.counts.1 ∙ up)) c.loop-job.invariant.refused h);
+          (λ up. ended.ensures.asks.still (c.next_job.ensures.counts.1 ∙ up)) c.loop-job.invariant.refused h;
       found = subst (All (IsResult line limits)) (sym all) more;
       wins = subst (WinsAreLast side after.seat.mark) (sym all)
           (wins_more side c.loop-job.grants.seat.mark after.seat.mark c.loop-job.found.items f (λ up. down (marks_again c.loop-job.grants.seat.mark before.seat.mark c.next_job.ensures.seat.1 up))
@@ -141,12 +135,12 @@ returns-clause-drawn g c =
     let drawn = drawn_all c.args.desk.now.jobs c.args.seat.numbers c.loop-job.grants.seat.numbers last.seat.numbers c.loop-job.found.items c.next_job.new.found.items
     c.loop-job.invariant.drawn c.next_job.ensures.found spare in
     subst (λ (s : SeatView). AddsSpare c.args.desk.now.jobs (c.args.seat.numbers ++ jobs_of c.next_job.new.found.items) s.numbers) (sym c.into_seat-seat.ensures)
-    (subst (λ (ns : List ℕ). AddsSpare c.args.desk.now.jobs (c.args.seat.numbers ++ jobs_of c.next_job.new.found.items) ns) (sym (ap (λ (s : SeatView). s.numbers) c.go_round-2.ensures.seat)) drawn)
+    (subst (λ (ns : List ℕ). AddsSpare c.args.desk.now.jobs (c.args.seat.numbers ++ jobs_of c.next_job.new.found.items) ns) (sym (ap (λ (s : SeatView). s.numbers) c.go_rounds.ensures.seat)) drawn)
 
 pub returns-clause-mark : goal.returns-clause-mark
 returns-clause-mark g c = λ up.
     (let side = c.args.jobs.now.line.now.state.to_move in
-    let mark = ap (λ (s : SeatView). s.mark) c.into_seat-seat.ensures ∙ (ap (λ (s : SeatView). s.mark) c.go_round-2.ensures.seat ∙ c.next_job.ensures.seat.1) in
+    let mark = ap (λ (s : SeatView). s.mark) c.into_seat-seat.ensures ∙ (ap (λ (s : SeatView). s.mark) c.go_rounds.ensures.seat ∙ c.next_job.ensures.seat.1) in
     subst (λ (l : List Found). IsTrue c.args.seat.mark ⊎ SomeWin side l) (sym c.next_job.ensures.found) (c.loop-job.invariant.mark (sym mark ∙ up)))
 
 pub returns-clause-work : goal.returns-clause-work
@@ -155,8 +149,8 @@ returns-clause-work g c =
     let line = c.args.jobs.now.line.now in
     let limits = c.args.jobs.now.limits in
     let next = c.next_job.new.grants in
-    let last = c.go_round-2.new.grants in
-    let round = c.go_round-2.ensures in
+    let last = c.go_rounds.new.grants in
+    let round = c.go_rounds.ensures in
     let seat = c.into_seat-seat.ensures in
     let found = sym c.next_job.ensures.found in
     let desk : last.desk.now ≡ c.args.desk.now = round.desk ∙ (c.next_job.ensures.desk ∙ c.loop-job.invariant.desk) in
