@@ -3,6 +3,7 @@ pub mod Best
 pub mod Grown
 pub mod Lifted
 pub mod Places
+pub mod Untried
 pub mod Steps
 pub mod Open
 pub mod Steady

@@ -13,7 +13,7 @@ use Rattle.tt_search.specs.declared.edges.Edge.{Edge}
 use Rattle.tt_search.specs.declared.edges.Mark.{Mark}
 use Rattle.tt_search.specs.declared.edges.Mark.TheVariants as mark
 use Rattle.tt_search.specs.declared.node.Growth.{Growth}
-use Rattle.tt_search.specs.declared.node.Growth.TheVariants.{Fresh, Won, Closed, Expanded, Offered}
+use Rattle.tt_search.specs.declared.node.Growth.TheVariants.{Fresh, Won, Closed, Untried, Expanded, Offered}
 use Rattle.tt_search.specs.declared.children.Packed.{Packed}
 use Rattle.tt_search.specs.declared.node.Node.TheDeep.{deep-Growth, deep-Packed}
 
@@ -41,5 +41,6 @@ pub deep-weight : (g : Growth) → HoldsItsOwn g → max (deep-Growth g) 0 ≤ w
 deep-weight Fresh h = omega arith
 deep-weight (Won s) h = omega arith
 deep-weight (Closed p) h = omega arith
+deep-weight (Untried mover plays) h = omega arith
 deep-weight (Expanded aim children) h = omega (arith, children-fall children h.whole)
 deep-weight (Offered mover edges grown p) h = omega (arith, most-weight edges grown.items h.whole)

@@ -16,6 +16,7 @@ pub mod PartialTreeCode
 pub mod Weight
 pub mod Edges
 pub mod EdgeRow
+pub mod Untried
 pub mod Expanding
 pub mod Choices
 pub mod Packed

@@ -2,6 +2,8 @@
 
 ghost use Rattle.std.specs.Prelude.{◌≡◌};
 ghost use Rattle.tt_search.specs.Edges.{edge_turn, mark_of};
+ghost use Rattle.tt_search.specs.Untried.{fresh_edge};
+ghost use Rattle.tt_sgf.specs.declared.size.TheConstants.{MOST_POINTS};
 
 use tt_game::{Side, Turn};
 use tt_sgf::{MOST_POINTS, Point};
@@ -43,6 +45,20 @@ impl Edge {
         Edge {
             code: kind * TURNS + number,
         }
+    }
+
+    /// The edge of a play to a child of which nothing is known.
+    pub(crate) fn fresh_play(p: Point) -> Edge
+        ensures { result ≡ fresh_edge p }
+    {
+        Edge { code: p.number() }
+    }
+
+    /// The edge of a pass to a child of which nothing is known.
+    pub(crate) fn fresh_pass() -> Edge
+        ensures { result ≡ fresh_edge MOST_POINTS }
+    {
+        Edge { code: MOST_POINTS }
     }
 
     /// The turn.

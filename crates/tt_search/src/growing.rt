@@ -22,7 +22,7 @@ use crate::children::{Aim, Packed};
 use crate::closing::usable;
 use crate::edges::Mark;
 use crate::grants::Grants;
-use crate::leaves::{closed_leaf, expanded_at, new_leaf};
+use crate::leaves::{closed_leaf, expanded_at, new_leaf, untried_children};
 use crate::limits::{Reason, Step};
 use crate::node::{Growth, Node};
 use crate::numbers::Pair;
@@ -161,14 +161,9 @@ impl Node {
         let (proof, disproof) = (self.proof, self.disproof);
         match &mut self.growth {
             Growth::Expanded(aim, children) => {
-                let mover = aim.mover;
-                let Ok(()) = walk.go_down(children.best_turn(*aim)) else {
-                    return Step::Stuck(Reason::Memory);
-                };
-                let was = Pair::of(mover, proof, disproof);
-                let (step, numbers) = children.grow_best(aim, was, walk, pace, store, grants);
-                walk.go_up();
-                let (proof, disproof) = numbers.by_goal(mover);
+                let was = Pair::of(aim.mover, proof, disproof);
+                let (step, numbers) = children.descend(aim, was, walk, pace, store, grants);
+                let (proof, disproof) = numbers.by_goal(aim.mover);
                 self.proof = proof;
                 self.disproof = disproof;
                 if let Some(side) = self.settled_for() {
@@ -176,9 +171,54 @@ impl Node {
                 }
                 step
             }
+            Growth::Untried(mover, plays) => {
+                let Ok((aim, children)) = untried_children(walk.alloc, *mover, plays) else {
+                    return Step::Stuck(Reason::Memory);
+                };
+                self.first_round(aim, children, walk, pace, store, grants)
+            }
             Growth::Won(_) | Growth::Closed(_) | Growth::Offered(_, _, _, _) => unreachable!(),
             Growth::Fresh => self.first_step(walk, store, grants),
         }
+    }
+
+    /// Steps at a node of which no turn has been tried, by one descent below these children of it, which it keeps.
+    #[cycle(descent)]
+    #[inline(never)]
+    fn first_round<S: Store, G: Grants>(
+        &mut self,
+        mut aim: Aim,
+        mut children: Packed,
+        walk: &mut Walk,
+        pace: Pace,
+        store: &mut S,
+        grants: &mut G,
+    ) -> Step
+        requires same { node_with (choices_of aim.mover children) ≡ self.old }
+        requires kept { IsKept aim children }
+        requires may_grow { MayGrow (stand_of walk.old) self.old }
+        requires room { walk.old.room ≤ MOST_DEPTH }
+        requires grants { (G.asked grants.old).granted + walk.old.left < 2 ^ 64 }
+        ensures line { walk.new.line ≡ walk.old.line }
+        ensures room { walk.new.room ≡ walk.old.room }
+        ensures may { result ≡ Closed → S.may_answer }
+        ensures granted { (G.asked grants.new).granted + walk.new.left ≡ (G.asked grants.old).granted + walk.old.left }
+        ensures asked { AreAsked pace (G.asked grants.old) result (G.asked grants.new) }
+        ensures source { G.source grants.new ≡ G.source grants.old }
+        ensures steps { AreSteps pace walk.old self.old result self.new walk.new }
+    {
+        let was = Pair::of(aim.mover, self.proof, self.disproof);
+        let (step, numbers) = children.descend(&mut aim, was, walk, pace, store, grants);
+        let (proof, disproof) = numbers.by_goal(aim.mover);
+        *self = Node {
+            proof,
+            disproof,
+            growth: Growth::Expanded(aim, children),
+        };
+        if let Some(side) = self.settled_for() {
+            walk.offering = self.offer(side, walk, store);
+        }
+        step
     }
 
     /// Becomes what another node is, where nothing is known of this one: so there is nothing to give back.
@@ -190,6 +230,7 @@ impl Node {
             Growth::Fresh => *self = node,
             Growth::Won(_) => unreachable!(),
             Growth::Closed(_) => unreachable!(),
+            Growth::Untried(_, _) => unreachable!(),
             Growth::Expanded(_, _) => unreachable!(),
             Growth::Offered(_, _, _, _) => unreachable!(),
         }
@@ -266,9 +307,46 @@ impl Node {
 }
 
 impl Packed {
+    /// Steps at an undecided node with these children, by one descent to the child to go to, where the walk stands at the node; and
+    /// the numbers of the node after them, where these were its numbers before.
+    #[cycle(descent)]
+    #[inline(always)]
+    fn descend<S: Store, G: Grants>(
+        &mut self,
+        aim: &mut Aim,
+        was: Pair,
+        walk: &mut Walk,
+        pace: Pace,
+        store: &mut S,
+        grants: &mut G,
+    ) -> (Step, Pair)
+        requires kept { IsKept aim.old self.old }
+        requires was { ArePair aim.old.mover (node_with (choices_of aim.old.mover self.old)) was }
+        requires may_grow { MayGrow (stand_of walk.old) (node_with (choices_of aim.old.mover self.old)) }
+        requires room { walk.old.room ≤ MOST_DEPTH }
+        requires grants { (G.asked grants.old).granted + walk.old.left < 2 ^ 64 }
+        ensures line { walk.new.line ≡ walk.old.line }
+        ensures room { walk.new.room ≡ walk.old.room }
+        ensures may { result.0 ≡ Closed → S.may_answer }
+        ensures granted { (G.asked grants.new).granted + walk.new.left ≡ (G.asked grants.old).granted + walk.old.left }
+        ensures asked { AreAsked pace (G.asked grants.old) result.0 (G.asked grants.new) }
+        ensures source { G.source grants.new ≡ G.source grants.old }
+        ensures steps { AreSteps pace walk.old (node_with (choices_of aim.old.mover self.old)) result.0 (node_with (choices_of aim.new.mover self.new)) walk.new }
+        ensures kept { IsKept aim.new self.new }
+        ensures numbers { ArePair aim.new.mover (node_with (choices_of aim.new.mover self.new)) result.1 }
+    {
+        let Ok(()) = walk.go_down(self.best_turn(*aim)) else {
+            return (Step::Stuck(Reason::Memory), was);
+        };
+        let (step, numbers) = self.grow_best(aim, was, walk, pace, store, grants);
+        walk.go_up();
+        (step, numbers)
+    }
+
     /// Steps at the child to go to, which is undecided, where the walk stands at it; and the numbers of the node after
     /// them, where these were its numbers before. A new child to go to is looked for only where the least number has risen.
     #[cycle(descent)]
+    #[inline(always)]
     fn grow_best<S: Store, G: Grants>(
         &mut self,
         aim: &mut Aim,
@@ -317,6 +395,7 @@ impl Packed {
     /// Steps at the child of a place, which is undecided, where the walk stands at it: those of its node where it has
     /// grown, and one step where it is fresh.
     #[cycle(descent)]
+    #[inline(always)]
     fn grow_at<S: Store, G: Grants>(
         &mut self,
         place: usize,
@@ -352,6 +431,7 @@ impl Packed {
     /// A step at a fresh child, whose node is put among those that have grown and takes the step there, so that it is written once. There is
     /// room for the node before its expansion is asked for and its proof is offered, so nothing is granted or kept of a node that the
     /// search can't hold. Where the step is stuck, the child has no node as before.
+    #[inline(always)]
     fn sprout<S: Store, G: Grants>(
         &mut self,
         place: usize,

@@ -9,12 +9,17 @@ ghost use Rattle.tt_search.specs.Edges.{edge_turn, mark_of, tree_of, edge_turns,
 ghost use Rattle.tt_game.specs.Surveys.{IsSurvey};
 ghost use Rattle.tt_search.specs.Growing.{leaf_for, expansion};
 ghost use Rattle.tt_search.specs.Expanding.{AreNewEdges};
+ghost use Rattle.tt_search.specs.Choices.{node_with};
+ghost use Rattle.tt_search.specs.Packed.{choices_of, choices_with};
+ghost use Rattle.tt_search.specs.Kept.{IsKept};
+ghost use Rattle.tt_search.specs.Untried.{with_pass, AreUntried};
 
-use crate::children::Packed;
+use crate::children::{Aim, Packed};
 use crate::edge_row::{Edges, Few};
 use crate::edges::{Edge, Mark};
 use crate::node::{Growth, Node};
-use crate::numbers::decided_number;
+use crate::numbers::{Pair, decided_number};
+use crate::plays::Plays;
 use arrayvec::ArrayVec;
 use std::alloc::Global;
 use std::sync::Arc;
@@ -116,17 +121,77 @@ fn few_edges_at(line: &Line, survey: &Survey) -> Option<Edges>
 }
 
 /// The edges of the line's legal turns, to new leaves: of few at once where they are kept.
-fn new_edges_at(alloc: Global, line: &Line) -> Result<Edges, NoMemory>
+fn new_edges_at(alloc: Global, line: &Line, survey: &Survey) -> Result<Edges, NoMemory>
     requires open { winner_of line.now.frame line.now.state ≡ None }
+    requires survey { IsSurvey survey.now line.now.frame line.now.state }
     ensures { IfOk result (λ edges. AreNewEdges line.now.frame line.now.state edges) }
 {
-    let survey = line.survey();
     if !line.has_many() {
-        if let Some(edges) = few_edges_at(line, &survey) {
+        if let Some(edges) = few_edges_at(line, survey) {
             return Ok(edges);
         }
     }
-    edges_at(alloc, line, &survey)
+    edges_at(alloc, line, survey)
+}
+
+/// The line's legal plays, where these are many and nobody has won behind any turn.
+fn untried_plays(line: &Line, survey: &Survey) -> Option<Plays>
+    requires open { winner_of line.now.frame line.now.state ≡ None }
+    requires survey { IsSurvey survey.now line.now.frame line.now.state }
+    ensures edges { IfSome result (λ plays. AreNewEdges line.now.frame line.now.state (with_pass plays)) }
+    ensures untried { IfSome result (λ plays. AreUntried (with_pass plays)) }
+{
+    if !line.has_many() || line.winner_by_pass().is_some() {
+        return None;
+    }
+    let mut plays = Plays::new();
+    let mut from = 0;
+    while let Some((p, winner)) = line.next_play(survey, from) {
+        if winner.is_some() {
+            return None;
+        }
+        plays.push(p);
+        from = p.number() + 1;
+    }
+    Some(plays)
+}
+
+/// An expanded node with these plays and a pass, of which no turn has been tried.
+fn untried_node(mover: Side, plays: Plays) -> Node
+    requires { AreUntried (with_pass plays) }
+    ensures { result ≡ node_with (choices_with mover (with_pass plays) []) }
+{
+    let numbers = Pair {
+        own: 1,
+        other: u32::from(plays.len()) + 1,
+    };
+    let (proof, disproof) = numbers.by_goal(mover);
+    Node {
+        proof,
+        disproof,
+        growth: Growth::Untried(mover, plays),
+    }
+}
+
+/// The children of a node of which no turn has been tried, and which of them to go to: the first one.
+pub(crate) fn untried_children(
+    alloc: Global,
+    mover: Side,
+    plays: &Plays,
+) -> Result<(Aim, Packed), NoMemory>
+    requires { AreUntried (with_pass plays.now) }
+    ensures mover { IfOk result (λ x. x.0.mover ≡ mover) }
+    ensures children { IfOk result (λ x. choices_of x.0.mover x.1 ≡ choices_with mover (with_pass plays.now) []) }
+    ensures kept { IfOk result (λ x. IsKept x.0 x.1) }
+{
+    let edges = plays.row(alloc)?;
+    let aim = Aim {
+        mover,
+        place: 0,
+        rank: 0,
+    };
+    let grown = Vec::new(alloc);
+    Ok((aim, Packed { edges, grown }))
 }
 
 /// The line's node with a new leaf for each legal turn.
@@ -134,6 +199,10 @@ pub(crate) fn expanded_at(alloc: Global, line: &Line) -> Result<Node, NoMemory>
     requires open { winner_of line.now.frame line.now.state ≡ None }
     ensures { IfOk result (λ node. node ≡ expansion line.now.frame line.now.state) }
 {
-    let edges = new_edges_at(alloc, line)?;
+    let survey = line.survey();
+    if let Some(plays) = untried_plays(line, &survey) {
+        return Ok(untried_node(line.to_move(), plays));
+    }
+    let edges = new_edges_at(alloc, line, &survey)?;
     Ok(expanded_node(alloc, line.to_move(), edges))
 }

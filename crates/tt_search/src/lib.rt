@@ -21,6 +21,7 @@ mod leaves;
 mod limits;
 mod node;
 mod numbers;
+mod plays;
 mod private;
 mod search;
 mod settled;

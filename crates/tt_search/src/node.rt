@@ -4,6 +4,7 @@ ghost use Rattle.std.specs.Prelude.{◌≡◌};
 
 use crate::children::{Aim, Packed};
 use crate::edge_row::LastEdges;
+use crate::plays::Plays;
 use std::marker::Model;
 use std::sync::Arc;
 use tt_game::Side;
@@ -18,7 +19,8 @@ pub(crate) struct Node {
     pub(crate) growth: Growth,
 }
 
-/// What a node has become. An expanded node that has offered its proof is of its own kind: it has its mover, the edges and the
+/// What a node has become. An expanded node where nobody has won behind any turn, and of which no child has grown, has its mover and the
+/// points of its plays, if these are many. An expanded node that has offered its proof is of its own kind: it has its mover, the edges and the
 /// nodes of its children, and the proof, so that the nodes above take its tree from there.
 #[cycle(node)]
 #[derive(Drop)]
@@ -26,6 +28,7 @@ pub(crate) enum Growth {
     Fresh,
     Won(Side),
     Closed(Arc<Proof>),
+    Untried(Side, Plays),
     Expanded(Aim, Packed),
     Offered(Side, LastEdges, Vec<Node>, Arc<Proof>),
 }

@@ -44,6 +44,7 @@ impl Node {
             Growth::Fresh => Ok(Plan::done()),
             Growth::Won(_) => Ok(Plan::done()),
             Growth::Closed(proof) => proof.plan().try_clone(),
+            Growth::Untried(_, _) => unreachable!(),
             Growth::Expanded(aim, children) => children.plan(alloc, aim.mover, side),
             Growth::Offered(_, _, _, proof) => proof.plan().try_clone(),
         }

@@ -43,6 +43,7 @@ use Rattle.tt_search.specs.contracts.children.Aim as Aim
 use Rattle.tt_search.specs.contracts.edge_row.Edges as Edges
 use Rattle.tt_search.specs.contracts.edge_row.LastEdges as LastEdges
 use Rattle.tt_search.specs.contracts.limits.Limits as Limits
+use Rattle.tt_search.specs.contracts.plays.Plays as Plays
 use Rattle.tt_search.specs.contracts.node.Node as Node
 use Rattle.tt_search.specs.contracts.node.Node.TheKnot as NodeKnot
 use Rattle.tt_search.specs.declared.node.Node.TheDeep as Deep
@@ -198,6 +199,13 @@ last_edges_send = search (sendable, crosses, edges_send) depth 40
 last_edges_field : IsSend (as_row LastEdges.the_field)
 last_edges_field = as_row_send LastEdges.the_field last_edges_send
 
+-- plays are words, and how many there are
+plays_send : IsSend Plays.the_row
+plays_send = search (sendable, crosses) depth 40
+
+plays_field : IsSend (as_row Plays.the_field)
+plays_field = as_row_send Plays.the_field plays_send
+
 shared_field : IsSend (as_row (Arc.the_field Proof.the_row Global.the_row ghosts))
 shared_field = search (sendable, crosses, shared_send) depth 40
 
@@ -213,8 +221,11 @@ growth_layer packed nodes below above =
         (
           (shared_field, tt),
           (
-            (aim_field, (children, tt)),
-            ((side_send, (last_edges_field, (as_row_send (row_field _) list, (shared_field, tt)))), tt),
+            (side_send, (plays_field, tt)),
+            (
+              (aim_field, (children, tt)),
+              ((side_send, (last_edges_field, (as_row_send (row_field _) list, (shared_field, tt)))), tt),
+            ),
           ),
         ),
       ),

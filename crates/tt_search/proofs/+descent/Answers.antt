@@ -2,18 +2,14 @@ use Rattle.std.proofs.Common.{rules, ◌≡◌, ◌+◌, ◌^◌, ◌<◌, ◌�
 use Rattle.tt_game.specs.declared.frame.Side.TheVariants.{Attacker, Defender}
 use Rattle.tt_search.specs.PartialTree.{PartialTree}
 use Rattle.tt_search.specs.Shape.{shape}
-use Rattle.tt_search.specs.Choices.{Choices, node_with, best_place}
+use Rattle.tt_search.specs.Choices.{node_with, best_place}
 use Rattle.tt_search.specs.Packed.{choices_of, child_of}
 use Rattle.tt_search.specs.Child.{child_tree}
-use Rattle.tt_search.specs.Pairs.{ArePair}
-use Rattle.tt_search.specs.Cached.{IsCached}
-use Rattle.tt_search.specs.Kept.{IsKept}
-use Rattle.tt_search.specs.Offered.{HoldsItsOwn}
 use Rattle.tt_search.specs.Edges.{mark_of, grown_in, edge_turns, edge_trees}
 use Rattle.tt_search.specs.Numbers.{number}
 use Rattle.tt_search.specs.Growing.{IsPartialTree}
 use Rattle.tt_search.specs.Walking.{stage, stand_of, MayGrow}
-use Rattle.tt_search.specs.Steady.{AreStepsAt}
+use Rattle.tt_search.specs.Steady.{AreStepsAt, AreSteps}
 use Rattle.tt_search.specs.declared.limits.Step.TheVariants.{Expanded, Closed}
 use Rattle.tt_search.specs.declared.walk.Walk.{Walk}
 use Rattle.tt_search.proofs.Sprouted.{fresh_here, fresh_child, not_won, rank_within_nodes, child_node, node_steps, one_step}
@@ -264,135 +260,129 @@ pub children::Packed::grow_best-returns-clause-numbers : goal.children::Packed::
 children::Packed::grow_best-returns-clause-numbers g t c =
     pair_of (choices_of c.args.aim.now.mover c.grow_at-step.new.self) c.best-best.result.least c.sum_after-other.result c.best-best.ensures.least c.sum_after-other.ensures
 
+-- ---- a descent below a node with these children
+
+pub children::Packed::descend-best_turn-requires : goal.children::Packed::descend-best_turn-requires
+children::Packed::descend-best_turn-requires g t c =
+    let x = choices_of c.args.aim.now.mover c.args.self.now in
+    omega (arith, turn_there (stand_of c.args.walk.now) x (node_with x) refl c.requires.may_grow, c.requires.kept.place, length-turns_of c.args.self.now.edges)
+
+pub children::Packed::descend-go_down-requires-clause-legal : goal.children::Packed::descend-go_down-requires-clause-legal
+children::Packed::descend-go_down-requires-clause-legal g t c =
+    let x = choices_of c.args.aim.now.mover c.args.self.now in
+    let turn = c.best_turn.ensures ∙ ap (λ i. get_or (edge_turns c.args.self.now.edges) i c.best_turn.result) c.requires.kept.place in
+    (way_down (stand_of c.args.walk.now) x (node_with x) refl c.requires.may_grow c.best_turn.result turn).legal
+
+pub children::Packed::descend-grow_best-step-requires : goal.children::Packed::descend-grow_best-step-requires
+children::Packed::descend-grow_best-step-requires g t c κs within =
+    let aim = c.args.aim.now in
+    let children = c.args.self.now in
+    let x = choices_of aim.mover children in
+    let walk = c.args.walk.now in
+    let turn = c.best_turn.ensures ∙ ap (λ i. get_or (edge_turns children.edges) i c.best_turn.result) c.requires.kept.place in
+    let way = way_down (stand_of walk) x (node_with x) refl c.requires.may_grow c.best_turn.result turn in
+    let gone = c.in-Ok.ensures.ok in
+    let room = has_room (stand_of walk) x (node_with x) refl c.requires.may_grow in
+    let below = child_there (stand_of walk) x (node_with x) refl c.requires.may_grow in
+    let there : aim.place < length children.edges = omega (arith, below, c.requires.kept.place, length-trees_of children.edges children.grown.items) in
+    let may_grow = subst (λ i. MayGrow (stand_of c.go_down.new.self) (child_of children i)) (sym c.requires.kept.place)
+    (child_may_grow walk x (node_with x) c.best_turn.result way c.go_down.new.self gone) in
+    let grants = subst (λ (n : ℕ). (g.G.Grants.asked c.args.grants.now).granted + n < 2 ^ 64) (sym gone.left) c.requires.grants in
+    (omega (arith, c.decreases, gone.room, room), (within.0, (within.1, (c.requires.kept, (c.requires.was, (there, (may_grow, (omega (arith, gone.room, c.requires.room), grants))))))))
+
+pub children::Packed::descend-returns-clause-steps : goal.children::Packed::descend-returns-clause-steps
+children::Packed::descend-returns-clause-steps g t c =
+    let aim = c.args.aim.now in
+    let children = c.args.self.now in
+    let x = choices_of aim.mover children in
+    let walk = c.args.walk.now in
+    let turn = c.best_turn.ensures ∙ ap (λ i. get_or (edge_turns children.edges) i c.best_turn.result) c.requires.kept.place in
+    let way = way_down (stand_of walk) x (node_with x) refl c.requires.may_grow c.best_turn.result turn in
+    let gone = c.in-Ok.ensures.ok in
+    let new = choices_of c.grow_best-step.new.aim.mover c.grow_best-step.new.self in
+    round_steps walk x (node_with x) c.best_turn.result way c.go_down.new.self gone c.args.pace c.grow_best-step.result.0 new
+    c.grow_best-step.new.walk c.go_up.new.self c.grow_best-step.ensures.steps c.go_up.ensures.left
+
 -- ---- the descent of a round
 
-pub node::Node::round-best_turn-requires : goal.node::Node::round-best_turn-requires
-node::Node::round-best_turn-requires g t c =
-    let aim = c.in-Expanded.aim in
-    let children = c.in-Expanded.children in
-    let x = choices_of aim.mover children in
-    let kept : IsKept aim children = subst HoldsItsOwn c.in-Expanded.is c.self.invariant.1 in
-    let is = sym (ap shape c.in-Expanded.is) ∙ c.self.view_is in
-    omega (arith, turn_there (stand_of c.args.walk.now) x c.args.self.now is c.requires.may_grow, kept.place, length-turns_of children.edges)
-
-pub node::Node::round-go_down-requires-clause-legal : goal.node::Node::round-go_down-requires-clause-legal
-node::Node::round-go_down-requires-clause-legal g t c =
-    let aim = c.in-Expanded.aim in
-    let children = c.in-Expanded.children in
-    let x = choices_of aim.mover children in
-    let kept : IsKept aim children = subst HoldsItsOwn c.in-Expanded.is c.self.invariant.1 in
-    let is = sym (ap shape c.in-Expanded.is) ∙ c.self.view_is in
-    let turn = c.best_turn.ensures ∙ ap (λ i. get_or (edge_turns children.edges) i c.best_turn.result) kept.place in
-    (way_down (stand_of c.args.walk.now) x c.args.self.now is c.requires.may_grow c.best_turn.result turn).legal
-
-pub node::Node::round-grow_best-step-requires : goal.node::Node::round-grow_best-step-requires
-node::Node::round-grow_best-step-requires g t c κs within =
-    let aim = c.in-Expanded.aim in
-    let children = c.in-Expanded.children in
-    let x = choices_of aim.mover children in
-    let kept : IsKept aim children = subst HoldsItsOwn c.in-Expanded.is c.self.invariant.1 in
-    let shaped = sym (ap shape c.in-Expanded.is) in
-    let is = shaped ∙ c.self.view_is in
-    let walk = c.args.walk.now in
-    let turn = c.best_turn.ensures ∙ ap (λ i. get_or (edge_turns children.edges) i c.best_turn.result) kept.place in
-    let way = way_down (stand_of walk) x c.args.self.now is c.requires.may_grow c.best_turn.result turn in
-    let gone = c.in-Ok.ensures.ok in
-    let room = has_room (stand_of walk) x c.args.self.now is c.requires.may_grow in
-    let cached = subst (IsCached c.self.inside.proof c.self.inside.disproof) (sym shaped) c.self.invariant.0 in
-    let pair = c.of-was.ensures (node_with x) cached in
-    let below = child_there (stand_of walk) x c.args.self.now is c.requires.may_grow in
-    let there : aim.place < length children.edges = omega (arith, below, kept.place, length-trees_of children.edges children.grown.items) in
-    let may_grow = subst (λ i. MayGrow (stand_of c.go_down.new.self) (child_of children i)) (sym kept.place) (child_may_grow walk x c.args.self.now c.best_turn.result way c.go_down.new.self gone) in
-    let grants = subst (λ (n : ℕ). (g.G.Grants.asked c.args.grants.now).granted + n < 2 ^ 64) (sym gone.left) c.requires.grants in
-    (omega (arith, c.decreases, gone.room, room), (within.0, (within.1, (kept, (pair, (there, (may_grow, (omega (arith, gone.room, c.requires.room), grants))))))))
-
-pub node::Node::round-invariant_of-self-in-Expanded : goal.node::Node::round-invariant_of-self-in-Expanded
-node::Node::round-invariant_of-self-in-Expanded g t c =
-    let aim = c.in-Expanded.aim in
-    let children = c.in-Expanded.children in
-    let x = choices_of aim.mover children in
-    let kept : IsKept aim children = subst HoldsItsOwn c.in-Expanded.is c.self.invariant.1 in
-    let new = choices_of c.grow_best-step.new.aim.mover c.grow_best-step.new.self in
-    let put = c.grow_best-step.ensures.steps.2 in
-    let mover = ap (λ (d : Choices). d.mover) put in
-    let pair = subst (λ side. ArePair side (node_with new) c.grow_best-step.result.1) mover c.grow_best-step.ensures.numbers in
-    (c.by_goal-proof.ensures (node_with new) pair, c.grow_best-step.ensures.kept)
+pub node::Node::round-invariant_of-self : goal.node::Node::round-invariant_of-self
+node::Node::round-invariant_of-self g t c =
+    let new = node_with (choices_of c.descend-step.new.aim.mover c.descend-step.new.self) in
+    (c.by_goal-proof.ensures new c.descend-step.ensures.numbers, c.descend-step.ensures.kept)
 
 pub node::Node::round-offer-walk-requires-clause-partial : goal.node::Node::round-offer-walk-requires-clause-partial
 node::Node::round-offer-walk-requires-clause-partial g t c =
-    let aim = c.in-Expanded.aim in
-    let children = c.in-Expanded.children in
-    let x = choices_of aim.mover children in
-    let kept : IsKept aim children = subst HoldsItsOwn c.in-Expanded.is c.self.invariant.1 in
-    let shaped = sym (ap shape c.in-Expanded.is) in
-    let is = shaped ∙ c.self.view_is in
     let walk = c.args.walk.now in
-    let turn = c.best_turn.ensures ∙ ap (λ i. get_or (edge_turns children.edges) i c.best_turn.result) kept.place in
-    let way = way_down (stand_of walk) x c.args.self.now is c.requires.may_grow c.best_turn.result turn in
-    let gone = c.in-Ok.ensures.ok in
-    let new = choices_of c.grow_best-step.new.aim.mover c.grow_best-step.new.self in
-    let steps = round_steps walk x c.args.self.now c.best_turn.result way c.go_down.new.self gone c.args.pace c.grow_best-step.result.0 new
-    c.grow_best-step.new.walk c.go_up.new.self c.grow_best-step.ensures.steps c.go_up.ensures.left in
-    let back : c.go_up.new.self.line ≡ walk.line = search rules in
-    let offerable = steps_offerable c.args.pace walk.line walk.room (stage c.args.self.now walk.left) c.grow_best-step.result.0
-    (stage (node_with new) c.go_up.new.self.left) c.requires.room c.requires.may_grow steps in
-    (subst (λ line. IsOfferable line (node_with new)) (sym back) offerable).0
+    let after = c.descend-step.new.walk in
+    let new = node_with (choices_of c.descend-step.new.aim.mover c.descend-step.new.self) in
+    let steps = subst (λ (n : PartialTree). AreSteps c.args.pace walk n c.descend-step.result.0 new after) (sym (ap shape c.in-Expanded.is) ∙ c.self.view_is) c.descend-step.ensures.steps in
+    let offerable = steps_offerable c.args.pace walk.line walk.room (stage c.args.self.now walk.left) c.descend-step.result.0 (stage new after.left) c.requires.room c.requires.may_grow steps in
+    (subst (λ line. IsOfferable line new) (sym c.descend-step.ensures.line) offerable).0
 
 pub node::Node::round-offer-walk-requires-clause-stays : goal.node::Node::round-offer-walk-requires-clause-stays
 node::Node::round-offer-walk-requires-clause-stays g t c =
-    let aim = c.in-Expanded.aim in
-    let children = c.in-Expanded.children in
-    let x = choices_of aim.mover children in
-    let kept : IsKept aim children = subst HoldsItsOwn c.in-Expanded.is c.self.invariant.1 in
-    let shaped = sym (ap shape c.in-Expanded.is) in
-    let is = shaped ∙ c.self.view_is in
     let walk = c.args.walk.now in
-    let turn = c.best_turn.ensures ∙ ap (λ i. get_or (edge_turns children.edges) i c.best_turn.result) kept.place in
-    let way = way_down (stand_of walk) x c.args.self.now is c.requires.may_grow c.best_turn.result turn in
-    let gone = c.in-Ok.ensures.ok in
-    let new = choices_of c.grow_best-step.new.aim.mover c.grow_best-step.new.self in
-    let steps = round_steps walk x c.args.self.now c.best_turn.result way c.go_down.new.self gone c.args.pace c.grow_best-step.result.0 new
-    c.grow_best-step.new.walk c.go_up.new.self c.grow_best-step.ensures.steps c.go_up.ensures.left in
-    let back : c.go_up.new.self.line ≡ walk.line = search rules in
-    let offerable = steps_offerable c.args.pace walk.line walk.room (stage c.args.self.now walk.left) c.grow_best-step.result.0
-    (stage (node_with new) c.go_up.new.self.left) c.requires.room c.requires.may_grow steps in
-    (subst (λ line. IsOfferable line (node_with new)) (sym back) offerable).1
+    let after = c.descend-step.new.walk in
+    let new = node_with (choices_of c.descend-step.new.aim.mover c.descend-step.new.self) in
+    let steps = subst (λ (n : PartialTree). AreSteps c.args.pace walk n c.descend-step.result.0 new after) (sym (ap shape c.in-Expanded.is) ∙ c.self.view_is) c.descend-step.ensures.steps in
+    let offerable = steps_offerable c.args.pace walk.line walk.room (stage c.args.self.now walk.left) c.descend-step.result.0 (stage new after.left) c.requires.room c.requires.may_grow steps in
+    (subst (λ line. IsOfferable line new) (sym c.descend-step.ensures.line) offerable).1
 
 pub node::Node::round-returns-in-Some-clause-steps : goal.node::Node::round-returns-in-Some-clause-steps
 node::Node::round-returns-in-Some-clause-steps g t c =
-    let aim = c.in-Expanded.aim in
-    let children = c.in-Expanded.children in
-    let x = choices_of aim.mover children in
-    let kept : IsKept aim children = subst HoldsItsOwn c.in-Expanded.is c.self.invariant.1 in
-    let shaped = sym (ap shape c.in-Expanded.is) in
-    let is = shaped ∙ c.self.view_is in
     let walk = c.args.walk.now in
-    let turn = c.best_turn.ensures ∙ ap (λ i. get_or (edge_turns children.edges) i c.best_turn.result) kept.place in
-    let way = way_down (stand_of walk) x c.args.self.now is c.requires.may_grow c.best_turn.result turn in
-    let gone = c.in-Ok.ensures.ok in
-    let new = choices_of c.grow_best-step.new.aim.mover c.grow_best-step.new.self in
-    let steps = round_steps walk x c.args.self.now c.best_turn.result way c.go_down.new.self gone c.args.pace c.grow_best-step.result.0 new
-    c.grow_best-step.new.walk c.go_up.new.self c.grow_best-step.ensures.steps c.go_up.ensures.left in
-    subst
-    (λ (after : Walk). AreStepsAt c.args.pace (stand_of walk) (stage c.args.self.now walk.left) c.grow_best-step.result.0 (stage c.offer-walk.new.self after.left))
-    (sym c.offer-walk.ensures.walk)
-    (subst
-    (λ (tree : PartialTree). AreStepsAt c.args.pace (stand_of walk) (stage c.args.self.now walk.left) c.grow_best-step.result.0 (stage tree c.go_up.new.self.left))
-    (sym c.offer-walk.ensures.same) steps)
+    let after = c.descend-step.new.walk in
+    let new = node_with (choices_of c.descend-step.new.aim.mover c.descend-step.new.self) in
+    let steps = subst (λ (n : PartialTree). AreSteps c.args.pace walk n c.descend-step.result.0 new after) (sym (ap shape c.in-Expanded.is) ∙ c.self.view_is) c.descend-step.ensures.steps in
+    subst (λ (w : Walk). AreStepsAt c.args.pace (stand_of walk) (stage c.args.self.now walk.left) c.descend-step.result.0 (stage c.offer-walk.new.self w.left)) (sym c.offer-walk.ensures.walk)
+    (subst (λ (tree : PartialTree). AreStepsAt c.args.pace (stand_of walk) (stage c.args.self.now walk.left) c.descend-step.result.0 (stage tree after.left)) (sym c.offer-walk.ensures.same) steps)
 
-pub node::Node::round-returns-in_default-settled_for-clause-steps : goal.node::Node::round-returns-in_default-settled_for-clause-steps
-node::Node::round-returns-in_default-settled_for-clause-steps g t c =
-    let aim = c.in-Expanded.aim in
-    let children = c.in-Expanded.children in
-    let x = choices_of aim.mover children in
-    let kept : IsKept aim children = subst HoldsItsOwn c.in-Expanded.is c.self.invariant.1 in
-    let shaped = sym (ap shape c.in-Expanded.is) in
-    let is = shaped ∙ c.self.view_is in
+pub node::Node::round-returns-in_default-clause-steps : goal.node::Node::round-returns-in_default-clause-steps
+node::Node::round-returns-in_default-clause-steps g t c =
     let walk = c.args.walk.now in
-    let turn = c.best_turn.ensures ∙ ap (λ i. get_or (edge_turns children.edges) i c.best_turn.result) kept.place in
-    let way = way_down (stand_of walk) x c.args.self.now is c.requires.may_grow c.best_turn.result turn in
-    let gone = c.in-Ok.ensures.ok in
-    let new = choices_of c.grow_best-step.new.aim.mover c.grow_best-step.new.self in
-    let steps = round_steps walk x c.args.self.now c.best_turn.result way c.go_down.new.self gone c.args.pace c.grow_best-step.result.0 new
-    c.grow_best-step.new.walk c.go_up.new.self c.grow_best-step.ensures.steps c.go_up.ensures.left in
+    let after = c.descend-step.new.walk in
+    let new = node_with (choices_of c.descend-step.new.aim.mover c.descend-step.new.self) in
+    let steps = subst (λ (n : PartialTree). AreSteps c.args.pace walk n c.descend-step.result.0 new after) (sym (ap shape c.in-Expanded.is) ∙ c.self.view_is) c.descend-step.ensures.steps in
+    steps
+
+-- ---- the first descent below a node of which no turn has been tried
+
+pub node::Node::first_round-invariant_of-self : goal.node::Node::first_round-invariant_of-self
+node::Node::first_round-invariant_of-self g t c =
+    let new = node_with (choices_of c.descend-step.new.aim.mover c.descend-step.new.self) in
+    (c.by_goal-proof.ensures new c.descend-step.ensures.numbers, c.descend-step.ensures.kept)
+
+pub node::Node::first_round-offer-walk-requires-clause-partial : goal.node::Node::first_round-offer-walk-requires-clause-partial
+node::Node::first_round-offer-walk-requires-clause-partial g t c =
+    let walk = c.args.walk.now in
+    let after = c.descend-step.new.walk in
+    let new = node_with (choices_of c.descend-step.new.aim.mover c.descend-step.new.self) in
+    let steps = subst (λ (n : PartialTree). AreSteps c.args.pace walk n c.descend-step.result.0 new after) (c.requires.same) c.descend-step.ensures.steps in
+    let offerable = steps_offerable c.args.pace walk.line walk.room (stage c.args.self.now walk.left) c.descend-step.result.0 (stage new after.left) c.requires.room c.requires.may_grow steps in
+    (subst (λ line. IsOfferable line new) (sym c.descend-step.ensures.line) offerable).0
+
+pub node::Node::first_round-offer-walk-requires-clause-stays : goal.node::Node::first_round-offer-walk-requires-clause-stays
+node::Node::first_round-offer-walk-requires-clause-stays g t c =
+    let walk = c.args.walk.now in
+    let after = c.descend-step.new.walk in
+    let new = node_with (choices_of c.descend-step.new.aim.mover c.descend-step.new.self) in
+    let steps = subst (λ (n : PartialTree). AreSteps c.args.pace walk n c.descend-step.result.0 new after) (c.requires.same) c.descend-step.ensures.steps in
+    let offerable = steps_offerable c.args.pace walk.line walk.room (stage c.args.self.now walk.left) c.descend-step.result.0 (stage new after.left) c.requires.room c.requires.may_grow steps in
+    (subst (λ line. IsOfferable line new) (sym c.descend-step.ensures.line) offerable).1
+
+pub node::Node::first_round-returns-in-Some-clause-steps : goal.node::Node::first_round-returns-in-Some-clause-steps
+node::Node::first_round-returns-in-Some-clause-steps g t c =
+    let walk = c.args.walk.now in
+    let after = c.descend-step.new.walk in
+    let new = node_with (choices_of c.descend-step.new.aim.mover c.descend-step.new.self) in
+    let steps = subst (λ (n : PartialTree). AreSteps c.args.pace walk n c.descend-step.result.0 new after) (c.requires.same) c.descend-step.ensures.steps in
+    subst (λ (w : Walk). AreStepsAt c.args.pace (stand_of walk) (stage c.args.self.now walk.left) c.descend-step.result.0 (stage c.offer-walk.new.self w.left)) (sym c.offer-walk.ensures.walk)
+    (subst (λ (tree : PartialTree). AreStepsAt c.args.pace (stand_of walk) (stage c.args.self.now walk.left) c.descend-step.result.0 (stage tree after.left)) (sym c.offer-walk.ensures.same) steps)
+
+pub node::Node::first_round-returns-in_default-clause-steps : goal.node::Node::first_round-returns-in_default-clause-steps
+node::Node::first_round-returns-in_default-clause-steps g t c =
+    let walk = c.args.walk.now in
+    let after = c.descend-step.new.walk in
+    let new = node_with (choices_of c.descend-step.new.aim.mover c.descend-step.new.self) in
+    let steps = subst (λ (n : PartialTree). AreSteps c.args.pace walk n c.descend-step.result.0 new after) (c.requires.same) c.descend-step.ensures.steps in
     steps

@@ -6,16 +6,22 @@ use Rattle.tt_search.proofs.+descent.Given as goal
 
 -- each descent below a node has less room, and a node's rounds have its own
 abbrev pub decreases-node::Node::grow : goal.decreases-node::Node::grow
-decreases-node::Node::grow g l = l.walk.now.room * 4 + 1
+decreases-node::Node::grow g l = l.walk.now.room * 8 + 3
 
 abbrev pub decreases-node::Node::round : goal.decreases-node::Node::round
-decreases-node::Node::round g l = l.walk.now.room * 4
+decreases-node::Node::round g l = l.walk.now.room * 8 + 2
+
+abbrev pub decreases-node::Node::first_round : goal.decreases-node::Node::first_round
+decreases-node::Node::first_round g l = l.walk.now.room * 8 + 1
+
+abbrev pub decreases-children::Packed::descend : goal.decreases-children::Packed::descend
+decreases-children::Packed::descend g l = l.walk.now.room * 8
 
 abbrev pub decreases-children::Packed::grow_at : goal.decreases-children::Packed::grow_at
-decreases-children::Packed::grow_at g l = l.walk.now.room * 4 + 2
+decreases-children::Packed::grow_at g l = l.walk.now.room * 8 + 4
 
 abbrev pub decreases-children::Packed::grow_best : goal.decreases-children::Packed::grow_best
-decreases-children::Packed::grow_best g l = l.walk.now.room * 4 + 3
+decreases-children::Packed::grow_best g l = l.walk.now.room * 8 + 5
 
 abbrev pub invariant-node::Node::grow-rounds : goal.invariant-node::Node::grow-rounds
 invariant-node::Node::grow-rounds g l = record {

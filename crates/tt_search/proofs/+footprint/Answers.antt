@@ -28,6 +28,9 @@ use Rattle.tt_search.proofs.Replies.{picked}
 use Rattle.tt_search.proofs.Sprouted.{any_default}
 use Rattle.tt_search.proofs.OneSide.{offered_for}
 use Rattle.tt_search.proofs.Strategies.{makes_proof}
+use Rattle.tt_search.specs.Numbers.{number}
+use Rattle.tt_search.specs.Untried.{with_pass, AreUntried}
+use Rattle.tt_search.proofs.Untried.{untried_number}
 use Rattle.tt_search.proofs.+footprint.Goals as goal
 
 abbrev first : Edge
@@ -214,3 +217,9 @@ footprints::replied-returns-clause-exact t c =
     let s = c.args.line.now.state in
     joined_all c.args.side f s (replies_to c.args.side f s c.args.edges.now c.args.grown.now) c.args.edges.now c.loop-edge.rest.now c.loop-edge.edge-index c.loop-edge.footprint
     (omega (arith, c.loop-edge-test.false)) c.loop-edge.invariant.joined
+
+pub node::Node::footprint-unreachable-requires : goal.node::Node::footprint-unreachable-requires
+node::Node::footprint-unreachable-requires t c =
+    let untried : AreUntried (with_pass c.in-Untried.field-1) = subst HoldsItsOwn c.in-Untried.is c.self.invariant.1 in
+    let is = sym (ap shape c.in-Untried.is) ∙ c.self.view_is in
+    untried_number c.args.side c.in-Untried.field-0 (with_pass c.in-Untried.field-1) untried (ap (number c.args.side) is ∙ c.requires.settled)

@@ -19,6 +19,8 @@ use Rattle.tt_search.specs.Shape.{shape}
 use Rattle.tt_search.specs.Offered.{HoldsItsOwn}
 use Rattle.tt_search.proofs.Strategies.{IsZeroAt, zero_at, own_zero, other_zero, all_zero, zero_sum}
 use Rattle.tt_search.proofs.OneSide.{offered_for, zero_step, zero_there}
+use Rattle.tt_search.specs.Untried.{with_pass, AreUntried}
+use Rattle.tt_search.proofs.Untried.{untried_number}
 use Rattle.tt_search.proofs.+plan_of.Goals as goal
 
 abbrev first : Edge
@@ -133,3 +135,9 @@ settled::replied-returns t c =
     let none_left = replies_at_end c.args.side c.args.edges.now c.loop-edge.rest.now c.loop-edge.edge-index (omega (arith, c.loop-edge-test.false)) in
     let whole = ap reply (sym (joined_none c.loop-edge.answers) ∙ ap (joined c.loop-edge.answers) (sym none_left) ∙ c.loop-edge.invariant.made) in
     subst (λ u. IfOk c.into_plan.result (λ p. p ≡ u)) whole c.into_plan.ensures
+
+pub node::Node::plan-unreachable-requires : goal.node::Node::plan-unreachable-requires
+node::Node::plan-unreachable-requires t c =
+    let untried : AreUntried (with_pass c.in-Untried.field-1) = subst HoldsItsOwn c.in-Untried.is c.self.invariant.1 in
+    let is = sym (ap shape c.in-Untried.is) ∙ c.self.view_is in
+    untried_number c.args.side c.in-Untried.field-0 (with_pass c.in-Untried.field-1) untried (ap (number c.args.side) is ∙ c.requires)

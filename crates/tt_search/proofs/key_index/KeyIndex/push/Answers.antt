@@ -1,5 +1,4 @@
-use Rattle.std.proofs.Common.{rules, ◌≡◌, ◌++◌, ◌∷◌, [], ◌%◌, subst, sym, ◌∙◌}
-use Rattle.tt_game.specs.declared.seen.TheConstants.{PRINTS}
+use Rattle.std.proofs.Common.{rules, subst, sym, ◌∙◌}
 use Rattle.tt_game.specs.Seen.{IsSeen}
 use Rattle.tt_search.specs.KeyChains.{AreSeenMarks}
 use Rattle.tt_search.proofs.Chains.{chained_more, seen_more}
