@@ -8,7 +8,7 @@ use std::marker::Model;
 use tt_sgf::NoMemory;
 
 /// How many edges stand in the node itself. With so many it has 72 bytes.
-const SHORT: usize = 15;
+pub(crate) const SHORT: usize = 15;
 
 /// How many stand in a node that holds a proof, too, and is no larger.
 const SHORTER: usize = 11;

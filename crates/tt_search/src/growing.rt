@@ -20,6 +20,7 @@ ghost use Rattle.tt_search.specs.declared.limits.Step.TheVariants.{Expanded, Clo
 
 use crate::children::{Aim, Packed};
 use crate::closing::usable;
+use crate::edge_row::SHORT;
 use crate::edges::Mark;
 use crate::grants::Grants;
 use crate::leaves::{closed_leaf, expanded_at, new_leaf, untried_children};
@@ -65,21 +66,28 @@ fn left_after(step: Step, left: u32) -> u32
     }
 }
 
-/// Makes room for one more node: where there is none, for an eighth of as many as there are, so that large lists move
-/// seldom and little room stays unused. Where there is one there come to be three or more in most lists, and where there are
-/// three, five or more, so the second makes room for the third and the fourth for the fifth.
-fn room_for_one(nodes: &mut Vec<Node>) -> Result<(), NoMemory>
+/// How many nodes a list of so many gets room for when it is full, where there are so many edges. Of a few edges most lists stay short:
+/// so it is an eighth more, but that the second node makes room for the third, and the fourth for the fifth. Of many edges the fourth node
+/// makes room for all: next to none of the others stays away then.
+fn more_room(nodes: usize, edges: usize) -> usize
+    ensures { 0 < result }
+{
+    match nodes {
+        3 if edges > SHORT => edges - 3,
+        1 | 3 => 2,
+        len => len / 8 + 1,
+    }
+}
+
+/// Makes room for one more node, where there is none.
+fn room_for_one(nodes: &mut Vec<Node>, edges: usize) -> Result<(), NoMemory>
     ensures items { nodes.new.items ≡ nodes.old.items }
     ensures room { OnOk result (vec_len nodes.new < vec_capacity nodes.new) }
 {
     if nodes.len() < nodes.capacity() {
         return Ok(());
     }
-    let more = match nodes.len() {
-        1 | 3 => 2,
-        len => len / 8 + 1,
-    };
-    nodes.reserve_exact(more)?;
+    nodes.reserve_exact(more_room(nodes.len(), edges))?;
     Ok(())
 }
 
@@ -456,7 +464,7 @@ impl Packed {
         ensures source { G.source grants.new ≡ G.source grants.old }
         ensures sprouts { Sprouts walk.old place self.old result self.new walk.new }
     {
-        if room_for_one(&mut self.grown).is_err() {
+        if room_for_one(&mut self.grown, self.edges.len()).is_err() {
             return Step::Stuck(Reason::Memory);
         }
         put_fresh(&mut self.grown, rank);

@@ -27,6 +27,9 @@ use tt_game::{Line, Side, Survey, Turn};
 use tt_proof::Proof;
 use tt_sgf::NoMemory;
 
+/// For how many nodes a list has room at first where many turns are untried.
+const FIRST_ROOM: usize = 3;
+
 /// A new leaf: won where somebody has won.
 pub(crate) fn new_leaf(winner: Option<Side>) -> Node
     ensures { result ≡ leaf_for winner }
@@ -190,7 +193,7 @@ pub(crate) fn untried_children(
         place: 0,
         rank: 0,
     };
-    let grown = Vec::new(alloc);
+    let grown = Vec::with_capacity(alloc, FIRST_ROOM)?;
     Ok((aim, Packed { edges, grown }))
 }
 

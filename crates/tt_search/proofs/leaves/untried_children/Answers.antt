@@ -12,7 +12,7 @@ returns-clause-kept c =
     let fresh = subst AreFresh (sym is) c.requires.fresh in
     record {
       few = omega (arith, ap length is, c.requires.few);
-      whole = fresh_grown es fresh ∙ sym (ap length c.new-grown.ensures.items);
-      place = sym (ap first_least (ones c.args.mover es c.new-grown.result.items fresh) ∙ first_ones (length es) (omega (arith, ap length is, c.requires.some)));
+      whole = fresh_grown es fresh ∙ sym (ap length c.in_ok-grown.ensures.items);
+      place = sym (ap first_least (ones c.args.mover es c.in_ok-grown.grown.items fresh) ∙ first_ones (length es) (omega (arith, ap length is, c.requires.some)));
       rank = refl;
     }
