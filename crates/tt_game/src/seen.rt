@@ -14,7 +14,7 @@ use std::alloc::Global;
 use tt_board::{Board, Colour};
 use tt_sgf::{BITS, Bits, Point};
 
-/// How many prints there are: a bit for each fills 128 rows of `BITS`.
+/// How many prints colourings have: a bit for each fills 128 rows of `BITS`.
 pub const PRINTS: usize = 49152;
 
 /// An odd number with bits of both kinds all over: 2^64 by the golden ratio.
@@ -39,12 +39,8 @@ const WEIGHTS: [u64; 12] = [
     0x7790_23cf_069d_510d,
 ];
 
-/// How many rows have a bit for each print.
-const ROWS: usize = 128;
-
-/// A bit for each print, a number below `PRINTS`; it is 1 where something with that print was noted. Two things may have one print,
-/// so a bit that is 1 says nothing. Without rows, as without memory for them, each print counts as noted: then nothing is told.
-/// With them it takes 6,144 bytes.
+/// A bit for each print; it is 1 where something with that print was noted. Two things may have one print, so a bit that is 1 says
+/// nothing. A print that has no bit, as each without memory for the rows, counts as noted: then nothing is told.
 #[derive(Drop)]
 pub struct Seen {
     rows: Vec<Bits>,
@@ -116,10 +112,11 @@ impl Seen {
         }
     }
 
-    /// Nothing was noted yet. Without memory for the rows it tells nothing.
-    pub fn empty(alloc: Global) -> Seen {
+    /// Nothing was noted yet, of prints below so many, whole rows of `BITS`. Without memory for the rows it tells nothing. It takes a
+    /// byte for eight prints: 6,144 for `PRINTS`.
+    pub fn empty(alloc: Global, prints: usize) -> Seen {
         let mut seen = Seen::blind(alloc);
-        if seen.rows.resize(ROWS, Bits::none()).is_err() {
+        if seen.rows.resize(prints / BITS, Bits::none()).is_err() {
             return Seen::blind(alloc);
         }
         seen
@@ -129,7 +126,7 @@ impl Seen {
     pub(crate) fn of_all(alloc: Global, boards: &[Board]) -> Seen
         ensures { (g : Size) → All (λ b. b.size ≡ g) boards.now → AreSeen result g (colourings boards.now) }
     {
-        let mut seen = Seen::empty(alloc);
+        let mut seen = Seen::empty(alloc, PRINTS);
         for board in boards {
             seen.add(print_of(board));
         }

@@ -9,13 +9,13 @@ use Rattle.std.proofs.Math.Nat.{mul-lt-mul_of_pos_right, mul_comm}
 use Rattle.std.proofs.lemmas.Option.{slice_get_within, slice_get-map, get_or_from_slice_get}
 use Rattle.tt_game.specs.declared.frame.Side.{Side}
 use Rattle.tt_game.specs.declared.seen.Seen.{Seen}
-use Rattle.tt_game.specs.declared.seen.TheConstants.{PRINTS}
 use Rattle.tt_game.specs.Keys.{key_of}
 use Rattle.tt_game.specs.Line.{Standing}
 use Rattle.tt_game.specs.Seen.{IsSeen}
 use Rattle.tt_proof.specs.Proven.{Proven}
 use Rattle.tt_search.specs.Stores.{AnswersFor, IsNewest}
 use Rattle.tt_search.specs.KeyIndex.{key_mark, key_marks}
+use Rattle.tt_search.specs.declared.key_index.TheConstants.{MARK_PRINTS}
 use Rattle.tt_search.specs.KeyChains.{last_place, chain_of_mark, in_chain, AreSeenMarks, IsChained, NoneFrom, UnmarkedFrom}
 
 -- ---- the last place that passes a test
@@ -233,9 +233,9 @@ before_inside heads before marks mark place next chained within same is =
     leads_inside marks (length heads) (chain_of_mark mark (length heads)) place next (is ∙ chained.before_leads place within ∙ ap (λ c. last_place (in_chain marks (length heads) c) place) same)
 
 -- one more mark is noted
-pub seen_more : (before after : Seen) (marks : List ℕ) (mark : ℕ) → AreSeenMarks before marks → IsSeen after (mark % PRINTS) → ((n : ℕ) → IsSeen before n → IsSeen after n)
+pub seen_more : (before after : Seen) (marks : List ℕ) (mark : ℕ) → AreSeenMarks before marks → IsSeen after (mark % MARK_PRINTS) → ((n : ℕ) → IsSeen before n → IsSeen after n)
     → AreSeenMarks after (marks ++ mark ∷ [])
 seen_more before after marks mark was here still place within = elim (cases_lt place (length marks)) [
-  | inl h ↦ subst (λ n. IsSeen after (n % PRINTS)) (sym (get_or_append_left marks (mark ∷ []) 0 place h)) (still _ (was place h))
-  | inr h ↦ subst (λ n. IsSeen after (n % PRINTS)) (sym (get_or_push marks mark 0 place (omega (arith, h, within, length-append marks (mark ∷ []))))) here
+  | inl h ↦ subst (λ n. IsSeen after (n % MARK_PRINTS)) (sym (get_or_append_left marks (mark ∷ []) 0 place h)) (still _ (was place h))
+  | inr h ↦ subst (λ n. IsSeen after (n % MARK_PRINTS)) (sym (get_or_push marks mark 0 place (omega (arith, h, within, length-append marks (mark ∷ []))))) here
 ]

@@ -2,11 +2,11 @@
 use Rattle.std.specs.Prelude.{◌≡◌, ◌≢◌, ℕ, zero, suc, ◌-◌, ◌*◌, ◌/◌, ◌%◌, ◌<◌, ◌≤◌, Bool, List, length, cond, get_or, nat_eq, slice_get, Some}
 use Rattle.tt_game.specs.declared.frame.Side.{Side}
 use Rattle.tt_game.specs.declared.seen.Seen.{Seen}
-use Rattle.tt_game.specs.declared.seen.TheConstants.{PRINTS}
 use Rattle.tt_game.specs.Line.{Standing}
 use Rattle.tt_game.specs.Seen.{IsSeen}
 use Rattle.tt_proof.specs.Proven.{Proven}
 use Rattle.tt_search.specs.Stores.{AnswersFor}
+use Rattle.tt_search.specs.declared.key_index.TheConstants.{MARK_PRINTS}
 
 -- one more than the last place below n that passes the test, or 0 where none does
 abbrev pub last_place : (ℕ → Bool) → ℕ → ℕ
@@ -35,7 +35,7 @@ pub record AreLongEnough (heads before marks : List ℕ) : Type 0 where
 
 -- the prints of the marks were noted
 abbrev pub AreSeenMarks : Seen → List ℕ → Type 0
-AreSeenMarks seen marks = (place : ℕ) → place < length marks → IsSeen seen (get_or marks place 0 % PRINTS)
+AreSeenMarks seen marks = (place : ℕ) → place < length marks → IsSeen seen (get_or marks place 0 % MARK_PRINTS)
 
 -- no proof answers from this place on
 abbrev pub NoneFrom : Standing → Side → List Proven → ℕ → Type 0

@@ -2,7 +2,6 @@
 
 ghost use Rattle.std.specs.Prelude.{◌≡◌, ℕ, ◌+◌, ◌/◌, ◌%◌, ◌<◌, ◌++◌, ◌∷◌, [], ◌↔◌, List, Some, IfOk, IfSome, IsTrue, length, vec_len, vec_capacity, reverse, slice_get};
 ghost use Rattle.tt_game.specs.Keys.{key_of};
-ghost use Rattle.tt_game.specs.declared.seen.TheConstants.{PRINTS};
 ghost use Rattle.tt_proof.specs.Proven.{Proven};
 ghost use Rattle.tt_game.specs.declared.frame.Side.TheVariants.{Attacker, Defender};
 ghost use Rattle.tt_search.specs.Stores.{AnswersFor, IsNewest};
@@ -11,7 +10,7 @@ ghost use Rattle.tt_search.specs.KeyChains.{chain_of_mark, AreLongEnough, IsChai
 
 use std::alloc::Global;
 use std::marker::Model;
-use tt_game::{Line, PRINTS, Seen, Side};
+use tt_game::{Line, Seen, Side};
 use tt_proof::Proof;
 use tt_sgf::NoMemory;
 
@@ -25,11 +24,14 @@ pub trait ProofRow {
         ensures { slice_get (proofs self.now) place ≡ Some result.now };
 }
 
+/// How many prints marks have: twelve for each of 16,384 proofs, which four workers keep.
+const MARK_PRINTS: usize = 196_608;
+
 /// The print of a mark, by which the index knows most marks as new at once.
 fn print_of_mark(mark: u32) -> usize
-    ensures { result ≡ mark % PRINTS }
+    ensures { result ≡ mark % MARK_PRINTS }
 {
-    mark as usize % PRINTS
+    mark as usize % MARK_PRINTS
 }
 
 /// Whether the proof has the line's key and is for the side.
@@ -118,7 +120,7 @@ fn grow(
 /// An index of the last proof of each key and side, in a row of proofs that only grows. It holds no proofs and no keys, but
 /// a mark of 32 bits for each proof, by which the proofs are in chains; it looks at the proofs that it is shown. It takes
 /// 8 bytes a proof and 4 bytes a chain; there are at least as many chains as proofs, and at most twice as many or 16. Most lines
-/// have a key that no proof has, and for most of these one look at the prints of the marks says so: these take 6 KB more.
+/// have a key that no proof has, and for most of these one look at the prints of the marks says so: these take 24 KB more.
 #[derive(Drop)]
 pub struct KeyIndex {
     alloc: Global,
@@ -169,7 +171,7 @@ impl KeyIndex {
         self.marks.reserve(1)?;
         self.before.reserve(1)?;
         if self.marks.is_empty() {
-            self.seen = Seen::empty(self.alloc);
+            self.seen = Seen::empty(self.alloc, MARK_PRINTS);
         }
         if self.heads.len() == self.marks.len() {
             grow(self.alloc, &mut self.heads, &mut self.before, &self.marks)?;
