@@ -9,7 +9,7 @@ use Rattle.tt_search.specs.Choices.{node_with}
 use Rattle.tt_search.specs.Packed.{choices_with}
 use Rattle.tt_search.specs.Kept.{IsKept}
 use Rattle.tt_search.specs.Edges.{grown_in}
-use Rattle.tt_search.specs.Untried.{with_pass, AreUntried}
+use Rattle.tt_search.specs.Untried.{plays_and_pass, AreUntried}
 use Rattle.tt_search.specs.declared.edges.Edge.{Edge}
 use Rattle.tt_search.specs.declared.node.Growth.{Growth}
 use Rattle.tt_search.specs.declared.node.Growth.TheVariants.{Fresh, Won, Closed, Untried, Expanded, Offered}
@@ -29,6 +29,6 @@ abbrev pub HoldsItsOwn : Growth → Type 0
 HoldsItsOwn Fresh = Unit {0}
 HoldsItsOwn (Won side) = Unit {0}
 HoldsItsOwn (Closed proof) = Unit {0}
-HoldsItsOwn (Untried mover plays) = AreUntried (with_pass plays)
+HoldsItsOwn (Untried mover plays) = AreUntried (plays_and_pass plays)
 HoldsItsOwn (Expanded aim children) = IsKept aim children
 HoldsItsOwn (Offered mover edges grown proof) = IsOffered mover edges grown.items proof.value

@@ -1,7 +1,7 @@
 -- The partial tree that a node holds. For private contracts and proofs.
 use Rattle.std.specs.Prelude.{[]}
 use Rattle.tt_search.specs.PartialTree.{PartialTree, fresh, won, closed}
-use Rattle.tt_search.specs.Untried.{with_pass}
+use Rattle.tt_search.specs.Untried.{plays_and_pass}
 use Rattle.tt_search.specs.Choices.{node_with}
 use Rattle.tt_search.specs.Packed.{choices_of, choices_with}
 use Rattle.tt_search.specs.declared.node.Growth.{Growth}
@@ -11,6 +11,6 @@ abbrev pub shape : Growth → PartialTree
 shape Fresh = fresh
 shape (Won side) = won side
 shape (Closed proof) = closed proof.value.side proof.value.tree
-shape (Untried mover plays) = node_with (choices_with mover (with_pass plays) [])
+shape (Untried mover plays) = node_with (choices_with mover (plays_and_pass plays) [])
 shape (Expanded aim children) = node_with (choices_of aim.mover children)
 shape (Offered mover edges grown proof) = node_with (choices_with mover edges grown.items)

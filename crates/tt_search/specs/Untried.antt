@@ -9,7 +9,7 @@ use Rattle.tt_search.specs.declared.edges.TheConstants.{TURNS}
 abbrev pub fresh_edge : ℕ → Edge
 fresh_edge n = record { code = n }
 
--- the edges of the plays on those of the first n points that are meant
+-- the edges of the plays on those of the first n points that pass the test
 unfoldable pub plays_in : (ℕ → Bool) → ℕ → List Edge
 plays_in has zero = []
 plays_in has (suc n) = if has n then plays_in has n ++ fresh_edge n ∷ [] else plays_in has n
@@ -20,10 +20,10 @@ AreBelow p [] = Unit {0}
 AreBelow p (e ∷ es) = (e.code < p) × AreBelow p es
 
 -- the edges of plays, and of a pass
-abbrev pub with_pass : List Edge → List Edge
-with_pass plays = plays ++ fresh_edge MOST_POINTS ∷ []
+abbrev pub plays_and_pass : List Edge → List Edge
+plays_and_pass plays = plays ++ fresh_edge MOST_POINTS ∷ []
 
--- these are the edges of a node of which no turn has been tried
+-- nothing is known behind any of the edges, of which there are some, and no more than turns
 pub record AreUntried (es : List Edge) : Type 0 where
   pub fresh : AreFresh es
   pub some : 0 < length es

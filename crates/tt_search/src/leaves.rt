@@ -12,7 +12,7 @@ ghost use Rattle.tt_search.specs.Expanding.{AreNewEdges};
 ghost use Rattle.tt_search.specs.Choices.{node_with};
 ghost use Rattle.tt_search.specs.Packed.{choices_of, choices_with};
 ghost use Rattle.tt_search.specs.Kept.{IsKept};
-ghost use Rattle.tt_search.specs.Untried.{with_pass, AreUntried};
+ghost use Rattle.tt_search.specs.Untried.{plays_and_pass, AreUntried};
 
 use crate::children::{Aim, Packed};
 use crate::edge_row::{Edges, Few};
@@ -141,8 +141,8 @@ fn new_edges_at(alloc: Global, line: &Line, survey: &Survey) -> Result<Edges, No
 fn untried_plays(line: &Line, survey: &Survey) -> Option<Plays>
     requires open { winner_of line.now.frame line.now.state ≡ None }
     requires survey { IsSurvey survey.now line.now.frame line.now.state }
-    ensures edges { IfSome result (λ plays. AreNewEdges line.now.frame line.now.state (with_pass plays)) }
-    ensures untried { IfSome result (λ plays. AreUntried (with_pass plays)) }
+    ensures edges { IfSome result (λ plays. AreNewEdges line.now.frame line.now.state (plays_and_pass plays)) }
+    ensures untried { IfSome result (λ plays. AreUntried (plays_and_pass plays)) }
 {
     if !line.has_many() || line.winner_by_pass().is_some() {
         return None;
@@ -161,8 +161,8 @@ fn untried_plays(line: &Line, survey: &Survey) -> Option<Plays>
 
 /// An expanded node with these plays and a pass, of which no turn has been tried.
 fn untried_node(mover: Side, plays: Plays) -> Node
-    requires { AreUntried (with_pass plays) }
-    ensures { result ≡ node_with (choices_with mover (with_pass plays) []) }
+    requires { AreUntried (plays_and_pass plays) }
+    ensures { result ≡ node_with (choices_with mover (plays_and_pass plays) []) }
 {
     let numbers = Pair {
         own: 1,
@@ -182,9 +182,9 @@ pub(crate) fn untried_children(
     mover: Side,
     plays: &Plays,
 ) -> Result<(Aim, Packed), NoMemory>
-    requires { AreUntried (with_pass plays.now) }
+    requires { AreUntried (plays_and_pass plays.now) }
     ensures mover { IfOk result (λ x. x.0.mover ≡ mover) }
-    ensures children { IfOk result (λ x. choices_of x.0.mover x.1 ≡ choices_with mover (with_pass plays.now) []) }
+    ensures children { IfOk result (λ x. choices_of x.0.mover x.1 ≡ choices_with mover (plays_and_pass plays.now) []) }
     ensures kept { IfOk result (λ x. IsKept x.0 x.1) }
 {
     let edges = plays.row(alloc)?;

@@ -1,7 +1,7 @@
 //! The turns of a node of which none has been tried.
 
 ghost use Rattle.std.specs.Prelude.{◌≡◌, ◌++◌, ◌∷◌, [], IfOk, length};
-ghost use Rattle.tt_search.specs.Untried.{fresh_edge, with_pass, AreBelow};
+ghost use Rattle.tt_search.specs.Untried.{fresh_edge, plays_and_pass, AreBelow};
 
 use crate::edge_row::Edges;
 use crate::edges::Edge;
@@ -60,7 +60,7 @@ impl Plays {
 
     /// Their edges, and that of a pass, in a row. `NoMemory` where memory was refused.
     pub(crate) fn row(&self, alloc: Global) -> Result<Edges, NoMemory>
-        ensures { IfOk result (λ row. row ≡ with_pass self.now) }
+        ensures { IfOk result (λ row. row ≡ plays_and_pass self.now) }
     {
         let mut edges: ArrayVec<Edge, 362> = ArrayVec::new();
         let mut from = 0;

@@ -29,7 +29,7 @@ use Rattle.tt_search.proofs.Sprouted.{any_default}
 use Rattle.tt_search.proofs.OneSide.{offered_for}
 use Rattle.tt_search.proofs.Strategies.{makes_proof}
 use Rattle.tt_search.specs.Numbers.{number}
-use Rattle.tt_search.specs.Untried.{with_pass, AreUntried}
+use Rattle.tt_search.specs.Untried.{plays_and_pass, AreUntried}
 use Rattle.tt_search.proofs.Untried.{untried_number}
 use Rattle.tt_search.proofs.+footprint.Goals as goal
 
@@ -220,6 +220,6 @@ footprints::replied-returns-clause-exact t c =
 
 pub node::Node::footprint-unreachable-requires : goal.node::Node::footprint-unreachable-requires
 node::Node::footprint-unreachable-requires t c =
-    let untried : AreUntried (with_pass c.in-Untried.field-1) = subst HoldsItsOwn c.in-Untried.is c.self.invariant.1 in
+    let untried : AreUntried (plays_and_pass c.in-Untried.field-1) = subst HoldsItsOwn c.in-Untried.is c.self.invariant.1 in
     let is = sym (ap shape c.in-Untried.is) ∙ c.self.view_is in
-    untried_number c.args.side c.in-Untried.field-0 (with_pass c.in-Untried.field-1) untried (ap (number c.args.side) is ∙ c.requires.settled)
+    untried_number c.args.side c.in-Untried.field-0 (plays_and_pass c.in-Untried.field-1) untried (ap (number c.args.side) is ∙ c.requires.settled)

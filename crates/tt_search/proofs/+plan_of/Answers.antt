@@ -19,7 +19,7 @@ use Rattle.tt_search.specs.Shape.{shape}
 use Rattle.tt_search.specs.Offered.{HoldsItsOwn}
 use Rattle.tt_search.proofs.Strategies.{IsZeroAt, zero_at, own_zero, other_zero, all_zero, zero_sum}
 use Rattle.tt_search.proofs.OneSide.{offered_for, zero_step, zero_there}
-use Rattle.tt_search.specs.Untried.{with_pass, AreUntried}
+use Rattle.tt_search.specs.Untried.{plays_and_pass, AreUntried}
 use Rattle.tt_search.proofs.Untried.{untried_number}
 use Rattle.tt_search.proofs.+plan_of.Goals as goal
 
@@ -138,6 +138,6 @@ settled::replied-returns t c =
 
 pub node::Node::plan-unreachable-requires : goal.node::Node::plan-unreachable-requires
 node::Node::plan-unreachable-requires t c =
-    let untried : AreUntried (with_pass c.in-Untried.field-1) = subst HoldsItsOwn c.in-Untried.is c.self.invariant.1 in
+    let untried : AreUntried (plays_and_pass c.in-Untried.field-1) = subst HoldsItsOwn c.in-Untried.is c.self.invariant.1 in
     let is = sym (ap shape c.in-Untried.is) ∙ c.self.view_is in
-    untried_number c.args.side c.in-Untried.field-0 (with_pass c.in-Untried.field-1) untried (ap (number c.args.side) is ∙ c.requires)
+    untried_number c.args.side c.in-Untried.field-0 (plays_and_pass c.in-Untried.field-1) untried (ap (number c.args.side) is ∙ c.requires)

@@ -3,7 +3,7 @@ use Rattle.std.specs.Prelude.{IfSome}
 use Rattle.tt_game.specs.Turns.{successors_of}
 use Rattle.tt_game.specs.TurnLaws.{length-legal_turns}
 use Rattle.tt_search.specs.Expanding.{AreNewEdges}
-use Rattle.tt_search.specs.Untried.{with_pass}
+use Rattle.tt_search.specs.Untried.{plays_and_pass}
 use Rattle.tt_search.proofs.Places.{length-turns_of}
 use Rattle.tt_search.proofs.Successors.{expansion_of, turns_of-successors}
 use Rattle.tt_search.proofs.leaves.expanded_at.Goals as goal
@@ -17,7 +17,7 @@ expanded_node-requires-clause-few c =
 pub returns-in-Some : goal.returns-in-Some
 returns-in-Some c =
     let f = c.args.line.now.frame in let s = c.args.line.now.state in
-    let new : AreNewEdges f s (with_pass c.in-Some.plays) = subst (λ o. IfSome o (λ plays. AreNewEdges f s (with_pass plays))) c.in-Some.is c.untried_plays.ensures.edges in
+    let new : AreNewEdges f s (plays_and_pass c.in-Some.plays) = subst (λ o. IfSome o (λ plays. AreNewEdges f s (plays_and_pass plays))) c.in-Some.is c.untried_plays.ensures.edges in
     c.untried_node.ensures ∙ expansion_of f s c.to_move.result (successors_of f s) _ _ c.to_move.ensures refl new.turns new.leaves
 
 pub returns : goal.returns

@@ -7,14 +7,14 @@ use Rattle.tt_search.specs.Choices.{node_with}
 use Rattle.tt_search.specs.Edges.{edge_trees}
 use Rattle.tt_search.specs.Numbers.{numbers, least, capped_sum}
 use Rattle.tt_search.specs.Packed.{choices_with}
-use Rattle.tt_search.specs.Untried.{fresh_edge, with_pass}
+use Rattle.tt_search.specs.Untried.{fresh_edge, plays_and_pass}
 use Rattle.tt_search.proofs.Changed.{pair_of}
 use Rattle.tt_search.proofs.FreshRows.{ones, least_ones, capped_ones}
 use Rattle.tt_search.proofs.leaves.untried_node.Goals as goal
 
 pub invariant_of-result : goal.invariant_of-result
 invariant_of-result c =
-    let es = with_pass c.args.plays in
+    let es = plays_and_pass c.args.plays in
     let x = choices_with c.args.mover es [] in
     let own : 1 ≡ least (numbers c.args.mover (children_of (edge_trees es []))) = sym (ap least (ones c.args.mover es [] c.requires.fresh) ∙ least_ones (length es) c.requires.some) in
     let all : capped_sum (numbers (opponent c.args.mover) (children_of (edge_trees es []))) ≡ length es =

@@ -8,7 +8,7 @@ use Rattle.tt_game.specs.Turns.{successors_from}
 use Rattle.tt_game.specs.TurnLaws.{from_all}
 use Rattle.tt_search.specs.Growing.{leaf_for}
 use Rattle.tt_search.specs.Edges.{mark_of, tree_of, edge_turns, edge_trees, AreFresh}
-use Rattle.tt_search.specs.Untried.{AreBelow, fresh_edge, with_pass}
+use Rattle.tt_search.specs.Untried.{AreBelow, fresh_edge, plays_and_pass}
 use Rattle.tt_search.proofs.FreshRows.{fresh_mark}
 use Rattle.tt_search.proofs.Successors.{turns_of-successors, turns_more, leaves_more, turns_last, leaves_last}
 use Rattle.tt_search.proofs.Untried.{below_more, below_push, fresh_push, fresh_grown, play_turn, no_winner}
@@ -48,7 +48,8 @@ loop-p-preserved c =
       leaves = leaves_more f s plays c.push.new.self e _ c.loop-p.from _ n items (ap (λ m. tree_of m []) mark ∙ sym (ap leaf_for won)) c.in-Some.ensures.2 c.in-Some.ensures.3 is
           c.loop-p.invariant.leaves;
       fresh = subst AreFresh (sym items) (fresh_push plays e c.loop-p.invariant.fresh mark);
-      below = subst (AreBelow (n + 1)) (sym items) (below_push (n + 1) plays e (below_more c.loop-p.from (n + 1) plays (omega (arith, is, c.in-Some.ensures.0)) c.loop-p.invariant.below) (omega arith));
+      below = subst (AreBelow (n + 1)) (sym items)
+          (below_push (n + 1) plays e (below_more c.loop-p.from (n + 1) plays (omega (arith, is, c.in-Some.ensures.0)) c.loop-p.invariant.below) (omega arith));
       few = omega (arith, ap length items, length_push plays e, c.loop-p.invariant.few, is, c.in-Some.ensures.0);
       inside = omega (arith, c.in-Some.ensures.1, is);
       low = omega (arith, c.number-from.ensures.bound);
@@ -59,14 +60,14 @@ returns c =
     let f = c.args.line.now.frame in let s = c.args.line.now.state in
     let plays = c.loop-p.plays in
     let e = fresh_edge MOST_POINTS in
-    let fresh : AreFresh (with_pass plays) = fresh_push plays e c.loop-p.invariant.fresh refl in
+    let fresh : AreFresh (plays_and_pass plays) = fresh_push plays e c.loop-p.invariant.fresh refl in
     let won = no_winner c.winner_by_pass.result (sym c.is_some.ensures ∙ c.if-is_some.false) in
     let len = length_push plays e in
     record {
       edges = record {
-        none_grown = fresh_grown (with_pass plays) fresh;
-        turns = turns_last f s plays (with_pass plays) e c.loop-p.from refl refl c.in_default.ensures c.loop-p.invariant.turns;
-        leaves = leaves_last f s plays (with_pass plays) e c.winner_by_pass.result c.loop-p.from refl (sym (ap leaf_for won)) c.winner_by_pass.ensures c.in_default.ensures c.loop-p.invariant.leaves;
+        none_grown = fresh_grown (plays_and_pass plays) fresh;
+        turns = turns_last f s plays (plays_and_pass plays) e c.loop-p.from refl refl c.in_default.ensures c.loop-p.invariant.turns;
+        leaves = leaves_last f s plays (plays_and_pass plays) e c.winner_by_pass.result c.loop-p.from refl (sym (ap leaf_for won)) c.winner_by_pass.ensures c.in_default.ensures c.loop-p.invariant.leaves;
       };
       untried = record { fresh = fresh; some = omega (arith, len); few = omega (arith, len, c.loop-p.invariant.few, c.loop-p.invariant.low) };
     }

@@ -1,7 +1,7 @@
 use Rattle.std.proofs.Common.{◌≡◌, suc, ◌++◌, ◌∷◌, [], ◌∙◌, sym, ap, length, arith}
 use Rattle.tt_sgf.specs.Words.{bit_in}
 use Rattle.tt_sgf.specs.declared.size.TheConstants.{MOST_POINTS}
-use Rattle.tt_search.specs.Untried.{fresh_edge, plays_in, with_pass}
+use Rattle.tt_search.specs.Untried.{fresh_edge, plays_in, plays_and_pass}
 use Rattle.tt_search.proofs.Joins.{on_ok}
 use Rattle.tt_search.proofs.Untried.{none_yet, skipped, play_here}
 use Rattle.tt_search.proofs.plays.Plays.row.Goals as goal
@@ -38,5 +38,5 @@ returns c =
     let up_to : plays_in has MOST_POINTS ≡ plays_in has c.loop-p.from =
     skipped has c.loop-p.from MOST_POINTS c.loop-p.invariant.inside (λ q low high. off.none q low (omega (arith, high, c.in_default.ensures)) (omega (arith, high))) in
     let plays : c.loop-p.edges.items ≡ c.args.self.now = c.loop-p.invariant.made ∙ sym up_to ∙ c.self.view_is in
-    let all = c.as_slice.ensures.value ∙ c.push-2.ensures.items ∙ ap (λ e. c.loop-p.edges.items ++ e ∷ []) c.fresh_pass.ensures ∙ ap with_pass plays in
+    let all = c.as_slice.ensures.value ∙ c.push-2.ensures.items ∙ ap (λ e. c.loop-p.edges.items ++ e ∷ []) c.fresh_pass.ensures ∙ ap plays_and_pass plays in
     on_ok c.of.result _ _ (λ row is. is ∙ all) c.of.ensures
