@@ -67,8 +67,8 @@ fn left_after(step: Step, left: u32) -> u32
 }
 
 /// How many nodes a list of so many gets room for when it is full, where there are so many edges. Of a few edges most lists stay short:
-/// so it is an eighth more, but that the second node makes room for the third, and the fourth for the fifth. Of many edges the fourth node
-/// makes room for all: next to none of the others stays away then.
+/// so it is an eighth more, but that the second node makes room for the third, and the fourth for the fifth. Of more than `SHORT` edges the
+/// fourth node makes room for all: next to none of the others stays away then.
 fn more_room(nodes: usize, edges: usize) -> usize
     ensures { 0 < result }
 {

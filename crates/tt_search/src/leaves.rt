@@ -27,9 +27,6 @@ use tt_game::{Line, Side, Survey, Turn};
 use tt_proof::Proof;
 use tt_sgf::NoMemory;
 
-/// For how many nodes a list has room at first where many turns are untried.
-const FIRST_ROOM: usize = 3;
-
 /// A new leaf: won where somebody has won.
 pub(crate) fn new_leaf(winner: Option<Side>) -> Node
     ensures { result ≡ leaf_for winner }
@@ -176,7 +173,8 @@ fn untried_node(mover: Side, plays: Plays) -> Node
     }
 }
 
-/// The children of a node of which no turn has been tried, and which of them to go to: the first one.
+/// The children of a node of which no turn has been tried, and which of them to go to: the first one. There is room for the nodes of all
+/// of them: next to none of these many stays away once the first is tried.
 pub(crate) fn untried_children(
     alloc: Global,
     mover: Side,
@@ -193,7 +191,7 @@ pub(crate) fn untried_children(
         place: 0,
         rank: 0,
     };
-    let grown = Vec::with_capacity(alloc, FIRST_ROOM)?;
+    let grown = Vec::with_capacity(alloc, edges.len())?;
     Ok((aim, Packed { edges, grown }))
 }
 

@@ -19,8 +19,8 @@ pub(crate) struct Node {
     pub(crate) growth: Growth,
 }
 
-/// What a node has become. An expanded node where nobody has won behind any turn, and of which no child has grown, has its mover and the
-/// points of its plays, if these are many. An expanded node that has offered its proof is of its own kind: it has its mover, the edges and the
+/// What a node has become. An expanded node in a large region, where nobody has won behind any turn and none has been tried, has its mover and
+/// the points of its plays. An expanded node that has offered its proof is of its own kind: it has its mover, the edges and the
 /// nodes of its children, and the proof, so that the nodes above take its tree from there.
 #[cycle(node)]
 #[derive(Drop)]
