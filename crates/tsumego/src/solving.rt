@@ -24,15 +24,6 @@ fn free<T: Drop>(value: T, last: bool) {
     }
 }
 
-/// A block that the C library takes from the system by itself, and gives back to it.
-const LARGE: usize = 4_194_304;
-
-/// Takes a large block and gives it back at once. From then on the C library keeps up to twice as much of what each thread has freed.
-/// Otherwise what a worker frees behind a search goes back to the system, and comes again page by page with the next search.
-fn keep_freed(alloc: Global) {
-    let _block: Result<Vec<u8>, _> = Vec::with_capacity(alloc, LARGE);
-}
-
 /// Solves the problem at a line over a log of its own.
 fn solve_problem<X: Threads + Wait + Sync>(
     rt: &X,
@@ -44,9 +35,6 @@ fn solve_problem<X: Threads + Wait + Sync>(
     requires { winner_of line.now.frame line.now.state ≡ None }
     ensures { IfOk result (λ answer. IsAnswer line.now options.limits options.total answer) }
 {
-    if options.workers > 1 {
-        keep_freed(alloc);
-    }
     let log = CertLog::new(alloc)?;
     let answer = tt_share::solve(
         rt,

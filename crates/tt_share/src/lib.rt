@@ -7,6 +7,7 @@
 
 mod alone;
 mod answer;
+mod at_hand;
 mod bounds;
 mod conclude;
 mod desk;

@@ -8,6 +8,7 @@ ghost use Rattle.tt_share.specs.Results.{KnowsNothing, IsReady, SpendsTotal};
 
 use crate::alone::{begin, finish};
 use crate::answer::Answer;
+use crate::at_hand::keep_at_hand;
 use crate::conclude::no_memory;
 use crate::desk::Desk;
 use crate::gate::Gate;
@@ -45,6 +46,7 @@ pub(crate) fn search_together<R: Threads + Wait + Sync, G: Gate, S: Store>(
     ensures spent { OnOk result (SpendsTotal total results.new) }
 {
     let alloc = results.jobs.alloc;
+    keep_at_hand(alloc);
     let seats = Vec::with_capacity(alloc, workers + 1)?;
     let room = Vec::with_capacity(alloc, workers + 1)?;
     let relay = Relay::of(&results.jobs, workers, total)?;

@@ -9,6 +9,7 @@ ghost use Rattle.tt_share.specs.Seats.{SeatView, seat_of};
 ghost use Rattle.tt_share.specs.declared.workers.HandedBack.{HandedBack};
 ghost use Rattle.tt_share.specs.Workers.{SomeWin, IsWork, held, times, spent_on, spent_by_all, AreApart, AllApart, IsPlaced, AllPlaced, AddsSpare, AllDrawn, AreTrimmed, jobs_of, AreGiven, AllGiven};
 
+use crate::at_hand::keep_at_hand;
 use crate::desk::{Desk, Seat};
 use crate::ended::{Ended, is_stuck, trimmed_to};
 use crate::gate::Gate;
@@ -155,6 +156,7 @@ fn work_over<R: Wait, G: Gate>(
     ensures drawn { AddsSpare desk.now.jobs (seat.numbers ++ jobs_of result.found.items) result.seat.numbers }
 {
     let jobs = relay.jobs;
+    keep_at_hand(jobs.alloc);
     match View::new(jobs.alloc, log) {
         Ok(view) => {
             let mut store = LogStore::new(rt, view);
