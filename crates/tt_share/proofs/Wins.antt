@@ -1,5 +1,5 @@
 -- Jobs that have a win for a side, and jobs that have a result.
-use Rattle.std.proofs.Common.{◌≡◌, ℕ, ◌+◌, ◌<◌, ◌≤◌, ◌≢◌, get_or, List, length, Option, Some, None, slice_get, slice_set, refl, sym, ap, ◌∙◌, subst, arith, inl, inr}
+use Rattle.std.proofs.Common.{◌≡◌, ℕ, ◌+◌, ◌<◌, ◌≤◌, ◌≢◌, ◌⊎◌, get_or, List, length, Option, Some, None, slice_get, slice_set, refl, sym, ap, ◌∙◌, subst, arith, inl, inr}
 use Rattle.std.proofs.lemmas.Bool.{cases_lt}
 use Rattle.std.proofs.lemmas.Option.{same_Some, none-some, slice_get_within, slice_get_read, get_or_from_slice_get}
 use Rattle.tt_game.specs.declared.frame.Side.{Side}
@@ -79,23 +79,18 @@ filled_more old new i below same this =
     let others : FilledBelow i new = λ k low. (let had = below k low in let other : k ≢ i = λ e. absurd (omega (arith, low, e)) in (had.0, same k other ∙ had.1)) in
     below_more (λ k. HasResult new k) i others this
 
--- all is ready where a job has a win
-pub ready_by : {side : Side} {ends : List (Option End)} {job : ℕ} → IsLeastWin side ends job → IsReady side ends
-ready_by {side} {ends} {job} least = inl (job, least.wins)
-
--- all is ready, and no job has a win: then none is missing
-pub not_missing : (side : Side) (ends now : List (Option End)) (i : ℕ) → NoWin side ends → IsReady side ends → i < length ends → slice_get now i ≡ slice_get ends i → slice_get now i ≡ Some None → ⊥
-not_missing side ends now i none ready within same missing = elim ready [
-  | inl h ↦ none h.0 h.1
-  | inr h ↦ let had = h i within in none-some had.0 (same_Some None (Some had.0) (sym missing ∙ (same ∙ had.1)))
-]
-
--- nor is any
+-- all is ready, and no job has a win: then each has a result
 pub all_filled : (side : Side) (ends : List (Option End)) → NoWin side ends → IsReady side ends → FilledBelow (length ends) ends
-all_filled side ends none ready = elim ready [
-  | inl h ↦ absurd (none h.0 h.1)
-  | inr h ↦ h
+all_filled side ends none ready = elim ready.2 [
+  | inl h ↦ absurd (none ready.0 h)
+  | inr h ↦ subst (λ n. FilledBelow n ends) h ready.1
 ]
+
+-- and none is missing
+pub not_missing : (side : Side) (ends now : List (Option End)) (i : ℕ) → NoWin side ends → IsReady side ends → i < length ends → slice_get now i ≡ slice_get ends i → slice_get now i ≡ Some None → ⊥
+not_missing side ends now i none ready within same missing =
+    let had = all_filled side ends none ready i within in
+    none-some had.0 (same_Some None (Some had.0) (sym missing ∙ (same ∙ had.1)))
 
 -- there is one least win
 least_same : (side : Side) (ends : List (Option End)) (a b : ℕ) → IsLeastWin side ends a → IsLeastWin side ends b → a ≡ b
@@ -211,6 +206,14 @@ stops_at side first old new i lost was same job later win low = elim (cases_lt j
   | inr h ↦ same_more first old new i was same later (omega arith)
 ]
 
--- with no win there is nothing to say
-pub stops_never : (side : Side) (first new : List (Option End)) → NoWin side new → StopsAtWin side first new
-stops_never side first new none job later win low = absurd (none job win)
+-- where it was gone up to a win, or to the end, all is ready
+pub ready_at : (side : Side) (first new : List (Option End)) (i until : ℕ) → FilledBelow i new → until ≡ i → slice_get new i ≡ slice_get first i → length new ≡ length first
+    → IsWinAt side first until ⊎ (until ≡ length first) → IsReady side new
+ready_at side first new i until filled is same len at = (
+  i,
+  filled,
+  elim at [
+    | inl h ↦ inl (win_kept side new first i (sym same) (subst (IsWinAt side first) is h))
+    | inr h ↦ inr (sym is ∙ (h ∙ sym len))
+  ],
+)

@@ -116,9 +116,9 @@ pub record IsLeastStuck (ends : List (Option End)) (job : ℕ) (reason : Reason)
   pub stuck : HasEnd ends job (Stuck reason search)
   pub least : ¬ IsPastStuck ends job
 
--- some job has a proof for the side, or each has a result
+-- each job has a result, or each below one that has a proof for the side
 abbrev pub IsReady : Side → List (Option End) → Type 0
-IsReady side ends = ((job : ℕ) × IsWinAt side ends job) ⊎ FilledBelow (length ends) ends
+IsReady side ends = (until : ℕ) × FilledBelow until ends × (IsWinAt side ends until ⊎ (until ≡ length ends))
 
 -- no job is stuck
 abbrev pub NoneStuck : List (Option End) → Type 0

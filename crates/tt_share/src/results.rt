@@ -239,7 +239,20 @@ impl<'a> Results<'a> {
         self.search_free(job, store, grants)
     }
 
-    /// Where no job wins for the side to move, searches each that has no result, in rising order, until one does.
+    /// The least job that wins for the side to move, or else how many jobs there are.
+    fn win_or_end(&self) -> usize
+        ensures clear { (job : ℕ) → job < result → ¬ IsWinAt self.now.line.state.to_move self.now.ends job }
+        ensures win { IsWinAt self.now.line.state.to_move self.now.ends result ⊎ (result ≡ length self.now.ends) }
+        ensures few { result ≤ 362 }
+    {
+        let count = self.count();
+        match self.win() {
+            Some(job) => job,
+            None => count,
+        }
+    }
+
+    /// Searches each job that has no result, in rising order, up to the first that wins for the side to move.
     pub fn search_missing<S: Store, G: Grants>(&mut self, store: &mut S, grants: &mut G)
         requires grants { (G.asked grants.old).granted ≡ 0 }
         ensures same { self.new ≡ record self.old { ends = self.new.ends; spent = self.new.spent } }
@@ -247,13 +260,10 @@ impl<'a> Results<'a> {
         ensures source { G.source grants.new ≡ G.source grants.old }
         ensures ready { IsReady self.new.line.state.to_move self.new.ends }
         ensures kept { KeepsEnds self.old.ends self.new.ends }
-        ensures won { (job : ℕ) → IsWinAt self.old.line.state.to_move self.old.ends job → self.new ≡ self.old }
         ensures stops { StopsAtWin self.new.line.state.to_move self.old.ends self.new.ends }
     {
-        if let Some(_) = self.win() {
-            return;
-        }
-        for job in 0..self.count() {
+        let until = self.win_or_end();
+        for job in 0..until {
             if self.search_job(job, store, grants) {
                 return;
             }
