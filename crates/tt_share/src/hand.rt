@@ -12,14 +12,14 @@ use crate::jobs::{Found, Jobs};
 use crate::relay::{Pass, Relay};
 use tt_search::Store;
 
-/// Goes on with the search of a job by a share. Where that ends the gate is told, and the search of a stuck job is dropped if
+/// Goes on with the search of a job by so many expansions. Where that ends the gate is told, and the search of a stuck job is dropped if
 /// the desk knows of a lesser one.
 fn go_on_by<S: Store, G: Gate>(
     jobs: &Jobs<'_>,
     desk: &Desk,
     gate: &G,
     begun: Found,
-    share: u32,
+    more: u32,
     store: &mut S,
 ) -> Found
     requires job { begun.job < length jobs.now.turns.items }
@@ -27,7 +27,7 @@ fn go_on_by<S: Store, G: Gate>(
     ensures job { result.job ≡ begun.job }
     ensures result { IsResult jobs.now.line.now jobs.now.limits result }
 {
-    let mut grants = Share::of(share);
+    let mut grants = Share::of(more);
     let Found { job, end, spent } = jobs.go_on(begun, store, &mut grants);
     if is_for_total(&end) {
         return Found { job, end, spent };
@@ -56,8 +56,8 @@ fn bring_up<S: Store, G: Gate>(
     match lies {
         Some(found) => {
             if is_for_total(&found.end) && found.spent < reach {
-                let share = reach - found.spent;
-                return go_on_by(jobs, desk, gate, found, share, store);
+                let more = reach - found.spent;
+                return go_on_by(jobs, desk, gate, found, more, store);
             }
             found
         }

@@ -97,16 +97,16 @@ fn empty_row(alloc: Global, count: usize) -> Result<Vec<Option<Found>>, NoMemory
 }
 
 /// How many of the jobs are handed on: as many as there are workers, so that each has one at the end, and one more, since the
-/// last one is the pass, which is mostly settled soon. None where there is a total, where a search is one share, where one
-/// worker is alone, or where there are no more jobs than workers.
-fn handed_on(jobs: usize, workers: usize, shares: bool, total: Option<u32>) -> usize
+/// last one is the pass, which is mostly settled soon; but never the first one. None where there is a total, where a search is no more than
+/// one share, where one worker is alone, or where there are no more jobs than workers.
+fn handed_on(jobs: usize, workers: usize, has_shares: bool, total: Option<u32>) -> usize
     requires jobs { 0 < jobs }
     requires workers { workers ≤ MOST_WORKERS }
     ensures fewer { result < jobs }
     ensures few { result ≤ workers + 1 }
     ensures total { IfSome total (λ _. result ≡ 0) }
 {
-    if total.is_some() || !shares || workers == 1 || jobs <= workers {
+    if total.is_some() || !has_shares || workers == 1 || jobs <= workers {
         return 0;
     }
     (workers + 1).min(jobs - 1)
@@ -141,7 +141,7 @@ impl<'a, 'b> Relay<'a, 'b> {
     {
         let count = jobs.turns.len();
         let budget = jobs.limits.budget();
-        let share = (budget / MOST_SHARES).max(LEAST_SHARE);
+        let share = budget.div_ceil(MOST_SHARES).max(LEAST_SHARE);
         let behind = handed_on(count, workers, share < budget, total);
         let words = vec![in jobs.alloc; 1u64; count]?;
         let row = empty_row(jobs.alloc, count)?;
