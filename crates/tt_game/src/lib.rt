@@ -29,6 +29,6 @@ pub use line::Line;
 pub use past::Past;
 pub use problems::problem;
 pub use records::{Record, play_record};
-pub use seen::{PRINTS, Seen, board_print};
+pub use seen::{Seen, board_print};
 pub use survey::Survey;
 pub use turns::{Successor, Turn, Turns};

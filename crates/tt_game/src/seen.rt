@@ -15,7 +15,7 @@ use tt_board::{Board, Colour};
 use tt_sgf::{BITS, Bits, Point};
 
 /// How many prints colourings have: a bit for each fills 128 rows of `BITS`.
-pub const PRINTS: usize = 49152;
+const PRINTS: usize = 49_152;
 
 /// An odd number with bits of both kinds all over: 2^64 by the golden ratio.
 pub(crate) const MIXER: u64 = 0x9e37_79b9_7f4a_7c15;

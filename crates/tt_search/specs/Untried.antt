@@ -23,7 +23,7 @@ AreBelow p (e ∷ es) = (e.code < p) × AreBelow p es
 abbrev pub plays_and_pass : List Edge → List Edge
 plays_and_pass plays = plays ++ fresh_edge MOST_POINTS ∷ []
 
--- nothing is known behind any of the edges, of which there are some, and no more than turns
+-- nothing is known behind any of the edges; there is one at least, and no more than a node can have
 pub record AreUntried (es : List Edge) : Type 0 where
   pub fresh : AreFresh es
   pub some : 0 < length es

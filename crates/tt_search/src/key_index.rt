@@ -24,7 +24,7 @@ pub trait ProofRow {
         ensures { slice_get (proofs self.now) place ≡ Some result.now };
 }
 
-/// How many prints marks have: twelve for each of 16,384 proofs, which four workers keep.
+/// How many prints marks have: twelve for each of 16,384 proofs, which four workers may keep.
 const MARK_PRINTS: usize = 196_608;
 
 /// The print of a mark, by which the index knows most marks as new at once.

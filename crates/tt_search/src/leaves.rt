@@ -174,7 +174,7 @@ fn untried_node(mover: Side, plays: Plays) -> Node
 }
 
 /// The children of a node of which no turn has been tried, and which of them to go to: the first one. There is room for the nodes of all
-/// of them: next to none of these many stays away once the first is tried.
+/// of them: mostly next to none stays away once the first is tried.
 pub(crate) fn untried_children(
     alloc: Global,
     mover: Side,

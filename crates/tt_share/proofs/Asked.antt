@@ -30,10 +30,6 @@ asked_put old new f before after free puts notes asks = record {
   still = asks.still;
 }
 
--- nothing is asked for where nothing is put
-pub asked_nothing : (p : Progress) (asked : Asked) → AskedFor p asked p asked
-asked_nothing p asked = record { spent = refl; refused = λ h. inl h; still = λ e. e }
-
 -- what is asked for in two parts
 pub asked_twice : (a b c : Progress) (x y z : Asked) → AskedFor a x b y → AskedFor b y c z → AskedFor a x c z
 asked_twice a b c x y z first second = record {

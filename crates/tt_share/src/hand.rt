@@ -133,7 +133,7 @@ impl<'r, 'a, 'b> Hand<'r, 'a, 'b> {
     }
 
     /// Goes round by round until the jobs that are handed on are at their ends or with other workers: a share further in each round, so
-    /// that all of them get on alike, and workers that come one after the other end together.
+    /// that all of them get on alike, and workers that come one after the other end at about the same time.
     pub fn go_rounds<S: Store, G: Gate>(
         &mut self,
         grants: &mut SeatGrants<'_>,

@@ -89,10 +89,11 @@ fn solve_rest<R: Threads + Wait + Sync, G: Gate, S: Store>(
 
 /// Solves the line by 1 to `MOST_WORKERS` workers, which share the log. Each of them, and the caller, has a view of it. The log is asked
 /// first for a proof that wins at the line itself. Else each legal turn, in rising order, is a job: workers draw them and
-/// search each with the same budget and a depth one less, until one is settled for the side to move. Where there is no total
-/// they hand the last ones on to one another, one more than there are workers, so that all end at about the same time. The caller
-/// searches what they left, up to a turn that wins, and the proof that the results make is offered to the log. Where there is a total, which is at least 1, all
-/// searches together expand at most so many nodes. The depth is at least 1, and nobody has won at the line.
+/// search each with the same budget and a depth one less, until one is settled for the side to move. Where there is no total,
+/// several workers may hand the last ones on to one another, so that all end at about the same time. The caller searches what
+/// they left, up to a turn that wins, and the proof that the results make is offered to the log. Where there is a total, which is
+/// at least 1, all searches together expand at most so many nodes. The depth is at least 1, and nobody has won at the line. From
+/// then on the C library keeps more of what the process frees: up to 32 MiB for each thread.
 pub fn solve<R: Threads + Wait + Sync, G: Gate>(
     rt: &R,
     alloc: Global,

@@ -2,7 +2,7 @@ use Rattle.std.proofs.Common.{◌≡◌, ◌∙◌, ◌<◌, ◌+◌, ℕ, inl, 
 use Rattle.tt_game.specs.declared.frame.Side.{Side}
 use Rattle.tt_share.specs.Results.{Progress, FilledBelow, IsReady, IsWinAt, StopsAtWin}
 use Rattle.tt_share.proofs.Placing.{same_twice, keeps_twice}
-use Rattle.tt_share.proofs.Asked.{asked_nothing, asked_twice}
+use Rattle.tt_share.proofs.Asked.{asked_twice}
 use Rattle.tt_share.proofs.Wins.{filled_more, ready_at, win_kept, lost_more, same_more, stops_at}
 use Rattle.tt_share.proofs.results.Results.search_missing.Goals as goal
 
