@@ -6,6 +6,7 @@ pub mod Sizes
 pub mod Points
 pub mod Entries
 pub mod Words
+pub mod Faults
 -- What private contracts and proofs cite. Nobody has to believe these.
 pub mod Reading
 pub mod TreeLaws

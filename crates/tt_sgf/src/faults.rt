@@ -13,6 +13,22 @@ pub enum SgfFault {
     NoMemory,
 }
 
+impl SgfFault {
+    ghost use Rattle.std.specs.Prelude.{◌≡◌};
+    ghost use Rattle.tt_sgf.specs.Faults.{code_of};
+
+    /// The number of the refusal: 1 or 2, or 40 for want of memory.
+    pub fn code(&self) -> u8
+        ensures { result ≡ code_of self.now }
+    {
+        match self {
+            SgfFault::Syntax => 1,
+            SgfFault::TooLong => 2,
+            SgfFault::NoMemory => 40,
+        }
+    }
+}
+
 impl From<AllocError> for SgfFault {
     ghost use Rattle.std.specs.Prelude.{◌≡◌};
     ghost use Rattle.tt_sgf.specs.declared.faults.SgfFault.TheVariants.{NoMemory};
