@@ -23,4 +23,3 @@ pub mod PlayLemmas
 pub mod QuietLemmas
 pub mod StartLemmas
 pub mod StoneLemmas
-pub mod TrackLemmas

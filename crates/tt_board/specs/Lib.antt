@@ -14,7 +14,6 @@ pub mod Laws
 pub mod Planes
 pub mod Differences
 pub mod Boards
-pub mod Tracks
 pub mod Chain
 pub mod Chains
 pub mod Around

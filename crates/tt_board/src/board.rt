@@ -192,16 +192,6 @@ impl Board {
         self.shows(other.size, &other.points)
     }
 
-    /// `same` for boards that mostly are.
-    pub(crate) fn is_still(&self, other: &Board) -> bool
-        ensures { IsTrue result → self.now ≡ other.now }
-    {
-        if !self.points.is_still(&other.points) {
-            return false;
-        }
-        self.size == other.size
-    }
-
     /// The colouring, with an entry for each point of the board, in which each stone reaches empty.
     pub(crate) fn points(&self) -> &Colouring
         ensures value { result.now ≡ self.now.points }

@@ -133,16 +133,6 @@ impl Colouring {
         self.count == other.count
     }
 
-    /// `same` for colourings that mostly are: all words are looked at in one go.
-    pub(crate) fn is_still(&self, other: &Colouring) -> bool
-        ensures { IsTrue result → self.now ≡ other.now }
-    {
-        if self.len() != other.len() {
-            return false;
-        }
-        self.apart(other).same(&Bits::none())
-    }
-
     /// Whether both have the same entries on their first 64 points: most colourings that differ are told apart by these.
     pub(crate) fn begins_as(&self, other: &Colouring) -> bool
         ensures { IsTrue result ↔ ((q : ℕ) → q < 64 → entry_at self.now q ≡ entry_at other.now q) }

@@ -41,14 +41,6 @@ impl Model for Step {
     ghost view = { λ s. edit_at (s.0 / PLACES) (s.0 % PLACES) };
 }
 
-impl Clone for Step {
-    ghost is_clone = { λ x y. y ≡ x };
-
-    fn clone(&self) -> Result<Step, AllocError> {
-        Ok(Step(self.0))
-    }
-}
-
 impl Step {
     /// The step of this kind at a point.
     fn new(kind: u16, p: u16) -> Step
@@ -173,30 +165,6 @@ impl Differences {
         })
     }
 
-    /// The first `count` edits again, in no more memory than they need.
-    pub(crate) fn first(&self, alloc: Global, count: usize) -> Result<Differences, NoMemory>
-        requires { count ≤ length self.now }
-        ensures { IfOk result (λ d. d ≡ take count self.now) }
-    {
-        let mut edits = Vec::with_capacity(alloc, count)?;
-        edits.extend_with_clones(&self.edits[..count])?;
-        Ok(Differences { edits })
-    }
-
-    /// How many edits there are.
-    pub(crate) fn len(&self) -> usize
-        ensures { result ≡ length self.now }
-    {
-        self.edits.len()
-    }
-
-    /// Takes back all edits behind the first `count`.
-    pub(crate) fn truncate(&mut self, count: usize)
-        ensures { self.new ≡ take count self.old }
-    {
-        self.edits.truncate(count);
-    }
-
     /// Gives back memory that isn't needed.
     pub(crate) fn shrink_to_fit(&mut self)
         ensures { self.new ≡ self.old }
@@ -209,7 +177,6 @@ impl Differences {
         requires { length here.now ≡ length there.now }
         ensures ok { OnOk result (IsLed self.old self.new here.now there.now) }
         ensures err { OnErr result (self.new ≡ self.old) }
-        ensures kept { take (length self.old) self.new ≡ self.old }
     {
         let before = self.edits.len();
         if push_edits(&mut self.edits, here, there).is_err() {

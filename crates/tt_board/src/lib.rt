@@ -1,6 +1,6 @@
 //! Boards of Go under the Tromp-Taylor rules: colourings in which each stone reaches empty, moves that capture, and area scores.
 //!
-//! A board takes no memory but its own: `Boards`, `Trail` and `Track` alone ask for some, and say where there is none.
+//! A board takes no memory but its own: `Boards` and `Trail` alone ask for some, and say where there is none.
 //! A contract sees a board as a `Position`: its size, and its colouring as a list of entries, row by row.
 #![tactic(auto)]
 
@@ -27,14 +27,12 @@ mod near;
 mod quiet;
 mod setup;
 mod stones;
-mod track;
 mod trail;
 
 pub use board::{Board, Lifeless, Occupied};
 pub use boards::Boards;
 pub use counted::CountedBoard;
 pub use quiet::Glance;
-pub use track::Track;
 pub use trail::Trail;
 
 /// The colour of a stone, and of the player who puts it.

@@ -4,7 +4,6 @@
 ghost use Rattle.std.specs.Prelude.{◌≡◌, ◌↔◌, List, ◌∷◌, ◌++◌, [], All, IsTrue, IfOk, MatchOption};
 ghost use Rattle.std.specs.Arc.{arc_value};
 ghost use Rattle.tt_board.specs.Position.{Position};
-ghost use Rattle.tt_board.specs.Boards.{trail_of, IsTrail};
 
 use super::board::Board;
 use super::differences::Differences;
@@ -48,15 +47,6 @@ impl Trail {
             here = next;
         }
         steps.shrink_to_fit();
-        let base = Arc::try_clone(base)?;
-        Ok(Trail { base, steps })
-    }
-
-    /// The boards to which these steps lead from a base.
-    pub(crate) fn along(base: &Arc<Board>, steps: Differences) -> Result<Trail, NoMemory>
-        requires { IsTrail (arc_value base.now) steps }
-        ensures { IfOk result (λ t. t ≡ trail_of (arc_value base.now) steps) }
-    {
         let base = Arc::try_clone(base)?;
         Ok(Trail { base, steps })
     }

@@ -16,7 +16,7 @@ use crate::seen::{mix_board, print_with_stone};
 use crate::turns::Turn;
 use std::marker::Model;
 use std::sync::Arc;
-use tt_board::{Board, Colour, CountedBoard, Glance, Track};
+use tt_board::{Board, Colour, CountedBoard, Glance};
 use tt_sgf::{Bits, NoMemory, Point};
 
 /// How a push is undone.
@@ -36,7 +36,6 @@ pub struct Line {
     played: Played,
     to_move: Side,
     pushes: Vec<Undo>,
-    track: Track,
 }
 
 impl Model for Line {
@@ -61,7 +60,6 @@ impl Model for Line {
       board : l.played.present ≡ board_on l.frame.size l.history.present;
       undoable : IsUndoable l.frame.size (state_at l.history l.to_move) (reverse l.pushes.items) l.played.below;
       same_frame : (arc_value l.root).frame ≡ l.frame;
-      track : l.track.size ≡ l.frame.size;
       rooted : AreRooted (arc_value l.root).begun (state_at l.history l.to_move) (reverse l.pushes.items);
     } };
 }
@@ -92,7 +90,6 @@ impl Line {
     {
         let alloc = history.alloc();
         let root = Arc::new(alloc, Root::of(&frame, &history)?)?;
-        let track = Track::of(alloc, root.base())?;
         Ok(Line {
             frame,
             root,
@@ -100,7 +97,6 @@ impl Line {
             played: Played::of(alloc, board)?,
             to_move,
             pushes: Vec::new(alloc),
-            track,
         })
     }
 
@@ -477,31 +473,7 @@ impl Line {
     pub fn past(&self) -> Result<Past, NoMemory>
         ensures { IfOk result (λ p. p ≡ record { frame = self.now.frame; state = self.now.state }) }
     {
-        let mut track = Track::of(self.history.alloc(), self.root.base())?;
-        Past::of(
-            &self.root,
-            &mut track,
-            &self.history,
-            self.to_move,
-            self.key_print(),
-        )
-    }
-
-    /// What `past` gives. The boards with which the last one asked for in this way began, too, are only seen to be the same: what
-    /// differs between them isn't looked for anew.
-    #[tactic(auto, using(crate::proofs::RootLemmas::rooted_here))]
-    pub fn next_past(&mut self) -> Result<Past, NoMemory>
-        ensures past { IfOk result (λ p. p ≡ record { frame = self.old.frame; state = self.old.state }) }
-        ensures same { self.new ≡ self.old }
-    {
-        let print = self.key_print();
-        Past::of(
-            &self.root,
-            &mut self.track,
-            &self.history,
-            self.to_move,
-            print,
-        )
+        Past::of(&self.root, &self.history, self.to_move, self.key_print())
     }
 
     /// The same line, with nothing to undo. What is kept of both shares one root.
@@ -511,7 +483,6 @@ impl Line {
     {
         let history = self.history.copy()?;
         let alloc = history.alloc();
-        let track = Track::of(alloc, self.root.base())?;
         Ok(Line {
             frame: self.frame.copy(),
             root: Arc::try_clone(&self.root)?,
@@ -519,7 +490,6 @@ impl Line {
             played: self.played.again(alloc)?,
             to_move: self.to_move,
             pushes: Vec::new(alloc),
-            track,
         })
     }
 
@@ -536,11 +506,9 @@ impl Line {
             played,
             to_move: _,
             mut pushes,
-            track: _,
         } = longer;
         let history = self.history.copy_over(history)?;
         let alloc = history.alloc();
-        let track = Track::of(alloc, self.root.base())?;
         pushes.clear();
         Ok(Line {
             frame: self.frame.copy(),
@@ -549,7 +517,6 @@ impl Line {
             played: self.played.again_over(alloc, played)?,
             to_move: self.to_move,
             pushes,
-            track,
         })
     }
 }

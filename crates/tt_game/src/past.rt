@@ -17,7 +17,7 @@ use crate::line::Line;
 use crate::root::Root;
 use std::marker::Model;
 use std::sync::Arc;
-use tt_board::{Board, Track, Trail};
+use tt_board::{Board, Trail};
 use tt_sgf::NoMemory;
 
 /// Where a line stood: its frame, history, side to move and passes. What the line shares with others of its beginning stands
@@ -60,23 +60,23 @@ impl Model for Past {
 }
 
 impl Past {
-    /// What stands after this history, which begins as the root's lines began, with the print of its key. The track is one of boards of
-    /// the frame's size.
+    /// What stands after this history, which begins as the root's lines began, with the print of its key.
     pub(crate) fn of(
         root: &Arc<Root>,
-        track: &mut Track,
         history: &History,
         to_move: Side,
         print: u32,
     ) -> Result<Past, NoMemory>
         requires size { history.now.size ≡ (arc_value root.now).frame.size }
-        requires track { track.old.size ≡ (arc_value root.now).frame.size }
         requires begins { BoardsBegin (arc_value root.now).begun (so_far history.now) }
         requires print { print ≡ print_of_key (key_of (arc_value root.now).frame (state_at history.now to_move)) }
-        ensures kept { IfOk result (λ p. p ≡ record { frame = (arc_value root.now).frame; state = state_at history.now to_move }) }
-        ensures track { track.new ≡ track.old }
+        ensures { IfOk result (λ p. p ≡ record { frame = (arc_value root.now).frame; state = state_at history.now to_move }) }
     {
-        let later = track.trail(history.alloc(), &history.boards()[root.count()..])?;
+        let later = Trail::of(
+            history.alloc(),
+            root.base(),
+            &history.boards()[root.count()..],
+        )?;
         Ok(Past {
             root: Arc::try_clone(root)?,
             later,

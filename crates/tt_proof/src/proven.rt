@@ -319,19 +319,18 @@ impl Proof {
     }
 
     /// The proof of a plan that is known to win at the line, and of its footprint there. No turn is played for it, and its
-    /// tree is not looked at. The line stands as before.
+    /// tree is not looked at.
     pub fn winning_with(
-        line: &mut Line,
+        line: &Line,
         s: Side,
         plan: Plan,
         footprint: Footprint,
     ) -> Result<Proof, NoMemory>
-        requires wins { IsWon s line.old.frame line.old.state plan }
-        requires footprint { IsFootprint line.old.frame line.old.state plan footprint }
-        ensures proof { IfOk result (λ p. StandsAt p line.old.frame line.old.state × (p.side ≡ s) × (p.tree ≡ plan)) }
-        ensures same { line.new ≡ line.old }
+        requires wins { IsWon s line.now.frame line.now.state plan }
+        requires footprint { IsFootprint line.now.frame line.now.state plan footprint }
+        ensures { IfOk result (λ p. StandsAt p line.now.frame line.now.state × (p.side ≡ s) × (p.tree ≡ plan)) }
     {
-        let past = line.next_past()?;
+        let past = line.past()?;
         Ok(Proof {
             past,
             side: s,

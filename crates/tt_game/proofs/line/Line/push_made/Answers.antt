@@ -28,6 +28,5 @@ invariant_of-self-2 c =
           (undoable_play i.frame.size i.history i.to_move i.pushes.items c.present.result.now.points i.played.present i.played.below most c.self.invariant.board
           c.self.invariant.undoable);
       same_frame = c.self.invariant.same_frame;
-      track = c.self.invariant.track;
       rooted = rooted;
     }

@@ -23,6 +23,5 @@ invariant_of-self-2 c =
       board = rw passed c.self.invariant.board;
       undoable = rw (pushed, passed, turned) (undoable_pass i.frame.size i.history i.to_move i.pushes.items i.played.below c.self.invariant.undoable);
       same_frame = c.self.invariant.same_frame;
-      track = c.self.invariant.track;
       rooted = rooted;
     }

@@ -12,12 +12,14 @@ use Rattle.tt_game.specs.Roots.{Rooted}
 use Rattle.tt_game.proofs.RootLemmas.{kept_shows}
 use Rattle.tt_game.proofs.past.Past.of.Goals as goal
 
-pub trail-requires : goal.trail-requires
-trail-requires c =
-    let size = c.args.track.now.size in
-    let same : c.args.history.now.size ≡ size = c.requires.size ∙ sym c.requires.track in
-    subst (λ bs. All (λ (b : Position). b.size ≡ size) bs) (sym (take_rest c.boards.result.now c.count.result))
-    (All-drop (λ (b : Position). b.size ≡ size) c.count.result c.boards.result.now
+pub of-requires : goal.of-requires
+of-requires c =
+    let root = arc_value c.args.root.now in
+    let base = arc_value c.base.result.now in
+    let found : c.deref.result.now ≡ root = search rules in
+    let same : c.args.history.now.size ≡ base.size = c.requires.size ∙ sym (c.base.ensures ∙ ap (λ (r : Rooted). r.frame.size) found) in
+    subst (λ bs. All (λ (b : Position). b.size ≡ base.size) bs) (sym (take_rest c.boards.result.now c.count.result))
+    (All-drop (λ (b : Position). b.size ≡ base.size) c.count.result c.boards.result.now
     (subst (λ (z : Size). All (λ (b : Position). b.size ≡ z) c.boards.result.now) same c.boards.ensures.sizes))
 
 pub invariant_of-result : goal.invariant_of-result
@@ -26,8 +28,8 @@ invariant_of-result c =
     let there = c.boards.result.now in
     let g = root.frame.size in
     let same_root : arc_value c.in_ok-try_clone.field-0 ≡ root = search rules in
-    let behind : c.in_ok-later.later ≡ drop c.count.result there = c.in_ok-later.ensures.boards ∙ take_rest there c.count.result in
-    let found : c.deref.result.now ≡ root = search rules in
+    let behind : c.in_ok-later.later ≡ drop c.count.result there = c.in_ok-later.ensures ∙ take_rest there c.count.result in
+    let found : c.deref-2.result.now ≡ root = search rules in
     let sizes : All (λ (b : Position). b.size ≡ g) there = subst (λ (z : Size). All (λ (b : Position). b.size ≡ z) there) c.requires.size c.boards.ensures.sizes in
     let later : All (λ (b : Position). b.size ≡ g) c.in_ok-later.later =
     subst (λ bs. All (λ (b : Position). b.size ≡ g) bs) (sym behind) (All-drop (λ (b : Position). b.size ≡ g) c.count.result there sizes) in
@@ -46,14 +48,14 @@ invariant_of-result c =
       print = c.requires.print ∙ ap (λ s. print_of_key (key_of root.frame s)) (sym kept);
     })
 
-pub returns-clause-kept : goal.returns-clause-kept
-returns-clause-kept c =
+pub returns : goal.returns
+returns c =
     let root = arc_value c.args.root.now in
     let there = c.boards.result.now in
     let h = c.args.history.now in
     let same_root : arc_value c.in_ok-try_clone.field-0 ≡ root = search rules in
-    let behind : c.in_ok-later.later ≡ drop c.count.result there = c.in_ok-later.ensures.boards ∙ take_rest there c.count.result in
-    let found : c.deref.result.now ≡ root = search rules in
+    let behind : c.in_ok-later.later ≡ drop c.count.result there = c.in_ok-later.ensures ∙ take_rest there c.count.result in
+    let found : c.deref-2.result.now ≡ root = search rules in
     let count : c.count.result ≡ length root.begun = c.count.ensures.value ∙ ap (λ (r : Rooted). length r.begun) found in
     let passes : c.passes.result ≡ h.passes = c.passes.ensures.value in
     let shown : state_at (course_of h.size (root.begun ++ drop (length root.begun) there) h.passes) c.args.to_move ≡ state_at h c.args.to_move =
