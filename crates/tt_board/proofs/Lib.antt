@@ -4,7 +4,6 @@ pub mod AroundLemmas
 pub mod BoardsLemmas
 pub mod CaptureLemmas
 pub mod ChainLemmas
-pub mod ColumnLemmas
 pub mod CountLemmas
 pub mod DifferencesLemmas
 pub mod ExactLemmas

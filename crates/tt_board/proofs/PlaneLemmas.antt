@@ -148,18 +148,6 @@ module _ (n m : ℕ) (a b c d : List ℕ) (xs ys : Colouring) (counts : n ≡ m)
   whites_same other same q small =
       (bits_of n a b plain q small).1 ∙ ap (λ zs. is_stone_of (entry_at zs q) White) (one same) ∙ sym (bits_of m c d other q small).1
 
--- where an entry is the same in the colourings that two plain pairs of words show, so are its bits
-module _ (n m : ℕ) (a b c d : List ℕ) (xs ys : Colouring) (first : shown n a b ≡ xs) (second : shown m c d ≡ ys) (plain : IsPlain n a b) (other : IsPlain m c d)
-    (q : ℕ) (small : q < 384) (same : entry_at xs q ≡ entry_at ys q) where
-  entry_same : entry_at (shown n a b) q ≡ entry_at (shown m c d) q
-  entry_same = ap (λ zs. entry_at zs q) first ∙ same ∙ sym (ap (λ zs. entry_at zs q) second)
-
-  pub black_alike : bit_in a q ≡ bit_in c q
-  black_alike = (bits_of n a b plain q small).0 ∙ ap (λ e. is_stone_of e Black) entry_same ∙ sym (bits_of m c d other q small).0
-
-  pub white_alike : bit_in b q ≡ bit_in d q
-  white_alike = (bits_of n a b plain q small).1 ∙ ap (λ e. is_stone_of e White) entry_same ∙ sym (bits_of m c d other q small).1
-
 -- words whose bits are the stones of a colour
 bits_handed : (words : List ℕ) (k : Colour) (c : Colouring) → ((p : ℕ) → p < 384 → bit_in words p ≡ is_stone_of (entry_at c p) k) → AreBitsOf words (length c) (λ p. is_stone_of (entry_at c p) k)
 bits_handed words k c bits = record {

@@ -133,16 +133,6 @@ impl Colouring {
         self.count == other.count
     }
 
-    /// Whether both have the same entries on their first 64 points: most colourings that differ are told apart by these.
-    pub(crate) fn begins_as(&self, other: &Colouring) -> bool
-        ensures { IsTrue result ↔ ((q : ℕ) → q < 64 → entry_at self.now q ≡ entry_at other.now q) }
-    {
-        if !self.black.begin_alike(&other.black) {
-            return false;
-        }
-        self.white.begin_alike(&other.white)
-    }
-
     /// Bits that are 1 wherever the entries differ. Contracts say that where a bit is 0 they are alike, which is all that
     /// keeping boards rests on.
     pub(crate) fn apart(&self, other: &Colouring) -> Bits

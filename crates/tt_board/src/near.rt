@@ -1,28 +1,11 @@
 //! The points beside a point.
 
-ghost use Rattle.std.specs.Prelude.{◌≡◌, ℕ, ◌+◌, ◌-◌, ◌%◌, ◌<◌, ◌≤◌, ◌↔◌, IsTrue};
+ghost use Rattle.std.specs.Prelude.{◌≡◌, ℕ, ◌+◌, ◌-◌, ◌<◌, ◌≤◌, ◌↔◌, IsTrue};
 ghost use Rattle.tt_sgf.specs.Sizes.{point_count};
 ghost use Rattle.tt_board.specs.Near.{IsNeighbour, IsThere, IsOneOf, places_there};
 ghost use Rattle.tt_board.specs.Chains.{IsEachOnce};
 
 use tt_sgf::Size;
-
-/// 65,536 divided by each number of columns, rounded up.
-const PARTS: [u32; 20] = [
-    0, 65536, 32768, 21846, 16384, 13108, 10923, 9363, 8192, 7282, 6554, 5958, 5462, 5042, 4682,
-    4370, 4096, 3856, 3641, 3450,
-];
-
-/// The column of a point. A product finds its row, since a division takes a processor several times as long.
-#[inline(always)]
-fn column_of(size: Size, p: usize) -> usize
-    requires { p < point_count size }
-    ensures { result ≡ p % size.columns }
-{
-    let columns = usize::from(size.columns());
-    let row = p * PARTS[columns] as usize / 65536;
-    p - row * columns
-}
 
 /// The four places beside a point, each where the board has it.
 #[derive(Clone, Copy)]
@@ -58,7 +41,7 @@ pub(crate) fn beside(size: Size, p: usize) -> Places
 {
     let count = size.point_count();
     let columns = usize::from(size.columns());
-    let column = column_of(size, p);
+    let column = p % columns;
     Places {
         above: before(columns <= p, p, columns),
         left: before(0 < column, p, 1),

@@ -92,7 +92,7 @@ one_bit zero (suc (suc y)) sx sy e = absurd (omega arith)
 one_bit (suc zero) (suc (suc y)) sx sy e = absurd (omega arith)
 
 -- a word is known by its bits
-pub word_by_bits : (a b : List ℕ) (k : ℕ) → get_or a k 0 < 2 ^ 64 → get_or b k 0 < 2 ^ 64 → ((i : ℕ) → i < 64 → bit_in a (k * 64 + i) ≡ bit_in b (k * 64 + i)) → get_or a k 0 ≡ get_or b k 0
+word_by_bits : (a b : List ℕ) (k : ℕ) → get_or a k 0 < 2 ^ 64 → get_or b k 0 < 2 ^ 64 → ((i : ℕ) → i < 64 → bit_in a (k * 64 + i) ≡ bit_in b (k * 64 + i)) → get_or a k 0 ≡ get_or b k 0
 word_by_bits a b k fits_a fits_b same = same_from_bits_below 64 (get_or a k 0) (get_or b k 0) fits_a fits_b (λ i small.
     one_bit (bit_at (get_or a k 0) i) (bit_at (get_or b k 0) i) (bit_at-lt (get_or a k 0) i) (bit_at-lt (get_or b k 0) i)
     (same_bit a b (k * 64 + i) k i (omega arith) (omega arith) (same i small)))
@@ -100,13 +100,6 @@ word_by_bits a b k fits_a fits_b same = same_from_bits_below 64 (get_or a k 0) (
 -- so it is where all bits of six words are the same
 pub word_is : (a b : List ℕ) (k : ℕ) → k < 6 → get_or a k 0 < 2 ^ 64 → get_or b k 0 < 2 ^ 64 → AreSameBits a b → get_or a k 0 ≡ get_or b k 0
 word_is a b k lt fits_a fits_b same = word_by_bits a b k fits_a fits_b (λ i small. same (k * 64 + i) (omega arith))
-
--- where the first word is the same, so are its bits
-pub first_bits : (a b : List ℕ) → get_or a 0 0 ≡ get_or b 0 0 → (q : ℕ) → q < 64 → bit_in a q ≡ bit_in b q
-unfolding bit_in
-first_bits a b same q small =
-    let word : q / 64 ≡ 0 = omega arith in
-    rw (word, same) refl
 
 -- ---- membership
 

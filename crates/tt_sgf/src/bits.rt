@@ -236,14 +236,6 @@ impl Bits {
         true
     }
 
-    /// Whether both have the same bits of the numbers below 64, those of the first word. Most bits that aren't the same are
-    /// told apart by it, with no loop.
-    pub fn begin_alike(&self, other: &Bits) -> bool
-        ensures { IsTrue result ↔ ((q : ℕ) → q < 64 → bit_in self.now.words q ≡ bit_in other.now.words q) }
-    {
-        self.words[0] == other.words[0]
-    }
-
     /// Whether both have the same bits; it stops at the first word that differs.
     pub fn same(&self, other: &Bits) -> bool
         ensures { IsTrue result ↔ AreSameBits self.now.words other.now.words }
