@@ -60,28 +60,6 @@ course_undone g bs live passes back inside =
     ap colourings (sym shorter) ∙ sym (take-map (λ (x : Position). x.points) (live - 1) (take live bs)) ∙ ap (λ n. take (n - 1) (colourings (take live bs))) (sym count) in
     ap (λ (cs : List Colouring). let c : Course = record { size = g; earlier = front cs; present = last cs; passes = back } in c) all
 
--- as many boards show a course as it has colourings
-pub shown_count : (g : Size) (bs : List Position) (live passes : ℕ) → 0 < live → live ≤ length bs → length (so_far (course_of g (take live bs) passes)) ≡ live
-shown_count g bs live passes some inside =
-    let long = length-take-le live bs inside in
-    ap length (history_is g (take live bs) passes (omega (arith, long, some))) ∙ length-colourings (take live bs) ∙ long
-
--- the first boards of those that show a course show the course with whose colourings it begins
-pub course_cut : (c : Course) (bs : List Position) (n live passes : ℕ) → n ≤ live → 0 < live → live ≤ length bs
-    → take n (so_far (course_of c.size (take live bs) passes)) ≡ so_far c → course_of c.size (take n bs) c.passes ≡ c
-course_cut c bs n live passes fewer some inside begins =
-    let all : so_far (course_of c.size (take live bs) passes) ≡ colourings (take live bs) =
-    history_is c.size (take live bs) passes (omega (arith, length-take-le live bs inside, some)) in
-    let cut : colourings (take n bs) ≡ so_far c =
-    ap colourings (sym (take-take n live bs fewer)) ∙ sym (take-map (λ (x : Position). x.points) n (take live bs)) ∙ ap (take n) (sym all) ∙ begins in
-    course_from (take n bs) c cut
-
--- colourings that begin with others are as many at least
-pub goes_on_long : (h l : List Colouring) → take (length h) l ≡ h → length h ≤ length l
-goes_on_long h l e =
-    let k : min (length h) (length l) ≡ length h = sym (length-take (length h) l) ∙ ap length e in
-    omega (arith, k)
-
 -- boards that show a state's history show the state
 pub state_from : (g : Size) (bs : List Position) (s : State) → colourings bs ≡ history s → state_at (course_of g bs s.passes) s.to_move ≡ s
 state_from g bs s e =

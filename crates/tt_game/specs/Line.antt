@@ -1,5 +1,5 @@
 -- Lines: a frame, a state, and what pops lead back to. Why a turn is refused, and what a push does.
-use Rattle.std.specs.Prelude.{◌≡◌, ◌≢◌, ◌<◌, List, ◌∷◌, length, take, None, IsTrue}
+use Rattle.std.specs.Prelude.{◌≡◌, ◌≢◌, ◌<◌, List, ◌∷◌, None, IsTrue}
 use Rattle.std.specs.FinSet as set
 use Rattle.tt_board.specs.Reach.{entry_at}
 use Rattle.tt_board.specs.Stones.{LiesOn}
@@ -31,10 +31,6 @@ pub record Stood : Type 0 where
 -- the state is of that frame, and has the present colouring, the side to move and the passes that stood there
 abbrev pub IsPosition : Stood → Frame → State → Type 0
 IsPosition p f s = (p.frame ≡ f) × (s.present ≡ p.state.present) × (s.to_move ≡ p.state.to_move) × (s.passes ≡ p.state.passes)
-
--- one line is of the other's frame, and its history begins with the other's
-abbrev pub GoesOn : Standing → Standing → Type 0
-GoesOn line longer = (longer.frame ≡ line.frame) × (take (length (history line.state)) (history longer.state) ≡ history line.state)
 
 -- why a turn is refused: the first cause that holds
 abbrev pub IsRefusal : Frame → State → Turn → Why → Type 0

@@ -254,24 +254,4 @@ impl History {
             alloc: self.alloc,
         })
     }
-
-    /// This history again, where `longer` goes on from it: the boards of that one are kept, and none is copied. Where they have more
-    /// memory than a copy takes, it is given back first.
-    pub(crate) fn copy_over(&self, longer: History) -> Result<History, NoMemory>
-        requires size { longer.size ≡ self.now.size }
-        requires goes_on { take (length (so_far self.now)) (so_far longer) ≡ so_far self.now }
-        ensures { IfOk result (λ h. h ≡ self.now) }
-    {
-        if longer.boards.capacity() > self.live.saturating_add(ROOM) {
-            drop(longer);
-            return self.copy();
-        }
-        let live = self.live;
-        let passes = self.passes;
-        Ok(History {
-            live,
-            passes,
-            ..longer
-        })
-    }
 }

@@ -70,7 +70,7 @@ impl Line {
     ghost use Rattle.tt_board.specs.Glance.{IsTold};
     ghost use Rattle.tt_board.specs.Reach.{entry_at};
     ghost use Rattle.std.specs.Prelude.{OnOk, OnErr, IfErr, IfOk};
-    ghost use Rattle.tt_game.specs.Line.{HasTargets, GoesOn, IsRefusal, IsRefused, IsPushed};
+    ghost use Rattle.tt_game.specs.Line.{HasTargets, IsRefusal, IsRefused, IsPushed};
     ghost use Rattle.tt_game.specs.Undoing.{IsMoved, state_at, board_on};
     ghost use Rattle.tt_game.specs.Turns.{OnBoard};
     ghost use Rattle.tt_game.specs.Surveys.{HaveStood, IsForetold};
@@ -490,33 +490,6 @@ impl Line {
             played: self.played.again(alloc)?,
             to_move: self.to_move,
             pushes: Vec::new(alloc),
-        })
-    }
-
-    /// What `try_clone` makes, where the game of `longer` goes on from this line's: its boards are kept, and mostly none is copied.
-    #[tactic(auto, using(crate::proofs::RootLemmas::rooted_here))]
-    pub fn try_clone_over(&self, longer: Line) -> Result<Line, NoMemory>
-        requires { GoesOn self.now longer }
-        ensures { IfOk result (λ l. l ≡ record { frame = self.now.frame; state = self.now.state; before = [] }) }
-    {
-        let Line {
-            frame: _,
-            root: _,
-            history,
-            played,
-            to_move: _,
-            mut pushes,
-        } = longer;
-        let history = self.history.copy_over(history)?;
-        let alloc = history.alloc();
-        pushes.clear();
-        Ok(Line {
-            frame: self.frame.copy(),
-            root: Arc::try_clone(&self.root)?,
-            history,
-            played: self.played.again_over(alloc, played)?,
-            to_move: self.to_move,
-            pushes,
         })
     }
 }

@@ -13,9 +13,6 @@ use std::sync::Arc;
 use tt_board::{Colour, CountedBoard};
 use tt_sgf::{NoMemory, Point};
 
-/// So many boards of another one are taken over at most.
-const KEPT: usize = 16;
-
 /// The present board, counted, and those before the plays that may be undone. Contracts see it as `Stack`.
 ///
 /// The first board is held through a handle, so that a line has a small size and lines that begin alike share it. The boards above
@@ -117,23 +114,6 @@ impl Played {
             plays: Vec::new(alloc),
             live: 0,
             known: 0,
-        })
-    }
-
-    /// What `again` makes: plays are written over the boards of another one. Where those are many they are given back first.
-    pub(crate) fn again_over(&self, alloc: Global, other: Played) -> Result<Played, NoMemory>
-        ensures { IfOk result (λ s. s ≡ record { present = self.now.present; below = [] }) }
-    {
-        if other.later.len() > KEPT {
-            drop(other);
-            return self.again(alloc);
-        }
-        let first = self.shared(alloc)?;
-        Ok(Played {
-            first,
-            live: 0,
-            known: 0,
-            ..other
         })
     }
 

@@ -71,18 +71,6 @@ impl Search {
         Ok(Search { walk, limits, root })
     }
 
-    /// The search's line. Its tree is dropped.
-    pub fn into_line(self) -> Line
-        ensures { result ≡ self.line }
-    {
-        let Search {
-            walk,
-            limits: _,
-            root: _,
-        } = self;
-        walk.line
-    }
-
     /// How many nodes are expanded.
     pub fn expanded(&self) -> u32
         ensures count { result ≡ count self.now.tree }
