@@ -9,13 +9,14 @@ pub fn l2()
     ensures { OneSideForces }
 {}
 
-/// At every state one side forces a win, within twice as many turns as there are colourings of the board.
+/// At a state whose colourings fit the board, with two passes at most, one side forces a win, within twice as many turns as there
+/// are colourings of the board.
 pub fn l4()
     ensures { SomeSideForces }
 {}
 
-/// A state is killed exactly where the attacker can force a win, and lives exactly where the defender can: in any number
-/// of turns, or within twice as many as there are colourings of the board.
+/// A state whose colourings fit the board, with two passes at most, is killed exactly where the attacker can force a win, and lives
+/// exactly where the defender can: in any number of turns, or within twice as many as there are colourings of the board.
 pub fn values()
     ensures { ValuesAreForced }
 {}
