@@ -5,6 +5,7 @@ use Rattle.std.proofs.lemmas.Bool.{cases_eq}
 use Rattle.tt_board.specs.declared.Colour.{Colour}
 use Rattle.tt_board.specs.declared.Colour.TheVariants.{Black, White}
 use Rattle.tt_sgf.specs.declared.size.Size.{Size}
+use Rattle.tt_sgf.specs.declared.size.TheConstants.{MOST_POINTS}
 use Rattle.tt_sgf.specs.Sizes.{point_count}
 use Rattle.tt_board.specs.declared.quiet.Names.{Names}
 use Rattle.tt_board.specs.declared.quiet.TheConstants.{NOWHERE}
@@ -101,7 +102,7 @@ pub record ChainBoard : Type 0 where
 -- each stone reaches empty and stands before the end, the names name the chains, and their counts are true
 pub record IsChainBoard (b : ChainBoard) : Type 0 where
   pub fits : length b.points ≡ point_count b.size
-  pub wide : (length b.names ≡ 361) × (length b.stones ≡ 361) × (length b.liberties ≡ 361)
+  pub wide : (length b.names ≡ MOST_POINTS) × (length b.stones ≡ MOST_POINTS) × (length b.liberties ≡ MOST_POINTS)
   pub named : AreNames b.size b.points b.names
   pub counted : AreCounted b.size b.names b.stones b.liberties
   pub alive : IsAlive b.size b.points
@@ -154,6 +155,38 @@ IsRootedBut ns e = (p : ℕ) → name_at ns p ≢ 0 → name_at ns p ≢ e → n
 -- the counts of liberties are true of each chain but one
 abbrev pub IsCountedBut : Size → List ℕ → List ℕ → ℕ → Type 0
 IsCountedBut s ns liberties e = (p : ℕ) → name_at ns p ≢ 0 → name_at ns p ≢ e → name_at liberties (root_of (name_at ns p)) ≡ liberty_count s ns (name_at ns p)
+
+-- e is a chain of so many stones, by names that stand on the board alone
+pub record IsChainOf (s : Size) (ns : List ℕ) (e stones : ℕ) : Type 0 where
+  pub wide : length ns ≡ MOST_POINTS
+  pub ends : (q : ℕ) → point_count s ≤ q → name_at ns q ≡ 0
+  pub living : e ≢ 0
+  pub rooted : name_at ns (root_of e) ≡ e
+  pub count : stones ≡ stone_count ns e
+
+-- each chain but e has its root, where the count of its liberties is true
+pub record AreOthersCounted (s : Size) (ns liberties : List ℕ) (e : ℕ) : Type 0 where
+  pub wide : length liberties ≡ MOST_POINTS
+  pub rooted : IsRootedBut ns e
+  pub counted : IsCountedBut s ns liberties e
+
+-- a colouring has lost the stones of chain e, and no other
+pub record HasLost (ns : List ℕ) (e : ℕ) (old new : Colouring) : Type 0 where
+  pub fits : length new ≡ length old
+  pub gone : (q : ℕ) → name_at ns q ≡ e → entry_at new q ≡ None
+  pub kept : (q : ℕ) → name_at ns q ≢ e → entry_at new q ≡ entry_at old q
+
+-- names that stand on the board alone, and the counts of each chain
+pub record AreBoardCounts (s : Size) (ns stones liberties : List ℕ) : Type 0 where
+  pub wide : (length ns ≡ MOST_POINTS) × (length stones ≡ MOST_POINTS) × (length liberties ≡ MOST_POINTS)
+  pub ends : (q : ℕ) → point_count s ≤ q → name_at ns q ≡ 0
+  pub counted : AreCounted s ns stones liberties
+
+-- a and b are two chains
+pub record AreTwoChains (ns : List ℕ) (a b : ℕ) : Type 0 where
+  pub living : (a ≢ 0) × (b ≢ 0)
+  pub apart : a ≢ b
+  pub rooted : (name_at ns (root_of a) ≡ a) × (name_at ns (root_of b) ≡ b)
 
 -- names that name the chains, but that the stone on p isn't joined with those beside it yet
 pub record AreNamesBut (s : Size) (c : Colouring) (ns : List ℕ) (p : ℕ) : Type 0 where

@@ -1,9 +1,9 @@
 //! A chain goes: each of its stones leaves a liberty to each other chain beside it. Or a colouring loses it, and no count changes.
 
-ghost use Rattle.std.specs.Prelude.{◌≡◌, ◌≢◌, ℕ, ◌<◌, ◌≤◌, length, map, slice_set, None};
+ghost use Rattle.std.specs.Prelude.{◌≡◌, ◌≢◌, ◌<◌, length, map, slice_set, None};
+ghost use Rattle.tt_sgf.specs.declared.size.TheConstants.{MOST_POINTS};
 ghost use Rattle.tt_sgf.specs.Sizes.{point_count};
-ghost use Rattle.tt_board.specs.Reach.{entry_at};
-ghost use Rattle.tt_board.specs.Chains.{name_at, root_of, renamed, stone_count, IsRootedBut, IsCountedBut};
+ghost use Rattle.tt_board.specs.Chains.{name_at, renamed, IsCountedBut, IsChainOf, AreOthersCounted, HasLost};
 
 use super::colouring::Colouring;
 use super::names::{chains_beside, give_liberty, root_of};
@@ -19,12 +19,11 @@ fn release_stone(
     p: usize,
 )
     requires fits { length points.old ≡ point_count size }
-    requires wide { (length names.old ≡ 361) × (length liberties.old ≡ 361) }
+    requires wide { length names.old ≡ MOST_POINTS }
     requires on_board { p < point_count size }
     requires living { name ≢ 0 }
     requires stone { name_at names.old p ≡ name }
-    requires rooted { IsRootedBut names.old name }
-    requires counted { IsCountedBut size names.old liberties.old name }
+    requires others { AreOthersCounted size names.old liberties.old name }
     ensures names { names.new ≡ slice_set names.old p 0 }
     ensures points { points.new ≡ slice_set points.old p None }
     ensures still_counted { IsCountedBut size names.new liberties.new name }
@@ -45,16 +44,10 @@ fn release_all(
     stones: u16,
 )
     requires fits { length points.old ≡ point_count size }
-    requires wide { (length names.old ≡ 361) × (length liberties.old ≡ 361) }
-    requires living { name ≢ 0 }
-    requires ends { (q : ℕ) → point_count size ≤ q → name_at names.old q ≡ 0 }
-    requires stones { stones ≡ stone_count names.old name }
-    requires rooted { IsRootedBut names.old name }
-    requires counted { IsCountedBut size names.old liberties.old name }
+    requires chain { IsChainOf size names.old name stones }
+    requires others { AreOthersCounted size names.old liberties.old name }
     ensures names { names.new ≡ map (renamed name 0) names.old }
-    ensures still_fits { length points.new ≡ length points.old }
-    ensures gone { (q : ℕ) → name_at names.old q ≡ name → entry_at points.new q ≡ None }
-    ensures kept { (q : ℕ) → name_at names.old q ≢ name → entry_at points.new q ≡ entry_at points.old q }
+    ensures lost { HasLost names.old name points.old points.new }
     ensures still_counted { IsCountedBut size names.new liberties.new name }
 {
     let mut left = stones;
@@ -79,16 +72,10 @@ pub(crate) fn release(
     stones: u16,
 )
     requires fits { length points.old ≡ point_count size }
-    requires wide { (length names.old ≡ 361) × (length liberties.old ≡ 361) }
-    requires living { (name ≢ 0) × (name_at names.old (root_of name) ≡ name) }
-    requires ends { (q : ℕ) → point_count size ≤ q → name_at names.old q ≡ 0 }
-    requires stones { stones ≡ stone_count names.old name }
-    requires rooted { IsRootedBut names.old name }
-    requires counted { IsCountedBut size names.old liberties.old name }
+    requires chain { IsChainOf size names.old name stones }
+    requires others { AreOthersCounted size names.old liberties.old name }
     ensures names { names.new ≡ map (renamed name 0) names.old }
-    ensures still_fits { length points.new ≡ length points.old }
-    ensures gone { (q : ℕ) → name_at names.old q ≡ name → entry_at points.new q ≡ None }
-    ensures kept { (q : ℕ) → name_at names.old q ≢ name → entry_at points.new q ≡ entry_at points.old q }
+    ensures lost { HasLost names.old name points.old points.new }
     ensures still_counted { IsCountedBut size names.new liberties.new name }
 {
     if stones == 1 {
@@ -101,13 +88,8 @@ pub(crate) fn release(
 /// Takes the stones of the chain `name`, so many, off a colouring: a pass over the names that ends with the last of them.
 fn lift_named(size: Size, points: &mut Colouring, names: &[u16], name: u16, stones: u16)
     requires fits { length points.old ≡ point_count size }
-    requires wide { length names.now ≡ 361 }
-    requires living { name ≢ 0 }
-    requires ends { (q : ℕ) → point_count size ≤ q → name_at names.now q ≡ 0 }
-    requires stones { stones ≡ stone_count names.now name }
-    ensures still_fits { length points.new ≡ length points.old }
-    ensures gone { (q : ℕ) → name_at names.now q ≡ name → entry_at points.new q ≡ None }
-    ensures kept { (q : ℕ) → name_at names.now q ≢ name → entry_at points.new q ≡ entry_at points.old q }
+    requires chain { IsChainOf size names.now name stones }
+    ensures { HasLost names.now name points.old points.new }
 {
     let mut left = stones;
     for p in 0..size.point_count() {
@@ -124,13 +106,8 @@ fn lift_named(size: Size, points: &mut Colouring, names: &[u16], name: u16, ston
 /// Takes the stones of the chain `name`, so many, off a colouring.
 pub(crate) fn lift_chain(size: Size, points: &mut Colouring, names: &[u16], name: u16, stones: u16)
     requires fits { length points.old ≡ point_count size }
-    requires wide { length names.now ≡ 361 }
-    requires living { (name ≢ 0) × (name_at names.now (root_of name) ≡ name) }
-    requires ends { (q : ℕ) → point_count size ≤ q → name_at names.now q ≡ 0 }
-    requires stones { stones ≡ stone_count names.now name }
-    ensures still_fits { length points.new ≡ length points.old }
-    ensures gone { (q : ℕ) → name_at names.now q ≡ name → entry_at points.new q ≡ None }
-    ensures kept { (q : ℕ) → name_at names.now q ≢ name → entry_at points.new q ≡ entry_at points.old q }
+    requires chain { IsChainOf size names.now name stones }
+    ensures { HasLost names.now name points.old points.new }
 {
     if stones == 1 {
         points.set(root_of(name), None);

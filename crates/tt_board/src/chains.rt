@@ -3,12 +3,13 @@
 //! A play asks these counts which chains go, and looks at no stone but those that come, join or go.
 
 ghost use Rattle.std.specs.Prelude.{◌≡◌, ◌≢◌, ℕ, ◌/◌, ◌<◌, ◌≤◌, ◌↔◌, length, map, replicate, slice_set, Contains, IsTrue, Some, None, true};
+ghost use Rattle.tt_sgf.specs.declared.size.TheConstants.{MOST_POINTS};
 ghost use Rattle.tt_sgf.specs.Sizes.{point_count};
 ghost use Rattle.tt_sgf.specs.Words.{bit_in};
 ghost use Rattle.tt_board.specs.Reach.{entry_at};
 ghost use Rattle.tt_board.specs.Play.{IsAlive, play_of};
 ghost use Rattle.tt_board.specs.Glance.{IsTold};
-ghost use Rattle.tt_board.specs.Chains.{name_at, root_of, colour_number, renamed, IsEachOnce, IsOneName, IsCountOf, IsLibertyOf, AreLinked, AreNear};
+ghost use Rattle.tt_board.specs.Chains.{name_at, root_of, colour_number, renamed, IsEachOnce, IsOneName, IsCountOf, IsLibertyOf, AreLinked, AreNear, HasLost};
 
 use super::Colour;
 use super::around::{around, first_column};
@@ -54,7 +55,7 @@ impl Model for Chains {
 
 /// A number 0 for each place.
 fn zeros() -> [u16; 361]
-    ensures { result ≡ replicate 361 0 }
+    ensures { result ≡ replicate MOST_POINTS 0 }
 {
     [0; 361]
 }
@@ -70,7 +71,7 @@ fn later_end(one: usize, other: usize) -> usize
 
 /// The name of a new chain of this colour with its root on `p`.
 fn new_name(colour: Colour, p: usize) -> u16
-    requires { p < 361 }
+    requires { p < MOST_POINTS }
     ensures colour { result / 512 ≡ colour_number colour }
     ensures root { root_of result ≡ p }
     ensures living { 512 ≤ result }
@@ -179,10 +180,8 @@ impl Chains {
     pub(crate) fn take(&mut self, name: u16)
         requires living { (name ≢ 0) × (name_at self.old.names (root_of name) ≡ name) }
         ensures size { self.new.size ≡ self.old.size }
-        ensures fits { length self.new.points ≡ length self.old.points }
         ensures names { self.new.names ≡ map (renamed name 0) self.old.names }
-        ensures gone { (q : ℕ) → name_at self.old.names q ≡ name → entry_at self.new.points q ≡ None }
-        ensures kept { (q : ℕ) → name_at self.old.names q ≢ name → entry_at self.new.points q ≡ entry_at self.old.points q }
+        ensures lost { HasLost self.old.names name self.old.points self.new.points }
     {
         let stones = self.counts.stones[root_of(name)];
         release(
@@ -229,7 +228,7 @@ impl Chains {
     /// What the names beside an empty point tell of a play of `colour` there.
     #[inline(always)]
     fn told(&self, colour: Colour, near: &Names) -> Glance
-        requires { (m : ℕ) → IsOneName near.now.above near.now.left near.now.right near.now.below m → root_of m < 361 }
+        requires { (m : ℕ) → IsOneName near.now.above near.now.left near.now.right near.now.below m → root_of m < MOST_POINTS }
         ensures { (p : ℕ) → p < point_count self.now.size → entry_at self.now.points p ≡ None → AreNear self.now.size self.now.names p near.now
             → IsTold result self.now.size self.now.points colour p }
     {
@@ -345,9 +344,7 @@ impl Chains {
     fn lift(&self, name: u16, points: &mut Colouring)
         requires fits { length points.old ≡ point_count self.now.size }
         requires living { (name ≢ 0) × (name_at self.now.names (root_of name) ≡ name) }
-        ensures still_fits { length points.new ≡ length points.old }
-        ensures gone { (q : ℕ) → name_at self.now.names q ≡ name → entry_at points.new q ≡ None }
-        ensures kept { (q : ℕ) → name_at self.now.names q ≢ name → entry_at points.new q ≡ entry_at points.old q }
+        ensures { HasLost self.now.names name points.old points.new }
     {
         let stones = self.counts.stones[root_of(name)];
         lift_chain(self.size, points, &self.counts.names, name, stones);

@@ -1,11 +1,13 @@
 //! A stone comes: the chains of its colour beside it become one with it, their liberties counted stone by stone.
 
 ghost use Rattle.std.specs.Prelude.{◌≡◌, ◌≢◌, ℕ, ◌+◌, ◌/◌, ◌<◌, ◌≤◌, ◌⊎◌, length, map, slice_set};
+ghost use Rattle.tt_sgf.specs.declared.size.TheConstants.{MOST_POINTS};
 ghost use Rattle.tt_sgf.specs.Sizes.{point_count};
 ghost use Rattle.tt_board.specs.declared.quiet.TheConstants.{NOWHERE};
 ghost use Rattle.tt_board.specs.Position.{Colouring};
 ghost use Rattle.tt_board.specs.Reach.{entry_at};
-ghost use Rattle.tt_board.specs.Chains.{name_at, root_of, renamed, liberty_count, stone_count, AreCounted, AreNames, AreNamesBut, AreNear, AreGathered, Touches, IsOneName, IsNewName};
+ghost use Rattle.tt_board.specs.Chains.{name_at, root_of, renamed, liberty_count, AreCounted, AreNames, AreNamesBut, AreNear, AreGathered, Touches, IsOneName, IsNewName};
+ghost use Rattle.tt_board.specs.Chains.{IsChainOf, AreBoardCounts, AreTwoChains};
 
 use super::names::{new_liberties, root_of};
 use super::quiet::{NOWHERE, Names};
@@ -52,7 +54,7 @@ pub(crate) fn start(
     name: u16,
     near: &Names,
 )
-    requires wide { (length names.old ≡ 361) × (length stones.old ≡ 361) × (length liberties.old ≡ 361) }
+    requires wide { (length names.old ≡ MOST_POINTS) × (length stones.old ≡ MOST_POINTS) × (length liberties.old ≡ MOST_POINTS) }
     requires on_board { p < point_count size }
     requires free { name_at names.old p ≡ 0 }
     requires coloured { (q : ℕ) → name_at names.old q ≢ NOWHERE }
@@ -86,11 +88,8 @@ fn next_named(names: &[u16], start: usize, name: u16) -> usize
 /// Gives the stones of the chain `from` the name `to`, and says how many liberties they bring that chain.
 #[inline(never)]
 fn rename(size: Size, names: &mut [u16], from: u16, to: u16, stones: u16) -> u16
-    requires wide { length names.old ≡ 361 }
-    requires ends { (q : ℕ) → point_count size ≤ q → name_at names.old q ≡ 0 }
-    requires living { (from ≢ 0) × (to ≢ 0) }
-    requires apart { from ≢ to }
-    requires counted { stones ≡ stone_count names.old from }
+    requires chain { IsChainOf size names.old from stones }
+    requires other { (to ≢ 0) × (from ≢ to) }
     ensures renamed { names.new ≡ map (renamed from to) names.old }
     ensures gained { liberty_count size names.new to ≡ liberty_count size names.old to + result }
 {
@@ -107,12 +106,8 @@ fn rename(size: Size, names: &mut [u16], from: u16, to: u16, stones: u16) -> u16
 
 /// Gives the one stone of the chain `from` the name `to`, and says how many liberties it brings that chain.
 fn rename_one(size: Size, names: &mut [u16], from: u16, to: u16) -> u16
-    requires wide { length names.old ≡ 361 }
-    requires ends { (q : ℕ) → point_count size ≤ q → name_at names.old q ≡ 0 }
-    requires living { (from ≢ 0) × (to ≢ 0) }
-    requires apart { from ≢ to }
-    requires rooted { name_at names.old (root_of from) ≡ from }
-    requires counted { stone_count names.old from ≡ 1 }
+    requires chain { IsChainOf size names.old from 1 }
+    requires other { (to ≢ 0) × (from ≢ to) }
     ensures renamed { names.new ≡ map (renamed from to) names.old }
     ensures gained { liberty_count size names.new to ≡ liberty_count size names.old to + result }
 {
@@ -131,12 +126,8 @@ fn absorb(
     from: u16,
     to: u16,
 )
-    requires wide { (length names.old ≡ 361) × (length stones.old ≡ 361) × (length liberties.old ≡ 361) }
-    requires ends { (q : ℕ) → point_count size ≤ q → name_at names.old q ≡ 0 }
-    requires living { (from ≢ 0) × (to ≢ 0) }
-    requires apart { from ≢ to }
-    requires rooted { (name_at names.old (root_of from) ≡ from) × (name_at names.old (root_of to) ≡ to) }
-    requires counted { AreCounted size names.old stones.old liberties.old }
+    requires counts { AreBoardCounts size names.old stones.old liberties.old }
+    requires chains { AreTwoChains names.old from to }
     ensures renamed { names.new ≡ map (renamed from to) names.old }
     ensures still_counted { AreCounted size names.new stones.new liberties.new }
 {
@@ -161,12 +152,8 @@ fn unite(
     one: u16,
     two: u16,
 )
-    requires wide { (length names.old ≡ 361) × (length stones.old ≡ 361) × (length liberties.old ≡ 361) }
-    requires ends { (q : ℕ) → point_count size ≤ q → name_at names.old q ≡ 0 }
-    requires living { (one ≢ 0) × (two ≢ 0) }
-    requires apart { one ≢ two }
-    requires rooted { (name_at names.old (root_of one) ≡ one) × (name_at names.old (root_of two) ≡ two) }
-    requires counted { AreCounted size names.old stones.old liberties.old }
+    requires counts { AreBoardCounts size names.old stones.old liberties.old }
+    requires chains { AreTwoChains names.old one two }
     ensures renamed { (names.new ≡ map (renamed one two) names.old) ⊎ (names.new ≡ map (renamed two one) names.old) }
     ensures still_counted { AreCounted size names.new stones.new liberties.new }
 {
@@ -187,13 +174,11 @@ fn join_named(
     p: usize,
     name: u16,
 )
-    requires wide { (length names.old ≡ 361) × (length stones.old ≡ 361) × (length liberties.old ≡ 361) }
-    requires ends { (q : ℕ) → point_count size ≤ q → name_at names.old q ≡ 0 }
+    requires counts { AreBoardCounts size names.old stones.old liberties.old }
     requires on_board { p < point_count size }
     requires stone { 512 ≤ name_at names.old p }
-    requires in_range { root_of name < 361 }
+    requires in_range { root_of name < MOST_POINTS }
     requires near { 512 ≤ name → name ≢ NOWHERE → name_at names.old (root_of name) ≡ name → Touches size names.old name p }
-    requires counted { AreCounted size names.old stones.old liberties.old }
     ensures gathered { AreGathered size names.old names.new p }
     ensures joined { name / 512 ≡ name_at names.old p / 512 → name_at names.old (root_of name) ≡ name → name_at names.new (root_of name) ≡ name_at names.new p }
     ensures still_counted { AreCounted size names.new stones.new liberties.new }
@@ -213,12 +198,10 @@ pub(crate) fn join_beside(
     p: usize,
     near: &Names,
 )
-    requires wide { (length names.old ≡ 361) × (length stones.old ≡ 361) × (length liberties.old ≡ 361) }
-    requires ends { (q : ℕ) → point_count size ≤ q → name_at names.old q ≡ 0 }
+    requires counts { AreBoardCounts size names.old stones.old liberties.old }
     requires on_board { p < point_count size }
     requires stone { 512 ≤ name_at names.old p }
     requires near { AreNear size names.old p near.now }
-    requires counted { AreCounted size names.old stones.old liberties.old }
     ensures joined { (c : Colouring) → AreNamesBut size c names.old p → AreNames size c names.new }
     ensures still_counted { AreCounted size names.new stones.new liberties.new }
 {

@@ -10,13 +10,13 @@ use Rattle.tt_board.proofs.captures.lift_named.Goals as goal
 use Rattle.tt_board.proofs.captures.lift_named.Goals.{then-names-p, else-names-p}
 
 pub loop-p-init : goal.loop-p-init
-loop-p-init c = record { fits = refl; gone = λ q below is. absurd (omega (arith, below)); rest = c.requires.stones; kept = λ q other. refl }
+loop-p-init c = record { fits = refl; gone = λ q below is. absurd (omega (arith, below)); rest = c.requires.chain.count; kept = λ q other. refl }
 
 pub loop-p-preserved : goal.loop-p-preserved
 loop-p-preserved c =
     let i = c.loop-p.invariant in let d = c.loop-p.points in let p = c.loop-p.p in let ns = c.args.names.now in
     let in_p : p < length d = omega (arith, i.fits, c.requires.fits) in
-    let in_names : p < length ns = omega (arith, c.requires.wide, few_points c.args.size) in
+    let in_names : p < length ns = omega (arith, c.requires.chain.wide, few_points c.args.size) in
     elim c.if-names-p.branch [
       | then-names-p w ↦
           rw (w.points-is, w.left-is, w.set.ensures) (record {
@@ -47,12 +47,12 @@ pub returns-then-left-eq0 : goal.returns-then-left-eq0
 returns-then-left-eq0 c =
     let i = c.loop-p.invariant in let d = c.loop-p.points in let ns = c.args.names.now in
     record {
-      still_fits = i.fits;
+      fits = i.fits;
       gone = λ q is. elim (cases_lt q c.loop-p.p) [
         | inl before ↦ i.gone q before is
         | inr from ↦ elim (cases_lt q (length ns)) [
           | inl below ↦ absurd (none_from ns c.args.name c.loop-p.p q (sym i.rest ∙ c.if-left-eq0.true) from below is)
-          | inr past ↦ absurd (c.requires.living (sym is ∙ get_or_past ns q 0 past))
+          | inr past ↦ absurd (c.requires.chain.living (sym is ∙ get_or_past ns q 0 past))
         ]
       ];
       kept = i.kept;
@@ -62,7 +62,7 @@ pub returns : goal.returns
 returns c =
     let i = c.loop-p.invariant in let d = c.loop-p.points in
     record {
-      still_fits = i.fits;
+      fits = i.fits;
       gone = λ q is. elim (cases_lt q (point_count c.args.size)) [
         | inl below ↦ i.gone q (omega arith) is
         | inr past ↦ get_or_past d q None (omega (arith, i.fits, c.requires.fits))

@@ -12,9 +12,9 @@ returns-then-names-root_of-clause-gathered c =
     let touch : m ≢ NOWHERE → Touches s ns m p = λ apart. c.requires.near living apart there in
     elim c.unite.ensures.renamed [
       | inl e ↦ subst (λ new. AreGathered s ns new p) (sym e)
-          (gathered_united s ns p m _ _ c.requires.on_board c.requires.ends c.requires.stone c.if-name-own-2.true codes (inl (refl, refl)) touch)
+          (gathered_united s ns p m _ _ c.requires.on_board c.requires.counts.ends c.requires.stone c.if-name-own-2.true codes (inl (refl, refl)) touch)
       | inr e ↦ subst (λ new. AreGathered s ns new p) (sym e)
-          (gathered_united s ns p m _ _ c.requires.on_board c.requires.ends c.requires.stone (λ h. c.if-name-own-2.true (sym h)) codes (inr (refl, refl)) touch)
+          (gathered_united s ns p m _ _ c.requires.on_board c.requires.counts.ends c.requires.stone (λ h. c.if-name-own-2.true (sym h)) codes (inr (refl, refl)) touch)
     ]
 
 pub returns-then-names-root_of-clause-joined : goal.returns-then-names-root_of-clause-joined
@@ -22,7 +22,7 @@ returns-then-names-root_of-clause-joined c = λ codes there.
     let s = c.args.size in let ns = c.args.names.now in let p = c.args.p in let m = c.args.name in
     elim c.unite.ensures.renamed [
       | inl e ↦ subst (λ new. name_at new (root_of m) ≡ name_at new p) (sym e)
-          (joined_united s ns p m _ _ c.requires.on_board c.requires.ends c.requires.stone c.if-name-own-2.true codes (inl (refl, refl)) there)
+          (joined_united s ns p m _ _ c.requires.on_board c.requires.counts.ends c.requires.stone c.if-name-own-2.true codes (inl (refl, refl)) there)
       | inr e ↦ subst (λ new. name_at new (root_of m) ≡ name_at new p) (sym e)
-          (joined_united s ns p m _ _ c.requires.on_board c.requires.ends c.requires.stone (λ h. c.if-name-own-2.true (sym h)) codes (inr (refl, refl)) there)
+          (joined_united s ns p m _ _ c.requires.on_board c.requires.counts.ends c.requires.stone (λ h. c.if-name-own-2.true (sym h)) codes (inr (refl, refl)) there)
     ]

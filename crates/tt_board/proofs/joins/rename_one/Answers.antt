@@ -7,16 +7,17 @@ use Rattle.tt_board.proofs.joins.rename_one.Goals as goal
 pub returns-clause-renamed : goal.returns-clause-renamed
 returns-clause-renamed c =
     let ns = c.args.names.now in
-    rw c.root_of-p.ensures.value (one_renamed ns c.args.from c.args.to c.requires.living.0 c.requires.apart (root_below ns c.args.from c.requires.living.0 c.requires.rooted)
-    c.requires.rooted c.requires.counted)
+    rw c.root_of-p.ensures.value (one_renamed ns c.args.from c.args.to c.requires.chain.living c.requires.other.1 (root_below ns c.args.from c.requires.chain.living c.requires.chain.rooted)
+    c.requires.chain.rooted (sym c.requires.chain.count))
 
 pub returns-clause-gained : goal.returns-clause-gained
 returns-clause-gained c =
     let ns = c.args.names.now in let a = c.args.from in
-    let at = root_on_board c.args.size ns a c.requires.ends c.requires.living.0 c.requires.rooted in
-    let within = root_below ns a c.requires.living.0 c.requires.rooted in
+    let at = root_on_board c.args.size ns a c.requires.chain.ends c.requires.chain.living c.requires.chain.rooted in
+    let within = root_below ns a c.requires.chain.living c.requires.chain.rooted in
     let p = c.root_of-p.result in
     let is = c.root_of-p.ensures.value in
-    let here : name_at ns p ≡ a = ap (name_at ns) is ∙ c.requires.rooted in
-    count_joined c.args.size ns p c.args.to (omega (arith, at, is)) (omega (arith, within, is)) (λ e. c.requires.living.0 (sym here ∙ e)) c.requires.living.1 (λ e. c.requires.apart (sym here ∙ e))
+    let here : name_at ns p ≡ a = ap (name_at ns) is ∙ c.requires.chain.rooted in
+    count_joined c.args.size ns p c.args.to (omega (arith, at, is)) (omega (arith, within, is))
+    (λ e. c.requires.chain.living (sym here ∙ e)) c.requires.other.0 (λ e. c.requires.other.1 (sym here ∙ e))
     ∙ ap (λ x. liberty_count c.args.size ns c.args.to + x) (sym c.new_liberties-gained.ensures)

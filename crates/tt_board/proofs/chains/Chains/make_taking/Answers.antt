@@ -27,7 +27,7 @@ loop-name-preserved c =
     record {
       size = c.take.ensures.size ∙ c.loop-name.invariant.size;
       taking = rw c.take.ensures.names (taking_more b.names b.points xs c.loop-name.name-index c.loop-name.self.names c.loop-name.self.points c.take.new.self.points t once
-          c.loop-name-test.true alive.0 c.take.ensures.fits c.take.ensures.gone c.take.ensures.kept);
+          c.loop-name-test.true alive.0 c.take.ensures.lost.fits c.take.ensures.lost.gone c.take.ensures.lost.kept);
     }
 
 pub place-requires-clause-free : goal.place-requires-clause-free

@@ -16,7 +16,7 @@ lift-requires-clause-living c =
 pub loop-name-preserved : goal.loop-name-preserved
 loop-name-preserved c =
     let b = c.args.self.now in let xs = c.as_slice-name-items.result.now in let r = c.lift.ensures in
-    lifting_more b.names b.points xs c.loop-name.name-index c.loop-name.points c.lift.new.points c.loop-name.invariant r.still_fits r.gone r.kept
+    lifting_more b.names b.points xs c.loop-name.name-index c.loop-name.points c.lift.new.points c.loop-name.invariant r.fits r.gone r.kept
 
 pub returns-then-not-look : goal.returns-then-not-look
 returns-then-not-look c =
