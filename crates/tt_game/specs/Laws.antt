@@ -9,6 +9,7 @@ use Rattle.tt_game.specs.Line.{Standing}
 use Rattle.tt_game.specs.Problems.{problem_of}
 use Rattle.tt_sgf.specs.declared.nodes.Node.{Node}
 use Rattle.tt_game.specs.declared.turns.Turn.{Turn}
+use Rattle.tt_game.specs.declared.turns.TheConstants.{MOST_LEGAL}
 use Rattle.tt_game.specs.Turns.{legal_turns, IsRising}
 
 -- not both sides force a win at one state
@@ -20,27 +21,27 @@ pub record IsState (f : Frame) (s : State) : Type 0 where
   pub sized : All (λ c. length c ≡ point_count f.size) (history s)
   pub passes : s.passes ≤ 2
 
--- at every state one side forces a win, within twice as many turns as there are colourings
+-- at every such state one side forces a win, within twice as many turns as there are colourings
 abbrev pub SomeSideForces : Type 0
 SomeSideForces = (f : Frame) (s : State) → IsState f s → Forces f Attacker (longest f) s ⊎ Forces f Defender (longest f) s
 
--- a state has a side's value exactly where that side forces a win, within some number of turns or within the bound
+-- such a state has a side's value exactly where that side forces a win, within some number of turns or within the bound
 abbrev pub ValuesAreForced : Type 0
 ValuesAreForced = (f : Frame) (s : State) (side : Side) → IsState f s
     → (HasValue f s (value_for side) → Forces f side (longest f) s) × ((n : ℕ) → Forces f side n s → HasValue f s (value_for side))
 
--- a legal turn leads from a state to a state
+-- a legal turn leads from such a state to another
 abbrev pub TurnsKeepStates : Type 0
 TurnsKeepStates = (f : Frame) (s : State) (t : Turn) → IsState f s → IsLegal f s t → IsState f (after f s t)
 
 -- the list of legal turns holds the legal turns and no others, in rising order, and at most as many as a board has
 abbrev pub LegalTurnsListed : Type 0
-LegalTurnsListed = (f : Frame) (s : State) → ((t : Turn) → Contains (legal_turns f s) t ↔ IsLegal f s t) × IsRising f (legal_turns f s) × (length (legal_turns f s) ≤ 362)
+LegalTurnsListed = (f : Frame) (s : State) → ((t : Turn) → Contains (legal_turns f s) t ↔ IsLegal f s t) × IsRising f (legal_turns f s) × (length (legal_turns f s) ≤ MOST_LEGAL)
 
 -- nobody has won at a problem
 abbrev pub ProblemsOpen : Type 0
 ProblemsOpen = (nodes : List Node) (p : Standing) → problem_of nodes ≡ Ok p → winner_of p.frame p.state ≡ None
 
--- the state of a problem is one as the game has them
+-- the state of a problem is such a state
 abbrev pub ProblemsAreStates : Type 0
 ProblemsAreStates = (nodes : List Node) (p : Standing) → problem_of nodes ≡ Ok p → IsState p.frame p.state

@@ -11,6 +11,7 @@ use Rattle.tt_game.specs.declared.faults.GameFault.{GameFault}
 use Rattle.tt_game.specs.declared.faults.GameFault.TheVariants.{NoTarget}
 use Rattle.tt_game.specs.declared.records.Record.{Record}
 use Rattle.tt_game.specs.declared.records.Replay.{Replay}
+use Rattle.tt_game.specs.declared.records.TheConstants.{MOST_TURNS}
 use Rattle.tt_game.specs.Game.{history}
 use Rattle.tt_game.specs.Games.{all_of}
 use Rattle.tt_game.specs.History.{repeats}
@@ -38,9 +39,9 @@ pub record IsByTheRules (size : Size) (h : List Colouring) : Type 0 where
 abbrev pub ComesTo : List Node → Replay → Type 0
 ComesTo nodes r = and_then (begin_line nodes) (λ q. run_nodes q nodes) ≡ Ok r
 
--- the history of a record's game is by the rules, and its turns, implied passes among them, are 2,000 at most
+-- the history of a record's game is by the rules, and its turns, implied passes among them, are no more than a record has
 abbrev pub RecordsAreGames : Type 0
-RecordsAreGames = (nodes : List Node) (r : Replay) → ComesTo nodes r → IsByTheRules r.game.size (all_of r.game) × (r.turns ≤ 2000)
+RecordsAreGames = (nodes : List Node) (r : Replay) → ComesTo nodes r → IsByTheRules r.game.size (all_of r.game) × (r.turns ≤ MOST_TURNS)
 
 -- a problem's history is by the rules
 abbrev pub ProblemsAreGames : Type 0

@@ -19,6 +19,7 @@ use Rattle.tt_game.specs.declared.faults.GameFault.{GameFault}
 use Rattle.tt_game.specs.declared.faults.GameFault.TheVariants.{NotGo, BadSize, BadValue, PointTwice, MixedNode, LifelessStone, OccupiedPoint, RepeatedBoard, AfterEnd, TooManyTurns, NoMemory}
 use Rattle.tt_game.specs.declared.records.Record.{Record}
 use Rattle.tt_game.specs.declared.records.Replay.{Replay}
+use Rattle.tt_game.specs.declared.records.TheConstants.{MOST_TURNS}
 use Rattle.tt_game.specs.declared.turns.Turn.{Turn}
 use Rattle.tt_game.specs.declared.turns.Turn.TheVariants.{Play, Pass}
 use Rattle.tt_game.specs.Games.{Played, refusal_of, turned, empty_game, begun_with}
@@ -45,9 +46,9 @@ abbrev pub go_on : Replay → Turn → Option Why → Result Replay GameFault
 go_on r t None = Ok (record { game = turned r.game t; turns = r.turns + 1 })
 go_on r t (Some why) = Err (fault_of why)
 
--- a turn of the side to move: after the end no turn, 2,000 turns at the most, and a legal one
+-- a turn of the side to move: after the end no turn, no more than a record has, and a legal one
 abbrev pub turn_of : Replay → Turn → Result Replay GameFault
-turn_of r t = cond (r.game.passes == 2) (Err AfterEnd) (cond (nat_le 2000 r.turns) (Err TooManyTurns) (go_on r t (refusal_of r.game t)))
+turn_of r t = cond (r.game.passes == 2) (Err AfterEnd) (cond (nat_le MOST_TURNS r.turns) (Err TooManyTurns) (go_on r t (refusal_of r.game t)))
 
 -- a turn of a colour; where the other is to move it passes first
 abbrev pub turn_by : Replay → Colour → Turn → Result Replay GameFault

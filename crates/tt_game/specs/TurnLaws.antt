@@ -12,6 +12,7 @@ use Rattle.tt_sgf.specs.SizeLaws.{few_points}
 use Rattle.tt_sgf.specs.Sizes.{point_count}
 use Rattle.tt_game.specs.declared.frame.Frame.{Frame}
 use Rattle.tt_game.specs.declared.turns.Turn.{Turn}
+use Rattle.tt_game.specs.declared.turns.TheConstants.{MOST_LEGAL}
 use Rattle.tt_game.specs.declared.turns.Turn.TheVariants.{Play, Pass}
 use Rattle.tt_game.specs.Game.{State, IsLegal}
 use Rattle.tt_game.specs.Turns.{IsOnBoard, number_on, turn_number, IsRising, plays, all_turns, is_legal, is_legal_is, legal_turns, successor, successors_of, successors_from}
@@ -106,8 +107,8 @@ rising-legal_turns f s =
     last true h = rising_push f _ Pass h.rising h.below
     last false h = rw Rattle.std.proofs.lemmas.List.append-nil h.rising
 
--- the list has 362 turns at the most
-pub length-legal_turns : (f : Frame) (s : State) → length (legal_turns f s) ≤ 362
+-- the list has no more turns than a board has
+pub length-legal_turns : (f : Frame) (s : State) → length (legal_turns f s) ≤ MOST_LEGAL
 unfolding legal_turns all_turns
 length-legal_turns f s =
     let n = point_count f.size in

@@ -31,4 +31,4 @@ pub use problems::problem;
 pub use records::{Record, play_record};
 pub use seen::{Seen, board_print};
 pub use survey::Survey;
-pub use turns::{Successor, Turn, Turns};
+pub use turns::{MOST_LEGAL, Successor, Turn, Turns};

@@ -31,6 +31,9 @@ pub struct Record {
     pub finished: bool,
 }
 
+/// So many turns a record has at the most.
+pub(crate) const MOST_TURNS: u16 = 2_000;
+
 /// The game that a main line has come to, and how many turns were played.
 #[derive(Drop)]
 pub(crate) struct Replay {
@@ -68,7 +71,7 @@ impl Replay {
         if self.game.passes() == 2 {
             return Err(GameFault::AfterEnd);
         }
-        if self.turns >= 2000 {
+        if self.turns >= MOST_TURNS {
             return Err(GameFault::TooManyTurns);
         }
         match self.game.push(t) {

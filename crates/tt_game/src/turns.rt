@@ -3,6 +3,7 @@
 ghost use Rattle.std.specs.Prelude.{◌≡◌, ℕ, ◌+◌, ◌<◌, ◌≤◌, ◌↔◌, [], ◌∷◌, length, Contains, IsTrue, MatchOption};
 ghost use Rattle.std.specs.FinSet as set;
 ghost use Rattle.tt_sgf.specs.Sizes.{point_count};
+ghost use Rattle.tt_game.specs.declared.turns.TheConstants.{MOST_LEGAL};
 
 use crate::frame::Side;
 use crate::line::Line;
@@ -27,8 +28,11 @@ pub struct Successor {
     pub winner: Option<Side>,
 }
 
-/// A list of turns, with room for all of a board of 19 by 19: 361 plays and the pass.
-pub type Turns = ArrayVec<Turn, 362>;
+/// So many turns are legal at the most: a play on each point of a board of 19 by 19, and the pass.
+pub const MOST_LEGAL: usize = 362;
+
+/// A list of turns, with room for all that may be legal.
+pub type Turns = ArrayVec<Turn, MOST_LEGAL>;
 
 impl Line {
     ghost use Rattle.std.specs.Prelude.{None, Some, slice_set};
@@ -137,9 +141,9 @@ impl Line {
     }
 
     /// The legal turns, rising by their numbers, each with who has won after it. Each play is made once at most.
-    pub fn successors(&self) -> ArrayVec<Successor, 362>
+    pub fn successors(&self) -> ArrayVec<Successor, MOST_LEGAL>
         ensures list { result.items ≡ successors_of self.now.frame self.now.state }
-        ensures few { length result.items ≤ 362 }
+        ensures few { length result.items ≤ MOST_LEGAL }
     {
         let mut found = ArrayVec::new();
         if self.winner().is_some() {
@@ -166,7 +170,7 @@ impl Line {
         ensures list { result.items ≡ legal_turns self.now.frame self.now.state }
         ensures legal { (t : Turn) → Contains result.items t ↔ IsLegal self.now.frame self.now.state t }
         ensures rising { IsRising self.now.frame result.items }
-        ensures few { length result.items ≤ 362 }
+        ensures few { length result.items ≤ MOST_LEGAL }
     {
         let mut turns = ArrayVec::new();
         let successors = self.successors();
