@@ -80,7 +80,6 @@ fn put_tree(
             put_tree(out, child, size, own, deeper(level))
         }
         Tree::Reply(list) => put_entries(out, list, size, own, level),
-        Tree::Last(turn) => put_line(out, *turn, size, own, level),
     }
 }
 

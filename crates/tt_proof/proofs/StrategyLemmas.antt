@@ -2,8 +2,8 @@
 use Rattle.std.proofs.Common.{◌≡◌, List, [], ◌∷◌, ◌++◌, ◌∙◌, refl, sym, ap, Vec, Global, map}
 use Rattle.std.specs.declared.sync.Arc.{Arc}
 use Rattle.tt_game.specs.declared.turns.Turn.{Turn}
-use Rattle.tt_proof.specs.declared.tree.Tree.{Tree, fold-roll-Tree, Done, Pick, Last, Reply}
-use Rattle.tt_proof.specs.declared.tree.Tree.TheVariants.{rolls-Done, rolls-Pick, rolls-Last, rolls-Reply}
+use Rattle.tt_proof.specs.declared.tree.Tree.{Tree, fold-roll-Tree, Done, Pick, Reply}
+use Rattle.tt_proof.specs.declared.tree.Tree.TheVariants.{rolls-Done, rolls-Pick, rolls-Reply}
 use Rattle.tt_proof.specs.declared.tree.Tree.TheOpen as layer
 use Rattle.tt_proof.specs.Strategy.{Strategy, Entries, done, pick, reply, none, entry, strategy_of, strategy_step, entries_of, entries_of_trees}
 use Rattle.tt_proof.specs.Laws.{TreesAreStrategies}
@@ -18,11 +18,6 @@ pub strategy_of_pick : (t : Turn) (b : Arc Tree Global) → strategy_of (Pick t 
 unfolding strategy_of
 strategy_of_pick t b = ap strategy_of (sym (rolls-Pick t b)) ∙ fold-roll-Tree Strategy strategy_step (layer.Pick t b)
 
--- `Last` is a turn and nothing more
-pub strategy_of_last : (t : Turn) → strategy_of (Last t) ≡ pick t done
-unfolding strategy_of
-strategy_of_last t = ap strategy_of (sym (rolls-Last t)) ∙ fold-roll-Tree Strategy strategy_step (layer.Last t)
-
 -- the strategies of a list of trees make the entries of the list
 pub entries_map : (es : List (Turn × Tree)) → entries_of (map (λ e. (e.0, strategy_of e.1)) es) ≡ entries_of_trees es
 entries_map [] = refl
@@ -36,7 +31,7 @@ strategy_of_reply b =
 
 -- so each form of a tree is the strategy that the law says
 pub trees_are_strategies : TreesAreStrategies
-trees_are_strategies = record { of_done = strategy_of_done; of_pick = strategy_of_pick; of_last = strategy_of_last; of_reply = strategy_of_reply }
+trees_are_strategies = record { of_done = strategy_of_done; of_pick = strategy_of_pick; of_reply = strategy_of_reply }
 
 -- the list, and then es
 abbrev pub before : List (Turn × Tree) → Entries → Entries

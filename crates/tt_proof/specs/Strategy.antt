@@ -48,7 +48,6 @@ entries_of (e ∷ es) = entry e.0 e.1 (entries_of es)
 
 abbrev pub strategy_step : layer.Tree-F Strategy → Strategy
 strategy_step layer.Done = done
-strategy_step (layer.Last t) = pick t done
 strategy_step (layer.Pick t b) = pick t b.value
 strategy_step (layer.Reply b) = reply (entries_of b.value.items)
 

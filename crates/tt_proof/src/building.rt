@@ -19,14 +19,11 @@ impl Tree {
     }
 
     /// The tree that plays the turn and goes on with the child.
-    #[tactic(auto, using(crate::proofs::StrategyLemmas::strategy_of_pick, crate::proofs::StrategyLemmas::strategy_of_last, crate::proofs::StrategyLemmas::strategy_of_done))]
+    #[tactic(auto, using(crate::proofs::StrategyLemmas::strategy_of_pick))]
     pub fn pick(alloc: Global, turn: Turn, child: Tree) -> Result<Tree, NoMemory>
         ensures { IfOk result (λ t. strategy_of t ≡ pick turn (strategy_of child)) }
     {
-        match child {
-            Tree::Done => Ok(Tree::Last(turn)),
-            more => Ok(Tree::Pick(turn, Arc::new(alloc, more)?)),
-        }
+        Ok(Tree::Pick(turn, Arc::new(alloc, child)?))
     }
 
     /// The tree that answers each of the listed turns with its own tree.

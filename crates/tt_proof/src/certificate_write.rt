@@ -64,16 +64,6 @@ pub fn put_shown(out: &mut Vec<u8>, turn: Turn, size: Size) -> Result<(), NoMemo
     }
 }
 
-/// Writes a turn behind which nothing more is played.
-fn put_last(out: &mut Vec<u8>, turn: Turn, size: Size) -> Result<(), NoMemory>
-    requires { IsOnBoard size turn }
-    ensures { OnOk result (out.new.items ≡ out.old.items ++ tree_text size (pick turn done)) }
-{
-    put(out, b'!')?;
-    put_turn(out, turn, size)?;
-    put(out, b'.')
-}
-
 #[cycle(put)]
 fn put_tree(out: &mut Vec<u8>, t: &Tree, size: Size) -> Result<(), NoMemory>
     requires in_order { IsInOrder size (strategy_of t.now) }
@@ -90,7 +80,6 @@ fn put_tree(out: &mut Vec<u8>, t: &Tree, size: Size) -> Result<(), NoMemory>
             put(out, b'?')?;
             put_entries(out, list, size)
         }
-        Tree::Last(turn) => put_last(out, *turn, size),
     }
 }
 

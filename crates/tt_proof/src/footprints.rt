@@ -247,23 +247,6 @@ fn join_entry(
     }
 }
 
-/// That of a turn behind which nothing more is played.
-fn footprint_of_last(alloc: Global, turn: &Turn, line: &mut Line) -> Result<Footprint, NoMemory>
-    requires { IsOnBoard line.old.frame.size turn.now }
-    ensures exact { IfOk result (λ x. IsFootprint line.old.frame line.old.state (pick turn.now done) x) }
-    ensures same { line.new ≡ line.old }
-{
-    match line.push(*turn) {
-        Ok(()) => {
-            let board = line.present().copy();
-            line.pop();
-            Footprint::picked(alloc, line, turn, &board, Footprint::empty(alloc))
-        }
-        Err(Refused::Illegal(_)) => Ok(Footprint::empty(alloc)),
-        Err(Refused::NoMemory) => Err(NoMemory),
-    }
-}
-
 #[cycle(collect)]
 fn footprint_of_pick(
     alloc: Global,
@@ -324,6 +307,5 @@ pub fn footprint_of(alloc: Global, t: &Tree, line: &mut Line) -> Result<Footprin
         Tree::Done => Ok(Footprint::empty(alloc)),
         Tree::Pick(turn, child) => footprint_of_pick(alloc, turn, child, line),
         Tree::Reply(list) => footprint_of_reply(alloc, list, line),
-        Tree::Last(turn) => footprint_of_last(alloc, turn, line),
     }
 }

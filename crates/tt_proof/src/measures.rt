@@ -21,7 +21,6 @@ pub(crate) fn measures(t: &Tree) -> (u16, u64)
             (levels.saturating_add(1), size.saturating_add(1))
         }
         Tree::Reply(list) => measures_of_replies(list),
-        Tree::Last(_) => (1, 2),
     }
 }
 

@@ -122,26 +122,6 @@ fn replay_each(list: &[(Turn, Tree)], s: Side, line: &mut Line) -> Result<bool, 
     Ok(true)
 }
 
-/// Whether the turn is legal for the side, which has won behind it. The line stands as before.
-fn replay_last(turn: Turn, s: Side, line: &mut Line) -> Result<bool, NoMemory>
-    requires { IsOnBoard line.old.frame.size turn }
-    ensures exact { IfOk result (λ wins. IsTrue wins ↔ Wins s line.old.frame (pick turn done) line.old.state) }
-    ensures same { line.new ≡ line.old }
-{
-    if s != line.to_move() {
-        return Ok(false);
-    }
-    match line.push(turn) {
-        Ok(()) => {
-            let wins = line.winner() == Some(s);
-            line.pop();
-            Ok(wins)
-        }
-        Err(Refused::Illegal(_)) => Ok(false),
-        Err(Refused::NoMemory) => Err(NoMemory),
-    }
-}
-
 #[cycle(replay)]
 fn replay_pick(turn: Turn, child: &Tree, s: Side, line: &mut Line) -> Result<bool, NoMemory>
     requires depth { depth (strategy_of child.now) ≤ MOST_DEPTH }
@@ -187,6 +167,5 @@ pub fn replay(t: &Tree, s: Side, line: &mut Line) -> Result<bool, NoMemory>
         Tree::Done => Ok(line.winner() == Some(s)),
         Tree::Pick(turn, child) => replay_pick(*turn, child, s, line),
         Tree::Reply(list) => replay_reply(list, s, line),
-        Tree::Last(turn) => replay_last(*turn, s, line),
     }
 }

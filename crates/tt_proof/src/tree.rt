@@ -18,8 +18,6 @@ pub enum Tree {
     Done,
     /// The side plays this turn, and goes on with the tree.
     Pick(Turn, Arc<Tree>),
-    /// The side plays this turn, and has won. Such ends are many, and take no memory of their own.
-    Last(Turn),
     /// The other side plays; each turn, rising by their numbers, with the tree that answers it.
     Reply(Arc<Vec<(Turn, Tree)>>),
 }
@@ -39,7 +37,6 @@ impl Tree {
                 let list = Arc::try_clone(list)?;
                 Ok(Tree::Reply(list))
             }
-            Tree::Last(turn) => Ok(Tree::Last(*turn)),
         }
     }
 
@@ -51,7 +48,6 @@ impl Tree {
             Tree::Pick(turn, _) => Some(*turn),
             Tree::Done => None,
             Tree::Reply(_) => None,
-            Tree::Last(turn) => Some(*turn),
         }
     }
 }

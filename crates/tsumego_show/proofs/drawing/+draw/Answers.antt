@@ -30,11 +30,3 @@ put_tree-returns-in_ok-put_line-in-Pick t c =
 
 pub put_tree-returns-in-Reply : goal.put_tree-returns-in-Reply
 put_tree-returns-in-Reply t c = rw (c.in-Reply.is, trees_are_strategies.of_reply, ← c.deref-in-Reply.ensures, ← c.deref-in-Reply-2.ensures.value) c.put_entries.ensures
-
-pub put_tree-put_line-requires-in-Last : goal.put_tree-put_line-requires-in-Last
-put_tree-put_line-requires-in-Last t c = let ordered = rw (c.in-Last.is, trees_are_strategies.of_last) at c.requires.in_order in ordered.0
-
-pub put_tree-returns-in-Last : goal.put_tree-returns-in-Last
-put_tree-returns-in-Last t c =
-    rw (c.in-Last.is, trees_are_strategies.of_last)
-    (on_ok_weaker c.put_line-in-Last.result (λ e. e ∙ ap (λ w. c.args.out.now.items ++ w) (sym (append-nil _))) c.put_line-in-Last.ensures)

@@ -2,7 +2,7 @@ use Rattle.std.proofs.Common.{rules, ◌≡◌, ◌∙◌, ◌++◌, List, [], �
 use Rattle.tt_proof.specs.CertificateText.{pick_mark, reply_mark}
 use Rattle.std.proofs.lemmas.Result.{on_ok_weaker}
 use Rattle.tt_proof.specs.declared.tree.Tree.TheViews.{the_lemmas}
-use Rattle.tt_proof.proofs.StrategyLemmas.{strategy_of_done, strategy_of_pick, strategy_of_last, strategy_of_reply}
+use Rattle.tt_proof.proofs.StrategyLemmas.{strategy_of_done, strategy_of_pick, strategy_of_reply}
 use Rattle.tt_proof.proofs.certificate_write.+put.Goals as goal
 
 pub put_tree-put_turn-requires : goal.put_tree-put_turn-requires
@@ -39,9 +39,3 @@ put_tree-returns-in_ok-put-in-Reply t c =
     -- what is written behind `?`
     joined : (a b y : List ℕ) → b ≡ a ++ (reply_mark ∷ []) → b ++ y ≡ a ++ (reply_mark ∷ y)
     joined a b y e = ap (λ w. w ++ y) e ∙ append_assoc a (reply_mark ∷ []) y
-
-pub put_tree-put_last-requires : goal.put_tree-put_last-requires
-put_tree-put_last-requires t c = let ordered = rw (c.in-Last.is, strategy_of_last) at c.requires.in_order in ordered.0
-
-pub put_tree-returns-in-Last : goal.put_tree-returns-in-Last
-put_tree-returns-in-Last t c = rw (c.in-Last.is, strategy_of_last) c.put_last.ensures

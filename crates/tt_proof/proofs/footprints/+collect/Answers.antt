@@ -8,7 +8,7 @@ use Rattle.tt_sgf.specs.declared.size.Size.{Size}
 use Rattle.tt_proof.specs.Strategy.{Strategy, Entries, entry, number_on, strategy_of, pick, reply, entries_of, entries_of_trees, depth_of_entries, AreInOrder}
 use Rattle.tt_proof.specs.KeptFootprints.{IsFootprint, IsEntryJoined}
 use Rattle.tt_proof.proofs.ResultLemmas.{if_ok, on_ok}
-use Rattle.tt_proof.proofs.StrategyLemmas.{strategy_of_done, strategy_of_pick, strategy_of_last, strategy_of_reply, entries_map}
+use Rattle.tt_proof.proofs.StrategyLemmas.{strategy_of_done, strategy_of_pick, strategy_of_reply, entries_map}
 use Rattle.tt_proof.proofs.FootprintLemmas.{foot_no_pick, foot_no_entry, refused_bars}
 use Rattle.tt_proof.proofs.footprints.+collect.Goals as goal
 
@@ -108,9 +108,3 @@ footprint_of_reply-loop-turn-preserved t c =
           (rest_in_order c.loop-turn.line.frame.size c.loop-turn.invariant.in_order.0 item.0 (strategy_of item.1) (entries_of_trees (drop (n + 1) list))
           (subst (λ es. AreInOrder c.loop-turn.line.frame.size c.loop-turn.invariant.in_order.0 (entries_of_trees es)) rest c.loop-turn.invariant.in_order.1));
     }
-
-pub footprint_of-footprint_of_last-requires : goal.footprint_of-footprint_of_last-requires
-footprint_of-footprint_of_last-requires t c = let ordered = rw (c.in-Last.is, strategy_of_last) at c.requires.in_order in ordered.0
-
-pub footprint_of-returns-in-Last-clause-exact : goal.footprint_of-returns-in-Last-clause-exact
-footprint_of-returns-in-Last-clause-exact t c = rw (c.in-Last.is, strategy_of_last) c.footprint_of_last.ensures.exact

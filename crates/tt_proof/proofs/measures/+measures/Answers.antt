@@ -1,5 +1,5 @@
 use Rattle.std.proofs.Common.{arith}
-use Rattle.tt_proof.proofs.StrategyLemmas.{strategy_of_done, strategy_of_pick, strategy_of_last, strategy_of_reply}
+use Rattle.tt_proof.proofs.StrategyLemmas.{strategy_of_done, strategy_of_pick, strategy_of_reply}
 use Rattle.tt_proof.proofs.measures.+measures.Goals as goal
 
 pub measures-returns-in-Done-clause-levels : goal.measures-returns-in-Done-clause-levels
@@ -21,12 +21,6 @@ measures-returns-in-Pick-clause-size t c =
     let below = c.measures-levels.ensures.size in
     let added = c.saturating_add-in-Pick.ensures in
     rw (c.in-Pick.is, strategy_of_pick, ← same) (grind (arith, below, added))
-
-pub measures-returns-in-Last-clause-levels : goal.measures-returns-in-Last-clause-levels
-measures-returns-in-Last-clause-levels t c = rw (c.in-Last.is, strategy_of_last) (grind arith)
-
-pub measures-returns-in-Last-clause-size : goal.measures-returns-in-Last-clause-size
-measures-returns-in-Last-clause-size t c = rw (c.in-Last.is, strategy_of_last) (grind arith)
 
 pub measures-returns-in-Reply-clause-levels : goal.measures-returns-in-Reply-clause-levels
 measures-returns-in-Reply-clause-levels t c =

@@ -1,6 +1,6 @@
 use Rattle.tt_proof.specs.declared.tree.Tree.TheViews.{the_lemmas}
 use Rattle.std.proofs.Common.{Bool, ◌↔◌, ◌∙◌, rules, arith, ◌≡◌, false, IsTrue, true≢false, sym, Result, Ok, Err, IfOk}
-use Rattle.tt_proof.proofs.StrategyLemmas.{strategy_of_done, strategy_of_pick, strategy_of_last, strategy_of_reply}
+use Rattle.tt_proof.proofs.StrategyLemmas.{strategy_of_done, strategy_of_pick, strategy_of_reply}
 use Rattle.tt_proof.proofs.WinsLemmas.{reply_answers, reply_wins}
 use Rattle.tt_proof.proofs.replays.+replay.Goals as goal
 
@@ -47,9 +47,3 @@ replay_reply-returns-clause-exact t c =
     let same = reply_wins c.args.s c.args.line.now.frame c.args.line.now.state _ c.requires.in_order
     (c.answers_each.ensures.0 c.if-not-answers_each.false) in
     each_ok c.replay_each.result _ _ (λ b iff. (λ e. same.0 (iff.0 e), λ w. iff.1 (same.1 w))) c.replay_each.ensures.exact
-
-pub replay-replay_last-requires : goal.replay-replay_last-requires
-replay-replay_last-requires t c = let ordered = rw (c.in-Last.is, strategy_of_last) at c.requires.in_order in ordered.0
-
-pub replay-returns-in-Last-clause-exact : goal.replay-returns-in-Last-clause-exact
-replay-returns-in-Last-clause-exact t c = rw (c.in-Last.is, strategy_of_last) c.replay_last.ensures.exact

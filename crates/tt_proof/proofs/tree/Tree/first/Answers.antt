@@ -1,4 +1,4 @@
-use Rattle.tt_proof.proofs.StrategyLemmas.{strategy_of_done, strategy_of_pick, strategy_of_last, strategy_of_reply}
+use Rattle.tt_proof.proofs.StrategyLemmas.{strategy_of_done, strategy_of_pick, strategy_of_reply}
 use Rattle.tt_proof.proofs.tree.Tree.first.Goals as goal
 
 pub returns-in-Done : goal.returns-in-Done
@@ -6,9 +6,6 @@ returns-in-Done c = rw (c.in-Done.is, strategy_of_done)
 
 pub returns-in-Pick : goal.returns-in-Pick
 returns-in-Pick c = rw (c.in-Pick.is, strategy_of_pick)
-
-pub returns-in-Last : goal.returns-in-Last
-returns-in-Last c = rw (c.in-Last.is, strategy_of_last)
 
 pub returns-in-Reply : goal.returns-in-Reply
 returns-in-Reply c = rw (c.in-Reply.is, strategy_of_reply)
