@@ -2,6 +2,7 @@
 
 ghost use Rattle.std.specs.Prelude.{◌≡◌, ◌≤◌, length, take, IfOk};
 
+use super::faults::NoMemory;
 use std::alloc::{AllocError, Global};
 use std::marker::Model;
 
@@ -54,6 +55,28 @@ impl SmallBytes {
         let long = Vec::from_slice(alloc, bytes)?;
         let form = Form::Long(Box::new(alloc, long)?);
         Ok(SmallBytes { form })
+    }
+
+    /// These bytes. Fourteen at most give their memory back, more ask for a handle to it.
+    pub fn from_vec(alloc: Global, bytes: Vec<u8>) -> Result<SmallBytes, NoMemory>
+        ensures { IfOk result (λ b. b ≡ bytes.items) }
+    {
+        if bytes.len() <= SHORT {
+            let form = Form::Short(bytes.len() as u8, short_of(&bytes));
+            return Ok(SmallBytes { form });
+        }
+        let form = Form::Long(Box::new(alloc, bytes)?);
+        Ok(SmallBytes { form })
+    }
+
+    /// The bytes in a list of their own. It takes memory where they are fourteen at most.
+    pub fn into_vec(self, alloc: Global) -> Result<Vec<u8>, NoMemory>
+        ensures { IfOk result (λ v. v.items ≡ self) }
+    {
+        match self.form {
+            Form::Long(long) => Ok(Box::into_inner(long)),
+            form => Ok(Vec::from_slice(alloc, SmallBytes { form }.as_slice())?),
+        }
     }
 
     /// The bytes, in order.

@@ -3,6 +3,7 @@
 ghost use Rattle.std.specs.Prelude.{◌≡◌, ◌++◌, ◌∷◌, [], IfOk};
 ghost use Rattle.tt_sgf.specs.Reading.{has_none};
 
+use super::faults::NoMemory;
 use super::items::add;
 use super::small_bytes::SmallBytes;
 use std::alloc::{AllocError, Global};
@@ -70,6 +71,30 @@ impl Values {
             }
         };
         Ok(Values { row })
+    }
+
+    /// These values. Takes no memory.
+    pub fn from_vec(values: Vec<SmallBytes>) -> Values
+        ensures { result ≡ values.items }
+    {
+        Values {
+            row: Row::Many(values),
+        }
+    }
+
+    /// The values in a list of their own. It takes memory where there is one value, for it.
+    pub fn into_vec(self, alloc: Global) -> Result<Vec<SmallBytes>, NoMemory>
+        ensures { IfOk result (λ v. v.items ≡ self) }
+    {
+        match self.row {
+            Row::None => Ok(Vec::new(alloc)),
+            Row::One(value) => {
+                let mut values = Vec::with_capacity(alloc, 1)?;
+                values.push_reserved(value);
+                Ok(values)
+            }
+            Row::Many(values) => Ok(values),
+        }
     }
 
     /// The values, in order.

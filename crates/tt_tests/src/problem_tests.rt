@@ -6,16 +6,78 @@ use crate::rows::{Table, cut, holding, short_number};
 use crate::text_tables::PROBLEMS;
 use std::alloc::Global;
 use tt_game::{Line, Turn, problem};
-use tt_sgf::{Size, read_tree};
+use tt_sgf::{Items, MainLine, NoMemory, Node, Property, Size, SmallBytes, Values, read_tree};
+
+/// The problem that a main line is, or the number of the refusal.
+fn posed_by(alloc: Global, line: &MainLine) -> Result<Line, u8> {
+    match problem(alloc, line) {
+        Ok(line) => Ok(line),
+        Err(fault) => Err(fault.code()),
+    }
+}
 
 /// The problem that a text is, or the number of the refusal.
 pub(crate) fn posed(alloc: Global, text: &[u8]) -> Result<Line, u8> {
-    let Ok((line, _)) = read_tree(alloc, text) else {
-        return Err(1);
-    };
-    match problem(alloc, &line) {
-        Ok(line) => Ok(line),
+    match read_tree(alloc, text) {
+        Ok((line, _)) => posed_by(alloc, &line),
         Err(fault) => Err(fault.code()),
+    }
+}
+
+/// These bytes, as a reader of one's own makes them.
+fn own_bytes(alloc: Global, bytes: SmallBytes) -> Result<SmallBytes, NoMemory> {
+    SmallBytes::from_vec(alloc, bytes.into_vec(alloc)?)
+}
+
+/// These values, as a reader of one's own makes them.
+fn own_values(alloc: Global, values: Values) -> Result<Values, NoMemory> {
+    let mut made = Vec::new(alloc);
+    for value in values.into_vec(alloc)? {
+        made.push(own_bytes(alloc, value)?)?;
+    }
+    Ok(Values::from_vec(made))
+}
+
+/// This property, as a reader of one's own makes it.
+fn own_property(alloc: Global, property: Property) -> Result<Property, NoMemory> {
+    let Property { ident, values } = property;
+    Ok(Property {
+        ident: own_bytes(alloc, ident)?,
+        values: own_values(alloc, values)?,
+    })
+}
+
+/// This node, as a reader of one's own makes it.
+fn own_node(alloc: Global, node: Node) -> Result<Node, NoMemory> {
+    let mut made = Vec::new(alloc);
+    for property in node.properties.into_vec() {
+        made.push(own_property(alloc, property)?)?;
+    }
+    Ok(Node {
+        properties: Items::from_vec(made),
+    })
+}
+
+/// This main line, as a reader of one's own makes it.
+fn own_line(alloc: Global, line: MainLine) -> Result<MainLine, NoMemory> {
+    let mut made = Vec::new(alloc);
+    for node in line.nodes.into_vec() {
+        made.push(own_node(alloc, node)?)?;
+    }
+    Ok(MainLine {
+        nodes: Items::from_vec(made),
+    })
+}
+
+/// The problem that a text is by a reader of one's own, or the number of the refusal.
+fn posed_anew(alloc: Global, text: &[u8]) -> Result<Line, u8> {
+    let line = match read_tree(alloc, text) {
+        Ok((line, _)) => line,
+        Err(fault) => return Err(fault.code()),
+    };
+    match own_line(alloc, line) {
+        Ok(own) => posed_by(alloc, &own),
+        Err(_) => Err(40),
     }
 }
 
@@ -53,8 +115,8 @@ pub(crate) fn has_turns(line: &Line, marks: &[u8]) -> bool {
 }
 
 /// Whether a problem is refused with this number, or has the legal turns that are marked where the number is 0.
-fn is_posed(alloc: Global, text: &[u8], want: &[u8], marks: &[u8]) -> bool {
-    match posed(alloc, text) {
+fn is_posed(posed: Result<Line, u8>, want: &[u8], marks: &[u8]) -> bool {
+    match posed {
         Err(code) => u16::from(code) == short_number(want),
         Ok(line) => want == b"0".as_slice() && has_turns(&line, marks),
     }
@@ -66,11 +128,11 @@ impl Table for ProblemTable {
     fn holds(alloc: Global, line: &[u8]) -> bool {
         let (want, rest) = cut(line, b'|');
         let (text, marks) = cut(rest, b'|');
-        is_posed(alloc, text, want, marks)
+        is_posed(posed(alloc, text), want, marks) && is_posed(posed_anew(alloc, text), want, marks)
     }
 }
 
 #[test]
 fn problems(rt: HostRuntime) {
-    assert_eq!(&rt; holding::<ProblemTable>(rt.alloc(), PROBLEMS, b'\n'), 13);
+    assert_eq!(&rt; holding::<ProblemTable>(rt.alloc(), PROBLEMS, b'\n'), 14);
 }

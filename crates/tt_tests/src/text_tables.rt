@@ -122,6 +122,7 @@ pub(crate) const PROBLEMS: &str = "\
 12|(;SZ[2:1]AW[ba]TR[ba]SQ[ca])|
 0|(;SZ[4:1]AW[ba];B[ca];W[da]TR[ba])|    -
 0|(;SZ[4:1]AW[ba][da]PL[B]TR[ba])|  - -
+0|(;SZ[4:1]AW[ba][da]PL[B]C[Two stones, and one of them is meant.]TR[ba])|  - -
 ";
 
 /// What comes of a certificate at a problem, or the number of the refusal; the problem; and the certificate.
