@@ -21,4 +21,5 @@ pub mod PlaneLemmas
 pub mod PlayLemmas
 pub mod QuietLemmas
 pub mod StartLemmas
+pub mod Sent
 pub mod StoneLemmas
