@@ -1,0 +1,324 @@
+#!/usr/bin/env python3
+"""Checks an answer of tsumego without tsumego: does the certificate win for the problem?
+
+    tools/check_certificate.py [--long] < FILE
+
+FILE holds a problem in SGF and behind it a certificate, as for `tsumego check`. The answer is `valid` (status 0), `invalid`
+or `refused NUMBER` (status 1). With --long the input may have more than 1,048,576 bytes.
+
+This file follows docs/FORMATS.md and shares nothing with the program. Whoever has read it need not believe the program.
+"""
+import functools
+import re
+import sys
+
+MOST_BYTES, MOST_TURNS, MOST_LEVELS = 1_048_576, 2_000, 512
+BLACK, WHITE, EMPTY = "X", "O", "."
+OTHER = {BLACK: WHITE, WHITE: BLACK}
+
+
+class Refused(Exception):
+    """The input isn't a problem with a certificate; the number says why."""
+
+
+# ---- SGF: the main line of a game tree
+
+# White space, and then a mark, the name of a property, or a value.
+TOKEN = re.compile(rb"[\t-\r ]*(?:([();])|([A-Za-z0-9]+)|\[((?:[^]\\]|\\.)*)\])", re.DOTALL)
+
+# What may stand behind what: marks, names (n) and values (v).
+BEHIND = {"": "(", "(": ";", ";": ";()n", "n": "v", "v": ";()nv", ")": "()"}
+
+
+def read_tree(data):
+    """The nodes of the main line, each with the values of its properties by name, and the bytes behind the tree."""
+    nodes, open_trees, last, at = [], 0, "", max(data.find(b"("), 0)
+    in_main_line = True
+    while True:
+        token = TOKEN.match(data, at)
+        if token is None:
+            raise Refused(1)
+        mark, name, value = token.groups()
+        kind = mark.decode() if mark else "n" if name else "v"
+        if kind not in BEHIND[last]:
+            raise Refused(1)
+        if kind == "(":
+            open_trees += 1
+        elif kind == ")":
+            # Nodes stand before sub-trees, so the main line ends where the first tree does.
+            open_trees, in_main_line = open_trees - 1, False
+            if open_trees == 0:
+                return nodes, data[token.end() :]
+        elif kind == "n":
+            if not re.search(rb"[A-Z]", name):
+                raise Refused(1)
+            ident = re.sub(rb"[a-z]", b"", name).decode()
+        elif in_main_line and kind == ";":
+            nodes.append({})
+        elif in_main_line:
+            nodes[-1].setdefault(ident, []).append(value.strip())
+        last, at = kind, token.end()
+
+
+def number(word):
+    """The number that the word spells, or None."""
+    digits = re.fullmatch(rb"\+?0*([0-9]{1,5})", word)
+    return int(digits[1]) if digits and int(digits[1]) <= 65_535 else None
+
+
+# ---- The game: a point is the number row * columns + column, a board has a letter for each point, and a turn is a point or
+# ---- the pass, which has the number behind the last point
+
+
+class Game:
+    def __init__(self, columns, rows):
+        self.columns, self.rows, self.passing = columns, rows, columns * rows
+        self.near = [[] for _ in range(self.passing)]
+        for point in range(self.passing):
+            if point % columns > 0:
+                self.near[point].append(point - 1)
+                self.near[point - 1].append(point)
+            if point >= columns:
+                self.near[point].append(point - columns)
+                self.near[point - columns].append(point)
+        self.board = EMPTY * self.passing
+        self.earlier = {self.board}
+        self.to_move, self.passes, self.turns = BLACK, 0, 0
+
+    def point(self, word):
+        """The point that two letters name, column and row, or None."""
+        if re.fullmatch(rb"[a-s][a-s]", word) is None:
+            return None
+        column, row = word[0] - ord("a"), word[1] - ord("a")
+        return row * self.columns + column if column < self.columns and row < self.rows else None
+
+    def points(self, values):
+        """The set of points that values name: points, and rectangles by two opposite corners."""
+        found = set()
+        for value in values:
+            corners = [self.point(word) for word in value.split(b":")]
+            if None in corners or len(corners) > 2:
+                raise Refused(12)
+            columns = sorted(corner % self.columns for corner in corners)
+            rows = sorted(corner // self.columns for corner in corners)
+            for row in range(rows[0], rows[-1] + 1):
+                found.update(row * self.columns + column for column in range(columns[0], columns[-1] + 1))
+        return found
+
+    def dead_chain(self, board, point):
+        """The stones of the chain at the point, where it has no liberty; else nothing."""
+        colour, chain, seen = board[point], [point], {point}
+        for stone in chain:
+            for beside in self.near[stone]:
+                if board[beside] == EMPTY:
+                    return []
+                if board[beside] == colour and beside not in seen:
+                    seen.add(beside)
+                    chain.append(beside)
+        return chain
+
+    @functools.lru_cache(100_000)
+    def after_play(self, board, colour, point):
+        """The board after a stone on an empty point: the other's chains without liberties are taken, and then one's own."""
+        board = list(board)
+        board[point] = colour
+        for place in self.near[point] + [point]:
+            if board[place] == (colour if place == point else OTHER[colour]):
+                for stone in self.dead_chain(board, place):
+                    board[stone] = EMPTY
+        return "".join(board)
+
+    def make(self, turn, board):
+        """The turn, after which the board stands there."""
+        self.passes = self.passes + 1 if turn == self.passing else 0
+        self.board, self.to_move = board, OTHER[self.to_move]
+        self.earlier.add(board)
+
+    # -- A node of the record: stones are set up, or a move is made
+
+    def set_up(self, node):
+        black, white, empty = (self.points(node.get(name, [])) for name in ("AB", "AW", "AE"))
+        to_move = {b"B": BLACK, b"W": WHITE}.get(node.get("PL", [b"B"])[0][:1].upper())
+        if to_move is None:
+            raise Refused(12)
+        if black & white or black & empty or white & empty:
+            raise Refused(13)
+        board = list(self.board)
+        for points, colour in ((black, BLACK), (white, WHITE), (empty, EMPTY)):
+            for point in points:
+                board[point] = colour
+        if any(board[point] != EMPTY and self.dead_chain(board, point) for point in range(self.passing)):
+            raise Refused(15)
+        self.board, self.to_move, self.passes = "".join(board), to_move, 0
+        self.earlier = {self.board}
+
+    def record_turn(self, turn):
+        if self.passes == 2:
+            raise Refused(18)
+        if self.turns == MOST_TURNS:
+            raise Refused(19)
+        board = self.board
+        if turn != self.passing:
+            if self.board[turn] != EMPTY:
+                raise Refused(16)
+            board = self.after_play(self.board, self.to_move, turn)
+            if board in self.earlier:
+                raise Refused(17)
+        self.turns += 1
+        self.make(turn, board)
+
+    def take(self, node):
+        moves = [(BLACK, value) for value in node.get("B", [])] + [(WHITE, value) for value in node.get("W", [])]
+        is_setup = any(name in node for name in ("AB", "AW", "AE")) or ("PL" in node and not moves)
+        if len(moves) > 1 or (is_setup and moves):
+            raise Refused(14)
+        if is_setup:
+            self.set_up(node)
+        for colour, value in moves:
+            turn = self.passing if value in (b"", b"tt") else self.point(value)
+            if turn is None:
+                raise Refused(12)
+            if colour != self.to_move:
+                self.record_turn(self.passing)
+            self.record_turn(turn)
+
+    # -- The problem: its targets, its region and who defends
+
+    def set_problem(self, node):
+        self.targets = self.points(node["TR"])
+        self.region = self.points(node["SQ"]) if "SQ" in node else set(range(self.passing))
+        colours = {self.board[target] for target in self.targets}
+        if EMPTY in colours:
+            raise Refused(22)
+        if len(colours) == 2:
+            raise Refused(23)
+        self.defender = colours.pop()
+        self.passes = 0
+
+    def winner(self):
+        if any(self.board[target] == EMPTY for target in self.targets):
+            return OTHER[self.defender]
+        return self.defender if self.passes == 2 else None
+
+    def legal(self, turns):
+        """Those of the turns that are legal, each with the board after it, which a play may not repeat."""
+        boards = {}
+        for turn in turns:
+            if turn == self.passing:
+                boards[turn] = self.board
+            elif turn in self.region and self.board[turn] == EMPTY:
+                board = self.after_play(self.board, self.to_move, turn)
+                if board not in self.earlier:
+                    boards[turn] = board
+        return boards
+
+
+def read_problem(nodes):
+    """The game as it stands at the first node with TR."""
+    if number(nodes[0].get("GM", [b"1"])[0]) != 1:
+        raise Refused(10)
+    sides = [number(word) for word in nodes[0].get("SZ", [b"19"])[0].split(b":")]
+    if len(sides) > 2 or not all(side is not None and 1 <= side <= 19 for side in sides):
+        raise Refused(11)
+    game = Game(sides[0], sides[-1])
+    for node in nodes:
+        game.take(node)
+        if "TR" in node:
+            game.set_problem(node)
+            return game
+    raise Refused(20)
+
+
+# ---- The certificate: read from the left and replayed on the way
+
+
+class Certificate:
+    def __init__(self, text, game):
+        self.text, self.at, self.game = text, 0, game
+        if self.next(b"killed "):
+            self.side = OTHER[game.defender]
+        elif self.next(b"lives "):
+            self.side = game.defender
+        else:
+            raise Refused(30)
+
+    def next(self, word):
+        """Whether the word stands here; it is then read."""
+        stands = self.text.startswith(word, self.at)
+        self.at += len(word) if stands else 0
+        return stands
+
+    def turn(self, level, last):
+        """The turn here; those of one `?` rise."""
+        word = self.text[self.at : self.at + 2]
+        turn = self.game.passing if word == b"--" else self.game.point(word)
+        if turn is None or turn <= last:
+            raise Refused(30)
+        if level > MOST_LEVELS:
+            raise Refused(31)
+        self.at += 2
+        return turn
+
+    def wins_after(self, turn, board, level):
+        """Whether the tree here wins after the turn."""
+        game = self.game
+        before = game.board, game.to_move, game.passes
+        game.make(turn, board)
+        wins = self.wins(level + 1, True)
+        if turn != game.passing:
+            game.earlier.remove(board)
+        game.board, game.to_move, game.passes = before
+        return wins
+
+    def wins(self, level, is_reached):
+        """Reads the tree here, and says whether it wins; one that no play reaches is read only, and doesn't."""
+        game = self.game
+        goes_on = is_reached and game.winner() is None
+        if self.next(b"."):
+            return is_reached and game.winner() == self.side
+        if self.next(b"!"):
+            turn = self.turn(level, -1)
+            legal = game.legal([turn]) if goes_on and game.to_move == self.side else {}
+            return self.wins_after(turn, legal[turn], level) if turn in legal else self.wins(level + 1, False)
+        if not self.next(b"?"):
+            raise Refused(30)
+        wins = goes_on and game.to_move != self.side
+        unanswered = game.legal(range(game.passing + 1)) if wins else {}
+        turn = -1
+        while not self.next(b";"):
+            turn = self.turn(level, turn)
+            if turn in unanswered:
+                wins = self.wins_after(turn, unanswered.pop(turn), level) and wins
+            else:
+                self.wins(level + 1, False)
+        return wins and not unanswered
+
+
+def answer(data, is_long=False):
+    """The line for the bytes of a problem and a certificate."""
+    try:
+        if len(data) > MOST_BYTES and not is_long:
+            raise Refused(2)
+        nodes, text = read_tree(data)
+        certificate = Certificate(text.strip(), read_problem(nodes))
+        wins = certificate.wins(1, True)
+        if certificate.at < len(certificate.text):
+            raise Refused(30)
+        return "valid" if wins else "invalid"
+    except Refused as refused:
+        return f"refused {refused}"
+
+
+def main():
+    options = set(sys.argv[1:])
+    if options - {"--long"}:
+        sys.exit(__doc__)
+    line = answer(sys.stdin.buffer.read(), "--long" in options)
+    print(line)
+    return 0 if line == "valid" else 1
+
+
+if __name__ == "__main__":
+    # A tree is at most as deep as MOST_LEVELS says.
+    sys.setrecursionlimit(10 * MOST_LEVELS)
+    sys.exit(main())
