@@ -1,6 +1,6 @@
 //! Steps of a search: the tree grows at its most-proving leaf, and the numbers on the way to it are brought up to date.
 
-ghost use Rattle.std.specs.Prelude.{◌≡◌, ◌≢◌, ◌+◌, ◌-◌, ◌^◌, ◌<◌, ◌≤◌, ◌↔◌, ◌⊎◌, true, false, None, length, take, insert, OnOk};
+ghost use Rattle.std.specs.Prelude.{◌≡◌, ◌≢◌, ◌+◌, ◌-◌, ◌^◌, ◌<◌, ◌≤◌, ◌↔◌, ◌⊎◌, true, false, None, length, take, insert};
 ghost use Rattle.std.specs.Vec.{vec_len, vec_capacity};
 ghost use Rattle.tt_game.specs.Game.{winner_of};
 ghost use Rattle.tt_proof.specs.declared.tree.TheConstants.{MOST_DEPTH};
@@ -20,7 +20,6 @@ ghost use Rattle.tt_search.specs.declared.limits.Step.TheVariants.{Expanded, Clo
 
 use crate::children::{Aim, Packed};
 use crate::closing::usable;
-use crate::edge_row::SHORT;
 use crate::edges::Mark;
 use crate::grants::Grants;
 use crate::leaves::{closed_leaf, expanded_at, new_leaf, untried_children};
@@ -64,31 +63,6 @@ fn left_after(step: Step, left: u32) -> u32
         Step::Settled => left,
         Step::Stuck(_) => left,
     }
-}
-
-/// How many nodes a list of so many gets room for when it is full, where there are so many edges. Of a few edges most lists stay short:
-/// so it is an eighth more, but that the second node makes room for the third, and the fourth for the fifth. Of more than `SHORT` edges the
-/// fourth node makes room for all: next to none of the others stays away then.
-fn more_room(nodes: usize, edges: usize) -> usize
-    ensures { 0 < result }
-{
-    match nodes {
-        3 if edges > SHORT => edges - 3,
-        1 | 3 => 2,
-        len => len / 8 + 1,
-    }
-}
-
-/// Makes room for one more node, where there is none.
-fn room_for_one(nodes: &mut Vec<Node>, edges: usize) -> Result<(), NoMemory>
-    ensures items { nodes.new.items ≡ nodes.old.items }
-    ensures room { OnOk result (vec_len nodes.new < vec_capacity nodes.new) }
-{
-    if nodes.len() < nodes.capacity() {
-        return Ok(());
-    }
-    nodes.reserve_exact(more_room(nodes.len(), edges))?;
-    Ok(())
 }
 
 /// Puts a fresh node at a place among others, where there is room for it. It mostly comes last, and then no other one is looked at.
@@ -185,7 +159,7 @@ impl Node {
                 };
                 self.first_round(aim, children, walk, pace, store, grants)
             }
-            Growth::Won(_) | Growth::Closed(_) | Growth::Offered(_, _, _, _) => unreachable!(),
+            Growth::Won(_) | Growth::Closed(_) | Growth::Offered(_, _, _) => unreachable!(),
             Growth::Fresh => self.first_step(walk, store, grants),
         }
     }
@@ -240,7 +214,7 @@ impl Node {
             Growth::Closed(_) => unreachable!(),
             Growth::Untried(_, _) => unreachable!(),
             Growth::Expanded(_, _) => unreachable!(),
-            Growth::Offered(_, _, _, _) => unreachable!(),
+            Growth::Offered(_, _, _) => unreachable!(),
         }
     }
 
@@ -464,7 +438,7 @@ impl Packed {
         ensures source { G.source grants.new ≡ G.source grants.old }
         ensures sprouts { Sprouts walk.old place self.old result self.new walk.new }
     {
-        if room_for_one(&mut self.grown, self.edges.len()).is_err() {
+        if self.grown.reserve_exact(1).is_err() {
             return Step::Stuck(Reason::Memory);
         }
         put_fresh(&mut self.grown, rank);
