@@ -10,10 +10,11 @@ use Rattle.tt_search.specs.Children.{children_of}
 use Rattle.tt_search.specs.Edges.{mark_of, tree_of, edge_trees, grown_behind}
 use Rattle.tt_search.specs.Settled.{first_settled, strategy_for}
 use Rattle.tt_search.specs.Choices.{node_with}
-use Rattle.tt_search.specs.Packed.{choices_with}
+use Rattle.tt_search.specs.Packed.{choices_of}
 use Rattle.tt_search.specs.Offered.{IsOffered}
 use Rattle.tt_search.specs.Joining.{AreZero}
 use Rattle.tt_search.specs.declared.edges.Edge.{Edge}
+use Rattle.tt_search.specs.declared.children.Packed.{Packed}
 use Rattle.tt_search.proofs.Strategies.{IsZeroAt, zero_at, all_zero, zero_sum}
 
 mutual
@@ -60,8 +61,8 @@ zero_there side (tree ∷ trees) zero d z = z
 zero_there side (tree ∷ trees) (suc i) d z = zero_there side trees i d z
 
 -- the proof that a node has offered is the side's for which the node is settled, and has its strategy
-pub offered_for : (mover : Side) (es : List Edge) (grown : List PartialTree) (p : Proven) (side : Side) (tree : PartialTree) → IsOffered mover es grown p
-    → node_with (choices_with mover es grown) ≡ tree → number side tree ≡ 0 → (p.side ≡ side) × (p.tree ≡ strategy_for side tree)
-offered_for mover es grown p side tree h is z =
+pub offered_for : (mover : Side) (children : Packed) (p : Proven) (side : Side) (tree : PartialTree) → IsOffered mover children p
+    → node_with (choices_of mover children) ≡ tree → number side tree ≡ 0 → (p.side ≡ side) × (p.tree ≡ strategy_for side tree)
+offered_for mover children p side tree h is z =
     let same : p.side ≡ side = one_side p.side side tree (subst (λ t. number p.side t ≡ 0) is h.proof.settled) z in
-    (same, h.proof.strategy ∙ ap (λ s. strategy_for s (node_with (choices_with mover es grown))) same ∙ ap (strategy_for side) is)
+    (same, h.proof.strategy ∙ ap (λ s. strategy_for s (node_with (choices_of mover children))) same ∙ ap (strategy_for side) is)

@@ -2,8 +2,6 @@
 use Rattle.std.specs.Prelude.{◌≤◌, List, take}
 use Rattle.tt_search.specs.declared.edge_row.Form.{Form}
 use Rattle.tt_search.specs.declared.edge_row.Form.TheVariants.{Short, Long}
-use Rattle.tt_search.specs.declared.edge_row.LastForm.{LastForm}
-use Rattle.tt_search.specs.declared.edge_row.LastForm.TheVariants as last
 use Rattle.tt_search.specs.declared.edges.Edge.{Edge}
 
 -- the first ones of the array, or those of the block
@@ -15,12 +13,3 @@ edges_of (Long long) = long.items
 abbrev pub AreWithin : Form → Type 0
 AreWithin (Short count short) = count ≤ 15
 AreWithin (Long long) = Unit {0}
-
--- the same of a row that is never changed
-abbrev pub last_edges_of : LastForm → List Edge
-last_edges_of (last.Short count short) = take count short
-last_edges_of (last.Long row) = row.value
-
-abbrev pub AreWithinLast : LastForm → Type 0
-AreWithinLast (last.Short count short) = count ≤ 11
-AreWithinLast (last.Long row) = Unit {0}

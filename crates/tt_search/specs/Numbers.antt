@@ -1,5 +1,5 @@
 -- Proof and disproof numbers (Allis 1994, section 2.4), computed over the whole tree. Proven means that the attacker wins.
-use Rattle.std.specs.Prelude.{◌≢◌, ℕ, ◌+◌, min, sum, List, [], ◌∷◌, ◌==◌, Bool, true, false, ◌||◌, if◌then◌else◌}
+use Rattle.std.specs.Prelude.{◌≡◌, ◌≢◌, ◌≤◌, ◌⊎◌, ℕ, ◌+◌, min, sum, List, [], ◌∷◌, ◌==◌, Bool, true, false, ◌||◌, if◌then◌else◌}
 use Rattle.tt_game.specs.declared.frame.Side.{Side}
 use Rattle.tt_game.specs.declared.frame.Side.TheVariants.{Attacker, Defender}
 use Rattle.tt_search.specs.PartialTree.{PartialTree, fresh, won, closed, expanded, Children, no_more, more}
@@ -56,6 +56,10 @@ proof_number tree = number Attacker tree
 
 abbrev pub disproof_number : PartialTree → ℕ
 disproof_number tree = number Defender tree
+
+-- a number is finite, and then at most the cap, or infinite
+abbrev pub IsCapped : ℕ → Type 0
+IsCapped n = (n ≤ cap) ⊎ (n ≡ infinite)
 
 -- neither number is 0
 abbrev pub IsUndecided : PartialTree → Type 0

@@ -1,16 +1,15 @@
 -- What a node keeps beside its numbers, and the proof that a settled node holds. For private contracts and proofs.
-use Rattle.std.specs.Prelude.{◌≡◌, List, length}
+use Rattle.std.specs.Prelude.{◌≡◌}
 use Rattle.tt_game.specs.declared.frame.Side.{Side}
 use Rattle.tt_proof.specs.Proven.{Proven}
 use Rattle.tt_search.specs.PartialTree.{PartialTree}
 use Rattle.tt_search.specs.Numbers.{number}
 use Rattle.tt_search.specs.Settled.{strategy_for}
 use Rattle.tt_search.specs.Choices.{node_with}
-use Rattle.tt_search.specs.Packed.{choices_with}
+use Rattle.tt_search.specs.Packed.{choices_of, HasItsNodes}
 use Rattle.tt_search.specs.Kept.{IsKept}
-use Rattle.tt_search.specs.Edges.{grown_in}
 use Rattle.tt_search.specs.Untried.{plays_and_pass, AreUntried}
-use Rattle.tt_search.specs.declared.edges.Edge.{Edge}
+use Rattle.tt_search.specs.declared.children.Packed.{Packed}
 use Rattle.tt_search.specs.declared.node.Growth.{Growth}
 use Rattle.tt_search.specs.declared.node.Growth.TheVariants.{Fresh, Won, Closed, Untried, Expanded, Offered}
 
@@ -20,9 +19,9 @@ pub record IsProofOfTree (tree : PartialTree) (p : Proven) : Type 0 where
   pub strategy : p.tree ≡ strategy_for p.side tree
 
 -- each child that has grown has its node, and the proof is one of the tree that the mover has with these children
-pub record IsOffered (mover : Side) (es : List Edge) (grown : List PartialTree) (p : Proven) : Type 0 where
-  pub whole : grown_in es ≡ length grown
-  pub proof : IsProofOfTree (node_with (choices_with mover es grown)) p
+pub record IsOffered (mover : Side) (children : Packed) (p : Proven) : Type 0 where
+  pub whole : HasItsNodes children
+  pub proof : IsProofOfTree (node_with (choices_of mover children)) p
 
 -- what an expanded node keeps beside its children is right, and so is the proof of one that has offered it
 abbrev pub HoldsItsOwn : Growth → Type 0
@@ -31,4 +30,4 @@ HoldsItsOwn (Won side) = Unit {0}
 HoldsItsOwn (Closed proof) = Unit {0}
 HoldsItsOwn (Untried mover plays) = AreUntried (plays_and_pass plays)
 HoldsItsOwn (Expanded aim children) = IsKept aim children
-HoldsItsOwn (Offered mover edges grown proof) = IsOffered mover edges grown.items proof.value
+HoldsItsOwn (Offered mover children proof) = IsOffered mover children.value proof.value

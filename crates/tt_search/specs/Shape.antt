@@ -13,4 +13,4 @@ shape (Won side) = won side
 shape (Closed proof) = closed proof.value.side proof.value.tree
 shape (Untried mover plays) = node_with (choices_with mover (plays_and_pass plays) [])
 shape (Expanded aim children) = node_with (choices_of aim.mover children)
-shape (Offered mover edges grown proof) = node_with (choices_with mover edges grown.items)
+shape (Offered mover children proof) = node_with (choices_of mover children.value)

@@ -46,7 +46,7 @@ impl Node {
             Growth::Closed(proof) => proof.footprint_at(alloc, line),
             Growth::Untried(_, _) => unreachable!(),
             Growth::Expanded(aim, children) => children.footprint(alloc, line, aim.mover, side),
-            Growth::Offered(_, _, _, proof) => offered_footprint(alloc, line, proof),
+            Growth::Offered(_, _, proof) => offered_footprint(alloc, line, proof),
         }
     }
 

@@ -15,7 +15,7 @@ ghost use Rattle.tt_search.specs.Kept.{IsKept};
 ghost use Rattle.tt_search.specs.Untried.{plays_and_pass, AreUntried};
 
 use crate::children::{Aim, Packed};
-use crate::edge_row::{Edges, Few};
+use crate::edge_row::Edges;
 use crate::edges::{Edge, Mark};
 use crate::node::{Growth, Node};
 use crate::numbers::{Pair, decided_number};
@@ -100,40 +100,6 @@ fn edges_at(alloc: Global, line: &Line, survey: &Survey) -> Result<Edges, NoMemo
     Edges::of(alloc, edges.as_slice())
 }
 
-/// The same edges where they are few: none where a node itself has no room for them. They are written where they are kept.
-fn few_edges_at(line: &Line, survey: &Survey) -> Option<Edges>
-    requires open { winner_of line.now.frame line.now.state ≡ None }
-    requires survey { IsSurvey survey.now line.now.frame line.now.state }
-    ensures { IfSome result (λ edges. AreNewEdges line.now.frame line.now.state edges) }
-{
-    let mut edges = Few::new();
-    let mut from = 0;
-    while let Some((p, winner)) = line.next_play(survey, from) {
-        if !edges.push(new_edge(Turn::Play(p), winner)) {
-            return None;
-        }
-        from = p.number() + 1;
-    }
-    if !edges.push(new_edge(Turn::Pass, line.winner_by_pass())) {
-        return None;
-    }
-    Some(edges.into_row())
-}
-
-/// The edges of the line's legal turns, to new leaves: of few at once where they are kept.
-fn new_edges_at(alloc: Global, line: &Line, survey: &Survey) -> Result<Edges, NoMemory>
-    requires open { winner_of line.now.frame line.now.state ≡ None }
-    requires survey { IsSurvey survey.now line.now.frame line.now.state }
-    ensures { IfOk result (λ edges. AreNewEdges line.now.frame line.now.state edges) }
-{
-    if !line.has_many() {
-        if let Some(edges) = few_edges_at(line, survey) {
-            return Ok(edges);
-        }
-    }
-    edges_at(alloc, line, survey)
-}
-
 /// The line's legal plays, where these are many and nobody has won behind any turn.
 fn untried_plays(line: &Line, survey: &Survey) -> Option<Plays>
     requires open { winner_of line.now.frame line.now.state ≡ None }
@@ -204,6 +170,6 @@ pub(crate) fn expanded_at(alloc: Global, line: &Line) -> Result<Node, NoMemory>
     if let Some(plays) = untried_plays(line, &survey) {
         return Ok(untried_node(line.to_move(), plays));
     }
-    let edges = new_edges_at(alloc, line, &survey)?;
+    let edges = edges_at(alloc, line, &survey)?;
     Ok(expanded_node(alloc, line.to_move(), edges))
 }

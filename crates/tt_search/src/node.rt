@@ -3,7 +3,6 @@
 ghost use Rattle.std.specs.Prelude.{◌≡◌};
 
 use crate::children::{Aim, Packed};
-use crate::edge_row::LastEdges;
 use crate::plays::Plays;
 use std::marker::Model;
 use std::sync::Arc;
@@ -20,8 +19,8 @@ pub(crate) struct Node {
 }
 
 /// What a node has become. An expanded node in a large region, where nobody has won behind any turn and none has been tried, has its mover and
-/// the points of its plays. An expanded node that has offered its proof is of its own kind: it has its mover, the edges and the
-/// nodes of its children, and the proof, so that the nodes above take its tree from there.
+/// the points of its plays. An expanded node that has offered its proof is of its own kind: it has its mover, its
+/// children, and the proof, so that the nodes above take its tree from there.
 #[cycle(node)]
 #[derive(Drop)]
 pub(crate) enum Growth {
@@ -30,7 +29,7 @@ pub(crate) enum Growth {
     Closed(Arc<Proof>),
     Untried(Side, Plays),
     Expanded(Aim, Packed),
-    Offered(Side, LastEdges, Vec<Node>, Arc<Proof>),
+    Offered(Side, Box<Packed>, Arc<Proof>),
 }
 
 impl Model for Node {

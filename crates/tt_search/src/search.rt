@@ -2,7 +2,7 @@
 
 ghost use Rattle.std.specs.Prelude.{◌≡◌, ◌+◌, ◌^◌, ◌<◌, ◌≤◌, IfOk};
 ghost use Rattle.tt_search.specs.declared.limits.Step.TheVariants.{Closed};
-ghost use Rattle.tt_search.specs.Numbers.{proof_number, disproof_number, count, IsUndecided};
+ghost use Rattle.tt_search.specs.Numbers.{proof_number, disproof_number, count, IsCapped, IsUndecided};
 ghost use Rattle.tt_search.specs.Growing.{new_leaf, IsGrown};
 ghost use Rattle.tt_search.specs.Searched.{IsProofOf, IsSameProblem, StepOf};
 ghost use Rattle.tt_search.specs.Ended.{EndOf, HasSpent, SpentBy};
@@ -81,8 +81,10 @@ impl Search {
 
     /// The root's proof number and disproof number: 0 to 1,000,000,000 (a greater sum counts as that), or 4,294,967,295,
     /// which is infinite. The first is 0 where the attacker's win is proved, the second where the defender's is.
+    #[tactic(auto, using(crate::proofs::Rows::number_capped))]
     pub fn numbers(&self) -> (u32, u32)
-        ensures { result ≡ (proof_number self.now.tree, disproof_number self.now.tree) }
+        ensures exact { result ≡ (proof_number self.now.tree, disproof_number self.now.tree) }
+        ensures capped { IsCapped result.0 × IsCapped result.1 }
     {
         (
             self.root.number(Side::Attacker),

@@ -20,7 +20,6 @@ ghost use Rattle.tt_search.specs.Packed.{HasItsNodes, children_in, choices_of};
 ghost use Rattle.tt_search.specs.Child.{child_tree};
 
 use crate::children::{Aim, Child, Packed};
-use crate::edge_row::LastEdges;
 use crate::edges::Edge;
 use crate::node::{Growth, Node};
 use crate::numbers::is_same;
@@ -46,7 +45,7 @@ impl Node {
             Growth::Closed(proof) => proof.plan().try_clone(),
             Growth::Untried(_, _) => unreachable!(),
             Growth::Expanded(aim, children) => children.plan(alloc, aim.mover, side),
-            Growth::Offered(_, _, _, proof) => proof.plan().try_clone(),
+            Growth::Offered(_, _, proof) => proof.plan().try_clone(),
         }
     }
 
@@ -82,7 +81,7 @@ impl Node {
         Proof::winning_with(line, side, plan, footprint)
     }
 
-    /// Holds a proof that the node offers, where memory for a handle is left, and for the edges where they are many.
+    /// Holds a proof that the node offers, where memory for a handle is left, and for a box of its children.
     fn hold(&mut self, alloc: Global, proof: &Arc<Proof>)
         requires { IsProofOfTree self.old proof.now.value }
         ensures { self.new ≡ self.old }
@@ -122,19 +121,16 @@ impl Node {
     }
 }
 
-/// What an expanded node with these children becomes with its proof: where memory for its edges is refused, it stays as it is.
+/// What an expanded node with these children becomes with its proof: where memory for their box is refused, it stays as it is.
 fn offered(alloc: Global, aim: Aim, children: Packed, proof: Arc<Proof>) -> Growth
     requires kept { IsKept aim children }
     requires proof { IsProofOfTree (node_with (choices_of aim.mover children)) proof.value }
     ensures same { shape result ≡ node_with (choices_of aim.mover children) }
     ensures holds { HoldsItsOwn result }
 {
-    match LastEdges::of(alloc, &children.edges) {
-        Ok(edges) => {
-            let Packed { edges: _, grown } = children;
-            Growth::Offered(aim.mover, edges, grown, proof)
-        }
-        Err(_) => Growth::Expanded(aim, children),
+    match Box::new(alloc, children) {
+        Ok(children) => Growth::Offered(aim.mover, children, proof),
+        Err(refused) => Growth::Expanded(aim, refused.value),
     }
 }
 

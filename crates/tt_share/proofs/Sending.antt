@@ -18,6 +18,7 @@ use denote.Param.SendFields.{as_row_send, as_row_sync, declared_send, declared_s
 use Rattle.std.proofs.Crossing.{crosses}
 use Rattle.std.specs.contracts.alloc.Global as Global
 use Rattle.std.specs.contracts.impls.GlobalAllocator.TheImpl.{ghosts}
+use Rattle.std.specs.contracts.boxed.Box as Box
 use Rattle.std.specs.contracts.sync.Arc as Arc
 use Rattle.std.specs.contracts.vec.Vec as Vec
 use Rattle.atomic_table.specs.contracts.shared.Seat as TableSeat
@@ -41,7 +42,6 @@ use Rattle.tt_proof.specs.contracts.proven.Proof as Proof
 use Rattle.tt_proof.specs.contracts.proven.Proof.TheInside as Inside
 use Rattle.tt_search.specs.contracts.children.Aim as Aim
 use Rattle.tt_search.specs.contracts.edge_row.Edges as Edges
-use Rattle.tt_search.specs.contracts.edge_row.LastEdges as LastEdges
 use Rattle.tt_search.specs.contracts.limits.Limits as Limits
 use Rattle.tt_search.specs.contracts.plays.Plays as Plays
 use Rattle.tt_search.specs.contracts.node.Node as Node
@@ -192,13 +192,6 @@ aim_field = as_row_send Aim.the_field (search (sendable, crosses, side_send) dep
 edges_send : IsSend Edges.the_row
 edges_send = search (sendable, crosses) depth 40
 
--- more edges of a node that holds its proof stand in a box
-last_edges_send : IsSend LastEdges.the_row
-last_edges_send = search (sendable, crosses, edges_send) depth 40
-
-last_edges_field : IsSend (as_row LastEdges.the_field)
-last_edges_field = as_row_send LastEdges.the_field last_edges_send
-
 -- plays are words, and how many there are
 plays_send : IsSend Plays.the_row
 plays_send = search (sendable, crosses) depth 40
@@ -209,12 +202,12 @@ plays_field = as_row_send Plays.the_field plays_send
 shared_field : IsSend (as_row (Arc.the_field Proof.the_row Global.the_row ghosts))
 shared_field = search (sendable, crosses, shared_send) depth 40
 
--- what a node has become holds packed children, or the nodes that such children had
-growth_layer : (packed nodes : RattleType) → IsSend packed → IsSend nodes → IsSend (NodeKnot.layer-Growth packed nodes)
-growth_layer packed nodes below above =
+-- what a node has become holds packed children, or a box of them
+growth_layer : (packed boxed : RattleType) → IsSend packed → IsSend boxed → IsSend (NodeKnot.layer-Growth packed boxed)
+growth_layer packed boxed below above =
     let children : IsSend (as_row (row_field packed)) = as_row_send (row_field packed) below in
-    let list : IsSend (Vec.the_row nodes Global.the_row ghosts) = search (sendable, crosses, above) depth 40 in
-    variants_send (NodeKnot.type-Growth packed nodes) (
+    let box : IsSend (Box.the_row boxed Global.the_row ghosts) = search (sendable, crosses, above) depth 40 in
+    variants_send (NodeKnot.type-Growth packed boxed) (
       tt,
       (
         (side_send, tt),
@@ -224,7 +217,7 @@ growth_layer packed nodes below above =
             (side_send, (plays_field, tt)),
             (
               (aim_field, (children, tt)),
-              ((side_send, (last_edges_field, (as_row_send (row_field _) list, (shared_field, tt)))), tt),
+              ((side_send, (as_row_send (row_field _) box, (shared_field, tt))), tt),
             ),
           ),
         ),
@@ -240,7 +233,7 @@ node_keeps : (p : Parts NodeKnot.frame) → ((j : Deep.the_members) → IsSend (
 node_keeps p all Deep.member-Node =
     let nodes = all Deep.member-Node in
     let packed : IsSend (NodeKnot.at-Packed p) = rejoined_send _ _ Deep.split-Packed Deep.join-Packed Deep.joins-Packed (packed_layer _ nodes) in
-    let growth : IsSend (NodeKnot.at-Growth p) = rejoined_send _ _ Deep.split-Growth Deep.join-Growth Deep.joins-Growth (growth_layer _ _ packed nodes) in
+    let growth : IsSend (NodeKnot.at-Growth p) = rejoined_send _ _ Deep.split-Growth Deep.join-Growth Deep.joins-Growth (growth_layer _ _ packed packed) in
     let node : IsSend (NodeKnot.at-Node p) = rejoined_send _ _ Deep.split-Node Deep.join-Node Deep.joins-Node (node_layer _ growth) in
     let view : IsSend (NodeKnot.view-Node p) = view_send _ _ _ _ _ node in
     record { owned = view.owned; leaving = λ k x w. tt }

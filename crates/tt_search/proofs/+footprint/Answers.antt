@@ -63,7 +63,7 @@ node::Node::footprint-offered_footprint-requires t c =
     let p = c.in-Offered.proof.value in
     let holds = subst HoldsItsOwn c.in-Offered.is c.self.invariant.1 in
     let is = sym (ap shape c.in-Offered.is) ∙ c.self.view_is in
-    let offered = offered_for c.in-Offered.field-0 c.in-Offered.field-1 c.in-Offered.field-2.items p c.args.side c.args.self.now holds is c.requires.settled in
+    let offered = offered_for c.in-Offered.field-0 c.in-Offered.field-1.value p c.args.side c.args.self.now holds is c.requires.settled in
     let won = makes_proof c.args.side f s c.args.self.now p.tree offered.1 c.requires.settled c.requires.partial c.requires.stays in
     record { wins = subst (λ (q : Proven). IsWon q.side f s q.tree) (sym c.deref-in-Offered.ensures) (subst (λ side. IsWon side f s p.tree) (sym offered.0) won) }
 
@@ -74,7 +74,7 @@ node::Node::footprint-returns-in-Offered-clause-exact t c =
     let p = c.in-Offered.proof.value in
     let holds = subst HoldsItsOwn c.in-Offered.is c.self.invariant.1 in
     let is = sym (ap shape c.in-Offered.is) ∙ c.self.view_is in
-    let offered = offered_for c.in-Offered.field-0 c.in-Offered.field-1 c.in-Offered.field-2.items p c.args.side c.args.self.now holds is c.requires.settled in
+    let offered = offered_for c.in-Offered.field-0 c.in-Offered.field-1.value p c.args.side c.args.self.now holds is c.requires.settled in
     let tree : c.deref-in-Offered.result.now.tree ≡ strategy_for c.args.side c.args.self.now = ap (λ (q : Proven). q.tree) c.deref-in-Offered.ensures ∙ offered.1 in
     subst (λ u. IfOk c.offered_footprint.result (λ x. IsFootprint f s u x)) tree c.offered_footprint.ensures.exact
 

@@ -31,7 +31,7 @@ node::Node::plan-returns-in-Offered t c =
     let p = c.in-Offered.proof.value in
     let holds = subst HoldsItsOwn c.in-Offered.is c.self.invariant.1 in
     let is = sym (ap shape c.in-Offered.is) ∙ c.self.view_is in
-    let tree = (offered_for c.in-Offered.field-0 c.in-Offered.field-1 c.in-Offered.field-2.items p c.args.side c.args.self.now holds is c.requires).1 in
+    let tree = (offered_for c.in-Offered.field-0 c.in-Offered.field-1.value p c.args.side c.args.self.now holds is c.requires).1 in
     let made = c.plan-in-Offered.ensures.plan ∙ ap (λ (q : Proven). q.tree) c.deref-in-Offered.ensures ∙ tree in
     subst (λ u. IfOk c.try_clone-in-Offered.result (λ q. q ≡ u)) made c.try_clone-in-Offered.ensures
 
