@@ -1,10 +1,12 @@
 #!/usr/bin/env python3
 """Checks an answer of tsumego without tsumego: does the certificate win for the problem?
 
-    tools/check_certificate.py [--long] < FILE
+    tools/check_certificate.py [--long] [--parts] < FILE
 
 FILE holds a problem in SGF and behind it a certificate, as for `tsumego check`. The answer is `valid` (status 0), `invalid`
-or `refused NUMBER` (status 1). With --long the input may have more than 1,048,576 bytes.
+or `refused NUMBER` (status 1). With --long the input may have more than 1,048,576 bytes. With --parts the certificate may
+share parts: `=` in front of a `!` or `?` names the tree that begins there, names are counted from 0 in the order in which
+the named trees end, and `*n` stands for the tree of the name n. Where such a part doesn't fit, the answer is `refused 32`.
 
 This file follows docs/FORMATS.md and shares nothing with the program. Whoever has read it need not believe the program.
 """
@@ -200,17 +202,22 @@ class Game:
             return OTHER[self.defender]
         return self.defender if self.passes == 2 else None
 
+    def position(self):
+        return self.board, self.to_move, self.passes
+
     def legal(self, turns):
-        """Those of the turns that are legal, each with the board after it, which a play may not repeat."""
-        boards = {}
+        """Those of the turns that are legal, each with the board after it, and the boards that plays may not repeat."""
+        boards, repeated = {}, set()
         for turn in turns:
             if turn == self.passing:
                 boards[turn] = self.board
             elif turn in self.region and self.board[turn] == EMPTY:
                 board = self.after_play(self.board, self.to_move, turn)
-                if board not in self.earlier:
+                if board in self.earlier:
+                    repeated.add(board)
+                else:
                     boards[turn] = board
-        return boards
+        return boards, repeated
 
 
 def read_problem(nodes):
@@ -232,9 +239,30 @@ def read_problem(nodes):
 # ---- The certificate: read from the left and replayed on the way
 
 
+class Footprint:
+    """Where a tree that wins at a position wins too: at the same position behind other boards, if all that it needs are
+    among them, boards that plays of the other side may not repeat, and none that it avoids, which its own plays make."""
+
+    def __init__(self, needs=(), avoids=()):
+        self.needs, self.avoids = set(needs), set(avoids)
+
+    def join(self, other):
+        self.needs, self.avoids = union(self.needs, other.needs), union(self.avoids, other.avoids)
+
+
+def union(one, other):
+    """Both sets in one; the smaller one is put into the larger."""
+    if len(one) < len(other):
+        one, other = other, one
+    one |= other
+    return one
+
+
 class Certificate:
-    def __init__(self, text, game):
-        self.text, self.at, self.game = text, 0, game
+    def __init__(self, text, game, has_parts):
+        self.text, self.at, self.game, self.has_parts = text, 0, game, has_parts
+        # Of each named tree its footprint, where it stands and wins, its position and its depth.
+        self.named, self.deepest, self.all_fit = [], 0, True
         if self.next(b"killed "):
             self.side = OTHER[game.defender]
         elif self.next(b"lives "):
@@ -248,77 +276,120 @@ class Certificate:
         self.at += len(word) if stands else 0
         return stands
 
+    def goes_to(self, level):
+        """A turn of the level stands here, or in a part that stands here."""
+        if level > MOST_LEVELS:
+            raise Refused(31)
+        self.deepest = max(self.deepest, level)
+
     def turn(self, level, last):
         """The turn here; those of one `?` rise."""
         word = self.text[self.at : self.at + 2]
         turn = self.game.passing if word == b"--" else self.game.point(word)
         if turn is None or turn <= last:
             raise Refused(30)
-        if level > MOST_LEVELS:
-            raise Refused(31)
+        self.goes_to(level)
         self.at += 2
         return turn
 
-    def wins_after(self, turn, board, level):
-        """Whether the tree here wins after the turn."""
-        game = self.game
-        before = game.board, game.to_move, game.passes
+    def tree_after(self, turn, board, level):
+        """The tree here, behind the turn: its footprint as it is in front of the turn, or None where it doesn't win."""
+        game, before = self.game, self.game.position()
         game.make(turn, board)
-        wins = self.wins(level + 1, True)
+        found = self.tree(level + 1, True)
+        game.board, game.to_move, game.passes = before
         if turn != game.passing:
             game.earlier.remove(board)
-        game.board, game.to_move, game.passes = before
-        return wins
+            if found:
+                found.needs.discard(board)
+                found.avoids |= {board} if game.to_move == self.side else set()
+        return found
 
-    def wins(self, level, is_reached):
-        """Reads the tree here, and says whether it wins; one that no play reaches is read only, and doesn't."""
+    def tree(self, level, is_reached):
+        """Reads the tree here: its footprint, or None where it doesn't win, or no play reaches it and it is read only."""
         game = self.game
-        goes_on = is_reached and game.winner() is None
         if self.next(b"."):
-            return is_reached and game.winner() == self.side
+            return Footprint() if is_reached and game.winner() == self.side else None
+        if self.has_parts and self.next(b"*"):
+            return self.part(level, is_reached)
+        if self.has_parts and self.next(b"="):
+            return self.tree_with_name(level, is_reached)
+        goes_on = is_reached and game.winner() is None
         if self.next(b"!"):
             turn = self.turn(level, -1)
-            legal = game.legal([turn]) if goes_on and game.to_move == self.side else {}
-            return self.wins_after(turn, legal[turn], level) if turn in legal else self.wins(level + 1, False)
+            legal, _ = game.legal([turn]) if goes_on and game.to_move == self.side else ({}, None)
+            return self.tree_after(turn, legal[turn], level) if turn in legal else self.tree(level + 1, False)
         if not self.next(b"?"):
             raise Refused(30)
         wins = goes_on and game.to_move != self.side
-        unanswered = game.legal(range(game.passing + 1)) if wins else {}
-        turn = -1
+        unanswered, repeated = game.legal(range(game.passing + 1)) if wins else ({}, set())
+        turn, found = -1, Footprint(repeated)
         while not self.next(b";"):
             turn = self.turn(level, turn)
-            if turn in unanswered:
-                wins = self.wins_after(turn, unanswered.pop(turn), level) and wins
-            else:
-                self.wins(level + 1, False)
-        return wins and not unanswered
+            if turn not in unanswered:
+                self.tree(level + 1, False)
+                continue
+            answer = self.tree_after(turn, unanswered.pop(turn), level)
+            wins = wins and answer is not None
+            if wins and self.has_parts:
+                found.join(answer)
+        return found if wins and not unanswered else None
+
+    # -- Parts
+
+    def tree_with_name(self, level, is_reached):
+        if not self.text.startswith((b"!", b"?"), self.at):
+            raise Refused(30)
+        outside, self.deepest = self.deepest, level - 1
+        found = self.tree(level, is_reached)
+        kept = Footprint(found.needs, found.avoids) if found else None
+        self.named.append((kept, self.game.position(), self.deepest - level + 1))
+        self.deepest = max(outside, self.deepest)
+        return found
+
+    def part(self, level, is_reached):
+        digits = re.compile(rb"0|[1-9][0-9]{0,8}").match(self.text, self.at)
+        if digits is None or int(digits[0]) >= len(self.named):
+            raise Refused(30)
+        self.at = digits.end()
+        kept, position, depth = self.named[int(digits[0])]
+        self.goes_to(level + depth - 1)
+        if not is_reached:
+            return None
+        earlier = self.game.earlier
+        if kept and position == self.game.position() and kept.needs <= earlier and kept.avoids.isdisjoint(earlier):
+            return Footprint(kept.needs, kept.avoids)
+        self.all_fit = False
+        return None
 
 
-def answer(data, is_long=False):
+def answer(data, is_long=False, has_parts=False):
     """The line for the bytes of a problem and a certificate."""
+    # A tree is at most as deep as MOST_LEVELS says.
+    sys.setrecursionlimit(max(sys.getrecursionlimit(), 10 * MOST_LEVELS))
     try:
         if len(data) > MOST_BYTES and not is_long:
             raise Refused(2)
         nodes, text = read_tree(data)
-        certificate = Certificate(text.strip(), read_problem(nodes))
-        wins = certificate.wins(1, True)
+        certificate = Certificate(text.strip(), read_problem(nodes), has_parts)
+        found = certificate.tree(1, True)
         if certificate.at < len(certificate.text):
             raise Refused(30)
-        return "valid" if wins else "invalid"
+        if not certificate.all_fit:
+            raise Refused(32)
+        return "valid" if found else "invalid"
     except Refused as refused:
         return f"refused {refused}"
 
 
 def main():
     options = set(sys.argv[1:])
-    if options - {"--long"}:
+    if options - {"--long", "--parts"}:
         sys.exit(__doc__)
-    line = answer(sys.stdin.buffer.read(), "--long" in options)
+    line = answer(sys.stdin.buffer.read(), "--long" in options, "--parts" in options)
     print(line)
     return 0 if line == "valid" else 1
 
 
 if __name__ == "__main__":
-    # A tree is at most as deep as MOST_LEVELS says.
-    sys.setrecursionlimit(10 * MOST_LEVELS)
     sys.exit(main())
