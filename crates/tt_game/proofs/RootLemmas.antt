@@ -1,7 +1,7 @@
 -- What lines and what is kept of them have in common: the boards of their beginning.
 use Rattle.tt_sgf.specs.declared.size.Size.{Size}
 use Rattle.std.proofs.Common.{◌≡◌, ℕ, ◌<◌, ◌≤◌, min, All, List, [], ◌∷◌, ◌++◌, length, take, drop, reverse, refl, sym, ap, subst, ◌∙◌, arith}
-use Rattle.std.proofs.lemmas.List.{take-append-le, take-append-drop, take_at, drop_at, length-take, drop-map, map-append, reverse-append, length_push}
+use Rattle.std.proofs.lemmas.List.{take-append-le, take-append-drop, take-map, take_at, drop_at, length-take, drop-map, map-append, reverse-append, length_push}
 use Rattle.std.proofs.lemmas.List.Elements.{All-drop}
 use Rattle.tt_board.specs.Position.{Position, Colouring}
 use Rattle.tt_game.specs.declared.frame.Side.{Side}
@@ -101,6 +101,13 @@ two_parts bs later there e =
 pub of_two_parts : (bs later there : List Position) → bs ≡ take (length bs) there → later ≡ drop (length bs) there → bs ++ later ≡ there
 of_two_parts bs later there e f =
     ap (λ xs. xs ++ later) e ∙ ap (λ xs. take (length bs) there ++ xs) f ∙ take-append-drop (length bs) there
+
+-- boards that begin with others show a history that begins as any that goes on from those
+pub begin_alike : (bs later there : List Position) → bs ≡ take (length bs) there → take (length bs) (colourings there) ≡ take (length bs) (colourings (bs ++ later))
+begin_alike bs later there e =
+    take-map (λ (x : Position). x.points) (length bs) there
+    ∙ ap colourings (sym e ∙ sym (take_at bs later (length bs) refl))
+    ∙ sym (take-map (λ (x : Position). x.points) (length bs) (bs ++ later))
 
 -- a state that boards show has their history, and no other boards of their size have it
 pub shows_boards : (g : Size) (bs there : List Position) (passes : ℕ) (side : Side) (s : State) → 0 < length bs

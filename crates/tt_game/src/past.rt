@@ -1,6 +1,6 @@
 //! Where lines stood, kept in little memory.
 
-ghost use Rattle.std.specs.Prelude.{◌≡◌, ◌<◌, ◌++◌, ◌↔◌, length, All, IsTrue, IfOk};
+ghost use Rattle.std.specs.Prelude.{◌≡◌, ◌<◌, ◌≤◌, ◌++◌, ◌↔◌, length, take, All, IsTrue, IfOk};
 ghost use Rattle.std.specs.Arc.{arc_value};
 ghost use Rattle.tt_game.specs.Game.{history};
 ghost use Rattle.tt_game.specs.Keys.{key_of};
@@ -99,6 +99,23 @@ impl Past {
             return false;
         }
         self.root.began_with(&boards[..begun])
+    }
+
+    /// With how many boards the history there and the line's begin alike: with all those of the beginning, where the line has them,
+    /// too, and with none else. It takes no memory.
+    pub fn begun_with(&self, line: &Line) -> usize
+        ensures within { result ≤ length (history line.now.state) }
+        ensures alike { take result (history line.now.state) ≡ take result (history self.now.state) }
+    {
+        let begun = self.root.count();
+        let boards = line.history();
+        if boards.len() < begun {
+            return 0;
+        }
+        if !self.root.began_with(&boards[..begun]) {
+            return 0;
+        }
+        begun
     }
 
     /// Whether the line stands there: with the same frame, history, side to move and passes. It takes no memory.

@@ -1,5 +1,6 @@
 -- What a strategy needs, avoids and meets behind another history: one path and two histories, as where it is shown to win there.
 use Rattle.std.proofs.Common.{◌≡◌, ℕ, ◌⊎◌, ◌↔◌, inl, inr, List, [], ◌∷◌, ◌++◌, ◌∙◌, None, refl, sym, ap, subst, Contains}
+use Rattle.std.proofs.lemmas.List.Elements.{Contains-append_left}
 use Rattle.tt_board.specs.Position.{Colouring}
 use Rattle.tt_board.specs.Decided.{Decision}
 use Rattle.tt_board.specs.Reach.{entry_at}
@@ -192,11 +193,36 @@ module _ (side : Side) (f : Frame) (h k : List Colouring) where
           ),
         )
 
+-- a history stays in the history after a turn
+later : (f : Frame) (a : State) (t : Turn) (c : Colouring) → Contains (history a) c → Contains (history (after f a t)) c
+later f a Pass c m = m
+later f a (Play p) c m = Contains-append_left (history a) (made f a p ∷ []) c m
+
+-- a legal turn makes no colouring of the history
+new_made : (f : Frame) (a : State) (t : Turn) (c : Colouring) → IsLegal f a t → Makes f a t c → Contains (history a) c → ⊥
+new_made f a Pass c l m k = m
+new_made f a (Play p) c l m k = l.4 (subst (λ x. Contains (history a) x) (sym m) k)
+
+module _ (f : Frame) (c : Colouring) where
+  mutual
+    -- what a strategy meets isn't in the history of its state
+    met_new : (u : Strategy) (a : State) → IsMet f u a c → Contains (history a) c → ⊥
+    met_new done a m k = m
+    met_new (pick t u) a m k = met_new u (after f a t) m.1 (later f a t c k)
+    met_new (reply es) a m k = met_new_behind es a m k
+
+    met_new_behind : (es : Entries) (a : State) → IsMetBehind f es a c → Contains (history a) c → ⊥
+    met_new_behind none a m k = m
+    met_new_behind (entry t u es) a (inl (l, inl m)) k = new_made f a t c l m k
+    met_new_behind (entry t u es) a (inl (l, inr m)) k = met_new u (after f a t) m (later f a t c k)
+    met_new_behind (entry t u es) a (inr m) k = met_new_behind es a m k
+
+-- what a strategy meets is in no history that has only those of it that its own has
 pub footprint_carried : (side : Side) (f : Frame) (u : Strategy) (s s' : State) → Wins side f u s → IsInOrder f.size u → Fits f u s s' →
-    ((c : Colouring) → IsMet f u s c → Contains (history s') c → ⊥) →
+    ((c : Colouring) → IsMet f u s c → Contains (history s') c → Contains (history s) c) →
     (c : Colouring)
     → (IsNeeded f (history s) u [] s c ↔ IsNeeded f (history s') u [] s' c) × (IsAvoided f u s c ↔ IsAvoided f u s' c) × (IsMet f u s c ↔ IsMet f u s' c)
-footprint_carried side f u s s' w o fits unmet c =
+footprint_carried side f u s s' w o fits old c =
     same side f (history s) (history s') u [] s s' c
     (record {
       present = fits.present;
@@ -205,4 +231,4 @@ footprint_carried side f u s s' w o fits unmet c =
       before = splits_none (history s);
       now = splits_none (history s');
     })
-    (record { wins = w; order = o; needs = fits.needs; avoids = fits.avoids; met = unmet })
+    (record { wins = w; order = o; needs = fits.needs; avoids = fits.avoids; met = λ d m k. met_new f d u s m (old d m k) })

@@ -1,22 +1,22 @@
--- Lists of boards held by handles, place by place.
-use Rattle.std.proofs.Common.{◌≡◌, ◌≢◌, ◌↔◌, ◌<◌, ◌+◌, ◌⊎◌, ℕ, inl, inr, arith, List, [], ◌∷◌, ◌++◌, length, get_or, map, Contains, sym, ap, subst, ◌∙◌}
+-- Lists of boards: places, and lists that are joined by one walk.
+use Rattle.std.proofs.Common.{◌≡◌, ◌≢◌, ◌↔◌, ◌<◌, ◌+◌, ◌⊎◌, ℕ, zero, suc, inl, inr, arith, List, [], ◌∷◌, ◌++◌, length, get_or, insert, remove, Contains, Option, Some, None, MatchOption, refl, sym, ap, subst, ◌∙◌}
 use Rattle.std.proofs.lemmas.Bool.{cases_lt}
-use Rattle.std.specs.List.{swap_remove}
-use Rattle.std.proofs.lemmas.List.{get_or-map, length-map}
-use Rattle.std.proofs.lemmas.List.Sorted.{IsPermutation-swap_remove, IsPermutation-map, IsPermutation-sym, Contains-permutation}
+use Rattle.std.proofs.lemmas.List.Sorted.{IsPermutation-remove, IsPermutation-insert, IsPermutation-sym, Contains-permutation}
 use Rattle.std.specs.List.Sorted.{IsPermutation}
 use Rattle.std.proofs.lemmas.List.Elements.{Contains-append_left, Contains-append_right, Contains-append_cases}
 use Rattle.tt_board.specs.Position.{Position}
 use Rattle.tt_game.specs.Members.{IsIn, in_of_contains, contains_of_in}
+use Rattle.tt_proof.specs.Collecting.{IsOneLess}
 
--- what a handle shows stands at its place
-pub shown_at : {H : Type 0} (g : H → Position) (hs : List H) (vs : List Position) (n : ℕ) (h : H) → map g hs ≡ vs → n < length hs → h ≡ get_or hs n h →
-    (d : Position) → get_or vs n d ≡ g h
-shown_at g hs vs n h shows lt is d = subst (λ xs. get_or xs n d ≡ g h) shows (get_or-map g hs n h d lt ∙ ap g (sym is))
+-- at a place of the list whatever else is asked for makes no difference
+any_other : (vs : List Position) (n : ℕ) (d h : Position) → n < length vs → get_or vs n d ≡ get_or vs n h
+any_other [] n d h lt = absurd (omega (arith, lt))
+any_other (v ∷ vs) zero d h lt = refl
+any_other (v ∷ vs) (suc n) d h lt = any_other vs n d h (omega (arith, lt))
 
--- there are as many as handles
-pub same_length : {H : Type 0} (g : H → Position) (hs : List H) (vs : List Position) → map g hs ≡ vs → length vs ≡ length hs
-same_length g hs vs shows = ap length (sym shows) ∙ length-map hs g
+-- what is held at a place of the list stands there
+pub shown_at : (hs vs : List Position) (n : ℕ) (h : Position) → hs ≡ vs → n < length hs → h ≡ get_or hs n h → (d : Position) → get_or vs n d ≡ h
+shown_at hs vs n h shows lt is d = subst (λ xs. get_or xs n d ≡ h) shows (any_other hs n d h lt ∙ sym is)
 
 -- what holds at each place below a number and at that one
 pub one_more_place : (vs : List Position) (P : Position → Type 0) (n : ℕ) (x : Position) → ((k : ℕ) (d : Position) → k < n → P (get_or vs k d)) →
@@ -30,7 +30,37 @@ one_more_place vs P n x before here p k d lt = elim (cases_lt k n) [
 pub stands_in : (vs : List Position) (n : ℕ) (x : Position) → n < length vs → ((d : Position) → get_or vs n d ≡ x) → Contains vs x
 stands_in vs n x lt here = (n, lt, here x)
 
+-- the same boards in another order
+pub reordered : (hs ks : List Position) → IsPermutation hs ks → (b : Position) → Contains ks b ↔ Contains hs b
+reordered hs ks p b = (Contains-permutation ks hs b (IsPermutation-sym hs ks p), Contains-permutation hs ks b p)
+
+-- two lists in the other order
+pub other_order : (A B C : Type 0) → (C ↔ (A ⊎ B)) → C ↔ (B ⊎ A)
+other_order A B C h = (λ c. turn (h.0 c), λ w. h.1 (turn w))
+  where
+    turn : {X Y : Type 0} → X ⊎ Y → Y ⊎ X
+    turn (inl x) = inr x
+    turn (inr y) = inl y
+
 -- one more is in the list
+one_first : (vs : List Position) (x b : Position) → Contains (x ∷ vs) b ↔ (Contains vs b ⊎ (b ≡ x))
+one_first vs x b = (λ m. to (in_of_contains (x ∷ vs) b m), back)
+  where
+    to : IsIn (x ∷ vs) b → Contains vs b ⊎ (b ≡ x)
+    to (inl e) = inr (sym e)
+    to (inr m) = inl (contains_of_in vs b m)
+
+    back : Contains vs b ⊎ (b ≡ x) → Contains (x ∷ vs) b
+    back (inl m) = contains_of_in (x ∷ vs) b (inr (in_of_contains vs b m))
+    back (inr e) = contains_of_in (x ∷ vs) b (inl (sym e))
+
+both : {A B C : Type 0} → (A ↔ B) → (B ↔ C) → A ↔ C
+both h k = (λ a. k.0 (h.0 a), λ c. h.1 (k.1 c))
+
+-- so it is at a place, and at the end
+pub inserted : (vs : List Position) (k : ℕ) (x b : Position) → Contains (insert vs k x) b ↔ (Contains vs b ⊎ (b ≡ x))
+inserted vs k x b = both (reordered (x ∷ vs) (insert vs k x) (IsPermutation-insert vs k x) b) (one_first vs x b)
+
 pub pushed : (vs : List Position) (x b : Position) → Contains (vs ++ x ∷ []) b ↔ (Contains vs b ⊎ (b ≡ x))
 pushed vs x b = (λ m. to (Contains-append_cases vs (x ∷ []) b m), back)
   where
@@ -54,72 +84,118 @@ held_already vs x b m = (λ w. inl w, back)
     back (inl w) = w
     back (inr e) = subst (λ y. Contains vs y) (sym e) m
 
--- one that is taken from the end of a second list and held by the first is still in one of them
-pub moved_one : (A A' O : Position → Type 0) (rest less : List Position) (x : Position) → rest ≡ less ++ x ∷ [] → ((b : Position) → A' b ↔ (A b ⊎ (b ≡ x))) →
-    ((b : Position) → (A b ⊎ Contains rest b) ↔ O b) → (b : Position) → (A' b ⊎ Contains less b) ↔ O b
-moved_one A A' O rest less x is more all b = (λ w. (all b).0 (back w), λ o. forth ((all b).1 o))
+-- where one of two lists is empty, the other one holds all
+pub right_empty : (l r : List Position) → r ≡ [] → (b : Position) → Contains l b ↔ (Contains l b ⊎ Contains r b)
+right_empty l r e b = (λ m. inl m, back)
   where
-    both : Contains rest b ↔ (Contains less b ⊎ (b ≡ x))
-    both = subst (λ xs. Contains xs b ↔ (Contains less b ⊎ (b ≡ x))) (sym is) (pushed less x b)
+    back : Contains l b ⊎ Contains r b → Contains l b
+    back (inl m) = m
+    back (inr m) = absurd (in_of_contains [] b (subst (λ xs. Contains xs b) e m))
 
-    held : A b ⊎ (b ≡ x) → A b ⊎ Contains rest b
-    held (inl a) = inl a
-    held (inr e) = inr (both.1 (inr e))
+-- what holds the boards of two lists holds those of both, whichever is which
+pub either_way : (now more fewer old others : List Position) → ((more ≡ others) × (fewer ≡ old)) ⊎ ((more ≡ old) × (fewer ≡ others)) →
+    ((b : Position) → Contains now b ↔ (Contains more b ⊎ Contains fewer b)) → (b : Position) → Contains now b ↔ (Contains old b ⊎ Contains others b)
+either_way now more fewer old others (inl w) h b =
+    other_order _ _ _ (subst (λ xs. Contains now b ↔ (Contains xs b ⊎ Contains old b)) w.0 (subst (λ xs. Contains now b ↔ (Contains more b ⊎ Contains xs b)) w.1 (h b)))
+either_way now more fewer old others (inr w) h b =
+    subst (λ xs. Contains now b ↔ (Contains xs b ⊎ Contains others b)) w.0 (subst (λ xs. Contains now b ↔ (Contains more b ⊎ Contains xs b)) w.1 (h b))
 
-    back : A' b ⊎ Contains less b → A b ⊎ Contains rest b
-    back (inl a) = held ((more b).0 a)
-    back (inr m) = inr (both.1 (inl m))
-
-    left : Contains less b ⊎ (b ≡ x) → A' b ⊎ Contains less b
-    left (inl m) = inr m
-    left (inr e) = inl ((more b).1 (inr e))
-
-    forth : A b ⊎ Contains rest b → A' b ⊎ Contains less b
-    forth (inl a) = inl ((more b).1 (inl a))
-    forth (inr m) = left (both.0 m)
-
--- where nothing is left in the second list, the first one holds all
-pub moved_all : (A O : Position → Type 0) (rest : List Position) → rest ≡ [] → ((b : Position) → (A b ⊎ Contains rest b) ↔ O b) → (b : Position) → A b ↔ O b
-moved_all A O rest e all b = (λ a. (all b).0 (inl a), λ o. to ((all b).1 o))
+-- what an empty list got of two, in another order, holds the boards of both
+pub from_empty : (now all none mine old others : List Position) → ((b : Position) → Contains now b ↔ Contains all b) →
+    ((b : Position) → Contains all b ↔ (Contains none b ⊎ (Contains mine b ⊎ Contains others b))) → none ≡ [] → mine ≡ old →
+    (b : Position) → Contains now b ↔ (Contains old b ⊎ Contains others b)
+from_empty now all none mine old others same h empty is b =
+    subst (λ xs. Contains now b ↔ (Contains xs b ⊎ Contains others b)) is (λ m. to ((h b).0 ((same b).0 m)), λ w. (same b).1 ((h b).1 (inr w)))
   where
-    to : A b ⊎ Contains rest b → A b
-    to (inl a) = a
-    to (inr m) = absurd (in_of_contains [] b (subst (λ xs. Contains xs b) e m))
+    to : Contains none b ⊎ (Contains mine b ⊎ Contains others b) → Contains mine b ⊎ Contains others b
+    to (inl m) = absurd (in_of_contains [] b (subst (λ xs. Contains xs b) empty m))
+    to (inr w) = w
 
--- two lists in the other order
-pub other_order : (A B C : Type 0) → (C ↔ (A ⊎ B)) → C ↔ (B ⊎ A)
-other_order A B C h = (λ c. turn (h.0 c), λ w. h.1 (turn w))
+-- where the left list had some, its last one is what it gave
+pub left_gave : (o : Option Position) (l l' r : List Position) → 0 < length l →
+    MatchOption o ((l ≡ []) × (l' ≡ [])) (λ x. l ≡ l' ++ x ∷ []) → MatchOption o ((l ≡ []) × (r ≡ [])) (λ x. IsOneLess l l' r r x)
+left_gave (Some x) l l' r some h = inl (h, refl)
+left_gave None l l' r some h = let e = ap length h.0 in absurd (omega (arith, e, some))
+
+-- so it is with the right list
+pub right_gave : (o : Option Position) (l r r' : List Position) → 0 < length r →
+    MatchOption o ((r ≡ []) × (r' ≡ [])) (λ x. r ≡ r' ++ x ∷ []) → MatchOption o ((l ≡ []) × (r ≡ [])) (λ x. IsOneLess l l r r' x)
+right_gave (Some x) l r r' some h = inr (h, refl)
+right_gave None l r r' some h = let e = ap length h.0 in absurd (omega (arith, e, some))
+
+-- what left one of two and came to a third is in one of the three still
+shuffled : {O O' A A' B B' E : Type 0} → (O' ↔ (O ⊎ E)) → (A ↔ (A' ⊎ E)) → (B ↔ B') → (O' ⊎ (A' ⊎ B')) ↔ (O ⊎ (A ⊎ B))
+shuffled {O} {O'} {A} {A'} {B} {B'} {E} out from same = (to, back)
   where
-    turn : {X Y : Type 0} → X ⊎ Y → Y ⊎ X
-    turn (inl x) = inr x
-    turn (inr y) = inl y
+    come : O ⊎ E → O ⊎ (A ⊎ B)
+    come (inl o) = inl o
+    come (inr e) = inr (inl (from.1 (inr e)))
 
--- where the handle at a place is taken out, a board that was held is still held, or it is the one that the handle shows
-pub swapped_out : {H : Type 0} (g : H → Position) (hs : List H) (k : ℕ) (h : H) → k < length hs → h ≡ get_or hs k h → (b : Position) →
-    Contains (map g hs) b ↔ (Contains (map g (swap_remove hs k h)) b ⊎ (get_or (map g hs) k b ≡ b))
-swapped_out g hs k h lt is b = (to, back)
+    to : O' ⊎ (A' ⊎ B') → O ⊎ (A ⊎ B)
+    to (inl o) = come (out.0 o)
+    to (inr (inl a)) = inr (inl (from.1 (inl a)))
+    to (inr (inr b)) = inr (inr (same.1 b))
+
+    gone : A' ⊎ E → O' ⊎ (A' ⊎ B')
+    gone (inl a) = inr (inl a)
+    gone (inr e) = inl (out.1 (inr e))
+
+    back : O ⊎ (A ⊎ B) → O' ⊎ (A' ⊎ B')
+    back (inl o) = inl (out.1 (inl o))
+    back (inr (inl a)) = gone (from.0 a)
+    back (inr (inr b)) = inr (inr (same.0 b))
+
+swapped : {O A B : Type 0} → O ⊎ (A ⊎ B) → O ⊎ (B ⊎ A)
+swapped (inl o) = inl o
+swapped (inr (inl a)) = inr (inr a)
+swapped (inr (inr b)) = inr (inl b)
+
+-- one step of the walk over two lists
+pub walked : (Out Out' All : Position → Type 0) (l l' r r' : List Position) (x : Position) → IsOneLess l l' r r' x →
+    ((b : Position) → Out' b ↔ (Out b ⊎ (b ≡ x))) → ((b : Position) → (Out b ⊎ (Contains l b ⊎ Contains r b)) ↔ All b) →
+    (b : Position) → (Out' b ⊎ (Contains l' b ⊎ Contains r' b)) ↔ All b
+walked Out Out' All l l' r r' x (inl h) out all b =
+    let from = subst (λ xs. Contains xs b ↔ (Contains l' b ⊎ (b ≡ x))) (sym h.0) (pushed l' x b) in
+    let same = subst (λ xs. Contains r b ↔ Contains xs b) (sym h.1) (λ m. m, λ m. m) in
+    let three = shuffled (out b) from same in
+    (λ w. (all b).0 (three.0 w), λ w. three.1 ((all b).1 w))
+walked Out Out' All l l' r r' x (inr h) out all b =
+    let from = subst (λ xs. Contains xs b ↔ (Contains r' b ⊎ (b ≡ x))) (sym h.0) (pushed r' x b) in
+    let same = subst (λ xs. Contains l b ↔ Contains xs b) (sym h.1) (λ m. m, λ m. m) in
+    let three = shuffled (out b) from same in
+    (λ w. (all b).0 (swapped (three.0 (swapped w))), λ w. swapped (three.1 (swapped ((all b).1 w))))
+
+-- its end
+pub ended : (Out All : Position → Type 0) (l r : List Position) → l ≡ [] → r ≡ [] →
+    ((b : Position) → (Out b ⊎ (Contains l b ⊎ Contains r b)) ↔ All b) → (b : Position) → Out b ↔ All b
+ended Out All l r no_l no_r all b = (λ o. (all b).0 (inl o), λ w. last ((all b).1 w))
   where
-    shuffled : IsPermutation (map g hs) (g h ∷ map g (swap_remove hs k h))
-    shuffled = IsPermutation-map g hs (h ∷ swap_remove hs k h) (IsPermutation-swap_remove hs k h lt is)
+    none : (xs : List Position) → xs ≡ [] → Contains xs b → Out b
+    none xs e m = absurd (in_of_contains [] b (subst (λ ys. Contains ys b) e m))
 
-    there : get_or (map g hs) k b ≡ g h
-    there = get_or-map g hs k h b lt ∙ ap g (sym is)
+    last : Out b ⊎ (Contains l b ⊎ Contains r b) → Out b
+    last (inl o) = o
+    last (inr (inl m)) = none l no_l m
+    last (inr (inr m)) = none r no_r m
 
-    first : IsIn (g h ∷ map g (swap_remove hs k h)) b → Contains (map g (swap_remove hs k h)) b ⊎ (get_or (map g hs) k b ≡ b)
-    first (inl e) = inr (there ∙ e)
-    first (inr m) = inl (contains_of_in (map g (swap_remove hs k h)) b m)
+-- where a place is taken out, a board that was held is still held, or it is the one that stood there
+pub taken_out : (vs : List Position) (k : ℕ) (h : Position) → k < length vs → h ≡ get_or vs k h → (b : Position) →
+    Contains vs b ↔ (Contains (remove vs k) b ⊎ (get_or vs k b ≡ b))
+taken_out vs k h lt is b = (λ m. to (held.0 m), λ w. held.1 (from w))
+  where
+    there : get_or vs k b ≡ h
+    there = any_other vs k b h lt ∙ sym is
 
-    to : Contains (map g hs) b → Contains (map g (swap_remove hs k h)) b ⊎ (get_or (map g hs) k b ≡ b)
-    to m = first (in_of_contains (g h ∷ map g (swap_remove hs k h)) b (Contains-permutation (map g hs) (g h ∷ map g (swap_remove hs k h)) b shuffled m))
+    held : Contains vs b ↔ (Contains (remove vs k) b ⊎ (b ≡ h))
+    held = both (reordered (h ∷ remove vs k) vs (IsPermutation-sym vs (h ∷ remove vs k) (IsPermutation-remove vs k h lt is)) b) (one_first (remove vs k) h b)
 
-    held : IsIn (g h ∷ map g (swap_remove hs k h)) b → Contains (map g hs) b
-    held m =
-        Contains-permutation (g h ∷ map g (swap_remove hs k h)) (map g hs) b (IsPermutation-sym (map g hs) (g h ∷ map g (swap_remove hs k h)) shuffled)
-        (contains_of_in (g h ∷ map g (swap_remove hs k h)) b m)
+    to : Contains (remove vs k) b ⊎ (b ≡ h) → Contains (remove vs k) b ⊎ (get_or vs k b ≡ b)
+    to (inl m) = inl m
+    to (inr e) = inr (there ∙ sym e)
 
-    back : Contains (map g (swap_remove hs k h)) b ⊎ (get_or (map g hs) k b ≡ b) → Contains (map g hs) b
-    back (inl m) = held (inr (in_of_contains (map g (swap_remove hs k h)) b m))
-    back (inr e) = held (inl (sym there ∙ e))
+    from : Contains (remove vs k) b ⊎ (get_or vs k b ≡ b) → Contains (remove vs k) b ⊎ (b ≡ h)
+    from (inl m) = inl m
+    from (inr e) = inr (sym e ∙ there)
 
 -- where a place that shows this board is taken out, each other board is held as before
 pub others_stay : (old now less : List Position) (x : Position) (k : ℕ) → ((d : Position) → get_or now k d ≡ x) →

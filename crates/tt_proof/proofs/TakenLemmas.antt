@@ -1,49 +1,25 @@
--- Where a proof's own footprint may be taken: numbers of stones and marks tell that the history has nothing that its tree meets.
-use Rattle.std.proofs.Common.{◌≡◌, ◌↔◌, ◌-◌, ◌∙◌, inl, inr, List, [], ◌∷◌, ◌++◌, length, take, All, Contains, arith, sym, ap, subst}
+-- Where a proof's own footprint may be taken: behind a beginning that both histories have, a bound tells that nothing is met.
+use Rattle.std.proofs.Common.{◌≡◌, ◌↔◌, ◌⊎◌, ℕ, zero, suc, ◌-◌, ◌∙◌, inl, inr, List, [], ◌∷◌, ◌++◌, length, take, drop, All, Contains, arith, sym, ap, subst}
 use Rattle.std.proofs.Math.Seq.{take-append_seam}
-use Rattle.std.proofs.lemmas.List.{take-map, length-map, length-append}
-use Rattle.std.proofs.lemmas.List.Elements.{All-take, All-contains, Contains-append_left, Contains-append_right, Contains-append_cases}
+use Rattle.std.proofs.lemmas.List.{take-map, drop-map, length-map, length-append}
+use Rattle.std.proofs.lemmas.List.Elements.{All-take, All-drop, All-contains, Contains-append_right}
 use Rattle.tt_board.specs.Position.{Position, Colouring, colourings}
-use Rattle.tt_game.specs.Game.{State, IsLegal, after, history, made}
+use Rattle.tt_game.specs.Game.{State, history}
 use Rattle.tt_game.specs.Members.{IsIn, in_of_contains, contains_of_in}
 use Rattle.tt_game.specs.declared.frame.Frame.{Frame}
-use Rattle.tt_game.specs.declared.turns.Turn.{Turn}
-use Rattle.tt_game.specs.declared.turns.Turn.TheVariants.{Play, Pass}
 use Rattle.tt_proof.specs.declared.footprints.Footprint.{Footprint}
 use Rattle.tt_proof.specs.Bounds.{IsReached}
-use Rattle.tt_proof.specs.Strategy.{Strategy, Entries, done, pick, reply, none, entry}
 use Rattle.tt_proof.specs.Proven.{Proven, IsWon, FitsAt}
-use Rattle.tt_proof.specs.Footprints.{IsMet, IsMetBehind, Makes}
+use Rattle.tt_proof.specs.Footprints.{IsMet}
 use Rattle.tt_proof.specs.KeptFootprints.{IsFootprint, frame_board}
 use Rattle.tt_proof.proofs.CarryLemmas.{footprint_carried}
 use Rattle.tt_proof.proofs.FittingLemmas.{board_in}
 
--- a history stays in the history after a turn
-later : (f : Frame) (a : State) (t : Turn) (c : Colouring) → Contains (history a) c → Contains (history (after f a t)) c
-later f a Pass c m = m
-later f a (Play p) c m = Contains-append_left (history a) (made f a p ∷ []) c m
-
--- a legal turn makes no colouring of the history
-new_made : (f : Frame) (a : State) (t : Turn) (c : Colouring) → IsLegal f a t → Makes f a t c → Contains (history a) c → ⊥
-new_made f a Pass c l m k = m
-new_made f a (Play p) c l m k = l.4 (subst (λ x. Contains (history a) x) (sym m) k)
-
-module _ (f : Frame) (c : Colouring) where
-  mutual
-    -- what a strategy meets isn't in the history of its state
-    met_new : (u : Strategy) (a : State) → IsMet f u a c → Contains (history a) c → ⊥
-    met_new done a m k = m
-    met_new (pick t u) a m k = met_new u (after f a t) m.1 (later f a t c k)
-    met_new (reply es) a m k = met_new_behind es a m k
-
-    met_new_behind : (es : Entries) (a : State) → IsMetBehind f es a c → Contains (history a) c → ⊥
-    met_new_behind none a m k = m
-    met_new_behind (entry t u es) a (inl (l, inl m)) k = new_made f a t c l m k
-    met_new_behind (entry t u es) a (inl (l, inr m)) k = met_new u (after f a t) m (later f a t c k)
-    met_new_behind (entry t u es) a (inr m) k = met_new_behind es a m k
-
 -- all but the last one
-all_but_last : {X : Type 0} (ys : List X) (y : X) → take (length (ys ++ y ∷ []) - 1) (ys ++ y ∷ []) ≡ ys
+abbrev front : List Colouring → List Colouring
+front cs = take (length cs - 1) cs
+
+all_but_last : (ys : List Colouring) (y : Colouring) → front (ys ++ y ∷ []) ≡ ys
 all_but_last ys y =
     let n : length (ys ++ y ∷ []) - 1 ≡ length ys = omega (arith, length-append ys (y ∷ [])) in
     ap (λ k. take k (ys ++ y ∷ [])) n ∙ take-append_seam ys (y ∷ [])
@@ -51,30 +27,54 @@ all_but_last ys y =
 both : {A B C : Type 0} → (A ↔ B) → (B ↔ C) → A ↔ C
 both h k = (λ a. k.0 (h.0 a), λ c. h.1 (k.1 c))
 
-module _ (p : Proven) (f : Frame) (s : State) (x : Footprint) (bs : List Position) (shows : colourings bs ≡ history s)
-    (sizes : All (λ (b : Position). b.size ≡ f.size) bs) (low : All (λ b. IsReached x.low b → ⊥) (take (length bs - 1) bs)) where
-  -- the boards before the last one are those of the colourings before the present one
-  low_before : (c : Colouring) → IsIn s.earlier c → IsReached x.low (frame_board f c) → ⊥
-  low_before c m =
-      let few : take (length (colourings bs) - 1) (colourings bs) ≡ s.earlier =
-      subst (λ cs. take (length cs - 1) cs ≡ s.earlier) (sym shows) (all_but_last s.earlier s.present) in
-      let same : colourings (take (length bs - 1) bs) ≡ s.earlier =
-      sym (take-map (λ b. b.points) (length bs - 1) bs) ∙ ap (λ n. take (n - 1) (colourings bs)) (sym (length-map bs (λ b. b.points))) ∙ few in
-      let sized = All-take (λ (b : Position). b.size ≡ f.size) (length bs - 1) bs sizes in
-      let there = board_in f (take (length bs - 1) bs) c sized (subst (λ cs. IsIn cs c) (sym same) m) in
-      All-contains (λ b. IsReached x.low b → ⊥) (take (length bs - 1) bs) (frame_board f c) low (contains_of_in (take (length bs - 1) bs) (frame_board f c) there)
+-- a colouring of one list is in it or is the last one
+before_last : (ys : List Colouring) (y c : Colouring) → IsIn (ys ++ y ∷ []) c → IsIn (front (ys ++ y ∷ [])) c ⊎ (y ≡ c)
+before_last [] y c (inl e) = inr e
+before_last [] y c (inr w) = absurd w
+before_last (x ∷ ys) y c (inl e) = inl (subst (λ cs. IsIn cs c) (sym (all_but_last (x ∷ ys) y)) (inl e))
+before_last (x ∷ ys) y c (inr m) = elim (before_last ys y c m) [
+  | inl w ↦ inl (subst (λ cs. IsIn cs c) (sym (all_but_last (x ∷ ys) y)) (inr (subst (λ cs. IsIn cs c) (all_but_last ys y) w)))
+  | inr e ↦ inr e
+]
 
-  -- so what the tree meets isn't in the history
+-- it is among the first so many, or among those behind them but the last, or is the last one
+three_parts : (n : ℕ) (ys : List Colouring) (y c : Colouring) → IsIn (ys ++ y ∷ []) c →
+    IsIn (take n (ys ++ y ∷ [])) c ⊎ (IsIn (front (drop n (ys ++ y ∷ []))) c ⊎ (y ≡ c))
+three_parts zero ys y c m = inr (before_last ys y c m)
+three_parts (suc n) [] y c (inl e) = inl (inl e)
+three_parts (suc n) [] y c (inr w) = absurd w
+three_parts (suc n) (x ∷ ys) y c (inl e) = inl (inl e)
+three_parts (suc n) (x ∷ ys) y c (inr m) = elim (three_parts n ys y c m) [ inl w ↦ inl (inr w) | inr w ↦ inr w ]
+
+-- the first so many are in the list
+taken_in : (n : ℕ) (xs : List Colouring) (c : Colouring) → IsIn (take n xs) c → IsIn xs c
+taken_in zero xs c w = absurd w
+taken_in (suc n) [] c w = absurd w
+taken_in (suc n) (x ∷ xs) c (inl e) = inl e
+taken_in (suc n) (x ∷ xs) c (inr m) = inr (taken_in n xs c m)
+
+module _ (p : Proven) (f : Frame) (s : State) (x : Footprint) (bs : List Position) (shows : colourings bs ≡ history s)
+    (sizes : All (λ (b : Position). b.size ≡ f.size) bs) (n : ℕ) (alike : take n (history s) ≡ take n (history p.state))
+    (low : All (λ b. IsReached x.low b → ⊥) (take (length (drop n bs) - 1) (drop n bs))) where
+  -- the boards behind the first ones, but the last one, are those of the colourings there
+  low_behind : (c : Colouring) → IsIn (front (drop n (history s))) c → IsReached x.low (frame_board f c) → ⊥
+  low_behind c m =
+      let k = length (drop n bs) - 1 in
+      let same : colourings (take k (drop n bs)) ≡ front (drop n (history s)) =
+      sym (take-map (λ b. b.points) k (drop n bs)) ∙ ap (λ n'. take (n' - 1) (colourings (drop n bs))) (sym (length-map (drop n bs) (λ b. b.points)))
+      ∙ ap front (sym (drop-map (λ b. b.points) n bs)) ∙ ap (λ cs. front (drop n cs)) shows in
+      let sized = All-take (λ (b : Position). b.size ≡ f.size) k (drop n bs) (All-drop (λ (b : Position). b.size ≡ f.size) n bs sizes) in
+      let there = board_in f (take k (drop n bs)) c sized (subst (λ cs. IsIn cs c) (sym same) m) in
+      All-contains (λ b. IsReached x.low b → ⊥) (take k (drop n bs)) (frame_board f c) low (contains_of_in (take k (drop n bs)) (frame_board f c) there)
+
+  -- so what the tree meets is in the line's history only where it is in the proof's
   unmet : p.frame ≡ f → IsFootprint p.frame p.state p.tree x → s.present ≡ p.state.present → (c : Colouring) → IsMet p.frame p.tree p.state c →
-      Contains (history s) c → ⊥
-  unmet frame foot same c m k = elim (Contains-append_cases s.earlier (s.present ∷ []) c k) [
-    | inl before ↦ low_before c (in_of_contains s.earlier c before) (subst (λ g. IsReached x.low (frame_board g c)) frame (foot.met c m))
-    | inr last ↦ met_new p.frame c p.tree p.state m (here (in_of_contains (s.present ∷ []) c last))
+      Contains (history s) c → Contains (history p.state) c
+  unmet frame foot same c m k = elim (three_parts n s.earlier s.present c (in_of_contains (history s) c k)) [
+    | inl begun ↦ contains_of_in (history p.state) c (taken_in n (history p.state) c (subst (λ cs. IsIn cs c) alike begun))
+    | inr (inl behind) ↦ absurd (low_behind c behind (subst (λ g. IsReached x.low (frame_board g c)) frame (foot.met c m)))
+    | inr (inr e) ↦ Contains-append_right p.state.earlier (p.state.present ∷ []) c (contains_of_in (p.state.present ∷ []) c (inl (sym same ∙ e)))
   ]
-    where
-      here : IsIn (s.present ∷ []) c → Contains (history p.state) c
-      here (inl e) = Contains-append_right p.state.earlier (p.state.present ∷ []) c (contains_of_in (p.state.present ∷ []) c (inl (sym same ∙ e)))
-      here (inr w) = absurd w
 
   -- where the tree fits, its footprint there is its own
   pub footprint_taken : IsWon p.side p.frame p.state p.tree → FitsAt p f s → IsFootprint p.frame p.state p.tree x → IsFootprint f s p.tree x

@@ -1,5 +1,5 @@
 -- What the parts of a walk for a footprint find.
-use Rattle.std.specs.Prelude.{◌≡◌, ◌≢◌, ◌↔◌, ◌⊎◌, ℕ, ◌<◌, ◌≤◌, List, Contains}
+use Rattle.std.specs.Prelude.{◌≡◌, ◌≢◌, ◌↔◌, ◌⊎◌, ℕ, ◌<◌, ◌≤◌, List, [], ◌∷◌, ◌++◌, Contains}
 use Rattle.std.specs.Int.{bit_at}
 use Rattle.tt_board.specs.Position.{Position, Colouring}
 use Rattle.tt_game.specs.Game.{State, IsBarred, made}
@@ -40,3 +40,8 @@ pub record IsNoHigher (low other : Bound) : Type 0 where
 abbrev pub IsReachedBy : Turn → Position → Bound → Type 0
 IsReachedBy Pass b low = Unit {0}
 IsReachedBy (Play p) b low = IsReached low b
+
+-- one of two lists gave its last board, and the other is as before
+abbrev pub IsOneLess : List Position → List Position → List Position → List Position → Position → Type 0
+IsOneLess left left' right right' b =
+    ((left ≡ left' ++ b ∷ []) × (right' ≡ right)) ⊎ ((right ≡ right' ++ b ∷ []) × (left' ≡ left))

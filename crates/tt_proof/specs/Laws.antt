@@ -24,12 +24,12 @@ WinningForces = (side : Side) (f : Frame) (u : Strategy) (s : State) → Wins si
 abbrev pub FittingWins : Type 0
 FittingWins = (side : Side) (f : Frame) (u : Strategy) (s s' : State) → Wins side f u s → Fits f u s s' → Wins side f u s'
 
--- where a strategy fits, and the history has no colouring that it meets, it needs, avoids and meets there what it does at its
--- own state
+-- where a strategy fits, and the history has no colouring that it meets but what its own history has, it needs, avoids and meets
+-- there what it does at its own state
 abbrev pub FootprintsCarried : Type 0
 FootprintsCarried =
     (side : Side) (f : Frame) (u : Strategy) (s s' : State) → Wins side f u s → IsInOrder f.size u → Fits f u s s'
-    → ((c : Colouring) → IsMet f u s c → Contains (history s') c → ⊥)
+    → ((c : Colouring) → IsMet f u s c → Contains (history s') c → Contains (history s) c)
     → (c : Colouring)
     → (IsNeeded f (history s) u [] s c ↔ IsNeeded f (history s') u [] s' c) × (IsAvoided f u s c ↔ IsAvoided f u s' c) × (IsMet f u s c ↔ IsMet f u s' c)
 

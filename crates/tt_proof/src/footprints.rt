@@ -138,8 +138,7 @@ fn take_made(needs: &mut SharedBoards, turn: &Turn, board: &Board)
     }
 }
 
-/// Adds the board that a play made; a pass made none. A play behind it would repeat that board, so a legal one doesn't make
-/// it, and it isn't among those that are avoided yet.
+/// Adds the board that a play made; a pass made none.
 fn put_played(
     alloc: Global,
     avoids: &mut SharedBoards,
@@ -150,7 +149,7 @@ fn put_played(
 {
     match turn {
         Turn::Pass => Ok(()),
-        Turn::Play(_) => avoids.add_unseen(alloc, board),
+        Turn::Play(_) => avoids.add(alloc, board),
     }
 }
 

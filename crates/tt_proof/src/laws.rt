@@ -13,7 +13,8 @@ pub fn l3()
 {}
 
 /// A footprint may be taken to another history without a walk through its tree: where the tree fits, and the history has no
-/// colouring that a turn makes which the tree answers, the tree needs and avoids there what it did.
+/// colouring that a turn makes which the tree answers, the tree needs and avoids there what it did. What both histories have
+/// needs no look: a board that is in the tree's own history is made by no such turn.
 pub fn carried()
     ensures { FootprintsCarried }
 {}

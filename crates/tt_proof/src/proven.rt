@@ -199,9 +199,9 @@ impl Proof {
     }
 
     /// The footprint of the tree at the line, where it wins. It is the proof's own where the tree fits, and each board of the
-    /// line's history but the last is told from all boards that turns of the other side make, by its numbers of stones or by a
-    /// mark, and where the line is where the proof stands; else the tree is walked through. The line stands as before, also after
-    /// want of memory.
+    /// line's history but the last, behind those with which the proof's begins too, is told from all boards that turns of the
+    /// other side make, by its numbers of stones or by a mark, and where the line is where the proof stands; else the tree is
+    /// walked through. The line stands as before, also after want of memory.
     pub fn footprint_at(&self, alloc: Global, line: &mut Line) -> Result<Footprint, NoMemory>
         requires wins { IsWon self.now.side line.old.frame line.old.state self.now.tree }
         ensures exact { IfOk result (λ x. IsFootprint line.old.frame line.old.state self.now.tree x) }
@@ -209,8 +209,8 @@ impl Proof {
     {
         let tree = self.tree();
         let own = self.footprint();
-        let history = line.history();
-        let earlier = &history[..history.len().saturating_sub(1)];
+        let behind = &line.history()[self.past.begun_with(line)..];
+        let earlier = &behind[..behind.len().saturating_sub(1)];
         if self.fits(line) && own.low.is_above(earlier) {
             return own.try_clone(alloc);
         }

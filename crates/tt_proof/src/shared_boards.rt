@@ -1,30 +1,100 @@
-//! Lists of boards that share them: a board is made once, and each list holds a handle of it.
+//! Lists of boards that share them: a board is made once, and each list holds a handle of it. The lists are kept in the order of the
+//! boards' prints, so that two are joined by one walk over both. No contract speaks of the order: a list that is out of order is
+//! joined rightly too, and may only hold a board twice.
 
-ghost use Rattle.std.specs.Prelude.{◌≡◌, ◌≢◌, ◌↔◌, ◌⊎◌, ◌<◌, ◌++◌, ◌∷◌, [], length, get_or, Contains, IfOk, OnOk, IsTrue, MatchOption};
-ghost use Rattle.std.specs.Arc.{arc_value};
+ghost use Rattle.std.specs.Prelude.{◌≡◌, ◌≢◌, ◌↔◌, ◌⊎◌, ◌<◌, ◌≤◌, ◌++◌, ◌∷◌, ℕ, [], length, get_or, Contains, IfOk, OnOk, IsTrue, MatchOption};
 ghost use Rattle.tt_board.specs.Position.{Position};
+ghost use Rattle.tt_game.specs.Mixing.{board_print};
+ghost use Rattle.tt_proof.specs.Collecting.{IsOneLess};
 
 use std::alloc::Global;
 use std::marker::Model;
 use std::mem;
 use std::sync::Arc;
 use tt_board::Board;
+use tt_game::board_print;
 use tt_sgf::NoMemory;
+
+/// A board that is held by a handle, and its print. Contracts see the board.
+#[derive(Drop)]
+pub(crate) struct SharedBoard {
+    print: u64,
+    board: Arc<Board>,
+}
+
+impl Model for SharedBoard {
+    ghost use Rattle.std.specs.Prelude.{◌≡◌};
+    ghost use Rattle.std.specs.Arc.{arc_value};
+    ghost use Rattle.tt_board.specs.Position.{Position};
+    ghost use Rattle.tt_game.specs.Mixing.{board_print};
+
+    ghost Value = { Position };
+
+    ghost view = { λ b. arc_value b.board };
+
+    ghost invariant = { λ b. b.print ≡ board_print (arc_value b.board).size (arc_value b.board).points };
+}
+
+impl SharedBoard {
+    /// A copy of the board, which is made once.
+    fn of(alloc: Global, board: &Board) -> Result<SharedBoard, NoMemory>
+        ensures { IfOk result (λ b. b ≡ board.now) }
+    {
+        Ok(SharedBoard {
+            print: board_print(board),
+            board: Arc::new(alloc, board.copy())?,
+        })
+    }
+
+    /// The same board, by another handle.
+    fn try_clone(&self) -> Result<SharedBoard, NoMemory>
+        ensures { IfOk result (λ b. b ≡ self.now) }
+    {
+        Ok(SharedBoard {
+            print: self.print,
+            board: Arc::try_clone(&self.board)?,
+        })
+    }
+
+    /// The board.
+    fn board(&self) -> &Board
+        ensures { result.now ≡ self.now }
+    {
+        &self.board
+    }
+
+    /// Whether it is this board, of which the print is given. Boards are compared where their prints are the same.
+    fn is(&self, print: u64, board: &Board) -> bool
+        requires { print ≡ board_print board.now.size board.now.points }
+        ensures { IsTrue result ↔ (self.now ≡ board.now) }
+    {
+        if self.print != print {
+            return false;
+        }
+        self.board.same(board)
+    }
+
+    /// Whether both are one board.
+    fn same(&self, other: &SharedBoard) -> bool
+        ensures { IsTrue result ↔ (self.now ≡ other.now) }
+    {
+        self.is(other.print, &other.board)
+    }
+}
 
 /// A list of boards, each held by a handle. Contracts see the boards.
 #[derive(Drop)]
 pub struct SharedBoards {
-    boards: Vec<Arc<Board>>,
+    boards: Vec<SharedBoard>,
 }
 
 impl Model for SharedBoards {
-    ghost use Rattle.std.specs.Prelude.{List, map};
-    ghost use Rattle.std.specs.Arc.{arc_value};
+    ghost use Rattle.std.specs.Prelude.{List};
     ghost use Rattle.tt_board.specs.Position.{Position};
 
     ghost Value = { List Position };
 
-    ghost view = { λ b. map arc_value b.boards.items };
+    ghost view = { λ b. b.boards.items };
 }
 
 /// Whether the board is one of them.
@@ -39,13 +109,24 @@ fn is_among(board: &Board, boards: &[Board]) -> bool
     false
 }
 
-/// For how many handles more a full list gets room: for a quarter and two, and for one more where the list would have room for
-/// an even number then. With the word of the memory's keeper before it an odd number fills its block: three the least one.
+/// For how many handles more a full list gets room: for a quarter and one.
 fn room(len: usize) -> usize
-    ensures { 1 < result }
+    ensures { 0 < result }
 {
-    let more = len / 4 + 2;
-    more + (len % 2 + more + 1) % 2
+    len / 4 + 1
+}
+
+/// The one of two lists whose last print is greater, or which alone has one, gives its last board.
+fn take_greatest(left: &mut SharedBoards, right: &mut SharedBoards) -> Option<SharedBoard>
+    ensures { MatchOption result ((left.old ≡ []) × (right.old ≡ [])) (λ x. IsOneLess left.old left.new right.old right.new x) }
+{
+    let Some(a) = left.last_print() else {
+        return right.pop();
+    };
+    let Some(b) = right.last_print() else {
+        return left.pop();
+    };
+    if a < b { right.pop() } else { left.pop() }
 }
 
 impl SharedBoards {
@@ -58,67 +139,148 @@ impl SharedBoards {
         }
     }
 
-    /// Whether the board is held.
-    pub fn has(&self, board: &Board) -> bool
-        ensures { IsTrue result ↔ Contains self.now board.now }
-    {
-        for held in &self.boards {
-            if held.same(board) {
-                return true;
-            }
-        }
-        false
-    }
-
-    /// Adds a handle behind all others. Where the list is full it gets room for a quarter more.
-    fn push(&mut self, board: Arc<Board>) -> Result<(), NoMemory>
-        ensures { OnOk result (self.new ≡ self.old ++ arc_value board ∷ []) }
-    {
-        let len = self.boards.len();
-        if len == self.boards.capacity() {
-            self.boards.reserve_exact(room(len))?;
-        }
-        self.boards.push(board)?;
-        Ok(())
-    }
-
-    /// Takes the handle in, where its board isn't held yet.
-    fn put(&mut self, board: Arc<Board>) -> Result<(), NoMemory>
-        ensures { OnOk result ((b : Position) → Contains self.new b ↔ (Contains self.old b ⊎ (b ≡ arc_value board))) }
-    {
-        if self.has(&board) {
-            return Ok(());
-        }
-        self.push(board)
-    }
-
-    /// The last handle, which is taken out.
-    fn pop(&mut self) -> Option<Arc<Board>>
-        ensures { MatchOption result (self.old ≡ []) (λ last. self.old ≡ self.new ++ arc_value last ∷ []) }
-    {
-        self.boards.pop()
-    }
-
     /// Where the board stands first.
     fn place_of(&self, board: &Board) -> Option<usize>
         ensures { MatchOption result (Contains self.now board.now → ⊥)
             (λ k. (k < length self.now) × ((d : Position) → get_or self.now k d ≡ board.now)) }
     {
+        let print = board_print(board);
         for k in 0..self.boards.len() {
-            if self.boards[k].same(board) {
+            if self.boards[k].is(print, board) {
                 return Some(k);
             }
         }
         None
     }
 
-    /// Takes the handle at a place out. The last one takes its place.
+    /// Whether the board is held.
+    pub fn has(&self, board: &Board) -> bool
+        ensures { IsTrue result ↔ Contains self.now board.now }
+    {
+        match self.place_of(board) {
+            Some(_) => true,
+            None => false,
+        }
+    }
+
+    /// Whether no board is held.
+    fn is_empty(&self) -> bool
+        ensures { IsTrue result → self.now ≡ [] }
+    {
+        self.boards.len() == 0
+    }
+
+    /// The print of the last board.
+    fn last_print(&self) -> Option<u64>
+        ensures { MatchOption result (self.now ≡ []) (λ _. 0 < length self.now) }
+    {
+        let len = self.boards.len();
+        if len == 0 {
+            return None;
+        }
+        Some(self.boards[len - 1].print)
+    }
+
+    /// The last board, which is taken out.
+    fn pop(&mut self) -> Option<SharedBoard>
+        ensures { MatchOption result ((self.old ≡ []) × (self.new ≡ [])) (λ last. self.old ≡ self.new ++ last ∷ []) }
+    {
+        self.boards.pop()
+    }
+
+    /// Makes room for one board more. Where the list is full it gets room for a quarter more.
+    fn make_room(&mut self) -> Result<(), NoMemory>
+        ensures { self.new ≡ self.old }
+    {
+        let len = self.boards.len();
+        if len == self.boards.capacity() {
+            self.boards.reserve_exact(room(len))?;
+        }
+        Ok(())
+    }
+
+    /// Whether the last board is this one.
+    fn ends_with(&self, board: &SharedBoard) -> bool
+        ensures { IsTrue result → Contains self.now board.now }
+    {
+        let len = self.boards.len();
+        if len == 0 {
+            return false;
+        }
+        self.boards[len - 1].same(board)
+    }
+
+    /// Adds a board behind all others.
+    fn push(&mut self, board: SharedBoard) -> Result<(), NoMemory>
+        ensures { OnOk result (self.new ≡ self.old ++ board ∷ []) }
+    {
+        self.make_room()?;
+        self.boards.push(board)?;
+        Ok(())
+    }
+
+    /// Adds a board behind all others, where the last one isn't it.
+    fn put(&mut self, board: SharedBoard) -> Result<(), NoMemory>
+        ensures { OnOk result ((b : Position) → Contains self.new b ↔ (Contains self.old b ⊎ (b ≡ board))) }
+    {
+        if self.ends_with(&board) {
+            return Ok(());
+        }
+        self.push(board)
+    }
+
+    /// The other order.
+    fn reverse(&mut self)
+        ensures { (b : Position) → Contains self.new b ↔ Contains self.old b }
+    {
+        self.boards.reverse();
+    }
+
+    /// Adds the boards of two lists, in falling order where both rise.
+    fn put_falling(&mut self, left: SharedBoards, right: SharedBoards) -> Result<(), NoMemory>
+        ensures { OnOk result ((b : Position) → Contains self.new b ↔ (Contains self.old b ⊎ (Contains left b ⊎ Contains right b))) }
+    {
+        let (mut left, mut right) = (left, right);
+        while let Some(board) = take_greatest(&mut left, &mut right) {
+            self.put(board)?;
+        }
+        Ok(())
+    }
+
+    /// Takes the others' boards in, by one walk over both lists. After want of memory the list is of no use.
+    fn merge(&mut self, others: SharedBoards) -> Result<(), NoMemory>
+        ensures { OnOk result ((b : Position) → Contains self.new b ↔ (Contains self.old b ⊎ Contains others b)) }
+    {
+        let alloc = *self.boards.allocator();
+        let mine = mem::replace(self, SharedBoards::new(alloc));
+        self.boards.reserve_exact(mine.boards.len())?;
+        self.put_falling(mine, others)?;
+        self.reverse();
+        Ok(())
+    }
+
+    /// Takes the others' handles in, where their boards aren't held yet. Nothing is looked at where one of the lists is empty. After
+    /// want of memory the list is of no use.
+    pub fn join(&mut self, others: SharedBoards) -> Result<(), NoMemory>
+        ensures { OnOk result ((b : Position) → Contains self.new b ↔ (Contains self.old b ⊎ Contains others b)) }
+    {
+        let mut fewer = others;
+        if self.boards.len() < fewer.boards.len() {
+            mem::swap(self, &mut fewer);
+        }
+        if fewer.is_empty() {
+            return Ok(());
+        }
+        self.merge(fewer)
+    }
+
+    /// Takes the handle at a place out.
     fn take_out(&mut self, k: usize)
         requires { k < length self.old }
         ensures few { length self.new < length self.old }
         ensures others { (b : Position) → Contains self.old b ↔ (Contains self.new b ⊎ (get_or self.old k b ≡ b)) }
     {
-        let _ = self.boards.swap_remove(k);
+        let _ = self.boards.remove(k);
     }
 
     /// Takes the board out.
@@ -130,46 +292,53 @@ impl SharedBoards {
         }
     }
 
+    /// The place of the first board whose print isn't less, where the prints rise.
+    fn place_for(&self, print: u64) -> usize
+        ensures { result ≤ length self.now }
+    {
+        let mut low = 0;
+        let mut high = self.boards.len();
+        while low < high {
+            let middle = low + (high - low) / 2;
+            if self.boards[middle].print < print {
+                low = middle + 1;
+            } else {
+                high = middle;
+            }
+        }
+        low
+    }
+
+    /// Whether the board stands at this place.
+    fn has_at(&self, k: usize, board: &SharedBoard) -> bool
+        ensures { IsTrue result → Contains self.now board.now }
+    {
+        match self.boards.get(k) {
+            Some(held) => held.same(board),
+            None => false,
+        }
+    }
+
+    /// Adds a board at a place.
+    fn put_at(&mut self, k: usize, board: SharedBoard) -> Result<(), NoMemory>
+        requires { k ≤ length self.old }
+        ensures { OnOk result ((b : Position) → Contains self.new b ↔ (Contains self.old b ⊎ (b ≡ board))) }
+    {
+        self.make_room()?;
+        self.boards.insert(k, board)?;
+        Ok(())
+    }
+
     /// Adds the board, where it isn't held yet.
     pub fn add(&mut self, alloc: Global, board: &Board) -> Result<(), NoMemory>
         ensures { OnOk result ((b : Position) → Contains self.new b ↔ (Contains self.old b ⊎ (b ≡ board.now))) }
     {
-        if self.has(board) {
+        let made = SharedBoard::of(alloc, board)?;
+        let k = self.place_for(made.print);
+        if self.has_at(k, &made) {
             return Ok(());
         }
-        let made = Arc::new(alloc, board.copy())?;
-        self.push(made)
-    }
-
-    /// Adds the board behind all others, also where it is held.
-    pub(crate) fn add_unseen(&mut self, alloc: Global, board: &Board) -> Result<(), NoMemory>
-        ensures { OnOk result (self.new ≡ self.old ++ board.now ∷ []) }
-    {
-        let made = Arc::new(alloc, board.copy())?;
-        self.push(made)
-    }
-
-    /// Takes the others' handles in, one after the other.
-    fn take_in(&mut self, others: SharedBoards) -> Result<(), NoMemory>
-        ensures { OnOk result ((b : Position) → Contains self.new b ↔ (Contains self.old b ⊎ Contains others b)) }
-    {
-        let mut rest = others;
-        while let Some(board) = rest.pop() {
-            self.put(board)?;
-        }
-        Ok(())
-    }
-
-    /// Takes the others' handles in, where their boards aren't held yet. The handles of the shorter list go to those of the
-    /// longer one, so nothing is looked at where one of the lists is empty.
-    pub fn join(&mut self, others: SharedBoards) -> Result<(), NoMemory>
-        ensures { OnOk result ((b : Position) → Contains self.new b ↔ (Contains self.old b ⊎ Contains others b)) }
-    {
-        let mut fewer = others;
-        if self.boards.len() < fewer.boards.len() {
-            mem::swap(self, &mut fewer);
-        }
-        self.take_in(fewer)
+        self.put_at(k, made)
     }
 
     /// The same boards again, by handles.
@@ -178,7 +347,7 @@ impl SharedBoards {
     {
         let mut boards = Vec::with_capacity(alloc, self.boards.len())?;
         for board in &self.boards {
-            boards.push(Arc::try_clone(board)?)?;
+            boards.push(board.try_clone()?)?;
         }
         Ok(SharedBoards { boards })
     }
@@ -188,7 +357,7 @@ impl SharedBoards {
         ensures { IsTrue result ↔ ((b : Position) → Contains self.now b → Contains boards.now b) }
     {
         for held in &self.boards {
-            if !is_among(held, boards) {
+            if !is_among(held.board(), boards) {
                 return false;
             }
         }
@@ -199,8 +368,8 @@ impl SharedBoards {
     pub fn none_in(&self, boards: &[Board]) -> bool
         ensures { IsTrue result ↔ ((b : Position) → Contains self.now b → Contains boards.now b → ⊥) }
     {
-        for held in &self.boards {
-            if is_among(held, boards) {
+        for board in boards {
+            if self.has(board) {
                 return false;
             }
         }

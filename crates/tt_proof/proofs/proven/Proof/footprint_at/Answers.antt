@@ -1,6 +1,9 @@
-use Rattle.std.proofs.Common.{◌-◌, All, length, take, sym, subst}
+use Rattle.std.proofs.Common.{◌≡◌, ◌-◌, All, length, take, drop, sym, subst, ◌∙◌, ap}
+use Rattle.std.proofs.lemmas.List.{take_rest}
 use Rattle.tt_board.specs.Position.{Position}
+use Rattle.tt_game.specs.Game.{history}
 use Rattle.tt_proof.specs.Bounds.{IsReached}
+use Rattle.tt_proof.specs.Proven.{Proven}
 use Rattle.tt_proof.specs.KeptFootprints.{IsFootprint}
 use Rattle.tt_proof.proofs.ResultLemmas.{if_ok}
 use Rattle.tt_proof.proofs.FittingLemmas.{foot_moved}
@@ -12,11 +15,16 @@ returns-then-is_above-clause-exact c =
     let p = c.args.self.now in
     let line = c.args.line.now in
     let own = c.footprint-own in
-    let boards = c.history-history in
-    let low : All (λ (b : Position). IsReached own.result.now.low b → ⊥) (take (length boards.result.now - 1) boards.result.now) =
-    rw (← c.saturating_sub.ensures) (c.is_above.ensures.0 c.if-is_above.true) in
-    let taken = footprint_taken p line.frame line.state own.result.now boards.result.now boards.ensures.colourings boards.ensures.sizes low c.tree-tree.ensures.wins
-    (c.fits.ensures.fits.0 c.if-fits.true) own.ensures in
+    let boards = c.history in
+    let n = c.begun_with.result in
+    let behind : take (length boards.result.now - n) (drop n boards.result.now) ≡ drop n boards.result.now = take_rest boards.result.now n in
+    let low : All (λ (b : Position). IsReached own.result.now.low b → ⊥) (take (length (drop n boards.result.now) - 1) (drop n boards.result.now)) =
+    subst (λ bs. All (λ (b : Position). IsReached own.result.now.low b → ⊥) (take (length bs - 1) bs)) behind
+    (rw (← c.saturating_sub.ensures) (c.is_above.ensures.0 c.if-is_above.true)) in
+    let alike : take n (history line.state) ≡ take n (history p.state) =
+    c.begun_with.ensures.alike ∙ ap (λ (q : Proven). take n (history q.state)) c.self.view_is in
+    let taken = footprint_taken p line.frame line.state own.result.now boards.result.now boards.ensures.colourings boards.ensures.sizes n
+    alike low c.tree-tree.ensures.wins (c.fits.ensures.fits.0 c.if-fits.true) own.ensures in
     if_ok c.try_clone.result _ _ (λ x e. subst (λ y. IsFootprint line.frame line.state p.tree y) (sym e) taken) c.try_clone.ensures
 
 pub returns-then-stands_at-clause-exact : goal.returns-then-stands_at-clause-exact

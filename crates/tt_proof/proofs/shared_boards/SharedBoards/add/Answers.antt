@@ -1,14 +1,15 @@
-use Rattle.std.proofs.Common.{rules, ◌≡◌, ◌⊎◌, ◌↔◌, ◌∷◌, [], ◌++◌, Contains, sym, subst}
-use Rattle.std.specs.Arc.{arc_value}
+use Rattle.std.proofs.Common.{rules, ◌≡◌, ◌⊎◌, ◌↔◌, Contains, IsTrue, sym, subst}
 use Rattle.tt_proof.proofs.ResultLemmas.{on_ok}
-use Rattle.tt_proof.proofs.SharedLemmas.{pushed}
+use Rattle.tt_proof.proofs.SharedLemmas.{held_already}
 use Rattle.tt_proof.proofs.shared_boards.SharedBoards.add.Goals as goal
+
+pub returns-then-has_at : goal.returns-then-has_at
+returns-then-has_at c b =
+    let is : c.in_ok-made.made ≡ c.args.board.now = search rules in
+    let yes : IsTrue c.has_at.result = search rules in
+    held_already c.args.self.now c.args.board.now b (subst (λ x. Contains c.args.self.now x) is (c.has_at.ensures yes))
 
 pub returns : goal.returns
 returns c =
-    let is : arc_value c.in_ok-made.made ≡ c.args.board.now = search rules in
-    let before = c.args.self.now in
-    on_ok c.push.result _ _
-    (λ e b. subst (λ xs. Contains xs b ↔ (Contains before b ⊎ (b ≡ c.args.board.now))) (sym e)
-    (subst (λ x. Contains (before ++ arc_value c.in_ok-made.made ∷ []) b ↔ (Contains before b ⊎ (b ≡ x))) is (pushed before (arc_value c.in_ok-made.made) b)))
-    c.push.ensures
+    let is : c.in_ok-made.made ≡ c.args.board.now = search rules in
+    on_ok c.put_at.result _ _ (λ h b. subst (λ x. Contains c.put_at.new.self b ↔ (Contains c.args.self.now b ⊎ (b ≡ x))) is (h b)) c.put_at.ensures

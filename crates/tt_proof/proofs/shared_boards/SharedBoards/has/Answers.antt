@@ -1,16 +1,6 @@
-use Rattle.std.proofs.Common.{rules, ◌≡◌, ◌<◌, length, get_or, sym, ◌∙◌}
-use Rattle.std.proofs.lemmas.Bool.{false≢true}
-use Rattle.std.specs.Arc.{arc_value}
-use Rattle.tt_proof.proofs.SharedLemmas.{shown_at, one_more_place}
+use Rattle.std.proofs.Common.{rules}
+use Rattle.tt_proof.proofs.SharedLemmas.{stands_in}
 use Rattle.tt_proof.proofs.shared_boards.SharedBoards.has.Goals as goal
 
-pub loop-held-preserved : goal.loop-held-preserved
-loop-held-preserved c =
-    let items = c.self.inside.boards.items in
-    let n = c.loop-held.held-index in
-    let lt : n < length items = search rules in
-    let is : c.held-item.result ≡ get_or items n c.held-item.result = search rules in
-    let shows : c.deref.result.now ≡ arc_value c.held-item.result = search rules in
-    one_more_place c.args.self.now (λ x. x ≡ c.args.board.now → ⊥) n (arc_value c.held-item.result) c.loop-held.invariant
-    (shown_at arc_value items c.args.self.now n c.held-item.result c.self.view_is lt is)
-    (λ e. false≢true (sym c.if-same.false ∙ c.same.ensures.1 (shows ∙ e)))
+pub returns-in-Some : goal.returns-in-Some
+returns-in-Some c = (λ y. stands_in c.args.self.now _ c.args.board.now c.in-Some.ensures.0 c.in-Some.ensures.1, λ m. search rules)

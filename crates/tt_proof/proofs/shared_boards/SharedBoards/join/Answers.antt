@@ -1,8 +1,20 @@
-use Rattle.std.proofs.Common.{rules, ◌≡◌, ◌↔◌, ◌⊎◌, Contains, subst}
+use Rattle.std.proofs.Common.{rules, ◌≡◌, ◌⊎◌, inl, inr}
 use Rattle.tt_proof.proofs.ResultLemmas.{on_ok}
-use Rattle.tt_proof.proofs.SharedLemmas.{other_order}
+use Rattle.tt_proof.proofs.SharedLemmas.{either_way, right_empty}
 use Rattle.tt_proof.proofs.shared_boards.SharedBoards.join.Goals as goal
 use Rattle.tt_proof.proofs.shared_boards.SharedBoards.join.Goals.{then-len, else-len}
+
+pub returns-then-is_empty : goal.returns-then-is_empty
+returns-then-is_empty c =
+    let more = c.if-len.self in
+    let fewer = c.if-len.fewer in
+    let old = c.args.self.now in
+    let others = c.args.others in
+    let which : ((more ≡ others) × (fewer ≡ old)) ⊎ ((more ≡ old) × (fewer ≡ others)) = elim c.if-len.branch [
+      | then-len w ↦ inl (search rules, search rules)
+      | else-len w ↦ inr (search rules, search rules)
+    ] in
+    either_way more more fewer old others which (right_empty more fewer (c.is_empty.ensures c.if-is_empty.true))
 
 pub returns : goal.returns
 returns c =
@@ -10,18 +22,8 @@ returns c =
     let fewer = c.if-len.fewer in
     let old = c.args.self.now in
     let others = c.args.others in
-    let now = c.take_in.new.self in elim c.if-len.branch [
-      | then-len w ↦
-          let a : more ≡ others = search rules in
-          let z : fewer ≡ old = search rules in
-          on_ok c.take_in.result _ _
-          (λ h b. other_order _ _ _
-          (subst (λ xs. Contains now b ↔ (Contains xs b ⊎ Contains old b)) a (subst (λ xs. Contains now b ↔ (Contains more b ⊎ Contains xs b)) z (h b))))
-          c.take_in.ensures
-      | else-len w ↦
-          let a : more ≡ old = search rules in
-          let z : fewer ≡ others = search rules in
-          on_ok c.take_in.result _ _
-          (λ h b. subst (λ xs. Contains now b ↔ (Contains xs b ⊎ Contains others b)) a (subst (λ xs. Contains now b ↔ (Contains more b ⊎ Contains xs b)) z (h b)))
-          c.take_in.ensures
-    ]
+    let which : ((more ≡ others) × (fewer ≡ old)) ⊎ ((more ≡ old) × (fewer ≡ others)) = elim c.if-len.branch [
+      | then-len w ↦ inl (search rules, search rules)
+      | else-len w ↦ inr (search rules, search rules)
+    ] in
+    on_ok c.merge.result _ _ (λ h. either_way c.merge.new.self more fewer old others which h) c.merge.ensures
