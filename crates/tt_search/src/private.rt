@@ -69,6 +69,17 @@ impl PrivateStore {
         }
     }
 
+    /// An empty store that may keep so many proofs. It takes no memory.
+    pub fn with_capacity(alloc: Global, capacity: usize) -> PrivateStore
+        ensures { result ≡ record { proofs = []; capacity = capacity } }
+    {
+        PrivateStore {
+            proofs: Vec::new(alloc),
+            index: KeyIndex::new(alloc),
+            capacity,
+        }
+    }
+
     /// An empty store that may keep so many proofs, where these are no more than 4,096. It takes no memory.
     pub fn bounded(alloc: Global, capacity: usize) -> Option<PrivateStore>
         ensures { MatchOption result (4096 < capacity) (λ s. (capacity ≤ 4096) × (s ≡ record { proofs = []; capacity = capacity })) }

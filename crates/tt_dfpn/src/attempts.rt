@@ -1,0 +1,62 @@
+//! The finder says who wins, and the certifier makes the proof; where it can't, the finder is asked again.
+
+ghost use Rattle.std.specs.Prelude.{◌≡◌, ◌≤◌, IfOk, IfSome};
+ghost use Rattle.tt_proof.specs.declared.tree.TheConstants.{MOST_DEPTH};
+ghost use Rattle.tt_proof.specs.Strategy as strategy;
+ghost use Rattle.tt_proof.specs.Proven.{StandsAt};
+
+use crate::advice::Visits;
+use crate::certifier::certify;
+use crate::finder::Advisor;
+use std::alloc::Global;
+use tt_game::Line;
+use tt_proof::Proof;
+use tt_search::PrivateStore;
+use tt_sgf::NoMemory;
+
+/// The greatest number of positions that may be asked for.
+pub const MOST_POSITIONS: u32 = 100_000_000;
+
+/// How often the finder may say who wins.
+const MOST_ATTEMPTS: u8 = 8;
+
+/// Looks for a proof at the line, for whichever side wins there, no deeper than `depth` turns; at most `positions` positions
+/// are visited. None where none was found within them. `NoMemory` where memory was refused. The line stands as before.
+pub fn find_proof(
+    alloc: Global,
+    line: &mut Line,
+    depth: u16,
+    positions: u32,
+) -> Result<Option<Proof>, NoMemory>
+    requires depth { depth ≤ MOST_DEPTH }
+    ensures stands { IfOk result (λ o. IfSome o (λ p. StandsAt p line.old.frame line.old.state)) }
+    ensures low { IfOk result (λ o. IfSome o (λ p. strategy.depth p.tree ≤ depth)) }
+    ensures same { line.new ≡ line.old }
+{
+    let mut visits = Visits {
+        left: positions.min(MOST_POSITIONS),
+    };
+    let mut memo = PrivateStore::with_capacity(alloc, positions as usize);
+    let mut advisor = Advisor::at(alloc, line, positions)?;
+    for attempt in 0..MOST_ATTEMPTS {
+        let Some(side) = advisor.winner(line, &mut visits)? else {
+            return Ok(None);
+        };
+        let found = certify(
+            alloc,
+            line,
+            side,
+            depth,
+            &mut advisor,
+            &mut memo,
+            &mut visits,
+        )?;
+        if found.is_some() || visits.left == 0 {
+            return Ok(found);
+        }
+        if attempt == 0 {
+            advisor.look_at_all();
+        }
+    }
+    Ok(None)
+}

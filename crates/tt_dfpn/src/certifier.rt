@@ -1,0 +1,233 @@
+//! The certifier: proofs made bottom up at the exact line, after advice that nobody has to believe.
+
+ghost use Rattle.std.specs.Prelude.{◌≡◌, ◌≢◌, ◌≤◌, ◌<◌, ◌+◌, ◌++◌, ◌∷◌, [], length, true, false, IfOk, IfSome, None};
+ghost use Rattle.tt_game.specs.Game.{winner_of, opponent, IsLegal};
+ghost use Rattle.tt_proof.specs.declared.tree.TheConstants.{MOST_DEPTH};
+ghost use Rattle.tt_proof.specs.Strategy.{depth};
+ghost use Rattle.tt_proof.specs.Proven.{StandsAt, IsChild, AreChildren, turns_of};
+
+use crate::advice::{Advice, Visits};
+use crate::memo::{keep, known};
+use std::alloc::Global;
+use tt_game::{Line, Side, Turn};
+use tt_proof::Proof;
+use tt_search::Store;
+use tt_sgf::NoMemory;
+
+/// How many turns the certifier asks for at one line.
+const MOST_ASKED: u16 = 362;
+
+/// Whether two sides are the same.
+fn is_same(a: Side, b: Side) -> bool
+    ensures yes { result ≡ true → a ≡ b }
+    ensures no { result ≡ false → b ≡ opponent a }
+{
+    a == b
+}
+
+/// A proof for the side at the line, of a depth within the room, or none. The line stands as before, also after want of memory.
+#[cycle(certifying)]
+pub fn certify<A: Advice, S: Store>(
+    alloc: Global,
+    line: &mut Line,
+    side: Side,
+    room: u16,
+    advice: &mut A,
+    memo: &mut S,
+    visits: &mut Visits,
+) -> Result<Option<Proof>, NoMemory>
+    requires room { room ≤ MOST_DEPTH }
+    ensures stands { IfOk result (λ o. IfSome o (λ p. StandsAt p line.old.frame line.old.state)) }
+    ensures side { IfOk result (λ o. IfSome o (λ p. p.side ≡ side)) }
+    ensures low { IfOk result (λ o. IfSome o (λ p. depth p.tree ≤ room)) }
+    ensures fewer { visits.new.left ≤ visits.old.left }
+    ensures same { line.new ≡ line.old }
+{
+    match line.winner() {
+        Some(winner) => won(alloc, line, side, winner),
+        None => {
+            let known = known(alloc, line, side, room, memo)?;
+            if known.is_some() {
+                return Ok(known);
+            }
+            if room == 0 || visits.left == 0 {
+                return Ok(None);
+            }
+            visits.left -= 1;
+            let found = if is_same(line.to_move(), side) {
+                picked(alloc, line, side, room, advice, memo, visits)?
+            } else {
+                replied(alloc, line, side, room, advice, memo, visits)?
+            };
+            keep(alloc, line, &found, memo);
+            Ok(found)
+        }
+    }
+}
+
+/// The proof where the winner has won, if this is the side.
+fn won(alloc: Global, line: &Line, side: Side, winner: Side) -> Result<Option<Proof>, NoMemory>
+    requires { winner_of line.now.frame line.now.state ≡ Some winner }
+    ensures stands { IfOk result (λ o. IfSome o (λ p. StandsAt p line.now.frame line.now.state)) }
+    ensures side { IfOk result (λ o. IfSome o (λ p. p.side ≡ side)) }
+    ensures low { IfOk result (λ o. IfSome o (λ p. depth p.tree ≡ 0)) }
+{
+    if winner != side {
+        return Ok(None);
+    }
+    let proof = Proof::done(alloc, line)?;
+    Ok(Some(proof))
+}
+
+/// The proof behind a legal turn, for the side, or none. The line stands as before.
+#[cycle(certifying)]
+fn behind<A: Advice, S: Store>(
+    alloc: Global,
+    line: &mut Line,
+    side: Side,
+    room: u16,
+    turn: &Turn,
+    advice: &mut A,
+    memo: &mut S,
+    visits: &mut Visits,
+) -> Result<Option<Proof>, NoMemory>
+    requires room { room < MOST_DEPTH }
+    requires legal { IsLegal line.old.frame line.old.state turn.now }
+    ensures child { IfOk result (λ o. IfSome o (λ p. IsChild line.old.frame line.old.state side turn.now p)) }
+    ensures low { IfOk result (λ o. IfSome o (λ p. depth p.tree ≤ room)) }
+    ensures fewer { visits.new.left ≤ visits.old.left }
+    ensures same { line.new ≡ line.old }
+{
+    line.push_legal(*turn)?;
+    let found = certify(alloc, line, side, room, advice, memo, visits);
+    line.pop();
+    found
+}
+
+/// Whether the turn is legal at the line.
+fn is_legal(line: &Line, turn: &Turn) -> bool
+    ensures { result ≡ true → IsLegal line.now.frame line.now.state turn.now }
+{
+    if let Turn::Play(p) = turn {
+        if !line.frame().size.holds(*p) {
+            return false;
+        }
+    }
+    line.refusal(*turn).is_none()
+}
+
+/// The proof that plays an advised turn, where the side is to move. Each turn that is refused is asked for again.
+#[cycle(certifying)]
+fn picked<A: Advice, S: Store>(
+    alloc: Global,
+    line: &mut Line,
+    side: Side,
+    room: u16,
+    advice: &mut A,
+    memo: &mut S,
+    visits: &mut Visits,
+) -> Result<Option<Proof>, NoMemory>
+    requires room { room ≤ MOST_DEPTH }
+    requires some { 0 < room }
+    requires nobody { winner_of line.old.frame line.old.state ≡ None }
+    requires to_move { line.old.state.to_move ≡ side }
+    ensures stands { IfOk result (λ o. IfSome o (λ p. StandsAt p line.old.frame line.old.state)) }
+    ensures side { IfOk result (λ o. IfSome o (λ p. p.side ≡ side)) }
+    ensures low { IfOk result (λ o. IfSome o (λ p. depth p.tree ≤ room)) }
+    ensures fewer { visits.new.left ≤ visits.old.left }
+    ensures same { line.new ≡ line.old }
+{
+    for refused in 0..MOST_ASKED {
+        let Some(turn) = advice.advise(line, refused, visits)? else {
+            return Ok(None);
+        };
+        let tried = tried(alloc, line, side, room, &turn, advice, memo, visits)?;
+        if tried.is_some() {
+            return Ok(tried);
+        }
+    }
+    Ok(None)
+}
+
+/// The proof that plays this turn, where it is legal and the side wins behind it.
+#[cycle(certifying)]
+fn tried<A: Advice, S: Store>(
+    alloc: Global,
+    line: &mut Line,
+    side: Side,
+    room: u16,
+    turn: &Turn,
+    advice: &mut A,
+    memo: &mut S,
+    visits: &mut Visits,
+) -> Result<Option<Proof>, NoMemory>
+    requires room { room ≤ MOST_DEPTH }
+    requires some { 0 < room }
+    requires to_move { line.old.state.to_move ≡ side }
+    ensures stands { IfOk result (λ o. IfSome o (λ p. StandsAt p line.old.frame line.old.state)) }
+    ensures side { IfOk result (λ o. IfSome o (λ p. p.side ≡ side)) }
+    ensures low { IfOk result (λ o. IfSome o (λ p. depth p.tree ≤ room)) }
+    ensures fewer { visits.new.left ≤ visits.old.left }
+    ensures same { line.new ≡ line.old }
+{
+    if !is_legal(line, turn) {
+        return Ok(None);
+    }
+    let child = behind(alloc, line, side, room - 1, turn, advice, memo, visits)?;
+    played(alloc, line, room, turn, child)
+}
+
+/// The proof that plays the turn and goes on with the child, where there is one.
+fn played(
+    alloc: Global,
+    line: &Line,
+    room: u16,
+    turn: &Turn,
+    child: Option<Proof>,
+) -> Result<Option<Proof>, NoMemory>
+    requires legal { IsLegal line.now.frame line.now.state turn.now }
+    requires child { IfSome child (λ p. IsChild line.now.frame line.now.state line.now.state.to_move turn.now p) }
+    requires low { IfSome child (λ p. depth p.tree + 1 ≤ room) }
+    ensures stands { IfOk result (λ o. IfSome o (λ p. StandsAt p line.now.frame line.now.state)) }
+    ensures side { IfOk result (λ o. IfSome o (λ p. p.side ≡ line.now.state.to_move)) }
+    ensures low { IfOk result (λ o. IfSome o (λ p. depth p.tree ≤ room)) }
+{
+    let Some(child) = child else {
+        return Ok(None);
+    };
+    let proof = Proof::pick(alloc, line, *turn, child)?;
+    Ok(Some(proof))
+}
+
+/// The proof that answers each legal turn, where the other side is to move.
+#[cycle(certifying)]
+fn replied<A: Advice, S: Store>(
+    alloc: Global,
+    line: &mut Line,
+    side: Side,
+    room: u16,
+    advice: &mut A,
+    memo: &mut S,
+    visits: &mut Visits,
+) -> Result<Option<Proof>, NoMemory>
+    requires room { room ≤ MOST_DEPTH }
+    requires some { 0 < room }
+    requires nobody { winner_of line.old.frame line.old.state ≡ None }
+    requires to_move { side ≡ opponent line.old.state.to_move }
+    ensures stands { IfOk result (λ o. IfSome o (λ p. StandsAt p line.old.frame line.old.state)) }
+    ensures side { IfOk result (λ o. IfSome o (λ p. p.side ≡ side)) }
+    ensures low { IfOk result (λ o. IfSome o (λ p. depth p.tree ≤ room)) }
+    ensures fewer { visits.new.left ≤ visits.old.left }
+    ensures same { line.new ≡ line.old }
+{
+    let turns = line.turns();
+    let mut children = Vec::with_capacity(alloc, turns.len())?;
+    for turn in turns.as_slice() {
+        let Some(child) = behind(alloc, line, side, room - 1, turn, advice, memo, visits)? else {
+            return Ok(None);
+        };
+        children.push((*turn, child))?;
+    }
+    let proof = Proof::reply(alloc, line, children)?;
+    Ok(Some(proof))
+}

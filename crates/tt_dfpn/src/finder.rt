@@ -1,0 +1,15 @@
+//! The finder: depth-first proof-number search over one table for all histories. What it says is advice.
+//!
+//! Within the finder points are numbers, as in a `Point`; colours are small numbers inside the board alone, where enums cost
+//! time.
+
+mod advisor;
+mod board;
+mod hash_history;
+mod life;
+mod region;
+mod search;
+mod table;
+mod zobrist;
+
+pub use advisor::Advisor;

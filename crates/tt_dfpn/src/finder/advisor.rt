@@ -1,0 +1,312 @@
+//! Advice along a line: the finder follows the line, and says a turn that wins by its numbers.
+
+ghost use Rattle.std.specs.Prelude.{◌≡◌, ◌≤◌};
+
+use crate::advice::{Advice, Visits};
+use crate::finder::board::SearchBoard;
+use crate::finder::search::{Finder, keys_of};
+use crate::finder::table::{LOST, NO_TURN, Numbers, PASS, UNKNOWN, WON, turn_of};
+use std::alloc::Global;
+use tt_board::{Board, Colour};
+use tt_game::{Line, Side, Turn};
+use tt_sgf::{Bits, NoMemory};
+
+/// How many plays are undone at most to follow a line.
+const MOST_UNDONE: u16 = 1024;
+
+/// A source of advice at the lines of one problem.
+#[derive(Drop)]
+pub struct Advisor {
+    finder: Finder,
+    visited: u32,
+}
+
+/// How many positions a search at a line may visit, where so many were visited for its problem.
+fn share_of(visited: u32) -> u32 {
+    visited.saturating_mul(2).saturating_add(200_000)
+}
+
+/// The least point of the second set that the first has not.
+fn first_new(before: &Bits, after: &Bits) -> Option<u16> {
+    let p = after.minus(before).first_from(0);
+    if p < 361 { Some(p as u16) } else { None }
+}
+
+/// The play that led from one board to the next; none where no stone is new.
+fn play_between(before: &Board, after: &Board) -> Option<(Colour, u16)> {
+    for colour in [Colour::Black, Colour::White] {
+        if let Some(p) = first_new(before.bits(colour), after.bits(colour)) {
+            return Some((colour, p));
+        }
+    }
+    None
+}
+
+impl Advisor {
+    /// Advice for the problem of a line. Its memory grows with the number of positions.
+    pub fn at(alloc: Global, line: &Line, positions: u32) -> Result<Advisor, NoMemory> {
+        Ok(Advisor {
+            finder: Finder::at(alloc, line, positions)?,
+            visited: 0,
+        })
+    }
+
+    /// Forgets all numbers, and leaves no turn out any more: for where what it said of the problem itself was wrong.
+    pub fn look_at_all(&mut self) {
+        self.finder.look_at_all();
+    }
+
+    /// Begins anew where a line stands; what is known stays.
+    fn begin_anew(&mut self, line: &Line) -> Result<(), NoMemory> {
+        self.finder.board = SearchBoard::of(self.finder.alloc, line)?;
+        Ok(())
+    }
+
+    /// Whether the finder's board is the last of the first so many.
+    fn shows(&self, boards: &[Board], count: usize) -> bool {
+        match boards.get(count.wrapping_sub(1)) {
+            Some(board) => self.finder.board.hash_of(board) == self.finder.board.hash(),
+            None => false,
+        }
+    }
+
+    /// Undoes plays until the finder's board is one of the line's; whether it is.
+    fn go_back(&mut self, boards: &[Board]) -> bool {
+        for _ in 0..MOST_UNDONE {
+            let count = self.finder.board.history().len();
+            if count <= boards.len() && self.shows(boards, count) {
+                return true;
+            }
+            if !self.finder.board.can_undo() {
+                return false;
+            }
+            self.finder.board.unplay();
+        }
+        false
+    }
+
+    /// Plays what led to the last board; whether it could.
+    fn go_on(&mut self, boards: &[Board]) -> Result<bool, NoMemory> {
+        for k in self.finder.board.history().len()..boards.len() {
+            let (Some(before), Some(after)) = (boards.get(k.wrapping_sub(1)), boards.get(k)) else {
+                return Ok(false);
+            };
+            match play_between(before, after) {
+                Some((colour, p)) if self.finder.board.is_empty(p) => {
+                    self.finder.board.play(colour, p)?;
+                }
+                _ => return Ok(false),
+            }
+        }
+        Ok(self.shows(boards, boards.len()))
+    }
+
+    /// Goes where a line stands.
+    fn follow(&mut self, line: &Line) -> Result<(), NoMemory> {
+        let boards = line.history();
+        if self.go_back(boards) && self.go_on(boards)? {
+            return Ok(());
+        }
+        self.begin_anew(line)
+    }
+
+    /// Searches where the finder's board stands, up to so many positions of those that are left.
+    fn search(&mut self, mover: Colour, most: u32, visits: &mut Visits) -> Numbers
+        ensures fewer { visits.new.left ≤ visits.old.left }
+    {
+        let granted = most.min(visits.left);
+        let numbers = self.finder.search_here(mover, granted);
+        let used = granted.saturating_sub(self.finder.left);
+        self.visited = self.visited.saturating_add(used);
+        visits.left = visits.left.saturating_sub(used);
+        numbers
+    }
+
+    /// Who wins at the line by a search, if that says so.
+    pub fn winner(&mut self, line: &Line, visits: &mut Visits) -> Result<Option<Side>, NoMemory>
+        ensures fewer { visits.new.left ≤ visits.old.left }
+    {
+        self.follow(line)?;
+        let mover = self.finder.colour(line.to_move());
+        let numbers = self.search(mover, u32::MAX, visits);
+        if numbers.proof == 0 {
+            return Ok(Some(line.to_move()));
+        }
+        if numbers.disproof == 0 {
+            return Ok(Some(line.to_move().opponent()));
+        }
+        Ok(None)
+    }
+
+    /// Notes that the line is lost for its mover, and that the line before it is won by the other colour.
+    fn note_lost(&mut self, line: &Line, mover: Colour) {
+        let keys = self.finder.keys_here(mover);
+        self.finder.keep_line(keys, LOST, NO_TURN);
+        if line.passes() > 0 {
+            let keys = self.finder.keys_here(mover.other());
+            self.finder.keep_line(keys, WON, PASS);
+            return;
+        }
+        let boards = line.history();
+        let last = boards.len().wrapping_sub(1);
+        let (Some(before), Some(after)) = (boards.get(last.wrapping_sub(1)), boards.get(last))
+        else {
+            return;
+        };
+        let turn = match play_between(before, after) {
+            Some((_, p)) => p,
+            None => NO_TURN,
+        };
+        let board = &self.finder.board;
+        let history = board.history().all_with(board.hash());
+        let keys = keys_of(board.hash_of(before), mover.other(), history);
+        self.finder.keep_line(keys, WON, turn);
+    }
+
+    /// Whether the targets live unconditionally behind the defender's play on the empty point; how many points the attacker has then.
+    fn points_behind(&mut self, p: u16) -> Option<usize> {
+        let me = self.finder.region.defender;
+        let effect = self.finder.board.effect(me, p);
+        if effect.is_suicide || self.finder.board.history().has(effect.hash) {
+            return None;
+        }
+        if self.finder.board.play(me, p).is_err() {
+            return None;
+        }
+        let points = if self.finder.region.is_alive(&self.finder.board) {
+            Some(self.points_of_attacker())
+        } else {
+            None
+        };
+        self.finder.board.unplay();
+        points
+    }
+
+    /// On how many points the attacker may play, at once or once they are open again.
+    fn points_of_attacker(&self) -> usize {
+        let me = self.finder.region.defender;
+        let board = &self.finder.board;
+        let mut count = 0usize;
+        for p in &self.finder.region.points {
+            let counts = if board.is_empty(*p) {
+                let is_lone = !board.is_beside(me.other(), *p);
+                !(is_lone && board.effect(me.other(), *p).is_suicide)
+            } else {
+                !board.holds(me, *p)
+            };
+            count = count.saturating_add(usize::from(counts));
+        }
+        count
+    }
+
+    /// The turn of the defender, whose targets live unconditionally, that leaves them so and the attacker the fewest points; a pass
+    /// where no play leaves them so.
+    fn turn_of_living(&mut self) -> u16 {
+        let mut best = PASS;
+        let mut fewest = usize::MAX;
+        for k in 0..self.finder.region.points.len() {
+            let Some(point) = self.finder.region.points.get(k) else {
+                break;
+            };
+            let p = *point;
+            if !self.finder.board.is_empty(p) {
+                continue;
+            }
+            if let Some(points) = self.points_behind(p) {
+                if points < fewest {
+                    fewest = points;
+                    best = p;
+                }
+            }
+        }
+        best
+    }
+
+    /// The turn that is said first where the line stands, if one is known.
+    fn first_turn(&mut self, line: &Line, mover: Colour) -> Option<u16> {
+        if mover == self.finder.region.defender {
+            if line.passes() > 0 {
+                return Some(PASS);
+            }
+            if self.finder.region.is_alive(&self.finder.board) {
+                return Some(self.turn_of_living());
+            }
+        }
+        let entry = self.finder.find(self.finder.keys_here(mover))?;
+        if entry.numbers.proof == 0 && entry.best != NO_TURN {
+            Some(entry.best)
+        } else {
+            None
+        }
+    }
+
+    /// Another turn than the best one that wins by the numbers behind it, where so many were refused.
+    fn other_turn(&mut self, mover: Colour, refused: u16) -> Option<u16> {
+        let best = match self.finder.find(self.finder.keys_here(mover)) {
+            Some(entry) => entry.best,
+            None => NO_TURN,
+        };
+        let mut list = Vec::new(self.finder.alloc);
+        if let Some(turn) = self.finder.list_turns(mover, &mut list) {
+            return if refused == 0 { Some(turn) } else { None };
+        }
+        let mut left = refused;
+        for child in list.as_slice() {
+            if child.numbers.disproof == 0 && child.turn != best {
+                if left <= 1 {
+                    return Some(child.turn);
+                }
+                left -= 1;
+            }
+        }
+        None
+    }
+
+    /// The turn that a search where the line stands finds. Where turns were refused, it is one of the line's own.
+    fn found_turn(
+        &mut self,
+        line: &Line,
+        mover: Colour,
+        refused: u16,
+        visits: &mut Visits,
+    ) -> Option<u16>
+        ensures fewer { visits.new.left ≤ visits.old.left }
+    {
+        let keys = self.finder.keys_here(mover);
+        if refused > 0 {
+            self.finder.keep_line(keys, UNKNOWN, NO_TURN);
+        }
+        let numbers = self.search(mover, share_of(self.visited), visits);
+        if numbers.proof == 0 {
+            if let Some(entry) = self.finder.find(keys) {
+                return Some(entry.best);
+            }
+        }
+        self.note_lost(line, mover);
+        None
+    }
+}
+
+impl Advice for Advisor {
+    fn advise(
+        &mut self,
+        line: &Line,
+        refused: u16,
+        visits: &mut Visits,
+    ) -> Result<Option<Turn>, NoMemory>
+        ensures fewer { visits.new.left ≤ visits.old.left }
+    {
+        self.follow(line)?;
+        let mover = self.finder.colour(line.to_move());
+        if refused == 0 {
+            if let Some(turn) = self.first_turn(line, mover) {
+                return Ok(Some(turn_of(turn)));
+            }
+        }
+        if let Some(turn) = self.other_turn(mover, refused) {
+            return Ok(Some(turn_of(turn)));
+        }
+        let found = self.found_turn(line, mover, refused, visits);
+        Ok(found.map(turn_of))
+    }
+}

@@ -1,0 +1,466 @@
+//! df-pn with thresholds of 1 + epsilon (J. Pawlewicz, L. Lew, "Improving Depth-First PN-Search: 1 + epsilon Trick", 2007).
+//!
+//! Positions that differ by their history alone share one entry, but for lines that were found to differ (A. Kishimoto,
+//! M. Müller, "A General Solution to the Graph History Interaction Problem", 2004).
+
+ghost use Rattle.std.specs.Prelude.{◌≡◌, ◌<◌, ◌≤◌, length, IfSome};
+
+use crate::finder::board::{SearchBoard, index};
+use crate::finder::region::Region;
+use crate::finder::table::{Entry, INFINITE, LOST, NO_TURN, Numbers, PASS, Table, UNKNOWN, WON};
+use crate::finder::zobrist::mover_key;
+use std::alloc::Global;
+use tt_board::Colour;
+use tt_game::{Line, Side};
+use tt_sgf::NoMemory;
+
+/// How many turns deep the finder looks.
+const MOST_TURNS: u16 = 400;
+
+/// One part of so many is epsilon.
+const EPSILON_PARTS: u32 = 4;
+
+/// How many rows a table has at first, and at most.
+const FIRST_ROWS: usize = 4096;
+
+const MOST_ROWS: usize = 16_777_216;
+
+/// How many rows the table of single lines has at first, and at most.
+const FIRST_LINE_ROWS: usize = 256;
+
+const MOST_LINE_ROWS: usize = 262_144;
+
+/// What a line that was found to differ has as its work, so that it is kept.
+const LINE_WORK: u32 = 0x1000_0000;
+
+/// The keys of a position: without its history, and with it.
+#[derive(Clone, Copy)]
+pub(crate) struct Keys {
+    pub(crate) position: u64,
+    pub(crate) line: u64,
+}
+
+/// A turn, and what is known of the position behind it, from the side that moves there.
+#[derive(Clone, Copy)]
+pub(crate) struct Child {
+    pub(crate) turn: u16,
+    pub(crate) numbers: Numbers,
+    key: u64,
+    wins: u32,
+}
+
+/// What the children say of a position: its numbers, the best child, and the second least proof number.
+#[derive(Clone, Copy)]
+struct Choice {
+    numbers: Numbers,
+    best: Option<usize>,
+    second: u32,
+}
+
+/// The finder.
+#[derive(Drop)]
+pub(crate) struct Finder {
+    pub(crate) alloc: Global,
+    pub(crate) board: SearchBoard,
+    pub(crate) region: Region,
+    positions: Table,
+    lines: Table,
+    has_lines: bool,
+    /// How often each turn won, by colour (J. Schaeffer, "The History Heuristic", 1989).
+    wins: [[u32; 512]; 2],
+    /// Lists that aren't used.
+    lists: Vec<Vec<Child>>,
+    /// Whether suicides and plays into the mover's own eyes are left out.
+    prunes: bool,
+    /// How many positions may still be visited.
+    pub(crate) left: u32,
+}
+
+/// The index of a colour.
+#[inline(always)]
+fn colour_index(colour: Colour) -> usize
+    ensures { result < 2 }
+{
+    match colour {
+        Colour::Black => 0,
+        Colour::White => 1,
+    }
+}
+
+/// The keys of the position with this hash, where a colour moves, behind boards with one hash of them all.
+#[inline(always)]
+pub(crate) fn keys_of(hash: u64, mover: Colour, history: u64) -> Keys {
+    let position = hash ^ mover_key(mover);
+    Keys {
+        position,
+        line: position ^ history.rotate_left(17),
+    }
+}
+
+/// The sum of two numbers; infinity where one is infinite.
+#[inline(always)]
+fn sum(one: u32, two: u32) -> u32 {
+    if one >= INFINITE || two >= INFINITE {
+        return INFINITE;
+    }
+    one.saturating_add(two).min(INFINITE)
+}
+
+/// What the children say of a position.
+#[inline]
+fn choice_of(list: &[Child]) -> Choice
+    ensures { IfSome result.best (λ k. k < length list.now) }
+{
+    let mut numbers = LOST;
+    let mut second = INFINITE;
+    let mut best = None;
+    for k in 0..list.len() {
+        let child = &list[k].numbers;
+        if child.disproof < numbers.proof {
+            second = numbers.proof;
+            numbers.proof = child.disproof;
+            best = Some(k);
+        } else if child.disproof < second {
+            second = child.disproof;
+        }
+        numbers.disproof = sum(numbers.disproof, child.proof);
+    }
+    Choice {
+        numbers,
+        best,
+        second,
+    }
+}
+
+/// How far the best child is searched, where a position is searched until one of its numbers reaches its threshold.
+#[inline]
+fn thresholds_of(choice: &Choice, child: &Numbers, most: Numbers) -> Numbers {
+    let others = choice.numbers.disproof.saturating_sub(child.proof);
+    let next = choice
+        .second
+        .saturating_add(1)
+        .saturating_add(choice.second / EPSILON_PARTS)
+        .min(INFINITE);
+    let proof = if most.disproof >= INFINITE {
+        INFINITE
+    } else {
+        most.disproof.saturating_sub(others)
+    };
+    Numbers {
+        proof,
+        disproof: most.proof.min(next),
+    }
+}
+
+impl Finder {
+    /// A finder for a line's problem, which stands where the line stands. Its table grows with the number of positions.
+    pub(crate) fn at(alloc: Global, line: &Line, positions: u32) -> Result<Finder, NoMemory> {
+        let board = SearchBoard::of(alloc, line)?;
+        let region = Region::of(alloc, line, &board)?;
+        let most = (positions as usize / 4).min(MOST_ROWS);
+        Ok(Finder {
+            alloc,
+            board,
+            region,
+            positions: Table::new(alloc, FIRST_ROWS, most)?,
+            lines: Table::new(alloc, FIRST_LINE_ROWS, MOST_LINE_ROWS)?,
+            has_lines: false,
+            wins: [[0; 512]; 2],
+            lists: Vec::new(alloc),
+            prunes: true,
+            left: positions,
+        })
+    }
+
+    /// The colour of a side.
+    pub(crate) fn colour(&self, side: Side) -> Colour {
+        match side {
+            Side::Attacker => self.region.defender.other(),
+            Side::Defender => self.region.defender,
+        }
+    }
+
+    /// The keys of the position where the board stands and a colour moves.
+    pub(crate) fn keys_here(&self, mover: Colour) -> Keys {
+        keys_of(self.board.hash(), mover, self.board.history().all())
+    }
+
+    /// What is known of a position: what is known of its line, where that has an entry of its own.
+    #[inline]
+    pub(crate) fn find(&self, keys: Keys) -> Option<Entry> {
+        if self.has_lines {
+            if let Some(entry) = self.lines.find(keys.line) {
+                return Some(entry);
+            }
+        }
+        self.positions.find(keys.position)
+    }
+
+    /// Keeps what is known of a position: as its line's own, where that has an entry.
+    #[inline]
+    fn keep(&mut self, keys: Keys, numbers: Numbers, best: u16, work: u32)
+        ensures left { self.new.left ≡ self.old.left }
+    {
+        let mut entry = Entry {
+            key: keys.position,
+            numbers,
+            work,
+            best,
+        };
+        if self.has_lines && self.lines.find(keys.line).is_some() {
+            entry.key = keys.line;
+            self.lines.keep(entry);
+            return;
+        }
+        self.positions.keep(entry);
+    }
+
+    /// Gives a line an entry of its own.
+    pub(crate) fn keep_line(&mut self, keys: Keys, numbers: Numbers, best: u16)
+        ensures left { self.new.left ≡ self.old.left }
+    {
+        self.has_lines = true;
+        self.lines.grow(self.alloc);
+        self.lines.keep(Entry {
+            key: keys.line,
+            numbers,
+            work: LINE_WORK,
+            best,
+        });
+    }
+
+    /// Forgets all numbers, and leaves no turn out any more.
+    pub(crate) fn look_at_all(&mut self) {
+        self.prunes = false;
+        self.positions.clear();
+        self.lines.clear();
+        self.has_lines = false;
+    }
+
+    /// Adds a turn to a list, behind those that won more often. Without memory the search ends.
+    #[inline]
+    fn add(&mut self, list: &mut Vec<Child>, mover: Colour, turn: u16, keys: Keys)
+        ensures left { self.new.left ≤ self.old.left }
+    {
+        let numbers = match self.find(keys) {
+            Some(entry) => entry.numbers,
+            None => UNKNOWN,
+        };
+        let child = Child {
+            turn,
+            numbers,
+            key: keys.position,
+            wins: self.wins[colour_index(mover)][index(turn)],
+        };
+        if list.push(child).is_err() {
+            self.left = 0;
+            return;
+        }
+        for k in (1..list.len()).rev() {
+            if list[k - 1].wins >= list[k].wins {
+                break;
+            }
+            let before = list[k - 1];
+            list[k - 1] = list[k];
+            list[k] = before;
+        }
+    }
+
+    /// The attacker's play that takes the first target's chain at once.
+    fn winning_play(&self, mover: Colour) -> Option<u16> {
+        let target = *self.region.targets.first()?;
+        let p = self.board.only_liberty(target)?;
+        if !self.region.inside[index(p)] {
+            return None;
+        }
+        let effect = self.board.effect(mover, p);
+        if effect.takes_target && !effect.is_suicide && !self.board.history().has(effect.hash) {
+            return Some(p);
+        }
+        None
+    }
+
+    /// Adds a play on the empty point to a list, where it is worth a look; whether it wins at once.
+    #[inline]
+    fn add_play(&mut self, list: &mut Vec<Child>, mover: Colour, p: u16) -> bool
+        ensures left { self.new.left ≤ self.old.left }
+    {
+        let attacks = mover != self.region.defender;
+        let effect = self.board.effect(mover, p);
+        if (effect.is_suicide && self.prunes) || self.board.history().has(effect.hash) {
+            return false;
+        }
+        if effect.takes_target {
+            return attacks;
+        }
+        if !attacks && self.prunes && effect.captures == 0 && self.board.is_eye(mover, p) {
+            return false;
+        }
+        let history = self.board.history().all_with(effect.hash);
+        let keys = keys_of(effect.hash, mover.other(), history);
+        self.add(list, mover, p, keys);
+        false
+    }
+
+    /// Lists the turns of a colour, without the attacker's pass; or the turn that wins at once, where there is one.
+    pub(crate) fn list_turns(&mut self, mover: Colour, list: &mut Vec<Child>) -> Option<u16>
+        ensures left { self.new.left ≤ self.old.left }
+    {
+        let attacks = mover != self.region.defender;
+        if attacks {
+            if let Some(p) = self.winning_play(mover) {
+                return Some(p);
+            }
+        }
+        for k in 0..self.region.points.len() {
+            let Some(point) = self.region.points.get(k) else {
+                break;
+            };
+            let p = *point;
+            if self.board.is_empty(p) && self.add_play(list, mover, p) {
+                return Some(p);
+            }
+        }
+        if !attacks {
+            let keys = self.keys_here(mover.other());
+            self.add(list, mover, PASS, keys);
+        }
+        None
+    }
+
+    /// Whether the targets live unconditionally, where the attacker moves and the position is new.
+    fn lives(&self, mover: Colour, keys: Keys) -> bool {
+        if mover == self.region.defender {
+            return false;
+        }
+        if let Some(entry) = self.find(keys) {
+            if entry.best != NO_TURN {
+                return false;
+            }
+        }
+        self.region.is_alive(&self.board)
+    }
+
+    /// Searches where the board stands and a colour moves, up to so many positions; what is known then.
+    pub(crate) fn search_here(&mut self, mover: Colour, positions: u32) -> Numbers {
+        self.left = positions;
+        let keys = self.keys_here(mover);
+        let most = Numbers {
+            proof: INFINITE,
+            disproof: INFINITE,
+        };
+        self.search(mover, keys.position, most, MOST_TURNS)
+    }
+
+    /// Searches a position until one of its numbers reaches its threshold.
+    #[cycle(descent)]
+    fn search(&mut self, mover: Colour, key: u64, most: Numbers, room: u16) -> Numbers
+        ensures left { self.new.left ≤ self.old.left }
+    {
+        if self.left == 0 {
+            return UNKNOWN;
+        }
+        self.left -= 1;
+        let start = self.left;
+        if start % 1024 == 0 {
+            self.positions.grow(self.alloc);
+        }
+        let mut list = match self.lists.pop() {
+            Some(list) => list,
+            None => Vec::new(self.alloc),
+        };
+        list.clear();
+        let keys = Keys {
+            position: key,
+            line: key ^ self.board.history().all().rotate_left(17),
+        };
+        let found = if let Some(turn) = self.list_turns(mover, &mut list) {
+            self.keep(keys, WON, turn, 1);
+            WON
+        } else if self.lives(mover, keys) {
+            self.keep(keys, LOST, NO_TURN, 1);
+            LOST
+        } else {
+            self.expand(mover, keys, most, room, &mut list)
+        };
+        let _ = self.lists.push(list);
+        found
+    }
+
+    /// Visits the best child until one of the position's numbers reaches its threshold.
+    #[cycle(descent)]
+    fn expand(
+        &mut self,
+        mover: Colour,
+        keys: Keys,
+        most: Numbers,
+        room: u16,
+        list: &mut Vec<Child>,
+    ) -> Numbers
+        ensures left { self.new.left ≤ self.old.left }
+    {
+        let start = self.left;
+        for _ in 0..u64::MAX {
+            let choice = choice_of(list.as_slice());
+            let numbers = choice.numbers;
+            let k = match choice.best {
+                Some(k) if !self.is_done(numbers, most) => k,
+                best => {
+                    let work = start.saturating_sub(self.left).saturating_add(1);
+                    let turn = match best {
+                        Some(k) => list[k].turn,
+                        None => NO_TURN,
+                    };
+                    self.close(mover, keys, numbers, turn, work);
+                    return numbers;
+                }
+            };
+            let child = list[k];
+            let bounds = thresholds_of(&choice, &child.numbers, most);
+            list[k].numbers = self.visit(mover, &child, bounds, room);
+        }
+        UNKNOWN
+    }
+
+    /// Whether a search ends with these numbers.
+    #[inline(always)]
+    fn is_done(&self, numbers: Numbers, most: Numbers) -> bool {
+        numbers.proof >= most.proof
+            || numbers.disproof >= most.disproof
+            || numbers.proof == 0
+            || numbers.disproof == 0
+            || self.left == 0
+    }
+
+    /// Keeps what a position's search came to.
+    #[inline]
+    fn close(&mut self, mover: Colour, keys: Keys, numbers: Numbers, best: u16, work: u32)
+        ensures left { self.new.left ≡ self.old.left }
+    {
+        if numbers.proof == 0 {
+            let count = &mut self.wins[colour_index(mover)][index(best)];
+            *count = count.wrapping_add(1);
+        }
+        self.keep(keys, numbers, best, work);
+    }
+
+    /// Searches the position behind a turn.
+    #[cycle(descent)]
+    fn visit(&mut self, mover: Colour, child: &Child, most: Numbers, room: u16) -> Numbers
+        ensures left { self.new.left ≤ self.old.left }
+    {
+        if room == 0 {
+            return LOST;
+        }
+        if child.turn == PASS {
+            return self.search(mover.other(), child.key, most, room - 1);
+        }
+        if self.board.play(mover, child.turn).is_err() {
+            self.left = 0;
+            return LOST;
+        }
+        let numbers = self.search(mover.other(), child.key, most, room - 1);
+        self.board.unplay();
+        numbers
+    }
+}
