@@ -4,9 +4,10 @@
     tools/check_certificate.py [--long] [--parts] < FILE
 
 FILE holds a problem in SGF and behind it a certificate, as for `tsumego check`. The answer is `valid` (status 0), `invalid`
-or `refused NUMBER` (status 1). With --long the input may have more than 1,048,576 bytes. With --parts the certificate may
-share parts: `=` in front of a `!` or `?` names the tree that begins there, names are counted from 0 in the order in which
-the named trees end, and `*n` stands for the tree of the name n. Where such a part doesn't fit, the answer is `refused 32`.
+or `refused NUMBER` (status 1); other words are refused with status 2. With --long the input may have more than 1,048,576
+bytes. With --parts the certificate may share parts: `=` in front of a `!` or `?` names the tree that begins there, names are
+counted from 0 in the order in which the named trees end, and `*n` stands for the tree of the name n. Where such a part
+doesn't fit, the answer is `refused 32`.
 
 This file follows docs/FORMATS.md and shares nothing with the program. Whoever has read it need not believe the program.
 """
@@ -385,7 +386,8 @@ def answer(data, is_long=False, has_parts=False):
 def main():
     options = set(sys.argv[1:])
     if options - {"--long", "--parts"}:
-        sys.exit(__doc__)
+        print(__doc__, file=sys.stderr)
+        return 2
     line = answer(sys.stdin.buffer.read(), "--long" in options, "--parts" in options)
     print(line)
     return 0 if line == "valid" else 1
