@@ -1,7 +1,7 @@
 -- Courses and the boards that show them.
 use Rattle.tt_sgf.specs.declared.size.Size.{Size}
-use Rattle.std.proofs.Common.{◌≡◌, ℕ, ◌+◌, ◌-◌, ◌<◌, ◌≤◌, min, List, [], ◌∷◌, ◌++◌, length, take, get_or, All, Contains, drop, suc, refl, sym, ap, subst, ◌∙◌, arith}
-use Rattle.std.proofs.lemmas.List.{length-map, get_or-map, get_or_default, take_more, take_all, take_at, get_or_push, length_push, take-map, take-take, length-take, length-take-le}
+use Rattle.std.proofs.Common.{◌≡◌, ℕ, ◌+◌, ◌-◌, ◌<◌, ◌≤◌, List, [], ◌∷◌, ◌++◌, length, take, get_or, All, Contains, drop, suc, refl, sym, ap, subst, ◌∙◌, arith}
+use Rattle.std.proofs.lemmas.List.{length-map, get_or-map, get_or_default, take_more, take_all, take_at, get_or_push, length_push, take-map, take-take, length-take-le}
 use Rattle.tt_board.specs.Position.{Position, Colouring}
 use Rattle.tt_game.specs.declared.frame.Side.{Side}
 use Rattle.tt_game.specs.declared.frame.Side.TheVariants.{Attacker, Defender}

@@ -1,14 +1,13 @@
 -- The walk over the points, one point after the other.
-use Rattle.std.proofs.Common.{◌≡◌, ℕ, zero, suc, ◌+◌, ◌-◌, ◌<◌, ◌≤◌, List, [], ◌∷◌, ◌++◌, map, Option, None, Bool, true, false, cond, refl, sym, ap, ◌∙◌, arith}
+use Rattle.std.proofs.Common.{◌≡◌, ℕ, zero, suc, ◌+◌, ◌-◌, ◌<◌, ◌≤◌, List, [], ◌∷◌, ◌++◌, map, None, Bool, true, false, cond, refl, sym, ap, ◌∙◌, arith}
 use Rattle.std.specs.List.{filter, range_with_len}
 use Rattle.std.proofs.lemmas.List.{append_assoc}
 use Rattle.tt_sgf.specs.Sizes.{point_count}
 use Rattle.tt_game.specs.declared.frame.Frame.{Frame}
-use Rattle.tt_game.specs.declared.frame.Side.{Side}
 use Rattle.tt_game.specs.declared.turns.Turn.{Turn}
 use Rattle.tt_game.specs.declared.turns.Turn.TheVariants.{Play, Pass}
 use Rattle.tt_game.specs.declared.turns.Successor.{Successor}
-use Rattle.tt_game.specs.Game.{State, IsLegal, winner_of, after}
+use Rattle.tt_game.specs.Game.{State, IsLegal, winner_of}
 use Rattle.tt_game.specs.Turns.{all_turns, is_legal, is_legal_is, legal_turns, successor, successors_of, successors_from}
 
 -- the first point of those that are left is the first in the list
@@ -60,17 +59,6 @@ last f s on =
 pub from_last : (f : Frame) (s : State) (n : ℕ) → n ≤ point_count f.size → winner_of f s ≡ None → ((q : ℕ) → n ≤ q → IsLegal f s (Play q) → ⊥) → successors_from f s n ≡ successor f s Pass ∷ []
 from_last f s n le on none = from_gap f s n (point_count f.size) le (omega arith) (λ q after before. none q after) ∙ last f s on
 
--- what was found, and one play more, is as many as before
-pub one_more : (f : Frame) (s : State) (found made : List Successor) (from p n : ℕ) (winner : Option Side) → made ≡ found ++ (let x : Successor = record { turn = Play p; winner = winner } in x) ∷ []
-    → winner ≡ winner_of f (after f s (Play p)) → successors_from f s from ≡ successor f s (Play p) ∷ successors_from f s (p + 1) → n ≡ p → found ++ successors_from f s from ≡ successors_of f s
-    → made ++ successors_from f s (n + 1) ≡ successors_of f s
-one_more f s found made from p n winner is won more here all =
-    ap (λ xs. xs ++ successors_from f s (n + 1)) is
-    ∙ append_assoc found ((let x : Successor = record { turn = Play p; winner = winner } in x) ∷ []) (successors_from f s (n + 1))
-    ∙ ap (λ w. found ++ (let x : Successor = record { turn = Play p; winner = w } in x) ∷ successors_from f s (n + 1)) won
-    ∙ ap (λ k. found ++ successor f s (Play p) ∷ successors_from f s (k + 1)) here
-    ∙ ap (λ xs. found ++ xs) (sym more) ∙ all
-
 -- no turn is legal once somebody has won
 over : (f : Frame) (s : State) → (winner_of f s ≡ None → ⊥) → (t : Turn) → is_legal f s t ≡ false
 over f s won Pass = (is_legal_is f s Pass).2 won
@@ -95,3 +83,14 @@ turns_again f s (t ∷ ts) = ap (λ us. t ∷ us) (turns_again f s ts)
 pub turns_of : (f : Frame) (s : State) → map (λ (x : Successor). x.turn) (successors_of f s) ≡ legal_turns f s
 unfolding successors_of
 turns_of f s = turns_again f s (legal_turns f s)
+
+-- the turns that were found, and those from a point on, are all; so they are where the first of these comes to the others
+pub one_more : (f : Frame) (s : State) (found made : List Turn) (from p n : ℕ) → made ≡ found ++ Play p ∷ []
+    → successors_from f s from ≡ successor f s (Play p) ∷ successors_from f s (p + 1) → n ≡ p + 1
+    → found ++ map (λ (x : Successor). x.turn) (successors_from f s from) ≡ legal_turns f s
+    → made ++ map (λ (x : Successor). x.turn) (successors_from f s n) ≡ legal_turns f s
+one_more f s found made from p n is more next all =
+    ap (λ k. made ++ map (λ (x : Successor). x.turn) (successors_from f s k)) next
+    ∙ ap (λ ts. ts ++ map (λ (x : Successor). x.turn) (successors_from f s (p + 1))) is
+    ∙ append_assoc found (Play p ∷ []) (map (λ (x : Successor). x.turn) (successors_from f s (p + 1)))
+    ∙ ap (λ xs. found ++ map (λ (x : Successor). x.turn) xs) (sym more) ∙ all

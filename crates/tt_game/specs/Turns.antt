@@ -61,6 +61,12 @@ successor f s t = record { turn = t; winner = winner_of f (after f s t) }
 unfoldable pub successors_of : Frame → State → List Successor
 successors_of f s = map (successor f s) (legal_turns f s)
 
+-- the plays of a state on the points from a number on
+pub record PlaysFrom : Type 0 where
+  pub frame : Frame
+  pub state : State
+  pub from : ℕ
+
 -- those of them whose number is at least n: of the plays on the points from n on, and of the pass
 unfoldable pub successors_from : Frame → State → ℕ → List Successor
 successors_from f s n = map (successor f s) (filter (is_legal f s) (map (λ p. Play p) (range_with_len n (point_count f.size - n)) ++ Pass ∷ []))

@@ -40,7 +40,7 @@ impl Line {
     ghost use Rattle.tt_board.specs.Glance.{IsTold};
     ghost use Rattle.tt_game.specs.Game.{winner_of, after, made, colour_of, IsLegal};
     ghost use Rattle.tt_game.specs.Surveys.{IsSurvey};
-    ghost use Rattle.tt_game.specs.Turns.{legal_turns, successor, successors_of, successors_from, IsRising};
+    ghost use Rattle.tt_game.specs.Turns.{legal_turns, successor, successors_from, IsRising};
     ghost use Rattle.tt_game.specs.declared.turns.Turn.{Turn};
 
     /// Who has won after a play on an empty point of the region, where it is legal, by the board that it makes. This is told of it by
@@ -140,31 +140,6 @@ impl Line {
         None
     }
 
-    /// The legal turns, rising by their numbers, each with who has won after it. Each play is made once at most.
-    pub fn successors(&self) -> ArrayVec<Successor, MOST_LEGAL>
-        ensures list { result.items ≡ successors_of self.now.frame self.now.state }
-        ensures few { length result.items ≤ MOST_LEGAL }
-    {
-        let mut found = ArrayVec::new();
-        if self.winner().is_some() {
-            return found;
-        }
-        let survey = self.survey();
-        let mut from = 0;
-        while let Some((p, winner)) = self.next_play(&survey, from) {
-            found.push(Successor {
-                turn: Turn::Play(p),
-                winner,
-            });
-            from = p.number() + 1;
-        }
-        found.push(Successor {
-            turn: Turn::Pass,
-            winner: self.winner_by_pass(),
-        });
-        found
-    }
-
     /// The legal turns, rising by their numbers.
     pub fn turns(&self) -> Turns
         ensures list { result.items ≡ legal_turns self.now.frame self.now.state }
@@ -173,10 +148,14 @@ impl Line {
         ensures few { length result.items ≤ MOST_LEGAL }
     {
         let mut turns = ArrayVec::new();
-        let successors = self.successors();
-        for successor in successors.as_slice() {
-            turns.push(successor.turn);
+        if self.winner().is_some() {
+            return turns;
         }
+        let mut plays = self.legal_plays();
+        while let Some((p, _)) = plays.next() {
+            turns.push(Turn::Play(p));
+        }
+        turns.push(Turn::Pass);
         turns
     }
 }

@@ -1,6 +1,17 @@
-use Rattle.std.proofs.Common.{◌≡◌, map, take}
+use Rattle.std.proofs.Common.{◌≡◌, ◌≤◌, ◌-◌, ◌++◌, length, map}
+use Rattle.tt_sgf.specs.Sizes.{point_count}
 use Rattle.tt_game.specs.declared.turns.Successor.{Successor}
+use Rattle.tt_game.specs.Turns.{legal_turns, successors_from}
 use Rattle.tt_game.proofs.line.Line.turns.Given as goal
 
-abbrev pub invariant-loop-successor : goal.invariant-loop-successor
-invariant-loop-successor l = l.turns.items ≡ map (λ (x : Successor). x.turn) (take l.successor-index l.successor-items)
+abbrev pub invariant-loop-p : goal.invariant-loop-p
+invariant-loop-p l = record {
+  frame : l.plays.frame ≡ l.self.frame;
+  state : l.plays.state ≡ l.self.state;
+  list : l.turns.items ++ map (λ (x : Successor). x.turn) (successors_from l.self.frame l.self.state l.plays.from) ≡ legal_turns l.self.frame l.self.state;
+  few : length l.turns.items ≤ l.plays.from;
+  inside : l.plays.from ≤ point_count l.self.frame.size;
+}
+
+abbrev pub decreases-loop-p : goal.decreases-loop-p
+decreases-loop-p l = 361 - l.plays.from

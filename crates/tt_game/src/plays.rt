@@ -1,0 +1,98 @@
+//! The door to legal plays: one after the other, with what is the same for all of them worked out once.
+
+ghost use Rattle.std.specs.Prelude.{◌≡◌, ◌+◌, ◌<◌, ◌≤◌, ◌∷◌, [], None, MatchOption};
+ghost use Rattle.tt_sgf.specs.Sizes.{point_count};
+ghost use Rattle.tt_game.specs.Game.{winner_of, after};
+ghost use Rattle.tt_game.specs.Turns.{successor, successors_from};
+ghost use Rattle.tt_game.specs.declared.turns.Turn.{Turn};
+
+use crate::frame::Side;
+use crate::line::Line;
+use crate::survey::Survey;
+use std::marker::Model;
+use tt_sgf::Point;
+
+/// The legal plays of a line at which nobody has won, rising by their points, each with who has won after it. Contracts see from which
+/// point on they are left.
+#[derive(Drop)]
+pub struct LegalPlays<'a> {
+    line: &'a Line,
+    survey: Survey,
+    from: u16,
+}
+
+impl<'a> Model for LegalPlays<'a> {
+    ghost use Rattle.std.specs.Prelude.{◌≡◌, ◌≤◌, None};
+    ghost use Rattle.std.specs.Coded.{codes};
+    ghost use Rattle.tt_sgf.specs.Sizes.{point_count};
+    ghost use Rattle.tt_sgf.specs.contracts.sets.PointSet as points;
+    ghost use Rattle.tt_game.specs.Game.{winner_of};
+    ghost use Rattle.tt_game.specs.Surveys.{IsSurvey};
+    ghost use Rattle.tt_game.specs.Turns.{PlaysFrom};
+
+    ghost Value = { PlaysFrom };
+
+    ghost coded = { Prim.hlevel (codes, points.the_row.coded) };
+
+    ghost view = { λ l. record { frame = l.line.now.frame; state = l.line.now.state; from = l.from } };
+
+    ghost invariant = { λ l. record {
+      survey : IsSurvey l.survey l.line.now.frame l.line.now.state;
+      nobody : winner_of l.line.now.frame l.line.now.state ≡ None;
+      inside : l.from ≤ point_count l.line.now.frame.size;
+    } };
+}
+
+impl Line {
+    /// The legal plays, where nobody has won.
+    #[inline(always)]
+    pub fn legal_plays<'a>(&'a self) -> LegalPlays<'a>
+        requires { winner_of self.now.frame self.now.state ≡ None }
+        ensures { result ≡ record { frame = self.now.frame; state = self.now.state; from = 0 } }
+    {
+        LegalPlays {
+            line: self,
+            survey: self.survey(),
+            from: 0,
+        }
+    }
+}
+
+impl<'a> LegalPlays<'a> {
+    /// The next legal play, and who has won after it; none where only the pass is left. Each empty point is looked at once, and no other.
+    #[inline(always)]
+    pub fn next(&mut self) -> Option<(Point, Option<Side>)>
+        ensures same { (self.new.frame ≡ self.old.frame) × (self.new.state ≡ self.old.state) }
+        ensures inside { self.new.from ≤ point_count self.old.frame.size }
+        ensures next { MatchOption result
+            (successors_from self.old.frame self.old.state self.old.from ≡ successor self.old.frame self.old.state Turn.Pass ∷ [])
+            (λ x. (self.old.from ≤ x.0) × (x.0 < point_count self.old.frame.size) × (self.new.from ≡ x.0 + 1)
+            × (x.1 ≡ winner_of self.old.frame (after self.old.frame self.old.state (Turn.Play x.0)))
+            × (successors_from self.old.frame self.old.state self.old.from ≡ successor self.old.frame self.old.state (Turn.Play x.0) ∷ successors_from self.old.frame self.old.state (x.0 + 1))) }
+    {
+        let found = self.line.next_play(&self.survey, self.from);
+        if let Some((p, _)) = &found {
+            self.from = p.number() + 1;
+        }
+        found
+    }
+
+    /// Goes back to the first of them.
+    pub fn restart(&mut self)
+        ensures { self.new ≡ record { frame = self.old.frame; state = self.old.state; from = 0 } }
+    {
+        self.from = 0;
+    }
+
+    /// Who has won after the pass, which is legal too.
+    pub fn winner_by_pass(&self) -> Option<Side>
+        ensures { result ≡ winner_of self.now.frame (after self.now.frame self.now.state Turn.Pass) }
+    {
+        self.line.winner_by_pass()
+    }
+
+    /// Whether the region has many points. Nothing goes by it but time.
+    pub fn may_be_many(&self) -> bool {
+        self.line.has_many()
+    }
+}
