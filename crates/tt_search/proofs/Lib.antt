@@ -8,6 +8,7 @@ pub mod Steps
 pub mod Open
 pub mod Steady
 pub mod Asking
+pub mod Descending
 pub mod Sprouted
 pub mod WayDown
 pub mod Changed

@@ -33,6 +33,7 @@ pub mod Walking
 pub mod Taken
 pub mod Steady
 pub mod Asking
+pub mod Descending
 pub mod Sprouting
 pub mod Searching
 pub mod Advanced

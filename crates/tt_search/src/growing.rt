@@ -3,20 +3,20 @@
 ghost use Rattle.std.specs.Prelude.{◌≡◌, ◌≢◌, ◌+◌, ◌-◌, ◌^◌, ◌<◌, ◌≤◌, ◌↔◌, ◌⊎◌, true, false, None, length, take, insert};
 ghost use Rattle.std.specs.Vec.{vec_len, vec_capacity};
 ghost use Rattle.tt_game.specs.Game.{winner_of};
-ghost use Rattle.tt_proof.specs.declared.tree.TheConstants.{MOST_DEPTH};
 ghost use Rattle.tt_search.specs.PartialTree.{fresh};
 ghost use Rattle.tt_search.specs.Packed.{HasItsNodes, IsRank, child_of, choices_of};
 ghost use Rattle.tt_search.specs.Choices.{node_with};
 ghost use Rattle.tt_search.specs.Kept.{IsKept};
 ghost use Rattle.tt_search.specs.Pairs.{ArePair};
-ghost use Rattle.tt_search.specs.Walking.{stage, stand_of, MayGrow};
+ghost use Rattle.tt_search.specs.Walking.{stage, stand_of};
+ghost use Rattle.tt_search.specs.Descending.{MayDescend, Descends};
 ghost use Rattle.tt_search.specs.Sprouting.{IsFreshAt, Sprouts, StepsBelow, BestSteps};
 ghost use Rattle.tt_search.specs.Taken.{Taken, IsLeft};
 ghost use Rattle.tt_search.specs.Steady.{AreSteps};
 ghost use Rattle.tt_search.specs.Grants.{AskedBy};
-ghost use Rattle.tt_search.specs.Asking.{AreAsked};
 ghost use Rattle.tt_search.specs.declared.limits.Reason.TheVariants.{Total};
 ghost use Rattle.tt_search.specs.declared.limits.Step.TheVariants.{Expanded, Closed, Stuck};
+ghost use Rattle.tt_search.specs.declared.walk.Pace.TheVariants.{OneStep};
 
 use crate::children::{Aim, Packed};
 use crate::closing::usable;
@@ -93,15 +93,8 @@ impl Node {
         store: &mut S,
         grants: &mut G,
     ) -> Step
-        requires may_grow { MayGrow (stand_of walk.old) self.old }
-        requires room { walk.old.room ≤ MOST_DEPTH }
-        requires grants { (G.asked grants.old).granted + walk.old.left < 2 ^ 64 }
-        ensures line { walk.new.line ≡ walk.old.line }
-        ensures room { walk.new.room ≡ walk.old.room }
-        ensures may { result ≡ Closed → S.may_answer }
-        ensures granted { (G.asked grants.new).granted + walk.new.left ≡ (G.asked grants.old).granted + walk.old.left }
-        ensures asked { AreAsked pace (G.asked grants.old) result (G.asked grants.new) }
-        ensures source { G.source grants.new ≡ G.source grants.old }
+        requires { MayDescend walk.old self.old (G.asked grants.old) }
+        ensures descends { Descends G.asked G.source S.may_answer pace walk.old grants.old result walk.new grants.new }
         ensures steps { AreSteps pace walk.old self.old result self.new walk.new }
     {
         'rounds: loop {
@@ -129,15 +122,8 @@ impl Node {
         store: &mut S,
         grants: &mut G,
     ) -> Step
-        requires may_grow { MayGrow (stand_of walk.old) self.old }
-        requires room { walk.old.room ≤ MOST_DEPTH }
-        requires grants { (G.asked grants.old).granted + walk.old.left < 2 ^ 64 }
-        ensures line { walk.new.line ≡ walk.old.line }
-        ensures room { walk.new.room ≡ walk.old.room }
-        ensures may { result ≡ Closed → S.may_answer }
-        ensures granted { (G.asked grants.new).granted + walk.new.left ≡ (G.asked grants.old).granted + walk.old.left }
-        ensures asked { AreAsked pace (G.asked grants.old) result (G.asked grants.new) }
-        ensures source { G.source grants.new ≡ G.source grants.old }
+        requires { MayDescend walk.old self.old (G.asked grants.old) }
+        ensures descends { Descends G.asked G.source S.may_answer pace walk.old grants.old result walk.new grants.new }
         ensures steps { AreSteps pace walk.old self.old result self.new walk.new }
     {
         let (proof, disproof) = (self.proof, self.disproof);
@@ -178,15 +164,8 @@ impl Node {
     ) -> Step
         requires same { node_with (choices_of aim.mover children) ≡ self.old }
         requires kept { IsKept aim children }
-        requires may_grow { MayGrow (stand_of walk.old) self.old }
-        requires room { walk.old.room ≤ MOST_DEPTH }
-        requires grants { (G.asked grants.old).granted + walk.old.left < 2 ^ 64 }
-        ensures line { walk.new.line ≡ walk.old.line }
-        ensures room { walk.new.room ≡ walk.old.room }
-        ensures may { result ≡ Closed → S.may_answer }
-        ensures granted { (G.asked grants.new).granted + walk.new.left ≡ (G.asked grants.old).granted + walk.old.left }
-        ensures asked { AreAsked pace (G.asked grants.old) result (G.asked grants.new) }
-        ensures source { G.source grants.new ≡ G.source grants.old }
+        requires ready { MayDescend walk.old self.old (G.asked grants.old) }
+        ensures descends { Descends G.asked G.source S.may_answer pace walk.old grants.old result walk.new grants.new }
         ensures steps { AreSteps pace walk.old self.old result self.new walk.new }
     {
         let was = Pair::of(aim.mover, self.proof, self.disproof);
@@ -263,13 +242,8 @@ impl Node {
         requires fresh { self.old ≡ fresh }
         requires open { winner_of walk.old.line.frame walk.old.line.state ≡ None }
         requires grants { (G.asked grants.old).granted + walk.old.left < 2 ^ 64 }
-        ensures line { walk.new.line ≡ walk.old.line }
-        ensures room { walk.new.room ≡ walk.old.room }
-        ensures may { result ≡ Closed → S.may_answer }
+        ensures descends { Descends G.asked G.source S.may_answer OneStep walk.old grants.old result walk.new grants.new }
         ensures kept { (reason : _) → result ≡ Stuck reason → S.kept store.new ≡ S.kept store.old }
-        ensures granted { (G.asked grants.new).granted + walk.new.left ≡ (G.asked grants.old).granted + walk.old.left }
-        ensures asked { AskedBy (G.asked grants.old) result (G.asked grants.new) }
-        ensures source { G.source grants.new ≡ G.source grants.old }
         ensures taken { Taken (stand_of walk.old) (stage fresh walk.old.left) result self.new }
         ensures left { IsLeft result walk.old.left walk.new.left }
     {
@@ -304,15 +278,8 @@ impl Packed {
     ) -> (Step, Pair)
         requires kept { IsKept aim.old self.old }
         requires was { ArePair aim.old.mover (node_with (choices_of aim.old.mover self.old)) was }
-        requires may_grow { MayGrow (stand_of walk.old) (node_with (choices_of aim.old.mover self.old)) }
-        requires room { walk.old.room ≤ MOST_DEPTH }
-        requires grants { (G.asked grants.old).granted + walk.old.left < 2 ^ 64 }
-        ensures line { walk.new.line ≡ walk.old.line }
-        ensures room { walk.new.room ≡ walk.old.room }
-        ensures may { result.0 ≡ Closed → S.may_answer }
-        ensures granted { (G.asked grants.new).granted + walk.new.left ≡ (G.asked grants.old).granted + walk.old.left }
-        ensures asked { AreAsked pace (G.asked grants.old) result.0 (G.asked grants.new) }
-        ensures source { G.source grants.new ≡ G.source grants.old }
+        requires ready { MayDescend walk.old (node_with (choices_of aim.old.mover self.old)) (G.asked grants.old) }
+        ensures descends { Descends G.asked G.source S.may_answer pace walk.old grants.old result.0 walk.new grants.new }
         ensures steps { AreSteps pace walk.old (node_with (choices_of aim.old.mover self.old)) result.0 (node_with (choices_of aim.new.mover self.new)) walk.new }
         ensures kept { IsKept aim.new self.new }
         ensures numbers { ArePair aim.new.mover (node_with (choices_of aim.new.mover self.new)) result.1 }
@@ -341,15 +308,8 @@ impl Packed {
         requires kept { IsKept aim.old self.old }
         requires was { ArePair aim.old.mover (node_with (choices_of aim.old.mover self.old)) was }
         requires there { aim.old.place < length self.old.edges }
-        requires may_grow { MayGrow (stand_of walk.old) (child_of self.old aim.old.place) }
-        requires room { walk.old.room ≤ MOST_DEPTH }
-        requires grants { (G.asked grants.old).granted + walk.old.left < 2 ^ 64 }
-        ensures line { walk.new.line ≡ walk.old.line }
-        ensures room { walk.new.room ≡ walk.old.room }
-        ensures may { result.0 ≡ Closed → S.may_answer }
-        ensures granted { (G.asked grants.new).granted + walk.new.left ≡ (G.asked grants.old).granted + walk.old.left }
-        ensures asked { AreAsked pace (G.asked grants.old) result.0 (G.asked grants.new) }
-        ensures source { G.source grants.new ≡ G.source grants.old }
+        requires ready { MayDescend walk.old (child_of self.old aim.old.place) (G.asked grants.old) }
+        ensures descends { Descends G.asked G.source S.may_answer pace walk.old grants.old result.0 walk.new grants.new }
         ensures steps { BestSteps pace walk.old (choices_of aim.old.mover self.old) result.0 (choices_of aim.new.mover self.new) walk.new }
         ensures kept { IsKept aim.new self.new }
         ensures numbers { ArePair aim.new.mover (node_with (choices_of aim.new.mover self.new)) result.1 }
@@ -390,17 +350,10 @@ impl Packed {
         requires there { place < length self.old.edges }
         requires rank { IsRank rank place self.old }
         requires whole { HasItsNodes self.old }
-        requires may_grow { MayGrow (stand_of walk.old) (child_of self.old place) }
-        requires room { walk.old.room ≤ MOST_DEPTH }
-        requires grants { (G.asked grants.old).granted + walk.old.left < 2 ^ 64 }
-        ensures line { walk.new.line ≡ walk.old.line }
-        ensures room { walk.new.room ≡ walk.old.room }
-        ensures may { result ≡ Closed → S.may_answer }
+        requires ready { MayDescend walk.old (child_of self.old place) (G.asked grants.old) }
+        ensures descends { Descends G.asked G.source S.may_answer pace walk.old grants.old result walk.new grants.new }
         ensures whole { HasItsNodes self.new }
         ensures before { take place self.new.edges ≡ take place self.old.edges }
-        ensures granted { (G.asked grants.new).granted + walk.new.left ≡ (G.asked grants.old).granted + walk.old.left }
-        ensures asked { AreAsked pace (G.asked grants.old) result (G.asked grants.new) }
-        ensures source { G.source grants.new ≡ G.source grants.old }
         ensures steps { StepsBelow pace walk.old place self.old result self.new walk.new }
     {
         match self.edges.at(place).mark() {
@@ -427,15 +380,10 @@ impl Packed {
         requires there { IsFreshAt place self.old.edges }
         requires rank { IsRank rank place self.old }
         requires grants { (G.asked grants.old).granted + walk.old.left < 2 ^ 64 }
-        ensures line { walk.new.line ≡ walk.old.line }
-        ensures room { walk.new.room ≡ walk.old.room }
-        ensures may { result ≡ Closed → S.may_answer }
+        ensures descends { Descends G.asked G.source S.may_answer OneStep walk.old grants.old result walk.new grants.new }
         ensures kept { (reason : _) → result ≡ Stuck reason → S.kept store.new ≡ S.kept store.old }
         ensures whole { HasItsNodes self.new }
         ensures before { take place self.new.edges ≡ take place self.old.edges }
-        ensures granted { (G.asked grants.new).granted + walk.new.left ≡ (G.asked grants.old).granted + walk.old.left }
-        ensures asked { AskedBy (G.asked grants.old) result (G.asked grants.new) }
-        ensures source { G.source grants.new ≡ G.source grants.old }
         ensures sprouts { Sprouts walk.old place self.old result self.new walk.new }
     {
         if self.grown.reserve_exact(1).is_err() {

@@ -1,4 +1,4 @@
-use Rattle.std.proofs.Common.{rules, ◌≡◌, ◌+◌, ◌^◌, ◌<◌, ◌⊎◌, ℕ, length, take, get_or, refl, sym, ◌∙◌, ap, subst, arith}
+use Rattle.std.proofs.Common.{rules, ◌≡◌, ◌+◌, ◌^◌, ◌<◌, ◌⊎◌, ℕ, true, length, take, get_or, refl, sym, ◌∙◌, ap, subst, arith}
 use Rattle.tt_game.specs.declared.frame.Side.TheVariants.{Attacker, Defender}
 use Rattle.tt_search.specs.PartialTree.{PartialTree}
 use Rattle.tt_search.specs.Shape.{shape}
@@ -14,7 +14,8 @@ use Rattle.tt_search.specs.declared.limits.Step.TheVariants.{Expanded, Closed}
 use Rattle.tt_search.specs.declared.walk.Walk.{Walk}
 use Rattle.tt_search.proofs.Sprouted.{fresh_here, fresh_child, not_won, rank_within_nodes, child_node, node_steps, one_step}
 use Rattle.tt_search.proofs.Steady.{last_round, next_round, round_falls, same_numbers, same_stand, steps_offerable}
-use Rattle.tt_search.proofs.Asking.{asked_once, asked_last, granted_more}
+use Rattle.tt_search.proofs.Asking.{granted_more}
+use Rattle.tt_search.proofs.Descending.{any_pace, last_of}
 use Rattle.tt_search.proofs.Steps.{IsOfferable}
 use Rattle.tt_search.proofs.Places.{length-trees_of, length-turns_of}
 use Rattle.tt_search.proofs.Changed.{few_stay, place_there, in_trees, part_was, sum_now, place_now, own_now, above_was, pair_of}
@@ -39,14 +40,14 @@ children::Packed::grow_at-grow-requires g t c κs within =
     let node = c.index_mut.result.now in
     let here = child_node c.args.self.now c.args.place c.args.rank c.at.result node c.requires.there c.at.ensures c.requires.whole c.in-Grown.ensures c.requires.rank
     c.index_mut.ensures.value in
-    (omega (arith, c.decreases), (within.0, (within.1, (subst (MayGrow (stand_of c.args.walk.now)) here c.requires.may_grow, (c.requires.room, c.requires.grants)))))
+    (omega (arith, c.decreases), (within.0, (within.1, record { may_grow = subst (MayGrow (stand_of c.args.walk.now)) here c.requires.ready.may_grow; room = c.requires.ready.room; grants = c.requires.ready.grants })))
 
 pub children::Packed::grow_at-sprout-requires-clause-open : goal.children::Packed::grow_at-sprout-requires-clause-open
 children::Packed::grow_at-sprout-requires-clause-open g t c =
     let x = c.args.self.now in
     let line = c.args.walk.now.line in
     let is = fresh_child x.edges x.grown.items c.args.place c.at.result c.requires.there c.at.ensures (sym c.in-Fresh.ensures) in
-    subst (IsPartialTree line.frame line.state) is c.requires.may_grow.partial
+    subst (IsPartialTree line.frame line.state) is c.requires.ready.may_grow.partial
 
 pub children::Packed::grow_at-sprout-requires-clause-there : goal.children::Packed::grow_at-sprout-requires-clause-there
 children::Packed::grow_at-sprout-requires-clause-there g t c =
@@ -57,7 +58,7 @@ pub children::Packed::grow_at-unreachable-requires : goal.children::Packed::grow
 children::Packed::grow_at-unreachable-requires g t c =
     let x = c.args.self.now in
     let edge = c.at.result in
-    not_won x.edges x.grown.items c.args.place edge c.requires.there c.at.ensures c.requires.may_grow.undecided (mark_of edge) refl c.in-Won.field-0 (sym c.in-Won.ensures)
+    not_won x.edges x.grown.items c.args.place edge c.requires.there c.at.ensures c.requires.ready.may_grow.undecided (mark_of edge) refl c.in-Won.field-0 (sym c.in-Won.ensures)
 
 pub children::Packed::grow_at-returns-in-Grown-clause-steps : goal.children::Packed::grow_at-returns-in-Grown-clause-steps
 children::Packed::grow_at-returns-in-Grown-clause-steps g t c =
@@ -72,9 +73,9 @@ children::Packed::grow_at-returns-in-Fresh-clause-steps g t c =
     let is = fresh_child x.edges x.grown.items c.args.place c.at.result c.requires.there c.at.ensures (sym c.in-Fresh.ensures) in
     one_step c.args.pace c.args.walk.now c.args.place x c.sprout.result c.sprout.new.self c.sprout.new.walk is c.sprout.ensures.sprouts
 
-pub children::Packed::grow_at-returns-in-Fresh-clause-asked : goal.children::Packed::grow_at-returns-in-Fresh-clause-asked
-children::Packed::grow_at-returns-in-Fresh-clause-asked g t c =
-    asked_once c.args.pace (g.G.Grants.asked c.args.grants.now) (g.G.Grants.asked c.sprout.new.grants) c.sprout.result c.sprout.ensures.asked
+pub children::Packed::grow_at-returns-in-Fresh-clause-descends : goal.children::Packed::grow_at-returns-in-Fresh-clause-descends
+children::Packed::grow_at-returns-in-Fresh-clause-descends g t c =
+    any_pace g.G.Grants.asked g.G.Grants.source g.S.Store.may_answer c.args.pace c.args.walk.now c.args.grants.now c.sprout.result c.sprout.new.walk c.sprout.new.grants c.sprout.ensures.descends
 
 -- ---- the rounds at a node
 
@@ -96,27 +97,17 @@ node::Node::grow-returns-then-number-proof-clause-steps g t c =
     let steps = subst (λ at. AreStepsAt c.args.pace at now c.round-step.result new) same c.round-step.ensures.steps in
     last_round c.args.pace (stand_of c.args.walk.now) first now c.round-step.result new steps c.rounds.invariant.under_way
 
-pub node::Node::grow-returns-then-is_one_step-clause-granted : goal.node::Node::grow-returns-then-is_one_step-clause-granted
-node::Node::grow-returns-then-is_one_step-clause-granted g t c = c.round-step.ensures.granted ∙ c.rounds.invariant.granted
+pub node::Node::grow-returns-then-is_one_step-clause-descends : goal.node::Node::grow-returns-then-is_one_step-clause-descends
+node::Node::grow-returns-then-is_one_step-clause-descends g t c =
+    let far = c.rounds.invariant in
+    last_of g.G.Grants.asked g.G.Grants.source g.S.Store.may_answer c.args.pace c.args.walk.now (record c.rounds.walk { offering = true }) c.args.grants.now c.rounds.grants c.round-step.result
+    c.round-step.new.walk c.round-step.new.grants far.line far.room far.granted far.source far.far c.round-step.ensures.descends
 
-pub node::Node::grow-returns-then-number-proof-clause-granted : goal.node::Node::grow-returns-then-number-proof-clause-granted
-node::Node::grow-returns-then-number-proof-clause-granted g t c = c.round-step.ensures.granted ∙ c.rounds.invariant.granted
-
-pub node::Node::grow-returns-then-is_one_step-clause-source : goal.node::Node::grow-returns-then-is_one_step-clause-source
-node::Node::grow-returns-then-is_one_step-clause-source g t c = c.round-step.ensures.source ∙ c.rounds.invariant.source
-
-pub node::Node::grow-returns-then-number-proof-clause-source : goal.node::Node::grow-returns-then-number-proof-clause-source
-node::Node::grow-returns-then-number-proof-clause-source g t c = c.round-step.ensures.source ∙ c.rounds.invariant.source
-
-pub node::Node::grow-returns-then-is_one_step-clause-asked : goal.node::Node::grow-returns-then-is_one_step-clause-asked
-node::Node::grow-returns-then-is_one_step-clause-asked g t c =
-    asked_last c.args.pace (g.G.Grants.asked c.args.grants.now) (g.G.Grants.asked c.rounds.grants) (g.G.Grants.asked c.round-step.new.grants) c.round-step.result
-    c.rounds.invariant.far c.round-step.ensures.asked
-
-pub node::Node::grow-returns-then-number-proof-clause-asked : goal.node::Node::grow-returns-then-number-proof-clause-asked
-node::Node::grow-returns-then-number-proof-clause-asked g t c =
-    asked_last c.args.pace (g.G.Grants.asked c.args.grants.now) (g.G.Grants.asked c.rounds.grants) (g.G.Grants.asked c.round-step.new.grants) c.round-step.result
-    c.rounds.invariant.far c.round-step.ensures.asked
+pub node::Node::grow-returns-then-number-proof-clause-descends : goal.node::Node::grow-returns-then-number-proof-clause-descends
+node::Node::grow-returns-then-number-proof-clause-descends g t c =
+    let far = c.rounds.invariant in
+    last_of g.G.Grants.asked g.G.Grants.source g.S.Store.may_answer c.args.pace c.args.walk.now (record c.rounds.walk { offering = true }) c.args.grants.now c.rounds.grants c.round-step.result
+    c.round-step.new.walk c.round-step.new.grants far.line far.room far.granted far.source far.far c.round-step.ensures.descends
 
 pub node::Node::grow-rounds-smaller : goal.node::Node::grow-rounds-smaller
 node::Node::grow-rounds-smaller g t c =
@@ -136,13 +127,13 @@ node::Node::grow-rounds-preserved g t c =
     let same = same_stand c.rounds.walk c.args.walk.now c.rounds.invariant.line c.rounds.invariant.room in
     let steps = subst (λ at. AreStepsAt c.args.pace at now c.round-step.result new) same c.round-step.ensures.steps in
     record {
-      line = c.round-step.ensures.line ∙ c.rounds.invariant.line;
-      room = c.round-step.ensures.room ∙ c.rounds.invariant.room;
-      granted = c.round-step.ensures.granted ∙ c.rounds.invariant.granted;
-      source = c.round-step.ensures.source ∙ c.rounds.invariant.source;
+      line = c.round-step.ensures.descends.line ∙ c.rounds.invariant.line;
+      room = c.round-step.ensures.descends.room ∙ c.rounds.invariant.room;
+      granted = c.round-step.ensures.descends.granted ∙ c.rounds.invariant.granted;
+      source = c.round-step.ensures.descends.source_stays ∙ c.rounds.invariant.source;
       far =
           granted_more c.args.pace (g.G.Grants.asked c.args.grants.now) (g.G.Grants.asked c.rounds.grants) (g.G.Grants.asked c.round-step.new.grants) c.round-step.result
-          c.rounds.invariant.far c.round-step.ensures.asked c.is_one_step.result c.is_one_step.ensures c.if-is_one_step.false changed;
+          c.rounds.invariant.far c.round-step.ensures.descends.asked_for c.is_one_step.result c.is_one_step.ensures c.if-is_one_step.false changed;
       under_way =
           next_round c.args.pace (stand_of c.args.walk.now) first now c.round-step.result new steps
           c.is_one_step.result c.is_one_step.ensures c.if-is_one_step.false c.rounds.invariant.under_way changed (same_numbers c.rounds.self c.round-step.new.self proof disproof);
@@ -170,10 +161,11 @@ children::Packed::grow_best-grow_at-step-requires g t c κs within =
               rank,
               (
                 c.requires.kept.whole,
-                (
-                  subst (λ i. MayGrow (stand_of c.args.walk.now) (child_of x i)) (sym c.from-place.ensures) c.requires.may_grow,
-                  (c.requires.room, c.requires.grants),
-                ),
+                record {
+                  may_grow = subst (λ i. MayGrow (stand_of c.args.walk.now) (child_of x i)) (sym c.from-place.ensures) c.requires.ready.may_grow;
+                  room = c.requires.ready.room;
+                  grants = c.requires.ready.grants;
+                },
               ),
             ),
           ),
@@ -265,13 +257,13 @@ children::Packed::grow_best-returns-clause-numbers g t c =
 pub children::Packed::descend-best_turn-requires : goal.children::Packed::descend-best_turn-requires
 children::Packed::descend-best_turn-requires g t c =
     let x = choices_of c.args.aim.now.mover c.args.self.now in
-    omega (arith, turn_there (stand_of c.args.walk.now) x (node_with x) refl c.requires.may_grow, c.requires.kept.place, length-turns_of c.args.self.now.edges)
+    omega (arith, turn_there (stand_of c.args.walk.now) x (node_with x) refl c.requires.ready.may_grow, c.requires.kept.place, length-turns_of c.args.self.now.edges)
 
 pub children::Packed::descend-go_down-requires-clause-legal : goal.children::Packed::descend-go_down-requires-clause-legal
 children::Packed::descend-go_down-requires-clause-legal g t c =
     let x = choices_of c.args.aim.now.mover c.args.self.now in
     let turn = c.best_turn.ensures ∙ ap (λ i. get_or (edge_turns c.args.self.now.edges) i c.best_turn.result) c.requires.kept.place in
-    (way_down (stand_of c.args.walk.now) x (node_with x) refl c.requires.may_grow c.best_turn.result turn).legal
+    (way_down (stand_of c.args.walk.now) x (node_with x) refl c.requires.ready.may_grow c.best_turn.result turn).legal
 
 pub children::Packed::descend-grow_best-step-requires : goal.children::Packed::descend-grow_best-step-requires
 children::Packed::descend-grow_best-step-requires g t c κs within =
@@ -280,15 +272,15 @@ children::Packed::descend-grow_best-step-requires g t c κs within =
     let x = choices_of aim.mover children in
     let walk = c.args.walk.now in
     let turn = c.best_turn.ensures ∙ ap (λ i. get_or (edge_turns children.edges) i c.best_turn.result) c.requires.kept.place in
-    let way = way_down (stand_of walk) x (node_with x) refl c.requires.may_grow c.best_turn.result turn in
+    let way = way_down (stand_of walk) x (node_with x) refl c.requires.ready.may_grow c.best_turn.result turn in
     let gone = c.in-Ok.ensures.ok in
-    let room = has_room (stand_of walk) x (node_with x) refl c.requires.may_grow in
-    let below = child_there (stand_of walk) x (node_with x) refl c.requires.may_grow in
+    let room = has_room (stand_of walk) x (node_with x) refl c.requires.ready.may_grow in
+    let below = child_there (stand_of walk) x (node_with x) refl c.requires.ready.may_grow in
     let there : aim.place < length children.edges = omega (arith, below, c.requires.kept.place, length-trees_of children.edges children.grown.items) in
     let may_grow = subst (λ i. MayGrow (stand_of c.go_down.new.self) (child_of children i)) (sym c.requires.kept.place)
     (child_may_grow walk x (node_with x) c.best_turn.result way c.go_down.new.self gone) in
-    let grants = subst (λ (n : ℕ). (g.G.Grants.asked c.args.grants.now).granted + n < 2 ^ 64) (sym gone.left) c.requires.grants in
-    (omega (arith, c.decreases, gone.room, room), (within.0, (within.1, (c.requires.kept, (c.requires.was, (there, (may_grow, (omega (arith, gone.room, c.requires.room), grants))))))))
+    let grants = subst (λ (n : ℕ). (g.G.Grants.asked c.args.grants.now).granted + n < 2 ^ 64) (sym gone.left) c.requires.ready.grants in
+    (omega (arith, c.decreases, gone.room, room), (within.0, (within.1, (c.requires.kept, (c.requires.was, (there, record { may_grow = may_grow; room = omega (arith, gone.room, c.requires.ready.room); grants = grants }))))))
 
 pub children::Packed::descend-returns-clause-steps : goal.children::Packed::descend-returns-clause-steps
 children::Packed::descend-returns-clause-steps g t c =
@@ -297,7 +289,7 @@ children::Packed::descend-returns-clause-steps g t c =
     let x = choices_of aim.mover children in
     let walk = c.args.walk.now in
     let turn = c.best_turn.ensures ∙ ap (λ i. get_or (edge_turns children.edges) i c.best_turn.result) c.requires.kept.place in
-    let way = way_down (stand_of walk) x (node_with x) refl c.requires.may_grow c.best_turn.result turn in
+    let way = way_down (stand_of walk) x (node_with x) refl c.requires.ready.may_grow c.best_turn.result turn in
     let gone = c.in-Ok.ensures.ok in
     let new = choices_of c.grow_best-step.new.aim.mover c.grow_best-step.new.self in
     round_steps walk x (node_with x) c.best_turn.result way c.go_down.new.self gone c.args.pace c.grow_best-step.result.0 new
@@ -317,7 +309,7 @@ node::Node::round-offer-walk-requires-clause-partial g t c =
     let new = node_with (choices_of c.descend-step.new.aim.mover c.descend-step.new.self) in
     let steps = subst (λ (n : PartialTree). AreSteps c.args.pace walk n c.descend-step.result.0 new after) (sym (ap shape c.in-Expanded.is) ∙ c.self.view_is) c.descend-step.ensures.steps in
     let offerable = steps_offerable c.args.pace walk.line walk.room (stage c.args.self.now walk.left) c.descend-step.result.0 (stage new after.left) c.requires.room c.requires.may_grow steps in
-    (subst (λ line. IsOfferable line new) (sym c.descend-step.ensures.line) offerable).0
+    (subst (λ line. IsOfferable line new) (sym c.descend-step.ensures.descends.line) offerable).0
 
 pub node::Node::round-offer-walk-requires-clause-stays : goal.node::Node::round-offer-walk-requires-clause-stays
 node::Node::round-offer-walk-requires-clause-stays g t c =
@@ -326,7 +318,7 @@ node::Node::round-offer-walk-requires-clause-stays g t c =
     let new = node_with (choices_of c.descend-step.new.aim.mover c.descend-step.new.self) in
     let steps = subst (λ (n : PartialTree). AreSteps c.args.pace walk n c.descend-step.result.0 new after) (sym (ap shape c.in-Expanded.is) ∙ c.self.view_is) c.descend-step.ensures.steps in
     let offerable = steps_offerable c.args.pace walk.line walk.room (stage c.args.self.now walk.left) c.descend-step.result.0 (stage new after.left) c.requires.room c.requires.may_grow steps in
-    (subst (λ line. IsOfferable line new) (sym c.descend-step.ensures.line) offerable).1
+    (subst (λ line. IsOfferable line new) (sym c.descend-step.ensures.descends.line) offerable).1
 
 pub node::Node::round-returns-in-Some-clause-steps : goal.node::Node::round-returns-in-Some-clause-steps
 node::Node::round-returns-in-Some-clause-steps g t c =
@@ -358,8 +350,8 @@ node::Node::first_round-offer-walk-requires-clause-partial g t c =
     let after = c.descend-step.new.walk in
     let new = node_with (choices_of c.descend-step.new.aim.mover c.descend-step.new.self) in
     let steps = subst (λ (n : PartialTree). AreSteps c.args.pace walk n c.descend-step.result.0 new after) (c.requires.same) c.descend-step.ensures.steps in
-    let offerable = steps_offerable c.args.pace walk.line walk.room (stage c.args.self.now walk.left) c.descend-step.result.0 (stage new after.left) c.requires.room c.requires.may_grow steps in
-    (subst (λ line. IsOfferable line new) (sym c.descend-step.ensures.line) offerable).0
+    let offerable = steps_offerable c.args.pace walk.line walk.room (stage c.args.self.now walk.left) c.descend-step.result.0 (stage new after.left) c.requires.ready.room c.requires.ready.may_grow steps in
+    (subst (λ line. IsOfferable line new) (sym c.descend-step.ensures.descends.line) offerable).0
 
 pub node::Node::first_round-offer-walk-requires-clause-stays : goal.node::Node::first_round-offer-walk-requires-clause-stays
 node::Node::first_round-offer-walk-requires-clause-stays g t c =
@@ -367,8 +359,8 @@ node::Node::first_round-offer-walk-requires-clause-stays g t c =
     let after = c.descend-step.new.walk in
     let new = node_with (choices_of c.descend-step.new.aim.mover c.descend-step.new.self) in
     let steps = subst (λ (n : PartialTree). AreSteps c.args.pace walk n c.descend-step.result.0 new after) (c.requires.same) c.descend-step.ensures.steps in
-    let offerable = steps_offerable c.args.pace walk.line walk.room (stage c.args.self.now walk.left) c.descend-step.result.0 (stage new after.left) c.requires.room c.requires.may_grow steps in
-    (subst (λ line. IsOfferable line new) (sym c.descend-step.ensures.line) offerable).1
+    let offerable = steps_offerable c.args.pace walk.line walk.room (stage c.args.self.now walk.left) c.descend-step.result.0 (stage new after.left) c.requires.ready.room c.requires.ready.may_grow steps in
+    (subst (λ line. IsOfferable line new) (sym c.descend-step.ensures.descends.line) offerable).1
 
 pub node::Node::first_round-returns-in-Some-clause-steps : goal.node::Node::first_round-returns-in-Some-clause-steps
 node::Node::first_round-returns-in-Some-clause-steps g t c =

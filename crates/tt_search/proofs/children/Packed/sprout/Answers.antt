@@ -2,7 +2,8 @@ use Rattle.std.proofs.Common.{◌∙◌, ◌≤◌, length, get_or, take, refl, 
 use Rattle.std.proofs.lemmas.List.Edits.{get_or-insert_at}
 use Rattle.tt_search.specs.PartialTree.{fresh}
 use Rattle.tt_search.specs.Edges.{edge_turn}
-use Rattle.tt_search.specs.Grants.{AskedBy}
+use Rattle.tt_search.specs.Descending.{Descends}
+use Rattle.tt_search.specs.declared.walk.Pace.TheVariants.{OneStep}
 use Rattle.tt_search.proofs.Places.{fresh_there, rank_within, take_set}
 use Rattle.tt_search.proofs.Sprouted.{stays_fresh, stays_for_memory, stands_inserted, gone_again, still_whole, put, put_whole}
 use Rattle.tt_search.proofs.children.Packed.sprout.Goals as goal
@@ -36,9 +37,10 @@ returns-in-Stuck-clause-whole g c =
     c.put_fresh.ensures.items in
     still_whole x.edges x.grown.items _ c.requires.whole c.remove-fresh.ensures.items gone
 
-pub returns-in-Stuck-clause-asked : goal.returns-in-Stuck-clause-asked
-returns-in-Stuck-clause-asked g c =
-    subst (λ s. AskedBy (g.G.Grants.asked c.args.grants.now) s (g.G.Grants.asked c.first_step-step.new.grants)) c.in-Stuck.is c.first_step-step.ensures.asked
+pub returns-in-Stuck-clause-descends : goal.returns-in-Stuck-clause-descends
+returns-in-Stuck-clause-descends g c =
+    let leaf = c.first_step-step in
+    subst (λ s. Descends g.G.Grants.asked g.G.Grants.source g.S.Store.may_answer OneStep c.args.walk.now c.args.grants.now s leaf.new.walk leaf.new.grants) c.in-Stuck.is leaf.ensures.descends
 
 pub returns-in-Stuck-clause-sprouts : goal.returns-in-Stuck-clause-sprouts
 returns-in-Stuck-clause-sprouts g c =
@@ -72,15 +74,10 @@ returns g c =
     c.put_fresh.ensures.items in
     let turn = c.grown-edge.ensures.turn ∙ ap edge_turn c.at.ensures in
     record {
-      line = leaf.ensures.line;
-      room = leaf.ensures.room;
-      may = leaf.ensures.may;
+      descends = leaf.ensures.descends;
       kept = leaf.ensures.kept;
       whole = put_whole x.edges _ x.grown.items _ c.args.place c.args.rank c.grown-edge.result leaf.new.self c.requires.there c.requires.whole c.requires.rank c.grown-edge.ensures.mark c.set.ensures row;
       before = ap (take c.args.place) c.set.ensures ∙ take_set x.edges c.args.place c.grown-edge.result;
-      granted = leaf.ensures.granted;
-      asked = leaf.ensures.asked;
-      source = leaf.ensures.source;
       sprouts = (
         leaf.new.self,
         leaf.ensures.taken,

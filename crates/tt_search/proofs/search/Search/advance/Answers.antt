@@ -22,7 +22,7 @@ invariant_of-self g c =
     let u : IsUndecided now.root = search rules in
     let new = stage c.grow.new.self c.grow.new.walk.left in
     let after = steps_with (stand_of now.walk) now.limits c.args.pace (stage now.root now.walk.left) c.grow.result new c.self.invariant u c.grow.ensures.steps in
-    subst (λ at. IsSearch at now.limits new) (sym (same_stand c.grow.new.walk now.walk c.grow.ensures.line c.grow.ensures.room)) after
+    subst (λ at. IsSearch at now.limits new) (sym (same_stand c.grow.new.walk now.walk c.grow.ensures.descends.line c.grow.ensures.descends.room)) after
 
 pub returns-clause-advanced : goal.returns-clause-advanced
 returns-clause-advanced g c =
@@ -30,14 +30,20 @@ returns-clause-advanced g c =
     let u : IsUndecided now.root = search rules in
     let new = stage c.grow.new.self c.grow.new.walk.left in
     let search = advanced now.walk.line now.walk.room now.limits c.args.pace (stage now.root now.walk.left) c.grow.result new c.self.invariant u c.grow.ensures.steps in
-    subst (λ (l : Standing). IsAdvanced c.args.pace c.args.self.now c.grow.result (record { line = l; limits = now.limits; tree = c.grow.new.self })) (sym c.grow.ensures.line)
+    subst (λ (l : Standing). IsAdvanced c.args.pace c.args.self.now c.grow.result (record { line = l; limits = now.limits; tree = c.grow.new.self })) (sym c.grow.ensures.descends.line)
     (subst (λ (old : Searched). IsAdvanced c.args.pace old c.grow.result (record { line = now.walk.line; limits = now.limits; tree = c.grow.new.self })) c.self.view_is search)
 
-pub grow-requires-clause-grants : goal.grow-requires-clause-grants
-grow-requires-clause-grants g c =
+pub grow-requires : goal.grow-requires
+grow-requires g c =
+    let now = c.self.inside in
+    let u : IsUndecided now.root = search rules in
     let granted = (g.G.Grants.asked c.args.grants.now).granted in
     let room = subst (λ (s : Searched). granted + s.limits.budget < 2 ^ 64 + count s.tree) (sym c.self.view_is) c.requires.grants in
-    omega (arith, c.self.invariant.counted, room)
+    record {
+      may_grow = record { undecided = u; partial = c.self.invariant.partial; stays = c.self.invariant.stays };
+      room = search rules;
+      grants = omega (arith, c.self.invariant.counted, room);
+    }
 
 pub returns-then-proof-eq0-clause-asked : goal.returns-then-proof-eq0-clause-asked
 returns-then-proof-eq0-clause-asked g c = let asked = g.G.Grants.asked c.args.grants.now in asked_once c.args.pace asked asked Settled refl
@@ -50,7 +56,7 @@ returns-clause-spent g c =
     let after = steps_with (stand_of now.walk) now.limits c.args.pace (stage now.root now.walk.left) c.grow.result new c.self.invariant u c.grow.ensures.steps in
     let before = (g.G.Grants.asked c.args.grants.now).granted in
     let granted = (g.G.Grants.asked c.grow.new.grants).granted in
-    let spent : granted + count now.root ≡ before + count c.grow.new.self = omega (arith, c.self.invariant.counted, after.counted, c.grow.ensures.granted) in
+    let spent : granted + count now.root ≡ before + count c.grow.new.self = omega (arith, c.self.invariant.counted, after.counted, c.grow.ensures.descends.granted) in
     subst (λ (s : Searched). granted + count s.tree ≡ before + count c.grow.new.self) c.self.view_is spent
 
 pub returns-then-proof-eq0-clause-few : goal.returns-then-proof-eq0-clause-few
