@@ -1,4 +1,4 @@
-use Rattle.std.proofs.Common.{rules, ◌≡◌, ◌+◌, ◌^◌, ◌<◌, ◌⊎◌, ℕ, true, length, take, get_or, refl, sym, ◌∙◌, ap, subst, arith}
+use Rattle.std.proofs.Common.{rules, ◌≡◌, ◌+◌, ◌^◌, ◌<◌, ◌≤◌, ◌⊎◌, ℕ, true, length, take, get_or, refl, sym, ◌∙◌, ap, subst, arith}
 use Rattle.tt_game.specs.declared.frame.Side.TheVariants.{Attacker, Defender}
 use Rattle.tt_search.specs.PartialTree.{PartialTree}
 use Rattle.tt_search.specs.Shape.{shape}
@@ -40,7 +40,8 @@ children::Packed::grow_at-grow-requires g t c κs within =
     let node = c.index_mut.result.now in
     let here = child_node c.args.self.now c.args.place c.args.rank c.at.result node c.requires.there c.at.ensures c.requires.whole c.in-Grown.ensures c.requires.rank
     c.index_mut.ensures.value in
-    (omega (arith, c.decreases), (within.0, (within.1, record { may_grow = subst (MayGrow (stand_of c.args.walk.now)) here c.requires.ready.may_grow; room = c.requires.ready.room; grants = c.requires.ready.grants })))
+    let may_grow = subst (MayGrow (stand_of c.args.walk.now)) here c.requires.ready.may_grow in
+    (omega (arith, c.decreases), (within.0, (within.1, record { may_grow = may_grow; room = c.requires.ready.room; grants = c.requires.ready.grants })))
 
 pub children::Packed::grow_at-sprout-requires-clause-open : goal.children::Packed::grow_at-sprout-requires-clause-open
 children::Packed::grow_at-sprout-requires-clause-open g t c =
@@ -280,7 +281,8 @@ children::Packed::descend-grow_best-step-requires g t c κs within =
     let may_grow = subst (λ i. MayGrow (stand_of c.go_down.new.self) (child_of children i)) (sym c.requires.kept.place)
     (child_may_grow walk x (node_with x) c.best_turn.result way c.go_down.new.self gone) in
     let grants = subst (λ (n : ℕ). (g.G.Grants.asked c.args.grants.now).granted + n < 2 ^ 64) (sym gone.left) c.requires.ready.grants in
-    (omega (arith, c.decreases, gone.room, room), (within.0, (within.1, (c.requires.kept, (c.requires.was, (there, record { may_grow = may_grow; room = omega (arith, gone.room, c.requires.ready.room); grants = grants }))))))
+    let low : c.go_down.new.self.room ≤ 512 = omega (arith, gone.room, c.requires.ready.room) in
+    (omega (arith, c.decreases, gone.room, room), (within.0, (within.1, (c.requires.kept, (c.requires.was, (there, record { may_grow = may_grow; room = low; grants = grants }))))))
 
 pub children::Packed::descend-returns-clause-steps : goal.children::Packed::descend-returns-clause-steps
 children::Packed::descend-returns-clause-steps g t c =
@@ -350,7 +352,8 @@ node::Node::first_round-offer-walk-requires-clause-partial g t c =
     let after = c.descend-step.new.walk in
     let new = node_with (choices_of c.descend-step.new.aim.mover c.descend-step.new.self) in
     let steps = subst (λ (n : PartialTree). AreSteps c.args.pace walk n c.descend-step.result.0 new after) (c.requires.same) c.descend-step.ensures.steps in
-    let offerable = steps_offerable c.args.pace walk.line walk.room (stage c.args.self.now walk.left) c.descend-step.result.0 (stage new after.left) c.requires.ready.room c.requires.ready.may_grow steps in
+    let offerable = steps_offerable c.args.pace walk.line walk.room (stage c.args.self.now walk.left) c.descend-step.result.0 (stage new after.left)
+    c.requires.ready.room c.requires.ready.may_grow steps in
     (subst (λ line. IsOfferable line new) (sym c.descend-step.ensures.descends.line) offerable).0
 
 pub node::Node::first_round-offer-walk-requires-clause-stays : goal.node::Node::first_round-offer-walk-requires-clause-stays
@@ -359,7 +362,8 @@ node::Node::first_round-offer-walk-requires-clause-stays g t c =
     let after = c.descend-step.new.walk in
     let new = node_with (choices_of c.descend-step.new.aim.mover c.descend-step.new.self) in
     let steps = subst (λ (n : PartialTree). AreSteps c.args.pace walk n c.descend-step.result.0 new after) (c.requires.same) c.descend-step.ensures.steps in
-    let offerable = steps_offerable c.args.pace walk.line walk.room (stage c.args.self.now walk.left) c.descend-step.result.0 (stage new after.left) c.requires.ready.room c.requires.ready.may_grow steps in
+    let offerable = steps_offerable c.args.pace walk.line walk.room (stage c.args.self.now walk.left) c.descend-step.result.0 (stage new after.left)
+    c.requires.ready.room c.requires.ready.may_grow steps in
     (subst (λ line. IsOfferable line new) (sym c.descend-step.ensures.descends.line) offerable).1
 
 pub node::Node::first_round-returns-in-Some-clause-steps : goal.node::Node::first_round-returns-in-Some-clause-steps
