@@ -1,15 +1,13 @@
 -- What descents leave.
-use Rattle.std.proofs.Common.{◌≡◌, refl, subst}
+use Rattle.std.proofs.Common.{◌≡◌, ◌+◌, ◌∙◌, refl, subst}
 use Rattle.tt_search.specs.Grants.{Asked, AskedBy}
 use Rattle.tt_search.specs.Asking.{AreAsked}
 use Rattle.tt_search.specs.Descending.{Descends}
-use Rattle.tt_search.specs.declared.limits.Reason.TheVariants.{Memory}
 use Rattle.tt_search.specs.declared.limits.Step.{Step}
-use Rattle.tt_search.specs.declared.limits.Step.TheVariants.{Stuck}
 use Rattle.tt_search.specs.declared.walk.Pace.{Pace}
 use Rattle.tt_search.specs.declared.walk.Pace.TheVariants.{OneStep}
 use Rattle.tt_search.specs.declared.walk.Walk.{Walk}
-use Rattle.tt_search.proofs.Asking.{asked_once}
+use Rattle.tt_search.proofs.Asking.{IsGranted, asked_once, asked_last}
 
 -- at the pace of one step there is no other step
 pub asked_by : (old new : Asked) (step : Step) → AreAsked OneStep old step new → AskedBy old step new
@@ -28,14 +26,15 @@ module _ {G Source : Type 0} (asked : G → Asked) (source : G → Source) (may_
     source_stays = h.source_stays;
   }
 
-  -- a step for which memory is refused asks for nothing
-  pub stuck_for_memory : (pace : Pace) (walk after : Walk) (g : G) → after.line ≡ walk.line → after.room ≡ walk.room → after.left ≡ walk.left
-      → Descends asked source may_answer pace walk g (Stuck Memory) after g
-  stuck_for_memory pace walk after g line room left = record {
-    line = line;
-    room = room;
-    may = λ e. cc;
-    granted = rw left refl;
-    asked_for = asked_once pace (asked g) (asked g) (Stuck Memory) refl;
-    source_stays = refl;
+  -- the last of some descents at a walk, where none of those before was refused
+  pub last_of : (pace : Pace) (first walk : Walk) (old now : G) (step : Step) (after : Walk) (new : G)
+      → walk.line ≡ first.line → walk.room ≡ first.room → (asked now).granted + walk.left ≡ (asked old).granted + first.left → source now ≡ source old
+      → IsGranted pace (asked old) (asked now) → Descends asked source may_answer pace walk now step after new → Descends asked source may_answer pace first old step after new
+  last_of pace first walk old now step after new line room granted same far h = record {
+    line = h.line ∙ line;
+    room = h.room ∙ room;
+    may = h.may;
+    granted = h.granted ∙ granted;
+    asked_for = asked_last pace (asked old) (asked now) (asked new) step far h.asked_for;
+    source_stays = h.source_stays ∙ same;
   }

@@ -1,4 +1,4 @@
-use Rattle.std.proofs.Common.{rules, ◌≡◌, ◌+◌, ◌^◌, ◌<◌, ◌⊎◌, ℕ, length, take, get_or, refl, sym, ◌∙◌, ap, subst, arith}
+use Rattle.std.proofs.Common.{rules, ◌≡◌, ◌+◌, ◌^◌, ◌<◌, ◌≤◌, ◌⊎◌, ℕ, true, length, take, get_or, refl, sym, ◌∙◌, ap, subst, arith}
 use Rattle.tt_game.specs.declared.frame.Side.TheVariants.{Attacker, Defender}
 use Rattle.tt_search.specs.PartialTree.{PartialTree}
 use Rattle.tt_search.specs.Shape.{shape}
@@ -14,8 +14,8 @@ use Rattle.tt_search.specs.declared.limits.Step.TheVariants.{Expanded, Closed}
 use Rattle.tt_search.specs.declared.walk.Walk.{Walk}
 use Rattle.tt_search.proofs.Sprouted.{fresh_here, fresh_child, not_won, rank_within_nodes, child_node, node_steps, one_step}
 use Rattle.tt_search.proofs.Steady.{last_round, next_round, round_falls, same_numbers, same_stand, steps_offerable}
-use Rattle.tt_search.proofs.Asking.{asked_last, granted_more}
-use Rattle.tt_search.proofs.Descending.{any_pace, stuck_for_memory}
+use Rattle.tt_search.proofs.Asking.{granted_more}
+use Rattle.tt_search.proofs.Descending.{any_pace, last_of}
 use Rattle.tt_search.proofs.Steps.{IsOfferable}
 use Rattle.tt_search.proofs.Places.{length-trees_of, length-turns_of}
 use Rattle.tt_search.proofs.Changed.{few_stay, place_there, in_trees, part_was, sum_now, place_now, own_now, above_was, pair_of}
@@ -40,7 +40,8 @@ children::Packed::grow_at-grow-requires g t c κs within =
     let node = c.index_mut.result.now in
     let here = child_node c.args.self.now c.args.place c.args.rank c.at.result node c.requires.there c.at.ensures c.requires.whole c.in-Grown.ensures c.requires.rank
     c.index_mut.ensures.value in
-    (omega (arith, c.decreases), (within.0, (within.1, record { may_grow = subst (MayGrow (stand_of c.args.walk.now)) here c.requires.ready.may_grow; room = c.requires.ready.room; grants = c.requires.ready.grants })))
+    let may_grow = subst (MayGrow (stand_of c.args.walk.now)) here c.requires.ready.may_grow in
+    (omega (arith, c.decreases), (within.0, (within.1, record { may_grow = may_grow; room = c.requires.ready.room; grants = c.requires.ready.grants })))
 
 pub children::Packed::grow_at-sprout-requires-clause-open : goal.children::Packed::grow_at-sprout-requires-clause-open
 children::Packed::grow_at-sprout-requires-clause-open g t c =
@@ -100,32 +101,14 @@ node::Node::grow-returns-then-number-proof-clause-steps g t c =
 pub node::Node::grow-returns-then-is_one_step-clause-descends : goal.node::Node::grow-returns-then-is_one_step-clause-descends
 node::Node::grow-returns-then-is_one_step-clause-descends g t c =
     let far = c.rounds.invariant in
-    let round = c.round-step.ensures.descends in
-    record {
-      line = round.line ∙ far.line;
-      room = round.room ∙ far.room;
-      may = round.may;
-      granted = round.granted ∙ far.granted;
-      asked_for =
-          asked_last c.args.pace (g.G.Grants.asked c.args.grants.now) (g.G.Grants.asked c.rounds.grants) (g.G.Grants.asked c.round-step.new.grants) c.round-step.result
-          far.far round.asked_for;
-      source_stays = round.source_stays ∙ far.source;
-    }
+    last_of g.G.Grants.asked g.G.Grants.source g.S.Store.may_answer c.args.pace c.args.walk.now (record c.rounds.walk { offering = true }) c.args.grants.now c.rounds.grants c.round-step.result
+    c.round-step.new.walk c.round-step.new.grants far.line far.room far.granted far.source far.far c.round-step.ensures.descends
 
 pub node::Node::grow-returns-then-number-proof-clause-descends : goal.node::Node::grow-returns-then-number-proof-clause-descends
 node::Node::grow-returns-then-number-proof-clause-descends g t c =
     let far = c.rounds.invariant in
-    let round = c.round-step.ensures.descends in
-    record {
-      line = round.line ∙ far.line;
-      room = round.room ∙ far.room;
-      may = round.may;
-      granted = round.granted ∙ far.granted;
-      asked_for =
-          asked_last c.args.pace (g.G.Grants.asked c.args.grants.now) (g.G.Grants.asked c.rounds.grants) (g.G.Grants.asked c.round-step.new.grants) c.round-step.result
-          far.far round.asked_for;
-      source_stays = round.source_stays ∙ far.source;
-    }
+    last_of g.G.Grants.asked g.G.Grants.source g.S.Store.may_answer c.args.pace c.args.walk.now (record c.rounds.walk { offering = true }) c.args.grants.now c.rounds.grants c.round-step.result
+    c.round-step.new.walk c.round-step.new.grants far.line far.room far.granted far.source far.far c.round-step.ensures.descends
 
 pub node::Node::grow-rounds-smaller : goal.node::Node::grow-rounds-smaller
 node::Node::grow-rounds-smaller g t c =
@@ -298,7 +281,8 @@ children::Packed::descend-grow_best-step-requires g t c κs within =
     let may_grow = subst (λ i. MayGrow (stand_of c.go_down.new.self) (child_of children i)) (sym c.requires.kept.place)
     (child_may_grow walk x (node_with x) c.best_turn.result way c.go_down.new.self gone) in
     let grants = subst (λ (n : ℕ). (g.G.Grants.asked c.args.grants.now).granted + n < 2 ^ 64) (sym gone.left) c.requires.ready.grants in
-    (omega (arith, c.decreases, gone.room, room), (within.0, (within.1, (c.requires.kept, (c.requires.was, (there, record { may_grow = may_grow; room = omega (arith, gone.room, c.requires.ready.room); grants = grants }))))))
+    let low : c.go_down.new.self.room ≤ 512 = omega (arith, gone.room, c.requires.ready.room) in
+    (omega (arith, c.decreases, gone.room, room), (within.0, (within.1, (c.requires.kept, (c.requires.was, (there, record { may_grow = may_grow; room = low; grants = grants }))))))
 
 pub children::Packed::descend-returns-clause-steps : goal.children::Packed::descend-returns-clause-steps
 children::Packed::descend-returns-clause-steps g t c =
@@ -368,7 +352,8 @@ node::Node::first_round-offer-walk-requires-clause-partial g t c =
     let after = c.descend-step.new.walk in
     let new = node_with (choices_of c.descend-step.new.aim.mover c.descend-step.new.self) in
     let steps = subst (λ (n : PartialTree). AreSteps c.args.pace walk n c.descend-step.result.0 new after) (c.requires.same) c.descend-step.ensures.steps in
-    let offerable = steps_offerable c.args.pace walk.line walk.room (stage c.args.self.now walk.left) c.descend-step.result.0 (stage new after.left) c.requires.ready.room c.requires.ready.may_grow steps in
+    let offerable = steps_offerable c.args.pace walk.line walk.room (stage c.args.self.now walk.left) c.descend-step.result.0 (stage new after.left)
+    c.requires.ready.room c.requires.ready.may_grow steps in
     (subst (λ line. IsOfferable line new) (sym c.descend-step.ensures.descends.line) offerable).0
 
 pub node::Node::first_round-offer-walk-requires-clause-stays : goal.node::Node::first_round-offer-walk-requires-clause-stays
@@ -377,7 +362,8 @@ node::Node::first_round-offer-walk-requires-clause-stays g t c =
     let after = c.descend-step.new.walk in
     let new = node_with (choices_of c.descend-step.new.aim.mover c.descend-step.new.self) in
     let steps = subst (λ (n : PartialTree). AreSteps c.args.pace walk n c.descend-step.result.0 new after) (c.requires.same) c.descend-step.ensures.steps in
-    let offerable = steps_offerable c.args.pace walk.line walk.room (stage c.args.self.now walk.left) c.descend-step.result.0 (stage new after.left) c.requires.ready.room c.requires.ready.may_grow steps in
+    let offerable = steps_offerable c.args.pace walk.line walk.room (stage c.args.self.now walk.left) c.descend-step.result.0 (stage new after.left)
+    c.requires.ready.room c.requires.ready.may_grow steps in
     (subst (λ line. IsOfferable line new) (sym c.descend-step.ensures.descends.line) offerable).1
 
 pub node::Node::first_round-returns-in-Some-clause-steps : goal.node::Node::first_round-returns-in-Some-clause-steps

@@ -76,7 +76,8 @@ returns g c =
     record {
       descends = leaf.ensures.descends;
       kept = leaf.ensures.kept;
-      whole = put_whole x.edges _ x.grown.items _ c.args.place c.args.rank c.grown-edge.result leaf.new.self c.requires.there c.requires.whole c.requires.rank c.grown-edge.ensures.mark c.set.ensures row;
+      whole = put_whole x.edges _ x.grown.items _ c.args.place c.args.rank c.grown-edge.result leaf.new.self c.requires.there c.requires.whole c.requires.rank
+          c.grown-edge.ensures.mark c.set.ensures row;
       before = ap (take c.args.place) c.set.ensures ∙ take_set x.edges c.args.place c.grown-edge.result;
       sprouts = (
         leaf.new.self,
