@@ -23,7 +23,6 @@ use Rattle.std.specs.contracts.sync.Arc as Arc
 use Rattle.std.specs.contracts.vec.Vec as Vec
 use Rattle.atomic_table.specs.contracts.shared.Seat as TableSeat
 use Rattle.atomic_table.proofs.Sent.{seat_keyless}
-use Rattle.atomic_table.proofs.owned.Table.TheSendSync.{the_sync as places_sync}
 use Rattle.tt_board.specs.contracts.board.Board as Board
 use Rattle.tt_board.specs.contracts.counted.CountedBoard as CountedBoard
 use Rattle.tt_game.specs.contracts.frame.Side as Side
@@ -55,9 +54,9 @@ use Rattle.boxcar.specs.contracts.vec.AnythingKeeps.TheImpl as any
 use Rattle.boxcar.specs.contracts.tag.Tag as Tag
 use Rattle.tt_share.specs.contracts.desk.Desk as Desk
 use Rattle.tt_share.specs.contracts.desk.Seat as Seat
-use Rattle.tt_share.specs.contracts.relay.Relay as Relay
 use Rattle.tt_share.proofs.desk.Desk.TheSendSync.{the_sync as desk_sync}
 use Rattle.tt_share.proofs.jobs.Jobs.TheSendSync.{the_sync as jobs_sync}
+use Rattle.tt_share.specs.contracts.jobs.Jobs as Jobs
 use Rattle.tt_share.specs.contracts.log.CertLog as CertLog
 use Rattle.tt_share.specs.contracts.log.CertLog.TheInside as LogInside
 use Rattle.boxcar.specs.contracts.vec.Vec as Entries
@@ -65,9 +64,8 @@ use Rattle.boxcar.specs.contracts.vec.Vec.TheInside as EntriesInside
 use Rattle.boxcar.specs.contracts.table.Table as Boxes
 use Rattle.boxcar.specs.contracts.table.Table.TheInside as BoxesInside
 use Rattle.boxcar.proofs.Sent.{tag_sync, slot_send, slot_sync}
-use Rattle.tt_share.specs.contracts.ended.Ended as Ended
-use Rattle.tt_share.specs.contracts.ended.Ended.TheInside as Boxed
-use Rattle.tt_share.specs.contracts.jobs.Found as Found
+use Rattle.tt_share.specs.contracts.jobs.JobResult as JobResult
+use Rattle.tt_share.specs.contracts.jobs.SearchedJob as SearchedJob
 use Rattle.tt_share.specs.contracts.workers.HandedBack as HandedBack
 
 board_send : IsSend Board.the_row
@@ -252,12 +250,15 @@ walk_send = search (sendable, crosses, line_send) depth 40
 search_send : IsSend Search.the_row
 search_send = view_send _ _ _ _ _ (declared_send Within.the_type (walk_send, (limits_send, (as_row_send Node.the_field node_send, tt))))
 
--- the end of a search crosses threads in its box
-ended_send : IsSend Ended.the_row
-ended_send = view_send _ _ _ _ _ (declared_send Boxed.the_type (search (sendable, crosses, proof_send, search_send) depth 40, tt))
+-- a stuck search crosses threads in its box
+job_result_send : IsSend JobResult.the_row
+job_result_send = search (sendable, crosses, proof_send, search_send) depth 40
 
-found_send : IsSend Found.the_row
-found_send = search (sendable, crosses, ended_send) depth 40
+searched_job_send : IsSend SearchedJob.the_row
+searched_job_send = declared_send SearchedJob.the_type (
+  search (sendable, crosses) depth 20,
+  (search (sendable, crosses, job_result_send, as_row_send) depth 40, (search (sendable, crosses) depth 20, tt)),
+)
 
 -- a seat of a table crosses threads where what it holds does
 table_seat_send : (S V : RattleType) → IsSend S → IsSend (TableSeat.the_row S V)
@@ -267,7 +268,7 @@ seat_send : IsSend Seat.the_row
 seat_send = search (sendable, crosses, table_seat_send) depth 40
 
 pub handed_back_send : IsSend HandedBack.the_row
-handed_back_send = search (sendable, crosses, found_send, seat_send) depth 40
+handed_back_send = search (sendable, crosses, searched_job_send, seat_send) depth 40
 
 shared_sync : IsSync (Arc.the_row Proof.the_row Global.the_row ghosts)
 shared_sync = search (sendable, crosses, proof_send, proof_sync) depth 40
@@ -289,19 +290,12 @@ entries_sync = view_sync _ _ _ _ _ (declared_sync (EntriesInside.the_type Handle
 pub log_sync : IsSync CertLog.the_row
 log_sync = view_sync _ _ _ _ _ (declared_sync LogInside.the_type (as_row_sync (Entries.the_field Handle Global.the_row Anything.the_row ghosts (any.ghosts Handle)) entries_sync, tt))
 
--- a relay is shared, where its jobs are and results cross threads
-relay_sync : (a b : NamedLft) → IsSync (Relay.the_row a b)
-relay_sync a b = declared_sync (Relay.the_type a b) (
-  search (sendable, jobs_sync) depth 20,
-  (search sendable depth 20, (search sendable depth 20, (search (sendable, crosses, places_sync, found_send) depth 40, tt))),
-)
-
--- the closure that each worker runs holds a handle of the system, the relay, the desk, the log and the gate, all shared
-pub worker_sync : (ν : Sym) (R G : RattleType) (a b c d e f h : NamedLft) → IsSync R → IsSync G
-    → IsSync (TupleAt ν ((shr_ref_field a (param 0 R) tt).row ∷ (shr_ref_field b (Relay.the_row c d) tt).row ∷ (shr_ref_field e Desk.the_row tt).row
-    ∷ (shr_ref_field f CertLog.the_row tt).row ∷ (shr_ref_field h (param 1 G) tt).row ∷ []))
-worker_sync ν R G a b c d e f h r g = declared_sync (type_at ν ((shr_ref_field a (param 0 R) tt).row ∷ (shr_ref_field b (Relay.the_row c d) tt).row
-    ∷ (shr_ref_field e Desk.the_row tt).row ∷ (shr_ref_field f CertLog.the_row tt).row ∷ (shr_ref_field h (param 1 G) tt).row ∷ [])) (
+-- the closure that each worker runs holds a handle of the system, the jobs, the desk, the log and the gate, all shared
+pub worker_sync : (ν : Sym) (R G : RattleType) (a b c d e f : NamedLft) → IsSync R → IsSync G
+    → IsSync (TupleAt ν ((shr_ref_field a (param 0 R) tt).row ∷ (shr_ref_field b (Jobs.the_row c) tt).row ∷ (shr_ref_field d Desk.the_row tt).row
+    ∷ (shr_ref_field e CertLog.the_row tt).row ∷ (shr_ref_field f (param 1 G) tt).row ∷ []))
+worker_sync ν R G a b c d e f r g = declared_sync (type_at ν ((shr_ref_field a (param 0 R) tt).row ∷ (shr_ref_field b (Jobs.the_row c) tt).row
+    ∷ (shr_ref_field d Desk.the_row tt).row ∷ (shr_ref_field e CertLog.the_row tt).row ∷ (shr_ref_field f (param 1 G) tt).row ∷ [])) (
       search sendable depth 20,
-      (search (sendable, relay_sync) depth 20, (search (sendable, desk_sync) depth 20, (search (sendable, log_sync) depth 20, (search sendable depth 20, tt)))),
+      (search (sendable, jobs_sync) depth 20, (search (sendable, desk_sync) depth 20, (search (sendable, log_sync) depth 20, (search sendable depth 20, tt)))),
     )
