@@ -24,3 +24,4 @@ pub mod QuietLemmas
 pub mod StartLemmas
 pub mod StoneLemmas
 pub mod TrackLemmas
+pub mod Sent

@@ -15,3 +15,4 @@ pub mod RootLemmas
 pub mod PlayedLemmas
 pub mod SurveyLemmas
 pub mod SumLemmas
+pub mod Sent

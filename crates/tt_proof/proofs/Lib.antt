@@ -18,3 +18,4 @@ pub mod MeasureLemmas
 pub mod StrategyLemmas
 pub mod CertificateLemmas
 pub mod WinsLemmas
+pub mod Sent

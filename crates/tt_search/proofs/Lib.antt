@@ -21,3 +21,4 @@ pub mod LegalPlays
 pub mod Ends
 pub mod Chains
 pub mod FreshRows
+pub mod Sent
