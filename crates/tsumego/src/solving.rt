@@ -5,24 +5,15 @@ ghost use Rattle.tt_game.specs.Laws.{IsState};
 ghost use Rattle.tt_share.specs.Answers.{IsAnswer};
 ghost use Rattle.tsumego.specs.Solving.{Solves, Verdict};
 
-use crate::options::Options;
 use crate::outcome::Outcome;
+use crate::request::Options;
 use crate::verdict::verdict_text;
 use std::alloc::Global;
-use std::mem;
 use std::sync::Wait;
 use std::thread::Threads;
 use tt_game::{GameFault, Line, problem};
 use tt_sgf::{Items, MainLine, NoMemory};
 use tt_share::{Answer, CertLog, NoGate};
-
-/// Frees a value, but that of the last problem: the system takes the memory of all proofs and nodes back at once, where to free
-/// them one by one takes some 4 in 100 of the time of four workers.
-fn free<T: Drop>(value: T, last: bool) {
-    if last {
-        mem::forget(value);
-    }
-}
 
 /// Solves the problem at a line over a log of its own.
 fn solve_problem<X: Threads + Wait + Sync>(
@@ -30,13 +21,12 @@ fn solve_problem<X: Threads + Wait + Sync>(
     alloc: Global,
     line: &Line,
     options: Options,
-    last: bool,
 ) -> Result<Answer, NoMemory>
     requires { winner_of line.now.frame line.now.state ≡ None }
     ensures { IfOk result (λ answer. IsAnswer line.now options.limits options.total answer) }
 {
     let log = CertLog::new(alloc)?;
-    let answer = tt_share::solve(
+    Ok(tt_share::solve(
         rt,
         alloc,
         line,
@@ -45,9 +35,7 @@ fn solve_problem<X: Threads + Wait + Sync>(
         options.workers,
         &log,
         &NoGate,
-    );
-    free(log, last);
-    Ok(answer)
+    ))
 }
 
 /// The verdict on the problem at a line.
@@ -56,13 +44,12 @@ fn solve_at<X: Threads + Wait + Sync>(
     alloc: Global,
     line: &Line,
     options: Options,
-    last: bool,
 ) -> Result<Items<u8>, NoMemory>
     requires open { winner_of line.now.frame line.now.state ≡ None }
     requires state { IsState line.now.frame line.now.state }
     ensures { IfOk result (λ text. Verdict line.now options.limits options.total options.cert text) }
 {
-    let answer = solve_problem(rt, alloc, line, options, last)?;
+    let answer = solve_problem(rt, alloc, line, options)?;
     let text = verdict_text(
         alloc,
         line,
@@ -71,23 +58,21 @@ fn solve_at<X: Threads + Wait + Sync>(
         &answer,
         options.cert,
     )?;
-    free(answer, last);
     Ok(Items::from_vec(text))
 }
 
-/// The verdict on the problem that a main line is, or its refusal. What the last one took isn't freed.
+/// The verdict on the problem that a main line is, or its refusal.
 pub fn solve<X: Threads + Wait + Sync>(
     rt: &X,
     alloc: Global,
     main: &MainLine,
     options: Options,
-    last: bool,
 ) -> Result<Outcome, NoMemory>
-    ensures { IfOk result (λ outcome. Solves options.limits options.total options.cert main.now.nodes outcome) }
+    ensures { IfOk result (λ outcome. Solves options main.now.nodes outcome) }
 {
     match problem(alloc, main) {
         Ok(line) => {
-            let text = solve_at(rt, alloc, &line, options, last)?;
+            let text = solve_at(rt, alloc, &line, options)?;
             Ok(Outcome::Answered(text))
         }
         Err(GameFault::NoMemory) => Err(NoMemory),
