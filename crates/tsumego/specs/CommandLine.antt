@@ -5,6 +5,7 @@ use Rattle.clap.specs.Values.{bool_text}
 use Rattle.clap.specs.Words.{App, Row, Rule, Text, new_app, new_rule, one_of, with_rule, with_subcommand}
 use Rattle.clap.specs.declared.builder.action.ArgAction.TheVariants.{SetTrue}
 use Rattle.clap.specs.declared.builder.value_parser.ValueParser.TheVariants.{Signed}
+use Rattle.tt_dfpn.specs.declared.attempts.TheConstants.{MOST_POSITIONS}
 use Rattle.tt_proof.specs.declared.tree.TheConstants.{MOST_DEPTH}
 use Rattle.tt_search.specs.declared.limits.TheConstants.{MOST_EXPANDED}
 use Rattle.tt_share.specs.declared.bounds.TheConstants.{MOST_WORKERS}
@@ -43,10 +44,11 @@ flag_rule name = record (new_rule name) { long = Some name; action = Some SetTru
 
 -- the options of `solve`
 unfoldable pub solve_app : App
-solve_app = with_rule (with_rule (with_rule (with_rule (with_rule (new_app (codes "solve"))
+solve_app = with_rule (with_rule (with_rule (with_rule (with_rule (with_rule (new_app (codes "solve"))
     (number_rule (codes "budget") MOST_EXPANDED (codes "100000")))
     (number_rule (codes "depth") MOST_DEPTH (codes "512")))
     (optional_rule (codes "total") MOST_IN_ALL))
+    (optional_rule (codes "dfpn") MOST_POSITIONS))
     (number_rule (codes "workers") MOST_WORKERS (codes "1")))
     (flag_rule (codes "cert"))
 
@@ -73,8 +75,8 @@ HasFlag name rows b = one_of name rows ≡ Some (bool_text b)
 -- the options of `solve` in these matches
 abbrev pub HasOptions : List Row → Options → Type 0
 HasOptions rows options = HasNumber (codes "budget") rows options.limits.budget × HasNumber (codes "depth") rows options.limits.depth
-    × GivesNumber (codes "total") rows options.total × HasNumber (codes "workers") rows options.workers
-    × HasFlag (codes "cert") rows options.cert
+    × GivesNumber (codes "total") rows options.total × GivesNumber (codes "dfpn") rows options.dfpn
+    × HasNumber (codes "workers") rows options.workers × HasFlag (codes "cert") rows options.cert
 
 -- the subcommand that was met, with its matches, is this command
 abbrev pub Asks : Option (Text × List Row) → Command → Type 0

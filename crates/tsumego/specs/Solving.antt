@@ -91,6 +91,6 @@ abbrev pub SolvesAs : Limits → Option ℕ → Bool → Result Standing GameFau
 SolvesAs limits total cert (Ok p) o = (text : List ℕ) × (o ≡ Answered text) × Verdict p limits total cert text
 SolvesAs limits total cert (Err e) o = o ≡ Refused (code_of e)
 
--- what `solve` makes of a main line; the number of workers has no part in it
+-- what `solve` makes of a main line; workers and df-pn have no part in it
 abbrev pub Solves : Options → List Node → Outcome → Type 0
 Solves options nodes o = SolvesAs options.limits options.total options.cert (problem_of nodes) o

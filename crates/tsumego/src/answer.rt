@@ -39,20 +39,21 @@ fn write_line<W: Write>(
     }
 }
 
-/// Writes what becomes of a tree by its main line, and says whether it was refused.
+/// Writes what becomes of a tree by its main line, whose text has so many bytes, and says whether it was refused.
 fn answer_tree<X: Threads + Wait + Sync, W: Write>(
     rt: &X,
     alloc: Global,
     task: &Task,
     number: usize,
     main: &MainLine,
+    bytes: usize,
     writer: &mut Watched<W>,
 ) -> Result<bool, RunFault>
     requires { writer.old.failed ≡ false }
     ensures written { WritesOutcome (MakesOutcome task.now) number main.now.nodes result (W.contents writer.old.device) (W.contents writer.new.device) }
     ensures failed { writer.new.failed ≡ is_output_fault result }
 {
-    let Ok(outcome) = task.outcome(rt, alloc, main) else {
+    let Ok(outcome) = task.outcome(rt, alloc, main, bytes) else {
         return Err(RunFault::Memory);
     };
     match write_line(alloc, writer, number, &outcome) {
@@ -99,7 +100,7 @@ fn answer_trees<X: Threads + Wait + Sync, W: Write>(
         match read_tree(alloc, rest) {
             Ok((main, used)) => {
                 rest = &rest[used..];
-                match answer_tree(rt, alloc, task, number, &main, writer) {
+                match answer_tree(rt, alloc, task, number, &main, used, writer) {
                     Ok(bad) => refused |= bad,
                     Err(fault) => return Err(fault),
                 }

@@ -9,6 +9,7 @@ use clap::error::ErrorKind;
 use clap::{Arg, ArgAction, ArgMatches, Command as Parser, Error, value_parser};
 use std::alloc::{AllocError, Global};
 use std::num::ParseIntError;
+use tt_dfpn::MOST_POSITIONS;
 use tt_proof::MOST_DEPTH;
 use tt_search::{Limits, MOST_EXPANDED};
 use tt_share::MOST_WORKERS;
@@ -23,6 +24,9 @@ const DEPTH_HELP: &str = "How many turns deep a search may go from the problem, 
 
 const TOTAL_HELP: &str =
     "How many nodes may be expanded behind all first turns together, 1 to 362000000";
+
+const DFPN_HELP: &str =
+    "How many positions df-pn may visit before the search begins, 1 to 100000000";
 
 const WORKERS_HELP: &str = "How many threads search first turns side by side, 1 to 64";
 
@@ -120,13 +124,15 @@ fn solve_parser<'a>(alloc: Global) -> Result<Parser<'a>, AllocError>
     let budget = number_option(alloc, "budget", MOST_EXPANDED, "100000", BUDGET_HELP);
     let depth = number_option(alloc, "depth", MOST_DEPTH as u32, "512", DEPTH_HELP);
     let total = optional_number(alloc, "total", MOST_IN_ALL, TOTAL_HELP);
+    let dfpn = optional_number(alloc, "dfpn", MOST_POSITIONS, DFPN_HELP);
     let workers = number_option(alloc, "workers", MOST_WORKERS as u32, "1", WORKERS_HELP);
     let cert = flag(alloc, "cert", CERT_HELP);
     let one = named(alloc, "solve", "Solve problems", SOLVE_END).arg(budget)?;
     let two = one.arg(depth)?;
     let three = two.arg(total)?;
-    let four = three.arg(workers)?;
-    four.arg(cert)
+    let four = three.arg(dfpn)?;
+    let five = four.arg(workers)?;
+    five.arg(cert)
 }
 
 fn parser<'a>(alloc: Global) -> Result<Parser<'a>, AllocError>
@@ -198,6 +204,7 @@ fn options_of(matches: &ArgMatches<'_>) -> Option<Options>
     let budget = number_of(matches, "budget")?;
     let depth = number_of(matches, "depth")?;
     let total = given_number(matches, "total").ok()?;
+    let dfpn = given_number(matches, "dfpn").ok()?;
     let workers = number_of(matches, "workers")?;
     let cert = flag_of(matches, "cert")?;
     if depth < 1
@@ -205,6 +212,7 @@ fn options_of(matches: &ArgMatches<'_>) -> Option<Options>
         || workers < 1
         || workers > MOST_WORKERS as u32
         || !is_within(total, MOST_IN_ALL)
+        || !is_within(dfpn, MOST_POSITIONS)
     {
         return None;
     }
@@ -212,6 +220,7 @@ fn options_of(matches: &ArgMatches<'_>) -> Option<Options>
     Some(Options {
         limits,
         total,
+        dfpn,
         workers: workers as usize,
         cert,
     })

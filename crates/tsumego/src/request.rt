@@ -1,6 +1,7 @@
 //! What the program can be asked to do.
 ghost use Rattle.std.specs.Prelude.{◌≤◌, IfSome};
 ghost use Rattle.std.proofs.Props.{props};
+ghost use Rattle.tt_dfpn.specs.declared.attempts.TheConstants.{MOST_POSITIONS};
 ghost use Rattle.tt_share.specs.declared.bounds.TheConstants.{MOST_WORKERS};
 ghost use Rattle.tsumego.specs.declared.request.TheConstants.{MOST_IN_ALL};
 
@@ -17,12 +18,15 @@ pub struct Options {
     pub limits: Limits,
     /// How many expansions all first turns may take together, where there is such a total: 1 to `MOST_IN_ALL`.
     pub total: Option<u32>,
+    /// How many positions df-pn may visit before the search begins, where it is asked for: 1 to `MOST_POSITIONS`.
+    pub dfpn: Option<u32>,
     /// How many workers search: 1 to `MOST_WORKERS`.
     pub workers: usize,
     /// Whether the certificate of each verdict is written.
     pub cert: bool,
     ghost depth_in: { 1 ≤ limits.depth },
     ghost total_in: { IfSome total (λ n. (1 ≤ n) × (n ≤ MOST_IN_ALL)) } by { Prim.hlevel props },
+    ghost dfpn_in: { IfSome dfpn (λ n. (1 ≤ n) × (n ≤ MOST_POSITIONS)) } by { Prim.hlevel props },
     ghost workers_in: { (1 ≤ workers) × (workers ≤ MOST_WORKERS) },
 }
 

@@ -18,18 +18,19 @@ pub enum Task {
 }
 
 impl Task {
-    /// What becomes of a tree.
+    /// What becomes of a tree, whose text has so many bytes.
     pub fn outcome<X: Threads + Wait + Sync>(
         &self,
         rt: &X,
         alloc: Global,
         main: &MainLine,
+        bytes: usize,
     ) -> Result<Outcome, NoMemory>
         ensures { IfOk result (MakesOutcome self.now main.now.nodes) }
     {
         match self {
             Task::Score => score(alloc, main),
-            Task::Solve(options) => solve(rt, alloc, main, *options),
+            Task::Solve(options) => solve(rt, alloc, main, *options, bytes),
         }
     }
 }
