@@ -9,6 +9,39 @@ use std::thread::Threads;
 use tt_sgf::NoMemory;
 use tt_share::{Closed, Desk, Seat};
 
+// Draws until there is no job left, and counts the jobs.
+fn draw_all(desk: &Desk, jobs: &AtomicU64, mut seat: Seat) -> Seat
+    requires desk { seat.desk ≡ desk.now.id }
+    ensures desk { result.desk ≡ desk.now.id }
+{
+    while let Some(_job) = desk.draw(&mut seat) {
+        jobs.fetch_add(1, Ordering::SeqCst);
+    }
+    seat
+}
+
+// With how many draws the desk closes, after each seat has drawn in a thread of its own until there was no job left.
+fn exhausted<R: Threads + Sync>(
+    rt: &R,
+    alloc: Global,
+    jobs: usize,
+    seats: usize,
+    drawn: &AtomicU64,
+) -> Result<u64, NoMemory>
+    requires jobs { (0 < jobs) × (jobs ≤ 362) }
+    requires seats { (0 < seats) × (seats ≤ 65) }
+{
+    let (desk, seats) = Desk::new(alloc, jobs, seats, None)?;
+    let shared = &desk;
+    let Ok(seats) = thread::map_vec(rt, seats, &|seat| draw_all(shared, drawn, seat)) else {
+        return Err(NoMemory);
+    };
+    match desk.close(seats) {
+        Ok(closed) => Ok(closed.draws),
+        Err(_) => unreachable!(),
+    }
+}
+
 // Asks for grants until the seat is refused, and counts what it got.
 fn ask_all(desk: &Desk, total: u32, trues: &AtomicU64, mut seat: Seat) -> Seat
     requires desk { seat.desk ≡ desk.now.id }
@@ -67,6 +100,15 @@ fn two_seats_draw_in_turn(rt: HostRuntime) -> Result<(), Fail> {
         granted: 0,
     };
     assert!(rt; desk.close(seats).ok() == Some(wanted));
+    Ok(())
+}
+
+// Each job is drawn once, and each seat draws one number more, which is no job.
+#[test]
+fn seats_in_threads_draw_each_job(rt: HostRuntime) -> Result<(), Fail> {
+    let drawn = AtomicU64::new(0);
+    assert!(rt; exhausted(&rt, rt.alloc(), 362, 64, &drawn).ok() == Some(426));
+    assert!(rt; drawn.load(Ordering::SeqCst) == 362);
     Ok(())
 }
 

@@ -160,8 +160,7 @@ fn least_is_shown<R: Threads + Wait + Sync>(
     Ok(is && gate.missed.load(Ordering::SeqCst) == 0)
 }
 
-/// A job that was drawn is searched, though another one has won meanwhile: so the least turn that wins is shown. Of the three jobs two
-/// workers hand the other one on, which raises no mark; three workers draw them all.
+/// A job that was drawn is searched, though another one has won meanwhile: so the least turn that wins is shown.
 #[test]
 fn a_drawn_job_is_searched_after_a_win(rt: HostRuntime) -> Result<(), Fail> {
     want(least_is_shown(&rt, rt.alloc(), 2)?, "2 workers")?;

@@ -289,6 +289,65 @@ fn a_view_reads_on(rt: HostRuntime) -> Result<(), Fail> {
     reads_on_and_on(&rt, alloc, &mut view, &mut other)
 }
 
+/// Whether the view answers a proof of that board, and for the attacker alone, when it is asked for both sides.
+fn has_both(alloc: Global, view: &mut View<'_>, number: u32) -> Result<bool, Fail> {
+    let line = cornered(alloc, number)?;
+    has_one_side(view, &line)
+}
+
+/// Fails unless a view that is asked for both sides takes in what another one kept since it was asked before: the proofs of three
+/// boards, one after the other.
+fn reads_both_on<R: Wait>(
+    rt: &R,
+    alloc: Global,
+    view: &mut View<'_>,
+    other: &mut View<'_>,
+) -> Result<(), Fail> {
+    for number in 0..3u32 {
+        want(!has_both(alloc, view, number)?, "too early")?;
+        want(keeps(rt, alloc, other, number)?, "kept")?;
+        want(has_both(alloc, view, number)?, "found")?;
+    }
+    want(count_of(view) == 3, "other tokens")
+}
+
+/// A view that is asked for both sides reads on each time.
+#[test]
+fn both_sides_are_read_on(rt: HostRuntime) -> Result<(), Fail> {
+    let alloc = rt.alloc();
+    let log = CertLog::new(alloc)?;
+    let mut view = View::new(alloc, &log)?;
+    let mut other = View::new(alloc, &log)?;
+    reads_both_on(&rt, alloc, &mut view, &mut other)
+}
+
+/// Fails unless a view that has a proof of a board takes in another one of it, which another view kept later: whether it is asked
+/// for one side or for both.
+fn reads_past_its_own<R: Wait>(
+    rt: &R,
+    alloc: Global,
+    view: &mut View<'_>,
+    other: &mut View<'_>,
+) -> Result<(), Fail> {
+    want(keeps(rt, alloc, view, 0)?, "kept")?;
+    want(keeps(rt, alloc, other, 0)?, "kept by the other")?;
+    want(has_found(alloc, view, 0, Side::Attacker)?, "found")?;
+    want(count_of(view) == 2, "not taken in")?;
+    want(keeps(rt, alloc, other, 0)?, "kept again")?;
+    want(has_both(alloc, view, 0)?, "both")?;
+    want(count_of(view) == 3, "not taken in again")
+}
+
+/// A view reads on though it has a proof of what it is asked for.
+#[test]
+fn a_view_reads_past_its_own(rt: HostRuntime) -> Result<(), Fail> {
+    let alloc = rt.alloc();
+    let log = CertLog::new(alloc)?;
+    let mut view = View::new(alloc, &log)?;
+    let mut other = View::new(alloc, &log)?;
+    reads_past_its_own(&rt, alloc, &mut view, &mut other)
+}
+
 /// Keeps another handle of the proof, and answers whether it is stored.
 fn stores<R: Wait>(rt: &R, view: &mut View<'_>, proof: &Arc<Proof>) -> Result<bool, Fail> {
     let handle = Arc::try_clone(proof)?;
