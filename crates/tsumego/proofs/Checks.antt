@@ -1,5 +1,5 @@
 -- Lemmas on what is found on a certificate.
-use Rattle.std.proofs.Common.{◌≡◌, ◌≤◌, ◌-◌, ℕ, List, [], inr, Option, Err, refl, ap, ◌∙◌, length, take, drop, arith, subst}
+use Rattle.std.proofs.Common.{◌≡◌, ◌≤◌, ◌-◌, ℕ, List, [], inr, Option, None, Err, refl, ap, ◌∙◌, length, take, drop, arith, subst}
 use Rattle.std.proofs.KnownBytes.{Appends-kept, Appends-nil}
 use Rattle.std.proofs.lemmas.List.{take_all, length-drop}
 use Rattle.tt_sgf.specs.declared.trees.TheConstants.{MAX_BYTES}
@@ -16,14 +16,13 @@ use Rattle.tt_proof.specs.CertificateFaults.{IsFault}
 use Rattle.tt_proof.specs.CertificateText.{IsCertificate, IsTooDeep}
 use Rattle.tt_proof.specs.Strategy.{Strategy}
 use Rattle.tt_proof.specs.Wins.{Wins}
-use Rattle.tsumego.specs.declared.request.Command.TheVariants.{Check}
 use Rattle.devices.specs.declared.fault.RunFault.{RunFault}
 use Rattle.devices.specs.declared.fault.RunFault.TheVariants.{Input, Output, Memory}
 use Rattle.tsumego.specs.declared.finding.Finding.{Finding}
 use Rattle.tsumego.specs.declared.finding.Finding.TheVariants.{Valid, Invalid, Refused}
 use Rattle.tsumego.specs.Checking.{Finds, FindsAt, FindsOn, finding_line, finding_status, first_tree, loses, no_certificate, too_deep, wins}
 use Rattle.devices.specs.Writing.{Breaks}
-use Rattle.tsumego.specs.Writing.{Writes}
+use Rattle.tsumego.specs.Writing.{WritesFor}
 
 -- the size of the line's frame is that of its problem
 module _ (p : Standing) (f : Frame) (bytes : List ℕ) (same : f ≡ p.frame) where
@@ -57,7 +56,7 @@ found_behind input used t nodes bytes o small s same is h =
 
 -- the line on what is found was written in part, or not at all
 pub check_breaks : (input bytes : List ℕ) (o : Finding) (e : RunFault) (a b : Option (List ℕ)) → Finds input o → bytes ≡ finding_line o → Breaks bytes e a b
-    → Writes Check input (Err e) a b
+    → WritesFor None input (Err e) a b
 check_breaks input bytes o Input a b h is w = absurd w
 check_breaks input bytes o Output a b h is w =
     (bytes, w.0, inr (finding_status o, record { finding = o; finds = h; line = is; status_is = refl }), w.1)

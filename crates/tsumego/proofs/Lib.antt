@@ -6,4 +6,3 @@ pub mod OneText
 pub mod Progress
 pub mod Values
 pub mod Verdicts
-pub mod TaskLemmas

@@ -3,23 +3,21 @@ use Rattle.std.proofs.Common.{refl, true, false, ◌≡◌, ◌≤◌, ◌+◌, 
 use Rattle.std.specs.declared.result.Result.{Result}
 use Rattle.std.proofs.KnownBytes.{Appends-nil, Keeps-refl}
 use Rattle.tt_sgf.specs.declared.trees.TheConstants.{MAX_BYTES}
-use Rattle.tsumego.specs.declared.request.Command.{Command}
 use Rattle.devices.specs.declared.fault.RunFault.{RunFault}
 use Rattle.devices.specs.declared.fault.RunFault.TheVariants.{Input, Output, Memory}
 use Rattle.tsumego.specs.declared.outcome.Outcome.{Outcome}
 use Rattle.tt_sgf.specs.declared.nodes.Node.{Node}
-use Rattle.tsumego.specs.declared.request.Command.TheVariants.{Score, Check, Solve}
 use Rattle.tsumego.specs.declared.finding.Finding.{Finding}
 use Rattle.tsumego.specs.Checking.{Finds, IsCheckText, first_tree, no_tree}
 use Rattle.tsumego.specs.Checking as find
-use Rattle.tsumego.specs.Solving.{Solves}
-use Rattle.tsumego.specs.Text.{BeginsAnswer, IsAnswerText, IsEarlierPart, Scores}
+use Rattle.tsumego.specs.declared.task.Task.{Task}
+use Rattle.tsumego.specs.Tasks.{MakesOutcome}
 use Rattle.tsumego.specs.Trees.{AreOutcomes, BeginsTreesText, EarlierTreesText, IsTreesText, all_lines, all_read, before_more, no_line, nothing, some_lines, stopped, too_long}
 use Rattle.devices.specs.Watching.{IsInput}
 use Rattle.devices.specs.PartLaws.{cut_or_whole}
 use Rattle.devices.specs.Faults.{is_output_fault}
 use Rattle.devices.specs.Writing.{ForInput}
-use Rattle.tsumego.specs.Writing.{Writes}
+use Rattle.tsumego.specs.Writing.{WritesFor}
 
 module _ (allowed : List Node → Outcome → Type 0) where
   -- outcomes for a part of the input that is too long as well are outcomes for the input
@@ -73,52 +71,33 @@ found_whole input o h = elim (cut_or_whole (MAX_BYTES + 1) input) [
 check_whole : (input text : List ℕ) (status : ℕ) → IsCheckText (take (MAX_BYTES + 1) input) text status → IsCheckText input text status
 check_whole input text status h = record { finding = h.finding; finds = found_whole input h.finding h.finds; line = h.line; status_is = h.status_is }
 
--- an answer to the part up to the limit is one to the input
-answer_whole : (c : Command) (input text : List ℕ) (status : ℕ) → IsAnswerText c (take (MAX_BYTES + 1) input) text status → IsAnswerText c input text status
-answer_whole Score input text status h = trees_whole Scores input text status h
-answer_whole Check input text status h = check_whole input text status h
-answer_whole (Solve limits total workers cert) input text status h = trees_whole (Solves limits total cert) input text status h
+-- what is written on the part up to the limit is written on the input
+writes_whole : (t : Option Task) (input : List ℕ) (r : Result ℕ RunFault) (a b : Option (List ℕ)) → WritesFor t (take (MAX_BYTES + 1) input) r a b → WritesFor t input r a b
+writes_whole (Some task) input (Ok status) a b w = (w.0, trees_whole (MakesOutcome task) input w.0 status w.1, w.2)
+writes_whole (Some task) input (Err Input) a b w = w
+writes_whole (Some task) input (Err Output) a b w = (w.0, w.1, trees_begun (MakesOutcome task) input w.0 w.2, w.3)
+writes_whole (Some task) input (Err Memory) a b w = (w.0, trees_earlier (MakesOutcome task) input w.0 w.1, w.2)
+writes_whole None input (Ok status) a b w = (w.0, check_whole input w.0 status w.1, w.2)
+writes_whole None input (Err Input) a b w = w
+writes_whole None input (Err Output) a b w = (w.0, w.1, elim w.2 [ inl e ↦ inl e | inr h ↦ inr (h.0, check_whole input w.0 h.0 h.1) ], w.3)
+writes_whole None input (Err Memory) a b w = w
 
--- a beginning of an answer to that part is a beginning of one to the input
-begun_whole : (c : Command) (input text : List ℕ) → BeginsAnswer c (take (MAX_BYTES + 1) input) text → BeginsAnswer c input text
-begun_whole Score input text h = trees_begun Scores input text h
-begun_whole Check input text (inl e) = inl e
-begun_whole Check input text (inr h) = inr (h.0, check_whole input text h.0 h.1)
-begun_whole (Solve limits total workers cert) input text h = trees_begun (Solves limits total cert) input text h
+-- what is written on what was read up to the limit is written on what the reader had to give
+pub writes_read : (t : Option Task) (told : Option (List ℕ)) (bytes : List ℕ) (r : Result ℕ RunFault) (a b : Option (List ℕ)) → IsInput (MAX_BYTES + 1) told bytes
+    → WritesFor t bytes r a b → ForInput told (λ input. WritesFor t input r a b)
+writes_read t None bytes r a b e w = (bytes, w)
+writes_read t (Some input) bytes r a b e w = writes_whole t input r a b (subst (λ (x : List ℕ). WritesFor t x r a b) e w)
 
--- and so it is with an earlier part
-earlier_whole : (c : Command) (input text : List ℕ) → IsEarlierPart c (take (MAX_BYTES + 1) input) text → IsEarlierPart c input text
-earlier_whole Score input text h = trees_earlier Scores input text h
-earlier_whole Check input text e = e
-earlier_whole (Solve limits total workers cert) input text h = trees_earlier (Solves limits total cert) input text h
+-- where memory or the input failed, a run may have written nothing
+nothing_written : (t : Option Task) (input : List ℕ) (e : RunFault) (a : Option (List ℕ)) → is_output_fault {A = ℕ} (Err e) ≡ false → WritesFor t input (Err e) a a
+nothing_written (Some task) input Input a quiet = Keeps-refl a
+nothing_written None input Input a quiet = Keeps-refl a
+nothing_written t input Output a quiet = let bad : true ≡ false = quiet in cc
+nothing_written (Some task) input Memory a quiet = ([], nothing, Appends-nil a)
+nothing_written None input Memory a quiet = ([], refl, Appends-nil a)
 
--- the empty text is an earlier part of an answer
-nothing_earlier : (c : Command) (input : List ℕ) → IsEarlierPart c input []
-nothing_earlier Score input = nothing
-nothing_earlier Check input = refl
-nothing_earlier (Solve limits total workers cert) input = nothing
-
-module _ (c : Command) where
-  -- what is written on the part up to the limit is written on the input
-  writes_whole : (input : List ℕ) (r : Result ℕ RunFault) (a b : Option (List ℕ)) → Writes c (take (MAX_BYTES + 1) input) r a b → Writes c input r a b
-  writes_whole input (Ok status) a b w = (w.0, answer_whole c input w.0 status w.1, w.2)
-  writes_whole input (Err Input) a b w = w
-  writes_whole input (Err Output) a b w = (w.0, w.1, begun_whole c input w.0 w.2, w.3)
-  writes_whole input (Err Memory) a b w = (w.0, earlier_whole c input w.0 w.1, w.2)
-
-  -- what is written on what was read up to the limit is written on what the reader had to give
-  pub writes_read : (told : Option (List ℕ)) (bytes : List ℕ) (r : Result ℕ RunFault) (a b : Option (List ℕ)) → IsInput (MAX_BYTES + 1) told bytes → Writes c bytes r a b
-      → ForInput told (λ input. Writes c input r a b)
-  writes_read None bytes r a b e w = (bytes, w)
-  writes_read (Some input) bytes r a b e w = writes_whole input r a b (subst (λ (x : List ℕ). Writes c x r a b) e w)
-
-  -- where memory or the input failed, a run may have written nothing
-  nothing_written : (input : List ℕ) (e : RunFault) (a : Option (List ℕ)) → is_output_fault {A = ℕ} (Err e) ≡ false → Writes c input (Err e) a a
-  nothing_written input Input a quiet = Keeps-refl a
-  nothing_written input Output a quiet = let bad : true ≡ false = quiet in cc
-  nothing_written input Memory a quiet = ([], nothing_earlier c input, Appends-nil a)
-
-  -- so it may for what the reader had to give
-  pub writes_nothing : (told : Option (List ℕ)) (e : RunFault) (a : Option (List ℕ)) → is_output_fault {A = ℕ} (Err e) ≡ false → ForInput told (λ input. Writes c input (Err e) a a)
-  writes_nothing None e a quiet = ([], nothing_written [] e a quiet)
-  writes_nothing (Some input) e a quiet = nothing_written input e a quiet
+-- so it may for what the reader had to give
+pub writes_nothing : (t : Option Task) (told : Option (List ℕ)) (e : RunFault) (a : Option (List ℕ)) → is_output_fault {A = ℕ} (Err e) ≡ false
+    → ForInput told (λ input. WritesFor t input (Err e) a a)
+writes_nothing t None e a quiet = ([], nothing_written t [] e a quiet)
+writes_nothing t (Some input) e a quiet = nothing_written t input e a quiet

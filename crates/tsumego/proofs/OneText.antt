@@ -5,7 +5,7 @@ use Rattle.tt_sgf.specs.TreeLaws.{spelled_opens}
 use Rattle.tt_game.specs.Records.{record_of}
 use Rattle.tsumego.specs.declared.outcome.Outcome.{Outcome}
 use Rattle.tsumego.specs.declared.outcome.Outcome.TheVariants.{Refused}
-use Rattle.tsumego.specs.Text.{Scores, scored}
+use Rattle.tsumego.specs.Tasks.{Scores, scored}
 use Rattle.tsumego.specs.Trees.{AreOutcomes, IsTreesText, Reads, all_read, lines_from, status_of, stopped, too_long}
 
 -- without a `(` no tree is spelled

@@ -1,14 +1,18 @@
 -- What the command line says.
-use Rattle.std.specs.Prelude.{◌≡◌, ◌≤◌, ℕ, Bool, true, List, [], ◌∷◌, Option, Some, None, IfSome, codes, pos}
+use Rattle.std.specs.Prelude.{◌≡◌, ℕ, Bool, true, List, [], ◌∷◌, Option, Some, None, codes, pos}
 use Rattle.std.specs.Str.Parse.{IsNumeral, digits_value, without_leading_plus}
 use Rattle.clap.specs.Values.{bool_text}
 use Rattle.clap.specs.Words.{App, Row, Rule, Text, new_app, new_rule, one_of, with_rule, with_subcommand}
 use Rattle.clap.specs.declared.builder.action.ArgAction.TheVariants.{SetTrue}
 use Rattle.clap.specs.declared.builder.value_parser.ValueParser.TheVariants.{Signed}
+use Rattle.tt_dfpn.specs.declared.attempts.TheConstants.{MOST_POSITIONS}
+use Rattle.tt_proof.specs.declared.tree.TheConstants.{MOST_DEPTH}
+use Rattle.tt_search.specs.declared.limits.TheConstants.{MOST_EXPANDED}
 use Rattle.tt_share.specs.declared.bounds.TheConstants.{MOST_WORKERS}
 use Rattle.tsumego.specs.declared.request.TheConstants.{MOST_IN_ALL}
 use Rattle.tsumego.specs.declared.request.Command.{Command}
 use Rattle.tsumego.specs.declared.request.Command.TheVariants.{Score, Check, Solve}
+use Rattle.tsumego.specs.declared.request.Options.{Options}
 
 -- a line without a subcommand is refused
 abbrev pub needing_subcommand : App → App
@@ -40,10 +44,11 @@ flag_rule name = record (new_rule name) { long = Some name; action = Some SetTru
 
 -- the options of `solve`
 unfoldable pub solve_app : App
-solve_app = with_rule (with_rule (with_rule (with_rule (with_rule (new_app (codes "solve"))
-    (number_rule (codes "budget") 1000000 (codes "100000")))
-    (number_rule (codes "depth") 512 (codes "512")))
-    (optional_rule (codes "total") 362000000))
+solve_app = with_rule (with_rule (with_rule (with_rule (with_rule (with_rule (new_app (codes "solve"))
+    (number_rule (codes "budget") MOST_EXPANDED (codes "100000")))
+    (number_rule (codes "depth") MOST_DEPTH (codes "512")))
+    (optional_rule (codes "total") MOST_IN_ALL))
+    (optional_rule (codes "dfpn") MOST_POSITIONS))
     (number_rule (codes "workers") MOST_WORKERS (codes "1")))
     (flag_rule (codes "cert"))
 
@@ -67,24 +72,15 @@ GivesNumber name rows (Some n) = HasNumber name rows n
 abbrev pub HasFlag : Text → List Row → Bool → Type 0
 HasFlag name rows b = one_of name rows ≡ Some (bool_text b)
 
--- the command is `solve` with the options in these matches
-abbrev pub AsksSolve : List Row → Command → Type 0
-AsksSolve rows (Solve limits total workers cert) = HasNumber (codes "budget") rows limits.budget
-    × HasNumber (codes "depth") rows limits.depth × GivesNumber (codes "total") rows total
-    × HasNumber (codes "workers") rows workers × HasFlag (codes "cert") rows cert
-AsksSolve rows _ = ⊥
+-- the options of `solve` in these matches
+abbrev pub HasOptions : List Row → Options → Type 0
+HasOptions rows options = HasNumber (codes "budget") rows options.limits.budget × HasNumber (codes "depth") rows options.limits.depth
+    × GivesNumber (codes "total") rows options.total × GivesNumber (codes "dfpn") rows options.dfpn
+    × HasNumber (codes "workers") rows options.workers × HasFlag (codes "cert") rows options.cert
 
 -- the subcommand that was met, with its matches, is this command
 abbrev pub Asks : Option (Text × List Row) → Command → Type 0
 Asks None c = ⊥
 Asks (Some p) Score = p.0 ≡ codes "score"
 Asks (Some p) Check = p.0 ≡ codes "check"
-Asks (Some p) (Solve limits total workers cert) =
-    (p.0 ≡ codes "solve") × AsksSolve p.1 (Solve limits total workers cert)
-
--- the options of `solve` lie in their ranges; those of the budget and the greatest depth are facts of the limits
-abbrev pub IsInRange : Command → Type 0
-IsInRange Score = Unit {0}
-IsInRange Check = Unit {0}
-IsInRange (Solve limits total workers cert) =
-    (1 ≤ limits.depth) × IfSome total (λ n. (1 ≤ n) × (n ≤ MOST_IN_ALL)) × (1 ≤ workers) × (workers ≤ MOST_WORKERS)
+Asks (Some p) (Solve options) = (p.0 ≡ codes "solve") × HasOptions p.1 options

@@ -3,9 +3,8 @@ pub mod Checking
 pub mod CommandLine
 pub mod Laws
 pub mod Solving
-pub mod Text
+pub mod Tasks
 pub mod Trees
 pub mod Writing
 -- What private contracts and proofs cite. Nobody has to believe these.
 pub mod Lines
-pub mod Tasks

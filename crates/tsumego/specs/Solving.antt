@@ -23,6 +23,7 @@ use Rattle.tt_search.specs.Searched.{Searched}
 use Rattle.tt_share.specs.Answers.{IsSpent, IsStuckBehind}
 use Rattle.tsumego.specs.declared.outcome.Outcome.{Outcome}
 use Rattle.tsumego.specs.declared.outcome.Outcome.TheVariants.{Answered, Refused}
+use Rattle.tsumego.specs.declared.request.Options.{Options}
 
 -- ---- texts; a newline ends each line
 
@@ -90,6 +91,6 @@ abbrev pub SolvesAs : Limits → Option ℕ → Bool → Result Standing GameFau
 SolvesAs limits total cert (Ok p) o = (text : List ℕ) × (o ≡ Answered text) × Verdict p limits total cert text
 SolvesAs limits total cert (Err e) o = o ≡ Refused (code_of e)
 
--- what `solve` makes of a main line
-abbrev pub Solves : Limits → Option ℕ → Bool → List Node → Outcome → Type 0
-Solves limits total cert nodes o = SolvesAs limits total cert (problem_of nodes) o
+-- what `solve` makes of a main line; workers and df-pn have no part in it
+abbrev pub Solves : Options → List Node → Outcome → Type 0
+Solves options nodes o = SolvesAs options.limits options.total options.cert (problem_of nodes) o

@@ -1,23 +1,35 @@
--- What is done with each tree. Only functions below `run` cite it.
-use Rattle.std.specs.Prelude.{◌≡◌, List, Option, Some, None}
+-- What a command does with each game tree of its input.
+use Rattle.std.specs.Prelude.{◌≡◌, List, Option, None, Some, Ok, Err}
+use Rattle.std.specs.declared.result.Result.{Result}
 use Rattle.tt_sgf.specs.declared.nodes.Node.{Node}
+use Rattle.tt_game.specs.declared.faults.GameFault.{GameFault}
+use Rattle.tt_game.specs.declared.records.Record.{Record}
+use Rattle.tt_game.specs.Faults.{code_of}
+use Rattle.tt_game.specs.Records.{record_of}
 use Rattle.tsumego.specs.declared.outcome.Outcome.{Outcome}
+use Rattle.tsumego.specs.declared.outcome.Outcome.TheVariants.{Scored, Refused}
 use Rattle.tsumego.specs.declared.request.Command.{Command}
 use Rattle.tsumego.specs.declared.request.Command.TheVariants as commands
 use Rattle.tsumego.specs.declared.task.Task.{Task}
 use Rattle.tsumego.specs.declared.task.Task.TheVariants.{Score, Solve}
 use Rattle.tsumego.specs.Solving.{Solves}
-use Rattle.tsumego.specs.Text.{Scores}
+
+-- a record's score, or the number of its refusal
+abbrev pub scored : Result Record GameFault → Outcome
+scored (Ok r) = Scored r
+scored (Err e) = Refused (code_of e)
+
+-- what `score` makes of a main line
+abbrev pub Scores : List Node → Outcome → Type 0
+Scores nodes o = o ≡ scored (record_of nodes)
 
 -- the outcomes that the task gives to a main line
 abbrev pub MakesOutcome : Task → List Node → Outcome → Type 0
-MakesOutcome Score nodes o = Scores nodes o
-MakesOutcome (Solve options) nodes o = Solves options.limits options.total options.cert nodes o
+MakesOutcome Score = Scores
+MakesOutcome (Solve options) = Solves options
 
--- what the command does with each tree, where it goes tree by tree: with the options as they were given
-abbrev pub IsTaskOf : Command → Option Task → Type 0
-IsTaskOf commands.Score (Some Score) = Unit {0}
-IsTaskOf commands.Check None = Unit {0}
-IsTaskOf (commands.Solve limits total workers cert) (Some (Solve options)) =
-    (options.limits ≡ limits) × (options.total ≡ total) × (options.workers ≡ workers) × (options.cert ≡ cert)
-IsTaskOf c t = ⊥
+-- what the command does with each tree; `check` reads the first one alone
+abbrev pub task_of : Command → Option Task
+task_of commands.Score = Some Score
+task_of commands.Check = None
+task_of (commands.Solve options) = Some (Solve options)

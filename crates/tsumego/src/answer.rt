@@ -1,16 +1,14 @@
 //! Writes the answer to an input.
-ghost use Rattle.std.specs.Prelude.{◌≡◌, IfOk, false};
+ghost use Rattle.std.specs.Prelude.{◌≡◌, IfOk, None, Some, false};
 ghost use Rattle.devices.specs.Faults.{is_input_fault, is_output_fault};
 ghost use Rattle.devices.specs.Watching.{TakesAtMost};
-ghost use Rattle.devices.specs.Writing.{ForInput, WritesOf, WritesText};
-ghost use Rattle.tsumego.specs.CommandLine.{IsInRange};
+ghost use Rattle.devices.specs.Writing.{ForInput, WritesText};
 ghost use Rattle.tsumego.specs.Lines.{WritesOutcome};
-ghost use Rattle.tsumego.specs.Tasks.{IsTaskOf, MakesOutcome};
-ghost use Rattle.tsumego.specs.Trees.{BeginsTreesText, EarlierTreesText, IsTreesText, line_of};
-ghost use Rattle.tsumego.specs.Writing.{Writes};
+ghost use Rattle.tsumego.specs.Tasks.{MakesOutcome, task_of};
+ghost use Rattle.tsumego.specs.Trees.{line_of};
+ghost use Rattle.tsumego.specs.Writing.{Writes, WritesFor};
 
 use crate::finding::find;
-use crate::options::Options;
 use crate::outcome::{Outcome, line};
 use crate::request::Command;
 use crate::task::Task;
@@ -41,21 +39,21 @@ fn write_line<W: Write>(
     }
 }
 
-/// Writes what becomes of a tree by its main line, and says whether it was refused. What the last tree took isn't freed.
+/// Writes what becomes of a tree by its main line, whose text has so many bytes, and says whether it was refused.
 fn answer_tree<X: Threads + Wait + Sync, W: Write>(
     rt: &X,
     alloc: Global,
     task: &Task,
     number: usize,
     main: &MainLine,
-    last: bool,
+    bytes: usize,
     writer: &mut Watched<W>,
 ) -> Result<bool, RunFault>
     requires { writer.old.failed ≡ false }
     ensures written { WritesOutcome (MakesOutcome task.now) number main.now.nodes result (W.contents writer.old.device) (W.contents writer.new.device) }
     ensures failed { writer.new.failed ≡ is_output_fault result }
 {
-    let Ok(outcome) = task.outcome(rt, alloc, main, last) else {
+    let Ok(outcome) = task.outcome(rt, alloc, main, bytes) else {
         return Err(RunFault::Memory);
     };
     match write_line(alloc, writer, number, &outcome) {
@@ -91,8 +89,7 @@ fn answer_trees<X: Threads + Wait + Sync, W: Write>(
     writer: &mut Watched<W>,
 ) -> Result<u8, RunFault>
     requires { writer.old.failed ≡ false }
-    ensures written { WritesOf (IsTreesText (MakesOutcome task.now) input.now) (BeginsTreesText (MakesOutcome task.now) input.now)
-        (EarlierTreesText (MakesOutcome task.now) input.now) result (W.contents writer.old.device) (W.contents writer.new.device) }
+    ensures written { WritesFor (Some task.now) input.now result (W.contents writer.old.device) (W.contents writer.new.device) }
     ensures reading { is_input_fault result ≡ false }
     ensures failed { writer.new.failed ≡ is_output_fault result }
 {
@@ -103,8 +100,7 @@ fn answer_trees<X: Threads + Wait + Sync, W: Write>(
         match read_tree(alloc, rest) {
             Ok((main, used)) => {
                 rest = &rest[used..];
-                let last = !has_tree(rest);
-                match answer_tree(rt, alloc, task, number, &main, last, writer) {
+                match answer_tree(rt, alloc, task, number, &main, used, writer) {
                     Ok(bad) => refused |= bad,
                     Err(fault) => return Err(fault),
                 }
@@ -125,7 +121,7 @@ fn answer_certificate<W: Write>(
     writer: &mut Watched<W>,
 ) -> Result<u8, RunFault>
     requires { writer.old.failed ≡ false }
-    ensures written { Writes Command.Check input.now result (W.contents writer.old.device) (W.contents writer.new.device) }
+    ensures written { WritesFor None input.now result (W.contents writer.old.device) (W.contents writer.new.device) }
     ensures reading { is_input_fault result ≡ false }
     ensures failed { writer.new.failed ≡ is_output_fault result }
 {
@@ -143,23 +139,12 @@ fn answer_certificate<W: Write>(
 
 /// What a command does with each tree, where it goes tree by tree.
 fn task_of(command: &Command) -> Option<Task>
-    requires { IsInRange command.now }
-    ensures { IsTaskOf command.now result }
+    ensures { result ≡ task_of command.now }
 {
     match command {
         Command::Score => Some(Task::Score),
         Command::Check => None,
-        Command::Solve {
-            limits,
-            total,
-            workers,
-            cert,
-        } => Some(Task::Solve(Options {
-            limits: *limits,
-            total: *total,
-            workers: *workers,
-            cert: *cert,
-        })),
+        Command::Solve(options) => Some(Task::Solve(*options)),
     }
 }
 
@@ -171,8 +156,7 @@ fn answer<X: Threads + Wait + Sync, W: Write>(
     input: &[u8],
     writer: &mut Watched<W>,
 ) -> Result<u8, RunFault>
-    requires in_range { IsInRange command.now }
-    requires working { writer.old.failed ≡ false }
+    requires { writer.old.failed ≡ false }
     ensures written { Writes command.now input.now result (W.contents writer.old.device) (W.contents writer.new.device) }
     ensures reading { is_input_fault result ≡ false }
     ensures failed { writer.new.failed ≡ is_output_fault result }
@@ -186,9 +170,9 @@ fn answer<X: Threads + Wait + Sync, W: Write>(
 /// Runs a command on an input: reads it whole, or 1,048,577 bytes of a longer one, and writes its answer and nothing
 /// else. The status is 1 where something was refused or the certificate is invalid, else 0.
 ///
-/// The options of `Solve` lie in their ranges, and neither reader nor writer has failed before. `Input` comes exactly where a read failed, and
-/// then nothing is written; `Output` exactly where a write failed or took no byte, and then a
-/// beginning of the answer is written; after `Memory` the whole lines of earlier trees are written, or nothing.
+/// Neither reader nor writer has failed before. `Input` comes exactly where a read failed, and then nothing is written;
+/// `Output` exactly where a write failed or took no byte, and then a beginning of the answer is written; after `Memory`
+/// the whole lines of earlier trees are written, or nothing.
 pub fn run<X: Threads + Wait + Sync, R: Read, W: Write>(
     rt: &X,
     alloc: Global,
@@ -196,7 +180,6 @@ pub fn run<X: Threads + Wait + Sync, R: Read, W: Write>(
     reader: &mut Watched<R>,
     writer: &mut Watched<W>,
 ) -> Result<u8, RunFault>
-    requires in_range { IsInRange command.now }
     requires reader { reader.old.failed ≡ false }
     requires writer { writer.old.failed ≡ false }
     ensures written { ForInput (R.remaining reader.old.device) (λ input.

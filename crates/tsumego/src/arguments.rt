@@ -2,15 +2,16 @@
 ghost use Rattle.std.specs.Prelude.{◌≡◌, ◌≤◌, false, [], true, IfErr, IfOk, OnOk, IfSome, map, string_bytes};
 ghost use Rattle.clap.specs.Words.{app_of, subcommand_of, subcommand_rows_of, fault_of, takes, kind_of, new_app, rows_of, rule_of, found_of};
 ghost use Rattle.clap.specs.declared.builder.command.Command.TheViews.{out-Command};
-ghost use Rattle.tsumego.specs.declared.request.TheConstants.{MOST_IN_ALL};
-ghost use Rattle.tsumego.specs.CommandLine.{Asks, AsksSolve, GivesNumber, HasFlag, HasNumber, IsInRange, flag_rule, number_rule, optional_rule, solve_app, tool};
+ghost use Rattle.tsumego.specs.CommandLine.{Asks, GivesNumber, HasFlag, HasNumber, HasOptions, flag_rule, number_rule, optional_rule, solve_app, tool};
 
-use crate::request::{Command, MOST_IN_ALL};
+use crate::request::{Command, MOST_IN_ALL, Options};
 use clap::error::ErrorKind;
 use clap::{Arg, ArgAction, ArgMatches, Command as Parser, Error, value_parser};
 use std::alloc::{AllocError, Global};
 use std::num::ParseIntError;
-use tt_search::Limits;
+use tt_dfpn::MOST_POSITIONS;
+use tt_proof::MOST_DEPTH;
+use tt_search::{Limits, MOST_EXPANDED};
 use tt_share::MOST_WORKERS;
 
 /// Why a command line was refused: the parser's text, empty where memory was refused or the words couldn't be read.
@@ -23,6 +24,9 @@ const DEPTH_HELP: &str = "How many turns deep a search may go from the problem, 
 
 const TOTAL_HELP: &str =
     "How many nodes may be expanded behind all first turns together, 1 to 362000000";
+
+const DFPN_HELP: &str =
+    "How many positions df-pn may visit before the search begins, 1 to 100000000";
 
 const WORKERS_HELP: &str = "How many threads search first turns side by side, 1 to 64";
 
@@ -117,16 +121,18 @@ fn solve_parser<'a>(alloc: Global) -> Result<Parser<'a>, AllocError>
     ensures shape { IfOk result (λ r. app_of r ≡ solve_app) }
     ensures local { IfOk result (λ r. (out-Command r).has_globals ≡ false) }
 {
-    let budget = number_option(alloc, "budget", 1_000_000, "100000", BUDGET_HELP);
-    let depth = number_option(alloc, "depth", 512, "512", DEPTH_HELP);
+    let budget = number_option(alloc, "budget", MOST_EXPANDED, "100000", BUDGET_HELP);
+    let depth = number_option(alloc, "depth", MOST_DEPTH as u32, "512", DEPTH_HELP);
     let total = optional_number(alloc, "total", MOST_IN_ALL, TOTAL_HELP);
+    let dfpn = optional_number(alloc, "dfpn", MOST_POSITIONS, DFPN_HELP);
     let workers = number_option(alloc, "workers", MOST_WORKERS as u32, "1", WORKERS_HELP);
     let cert = flag(alloc, "cert", CERT_HELP);
     let one = named(alloc, "solve", "Solve problems", SOLVE_END).arg(budget)?;
     let two = one.arg(depth)?;
     let three = two.arg(total)?;
-    let four = three.arg(workers)?;
-    four.arg(cert)
+    let four = three.arg(dfpn)?;
+    let five = four.arg(workers)?;
+    five.arg(cert)
 }
 
 fn parser<'a>(alloc: Global) -> Result<Parser<'a>, AllocError>
@@ -181,38 +187,40 @@ fn flag_of(matches: &ArgMatches<'_>, name: &str) -> Option<bool>
     matches.get_one::<bool>(name)
 }
 
-/// Whether a total is in its range, where one was given.
-fn is_total(total: Option<u32>) -> bool
-    ensures { result ≡ true → IfSome total (λ n. (1 ≤ n) × (n ≤ MOST_IN_ALL)) }
+/// Whether a number lies in the range from 1 to `most`, where one was given.
+fn is_within(given: Option<u32>, most: u32) -> bool
+    ensures { result ≡ true → IfSome given (λ n. (1 ≤ n) × (n ≤ most)) }
 {
-    match total {
-        Some(n) => n >= 1 && n <= MOST_IN_ALL,
+    match given {
+        Some(n) => n >= 1 && n <= most,
         None => true,
     }
 }
 
 /// The options of `solve`.
-fn solve_asked(matches: &ArgMatches<'_>) -> Option<Command>
-    ensures asked { IfSome result (AsksSolve (rows_of (found_of matches.now))) }
-    ensures in_range { IfSome result IsInRange }
+fn options_of(matches: &ArgMatches<'_>) -> Option<Options>
+    ensures { IfSome result (HasOptions (rows_of (found_of matches.now))) }
 {
     let budget = number_of(matches, "budget")?;
     let depth = number_of(matches, "depth")?;
     let total = given_number(matches, "total").ok()?;
+    let dfpn = given_number(matches, "dfpn").ok()?;
     let workers = number_of(matches, "workers")?;
     let cert = flag_of(matches, "cert")?;
     if depth < 1
-        || depth > 512
+        || depth > MOST_DEPTH as u32
         || workers < 1
         || workers > MOST_WORKERS as u32
-        || !is_total(total)
+        || !is_within(total, MOST_IN_ALL)
+        || !is_within(dfpn, MOST_POSITIONS)
     {
         return None;
     }
     let limits = Limits::new(budget, depth as u16)?;
-    Some(Command::Solve {
+    Some(Options {
         limits,
         total,
+        dfpn,
         workers: workers as usize,
         cert,
     })
@@ -220,13 +228,12 @@ fn solve_asked(matches: &ArgMatches<'_>) -> Option<Command>
 
 /// The command that a parse met.
 fn asked(matches: &ArgMatches<'_>) -> Option<Command>
-    ensures asked { IfSome result (Asks (subcommand_rows_of matches.now)) }
-    ensures in_range { IfSome result IsInRange }
+    ensures { IfSome result (Asks (subcommand_rows_of matches.now)) }
 {
     match matches.subcommand() {
         Some(("score", _)) => Some(Command::Score),
         Some(("check", _)) => Some(Command::Check),
-        Some(("solve", options)) => solve_asked(options),
+        Some(("solve", matches)) => Some(Command::Solve(options_of(matches)?)),
         _ => None,
     }
 }
@@ -235,7 +242,6 @@ fn asked(matches: &ArgMatches<'_>) -> Option<Command>
 /// name alone.
 pub fn command(alloc: Global, words: &[String]) -> Result<Command, ArgFault>
     ensures asked { IfOk result (Asks (subcommand_of tool (map string_bytes words.now))) }
-    ensures in_range { IfOk result IsInRange }
     ensures clean { OnOk result (fault_of tool (map string_bytes words.now) ≡ []) }
     ensures taken { takes tool (map string_bytes words.now) ≡ true
         → IfErr result (λ fault. string_bytes fault.0 ≡ []) }

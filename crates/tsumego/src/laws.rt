@@ -1,20 +1,20 @@
 //! Laws of what the program writes. Each is a function that does nothing, whose contract is the law.
 ghost use Rattle.std.specs.Prelude.{◌≡◌, ℕ, List};
+ghost use Rattle.tsumego.specs.Checking.{IsCheckText};
 ghost use Rattle.tsumego.specs.Laws.{VerdictsAreValues};
-ghost use Rattle.tsumego.specs.Text.{IsAnswerText};
-
-use crate::request::Command;
+ghost use Rattle.tsumego.specs.Tasks.{Scores};
+ghost use Rattle.tsumego.specs.Trees.{IsTreesText};
 
 /// An input has one text and one status that answer `score`.
 pub fn one_score_text()
-    ensures { (input s t : List ℕ) (m n : ℕ) → IsAnswerText Command.Score input s m → IsAnswerText Command.Score input t n → (s ≡ t) × (m ≡ n) }
+    ensures { (input s t : List ℕ) (m n : ℕ) → IsTreesText Scores input s m → IsTreesText Scores input t n → (s ≡ t) × (m ≡ n) }
 {
     tt_sgf::laws::one_reading();
 }
 
 /// An input has one text and one status that answer `check`.
 pub fn one_check_text()
-    ensures { (input s t : List ℕ) (m n : ℕ) → IsAnswerText Command.Check input s m → IsAnswerText Command.Check input t n → (s ≡ t) × (m ≡ n) }
+    ensures { (input s t : List ℕ) (m n : ℕ) → IsCheckText input s m → IsCheckText input t n → (s ≡ t) × (m ≡ n) }
 {
     tt_sgf::laws::one_reading();
     tt_proof::laws::one_certificate();

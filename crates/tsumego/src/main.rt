@@ -5,7 +5,6 @@ mod answer;
 mod arguments;
 mod finding;
 mod laws;
-mod options;
 mod outcome;
 mod request;
 mod solving;

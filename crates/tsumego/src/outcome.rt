@@ -1,6 +1,6 @@
 //! What becomes of one game tree, and the line that says so.
 ghost use Rattle.std.specs.Prelude.{◌≡◌, IfOk};
-ghost use Rattle.tsumego.specs.Text.{Scores};
+ghost use Rattle.tsumego.specs.Tasks.{Scores};
 ghost use Rattle.tsumego.specs.Trees.{is_refused, line_of};
 
 use std::alloc::{AllocError, Global};

@@ -1,42 +1,88 @@
 //! Solves the problem that a tree is.
-ghost use Rattle.std.specs.Prelude.{◌≡◌, IfOk, None};
+ghost use Rattle.std.specs.Prelude.{◌≡◌, ◌≤◌, ◌+◌, IfOk, IfSome, None, length, true};
+ghost use Rattle.tt_sgf.specs.declared.trees.TheConstants.{MAX_BYTES};
 ghost use Rattle.tt_game.specs.Game.{winner_of};
 ghost use Rattle.tt_game.specs.Laws.{IsState};
+ghost use Rattle.tt_proof.specs.CertificateText.{certificate_text};
+ghost use Rattle.tt_proof.specs.Proven.{StandsAt};
 ghost use Rattle.tt_share.specs.Answers.{IsAnswer};
 ghost use Rattle.tsumego.specs.Solving.{Solves, Verdict};
 
-use crate::options::Options;
 use crate::outcome::Outcome;
+use crate::request::Options;
 use crate::verdict::verdict_text;
 use std::alloc::Global;
-use std::mem;
-use std::sync::Wait;
+use std::sync::{Arc, Wait};
 use std::thread::Threads;
+use tt_dfpn::find_proof;
 use tt_game::{GameFault, Line, problem};
-use tt_sgf::{Items, MainLine, NoMemory};
-use tt_share::{Answer, CertLog, NoGate};
+use tt_proof::{Proof, write_cert};
+use tt_sgf::{Items, MAX_BYTES, MainLine, NoMemory, Size};
+use tt_share::{Answer, CertLog, NoGate, View};
 
-/// Frees a value, but that of the last problem: the system takes the memory of all proofs and nodes back at once, where to free
-/// them one by one takes some 4 in 100 of the time of four workers.
-fn free<T: Drop>(value: T, last: bool) {
-    if last {
-        mem::forget(value);
+/// Whether `check` reads the certificate of a proof behind a problem's text, with the ends of two lines.
+fn is_checkable(alloc: Global, proof: &Proof, size: Size, bytes: usize) -> Result<bool, NoMemory>
+    requires { size ≡ proof.now.frame.size }
+    ensures { IfOk result (λ b. b ≡ true → bytes + length (certificate_text size proof.now.side proof.now.tree) + 2 ≤ MAX_BYTES) }
+{
+    // each node takes a byte or more
+    if bytes >= MAX_BYTES || proof.nodes() > MAX_BYTES as u64 {
+        return Ok(false);
+    }
+    let text = write_cert(alloc, proof.side(), proof.tree(), size)?;
+    Ok(text.len() < MAX_BYTES - bytes - 1)
+}
+
+/// What df-pn finds at a line, where it is asked for. A proof whose certificate is to be written, and can't be checked behind the
+/// problem's text, is left.
+fn found(
+    alloc: Global,
+    line: &Line,
+    options: Options,
+    bytes: usize,
+) -> Result<Option<Proof>, NoMemory>
+    ensures stands { IfOk result (λ o. IfSome o (λ p. StandsAt p line.now.frame line.now.state)) }
+    ensures checkable { IfOk result (λ o. IfSome o (λ p. options.cert ≡ true
+        → bytes + length (certificate_text line.now.frame.size p.side p.tree) + 2 ≤ MAX_BYTES)) }
+{
+    let Some(positions) = options.dfpn else {
+        return Ok(None);
+    };
+    let mut copy = line.try_clone()?;
+    let Some(proof) = find_proof(alloc, &mut copy, options.limits.depth(), positions)? else {
+        return Ok(None);
+    };
+    if !options.cert || is_checkable(alloc, &proof, line.frame().size, bytes)? {
+        Ok(Some(proof))
+    } else {
+        Ok(None)
     }
 }
 
-/// Solves the problem at a line over a log of its own.
+/// Keeps a proof in the log.
+fn keep<X: Wait>(rt: &X, alloc: Global, log: &CertLog, proof: Proof) -> Result<(), NoMemory> {
+    let mut view = View::new(alloc, log)?;
+    view.keep(rt, Arc::new(alloc, proof)?);
+    Ok(())
+}
+
+/// Solves the problem at a line over a log of its own, where df-pn comes first if it is asked for. Where it has no memory the
+/// search goes on.
 fn solve_problem<X: Threads + Wait + Sync>(
     rt: &X,
     alloc: Global,
     line: &Line,
     options: Options,
-    last: bool,
+    bytes: usize,
 ) -> Result<Answer, NoMemory>
     requires { winner_of line.now.frame line.now.state ≡ None }
     ensures { IfOk result (λ answer. IsAnswer line.now options.limits options.total answer) }
 {
     let log = CertLog::new(alloc)?;
-    let answer = tt_share::solve(
+    if let Ok(Some(proof)) = found(alloc, line, options, bytes) {
+        let _ = keep(rt, alloc, &log, proof);
+    }
+    Ok(tt_share::solve(
         rt,
         alloc,
         line,
@@ -45,9 +91,7 @@ fn solve_problem<X: Threads + Wait + Sync>(
         options.workers,
         &log,
         &NoGate,
-    );
-    free(log, last);
-    Ok(answer)
+    ))
 }
 
 /// The verdict on the problem at a line.
@@ -56,13 +100,13 @@ fn solve_at<X: Threads + Wait + Sync>(
     alloc: Global,
     line: &Line,
     options: Options,
-    last: bool,
+    bytes: usize,
 ) -> Result<Items<u8>, NoMemory>
     requires open { winner_of line.now.frame line.now.state ≡ None }
     requires state { IsState line.now.frame line.now.state }
     ensures { IfOk result (λ text. Verdict line.now options.limits options.total options.cert text) }
 {
-    let answer = solve_problem(rt, alloc, line, options, last)?;
+    let answer = solve_problem(rt, alloc, line, options, bytes)?;
     let text = verdict_text(
         alloc,
         line,
@@ -71,23 +115,22 @@ fn solve_at<X: Threads + Wait + Sync>(
         &answer,
         options.cert,
     )?;
-    free(answer, last);
     Ok(Items::from_vec(text))
 }
 
-/// The verdict on the problem that a main line is, or its refusal. What the last one took isn't freed.
+/// The verdict on the problem that a main line is, or its refusal. The problem's text has so many bytes.
 pub fn solve<X: Threads + Wait + Sync>(
     rt: &X,
     alloc: Global,
     main: &MainLine,
     options: Options,
-    last: bool,
+    bytes: usize,
 ) -> Result<Outcome, NoMemory>
-    ensures { IfOk result (λ outcome. Solves options.limits options.total options.cert main.now.nodes outcome) }
+    ensures { IfOk result (λ outcome. Solves options main.now.nodes outcome) }
 {
     match problem(alloc, main) {
         Ok(line) => {
-            let text = solve_at(rt, alloc, &line, options, last)?;
+            let text = solve_at(rt, alloc, &line, options, bytes)?;
             Ok(Outcome::Answered(text))
         }
         Err(GameFault::NoMemory) => Err(NoMemory),

@@ -2,8 +2,8 @@
 ghost use Rattle.std.specs.Prelude.{IfOk};
 ghost use Rattle.tsumego.specs.Tasks.{MakesOutcome};
 
-use crate::options::Options;
 use crate::outcome::{Outcome, score};
+use crate::request::Options;
 use crate::solving::solve;
 use std::alloc::Global;
 use std::sync::Wait;
@@ -18,19 +18,19 @@ pub enum Task {
 }
 
 impl Task {
-    /// What becomes of a tree. What the last one took isn't freed.
+    /// What becomes of a tree, whose text has so many bytes.
     pub fn outcome<X: Threads + Wait + Sync>(
         &self,
         rt: &X,
         alloc: Global,
         main: &MainLine,
-        last: bool,
+        bytes: usize,
     ) -> Result<Outcome, NoMemory>
         ensures { IfOk result (MakesOutcome self.now main.now.nodes) }
     {
         match self {
             Task::Score => score(alloc, main),
-            Task::Solve(options) => solve(rt, alloc, main, *options, last),
+            Task::Solve(options) => solve(rt, alloc, main, *options, bytes),
         }
     }
 }

@@ -1,10 +1,10 @@
 //! The certifier: proofs made bottom up at the exact line, after advice that nobody has to believe.
 
-ghost use Rattle.std.specs.Prelude.{◌≡◌, ◌≢◌, ◌≤◌, ◌<◌, ◌+◌, ◌++◌, ◌∷◌, [], length, true, false, IfOk, IfSome, None};
+ghost use Rattle.std.specs.Prelude.{◌≡◌, ◌≤◌, ◌<◌, ◌+◌, true, false, IfOk, IfSome, None};
 ghost use Rattle.tt_game.specs.Game.{winner_of, opponent, IsLegal};
 ghost use Rattle.tt_proof.specs.declared.tree.TheConstants.{MOST_DEPTH};
 ghost use Rattle.tt_proof.specs.Strategy.{depth};
-ghost use Rattle.tt_proof.specs.Proven.{StandsAt, IsChild, AreChildren, turns_of};
+ghost use Rattle.tt_proof.specs.Proven.{StandsAt, IsChild};
 
 use crate::advice::{Advice, Visits};
 use crate::memo::{keep, known};

@@ -22,3 +22,4 @@ pub mod LegalPlays
 pub mod Ends
 pub mod Chains
 pub mod FreshRows
+pub mod Sent

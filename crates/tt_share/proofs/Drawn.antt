@@ -4,17 +4,17 @@ use Rattle.std.proofs.lemmas.List.{map-append}
 use Rattle.atomic_table.specs.Seated.{TableId}
 use Rattle.tt_share.specs.Seats.{SeatView, seat_of}
 use Rattle.tt_share.specs.Workers.{AddsSpare, jobs_of}
-use Rattle.tt_share.specs.declared.jobs.Found.{Found}
+use Rattle.tt_share.specs.declared.jobs.SearchedJob.{SearchedJob}
 
 -- one more result of a job that was drawn
-pub drawn_more : (first old drawn new : List ℕ) (found more : List Found) (f : Found) → old ≡ first ++ jobs_of found → drawn ≡ old ++ f.job ∷ [] → new ≡ drawn
+pub drawn_more : (first old drawn new : List ℕ) (found more : List SearchedJob) (f : SearchedJob) → old ≡ first ++ jobs_of found → drawn ≡ old ++ f.job ∷ [] → new ≡ drawn
     → more ≡ found ++ f ∷ [] → new ≡ first ++ jobs_of more
 drawn_more first old drawn new found more f was is same all =
-    let jobs : jobs_of more ≡ jobs_of found ++ f.job ∷ [] = ap jobs_of all ∙ map-append (λ (g : Found). g.job) found (f ∷ []) in
+    let jobs : jobs_of more ≡ jobs_of found ++ f.job ∷ [] = ap jobs_of all ∙ map-append (λ (g : SearchedJob). g.job) found (f ∷ []) in
     same ∙ (is ∙ (ap (λ ns. ns ++ f.job ∷ []) was ∙ (append_assoc first (jobs_of found) (f.job ∷ []) ∙ ap (λ ns. first ++ ns) (sym jobs))))
 
 -- and at the end numbers that are no jobs
-pub drawn_all : (jobs : ℕ) (first old new : List ℕ) (found more : List Found) → old ≡ first ++ jobs_of found → more ≡ found → AddsSpare jobs old new → AddsSpare jobs (first ++ jobs_of more) new
+pub drawn_all : (jobs : ℕ) (first old new : List ℕ) (found more : List SearchedJob) → old ≡ first ++ jobs_of found → more ≡ found → AddsSpare jobs old new → AddsSpare jobs (first ++ jobs_of more) new
 drawn_all jobs first old new found more was same spare = (spare.0, spare.1 ∙ ap (λ ns. ns ++ spare.0) (was ∙ ap (λ fs. first ++ jobs_of fs) (sym same)), spare.2)
 
 pub numbers_of : (s : SeatView) (desk : TableId) (numbers grants : List ℕ) (mark sighting : Bool) → s ≡ seat_of desk numbers grants mark sighting → s.numbers ≡ numbers

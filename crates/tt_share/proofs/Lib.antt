@@ -8,15 +8,12 @@ pub mod Tokens
 pub mod Lost
 pub mod StuckBehind
 pub mod Sending
-pub mod Spares
 pub mod ViewSending
 pub mod ResultLemmas
 pub mod LastWins
 pub mod Placing
 pub mod Wins
 pub mod Drawn
-pub mod Keeping
-pub mod Relaying
 pub mod Counting
 pub mod Noting
 pub mod Asked

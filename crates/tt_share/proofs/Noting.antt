@@ -14,10 +14,11 @@ use Rattle.tt_search.specs.Numbers.{count}
 use Rattle.tt_search.specs.Searched.{Searched}
 use Rattle.tt_search.specs.declared.limits.Limits.{Limits}
 use Rattle.tt_search.specs.declared.limits.Reason.TheVariants.{Total}
-use Rattle.tt_search.specs.declared.search.End.{End}
-use Rattle.tt_search.specs.declared.search.End.TheVariants.{Settled, Stuck}
+use Rattle.tt_share.specs.declared.jobs.JobResult.{JobResult}
+use Rattle.tt_search.specs.declared.search.End.TheVariants.{Stuck}
+use Rattle.tt_share.specs.declared.jobs.JobResult.TheVariants as result
 use Rattle.tt_share.specs.Answers.{IsSpent, spent_in_all}
-use Rattle.tt_share.specs.Jobs.{IsCounted, IsJobCount, IsJob, kept_of}
+use Rattle.tt_share.specs.Jobs.{IsCounted, IsForTotal, IsJobCount, IsJob, end_of, kept_of}
 use Rattle.tt_share.specs.Results.{Progress, AreNoted, HasEnd, FilledBelow, IsAllSpent}
 use Rattle.tt_share.proofs.ResultLemmas.{get_set_same, get_set_other}
 
@@ -41,21 +42,24 @@ not_free : {X : Type 0} (x : X) → Some (Some x) ≡ Some None → ⊥
 not_free x e = none-some x (sym (same_Some (Some x) None e))
 
 -- a count is that of an end also as it is kept
-pub kept_counted : (line : Standing) (limits : Limits) (t : Turn) (past : Bool) (n : ℕ) (end : End) → IsCounted line limits t n end → IsCounted line limits t n (kept_of past end)
-kept_counted line limits t past n (Settled p) h = h
-kept_counted line limits t false n (Stuck reason o) h = h
-kept_counted line limits t true n (Stuck reason o) h = (h.0, tt)
+pub kept_counted : (line : Standing) (limits : Limits) (t : Turn) (past : Bool) (n : ℕ) (end : JobResult) → IsCounted line limits t n (end_of end)
+    → IsCounted line limits t n (end_of (kept_of past end))
+kept_counted line limits t false n end h = h
+kept_counted line limits t true n (result.Settled p) h = h
+kept_counted line limits t true n (result.Stuck reason search) h = (h.0, tt)
+kept_counted line limits t true n result.Dropped h = h
+kept_counted line limits t true n result.NoMemory h = h
 
-pub kept_count : (line : Standing) (limits : Limits) (job : ℕ) (past : Bool) (n : ℕ) (end : End) → IsJobCount line limits job n end → IsJobCount line limits job n (kept_of past end)
+pub kept_count : (line : Standing) (limits : Limits) (job : ℕ) (past : Bool) (n : ℕ) (end : JobResult) → IsJobCount line limits job n end → IsJobCount line limits job n (kept_of past end)
 kept_count line limits job past n end h t at = kept_counted line limits t past n end (h t at)
 
 -- a result and its count are put where there was none
-module _ (line : Standing) (limits : Limits) (ends : List (Option End)) (spent : List (Turn × ℕ)) (job : ℕ) (e : Turn × ℕ) (was : AreNoted line limits ends spent)
+module _ (line : Standing) (limits : Limits) (ends : List (Option JobResult)) (spent : List (Turn × ℕ)) (job : ℕ) (e : Turn × ℕ) (was : AreNoted line limits ends spent)
     (free : slice_get ends job ≡ Some None) (at : slice_get spent job ≡ Some e) where
   own_turn : IsJob line job e.0
   own_turn = subst (λ (ts : List Turn). slice_get ts job ≡ Some e.0) was.turns (map_at (λ (x : Turn × ℕ). x.0) spent job e at)
 
-  pub noted_put : (end : End) (n : ℕ) → IsJobCount line limits job n end → AreNoted line limits (slice_set ends job (Some end)) (slice_set spent job (e.0, n))
+  pub noted_put : (end : JobResult) (n : ℕ) → IsJobCount line limits job n end → AreNoted line limits (slice_set ends job (Some end)) (slice_set spent job (e.0, n))
   noted_put end n count = record {
     turns = map_put (λ (x : Turn × ℕ). x.0) spent job e (e.0, n) at refl ∙ was.turns;
     each = length-set spent job (e.0, n) ∙ (was.each ∙ sym (length-set ends job (Some end)));
@@ -66,8 +70,8 @@ module _ (line : Standing) (limits : Limits) (ends : List (Option End)) (spent :
         (λ same.
         (let a : Some (Some end) ≡ Some (Some last) = sym (get_set_same ends job (Some end) None free) ∙ (ap (λ i. slice_get (slice_set ends job (Some end)) i) (sym same) ∙ has) in
         let b : Some (e.0, n) ≡ Some x = sym (get_set_same spent job (e.0, n) e at) ∙ (ap (λ i. slice_get (slice_set spent job (e.0, n)) i) (sym same) ∙ here) in
-        subst (λ (y : Turn × ℕ). IsCounted line limits y.0 y.1 last) (same_Some (e.0, n) x b)
-        (subst (IsCounted line limits e.0 n) (same_Some end last (same_Some (Some end) (Some last) a)) (count e.0 own_turn))))
+        subst (λ (y : Turn × ℕ). IsCounted line limits y.0 y.1 (end_of last)) (same_Some (e.0, n) x b)
+        (subst (λ (x : JobResult). IsCounted line limits e.0 n (end_of x)) (same_Some end last (same_Some (Some end) (Some last) a)) (count e.0 own_turn))))
         (λ other. was.noted k last x (sym (get_set_other ends job k (Some end) other) ∙ has) (sym (get_set_other spent job k (e.0, n) other) ∙ here));
   }
 
@@ -81,19 +85,19 @@ all_at P (y ∷ ys) zero x is all = subst P (same_Some y x is) (all 0 y (omega a
 all_at P (y ∷ ys) (suc i) x is all = all_at P ys i x is (λ k d short. all (suc k) d (omega (arith, short)))
 
 -- where nothing is known no end is read
-pub blank_none : (n i : ℕ) (end : End) → slice_get (replicate n None) i ≡ Some (Some end) → ⊥
+pub blank_none : (n i : ℕ) (end : JobResult) → slice_get (replicate n None) i ≡ Some (Some end) → ⊥
 blank_none zero i end is = none-some (Some end) is
 blank_none (suc n) zero end is = none-some end (same_Some None (Some end) is)
 blank_none (suc n) (suc i) end is = blank_none n i end is
 
 -- before anything is known, nothing was expanded
-pub blank_noted : (line : Standing) (limits : Limits) (ends : List (Option End)) (spent : List (Turn × ℕ)) (n : ℕ) → map (λ (e : Turn × ℕ). e.0) spent ≡ legal_turns line.frame line.state
+pub blank_noted : (line : Standing) (limits : Limits) (ends : List (Option JobResult)) (spent : List (Turn × ℕ)) (n : ℕ) → map (λ (e : Turn × ℕ). e.0) spent ≡ legal_turns line.frame line.state
     → length spent ≡ length ends → All (λ (e : Turn × ℕ). e.1 ≡ 0) spent → ends ≡ replicate n None → AreNoted line limits ends spent
 blank_noted line limits ends spent n turns each none blank = record {
   turns = turns;
   each = each;
   unspent = λ job e free at. all_at (λ (x : Turn × ℕ). x.1 ≡ 0) spent job e at none;
-  noted = λ job end e has at. absurd (blank_none n job end (ap (λ (l : List (Option End)). slice_get l job) (sym blank) ∙ has));
+  noted = λ job end e has at. absurd (blank_none n job end (ap (λ (l : List (Option JobResult)). slice_get l job) (sym blank) ∙ has));
 }
 
 pub blank_sum : (spent : List (Turn × ℕ)) → All (λ (e : Turn × ℕ). e.1 ≡ 0) spent → spent_in_all spent ≡ 0
@@ -104,15 +108,15 @@ blank_sum (e ∷ spent) none =
     omega (arith, one, more, sum_by-cons (λ (x : Turn × ℕ). x.1) e spent)
 
 -- where every job has a result and all of the total is spent, the counts tell how
-pub spent_told : (p : Progress) (total : Option ℕ) (job : ℕ) (t : Turn) (held : Searched) → AreNoted p.line p.limits p.ends p.spent → FilledBelow (length p.ends) p.ends
-    → HasEnd p.ends job (Stuck Total (Some held)) → IsJob p.line job t → IsAllSpent total p → (n : ℕ) × (total ≡ Some n) × IsSpent p.line p.limits n t held p.spent
-spent_told p total job t held noted filled here at all =
-    let h = all (job, Stuck Total (Some held), here, tt) in
-    let within = slice_get_within p.ends job (Some (Stuck Total (Some held))) here in
+pub spent_told : (p : Progress) (total : Option ℕ) (job : ℕ) (t : Turn) (held : Searched) (end : JobResult) → AreNoted p.line p.limits p.ends p.spent → FilledBelow (length p.ends) p.ends
+    → HasEnd p.ends job end → end_of end ≡ Stuck Total (Some held) → IsJob p.line job t → IsAllSpent total p → (n : ℕ) × (total ≡ Some n) × IsSpent p.line p.limits n t held p.spent
+spent_told p total job t held end noted filled here is at all =
+    let h = all (job, end, here, subst IsForTotal (sym is) tt) in
+    let within = slice_get_within p.ends job (Some end) here in
     let low : job < length p.spent = omega (arith, within, noted.each) in
     let e : Turn × ℕ = get_or p.spent job (t, 0) in
     let there : slice_get p.spent job ≡ Some e = slice_get-get_or p.spent job (t, 0) low in
-    let own : count held.tree ≡ e.1 = (noted.noted job (Stuck Total (Some held)) e here there).1 in
+    let own : count held.tree ≡ e.1 = (subst (IsCounted p.line p.limits e.0 e.1) is (noted.noted job end e here there)).1 in
     let turn : e.0 ≡ t = same_Some e.0 t (sym (subst (λ (ts : List Turn). slice_get ts job ≡ Some e.0) noted.turns (map_at (λ (x : Turn × ℕ). x.0) p.spent job e there)) ∙ at) in
     let pair : e ≡ (t, count held.tree) = ap (λ (u : Turn). (u, e.1)) turn ∙ ap (λ (m : ℕ). (t, m)) (sym own) in (
       h.0,

@@ -4,8 +4,8 @@ use Rattle.std.proofs.lemmas.Option.{same_Some, none-some}
 use Rattle.tt_game.specs.Line.{Standing}
 use Rattle.tt_game.specs.declared.turns.Turn.{Turn}
 use Rattle.tt_search.specs.declared.limits.Limits.{Limits}
-use Rattle.tt_search.specs.declared.search.End.{End}
-use Rattle.tt_share.specs.declared.jobs.Found.{Found}
+use Rattle.tt_share.specs.declared.jobs.JobResult.{JobResult}
+use Rattle.tt_share.specs.declared.jobs.SearchedJob.{SearchedJob}
 use Rattle.tt_share.specs.declared.workers.HandedBack.{HandedBack}
 use Rattle.tt_share.specs.Jobs.{kept_of}
 use Rattle.tt_share.specs.Results.{Progress, Puts, HasEnd, IsPastStuck, KeepsEnds}
@@ -13,13 +13,13 @@ use Rattle.tt_share.specs.Workers.{IsPlaced, AllPlaced, IsGiven, AreGiven, AllGi
 use Rattle.tt_share.proofs.ResultLemmas.{read_after, get_set_same, get_set_other}
 
 -- what is known of what contracts see is known of the fields of results
-pub seen : (P : Standing → Limits → Type 0) (line : Standing) (limits : Limits) (ends : List (Option End)) (spent : List (Turn × ℕ)) (p : Progress)
+pub seen : (P : Standing → Limits → Type 0) (line : Standing) (limits : Limits) (ends : List (Option JobResult)) (spent : List (Turn × ℕ)) (p : Progress)
     → record { line = line; limits = limits; ends = ends; spent = spent } ≡ p → P p.line p.limits → P line limits
 seen P line limits ends spent p same h =
     subst (λ l. P line l) (sym (ap (λ (q : Progress). q.limits) same)) (subst (λ l. P l p.limits) (sym (ap (λ (q : Progress). q.line) same)) h)
 
 -- and what is known of the fields is known of what contracts see
-pub shown : (P : Standing → Limits → List (Option End) → Type 0) (line : Standing) (limits : Limits) (ends : List (Option End)) (spent : List (Turn × ℕ)) (p : Progress)
+pub shown : (P : Standing → Limits → List (Option JobResult) → Type 0) (line : Standing) (limits : Limits) (ends : List (Option JobResult)) (spent : List (Turn × ℕ)) (p : Progress)
     → record { line = line; limits = limits; ends = ends; spent = spent } ≡ p
     → P line limits ends → P p.line p.limits p.ends
 shown P line limits ends spent p same h = subst (λ (q : Progress). P q.line q.limits q.ends) same h
@@ -46,7 +46,7 @@ not_there : {X : Type 0} (x : X) → None ≡ Some x → ⊥
 not_there x e = none-some x e
 
 -- what stood there still does
-keeps_at : (old new : List (Option End)) (f : Found) (o : Option (Option End)) → slice_get old f.job ≡ o → Puts old new f → KeepsEnds old new
+keeps_at : (old new : List (Option JobResult)) (f : SearchedJob) (o : Option (Option JobResult)) → slice_get old f.job ≡ o → Puts old new f → KeepsEnds old new
 keeps_at old new f None is puts job end at = subst (λ l. HasEnd l job end) (sym (puts.dropped (λ e. not_there None (sym is ∙ e)))) at
 keeps_at old new f (Some None) is puts job end at =
     let other : job ≢ f.job = λ e. not_free end (sym at ∙ (ap (λ n. slice_get old n) e ∙ is)) in
@@ -55,11 +55,11 @@ keeps_at old new f (Some None) is puts job end at =
 keeps_at old new f (Some (Some had)) is puts job end at = subst (λ l. HasEnd l job end) (sym (puts.dropped (λ e. not_free had (sym is ∙ e)))) at
 
 -- putting a result keeps each one that stood there
-pub keeps : (old new : List (Option End)) (f : Found) → Puts old new f → KeepsEnds old new
+pub keeps : (old new : List (Option JobResult)) (f : SearchedJob) → Puts old new f → KeepsEnds old new
 keeps old new f puts = keeps_at old new f (slice_get old f.job) refl puts
 
 -- and the result stands at its place, or the one that stood there
-places_at : (old new : List (Option End)) (f : Found) (o : Option (Option End)) → slice_get old f.job ≡ o → Puts old new f → IsPlaced new f
+places_at : (old new : List (Option JobResult)) (f : SearchedJob) (o : Option (Option JobResult)) → slice_get old f.job ≡ o → Puts old new f → IsPlaced new f
 places_at old new f None is puts low = absurd (none_past old f.job (let e = puts.len in omega (arith, low, e)) is)
 places_at old new f (Some None) is puts low =
     let p = puts.put is in
@@ -67,24 +67,24 @@ places_at old new f (Some None) is puts low =
 places_at old new f (Some (Some had)) is puts low = (had, ap (λ l. slice_get l f.job) (puts.dropped (λ e. not_free had (sym is ∙ e))) ∙ is)
 
 -- putting a result leaves its job with one
-pub places : (old new : List (Option End)) (f : Found) → Puts old new f → IsPlaced new f
+pub places : (old new : List (Option JobResult)) (f : SearchedJob) → Puts old new f → IsPlaced new f
 places old new f puts = places_at old new f (slice_get old f.job) refl puts
 
 -- what is kept twice is kept
-pub keeps_twice : (a b c : List (Option End)) → KeepsEnds a b → KeepsEnds b c → KeepsEnds a c
+pub keeps_twice : (a b c : List (Option JobResult)) → KeepsEnds a b → KeepsEnds b c → KeepsEnds a c
 keeps_twice a b c ab bc job end at = bc job end (ab job end at)
 
 -- what was placed stays so
-pub placed_still : (old new : List (Option End)) (f : Found) → length new ≡ length old → KeepsEnds old new → IsPlaced old f → IsPlaced new f
+pub placed_still : (old new : List (Option JobResult)) (f : SearchedJob) → length new ≡ length old → KeepsEnds old new → IsPlaced old f → IsPlaced new f
 placed_still old new f len kept was low = let h = was (omega (arith, low, len)) in (h.0, kept f.job h.0 h.1)
 
 -- so does each of a list
-pub all_still : (old new : List (Option End)) (fs : List Found) → length new ≡ length old → KeepsEnds old new → All (IsPlaced old) fs → All (IsPlaced new) fs
+pub all_still : (old new : List (Option JobResult)) (fs : List SearchedJob) → length new ≡ length old → KeepsEnds old new → All (IsPlaced old) fs → All (IsPlaced new) fs
 all_still old new fs len kept was k d short = placed_still old new (get_or fs k d) len kept (was k d short)
 
 -- and so do those that workers handed back
-pub backs_still : (old new : List (Option End)) (bs : List HandedBack) → length new ≡ length old → KeepsEnds old new → All (AllPlaced old) bs → All (AllPlaced new) bs
-backs_still old new bs len kept was k d short = all_still old new (get_or bs k d).found.items len kept (was k d short)
+pub backs_still : (old new : List (Option JobResult)) (bs : List HandedBack) → length new ≡ length old → KeepsEnds old new → All (AllPlaced old) bs → All (AllPlaced new) bs
+backs_still old new bs len kept was k d short = all_still old new (get_or bs k d).searched.items len kept (was k d short)
 
 -- what holds of one and of all others holds of all
 pub all_more : {X : Type 0} (P : X → Type 0) (x : X) (xs : List X) → P x → All P xs → All P (x ∷ xs)
@@ -105,15 +105,15 @@ pub taken_there : {X : Type 0} (all left less taken : List X) (x : X) → all �
 taken_there all left less taken x was is = ap (λ l. slice_get l (length less)) (taken_more all left less taken x was is) ∙ there_at less taken x
 
 -- a lesser stuck job stays stuck
-past_still : (old new : List (Option End)) (job : ℕ) → KeepsEnds old new → IsPastStuck old job → IsPastStuck new job
+past_still : (old new : List (Option JobResult)) (job : ℕ) → KeepsEnds old new → IsPastStuck old job → IsPastStuck new job
 past_still old new job kept past = (past.0, past.1, (past.2.0, kept past.0 past.2.0 past.2.1, past.2.2))
 
 -- and a result that is one of these stays so
-given_still : (old new : List (Option End)) (found : List Found) (job : ℕ) (end : End) → KeepsEnds old new → IsGiven old found job end → IsGiven new found job end
+given_still : (old new : List (Option JobResult)) (found : List SearchedJob) (job : ℕ) (end : JobResult) → KeepsEnds old new → IsGiven old found job end → IsGiven new found job end
 given_still old new found job end kept was = (was.0, was.1, was.2, was.3, was.4, (λ up. past_still old new job kept (was.5 up)), was.6)
 
 -- with one more of these results put, each result still stood there before or is one of these
-given_at : (first old new : List (Option End)) (all : List Found) (i : ℕ) (f : Found) (o : Option (Option End)) → slice_get all i ≡ Some f → slice_get old f.job ≡ o
+given_at : (first old new : List (Option JobResult)) (all : List SearchedJob) (i : ℕ) (f : SearchedJob) (o : Option (Option JobResult)) → slice_get all i ≡ Some f → slice_get old f.job ≡ o
     → Puts old new f → AreGiven first old all → AreGiven first new all
 given_at first old new all i f None there is puts was = subst (λ l. AreGiven first l all) (sym (puts.dropped (λ e. not_there None (sym is ∙ e)))) was
 given_at first old new all i f (Some (Some had)) there is puts was = subst (λ l. AreGiven first l all) (sym (puts.dropped (λ e. not_free had (sym is ∙ e)))) was
@@ -130,16 +130,16 @@ given_at first old new all i f (Some None) there is puts was = λ job end at. (
     ])
 
 -- the same, whatever stood at its place
-pub given_more : (first old new : List (Option End)) (all : List Found) (i : ℕ) (f : Found) → slice_get all i ≡ Some f → Puts old new f → AreGiven first old all → AreGiven first new all
+pub given_more : (first old new : List (Option JobResult)) (all : List SearchedJob) (i : ℕ) (f : SearchedJob) → slice_get all i ≡ Some f → Puts old new f → AreGiven first old all → AreGiven first new all
 given_more first old new all i f there puts was = given_at first old new all i f (slice_get old f.job) there refl puts was
 
 -- so it is with what one more worker handed back
-pub given_backs : (first old new : List (Option End)) (work : List HandedBack) (i : ℕ) (back : HandedBack) → slice_get work i ≡ Some back → KeepsEnds old new
-    → AreGiven old new back.found.items → AllGiven first old work → AllGiven first new work
+pub given_backs : (first old new : List (Option JobResult)) (work : List HandedBack) (i : ℕ) (back : HandedBack) → slice_get work i ≡ Some back → KeepsEnds old new
+    → AreGiven old new back.searched.items → AllGiven first old work → AllGiven first new work
 given_backs first old new work i back there kept this was job end at = elim (this job end at) [
   | inl h ↦ elim (was job end h) [
     | inl g ↦ inl g
-    | inr g ↦ inr (g.0, g.1, g.2, given_still old new g.1.found.items job end kept g.3)
+    | inr g ↦ inr (g.0, g.1, g.2, given_still old new g.1.searched.items job end kept g.3)
   ]
   | inr h ↦ inr (i, back, there, h)
 ]

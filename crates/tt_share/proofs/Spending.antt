@@ -1,5 +1,5 @@
 -- All of a total is spent where a search was refused.
-use Rattle.std.proofs.Common.{◌≡◌, ℕ, zero, suc, ◌+◌, ◌<◌, ◌≤◌, List, [], ◌∷◌, ◌++◌, Option, Some, None, All, Contains, Bool, true, false, IfSome, slice_get, replicate, sum_by, count_by, cond, leb, nat_eq}
+use Rattle.std.proofs.Common.{◌≡◌, ℕ, zero, suc, ◌+◌, ◌<◌, ◌≤◌, List, [], ◌∷◌, ◌++◌, Option, Some, None, All, Contains, Bool, true, false, slice_get, replicate, sum_by, count_by, cond, leb, nat_eq}
 use Rattle.std.proofs.Common.{MatchOption}
 use Rattle.std.proofs.Common.{inl, inr, true≢false, refl, sym, ap, subst, ◌∙◌, arith, zero-le}
 use Rattle.std.proofs.lemmas.Bool.{cases_lt}
@@ -12,16 +12,16 @@ use native.Mathlib.Decide.{ℕ_discrete}
 use Rattle.tt_game.specs.Line.{Standing}
 use Rattle.tt_search.specs.Grants.{Asked}
 use Rattle.tt_search.specs.declared.limits.Limits.{Limits}
-use Rattle.tt_search.specs.declared.search.End.{End}
+use Rattle.tt_share.specs.declared.jobs.JobResult.{JobResult}
 use Rattle.tt_share.specs.declared.desk.Closed.{Closed}
-use Rattle.tt_share.specs.declared.jobs.Found.{Found}
+use Rattle.tt_share.specs.declared.jobs.SearchedJob.{SearchedJob}
 use Rattle.tt_share.specs.declared.workers.HandedBack.{HandedBack}
 use Rattle.tt_share.specs.Answers.{spent_in_all}
-use Rattle.tt_share.specs.Jobs.{IsForTotal}
+use Rattle.tt_share.specs.Jobs.{IsForTotal, end_of}
 use Rattle.tt_share.specs.Results.{Progress, HasTotal, IsAllSpent, SpendsTotal, AskedFor}
 use Rattle.tt_share.specs.Seats.{DeskView, SeatView, EndsSpare, EachOnce, Spends, Closes, granted_of, last_number, occurrences}
 use Rattle.tt_share.specs.Tallies.{Tallies}
-use Rattle.tt_share.specs.Workers.{times, spent_on, spent_by_all, held, held_in, AllApart, AllGiven, AreGiven, SomeTotal, IsWork}
+use Rattle.tt_share.specs.Workers.{times, spent_on, spent_by_all, held, held_in, AllApart, AllGiven, SomeTotal, IsWork}
 use Rattle.tt_share.proofs.Apart.{none_times, held_most}
 use Rattle.tt_share.proofs.Asked.{total_kept}
 use Rattle.tt_share.proofs.LastWins.{read_more}
@@ -82,11 +82,11 @@ refused_total None grants count refused h up = absurd (true≢false (sym up ∙ 
 refused_total (Some n) grants count refused h up = (n, refl, (h.1 n refl).1 up)
 
 -- where one more result is stuck for the total, one was refused
-pub refused_more : (found more : List Found) (f : Found) (before after : Bool) → more ≡ found ++ f ∷ [] → (IsForTotal f.end → after ≡ true) → (before ≡ true → after ≡ true)
+pub refused_more : (found more : List SearchedJob) (f : SearchedJob) (before after : Bool) → more ≡ found ++ f ∷ [] → (IsForTotal (end_of f.end) → after ≡ true) → (before ≡ true → after ≡ true)
     → (SomeTotal found → before ≡ true) → SomeTotal more → after ≡ true
-refused_more found more f before after is this still was (i, g, at, stuck) = elim (read_more found f i g (sym (ap (λ (l : List Found). slice_get l i) is) ∙ at)) [
+refused_more found more f before after is this still was (i, g, at, stuck) = elim (read_more found f i g (sym (ap (λ (l : List SearchedJob). slice_get l i) is) ∙ at)) [
   | inl h ↦ still (was (i, g, h, stuck))
-  | inr h ↦ this (subst (λ (x : Found). IsForTotal x.end) (sym h.1) stuck)
+  | inr h ↦ this (subst (λ (x : SearchedJob). IsForTotal (end_of x.end)) (sym h.1) stuck)
 ]
 
 most_one : (list : SeatView → List ℕ) (drawn : ℕ) (seats : List SeatView) → EachOnce list drawn seats → (job : ℕ) → occurrences list job seats ≤ 1
@@ -99,22 +99,9 @@ most_one list drawn seats once job = elim (cases_lt job drawn) [
 pub none_asked : (n : ℕ) (first last : Progress) (before after : Asked) (total : Option ℕ) → first.ends ≡ replicate n None → after.refused ≡ false → AskedFor first before last after
     → IsAllSpent total last
 none_asked n first last before after total blank none asked h = elim (asked.refused h) [
-  | inl was ↦ absurd (blank_none n was.0 was.1 (ap (λ (l : List (Option End)). slice_get l was.0) (sym blank) ∙ was.2))
+  | inl was ↦ absurd (blank_none n was.0 was.1 (ap (λ (l : List (Option JobResult)). slice_get l was.0) (sym blank) ∙ was.2))
   | inr up ↦ absurd (true≢false (sym up ∙ none))
 ]
-
--- where what is newly put is stuck for no total, nor is what stands there then
-none_newly : (before after : List (Option End)) (found : List Found) → AreGiven before after found → (SomeTotal found → ⊥) → (HasTotal before → ⊥) → HasTotal after → ⊥
-none_newly before after found given none was (job, end, at, stuck) = elim (given job end at) [
-  | inl h ↦ was (job, end, h, stuck)
-  | inr (i, f, past, there, same, dropped, is) ↦ none (i, f, there, total_kept past f.end (subst IsForTotal is stuck))
-]
-
--- where there is a total, the desk has all jobs and none was handed on
-pub none_handed : (total : Option ℕ) (first count jobs handed : ℕ) (P : Type 0) → IfSome total (λ _. first ≡ count) → jobs ≡ first → handed + first ≤ count → (handed ≡ 0 → P)
-    → IfSome total (λ _. (count ≡ jobs) × P)
-none_handed None first count jobs handed P all are within put = tt
-none_handed (Some n) first count jobs handed P all are within put = (sym (are ∙ all), put (omega (arith, all, within)))
 
 -- ---- all workers and the caller
 
@@ -123,18 +110,18 @@ module _ (line : Standing) (limits : Limits) (desk : DeskView) (closed : Closed)
     (backs : (weight : SeatView → ℕ) → sum_by weight seats ≡ sum_by (λ (b : HandedBack). weight b.seat) work)
     (closes : Closes desk (seats ++ own ∷ []) closed) where
   -- no job comes twice, as the desk gave out no number twice
-  pub all_apart : (ends : List (Option End)) → ends ≡ replicate desk.jobs None → AllApart ends work
+  pub all_apart : (ends : List (Option JobResult)) → ends ≡ replicate desk.jobs None → AllApart ends work
   all_apart ends blank job = elim (cases_lt job desk.jobs) [
     | inl h ↦
         let weight = λ (s : SeatView). count_by (λ n. nat_eq n job) s.numbers in
-        let free : held ends job ≡ 0 = ap held_in (ap (λ (l : List (Option End)). slice_get l job) blank ∙ blank_at None desk.jobs job h) in
-        let drawn = sum_most (IsWork line limits desk) (λ (b : HandedBack). times job b.found.items) (λ (b : HandedBack). weight b.seat) work (λ b w. w.drawn job) works in
+        let free : held ends job ≡ 0 = ap held_in (ap (λ (l : List (Option JobResult)). slice_get l job) blank ∙ blank_at None desk.jobs job h) in
+        let drawn = sum_most (IsWork line limits desk) (λ (b : HandedBack). times job b.searched.items) (λ (b : HandedBack). weight b.seat) work (λ b w. w.drawn job) works in
         let once = most_one (λ s. s.numbers) closed.draws (seats ++ own ∷ []) closes.draws_each_once job in
         omega (arith, free, drawn, once, backs weight, sum_by_push weight seats own)
     | inr h ↦
         let past : desk.jobs ≤ job = omega arith in
-        let none = sum_most (IsWork line limits desk) (λ (b : HandedBack). times job b.found.items) (λ (b : HandedBack). 0) work
-        (λ b w. let e = none_times job desk.jobs b.found.items past w.jobs in omega (arith, e)) works in
+        let none = sum_most (IsWork line limits desk) (λ (b : HandedBack). times job b.searched.items) (λ (b : HandedBack). 0) work
+        (λ b w. let e = none_times job desk.jobs b.searched.items past w.jobs in omega (arith, e)) works in
         omega (arith, none, nothing work, held_most (slice_get ends job))
   ]
 
@@ -142,9 +129,9 @@ module _ (line : Standing) (limits : Limits) (desk : DeskView) (closed : Closed)
   spent_granted : (total : ℕ) → desk.total ≡ Some total → spent_by_all work ≡ sum_by (λ (s : SeatView). granted_of total s.grants) seats
   spent_granted total is =
       let weight = λ (s : SeatView). granted_of total s.grants in
-      let less = sum_most (IsWork line limits desk) (λ (b : HandedBack). spent_on b.found.items) (λ (b : HandedBack). weight b.seat) work
+      let less = sum_most (IsWork line limits desk) (λ (b : HandedBack). spent_on b.searched.items) (λ (b : HandedBack). weight b.seat) work
       (λ b w. let e = w.spent total is in omega (arith, e)) works in
-      let more = sum_most (IsWork line limits desk) (λ (b : HandedBack). weight b.seat) (λ (b : HandedBack). spent_on b.found.items) work
+      let more = sum_most (IsWork line limits desk) (λ (b : HandedBack). weight b.seat) (λ (b : HandedBack). spent_on b.searched.items) work
       (λ b w. let e = w.spent total is in omega (arith, e)) works in
       omega (arith, less, more, backs weight)
 
@@ -165,10 +152,10 @@ module _ (line : Standing) (limits : Limits) (desk : DeskView) (closed : Closed)
     some_refused h = elim (asked.refused h) [
       | inr up ↦ let t = refused_total desk.total own.grants count refused tally up in (t.0, t.1, (own, Contains-push seats own, t.2))
       | inl was ↦ elim (given was.0 was.1 was.2) [
-        | inl had ↦ absurd (blank_none desk.jobs was.0 was.1 (sym (ap (λ (l : List (Option End)). slice_get l was.0) blank) ∙ had))
+        | inl had ↦ absurd (blank_none desk.jobs was.0 was.1 (sym (ap (λ (l : List (Option JobResult)). slice_get l was.0) blank) ∙ had))
         | inr g ↦
             let f = g.3.1 in
-            let stuck : IsForTotal f.end = total_kept g.3.2 f.end (subst IsForTotal g.3.6 was.3) in
+            let stuck : IsForTotal (end_of f.end) = total_kept g.3.2 f.end (subst (λ (x : JobResult). IsForTotal (end_of x)) g.3.6 was.3) in
             let w = all_at (IsWork line limits desk) work g.0 g.1 g.2 works in
             let t = w.refused (g.3.0, f, g.3.3, stuck) in
             (t.0, t.1, refused_there g.0 g.1 t.0 g.2 t.2)
@@ -195,36 +182,3 @@ module _ (line : Standing) (limits : Limits) (desk : DeskView) (closed : Closed)
           let all = (spends s.0 s.1).refused s.2.0 s.2.1 s.2.2 in
           (s.0, s.1, spent_is s.0 s.1 ∙ all);
     }
-
--- What all workers and the caller spend, where jobs were handed on in between, which they are only where there is no total
-module _ (line : Standing) (limits : Limits) (desk : DeskView) (closed : Closed) (work : List HandedBack) (seats : List SeatView) (own : SeatView) (handed : List Found)
-    (works : All (IsWork line limits desk) work)
-    (backs : (weight : SeatView → ℕ) → sum_by weight seats ≡ sum_by (λ (b : HandedBack). weight b.seat) work)
-    (closes : Closes desk (seats ++ own ∷ []) closed)
-    (first mid next last : Progress) (before : Asked) (count jobs : ℕ) (refused : Bool) (none : before.granted ≡ 0) (blank : first.ends ≡ replicate jobs None)
-    (unspent : spent_in_all first.spent ≡ 0)
-    (gathered : AllApart first.ends work → spent_in_all mid.spent ≡ spent_in_all first.spent + spent_by_all work) (given : AllGiven first.ends mid.ends work)
-    (put : AreGiven mid.ends next.ends handed) (unpaused : SomeTotal handed → ⊥)
-    (asked : AskedFor next before last (record { granted = count; refused = refused })) (tally : Tallies desk.total own.grants count refused) where
-  -- without a total no worker's job is stuck for one
-  none_gathered : desk.total ≡ None → HasTotal mid.ends → ⊥
-  none_gathered without (job, end, at, stuck) = elim (given job end at) [
-    | inl had ↦ blank_none jobs job end (sym (ap (λ (l : List (Option End)). slice_get l job) blank) ∙ had)
-    | inr g ↦
-        let f = g.3.1 in
-        let w = all_at (IsWork line limits desk) work g.0 g.1 g.2 works in
-        let t = w.refused (g.3.0, f, g.3.3, total_kept g.3.2 f.end (subst IsForTotal g.3.6 stuck)) in
-        none-some t.0 (sym without ∙ t.1)
-  ]
-
-  none_at_last : desk.total ≡ None → HasTotal last.ends → ⊥
-  none_at_last without h = elim (asked.refused h) [
-    | inl was ↦ none_newly mid.ends next.ends handed put unpaused (none_gathered without) was
-    | inr up ↦ true≢false (sym up ∙ tally.0 without)
-  ]
-
-  pub handed_spent : (total : Option ℕ) → desk.total ≡ total → IfSome total (λ _. (jobs ≡ desk.jobs) × (next ≡ mid)) → SpendsTotal total last
-  handed_spent None is alone = record { within = λ n e. absurd (none-some n e); all = λ h. absurd (none_at_last is h) }
-  handed_spent (Some n) is alone = subst (λ (o : Option ℕ). SpendsTotal o last) is
-      (total_spent line limits desk closed work seats own works backs closes first mid last before count refused none (subst (λ k. first.ends ≡ replicate k None) alone.0 blank) unspent gathered given
-      (subst (λ (p : Progress). AskedFor p before last (record { granted = count; refused = refused })) alone.1 asked) tally)

@@ -17,7 +17,8 @@ use Rattle.tt_share.specs.contracts.taken.Taken.TheInside as TakenInside
 use Rattle.tt_share.specs.contracts.view.View as View
 use Rattle.tt_share.specs.contracts.view.View.TheInside as ViewInside
 use Rattle.tt_share.proofs.log.Token.TheSendSync.{the_send as token_send}
-use Rattle.tt_share.proofs.Sending.{Handle, log_sync, shared_send}
+use Rattle.tt_proof.proofs.Sent.{shared_send}
+use Rattle.tt_share.proofs.Sending.{Handle, log_sync}
 
 -- the tokens that were taken in, with their log and index
 taken_send : (a : NamedLft) → IsSend (Taken.the_row a)

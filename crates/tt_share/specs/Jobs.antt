@@ -1,5 +1,5 @@
 -- Jobs: the legal turns of a line, each searched by itself, and their results. Only private contracts cite these.
-use Rattle.std.specs.Prelude.{◌≡◌, ℕ, ◌+◌, ◌≤◌, Bool, true, false, List, Option, Some, None, slice_get}
+use Rattle.std.specs.Prelude.{◌≡◌, ◌⊎◌, ℕ, ◌+◌, ◌≤◌, Bool, true, false, List, Option, Some, None, slice_get}
 use Rattle.tt_game.specs.declared.frame.Side.{Side}
 use Rattle.tt_game.specs.declared.turns.Turn.{Turn}
 use Rattle.tt_game.specs.Game.{after}
@@ -17,7 +17,9 @@ use Rattle.tt_search.specs.declared.limits.Reason.TheVariants.{Budget, Depth, To
 use Rattle.tt_search.specs.declared.search.End.{End}
 use Rattle.tt_search.specs.declared.search.End.TheVariants.{Settled, Stuck}
 use Rattle.tt_share.specs.Answers.{IsBehind, IsCountBehind}
-use Rattle.tt_share.specs.declared.jobs.Found.{Found}
+use Rattle.tt_share.specs.declared.jobs.JobResult.{JobResult}
+use Rattle.tt_share.specs.declared.jobs.JobResult.TheVariants as result
+use Rattle.tt_share.specs.declared.jobs.SearchedJob.{SearchedJob}
 
 -- the search is stuck for the total
 abbrev pub IsForTotal : End → Type 0
@@ -59,60 +61,64 @@ pub record AsksFor (old : Asked) (n : ℕ) (end : End) (new : Asked) : Type 0 wh
 abbrev pub IsJob : Standing → ℕ → Turn → Type 0
 IsJob line job t = slice_get (legal_turns line.frame line.state) job ≡ Some t
 
--- the end is that of the search behind the job's turn
-abbrev pub IsResultOf : Standing → Limits → ℕ → End → Type 0
-IsResultOf line limits job end = (t : Turn) → IsJob line job t → EndsBehind line limits t end
+-- the end of the search that a result tells of; where there is no search, it is one that is stuck for want of memory
+abbrev pub end_of : JobResult → End
+end_of (result.Settled p) = Settled p
+end_of (result.Stuck reason search) = Stuck reason (Some search.value)
+end_of result.Dropped = Stuck Memory None
+end_of result.NoMemory = Stuck Memory None
+
+-- the result is that of the search behind the job's turn
+abbrev pub IsResultOf : Standing → Limits → ℕ → JobResult → Type 0
+IsResultOf line limits job end = (t : Turn) → IsJob line job t → EndsBehind line limits t (end_of end)
 
 -- the count is that of the search behind the job's turn
-abbrev pub IsJobCount : Standing → Limits → ℕ → ℕ → End → Type 0
-IsJobCount line limits job n end = (t : Turn) → IsJob line job t → IsCounted line limits t n end
+abbrev pub IsJobCount : Standing → Limits → ℕ → ℕ → JobResult → Type 0
+IsJobCount line limits job n end = (t : Turn) → IsJob line job t → IsCounted line limits t n (end_of end)
 
-abbrev pub IsResult : Standing → Limits → Found → Type 0
-IsResult line limits found = IsResultOf line limits found.job found.end × IsJobCount line limits found.job found.spent found.end
+abbrev pub IsResult : Standing → Limits → SearchedJob → Type 0
+IsResult line limits searched = IsResultOf line limits searched.job searched.end × IsJobCount line limits searched.job searched.spent searched.end
 
--- each end that is known is its job's
-abbrev pub AreResults : Standing → Limits → List (Option End) → Type 0
-AreResults line limits ends = (job : ℕ) (end : End) → slice_get ends job ≡ Some (Some end) → IsResultOf line limits job end
+-- each result that is known is its job's
+abbrev pub AreResults : Standing → Limits → List (Option JobResult) → Type 0
+AreResults line limits ends = (job : ℕ) (end : JobResult) → slice_get ends job ≡ Some (Some end) → IsResultOf line limits job end
+
+-- the result is that of a run which ends so, or there was no memory for it
+abbrev pub IsOfEnd : End → JobResult → Type 0
+IsOfEnd end made = (end_of made ≡ end) ⊎ (made ≡ result.NoMemory)
 
 -- the result is a proof for the side
-abbrev pub IsWinFor : Side → End → Type 0
-IsWinFor side (Settled p) = p.side ≡ side
-IsWinFor side (Stuck reason search) = ⊥
+abbrev pub IsWinFor : Side → JobResult → Type 0
+IsWinFor side (result.Settled p) = p.side ≡ side
+IsWinFor side (result.Stuck reason search) = ⊥
+IsWinFor side result.Dropped = ⊥
+IsWinFor side result.NoMemory = ⊥
 
--- the result is a stuck search
-abbrev pub IsStuck : End → Type 0
-IsStuck (Settled p) = ⊥
-IsStuck (Stuck reason search) = Unit {0}
+-- the result is no proof
+abbrev pub IsStuck : JobResult → Type 0
+IsStuck (result.Settled p) = ⊥
+IsStuck (result.Stuck reason search) = Unit {0}
+IsStuck result.Dropped = Unit {0}
+IsStuck result.NoMemory = Unit {0}
+
+-- a search was stuck and isn't kept
+abbrev pub IsDropped : JobResult → Type 0
+IsDropped (result.Settled p) = ⊥
+IsDropped (result.Stuck reason search) = ⊥
+IsDropped result.Dropped = Unit {0}
+IsDropped result.NoMemory = ⊥
 
 -- the result is stuck, or a proof whose strategy wins
-abbrev pub HasWon : End → Type 0
-HasWon (Settled p) = IsWon p.side p.frame p.state p.tree
-HasWon (Stuck reason search) = Unit {0}
-
--- the search is held
-abbrev pub HoldsSearch : Searched → End → Type 0
-HoldsSearch search (Settled p) = ⊥
-HoldsSearch search (Stuck reason (Some held)) = held ≡ search
-HoldsSearch search (Stuck reason None) = ⊥
-
--- no search is held
-abbrev pub HoldsNone : End → Type 0
-HoldsNone (Settled p) = Unit {0}
-HoldsNone (Stuck reason (Some search)) = ⊥
-HoldsNone (Stuck reason None) = Unit {0}
-
--- what is asked for while a search goes on: as many expansions as its count rises by
-abbrev pub GoesOnFrom : Found → Asked → Found → Asked → Type 0
-GoesOnFrom before old after new = (n : ℕ) × (after.spent ≡ before.spent + n) × AsksFor old n after.end new
-
--- the line is that of the search that is held
-abbrev pub IsLineOf : End → Standing → Type 0
-IsLineOf (Settled p) line = ⊥
-IsLineOf (Stuck reason (Some search)) line = line ≡ search.line
-IsLineOf (Stuck reason None) line = ⊥
+abbrev pub HasWon : JobResult → Type 0
+HasWon (result.Settled p) = IsWon p.side p.frame p.state p.tree
+HasWon (result.Stuck reason search) = Unit {0}
+HasWon result.Dropped = Unit {0}
+HasWon result.NoMemory = Unit {0}
 
 -- a result as it is kept: a stuck search is dropped where a lesser job is stuck
-abbrev pub kept_of : Bool → End → End
-kept_of past_stuck (Settled p) = Settled p
-kept_of false (Stuck reason search) = Stuck reason search
-kept_of true (Stuck reason search) = Stuck Memory None
+abbrev pub kept_of : Bool → JobResult → JobResult
+kept_of false end = end
+kept_of true (result.Settled p) = result.Settled p
+kept_of true (result.Stuck reason search) = result.Dropped
+kept_of true result.Dropped = result.Dropped
+kept_of true result.NoMemory = result.Dropped

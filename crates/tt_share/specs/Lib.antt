@@ -6,7 +6,6 @@ pub mod Desk
 pub mod Seats
 pub mod DeskLaw
 -- What private contracts and proofs cite. Nobody has to believe these.
-pub mod Ended
 pub mod Jobs
 pub mod Results
 pub mod Beginning
@@ -15,4 +14,3 @@ pub mod Gathering
 pub mod Places
 pub mod Taking
 pub mod Tallies
-pub mod Relay

@@ -24,7 +24,7 @@ pub struct Stuck {
     pub turn: Turn,
     /// `Budget`, `Depth`, `Total` or `Memory`.
     pub reason: Reason,
-    /// The search behind the turn: there for `Budget`, `Depth` and `Total`, and for `Memory` where it had begun.
+    /// The search behind the turn: there for `Budget`, `Depth` and `Total`, and for `Memory` where one is held.
     pub search: Option<Search>,
     /// For `Total` each legal turn, in rising order, with how many nodes its search expanded: all together they are the
     /// total. Empty for every other reason.

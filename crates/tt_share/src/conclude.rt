@@ -1,6 +1,6 @@
 //! The answer that the results of the jobs make.
 
-ghost use Rattle.std.specs.Prelude.{◌≡◌, ℕ, ◌<◌, ◌≤◌, ◌↔◌, Option, Some, None, IfOk, IsSome, slice_get, slice_set, length, vec_len};
+ghost use Rattle.std.specs.Prelude.{◌≡◌, ℕ, ◌<◌, ◌≤◌, ◌↔◌, MatchOption, Option, Some, None, IfOk, IsSome, slice_get, slice_set, length, vec_len};
 ghost use Rattle.tt_game.specs.Game.{IsLegal, winner_of};
 ghost use Rattle.tt_game.specs.Line.{Standing};
 ghost use Rattle.tt_game.specs.Turns.{legal_turns};
@@ -12,13 +12,13 @@ ghost use Rattle.tt_search.specs.declared.limits.Limits.{Limits};
 ghost use Rattle.tt_search.specs.declared.limits.Reason.{Reason};
 ghost use Rattle.tt_search.specs.declared.search.End.{End};
 ghost use Rattle.tt_share.specs.Answers.{IsAnswer, told_of};
+ghost use Rattle.tt_share.specs.declared.jobs.JobResult.{JobResult};
 ghost use Rattle.tt_share.specs.Beginning.{BeginsWith, IsStuckWith};
-ghost use Rattle.tt_share.specs.Jobs.{EndsBehind, IsJob};
-ghost use Rattle.tt_share.specs.Results.{IsAllSpent, HaveLost, IsLeastWin, IsLeastStuck, IsReady, NoneStuck, NoWin};
+ghost use Rattle.tt_share.specs.Jobs.{EndsBehind, IsJob, end_of};
+ghost use Rattle.tt_share.specs.Results.{IsAllSpent, HasEnd, HaveLost, IsLeastWin, IsLeastStuck, IsReady, NoneStuck, NoWin};
 
 use crate::answer::{Answer, Stuck};
-use crate::ended::Ended;
-use crate::jobs::Jobs;
+use crate::jobs::{JobResult, Jobs};
 use crate::results::{Results, win_at};
 use std::alloc::Global;
 use std::sync::Arc;
@@ -70,10 +70,10 @@ pub(crate) fn settled(
     Ok(Answer::Settled { proof, first })
 }
 
-/// The result of a job, taken out of its place.
-fn take_end(ends: &mut Vec<Option<Ended>>, job: usize) -> Option<End>
+/// The result of a job, taken out of the list.
+fn take_end(ends: &mut Vec<Option<JobResult>>, job: usize) -> Option<End>
     requires within { job < vec_len ends.old }
-    ensures taken { slice_get ends.old.items job ≡ Some result }
+    ensures taken { MatchOption result (slice_get ends.old.items job ≡ Some None) (λ end. (of : JobResult) × HasEnd ends.old.items job of × (end ≡ end_of of)) }
     ensures rest { ends.new.items ≡ slice_set ends.old.items job None }
     ensures len { vec_len ends.new ≡ vec_len ends.old }
 {

@@ -10,7 +10,6 @@ use crate::rule::{AtDesk, Both, Cut, Draw, Grant, Look, Plan, Raise, View};
 use atomic_table::Table;
 use std::alloc::Global;
 use std::marker::Model;
-use std::sync::atomic::{AtomicUsize, Ordering};
 use tt_sgf::NoMemory;
 
 type Words = Table<(), View, Plan, AtDesk, Global>;
@@ -24,14 +23,13 @@ pub struct Closed {
 }
 
 /// Jobs that threads draw, none twice, a mark that each of them can raise, and grants, of which it gives `total` in all where
-/// it has one. Each thread has a seat of its own. Of the stuck jobs it knows the least that it was told of.
+/// it has one. Each thread has a seat of its own.
 #[derive(Drop)]
 pub struct Desk {
     table: Words,
     jobs: usize,
     seats: usize,
     total: Option<u32>,
-    least_stuck: AtomicUsize,
 }
 
 impl Model for Desk {
@@ -180,7 +178,6 @@ impl Desk {
             jobs,
             seats,
             total,
-            least_stuck: AtomicUsize::new(usize::MAX),
         };
         Ok((desk, all))
     }
@@ -248,16 +245,6 @@ impl Desk {
         let number = self.table.shared.fetch_add::<Grant>(&mut s.seat, 2, 1);
         s.last_grant = number;
         number < u64::from(total)
-    }
-
-    /// Tells the desk of a stuck job. Whether it knew of a lesser one.
-    pub(crate) fn tell_stuck(&self, job: usize) -> bool {
-        self.least_stuck.fetch_min(job, Ordering::SeqCst) < job
-    }
-
-    /// Whether it knows of a stuck job that is less than this one.
-    pub(crate) fn knows_stuck_below(&self, job: usize) -> bool {
-        self.least_stuck.load(Ordering::SeqCst) < job
     }
 
     /// How many steps all draws made, those that found no job among them, and how many grants the desk gave of its total,

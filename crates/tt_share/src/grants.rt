@@ -1,6 +1,6 @@
 //! Grants of a desk, asked for through a seat.
-ghost use Rattle.std.specs.Prelude.{◌≡◌, ◌||◌, false, ℕ, ◌+◌, ◌-◌, ◌<◌, ◌^◌, ◌∷◌, ◌++◌, ◌≤◌, [], length, IfSome, IfNone};
-ghost use Rattle.tt_share.specs.Seats.{DeskView, SeatView, EndsSpare, seat_of};
+ghost use Rattle.std.specs.Prelude.{◌≡◌, ◌||◌, []};
+ghost use Rattle.tt_share.specs.Seats.{DeskView, SeatView, seat_of};
 ghost use Rattle.tt_share.specs.Tallies.{Tallies, source_of};
 
 use crate::desk::{Desk, Seat};
@@ -72,55 +72,6 @@ impl<'a> Grants for SeatGrants<'a> {
             self.refused = true;
         }
         granted
-    }
-
-    fn granted(&self) -> u64 {
-        self.granted
-    }
-
-    fn refused(&self) -> bool {
-        self.refused
-    }
-}
-
-/// Leave to expand so many nodes of a search, and no more.
-#[derive(Drop)]
-pub(crate) struct Share {
-    granted: u64,
-    left: u32,
-    refused: bool,
-}
-
-impl Share {
-    /// Leave to expand so many nodes.
-    pub fn of(left: u32) -> Share
-        ensures unasked { result.granted ≡ 0 }
-        ensures left { result.left ≡ left }
-    {
-        Share {
-            granted: 0,
-            left,
-            refused: false,
-        }
-    }
-}
-
-impl Grants for Share {
-    ghost asked = { λ s. record { granted = s.granted; refused = s.refused } };
-
-    ghost Source = { ℕ };
-
-    // How many it may grant in all.
-    ghost source = { λ s. s.granted + s.left };
-
-    fn ask(&mut self) -> bool {
-        self.refused = self.refused || self.left == 0;
-        if self.refused {
-            return false;
-        }
-        self.left -= 1;
-        self.granted += 1;
-        true
     }
 
     fn granted(&self) -> u64 {

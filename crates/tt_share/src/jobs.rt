@@ -1,24 +1,36 @@
-//! Jobs: the legal turns of a line, each searched by itself.
+//! Jobs: the legal turns of a line, each searched by itself, and their results.
 
-ghost use Rattle.std.specs.Prelude.{◌≡◌, ◌+◌, ◌^◌, ◌≤◌, ◌<◌, ◌↔◌, Bool, None, IfOk, IfSome, IsTrue, length};
+ghost use Rattle.std.specs.Prelude.{◌≡◌, ◌+◌, ◌^◌, ◌≤◌, ◌<◌, ◌↔◌, Bool, None, IfOk, IsTrue, length};
 ghost use Rattle.tt_game.specs.Game.{IsLegal, after, winner_of};
-ghost use Rattle.tt_game.specs.Line.{GoesOn};
 ghost use Rattle.tt_game.specs.Turns.{legal_turns};
-ghost use Rattle.tt_search.specs.Numbers.{count};
-ghost use Rattle.tt_search.specs.Ended.{EndOf, SpentBy};
-ghost use Rattle.tt_share.specs.Jobs.{EndsBehind, IsCounted, AsksFor, GoesOnFrom, IsResult, IsWinFor};
+ghost use Rattle.tt_search.specs.Growing.{new_leaf};
+ghost use Rattle.tt_share.specs.Answers.{IsBehind};
+ghost use Rattle.tt_share.specs.Jobs.{AsksFor, HasWon, IsDropped, IsJob, IsOfEnd, IsResult, IsStuck, IsWinFor, end_of, kept_of};
 
-use crate::ended::{Ended, is_win};
 use std::alloc::Global;
-use tt_game::{Line, Turn, Turns};
+use tt_game::{Line, Side, Turn, Turns};
+use tt_proof::Proof;
 use tt_search::{End, Grants, Limits, Reason, Search, Store};
 use tt_sgf::NoMemory;
 
-/// The result of a job so far, its place among the legal turns, and how many nodes its search expanded.
+/// The result of a job.
 #[derive(Drop)]
-pub(crate) struct Found {
+pub(crate) enum JobResult {
+    /// A proof that stands behind the job's turn.
+    Settled(Proof),
+    /// A search that is stuck, and why.
+    Stuck(Reason, Box<Search>),
+    /// It is stuck, as a lesser job is, and its search isn't kept.
+    Dropped,
+    /// Memory was refused, and there is no search.
+    NoMemory,
+}
+
+/// A job that was searched, by its number among the legal turns, with its result and how many nodes its search expanded.
+#[derive(Drop)]
+pub(crate) struct SearchedJob {
     pub job: usize,
-    pub end: Ended,
+    pub end: JobResult,
     pub spent: u32,
 }
 
@@ -35,37 +47,64 @@ pub(crate) struct Jobs<'a> {
     ghost few: { (1 ≤ length turns.items) × (length turns.items ≤ 362) },
 }
 
-/// Runs a search to its end, and counts the nodes that it expands.
-fn run_counted<S: Store, G: Grants>(search: Search, store: &mut S, grants: &mut G) -> (End, u32)
-    requires grants { (G.asked grants.old).granted < 2 ^ 62 }
-    ensures end { EndOf search result.0 }
-    ensures spent { SpentBy search (G.asked grants.old) result.0 (G.asked grants.new) }
-    ensures asks { AsksFor (G.asked grants.old) result.1 result.0 (G.asked grants.new) }
-    ensures few { result.1 + count search.tree ≤ search.limits.budget }
-    ensures source { G.source grants.new ≡ G.source grants.old }
+/// Whether the result is a proof for the side.
+pub(crate) fn is_win(end: &JobResult, side: Side) -> bool
+    ensures win { IsTrue result ↔ IsWinFor side end.now }
+    ensures won { HasWon end.now }
 {
-    let before = grants.granted();
-    let end = search.run(store, grants);
-    let spent = (grants.granted() - before) as u32;
-    (end, spent)
+    match end {
+        JobResult::Settled(proof) => proof.side() == side,
+        JobResult::Stuck(_, _) | JobResult::Dropped | JobResult::NoMemory => false,
+    }
 }
 
-/// Runs a search with a counted source of grants, and puts how it ends into the place.
-fn run_into<S: Store, G: Grants>(
-    place: Box<End>,
-    search: Search,
-    store: &mut S,
-    grants: &mut G,
-) -> (Ended, u32)
-    requires grants { (G.asked grants.old).granted < 2 ^ 62 }
-    ensures end { EndOf search result.0 }
-    ensures spent { SpentBy search (G.asked grants.old) result.0 (G.asked grants.new) }
-    ensures asks { AsksFor (G.asked grants.old) result.1 result.0 (G.asked grants.new) }
-    ensures few { result.1 + count search.tree ≤ search.limits.budget }
-    ensures source { G.source grants.new ≡ G.source grants.old }
+/// Whether the result is no proof.
+pub(crate) fn is_stuck(end: &JobResult) -> bool
+    ensures { IsTrue result ↔ IsStuck end.now }
 {
-    let (end, spent) = run_counted(search, store, grants);
-    (Ended::at(place, end), spent)
+    match end {
+        JobResult::Settled(_) => false,
+        JobResult::Stuck(_, _) | JobResult::Dropped | JobResult::NoMemory => true,
+    }
+}
+
+/// A result as it is kept. A stuck search holds its whole tree, and only that of the least stuck turn is answered: so it
+/// is dropped where a lesser job is stuck.
+pub(crate) fn kept(past_stuck: bool, end: JobResult) -> JobResult
+    ensures { result ≡ kept_of past_stuck end }
+{
+    if past_stuck && is_stuck(&end) {
+        return JobResult::Dropped;
+    }
+    end
+}
+
+/// The result that a run makes. Where there is no memory for a box the search is gone.
+fn result_of(alloc: Global, end: End) -> JobResult
+    ensures end { IsOfEnd end result }
+    ensures whole { ¬ IsDropped result }
+{
+    match end {
+        End::Settled(proof) => JobResult::Settled(proof),
+        End::Stuck(reason, Some(search)) => match Box::new(alloc, search) {
+            Ok(search) => JobResult::Stuck(reason, search),
+            Err(_) => JobResult::NoMemory,
+        },
+        End::Stuck(_, None) => JobResult::NoMemory,
+    }
+}
+
+impl JobResult {
+    /// The end of the search. Where there is no search, it is one that is stuck for want of memory.
+    pub fn into_end(self) -> End
+        ensures { result ≡ end_of self }
+    {
+        match self {
+            JobResult::Settled(proof) => End::Settled(proof),
+            JobResult::Stuck(reason, search) => End::Stuck(reason, Some(Box::into_inner(search))),
+            JobResult::Dropped | JobResult::NoMemory => End::Stuck(Reason::Memory, None),
+        }
+    }
 }
 
 impl<'a> Jobs<'a> {
@@ -96,119 +135,60 @@ impl<'a> Jobs<'a> {
         }
     }
 
-    /// The line again, in the place of a spare one where there is one.
-    fn line_again(&self, spare: Option<Line>) -> Result<Line, NoMemory>
-        requires { IfSome spare (GoesOn self.now.line.now) }
-        ensures { IfOk result (λ l. (l.frame ≡ self.now.line.now.frame) × (l.state ≡ self.now.line.now.state)) }
-    {
-        match spare {
-            Some(longer) => self.line.try_clone_over(longer),
-            None => self.line.try_clone(),
-        }
-    }
-
     /// The line after a legal turn.
-    fn line_behind(&self, turn: Turn, spare: Option<Line>) -> Result<Line, NoMemory>
+    fn line_behind(&self, turn: Turn) -> Result<Line, NoMemory>
         requires legal { IsLegal self.now.line.now.frame self.now.line.now.state turn }
-        requires spare { IfSome spare (GoesOn self.now.line.now) }
         ensures frame { IfOk result (λ l. l.frame ≡ self.now.line.now.frame) }
         ensures state { IfOk result (λ l. l.state ≡ after self.now.line.now.frame self.now.line.now.state turn) }
     {
-        let mut behind = self.line_again(spare)?;
+        let mut behind = self.line.try_clone()?;
         behind.push_legal(turn)?;
         Ok(behind)
     }
 
-    /// The line behind a turn, and a place for how the search there ends, which is taken before it begins.
-    fn start_behind(&self, turn: Turn, spare: Option<Line>) -> Result<(Line, Box<End>), NoMemory>
-        requires legal { IsLegal self.now.line.now.frame self.now.line.now.state turn }
-        requires spare { IfSome spare (GoesOn self.now.line.now) }
-        ensures frame { IfOk result (λ x. x.0.frame ≡ self.now.line.now.frame) }
-        ensures state { IfOk result (λ x. x.0.state ≡ after self.now.line.now.frame self.now.line.now.state turn) }
-    {
-        let behind = self.line_behind(turn, spare)?;
-        let place = Box::new(self.alloc, End::Stuck(Reason::Memory, None))?;
-        Ok((behind, place))
-    }
-
-    /// A search of the line after a legal turn, of which nothing is expanded yet, held as one that is stuck for memory.
-    fn begin_behind(&self, turn: Turn, spare: Option<Line>) -> Ended
-        requires legal { IsLegal self.now.line.now.frame self.now.line.now.state turn }
-        requires spare { IfSome spare (GoesOn self.now.line.now) }
-        ensures ends { EndsBehind self.now.line.now self.now.limits turn result }
-        ensures counted { IsCounted self.now.line.now self.now.limits turn 0 result }
+    /// A search of the line after a job's turn, with the same budget and a depth one less. Nothing of it is expanded yet.
+    fn begin(&self, job: usize) -> Result<Search, NoMemory>
+        requires job { job < length self.now.turns.items }
+        ensures behind { IfOk result (λ s. (t : Turn) → IsJob self.now.line.now job t → IsBehind self.now.line.now self.now.limits t s) }
+        ensures new { IfOk result (λ s. s.tree ≡ new_leaf s.line.frame s.line.state) }
     {
         let limits = self.limits_behind();
-        let Ok((behind, place)) = self.start_behind(turn, spare) else {
-            return Ended::nowhere();
-        };
-        match Search::new(self.alloc, behind, limits) {
-            Ok(search) => Ended::at(place, End::Stuck(Reason::Memory, Some(search))),
-            Err(_) => Ended::nowhere(),
-        }
+        let behind = self.line_behind(self.turns.as_slice()[job])?;
+        Search::new(self.alloc, behind, limits)
     }
 
-    /// A job as it begins: the line after its turn, with the same budget and a depth one less. It takes over the boards of a
-    /// spare line that goes on from the jobs' line.
-    pub fn begin(&self, job: usize, spare: Option<Line>) -> Found
-        requires job { job < length self.now.turns.items }
-        requires spare { IfSome spare (GoesOn self.now.line.now) }
-        ensures job { result.job ≡ job }
-        ensures begun { IsResult self.now.line.now self.now.limits result }
-        ensures unspent { result.spent ≡ 0 }
-    {
-        Found {
-            job,
-            end: self.begin_behind(self.turns.as_slice()[job], spare),
-            spent: 0,
-        }
-    }
-
-    /// Goes on with the search that a result holds, and counts the nodes that are expanded in all.
-    pub fn go_on<S: Store, G: Grants>(&self, begun: Found, store: &mut S, grants: &mut G) -> Found
-        requires job { begun.job < length self.now.turns.items }
-        requires begun { IsResult self.now.line.now self.now.limits begun }
-        requires grants { (G.asked grants.old).granted < 2 ^ 62 }
-        ensures job { result.job ≡ begun.job }
-        ensures result { IsResult self.now.line.now self.now.limits result }
-        ensures asks { GoesOnFrom begun (G.asked grants.old) result (G.asked grants.new) }
-        ensures source { G.source grants.new ≡ G.source grants.old }
-    {
-        let Found { job, end, spent } = begun;
-        match end.into_search() {
-            Ok((place, search)) => {
-                let (end, more) = run_into(place, search, store, grants);
-                Found {
-                    job,
-                    end,
-                    spent: spent + more,
-                }
-            }
-            Err(end) => Found { job, end, spent },
-        }
-    }
-
-    /// Searches a job to its end. It takes over the boards of a spare line that goes on from the jobs' line.
+    /// Searches a job to its end.
     pub fn search<S: Store, G: Grants>(
         &self,
         job: usize,
-        spare: Option<Line>,
         store: &mut S,
         grants: &mut G,
-    ) -> Found
+    ) -> SearchedJob
         requires job { job < length self.now.turns.items }
-        requires spare { IfSome spare (GoesOn self.now.line.now) }
         requires grants { (G.asked grants.old).granted < 2 ^ 62 }
         ensures job { result.job ≡ job }
         ensures result { IsResult self.now.line.now self.now.limits result }
-        ensures asks { AsksFor (G.asked grants.old) result.spent result.end (G.asked grants.new) }
+        ensures whole { ¬ IsDropped result.end }
+        ensures asks { AsksFor (G.asked grants.old) result.spent (end_of result.end) (G.asked grants.new) }
         ensures source { G.source grants.new ≡ G.source grants.old }
     {
-        self.go_on(self.begin(job, spare), store, grants)
+        match self.begin(job) {
+            Ok(search) => {
+                let before = grants.granted();
+                let end = result_of(self.alloc, search.run(store, grants));
+                let spent = (grants.granted() - before) as u32;
+                SearchedJob { job, end, spent }
+            }
+            Err(_) => SearchedJob {
+                job,
+                end: JobResult::NoMemory,
+                spent: 0,
+            },
+        }
     }
 
     /// Whether a result is a proof for the side to move.
-    pub fn is_won(&self, end: &Ended) -> bool
+    pub fn is_won(&self, end: &JobResult) -> bool
         ensures { IsTrue result ↔ IsWinFor self.now.line.now.state.to_move end.now }
     {
         is_win(end, self.line.to_move())

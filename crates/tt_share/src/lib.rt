@@ -7,20 +7,16 @@
 
 mod alone;
 mod answer;
-mod at_hand;
 mod bounds;
 mod conclude;
 mod desk;
-mod ended;
 mod gate;
 mod grants;
-mod hand;
 mod jobs;
 pub mod laws;
 mod locked;
 mod log;
 mod log_store;
-mod relay;
 mod results;
 mod root;
 mod rule;

@@ -5,13 +5,12 @@ ghost use Rattle.tt_game.specs.Game.{winner_of};
 ghost use Rattle.tt_game.specs.declared.turns.Turn.{Turn};
 ghost use Rattle.tt_game.specs.Turns.{legal_turns};
 ghost use Rattle.tt_search.specs.declared.limits.TheConstants.{MOST_EXPANDED};
-ghost use Rattle.tt_search.specs.declared.search.End.{End};
+ghost use Rattle.tt_share.specs.declared.jobs.JobResult.{JobResult};
 ghost use Rattle.tt_share.specs.Answers.{spent_in_all};
 ghost use Rattle.tt_share.specs.Jobs.{IsResult, IsWinFor};
 ghost use Rattle.tt_share.specs.Results.{Notes, AskedFor, HasEnd, HasResult, HasWonIn, AllWon, IsPastStuck, IsStuckIn, IsWinIn, IsWinAt, NoWin, IsLeastWin, IsReady, StopsAtWin, KeepsEnds, Puts};
 
-use crate::ended::{Ended, is_stuck, is_win, trimmed};
-use crate::jobs::{Found, Jobs};
+use crate::jobs::{JobResult, Jobs, SearchedJob, is_stuck, is_win, kept};
 use std::alloc::Global;
 use std::marker::Model;
 use tt_game::{Line, Side, Turn};
@@ -23,7 +22,7 @@ use tt_sgf::NoMemory;
 #[derive(Drop)]
 pub(crate) struct Results<'a> {
     pub jobs: Jobs<'a>,
-    pub ends: Vec<Option<Ended>>,
+    pub ends: Vec<Option<JobResult>>,
     pub spent: Vec<(Turn, u32)>,
 }
 
@@ -50,7 +49,7 @@ impl<'a> Model for Results<'a> {
 }
 
 /// Whether there is a result, and it is a proof for the side.
-fn is_win_in(end: &Option<Ended>, side: Side) -> bool
+fn is_win_in(end: &Option<JobResult>, side: Side) -> bool
     ensures win { IsTrue result ↔ IsWinIn side end.now }
     ensures won { HasWonIn end.now }
 {
@@ -61,7 +60,7 @@ fn is_win_in(end: &Option<Ended>, side: Side) -> bool
 }
 
 /// Whether there is a result, and it is a stuck search.
-fn is_stuck_in(end: &Option<Ended>) -> bool
+fn is_stuck_in(end: &Option<JobResult>) -> bool
     ensures { IsTrue result ↔ IsStuckIn end.now }
 {
     match end {
@@ -71,7 +70,7 @@ fn is_stuck_in(end: &Option<Ended>) -> bool
 }
 
 /// The least job whose result is a proof for the side.
-pub(crate) fn win_at(ends: &[Option<Ended>], side: Side) -> Option<usize>
+pub(crate) fn win_at(ends: &[Option<JobResult>], side: Side) -> Option<usize>
     ensures least { MatchOption result (NoWin side ends.now) (IsLeastWin side ends.now) }
     ensures won { IfNone result (AllWon ends.now) }
 {
@@ -84,7 +83,7 @@ pub(crate) fn win_at(ends: &[Option<Ended>], side: Side) -> Option<usize>
 }
 
 /// Whether there is such a place, with no result.
-fn is_free_in(ends: &[Option<Ended>], job: usize) -> bool
+fn is_free_in(ends: &[Option<JobResult>], job: usize) -> bool
     ensures free { IsTrue result ↔ (slice_get ends.now job ≡ Some None) }
     ensures filled { result ≡ false → job < length ends.now → HasResult ends.now job }
 {
@@ -92,7 +91,7 @@ fn is_free_in(ends: &[Option<Ended>], job: usize) -> bool
 }
 
 /// Writes a result at its place.
-fn fill(ends: &mut Vec<Option<Ended>>, job: usize, end: Ended)
+fn fill(ends: &mut Vec<Option<JobResult>>, job: usize, end: JobResult)
     requires { job < vec_len ends.old }
     ensures filled { ends.new.items ≡ slice_set ends.old.items job (Some end) }
     ensures len { vec_len ends.new ≡ vec_len ends.old }
@@ -122,7 +121,7 @@ fn unspent(alloc: Global, turns: &[Turn]) -> Result<Vec<(Turn, u32)>, NoMemory>
 }
 
 /// Whether the search of a lesser job is stuck.
-fn is_past_stuck(ends: &[Option<Ended>], job: usize) -> bool
+fn is_past_stuck(ends: &[Option<JobResult>], job: usize) -> bool
     ensures { IsTrue result ↔ IsPastStuck ends.now job }
 {
     for (lesser, end) in ends.iter().enumerate() {
@@ -181,16 +180,16 @@ impl<'a> Results<'a> {
     }
 
     /// Puts a result at the place of its job. A double and a stranger are dropped.
-    pub fn put(&mut self, found: Found)
-        requires found { IsResult self.old.line self.old.limits found }
+    pub fn put(&mut self, searched: SearchedJob)
+        requires searched { IsResult self.old.line self.old.limits searched }
         ensures same { self.new ≡ record self.old { ends = self.new.ends; spent = self.new.spent } }
-        ensures puts { Puts self.old.ends self.new.ends found }
-        ensures notes { Notes self.old self.new found }
+        ensures puts { Puts self.old.ends self.new.ends searched }
+        ensures notes { Notes self.old self.new searched }
     {
-        let Found { job, end, spent } = found;
+        let SearchedJob { job, end, spent } = searched;
         if self.is_free(job) {
             let past_stuck = is_past_stuck(self.ends.as_slice(), job);
-            fill(&mut self.ends, job, trimmed(past_stuck, end));
+            fill(&mut self.ends, job, kept(past_stuck, end));
             note(&mut self.spent, job, spent);
         }
     }
@@ -205,15 +204,15 @@ impl<'a> Results<'a> {
         requires free { slice_get self.old.ends job ≡ Some None }
         requires grants { (G.asked grants.old).granted < 2 ^ 62 }
         ensures same { self.new ≡ record self.old { ends = self.new.ends; spent = self.new.spent } }
-        ensures put { (end : End) × (self.new.ends ≡ slice_set self.old.ends job (Some end))
+        ensures put { (end : JobResult) × (self.new.ends ≡ slice_set self.old.ends job (Some end))
             × (IsTrue result ↔ IsWinFor self.old.line.state.to_move end) }
         ensures asks { AskedFor self.old (G.asked grants.old) self.new (G.asked grants.new) }
         ensures source { G.source grants.new ≡ G.source grants.old }
         ensures few { (G.asked grants.new).granted ≤ (G.asked grants.old).granted + MOST_EXPANDED }
     {
-        let found = self.jobs.search(job, None, store, grants);
-        let won = self.jobs.is_won(&found.end);
-        self.put(found);
+        let searched = self.jobs.search(job, store, grants);
+        let won = self.jobs.is_won(&searched.end);
+        self.put(searched);
         won
     }
 
@@ -239,20 +238,7 @@ impl<'a> Results<'a> {
         self.search_free(job, store, grants)
     }
 
-    /// The least job that wins for the side to move, or else how many jobs there are.
-    fn win_or_end(&self) -> usize
-        ensures clear { (job : ℕ) → job < result → ¬ IsWinAt self.now.line.state.to_move self.now.ends job }
-        ensures win { IsWinAt self.now.line.state.to_move self.now.ends result ⊎ (result ≡ length self.now.ends) }
-        ensures few { result ≤ 362 }
-    {
-        let count = self.count();
-        match self.win() {
-            Some(job) => job,
-            None => count,
-        }
-    }
-
-    /// Searches each job that has no result, in rising order, up to the first that wins for the side to move.
+    /// Where no job wins for the side to move, searches each that has no result, in rising order, until one does.
     pub fn search_missing<S: Store, G: Grants>(&mut self, store: &mut S, grants: &mut G)
         requires grants { (G.asked grants.old).granted ≡ 0 }
         ensures same { self.new ≡ record self.old { ends = self.new.ends; spent = self.new.spent } }
@@ -260,10 +246,13 @@ impl<'a> Results<'a> {
         ensures source { G.source grants.new ≡ G.source grants.old }
         ensures ready { IsReady self.new.line.state.to_move self.new.ends }
         ensures kept { KeepsEnds self.old.ends self.new.ends }
+        ensures won { (job : ℕ) → IsWinAt self.old.line.state.to_move self.old.ends job → self.new ≡ self.old }
         ensures stops { StopsAtWin self.new.line.state.to_move self.old.ends self.new.ends }
     {
-        let until = self.win_or_end();
-        for job in 0..until {
+        if let Some(_) = self.win() {
+            return;
+        }
+        for job in 0..self.count() {
             if self.search_job(job, store, grants) {
                 return;
             }

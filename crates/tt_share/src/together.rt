@@ -8,17 +8,15 @@ ghost use Rattle.tt_share.specs.Results.{KnowsNothing, IsReady, SpendsTotal};
 
 use crate::alone::{begin, finish};
 use crate::answer::Answer;
-use crate::at_hand::keep_at_hand;
 use crate::conclude::no_memory;
 use crate::desk::Desk;
 use crate::gate::Gate;
 use crate::grants::SeatGrants;
 use crate::log::CertLog;
 use crate::log_store::LogStore;
-use crate::relay::Relay;
 use crate::results::Results;
 use crate::view::View;
-use crate::workers::{gather, gather_one, run_workers};
+use crate::workers::{gather, run_workers};
 use std::alloc::Global;
 use std::sync::Wait;
 use std::thread::Threads;
@@ -26,9 +24,8 @@ use tt_game::Line;
 use tt_search::{Limits, Store};
 use tt_sgf::NoMemory;
 
-/// Searches the jobs by workers, puts their results at their places, and searches what they left. All searches ask one desk
-/// for their expansions, each worker through its seat and the caller through one of its own, but those of jobs that are handed
-/// on: these are where there is no total.
+/// Searches the jobs by workers, no more of them than there are jobs, gathers their results, and searches what they left. All
+/// searches ask one desk for their expansions, each worker through its seat and the caller through one of its own.
 pub(crate) fn search_together<R: Threads + Wait + Sync, G: Gate, S: Store>(
     rt: &R,
     results: &mut Results<'_>,
@@ -46,16 +43,13 @@ pub(crate) fn search_together<R: Threads + Wait + Sync, G: Gate, S: Store>(
     ensures spent { OnOk result (SpendsTotal total results.new) }
 {
     let alloc = results.jobs.alloc;
-    keep_at_hand(alloc);
+    let count = results.jobs.turns.len();
+    let workers = workers.min(count);
     let seats = Vec::with_capacity(alloc, workers + 1)?;
-    let room = Vec::with_capacity(alloc, workers + 1)?;
-    let relay = Relay::of(&results.jobs, workers, total)?;
-    let (desk, mut all) = Desk::new(alloc, relay.first, workers + 1, total)?;
+    let (desk, mut all) = Desk::new(alloc, count, workers + 1, total)?;
     let Some(own) = all.pop() else { unreachable!() };
-    let work = run_workers(rt, &relay, &desk, log, gate, all)?;
-    let handed_on = relay.ended(gate, room);
+    let work = run_workers(rt, &results.jobs, &desk, log, gate, all)?;
     let mut seats = gather(&desk, results, work, seats);
-    gather_one(results, handed_on);
     let mut grants = SeatGrants::new(&desk, own);
     results.search_missing(store, &mut grants);
     seats.push_reserved(grants.into_seat());
@@ -65,35 +59,12 @@ pub(crate) fn search_together<R: Threads + Wait + Sync, G: Gate, S: Store>(
     }
 }
 
-/// The answer to a line for which the store had none.
-fn solve_rest<R: Threads + Wait + Sync, G: Gate, S: Store>(
-    rt: &R,
-    alloc: Global,
-    mut results: Results<'_>,
-    total: Option<u32>,
-    workers: usize,
-    log: &CertLog,
-    gate: &G,
-    store: &mut S,
-) -> Answer
-    requires total { IfSome total (λ n. 0 < n) }
-    requires workers { (1 ≤ workers) × (workers ≤ MOST_WORKERS) }
-    requires blank { KnowsNothing results }
-    ensures { IsAnswer results.entry.line results.entry.limits total result }
-{
-    match search_together(rt, &mut results, total, workers, log, gate, store) {
-        Ok(()) => finish(alloc, results, store),
-        Err(_) => no_memory(alloc),
-    }
-}
-
-/// Solves the line by 1 to `MOST_WORKERS` workers, which share the log. Each of them, and the caller, has a view of it. The log is asked
-/// first for a proof that wins at the line itself. Else each legal turn, in rising order, is a job: workers draw them and
-/// search each with the same budget and a depth one less, until one is settled for the side to move. Where there is no total,
-/// several workers may hand the last ones on to one another, so that all end at about the same time. The caller searches what
-/// they left, up to a turn that wins, and the proof that the results make is offered to the log. Where there is a total, which is
-/// at least 1, all searches together expand at most so many nodes. The depth is at least 1, and nobody has won at the line. From
-/// then on the C library keeps more of what the process frees: up to 32 MiB for each thread.
+/// Solves the line by `workers` workers, 1 to `MOST_WORKERS`, or as many as there are legal turns where these are fewer. They
+/// share the log: each of them, and the caller, has a view of it. The log is asked first for a proof that wins at the line itself.
+/// Else each legal turn, in rising order, is a job: workers draw them and search each with the same budget and a depth one less,
+/// until one is settled for the side to move. Where none is, the caller searches what they left, up to a turn that wins. The proof
+/// that the results make is offered to the log. Where there is a total, which is at least 1, all searches together expand at most so
+/// many nodes. The depth is at least 1, and nobody has won at the line.
 pub fn solve<R: Threads + Wait + Sync, G: Gate>(
     rt: &R,
     alloc: Global,
@@ -115,7 +86,12 @@ pub fn solve<R: Threads + Wait + Sync, G: Gate>(
     };
     let mut store = LogStore::new(rt, view);
     match begin(alloc, line, limits, &mut store) {
-        Ok(results) => solve_rest(rt, alloc, results, total, workers, log, gate, &mut store),
+        Ok(mut results) => {
+            match search_together(rt, &mut results, total, workers, log, gate, &mut store) {
+                Ok(()) => finish(alloc, results, &mut store),
+                Err(_) => no_memory(alloc),
+            }
+        }
         Err(answer) => answer,
     }
 }

@@ -173,3 +173,39 @@ fn closes_by_a_kept_proof(alloc: Global) -> Option<bool> {
 fn a_kept_proof_closes_without_a_grant(rt: HostRuntime) {
     assert!(&rt; closes_by_a_kept_proof(rt.alloc()) == Some(true));
 }
+
+/// Whether a step is refused, and a later one, whose source has refused one since, closes the leaf by a proof of the store.
+fn closes_once_refused(search: &mut Search, store: &mut PrivateStore) -> bool {
+    let mut grants = granting(0);
+    if search.step(&mut NoStore, &mut grants) != Step::Stuck(Reason::Total) {
+        return false;
+    }
+    search.step(store, &mut grants) == Step::Closed
+}
+
+/// Whether a search does so over the store.
+fn closes_once_refused_over(alloc: Global, store: &mut PrivateStore) -> Option<bool> {
+    let mut search = split(alloc)?;
+    Some(closes_once_refused(&mut search, store))
+}
+
+/// Whether one does over a store that has the proofs of an earlier search.
+fn closes_by_its_own_proof(alloc: Global) -> Option<bool> {
+    let mut store = PrivateStore::new(alloc);
+    if !has_trace(
+        alloc,
+        SPLIT,
+        AMPLE,
+        &mut store,
+        b"E1,2 E1,2 E0,inf S0,inf 3 3",
+    ) {
+        return Some(false);
+    }
+    closes_once_refused_over(alloc, &mut store)
+}
+
+/// Each step asks the store, also once an ask was refused.
+#[test]
+fn a_refused_source_hinders_no_closing(rt: HostRuntime) {
+    assert!(&rt; closes_by_its_own_proof(rt.alloc()) == Some(true));
+}

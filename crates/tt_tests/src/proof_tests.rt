@@ -262,6 +262,31 @@ fn proofs_by_replay(rt: HostRuntime) {
     assert!(&rt; found_has_text(alloc, PLAYED, LIVES) == Some(true));
 }
 
+/// Whether the tree of a certificate is refused at a line since it doesn't win there.
+fn is_rejected(alloc: Global, line: &mut Line, certificate: &[u8]) -> Option<bool> {
+    let (side, tree) = read_cert(alloc, certificate, line.frame().size).ok()?;
+    match Proof::replayed(alloc, line, side, tree) {
+        Ok(_) => Some(false),
+        Err(Rejected::NotWinning(_)) => Some(true),
+        Err(Rejected::NoMemory(_)) => Some(false),
+    }
+}
+
+/// Whether it is at a problem.
+fn is_rejected_at(alloc: Global, record: &[u8], certificate: &[u8]) -> Option<bool> {
+    let mut line = posed(alloc, record).ok()?;
+    is_rejected(alloc, &mut line, certificate)
+}
+
+/// Each of two certificates at the other's problem.
+#[test]
+fn trees_that_do_not_win(rt: HostRuntime) {
+    let alloc = rt.alloc();
+    assert!(&rt; is_rejected_at(alloc, PLAYED, KILLED) == Some(true));
+    assert!(&rt; is_rejected_at(alloc, SPLIT, LIVES) == Some(true));
+    assert!(&rt; is_rejected_at(alloc, SPLIT, KILLED) == Some(false));
+}
+
 /// The proof after a turn with which the problem is won.
 fn won_after(alloc: Global, line: &Line, turn: &Turn) -> Option<Proof> {
     let over = after(line, turn)?;

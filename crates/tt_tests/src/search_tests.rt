@@ -259,6 +259,24 @@ fn steps_without_a_store(rt: HostRuntime) {
     );
 }
 
+/// A stone in the corner of an empty board: Black has 24 plays and a pass, and White one play less behind a play. So White's win is
+/// 25 leaves away, and Black's one.
+const CORNER: &[u8] = b"(;SZ[5]AW[aa]PL[B]TR[aa])";
+
+/// A step at a board of many turns, and one below it.
+#[test]
+fn steps_on_an_empty_board(rt: HostRuntime) {
+    assert!(&rt;
+        has_trace(
+            rt.alloc(),
+            CORNER,
+            (2, 512),
+            &mut NoStore,
+            b"E1,25 E1,25 B1,25 2 0"
+        )
+    );
+}
+
 /// The proof that a store has for a problem and a side, if it has one; none where it can't be asked.
 fn found_at(
     alloc: Global,

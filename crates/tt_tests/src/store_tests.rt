@@ -2,12 +2,13 @@
 
 ghost use Rattle.std.specs.Prelude.{◌≡◌, ◌+◌, ◌≤◌};
 
+use crate::proof_tests::{KILLED, found};
 use crate::search_tests::{AMPLE, SPLIT, has_trace, put_counts, put_step, searching, stepped};
 use std::alloc::Global;
 use std::sync::Arc;
 use tt_game::{Line, Side};
 use tt_proof::Proof;
-use tt_search::{Kept, PrivateStore, Reason, Search, Step, Store};
+use tt_search::{End, Free, Kept, PrivateStore, Reason, Search, Step, Store};
 use tt_sgf::NoMemory;
 
 /// A store with room for a hundred proofs, which refuses to keep any. It counts the questions, those out of turn, since the
@@ -209,4 +210,68 @@ fn goes_on_after_want_of_memory(rt: HostRuntime) {
             "after {before} questions"
         );
     }
+}
+
+/// What becomes of a handle of the proof that is to be kept.
+fn kept(store: &mut PrivateStore, proof: &Arc<Proof>) -> Option<Kept> {
+    let handle = Arc::try_clone(proof).ok()?;
+    Some(store.keep(handle))
+}
+
+/// Whether a store keeps the proof so many times, and is full then.
+fn fills(store: &mut PrivateStore, proof: &Arc<Proof>, times: u32) -> bool {
+    for _ in 0..times {
+        if kept(store, proof) != Some(Kept::Stored) {
+            return false;
+        }
+    }
+    kept(store, proof) == Some(Kept::Full)
+}
+
+/// Whether a new store does.
+fn fills_a_new_store(alloc: Global, times: u32) -> Option<bool> {
+    let proof = Arc::new(alloc, found(alloc, SPLIT, KILLED)?).ok()?;
+    let mut store = PrivateStore::new(alloc);
+    Some(fills(&mut store, &proof, times))
+}
+
+#[test]
+fn a_store_keeps_up_to_its_limit(rt: HostRuntime) {
+    assert!(&rt; fills_a_new_store(rt.alloc(), 4_096) == Some(true));
+}
+
+/// White may fill nine squares of its own, in any order, and Black may only pass. So Black's stones live once White passes too:
+/// after nineteen turns at the latest.
+const NINE: &[u8] =
+    b"(;SZ[19:4]AB[ac:sc]AW[ab:sb][ba][da][fa][ha][ja][la][na][pa][ra]PL[W]TR[ac]SQ[aa][ca][ea][ga][ia][ka][ma][oa][qa])";
+
+/// How deep the proof is that a search ends with; none where it is stuck.
+fn settled_depth(search: Search, store: &mut PrivateStore) -> Option<u16> {
+    match search.run(store, &mut Free::new()) {
+        End::Settled(proof) => Some(proof.depth()),
+        End::Stuck(_, _) => None,
+    }
+}
+
+/// What a first step answers of that problem, within the limit on depth.
+fn first_step(alloc: Global, depth: u16, store: &mut PrivateStore) -> Option<Step> {
+    let mut search = searching(alloc, NINE, 100_000, depth)?;
+    Some(stepped(&mut search, store))
+}
+
+/// Whether a search over the store ends with a proof of nineteen turns, which closes a later one's root where its limit allows so many.
+fn closes_deep(alloc: Global, store: &mut PrivateStore) -> Option<bool> {
+    let depth = settled_depth(searching(alloc, NINE, 100_000, 512)?, store);
+    Some(
+        depth == Some(19)
+            && first_step(alloc, 19, store) == Some(Step::Closed)
+            && first_step(alloc, 18, store) == Some(Step::Expanded),
+    )
+}
+
+/// A run of more than five hundred expansions, one at least for each set of squares that are filled; and its proof is used again.
+#[test]
+fn a_deep_proof_closes(rt: HostRuntime) {
+    let mut store = PrivateStore::new(rt.alloc());
+    assert!(&rt; closes_deep(rt.alloc(), &mut store) == Some(true));
 }

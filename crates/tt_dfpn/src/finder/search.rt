@@ -45,7 +45,6 @@ pub(crate) struct Keys {
 pub(crate) struct Child {
     pub(crate) turn: u16,
     pub(crate) numbers: Numbers,
-    key: u64,
     wins: u32,
 }
 
@@ -249,7 +248,6 @@ impl Finder {
         let child = Child {
             turn,
             numbers,
-            key: keys.position,
             wins: self.wins[colour_index(mover)][index(turn)],
         };
         if list.push(child).is_err() {
@@ -344,17 +342,16 @@ impl Finder {
     /// Searches where the board stands and a colour moves, up to so many positions; what is known then.
     pub(crate) fn search_here(&mut self, mover: Colour, positions: u32) -> Numbers {
         self.left = positions;
-        let keys = self.keys_here(mover);
         let most = Numbers {
             proof: INFINITE,
             disproof: INFINITE,
         };
-        self.search(mover, keys.position, most, MOST_TURNS)
+        self.search(mover, most, MOST_TURNS)
     }
 
     /// Searches a position until one of its numbers reaches its threshold.
     #[cycle(descent)]
-    fn search(&mut self, mover: Colour, key: u64, most: Numbers, room: u16) -> Numbers
+    fn search(&mut self, mover: Colour, most: Numbers, room: u16) -> Numbers
         ensures left { self.new.left ≤ self.old.left }
     {
         if self.left == 0 {
@@ -370,10 +367,7 @@ impl Finder {
             None => Vec::new(self.alloc),
         };
         list.clear();
-        let keys = Keys {
-            position: key,
-            line: key ^ self.board.history().all().rotate_left(17),
-        };
+        let keys = self.keys_here(mover);
         let found = if let Some(turn) = self.list_turns(mover, &mut list) {
             self.keep(keys, WON, turn, 1);
             WON
@@ -417,7 +411,7 @@ impl Finder {
             };
             let child = list[k];
             let bounds = thresholds_of(&choice, &child.numbers, most);
-            list[k].numbers = self.visit(mover, &child, bounds, room);
+            list[k].numbers = self.visit(mover, child.turn, bounds, room);
         }
         UNKNOWN
     }
@@ -446,20 +440,20 @@ impl Finder {
 
     /// Searches the position behind a turn.
     #[cycle(descent)]
-    fn visit(&mut self, mover: Colour, child: &Child, most: Numbers, room: u16) -> Numbers
+    fn visit(&mut self, mover: Colour, turn: u16, most: Numbers, room: u16) -> Numbers
         ensures left { self.new.left ≤ self.old.left }
     {
         if room == 0 {
             return LOST;
         }
-        if child.turn == PASS {
-            return self.search(mover.other(), child.key, most, room - 1);
+        if turn == PASS {
+            return self.search(mover.other(), most, room - 1);
         }
-        if self.board.play(mover, child.turn).is_err() {
+        if self.board.play(mover, turn).is_err() {
             self.left = 0;
             return LOST;
         }
-        let numbers = self.search(mover.other(), child.key, most, room - 1);
+        let numbers = self.search(mover.other(), most, room - 1);
         self.board.unplay();
         numbers
     }

@@ -1,6 +1,5 @@
 //! The transposition table: what is known of positions, by a key of 64 bits, two places to a row.
 
-use crate::finder::board::OUTSIDE;
 use std::alloc::Global;
 use tt_game::Turn;
 use tt_sgf::{NoMemory, Point};
@@ -48,11 +47,8 @@ pub(crate) struct Entry {
     pub(crate) best: u16,
 }
 
-/// The turn of a number.
+/// The turn of a number: a pass where it is no point's.
 pub(crate) fn turn_of(number: u16) -> Turn {
-    if number >= OUTSIDE {
-        return Turn::Pass;
-    }
     match Point::new(number) {
         Some(p) => Turn::Play(p),
         None => Turn::Pass,

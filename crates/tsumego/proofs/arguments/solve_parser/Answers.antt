@@ -1,6 +1,7 @@
 use Rattle.std.proofs.Common.{ap₂, codes, ◌≡◌, ◌∙◌}
 use Rattle.clap.specs.Words.{app_of, new_app, with_rule}
 use Rattle.std.proofs.lemmas.Result.{IfOk-weaker}
+use Rattle.tt_search.specs.declared.limits.TheConstants.{MOST_EXPANDED}
 use Rattle.tsumego.specs.CommandLine.{number_rule, solve_app}
 use Rattle.tsumego.proofs.Getters.{none_global}
 use Rattle.tsumego.proofs.arguments.solve_parser.Goals as goal
@@ -8,17 +9,19 @@ use Rattle.tsumego.proofs.arguments.solve_parser.Goals as goal
 pub returns-clause-shape : goal.returns-clause-shape
 unfolding solve_app
 returns-clause-shape c =
-    let one_is : app_of c.in_ok-one.one ≡ with_rule (new_app (codes "solve")) (number_rule (codes "budget") 1000000 (codes "100000")) =
+    let one_is : app_of c.in_ok-one.one ≡ with_rule (new_app (codes "solve")) (number_rule (codes "budget") MOST_EXPANDED (codes "100000")) =
     c.in_ok-one.ensures.shape c.number_option-budget.ensures.local ∙ ap₂ with_rule c.named.ensures.app c.number_option-budget.ensures.rule in
     let two_is = c.in_ok-two.ensures.shape c.number_option-depth.ensures.local ∙ ap₂ with_rule one_is c.number_option-depth.ensures.rule in
     let three_is = c.in_ok-three.ensures.shape c.optional_number-total.ensures.local ∙ ap₂ with_rule two_is c.optional_number-total.ensures.rule in
-    let four_is = c.in_ok-four.ensures.shape c.number_option-workers.ensures.local ∙ ap₂ with_rule three_is c.number_option-workers.ensures.rule in
-    IfOk-weaker c.arg-5.result _ _ (λ r h. h.shape c.flag-cert.ensures.local ∙ ap₂ with_rule four_is c.flag-cert.ensures.rule) c.arg-5.ensures
+    let four_is = c.in_ok-four.ensures.shape c.optional_number-dfpn.ensures.local ∙ ap₂ with_rule three_is c.optional_number-dfpn.ensures.rule in
+    let five_is = c.in_ok-five.ensures.shape c.number_option-workers.ensures.local ∙ ap₂ with_rule four_is c.number_option-workers.ensures.rule in
+    IfOk-weaker c.arg-6.result _ _ (λ r h. h.shape c.flag-cert.ensures.local ∙ ap₂ with_rule five_is c.flag-cert.ensures.rule) c.arg-6.ensures
 
 pub returns-clause-local : goal.returns-clause-local
 returns-clause-local c =
     let one = none_global _ _ _ c.in_ok-one.ensures.globals c.named.ensures.local c.number_option-budget.ensures.local in
     let two = none_global _ _ _ c.in_ok-two.ensures.globals one c.number_option-depth.ensures.local in
     let three = none_global _ _ _ c.in_ok-three.ensures.globals two c.optional_number-total.ensures.local in
-    let four = none_global _ _ _ c.in_ok-four.ensures.globals three c.number_option-workers.ensures.local in
-    IfOk-weaker c.arg-5.result _ _ (λ r h. none_global _ _ _ h.globals four c.flag-cert.ensures.local) c.arg-5.ensures
+    let four = none_global _ _ _ c.in_ok-four.ensures.globals three c.optional_number-dfpn.ensures.local in
+    let five = none_global _ _ _ c.in_ok-five.ensures.globals four c.number_option-workers.ensures.local in
+    IfOk-weaker c.arg-6.result _ _ (λ r h. none_global _ _ _ h.globals five c.flag-cert.ensures.local) c.arg-6.ensures

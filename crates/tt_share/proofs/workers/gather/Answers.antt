@@ -23,7 +23,7 @@ loop-back-preserved c =
       room = search rules;
       same = same_twice c.args.results.now old new c.loop-back.invariant.same c.gather_one.ensures.same;
       spent = λ apart.
-          (let each : AreApart old.ends back.found.items = back_apart old.ends back c.loop-back.work.items c.pop.new.self.items c.in-Some.ensures.items
+          (let each : AreApart old.ends back.searched.items = back_apart old.ends back c.loop-back.work.items c.pop.new.self.items c.in-Some.ensures.items
           (λ job. let most = apart job in omega (arith, most, c.loop-back.invariant.held job)) in
           spent_backs _ _ _ back c.loop-back.work.items c.pop.new.self.items c.in-Some.ensures.items (c.gather_one.ensures.spent each) (c.loop-back.invariant.spent apart));
       held = λ job. held_backs old.ends new.ends back c.loop-back.work.items c.pop.new.self.items c.in-Some.ensures.items c.gather_one.ensures.held job _ (c.loop-back.invariant.held job);
@@ -51,4 +51,4 @@ loop-back-preserved c =
 
 pub gather_one-requires : goal.gather_one-requires
 gather_one-requires c =
-    record { found = (All-pop (IsWork c.loop-back.results.line c.loop-back.results.limits c.args.desk.now) _ _ (Some c.in-Some.back) c.in-Some.ensures.items c.loop-back.invariant.left).1.found }
+    record { searched = (All-pop (IsWork c.loop-back.results.line c.loop-back.results.limits c.args.desk.now) _ _ (Some c.in-Some.back) c.in-Some.ensures.items c.loop-back.invariant.left).1.searched }

@@ -14,8 +14,8 @@ invariant-loop-back l = record {
   room : vec_len l.seats + vec_len l.work < vec_capacity l.seats;
   same : l.results ≡ record l.initial.results { ends = l.results.ends; spent = l.results.spent };
   spent : AllApart l.initial.results.ends l.fn.work.items → spent_in_all l.results.spent + spent_by_all l.work.items ≡ spent_in_all l.initial.results.spent + spent_by_all l.fn.work.items;
-  held : (job : ℕ) → held l.results.ends job + sum_by (λ (b : HandedBack). times job b.found.items) l.work.items
-      ≤ held l.initial.results.ends job + sum_by (λ (b : HandedBack). times job b.found.items) l.fn.work.items;
+  held : (job : ℕ) → held l.results.ends job + sum_by (λ (b : HandedBack). times job b.searched.items) l.work.items
+      ≤ held l.initial.results.ends job + sum_by (λ (b : HandedBack). times job b.searched.items) l.fn.work.items;
   backs : (weight : SeatView → ℕ) → sum_by weight l.seats.items + sum_by (λ (b : HandedBack). weight b.seat) l.work.items ≡ sum_by (λ (b : HandedBack). weight b.seat) l.fn.work.items;
   len : length l.results.ends ≡ length l.initial.results.ends;
   kept : KeepsEnds l.initial.results.ends l.results.ends;

@@ -19,13 +19,12 @@ loop-one-preserved c =
       same = same_twice c.args.results.now old new c.loop-one.invariant.same c.put.ensures.same;
       spent = λ apart.
           (let most = apart one.job in
-          spent_fewer old new one c.loop-one.found.items c.pop.new.self.items _ c.in-Some.ensures.items (omega (arith, most, c.loop-one.invariant.held one.job)) c.put.ensures.notes
+          spent_fewer old new one c.loop-one.searched.items c.pop.new.self.items _ c.in-Some.ensures.items (omega (arith, most, c.loop-one.invariant.held one.job)) c.put.ensures.notes
           (c.loop-one.invariant.spent apart));
-      held = λ job. held_fewer old.ends new.ends one c.loop-one.found.items c.pop.new.self.items c.in-Some.ensures.items c.put.ensures.puts job _ (c.loop-one.invariant.held job);
+      held = λ job. held_fewer old.ends new.ends one c.loop-one.searched.items c.pop.new.self.items c.in-Some.ensures.items c.put.ensures.puts job _ (c.loop-one.invariant.held job);
       len = c.put.ensures.puts.len ∙ c.loop-one.invariant.len;
       kept = keeps_twice c.args.results.now.ends old.ends new.ends c.loop-one.invariant.kept kept;
-      nothing = λ none. (let e = (c.loop-one.invariant.nothing none).0 in let more = c.in-Some.ensures.len in absurd (omega (arith, e, more)));
-      given = given_more c.args.results.now.ends old.ends new.ends c.args.found.items _ one (taken_there _ _ _ was.0 one was.1 c.in-Some.ensures.items) c.put.ensures.puts c.loop-one.invariant.given;
+      given = given_more c.args.results.now.ends old.ends new.ends c.args.searched.items _ one (taken_there _ _ _ was.0 one was.1 c.in-Some.ensures.items) c.put.ensures.puts c.loop-one.invariant.given;
       placed = (
         one ∷ was.0,
         taken_more _ _ _ was.0 one was.1 c.in-Some.ensures.items,
@@ -34,4 +33,4 @@ loop-one-preserved c =
     }
 
 pub put-requires : goal.put-requires
-put-requires c = record { found = (All-pop (IsResult c.loop-one.results.line c.loop-one.results.limits) _ _ (Some c.in-Some.one) c.in-Some.ensures.items c.loop-one.invariant.left).1 }
+put-requires c = record { searched = (All-pop (IsResult c.loop-one.results.line c.loop-one.results.limits) _ _ (Some c.in-Some.one) c.in-Some.ensures.items c.loop-one.invariant.left).1 }

@@ -1,51 +1,39 @@
-use Rattle.std.proofs.Common.{rules, ◌≡◌, ℕ, Bool, ◌<◌, ◌||◌, ◌⊎◌, IsTrue, IfSome, List, [], ◌∷◌, ◌++◌, All, length, length-append, inr, sym, ap, subst, ◌∙◌, arith}
-use denote.Param.Send.{sendable}
+use Rattle.std.proofs.Common.{◌≡◌, ℕ, Bool, ◌<◌, ◌||◌, ◌⊎◌, IsTrue, List, [], ◌∷◌, ◌++◌, All, length, length-append, inr, sym, ap, subst, ◌∙◌, arith}
 use Rattle.std.proofs.lemmas.List.{length-map}
 use Rattle.std.proofs.lemmas.List.Elements.{All-push}
 use Rattle.std.proofs.lemmas.List.Sums.{sum_by_push}
-use Rattle.tt_game.specs.declared.turns.Turn.{Turn}
-use Rattle.tt_game.specs.Line.{GoesOn}
-use Rattle.tt_game.specs.Turns.{legal_turns}
-use Rattle.tt_share.specs.Jobs.{IsResult, IsResultOf, IsJobCount, IsForTotal}
+use Rattle.tt_share.specs.Jobs.{IsResult, IsResultOf, IsJobCount, IsForTotal, IsDropped, IsWinFor, end_of, kept_of}
 use Rattle.tt_share.specs.Seats.{DeskView, SeatView}
 use Rattle.tt_share.specs.Tallies.{Tallies}
-use Rattle.tt_share.specs.Workers.{SomeWin, SomeTotal, WinsAreLast, AddsSpare, jobs_of, spent_on}
-use Rattle.tt_share.specs.declared.jobs.Found.{Found}
+use Rattle.tt_share.specs.Workers.{KeepsFirstStuck, SomeStuck, SomeWin, SomeTotal, WinsAreLast, AddsSpare, jobs_of, spent_on}
+use Rattle.tt_share.specs.declared.jobs.JobResult.{JobResult}
+use Rattle.tt_share.specs.declared.jobs.SearchedJob.{SearchedJob}
 use Rattle.tt_share.proofs.Apart.{times_drawn}
 use Rattle.tt_share.proofs.Asked.{total_kept}
 use Rattle.tt_share.proofs.DeskMoves.{left_true}
 use Rattle.tt_share.proofs.Drawn.{drawn_more, drawn_all, numbers_of}
-use Rattle.tt_share.proofs.LastWins.{not_none, pushed, marked, marks_again, mark_of, wins_more, last_wins}
+use Rattle.tt_share.proofs.LastWins.{not_none, pushed, marked, marks_again, mark_of, wins_more, last_wins, win_before, win_after, stuck_more, kept_more}
 use Rattle.tt_share.proofs.Noting.{kept_count}
 use Rattle.tt_share.proofs.ResultLemmas.{kept_result}
-use Rattle.tt_share.proofs.Spares.{spare_goes_on}
 use Rattle.tt_share.proofs.Spending.{refused_total, refused_more}
 use Rattle.tt_share.proofs.workers.work.Goals as goal
 
 -- ---- a drawn job
 
-pub search_drawn-end-requires : goal.search_drawn-end-requires
-search_drawn-end-requires g c κs =
+pub search-job-requires : goal.search-job-requires
+search-job-requires g c =
     let jobs = ap (λ (d : DeskView). d.jobs) c.loop-job.invariant.desk in
     let drawn = ap (λ (ns : List ℕ). length ns) c.loop-job.invariant.drawn in
-    let found = length-map c.loop-job.found.items (λ (f : Found). f.job) in
-    let long = length-append c.args.seat.numbers (jobs_of c.loop-job.found.items) in
-    let job = c.in-Some.ensures.job in (
-      search (rules, sendable),
-      (
-        omega (arith, job.0, jobs, c.requires.jobs),
-        (
-          subst (λ o. IfSome o (GoesOn c.args.jobs.now.line.now)) (sym c.take-line.ensures.value) c.loop-job.invariant.spare,
-          omega (arith, job.0, job.1, jobs, drawn, found, long, c.requires.jobs, c.args.jobs.now.few.1, c.loop-job.invariant.few, c.next_job.ensures.counts.0),
-        ),
-      ),
-    )
+    let found = length-map c.loop-job.searched.items (λ (f : SearchedJob). f.job) in
+    let long = length-append c.args.seat.numbers (jobs_of c.loop-job.searched.items) in
+    let job = c.in-Some.ensures.job in record {
+      job = omega (arith, job.0, jobs, c.requires.jobs);
+      grants = omega (arith, job.0, job.1, jobs, drawn, found, long, c.requires.jobs, c.args.jobs.now.few.1, c.loop-job.invariant.few, c.next_job.ensures.counts.0);
+    }
 
 pub loop-job-smaller : goal.loop-job-smaller
 loop-job-smaller g c =
-    let before = c.next_job.new.grants in
-    let searched = c.search_drawn-end.new.grants in
-    let same = ap (λ (p : DeskView × SeatView). p.1) c.search_drawn-end.ensures.source in
+    let same = ap (λ (p : DeskView × SeatView). p.1) c.search-job.ensures.source in
     let raised = ap (λ (s : SeatView). length s.numbers) c.raise_for.ensures.seat in
     let kept = ap (λ (s : SeatView). length s.numbers) same in
     let drawn = ap (λ (ns : List ℕ). length ns) c.in-Some.ensures.job.2 in
@@ -57,9 +45,11 @@ loop-job-preserved g c =
     let side = c.args.jobs.now.line.now.state.to_move in
     let line = c.args.jobs.now.line.now in
     let limits = c.args.jobs.now.limits in
-    let past = c.trimmed_at-end.ensures.kept.0 in
-    let ended = c.search_drawn-end in
-    let f : Found = record { job = c.in-Some.job; end = c.trimmed_at-end.result; spent = ended.result.1 } in
+    let past = c.loop-job.stuck in
+    let ended = c.search-job in
+    let made = ended.result in
+    let end_is = c.kept-end.ensures in
+    let f : SearchedJob = record { job = made.job; end = c.kept-end.result; spent = made.spent } in
     let before = c.next_job.new.grants in
     let searched = ended.new.grants in
     let after = c.raise_for.new.self in
@@ -68,36 +58,31 @@ loop-job-preserved g c =
     let seat = ap (λ (p : DeskView × SeatView). p.1) ended.ensures.source in
     let same_mark : searched.seat.mark ≡ before.seat.mark = ap (λ (s : SeatView). s.mark) seat in
     let same_numbers : searched.seat.numbers ≡ before.seat.numbers = ap (λ (s : SeatView). s.numbers) seat in
-    let all : c.push_reserved.new.self.items ≡ c.loop-job.found.items ++ f ∷ [] = pushed c.loop-job.found.items c.next_job.new.found.items c.push_reserved.new.self.items
-    f c.push_reserved.ensures.items c.next_job.ensures.found in
+    let all : c.push_reserved.new.self.items ≡ c.loop-job.searched.items ++ f ∷ [] = pushed c.loop-job.searched.items c.next_job.new.searched.items c.push_reserved.new.self.items
+    f c.push_reserved.ensures.items c.next_job.ensures.searched in
     let this : IsResult line limits f = (
-      subst (IsResultOf line limits c.in-Some.job) (sym c.trimmed_at-end.ensures.kept.1) (kept_result line limits c.in-Some.job past ended.result.0 ended.ensures.ends),
-      subst (IsJobCount line limits c.in-Some.job ended.result.1) (sym c.trimmed_at-end.ensures.kept.1) (kept_count line limits c.in-Some.job past ended.result.1 ended.result.0 ended.ensures.counted),
+      subst (IsResultOf line limits made.job) (sym end_is) (kept_result line limits made.job past made.end ended.ensures.result.0),
+      subst (IsJobCount line limits made.job made.spent) (sym end_is) (kept_count line limits made.job past made.spent made.end ended.ensures.result.1),
     ) in
-    let more = All-push (IsResult line limits) c.loop-job.found.items f c.loop-job.invariant.found this in
+    let more = All-push (IsResult line limits) c.loop-job.searched.items f c.loop-job.invariant.searched this in
     let down : IsTrue before.seat.mark → ⊥ = λ up. not_none c.next_job.result c.in-Some.job c.in-Some.is (c.next_job.ensures.stopped (left_true before.seat.mark before.seat.sighting up)).0 in
     let mark : after.seat.mark ≡ (before.seat.mark || won) =
     mark_of after.seat searched.seat.desk searched.seat.numbers searched.seat.grants (searched.seat.mark || won) searched.seat.sighting c.raise_for.ensures.seat ∙ ap (λ b. b || won) same_mark in
     let numbers : after.seat.numbers ≡ before.seat.numbers =
     numbers_of after.seat searched.seat.desk searched.seat.numbers searched.seat.grants (searched.seat.mark || won) searched.seat.sighting c.raise_for.ensures.seat ∙ same_numbers in
-    let inside : c.in-Some.job < length (legal_turns line.frame line.state) = omega (
-      arith,
-      c.in-Some.ensures.job.0,
-      ap (λ (d : DeskView). d.jobs) c.loop-job.invariant.desk,
-      c.requires.jobs,
-      ap (λ (ts : List Turn). length ts) c.args.jobs.now.listed,
-    ) in
+    let drawn : before.seat.numbers ≡ c.loop-job.grants.seat.numbers ++ made.job ∷ [] =
+    c.in-Some.ensures.job.2 ∙ ap (λ n. c.loop-job.grants.seat.numbers ++ n ∷ []) (sym ended.ensures.job) in
     let sum = ap spent_on all in
-    let long = ap (λ (l : List Found). length l) all in
+    let long = ap (λ (l : List SearchedJob). length l) all in
     record {
       desk = c.raise_for.ensures.desk ∙ (desk ∙ (c.next_job.ensures.desk ∙ c.loop-job.invariant.desk));
-      jobs = subst (All (λ (h : Found). h.job < c.args.desk.now.jobs)) (sym all)
-          (All-push (λ (h : Found). h.job < c.args.desk.now.jobs) c.loop-job.found.items f c.loop-job.invariant.jobs
-          (subst (λ (d : DeskView). c.in-Some.job < d.jobs) c.loop-job.invariant.desk c.in-Some.ensures.job.0));
+      jobs = subst (All (λ (h : SearchedJob). h.job < c.args.desk.now.jobs)) (sym all)
+          (All-push (λ (h : SearchedJob). h.job < c.args.desk.now.jobs) c.loop-job.searched.items f c.loop-job.invariant.jobs
+          (subst (λ n. n < c.args.desk.now.jobs) (sym ended.ensures.job) (subst (λ (d : DeskView). c.in-Some.job < d.jobs) c.loop-job.invariant.desk c.in-Some.ensures.job.0)));
       spent = omega (
         arith,
         sum,
-        sum_by_push (λ (h : Found). h.spent) c.loop-job.found.items f,
+        sum_by_push (λ (h : SearchedJob). h.spent) c.loop-job.searched.items f,
         c.loop-job.invariant.spent,
         ended.ensures.asks.granted,
         c.next_job.ensures.counts.0,
@@ -106,24 +91,27 @@ loop-job-preserved g c =
       few = omega (
         arith,
         long,
-        length-append c.loop-job.found.items (f ∷ []),
+        length-append c.loop-job.searched.items (f ∷ []),
         c.loop-job.invariant.few,
         ended.ensures.asks.granted,
         ended.ensures.asks.few,
         c.next_job.ensures.counts.0,
         c.raise_for.ensures.counts.0,
       );
-      refused = λ h. c.raise_for.ensures.counts.1 ∙ refused_more c.loop-job.found.items c.push_reserved.new.self.items f c.loop-job.grants.refused searched.refused all
-          (λ stuck. ended.ensures.asks.refused (total_kept past ended.result.0 (subst IsForTotal c.trimmed_at-end.ensures.kept.1 stuck)))
+      refused = λ h. c.raise_for.ensures.counts.1 ∙ refused_more c.loop-job.searched.items c.push_reserved.new.self.items f c.loop-job.grants.refused searched.refused all
+          (λ stuck. ended.ensures.asks.refused (total_kept past made.end (subst (λ (r : JobResult). IsForTotal (end_of r)) end_is stuck)))
           (λ up. ended.ensures.asks.still (c.next_job.ensures.counts.1 ∙ up)) c.loop-job.invariant.refused h;
-      found = subst (All (IsResult line limits)) (sym all) more;
+      searched = subst (All (IsResult line limits)) (sym all) more;
       wins = subst (WinsAreLast side after.seat.mark) (sym all)
-          (wins_more side c.loop-job.grants.seat.mark after.seat.mark c.loop-job.found.items f (λ up. down (marks_again c.loop-job.grants.seat.mark before.seat.mark c.next_job.ensures.seat.1 up))
-          (λ win. (marked after.seat.mark before.seat.mark won mark down).1 (c.is_won.ensures.1 win)) c.loop-job.invariant.wins);
-      drawn = drawn_more c.args.seat.numbers c.loop-job.grants.seat.numbers before.seat.numbers after.seat.numbers c.loop-job.found.items c.push_reserved.new.self.items
-          f c.loop-job.invariant.drawn c.in-Some.ensures.job.2 numbers all;
-      spare = spare_goes_on line limits c.in-Some.job ended.result.0 c.trimmed_at-end.new.spare inside ended.ensures.ends c.trimmed_at-end.ensures.spare;
-      mark = λ up. inr (subst (SomeWin side) (sym all) (last_wins side c.loop-job.found.items f (c.is_won.ensures.0 ((marked after.seat.mark before.seat.mark won mark down).0 up))));
+          (wins_more side c.loop-job.grants.seat.mark after.seat.mark c.loop-job.searched.items f (λ up. down (marks_again c.loop-job.grants.seat.mark before.seat.mark c.next_job.ensures.seat.1 up))
+          (λ win. (marked after.seat.mark before.seat.mark won mark down).1 (c.is_won.ensures.1 (win_before side past made.end (subst (IsWinFor side) end_is win)))) c.loop-job.invariant.wins);
+      drawn = drawn_more c.args.seat.numbers c.loop-job.grants.seat.numbers before.seat.numbers after.seat.numbers c.loop-job.searched.items c.push_reserved.new.self.items
+          f c.loop-job.invariant.drawn drawn numbers all;
+      mark = λ up. inr (subst (SomeWin side) (sym all) (last_wins side c.loop-job.searched.items f
+          (subst (IsWinFor side) (sym end_is) (win_after side past made.end (c.is_won.ensures.0 ((marked after.seat.mark before.seat.mark won mark down).0 up))))));
+      stuck = λ up. subst SomeStuck (sym all) (stuck_more c.loop-job.searched.items f past c.loop-job.invariant.stuck (c.or_stuck-stuck.ensures up));
+      kept = subst KeepsFirstStuck (sym all) (kept_more c.loop-job.searched.items f past c.loop-job.invariant.stuck
+          (λ down. λ dropped. ended.ensures.whole (subst IsDropped (end_is ∙ ap (λ b. kept_of b made.end) down) dropped)) c.loop-job.invariant.kept);
     }
 
 -- ---- the end
@@ -132,44 +120,43 @@ pub returns-clause-drawn : goal.returns-clause-drawn
 returns-clause-drawn g c =
     let last = c.next_job.new.grants in
     let spare = subst (λ (d : DeskView). AddsSpare d.jobs c.loop-job.grants.seat.numbers last.seat.numbers) c.loop-job.invariant.desk c.in_default.ensures.spare in
-    let drawn = drawn_all c.args.desk.now.jobs c.args.seat.numbers c.loop-job.grants.seat.numbers last.seat.numbers c.loop-job.found.items c.next_job.new.found.items
-    c.loop-job.invariant.drawn c.next_job.ensures.found spare in
-    subst (λ (s : SeatView). AddsSpare c.args.desk.now.jobs (c.args.seat.numbers ++ jobs_of c.next_job.new.found.items) s.numbers) (sym c.into_seat-seat.ensures)
-    (subst (λ (ns : List ℕ). AddsSpare c.args.desk.now.jobs (c.args.seat.numbers ++ jobs_of c.next_job.new.found.items) ns) (sym (ap (λ (s : SeatView). s.numbers) c.go_rounds.ensures.seat)) drawn)
+    subst (λ (s : SeatView). AddsSpare c.args.desk.now.jobs (c.args.seat.numbers ++ jobs_of c.next_job.new.searched.items) s.numbers) (sym c.into_seat-seat.ensures)
+    (drawn_all c.args.desk.now.jobs c.args.seat.numbers c.loop-job.grants.seat.numbers last.seat.numbers c.loop-job.searched.items c.next_job.new.searched.items
+    c.loop-job.invariant.drawn c.next_job.ensures.searched spare)
 
 pub returns-clause-mark : goal.returns-clause-mark
 returns-clause-mark g c = λ up.
     (let side = c.args.jobs.now.line.now.state.to_move in
-    let mark = ap (λ (s : SeatView). s.mark) c.into_seat-seat.ensures ∙ (ap (λ (s : SeatView). s.mark) c.go_rounds.ensures.seat ∙ c.next_job.ensures.seat.1) in
-    subst (λ (l : List Found). IsTrue c.args.seat.mark ⊎ SomeWin side l) (sym c.next_job.ensures.found) (c.loop-job.invariant.mark (sym mark ∙ up)))
+    let mark = ap (λ (s : SeatView). s.mark) c.into_seat-seat.ensures ∙ c.next_job.ensures.seat.1 in
+    subst (λ (l : List SearchedJob). IsTrue c.args.seat.mark ⊎ SomeWin side l) (sym c.next_job.ensures.searched) (c.loop-job.invariant.mark (sym mark ∙ up)))
+
+pub returns-clause-kept : goal.returns-clause-kept
+returns-clause-kept g c = subst KeepsFirstStuck (sym c.next_job.ensures.searched) c.loop-job.invariant.kept
 
 pub returns-clause-work : goal.returns-clause-work
 returns-clause-work g c =
     let side = c.args.jobs.now.line.now.state.to_move in
     let line = c.args.jobs.now.line.now in
     let limits = c.args.jobs.now.limits in
-    let next = c.next_job.new.grants in
-    let last = c.go_rounds.new.grants in
-    let round = c.go_rounds.ensures in
+    let last = c.next_job.new.grants in
     let seat = c.into_seat-seat.ensures in
-    let found = sym c.next_job.ensures.found in
-    let desk : last.desk.now ≡ c.args.desk.now = round.desk ∙ (c.next_job.ensures.desk ∙ c.loop-job.invariant.desk) in
-    let mark = ap (λ (s : SeatView). s.mark) seat ∙ (ap (λ (s : SeatView). s.mark) round.seat ∙ c.next_job.ensures.seat.1) in
+    let found = sym c.next_job.ensures.searched in
+    let desk : last.desk.now ≡ c.args.desk.now = c.next_job.ensures.desk ∙ c.loop-job.invariant.desk in
+    let mark = ap (λ (s : SeatView). s.mark) seat ∙ c.next_job.ensures.seat.1 in
     let tally : Tallies c.args.desk.now.total c.into_seat-seat.result.grants last.granted last.refused =
     subst (λ (s : SeatView). Tallies c.args.desk.now.total s.grants last.granted last.refused) (sym seat)
     (subst (λ (d : DeskView). Tallies d.total last.seat.grants last.granted last.refused) desk last.tally) in
-    let spare = subst (λ (d : DeskView). AddsSpare d.jobs c.loop-job.grants.seat.numbers next.seat.numbers) c.loop-job.invariant.desk c.in_default.ensures.spare in
-    let drawn = drawn_all c.args.desk.now.jobs c.args.seat.numbers c.loop-job.grants.seat.numbers next.seat.numbers c.loop-job.found.items c.next_job.new.found.items
-    c.loop-job.invariant.drawn c.next_job.ensures.found spare in
-    let numbers : c.into_seat-seat.result.numbers ≡ next.seat.numbers = ap (λ (s : SeatView). s.numbers) seat ∙ ap (λ (s : SeatView). s.numbers) round.seat in
-    let sum = ap spent_on c.next_job.ensures.found in record {
+    let spare = subst (λ (d : DeskView). AddsSpare d.jobs c.loop-job.grants.seat.numbers last.seat.numbers) c.loop-job.invariant.desk c.in_default.ensures.spare in
+    let drawn = drawn_all c.args.desk.now.jobs c.args.seat.numbers c.loop-job.grants.seat.numbers last.seat.numbers c.loop-job.searched.items c.next_job.new.searched.items
+    c.loop-job.invariant.drawn c.next_job.ensures.searched spare in
+    let sum = ap spent_on c.next_job.ensures.searched in record {
       seat = ap (λ (s : SeatView). s.desk) seat ∙ (last.ours ∙ ap (λ (d : DeskView). d.id) desk);
-      found = subst (All (IsResult line limits)) found c.loop-job.invariant.found;
-      wins = subst (λ (b : Bool). WinsAreLast side b c.next_job.new.found.items) (sym mark) (subst (WinsAreLast side c.loop-job.grants.seat.mark) found c.loop-job.invariant.wins);
-      jobs = subst (All (λ (h : Found). h.job < c.args.desk.now.jobs)) found c.loop-job.invariant.jobs;
-      drawn = λ job. times_drawn job c.args.desk.now.jobs c.args.seat.numbers c.into_seat-seat.result.numbers c.next_job.new.found.items
-          (subst (λ (ns : List ℕ). AddsSpare c.args.desk.now.jobs (c.args.seat.numbers ++ jobs_of c.next_job.new.found.items) ns) (sym numbers) drawn);
-      spent = λ total is. omega (arith, sum, c.loop-job.invariant.spent, c.next_job.ensures.counts.0, round.counts.0, (tally.1 total is).0);
+      searched = subst (All (IsResult line limits)) found c.loop-job.invariant.searched;
+      wins = subst (λ (b : Bool). WinsAreLast side b c.next_job.new.searched.items) (sym mark) (subst (WinsAreLast side c.loop-job.grants.seat.mark) found c.loop-job.invariant.wins);
+      jobs = subst (All (λ (h : SearchedJob). h.job < c.args.desk.now.jobs)) found c.loop-job.invariant.jobs;
+      drawn = λ job. times_drawn job c.args.desk.now.jobs c.args.seat.numbers c.into_seat-seat.result.numbers c.next_job.new.searched.items
+          (subst (λ (s : SeatView). AddsSpare c.args.desk.now.jobs (c.args.seat.numbers ++ jobs_of c.next_job.new.searched.items) s.numbers) (sym seat) drawn);
+      spent = λ total is. omega (arith, sum, c.loop-job.invariant.spent, c.next_job.ensures.counts.0, (tally.1 total is).0);
       refused = λ h. refused_total c.args.desk.now.total c.into_seat-seat.result.grants last.granted last.refused tally
-          (round.counts.1 ∙ (c.next_job.ensures.counts.1 ∙ c.loop-job.invariant.refused (subst SomeTotal c.next_job.ensures.found h)));
+          (c.next_job.ensures.counts.1 ∙ c.loop-job.invariant.refused (subst SomeTotal c.next_job.ensures.searched h));
     }

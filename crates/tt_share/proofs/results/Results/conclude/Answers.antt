@@ -4,17 +4,19 @@ use Rattle.tt_game.specs.Turns.{legal_turns}
 use Rattle.tt_proof.specs.Proven.{Proven}
 use Rattle.tt_search.specs.Searched.{Searched}
 use Rattle.tt_search.specs.declared.limits.Reason.{Reason}
-use Rattle.tt_search.specs.declared.search.End.{End}
+use Rattle.tt_share.specs.declared.jobs.JobResult.{JobResult}
 use Rattle.tt_search.specs.declared.search.End.TheVariants.{Settled, Stuck}
+use Rattle.tt_search.specs.declared.limits.Reason.TheVariants.{Total}
+use Rattle.tt_share.specs.declared.jobs.JobResult.TheVariants as result
 use Rattle.tt_share.specs.Beginning.{BeginsWith}
-use Rattle.tt_share.specs.Jobs.{AreResults, EndsBehind, IsJob, HasWon}
+use Rattle.tt_share.specs.Jobs.{AreResults, EndsBehind, IsJob, HasWon, end_of}
 use Rattle.tt_share.specs.Answers.{IsAnswer, told_of}
 use Rattle.tt_share.specs.Results.{Progress, AreNoted, HasEnd, HaveLost, IsLost, AllWon, NoWin, IsStuckAt}
 use Rattle.tt_share.proofs.Lost.{legal_job, lesser_lose, one_more}
 use Rattle.tt_share.proofs.Placing.{seen, shown}
 use Rattle.tt_share.proofs.Noting.{spent_told}
 use Rattle.tt_share.proofs.StuckBehind.{says}
-use Rattle.tt_share.proofs.Wins.{all_filled, none_at, least_at, same_turn, stuck_same, same_stuck, settled_here, not_stuck_more}
+use Rattle.tt_share.proofs.Wins.{all_filled, none_at, least_at, same_turn, stuck_same, same_stuck, settled_here, not_stuck_more, stuck_of, settled_of, stuck_there}
 use Rattle.tt_share.proofs.Wins.{stuck_within, job_here, rest_same, not_missing, lost_side, win_within, ends_here}
 use Rattle.tt_share.proofs.results.Results.conclude.Goals as goal
 
@@ -22,7 +24,7 @@ pub picked-requires-clause-legal : goal.picked-requires-clause-legal
 picked-requires-clause-legal c =
     let within : c.in-Some.job < length c.as_slice-turns.result.now =
     (let wins = win_within c.to_move.result c.as_slice.result.now c.in-Some.job c.in-Some.ensures.least.wins in
-    let ends = ap (λ (l : List (Option End)). length l) c.as_slice.ensures.value in
+    let ends = ap (λ (l : List (Option JobResult)). length l) c.as_slice.ensures.value in
     let turns = ap (λ (l : List Turn). length l) c.as_slice-turns.ensures.value in
     omega (arith, wins, ends, turns, c.self.inside.ends.ok.0, c.self.invariant.one_each)) in
     let job : IsJob c.self.inside.jobs.line.now c.in-Some.job c.index-turns-job.result =
@@ -34,14 +36,15 @@ pub picked-requires-clause-child : goal.picked-requires-clause-child
 picked-requires-clause-child c =
     let within : c.in-Some.job < length c.as_slice-turns.result.now =
     (let wins = win_within c.to_move.result c.as_slice.result.now c.in-Some.job c.in-Some.ensures.least.wins in
-    let ends = ap (λ (l : List (Option End)). length l) c.as_slice.ensures.value in
+    let ends = ap (λ (l : List (Option JobResult)). length l) c.as_slice.ensures.value in
     let turns = ap (λ (l : List Turn). length l) c.as_slice-turns.ensures.value in
     omega (arith, wins, ends, turns, c.self.inside.ends.ok.0, c.self.invariant.one_each)) in
     let job : IsJob c.self.inside.jobs.line.now c.in-Some.job c.index-turns-job.result =
     job_here c.self.inside.jobs.line.now c.as_slice-turns.result.now c.in-Some.job c.in-Some.job c.index-turns-job.result
     (c.as_slice-turns.ensures.value ∙ c.self.inside.jobs.listed) refl within c.index-turns-job.is in
-    ends_here c.self.inside.jobs.line.now c.self.inside.jobs.limits c.in-Some.job c.index-turns-job.result c.in-Some-Settled.field-0 _ c.in-Some-Settled.field-0-is
-    (c.self.invariant.are c.in-Some.job c.in-Some-Settled.field-0 c.in-Some-Settled.ensures.taken) job
+    let taken = c.in-Some-Settled.ensures.taken in
+    ends_here c.self.inside.jobs.line.now c.self.inside.jobs.limits c.in-Some.job c.index-turns-job.result taken.0 _ (sym taken.2 ∙ c.in-Some-Settled.field-0-is)
+    (c.self.invariant.are c.in-Some.job taken.0 taken.1) job
 
 pub returns-in-Some-clause-picks : goal.returns-in-Some-clause-picks
 returns-in-Some-clause-picks c =
@@ -82,11 +85,11 @@ returns-in-Some-Stuck-clause-answer c =
     let next : IsJob c.args.self.line (length c.loop-job.children.items) turn =
     job_here c.args.self.line c.as_slice-turns.result.now i (length c.loop-job.children.items) turn turns
     (sym c.loop-job.children.ok.0 ∙ c.loop-job.invariant.noted) c.loop-job-test.true c.index-turns-job-in-loop-job.is in
-    let there : HasEnd c.args.self.ends i c.in-Some-Stuck.field-0 =
-    ap (λ (p : Progress). slice_get p.ends i) (sym c.self.view_is) ∙ (sym (c.loop-job.invariant.same i (omega arith)) ∙ c.in-Some-Stuck.ensures.taken) in
-    let behind = ends_here c.args.self.line c.args.self.limits i turn c.in-Some-Stuck.field-0 _ c.in-Some-Stuck.field-0-is (are i c.in-Some-Stuck.field-0 there) job in
+    let taken = c.in-Some-Stuck.ensures.taken in
+    let there : HasEnd c.args.self.ends i taken.0 = ap (λ (p : Progress). slice_get p.ends i) (sym c.self.view_is) ∙ (sym (c.loop-job.invariant.same i (omega arith)) ∙ taken.1) in
+    let is : end_of taken.0 ≡ Stuck c.in-Some-Stuck.reason c.in-Some-Stuck.search = sym taken.2 ∙ c.in-Some-Stuck.field-0-is in
+    let behind = ends_here c.args.self.line c.args.self.limits i turn taken.0 _ is (are i taken.0 there) job in
     let lesser = lesser_lose c.args.self.line c.args.self.limits c.loop-job.children.items turn next c.loop-job.invariant.lost in
-    let this : HasEnd c.args.self.ends i (Stuck c.in-Some-Stuck.reason c.in-Some-Stuck.search) = subst (HasEnd c.args.self.ends i) c.in-Some-Stuck.field-0-is there in
     let side : c.to_move.result ≡ c.args.self.line.state.to_move = c.to_move.ensures ∙ ap (λ (p : Progress). p.line.state.to_move) c.self.view_is in
     let ends : c.as_slice.result.now ≡ c.args.self.ends = c.as_slice.ensures.value ∙ ap (λ (p : Progress). p.ends) c.self.view_is in
     let none : NoWin c.args.self.line.state.to_move c.args.self.ends = none_at c.args.self.line.state.to_move c.to_move.result c.args.self.ends c.as_slice.result.now
@@ -94,8 +97,8 @@ returns-in-Some-Stuck-clause-answer c =
     let noted = subst (λ (p : Progress). AreNoted p.line p.limits p.ends p.spent) c.self.view_is c.self.invariant.noted in
     let told = c.told.ensures ∙ ap (λ (p : Progress). told_of c.in-Some-Stuck.reason p.spent) c.self.view_is in
     λ total all. says c.args.self.line c.args.self.limits total _ (legal_job c.args.self.line i turn job) lesser c.args.self.spent c.in-Some-Stuck.reason c.in-Some-Stuck.search refl behind told
-    (λ held reason is. spent_told c.args.self total i turn held noted (all_filled c.args.self.line.state.to_move c.args.self.ends none c.requires.ready)
-    (subst (λ (r : Reason). HasEnd c.args.self.ends i (Stuck r (Some held))) reason (subst (λ (o : Option Searched). HasEnd c.args.self.ends i (Stuck c.in-Some-Stuck.reason o)) is this))
+    (λ held reason holds. spent_told c.args.self total i turn held taken.0 noted (all_filled c.args.self.line.state.to_move c.args.self.ends none c.requires.ready) there
+    (is ∙ (ap (λ (r : Reason). Stuck r c.in-Some-Stuck.search) reason ∙ ap (λ (o : Option Searched). Stuck Total o) holds))
     job all)
 
 pub returns-in-Some-Stuck-clause-picks : goal.returns-in-Some-Stuck-clause-picks
@@ -118,22 +121,23 @@ returns-in-Some-Stuck-clause-stuck c =
     let next : IsJob c.args.self.line (length c.loop-job.children.items) turn =
     job_here c.args.self.line c.as_slice-turns.result.now i (length c.loop-job.children.items) turn turns
     (sym c.loop-job.children.ok.0 ∙ c.loop-job.invariant.noted) c.loop-job-test.true c.index-turns-job-in-loop-job.is in
-    let there : HasEnd c.args.self.ends i c.in-Some-Stuck.field-0 =
-    ap (λ (p : Progress). slice_get p.ends i) (sym c.self.view_is) ∙ (sym (c.loop-job.invariant.same i (omega arith)) ∙ c.in-Some-Stuck.ensures.taken) in
-    let this : HasEnd c.args.self.ends i (Stuck c.in-Some-Stuck.reason c.in-Some-Stuck.search) = subst (HasEnd c.args.self.ends i) c.in-Some-Stuck.field-0-is there in
+    let taken = c.in-Some-Stuck.ensures.taken in
+    let there : HasEnd c.args.self.ends i taken.0 = ap (λ (p : Progress). slice_get p.ends i) (sym c.self.view_is) ∙ (sym (c.loop-job.invariant.same i (omega arith)) ∙ taken.1) in
+    let is : end_of taken.0 ≡ Stuck c.in-Some-Stuck.reason c.in-Some-Stuck.search = sym taken.2 ∙ c.in-Some-Stuck.field-0-is in
     let told = c.told.ensures ∙ ap (λ (p : Progress). told_of c.in-Some-Stuck.reason p.spent) c.self.view_is in
     λ other t reason search none least at.
-    (let same = same_stuck c.args.self.line c.args.self.ends i other turn t c.in-Some-Stuck.reason reason c.in-Some-Stuck.search search
-    (stuck_same c.args.self.ends i other c.in-Some-Stuck.reason reason c.in-Some-Stuck.search search this c.loop-job.invariant.unstuck least) this least.stuck job at in
+    (let here : IsStuckAt c.args.self.ends i = (taken.0, there, stuck_of taken.0 c.in-Some-Stuck.reason c.in-Some-Stuck.search is) in
+    let same = same_stuck c.args.self.line c.args.self.ends i other turn t c.in-Some-Stuck.reason reason c.in-Some-Stuck.search search taken.0
+    (stuck_same c.args.self.ends i other reason search here c.loop-job.invariant.unstuck least) there is least job at in
     (same.0, same.1, same.2, told ∙ ap (λ (r : Reason). told_of r c.args.self.spent) same.1))
 
 pub returns-in-Some-Stuck-clause-replies : goal.returns-in-Some-Stuck-clause-replies
 returns-in-Some-Stuck-clause-replies c =
     let i = c.loop-job.job in
-    let there : HasEnd c.args.self.ends i c.in-Some-Stuck.field-0 =
-    ap (λ (p : Progress). slice_get p.ends i) (sym c.self.view_is) ∙ (sym (c.loop-job.invariant.same i (omega arith)) ∙ c.in-Some-Stuck.ensures.taken) in
-    let this : HasEnd c.args.self.ends i (Stuck c.in-Some-Stuck.reason c.in-Some-Stuck.search) = subst (HasEnd c.args.self.ends i) c.in-Some-Stuck.field-0-is there in
-    λ none unstuck. unstuck i (Stuck c.in-Some-Stuck.reason c.in-Some-Stuck.search, this, tt)
+    let taken = c.in-Some-Stuck.ensures.taken in
+    let there : HasEnd c.args.self.ends i taken.0 = ap (λ (p : Progress). slice_get p.ends i) (sym c.self.view_is) ∙ (sym (c.loop-job.invariant.same i (omega arith)) ∙ taken.1) in
+    let is : end_of taken.0 ≡ Stuck c.in-Some-Stuck.reason c.in-Some-Stuck.search = sym taken.2 ∙ c.in-Some-Stuck.field-0-is in
+    λ none unstuck. unstuck i (taken.0, there, stuck_of taken.0 c.in-Some-Stuck.reason c.in-Some-Stuck.search is)
 
 pub unreachable-requires-in-None : goal.unreachable-requires-in-None
 unreachable-requires-in-None c =
@@ -164,15 +168,14 @@ loop-job-preserved c =
     let next : IsJob c.args.self.line (length c.loop-job.children.items) turn =
     job_here c.args.self.line c.as_slice-turns.result.now i (length c.loop-job.children.items) turn turns
     (sym c.loop-job.children.ok.0 ∙ c.loop-job.invariant.noted) c.loop-job-test.true c.index-turns-job-in-loop-job.is in
-    let there : HasEnd c.args.self.ends i c.in-Some-Settled-take_end.field-0 =
-    ap (λ (p : Progress). slice_get p.ends i) (sym c.self.view_is) ∙ (sym (c.loop-job.invariant.same i (omega arith)) ∙ c.in-Some-Settled-take_end.ensures.taken) in
+    let taken = c.in-Some-Settled-take_end.ensures.taken in
+    let there : HasEnd c.args.self.ends i taken.0 = ap (λ (p : Progress). slice_get p.ends i) (sym c.self.view_is) ∙ (sym (c.loop-job.invariant.same i (omega arith)) ∙ taken.1) in
     let child = c.in-Some-Settled-take_end.child in
-    let is = c.in-Some-Settled-take_end.field-0-is in
-    let behind : EndsBehind c.args.self.line c.args.self.limits turn (Settled child) = ends_here c.args.self.line c.args.self.limits i turn c.in-Some-Settled-take_end.field-0
-    (Settled child) is (are i c.in-Some-Settled-take_end.field-0 there) job in
-    let won : HasWon (Settled child) = subst HasWon is (subst AllWon ends c.in_default.ensures.won i c.in-Some-Settled-take_end.field-0 there) in
+    let is : end_of taken.0 ≡ Settled child = sym taken.2 ∙ c.in-Some-Settled-take_end.field-0-is in
+    let behind : EndsBehind c.args.self.line c.args.self.limits turn (Settled child) = ends_here c.args.self.line c.args.self.limits i turn taken.0 (Settled child) is (are i taken.0 there) job in
+    let won : HasWon (result.Settled child) = subst HasWon (settled_of taken.0 child is) (subst AllWon ends c.in_default.ensures.won i taken.0 there) in
     let this : IsLost c.args.self.line c.args.self.limits (turn, child) =
-    record { stands = behind.0; side = lost_side c.args.self.line.state.to_move c.args.self.ends i c.in-Some-Settled-take_end.field-0 child none is there; low = behind.1; wins = won } in
+    record { stands = behind.0; side = lost_side c.args.self.line.state.to_move c.args.self.ends i taken.0 child none is there; low = behind.1; wins = won } in
     let more = one_more c.args.self.line c.args.self.limits c.loop-job.children.items (turn, child) c.loop-job.invariant.lost next this in
     let all : c.push.new.self.items ≡ c.loop-job.children.items ++ (turn, child) ∷ [] = c.in_ok-push-in-Some-Settled-take_end.ensures.items in
     let long = ap (λ (l : List (Turn × Proven)). length l) all in
@@ -181,7 +184,7 @@ loop-job-preserved c =
       noted = omega (arith, long, length-append c.loop-job.children.items ((turn, child) ∷ []), c.push.new.self.ok.0, c.loop-job.children.ok.0, c.loop-job.invariant.noted);
       len = c.take_end-in-loop-job.ensures.len ∙ c.loop-job.invariant.len;
       same = rest_same c.self.inside.ends.items c.loop-job.ends.items c.take_end-in-loop-job.new.ends.items i c.loop-job.invariant.same c.take_end-in-loop-job.ensures.rest;
-      unstuck = not_stuck_more c.args.self.ends i c.loop-job.invariant.unstuck (settled_here c.args.self.ends i c.in-Some-Settled-take_end.field-0 child there is);
+      unstuck = not_stuck_more c.args.self.ends i c.loop-job.invariant.unstuck (settled_here c.args.self.ends i taken.0 child there is);
     }
 
 pub replied-requires-clause-lost : goal.replied-requires-clause-lost
@@ -207,7 +210,7 @@ returns-clause-stuck c =
     let long : length c.self.inside.ends.items ≡ length c.args.self.ends = ap (λ (p : Progress). length p.ends) c.self.view_is in
     let all = ap (λ (l : List Turn). length l) c.as_slice-turns.ensures.value in
     λ job turn reason search none stuck at.
-    (let here : IsStuckAt c.args.self.ends job = (Stuck reason search, stuck.stuck, tt) in
+    (let here : IsStuckAt c.args.self.ends job = stuck_there c.args.self.ends job reason search stuck in
     let within = stuck_within c.args.self.ends job here in
     absurd (c.loop-job.invariant.unstuck job (omega (arith, within, long, all, c.self.inside.ends.ok.0, c.self.invariant.one_each, c.loop-job-test.false)) here))
 

@@ -1,7 +1,7 @@
 use Rattle.std.proofs.Common.{rules, ◌≡◌, ℕ, [], ◌∷◌, ◌++◌, List, Option, None, length, sym, ap, ◌∙◌, subst, arith}
 use Rattle.std.proofs.lemmas.List.{replicate_more, length-map}
 use Rattle.tt_game.specs.declared.turns.Turn.{Turn}
-use Rattle.tt_search.specs.declared.search.End.{End}
+use Rattle.tt_share.specs.declared.jobs.JobResult.{JobResult}
 use Rattle.tt_share.specs.Jobs.{AreResults}
 use Rattle.tt_share.proofs.Noting.{blank_noted, blank_sum}
 use Rattle.tt_share.proofs.ResultLemmas.{none_more}
@@ -15,7 +15,7 @@ loop-preserved c =
     record {
       len = search rules;
       room = search rules;
-      none = c.push_reserved.ensures.items ∙ (ap (λ (l : List (Option End)). l ++ None ∷ []) was.none ∙ replicate_more c.loop.counter None);
+      none = c.push_reserved.ensures.items ∙ (ap (λ (l : List (Option JobResult)). l ++ None ∷ []) was.none ∙ replicate_more c.loop.counter None);
       are = subst (AreResults line limits) (sym c.push_reserved.ensures.items) (none_more line limits c.loop.ends.items was.are);
     }
 

@@ -1,7 +1,7 @@
 use Rattle.std.proofs.Common.{◌≡◌, ◌<◌, ◌↔◌, ◌∙◌, IsTrue, List, Option, Some, None, slice_get, slice_set, length, sym, ap, subst, arith}
 use Rattle.std.proofs.lemmas.List.{length-set}
 use Rattle.std.proofs.lemmas.Option.{slice_get_within}
-use Rattle.tt_search.specs.declared.search.End.{End}
+use Rattle.tt_share.specs.declared.jobs.JobResult.{JobResult}
 use Rattle.tt_share.specs.Answers.{spent_in_all}
 use Rattle.tt_share.specs.Jobs.{IsResultOf, IsJobCount, AreResults, kept_of}
 use Rattle.tt_share.specs.Results.{Progress, AreNoted, IsPastStuck}
@@ -14,24 +14,24 @@ pub invariant_of-self : goal.invariant_of-self
 invariant_of-self c =
     let line = c.self.inside.jobs.line.now in
     let limits = c.self.inside.jobs.limits in
-    let job = c.args.found.job in
-    let found : IsResultOf line limits job c.args.found.end =
-    seen (λ l m. IsResultOf l m job c.args.found.end) line limits c.self.inside.ends.items c.self.inside.spent.items c.args.self.now c.self.view_is c.requires.found.0 in
-    let this : IsResultOf line limits job c.trimmed.result =
-    subst (IsResultOf line limits job) (sym c.trimmed.ensures) (kept_result line limits job c.is_past_stuck-past_stuck.result c.args.found.end found) in
-    let all = one_more_result line limits c.self.inside.ends.items job c.trimmed.result c.self.invariant.are this in
+    let job = c.args.searched.job in
+    let found : IsResultOf line limits job c.args.searched.end =
+    seen (λ l m. IsResultOf l m job c.args.searched.end) line limits c.self.inside.ends.items c.self.inside.spent.items c.args.self.now c.self.view_is c.requires.searched.0 in
+    let this : IsResultOf line limits job c.kept.result =
+    subst (IsResultOf line limits job) (sym c.kept.ensures) (kept_result line limits job c.is_past_stuck-past_stuck.result c.args.searched.end found) in
+    let all = one_more_result line limits c.self.inside.ends.items job c.kept.result c.self.invariant.are this in
     let ends : c.self.inside.ends.items ≡ c.args.self.now.ends = ap (λ (p : Progress). p.ends) c.self.view_is in
-    let free : slice_get c.self.inside.ends.items job ≡ Some None = ap (λ (l : List (Option End)). slice_get l job) ends ∙ c.is_free.ensures.free.0 c.if-is_free.true in
+    let free : slice_get c.self.inside.ends.items job ≡ Some None = ap (λ (l : List (Option JobResult)). slice_get l job) ends ∙ c.is_free.ensures.free.0 c.if-is_free.true in
     let note = c.note.ensures.noted in
-    let count : IsJobCount line limits job c.args.found.spent c.args.found.end =
-    seen (λ l m. IsJobCount l m job c.args.found.spent c.args.found.end) line limits c.self.inside.ends.items c.self.inside.spent.items c.args.self.now c.self.view_is c.requires.found.1 in
-    let kept : IsJobCount line limits job c.args.found.spent c.trimmed.result = subst (IsJobCount line limits job c.args.found.spent) (sym c.trimmed.ensures)
-    (kept_count line limits job c.is_past_stuck-past_stuck.result c.args.found.spent c.args.found.end count) in
-    let noted = noted_put line limits c.self.inside.ends.items c.self.inside.spent.items job note.0 c.self.invariant.noted free note.1 c.trimmed.result c.args.found.spent kept in
+    let count : IsJobCount line limits job c.args.searched.spent c.args.searched.end =
+    seen (λ l m. IsJobCount l m job c.args.searched.spent c.args.searched.end) line limits c.self.inside.ends.items c.self.inside.spent.items c.args.self.now c.self.view_is c.requires.searched.1 in
+    let kept : IsJobCount line limits job c.args.searched.spent c.kept.result = subst (IsJobCount line limits job c.args.searched.spent) (sym c.kept.ensures)
+    (kept_count line limits job c.is_past_stuck-past_stuck.result c.args.searched.spent c.args.searched.end count) in
+    let noted = noted_put line limits c.self.inside.ends.items c.self.inside.spent.items job note.0 c.self.invariant.noted free note.1 c.kept.result c.args.searched.spent kept in
     record {
       are = subst (AreResults line limits) (sym c.fill.ensures.filled) all;
-      noted = subst (λ (l : List (Option End)). AreNoted line limits l c.note.new.spent.items) (sym c.fill.ensures.filled)
-          (subst (AreNoted line limits (slice_set c.self.inside.ends.items job (Some c.trimmed.result))) (sym note.2) noted);
+      noted = subst (λ (l : List (Option JobResult)). AreNoted line limits l c.note.new.spent.items) (sym c.fill.ensures.filled)
+          (subst (AreNoted line limits (slice_set c.self.inside.ends.items job (Some c.kept.result))) (sym note.2) noted);
       one_each = c.fill.ensures.len ∙ c.self.invariant.one_each;
     }
 
@@ -39,12 +39,12 @@ pub returns-then-is_free-clause-notes : goal.returns-then-is_free-clause-notes
 returns-then-is_free-clause-notes c =
     let line = c.self.inside.jobs.line.now in
     let limits = c.self.inside.jobs.limits in
-    let job = c.args.found.job in
+    let job = c.args.searched.job in
     let ends : c.self.inside.ends.items ≡ c.args.self.now.ends = ap (λ (p : Progress). p.ends) c.self.view_is in
     let spent = ap (λ (p : Progress). spent_in_all p.spent) c.self.view_is in
-    let free : slice_get c.self.inside.ends.items job ≡ Some None = ap (λ (l : List (Option End)). slice_get l job) ends ∙ c.is_free.ensures.free.0 c.if-is_free.true in
+    let free : slice_get c.self.inside.ends.items job ≡ Some None = ap (λ (l : List (Option JobResult)). slice_get l job) ends ∙ c.is_free.ensures.free.0 c.if-is_free.true in
     let note = c.note.ensures.noted in
-    let more = sum_noted line limits c.self.inside.ends.items c.self.inside.spent.items job note.0 c.self.invariant.noted free note.1 c.args.found.spent in
+    let more = sum_noted line limits c.self.inside.ends.items c.self.inside.spent.items job note.0 c.self.invariant.noted free note.1 c.args.searched.spent in
     let new = ap spent_in_all note.2 in record {
       put = λ _. omega (arith, spent, more, new);
       dropped = λ other. absurd (other (c.is_free.ensures.free.0 c.if-is_free.true));
@@ -53,25 +53,25 @@ returns-then-is_free-clause-notes c =
 pub note-requires : goal.note-requires
 note-requires c =
     let ends : length c.self.inside.ends.items ≡ length c.args.self.now.ends = ap (λ (p : Progress). length p.ends) c.self.view_is in
-    let within : c.args.found.job < length c.args.self.now.ends = slice_get_within c.args.self.now.ends c.args.found.job None (c.is_free.ensures.free.0 c.if-is_free.true) in
+    let within : c.args.searched.job < length c.args.self.now.ends = slice_get_within c.args.self.now.ends c.args.searched.job None (c.is_free.ensures.free.0 c.if-is_free.true) in
     omega (arith, within, ends, c.self.invariant.noted.each, c.self.inside.spent.ok.0)
 
 pub returns-then-is_free-clause-puts : goal.returns-then-is_free-clause-puts
 returns-then-is_free-clause-puts c =
-    let job = c.args.found.job in
+    let job = c.args.searched.job in
     let ends : c.self.inside.ends.items ≡ c.args.self.now.ends = ap (λ (p : Progress). p.ends) c.self.view_is in
     let past : IsTrue c.is_past_stuck-past_stuck.result ↔ IsPastStuck c.args.self.now.ends job =
-    subst (λ (l : List (Option End)). IsTrue c.is_past_stuck-past_stuck.result ↔ IsPastStuck l job) (c.as_slice.ensures.value ∙ ends) c.is_past_stuck-past_stuck.ensures in
-    let put : c.fill.new.ends.items ≡ slice_set c.args.self.now.ends job (Some (kept_of c.is_past_stuck-past_stuck.result c.args.found.end)) =
-    c.fill.ensures.filled ∙ ap (λ l. slice_set l job (Some c.trimmed.result)) ends ∙ ap (λ (e : End). slice_set c.args.self.now.ends job (Some e)) c.trimmed.ensures in
+    subst (λ (l : List (Option JobResult)). IsTrue c.is_past_stuck-past_stuck.result ↔ IsPastStuck l job) (c.as_slice.ensures.value ∙ ends) c.is_past_stuck-past_stuck.ensures in
+    let put : c.fill.new.ends.items ≡ slice_set c.args.self.now.ends job (Some (kept_of c.is_past_stuck-past_stuck.result c.args.searched.end)) =
+    c.fill.ensures.filled ∙ ap (λ l. slice_set l job (Some c.kept.result)) ends ∙ ap (λ (e : JobResult). slice_set c.args.self.now.ends job (Some e)) c.kept.ensures in
     record {
       put = λ free. (c.is_past_stuck-past_stuck.result, past, put);
       dropped = λ other. absurd (other (c.is_free.ensures.free.0 c.if-is_free.true));
-      len = ap (λ (l : List (Option End)). length l) c.fill.ensures.filled ∙ length-set c.self.inside.ends.items job (Some c.trimmed.result) ∙ ap (λ (l : List (Option End)). length l) ends;
+      len = ap (λ (l : List (Option JobResult)). length l) c.fill.ensures.filled ∙ length-set c.self.inside.ends.items job (Some c.kept.result) ∙ ap (λ (l : List (Option JobResult)). length l) ends;
     }
 
 pub fill-requires : goal.fill-requires
 fill-requires c =
     let ends : length c.self.inside.ends.items ≡ length c.args.self.now.ends = ap (λ (p : Progress). length p.ends) c.self.view_is in
-    let within : c.args.found.job < length c.args.self.now.ends = slice_get_within c.args.self.now.ends c.args.found.job None (c.is_free.ensures.free.0 c.if-is_free.true) in
+    let within : c.args.searched.job < length c.args.self.now.ends = slice_get_within c.args.self.now.ends c.args.searched.job None (c.is_free.ensures.free.0 c.if-is_free.true) in
     omega (arith, within, ends, c.self.inside.ends.ok.0)

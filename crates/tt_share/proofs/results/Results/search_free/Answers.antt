@@ -6,13 +6,13 @@ use Rattle.tt_share.proofs.results.Results.search_free.Goals as goal
 
 pub put-requires : goal.put-requires
 put-requires g c = record {
-  found = shown (λ l m es. IsResult l m c.search-found.result) c.self.inside.jobs.line.now c.self.inside.jobs.limits c.self.inside.ends.items c.self.inside.spent.items c.args.self.now c.self.view_is
-      c.search-found.ensures.result;
+  searched = shown (λ l m es. IsResult l m c.search-searched.result) c.self.inside.jobs.line.now c.self.inside.jobs.limits c.self.inside.ends.items c.self.inside.spent.items c.args.self.now c.self.view_is
+      c.search-searched.ensures.result;
 }
 
 pub returns-clause-asks : goal.returns-clause-asks
 returns-clause-asks g c =
-    let f = c.search-found.result in
-    let free : slice_get c.args.self.now.ends f.job ≡ Some None = subst (λ n. slice_get c.args.self.now.ends n ≡ Some None) (sym c.search-found.ensures.job) c.requires.free in
-    asked_put c.args.self.now c.put.new.self f (g.G.Grants.asked c.args.grants.now) (g.G.Grants.asked c.search-found.new.grants) free c.put.ensures.puts c.put.ensures.notes
-    c.search-found.ensures.asks
+    let f = c.search-searched.result in
+    let free : slice_get c.args.self.now.ends f.job ≡ Some None = subst (λ n. slice_get c.args.self.now.ends n ≡ Some None) (sym c.search-searched.ensures.job) c.requires.free in
+    asked_put c.args.self.now c.put.new.self f (g.G.Grants.asked c.args.grants.now) (g.G.Grants.asked c.search-searched.new.grants) free c.put.ensures.puts c.put.ensures.notes
+    c.search-searched.ensures.asks

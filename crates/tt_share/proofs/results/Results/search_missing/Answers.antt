@@ -1,14 +1,20 @@
-use Rattle.std.proofs.Common.{◌≡◌, ◌∙◌, ◌<◌, ◌+◌, ℕ, inl, refl, sym, ap, subst, arith}
+use Rattle.std.proofs.Common.{◌∙◌, ◌<◌, ◌+◌, ℕ, sym, ap, subst, arith}
 use Rattle.tt_game.specs.declared.frame.Side.{Side}
-use Rattle.tt_share.specs.Results.{Progress, FilledBelow, IsReady, IsWinAt, StopsAtWin}
+use Rattle.tt_share.specs.Results.{Progress, IsWinAt, StopsAtWin}
 use Rattle.tt_share.proofs.Placing.{same_twice, keeps_twice}
-use Rattle.tt_share.proofs.Asked.{asked_twice}
-use Rattle.tt_share.proofs.Wins.{filled_more, ready_at, win_kept, lost_more, same_more, stops_at}
+use Rattle.tt_share.proofs.Asked.{asked_nothing, asked_twice}
+use Rattle.tt_share.proofs.Wins.{ready_by, filled_more, no_win, win_kept, lost_more, same_more, stops_at, stops_never}
 use Rattle.tt_share.proofs.results.Results.search_missing.Goals as goal
+
+pub returns-in-Some-clause-ready : goal.returns-in-Some-clause-ready
+returns-in-Some-clause-ready g c = ready_by c.in-Some.ensures
 
 pub returns-then-search_job-clause-kept : goal.returns-then-search_job-clause-kept
 returns-then-search_job-clause-kept g c =
     keeps_twice c.args.self.now.ends c.loop-job.self.ends c.search_job.new.self.ends c.loop-job.invariant.kept c.search_job.ensures.kept
+
+pub returns-then-search_job-clause-won : goal.returns-then-search_job-clause-won
+returns-then-search_job-clause-won g c = λ job win. absurd (c.in_default.ensures job win)
 
 pub returns-then-search_job-clause-stops : goal.returns-then-search_job-clause-stops
 returns-then-search_job-clause-stops g c =
@@ -18,30 +24,14 @@ returns-then-search_job-clause-stops g c =
     subst (λ (s : Side). StopsAtWin s c.args.self.now.ends new.ends) (sym side)
     (stops_at old.line.state.to_move c.args.self.now.ends old.ends new.ends c.loop-job.job c.loop-job.invariant.lost c.loop-job.invariant.rest c.search_job.ensures.others)
 
-pub returns-then-search_job-clause-ready : goal.returns-then-search_job-clause-ready
-returns-then-search_job-clause-ready g c =
-    let old = c.loop-job.self in
-    let new = c.search_job.new.self in
-    let job = c.loop-job.job in
-    let side = ap (λ (p : Progress). p.line.state.to_move) c.search_job.ensures.same in
-    let filled : FilledBelow job new.ends = λ k low. filled_more old.ends new.ends job c.loop-job.invariant.filled c.search_job.ensures.others c.search_job.ensures.filled k (omega (arith, low)) in
-    subst (λ (s : Side). IsReady s new.ends) (sym side) (job, filled, inl (c.search_job.ensures.won c.if-search_job.true))
-
-pub returns-clause-ready : goal.returns-clause-ready
-returns-clause-ready g c =
-    let first = c.args.self.now in
-    let now = c.loop-job.self in
-    let until = c.win_or_end-until in
-    let begun = ap (λ (p : Progress). p.line.state.to_move) c.loop-job.invariant.same in
-    let is : until.result ≡ c.loop-job.job = omega (arith, c.loop-job-test.false, c.loop-job.invariant.upto) in
-    let here = c.loop-job.invariant.rest c.loop-job.job (omega arith) in
-    subst (λ (s : Side). IsReady s now.ends) (sym begun)
-    (ready_at first.line.state.to_move first.ends now.ends c.loop-job.job until.result c.loop-job.invariant.filled is here c.loop-job.invariant.len until.ensures.win)
+pub returns-clause-won : goal.returns-clause-won
+returns-clause-won g c = λ job win. absurd (c.in_default.ensures job win)
 
 pub returns-clause-stops : goal.returns-clause-stops
 returns-clause-stops g c =
     let now = c.loop-job.self in
-    stops_at now.line.state.to_move c.args.self.now.ends now.ends now.ends c.loop-job.job c.loop-job.invariant.lost c.loop-job.invariant.rest (λ k other. refl)
+    let none = no_win now.line.state.to_move now.ends (λ k low. c.loop-job.invariant.lost k (omega (arith, low, c.loop-job-test.false, c.count-job-end.ensures, c.loop-job.invariant.len))) in
+    stops_never now.line.state.to_move c.args.self.now.ends now.ends none
 
 pub loop-job-preserved : goal.loop-job-preserved
 loop-job-preserved g c =
@@ -50,7 +40,7 @@ loop-job-preserved g c =
     let new = c.search_job.new.self in
     let side = ap (λ (p : Progress). p.line.state.to_move) c.search_job.ensures.same in
     let begun = ap (λ (p : Progress). p.line.state.to_move) c.loop-job.invariant.same in
-    let before : ¬ IsWinAt first.line.state.to_move old.ends c.loop-job.job = λ win. c.win_or_end-until.ensures.clear c.loop-job.job c.loop-job-test.true
+    let before : ¬ IsWinAt first.line.state.to_move old.ends c.loop-job.job = λ win. c.in_default.ensures c.loop-job.job
     (win_kept first.line.state.to_move first.ends old.ends c.loop-job.job (c.loop-job.invariant.rest c.loop-job.job (omega arith)) win) in
     let this : ¬ IsWinAt old.line.state.to_move new.ends c.loop-job.job = λ win. before
     (subst (λ (s : Side). IsWinAt s old.ends c.loop-job.job) begun (c.search_job.ensures.lost c.if-search_job.false win)) in
@@ -62,13 +52,15 @@ loop-job-preserved g c =
           c.loop-job.invariant.asks c.search_job.ensures.asks;
       few = omega (arith, c.loop-job.invariant.few, c.search_job.ensures.few);
       source = c.search_job.ensures.source ∙ c.loop-job.invariant.source;
-      upto = omega (arith, c.loop-job-test.true);
       len = c.search_job.ensures.len ∙ c.loop-job.invariant.len;
       kept = keeps_twice first.ends old.ends new.ends c.loop-job.invariant.kept c.search_job.ensures.kept;
       filled = filled_more old.ends new.ends c.loop-job.job c.loop-job.invariant.filled c.search_job.ensures.others c.search_job.ensures.filled;
       lost = subst (λ (s : Side). (k : ℕ) → k < c.loop-job.job + 1 → ¬ IsWinAt s new.ends k) (sym side) lost;
       rest = same_more first.ends old.ends new.ends c.loop-job.job c.loop-job.invariant.rest c.search_job.ensures.others;
     }
+
+pub returns-in-Some-clause-asks : goal.returns-in-Some-clause-asks
+returns-in-Some-clause-asks g c = asked_nothing c.args.self.now (g.G.Grants.asked c.args.grants.now)
 
 pub returns-then-search_job-clause-asks : goal.returns-then-search_job-clause-asks
 returns-then-search_job-clause-asks g c =

@@ -8,7 +8,6 @@ invariant-loop-job g l = record {
   asks : AskedFor l.initial.self (g.G.Grants.asked l.fn.grants) l.self (g.G.Grants.asked l.grants);
   few : (g.G.Grants.asked l.grants).granted ≤ l.job * 1000000;
   source : g.G.Grants.source l.grants ≡ g.G.Grants.source l.fn.grants;
-  upto : l.job ≤ l.until;
   len : length l.self.ends ≡ length l.initial.self.ends;
   filled : FilledBelow l.job l.self.ends;
   kept : KeepsEnds l.initial.self.ends l.self.ends;

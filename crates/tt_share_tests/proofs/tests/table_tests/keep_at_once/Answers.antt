@@ -16,7 +16,7 @@ use Rattle.std.specs.contracts.sync.Arc as Arc
 use Rattle.tt_proof.specs.contracts.proven.Proof as Proof
 use Rattle.tt_share.specs.contracts.locked.Table as Table
 use Rattle.tt_share.specs.contracts.table.TableState as TableState
-use Rattle.tt_share.proofs.Sending.{shared_send}
+use Rattle.tt_proof.proofs.Sent.{shared_send}
 use Rattle.tt_share_tests.proofs.tests.table_tests.keep_at_once.Goals as goal
 
 -- what a lock around a table holds: its proofs, and where those of each position are
