@@ -13,6 +13,7 @@ ghost use Rattle.tt_proof.specs.Proven.{IsWon, StandsAt, FitsAt, IsChild, AreChi
 ghost use Rattle.tt_proof.specs.KeptFootprints.{IsFootprint};
 ghost use Rattle.tt_proof.specs.Rejections.{IsRejected};
 
+use crate::bounds::none_within;
 use crate::footprints::{Footprint, footprint_of};
 use crate::plan::{Plan, Replies};
 use crate::replays::replay;
@@ -199,8 +200,8 @@ impl Proof {
     }
 
     /// The footprint of the tree at the line, where it wins. It is the proof's own where the tree fits, and each board of the
-    /// line's history but the last, behind those with which the proof's begins too, is told from all boards that turns of the
-    /// other side make, by its numbers of stones or by a mark, and where the line is where the proof stands; else the tree is
+    /// line's history but the last, behind those with which the proof's begins too, lies outside the bound of all boards that
+    /// turns of the other side make, and where the line is where the proof stands; else the tree is
     /// walked through. The line stands as before, also after want of memory.
     pub fn footprint_at(&self, alloc: Global, line: &mut Line) -> Result<Footprint, NoMemory>
         requires wins { IsWon self.now.side line.old.frame line.old.state self.now.tree }
@@ -211,7 +212,7 @@ impl Proof {
         let own = self.footprint();
         let behind = &line.history()[self.past.begun_with(line)..];
         let earlier = &behind[..behind.len().saturating_sub(1)];
-        if self.fits(line) && own.low.is_above(earlier) {
+        if self.fits(line) && none_within(&own.met, earlier) {
             return own.try_clone(alloc);
         }
         if self.stands_at(line) {
