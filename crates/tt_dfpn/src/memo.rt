@@ -1,7 +1,7 @@
-//! When a kept proof serves at a line, and what is kept.
+//! When a kept proof is taken at a line, and what is kept.
 
-ghost use Rattle.std.specs.Prelude.{◌≡◌, ◌≤◌, true, IfOk, IfSome};
-ghost use Rattle.tt_proof.specs.Proven.{StandsAt, IsWon};
+ghost use Rattle.std.specs.Prelude.{◌≡◌, ◌≤◌, IfOk, IfSome};
+ghost use Rattle.tt_proof.specs.Proven.{StandsAt};
 ghost use Rattle.tt_proof.specs.Strategy.{depth};
 
 use std::alloc::Global;
@@ -11,62 +11,36 @@ use tt_proof::Proof;
 use tt_search::Store;
 use tt_sgf::NoMemory;
 
-/// Whether the proof wins at the line and its footprint there is its own, as is seen without a walk through its tree.
-fn serves(line: &Line, proof: &Proof) -> bool
-    ensures { result ≡ true → IsWon proof.now.side line.now.frame line.now.state proof.now.tree }
-{
-    if !proof.fits(line) {
-        return false;
-    }
-    let history = line.history();
-    let earlier = &history[..history.len().saturating_sub(1)];
-    proof.footprint().low.is_above(earlier) || proof.stands_at(line)
-}
-
-/// The proof of a tree that wins at the line: where it `serves` there no walk is taken.
-fn moved(alloc: Global, line: &mut Line, proof: &Proof) -> Result<Proof, NoMemory>
-    requires wins { IsWon proof.now.side line.old.frame line.old.state proof.now.tree }
-    ensures stands { IfOk result (λ p. StandsAt p line.old.frame line.old.state) }
-    ensures side { IfOk result (λ p. p.side ≡ proof.now.side) }
-    ensures tree { IfOk result (λ p. p.tree ≡ proof.now.tree) }
-    ensures same { line.new ≡ line.old }
-{
-    let footprint = proof.footprint_at(alloc, line)?;
-    let plan = proof.plan().try_clone()?;
-    Proof::winning_with(line, proof.side(), plan, footprint)
-}
-
-/// The proof that a found one gives at the line, where it serves there and is no deeper than the room.
-fn taken(
-    alloc: Global,
-    line: &mut Line,
-    room: u16,
-    proof: &Proof,
-) -> Result<Option<Proof>, NoMemory>
-    ensures stands { IfOk result (λ o. IfSome o (λ p. StandsAt p line.old.frame line.old.state)) }
+/// The proof that a found one gives at the line, where its own footprint is known to be that there and it is no deeper than the
+/// room.
+fn taken(alloc: Global, line: &Line, room: u16, proof: &Proof) -> Result<Option<Proof>, NoMemory>
+    ensures stands { IfOk result (λ o. IfSome o (λ p. StandsAt p line.now.frame line.now.state)) }
     ensures side { IfOk result (λ o. IfSome o (λ p. p.side ≡ proof.now.side)) }
     ensures low { IfOk result (λ o. IfSome o (λ p. depth p.tree ≤ room)) }
-    ensures same { line.new ≡ line.old }
 {
-    if proof.depth() > room || !serves(line, proof) {
+    if proof.depth() > room {
         return Ok(None);
     }
-    let here = moved(alloc, line, proof)?;
+    let Some(own) = proof.footprint_here(line) else {
+        return Ok(None);
+    };
+    let footprint = own.try_clone(alloc)?;
+    let plan = proof.plan().try_clone()?;
+    let here = Proof::winning_with(line, proof.side(), plan, footprint)?;
     Ok(Some(here))
 }
 
-/// A proof for the side at the line that the memo knows: one of the line's key that serves here. No tree is walked through.
+/// A proof for the side at the line that the memo knows: one of the line's key that is taken here. No tree is walked through.
 pub(crate) fn known<S: Store>(
     alloc: Global,
-    line: &mut Line,
+    line: &Line,
     side: Side,
     room: u16,
     memo: &mut S,
 ) -> Result<Option<Proof>, NoMemory>
-    ensures stands { IfOk result (λ o. IfSome o (λ p. StandsAt p line.old.frame line.old.state)) }
+    ensures stands { IfOk result (λ o. IfSome o (λ p. StandsAt p line.now.frame line.now.state)) }
     ensures side { IfOk result (λ o. IfSome o (λ p. p.side ≡ side)) }
     ensures low { IfOk result (λ o. IfSome o (λ p. depth p.tree ≤ room)) }
-    ensures same { line.new ≡ line.old }
 {
     let Some(proof) = memo.find(line, side)? else {
         return Ok(None);
@@ -74,32 +48,19 @@ pub(crate) fn known<S: Store>(
     taken(alloc, line, room, &proof)
 }
 
-/// Keeps another handle of a found proof, where there is room and memory for it. The line stands as before.
-pub(crate) fn keep<S: Store>(alloc: Global, line: &mut Line, found: &Option<Proof>, memo: &mut S)
-    requires { IfSome found.now (λ p. StandsAt p line.old.frame line.old.state) }
-    ensures { line.new ≡ line.old }
-{
+/// Keeps another handle of a found proof, where there is room and memory for it.
+pub(crate) fn keep<S: Store>(alloc: Global, line: &Line, found: &Option<Proof>, memo: &mut S) {
     let Some(proof) = found else {
         return;
     };
     if memo.kept() == memo.capacity() {
         return;
     }
-    let Ok(copy) = again(alloc, line, proof) else {
+    let Ok(Some(copy)) = taken(alloc, line, proof.depth(), proof) else {
         return;
     };
     let Ok(copy) = Arc::new(alloc, copy) else {
         return;
     };
     let _kept = memo.keep(copy);
-}
-
-/// The same proof again, where the line stands at it.
-fn again(alloc: Global, line: &mut Line, proof: &Proof) -> Result<Proof, NoMemory>
-    requires { StandsAt proof.now line.old.frame line.old.state }
-    ensures same { line.new ≡ line.old }
-{
-    let footprint = proof.footprint().try_clone(alloc)?;
-    let plan = proof.plan().try_clone()?;
-    Proof::winning_with(line, proof.side(), plan, footprint)
 }

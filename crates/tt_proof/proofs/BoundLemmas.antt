@@ -1,46 +1,72 @@
--- Marks as bits: what is put together has those of each part.
-use Rattle.std.proofs.Common.{◌≡◌, ◌∙◌, ℕ, zero, suc, ◌<◌, min, max, bit_or, arith, refl, sym, ap, subst}
-use Rattle.std.specs.Int.{bit_at}
-use Rattle.std.proofs.lemmas.Nat.Bits.{bit_at_or, bit_at-lt}
-use Rattle.tt_proof.specs.declared.bounds.Bound.{Bound}
-use Rattle.tt_proof.specs.Collecting.{IsNoHigher}
+-- Floors and ceilings as bits.
+use Rattle.std.proofs.Common.{◌≡◌, ◌<◌, ◌&&◌, ◌||◌, ℕ, Bool, true, false, inl, inr, List, sym, ◌∙◌, refl}
+use Rattle.std.proofs.lemmas.Bool.{cases_lt, false≢true}
+use Rattle.tt_sgf.specs.Sizes.{point_count}
+use Rattle.tt_sgf.specs.Words.{bit_in, AreBitsOf, AreCovered}
+use Rattle.tt_sgf.specs.declared.bits.TheConstants.{BITS}
+use Rattle.tt_board.specs.declared.Colour.{Colour}
+use Rattle.tt_board.specs.Position.{Position}
+use Rattle.tt_board.specs.Play.{is_stone_of}
+use Rattle.tt_board.specs.Reach.{entry_at}
+use Rattle.tt_proof.specs.declared.bounds.Span.{Span}
+use Rattle.tt_proof.specs.Bounds.{StandsOn, IsBetween}
 
--- of two bits the greater is 1 where one of them is
-greater_left : (x : ℕ) → x < 2 → max 1 x ≡ 1
-greater_left zero lt = refl
-greater_left (suc zero) lt = refl
-greater_left (suc (suc x)) lt = absurd (omega (arith, lt))
+-- of two truths both hold, and of one that holds one of two does
+and_left : (x y : Bool) → (x && y) ≡ true → x ≡ true
+and_left true y e = refl
+and_left false y e = absurd (false≢true e)
 
-greater_right : (x : ℕ) → x < 2 → max x 1 ≡ 1
-greater_right zero lt = refl
-greater_right (suc zero) lt = refl
-greater_right (suc (suc x)) lt = absurd (omega (arith, lt))
+and_right : (x y : Bool) → (x && y) ≡ true → y ≡ true
+and_right true y e = e
+and_right false y e = absurd (false≢true e)
 
--- a mark of either word is one of both together
-pub marked_left : (a b mark : ℕ) → bit_at a mark ≡ 1 → bit_at (bit_or a b) mark ≡ 1
-marked_left a b mark h = bit_at_or a b mark ∙ ap (λ x. max x (bit_at b mark)) h ∙ greater_left (bit_at b mark) (bit_at-lt b mark)
+or_left : (x y : Bool) → x ≡ true → (x || y) ≡ true
+or_left true y e = refl
+or_left false y e = absurd (false≢true e)
 
-pub marked_right : (a b mark : ℕ) → bit_at b mark ≡ 1 → bit_at (bit_or a b) mark ≡ 1
-marked_right a b mark h = bit_at_or a b mark ∙ ap (λ x. max (bit_at a mark) x) h ∙ greater_right (bit_at a mark) (bit_at-lt a mark)
+or_right : (x y : Bool) → y ≡ true → (x || y) ≡ true
+or_right true y e = refl
+or_right false y e = e
 
--- what bounds two is no higher than either
-pub least_left : (a b r : Bound) → r.black ≡ min a.black b.black → r.white ≡ min a.white b.white → r.marks ≡ bit_or a.marks b.marks → IsNoHigher r a
-least_left a b r black white marks = record {
-  black = omega (arith, black);
-  white = omega (arith, white);
-  marks = λ mark h. subst (λ m. bit_at m mark ≡ 1) (sym marks) (marked_left a.marks b.marks mark h);
-}
+or_same : (x : Bool) → (x || x) ≡ true → x ≡ true
+or_same true e = refl
+or_same false e = e
 
-pub least_right : (a b r : Bound) → r.black ≡ min a.black b.black → r.white ≡ min a.white b.white → r.marks ≡ bit_or a.marks b.marks → IsNoHigher r b
-least_right a b r black white marks = record {
-  black = omega (arith, black);
-  white = omega (arith, white);
-  marks = λ mark h. subst (λ m. bit_at m mark ≡ 1) (sym marks) (marked_right a.marks b.marks mark h);
-}
+module _ (words : List ℕ) (k : Colour) (b : Position) (are : AreBitsOf words (point_count b.size) (λ p. is_stone_of (entry_at b.points p) k)) where
+  -- the bits of a board's stones are 1 where they stand
+  pub bit_stands : (p : ℕ) → p < BITS → bit_in words p ≡ true → StandsOn k b p
+  bit_stands p small e = elim (cases_lt p (point_count b.size)) [
+    | inl inside ↦ (inside, sym (are.below p inside small) ∙ e)
+    | inr outside ↦ absurd (false≢true (sym (are.behind p outside small) ∙ e))
+  ]
 
-pub lower_still : (a b c : Bound) → IsNoHigher a b → IsNoHigher b c → IsNoHigher a c
-lower_still a b c low next = record {
-  black = let x = low.black in let y = next.black in omega (arith, x, y);
-  white = let x = low.white in let y = next.white in omega (arith, x, y);
-  marks = λ mark h. low.marks mark (next.marks mark h);
-}
+  pub stands_bit : (p : ℕ) → p < BITS → StandsOn k b p → bit_in words p ≡ true
+  stands_bit p small w = are.below p w.0 small ∙ w.1
+
+  -- a floor that they cover and a ceiling that covers them hold the board
+  pub covered_between : (x : Span) → AreCovered x.floor.words words words → AreCovered words x.ceiling.words x.ceiling.words → IsBetween x k b
+  covered_between x low high p small = (
+    λ e. bit_stands p small (or_same (bit_in words p) (low p small e)),
+    λ w. or_same (bit_in x.ceiling.words p) (high p small (stands_bit p small w)),
+  )
+
+  pub between_low : (x : Span) → IsBetween x k b → AreCovered x.floor.words words words
+  between_low x h p small e = or_left (bit_in words p) (bit_in words p) (stands_bit p small ((h p small).0 e))
+
+  pub between_high : (x : Span) → IsBetween x k b → AreCovered words x.ceiling.words x.ceiling.words
+  between_high x h p small e = or_left (bit_in x.ceiling.words p) (bit_in x.ceiling.words p) ((h p small).1 (bit_stands p small e))
+
+-- what lies between the floor and the ceiling of one of two lies between those of both together
+module _ (x y r : Span) (floor : (p : ℕ) → p < BITS → bit_in r.floor.words p ≡ (bit_in x.floor.words p && bit_in y.floor.words p))
+    (ceiling : (p : ℕ) → p < BITS → bit_in r.ceiling.words p ≡ (bit_in x.ceiling.words p || bit_in y.ceiling.words p)) where
+  pub between_left : (k : Colour) (b : Position) → IsBetween x k b → IsBetween r k b
+  between_left k b h p small = (
+    λ e. (h p small).0 (and_left (bit_in x.floor.words p) (bit_in y.floor.words p) (sym (floor p small) ∙ e)),
+    λ w. ceiling p small ∙ or_left (bit_in x.ceiling.words p) (bit_in y.ceiling.words p) ((h p small).1 w),
+  )
+
+  pub between_right : (k : Colour) (b : Position) → IsBetween y k b → IsBetween r k b
+  between_right k b h p small = (
+    λ e. (h p small).0 (and_right (bit_in x.floor.words p) (bit_in y.floor.words p) (sym (floor p small) ∙ e)),
+    λ w. ceiling p small ∙ or_right (bit_in x.ceiling.words p) (bit_in y.ceiling.words p) ((h p small).1 w),
+  )

@@ -1,5 +1,5 @@
 -- The footprints of a strategy's parts make up its own.
-use Rattle.std.proofs.Common.{◌≡◌, ◌↔◌, ◌⊎◌, inl, inr, List, [], ◌∷◌, ◌++◌, sym, ap, subst, ◌∙◌, Contains, arith}
+use Rattle.std.proofs.Common.{◌≡◌, ◌↔◌, ◌⊎◌, inl, inr, List, [], ◌∷◌, ◌++◌, sym, ap, subst, ◌∙◌, Contains, Option}
 use Rattle.tt_sgf.specs.declared.size.Size.{Size}
 use Rattle.tt_board.specs.Position.{Position, Colouring}
 use Rattle.tt_game.specs.Game.{State, IsLegal, after, history, made}
@@ -13,9 +13,9 @@ use Rattle.tt_proof.specs.declared.footprints.Footprint.{Footprint}
 use Rattle.tt_proof.specs.Strategy.{Strategy, done, pick, reply, none, entries_of}
 use Rattle.tt_proof.specs.Footprints.{IsNeeded, IsNeededBehind, IsAvoided, IsAvoidedBehind, IsMet, IsMetBehind, Makes, IsRepeated, longer}
 use Rattle.tt_proof.specs.KeptFootprints.{IsFootprint, IsEntryJoined, AreSized, frame_board}
-use Rattle.tt_proof.specs.Collecting.{IsPassedUp, IsPlayed, IsPicked, IsNoHigher, IsReachedBy}
+use Rattle.tt_proof.specs.Collecting.{IsPassedUp, IsPlayed, IsPicked, IsMadeWithin}
 use Rattle.tt_proof.specs.declared.bounds.Bound.{Bound}
-use Rattle.tt_proof.specs.Bounds.{first_mark, second_mark, IsReached}
+use Rattle.tt_proof.specs.Bounds.{IsWithin, IsWider}
 use Rattle.tt_proof.proofs.NeedLemmas.{needed_less, needed_more}
 use Rattle.tt_game.specs.Members.{in_of_contains}
 
@@ -69,7 +69,7 @@ foot_pick f s t u x y l foot h = record {
     λ w. (h.needed (frame_board f c)).1 ((given f s t u x foot c).1 w.1),
   );
   avoided = λ c. (λ m. (l, up c ((h.avoided (frame_board f c)).0 m)), λ w. (h.avoided (frame_board f c)).1 (down c w.1));
-  met = λ c m. subst (λ low. IsReached low (frame_board f c)) (sym h.low) (foot.met c m.1);
+  met = λ c m. subst (λ x'. IsWithin x' (frame_board f c)) (sym h.met) (foot.met c m.1);
 }
   where
     sized : (b : Position) → IsPlayed t (frame_board f (after f s t).present) b ⊎ Contains x.avoids b → b.size ≡ f.size
@@ -183,31 +183,24 @@ otherwise A B X Y h e = (λ b. to (h.0 b), λ w. h.1 (from w))
     from (inl a) = inl a
     from (inr y) = inr (e.1 y)
 
--- what reaches a bound reaches one that is no higher
-reached_lower : (low other : Bound) (b : Position) → IsNoHigher low other → IsReached other b → IsReached low b
-reached_lower low other b le r =
-    let black = le.black in
-    let white = le.white in
-    let m = r.0 in let n = r.1 in (omega (arith, black, m), omega (arith, white, n), (le.marks (first_mark b) r.2.0, le.marks (second_mark b) r.2.1))
-
--- what the turn makes reaches a bound that it was to reach
-reached_made : (f : Frame) (s : State) (t : Turn) (low : Bound) (c : Colouring) → IsReachedBy t (frame_board f (after f s t).present) low → Makes f s t c →
-    IsReached low (frame_board f c)
-reached_made f s Pass low c r m = absurd m
-reached_made f s (Play p) low c r m = subst (λ x. IsReached low (frame_board f x)) m r
+-- what the turn makes lies within a bound of it
+made_within : (f : Frame) (s : State) (t : Turn) (x : Option Bound) (c : Colouring) → IsMadeWithin t (frame_board f (after f s t).present) x → Makes f s t c →
+    IsWithin x (frame_board f c)
+made_within f s Pass x c r m = absurd m
+made_within f s (Play p) x c r m = subst (λ d. IsWithin x (frame_board f d)) m r
 
 -- a bound of a reply with one more entry
-pub record IsLowered (f : Frame) (s : State) (t : Turn) (low old new : Bound) : Type 0 where
-  pub before : IsNoHigher new old
-  pub behind : IsNoHigher new low
-  pub made : IsReachedBy t (frame_board f (after f s t).present) new
+pub record IsWidened (f : Frame) (s : State) (t : Turn) (behind old new : Option Bound) : Type 0 where
+  pub before : IsWider new old
+  pub below : IsWider new behind
+  pub made : IsMadeWithin t (frame_board f (after f s t).present) new
 
 -- the footprint of a reply with one more entry, whose turn is legal
 pub foot_entry : (f : Frame) (s : State) (t : Turn) (u : Strategy) (x old new : Footprint) → IsLegal f s t → IsFootprint f (after f s t) u x →
     ((b : Position) → Contains new.needs b ↔ (Contains old.needs b ⊎ IsPassedUp t (frame_board f (after f s t).present) x.needs b)) →
     ((b : Position) → Contains new.avoids b ↔ (Contains old.avoids b ⊎ Contains x.avoids b)) →
-    IsLowered f s t x.low old.low new.low → IsEntryJoined f s t u old new
-foot_entry f s t u x old new l foot n a lower es before = record {
+    IsWidened f s t x.met old.met new.met → IsEntryJoined f s t u old new
+foot_entry f s t u x old new l foot n a wide es before = record {
   needs_sized = λ b m. elim ((n b).0 m) [ inl w ↦ before.needs_sized b w | inr g ↦ foot.needs_sized b (given_held t _ _ b g) ];
   avoids_sized = λ b m. elim ((a b).0 m) [ inl w ↦ before.avoids_sized b w | inr g ↦ foot.avoids_sized b g ];
   needed = λ c. all c (needed_push f s t u c (history s) es);
@@ -216,7 +209,7 @@ foot_entry f s t u x old new l foot n a lower es before = record {
       (IsLegal f s t × IsAvoided f u (after f s t) c) (IsAvoidedBehind f (entries_of es) s c)
       (IsAvoidedBehind f (entries_of (es ++ (t, u) ∷ [])) s c)
       (otherwise _ _ _ _ (a (frame_board f c)) (λ m. (l, (foot.avoided c).0 m), λ w. (foot.avoided c).1 w.1)) (before.avoided c) (avoided_push f s t u c es);
-  met = λ c m. low c ((met_push f s t u c es).0 m);
+  met = λ c m. met c ((met_push f s t u c es).0 m);
 }
   where
     all : (c : Colouring)
@@ -230,11 +223,11 @@ foot_entry f s t u x old new l foot n a lower es before = record {
         (otherwise _ _ _ _ (n (frame_board f c)) (λ g. (l, (given f s t u x foot c).0 g), λ w. (given f s t u x foot c).1 w.1))
         (before.needed c) (regroup (IsRepeated f (history s) [] s c) _ _ _ push)
 
-    low : (c : Colouring) → IsMetBehind f (entries_of es) s c ⊎ (IsLegal f s t × (Makes f s t c ⊎ IsMet f u (after f s t) c)) →
-        IsReached new.low (frame_board f c)
-    low c (inl m) = reached_lower new.low old.low (frame_board f c) lower.before (before.met c m)
-    low c (inr (w, inl m)) = reached_made f s t new.low c lower.made m
-    low c (inr (w, inr m)) = reached_lower new.low x.low (frame_board f c) lower.behind (foot.met c m)
+    met : (c : Colouring) → IsMetBehind f (entries_of es) s c ⊎ (IsLegal f s t × (Makes f s t c ⊎ IsMet f u (after f s t) c)) →
+        IsWithin new.met (frame_board f c)
+    met c (inl m) = wide.before (frame_board f c) (before.met c m)
+    met c (inr (w, inl m)) = made_within f s t new.met c wide.made m
+    met c (inr (w, inr m)) = wide.below (frame_board f c) (foot.met c m)
 
 -- an entry of a turn that is not legal adds nothing
 pub foot_no_entry : (f : Frame) (s : State) (t : Turn) (u : Strategy) (x : Footprint) → (IsLegal f s t → ⊥) → IsEntryJoined f s t u x x

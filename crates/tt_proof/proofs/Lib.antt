@@ -7,7 +7,6 @@ pub mod BoundLemmas
 pub mod CarryLemmas
 pub mod TakenLemmas
 pub mod SharedLemmas
-pub mod StoneLemmas
 pub mod NeedLemmas
 pub mod FootprintLemmas
 pub mod RepeatLemmas

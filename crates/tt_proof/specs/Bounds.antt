@@ -1,29 +1,30 @@
--- Bounds on what boards may have: numbers of stones, and marks.
-use Rattle.std.specs.Prelude.{◌≡◌, ℕ, ◌≤◌, ◌/◌, ◌%◌, count_by}
-use Rattle.std.specs.Int.{bit_at}
+-- Bounds of boards: the stones that all of some boards have, and those that some of them has.
+use Rattle.std.specs.Prelude.{◌≡◌, ℕ, ◌<◌, Option, Some, None, true}
+use Rattle.tt_sgf.specs.Sizes.{point_count}
+use Rattle.tt_sgf.specs.Words.{bit_in}
+use Rattle.tt_sgf.specs.declared.bits.TheConstants.{BITS}
 use Rattle.tt_board.specs.declared.Colour.{Colour}
 use Rattle.tt_board.specs.declared.Colour.TheVariants.{Black, White}
-use Rattle.tt_board.specs.Position.{Position, Colouring}
+use Rattle.tt_board.specs.Position.{Position}
 use Rattle.tt_board.specs.Play.{is_stone_of}
-use Rattle.tt_game.specs.Mixing.{board_print}
+use Rattle.tt_board.specs.Reach.{entry_at}
+use Rattle.tt_proof.specs.declared.bounds.Span.{Span}
 use Rattle.tt_proof.specs.declared.bounds.Bound.{Bound}
-use Rattle.tt_proof.specs.declared.bounds.TheConstants.{FIRST, SECOND}
 
--- how many stones of the colour stand in the colouring
-unfoldable pub stones_of : Colour → Colouring → ℕ
-stones_of k c = count_by (λ e. is_stone_of e k) c
+-- a stone of the colour stands on the point
+abbrev pub StandsOn : Colour → Position → ℕ → Type 0
+StandsOn k b p = (p < point_count b.size) × (is_stone_of (entry_at b.points p) k ≡ true)
 
--- the two marks of a board, each a number below 64 that is taken from its print
-abbrev pub first_mark : Position → ℕ
-first_mark b = board_print b.size b.points / FIRST
+-- the board has each stone of the floor, and none beside the ceiling
+abbrev pub IsBetween : Span → Colour → Position → Type 0
+IsBetween x k b =
+    (p : ℕ) → p < BITS → (bit_in x.floor.words p ≡ true → StandsOn k b p) × (StandsOn k b p → bit_in x.ceiling.words p ≡ true)
 
-abbrev pub second_mark : Position → ℕ
-second_mark b = board_print b.size b.points / SECOND % 64
+-- the board lies within the bound; none does where there is no bound
+abbrev pub IsWithin : Option Bound → Position → Type 0
+IsWithin None b = ⊥
+IsWithin (Some x) b = IsBetween x.black Black b × IsBetween x.white White b
 
--- the bits of both marks of the board are 1
-abbrev pub IsMarked : ℕ → Position → Type 0
-IsMarked marks b = (bit_at marks (first_mark b) ≡ 1) × (bit_at marks (second_mark b) ≡ 1)
-
--- the board has at least so many stones of each colour, and both of its marks are there
-abbrev pub IsReached : Bound → Position → Type 0
-IsReached low b = (low.black ≤ stones_of Black b.points) × (low.white ≤ stones_of White b.points) × IsMarked low.marks b
+-- what lies within the other bound lies within this one
+abbrev pub IsWider : Option Bound → Option Bound → Type 0
+IsWider wide other = (b : Position) → IsWithin other b → IsWithin wide b

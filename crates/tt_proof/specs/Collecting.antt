@@ -1,6 +1,5 @@
 -- What the parts of a walk for a footprint find.
-use Rattle.std.specs.Prelude.{◌≡◌, ◌≢◌, ◌↔◌, ◌⊎◌, ℕ, ◌<◌, ◌≤◌, List, [], ◌∷◌, ◌++◌, Contains}
-use Rattle.std.specs.Int.{bit_at}
+use Rattle.std.specs.Prelude.{◌≡◌, ◌≢◌, ◌↔◌, ◌⊎◌, ℕ, ◌<◌, Option, List, [], ◌∷◌, ◌++◌, Contains}
 use Rattle.tt_board.specs.Position.{Position, Colouring}
 use Rattle.tt_game.specs.Game.{State, IsBarred, made}
 use Rattle.tt_game.specs.declared.frame.Frame.{Frame}
@@ -8,7 +7,7 @@ use Rattle.tt_game.specs.declared.turns.Turn.{Turn}
 use Rattle.tt_game.specs.declared.turns.Turn.TheVariants.{Play, Pass}
 use Rattle.tt_proof.specs.declared.bounds.Bound.{Bound}
 use Rattle.tt_proof.specs.declared.footprints.Footprint.{Footprint}
-use Rattle.tt_proof.specs.Bounds.{IsReached}
+use Rattle.tt_proof.specs.Bounds.{IsWithin}
 
 -- superko bars a play on a point below the number, which would make the colouring
 abbrev pub RepeatsBelow : Frame → State → ℕ → Colouring → Type 0
@@ -28,18 +27,12 @@ IsPlayed (Play p) board b = b ≡ board
 pub record IsPicked (t : Turn) (board : Position) (behind x : Footprint) : Type 0 where
   pub needed : (b : Position) → Contains x.needs b ↔ IsPassedUp t board behind.needs b
   pub avoided : (b : Position) → Contains x.avoids b ↔ (IsPlayed t board b ⊎ Contains behind.avoids b)
-  pub low : x.low ≡ behind.low
+  pub met : x.met ≡ behind.met
 
--- no number is greater than the other's, and each of the other's marks is there
-pub record IsNoHigher (low other : Bound) : Type 0 where
-  pub black : low.black ≤ other.black
-  pub white : low.white ≤ other.white
-  pub marks : (mark : ℕ) → bit_at other.marks mark ≡ 1 → bit_at low.marks mark ≡ 1
-
--- where the turn is a play, the board that it made reaches the bound
-abbrev pub IsReachedBy : Turn → Position → Bound → Type 0
-IsReachedBy Pass b low = Unit {0}
-IsReachedBy (Play p) b low = IsReached low b
+-- where the turn is a play, the board that it made lies within the bound
+abbrev pub IsMadeWithin : Turn → Position → Option Bound → Type 0
+IsMadeWithin Pass b bound = Unit {0}
+IsMadeWithin (Play p) b bound = IsWithin bound b
 
 -- one of two lists gave its last board, and the other is as before
 abbrev pub IsOneLess : List Position → List Position → List Position → List Position → Position → Type 0

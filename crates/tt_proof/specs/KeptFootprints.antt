@@ -9,7 +9,7 @@ use Rattle.tt_game.specs.declared.frame.Side.{Side}
 use Rattle.tt_game.specs.declared.turns.Turn.{Turn}
 use Rattle.tt_game.specs.declared.turns.Turn.TheVariants.{Play}
 use Rattle.tt_proof.specs.declared.footprints.Footprint.{Footprint}
-use Rattle.tt_proof.specs.Bounds.{IsReached}
+use Rattle.tt_proof.specs.Bounds.{IsWithin}
 use Rattle.tt_proof.specs.Strategy.{Strategy, reply, entries_of}
 use Rattle.tt_proof.specs.Footprints.{IsNeeded, IsAvoided, IsMet}
 use Rattle.tt_proof.specs.Proven.{IsWon}
@@ -24,13 +24,13 @@ AreSized f bs = (b : Position) → Contains bs b → b.size ≡ f.size
 
 -- the footprint is that of the strategy at the state: its boards are exactly those of the colourings that the strategy needs
 -- in the history, and exactly those of the colourings that it avoids; the board of each colouring that
--- it meets reaches the bound
+-- it meets lies within the bound
 pub record IsFootprint (f : Frame) (s : State) (u : Strategy) (x : Footprint) : Type 0 where
   pub needs_sized : AreSized f x.needs
   pub avoids_sized : AreSized f x.avoids
   pub needed : (c : Colouring) → Contains x.needs (frame_board f c) ↔ IsNeeded f (history s) u [] s c
   pub avoided : (c : Colouring) → Contains x.avoids (frame_board f c) ↔ IsAvoided f u s c
-  pub met : (c : Colouring) → IsMet f u s c → IsReached x.low (frame_board f c)
+  pub met : (c : Colouring) → IsMet f u s c → IsWithin x.met (frame_board f c)
 
 -- a play on each point of the set is legal
 abbrev pub AreLegalPlays : Frame → State → Points → Type 0

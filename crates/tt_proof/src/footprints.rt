@@ -9,9 +9,10 @@ ghost use Rattle.tt_proof.specs.declared.tree.TheConstants.{MOST_DEPTH};
 ghost use Rattle.tt_proof.specs.Strategy.{Strategy, done, pick, reply, none, depth, depth_of_entries, strategy_of, entries_of, entries_of_trees, IsInOrder, AreInOrder, IsOnBoard};
 ghost use Rattle.tt_proof.specs.Footprints.{IsRepeated};
 ghost use Rattle.tt_proof.specs.KeptFootprints.{IsFootprint, IsBoardAfter, IsEntryJoined, AreSized, frame_board, AreLegalPlays};
-ghost use Rattle.tt_proof.specs.Collecting.{IsPassedUp, IsPlayed, IsNoHigher, IsReachedBy};
+ghost use Rattle.tt_proof.specs.Collecting.{IsPassedUp, IsPlayed, IsMadeWithin};
+ghost use Rattle.tt_proof.specs.Bounds.{IsWider};
 
-use crate::bounds::Bound;
+use crate::bounds::{Bound, wider};
 use crate::shared_boards::SharedBoards;
 use crate::tree::Tree;
 use std::alloc::Global;
@@ -19,13 +20,13 @@ use tt_board::Board;
 use tt_game::{Line, Refused, Turn};
 use tt_sgf::{NoMemory, Point, PointSet};
 
-/// What a tree needs in the history of its state, and what it avoids there: the boards of two sets of colourings. No board that
-/// a turn of the other side makes has fewer stones of a colour than `low`, or a mark that isn't there.
+/// What a tree needs in the history of its state, and what it avoids there: the boards of two sets of colourings. Each board that
+/// a turn of the other side makes lies within the bound `met`.
 #[derive(Drop)]
 pub struct Footprint {
     pub needs: SharedBoards,
     pub avoids: SharedBoards,
-    pub low: Bound,
+    pub met: Option<Bound>,
 }
 
 impl Footprint {
@@ -36,7 +37,7 @@ impl Footprint {
         Footprint {
             needs: SharedBoards::new(alloc),
             avoids: SharedBoards::new(alloc),
-            low: Bound::none(),
+            met: None,
         }
     }
 
@@ -61,7 +62,7 @@ impl Footprint {
         Ok(Footprint {
             needs,
             avoids: SharedBoards::new(alloc),
-            low: Bound::none(),
+            met: None,
         })
     }
 
@@ -82,11 +83,11 @@ impl Footprint {
         let Footprint {
             mut needs,
             mut avoids,
-            low,
+            met,
         } = behind;
         take_made(&mut needs, turn, board);
         put_played(alloc, &mut avoids, turn, board)?;
-        Ok(Footprint { needs, avoids, low })
+        Ok(Footprint { needs, avoids, met })
     }
 
     /// Joins that of the tree behind one more turn of a reply. The turn is legal at the line, and `board` is the one after
@@ -106,11 +107,11 @@ impl Footprint {
         let Footprint {
             mut needs,
             avoids,
-            low,
+            met,
         } = behind;
         take_made(&mut needs, turn, board);
         self.needs.join(needs)?;
-        self.low = lowered(&self.low, turn, board, &low);
+        self.met = widened(&self.met, turn, board, &met);
         self.avoids.join(avoids)
     }
 
@@ -123,7 +124,7 @@ impl Footprint {
         Ok(Footprint {
             needs,
             avoids,
-            low: self.low,
+            met: self.met,
         })
     }
 }
@@ -153,17 +154,17 @@ fn put_played(
     }
 }
 
-/// A bound for what is met behind the turns of a reply, from that behind others and from that behind one more, which led to
+/// A bound of what is met behind the turns of a reply, from that behind others and from that behind one more, which led to
 /// the board.
-fn lowered(low: &Bound, turn: &Turn, board: &Board, behind: &Bound) -> Bound
-    ensures before { IsNoHigher result low.now }
-    ensures behind { IsNoHigher result behind.now }
-    ensures made { IsReachedBy turn.now board.now result }
+fn widened(met: &Option<Bound>, turn: &Turn, board: &Board, behind: &Option<Bound>) -> Option<Bound>
+    ensures before { IsWider result met.now }
+    ensures behind { IsWider result behind.now }
+    ensures made { IsMadeWithin turn.now board.now result }
 {
-    let both = low.least(behind);
+    let both = wider(met, behind);
     match turn {
         Turn::Pass => both,
-        Turn::Play(_) => both.least(&Bound::of(board)),
+        Turn::Play(_) => wider(&both, &Some(Bound::of(board))),
     }
 }
 

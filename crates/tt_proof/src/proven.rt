@@ -1,6 +1,6 @@
 //! Proofs: trees that win.
 
-ghost use Rattle.std.specs.Prelude.{◌≡◌, ◌≢◌, ◌↔◌, ◌≤◌, ◌+◌, ◌-◌, ◌^◌, min, IfOk, IfErr, IsTrue, true, None, Some, Ok};
+ghost use Rattle.std.specs.Prelude.{◌≡◌, ◌≢◌, ◌↔◌, ◌≤◌, ◌+◌, ◌-◌, ◌^◌, min, IfOk, IfErr, IfSome, IsTrue, true, None, Some, Ok};
 ghost use Rattle.tt_game.specs.Game.{winner_of, opponent, IsLegal, after};
 ghost use Rattle.tt_game.specs.Turns.{legal_turns};
 ghost use Rattle.tt_game.specs.Keys.{key_of};
@@ -13,6 +13,7 @@ ghost use Rattle.tt_proof.specs.Proven.{IsWon, StandsAt, FitsAt, IsChild, AreChi
 ghost use Rattle.tt_proof.specs.KeptFootprints.{IsFootprint};
 ghost use Rattle.tt_proof.specs.Rejections.{IsRejected};
 
+use crate::bounds::none_within;
 use crate::footprints::{Footprint, footprint_of};
 use crate::plan::{Plan, Replies};
 use crate::replays::replay;
@@ -198,26 +199,37 @@ impl Proof {
         replay(self.tree(), self.side(), line)
     }
 
-    /// The footprint of the tree at the line, where it wins. It is the proof's own where the tree fits, and each board of the
-    /// line's history but the last, behind those with which the proof's begins too, is told from all boards that turns of the
-    /// other side make, by its numbers of stones or by a mark, and where the line is where the proof stands; else the tree is
-    /// walked through. The line stands as before, also after want of memory.
+    /// The proof's own footprint where that is the tree's at the line, too, as is seen without a walk through the tree: where the
+    /// line is where the proof stands; and where the tree fits, and each board of the line's history but the last, behind those
+    /// with which the proof's begins too, lies outside the bound of all boards that turns of the other side make.
+    pub fn footprint_here(&self, line: &Line) -> Option<&Footprint>
+        ensures wins { IfSome result (λ _. IsWon self.now.side line.now.frame line.now.state self.now.tree) }
+        ensures exact { IfSome result (λ x. IsFootprint line.now.frame line.now.state self.now.tree x.now) }
+        ensures stands { StandsAt self.now line.now.frame line.now.state → result ≢ None }
+    {
+        let own = &self.footprint;
+        if self.stands_at(line) {
+            return Some(own);
+        }
+        let behind = &line.history()[self.past.begun_with(line)..];
+        let earlier = &behind[..behind.len().saturating_sub(1)];
+        if self.fits(line) && none_within(&own.met, earlier) {
+            return Some(own);
+        }
+        None
+    }
+
+    /// The footprint of the tree at the line, where it wins: the proof's own where that is seen without a walk, else it is
+    /// found by one. The line stands as before, also after want of memory.
     pub fn footprint_at(&self, alloc: Global, line: &mut Line) -> Result<Footprint, NoMemory>
         requires wins { IsWon self.now.side line.old.frame line.old.state self.now.tree }
         ensures exact { IfOk result (λ x. IsFootprint line.old.frame line.old.state self.now.tree x) }
         ensures same { line.new ≡ line.old }
     {
-        let tree = self.tree();
-        let own = self.footprint();
-        let behind = &line.history()[self.past.begun_with(line)..];
-        let earlier = &behind[..behind.len().saturating_sub(1)];
-        if self.fits(line) && own.low.is_above(earlier) {
-            return own.try_clone(alloc);
+        match self.footprint_here(line) {
+            Some(own) => own.try_clone(alloc),
+            None => footprint_of(alloc, self.tree(), line),
         }
-        if self.stands_at(line) {
-            return own.try_clone(alloc);
-        }
-        footprint_of(alloc, tree, line)
     }
 
     /// A proof of the tree at the line, where it wins there; else the tree is handed back. The tree is at most 512 turns

@@ -1,10 +1,10 @@
 use Rattle.tt_proof.specs.declared.certificate_read.CertFault.TheVariants.{Syntax, TooDeep}
 use Rattle.std.proofs.Common.{length, rules, arith, ◌≡◌, ◌+◌, ◌-◌, ◌++◌, ◌⊎◌, ℕ, suc, [], ◌∷◌, ◌∙◌, sym, ap, subst, inl, inr}
-use Rattle.tt_proof.specs.Strategy.{strategy_of, pick, number_on}
+use Rattle.tt_proof.specs.Strategy.{number_on}
 use Rattle.tt_proof.specs.CertificateText.{won_mark, pick_mark, reply_mark}
-use Rattle.tt_proof.specs.CertificateReading.{TreeAt, DeepAt, EntriesDeepAt, FaultAt, EntriesFaultAt}
-use Rattle.tt_proof.proofs.StrategyLemmas.{strategy_of_done, strategy_of_pick, strategy_of_reply}
-use Rattle.tt_proof.proofs.ReadLemmas.{not_tree, pick_no_turn, pick_deep, pick_read, pick_fault, reply_read, reply_fault}
+use Rattle.tt_proof.specs.CertificateReading.{DeepAt, EntriesDeepAt, FaultAt, EntriesFaultAt}
+use Rattle.tt_proof.proofs.StrategyLemmas.{strategy_of_done, strategy_of_reply}
+use Rattle.tt_proof.proofs.ReadLemmas.{not_tree, pick_no_turn, pick_deep, pick_fault, reply_read, reply_fault}
 use Rattle.tt_proof.proofs.TextLemmas.{heads}
 use Rattle.tt_proof.proofs.EntryLemmas.{Walked, walked_more, walked_end, walked_fault, no_entry, not_rising, entry_deep, entry_fault}
 use Rattle.tt_proof.proofs.certificate_read.+read.Goals as goal

@@ -1,6 +1,6 @@
 use Rattle.std.proofs.Common.{subst}
 use Rattle.tt_board.specs.Position.{Position}
-use Rattle.tt_proof.specs.Collecting.{IsReachedBy}
+use Rattle.tt_proof.specs.Collecting.{IsMadeWithin}
 use Rattle.tt_proof.proofs.ResultLemmas.{on_ok}
 use Rattle.tt_proof.proofs.FootprintLemmas.{foot_entry, otherwise}
 use Rattle.tt_proof.proofs.footprints.Footprint.join.Goals as goal
@@ -12,8 +12,8 @@ returns c =
     (λ more u foot. foot_entry c.args.line.now.frame c.args.line.now.state c.args.turn.now u c.args.behind c.args.self.now _ c.requires.legal foot
     (λ b. otherwise _ _ _ _ (c.in_ok-join.ensures b) (given b)) more
     (record {
-      before = c.lowered-self.ensures.before;
-      behind = c.lowered-self.ensures.behind;
-      made = subst (λ (b : Position). IsReachedBy c.args.turn.now b c.lowered-self.result) c.requires.board c.lowered-self.ensures.made;
+      before = c.widened-self.ensures.before;
+      below = c.widened-self.ensures.behind;
+      made = subst (λ (b : Position). IsMadeWithin c.args.turn.now b c.widened-self.result) c.requires.board c.widened-self.ensures.made;
     }))
     c.join-2.ensures

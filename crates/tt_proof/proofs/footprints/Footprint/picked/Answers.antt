@@ -11,5 +11,5 @@ returns c =
     (record {
       needed = needs;
       avoided = λ b. other_order _ _ _ (played b);
-      low = refl;
+      met = refl;
     })

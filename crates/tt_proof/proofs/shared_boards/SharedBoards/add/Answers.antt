@@ -1,4 +1,4 @@
-use Rattle.std.proofs.Common.{rules, ◌≡◌, ◌⊎◌, ◌↔◌, Contains, IsTrue, sym, subst}
+use Rattle.std.proofs.Common.{rules, ◌≡◌, ◌⊎◌, ◌↔◌, Contains, IsTrue, subst}
 use Rattle.tt_proof.proofs.ResultLemmas.{on_ok}
 use Rattle.tt_proof.proofs.SharedLemmas.{held_already}
 use Rattle.tt_proof.proofs.shared_boards.SharedBoards.add.Goals as goal

@@ -1,6 +1,6 @@
 use Rattle.std.proofs.Common.{◌≡◌, ◌↔◌, ◌⊎◌, Contains, sym, subst}
 use Rattle.tt_proof.proofs.ResultLemmas.{on_ok}
-use Rattle.tt_proof.proofs.SharedLemmas.{pushed, held_already}
+use Rattle.tt_proof.proofs.SharedLemmas.{pushed}
 use Rattle.tt_proof.proofs.shared_boards.SharedBoards.put.Goals as goal
 
 pub returns : goal.returns

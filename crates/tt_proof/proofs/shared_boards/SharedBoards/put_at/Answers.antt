@@ -1,5 +1,4 @@
 use Rattle.std.proofs.Common.{rules, ◌≡◌, ◌↔◌, ◌⊎◌, insert, Contains, sym, subst}
-use Rattle.tt_board.specs.Position.{Position}
 use Rattle.tt_proof.proofs.SharedLemmas.{inserted}
 use Rattle.tt_proof.proofs.shared_boards.SharedBoards.put_at.Goals as goal
 

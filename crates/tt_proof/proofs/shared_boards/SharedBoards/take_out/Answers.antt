@@ -1,4 +1,4 @@
-use Rattle.std.proofs.Common.{rules, ◌≡◌, ◌↔◌, ◌⊎◌, get_or, length, remove, Contains, sym, ap, subst, arith}
+use Rattle.std.proofs.Common.{rules, ◌≡◌, ◌↔◌, ◌⊎◌, get_or, length, Contains, sym, ap, subst, arith}
 use Rattle.tt_board.specs.Position.{Position}
 use Rattle.tt_proof.proofs.SharedLemmas.{taken_out}
 use Rattle.tt_proof.proofs.shared_boards.SharedBoards.take_out.Goals as goal
