@@ -15,7 +15,7 @@ use Rattle.tt_board.specs.Chains.{ChainBoard, IsChainBoard, name_at, root_of, co
 use Rattle.tt_board.proofs.AroundLemmas.{off_if}
 use Rattle.tt_board.proofs.LiftLemmas.{near_back}
 use Rattle.tt_board.proofs.LinkLemmas.{named_bare}
-use Rattle.tt_board.proofs.LookLemmas.{code_colour, put_quiet}
+use Rattle.tt_board.proofs.LookLemmas.{code_colour, put_no_capture}
 
 -- a stone of a colour is one
 stone_there : (e : Option Colour) (k : Colour) → is_stone_of e k ≡ true → e ≢ None
@@ -61,10 +61,10 @@ module _ (b : ChainBoard) (k : Colour) (is : IsChainBoard b) (given points near 
     last_on q past lt = off_if (bit_in last q) (λ on. let at = (stones_on q lt ((last_is q lt).0 on).0).0 in omega (arith, at, past))
 
     -- a point beside one that is kept, and beside none of these stones: the play is quiet
-    pub quiet_here : (around both made : List ℕ) → ((p : ℕ) → p < point_count b.size → (bit_in around p ≡ true) ↔ IsBesideSome b.size last p)
+    pub no_capture_here : (around both made : List ℕ) → ((p : ℕ) → p < point_count b.size → (bit_in around p ≡ true) ↔ IsBesideSome b.size last p)
         → ((q : ℕ) → q < BITS → bit_in both q ≡ (bit_in points q && bit_in near q)) → ((q : ℕ) → q < BITS → bit_in made q ≡ (bit_in both q && not (bit_in around q)))
         → (p : ℕ) → p < BITS → bit_in made p ≡ true → (bit_in given p ≡ true) × (play_of b.size b.points k p ≡ set b.points p (Some k))
-    quiet_here around both made around_is both_is made_is p lt on =
+    no_capture_here around both made around_is both_is made_is p lt on =
         let h = and_parts (bit_in both p) (not (bit_in around p)) (sym (made_is p lt) ∙ on) in
         let g = and_parts (bit_in points p) (bit_in near p) (sym (both_is p lt) ∙ h.0) in
         let at = bare p lt g.0 in
@@ -79,7 +79,7 @@ module _ (b : ChainBoard) (k : Colour) (is : IsChainBoard b) (given points near 
         let among = stones_is t.0 (small t.0 t.1) ∙ and_from _ _ beside stone in
         let weak = (last_is t.0 (small t.0 t.1)).1 (among, ap (λ x. name_at b.liberties (root_of x)) t.2.1 ∙ one) in
         true≢false (sym ((around_is p at.0).1 (t.0, t.2.0, weak)) ∙ not-true _ h.1) in
-        (at.1, put_quiet b k p is at.0 at.2 strong 0 touch (inl refl))
+        (at.1, put_no_capture b k p is at.0 at.2 strong 0 touch (inl refl))
 
 -- one of the stones looked at and put where it passes, and the way to the next one
 module _ (stones found made : List ℕ) (Passes : ℕ → Type 0) (q next : ℕ) (after : q + 1 ≤ next) (stone : bit_in stones q ≡ true)

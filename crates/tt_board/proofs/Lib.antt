@@ -19,7 +19,7 @@ pub mod OverLemmas
 pub mod PlacedLemmas
 pub mod PlaneLemmas
 pub mod PlayLemmas
-pub mod QuietLemmas
+pub mod PlayKindLemmas
 pub mod StartLemmas
 pub mod Sent
 pub mod StoneLemmas

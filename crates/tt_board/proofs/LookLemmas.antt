@@ -12,7 +12,7 @@ use Rattle.tt_board.specs.declared.Colour.{Colour}
 use Rattle.tt_board.specs.declared.Colour.TheVariants.{Black, White}
 use Rattle.tt_sgf.specs.declared.size.Size.{Size}
 use Rattle.tt_sgf.specs.Sizes.{point_count}
-use Rattle.tt_board.specs.declared.quiet.Names.{Names}
+use Rattle.tt_board.specs.declared.play_kind.Names.{Names}
 use Rattle.tt_board.specs.Near.{IsNeighbour}
 use Rattle.tt_board.specs.Position.{Colouring}
 use Rattle.tt_board.specs.Reach.{entry_at, Reaches}
@@ -25,7 +25,7 @@ use Rattle.tt_board.proofs.CountLemmas.{count_some, another_counted, two_counted
 use Rattle.tt_board.proofs.LinkLemmas.{linked_kept, reaches_linked, named_bare, bare_named, named_stone, stone_named, one_name}
 use Rattle.tt_board.proofs.LiftLemmas.{near_back, lifted_none, play_is}
 use Rattle.tt_board.proofs.PlayLemmas.{other_differs}
-use Rattle.tt_board.proofs.QuietLemmas.{coded}
+use Rattle.tt_board.proofs.PlayKindLemmas.{coded}
 
 -- whole chains of colour k that no empty point is beside are lifted
 pub lifted_set : (s : Size) (c d : Colouring) (k : Colour) (In : ℕ → Type 0) → length d ≡ point_count s
@@ -189,8 +189,8 @@ module _ (b : ChainBoard) (k : Colour) (p : ℕ) (is : IsChainBoard b) (in_p : p
             (more_liberties n t.0 t (λ e. h.1 (counted_at n t.0 some t.2.1 ∙ e)) some t.2.1)
       ]
 
-      pub put_quiet : play_of b.size b.points k p ≡ set b.points p (Some k)
-      put_quiet =
+      pub put_no_capture : play_of b.size b.points k p ≡ set b.points p (Some k)
+      put_no_capture =
           let fits = length-set b.points p (Some k) ∙ is.fits in
           sym (play_is b.size b.points k p is.fits in_p is.alive free (set b.points p (Some k)) (set b.points p (Some k))
           (lifted_none b.size (set b.points p (Some k)) (other k) fits) (λ q near' theirs. inl (theirs_reach q near' theirs))
@@ -278,8 +278,8 @@ module _ (b : ChainBoard) (k : Colour) (p : ℕ) (is : IsChainBoard b) (in_p : p
     here_taken = taken_kept p (λ has. (weak_is _ has).0 bare_p) ∙ here
 
     -- where the stone reaches empty then, the play takes these chains and no more
-    pub quiet : Reaches b.size taken p None → taken ≡ play_of b.size b.points k p
-    quiet own = play_is b.size b.points k p is.fits in_p is.alive free taken taken first looked (lifted_none b.size taken k first.fits) (λ _. inl own)
+    pub no_capture : Reaches b.size taken p None → taken ≡ play_of b.size b.points k p
+    no_capture own = play_is b.size b.points k p is.fits in_p is.alive free taken taken first looked (lifted_none b.size taken k first.fits) (λ _. inl own)
 
     -- a captured stone beside it is such an empty point
     pub own_by_capture : (i : ℕ) → i < length weak → Reaches b.size taken p None
@@ -309,8 +309,8 @@ module _ (b : ChainBoard) (k : Colour) (p : ℕ) (is : IsChainBoard b) (in_p : p
         (reaches_on b.size (set b.points p (Some k)) None p r h.2.2.0 (off r apart ∙ mine ∙ sym here) reach)
 
     -- what the play leaves, told by the names
-    pub quiet_goes : taken ≡ play_of b.size b.points k p → (q : ℕ) → entry_at b.points q ≢ None → (entry_at (play_of b.size b.points k p) q ≡ None) ↔ Contains weak (name_at b.names q)
-    quiet_goes same q stone = (
+    pub no_capture_goes : taken ≡ play_of b.size b.points k p → (q : ℕ) → entry_at b.points q ≢ None → (entry_at (play_of b.size b.points k p) q ≡ None) ↔ Contains weak (name_at b.names q)
+    no_capture_goes same q stone = (
       λ bare. elim (in_list weak (name_at b.names q)) [
         | inl has ↦ has
         | inr none ↦ absurd (stone (sym (off q (elsewhere q stone)) ∙ sym (taken_kept q none) ∙ ap (λ xs. entry_at xs q) same ∙ bare))
@@ -319,8 +319,8 @@ module _ (b : ChainBoard) (k : Colour) (p : ℕ) (is : IsChainBoard b) (in_p : p
     )
 
     -- and the stone stays
-    pub quiet_stays : taken ≡ play_of b.size b.points k p → entry_at (play_of b.size b.points k p) p ≢ None
-    quiet_stays same bare = none-some k (sym bare ∙ ap (λ xs. entry_at xs p) (sym same) ∙ here_taken)
+    pub no_capture_stays : taken ≡ play_of b.size b.points k p → entry_at (play_of b.size b.points k p) p ≢ None
+    no_capture_stays same bare = none-some k (sym bare ∙ ap (λ xs. entry_at xs p) (sym same) ∙ here_taken)
 
     -- a chain that goes is living
     pub weak_living : (m : ℕ) → Contains weak m → (m ≢ 0) × (name_at b.names (root_of m) ≡ m)
@@ -329,12 +329,12 @@ module _ (b : ChainBoard) (k : Colour) (p : ℕ) (is : IsChainBoard b) (in_p : p
         (w.0, subst (λ x. name_at b.names (root_of x) ≡ x) w.1.2.1 (is.counted.rooted w.1.0 (λ z. w.0 (sym w.1.2.1 ∙ z))))
 
     -- so the names tell what the play does
-    pub quiet_look : IsEachOnce weak → Reaches b.size taken p None → IsLook b k p weak false
-    quiet_look once own =
-        let same = quiet own in
+    pub no_capture_look : IsEachOnce weak → Reaches b.size taken p None → IsLook b k p weak false
+    no_capture_look once own =
+        let same = no_capture own in
         record {
-          goes = quiet_goes same;
-          suicide = (λ h. absurd (false≢true h), λ bare. absurd (quiet_stays same bare));
+          goes = no_capture_goes same;
+          suicide = (λ h. absurd (false≢true h), λ bare. absurd (no_capture_stays same bare));
           once = once;
           living = weak_living;
         }

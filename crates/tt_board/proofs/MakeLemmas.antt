@@ -55,8 +55,8 @@ module _ (s : Size) (c d : Colouring) (k : Colour) (p : ℕ) (ns goes : List ℕ
       ]
 
   -- the stone put, where it stays, makes the play
-  pub made_quiet : entry_at (play_of s c k p) p ≢ None → set d p (Some k) ≡ play_of s c k p
-  made_quiet stays = ext_get_or None (set d p (Some k)) (play_of s c k p) (length-set d p (Some k) ∙ d_fits ∙ fits ∙ sym (length-play s c k p)) (λ q below. elim (cases_eq q p) [
+  pub made_no_capture : entry_at (play_of s c k p) p ≢ None → set d p (Some k) ≡ play_of s c k p
+  made_no_capture stays = ext_get_or None (set d p (Some k)) (play_of s c k p) (length-set d p (Some k) ∙ d_fits ∙ fits ∙ sym (length-play s c k p)) (λ q below. elim (cases_eq q p) [
     | inl same ↦
         ap (entry_at (set d p (Some k))) same ∙ get_or-set_same d p (Some k) None (subst (λ n. p < n) (sym (d_fits ∙ fits)) in_p)
         ∙ sym (get_or-set_same c p (Some k) None (subst (λ n. p < n) (sym fits) in_p))

@@ -7,7 +7,7 @@ pub mod Fill
 pub mod ReachLaws
 pub mod Decided
 pub mod Play
-pub mod Glance
+pub mod PlayKind
 pub mod Stones
 pub mod Laws
 -- What private contracts and proofs cite. Nobody has to believe these.

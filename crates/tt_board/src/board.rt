@@ -148,7 +148,7 @@ impl Board {
     pub fn put_stone(&mut self, colour: Colour, p: Point)
         requires on_board { p < point_count self.old.size }
         requires free { entry_at self.old.points p ≡ None }
-        requires quiet { play_of self.old.size self.old.points colour p ≡ slice_set self.old.points p (Some colour) }
+        requires no_capture { play_of self.old.size self.old.points colour p ≡ slice_set self.old.points p (Some colour) }
         ensures { self.new ≡ record { size = self.old.size; points = play_of self.old.size self.old.points colour p } }
     {
         self.points.set(usize::from(p.number()), Some(colour));

@@ -9,7 +9,7 @@ ghost use Rattle.tt_board.specs.Chain.{IsEnclosed, IsGrowing, GrewByNeighbours, 
 
 use super::Colour;
 use super::colouring::Colouring;
-use super::near::{Places, beside};
+use super::near::{Neighbours, beside};
 use arrayvec::ArrayVec;
 use tt_sgf::{Bits, Size};
 
@@ -87,7 +87,7 @@ fn is_empty_at(points: &Colouring, place: Option<usize>) -> bool
 }
 
 /// Whether one of the places is empty.
-pub(crate) fn has_empty(points: &Colouring, near: Places) -> bool
+pub(crate) fn has_empty(points: &Colouring, near: Neighbours) -> bool
     requires { (q : ℕ) → IsOneOf near.above near.left near.right near.below q → q < length points.now }
     ensures { IsTrue result → (q : ℕ) × IsOneOf near.above near.left near.right near.below q × (entry_at points.now q ≡ None) }
 {

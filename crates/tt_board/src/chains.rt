@@ -8,7 +8,7 @@ ghost use Rattle.tt_sgf.specs.Sizes.{point_count};
 ghost use Rattle.tt_sgf.specs.Words.{bit_in};
 ghost use Rattle.tt_board.specs.Reach.{entry_at};
 ghost use Rattle.tt_board.specs.Play.{IsAlive, play_of};
-ghost use Rattle.tt_board.specs.Glance.{IsTold};
+ghost use Rattle.tt_board.specs.PlayKind.{IsKind};
 ghost use Rattle.tt_board.specs.Chains.{name_at, root_of, colour_number, renamed, IsEachOnce, IsOneName, IsCountOf, IsLibertyOf, AreLinked, AreNear, HasLost};
 
 use super::Colour;
@@ -18,7 +18,7 @@ use super::colouring::Colouring;
 use super::joins::{join_beside, start};
 use super::looks::{Look, last_ones};
 use super::names::{root_of, take_over};
-use super::quiet::{Glance, Names, colour_number, names_beside};
+use super::play_kind::{Names, PlayKind, colour_number, names_beside};
 use std::marker::Model;
 use tt_sgf::{BITS, Bits, Size};
 
@@ -215,33 +215,33 @@ impl Chains {
     /// It takes no stone off where the stone has a liberty or joins a chain that has another one, and it is in vain where the opponent's
     /// stones are all that is beside `p`.
     #[inline(always)]
-    pub(crate) fn glance(&self, colour: Colour, p: usize) -> Glance
+    pub(crate) fn play_kind(&self, colour: Colour, p: usize) -> PlayKind
         requires on_board { p < point_count self.now.size }
         requires free { entry_at self.now.points p ≡ None }
         ensures fits { length self.now.points ≡ point_count self.now.size }
-        ensures told { IsTold result self.now.size self.now.points colour p }
+        ensures kind { IsKind result self.now.size self.now.points colour p }
     {
         let near = names_beside(self.size, &self.counts.names, p);
-        self.told(colour, &near)
+        self.kind(colour, &near)
     }
 
     /// What the names beside an empty point tell of a play of `colour` there.
     #[inline(always)]
-    fn told(&self, colour: Colour, near: &Names) -> Glance
+    fn kind(&self, colour: Colour, near: &Names) -> PlayKind
         requires { (m : ℕ) → IsOneName near.now.above near.now.left near.now.right near.now.below m → root_of m < MOST_POINTS }
         ensures { (p : ℕ) → p < point_count self.now.size → entry_at self.now.points p ≡ None → AreNear self.now.size self.now.names p near.now
-            → IsTold result self.now.size self.now.points colour p }
+            → IsKind result self.now.size self.now.points colour p }
     {
         if near.has_last(&self.counts.liberties, colour_number(colour.other())) {
-            return Glance::Unclear;
+            return PlayKind::NeedsBoard;
         }
         if near.has_open(&self.counts.liberties, colour_number(colour)) {
-            return Glance::Quiet;
+            return PlayKind::NoCapture;
         }
         if near.has_own(colour_number(colour)) {
-            return Glance::Unclear;
+            return PlayKind::NeedsBoard;
         }
-        Glance::Vain
+        PlayKind::SingleStoneSuicide
     }
 
     /// Those of these stones whose chain has one liberty.
@@ -262,10 +262,10 @@ impl Chains {
 
     /// Some of these empty points on which a play of `colour` puts a stone and takes none off: those beside another of them, and
     /// beside no stone of the opponent's whose chain has one liberty.
-    pub(crate) fn quiet_among(&self, colour: Colour, points: &Bits) -> Bits
+    pub(crate) fn no_capture_among(&self, colour: Colour, points: &Bits) -> Bits
         requires { (q : ℕ) → q < point_count self.now.size → bit_in points.now.words q ≡ true → entry_at self.now.points q ≡ None }
         ensures fits { length self.now.points ≡ point_count self.now.size }
-        ensures quiet { (p : ℕ) → p < BITS → bit_in result.words p ≡ true → (bit_in points.now.words p ≡ true)
+        ensures no_capture { (p : ℕ) → p < BITS → bit_in result.words p ≡ true → (bit_in points.now.words p ≡ true)
             × (play_of self.now.size self.now.points colour p ≡ slice_set self.now.points p (Some colour)) }
     {
         let first = first_column(self.size);
@@ -334,9 +334,9 @@ impl Chains {
         ensures points { self.new.points ≡ play_of self.old.size self.old.points colour p }
     {
         let near = names_beside(self.size, &self.counts.names, p);
-        match self.told(colour, &near) {
-            Glance::Quiet => self.put(colour, p, &near),
-            Glance::Vain | Glance::Unclear => self.make_taking(colour, p),
+        match self.kind(colour, &near) {
+            PlayKind::NoCapture => self.put(colour, p, &near),
+            PlayKind::SingleStoneSuicide | PlayKind::NeedsBoard => self.make_taking(colour, p),
         }
     }
 
@@ -368,20 +368,20 @@ impl Chains {
     }
 
     /// The colouring after a play of `colour` on the empty point `p`, of which this is told; no chain is changed for it.
-    pub(crate) fn points_after(&self, colour: Colour, p: usize, told: Glance) -> Colouring
+    pub(crate) fn points_after(&self, colour: Colour, p: usize, kind: PlayKind) -> Colouring
         requires on_board { p < point_count self.now.size }
         requires free { entry_at self.now.points p ≡ None }
-        requires told { IsTold told self.now.size self.now.points colour p }
+        requires kind { IsKind kind self.now.size self.now.points colour p }
         ensures { result ≡ play_of self.now.size self.now.points colour p }
     {
-        match told {
-            Glance::Quiet => {
+        match kind {
+            PlayKind::NoCapture => {
                 let mut points = self.points.copy();
                 points.set(p, Some(colour));
                 points
             }
-            Glance::Vain => self.points.copy(),
-            Glance::Unclear => self.points_after_taking(colour, p),
+            PlayKind::SingleStoneSuicide => self.points.copy(),
+            PlayKind::NeedsBoard => self.points_after_taking(colour, p),
         }
     }
 

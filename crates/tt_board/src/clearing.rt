@@ -12,7 +12,7 @@ ghost use Rattle.tt_board.specs.Chain.{IsLifted};
 use super::Colour;
 use super::chain::{has_empty, has_liberty, lift_lifeless};
 use super::colouring::Colouring;
-use super::near::{Places, beside};
+use super::near::{Neighbours, beside};
 use tt_sgf::Size;
 
 /// Lifts the chain of `colour` on a place, found on `points`, from `after`, where it has no liberty.
@@ -42,7 +42,7 @@ fn capture_beside(
     size: Size,
     points: &Colouring,
     colour: Colour,
-    near: Places,
+    near: Neighbours,
     after: &mut Colouring,
 )
     requires fits { length points.now ≡ point_count size }

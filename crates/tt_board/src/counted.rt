@@ -4,7 +4,7 @@
 
 ghost use Rattle.tt_board.specs.Reach.{entry_at};
 ghost use Rattle.tt_board.specs.Play.{play_of};
-ghost use Rattle.tt_board.specs.Glance.{IsTold};
+ghost use Rattle.tt_board.specs.PlayKind.{IsKind};
 ghost use Rattle.tt_sgf.specs.declared.bits.TheConstants.{BITS};
 ghost use Rattle.tt_sgf.specs.Sizes.{point_count};
 ghost use Rattle.tt_sgf.specs.Words.{bit_in};
@@ -13,7 +13,7 @@ ghost use Rattle.std.specs.Prelude.{◌≡◌, ℕ, ◌<◌, length, slice_set, 
 use super::Colour;
 use super::board::Board;
 use super::chains::Chains;
-use super::quiet::Glance;
+use super::play_kind::PlayKind;
 use std::marker::Model;
 use tt_sgf::{BITS, Bits, Point, Size};
 
@@ -73,23 +73,23 @@ impl CountedBoard {
 
     /// What is told of a play of `colour` on `p`, an empty point, by the points beside it.
     #[inline(always)]
-    pub fn glance(&self, colour: Colour, p: Point) -> Glance
+    pub fn play_kind(&self, colour: Colour, p: Point) -> PlayKind
         requires on_board { p < point_count self.now.size }
         requires free { entry_at self.now.points p ≡ None }
         ensures fits { length self.now.points ≡ point_count self.now.size }
-        ensures told { IsTold result self.now.size self.now.points colour p }
+        ensures kind { IsKind result self.now.size self.now.points colour p }
     {
-        self.chains.glance(colour, usize::from(p.number()))
+        self.chains.play_kind(colour, usize::from(p.number()))
     }
 
     /// Some of these empty points on which a play of `colour` puts a stone and takes none off, by what is beside them.
-    pub fn quiet_among(&self, colour: Colour, points: &Bits) -> Bits
+    pub fn no_capture_among(&self, colour: Colour, points: &Bits) -> Bits
         requires { (q : ℕ) → q < point_count self.now.size → bit_in points.now.words q ≡ true → entry_at self.now.points q ≡ None }
         ensures fits { length self.now.points ≡ point_count self.now.size }
-        ensures quiet { (p : ℕ) → p < BITS → bit_in result.words p ≡ true → (bit_in points.now.words p ≡ true)
+        ensures no_capture { (p : ℕ) → p < BITS → bit_in result.words p ≡ true → (bit_in points.now.words p ≡ true)
             × (play_of self.now.size self.now.points colour p ≡ slice_set self.now.points p (Some colour)) }
     {
-        self.chains.quiet_among(colour, points)
+        self.chains.no_capture_among(colour, points)
     }
 
     /// The board after a play of `colour` on `p`, an empty point: the stone is put, then the other colour is cleared, then
@@ -99,19 +99,19 @@ impl CountedBoard {
         requires free { entry_at self.now.points p ≡ None }
         ensures { result ≡ record { size = self.now.size; points = play_of self.now.size self.now.points colour p } }
     {
-        self.after_told(colour, p, self.glance(colour, p))
+        self.after_of_kind(colour, p, self.play_kind(colour, p))
     }
 
     /// The board after a play of `colour` on `p`, an empty point, of which this is told by the points beside it. This one stays as it is.
-    pub fn after_told(&self, colour: Colour, p: Point, told: Glance) -> Board
+    pub fn after_of_kind(&self, colour: Colour, p: Point, kind: PlayKind) -> Board
         requires on_board { p < point_count self.now.size }
         requires free { entry_at self.now.points p ≡ None }
-        requires told { IsTold told self.now.size self.now.points colour p }
+        requires kind { IsKind kind self.now.size self.now.points colour p }
         ensures { result ≡ record { size = self.now.size; points = play_of self.now.size self.now.points colour p } }
     {
         let points = self
             .chains
-            .points_after(colour, usize::from(p.number()), told);
+            .points_after(colour, usize::from(p.number()), kind);
         Board::showing(self.chains.size(), points)
     }
 

@@ -28,9 +28,9 @@ const PLACES: u16 = 512;
 
 /// An edit in two bytes: its kind so many times `PLACES`, and its point. Contracts see the edit.
 #[derive(Drop)]
-struct Step(u16);
+struct EditWord(u16);
 
-impl Model for Step {
+impl Model for EditWord {
     ghost use Rattle.std.specs.Prelude.{◌/◌, ◌%◌};
     ghost use Rattle.tt_board.specs.declared.differences.Edit.{Edit};
     ghost use Rattle.tt_board.specs.declared.differences.TheConstants.{PLACES};
@@ -41,14 +41,14 @@ impl Model for Step {
     ghost view = { λ s. edit_at (s.0 / PLACES) (s.0 % PLACES) };
 }
 
-impl Step {
+impl EditWord {
     /// The step of this kind at a point.
-    fn new(kind: u16, p: u16) -> Step
+    fn new(kind: u16, p: u16) -> EditWord
         requires kind { kind < 4 }
         requires point { p < PLACES }
         ensures { result ≡ edit_at kind p }
     {
-        Step(kind * PLACES + p)
+        EditWord(kind * PLACES + p)
     }
 
     /// The edit that it stands for.
@@ -70,7 +70,7 @@ impl Step {
 /// edits; `colourings_from` a base says which colourings they are.
 #[derive(Drop)]
 pub(crate) struct Differences {
-    edits: Vec<Step>,
+    edits: Vec<EditWord>,
 }
 
 impl Model for Differences {
@@ -83,14 +83,14 @@ impl Model for Differences {
 }
 
 /// The edit that puts an entry on a point.
-fn edit_of(p: u16, entry: Option<Colour>) -> Step
+fn edit_of(p: u16, entry: Option<Colour>) -> EditWord
     requires { p < PLACES }
     ensures { result ≡ edit_of p entry }
 {
     match entry {
-        Some(Colour::Black) => Step::new(0, p),
-        Some(Colour::White) => Step::new(1, p),
-        None => Step::new(2, p),
+        Some(Colour::Black) => EditWord::new(0, p),
+        Some(Colour::White) => EditWord::new(1, p),
+        None => EditWord::new(2, p),
     }
 }
 
@@ -113,7 +113,7 @@ fn edit_points(points: &mut Colouring, edit: Edit)
 /// Adds the edits of the points from one on that a word stands for: one for each point whose bit is 1. Where memory is refused,
 /// some of them may stand behind those of before.
 fn push_word(
-    edits: &mut Vec<Step>,
+    edits: &mut Vec<EditWord>,
     there: &Colouring,
     from: usize,
     word: u64,
@@ -141,7 +141,11 @@ fn push_word(
 
 /// Adds the edits that lead from a colouring to another one of as many points: it goes by the words of both, since most of them
 /// are the same. Where memory is refused, some of the edits may stand behind those of before.
-fn push_edits(edits: &mut Vec<Step>, here: &Colouring, there: &Colouring) -> Result<(), AllocError>
+fn push_edits(
+    edits: &mut Vec<EditWord>,
+    here: &Colouring,
+    there: &Colouring,
+) -> Result<(), AllocError>
     requires { length here.now ≡ length there.now }
     ensures ok { OnOk result (IsLed edits.old.items edits.new.items here.now there.now) }
     ensures kept { take (length edits.old.items) edits.new.items ≡ edits.old.items }
@@ -151,7 +155,7 @@ fn push_edits(edits: &mut Vec<Step>, here: &Colouring, there: &Colouring) -> Res
     for k in 0..used {
         push_word(edits, there, 64 * k, words[k])?;
     }
-    edits.push(Step::new(3, 0))?;
+    edits.push(EditWord::new(3, 0))?;
     Ok(())
 }
 

@@ -3,14 +3,14 @@
 ghost use Rattle.std.specs.Prelude.{◌≡◌, ◌≢◌, ℕ, ◌+◌, ◌/◌, ◌<◌, ◌≤◌, ◌⊎◌, length, map, slice_set};
 ghost use Rattle.tt_sgf.specs.declared.size.TheConstants.{MOST_POINTS};
 ghost use Rattle.tt_sgf.specs.Sizes.{point_count};
-ghost use Rattle.tt_board.specs.declared.quiet.TheConstants.{NOWHERE};
+ghost use Rattle.tt_board.specs.declared.play_kind.TheConstants.{NOWHERE};
 ghost use Rattle.tt_board.specs.Position.{Colouring};
 ghost use Rattle.tt_board.specs.Reach.{entry_at};
 ghost use Rattle.tt_board.specs.Chains.{name_at, root_of, renamed, liberty_count, AreCounted, AreNames, AreNamesBut, AreNear, AreGathered, Touches, IsOneName, IsNewName};
 ghost use Rattle.tt_board.specs.Chains.{IsChainOf, AreBoardCounts, AreTwoChains};
 
 use super::names::{new_liberties, root_of};
-use super::quiet::{NOWHERE, Names};
+use super::play_kind::{NOWHERE, Names};
 use tt_sgf::Size;
 
 /// Takes a liberty from the chain of this name, if it is one and not one of three others.

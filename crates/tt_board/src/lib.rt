@@ -24,7 +24,7 @@ pub mod laws;
 mod looks;
 mod names;
 mod near;
-mod quiet;
+mod play_kind;
 mod setup;
 mod stones;
 mod trail;
@@ -32,7 +32,7 @@ mod trail;
 pub use board::{Board, Lifeless, Occupied};
 pub use boards::Boards;
 pub use counted::CountedBoard;
-pub use quiet::Glance;
+pub use play_kind::PlayKind;
 pub use trail::Trail;
 
 /// The colour of a stone, and of the player who puts it.

@@ -4,7 +4,7 @@ ghost use Rattle.std.specs.Prelude.{◌≡◌, ℕ, ◌+◌, ◌/◌, ◌<◌, �
 ghost use Rattle.tt_board.specs.Chains.{name_at, root_of, IsEachOnce, IsOneName};
 
 use super::names::is_fresh;
-use super::quiet::{Names, is_last};
+use super::play_kind::{Names, is_last};
 use arrayvec::ArrayVec;
 
 /// What a play does: the names of the chains that go, one's own in a suicide and else the opponent's, and whether it is suicide.

@@ -94,7 +94,7 @@ pub(crate) fn new_liberties(size: Size, names: &[u16], name: u16, p: usize) -> u
 #[inline]
 pub(crate) fn is_fresh(found: &ArrayVec<u16, 4>, name: u16) -> bool
     ensures fresh { IsTrue result → Contains found.now.items name → ⊥ }
-    ensures known { result ≡ false → Contains found.now.items name }
+    ensures contained { result ≡ false → Contains found.now.items name }
 {
     found.is_empty() || !found.as_slice().contains(&name)
 }

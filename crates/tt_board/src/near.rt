@@ -9,7 +9,7 @@ use tt_sgf::Size;
 
 /// The four places beside a point, each where the board has it.
 #[derive(Clone, Copy)]
-pub(crate) struct Places {
+pub(crate) struct Neighbours {
     pub(crate) above: Option<usize>,
     pub(crate) left: Option<usize>,
     pub(crate) right: Option<usize>,
@@ -34,7 +34,7 @@ fn after(there: bool, p: usize, distance: usize) -> Option<usize>
 
 /// The neighbours of `p` by their places, for those who look at each once and may stop early.
 #[inline]
-pub(crate) fn beside(size: Size, p: usize) -> Places
+pub(crate) fn beside(size: Size, p: usize) -> Neighbours
     requires { p < point_count size }
     ensures all { (q : ℕ) → IsOneOf result.above result.left result.right result.below q ↔ IsNeighbour size p q }
     ensures once { IsEachOnce (places_there result.above result.left result.right result.below) }
@@ -42,7 +42,7 @@ pub(crate) fn beside(size: Size, p: usize) -> Places
     let count = size.point_count();
     let columns = usize::from(size.columns());
     let column = p % columns;
-    Places {
+    Neighbours {
         above: before(columns <= p, p, columns),
         left: before(0 < column, p, 1),
         right: after(column + 1 < columns, p, 1),

@@ -12,7 +12,7 @@ pub mod OpenProblems
 pub mod SizedProblems
 pub mod RecordLaws
 pub mod RootLemmas
-pub mod PlayedLemmas
-pub mod SurveyLemmas
+pub mod BoardStackLemmas
+pub mod MoveGeneratorLemmas
 pub mod SumLemmas
 pub mod Sent

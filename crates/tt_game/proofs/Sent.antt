@@ -9,8 +9,8 @@ use Rattle.tt_board.proofs.Sent.{board_send, board_sync, counted_send, counted_s
 use Rattle.tt_game.specs.contracts.frame.Side as Side
 use Rattle.tt_game.specs.contracts.history.History as History
 use Rattle.tt_game.specs.contracts.line.Line as Line
-use Rattle.tt_game.specs.contracts.past.Past as Past
-use Rattle.tt_game.specs.contracts.played.Played as Played
+use Rattle.tt_game.specs.contracts.snapshot.Snapshot as Snapshot
+use Rattle.tt_game.specs.contracts.board_stack.GameState as GameState
 use Rattle.tt_game.specs.contracts.root.Root as Root
 
 pub side_send : IsSend Side.the_row
@@ -37,14 +37,14 @@ history_send = search (sendable, crosses) depth 40
 first_send : IsSend (Arc.the_row CountedBoard.the_row Global.the_row ghosts)
 first_send = search (sendable, crosses, counted_send, counted_sync) depth 40
 
-played_send : IsSend Played.the_row
+played_send : IsSend GameState.the_row
 played_send = search (sendable, crosses, first_send) depth 40
 
 pub line_send : IsSend Line.the_row
 line_send = search (sendable, crosses, history_send, rooted_send, played_send) depth 40 fits 10000
 
-pub past_send : IsSend Past.the_row
+pub past_send : IsSend Snapshot.the_row
 past_send = search (sendable, crosses, root_send, root_sync, board_send, board_sync) depth 40
 
-pub past_sync : IsSync Past.the_row
+pub past_sync : IsSync Snapshot.the_row
 past_sync = search (sendable, crosses, root_send, root_sync, board_send, board_sync) depth 40

@@ -18,7 +18,7 @@ use Rattle.tt_game.specs.declared.faults.Why.{Why}
 use Rattle.tt_game.specs.declared.records.Replay.{Replay}
 use Rattle.tt_game.specs.declared.turns.Turn.{Turn}
 use Rattle.tt_game.specs.declared.turns.Turn.TheVariants.{Play, Pass}
-use Rattle.tt_game.specs.Games.{Played, all_of, begun_with, empty_game, made_by, refusal_of, turned}
+use Rattle.tt_game.specs.Games.{GameState, all_of, begun_with, empty_game, made_by, refusal_of, turned}
 use Rattle.tt_game.specs.Laws.{IsState, ProblemsAreStates}
 use Rattle.tt_game.specs.Line.{Standing}
 use Rattle.tt_game.specs.Nodes.{AB, AE, AW, B, GM, PL, SZ, TR, W, apart, colour_named, has, is_go, is_setup, moves_in, set_named, size_named, values_of}
@@ -27,7 +27,7 @@ use Rattle.tt_game.specs.Records.{all_alive, as_turn, begin_at, begin_line, begi
 use Rattle.tt_game.proofs.OpenProblems.{either, step_made}
 
 -- each colouring of the game has an entry for each point
-abbrev IsSized : Played → Type 0
+abbrev IsSized : GameState → Type 0
 IsSized g = All (λ c. length c ≡ point_count g.size) (all_of g)
 
 -- a history of one colouring
@@ -35,7 +35,7 @@ alone : (size : Size) (c : Colouring) → length c ≡ point_count size → All 
 alone size c fits = All-push (λ d. length d ≡ point_count size) [] c (All-nil (λ d. length d ≡ point_count size)) fits
 
 -- a turn keeps an entry for each point
-sized_turned : (g : Played) (t : Turn) → IsSized g → IsSized (turned g t)
+sized_turned : (g : GameState) (t : Turn) → IsSized g → IsSized (turned g t)
 sized_turned g Pass h = h
 sized_turned g (Play p) h = All-push (λ c. length c ≡ point_count g.size) (all_of g) (made_by g p) h (length-play_of g.size g.present g.to_move p)
 
@@ -135,13 +135,13 @@ abbrev IsStanding : Standing → Type 0
 IsStanding p = IsState p.frame p.state
 
 -- a problem posed in a game that fits its board has such a state
-state_with : (s : Played) (region targets : Points) (o : Option Colour) (q : Standing) → problem_with s region targets o ≡ Ok q → IsSized s → IsStanding q
+state_with : (s : GameState) (region targets : Points) (o : Option Colour) (q : Standing) → problem_with s region targets o ≡ Ok q → IsSized s → IsStanding q
 state_with s region targets None q e h = let bad : Err _ ≡ Ok q = e in cc
 state_with s region targets (Some k) q e h =
     let same : posed s region targets k ≡ q = cc in
     subst IsStanding same (record { sized = h; passes = omega arith })
 
-state_on : (s : Played) (region targets : Points) (q : Standing) → problem_on s region targets ≡ Ok q → IsSized s → IsStanding q
+state_on : (s : GameState) (region targets : Points) (q : Standing) → problem_on s region targets ≡ Ok q → IsSized s → IsStanding q
 state_on s region targets q e h = elim (either (nat_eq (set.len targets) 0) _ _ _ e) [
   | inl none ↦ let bad : Err _ ≡ Ok q = none in cc
   | inr some ↦ elim (either (any_empty targets s.present) _ _ _ some) [
@@ -150,7 +150,7 @@ state_on s region targets q e h = elim (either (nat_eq (set.len targets) 0) _ _ 
   ]
 ]
 
-state_at : (s : Played) (targets region : Option Points) (q : Standing) → problem_at s targets region ≡ Ok q → IsSized s → IsStanding q
+state_at : (s : GameState) (targets region : Option Points) (q : Standing) → problem_at s targets region ≡ Ok q → IsSized s → IsStanding q
 state_at s None region q e h = let bad : Err _ ≡ Ok q = e in cc
 state_at s (Some targets) None q e h = let bad : Err _ ≡ Ok q = e in cc
 state_at s (Some targets) (Some region) q e h = state_on s region targets q e h

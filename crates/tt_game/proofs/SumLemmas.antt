@@ -1,4 +1,4 @@
--- What words make where a stone comes: the print of a colouring with one stone more is made without it.
+-- What words make where a stone comes: the hash of a colouring with one stone more is made without it.
 use Rattle.std.proofs.Common.{◌≡◌, ◌≢◌, ℕ, zero, suc, ◌+◌, ◌*◌, ◌-◌, ◌/◌, ◌%◌, ◌^◌, ◌<◌, ◌≤◌, List, [], ◌∷◌, length, map, take, drop, get_or, set, replicate}
 use Rattle.std.proofs.Common.{Some, None, Bool, true, false, refl, sym, ap, ◌∙◌, inl, inr, arith, length-append, pow-suc, pow-add}
 use Rattle.std.specs.List.{range_with_len}
@@ -18,10 +18,10 @@ use Rattle.tt_board.specs.Play.{is_stone_of}
 use Rattle.tt_sgf.specs.declared.size.Size.{Size}
 use Rattle.tt_sgf.specs.Sizes.{point_count}
 use Rattle.tt_sgf.specs.SizeLaws.{few_points}
-use Rattle.tt_game.specs.declared.seen.TheConstants.{LOW, MIXER, PRINTS, WEIGHTS}
+use Rattle.tt_game.specs.declared.bloom_filter.TheConstants.{LOW, MIXER, FILTER_BITS, WEIGHTS}
 use Rattle.tt_game.specs.Keys.{marks_of, binary, words_of, packed}
 use Rattle.tt_game.specs.Mixing.{mix, mix_board}
-use Rattle.tt_game.specs.Seen.{print_of}
+use Rattle.tt_game.specs.BloomFilter.{hash_of}
 use Rattle.tt_game.proofs.KeyLemmas.{packed_same, length-words_of}
 
 -- ---- what words make
@@ -182,14 +182,14 @@ module _ (g : Size) (c : Colouring) (p : ℕ) (fits : length c ≡ point_count g
       ap (λ n. mix (mix 0 n) (packed g (λ q. is_stone_of (entry_at (set c p (Some White)) q) White))) (other White Black refl)
       ∙ grown_here (mix 0 (packed g (λ q. is_stone_of (entry_at c q) Black))) White refl refl
 
--- the print of a colouring with a stone more, by what the words make without it
-pub print_more : (g : Size) (c : Colouring) (p : ℕ) (k : Colour) (sum w : ℕ) → length c ≡ point_count g → p < point_count g → entry_at c p ≡ None → sum ≡ mix_board g c
-    → w ≡ MIXER ^ (behind k - p / 64) % 2 ^ 64 → (sum + 2 ^ (p % 64) * w % 2 ^ 64) % 2 ^ 64 * MIXER % 2 ^ 64 / LOW % PRINTS ≡ print_of g (set c p (Some k))
-unfolding print_of
-print_more g c p k sum w fits on free is weighs =
+-- the hash of a colouring with a stone more, by what the words make without it
+pub hash_more : (g : Size) (c : Colouring) (p : ℕ) (k : Colour) (sum w : ℕ) → length c ≡ point_count g → p < point_count g → entry_at c p ≡ None → sum ≡ mix_board g c
+    → w ≡ MIXER ^ (behind k - p / 64) % 2 ^ 64 → (sum + 2 ^ (p % 64) * w % 2 ^ 64) % 2 ^ 64 * MIXER % 2 ^ 64 / LOW % FILTER_BITS ≡ hash_of g (set c p (Some k))
+unfolding hash_of
+hash_more g c p k sum w fits on free is weighs =
     let d = 2 ^ (p % 64) in
     let power = MIXER ^ (behind k - p / 64) in
-    ap (λ n. n * MIXER % 2 ^ 64 / LOW % PRINTS) (
+    ap (λ n. n * MIXER % 2 ^ 64 / LOW % FILTER_BITS) (
     ap (λ n. (n + d * w % 2 ^ 64) % 2 ^ 64) is
     ∙ add-mod-mod (mix_board g c) (d * w) (2 ^ 64)
     ∙ ap (λ n. (mix_board g c + d * n) % 2 ^ 64) weighs

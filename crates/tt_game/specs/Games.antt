@@ -18,7 +18,7 @@ use Rattle.tt_game.specs.History.{repeats}
 
 -- a game: its board's size, the colourings before the present one (oldest first), the present one, who moves, and the
 -- passes in a row
-pub record Played : Type 0 where
+pub record GameState : Type 0 where
   pub size : Size
   pub earlier : List Colouring
   pub present : Colouring
@@ -26,44 +26,44 @@ pub record Played : Type 0 where
   pub passes : ℕ
 
 -- the course of a game
-abbrev pub course : Played → Course
+abbrev pub course : GameState → Course
 course s = record { size = s.size; earlier = s.earlier; present = s.present; passes = s.passes }
 
 -- the game of a course at which a colour moves
-abbrev pub game_at : Course → Colour → Played
+abbrev pub game_at : Course → Colour → GameState
 game_at c k = record { size = c.size; earlier = c.earlier; present = c.present; to_move = k; passes = c.passes }
 
 -- every colouring so far, oldest first, the present one last
-abbrev pub all_of : Played → List Colouring
+abbrev pub all_of : GameState → List Colouring
 all_of s = so_far (course s)
 
 -- the colouring that a move on p makes
-abbrev pub made_by : Played → ℕ → Colouring
+abbrev pub made_by : GameState → ℕ → Colouring
 made_by s p = play_of s.size s.present s.to_move p
 
 -- why a move is refused: a stone is there, or the colouring has been
-abbrev pub move_refusal : Played → ℕ → Option Why
+abbrev pub move_refusal : GameState → ℕ → Option Why
 move_refusal s p = cond (is_empty (entry_at s.present p)) (cond (repeats (all_of s) (made_by s p)) (Some Repeats) None) (Some Occupied)
 
 -- why a turn is refused: two passes ended the game, or the move is refused
-abbrev pub refusal_of : Played → Turn → Option Why
+abbrev pub refusal_of : GameState → Turn → Option Why
 refusal_of s Pass = cond (s.passes == 2) (Some Over) None
 refusal_of s (Play p) = cond (s.passes == 2) (Some Over) (move_refusal s p)
 
 -- the game after a turn
-abbrev pub turned : Played → Turn → Played
+abbrev pub turned : GameState → Turn → GameState
 turned s Pass = game_at (with_pass (course s)) (other s.to_move)
 turned s (Play p) = game_at (with_play (course s) (made_by s p)) (other s.to_move)
 
 -- an error of a push
-abbrev pub IsHalted : Played → Turn → Refused → Type 0
+abbrev pub IsHalted : GameState → Turn → Refused → Type 0
 IsHalted s t (Illegal why) = refusal_of s t ≡ Some why
 IsHalted s t NoMemory = refusal_of s t ≡ None
 
 -- a game that begins with this colouring alone
-abbrev pub begun_with : Size → Colouring → Colour → Played
+abbrev pub begun_with : Size → Colouring → Colour → GameState
 begun_with size c k = game_at (first_course size c) k
 
 -- before the first turn: the empty board, and Black moves
-abbrev pub empty_game : Size → Played
+abbrev pub empty_game : Size → GameState
 empty_game size = begun_with size (replicate (point_count size) None) Black

@@ -1,4 +1,4 @@
--- What a key feeds a hasher, and its print. The frame is no part of either: keys of one problem share that.
+-- What a key feeds a hasher, and its hash. The frame is no part of either: keys of one problem share that.
 use Rattle.std.specs.Prelude.{ℕ, ◌+◌, ◌*◌, ◌/◌, ◌%◌, ◌^◌, List, [], ◌∷◌, ◌++◌, take}
 use Rattle.std.specs.Hash as fed
 use Rattle.std.specs.List.{flat_map}
@@ -7,7 +7,7 @@ use Rattle.tt_sgf.specs.Sizes.{point_count}
 use Rattle.tt_game.specs.declared.frame.Side.{Side}
 use Rattle.tt_game.specs.declared.frame.Side.TheVariants.{Attacker, Defender}
 use Rattle.tt_game.specs.declared.keys.Key.{Key}
-use Rattle.tt_game.specs.declared.seen.TheConstants.{MIXER}
+use Rattle.tt_game.specs.declared.bloom_filter.TheConstants.{MIXER}
 use Rattle.tt_game.specs.Mixing.{mix}
 use Rattle.tt_game.specs.contracts.frame.SideHash.TheImpl as side_hash
 
@@ -27,5 +27,5 @@ turn_word Defender passes = 256 + passes
 
 -- a number of 32 bits that other keys mostly haven't: what the words, the side to move and the passes make, multiplied once more, since
 -- the last was only added; the lowest bits of the product say little, so it is the highest
-unfoldable pub print_of_key : Key → ℕ
-print_of_key k = mix (mix (mix 0 k.black) k.white) (turn_word k.to_move k.passes ∷ []) * MIXER % 2 ^ 64 / 2 ^ 32
+unfoldable pub hash_of_key : Key → ℕ
+hash_of_key k = mix (mix (mix 0 k.black) k.white) (turn_word k.to_move k.passes ∷ []) * MIXER % 2 ^ 64 / 2 ^ 32

@@ -4,12 +4,12 @@ pub mod Game
 pub mod Sides
 pub mod History
 pub mod Legality
-pub mod Surveys
+pub mod MoveGenerators
 pub mod Turns
 pub mod Keys
 pub mod SameKey
 pub mod Mixing
-pub mod Seen
+pub mod BloomFilter
 pub mod KeyHash
 pub mod Laws
 pub mod Line

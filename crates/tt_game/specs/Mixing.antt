@@ -1,11 +1,11 @@
--- What words make of a number: prints are made by it, of keys and of colourings.
+-- What words make of a number: hashes are made by it, of keys and of colourings.
 use Rattle.std.specs.Prelude.{ℕ, ◌+◌, ◌*◌, ◌%◌, ◌^◌, List, [], ◌∷◌}
 use Rattle.tt_sgf.specs.declared.size.Size.{Size}
 use Rattle.tt_board.specs.declared.Colour.TheVariants.{Black, White}
 use Rattle.tt_board.specs.Position.{Colouring}
 use Rattle.tt_board.specs.Reach.{entry_at}
 use Rattle.tt_board.specs.Play.{is_stone_of}
-use Rattle.tt_game.specs.declared.seen.TheConstants.{MIXER}
+use Rattle.tt_game.specs.declared.bloom_filter.TheConstants.{MIXER}
 use Rattle.tt_game.specs.Keys.{packed}
 
 -- what words, one after the other, make of a number
@@ -18,5 +18,5 @@ abbrev pub mix_board : Size → Colouring → ℕ
 mix_board size c = mix (mix 0 (packed size (λ p. is_stone_of (entry_at c p) Black))) (packed size (λ p. is_stone_of (entry_at c p) White))
 
 -- that number, multiplied once more, since the last word was only added
-unfoldable pub board_print : Size → Colouring → ℕ
-board_print size c = mix_board size c * MIXER % 2 ^ 64
+unfoldable pub board_hash : Size → Colouring → ℕ
+board_hash size c = mix_board size c * MIXER % 2 ^ 64

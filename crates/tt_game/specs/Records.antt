@@ -22,7 +22,7 @@ use Rattle.tt_game.specs.declared.records.Replay.{Replay}
 use Rattle.tt_game.specs.declared.records.TheConstants.{MOST_TURNS}
 use Rattle.tt_game.specs.declared.turns.Turn.{Turn}
 use Rattle.tt_game.specs.declared.turns.Turn.TheVariants.{Play, Pass}
-use Rattle.tt_game.specs.Games.{Played, refusal_of, turned, empty_game, begun_with}
+use Rattle.tt_game.specs.Games.{GameState, refusal_of, turned, empty_game, begun_with}
 use Rattle.tt_game.specs.Nodes.{values_of, set_named, colour_named, apart, moves_in, is_setup, is_go, size_named, AB, AW, AE, PL, B, W, GM, SZ}
 
 -- A Replay is a game and the count of the turns that were played, implied passes among them.
@@ -128,7 +128,7 @@ run_nodes r (n ∷ ns) = and_then (step_node r n) (λ q. run_nodes q ns)
 -- ---- records
 
 -- a game's record: the areas of both colours, and whether two passes in a row ended it
-abbrev pub record_at : Played → Record
+abbrev pub record_at : GameState → Record
 record_at s = record { black = score_of s.size s.present Black; white = score_of s.size s.present White; finished = s.passes == 2 }
 
 -- what a main line's record is

@@ -3,33 +3,33 @@
 ghost use Rattle.std.specs.Prelude.{◌≡◌, ◌≢◌, ℕ, ◌+◌, ◌*◌, ◌<◌, ◌≤◌, ◌↔◌, length, map, Some, None, All, IsTrue, Contains, MatchResult, OnOk, OnErr, IfOk, IfErr};
 ghost use Rattle.tt_sgf.specs.Sizes.{point_count};
 ghost use Rattle.tt_game.specs.Course.{so_far};
-ghost use Rattle.tt_game.specs.Seen.{print_of, AreSeen};
+ghost use Rattle.tt_game.specs.BloomFilter.{hash_of, MayHoldAll};
 
+use crate::bloom_filter::{BloomFilter, hash_of};
 use crate::faults::{Refused, Why};
 use crate::frame::{Frame, Side};
 use crate::history::History;
 use crate::line::Line;
-use crate::seen::{Seen, print_of};
 use crate::turns::Turn;
 use std::alloc::Global;
 use std::marker::Model;
 use tt_board::{Board, Colour, CountedBoard, Occupied};
 use tt_sgf::{NoMemory, Point, PointSet, Size};
 
-/// From so many boards on a game notes prints: to compare a colouring with fewer costs less than their rows.
+/// From so many boards on a game notes hashes: to compare a colouring with fewer costs less than their rows.
 const MANY: usize = 32;
 
-/// A game: its history, who moves, and the passes in a row. Contracts see it as `Played`.
+/// A game: its history, who moves, and the passes in a row. Contracts see it as `GameState`.
 ///
 /// Moves are made on one board with its chains counted, which the first move behind a setup counts anew: a record that only sets up
 /// stones pays for no count. Superko is asked of the board behind the move, so where it refuses that board is another's, and isn't
-/// counted. In a long game colourings are noted by prints, by which superko knows most of the new ones.
+/// counted. In a long game colourings are noted by hashes, by which superko knows most of the new ones.
 #[derive(Drop)]
 pub struct Game {
     history: History,
     board: CountedBoard,
     counted: bool,
-    seen: Seen,
+    filter: BloomFilter,
     to_move: Colour,
 }
 
@@ -43,41 +43,41 @@ fn count(board: &mut CountedBoard, counted: bool, present: &Board)
     }
 }
 
-/// Notes the present board, which has this print. From so many boards on all are noted.
-fn note(seen: &mut Seen, history: &History, print: usize)
-    requires print { print ≡ print_of history.now.size history.now.present }
-    requires before { AreSeen seen.old history.now.size history.now.earlier }
-    ensures { AreSeen seen.new history.now.size (so_far history.now) }
+/// Notes the present board, which has this hash. From so many boards on all are noted.
+fn note(filter: &mut BloomFilter, history: &History, hash: usize)
+    requires hash { hash ≡ hash_of history.now.size history.now.present }
+    requires before { MayHoldAll filter.old history.now.size history.now.earlier }
+    ensures { MayHoldAll filter.new history.now.size (so_far history.now) }
 {
     let boards = history.boards();
     if boards.len() == MANY {
-        *seen = Seen::of_all(history.alloc(), boards);
+        *filter = BloomFilter::of_all(history.alloc(), boards);
     } else {
-        seen.add(print);
+        filter.add(hash);
     }
 }
 
 impl Model for Game {
     ghost use Rattle.std.specs.Prelude.{◌≡◌, IsTrue};
     ghost use Rattle.tt_game.specs.Course.{so_far};
-    ghost use Rattle.tt_game.specs.Games.{Played, game_at};
-    ghost use Rattle.tt_game.specs.Seen.{AreSeen};
+    ghost use Rattle.tt_game.specs.Games.{GameState, game_at};
+    ghost use Rattle.tt_game.specs.BloomFilter.{MayHoldAll};
     ghost use Rattle.tt_game.specs.Undoing.{board_on};
 
-    ghost Value = { Played };
+    ghost Value = { GameState };
 
     ghost view = { λ g. game_at g.history g.to_move };
 
     ghost invariant = { λ g. record {
       board : IsTrue g.counted → g.board ≡ board_on g.history.size g.history.present;
-      seen : AreSeen g.seen g.history.size (so_far g.history);
+      filter : MayHoldAll g.filter g.history.size (so_far g.history);
     } };
 }
 
 impl Game {
     ghost use Rattle.std.specs.FinSet as set;
     ghost use Rattle.tt_board.specs.Reach.{entry_at};
-    ghost use Rattle.tt_game.specs.Games.{Played, IsHalted, made_by, all_of, move_refusal, refusal_of, turned, empty_game, begun_with};
+    ghost use Rattle.tt_game.specs.Games.{GameState, IsHalted, made_by, all_of, move_refusal, refusal_of, turned, empty_game, begun_with};
     ghost use Rattle.tt_game.specs.Turns.{IsOnBoard};
     ghost use Rattle.tt_game.specs.History.{repeats};
     ghost use Rattle.tt_board.specs.Stones.{LiesOn};
@@ -92,7 +92,7 @@ impl Game {
         Ok(Game {
             board: CountedBoard::of(&board),
             counted: true,
-            seen: Seen::blind(alloc),
+            filter: BloomFilter::saturated(alloc),
             history: History::of(alloc, board)?,
             to_move: Colour::Black,
         })
@@ -128,13 +128,13 @@ impl Game {
         self.history.present()
     }
 
-    /// Whether a board of the game's size, which has this print, has a colouring of the history.
-    fn has_been(&self, next: &Board, print: usize) -> bool
+    /// Whether a board of the game's size, which has this hash, has a colouring of the history.
+    fn has_been(&self, next: &Board, hash: usize) -> bool
         requires size { next.now.size ≡ self.now.size }
-        requires print { print ≡ print_of next.now.size next.now.points }
+        requires hash { hash ≡ hash_of next.now.size next.now.points }
         ensures { result ≡ repeats (all_of self.now) next.now.points }
     {
-        if !self.seen.has(print) {
+        if !self.filter.has(hash) {
             return false;
         }
         self.history.has_been(next)
@@ -167,7 +167,7 @@ impl Game {
             Err(Occupied) => return Err(Why::Occupied),
             Ok(next) => next,
         };
-        if self.has_been(&next, print_of(&next)) {
+        if self.has_been(&next, hash_of(&next)) {
             return Err(Why::Repeats);
         }
         Ok(next)
@@ -212,14 +212,14 @@ impl Game {
         self.board.play(self.to_move, p);
         self.counted = false;
         let next = self.board.board();
-        let print = print_of(&next);
-        if self.has_been(&next, print) {
+        let hash = hash_of(&next);
+        if self.has_been(&next, hash) {
             return Err(Refused::Illegal(Why::Repeats));
         }
         if self.history.push(next).is_err() {
             return Err(Refused::NoMemory);
         }
-        note(&mut self.seen, &self.history, print);
+        note(&mut self.filter, &self.history, hash);
         self.counted = true;
         self.to_move = self.to_move.other();
         Ok(())
@@ -255,7 +255,7 @@ impl Game {
         if !self.present().same(&board) {
             self.counted = false;
         }
-        self.seen = Seen::blind(history.alloc());
+        self.filter = BloomFilter::saturated(history.alloc());
         self.history = history;
         self.to_move = colour;
         Ok(())

@@ -17,13 +17,13 @@ const ROOM: usize = 16;
 /// The boards of a game so far, the last one present, and how many passes were made in a row since the last play.
 /// Contracts see it as `Course`.
 ///
-/// The first `live` boards are those so far. Boards above them stay when plays are taken back, so that the next play is written over
+/// The first `count` boards are those so far. Boards above them stay when plays are taken back, so that the next play is written over
 /// one of them: it moves no board and takes no memory.
 #[derive(Drop)]
 pub(crate) struct History {
     size: Size,
     boards: Vec<Board>,
-    live: usize,
+    count: usize,
     passes: u8,
     alloc: Global,
 }
@@ -35,12 +35,12 @@ impl Model for History {
 
     ghost Value = { Course };
 
-    ghost view = { λ h. course_of h.size (take h.live h.boards.items) h.passes };
+    ghost view = { λ h. course_of h.size (take h.count h.boards.items) h.passes };
 
     ghost invariant = { λ h. record {
-      some_board : 0 < h.live;
-      live : h.live ≤ length h.boards.items;
-      sizes : All (λ b. b.size ≡ h.size) (take h.live h.boards.items);
+      some_board : 0 < h.count;
+      count : h.count ≤ length h.boards.items;
+      sizes : All (λ b. b.size ≡ h.size) (take h.count h.boards.items);
       passes : h.passes ≤ 2;
     } };
 }
@@ -71,15 +71,15 @@ fn stood(boards: &[Board], colour: Colour, p: Point) -> bool
     false
 }
 
-/// Writes a board over the one in the place `live`, or adds it there; without memory there are none more.
-fn write(boards: &mut Vec<Board>, live: usize, next: &CountedBoard) -> Result<(), NoMemory>
-    requires { live ≤ length boards.old.items }
-    ensures ok { OnOk result (take (live + 1) boards.new.items ≡ take live boards.old.items ++ next.now ∷ []) }
-    ensures wide { OnOk result (live < length boards.new.items) }
+/// Writes a board over the one in the place `count`, or adds it there; without memory there are none more.
+fn write(boards: &mut Vec<Board>, count: usize, next: &CountedBoard) -> Result<(), NoMemory>
+    requires { count ≤ length boards.old.items }
+    ensures ok { OnOk result (take (count + 1) boards.new.items ≡ take count boards.old.items ++ next.now ∷ []) }
+    ensures wide { OnOk result (count < length boards.new.items) }
     ensures err { OnErr result (boards.new.items ≡ boards.old.items) }
 {
-    if live < boards.len() {
-        next.show_on(&mut boards[live]);
+    if count < boards.len() {
+        next.show_on(&mut boards[count]);
     } else {
         boards.push(next.board())?;
     }
@@ -100,7 +100,7 @@ impl History {
         Ok(History {
             size,
             boards,
-            live: 1,
+            count: 1,
             passes: 0,
             alloc,
         })
@@ -127,7 +127,7 @@ impl History {
         ensures sizes { All (λ b. b.size ≡ self.now.size) result.now }
         ensures some { 0 < length result.now }
     {
-        &self.boards[..self.live]
+        &self.boards[..self.count]
     }
 
     /// The boards behind the first `from`, oldest first.
@@ -144,7 +144,7 @@ impl History {
         ensures size { result.now.size ≡ self.now.size }
         ensures points { result.now.points ≡ self.now.present }
     {
-        &self.boards[self.live - 1]
+        &self.boards[self.count - 1]
     }
 
     /// Where its memory comes from.
@@ -184,9 +184,9 @@ impl History {
         ensures ok { OnOk result (self.new ≡ with_play self.old next.points) }
         ensures err { OnErr result (self.new ≡ self.old) }
     {
-        self.boards.truncate(self.live);
+        self.boards.truncate(self.count);
         self.boards.push(next)?;
-        self.live += 1;
+        self.count += 1;
         self.passes = 0;
         Ok(())
     }
@@ -198,8 +198,8 @@ impl History {
         ensures ok { OnOk result (self.new ≡ with_play self.old next.now.points) }
         ensures err { OnErr result (self.new ≡ self.old) }
     {
-        write(&mut self.boards, self.live, next)?;
-        self.live += 1;
+        write(&mut self.boards, self.count, next)?;
+        self.count += 1;
         self.passes = 0;
         Ok(())
     }
@@ -218,7 +218,7 @@ impl History {
         requires passes { passes ≤ 2 }
         ensures { self.new ≡ without_play self.old passes }
     {
-        self.live -= 1;
+        self.count -= 1;
         self.passes = passes;
     }
 
@@ -249,7 +249,7 @@ impl History {
         Ok(History {
             size: self.size,
             boards,
-            live: self.live,
+            count: self.count,
             passes: self.passes,
             alloc: self.alloc,
         })

@@ -2,13 +2,13 @@
 
 ghost use Rattle.std.specs.Prelude.{◌≡◌, ◌≤◌, ◌*◌, ◌/◌, ◌%◌, ◌^◌, ◌↔◌, IsTrue, [], ◌∷◌};
 ghost use Rattle.tt_game.specs.Keys.{key_of};
-ghost use Rattle.tt_game.specs.KeyHash.{words_in_use, turn_word, print_of_key};
+ghost use Rattle.tt_game.specs.KeyHash.{words_in_use, turn_word, hash_of_key};
 ghost use Rattle.tt_game.specs.Mixing.{mix};
-ghost use Rattle.tt_game.specs.declared.seen.TheConstants.{MIXER};
+ghost use Rattle.tt_game.specs.declared.bloom_filter.TheConstants.{MIXER};
 
+use crate::bloom_filter::{MIXER, mix, mix_board};
 use crate::frame::{Frame, Side};
 use crate::line::Line;
-use crate::seen::{MIXER, mix, mix_board};
 use std::hash::{Hash, Hasher};
 use tt_board::{Board, Colour};
 use tt_sgf::Size;
@@ -56,7 +56,7 @@ fn words_in_use(size: Size) -> usize
     (size.point_count() + 63) / 64
 }
 
-/// The number of a side to move and so many passes, for a print.
+/// The number of a side to move and so many passes, for a hash.
 fn turn_word(to_move: Side, passes: u8) -> u64
     ensures { result ≡ turn_word to_move passes }
 {
@@ -66,8 +66,8 @@ fn turn_word(to_move: Side, passes: u8) -> u64
     }
 }
 
-/// The print of the position of a board, a side to move and so many passes, by what the board's words make.
-fn print_with(board: u64, turn: u64) -> u32
+/// The hash of the position of a board, a side to move and so many passes, by what the board's words make.
+fn hash_with(board: u64, turn: u64) -> u32
     ensures { result ≡ mix board (turn ∷ []) * MIXER % 2 ^ 64 / 2 ^ 32 }
 {
     (mix(board, &[turn]).wrapping_mul(MIXER) >> 32) as u32
@@ -98,23 +98,23 @@ impl Line {
         key_at(self.frame(), self.present(), self.to_move(), self.passes())
     }
 
-    /// The print of the line's key. It takes the line's board as it stands, so no key is made.
-    pub fn key_print(&self) -> u32
-        ensures { result ≡ print_of_key (key_of self.now.frame self.now.state) }
+    /// The hash of the line's key. It takes the line's board as it stands, so no key is made.
+    pub fn key_hash(&self) -> u32
+        ensures { result ≡ hash_of_key (key_of self.now.frame self.now.state) }
     {
         let turn = turn_word(self.to_move(), self.passes());
-        print_with(mix_board(self.present()), turn)
+        hash_with(mix_board(self.present()), turn)
     }
 }
 
 impl Key {
     /// A number that other keys mostly haven't, for tables. As the hash it is of the position alone: who finds a key by it compares
     /// the keys.
-    pub fn print(&self) -> u32
-        ensures { result ≡ print_of_key self.now }
+    pub fn hash_code(&self) -> u32
+        ensures { result ≡ hash_of_key self.now }
     {
         let both = mix(mix(0, &self.black), &self.white);
-        print_with(both, turn_word(self.to_move, self.passes))
+        hash_with(both, turn_word(self.to_move, self.passes))
     }
 
     /// Whether both keys are one.

@@ -4,6 +4,8 @@
 
 #![tactic(auto)]
 
+mod bloom_filter;
+mod board_stack;
 mod faults;
 mod frame;
 mod game;
@@ -11,26 +13,24 @@ mod history;
 mod keys;
 pub mod laws;
 mod line;
+mod move_generator;
 mod nodes;
-mod past;
-mod played;
 mod plays;
 mod problems;
 mod records;
 mod root;
-mod seen;
-mod survey;
+mod snapshot;
 mod turns;
 
+pub use bloom_filter::{BloomFilter, board_hash};
 pub use faults::{GameFault, Refused, Why};
 pub use frame::{Frame, Side};
 pub use game::Game;
 pub use keys::Key;
 pub use line::Line;
-pub use past::Past;
+pub use move_generator::MoveGenerator;
 pub use plays::LegalPlays;
 pub use problems::problem;
 pub use records::{Record, play_record};
-pub use seen::{Seen, board_print};
-pub use survey::Survey;
+pub use snapshot::Snapshot;
 pub use turns::{MOST_LEGAL, Successor, Turn, Turns};

@@ -6,17 +6,17 @@ ghost use Rattle.tt_game.specs.Mixing.{mix_board};
 ghost use Rattle.tt_board.specs.Position.{Colouring};
 ghost use Rattle.tt_sgf.specs.Sizes.{point_count};
 
+use crate::bloom_filter::{hash_with_stone, mix_board};
+use crate::board_stack::BoardStack;
 use crate::faults::{Refused, Why};
 use crate::frame::{Frame, Side};
 use crate::history::History;
-use crate::past::Past;
-use crate::played::Played;
 use crate::root::{Root, stones_of};
-use crate::seen::{mix_board, print_with_stone};
+use crate::snapshot::Snapshot;
 use crate::turns::Turn;
 use std::marker::Model;
 use std::sync::Arc;
-use tt_board::{Board, Colour, CountedBoard, Glance};
+use tt_board::{Board, Colour, CountedBoard, PlayKind};
 use tt_sgf::{Bits, NoMemory, Point};
 
 /// How a push is undone.
@@ -33,7 +33,7 @@ pub struct Line {
     frame: Frame,
     root: Arc<Root>,
     history: History,
-    played: Played,
+    stack: BoardStack,
     to_move: Side,
     pushes: Vec<Undo>,
 }
@@ -57,8 +57,8 @@ impl Model for Line {
     ghost invariant = { λ l. record {
       size : l.history.size ≡ l.frame.size;
       targets : HasTargets l.frame;
-      board : l.played.present ≡ board_on l.frame.size l.history.present;
-      undoable : IsUndoable l.frame.size (state_at l.history l.to_move) (reverse l.pushes.items) l.played.below;
+      board : l.stack.present ≡ board_on l.frame.size l.history.present;
+      undoable : IsUndoable l.frame.size (state_at l.history l.to_move) (reverse l.pushes.items) l.stack.below;
       same_frame : (arc_value l.root).frame ≡ l.frame;
       rooted : AreRooted (arc_value l.root).begun (state_at l.history l.to_move) (reverse l.pushes.items);
     } };
@@ -67,13 +67,13 @@ impl Model for Line {
 impl Line {
     ghost use Rattle.std.specs.Prelude.{Some, None, Err, Ok, [], MatchResult, EachIndex};
     ghost use Rattle.tt_game.specs.Game.{history, winner_of, colour_of, made, IsLegal, IsBarred, after};
-    ghost use Rattle.tt_board.specs.Glance.{IsTold};
+    ghost use Rattle.tt_board.specs.PlayKind.{IsKind};
     ghost use Rattle.tt_board.specs.Reach.{entry_at};
     ghost use Rattle.std.specs.Prelude.{OnOk, OnErr, IfErr, IfOk};
     ghost use Rattle.tt_game.specs.Line.{HasTargets, IsRefusal, IsRefused, IsPushed};
     ghost use Rattle.tt_game.specs.Undoing.{IsMoved, state_at, board_on};
     ghost use Rattle.tt_game.specs.Turns.{OnBoard};
-    ghost use Rattle.tt_game.specs.Surveys.{HaveStood, IsForetold};
+    ghost use Rattle.tt_game.specs.MoveGenerators.{HaveStood, IsKindAt};
     ghost use Rattle.tt_game.specs.declared.turns.Turn.{Turn};
 
     /// The line that begins with this history, whose present board is given with its chains counted, with nothing to undo.
@@ -94,7 +94,7 @@ impl Line {
             frame,
             root,
             history,
-            played: Played::of(alloc, board)?,
+            stack: BoardStack::of(alloc, board)?,
             to_move,
             pushes: Vec::new(alloc),
         })
@@ -137,7 +137,7 @@ impl Line {
     pub(crate) fn counted(&self) -> &CountedBoard
         ensures { result.now ≡ board_on self.now.frame.size self.now.state.present }
     {
-        self.played.present()
+        self.stack.present()
     }
 
     /// Who has won, if somebody has: the attacker where some target is empty, else the defender after two passes in a row.
@@ -153,17 +153,17 @@ impl Line {
         requires free { entry_at self.now.state.present p ≡ None }
         ensures { result ≡ record { size = self.now.frame.size; points = made self.now.frame self.now.state p } }
     {
-        self.played.present().after(self.mover(), p)
+        self.stack.present().after(self.mover(), p)
     }
 
     /// The board after a play of the side to move on an empty point, of which this is told by the points beside it.
-    pub(crate) fn board_told(&self, p: Point, told: Glance) -> Board
+    pub(crate) fn board_of_kind(&self, p: Point, kind: PlayKind) -> Board
         requires on_board { p < point_count self.now.frame.size }
         requires free { entry_at self.now.state.present p ≡ None }
-        requires told { IsTold told self.now.frame.size self.now.state.present (colour_of self.now.frame self.now.state.to_move) p }
+        requires kind { IsKind kind self.now.frame.size self.now.state.present (colour_of self.now.frame self.now.state.to_move) p }
         ensures { result ≡ record { size = self.now.frame.size; points = made self.now.frame self.now.state p } }
     {
-        self.played.present().after_told(self.mover(), p, told)
+        self.stack.present().after_of_kind(self.mover(), p, kind)
     }
 
     /// The board after a turn that is known to be legal. Nothing is pushed, and it takes no memory.
@@ -202,21 +202,21 @@ impl Line {
     }
 
     /// What is told of a play of the side to move on an empty point, by the points beside it and by the stones that stood there.
-    /// It is quiet where it takes nothing off and makes a colouring that hasn't been, and vain where its colouring is the present one.
-    pub(crate) fn glance(&self, p: Point) -> Glance
+    /// It captures nothing where it takes nothing off and makes a colouring that hasn't been, and is a suicide of one stone where its colouring is the present one.
+    pub(crate) fn play_kind(&self, p: Point) -> PlayKind
         requires on_board { p < point_count self.now.frame.size }
         requires free { entry_at self.now.state.present p ≡ None }
-        ensures { IsForetold result self.now.frame self.now.state p }
+        ensures { IsKindAt result self.now.frame self.now.state p }
     {
         let colour = self.mover();
-        match self.played.present().glance(colour, p) {
-            Glance::Vain => Glance::Vain,
-            Glance::Unclear => Glance::Unclear,
-            Glance::Quiet => {
+        match self.stack.present().play_kind(colour, p) {
+            PlayKind::SingleStoneSuicide => PlayKind::SingleStoneSuicide,
+            PlayKind::NeedsBoard => PlayKind::NeedsBoard,
+            PlayKind::NoCapture => {
                 if self.has_stood(colour, p) {
-                    Glance::Unclear
+                    PlayKind::NeedsBoard
                 } else {
-                    Glance::Quiet
+                    PlayKind::NoCapture
                 }
             }
         }
@@ -228,15 +228,15 @@ impl Line {
         requires free { entry_at self.now.state.present p ≡ None }
         ensures { IsTrue result ↔ HasBeen (history self.now.state) (made self.now.frame self.now.state p) }
     {
-        match self.glance(p) {
-            Glance::Quiet => false,
-            Glance::Vain => true,
-            Glance::Unclear => self.has_been(p, &self.board_after(p)),
+        match self.play_kind(p) {
+            PlayKind::NoCapture => false,
+            PlayKind::SingleStoneSuicide => true,
+            PlayKind::NeedsBoard => self.has_been(p, &self.board_after(p)),
         }
     }
 
     /// Whether a board of the line's size, which a play of the side to move on `p` may have made, has a colouring that has been. Where
-    /// its stone stands on `p` and never did before, no board is compared, and none of the beginning where its print tells it from them.
+    /// its stone stands on `p` and never did before, no board is compared, and none of the beginning where its hash tells it from them.
     pub(crate) fn has_been(&self, p: Point, next: &Board) -> bool
         requires on_board { p < point_count self.now.frame.size }
         requires size { next.now.size ≡ self.now.frame.size }
@@ -249,7 +249,7 @@ impl Line {
         self.is_among(next)
     }
 
-    /// Whether a board of the line's size has a colouring that has been: none of the beginning is compared where its print tells it from
+    /// Whether a board of the line's size has a colouring that has been: none of the beginning is compared where its hash tells it from
     /// them.
     pub(crate) fn is_among(&self, next: &Board) -> bool
         requires { next.now.size ≡ self.now.frame.size }
@@ -269,26 +269,26 @@ impl Line {
         mix_board(self.present())
     }
 
-    /// What the words of the present board make, where prints were noted of the boards of the beginning.
+    /// What the words of the present board make, where hashes were noted of the boards of the beginning.
     pub(crate) fn sum_here(&self) -> Option<u64>
         ensures { IfSome result (λ n. n ≡ mix_board self.now.frame.size self.now.state.present) }
     {
-        if !self.root.has_prints() {
+        if !self.root.has_hashes() {
             return None;
         }
         Some(self.present_sum())
     }
 
     /// Whether a stone more, of `colour` on the empty point `p`, makes a colouring that is told from all so far: from those of the
-    /// beginning by its print, and from the others where none has that stone. `sum` is what the words make without it.
-    pub(crate) fn is_told_new(&self, sum: u64, colour: Colour, p: Point) -> bool
+    /// beginning by its hash, and from the others where none has that stone. `sum` is what the words make without it.
+    pub(crate) fn is_new_by_hash(&self, sum: u64, colour: Colour, p: Point) -> bool
         requires sum { sum ≡ mix_board self.now.frame.size self.now.state.present }
         requires fits { length self.now.state.present ≡ point_count self.now.frame.size }
         requires on_board { p < point_count self.now.frame.size }
         requires free { entry_at self.now.state.present p ≡ None }
         ensures { IsTrue result → HasBeen (history self.now.state) (slice_set self.now.state.present p (Some colour)) → ⊥ }
     {
-        if self.root.has_print(print_with_stone(sum, colour, p)) {
+        if self.root.has_hash(hash_with_stone(sum, colour, p)) {
             return false;
         }
         !self.history.has_stood(self.root.count(), colour, p)
@@ -368,12 +368,12 @@ impl Line {
     {
         let colour = self.mover();
         self.pushes.push(Undo::UndoPlay(self.history.passes()))?;
-        if let Err(error) = self.played.push(colour, p) {
+        if let Err(error) = self.stack.push(colour, p) {
             self.pushes.pop();
             return Err(error);
         }
-        if let Err(error) = self.history.push_counted(self.played.present()) {
-            self.played.pop();
+        if let Err(error) = self.history.push_counted(self.stack.present()) {
+            self.stack.pop();
             self.pushes.pop();
             return Err(error);
         }
@@ -446,7 +446,7 @@ impl Line {
             Some(Undo::UndoPass) => self.history.undo_pass(),
             Some(Undo::UndoPlay(passes)) => {
                 self.history.undo_play(passes);
-                self.played.pop();
+                self.stack.pop();
             }
             None => unreachable!(),
         }
@@ -470,10 +470,10 @@ impl Line {
 
     /// Where the line stands, to be kept in little memory.
     #[tactic(auto, using(crate::proofs::RootLemmas::rooted_here))]
-    pub fn past(&self) -> Result<Past, NoMemory>
+    pub fn snapshot(&self) -> Result<Snapshot, NoMemory>
         ensures { IfOk result (λ p. p ≡ record { frame = self.now.frame; state = self.now.state }) }
     {
-        Past::of(&self.root, &self.history, self.to_move, self.key_print())
+        Snapshot::of(&self.root, &self.history, self.to_move, self.key_hash())
     }
 
     /// The same line, with nothing to undo. What is kept of both shares one root.
@@ -487,7 +487,7 @@ impl Line {
             frame: self.frame.copy(),
             root: Arc::try_clone(&self.root)?,
             history,
-            played: self.played.again(alloc)?,
+            stack: self.stack.again(alloc)?,
             to_move: self.to_move,
             pushes: Vec::new(alloc),
         })

@@ -8,7 +8,7 @@ ghost use Rattle.tt_game.specs.declared.turns.Turn.{Turn};
 
 use crate::frame::Side;
 use crate::line::Line;
-use crate::survey::Survey;
+use crate::move_generator::MoveGenerator;
 use std::marker::Model;
 use tt_sgf::Point;
 
@@ -17,7 +17,7 @@ use tt_sgf::Point;
 #[derive(Drop)]
 pub struct LegalPlays<'a> {
     line: &'a Line,
-    survey: Survey,
+    moves: MoveGenerator,
     from: u16,
 }
 
@@ -27,7 +27,7 @@ impl<'a> Model for LegalPlays<'a> {
     ghost use Rattle.tt_sgf.specs.Sizes.{point_count};
     ghost use Rattle.tt_sgf.specs.contracts.sets.PointSet as points;
     ghost use Rattle.tt_game.specs.Game.{winner_of};
-    ghost use Rattle.tt_game.specs.Surveys.{IsSurvey};
+    ghost use Rattle.tt_game.specs.MoveGenerators.{IsMoveGenerator};
     ghost use Rattle.tt_game.specs.Turns.{PlaysFrom};
 
     ghost Value = { PlaysFrom };
@@ -37,7 +37,7 @@ impl<'a> Model for LegalPlays<'a> {
     ghost view = { λ l. record { frame = l.line.now.frame; state = l.line.now.state; from = l.from } };
 
     ghost invariant = { λ l. record {
-      survey : IsSurvey l.survey l.line.now.frame l.line.now.state;
+      moves : IsMoveGenerator l.moves l.line.now.frame l.line.now.state;
       nobody : winner_of l.line.now.frame l.line.now.state ≡ None;
       inside : l.from ≤ point_count l.line.now.frame.size;
     } };
@@ -52,7 +52,7 @@ impl Line {
     {
         LegalPlays {
             line: self,
-            survey: self.survey(),
+            moves: self.moves(),
             from: 0,
         }
     }
@@ -70,7 +70,7 @@ impl<'a> LegalPlays<'a> {
             × (x.1 ≡ winner_of self.old.frame (after self.old.frame self.old.state (Turn.Play x.0)))
             × (successors_from self.old.frame self.old.state self.old.from ≡ successor self.old.frame self.old.state (Turn.Play x.0) ∷ successors_from self.old.frame self.old.state (x.0 + 1))) }
     {
-        let found = self.line.next_play(&self.survey, self.from);
+        let found = self.line.next_play(&self.moves, self.from);
         if let Some((p, _)) = &found {
             self.from = p.number() + 1;
         }

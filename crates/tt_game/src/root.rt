@@ -7,17 +7,17 @@ ghost use Rattle.tt_board.specs.Position.{Position, Colouring};
 ghost use Rattle.tt_board.specs.Reach.{entry_at};
 ghost use Rattle.tt_game.specs.Course.{HasBeen, so_far, colourings};
 ghost use Rattle.tt_game.specs.Roots.{AreStonesOf};
-ghost use Rattle.tt_game.specs.Seen.{print_of};
+ghost use Rattle.tt_game.specs.BloomFilter.{hash_of};
 
+use crate::bloom_filter::{BloomFilter, hash_of};
 use crate::frame::Frame;
 use crate::history::History;
-use crate::seen::{Seen, print_of};
 use std::marker::Model;
 use std::sync::Arc;
 use tt_board::{Board, Boards, Colour};
 use tt_sgf::{Bits, NoMemory, Point};
 
-/// To compare a colouring with so many boards costs about what its print costs.
+/// To compare a colouring with so many boards costs about what its hash costs.
 const FEW: usize = 8;
 
 /// From so many points of the region on it pays to look at all of them at once, and with fewer one by one.
@@ -25,7 +25,7 @@ pub(crate) const MANY: u16 = 20;
 
 /// A frame, and the boards that lines had when the first of them began. Contracts see it as `Rooted`.
 ///
-/// The stones of all these boards stand together in twelve words, and their prints were noted, so that superko asks once for what
+/// The stones of all these boards stand together in twelve words, and their hashes were noted, so that superko asks once for what
 /// hundreds of boards never had. The base is a board from which those of later places are told by how they differ.
 #[derive(Drop)]
 pub(crate) struct Root {
@@ -36,7 +36,7 @@ pub(crate) struct Root {
     base: Arc<Board>,
     black: Bits,
     white: Bits,
-    seen: Seen,
+    filter: BloomFilter,
 }
 
 impl Model for Root {
@@ -47,7 +47,7 @@ impl Model for Root {
     ghost use Rattle.tt_board.specs.declared.Colour.TheVariants.{Black, White};
     ghost use Rattle.tt_game.specs.Course.{colourings};
     ghost use Rattle.tt_game.specs.Roots.{Rooted, AreStonesOf};
-    ghost use Rattle.tt_game.specs.Seen.{AreSeen};
+    ghost use Rattle.tt_game.specs.BloomFilter.{MayHoldAll};
 
     ghost Value = { Rooted };
 
@@ -62,7 +62,7 @@ impl Model for Root {
       base : (arc_value r.base).size ≡ r.frame.size;
       black : AreStonesOf Black r.boards r.black.words;
       white : AreStonesOf White r.boards r.white.words;
-      seen : AreSeen r.seen r.frame.size (colourings r.boards);
+      filter : MayHoldAll r.filter r.frame.size (colourings r.boards);
     } };
 }
 
@@ -85,10 +85,10 @@ impl Root {
     {
         let alloc = history.alloc();
         let boards = history.boards();
-        let seen = if boards.len() <= FEW {
-            Seen::blind(alloc)
+        let filter = if boards.len() <= FEW {
+            BloomFilter::saturated(alloc)
         } else {
-            Seen::of_all(alloc, boards)
+            BloomFilter::of_all(alloc, boards)
         };
         Ok(Root {
             frame: frame.copy(),
@@ -98,7 +98,7 @@ impl Root {
             base: Arc::new(alloc, history.present().copy())?,
             black: stones_of(boards, Colour::Black),
             white: stones_of(boards, Colour::White),
-            seen,
+            filter,
         })
     }
 
@@ -152,8 +152,8 @@ impl Root {
         }
     }
 
-    /// Whether a board of the frame's size has a colouring that its print tells from those of all boards of the beginning. Where
-    /// those are few, no print is made.
+    /// Whether a board of the frame's size has a colouring that its hash tells from those of all boards of the beginning. Where
+    /// those are few, no hash is made.
     pub(crate) fn unlike(&self, board: &Board) -> bool
         requires { board.now.size ≡ self.now.frame.size }
         ensures { IsTrue result → HasBeen (colourings self.now.begun) board.now.points → ⊥ }
@@ -161,19 +161,19 @@ impl Root {
         if self.count <= FEW {
             return false;
         }
-        !self.seen.has(print_of(board))
+        !self.filter.has(hash_of(board))
     }
 
-    /// Whether the boards of the beginning are so many that prints were noted of them. Nothing goes by it but time.
-    pub(crate) fn has_prints(&self) -> bool {
+    /// Whether the boards of the beginning are so many that hashes were noted of them. Nothing goes by it but time.
+    pub(crate) fn has_hashes(&self) -> bool {
         self.count > FEW
     }
 
-    /// Whether some board of the beginning may have this print. Where none has, no colouring of theirs has it.
-    pub(crate) fn has_print(&self, print: usize) -> bool
-        ensures { result ≡ false → (c : Colouring) → print_of self.now.frame.size c ≡ print → HasBeen (colourings self.now.begun) c → ⊥ }
+    /// Whether some board of the beginning may have this hash. Where none has, no colouring of theirs has it.
+    pub(crate) fn has_hash(&self, hash: usize) -> bool
+        ensures { result ≡ false → (c : Colouring) → hash_of self.now.frame.size c ≡ hash → HasBeen (colourings self.now.begun) c → ⊥ }
     {
-        self.seen.has(print)
+        self.filter.has(hash)
     }
 
     /// Whether these are exactly the boards of the beginning. It takes no memory.

@@ -7,9 +7,9 @@ ghost use Rattle.tt_game.specs.declared.turns.TheConstants.{MOST_LEGAL};
 
 use crate::frame::Side;
 use crate::line::Line;
-use crate::survey::Survey;
+use crate::move_generator::MoveGenerator;
 use arrayvec::ArrayVec;
-use tt_board::Glance;
+use tt_board::PlayKind;
 use tt_sgf::Point;
 
 /// A play on a point, or a pass. A turn's number is that of its point, and the pass has the number of the points; so the
@@ -37,25 +37,25 @@ pub type Turns = ArrayVec<Turn, MOST_LEGAL>;
 impl Line {
     ghost use Rattle.std.specs.Prelude.{None, Some, slice_set};
     ghost use Rattle.tt_board.specs.Reach.{entry_at};
-    ghost use Rattle.tt_board.specs.Glance.{IsTold};
+    ghost use Rattle.tt_board.specs.PlayKind.{IsKind};
     ghost use Rattle.tt_game.specs.Game.{winner_of, after, made, colour_of, IsLegal};
-    ghost use Rattle.tt_game.specs.Surveys.{IsSurvey};
+    ghost use Rattle.tt_game.specs.MoveGenerators.{IsMoveGenerator};
     ghost use Rattle.tt_game.specs.Turns.{legal_turns, successor, successors_from, IsRising};
     ghost use Rattle.tt_game.specs.declared.turns.Turn.{Turn};
 
     /// Who has won after a play on an empty point of the region, where it is legal, by the board that it makes. This is told of it by
     /// the points beside it.
     #[inline(never)]
-    fn winner_made(&self, p: Point, told: Glance) -> Option<Option<Side>>
+    fn winner_made(&self, p: Point, kind: PlayKind) -> Option<Option<Side>>
         requires on_board { p < point_count self.now.frame.size }
         requires inside { IsTrue (set.contains self.now.frame.region p) }
         requires free { entry_at self.now.state.present p ≡ None }
         requires open { winner_of self.now.frame self.now.state ≡ None }
-        requires told { IsTold told self.now.frame.size self.now.state.present (colour_of self.now.frame self.now.state.to_move) p }
+        requires kind { IsKind kind self.now.frame.size self.now.state.present (colour_of self.now.frame self.now.state.to_move) p }
         ensures { MatchOption result (IsLegal self.now.frame self.now.state (Turn.Play p) → ⊥)
             (λ w. IsLegal self.now.frame self.now.state (Turn.Play p) × (w ≡ winner_of self.now.frame (after self.now.frame self.now.state (Turn.Play p)))) }
     {
-        let next = self.board_told(p, told);
+        let next = self.board_of_kind(p, kind);
         if self.has_been(p, &next) {
             return None;
         }
@@ -84,8 +84,8 @@ impl Line {
 
     /// Who has won after a play on an empty point of the region, where it is legal. Most plays are told by the points beside them, and
     /// no board is made for them.
-    fn winner_by_play(&self, survey: &Survey, p: Point) -> Option<Option<Side>>
-        requires survey { IsSurvey survey.now self.now.frame self.now.state }
+    fn winner_by_play(&self, moves: &MoveGenerator, p: Point) -> Option<Option<Side>>
+        requires moves { IsMoveGenerator moves.now self.now.frame self.now.state }
         requires on_board { p < point_count self.now.frame.size }
         requires inside { IsTrue (set.contains self.now.frame.region p) }
         requires free { entry_at self.now.state.present p ≡ None }
@@ -93,15 +93,15 @@ impl Line {
         ensures { MatchOption result (IsLegal self.now.frame self.now.state (Turn.Play p) → ⊥)
             (λ w. IsLegal self.now.frame self.now.state (Turn.Play p) × (w ≡ winner_of self.now.frame (after self.now.frame self.now.state (Turn.Play p)))) }
     {
-        let (foretold, told) = self.glance_by(survey, p);
-        match foretold {
-            Glance::Quiet => Some(None),
-            Glance::Vain => None,
-            Glance::Unclear => {
-                if told != Glance::Quiet {
-                    return self.winner_made(p, told);
+        let (kind_here, kind) = self.kind_by(moves, p);
+        match kind_here {
+            PlayKind::NoCapture => Some(None),
+            PlayKind::SingleStoneSuicide => None,
+            PlayKind::NeedsBoard => {
+                if kind != PlayKind::NoCapture {
+                    return self.winner_made(p, kind);
                 }
-                if self.is_new(survey, p) {
+                if self.is_new(moves, p) {
                     return Some(None);
                 }
                 self.winner_put(p)
@@ -117,11 +117,11 @@ impl Line {
         self.frame().winner_on(self.present(), self.passes() + 1)
     }
 
-    /// The first legal play on a point from a number on, and who has won after it, by the survey that was made here. Each empty point
+    /// The first legal play on a point from a number on, and who has won after it, by the move generator that was made here. Each empty point
     /// is looked at once, and no other.
     #[inline(always)]
-    pub fn next_play(&self, survey: &Survey, first: u16) -> Option<(Point, Option<Side>)>
-        requires survey { IsSurvey survey.now self.now.frame self.now.state }
+    pub fn next_play(&self, moves: &MoveGenerator, first: u16) -> Option<(Point, Option<Side>)>
+        requires moves { IsMoveGenerator moves.now self.now.frame self.now.state }
         requires open { winner_of self.now.frame self.now.state ≡ None }
         requires inside { first ≤ point_count self.now.frame.size }
         ensures { MatchOption result
@@ -131,8 +131,8 @@ impl Line {
             × (successors_from self.now.frame self.now.state first ≡ successor self.now.frame self.now.state (Turn.Play x.0) ∷ successors_from self.now.frame self.now.state (x.0 + 1))) }
     {
         let mut from = first;
-        while let Some(p) = self.next_point(survey, from) {
-            if let Some(winner) = self.winner_by_play(survey, p) {
+        while let Some(p) = self.next_point(moves, from) {
+            if let Some(winner) = self.winner_by_play(moves, p) {
                 return Some((p, winner));
             }
             from = p.number() + 1;

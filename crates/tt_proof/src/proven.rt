@@ -4,7 +4,7 @@ ghost use Rattle.std.specs.Prelude.{◌≡◌, ◌≢◌, ◌↔◌, ◌≤◌, 
 ghost use Rattle.tt_game.specs.Game.{winner_of, opponent, IsLegal, after};
 ghost use Rattle.tt_game.specs.Turns.{legal_turns};
 ghost use Rattle.tt_game.specs.Keys.{key_of};
-ghost use Rattle.tt_game.specs.KeyHash.{print_of_key};
+ghost use Rattle.tt_game.specs.KeyHash.{hash_of_key};
 ghost use Rattle.tt_game.specs.declared.turns.Turn.{Turn};
 ghost use Rattle.tt_proof.specs.declared.tree.TheConstants.{MOST_DEPTH};
 ghost use Rattle.tt_proof.specs.Strategy.{pick, reply, done, depth, strategy_of, IsInOrder, entries_of};
@@ -21,14 +21,14 @@ use crate::tree::Tree;
 use std::alloc::Global;
 use std::marker::Model;
 use tt_board::Board;
-use tt_game::{Key, Line, Past, Side, Turn};
+use tt_game::{Key, Line, Side, Snapshot, Turn};
 use tt_sgf::NoMemory;
 
 /// A tree that wins for its side from where a line stood: of a depth of at most 512, with rising turns and points on
 /// the board. Its footprint says at which other histories of the position it wins too.
 #[derive(Drop)]
 pub struct Proof {
-    past: Past,
+    snapshot: Snapshot,
     side: Side,
     plan: Plan,
     footprint: Footprint,
@@ -45,9 +45,9 @@ impl Model for Proof {
 
     ghost coded = { Prim.hlevel (codes, points.the_row.coded, strategy_code) };
 
-    ghost view = { λ p. record { frame = p.past.frame; state = p.past.state; side = p.side; tree = p.plan } };
+    ghost view = { λ p. record { frame = p.snapshot.frame; state = p.snapshot.state; side = p.side; tree = p.plan } };
 
-    ghost invariant = { λ p. IsFooted p.side p.past.frame p.past.state p.plan p.footprint };
+    ghost invariant = { λ p. IsFooted p.side p.snapshot.frame p.snapshot.state p.plan p.footprint };
 }
 
 /// Why a tree was not made a proof. The tree comes back.
@@ -89,7 +89,7 @@ impl Proof {
         ensures footprint { IsFootprint self.frame self.state self.tree result.1 }
     {
         let Proof {
-            past: _,
+            snapshot: _,
             side: _,
             plan,
             footprint,
@@ -123,42 +123,42 @@ impl Proof {
     pub fn key(&self) -> Key
         ensures { result ≡ key_of self.now.frame self.now.state }
     {
-        self.past.key()
+        self.snapshot.key()
     }
 
-    /// The print of that key. No board is made for it.
-    pub fn key_print(&self) -> u32
-        ensures { result ≡ print_of_key (key_of self.now.frame self.now.state) }
+    /// The hash of that key. No board is made for it.
+    pub fn key_hash(&self) -> u32
+        ensures { result ≡ hash_of_key (key_of self.now.frame self.now.state) }
     {
-        self.past.key_print()
+        self.snapshot.key_hash()
     }
 
     /// Whether the proof's own position has this key.
     pub fn has_key(&self, k: &Key) -> bool
         ensures { IsTrue result ↔ (key_of self.now.frame self.now.state ≡ k.now) }
     {
-        self.past.key().same(k)
+        self.snapshot.key().same(k)
     }
 
     /// Whether the proof's own position has the key of the line's.
     pub fn has_key_of(&self, line: &Line) -> bool
         ensures { IsTrue result ↔ (key_of self.now.frame self.now.state ≡ key_of line.now.frame line.now.state) }
     {
-        self.past.has_key_of(line)
+        self.snapshot.has_key_of(line)
     }
 
     /// Whether the line has the proof's frame, history, side to move and pass count.
     pub fn stands_at(&self, line: &Line) -> bool
         ensures { IsTrue result ↔ StandsAt self.now line.now.frame line.now.state }
     {
-        self.past.stands_with(line)
+        self.snapshot.stands_with(line)
     }
 
     /// The board of the proof's own position, made anew.
     pub fn present(&self) -> Board
         ensures { result ≡ record { size = self.now.frame.size; points = self.now.state.present } }
     {
-        self.past.present()
+        self.snapshot.present()
     }
 
     /// What the tree needs in its own history, and what it avoids there.
@@ -175,7 +175,7 @@ impl Proof {
         ensures fits { IsTrue result ↔ FitsAt self.now line.now.frame line.now.state }
         ensures wins { IsTrue result → IsWon self.now.side line.now.frame line.now.state self.now.tree }
     {
-        if !self.past.is_position_of(line) {
+        if !self.snapshot.is_position_of(line) {
             return false;
         }
         let history = line.history();
@@ -211,7 +211,7 @@ impl Proof {
         if self.stands_at(line) {
             return Some(own);
         }
-        let behind = &line.history()[self.past.begun_with(line)..];
+        let behind = &line.history()[self.snapshot.begun_with(line)..];
         let earlier = &behind[..behind.len().saturating_sub(1)];
         if self.fits(line) && none_within(&own.met, earlier) {
             return Some(own);
@@ -245,8 +245,8 @@ impl Proof {
             Err(_) => Err(Rejected::NoMemory(t)),
             Ok(false) => Err(Rejected::NotWinning(t)),
             Ok(true) => match rested(alloc, &t, line) {
-                Ok((past, footprint)) => Ok(Proof {
-                    past,
+                Ok((snapshot, footprint)) => Ok(Proof {
+                    snapshot,
                     side: s,
                     plan: Plan::of(t),
                     footprint,
@@ -264,9 +264,9 @@ impl Proof {
     {
         match line.winner() {
             Some(side) => {
-                let past = line.past()?;
+                let snapshot = line.snapshot()?;
                 Ok(Proof {
-                    past,
+                    snapshot,
                     side,
                     plan: Plan::done(),
                     footprint: Footprint::empty(alloc),
@@ -288,10 +288,10 @@ impl Proof {
         let side = child.side();
         let (below, behind) = child.into_parts();
         let footprint = Footprint::picked(alloc, line, &t, &board, behind)?;
-        let past = line.past()?;
+        let snapshot = line.snapshot()?;
         let plan = Plan::pick(alloc, t, below)?;
         Ok(Proof {
-            past,
+            snapshot,
             side,
             plan,
             footprint,
@@ -320,10 +320,10 @@ impl Proof {
             footprint.join(line, &turn, &board, behind)?;
             replies.push(turn, plan)?;
         }
-        let past = line.past()?;
+        let snapshot = line.snapshot()?;
         let plan = replies.into_plan(alloc)?;
         Ok(Proof {
-            past,
+            snapshot,
             side: line.to_move().opponent(),
             plan,
             footprint,
@@ -342,9 +342,9 @@ impl Proof {
         requires footprint { IsFootprint line.now.frame line.now.state plan footprint }
         ensures { IfOk result (λ p. StandsAt p line.now.frame line.now.state × (p.side ≡ s) × (p.tree ≡ plan)) }
     {
-        let past = line.past()?;
+        let snapshot = line.snapshot()?;
         Ok(Proof {
-            past,
+            snapshot,
             side: s,
             plan,
             footprint,
@@ -353,7 +353,7 @@ impl Proof {
 }
 
 /// Where the line stands, and the footprint of the tree there. The line stands as before.
-fn rested(alloc: Global, t: &Tree, line: &mut Line) -> Result<(Past, Footprint), NoMemory>
+fn rested(alloc: Global, t: &Tree, line: &mut Line) -> Result<(Snapshot, Footprint), NoMemory>
     requires depth { depth (strategy_of t.now) ≤ MOST_DEPTH }
     requires in_order { IsInOrder line.old.frame.size (strategy_of t.now) }
     ensures stands { IfOk result (λ r. (r.0.frame ≡ line.old.frame) × (r.0.state ≡ line.old.state)) }
@@ -361,6 +361,6 @@ fn rested(alloc: Global, t: &Tree, line: &mut Line) -> Result<(Past, Footprint),
     ensures same { line.new ≡ line.old }
 {
     let footprint = footprint_of(alloc, t, line)?;
-    let past = line.past()?;
-    Ok((past, footprint))
+    let snapshot = line.snapshot()?;
+    Ok((snapshot, footprint))
 }

@@ -1,10 +1,10 @@
 //! Lists of boards that share them: a board is made once, and each list holds a handle of it. The lists are kept in the order of the
-//! boards' prints, so that two are joined by one walk over both. No contract speaks of the order: a list that is out of order is
+//! boards' hashes, so that two are joined by one walk over both. No contract speaks of the order: a list that is out of order is
 //! joined rightly too, and may only hold a board twice.
 
 ghost use Rattle.std.specs.Prelude.{◌≡◌, ◌≢◌, ◌↔◌, ◌⊎◌, ◌<◌, ◌≤◌, ◌++◌, ◌∷◌, ℕ, [], length, get_or, Contains, IfOk, OnOk, IsTrue, MatchOption};
 ghost use Rattle.tt_board.specs.Position.{Position};
-ghost use Rattle.tt_game.specs.Mixing.{board_print};
+ghost use Rattle.tt_game.specs.Mixing.{board_hash};
 ghost use Rattle.tt_proof.specs.Collecting.{IsOneLess};
 
 use std::alloc::Global;
@@ -12,13 +12,13 @@ use std::marker::Model;
 use std::mem;
 use std::sync::Arc;
 use tt_board::Board;
-use tt_game::board_print;
+use tt_game::board_hash;
 use tt_sgf::NoMemory;
 
-/// A board that is held by a handle, and its print. Contracts see the board.
+/// A board that is held by a handle, and its hash. Contracts see the board.
 #[derive(Drop)]
 pub(crate) struct SharedBoard {
-    print: u64,
+    hash: u64,
     board: Arc<Board>,
 }
 
@@ -26,13 +26,13 @@ impl Model for SharedBoard {
     ghost use Rattle.std.specs.Prelude.{◌≡◌};
     ghost use Rattle.std.specs.Arc.{arc_value};
     ghost use Rattle.tt_board.specs.Position.{Position};
-    ghost use Rattle.tt_game.specs.Mixing.{board_print};
+    ghost use Rattle.tt_game.specs.Mixing.{board_hash};
 
     ghost Value = { Position };
 
     ghost view = { λ b. arc_value b.board };
 
-    ghost invariant = { λ b. b.print ≡ board_print (arc_value b.board).size (arc_value b.board).points };
+    ghost invariant = { λ b. b.hash ≡ board_hash (arc_value b.board).size (arc_value b.board).points };
 }
 
 impl SharedBoard {
@@ -41,7 +41,7 @@ impl SharedBoard {
         ensures { IfOk result (λ b. b ≡ board.now) }
     {
         Ok(SharedBoard {
-            print: board_print(board),
+            hash: board_hash(board),
             board: Arc::new(alloc, board.copy())?,
         })
     }
@@ -51,7 +51,7 @@ impl SharedBoard {
         ensures { IfOk result (λ b. b ≡ self.now) }
     {
         Ok(SharedBoard {
-            print: self.print,
+            hash: self.hash,
             board: Arc::try_clone(&self.board)?,
         })
     }
@@ -63,12 +63,12 @@ impl SharedBoard {
         &self.board
     }
 
-    /// Whether it is this board, of which the print is given. Boards are compared where their prints are the same.
-    fn is(&self, print: u64, board: &Board) -> bool
-        requires { print ≡ board_print board.now.size board.now.points }
+    /// Whether it is this board, of which the hash is given. Boards are compared where their hashes are the same.
+    fn is(&self, hash: u64, board: &Board) -> bool
+        requires { hash ≡ board_hash board.now.size board.now.points }
         ensures { IsTrue result ↔ (self.now ≡ board.now) }
     {
-        if self.print != print {
+        if self.hash != hash {
             return false;
         }
         self.board.same(board)
@@ -78,7 +78,7 @@ impl SharedBoard {
     fn same(&self, other: &SharedBoard) -> bool
         ensures { IsTrue result ↔ (self.now ≡ other.now) }
     {
-        self.is(other.print, &other.board)
+        self.is(other.hash, &other.board)
     }
 }
 
@@ -116,14 +116,14 @@ fn room(len: usize) -> usize
     len / 4 + 1
 }
 
-/// The one of two lists whose last print is greater, or which alone has one, gives its last board.
+/// The one of two lists whose last hash is greater, or which alone has one, gives its last board.
 fn take_greatest(left: &mut SharedBoards, right: &mut SharedBoards) -> Option<SharedBoard>
     ensures { MatchOption result ((left.old ≡ []) × (right.old ≡ [])) (λ x. IsOneLess left.old left.new right.old right.new x) }
 {
-    let Some(a) = left.last_print() else {
+    let Some(a) = left.last_hash() else {
         return right.pop();
     };
-    let Some(b) = right.last_print() else {
+    let Some(b) = right.last_hash() else {
         return left.pop();
     };
     if a < b { right.pop() } else { left.pop() }
@@ -144,9 +144,9 @@ impl SharedBoards {
         ensures { MatchOption result (Contains self.now board.now → ⊥)
             (λ k. (k < length self.now) × ((d : Position) → get_or self.now k d ≡ board.now)) }
     {
-        let print = board_print(board);
+        let hash = board_hash(board);
         for k in 0..self.boards.len() {
-            if self.boards[k].is(print, board) {
+            if self.boards[k].is(hash, board) {
                 return Some(k);
             }
         }
@@ -170,15 +170,15 @@ impl SharedBoards {
         self.boards.len() == 0
     }
 
-    /// The print of the last board.
-    fn last_print(&self) -> Option<u64>
+    /// The hash of the last board.
+    fn last_hash(&self) -> Option<u64>
         ensures { MatchOption result (self.now ≡ []) (λ _. 0 < length self.now) }
     {
         let len = self.boards.len();
         if len == 0 {
             return None;
         }
-        Some(self.boards[len - 1].print)
+        Some(self.boards[len - 1].hash)
     }
 
     /// The last board, which is taken out.
@@ -292,15 +292,15 @@ impl SharedBoards {
         }
     }
 
-    /// The place of the first board whose print isn't less, where the prints rise.
-    fn place_for(&self, print: u64) -> usize
+    /// The place of the first board whose hash isn't less, where the hashes rise.
+    fn place_for(&self, hash: u64) -> usize
         ensures { result ≤ length self.now }
     {
         let mut low = 0;
         let mut high = self.boards.len();
         while low < high {
             let middle = low + (high - low) / 2;
-            if self.boards[middle].print < print {
+            if self.boards[middle].hash < hash {
                 low = middle + 1;
             } else {
                 high = middle;
@@ -334,7 +334,7 @@ impl SharedBoards {
         ensures { OnOk result ((b : Position) → Contains self.new b ↔ (Contains self.old b ⊎ (b ≡ board.now))) }
     {
         let made = SharedBoard::of(alloc, board)?;
-        let k = self.place_for(made.print);
+        let k = self.place_for(made.hash);
         if self.has_at(k, &made) {
             return Ok(());
         }

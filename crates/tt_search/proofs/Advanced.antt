@@ -19,7 +19,7 @@ use Rattle.tt_search.specs.declared.limits.Reason.{Reason}
 use Rattle.tt_search.specs.declared.limits.Reason.TheVariants.{Budget, Depth, Total, Memory}
 use Rattle.tt_search.specs.declared.limits.Step.{Step}
 use Rattle.tt_search.specs.declared.limits.Step.TheVariants.{Expanded, Closed, Settled, Stuck}
-use Rattle.tt_search.specs.declared.walk.Pace.{Pace}
+use Rattle.tt_search.specs.declared.walk.Stop.{Stop}
 use Rattle.tt_search.proofs.Open.{open_leaves, left_to_do, falls, falls_expanded, falls_closed, reached_itself, reached_more, same_problem}
 use Rattle.tt_search.proofs.Steady.{steady_undecided}
 use Rattle.tt_search.proofs.Steps.{search_expanded, search_closed}
@@ -51,8 +51,8 @@ module _ (at : Stand) (limits : Limits) where
   taken_with old (Stuck Memory) new h u k l = same_with old new h k l
 
   -- and so do steps together
-  pub steps_with : (pace : Pace) (old : Stage) (step : Step) (new : Stage) → IsSearch at limits old → IsUndecided old.tree → AreStepsAt pace at old step new → IsSearch at limits new
-  steps_with pace old step new h u k =
+  pub steps_with : (stop : Stop) (old : Stage) (step : Step) (new : Stage) → IsSearch at limits old → IsUndecided old.tree → AreStepsAt stop at old step new → IsSearch at limits new
+  steps_with stop old step new h u k =
       taken_with k.before step new (steady_with k.how_many old k.before h u k.steady) (steady_undecided k.how_many at old k.before k.steady u) k.taken k.counted
 
   -- a growth of a search is one within its limits
@@ -90,9 +90,9 @@ module _ (line : Standing) (room : ℕ) (limits : Limits) where
   no_steps n old new e h = ap (λ (x : Stage). x.tree) (subst (λ n. Steady n (stand line room) old new) e h)
 
   -- what steps at the root are to a search
-  pub advanced : (pace : Pace) (old : Stage) (step : Step) (new : Stage) → IsSearch (stand line room) limits old → IsUndecided old.tree
-      → AreStepsAt pace (stand line room) old step new → IsAdvanced pace (searched line limits old.tree) step (searched line limits new.tree)
-  advanced pace old step new h u k = record {
+  pub advanced : (stop : Stop) (old : Stage) (step : Step) (new : Stage) → IsSearch (stand line room) limits old → IsUndecided old.tree
+      → AreStepsAt stop (stand line room) old step new → IsAdvanced stop (searched line limits old.tree) step (searched line limits new.tree)
+  advanced stop old step new h u k = record {
     before = searched line limits k.before.tree;
     reached = record {
       problem = record { line = refl; limits = refl };
@@ -104,8 +104,8 @@ module _ (line : Standing) (room : ℕ) (limits : Limits) where
   }
 
 -- a decided search is advanced by the answer that it is settled, and stays as it was
-pub advanced_settled : (pace : Pace) (old : Searched) → (IsUndecided old.tree → ⊥) → IsAdvanced pace old Settled old
-advanced_settled pace old h = record { before = old; reached = reached_itself old; one = λ e. refl; taken = (h, refl) }
+pub advanced_settled : (stop : Stop) (old : Searched) → (IsUndecided old.tree → ⊥) → IsAdvanced stop old Settled old
+advanced_settled stop old h = record { before = old; reached = reached_itself old; one = λ e. refl; taken = (h, refl) }
 
 -- ---- runs
 
@@ -147,19 +147,19 @@ since_before : (old before new : Searched) → IsSameProblem old before → IsSa
 since_before old before new h k = record { line = k.line ∙ sym h.line; limits = k.limits ∙ sym h.limits }
 
 -- steps whose last one expands or closes leave less to do
-pub advanced_falls : (pace : Pace) (old new : Searched) (step : Step) → IsAdvanced pace old step new → IsSameProblem old new → (step ≡ Expanded) ⊎ (step ≡ Closed) → left_to_do new < left_to_do old
-advanced_falls pace old new step h same changed =
+pub advanced_falls : (stop : Stop) (old new : Searched) (step : Step) → IsAdvanced stop old step new → IsSameProblem old new → (step ≡ Expanded) ⊎ (step ≡ Closed) → left_to_do new < left_to_do old
+advanced_falls stop old new step h same changed =
     omega (arith, reached_falls old h.before h.reached, falls h.before new step h.taken (since_before old h.before new h.reached.problem same) changed)
 
 -- from a search that is reached, steps whose last one expands or closes lead to one that is reached
-pub advanced_reached : (pace : Pace) (start old new : Searched) (step : Step) → RanTo start old → IsAdvanced pace old step new → IsSameProblem old new → (step ≡ Expanded)
+pub advanced_reached : (stop : Stop) (start old new : Searched) (step : Step) → RanTo start old → IsAdvanced stop old step new → IsSameProblem old new → (step ≡ Expanded)
     ⊎ (step ≡ Closed) → RanTo start new
-advanced_reached pace start old new step r h same changed =
+advanced_reached stop start old new step r h same changed =
     reached_more start h.before new step (reached_joined start old h.before r h.reached) (since_before old h.before new h.reached.problem same) h.taken changed
 
 -- so do steps whose last one finds the search settled
-pub settled_reached : (pace : Pace) (start old new : Searched) → RanTo start old → IsAdvanced pace old Settled new → RanTo start new
-settled_reached pace start old new r h = subst (RanTo start) (sym h.taken.1) (reached_joined start old h.before r h.reached)
+pub settled_reached : (stop : Stop) (start old new : Searched) → RanTo start old → IsAdvanced stop old Settled new → RanTo start new
+settled_reached stop start old new r h = subst (RanTo start) (sym h.taken.1) (reached_joined start old h.before r h.reached)
 
 -- a stuck step says that its search is stuck for the reason, and leaves it as it was
 stuck_of : (reason : Reason) (old new : Searched) → StepOf old (Stuck reason) new → IsStuckFor reason old × (new ≡ old)
@@ -169,7 +169,7 @@ stuck_of Total old new h = h
 stuck_of Memory old new h = (tt, h.1)
 
 -- steps that end stuck lead to a search that is reached and stuck for the reason
-pub stuck_reached : (pace : Pace) (start old new : Searched) (reason : Reason) → RanTo start old → IsAdvanced pace old (Stuck reason) new → RanTo start new × IsStuckFor reason new
-stuck_reached pace start old new reason r h =
+pub stuck_reached : (stop : Stop) (start old new : Searched) (reason : Reason) → RanTo start old → IsAdvanced stop old (Stuck reason) new → RanTo start new × IsStuckFor reason new
+stuck_reached stop start old new reason r h =
     let stuck = stuck_of reason h.before new h.taken in
     (subst (RanTo start) (sym stuck.1) (reached_joined start old h.before r h.reached), subst (IsStuckFor reason) (sym stuck.1) stuck.0)

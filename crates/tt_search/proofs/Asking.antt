@@ -12,8 +12,8 @@ use Rattle.tt_search.specs.declared.limits.Reason.{Reason}
 use Rattle.tt_search.specs.declared.limits.Reason.TheVariants.{Budget, Depth, Total, Memory}
 use Rattle.tt_search.specs.declared.limits.Step.{Step}
 use Rattle.tt_search.specs.declared.limits.Step.TheVariants.{Expanded, Closed, Settled, Stuck}
-use Rattle.tt_search.specs.declared.walk.Pace.{Pace}
-use Rattle.tt_search.specs.declared.walk.Pace.TheVariants.{OneStep}
+use Rattle.tt_search.specs.declared.walk.Stop.{Stop}
+use Rattle.tt_search.specs.declared.walk.Stop.TheVariants.{OneStep}
 
 -- a step that is stuck for another reason than the total asks for nothing
 pub unasked_stuck : (asked : Asked) (reason : Reason) → Stuck reason ≢ Stuck Total → AskedBy asked (Stuck reason) asked
@@ -40,21 +40,21 @@ room_to_ask at old step tree granted h room e =
     omega (arith, left, room)
 
 -- one step asks for what it asks
-pub asked_once : (pace : Pace) (old new : Asked) (step : Step) → AskedBy old step new → AreAsked pace old step new
-asked_once pace old new step h = record { before = old; granted = refl; one = λ e. refl; asked = h }
+pub asked_once : (stop : Stop) (old new : Asked) (step : Step) → AskedBy old step new → AreAsked stop old step new
+asked_once stop old new step h = record { before = old; granted = refl; one = λ e. refl; asked = h }
 
 -- what was granted so far, where none was refused
-pub record IsGranted (pace : Pace) (old now : Asked) : Type 0 where
+pub record IsGranted (stop : Stop) (old now : Asked) : Type 0 where
   pub same : now.refused ≡ old.refused
-  pub one : pace ≡ OneStep → now ≡ old
+  pub one : stop ≡ OneStep → now ≡ old
 
 -- nothing yet
-pub granted_first : (pace : Pace) (old : Asked) → IsGranted pace old old
-granted_first pace old = record { same = refl; one = λ e. refl }
+pub granted_first : (stop : Stop) (old : Asked) → IsGranted stop old old
+granted_first stop old = record { same = refl; one = λ e. refl }
 
-module _ (pace : Pace) (old now new : Asked) (step : Step) (far : IsGranted pace old now) (h : AreAsked pace now step new) where
+module _ (stop : Stop) (old now new : Asked) (step : Step) (far : IsGranted stop old now) (h : AreAsked stop now step new) where
   -- a round that is the last one
-  pub asked_last : AreAsked pace old step new
+  pub asked_last : AreAsked stop old step new
   asked_last = record { before = h.before; granted = h.granted ∙ far.same; one = λ e. h.one e ∙ far.one e; asked = h.asked }
 
   -- an expansion is asked for only where none was refused, and then none is
@@ -63,7 +63,7 @@ module _ (pace : Pace) (old now new : Asked) (step : Step) (far : IsGranted pace
   kept_by before (inr e) k = ap (λ (a : Asked). a.refused) (subst (λ s. AskedBy before s new) e k)
 
   -- a round that changes its tree, where others follow
-  pub granted_more : (once : Bool) → (once ≡ true) ↔ (pace ≡ OneStep) → once ≡ false → (step ≡ Expanded) ⊎ (step ≡ Closed) → IsGranted pace old new
+  pub granted_more : (once : Bool) → (once ≡ true) ↔ (stop ≡ OneStep) → once ≡ false → (step ≡ Expanded) ⊎ (step ≡ Closed) → IsGranted stop old new
   granted_more once says more changed = record {
     same = kept_by h.before changed h.asked ∙ h.granted ∙ far.same;
     one = λ e. let is : once ≡ true = says.1 e in cc;
@@ -72,17 +72,17 @@ module _ (pace : Pace) (old now new : Asked) (step : Step) (far : IsGranted pace
 -- ---- runs
 
 -- where the last step expands or closes, none is refused
-pub kept_refused : (pace : Pace) (old new : Asked) (step : Step) → AreAsked pace old step new → (step ≡ Expanded) ⊎ (step ≡ Closed) → new.refused ≡ old.refused
-kept_refused pace old new step h changed = kept_by pace old old new step (granted_first pace old) h h.before changed h.asked ∙ h.granted
+pub kept_refused : (stop : Stop) (old new : Asked) (step : Step) → AreAsked stop old step new → (step ≡ Expanded) ⊎ (step ≡ Closed) → new.refused ≡ old.refused
+kept_refused stop old new step h changed = kept_by stop old old new step (granted_first stop old) h h.before changed h.asked ∙ h.granted
 
 -- nor where it finds the search settled
-pub settled_refused : (pace : Pace) (old new : Asked) → AreAsked pace old Settled new → new.refused ≡ old.refused
-settled_refused pace old new h = ap (λ (a : Asked). a.refused) h.asked ∙ h.granted
+pub settled_refused : (stop : Stop) (old new : Asked) → AreAsked stop old Settled new → new.refused ≡ old.refused
+settled_refused stop old new h = ap (λ (a : Asked). a.refused) h.asked ∙ h.granted
 
 -- what a run spent that ends stuck
-pub spent_stuck : (pace : Pace) (start search : Searched) (first old new : Asked) (reason : Reason) → HasSpent start first search new → old.refused ≡ first.refused
-    → AreAsked pace old (Stuck reason) new → SpentBy start first (end.Stuck reason (Some search)) new
-spent_stuck pace start search first old new Budget spent same h = (spent, ap (λ (a : Asked). a.refused) h.asked ∙ h.granted ∙ same)
-spent_stuck pace start search first old new Depth spent same h = (spent, ap (λ (a : Asked). a.refused) h.asked ∙ h.granted ∙ same)
-spent_stuck pace start search first old new Total spent same h = (spent, ap (λ (a : Asked). a.refused) h.asked)
-spent_stuck pace start search first old new Memory spent same h = (spent, ap (λ (a : Asked). a.refused) h.asked ∙ h.granted ∙ same)
+pub spent_stuck : (stop : Stop) (start search : Searched) (first old new : Asked) (reason : Reason) → HasSpent start first search new → old.refused ≡ first.refused
+    → AreAsked stop old (Stuck reason) new → SpentBy start first (end.Stuck reason (Some search)) new
+spent_stuck stop start search first old new Budget spent same h = (spent, ap (λ (a : Asked). a.refused) h.asked ∙ h.granted ∙ same)
+spent_stuck stop start search first old new Depth spent same h = (spent, ap (λ (a : Asked). a.refused) h.asked ∙ h.granted ∙ same)
+spent_stuck stop start search first old new Total spent same h = (spent, ap (λ (a : Asked). a.refused) h.asked)
+spent_stuck stop start search first old new Memory spent same h = (spent, ap (λ (a : Asked). a.refused) h.asked ∙ h.granted ∙ same)

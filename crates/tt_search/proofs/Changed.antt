@@ -11,9 +11,9 @@ use Rattle.tt_search.specs.Children.{children_of}
 use Rattle.tt_search.specs.Choices.{Choices, node_with, best_place}
 use Rattle.tt_search.specs.Pairs.{changed_sum, ArePair}
 use Rattle.tt_search.specs.Edges.{edge_turns, edge_trees}
-use Rattle.tt_search.specs.Packed.{choices_of, child_of, AreFew}
+use Rattle.tt_search.specs.ChildNodes.{choices_of, child_of, AreFew}
 use Rattle.tt_search.specs.Sprouting.{IsPut}
-use Rattle.tt_search.specs.declared.children.Packed.{Packed}
+use Rattle.tt_search.specs.declared.children.ChildNodes.{ChildNodes}
 use Rattle.tt_search.specs.declared.numbers.Pair.{Pair}
 use Rattle.tt_search.proofs.Places.{length-turns_of, length-trees_of}
 use Rattle.tt_search.proofs.Best.{own_number, other_number}
@@ -132,7 +132,7 @@ length-numbers goal (t ∷ trees) = ap suc (length-numbers goal trees)
 
 -- ---- the best child has become another tree
 
-module _ (mover : Side) (old new : Packed) (p : ℕ) (tree : PartialTree) (is : p ≡ best_place (choices_of mover old)) (there : p < length (edge_trees old.edges old.grown.items))
+module _ (mover : Side) (old new : ChildNodes) (p : ℕ) (tree : PartialTree) (is : p ≡ best_place (choices_of mover old)) (there : p < length (edge_trees old.edges old.grown.items))
     (put : IsPut p old tree new) where
   abbrev trees : List PartialTree
   trees = edge_trees old.edges old.grown.items
@@ -193,7 +193,7 @@ module _ (mover : Side) (old new : Packed) (p : ℕ) (tree : PartialTree) (is : 
       (omega (arith, k.0, at), ap (λ n. changed_sum (capped_sum (row goal)) n (number goal tree)) (sym at) ∙ k.1 ∙ ap capped_sum (sym (row_is goal)))
 
 -- what steps of the best child make of the node's numbers, where it was the first child, and is the second one now
-module _ (mover : Side) (old new : Packed) (p : ℕ) (v : Choices) (was : Pair) (view_is : choices_of mover old ≡ v)
+module _ (mover : Side) (old new : ChildNodes) (p : ℕ) (v : Choices) (was : Pair) (view_is : choices_of mover old ≡ v)
     (pair : ArePair v.mover (node_with v) was) (is : p ≡ best_place (choices_of mover old))
     (there : best_place v < length v.trees) (tree : PartialTree) (put : IsPut p old tree new) (second : PartialTree) (second_is : second ≡ child_of new p) where
   abbrev before : Side → List ℕ

@@ -4,37 +4,37 @@ use Rattle.tt_search.specs.Grants.{Asked, AskedBy}
 use Rattle.tt_search.specs.Asking.{AreAsked}
 use Rattle.tt_search.specs.Descending.{Descends}
 use Rattle.tt_search.specs.declared.limits.Step.{Step}
-use Rattle.tt_search.specs.declared.walk.Pace.{Pace}
-use Rattle.tt_search.specs.declared.walk.Pace.TheVariants.{OneStep}
+use Rattle.tt_search.specs.declared.walk.Stop.{Stop}
+use Rattle.tt_search.specs.declared.walk.Stop.TheVariants.{OneStep}
 use Rattle.tt_search.specs.declared.walk.Walk.{Walk}
 use Rattle.tt_search.proofs.Asking.{IsGranted, asked_once, asked_last}
 
--- at the pace of one step there is no other step
+-- where it stops after one step there is no other step
 pub asked_by : (old new : Asked) (step : Step) → AreAsked OneStep old step new → AskedBy old step new
 asked_by old new step h = subst (λ before. AskedBy before step new) (h.one refl) h.asked
 
 module _ {G Source : Type 0} (asked : G → Asked) (source : G → Source) (may_answer : Type 0) where
   -- one step goes at any pace
-  pub any_pace : (pace : Pace) (walk : Walk) (old : G) (step : Step) (after : Walk) (new : G)
-      → Descends asked source may_answer OneStep walk old step after new → Descends asked source may_answer pace walk old step after new
-  any_pace pace walk old step after new h = record {
+  pub any_pace : (stop : Stop) (walk : Walk) (old : G) (step : Step) (after : Walk) (new : G)
+      → Descends asked source may_answer OneStep walk old step after new → Descends asked source may_answer stop walk old step after new
+  any_pace stop walk old step after new h = record {
     line = h.line;
     room = h.room;
     may = h.may;
     granted = h.granted;
-    asked_for = asked_once pace (asked old) (asked new) step (asked_by (asked old) (asked new) step h.asked_for);
+    asked_for = asked_once stop (asked old) (asked new) step (asked_by (asked old) (asked new) step h.asked_for);
     source_stays = h.source_stays;
   }
 
   -- the last of some descents at a walk, where none of those before was refused
-  pub last_of : (pace : Pace) (first walk : Walk) (old now : G) (step : Step) (after : Walk) (new : G)
+  pub last_of : (stop : Stop) (first walk : Walk) (old now : G) (step : Step) (after : Walk) (new : G)
       → walk.line ≡ first.line → walk.room ≡ first.room → (asked now).granted + walk.left ≡ (asked old).granted + first.left → source now ≡ source old
-      → IsGranted pace (asked old) (asked now) → Descends asked source may_answer pace walk now step after new → Descends asked source may_answer pace first old step after new
-  last_of pace first walk old now step after new line room granted same far h = record {
+      → IsGranted stop (asked old) (asked now) → Descends asked source may_answer stop walk now step after new → Descends asked source may_answer stop first old step after new
+  last_of stop first walk old now step after new line room granted same far h = record {
     line = h.line ∙ line;
     room = h.room ∙ room;
     may = h.may;
     granted = h.granted ∙ granted;
-    asked_for = asked_last pace (asked old) (asked now) (asked new) step far h.asked_for;
+    asked_for = asked_last stop (asked old) (asked now) (asked new) step far h.asked_for;
     source_stays = h.source_stays ∙ same;
   }

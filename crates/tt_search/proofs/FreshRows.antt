@@ -6,16 +6,16 @@ use Rattle.tt_search.specs.PartialTree.{PartialTree}
 use Rattle.tt_search.specs.Children.{children_of}
 use Rattle.tt_search.specs.Numbers.{cap, least, has_infinite, capped_sum, numbers}
 use Rattle.tt_search.specs.MostProving.{first_least}
-use Rattle.tt_search.specs.Edges.{mark_of, edge_trees, AreFresh}
+use Rattle.tt_search.specs.Edges.{edge_state_of, edge_trees, AreFresh}
 use Rattle.tt_search.specs.declared.edges.Edge.{Edge}
-use Rattle.tt_search.specs.declared.edges.Mark.TheVariants.{Fresh}
+use Rattle.tt_search.specs.declared.edges.EdgeState.TheVariants.{Fresh}
 
 small_quotient : (n : ℕ) → n < 512 → n / 512 ≡ 0
 small_quotient n h = omega (arith, h)
 
 -- an edge of a number below that of the turns has the mark
-pub fresh_mark : (e : Edge) → e.code < 512 → mark_of e ≡ Fresh
-fresh_mark e h = rw (small_quotient e.code h) refl
+pub fresh_edge_state : (e : Edge) → e.code < 512 → edge_state_of e ≡ Fresh
+fresh_edge_state e h = rw (small_quotient e.code h) refl
 
 -- each has the number 1
 pub ones : (side : Side) (es : List Edge) (grown : List PartialTree) → AreFresh es → numbers side (children_of (edge_trees es grown)) ≡ replicate (length es) 1

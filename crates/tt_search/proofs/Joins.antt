@@ -17,13 +17,13 @@ use Rattle.tt_search.specs.Numbers.{is_same, numbers}
 use Rattle.tt_search.specs.Growing.{ArePartialTrees}
 use Rattle.tt_search.specs.Within.{AllStayWithin}
 use Rattle.tt_search.specs.Children.{children_of}
-use Rattle.tt_search.specs.Edges.{edge_turn, mark_of, edge_turns, tree_of, edge_trees, grown_behind, grown_in}
+use Rattle.tt_search.specs.Edges.{edge_turn, edge_state_of, edge_turns, tree_of, edge_trees, grown_behind, grown_in}
 use Rattle.tt_search.specs.Settled.{strategy_for, first_settled, replies}
 use Rattle.tt_search.specs.Joining.{IsSettledAt, AreSettledAt}
 use Rattle.tt_search.specs.Choices.{node_with}
-use Rattle.tt_search.specs.Packed.{choices_of, children_in, child_of}
+use Rattle.tt_search.specs.ChildNodes.{choices_of, children_in, child_of}
 use Rattle.tt_search.specs.declared.edges.Edge.{Edge}
-use Rattle.tt_search.specs.declared.children.Packed.{Packed}
+use Rattle.tt_search.specs.declared.children.ChildNodes.{ChildNodes}
 use Rattle.tt_search.proofs.Places.{length-trees_of, turn_at_place, nodes_behind, replies_at_end, replied_step}
 use Rattle.tt_search.proofs.Replies.{joined, joined_none, joined_push}
 use Rattle.tt_search.proofs.Sprouted.{any_default}
@@ -73,12 +73,12 @@ module _ (side : Side) (f : Frame) (s : State) where
       (zero_at side (children_of trees) (own_zero side side turns (children_of trees) (same_as_itself side) h.settled))
 
   -- so its place is there
-  pub picked_there : (x : Packed) (i : ℕ) → IsSettledAt side f s (node_with (choices_of side x)) → i ≡ first_settled side (children_in x) → i < length x.edges
+  pub picked_there : (x : ChildNodes) (i : ℕ) → IsSettledAt side f s (node_with (choices_of side x)) → i ≡ first_settled side (children_in x) → i < length x.edges
   picked_there x i h is =
       omega (arith, is, length-trees_of x.edges x.grown.items, (picked_child (edge_turns x.edges) (edge_trees x.edges x.grown.items) Pass fresh h).there)
 
   -- and what the code finds there is a legal turn, and a tree that is settled behind it
-  pub picked_here : (x : Packed) (i : ℕ) (e : Edge) (t : Turn) (child : PartialTree) → IsSettledAt side f s (node_with (choices_of side x)) → i ≡ first_settled side (children_in x)
+  pub picked_here : (x : ChildNodes) (i : ℕ) (e : Edge) (t : Turn) (child : PartialTree) → IsSettledAt side f s (node_with (choices_of side x)) → i ≡ first_settled side (children_in x)
       → e ≡ get_or x.edges i e → t ≡ edge_turn e → child ≡ child_of x i → IsLegal f s t × IsSettledAt side f (after f s t) child
   picked_here x i e t child h is at turn is_child =
       let turns = edge_turns x.edges in
@@ -106,15 +106,15 @@ module _ (side : Side) (f : Frame) (s : State) where
   -- the first child, and those behind it
   pub record AreSettledFrom (e : Edge) (es : List Edge) (grown : List PartialTree) : Type 0 where
     pub legal : IsLegal f s (edge_turn e)
-    pub child : IsSettledAt side f (after f s (edge_turn e)) (tree_of (mark_of e) grown)
-    pub others : AreSettledAt side f s es (grown_behind (mark_of e) grown)
+    pub child : IsSettledAt side f (after f s (edge_turn e)) (tree_of (edge_state_of e) grown)
+    pub others : AreSettledAt side f s es (grown_behind (edge_state_of e) grown)
 
   settled_from : (e : Edge) (es : List Edge) (grown : List PartialTree) → AreSettledAt side f s (e ∷ es) grown → AreSettledFrom e es grown
   settled_from e es grown h = record {
     legal = h.legal.0;
-    child = record { settled = h.settled.0; partial = h.partial.0; stays = stays_in_more f.size 511 512 (tree_of (mark_of e) grown) (omega arith) h.stays.0 };
+    child = record { settled = h.settled.0; partial = h.partial.0; stays = stays_in_more f.size 511 512 (tree_of (edge_state_of e) grown) (omega arith) h.stays.0 };
     others = record {
-      whole = nodes_behind (mark_of e) (grown_in es) grown h.whole;
+      whole = nodes_behind (edge_state_of e) (grown_in es) grown h.whole;
       settled = h.settled.1;
       legal = h.legal.1;
       partial = h.partial.1;
@@ -140,7 +140,7 @@ module _ (side : Side) (f : Frame) (s : State) where
 
   -- one child more
   pub joined_here : (all : Entries) (es : List Edge) (grown : List PartialTree) (i : ℕ) (e : Edge) (t : Turn) (tree : PartialTree) (behind : List PartialTree) (old new : Footprint)
-      → i < length es → t ≡ edge_turn (get_or es i e) → tree ≡ tree_of (mark_of (get_or es i e)) grown → behind ≡ grown_behind (mark_of (get_or es i e)) grown
+      → i < length es → t ≡ edge_turn (get_or es i e) → tree ≡ tree_of (edge_state_of (get_or es i e)) grown → behind ≡ grown_behind (edge_state_of (get_or es i e)) grown
       → IsEntryJoined f s t (strategy_for side tree) old new → IsJoinedUpTo all (drop i es) grown old → IsJoinedUpTo all (drop (i + 1) es) behind new
   joined_here all es grown i e t tree behind old new l is_turn is_tree is_behind more (ys, made, foot) =
       let u = strategy_for side tree in
@@ -150,7 +150,7 @@ module _ (side : Side) (f : Frame) (s : State) where
       joined_push ys (t, u) rest
       ∙ ap (λ v. joined ys (entry v u rest)) is_turn
       ∙ ap (λ v. joined ys (entry (edge_turn (get_or es i e)) (strategy_for side v) rest)) is_tree
-      ∙ ap (λ us. joined ys (entry (edge_turn (get_or es i e)) (strategy_for side (tree_of (mark_of (get_or es i e)) grown)) (replies_to (drop (i + 1) es) us))) is_behind
+      ∙ ap (λ us. joined ys (entry (edge_turn (get_or es i e)) (strategy_for side (tree_of (edge_state_of (get_or es i e)) grown)) (replies_to (drop (i + 1) es) us))) is_behind
       ∙ ap (joined ys) (sym step)
       ∙ made in
       (ys ++ (t, u) ∷ [], here, more ys foot)

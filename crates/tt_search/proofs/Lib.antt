@@ -20,6 +20,6 @@ pub mod Replies
 pub mod Joins
 pub mod LegalPlays
 pub mod Ends
-pub mod Chains
+pub mod Buckets
 pub mod FreshRows
 pub mod Sent

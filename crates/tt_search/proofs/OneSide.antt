@@ -7,14 +7,14 @@ use Rattle.tt_proof.specs.Proven.{Proven}
 use Rattle.tt_search.specs.PartialTree.{PartialTree, fresh, won, closed, expanded, Children, no_more, more}
 use Rattle.tt_search.specs.Numbers.{number, numbers}
 use Rattle.tt_search.specs.Children.{children_of}
-use Rattle.tt_search.specs.Edges.{mark_of, tree_of, edge_trees, grown_behind}
+use Rattle.tt_search.specs.Edges.{edge_state_of, tree_of, edge_trees, grown_behind}
 use Rattle.tt_search.specs.Settled.{first_settled, strategy_for}
 use Rattle.tt_search.specs.Choices.{node_with}
-use Rattle.tt_search.specs.Packed.{choices_of}
+use Rattle.tt_search.specs.ChildNodes.{choices_of}
 use Rattle.tt_search.specs.Offered.{IsOffered}
 use Rattle.tt_search.specs.Joining.{AreZero}
 use Rattle.tt_search.specs.declared.edges.Edge.{Edge}
-use Rattle.tt_search.specs.declared.children.Packed.{Packed}
+use Rattle.tt_search.specs.declared.children.ChildNodes.{ChildNodes}
 use Rattle.tt_search.proofs.Strategies.{IsZeroAt, zero_at, all_zero, zero_sum}
 
 mutual
@@ -51,7 +51,7 @@ one_side Defender Defender tree h k = refl
 
 -- the first of these children, and those behind it
 pub zero_step : (side : Side) (es : List Edge) (rest : List PartialTree) (i : ℕ) (e : Edge) → i < length es → AreZero side (children_of (edge_trees (drop i es) rest))
-    → (number side (tree_of (mark_of (get_or es i e)) rest) ≡ 0) × AreZero side (children_of (edge_trees (drop (i + 1) es) (grown_behind (mark_of (get_or es i e)) rest)))
+    → (number side (tree_of (edge_state_of (get_or es i e)) rest) ≡ 0) × AreZero side (children_of (edge_trees (drop (i + 1) es) (grown_behind (edge_state_of (get_or es i e)) rest)))
 zero_step side es rest i e l h = subst (λ xs. AreZero side (children_of (edge_trees xs rest))) (at_drop_more (λ (xs : List Edge). xs) es i e l) h
 
 -- a child with the number 0 at the place, where the children are a list
@@ -61,7 +61,7 @@ zero_there side (tree ∷ trees) zero d z = z
 zero_there side (tree ∷ trees) (suc i) d z = zero_there side trees i d z
 
 -- the proof that a node has offered is the side's for which the node is settled, and has its strategy
-pub offered_for : (mover : Side) (children : Packed) (p : Proven) (side : Side) (tree : PartialTree) → IsOffered mover children p
+pub offered_for : (mover : Side) (children : ChildNodes) (p : Proven) (side : Side) (tree : PartialTree) → IsOffered mover children p
     → node_with (choices_of mover children) ≡ tree → number side tree ≡ 0 → (p.side ≡ side) × (p.tree ≡ strategy_for side tree)
 offered_for mover children p side tree h is z =
     let same : p.side ≡ side = one_side p.side side tree (subst (λ t. number p.side t ≡ 0) is h.proof.settled) z in

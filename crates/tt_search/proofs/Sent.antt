@@ -16,7 +16,7 @@ use Rattle.std.specs.contracts.sync.Arc as Arc
 use Rattle.tt_game.proofs.Sent.{line_send, side_send}
 use Rattle.tt_proof.specs.contracts.proven.Proof as Proof
 use Rattle.tt_proof.proofs.Sent.{shared_send}
-use Rattle.tt_search.specs.contracts.children.Aim as Aim
+use Rattle.tt_search.specs.contracts.children.BestChild as BestChild
 use Rattle.tt_search.specs.contracts.edge_row.Edges as Edges
 use Rattle.tt_search.specs.contracts.limits.Limits as Limits
 use Rattle.tt_search.specs.contracts.plays.Plays as Plays
@@ -28,14 +28,14 @@ use Rattle.tt_search.specs.contracts.search.Search.TheInside as Within
 use Rattle.tt_search.specs.contracts.walk.Walk as Walk
 
 module _ (h : RattleType) (below : IsSend h) where
-  packed_layer : IsSend (NodeKnot.layer-Packed h)
-  packed_layer = search (sendable, crosses) depth 40
+  child_nodes_layer : IsSend (NodeKnot.layer-ChildNodes h)
+  child_nodes_layer = search (sendable, crosses) depth 40
 
   node_layer : IsSend (NodeKnot.layer-Node h)
   node_layer = search (sendable, crosses) depth 40
 
-aim_field : IsSend (as_row Aim.the_field)
-aim_field = as_row_send Aim.the_field (search (sendable, crosses, side_send) depth 40)
+aim_field : IsSend (as_row BestChild.the_field)
+aim_field = as_row_send BestChild.the_field (search (sendable, crosses, side_send) depth 40)
 
 edges_send : IsSend Edges.the_row
 edges_send = search (sendable, crosses) depth 40
@@ -51,11 +51,11 @@ shared_field : IsSend (as_row (Arc.the_field Proof.the_row Global.the_row ghosts
 shared_field = search (sendable, crosses, shared_send) depth 40
 
 -- what a node has become holds packed children, or a box of them
-growth_layer : (packed boxed : RattleType) → IsSend packed → IsSend boxed → IsSend (NodeKnot.layer-Growth packed boxed)
-growth_layer packed boxed below above =
-    let children : IsSend (as_row (row_field packed)) = as_row_send (row_field packed) below in
+growth_layer : (child_nodes boxed : RattleType) → IsSend child_nodes → IsSend boxed → IsSend (NodeKnot.layer-Growth child_nodes boxed)
+growth_layer child_nodes boxed below above =
+    let children : IsSend (as_row (row_field child_nodes)) = as_row_send (row_field child_nodes) below in
     let box : IsSend (Box.the_row boxed Global.the_row ghosts) = search (sendable, crosses, above) depth 40 in
-    variants_send (NodeKnot.type-Growth packed boxed) (
+    variants_send (NodeKnot.type-Growth child_nodes boxed) (
       tt,
       (
         (side_send, tt),
@@ -80,8 +80,8 @@ rejoined_send R D split join joins = recorded_send R D split (split_one R D spli
 node_keeps : (p : Parts NodeKnot.frame) → ((j : Deep.the_members) → IsSend (rows NodeKnot.frame p j)) → (i : Deep.the_members) → IsSend (rows NodeKnot.frame (NodeKnot.step p) i)
 node_keeps p all Deep.member-Node =
     let nodes = all Deep.member-Node in
-    let packed : IsSend (NodeKnot.at-Packed p) = rejoined_send _ _ Deep.split-Packed Deep.join-Packed Deep.joins-Packed (packed_layer _ nodes) in
-    let growth : IsSend (NodeKnot.at-Growth p) = rejoined_send _ _ Deep.split-Growth Deep.join-Growth Deep.joins-Growth (growth_layer _ _ packed packed) in
+    let child_nodes : IsSend (NodeKnot.at-ChildNodes p) = rejoined_send _ _ Deep.split-ChildNodes Deep.join-ChildNodes Deep.joins-ChildNodes (child_nodes_layer _ nodes) in
+    let growth : IsSend (NodeKnot.at-Growth p) = rejoined_send _ _ Deep.split-Growth Deep.join-Growth Deep.joins-Growth (growth_layer _ _ child_nodes child_nodes) in
     let node : IsSend (NodeKnot.at-Node p) = rejoined_send _ _ Deep.split-Node Deep.join-Node Deep.joins-Node (node_layer _ growth) in
     let view : IsSend (NodeKnot.view-Node p) = view_send _ _ _ _ _ node in
     record { owned = view.owned; leaving = λ k x w. tt }

@@ -5,21 +5,21 @@ use Rattle.tt_game.specs.declared.frame.Side.{Side}
 use Rattle.tt_game.specs.Game.{winner_of}
 use Rattle.tt_search.specs.PartialTree.{PartialTree, fresh, won}
 use Rattle.tt_search.specs.Numbers.{IsUndecided}
-use Rattle.tt_search.specs.Edges.{edge_turn, mark_of, edge_turns, edge_trees, tree_of, grown_in, child_at}
-use Rattle.tt_search.specs.Packed.{HasItsNodes, child_of}
+use Rattle.tt_search.specs.Edges.{edge_turn, edge_state_of, edge_turns, edge_trees, tree_of, grown_in, child_at}
+use Rattle.tt_search.specs.ChildNodes.{HasItsNodes, child_of}
 use Rattle.tt_search.specs.Walking.{Stand, stage, stand_of}
 use Rattle.tt_search.specs.Taken.{Taken, IsLeft}
 use Rattle.tt_search.specs.Steady.{AreStepsAt}
 use Rattle.tt_search.specs.Sprouting.{IsFreshAt, IsPut, Sprouts, StepsBelowAt, StepsBelow}
 use Rattle.tt_search.specs.declared.edges.Edge.{Edge}
-use Rattle.tt_search.specs.declared.edges.Mark.{Mark}
-use Rattle.tt_search.specs.declared.edges.Mark.TheVariants.{Fresh, Won, Grown}
+use Rattle.tt_search.specs.declared.edges.EdgeState.{EdgeState}
+use Rattle.tt_search.specs.declared.edges.EdgeState.TheVariants.{Fresh, Won, Grown}
 use Rattle.tt_search.specs.declared.limits.Reason.{Reason}
 use Rattle.tt_search.specs.declared.limits.Reason.TheVariants.{Budget, Depth, Total, Memory}
 use Rattle.tt_search.specs.declared.limits.Step.{Step}
 use Rattle.tt_search.specs.declared.limits.Step.TheVariants.{Expanded, Stuck}
-use Rattle.tt_search.specs.declared.children.Packed.{Packed}
-use Rattle.tt_search.specs.declared.walk.Pace.{Pace}
+use Rattle.tt_search.specs.declared.children.ChildNodes.{ChildNodes}
+use Rattle.tt_search.specs.declared.walk.Stop.{Stop}
 use Rattle.tt_search.specs.declared.walk.Walk.{Walk}
 use Rattle.tt_search.proofs.Grown.{won_decided}
 use Rattle.tt_search.proofs.Steps.{IsOfferable, expansion_offerable}
@@ -33,14 +33,14 @@ stuck_fresh at left Total tree k = (k.0, k.1, refl)
 stuck_fresh at left Memory tree k = refl
 
 -- a child that stays fresh changes nothing
-put_nothing : (place : ℕ) (x y : Packed) → IsFreshAt place x.edges → y.edges ≡ x.edges → y.grown.items ≡ x.grown.items → IsPut place x fresh y
+put_nothing : (place : ℕ) (x y : ChildNodes) → IsFreshAt place x.edges → y.edges ≡ x.edges → y.grown.items ≡ x.grown.items → IsPut place x fresh y
 put_nothing place x y there edges row = record {
   turns = ap edge_turns edges;
   trees = ap (λ es. edge_trees es y.grown.items) edges ∙ ap (edge_trees x.edges) row ∙ sym (fresh_tree x.edges x.grown.items place there);
 }
 
 -- where the step is stuck, nothing changes
-pub stays_fresh : (walk after : Walk) (place : ℕ) (x y : Packed) (step : Step) (reason : Reason) (tree : PartialTree) → IsFreshAt place x.edges → y.edges ≡ x.edges
+pub stays_fresh : (walk after : Walk) (place : ℕ) (x y : ChildNodes) (step : Step) (reason : Reason) (tree : PartialTree) → IsFreshAt place x.edges → y.edges ≡ x.edges
     → y.grown.items ≡ x.grown.items → Taken (stand_of walk) (stage fresh walk.left) step tree → IsLeft step walk.left after.left → step ≡ Stuck reason
     → Sprouts walk place x (Stuck reason) y after
 stays_fresh walk after place x y step reason tree there edges row h left e = (
@@ -51,7 +51,7 @@ stays_fresh walk after place x y step reason tree there edges row h left e = (
 )
 
 -- nor where there is no memory for the node
-pub stays_for_memory : (walk after : Walk) (place : ℕ) (x y : Packed) → IsFreshAt place x.edges → after ≡ walk → y.edges ≡ x.edges
+pub stays_for_memory : (walk after : Walk) (place : ℕ) (x y : ChildNodes) → IsFreshAt place x.edges → after ≡ walk → y.edges ≡ x.edges
     → y.grown.items ≡ x.grown.items → Sprouts walk place x (Stuck Memory) y after
 stays_for_memory walk after place x y there same edges row =
     (fresh, refl, ap (λ (w : Walk). w.left) (sym same), put_nothing place x y there edges row)
@@ -93,14 +93,14 @@ still_whole es ts us whole is same = whole ∙ ap length (sym (is ∙ same))
 
 -- where one more child has grown and its node stands among the others, each child that has grown has its node
 pub put_whole : (es fs : List Edge) (ts us : List PartialTree) (place rank : ℕ) (e : Edge) (tree : PartialTree) → IsFreshAt place es → grown_in es ≡ length ts
-    → rank ≡ grown_in (take place es) → mark_of e ≡ Grown → fs ≡ set es place e → us ≡ insert ts rank tree → grown_in fs ≡ length us
-put_whole es fs ts us place rank e tree there whole r mark edges row =
+    → rank ≡ grown_in (take place es) → edge_state_of e ≡ Grown → fs ≡ set es place e → us ≡ insert ts rank tree → grown_in fs ≡ length us
+put_whole es fs ts us place rank e tree there whole r edge_state edges row =
     let within : rank ≤ length ts = omega (arith, r, rank_within es place, whole) in
-    omega (arith, ap grown_in edges, one_more es place e there mark, whole, ap length row, length-insert ts rank tree within)
+    omega (arith, ap grown_in edges, one_more es place e there edge_state, whole, ap length row, length-insert ts rank tree within)
 
 -- the new node stands among those that have grown, and its edge says so
-module _ (x y : Packed) (place rank : ℕ) (d e : Edge) (tree : PartialTree) (there : IsFreshAt place x.edges) (whole : HasItsNodes x)
-    (r : rank ≡ grown_in (take place x.edges)) (mark : mark_of e ≡ Grown) (edges : y.edges ≡ set x.edges place e) (row : y.grown.items ≡ insert x.grown.items rank tree) where
+module _ (x y : ChildNodes) (place rank : ℕ) (d e : Edge) (tree : PartialTree) (there : IsFreshAt place x.edges) (whole : HasItsNodes x)
+    (r : rank ≡ grown_in (take place x.edges)) (edge_state : edge_state_of e ≡ Grown) (edges : y.edges ≡ set x.edges place e) (row : y.grown.items ≡ insert x.grown.items rank tree) where
   -- the child at the place becomes the new tree, and all else stays
   pub put : edge_turn e ≡ edge_turn (get_or x.edges place d) → IsPut place x tree y
   put turn = record {
@@ -108,13 +108,13 @@ module _ (x y : Packed) (place rank : ℕ) (d e : Edge) (tree : PartialTree) (th
     trees =
         rw edges
         (ap (edge_trees (set x.edges place e)) (row ∙ ap (λ n. insert x.grown.items n tree) r)
-        ∙ sprouted x.edges x.grown.items place e tree there mark (omega (arith, rank_within x.edges place, whole)));
+        ∙ sprouted x.edges x.grown.items place e tree there edge_state (omega (arith, rank_within x.edges place, whole)));
   }
 
 -- ---- what is below a node
 
 -- a child whose mark says so is fresh
-fresh_at : (es : List Edge) (i : ℕ) (d : Edge) → i < length es → mark_of (get_or es i d) ≡ Fresh → IsFreshAt i es
+fresh_at : (es : List Edge) (i : ℕ) (d : Edge) → i < length es → edge_state_of (get_or es i d) ≡ Fresh → IsFreshAt i es
 fresh_at [] i d l m = absurd (omega arith)
 fresh_at (e ∷ es) zero d l m = m
 fresh_at (e ∷ es) (suc i) d l m = fresh_at es i d (omega arith) m
@@ -122,36 +122,36 @@ fresh_at (e ∷ es) (suc i) d l m = fresh_at es i d (omega arith) m
 -- an edge that the walk stands behind
 module _ (es : List Edge) (ts : List PartialTree) (i : ℕ) (e : Edge) (l : i < length es) (is : e ≡ get_or es i e) where
   -- the child's tree is its edge's, of the nodes from its rank on
-  child_is : child_at i es ts ≡ tree_of (mark_of e) (drop (grown_in (take i es)) ts)
-  child_is = tree_at_place es ts i e fresh l ∙ ap (λ x. tree_of (mark_of x) (drop (grown_in (take i es)) ts)) (sym is)
+  child_is : child_at i es ts ≡ tree_of (edge_state_of e) (drop (grown_in (take i es)) ts)
+  child_is = tree_at_place es ts i e fresh l ∙ ap (λ x. tree_of (edge_state_of x) (drop (grown_in (take i es)) ts)) (sym is)
 
   -- a child whose edge says so is fresh
-  pub fresh_here : mark_of e ≡ Fresh → IsFreshAt i es
-  fresh_here m = fresh_at es i e l (ap mark_of (sym is) ∙ m)
+  pub fresh_here : edge_state_of e ≡ Fresh → IsFreshAt i es
+  fresh_here m = fresh_at es i e l (ap edge_state_of (sym is) ∙ m)
 
   -- and its tree is
-  pub fresh_child : mark_of e ≡ Fresh → child_at i es ts ≡ fresh
+  pub fresh_child : edge_state_of e ≡ Fresh → child_at i es ts ≡ fresh
   fresh_child m = child_is ∙ ap (λ k. tree_of k (drop (grown_in (take i es)) ts)) m
 
   -- a child whose edge says that a side has won is won
-  pub won_child : (s : Side) → mark_of e ≡ Won s → child_at i es ts ≡ won s
+  pub won_child : (s : Side) → edge_state_of e ≡ Won s → child_at i es ts ≡ won s
   won_child s m = child_is ∙ ap (λ k. tree_of k (drop (grown_in (take i es)) ts)) m
 
   -- the edge of an undecided child doesn't say that a side has won
-  pub not_won : IsUndecided (child_at i es ts) → (m : Mark) → mark_of e ≡ m → (s : Side) → m ≡ Won s → ⊥
+  pub not_won : IsUndecided (child_at i es ts) → (m : EdgeState) → edge_state_of e ≡ m → (s : Side) → m ≡ Won s → ⊥
   not_won u m h s w = won_decided s (subst IsUndecided (child_is ∙ ap (λ k. tree_of k (drop (grown_in (take i es)) ts)) (h ∙ w)) u)
 
   -- a child whose edge says that it has grown has its node
-  pub grown_here : grown_in es ≡ length ts → mark_of e ≡ Grown → grown_in (take i es) < length ts
-  grown_here w m = omega (arith, rank_there es i e l (ap mark_of (sym is) ∙ m), w)
+  pub grown_here : grown_in es ≡ length ts → edge_state_of e ≡ Grown → grown_in (take i es) < length ts
+  grown_here w m = omega (arith, rank_there es i e l (ap edge_state_of (sym is) ∙ m), w)
 
   -- its tree is the node at its rank
-  pub grown_child : grown_in es ≡ length ts → mark_of e ≡ Grown → child_at i es ts ≡ get_or ts (grown_in (take i es)) fresh
-  grown_child w m = grown_at_place es ts i e fresh l (ap mark_of (sym is) ∙ m) w
+  pub grown_child : grown_in es ≡ length ts → edge_state_of e ≡ Grown → child_at i es ts ≡ get_or ts (grown_in (take i es)) fresh
+  grown_child w m = grown_at_place es ts i e fresh l (ap edge_state_of (sym is) ∙ m) w
 
   -- a new node at its rank is a new tree at its place
-  pub grown_put : grown_in es ≡ length ts → mark_of e ≡ Grown → (tree : PartialTree) → edge_trees es (set ts (grown_in (take i es)) tree) ≡ set (edge_trees es ts) i tree
-  grown_put w m tree = grown_on es ts i e tree l (ap mark_of (sym is) ∙ m) (grown_here w m)
+  pub grown_put : grown_in es ≡ length ts → edge_state_of e ≡ Grown → (tree : PartialTree) → edge_trees es (set ts (grown_in (take i es)) tree) ≡ set (edge_trees es ts) i tree
+  grown_put w m tree = grown_on es ts i e tree l (ap edge_state_of (sym is) ∙ m) (grown_here w m)
 
 -- what a list has at a place doesn't hang on the default
 pub any_default : (ts : List PartialTree) (i : ℕ) (a b : PartialTree) → i < length ts → get_or ts i a ≡ get_or ts i b
@@ -160,42 +160,42 @@ any_default (t ∷ ts) zero a b l = refl
 any_default (t ∷ ts) (suc i) a b l = any_default ts i a b (omega arith)
 
 -- the node of a child that has grown
-module _ (x : Packed) (i rank : ℕ) (e : Edge) (node : PartialTree) (l : i < length x.edges) (is : e ≡ get_or x.edges i e) (whole : HasItsNodes x)
-    (mark : Grown ≡ mark_of e) (r : rank ≡ grown_in (take i x.edges)) where
+module _ (x : ChildNodes) (i rank : ℕ) (e : Edge) (node : PartialTree) (l : i < length x.edges) (is : e ≡ get_or x.edges i e) (whole : HasItsNodes x)
+    (edge_state : Grown ≡ edge_state_of e) (r : rank ≡ grown_in (take i x.edges)) where
   -- the rank is that of a node
   pub rank_within_nodes : rank < length x.grown.items
-  rank_within_nodes = omega (arith, r, grown_here x.edges x.grown.items i e l is whole (sym mark))
+  rank_within_nodes = omega (arith, r, grown_here x.edges x.grown.items i e l is whole (sym edge_state))
 
   -- the child's tree is the node
   pub child_node : node ≡ get_or x.grown.items rank node → child_of x i ≡ node
   child_node n =
-      grown_child x.edges x.grown.items i e l is whole (sym mark)
+      grown_child x.edges x.grown.items i e l is whole (sym edge_state)
       ∙ ap (λ k. get_or x.grown.items k fresh) (sym r)
       ∙ any_default x.grown.items rank fresh node rank_within_nodes
       ∙ sym n
 
   -- steps of the node are steps of the child
-  pub node_steps : (pace : Pace) (at : Stand) (left : ℕ) (step : Step) (new : PartialTree) (left_after : ℕ) (y : Packed) → y.edges ≡ x.edges
-      → y.grown.items ≡ set x.grown.items rank new → node ≡ get_or x.grown.items rank node → AreStepsAt pace at (stage node left) step (stage new left_after)
-      → StepsBelowAt pace at i x left step y left_after
-  node_steps pace at left step new left_after y edges row n k = (
+  pub node_steps : (stop : Stop) (at : Stand) (left : ℕ) (step : Step) (new : PartialTree) (left_after : ℕ) (y : ChildNodes) → y.edges ≡ x.edges
+      → y.grown.items ≡ set x.grown.items rank new → node ≡ get_or x.grown.items rank node → AreStepsAt stop at (stage node left) step (stage new left_after)
+      → StepsBelowAt stop at i x left step y left_after
+  node_steps stop at left step new left_after y edges row n k = (
     new,
-    subst (λ t. AreStepsAt pace at (stage t left) step (stage new left_after)) (sym (child_node n)) k,
+    subst (λ t. AreStepsAt stop at (stage t left) step (stage new left_after)) (sym (child_node n)) k,
     record {
       turns = rw edges refl;
       trees =
           rw (edges, row)
           (subst (λ q. edge_trees x.edges (set x.grown.items q new) ≡ set (edge_trees x.edges x.grown.items) i new) (sym r)
-          (grown_put x.edges x.grown.items i e l is whole (sym mark) new));
+          (grown_put x.edges x.grown.items i e l is whole (sym edge_state) new));
     },
   )
 
 -- a step at a fresh child is one of its steps
-pub one_step : (pace : Pace) (walk : Walk) (place : ℕ) (x : Packed) (step : Step) (y : Packed) (after : Walk) → child_of x place ≡ fresh → Sprouts walk place x step y after
-    → StepsBelow pace walk place x step y after
-one_step pace walk place x step y after c (tree, taken, counted, put) = (
+pub one_step : (stop : Stop) (walk : Walk) (place : ℕ) (x : ChildNodes) (step : Step) (y : ChildNodes) (after : Walk) → child_of x place ≡ fresh → Sprouts walk place x step y after
+    → StepsBelow stop walk place x step y after
+one_step stop walk place x step y after c (tree, taken, counted, put) = (
   tree,
-  subst (λ t. AreStepsAt pace (stand_of walk) (stage t walk.left) step (stage tree after.left)) (sym c) (record {
+  subst (λ t. AreStepsAt stop (stand_of walk) (stage t walk.left) step (stage tree after.left)) (sym c) (record {
     how_many = 0;
     before = stage fresh walk.left;
     steady = refl;

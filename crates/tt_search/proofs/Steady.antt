@@ -14,8 +14,8 @@ use Rattle.tt_search.specs.Steady.{HaveSameNumbers, IsGrowth, Steady, AreStepsAt
 use Rattle.tt_search.specs.Children.{children_of}
 use Rattle.tt_search.specs.declared.limits.Step.{Step}
 use Rattle.tt_search.specs.declared.limits.Step.TheVariants.{Expanded, Closed}
-use Rattle.tt_search.specs.declared.walk.Pace.{Pace}
-use Rattle.tt_search.specs.declared.walk.Pace.TheVariants.{OneStep}
+use Rattle.tt_search.specs.declared.walk.Stop.{Stop}
+use Rattle.tt_search.specs.declared.walk.Stop.TheVariants.{OneStep}
 use Rattle.tt_search.specs.declared.walk.Walk.{Walk}
 use Rattle.tt_search.proofs.Lifted.{lifted}
 use Rattle.tt_search.proofs.Steps.{taken_keeps, counted_expanded, counted_closed, IsTreeWithin, IsOfferable, offerable}
@@ -91,15 +91,15 @@ steady_joined n (suc m) at a b c h (before, k, g, same) =
     subst (λ k. Steady k at a c) one_more (before, steady_joined n m at a b before h k, g, same)
 
 -- where the rounds of a node have led so far
-pub record IsUnderWay (pace : Pace) (at : Stand) (old now : Stage) : Type 0 where
+pub record IsUnderWay (stop : Stop) (at : Stand) (old now : Stage) : Type 0 where
   pub rounds : ℕ
   pub steady : Steady rounds at old now
-  pub one : pace ≡ OneStep → rounds ≡ 0
+  pub one : stop ≡ OneStep → rounds ≡ 0
   pub may_grow : MayGrow at now.tree
 
-module _ (pace : Pace) (at : Stand) (old now : Stage) (step : Step) (new : Stage) (steps : AreStepsAt pace at now step new) where
+module _ (stop : Stop) (at : Stand) (old now : Stage) (step : Step) (new : Stage) (steps : AreStepsAt stop at now step new) where
   -- the steps of a round that is the last one
-  pub last_round : IsUnderWay pace at old now → AreStepsAt pace at old step new
+  pub last_round : IsUnderWay stop at old now → AreStepsAt stop at old step new
   last_round h = record {
     how_many = steps.how_many + h.rounds;
     before = steps.before;
@@ -131,8 +131,8 @@ module _ (pace : Pace) (at : Stand) (old now : Stage) (step : Step) (new : Stage
   )
 
   -- and the rounds are under way
-  pub next_round : (once : Bool) → (once ≡ true) ↔ (pace ≡ OneStep) → once ≡ false → IsUnderWay pace at old now → (step ≡ Expanded) ⊎ (step ≡ Closed)
-      → HaveSameNumbers now.tree new.tree → IsUnderWay pace at old new
+  pub next_round : (once : Bool) → (once ≡ true) ↔ (stop ≡ OneStep) → once ≡ false → IsUnderWay stop at old now → (step ≡ Expanded) ⊎ (step ≡ Closed)
+      → HaveSameNumbers now.tree new.tree → IsUnderWay stop at old new
   next_round once says more h changed same =
       let steady = round_steady changed same in
       record {
@@ -148,9 +148,9 @@ same_numbers a b p d Attacker = p
 same_numbers a b p d Defender = d
 
 -- what steps make of a tree may be offered
-pub steps_offerable : (pace : Pace) (line : Standing) (room : ℕ) (old : Stage) (step : Step) (new : Stage) → room ≤ 512 → MayGrow (stand line room) old.tree
-    → AreStepsAt pace (stand line room) old step new → IsOfferable line new.tree
-steps_offerable pace line room old step new l m k =
+pub steps_offerable : (stop : Stop) (line : Standing) (room : ℕ) (old : Stage) (step : Step) (new : Stage) → room ≤ 512 → MayGrow (stand line room) old.tree
+    → AreStepsAt stop (stand line room) old step new → IsOfferable line new.tree
+steps_offerable stop line room old step new l m k =
     offerable line room new.tree l (taken_keeps (stand line room) k.before step new.tree (steady_keeps k.how_many (stand line room) old k.before k.steady m) k.taken)
 
 -- two walks on one line with the same room stand at one place
@@ -235,9 +235,9 @@ module _ (at : Stand) (mover : Side) (turns : List Turn) (trees : List PartialTr
       )
 
   -- the steps of the best child are steps of the node
-  pub steps_lifted : (pace : Pace) (left : ℕ) (step : Step) (new : Stage) → AreStepsAt pace below (stage child left) step new
-      → AreStepsAt pace at (stage (expanded mover turns (children_of trees)) left) step (with_stage new)
-  steps_lifted pace left step new k = record {
+  pub steps_lifted : (stop : Stop) (left : ℕ) (step : Step) (new : Stage) → AreStepsAt stop below (stage child left) step new
+      → AreStepsAt stop at (stage (expanded mover turns (children_of trees)) left) step (with_stage new)
+  steps_lifted stop left step new k = record {
     how_many = k.how_many;
     before = with_stage k.before;
     steady = steady_lifted k.how_many left k.before k.steady;

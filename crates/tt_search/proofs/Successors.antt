@@ -11,7 +11,7 @@ use Rattle.tt_game.specs.Turns.{legal_turns, successor, successors_of, successor
 use Rattle.tt_search.specs.PartialTree.{PartialTree, more, expanded}
 use Rattle.tt_search.specs.Children.{children_of}
 use Rattle.tt_search.specs.declared.edges.Edge.{Edge}
-use Rattle.tt_search.specs.Edges.{edge_turn, mark_of, tree_of, edge_turns, edge_trees}
+use Rattle.tt_search.specs.Edges.{edge_turn, edge_state_of, tree_of, edge_turns, edge_trees}
 use Rattle.tt_search.proofs.Places.{turns_push, trees_push}
 use Rattle.tt_search.specs.Growing.{leaf_for, new_leaf, new_leaves, expansion}
 
@@ -59,7 +59,7 @@ turns_more f s es made e from p n is turn next here all =
     all
 
 -- and so are the new leaves
-pub leaves_more : (f : Frame) (s : State) (es made : List Edge) (e : Edge) (winner : Option Side) (from p n : ℕ) → made ≡ es ++ e ∷ [] → tree_of (mark_of e) [] ≡ leaf_for winner
+pub leaves_more : (f : Frame) (s : State) (es made : List Edge) (e : Edge) (winner : Option Side) (from p n : ℕ) → made ≡ es ++ e ∷ [] → tree_of (edge_state_of e) [] ≡ leaf_for winner
     → winner ≡ winner_of f (after f s (Play p)) → successors_from f s from ≡ successor f s (Play p) ∷ successors_from f s (p + 1) → n ≡ p
     → edge_trees es [] ++ map (λ x. leaf_for x.winner) (successors_from f s from) ≡ map (λ x. leaf_for x.winner) (successors_of f s)
     → edge_trees made [] ++ map (λ x. leaf_for x.winner) (successors_from f s (n + 1)) ≡ map (λ x. leaf_for x.winner) (successors_of f s)
@@ -78,7 +78,7 @@ turns_last f s es made e from is turn next all =
     ap edge_turns is ∙ turns_push es e ∙ ap (λ t. edge_turns es ++ t ∷ []) turn ∙ ap (λ xs. edge_turns es ++ map (λ x. x.turn) xs) (sym next) ∙ all ∙ sym (turns_of-successors f s)
 
 -- and the leaves are new leaves for all successors
-pub leaves_last : (f : Frame) (s : State) (es made : List Edge) (e : Edge) (winner : Option Side) (from : ℕ) → made ≡ es ++ e ∷ [] → tree_of (mark_of e) [] ≡ leaf_for winner
+pub leaves_last : (f : Frame) (s : State) (es made : List Edge) (e : Edge) (winner : Option Side) (from : ℕ) → made ≡ es ++ e ∷ [] → tree_of (edge_state_of e) [] ≡ leaf_for winner
     → winner ≡ winner_of f (after f s Pass) → successors_from f s from ≡ successor f s Pass ∷ []
     → edge_trees es [] ++ map (λ x. leaf_for x.winner) (successors_from f s from) ≡ map (λ x. leaf_for x.winner) (successors_of f s)
     → edge_trees made [] ≡ map (λ x. leaf_for x.winner) (successors_of f s)

@@ -9,13 +9,13 @@ use Rattle.tt_game.specs.declared.turns.Turn.TheVariants.{Play, Pass}
 use Rattle.tt_search.specs.Children.{children_of}
 use Rattle.tt_search.specs.Choices.{node_with}
 use Rattle.tt_search.specs.Numbers.{is_same, number, least, capped_sum}
-use Rattle.tt_search.specs.Packed.{choices_with}
-use Rattle.tt_search.specs.Edges.{edge_turn, mark_of, turn_at, edge_turns, edge_trees, counted, grown_in, AreFresh}
+use Rattle.tt_search.specs.ChildNodes.{choices_with}
+use Rattle.tt_search.specs.Edges.{edge_turn, edge_state_of, turn_at, edge_turns, edge_trees, counted, grown_in, AreFresh}
 use Rattle.tt_search.specs.Untried.{fresh_edge, plays_in, AreBelow, AreUntried}
 use Rattle.tt_search.proofs.FreshRows.{ones, least_ones, capped_ones}
 use Rattle.tt_search.proofs.Strategies.{own_zero, other_zero}
 use Rattle.tt_search.specs.declared.edges.Edge.{Edge}
-use Rattle.tt_search.specs.declared.edges.Mark.TheVariants.{Fresh}
+use Rattle.tt_search.specs.declared.edges.EdgeState.TheVariants.{Fresh}
 
 -- where a number is meant, its play is the last of those up to it
 pub play_here : (has : ℕ → Bool) (n : ℕ) → has n ≡ true → plays_in has (suc n) ≡ plays_in has n ++ fresh_edge n ∷ []
@@ -97,7 +97,7 @@ play_more a b p n in_n on others below =
     above ∙ play_here b p on ∙ ap (λ es. es ++ fresh_edge p ∷ []) (under ∙ sym whole)
 
 -- nothing is known of the children of one more fresh edge
-pub fresh_push : (es : List Edge) (e : Edge) → AreFresh es → mark_of e ≡ Fresh → AreFresh (es ++ e ∷ [])
+pub fresh_push : (es : List Edge) (e : Edge) → AreFresh es → edge_state_of e ≡ Fresh → AreFresh (es ++ e ∷ [])
 fresh_push [] e h m = (m, tt)
 fresh_push (x ∷ es) e h m = (h.0, fresh_push es e h.1 m)
 

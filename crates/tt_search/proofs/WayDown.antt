@@ -9,7 +9,7 @@ use Rattle.tt_search.specs.Walking.{Stand, stage, stand, stand_of, stand_after, 
 use Rattle.tt_search.specs.Steady.{AreStepsAt, AreSteps}
 use Rattle.tt_search.specs.Sprouting.{BestSteps}
 use Rattle.tt_search.specs.declared.limits.Step.{Step}
-use Rattle.tt_search.specs.declared.walk.Pace.{Pace}
+use Rattle.tt_search.specs.declared.walk.Stop.{Stop}
 use Rattle.tt_search.specs.declared.walk.Walk.{Walk}
 use Rattle.tt_search.proofs.Lifted.{IsFound, found, lengths}
 use Rattle.tt_search.proofs.Sprouted.{any_default}
@@ -19,8 +19,8 @@ use Rattle.tt_search.proofs.Steady.{steps_lifted}
 pub record IsWayDown (at : Stand) (c : Choices) (node : PartialTree) (t : Turn) : Type 0 where
   pub legal : IsLegal at.frame at.state t
   pub may_grow : MayGrow (stand_after at t) (best_child c)
-  pub steps : (pace : Pace) (left : ℕ) (step : Step) (tree : PartialTree) (left_after : ℕ) → AreStepsAt pace (stand_after at t) (stage (best_child c) left) step (stage tree left_after)
-      → AreStepsAt pace at (stage node left) step (stage (node_with (with_best c tree)) left_after)
+  pub steps : (stop : Stop) (left : ℕ) (step : Step) (tree : PartialTree) (left_after : ℕ) → AreStepsAt stop (stand_after at t) (stage (best_child c) left) step (stage tree left_after)
+      → AreStepsAt stop at (stage node left) step (stage (node_with (with_best c tree)) left_after)
 
 module _ (at : Stand) (c : Choices) (m : MayGrow at (node_with c)) where
   -- what is known of the best child's place
@@ -36,9 +36,9 @@ module _ (at : Stand) (c : Choices) (m : MayGrow at (node_with c)) where
   way_here t is = record {
     legal = (contains-legal_turns at.frame at.state t).0 (found_here.legal t is);
     may_grow = found_here.child t (best_child c) is child_is;
-    steps = λ pace left step tree left_after steps.
+    steps = λ stop left step tree left_after steps.
         steps_lifted at c.mover c.turns c.trees t (best_child c) (best_place c) refl found_here.in_trees (lengths at.frame at.state c.turns c.trees m.partial.3) is child_is
-        found_here.room pace left step (stage tree left_after) steps;
+        found_here.room stop left step (stage tree left_after) steps;
   }
 
 -- the same, from what the function knows of its node
@@ -75,10 +75,10 @@ module _ (walk : Walk) (c : Choices) (node : PartialTree) (t : Turn) (way : IsWa
   child_may_grow = subst (λ at. MayGrow at (best_child c)) (sym (stand_down t walk down gone)) way.may_grow
 
   -- the steps below, as steps of the node, where the walk comes back up with what they left
-  pub round_steps : (pace : Pace) (step : Step) (d : Choices) (deep up : Walk) → BestSteps pace down c step d deep → up.left ≡ deep.left → AreSteps pace walk node step (node_with d) up
-  round_steps pace step d deep up (tree, below, put) l =
-      let here = subst (λ at. AreStepsAt pace at (stage (best_child c) down.left) step (stage tree deep.left)) (stand_down t walk down gone) below in
-      let steps = way.steps pace walk.left step tree deep.left
-      (subst (λ n. AreStepsAt pace (stand_after (stand_of walk) t) (stage (best_child c) n) step (stage tree deep.left)) gone.left here) in
-      subst (λ n. AreStepsAt pace (stand_of walk) (stage node walk.left) step (stage (node_with d) n)) (sym l)
-      (subst (λ x. AreStepsAt pace (stand_of walk) (stage node walk.left) step (stage (node_with x) deep.left)) (sym put) steps)
+  pub round_steps : (stop : Stop) (step : Step) (d : Choices) (deep up : Walk) → BestSteps stop down c step d deep → up.left ≡ deep.left → AreSteps stop walk node step (node_with d) up
+  round_steps stop step d deep up (tree, below, put) l =
+      let here = subst (λ at. AreStepsAt stop at (stage (best_child c) down.left) step (stage tree deep.left)) (stand_down t walk down gone) below in
+      let steps = way.steps stop walk.left step tree deep.left
+      (subst (λ n. AreStepsAt stop (stand_after (stand_of walk) t) (stage (best_child c) n) step (stage tree deep.left)) gone.left here) in
+      subst (λ n. AreStepsAt stop (stand_of walk) (stage node walk.left) step (stage (node_with d) n)) (sym l)
+      (subst (λ x. AreStepsAt stop (stand_of walk) (stage node walk.left) step (stage (node_with x) deep.left)) (sym put) steps)

@@ -3,12 +3,12 @@ use Rattle.std.specs.Prelude.{◌≡◌}
 use Rattle.tt_search.specs.Searched.{Searched, StepOf}
 use Rattle.tt_search.specs.Ended.{RanTo}
 use Rattle.tt_search.specs.declared.limits.Step.{Step}
-use Rattle.tt_search.specs.declared.walk.Pace.{Pace}
-use Rattle.tt_search.specs.declared.walk.Pace.TheVariants.{OneStep}
+use Rattle.tt_search.specs.declared.walk.Stop.{Stop}
+use Rattle.tt_search.specs.declared.walk.Stop.TheVariants.{OneStep}
 
--- growths lead to a search, and a step of that one is the last; at the pace of one step it is the only one
-pub record IsAdvanced (pace : Pace) (old : Searched) (step : Step) (new : Searched) : Type 0 where
+-- growths lead to a search, and a step of that one is the last; where it stops after one step it is the only one
+pub record IsAdvanced (stop : Stop) (old : Searched) (step : Step) (new : Searched) : Type 0 where
   pub before : Searched
   pub reached : RanTo old before
-  pub one : pace ≡ OneStep → before ≡ old
+  pub one : stop ≡ OneStep → before ≡ old
   pub taken : StepOf before step new

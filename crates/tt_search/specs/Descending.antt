@@ -7,7 +7,7 @@ use Rattle.tt_search.specs.Asking.{AreAsked}
 use Rattle.tt_search.specs.Walking.{stand_of, MayGrow}
 use Rattle.tt_search.specs.declared.limits.Step.{Step}
 use Rattle.tt_search.specs.declared.limits.Step.TheVariants.{Closed}
-use Rattle.tt_search.specs.declared.walk.Pace.{Pace}
+use Rattle.tt_search.specs.declared.walk.Stop.{Stop}
 use Rattle.tt_search.specs.declared.walk.Walk.{Walk}
 
 -- the tree may grow where the walk stands, and what the budget has left may still be granted
@@ -18,10 +18,10 @@ pub record MayDescend (walk : Walk) (tree : PartialTree) (asked : Asked) : Type 
 
 -- after the steps of a descent the walk stands where it stood, what the budget has lost was granted, and a leaf is closed only where the store may
 -- answer
-pub record Descends {G Source : Type 0} (asked : G → Asked) (source : G → Source) (may_answer : Type 0) (pace : Pace) (walk : Walk) (old : G) (step : Step) (after : Walk) (new : G) : Type 0 where
+pub record Descends {G Source : Type 0} (asked : G → Asked) (source : G → Source) (may_answer : Type 0) (stop : Stop) (walk : Walk) (old : G) (step : Step) (after : Walk) (new : G) : Type 0 where
   pub line : after.line ≡ walk.line
   pub room : after.room ≡ walk.room
   pub may : step ≡ Closed → may_answer
   pub granted : (asked new).granted + after.left ≡ (asked old).granted + walk.left
-  pub asked_for : AreAsked pace (asked old) step (asked new)
+  pub asked_for : AreAsked stop (asked old) step (asked new)
   pub source_stays : source new ≡ source old

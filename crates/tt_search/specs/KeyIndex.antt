@@ -3,22 +3,22 @@ use Rattle.std.specs.Prelude.{ℕ, ◌<◌, List, map, length, reverse, Option, 
 use Rattle.tt_game.specs.declared.frame.Side.{Side}
 use Rattle.tt_game.specs.declared.keys.Key.{Key}
 use Rattle.tt_game.specs.Keys.{key_of}
-use Rattle.tt_game.specs.KeyHash.{print_of_key}
+use Rattle.tt_game.specs.KeyHash.{hash_of_key}
 use Rattle.tt_game.specs.Line.{Standing}
 use Rattle.tt_proof.specs.Proven.{Proven}
 use Rattle.tt_search.specs.Stores.{AnswersFor, IsNewest}
 
--- the print of a key marks it. Other keys may have it too: nothing is found by it alone
-abbrev pub key_mark : Key → ℕ
-key_mark = print_of_key
+-- the hash of a key. Other keys may have it too: nothing is found by it alone
+abbrev pub index_hash : Key → ℕ
+index_hash = hash_of_key
 
--- the marks of proofs
-abbrev pub key_marks : List Proven → List ℕ
-key_marks ps = map (λ (p : Proven). key_mark (key_of p.frame p.state)) ps
+-- the hashes of proofs
+abbrev pub index_hashes : List Proven → List ℕ
+index_hashes ps = map (λ (p : Proven). index_hash (key_of p.frame p.state)) ps
 
--- the marks of the proofs that an index was told, and for how many more it has room
-pub record Marking : Type 0 where
-  pub marks : List ℕ
+-- the hashes of the proofs that an index was told, and for how many more it has room
+pub record IndexState : Type 0 where
+  pub hashes : List ℕ
   pub room : ℕ
 
 -- the proof at the place that was found, if one was

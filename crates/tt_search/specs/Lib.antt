@@ -19,7 +19,7 @@ pub mod EdgeRow
 pub mod Untried
 pub mod Expanding
 pub mod Choices
-pub mod Packed
+pub mod ChildNodes
 pub mod Kept
 pub mod Child
 pub mod Pairs
@@ -37,4 +37,4 @@ pub mod Descending
 pub mod Sprouting
 pub mod Searching
 pub mod Advanced
-pub mod KeyChains
+pub mod Buckets

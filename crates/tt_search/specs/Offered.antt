@@ -6,10 +6,10 @@ use Rattle.tt_search.specs.PartialTree.{PartialTree}
 use Rattle.tt_search.specs.Numbers.{number}
 use Rattle.tt_search.specs.Settled.{strategy_for}
 use Rattle.tt_search.specs.Choices.{node_with}
-use Rattle.tt_search.specs.Packed.{choices_of, HasItsNodes}
+use Rattle.tt_search.specs.ChildNodes.{choices_of, HasItsNodes}
 use Rattle.tt_search.specs.Kept.{IsKept}
 use Rattle.tt_search.specs.Untried.{plays_and_pass, AreUntried}
-use Rattle.tt_search.specs.declared.children.Packed.{Packed}
+use Rattle.tt_search.specs.declared.children.ChildNodes.{ChildNodes}
 use Rattle.tt_search.specs.declared.node.Growth.{Growth}
 use Rattle.tt_search.specs.declared.node.Growth.TheVariants.{Fresh, Won, Closed, Untried, Expanded, Offered}
 
@@ -19,7 +19,7 @@ pub record IsProofOfTree (tree : PartialTree) (p : Proven) : Type 0 where
   pub strategy : p.tree ≡ strategy_for p.side tree
 
 -- each child that has grown has its node, and the proof is one of the tree that the mover has with these children
-pub record IsOffered (mover : Side) (children : Packed) (p : Proven) : Type 0 where
+pub record IsOffered (mover : Side) (children : ChildNodes) (p : Proven) : Type 0 where
   pub whole : HasItsNodes children
   pub proof : IsProofOfTree (node_with (choices_of mover children)) p
 
@@ -29,5 +29,5 @@ HoldsItsOwn Fresh = Unit {0}
 HoldsItsOwn (Won side) = Unit {0}
 HoldsItsOwn (Closed proof) = Unit {0}
 HoldsItsOwn (Untried mover plays) = AreUntried (plays_and_pass plays)
-HoldsItsOwn (Expanded aim children) = IsKept aim children
+HoldsItsOwn (Expanded focus children) = IsKept focus children
 HoldsItsOwn (Offered mover children proof) = IsOffered mover children.value proof.value

@@ -7,8 +7,8 @@ use Rattle.tt_search.specs.Growing.{IsExpansion, IsClosing}
 use Rattle.tt_search.specs.Walking.{Stand, Stage, stage, stand_of}
 use Rattle.tt_search.specs.Taken.{Taken, IsLeft}
 use Rattle.tt_search.specs.declared.limits.Step.{Step}
-use Rattle.tt_search.specs.declared.walk.Pace.{Pace}
-use Rattle.tt_search.specs.declared.walk.Pace.TheVariants.{OneStep}
+use Rattle.tt_search.specs.declared.walk.Stop.{Stop}
+use Rattle.tt_search.specs.declared.walk.Stop.TheVariants.{OneStep}
 use Rattle.tt_search.specs.declared.walk.Walk.{Walk}
 
 -- the trees have the same proof number and the same disproof number
@@ -27,14 +27,14 @@ Steady (suc n) at old new = (before : Stage) × Steady n at old before × IsGrow
 
 -- steps at an undecided tree: all but the last keep the numbers, and the last one answers the step; at the pace of one
 -- step there is no other
-pub record AreStepsAt (pace : Pace) (at : Stand) (old : Stage) (step : Step) (new : Stage) : Type 0 where
+pub record AreStepsAt (stop : Stop) (at : Stand) (old : Stage) (step : Step) (new : Stage) : Type 0 where
   pub how_many : ℕ
   pub before : Stage
   pub steady : Steady how_many at old before
-  pub one : pace ≡ OneStep → how_many ≡ 0
+  pub one : stop ≡ OneStep → how_many ≡ 0
   pub taken : Taken at before step new.tree
   pub counted : IsLeft step before.left new.left
 
 -- the steps of a walk at a tree
-abbrev pub AreSteps : Pace → Walk → PartialTree → Step → PartialTree → Walk → Type 0
-AreSteps pace walk old step new after = AreStepsAt pace (stand_of walk) (stage old walk.left) step (stage new after.left)
+abbrev pub AreSteps : Stop → Walk → PartialTree → Step → PartialTree → Walk → Type 0
+AreSteps stop walk old step new after = AreStepsAt stop (stand_of walk) (stage old walk.left) step (stage new after.left)

@@ -5,7 +5,7 @@ ghost use Rattle.tt_search.specs.declared.edges.TheConstants.{TURNS};
 ghost use Rattle.tt_search.specs.Edges.{edge_turns, edge_trees, grown_in};
 
 use crate::edge_row::Edges;
-use crate::edges::{Edge, Mark};
+use crate::edges::{Edge, EdgeState};
 use crate::node::Node;
 use crate::numbers::Pair;
 use std::alloc::Global;
@@ -15,14 +15,14 @@ use tt_game::{Side, Turn};
 /// edges. Most never grow, and take no more than their edge.
 #[cycle(node)]
 #[derive(Drop)]
-pub(crate) struct Packed {
+pub(crate) struct ChildNodes {
     pub(crate) edges: Edges,
     pub(crate) grown: Vec<Node>,
 }
 
 /// The side to move at an expanded node, the place of the child to go to, and how many before it have grown.
 #[derive(Clone, Copy)]
-pub(crate) struct Aim {
+pub(crate) struct BestChild {
     pub(crate) mover: Side,
     pub(crate) place: u16,
     pub(crate) rank: u16,
@@ -36,15 +36,15 @@ pub(crate) enum Child<'a> {
     Grown(&'a Node),
 }
 
-impl Packed {
-    ghost use Rattle.tt_search.specs.Packed.{choices_of};
+impl ChildNodes {
+    ghost use Rattle.tt_search.specs.ChildNodes.{choices_of};
     ghost use Rattle.tt_search.specs.Choices.{node_with};
     ghost use Rattle.tt_search.specs.Kept.{IsKept};
     ghost use Rattle.tt_search.specs.Pairs.{ArePair};
 
     /// Children of which none has grown, which of them to go to, and the numbers of the mover and of the other side at
     /// their node.
-    pub(crate) fn new(alloc: Global, mover: Side, edges: Edges) -> (Aim, Packed, Pair)
+    pub(crate) fn new(alloc: Global, mover: Side, edges: Edges) -> (BestChild, ChildNodes, Pair)
         requires few { length edges ≤ TURNS }
         requires none { grown_in edges ≡ 0 }
         ensures children { choices_of result.0.mover result.1 ≡ record { mover = mover; turns = edge_turns edges; trees = edge_trees edges [] } }
@@ -52,32 +52,32 @@ impl Packed {
         ensures numbers { ArePair result.0.mover (node_with (choices_of result.0.mover result.1)) result.2 }
     {
         let grown = Vec::new(alloc);
-        let packed = Packed { edges, grown };
-        let (best, sum) = packed.first_numbers(mover);
+        let child_nodes = ChildNodes { edges, grown };
+        let (best, sum) = child_nodes.first_numbers(mover);
         let numbers = Pair {
             own: best.least,
             other: sum,
         };
-        let aim = Aim {
+        let focus = BestChild {
             mover,
             place: best.place,
             rank: best.rank,
         };
-        (aim, packed, numbers)
+        (focus, child_nodes, numbers)
     }
 
     /// The turn to the child to go to.
-    pub(crate) fn best_turn(&self, aim: Aim) -> Turn
-        requires { aim.place < length self.now.edges }
-        ensures { result ≡ slice_index_or (edge_turns self.now.edges) aim.place result }
+    pub(crate) fn best_turn(&self, focus: BestChild) -> Turn
+        requires { focus.place < length self.now.edges }
+        ensures { result ≡ slice_index_or (edge_turns self.now.edges) focus.place result }
     {
-        self.edges.at(usize::from(aim.place)).turn()
+        self.edges.at(usize::from(focus.place)).turn()
     }
 }
 
-impl Packed {
+impl ChildNodes {
     ghost use Rattle.tt_search.specs.Child.{child_tree};
-    ghost use Rattle.tt_search.specs.Packed.{HasItsNodes, IsRank, child_of};
+    ghost use Rattle.tt_search.specs.ChildNodes.{HasItsNodes, IsRank, child_of};
 
     /// The child at a place, and of a rank.
     pub(crate) fn child(&self, place: usize, rank: usize) -> Child<'_>
@@ -86,29 +86,29 @@ impl Packed {
         requires whole { HasItsNodes self.now }
         ensures { child_tree result ≡ child_of self.now place }
     {
-        match self.edges.at(place).mark() {
-            Mark::Fresh => Child::Fresh,
-            Mark::Won(side) => Child::Won(side),
-            Mark::Grown => Child::Grown(&self.grown[rank]),
+        match self.edges.at(place).edge_state() {
+            EdgeState::Fresh => Child::Fresh,
+            EdgeState::Won(side) => Child::Won(side),
+            EdgeState::Grown => Child::Grown(&self.grown[rank]),
         }
     }
 }
 
 impl<'a> Child<'a> {
     ghost use Rattle.tt_search.specs.Child.{child_tree};
-    ghost use Rattle.tt_search.specs.Edges.{mark_of, tree_of, grown_behind, counted};
+    ghost use Rattle.tt_search.specs.Edges.{edge_state_of, tree_of, grown_behind, counted};
 
     /// The child behind an edge, where these are the nodes of the children that have grown, from this one on; and the
     /// nodes of those behind it.
     pub(crate) fn first(edge: Edge, rest: &'a [Node]) -> (Child<'a>, &'a [Node])
-        requires { counted (mark_of edge) 0 ≤ length rest.now }
-        ensures child { child_tree result.0 ≡ tree_of (mark_of edge) rest.now }
-        ensures behind { result.1.now ≡ grown_behind (mark_of edge) rest.now }
+        requires { counted (edge_state_of edge) 0 ≤ length rest.now }
+        ensures child { child_tree result.0 ≡ tree_of (edge_state_of edge) rest.now }
+        ensures behind { result.1.now ≡ grown_behind (edge_state_of edge) rest.now }
     {
-        match edge.mark() {
-            Mark::Fresh => (Child::Fresh, rest),
-            Mark::Won(side) => (Child::Won(side), rest),
-            Mark::Grown => match rest.split_first() {
+        match edge.edge_state() {
+            EdgeState::Fresh => (Child::Fresh, rest),
+            EdgeState::Won(side) => (Child::Won(side), rest),
+            EdgeState::Grown => match rest.split_first() {
                 Some((node, behind)) => (Child::Grown(node), behind),
                 None => unreachable!(),
             },

@@ -1,7 +1,7 @@
 //! The ways from an expanded node to its children, two bytes each.
 
 ghost use Rattle.std.specs.Prelude.{◌≡◌};
-ghost use Rattle.tt_search.specs.Edges.{edge_turn, mark_of};
+ghost use Rattle.tt_search.specs.Edges.{edge_turn, edge_state_of};
 ghost use Rattle.tt_search.specs.Untried.{fresh_edge};
 ghost use Rattle.tt_sgf.specs.declared.size.TheConstants.{MOST_POINTS};
 
@@ -11,13 +11,13 @@ use tt_sgf::{MOST_POINTS, Point};
 /// What is known of a child: nothing, who has won there, or what its node says. A child has grown once it is expanded, or
 /// closed by a proof.
 #[derive(Clone, Copy, PartialEq, Eq)]
-pub(crate) enum Mark {
+pub(crate) enum EdgeState {
     Fresh,
     Won(Side),
     Grown,
 }
 
-/// A turn, and the mark of the child behind it. The number of the turn is that of its point, or `MOST_POINTS` for a pass.
+/// A turn, and the state of the child behind it. The number of the turn is that of its point, or `MOST_POINTS` for a pass.
 #[derive(Clone, Copy, Default)]
 pub(crate) struct Edge {
     pub(crate) code: u16,
@@ -27,20 +27,20 @@ pub(crate) struct Edge {
 pub(crate) const TURNS: u16 = 512;
 
 impl Edge {
-    /// The edge of a turn to a child with the mark.
-    pub(crate) fn new(turn: Turn, mark: Mark) -> Edge
+    /// The edge of a turn to a child in the state.
+    pub(crate) fn new(turn: Turn, edge_state: EdgeState) -> Edge
         ensures turn { edge_turn result ≡ turn }
-        ensures mark { mark_of result ≡ mark }
+        ensures edge_state { edge_state_of result ≡ edge_state }
     {
         let number = match turn {
             Turn::Play(point) => point.number(),
             Turn::Pass => MOST_POINTS,
         };
-        let kind = match mark {
-            Mark::Fresh => 0,
-            Mark::Won(Side::Attacker) => 1,
-            Mark::Won(Side::Defender) => 2,
-            Mark::Grown => 3,
+        let kind = match edge_state {
+            EdgeState::Fresh => 0,
+            EdgeState::Won(Side::Attacker) => 1,
+            EdgeState::Won(Side::Defender) => 2,
+            EdgeState::Grown => 3,
         };
         Edge {
             code: kind * TURNS + number,
@@ -71,22 +71,22 @@ impl Edge {
         }
     }
 
-    /// The mark of the child.
-    pub(crate) fn mark(self) -> Mark
-        ensures { result ≡ mark_of self }
+    /// The state of the child.
+    pub(crate) fn edge_state(self) -> EdgeState
+        ensures { result ≡ edge_state_of self }
     {
         match self.code / TURNS {
-            0 => Mark::Fresh,
-            1 => Mark::Won(Side::Attacker),
-            2 => Mark::Won(Side::Defender),
-            _ => Mark::Grown,
+            0 => EdgeState::Fresh,
+            1 => EdgeState::Won(Side::Attacker),
+            2 => EdgeState::Won(Side::Defender),
+            _ => EdgeState::Grown,
         }
     }
 
     /// The edge of the same turn to a child that has grown.
     pub(crate) fn grown(self) -> Edge
         ensures turn { edge_turn result ≡ edge_turn self }
-        ensures mark { mark_of result ≡ Mark.Grown }
+        ensures edge_state { edge_state_of result ≡ EdgeState.Grown }
     {
         Edge {
             code: 3 * TURNS + self.code % TURNS,

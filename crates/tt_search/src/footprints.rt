@@ -13,10 +13,10 @@ ghost use Rattle.tt_search.specs.Settled.{strategy_for, first_settled, pick_at, 
 ghost use Rattle.tt_search.specs.Children.{children_of};
 ghost use Rattle.tt_search.specs.Edges.{edge_turns, edge_trees};
 ghost use Rattle.tt_search.specs.Choices.{node_with};
-ghost use Rattle.tt_search.specs.Packed.{HasItsNodes, children_in, choices_of};
+ghost use Rattle.tt_search.specs.ChildNodes.{HasItsNodes, children_in, choices_of};
 ghost use Rattle.tt_search.specs.Child.{child_tree};
 
-use crate::children::{Child, Packed};
+use crate::children::{Child, ChildNodes};
 use crate::edges::Edge;
 use crate::node::{Growth, Node};
 use crate::numbers::is_same;
@@ -45,7 +45,7 @@ impl Node {
             Growth::Won(_) => Ok(Footprint::empty(alloc)),
             Growth::Closed(proof) => proof.footprint_at(alloc, line),
             Growth::Untried(_, _) => unreachable!(),
-            Growth::Expanded(aim, children) => children.footprint(alloc, line, aim.mover, side),
+            Growth::Expanded(focus, children) => children.footprint(alloc, line, focus.mover, side),
             Growth::Offered(_, _, proof) => offered_footprint(alloc, line, proof),
         }
     }
@@ -113,7 +113,7 @@ impl Child<'_> {
     }
 }
 
-impl Packed {
+impl ChildNodes {
     /// The footprint of the node's strategy for the side that it is settled for, where the line stands at the node.
     #[cycle(footprint)]
     fn footprint(
@@ -149,7 +149,7 @@ fn picked(
     alloc: Global,
     line: &mut Line,
     side: Side,
-    children: &Packed,
+    children: &ChildNodes,
 ) -> Result<Footprint, NoMemory>
     requires whole { HasItsNodes children.now }
     requires settled { IsSettledAt side line.old.frame line.old.state (node_with (choices_of side children.now)) }

@@ -4,7 +4,7 @@ ghost use Rattle.std.specs.Prelude.{◌≡◌, ◌≢◌, ◌+◌, ◌-◌, ◌^
 ghost use Rattle.std.specs.Vec.{vec_len, vec_capacity};
 ghost use Rattle.tt_game.specs.Game.{winner_of};
 ghost use Rattle.tt_search.specs.PartialTree.{fresh};
-ghost use Rattle.tt_search.specs.Packed.{HasItsNodes, IsRank, child_of, choices_of};
+ghost use Rattle.tt_search.specs.ChildNodes.{HasItsNodes, IsRank, child_of, choices_of};
 ghost use Rattle.tt_search.specs.Choices.{node_with};
 ghost use Rattle.tt_search.specs.Kept.{IsKept};
 ghost use Rattle.tt_search.specs.Pairs.{ArePair};
@@ -16,18 +16,18 @@ ghost use Rattle.tt_search.specs.Steady.{AreSteps};
 ghost use Rattle.tt_search.specs.Grants.{AskedBy};
 ghost use Rattle.tt_search.specs.declared.limits.Reason.TheVariants.{Total};
 ghost use Rattle.tt_search.specs.declared.limits.Step.TheVariants.{Expanded, Closed, Stuck};
-ghost use Rattle.tt_search.specs.declared.walk.Pace.TheVariants.{OneStep};
+ghost use Rattle.tt_search.specs.declared.walk.Stop.TheVariants.{OneStep};
 
-use crate::children::{Aim, Packed};
+use crate::children::{BestChild, ChildNodes};
 use crate::closing::usable;
-use crate::edges::Mark;
+use crate::edges::EdgeState;
 use crate::grants::Grants;
 use crate::leaves::{closed_leaf, expanded_at, new_leaf, untried_children};
 use crate::limits::{Reason, Step};
 use crate::node::{Growth, Node};
 use crate::numbers::Pair;
 use crate::store::Store;
-use crate::walk::{Pace, Walk};
+use crate::walk::{Stop, Walk};
 use tt_game::Side;
 use tt_sgf::NoMemory;
 
@@ -89,21 +89,21 @@ impl Node {
     pub(crate) fn grow<S: Store, G: Grants>(
         &mut self,
         walk: &mut Walk,
-        pace: Pace,
+        stop: Stop,
         store: &mut S,
         grants: &mut G,
     ) -> Step
         requires { MayDescend walk.old self.old (G.asked grants.old) }
-        ensures descends { Descends G.asked G.source S.may_answer pace walk.old grants.old result walk.new grants.new }
-        ensures steps { AreSteps pace walk.old self.old result self.new walk.new }
+        ensures descends { Descends G.asked G.source S.may_answer stop walk.old grants.old result walk.new grants.new }
+        ensures steps { AreSteps stop walk.old self.old result self.new walk.new }
     {
         'rounds: loop {
             let proof = self.number(Side::Attacker);
             let disproof = self.number(Side::Defender);
             // A new step may offer again, though a proof couldn't be made in the last one.
             walk.offering = true;
-            let step = self.round(walk, pace, store, grants);
-            if pace.is_one_step() || !grows(step) {
+            let step = self.round(walk, stop, store, grants);
+            if stop.is_one_step() || !grows(step) {
                 return step;
             }
             if self.number(Side::Attacker) != proof || self.number(Side::Defender) != disproof {
@@ -118,20 +118,20 @@ impl Node {
     fn round<S: Store, G: Grants>(
         &mut self,
         walk: &mut Walk,
-        pace: Pace,
+        stop: Stop,
         store: &mut S,
         grants: &mut G,
     ) -> Step
         requires { MayDescend walk.old self.old (G.asked grants.old) }
-        ensures descends { Descends G.asked G.source S.may_answer pace walk.old grants.old result walk.new grants.new }
-        ensures steps { AreSteps pace walk.old self.old result self.new walk.new }
+        ensures descends { Descends G.asked G.source S.may_answer stop walk.old grants.old result walk.new grants.new }
+        ensures steps { AreSteps stop walk.old self.old result self.new walk.new }
     {
         let (proof, disproof) = (self.proof, self.disproof);
         match &mut self.growth {
-            Growth::Expanded(aim, children) => {
-                let was = Pair::of(aim.mover, proof, disproof);
-                let (step, numbers) = children.descend(aim, was, walk, pace, store, grants);
-                let (proof, disproof) = numbers.by_goal(aim.mover);
+            Growth::Expanded(focus, children) => {
+                let was = Pair::of(focus.mover, proof, disproof);
+                let (step, numbers) = children.descend(focus, was, walk, stop, store, grants);
+                let (proof, disproof) = numbers.by_goal(focus.mover);
                 self.proof = proof;
                 self.disproof = disproof;
                 if let Some(side) = self.settled_for() {
@@ -140,10 +140,10 @@ impl Node {
                 step
             }
             Growth::Untried(mover, plays) => {
-                let Ok((aim, children)) = untried_children(walk.alloc, *mover, plays) else {
+                let Ok((focus, children)) = untried_children(walk.alloc, *mover, plays) else {
                     return Step::Stuck(Reason::Memory);
                 };
-                self.first_round(aim, children, walk, pace, store, grants)
+                self.first_round(focus, children, walk, stop, store, grants)
             }
             Growth::Won(_) | Growth::Closed(_) | Growth::Offered(_, _, _) => unreachable!(),
             Growth::Fresh => self.first_step(walk, store, grants),
@@ -155,26 +155,26 @@ impl Node {
     #[inline(never)]
     fn first_round<S: Store, G: Grants>(
         &mut self,
-        mut aim: Aim,
-        mut children: Packed,
+        mut focus: BestChild,
+        mut children: ChildNodes,
         walk: &mut Walk,
-        pace: Pace,
+        stop: Stop,
         store: &mut S,
         grants: &mut G,
     ) -> Step
-        requires same { node_with (choices_of aim.mover children) ≡ self.old }
-        requires kept { IsKept aim children }
+        requires same { node_with (choices_of focus.mover children) ≡ self.old }
+        requires kept { IsKept focus children }
         requires ready { MayDescend walk.old self.old (G.asked grants.old) }
-        ensures descends { Descends G.asked G.source S.may_answer pace walk.old grants.old result walk.new grants.new }
-        ensures steps { AreSteps pace walk.old self.old result self.new walk.new }
+        ensures descends { Descends G.asked G.source S.may_answer stop walk.old grants.old result walk.new grants.new }
+        ensures steps { AreSteps stop walk.old self.old result self.new walk.new }
     {
-        let was = Pair::of(aim.mover, self.proof, self.disproof);
-        let (step, numbers) = children.descend(&mut aim, was, walk, pace, store, grants);
-        let (proof, disproof) = numbers.by_goal(aim.mover);
+        let was = Pair::of(focus.mover, self.proof, self.disproof);
+        let (step, numbers) = children.descend(&mut focus, was, walk, stop, store, grants);
+        let (proof, disproof) = numbers.by_goal(focus.mover);
         *self = Node {
             proof,
             disproof,
-            growth: Growth::Expanded(aim, children),
+            growth: Growth::Expanded(focus, children),
         };
         if let Some(side) = self.settled_for() {
             walk.offering = self.offer(side, walk, store);
@@ -262,32 +262,32 @@ impl Node {
     }
 }
 
-impl Packed {
+impl ChildNodes {
     /// Steps at an undecided node with these children, by one descent to the child to go to, where the walk stands at the node; and
     /// the numbers of the node after them, where these were its numbers before.
     #[cycle(descent)]
     #[inline(always)]
     fn descend<S: Store, G: Grants>(
         &mut self,
-        aim: &mut Aim,
+        focus: &mut BestChild,
         was: Pair,
         walk: &mut Walk,
-        pace: Pace,
+        stop: Stop,
         store: &mut S,
         grants: &mut G,
     ) -> (Step, Pair)
-        requires kept { IsKept aim.old self.old }
-        requires was { ArePair aim.old.mover (node_with (choices_of aim.old.mover self.old)) was }
-        requires ready { MayDescend walk.old (node_with (choices_of aim.old.mover self.old)) (G.asked grants.old) }
-        ensures descends { Descends G.asked G.source S.may_answer pace walk.old grants.old result.0 walk.new grants.new }
-        ensures steps { AreSteps pace walk.old (node_with (choices_of aim.old.mover self.old)) result.0 (node_with (choices_of aim.new.mover self.new)) walk.new }
-        ensures kept { IsKept aim.new self.new }
-        ensures numbers { ArePair aim.new.mover (node_with (choices_of aim.new.mover self.new)) result.1 }
+        requires kept { IsKept focus.old self.old }
+        requires was { ArePair focus.old.mover (node_with (choices_of focus.old.mover self.old)) was }
+        requires ready { MayDescend walk.old (node_with (choices_of focus.old.mover self.old)) (G.asked grants.old) }
+        ensures descends { Descends G.asked G.source S.may_answer stop walk.old grants.old result.0 walk.new grants.new }
+        ensures steps { AreSteps stop walk.old (node_with (choices_of focus.old.mover self.old)) result.0 (node_with (choices_of focus.new.mover self.new)) walk.new }
+        ensures kept { IsKept focus.new self.new }
+        ensures numbers { ArePair focus.new.mover (node_with (choices_of focus.new.mover self.new)) result.1 }
     {
-        let Ok(()) = walk.go_down(self.best_turn(*aim)) else {
+        let Ok(()) = walk.go_down(self.best_turn(*focus)) else {
             return (Step::Stuck(Reason::Memory), was);
         };
-        let (step, numbers) = self.grow_best(aim, was, walk, pace, store, grants);
+        let (step, numbers) = self.grow_best(focus, was, walk, stop, store, grants);
         walk.go_up();
         (step, numbers)
     }
@@ -298,42 +298,42 @@ impl Packed {
     #[inline(always)]
     fn grow_best<S: Store, G: Grants>(
         &mut self,
-        aim: &mut Aim,
+        focus: &mut BestChild,
         was: Pair,
         walk: &mut Walk,
-        pace: Pace,
+        stop: Stop,
         store: &mut S,
         grants: &mut G,
     ) -> (Step, Pair)
-        requires kept { IsKept aim.old self.old }
-        requires was { ArePair aim.old.mover (node_with (choices_of aim.old.mover self.old)) was }
-        requires there { aim.old.place < length self.old.edges }
-        requires ready { MayDescend walk.old (child_of self.old aim.old.place) (G.asked grants.old) }
-        ensures descends { Descends G.asked G.source S.may_answer pace walk.old grants.old result.0 walk.new grants.new }
-        ensures steps { BestSteps pace walk.old (choices_of aim.old.mover self.old) result.0 (choices_of aim.new.mover self.new) walk.new }
-        ensures kept { IsKept aim.new self.new }
-        ensures numbers { ArePair aim.new.mover (node_with (choices_of aim.new.mover self.new)) result.1 }
+        requires kept { IsKept focus.old self.old }
+        requires was { ArePair focus.old.mover (node_with (choices_of focus.old.mover self.old)) was }
+        requires there { focus.old.place < length self.old.edges }
+        requires ready { MayDescend walk.old (child_of self.old focus.old.place) (G.asked grants.old) }
+        ensures descends { Descends G.asked G.source S.may_answer stop walk.old grants.old result.0 walk.new grants.new }
+        ensures steps { BestSteps stop walk.old (choices_of focus.old.mover self.old) result.0 (choices_of focus.new.mover self.new) walk.new }
+        ensures kept { IsKept focus.new self.new }
+        ensures numbers { ArePair focus.new.mover (node_with (choices_of focus.new.mover self.new)) result.1 }
     {
-        let (place, rank) = (usize::from(aim.place), usize::from(aim.rank));
-        let goal = aim.mover.opponent();
+        let (place, rank) = (usize::from(focus.place), usize::from(focus.rank));
+        let goal = focus.mover.opponent();
         let old = self.child(place, rank).number(goal);
-        let step = self.grow_at(place, rank, walk, pace, store, grants);
+        let step = self.grow_at(place, rank, walk, stop, store, grants);
         let child = self.child(place, rank);
-        let own = child.number(aim.mover);
+        let own = child.number(focus.mover);
         let new = child.number(goal);
-        let other = self.sum_after(aim.mover, was.other, old, new);
+        let other = self.sum_after(focus.mover, was.other, old, new);
         if own <= was.own {
             return (step, Pair { own, other });
         }
-        let best = self.best(aim.mover, was.own);
-        aim.place = best.place;
-        aim.rank = best.rank;
+        let best = self.best(focus.mover, was.own);
+        focus.place = best.place;
+        focus.rank = best.rank;
         let own = best.least;
         (step, Pair { own, other })
     }
 }
 
-impl Packed {
+impl ChildNodes {
     /// Steps at the child of a place, which is undecided, where the walk stands at it: those of its node where it has
     /// grown, and one step where it is fresh.
     #[cycle(descent)]
@@ -343,7 +343,7 @@ impl Packed {
         place: usize,
         rank: usize,
         walk: &mut Walk,
-        pace: Pace,
+        stop: Stop,
         store: &mut S,
         grants: &mut G,
     ) -> Step
@@ -351,15 +351,15 @@ impl Packed {
         requires rank { IsRank rank place self.old }
         requires whole { HasItsNodes self.old }
         requires ready { MayDescend walk.old (child_of self.old place) (G.asked grants.old) }
-        ensures descends { Descends G.asked G.source S.may_answer pace walk.old grants.old result walk.new grants.new }
+        ensures descends { Descends G.asked G.source S.may_answer stop walk.old grants.old result walk.new grants.new }
         ensures whole { HasItsNodes self.new }
         ensures before { take place self.new.edges ≡ take place self.old.edges }
-        ensures steps { StepsBelow pace walk.old place self.old result self.new walk.new }
+        ensures steps { StepsBelow stop walk.old place self.old result self.new walk.new }
     {
-        match self.edges.at(place).mark() {
-            Mark::Grown => self.grown[rank].grow(walk, pace, store, grants),
-            Mark::Fresh => self.sprout(place, rank, walk, store, grants),
-            Mark::Won(_) => unreachable!(),
+        match self.edges.at(place).edge_state() {
+            EdgeState::Grown => self.grown[rank].grow(walk, stop, store, grants),
+            EdgeState::Fresh => self.sprout(place, rank, walk, store, grants),
+            EdgeState::Won(_) => unreachable!(),
         }
     }
 

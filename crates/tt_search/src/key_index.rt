@@ -5,12 +5,12 @@ ghost use Rattle.tt_game.specs.Keys.{key_of};
 ghost use Rattle.tt_proof.specs.Proven.{Proven};
 ghost use Rattle.tt_game.specs.declared.frame.Side.TheVariants.{Attacker, Defender};
 ghost use Rattle.tt_search.specs.Stores.{AnswersFor, IsNewest};
-ghost use Rattle.tt_search.specs.KeyIndex.{key_mark, key_marks, proof_at, IsPlaceOfNewest};
-ghost use Rattle.tt_search.specs.KeyChains.{chain_of_mark, AreLongEnough, IsChained, IsLastMarked};
+ghost use Rattle.tt_search.specs.KeyIndex.{index_hash, index_hashes, proof_at, IsPlaceOfNewest};
+ghost use Rattle.tt_search.specs.Buckets.{bucket_of_hash, AreLongEnough, AreBuckets, IsLastWithHash};
 
 use std::alloc::Global;
 use std::marker::Model;
-use tt_game::{Line, Seen, Side};
+use tt_game::{BloomFilter, Line, Side};
 use tt_proof::Proof;
 use tt_sgf::NoMemory;
 
@@ -24,14 +24,14 @@ pub trait ProofRow {
         ensures { slice_get (proofs self.now) place ≡ Some result.now };
 }
 
-/// How many prints marks have: twelve for each of 16,384 proofs, which four workers may keep.
-const MARK_PRINTS: usize = 196_608;
+/// How many bits the filter has: twelve for each of 16,384 proofs, which four workers may keep.
+const KEY_FILTER_BITS: usize = 196_608;
 
-/// The print of a mark, by which the index knows most marks as new at once.
-fn print_of_mark(mark: u32) -> usize
-    ensures { result ≡ mark % MARK_PRINTS }
+/// The bit of a hash, by which the index knows most hashes as new at once.
+fn filter_bit(hash: u32) -> usize
+    ensures { result ≡ hash % KEY_FILTER_BITS }
 {
-    mark as usize % MARK_PRINTS
+    hash as usize % KEY_FILTER_BITS
 }
 
 /// Whether the proof has the line's key and is for the side.
@@ -41,140 +41,140 @@ fn is_for(p: &Proof, line: &Line, side: Side) -> bool
     p.side() == side && p.has_key_of(line)
 }
 
-/// The chain of a mark, one of so many: a product takes a fraction of a division's time, and the highest bits, which it goes by,
+/// The bucket of a hash, one of so many: a product takes a fraction of a division's time, and the highest bits, which it goes by,
 /// say most of a key.
-fn chain_of(mark: u32, chains: usize) -> usize
-    requires some { 0 < chains }
-    requires few { chains < 4294967296 }
-    ensures chain { result ≡ chain_of_mark mark chains }
-    ensures within { result < chains }
+fn bucket_of(hash: u32, buckets: usize) -> usize
+    requires some { 0 < buckets }
+    requires few { buckets < 4294967296 }
+    ensures bucket { result ≡ bucket_of_hash hash buckets }
+    ensures within { result < buckets }
 {
-    (u64::from(mark) * chains as u64 / 0x1_0000_0000) as usize
+    (u64::from(hash) * buckets as u64 / 0x1_0000_0000) as usize
 }
 
-/// Chains the place, behind all places before it.
-fn link(heads: &mut Vec<u32>, before: &mut Vec<u32>, marks: &Vec<u32>, place: usize)
-    requires place { place < vec_len marks.now }
-    requires sized { AreLongEnough heads.old.items before.old.items marks.now.items }
-    requires chained { IsChained heads.old.items before.old.items marks.now.items place }
-    ensures sized { AreLongEnough heads.new.items before.new.items marks.now.items }
-    ensures chained { IsChained heads.new.items before.new.items marks.now.items (place + 1) }
-    ensures chains { vec_len heads.new ≡ vec_len heads.old }
+/// Links the place, behind all places before it.
+fn link(heads: &mut Vec<u32>, before: &mut Vec<u32>, hashes: &Vec<u32>, place: usize)
+    requires place { place < vec_len hashes.now }
+    requires sized { AreLongEnough heads.old.items before.old.items hashes.now.items }
+    requires linked { AreBuckets heads.old.items before.old.items hashes.now.items place }
+    ensures sized { AreLongEnough heads.new.items before.new.items hashes.now.items }
+    ensures linked { AreBuckets heads.new.items before.new.items hashes.now.items (place + 1) }
+    ensures buckets { vec_len heads.new ≡ vec_len heads.old }
     ensures room { vec_capacity before.new ≡ vec_capacity before.old }
 {
-    let chain = chain_of(marks[place], heads.len());
-    before[place] = heads[chain];
-    heads[chain] = place as u32 + 1;
+    let bucket = bucket_of(hashes[place], heads.len());
+    before[place] = heads[bucket];
+    heads[bucket] = place as u32 + 1;
 }
 
-/// Chains all places anew, where no head leads anywhere yet.
-fn link_all(heads: &mut Vec<u32>, before: &mut Vec<u32>, marks: &Vec<u32>)
-    requires sized { AreLongEnough heads.old.items before.old.items marks.now.items }
-    requires fresh { IsChained heads.old.items before.old.items marks.now.items 0 }
-    ensures sized { AreLongEnough heads.new.items before.new.items marks.now.items }
-    ensures chained { IsChained heads.new.items before.new.items marks.now.items (length marks.now.items) }
-    ensures chains { vec_len heads.new ≡ vec_len heads.old }
+/// Links all places anew, where no head leads anywhere yet.
+fn link_all(heads: &mut Vec<u32>, before: &mut Vec<u32>, hashes: &Vec<u32>)
+    requires sized { AreLongEnough heads.old.items before.old.items hashes.now.items }
+    requires fresh { AreBuckets heads.old.items before.old.items hashes.now.items 0 }
+    ensures sized { AreLongEnough heads.new.items before.new.items hashes.now.items }
+    ensures linked { AreBuckets heads.new.items before.new.items hashes.now.items (length hashes.now.items) }
+    ensures buckets { vec_len heads.new ≡ vec_len heads.old }
     ensures room { vec_capacity before.new ≡ vec_capacity before.old }
 {
-    for place in 0..marks.len() {
-        link(heads, before, marks, place);
+    for place in 0..hashes.len() {
+        link(heads, before, hashes, place);
     }
 }
 
-/// Twice as many chains, and at least 16, where these are fewer than 2^32.
-fn doubled(chains: usize) -> Option<usize>
-    ensures { IfSome result (λ n. (chains < n) × (n < 4294967296)) }
+/// Twice as many buckets, and at least 16, where these are fewer than 2^32.
+fn doubled(buckets: usize) -> Option<usize>
+    ensures { IfSome result (λ n. (buckets < n) × (n < 4294967296)) }
 {
-    if chains < 8 {
+    if buckets < 8 {
         return Some(16);
     }
-    if chains >= 0x8000_0000 {
+    if buckets >= 0x8000_0000 {
         return None;
     }
-    Some(2 * chains)
+    Some(2 * buckets)
 }
 
-/// Chains all places anew, in twice as many chains.
+/// Links all places anew, in twice as many buckets.
 fn grow(
     alloc: Global,
     heads: &mut Vec<u32>,
     before: &mut Vec<u32>,
-    marks: &Vec<u32>,
+    hashes: &Vec<u32>,
 ) -> Result<(), NoMemory>
-    requires sized { AreLongEnough heads.old.items before.old.items marks.now.items }
-    requires chained { IsChained heads.old.items before.old.items marks.now.items (length marks.now.items) }
-    ensures sized { AreLongEnough heads.new.items before.new.items marks.now.items }
-    ensures chained { IsChained heads.new.items before.new.items marks.now.items (length marks.now.items) }
+    requires sized { AreLongEnough heads.old.items before.old.items hashes.now.items }
+    requires linked { AreBuckets heads.old.items before.old.items hashes.now.items (length hashes.now.items) }
+    ensures sized { AreLongEnough heads.new.items before.new.items hashes.now.items }
+    ensures linked { AreBuckets heads.new.items before.new.items hashes.now.items (length hashes.now.items) }
     ensures more { IfOk result (λ _. vec_len heads.old < vec_len heads.new) }
     ensures room { vec_capacity before.new ≡ vec_capacity before.old }
 {
-    let Some(chains) = doubled(heads.len()) else {
+    let Some(buckets) = doubled(heads.len()) else {
         return Err(NoMemory);
     };
-    let mut more = vec![in alloc; 0u32; chains]?;
-    link_all(&mut more, before, marks);
+    let mut more = vec![in alloc; 0u32; buckets]?;
+    link_all(&mut more, before, hashes);
     *heads = more;
     Ok(())
 }
 
 /// An index of the last proof of each key and side, in a row of proofs that only grows. It holds no proofs and no keys, but
-/// a mark of 32 bits for each proof, by which the proofs are in chains; it looks at the proofs that it is shown. It takes
-/// 8 bytes a proof and 4 bytes a chain; there are at least as many chains as proofs, and at most twice as many or 16. Most lines
-/// have a key that no proof has, and for most of these one look at the prints of the marks says so: these take 24 KB more.
+/// a hash of 32 bits for each proof, by which the proofs are in buckets; it looks at the proofs that it is shown. It takes
+/// 8 bytes a proof and 4 bytes a bucket; there are at least as many buckets as proofs, and at most twice as many or 16. Most lines
+/// have a key that no proof has, and for most of these one look at the filter says so: these take 24 KB more.
 #[derive(Drop)]
 pub struct KeyIndex {
     alloc: Global,
     heads: Vec<u32>,
     before: Vec<u32>,
-    marks: Vec<u32>,
-    seen: Seen,
+    hashes: Vec<u32>,
+    filter: BloomFilter,
 }
 
 impl Model for KeyIndex {
     ghost use Rattle.std.specs.Prelude.{◌-◌, min, length, vec_len, vec_capacity};
-    ghost use Rattle.tt_search.specs.KeyIndex.{Marking};
-    ghost use Rattle.tt_search.specs.KeyChains.{AreLongEnough, AreSeenMarks, IsChained};
+    ghost use Rattle.tt_search.specs.KeyIndex.{IndexState};
+    ghost use Rattle.tt_search.specs.Buckets.{AreLongEnough, MayHoldHashes, AreBuckets};
 
-    ghost Value = { Marking };
+    ghost Value = { IndexState };
 
     ghost view = { λ t. record {
-      marks = t.marks.items;
-      room = min (vec_capacity t.marks - vec_len t.marks) (min (vec_capacity t.before - vec_len t.before) (vec_len t.heads - vec_len t.marks));
+      hashes = t.hashes.items;
+      room = min (vec_capacity t.hashes - vec_len t.hashes) (min (vec_capacity t.before - vec_len t.before) (vec_len t.heads - vec_len t.hashes));
     } };
 
     ghost invariant = { λ t. record {
-      sized : AreLongEnough t.heads.items t.before.items t.marks.items;
-      chained : IsChained t.heads.items t.before.items t.marks.items (length t.marks.items);
-      seen : AreSeenMarks t.seen t.marks.items;
+      sized : AreLongEnough t.heads.items t.before.items t.hashes.items;
+      linked : AreBuckets t.heads.items t.before.items t.hashes.items (length t.hashes.items);
+      filter : MayHoldHashes t.filter t.hashes.items;
     } };
 }
 
 impl KeyIndex {
     /// An index of no proofs. It takes no memory.
     pub fn new(alloc: Global) -> KeyIndex
-        ensures { result.marks ≡ [] }
+        ensures { result.hashes ≡ [] }
     {
         KeyIndex {
             alloc,
             heads: Vec::new(alloc),
             before: Vec::new(alloc),
-            marks: Vec::new(alloc),
-            seen: Seen::blind(alloc),
+            hashes: Vec::new(alloc),
+            filter: BloomFilter::saturated(alloc),
         }
     }
 
     /// Makes room for one more proof: fewer than 2^32 in all.
     pub fn reserve(&mut self) -> Result<(), NoMemory>
-        ensures marks { self.new.marks ≡ self.old.marks }
+        ensures hashes { self.new.hashes ≡ self.old.hashes }
         ensures room { IfOk result (λ _. 0 < self.new.room) }
     {
-        self.marks.reserve(1)?;
+        self.hashes.reserve(1)?;
         self.before.reserve(1)?;
-        if self.marks.is_empty() {
-            self.seen = Seen::empty(self.alloc, MARK_PRINTS);
+        if self.hashes.is_empty() {
+            self.filter = BloomFilter::empty(self.alloc, KEY_FILTER_BITS);
         }
-        if self.heads.len() == self.marks.len() {
-            grow(self.alloc, &mut self.heads, &mut self.before, &self.marks)?;
+        if self.heads.len() == self.hashes.len() {
+            grow(self.alloc, &mut self.heads, &mut self.before, &self.hashes)?;
         }
         Ok(())
     }
@@ -182,36 +182,36 @@ impl KeyIndex {
     /// Tells the index of the row's next proof, where there is room.
     pub fn push(&mut self, p: &Proof)
         requires { 0 < self.old.room }
-        ensures { self.new.marks ≡ self.old.marks ++ key_marks (p.now ∷ []) }
+        ensures { self.new.hashes ≡ self.old.hashes ++ index_hashes (p.now ∷ []) }
     {
-        let place = self.marks.len();
-        let mark = p.key_print();
-        self.marks.push_reserved(mark);
-        self.seen.add(print_of_mark(mark));
+        let place = self.hashes.len();
+        let hash = p.key_hash();
+        self.hashes.push_reserved(hash);
+        self.filter.add(filter_bit(hash));
         self.before.push_reserved(0);
-        link(&mut self.heads, &mut self.before, &self.marks, place);
+        link(&mut self.heads, &mut self.before, &self.hashes, place);
     }
 
-    /// One more than the last place with the mark, or 0 where none has it.
-    fn last_marked(&self, mark: u32) -> usize
-        ensures { IsLastMarked self.now.marks mark result }
+    /// One more than the last place with the hash, or 0 where none has it.
+    fn last_with_hash(&self, hash: u32) -> usize
+        ensures { IsLastWithHash self.now.hashes hash result }
     {
-        if !self.seen.has(print_of_mark(mark)) {
+        if !self.filter.has(filter_bit(hash)) {
             return 0;
         }
-        self.last_in_chain(mark)
+        self.last_in_bucket(hash)
     }
 
-    /// One more than the last place with the mark in the mark's chain, or 0 where none has it.
-    fn last_in_chain(&self, mark: u32) -> usize
-        ensures { IsLastMarked self.now.marks mark result }
+    /// One more than the last place with the hash in the hash's bucket, or 0 where none has it.
+    fn last_in_bucket(&self, hash: u32) -> usize
+        ensures { IsLastWithHash self.now.hashes hash result }
     {
         if self.heads.is_empty() {
             return 0;
         }
-        let mut next = self.heads[chain_of(mark, self.heads.len())] as usize;
+        let mut next = self.heads[bucket_of(hash, self.heads.len())] as usize;
         while 0 < next {
-            if self.marks[next - 1] == mark {
+            if self.hashes[next - 1] == hash {
                 return next;
             }
             next = self.before[next - 1] as usize;
@@ -219,19 +219,19 @@ impl KeyIndex {
         0
     }
 
-    /// The place of the row's last proof of the line's key for the side, where the key has the mark and this is one more than the
+    /// The place of the row's last proof of the line's key for the side, where the key has the hash and this is one more than the
     /// last place with it.
     fn last_of<P: ProofRow>(
         &self,
         line: &Line,
         side: Side,
-        mark: u32,
+        hash: u32,
         last: usize,
         row: &P,
     ) -> Option<usize>
-        requires mark { mark ≡ key_mark (key_of line.now.frame line.now.state) }
-        requires told { self.now.marks ≡ key_marks (P.proofs row.now) }
-        requires last { IsLastMarked self.now.marks mark last }
+        requires hash { hash ≡ index_hash (key_of line.now.frame line.now.state) }
+        requires indexed { self.now.hashes ≡ index_hashes (P.proofs row.now) }
+        requires last { IsLastWithHash self.now.hashes hash last }
         ensures newest { IsNewest line.now side (reverse (P.proofs row.now)) (proof_at (P.proofs row.now) result) }
         ensures within { IfSome result (λ place. place < length (P.proofs row.now)) }
         ensures found { IfSome (proof_at (P.proofs row.now) result) (AnswersFor line.now side) }
@@ -239,7 +239,7 @@ impl KeyIndex {
         let mut next = last;
         while 0 < next {
             let place = next - 1;
-            if self.marks[place] == mark && is_for(row.proof(place), line, side) {
+            if self.hashes[place] == hash && is_for(row.proof(place), line, side) {
                 return Some(place);
             }
             next = self.before[place] as usize;
@@ -249,27 +249,27 @@ impl KeyIndex {
 
     /// The place of the row's last proof of the line's key for the side. The index was told the row's proofs.
     pub fn newest<P: ProofRow>(&self, line: &Line, side: Side, row: &P) -> Option<usize>
-        requires { self.now.marks ≡ key_marks (P.proofs row.now) }
+        requires { self.now.hashes ≡ index_hashes (P.proofs row.now) }
         ensures { IsPlaceOfNewest line.now side (P.proofs row.now) result }
     {
-        let mark = line.key_print();
-        self.last_of(line, side, mark, self.last_marked(mark), row)
+        let hash = line.key_hash();
+        self.last_of(line, side, hash, self.last_with_hash(hash), row)
     }
 
     /// What `newest` answers for the attacker and for the defender.
     pub fn newest_both<P: ProofRow>(&self, line: &Line, row: &P) -> (Option<usize>, Option<usize>)
-        requires { self.now.marks ≡ key_marks (P.proofs row.now) }
+        requires { self.now.hashes ≡ index_hashes (P.proofs row.now) }
         ensures attacker { IsPlaceOfNewest line.now Attacker (P.proofs row.now) result.0 }
         ensures defender { IsPlaceOfNewest line.now Defender (P.proofs row.now) result.1 }
     {
-        let mark = line.key_print();
-        let last = self.last_marked(mark);
+        let hash = line.key_hash();
+        let last = self.last_with_hash(hash);
         if last == 0 {
             return (None, None);
         }
         (
-            self.last_of(line, Side::Attacker, mark, last, row),
-            self.last_of(line, Side::Defender, mark, last, row),
+            self.last_of(line, Side::Attacker, hash, last, row),
+            self.last_of(line, Side::Defender, hash, last, row),
         )
     }
 }

@@ -5,25 +5,25 @@ ghost use Rattle.tt_game.specs.Game.{winner_of};
 ghost use Rattle.tt_search.specs.PartialTree.{expanded, closed};
 ghost use Rattle.tt_search.specs.Children.{children_of};
 ghost use Rattle.tt_search.specs.declared.edges.TheConstants.{TURNS};
-ghost use Rattle.tt_search.specs.Edges.{edge_turn, mark_of, tree_of, edge_turns, edge_trees, counted, grown_in};
-ghost use Rattle.tt_game.specs.Surveys.{IsSurvey};
+ghost use Rattle.tt_search.specs.Edges.{edge_turn, edge_state_of, tree_of, edge_turns, edge_trees, counted, grown_in};
+ghost use Rattle.tt_game.specs.MoveGenerators.{IsMoveGenerator};
 ghost use Rattle.tt_search.specs.Growing.{leaf_for, expansion};
 ghost use Rattle.tt_search.specs.Expanding.{AreNewEdges};
 ghost use Rattle.tt_search.specs.Choices.{node_with};
-ghost use Rattle.tt_search.specs.Packed.{choices_of, choices_with};
+ghost use Rattle.tt_search.specs.ChildNodes.{choices_of, choices_with};
 ghost use Rattle.tt_search.specs.Kept.{IsKept};
 ghost use Rattle.tt_search.specs.Untried.{plays_and_pass, AreUntried};
 
-use crate::children::{Aim, Packed};
+use crate::children::{BestChild, ChildNodes};
 use crate::edge_row::Edges;
-use crate::edges::{Edge, Mark};
+use crate::edges::{Edge, EdgeState};
 use crate::node::{Growth, Node};
 use crate::numbers::{Pair, decided_number};
 use crate::plays::Plays;
 use arrayvec::ArrayVec;
 use std::alloc::Global;
 use std::sync::Arc;
-use tt_game::{Line, Side, Survey, Turn};
+use tt_game::{Line, MoveGenerator, Side, Turn};
 use tt_proof::Proof;
 use tt_sgf::NoMemory;
 
@@ -63,36 +63,36 @@ fn expanded_node(alloc: Global, mover: Side, edges: Edges) -> Node
     requires none { grown_in edges ≡ 0 }
     ensures { result ≡ expanded mover (edge_turns edges) (children_of (edge_trees edges [])) }
 {
-    let (aim, children, numbers) = Packed::new(alloc, mover, edges);
-    let (proof, disproof) = numbers.by_goal(aim.mover);
+    let (focus, children, numbers) = ChildNodes::new(alloc, mover, edges);
+    let (proof, disproof) = numbers.by_goal(focus.mover);
     Node {
         proof,
         disproof,
-        growth: Growth::Expanded(aim, children),
+        growth: Growth::Expanded(focus, children),
     }
 }
 
 /// The edge of a turn to a new leaf.
 fn new_edge(turn: Turn, winner: Option<Side>) -> Edge
     ensures turn { edge_turn result ≡ turn }
-    ensures tree { tree_of (mark_of result) [] ≡ leaf_for winner }
-    ensures small { counted (mark_of result) 0 ≡ 0 }
+    ensures tree { tree_of (edge_state_of result) [] ≡ leaf_for winner }
+    ensures small { counted (edge_state_of result) 0 ≡ 0 }
 {
     match winner {
-        None => Edge::new(turn, Mark::Fresh),
-        Some(side) => Edge::new(turn, Mark::Won(side)),
+        None => Edge::new(turn, EdgeState::Fresh),
+        Some(side) => Edge::new(turn, EdgeState::Won(side)),
     }
 }
 
 /// The edges of the line's legal turns, to new leaves. Each play is made once.
-fn edges_at(alloc: Global, line: &Line, survey: &Survey) -> Result<Edges, NoMemory>
+fn edges_at(alloc: Global, line: &Line, moves: &MoveGenerator) -> Result<Edges, NoMemory>
     requires open { winner_of line.now.frame line.now.state ≡ None }
-    requires survey { IsSurvey survey.now line.now.frame line.now.state }
+    requires moves { IsMoveGenerator moves.now line.now.frame line.now.state }
     ensures { IfOk result (λ edges. AreNewEdges line.now.frame line.now.state edges) }
 {
     let mut edges: ArrayVec<Edge, 362> = ArrayVec::new();
     let mut from = 0;
-    while let Some((p, winner)) = line.next_play(survey, from) {
+    while let Some((p, winner)) = line.next_play(moves, from) {
         edges.push(new_edge(Turn::Play(p), winner));
         from = p.number() + 1;
     }
@@ -101,9 +101,9 @@ fn edges_at(alloc: Global, line: &Line, survey: &Survey) -> Result<Edges, NoMemo
 }
 
 /// The line's legal plays, where these are many and nobody has won behind any turn.
-fn untried_plays(line: &Line, survey: &Survey) -> Option<Plays>
+fn untried_plays(line: &Line, moves: &MoveGenerator) -> Option<Plays>
     requires open { winner_of line.now.frame line.now.state ≡ None }
-    requires survey { IsSurvey survey.now line.now.frame line.now.state }
+    requires moves { IsMoveGenerator moves.now line.now.frame line.now.state }
     ensures edges { IfSome result (λ plays. AreNewEdges line.now.frame line.now.state (plays_and_pass plays)) }
     ensures untried { IfSome result (λ plays. AreUntried (plays_and_pass plays)) }
 {
@@ -112,7 +112,7 @@ fn untried_plays(line: &Line, survey: &Survey) -> Option<Plays>
     }
     let mut plays = Plays::new();
     let mut from = 0;
-    while let Some((p, winner)) = line.next_play(survey, from) {
+    while let Some((p, winner)) = line.next_play(moves, from) {
         if winner.is_some() {
             return None;
         }
@@ -145,20 +145,20 @@ pub(crate) fn untried_children(
     alloc: Global,
     mover: Side,
     plays: &Plays,
-) -> Result<(Aim, Packed), NoMemory>
+) -> Result<(BestChild, ChildNodes), NoMemory>
     requires { AreUntried (plays_and_pass plays.now) }
     ensures mover { IfOk result (λ x. x.0.mover ≡ mover) }
     ensures children { IfOk result (λ x. choices_of x.0.mover x.1 ≡ choices_with mover (plays_and_pass plays.now) []) }
     ensures kept { IfOk result (λ x. IsKept x.0 x.1) }
 {
     let edges = plays.row(alloc)?;
-    let aim = Aim {
+    let focus = BestChild {
         mover,
         place: 0,
         rank: 0,
     };
     let grown = Vec::with_capacity(alloc, edges.len())?;
-    Ok((aim, Packed { edges, grown }))
+    Ok((focus, ChildNodes { edges, grown }))
 }
 
 /// The line's node with a new leaf for each legal turn.
@@ -166,10 +166,10 @@ pub(crate) fn expanded_at(alloc: Global, line: &Line) -> Result<Node, NoMemory>
     requires open { winner_of line.now.frame line.now.state ≡ None }
     ensures { IfOk result (λ node. node ≡ expansion line.now.frame line.now.state) }
 {
-    let survey = line.survey();
-    if let Some(plays) = untried_plays(line, &survey) {
+    let moves = line.moves();
+    if let Some(plays) = untried_plays(line, &moves) {
         return Ok(untried_node(line.to_move(), plays));
     }
-    let edges = edges_at(alloc, line, &survey)?;
+    let edges = edges_at(alloc, line, &moves)?;
     Ok(expanded_node(alloc, line.to_move(), edges))
 }

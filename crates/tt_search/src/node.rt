@@ -2,7 +2,7 @@
 
 ghost use Rattle.std.specs.Prelude.{◌≡◌};
 
-use crate::children::{Aim, Packed};
+use crate::children::{BestChild, ChildNodes};
 use crate::plays::Plays;
 use std::marker::Model;
 use std::sync::Arc;
@@ -28,8 +28,8 @@ pub(crate) enum Growth {
     Won(Side),
     Closed(Arc<Proof>),
     Untried(Side, Plays),
-    Expanded(Aim, Packed),
-    Offered(Side, Box<Packed>, Arc<Proof>),
+    Expanded(BestChild, ChildNodes),
+    Offered(Side, Box<ChildNodes>, Arc<Proof>),
 }
 
 impl Model for Node {

@@ -1,15 +1,15 @@
 //! Proof and disproof numbers of nodes.
 
 ghost use Rattle.std.specs.Prelude.{◌≡◌, ◌<◌, ◌≤◌, length, take, IsTrue};
-ghost use Rattle.tt_search.specs.Edges.{mark_of, edge_trees, counted, grown_in, AreFresh};
+ghost use Rattle.tt_search.specs.Edges.{edge_state_of, edge_trees, counted, grown_in, AreFresh};
 ghost use Rattle.tt_search.specs.Numbers.{is_same, decided_number, cap, infinite, numbers, least, capped_sum};
 ghost use Rattle.tt_search.specs.Children.{children_of};
 ghost use Rattle.tt_search.specs.declared.edges.TheConstants.{TURNS};
 ghost use Rattle.tt_search.specs.MostProving.{best};
 ghost use Rattle.tt_search.specs.Settled.{first_settled};
 
-use crate::children::{Child, Packed};
-use crate::edges::{Edge, Mark, TURNS};
+use crate::children::{Child, ChildNodes};
+use crate::edges::{Edge, EdgeState, TURNS};
 use crate::node::Node;
 use tt_game::Side;
 
@@ -96,12 +96,12 @@ impl Child<'_> {
     }
 }
 
-impl Packed {
+impl ChildNodes {
     ghost use Rattle.tt_game.specs.Game.{opponent};
     ghost use Rattle.tt_search.specs.Numbers.{numbers, least, infinite, capped_sum};
     ghost use Rattle.tt_search.specs.MostProving.{best};
     ghost use Rattle.tt_search.specs.Settled.{first_settled};
-    ghost use Rattle.tt_search.specs.Packed.{children_in, HasItsNodes, IsRank, AreFew};
+    ghost use Rattle.tt_search.specs.ChildNodes.{children_in, HasItsNodes, IsRank, AreFew};
     ghost use Rattle.tt_search.specs.Pairs.{changed_sum};
 
     /// The child to go to: the first one with the least number of the side to move. None has a number below `from`, so the look ends at
@@ -181,12 +181,12 @@ impl Packed {
 /// The number, and one more where the child has grown.
 fn counted(edge: Edge, number: usize) -> usize
     requires { number < 18446744073709551615 }
-    ensures { result ≡ counted (mark_of edge) number }
+    ensures { result ≡ counted (edge_state_of edge) number }
 {
-    match edge.mark() {
-        Mark::Fresh => number,
-        Mark::Won(_) => number,
-        Mark::Grown => number + 1,
+    match edge.edge_state() {
+        EdgeState::Fresh => number,
+        EdgeState::Won(_) => number,
+        EdgeState::Grown => number + 1,
     }
 }
 

@@ -15,7 +15,7 @@ use crate::leaves::new_leaf;
 use crate::limits::{Limits, Reason, Step};
 use crate::node::Node;
 use crate::store::Store;
-use crate::walk::{Pace, Walk};
+use crate::walk::{Stop, Walk};
 use std::alloc::Global;
 use std::marker::Model;
 use tt_game::{Line, Side};
@@ -103,7 +103,7 @@ impl Search {
         ensures spent { HasSpent self.old (G.asked grants.old) self.new (G.asked grants.new) }
         ensures source { G.source grants.new ≡ G.source grants.old }
     {
-        self.advance(store, grants, Pace::OneStep)
+        self.advance(store, grants, Stop::OneStep)
     }
 
     /// Steps until the root is settled or a step is stuck. The grants have room for what the budget has left.
@@ -116,7 +116,7 @@ impl Search {
     {
         let mut search = self;
         loop {
-            match search.advance(store, grants, Pace::WhileNumbersStay) {
+            match search.advance(store, grants, Stop::NumbersChange) {
                 Step::Expanded | Step::Closed => {}
                 Step::Settled => {
                     return match search.proof() {
@@ -130,12 +130,12 @@ impl Search {
     }
 
     /// Steps: one step, or up to one that changes the root's numbers or is stuck. The answer is that of the last step.
-    fn advance<S: Store, G: Grants>(&mut self, store: &mut S, grants: &mut G, pace: Pace) -> Step
+    fn advance<S: Store, G: Grants>(&mut self, store: &mut S, grants: &mut G, stop: Stop) -> Step
         requires grants { (G.asked grants.old).granted + self.old.limits.budget < 2 ^ 64 + count self.old.tree }
         ensures problem { IsSameProblem self.old self.new }
-        ensures advanced { IsAdvanced pace self.old result self.new }
+        ensures advanced { IsAdvanced stop self.old result self.new }
         ensures may { result ≡ Closed → S.may_answer }
-        ensures asked { AreAsked pace (G.asked grants.old) result (G.asked grants.new) }
+        ensures asked { AreAsked stop (G.asked grants.old) result (G.asked grants.new) }
         ensures spent { HasSpent self.old (G.asked grants.old) self.new (G.asked grants.new) }
         ensures source { G.source grants.new ≡ G.source grants.old }
         ensures few { count self.new.tree ≤ self.new.limits.budget }
@@ -144,7 +144,7 @@ impl Search {
         if proof == 0 || disproof == 0 {
             return Step::Settled;
         }
-        self.root.grow(&mut self.walk, pace, store, grants)
+        self.root.grow(&mut self.walk, stop, store, grants)
     }
 
     /// The proof of a settled root. The search is as before.

@@ -16,10 +16,10 @@ ghost use Rattle.tt_search.specs.Joining.{IsSettledAt, AreZero};
 ghost use Rattle.tt_search.specs.Children.{children_of};
 ghost use Rattle.tt_search.specs.Edges.{edge_turns, edge_trees, grown_in};
 ghost use Rattle.tt_search.specs.Choices.{node_with};
-ghost use Rattle.tt_search.specs.Packed.{HasItsNodes, children_in, choices_of};
+ghost use Rattle.tt_search.specs.ChildNodes.{HasItsNodes, children_in, choices_of};
 ghost use Rattle.tt_search.specs.Child.{child_tree};
 
-use crate::children::{Aim, Child, Packed};
+use crate::children::{BestChild, Child, ChildNodes};
 use crate::edges::Edge;
 use crate::node::{Growth, Node};
 use crate::numbers::is_same;
@@ -44,7 +44,7 @@ impl Node {
             Growth::Won(_) => Ok(Plan::done()),
             Growth::Closed(proof) => proof.plan().try_clone(),
             Growth::Untried(_, _) => unreachable!(),
-            Growth::Expanded(aim, children) => children.plan(alloc, aim.mover, side),
+            Growth::Expanded(focus, children) => children.plan(alloc, focus.mover, side),
             Growth::Offered(_, _, proof) => proof.plan().try_clone(),
         }
     }
@@ -90,7 +90,7 @@ impl Node {
             return;
         };
         self.growth = match mem::replace(&mut self.growth, Growth::Fresh) {
-            Growth::Expanded(aim, children) => offered(alloc, aim, children, handle),
+            Growth::Expanded(focus, children) => offered(alloc, focus, children, handle),
             kept => kept,
         };
     }
@@ -122,15 +122,15 @@ impl Node {
 }
 
 /// What an expanded node with these children becomes with its proof: where memory for their box is refused, it stays as it is.
-fn offered(alloc: Global, aim: Aim, children: Packed, proof: Arc<Proof>) -> Growth
-    requires kept { IsKept aim children }
-    requires proof { IsProofOfTree (node_with (choices_of aim.mover children)) proof.value }
-    ensures same { shape result ≡ node_with (choices_of aim.mover children) }
+fn offered(alloc: Global, focus: BestChild, children: ChildNodes, proof: Arc<Proof>) -> Growth
+    requires kept { IsKept focus children }
+    requires proof { IsProofOfTree (node_with (choices_of focus.mover children)) proof.value }
+    ensures same { shape result ≡ node_with (choices_of focus.mover children) }
     ensures holds { HoldsItsOwn result }
 {
     match Box::new(alloc, children) {
-        Ok(children) => Growth::Offered(aim.mover, children, proof),
-        Err(refused) => Growth::Expanded(aim, refused.value),
+        Ok(children) => Growth::Offered(focus.mover, children, proof),
+        Err(refused) => Growth::Expanded(focus, refused.value),
     }
 }
 
@@ -148,7 +148,7 @@ impl Child<'_> {
     }
 }
 
-impl Packed {
+impl ChildNodes {
     /// The strategy of the node for the side that it is settled for.
     #[cycle(plan_of)]
     fn plan(&self, alloc: Global, mover: Side, side: Side) -> Result<Plan, NoMemory>
@@ -166,7 +166,7 @@ impl Packed {
 
 /// The strategy that picks the first child that is settled for the side.
 #[cycle(plan_of)]
-fn picked(alloc: Global, side: Side, children: &Packed) -> Result<Plan, NoMemory>
+fn picked(alloc: Global, side: Side, children: &ChildNodes) -> Result<Plan, NoMemory>
     requires whole { HasItsNodes children.now }
     requires settled { least (numbers side (children_in children.now)) ≡ 0 }
     ensures { IfOk result (λ p. p ≡ pick_at side (first_settled side (children_in children.now)) (edge_turns children.now.edges) (children_in children.now)) }

@@ -4,7 +4,7 @@ ghost use Rattle.std.specs.Prelude.{◌≡◌, ◌<◌, ◌↔◌, ◌+◌, ◌�
 ghost use Rattle.tt_game.specs.Game.{IsLegal};
 ghost use Rattle.tt_proof.specs.declared.tree.TheConstants.{MOST_DEPTH};
 ghost use Rattle.tt_search.specs.Walking.{IsDown};
-ghost use Rattle.tt_search.specs.declared.walk.Pace.TheVariants.{OneStep};
+ghost use Rattle.tt_search.specs.declared.walk.Stop.TheVariants.{OneStep};
 
 use std::alloc::Global;
 use tt_game::{Line, Turn};
@@ -12,17 +12,17 @@ use tt_sgf::NoMemory;
 
 /// How far steps go: one step, or steps up to the first that changes the numbers of the node where they began, or is stuck.
 #[derive(Clone, Copy)]
-pub(crate) enum Pace {
+pub(crate) enum Stop {
     OneStep,
-    WhileNumbersStay,
+    NumbersChange,
 }
 
-impl Pace {
+impl Stop {
     /// Whether it is that of one step.
     pub(crate) fn is_one_step(self) -> bool
         ensures { (result ≡ true) ↔ (self ≡ OneStep) }
     {
-        matches!(self, Pace::OneStep)
+        matches!(self, Stop::OneStep)
     }
 }
 

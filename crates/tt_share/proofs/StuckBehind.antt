@@ -10,7 +10,7 @@ use Rattle.tt_search.specs.declared.limits.Reason.TheVariants.{Budget, Depth, To
 use Rattle.tt_search.specs.declared.search.End.TheVariants.{Stuck}
 use Rattle.tt_share.specs.declared.answer.Stuck as answer
 use Rattle.tt_search.specs.Growing.{IsGrown}
-use Rattle.tt_share.specs.Answers.{IsBehind, LesserLose, IsSpent, told_of, IsUnsettled}
+use Rattle.tt_share.specs.Answers.{IsBehind, LesserLose, IsSpent, spent_shown_of, IsUnsettled}
 use Rattle.tt_share.specs.Jobs.{EndsBehind}
 
 none_held : (search : Searched) → None ≡ Some search → ⊥
@@ -26,16 +26,16 @@ held_behind line limits t search held behind grown e =
 -- it says what is stuck, where the turn's counts are all of the total if that is why
 module _ (line : Standing) (limits : Limits) (total : Option ℕ) (stuck : answer.Stuck) (legal : IsLegal line.frame line.state stuck.turn) (lesser : LesserLose line.frame line.state stuck.turn)
     (spent : List (Turn × ℕ)) where
-  pub says : (reason : Reason) (o : Option Searched) → stuck.search ≡ o → EndsBehind line limits stuck.turn (Stuck reason o) → stuck.spent.items ≡ told_of reason spent
+  pub says : (reason : Reason) (o : Option Searched) → stuck.search ≡ o → EndsBehind line limits stuck.turn (Stuck reason o) → stuck.spent.items ≡ spent_shown_of reason spent
       → ((held : Searched) → reason ≡ Total → o ≡ Some held → (n : ℕ) × (total ≡ Some n) × IsSpent line limits n stuck.turn held spent) → IsUnsettled line limits total reason stuck
-  says Budget None is behind told all = absurd behind
-  says Budget (Some held) is behind told all = (held, is, record { legal = legal; behind = behind.0; grown = behind.1; stuck_for = behind.2; lesser = lesser }, told)
-  says Depth None is behind told all = absurd behind
-  says Depth (Some held) is behind told all = (held, is, record { legal = legal; behind = behind.0; grown = behind.1; stuck_for = behind.2; lesser = lesser }, told)
-  says Total None is behind told all = absurd behind
-  says Total (Some held) is behind told all =
+  says Budget None is behind spent_shown all = absurd behind
+  says Budget (Some held) is behind spent_shown all = (held, is, record { legal = legal; behind = behind.0; grown = behind.1; stuck_for = behind.2; lesser = lesser }, spent_shown)
+  says Depth None is behind spent_shown all = absurd behind
+  says Depth (Some held) is behind spent_shown all = (held, is, record { legal = legal; behind = behind.0; grown = behind.1; stuck_for = behind.2; lesser = lesser }, spent_shown)
+  says Total None is behind spent_shown all = absurd behind
+  says Total (Some held) is behind spent_shown all =
       let h = all held refl refl in
-      (h.0, h.1, held, is, record { legal = legal; behind = behind.0; grown = behind.1; stuck_for = behind.2; lesser = lesser }, subst (IsSpent line limits h.0 stuck.turn held) (sym told) h.2)
-  says Memory None is behind told all = (record { turn = inr (legal, lesser); behind = λ other held. absurd (none_held other (sym is ∙ held)) }, told)
-  says Memory (Some held) is behind told all =
-      (record { turn = inr (legal, lesser); behind = λ other at. held_behind line limits stuck.turn held other behind.0 behind.1 (sym is ∙ at) }, told)
+      (h.0, h.1, held, is, record { legal = legal; behind = behind.0; grown = behind.1; stuck_for = behind.2; lesser = lesser }, subst (IsSpent line limits h.0 stuck.turn held) (sym spent_shown) h.2)
+  says Memory None is behind spent_shown all = (record { turn = inr (legal, lesser); behind = λ other held. absurd (none_held other (sym is ∙ held)) }, spent_shown)
+  says Memory (Some held) is behind spent_shown all =
+      (record { turn = inr (legal, lesser); behind = λ other at. held_behind line limits stuck.turn held other behind.0 behind.1 (sym is ∙ at) }, spent_shown)

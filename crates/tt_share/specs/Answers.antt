@@ -54,11 +54,11 @@ pub record IsSpent (line : Standing) (limits : Limits) (total : ℕ) (t : Turn) 
   pub in_all : spent_in_all spent ≡ total
 
 -- what is told of the counts: all of them where the total is spent, and else nothing
-abbrev pub told_of : Reason → List (Turn × ℕ) → List (Turn × ℕ)
-told_of Budget spent = []
-told_of Depth spent = []
-told_of Total spent = spent
-told_of Memory spent = []
+abbrev pub spent_shown_of : Reason → List (Turn × ℕ) → List (Turn × ℕ)
+spent_shown_of Budget spent = []
+spent_shown_of Depth spent = []
+spent_shown_of Total spent = spent
+spent_shown_of Memory spent = []
 
 -- after each legal turn of a lesser number the side that is not to move can force its win
 abbrev pub LesserLose : Frame → State → Turn → Type 0

@@ -4,44 +4,44 @@ use Rattle.std.specs.List.Sorted.{IsStrictlyIncreasing}
 use mathlib.Core.Option.{some}
 use lib.ListN.{get_elem?}
 use Rattle.atomic_table.specs.Table.{State, Me}
-use Rattle.tt_share.specs.declared.rule.View.{View}
-use Rattle.tt_share.specs.declared.rule.Plan.{Plan}
+use Rattle.tt_share.specs.declared.rule.Ghost.{Ghost}
+use Rattle.tt_share.specs.declared.rule.Quota.{Quota}
 
-abbrev pub view_of : ℕ → List ℕ → List ℕ → Bool → Bool → View
+abbrev pub view_of : ℕ → List ℕ → List ℕ → Bool → Bool → Ghost
 view_of parts numbers grants mark sighting = record { parts = parts; numbers = numbers; grants = grants; mark = mark; sighting = sighting }
 
 -- a view that has made no step
-abbrev pub blank : ℕ → View
+abbrev pub blank : ℕ → Ghost
 blank parts = view_of parts [] [] false false
 
 -- the view of the one seat that a new desk has
-abbrev pub whole_view : Plan → View
+abbrev pub whole_view : Quota → Ghost
 whole_view plan = blank plan.seats
 
 -- the view of a seat that was handed out
-abbrev pub one_seat : View
+abbrev pub one_seat : Ghost
 one_seat = blank 1
 
 -- what a join leaves behind
-abbrev pub no_seat : View
+abbrev pub no_seat : Ghost
 no_seat = blank 0
 
-abbrev pub fewer : View → View
+abbrev pub fewer : Ghost → Ghost
 fewer v = view_of (v.parts - 1) v.numbers v.grants v.mark v.sighting
 
-abbrev pub joined : View → View → View
+abbrev pub joined : Ghost → Ghost → Ghost
 joined v w = view_of (v.parts + w.parts) (v.numbers ++ w.numbers) (v.grants ++ w.grants) (v.mark || w.mark) (v.sighting || w.sighting)
 
-abbrev pub with_draw : View → ℕ → View
+abbrev pub with_draw : Ghost → ℕ → Ghost
 with_draw v n = view_of v.parts (v.numbers ++ n ∷ []) v.grants v.mark v.sighting
 
-abbrev pub with_grant : View → ℕ → View
+abbrev pub with_grant : Ghost → ℕ → Ghost
 with_grant v n = view_of v.parts v.numbers (v.grants ++ n ∷ []) v.mark v.sighting
 
-abbrev pub with_mark : View → View
+abbrev pub with_mark : Ghost → Ghost
 with_mark v = view_of v.parts v.numbers v.grants true v.sighting
 
-abbrev pub with_sighting : View → Bool → View
+abbrev pub with_sighting : Ghost → Bool → Ghost
 with_sighting v seen = view_of v.parts v.numbers v.grants v.mark (v.sighting || seen)
 
 -- the weights of the numbers below n, added up
@@ -54,40 +54,40 @@ abbrev pub spare_count : ℕ → List ℕ → ℕ
 spare_count limit numbers = count_by (λ n. leb limit n) numbers
 
 -- each view that is there meets P
-abbrev pub EachView : (View → Type 0) → List View → Type 0
-EachView P views = (seat : ℕ) (v : View) → get_elem? views seat ≡ some v → P v
+abbrev pub EachSeat : (Ghost → Type 0) → List Ghost → Type 0
+EachSeat P views = (seat : ℕ) (v : Ghost) → get_elem? views seat ≡ some v → P v
 
 -- some view that is there meets P
-abbrev pub SomeView : (View → Type 0) → List View → Type 0
-SomeView P views = (seat : ℕ) × (v : View) × (get_elem? views seat ≡ some v) × P v
+abbrev pub SomeSeat : (Ghost → Type 0) → List Ghost → Type 0
+SomeSeat P views = (seat : ℕ) × (v : Ghost) × (get_elem? views seat ≡ some v) × P v
 
 -- The numbers in the views' lists are those below `count`, each once: however numbers are weighed, both weigh the same.
 -- A view has at most as many numbers that are not below the limit as it has parts, and with one part its numbers rise
-pub record Counts (numbers : View → List ℕ) (limit count : ℕ) (views : List View) : Type 0 where
+pub record Counts (numbers : Ghost → List ℕ) (limit count : ℕ) (views : List Ghost) : Type 0 where
   pub each_once : (weight : ℕ → ℕ) → sum_by (λ v. sum_by weight (numbers v)) views ≡ sum_below weight count
-  pub spares : EachView (λ v. spare_count limit (numbers v) ≤ v.parts) views
-  pub rising : EachView (λ v. v.parts ≡ 1 → IsStrictlyIncreasing (numbers v)) views
+  pub spares : EachSeat (λ v. spare_count limit (numbers v) ≤ v.parts) views
+  pub rising : EachSeat (λ v. v.parts ≡ 1 → IsStrictlyIncreasing (numbers v)) views
 
 -- the mark is raised only where some view has its mark, and a mark or a sighting in any view says that it is
-pub record IsMark (mark : ℕ) (views : List View) : Type 0 where
+pub record IsMark (mark : ℕ) (views : List Ghost) : Type 0 where
   pub bit : mark ≤ 1
-  pub raised : mark ≡ 1 → SomeView (λ v. v.mark ≡ true) views
-  pub known : EachView (λ v. (v.mark || v.sighting) ≡ true → mark ≡ 1) views
+  pub raised : mark ≡ 1 → SomeSeat (λ v. v.mark ≡ true) views
+  pub known : EachSeat (λ v. (v.mark || v.sighting) ≡ true → mark ≡ 1) views
 
 -- The parts of all views are the desk's seats, and a view with no part holds nothing
-pub record IsDesk (plan : Plan) (drawn mark asked : ℕ) (views : List View) : Type 0 where
+pub record IsDesk (plan : Quota) (drawn mark asked : ℕ) (views : List Ghost) : Type 0 where
   pub parts : sum_by (λ v. v.parts) views ≡ plan.seats
-  pub spent : EachView (λ v. v.parts ≡ 0 → v ≡ no_seat) views
+  pub spent : EachSeat (λ v. v.parts ≡ 0 → v ≡ no_seat) views
   pub draws : Counts (λ v. v.numbers) plan.jobs drawn views
   pub marked : IsMark mark views
   pub grants : Counts (λ v. v.grants) plan.total asked views
 
 -- What holds between any two steps: the first word counts the draws, the second is the mark, and the third counts the asks
-abbrev pub DeskHolds : Plan → State (Unit {0}) View → Type 0
+abbrev pub DeskHolds : Quota → State (Unit {0}) Ghost → Type 0
 DeskHolds plan s = (drawn : ℕ) × (mark : ℕ) × (asked : ℕ) × (s.words ≡ drawn ∷ mark ∷ asked ∷ []) × IsDesk plan drawn mark asked s.views
 
 abbrev pub SeatState : Type 0
-SeatState = Me (Unit {0}) View
+SeatState = Me (Unit {0}) Ghost
 
 -- the number that was found is the seat's next one: its numbers rise, and it is no less than the count of those before
 abbrev pub IsNext : List ℕ → ℕ → Type 0

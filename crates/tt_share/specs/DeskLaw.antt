@@ -2,40 +2,40 @@
 use Rattle.std.specs.Prelude.{◌≡◌, ℕ, ◌+◌, ◌<◌, ◌≤◌, true, ◌⊎◌, List, length, slice_index, sum_by, count_by, nat_eq}
 use Rattle.std.specs.List.Sorted.{IsStrictlyIncreasing}
 use Rattle.atomic_table.specs.Table.{State}
-use Rattle.tt_share.specs.declared.rule.View.{View}
-use Rattle.tt_share.specs.declared.rule.Plan.{Plan}
-use Rattle.tt_share.specs.Desk.{EachView, SomeView, DeskHolds, spare_count, no_seat}
+use Rattle.tt_share.specs.declared.rule.Ghost.{Ghost}
+use Rattle.tt_share.specs.declared.rule.Quota.{Quota}
+use Rattle.tt_share.specs.Desk.{EachSeat, SomeSeat, DeskHolds, spare_count, no_seat}
 
 -- how often the number stands in the views' lists
-abbrev pub occurrences : (View → List ℕ) → ℕ → List View → ℕ
+abbrev pub occurrences : (Ghost → List ℕ) → ℕ → List Ghost → ℕ
 occurrences list number views = sum_by (λ v. count_by (λ n. nat_eq n number) (list v)) views
 
 -- The word is the count of all numbers in all lists, and they are the numbers below it, each once.
 -- A view of one part has rising numbers, of which all but the last are below the limit
-pub record IsCount (list : View → List ℕ) (limit word : ℕ) (views : List View) : Type 0 where
+pub record IsCount (list : Ghost → List ℕ) (limit word : ℕ) (views : List Ghost) : Type 0 where
   pub count : sum_by (λ v. length (list v)) views ≡ word
   pub below : (number : ℕ) → number < word → occurrences list number views ≡ 1
   pub above : (number : ℕ) → word ≤ number → occurrences list number views ≡ 0
-  pub rising : EachView (λ v. v.parts ≡ 1 → IsStrictlyIncreasing (list v)) views
-  pub one_spare : EachView (λ v. v.parts ≡ 1 → (k : ℕ) → k + 1 < length (list v) → slice_index (list v) k < limit) views
-  pub spares : EachView (λ v. spare_count limit (list v) ≤ v.parts) views
+  pub rising : EachSeat (λ v. v.parts ≡ 1 → IsStrictlyIncreasing (list v)) views
+  pub one_spare : EachSeat (λ v. v.parts ≡ 1 → (k : ℕ) → k + 1 < length (list v) → slice_index (list v) k < limit) views
+  pub spares : EachSeat (λ v. spare_count limit (list v) ≤ v.parts) views
 
 -- the mark is 0 or 1, raised only where some view has its mark, and a mark or a sighting in any view says that it is 1
-pub record IsStop (word : ℕ) (views : List View) : Type 0 where
+pub record IsStop (word : ℕ) (views : List Ghost) : Type 0 where
   pub bit : (word ≡ 0) ⊎ (word ≡ 1)
-  pub raised : word ≡ 1 → SomeView (λ v. v.mark ≡ true) views
-  pub mark : EachView (λ v. v.mark ≡ true → word ≡ 1) views
-  pub sighting : EachView (λ v. v.sighting ≡ true → word ≡ 1) views
+  pub raised : word ≡ 1 → SomeSeat (λ v. v.mark ≡ true) views
+  pub mark : EachSeat (λ v. v.mark ≡ true → word ≡ 1) views
+  pub sighting : EachSeat (λ v. v.sighting ≡ true → word ≡ 1) views
 
 -- There are three words: the count of draws, the mark, and the count of the asks for a grant. The parts of all views are the
 -- desk's seats, and a view with no part holds nothing
-pub record IsDeskState (plan : Plan) (words : List ℕ) (views : List View) : Type 0 where
+pub record IsDeskState (plan : Quota) (words : List ℕ) (views : List Ghost) : Type 0 where
   pub three_words : length words ≡ 3
   pub parts : sum_by (λ v. v.parts) views ≡ plan.seats
-  pub spent : EachView (λ v. v.parts ≡ 0 → v ≡ no_seat) views
+  pub spent : EachSeat (λ v. v.parts ≡ 0 → v ≡ no_seat) views
   pub draws : IsCount (λ v. v.numbers) plan.jobs (slice_index words 0) views
   pub stop : IsStop (slice_index words 1) views
   pub grants : IsCount (λ v. v.grants) plan.total (slice_index words 2) views
 
 abbrev pub DeskLaw : Type 0
-DeskLaw = (plan : Plan) (s : State (Unit {0}) View) → DeskHolds plan s → IsDeskState plan s.words s.views
+DeskLaw = (plan : Quota) (s : State (Unit {0}) Ghost) → DeskHolds plan s → IsDeskState plan s.words s.views

@@ -18,7 +18,7 @@ abbrev pub IsOf : Shelves → Ticket → Type 0
 IsOf log t = t.row ≡ id_at log.buckets t.bucket
 
 -- a view's log, its tokens, the oldest first, and how many proofs were kept through it
-pub record Seen : Type 0 where
+pub record ViewState : Type 0 where
   pub log : Shelves
   pub tokens : List Ticket
   pub kept : ℕ
@@ -40,7 +40,7 @@ abbrev pub Extends : List Ticket → List Ticket → Type 0
 Extends before after = (more : List Ticket) × (after ≡ before ++ more)
 
 -- one proof was kept: the view has one more token, of that proof
-pub record Keeps (before after : Seen) (p : Proven) : Type 0 where
+pub record Keeps (before after : ViewState) (p : Proven) : Type 0 where
   pub counted : after.kept ≡ before.kept + 1
   pub token : Ticket
   pub added : after.tokens ≡ before.tokens ++ token ∷ []

@@ -8,7 +8,7 @@ ghost use Rattle.tt_share.specs.Results.{IsReady, IsAllSpent, KnowsNothing};
 use crate::answer::Answer;
 use crate::conclude::no_memory;
 use crate::results::Results;
-use crate::root::{from_store, offer};
+use crate::root_proof::{from_store, offer};
 use std::alloc::Global;
 use tt_game::Line;
 use tt_search::{Free, Limits, Store};

@@ -11,7 +11,7 @@ ghost use Rattle.tt_search.specs.Searched.{Searched};
 ghost use Rattle.tt_search.specs.declared.limits.Limits.{Limits};
 ghost use Rattle.tt_search.specs.declared.limits.Reason.{Reason};
 ghost use Rattle.tt_search.specs.declared.search.End.{End};
-ghost use Rattle.tt_share.specs.Answers.{IsAnswer, told_of};
+ghost use Rattle.tt_share.specs.Answers.{IsAnswer, spent_shown_of};
 ghost use Rattle.tt_share.specs.declared.jobs.JobResult.{JobResult};
 ghost use Rattle.tt_share.specs.Beginning.{BeginsWith, IsStuckWith};
 ghost use Rattle.tt_share.specs.Jobs.{EndsBehind, IsJob, end_of};
@@ -84,8 +84,8 @@ fn take_end(ends: &mut Vec<Option<JobResult>>, job: usize) -> Option<End>
 }
 
 /// What is told of the counts: all of them where the total is spent, and else nothing.
-fn told(alloc: Global, reason: Reason, spent: Vec<(Turn, u32)>) -> Vec<(Turn, u32)>
-    ensures { result.items ≡ told_of reason spent.items }
+fn spent_shown(alloc: Global, reason: Reason, spent: Vec<(Turn, u32)>) -> Vec<(Turn, u32)>
+    ensures { result.items ≡ spent_shown_of reason spent.items }
 {
     match reason {
         Reason::Total => spent,
@@ -129,7 +129,7 @@ impl<'a> Results<'a> {
         ensures replies { NoWin self.entry.line.state.to_move self.entry.ends → NoneStuck self.entry.ends → IfOk result (BeginsWith None) }
         ensures stuck { (job : ℕ) (turn : Turn) (reason : Reason) (search : Option Searched) → NoWin self.entry.line.state.to_move self.entry.ends →
             IsLeastStuck self.entry.ends job reason search → IsJob self.entry.line job turn →
-            IfOk result (IsStuckWith turn reason search (told_of reason self.entry.spent)) }
+            IfOk result (IsStuckWith turn reason search (spent_shown_of reason self.entry.spent)) }
     {
         let Results {
             jobs,
@@ -152,7 +152,7 @@ impl<'a> Results<'a> {
                         turn: *turn,
                         reason,
                         search,
-                        spent: told(jobs.alloc, reason, spent),
+                        spent: spent_shown(jobs.alloc, reason, spent),
                     }));
                 }
                 None => unreachable!(),

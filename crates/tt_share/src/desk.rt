@@ -6,13 +6,13 @@ ghost use Rattle.tt_share.specs.Desk.{blank, view_of};
 ghost use Rattle.tt_share.specs.Seats.{seat_of, fresh, EndsSpare, Adds, Gains, granted_of, Closes};
 ghost use Rattle.tt_share.specs.Gathering.{Gathers};
 
-use crate::rule::{AtDesk, Both, Cut, Draw, Grant, Look, Plan, Raise, View};
+use crate::rule::{AtDesk, Both, Cut, Draw, Ghost, Grant, Quota, Raise, Sighting};
 use atomic_table::Table;
 use std::alloc::Global;
 use std::marker::Model;
 use tt_sgf::NoMemory;
 
-type Words = Table<(), View, Plan, AtDesk, Global>;
+type Words = Table<(), Ghost, Quota, AtDesk, Global>;
 
 /// What a closed desk counted: the steps that all draws made, and the grants that it gave of its total, or 0 where it had
 /// none.
@@ -56,7 +56,7 @@ impl Model for Desk {
 /// A place at a desk, for one thread at a time.
 #[derive(Drop)]
 pub struct Seat {
-    seat: atomic_table::Seat<(), View>,
+    seat: atomic_table::Seat<(), Ghost>,
     last: u64,
     last_grant: u64,
 }
@@ -78,7 +78,7 @@ impl Model for Seat {
 }
 
 impl Seat {
-    fn into_inner(self) -> atomic_table::Seat<(), View>
+    fn into_inner(self) -> atomic_table::Seat<(), Ghost>
         ensures desk { result.table_id ≡ self.desk }
         ensures me { result.me ≡ (view_of 1 self.numbers self.grants self.mark self.sighting, []) }
     {
@@ -86,7 +86,7 @@ impl Seat {
         seat
     }
 
-    fn blank(seat: atomic_table::Seat<(), View>) -> Seat
+    fn blank(seat: atomic_table::Seat<(), Ghost>) -> Seat
         requires { seat.me ≡ (blank 1, []) }
         ensures { result ≡ fresh seat.table_id }
     {
@@ -101,7 +101,7 @@ impl Seat {
 // Cuts the first seat into as many as it has parts, into a list that has room for them.
 fn cut_all(
     table: &Words,
-    mut first: atomic_table::Seat<(), View>,
+    mut first: atomic_table::Seat<(), Ghost>,
     seats: usize,
     mut all: Vec<Seat>,
 ) -> Vec<Seat>
@@ -120,7 +120,7 @@ fn cut_all(
 }
 
 // Joins the seats to the last one.
-fn join_all(table: &Words, last: Seat, mut seats: Vec<Seat>) -> atomic_table::Seat<(), View>
+fn join_all(table: &Words, last: Seat, mut seats: Vec<Seat>) -> atomic_table::Seat<(), Ghost>
     requires words { 0 < table.now.shared.table_id.words }
     requires last { last.desk ≡ table.now.shared.table_id }
     requires seats { All (λ s. s.desk ≡ table.now.shared.table_id) seats.items }
@@ -164,7 +164,7 @@ impl Desk {
         let Ok(all) = Vec::with_capacity(alloc, seats) else {
             return Err(NoMemory);
         };
-        let plan = Plan {
+        let plan = Quota {
             jobs,
             seats,
             total: total.unwrap_or(0),
@@ -220,7 +220,7 @@ impl Desk {
         ensures sighting { s.new ≡ seat_of s.old.desk s.old.numbers s.old.grants s.old.mark (s.old.sighting || result) }
         ensures again { IsTrue (s.old.mark || s.old.sighting) → IsTrue result }
     {
-        self.table.shared.load::<Look>(&mut s.seat, 1) == 1
+        self.table.shared.load::<Sighting>(&mut s.seat, 1) == 1
     }
 
     /// Whether one more of the desk's total was left, by one step. Once a seat was refused, each later call on that seat is

@@ -18,7 +18,7 @@ mod locked;
 mod log;
 mod log_store;
 mod results;
-mod root;
+mod root_proof;
 mod rule;
 mod table;
 mod taken;

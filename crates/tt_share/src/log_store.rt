@@ -31,9 +31,9 @@ impl<'a, R> Model for LogStore<'a, R> {
     ghost use Rattle.boxcar.specs.Table.{shelves_coded};
     ghost use Rattle.tt_sgf.specs.contracts.sets.PointSet as points;
     ghost use Rattle.tt_proof.specs.StrategyCode.{strategy_code};
-    ghost use Rattle.tt_share.specs.Log.{Seen};
+    ghost use Rattle.tt_share.specs.Log.{ViewState};
 
-    ghost Value = { Seen };
+    ghost Value = { ViewState };
 
     ghost coded = { Prim.hlevel (codes, shelves_coded, strategy_code, points.the_row.coded) };
 

@@ -4,7 +4,7 @@ use std::collections::LinkedList;
 
 /// How many jobs, seats and grants a desk has. Where it has no total it grants without a step, and `total` is 0.
 #[derive(Drop)]
-pub struct Plan {
+pub struct Quota {
     pub jobs: usize,
     pub seats: usize,
     pub total: u32,
@@ -12,7 +12,7 @@ pub struct Plan {
 
 /// What a seat knows: how many of the desk's seats it stands for, the numbers that it drew and those that it got as grants,
 /// whether it raised the mark and whether it saw the mark. No value of it is made.
-pub struct View {
+pub struct Ghost {
     pub parts: u64,
     pub numbers: LinkedList<u64>,
     pub grants: LinkedList<u64>,
@@ -23,7 +23,7 @@ pub struct View {
 /// The rule of the desk.
 pub struct AtDesk;
 
-impl TableRule<(), View, Plan> for AtDesk {
+impl TableRule<(), Ghost, Quota> for AtDesk {
     ghost use Rattle.tt_share.specs.Desk.{DeskHolds, whole_view};
 
     ghost holds = { DeskHolds };
@@ -34,7 +34,7 @@ impl TableRule<(), View, Plan> for AtDesk {
 /// A number was drawn.
 pub struct Draw;
 
-impl Play<(), View> for Draw {
+impl Play<(), Ghost> for Draw {
     ghost use Rattle.tt_share.specs.Desk.{Draws};
 
     ghost then = { λ step before found after. Draws before found after };
@@ -43,7 +43,7 @@ impl Play<(), View> for Draw {
 /// A grant was asked for: the number says whether it was given.
 pub struct Grant;
 
-impl Play<(), View> for Grant {
+impl Play<(), Ghost> for Grant {
     ghost use Rattle.tt_share.specs.Desk.{Grants};
 
     ghost then = { λ step before found after. Grants before found after };
@@ -52,16 +52,16 @@ impl Play<(), View> for Grant {
 /// The mark was raised.
 pub struct Raise;
 
-impl Play<(), View> for Raise {
+impl Play<(), Ghost> for Raise {
     ghost use Rattle.tt_share.specs.Desk.{Raises};
 
     ghost then = { λ step before found after. Raises before after };
 }
 
 /// The mark was looked at.
-pub struct Look;
+pub struct Sighting;
 
-impl Play<(), View> for Look {
+impl Play<(), Ghost> for Sighting {
     ghost use Rattle.tt_share.specs.Desk.{Looks};
 
     ghost then = { λ step before found after. Looks before found after };
@@ -70,7 +70,7 @@ impl Play<(), View> for Look {
 /// One seat is cut from a view that has made no step.
 pub struct Cut;
 
-impl Split<View> for Cut {
+impl Split<Ghost> for Cut {
     ghost use Rattle.tt_share.specs.Desk.{fewer, one_seat};
 
     ghost left = { fewer };
@@ -81,7 +81,7 @@ impl Split<View> for Cut {
 /// Two views are made one.
 pub struct Both;
 
-impl Join<View> for Both {
+impl Join<Ghost> for Both {
     ghost use Rattle.tt_share.specs.Desk.{joined, no_seat};
 
     ghost both = { joined };

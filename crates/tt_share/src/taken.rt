@@ -19,13 +19,13 @@ use tt_sgf::NoMemory;
 
 /// Tokens of a log, as a row of their proofs.
 #[derive(Drop)]
-struct Row<'a> {
+struct TokenRow<'a> {
     log: &'a CertLog,
     tokens: &'a Vec<Token>,
     ghost of_log: { All (IsOf log.now) tokens.now.items },
 }
 
-impl<'a> ProofRow for Row<'a> {
+impl<'a> ProofRow for TokenRow<'a> {
     ghost use Rattle.tt_share.specs.Log.{proofs_of};
 
     ghost proofs = { λ t. proofs_of t.tokens.now.items };
@@ -49,7 +49,7 @@ impl<'a> Model for Taken<'a> {
     ghost use Rattle.boxcar.specs.Table.{shelves_coded};
     ghost use Rattle.tt_sgf.specs.contracts.sets.PointSet as points;
     ghost use Rattle.tt_proof.specs.StrategyCode.{strategy_code};
-    ghost use Rattle.tt_search.specs.KeyIndex.{key_marks};
+    ghost use Rattle.tt_search.specs.KeyIndex.{index_hashes};
     ghost use Rattle.tt_share.specs.Log.{IsOf, proofs_of};
     ghost use Rattle.tt_share.specs.Taking.{Holding};
 
@@ -65,7 +65,7 @@ impl<'a> Model for Taken<'a> {
 
     ghost invariant = { λ t. record {
       of_log : All (IsOf t.log.now) t.tokens.items;
-      indexed : t.index.marks ≡ key_marks (proofs_of t.tokens.items);
+      indexed : t.index.hashes ≡ index_hashes (proofs_of t.tokens.items);
     } };
 }
 
@@ -112,10 +112,10 @@ impl<'a> Taken<'a> {
     }
 
     /// The tokens as a row of proofs.
-    fn row(&self) -> Row<'_>
+    fn row(&self) -> TokenRow<'_>
         ensures { result.tokens.now.items ≡ self.now.tokens }
     {
-        Row {
+        TokenRow {
             log: self.log,
             tokens: &self.tokens,
         }

@@ -111,21 +111,21 @@ fn set_up_holds(line: &[u8]) -> bool {
 }
 
 /// Whether all empty points of a board, asked at once, are told as it is drawn for Black: `Q` where a play is told to be quiet.
-fn tells(board: &Board, quiet: &[u8]) -> bool {
+fn tells(board: &Board, no_capture: &[u8]) -> bool {
     let size = board.size();
     let empty = board.empty_among(&PointSet::whole(size));
-    let told = CountedBoard::of(board).quiet_among(Colour::Black, &empty);
-    told.same(holders(size, quiet, b'Q').bits())
+    let told = CountedBoard::of(board).no_capture_among(Colour::Black, &empty);
+    told.same(holders(size, no_capture, b'Q').bits())
 }
 
 /// Whether the plays on a board are told to be quiet as the line of the table says.
-fn quiet_holds(line: &[u8]) -> bool {
+fn no_capture_holds(line: &[u8]) -> bool {
     let Some((size, rest)) = sized(line) else {
         return false;
     };
-    let (drawn, quiet) = cut(rest, b'|');
+    let (drawn, no_capture) = cut(rest, b'|');
     match board_of(size, drawn) {
-        Ok(board) => tells(&board, quiet),
+        Ok(board) => tells(&board, no_capture),
         Err(_) => false,
     }
 }
@@ -154,11 +154,11 @@ impl Table for SetUpTable {
     }
 }
 
-struct QuietTable;
+struct NoCaptureTable;
 
-impl Table for QuietTable {
+impl Table for NoCaptureTable {
     fn holds(_: Global, line: &[u8]) -> bool {
-        quiet_holds(line)
+        no_capture_holds(line)
     }
 }
 
@@ -224,9 +224,9 @@ fn set_ups(rt: HostRuntime) {
 }
 
 #[test]
-fn quiet_plays(rt: HostRuntime) {
+fn no_capture_plays(rt: HostRuntime) {
     assert_eq!(&rt;
-        holding::<QuietTable>(rt.alloc(), tables::QUIET_PLAYS, b'\n'),
+        holding::<NoCaptureTable>(rt.alloc(), tables::QUIET_PLAYS, b'\n'),
         4
     );
 }

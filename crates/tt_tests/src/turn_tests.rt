@@ -7,7 +7,7 @@ use crate::rows::{cut, short_number};
 use crate::turn_tables::TURNS;
 use std::alloc::{AllocError, Global};
 use tt_board::{Board, Boards};
-use tt_game::{Line, Past, Side, Why};
+use tt_game::{Line, Side, Snapshot, Why};
 
 /// Whether the boards of a history are those that are drawn, with a stroke between two.
 fn is_history(boards: &[Board], drawn: &[u8]) -> bool {
@@ -146,11 +146,11 @@ fn keeps(alloc: Global, line: &Line) -> bool {
 
 /// Makes the turn of this number. Whether it is legal, and a kept past tells the line before it from the line after it.
 fn goes_on(line: &mut Line, number: u16) -> bool {
-    let Ok(past) = line.past() else {
+    let Ok(snapshot) = line.snapshot() else {
         return false;
     };
     let t = turn(line.frame().size, number);
-    past.stands_with(line) && line.push(t).is_ok() && !past.stands_with(line)
+    snapshot.stands_with(line) && line.push(t).is_ok() && !snapshot.stands_with(line)
 }
 
 /// Makes the turns of these numbers. Whether all go so.
@@ -164,18 +164,18 @@ fn go_on(line: &mut Line, numbers: &[u16]) -> bool {
 }
 
 /// What isn't so of the past of a line, and of a copy of the line; nothing where all is.
-fn wrong_past(past: &Past, line: &Line, copy: &Line) -> &'static str {
-    if !past.stands_with(line) {
-        return "the past stands with the line";
+fn wrong_past(snapshot: &Snapshot, line: &Line, copy: &Line) -> &'static str {
+    if !snapshot.stands_with(line) {
+        return "the snapshot stands with the line";
     }
-    if !past.stands_with(copy) {
-        return "the past stands with the copy";
+    if !snapshot.stands_with(copy) {
+        return "the snapshot stands with the copy";
     }
-    if !past.present().same(line.present()) {
-        return "the past has the line's board";
+    if !snapshot.present().same(line.present()) {
+        return "the snapshot has the line's board";
     }
-    if past.key() != line.key() {
-        return "the past has the line's key";
+    if snapshot.key() != line.key() {
+        return "the snapshot has the line's key";
     }
     if line.key() != copy.key() {
         return "the copy has the line's key";
@@ -185,8 +185,8 @@ fn wrong_past(past: &Past, line: &Line, copy: &Line) -> &'static str {
 
 /// What isn't so of what is kept of a line, and of a copy of it.
 fn wrong_kept(line: &Line, copy: &Line) -> &'static str {
-    match line.past() {
-        Ok(past) => wrong_past(&past, line, copy),
+    match line.snapshot() {
+        Ok(snapshot) => wrong_past(&snapshot, line, copy),
         Err(_) => "the line is kept",
     }
 }

@@ -14,7 +14,7 @@ use Rattle.tt_search.specs.Shape.{shape}
 use Rattle.tt_search.specs.Children.{children_of}
 use Rattle.tt_search.specs.Child.{child_tree}
 use Rattle.tt_search.specs.Edges.{edge_turn, edge_turns, edge_trees}
-use Rattle.tt_search.specs.Packed.{children_in}
+use Rattle.tt_search.specs.ChildNodes.{children_in}
 use Rattle.tt_search.specs.Settled.{strategy_for, first_settled, pick_at}
 use Rattle.tt_search.specs.Weight.{weight, weight_all}
 use Rattle.tt_search.specs.Joining.{IsSettledAt, AreSettledAt}
@@ -78,8 +78,8 @@ node::Node::footprint-returns-in-Offered-clause-exact t c =
     let tree : c.deref-in-Offered.result.now.tree ≡ strategy_for c.args.side c.args.self.now = ap (λ (q : Proven). q.tree) c.deref-in-Offered.ensures ∙ offered.1 in
     subst (λ u. IfOk c.offered_footprint.result (λ x. IsFootprint f s u x)) tree c.offered_footprint.ensures.exact
 
-pub children::Packed::footprint-replied-requires : goal.children::Packed::footprint-replied-requires
-children::Packed::footprint-replied-requires t c =
+pub children::ChildNodes::footprint-replied-requires : goal.children::ChildNodes::footprint-replied-requires
+children::ChildNodes::footprint-replied-requires t c =
     let x = c.args.self.now in
     let edges = c.as_slice.ensures in
     let grown = c.as_slice-else-is_same.ensures.value in (

@@ -1,7 +1,7 @@
 use Rattle.std.proofs.Common.{◌≡◌, ◌≤◌, ◌*◌, ◌+◌, drop}
 use Rattle.tt_search.specs.Children.{children_of}
 use Rattle.tt_search.specs.Edges.{edge_trees}
-use Rattle.tt_search.specs.Packed.{children_in}
+use Rattle.tt_search.specs.ChildNodes.{children_in}
 use Rattle.tt_search.specs.Child.{child_tree}
 use Rattle.tt_search.specs.Joining.{AreSettledAt}
 use Rattle.tt_search.specs.Weight.{weight, weight_all}
@@ -17,8 +17,8 @@ decreases-node::Node::footprint_behind l = weight l.self.now * 4 + 3
 abbrev pub decreases-children::Child::footprint_behind : goal.decreases-children::Child::footprint_behind
 decreases-children::Child::footprint_behind l = weight (child_tree l.self) * 4 + 4
 
-abbrev pub decreases-children::Packed::footprint : goal.decreases-children::Packed::footprint
-decreases-children::Packed::footprint l = weight_all (children_in l.self.now) * 4 + 5
+abbrev pub decreases-children::ChildNodes::footprint : goal.decreases-children::ChildNodes::footprint
+decreases-children::ChildNodes::footprint l = weight_all (children_in l.self.now) * 4 + 5
 
 abbrev pub decreases-footprints::picked : goal.decreases-footprints::picked
 decreases-footprints::picked l = weight_all (children_of (edge_trees l.children.now.edges l.children.now.grown.items)) * 4 + 4

@@ -4,7 +4,7 @@ use Rattle.tt_proof.specs.Proven.{Proven}
 use Rattle.tt_proof.specs.Strategy.{Entries, reply, entry}
 use Rattle.tt_search.specs.PartialTree.{PartialTree, fresh}
 use Rattle.tt_search.specs.Children.{children_of}
-use Rattle.tt_search.specs.Edges.{edge_turn, mark_of, tree_of, edge_turns, edge_trees}
+use Rattle.tt_search.specs.Edges.{edge_turn, edge_state_of, tree_of, edge_turns, edge_trees}
 use Rattle.tt_search.specs.Settled.{strategy_for, pick_at, replies}
 use Rattle.tt_search.specs.Weight.{weight, weight_all}
 use Rattle.tt_search.specs.declared.edges.Edge.{Edge}
@@ -12,7 +12,7 @@ use Rattle.tt_search.proofs.Replies.{joined, joined_push, joined_none, picked, p
 use Rattle.tt_search.proofs.Places.{replies_at_end, length-turns_of, length-trees_of, turn_at_place, replied_step, weight_step, whole_behind}
 use Rattle.tt_search.proofs.Lifted.{weight_at}
 use Rattle.tt_search.proofs.Sprouted.{any_default}
-use Rattle.tt_search.specs.Packed.{child_of, children_in}
+use Rattle.tt_search.specs.ChildNodes.{child_of, children_in}
 use Rattle.tt_search.specs.Numbers.{number, numbers}
 use Rattle.tt_search.specs.Joining.{AreZero}
 use Rattle.tt_search.specs.Shape.{shape}
@@ -35,15 +35,15 @@ node::Node::plan-returns-in-Offered t c =
     let made = c.plan-in-Offered.ensures.plan ∙ ap (λ (q : Proven). q.tree) c.deref-in-Offered.ensures ∙ tree in
     subst (λ u. IfOk c.try_clone-in-Offered.result (λ q. q ≡ u)) made c.try_clone-in-Offered.ensures
 
-pub children::Packed::plan-picked-requires : goal.children::Packed::plan-picked-requires
-children::Packed::plan-picked-requires t c =
+pub children::ChildNodes::plan-picked-requires : goal.children::ChildNodes::plan-picked-requires
+children::ChildNodes::plan-picked-requires t c =
     let x = c.args.self.now in (
       omega (arith, c.decreases),
       (c.requires.whole, own_zero c.args.side c.args.mover (edge_turns x.edges) (children_in x) (sym c.is_same.ensures ∙ c.if-is_same.true) c.requires.settled),
     )
 
-pub children::Packed::plan-replied-requires : goal.children::Packed::plan-replied-requires
-children::Packed::plan-replied-requires t c =
+pub children::ChildNodes::plan-replied-requires : goal.children::ChildNodes::plan-replied-requires
+children::ChildNodes::plan-replied-requires t c =
     let x = c.args.self.now in
     let side = c.args.side in
     let edges = c.as_slice.ensures in
@@ -109,7 +109,7 @@ settled::replied-loop-edge-preserved t c =
     let behind : List PartialTree = c.first.result.1.now in
     let rest : Entries = replies c.args.side (edge_turns left) (children_of (edge_trees left behind)) in
     let step = replied_step c.args.side c.args.edges.now c.loop-edge.rest.now i first c.loop-edge-test.true
-    ∙ ap (λ us. entry (edge_turn e) (strategy_for c.args.side (tree_of (mark_of e) c.loop-edge.rest.now)) (replies c.args.side (edge_turns left) (children_of (edge_trees left us))))
+    ∙ ap (λ us. entry (edge_turn e) (strategy_for c.args.side (tree_of (edge_state_of e) c.loop-edge.rest.now)) (replies c.args.side (edge_turns left) (children_of (edge_trees left us))))
     (sym c.first.ensures.behind) in
     record {
       made =

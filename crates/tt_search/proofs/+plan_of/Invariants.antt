@@ -1,7 +1,7 @@
 use Rattle.std.proofs.Common.{◌≡◌, ◌≤◌, ◌*◌, ◌+◌, length, drop}
 use Rattle.tt_search.specs.Children.{children_of}
 use Rattle.tt_search.specs.Edges.{edge_turns, edge_trees, grown_in}
-use Rattle.tt_search.specs.Packed.{children_in}
+use Rattle.tt_search.specs.ChildNodes.{children_in}
 use Rattle.tt_search.specs.Child.{child_tree}
 use Rattle.tt_search.specs.Settled.{replies}
 use Rattle.tt_search.specs.Joining.{AreZero}
@@ -15,8 +15,8 @@ decreases-node::Node::plan l = weight l.self.now * 3 + 2
 abbrev pub decreases-children::Child::plan : goal.decreases-children::Child::plan
 decreases-children::Child::plan l = weight (child_tree l.self) * 3 + 3
 
-abbrev pub decreases-children::Packed::plan : goal.decreases-children::Packed::plan
-decreases-children::Packed::plan l = weight_all (children_in l.self.now) * 3 + 3
+abbrev pub decreases-children::ChildNodes::plan : goal.decreases-children::ChildNodes::plan
+decreases-children::ChildNodes::plan l = weight_all (children_in l.self.now) * 3 + 3
 
 abbrev pub decreases-settled::picked : goal.decreases-settled::picked
 decreases-settled::picked l = weight_all (children_of (edge_trees l.children.now.edges l.children.now.grown.items)) * 3 + 1

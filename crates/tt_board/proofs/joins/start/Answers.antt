@@ -1,9 +1,9 @@
 use Rattle.std.proofs.Common.{◌≢◌, arith, ◌∙◌}
 use Rattle.tt_sgf.specs.SizeLaws.{few_points}
-use Rattle.tt_board.specs.declared.quiet.TheConstants.{NOWHERE}
+use Rattle.tt_board.specs.declared.play_kind.TheConstants.{NOWHERE}
 use Rattle.tt_board.proofs.JoinLemmas.{roots_apart}
 use Rattle.tt_board.proofs.NameLemmas.{near_off}
-use Rattle.tt_board.proofs.QuietLemmas.{roots_below}
+use Rattle.tt_board.proofs.PlayKindLemmas.{roots_below}
 use Rattle.tt_board.proofs.StartLemmas.{touch_rooted, some_liberty, counted_started}
 use Rattle.tt_board.proofs.joins.start.Goals as goal
 

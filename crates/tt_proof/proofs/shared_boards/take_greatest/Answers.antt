@@ -3,7 +3,7 @@ use Rattle.tt_proof.proofs.shared_boards.take_greatest.Goals as goal
 
 pub returns-then-a-b : goal.returns-then-a-b
 returns-then-a-b c =
-    right_gave c.pop-then-a-b.result c.args.left.now c.args.right.now c.pop-then-a-b.new.self c.in-Some-last_print.ensures c.pop-then-a-b.ensures
+    right_gave c.pop-then-a-b.result c.args.left.now c.args.right.now c.pop-then-a-b.new.self c.in-Some-last_hash.ensures c.pop-then-a-b.ensures
 
 pub returns-else-a-b : goal.returns-else-a-b
 returns-else-a-b c =

@@ -6,7 +6,7 @@ use Rattle.tt_search.specs.Children.{children_of}
 use Rattle.tt_search.specs.Choices.{node_with}
 use Rattle.tt_search.specs.Edges.{edge_trees}
 use Rattle.tt_search.specs.Numbers.{numbers, least, capped_sum}
-use Rattle.tt_search.specs.Packed.{choices_with}
+use Rattle.tt_search.specs.ChildNodes.{choices_with}
 use Rattle.tt_search.specs.Untried.{fresh_edge, plays_and_pass}
 use Rattle.tt_search.proofs.Changed.{pair_of}
 use Rattle.tt_search.proofs.FreshRows.{ones, least_ones, capped_ones}

@@ -3,13 +3,13 @@ use Rattle.std.proofs.lemmas.List.{length_push}
 use Rattle.tt_sgf.specs.declared.size.TheConstants.{MOST_POINTS}
 use Rattle.tt_game.specs.declared.turns.Successor.{Successor}
 use Rattle.tt_game.specs.declared.turns.Turn.TheVariants.{Play}
-use Rattle.tt_search.specs.declared.edges.Mark.TheVariants.{Fresh}
+use Rattle.tt_search.specs.declared.edges.EdgeState.TheVariants.{Fresh}
 use Rattle.tt_game.specs.Turns.{successors_from}
 use Rattle.tt_game.specs.TurnLaws.{from_all}
 use Rattle.tt_search.specs.Growing.{leaf_for}
-use Rattle.tt_search.specs.Edges.{mark_of, tree_of, edge_turns, edge_trees, AreFresh}
+use Rattle.tt_search.specs.Edges.{edge_state_of, tree_of, edge_turns, edge_trees, AreFresh}
 use Rattle.tt_search.specs.Untried.{AreBelow, fresh_edge, plays_and_pass}
-use Rattle.tt_search.proofs.FreshRows.{fresh_mark}
+use Rattle.tt_search.proofs.FreshRows.{fresh_edge_state}
 use Rattle.tt_search.proofs.Successors.{turns_of-successors, turns_more, leaves_more, turns_last, leaves_last}
 use Rattle.tt_search.proofs.Untried.{below_more, below_push, fresh_push, fresh_grown, play_turn, no_winner}
 use Rattle.tt_search.proofs.leaves.untried_plays.Goals as goal
@@ -42,12 +42,12 @@ loop-p-preserved c =
     let items : c.push.new.self ≡ plays ++ e ∷ [] = c.push.ensures ∙ ap (λ k. plays ++ fresh_edge k ∷ []) (sym is) in
     let won = no_winner _ (sym c.is_some-in-Some.ensures ∙ c.if-is_some-2.false) in
     let turn = play_turn n c.number-from.ensures.bound ∙ ap Play is in
-    let mark : mark_of e ≡ Fresh = fresh_mark e (omega (arith, c.number-from.ensures.bound)) in
+    let edge_state : edge_state_of e ≡ Fresh = fresh_edge_state e (omega (arith, c.number-from.ensures.bound)) in
     record {
       turns = turns_more f s plays c.push.new.self e c.loop-p.from _ n items turn c.in-Some.ensures.3 is c.loop-p.invariant.turns;
-      leaves = leaves_more f s plays c.push.new.self e _ c.loop-p.from _ n items (ap (λ m. tree_of m []) mark ∙ sym (ap leaf_for won)) c.in-Some.ensures.2 c.in-Some.ensures.3 is
+      leaves = leaves_more f s plays c.push.new.self e _ c.loop-p.from _ n items (ap (λ m. tree_of m []) edge_state ∙ sym (ap leaf_for won)) c.in-Some.ensures.2 c.in-Some.ensures.3 is
           c.loop-p.invariant.leaves;
-      fresh = subst AreFresh (sym items) (fresh_push plays e c.loop-p.invariant.fresh mark);
+      fresh = subst AreFresh (sym items) (fresh_push plays e c.loop-p.invariant.fresh edge_state);
       below = subst (AreBelow (n + 1)) (sym items)
           (below_push (n + 1) plays e (below_more c.loop-p.from (n + 1) plays (omega (arith, is, c.in-Some.ensures.0)) c.loop-p.invariant.below) (omega arith));
       few = omega (arith, ap length items, length_push plays e, c.loop-p.invariant.few, is, c.in-Some.ensures.0);

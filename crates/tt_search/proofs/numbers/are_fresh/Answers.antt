@@ -1,7 +1,7 @@
 use Rattle.std.proofs.Common.{get_or, arith}
 use Rattle.std.proofs.lemmas.List.{drop_more}
 use Rattle.tt_search.specs.declared.edges.Edge.{Edge}
-use Rattle.tt_search.proofs.FreshRows.{fresh_mark}
+use Rattle.tt_search.proofs.FreshRows.{fresh_edge_state}
 use Rattle.tt_search.proofs.numbers.are_fresh.Goals as goal
 
 abbrev first : Edge
@@ -11,5 +11,5 @@ pub loop-edge-preserved : goal.loop-edge-preserved
 loop-edge-preserved c = record {
   rest = λ behind. c.loop-edge.invariant.rest
       (rw (drop_more c.args.edges.now c.loop-edge.edge-index first c.loop-edge-test.true)
-      (fresh_mark (get_or c.args.edges.now c.loop-edge.edge-index first) (omega (arith, c.if-edge-ge-TURNS.false)), behind));
+      (fresh_edge_state (get_or c.args.edges.now c.loop-edge.edge-index first) (omega (arith, c.if-edge-ge-TURNS.false)), behind));
 }

@@ -4,7 +4,7 @@ use Rattle.tt_game.specs.declared.frame.Side.{Side}
 use Rattle.tt_search.specs.PartialTree.{PartialTree}
 use Rattle.tt_search.specs.Children.{children_of}
 use Rattle.tt_search.specs.Numbers.{number, numbers, least}
-use Rattle.tt_search.specs.Edges.{mark_of, tree_of, edge_trees, grown_behind, counted}
+use Rattle.tt_search.specs.Edges.{edge_state_of, tree_of, edge_trees, grown_behind, counted}
 use Rattle.tt_search.specs.declared.edges.Edge.{Edge}
 use Rattle.tt_search.proofs.Places.{rank_next, counted_most, whole_behind}
 use Rattle.tt_search.proofs.Rows.{least_le, best_from, best_from_start, best_from_less, best_from_least, best_from_same}
@@ -15,8 +15,8 @@ abbrev first : Edge
 first = record { code = 0 }
 
 -- the child at a place, and the children behind it
-module _ (mover : Side) (es : List Edge) (rest behind : List PartialTree) (i x : ℕ) (l : i < length es) (is : x ≡ number mover (tree_of (mark_of (get_or es i first)) rest))
-    (b : behind ≡ grown_behind (mark_of (get_or es i first)) rest) (p v : ℕ) where
+module _ (mover : Side) (es : List Edge) (rest behind : List PartialTree) (i x : ℕ) (l : i < length es) (is : x ≡ number mover (tree_of (edge_state_of (get_or es i first)) rest))
+    (b : behind ≡ grown_behind (edge_state_of (get_or es i first)) rest) (p v : ℕ) where
   abbrev row : List PartialTree → List ℕ
   row us = numbers mover (children_of (edge_trees (drop (i + 1) es) us))
 
@@ -24,14 +24,14 @@ module _ (mover : Side) (es : List Edge) (rest behind : List PartialTree) (i x :
   here : best_from p v i (x ∷ row behind) ≡ best_from p v i (numbers mover (children_of (edge_trees (drop i es) rest)))
   here =
       ap (λ y. best_from p v i (y ∷ row behind)) is
-      ∙ ap (λ us. best_from p v i (number mover (tree_of (mark_of (get_or es i first)) rest) ∷ row us)) b
+      ∙ ap (λ us. best_from p v i (number mover (tree_of (edge_state_of (get_or es i first)) rest) ∷ row us)) b
       ∙ sym (at_drop_more (λ xs. best_from p v i (numbers mover (children_of (edge_trees xs rest)))) es i first l)
 
   -- the least from the place on is that of the child's number and of those behind
   least_here : least (numbers mover (children_of (edge_trees (drop i es) rest))) ≡ min x (least (row behind))
   least_here =
       at_drop_more (λ xs. least (numbers mover (children_of (edge_trees xs rest)))) es i first l
-      ∙ ap (λ us. least (number mover (tree_of (mark_of (get_or es i first)) rest) ∷ row us)) (sym b)
+      ∙ ap (λ us. least (number mover (tree_of (edge_state_of (get_or es i first)) rest) ∷ row us)) (sym b)
       ∙ ap (λ y. least (y ∷ row behind)) (sym is)
 
   -- a child with a lesser number is the best one so far
@@ -102,9 +102,9 @@ loop-i-preserved c =
         | else-number-least w ↦ omega (arith, w.least-is, w.if-number-least.false, least, c.loop-i.invariant.least)
       ];
       looked_at = elim c.if-number-least.branch [ then-number-least w ↦ search rules | else-number-least w ↦ search rules ];
-      few = omega (arith, c.counted-passed.ensures, counted_most (mark_of e) c.loop-i.passed, c.loop-i.invariant.few);
+      few = omega (arith, c.counted-passed.ensures, counted_most (edge_state_of e) c.loop-i.passed, c.loop-i.invariant.few);
       fewer = elim c.if-number-least.branch [ then-number-least w ↦ search rules | else-number-least w ↦ search rules ];
-      passed = c.counted-passed.ensures ∙ ap (counted (mark_of e)) c.loop-i.invariant.passed ∙ sym (rank_next c.args.edges.now c.loop-i.i first c.loop-i-test.true);
+      passed = c.counted-passed.ensures ∙ ap (counted (edge_state_of e)) c.loop-i.invariant.passed ∙ sym (rank_next c.args.edges.now c.loop-i.i first c.loop-i-test.true);
       rank = elim c.if-number-least.branch [ then-number-least w ↦ search rules | else-number-least w ↦ search rules ];
       whole = whole_behind c.args.edges.now c.loop-i.rest.now c.loop-i.i first c.loop-i-test.true c.loop-i.invariant.whole ∙ ap length (sym c.first.ensures.behind);
     }

@@ -6,7 +6,7 @@ use Rattle.tt_search.specs.PartialTree.{PartialTree}
 use Rattle.tt_search.specs.Children.{children_of}
 use Rattle.tt_search.specs.Numbers.{number, numbers}
 use Rattle.tt_search.specs.MostProving.{place}
-use Rattle.tt_search.specs.Edges.{mark_of, tree_of, edge_trees, grown_behind, counted}
+use Rattle.tt_search.specs.Edges.{edge_state_of, tree_of, edge_trees, grown_behind, counted}
 use Rattle.tt_search.specs.declared.edges.Edge.{Edge}
 use Rattle.tt_search.proofs.Places.{rank_next, counted_most, whole_behind}
 use Rattle.tt_search.proofs.numbers.settled_of.Goals as goal
@@ -19,8 +19,8 @@ place_past : (i x : ℕ) (xs : List ℕ) → x ≢ 0 → i + 1 + place 0 xs ≡ 
 place_past i x xs h = grind (arith, common_steps)
 
 -- the child at a place isn't settled: so the first one that is, is found behind it
-module _ (side : Side) (es : List Edge) (rest behind : List PartialTree) (i x : ℕ) (l : i < length es) (is : x ≡ number side (tree_of (mark_of (get_or es i first)) rest))
-    (b : behind ≡ grown_behind (mark_of (get_or es i first)) rest) where
+module _ (side : Side) (es : List Edge) (rest behind : List PartialTree) (i x : ℕ) (l : i < length es) (is : x ≡ number side (tree_of (edge_state_of (get_or es i first)) rest))
+    (b : behind ≡ grown_behind (edge_state_of (get_or es i first)) rest) where
   abbrev row : List PartialTree → List ℕ
   row us = numbers side (children_of (edge_trees (drop (i + 1) es) us))
 
@@ -29,7 +29,7 @@ module _ (side : Side) (es : List Edge) (rest behind : List PartialTree) (i x : 
   past h =
       place_past i x (row behind) h
       ∙ ap (λ y. i + place 0 (y ∷ row behind)) is
-      ∙ ap (λ us. i + place 0 (number side (tree_of (mark_of (get_or es i first)) rest) ∷ row us)) b
+      ∙ ap (λ us. i + place 0 (number side (tree_of (edge_state_of (get_or es i first)) rest) ∷ row us)) b
       ∙ sym (at_drop_more (λ xs. i + place 0 (numbers side (children_of (edge_trees xs rest)))) es i first l)
 
 pub loop-i-preserved : goal.loop-i-preserved
@@ -40,7 +40,7 @@ loop-i-preserved c =
       place =
           past c.args.side c.args.edges.now c.loop-i.rest.now c.first.result.1.now c.loop-i.i c.number.result c.loop-i-test.true is
           c.first.ensures.behind c.if-number-eq0.false ∙ c.loop-i.invariant.place;
-      few = omega (arith, c.counted-rank.ensures, counted_most (mark_of e) c.loop-i.rank, c.loop-i.invariant.few);
-      rank = c.counted-rank.ensures ∙ ap (counted (mark_of e)) c.loop-i.invariant.rank ∙ sym (rank_next c.args.edges.now c.loop-i.i first c.loop-i-test.true);
+      few = omega (arith, c.counted-rank.ensures, counted_most (edge_state_of e) c.loop-i.rank, c.loop-i.invariant.few);
+      rank = c.counted-rank.ensures ∙ ap (counted (edge_state_of e)) c.loop-i.invariant.rank ∙ sym (rank_next c.args.edges.now c.loop-i.i first c.loop-i-test.true);
       whole = whole_behind c.args.edges.now c.loop-i.rest.now c.loop-i.i first c.loop-i-test.true c.loop-i.invariant.whole ∙ ap length (sym c.first.ensures.behind);
     }

@@ -7,8 +7,8 @@ use Rattle.tt_board.proofs.board.Board.put_stone.Goals as goal
 pub invariant_of-self : goal.invariant_of-self
 invariant_of-self c =
     let b = c.self.inside in let k = c.args.colour in let p = c.args.p in
-    let quiet : play_of b.size b.points k p ≡ set b.points p (Some k) =
-    subst (λ (v : Position). play_of v.size v.points k p ≡ set v.points p (Some k)) (sym c.self.view_is) c.requires.quiet in
+    let no_capture : play_of b.size b.points k p ≡ set b.points p (Some k) =
+    subst (λ (v : Position). play_of v.size v.points k p ≡ set v.points p (Some k)) (sym c.self.view_is) c.requires.no_capture in
     let index : c.from.result ≡ p = search rules in
-    let made : c.set.new.self ≡ play_of b.size b.points k p = c.set.ensures ∙ ap (λ q. set b.points q (Some k)) index ∙ sym quiet in
+    let made : c.set.new.self ≡ play_of b.size b.points k p = c.set.ensures ∙ ap (λ q. set b.points q (Some k)) index ∙ sym no_capture in
     (ap length made ∙ length-play b.size b.points k p, subst (IsAlive b.size) (sym made) (alive-play b.size b.points k p))

@@ -5,8 +5,8 @@ use Rattle.tt_board.specs.Reach.{entry_at}
 use Rattle.tt_board.specs.Play.{other}
 use Rattle.tt_board.specs.Chains.{ChainBoard, IsChainBoard, name_at, root_of, colour_number, Touches, AreNear, IsOneName}
 use Rattle.tt_board.proofs.LinkLemmas.{bare_named, named_bare}
-use Rattle.tt_board.proofs.LookLemmas.{IsLook, quiet_look, own_by_capture, own_by_empty, own_by_chain, suicide_look, one_beside}
-use Rattle.tt_board.proofs.QuietLemmas.{coded, roots_below}
+use Rattle.tt_board.proofs.LookLemmas.{IsLook, no_capture_look, own_by_capture, own_by_empty, own_by_chain, suicide_look, one_beside}
+use Rattle.tt_board.proofs.PlayKindLemmas.{coded, roots_below}
 use Rattle.tt_board.proofs.chains.Chains.look.Goals as goal
 
 pub last_ones-weak-requires : goal.last_ones-weak-requires
@@ -42,7 +42,7 @@ returns-then-not-is_empty c =
     let last : (m : ℕ) → Contains weak m ↔ (((m ≢ 0) × (m ≢ 0) × Touches b.size b.names m p) × (m / 512 ≡ colour_number (other k)) × (name_at b.liberties (root_of m) ≡ 1))
     = λ m. let o = one_beside b.size b.names p near (other k) (λ n. name_at b.liberties (root_of n) ≡ 1) at m in (λ has. o.0 ((found m).0 has), λ h. (found m).1 (o.1 h)) in
     let some : length weak ≢ 0 = eqb-false (length weak) 0 (sym c.is_empty.ensures ∙ c.if-not-is_empty.true) in
-    let l : IsLook b k p weak _ = quiet_look b k p is c.requires.on_board c.requires.free _ weak all last c.last_ones-weak.ensures.once
+    let l : IsLook b k p weak _ = no_capture_look b k p is c.requires.on_board c.requires.free _ weak all last c.last_ones-weak.ensures.once
     (own_by_capture b k p is c.requires.on_board c.requires.free _ weak all last 0 (omega (arith, some))) in
     record { fits = is.fits; goes = l.goes; suicide = l.suicide; once = l.once; living = l.living }
 
@@ -60,7 +60,7 @@ returns-then-has_open c =
     let nobody : (m : ℕ) → Contains weak m → ⊥ = λ m has. omega (arith, has.1, none) in
     let o = subst (λ (v : ChainBoard). (m : ℕ) × IsOneName near.above near.left near.right near.below m × ((m ≡ 0) ⊎ ((m / 512 ≡ colour_number k) × (name_at v.liberties (root_of m) ≢ 1))))
     c.self.view_is (rw c.colour_number-2.ensures at (c.has_open.ensures.some c.if-has_open.true)) in
-    let l : IsLook b k p weak _ = quiet_look b k p is c.requires.on_board c.requires.free _ weak all last c.last_ones-weak.ensures.once (elim o.2 [
+    let l : IsLook b k p weak _ = no_capture_look b k p is c.requires.on_board c.requires.free _ weak all last c.last_ones-weak.ensures.once (elim o.2 [
       | inl zero ↦
           let t = (at.touching o.0 (λ e. omega (arith, zero, e))).0 o.1 in
           own_by_empty b k p is c.requires.on_board c.requires.free _ weak all last t.0 t.2.0 (bare_named _ _ (is.named.named t.0) (t.2.1 ∙ zero))

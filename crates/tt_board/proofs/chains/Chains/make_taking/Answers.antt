@@ -5,7 +5,7 @@ use Rattle.tt_board.specs.Reach.{entry_at}
 use Rattle.tt_board.specs.Play.{IsAlive, play_of}
 use Rattle.tt_board.specs.Chains.{name_at, IsEachOnce}
 use Rattle.tt_board.proofs.PlayLemmas.{alive-play}
-use Rattle.tt_board.proofs.MakeLemmas.{taking_more, taking_next, taken_gone, taken_kept, still_free, made_quiet, made_suicide}
+use Rattle.tt_board.proofs.MakeLemmas.{taking_more, taking_next, taken_gone, taken_kept, still_free, made_no_capture, made_suicide}
 use Rattle.tt_board.proofs.chains.Chains.make_taking.Goals as goal
 
 pub take-requires : goal.take-requires
@@ -35,23 +35,23 @@ place-requires-clause-free c =
     let b = c.args.self.now in let k = c.args.colour in let p = c.args.p in let xs = c.as_slice-name-items.result.now in let l = c.look-look.ensures in
     let t = c.loop-name.invariant.taking in
     let end : c.loop-name.name-index ≡ length xs = omega arith in
-    let told = subst (λ ys. (q : ℕ) → entry_at b.points q ≢ None → (entry_at (play_of b.size b.points k p) q ≡ None) ↔ Contains ys (name_at b.names q))
+    let kind = subst (λ ys. (q : ℕ) → entry_at b.points q ≢ None → (entry_at (play_of b.size b.points k p) q ≡ None) ↔ Contains ys (name_at b.names q))
     (sym c.as_slice-name-items.ensures.value) l.goes in
     let gone = taken_gone b.names b.points xs c.loop-name.name-index c.loop-name.self.names c.loop-name.self.points t end in
     let kept = taken_kept b.names b.points xs c.loop-name.name-index c.loop-name.self.names c.loop-name.self.points t end in
-    still_free b.size b.points c.loop-name.self.points k p b.names xs l.fits c.requires.on_board c.requires.free told t.fits gone kept
+    still_free b.size b.points c.loop-name.self.points k p b.names xs l.fits c.requires.on_board c.requires.free kind t.fits gone kept
 
 pub place-requires-clause-alive : goal.place-requires-clause-alive
 place-requires-clause-alive c =
     let b = c.args.self.now in let k = c.args.colour in let p = c.args.p in let xs = c.as_slice-name-items.result.now in let l = c.look-look.ensures in
     let t = c.loop-name.invariant.taking in
     let end : c.loop-name.name-index ≡ length xs = omega arith in
-    let told = subst (λ ys. (q : ℕ) → entry_at b.points q ≢ None → (entry_at (play_of b.size b.points k p) q ≡ None) ↔ Contains ys (name_at b.names q))
+    let kind = subst (λ ys. (q : ℕ) → entry_at b.points q ≢ None → (entry_at (play_of b.size b.points k p) q ≡ None) ↔ Contains ys (name_at b.names q))
     (sym c.as_slice-name-items.ensures.value) l.goes in
     let gone = taken_gone b.names b.points xs c.loop-name.name-index c.loop-name.self.names c.loop-name.self.points t end in
     let kept = taken_kept b.names b.points xs c.loop-name.name-index c.loop-name.self.names c.loop-name.self.points t end in
     let stays : entry_at (play_of b.size b.points k p) p ≢ None = λ bare. true≢false (sym (l.suicide.1 bare) ∙ c.if-not-look.true) in
-    let made = made_quiet b.size b.points c.loop-name.self.points k p b.names xs l.fits c.requires.on_board c.requires.free told t.fits gone kept stays in
+    let made = made_no_capture b.size b.points c.loop-name.self.points k p b.names xs l.fits c.requires.on_board c.requires.free kind t.fits gone kept stays in
     subst (λ s. IsAlive s (set c.loop-name.self.points p (Some k))) (sym c.loop-name.invariant.size)
     (subst (IsAlive b.size) (sym made) (alive-play b.size b.points k p))
 
@@ -60,12 +60,12 @@ returns-then-not-look-clause-points c =
     let b = c.args.self.now in let k = c.args.colour in let p = c.args.p in let xs = c.as_slice-name-items.result.now in let l = c.look-look.ensures in
     let t = c.loop-name.invariant.taking in
     let end : c.loop-name.name-index ≡ length xs = omega arith in
-    let told = subst (λ ys. (q : ℕ) → entry_at b.points q ≢ None → (entry_at (play_of b.size b.points k p) q ≡ None) ↔ Contains ys (name_at b.names q))
+    let kind = subst (λ ys. (q : ℕ) → entry_at b.points q ≢ None → (entry_at (play_of b.size b.points k p) q ≡ None) ↔ Contains ys (name_at b.names q))
     (sym c.as_slice-name-items.ensures.value) l.goes in
     let gone = taken_gone b.names b.points xs c.loop-name.name-index c.loop-name.self.names c.loop-name.self.points t end in
     let kept = taken_kept b.names b.points xs c.loop-name.name-index c.loop-name.self.names c.loop-name.self.points t end in
     let stays : entry_at (play_of b.size b.points k p) p ≢ None = λ bare. true≢false (sym (l.suicide.1 bare) ∙ c.if-not-look.true) in
-    let made = made_quiet b.size b.points c.loop-name.self.points k p b.names xs l.fits c.requires.on_board c.requires.free told t.fits gone kept stays in
+    let made = made_no_capture b.size b.points c.loop-name.self.points k p b.names xs l.fits c.requires.on_board c.requires.free kind t.fits gone kept stays in
     c.place.ensures.points ∙ made
 
 pub returns-else-not-look-clause-points : goal.returns-else-not-look-clause-points
@@ -73,8 +73,8 @@ returns-else-not-look-clause-points c =
     let b = c.args.self.now in let k = c.args.colour in let p = c.args.p in let xs = c.as_slice-name-items.result.now in let l = c.look-look.ensures in
     let t = c.loop-name.invariant.taking in
     let end : c.loop-name.name-index ≡ length xs = omega arith in
-    let told = subst (λ ys. (q : ℕ) → entry_at b.points q ≢ None → (entry_at (play_of b.size b.points k p) q ≡ None) ↔ Contains ys (name_at b.names q))
+    let kind = subst (λ ys. (q : ℕ) → entry_at b.points q ≢ None → (entry_at (play_of b.size b.points k p) q ≡ None) ↔ Contains ys (name_at b.names q))
     (sym c.as_slice-name-items.ensures.value) l.goes in
     let gone = taken_gone b.names b.points xs c.loop-name.name-index c.loop-name.self.names c.loop-name.self.points t end in
     let kept = taken_kept b.names b.points xs c.loop-name.name-index c.loop-name.self.names c.loop-name.self.points t end in
-    made_suicide b.size b.points c.loop-name.self.points k p b.names xs l.fits c.requires.on_board c.requires.free told t.fits gone kept (l.suicide.0 c.if-not-look.false)
+    made_suicide b.size b.points c.loop-name.self.points k p b.names xs l.fits c.requires.on_board c.requires.free kind t.fits gone kept (l.suicide.0 c.if-not-look.false)

@@ -4,7 +4,7 @@ use Rattle.std.proofs.lemmas.List.Elements.{Contains-get_or}
 use Rattle.tt_board.specs.Reach.{entry_at}
 use Rattle.tt_board.specs.Play.{play_of}
 use Rattle.tt_board.specs.Chains.{name_at}
-use Rattle.tt_board.proofs.MakeLemmas.{lifting_more, lifted_gone, lifted_kept, made_quiet, made_suicide}
+use Rattle.tt_board.proofs.MakeLemmas.{lifting_more, lifted_gone, lifted_kept, made_no_capture, made_suicide}
 use Rattle.tt_board.proofs.chains.Chains.points_after_taking.Goals as goal
 
 pub lift-requires-clause-living : goal.lift-requires-clause-living
@@ -23,20 +23,20 @@ returns-then-not-look c =
     let b = c.args.self.now in let k = c.args.colour in let p = c.args.p in let xs = c.as_slice-name-items.result.now in let l = c.look-look.ensures in
     let t = c.loop-name.invariant in
     let end : c.loop-name.name-index ≡ length xs = omega arith in
-    let told = subst (λ ys. (q : ℕ) → entry_at b.points q ≢ None → (entry_at (play_of b.size b.points k p) q ≡ None) ↔ Contains ys (name_at b.names q))
+    let kind = subst (λ ys. (q : ℕ) → entry_at b.points q ≢ None → (entry_at (play_of b.size b.points k p) q ≡ None) ↔ Contains ys (name_at b.names q))
     (sym c.as_slice-name-items.ensures.value) l.goes in
     let gone = lifted_gone b.names b.points xs c.loop-name.name-index c.loop-name.points t end in
     let kept = lifted_kept b.names b.points xs c.loop-name.name-index c.loop-name.points t end in
     let stays : entry_at (play_of b.size b.points k p) p ≢ None = λ bare. true≢false (sym (l.suicide.1 bare) ∙ c.if-not-look.true) in
-    c.set.ensures ∙ made_quiet b.size b.points c.loop-name.points k p b.names xs l.fits c.requires.on_board c.requires.free told t.fits gone kept stays
+    c.set.ensures ∙ made_no_capture b.size b.points c.loop-name.points k p b.names xs l.fits c.requires.on_board c.requires.free kind t.fits gone kept stays
 
 pub returns-else-not-look : goal.returns-else-not-look
 returns-else-not-look c =
     let b = c.args.self.now in let k = c.args.colour in let p = c.args.p in let xs = c.as_slice-name-items.result.now in let l = c.look-look.ensures in
     let t = c.loop-name.invariant in
     let end : c.loop-name.name-index ≡ length xs = omega arith in
-    let told = subst (λ ys. (q : ℕ) → entry_at b.points q ≢ None → (entry_at (play_of b.size b.points k p) q ≡ None) ↔ Contains ys (name_at b.names q))
+    let kind = subst (λ ys. (q : ℕ) → entry_at b.points q ≢ None → (entry_at (play_of b.size b.points k p) q ≡ None) ↔ Contains ys (name_at b.names q))
     (sym c.as_slice-name-items.ensures.value) l.goes in
     let gone = lifted_gone b.names b.points xs c.loop-name.name-index c.loop-name.points t end in
     let kept = lifted_kept b.names b.points xs c.loop-name.name-index c.loop-name.points t end in
-    made_suicide b.size b.points c.loop-name.points k p b.names xs l.fits c.requires.on_board c.requires.free told t.fits gone kept (l.suicide.0 c.if-not-look.false)
+    made_suicide b.size b.points c.loop-name.points k p b.names xs l.fits c.requires.on_board c.requires.free kind t.fits gone kept (l.suicide.0 c.if-not-look.false)

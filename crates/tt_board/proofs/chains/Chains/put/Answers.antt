@@ -7,7 +7,7 @@ use Rattle.tt_board.specs.Chains.{ChainBoard, AreNames, AreNamesBut, AreNear}
 use Rattle.tt_sgf.specs.SizeLaws.{few_points}
 use Rattle.tt_board.proofs.NameLemmas.{near_off}
 use Rattle.tt_board.proofs.PlacedLemmas.{but_placed}
-use Rattle.tt_board.proofs.QuietLemmas.{never_nowhere}
+use Rattle.tt_board.proofs.PlayKindLemmas.{never_nowhere}
 use Rattle.tt_board.proofs.chains.Chains.put.Goals as goal
 
 pub start-requires-clause-coloured : goal.start-requires-clause-coloured

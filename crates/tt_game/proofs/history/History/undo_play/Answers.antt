@@ -7,4 +7,4 @@ use Rattle.tt_game.proofs.history.History.undo_play.Goals as goal
 pub returns : goal.returns
 returns c =
     let i = c.self.inside in
-    course_undone i.size i.boards.items i.live i.passes c.args.passes c.self.invariant.live ∙ ap (λ (h : Course). without_play h c.args.passes) c.self.view_is
+    course_undone i.size i.boards.items i.count i.passes c.args.passes c.self.invariant.count ∙ ap (λ (h : Course). without_play h c.args.passes) c.self.view_is

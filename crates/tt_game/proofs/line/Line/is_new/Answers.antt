@@ -4,7 +4,7 @@ use Rattle.tt_board.specs.Play.{length-play_of}
 use Rattle.tt_game.specs.Game.{colour_of}
 use Rattle.tt_game.proofs.line.Line.is_new.Goals as goal
 
-pub is_told_new-requires-clause-fits : goal.is_told_new-requires-clause-fits
-is_told_new-requires-clause-fits c =
+pub is_new_by_hash-requires-clause-fits : goal.is_new_by_hash-requires-clause-fits
+is_new_by_hash-requires-clause-fits c =
     let l = c.args.self.now in let k = colour_of l.frame l.state.to_move in
-    sym (length-set l.state.present c.args.p (Some k)) ∙ ap length (sym c.requires.put) ∙ length-play_of l.frame.size l.state.present k c.args.p
+    sym (length-set l.state.present c.args.p (Some k)) ∙ ap length (sym c.requires.no_capture) ∙ length-play_of l.frame.size l.state.present k c.args.p

@@ -38,4 +38,4 @@ returns c =
     let begins : c.min.result ≡ min c.args.from 384 = search rules in
     let numbered : MatchOption c.point.result (point_count f.size ≤ n) (λ p. (p ≡ n) × (n < point_count f.size))
     = subst (λ (g : Frame). MatchOption c.point.result (point_count g.size ≤ n) (λ p. (p ≡ n) × (n < point_count g.size))) c.frame.ensures.value c.point.ensures in
-    next_is f c.args.self.now.state c.args.survey.now.empty.words c.requires.empty c.args.from c.min.result n begins first.after first.none first.found c.point.result numbered
+    next_is f c.args.self.now.state c.args.moves.now.empty.words c.requires.empty c.args.from c.min.result n begins first.after first.none first.found c.point.result numbered

@@ -14,18 +14,18 @@ invariant_of-self-2 c =
     let bs = (arc_value i.root).begun in
     let most : i.history.passes ≤ 2 = search rules in
     let pushed : c.push.new.self.items ≡ i.pushes.items ++ UndoPlay i.history.passes ∷ [] = search rules in
-    let played : c.push_counted.new.self ≡ with_play i.history c.present.result.now.points = search rules in
-    let below : c.push-2.new.self.below ≡ i.played.present ∷ i.played.below = search rules in
+    let stack : c.push_counted.new.self ≡ with_play i.history c.present.result.now.points = search rules in
+    let below : c.push-2.new.self.below ≡ i.stack.present ∷ i.stack.below = search rules in
     let turned : c.opponent-self-inside.result ≡ opponent i.to_move = search rules in
     let rooted : AreRooted bs (state_at c.push_counted.new.self c.opponent-self-inside.result) (reverse c.push.new.self.items) =
-    rw (pushed, played, turned) (rooted_play bs i.history i.to_move i.pushes.items c.present.result.now.points c.self.invariant.rooted) in
+    rw (pushed, stack, turned) (rooted_play bs i.history i.to_move i.pushes.items c.present.result.now.points c.self.invariant.rooted) in
     record {
       size = search rules;
       targets = c.self.invariant.targets;
       board = search rules;
       undoable =
-          rw (pushed, played, turned, below)
-          (undoable_play i.frame.size i.history i.to_move i.pushes.items c.present.result.now.points i.played.present i.played.below most c.self.invariant.board
+          rw (pushed, stack, turned, below)
+          (undoable_play i.frame.size i.history i.to_move i.pushes.items c.present.result.now.points i.stack.present i.stack.below most c.self.invariant.board
           c.self.invariant.undoable);
       same_frame = c.self.invariant.same_frame;
       rooted = rooted;

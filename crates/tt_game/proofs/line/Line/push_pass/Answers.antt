@@ -21,7 +21,7 @@ invariant_of-self-2 c =
       size = search rules;
       targets = c.self.invariant.targets;
       board = rw passed c.self.invariant.board;
-      undoable = rw (pushed, passed, turned) (undoable_pass i.frame.size i.history i.to_move i.pushes.items i.played.below c.self.invariant.undoable);
+      undoable = rw (pushed, passed, turned) (undoable_pass i.frame.size i.history i.to_move i.pushes.items i.stack.below c.self.invariant.undoable);
       same_frame = c.self.invariant.same_frame;
       rooted = rooted;
     }

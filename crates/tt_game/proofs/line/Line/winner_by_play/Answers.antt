@@ -2,25 +2,25 @@ use Rattle.std.proofs.Common.{rules, ◌≡◌, Some, None, set, Contains, sym, 
 use Rattle.std.proofs.lemmas.List.Elements.{Contains-push}
 use Rattle.tt_board.specs.Reach.{entry_at}
 use Rattle.tt_game.specs.Game.{history, made, colour_of}
-use Rattle.tt_game.specs.Surveys.{IsForetold}
-use Rattle.tt_game.proofs.SurveyLemmas.{nobody_put}
+use Rattle.tt_game.specs.MoveGenerators.{IsKindAt}
+use Rattle.tt_game.proofs.MoveGeneratorLemmas.{nobody_put}
 use Rattle.tt_game.proofs.line.Line.winner_by_play.Goals as goal
 
-pub returns-in-Quiet : goal.returns-in-Quiet
-returns-in-Quiet c =
+pub returns-in-NoCapture : goal.returns-in-NoCapture
+returns-in-NoCapture c =
     let l = c.args.self.now in let p = c.args.p in
     let free : entry_at l.state.present p ≡ None = c.requires.free in
-    let is = subst (λ g. IsForetold g l.frame l.state p) c.in-Quiet.is c.glance_by-foretold.ensures.foretold in
+    let is = subst (λ g. IsKindAt g l.frame l.state p) c.in-NoCapture.is c.kind_by-kind_here.ensures.kind_here in
     ((c.requires.open, c.requires.on_board, free, c.requires.inside, is.0), sym (nobody_put l.frame l.state p c.requires.open free is.1))
 
-pub returns-in-Vain : goal.returns-in-Vain
-returns-in-Vain c = λ legal.
+pub returns-in-SingleStoneSuicide : goal.returns-in-SingleStoneSuicide
+returns-in-SingleStoneSuicide c = λ legal.
     let l = c.args.self.now in let s = l.state in
-    let same = subst (λ g. IsForetold g l.frame s c.args.p) c.in-Vain.is c.glance_by-foretold.ensures.foretold in
+    let same = subst (λ g. IsKindAt g l.frame s c.args.p) c.in-SingleStoneSuicide.is c.kind_by-kind_here.ensures.kind_here in
     legal.4 (subst (Contains (history s)) (sym same) (Contains-push s.earlier s.present))
 
 pub returns-then-is_new : goal.returns-then-is_new
 returns-then-is_new c =
     let l = c.args.self.now in let p = c.args.p in
-    let put : made l.frame l.state p ≡ set l.state.present p (Some (colour_of l.frame l.state.to_move)) = search rules in
-    ((c.requires.open, c.requires.on_board, c.requires.free, c.requires.inside, c.is_new.ensures c.if-is_new.true), sym (nobody_put l.frame l.state p c.requires.open c.requires.free put))
+    let no_capture : made l.frame l.state p ≡ set l.state.present p (Some (colour_of l.frame l.state.to_move)) = search rules in
+    ((c.requires.open, c.requires.on_board, c.requires.free, c.requires.inside, c.is_new.ensures c.if-is_new.true), sym (nobody_put l.frame l.state p c.requires.open c.requires.free no_capture))

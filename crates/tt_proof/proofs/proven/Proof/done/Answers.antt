@@ -5,7 +5,7 @@ use Rattle.tt_proof.proofs.proven.Proof.done.Goals as goal
 
 pub invariant_of-result : goal.invariant_of-result
 invariant_of-result c =
-    let own = c.in_ok-past-in-Some.ensures in
+    let own = c.in_ok-snapshot-in-Some.ensures in
     rw c.done.ensures
     (record {
       won = won_done _ c.args.line.now.frame _ c.args.line.now.state _ (ap (λ (l : Stood). l.frame) own) (ap (λ (l : Stood). l.state) own) (search rules);
@@ -14,5 +14,5 @@ invariant_of-result c =
 
 pub returns : goal.returns
 returns c =
-    let own = c.in_ok-past-in-Some.ensures in
+    let own = c.in_ok-snapshot-in-Some.ensures in
     ((ap (λ (l : Stood). l.frame) own, ap (λ (l : Stood). l.state) own), search rules, c.done.ensures)

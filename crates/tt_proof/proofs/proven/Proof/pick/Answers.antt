@@ -11,7 +11,7 @@ picked-requires-clause-board c = board_there c.args.child _ _ _ c.present-board.
 
 pub invariant_of-result : goal.invariant_of-result
 invariant_of-result c =
-    let own = c.in_ok-past.ensures in
+    let own = c.in_ok-snapshot.ensures in
     let f = c.args.line.now.frame in
     let s = c.args.line.now.state in
     let behind = foot_moved _ f _ (after f s c.args.t) _ _ c.requires.child.stands.0 c.requires.child.stands.1 c.into_parts-below.ensures.footprint in
@@ -27,7 +27,7 @@ invariant_of-result c =
 
 pub returns : goal.returns
 returns c =
-    let own = c.in_ok-past.ensures in (
+    let own = c.in_ok-snapshot.ensures in (
       (ap (λ (l : Stood). l.frame) own, ap (λ (l : Stood). l.state) own),
       c.side-side.ensures.side,
       c.in_ok-plan.ensures ∙ ap (λ x. pick c.args.t x) c.into_parts-below.ensures.plan,

@@ -55,7 +55,7 @@ loop-turn-preserved c =
 
 pub invariant_of-result : goal.invariant_of-result
 invariant_of-result c =
-    let own = c.in_ok-past.ensures in
+    let own = c.in_ok-snapshot.ensures in
     let f = c.args.line.now.frame in
     let s = c.args.line.now.state in
     let rest = c.loop-turn.turn-iterator.rest in
@@ -74,7 +74,7 @@ invariant_of-result c =
 
 pub returns : goal.returns
 returns c =
-    let own = c.in_ok-past.ensures in
+    let own = c.in_ok-snapshot.ensures in
     let left = c.loop-turn.turn-iterator.rest in
     let all = at_end c.loop-turn.yielded left.items _ c.loop-turn.invariant.order (omega (arith, left.ok.0, c.in-None.ensures.steps.0)) in (
       (ap (λ (l : Stood). l.frame) own, ap (λ (l : Stood). l.state) own),

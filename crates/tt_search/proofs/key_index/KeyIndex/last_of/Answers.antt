@@ -2,20 +2,20 @@ use Rattle.std.proofs.Common.{arith, ◌≡◌, suc, ◌-◌, ◌+◌, ◌<◌, 
 use Rattle.std.proofs.lemmas.List.{get_or_read}
 use Rattle.tt_proof.specs.Proven.{Proven}
 use Rattle.tt_search.specs.Stores.{AnswersFor, IsNewest}
-use Rattle.tt_search.specs.KeyIndex.{key_marks, Marking}
-use Rattle.tt_search.specs.KeyChains.{chain_of_mark, NoneFrom}
-use Rattle.tt_search.proofs.Chains.{before_low, before_inside, none_unmarked, none_past_next, not_found, answers_mark, found_newest, none_newest}
-use Rattle.tt_search.proofs.key_index.KeyIndex.last_of.Goals.{else-index-mark-via-then-index-mark+else-is_for, else-index-mark-via-else-index-mark}
+use Rattle.tt_search.specs.KeyIndex.{index_hashes, IndexState}
+use Rattle.tt_search.specs.Buckets.{bucket_of_hash, NoneFrom}
+use Rattle.tt_search.proofs.Buckets.{before_low, before_inside, none_unmarked, none_past_next, not_found, answers_hash, found_newest, none_newest}
+use Rattle.tt_search.proofs.key_index.KeyIndex.last_of.Goals.{else-index-hash-via-then-index-hash+else-is_for, else-index-hash-via-else-index-hash}
 use Rattle.tt_search.proofs.key_index.KeyIndex.last_of.Goals as goal
 
 pub loop-next-init : goal.loop-next-init
 loop-next-init g c =
-    let told : _ ≡ key_marks (g.P.ProofRow.proofs c.args.row.now) = c.requires.told in
-    let view = ap (λ (v : Marking). v.marks) c.self.view_is in
+    let indexed : _ ≡ index_hashes (g.P.ProofRow.proofs c.args.row.now) = c.requires.indexed in
+    let view = ap (λ (v : IndexState). v.hashes) c.self.view_is in
     record {
       low = omega (arith, c.requires.last.low, ap length view);
-      none = none_unmarked c.args.line.now c.args.side _ _ c.args.mark c.args.last told c.requires.mark c.requires.last.unmarked;
-      inside = λ some. ap (λ m. chain_of_mark m (length c.self.inside.heads.items)) (ap (λ l. get_or l (c.args.last - 1) 0) view ∙ c.requires.last.marked some);
+      none = none_unmarked c.args.line.now c.args.side _ _ c.args.hash c.args.last indexed c.requires.hash c.requires.last.unmarked;
+      inside = λ some. ap (λ m. bucket_of_hash m (length c.self.inside.heads.items)) (ap (λ l. get_or l (c.args.last - 1) 0) view ∙ c.requires.last.marked some);
     }
 
 pub returns-then-is_for-clause-newest : goal.returns-then-is_for-clause-newest
@@ -30,37 +30,37 @@ returns-then-is_for-clause-newest g c =
 pub loop-next-smaller : goal.loop-next-smaller
 loop-next-smaller g c =
     let place = c.loop-next.next - 1 in
-    let within : place < length c.self.inside.marks.items = omega (arith, c.loop-next.invariant.low, c.loop-next-test.true) in
+    let within : place < length c.self.inside.hashes.items = omega (arith, c.loop-next.invariant.low, c.loop-next-test.true) in
     let is = get_or_read c.self.inside.before.items place c.index-in-loop-next.result.now (omega (arith, within, c.self.invariant.sized.one_each)) c.index-in-loop-next.ensures 0 in
-    let low = before_low c.self.inside.heads.items c.self.inside.before.items c.self.inside.marks.items place c.index-in-loop-next.result.now c.self.invariant.chained within is in
+    let low = before_low c.self.inside.heads.items c.self.inside.before.items c.self.inside.hashes.items place c.index-in-loop-next.result.now c.self.invariant.linked within is in
     omega (arith, low, c.loop-next-test.true)
 
 pub loop-next-preserved : goal.loop-next-preserved
 loop-next-preserved g c =
     let heads = c.self.inside.heads.items in
     let before = c.self.inside.before.items in
-    let marks = c.self.inside.marks.items in
+    let hashes = c.self.inside.hashes.items in
     let line = c.args.line.now in
     let ps = g.P.ProofRow.proofs c.args.row.now in
     let place = c.loop-next.next - 1 in
     let next = c.index-in-loop-next.result.now in
-    let all : marks ≡ key_marks ps = ap (λ (v : Marking). v.marks) c.self.view_is ∙ c.requires.told in
-    let mark = c.requires.mark in
-    let within : place < length marks = omega (arith, c.loop-next.invariant.low, c.loop-next-test.true) in
+    let all : hashes ≡ index_hashes ps = ap (λ (v : IndexState). v.hashes) c.self.view_is ∙ c.requires.indexed in
+    let hash = c.requires.hash in
+    let within : place < length hashes = omega (arith, c.loop-next.invariant.low, c.loop-next-test.true) in
     let is = get_or_read before place next (omega (arith, within, c.self.invariant.sized.one_each)) c.index-in-loop-next.ensures 0 in
-    let low = before_low heads before marks place next c.self.invariant.chained within is in
-    let there = get_or_read marks place c.index.result.now within c.index.ensures 0 in
+    let low = before_low heads before hashes place next c.self.invariant.linked within is in
+    let there = get_or_read hashes place c.index.result.now within c.index.ensures 0 in
     let on : NoneFrom line c.args.side ps (place + 1) = λ i p late. c.loop-next.invariant.none i p (omega (arith, late)) in
-    let here : (p : Proven) → slice_get ps place ≡ Some p → AnswersFor line c.args.side p → ⊥ = λ p at. elim c.else-index-mark.branch [
-      | else-index-mark-via-then-index-mark+else-is_for w ↦
+    let here : (p : Proven) → slice_get ps place ≡ Some p → AnswersFor line c.args.side p → ⊥ = λ p at. elim c.else-index-hash.branch [
+      | else-index-hash-via-then-index-hash+else-is_for w ↦
           not_found line c.args.side ps place w.is_for.result p w.proof.result.now w.proof.ensures at w.if-is_for.false w.is_for.ensures
-      | else-index-mark-via-else-index-mark w ↦ (λ a. w.if-index-mark.false (there ∙ answers_mark line c.args.side marks ps place c.args.mark p all mark at a))
+      | else-index-hash-via-else-index-hash w ↦ (λ a. w.if-index-hash.false (there ∙ answers_hash line c.args.side hashes ps place c.args.hash p all hash at a))
     ] in
     record {
       low = omega (arith, low, within);
-      none = none_past_next line c.args.side heads before marks ps c.args.mark place next all mark c.self.invariant.chained within
+      none = none_past_next line c.args.side heads before hashes ps c.args.hash place next all hash c.self.invariant.linked within
           (c.loop-next.invariant.inside c.loop-next-test.true) is on here;
-      inside = before_inside heads before marks c.args.mark place next c.self.invariant.chained within (c.loop-next.invariant.inside c.loop-next-test.true) is;
+      inside = before_inside heads before hashes c.args.hash place next c.self.invariant.linked within (c.loop-next.invariant.inside c.loop-next-test.true) is;
     }
 
 pub returns-clause-newest : goal.returns-clause-newest

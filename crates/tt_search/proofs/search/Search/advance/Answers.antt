@@ -14,14 +14,14 @@ use Rattle.tt_search.proofs.search.Search.advance.Goals as goal
 pub returns-then-proof-eq0-clause-advanced : goal.returns-then-proof-eq0-clause-advanced
 returns-then-proof-eq0-clause-advanced g c =
     let settled : IsUndecided c.args.self.now.tree → ⊥ = search rules in
-    advanced_settled c.args.pace c.args.self.now settled
+    advanced_settled c.args.stop c.args.self.now settled
 
 pub invariant_of-self : goal.invariant_of-self
 invariant_of-self g c =
     let now = c.self.inside in
     let u : IsUndecided now.root = search rules in
     let new = stage c.grow.new.self c.grow.new.walk.left in
-    let after = steps_with (stand_of now.walk) now.limits c.args.pace (stage now.root now.walk.left) c.grow.result new c.self.invariant u c.grow.ensures.steps in
+    let after = steps_with (stand_of now.walk) now.limits c.args.stop (stage now.root now.walk.left) c.grow.result new c.self.invariant u c.grow.ensures.steps in
     subst (λ at. IsSearch at now.limits new) (sym (same_stand c.grow.new.walk now.walk c.grow.ensures.descends.line c.grow.ensures.descends.room)) after
 
 pub returns-clause-advanced : goal.returns-clause-advanced
@@ -29,9 +29,9 @@ returns-clause-advanced g c =
     let now = c.self.inside in
     let u : IsUndecided now.root = search rules in
     let new = stage c.grow.new.self c.grow.new.walk.left in
-    let search = advanced now.walk.line now.walk.room now.limits c.args.pace (stage now.root now.walk.left) c.grow.result new c.self.invariant u c.grow.ensures.steps in
-    subst (λ (l : Standing). IsAdvanced c.args.pace c.args.self.now c.grow.result (record { line = l; limits = now.limits; tree = c.grow.new.self })) (sym c.grow.ensures.descends.line)
-    (subst (λ (old : Searched). IsAdvanced c.args.pace old c.grow.result (record { line = now.walk.line; limits = now.limits; tree = c.grow.new.self })) c.self.view_is search)
+    let search = advanced now.walk.line now.walk.room now.limits c.args.stop (stage now.root now.walk.left) c.grow.result new c.self.invariant u c.grow.ensures.steps in
+    subst (λ (l : Standing). IsAdvanced c.args.stop c.args.self.now c.grow.result (record { line = l; limits = now.limits; tree = c.grow.new.self })) (sym c.grow.ensures.descends.line)
+    (subst (λ (old : Searched). IsAdvanced c.args.stop old c.grow.result (record { line = now.walk.line; limits = now.limits; tree = c.grow.new.self })) c.self.view_is search)
 
 pub grow-requires : goal.grow-requires
 grow-requires g c =
@@ -46,14 +46,14 @@ grow-requires g c =
     }
 
 pub returns-then-proof-eq0-clause-asked : goal.returns-then-proof-eq0-clause-asked
-returns-then-proof-eq0-clause-asked g c = let asked = g.G.Grants.asked c.args.grants.now in asked_once c.args.pace asked asked Settled refl
+returns-then-proof-eq0-clause-asked g c = let asked = g.G.Grants.asked c.args.grants.now in asked_once c.args.stop asked asked Settled refl
 
 pub returns-clause-spent : goal.returns-clause-spent
 returns-clause-spent g c =
     let now = c.self.inside in
     let u : IsUndecided now.root = search rules in
     let new = stage c.grow.new.self c.grow.new.walk.left in
-    let after = steps_with (stand_of now.walk) now.limits c.args.pace (stage now.root now.walk.left) c.grow.result new c.self.invariant u c.grow.ensures.steps in
+    let after = steps_with (stand_of now.walk) now.limits c.args.stop (stage now.root now.walk.left) c.grow.result new c.self.invariant u c.grow.ensures.steps in
     let before = (g.G.Grants.asked c.args.grants.now).granted in
     let granted = (g.G.Grants.asked c.grow.new.grants).granted in
     let spent : granted + count now.root ≡ before + count c.grow.new.self = omega (arith, c.self.invariant.counted, after.counted, c.grow.ensures.descends.granted) in
@@ -70,5 +70,5 @@ returns-clause-few g c =
     let now = c.self.inside in
     let u : IsUndecided now.root = search rules in
     let new = stage c.grow.new.self c.grow.new.walk.left in
-    let after = steps_with (stand_of now.walk) now.limits c.args.pace (stage now.root now.walk.left) c.grow.result new c.self.invariant u c.grow.ensures.steps in
+    let after = steps_with (stand_of now.walk) now.limits c.args.stop (stage now.root now.walk.left) c.grow.result new c.self.invariant u c.grow.ensures.steps in
     omega (arith, after.counted)

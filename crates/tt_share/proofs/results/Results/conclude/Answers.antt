@@ -10,7 +10,7 @@ use Rattle.tt_search.specs.declared.limits.Reason.TheVariants.{Total}
 use Rattle.tt_share.specs.declared.jobs.JobResult.TheVariants as result
 use Rattle.tt_share.specs.Beginning.{BeginsWith}
 use Rattle.tt_share.specs.Jobs.{AreResults, EndsBehind, IsJob, HasWon, end_of}
-use Rattle.tt_share.specs.Answers.{IsAnswer, told_of}
+use Rattle.tt_share.specs.Answers.{IsAnswer, spent_shown_of}
 use Rattle.tt_share.specs.Results.{Progress, AreNoted, HasEnd, HaveLost, IsLost, AllWon, NoWin, IsStuckAt}
 use Rattle.tt_share.proofs.Lost.{legal_job, lesser_lose, one_more}
 use Rattle.tt_share.proofs.Placing.{seen, shown}
@@ -95,8 +95,8 @@ returns-in-Some-Stuck-clause-answer c =
     let none : NoWin c.args.self.line.state.to_move c.args.self.ends = none_at c.args.self.line.state.to_move c.to_move.result c.args.self.ends c.as_slice.result.now
     side ends c.in_default.ensures.least in
     let noted = subst (λ (p : Progress). AreNoted p.line p.limits p.ends p.spent) c.self.view_is c.self.invariant.noted in
-    let told = c.told.ensures ∙ ap (λ (p : Progress). told_of c.in-Some-Stuck.reason p.spent) c.self.view_is in
-    λ total all. says c.args.self.line c.args.self.limits total _ (legal_job c.args.self.line i turn job) lesser c.args.self.spent c.in-Some-Stuck.reason c.in-Some-Stuck.search refl behind told
+    let spent_shown = c.spent_shown.ensures ∙ ap (λ (p : Progress). spent_shown_of c.in-Some-Stuck.reason p.spent) c.self.view_is in
+    λ total all. says c.args.self.line c.args.self.limits total _ (legal_job c.args.self.line i turn job) lesser c.args.self.spent c.in-Some-Stuck.reason c.in-Some-Stuck.search refl behind spent_shown
     (λ held reason holds. spent_told c.args.self total i turn held taken.0 noted (all_filled c.args.self.line.state.to_move c.args.self.ends none c.requires.ready) there
     (is ∙ (ap (λ (r : Reason). Stuck r c.in-Some-Stuck.search) reason ∙ ap (λ (o : Option Searched). Stuck Total o) holds))
     job all)
@@ -124,12 +124,12 @@ returns-in-Some-Stuck-clause-stuck c =
     let taken = c.in-Some-Stuck.ensures.taken in
     let there : HasEnd c.args.self.ends i taken.0 = ap (λ (p : Progress). slice_get p.ends i) (sym c.self.view_is) ∙ (sym (c.loop-job.invariant.same i (omega arith)) ∙ taken.1) in
     let is : end_of taken.0 ≡ Stuck c.in-Some-Stuck.reason c.in-Some-Stuck.search = sym taken.2 ∙ c.in-Some-Stuck.field-0-is in
-    let told = c.told.ensures ∙ ap (λ (p : Progress). told_of c.in-Some-Stuck.reason p.spent) c.self.view_is in
+    let spent_shown = c.spent_shown.ensures ∙ ap (λ (p : Progress). spent_shown_of c.in-Some-Stuck.reason p.spent) c.self.view_is in
     λ other t reason search none least at.
     (let here : IsStuckAt c.args.self.ends i = (taken.0, there, stuck_of taken.0 c.in-Some-Stuck.reason c.in-Some-Stuck.search is) in
     let same = same_stuck c.args.self.line c.args.self.ends i other turn t c.in-Some-Stuck.reason reason c.in-Some-Stuck.search search taken.0
     (stuck_same c.args.self.ends i other reason search here c.loop-job.invariant.unstuck least) there is least job at in
-    (same.0, same.1, same.2, told ∙ ap (λ (r : Reason). told_of r c.args.self.spent) same.1))
+    (same.0, same.1, same.2, spent_shown ∙ ap (λ (r : Reason). spent_shown_of r c.args.self.spent) same.1))
 
 pub returns-in-Some-Stuck-clause-replies : goal.returns-in-Some-Stuck-clause-replies
 returns-in-Some-Stuck-clause-replies c =

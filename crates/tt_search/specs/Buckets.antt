@@ -1,0 +1,52 @@
+-- How an index leads to the last proof of a key and side. Only private contracts cite these.
+use Rattle.std.specs.Prelude.{◌≡◌, ◌≢◌, ℕ, zero, suc, ◌-◌, ◌*◌, ◌/◌, ◌%◌, ◌<◌, ◌≤◌, Bool, List, length, cond, get_or, nat_eq, slice_get, Some}
+use Rattle.tt_game.specs.declared.frame.Side.{Side}
+use Rattle.tt_game.specs.declared.bloom_filter.BloomFilter.{BloomFilter}
+use Rattle.tt_game.specs.Line.{Standing}
+use Rattle.tt_game.specs.BloomFilter.{MayHold}
+use Rattle.tt_proof.specs.Proven.{Proven}
+use Rattle.tt_search.specs.Stores.{AnswersFor}
+use Rattle.tt_search.specs.declared.key_index.TheConstants.{KEY_FILTER_BITS}
+
+-- one more than the last place below n that passes the test, or 0 where none does
+abbrev pub last_place : (ℕ → Bool) → ℕ → ℕ
+last_place test zero = 0
+last_place test (suc n) = cond (test n) (suc n) (last_place test n)
+
+-- the bucket of a hash of 32 bits, one of so many: all hashes in as many parts, equal but for one hash, the lowest hashes in the first
+unfoldable pub bucket_of_hash : ℕ → ℕ → ℕ
+bucket_of_hash hash buckets = hash * buckets / 4294967296
+
+-- whether the place is of the bucket: one of so many, by its hash
+abbrev pub in_bucket : List ℕ → ℕ → ℕ → ℕ → Bool
+in_bucket hashes buckets bucket place = nat_eq (bucket_of_hash (get_or hashes place 0) buckets) bucket
+
+-- over the first n places, each bucket's head leads to the bucket's last place, and each place to the one before it in its
+-- bucket
+pub record AreBuckets (heads before hashes : List ℕ) (n : ℕ) : Type 0 where
+  pub heads_lead : (bucket : ℕ) → bucket < length heads → get_or heads bucket 0 ≡ last_place (in_bucket hashes (length heads) bucket) n
+  pub before_leads : (place : ℕ) → place < n → get_or before place 0 ≡ last_place (in_bucket hashes (length heads) (bucket_of_hash (get_or hashes place 0) (length heads))) place
+
+-- each place has its hash and the one before it, and there are as many buckets as places at least, fewer than 2 ^ 32
+pub record AreLongEnough (heads before hashes : List ℕ) : Type 0 where
+  pub one_each : length before ≡ length hashes
+  pub enough : length hashes ≤ length heads
+  pub few : length heads < 4294967296
+
+-- the bits of the hashes are 1
+abbrev pub MayHoldHashes : BloomFilter → List ℕ → Type 0
+MayHoldHashes filter hashes = (place : ℕ) → place < length hashes → MayHold filter (get_or hashes place 0 % KEY_FILTER_BITS)
+
+-- no proof answers from this place on
+abbrev pub NoneFrom : Standing → Side → List Proven → ℕ → Type 0
+NoneFrom line side ps n = (i : ℕ) (p : Proven) → n ≤ i → slice_get ps i ≡ Some p → AnswersFor line side p → ⊥
+
+-- no place from this one on has the hash
+abbrev pub NoHashFrom : List ℕ → ℕ → ℕ → Type 0
+NoHashFrom hashes hash n = (i : ℕ) → n ≤ i → i < length hashes → get_or hashes i 0 ≢ hash
+
+-- a number is one more than the last place with the hash, or 0 where none has it
+pub record IsLastWithHash (hashes : List ℕ) (hash n : ℕ) : Type 0 where
+  pub low : n ≤ length hashes
+  pub marked : 0 < n → get_or hashes (n - 1) 0 ≡ hash
+  pub unmarked : NoHashFrom hashes hash n
