@@ -8,7 +8,7 @@ use Rattle.tt_game.specs.declared.frame.Side.{Side}
 use Rattle.tt_game.specs.Line.{Standing}
 use Rattle.tt_game.specs.Problems.{problem_of}
 use Rattle.tt_proof.specs.CertificateText.{IsCertificate}
-use Rattle.tt_proof.specs.Laws.{OneCertificate}
+use Rattle.tt_proof.specs.StrategyLaws.{OneCertificate}
 use Rattle.tt_proof.specs.Strategy.{Strategy}
 use Rattle.tt_proof.specs.Wins.{Wins}
 use Rattle.tsumego.specs.declared.finding.Finding.{Finding}

@@ -5,7 +5,7 @@ use Rattle.tt_game.specs.declared.frame.Frame.{Frame}
 use Rattle.tt_game.specs.declared.frame.Side.{Side}
 use Rattle.tt_game.specs.declared.turns.Turn.{Turn}
 use Rattle.tt_game.specs.Game.{HasValue, State, after, value_for}
-use Rattle.tt_game.specs.Laws.{IsState}
+use Rattle.tt_game.specs.GameLaws.{IsState}
 use Rattle.tt_game.specs.Line.{Standing}
 use Rattle.tt_game.proofs.SomeSide.{state_after, values_forced}
 use Rattle.tt_proof.specs.CertificateText.{certificate_text}

@@ -2,7 +2,7 @@
 ghost use Rattle.std.specs.Prelude.{◌≡◌, ◌≤◌, ◌+◌, IfOk, IfSome, None, length, true};
 ghost use Rattle.tt_sgf.specs.declared.trees.TheConstants.{MAX_BYTES};
 ghost use Rattle.tt_game.specs.Game.{winner_of};
-ghost use Rattle.tt_game.specs.Laws.{IsState};
+ghost use Rattle.tt_game.specs.GameLaws.{IsState};
 ghost use Rattle.tt_proof.specs.CertificateText.{certificate_text};
 ghost use Rattle.tt_proof.specs.Proven.{StandsAt};
 ghost use Rattle.tt_share.specs.Answers.{IsAnswer};

@@ -1,6 +1,6 @@
 //! The text of the verdict on a problem, as it stands behind the problem's number.
 ghost use Rattle.std.specs.Prelude.{◌≡◌, ◌∷◌, ◌++◌, [], if◌then◌else◌, IfOk, IfSome, OnOk};
-ghost use Rattle.tt_game.specs.Laws.{IsState};
+ghost use Rattle.tt_game.specs.GameLaws.{IsState};
 ghost use Rattle.tt_proof.specs.Proven.{IsWon, first_of};
 ghost use Rattle.tt_proof.specs.Strategy.{IsOnBoard};
 ghost use Rattle.tt_share.specs.Answers.{IsAnswer};

@@ -8,7 +8,7 @@ use Rattle.tt_game.specs.declared.faults.GameFault.{GameFault}
 use Rattle.tt_game.specs.declared.frame.Side.{Side}
 use Rattle.tt_game.specs.Line.{Standing}
 use Rattle.tt_game.specs.Problems.{problem_of}
-use Rattle.tt_proof.specs.Laws.{OneCertificate}
+use Rattle.tt_proof.specs.StrategyLaws.{OneCertificate}
 use Rattle.tt_proof.specs.Strategy.{Strategy}
 use Rattle.tsumego_show.proofs.FirstTurn.{turn_same}
 use Rattle.tsumego_show.specs.Drawing.{DrawsCertificate, DrawsFirst, begins, begins_none, deep_drawn, drawn, none_drawn, strategy_text, turned_text}

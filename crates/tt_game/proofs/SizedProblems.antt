@@ -19,7 +19,7 @@ use Rattle.tt_game.specs.declared.records.Replay.{Replay}
 use Rattle.tt_game.specs.declared.turns.Turn.{Turn}
 use Rattle.tt_game.specs.declared.turns.Turn.TheVariants.{Play, Pass}
 use Rattle.tt_game.specs.Games.{GameState, all_of, begun_with, empty_game, made_by, refusal_of, turned}
-use Rattle.tt_game.specs.Laws.{IsState, ProblemsAreStates}
+use Rattle.tt_game.specs.GameLaws.{IsState, ProblemsAreStates}
 use Rattle.tt_game.specs.Line.{Standing}
 use Rattle.tt_game.specs.Nodes.{AB, AE, AW, B, GM, PL, SZ, TR, W, apart, colour_named, has, is_go, is_setup, moves_in, set_named, size_named, values_of}
 use Rattle.tt_game.specs.Problems.{common_colour, posed, problem_at, problem_of, problem_on, problem_with, region_of, run_to_mark}

@@ -17,7 +17,7 @@ use Rattle.tt_game.specs.declared.frame.Frame.{Frame}
 use Rattle.tt_game.specs.Game.{State, history, winner_of, made, after, opponent, IsLegal, Forces, colour_of, longest}
 use Rattle.tt_game.proofs.CourseLemmas.{twice}
 use Rattle.tt_game.specs.Legality.{legal}
-use Rattle.tt_game.specs.Laws.{IsState, SomeSideForces, TurnsKeepStates, ValuesAreForced}
+use Rattle.tt_game.specs.GameLaws.{IsState, SomeSideForces, TurnsKeepStates, ValuesAreForced}
 use Rattle.tt_game.proofs.OneSide.{not_both}
 use Rattle.tt_game.proofs.ValueLemmas.{colourings_of, count_less, complete, length-colourings_of, new_count, is_new, is_new_says}
 

@@ -11,7 +11,7 @@ pub mod SameKey
 pub mod Mixing
 pub mod BloomFilter
 pub mod KeyHash
-pub mod Laws
+pub mod GameLaws
 pub mod Line
 pub mod Games
 pub mod Nodes

@@ -1,6 +1,6 @@
 //! Laws of the definitions: each stands as the contract of a function without parameters.
 
-ghost use Rattle.tt_game.specs.Laws.{OneSideForces, SomeSideForces, ValuesAreForced, TurnsKeepStates, LegalTurnsListed, ProblemsOpen, ProblemsAreStates};
+ghost use Rattle.tt_game.specs.GameLaws.{OneSideForces, SomeSideForces, ValuesAreForced, TurnsKeepStates, LegalTurnsListed, ProblemsOpen, ProblemsAreStates};
 ghost use Rattle.tt_game.specs.Keys.{KeysTell};
 ghost use Rattle.tt_game.specs.RecordLaws.{RecordsAreGames, ProblemsAreGames, SetupsBeginHistories, LeastNodesRefuse, ProblemsAreRecords, UnmarkedAreNoProblems, SuperkoDecides};
 

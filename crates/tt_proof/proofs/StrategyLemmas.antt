@@ -6,7 +6,7 @@ use Rattle.tt_proof.specs.declared.tree.Tree.{Tree, fold-roll-Tree, Done, Pick, 
 use Rattle.tt_proof.specs.declared.tree.Tree.TheVariants.{rolls-Done, rolls-Pick, rolls-Reply}
 use Rattle.tt_proof.specs.declared.tree.Tree.TheOpen as layer
 use Rattle.tt_proof.specs.Strategy.{Strategy, Entries, done, pick, reply, none, entry, strategy_of, strategy_step, entries_of, entries_of_trees}
-use Rattle.tt_proof.specs.Laws.{TreesAreStrategies}
+use Rattle.tt_proof.specs.StrategyLaws.{TreesAreStrategies}
 
 -- `Done` is nothing more to play
 pub strategy_of_done : strategy_of Done ≡ done

@@ -5,7 +5,7 @@ pub mod Wins
 pub mod Footprints
 pub mod Bounds
 pub mod KeptFootprints
-pub mod Laws
+pub mod StrategyLaws
 pub mod Proven
 pub mod Rejections
 pub mod CertificateText

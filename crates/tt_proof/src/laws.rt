@@ -1,6 +1,6 @@
 //! Laws of trees and of certificates, over the definitions alone.
 
-ghost use Rattle.tt_proof.specs.Laws.{WinningForces, FittingWins, FootprintsCarried, ChildNeeds, OneReading, OneCertificate, TreesAreStrategies};
+ghost use Rattle.tt_proof.specs.StrategyLaws.{WinningForces, FittingWins, FootprintsCarried, ChildNeeds, OneReading, OneCertificate, TreesAreStrategies};
 
 /// A winning tree of depth n makes its side force a win within n turns.
 pub fn l1()
