@@ -2,5 +2,5 @@
 pub mod Faults
 pub mod Watching
 pub mod Writing
--- What private contracts and proofs cite. Nobody has to believe these.
-pub mod PartLaws
+-- What crates above cite: laws of the definitions, with their proofs. Nobody has to believe these.
+pub mod laws

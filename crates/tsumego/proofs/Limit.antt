@@ -14,7 +14,7 @@ use Rattle.tsumego.specs.declared.task.Task.{Task}
 use Rattle.tsumego.specs.Tasks.{MakesOutcome}
 use Rattle.tsumego.specs.Trees.{AreOutcomes, BeginsTreesText, EarlierTreesText, IsTreesText, all_lines, all_read, before_more, no_line, nothing, some_lines, stopped, too_long}
 use Rattle.devices.specs.Watching.{IsInput}
-use Rattle.devices.specs.PartLaws.{cut_or_whole}
+use Rattle.devices.specs.laws.PartLaws.{cut_or_whole}
 use Rattle.devices.specs.Faults.{is_output_fault}
 use Rattle.devices.specs.Writing.{ForInput}
 use Rattle.tsumego.specs.Writing.{WritesFor}

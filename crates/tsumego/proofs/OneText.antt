@@ -1,7 +1,7 @@
 -- An input has one text and one status that answer `score`.
 use Rattle.std.proofs.Common.{◌≡◌, ◌≢◌, ◌⊎◌, ℕ, List, [], ◌∷◌, ◌++◌, inl, inr, refl, sym, ap, ap₂, ◌∙◌, drop, arith, subst}
 use Rattle.tt_sgf.specs.Grammar.{GameTree, HasNoTree, SpelledUpTo, main_line, HasOpen, OneSpelling}
-use Rattle.tt_sgf.specs.TreeLaws.{spelled_opens}
+use Rattle.tt_sgf.specs.laws.TreeLaws.{spelled_opens}
 use Rattle.tt_game.specs.Records.{record_of}
 use Rattle.tsumego.specs.declared.outcome.Outcome.{Outcome}
 use Rattle.tsumego.specs.declared.outcome.Outcome.TheVariants.{Refused}

@@ -15,7 +15,7 @@ use Rattle.devices.specs.declared.fault.RunFault.{RunFault}
 use Rattle.devices.specs.declared.fault.RunFault.TheVariants.{Input, Output, Memory}
 use Rattle.tsumego.specs.declared.outcome.Outcome.{Outcome}
 use Rattle.tsumego.specs.declared.outcome.Outcome.TheVariants.{Scored, Answered, Refused}
-use Rattle.tsumego.specs.Lines.{WritesOutcome}
+use Rattle.tsumego.specs.inside.Lines.{WritesOutcome}
 use Rattle.tsumego.specs.Trees.{AreOutcomes, BeginsTreesText, EarlierTreesText, IsTreesText, Reads, all_lines, all_read, before_more, is_refused, line_of, lines_from}
 use Rattle.tsumego.specs.Trees.{nothing, some_lines, stopped, too_long}
 use Rattle.devices.specs.Writing.{WritesOf, WritesText}

@@ -10,7 +10,7 @@ use Rattle.tt_game.specs.declared.turns.Turn.{Turn}
 use Rattle.tt_game.specs.declared.turns.Turn.TheVariants.{Play, Pass}
 use Rattle.tt_game.specs.Game.{HasValue, value_for}
 use Rattle.tt_game.specs.Line.{Standing}
-use Rattle.tt_game.specs.SideLaws.{words_apart}
+use Rattle.tt_game.specs.laws.SideLaws.{words_apart}
 use Rattle.tt_game.specs.Sides.{side_word}
 use Rattle.tt_proof.specs.CertificateText.{shown_turn}
 use Rattle.tt_search.specs.declared.limits.Limits.{Limits}

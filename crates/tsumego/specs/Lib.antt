@@ -7,4 +7,4 @@ pub mod Tasks
 pub mod Trees
 pub mod Writing
 -- What private contracts and proofs cite. Nobody has to believe these.
-pub mod Lines
+pub mod inside

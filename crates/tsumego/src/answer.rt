@@ -3,7 +3,7 @@ ghost use Rattle.std.specs.Prelude.{◌≡◌, IfOk, None, Some, false};
 ghost use Rattle.devices.specs.Faults.{is_input_fault, is_output_fault};
 ghost use Rattle.devices.specs.Watching.{TakesAtMost};
 ghost use Rattle.devices.specs.Writing.{ForInput, WritesText};
-ghost use Rattle.tsumego.specs.Lines.{WritesOutcome};
+ghost use Rattle.tsumego.specs.inside.Lines.{WritesOutcome};
 ghost use Rattle.tsumego.specs.Tasks.{MakesOutcome, task_of};
 ghost use Rattle.tsumego.specs.Trees.{line_of};
 ghost use Rattle.tsumego.specs.Writing.{Writes, WritesFor};

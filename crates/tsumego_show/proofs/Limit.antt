@@ -6,7 +6,7 @@ use Rattle.tt_sgf.specs.declared.trees.TheConstants.{MAX_BYTES}
 use Rattle.devices.specs.declared.fault.RunFault.{RunFault}
 use Rattle.devices.specs.declared.fault.RunFault.TheVariants.{Input, Output, Memory}
 use Rattle.std.specs.Io.KnownBytes.{Appends, Keeps}
-use Rattle.devices.specs.PartLaws.{cut_or_whole}
+use Rattle.devices.specs.laws.PartLaws.{cut_or_whole}
 use Rattle.devices.specs.Faults.{is_output_fault}
 use Rattle.devices.specs.Watching.{IsInput}
 use Rattle.devices.specs.Writing.{Breaks, ForInput}

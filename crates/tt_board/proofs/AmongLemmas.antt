@@ -4,14 +4,14 @@ use Rattle.std.proofs.lemmas.Bool.{cases_lt, cases_eq, true≢false, false≢tru
 use Rattle.std.proofs.lemmas.Option.{none-some}
 use Rattle.tt_sgf.specs.declared.bits.TheConstants.{BITS}
 use Rattle.tt_sgf.specs.Sizes.{point_count}
-use Rattle.tt_sgf.specs.SizeLaws.{few_points}
+use Rattle.tt_sgf.specs.laws.SizeLaws.{few_points}
 use Rattle.tt_sgf.specs.Words.{bit_in, AreBitsOf}
 use Rattle.tt_board.specs.declared.Colour.{Colour}
 use Rattle.tt_board.specs.declared.Colour.TheVariants.{Black, White}
 use Rattle.tt_board.specs.Reach.{entry_at}
 use Rattle.tt_board.specs.Play.{other, is_stone_of, play_of}
-use Rattle.tt_board.specs.Around.{AreOn, IsBesideSome}
-use Rattle.tt_board.specs.Chains.{ChainBoard, IsChainBoard, name_at, root_of, colour_number, Touches}
+use Rattle.tt_board.specs.inside.Around.{AreOn, IsBesideSome}
+use Rattle.tt_board.specs.inside.Chains.{ChainBoard, IsChainBoard, name_at, root_of, colour_number, Touches}
 use Rattle.tt_board.proofs.AroundLemmas.{off_if}
 use Rattle.tt_board.proofs.LiftLemmas.{near_back}
 use Rattle.tt_board.proofs.LinkLemmas.{named_bare}

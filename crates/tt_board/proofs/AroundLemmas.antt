@@ -5,9 +5,9 @@ use Rattle.std.proofs.lemmas.Nat.{mod-mul-add, div-add-mod', mod_below}
 use Rattle.tt_sgf.specs.declared.size.Size.{Size}
 use Rattle.tt_sgf.specs.declared.bits.TheConstants.{BITS}
 use Rattle.tt_sgf.specs.Sizes.{point_count}
-use Rattle.tt_sgf.specs.SizeLaws.{few_points}
+use Rattle.tt_sgf.specs.laws.SizeLaws.{few_points}
 use Rattle.tt_sgf.specs.Words.{bit_in}
-use Rattle.tt_board.specs.Around.{AreOn, IsBesideSome}
+use Rattle.tt_board.specs.inside.Around.{AreOn, IsBesideSome}
 use Rattle.tt_board.proofs.NearLemmas.{Side, above, left, right, below, side_of, of_side, row_above, row_below, row_before}
 
 -- a bit that isn't 1

@@ -8,7 +8,7 @@ use Rattle.tt_sgf.specs.declared.size.Size.{Size}
 use Rattle.tt_sgf.specs.Sizes.{point_count}
 use Rattle.tt_board.specs.Position.{Colouring}
 use Rattle.tt_board.specs.Reach.{entry_at}
-use Rattle.tt_board.specs.Chains.{name_at, root_of, Touches, touching, liberty_count, stone_count, renamed, IsRootedBut, IsCountedBut}
+use Rattle.tt_board.specs.inside.Chains.{name_at, root_of, Touches, touching, liberty_count, stone_count, renamed, IsRootedBut, IsCountedBut}
 use Rattle.tt_board.specs.Decided.{decided, decided_is}
 use Rattle.tt_board.proofs.NameLemmas.{count_emptied, at_p, off_p, liberty_count_le}
 use Rattle.tt_board.proofs.StartLemmas.{away}

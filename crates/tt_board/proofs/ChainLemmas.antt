@@ -15,7 +15,7 @@ use Rattle.tt_board.specs.Reach.{entry_at, Reaches}
 use Rattle.tt_sgf.specs.Words.{bit_in}
 use Rattle.tt_board.specs.Fill.{is_marked}
 use Rattle.tt_board.specs.ReachLaws.{unmarked_fewer, reaches_beside, reaches_on}
-use Rattle.tt_board.specs.Chain.{IsEnclosed, IsLinked, IsGrowing, GrewByNeighbours, IsVisited, IsEmptyAt, IsClosedAt, marks_on}
+use Rattle.tt_board.specs.inside.Chain.{IsEnclosed, IsLinked, IsGrowing, GrewByNeighbours, IsVisited, IsEmptyAt, IsClosedAt, marks_on}
 
 -- marks as bits in words
 pub mark_at : (words : List ℕ) (q : ℕ) → q < 361 → is_marked (marks_on words) q ≡ bit_in words q

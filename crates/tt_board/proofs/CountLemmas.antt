@@ -8,7 +8,7 @@ use Rattle.std.proofs.lemmas.List.{get_or_append_left, get_or_push, length_push,
 use Rattle.std.proofs.lemmas.List.Elements.{Contains-get_or}
 use Rattle.std.proofs.lemmas.List.Sums.{sum_by-cons}
 use Rattle.tt_board.specs.Decided.{Decision, some_below, decided, decided_is, decided_not}
-use Rattle.tt_board.specs.Chains.{IsEachOnce}
+use Rattle.tt_board.specs.inside.Chains.{IsEachOnce}
 use Rattle.tt_board.proofs.PlayLemmas.{score_more}
 
 -- decisions of facts that follow from each other are alike

@@ -14,8 +14,8 @@ use Rattle.tt_board.specs.declared.differences.Edit.{Edit}
 use Rattle.tt_board.specs.declared.differences.Edit.TheVariants.{Black, White, Empty, Whole}
 use Rattle.tt_board.specs.Position.{Colouring}
 use Rattle.tt_board.specs.Reach.{entry_at}
-use Rattle.tt_board.specs.Differences.{edited, finished, colourings_from}
-use Rattle.tt_board.specs.Boards.{edit_of, led, IsLed, IsHalf, AreAlikeBy}
+use Rattle.tt_board.specs.inside.Differences.{edited, finished, colourings_from}
+use Rattle.tt_board.specs.inside.Boards.{edit_of, led, IsLed, IsHalf, AreAlikeBy}
 
 -- ---- one more edit
 

@@ -8,9 +8,9 @@ use Rattle.std.proofs.lemmas.List.Elements.{Contains-push, Contains-push_cases, 
 use Rattle.std.proofs.lemmas.List.Sums.{count_by_more_yes, count_by_more_no}
 use Rattle.tt_sgf.specs.Sizes.{point_count}
 use Rattle.tt_board.specs.Reach.{entry_at}
-use Rattle.tt_board.specs.Chains.{AreLinked, IsCountOf, IsLibertyOf, name_at, root_of, touching, is_liberty, liberty_count, stone_count}
+use Rattle.tt_board.specs.inside.Chains.{AreLinked, IsCountOf, IsLibertyOf, name_at, root_of, touching, is_liberty, liberty_count, stone_count}
 use Rattle.tt_board.specs.Decided.{decided_is}
-use Rattle.tt_board.specs.Chains.{ChainBoard, IsChainBoard}
+use Rattle.tt_board.specs.inside.Chains.{ChainBoard, IsChainBoard}
 use Rattle.tt_board.proofs.CountLemmas.{once_push}
 use Rattle.tt_board.proofs.LinkLemmas.{linked_on_board, linked_colour, named_stone, stone_named, named_bare, bare_named}
 use Rattle.tt_board.proofs.LiftLemmas.{near_back}

@@ -8,7 +8,7 @@ use Rattle.std.proofs.lemmas.Option.{none-some}
 use Rattle.tt_sgf.specs.declared.size.Size.{Size}
 use Rattle.tt_sgf.specs.declared.bits.TheConstants.{BITS}
 use Rattle.tt_sgf.specs.Sizes.{point_count}
-use Rattle.tt_sgf.specs.SizeLaws.{few_points}
+use Rattle.tt_sgf.specs.laws.SizeLaws.{few_points}
 use Rattle.tt_sgf.specs.Words.{bit_in, AreBitsOf}
 use Rattle.tt_board.specs.declared.Colour.{Colour}
 use Rattle.tt_board.specs.declared.Colour.TheVariants.{Black, White}
@@ -16,7 +16,7 @@ use Rattle.tt_board.specs.Position.{Colouring}
 use Rattle.tt_board.specs.Reach.{entry_at, Reaches}
 use Rattle.tt_board.specs.ReachLaws.{reaches_beside, reaches_on, reaches_all}
 use Rattle.tt_board.specs.Play.{is_stone_of, IsAlive, IsLeastLifeless}
-use Rattle.tt_board.specs.Around.{AreOn, AreThose, AreReaching, IsBesideSome}
+use Rattle.tt_board.specs.inside.Around.{AreOn, AreThose, AreReaching, IsBesideSome}
 use Rattle.tt_board.proofs.AroundLemmas.{off_if}
 use Rattle.tt_board.proofs.CountLemmas.{count_both, count_some}
 use Rattle.tt_board.proofs.PlaneLemmas.{neither}

@@ -10,7 +10,7 @@ use Rattle.tt_board.specs.Near.{IsNeighbour}
 use Rattle.tt_board.specs.Position.{Colouring}
 use Rattle.tt_board.specs.Reach.{entry_at, Reaches}
 use Rattle.tt_board.specs.ReachLaws.{reaches_on}
-use Rattle.tt_board.specs.Chains.{Leads, AreLinked, name_at, IsNamed, AreNames, AreNamesBut}
+use Rattle.tt_board.specs.inside.Chains.{Leads, AreLinked, name_at, IsNamed, AreNames, AreNamesBut}
 use Rattle.tt_board.proofs.LiftLemmas.{near_back}
 
 module _ (s : Size) (c : Colouring) where

@@ -10,7 +10,7 @@ use Rattle.tt_board.specs.Position.{Colouring}
 use Rattle.tt_board.specs.Reach.{entry_at}
 use Rattle.tt_board.specs.Decided.{same_entry}
 use Rattle.tt_board.specs.Play.{other, clear, play_of}
-use Rattle.tt_board.specs.Chains.{name_at, root_of, renamed, IsEachOnce}
+use Rattle.tt_board.specs.inside.Chains.{name_at, root_of, renamed, IsEachOnce}
 use Rattle.tt_board.proofs.CountLemmas.{in_list}
 use Rattle.tt_board.proofs.JoinLemmas.{name_renamed, renamed_not}
 use Rattle.tt_board.proofs.PlayLemmas.{length-clear, entry_at_clear, length-play, cleared_either}

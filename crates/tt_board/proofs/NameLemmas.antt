@@ -11,7 +11,7 @@ use Rattle.tt_sgf.specs.Sizes.{point_count}
 use Rattle.tt_board.specs.declared.play_kind.Names.{Names}
 use Rattle.tt_board.specs.Near.{IsNeighbour, IsOneOf, ahead, places_there}
 use Rattle.tt_board.specs.Decided.{neighbour, decided, decided_is, decided_not}
-use Rattle.tt_board.specs.Chains.{name_at, Touches, touching, is_liberty, liberty_count, IsEachOnce, AreNear, is_new, count_there, count_beside}
+use Rattle.tt_board.specs.inside.Chains.{name_at, Touches, touching, is_liberty, liberty_count, IsEachOnce, AreNear, is_new, count_there, count_beside}
 use Rattle.tt_board.proofs.CountLemmas.{same_decided, count_change, count_same, count_both, count_within, in_list}
 use Rattle.tt_board.proofs.LiftLemmas.{near_back}
 use Rattle.tt_board.proofs.NearLemmas.{in_places}

@@ -6,7 +6,7 @@ use Rattle.std.proofs.lemmas.Option.{none-some}
 use Rattle.tt_sgf.specs.declared.size.Size.{Size}
 use Rattle.tt_sgf.specs.Sizes.{point_count}
 use Rattle.tt_board.specs.Near.{IsBeside, IsNeighbour, IsThere, IsOneOf, ahead, places_there}
-use Rattle.tt_board.specs.Chains.{IsEachOnce}
+use Rattle.tt_board.specs.inside.Chains.{IsEachOnce}
 use Rattle.tt_board.proofs.CountLemmas.{once_first}
 
 -- the four places beside p, as the code finds them

@@ -3,7 +3,7 @@ use Rattle.std.proofs.Common.{◌≡◌, ◌≢◌, ℕ, ◌+◌, ◌-◌, ◌<�
 use Rattle.std.proofs.lemmas.Bool.{cases_lt}
 use Rattle.std.proofs.lemmas.List.{length-take-le, get_or-take, get_or-drop, get_or_append_left, get_or-append_right, ext_get_or}
 use Rattle.tt_sgf.specs.declared.size.Size.{Size}
-use Rattle.tt_board.specs.Chains.{name_at, root_of, AreCounted}
+use Rattle.tt_board.specs.inside.Chains.{name_at, root_of, AreCounted}
 
 module _ (n : ℕ) (xs ys : List ℕ) (wide : n ≤ length xs) where
   -- on the first places stands what was written

@@ -5,7 +5,7 @@ use Rattle.std.proofs.lemmas.List.{get_or-set_same, get_or-set_other}
 use Rattle.std.proofs.lemmas.List.Elements.{Contains-get_or}
 use Rattle.tt_sgf.specs.declared.size.Size.{Size}
 use Rattle.tt_sgf.specs.Sizes.{point_count}
-use Rattle.tt_board.specs.Chains.{name_at, root_of, Touches, touching, liberty_count, stone_count, count_beside, AreCounted, IsEachOnce, IsOneName, IsNewName, AreRootsApart}
+use Rattle.tt_board.specs.inside.Chains.{name_at, root_of, Touches, touching, liberty_count, stone_count, count_beside, AreCounted, IsEachOnce, IsOneName, IsNewName, AreRootsApart}
 use Rattle.tt_board.specs.Decided.{decided, decided_is}
 use Rattle.tt_board.proofs.NameLemmas.{count_filled, count_alone, at_p, off_p}
 use Rattle.tt_board.proofs.JoinLemmas.{roots_apart, root_below, stones_none, stones_more, stones_same}

@@ -11,9 +11,4 @@ pub mod PlayKind
 pub mod Stones
 pub mod Laws
 -- What private contracts and proofs cite. Nobody has to believe these.
-pub mod Planes
-pub mod Differences
-pub mod Boards
-pub mod Chain
-pub mod Chains
-pub mod Around
+pub mod inside

@@ -4,7 +4,7 @@ ghost use Rattle.std.specs.Prelude.{◌≡◌, ℕ, ◌%◌, ◌<◌, ◌≤◌,
 ghost use Rattle.tt_sgf.specs.declared.bits.TheConstants.{BITS};
 ghost use Rattle.tt_sgf.specs.Sizes.{point_count};
 ghost use Rattle.tt_sgf.specs.Words.{bit_in};
-ghost use Rattle.tt_board.specs.Around.{AreOn, IsBesideSome};
+ghost use Rattle.tt_board.specs.inside.Around.{AreOn, IsBesideSome};
 
 use tt_sgf::{Bits, Size};
 

@@ -21,7 +21,7 @@ pub struct Boards {
 impl Model for Boards {
     ghost use Rattle.std.specs.Prelude.{List};
     ghost use Rattle.tt_board.specs.Position.{Position};
-    ghost use Rattle.tt_board.specs.Boards.{boards_of};
+    ghost use Rattle.tt_board.specs.inside.Boards.{boards_of};
 
     ghost Value = { List Position };
 

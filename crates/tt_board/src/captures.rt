@@ -3,7 +3,7 @@
 ghost use Rattle.std.specs.Prelude.{◌≡◌, ◌≢◌, ◌<◌, length, map, slice_set, None};
 ghost use Rattle.tt_sgf.specs.declared.size.TheConstants.{MOST_POINTS};
 ghost use Rattle.tt_sgf.specs.Sizes.{point_count};
-ghost use Rattle.tt_board.specs.Chains.{name_at, renamed, IsCountedBut, IsChainOf, AreOthersCounted, HasLost};
+ghost use Rattle.tt_board.specs.inside.Chains.{name_at, renamed, IsCountedBut, IsChainOf, AreOthersCounted, HasLost};
 
 use super::colouring::Colouring;
 use super::names::{chains_beside, give_liberty, root_of};

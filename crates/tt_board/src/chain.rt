@@ -5,7 +5,7 @@ ghost use Rattle.tt_sgf.specs.declared.size.TheConstants.{MOST_POINTS};
 ghost use Rattle.tt_sgf.specs.Sizes.{point_count};
 ghost use Rattle.tt_board.specs.Near.{IsOneOf};
 ghost use Rattle.tt_board.specs.Reach.{entry_at, Reaches};
-ghost use Rattle.tt_board.specs.Chain.{IsEnclosed, IsGrowing, GrewByNeighbours, IsVisited, IsEmptyAt, IsClosedAt, marks_on, IsLifelessChain, IsChainLifted};
+ghost use Rattle.tt_board.specs.inside.Chain.{IsEnclosed, IsGrowing, GrewByNeighbours, IsVisited, IsEmptyAt, IsClosedAt, marks_on, IsLifelessChain, IsChainLifted};
 
 use super::Colour;
 use super::colouring::Colouring;

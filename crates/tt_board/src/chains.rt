@@ -9,7 +9,7 @@ ghost use Rattle.tt_sgf.specs.Words.{bit_in};
 ghost use Rattle.tt_board.specs.Reach.{entry_at};
 ghost use Rattle.tt_board.specs.Play.{IsAlive, play_of};
 ghost use Rattle.tt_board.specs.PlayKind.{IsKind};
-ghost use Rattle.tt_board.specs.Chains.{name_at, root_of, colour_number, renamed, IsEachOnce, IsOneName, IsCountOf, IsLibertyOf, AreLinked, AreNear, HasLost};
+ghost use Rattle.tt_board.specs.inside.Chains.{name_at, root_of, colour_number, renamed, IsEachOnce, IsOneName, IsCountOf, IsLibertyOf, AreLinked, AreNear, HasLost};
 
 use super::Colour;
 use super::around::{around, first_column};
@@ -44,7 +44,7 @@ pub(crate) struct Chains {
 }
 
 impl Model for Chains {
-    ghost use Rattle.tt_board.specs.Chains.{ChainBoard, IsChainBoard};
+    ghost use Rattle.tt_board.specs.inside.Chains.{ChainBoard, IsChainBoard};
 
     ghost Value = { ChainBoard };
 

@@ -7,7 +7,7 @@ ghost use Rattle.tt_sgf.specs.Sizes.{point_count};
 ghost use Rattle.tt_board.specs.Near.{IsOneOf};
 ghost use Rattle.tt_board.specs.Reach.{entry_at, Reaches};
 ghost use Rattle.tt_board.specs.Play.{play_of, IsAlive};
-ghost use Rattle.tt_board.specs.Chain.{IsLifted};
+ghost use Rattle.tt_board.specs.inside.Chain.{IsLifted};
 
 use super::Colour;
 use super::chain::{has_empty, has_liberty, lift_lifeless};

@@ -23,7 +23,7 @@ pub(crate) struct Colouring {
 
 impl Model for Colouring {
     ghost use Rattle.tt_board.specs.Position.{Colouring as Entries};
-    ghost use Rattle.tt_board.specs.Planes.{shown, IsPlain};
+    ghost use Rattle.tt_board.specs.inside.Planes.{shown, IsPlain};
 
     ghost Value = { Entries };
 

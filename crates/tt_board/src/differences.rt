@@ -3,8 +3,8 @@
 ghost use Rattle.std.specs.Prelude.{◌≡◌, ◌+◌, ◌<◌, ◌≤◌, ◌↔◌, [], length, take, IsTrue, IfOk, OnOk, OnErr, MatchOption};
 ghost use Rattle.tt_sgf.specs.declared.size.TheConstants.{MOST_POINTS};
 ghost use Rattle.tt_board.specs.Position.{Colouring as Entries};
-ghost use Rattle.tt_board.specs.Differences.{edited, colourings_from};
-ghost use Rattle.tt_board.specs.Boards.{edit_at, edit_of, led, IsLed, IsHalf, AreAlikeBy, FinishesNext, IsLast};
+ghost use Rattle.tt_board.specs.inside.Differences.{edited, colourings_from};
+ghost use Rattle.tt_board.specs.inside.Boards.{edit_at, edit_of, led, IsLed, IsHalf, AreAlikeBy, FinishesNext, IsLast};
 ghost use Rattle.tt_board.specs.declared.differences.TheConstants.{PLACES};
 
 use super::Colour;
@@ -34,7 +34,7 @@ impl Model for EditWord {
     ghost use Rattle.std.specs.Prelude.{◌/◌, ◌%◌};
     ghost use Rattle.tt_board.specs.declared.differences.Edit.{Edit};
     ghost use Rattle.tt_board.specs.declared.differences.TheConstants.{PLACES};
-    ghost use Rattle.tt_board.specs.Boards.{edit_at};
+    ghost use Rattle.tt_board.specs.inside.Boards.{edit_at};
 
     ghost Value = { Edit };
 

@@ -6,7 +6,7 @@ ghost use Rattle.tt_sgf.specs.Sizes.{point_count};
 ghost use Rattle.tt_sgf.specs.Words.{bit_in};
 ghost use Rattle.tt_board.specs.declared.Colour.{Colour};
 ghost use Rattle.tt_board.specs.Position.{Colouring as Entries};
-ghost use Rattle.tt_board.specs.Around.{AreOn, AreThose, AreReaching};
+ghost use Rattle.tt_board.specs.inside.Around.{AreOn, AreThose, AreReaching};
 
 use super::Colour;
 use super::around::{around, first_column};

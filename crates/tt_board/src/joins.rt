@@ -6,8 +6,8 @@ ghost use Rattle.tt_sgf.specs.Sizes.{point_count};
 ghost use Rattle.tt_board.specs.declared.play_kind.TheConstants.{NOWHERE};
 ghost use Rattle.tt_board.specs.Position.{Colouring};
 ghost use Rattle.tt_board.specs.Reach.{entry_at};
-ghost use Rattle.tt_board.specs.Chains.{name_at, root_of, renamed, liberty_count, AreCounted, AreNames, AreNamesBut, AreNear, AreGathered, Touches, IsOneName, IsNewName};
-ghost use Rattle.tt_board.specs.Chains.{IsChainOf, AreBoardCounts, AreTwoChains};
+ghost use Rattle.tt_board.specs.inside.Chains.{name_at, root_of, renamed, liberty_count, AreCounted, AreNames, AreNamesBut, AreNear, AreGathered, Touches, IsOneName, IsNewName};
+ghost use Rattle.tt_board.specs.inside.Chains.{IsChainOf, AreBoardCounts, AreTwoChains};
 
 use super::names::{new_liberties, root_of};
 use super::play_kind::{NOWHERE, Names};

@@ -1,7 +1,7 @@
 //! What a play does, told by the counts before it: which chains go, and whether it is suicide. No board is made for it.
 
 ghost use Rattle.std.specs.Prelude.{◌≡◌, ℕ, ◌+◌, ◌/◌, ◌<◌, ◌≤◌, ◌⊎◌, ◌↔◌, length, Contains};
-ghost use Rattle.tt_board.specs.Chains.{name_at, root_of, IsEachOnce, IsOneName};
+ghost use Rattle.tt_board.specs.inside.Chains.{name_at, root_of, IsEachOnce, IsOneName};
 
 use super::names::is_fresh;
 use super::play_kind::{Names, is_last};

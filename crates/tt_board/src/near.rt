@@ -3,7 +3,7 @@
 ghost use Rattle.std.specs.Prelude.{◌≡◌, ℕ, ◌+◌, ◌-◌, ◌<◌, ◌≤◌, ◌↔◌, IsTrue};
 ghost use Rattle.tt_sgf.specs.Sizes.{point_count};
 ghost use Rattle.tt_board.specs.Near.{IsNeighbour, IsThere, IsOneOf, places_there};
-ghost use Rattle.tt_board.specs.Chains.{IsEachOnce};
+ghost use Rattle.tt_board.specs.inside.Chains.{IsEachOnce};
 
 use tt_sgf::Size;
 

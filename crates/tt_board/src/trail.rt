@@ -24,7 +24,7 @@ impl Model for Trail {
     ghost use Rattle.std.specs.Prelude.{List};
     ghost use Rattle.std.specs.Arc.{arc_value};
     ghost use Rattle.tt_board.specs.Position.{Position};
-    ghost use Rattle.tt_board.specs.Boards.{trail_of, IsTrail};
+    ghost use Rattle.tt_board.specs.inside.Boards.{trail_of, IsTrail};
 
     ghost Value = { List Position };
 

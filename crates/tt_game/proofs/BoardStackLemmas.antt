@@ -5,7 +5,7 @@ use Rattle.std.proofs.lemmas.List.{get_or-set_other, take_more, take-set, take-a
 use Rattle.tt_board.specs.Position.{Position}
 use Rattle.tt_board.specs.declared.Colour.{Colour}
 use Rattle.tt_board.specs.Play.{play_of}
-use Rattle.tt_game.specs.Undoing.{Stack, stack_of, board_on, AreMade}
+use Rattle.tt_game.specs.inside.Undoing.{Stack, stack_of, board_on, AreMade}
 
 -- the board in a place, and what a play makes of it
 abbrev get_or2 : Position → List Position → ℕ → Position

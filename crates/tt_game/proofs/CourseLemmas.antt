@@ -7,7 +7,7 @@ use Rattle.tt_game.specs.declared.frame.Side.{Side}
 use Rattle.tt_game.specs.declared.frame.Side.TheVariants.{Attacker, Defender}
 use Rattle.tt_game.specs.Game.{State, history, opponent}
 use Rattle.tt_game.specs.Course.{Course, so_far, colourings}
-use Rattle.tt_game.specs.Undoing.{course_of, without_play, state_at, front, last}
+use Rattle.tt_game.specs.inside.Undoing.{course_of, without_play, state_at, front, last}
 
 -- two courses are one where their parts are
 same_course : (g : Size) (xs ys : List Colouring) (x y : Colouring) (n : ℕ) → xs ≡ ys → x ≡ y

@@ -14,7 +14,7 @@ use Rattle.tt_board.specs.Play.{is_stone_of}
 use Rattle.tt_sgf.specs.declared.size.Size.{Size}
 use Rattle.tt_sgf.specs.Sizes.{point_count}
 use Rattle.tt_sgf.specs.Words.{bit_in, AreBitsOf}
-use Rattle.tt_sgf.specs.SizeLaws.{few_points}
+use Rattle.tt_sgf.specs.laws.SizeLaws.{few_points}
 use Rattle.tt_game.specs.declared.frame.Frame.{Frame}
 use Rattle.tt_game.specs.Game.{State}
 use Rattle.tt_game.specs.Keys.{marks_of, binary, words_of, packed, key_of}

@@ -12,7 +12,7 @@ use Rattle.tt_sgf.specs.declared.size.Size.{Size}
 use Rattle.tt_sgf.specs.declared.nodes.Property.{Property}
 use Rattle.tt_sgf.specs.Entries.{set_of, covers, is_entry}
 use Rattle.tt_sgf.specs.Points.{passing}
-use Rattle.tt_sgf.specs.PointLaws.{contains-passing}
+use Rattle.tt_sgf.specs.laws.PointLaws.{contains-passing}
 use Rattle.std.proofs.lemmas.Option.{none-some}
 use Rattle.tt_game.specs.Nodes.{values_of}
 

@@ -11,7 +11,7 @@ use Rattle.tt_sgf.specs.Sizes.{point_count}
 use Rattle.tt_sgf.specs.Entries.{set_of, covers, covers_by, entry_of, in_rectangle, is_entry}
 use Rattle.tt_sgf.specs.Values.{trimmed}
 use Rattle.tt_sgf.specs.Points.{passing}
-use Rattle.tt_sgf.specs.PointLaws.{contains-passing}
+use Rattle.tt_sgf.specs.laws.PointLaws.{contains-passing}
 use Rattle.tt_game.specs.declared.faults.GameFault.{GameFault}
 use Rattle.tt_game.specs.declared.faults.GameFault.TheVariants.{NoTarget}
 use Rattle.tt_game.specs.declared.records.Replay.{Replay}

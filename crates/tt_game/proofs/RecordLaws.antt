@@ -15,7 +15,7 @@ use Rattle.tt_sgf.specs.declared.size.PointOrPass.TheVariants.{On}
 use Rattle.tt_sgf.specs.declared.size.PointOrPass.TheVariants as values
 use Rattle.tt_sgf.specs.declared.nodes.Node.{Node}
 use Rattle.tt_sgf.specs.Sizes.{point_count, sized}
-use Rattle.tt_sgf.specs.SizeLaws.{sized_is}
+use Rattle.tt_sgf.specs.laws.SizeLaws.{sized_is}
 use Rattle.tt_sgf.specs.Values.{lettered_point, point_of, trimmed}
 use Rattle.tt_board.specs.declared.Colour.{Colour}
 use Rattle.tt_board.specs.declared.Colour.TheVariants.{Black, White}

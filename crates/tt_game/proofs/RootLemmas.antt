@@ -9,8 +9,8 @@ use Rattle.tt_game.specs.declared.line.Undo.{Undo}
 use Rattle.tt_game.specs.declared.line.Undo.TheVariants.{UndoPlay, UndoPass}
 use Rattle.tt_game.specs.Game.{State, history, opponent}
 use Rattle.tt_game.specs.Course.{Course, so_far, colourings, with_play, with_pass}
-use Rattle.tt_game.specs.Undoing.{course_of, state_at, undone, board_on, last, IsUndoable}
-use Rattle.tt_game.specs.Roots.{BoardsBegin, AreRooted}
+use Rattle.tt_game.specs.inside.Undoing.{course_of, state_at, undone, board_on, last, IsUndoable}
+use Rattle.tt_game.specs.inside.Roots.{BoardsBegin, AreRooted}
 use Rattle.tt_game.proofs.CourseLemmas.{length-colourings, course_from, front_push, last_push, history_is, same_boards, twice}
 
 -- a history has at least as many colourings as boards that it begins with

@@ -19,10 +19,7 @@ pub mod Records
 pub mod Problems
 pub mod Faults
 pub mod RecordLaws
+-- What crates above cite: laws of the definitions, with their proofs. Nobody has to believe these.
+pub mod laws
 -- What private contracts and proofs cite. Nobody has to believe these.
-pub mod Undoing
-pub mod Members
-pub mod Roots
-pub mod TurnLaws
-pub mod KeyLaws
-pub mod SideLaws
+pub mod inside

@@ -5,7 +5,7 @@ ghost use Rattle.std.specs.Arc.{arc_value};
 ghost use Rattle.tt_sgf.specs.Sizes.{point_count};
 ghost use Rattle.tt_board.specs.Reach.{entry_at};
 ghost use Rattle.tt_board.specs.Play.{play_of};
-ghost use Rattle.tt_game.specs.Undoing.{board_on};
+ghost use Rattle.tt_game.specs.inside.Undoing.{board_on};
 
 use std::alloc::Global;
 use std::marker::Model;
@@ -30,7 +30,7 @@ pub(crate) struct BoardStack {
 impl Model for BoardStack {
     ghost use Rattle.std.specs.Prelude.{◌≡◌, ◌≤◌, length};
     ghost use Rattle.std.specs.Arc.{arc_value};
-    ghost use Rattle.tt_game.specs.Undoing.{Stack, stack_of, AreMade};
+    ghost use Rattle.tt_game.specs.inside.Undoing.{Stack, stack_of, AreMade};
 
     ghost Value = { Stack };
 

@@ -62,7 +62,7 @@ impl Model for Game {
     ghost use Rattle.tt_game.specs.Course.{so_far};
     ghost use Rattle.tt_game.specs.Games.{GameState, game_at};
     ghost use Rattle.tt_game.specs.BloomFilter.{MayHoldAll};
-    ghost use Rattle.tt_game.specs.Undoing.{board_on};
+    ghost use Rattle.tt_game.specs.inside.Undoing.{board_on};
 
     ghost Value = { GameState };
 

@@ -31,7 +31,7 @@ pub(crate) struct History {
 impl Model for History {
     ghost use Rattle.std.specs.Prelude.{◌≡◌, ◌<◌, ◌≤◌, length, take, All};
     ghost use Rattle.tt_game.specs.Course.{Course};
-    ghost use Rattle.tt_game.specs.Undoing.{course_of};
+    ghost use Rattle.tt_game.specs.inside.Undoing.{course_of};
 
     ghost Value = { Course };
 
@@ -88,7 +88,7 @@ fn write(boards: &mut Vec<Board>, count: usize, next: &CountedBoard) -> Result<(
 
 impl History {
     ghost use Rattle.tt_game.specs.Course.{Course, so_far, with_play, with_pass, first_course};
-    ghost use Rattle.tt_game.specs.Undoing.{without_play, without_pass};
+    ghost use Rattle.tt_game.specs.inside.Undoing.{without_play, without_pass};
 
     /// The history of this board alone.
     pub(crate) fn of(alloc: Global, board: Board) -> Result<History, NoMemory>

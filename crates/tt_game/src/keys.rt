@@ -33,7 +33,7 @@ pub struct Key {
 
 impl Hash for Key {
     ghost use Rattle.tt_game.specs.KeyHash.{position_writes};
-    ghost use Rattle.tt_game.specs.KeyLaws.{same_writes};
+    ghost use Rattle.tt_game.specs.laws.KeyLaws.{same_writes};
 
     ghost hash_input = { position_writes };
 

@@ -43,8 +43,8 @@ impl Model for Line {
     ghost use Rattle.tt_sgf.specs.Sizes.{point_count};
     ghost use Rattle.std.specs.Arc.{arc_value};
     ghost use Rattle.tt_game.specs.Line.{Standing, HasTargets};
-    ghost use Rattle.tt_game.specs.Roots.{AreRooted};
-    ghost use Rattle.tt_game.specs.Undoing.{standing_of, state_at, board_on, IsUndoable};
+    ghost use Rattle.tt_game.specs.inside.Roots.{AreRooted};
+    ghost use Rattle.tt_game.specs.inside.Undoing.{standing_of, state_at, board_on, IsUndoable};
     ghost use Rattle.tt_sgf.specs.contracts.sets.PointSet as points;
     ghost use Rattle.std.specs.Coded.{codes};
 
@@ -71,7 +71,7 @@ impl Line {
     ghost use Rattle.tt_board.specs.Reach.{entry_at};
     ghost use Rattle.std.specs.Prelude.{OnOk, OnErr, IfErr, IfOk};
     ghost use Rattle.tt_game.specs.Line.{HasTargets, IsRefusal, IsRefused, IsPushed};
-    ghost use Rattle.tt_game.specs.Undoing.{IsMoved, state_at, board_on};
+    ghost use Rattle.tt_game.specs.inside.Undoing.{IsMoved, state_at, board_on};
     ghost use Rattle.tt_game.specs.Turns.{OnBoard};
     ghost use Rattle.tt_game.specs.MoveGenerators.{HaveStood, IsKindAt};
     ghost use Rattle.tt_game.specs.declared.turns.Turn.{Turn};

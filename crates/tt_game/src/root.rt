@@ -6,7 +6,7 @@ ghost use Rattle.tt_sgf.specs.Sizes.{point_count};
 ghost use Rattle.tt_board.specs.Position.{Position, Colouring};
 ghost use Rattle.tt_board.specs.Reach.{entry_at};
 ghost use Rattle.tt_game.specs.Course.{HasBeen, so_far, colourings};
-ghost use Rattle.tt_game.specs.Roots.{AreStonesOf};
+ghost use Rattle.tt_game.specs.inside.Roots.{AreStonesOf};
 ghost use Rattle.tt_game.specs.BloomFilter.{hash_of};
 
 use crate::bloom_filter::{BloomFilter, hash_of};
@@ -46,7 +46,7 @@ impl Model for Root {
     ghost use Rattle.tt_sgf.specs.contracts.sets.PointSet as points;
     ghost use Rattle.tt_board.specs.declared.Colour.TheVariants.{Black, White};
     ghost use Rattle.tt_game.specs.Course.{colourings};
-    ghost use Rattle.tt_game.specs.Roots.{Rooted, AreStonesOf};
+    ghost use Rattle.tt_game.specs.inside.Roots.{Rooted, AreStonesOf};
     ghost use Rattle.tt_game.specs.BloomFilter.{MayHoldAll};
 
     ghost Value = { Rooted };

@@ -6,9 +6,9 @@ ghost use Rattle.tt_game.specs.Game.{history};
 ghost use Rattle.tt_game.specs.Keys.{key_of};
 ghost use Rattle.tt_game.specs.KeyHash.{hash_of_key};
 ghost use Rattle.tt_game.specs.Line.{IsPosition};
-ghost use Rattle.tt_game.specs.Undoing.{state_at};
+ghost use Rattle.tt_game.specs.inside.Undoing.{state_at};
 ghost use Rattle.tt_game.specs.Course.{so_far, colourings};
-ghost use Rattle.tt_game.specs.Roots.{BoardsBegin};
+ghost use Rattle.tt_game.specs.inside.Roots.{BoardsBegin};
 
 use crate::frame::Side;
 use crate::history::History;
@@ -40,7 +40,7 @@ impl Model for Snapshot {
     ghost use Rattle.tt_game.specs.Keys.{key_of};
     ghost use Rattle.tt_game.specs.KeyHash.{hash_of_key};
     ghost use Rattle.tt_game.specs.Line.{Stood};
-    ghost use Rattle.tt_game.specs.Undoing.{course_of, state_at};
+    ghost use Rattle.tt_game.specs.inside.Undoing.{course_of, state_at};
 
     ghost Value = { Stood };
 

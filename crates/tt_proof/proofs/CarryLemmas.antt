@@ -12,9 +12,9 @@ use Rattle.tt_game.specs.declared.turns.Turn.{Turn}
 use Rattle.tt_game.specs.declared.turns.Turn.TheVariants.{Play, Pass}
 use Rattle.tt_proof.specs.Strategy.{Strategy, Entries, done, pick, reply, none, entry, IsInOrder, AreInOrder}
 use Rattle.tt_proof.specs.Wins.{Wins}
-use Rattle.tt_proof.specs.Replaying.{LegalWin, HasEntry}
+use Rattle.tt_proof.specs.inside.Replaying.{LegalWin, HasEntry}
 use Rattle.tt_proof.specs.Footprints.{IsNeeded, IsNeededBehind, IsAvoided, IsAvoidedBehind, IsMet, IsMetBehind, IsRepeated, Fits, longer, Makes}
-use Rattle.tt_game.specs.Members.{IsIn, in_of_contains, contains_of_in}
+use Rattle.tt_game.specs.laws.Members.{IsIn, in_of_contains, contains_of_in}
 use Rattle.tt_proof.proofs.FitsLemmas.{splits_none, Carried, same_made, carried_after, legal_now, legal_before}
 use Rattle.tt_proof.proofs.WinsLemmas.{reply_answers, reply_wins}
 

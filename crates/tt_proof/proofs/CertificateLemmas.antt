@@ -8,11 +8,11 @@ use Rattle.tt_game.specs.declared.frame.Side.TheVariants.{Attacker, Defender}
 use Rattle.tt_proof.specs.declared.certificate_read.CertFault.{CertFault}
 use Rattle.tt_proof.specs.declared.certificate_read.CertFault.TheVariants.{Syntax, TooDeep, NoMemory}
 use Rattle.tt_proof.specs.declared.tree.TheConstants.{MOST_DEPTH}
-use Rattle.tt_game.specs.SideLaws.{words_apart}
+use Rattle.tt_game.specs.laws.SideLaws.{words_apart}
 use Rattle.tt_game.specs.Sides.{side_word}
 use Rattle.tt_proof.specs.Strategy.{Strategy}
 use Rattle.tt_proof.specs.CertificateText.{tree_text, side_text, IsCertificate, IsTooDeep}
-use Rattle.tt_proof.specs.CertificateReading.{TreeAt, DeepAt, FaultAt}
+use Rattle.tt_proof.specs.inside.CertificateReading.{TreeAt, DeepAt, FaultAt}
 use Rattle.tt_proof.specs.CertificateFaults.{IsFault}
 use Rattle.tt_proof.proofs.TextLemmas.{tails, same_tree, not_deep}
 

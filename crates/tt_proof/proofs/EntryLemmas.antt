@@ -8,7 +8,7 @@ use Rattle.tt_proof.specs.declared.certificate_read.CertFault.{CertFault}
 use Rattle.tt_proof.specs.declared.certificate_read.CertFault.TheVariants.{Syntax, TooDeep, NoMemory}
 use Rattle.tt_proof.specs.Strategy.{Strategy, Entries, done, none, entry, depth, depth_of_entries, IsOnBoard, IsInOrder, AreInOrder, number_on, strategy_of, entries_of_trees}
 use Rattle.tt_proof.specs.CertificateText.{turn_text, tree_text, entries_text, EndsInEntries}
-use Rattle.tt_proof.specs.CertificateReading.{TreeAt, EntriesAt, EntriesDeepAt, FaultAt, EntriesFaultAt}
+use Rattle.tt_proof.specs.inside.CertificateReading.{TreeAt, EntriesAt, EntriesDeepAt, FaultAt, EntriesFaultAt}
 use Rattle.tt_proof.proofs.TextLemmas.{heads, tails, same_turn, turn_not_end, same_tree, not_deep}
 use Rattle.tt_proof.proofs.ReadLemmas.{NoTurn, deep_tree}
 use Rattle.tt_proof.proofs.StrategyLemmas.{before, before_none, before_push}

@@ -12,7 +12,7 @@ use Rattle.tt_game.specs.declared.turns.Turn.TheVariants.{Play, Pass}
 use Rattle.tt_proof.specs.Strategy.{Strategy, Entries, done, pick, reply, none, entry}
 use Rattle.tt_proof.specs.Wins.{Wins, WinsBehind}
 use Rattle.tt_proof.specs.Footprints.{IsNeeded, IsNeededBehind, IsAvoided, IsAvoidedBehind, IsRepeated, Fits, longer, Makes}
-use Rattle.tt_game.specs.Members.{in_of_contains}
+use Rattle.tt_game.specs.laws.Members.{in_of_contains}
 
 -- the history is h and the path, as sets
 pub record Splits (h path all : List Colouring) : Type 0 where

@@ -4,7 +4,7 @@ use Rattle.std.proofs.lemmas.List.Elements.{All-head, All-tail}
 use Rattle.tt_board.specs.Position.{Position, Colouring, colourings}
 use Rattle.tt_game.specs.Game.{State, history}
 use Rattle.tt_game.specs.Line.{IsPosition}
-use Rattle.tt_game.specs.Members.{IsIn, in_of_contains, contains_of_in}
+use Rattle.tt_game.specs.laws.Members.{IsIn, in_of_contains, contains_of_in}
 use Rattle.tt_game.specs.declared.frame.Frame.{Frame}
 use Rattle.tt_proof.specs.declared.footprints.Footprint.{Footprint}
 use Rattle.tt_proof.specs.Strategy.{Strategy}

@@ -13,11 +13,11 @@ use Rattle.tt_proof.specs.declared.footprints.Footprint.{Footprint}
 use Rattle.tt_proof.specs.Strategy.{Strategy, done, pick, reply, none, entries_of}
 use Rattle.tt_proof.specs.Footprints.{IsNeeded, IsNeededBehind, IsAvoided, IsAvoidedBehind, IsMet, IsMetBehind, Makes, IsRepeated, longer}
 use Rattle.tt_proof.specs.KeptFootprints.{IsFootprint, IsEntryJoined, AreSized, frame_board}
-use Rattle.tt_proof.specs.Collecting.{IsPassedUp, IsPlayed, IsPicked, IsMadeWithin}
+use Rattle.tt_proof.specs.inside.Collecting.{IsPassedUp, IsPlayed, IsPicked, IsMadeWithin}
 use Rattle.tt_proof.specs.declared.bounds.Bound.{Bound}
 use Rattle.tt_proof.specs.Bounds.{IsWithin, IsWider}
 use Rattle.tt_proof.proofs.NeedLemmas.{needed_less, needed_more}
-use Rattle.tt_game.specs.Members.{in_of_contains}
+use Rattle.tt_game.specs.laws.Members.{in_of_contains}
 
 -- a board of this size and colouring
 pub board_is : (b : Position) (g : Size) (c : Colouring) → b.size ≡ g → b.points ≡ c → b ≡ record { size = g; points = c }

@@ -8,7 +8,7 @@ use Rattle.tt_game.specs.declared.turns.Turn.{Turn}
 use Rattle.tt_game.specs.declared.turns.Turn.TheVariants.{Play, Pass}
 use Rattle.tt_proof.specs.Strategy.{Strategy, Entries, done, pick, reply, none, entry}
 use Rattle.tt_proof.specs.Footprints.{IsNeeded, IsNeededBehind, IsRepeated, longer}
-use Rattle.tt_game.specs.Members.{IsIn, in_of_contains, contains_of_in}
+use Rattle.tt_game.specs.laws.Members.{IsIn, in_of_contains, contains_of_in}
 
 not_last : (xs : List Colouring) (c x : Colouring) → x ≢ c → Contains (xs ++ c ∷ []) x → Contains xs x
 not_last xs c x n m = pass (Contains-append_cases xs (c ∷ []) x m)

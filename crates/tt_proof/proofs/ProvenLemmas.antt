@@ -1,7 +1,7 @@
 -- The trees that the constructors make win.
 use Rattle.std.proofs.Common.{◌≡◌, ◌≤◌, ◌↔◌, ◌+◌, ◌++◌, ℕ, inl, inr, arith, Some, None, List, [], ◌∷◌, Contains, refl, sym, ap, subst}
 use Rattle.tt_game.specs.Turns.{legal_turns}
-use Rattle.tt_game.specs.TurnLaws.{RisesFrom, contains-legal_turns, legal_on_board, rises_from_0}
+use Rattle.tt_game.specs.laws.TurnLaws.{RisesFrom, contains-legal_turns, legal_on_board, rises_from_0}
 use Rattle.tt_game.specs.Game.{State, IsLegal, after, winner_of, opponent}
 use Rattle.tt_game.specs.declared.frame.Side.{Side}
 use Rattle.tt_game.specs.declared.frame.Side.TheVariants.{Attacker, Defender}
@@ -10,10 +10,10 @@ use Rattle.tt_game.specs.declared.turns.Turn.{Turn}
 use Rattle.tt_game.specs.declared.turns.Turn.TheVariants.{Play, Pass}
 use Rattle.tt_proof.specs.declared.tree.TheConstants.{MOST_DEPTH}
 use Rattle.tt_proof.specs.Proven.{Proven, IsWon, IsChild, AreChildren, turns_of, trees_of}
-use Rattle.tt_proof.specs.Replaying.{HasEntry, LegalWin}
+use Rattle.tt_proof.specs.inside.Replaying.{HasEntry, LegalWin}
 use Rattle.tt_proof.specs.Strategy.{done, pick, reply, entries_of, depth_of_entries, AreInOrder, number_on}
 use Rattle.tt_proof.proofs.WinsLemmas.{reply_wins}
-use Rattle.tt_game.specs.Members.{IsIn, in_of_contains}
+use Rattle.tt_game.specs.laws.Members.{IsIn, in_of_contains}
 
 -- where the side has won, playing nothing more wins
 pub won_done : (side : Side) (f f' : Frame) (s s' : State) → f' ≡ f → s' ≡ s → winner_of f s ≡ Some side → IsWon side f' s' done

@@ -6,7 +6,7 @@ use Rattle.tt_proof.specs.declared.certificate_read.CertFault.{CertFault}
 use Rattle.tt_proof.specs.declared.certificate_read.CertFault.TheVariants.{Syntax, TooDeep, NoMemory}
 use Rattle.tt_proof.specs.Strategy.{Strategy, Entries, done, pick, reply, none, entry, depth, depth_of_entries, IsOnBoard, IsInOrder}
 use Rattle.tt_proof.specs.CertificateText.{won_mark, pick_mark, reply_mark, turn_text, tree_text, entries_text, EndsBelow, EndsInEntries}
-use Rattle.tt_proof.specs.CertificateReading.{TreeAt, DeepAt, EntriesAt, EntriesDeepAt, FaultAt, EntriesFaultAt}
+use Rattle.tt_proof.specs.inside.CertificateReading.{TreeAt, DeepAt, EntriesAt, EntriesDeepAt, FaultAt, EntriesFaultAt}
 use Rattle.tt_proof.proofs.TextLemmas.{heads, tails}
 
 module _ (size : Size) where

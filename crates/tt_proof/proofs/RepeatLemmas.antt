@@ -6,8 +6,8 @@ use Rattle.tt_board.specs.Position.{Colouring}
 use Rattle.tt_game.specs.Game.{State, IsBarred, history, made}
 use Rattle.tt_game.specs.declared.frame.Frame.{Frame}
 use Rattle.tt_proof.specs.Footprints.{IsRepeated}
-use Rattle.tt_proof.specs.Collecting.{RepeatsBelow}
-use Rattle.tt_game.specs.Members.{in_of_contains}
+use Rattle.tt_proof.specs.inside.Collecting.{RepeatsBelow}
+use Rattle.tt_game.specs.laws.Members.{in_of_contains}
 
 module _ (f : Frame) (s : State) where
   -- where superko bars a play on p, the colouring that it would make is one more

@@ -5,8 +5,8 @@ use Rattle.std.proofs.lemmas.List.Sorted.{IsPermutation-remove, IsPermutation-in
 use Rattle.std.specs.List.Sorted.{IsPermutation}
 use Rattle.std.proofs.lemmas.List.Elements.{Contains-append_left, Contains-append_right, Contains-append_cases}
 use Rattle.tt_board.specs.Position.{Position}
-use Rattle.tt_game.specs.Members.{IsIn, in_of_contains, contains_of_in}
-use Rattle.tt_proof.specs.Collecting.{IsOneLess}
+use Rattle.tt_game.specs.laws.Members.{IsIn, in_of_contains, contains_of_in}
+use Rattle.tt_proof.specs.inside.Collecting.{IsOneLess}
 
 -- at a place of the list whatever else is asked for makes no difference
 any_other : (vs : List Position) (n : ℕ) (d h : Position) → n < length vs → get_or vs n d ≡ get_or vs n h

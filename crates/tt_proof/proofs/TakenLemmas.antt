@@ -5,7 +5,7 @@ use Rattle.std.proofs.lemmas.List.{take-map, drop-map, length-map, length-append
 use Rattle.std.proofs.lemmas.List.Elements.{All-take, All-drop, All-contains, Contains-append_right}
 use Rattle.tt_board.specs.Position.{Position, Colouring, colourings}
 use Rattle.tt_game.specs.Game.{State, history}
-use Rattle.tt_game.specs.Members.{IsIn, in_of_contains, contains_of_in}
+use Rattle.tt_game.specs.laws.Members.{IsIn, in_of_contains, contains_of_in}
 use Rattle.tt_game.specs.declared.frame.Frame.{Frame}
 use Rattle.tt_proof.specs.declared.footprints.Footprint.{Footprint}
 use Rattle.tt_proof.specs.Bounds.{IsWithin}

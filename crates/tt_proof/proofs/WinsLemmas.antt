@@ -6,7 +6,7 @@ use Rattle.tt_game.specs.declared.turns.Turn.{Turn}
 use Rattle.tt_game.specs.declared.frame.Frame.{Frame}
 use Rattle.tt_proof.specs.Strategy.{Entries, reply, none, entry, AreInOrder, number_on}
 use Rattle.tt_proof.specs.Wins.{Wins, WinsBehind}
-use Rattle.tt_proof.specs.Replaying.{HasEntry, LegalWin, AnswersEach}
+use Rattle.tt_proof.specs.inside.Replaying.{HasEntry, LegalWin, AnswersEach}
 
 module _ (side : Side) (f : Frame) (s : State) where
   -- where each entry of a legal turn wins, a legal turn that has an entry has one that wins

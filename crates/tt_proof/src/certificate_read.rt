@@ -7,7 +7,7 @@ ghost use Rattle.tt_sgf.specs.declared.size.TheConstants.{MOST_POINTS};
 ghost use Rattle.tt_game.specs.declared.turns.Turn.{Turn};
 ghost use Rattle.tt_proof.specs.Strategy.{strategy_of, entries_of_trees, number_on, IsOnBoard};
 ghost use Rattle.tt_proof.specs.CertificateText.{pick_mark, reply_mark, turn_text, side_text, IsCertificate, IsTooDeep};
-ghost use Rattle.tt_proof.specs.CertificateReading.{TreeAt, EntriesAt, FaultAt, EntriesFaultAt};
+ghost use Rattle.tt_proof.specs.inside.CertificateReading.{TreeAt, EntriesAt, FaultAt, EntriesFaultAt};
 ghost use Rattle.tt_proof.specs.CertificateFaults.{IsFault, code_of};
 
 use crate::tree::{MOST_DEPTH, Tree};

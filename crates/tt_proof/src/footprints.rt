@@ -9,7 +9,7 @@ ghost use Rattle.tt_proof.specs.declared.tree.TheConstants.{MOST_DEPTH};
 ghost use Rattle.tt_proof.specs.Strategy.{Strategy, done, pick, reply, none, depth, depth_of_entries, strategy_of, entries_of, entries_of_trees, IsInOrder, AreInOrder, IsOnBoard};
 ghost use Rattle.tt_proof.specs.Footprints.{IsRepeated};
 ghost use Rattle.tt_proof.specs.KeptFootprints.{IsFootprint, IsBoardAfter, IsEntryJoined, AreSized, frame_board, AreLegalPlays};
-ghost use Rattle.tt_proof.specs.Collecting.{IsPassedUp, IsPlayed, IsMadeWithin};
+ghost use Rattle.tt_proof.specs.inside.Collecting.{IsPassedUp, IsPlayed, IsMadeWithin};
 ghost use Rattle.tt_proof.specs.Bounds.{IsWider};
 
 use crate::bounds::{Bound, wider};

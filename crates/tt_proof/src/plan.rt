@@ -24,7 +24,7 @@ impl Model for Plan {
     ghost use Rattle.std.specs.Prelude.{◌≡◌, ◌-◌, ◌^◌, min};
     ghost use Rattle.tt_proof.specs.Nodes.{nodes};
     ghost use Rattle.tt_proof.specs.Strategy.{Strategy, depth, strategy_of};
-    ghost use Rattle.tt_proof.specs.StrategyCode.{strategy_code};
+    ghost use Rattle.tt_proof.specs.laws.StrategyCode.{strategy_code};
 
     ghost Value = { Strategy };
 
@@ -50,7 +50,7 @@ impl Model for Replies {
     ghost use Rattle.tt_game.specs.declared.turns.Turn.{Turn};
     ghost use Rattle.tt_proof.specs.Nodes.{nodes_of_entries};
     ghost use Rattle.tt_proof.specs.Strategy.{Strategy, depth_of_entries, strategy_of, entries_of_trees};
-    ghost use Rattle.tt_proof.specs.StrategyCode.{strategy_code};
+    ghost use Rattle.tt_proof.specs.laws.StrategyCode.{strategy_code};
 
     ghost Value = { List (Turn × Strategy) };
 

@@ -39,7 +39,7 @@ impl Model for Proof {
     ghost use Rattle.tt_sgf.specs.contracts.sets.PointSet as points;
     ghost use Rattle.tt_proof.specs.Proven.{Proven};
     ghost use Rattle.tt_proof.specs.KeptFootprints.{IsFooted};
-    ghost use Rattle.tt_proof.specs.StrategyCode.{strategy_code};
+    ghost use Rattle.tt_proof.specs.laws.StrategyCode.{strategy_code};
 
     ghost Value = { Proven };
 

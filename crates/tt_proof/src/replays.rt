@@ -4,7 +4,7 @@ ghost use Rattle.std.specs.Prelude.{◌≡◌, ◌↔◌, ℕ, ◌<◌, ◌≤�
 ghost use Rattle.tt_proof.specs.declared.tree.TheConstants.{MOST_DEPTH};
 ghost use Rattle.tt_proof.specs.Strategy.{done, pick, reply, depth, depth_of_entries, strategy_of, entries_of_trees, IsInOrder, AreInOrder, IsOnBoard};
 ghost use Rattle.tt_proof.specs.Wins.{Wins};
-ghost use Rattle.tt_proof.specs.Replaying.{HasEntry, LegalWin, AnswersAfter, AnswersEach};
+ghost use Rattle.tt_proof.specs.inside.Replaying.{HasEntry, LegalWin, AnswersAfter, AnswersEach};
 ghost use Rattle.tt_game.specs.declared.turns.Turn.{Turn};
 ghost use Rattle.tt_game.specs.Game.{IsLegal, winner_of, opponent};
 ghost use Rattle.tt_sgf.specs.Sizes.{point_count};

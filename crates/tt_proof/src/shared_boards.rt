@@ -5,7 +5,7 @@
 ghost use Rattle.std.specs.Prelude.{◌≡◌, ◌≢◌, ◌↔◌, ◌⊎◌, ◌<◌, ◌≤◌, ◌++◌, ◌∷◌, ℕ, [], length, get_or, Contains, IfOk, OnOk, IsTrue, MatchOption};
 ghost use Rattle.tt_board.specs.Position.{Position};
 ghost use Rattle.tt_game.specs.Mixing.{board_hash};
-ghost use Rattle.tt_proof.specs.Collecting.{IsOneLess};
+ghost use Rattle.tt_proof.specs.inside.Collecting.{IsOneLess};
 
 use std::alloc::Global;
 use std::marker::Model;

@@ -7,13 +7,13 @@ use Rattle.tt_search.specs.PartialTree.{PartialTree}
 use Rattle.tt_search.specs.Numbers.{count, IsUndecided}
 use Rattle.tt_search.specs.MostProving.{most_proving_depth}
 use Rattle.tt_search.specs.Growing.{IsExpansion, IsClosing, Grows, GrownBy, GrownFrom}
-use Rattle.tt_search.specs.Walking.{Stand, Stage, stage, stand}
-use Rattle.tt_search.specs.Taken.{Taken, IsLeft}
-use Rattle.tt_search.specs.Steady.{IsGrowth, Steady, AreStepsAt}
-use Rattle.tt_search.specs.Searching.{IsSearch}
+use Rattle.tt_search.specs.inside.Walking.{Stand, Stage, stage, stand}
+use Rattle.tt_search.specs.inside.Taken.{Taken, IsLeft}
+use Rattle.tt_search.specs.inside.Steady.{IsGrowth, Steady, AreStepsAt}
+use Rattle.tt_search.specs.inside.Searching.{IsSearch}
 use Rattle.tt_search.specs.Searched.{Searched, IsSameProblem, IsStuckFor, StepOf}
 use Rattle.tt_search.specs.Ended.{RanTo}
-use Rattle.tt_search.specs.Advanced.{IsAdvanced}
+use Rattle.tt_search.specs.inside.Advanced.{IsAdvanced}
 use Rattle.tt_search.specs.declared.limits.Limits.{Limits}
 use Rattle.tt_search.specs.declared.limits.Reason.{Reason}
 use Rattle.tt_search.specs.declared.limits.Reason.TheVariants.{Budget, Depth, Total, Memory}

@@ -8,7 +8,7 @@ use Rattle.tt_game.specs.Game.{opponent}
 use Rattle.tt_search.specs.PartialTree.{PartialTree, fresh, won, closed, expanded, Children, no_more, more}
 use Rattle.tt_search.specs.Numbers.{infinite, least, capped_sum, decided_number, number, numbers, IsUndecided}
 use Rattle.tt_search.specs.MostProving.{place, best}
-use Rattle.tt_search.specs.Children.{children_of}
+use Rattle.tt_search.specs.inside.Children.{children_of}
 use Rattle.tt_search.proofs.Rows.{least_le, number_le}
 
 -- one number is 0 exactly where the other one is infinite

@@ -16,7 +16,7 @@ use Rattle.tt_proof.specs.Proven.{Proven}
 use Rattle.tt_search.specs.Stores.{AnswersFor, IsNewest}
 use Rattle.tt_search.specs.KeyIndex.{index_hash, index_hashes}
 use Rattle.tt_search.specs.declared.key_index.TheConstants.{KEY_FILTER_BITS}
-use Rattle.tt_search.specs.Buckets.{last_place, bucket_of_hash, in_bucket, MayHoldHashes, AreBuckets, NoneFrom, NoHashFrom}
+use Rattle.tt_search.specs.inside.Buckets.{last_place, bucket_of_hash, in_bucket, MayHoldHashes, AreBuckets, NoneFrom, NoHashFrom}
 
 -- ---- the last place that passes a test
 

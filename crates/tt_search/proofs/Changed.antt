@@ -7,12 +7,12 @@ use Rattle.tt_game.specs.Game.{opponent}
 use Rattle.tt_search.specs.PartialTree.{PartialTree, fresh}
 use Rattle.tt_search.specs.Numbers.{infinite, cap, least, has_infinite, capped_sum, number, numbers}
 use Rattle.tt_search.specs.MostProving.{place, first_least}
-use Rattle.tt_search.specs.Children.{children_of}
-use Rattle.tt_search.specs.Choices.{Choices, node_with, best_place}
-use Rattle.tt_search.specs.Pairs.{changed_sum, ArePair}
-use Rattle.tt_search.specs.Edges.{edge_turns, edge_trees}
-use Rattle.tt_search.specs.ChildNodes.{choices_of, child_of, AreFew}
-use Rattle.tt_search.specs.Sprouting.{IsPut}
+use Rattle.tt_search.specs.inside.Children.{children_of}
+use Rattle.tt_search.specs.inside.Choices.{Choices, node_with, best_place}
+use Rattle.tt_search.specs.inside.Pairs.{changed_sum, ArePair}
+use Rattle.tt_search.specs.inside.Edges.{edge_turns, edge_trees}
+use Rattle.tt_search.specs.inside.ChildNodes.{choices_of, child_of, AreFew}
+use Rattle.tt_search.specs.inside.Sprouting.{IsPut}
 use Rattle.tt_search.specs.declared.children.ChildNodes.{ChildNodes}
 use Rattle.tt_search.specs.declared.numbers.Pair.{Pair}
 use Rattle.tt_search.proofs.Places.{length-turns_of, length-trees_of}

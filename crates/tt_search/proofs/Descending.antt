@@ -1,8 +1,8 @@
 -- What descents leave.
 use Rattle.std.proofs.Common.{◌≡◌, ◌+◌, ◌∙◌, refl, subst}
 use Rattle.tt_search.specs.Grants.{Asked, AskedBy}
-use Rattle.tt_search.specs.Asking.{AreAsked}
-use Rattle.tt_search.specs.Descending.{Descends}
+use Rattle.tt_search.specs.inside.Asking.{AreAsked}
+use Rattle.tt_search.specs.inside.Descending.{Descends}
 use Rattle.tt_search.specs.declared.limits.Step.{Step}
 use Rattle.tt_search.specs.declared.walk.Stop.{Stop}
 use Rattle.tt_search.specs.declared.walk.Stop.TheVariants.{OneStep}

@@ -6,7 +6,7 @@ use Rattle.tt_proof.specs.Strategy.{depth}
 use Rattle.tt_proof.specs.Proven.{Proven, StandsAt}
 use Rattle.tt_search.specs.Numbers.{number}
 use Rattle.tt_search.specs.Settled.{strategy_for}
-use Rattle.tt_search.specs.Within.{StaysWithin}
+use Rattle.tt_search.specs.inside.Within.{StaysWithin}
 use Rattle.tt_search.specs.Searched.{Searched, IsProofOf}
 use Rattle.tt_search.proofs.Strategies.{low}
 

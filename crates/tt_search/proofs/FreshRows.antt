@@ -3,10 +3,10 @@ use Rattle.std.proofs.Common.{◌≡◌, ℕ, suc, zero, ◌<◌, ◌≤◌, ◌
 use Rattle.std.specs.Prelude.{◌+◌, fold, replicate}
 use Rattle.tt_game.specs.declared.frame.Side.{Side}
 use Rattle.tt_search.specs.PartialTree.{PartialTree}
-use Rattle.tt_search.specs.Children.{children_of}
+use Rattle.tt_search.specs.inside.Children.{children_of}
 use Rattle.tt_search.specs.Numbers.{cap, least, has_infinite, capped_sum, numbers}
 use Rattle.tt_search.specs.MostProving.{first_least}
-use Rattle.tt_search.specs.Edges.{edge_state_of, edge_trees, AreFresh}
+use Rattle.tt_search.specs.inside.Edges.{edge_state_of, edge_trees, AreFresh}
 use Rattle.tt_search.specs.declared.edges.Edge.{Edge}
 use Rattle.tt_search.specs.declared.edges.EdgeState.TheVariants.{Fresh}
 

@@ -12,8 +12,8 @@ use Rattle.tt_game.specs.Turns.{legal_turns}
 use Rattle.tt_search.specs.Numbers.{count, count_all, IsUndecided}
 use Rattle.tt_search.specs.MostProving.{best, most_proving_state, state_below, most_proving_depth, depth_below, with_most_proving, with_below}
 use Rattle.tt_search.specs.Growing.{leaf_for, new_leaf, new_leaves, expansion, IsPartialTree, ArePartialTrees}
-use Rattle.tt_search.specs.Within.{StaysWithin, AllStayWithin}
-use Rattle.tt_search.specs.Children.{children_of}
+use Rattle.tt_search.specs.inside.Within.{StaysWithin, AllStayWithin}
+use Rattle.tt_search.specs.inside.Children.{children_of}
 use Rattle.tt_search.proofs.Best.{best_child}
 
 -- a won leaf is decided

@@ -8,20 +8,20 @@ use Rattle.tt_game.specs.declared.frame.Side.TheVariants.{Attacker, Defender}
 use Rattle.tt_game.specs.declared.turns.Turn.{Turn}
 use Rattle.tt_game.specs.declared.turns.Turn.TheVariants.{Pass}
 use Rattle.tt_game.specs.Game.{State, IsLegal, after}
-use Rattle.tt_game.specs.TurnLaws.{AreLegal, are_legal}
+use Rattle.tt_game.specs.laws.TurnLaws.{AreLegal, are_legal}
 use Rattle.tt_proof.specs.declared.footprints.Footprint.{Footprint}
 use Rattle.tt_proof.specs.Strategy.{Strategy, Entries, reply, entry, entries_of}
 use Rattle.tt_proof.specs.KeptFootprints.{IsFootprint, IsEntryJoined}
 use Rattle.tt_search.specs.PartialTree.{PartialTree, fresh, expanded}
 use Rattle.tt_search.specs.Numbers.{is_same, numbers}
 use Rattle.tt_search.specs.Growing.{ArePartialTrees}
-use Rattle.tt_search.specs.Within.{AllStayWithin}
-use Rattle.tt_search.specs.Children.{children_of}
-use Rattle.tt_search.specs.Edges.{edge_turn, edge_state_of, edge_turns, tree_of, edge_trees, grown_behind, grown_in}
+use Rattle.tt_search.specs.inside.Within.{AllStayWithin}
+use Rattle.tt_search.specs.inside.Children.{children_of}
+use Rattle.tt_search.specs.inside.Edges.{edge_turn, edge_state_of, edge_turns, tree_of, edge_trees, grown_behind, grown_in}
 use Rattle.tt_search.specs.Settled.{strategy_for, first_settled, replies}
-use Rattle.tt_search.specs.Joining.{IsSettledAt, AreSettledAt}
-use Rattle.tt_search.specs.Choices.{node_with}
-use Rattle.tt_search.specs.ChildNodes.{choices_of, children_in, child_of}
+use Rattle.tt_search.specs.inside.Joining.{IsSettledAt, AreSettledAt}
+use Rattle.tt_search.specs.inside.Choices.{node_with}
+use Rattle.tt_search.specs.inside.ChildNodes.{choices_of, children_in, child_of}
 use Rattle.tt_search.specs.declared.edges.Edge.{Edge}
 use Rattle.tt_search.specs.declared.children.ChildNodes.{ChildNodes}
 use Rattle.tt_search.proofs.Places.{length-trees_of, turn_at_place, nodes_behind, replies_at_end, replied_step}

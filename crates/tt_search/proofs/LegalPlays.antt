@@ -8,9 +8,9 @@ use Rattle.tt_board.specs.Play.{Points}
 use Rattle.tt_game.specs.declared.frame.Frame.{Frame}
 use Rattle.tt_game.specs.declared.turns.Turn.TheVariants.{Play}
 use Rattle.tt_game.specs.Game.{State, IsLegal}
-use Rattle.tt_game.specs.TurnLaws.{AreLegal}
+use Rattle.tt_game.specs.laws.TurnLaws.{AreLegal}
 use Rattle.tt_proof.specs.KeptFootprints.{AreLegalPlays}
-use Rattle.tt_search.specs.Edges.{edge_turn, edge_turns}
+use Rattle.tt_search.specs.inside.Edges.{edge_turn, edge_turns}
 use Rattle.tt_search.specs.declared.edges.Edge.{Edge}
 
 -- each of the edges' turns is legal

@@ -9,14 +9,14 @@ use Rattle.tt_game.specs.declared.frame.Frame.{Frame}
 use Rattle.tt_game.specs.Game.{State, after}
 use Rattle.tt_proof.specs.Wins.{Wins}
 use Rattle.tt_search.specs.PartialTree.{PartialTree, fresh, closed, expanded, more}
-use Rattle.tt_search.specs.Weight.{weight, weight_all}
+use Rattle.tt_search.specs.inside.Weight.{weight, weight_all}
 use Rattle.tt_search.specs.Numbers.{IsUndecided}
 use Rattle.tt_search.specs.MostProving.{best, most_proving_state, state_below, most_proving_depth, depth_below, with_most_proving, with_below}
 use Rattle.tt_search.specs.Growing.{expansion, IsPartialTree, ArePartialTrees}
-use Rattle.tt_search.specs.Within.{StaysWithin, AllStayWithin}
-use Rattle.tt_search.specs.Walking.{Stand, stage, stand_after, MayGrow}
-use Rattle.tt_search.specs.Taken.{Taken}
-use Rattle.tt_search.specs.Children.{children_of}
+use Rattle.tt_search.specs.inside.Within.{StaysWithin, AllStayWithin}
+use Rattle.tt_search.specs.inside.Walking.{Stand, stage, stand_after, MayGrow}
+use Rattle.tt_search.specs.inside.Taken.{Taken}
+use Rattle.tt_search.specs.inside.Children.{children_of}
 use Rattle.tt_search.proofs.Best.{best_child}
 use Rattle.tt_search.specs.declared.limits.Step.{Step}
 use Rattle.tt_search.specs.declared.limits.Step.TheVariants.{Expanded, Closed, Settled, Stuck}

@@ -6,13 +6,13 @@ use Rattle.tt_game.specs.declared.frame.Side.TheVariants.{Attacker, Defender}
 use Rattle.tt_proof.specs.Proven.{Proven}
 use Rattle.tt_search.specs.PartialTree.{PartialTree, fresh, won, closed, expanded, Children, no_more, more}
 use Rattle.tt_search.specs.Numbers.{number, numbers}
-use Rattle.tt_search.specs.Children.{children_of}
-use Rattle.tt_search.specs.Edges.{edge_state_of, tree_of, edge_trees, grown_behind}
+use Rattle.tt_search.specs.inside.Children.{children_of}
+use Rattle.tt_search.specs.inside.Edges.{edge_state_of, tree_of, edge_trees, grown_behind}
 use Rattle.tt_search.specs.Settled.{first_settled, strategy_for}
-use Rattle.tt_search.specs.Choices.{node_with}
-use Rattle.tt_search.specs.ChildNodes.{choices_of}
-use Rattle.tt_search.specs.Offered.{IsOffered}
-use Rattle.tt_search.specs.Joining.{AreZero}
+use Rattle.tt_search.specs.inside.Choices.{node_with}
+use Rattle.tt_search.specs.inside.ChildNodes.{choices_of}
+use Rattle.tt_search.specs.inside.Offered.{IsOffered}
+use Rattle.tt_search.specs.inside.Joining.{AreZero}
 use Rattle.tt_search.specs.declared.edges.Edge.{Edge}
 use Rattle.tt_search.specs.declared.children.ChildNodes.{ChildNodes}
 use Rattle.tt_search.proofs.Strategies.{IsZeroAt, zero_at, all_zero, zero_sum}

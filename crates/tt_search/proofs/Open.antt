@@ -5,7 +5,7 @@ use Rattle.tt_game.specs.declared.turns.Turn.{Turn}
 use Rattle.tt_game.specs.declared.frame.Frame.{Frame}
 use Rattle.tt_game.specs.Game.{State, after, winner_of}
 use Rattle.tt_game.specs.Turns.{legal_turns}
-use Rattle.tt_game.specs.TurnLaws.{length-legal_turns}
+use Rattle.tt_game.specs.laws.TurnLaws.{length-legal_turns}
 use Rattle.tt_search.specs.PartialTree.{PartialTree, fresh, won, closed, expanded, Children, no_more, more}
 use Rattle.tt_search.specs.Numbers.{count, IsUndecided}
 use Rattle.tt_search.specs.MostProving.{best, most_proving_state, with_most_proving, with_below}

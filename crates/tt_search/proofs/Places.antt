@@ -3,13 +3,13 @@ use Rattle.std.proofs.Common.{◌≡◌, ℕ, zero, suc, ◌+◌, ◌<◌, ◌�
 use Rattle.std.proofs.lemmas.List.{drop_all, at_drop_all, at_drop_more}
 use Rattle.tt_game.specs.declared.frame.Side.{Side}
 use Rattle.tt_proof.specs.Strategy.{entry, none}
-use Rattle.tt_search.specs.Children.{children_of}
+use Rattle.tt_search.specs.inside.Children.{children_of}
 use Rattle.tt_search.specs.Settled.{strategy_for, replies}
-use Rattle.tt_search.specs.Weight.{weight, weight_all}
+use Rattle.tt_search.specs.inside.Weight.{weight, weight_all}
 use Rattle.tt_game.specs.declared.turns.Turn.{Turn}
 use Rattle.tt_search.specs.PartialTree.{PartialTree, fresh}
-use Rattle.tt_search.specs.Edges.{edge_turn, edge_state_of, edge_turns, tree_of, grown_behind, edge_trees, counted, grown_in}
-use Rattle.tt_search.specs.Sprouting.{IsFreshAt}
+use Rattle.tt_search.specs.inside.Edges.{edge_turn, edge_state_of, edge_turns, tree_of, grown_behind, edge_trees, counted, grown_in}
+use Rattle.tt_search.specs.inside.Sprouting.{IsFreshAt}
 use Rattle.tt_search.specs.declared.edges.Edge.{Edge}
 use Rattle.tt_search.specs.declared.edges.EdgeState.{EdgeState}
 use Rattle.tt_search.specs.declared.edges.EdgeState.TheVariants.{Fresh, Won, Grown}

@@ -4,7 +4,7 @@ use Rattle.tt_game.specs.declared.frame.Side.{Side}
 use Rattle.tt_game.specs.declared.turns.Turn.{Turn}
 use Rattle.tt_proof.specs.Strategy.{Strategy, Entries, done, pick, none, entry, entries_of}
 use Rattle.tt_search.specs.PartialTree.{PartialTree}
-use Rattle.tt_search.specs.Children.{children_of}
+use Rattle.tt_search.specs.inside.Children.{children_of}
 use Rattle.tt_search.specs.Settled.{strategy_for, pick_at}
 
 -- the entries of a list of strategies, and others behind them

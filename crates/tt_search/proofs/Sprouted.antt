@@ -5,12 +5,12 @@ use Rattle.tt_game.specs.declared.frame.Side.{Side}
 use Rattle.tt_game.specs.Game.{winner_of}
 use Rattle.tt_search.specs.PartialTree.{PartialTree, fresh, won}
 use Rattle.tt_search.specs.Numbers.{IsUndecided}
-use Rattle.tt_search.specs.Edges.{edge_turn, edge_state_of, edge_turns, edge_trees, tree_of, grown_in, child_at}
-use Rattle.tt_search.specs.ChildNodes.{HasItsNodes, child_of}
-use Rattle.tt_search.specs.Walking.{Stand, stage, stand_of}
-use Rattle.tt_search.specs.Taken.{Taken, IsLeft}
-use Rattle.tt_search.specs.Steady.{AreStepsAt}
-use Rattle.tt_search.specs.Sprouting.{IsFreshAt, IsPut, Sprouts, StepsBelowAt, StepsBelow}
+use Rattle.tt_search.specs.inside.Edges.{edge_turn, edge_state_of, edge_turns, edge_trees, tree_of, grown_in, child_at}
+use Rattle.tt_search.specs.inside.ChildNodes.{HasItsNodes, child_of}
+use Rattle.tt_search.specs.inside.Walking.{Stand, stage, stand_of}
+use Rattle.tt_search.specs.inside.Taken.{Taken, IsLeft}
+use Rattle.tt_search.specs.inside.Steady.{AreStepsAt}
+use Rattle.tt_search.specs.inside.Sprouting.{IsFreshAt, IsPut, Sprouts, StepsBelowAt, StepsBelow}
 use Rattle.tt_search.specs.declared.edges.Edge.{Edge}
 use Rattle.tt_search.specs.declared.edges.EdgeState.{EdgeState}
 use Rattle.tt_search.specs.declared.edges.EdgeState.TheVariants.{Fresh, Won, Grown}

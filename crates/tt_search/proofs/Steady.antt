@@ -8,10 +8,10 @@ use Rattle.tt_game.specs.Line.{Standing}
 use Rattle.tt_search.specs.PartialTree.{PartialTree, expanded}
 use Rattle.tt_search.specs.Numbers.{combined, number, numbers, count, IsUndecided}
 use Rattle.tt_search.specs.MostProving.{first_least, best}
-use Rattle.tt_search.specs.Walking.{Stand, Stage, stage, stand, stand_of, stand_after, MayGrow}
-use Rattle.tt_search.specs.Taken.{Taken, IsLeft}
-use Rattle.tt_search.specs.Steady.{HaveSameNumbers, IsGrowth, Steady, AreStepsAt}
-use Rattle.tt_search.specs.Children.{children_of}
+use Rattle.tt_search.specs.inside.Walking.{Stand, Stage, stage, stand, stand_of, stand_after, MayGrow}
+use Rattle.tt_search.specs.inside.Taken.{Taken, IsLeft}
+use Rattle.tt_search.specs.inside.Steady.{HaveSameNumbers, IsGrowth, Steady, AreStepsAt}
+use Rattle.tt_search.specs.inside.Children.{children_of}
 use Rattle.tt_search.specs.declared.limits.Step.{Step}
 use Rattle.tt_search.specs.declared.limits.Step.TheVariants.{Expanded, Closed}
 use Rattle.tt_search.specs.declared.walk.Stop.{Stop}

@@ -7,10 +7,10 @@ use Rattle.tt_search.specs.PartialTree.{PartialTree, fresh, won, closed, expande
 use Rattle.tt_search.specs.Numbers.{count, IsUndecided}
 use Rattle.tt_search.specs.MostProving.{most_proving_state, most_proving_depth}
 use Rattle.tt_search.specs.Growing.{expansion, IsPartialTree, IsExpansion, IsClosing}
-use Rattle.tt_search.specs.Within.{StaysWithin, AllStayWithin}
-use Rattle.tt_search.specs.Taken.{Taken}
-use Rattle.tt_search.specs.Searching.{IsSearch}
-use Rattle.tt_search.specs.Walking.{Stand, Stage, stand, MayGrow}
+use Rattle.tt_search.specs.inside.Within.{StaysWithin, AllStayWithin}
+use Rattle.tt_search.specs.inside.Taken.{Taken}
+use Rattle.tt_search.specs.inside.Searching.{IsSearch}
+use Rattle.tt_search.specs.inside.Walking.{Stand, Stage, stand, MayGrow}
 use Rattle.tt_search.specs.declared.limits.Limits.{Limits}
 use Rattle.tt_search.specs.declared.limits.Step.{Step}
 use Rattle.tt_search.specs.declared.limits.Step.TheVariants.{Expanded, Closed, Settled, Stuck}

@@ -7,8 +7,8 @@ use Rattle.tt_game.specs.declared.frame.Side.TheVariants.{Attacker, Defender}
 use Rattle.tt_game.specs.declared.turns.Turn.{Turn}
 use Rattle.tt_game.specs.declared.frame.Frame.{Frame}
 use Rattle.tt_game.specs.Game.{State, IsLegal, after, winner_of}
-use Rattle.tt_game.specs.Members.{IsIn, in_of_contains}
-use Rattle.tt_game.specs.TurnLaws.{AreLegal, RisesFrom, are_legal, contains-legal_turns, rises_from_0}
+use Rattle.tt_game.specs.laws.Members.{IsIn, in_of_contains}
+use Rattle.tt_game.specs.laws.TurnLaws.{AreLegal, RisesFrom, are_legal, contains-legal_turns, rises_from_0}
 use Rattle.tt_game.specs.Turns.{legal_turns}
 use Rattle.tt_proof.specs.Strategy.{Strategy, Entries, depth, depth_of_entries, IsInOrder, AreInOrder, number_on}
 use Rattle.tt_proof.specs.Proven.{IsWon}
@@ -17,9 +17,9 @@ use Rattle.tt_search.specs.PartialTree.{PartialTree, fresh, won, closed, expande
 use Rattle.tt_search.specs.Numbers.{is_same, least, capped_sum, decided_number, number, numbers}
 use Rattle.tt_search.specs.MostProving.{place}
 use Rattle.tt_search.specs.Growing.{IsPartialTree, ArePartialTrees}
-use Rattle.tt_search.specs.Within.{StaysWithin, AllStayWithin}
+use Rattle.tt_search.specs.inside.Within.{StaysWithin, AllStayWithin}
 use Rattle.tt_search.specs.Settled.{strategy_for, first_settled, picked_or_replied, pick_at, replies}
-use Rattle.tt_search.specs.Joining.{AreZero}
+use Rattle.tt_search.specs.inside.Joining.{AreZero}
 
 -- ---- numbers that are 0
 

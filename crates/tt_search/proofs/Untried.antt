@@ -6,12 +6,12 @@ use Rattle.tt_game.specs.declared.frame.Side.{Side}
 use Rattle.std.proofs.lemmas.List.{length_push}
 use Rattle.tt_sgf.specs.declared.size.TheConstants.{MOST_POINTS}
 use Rattle.tt_game.specs.declared.turns.Turn.TheVariants.{Play, Pass}
-use Rattle.tt_search.specs.Children.{children_of}
-use Rattle.tt_search.specs.Choices.{node_with}
+use Rattle.tt_search.specs.inside.Children.{children_of}
+use Rattle.tt_search.specs.inside.Choices.{node_with}
 use Rattle.tt_search.specs.Numbers.{is_same, number, least, capped_sum}
-use Rattle.tt_search.specs.ChildNodes.{choices_with}
-use Rattle.tt_search.specs.Edges.{edge_turn, edge_state_of, turn_at, edge_turns, edge_trees, counted, grown_in, AreFresh}
-use Rattle.tt_search.specs.Untried.{fresh_edge, plays_in, AreBelow, AreUntried}
+use Rattle.tt_search.specs.inside.ChildNodes.{choices_with}
+use Rattle.tt_search.specs.inside.Edges.{edge_turn, edge_state_of, turn_at, edge_turns, edge_trees, counted, grown_in, AreFresh}
+use Rattle.tt_search.specs.inside.Untried.{fresh_edge, plays_in, AreBelow, AreUntried}
 use Rattle.tt_search.proofs.FreshRows.{ones, least_ones, capped_ones}
 use Rattle.tt_search.proofs.Strategies.{own_zero, other_zero}
 use Rattle.tt_search.specs.declared.edges.Edge.{Edge}

@@ -2,12 +2,12 @@
 use Rattle.std.proofs.Common.{◌≡◌, ℕ, ◌<◌, ◌∷◌, length, get_or, refl, sym, ◌∙◌, ap, subst}
 use Rattle.tt_game.specs.declared.turns.Turn.{Turn}
 use Rattle.tt_game.specs.Game.{IsLegal, after}
-use Rattle.tt_game.specs.TurnLaws.{contains-legal_turns}
+use Rattle.tt_game.specs.laws.TurnLaws.{contains-legal_turns}
 use Rattle.tt_search.specs.PartialTree.{PartialTree, fresh}
-use Rattle.tt_search.specs.Choices.{Choices, node_with, best_place, best_child, with_best}
-use Rattle.tt_search.specs.Walking.{Stand, stage, stand, stand_of, stand_after, MayGrow, IsDown}
-use Rattle.tt_search.specs.Steady.{AreStepsAt, AreSteps}
-use Rattle.tt_search.specs.Sprouting.{BestSteps}
+use Rattle.tt_search.specs.inside.Choices.{Choices, node_with, best_place, best_child, with_best}
+use Rattle.tt_search.specs.inside.Walking.{Stand, stage, stand, stand_of, stand_after, MayGrow, IsDown}
+use Rattle.tt_search.specs.inside.Steady.{AreStepsAt, AreSteps}
+use Rattle.tt_search.specs.inside.Sprouting.{BestSteps}
 use Rattle.tt_search.specs.declared.limits.Step.{Step}
 use Rattle.tt_search.specs.declared.walk.Stop.{Stop}
 use Rattle.tt_search.specs.declared.walk.Walk.{Walk}

@@ -10,31 +10,7 @@ pub mod Stores
 pub mod Usable
 pub mod Grants
 pub mod KeyIndex
+-- What crates above cite: laws of the definitions, with their proofs. Nobody has to believe these.
+pub mod laws
 -- What private contracts and proofs cite. Nobody has to believe these.
-pub mod Children
-pub mod PartialTreeCode
-pub mod Weight
-pub mod Edges
-pub mod EdgeRow
-pub mod Untried
-pub mod Expanding
-pub mod Choices
-pub mod ChildNodes
-pub mod Kept
-pub mod Child
-pub mod Pairs
-pub mod Shape
-pub mod Cached
-pub mod Offered
-pub mod Joining
-pub mod Falls
-pub mod Within
-pub mod Walking
-pub mod Taken
-pub mod Steady
-pub mod Asking
-pub mod Descending
-pub mod Sprouting
-pub mod Searching
-pub mod Advanced
-pub mod Buckets
+pub mod inside

@@ -2,7 +2,7 @@
 
 ghost use Rattle.std.specs.Prelude.{◌≡◌, ◌<◌, ◌≤◌, [], length, slice_index_or};
 ghost use Rattle.tt_search.specs.declared.edges.TheConstants.{TURNS};
-ghost use Rattle.tt_search.specs.Edges.{edge_turns, edge_trees, grown_in};
+ghost use Rattle.tt_search.specs.inside.Edges.{edge_turns, edge_trees, grown_in};
 
 use crate::edge_row::Edges;
 use crate::edges::{Edge, EdgeState};
@@ -37,10 +37,10 @@ pub(crate) enum Child<'a> {
 }
 
 impl ChildNodes {
-    ghost use Rattle.tt_search.specs.ChildNodes.{choices_of};
-    ghost use Rattle.tt_search.specs.Choices.{node_with};
-    ghost use Rattle.tt_search.specs.Kept.{IsKept};
-    ghost use Rattle.tt_search.specs.Pairs.{ArePair};
+    ghost use Rattle.tt_search.specs.inside.ChildNodes.{choices_of};
+    ghost use Rattle.tt_search.specs.inside.Choices.{node_with};
+    ghost use Rattle.tt_search.specs.inside.Kept.{IsKept};
+    ghost use Rattle.tt_search.specs.inside.Pairs.{ArePair};
 
     /// Children of which none has grown, which of them to go to, and the numbers of the mover and of the other side at
     /// their node.
@@ -76,8 +76,8 @@ impl ChildNodes {
 }
 
 impl ChildNodes {
-    ghost use Rattle.tt_search.specs.Child.{child_tree};
-    ghost use Rattle.tt_search.specs.ChildNodes.{HasItsNodes, IsRank, child_of};
+    ghost use Rattle.tt_search.specs.inside.Child.{child_tree};
+    ghost use Rattle.tt_search.specs.inside.ChildNodes.{HasItsNodes, IsRank, child_of};
 
     /// The child at a place, and of a rank.
     pub(crate) fn child(&self, place: usize, rank: usize) -> Child<'_>
@@ -95,8 +95,8 @@ impl ChildNodes {
 }
 
 impl<'a> Child<'a> {
-    ghost use Rattle.tt_search.specs.Child.{child_tree};
-    ghost use Rattle.tt_search.specs.Edges.{edge_state_of, tree_of, grown_behind, counted};
+    ghost use Rattle.tt_search.specs.inside.Child.{child_tree};
+    ghost use Rattle.tt_search.specs.inside.Edges.{edge_state_of, tree_of, grown_behind, counted};
 
     /// The child behind an edge, where these are the nodes of the children that have grown, from this one on; and the
     /// nodes of those behind it.

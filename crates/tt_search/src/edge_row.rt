@@ -29,7 +29,7 @@ impl Model for Edges {
 
     ghost Value = { List Edge };
 
-    ghost use Rattle.tt_search.specs.EdgeRow.{edges_of, AreWithin};
+    ghost use Rattle.tt_search.specs.inside.EdgeRow.{edges_of, AreWithin};
 
     ghost view = { λ r. edges_of r.form };
 

@@ -1,8 +1,8 @@
 //! The ways from an expanded node to its children, two bytes each.
 
 ghost use Rattle.std.specs.Prelude.{◌≡◌};
-ghost use Rattle.tt_search.specs.Edges.{edge_turn, edge_state_of};
-ghost use Rattle.tt_search.specs.Untried.{fresh_edge};
+ghost use Rattle.tt_search.specs.inside.Edges.{edge_turn, edge_state_of};
+ghost use Rattle.tt_search.specs.inside.Untried.{fresh_edge};
 ghost use Rattle.tt_sgf.specs.declared.size.TheConstants.{MOST_POINTS};
 
 use tt_game::{Side, Turn};

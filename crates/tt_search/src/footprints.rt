@@ -4,17 +4,17 @@
 ghost use Rattle.std.specs.Prelude.{◌≡◌, length, IfOk};
 ghost use Rattle.tt_game.specs.declared.frame.Frame.{Frame};
 ghost use Rattle.tt_game.specs.Game.{State, IsLegal, after};
-ghost use Rattle.tt_game.specs.TurnLaws.{AreLegal};
+ghost use Rattle.tt_game.specs.laws.TurnLaws.{AreLegal};
 ghost use Rattle.tt_proof.specs.Proven.{IsWon};
 ghost use Rattle.tt_proof.specs.Strategy.{reply};
 ghost use Rattle.tt_proof.specs.KeptFootprints.{IsFootprint, IsBoardAfter, AreLegalPlays};
-ghost use Rattle.tt_search.specs.Joining.{IsSettledAt, AreSettledAt};
+ghost use Rattle.tt_search.specs.inside.Joining.{IsSettledAt, AreSettledAt};
 ghost use Rattle.tt_search.specs.Settled.{strategy_for, first_settled, pick_at, replies};
-ghost use Rattle.tt_search.specs.Children.{children_of};
-ghost use Rattle.tt_search.specs.Edges.{edge_turns, edge_trees};
-ghost use Rattle.tt_search.specs.Choices.{node_with};
-ghost use Rattle.tt_search.specs.ChildNodes.{HasItsNodes, children_in, choices_of};
-ghost use Rattle.tt_search.specs.Child.{child_tree};
+ghost use Rattle.tt_search.specs.inside.Children.{children_of};
+ghost use Rattle.tt_search.specs.inside.Edges.{edge_turns, edge_trees};
+ghost use Rattle.tt_search.specs.inside.Choices.{node_with};
+ghost use Rattle.tt_search.specs.inside.ChildNodes.{HasItsNodes, children_in, choices_of};
+ghost use Rattle.tt_search.specs.inside.Child.{child_tree};
 
 use crate::children::{Child, ChildNodes};
 use crate::edges::Edge;

@@ -6,7 +6,7 @@ ghost use Rattle.tt_proof.specs.Proven.{Proven};
 ghost use Rattle.tt_game.specs.declared.frame.Side.TheVariants.{Attacker, Defender};
 ghost use Rattle.tt_search.specs.Stores.{AnswersFor, IsNewest};
 ghost use Rattle.tt_search.specs.KeyIndex.{index_hash, index_hashes, proof_at, IsPlaceOfNewest};
-ghost use Rattle.tt_search.specs.Buckets.{bucket_of_hash, AreLongEnough, AreBuckets, IsLastWithHash};
+ghost use Rattle.tt_search.specs.inside.Buckets.{bucket_of_hash, AreLongEnough, AreBuckets, IsLastWithHash};
 
 use std::alloc::Global;
 use std::marker::Model;
@@ -133,7 +133,7 @@ pub struct KeyIndex {
 impl Model for KeyIndex {
     ghost use Rattle.std.specs.Prelude.{◌-◌, min, length, vec_len, vec_capacity};
     ghost use Rattle.tt_search.specs.KeyIndex.{IndexState};
-    ghost use Rattle.tt_search.specs.Buckets.{AreLongEnough, MayHoldHashes, AreBuckets};
+    ghost use Rattle.tt_search.specs.inside.Buckets.{AreLongEnough, MayHoldHashes, AreBuckets};
 
     ghost Value = { IndexState };
 

@@ -3,16 +3,16 @@
 ghost use Rattle.std.specs.Prelude.{◌≡◌, ◌≤◌, None, [], length, IfOk, IfSome};
 ghost use Rattle.tt_game.specs.Game.{winner_of};
 ghost use Rattle.tt_search.specs.PartialTree.{expanded, closed};
-ghost use Rattle.tt_search.specs.Children.{children_of};
+ghost use Rattle.tt_search.specs.inside.Children.{children_of};
 ghost use Rattle.tt_search.specs.declared.edges.TheConstants.{TURNS};
-ghost use Rattle.tt_search.specs.Edges.{edge_turn, edge_state_of, tree_of, edge_turns, edge_trees, counted, grown_in};
+ghost use Rattle.tt_search.specs.inside.Edges.{edge_turn, edge_state_of, tree_of, edge_turns, edge_trees, counted, grown_in};
 ghost use Rattle.tt_game.specs.MoveGenerators.{IsMoveGenerator};
 ghost use Rattle.tt_search.specs.Growing.{leaf_for, expansion};
-ghost use Rattle.tt_search.specs.Expanding.{AreNewEdges};
-ghost use Rattle.tt_search.specs.Choices.{node_with};
-ghost use Rattle.tt_search.specs.ChildNodes.{choices_of, choices_with};
-ghost use Rattle.tt_search.specs.Kept.{IsKept};
-ghost use Rattle.tt_search.specs.Untried.{plays_and_pass, AreUntried};
+ghost use Rattle.tt_search.specs.inside.Expanding.{AreNewEdges};
+ghost use Rattle.tt_search.specs.inside.Choices.{node_with};
+ghost use Rattle.tt_search.specs.inside.ChildNodes.{choices_of, choices_with};
+ghost use Rattle.tt_search.specs.inside.Kept.{IsKept};
+ghost use Rattle.tt_search.specs.inside.Untried.{plays_and_pass, AreUntried};
 
 use crate::children::{BestChild, ChildNodes};
 use crate::edge_row::Edges;

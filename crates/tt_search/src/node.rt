@@ -34,16 +34,16 @@ pub(crate) enum Growth {
 
 impl Model for Node {
     ghost use Rattle.tt_search.specs.PartialTree.{PartialTree};
-    ghost use Rattle.tt_search.specs.PartialTreeCode.{partial_code};
-    ghost use Rattle.tt_search.specs.Weight.{weight};
+    ghost use Rattle.tt_search.specs.laws.PartialTreeCode.{partial_code};
+    ghost use Rattle.tt_search.specs.inside.Weight.{weight};
 
     ghost Value = { PartialTree };
 
     ghost coded = { partial_code };
 
-    ghost use Rattle.tt_search.specs.Shape.{shape};
-    ghost use Rattle.tt_search.specs.Cached.{IsCached};
-    ghost use Rattle.tt_search.specs.Offered.{HoldsItsOwn};
+    ghost use Rattle.tt_search.specs.inside.Shape.{shape};
+    ghost use Rattle.tt_search.specs.inside.Cached.{IsCached};
+    ghost use Rattle.tt_search.specs.inside.Offered.{HoldsItsOwn};
 
     ghost view = { λ a. shape a.growth };
 
@@ -51,7 +51,7 @@ impl Model for Node {
 
     ghost size = { weight };
 
-    ghost use Rattle.tt_search.specs.Falls.{deep-weight};
+    ghost use Rattle.tt_search.specs.inside.Falls.{deep-weight};
 
     ghost size_decreases = { λ a h. deep-weight a.growth h.1 };
 }

@@ -1,9 +1,9 @@
 //! Proof and disproof numbers of nodes.
 
 ghost use Rattle.std.specs.Prelude.{◌≡◌, ◌<◌, ◌≤◌, length, take, IsTrue};
-ghost use Rattle.tt_search.specs.Edges.{edge_state_of, edge_trees, counted, grown_in, AreFresh};
+ghost use Rattle.tt_search.specs.inside.Edges.{edge_state_of, edge_trees, counted, grown_in, AreFresh};
 ghost use Rattle.tt_search.specs.Numbers.{is_same, decided_number, cap, infinite, numbers, least, capped_sum};
-ghost use Rattle.tt_search.specs.Children.{children_of};
+ghost use Rattle.tt_search.specs.inside.Children.{children_of};
 ghost use Rattle.tt_search.specs.declared.edges.TheConstants.{TURNS};
 ghost use Rattle.tt_search.specs.MostProving.{best};
 ghost use Rattle.tt_search.specs.Settled.{first_settled};
@@ -50,8 +50,8 @@ pub(crate) fn decided_number(goal: Side, side: Side) -> u32
 
 impl Pair {
     ghost use Rattle.tt_search.specs.PartialTree.{PartialTree};
-    ghost use Rattle.tt_search.specs.Pairs.{ArePair};
-    ghost use Rattle.tt_search.specs.Cached.{IsCached};
+    ghost use Rattle.tt_search.specs.inside.Pairs.{ArePair};
+    ghost use Rattle.tt_search.specs.inside.Cached.{IsCached};
 
     /// The numbers of the side and of its opponent, from the proof number and the disproof number.
     pub(crate) fn of(side: Side, proof: u32, disproof: u32) -> Pair
@@ -81,7 +81,7 @@ impl Pair {
 }
 
 impl Child<'_> {
-    ghost use Rattle.tt_search.specs.Child.{child_tree};
+    ghost use Rattle.tt_search.specs.inside.Child.{child_tree};
     ghost use Rattle.tt_search.specs.Numbers.{number};
 
     /// The number of a goal.
@@ -101,8 +101,8 @@ impl ChildNodes {
     ghost use Rattle.tt_search.specs.Numbers.{numbers, least, infinite, capped_sum};
     ghost use Rattle.tt_search.specs.MostProving.{best};
     ghost use Rattle.tt_search.specs.Settled.{first_settled};
-    ghost use Rattle.tt_search.specs.ChildNodes.{children_in, HasItsNodes, IsRank, AreFew};
-    ghost use Rattle.tt_search.specs.Pairs.{changed_sum};
+    ghost use Rattle.tt_search.specs.inside.ChildNodes.{children_in, HasItsNodes, IsRank, AreFew};
+    ghost use Rattle.tt_search.specs.inside.Pairs.{changed_sum};
 
     /// The child to go to: the first one with the least number of the side to move. None has a number below `from`, so the look ends at
     /// the first one that has it.

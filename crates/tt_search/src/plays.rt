@@ -1,7 +1,7 @@
 //! The turns of a node of which none has been tried.
 
 ghost use Rattle.std.specs.Prelude.{◌≡◌, ◌++◌, ◌∷◌, [], IfOk, length};
-ghost use Rattle.tt_search.specs.Untried.{fresh_edge, plays_and_pass, AreBelow};
+ghost use Rattle.tt_search.specs.inside.Untried.{fresh_edge, plays_and_pass, AreBelow};
 
 use crate::edge_row::Edges;
 use crate::edges::Edge;
@@ -22,7 +22,7 @@ impl Model for Plays {
     ghost use Rattle.tt_sgf.specs.Words.{bit_in};
     ghost use Rattle.tt_sgf.specs.declared.size.TheConstants.{MOST_POINTS};
     ghost use Rattle.tt_search.specs.declared.edges.Edge.{Edge};
-    ghost use Rattle.tt_search.specs.Untried.{plays_in};
+    ghost use Rattle.tt_search.specs.inside.Untried.{plays_in};
 
     ghost Value = { List Edge };
 

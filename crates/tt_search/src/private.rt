@@ -30,7 +30,7 @@ impl Model for PrivateStore {
     ghost use Rattle.std.specs.Coded.{codes};
     ghost use Rattle.tt_sgf.specs.contracts.sets.PointSet as points;
     ghost use Rattle.std.specs.Arc.{arc_value};
-    ghost use Rattle.tt_proof.specs.StrategyCode.{strategy_code};
+    ghost use Rattle.tt_proof.specs.laws.StrategyCode.{strategy_code};
     ghost use Rattle.tt_search.specs.Stores.{Keeping};
     ghost use Rattle.tt_search.specs.KeyIndex.{index_hashes};
 

@@ -7,8 +7,8 @@ ghost use Rattle.tt_search.specs.Growing.{new_leaf, IsGrown};
 ghost use Rattle.tt_search.specs.Searched.{IsProofOf, IsSameProblem, StepOf};
 ghost use Rattle.tt_search.specs.Ended.{EndOf, HasSpent, SpentBy};
 ghost use Rattle.tt_search.specs.Grants.{AskedBy};
-ghost use Rattle.tt_search.specs.Asking.{AreAsked};
-ghost use Rattle.tt_search.specs.Advanced.{IsAdvanced};
+ghost use Rattle.tt_search.specs.inside.Asking.{AreAsked};
+ghost use Rattle.tt_search.specs.inside.Advanced.{IsAdvanced};
 
 use crate::grants::Grants;
 use crate::leaves::new_leaf;
@@ -41,10 +41,10 @@ pub struct Search {
 impl Model for Search {
     ghost use Rattle.tt_sgf.specs.contracts.sets.PointSet as points;
     ghost use Rattle.std.specs.Coded.{codes};
-    ghost use Rattle.tt_search.specs.PartialTreeCode.{partial_code};
+    ghost use Rattle.tt_search.specs.laws.PartialTreeCode.{partial_code};
     ghost use Rattle.tt_search.specs.Searched.{Searched};
-    ghost use Rattle.tt_search.specs.Searching.{IsSearch};
-    ghost use Rattle.tt_search.specs.Walking.{stage, stand_of};
+    ghost use Rattle.tt_search.specs.inside.Searching.{IsSearch};
+    ghost use Rattle.tt_search.specs.inside.Walking.{stage, stand_of};
 
     ghost Value = { Searched };
 

@@ -3,7 +3,7 @@
 ghost use Rattle.std.specs.Prelude.{◌≡◌, ◌<◌, ◌↔◌, ◌+◌, ◌∷◌, true, length, OnOk, OnErr};
 ghost use Rattle.tt_game.specs.Game.{IsLegal};
 ghost use Rattle.tt_proof.specs.declared.tree.TheConstants.{MOST_DEPTH};
-ghost use Rattle.tt_search.specs.Walking.{IsDown};
+ghost use Rattle.tt_search.specs.inside.Walking.{IsDown};
 ghost use Rattle.tt_search.specs.declared.walk.Stop.TheVariants.{OneStep};
 
 use std::alloc::Global;

@@ -17,7 +17,7 @@ use Rattle.tt_sgf.specs.Grammar.{is_blank}
 use Rattle.tt_sgf.specs.Values.{StandsIn, trimmed}
 use Rattle.tt_sgf.specs.Entries.{IsEntry, HasCorners, Covers, AnyCovers, AreEntries, corner_in, between, entry_of, in_rectangle, covers_by, covers, is_entry, set_of}
 use Rattle.tt_sgf.specs.Points.{passing}
-use Rattle.tt_sgf.specs.PointLaws.{contains-passing}
+use Rattle.tt_sgf.specs.laws.PointLaws.{contains-passing}
 use Rattle.tt_sgf.proofs.NumberLemmas.{trimmed_is, trimmed_stands}
 
 -- ---- texts of two and of five bytes

@@ -9,7 +9,7 @@ use Rattle.tt_sgf.specs.declared.nodes.Node.{Node}
 use Rattle.tt_sgf.specs.declared.trees.Event.{Event}
 use Rattle.tt_sgf.specs.declared.trees.Event.TheVariants.{Open, Close, Item}
 use Rattle.tt_sgf.specs.Grammar.{is_blank, is_word, is_upper, is_digit, is_lower, IsBlank, AreProperties}
-use Rattle.tt_sgf.specs.Reading.{◌>>=◌, properties_at, event_of, event_at}
+use Rattle.tt_sgf.specs.inside.Reading.{◌>>=◌, properties_at, event_of, event_at}
 use Rattle.tt_sgf.specs.Values.{after_blanks}
 use Rattle.tt_sgf.proofs.TokenLemmas.{bind_some, after_blanks-other, after_blanks-again, blanks_take}
 use Rattle.tt_sgf.proofs.ListLemmas.{Ends, after_blanks_at, properties_take, properties_again}

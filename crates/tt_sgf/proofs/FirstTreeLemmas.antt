@@ -8,7 +8,7 @@ use Rattle.tt_sgf.specs.declared.nodes.Node.{Node}
 use Rattle.tt_sgf.proofs.GrammarLemmas.{one_tree}
 use Rattle.tt_sgf.specs.declared.nodes.Property.{Property}
 use Rattle.tt_sgf.specs.Grammar.{AreProperties, AreNodes, AreTrees, GameTree, Trees, game, no_tree, more_trees, Spells, main_line, first_main_line, SpelledUpTo, IsMainLine}
-use Rattle.tt_sgf.specs.Reading.{Begins}
+use Rattle.tt_sgf.specs.inside.Reading.{Begins}
 
 -- some byte is a `(`
 abbrev pub has_open : List ℕ → Bool

@@ -7,7 +7,7 @@ use Rattle.tt_sgf.specs.declared.nodes.Node.{Node}
 use Rattle.tt_sgf.specs.declared.trees.Event.{Event}
 use Rattle.tt_sgf.specs.declared.trees.Event.TheVariants.{Open, Close, Item}
 use Rattle.tt_sgf.specs.Grammar.{IsBlank, AreNodes, GameTree, Trees, game, no_tree, more_trees, Spells, AreTrees}
-use Rattle.tt_sgf.specs.Reading.{Begins}
+use Rattle.tt_sgf.specs.inside.Reading.{Begins}
 use Rattle.tt_sgf.proofs.ListLemmas.{Ends}
 use Rattle.tt_sgf.proofs.EventLemmas.{event_takes, event_behind_blanks, event_open, event_close, event_item, Ends_open, Ends_close, Ends_item, EventsAt, two_rows}
 

@@ -7,7 +7,7 @@ use Rattle.std.proofs.lemmas.List.{length-append}
 use Rattle.tt_sgf.specs.Bytes.{close_value, open_value}
 use Rattle.tt_sgf.specs.declared.nodes.Property.{Property}
 use Rattle.tt_sgf.specs.Grammar.{is_blank, is_word, is_upper, is_kept, is_digit, is_lower, IsBlank, IsRaw, IsWord, IsIdent, AreValues, AreProperties}
-use Rattle.tt_sgf.specs.Reading.{◌>>=◌, with_first, begins, behind, has_none, word_of, after_word, repeat, opens_value, value_at, values_at, property_at, opens_property}
+use Rattle.tt_sgf.specs.inside.Reading.{◌>>=◌, with_first, begins, behind, has_none, word_of, after_word, repeat, opens_value, value_at, values_at, property_at, opens_property}
 use Rattle.tt_sgf.specs.Values.{after_blanks}
 use Rattle.tt_sgf.proofs.TokenLemmas.{bind_some, after_blanks-other, after_blanks-again, blanks_take, raw_again, raw_takes, word_again, word_takes}
 use Rattle.tt_sgf.proofs.RepeatLemmas.{repeat_stop, repeat_bad, repeat_item, repeat_none, Shrinks, all_at, all_item}

@@ -5,7 +5,7 @@ use Rattle.tt_sgf.specs.Bytes.{open_value}
 use Rattle.tt_sgf.specs.declared.faults.SgfFault.{SgfFault}
 use Rattle.tt_sgf.specs.declared.faults.SgfFault.TheVariants as faults
 use Rattle.tt_sgf.specs.declared.nodes.Property.{Property}
-use Rattle.tt_sgf.specs.Reading.{◌>>=◌, Fails, raw_at, opens_value, value_at, values_at, property_at, opens_property, properties_at}
+use Rattle.tt_sgf.specs.inside.Reading.{◌>>=◌, Fails, raw_at, opens_value, value_at, values_at, property_at, opens_property, properties_at}
 use Rattle.tt_sgf.specs.Values.{after_blanks}
 use Rattle.tt_sgf.proofs.TokenLemmas.{with_front}
 use Rattle.tt_sgf.proofs.RepeatLemmas.{repeat_stop, repeat_bad, all_more}

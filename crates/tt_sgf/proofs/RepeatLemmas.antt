@@ -1,6 +1,6 @@
 -- One item after another: the number of tries doesn't matter where each item takes something.
 use Rattle.std.proofs.Common.{◌≡◌, ℕ, zero, suc, ◌<◌, Bool, true, false, List, [], ◌∷◌, ◌++◌, length, Option, Some, None, refl, sym, ap, ◌∙◌, arith}
-use Rattle.tt_sgf.specs.Reading.{◌>>=◌, with_first, repeat}
+use Rattle.tt_sgf.specs.inside.Reading.{◌>>=◌, with_first, repeat}
 use Rattle.tt_sgf.proofs.TokenLemmas.{with_front, with_front_more}
 
 module _ {X : Type 0} (more : List ℕ → Bool) (item : List ℕ → Option (X × List ℕ)) where

@@ -7,7 +7,7 @@ use Rattle.std.specs.List.{list_any}
 use Rattle.tt_sgf.specs.Bytes.{colon}
 use Rattle.tt_sgf.specs.declared.size.Size.{Size}
 use Rattle.tt_sgf.specs.Grammar.{is_blank, is_digit}
-use Rattle.tt_sgf.specs.SizeLaws.{sized_is, sized_takes}
+use Rattle.tt_sgf.specs.laws.SizeLaws.{sized_is, sized_takes}
 use Rattle.tt_sgf.specs.Values.{AreDigits, IsNumeral, AreSides, IsBoardSize, trimmed, numeral_of, before_colon, behind_colon, both_sides, sides_of, size_of}
 use Rattle.tt_sgf.proofs.NumberLemmas.{NoBlank, trimmed_is, trimmed_stands, numeral_takes, numeral_again, numeral_no_blank}
 

@@ -6,7 +6,7 @@ use Rattle.std.proofs.lemmas.Option.{some_pair_parts}
 use Rattle.std.proofs.lemmas.List.{append-nil, drop_more, take_more, drop_all, take_all}
 use Rattle.tt_sgf.specs.Bytes.{backslash, close_value}
 use Rattle.tt_sgf.specs.Grammar.{is_blank, is_word, is_kept, IsBlank, IsRaw, IsWord}
-use Rattle.tt_sgf.specs.Reading.{◌>>=◌, with_first, raw_at, word_of, after_word, begins}
+use Rattle.tt_sgf.specs.inside.Reading.{◌>>=◌, with_first, raw_at, word_of, after_word, begins}
 use Rattle.tt_sgf.specs.Values.{after_blanks}
 
 -- ---- the value of a step

@@ -11,7 +11,7 @@ use Rattle.tt_sgf.specs.declared.trees.Event.TheVariants.{Open, Close, Item}
 use Rattle.tt_sgf.specs.declared.trees.Place.{Place}
 use Rattle.tt_sgf.specs.declared.trees.Place.TheVariants.{Opened, Nodes, Trees as Behind}
 use Rattle.tt_sgf.specs.Grammar.{GameTree, Trees, game, no_tree, more_trees, Spells, AreTrees, main_line, first_main_line}
-use Rattle.tt_sgf.specs.Reading.{Begins, event_at}
+use Rattle.tt_sgf.specs.inside.Reading.{Begins, event_at}
 use Rattle.tt_sgf.proofs.EventLemmas.{event_open, EventsAt, EventsAt-push, two_rows}
 use Rattle.tt_sgf.proofs.GrammarLemmas.{items_then, tree_then, trees_then, spelled, IsWhole, AreWhole, inside_begins}
 

@@ -7,10 +7,7 @@ pub mod Points
 pub mod Entries
 pub mod Words
 pub mod Faults
+-- What crates above cite: laws of the definitions, with their proofs. Nobody has to believe these.
+pub mod laws
 -- What private contracts and proofs cite. Nobody has to believe these.
-pub mod Reading
-pub mod TreeLaws
-pub mod SizeLaws
-pub mod PointLaws
-pub mod ShortForms
-pub mod ValueRows
+pub mod inside

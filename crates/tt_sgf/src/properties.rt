@@ -1,7 +1,7 @@
 //! Properties: an identifier with its values, and the lists of both.
 
 ghost use Rattle.std.specs.Prelude.{◌≡◌};
-ghost use Rattle.tt_sgf.specs.Reading.{values_at, property_at, opens_property, properties_at, Gives};
+ghost use Rattle.tt_sgf.specs.inside.Reading.{values_at, property_at, opens_property, properties_at, Gives};
 
 use super::faults::SgfFault;
 use super::items::add;

@@ -24,7 +24,7 @@ pub struct SmallBytes {
 
 impl Model for SmallBytes {
     ghost use Rattle.std.specs.Prelude.{ℕ, List};
-    ghost use Rattle.tt_sgf.specs.ShortForms.{kept_bytes, AreBytesWithin};
+    ghost use Rattle.tt_sgf.specs.inside.ShortForms.{kept_bytes, AreBytesWithin};
 
     ghost Value = { List ℕ };
 

@@ -3,7 +3,7 @@
 ghost use Rattle.std.specs.Prelude.{◌≡◌, ◌+◌, ◌<◌, length, false, not, IfOk, take, drop, Some, None, MatchOption, ◌∷◌, ◌==◌};
 ghost use Rattle.std.specs.List.{filter, list_any};
 ghost use Rattle.tt_sgf.specs.Grammar.{is_blank, is_word, is_kept, is_upper, is_digit};
-ghost use Rattle.tt_sgf.specs.Reading.{raw_at, word_of, after_word, begins, Gives};
+ghost use Rattle.tt_sgf.specs.inside.Reading.{raw_at, word_of, after_word, begins, Gives};
 ghost use Rattle.tt_sgf.specs.Values.{after_blanks};
 
 use super::faults::SgfFault;

@@ -5,7 +5,7 @@ ghost use Rattle.std.specs.Prelude.{◌≡◌, ℕ, ◌<◌, ◌≤◌, ◌⊎�
 ghost use Rattle.std.specs.List.{list_any};
 ghost use Rattle.tt_sgf.specs.Bytes.{open_tree};
 ghost use Rattle.tt_sgf.specs.Grammar.{GameTree, main_line, SpelledUpTo, HasNoTree, HasOpen, IsMainLine};
-ghost use Rattle.tt_sgf.specs.Reading.{event_at, Begins, Gives};
+ghost use Rattle.tt_sgf.specs.inside.Reading.{event_at, Begins, Gives};
 
 use super::faults::SgfFault;
 use super::items::Items;

@@ -1,7 +1,7 @@
 //! The values of a property, of which one takes no memory for itself.
 
 ghost use Rattle.std.specs.Prelude.{◌≡◌, ◌++◌, ◌∷◌, [], IfOk};
-ghost use Rattle.tt_sgf.specs.Reading.{has_none};
+ghost use Rattle.tt_sgf.specs.inside.Reading.{has_none};
 
 use super::faults::NoMemory;
 use super::items::add;
@@ -25,7 +25,7 @@ pub struct Values {
 
 impl Model for Values {
     ghost use Rattle.std.specs.Prelude.{ℕ, List};
-    ghost use Rattle.tt_sgf.specs.ValueRows.{row_values};
+    ghost use Rattle.tt_sgf.specs.inside.ValueRows.{row_values};
 
     ghost Value = { List (List ℕ) };
 

@@ -10,9 +10,9 @@ use Rattle.tt_share.specs.declared.jobs.JobResult.{JobResult}
 use Rattle.tt_share.specs.declared.jobs.SearchedJob.{SearchedJob}
 use Rattle.tt_share.specs.declared.workers.HandedBack.{HandedBack}
 use Rattle.tt_share.specs.Answers.{spent_in_all}
-use Rattle.tt_share.specs.Jobs.{kept_of}
-use Rattle.tt_share.specs.Results.{Progress, Puts, Notes}
-use Rattle.tt_share.specs.Workers.{times, spent_on, spent_by_all, held, held_in, AreApart, AddsSpare, jobs_of}
+use Rattle.tt_share.specs.inside.Jobs.{kept_of}
+use Rattle.tt_share.specs.inside.Results.{Progress, Puts, Notes}
+use Rattle.tt_share.specs.inside.Workers.{times, spent_on, spent_by_all, held, held_in, AreApart, AddsSpare, jobs_of}
 use Rattle.tt_share.proofs.ResultLemmas.{get_set_other}
 
 -- ---- how often a job is among results

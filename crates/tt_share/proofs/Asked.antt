@@ -5,8 +5,8 @@ use Rattle.tt_search.specs.Grants.{Asked}
 use Rattle.tt_share.specs.declared.jobs.JobResult.{JobResult}
 use Rattle.tt_share.specs.declared.jobs.JobResult.TheVariants as result
 use Rattle.tt_share.specs.declared.jobs.SearchedJob.{SearchedJob}
-use Rattle.tt_share.specs.Jobs.{IsForTotal, AsksFor, end_of, kept_of}
-use Rattle.tt_share.specs.Results.{Progress, AskedFor, Puts, Notes}
+use Rattle.tt_share.specs.inside.Jobs.{IsForTotal, AsksFor, end_of, kept_of}
+use Rattle.tt_share.specs.inside.Results.{Progress, AskedFor, Puts, Notes}
 use Rattle.tt_share.proofs.ResultLemmas.{read_after}
 
 -- what is kept as stuck for the total was so

@@ -16,7 +16,7 @@ use Rattle.tt_search.specs.declared.limits.Reason.TheVariants.{Budget, Depth, To
 use Rattle.tt_search.specs.declared.search.End.{End}
 use Rattle.tt_search.specs.declared.search.End.TheVariants.{Settled, Stuck}
 use Rattle.tt_share.specs.Answers.{IsBehind, IsCountBehind}
-use Rattle.tt_share.specs.Jobs.{AsksFor, EndsBehind, IsCounted, IsOfEnd, end_of}
+use Rattle.tt_share.specs.inside.Jobs.{AsksFor, EndsBehind, IsCounted, IsOfEnd, end_of}
 use Rattle.tt_share.specs.declared.jobs.JobResult.{JobResult}
 
 -- what a run spent rose by the count, whichever way it ends

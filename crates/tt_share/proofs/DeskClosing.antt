@@ -13,7 +13,7 @@ use Rattle.tt_share.specs.declared.rule.Ghost.{Ghost}
 use Rattle.tt_share.specs.declared.rule.Quota.{Quota}
 use Rattle.tt_share.specs.Desk.{view_of, no_seat, joined, sum_below, spare_count, EachSeat, IsDesk}
 use Rattle.tt_share.specs.Seats.{DeskView, SeatView, EachOnce, AllJobsDrawn, EndsSpare, Spends}
-use Rattle.tt_share.specs.Gathering.{Gathers}
+use Rattle.tt_share.specs.inside.Gathering.{Gathers}
 use Rattle.tt_share.proofs.DeskLists.{at_within, at_read, sum_set, sum_at, sum_le}
 use Rattle.tt_share.proofs.DeskMoves.{counts_room, each_set, right_true}
 

@@ -3,7 +3,7 @@ use Rattle.std.proofs.Common.{◌≡◌, ℕ, Bool, List, [], ◌∷◌, ◌++�
 use Rattle.std.proofs.lemmas.List.{map-append}
 use Rattle.atomic_table.specs.Seated.{TableId}
 use Rattle.tt_share.specs.Seats.{SeatView, seat_of}
-use Rattle.tt_share.specs.Workers.{AddsSpare, jobs_of}
+use Rattle.tt_share.specs.inside.Workers.{AddsSpare, jobs_of}
 use Rattle.tt_share.specs.declared.jobs.SearchedJob.{SearchedJob}
 
 -- one more result of a job that was drawn

@@ -5,8 +5,8 @@ use Rattle.std.proofs.lemmas.Option.{slice_get_within}
 use Rattle.tt_game.specs.declared.frame.Side.{Side}
 use Rattle.atomic_table.specs.Seated.{TableId}
 use Rattle.tt_share.specs.Seats.{SeatView, seat_of}
-use Rattle.tt_share.specs.Jobs.{IsDropped, IsStuck, IsWinFor, kept_of}
-use Rattle.tt_share.specs.Workers.{KeepsFirstStuck, SomeStuck, SomeWin, WinsAreLast}
+use Rattle.tt_share.specs.inside.Jobs.{IsDropped, IsStuck, IsWinFor, kept_of}
+use Rattle.tt_share.specs.inside.Workers.{KeepsFirstStuck, SomeStuck, SomeWin, WinsAreLast}
 use Rattle.tt_share.specs.declared.jobs.JobResult.{JobResult}
 use Rattle.tt_share.specs.declared.jobs.JobResult.TheVariants as result
 use Rattle.tt_share.specs.declared.jobs.SearchedJob.{SearchedJob}

@@ -9,14 +9,14 @@ use Rattle.tt_game.specs.declared.turns.Turn.{Turn}
 use Rattle.tt_game.specs.Game.{IsLegal, after, opponent, Forces}
 use Rattle.tt_game.specs.Line.{Standing}
 use Rattle.tt_game.specs.Turns.{legal_turns, turn_number, IsRising}
-use Rattle.tt_game.specs.TurnLaws.{contains-legal_turns, rising-legal_turns}
+use Rattle.tt_game.specs.laws.TurnLaws.{contains-legal_turns, rising-legal_turns}
 use Rattle.tt_proof.proofs.ForcesLemmas.{win_forces}
 use Rattle.tt_proof.specs.Strategy.{depth, depth_of_entries, entries_of}
 use Rattle.tt_proof.specs.Proven.{Proven, AreChildren, trees_of, turns_of}
 use Rattle.tt_search.specs.declared.limits.Limits.{Limits}
 use Rattle.tt_share.specs.Answers.{LesserLose}
-use Rattle.tt_share.specs.Jobs.{IsJob}
-use Rattle.tt_share.specs.Results.{IsLost, HaveLost}
+use Rattle.tt_share.specs.inside.Jobs.{IsJob}
+use Rattle.tt_share.specs.inside.Results.{IsLost, HaveLost}
 
 -- what holds of each element holds of the first one and of each of the others
 pub first_of_all : {X : Type 0} (P : X → Type 0) (x : X) (xs : List X) → All P (x ∷ xs) → P x

@@ -15,7 +15,7 @@ use Rattle.tt_proof.specs.Proven.{Proven}
 use Rattle.tt_search.specs.Stores.{AnswersFor, IsNewest}
 use Rattle.tt_game.specs.SameKey.{same_key}
 use Rattle.tt_share.specs.Table.{places_from, places_of}
-use Rattle.tt_game.specs.KeyLaws.{same_key_is}
+use Rattle.tt_game.specs.laws.KeyLaws.{same_key_is}
 use Rattle.tt_share.proofs.PlaceLemmas.{place_low}
 
 -- ---- the newest proof, by its place in the list

@@ -18,8 +18,8 @@ use Rattle.tt_share.specs.declared.jobs.JobResult.{JobResult}
 use Rattle.tt_search.specs.declared.search.End.TheVariants.{Stuck}
 use Rattle.tt_share.specs.declared.jobs.JobResult.TheVariants as result
 use Rattle.tt_share.specs.Answers.{IsSpent, spent_in_all}
-use Rattle.tt_share.specs.Jobs.{IsCounted, IsForTotal, IsJobCount, IsJob, end_of, kept_of}
-use Rattle.tt_share.specs.Results.{Progress, AreNoted, HasEnd, FilledBelow, IsAllSpent}
+use Rattle.tt_share.specs.inside.Jobs.{IsCounted, IsForTotal, IsJobCount, IsJob, end_of, kept_of}
+use Rattle.tt_share.specs.inside.Results.{Progress, AreNoted, HasEnd, FilledBelow, IsAllSpent}
 use Rattle.tt_share.proofs.ResultLemmas.{get_set_same, get_set_other}
 
 -- what stands at a place stands there as its image

@@ -12,10 +12,10 @@ use Rattle.std.specs.declared.alloc.Global.{Global}
 use Rattle.tt_game.specs.declared.keys.Key.{Key}
 use Rattle.tt_game.specs.Keys.{key_of}
 use Rattle.tt_game.specs.SameKey.{same_key}
-use Rattle.tt_game.specs.KeyLaws.{same_key_equiv, same_key_same}
+use Rattle.tt_game.specs.laws.KeyLaws.{same_key_equiv, same_key_same}
 use Rattle.tt_proof.specs.Proven.{Proven}
 use Rattle.tt_proof.specs.Nodes.{nodes}
-use Rattle.tt_share.specs.Places.{places_at, IsIndexOf}
+use Rattle.tt_share.specs.inside.Places.{places_at, IsIndexOf}
 use Rattle.tt_share.specs.Table.{places_from, places_of, nodes_of}
 
 -- one more element has its place at the end, if it passes

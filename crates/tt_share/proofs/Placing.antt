@@ -7,9 +7,9 @@ use Rattle.tt_search.specs.declared.limits.Limits.{Limits}
 use Rattle.tt_share.specs.declared.jobs.JobResult.{JobResult}
 use Rattle.tt_share.specs.declared.jobs.SearchedJob.{SearchedJob}
 use Rattle.tt_share.specs.declared.workers.HandedBack.{HandedBack}
-use Rattle.tt_share.specs.Jobs.{kept_of}
-use Rattle.tt_share.specs.Results.{Progress, Puts, HasEnd, IsPastStuck, KeepsEnds}
-use Rattle.tt_share.specs.Workers.{IsPlaced, AllPlaced, IsGiven, AreGiven, AllGiven}
+use Rattle.tt_share.specs.inside.Jobs.{kept_of}
+use Rattle.tt_share.specs.inside.Results.{Progress, Puts, HasEnd, IsPastStuck, KeepsEnds}
+use Rattle.tt_share.specs.inside.Workers.{IsPlaced, AllPlaced, IsGiven, AreGiven, AllGiven}
 use Rattle.tt_share.proofs.ResultLemmas.{read_after, get_set_same, get_set_other}
 
 -- what is known of what contracts see is known of the fields of results

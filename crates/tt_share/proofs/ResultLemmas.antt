@@ -6,7 +6,7 @@ use Rattle.tt_search.specs.declared.limits.Limits.{Limits}
 use Rattle.tt_share.specs.declared.jobs.JobResult.{JobResult}
 use Rattle.tt_game.specs.declared.turns.Turn.{Turn}
 use Rattle.tt_share.specs.declared.jobs.JobResult.TheVariants as result
-use Rattle.tt_share.specs.Jobs.{EndsBehind, IsResultOf, AreResults, end_of, kept_of}
+use Rattle.tt_share.specs.inside.Jobs.{EndsBehind, IsResultOf, AreResults, end_of, kept_of}
 use Rattle.tt_share.proofs.LastWins.{read_more}
 
 -- what is read after a write is what was written there, or what was read before it

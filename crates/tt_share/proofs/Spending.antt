@@ -17,11 +17,11 @@ use Rattle.tt_share.specs.declared.desk.Closed.{Closed}
 use Rattle.tt_share.specs.declared.jobs.SearchedJob.{SearchedJob}
 use Rattle.tt_share.specs.declared.workers.HandedBack.{HandedBack}
 use Rattle.tt_share.specs.Answers.{spent_in_all}
-use Rattle.tt_share.specs.Jobs.{IsForTotal, end_of}
-use Rattle.tt_share.specs.Results.{Progress, HasTotal, IsAllSpent, SpendsTotal, AskedFor}
+use Rattle.tt_share.specs.inside.Jobs.{IsForTotal, end_of}
+use Rattle.tt_share.specs.inside.Results.{Progress, HasTotal, IsAllSpent, SpendsTotal, AskedFor}
 use Rattle.tt_share.specs.Seats.{DeskView, SeatView, EndsSpare, EachOnce, Spends, Closes, granted_of, last_number, occurrences}
-use Rattle.tt_share.specs.Tallies.{Tallies}
-use Rattle.tt_share.specs.Workers.{times, spent_on, spent_by_all, held, held_in, AllApart, AllGiven, SomeTotal, IsWork}
+use Rattle.tt_share.specs.inside.Tallies.{Tallies}
+use Rattle.tt_share.specs.inside.Workers.{times, spent_on, spent_by_all, held, held_in, AllApart, AllGiven, SomeTotal, IsWork}
 use Rattle.tt_share.proofs.Apart.{none_times, held_most}
 use Rattle.tt_share.proofs.Asked.{total_kept}
 use Rattle.tt_share.proofs.LastWins.{read_more}

@@ -11,7 +11,7 @@ use Rattle.tt_search.specs.declared.search.End.TheVariants.{Stuck}
 use Rattle.tt_share.specs.declared.answer.Stuck as answer
 use Rattle.tt_search.specs.Growing.{IsGrown}
 use Rattle.tt_share.specs.Answers.{IsBehind, LesserLose, IsSpent, spent_shown_of, IsUnsettled}
-use Rattle.tt_share.specs.Jobs.{EndsBehind}
+use Rattle.tt_share.specs.inside.Jobs.{EndsBehind}
 
 none_held : (search : Searched) → None ≡ Some search → ⊥
 none_held search e = cc

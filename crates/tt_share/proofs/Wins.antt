@@ -16,8 +16,8 @@ use Rattle.tt_search.specs.Searched.{Searched}
 use Rattle.tt_game.specs.declared.turns.Turn.{Turn}
 use Rattle.tt_game.specs.Line.{Standing}
 use Rattle.tt_game.specs.Turns.{legal_turns}
-use Rattle.tt_share.specs.Jobs.{EndsBehind, IsResultOf, IsJob, IsStuck, HasWon, end_of}
-use Rattle.tt_share.specs.Results.{HasWonIn, AllWon, IsStuckIn, IsStuckAt, IsWinIn, HasEnd, HasResult, IsWinAt, NoWin, IsLeastWin, IsLeastStuck, FilledBelow, IsReady, StopsAtWin}
+use Rattle.tt_share.specs.inside.Jobs.{EndsBehind, IsResultOf, IsJob, IsStuck, HasWon, end_of}
+use Rattle.tt_share.specs.inside.Results.{HasWonIn, AllWon, IsStuckIn, IsStuckAt, IsWinIn, HasEnd, HasResult, IsWinAt, NoWin, IsLeastWin, IsLeastStuck, FilledBelow, IsReady, StopsAtWin}
 use Rattle.tt_share.proofs.ResultLemmas.{get_set_other}
 
 -- what holds below i and at i holds below the next

@@ -6,11 +6,4 @@ pub mod Desk
 pub mod Seats
 pub mod DeskLaw
 -- What private contracts and proofs cite. Nobody has to believe these.
-pub mod Jobs
-pub mod Results
-pub mod Beginning
-pub mod Workers
-pub mod Gathering
-pub mod Places
-pub mod Taking
-pub mod Tallies
+pub mod inside

@@ -3,7 +3,7 @@
 ghost use Rattle.std.specs.Prelude.{◌≡◌, ℕ, ◌≤◌, Option, None, IfErr, IfOk};
 ghost use Rattle.tt_game.specs.Game.{winner_of};
 ghost use Rattle.tt_share.specs.Answers.{IsAnswer};
-ghost use Rattle.tt_share.specs.Results.{IsReady, IsAllSpent, KnowsNothing};
+ghost use Rattle.tt_share.specs.inside.Results.{IsReady, IsAllSpent, KnowsNothing};
 
 use crate::answer::Answer;
 use crate::conclude::no_memory;

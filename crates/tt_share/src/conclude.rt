@@ -13,9 +13,9 @@ ghost use Rattle.tt_search.specs.declared.limits.Reason.{Reason};
 ghost use Rattle.tt_search.specs.declared.search.End.{End};
 ghost use Rattle.tt_share.specs.Answers.{IsAnswer, spent_shown_of};
 ghost use Rattle.tt_share.specs.declared.jobs.JobResult.{JobResult};
-ghost use Rattle.tt_share.specs.Beginning.{BeginsWith, IsStuckWith};
-ghost use Rattle.tt_share.specs.Jobs.{EndsBehind, IsJob, end_of};
-ghost use Rattle.tt_share.specs.Results.{IsAllSpent, HasEnd, HaveLost, IsLeastWin, IsLeastStuck, IsReady, NoneStuck, NoWin};
+ghost use Rattle.tt_share.specs.inside.Beginning.{BeginsWith, IsStuckWith};
+ghost use Rattle.tt_share.specs.inside.Jobs.{EndsBehind, IsJob, end_of};
+ghost use Rattle.tt_share.specs.inside.Results.{IsAllSpent, HasEnd, HaveLost, IsLeastWin, IsLeastStuck, IsReady, NoneStuck, NoWin};
 
 use crate::answer::{Answer, Stuck};
 use crate::jobs::{JobResult, Jobs};

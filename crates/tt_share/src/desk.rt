@@ -4,7 +4,7 @@ ghost use Rattle.std.specs.Prelude.{IfOk, IfSome, IfNone, MatchOption, MatchResu
 ghost use Rattle.tt_share.specs.declared.bounds.TheConstants.{MOST_WORKERS};
 ghost use Rattle.tt_share.specs.Desk.{blank, view_of};
 ghost use Rattle.tt_share.specs.Seats.{seat_of, fresh, EndsSpare, Adds, Gains, granted_of, Closes};
-ghost use Rattle.tt_share.specs.Gathering.{Gathers};
+ghost use Rattle.tt_share.specs.inside.Gathering.{Gathers};
 
 use crate::rule::{AtDesk, Both, Cut, Draw, Ghost, Grant, Quota, Raise, Sighting};
 use atomic_table::Table;

@@ -1,7 +1,7 @@
 //! Grants of a desk, asked for through a seat.
 ghost use Rattle.std.specs.Prelude.{◌≡◌, ◌||◌, []};
 ghost use Rattle.tt_share.specs.Seats.{DeskView, SeatView, seat_of};
-ghost use Rattle.tt_share.specs.Tallies.{Tallies, source_of};
+ghost use Rattle.tt_share.specs.inside.Tallies.{Tallies, source_of};
 
 use crate::desk::{Desk, Seat};
 use tt_search::Grants;

@@ -5,7 +5,7 @@ ghost use Rattle.tt_game.specs.Game.{IsLegal, after, winner_of};
 ghost use Rattle.tt_game.specs.Turns.{legal_turns};
 ghost use Rattle.tt_search.specs.Growing.{new_leaf};
 ghost use Rattle.tt_share.specs.Answers.{IsBehind};
-ghost use Rattle.tt_share.specs.Jobs.{AsksFor, HasWon, IsDropped, IsJob, IsOfEnd, IsResult, IsStuck, IsWinFor, end_of, kept_of};
+ghost use Rattle.tt_share.specs.inside.Jobs.{AsksFor, HasWon, IsDropped, IsJob, IsOfEnd, IsResult, IsStuck, IsWinFor, end_of, kept_of};
 
 use std::alloc::Global;
 use tt_game::{Line, Side, Turn, Turns};

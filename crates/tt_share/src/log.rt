@@ -38,7 +38,7 @@ impl Model for Token {
     ghost use Rattle.std.specs.Coded.{codes};
     ghost use Rattle.std.specs.Arc.{arc_value};
     ghost use Rattle.tt_sgf.specs.contracts.sets.PointSet as points;
-    ghost use Rattle.tt_proof.specs.StrategyCode.{strategy_code};
+    ghost use Rattle.tt_proof.specs.laws.StrategyCode.{strategy_code};
     ghost use Rattle.tt_share.specs.Log.{Ticket};
 
     ghost Value = { Ticket };

@@ -7,8 +7,8 @@ ghost use Rattle.tt_game.specs.Turns.{legal_turns};
 ghost use Rattle.tt_search.specs.declared.limits.TheConstants.{MOST_EXPANDED};
 ghost use Rattle.tt_share.specs.declared.jobs.JobResult.{JobResult};
 ghost use Rattle.tt_share.specs.Answers.{spent_in_all};
-ghost use Rattle.tt_share.specs.Jobs.{IsResult, IsWinFor};
-ghost use Rattle.tt_share.specs.Results.{Notes, AskedFor, HasEnd, HasResult, HasWonIn, AllWon, IsPastStuck, IsStuckIn, IsWinIn, IsWinAt, NoWin, IsLeastWin, IsReady, StopsAtWin, KeepsEnds, Puts};
+ghost use Rattle.tt_share.specs.inside.Jobs.{IsResult, IsWinFor};
+ghost use Rattle.tt_share.specs.inside.Results.{Notes, AskedFor, HasEnd, HasResult, HasWonIn, AllWon, IsPastStuck, IsStuckIn, IsWinIn, IsWinAt, NoWin, IsLeastWin, IsReady, StopsAtWin, KeepsEnds, Puts};
 
 use crate::jobs::{JobResult, Jobs, SearchedJob, is_stuck, is_win, kept};
 use std::alloc::Global;
@@ -30,10 +30,10 @@ impl<'a> Model for Results<'a> {
     ghost use Rattle.std.specs.Prelude.{◌≡◌, length, vec_len};
     ghost use Rattle.std.specs.Coded.{codes};
     ghost use Rattle.tt_sgf.specs.contracts.sets.PointSet as points;
-    ghost use Rattle.tt_proof.specs.StrategyCode.{strategy_code};
-    ghost use Rattle.tt_search.specs.PartialTreeCode.{partial_code};
-    ghost use Rattle.tt_share.specs.Jobs.{AreResults};
-    ghost use Rattle.tt_share.specs.Results.{Progress, AreNoted};
+    ghost use Rattle.tt_proof.specs.laws.StrategyCode.{strategy_code};
+    ghost use Rattle.tt_search.specs.laws.PartialTreeCode.{partial_code};
+    ghost use Rattle.tt_share.specs.inside.Jobs.{AreResults};
+    ghost use Rattle.tt_share.specs.inside.Results.{Progress, AreNoted};
 
     ghost Value = { Progress };
 

@@ -6,7 +6,7 @@ ghost use Rattle.std.specs.Option.{option_map};
 ghost use Rattle.tt_search.specs.Stores.{AnswersFor, IsNewest};
 ghost use Rattle.tt_game.specs.Keys.{key_of};
 ghost use Rattle.tt_proof.specs.Nodes.{nodes};
-ghost use Rattle.tt_share.specs.Places.{places_at};
+ghost use Rattle.tt_share.specs.inside.Places.{places_at};
 ghost use Rattle.tt_share.specs.Table.{places_of, nodes_of};
 
 use std::alloc::Global;
@@ -33,8 +33,8 @@ impl Model for TableState {
     ghost use Rattle.std.specs.Coded.{codes};
     ghost use Rattle.std.specs.Arc.{arc_value};
     ghost use Rattle.tt_proof.specs.Proven.{Proven};
-    ghost use Rattle.tt_proof.specs.StrategyCode.{strategy_code};
-    ghost use Rattle.tt_share.specs.Places.{IsIndexOf};
+    ghost use Rattle.tt_proof.specs.laws.StrategyCode.{strategy_code};
+    ghost use Rattle.tt_share.specs.inside.Places.{IsIndexOf};
     ghost use Rattle.tt_share.specs.Table.{nodes_of};
 
     ghost Value = { List Proven };

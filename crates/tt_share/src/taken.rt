@@ -48,10 +48,10 @@ impl<'a> Model for Taken<'a> {
     ghost use Rattle.std.specs.Coded.{codes};
     ghost use Rattle.boxcar.specs.Table.{shelves_coded};
     ghost use Rattle.tt_sgf.specs.contracts.sets.PointSet as points;
-    ghost use Rattle.tt_proof.specs.StrategyCode.{strategy_code};
+    ghost use Rattle.tt_proof.specs.laws.StrategyCode.{strategy_code};
     ghost use Rattle.tt_search.specs.KeyIndex.{index_hashes};
     ghost use Rattle.tt_share.specs.Log.{IsOf, proofs_of};
-    ghost use Rattle.tt_share.specs.Taking.{Holding};
+    ghost use Rattle.tt_share.specs.inside.Taking.{Holding};
 
     ghost Value = { Holding };
 

@@ -4,7 +4,7 @@ ghost use Rattle.std.specs.Prelude.{◌≡◌, ◌≤◌, ◌<◌, None, IfSome,
 ghost use Rattle.tt_game.specs.Game.{winner_of};
 ghost use Rattle.tt_share.specs.declared.bounds.TheConstants.{MOST_WORKERS};
 ghost use Rattle.tt_share.specs.Answers.{IsAnswer};
-ghost use Rattle.tt_share.specs.Results.{KnowsNothing, IsReady, SpendsTotal};
+ghost use Rattle.tt_share.specs.inside.Results.{KnowsNothing, IsReady, SpendsTotal};
 
 use crate::alone::{begin, finish};
 use crate::answer::Answer;

@@ -1,12 +1,12 @@
 //! Workers: threads that draw the jobs of a line at a desk and search them, and what comes back of them.
 
 ghost use Rattle.std.specs.Prelude.{◌≡◌, ◌≤◌, ◌<◌, ◌+◌, ◌⊎◌, ◌||◌, ℕ, [], ◌∷◌, ◌++◌, All, None, IfOk, IfNone, IfSome, IsTrue, length, sum_by, vec_len, vec_capacity};
-ghost use Rattle.tt_share.specs.Jobs.{IsResult, IsStuck};
-ghost use Rattle.tt_share.specs.Results.{KeepsEnds};
+ghost use Rattle.tt_share.specs.inside.Jobs.{IsResult, IsStuck};
+ghost use Rattle.tt_share.specs.inside.Results.{KeepsEnds};
 ghost use Rattle.tt_share.specs.Answers.{spent_in_all};
 ghost use Rattle.tt_share.specs.Seats.{SeatView, seat_of};
 ghost use Rattle.tt_share.specs.declared.workers.HandedBack.{HandedBack};
-ghost use Rattle.tt_share.specs.Workers.{SomeWin, IsWork, held, times, spent_on, spent_by_all, AreApart, AllApart, IsPlaced, AllPlaced, AddsSpare, AllDrawn, KeepsFirstStuck, jobs_of, AreGiven, AllGiven};
+ghost use Rattle.tt_share.specs.inside.Workers.{SomeWin, IsWork, held, times, spent_on, spent_by_all, AreApart, AllApart, IsPlaced, AllPlaced, AddsSpare, AllDrawn, KeepsFirstStuck, jobs_of, AreGiven, AllGiven};
 
 use crate::desk::{Desk, Seat};
 use crate::gate::Gate;

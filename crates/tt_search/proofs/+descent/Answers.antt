@@ -1,15 +1,15 @@
 use Rattle.std.proofs.Common.{rules, ◌≡◌, ◌+◌, ◌^◌, ◌<◌, ◌≤◌, ◌⊎◌, ℕ, true, length, take, get_or, refl, sym, ◌∙◌, ap, subst, arith}
 use Rattle.tt_game.specs.declared.frame.Side.TheVariants.{Attacker, Defender}
 use Rattle.tt_search.specs.PartialTree.{PartialTree}
-use Rattle.tt_search.specs.Shape.{shape}
-use Rattle.tt_search.specs.Choices.{node_with, best_place}
-use Rattle.tt_search.specs.ChildNodes.{choices_of, child_of}
-use Rattle.tt_search.specs.Child.{child_tree}
-use Rattle.tt_search.specs.Edges.{edge_state_of, grown_in, edge_turns, edge_trees}
+use Rattle.tt_search.specs.inside.Shape.{shape}
+use Rattle.tt_search.specs.inside.Choices.{node_with, best_place}
+use Rattle.tt_search.specs.inside.ChildNodes.{choices_of, child_of}
+use Rattle.tt_search.specs.inside.Child.{child_tree}
+use Rattle.tt_search.specs.inside.Edges.{edge_state_of, grown_in, edge_turns, edge_trees}
 use Rattle.tt_search.specs.Numbers.{number}
 use Rattle.tt_search.specs.Growing.{IsPartialTree}
-use Rattle.tt_search.specs.Walking.{stage, stand_of, MayGrow}
-use Rattle.tt_search.specs.Steady.{AreStepsAt, AreSteps}
+use Rattle.tt_search.specs.inside.Walking.{stage, stand_of, MayGrow}
+use Rattle.tt_search.specs.inside.Steady.{AreStepsAt, AreSteps}
 use Rattle.tt_search.specs.declared.limits.Step.TheVariants.{Expanded, Closed}
 use Rattle.tt_search.specs.declared.walk.Walk.{Walk}
 use Rattle.tt_search.proofs.Sprouted.{fresh_here, fresh_child, not_won, rank_within_nodes, child_node, node_steps, one_step}

@@ -1,5 +1,5 @@
 use Rattle.std.proofs.Common.{◌≡◌, ◌+◌, ◌*◌}
-use Rattle.tt_search.specs.Walking.{stage, stand_of}
+use Rattle.tt_search.specs.inside.Walking.{stage, stand_of}
 use Rattle.tt_search.proofs.Steady.{IsUnderWay, to_do}
 use Rattle.tt_search.proofs.Asking.{IsGranted}
 use Rattle.tt_search.proofs.+descent.Given as goal

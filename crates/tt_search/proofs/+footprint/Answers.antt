@@ -9,15 +9,15 @@ use Rattle.tt_proof.specs.declared.footprints.Footprint.{Footprint}
 use Rattle.tt_proof.specs.Strategy.{Entries, done, pick}
 use Rattle.tt_proof.specs.KeptFootprints.{IsFootprint, IsEntryJoined}
 use Rattle.tt_search.specs.PartialTree.{PartialTree, fresh}
-use Rattle.tt_search.specs.Offered.{HoldsItsOwn}
-use Rattle.tt_search.specs.Shape.{shape}
-use Rattle.tt_search.specs.Children.{children_of}
-use Rattle.tt_search.specs.Child.{child_tree}
-use Rattle.tt_search.specs.Edges.{edge_turn, edge_turns, edge_trees}
-use Rattle.tt_search.specs.ChildNodes.{children_in}
+use Rattle.tt_search.specs.inside.Offered.{HoldsItsOwn}
+use Rattle.tt_search.specs.inside.Shape.{shape}
+use Rattle.tt_search.specs.inside.Children.{children_of}
+use Rattle.tt_search.specs.inside.Child.{child_tree}
+use Rattle.tt_search.specs.inside.Edges.{edge_turn, edge_turns, edge_trees}
+use Rattle.tt_search.specs.inside.ChildNodes.{children_in}
 use Rattle.tt_search.specs.Settled.{strategy_for, first_settled, pick_at}
-use Rattle.tt_search.specs.Weight.{weight, weight_all}
-use Rattle.tt_search.specs.Joining.{IsSettledAt, AreSettledAt}
+use Rattle.tt_search.specs.inside.Weight.{weight, weight_all}
+use Rattle.tt_search.specs.inside.Joining.{IsSettledAt, AreSettledAt}
 use Rattle.tt_search.specs.declared.edges.Edge.{Edge}
 use Rattle.tt_search.specs.declared.children.Child.{Child}
 use Rattle.tt_search.specs.declared.children.Child.TheVariants.{Fresh, Won}
@@ -29,7 +29,7 @@ use Rattle.tt_search.proofs.Sprouted.{any_default}
 use Rattle.tt_search.proofs.OneSide.{offered_for}
 use Rattle.tt_search.proofs.Strategies.{makes_proof}
 use Rattle.tt_search.specs.Numbers.{number}
-use Rattle.tt_search.specs.Untried.{plays_and_pass, AreUntried}
+use Rattle.tt_search.specs.inside.Untried.{plays_and_pass, AreUntried}
 use Rattle.tt_search.proofs.Untried.{untried_number}
 use Rattle.tt_search.proofs.+footprint.Goals as goal
 

@@ -1,10 +1,10 @@
 use Rattle.std.proofs.Common.{◌≡◌, ◌≤◌, ◌*◌, ◌+◌, drop}
-use Rattle.tt_search.specs.Children.{children_of}
-use Rattle.tt_search.specs.Edges.{edge_trees}
-use Rattle.tt_search.specs.ChildNodes.{children_in}
-use Rattle.tt_search.specs.Child.{child_tree}
-use Rattle.tt_search.specs.Joining.{AreSettledAt}
-use Rattle.tt_search.specs.Weight.{weight, weight_all}
+use Rattle.tt_search.specs.inside.Children.{children_of}
+use Rattle.tt_search.specs.inside.Edges.{edge_trees}
+use Rattle.tt_search.specs.inside.ChildNodes.{children_in}
+use Rattle.tt_search.specs.inside.Child.{child_tree}
+use Rattle.tt_search.specs.inside.Joining.{AreSettledAt}
+use Rattle.tt_search.specs.inside.Weight.{weight, weight_all}
 use Rattle.tt_search.proofs.Joins.{replies_to, IsJoinedUpTo}
 use Rattle.tt_search.proofs.+footprint.Given as goal
 

@@ -3,23 +3,23 @@ use Rattle.tt_game.specs.declared.turns.Turn.{Turn}
 use Rattle.tt_proof.specs.Proven.{Proven}
 use Rattle.tt_proof.specs.Strategy.{Entries, reply, entry}
 use Rattle.tt_search.specs.PartialTree.{PartialTree, fresh}
-use Rattle.tt_search.specs.Children.{children_of}
-use Rattle.tt_search.specs.Edges.{edge_turn, edge_state_of, tree_of, edge_turns, edge_trees}
+use Rattle.tt_search.specs.inside.Children.{children_of}
+use Rattle.tt_search.specs.inside.Edges.{edge_turn, edge_state_of, tree_of, edge_turns, edge_trees}
 use Rattle.tt_search.specs.Settled.{strategy_for, pick_at, replies}
-use Rattle.tt_search.specs.Weight.{weight, weight_all}
+use Rattle.tt_search.specs.inside.Weight.{weight, weight_all}
 use Rattle.tt_search.specs.declared.edges.Edge.{Edge}
 use Rattle.tt_search.proofs.Replies.{joined, joined_push, joined_none, picked, pick_past_turns}
 use Rattle.tt_search.proofs.Places.{replies_at_end, length-turns_of, length-trees_of, turn_at_place, replied_step, weight_step, whole_behind}
 use Rattle.tt_search.proofs.Lifted.{weight_at}
 use Rattle.tt_search.proofs.Sprouted.{any_default}
-use Rattle.tt_search.specs.ChildNodes.{child_of, children_in}
+use Rattle.tt_search.specs.inside.ChildNodes.{child_of, children_in}
 use Rattle.tt_search.specs.Numbers.{number, numbers}
-use Rattle.tt_search.specs.Joining.{AreZero}
-use Rattle.tt_search.specs.Shape.{shape}
-use Rattle.tt_search.specs.Offered.{HoldsItsOwn}
+use Rattle.tt_search.specs.inside.Joining.{AreZero}
+use Rattle.tt_search.specs.inside.Shape.{shape}
+use Rattle.tt_search.specs.inside.Offered.{HoldsItsOwn}
 use Rattle.tt_search.proofs.Strategies.{IsZeroAt, zero_at, own_zero, other_zero, all_zero, zero_sum}
 use Rattle.tt_search.proofs.OneSide.{offered_for, zero_step, zero_there}
-use Rattle.tt_search.specs.Untried.{plays_and_pass, AreUntried}
+use Rattle.tt_search.specs.inside.Untried.{plays_and_pass, AreUntried}
 use Rattle.tt_search.proofs.Untried.{untried_number}
 use Rattle.tt_search.proofs.+plan_of.Goals as goal
 

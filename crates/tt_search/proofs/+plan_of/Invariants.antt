@@ -1,11 +1,11 @@
 use Rattle.std.proofs.Common.{◌≡◌, ◌≤◌, ◌*◌, ◌+◌, length, drop}
-use Rattle.tt_search.specs.Children.{children_of}
-use Rattle.tt_search.specs.Edges.{edge_turns, edge_trees, grown_in}
-use Rattle.tt_search.specs.ChildNodes.{children_in}
-use Rattle.tt_search.specs.Child.{child_tree}
+use Rattle.tt_search.specs.inside.Children.{children_of}
+use Rattle.tt_search.specs.inside.Edges.{edge_turns, edge_trees, grown_in}
+use Rattle.tt_search.specs.inside.ChildNodes.{children_in}
+use Rattle.tt_search.specs.inside.Child.{child_tree}
 use Rattle.tt_search.specs.Settled.{replies}
-use Rattle.tt_search.specs.Joining.{AreZero}
-use Rattle.tt_search.specs.Weight.{weight, weight_all}
+use Rattle.tt_search.specs.inside.Joining.{AreZero}
+use Rattle.tt_search.specs.inside.Weight.{weight, weight_all}
 use Rattle.tt_search.proofs.Replies.{joined}
 use Rattle.tt_search.proofs.+plan_of.Given as goal
 

@@ -3,8 +3,8 @@ use Rattle.std.proofs.lemmas.Bool.{cases_eq, cases_lt}
 use Rattle.std.proofs.lemmas.List.{length-set, get_or-set_same, get_or-set_other, get_or_past}
 use Rattle.tt_sgf.specs.Sizes.{point_count}
 use Rattle.tt_board.specs.Reach.{entry_at}
-use Rattle.tt_board.specs.Chains.{name_at}
-use Rattle.tt_sgf.specs.SizeLaws.{few_points}
+use Rattle.tt_board.specs.inside.Chains.{name_at}
+use Rattle.tt_sgf.specs.laws.SizeLaws.{few_points}
 use Rattle.tt_board.proofs.CaptureLemmas.{stones_here, stones_not_here, none_from}
 use Rattle.tt_board.proofs.captures.lift_named.Goals as goal
 use Rattle.tt_board.proofs.captures.lift_named.Goals.{then-names-p, else-names-p}

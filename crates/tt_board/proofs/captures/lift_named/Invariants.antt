@@ -1,6 +1,6 @@
 use Rattle.std.proofs.Common.{◌≡◌, ◌≢◌, ℕ, ◌<◌, length, drop, None}
 use Rattle.tt_board.specs.Reach.{entry_at}
-use Rattle.tt_board.specs.Chains.{name_at, stone_count}
+use Rattle.tt_board.specs.inside.Chains.{name_at, stone_count}
 use Rattle.tt_board.proofs.captures.lift_named.Given as goal
 
 abbrev pub invariant-loop-p : goal.invariant-loop-p

@@ -2,7 +2,7 @@ use Rattle.std.proofs.Common.{set, None, arith, inl, inr, sym, ap, ◌∙◌}
 use Rattle.std.proofs.lemmas.Bool.{cases_eq}
 use Rattle.std.proofs.lemmas.List.{length-set, get_or-set_same, get_or-set_other}
 use Rattle.tt_board.specs.Reach.{entry_at}
-use Rattle.tt_board.specs.Chains.{name_at, root_of}
+use Rattle.tt_board.specs.inside.Chains.{name_at, root_of}
 use Rattle.tt_board.proofs.JoinLemmas.{one_renamed, root_below, root_on_board, name_renamed, renamed_is}
 use Rattle.tt_board.proofs.captures.release.Goals as goal
 

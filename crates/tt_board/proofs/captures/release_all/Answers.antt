@@ -2,8 +2,8 @@ use Rattle.std.proofs.Common.{ℕ, ◌≡◌, ◌≢◌, ◌+◌, ◌-◌, ◌<�
 use Rattle.std.proofs.lemmas.Bool.{cases_eq, cases_lt}
 use Rattle.std.proofs.lemmas.List.{get_or-set_same, get_or-set_other}
 use Rattle.tt_sgf.specs.Sizes.{point_count}
-use Rattle.tt_board.specs.Chains.{name_at}
-use Rattle.tt_sgf.specs.SizeLaws.{few_points}
+use Rattle.tt_board.specs.inside.Chains.{name_at}
+use Rattle.tt_sgf.specs.laws.SizeLaws.{few_points}
 use Rattle.tt_board.proofs.JoinLemmas.{partly_none, none_stones}
 use Rattle.tt_board.proofs.CaptureLemmas.{Releasing, releasing_more, released_names, released_gone}
 use Rattle.tt_board.proofs.captures.release_all.Goals as goal

@@ -1,5 +1,5 @@
 use Rattle.std.proofs.Common.{◌≢◌, ℕ, ◌<◌}
-use Rattle.tt_board.specs.Chains.{name_at, IsCountedBut}
+use Rattle.tt_board.specs.inside.Chains.{name_at, IsCountedBut}
 use Rattle.tt_board.proofs.CaptureLemmas.{Releasing}
 use Rattle.tt_board.proofs.captures.release_all.Given as goal
 

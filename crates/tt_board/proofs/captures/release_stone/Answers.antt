@@ -1,6 +1,6 @@
 use Rattle.std.proofs.Common.{◌<◌, length, set, arith}
 use Rattle.std.proofs.lemmas.List.{length-set}
-use Rattle.tt_sgf.specs.SizeLaws.{few_points}
+use Rattle.tt_sgf.specs.laws.SizeLaws.{few_points}
 use Rattle.tt_board.proofs.StartLemmas.{near_below, near_apart}
 use Rattle.tt_board.proofs.CaptureLemmas.{only_beside, beside_rooted, few_liberties, counted_released}
 use Rattle.tt_board.proofs.captures.release_stone.Goals as goal

@@ -2,7 +2,7 @@ use Rattle.std.proofs.Common.{rules, ◌≡◌, ◌≢◌, ◌++◌, None, [], �
 use Rattle.std.proofs.lemmas.List.Elements.{Contains-push}
 use Rattle.tt_board.specs.Reach.{entry_at}
 use Rattle.tt_board.specs.Fill.{is_marked}
-use Rattle.tt_board.specs.Chain.{IsGrowing, marks_on}
+use Rattle.tt_board.specs.inside.Chain.{IsGrowing, marks_on}
 use Rattle.tt_board.proofs.ChainLemmas.{room_left, push_growing, mark_at, marks_set, closed_at}
 use Rattle.tt_board.proofs.chain.visit.Goals as goal
 use Rattle.tt_board.proofs.chain.visit.Goals.{else-eq-via-then-eq+else-not-has, else-eq-via-else-eq}

@@ -1,9 +1,9 @@
 use Rattle.std.proofs.Common.{ℕ, ◌≡◌, ◌<◌, List, [], ◌∷◌, ◌++◌, get_or, length, Contains, arith, inl, inr, refl, sym, ap, subst, ◌∙◌}
 use Rattle.std.proofs.lemmas.List.Elements.{Contains-push, Contains-push_cases, Contains-get_or}
 use Rattle.tt_sgf.specs.declared.size.Size.{Size}
-use Rattle.tt_sgf.specs.SizeLaws.{few_points}
+use Rattle.tt_sgf.specs.laws.SizeLaws.{few_points}
 use Rattle.tt_board.specs.Position.{Colouring}
-use Rattle.tt_board.specs.Chain.{IsLinked}
+use Rattle.tt_board.specs.inside.Chain.{IsLinked}
 use Rattle.tt_board.proofs.ChainLemmas.{start_growing, grown_kept, linked_more, enclosed_more, enclosed_all}
 use Rattle.tt_board.proofs.chain.walk.Goals as goal
 

@@ -1,5 +1,5 @@
 use Rattle.std.proofs.Common.{ℕ, ◌<◌, ◌-◌, get_or, Contains}
-use Rattle.tt_board.specs.Chain.{marks_on, IsGrowing, IsLinked, IsEnclosed}
+use Rattle.tt_board.specs.inside.Chain.{marks_on, IsGrowing, IsLinked, IsEnclosed}
 use Rattle.tt_board.proofs.chain.walk.Given as goal
 
 abbrev pub invariant-loop-next : goal.invariant-loop-next

@@ -1,6 +1,6 @@
 use Rattle.std.proofs.Common.{◌≡◌, Some, inl, inr, sym, subst, rules}
 use Rattle.tt_board.specs.Reach.{entry_at}
-use Rattle.tt_board.specs.Chain.{IsLifted}
+use Rattle.tt_board.specs.inside.Chain.{IsLifted}
 use Rattle.tt_board.proofs.LiftLemmas.{lifted_more}
 use Rattle.tt_board.proofs.clearing.capture_at.Goals as goal
 

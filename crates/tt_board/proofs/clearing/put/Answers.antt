@@ -4,7 +4,7 @@ use Rattle.tt_board.specs.Near.{IsNeighbour}
 use Rattle.tt_board.specs.Reach.{entry_at, Reaches}
 use Rattle.tt_board.specs.ReachLaws.{reaches_beside}
 use Rattle.tt_board.specs.Play.{other}
-use Rattle.tt_board.specs.Chain.{IsLifted, IsChainLifted}
+use Rattle.tt_board.specs.inside.Chain.{IsLifted, IsChainLifted}
 use Rattle.tt_board.proofs.LiftLemmas.{play_is, lifted_none, lifted_more, new_stone}
 use Rattle.tt_board.proofs.clearing.put.Goals as goal
 

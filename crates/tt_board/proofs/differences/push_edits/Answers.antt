@@ -1,7 +1,7 @@
 use Rattle.std.proofs.Common.{rules, ◌≡◌, ◌+◌, ◌*◌, ◌<◌, ◌++◌, ◌∷◌, [], get_or, subst, sym, ap, ◌∙◌, arith}
 use Rattle.tt_sgf.specs.Words.{bit_in}
 use Rattle.tt_board.specs.declared.differences.Edit.TheVariants.{Whole}
-use Rattle.tt_board.specs.Boards.{led, IsHalf, AreAlikeBy}
+use Rattle.tt_board.specs.inside.Boards.{led, IsHalf, AreAlikeBy}
 use Rattle.tt_board.proofs.DifferencesLemmas.{word_bit, front_kept, led_whole}
 use Rattle.tt_board.proofs.differences.push_edits.Goals as goal
 

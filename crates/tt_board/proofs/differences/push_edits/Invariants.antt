@@ -1,7 +1,7 @@
 use Rattle.std.proofs.Common.{◌≡◌, ◌*◌, length, take}
 use Rattle.tt_board.specs.Position.{Colouring}
-use Rattle.tt_board.specs.Differences.{colourings_from}
-use Rattle.tt_board.specs.Boards.{IsHalf, led}
+use Rattle.tt_board.specs.inside.Differences.{colourings_from}
+use Rattle.tt_board.specs.inside.Boards.{IsHalf, led}
 use Rattle.tt_board.proofs.differences.push_edits.Given as goal
 
 abbrev pub invariant-loop-k : goal.invariant-loop-k

@@ -1,7 +1,7 @@
 use Rattle.std.proofs.Common.{rules, ◌≡◌, ◌+◌, ◌++◌, ◌∷◌, [], ◌∙◌, ◌<◌, arith}
 use Rattle.std.specs.Int.{w64, trailing_zeros}
 use Rattle.tt_board.specs.Reach.{entry_at}
-use Rattle.tt_board.specs.Boards.{edit_of, led}
+use Rattle.tt_board.specs.inside.Boards.{edit_of, led}
 use Rattle.tt_board.proofs.DifferencesLemmas.{half_left, half_skipped, half_past, half_edited, left_next, lowest_inside, from_same, front_pushed}
 use Rattle.tt_board.proofs.differences.push_word.Goals as goal
 

@@ -1,7 +1,7 @@
 use Rattle.std.proofs.Common.{◌≡◌, ◌+◌, ◌-◌, ◌/◌, ◌^◌, ◌≤◌, length, take}
 use Rattle.tt_board.specs.Position.{Colouring}
-use Rattle.tt_board.specs.Differences.{colourings_from}
-use Rattle.tt_board.specs.Boards.{led, IsHalf, AreAlikeBy}
+use Rattle.tt_board.specs.inside.Differences.{colourings_from}
+use Rattle.tt_board.specs.inside.Boards.{led, IsHalf, AreAlikeBy}
 use Rattle.tt_board.proofs.differences.push_word.Given as goal
 
 abbrev pub invariant-loop-rest : goal.invariant-loop-rest

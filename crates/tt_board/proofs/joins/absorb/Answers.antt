@@ -1,8 +1,8 @@
 use Rattle.std.proofs.Common.{◌≡◌, ◌<◌, ◌+◌, map, arith, rules, sym, ◌∙◌}
 use Rattle.std.proofs.lemmas.List.{length-map}
-use Rattle.tt_board.specs.Chains.{name_at, root_of, renamed, liberty_count}
+use Rattle.tt_board.specs.inside.Chains.{name_at, root_of, renamed, liberty_count}
 use Rattle.tt_board.proofs.NameLemmas.{liberty_count_le}
-use Rattle.tt_sgf.specs.SizeLaws.{few_points}
+use Rattle.tt_sgf.specs.laws.SizeLaws.{few_points}
 use Rattle.tt_board.proofs.JoinLemmas.{joined_stones, joined_liberties, counted_joined, stone_count_le}
 use Rattle.tt_board.proofs.joins.absorb.Goals as goal
 use Rattle.tt_board.proofs.joins.absorb.Goals.{then-count-eq1, else-count-eq1}

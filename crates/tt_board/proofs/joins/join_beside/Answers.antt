@@ -1,5 +1,5 @@
 use Rattle.std.proofs.Common.{◌≡◌, inl, inr, refl, sym, arith, ◌∙◌}
-use Rattle.tt_board.specs.Chains.{name_at, root_of, IsOneName}
+use Rattle.tt_board.specs.inside.Chains.{name_at, root_of, IsOneName}
 use Rattle.tt_board.proofs.JoinLemmas.{gathered_none, gathered_more, touches_still, joined_still}
 use Rattle.tt_board.proofs.LinkLemmas.{names_whole, named_stone, stone_named}
 use Rattle.tt_board.proofs.PlayKindLemmas.{never_nowhere, roots_below}

@@ -1,6 +1,6 @@
 use Rattle.std.proofs.Common.{◌≡◌, ◌≢◌, ◌≤◌, inl, inr, refl, sym, ap, subst, arith, ◌∙◌}
 use Rattle.tt_board.specs.declared.play_kind.TheConstants.{NOWHERE}
-use Rattle.tt_board.specs.Chains.{name_at, root_of, AreGathered, Touches}
+use Rattle.tt_board.specs.inside.Chains.{name_at, root_of, AreGathered, Touches}
 use Rattle.tt_board.proofs.JoinLemmas.{gathered_united, joined_united}
 use Rattle.tt_board.proofs.joins.join_named.Goals as goal
 

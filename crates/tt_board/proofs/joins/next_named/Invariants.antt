@@ -1,5 +1,5 @@
 use Rattle.std.proofs.Common.{◌≢◌, ℕ, ◌<◌, ◌≤◌}
-use Rattle.tt_board.specs.Chains.{name_at}
+use Rattle.tt_board.specs.inside.Chains.{name_at}
 use Rattle.tt_board.proofs.joins.next_named.Given as goal
 
 abbrev pub invariant-loop-p : goal.invariant-loop-p

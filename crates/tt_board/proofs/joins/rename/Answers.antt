@@ -2,9 +2,9 @@ use Rattle.std.proofs.Common.{◌≡◌, ◌<◌, ◌+◌, set, arith, rules, in
 use Rattle.std.proofs.lemmas.Bool.{cases_lt, cases_eq}
 use Rattle.std.proofs.lemmas.List.{get_or-set_same, get_or-set_other}
 use Rattle.tt_sgf.specs.Sizes.{point_count}
-use Rattle.tt_board.specs.Chains.{name_at, stone_count}
+use Rattle.tt_board.specs.inside.Chains.{name_at, stone_count}
 use Rattle.tt_board.proofs.NameLemmas.{count_joined, liberty_count_le}
-use Rattle.tt_sgf.specs.SizeLaws.{few_points}
+use Rattle.tt_sgf.specs.laws.SizeLaws.{few_points}
 use Rattle.tt_board.proofs.JoinLemmas.{partly_none, partly_more, partly_whole, partly_on_board, some_stone, stones_fewer, none_stones}
 use Rattle.tt_board.proofs.joins.rename.Goals as goal
 

@@ -1,5 +1,5 @@
 use Rattle.std.proofs.Common.{◌≡◌, ◌≢◌, ℕ, ◌+◌, ◌<◌}
-use Rattle.tt_board.specs.Chains.{name_at, liberty_count, stone_count}
+use Rattle.tt_board.specs.inside.Chains.{name_at, liberty_count, stone_count}
 use Rattle.tt_board.proofs.JoinLemmas.{IsPartly}
 use Rattle.tt_board.proofs.joins.rename.Given as goal
 

@@ -1,5 +1,5 @@
 use Rattle.std.proofs.Common.{◌≡◌, ◌+◌, arith, sym, ap, ◌∙◌}
-use Rattle.tt_board.specs.Chains.{name_at, liberty_count}
+use Rattle.tt_board.specs.inside.Chains.{name_at, liberty_count}
 use Rattle.tt_board.proofs.NameLemmas.{count_joined}
 use Rattle.tt_board.proofs.JoinLemmas.{one_renamed, root_below, root_on_board}
 use Rattle.tt_board.proofs.joins.rename_one.Goals as goal

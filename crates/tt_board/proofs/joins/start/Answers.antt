@@ -1,5 +1,5 @@
 use Rattle.std.proofs.Common.{◌≢◌, arith, ◌∙◌}
-use Rattle.tt_sgf.specs.SizeLaws.{few_points}
+use Rattle.tt_sgf.specs.laws.SizeLaws.{few_points}
 use Rattle.tt_board.specs.declared.play_kind.TheConstants.{NOWHERE}
 use Rattle.tt_board.proofs.JoinLemmas.{roots_apart}
 use Rattle.tt_board.proofs.NameLemmas.{near_off}

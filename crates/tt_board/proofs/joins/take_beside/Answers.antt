@@ -1,5 +1,5 @@
 use Rattle.std.proofs.Common.{inl, inr, refl, sym, arith}
-use Rattle.tt_board.specs.Chains.{root_of}
+use Rattle.tt_board.specs.inside.Chains.{root_of}
 use Rattle.tt_board.proofs.StartLemmas.{each_fewer, others_same}
 use Rattle.tt_board.proofs.joins.take_beside.Goals as goal
 

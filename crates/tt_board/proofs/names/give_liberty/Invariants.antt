@@ -1,5 +1,5 @@
 use Rattle.std.proofs.Common.{◌≡◌, ◌≢◌, ℕ, ◌+◌, ◌<◌}
-use Rattle.tt_board.specs.Chains.{name_at, root_of}
+use Rattle.tt_board.specs.inside.Chains.{name_at, root_of}
 use Rattle.tt_board.proofs.names.give_liberty.Given as goal
 
 abbrev pub invariant-loop-name : goal.invariant-loop-name

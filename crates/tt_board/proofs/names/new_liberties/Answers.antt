@@ -1,5 +1,5 @@
 use Rattle.std.proofs.Common.{inl, inr, arith}
-use Rattle.tt_board.specs.Chains.{is_new}
+use Rattle.tt_board.specs.inside.Chains.{is_new}
 use Rattle.tt_board.proofs.NameLemmas.{beside_counted}
 use Rattle.tt_board.proofs.names.new_liberties.Goals as goal
 

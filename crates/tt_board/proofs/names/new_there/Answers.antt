@@ -1,6 +1,6 @@
 use Rattle.std.proofs.Common.{◌≡◌, true, false, not, cond, sym, ap, ◌∙◌}
 use Rattle.std.proofs.lemmas.Bool.{true≢false, and_from, and_left, and_right, eq-eqb, ne_eqb}
-use Rattle.tt_board.specs.Chains.{is_new, touching, count_there}
+use Rattle.tt_board.specs.inside.Chains.{is_new, touching, count_there}
 use Rattle.tt_board.specs.Decided.{decided, decided_is, decided_not}
 use Rattle.tt_board.proofs.names.new_there.Goals as goal
 use Rattle.tt_board.proofs.names.new_there.Goals.{else-names-q-eq0-via-then-names-q-eq0+else-not-touches, else-names-q-eq0-via-else-names-q-eq0}

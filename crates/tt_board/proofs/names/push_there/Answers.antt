@@ -1,7 +1,7 @@
 use Rattle.std.proofs.Common.{rules, ◌≡◌, ◌++◌, ◌∷◌, [], inl, inr, refl, Contains, sym, subst, ◌∙◌}
 use Rattle.std.specs.Prelude.{MatchOption}
 use Rattle.std.proofs.lemmas.List.Elements.{Contains-push, Contains-push_cases, Contains-append_left}
-use Rattle.tt_board.specs.Chains.{name_at}
+use Rattle.tt_board.specs.inside.Chains.{name_at}
 use Rattle.tt_board.proofs.names.push_there.Goals as goal
 
 pub returns-then-is_fresh-clause-added : goal.returns-then-is_fresh-clause-added

@@ -1,5 +1,5 @@
 use Rattle.std.proofs.Common.{◌==◌, inl, inr, arith}
-use Rattle.tt_board.specs.Chains.{name_at}
+use Rattle.tt_board.specs.inside.Chains.{name_at}
 use Rattle.tt_board.proofs.NameLemmas.{beside_counted}
 use Rattle.tt_board.proofs.PlayKindLemmas.{one_touches, bare_place}
 use Rattle.tt_board.proofs.play_kind.names_beside.Goals as goal

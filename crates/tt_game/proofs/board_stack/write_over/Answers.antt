@@ -1,7 +1,7 @@
 use Rattle.std.proofs.Common.{◌<◌, arith}
 use Rattle.tt_board.specs.Position.{Position}
 use Rattle.tt_board.specs.Play.{play_of}
-use Rattle.tt_game.specs.Undoing.{board_on}
+use Rattle.tt_game.specs.inside.Undoing.{board_on}
 use Rattle.tt_game.proofs.BoardStackLemmas.{written_split}
 use Rattle.tt_game.proofs.board_stack.write_over.Goals as goal
 

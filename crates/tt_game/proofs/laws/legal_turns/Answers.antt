@@ -1,4 +1,4 @@
-use Rattle.tt_game.specs.TurnLaws.{contains-legal_turns, rising-legal_turns, length-legal_turns}
+use Rattle.tt_game.specs.laws.TurnLaws.{contains-legal_turns, rising-legal_turns, length-legal_turns}
 use Rattle.tt_game.proofs.laws.legal_turns.Goals as goal
 
 pub returns : goal.returns

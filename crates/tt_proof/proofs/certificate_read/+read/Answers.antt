@@ -2,7 +2,7 @@ use Rattle.tt_proof.specs.declared.certificate_read.CertFault.TheVariants.{Synta
 use Rattle.std.proofs.Common.{length, rules, arith, ◌≡◌, ◌+◌, ◌-◌, ◌++◌, ◌⊎◌, ℕ, suc, [], ◌∷◌, ◌∙◌, sym, ap, subst, inl, inr}
 use Rattle.tt_proof.specs.Strategy.{number_on}
 use Rattle.tt_proof.specs.CertificateText.{won_mark, pick_mark, reply_mark}
-use Rattle.tt_proof.specs.CertificateReading.{DeepAt, EntriesDeepAt, FaultAt, EntriesFaultAt}
+use Rattle.tt_proof.specs.inside.CertificateReading.{DeepAt, EntriesDeepAt, FaultAt, EntriesFaultAt}
 use Rattle.tt_proof.proofs.StrategyLemmas.{strategy_of_done, strategy_of_reply}
 use Rattle.tt_proof.proofs.ReadLemmas.{not_tree, pick_no_turn, pick_deep, pick_fault, reply_read, reply_fault}
 use Rattle.tt_proof.proofs.TextLemmas.{heads}

@@ -1,7 +1,7 @@
 use Rattle.std.proofs.Common.{◌↔◌, ◌-◌, Contains}
 use Rattle.tt_board.specs.Position.{Colouring}
 use Rattle.tt_proof.specs.KeptFootprints.{AreSized, frame_board}
-use Rattle.tt_proof.specs.Collecting.{RepeatsBelow}
+use Rattle.tt_proof.specs.inside.Collecting.{RepeatsBelow}
 use Rattle.tt_proof.proofs.footprints.repeats.Given as goal
 
 abbrev pub invariant-loop-p : goal.invariant-loop-p

@@ -1,7 +1,7 @@
 use Rattle.std.proofs.Common.{◌≡◌, ◌↔◌, ◌≤◌, ℕ, drop}
 use Rattle.tt_proof.specs.declared.tree.TheConstants.{MOST_DEPTH}
 use Rattle.tt_proof.specs.Strategy.{entries_of_trees, AreInOrder, depth_of_entries}
-use Rattle.tt_proof.specs.Replaying.{LegalWin}
+use Rattle.tt_proof.specs.inside.Replaying.{LegalWin}
 use Rattle.tt_proof.proofs.replays.+replay.Given as goal
 
 abbrev pub invariant-replay_each-loop-turn : goal.invariant-replay_each-loop-turn

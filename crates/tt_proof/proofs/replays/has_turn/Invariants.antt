@@ -1,6 +1,6 @@
 use Rattle.std.proofs.Common.{◌↔◌, drop}
 use Rattle.tt_proof.specs.Strategy.{entries_of_trees}
-use Rattle.tt_proof.specs.Replaying.{HasEntry}
+use Rattle.tt_proof.specs.inside.Replaying.{HasEntry}
 use Rattle.tt_proof.proofs.replays.has_turn.Given as goal
 
 abbrev pub invariant-loop-entry : goal.invariant-loop-entry

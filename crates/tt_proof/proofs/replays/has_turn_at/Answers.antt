@@ -2,7 +2,7 @@ use Rattle.std.proofs.Common.{◌≡◌, ℕ, zero, suc, ◌<◌, ◌∙◌, Lis
 use Rattle.tt_game.specs.declared.turns.Turn.{Turn}
 use Rattle.tt_proof.specs.declared.tree.Tree.{Tree}
 use Rattle.tt_proof.specs.Strategy.{entries_of_trees}
-use Rattle.tt_proof.specs.Replaying.{HasEntry}
+use Rattle.tt_proof.specs.inside.Replaying.{HasEntry}
 use Rattle.tt_proof.proofs.replays.has_turn_at.Goals as goal
 
 -- the turn at a place of the list has an entry

@@ -5,7 +5,7 @@ use Rattle.tt_game.specs.declared.turns.Turn.TheVariants.{Play}
 use Rattle.tt_game.specs.Game.{IsLegal}
 use Rattle.tt_sgf.specs.Sizes.{point_count}
 use Rattle.tt_proof.specs.Strategy.{entries_of_trees}
-use Rattle.tt_proof.specs.Replaying.{HasEntry}
+use Rattle.tt_proof.specs.inside.Replaying.{HasEntry}
 use Rattle.tt_proof.proofs.replays.plays_are_answered.Goals as goal
 use Rattle.tt_proof.proofs.replays.plays_are_answered.Goals.{then-has_turn_at, else-has_turn_at+else-holds, else-holds-via-then-holds+else-not-is_answered, else-holds-via-else-holds}
 

@@ -1,7 +1,7 @@
 use Rattle.std.proofs.Common.{ℕ, ◌<◌, ◌≤◌, ◌-◌, length}
 use Rattle.tt_sgf.specs.declared.size.TheConstants.{MOST_POINTS}
 use Rattle.tt_proof.specs.Strategy.{entries_of_trees}
-use Rattle.tt_proof.specs.Replaying.{HasEntry}
+use Rattle.tt_proof.specs.inside.Replaying.{HasEntry}
 use Rattle.tt_game.specs.declared.turns.Turn.TheVariants.{Play}
 use Rattle.tt_game.specs.Game.{IsLegal}
 use Rattle.tt_proof.proofs.replays.plays_are_answered.Given as goal

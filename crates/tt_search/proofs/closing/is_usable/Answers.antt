@@ -1,5 +1,5 @@
 use Rattle.std.proofs.Common.{rules}
-use Rattle.tt_game.specs.KeyLaws.{same_size}
+use Rattle.tt_game.specs.laws.KeyLaws.{same_size}
 use Rattle.tt_search.proofs.closing.is_usable.Goals as goal
 
 pub wins_at-requires : goal.wins_at-requires

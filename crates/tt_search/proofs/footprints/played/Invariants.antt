@@ -1,8 +1,8 @@
 use Rattle.tt_game.specs.declared.frame.Frame.{Frame}
 use Rattle.tt_game.specs.Game.{State}
-use Rattle.tt_game.specs.TurnLaws.{AreLegal}
+use Rattle.tt_game.specs.laws.TurnLaws.{AreLegal}
 use Rattle.tt_proof.specs.KeptFootprints.{AreLegalPlays}
-use Rattle.tt_search.specs.Edges.{edge_turns}
+use Rattle.tt_search.specs.inside.Edges.{edge_turns}
 use Rattle.tt_search.proofs.footprints.played.Given as goal
 
 abbrev pub invariant-loop-edge : goal.invariant-loop-edge

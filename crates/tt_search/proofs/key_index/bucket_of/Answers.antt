@@ -1,5 +1,5 @@
 use Rattle.std.proofs.Common.{arith, rules, ◌*◌, ◌/◌, ◌<◌, subst, sym}
-use Rattle.tt_search.specs.Buckets.{bucket_of_hash}
+use Rattle.tt_search.specs.inside.Buckets.{bucket_of_hash}
 use Rattle.tt_search.proofs.Buckets.{product_low, bucket_low}
 use Rattle.tt_search.proofs.key_index.bucket_of.Goals as goal
 

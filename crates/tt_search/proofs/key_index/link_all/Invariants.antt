@@ -1,5 +1,5 @@
 use Rattle.std.proofs.Common.{◌≡◌, vec_len, vec_capacity}
-use Rattle.tt_search.specs.Buckets.{AreLongEnough, AreBuckets}
+use Rattle.tt_search.specs.inside.Buckets.{AreLongEnough, AreBuckets}
 use Rattle.tt_search.proofs.key_index.link_all.Given as goal
 
 abbrev pub invariant-loop-place : goal.invariant-loop-place

@@ -1,12 +1,12 @@
 use Rattle.std.proofs.Common.{◌++◌, [], map, length, sym, ap, subst, ◌∙◌, arith}
 use Rattle.tt_game.specs.declared.turns.Successor.{Successor}
 use Rattle.tt_game.specs.Turns.{successors_from}
-use Rattle.tt_game.specs.TurnLaws.{from_all}
+use Rattle.tt_game.specs.laws.TurnLaws.{from_all}
 use Rattle.tt_search.specs.Growing.{leaf_for}
-use Rattle.tt_search.specs.Edges.{edge_turns, edge_trees, grown_in}
+use Rattle.tt_search.specs.inside.Edges.{edge_turns, edge_trees, grown_in}
 use Rattle.tt_search.proofs.Places.{grown_push}
 use Rattle.tt_search.proofs.Successors.{turns_of-successors, turns_more, leaves_more, turns_last, leaves_last}
-use Rattle.tt_search.specs.Expanding.{AreNewEdges}
+use Rattle.tt_search.specs.inside.Expanding.{AreNewEdges}
 use Rattle.tt_search.proofs.Joins.{on_ok}
 use Rattle.tt_search.proofs.leaves.edges_at.Goals as goal
 

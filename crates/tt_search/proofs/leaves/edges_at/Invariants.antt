@@ -2,7 +2,7 @@ use Rattle.std.proofs.Common.{◌≡◌, ◌≤◌, ◌-◌, ◌++◌, [], map, 
 use Rattle.tt_sgf.specs.Sizes.{point_count}
 use Rattle.tt_game.specs.Turns.{legal_turns, successors_of, successors_from}
 use Rattle.tt_search.specs.Growing.{leaf_for}
-use Rattle.tt_search.specs.Edges.{edge_turns, edge_trees, grown_in}
+use Rattle.tt_search.specs.inside.Edges.{edge_turns, edge_trees, grown_in}
 use Rattle.tt_search.proofs.leaves.edges_at.Given as goal
 
 abbrev pub invariant-loop-p : goal.invariant-loop-p

@@ -1,5 +1,5 @@
-use Rattle.tt_search.specs.Choices.{node_with}
-use Rattle.tt_search.specs.ChildNodes.{choices_of}
+use Rattle.tt_search.specs.inside.Choices.{node_with}
+use Rattle.tt_search.specs.inside.ChildNodes.{choices_of}
 use Rattle.tt_search.proofs.leaves.expanded_node.Goals as goal
 
 pub invariant_of-result : goal.invariant_of-result

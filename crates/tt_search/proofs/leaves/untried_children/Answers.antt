@@ -1,5 +1,5 @@
 use Rattle.std.proofs.Common.{length, refl, sym, ap, subst, ◌∙◌, arith}
-use Rattle.tt_search.specs.Edges.{AreFresh}
+use Rattle.tt_search.specs.inside.Edges.{AreFresh}
 use Rattle.tt_search.specs.MostProving.{first_least}
 use Rattle.tt_search.proofs.FreshRows.{ones, first_ones}
 use Rattle.tt_search.proofs.Untried.{fresh_grown}

@@ -2,12 +2,12 @@ use Rattle.std.proofs.Common.{◌≡◌, ◌+◌, [], length, sym, ap, ◌∙◌
 use Rattle.std.proofs.lemmas.List.{length_push}
 use Rattle.tt_sgf.specs.declared.size.TheConstants.{MOST_POINTS}
 use Rattle.tt_game.specs.Game.{opponent}
-use Rattle.tt_search.specs.Children.{children_of}
-use Rattle.tt_search.specs.Choices.{node_with}
-use Rattle.tt_search.specs.Edges.{edge_trees}
+use Rattle.tt_search.specs.inside.Children.{children_of}
+use Rattle.tt_search.specs.inside.Choices.{node_with}
+use Rattle.tt_search.specs.inside.Edges.{edge_trees}
 use Rattle.tt_search.specs.Numbers.{numbers, least, capped_sum}
-use Rattle.tt_search.specs.ChildNodes.{choices_with}
-use Rattle.tt_search.specs.Untried.{fresh_edge, plays_and_pass}
+use Rattle.tt_search.specs.inside.ChildNodes.{choices_with}
+use Rattle.tt_search.specs.inside.Untried.{fresh_edge, plays_and_pass}
 use Rattle.tt_search.proofs.Changed.{pair_of}
 use Rattle.tt_search.proofs.FreshRows.{ones, least_ones, capped_ones}
 use Rattle.tt_search.proofs.leaves.untried_node.Goals as goal

@@ -5,10 +5,10 @@ use Rattle.tt_game.specs.declared.turns.Successor.{Successor}
 use Rattle.tt_game.specs.declared.turns.Turn.TheVariants.{Play}
 use Rattle.tt_search.specs.declared.edges.EdgeState.TheVariants.{Fresh}
 use Rattle.tt_game.specs.Turns.{successors_from}
-use Rattle.tt_game.specs.TurnLaws.{from_all}
+use Rattle.tt_game.specs.laws.TurnLaws.{from_all}
 use Rattle.tt_search.specs.Growing.{leaf_for}
-use Rattle.tt_search.specs.Edges.{edge_state_of, tree_of, edge_turns, edge_trees, AreFresh}
-use Rattle.tt_search.specs.Untried.{AreBelow, fresh_edge, plays_and_pass}
+use Rattle.tt_search.specs.inside.Edges.{edge_state_of, tree_of, edge_turns, edge_trees, AreFresh}
+use Rattle.tt_search.specs.inside.Untried.{AreBelow, fresh_edge, plays_and_pass}
 use Rattle.tt_search.proofs.FreshRows.{fresh_edge_state}
 use Rattle.tt_search.proofs.Successors.{turns_of-successors, turns_more, leaves_more, turns_last, leaves_last}
 use Rattle.tt_search.proofs.Untried.{below_more, below_push, fresh_push, fresh_grown, play_turn, no_winner}

@@ -1,5 +1,5 @@
 use Rattle.std.proofs.Common.{drop}
-use Rattle.tt_search.specs.Edges.{AreFresh}
+use Rattle.tt_search.specs.inside.Edges.{AreFresh}
 use Rattle.tt_search.proofs.numbers.are_fresh.Given as goal
 
 abbrev pub invariant-loop-edge : goal.invariant-loop-edge

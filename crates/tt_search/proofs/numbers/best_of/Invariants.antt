@@ -1,8 +1,8 @@
 use Rattle.std.proofs.Common.{◌≡◌, ◌<◌, ◌≤◌, length, min, take, drop}
 use Rattle.tt_search.specs.Numbers.{numbers, infinite, least}
 use Rattle.tt_search.specs.MostProving.{best}
-use Rattle.tt_search.specs.Children.{children_of}
-use Rattle.tt_search.specs.Edges.{edge_trees, grown_in}
+use Rattle.tt_search.specs.inside.Children.{children_of}
+use Rattle.tt_search.specs.inside.Edges.{edge_trees, grown_in}
 use Rattle.tt_search.proofs.Rows.{best_from}
 use Rattle.tt_search.proofs.numbers.best_of.Given as goal
 

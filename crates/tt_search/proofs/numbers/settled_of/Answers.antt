@@ -3,10 +3,10 @@ use Rattle.std.proofs.lemmas.List.{at_drop_more}
 use Rattle.std.proofs.lemmas.Grind.{common_steps}
 use Rattle.tt_game.specs.declared.frame.Side.{Side}
 use Rattle.tt_search.specs.PartialTree.{PartialTree}
-use Rattle.tt_search.specs.Children.{children_of}
+use Rattle.tt_search.specs.inside.Children.{children_of}
 use Rattle.tt_search.specs.Numbers.{number, numbers}
 use Rattle.tt_search.specs.MostProving.{place}
-use Rattle.tt_search.specs.Edges.{edge_state_of, tree_of, edge_trees, grown_behind, counted}
+use Rattle.tt_search.specs.inside.Edges.{edge_state_of, tree_of, edge_trees, grown_behind, counted}
 use Rattle.tt_search.specs.declared.edges.Edge.{Edge}
 use Rattle.tt_search.proofs.Places.{rank_next, counted_most, whole_behind}
 use Rattle.tt_search.proofs.numbers.settled_of.Goals as goal

@@ -2,8 +2,8 @@ use Rattle.std.proofs.Common.{◌≡◌, ◌≤◌, ◌+◌, length, take, drop}
 use Rattle.tt_search.specs.Numbers.{numbers}
 use Rattle.tt_search.specs.MostProving.{place}
 use Rattle.tt_search.specs.Settled.{first_settled}
-use Rattle.tt_search.specs.Children.{children_of}
-use Rattle.tt_search.specs.Edges.{edge_trees, grown_in}
+use Rattle.tt_search.specs.inside.Children.{children_of}
+use Rattle.tt_search.specs.inside.Edges.{edge_trees, grown_in}
 use Rattle.tt_search.proofs.numbers.settled_of.Given as goal
 
 abbrev pub invariant-loop-i : goal.invariant-loop-i

@@ -1,7 +1,7 @@
 use Rattle.std.proofs.Common.{◌≡◌, ◌≤◌, length, drop}
 use Rattle.tt_search.specs.Numbers.{numbers, cap, capped_sum}
-use Rattle.tt_search.specs.Children.{children_of}
-use Rattle.tt_search.specs.Edges.{edge_trees, grown_in}
+use Rattle.tt_search.specs.inside.Children.{children_of}
+use Rattle.tt_search.specs.inside.Edges.{edge_trees, grown_in}
 use Rattle.tt_search.proofs.Rows.{sum_from}
 use Rattle.tt_search.proofs.numbers.sum_of.Given as goal
 

@@ -1,5 +1,5 @@
 use Rattle.std.proofs.Common.{◌≡◌, length}
-use Rattle.tt_sgf.specs.Reading.{◌>>=◌, values_at}
+use Rattle.tt_sgf.specs.inside.Reading.{◌>>=◌, values_at}
 use Rattle.tt_sgf.proofs.TokenLemmas.{with_front}
 use Rattle.tt_sgf.proofs.properties.values.Given as goal
 

@@ -1,5 +1,5 @@
 use Rattle.std.proofs.Common.{◌≡◌, false}
-use Rattle.tt_sgf.specs.Reading.{raw_at}
+use Rattle.tt_sgf.specs.inside.Reading.{raw_at}
 use Rattle.tt_sgf.proofs.TokenLemmas.{raw_so_far}
 use Rattle.tt_sgf.proofs.tokens.raw_end.Given as goal
 

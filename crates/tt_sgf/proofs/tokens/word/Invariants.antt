@@ -1,5 +1,5 @@
 use Rattle.std.proofs.Common.{◌≡◌, ◌++◌, take, drop}
-use Rattle.tt_sgf.specs.Reading.{word_of, after_word}
+use Rattle.tt_sgf.specs.inside.Reading.{word_of, after_word}
 use Rattle.tt_sgf.proofs.tokens.word.Given as goal
 
 abbrev pub invariant-loop-i : goal.invariant-loop-i

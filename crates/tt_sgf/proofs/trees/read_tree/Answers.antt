@@ -1,6 +1,6 @@
 use Rattle.std.proofs.Common.{Err, ap, sym, ◌∙◌}
 use Rattle.std.proofs.lemmas.Result.{err_from_is_err_and}
-use Rattle.tt_sgf.specs.TreeLaws.{tree_within}
+use Rattle.tt_sgf.specs.laws.TreeLaws.{tree_within}
 use Rattle.tt_sgf.proofs.LoopLemmas.{same_err, not_too_long}
 use Rattle.tt_sgf.proofs.FirstTreeLemmas.{no_tree_without, no_tree_there, rest_fits, tree_there, begins_rest, never_rest, line_is}
 use Rattle.tt_sgf.proofs.trees.read_tree.Goals as goal

@@ -3,7 +3,7 @@ use Rattle.tt_game.specs.Line.{Standing}
 use Rattle.tt_game.specs.Turns.{legal_turns}
 use Rattle.tt_search.specs.declared.limits.Limits.{Limits}
 use Rattle.tt_share.specs.Answers.{IsAnswer}
-use Rattle.tt_share.specs.Results.{Progress, IsAllSpent}
+use Rattle.tt_share.specs.inside.Results.{Progress, IsAllSpent}
 use Rattle.tt_share.proofs.Spending.{none_asked}
 use Rattle.tt_share.proofs.alone.solve_one.Goals as goal
 

@@ -3,7 +3,7 @@ use Rattle.std.proofs.lemmas.List.Elements.{All-pop}
 use Rattle.tt_share.specs.Desk.{SeatState, joined}
 use Rattle.tt_share.specs.declared.rule.Ghost.{Ghost}
 use Rattle.tt_share.specs.Seats.{SeatView}
-use Rattle.tt_share.specs.Gathering.{Gathers}
+use Rattle.tt_share.specs.inside.Gathering.{Gathers}
 use Rattle.tt_share.proofs.DeskMoves.{joins}
 use Rattle.tt_share.proofs.DeskClosing.{sat_as, gathers_first, gathers_more}
 use Rattle.tt_share.proofs.desk.join_all.Goals as goal

@@ -1,6 +1,6 @@
 use Rattle.std.proofs.Common.{◌≡◌, ◌<◌, List, [], ◌∷◌, ◌++◌, All, vec_len}
 use Rattle.tt_share.specs.Seats.{SeatView}
-use Rattle.tt_share.specs.Gathering.{Gathers}
+use Rattle.tt_share.specs.inside.Gathering.{Gathers}
 use Rattle.tt_share.proofs.desk.join_all.Given as goal
 
 abbrev pub invariant-loop-other : goal.invariant-loop-other

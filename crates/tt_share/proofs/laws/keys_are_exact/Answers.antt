@@ -1,4 +1,4 @@
-use Rattle.tt_game.specs.KeyLaws.{same_key_same, same_key_is}
+use Rattle.tt_game.specs.laws.KeyLaws.{same_key_same, same_key_is}
 use Rattle.tt_share.proofs.laws.keys_are_exact.Goals as goal
 
 pub returns : goal.returns

@@ -1,5 +1,5 @@
 use Rattle.std.proofs.Common.{ℕ, ◌<◌}
-use Rattle.tt_share.specs.Results.{IsStuckAt}
+use Rattle.tt_share.specs.inside.Results.{IsStuckAt}
 use Rattle.tt_share.proofs.results.is_past_stuck.Given as goal
 
 abbrev pub invariant-loop-lesser : goal.invariant-loop-lesser

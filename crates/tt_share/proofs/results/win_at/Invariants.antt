@@ -1,7 +1,7 @@
 use Rattle.std.proofs.Common.{ℕ, ◌<◌}
 use Rattle.tt_share.specs.declared.jobs.JobResult.{JobResult}
-use Rattle.tt_share.specs.Jobs.{HasWon}
-use Rattle.tt_share.specs.Results.{HasEnd, IsWinAt}
+use Rattle.tt_share.specs.inside.Jobs.{HasWon}
+use Rattle.tt_share.specs.inside.Results.{HasEnd, IsWinAt}
 use Rattle.tt_share.proofs.results.win_at.Given as goal
 
 abbrev pub invariant-loop-job : goal.invariant-loop-job

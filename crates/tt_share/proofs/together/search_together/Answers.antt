@@ -2,9 +2,9 @@ use Rattle.std.proofs.Common.{◌≡◌, ℕ, List, [], ◌∷◌, ◌++◌, Opt
 use Rattle.std.proofs.lemmas.List.Elements.{All-push}
 use Rattle.tt_game.specs.declared.turns.Turn.{Turn}
 use Rattle.tt_game.specs.Turns.{legal_turns}
-use Rattle.tt_share.specs.Results.{Progress, SpendsTotal}
+use Rattle.tt_share.specs.inside.Results.{Progress, SpendsTotal}
 use Rattle.tt_share.specs.Seats.{DeskView, SeatView, Closes}
-use Rattle.tt_share.specs.Tallies.{Tallies}
+use Rattle.tt_share.specs.inside.Tallies.{Tallies}
 use Rattle.tt_share.proofs.Spending.{total_spent}
 use Rattle.tt_share.proofs.together.search_together.Goals as goal
 

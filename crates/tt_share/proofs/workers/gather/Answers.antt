@@ -3,7 +3,7 @@ use Rattle.std.proofs.lemmas.List.Sums.{sum_by_push}
 use Rattle.std.proofs.lemmas.List.Elements.{All-pop, All-push}
 use Rattle.tt_share.specs.Seats.{SeatView}
 use Rattle.tt_share.specs.declared.workers.HandedBack.{HandedBack}
-use Rattle.tt_share.specs.Workers.{AreApart, AllPlaced, IsWork}
+use Rattle.tt_share.specs.inside.Workers.{AreApart, AllPlaced, IsWork}
 use Rattle.tt_share.proofs.Apart.{held_backs, back_apart, spent_backs}
 use Rattle.tt_share.proofs.Placing.{same_asked, same_twice, keeps_twice, backs_still, all_more, taken_more, taken_there, given_backs}
 use Rattle.tt_share.proofs.workers.gather.Goals as goal

@@ -1,9 +1,9 @@
 use Rattle.std.proofs.Common.{◌≡◌, ℕ, ◌+◌, ◌<◌, ◌≤◌, ◌++◌, sum_by, All, List, length, vec_len, vec_capacity}
 use Rattle.tt_share.specs.declared.workers.HandedBack.{HandedBack}
 use Rattle.tt_share.specs.Seats.{SeatView}
-use Rattle.tt_share.specs.Results.{KeepsEnds}
+use Rattle.tt_share.specs.inside.Results.{KeepsEnds}
 use Rattle.tt_share.specs.Answers.{spent_in_all}
-use Rattle.tt_share.specs.Workers.{IsWork, times, spent_by_all, held, AllApart, AllPlaced, AllGiven}
+use Rattle.tt_share.specs.inside.Workers.{IsWork, times, spent_by_all, held, AllApart, AllPlaced, AllGiven}
 use Rattle.tt_share.proofs.workers.gather.Given as goal
 
 abbrev pub invariant-loop-back : goal.invariant-loop-back

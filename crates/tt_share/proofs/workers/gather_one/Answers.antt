@@ -1,7 +1,7 @@
 use Rattle.std.proofs.Common.{◌∷◌, All, Some, ◌∙◌, arith}
 use Rattle.std.proofs.lemmas.List.Elements.{All-pop}
-use Rattle.tt_share.specs.Jobs.{IsResult}
-use Rattle.tt_share.specs.Workers.{IsPlaced}
+use Rattle.tt_share.specs.inside.Jobs.{IsResult}
+use Rattle.tt_share.specs.inside.Workers.{IsPlaced}
 use Rattle.tt_share.proofs.Placing.{same_asked, same_twice, keeps, places, keeps_twice, all_still, all_more, taken_more, taken_there, given_more}
 use Rattle.tt_share.proofs.Apart.{held_fewer, spent_fewer}
 use Rattle.tt_share.proofs.workers.gather_one.Goals as goal

@@ -1,9 +1,9 @@
 use Rattle.std.proofs.Common.{◌≡◌, ℕ, ◌+◌, ◌≤◌, ◌++◌, All, List, length, vec_len}
 use Rattle.tt_share.specs.declared.jobs.SearchedJob.{SearchedJob}
-use Rattle.tt_share.specs.Jobs.{IsResult}
-use Rattle.tt_share.specs.Results.{KeepsEnds}
+use Rattle.tt_share.specs.inside.Jobs.{IsResult}
+use Rattle.tt_share.specs.inside.Results.{KeepsEnds}
 use Rattle.tt_share.specs.Answers.{spent_in_all}
-use Rattle.tt_share.specs.Workers.{times, spent_on, held, AreApart, IsPlaced, AreGiven}
+use Rattle.tt_share.specs.inside.Workers.{times, spent_on, held, AreApart, IsPlaced, AreGiven}
 use Rattle.tt_share.proofs.workers.gather_one.Given as goal
 
 abbrev pub invariant-loop-one : goal.invariant-loop-one

@@ -2,10 +2,10 @@ use Rattle.std.proofs.Common.{◌≡◌, ℕ, Bool, ◌<◌, ◌||◌, ◌⊎◌
 use Rattle.std.proofs.lemmas.List.{length-map}
 use Rattle.std.proofs.lemmas.List.Elements.{All-push}
 use Rattle.std.proofs.lemmas.List.Sums.{sum_by_push}
-use Rattle.tt_share.specs.Jobs.{IsResult, IsResultOf, IsJobCount, IsForTotal, IsDropped, IsWinFor, end_of, kept_of}
+use Rattle.tt_share.specs.inside.Jobs.{IsResult, IsResultOf, IsJobCount, IsForTotal, IsDropped, IsWinFor, end_of, kept_of}
 use Rattle.tt_share.specs.Seats.{DeskView, SeatView}
-use Rattle.tt_share.specs.Tallies.{Tallies}
-use Rattle.tt_share.specs.Workers.{KeepsFirstStuck, SomeStuck, SomeWin, SomeTotal, WinsAreLast, AddsSpare, jobs_of, spent_on}
+use Rattle.tt_share.specs.inside.Tallies.{Tallies}
+use Rattle.tt_share.specs.inside.Workers.{KeepsFirstStuck, SomeStuck, SomeWin, SomeTotal, WinsAreLast, AddsSpare, jobs_of, spent_on}
 use Rattle.tt_share.specs.declared.jobs.JobResult.{JobResult}
 use Rattle.tt_share.specs.declared.jobs.SearchedJob.{SearchedJob}
 use Rattle.tt_share.proofs.Apart.{times_drawn}

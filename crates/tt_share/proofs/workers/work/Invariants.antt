@@ -1,7 +1,7 @@
 use Rattle.std.proofs.Common.{◌≡◌, ◌-◌, ◌*◌, ◌<◌, ◌≤◌, ◌++◌, ◌⊎◌, true, IsTrue, All, length}
-use Rattle.tt_share.specs.Jobs.{IsResult}
+use Rattle.tt_share.specs.inside.Jobs.{IsResult}
 use Rattle.tt_share.specs.declared.jobs.SearchedJob.{SearchedJob}
-use Rattle.tt_share.specs.Workers.{KeepsFirstStuck, SomeStuck, SomeWin, SomeTotal, WinsAreLast, jobs_of, spent_on}
+use Rattle.tt_share.specs.inside.Workers.{KeepsFirstStuck, SomeStuck, SomeWin, SomeTotal, WinsAreLast, jobs_of, spent_on}
 use Rattle.tt_share.proofs.workers.work.Given as goal
 
 abbrev pub invariant-loop-job : goal.invariant-loop-job

@@ -1,5 +1,5 @@
 use Rattle.std.proofs.Common.{◌≤◌, arith}
-use Rattle.tt_sgf.specs.SizeLaws.{few_points}
+use Rattle.tt_sgf.specs.laws.SizeLaws.{few_points}
 use Rattle.tt_sgf.specs.Sizes.{point_count}
 use Rattle.tt_board.proofs.StoneLemmas.{left_empty}
 use Rattle.tt_board.proofs.board.Board.empty_among.Goals as goal

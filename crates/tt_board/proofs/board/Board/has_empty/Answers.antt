@@ -1,5 +1,5 @@
 use Rattle.tt_sgf.specs.Sizes.{point_count}
-use Rattle.tt_sgf.specs.SizeLaws.{few_points}
+use Rattle.tt_sgf.specs.laws.SizeLaws.{few_points}
 use Rattle.tt_board.proofs.StoneLemmas.{empty_is}
 use Rattle.tt_board.proofs.board.Board.has_empty.Goals as goal
 

@@ -1,5 +1,5 @@
 use Rattle.std.proofs.Common.{◌≡◌, ◌<◌, ◌≤◌, ◌-◌, length, drop}
-use Rattle.tt_board.specs.Differences.{colourings_from}
+use Rattle.tt_board.specs.inside.Differences.{colourings_from}
 use Rattle.tt_board.proofs.BoardsLemmas.{boards_back}
 use Rattle.tt_board.proofs.boards.Boards.are.Given as goal
 

@@ -1,7 +1,7 @@
 use Rattle.std.proofs.Common.{◌≡◌, ◌<◌, ◌-◌, length, get_or, sym, ap, subst, ◌∙◌, arith}
 use Rattle.std.proofs.lemmas.List.{get_or_read}
 use Rattle.tt_board.specs.Position.{Position, Colouring}
-use Rattle.tt_board.specs.Boards.{IsLed, led}
+use Rattle.tt_board.specs.inside.Boards.{IsLed, led}
 use Rattle.tt_board.proofs.BoardsLemmas.{one_before}
 use Rattle.tt_board.proofs.boards.Boards.of.Goals as goal
 

@@ -1,6 +1,6 @@
 use Rattle.std.proofs.Common.{◌≡◌, ◌<◌, length, drop, get_or}
 use Rattle.tt_board.specs.Position.{Position}
-use Rattle.tt_board.specs.Boards.{led, boards_of}
+use Rattle.tt_board.specs.inside.Boards.{led, boards_of}
 use Rattle.tt_board.proofs.boards.Boards.of.Given as goal
 
 abbrev pub invariant-loop-left : goal.invariant-loop-left

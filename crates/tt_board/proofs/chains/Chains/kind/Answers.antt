@@ -1,7 +1,7 @@
 use Rattle.std.proofs.Common.{ℕ, ◌≡◌, ◌≢◌, ◌/◌, ◌⊎◌, inl, inr, refl, arith, subst}
 use Rattle.tt_board.specs.declared.play_kind.TheConstants.{NOWHERE}
 use Rattle.tt_board.specs.Play.{other}
-use Rattle.tt_board.specs.Chains.{ChainBoard, IsChainBoard, name_at, root_of, colour_number, IsOneName}
+use Rattle.tt_board.specs.inside.Chains.{ChainBoard, IsChainBoard, name_at, root_of, colour_number, IsOneName}
 use Rattle.tt_board.proofs.LinkLemmas.{named_bare}
 use Rattle.tt_board.proofs.LookLemmas.{colour_code, put_no_capture, put_vain}
 use Rattle.tt_board.proofs.PlayKindLemmas.{coded}

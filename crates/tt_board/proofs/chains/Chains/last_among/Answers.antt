@@ -2,7 +2,7 @@ use Rattle.std.proofs.Common.{ℕ, ◌≡◌, ◌<◌, ◌↔◌, true, sym, ap,
 use Rattle.std.proofs.lemmas.Bool.{true≢false}
 use Rattle.tt_sgf.specs.declared.bits.TheConstants.{BITS}
 use Rattle.tt_sgf.specs.Words.{bit_in}
-use Rattle.tt_board.specs.Chains.{ChainBoard, name_at, root_of}
+use Rattle.tt_board.specs.inside.Chains.{ChainBoard, name_at, root_of}
 use Rattle.tt_board.proofs.AmongLemmas.{sift_done, sift_rest}
 use Rattle.tt_board.proofs.chains.Chains.last_among.Goals as goal
 use Rattle.tt_board.proofs.chains.Chains.last_among.Goals.{then-self-root_of-eq1, else-self-root_of-eq1}

@@ -1,7 +1,7 @@
 use Rattle.std.proofs.Common.{◌≡◌, ℕ, ◌<◌, ◌≤◌, ◌-◌, ◌↔◌, true, false}
 use Rattle.tt_sgf.specs.declared.bits.TheConstants.{BITS}
 use Rattle.tt_sgf.specs.Words.{bit_in}
-use Rattle.tt_board.specs.Chains.{name_at, root_of}
+use Rattle.tt_board.specs.inside.Chains.{name_at, root_of}
 use Rattle.tt_board.proofs.chains.Chains.last_among.Given as goal
 
 abbrev pub decreases-loop-q : goal.decreases-loop-q

@@ -1,5 +1,5 @@
 use Rattle.std.proofs.Common.{sym, ap, subst, ◌∙◌}
-use Rattle.tt_board.specs.Chains.{ChainBoard, IsChainBoard, IsCountOf, IsLibertyOf, name_at, root_of}
+use Rattle.tt_board.specs.inside.Chains.{ChainBoard, IsChainBoard, IsCountOf, IsLibertyOf, name_at, root_of}
 use Rattle.tt_board.proofs.ExactLemmas.{liberties_exact}
 use Rattle.tt_board.proofs.chains.Chains.liberties.Goals as goal
 

@@ -3,7 +3,7 @@ use Rattle.std.proofs.lemmas.Bool.{cases_eq, eqb-true, eqb-false}
 use Rattle.tt_board.specs.Near.{IsNeighbour}
 use Rattle.tt_board.specs.Reach.{entry_at}
 use Rattle.tt_board.specs.Play.{other}
-use Rattle.tt_board.specs.Chains.{ChainBoard, IsChainBoard, name_at, root_of, colour_number, Touches, AreNear, IsOneName}
+use Rattle.tt_board.specs.inside.Chains.{ChainBoard, IsChainBoard, name_at, root_of, colour_number, Touches, AreNear, IsOneName}
 use Rattle.tt_board.proofs.LinkLemmas.{bare_named, named_bare}
 use Rattle.tt_board.proofs.LookLemmas.{IsLook, no_capture_look, own_by_capture, own_by_empty, own_by_chain, suicide_look, one_beside}
 use Rattle.tt_board.proofs.PlayKindLemmas.{coded, roots_below}

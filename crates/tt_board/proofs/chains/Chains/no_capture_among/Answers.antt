@@ -4,8 +4,8 @@ use Rattle.tt_sgf.specs.Sizes.{point_count}
 use Rattle.tt_sgf.specs.Words.{bit_in, AreBitsOf}
 use Rattle.tt_board.specs.Reach.{entry_at}
 use Rattle.tt_board.specs.Play.{other, is_stone_of}
-use Rattle.tt_board.specs.Around.{IsBesideSome}
-use Rattle.tt_board.specs.Chains.{ChainBoard, IsChainBoard}
+use Rattle.tt_board.specs.inside.Around.{IsBesideSome}
+use Rattle.tt_board.specs.inside.Chains.{ChainBoard, IsChainBoard}
 use Rattle.tt_board.proofs.AmongLemmas.{no_capture_here}
 use Rattle.tt_board.proofs.chains.Chains.no_capture_among.Goals as goal
 

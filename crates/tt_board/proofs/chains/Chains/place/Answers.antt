@@ -1,5 +1,5 @@
 use Rattle.std.proofs.Common.{subst}
-use Rattle.tt_board.specs.Chains.{ChainBoard, AreNear}
+use Rattle.tt_board.specs.inside.Chains.{ChainBoard, AreNear}
 use Rattle.tt_board.proofs.chains.Chains.place.Goals as goal
 
 pub put-requires-clause-near : goal.put-requires-clause-near

@@ -1,5 +1,5 @@
 use Rattle.std.proofs.Common.{subst}
-use Rattle.tt_board.specs.Chains.{ChainBoard, AreNear}
+use Rattle.tt_board.specs.inside.Chains.{ChainBoard, AreNear}
 use Rattle.tt_board.proofs.PlayKindLemmas.{roots_below}
 use Rattle.tt_board.proofs.chains.Chains.play_kind.Goals as goal
 

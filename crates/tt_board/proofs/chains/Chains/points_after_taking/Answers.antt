@@ -3,7 +3,7 @@ use Rattle.std.proofs.lemmas.Bool.{true≢false}
 use Rattle.std.proofs.lemmas.List.Elements.{Contains-get_or}
 use Rattle.tt_board.specs.Reach.{entry_at}
 use Rattle.tt_board.specs.Play.{play_of}
-use Rattle.tt_board.specs.Chains.{name_at}
+use Rattle.tt_board.specs.inside.Chains.{name_at}
 use Rattle.tt_board.proofs.MakeLemmas.{lifting_more, lifted_gone, lifted_kept, made_no_capture, made_suicide}
 use Rattle.tt_board.proofs.chains.Chains.points_after_taking.Goals as goal
 

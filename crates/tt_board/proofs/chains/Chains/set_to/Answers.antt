@@ -1,5 +1,5 @@
 use Rattle.std.proofs.Common.{◌≡◌, ℕ, ◌≤◌, length, arith, sym, ap, subst, ◌∙◌}
-use Rattle.tt_board.specs.Chains.{name_at, AreNames, AreCounted}
+use Rattle.tt_board.specs.inside.Chains.{name_at, AreNames, AreCounted}
 use Rattle.tt_board.proofs.LinkLemmas.{named_bare}
 use Rattle.tt_board.proofs.OverLemmas.{over_all, over_counted}
 use Rattle.tt_board.proofs.chains.Chains.set_to.Goals as goal

@@ -1,5 +1,5 @@
 use Rattle.std.proofs.Common.{inl, inr, sym, subst, ◌∙◌}
-use Rattle.tt_board.specs.Chains.{AreNames, AreCounted, IsCountedBut}
+use Rattle.tt_board.specs.inside.Chains.{AreNames, AreCounted, IsCountedBut}
 use Rattle.tt_board.proofs.PlacedLemmas.{alive_fewer, names_taken, counted_taken, taken_fewer}
 use Rattle.tt_board.proofs.chains.Chains.take.Goals as goal
 

@@ -2,7 +2,7 @@ use Rattle.std.proofs.Common.{◌≡◌, get_or, sym, ap, ◌∙◌}
 use Rattle.std.proofs.lemmas.List.{get_or_read}
 use Rattle.tt_board.specs.declared.differences.Edit.TheVariants.{Black}
 use Rattle.tt_board.specs.Position.{Colouring}
-use Rattle.tt_board.specs.Differences.{edited}
+use Rattle.tt_board.specs.inside.Differences.{edited}
 use Rattle.tt_board.proofs.DifferencesLemmas.{led_more}
 use Rattle.tt_board.proofs.differences.Differences.end.Goals as goal
 

@@ -1,5 +1,5 @@
 use Rattle.std.proofs.Common.{◌≡◌, take}
-use Rattle.tt_board.specs.Boards.{led}
+use Rattle.tt_board.specs.inside.Boards.{led}
 use Rattle.tt_board.proofs.differences.Differences.end.Given as goal
 
 abbrev pub invariant-loop-edit : goal.invariant-loop-edit

@@ -1,6 +1,6 @@
 use Rattle.std.proofs.Common.{◌≡◌, ◌≤◌, ◌-◌, length, drop}
-use Rattle.tt_board.specs.Differences.{colourings_from}
-use Rattle.tt_board.specs.Boards.{led}
+use Rattle.tt_board.specs.inside.Differences.{colourings_from}
+use Rattle.tt_board.specs.inside.Boards.{led}
 use Rattle.tt_board.proofs.differences.Differences.lead.Given as goal
 
 abbrev pub invariant-loop-at : goal.invariant-loop-at

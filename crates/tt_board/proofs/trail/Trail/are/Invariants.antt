@@ -1,6 +1,6 @@
 use Rattle.std.proofs.Common.{◌≡◌, ◌≤◌, ◌-◌, ◌++◌, length, take, drop, map}
-use Rattle.tt_board.specs.Differences.{colourings_from}
-use Rattle.tt_board.specs.Boards.{board_of}
+use Rattle.tt_board.specs.inside.Differences.{colourings_from}
+use Rattle.tt_board.specs.inside.Boards.{board_of}
 use Rattle.tt_board.proofs.trail.Trail.are.Given as goal
 
 abbrev pub invariant-loop-next : goal.invariant-loop-next

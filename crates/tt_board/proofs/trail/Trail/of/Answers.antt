@@ -2,8 +2,8 @@ use Rattle.std.proofs.Common.{rules, ◌≡◌, map, ap, ◌∙◌, arith}
 use Rattle.std.proofs.lemmas.List.{take_all}
 use Rattle.std.specs.Arc.{arc_value}
 use Rattle.tt_board.specs.Position.{colourings}
-use Rattle.tt_board.specs.Differences.{colourings_from}
-use Rattle.tt_board.specs.Boards.{board_of}
+use Rattle.tt_board.specs.inside.Differences.{colourings_from}
+use Rattle.tt_board.specs.inside.Boards.{board_of}
 use Rattle.tt_board.proofs.BoardsLemmas.{shown_boards}
 use Rattle.tt_board.proofs.trail.Trail.of.Goals as goal
 

@@ -2,8 +2,8 @@ use Rattle.std.proofs.Common.{◌≡◌, ◌≢◌, ◌++◌, ◌∷◌, List, [
 use Rattle.tt_sgf.specs.Sizes.{point_count}
 use Rattle.tt_board.specs.Position.{Colouring, colourings}
 use Rattle.tt_board.specs.Play.{IsAlive}
-use Rattle.tt_board.specs.Differences.{colourings_from}
-use Rattle.tt_board.specs.Boards.{led}
+use Rattle.tt_board.specs.inside.Differences.{colourings_from}
+use Rattle.tt_board.specs.inside.Boards.{led}
 use Rattle.tt_board.proofs.trail.Trail.of.Given as goal
 
 abbrev pub invariant-loop-board : goal.invariant-loop-board

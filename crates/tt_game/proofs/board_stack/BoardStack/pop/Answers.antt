@@ -1,6 +1,6 @@
 use Rattle.std.proofs.Common.{◌-◌, ◌<◌, ◌∷◌, length, take, reverse, sym, ap, subst, ◌∙◌, arith}
 use Rattle.std.specs.Arc.{arc_value}
-use Rattle.tt_game.specs.Undoing.{Stack}
+use Rattle.tt_game.specs.inside.Undoing.{Stack}
 use Rattle.tt_game.proofs.BoardStackLemmas.{below_more, some_live}
 use Rattle.tt_game.proofs.board_stack.BoardStack.pop.Goals as goal
 

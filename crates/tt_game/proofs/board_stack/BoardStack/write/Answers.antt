@@ -3,7 +3,7 @@ use Rattle.std.proofs.lemmas.List.{take_at, length_push, length-set}
 use Rattle.std.specs.Arc.{arc_value}
 use Rattle.tt_board.specs.Position.{Position}
 use Rattle.tt_board.specs.Play.{play_of}
-use Rattle.tt_game.specs.Undoing.{Stack, stack_of, board_on, AreMade}
+use Rattle.tt_game.specs.inside.Undoing.{Stack, stack_of, board_on, AreMade}
 use Rattle.tt_game.proofs.BoardStackLemmas.{after, stack_room, written_below, written_present, made_more, made_room, made_fewer}
 use Rattle.tt_game.proofs.board_stack.BoardStack.write.Goals as goal
 use Rattle.tt_game.proofs.board_stack.BoardStack.write.Goals.{then-self-len+in_ok-grow, else-self-len}

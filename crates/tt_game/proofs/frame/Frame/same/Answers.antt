@@ -1,5 +1,5 @@
 use Rattle.std.proofs.Common.{◌≡◌, ap, rules, arith}
-use Rattle.tt_sgf.specs.SizeLaws.{sizes_same}
+use Rattle.tt_sgf.specs.laws.SizeLaws.{sizes_same}
 use Rattle.tt_game.specs.declared.frame.Frame.{Frame}
 use Rattle.tt_game.proofs.FrameLemmas.{same_frames}
 use Rattle.tt_game.proofs.frame.Frame.same.Goals as goal

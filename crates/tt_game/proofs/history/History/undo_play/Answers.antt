@@ -1,6 +1,6 @@
 use Rattle.std.proofs.Common.{ap, ◌∙◌}
 use Rattle.tt_game.specs.Course.{Course}
-use Rattle.tt_game.specs.Undoing.{without_play}
+use Rattle.tt_game.specs.inside.Undoing.{without_play}
 use Rattle.tt_game.proofs.CourseLemmas.{course_undone}
 use Rattle.tt_game.proofs.history.History.undo_play.Goals as goal
 

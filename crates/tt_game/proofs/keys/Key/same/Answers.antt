@@ -1,5 +1,5 @@
 use Rattle.std.proofs.Common.{sym, ◌∙◌}
-use Rattle.tt_game.specs.KeyLaws.{same_key_same, same_key_is}
+use Rattle.tt_game.specs.laws.KeyLaws.{same_key_same, same_key_is}
 use Rattle.tt_game.proofs.keys.Key.same.Goals as goal
 
 pub returns : goal.returns

@@ -5,8 +5,8 @@ use Rattle.std.proofs.lemmas.List.Elements.{Contains-append_cases}
 use Rattle.std.specs.Arc.{arc_value}
 use Rattle.tt_game.specs.Course.{so_far, colourings}
 use Rattle.tt_game.specs.Game.{history}
-use Rattle.tt_game.specs.Undoing.{state_at}
-use Rattle.tt_game.specs.Roots.{Rooted}
+use Rattle.tt_game.specs.inside.Undoing.{state_at}
+use Rattle.tt_game.specs.inside.Roots.{Rooted}
 use Rattle.tt_game.proofs.RootLemmas.{begins_long, rooted_here}
 use Rattle.tt_game.proofs.line.Line.has_stood.Goals as goal
 

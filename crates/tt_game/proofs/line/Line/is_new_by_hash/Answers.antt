@@ -8,8 +8,8 @@ use Rattle.tt_board.specs.Reach.{entry_at}
 use Rattle.tt_game.specs.Course.{so_far, colourings}
 use Rattle.tt_game.specs.Game.{history}
 use Rattle.tt_game.specs.BloomFilter.{hash_of}
-use Rattle.tt_game.specs.Undoing.{state_at}
-use Rattle.tt_game.specs.Roots.{Rooted}
+use Rattle.tt_game.specs.inside.Undoing.{state_at}
+use Rattle.tt_game.specs.inside.Roots.{Rooted}
 use Rattle.tt_game.proofs.RootLemmas.{begins_long, rooted_here}
 use Rattle.tt_game.proofs.line.Line.is_new_by_hash.Goals as goal
 

@@ -5,7 +5,7 @@ use Rattle.tt_sgf.specs.Words.{bit_in}
 use Rattle.tt_board.specs.PlayKind.{IsKind}
 use Rattle.tt_board.specs.Position.{Position}
 use Rattle.tt_board.specs.Play.{play_of}
-use Rattle.tt_game.specs.Undoing.{board_on}
+use Rattle.tt_game.specs.inside.Undoing.{board_on}
 use Rattle.tt_game.proofs.MoveGeneratorLemmas.{no_capture_where_new}
 use Rattle.tt_game.proofs.line.Line.kind_by.Goals as goal
 

@@ -4,7 +4,7 @@ use Rattle.tt_sgf.specs.Sizes.{point_count}
 use Rattle.tt_board.specs.Position.{Position}
 use Rattle.tt_board.specs.Play.{play_of}
 use Rattle.tt_game.specs.Game.{colour_of}
-use Rattle.tt_game.specs.Undoing.{board_on}
+use Rattle.tt_game.specs.inside.Undoing.{board_on}
 use Rattle.tt_game.proofs.MoveGeneratorLemmas.{no_capture_where_new}
 use Rattle.tt_game.proofs.line.Line.play_kind.Goals as goal
 

@@ -3,8 +3,8 @@ use Rattle.std.specs.Arc.{arc_value}
 use Rattle.tt_game.specs.declared.line.Undo.TheVariants.{UndoPass}
 use Rattle.tt_game.specs.Course.{with_pass}
 use Rattle.tt_game.specs.Game.{opponent}
-use Rattle.tt_game.specs.Undoing.{state_at}
-use Rattle.tt_game.specs.Roots.{AreRooted}
+use Rattle.tt_game.specs.inside.Undoing.{state_at}
+use Rattle.tt_game.specs.inside.Roots.{AreRooted}
 use Rattle.tt_game.proofs.RootLemmas.{rooted_pass, undoable_pass}
 use Rattle.tt_game.proofs.line.Line.push_pass.Goals as goal
 

@@ -4,14 +4,14 @@ use Rattle.std.proofs.lemmas.List.Elements.{Contains-append_cases}
 use Rattle.std.specs.Arc.{arc_value}
 use Rattle.tt_sgf.specs.declared.size.Size.{Size}
 use Rattle.tt_sgf.specs.Sizes.{point_count}
-use Rattle.tt_sgf.specs.SizeLaws.{few_points}
+use Rattle.tt_sgf.specs.laws.SizeLaws.{few_points}
 use Rattle.tt_sgf.specs.Words.{bit_in}
 use Rattle.tt_board.specs.Position.{Position}
 use Rattle.tt_game.specs.Course.{so_far, colourings}
 use Rattle.tt_game.specs.Game.{history}
-use Rattle.tt_game.specs.Undoing.{state_at}
+use Rattle.tt_game.specs.inside.Undoing.{state_at}
 use Rattle.tt_game.specs.declared.frame.Frame.{Frame}
-use Rattle.tt_game.specs.Roots.{Rooted, AreStonesOf}
+use Rattle.tt_game.specs.inside.Roots.{Rooted, AreStonesOf}
 use Rattle.tt_game.proofs.RootLemmas.{begins_long, rooted_here}
 use Rattle.tt_game.proofs.line.Line.stones_so_far.Goals as goal
 

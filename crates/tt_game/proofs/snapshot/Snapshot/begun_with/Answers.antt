@@ -3,7 +3,7 @@ use Rattle.std.specs.Arc.{arc_value}
 use Rattle.tt_game.specs.Course.{colourings}
 use Rattle.tt_game.specs.Game.{history}
 use Rattle.tt_game.specs.Line.{Stood}
-use Rattle.tt_game.specs.Roots.{Rooted}
+use Rattle.tt_game.specs.inside.Roots.{Rooted}
 use Rattle.tt_game.proofs.CourseLemmas.{history_is}
 use Rattle.tt_game.proofs.RootLemmas.{begin_alike}
 use Rattle.tt_game.proofs.snapshot.Snapshot.begun_with.Goals as goal

@@ -5,7 +5,7 @@ use Rattle.std.specs.Arc.{arc_value}
 use Rattle.tt_board.specs.Position.{Position}
 use Rattle.tt_game.specs.declared.frame.Frame.{Frame}
 use Rattle.tt_game.specs.Line.{Stood}
-use Rattle.tt_game.specs.Roots.{Rooted}
+use Rattle.tt_game.specs.inside.Roots.{Rooted}
 use Rattle.tt_game.proofs.RootLemmas.{shows_boards, two_parts, of_two_parts}
 use Rattle.tt_game.proofs.snapshot.Snapshot.has_history.Goals as goal
 

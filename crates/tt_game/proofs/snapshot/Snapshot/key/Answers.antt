@@ -1,6 +1,6 @@
 use Rattle.std.proofs.Common.{◌≡◌, ap, ◌∙◌}
 use Rattle.tt_game.specs.Line.{Stood}
-use Rattle.tt_game.specs.Roots.{Rooted}
+use Rattle.tt_game.specs.inside.Roots.{Rooted}
 use Rattle.tt_game.proofs.KeyLemmas.{key_told}
 use Rattle.tt_game.proofs.snapshot.Snapshot.key.Goals as goal
 

@@ -7,8 +7,8 @@ use Rattle.tt_board.specs.Position.{Position}
 use Rattle.tt_game.specs.Keys.{key_of}
 use Rattle.tt_game.specs.KeyHash.{hash_of_key}
 use Rattle.tt_game.specs.Line.{Stood}
-use Rattle.tt_game.specs.Undoing.{course_of, state_at}
-use Rattle.tt_game.specs.Roots.{Rooted}
+use Rattle.tt_game.specs.inside.Undoing.{course_of, state_at}
+use Rattle.tt_game.specs.inside.Roots.{Rooted}
 use Rattle.tt_game.proofs.RootLemmas.{kept_shows}
 use Rattle.tt_game.proofs.snapshot.Snapshot.of.Goals as goal
 

@@ -3,7 +3,7 @@ use Rattle.std.proofs.lemmas.List.{append-nil}
 use Rattle.std.specs.Arc.{arc_value}
 use Rattle.tt_board.specs.Position.{Position}
 use Rattle.tt_game.specs.Line.{Stood}
-use Rattle.tt_game.specs.Roots.{Rooted}
+use Rattle.tt_game.specs.inside.Roots.{Rooted}
 use Rattle.tt_game.proofs.RootLemmas.{last_shown, last_sized}
 use Rattle.tt_game.proofs.snapshot.Snapshot.present.Goals as goal
 

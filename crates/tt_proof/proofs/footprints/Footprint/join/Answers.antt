@@ -1,6 +1,6 @@
 use Rattle.std.proofs.Common.{subst}
 use Rattle.tt_board.specs.Position.{Position}
-use Rattle.tt_proof.specs.Collecting.{IsMadeWithin}
+use Rattle.tt_proof.specs.inside.Collecting.{IsMadeWithin}
 use Rattle.tt_proof.proofs.ResultLemmas.{on_ok}
 use Rattle.tt_proof.proofs.FootprintLemmas.{foot_entry, otherwise}
 use Rattle.tt_proof.proofs.footprints.Footprint.join.Goals as goal

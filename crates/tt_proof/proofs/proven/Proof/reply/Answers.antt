@@ -3,12 +3,12 @@ use Rattle.std.proofs.Math.Seq.{append_snoc}
 use Rattle.std.proofs.lemmas.List.{append-nil}
 use Rattle.tt_game.specs.Game.{IsLegal, after, opponent}
 use Rattle.tt_game.specs.Line.{Stood}
-use Rattle.tt_game.specs.TurnLaws.{contains-legal_turns}
+use Rattle.tt_game.specs.laws.TurnLaws.{contains-legal_turns}
 use Rattle.tt_game.specs.declared.turns.Turn.{Turn}
 use Rattle.tt_proof.specs.Proven.{AreChildren, trees_of, turns_of}
 use Rattle.tt_proof.specs.KeptFootprints.{IsFootprint}
 use Rattle.tt_proof.specs.Strategy.{reply, entries_of}
-use Rattle.tt_game.specs.Members.{IsIn, contains_of_in}
+use Rattle.tt_game.specs.laws.Members.{IsIn, contains_of_in}
 use Rattle.tt_proof.proofs.FittingLemmas.{foot_moved, board_there}
 use Rattle.tt_proof.proofs.ProvenLemmas.{AllWon, won_reply, all_won_push, trees_of_push}
 use Rattle.tt_proof.proofs.proven.Proof.reply.Goals as goal

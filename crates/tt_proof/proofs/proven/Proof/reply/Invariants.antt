@@ -5,7 +5,7 @@ use Rattle.tt_game.specs.declared.turns.Turn.{Turn}
 use Rattle.tt_proof.specs.Strategy.{reply, entries_of}
 use Rattle.tt_proof.specs.Proven.{AreChildren, trees_of, turns_of}
 use Rattle.tt_proof.specs.KeptFootprints.{IsFootprint}
-use Rattle.tt_game.specs.Members.{IsIn}
+use Rattle.tt_game.specs.laws.Members.{IsIn}
 use Rattle.tt_proof.proofs.ProvenLemmas.{AllWon}
 use Rattle.tt_proof.proofs.proven.Proof.reply.Given as goal
 

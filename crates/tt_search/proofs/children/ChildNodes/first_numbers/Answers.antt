@@ -2,7 +2,7 @@ use Rattle.std.proofs.Common.{◌∙◌, ◌<◌, length, ap, sym, arith}
 use Rattle.tt_game.specs.Game.{opponent}
 use Rattle.tt_search.specs.Numbers.{least, capped_sum}
 use Rattle.tt_search.specs.MostProving.{first_least}
-use Rattle.tt_search.specs.Edges.{AreFresh}
+use Rattle.tt_search.specs.inside.Edges.{AreFresh}
 use Rattle.tt_search.proofs.FreshRows.{ones, least_ones, first_ones, capped_ones}
 use Rattle.tt_search.proofs.children.ChildNodes.first_numbers.Goals as goal
 

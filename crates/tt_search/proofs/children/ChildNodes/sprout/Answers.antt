@@ -1,8 +1,8 @@
 use Rattle.std.proofs.Common.{◌∙◌, ◌≤◌, length, get_or, take, refl, sym, ap, subst, arith}
 use Rattle.std.proofs.lemmas.List.Edits.{get_or-insert_at}
 use Rattle.tt_search.specs.PartialTree.{fresh}
-use Rattle.tt_search.specs.Edges.{edge_turn}
-use Rattle.tt_search.specs.Descending.{Descends}
+use Rattle.tt_search.specs.inside.Edges.{edge_turn}
+use Rattle.tt_search.specs.inside.Descending.{Descends}
 use Rattle.tt_search.specs.declared.walk.Stop.TheVariants.{OneStep}
 use Rattle.tt_search.proofs.Places.{fresh_there, rank_within, take_set}
 use Rattle.tt_search.proofs.Sprouted.{stays_fresh, stays_for_memory, stands_inserted, gone_again, still_whole, put, put_whole}

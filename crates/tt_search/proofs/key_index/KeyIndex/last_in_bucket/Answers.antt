@@ -1,6 +1,6 @@
 use Rattle.std.proofs.Common.{arith, ◌≢◌, ◌-◌, ◌+◌, ◌<◌, ◌∙◌, length, get_or}
 use Rattle.std.proofs.lemmas.List.{get_or_read}
-use Rattle.tt_search.specs.Buckets.{NoHashFrom}
+use Rattle.tt_search.specs.inside.Buckets.{NoHashFrom}
 use Rattle.tt_search.proofs.Buckets.{bucket_within, bucket_read, head_low, head_inside, before_low, before_inside, unmarked_past_head, unmarked_past_next}
 use Rattle.tt_search.proofs.key_index.KeyIndex.last_in_bucket.Goals as goal
 

@@ -1,5 +1,5 @@
 use Rattle.std.proofs.Common.{◌≡◌, ◌-◌, ◌<◌, ◌≤◌, length, get_or}
-use Rattle.tt_search.specs.Buckets.{bucket_of_hash, NoHashFrom}
+use Rattle.tt_search.specs.inside.Buckets.{bucket_of_hash, NoHashFrom}
 use Rattle.tt_search.proofs.key_index.KeyIndex.last_in_bucket.Given as goal
 
 abbrev pub invariant-loop-next : goal.invariant-loop-next

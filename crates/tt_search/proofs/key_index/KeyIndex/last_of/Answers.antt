@@ -3,7 +3,7 @@ use Rattle.std.proofs.lemmas.List.{get_or_read}
 use Rattle.tt_proof.specs.Proven.{Proven}
 use Rattle.tt_search.specs.Stores.{AnswersFor, IsNewest}
 use Rattle.tt_search.specs.KeyIndex.{index_hashes, IndexState}
-use Rattle.tt_search.specs.Buckets.{bucket_of_hash, NoneFrom}
+use Rattle.tt_search.specs.inside.Buckets.{bucket_of_hash, NoneFrom}
 use Rattle.tt_search.proofs.Buckets.{before_low, before_inside, none_unmarked, none_past_next, not_found, answers_hash, found_newest, none_newest}
 use Rattle.tt_search.proofs.key_index.KeyIndex.last_of.Goals.{else-index-hash-via-then-index-hash+else-is_for, else-index-hash-via-else-index-hash}
 use Rattle.tt_search.proofs.key_index.KeyIndex.last_of.Goals as goal

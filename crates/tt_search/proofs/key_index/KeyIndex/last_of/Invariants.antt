@@ -1,5 +1,5 @@
 use Rattle.std.proofs.Common.{◌≡◌, ◌-◌, ◌<◌, ◌≤◌, length, get_or}
-use Rattle.tt_search.specs.Buckets.{bucket_of_hash, NoneFrom}
+use Rattle.tt_search.specs.inside.Buckets.{bucket_of_hash, NoneFrom}
 use Rattle.tt_search.proofs.key_index.KeyIndex.last_of.Given as goal
 
 abbrev pub invariant-loop-next : goal.invariant-loop-next

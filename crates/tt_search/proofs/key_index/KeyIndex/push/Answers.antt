@@ -1,6 +1,6 @@
 use Rattle.std.proofs.Common.{rules, subst, sym, ◌∙◌}
 use Rattle.tt_game.specs.BloomFilter.{MayHold}
-use Rattle.tt_search.specs.Buckets.{MayHoldHashes}
+use Rattle.tt_search.specs.inside.Buckets.{MayHoldHashes}
 use Rattle.tt_search.proofs.Buckets.{linked_more, seen_more}
 use Rattle.tt_search.proofs.key_index.KeyIndex.push.Goals as goal
 

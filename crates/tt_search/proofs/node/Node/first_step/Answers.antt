@@ -1,7 +1,7 @@
 use Rattle.std.proofs.Common.{rules, subst}
 use Rattle.tt_search.specs.PartialTree.{fresh}
-use Rattle.tt_search.specs.Walking.{stage, stand_of}
-use Rattle.tt_search.specs.Taken.{Taken}
+use Rattle.tt_search.specs.inside.Walking.{stage, stand_of}
+use Rattle.tt_search.specs.inside.Taken.{Taken}
 use Rattle.tt_search.proofs.Asking.{room_to_ask}
 use Rattle.tt_search.proofs.Sprouted.{leaf_offerable}
 use Rattle.tt_search.proofs.node.Node.first_step.Goals as goal

@@ -1,7 +1,7 @@
 use Rattle.std.proofs.Common.{◌≡◌, suc, ◌++◌, ◌∷◌, [], ◌∙◌, sym, ap, length, arith}
 use Rattle.tt_sgf.specs.Words.{bit_in}
 use Rattle.tt_sgf.specs.declared.size.TheConstants.{MOST_POINTS}
-use Rattle.tt_search.specs.Untried.{fresh_edge, plays_in, plays_and_pass}
+use Rattle.tt_search.specs.inside.Untried.{fresh_edge, plays_in, plays_and_pass}
 use Rattle.tt_search.proofs.Joins.{on_ok}
 use Rattle.tt_search.proofs.Untried.{none_yet, skipped, play_here}
 use Rattle.tt_search.proofs.plays.Plays.row.Goals as goal

@@ -1,10 +1,10 @@
 use Rattle.std.proofs.Common.{rules, ◌≡◌, ◌+◌, ◌^◌, ◌<◌, ◌≤◌, refl, sym, subst, arith}
 use Rattle.tt_game.specs.Line.{Standing}
 use Rattle.tt_search.specs.Numbers.{count, IsUndecided}
-use Rattle.tt_search.specs.Walking.{stage, stand_of}
+use Rattle.tt_search.specs.inside.Walking.{stage, stand_of}
 use Rattle.tt_search.specs.Searched.{Searched}
-use Rattle.tt_search.specs.Searching.{IsSearch}
-use Rattle.tt_search.specs.Advanced.{IsAdvanced}
+use Rattle.tt_search.specs.inside.Searching.{IsSearch}
+use Rattle.tt_search.specs.inside.Advanced.{IsAdvanced}
 use Rattle.tt_search.specs.declared.limits.Step.TheVariants.{Settled}
 use Rattle.tt_search.proofs.Asking.{asked_once}
 use Rattle.tt_search.proofs.Steady.{same_stand}

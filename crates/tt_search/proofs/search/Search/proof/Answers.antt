@@ -1,5 +1,5 @@
 use Rattle.std.proofs.Common.{◌≤◌, IfOk, sym, subst}
-use Rattle.tt_search.specs.Within.{StaysWithin}
+use Rattle.tt_search.specs.inside.Within.{StaysWithin}
 use Rattle.tt_search.specs.Searched.{Searched, IsProofOf}
 use Rattle.tt_search.proofs.Ends.{is_proof}
 use Rattle.tt_search.proofs.Steps.{offerable}

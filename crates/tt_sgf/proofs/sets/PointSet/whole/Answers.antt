@@ -1,7 +1,7 @@
 use Rattle.std.proofs.Common.{◌≡◌, ◌+◌, suc, true, refl, sym, ap, ◌∙◌, arith}
 use Rattle.std.specs.FinSet as set
 use Rattle.tt_sgf.specs.Points.{passing}
-use Rattle.tt_sgf.specs.PointLaws.{passing-zero, passing-in}
+use Rattle.tt_sgf.specs.laws.PointLaws.{passing-zero, passing-in}
 use Rattle.tt_sgf.proofs.sets.PointSet.whole.Goals as goal
 
 pub loop-number-init : goal.loop-number-init

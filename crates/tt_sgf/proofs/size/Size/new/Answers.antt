@@ -1,5 +1,5 @@
 use Rattle.std.proofs.Common.{sym, arith}
-use Rattle.tt_sgf.specs.SizeLaws.{sized_is, sized_out}
+use Rattle.tt_sgf.specs.laws.SizeLaws.{sized_is, sized_out}
 use Rattle.tt_sgf.proofs.size.Size.new.Goals as goal
 
 pub returns-then-rows-le19-clause-is : goal.returns-then-rows-le19-clause-is

@@ -2,7 +2,7 @@ use Rattle.std.proofs.Common.{◌≡◌, ℕ, List, Option, MatchOption, min, sy
 use lib.ListN.{get_elem?}
 use mathlib.Core.Option.{some-injective}
 use Rattle.tt_share.specs.Seats.{DeskView, SeatView, EachOnce, Spends}
-use Rattle.tt_share.specs.Gathering.{Gathers}
+use Rattle.tt_share.specs.inside.Gathering.{Gathers}
 use Rattle.tt_share.proofs.DeskClosing.{End, closes, grants_by}
 use Rattle.tt_share.proofs.desk.Desk.close.Goals as goal
 

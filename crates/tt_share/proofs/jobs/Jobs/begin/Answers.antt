@@ -4,7 +4,7 @@ use Rattle.tt_game.specs.declared.turns.Turn.{Turn}
 use Rattle.tt_game.specs.Game.{after}
 use Rattle.tt_search.specs.Searched.{Searched}
 use Rattle.tt_share.specs.Answers.{IsBehind}
-use Rattle.tt_share.specs.Jobs.{IsJob}
+use Rattle.tt_share.specs.inside.Jobs.{IsJob}
 use Rattle.tt_share.proofs.Lost.{legal_job}
 use Rattle.tt_share.proofs.Wins.{job_here}
 use Rattle.tt_share.proofs.jobs.Jobs.begin.Goals as goal

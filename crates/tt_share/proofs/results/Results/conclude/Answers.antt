@@ -8,10 +8,10 @@ use Rattle.tt_share.specs.declared.jobs.JobResult.{JobResult}
 use Rattle.tt_search.specs.declared.search.End.TheVariants.{Settled, Stuck}
 use Rattle.tt_search.specs.declared.limits.Reason.TheVariants.{Total}
 use Rattle.tt_share.specs.declared.jobs.JobResult.TheVariants as result
-use Rattle.tt_share.specs.Beginning.{BeginsWith}
-use Rattle.tt_share.specs.Jobs.{AreResults, EndsBehind, IsJob, HasWon, end_of}
+use Rattle.tt_share.specs.inside.Beginning.{BeginsWith}
+use Rattle.tt_share.specs.inside.Jobs.{AreResults, EndsBehind, IsJob, HasWon, end_of}
 use Rattle.tt_share.specs.Answers.{IsAnswer, spent_shown_of}
-use Rattle.tt_share.specs.Results.{Progress, AreNoted, HasEnd, HaveLost, IsLost, AllWon, NoWin, IsStuckAt}
+use Rattle.tt_share.specs.inside.Results.{Progress, AreNoted, HasEnd, HaveLost, IsLost, AllWon, NoWin, IsStuckAt}
 use Rattle.tt_share.proofs.Lost.{legal_job, lesser_lose, one_more}
 use Rattle.tt_share.proofs.Placing.{seen, shown}
 use Rattle.tt_share.proofs.Noting.{spent_told}

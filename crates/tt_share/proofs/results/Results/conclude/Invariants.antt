@@ -1,5 +1,5 @@
 use Rattle.std.proofs.Common.{◌≡◌, ℕ, ◌<◌, ◌≤◌, vec_len, slice_get}
-use Rattle.tt_share.specs.Results.{HaveLost, IsStuckAt}
+use Rattle.tt_share.specs.inside.Results.{HaveLost, IsStuckAt}
 use Rattle.tt_share.proofs.results.Results.conclude.Given as goal
 
 abbrev pub invariant-loop-job : goal.invariant-loop-job

@@ -1,6 +1,6 @@
 use Rattle.std.proofs.Common.{◌≡◌, ◌↔◌, ◌∙◌, ◌<◌, IsTrue, false, List, Option, Some, None, slice_get, length, ap, subst}
 use Rattle.tt_share.specs.declared.jobs.JobResult.{JobResult}
-use Rattle.tt_share.specs.Results.{Progress, HasResult}
+use Rattle.tt_share.specs.inside.Results.{Progress, HasResult}
 use Rattle.tt_share.proofs.results.Results.is_free.Goals as goal
 
 pub returns-clause-free : goal.returns-clause-free

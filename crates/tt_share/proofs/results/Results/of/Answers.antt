@@ -2,7 +2,7 @@ use Rattle.std.proofs.Common.{rules, ◌≡◌, ℕ, [], ◌∷◌, ◌++◌, Li
 use Rattle.std.proofs.lemmas.List.{replicate_more, length-map}
 use Rattle.tt_game.specs.declared.turns.Turn.{Turn}
 use Rattle.tt_share.specs.declared.jobs.JobResult.{JobResult}
-use Rattle.tt_share.specs.Jobs.{AreResults}
+use Rattle.tt_share.specs.inside.Jobs.{AreResults}
 use Rattle.tt_share.proofs.Noting.{blank_noted, blank_sum}
 use Rattle.tt_share.proofs.ResultLemmas.{none_more}
 use Rattle.tt_share.proofs.results.Results.of.Goals as goal

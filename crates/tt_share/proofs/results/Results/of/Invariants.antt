@@ -1,5 +1,5 @@
 use Rattle.std.proofs.Common.{◌≡◌, ◌≤◌, None, replicate, vec_len, vec_capacity}
-use Rattle.tt_share.specs.Jobs.{AreResults}
+use Rattle.tt_share.specs.inside.Jobs.{AreResults}
 use Rattle.tt_share.proofs.results.Results.of.Given as goal
 
 abbrev pub invariant-loop : goal.invariant-loop

@@ -3,8 +3,8 @@ use Rattle.std.proofs.lemmas.List.{length-set}
 use Rattle.std.proofs.lemmas.Option.{slice_get_within}
 use Rattle.tt_share.specs.declared.jobs.JobResult.{JobResult}
 use Rattle.tt_share.specs.Answers.{spent_in_all}
-use Rattle.tt_share.specs.Jobs.{IsResultOf, IsJobCount, AreResults, kept_of}
-use Rattle.tt_share.specs.Results.{Progress, AreNoted, IsPastStuck}
+use Rattle.tt_share.specs.inside.Jobs.{IsResultOf, IsJobCount, AreResults, kept_of}
+use Rattle.tt_share.specs.inside.Results.{Progress, AreNoted, IsPastStuck}
 use Rattle.tt_share.proofs.Noting.{noted_put, sum_noted, kept_count}
 use Rattle.tt_share.proofs.ResultLemmas.{one_more_result, kept_result}
 use Rattle.tt_share.proofs.Placing.{seen}

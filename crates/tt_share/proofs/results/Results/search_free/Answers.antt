@@ -1,5 +1,5 @@
 use Rattle.std.proofs.Common.{◌≡◌, Some, None, slice_get, sym, subst}
-use Rattle.tt_share.specs.Jobs.{IsResult}
+use Rattle.tt_share.specs.inside.Jobs.{IsResult}
 use Rattle.tt_share.proofs.Asked.{asked_put}
 use Rattle.tt_share.proofs.Placing.{shown}
 use Rattle.tt_share.proofs.results.Results.search_free.Goals as goal

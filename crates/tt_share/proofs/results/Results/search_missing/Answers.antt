@@ -1,6 +1,6 @@
 use Rattle.std.proofs.Common.{◌∙◌, ◌<◌, ◌+◌, ℕ, sym, ap, subst, arith}
 use Rattle.tt_game.specs.declared.frame.Side.{Side}
-use Rattle.tt_share.specs.Results.{Progress, IsWinAt, StopsAtWin}
+use Rattle.tt_share.specs.inside.Results.{Progress, IsWinAt, StopsAtWin}
 use Rattle.tt_share.proofs.Placing.{same_twice, keeps_twice}
 use Rattle.tt_share.proofs.Asked.{asked_nothing, asked_twice}
 use Rattle.tt_share.proofs.Wins.{ready_by, filled_more, no_win, win_kept, lost_more, same_more, stops_at, stops_never}

@@ -1,5 +1,5 @@
 use Rattle.std.proofs.Common.{◌≡◌, ◌*◌, ℕ, ◌<◌, ◌≤◌, slice_get, length}
-use Rattle.tt_share.specs.Results.{AskedFor, FilledBelow, IsWinAt, KeepsEnds}
+use Rattle.tt_share.specs.inside.Results.{AskedFor, FilledBelow, IsWinAt, KeepsEnds}
 use Rattle.tt_share.proofs.results.Results.search_missing.Given as goal
 
 abbrev pub invariant-loop-job : goal.invariant-loop-job

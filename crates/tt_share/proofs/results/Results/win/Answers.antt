@@ -1,7 +1,7 @@
 use Rattle.std.proofs.Common.{◌∙◌, List, Option, MatchOption, ap, subst}
 use Rattle.tt_game.specs.declared.frame.Side.{Side}
 use Rattle.tt_share.specs.declared.jobs.JobResult.{JobResult}
-use Rattle.tt_share.specs.Results.{Progress, NoWin, IsLeastWin}
+use Rattle.tt_share.specs.inside.Results.{Progress, NoWin, IsLeastWin}
 use Rattle.tt_share.proofs.results.Results.win.Goals as goal
 
 pub returns : goal.returns

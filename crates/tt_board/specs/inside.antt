@@ -1,0 +1,7 @@
+-- What private contracts and proofs cite. Nobody has to believe these.
+pub mod Planes
+pub mod Differences
+pub mod Boards
+pub mod Chain
+pub mod Chains
+pub mod Around

@@ -1,0 +1,5 @@
+-- What crates above cite: laws of the definitions, with their proofs. Nobody has to believe these.
+pub mod Members
+pub mod TurnLaws
+pub mod KeyLaws
+pub mod SideLaws

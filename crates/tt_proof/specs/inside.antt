@@ -1,0 +1,4 @@
+-- What private contracts and proofs cite. Nobody has to believe these.
+pub mod Replaying
+pub mod Collecting
+pub mod CertificateReading

@@ -1,0 +1,27 @@
+-- What private contracts and proofs cite. Nobody has to believe these.
+pub mod Children
+pub mod Weight
+pub mod Edges
+pub mod EdgeRow
+pub mod Untried
+pub mod Expanding
+pub mod Choices
+pub mod ChildNodes
+pub mod Kept
+pub mod Child
+pub mod Pairs
+pub mod Shape
+pub mod Cached
+pub mod Offered
+pub mod Joining
+pub mod Falls
+pub mod Within
+pub mod Walking
+pub mod Taken
+pub mod Steady
+pub mod Asking
+pub mod Descending
+pub mod Sprouting
+pub mod Searching
+pub mod Advanced
+pub mod Buckets

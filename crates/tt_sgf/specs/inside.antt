@@ -1,0 +1,4 @@
+-- What private contracts and proofs cite. Nobody has to believe these.
+pub mod Reading
+pub mod ShortForms
+pub mod ValueRows

@@ -1,0 +1,4 @@
+-- What crates above cite: laws of the definitions, with their proofs. Nobody has to believe these.
+pub mod TreeLaws
+pub mod SizeLaws
+pub mod PointLaws
