@@ -4,7 +4,7 @@ use Rattle.std.proofs.lemmas.List.{reverse-append, map-append, drop_more}
 use Rattle.std.proofs.lemmas.Bool.{eqb-true, eq-eqb, and_parts}
 use Rattle.tt_sgf.specs.declared.size.Size.{Size}
 use Rattle.tt_sgf.specs.laws.SizeLaws.{sizes_same}
-use Rattle.tt_board.specs.declared.differences.Edit.{Edit}
+use Rattle.tt_board.specs.declared.boards.differences.Edit.{Edit}
 use Rattle.tt_board.specs.Position.{Position, Colouring, colourings}
 use Rattle.tt_board.specs.inside.Differences.{colourings_from}
 use Rattle.tt_board.specs.inside.Boards.{led, board_of, boards_of, IsLed}

@@ -10,8 +10,8 @@ use Rattle.std.specs.Int.{w64, bit_at, trailing_zeros}
 use Rattle.tt_sgf.specs.Words.{bit_in}
 use Rattle.std.proofs.lemmas.List.{length-take, take_at, take_more, take-append-drop, take-append-le}
 use Rattle.tt_board.specs.declared.Colour.{Colour}
-use Rattle.tt_board.specs.declared.differences.Edit.{Edit}
-use Rattle.tt_board.specs.declared.differences.Edit.TheVariants.{Black, White, Empty, Whole}
+use Rattle.tt_board.specs.declared.boards.differences.Edit.{Edit}
+use Rattle.tt_board.specs.declared.boards.differences.Edit.TheVariants.{Black, White, Empty, Whole}
 use Rattle.tt_board.specs.Position.{Colouring}
 use Rattle.tt_board.specs.Reach.{entry_at}
 use Rattle.tt_board.specs.inside.Differences.{edited, finished, colourings_from}

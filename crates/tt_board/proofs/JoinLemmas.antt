@@ -12,7 +12,7 @@ use Rattle.tt_board.specs.Position.{Colouring}
 use Rattle.tt_board.specs.Reach.{entry_at}
 use Rattle.tt_board.specs.inside.Chains.{AreLinked, name_at, root_of, IsNamed, touching, is_liberty, liberty_count, stone_count, renamed, AreCounted, AreNamesBut, AreGathered, Touches}
 use Rattle.tt_board.specs.Decided.{decided}
-use Rattle.tt_board.specs.declared.play_kind.TheConstants.{NOWHERE}
+use Rattle.tt_board.specs.declared.counted.play_kind.TheConstants.{NOWHERE}
 use Rattle.tt_board.proofs.CountLemmas.{same_decided, count_same}
 use Rattle.tt_board.proofs.LiftLemmas.{near_back}
 use Rattle.tt_board.proofs.LinkLemmas.{linked_trans, linked_sym, linked_on, linked_self, named_bare}

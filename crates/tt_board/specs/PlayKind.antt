@@ -2,8 +2,8 @@
 use Rattle.std.specs.Prelude.{◌≡◌, ℕ, Some, slice_set}
 use Rattle.tt_sgf.specs.declared.size.Size.{Size}
 use Rattle.tt_board.specs.declared.Colour.{Colour}
-use Rattle.tt_board.specs.declared.play_kind.PlayKind.{PlayKind}
-use Rattle.tt_board.specs.declared.play_kind.PlayKind.TheVariants.{NoCapture, SingleStoneSuicide, NeedsBoard}
+use Rattle.tt_board.specs.declared.counted.play_kind.PlayKind.{PlayKind}
+use Rattle.tt_board.specs.declared.counted.play_kind.PlayKind.TheVariants.{NoCapture, SingleStoneSuicide, NeedsBoard}
 use Rattle.tt_board.specs.Position.{Colouring}
 use Rattle.tt_board.specs.Play.{play_of}
 

@@ -7,9 +7,9 @@ ghost use Rattle.tt_sgf.specs.Words.{bit_in};
 ghost use Rattle.tt_board.specs.inside.Around.{AreOn, AreThose, AreReaching};
 ghost use Rattle.tt_board.specs.Play.{other, score_of};
 
-use super::Colour;
-use super::colouring::Colouring;
-use super::fill::reaching;
+use crate::Colour;
+use crate::colouring::Colouring;
+use crate::colouring::fill::reaching;
 use tt_sgf::{Bits, Size};
 
 /// How many bits of the word are 1.

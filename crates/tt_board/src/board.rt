@@ -4,12 +4,12 @@ ghost use Rattle.std.specs.Prelude.{◌≡◌, ◌≢◌, ℕ, ◌<◌, ◌≤�
 ghost use Rattle.tt_sgf.specs.declared.size.TheConstants.{MOST_POINTS};
 ghost use Rattle.tt_sgf.specs.Sizes.{point_count};
 
-use super::Colour;
-use super::area::{count_area, empty_reaching};
-use super::clearing::put;
-use super::colouring::Colouring;
-use super::fill::empty_points;
-use super::setup::{cover, first_lifeless};
+use crate::Colour;
+use crate::area::{count_area, empty_reaching};
+use crate::clearing::put;
+use crate::colouring::Colouring;
+use crate::colouring::fill::empty_points;
+use crate::setup::{cover, first_lifeless};
 use std::marker::Model;
 use tt_sgf::{Bits, Point, PointSet, Size};
 

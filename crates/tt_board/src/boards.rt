@@ -1,12 +1,15 @@
 //! Boards one after another, kept by their differences: a board of a history differs from the one before it by a stone and what
 //! the stone captured.
 
+pub(crate) mod differences;
+pub(crate) mod trail;
+
 ghost use Rattle.std.specs.Prelude.{◌≡◌, ◌<◌, ◌↔◌, List, ◌∷◌, ◌++◌, [], length, All, IsTrue, IfOk};
 ghost use Rattle.tt_sgf.specs.declared.size.Size.{Size};
 ghost use Rattle.tt_board.specs.Position.{Position};
 
-use super::board::Board;
-use super::differences::Differences;
+use crate::board::Board;
+use crate::boards::differences::Differences;
 use std::alloc::Global;
 use std::marker::Model;
 use tt_sgf::NoMemory;

@@ -7,9 +7,9 @@ ghost use Rattle.tt_board.specs.Near.{IsOneOf};
 ghost use Rattle.tt_board.specs.Reach.{entry_at, Reaches};
 ghost use Rattle.tt_board.specs.inside.Chain.{IsEnclosed, IsGrowing, GrewByNeighbours, IsVisited, IsEmptyAt, IsClosedAt, marks_on, IsLifelessChain, IsChainLifted};
 
-use super::Colour;
-use super::colouring::Colouring;
-use super::near::{Neighbours, beside};
+use crate::Colour;
+use crate::colouring::Colouring;
+use crate::near::{Neighbours, beside};
 use arrayvec::ArrayVec;
 use tt_sgf::{Bits, Size};
 

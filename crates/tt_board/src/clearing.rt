@@ -9,10 +9,10 @@ ghost use Rattle.tt_board.specs.Reach.{entry_at, Reaches};
 ghost use Rattle.tt_board.specs.Play.{play_of, IsAlive};
 ghost use Rattle.tt_board.specs.inside.Chain.{IsLifted};
 
-use super::Colour;
-use super::chain::{has_empty, has_liberty, lift_lifeless};
-use super::colouring::Colouring;
-use super::near::{Neighbours, beside};
+use crate::Colour;
+use crate::chain::{has_empty, has_liberty, lift_lifeless};
+use crate::colouring::Colouring;
+use crate::near::{Neighbours, beside};
 use tt_sgf::Size;
 
 /// Lifts the chain of `colour` on a place, found on `points`, from `after`, where it has no liberty.

@@ -2,6 +2,10 @@
 //!
 //! Copies and comparisons of colourings are what superko asks for most.
 
+pub(crate) mod around;
+pub(crate) mod fill;
+pub(crate) mod stones;
+
 ghost use Rattle.std.specs.Prelude.{◌≡◌, ℕ, ◌<◌, ◌≤◌, ◌↔◌, length, take, replicate, slice_set, IsTrue, None, false};
 ghost use Rattle.tt_sgf.specs.declared.size.TheConstants.{MOST_POINTS};
 ghost use Rattle.tt_sgf.specs.declared.bits.TheConstants.{BITS};
@@ -9,7 +13,7 @@ ghost use Rattle.tt_board.specs.Reach.{entry_at};
 ghost use Rattle.tt_board.specs.Play.{is_stone_of};
 ghost use Rattle.tt_sgf.specs.Words.{bit_in, AreBitsOf};
 
-use super::Colour;
+use crate::Colour;
 use std::marker::Model;
 use tt_sgf::Bits;
 

@@ -2,6 +2,13 @@
 //!
 //! It has some two thousand bytes and a `Board` a hundred, so a history keeps that.
 
+pub(crate) mod captures;
+pub(crate) mod chains;
+pub(crate) mod joins;
+pub(crate) mod looks;
+pub(crate) mod names;
+pub(crate) mod play_kind;
+
 ghost use Rattle.tt_board.specs.Reach.{entry_at};
 ghost use Rattle.tt_board.specs.Play.{play_of};
 ghost use Rattle.tt_board.specs.PlayKind.{IsKind};
@@ -10,10 +17,10 @@ ghost use Rattle.tt_sgf.specs.Sizes.{point_count};
 ghost use Rattle.tt_sgf.specs.Words.{bit_in};
 ghost use Rattle.std.specs.Prelude.{◌≡◌, ℕ, ◌<◌, length, slice_set, IsTrue, Some, None, true};
 
-use super::Colour;
-use super::board::Board;
-use super::chains::Chains;
-use super::play_kind::PlayKind;
+use crate::Colour;
+use crate::board::Board;
+use crate::counted::chains::Chains;
+use crate::counted::play_kind::PlayKind;
 use std::marker::Model;
 use tt_sgf::{BITS, Bits, Point, Size};
 

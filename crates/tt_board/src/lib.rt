@@ -8,32 +8,21 @@ ghost use Rattle.std.specs.Prelude.{◌≡◌};
 ghost use Rattle.tt_board.specs.Play.{other};
 
 mod area;
-mod around;
 mod board;
 mod boards;
-mod captures;
 mod chain;
-mod chains;
 mod clearing;
 mod colouring;
 mod counted;
-mod differences;
-mod fill;
-mod joins;
 pub mod laws;
-mod looks;
-mod names;
 mod near;
-mod play_kind;
 mod setup;
-mod stones;
-mod trail;
 
 pub use board::{Board, Lifeless, Occupied};
 pub use boards::Boards;
+pub use boards::trail::Trail;
 pub use counted::CountedBoard;
-pub use play_kind::PlayKind;
-pub use trail::Trail;
+pub use counted::play_kind::PlayKind;
 
 /// The colour of a stone, and of the player who puts it.
 #[derive(Clone, Copy, PartialEq, Eq, Hash)]

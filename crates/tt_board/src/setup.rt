@@ -4,9 +4,9 @@ ghost use Rattle.std.specs.Prelude.{◌≡◌, length, MatchOption};
 ghost use Rattle.tt_sgf.specs.Sizes.{point_count};
 ghost use Rattle.tt_board.specs.Play.{placed, IsAlive, IsLeastLifeless};
 
-use super::Colour;
-use super::colouring::Colouring;
-use super::fill::{empty_points, reaching};
+use crate::Colour;
+use crate::colouring::Colouring;
+use crate::colouring::fill::{empty_points, reaching};
 use tt_sgf::{Point, PointSet, Size};
 
 /// Puts the points of the sets over what stands there.

@@ -9,9 +9,9 @@ use Rattle.tt_board.proofs.Sent.{board_send, board_sync, counted_send, counted_s
 use Rattle.tt_game.specs.contracts.frame.Side as Side
 use Rattle.tt_game.specs.contracts.history.History as History
 use Rattle.tt_game.specs.contracts.line.Line as Line
-use Rattle.tt_game.specs.contracts.snapshot.Snapshot as Snapshot
-use Rattle.tt_game.specs.contracts.board_stack.GameState as GameState
-use Rattle.tt_game.specs.contracts.root.Root as Root
+use Rattle.tt_game.specs.contracts.history.snapshot.Snapshot as Snapshot
+use Rattle.tt_game.specs.contracts.history.board_stack.GameState as GameState
+use Rattle.tt_game.specs.contracts.history.root.Root as Root
 
 pub side_send : IsSend Side.the_row
 side_send = search (sendable, crosses) depth 40

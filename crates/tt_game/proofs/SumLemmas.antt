@@ -18,7 +18,7 @@ use Rattle.tt_board.specs.Play.{is_stone_of}
 use Rattle.tt_sgf.specs.declared.size.Size.{Size}
 use Rattle.tt_sgf.specs.Sizes.{point_count}
 use Rattle.tt_sgf.specs.laws.SizeLaws.{few_points}
-use Rattle.tt_game.specs.declared.bloom_filter.TheConstants.{LOW, MIXER, FILTER_BITS, WEIGHTS}
+use Rattle.tt_game.specs.declared.history.bloom_filter.TheConstants.{LOW, MIXER, FILTER_BITS, WEIGHTS}
 use Rattle.tt_game.specs.Keys.{marks_of, binary, words_of, packed}
 use Rattle.tt_game.specs.Mixing.{mix, mix_board}
 use Rattle.tt_game.specs.BloomFilter.{hash_of}

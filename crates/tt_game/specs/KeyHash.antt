@@ -7,7 +7,7 @@ use Rattle.tt_sgf.specs.Sizes.{point_count}
 use Rattle.tt_game.specs.declared.frame.Side.{Side}
 use Rattle.tt_game.specs.declared.frame.Side.TheVariants.{Attacker, Defender}
 use Rattle.tt_game.specs.declared.keys.Key.{Key}
-use Rattle.tt_game.specs.declared.bloom_filter.TheConstants.{MIXER}
+use Rattle.tt_game.specs.declared.history.bloom_filter.TheConstants.{MIXER}
 use Rattle.tt_game.specs.Mixing.{mix}
 use Rattle.tt_game.specs.contracts.frame.SideHash.TheImpl as side_hash
 

@@ -5,7 +5,7 @@ use Rattle.tt_board.specs.declared.Colour.TheVariants.{Black, White}
 use Rattle.tt_board.specs.Position.{Colouring}
 use Rattle.tt_board.specs.Reach.{entry_at}
 use Rattle.tt_board.specs.Play.{is_stone_of}
-use Rattle.tt_game.specs.declared.bloom_filter.TheConstants.{MIXER}
+use Rattle.tt_game.specs.declared.history.bloom_filter.TheConstants.{MIXER}
 use Rattle.tt_game.specs.Keys.{packed}
 
 -- what words, one after the other, make of a number

@@ -4,14 +4,14 @@ use Rattle.tt_sgf.specs.declared.size.Size.{Size}
 use Rattle.tt_sgf.specs.Sizes.{point_count}
 use Rattle.tt_sgf.specs.Words.{bit_in}
 use Rattle.tt_board.specs.declared.Colour.{Colour}
-use Rattle.tt_board.specs.declared.play_kind.PlayKind.{PlayKind}
-use Rattle.tt_board.specs.declared.play_kind.PlayKind.TheVariants.{NoCapture, SingleStoneSuicide, NeedsBoard}
+use Rattle.tt_board.specs.declared.counted.play_kind.PlayKind.{PlayKind}
+use Rattle.tt_board.specs.declared.counted.play_kind.PlayKind.TheVariants.{NoCapture, SingleStoneSuicide, NeedsBoard}
 use Rattle.tt_board.specs.PlayKind.{IsKind}
 use Rattle.tt_board.specs.Position.{Colouring}
 use Rattle.tt_board.specs.Reach.{entry_at}
 use Rattle.tt_board.specs.Stones.{IsEmptyIn}
 use Rattle.tt_game.specs.declared.frame.Frame.{Frame}
-use Rattle.tt_game.specs.declared.move_generator.MoveGenerator.{MoveGenerator}
+use Rattle.tt_game.specs.declared.plays.move_generator.MoveGenerator.{MoveGenerator}
 use Rattle.tt_game.specs.Course.{HasBeen}
 use Rattle.tt_game.specs.Mixing.{mix_board}
 use Rattle.tt_game.specs.Game.{State, history, colour_of, made}

@@ -5,10 +5,10 @@ ghost use Rattle.tt_sgf.specs.Sizes.{point_count};
 ghost use Rattle.tt_game.specs.Course.{so_far};
 ghost use Rattle.tt_game.specs.BloomFilter.{hash_of, MayHoldAll};
 
-use crate::bloom_filter::{BloomFilter, hash_of};
 use crate::faults::{Refused, Why};
 use crate::frame::{Frame, Side};
 use crate::history::History;
+use crate::history::bloom_filter::{BloomFilter, hash_of};
 use crate::line::Line;
 use crate::turns::Turn;
 use std::alloc::Global;

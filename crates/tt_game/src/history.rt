@@ -1,5 +1,10 @@
 //! The course of a game: its boards so far and the passes in a row. Superko stands here, for problems and for records.
 
+pub(crate) mod bloom_filter;
+pub(crate) mod board_stack;
+pub(crate) mod root;
+pub(crate) mod snapshot;
+
 ghost use Rattle.std.specs.Prelude.{◌≡◌, ◌≢◌, ◌+◌, ◌<◌, ◌≤◌, ◌↔◌, ◌∷◌, ◌++◌, [], length, take, drop, All, IsTrue, OnOk, OnErr, IfOk, Some};
 ghost use Rattle.tt_sgf.specs.Sizes.{point_count};
 ghost use Rattle.tt_board.specs.Position.{Colouring};

@@ -4,10 +4,10 @@ ghost use Rattle.std.specs.Prelude.{◌≡◌, ◌≤◌, ◌*◌, ◌/◌, ◌%
 ghost use Rattle.tt_game.specs.Keys.{key_of};
 ghost use Rattle.tt_game.specs.KeyHash.{words_in_use, turn_word, hash_of_key};
 ghost use Rattle.tt_game.specs.Mixing.{mix};
-ghost use Rattle.tt_game.specs.declared.bloom_filter.TheConstants.{MIXER};
+ghost use Rattle.tt_game.specs.declared.history.bloom_filter.TheConstants.{MIXER};
 
-use crate::bloom_filter::{MIXER, mix, mix_board};
 use crate::frame::{Frame, Side};
+use crate::history::bloom_filter::{MIXER, mix, mix_board};
 use crate::line::Line;
 use std::hash::{Hash, Hasher};
 use tt_board::{Board, Colour};

@@ -4,8 +4,6 @@
 
 #![tactic(auto)]
 
-mod bloom_filter;
-mod board_stack;
 mod faults;
 mod frame;
 mod game;
@@ -13,24 +11,21 @@ mod history;
 mod keys;
 pub mod laws;
 mod line;
-mod move_generator;
 mod nodes;
 mod plays;
 mod problems;
 mod records;
-mod root;
-mod snapshot;
 mod turns;
 
-pub use bloom_filter::{BloomFilter, board_hash};
 pub use faults::{GameFault, Refused, Why};
 pub use frame::{Frame, Side};
 pub use game::Game;
+pub use history::bloom_filter::{BloomFilter, board_hash};
+pub use history::snapshot::Snapshot;
 pub use keys::Key;
 pub use line::Line;
-pub use move_generator::MoveGenerator;
 pub use plays::LegalPlays;
+pub use plays::move_generator::MoveGenerator;
 pub use problems::problem;
 pub use records::{Record, play_record};
-pub use snapshot::Snapshot;
 pub use turns::{MOST_LEGAL, Successor, Turn, Turns};

@@ -6,13 +6,13 @@ ghost use Rattle.tt_game.specs.Mixing.{mix_board};
 ghost use Rattle.tt_board.specs.Position.{Colouring};
 ghost use Rattle.tt_sgf.specs.Sizes.{point_count};
 
-use crate::bloom_filter::{hash_with_stone, mix_board};
-use crate::board_stack::BoardStack;
 use crate::faults::{Refused, Why};
 use crate::frame::{Frame, Side};
 use crate::history::History;
-use crate::root::{Root, stones_of};
-use crate::snapshot::Snapshot;
+use crate::history::bloom_filter::{hash_with_stone, mix_board};
+use crate::history::board_stack::BoardStack;
+use crate::history::root::{Root, stones_of};
+use crate::history::snapshot::Snapshot;
 use crate::turns::Turn;
 use std::marker::Model;
 use std::sync::Arc;

@@ -1,5 +1,7 @@
 //! The door to legal plays: one after the other, with what is the same for all of them worked out once.
 
+pub(crate) mod move_generator;
+
 ghost use Rattle.std.specs.Prelude.{◌≡◌, ◌+◌, ◌<◌, ◌≤◌, ◌∷◌, [], None, MatchOption};
 ghost use Rattle.tt_sgf.specs.Sizes.{point_count};
 ghost use Rattle.tt_game.specs.Game.{winner_of, after};
@@ -8,7 +10,7 @@ ghost use Rattle.tt_game.specs.declared.turns.Turn.{Turn};
 
 use crate::frame::Side;
 use crate::line::Line;
-use crate::move_generator::MoveGenerator;
+use crate::plays::move_generator::MoveGenerator;
 use std::marker::Model;
 use tt_sgf::Point;
 

@@ -7,7 +7,7 @@ ghost use Rattle.tt_game.specs.declared.turns.TheConstants.{MOST_LEGAL};
 
 use crate::frame::Side;
 use crate::line::Line;
-use crate::move_generator::MoveGenerator;
+use crate::plays::move_generator::MoveGenerator;
 use arrayvec::ArrayVec;
 use tt_board::PlayKind;
 use tt_sgf::Point;

@@ -9,7 +9,7 @@ use Rattle.std.specs.contracts.alloc.Global as Global
 use Rattle.std.specs.contracts.impls.GlobalAllocator.TheImpl.{ghosts}
 use Rattle.std.specs.contracts.sync.Arc as Arc
 use Rattle.tt_board.proofs.Sent.{board_send, board_sync}
-use Rattle.tt_game.specs.contracts.snapshot.Snapshot as Snapshot
+use Rattle.tt_game.specs.contracts.history.snapshot.Snapshot as Snapshot
 use Rattle.tt_game.proofs.Sent.{past_send, past_sync, side_send, side_sync}
 use Rattle.tt_proof.specs.contracts.tree.Tree as Tree
 use Rattle.tt_proof.specs.contracts.tree.Tree.TheKnot as TreeKnot

@@ -8,14 +8,14 @@ use Rattle.std.proofs.lemmas.Nat.{div_below, mul-lt}
 use Rattle.std.proofs.Math.Nat.{mul-lt-mul_of_pos_right, mul_comm}
 use Rattle.std.proofs.lemmas.Option.{slice_get_within, slice_get-map, get_or_from_slice_get}
 use Rattle.tt_game.specs.declared.frame.Side.{Side}
-use Rattle.tt_game.specs.declared.bloom_filter.BloomFilter.{BloomFilter}
+use Rattle.tt_game.specs.declared.history.bloom_filter.BloomFilter.{BloomFilter}
 use Rattle.tt_game.specs.Keys.{key_of}
 use Rattle.tt_game.specs.Line.{Standing}
 use Rattle.tt_game.specs.BloomFilter.{MayHold}
 use Rattle.tt_proof.specs.Proven.{Proven}
 use Rattle.tt_search.specs.Stores.{AnswersFor, IsNewest}
 use Rattle.tt_search.specs.KeyIndex.{index_hash, index_hashes}
-use Rattle.tt_search.specs.declared.key_index.TheConstants.{KEY_FILTER_BITS}
+use Rattle.tt_search.specs.declared.store.key_index.TheConstants.{KEY_FILTER_BITS}
 use Rattle.tt_search.specs.inside.Buckets.{last_place, bucket_of_hash, in_bucket, MayHoldHashes, AreBuckets, NoneFrom, NoHashFrom}
 
 -- ---- the last place that passes a test

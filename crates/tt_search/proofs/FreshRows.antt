@@ -7,8 +7,8 @@ use Rattle.tt_search.specs.inside.Children.{children_of}
 use Rattle.tt_search.specs.Numbers.{cap, least, has_infinite, capped_sum, numbers}
 use Rattle.tt_search.specs.MostProving.{first_least}
 use Rattle.tt_search.specs.inside.Edges.{edge_state_of, edge_trees, AreFresh}
-use Rattle.tt_search.specs.declared.edges.Edge.{Edge}
-use Rattle.tt_search.specs.declared.edges.EdgeState.TheVariants.{Fresh}
+use Rattle.tt_search.specs.declared.tree.edges.Edge.{Edge}
+use Rattle.tt_search.specs.declared.tree.edges.EdgeState.TheVariants.{Fresh}
 
 small_quotient : (n : ℕ) → n < 512 → n / 512 ≡ 0
 small_quotient n h = omega (arith, h)

@@ -22,8 +22,8 @@ use Rattle.tt_search.specs.Settled.{strategy_for, first_settled, replies}
 use Rattle.tt_search.specs.inside.Joining.{IsSettledAt, AreSettledAt}
 use Rattle.tt_search.specs.inside.Choices.{node_with}
 use Rattle.tt_search.specs.inside.ChildNodes.{choices_of, children_in, child_of}
-use Rattle.tt_search.specs.declared.edges.Edge.{Edge}
-use Rattle.tt_search.specs.declared.children.ChildNodes.{ChildNodes}
+use Rattle.tt_search.specs.declared.tree.edges.Edge.{Edge}
+use Rattle.tt_search.specs.declared.tree.children.ChildNodes.{ChildNodes}
 use Rattle.tt_search.proofs.Places.{length-trees_of, turn_at_place, nodes_behind, replies_at_end, replied_step}
 use Rattle.tt_search.proofs.Replies.{joined, joined_none, joined_push}
 use Rattle.tt_search.proofs.Sprouted.{any_default}

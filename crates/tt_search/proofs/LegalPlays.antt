@@ -11,7 +11,7 @@ use Rattle.tt_game.specs.Game.{State, IsLegal}
 use Rattle.tt_game.specs.laws.TurnLaws.{AreLegal}
 use Rattle.tt_proof.specs.KeptFootprints.{AreLegalPlays}
 use Rattle.tt_search.specs.inside.Edges.{edge_turn, edge_turns}
-use Rattle.tt_search.specs.declared.edges.Edge.{Edge}
+use Rattle.tt_search.specs.declared.tree.edges.Edge.{Edge}
 
 -- each of the edges' turns is legal
 pub legal_at : (f : Frame) (s : State) (es : List Edge) (i : ℕ) (e : Edge) → AreLegal f s (edge_turns es) → i < length es → IsLegal f s (edge_turn (get_or es i e))

@@ -13,8 +13,8 @@ use Rattle.tt_search.specs.inside.Choices.{node_with}
 use Rattle.tt_search.specs.inside.ChildNodes.{choices_of}
 use Rattle.tt_search.specs.inside.Offered.{IsOffered}
 use Rattle.tt_search.specs.inside.Joining.{AreZero}
-use Rattle.tt_search.specs.declared.edges.Edge.{Edge}
-use Rattle.tt_search.specs.declared.children.ChildNodes.{ChildNodes}
+use Rattle.tt_search.specs.declared.tree.edges.Edge.{Edge}
+use Rattle.tt_search.specs.declared.tree.children.ChildNodes.{ChildNodes}
 use Rattle.tt_search.proofs.Strategies.{IsZeroAt, zero_at, all_zero, zero_sum}
 
 mutual

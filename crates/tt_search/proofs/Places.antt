@@ -10,9 +10,9 @@ use Rattle.tt_game.specs.declared.turns.Turn.{Turn}
 use Rattle.tt_search.specs.PartialTree.{PartialTree, fresh}
 use Rattle.tt_search.specs.inside.Edges.{edge_turn, edge_state_of, edge_turns, tree_of, grown_behind, edge_trees, counted, grown_in}
 use Rattle.tt_search.specs.inside.Sprouting.{IsFreshAt}
-use Rattle.tt_search.specs.declared.edges.Edge.{Edge}
-use Rattle.tt_search.specs.declared.edges.EdgeState.{EdgeState}
-use Rattle.tt_search.specs.declared.edges.EdgeState.TheVariants.{Fresh, Won, Grown}
+use Rattle.tt_search.specs.declared.tree.edges.Edge.{Edge}
+use Rattle.tt_search.specs.declared.tree.edges.EdgeState.{EdgeState}
+use Rattle.tt_search.specs.declared.tree.edges.EdgeState.TheVariants.{Fresh, Won, Grown}
 
 -- there are as many trees as edges
 pub length-trees_of : (es : List Edge) (ts : List PartialTree) → length (edge_trees es ts) ≡ length es

@@ -16,13 +16,13 @@ use Rattle.std.specs.contracts.sync.Arc as Arc
 use Rattle.tt_game.proofs.Sent.{line_send, side_send}
 use Rattle.tt_proof.specs.contracts.proven.Proof as Proof
 use Rattle.tt_proof.proofs.Sent.{shared_send}
-use Rattle.tt_search.specs.contracts.children.BestChild as BestChild
-use Rattle.tt_search.specs.contracts.edge_row.Edges as Edges
+use Rattle.tt_search.specs.contracts.tree.children.BestChild as BestChild
+use Rattle.tt_search.specs.contracts.tree.edge_row.Edges as Edges
 use Rattle.tt_search.specs.contracts.limits.Limits as Limits
-use Rattle.tt_search.specs.contracts.plays.Plays as Plays
-use Rattle.tt_search.specs.contracts.node.Node as Node
-use Rattle.tt_search.specs.contracts.node.Node.TheKnot as NodeKnot
-use Rattle.tt_search.specs.declared.node.Node.TheDeep as Deep
+use Rattle.tt_search.specs.contracts.tree.plays.Plays as Plays
+use Rattle.tt_search.specs.contracts.tree.node.Node as Node
+use Rattle.tt_search.specs.contracts.tree.node.Node.TheKnot as NodeKnot
+use Rattle.tt_search.specs.declared.tree.node.Node.TheDeep as Deep
 use Rattle.tt_search.specs.contracts.search.Search as Search
 use Rattle.tt_search.specs.contracts.search.Search.TheInside as Within
 use Rattle.tt_search.specs.contracts.walk.Walk as Walk

@@ -11,14 +11,14 @@ use Rattle.tt_search.specs.inside.Walking.{Stand, stage, stand_of}
 use Rattle.tt_search.specs.inside.Taken.{Taken, IsLeft}
 use Rattle.tt_search.specs.inside.Steady.{AreStepsAt}
 use Rattle.tt_search.specs.inside.Sprouting.{IsFreshAt, IsPut, Sprouts, StepsBelowAt, StepsBelow}
-use Rattle.tt_search.specs.declared.edges.Edge.{Edge}
-use Rattle.tt_search.specs.declared.edges.EdgeState.{EdgeState}
-use Rattle.tt_search.specs.declared.edges.EdgeState.TheVariants.{Fresh, Won, Grown}
+use Rattle.tt_search.specs.declared.tree.edges.Edge.{Edge}
+use Rattle.tt_search.specs.declared.tree.edges.EdgeState.{EdgeState}
+use Rattle.tt_search.specs.declared.tree.edges.EdgeState.TheVariants.{Fresh, Won, Grown}
 use Rattle.tt_search.specs.declared.limits.Reason.{Reason}
 use Rattle.tt_search.specs.declared.limits.Reason.TheVariants.{Budget, Depth, Total, Memory}
 use Rattle.tt_search.specs.declared.limits.Step.{Step}
 use Rattle.tt_search.specs.declared.limits.Step.TheVariants.{Expanded, Stuck}
-use Rattle.tt_search.specs.declared.children.ChildNodes.{ChildNodes}
+use Rattle.tt_search.specs.declared.tree.children.ChildNodes.{ChildNodes}
 use Rattle.tt_search.specs.declared.walk.Stop.{Stop}
 use Rattle.tt_search.specs.declared.walk.Walk.{Walk}
 use Rattle.tt_search.proofs.Grown.{won_decided}

@@ -10,7 +10,7 @@ use Rattle.tt_game.specs.Game.{State, after, winner_of}
 use Rattle.tt_game.specs.Turns.{legal_turns, successor, successors_of, successors_from}
 use Rattle.tt_search.specs.PartialTree.{PartialTree, more, expanded}
 use Rattle.tt_search.specs.inside.Children.{children_of}
-use Rattle.tt_search.specs.declared.edges.Edge.{Edge}
+use Rattle.tt_search.specs.declared.tree.edges.Edge.{Edge}
 use Rattle.tt_search.specs.inside.Edges.{edge_turn, edge_state_of, tree_of, edge_turns, edge_trees}
 use Rattle.tt_search.proofs.Places.{turns_push, trees_push}
 use Rattle.tt_search.specs.Growing.{leaf_for, new_leaf, new_leaves, expansion}

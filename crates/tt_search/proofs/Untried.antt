@@ -14,8 +14,8 @@ use Rattle.tt_search.specs.inside.Edges.{edge_turn, edge_state_of, turn_at, edge
 use Rattle.tt_search.specs.inside.Untried.{fresh_edge, plays_in, AreBelow, AreUntried}
 use Rattle.tt_search.proofs.FreshRows.{ones, least_ones, capped_ones}
 use Rattle.tt_search.proofs.Strategies.{own_zero, other_zero}
-use Rattle.tt_search.specs.declared.edges.Edge.{Edge}
-use Rattle.tt_search.specs.declared.edges.EdgeState.TheVariants.{Fresh}
+use Rattle.tt_search.specs.declared.tree.edges.Edge.{Edge}
+use Rattle.tt_search.specs.declared.tree.edges.EdgeState.TheVariants.{Fresh}
 
 -- where a number is meant, its play is the last of those up to it
 pub play_here : (has : ℕ → Bool) (n : ℕ) → has n ≡ true → plays_in has (suc n) ≡ plays_in has n ++ fresh_edge n ∷ []

@@ -16,10 +16,10 @@ ghost use Rattle.tt_search.specs.inside.Choices.{node_with};
 ghost use Rattle.tt_search.specs.inside.ChildNodes.{HasItsNodes, children_in, choices_of};
 ghost use Rattle.tt_search.specs.inside.Child.{child_tree};
 
-use crate::children::{Child, ChildNodes};
-use crate::edges::Edge;
-use crate::node::{Growth, Node};
-use crate::numbers::is_same;
+use crate::tree::children::{Child, ChildNodes};
+use crate::tree::edges::Edge;
+use crate::tree::node::{Growth, Node};
+use crate::tree::numbers::is_same;
 use std::alloc::Global;
 use tt_board::Board;
 use tt_game::{Line, Side, Turn};

@@ -4,7 +4,7 @@ ghost use Rattle.std.specs.Prelude.{◌≡◌, ◌≤◌, None, [], length, IfOk
 ghost use Rattle.tt_game.specs.Game.{winner_of};
 ghost use Rattle.tt_search.specs.PartialTree.{expanded, closed};
 ghost use Rattle.tt_search.specs.inside.Children.{children_of};
-ghost use Rattle.tt_search.specs.declared.edges.TheConstants.{TURNS};
+ghost use Rattle.tt_search.specs.declared.tree.edges.TheConstants.{TURNS};
 ghost use Rattle.tt_search.specs.inside.Edges.{edge_turn, edge_state_of, tree_of, edge_turns, edge_trees, counted, grown_in};
 ghost use Rattle.tt_game.specs.MoveGenerators.{IsMoveGenerator};
 ghost use Rattle.tt_search.specs.Growing.{leaf_for, expansion};
@@ -14,12 +14,12 @@ ghost use Rattle.tt_search.specs.inside.ChildNodes.{choices_of, choices_with};
 ghost use Rattle.tt_search.specs.inside.Kept.{IsKept};
 ghost use Rattle.tt_search.specs.inside.Untried.{plays_and_pass, AreUntried};
 
-use crate::children::{BestChild, ChildNodes};
-use crate::edge_row::Edges;
-use crate::edges::{Edge, EdgeState};
-use crate::node::{Growth, Node};
-use crate::numbers::{Pair, decided_number};
-use crate::plays::Plays;
+use crate::tree::children::{BestChild, ChildNodes};
+use crate::tree::edge_row::Edges;
+use crate::tree::edges::{Edge, EdgeState};
+use crate::tree::node::{Growth, Node};
+use crate::tree::numbers::{Pair, decided_number};
+use crate::tree::plays::Plays;
 use arrayvec::ArrayVec;
 use std::alloc::Global;
 use std::sync::Arc;

@@ -9,29 +9,21 @@
 
 #![tactic(auto)]
 
-mod children;
-mod closing;
-mod edge_row;
-mod edges;
 mod footprints;
 mod grants;
 mod growing;
-mod key_index;
 mod leaves;
 mod limits;
-mod node;
-mod numbers;
-mod plays;
-mod private;
 mod search;
 mod settled;
 mod store;
+mod tree;
 mod walk;
 
-pub use closing::usable;
 pub use grants::{Free, Grants};
-pub use key_index::{KeyIndex, ProofRow};
 pub use limits::{Limits, MOST_EXPANDED, Reason, Step};
-pub use private::PrivateStore;
 pub use search::{End, Search};
+pub use store::closing::usable;
+pub use store::key_index::{KeyIndex, ProofRow};
+pub use store::private::PrivateStore;
 pub use store::{BothSides, Kept, NoStore, Store};

@@ -19,11 +19,11 @@ ghost use Rattle.tt_search.specs.inside.Choices.{node_with};
 ghost use Rattle.tt_search.specs.inside.ChildNodes.{HasItsNodes, children_in, choices_of};
 ghost use Rattle.tt_search.specs.inside.Child.{child_tree};
 
-use crate::children::{BestChild, Child, ChildNodes};
-use crate::edges::Edge;
-use crate::node::{Growth, Node};
-use crate::numbers::is_same;
 use crate::store::Store;
+use crate::tree::children::{BestChild, Child, ChildNodes};
+use crate::tree::edges::Edge;
+use crate::tree::node::{Growth, Node};
+use crate::tree::numbers::is_same;
 use crate::walk::Walk;
 use std::alloc::Global;
 use std::mem;

@@ -1,5 +1,9 @@
 //! Where a search keeps the proofs of settled nodes, and looks for them again.
 
+pub(crate) mod closing;
+pub(crate) mod key_index;
+pub(crate) mod private;
+
 ghost use Rattle.std.specs.Prelude.{◌≡◌, ◌≢◌, ℕ, ◌+◌, ◌↔◌, Ok, None, IfOk, IfSome};
 ghost use Rattle.tt_game.specs.declared.frame.Side.TheVariants.{Attacker, Defender};
 ghost use Rattle.tt_search.specs.Stores.{AnswersFor};

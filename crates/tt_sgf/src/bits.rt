@@ -4,7 +4,7 @@ ghost use Rattle.std.specs.Prelude.{◌≡◌, ℕ, ◌+◌, ◌<◌, ◌≤◌,
 ghost use Rattle.std.specs.FinSet as set;
 ghost use Rattle.tt_sgf.specs.Words.{bit_in, points_of, IsLow, IsRaised, IsLowered, AreSameBits, AreCovered};
 
-use super::size::MOST_POINTS;
+use crate::size::MOST_POINTS;
 
 /// How many bits six words have.
 pub const BITS: usize = 384;

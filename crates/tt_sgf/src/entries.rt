@@ -5,11 +5,11 @@ ghost use Rattle.std.specs.FinSet as set;
 ghost use Rattle.tt_sgf.specs.Bytes.{lower_a};
 ghost use Rattle.tt_sgf.specs.Entries.{AnyCovers, AreEntries, between, corner_in, entry_of, in_rectangle, set_of};
 
-use super::faults::BadPoint;
-use super::sets::PointSet;
-use super::size::{Size, point_numbered};
-use super::small_bytes::SmallBytes;
-use super::value_kinds::trim;
+use crate::faults::BadPoint;
+use crate::nodes::small_bytes::SmallBytes;
+use crate::sets::PointSet;
+use crate::size::{Size, point_numbered};
+use crate::value_kinds::trim;
 
 /// A rectangle of points: its first and its last column and row, from 0.
 #[derive(Clone, Copy)]

@@ -1,8 +1,12 @@
 //! The nodes of a main line, with their properties as they were read.
 
-use super::items::Items;
-use super::small_bytes::SmallBytes;
-use super::values::Values;
+pub(crate) mod items;
+pub(crate) mod small_bytes;
+pub(crate) mod values;
+
+use crate::nodes::items::Items;
+use crate::nodes::small_bytes::SmallBytes;
+use crate::nodes::values::Values;
 
 /// A property: its name, and at least one value where `read_tree` made it.
 #[derive(Drop)]

@@ -3,11 +3,11 @@
 ghost use Rattle.std.specs.Prelude.{◌≡◌};
 ghost use Rattle.tt_sgf.specs.inside.Reading.{values_at, property_at, opens_property, properties_at, Gives};
 
-use super::faults::SgfFault;
-use super::items::add;
-use super::nodes::Property;
-use super::tokens::{after_byte, has_upper, is_word, name_of, skip_blanks, value, word};
-use super::values::Values;
+use crate::faults::SgfFault;
+use crate::nodes::Property;
+use crate::nodes::items::add;
+use crate::nodes::values::Values;
+use crate::tokens::{after_byte, has_upper, is_word, name_of, skip_blanks, value, word};
 use std::alloc::Global;
 
 /// The values at the front, as long as a `[` follows.
@@ -25,7 +25,7 @@ fn values(alloc: Global, bytes: &[u8]) -> Result<(Values, &[u8]), SgfFault>
 }
 
 /// A property, with no white space before it.
-#[tactic(auto, unfolding(crate::specs::Reading::property_at))]
+#[tactic(auto, unfolding(crate::specs::inside::Reading::property_at))]
 fn read_property(alloc: Global, bytes: &[u8]) -> Result<(Property, &[u8]), SgfFault>
     ensures { Gives (λ x. (x.0, x.1.now)) result (property_at bytes.now) }
 {

@@ -6,8 +6,8 @@ ghost use Rattle.tt_sgf.specs.Points.{passing};
 ghost use Rattle.tt_sgf.specs.Words.{AreBitsOf};
 ghost use Rattle.tt_sgf.specs.Sizes.{point_count};
 
-use super::bits::{BITS, Bits};
-use super::size::{MOST_POINTS, Point, Size, point_numbered};
+use crate::bits::{BITS, Bits};
+use crate::size::{MOST_POINTS, Point, Size, point_numbered};
 use std::marker::Model;
 
 /// A set of points. Contracts see the finite set of their numbers, all below `MOST_POINTS`. No call takes memory.

@@ -6,8 +6,8 @@ ghost use Rattle.tt_sgf.specs.Grammar.{is_blank, is_word, is_kept, is_upper, is_
 ghost use Rattle.tt_sgf.specs.inside.Reading.{raw_at, word_of, after_word, begins, Gives};
 ghost use Rattle.tt_sgf.specs.Values.{after_blanks};
 
-use super::faults::SgfFault;
-use super::small_bytes::SmallBytes;
+use crate::faults::SgfFault;
+use crate::nodes::small_bytes::SmallBytes;
 use std::alloc::{AllocError, Global};
 
 /// Whether a byte is white space: 9 to 13, or 32.

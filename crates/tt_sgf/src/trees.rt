@@ -7,11 +7,11 @@ ghost use Rattle.tt_sgf.specs.Bytes.{open_tree};
 ghost use Rattle.tt_sgf.specs.Grammar.{GameTree, main_line, SpelledUpTo, HasNoTree, HasOpen, IsMainLine};
 ghost use Rattle.tt_sgf.specs.inside.Reading.{event_at, Begins, Gives};
 
-use super::faults::SgfFault;
-use super::items::Items;
-use super::nodes::{MainLine, Node};
-use super::properties::properties;
-use super::tokens::skip_blanks;
+use crate::faults::SgfFault;
+use crate::nodes::items::Items;
+use crate::nodes::{MainLine, Node};
+use crate::properties::properties;
+use crate::tokens::skip_blanks;
 use std::alloc::Global;
 
 /// A bracket of a tree, or a node.
@@ -23,7 +23,7 @@ enum Event {
 }
 
 /// The next bracket of a tree, or the next node.
-#[tactic(auto, unfolding(crate::specs::Reading::event_at))]
+#[tactic(auto, unfolding(crate::specs::inside::Reading::event_at))]
 fn next_event(alloc: Global, bytes: &[u8]) -> Result<(Event, &[u8]), SgfFault>
     ensures { Gives (λ x. (x.0, x.1.now)) result (event_at bytes.now) }
 {

@@ -5,8 +5,8 @@ ghost use Rattle.tt_sgf.specs.declared.size.PointOrPass.{PointOrPass};
 ghost use Rattle.tt_sgf.specs.declared.size.Size.{Size};
 ghost use Rattle.tt_sgf.specs.Values.{IsNumber, IsPointOrPass, trimmed, some_digits, number_of, numeral_of, before_colon, behind_colon, size_of, IsBoardSize, without_end, lettered_point, point_of};
 
-use super::size::{PointOrPass, Size, point_numbered};
-use super::tokens::{is_blank, is_digit, skip_blanks};
+use crate::size::{PointOrPass, Size, point_numbered};
+use crate::tokens::{is_blank, is_digit, skip_blanks};
 
 /// Without the white space at the end.
 fn trim_end(bytes: &[u8]) -> &[u8]

@@ -9,8 +9,8 @@ use mathlib.Core.Option.{some}
 use mathlib.Core.Logic.{dite}
 use native.Mathlib.Decide.{dec_lt}
 use lib.ListN.{get_elem?}
-use Rattle.tt_share.specs.declared.rule.Ghost.{Ghost}
-use Rattle.tt_share.specs.declared.rule.Quota.{Quota}
+use Rattle.tt_share.specs.declared.desk.rule.Ghost.{Ghost}
+use Rattle.tt_share.specs.declared.desk.rule.Quota.{Quota}
 use Rattle.tt_share.specs.Desk.{view_of, no_seat, joined, sum_below, spare_count, EachSeat, IsDesk}
 use Rattle.tt_share.specs.Seats.{DeskView, SeatView, EachOnce, AllJobsDrawn, EndsSpare, Spends}
 use Rattle.tt_share.specs.inside.Gathering.{Gathers}

@@ -10,8 +10,8 @@ use native.Mathlib.Decide.{ℕ_discrete}
 use lib.ListN.{get_elem?}
 use Rattle.atomic_table.proofs.Lists.{at_set, at_snoc, set_here, set_else, at_longer}
 use Rattle.atomic_table.specs.Table.{keeps, Allows, Splits, Joins}
-use Rattle.tt_share.specs.declared.rule.Ghost.{Ghost}
-use Rattle.tt_share.specs.declared.rule.Quota.{Quota}
+use Rattle.tt_share.specs.declared.desk.rule.Ghost.{Ghost}
+use Rattle.tt_share.specs.declared.desk.rule.Quota.{Quota}
 use Rattle.tt_share.specs.Desk.{blank, one_seat, no_seat, fewer, joined, with_draw, with_grant, with_mark, with_sighting, spare_count, EachSeat, SomeSeat, Counts, IsMark, IsDesk}
 use Rattle.tt_share.specs.Desk.{DeskHolds, SeatState, IsNext, Draws, Grants, Raises, Looks}
 use Rattle.tt_share.specs.Seats.{last_number}

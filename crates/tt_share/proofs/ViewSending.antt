@@ -12,10 +12,10 @@ use Rattle.std.proofs.Crossing.{crosses}
 use Rattle.std.specs.contracts.alloc.Global as Global
 use Rattle.std.specs.contracts.impls.GlobalAllocator.TheImpl.{ghosts}
 use Rattle.std.specs.contracts.vec.Vec as Vec
-use Rattle.tt_share.specs.contracts.taken.Taken as Taken
-use Rattle.tt_share.specs.contracts.taken.Taken.TheInside as TakenInside
-use Rattle.tt_share.specs.contracts.view.View as View
-use Rattle.tt_share.specs.contracts.view.View.TheInside as ViewInside
+use Rattle.tt_share.specs.contracts.log.taken.Taken as Taken
+use Rattle.tt_share.specs.contracts.log.taken.Taken.TheInside as TakenInside
+use Rattle.tt_share.specs.contracts.log.view.View as View
+use Rattle.tt_share.specs.contracts.log.view.View.TheInside as ViewInside
 use Rattle.tt_share.proofs.log.Token.TheSendSync.{the_send as token_send}
 use Rattle.tt_proof.proofs.Sent.{shared_send}
 use Rattle.tt_share.proofs.Sending.{Handle, log_sync}

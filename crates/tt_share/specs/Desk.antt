@@ -4,8 +4,8 @@ use Rattle.std.specs.List.Sorted.{IsStrictlyIncreasing}
 use mathlib.Core.Option.{some}
 use lib.ListN.{get_elem?}
 use Rattle.atomic_table.specs.Table.{State, Me}
-use Rattle.tt_share.specs.declared.rule.Ghost.{Ghost}
-use Rattle.tt_share.specs.declared.rule.Quota.{Quota}
+use Rattle.tt_share.specs.declared.desk.rule.Ghost.{Ghost}
+use Rattle.tt_share.specs.declared.desk.rule.Quota.{Quota}
 
 abbrev pub view_of : ℕ → List ℕ → List ℕ → Bool → Bool → Ghost
 view_of parts numbers grants mark sighting = record { parts = parts; numbers = numbers; grants = grants; mark = mark; sighting = sighting }

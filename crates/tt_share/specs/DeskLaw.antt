@@ -2,8 +2,8 @@
 use Rattle.std.specs.Prelude.{◌≡◌, ℕ, ◌+◌, ◌<◌, ◌≤◌, true, ◌⊎◌, List, length, slice_index, sum_by, count_by, nat_eq}
 use Rattle.std.specs.List.Sorted.{IsStrictlyIncreasing}
 use Rattle.atomic_table.specs.Table.{State}
-use Rattle.tt_share.specs.declared.rule.Ghost.{Ghost}
-use Rattle.tt_share.specs.declared.rule.Quota.{Quota}
+use Rattle.tt_share.specs.declared.desk.rule.Ghost.{Ghost}
+use Rattle.tt_share.specs.declared.desk.rule.Quota.{Quota}
 use Rattle.tt_share.specs.Desk.{EachSeat, SomeSeat, DeskHolds, spare_count, no_seat}
 
 -- how often the number stands in the views' lists

@@ -6,9 +6,9 @@ ghost use Rattle.tt_share.specs.Answers.{IsAnswer};
 ghost use Rattle.tt_share.specs.inside.Results.{IsReady, IsAllSpent, KnowsNothing};
 
 use crate::answer::Answer;
-use crate::conclude::no_memory;
+use crate::answer::conclude::no_memory;
+use crate::answer::root_proof::{from_store, offer};
 use crate::results::Results;
-use crate::root_proof::{from_store, offer};
 use std::alloc::Global;
 use tt_game::Line;
 use tt_search::{Free, Limits, Store};

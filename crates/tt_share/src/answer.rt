@@ -1,5 +1,8 @@
 //! What solving answers.
 
+pub(crate) mod conclude;
+pub(crate) mod root_proof;
+
 use std::sync::Arc;
 use tt_game::Turn;
 use tt_proof::Proof;

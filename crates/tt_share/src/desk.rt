@@ -1,4 +1,8 @@
 //! The desk and its seats.
+
+pub(crate) mod grants;
+pub(crate) mod rule;
+
 ghost use Rattle.std.specs.Prelude.{◌≡◌, ℕ, ◌≢◌, ◌+◌, ◌<◌, ◌≤◌, true, false, ◌||◌, [], ◌∷◌, ◌++◌, cond, length, min, vec_capacity, replicate, None};
 ghost use Rattle.std.specs.Prelude.{IfOk, IfSome, IfNone, MatchOption, MatchResult, IsTrue, All};
 ghost use Rattle.tt_share.specs.declared.bounds.TheConstants.{MOST_WORKERS};
@@ -6,7 +10,7 @@ ghost use Rattle.tt_share.specs.Desk.{blank, view_of};
 ghost use Rattle.tt_share.specs.Seats.{seat_of, fresh, EndsSpare, Adds, Gains, granted_of, Closes};
 ghost use Rattle.tt_share.specs.inside.Gathering.{Gathers};
 
-use crate::rule::{AtDesk, Both, Cut, Draw, Ghost, Grant, Quota, Raise, Sighting};
+use crate::desk::rule::{AtDesk, Both, Cut, Draw, Ghost, Grant, Quota, Raise, Sighting};
 use atomic_table::Table;
 use std::alloc::Global;
 use std::marker::Model;

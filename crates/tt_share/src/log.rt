@@ -1,5 +1,9 @@
 //! The log: proofs that threads push and read without a lock.
 
+pub(crate) mod log_store;
+pub(crate) mod taken;
+pub(crate) mod view;
+
 ghost use Rattle.std.specs.Prelude.{◌≡◌, IfOk, IfSome};
 ghost use Rattle.std.specs.Arc.{arc_value};
 ghost use Rattle.tt_share.specs.Log.{IsOf};

@@ -1,5 +1,7 @@
 //! The table: proofs in the order in which they came, the places of each key, and the nodes of all trees.
 
+pub(crate) mod locked;
+
 ghost use Rattle.std.specs.Prelude.{◌≡◌, ◌++◌, ◌∷◌, [], ◌+◌, ◌-◌, ◌^◌, min, length, reverse, IfOk, IfSome, OnOk, OnErr, if◌then◌else◌};
 ghost use Rattle.std.specs.Arc.{arc_value};
 ghost use Rattle.std.specs.Option.{option_map};

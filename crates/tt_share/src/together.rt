@@ -8,14 +8,14 @@ ghost use Rattle.tt_share.specs.inside.Results.{KnowsNothing, IsReady, SpendsTot
 
 use crate::alone::{begin, finish};
 use crate::answer::Answer;
-use crate::conclude::no_memory;
+use crate::answer::conclude::no_memory;
 use crate::desk::Desk;
+use crate::desk::grants::SeatGrants;
 use crate::gate::Gate;
-use crate::grants::SeatGrants;
 use crate::log::CertLog;
-use crate::log_store::LogStore;
+use crate::log::log_store::LogStore;
+use crate::log::view::View;
 use crate::results::Results;
-use crate::view::View;
 use crate::workers::{gather, run_workers};
 use std::alloc::Global;
 use std::sync::Wait;

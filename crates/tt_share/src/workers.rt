@@ -8,14 +8,14 @@ ghost use Rattle.tt_share.specs.Seats.{SeatView, seat_of};
 ghost use Rattle.tt_share.specs.declared.workers.HandedBack.{HandedBack};
 ghost use Rattle.tt_share.specs.inside.Workers.{SomeWin, IsWork, held, times, spent_on, spent_by_all, AreApart, AllApart, IsPlaced, AllPlaced, AddsSpare, AllDrawn, KeepsFirstStuck, jobs_of, AreGiven, AllGiven};
 
+use crate::desk::grants::SeatGrants;
 use crate::desk::{Desk, Seat};
 use crate::gate::Gate;
-use crate::grants::SeatGrants;
 use crate::jobs::{JobResult, Jobs, SearchedJob, is_stuck, kept};
 use crate::log::CertLog;
-use crate::log_store::LogStore;
+use crate::log::log_store::LogStore;
+use crate::log::view::View;
 use crate::results::Results;
-use crate::view::View;
 use std::sync::Wait;
 use std::thread;
 use std::thread::Threads;

@@ -7,8 +7,8 @@ use Rattle.tt_board.specs.declared.Colour.TheVariants.{Black, White}
 use Rattle.tt_sgf.specs.declared.size.Size.{Size}
 use Rattle.tt_sgf.specs.declared.size.TheConstants.{MOST_POINTS}
 use Rattle.tt_sgf.specs.Sizes.{point_count}
-use Rattle.tt_board.specs.declared.play_kind.Names.{Names}
-use Rattle.tt_board.specs.declared.play_kind.TheConstants.{NOWHERE}
+use Rattle.tt_board.specs.declared.counted.play_kind.Names.{Names}
+use Rattle.tt_board.specs.declared.counted.play_kind.TheConstants.{NOWHERE}
 use Rattle.tt_board.specs.Near.{IsNeighbour}
 use Rattle.tt_board.specs.Position.{Colouring}
 use Rattle.tt_board.specs.Reach.{entry_at}

@@ -1,8 +1,8 @@
 -- Colourings kept by their differences: edits that lead from a base to each of them in turn.
 use Rattle.std.specs.Prelude.{List, [], ◌∷◌, ◌++◌, Some, None, slice_set}
 use Rattle.tt_board.specs.declared.Colour.{Colour}
-use Rattle.tt_board.specs.declared.differences.Edit.{Edit}
-use Rattle.tt_board.specs.declared.differences.Edit.TheVariants.{Black, White, Empty, Whole}
+use Rattle.tt_board.specs.declared.boards.differences.Edit.{Edit}
+use Rattle.tt_board.specs.declared.boards.differences.Edit.TheVariants.{Black, White, Empty, Whole}
 use Rattle.tt_board.specs.Position.{Colouring}
 
 -- a colouring after an edit; an edit past the last point changes none

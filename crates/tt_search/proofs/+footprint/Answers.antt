@@ -18,9 +18,9 @@ use Rattle.tt_search.specs.inside.ChildNodes.{children_in}
 use Rattle.tt_search.specs.Settled.{strategy_for, first_settled, pick_at}
 use Rattle.tt_search.specs.inside.Weight.{weight, weight_all}
 use Rattle.tt_search.specs.inside.Joining.{IsSettledAt, AreSettledAt}
-use Rattle.tt_search.specs.declared.edges.Edge.{Edge}
-use Rattle.tt_search.specs.declared.children.Child.{Child}
-use Rattle.tt_search.specs.declared.children.Child.TheVariants.{Fresh, Won}
+use Rattle.tt_search.specs.declared.tree.edges.Edge.{Edge}
+use Rattle.tt_search.specs.declared.tree.children.Child.{Child}
+use Rattle.tt_search.specs.declared.tree.children.Child.TheVariants.{Fresh, Won}
 use Rattle.tt_search.proofs.Joins.{on_ok, picked_there, picked_here, replied_children, settled_here, replies_to, joined_here, joined_all}
 use Rattle.tt_search.proofs.Lifted.{weight_at}
 use Rattle.tt_search.proofs.Places.{length-turns_of, length-trees_of, turn_at_place, weight_step}

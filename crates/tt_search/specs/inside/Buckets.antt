@@ -1,12 +1,12 @@
 -- How an index leads to the last proof of a key and side. Only private contracts cite these.
 use Rattle.std.specs.Prelude.{◌≡◌, ◌≢◌, ℕ, zero, suc, ◌-◌, ◌*◌, ◌/◌, ◌%◌, ◌<◌, ◌≤◌, Bool, List, length, cond, get_or, nat_eq, slice_get, Some}
 use Rattle.tt_game.specs.declared.frame.Side.{Side}
-use Rattle.tt_game.specs.declared.bloom_filter.BloomFilter.{BloomFilter}
+use Rattle.tt_game.specs.declared.history.bloom_filter.BloomFilter.{BloomFilter}
 use Rattle.tt_game.specs.Line.{Standing}
 use Rattle.tt_game.specs.BloomFilter.{MayHold}
 use Rattle.tt_proof.specs.Proven.{Proven}
 use Rattle.tt_search.specs.Stores.{AnswersFor}
-use Rattle.tt_search.specs.declared.key_index.TheConstants.{KEY_FILTER_BITS}
+use Rattle.tt_search.specs.declared.store.key_index.TheConstants.{KEY_FILTER_BITS}
 
 -- one more than the last place below n that passes the test, or 0 where none does
 abbrev pub last_place : (ℕ → Bool) → ℕ → ℕ

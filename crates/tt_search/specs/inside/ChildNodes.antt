@@ -5,9 +5,9 @@ use Rattle.tt_search.specs.PartialTree.{PartialTree, Children}
 use Rattle.tt_search.specs.inside.Children.{children_of}
 use Rattle.tt_search.specs.inside.Choices.{Choices}
 use Rattle.tt_search.specs.inside.Edges.{edge_turns, edge_trees, grown_in, child_at}
-use Rattle.tt_search.specs.declared.edges.TheConstants.{TURNS}
-use Rattle.tt_search.specs.declared.edges.Edge.{Edge}
-use Rattle.tt_search.specs.declared.children.ChildNodes.{ChildNodes}
+use Rattle.tt_search.specs.declared.tree.edges.TheConstants.{TURNS}
+use Rattle.tt_search.specs.declared.tree.edges.Edge.{Edge}
+use Rattle.tt_search.specs.declared.tree.children.ChildNodes.{ChildNodes}
 
 -- what children with these edges and nodes offer to the side to move
 abbrev pub choices_with : Side → List Edge → List PartialTree → Choices

@@ -1,8 +1,8 @@
 -- The edges of a node as the code keeps them. For private contracts and proofs.
 use Rattle.std.specs.Prelude.{◌≤◌, List, take}
-use Rattle.tt_search.specs.declared.edge_row.Form.{Form}
-use Rattle.tt_search.specs.declared.edge_row.Form.TheVariants.{Short, Long}
-use Rattle.tt_search.specs.declared.edges.Edge.{Edge}
+use Rattle.tt_search.specs.declared.tree.edge_row.Form.{Form}
+use Rattle.tt_search.specs.declared.tree.edge_row.Form.TheVariants.{Short, Long}
+use Rattle.tt_search.specs.declared.tree.edges.Edge.{Edge}
 
 -- the first ones of the array, or those of the block
 abbrev pub edges_of : Form → List Edge

@@ -5,10 +5,10 @@ use Rattle.tt_game.specs.declared.frame.Side.TheVariants.{Attacker, Defender}
 use Rattle.tt_game.specs.declared.turns.Turn.{Turn}
 use Rattle.tt_game.specs.declared.turns.Turn.TheVariants.{Play, Pass}
 use Rattle.tt_search.specs.PartialTree.{PartialTree, fresh, won}
-use Rattle.tt_search.specs.declared.edges.EdgeState.{EdgeState}
-use Rattle.tt_search.specs.declared.edges.EdgeState.TheVariants.{Fresh, Won, Grown}
-use Rattle.tt_search.specs.declared.edges.Edge.{Edge}
-use Rattle.tt_search.specs.declared.edges.TheConstants.{TURNS}
+use Rattle.tt_search.specs.declared.tree.edges.EdgeState.{EdgeState}
+use Rattle.tt_search.specs.declared.tree.edges.EdgeState.TheVariants.{Fresh, Won, Grown}
+use Rattle.tt_search.specs.declared.tree.edges.Edge.{Edge}
+use Rattle.tt_search.specs.declared.tree.edges.TheConstants.{TURNS}
 
 -- the turn of a number: a play on that point, or else a pass
 abbrev pub turn_at : ℕ → Turn

@@ -6,7 +6,7 @@ use Rattle.tt_game.specs.Game.{State}
 use Rattle.tt_game.specs.Turns.{successors_of}
 use Rattle.tt_search.specs.inside.Edges.{edge_turns, edge_trees, grown_in}
 use Rattle.tt_search.specs.Growing.{leaf_for}
-use Rattle.tt_search.specs.declared.edges.Edge.{Edge}
+use Rattle.tt_search.specs.declared.tree.edges.Edge.{Edge}
 
 -- an edge for each legal turn, in rising order, to a new leaf
 pub record AreNewEdges (f : Frame) (s : State) (edges : List Edge) : Type 0 where

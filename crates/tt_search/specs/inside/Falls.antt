@@ -9,13 +9,13 @@ use Rattle.tt_search.specs.inside.Edges.{tree_of, grown_behind, edge_trees, edge
 use Rattle.tt_search.specs.inside.ChildNodes.{children_in, HasItsNodes}
 use Rattle.tt_search.specs.inside.Offered.{HoldsItsOwn}
 use Rattle.tt_search.specs.inside.Shape.{shape}
-use Rattle.tt_search.specs.declared.edges.Edge.{Edge}
-use Rattle.tt_search.specs.declared.edges.EdgeState.{EdgeState}
-use Rattle.tt_search.specs.declared.edges.EdgeState.TheVariants as edge_state
-use Rattle.tt_search.specs.declared.node.Growth.{Growth}
-use Rattle.tt_search.specs.declared.node.Growth.TheVariants.{Fresh, Won, Closed, Untried, Expanded, Offered}
-use Rattle.tt_search.specs.declared.children.ChildNodes.{ChildNodes}
-use Rattle.tt_search.specs.declared.node.Node.TheDeep.{deep-Growth, deep-ChildNodes}
+use Rattle.tt_search.specs.declared.tree.edges.Edge.{Edge}
+use Rattle.tt_search.specs.declared.tree.edges.EdgeState.{EdgeState}
+use Rattle.tt_search.specs.declared.tree.edges.EdgeState.TheVariants as edge_state
+use Rattle.tt_search.specs.declared.tree.node.Growth.{Growth}
+use Rattle.tt_search.specs.declared.tree.node.Growth.TheVariants.{Fresh, Won, Closed, Untried, Expanded, Offered}
+use Rattle.tt_search.specs.declared.tree.children.ChildNodes.{ChildNodes}
+use Rattle.tt_search.specs.declared.tree.node.Node.TheDeep.{deep-Growth, deep-ChildNodes}
 
 -- the grown nodes weigh no more than all children, if that holds for the list without its first edge
 most-behind : (m : EdgeState) (es : List Edge) (ts : List PartialTree)

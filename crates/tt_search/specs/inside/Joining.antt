@@ -11,7 +11,7 @@ use Rattle.tt_search.specs.Growing.{IsPartialTree, ArePartialTrees}
 use Rattle.tt_search.specs.inside.Within.{StaysWithin, AllStayWithin}
 use Rattle.tt_search.specs.inside.Children.{children_of}
 use Rattle.tt_search.specs.inside.Edges.{edge_turns, edge_trees, grown_in}
-use Rattle.tt_search.specs.declared.edges.Edge.{Edge}
+use Rattle.tt_search.specs.declared.tree.edges.Edge.{Edge}
 
 -- each child's number is 0
 abbrev pub AreZero : Side → Children → Type 0

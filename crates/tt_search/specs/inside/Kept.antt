@@ -2,8 +2,8 @@
 use Rattle.std.specs.Prelude.{◌≡◌}
 use Rattle.tt_search.specs.inside.Choices.{best_place}
 use Rattle.tt_search.specs.inside.ChildNodes.{choices_of, HasItsNodes, IsRank, AreFew}
-use Rattle.tt_search.specs.declared.children.ChildNodes.{ChildNodes}
-use Rattle.tt_search.specs.declared.children.BestChild.{BestChild}
+use Rattle.tt_search.specs.declared.tree.children.ChildNodes.{ChildNodes}
+use Rattle.tt_search.specs.declared.tree.children.BestChild.{BestChild}
 
 -- the place is that of the child to go to, and the rank says how many before it have grown
 pub record IsKept (focus : BestChild) (children : ChildNodes) : Type 0 where

@@ -9,9 +9,9 @@ use Rattle.tt_search.specs.inside.Choices.{node_with}
 use Rattle.tt_search.specs.inside.ChildNodes.{choices_of, HasItsNodes}
 use Rattle.tt_search.specs.inside.Kept.{IsKept}
 use Rattle.tt_search.specs.inside.Untried.{plays_and_pass, AreUntried}
-use Rattle.tt_search.specs.declared.children.ChildNodes.{ChildNodes}
-use Rattle.tt_search.specs.declared.node.Growth.{Growth}
-use Rattle.tt_search.specs.declared.node.Growth.TheVariants.{Fresh, Won, Closed, Untried, Expanded, Offered}
+use Rattle.tt_search.specs.declared.tree.children.ChildNodes.{ChildNodes}
+use Rattle.tt_search.specs.declared.tree.node.Growth.{Growth}
+use Rattle.tt_search.specs.declared.tree.node.Growth.TheVariants.{Fresh, Won, Closed, Untried, Expanded, Offered}
 
 -- the tree is settled for the proof's side, and its strategy is the proof's
 pub record IsProofOfTree (tree : PartialTree) (p : Proven) : Type 0 where

@@ -4,8 +4,8 @@ use Rattle.tt_search.specs.PartialTree.{PartialTree, fresh, won, closed}
 use Rattle.tt_search.specs.inside.Untried.{plays_and_pass}
 use Rattle.tt_search.specs.inside.Choices.{node_with}
 use Rattle.tt_search.specs.inside.ChildNodes.{choices_of, choices_with}
-use Rattle.tt_search.specs.declared.node.Growth.{Growth}
-use Rattle.tt_search.specs.declared.node.Growth.TheVariants.{Fresh, Won, Closed, Untried, Expanded, Offered}
+use Rattle.tt_search.specs.declared.tree.node.Growth.{Growth}
+use Rattle.tt_search.specs.declared.tree.node.Growth.TheVariants.{Fresh, Won, Closed, Untried, Expanded, Offered}
 
 abbrev pub shape : Growth → PartialTree
 shape Fresh = fresh

@@ -7,10 +7,10 @@ use Rattle.tt_search.specs.inside.ChildNodes.{child_of}
 use Rattle.tt_search.specs.inside.Walking.{Stand, stage, stand_of}
 use Rattle.tt_search.specs.inside.Taken.{Taken, IsLeft}
 use Rattle.tt_search.specs.inside.Steady.{AreStepsAt, AreSteps}
-use Rattle.tt_search.specs.declared.edges.Edge.{Edge}
-use Rattle.tt_search.specs.declared.edges.EdgeState.TheVariants as edge_state
+use Rattle.tt_search.specs.declared.tree.edges.Edge.{Edge}
+use Rattle.tt_search.specs.declared.tree.edges.EdgeState.TheVariants as edge_state
 use Rattle.tt_search.specs.declared.limits.Step.{Step}
-use Rattle.tt_search.specs.declared.children.ChildNodes.{ChildNodes}
+use Rattle.tt_search.specs.declared.tree.children.ChildNodes.{ChildNodes}
 use Rattle.tt_search.specs.declared.walk.Stop.{Stop}
 use Rattle.tt_search.specs.declared.walk.Walk.{Walk}
 

@@ -2,8 +2,8 @@
 use Rattle.std.specs.Prelude.{◌≤◌, ◌<◌, ℕ, zero, suc, Bool, List, [], ◌∷◌, ◌++◌, if◌then◌else◌, length}
 use Rattle.tt_sgf.specs.declared.size.TheConstants.{MOST_POINTS}
 use Rattle.tt_search.specs.inside.Edges.{AreFresh}
-use Rattle.tt_search.specs.declared.edges.Edge.{Edge}
-use Rattle.tt_search.specs.declared.edges.TheConstants.{TURNS}
+use Rattle.tt_search.specs.declared.tree.edges.Edge.{Edge}
+use Rattle.tt_search.specs.declared.tree.edges.TheConstants.{TURNS}
 
 -- the edge of the turn of a number to a child of which nothing is known
 abbrev pub fresh_edge : ℕ → Edge

@@ -1,8 +1,8 @@
 -- Small bytes as the code keeps them. For private contracts and proofs.
 use Rattle.std.specs.Prelude.{ℕ, ◌≤◌, List, take}
-use Rattle.tt_sgf.specs.declared.small_bytes.Form.{Form}
-use Rattle.tt_sgf.specs.declared.small_bytes.TheConstants.{SHORT}
-use Rattle.tt_sgf.specs.declared.small_bytes.Form.TheVariants.{Short, Long}
+use Rattle.tt_sgf.specs.declared.nodes.small_bytes.Form.{Form}
+use Rattle.tt_sgf.specs.declared.nodes.small_bytes.TheConstants.{SHORT}
+use Rattle.tt_sgf.specs.declared.nodes.small_bytes.Form.TheVariants.{Short, Long}
 
 -- the first ones of the array, or those of the block
 abbrev pub kept_bytes : Form → List ℕ

@@ -1,7 +1,7 @@
 -- The values of a property as the code keeps them. For private contracts and proofs.
 use Rattle.std.specs.Prelude.{ℕ, ◌∷◌, [], List}
-use Rattle.tt_sgf.specs.declared.values.Row.{Row}
-use Rattle.tt_sgf.specs.declared.values.Row.TheVariants as rows
+use Rattle.tt_sgf.specs.declared.nodes.values.Row.{Row}
+use Rattle.tt_sgf.specs.declared.nodes.values.Row.TheVariants as rows
 
 -- none, the one, or those of the block
 abbrev pub row_values : Row → List (List ℕ)

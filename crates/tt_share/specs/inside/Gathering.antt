@@ -1,7 +1,7 @@
 -- What a view is that stands for several seats.
 use Rattle.std.specs.Prelude.{◌≡◌, ℕ, List, length, sum_by}
 use Rattle.std.specs.List.{list_any}
-use Rattle.tt_share.specs.declared.rule.Ghost.{Ghost}
+use Rattle.tt_share.specs.declared.desk.rule.Ghost.{Ghost}
 use Rattle.tt_share.specs.Seats.{SeatView}
 
 -- the view is that of the seats, joined

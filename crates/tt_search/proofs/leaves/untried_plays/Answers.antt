@@ -3,7 +3,7 @@ use Rattle.std.proofs.lemmas.List.{length_push}
 use Rattle.tt_sgf.specs.declared.size.TheConstants.{MOST_POINTS}
 use Rattle.tt_game.specs.declared.turns.Successor.{Successor}
 use Rattle.tt_game.specs.declared.turns.Turn.TheVariants.{Play}
-use Rattle.tt_search.specs.declared.edges.EdgeState.TheVariants.{Fresh}
+use Rattle.tt_search.specs.declared.tree.edges.EdgeState.TheVariants.{Fresh}
 use Rattle.tt_game.specs.Turns.{successors_from}
 use Rattle.tt_game.specs.laws.TurnLaws.{from_all}
 use Rattle.tt_search.specs.Growing.{leaf_for}

@@ -1,5 +1,5 @@
 use Rattle.std.proofs.Common.{◌≡◌, ◌*◌, ◌/◌, ◌%◌, ◌^◌, [], ◌∷◌, ap, ◌∙◌}
-use Rattle.tt_game.specs.declared.bloom_filter.TheConstants.{MIXER}
+use Rattle.tt_game.specs.declared.history.bloom_filter.TheConstants.{MIXER}
 use Rattle.tt_game.specs.Keys.{key_of}
 use Rattle.tt_game.specs.KeyHash.{hash_of_key, turn_word}
 use Rattle.tt_game.specs.Mixing.{mix, mix_board}

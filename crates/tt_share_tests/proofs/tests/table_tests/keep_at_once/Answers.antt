@@ -14,7 +14,7 @@ use Rattle.std.specs.contracts.alloc.Global as Global
 use Rattle.std.specs.contracts.impls.GlobalAllocator.TheImpl.{ghosts}
 use Rattle.std.specs.contracts.sync.Arc as Arc
 use Rattle.tt_proof.specs.contracts.proven.Proof as Proof
-use Rattle.tt_share.specs.contracts.locked.Table as Table
+use Rattle.tt_share.specs.contracts.table.locked.Table as Table
 use Rattle.tt_share.specs.contracts.table.TableState as TableState
 use Rattle.tt_proof.proofs.Sent.{shared_send}
 use Rattle.tt_share_tests.proofs.tests.table_tests.keep_at_once.Goals as goal

@@ -1,0 +1,417 @@
+//! A board's chains, each with the counts of its stones and of its liberties.
+//!
+//! A play asks these counts which chains go, and looks at no stone but those that come, join or go.
+
+ghost use Rattle.std.specs.Prelude.{◌≡◌, ◌≢◌, ℕ, ◌/◌, ◌<◌, ◌≤◌, ◌↔◌, length, map, replicate, slice_set, Contains, IsTrue, Some, None, true};
+ghost use Rattle.tt_sgf.specs.declared.size.TheConstants.{MOST_POINTS};
+ghost use Rattle.tt_sgf.specs.Sizes.{point_count};
+ghost use Rattle.tt_sgf.specs.Words.{bit_in};
+ghost use Rattle.tt_board.specs.Reach.{entry_at};
+ghost use Rattle.tt_board.specs.Play.{IsAlive, play_of};
+ghost use Rattle.tt_board.specs.PlayKind.{IsKind};
+ghost use Rattle.tt_board.specs.inside.Chains.{name_at, root_of, colour_number, renamed, IsEachOnce, IsOneName, IsCountOf, IsLibertyOf, AreLinked, AreNear, HasLost};
+
+use crate::Colour;
+use crate::colouring::Colouring;
+use crate::colouring::around::{around, first_column};
+use crate::counted::captures::{lift_chain, release};
+use crate::counted::joins::{join_beside, start};
+use crate::counted::looks::{Look, last_ones};
+use crate::counted::names::{root_of, take_over};
+use crate::counted::play_kind::{Names, PlayKind, colour_number, names_beside};
+use std::marker::Model;
+use tt_sgf::{BITS, Bits, Size};
+
+/// Of so many places the names and the counts are copied in three parts; of more in one, with those behind them.
+const FEW: usize = 180;
+
+/// The name of the chain on each place, 0 where it is empty, and each chain's counts of stones and of liberties at its root. They lie
+/// side by side, so that a large board takes them over from another one in one move.
+#[derive(Clone, Copy)]
+struct ChainCounts {
+    names: [u16; 361],
+    stones: [u16; 361],
+    liberties: [u16; 361],
+}
+
+/// A size, a colouring of its points in which each stone reaches empty, and its chains with their counts. Its stones stand before `end`.
+#[derive(Drop)]
+pub(crate) struct Chains {
+    size: Size,
+    points: Colouring,
+    counts: ChainCounts,
+    end: usize,
+}
+
+impl Model for Chains {
+    ghost use Rattle.tt_board.specs.inside.Chains.{ChainBoard, IsChainBoard};
+
+    ghost Value = { ChainBoard };
+
+    ghost view = { λ b. record { size = b.size; points = b.points; names = b.counts.names; stones = b.counts.stones; liberties = b.counts.liberties; end = b.end } };
+
+    ghost invariant = { λ b. IsChainBoard (record { size = b.size; points = b.points; names = b.counts.names; stones = b.counts.stones; liberties = b.counts.liberties; end = b.end }) };
+}
+
+/// A number 0 for each place.
+fn zeros() -> [u16; 361]
+    ensures { result ≡ replicate MOST_POINTS 0 }
+{
+    [0; 361]
+}
+
+/// The greater of two ends.
+#[inline]
+fn later_end(one: usize, other: usize) -> usize
+    ensures one { one ≤ result }
+    ensures other { other ≤ result }
+{
+    if one < other { other } else { one }
+}
+
+/// The name of a new chain of this colour with its root on `p`.
+fn new_name(colour: Colour, p: usize) -> u16
+    requires { p < MOST_POINTS }
+    ensures colour { result / 512 ≡ colour_number colour }
+    ensures root { root_of result ≡ p }
+    ensures living { 512 ≤ result }
+{
+    match colour {
+        Colour::Black => 512 + p as u16,
+        Colour::White => 1024 + p as u16,
+    }
+}
+
+impl Chains {
+    /// The board of this size without any stone.
+    pub(crate) fn empty(size: Size) -> Chains
+        ensures size { result.size ≡ size }
+        ensures points { result.points ≡ replicate (point_count size) None }
+    {
+        Chains {
+            size,
+            points: Colouring::empty(size.point_count()),
+            counts: ChainCounts {
+                names: zeros(),
+                stones: zeros(),
+                liberties: zeros(),
+            },
+            end: 0,
+        }
+    }
+
+    /// The size.
+    pub(crate) fn size(&self) -> Size
+        ensures { result ≡ self.now.size }
+    {
+        self.size
+    }
+
+    /// The colouring, in which each stone reaches empty.
+    pub(crate) fn points(&self) -> &Colouring
+        ensures value { result.now ≡ self.now.points }
+        ensures fits { length self.now.points ≡ point_count self.now.size }
+        ensures alive { IsAlive self.now.size self.now.points }
+    {
+        &self.points
+    }
+
+    /// How many stones the chain of the stone on `p` has, 1 to 360.
+    pub(crate) fn stones(&self, p: usize) -> u16
+        requires on_board { p < point_count self.now.size }
+        requires stone { entry_at self.now.points p ≢ None }
+        ensures { IsCountOf result (AreLinked self.now.size self.now.points p) }
+    {
+        self.counts.stones[root_of(self.counts.names[p])]
+    }
+
+    /// How many liberties the chain of the stone on `p` has, 1 to 360.
+    pub(crate) fn liberties(&self, p: usize) -> u16
+        requires on_board { p < point_count self.now.size }
+        requires stone { entry_at self.now.points p ≢ None }
+        ensures { IsCountOf result (IsLibertyOf self.now.size self.now.points p) }
+    {
+        self.counts.liberties[root_of(self.counts.names[p])]
+    }
+
+    /// Puts a stone on the empty point `p`, where each stone reaches empty then, and makes it one with the chains of its colour beside it.
+    pub(crate) fn place(&mut self, colour: Colour, p: usize)
+        requires on_board { p < point_count self.old.size }
+        requires free { entry_at self.old.points p ≡ None }
+        requires alive { IsAlive self.old.size (slice_set self.old.points p (Some colour)) }
+        ensures size { self.new.size ≡ self.old.size }
+        ensures points { self.new.points ≡ slice_set self.old.points p (Some colour) }
+    {
+        let near = names_beside(self.size, &self.counts.names, p);
+        self.put(colour, p, &near);
+    }
+
+    /// Puts a stone as `place` does, where these are the names beside `p`.
+    fn put(&mut self, colour: Colour, p: usize, near: &Names)
+        requires on_board { p < point_count self.old.size }
+        requires free { entry_at self.old.points p ≡ None }
+        requires alive { IsAlive self.old.size (slice_set self.old.points p (Some colour)) }
+        requires near { AreNear self.old.size self.old.names p near.now }
+        ensures size { self.new.size ≡ self.old.size }
+        ensures points { self.new.points ≡ slice_set self.old.points p (Some colour) }
+    {
+        self.points.set(p, Some(colour));
+        start(
+            self.size,
+            &mut self.counts.names,
+            &mut self.counts.stones,
+            &mut self.counts.liberties,
+            p,
+            new_name(colour, p),
+            near,
+        );
+        join_beside(
+            self.size,
+            &mut self.counts.names,
+            &mut self.counts.stones,
+            &mut self.counts.liberties,
+            p,
+            near,
+        );
+        self.end = later_end(self.end, p + 1);
+    }
+
+    /// Takes the chain of this name off the board.
+    pub(crate) fn take(&mut self, name: u16)
+        requires living { (name ≢ 0) × (name_at self.old.names (root_of name) ≡ name) }
+        ensures size { self.new.size ≡ self.old.size }
+        ensures names { self.new.names ≡ map (renamed name 0) self.old.names }
+        ensures lost { HasLost self.old.names name self.old.points self.new.points }
+    {
+        let stones = self.counts.stones[root_of(name)];
+        release(
+            self.size,
+            &mut self.points,
+            &mut self.counts.names,
+            &mut self.counts.liberties,
+            name,
+            stones,
+        );
+    }
+
+    /// The board of this colouring, made stone by stone.
+    #[inline(never)]
+    pub(crate) fn of(size: Size, points: &Colouring) -> Chains
+        requires fits { length points.now ≡ point_count size }
+        requires alive { IsAlive size points.now }
+        ensures size { result.size ≡ size }
+        ensures points { result.points ≡ points.now }
+    {
+        let mut made = Chains::empty(size);
+        for p in 0..size.point_count() {
+            if let Some(colour) = points.at(p) {
+                made.place(colour, p);
+            }
+        }
+        made
+    }
+
+    /// What four names tell of a play of `colour` on the empty point `p`, where no chain of the opponent's has `p` as its one liberty.
+    /// It takes no stone off where the stone has a liberty or joins a chain that has another one, and it is in vain where the opponent's
+    /// stones are all that is beside `p`.
+    #[inline(always)]
+    pub(crate) fn play_kind(&self, colour: Colour, p: usize) -> PlayKind
+        requires on_board { p < point_count self.now.size }
+        requires free { entry_at self.now.points p ≡ None }
+        ensures fits { length self.now.points ≡ point_count self.now.size }
+        ensures kind { IsKind result self.now.size self.now.points colour p }
+    {
+        let near = names_beside(self.size, &self.counts.names, p);
+        self.kind(colour, &near)
+    }
+
+    /// What the names beside an empty point tell of a play of `colour` there.
+    #[inline(always)]
+    fn kind(&self, colour: Colour, near: &Names) -> PlayKind
+        requires { (m : ℕ) → IsOneName near.now.above near.now.left near.now.right near.now.below m → root_of m < MOST_POINTS }
+        ensures { (p : ℕ) → p < point_count self.now.size → entry_at self.now.points p ≡ None → AreNear self.now.size self.now.names p near.now
+            → IsKind result self.now.size self.now.points colour p }
+    {
+        if near.has_last(&self.counts.liberties, colour_number(colour.other())) {
+            return PlayKind::NeedsBoard;
+        }
+        if near.has_open(&self.counts.liberties, colour_number(colour)) {
+            return PlayKind::NoCapture;
+        }
+        if near.has_own(colour_number(colour)) {
+            return PlayKind::NeedsBoard;
+        }
+        PlayKind::SingleStoneSuicide
+    }
+
+    /// Those of these stones whose chain has one liberty.
+    fn last_among(&self, stones: &Bits) -> Bits
+        requires { (q : ℕ) → q < BITS → bit_in stones.now.words q ≡ true → (q < point_count self.now.size) × (entry_at self.now.points q ≢ None) }
+        ensures { (q : ℕ) → q < BITS → (bit_in result.words q ≡ true) ↔ ((bit_in stones.now.words q ≡ true) × (name_at self.now.liberties (root_of (name_at self.now.names q)) ≡ 1)) }
+    {
+        let mut found = Bits::none();
+        let mut q = stones.first_from(0);
+        while q < BITS {
+            if self.counts.liberties[root_of(self.counts.names[q])] == 1 {
+                found.set(q);
+            }
+            q = stones.first_from(q + 1);
+        }
+        found
+    }
+
+    /// Some of these empty points on which a play of `colour` puts a stone and takes none off: those beside another of them, and
+    /// beside no stone of the opponent's whose chain has one liberty.
+    pub(crate) fn no_capture_among(&self, colour: Colour, points: &Bits) -> Bits
+        requires { (q : ℕ) → q < point_count self.now.size → bit_in points.now.words q ≡ true → entry_at self.now.points q ≡ None }
+        ensures fits { length self.now.points ≡ point_count self.now.size }
+        ensures no_capture { (p : ℕ) → p < BITS → bit_in result.words p ≡ true → (bit_in points.now.words p ≡ true)
+            × (play_of self.now.size self.now.points colour p ≡ slice_set self.now.points p (Some colour)) }
+    {
+        let first = first_column(self.size);
+        let points = points.below(self.size.point_count());
+        let near = around(self.size, &first, &points);
+        let last = self.last_among(&near.and(self.points.bits(colour.other())));
+        points.and(&near).minus(&around(self.size, &first, &last))
+    }
+
+    /// What a play of `colour` on the empty point `p` does (the Tromp-Taylor rules of Go).
+    ///
+    /// A chain goes with it exactly where `p` is its one liberty: the opponent's; or one's own, where none of the opponent's goes,
+    /// no point beside `p` is empty, and no own chain beside it has another liberty.
+    pub(crate) fn look(&self, colour: Colour, p: usize) -> Look
+        requires on_board { p < point_count self.now.size }
+        requires free { entry_at self.now.points p ≡ None }
+        ensures fits { length self.now.points ≡ point_count self.now.size }
+        ensures goes { (q : ℕ) → entry_at self.now.points q ≢ None
+            → (entry_at (play_of self.now.size self.now.points colour p) q ≡ None) ↔ Contains result.goes.items (name_at self.now.names q) }
+        ensures suicide { IsTrue result.suicide ↔ (entry_at (play_of self.now.size self.now.points colour p) p ≡ None) }
+        ensures once { IsEachOnce result.goes.items }
+        ensures living { (m : ℕ) → Contains result.goes.items m → (m ≢ 0) × (name_at self.now.names (root_of m) ≡ m) }
+    {
+        let near = names_beside(self.size, &self.counts.names, p);
+        let weak = last_ones(&self.counts.liberties, &near, colour_number(colour.other()));
+        if !weak.is_empty() {
+            return Look {
+                goes: weak,
+                suicide: false,
+            };
+        }
+        if near.has_open(&self.counts.liberties, colour_number(colour)) {
+            return Look {
+                goes: weak,
+                suicide: false,
+            };
+        }
+        Look {
+            goes: last_ones(&self.counts.liberties, &near, colour_number(colour)),
+            suicide: true,
+        }
+    }
+
+    /// A play by which stones may go: they are taken off before the stone comes, which the counts allow.
+    fn make_taking(&mut self, colour: Colour, p: usize)
+        requires on_board { p < point_count self.old.size }
+        requires free { entry_at self.old.points p ≡ None }
+        ensures size { self.new.size ≡ self.old.size }
+        ensures points { self.new.points ≡ play_of self.old.size self.old.points colour p }
+    {
+        let look = self.look(colour, p);
+        for name in look.goes.as_slice() {
+            self.take(*name);
+        }
+        if !look.suicide {
+            self.place(colour, p);
+        }
+    }
+
+    /// Plays `colour` on the empty point `p`: the stone is put, then the other colour is cleared, then `colour` (the Tromp-Taylor
+    /// rules of Go).
+    pub(crate) fn make(&mut self, colour: Colour, p: usize)
+        requires on_board { p < point_count self.old.size }
+        requires free { entry_at self.old.points p ≡ None }
+        ensures size { self.new.size ≡ self.old.size }
+        ensures points { self.new.points ≡ play_of self.old.size self.old.points colour p }
+    {
+        let near = names_beside(self.size, &self.counts.names, p);
+        match self.kind(colour, &near) {
+            PlayKind::NoCapture => self.put(colour, p, &near),
+            PlayKind::SingleStoneSuicide | PlayKind::NeedsBoard => self.make_taking(colour, p),
+        }
+    }
+
+    /// Takes the stones of the chain of this name off a colouring of the board's points.
+    fn lift(&self, name: u16, points: &mut Colouring)
+        requires fits { length points.old ≡ point_count self.now.size }
+        requires living { (name ≢ 0) × (name_at self.now.names (root_of name) ≡ name) }
+        ensures { HasLost self.now.names name points.old points.new }
+    {
+        let stones = self.counts.stones[root_of(name)];
+        lift_chain(self.size, points, &self.counts.names, name, stones);
+    }
+
+    /// The colouring after a play by which stones may go.
+    fn points_after_taking(&self, colour: Colour, p: usize) -> Colouring
+        requires on_board { p < point_count self.now.size }
+        requires free { entry_at self.now.points p ≡ None }
+        ensures { result ≡ play_of self.now.size self.now.points colour p }
+    {
+        let look = self.look(colour, p);
+        let mut points = self.points.copy();
+        for name in look.goes.as_slice() {
+            self.lift(*name, &mut points);
+        }
+        if !look.suicide {
+            points.set(p, Some(colour));
+        }
+        points
+    }
+
+    /// The colouring after a play of `colour` on the empty point `p`, of which this is told; no chain is changed for it.
+    pub(crate) fn points_after(&self, colour: Colour, p: usize, kind: PlayKind) -> Colouring
+        requires on_board { p < point_count self.now.size }
+        requires free { entry_at self.now.points p ≡ None }
+        requires kind { IsKind kind self.now.size self.now.points colour p }
+        ensures { result ≡ play_of self.now.size self.now.points colour p }
+    {
+        match kind {
+            PlayKind::NoCapture => {
+                let mut points = self.points.copy();
+                points.set(p, Some(colour));
+                points
+            }
+            PlayKind::SingleStoneSuicide => self.points.copy(),
+            PlayKind::NeedsBoard => self.points_after_taking(colour, p),
+        }
+    }
+
+    /// Becomes the same board as another one. Where the ends of both are near, no name and no count behind them is copied.
+    pub(crate) fn set_to(&mut self, other: &Chains)
+        ensures size { self.new.size ≡ other.now.size }
+        ensures points { self.new.points ≡ other.now.points }
+    {
+        let end = later_end(self.end, other.end);
+        if end <= FEW {
+            take_over(&mut self.counts.names, &other.counts.names, end);
+            take_over(&mut self.counts.stones, &other.counts.stones, end);
+            take_over(&mut self.counts.liberties, &other.counts.liberties, end);
+        } else {
+            self.counts = other.counts;
+        }
+        self.size = other.size;
+        self.points.set_to(&other.points);
+        self.end = other.end;
+    }
+
+    /// The same again.
+    pub(crate) fn copy(&self) -> Chains
+        ensures { result ≡ self.now }
+    {
+        Chains {
+            size: self.size,
+            points: self.points.copy(),
+            counts: self.counts,
+            end: self.end,
+        }
+    }
+}

@@ -1,0 +1,147 @@
+//! Plays that are told by four names and the counts of their chains: those by which nothing goes, and those that change nothing.
+
+ghost use Rattle.std.specs.Prelude.{◌≡◌, ◌≢◌, ℕ, ◌+◌, ◌/◌, ◌<◌, ◌≤◌, ◌⊎◌, ◌↔◌, length, IsTrue, Some, MatchOption, false};
+ghost use Rattle.tt_sgf.specs.Sizes.{point_count};
+ghost use Rattle.tt_board.specs.declared.counted.play_kind.TheConstants.{NOWHERE};
+ghost use Rattle.tt_board.specs.inside.Chains.{name_at, root_of, colour_number, IsOneName, AreNear, bare_one};
+
+use crate::Colour;
+use crate::counted::names::root_of;
+use crate::near::beside;
+use tt_sgf::Size;
+
+/// What the points beside an empty point tell of a play there.
+#[derive(Clone, Copy, PartialEq, Eq)]
+pub enum PlayKind {
+    /// The stone is put, and no stone goes.
+    NoCapture,
+    /// The stone goes at once and alone, so that the colouring stays.
+    SingleStoneSuicide,
+    /// More has to be looked at.
+    NeedsBoard,
+}
+
+/// In the place of a name where the board has no place. No chain has it.
+pub(crate) const NOWHERE: u16 = 1536;
+
+/// The names on the four places beside a point, `NOWHERE` where the board has no such place; and how many of them are empty.
+#[derive(Clone, Copy)]
+pub(crate) struct Names {
+    pub(crate) above: u16,
+    pub(crate) left: u16,
+    pub(crate) right: u16,
+    pub(crate) below: u16,
+    pub(crate) empty: u16,
+}
+
+/// A colour as part of a name.
+#[inline]
+pub(crate) fn colour_number(colour: Colour) -> u16
+    ensures { result ≡ colour_number colour }
+{
+    match colour {
+        Colour::Black => 1,
+        Colour::White => 2,
+    }
+}
+
+/// The name on a place; `NOWHERE` for no place.
+#[inline]
+fn name_there(names: &[u16], place: Option<usize>) -> u16
+    requires { (q : ℕ) → place ≡ Some q → q < length names.now }
+    ensures { MatchOption place (result ≡ NOWHERE) (λ q. result ≡ name_at names.now q) }
+{
+    match place {
+        Some(q) => names[q],
+        None => NOWHERE,
+    }
+}
+
+/// The names beside `p`.
+#[inline]
+pub(crate) fn names_beside(size: Size, names: &[u16], p: usize) -> Names
+    requires wide { point_count size ≤ length names.now }
+    requires on_board { p < point_count size }
+    ensures { AreNear size names.now p result }
+{
+    let near = beside(size, p);
+    let above = name_there(names, near.above);
+    let left = name_there(names, near.left);
+    let right = name_there(names, near.right);
+    let below = name_there(names, near.below);
+    Names {
+        above,
+        left,
+        right,
+        below,
+        empty: empty_one(above) + empty_one(left) + empty_one(right) + empty_one(below),
+    }
+}
+
+/// Whether the name is of a chain of the colour of this code, with one liberty.
+#[inline]
+pub(crate) fn is_last(liberties: &[u16], name: u16, code: u16) -> bool
+    requires { root_of name < length liberties.now }
+    ensures { IsTrue result ↔ ((name / 512 ≡ code) × (name_at liberties.now (root_of name) ≡ 1)) }
+{
+    name / 512 == code && liberties[root_of(name)] == 1
+}
+
+/// Whether the name is that of an empty place, or of a chain of the colour of this code, with another number of liberties than one.
+#[inline]
+fn is_open(liberties: &[u16], name: u16, code: u16) -> bool
+    requires { root_of name < length liberties.now }
+    ensures { IsTrue result ↔ ((name ≡ 0) ⊎ ((name / 512 ≡ code) × (name_at liberties.now (root_of name) ≢ 1))) }
+{
+    name == 0 || (name / 512 == code && liberties[root_of(name)] != 1)
+}
+
+/// 1 for the name of an empty place, 0 for another one.
+#[inline]
+fn empty_one(name: u16) -> u16
+    ensures { result ≡ bare_one name }
+{
+    if name == 0 { 1 } else { 0 }
+}
+
+impl Names {
+    /// Whether a chain of the colour of this code has one liberty.
+    #[inline]
+    pub(crate) fn has_last(&self, liberties: &[u16], code: u16) -> bool
+        requires { (m : ℕ) → IsOneName self.now.above self.now.left self.now.right self.now.below m → root_of m < length liberties.now }
+        ensures { result ≡ false → (m : ℕ) → IsOneName self.now.above self.now.left self.now.right self.now.below m → m / 512 ≡ code
+            → name_at liberties.now (root_of m) ≢ 1 }
+    {
+        is_last(liberties, self.above, code)
+            || is_last(liberties, self.left, code)
+            || is_last(liberties, self.right, code)
+            || is_last(liberties, self.below, code)
+    }
+
+    /// Whether a place is empty, or a chain of the colour of this code has not one liberty.
+    #[inline]
+    pub(crate) fn has_open(&self, liberties: &[u16], code: u16) -> bool
+        requires { (m : ℕ) → IsOneName self.now.above self.now.left self.now.right self.now.below m → root_of m < length liberties.now }
+        ensures some { IsTrue result → (m : ℕ) × IsOneName self.now.above self.now.left self.now.right self.now.below m
+            × ((m ≡ 0) ⊎ ((m / 512 ≡ code) × (name_at liberties.now (root_of m) ≢ 1))) }
+        ensures none { result ≡ false → (m : ℕ) → IsOneName self.now.above self.now.left self.now.right self.now.below m → m ≢ 0 }
+        ensures shut { result ≡ false → (m : ℕ) → IsOneName self.now.above self.now.left self.now.right self.now.below m → m / 512 ≡ code
+            → name_at liberties.now (root_of m) ≢ 1 → ⊥ }
+    {
+        is_open(liberties, self.above, code)
+            || is_open(liberties, self.left, code)
+            || is_open(liberties, self.right, code)
+            || is_open(liberties, self.below, code)
+    }
+
+    /// Whether one is of a chain of the colour of this code.
+    #[inline]
+    pub(crate) fn has_own(&self, code: u16) -> bool
+        ensures { result ≡ false → (m : ℕ) → IsOneName self.now.above self.now.left self.now.right self.now.below m → m / 512 ≢ code }
+    {
+        self.above / 512 == code
+            || self.left / 512 == code
+            || self.right / 512 == code
+            || self.below / 512 == code
+    }
+}

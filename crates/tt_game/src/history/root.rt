@@ -1,0 +1,192 @@
+//! What lines of one beginning share: it stands once, however many places are kept of them.
+
+ghost use Rattle.std.specs.Prelude.{◌≡◌, ◌<◌, ◌↔◌, List, ◌∷◌, ◌++◌, [], length, All, IsTrue, IfOk, Some, false};
+ghost use Rattle.std.specs.Arc.{arc_value};
+ghost use Rattle.tt_sgf.specs.Sizes.{point_count};
+ghost use Rattle.tt_board.specs.Position.{Position, Colouring};
+ghost use Rattle.tt_board.specs.Reach.{entry_at};
+ghost use Rattle.tt_game.specs.Course.{HasBeen, so_far, colourings};
+ghost use Rattle.tt_game.specs.inside.Roots.{AreStonesOf};
+ghost use Rattle.tt_game.specs.BloomFilter.{hash_of};
+
+use crate::frame::Frame;
+use crate::history::History;
+use crate::history::bloom_filter::{BloomFilter, hash_of};
+use std::marker::Model;
+use std::sync::Arc;
+use tt_board::{Board, Boards, Colour};
+use tt_sgf::{Bits, NoMemory, Point};
+
+/// To compare a colouring with so many boards costs about what its hash costs.
+const FEW: usize = 8;
+
+/// From so many points of the region on it pays to look at all of them at once, and with fewer one by one.
+pub(crate) const MANY: u16 = 20;
+
+/// A frame, and the boards that lines had when the first of them began. Contracts see it as `Rooted`.
+///
+/// The stones of all these boards stand together in twelve words, and their hashes were noted, so that superko asks once for what
+/// hundreds of boards never had. The base is a board from which those of later places are told by how they differ.
+#[derive(Drop)]
+pub(crate) struct Root {
+    frame: Frame,
+    many: bool,
+    boards: Boards,
+    count: usize,
+    base: Arc<Board>,
+    black: Bits,
+    white: Bits,
+    filter: BloomFilter,
+}
+
+impl Model for Root {
+    ghost use Rattle.std.specs.Prelude.{◌≡◌, ◌<◌, length, All};
+    ghost use Rattle.std.specs.Arc.{arc_value};
+    ghost use Rattle.std.specs.Coded.{codes};
+    ghost use Rattle.tt_sgf.specs.contracts.sets.PointSet as points;
+    ghost use Rattle.tt_board.specs.declared.Colour.TheVariants.{Black, White};
+    ghost use Rattle.tt_game.specs.Course.{colourings};
+    ghost use Rattle.tt_game.specs.inside.Roots.{Rooted, AreStonesOf};
+    ghost use Rattle.tt_game.specs.BloomFilter.{MayHoldAll};
+
+    ghost Value = { Rooted };
+
+    ghost coded = { Prim.hlevel (codes, points.the_row.coded) };
+
+    ghost view = { λ r. record { frame = r.frame; begun = r.boards } };
+
+    ghost invariant = { λ r. record {
+      count : r.count ≡ length r.boards;
+      some_board : 0 < length r.boards;
+      sizes : All (λ b. b.size ≡ r.frame.size) r.boards;
+      base : (arc_value r.base).size ≡ r.frame.size;
+      black : AreStonesOf Black r.boards r.black.words;
+      white : AreStonesOf White r.boards r.white.words;
+      filter : MayHoldAll r.filter r.frame.size (colourings r.boards);
+    } };
+}
+
+/// The stones of a colour on all of these boards.
+pub(crate) fn stones_of(boards: &[Board], colour: Colour) -> Bits
+    ensures { AreStonesOf colour boards.now result.words }
+{
+    let mut stones = Bits::none();
+    for board in boards {
+        stones = stones.or(board.bits(colour));
+    }
+    stones
+}
+
+impl Root {
+    /// What lines that begin with this history share.
+    pub(crate) fn of(frame: &Frame, history: &History) -> Result<Root, NoMemory>
+        requires { history.now.size ≡ frame.now.size }
+        ensures { IfOk result (λ r. (r.frame ≡ frame.now) × (colourings r.begun ≡ so_far history.now)) }
+    {
+        let alloc = history.alloc();
+        let boards = history.boards();
+        let filter = if boards.len() <= FEW {
+            BloomFilter::saturated(alloc)
+        } else {
+            BloomFilter::of_all(alloc, boards)
+        };
+        Ok(Root {
+            frame: frame.copy(),
+            many: frame.region.count() >= MANY,
+            boards: Boards::of(alloc, boards)?,
+            count: boards.len(),
+            base: Arc::new(alloc, history.present().copy())?,
+            black: stones_of(boards, Colour::Black),
+            white: stones_of(boards, Colour::White),
+            filter,
+        })
+    }
+
+    /// The frame.
+    pub(crate) fn frame(&self) -> &Frame
+        ensures { result.now ≡ self.now.frame }
+    {
+        &self.frame
+    }
+
+    /// Whether the region has many points. Nothing goes by it but time.
+    pub(crate) fn has_many(&self) -> bool {
+        self.many
+    }
+
+    /// How many boards there were.
+    pub(crate) fn count(&self) -> usize
+        ensures value { result ≡ length self.now.begun }
+        ensures some { 0 < length self.now.begun }
+        ensures sizes { All (λ b. b.size ≡ self.now.frame.size) self.now.begun }
+    {
+        self.count
+    }
+
+    /// The base.
+    pub(crate) fn base(&self) -> &Arc<Board>
+        ensures { (arc_value result.now).size ≡ self.now.frame.size }
+    {
+        &self.base
+    }
+
+    /// The stones of a colour on all boards of the beginning.
+    pub(crate) fn stones(&self, colour: Colour) -> &Bits
+        ensures { AreStonesOf colour self.now.begun result.now.words }
+    {
+        match colour {
+            Colour::Black => &self.black,
+            Colour::White => &self.white,
+        }
+    }
+
+    /// Whether a stone of this colour stood on `p` on some board of the beginning.
+    pub(crate) fn has_stood(&self, colour: Colour, p: Point) -> bool
+        requires { p < point_count self.now.frame.size }
+        ensures { (c : Colouring) → HasBeen (colourings self.now.begun) c → entry_at c p ≡ Some colour → IsTrue result }
+    {
+        let index = usize::from(p.number());
+        match colour {
+            Colour::Black => self.black.has(index),
+            Colour::White => self.white.has(index),
+        }
+    }
+
+    /// Whether a board of the frame's size has a colouring that its hash tells from those of all boards of the beginning. Where
+    /// those are few, no hash is made.
+    pub(crate) fn unlike(&self, board: &Board) -> bool
+        requires { board.now.size ≡ self.now.frame.size }
+        ensures { IsTrue result → HasBeen (colourings self.now.begun) board.now.points → ⊥ }
+    {
+        if self.count <= FEW {
+            return false;
+        }
+        !self.filter.has(hash_of(board))
+    }
+
+    /// Whether the boards of the beginning are so many that hashes were noted of them. Nothing goes by it but time.
+    pub(crate) fn has_hashes(&self) -> bool {
+        self.count > FEW
+    }
+
+    /// Whether some board of the beginning may have this hash. Where none has, no colouring of theirs has it.
+    pub(crate) fn has_hash(&self, hash: usize) -> bool
+        ensures { result ≡ false → (c : Colouring) → hash_of self.now.frame.size c ≡ hash → HasBeen (colourings self.now.begun) c → ⊥ }
+    {
+        self.filter.has(hash)
+    }
+
+    /// Whether these are exactly the boards of the beginning. It takes no memory.
+    pub(crate) fn began_with(&self, boards: &[Board]) -> bool
+        ensures { IsTrue result ↔ (self.now.begun ≡ boards.now) }
+    {
+        self.boards.are(boards)
+    }
+
+    /// The last board of the beginning.
+    pub(crate) fn last(&self) -> &Board
+        ensures { (before : List Position) × (self.now.begun ≡ before ++ result.now ∷ []) }
+    {
+        self.boards.last()
+    }
+}

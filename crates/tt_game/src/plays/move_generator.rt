@@ -1,0 +1,150 @@
+//! What is the same for all plays from where a line stands: it is worked out once, before they are looked at one by one.
+
+ghost use Rattle.std.specs.Prelude.{◌≡◌, ◌<◌, ◌≤◌, IsTrue, MatchOption, true};
+ghost use Rattle.std.specs.FinSet as set;
+ghost use Rattle.tt_sgf.specs.Sizes.{point_count};
+ghost use Rattle.tt_sgf.specs.Words.{bit_in};
+
+use crate::history::root::MANY;
+use crate::line::Line;
+use tt_board::{Colour, PlayKind};
+use tt_sgf::{BITS, Bits, Point};
+
+/// The colour that moves, the empty points of the region, some of them where its play takes nothing off, some of these where it is
+/// quiet, where stones of that colour have stood so far, and what the words of the present board make, where hashes by it tell new
+/// colourings.
+#[derive(Clone, Copy)]
+pub struct MoveGenerator {
+    colour: Colour,
+    empty: Bits,
+    no_capture: Bits,
+    new_colouring: Bits,
+    stood: Bits,
+    sum: Option<u64>,
+}
+
+/// Whether at least `MANY` bits are 1. Nothing goes by it but time.
+fn has_many(points: &Bits) -> bool {
+    let mut wanted = u32::from(MANY);
+    for word in points.words() {
+        if word != 0 {
+            wanted = wanted.saturating_sub(word.count_ones());
+        }
+    }
+    wanted == 0
+}
+
+impl Line {
+    ghost use Rattle.std.specs.Prelude.{ℕ, Some, None, slice_set};
+    ghost use Rattle.tt_game.specs.Course.{HasBeen};
+    ghost use Rattle.tt_board.specs.Reach.{entry_at};
+    ghost use Rattle.tt_board.specs.PlayKind.{IsKind};
+    ghost use Rattle.tt_board.specs.declared.counted.play_kind.PlayKind.TheVariants.{NoCapture};
+    ghost use Rattle.tt_game.specs.Game.{IsLegal, history, colour_of, made};
+    ghost use Rattle.tt_game.specs.MoveGenerators.{IsMoveGenerator, HaveStood, IsKindAt};
+    ghost use Rattle.tt_game.specs.declared.turns.Turn.{Turn};
+
+    /// What is the same for all plays of the side to move.
+    #[inline(always)]
+    pub fn moves(&self) -> MoveGenerator
+        ensures { IsMoveGenerator result self.now.frame self.now.state }
+    {
+        let colour = self.mover();
+        let empty = self.present().empty_among(&self.frame().region);
+        let stood = self.stones_so_far(colour);
+        let no_capture = self.no_capture_if_many(colour, &empty);
+        MoveGenerator {
+            colour,
+            empty,
+            no_capture,
+            new_colouring: self.no_capture_among(colour, &no_capture, &stood),
+            stood,
+            sum: self.sum_here(),
+        }
+    }
+
+    /// Some of these empty points on which a play of the side to move puts its stone and takes nothing off, found all at once: none
+    /// where they are few. A small region has few of them.
+    fn no_capture_if_many(&self, colour: Colour, empty: &Bits) -> Bits
+        requires colour { colour ≡ colour_of self.now.frame self.now.state.to_move }
+        requires free { (p : ℕ) → p < point_count self.now.frame.size → bit_in empty.now.words p ≡ true → entry_at self.now.state.present p ≡ None }
+        ensures { (p : ℕ) → p < point_count self.now.frame.size → bit_in result.words p ≡ true
+            → IsKind NoCapture self.now.frame.size self.now.state.present (colour_of self.now.frame self.now.state.to_move) p }
+    {
+        if !self.has_many() {
+            return Bits::none();
+        }
+        if !has_many(empty) {
+            return Bits::none();
+        }
+        self.counted().no_capture_among(colour, empty)
+    }
+
+    /// Those of these points on which a play of the side to move is quiet, since its stones never stood there.
+    fn no_capture_among(&self, colour: Colour, no_capture: &Bits, stood: &Bits) -> Bits
+        requires colour { colour ≡ colour_of self.now.frame self.now.state.to_move }
+        requires no_capture { (p : ℕ) → p < point_count self.now.frame.size → bit_in no_capture.now.words p ≡ true
+            → IsKind NoCapture self.now.frame.size self.now.state.present (colour_of self.now.frame self.now.state.to_move) p }
+        requires stood { HaveStood colour self.now.frame.size (history self.now.state) stood.now.words }
+        ensures { (p : ℕ) → p < point_count self.now.frame.size → bit_in result.words p ≡ true → IsKindAt NoCapture self.now.frame self.now.state p }
+    {
+        no_capture.minus(stood)
+    }
+
+    /// The first empty point of the region from a number on: none where the board has no such point.
+    pub(crate) fn next_point(&self, moves: &MoveGenerator, from: u16) -> Option<Point>
+        requires { IsMoveGenerator moves.now self.now.frame self.now.state }
+        ensures { MatchOption result
+            ((q : ℕ) → from ≤ q → IsLegal self.now.frame self.now.state (Turn.Play q) → ⊥)
+            (λ p. (p < point_count self.now.frame.size) × (from ≤ p) × ((q : ℕ) → from ≤ q → q < p → IsLegal self.now.frame self.now.state (Turn.Play q) → ⊥)
+            × IsTrue (set.contains self.now.frame.region p) × (entry_at self.now.state.present p ≡ None)) }
+    {
+        let n = moves.empty.first_from(usize::from(from).min(BITS));
+        self.frame().size.point(n as u16)
+    }
+
+    /// Whether a play of the side to move by which nothing goes is told to make a colouring that hasn't been. No board is made for it.
+    #[inline(always)]
+    pub(crate) fn is_new(&self, moves: &MoveGenerator, p: Point) -> bool
+        requires moves { IsMoveGenerator moves.now self.now.frame self.now.state }
+        requires on_board { p < point_count self.now.frame.size }
+        requires free { entry_at self.now.state.present p ≡ None }
+        requires no_capture { made self.now.frame self.now.state p ≡ slice_set self.now.state.present p (Some (colour_of self.now.frame self.now.state.to_move)) }
+        ensures { IsTrue result → HasBeen (history self.now.state) (made self.now.frame self.now.state p) → ⊥ }
+    {
+        match moves.sum {
+            Some(sum) => self.is_new_by_hash(sum, moves.colour, p),
+            None => false,
+        }
+    }
+
+    /// What is foretold of a play of the side to move on an empty point, by the points beside it and by the stones that stood there, and
+    /// what is told by the points beside it alone. It captures nothing where it takes nothing off and makes a colouring that hasn't been, and is
+    /// a suicide of one stone where its colouring is the present one.
+    pub(crate) fn kind_by(&self, moves: &MoveGenerator, p: Point) -> (PlayKind, PlayKind)
+        requires moves { IsMoveGenerator moves.now self.now.frame self.now.state }
+        requires on_board { p < point_count self.now.frame.size }
+        requires free { entry_at self.now.state.present p ≡ None }
+        ensures kind_here { IsKindAt result.0 self.now.frame self.now.state p }
+        ensures kind { IsKind result.1 self.now.frame.size self.now.state.present (colour_of self.now.frame self.now.state.to_move) p }
+    {
+        if moves.new_colouring.has(usize::from(p.number())) {
+            return (PlayKind::NoCapture, PlayKind::NoCapture);
+        }
+        if moves.no_capture.has(usize::from(p.number())) {
+            return (PlayKind::NeedsBoard, PlayKind::NoCapture);
+        }
+        let kind = self.counted().play_kind(moves.colour, p);
+        match kind {
+            PlayKind::SingleStoneSuicide => (PlayKind::SingleStoneSuicide, kind),
+            PlayKind::NeedsBoard => (PlayKind::NeedsBoard, kind),
+            PlayKind::NoCapture => {
+                if moves.stood.has(usize::from(p.number())) {
+                    (PlayKind::NeedsBoard, kind)
+                } else {
+                    (PlayKind::NoCapture, kind)
+                }
+            }
+        }
+    }
+}

@@ -1,0 +1,21 @@
+use Rattle.std.proofs.Common.{◌≡◌, ◌<◌, ◌≤◌, length, min, take, drop}
+use Rattle.tt_search.specs.Numbers.{numbers, infinite, least}
+use Rattle.tt_search.specs.MostProving.{best}
+use Rattle.tt_search.specs.inside.Children.{children_of}
+use Rattle.tt_search.specs.inside.Edges.{edge_trees, grown_in}
+use Rattle.tt_search.proofs.Rows.{best_from}
+use Rattle.tt_search.proofs.tree.numbers.best_of.Given as goal
+
+abbrev pub invariant-loop-i : goal.invariant-loop-i
+invariant-loop-i l = record {
+  most : l.least ≤ infinite;
+  higher : l.from < l.least;
+  place : best_from l.place l.least l.i (numbers l.mover (children_of (edge_trees (drop l.i l.edges) l.rest))) ≡ best l.mover (children_of (edge_trees l.edges l.grown));
+  least : min l.least (least (numbers l.mover (children_of (edge_trees (drop l.i l.edges) l.rest)))) ≡ least (numbers l.mover (children_of (edge_trees l.edges l.grown)));
+  looked_at : l.place ≤ l.i;
+  few : l.passed ≤ l.i;
+  fewer : l.rank ≤ l.i;
+  passed : l.passed ≡ grown_in (take l.i l.edges);
+  rank : l.rank ≡ grown_in (take l.place l.edges);
+  whole : grown_in (drop l.i l.edges) ≡ length l.rest;
+}

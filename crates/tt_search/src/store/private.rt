@@ -1,0 +1,173 @@
+//! A store of one search's own.
+
+ghost use Rattle.std.specs.Prelude.{◌≡◌, ◌≢◌, ◌<◌, ◌≤◌, ◌+◌, ◌∷◌, [], ◌↔◌, IfOk, IfSome, MatchOption, length, map};
+ghost use Rattle.std.specs.Option.{option_map};
+ghost use Rattle.std.specs.Arc.{arc_value};
+ghost use Rattle.tt_game.specs.declared.frame.Side.TheVariants.{Attacker, Defender};
+ghost use Rattle.tt_search.specs.Stores.{AnswersFor, IsNewest};
+ghost use Rattle.tt_search.specs.KeyIndex.{proof_at};
+ghost use Rattle.tt_search.specs.declared.store.Kept.TheVariants.{Stored, Full};
+
+use crate::store::key_index::{KeyIndex, ProofRow};
+use crate::store::{BothSides, Kept, Store};
+use std::alloc::Global;
+use std::marker::Model;
+use std::sync::Arc;
+use tt_game::{Line, Side};
+use tt_proof::Proof;
+use tt_sgf::NoMemory;
+
+/// A store that answers the last proof that it kept of a key and a side.
+#[derive(Drop)]
+pub struct PrivateStore {
+    proofs: Vec<Arc<Proof>>,
+    index: KeyIndex,
+    capacity: usize,
+}
+
+impl Model for PrivateStore {
+    ghost use Rattle.std.specs.Prelude.{◌≡◌, ◌≤◌, map, length, reverse};
+    ghost use Rattle.std.specs.Coded.{codes};
+    ghost use Rattle.tt_sgf.specs.contracts.sets.PointSet as points;
+    ghost use Rattle.std.specs.Arc.{arc_value};
+    ghost use Rattle.tt_proof.specs.laws.StrategyCode.{strategy_code};
+    ghost use Rattle.tt_search.specs.Stores.{Keeping};
+    ghost use Rattle.tt_search.specs.KeyIndex.{index_hashes};
+
+    ghost Value = { Keeping };
+
+    ghost coded = { Prim.hlevel (codes, strategy_code, points.the_row.coded) };
+
+    ghost view = { λ s. record { proofs = reverse (map arc_value s.proofs.items); capacity = s.capacity } };
+
+    ghost invariant = { λ s. (s.index.hashes ≡ index_hashes (map arc_value s.proofs.items)) × (length (map arc_value s.proofs.items) ≤ s.capacity) };
+}
+
+impl ProofRow for Vec<Arc<Proof>> {
+    ghost use Rattle.std.specs.Prelude.{map};
+    ghost use Rattle.std.specs.Arc.{arc_value};
+
+    ghost proofs = { λ v. map arc_value v.items };
+
+    fn proof(&self, place: usize) -> &Proof {
+        &self[place]
+    }
+}
+
+impl PrivateStore {
+    /// How many proofs a new store may keep.
+    pub const CAPACITY: usize = 4096;
+
+    /// An empty store. It takes no memory.
+    pub fn new(alloc: Global) -> PrivateStore
+        ensures { result ≡ record { proofs = []; capacity = 4096 } }
+    {
+        PrivateStore {
+            proofs: Vec::new(alloc),
+            index: KeyIndex::new(alloc),
+            capacity: Self::CAPACITY,
+        }
+    }
+
+    /// An empty store that may keep so many proofs. It takes no memory.
+    pub fn with_capacity(alloc: Global, capacity: usize) -> PrivateStore
+        ensures { result ≡ record { proofs = []; capacity = capacity } }
+    {
+        PrivateStore {
+            proofs: Vec::new(alloc),
+            index: KeyIndex::new(alloc),
+            capacity,
+        }
+    }
+
+    /// An empty store that may keep so many proofs, where these are no more than 4,096. It takes no memory.
+    pub fn bounded(alloc: Global, capacity: usize) -> Option<PrivateStore>
+        ensures { MatchOption result (4096 < capacity) (λ s. (capacity ≤ 4096) × (s ≡ record { proofs = []; capacity = capacity })) }
+    {
+        if capacity > Self::CAPACITY {
+            return None;
+        }
+        Some(PrivateStore {
+            proofs: Vec::new(alloc),
+            index: KeyIndex::new(alloc),
+            capacity,
+        })
+    }
+}
+
+/// Another handle of the proof at the place, if it is one's.
+fn handle_at(proofs: &Vec<Arc<Proof>>, place: Option<usize>) -> Result<Option<Arc<Proof>>, NoMemory>
+    ensures { IfOk result (λ o. option_map (λ p. arc_value p) o ≡ proof_at (map arc_value proofs.now.items) place) }
+{
+    let Some(place) = place else {
+        return Ok(None);
+    };
+    let Some(p) = proofs.get(place) else {
+        return Ok(None);
+    };
+    let handle = Arc::try_clone(p)?;
+    Ok(Some(handle))
+}
+
+impl Store for PrivateStore {
+    ghost capacity = { λ s. s.capacity };
+
+    ghost kept = { λ s. length s.proofs };
+
+    ghost may_answer = { Unit {0} };
+
+    fn capacity(&self) -> usize {
+        self.capacity
+    }
+
+    fn kept(&self) -> usize {
+        self.proofs.len()
+    }
+
+    fn find(&mut self, line: &Line, s: Side) -> Result<Option<Arc<Proof>>, NoMemory>
+        ensures newest { IfOk result (λ o. IsNewest line.now s self.old.proofs (option_map (λ p. p.value) o)) }
+        ensures found { IfOk result (λ o. IfSome o (λ p. AnswersFor line.now s p.value)) }
+        ensures may { IfOk result (λ o. IfSome o (λ _. Unit {0})) }
+        ensures capacity { self.new.capacity ≡ self.old.capacity }
+        ensures kept { length self.new.proofs ≡ length self.old.proofs }
+        ensures same { self.new ≡ self.old }
+    {
+        handle_at(&self.proofs, self.index.newest(line, s, &self.proofs))
+    }
+
+    fn find_both(&mut self, line: &Line) -> Result<BothSides, NoMemory>
+        ensures newest_attacker { IfOk result (λ a. IsNewest line.now Attacker self.old.proofs (option_map (λ p. p.value) a.attacker)) }
+        ensures newest_defender { IfOk result (λ a. IsNewest line.now Defender self.old.proofs (option_map (λ p. p.value) a.defender)) }
+        ensures attacker { IfOk result (λ a. IfSome a.attacker (λ p. AnswersFor line.now Attacker p.value)) }
+        ensures defender { IfOk result (λ a. IfSome a.defender (λ p. AnswersFor line.now Defender p.value)) }
+        ensures may_attacker { IfOk result (λ a. IfSome a.attacker (λ _. Unit {0})) }
+        ensures may_defender { IfOk result (λ a. IfSome a.defender (λ _. Unit {0})) }
+        ensures capacity { self.new.capacity ≡ self.old.capacity }
+        ensures kept { length self.new.proofs ≡ length self.old.proofs }
+        ensures same { self.new ≡ self.old }
+    {
+        let (attacker, defender) = self.index.newest_both(line, &self.proofs);
+        let attacker = handle_at(&self.proofs, attacker)?;
+        let defender = handle_at(&self.proofs, defender)?;
+        Ok(BothSides { attacker, defender })
+    }
+
+    fn keep(&mut self, p: Arc<Proof>) -> Kept
+        ensures full { (result ≡ Full) ↔ (length self.old.proofs ≡ self.old.capacity) }
+        ensures stored { result ≡ Stored → length self.new.proofs ≡ length self.old.proofs + 1 }
+        ensures other { result ≢ Stored → length self.new.proofs ≡ length self.old.proofs }
+        ensures capacity { self.new.capacity ≡ self.old.capacity }
+        ensures newest { result ≡ Stored → self.new.proofs ≡ p.value ∷ self.old.proofs }
+        ensures same { result ≢ Stored → self.new ≡ self.old }
+    {
+        if self.proofs.len() == self.capacity {
+            return Kept::Full;
+        }
+        if self.proofs.reserve(1).is_err() || self.index.reserve().is_err() {
+            return Kept::NoMemory;
+        }
+        self.index.push(&p);
+        self.proofs.push_reserved(p);
+        Kept::Stored
+    }
+}

@@ -1,0 +1,102 @@
+//! The edges of a node in a row: a few stand in the node itself, more in a block of their own.
+
+ghost use Rattle.std.specs.Prelude.{◌≡◌, ◌<◌, ◌≤◌, IfOk, length, take, set, slice_index_or};
+
+use crate::tree::edges::Edge;
+use std::alloc::Global;
+use std::marker::Model;
+use tt_sgf::NoMemory;
+
+/// How many edges stand in the node itself. With so many it has 72 bytes.
+const SHORT: usize = 15;
+
+/// So many edges of the array, or a block of them.
+#[derive(Drop)]
+enum Form {
+    Short(u8, [Edge; 15]),
+    Long(Vec<Edge>),
+}
+
+/// Edges in a row, which never becomes longer or shorter.
+#[derive(Drop)]
+pub(crate) struct Edges {
+    form: Form,
+}
+
+impl Model for Edges {
+    ghost use Rattle.std.specs.Prelude.{List};
+    ghost use Rattle.tt_search.specs.declared.tree.edges.Edge.{Edge};
+
+    ghost Value = { List Edge };
+
+    ghost use Rattle.tt_search.specs.inside.EdgeRow.{edges_of, AreWithin};
+
+    ghost view = { λ r. edges_of r.form };
+
+    ghost invariant = { λ r. AreWithin r.form };
+}
+
+/// So many edges in an array.
+fn short_of(edges: &[Edge]) -> [Edge; 15]
+    requires { length edges.now ≤ 15 }
+    ensures { take (length edges.now) result ≡ edges.now }
+{
+    let mut short = [Edge::default(); 15];
+    short[..edges.len()].copy_from_slice(edges);
+    short
+}
+
+impl Edges {
+    /// A row of these edges. `NoMemory` where memory was refused.
+    pub(crate) fn of(alloc: Global, edges: &[Edge]) -> Result<Edges, NoMemory>
+        ensures { IfOk result (λ row. row ≡ edges.now) }
+    {
+        if edges.len() <= SHORT {
+            let form = Form::Short(edges.len() as u8, short_of(edges));
+            return Ok(Edges { form });
+        }
+        let mut long = Vec::with_capacity(alloc, edges.len())?;
+        long.extend_from_slice(edges)?;
+        let form = Form::Long(long);
+        Ok(Edges { form })
+    }
+
+    /// The edges.
+    pub(crate) fn as_slice(&self) -> &[Edge]
+        ensures { result.now ≡ self.now }
+    {
+        match &self.form {
+            Form::Short(count, short) => &short[..usize::from(*count)],
+            Form::Long(long) => long.as_slice(),
+        }
+    }
+
+    /// How many there are.
+    pub(crate) fn len(&self) -> usize
+        ensures { result ≡ length self.now }
+    {
+        self.as_slice().len()
+    }
+
+    /// The edge at a place.
+    pub(crate) fn at(&self, place: usize) -> Edge
+        requires { place < length self.now }
+        ensures { result ≡ slice_index_or self.now place result }
+    {
+        match &self.form {
+            Form::Short(_, short) => short[place],
+            Form::Long(long) => long[place],
+        }
+    }
+
+    /// Puts an edge in the place of another.
+    pub(crate) fn set(&mut self, place: usize, edge: Edge)
+        requires { place < length self.old }
+        ensures { self.new ≡ set self.old place edge }
+    {
+        match &mut self.form {
+            Form::Short(_, short) => short[place] = edge,
+            Form::Long(long) => long[place] = edge,
+        }
+    }
+}

@@ -1,0 +1,59 @@
+//! What a store has for the line itself, and what it is offered.
+
+ghost use Rattle.std.specs.Prelude.{◌≡◌, ℕ, Option, None, IfOk, IfSome};
+ghost use Rattle.tt_game.specs.Game.{winner_of};
+ghost use Rattle.tt_proof.specs.Proven.{IsWon, StandsAt};
+ghost use Rattle.tt_share.specs.Answers.{IsAnswer};
+
+use crate::answer::Answer;
+use crate::answer::conclude::settled;
+use std::alloc::Global;
+use std::sync::Arc;
+use tt_game::Line;
+use tt_proof::Proof;
+use tt_search::{Kept, Limits, Store, usable};
+use tt_sgf::NoMemory;
+
+/// A proof of the found tree at the line, where it wins, though it may have been found under another history. The tree is
+/// shared.
+fn moved_to(alloc: Global, line: &mut Line, found: &Proof) -> Result<Proof, NoMemory>
+    requires { IsWon found.now.side line.old.frame line.old.state found.now.tree }
+    ensures stands { IfOk result (λ p. StandsAt p line.old.frame line.old.state) }
+    ensures tree { IfOk result (λ p. p.tree ≡ found.now.tree) }
+{
+    let plan = found.plan().try_clone()?;
+    let footprint = found.footprint_at(alloc, line)?;
+    Proof::winning_with(line, found.side(), plan, footprint)
+}
+
+/// The answer that the store has for the line: a proof of the attacker, or else of the defender.
+pub(crate) fn from_store<S: Store>(
+    alloc: Global,
+    line: &Line,
+    limits: Limits,
+    store: &mut S,
+) -> Result<Option<Answer>, NoMemory>
+    requires open { winner_of line.now.frame line.now.state ≡ None }
+    ensures { (total : Option ℕ) → IfOk result (λ o. IfSome o (λ a. IsAnswer line.now limits total a)) }
+{
+    let mut own = line.try_clone()?;
+    let Some(found) = usable(&mut own, limits.depth(), store)? else {
+        return Ok(None);
+    };
+    let proof = moved_to(alloc, &mut own, &found)?;
+    Ok(Some(settled(alloc, line, limits, proof)?))
+}
+
+/// Offers the proof of an answer to the store, unless that is full.
+pub(crate) fn offer<S: Store>(answer: &Answer, store: &mut S) {
+    if store.kept() == store.capacity() {
+        return;
+    }
+    if let Answer::Settled { proof, first: _ } = answer {
+        if let Ok(copy) = Arc::try_clone(proof) {
+            match store.keep(copy) {
+                Kept::Stored | Kept::Full | Kept::NoMemory => {}
+            }
+        }
+    }
+}

@@ -1,0 +1,131 @@
+//! A view of a log as a store.
+
+ghost use Rattle.std.specs.Prelude.{◌≡◌, ◌≢◌, ◌≤◌, ◌+◌, ◌↔◌, ◌⊎◌, IfErr, IfOk, IfSome};
+ghost use Rattle.std.specs.Option.{option_map};
+ghost use Rattle.std.specs.Arc.{arc_value};
+ghost use Rattle.tt_game.specs.declared.frame.Side.TheVariants.{Attacker, Defender};
+ghost use Rattle.tt_search.specs.Stores.{AnswersFor, IsNewest};
+ghost use Rattle.tt_search.specs.declared.store.Kept.TheVariants.{Stored, Full};
+ghost use Rattle.tt_share.specs.Log.{Keeps, Extends, newest_first, HasNewest};
+
+use crate::bounds::MOST_KEPT;
+use crate::log::view::View;
+use std::marker::Model;
+use std::sync::{Arc, Wait};
+use tt_game::{Line, Side};
+use tt_proof::Proof;
+use tt_search::{BothSides, Kept, Store};
+use tt_sgf::NoMemory;
+
+/// A store that keeps proofs in a log, and answers those of a view of it: up to 4,096 proofs may be kept through it, and
+/// what it finds may have been kept through another store of the log. No call waits for another thread's, but that a keep
+/// may spin while another one stores a block of memory.
+#[derive(Drop)]
+pub struct LogStore<'a, R> {
+    rt: &'a R,
+    view: View<'a>,
+}
+
+impl<'a, R> Model for LogStore<'a, R> {
+    ghost use Rattle.std.specs.Coded.{codes};
+    ghost use Rattle.boxcar.specs.Table.{shelves_coded};
+    ghost use Rattle.tt_sgf.specs.contracts.sets.PointSet as points;
+    ghost use Rattle.tt_proof.specs.laws.StrategyCode.{strategy_code};
+    ghost use Rattle.tt_share.specs.Log.{ViewState};
+
+    ghost Value = { ViewState };
+
+    ghost coded = { Prim.hlevel (codes, shelves_coded, strategy_code, points.the_row.coded) };
+
+    ghost view = { λ s. s.view };
+}
+
+impl<'a, R> LogStore<'a, R> {
+    /// The view as a store.
+    pub fn new(rt: &'a R, view: View<'a>) -> LogStore<'a, R>
+        ensures { result ≡ view.entry }
+    {
+        LogStore { rt, view }
+    }
+
+    /// The view.
+    pub fn into_view(self) -> View<'a>
+        ensures { result ≡ self.entry }
+    {
+        let LogStore { rt: _, view } = self;
+        view
+    }
+}
+
+impl<'a, R> LogStore<'a, R> {
+    /// How many proofs may be kept through this store: 4,096.
+    pub fn capacity(&self) -> usize
+        ensures { result ≡ MOST_KEPT }
+    {
+        self.view.capacity()
+    }
+
+    /// How many proofs were kept through this store: at most 4,096.
+    pub fn kept(&self) -> usize
+        ensures kept { result ≡ self.now.kept }
+        ensures most { result ≤ MOST_KEPT }
+    {
+        self.view.kept()
+    }
+}
+
+impl<'a, R: Wait> Store for LogStore<'a, R> {
+    ghost use Rattle.tt_share.specs.declared.bounds.TheConstants.{MOST_KEPT};
+
+    ghost capacity = { λ _. MOST_KEPT };
+
+    ghost kept = { λ s. s.kept };
+
+    ghost may_answer = { Unit {0} };
+
+    fn capacity(&self) -> usize {
+        LogStore::capacity(self)
+    }
+
+    fn kept(&self) -> usize {
+        LogStore::kept(self)
+    }
+
+    fn find(&mut self, line: &Line, s: Side) -> Result<Option<Arc<Proof>>, NoMemory>
+        ensures found { IfOk result (λ o. IfSome o (λ p. AnswersFor line.now s p.value)) }
+        ensures may { IfOk result (λ o. IfSome o (λ _. Unit {0})) }
+        ensures kept { self.new.kept ≡ self.old.kept }
+        ensures log { self.new.log ≡ self.old.log }
+        ensures tokens { Extends self.old.tokens self.new.tokens }
+        ensures newest { IfOk result (λ o. IsNewest line.now s (newest_first self.new.tokens) (option_map (λ p. arc_value p) o)) }
+        ensures memory { IfErr result (λ _. HasNewest line.now s self.new.tokens) }
+    {
+        self.view.find(line, s)
+    }
+
+    fn find_both(&mut self, line: &Line) -> Result<BothSides, NoMemory>
+        ensures attacker { IfOk result (λ b. IfSome b.attacker (λ p. AnswersFor line.now Attacker p.value)) }
+        ensures defender { IfOk result (λ b. IfSome b.defender (λ p. AnswersFor line.now Defender p.value)) }
+        ensures may_attacker { IfOk result (λ b. IfSome b.attacker (λ _. Unit {0})) }
+        ensures may_defender { IfOk result (λ b. IfSome b.defender (λ _. Unit {0})) }
+        ensures kept { self.new.kept ≡ self.old.kept }
+        ensures log { self.new.log ≡ self.old.log }
+        ensures tokens { Extends self.old.tokens self.new.tokens }
+        ensures newest_attacker { IfOk result (λ b. IsNewest line.now Attacker (newest_first self.new.tokens) (option_map (λ p. arc_value p) b.attacker)) }
+        ensures newest_defender { IfOk result (λ b. IsNewest line.now Defender (newest_first self.new.tokens) (option_map (λ p. arc_value p) b.defender)) }
+        ensures memory { IfErr result (λ _. HasNewest line.now Attacker self.new.tokens ⊎ HasNewest line.now Defender self.new.tokens) }
+    {
+        self.view.find_both(line)
+    }
+
+    fn keep(&mut self, p: Arc<Proof>) -> Kept
+        ensures full { (result ≡ Full) ↔ (self.old.kept ≡ MOST_KEPT) }
+        ensures stored { result ≡ Stored → self.new.kept ≡ self.old.kept + 1 }
+        ensures other { result ≢ Stored → self.new.kept ≡ self.old.kept }
+        ensures log { self.new.log ≡ self.old.log }
+        ensures proof { result ≡ Stored → Keeps self.old self.new (arc_value p) }
+        ensures same { result ≢ Stored → self.new ≡ self.old }
+    {
+        self.view.keep(self.rt, p)
+    }
+}
