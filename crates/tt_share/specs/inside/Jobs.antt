@@ -57,7 +57,7 @@ pub record AsksFor (old : Asked) (n : ℕ) (end : End) (new : Asked) : Type 0 wh
   pub refused : IsForTotal end → new.refused ≡ true
   pub still : old.refused ≡ true → new.refused ≡ true
 
--- the turn has this place among the line's legal turns
+-- the turn has this slot among the line's legal turns
 abbrev pub IsJob : Standing → ℕ → Turn → Type 0
 IsJob line job t = slice_get (legal_turns line.frame line.state) job ≡ Some t
 

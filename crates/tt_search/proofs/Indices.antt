@@ -25,10 +25,10 @@ length-turns_of [] = refl
 length-turns_of (e ∷ es) = ap suc (length-turns_of es)
 
 -- the turn at a place is that of the edge there
-pub turn_at_place : (es : List Edge) (i : ℕ) (e : Edge) (t : Turn) → i < length es → get_or (edge_turns es) i t ≡ edge_turn (get_or es i e)
-turn_at_place [] i e t l = absurd (omega arith)
-turn_at_place (x ∷ es) zero e t l = refl
-turn_at_place (x ∷ es) (suc i) e t l = turn_at_place es i e t (omega arith)
+pub turn_at_index : (es : List Edge) (i : ℕ) (e : Edge) (t : Turn) → i < length es → get_or (edge_turns es) i t ≡ edge_turn (get_or es i e)
+turn_at_index [] i e t l = absurd (omega arith)
+turn_at_index (x ∷ es) zero e t l = refl
+turn_at_index (x ∷ es) (suc i) e t l = turn_at_index es i e t (omega arith)
 
 -- ---- the nodes of those that have grown
 
@@ -53,12 +53,12 @@ drop_behind Grown n [] = drop_none (suc n) ∙ sym (drop_none n)
 drop_behind Grown n (t ∷ ts) = refl
 
 -- the tree at a place is its edge's, once the nodes of those before are dropped
-pub tree_at_place : (es : List Edge) (ts : List PartialTree) (i : ℕ) (e : Edge) (d : PartialTree) → i < length es
+pub tree_at_index : (es : List Edge) (ts : List PartialTree) (i : ℕ) (e : Edge) (d : PartialTree) → i < length es
     → get_or (edge_trees es ts) i d ≡ tree_of (edge_state_of (get_or es i e)) (drop (grown_in (take i es)) ts)
-tree_at_place [] ts i e d l = absurd (omega arith)
-tree_at_place (x ∷ es) ts zero e d l = refl
-tree_at_place (x ∷ es) ts (suc i) e d l =
-    tree_at_place es (grown_behind (edge_state_of x) ts) i e d (omega arith)
+tree_at_index [] ts i e d l = absurd (omega arith)
+tree_at_index (x ∷ es) ts zero e d l = refl
+tree_at_index (x ∷ es) ts (suc i) e d l =
+    tree_at_index es (grown_behind (edge_state_of x) ts) i e d (omega arith)
     ∙ ap (tree_of (edge_state_of (get_or es i e))) (sym (drop_behind (edge_state_of x) (grown_in (take i es)) ts))
 
 -- counting a child keeps which of two numbers is less
@@ -117,10 +117,10 @@ tree_of_node (t ∷ ts) zero d l = refl
 tree_of_node (t ∷ ts) (suc n) d l = tree_of_node ts n d (omega arith)
 
 -- the tree of a child that has grown is the node at its rank
-pub grown_at_place : (es : List Edge) (ts : List PartialTree) (i : ℕ) (e : Edge) (d : PartialTree) → i < length es → edge_state_of (get_or es i e) ≡ Grown → grown_in es ≡ length ts
+pub grown_at_index : (es : List Edge) (ts : List PartialTree) (i : ℕ) (e : Edge) (d : PartialTree) → i < length es → edge_state_of (get_or es i e) ≡ Grown → grown_in es ≡ length ts
     → get_or (edge_trees es ts) i d ≡ get_or ts (grown_in (take i es)) d
-grown_at_place es ts i e d l m w =
-    tree_at_place es ts i e d l
+grown_at_index es ts i e d l m w =
+    tree_at_index es ts i e d l
     ∙ ap (λ k. tree_of k (drop (grown_in (take i es)) ts)) m
     ∙ tree_of_node ts (grown_in (take i es)) d (omega (arith, rank_there es i e l m, w))
 

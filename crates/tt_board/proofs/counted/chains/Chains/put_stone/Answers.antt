@@ -1,6 +1,6 @@
 use Rattle.std.proofs.Common.{subst}
 use Rattle.tt_board.specs.inside.Chains.{ChainBoard, AreNear}
-use Rattle.tt_board.proofs.counted.chains.Chains.place.Goals as goal
+use Rattle.tt_board.proofs.counted.chains.Chains.put_stone.Goals as goal
 
 pub put-requires-clause-near : goal.put-requires-clause-near
 put-requires-clause-near c =
