@@ -1,9 +1,12 @@
 -- How a run ends.
-use Rattle.std.specs.Prelude.{◌≡◌, ◌+◌, true, Some, None}
-use Rattle.tt_search.specs.Numbers.{count}
+use Rattle.std.specs.Prelude.{◌≡◌, ◌≤◌, ◌+◌, true, Some, None}
+use Rattle.tt_proof.specs.Strategy.{depth}
+use Rattle.tt_proof.specs.Proven.{Proven, StandsAt}
+use Rattle.tt_search.specs.Numbers.{number, count}
 use Rattle.tt_search.specs.Grants.{Asked}
 use Rattle.tt_search.specs.Growing.{GrownFrom}
-use Rattle.tt_search.specs.Searched.{Searched, IsSameProblem, IsProofOf, IsStuckFor}
+use Rattle.tt_search.specs.Settled.{strategy_for}
+use Rattle.tt_search.specs.Searched.{Searched, IsSameProblem, IsStuckFor}
 use Rattle.tt_search.specs.declared.limits.Reason.TheVariants.{Budget, Depth, Total, Memory}
 use Rattle.tt_search.specs.declared.search.End.{End}
 use Rattle.tt_search.specs.declared.search.End.TheVariants.{Settled, Stuck}
@@ -12,6 +15,13 @@ use Rattle.tt_search.specs.declared.search.End.TheVariants.{Settled, Stuck}
 pub record RanTo (start search : Searched) : Type 0 where
   pub problem : IsSameProblem start search
   pub grown : GrownFrom start.limits start.line.frame start.line.state start.tree search.tree
+
+-- the proof stands at the search's line, within its limit on depth, and its strategy is that of the search's tree
+pub record IsProofOf (search : Searched) (p : Proven) : Type 0 where
+  pub stands : StandsAt p search.line.frame search.line.state
+  pub low : depth p.tree ≤ search.limits.depth
+  pub settled : number p.side search.tree ≡ 0
+  pub strategy : p.tree ≡ strategy_for p.side search.tree
 
 -- what each end of a run says: a proof of a search that is reached, or a search that is reached and stuck; a run that
 -- is stuck holds its search

@@ -10,7 +10,8 @@ use Rattle.tt_proof.specs.Proven.{StandsAt, IsWon}
 use Rattle.tt_search.specs.Numbers.{count}
 use Rattle.tt_search.specs.Grants.{Asked}
 use Rattle.tt_search.specs.Growing.{IsGrown}
-use Rattle.tt_search.specs.Searched.{Searched, IsProofOf, IsStuckFor}
+use Rattle.tt_search.specs.Searched.{Searched, IsStuckFor}
+use Rattle.tt_search.specs.RunEnds.{IsProofOf}
 use Rattle.tt_search.specs.declared.limits.Limits.{Limits}
 use Rattle.tt_search.specs.declared.limits.TheConstants.{MOST_EXPANDED}
 use Rattle.tt_search.specs.declared.limits.Reason.TheVariants.{Budget, Depth, Total, Memory}
