@@ -133,9 +133,9 @@ none_marked n i = elim (cases_lt i n) [
 ]
 
 -- the bits are the bits of words that have those of the test
-mark_is : (size : Size) (test : ℕ → Bool) (words : List ℕ) → AreBitsOf words (point_count size) test → (q : ℕ) → q < 384 → get_or (bits_of size test) q false ≡ bit_in words q
+bit_is_at : (size : Size) (test : ℕ → Bool) (words : List ℕ) → AreBitsOf words (point_count size) test → (q : ℕ) → q < 384 → get_or (bits_of size test) q false ≡ bit_in words q
 unfolding bits_of
-mark_is size test words bits q lt =
+bit_is_at size test words bits q lt =
     let n = point_count size in
     let xs = map test (range_with_len 0 n) in
     let ys = replicate (384 - n) false in
@@ -159,9 +159,9 @@ bit_is words k i lt =
     let place : i ≡ (64 * k + i) % 64 = omega arith in
     ap (λ j. bit_at (get_or words j 0) i) word ∙ ap (bit_at (get_or words ((64 * k + i) / 64) 0)) place ∙ by_test _ (bit_at-lt (get_or words ((64 * k + i) / 64) 0) ((64 * k + i) % 64))
 
--- six words with the bits of the bits are the bits packed
+-- six words with these bits are the words of the bits
 pub bit_words_is : (size : Size) (test : ℕ → Bool) (words : List ℕ) → length words ≡ 6 → ((k : ℕ) → get_or words k 0 < 2 ^ 64) → AreBitsOf words (point_count size) test → words ≡ bit_words size test
-bit_words_is size test words wide fits bits =
+bit_words_is size test words wide fits alike =
     let bits = bits_of size test in
     ext_get_or 0 words (words_of 6 bits) (wide ∙ sym (length-words_of 6 bits)) (λ k inside.
     let lt : k < 6 = omega (arith, wide) in
@@ -170,7 +170,7 @@ bit_words_is size test words wide fits bits =
     let few : binary part < 2 ^ 64 = omega (arith, binary-below part, Rattle.std.proofs.Math.Pow.pow_mono short) in
     same_from_bits_below 64 (get_or words k 0) (binary part) (fits k) few (λ i small.
     bit_is words k i small ∙ sym (bit_binary part i ∙ ap (λ b. cond b 1 0) (get_or-take 64 (drop (64 * k) bits) i false small ∙ get_or-drop (64 * k) bits i false
-    ∙ mark_is size test words bits (64 * k + i) (omega arith))))
+    ∙ bit_is_at size test words alike (64 * k + i) (omega arith))))
     ∙ sym (word_of 6 bits k lt))
 
 -- the key is told by the frame, the present colouring, the side to move and the passes
