@@ -2,7 +2,7 @@ use Rattle.std.proofs.Common.{◌≡◌, ◌+◌, ◌*◌}
 use Rattle.tt_search.specs.inside.Walking.{stage, stand_of}
 use Rattle.tt_search.proofs.Steady.{IsUnderWay, to_do}
 use Rattle.tt_search.proofs.Asking.{IsGranted}
-use Rattle.tt_search.proofs.+descent.Given as goal
+use Rattle.tt_search.proofs.tree.+descent.Given as goal
 
 -- each descent below a node has less room, and a node's rounds have its own
 abbrev pub decreases-node::Node::grow : goal.decreases-node::Node::grow
