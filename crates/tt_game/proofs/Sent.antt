@@ -1,4 +1,4 @@
--- Sides, lines and what is kept of a line's past may cross threads. What holds a handle asks both laws of what it holds.
+-- Sides, lines and what is kept of where a line stood may cross threads. What holds a handle asks both laws of what it holds.
 use denote.Param.Send.{IsSend, IsSync, sendable}
 use Rattle.std.proofs.Crossing.{crosses}
 use Rattle.std.specs.contracts.alloc.Global as Global
@@ -10,7 +10,7 @@ use Rattle.tt_game.specs.contracts.frame.Side as Side
 use Rattle.tt_game.specs.contracts.history.History as History
 use Rattle.tt_game.specs.contracts.line.Line as Line
 use Rattle.tt_game.specs.contracts.history.snapshot.Snapshot as Snapshot
-use Rattle.tt_game.specs.contracts.history.board_stack.GameState as GameState
+use Rattle.tt_game.specs.contracts.history.board_stack.BoardStack as BoardStack
 use Rattle.tt_game.specs.contracts.history.root.Root as Root
 
 pub side_send : IsSend Side.the_row
@@ -37,14 +37,14 @@ history_send = search (sendable, crosses) depth 40
 first_send : IsSend (Arc.the_row CountedBoard.the_row Global.the_row ghosts)
 first_send = search (sendable, crosses, counted_send, counted_sync) depth 40
 
-played_send : IsSend GameState.the_row
-played_send = search (sendable, crosses, first_send) depth 40
+stack_send : IsSend BoardStack.the_row
+stack_send = search (sendable, crosses, first_send) depth 40
 
 pub line_send : IsSend Line.the_row
-line_send = search (sendable, crosses, history_send, rooted_send, played_send) depth 40 fits 10000
+line_send = search (sendable, crosses, history_send, rooted_send, stack_send) depth 40 fits 10000
 
-pub past_send : IsSend Snapshot.the_row
-past_send = search (sendable, crosses, root_send, root_sync, board_send, board_sync) depth 40
+pub snapshot_send : IsSend Snapshot.the_row
+snapshot_send = search (sendable, crosses, root_send, root_sync, board_send, board_sync) depth 40
 
-pub past_sync : IsSync Snapshot.the_row
-past_sync = search (sendable, crosses, root_send, root_sync, board_send, board_sync) depth 40
+pub snapshot_sync : IsSync Snapshot.the_row
+snapshot_sync = search (sendable, crosses, root_send, root_sync, board_send, board_sync) depth 40

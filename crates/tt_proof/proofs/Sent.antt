@@ -10,7 +10,7 @@ use Rattle.std.specs.contracts.impls.GlobalAllocator.TheImpl.{ghosts}
 use Rattle.std.specs.contracts.sync.Arc as Arc
 use Rattle.tt_board.proofs.Sent.{board_send, board_sync}
 use Rattle.tt_game.specs.contracts.history.snapshot.Snapshot as Snapshot
-use Rattle.tt_game.proofs.Sent.{past_send, past_sync, side_send, side_sync}
+use Rattle.tt_game.proofs.Sent.{snapshot_send, snapshot_sync, side_send, side_sync}
 use Rattle.tt_proof.specs.contracts.tree.Tree as Tree
 use Rattle.tt_proof.specs.contracts.tree.Tree.TheKnot as TreeKnot
 use Rattle.tt_proof.specs.contracts.plan.Plan as Plan
@@ -69,10 +69,10 @@ pub footprint_sync : IsSync Footprint.the_row
 footprint_sync = search (sendable, crosses, boards_sync) depth 40
 
 pub proof_send : IsSend Proof.the_row
-proof_send = view_send _ _ _ _ _ (declared_send Inside.the_type (as_row_send Snapshot.the_field past_send, (side_send, (as_row_send Plan.the_field plan_send, (footprint_send, tt)))))
+proof_send = view_send _ _ _ _ _ (declared_send Inside.the_type (as_row_send Snapshot.the_field snapshot_send, (side_send, (as_row_send Plan.the_field plan_send, (footprint_send, tt)))))
 
 pub proof_sync : IsSync Proof.the_row
-proof_sync = view_sync _ _ _ _ _ (declared_sync Inside.the_type (as_row_sync Snapshot.the_field past_sync, (side_sync, (as_row_sync Plan.the_field plan_sync, (footprint_sync, tt)))))
+proof_sync = view_sync _ _ _ _ _ (declared_sync Inside.the_type (as_row_sync Snapshot.the_field snapshot_sync, (side_sync, (as_row_sync Plan.the_field plan_sync, (footprint_sync, tt)))))
 
 -- so are proofs held through a handle
 pub shared_send : IsSend (Arc.the_row Proof.the_row Global.the_row ghosts)
