@@ -8,17 +8,17 @@ use Rattle.tt_search.specs.inside.Weight.{weight, weight_all}
 use Rattle.tt_search.proofs.Joins.{replies_to, IsJoinedUpTo}
 use Rattle.tt_search.proofs.+footprint.Given as goal
 
-abbrev pub decreases-node::Node::footprint : goal.decreases-node::Node::footprint
-decreases-node::Node::footprint l = weight l.self.now * 4 + 2
+abbrev pub decreases-tree::node::Node::footprint : goal.decreases-tree::node::Node::footprint
+decreases-tree::node::Node::footprint l = weight l.self.now * 4 + 2
 
-abbrev pub decreases-node::Node::footprint_behind : goal.decreases-node::Node::footprint_behind
-decreases-node::Node::footprint_behind l = weight l.self.now * 4 + 3
+abbrev pub decreases-tree::node::Node::footprint_behind : goal.decreases-tree::node::Node::footprint_behind
+decreases-tree::node::Node::footprint_behind l = weight l.self.now * 4 + 3
 
-abbrev pub decreases-children::Child::footprint_behind : goal.decreases-children::Child::footprint_behind
-decreases-children::Child::footprint_behind l = weight (child_tree l.self) * 4 + 4
+abbrev pub decreases-tree::children::Child::footprint_behind : goal.decreases-tree::children::Child::footprint_behind
+decreases-tree::children::Child::footprint_behind l = weight (child_tree l.self) * 4 + 4
 
-abbrev pub decreases-children::ChildNodes::footprint : goal.decreases-children::ChildNodes::footprint
-decreases-children::ChildNodes::footprint l = weight_all (children_in l.self.now) * 4 + 5
+abbrev pub decreases-tree::children::ChildNodes::footprint : goal.decreases-tree::children::ChildNodes::footprint
+decreases-tree::children::ChildNodes::footprint l = weight_all (children_in l.self.now) * 4 + 5
 
 abbrev pub decreases-footprints::picked : goal.decreases-footprints::picked
 decreases-footprints::picked l = weight_all (children_of (edge_trees l.children.now.edges l.children.now.grown.items)) * 4 + 4

@@ -9,14 +9,14 @@ use Rattle.tt_search.specs.inside.Weight.{weight, weight_all}
 use Rattle.tt_search.proofs.Replies.{joined}
 use Rattle.tt_search.proofs.+plan_of.Given as goal
 
-abbrev pub decreases-node::Node::plan : goal.decreases-node::Node::plan
-decreases-node::Node::plan l = weight l.self.now * 3 + 2
+abbrev pub decreases-tree::node::Node::plan : goal.decreases-tree::node::Node::plan
+decreases-tree::node::Node::plan l = weight l.self.now * 3 + 2
 
-abbrev pub decreases-children::Child::plan : goal.decreases-children::Child::plan
-decreases-children::Child::plan l = weight (child_tree l.self) * 3 + 3
+abbrev pub decreases-tree::children::Child::plan : goal.decreases-tree::children::Child::plan
+decreases-tree::children::Child::plan l = weight (child_tree l.self) * 3 + 3
 
-abbrev pub decreases-children::ChildNodes::plan : goal.decreases-children::ChildNodes::plan
-decreases-children::ChildNodes::plan l = weight_all (children_in l.self.now) * 3 + 3
+abbrev pub decreases-tree::children::ChildNodes::plan : goal.decreases-tree::children::ChildNodes::plan
+decreases-tree::children::ChildNodes::plan l = weight_all (children_in l.self.now) * 3 + 3
 
 abbrev pub decreases-settled::picked : goal.decreases-settled::picked
 decreases-settled::picked l = weight_all (children_of (edge_trees l.children.now.edges l.children.now.grown.items)) * 3 + 1
