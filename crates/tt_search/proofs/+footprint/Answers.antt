@@ -44,20 +44,20 @@ by_nothing side f s x child (inr (winner, e)) foot = subst (λ k. IsFootprint f 
 
 -- ---- a node, and its children
 
-pub children::Child::footprint_behind-returns-in-Fresh-clause-exact : goal.children::Child::footprint_behind-returns-in-Fresh-clause-exact
-children::Child::footprint_behind-returns-in-Fresh-clause-exact t c =
+pub tree::children::Child::footprint_behind-returns-in-Fresh-clause-exact : goal.tree::children::Child::footprint_behind-returns-in-Fresh-clause-exact
+tree::children::Child::footprint_behind-returns-in-Fresh-clause-exact t c =
     let f = c.args.line.now.frame in
     let s = after c.args.line.now.frame c.args.line.now.state c.args.turn in
     by_nothing c.args.side f s c.empty.result c.args.self c.in-Fresh.is (c.empty.ensures f s)
 
-pub node::Node::footprint-returns-in-Won-clause-exact : goal.node::Node::footprint-returns-in-Won-clause-exact
-node::Node::footprint-returns-in-Won-clause-exact t c =
+pub tree::node::Node::footprint-returns-in-Won-clause-exact : goal.tree::node::Node::footprint-returns-in-Won-clause-exact
+tree::node::Node::footprint-returns-in-Won-clause-exact t c =
     let f = c.args.line.now.frame in
     let s = c.args.line.now.state in
     subst (λ tree. IsFootprint f s (strategy_for c.args.side tree) c.empty-in-Won.result) (sym (ap shape c.in-Won.is) ∙ c.self.view_is) (c.empty-in-Won.ensures f s)
 
-pub node::Node::footprint-offered_footprint-requires : goal.node::Node::footprint-offered_footprint-requires
-node::Node::footprint-offered_footprint-requires t c =
+pub tree::node::Node::footprint-offered_footprint-requires : goal.tree::node::Node::footprint-offered_footprint-requires
+tree::node::Node::footprint-offered_footprint-requires t c =
     let f = c.args.line.now.frame in
     let s = c.args.line.now.state in
     let p = c.in-Offered.proof.value in
@@ -67,8 +67,8 @@ node::Node::footprint-offered_footprint-requires t c =
     let won = makes_proof c.args.side f s c.args.self.now p.tree offered.1 c.requires.settled c.requires.partial c.requires.stays in
     record { wins = subst (λ (q : Proven). IsWon q.side f s q.tree) (sym c.deref-in-Offered.ensures) (subst (λ side. IsWon side f s p.tree) (sym offered.0) won) }
 
-pub node::Node::footprint-returns-in-Offered-clause-exact : goal.node::Node::footprint-returns-in-Offered-clause-exact
-node::Node::footprint-returns-in-Offered-clause-exact t c =
+pub tree::node::Node::footprint-returns-in-Offered-clause-exact : goal.tree::node::Node::footprint-returns-in-Offered-clause-exact
+tree::node::Node::footprint-returns-in-Offered-clause-exact t c =
     let f = c.args.line.now.frame in
     let s = c.args.line.now.state in
     let p = c.in-Offered.proof.value in
@@ -78,8 +78,8 @@ node::Node::footprint-returns-in-Offered-clause-exact t c =
     let tree : c.deref-in-Offered.result.now.tree ≡ strategy_for c.args.side c.args.self.now = ap (λ (q : Proven). q.tree) c.deref-in-Offered.ensures ∙ offered.1 in
     subst (λ u. IfOk c.offered_footprint.result (λ x. IsFootprint f s u x)) tree c.offered_footprint.ensures.exact
 
-pub children::ChildNodes::footprint-replied-requires : goal.children::ChildNodes::footprint-replied-requires
-children::ChildNodes::footprint-replied-requires t c =
+pub tree::children::ChildNodes::footprint-replied-requires : goal.tree::children::ChildNodes::footprint-replied-requires
+tree::children::ChildNodes::footprint-replied-requires t c =
     let x = c.args.self.now in
     let edges = c.as_slice.ensures in
     let grown = c.as_slice-else-is_same.ensures.value in (
@@ -218,8 +218,8 @@ footprints::replied-returns-clause-exact t c =
     joined_all c.args.side f s (replies_to c.args.side f s c.args.edges.now c.args.grown.now) c.args.edges.now c.loop-edge.rest.now c.loop-edge.edge-index c.loop-edge.footprint
     (omega (arith, c.loop-edge-test.false)) c.loop-edge.invariant.joined
 
-pub node::Node::footprint-unreachable-requires : goal.node::Node::footprint-unreachable-requires
-node::Node::footprint-unreachable-requires t c =
+pub tree::node::Node::footprint-unreachable-requires : goal.tree::node::Node::footprint-unreachable-requires
+tree::node::Node::footprint-unreachable-requires t c =
     let untried : AreUntried (plays_and_pass c.in-Untried.field-1) = subst HoldsItsOwn c.in-Untried.is c.self.invariant.1 in
     let is = sym (ap shape c.in-Untried.is) ∙ c.self.view_is in
     untried_number c.args.side c.in-Untried.field-0 (plays_and_pass c.in-Untried.field-1) untried (ap (number c.args.side) is ∙ c.requires.settled)

@@ -26,8 +26,8 @@ use Rattle.tt_search.proofs.+plan_of.Goals as goal
 abbrev first : Edge
 first = record { code = 0 }
 
-pub node::Node::plan-returns-in-Offered : goal.node::Node::plan-returns-in-Offered
-node::Node::plan-returns-in-Offered t c =
+pub tree::node::Node::plan-returns-in-Offered : goal.tree::node::Node::plan-returns-in-Offered
+tree::node::Node::plan-returns-in-Offered t c =
     let p = c.in-Offered.proof.value in
     let holds = subst HoldsItsOwn c.in-Offered.is c.self.invariant.1 in
     let is = sym (ap shape c.in-Offered.is) ∙ c.self.view_is in
@@ -35,15 +35,15 @@ node::Node::plan-returns-in-Offered t c =
     let made = c.plan-in-Offered.ensures.plan ∙ ap (λ (q : Proven). q.tree) c.deref-in-Offered.ensures ∙ tree in
     subst (λ u. IfOk c.try_clone-in-Offered.result (λ q. q ≡ u)) made c.try_clone-in-Offered.ensures
 
-pub children::ChildNodes::plan-picked-requires : goal.children::ChildNodes::plan-picked-requires
-children::ChildNodes::plan-picked-requires t c =
+pub tree::children::ChildNodes::plan-picked-requires : goal.tree::children::ChildNodes::plan-picked-requires
+tree::children::ChildNodes::plan-picked-requires t c =
     let x = c.args.self.now in (
       omega (arith, c.decreases),
       (c.requires.whole, own_zero c.args.side c.args.mover (edge_turns x.edges) (children_in x) (sym c.is_same.ensures ∙ c.if-is_same.true) c.requires.settled),
     )
 
-pub children::ChildNodes::plan-replied-requires : goal.children::ChildNodes::plan-replied-requires
-children::ChildNodes::plan-replied-requires t c =
+pub tree::children::ChildNodes::plan-replied-requires : goal.tree::children::ChildNodes::plan-replied-requires
+tree::children::ChildNodes::plan-replied-requires t c =
     let x = c.args.self.now in
     let side = c.args.side in
     let edges = c.as_slice.ensures in
@@ -136,8 +136,8 @@ settled::replied-returns t c =
     let whole = ap reply (sym (joined_none c.loop-edge.answers) ∙ ap (joined c.loop-edge.answers) (sym none_left) ∙ c.loop-edge.invariant.made) in
     subst (λ u. IfOk c.into_plan.result (λ p. p ≡ u)) whole c.into_plan.ensures
 
-pub node::Node::plan-unreachable-requires : goal.node::Node::plan-unreachable-requires
-node::Node::plan-unreachable-requires t c =
+pub tree::node::Node::plan-unreachable-requires : goal.tree::node::Node::plan-unreachable-requires
+tree::node::Node::plan-unreachable-requires t c =
     let untried : AreUntried (plays_and_pass c.in-Untried.field-1) = subst HoldsItsOwn c.in-Untried.is c.self.invariant.1 in
     let is = sym (ap shape c.in-Untried.is) ∙ c.self.view_is in
     untried_number c.args.side c.in-Untried.field-0 (plays_and_pass c.in-Untried.field-1) untried (ap (number c.args.side) is ∙ c.requires)

@@ -21,7 +21,7 @@ use Rattle.tt_search.proofs.Places.{length-trees_of, length-turns_of}
 use Rattle.tt_search.proofs.Changed.{few_stay, place_there, in_trees, part_was, sum_now, place_now, own_now, above_was, pair_of}
 use Rattle.tt_search.proofs.Rows.{number_le}
 use Rattle.tt_search.proofs.WayDown.{turn_there, child_there, has_room, way_down, child_may_grow, round_steps}
-use Rattle.tt_search.proofs.+descent.Goals as goal
+use Rattle.tt_search.proofs.tree.+descent.Goals as goal
 
 -- ---- below a node
 
