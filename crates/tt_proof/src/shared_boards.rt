@@ -1,6 +1,6 @@
 //! Lists of boards that share them: a board is made once, and each list holds a handle of it. The lists are kept in the order of the
-//! boards' hashes, so that two are joined by one walk over both. No contract speaks of the order: a list that is out of order is
-//! joined rightly too, and may only hold a board twice.
+//! boards' hashes, so that two are joined by one walk over both. Boards with one hash stand in any order. No contract speaks of the
+//! order: a list that is out of order is joined rightly too, and may only hold a board twice.
 
 ghost use Rattle.std.specs.Prelude.{◌≡◌, ◌≢◌, ◌↔◌, ◌⊎◌, ◌<◌, ◌≤◌, ◌++◌, ◌∷◌, ℕ, [], length, get_or, Contains, IfOk, OnOk, IsTrue, MatchOption};
 ghost use Rattle.tt_board.specs.Position.{Position};
@@ -199,15 +199,29 @@ impl SharedBoards {
         Ok(())
     }
 
-    /// Whether the last board is this one.
+    /// Whether the board stands at this place.
+    fn has_at(&self, k: usize, board: &SharedBoard) -> bool
+        ensures { IsTrue result → Contains self.now board.now }
+    {
+        match self.boards.get(k) {
+            Some(held) => held.same(board),
+            None => false,
+        }
+    }
+
+    /// Whether the board is one of the last ones, of those that have its hash.
     fn ends_with(&self, board: &SharedBoard) -> bool
         ensures { IsTrue result → Contains self.now board.now }
     {
-        let len = self.boards.len();
-        if len == 0 {
-            return false;
+        for k in (0..self.boards.len()).rev() {
+            if self.boards[k].hash != board.hash {
+                return false;
+            }
+            if self.has_at(k, board) {
+                return true;
+            }
         }
-        self.boards[len - 1].same(board)
+        false
     }
 
     /// Adds a board behind all others.
@@ -219,7 +233,7 @@ impl SharedBoards {
         Ok(())
     }
 
-    /// Adds a board behind all others, where the last one isn't it.
+    /// Adds a board behind all others, where it isn't one of the last ones, of those that have its hash.
     fn put(&mut self, board: SharedBoard) -> Result<(), NoMemory>
         ensures { OnOk result ((b : Position) → Contains self.new b ↔ (Contains self.old b ⊎ (b ≡ board))) }
     {
@@ -309,14 +323,19 @@ impl SharedBoards {
         low
     }
 
-    /// Whether the board stands at this place.
-    fn has_at(&self, k: usize, board: &SharedBoard) -> bool
+    /// Whether the board is one of those from this place on, of the first ones that have its hash.
+    fn has_from(&self, from: usize, board: &SharedBoard) -> bool
         ensures { IsTrue result → Contains self.now board.now }
     {
-        match self.boards.get(k) {
-            Some(held) => held.same(board),
-            None => false,
+        for k in from..self.boards.len() {
+            if self.boards[k].hash != board.hash {
+                return false;
+            }
+            if self.has_at(k, board) {
+                return true;
+            }
         }
+        false
     }
 
     /// Adds a board at a place.
@@ -335,7 +354,7 @@ impl SharedBoards {
     {
         let made = SharedBoard::of(alloc, board)?;
         let k = self.place_for(made.hash);
-        if self.has_at(k, &made) {
+        if self.has_from(k, &made) {
             return Ok(());
         }
         self.put_at(k, made)
