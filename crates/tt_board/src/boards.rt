@@ -79,6 +79,13 @@ impl Boards {
         left == 0
     }
 
+    /// Whether the others are kept alike, which are then the same boards. No board is made for it, and it takes no memory.
+    pub fn same(&self, other: &Boards) -> bool
+        ensures { IsTrue result → self.now ≡ other.now }
+    {
+        self.last.same(&other.last) && self.before.same(&other.before)
+    }
+
     /// The last board.
     pub fn last(&self) -> &Board
         ensures { (before : List Position) × (self.now ≡ before ++ result.now ∷ []) }

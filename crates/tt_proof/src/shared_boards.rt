@@ -4,6 +4,7 @@
 
 ghost use Rattle.std.specs.Prelude.{◌≡◌, ◌≢◌, ◌↔◌, ◌⊎◌, ◌<◌, ◌≤◌, ◌++◌, ◌∷◌, ℕ, [], length, get_or, Contains, IfOk, OnOk, IsTrue, MatchOption};
 ghost use Rattle.tt_board.specs.Position.{Position};
+ghost use Rattle.tt_game.specs.Line.{HasBoard};
 ghost use Rattle.tt_game.specs.Mixing.{board_hash};
 ghost use Rattle.tt_proof.specs.inside.Collecting.{IsOneLess};
 
@@ -12,7 +13,7 @@ use std::marker::Model;
 use std::mem;
 use std::sync::Arc;
 use tt_board::Board;
-use tt_game::board_hash;
+use tt_game::{Line, board_hash};
 use tt_sgf::NoMemory;
 
 /// A board that is held by a handle, and its hash. Contracts see the board.
@@ -383,12 +384,12 @@ impl SharedBoards {
         true
     }
 
-    /// Whether none is among the boards.
-    pub fn none_in(&self, boards: &[Board]) -> bool
-        ensures { IsTrue result ↔ ((b : Position) → Contains self.now b → Contains boards.now b → ⊥) }
+    /// Whether none is a board of the line's history.
+    pub fn none_in(&self, line: &Line) -> bool
+        ensures { IsTrue result ↔ ((b : Position) → Contains self.now b → HasBoard line.now.frame line.now.state b → ⊥) }
     {
-        for board in boards {
-            if self.has(board) {
+        for held in &self.boards {
+            if line.has_board(held.board()) {
                 return false;
             }
         }
