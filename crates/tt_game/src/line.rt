@@ -69,7 +69,8 @@ impl Line {
     ghost use Rattle.tt_game.specs.Game.{history, winner_of, colour_of, made, IsLegal, IsBarred, after};
     ghost use Rattle.tt_board.specs.Reach.{entry_at};
     ghost use Rattle.std.specs.Prelude.{OnOk, OnErr, IfErr, IfOk};
-    ghost use Rattle.tt_game.specs.Line.{HasTargets, IsRefusal, IsRefused, IsPushed};
+    ghost use Rattle.tt_game.specs.Line.{HasTargets, HasBoard, IsRefusal, IsRefused, IsPushed};
+    ghost use Rattle.tt_game.specs.inside.Roots.{BoardsBegin};
     ghost use Rattle.tt_game.specs.inside.Undoing.{IsMoved, state_at, board_on};
     ghost use Rattle.tt_game.specs.Turns.{OnBoard};
     ghost use Rattle.tt_game.specs.MoveGenerators.{HaveStood};
@@ -122,6 +123,15 @@ impl Line {
             Side::Attacker => self.frame.defender.other(),
             Side::Defender => self.frame.defender,
         }
+    }
+
+    /// What all lines of its beginning share.
+    #[tactic(auto, using(crate::proofs::RootLemmas::rooted_here))]
+    pub(crate) fn root(&self) -> &Root
+        ensures frame { result.now.frame ≡ self.now.frame }
+        ensures begins { BoardsBegin result.now.begun (history self.now.state) }
+    {
+        &self.root
     }
 
     /// The present board.
@@ -223,6 +233,16 @@ impl Line {
             return self.history.has_been(self.root.count(), next);
         }
         self.history.has_been(0, next)
+    }
+
+    /// Whether the line's history has the board. It takes no memory.
+    pub fn has_board(&self, board: &Board) -> bool
+        ensures { IsTrue result ↔ HasBoard self.now.frame self.now.state board.now }
+    {
+        if board.size() != self.frame.size {
+            return false;
+        }
+        self.is_among(board)
     }
 
     /// What the words of the present board make, where hashes were noted of the boards of the beginning.

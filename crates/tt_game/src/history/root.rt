@@ -178,6 +178,14 @@ impl Root {
         self.filter.has(hash)
     }
 
+    /// Whether the other beginning is kept alike, and so has the same boards. No board is made for it.
+    pub(crate) fn same_beginning(&self, other: &Root) -> bool
+        ensures same { IsTrue result → self.now.begun ≡ other.now.begun }
+        ensures sizes { All (λ b. b.size ≡ self.now.frame.size) self.now.begun }
+    {
+        self.boards.same(&other.boards)
+    }
+
     /// Whether these are exactly the boards of the beginning. It takes no memory.
     pub(crate) fn began_with(&self, boards: &[Board]) -> bool
         ensures { IsTrue result ↔ (self.now.begun ≡ boards.now) }
