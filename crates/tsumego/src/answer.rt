@@ -106,8 +106,8 @@ fn answer_trees<X: Threads + Wait + Sync, W: Write>(
                 }
                 number += 1;
             }
-            Err(SgfFault::Syntax) => return refuse(alloc, writer, number, 1),
-            Err(SgfFault::TooLong) => return refuse(alloc, writer, number, 2),
+            Err(SgfFault::Syntax) => return refuse(alloc, writer, number, SgfFault::Syntax.code()),
+            Err(SgfFault::TooLong) => return refuse(alloc, writer, number, SgfFault::TooLong.code()),
             Err(SgfFault::NoMemory) => return Err(RunFault::Memory),
         }
     }

@@ -77,8 +77,8 @@ pub fn find(alloc: Global, input: &[u8]) -> Result<Finding, NoMemory>
 {
     match read_tree(alloc, input) {
         Ok((main, used)) => find_on(alloc, &main, trim(&input[used..])),
-        Err(SgfFault::Syntax) => Ok(Finding::Refused(1)),
-        Err(SgfFault::TooLong) => Ok(Finding::Refused(2)),
+        Err(SgfFault::Syntax) => Ok(Finding::Refused(SgfFault::Syntax.code())),
+        Err(SgfFault::TooLong) => Ok(Finding::Refused(SgfFault::TooLong.code())),
         Err(SgfFault::NoMemory) => Err(NoMemory),
     }
 }

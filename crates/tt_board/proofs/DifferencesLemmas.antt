@@ -59,10 +59,6 @@ finished_none c p None = refl
 
 -- ---- from one colouring to the next
 
--- at the start all entries are those here
-pub half_none : (here there c : Colouring) → c ≡ here → ((q : ℕ) → q < 0 → entry_at here q ≡ entry_at there q) → IsHalf here there 0 c
-half_none here there c is h = record { same_length = ap length is; first = λ q below. absurd (omega arith); others = λ q above. ap (λ x. entry_at x q) is }
-
 -- entries that are the same in both count as led on
 pub half_more : (here there c : Colouring) (n m : ℕ) → IsHalf here there n c → n ≤ m → ((q : ℕ) → n ≤ q → q < m → entry_at here q ≡ entry_at there q) → IsHalf here there m c
 half_more here there c n m h le alike = record {

@@ -39,11 +39,6 @@ pub touch_rooted : (s : Size) (ns : List ℕ) (p : ℕ) → ((q : ℕ) → name_
     → (m : ℕ) → Touches s ns m p → m ≢ 0 → name_at ns (root_of m) ≡ m
 touch_rooted s ns p rooted m t some = subst (λ x. name_at ns (root_of x) ≡ x) t.2.1 (rooted t.0 (λ e. some (sym t.2.1 ∙ e)))
 
--- and so has each of a list of them
-pub all_rooted : (s : Size) (ns near : List ℕ) (p : ℕ) → ((q : ℕ) → name_at ns q ≢ 0 → name_at ns (root_of (name_at ns q)) ≡ name_at ns q)
-    → (m : ℕ) → Touches s ns m p → m ≢ 0 → Contains near m → name_at ns (root_of m) ≡ m
-all_rooted s ns near p rooted m t some has = touch_rooted s ns p rooted m t some
-
 -- names that are taken from one after another, each that none before it is: each chain among them is once
 module _ (a b c d u : ℕ) (l0 l1 l2 l3 l4 : List ℕ)
     (apart : (m k : ℕ) → IsOneName a b c d m → IsOneName a b c d k → m ≢ 0 → m ≢ u → k ≢ 0 → k ≢ u → m ≢ k → root_of m ≢ root_of k)

@@ -2,7 +2,7 @@
 use Rattle.tt_sgf.specs.declared.size.Size.{Size}
 use Rattle.std.proofs.Common.{◌≡◌, ℕ, ◌<◌, ◌≤◌, min, All, List, [], ◌∷◌, ◌++◌, length, take, drop, reverse, refl, sym, ap, subst, ◌∙◌, arith}
 use Rattle.std.proofs.lemmas.List.{take-append-le, take-append-drop, take-map, take_at, drop_at, length-take, drop-map, map-append, reverse-append, length_push}
-use Rattle.std.proofs.lemmas.List.Elements.{All-drop}
+use Rattle.std.proofs.lemmas.List.Elements.{All-drop, All-take}
 use Rattle.tt_board.specs.Position.{Position, Colouring}
 use Rattle.tt_game.specs.declared.frame.Side.{Side}
 use Rattle.tt_game.specs.declared.line.Undo.{Undo}
@@ -108,6 +108,19 @@ begin_alike bs later there e =
     take-map (λ (x : Position). x.points) (length bs) there
     ∙ ap colourings (sym e ∙ sym (take_at bs later (length bs) refl))
     ∙ sym (take-map (λ (x : Position). x.points) (length bs) (bs ++ later))
+
+-- boards of one size with which a history begins are the first that show it
+pub begun_boards : (g : Size) (bs there : List Position) → All (λ (b : Position). b.size ≡ g) bs → All (λ (b : Position). b.size ≡ g) there
+    → BoardsBegin bs (colourings there) → bs ≡ take (length bs) there
+begun_boards g bs there own sizes begins =
+    same_boards g bs (take (length bs) there) own (All-take (λ (b : Position). b.size ≡ g) (length bs) there sizes)
+    (sym begins ∙ take-map (λ (x : Position). x.points) (length bs) there)
+
+-- boards that are the first of others are no more
+pub begun_fewer : (bs there : List Position) → bs ≡ take (length bs) there → length bs ≤ length there
+begun_fewer bs there e =
+    let n : length bs ≡ min (length bs) (length there) = ap length e ∙ length-take (length bs) there in
+    omega (arith, n)
 
 -- a state that boards show has their history, and no other boards of their size have it
 pub shows_boards : (g : Size) (bs there : List Position) (passes : ℕ) (side : Side) (s : State) → 0 < length bs

@@ -179,11 +179,10 @@ impl Proof {
         if !self.snapshot.is_position_of(line) {
             return false;
         }
-        let history = line.history();
-        if !self.footprint.needs.all_in(history) {
+        if !self.footprint.needs.all_in(line.history()) {
             return false;
         }
-        self.footprint.avoids.none_in(history)
+        self.footprint.avoids.none_in(line)
     }
 
     /// Whether the tree wins at the line, too: it does where it fits, and otherwise a replay decides. The line has a board of the

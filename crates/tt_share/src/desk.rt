@@ -5,6 +5,7 @@ pub(crate) mod rule;
 
 ghost use Rattle.std.specs.Prelude.{◌≡◌, ℕ, ◌≢◌, ◌+◌, ◌<◌, ◌≤◌, true, false, ◌||◌, [], ◌∷◌, ◌++◌, cond, length, min, vec_capacity, replicate, None};
 ghost use Rattle.std.specs.Prelude.{IfOk, IfSome, IfNone, MatchOption, MatchResult, IsTrue, All};
+ghost use Rattle.tt_game.specs.declared.turns.TheConstants.{MOST_LEGAL};
 ghost use Rattle.tt_share.specs.declared.bounds.TheConstants.{MOST_WORKERS};
 ghost use Rattle.tt_share.specs.Desk.{blank, view_of};
 ghost use Rattle.tt_share.specs.Seats.{seat_of, fresh, EndsOverdraw, Adds, Gains, granted_of, Closes};
@@ -38,6 +39,7 @@ pub struct Desk {
 
 impl Model for Desk {
     ghost use Rattle.std.specs.Prelude.{◌≡◌, ◌+◌, ◌^◌, ◌<◌, ◌≤◌, IfSome};
+    ghost use Rattle.tt_game.specs.declared.turns.TheConstants.{MOST_LEGAL};
     ghost use Rattle.tt_share.specs.declared.bounds.TheConstants.{MOST_WORKERS};
     ghost use Rattle.tt_share.specs.Seats.{DeskView};
 
@@ -51,7 +53,7 @@ impl Model for Desk {
       jobs_are : d.table.shared.key.jobs ≡ d.jobs;
       seats_are : d.table.shared.key.seats ≡ d.seats;
       total_is : IfSome d.total (λ n. (d.table.shared.key.total ≡ n) × (0 < n));
-      jobs : (0 < d.jobs) × (d.jobs ≤ 362);
+      jobs : (0 < d.jobs) × (d.jobs ≤ MOST_LEGAL);
       seats : (0 < d.seats) × (d.seats ≤ MOST_WORKERS + 1);
       grants : d.table.shared.key.total < 2 ^ 32;
     } };
@@ -151,7 +153,7 @@ fn capped(asked: u64, total: Option<u32>) -> u64
 }
 
 impl Desk {
-    /// A desk of 1 to 362 jobs with all its seats, 1 to `MOST_WORKERS` and one more, none of which has made a step. It gives as
+    /// A desk of 1 to `MOST_LEGAL` jobs with all its seats, 1 to `MOST_WORKERS` and one more, none of which has made a step. It gives as
     /// many grants as `total`, which is at least 1, or any number where there is none. `NoMemory` where memory was refused.
     pub fn new(
         alloc: Global,
@@ -159,7 +161,7 @@ impl Desk {
         seats: usize,
         total: Option<u32>,
     ) -> Result<(Desk, Vec<Seat>), NoMemory>
-        requires jobs { (0 < jobs) × (jobs ≤ 362) }
+        requires jobs { (0 < jobs) × (jobs ≤ MOST_LEGAL) }
         requires seats { (0 < seats) × (seats ≤ MOST_WORKERS + 1) }
         requires total { IfSome total (λ n. 0 < n) }
         ensures desk { IfOk result (λ r. (r.0.jobs ≡ jobs) × (r.0.seats ≡ seats) × (r.0.total ≡ total)) }

@@ -4,6 +4,7 @@ ghost use Rattle.std.specs.Prelude.{◌≡◌, ◌≢◌, ◌+◌, ◌^◌, ◌�
 ghost use Rattle.tt_game.specs.Game.{winner_of};
 ghost use Rattle.tt_game.specs.declared.turns.Turn.{Turn};
 ghost use Rattle.tt_game.specs.Turns.{legal_turns};
+ghost use Rattle.tt_game.specs.declared.turns.TheConstants.{MOST_LEGAL};
 ghost use Rattle.tt_search.specs.declared.limits.TheConstants.{MOST_EXPANDED};
 ghost use Rattle.tt_share.specs.declared.jobs.JobResult.{JobResult};
 ghost use Rattle.tt_share.specs.Answers.{spent_in_all};
@@ -158,7 +159,7 @@ impl<'a> Results<'a> {
     /// How many jobs the line has.
     pub fn count(&self) -> usize
         ensures count { result ≡ length self.now.ends }
-        ensures few { result ≤ 362 }
+        ensures few { result ≤ MOST_LEGAL }
     {
         self.ends.len()
     }

@@ -1,7 +1,7 @@
--- How colourings are kept by edits, and boards one after another: by the last one and edits that lead back from it to the first, or
--- by a base and edits that lead on from it. The views of `Boards` and `Trail` and private contracts cite these.
+-- How colourings are kept by edits, and boards one after another by a base and edits that lead on from it. The view of `Trail` and
+-- private contracts cite these.
 use Rattle.std.specs.Int.{bit_at}
-use Rattle.std.specs.Prelude.{◌≡◌, ◌≢◌, ◌==◌, if◌then◌else◌, ℕ, ◌+◌, ◌<◌, ◌≤◌, List, [], ◌∷◌, ◌++◌, length, reverse, map, drop, Option, Some, None}
+use Rattle.std.specs.Prelude.{◌≡◌, ◌≢◌, ◌==◌, if◌then◌else◌, ℕ, ◌+◌, ◌<◌, ◌≤◌, List, [], ◌∷◌, ◌++◌, length, map, drop, Option, Some, None}
 use Rattle.tt_sgf.specs.declared.size.Size.{Size}
 use Rattle.tt_board.specs.declared.Colour.{Colour}
 use Rattle.tt_board.specs.declared.boards.differences.Edit.{Edit}
@@ -29,10 +29,6 @@ led c (e ∷ es) = led (edited c e) es
 -- the board of a size with a colouring
 abbrev pub board_of : Size → Colouring → Position
 board_of g c = record { size = g; points = c }
-
--- the boards to which edits lead back, oldest first, and the last one behind them
-abbrev pub boards_of : Position → List Edit → List Position
-boards_of b es = reverse (map (board_of b.size) (colourings_from b.points es)) ++ b ∷ []
 
 -- the boards to which edits lead from a base of their size, oldest first
 abbrev pub trail_of : Position → List Edit → List Position

@@ -1,5 +1,5 @@
 -- Chains (the rules of Go): their stones and liberties, and the names by which a board finds them. Private contracts alone cite these.
-use Rattle.std.specs.Prelude.{◌≡◌, ◌≢◌, ℕ, ◌%◌, ◌/◌, ◌<◌, ◌≤◌, ◌⊎◌, ◌↔◌, ◌==◌, ◌&&◌, List, [], ◌∷◌, length, Option, Some, None, Bool, not, Contains, if◌then◌else◌, count_by, slice_index_or}
+use Rattle.std.specs.Prelude.{◌≡◌, ◌≢◌, ℕ, ◌%◌, ◌/◌, ◌<◌, ◌≤◌, ◌⊎◌, ◌↔◌, ◌==◌, ◌&&◌, List, [], ◌∷◌, length, Option, Some, None, Bool, not, if◌then◌else◌, count_by, slice_index_or}
 use Rattle.std.specs.List.{range_with_len}
 use Rattle.std.proofs.lemmas.Bool.{cases_eq}
 use Rattle.tt_board.specs.declared.Colour.{Colour}
@@ -27,14 +27,6 @@ AreLinked s c p q = (path : List ℕ) × Leads s c p path q
 -- the numbers of a list differ
 abbrev pub IsEachOnce : List ℕ → Type 0
 IsEachOnce xs = (i j : ℕ) → i < j → j < length xs → slice_index_or xs i 0 ≢ slice_index_or xs j 0
-
--- n is how many points P holds of
-abbrev pub IsCountOf : ℕ → (ℕ → Type 0) → Type 0
-IsCountOf n P = (points : List ℕ) × (length points ≡ n) × IsEachOnce points × ((q : ℕ) → Contains points q ↔ P q)
-
--- q is a liberty of the chain of p: an empty point beside one of its stones
-abbrev pub IsLibertyOf : Size → Colouring → ℕ → ℕ → Type 0
-IsLibertyOf s c p q = (entry_at c q ≡ None) × ((r : ℕ) × AreLinked s c p r × IsNeighbour s r q)
 
 -- ---- how a board keeps them
 

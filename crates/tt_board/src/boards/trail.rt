@@ -69,6 +69,13 @@ impl Trail {
         seen == boards.len()
     }
 
+    /// Whether the others are kept alike, which are then the same boards. No board is made for it, and it takes no memory.
+    pub fn same(&self, other: &Trail) -> bool
+        ensures { IsTrue result → self.now ≡ other.now }
+    {
+        self.base.same(&*other.base) && self.steps.same(&other.steps)
+    }
+
     /// The last board, made anew; none where there are no boards.
     pub fn last(&self) -> Option<Board>
         ensures { MatchOption result (self.now ≡ []) (λ b. (before : List Position) × (self.now ≡ before ++ b ∷ [])) }

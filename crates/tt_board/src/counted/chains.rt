@@ -9,7 +9,7 @@ ghost use Rattle.tt_sgf.specs.Words.{bit_in};
 ghost use Rattle.tt_board.specs.Reach.{entry_at};
 ghost use Rattle.tt_board.specs.Play.{IsAlive, play_of};
 ghost use Rattle.tt_board.specs.PlayKind.{IsKind};
-ghost use Rattle.tt_board.specs.inside.Chains.{name_at, root_of, colour_number, renamed, IsEachOnce, IsOneName, IsCountOf, IsLibertyOf, AreLinked, AreNear, HasLost};
+ghost use Rattle.tt_board.specs.inside.Chains.{name_at, root_of, colour_number, renamed, IsEachOnce, IsOneName, AreNear, HasLost};
 
 use crate::Colour;
 use crate::colouring::Colouring;
@@ -114,24 +114,6 @@ impl Chains {
         ensures alive { IsAlive self.now.size self.now.points }
     {
         &self.points
-    }
-
-    /// How many stones the chain of the stone on `p` has, 1 to 360.
-    pub(crate) fn stones(&self, p: usize) -> u16
-        requires on_board { p < point_count self.now.size }
-        requires stone { entry_at self.now.points p ≢ None }
-        ensures { IsCountOf result (AreLinked self.now.size self.now.points p) }
-    {
-        self.counts.stones[root_of(self.counts.names[p])]
-    }
-
-    /// How many liberties the chain of the stone on `p` has, 1 to 360.
-    pub(crate) fn liberties(&self, p: usize) -> u16
-        requires on_board { p < point_count self.now.size }
-        requires stone { entry_at self.now.points p ≢ None }
-        ensures { IsCountOf result (IsLibertyOf self.now.size self.now.points p) }
-    {
-        self.counts.liberties[root_of(self.counts.names[p])]
     }
 
     /// Puts a stone on the empty point `p`, where each stone reaches empty then, and makes it one with the chains of its colour beside it.

@@ -110,15 +110,13 @@ impl Advisor {
         self.begin_anew(line)
     }
 
-    /// Searches where the finder's board stands, up to so many positions of those that are left.
+    /// Searches where the finder's board stands, with at most so many visits.
     fn search(&mut self, mover: Colour, most: u32, visits: &mut Visits) -> Numbers
         ensures fewer { visits.new.left ≤ visits.old.left }
     {
-        let granted = most.min(visits.left);
-        let numbers = self.finder.search_here(mover, granted);
-        let used = granted.saturating_sub(self.finder.left);
-        self.visited = self.visited.saturating_add(used);
-        visits.left = visits.left.saturating_sub(used);
+        let before = visits.left;
+        let numbers = self.finder.search_here(mover, most, visits);
+        self.visited = self.visited.saturating_add(before - visits.left);
         numbers
     }
 

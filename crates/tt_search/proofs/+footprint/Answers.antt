@@ -56,8 +56,8 @@ tree::node::Node::footprint-returns-in-Won-clause-exact t c =
     let s = c.args.line.now.state in
     subst (λ tree. IsFootprint f s (strategy_for c.args.side tree) c.empty-in-Won.result) (sym (ap shape c.in-Won.is) ∙ c.self.view_is) (c.empty-in-Won.ensures f s)
 
-pub tree::node::Node::footprint-offered_footprint-requires : goal.tree::node::Node::footprint-offered_footprint-requires
-tree::node::Node::footprint-offered_footprint-requires t c =
+pub tree::node::Node::footprint-footprint_at-requires-in-Offered : goal.tree::node::Node::footprint-footprint_at-requires-in-Offered
+tree::node::Node::footprint-footprint_at-requires-in-Offered t c =
     let f = c.args.line.now.frame in
     let s = c.args.line.now.state in
     let p = c.in-Offered.proof.value in
@@ -76,7 +76,7 @@ tree::node::Node::footprint-returns-in-Offered-clause-exact t c =
     let is = sym (ap shape c.in-Offered.is) ∙ c.self.view_is in
     let offered = offered_for c.in-Offered.field-0 c.in-Offered.field-1.value p c.args.side c.args.self.now holds is c.requires.settled in
     let tree : c.deref-in-Offered.result.now.tree ≡ strategy_for c.args.side c.args.self.now = ap (λ (q : Proven). q.tree) c.deref-in-Offered.ensures ∙ offered.1 in
-    subst (λ u. IfOk c.offered_footprint.result (λ x. IsFootprint f s u x)) tree c.offered_footprint.ensures.exact
+    subst (λ u. IfOk c.footprint_at-in-Offered.result (λ x. IsFootprint f s u x)) tree c.footprint_at-in-Offered.ensures.exact
 
 pub tree::children::ChildNodes::footprint-replied-requires : goal.tree::children::ChildNodes::footprint-replied-requires
 tree::children::ChildNodes::footprint-replied-requires t c =

@@ -62,11 +62,7 @@ impl PrivateStore {
     pub fn new(alloc: Global) -> PrivateStore
         ensures { result ≡ record { proofs = []; capacity = 4096 } }
     {
-        PrivateStore {
-            proofs: Vec::new(alloc),
-            index: KeyIndex::new(alloc),
-            capacity: Self::CAPACITY,
-        }
+        PrivateStore::with_capacity(alloc, Self::CAPACITY)
     }
 
     /// An empty store that may keep so many proofs. It takes no memory.
@@ -87,11 +83,7 @@ impl PrivateStore {
         if capacity > Self::CAPACITY {
             return None;
         }
-        Some(PrivateStore {
-            proofs: Vec::new(alloc),
-            index: KeyIndex::new(alloc),
-            capacity,
-        })
+        Some(PrivateStore::with_capacity(alloc, capacity))
     }
 }
 

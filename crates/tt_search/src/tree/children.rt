@@ -38,9 +38,7 @@ pub(crate) enum Child<'a> {
 
 impl ChildNodes {
     ghost use Rattle.tt_search.specs.inside.ChildNodes.{choices_of};
-    ghost use Rattle.tt_search.specs.inside.Choices.{node_with};
-    ghost use Rattle.tt_search.specs.inside.Kept.{IsKept};
-    ghost use Rattle.tt_search.specs.inside.Pairs.{ArePair};
+    ghost use Rattle.tt_search.specs.inside.Kept.{IsKeptWith};
 
     /// Children of which none has grown, which of them to go to, and the numbers of the mover and of the other side at
     /// their node.
@@ -48,8 +46,7 @@ impl ChildNodes {
         requires few { length edges ≤ TURNS }
         requires none { grown_in edges ≡ 0 }
         ensures children { choices_of result.0.mover result.1 ≡ record { mover = mover; turns = edge_turns edges; trees = edge_trees edges [] } }
-        ensures kept { IsKept result.0 result.1 }
-        ensures numbers { ArePair result.0.mover (node_with (choices_of result.0.mover result.1)) result.2 }
+        ensures kept { IsKeptWith result.0 result.1 result.2 }
     {
         let grown = Vec::new(alloc);
         let child_nodes = ChildNodes { edges, grown };

@@ -8,6 +8,7 @@ use crate::tree::edges::Edge;
 use arrayvec::ArrayVec;
 use std::alloc::Global;
 use std::marker::Model;
+use tt_game::MOST_LEGAL;
 use tt_sgf::{Bits, NoMemory, Point};
 
 /// Plays behind which nothing is known: the bits of their points, and how many there are. Contracts see their edges.
@@ -62,7 +63,7 @@ impl Plays {
     pub(crate) fn row(&self, alloc: Global) -> Result<Edges, NoMemory>
         ensures { IfOk result (λ row. row ≡ plays_and_pass self.now) }
     {
-        let mut edges: ArrayVec<Edge, 362> = ArrayVec::new();
+        let mut edges: ArrayVec<Edge, MOST_LEGAL> = ArrayVec::new();
         let mut from = 0;
         while let Some(p) = Point::new(self.points.first_from(from) as u16) {
             edges.push(Edge::fresh_play(p));

@@ -150,7 +150,7 @@ children::ChildNodes::grow_best-child-requires-clause-there g t c =
 pub children::ChildNodes::grow_best-grow_at-step-requires : goal.children::ChildNodes::grow_best-grow_at-step-requires
 children::ChildNodes::grow_best-grow_at-step-requires g t c κs within =
     let x = c.args.self.now in
-    let rank = c.from-rank.ensures ∙ c.requires.kept.rank ∙ ap (λ i. grown_in (take i x.edges)) (sym c.from-index.ensures) in (
+    let rank = c.from-rank.ensures ∙ c.requires.kept.kept.rank ∙ ap (λ i. grown_in (take i x.edges)) (sym c.from-index.ensures) in (
       omega (arith, c.decreases),
       (
         within.0,
@@ -161,7 +161,7 @@ children::ChildNodes::grow_best-grow_at-step-requires g t c κs within =
             (
               rank,
               (
-                c.requires.kept.whole,
+                c.requires.kept.kept.whole,
                 record {
                   may_grow = subst (λ i. MayGrow (stand_of c.args.walk.now) (child_of x i)) (sym c.from-index.ensures) c.requires.ready.may_grow;
                   room = c.requires.ready.room;
@@ -177,7 +177,7 @@ children::ChildNodes::grow_best-grow_at-step-requires g t c κs within =
 pub children::ChildNodes::grow_best-child-child-requires-clause-there : goal.children::ChildNodes::grow_best-child-child-requires-clause-there
 children::ChildNodes::grow_best-child-child-requires-clause-there g t c =
     let x = c.args.self.now in
-    let is = c.from-index.ensures ∙ c.requires.kept.index in
+    let is = c.from-index.ensures ∙ c.requires.kept.kept.index in
     let in_trees : c.from-index.result < length (edge_trees x.edges x.grown.items) = omega (arith, c.requires.there, c.from-index.ensures, length-trees_of x.edges x.grown.items) in
     let steps = c.grow_at-step.ensures.steps in
     index_there c.args.focus.now.mover x c.grow_at-step.new.self c.from-index.result steps.0 is in_trees steps.2
@@ -186,10 +186,10 @@ pub children::ChildNodes::grow_best-sum_after-other-requires-clause-part : goal.
 children::ChildNodes::grow_best-sum_after-other-requires-clause-part g t c =
     let a = c.args.focus.now.mover in
     let x = c.args.self.now in
-    let there : best_index (choices_of a x) < length (edge_trees x.edges x.grown.items) = omega (arith, c.requires.there, c.requires.kept.index, length-trees_of x.edges x.grown.items) in
+    let there : best_index (choices_of a x) < length (edge_trees x.edges x.grown.items) = omega (arith, c.requires.there, c.requires.kept.kept.index, length-trees_of x.edges x.grown.items) in
     let steps = c.grow_at-step.ensures.steps in
-    let is = c.from-index.ensures ∙ c.requires.kept.index in
-    part_was a x c.grow_at-step.new.self c.from-index.result (choices_of a x) c.args.was refl c.requires.was is there steps.0 steps.2
+    let is = c.from-index.ensures ∙ c.requires.kept.kept.index in
+    part_was a x c.grow_at-step.new.self c.from-index.result (choices_of a x) c.args.was refl c.requires.kept.pair is there steps.0 steps.2
     (child_tree c.child-child.result) c.child-child.ensures c.opponent-goal.result c.opponent-goal.ensures (child_tree c.child.result) c.child.ensures
     c.number-old.result c.number-new.result c.number-old.ensures c.number-new.ensures
 
@@ -197,10 +197,10 @@ pub children::ChildNodes::grow_best-sum_after-other-requires-clause-changed : go
 children::ChildNodes::grow_best-sum_after-other-requires-clause-changed g t c =
     let a = c.args.focus.now.mover in
     let x = c.args.self.now in
-    let there : best_index (choices_of a x) < length (edge_trees x.edges x.grown.items) = omega (arith, c.requires.there, c.requires.kept.index, length-trees_of x.edges x.grown.items) in
+    let there : best_index (choices_of a x) < length (edge_trees x.edges x.grown.items) = omega (arith, c.requires.there, c.requires.kept.kept.index, length-trees_of x.edges x.grown.items) in
     let steps = c.grow_at-step.ensures.steps in
-    let is = c.from-index.ensures ∙ c.requires.kept.index in
-    sum_now a x c.grow_at-step.new.self c.from-index.result (choices_of a x) c.args.was refl c.requires.was is there steps.0 steps.2
+    let is = c.from-index.ensures ∙ c.requires.kept.kept.index in
+    sum_now a x c.grow_at-step.new.self c.from-index.result (choices_of a x) c.args.was refl c.requires.kept.pair is there steps.0 steps.2
     (child_tree c.child-child.result) c.child-child.ensures c.opponent-goal.result c.opponent-goal.ensures (child_tree c.child.result) c.child.ensures
     c.number-old.result c.number-new.result c.number-old.ensures c.number-new.ensures
 
@@ -208,62 +208,71 @@ pub children::ChildNodes::grow_best-returns-then-own-was-clause-kept : goal.chil
 children::ChildNodes::grow_best-returns-then-own-was-clause-kept g t c =
     let a = c.args.focus.now.mover in
     let x = c.args.self.now in
-    let there : best_index (choices_of a x) < length (edge_trees x.edges x.grown.items) = omega (arith, c.requires.there, c.requires.kept.index, length-trees_of x.edges x.grown.items) in
+    let there : best_index (choices_of a x) < length (edge_trees x.edges x.grown.items) = omega (arith, c.requires.there, c.requires.kept.kept.index, length-trees_of x.edges x.grown.items) in
     let steps = c.grow_at-step.ensures.steps in
-    let is = c.from-index.ensures ∙ c.requires.kept.index in
+    let is = c.from-index.ensures ∙ c.requires.kept.kept.index in
     let new = c.grow_at-step.new.self in
-    let in_trees_here = in_trees a x new c.from-index.result (choices_of a x) c.args.was refl c.requires.was is there steps.0 steps.2
+    let in_trees_here = in_trees a x new c.from-index.result (choices_of a x) c.args.was refl c.requires.kept.pair is there steps.0 steps.2
     (child_tree c.child-child.result) c.child-child.ensures in
     record {
-      few = few_stay a x new c.from-index.result steps.0 is in_trees_here steps.2 c.requires.kept.few;
-      whole = c.grow_at-step.ensures.whole;
-      index = sym c.from-index.ensures ∙ index_now a x new c.from-index.result (choices_of a x) c.args.was refl c.requires.was is there steps.0 steps.2
-          (child_tree c.child-child.result) c.child-child.ensures c.number-own.result c.number-own.ensures c.if-own-was.true;
-      rank = c.requires.kept.rank ∙ ap (λ i. grown_in (take i x.edges)) (sym c.from-index.ensures) ∙ ap grown_in (sym c.grow_at-step.ensures.before)
-          ∙ ap (λ i. grown_in (take i new.edges)) c.from-index.ensures;
+      kept = record {
+        few = few_stay a x new c.from-index.result steps.0 is in_trees_here steps.2 c.requires.kept.kept.few;
+        whole = c.grow_at-step.ensures.whole;
+        index = sym c.from-index.ensures ∙ index_now a x new c.from-index.result (choices_of a x) c.args.was refl c.requires.kept.pair is there steps.0 steps.2
+            (child_tree c.child-child.result) c.child-child.ensures c.number-own.result c.number-own.ensures c.if-own-was.true;
+        rank = c.requires.kept.kept.rank ∙ ap (λ i. grown_in (take i x.edges)) (sym c.from-index.ensures) ∙ ap grown_in (sym c.grow_at-step.ensures.before)
+            ∙ ap (λ i. grown_in (take i new.edges)) c.from-index.ensures;
+      };
+      pair = pair_of (choices_of a new) c.number-own.result c.sum_after-other.result
+          (own_now a x new c.from-index.result (choices_of a x) c.args.was refl c.requires.kept.pair is there steps.0 steps.2
+          (child_tree c.child-child.result) c.child-child.ensures c.number-own.result c.number-own.ensures c.if-own-was.true) c.sum_after-other.ensures;
     }
-
-pub children::ChildNodes::grow_best-returns-then-own-was-clause-numbers : goal.children::ChildNodes::grow_best-returns-then-own-was-clause-numbers
-children::ChildNodes::grow_best-returns-then-own-was-clause-numbers g t c =
-    let a = c.args.focus.now.mover in
-    let x = c.args.self.now in
-    let there : best_index (choices_of a x) < length (edge_trees x.edges x.grown.items) = omega (arith, c.requires.there, c.requires.kept.index, length-trees_of x.edges x.grown.items) in
-    let steps = c.grow_at-step.ensures.steps in
-    let is = c.from-index.ensures ∙ c.requires.kept.index in
-    let new = c.grow_at-step.new.self in
-    pair_of (choices_of a new) c.number-own.result c.sum_after-other.result
-    (own_now a x new c.from-index.result (choices_of a x) c.args.was refl c.requires.was is there steps.0 steps.2
-    (child_tree c.child-child.result) c.child-child.ensures c.number-own.result c.number-own.ensures c.if-own-was.true) c.sum_after-other.ensures
 
 pub children::ChildNodes::grow_best-best-best-requires-clause-lowest : goal.children::ChildNodes::grow_best-best-best-requires-clause-lowest
 children::ChildNodes::grow_best-best-best-requires-clause-lowest g t c =
     let a = c.args.focus.now.mover in
     let x = c.args.self.now in
-    let there : best_index (choices_of a x) < length (edge_trees x.edges x.grown.items) = omega (arith, c.requires.there, c.requires.kept.index, length-trees_of x.edges x.grown.items) in
+    let there : best_index (choices_of a x) < length (edge_trees x.edges x.grown.items) = omega (arith, c.requires.there, c.requires.kept.kept.index, length-trees_of x.edges x.grown.items) in
     let steps = c.grow_at-step.ensures.steps in
-    let is = c.from-index.ensures ∙ c.requires.kept.index in
-    above_was a x c.grow_at-step.new.self c.from-index.result (choices_of a x) c.args.was refl c.requires.was is there steps.0 steps.2
+    let is = c.from-index.ensures ∙ c.requires.kept.kept.index in
+    above_was a x c.grow_at-step.new.self c.from-index.result (choices_of a x) c.args.was refl c.requires.kept.pair is there steps.0 steps.2
     (child_tree c.child-child.result) c.child-child.ensures c.number-own.result c.number-own.ensures (omega (arith, c.if-own-was.false))
 
 pub children::ChildNodes::grow_best-best-best-requires-clause-finite : goal.children::ChildNodes::grow_best-best-best-requires-clause-finite
 children::ChildNodes::grow_best-best-best-requires-clause-finite g t c =
     omega (arith, c.if-own-was.false, c.number-own.ensures, number_le c.args.focus.now.mover (child_tree c.child-child.result))
 
-pub children::ChildNodes::grow_best-returns-clause-numbers : goal.children::ChildNodes::grow_best-returns-clause-numbers
-children::ChildNodes::grow_best-returns-clause-numbers g t c =
-    pair_of (choices_of c.args.focus.now.mover c.grow_at-step.new.self) c.best-best.result.least c.sum_after-other.result c.best-best.ensures.least c.sum_after-other.ensures
+pub children::ChildNodes::grow_best-returns-clause-kept : goal.children::ChildNodes::grow_best-returns-clause-kept
+children::ChildNodes::grow_best-returns-clause-kept g t c =
+    let a = c.args.focus.now.mover in
+    let x = c.args.self.now in
+    let there : best_index (choices_of a x) < length (edge_trees x.edges x.grown.items) = omega (arith, c.requires.there, c.requires.kept.kept.index, length-trees_of x.edges x.grown.items) in
+    let steps = c.grow_at-step.ensures.steps in
+    let is = c.from-index.ensures ∙ c.requires.kept.kept.index in
+    let new = c.grow_at-step.new.self in
+    let in_trees_here = in_trees a x new c.from-index.result (choices_of a x) c.args.was refl c.requires.kept.pair is there steps.0 steps.2
+    (child_tree c.child-child.result) c.child-child.ensures in
+    record {
+      kept = record {
+        few = few_stay a x new c.from-index.result steps.0 is in_trees_here steps.2 c.requires.kept.kept.few;
+        whole = c.grow_at-step.ensures.whole;
+        index = c.best-best.ensures.index;
+        rank = c.best-best.ensures.rank;
+      };
+      pair = pair_of (choices_of a new) c.best-best.result.least c.sum_after-other.result c.best-best.ensures.least c.sum_after-other.ensures;
+    }
 
 -- ---- a descent below a node with these children
 
 pub children::ChildNodes::descend-best_turn-requires : goal.children::ChildNodes::descend-best_turn-requires
 children::ChildNodes::descend-best_turn-requires g t c =
     let x = choices_of c.args.focus.now.mover c.args.self.now in
-    omega (arith, turn_there (stand_of c.args.walk.now) x (node_with x) refl c.requires.ready.may_grow, c.requires.kept.index, length-turns_of c.args.self.now.edges)
+    omega (arith, turn_there (stand_of c.args.walk.now) x (node_with x) refl c.requires.ready.may_grow, c.requires.kept.kept.index, length-turns_of c.args.self.now.edges)
 
 pub children::ChildNodes::descend-go_down-requires-clause-legal : goal.children::ChildNodes::descend-go_down-requires-clause-legal
 children::ChildNodes::descend-go_down-requires-clause-legal g t c =
     let x = choices_of c.args.focus.now.mover c.args.self.now in
-    let turn = c.best_turn.ensures ∙ ap (λ i. get_or (edge_turns c.args.self.now.edges) i c.best_turn.result) c.requires.kept.index in
+    let turn = c.best_turn.ensures ∙ ap (λ i. get_or (edge_turns c.args.self.now.edges) i c.best_turn.result) c.requires.kept.kept.index in
     (way_down (stand_of c.args.walk.now) x (node_with x) refl c.requires.ready.may_grow c.best_turn.result turn).legal
 
 pub children::ChildNodes::descend-grow_best-step-requires : goal.children::ChildNodes::descend-grow_best-step-requires
@@ -272,17 +281,17 @@ children::ChildNodes::descend-grow_best-step-requires g t c κs within =
     let children = c.args.self.now in
     let x = choices_of focus.mover children in
     let walk = c.args.walk.now in
-    let turn = c.best_turn.ensures ∙ ap (λ i. get_or (edge_turns children.edges) i c.best_turn.result) c.requires.kept.index in
+    let turn = c.best_turn.ensures ∙ ap (λ i. get_or (edge_turns children.edges) i c.best_turn.result) c.requires.kept.kept.index in
     let way = way_down (stand_of walk) x (node_with x) refl c.requires.ready.may_grow c.best_turn.result turn in
     let gone = c.in-Ok.ensures.ok in
     let room = has_room (stand_of walk) x (node_with x) refl c.requires.ready.may_grow in
     let below = child_there (stand_of walk) x (node_with x) refl c.requires.ready.may_grow in
-    let there : focus.index < length children.edges = omega (arith, below, c.requires.kept.index, length-trees_of children.edges children.grown.items) in
-    let may_grow = subst (λ i. MayGrow (stand_of c.go_down.new.self) (child_of children i)) (sym c.requires.kept.index)
+    let there : focus.index < length children.edges = omega (arith, below, c.requires.kept.kept.index, length-trees_of children.edges children.grown.items) in
+    let may_grow = subst (λ i. MayGrow (stand_of c.go_down.new.self) (child_of children i)) (sym c.requires.kept.kept.index)
     (child_may_grow walk x (node_with x) c.best_turn.result way c.go_down.new.self gone) in
     let grants = subst (λ (n : ℕ). (g.G.Grants.asked c.args.grants.now).granted + n < 2 ^ 64) (sym gone.left) c.requires.ready.grants in
     let low : c.go_down.new.self.room ≤ 512 = omega (arith, gone.room, c.requires.ready.room) in
-    (omega (arith, c.decreases, gone.room, room), (within.0, (within.1, (c.requires.kept, (c.requires.was, (there, record { may_grow = may_grow; room = low; grants = grants }))))))
+    (omega (arith, c.decreases, gone.room, room), (within.0, (within.1, (c.requires.kept, (there, record { may_grow = may_grow; room = low; grants = grants })))))
 
 pub children::ChildNodes::descend-returns-clause-steps : goal.children::ChildNodes::descend-returns-clause-steps
 children::ChildNodes::descend-returns-clause-steps g t c =
@@ -290,7 +299,7 @@ children::ChildNodes::descend-returns-clause-steps g t c =
     let children = c.args.self.now in
     let x = choices_of focus.mover children in
     let walk = c.args.walk.now in
-    let turn = c.best_turn.ensures ∙ ap (λ i. get_or (edge_turns children.edges) i c.best_turn.result) c.requires.kept.index in
+    let turn = c.best_turn.ensures ∙ ap (λ i. get_or (edge_turns children.edges) i c.best_turn.result) c.requires.kept.kept.index in
     let way = way_down (stand_of walk) x (node_with x) refl c.requires.ready.may_grow c.best_turn.result turn in
     let gone = c.in-Ok.ensures.ok in
     let new = choices_of c.grow_best-step.new.focus.mover c.grow_best-step.new.self in
@@ -302,7 +311,7 @@ children::ChildNodes::descend-returns-clause-steps g t c =
 pub node::Node::round-invariant_of-self : goal.node::Node::round-invariant_of-self
 node::Node::round-invariant_of-self g t c =
     let new = node_with (choices_of c.descend-step.new.focus.mover c.descend-step.new.self) in
-    (c.by_goal-proof.ensures new c.descend-step.ensures.numbers, c.descend-step.ensures.kept)
+    (c.by_goal-proof.ensures new c.descend-step.ensures.kept.pair, c.descend-step.ensures.kept.kept)
 
 pub node::Node::round-offer-walk-requires-clause-partial : goal.node::Node::round-offer-walk-requires-clause-partial
 node::Node::round-offer-walk-requires-clause-partial g t c =
@@ -344,7 +353,7 @@ node::Node::round-returns-in_default-clause-steps g t c =
 pub node::Node::first_round-invariant_of-self : goal.node::Node::first_round-invariant_of-self
 node::Node::first_round-invariant_of-self g t c =
     let new = node_with (choices_of c.descend-step.new.focus.mover c.descend-step.new.self) in
-    (c.by_goal-proof.ensures new c.descend-step.ensures.numbers, c.descend-step.ensures.kept)
+    (c.by_goal-proof.ensures new c.descend-step.ensures.kept.pair, c.descend-step.ensures.kept.kept)
 
 pub node::Node::first_round-offer-walk-requires-clause-partial : goal.node::Node::first_round-offer-walk-requires-clause-partial
 node::Node::first_round-offer-walk-requires-clause-partial g t c =
