@@ -8,7 +8,7 @@ use Rattle.clap.specs.declared.builder.value_parser.ValueParser.TheVariants.{Sig
 use Rattle.tt_dfpn.specs.declared.attempts.TheConstants.{MOST_POSITIONS}
 use Rattle.tt_proof.specs.declared.tree.TheConstants.{MOST_DEPTH}
 use Rattle.tt_search.specs.declared.limits.TheConstants.{MOST_EXPANDED}
-use Rattle.tt_share.specs.declared.bounds.TheConstants.{MOST_WORKERS}
+use Rattle.tt_share.specs.declared.capacity.TheConstants.{MOST_WORKERS}
 use Rattle.tsumego.specs.declared.request.TheConstants.{MOST_IN_ALL}
 use Rattle.tsumego.specs.declared.request.Command.{Command}
 use Rattle.tsumego.specs.declared.request.Command.TheVariants.{Score, Check, Solve}

@@ -107,7 +107,12 @@ fn answer_trees<X: Threads + Wait + Sync, W: Write>(
                 number += 1;
             }
             Err(SgfFault::Syntax) => return refuse(alloc, writer, number, SgfFault::Syntax.code()),
-            Err(SgfFault::TooLong) => return refuse(alloc, writer, number, SgfFault::TooLong.code()),
+            Err(SgfFault::TooLong) => return refuse(
+                alloc,
+                writer,
+                number,
+                SgfFault::TooLong.code(),
+            ),
             Err(SgfFault::NoMemory) => return Err(RunFault::Memory),
         }
     }

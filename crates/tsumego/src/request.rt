@@ -2,7 +2,7 @@
 ghost use Rattle.std.specs.Prelude.{◌≤◌, IfSome};
 ghost use Rattle.std.proofs.Props.{props};
 ghost use Rattle.tt_dfpn.specs.declared.attempts.TheConstants.{MOST_POSITIONS};
-ghost use Rattle.tt_share.specs.declared.bounds.TheConstants.{MOST_WORKERS};
+ghost use Rattle.tt_share.specs.declared.capacity.TheConstants.{MOST_WORKERS};
 ghost use Rattle.tsumego.specs.declared.request.TheConstants.{MOST_IN_ALL};
 
 use tt_search::Limits;

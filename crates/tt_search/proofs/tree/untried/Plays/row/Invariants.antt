@@ -2,7 +2,7 @@ use Rattle.std.proofs.Common.{◌≡◌, ◌≤◌, ◌-◌, length}
 use Rattle.tt_sgf.specs.Words.{bit_in}
 use Rattle.tt_sgf.specs.declared.size.TheConstants.{MOST_POINTS}
 use Rattle.tt_search.specs.inside.Untried.{plays_in}
-use Rattle.tt_search.proofs.tree.plays.Plays.row.Given as goal
+use Rattle.tt_search.proofs.tree.untried.Plays.row.Given as goal
 
 abbrev pub invariant-loop-p : goal.invariant-loop-p
 invariant-loop-p l = record {

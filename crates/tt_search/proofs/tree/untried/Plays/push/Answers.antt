@@ -4,7 +4,7 @@ use Rattle.tt_sgf.specs.Words.{bit_in}
 use Rattle.tt_sgf.specs.declared.size.TheConstants.{MOST_POINTS}
 use Rattle.tt_search.specs.inside.Untried.{fresh_edge, plays_in, AreBelow}
 use Rattle.tt_search.proofs.Untried.{few_plays, play_more}
-use Rattle.tt_search.proofs.tree.plays.Plays.push.Goals as goal
+use Rattle.tt_search.proofs.tree.untried.Plays.push.Goals as goal
 
 pub overflow_add-self : goal.overflow_add-self
 overflow_add-self c = omega (arith, c.self.invariant, few_plays (bit_in c.self.inside.points.words) MOST_POINTS)

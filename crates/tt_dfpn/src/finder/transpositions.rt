@@ -89,16 +89,20 @@ fn worth(entry: &Entry) -> u32 {
 
 /// A table whose rows are two to some power, 48 bytes each.
 #[derive(Drop)]
-pub(crate) struct Table {
+pub(crate) struct TranspositionTable {
     rows: Vec<Row>,
     taken: usize,
     most_rows: usize,
 }
 
-impl Table {
+impl TranspositionTable {
     /// An empty table of so many rows, a power of two, which grows up to `most_rows`.
-    pub(crate) fn new(alloc: Global, rows: usize, most_rows: usize) -> Result<Table, NoMemory> {
-        Ok(Table {
+    pub(crate) fn new(
+        alloc: Global,
+        rows: usize,
+        most_rows: usize,
+    ) -> Result<TranspositionTable, NoMemory> {
+        Ok(TranspositionTable {
             rows: vec![in alloc; no_row(); rows]?,
             taken: 0,
             most_rows,
@@ -118,7 +122,8 @@ impl Table {
         if self.taken <= rows / 2 || rows > self.most_rows / 2 {
             return;
         }
-        let Ok(mut larger) = Table::new(alloc, rows.saturating_mul(2), self.most_rows) else {
+        let Ok(mut larger) = TranspositionTable::new(alloc, rows.saturating_mul(2), self.most_rows)
+        else {
             self.most_rows = rows;
             return;
         };

@@ -2,7 +2,7 @@ use Rattle.std.proofs.Common.{◌∙◌, sym, ap, length, arith}
 use Rattle.tt_sgf.specs.Words.{bit_in}
 use Rattle.tt_sgf.specs.declared.size.TheConstants.{MOST_POINTS}
 use Rattle.tt_search.proofs.Untried.{none_yet, skipped}
-use Rattle.tt_search.proofs.tree.plays.Plays.new.Goals as goal
+use Rattle.tt_search.proofs.tree.untried.Plays.new.Goals as goal
 
 pub invariant_of-result : goal.invariant_of-result
 invariant_of-result c =

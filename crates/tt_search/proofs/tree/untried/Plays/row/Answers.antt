@@ -4,7 +4,7 @@ use Rattle.tt_sgf.specs.declared.size.TheConstants.{MOST_POINTS}
 use Rattle.tt_search.specs.inside.Untried.{fresh_edge, plays_in, plays_and_pass}
 use Rattle.tt_search.proofs.Joins.{on_ok}
 use Rattle.tt_search.proofs.Untried.{none_yet, skipped, play_here}
-use Rattle.tt_search.proofs.tree.plays.Plays.row.Goals as goal
+use Rattle.tt_search.proofs.tree.untried.Plays.row.Goals as goal
 
 pub loop-p-init : goal.loop-p-init
 loop-p-init c = record {
