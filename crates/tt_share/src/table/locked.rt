@@ -57,20 +57,6 @@ impl<'a, R> LockedStore<'a, R> {
     {
         LockedStore { rt, table, kept: 0 }
     }
-
-    /// How many proofs may be kept through this handle: 4,096.
-    pub fn capacity(&self) -> usize
-        ensures { result ≡ MOST_KEPT }
-    {
-        MOST_KEPT
-    }
-
-    /// How many proofs were kept through this handle: at most 4,096.
-    pub fn kept(&self) -> usize
-        ensures { result ≡ self.now }
-    {
-        self.kept
-    }
 }
 
 impl<'a, R: Wait> Store for LockedStore<'a, R> {
@@ -83,11 +69,11 @@ impl<'a, R: Wait> Store for LockedStore<'a, R> {
     ghost may_answer = { Unit {0} };
 
     fn capacity(&self) -> usize {
-        LockedStore::capacity(self)
+        MOST_KEPT
     }
 
     fn kept(&self) -> usize {
-        LockedStore::kept(self)
+        self.kept
     }
 
     fn find(&mut self, line: &Line, s: Side) -> Result<Option<Arc<Proof>>, NoMemory> {
