@@ -14,7 +14,7 @@ use crate::verdict::verdict_text;
 use std::alloc::Global;
 use std::sync::{Arc, Wait};
 use std::thread::Threads;
-use tt_dfpn::find_proof;
+use tt_dfpn::{Visits, find_proof};
 use tt_game::{GameFault, Line, problem};
 use tt_proof::{Proof, write_cert};
 use tt_sgf::{Items, MAX_BYTES, MainLine, NoMemory, Size};
@@ -48,8 +48,9 @@ fn found(
     let Some(positions) = options.dfpn else {
         return Ok(None);
     };
+    let mut visits = Visits { left: positions };
     let mut copy = line.try_clone()?;
-    let Some(proof) = find_proof(alloc, &mut copy, options.limits.depth(), positions)? else {
+    let Some(proof) = find_proof(alloc, &mut copy, options.limits.depth(), &mut visits)? else {
         return Ok(None);
     };
     if !options.cert || is_checkable(alloc, &proof, line.frame().size, bytes)? {
