@@ -14,7 +14,7 @@ mod replays;
 mod shared_boards;
 mod tree;
 
-pub use bounds::{Bound, Span, none_within};
+pub use bounds::{Bound, Span, is_within};
 pub use certificate_read::{CertFault, read_cert};
 pub use certificate_write::{put_shown, put_turn, write_cert};
 pub use footprints::{Footprint, footprint_of};
