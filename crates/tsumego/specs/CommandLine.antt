@@ -44,13 +44,14 @@ flag_rule name = record (new_rule name) { long = Some name; action = Some SetTru
 
 -- the options of `solve`
 unfoldable pub solve_app : App
-solve_app = with_rule (with_rule (with_rule (with_rule (with_rule (with_rule (new_app (codes "solve"))
+solve_app = with_rule (with_rule (with_rule (with_rule (with_rule (with_rule (with_rule (new_app (codes "solve"))
     (number_rule (codes "budget") MOST_EXPANDED (codes "100000")))
     (number_rule (codes "depth") MOST_DEPTH (codes "512")))
     (optional_rule (codes "total") MOST_IN_ALL))
     (optional_rule (codes "dfpn") MOST_POSITIONS))
     (number_rule (codes "workers") MOST_WORKERS (codes "1")))
-    (flag_rule (codes "cert"))
+    (flag_rule (codes "cert")))
+    (flag_rule (codes "turns"))
 
 -- the program's commands and options, as the argument parser reads them
 unfoldable pub tool : App
@@ -76,7 +77,7 @@ HasFlag name rows b = one_of name rows ≡ Some (bool_text b)
 abbrev pub HasOptions : List Row → Options → Type 0
 HasOptions rows options = HasNumber (codes "budget") rows options.limits.budget × HasNumber (codes "depth") rows options.limits.depth
     × GivesNumber (codes "total") rows options.total × GivesNumber (codes "dfpn") rows options.dfpn
-    × HasNumber (codes "workers") rows options.workers × HasFlag (codes "cert") rows options.cert
+    × HasNumber (codes "workers") rows options.workers × HasFlag (codes "cert") rows options.cert × HasFlag (codes "turns") rows options.turns
 
 -- the subcommand that was met, with its matches, is this command
 abbrev pub Asks : Option (Text × List Row) → Command → Type 0
@@ -84,3 +85,8 @@ Asks None c = ⊥
 Asks (Some p) Score = p.0 ≡ codes "score"
 Asks (Some p) Check = p.0 ≡ codes "check"
 Asks (Some p) (Solve options) = (p.0 ≡ codes "solve") × HasOptions p.1 options
+
+-- flags were given that aren't taken together
+abbrev pub Contradicts : Option (Text × List Row) → Type 0
+Contradicts None = ⊥
+Contradicts (Some p) = HasFlag (codes "cert") p.1 true × HasFlag (codes "turns") p.1 true
