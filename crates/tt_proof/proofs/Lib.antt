@@ -15,6 +15,7 @@ pub mod ReadLemmas
 pub mod ProvenLemmas
 pub mod MeasureLemmas
 pub mod StrategyLemmas
+pub mod OutlineLemmas
 pub mod CertificateLemmas
 pub mod WinsLemmas
 pub mod Sent
