@@ -16,6 +16,8 @@ pub mod ProvenLemmas
 pub mod MeasureLemmas
 pub mod StrategyLemmas
 pub mod OutlineLemmas
+pub mod OutlineReadLemmas
+pub mod OutlineLawLemmas
 pub mod CertificateLemmas
 pub mod WinsLemmas
 pub mod Sent

@@ -53,12 +53,12 @@ abbrev mutual
   names_behind_all us (branch t o bs) = names_behind_all (names_behind us o) bs
 
 abbrev mutual
-  -- a name stands only for a tree that has ended before
+  -- a name stands only for a tree that has ended before, and has nine digits at the most
   pub IsClosed : List Strategy → Outline → Type 0
   IsClosed us ended = Unit {0}
   IsClosed us (picked n t o) = IsClosed us o
   IsClosed us (replied n bs) = AreClosed us bs
-  IsClosed us (part k) = k < length us
+  IsClosed us (part k) = (k < length us) × (k < 1000000000)
 
   pub AreClosed : List Strategy → Branches → Type 0
   AreClosed us no_branch = Unit {0}

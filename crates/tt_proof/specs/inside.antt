@@ -2,3 +2,4 @@
 pub mod Replaying
 pub mod Collecting
 pub mod CertificateReading
+pub mod OutlineReading
