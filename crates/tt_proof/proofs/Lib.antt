@@ -17,6 +17,7 @@ pub mod MeasureLemmas
 pub mod StrategyLemmas
 pub mod OutlineLemmas
 pub mod OutlineReadLemmas
+pub mod OutlineReplayLemmas
 pub mod OutlineLawLemmas
 pub mod CertificateLemmas
 pub mod WinsLemmas

@@ -3,3 +3,4 @@ pub mod Replaying
 pub mod Collecting
 pub mod CertificateReading
 pub mod OutlineReading
+pub mod OutlineReplaying
