@@ -1,18 +1,15 @@
 -- Certificates with shared parts have one reading, and those without are such.
-use Rattle.std.proofs.Common.{◌≡◌, ◌≤◌, ◌<◌, ◌^◌, ◌+◌, ℕ, Bool, true, false, arith, List, [], ◌∷◌, ◌++◌, ◌∙◌, refl, sym, ap, subst, append_assoc, decimal}
+use Rattle.std.proofs.Common.{◌≡◌, ◌≤◌, ◌<◌, ◌^◌, ◌+◌, ℕ, true, false, arith, List, [], ◌∷◌, ◌++◌, ◌∙◌, refl, sym, ap, subst, append_assoc, decimal}
 use Rattle.std.proofs.lemmas.List.{append-nil}
 use Rattle.std.proofs.lemmas.Fmt.{decimal_is_IsNumeral}
 use Rattle.std.proofs.lemmas.Str.Parse.{tells_digits}
 use Rattle.std.specs.Str.Parse.{AllDigits, digits_value}
-use Rattle.tt_sgf.specs.Bytes.{semicolon}
 use Rattle.tt_sgf.specs.declared.size.Size.{Size}
-use Rattle.tt_game.specs.declared.frame.Side.{Side}
-use Rattle.tt_game.specs.declared.turns.Turn.{Turn}
 use Rattle.tt_game.specs.declared.turns.Turn.TheVariants.{Play, Pass}
 use Rattle.tt_proof.specs.declared.tree.TheConstants.{MOST_DEPTH}
 use Rattle.tt_proof.specs.Strategy.{Strategy, Entries, done, pick, reply, none, entry, depth, number_on, IsInOrder, AreInOrder}
-use Rattle.tt_proof.specs.CertificateText.{pick_mark, reply_mark, turn_text, tree_text, entries_text, side_text, IsCertificate}
-use Rattle.tt_proof.specs.Outlines.{Outline, Branches, ended, picked, replied, part, no_branch, branch, tree_of, entries_with, names_behind, names_behind_all, IsClosed, AreClosed, IsOrderly, AreOrderly, outline_text, branches_text, IsSharedCertificate}
+use Rattle.tt_proof.specs.CertificateText.{pick_mark, reply_mark, turn_text, tree_text, entries_text, side_text}
+use Rattle.tt_proof.specs.Outlines.{Outline, Branches, ended, picked, replied, part, no_branch, branch, tree_of, entries_with, names_behind, names_behind_all, IsClosed, AreClosed, IsOrderly, AreOrderly, outline_text, branches_text}
 use Rattle.tt_proof.specs.OutlineLaws.{OneSharedCertificate, CertificatesAreShared}
 use Rattle.tt_proof.proofs.TextLemmas.{heads, tails, same_turn, turn_not_end}
 use Rattle.tt_proof.proofs.CertificateLemmas.{side_apart}

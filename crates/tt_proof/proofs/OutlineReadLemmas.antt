@@ -9,8 +9,8 @@ use Rattle.tt_proof.specs.declared.outlines.Outline as form
 use Rattle.tt_proof.specs.declared.tree.TheConstants.{MOST_DEPTH}
 use Rattle.tt_proof.specs.Strategy.{Strategy, done, depth, depth_of_entries, IsOnBoard, number_on}
 use Rattle.tt_proof.specs.CertificateText.{won_mark, pick_mark, reply_mark, turn_text, side_text}
-use Rattle.tt_proof.specs.Outlines.{Outline, Branches, ended, picked, replied, part, no_branch, branch, with_name, tree_of, entries_with, names_behind, names_behind_all, outline_of, branches_of_list, name_text, part_mark, outline_text, branches_text, IsSharedCertificate, AreOrderly}
-use Rattle.tt_proof.specs.inside.OutlineReading.{with_depth, OutlineAt, BranchesAt, ReadsOutline, ReadsBranches}
+use Rattle.tt_proof.specs.Outlines.{Outline, Branches, ended, picked, replied, part, no_branch, branch, with_name, entries_with, names_behind, names_behind_all, outline_of, branches_of_list, name_text, part_mark, outline_text, branches_text, IsSharedCertificate, AreOrderly}
+use Rattle.tt_proof.specs.inside.OutlineReading.{with_depth, BranchesAt, ReadsOutline, ReadsBranches}
 
 -- a name more is a depth more
 names_more : (n : Bool) (u : Strategy) (us : List Strategy) → map depth (with_name n u us) ≡ with_depth n (depth u) (map depth us)

@@ -1,5 +1,5 @@
 -- What the parts of an outline's replay find makes up what the whole finds.
-use Rattle.std.proofs.Common.{◌≡◌, ◌≢◌, ◌≤◌, ◌<◌, zero, suc, ◌+◌, ◌↔◌, ◌⊎◌, ℕ, inl, inr, arith, Bool, true, false, IsTrue, Some, None, List, [], ◌∷◌, ◌++◌, ◌∙◌, refl, sym, ap, subst, All, Contains, Option, get_or, length, take, drop}
+use Rattle.std.proofs.Common.{◌≡◌, ◌≤◌, ◌<◌, zero, suc, ◌+◌, ◌⊎◌, ℕ, inl, inr, arith, Some, None, List, [], ◌∷◌, ◌++◌, ◌∙◌, refl, sym, ap, subst, All, Contains, Option, get_or, length, take, drop}
 use Rattle.std.proofs.lemmas.List.Elements.{Contains-append_left, Contains-append_right, Contains-append_cases}
 use Rattle.tt_board.specs.Position.{Position, Colouring, colourings}
 use Rattle.tt_game.specs.Game.{State, IsLegal, after, history, made, winner_of, opponent}
@@ -12,14 +12,14 @@ use Rattle.tt_proof.specs.declared.basis.Basis.{Basis}
 use Rattle.tt_proof.specs.declared.outline_replay.Found.{Found}
 use Rattle.tt_proof.specs.declared.outline_replay.Found.TheVariants.{Won, Lost, Unfit}
 use Rattle.tt_proof.specs.Strategy.{Strategy, Entries, done, pick, reply, none, entry, number_on}
-use Rattle.tt_proof.specs.Outlines.{Outline, Branches, no_branch, branch, tree_of, entries_with, names_behind, names_behind_all, with_name, AreOrderly}
+use Rattle.tt_proof.specs.Outlines.{Outline, Branches, no_branch, branch, tree_of, entries_with, names_behind, names_behind_all, AreOrderly}
 use Rattle.tt_proof.specs.Footprints.{IsRepeated, Makes}
 use Rattle.tt_proof.specs.declared.footprints.Footprint.{Footprint}
 use Rattle.tt_proof.specs.KeptFootprints.{IsFootprint, frame_board}
 use Rattle.tt_proof.specs.Wins.{Wins, WinsBehind}
 use Rattle.tt_proof.specs.inside.Collecting.{IsPassedUp, IsPlayed}
 use Rattle.tt_proof.specs.inside.Replaying.{HasEntry}
-use Rattle.tt_proof.specs.inside.OutlineReplaying.{Meets, StandsOn, NeedsRepeats, IsPickedOn, IsPassedOn, IsJoined, HasBranch, HasTree, WinsOn, IsFound, IsFoundBehind, IsFoundOf, IsNamed, AreNamed, IsBoth}
+use Rattle.tt_proof.specs.inside.OutlineReplaying.{Meets, StandsOn, NeedsRepeats, IsPickedOn, IsPassedOn, IsJoined, HasBranch, HasTree, IsFound, IsFoundBehind, IsFoundOf, IsNamed, AreNamed, IsBoth}
 use Rattle.tt_proof.proofs.FitsLemmas.{Carried, splits_none, same_made, same_winner, legal_now, legal_before}
 use Rattle.tt_proof.proofs.FittingLemmas.{colouring_in, board_in}
 use Rattle.tt_proof.proofs.WinsLemmas.{has_behind}

@@ -1,7 +1,6 @@
-use Rattle.std.proofs.Common.{rules, arith, ◌≡◌, ◌+◌, ◌-◌, ◌++◌, ℕ, suc, max, [], ◌∷◌, ◌∙◌, sym, ap, subst}
-use Rattle.tt_proof.specs.Outlines.{outline_of}
+use Rattle.std.proofs.Common.{rules, arith, ◌≡◌, ◌+◌, ◌-◌, ◌++◌, max, [], ◌∷◌, ◌∙◌, ap}
 use Rattle.tt_proof.proofs.OutlineLemmas.{outline_of_done}
-use Rattle.tt_proof.proofs.OutlineReadLemmas.{reads_done, reads_pick, reads_reply, walked_more, walked_end}
+use Rattle.tt_proof.proofs.OutlineReadLemmas.{reads_done, walked_more, walked_end}
 use Rattle.tt_proof.proofs.outline_read.+outline.Goals as goal
 
 pub read_outline-returns-then-first-eq46 : goal.read_outline-returns-then-first-eq46

@@ -1,4 +1,4 @@
-use Rattle.std.proofs.Common.{rules, arith, ◌≡◌, ◌∷◌, [], List, length, ap, ℕ, refl}
+use Rattle.std.proofs.Common.{rules, arith, ◌≡◌, ◌∷◌, [], List, length, ℕ, refl}
 use Rattle.tt_proof.specs.Outlines.{outline_of}
 use Rattle.tt_proof.proofs.OutlineReadLemmas.{shared_read}
 use Rattle.tt_proof.proofs.outline_read.read_parts_for.Goals as goal

@@ -1,5 +1,5 @@
 use Rattle.tt_proof.specs.declared.outlines.Outline.TheViews.{the_lemmas}
-use Rattle.std.proofs.Common.{rules, arith, ◌≡◌, ◌≢◌, ◌∙◌, ◌<◌, ◌≤◌, ◌+◌, ◌∷◌, [], ℕ, List, IfOk, sym, ap, refl, subst, drop, get_or, length, drop-cons, add-one, true≢false}
+use Rattle.std.proofs.Common.{rules, ◌≡◌, ◌≢◌, ◌∙◌, ◌<◌, ◌≤◌, ◌+◌, ◌∷◌, ℕ, List, IfOk, sym, ap, refl, subst, drop, get_or, length, drop-cons, add-one, true≢false}
 use Rattle.std.proofs.Math.ListN.{drop_of_length-le}
 use Rattle.tt_game.specs.Game.{after, opponent}
 use Rattle.tt_game.specs.Line.{Standing}

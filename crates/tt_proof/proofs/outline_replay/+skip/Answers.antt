@@ -1,7 +1,6 @@
-use Rattle.std.proofs.Common.{rules, arith, ◌≡◌, ◌∙◌, ◌<◌, ◌≤◌, ◌+◌, ◌∷◌, [], List, sym, ap, refl, subst, drop, get_or, length, drop-cons, add-one}
+use Rattle.std.proofs.Common.{rules, ◌≡◌, ◌∙◌, ◌<◌, ◌≤◌, ◌+◌, ◌∷◌, sym, ap, refl, subst, drop, get_or, length, drop-cons, add-one}
 use Rattle.std.proofs.Math.ListN.{drop_of_length-le}
 use Rattle.tt_proof.specs.Outlines.{branches_of_list, outline_of}
-use Rattle.tt_proof.specs.inside.OutlineReplaying.{AreNamed}
 use Rattle.tt_proof.proofs.ResultLemmas.{on_ok}
 use Rattle.tt_proof.proofs.OutlineLemmas.{outline_of_done, outline_of_pick, outline_of_reply, outline_of_part}
 use Rattle.tt_proof.proofs.OutlineReplayLemmas.{Skipped, skipped_more, skipped_end, drop_none}

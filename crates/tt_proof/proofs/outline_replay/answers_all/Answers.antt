@@ -1,6 +1,5 @@
-use Rattle.std.proofs.Common.{rules, arith, ◌≡◌, ◌<◌, ◌≤◌, ◌+◌, List, take, length, get_or, sym, refl, subst, add-one, Contains}
+use Rattle.std.proofs.Common.{rules, ◌<◌, ◌≤◌, take, length, sym, refl, subst, add-one, Contains}
 use Rattle.std.proofs.lemmas.List.{take_all}
-use Rattle.tt_game.specs.declared.turns.Turn.{Turn}
 use Rattle.tt_game.specs.laws.Members.{IsIn, in_of_contains}
 use Rattle.tt_proof.specs.Outlines.{branches_of_list}
 use Rattle.tt_proof.specs.inside.OutlineReplaying.{HasBranch}
