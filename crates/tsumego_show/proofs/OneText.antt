@@ -1,7 +1,8 @@
 -- An input has one text and one status.
-use Rattle.std.proofs.Common.{◌≡◌, ℕ, Bool, List, ◌++◌, ◌||◌, ◌+◌, inl, inr, Ok, Err, refl, sym, ap, ap₂, ◌∙◌, drop, arith, subst, if◌then◌else◌}
+use Rattle.std.proofs.Common.{◌≡◌, ℕ, Bool, List, ◌++◌, ◌||◌, ◌+◌, inl, inr, Ok, Err, refl, sym, ap, ap₂, ◌∙◌, drop, length, arith, subst, if◌then◌else◌}
 use Rattle.std.specs.declared.result.Result.{Result}
 use Rattle.tt_sgf.specs.Grammar.{GameTree, main_line, OneSpelling}
+use Rattle.tt_sgf.specs.declared.nodes.Node.{Node}
 use Rattle.tt_sgf.specs.laws.TreeLaws.{spelled_opens}
 use Rattle.tt_sgf.specs.Values.{trimmed}
 use Rattle.tt_game.specs.declared.faults.GameFault.{GameFault}
@@ -45,38 +46,38 @@ module _ (one : OneCertificate) where
   behind_same p behind s t (last_tree s' none d) (last_tree t' never e) = drawn_same p (trimmed behind) s' t' d e
 
   -- and so has a tree
-  tree_text_same : (k : ℕ) (r : Result Standing GameFault) (behind s t : List ℕ) → IsTreeText k r behind s → IsTreeText k r behind t → s ≡ t
-  tree_text_same k (Ok p) behind s t a b = a.2 ∙ ap (λ (x : List ℕ). problem_text k p ++ x) (behind_same p behind a.0 b.0 a.1 b.1) ∙ sym b.2
-  tree_text_same k (Err e) behind s t a b = a ∙ sym b
+  tree_text_same : (k : ℕ) (ns : List Node) (r : Result Standing GameFault) (behind s t : List ℕ) → IsTreeText k ns r behind s → IsTreeText k ns r behind t → s ≡ t
+  tree_text_same k ns (Ok p) behind s t a b = a.2 ∙ ap (λ (x : List ℕ). problem_text k p ++ x) (behind_same p behind a.0 b.0 a.1 b.1) ∙ sym b.2
+  tree_text_same k ns (Err e) behind s t a b = a ∙ sym b
 
   module _ (reading : OneSpelling) where
     -- bytes are told in one way from a tree's number on
-    told_same : (k : ℕ) (bytes s t : List ℕ) (a b : Bool) → Tells k bytes s a → Tells k bytes t b → (s ≡ t) × (a ≡ b)
-    told_same k bytes s t a b (tree _ _ n g x more refused spells is rest) (tree _ _ m h y more' refused' spells' is' rest') =
+    told_same : (whole k : ℕ) (bytes s t : List ℕ) (a b : Bool) → Tells whole k bytes s a → Tells whole k bytes t b → (s ≡ t) × (a ≡ b)
+    told_same whole k bytes s t a b (tree _ _ n g x more refused spells is rest) (tree _ _ m h y more' refused' spells' is' rest') =
         let same = reading bytes n m g h spells spells' in
-        let its : IsTreeText k (problem_of (main_line h)) (drop m bytes) x =
-        subst (λ (q : GameTree). IsTreeText k (problem_of (main_line q)) (drop m bytes) x) same.1 (subst (λ q. IsTreeText k (problem_of (main_line g)) (drop q bytes) x) same.0 is) in
-        let go = told_same (k + 1) (drop m bytes) more more' refused refused' (subst (λ q. Tells (k + 1) (drop q bytes) more refused) same.0 rest) rest' in (
-          ap₂ (λ (q w : List ℕ). q ++ w) (tree_text_same k (problem_of (main_line h)) (drop m bytes) x y its is') go.0,
+        let its : IsTreeText k (main_line h) (problem_of (main_line h)) (drop m bytes) x =
+        subst (λ (q : GameTree). IsTreeText k (main_line q) (problem_of (main_line q)) (drop m bytes) x) same.1 (subst (λ q. IsTreeText k (main_line g) (problem_of (main_line g)) (drop q bytes) x) same.0 is) in
+        let go = told_same whole (k + 1) (drop m bytes) more more' refused refused' (subst (λ q. Tells whole (k + 1) (drop q bytes) more refused) same.0 rest) rest' in (
+          ap₂ (λ (q w : List ℕ). q ++ w) (tree_text_same k (main_line h) (problem_of (main_line h)) (drop m bytes) x y its is') go.0,
           ap₂ (λ (q : GameTree) (w : Bool). is_no_problem (problem_of (main_line q)) || w) same.1 go.1,
         )
-    told_same k bytes s t a b (tree _ _ n g x more refused spells is rest) (ended _ _ many none) = absurd (none (spelled_opens bytes n g spells))
-    told_same k bytes s t a b (tree _ _ n g x more refused spells is rest) (stopped _ _ why none) = absurd (none g n spells)
-    told_same k bytes s t a b (ended _ _ many none) (tree _ _ m h y more' refused' spells' is' rest') = absurd (none (spelled_opens bytes m h spells'))
-    told_same k bytes s t a b (ended _ _ many none) (ended _ _ many' none') = (refl, refl)
-    told_same k bytes s t a b (ended _ _ many none) (stopped _ _ (inl e) none') = absurd (omega arith)
-    told_same k bytes s t a b (ended _ _ many none) (stopped _ _ (inr opens) none') = absurd (none opens)
-    told_same k bytes s t a b (stopped _ _ why none) (tree _ _ m h y more' refused' spells' is' rest') = absurd (none h m spells')
-    told_same k bytes s t a b (stopped _ _ (inl e) none) (ended _ _ many none') = absurd (omega arith)
-    told_same k bytes s t a b (stopped _ _ (inr opens) none) (ended _ _ many none') = absurd (none' opens)
-    told_same k bytes s t a b (stopped _ _ why none) (stopped _ _ why' none') = (refl, refl)
+    told_same whole k bytes s t a b (tree _ _ n g x more refused spells is rest) (ended _ _ many none) = absurd (none (spelled_opens bytes n g spells))
+    told_same whole k bytes s t a b (tree _ _ n g x more refused spells is rest) (stopped _ _ why none) = absurd (none g n spells)
+    told_same whole k bytes s t a b (ended _ _ many none) (tree _ _ m h y more' refused' spells' is' rest') = absurd (none (spelled_opens bytes m h spells'))
+    told_same whole k bytes s t a b (ended _ _ many none) (ended _ _ many' none') = (refl, refl)
+    told_same whole k bytes s t a b (ended _ _ many none) (stopped _ _ (inl e) none') = absurd (omega arith)
+    told_same whole k bytes s t a b (ended _ _ many none) (stopped _ _ (inr opens) none') = absurd (none opens)
+    told_same whole k bytes s t a b (stopped _ _ why none) (tree _ _ m h y more' refused' spells' is' rest') = absurd (none h m spells')
+    told_same whole k bytes s t a b (stopped _ _ (inl e) none) (ended _ _ many none') = absurd (omega arith)
+    told_same whole k bytes s t a b (stopped _ _ (inr opens) none) (ended _ _ many none') = absurd (none' opens)
+    told_same whole k bytes s t a b (stopped _ _ why none) (stopped _ _ why' none') = (refl, refl)
 
     -- an input is told in one way
     whole_same : (input s t : List ℕ) (a b : Bool) → IsInputText input s a → IsInputText input t b → (s ≡ t) × (a ≡ b)
     whole_same input s t a b (too_long long) (too_long more) = (refl, refl)
     whole_same input s t a b (too_long long) (trees t' b' small h) = absurd (omega arith)
     whole_same input s t a b (trees s' a' small h) (too_long long) = absurd (omega arith)
-    whole_same input s t a b (trees s' a' small h) (trees t' b' little g) = told_same 1 input s' t' a' b' h g
+    whole_same input s t a b (trees s' a' small h) (trees t' b' little g) = told_same (length input) 1 input s' t' a' b' h g
 
     -- an input has one text and one status
     pub shown_same : (input s t : List ℕ) (m n : ℕ) → IsShown input s m → IsShown input t n → (s ≡ t) × (m ≡ n)

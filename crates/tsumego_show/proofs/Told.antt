@@ -10,8 +10,9 @@ use Rattle.std.proofs.lemmas.List.{take_all, length-drop}
 use Rattle.tt_sgf.specs.declared.nodes.Node.{Node}
 use Rattle.tt_sgf.specs.Grammar.{GameTree, HasNoTree, SpelledUpTo, main_line, HasOpen}
 use Rattle.tt_game.specs.Problems.{problem_of}
-use Rattle.tsumego_show.specs.Shown.{DrawsBehind, IsShown, IsInputText, IsTreeText, Tells, ended, is_no_problem, last_tree, more_trees, problem_text, refusal, stopped}
+use Rattle.tsumego_show.specs.Shown.{DrawsBehind, IsShown, IsInputText, IsProblemText, IsTreeText, Tells, ended, is_no_problem, last_tree, more_trees, problem_text, stopped}
 use Rattle.tsumego_show.specs.Shown.{too_long, tree, trees}
+use Rattle.tsumego_show.specs.Refusals.{length_text, syntax_text}
 
 -- the brackets of an `or` of three
 or_assoc : (x y z : Bool) → ((x || y) || z) ≡ (x || (y || z))
@@ -29,23 +30,23 @@ or_false false = refl
 -- what is told on the rest, behind the text so far, is told on the input
 abbrev pub IsSoFar : List ℕ → ℕ → List ℕ → List ℕ → Bool → Type 0
 IsSoFar input k rest text refused =
-    (more : List ℕ) (other : Bool) → Tells k rest more other → Tells 1 input (text ++ more) (refused || other)
+    (more : List ℕ) (other : Bool) → Tells (length input) k rest more other → Tells (length input) 1 input (text ++ more) (refused || other)
 
 -- one more tree
 pub tree_more : (input : List ℕ) (k : ℕ) (rest text : List ℕ) (refused : Bool) (used : ℕ) (t : GameTree) (nodes : List Node) (text' : List ℕ) (bad : Bool)
     → IsSoFar input k rest text refused → SpelledUpTo rest used t → nodes ≡ main_line t
-    → (x : List ℕ) × IsTreeText k (problem_of nodes) (take (length rest - used) (drop used rest)) x × (text' ≡ text ++ x)
+    → (x : List ℕ) × IsTreeText k nodes (problem_of nodes) (take (length rest - used) (drop used rest)) x × (text' ≡ text ++ x)
     → bad ≡ is_no_problem (problem_of nodes) → IsSoFar input (k + 1) (take (length rest - used) (drop used rest)) text' (refused || bad)
 tree_more input k rest text refused used t nodes text' bad far s same w b = λ more other h.
     let all : take (length rest - used) (drop used rest) ≡ drop used rest = take_all (length rest - used) (drop used rest) (omega (arith, length-drop used rest)) in
-    let its_text : IsTreeText k (problem_of (main_line t)) (drop used rest) w.0 =
-    subst (λ (x : List Node). IsTreeText k (problem_of x) (drop used rest) w.0) same (subst (λ (x : List ℕ). IsTreeText k (problem_of nodes) x w.0) all w.1) in
-    let one = tree k rest used t w.0 more other s its_text (subst (λ (x : List ℕ). Tells (k + 1) x more other) all h) in
+    let its_text : IsTreeText k (main_line t) (problem_of (main_line t)) (drop used rest) w.0 =
+    subst (λ (x : List Node). IsTreeText k x (problem_of x) (drop used rest) w.0) same (subst (λ (x : List ℕ). IsTreeText k nodes (problem_of nodes) x w.0) all w.1) in
+    let one = tree k rest used t w.0 more other s its_text (subst (λ (x : List ℕ). Tells (length input) (k + 1) x more other) all h) in
     let its : is_no_problem (problem_of (main_line t)) ≡ bad = ap (λ (x : List Node). is_no_problem (problem_of x)) (sym same) ∙ sym b in
     let words : text ++ (w.0 ++ more) ≡ text' ++ more = sym (append_assoc text w.0 more) ∙ ap (λ (x : List ℕ). x ++ more) (sym w.2) in
     let flag : (refused || (is_no_problem (problem_of (main_line t)) || other)) ≡ ((refused || bad) || other) =
     ap (λ (x : Bool). refused || (x || other)) its ∙ sym (or_assoc refused bad other) in
-    subst (λ (x : Bool). Tells 1 input (text' ++ more) x) flag (subst (λ (x : List ℕ). Tells 1 input x (refused || (is_no_problem (problem_of (main_line t)) || other))) words (far _ _ one))
+    subst (λ (x : Bool). Tells (length input) 1 input (text' ++ more) x) flag (subst (λ (x : List ℕ). Tells (length input) 1 input x (refused || (is_no_problem (problem_of (main_line t)) || other))) words (far _ _ one))
 
 -- what is read and told so far; an input with a tree is not too long
 pub record Progress (input rest text : List ℕ) (k : ℕ) (refused : Bool) : Type 0 where
@@ -63,7 +64,7 @@ module _ {input rest text : List ℕ} {k : ℕ} {refused : Bool} (p : Progress i
 
   -- one more tree is read and told
   pub progress_step : (used : ℕ) (t : GameTree) (nodes : List Node) (text' : List ℕ) (bad : Bool) → SpelledUpTo rest used t → nodes ≡ main_line t
-      → length rest ≤ MAX_BYTES → (x : List ℕ) × IsTreeText k (problem_of nodes) (take (length rest - used) (drop used rest)) x × (text' ≡ text ++ x) → bad ≡ is_no_problem (problem_of nodes)
+      → length rest ≤ MAX_BYTES → (x : List ℕ) × IsTreeText k nodes (problem_of nodes) (take (length rest - used) (drop used rest)) x × (text' ≡ text ++ x) → bad ≡ is_no_problem (problem_of nodes)
       → Progress input (take (length rest - used) (drop used rest)) text' (k + 1) (refused || bad)
   progress_step used t nodes text' bad s same small e b = record {
     some = omega (arith, p.some);
@@ -72,19 +73,19 @@ module _ {input rest text : List ℕ} {k : ℕ} {refused : Bool} (p : Progress i
   }
 
   -- no tree is spelled, at a bracket or before the first tree
-  pub progress_stopped : (k ≡ 1) ⊎ HasOpen rest → length rest ≤ MAX_BYTES → HasNoTree rest → (text' : List ℕ) → text' ≡ text ++ refusal k 1 → IsShown input text' 1
+  pub progress_stopped : (k ≡ 1) ⊎ HasOpen rest → length rest ≤ MAX_BYTES → HasNoTree rest → (text' : List ℕ) → text' ≡ text ++ syntax_text k (length input - length rest) → IsShown input text' 1
   progress_stopped why small none text' e = (
     refused || true,
     trees text' (refused || true) (small_whole small)
-        (subst (λ (x : List ℕ). Tells 1 input x (refused || true)) (sym e) (p.far (refusal k 1) true (stopped k rest why none))),
+        (subst (λ (x : List ℕ). Tells (length input) 1 input x (refused || true)) (sym e) (p.far (syntax_text k (length input - length rest)) true (stopped k rest why none))),
     sym (ap (λ x. if x then 1 else 0) (or_true refused)),
   )
 
   -- the rest is too long, which can be at the start alone
-  pub progress_long : MAX_BYTES < length rest → k + length rest ≤ length input + 1 → (text' : List ℕ) → text' ≡ text ++ refusal k 2 → IsShown input text' 1
+  pub progress_long : MAX_BYTES < length rest → k + length rest ≤ length input + 1 → (text' : List ℕ) → text' ≡ text ++ length_text k → IsShown input text' 1
   progress_long long bound text' e = elim p.small [
     | inl h ↦
-        let told : text' ≡ refusal 1 2 = e ∙ ap₂ (λ (x : List ℕ) n. x ++ refusal n 2) h.2 h.0 in
+        let told : text' ≡ length_text 1 = e ∙ ap₂ (λ (x : List ℕ) n. x ++ length_text n) h.2 h.0 in
         (true, subst (λ (x : List ℕ). IsInputText input x true) (sym told) (too_long (subst (λ (x : List ℕ). MAX_BYTES < length x) h.1 long)), refl)
     | inr small ↦ absurd (omega (arith, p.some))
   ]
@@ -94,8 +95,8 @@ module _ {input rest text : List ℕ} {k : ℕ} {refused : Bool} (p : Progress i
   progress_ended more none status e = (
     refused,
     trees text refused (elim p.small [ inl h ↦ absurd (more h.0) | inr le ↦ le ])
-        (subst (λ (x : Bool). Tells 1 input text x) (or_false refused)
-        (subst (λ (x : List ℕ). Tells 1 input x (refused || false)) (append-nil text) (p.far [] false (ended k rest many none)))),
+        (subst (λ (x : Bool). Tells (length input) 1 input text x) (or_false refused)
+        (subst (λ (x : List ℕ). Tells (length input) 1 input x (refused || false)) (append-nil text) (p.far [] false (ended k rest many none)))),
     e,
   )
     where
@@ -114,7 +115,7 @@ behind_last (Err y) p behind bytes old new none is w = w
 
 -- a problem and what is drawn behind it
 pub problem_behind : {A E : Type 0} (r : Result A E) (k : ℕ) (p : Standing) (behind old mid new : List ℕ) → mid ≡ old ++ problem_text k p
-    → OnOk r ((x : List ℕ) × DrawsBehind p behind x × (new ≡ mid ++ x)) → OnOk r ((x : List ℕ) × IsTreeText k (Ok p) behind x × (new ≡ old ++ x))
+    → OnOk r ((x : List ℕ) × DrawsBehind p behind x × (new ≡ mid ++ x)) → OnOk r ((x : List ℕ) × IsProblemText k p behind x × (new ≡ old ++ x))
 problem_behind (Ok y) k p behind old mid new e w =
     (problem_text k p ++ w.0, (w.0, w.1, refl), w.2 ∙ ap (λ (x : List ℕ). x ++ w.0) e ∙ append_assoc old (problem_text k p) w.0)
 problem_behind (Err y) k p behind old mid new e w = w

@@ -2,5 +2,6 @@
 pub mod Drawing
 pub mod Hints
 pub mod Picture
+pub mod Refusals
 pub mod Shown
 pub mod Writing

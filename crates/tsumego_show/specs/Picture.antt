@@ -1,8 +1,8 @@
--- The picture of a problem: its board with the letters of SGF above and on the left.
-use Rattle.std.specs.Prelude.{ℕ, nat_eq, ◌+◌, ◌*◌, Bool, true, false, List, [], ◌∷◌, ◌++◌, codes, decimal, length, Option, Some, None, if◌then◌else◌}
+-- The picture of a problem: its board with the coordinates of SGF above and on the left, and those of editors below and on the right.
+use Rattle.std.specs.Prelude.{ℕ, nat_eq, nat_lt, ◌+◌, ◌-◌, ◌*◌, Bool, true, false, List, [], ◌∷◌, ◌++◌, codes, decimal, length, Option, Some, None, if◌then◌else◌}
 use Rattle.std.specs.List.{flat_map, range_with_len}
 use Rattle.std.specs.FinSet as set
-use Rattle.tt_sgf.specs.Bytes.{lower_a, newline, space}
+use Rattle.tt_sgf.specs.Bytes.{lower_a, newline, space, upper_A}
 use Rattle.tt_sgf.specs.declared.size.Size.{Size}
 use Rattle.tt_board.specs.declared.Colour.{Colour}
 use Rattle.tt_board.specs.declared.Colour.TheVariants.{Black, White}
@@ -48,17 +48,30 @@ letter n = lower_a + n
 abbrev pub letters_line : Size → List ℕ
 letters_line size = space ∷ (columns_text letter size.columns ++ newline ∷ [])
 
+-- the letter of a column as editors have it, who leave out I: A is the first
+abbrev pub column_letter : ℕ → ℕ
+column_letter n = if nat_lt n 8 then upper_A + n else upper_A + n + 1
+
+-- the number of a row as editors have it, who count from below
+abbrev pub row_number : Size → ℕ → ℕ
+row_number size row = size.rows - row
+
+-- the editors' letters of the columns
+abbrev pub column_letters_line : Size → List ℕ
+column_letters_line size = space ∷ (columns_text column_letter size.columns ++ newline ∷ [])
+
 -- what is shown of the points of a row, column by column
 abbrev pub shown_in : Standing → ℕ → ℕ → ℕ
 shown_in p row column = shown_at p (row * p.frame.size.columns + column)
 
--- the letter of a row, and what is shown of its points
+-- the letter of a row, what is shown of its points, and its number
 abbrev pub row_line : Standing → ℕ → List ℕ
-row_line p row = letter row ∷ (columns_text (shown_in p row) p.frame.size.columns ++ newline ∷ [])
+row_line p row =
+    letter row ∷ (columns_text (shown_in p row) p.frame.size.columns ++ (space ∷ (decimal (row_number p.frame.size row) ++ newline ∷ [])))
 
--- the letters of the columns above the rows
+-- the rows between both lines of letters
 abbrev pub board_text : Standing → List ℕ
-board_text p = letters_line p.frame.size ++ flat_map (row_line p) (range_with_len 0 p.frame.size.rows)
+board_text p = letters_line p.frame.size ++ (flat_map (row_line p) (range_with_len 0 p.frame.size.rows) ++ column_letters_line p.frame.size)
 
 -- ---- who moves
 

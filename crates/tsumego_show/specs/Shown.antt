@@ -1,21 +1,18 @@
 -- What is written for an input: a text on each of its game trees.
-use Rattle.std.specs.Prelude.{◌≡◌, ◌⊎◌, ◌+◌, ◌<◌, ◌≤◌, ℕ, Bool, true, false, ◌||◌, List, [], ◌∷◌, ◌++◌, length, drop, codes, decimal, Ok, Err, if◌then◌else◌}
+use Rattle.std.specs.Prelude.{◌≡◌, ◌⊎◌, ◌+◌, ◌-◌, ◌<◌, ◌≤◌, ℕ, Bool, true, false, ◌||◌, List, [], ◌∷◌, ◌++◌, length, drop, decimal, Ok, Err, if◌then◌else◌}
 use Rattle.std.specs.declared.result.Result.{Result}
 use Rattle.tt_sgf.specs.declared.trees.TheConstants.{MAX_BYTES}
-use Rattle.tt_sgf.specs.Bytes.{newline, space}
+use Rattle.tt_sgf.specs.Bytes.{space}
+use Rattle.tt_sgf.specs.declared.nodes.Node.{Node}
 use Rattle.tt_sgf.specs.Grammar.{GameTree, HasNoTree, HasOpen, SpelledUpTo, main_line}
 use Rattle.tt_game.specs.declared.faults.GameFault.{GameFault}
-use Rattle.tt_game.specs.Faults.{code_of}
 use Rattle.tt_game.specs.Line.{Standing}
 use Rattle.tt_game.specs.Problems.{problem_of}
 use Rattle.tt_sgf.specs.Values.{trimmed}
 use Rattle.tsumego_show.specs.Drawing.{DrawsCertificate}
 use Rattle.tsumego_show.specs.Hints.{hints}
 use Rattle.tsumego_show.specs.Picture.{picture}
-
--- the line on a refusal of tree number k, which a newline ends
-abbrev pub refusal : ℕ → ℕ → List ℕ
-refusal k code = decimal k ++ (codes " refused " ++ (decimal code ++ newline ∷ []))
+use Rattle.tsumego_show.specs.Refusals.{fault_text, length_text, syntax_text}
 
 -- The text on what follows a problem: nothing where a tree may follow; else that on a certificate, without the white space
 -- at both ends.
@@ -27,28 +24,33 @@ pub data DrawsBehind (p : Standing) (behind : List ℕ) : List ℕ → Type 0 wh
 abbrev pub problem_text : ℕ → Standing → List ℕ
 problem_text k p = decimal k ++ (space ∷ (picture p ++ hints p))
 
--- the text on tree number k, which is a problem or refused, and is followed by these bytes
-abbrev pub IsTreeText : ℕ → Result Standing GameFault → List ℕ → List ℕ → Type 0
-IsTreeText k (Ok p) behind text = (drawn : List ℕ) × DrawsBehind p behind drawn × (text ≡ problem_text k p ++ drawn)
-IsTreeText k (Err e) behind text = text ≡ refusal k (code_of e)
+-- the text on tree number k, which is this problem and is followed by these bytes
+abbrev pub IsProblemText : ℕ → Standing → List ℕ → List ℕ → Type 0
+IsProblemText k p behind text = (drawn : List ℕ) × DrawsBehind p behind drawn × (text ≡ problem_text k p ++ drawn)
+
+-- the text on tree number k, whose main line is a problem or refused, and which is followed by these bytes
+abbrev pub IsTreeText : ℕ → List Node → Result Standing GameFault → List ℕ → List ℕ → Type 0
+IsTreeText k ns (Ok p) behind text = IsProblemText k p behind text
+IsTreeText k ns (Err e) behind text = text ≡ fault_text k ns e
 
 abbrev pub is_no_problem : Result Standing GameFault → Bool
 is_no_problem (Ok p) = false
 is_no_problem (Err e) = true
 
--- The text on bytes whose first tree has number k, and whether something is refused: a tree and what follows it; or no tree is
--- left, and none was wanted; or none is spelled where one is wanted: at a `(`, or where no tree was read yet.
-pub data Tells : ℕ → List ℕ → List ℕ → Bool → Type 0 where
+-- The text on bytes at the end of an input of so many, whose first tree has number k, and whether something is refused: a tree
+-- and what follows it; or no tree is left, and none was wanted; or none is spelled where one is wanted: at a `(`, or where no
+-- tree was read yet.
+pub data Tells (whole : ℕ) : ℕ → List ℕ → List ℕ → Bool → Type 0 where
   tree : (k : ℕ) (bytes : List ℕ) (count : ℕ) (t : GameTree) (text more : List ℕ) (refused : Bool) → SpelledUpTo bytes count t
-      → IsTreeText k (problem_of (main_line t)) (drop count bytes) text → Tells (k + 1) (drop count bytes) more refused
-      → Tells k bytes (text ++ more) (is_no_problem (problem_of (main_line t)) || refused)
-  ended : (k : ℕ) (bytes : List ℕ) → 1 < k → (HasOpen bytes → ⊥) → Tells k bytes [] false
-  stopped : (k : ℕ) (bytes : List ℕ) → (k ≡ 1) ⊎ HasOpen bytes → HasNoTree bytes → Tells k bytes (refusal k 1) true
+      → IsTreeText k (main_line t) (problem_of (main_line t)) (drop count bytes) text → Tells whole (k + 1) (drop count bytes) more refused
+      → Tells whole k bytes (text ++ more) (is_no_problem (problem_of (main_line t)) || refused)
+  ended : (k : ℕ) (bytes : List ℕ) → 1 < k → (HasOpen bytes → ⊥) → Tells whole k bytes [] false
+  stopped : (k : ℕ) (bytes : List ℕ) → (k ≡ 1) ⊎ HasOpen bytes → HasNoTree bytes → Tells whole k bytes (syntax_text k (whole - length bytes)) true
 
 -- the text for an input, and whether something is refused: the input is too long, or its trees are told from number 1 on
 pub data IsInputText (input : List ℕ) : List ℕ → Bool → Type 0 where
-  too_long : MAX_BYTES < length input → IsInputText input (refusal 1 2) true
-  trees : (text : List ℕ) (refused : Bool) → length input ≤ MAX_BYTES → Tells 1 input text refused → IsInputText input text refused
+  too_long : MAX_BYTES < length input → IsInputText input (length_text 1) true
+  trees : (text : List ℕ) (refused : Bool) → length input ≤ MAX_BYTES → Tells (length input) 1 input text refused → IsInputText input text refused
 
 -- the text for an input and the exit status: 1 where something is refused
 abbrev pub IsShown : List ℕ → List ℕ → ℕ → Type 0

@@ -188,7 +188,7 @@ fn put_drawn(
     ensures { OnOk result ((text : List ℕ) × DrawsFirst line.now side (strategy_of tree.now) text
         × (out.new.items ≡ out.old.items ++ (text ++ strategy_text line.now side (strategy_of tree.now)))) }
 {
-    put_first(out, line, side, tree)?;
+    put_first(alloc, out, line, side, tree)?;
     put_strategy(alloc, out, line, side, tree)
 }
 

@@ -7,6 +7,7 @@ mod laws;
 mod marks;
 mod opening;
 mod picture;
+mod refusals;
 mod running;
 mod showing;
 

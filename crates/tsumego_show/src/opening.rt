@@ -5,6 +5,7 @@ ghost use Rattle.tt_proof.specs.Strategy.{IsInOrder, IsOnBoard, strategy_of};
 ghost use Rattle.tsumego_show.specs.Drawing.{DrawsFirst, turned, turned_head, turned_text};
 
 use crate::picture::{colour_name, colour_of, put_board};
+use std::alloc::Global;
 use tt_game::{Line, Side, Turn};
 use tt_proof::{Tree, put_shown};
 use tt_sgf::NoMemory;
@@ -40,26 +41,32 @@ fn put_head(out: &mut Vec<u8>, line: &Line, turn: Turn) -> Result<(), NoMemory>
 }
 
 /// Writes who makes which turn, and the board then, behind the text.
-fn put_turned(out: &mut Vec<u8>, line: &Line, turn: &Turn) -> Result<(), NoMemory>
+fn put_turned(alloc: Global, out: &mut Vec<u8>, line: &Line, turn: &Turn) -> Result<(), NoMemory>
     requires on_board { IsOnBoard line.now.frame.size turn.now }
     requires legal { IsLegal line.now.frame line.now.state turn.now }
     ensures { OnOk result (out.new.items ≡ out.old.items ++ turned_text line.now turn.now) }
 {
     let next = after(line, *turn)?;
     put_head(out, line, *turn)?;
-    put_board(out, &next)
+    put_board(alloc, out, &next)
 }
 
 /// Writes the first turn of a side's strategy and the board then behind the text, where the side is to move and that turn is
 /// legal. `NoMemory` where memory was refused; a part may stand there then.
-pub fn put_first(out: &mut Vec<u8>, line: &Line, side: Side, tree: &Tree) -> Result<(), NoMemory>
+pub fn put_first(
+    alloc: Global,
+    out: &mut Vec<u8>,
+    line: &Line,
+    side: Side,
+    tree: &Tree,
+) -> Result<(), NoMemory>
     requires { IsInOrder line.now.frame.size (strategy_of tree.now) }
     ensures { OnOk result ((text : List ℕ) × DrawsFirst line.now side (strategy_of tree.now) text × (out.new.items ≡ out.old.items ++ text)) }
 {
     match tree.first() {
         Some(turn) => {
             if may_begin(line, side, turn) {
-                return put_turned(out, line, &turn);
+                return put_turned(alloc, out, line, &turn);
             }
             Ok(())
         }

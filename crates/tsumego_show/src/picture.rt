@@ -1,11 +1,11 @@
 //! The picture of a problem.
-ghost use Rattle.std.specs.Prelude.{◌≡◌, ◌∷◌, ◌++◌, ◌+◌, ◌*◌, ◌<◌, [], length, OnOk};
+ghost use Rattle.std.specs.Prelude.{◌≡◌, ◌∷◌, ◌++◌, ◌+◌, ◌*◌, ◌<◌, [], decimal, length, OnOk};
 ghost use Rattle.std.specs.List.{flat_map, range_with_len};
-ghost use Rattle.tt_sgf.specs.Bytes.{space};
+ghost use Rattle.tt_sgf.specs.Bytes.{newline, space};
 ghost use Rattle.tt_sgf.specs.Sizes.{point_count};
 ghost use Rattle.tt_game.specs.Game.{colour_of};
-ghost use Rattle.tsumego_show.specs.Picture.{asked_line, board_text, colour_name, columns_text, earlier_text, letter, letters_line, shown_at};
-ghost use Rattle.tsumego_show.specs.Picture.{mover_text, picture, row_line, shown_in, small_mark, stone_mark, target_text};
+ghost use Rattle.tsumego_show.specs.Picture.{asked_line, board_text, colour_name, column_letter, column_letters_line, columns_text, earlier_text, letter, letters_line, shown_at};
+ghost use Rattle.tsumego_show.specs.Picture.{mover_text, picture, row_line, row_number, shown_in, small_mark, stone_mark, target_text};
 
 use std::alloc::Global;
 use tt_board::Colour;
@@ -79,9 +79,9 @@ fn put_spaced(out: &mut Vec<u8>, mark: u8) -> Result<(), NoMemory>
     Ok(())
 }
 
-/// Writes a blank and the letter of each column behind the text.
+/// Writes a blank and the letter of SGF of each column behind the text.
 #[tactic(auto, using(crate::proofs::Texts::next_text))]
-fn put_column_letters(out: &mut Vec<u8>, size: Size) -> Result<(), NoMemory>
+fn put_sgf_letters(out: &mut Vec<u8>, size: Size) -> Result<(), NoMemory>
     ensures { OnOk result (out.new.items ≡ out.old.items ++ columns_text letter size.columns) }
 {
     for column in 0..size.columns() {
@@ -93,6 +93,39 @@ fn put_column_letters(out: &mut Vec<u8>, size: Size) -> Result<(), NoMemory>
 /// Writes the line of the columns' letters behind the text.
 fn put_letters(out: &mut Vec<u8>, size: Size) -> Result<(), NoMemory>
     ensures { OnOk result (out.new.items ≡ out.old.items ++ letters_line size) }
+{
+    out.push(b' ')?;
+    put_sgf_letters(out, size)?;
+    out.push(b'\n')?;
+    Ok(())
+}
+
+/// The letter of a column as editors have it, who leave out I.
+pub fn column_letter(column: u16) -> u8
+    requires { column < 19 }
+    ensures { result ≡ column_letter column }
+{
+    if column < 8 {
+        b'A' + column as u8
+    } else {
+        b'A' + column as u8 + 1
+    }
+}
+
+/// Writes a blank and the editors' letter of each column behind the text.
+#[tactic(auto, using(crate::proofs::Texts::next_text))]
+fn put_column_letters(out: &mut Vec<u8>, size: Size) -> Result<(), NoMemory>
+    ensures { OnOk result (out.new.items ≡ out.old.items ++ columns_text column_letter size.columns) }
+{
+    for column in 0..size.columns() {
+        put_spaced(out, column_letter(column))?;
+    }
+    Ok(())
+}
+
+/// Writes the line of the editors' letters of the columns behind the text.
+fn put_editor_letters(out: &mut Vec<u8>, size: Size) -> Result<(), NoMemory>
+    ensures { OnOk result (out.new.items ≡ out.old.items ++ column_letters_line size) }
 {
     out.push(b' ')?;
     put_column_letters(out, size)?;
@@ -113,35 +146,46 @@ fn put_marks(out: &mut Vec<u8>, line: &Line, row: u16) -> Result<(), NoMemory>
     Ok(())
 }
 
+/// Writes the number of a row as editors have it behind the text, and ends the line.
+fn put_row_number(alloc: Global, out: &mut Vec<u8>, size: Size, row: u16) -> Result<(), NoMemory>
+    requires { row < size.rows }
+    ensures { OnOk result (out.new.items ≡ out.old.items ++ (space ∷ (decimal (row_number size row) ++ newline ∷ []))) }
+{
+    let number = size.rows() - row;
+    let text = format!(in alloc; " {number}\n")?;
+    out.extend_from_slice(text.as_bytes())?;
+    Ok(())
+}
+
 /// Writes a row of the board behind the text.
-fn put_row(out: &mut Vec<u8>, line: &Line, row: u16) -> Result<(), NoMemory>
+fn put_row(alloc: Global, out: &mut Vec<u8>, line: &Line, row: u16) -> Result<(), NoMemory>
     requires { row < line.now.frame.size.rows }
     ensures { OnOk result (out.new.items ≡ out.old.items ++ row_line line.now row) }
 {
     out.push(b'a' + row as u8)?;
     put_marks(out, line, row)?;
-    out.push(b'\n')?;
-    Ok(())
+    put_row_number(alloc, out, line.frame().size, row)
 }
 
 /// Writes the rows of the board behind the text.
 #[tactic(auto, using(crate::proofs::Texts::next_text))]
-fn put_rows(out: &mut Vec<u8>, line: &Line) -> Result<(), NoMemory>
+fn put_rows(alloc: Global, out: &mut Vec<u8>, line: &Line) -> Result<(), NoMemory>
     ensures { OnOk result (out.new.items ≡ out.old.items ++ flat_map (row_line line.now) (range_with_len 0 line.now.frame.size.rows)) }
 {
     for row in 0..line.frame().size.rows() {
-        put_row(out, line, row)?;
+        put_row(alloc, out, line, row)?;
     }
     Ok(())
 }
 
 /// Writes the board behind the text.
-pub fn put_board(out: &mut Vec<u8>, line: &Line) -> Result<(), NoMemory>
+pub fn put_board(alloc: Global, out: &mut Vec<u8>, line: &Line) -> Result<(), NoMemory>
     ensures { OnOk result (out.new.items ≡ out.old.items ++ board_text line.now) }
 {
     let size = line.frame().size;
     put_letters(out, size)?;
-    put_rows(out, line)
+    put_rows(alloc, out, line)?;
+    put_editor_letters(out, size)
 }
 
 /// The name of a colour.
@@ -185,14 +229,14 @@ fn put_target(out: &mut Vec<u8>, line: &Line) -> Result<(), NoMemory>
 }
 
 /// How many positions came before the present one.
-fn earlier_count(line: &Line) -> usize
+pub fn earlier_count(line: &Line) -> usize
     ensures { result ≡ length line.now.state.earlier }
 {
     line.history().len() - 1
 }
 
 /// Writes how many positions came before, where any did, behind the text.
-fn put_earlier(alloc: Global, out: &mut Vec<u8>, count: usize) -> Result<(), NoMemory>
+pub fn put_earlier(alloc: Global, out: &mut Vec<u8>, count: usize) -> Result<(), NoMemory>
     ensures { OnOk result (out.new.items ≡ out.old.items ++ earlier_text count) }
 {
     if count == 0 {
@@ -219,11 +263,11 @@ fn put_asked(alloc: Global, out: &mut Vec<u8>, line: &Line) -> Result<(), NoMemo
 }
 
 /// Writes the picture of the problem at a line behind the text: who moves, how many positions came before, and the board with
-/// the letters of SGF. T is a target, X and O are stones of Black and White, small letters are stones on a point of the region, + is an empty point of the
+/// the letters of SGF above and on the left, and the coordinates of editors below and on the right. T is a target, X and O are stones of Black and White, small letters are stones on a point of the region, + is an empty point of the
 /// region and . another one. `NoMemory` where memory was refused; a part may stand there then.
 pub fn put_picture(alloc: Global, out: &mut Vec<u8>, line: &Line) -> Result<(), NoMemory>
     ensures { OnOk result (out.new.items ≡ out.old.items ++ picture line.now) }
 {
     put_asked(alloc, out, line)?;
-    put_board(out, line)
+    put_board(alloc, out, line)
 }

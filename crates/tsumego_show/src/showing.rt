@@ -1,23 +1,15 @@
 //! The text for an input.
 ghost use Rattle.std.specs.Prelude.{◌≡◌, ◌++◌, if◌then◌else◌, ℕ, List, IfOk, OnOk, Ok};
 ghost use Rattle.tt_game.specs.Problems.{problem_of};
-ghost use Rattle.tsumego_show.specs.Shown.{DrawsBehind, IsShown, IsTreeText, is_no_problem, problem_text, refusal};
+ghost use Rattle.tsumego_show.specs.Shown.{DrawsBehind, IsProblemText, IsShown, IsTreeText, is_no_problem, problem_text};
 
 use crate::drawing::put_certificate;
 use crate::hints::put_hints;
 use crate::picture::put_picture;
+use crate::refusals::{put_fault, put_length, put_syntax};
 use std::alloc::Global;
 use tt_game::{GameFault, Line, problem};
 use tt_sgf::{MainLine, NoMemory, SgfFault, has_tree, read_tree, trim};
-
-/// Writes the line of a refusal behind the text.
-fn put_refusal(alloc: Global, out: &mut Vec<u8>, number: usize, code: u8) -> Result<(), NoMemory>
-    ensures { OnOk result (out.new.items ≡ out.old.items ++ refusal number code) }
-{
-    let text = format!(in alloc; "{number} refused {code}\n")?;
-    out.extend_from_slice(text.as_bytes())?;
-    Ok(())
-}
 
 /// Writes the text on what follows a problem behind the text, where it is the last of an input.
 fn put_behind(alloc: Global, out: &mut Vec<u8>, line: &Line, behind: &[u8]) -> Result<(), NoMemory>
@@ -47,7 +39,7 @@ fn put_whole(
     line: &Line,
     behind: &[u8],
 ) -> Result<(), NoMemory>
-    ensures { OnOk result ((text : List ℕ) × IsTreeText number (Ok line.now) behind.now text × (out.new.items ≡ out.old.items ++ text)) }
+    ensures { OnOk result ((text : List ℕ) × IsProblemText number line.now behind.now text × (out.new.items ≡ out.old.items ++ text)) }
 {
     put_problem(alloc, out, number, line)?;
     put_behind(alloc, out, line, behind)
@@ -58,21 +50,21 @@ fn put_tree(
     alloc: Global,
     out: &mut Vec<u8>,
     number: usize,
-    main: &MainLine,
+    main: MainLine,
     behind: &[u8],
 ) -> Result<bool, NoMemory>
-    ensures text { OnOk result ((text : List ℕ) × IsTreeText number (problem_of main.now.nodes) behind.now text
+    ensures text { OnOk result ((text : List ℕ) × IsTreeText number main.nodes (problem_of main.nodes) behind.now text
         × (out.new.items ≡ out.old.items ++ text)) }
-    ensures refused { IfOk result (λ refused. refused ≡ is_no_problem (problem_of main.now.nodes)) }
+    ensures refused { IfOk result (λ refused. refused ≡ is_no_problem (problem_of main.nodes)) }
 {
-    match problem(alloc, main) {
+    match problem(alloc, &main) {
         Ok(line) => {
             put_whole(alloc, out, number, &line, behind)?;
             Ok(false)
         }
         Err(GameFault::NoMemory) => Err(NoMemory),
         Err(fault) => {
-            put_refusal(alloc, out, number, fault.code())?;
+            put_fault(alloc, out, number, main, fault)?;
             Ok(true)
         }
     }
@@ -97,15 +89,15 @@ pub fn show(alloc: Global, input: &[u8]) -> Result<(Vec<u8>, u8), NoMemory>
         match read_tree(alloc, rest) {
             Ok((main, used)) => {
                 rest = &rest[used..];
-                refused |= put_tree(alloc, &mut out, number, &main, rest)?;
+                refused |= put_tree(alloc, &mut out, number, main, rest)?;
                 number += 1;
             }
             Err(SgfFault::Syntax) => {
-                put_refusal(alloc, &mut out, number, 1)?;
+                put_syntax(alloc, &mut out, number, input.len() - rest.len())?;
                 return Ok((out, 1));
             }
             Err(SgfFault::TooLong) => {
-                put_refusal(alloc, &mut out, number, 2)?;
+                put_length(alloc, &mut out, number)?;
                 return Ok((out, 1));
             }
             Err(SgfFault::NoMemory) => return Err(NoMemory),

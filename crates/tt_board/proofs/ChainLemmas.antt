@@ -88,32 +88,33 @@ push_grown s c p before xs q g near like = record {
 pub grown_kept : (s : Size) (c : Colouring) (p : ℕ) (before after : List ℕ) (q : ℕ) → GrewByNeighbours s c p before after → Contains before q → Contains after q
 grown_kept s c p before after q g has = subst (λ ys. Contains ys q) (sym g.longer) (Contains-append_left before g.more q has)
 
--- a place beside p that was looked at
-pub visit_grown : (s : Size) (c : Colouring) (p : ℕ) (own : Option Colour) (place : Option ℕ) (before xs ys : List ℕ) → own ≡ entry_at c p
-    → ((q : ℕ) → place ≡ Some q → IsNeighbour s p q) → GrewByNeighbours s c p before xs → IsVisited c own place xs ys → GrewByNeighbours s c p before ys
-visit_grown s c p own place before xs ys is_own near g (inl same) = subst (λ zs. GrewByNeighbours s c p before zs) (sym same) g
-visit_grown s c p own place before xs ys is_own near g (inr (q, is, like, longer)) =
+-- a neighbour beside p that was looked at
+pub visit_grown : (s : Size) (c : Colouring) (p : ℕ) (own : Option Colour) (neighbour : Option ℕ) (before xs ys : List ℕ) → own ≡ entry_at c p
+    → ((q : ℕ) → neighbour ≡ Some q → IsNeighbour s p q) → GrewByNeighbours s c p before xs → IsVisited c own neighbour xs ys → GrewByNeighbours s c p before ys
+visit_grown s c p own neighbour before xs ys is_own near g (inl same) = subst (λ zs. GrewByNeighbours s c p before zs) (sym same) g
+visit_grown s c p own neighbour before xs ys is_own near g (inr (q, is, like, longer)) =
     subst (λ zs. GrewByNeighbours s c p before zs) (sym longer) (push_grown s c p before xs q g (near q is) (like ∙ is_own))
 
--- what is known of the point of a place is known of the place
-pub closed_at : (c : Colouring) (own : Option Colour) (chain : List ℕ) (place : Option ℕ) (q : ℕ) → place ≡ Some q → entry_at c q ≢ None
-    → (entry_at c q ≡ own → Contains chain q) → IsClosedAt c own chain place
-closed_at c own chain place q is stone like r has =
+-- what is known of the point of a neighbour is known of the neighbour
+pub closed_at : (c : Colouring) (own : Option Colour) (chain : List ℕ) (neighbour : Option ℕ) (q : ℕ) → neighbour ≡ Some q → entry_at c q ≢ None
+    → (entry_at c q ≡ own → Contains chain q) → IsClosedAt c own chain neighbour
+closed_at c own chain neighbour q is stone like r has =
     let both : Some q ≡ Some r = sym is ∙ has in
     let same : q ≡ r = cc in
     subst (λ x. (entry_at c x ≢ None) × (entry_at c x ≡ own → Contains chain x)) same (stone, like)
 
 -- what was in the list is still there
-pub visit_kept : (c : Colouring) (own : Option Colour) (place place' : Option ℕ) (xs ys : List ℕ) → IsVisited c own place xs ys → IsClosedAt c own xs place' → IsClosedAt c own ys place'
-visit_kept c own place place' xs ys (inl same) h q is = ((h q is).0, λ like. subst (λ zs. Contains zs q) (sym same) ((h q is).1 like))
-visit_kept c own place place' xs ys (inr (r, _, _, longer)) h q is =
+pub visit_kept : (c : Colouring) (own : Option Colour) (neighbour neighbour' : Option ℕ) (xs ys : List ℕ) →
+    IsVisited c own neighbour xs ys → IsClosedAt c own xs neighbour' → IsClosedAt c own ys neighbour'
+visit_kept c own neighbour neighbour' xs ys (inl same) h q is = ((h q is).0, λ like. subst (λ zs. Contains zs q) (sym same) ((h q is).1 like))
+visit_kept c own neighbour neighbour' xs ys (inr (r, _, _, longer)) h q is =
     ((h q is).0, λ like. subst (λ zs. Contains zs q) (sym longer) (Contains-append_left xs (r ∷ []) q ((h q is).1 like)))
 
--- an empty place beside a stone is a liberty
-pub liberty_at : (s : Size) (c : Colouring) (p : ℕ) (place : Option ℕ) → entry_at c p ≢ None → ((q : ℕ) → place ≡ Some q → IsNeighbour s p q) → IsEmptyAt c place → Reaches s c p None
-liberty_at s c p place stone near (q, is, bare) = reaches_beside s c None p q stone (near q is) bare
+-- an empty neighbour beside a stone is a liberty
+pub liberty_at : (s : Size) (c : Colouring) (p : ℕ) (neighbour : Option ℕ) → entry_at c p ≢ None → ((q : ℕ) → neighbour ≡ Some q → IsNeighbour s p q) → IsEmptyAt c neighbour → Reaches s c p None
+liberty_at s c p neighbour stone near (q, is, bare) = reaches_beside s c None p q stone (near q is) bare
 
--- a stone is enclosed where its four places are
+-- a stone is enclosed where its four neighbours are
 pub closed_around : (s : Size) (c : Colouring) (p : ℕ) (own : Option Colour) (chain : List ℕ) (a l r b : Option ℕ) → own ≡ entry_at c p
     → ((q : ℕ) → IsNeighbour s p q → IsOneOf a l r b q) → IsClosedAt c own chain a → IsClosedAt c own chain b → IsClosedAt c own chain l → IsClosedAt c own chain r
     → IsEnclosed s c chain p
@@ -155,19 +156,19 @@ enclosed_kept : (s : Size) (c : Colouring) (p : ℕ) (before after : List ℕ) �
 enclosed_kept s c p before after g q h r near = let k = h r near in (k.0, λ like. grown_kept s c p before after r g (k.1 like))
 
 -- the list keeps its first items where they are
-same_place : (s : Size) (c : Colouring) (p : ℕ) (before after : List ℕ) (k : ℕ) → GrewByNeighbours s c p before after → k < length before → get_or after k 0 ≡ get_or before k 0
-same_place s c p before after k g below = ap (λ xs. get_or xs k 0) g.longer ∙ get_or_append_left before g.more 0 k below
+same_neighbour : (s : Size) (c : Colouring) (p : ℕ) (before after : List ℕ) (k : ℕ) → GrewByNeighbours s c p before after → k < length before → get_or after k 0 ≡ get_or before k 0
+same_neighbour s c p before after k g below = ap (λ xs. get_or xs k 0) g.longer ∙ get_or_append_left before g.more 0 k below
 
 -- one more of its points is enclosed
 pub enclosed_more : (s : Size) (c : Colouring) (p : ℕ) (before after : List ℕ) (i : ℕ) → GrewByNeighbours s c p before after → i < length before → get_or before i 0 ≡ p → IsEnclosed s c after p
     → ((k : ℕ) → k < i → IsEnclosed s c before (get_or before k 0)) → (k : ℕ) → k < i + 1 → IsEnclosed s c after (get_or after k 0)
 enclosed_more s c p before after i g below is here earlier k lt =
     elim (cases_eq k i) [
-      | inl same ↦ subst (λ x. IsEnclosed s c after x) (sym (ap (λ j. get_or after j 0) same ∙ same_place s c p before after i g below ∙ is)) here
-      | inr apart ↦ subst (λ x. IsEnclosed s c after x) (sym (same_place s c p before after k g (omega arith))) (enclosed_kept s c p before after g (get_or before k 0) (earlier k (omega arith)))
+      | inl same ↦ subst (λ x. IsEnclosed s c after x) (sym (ap (λ j. get_or after j 0) same ∙ same_neighbour s c p before after i g below ∙ is)) here
+      | inr apart ↦ subst (λ x. IsEnclosed s c after x) (sym (same_neighbour s c p before after k g (omega arith))) (enclosed_kept s c p before after g (get_or before k 0) (earlier k (omega arith)))
     ]
 
--- once each place of the list is looked at, each of its points is enclosed
+-- once each neighbour of the list is looked at, each of its points is enclosed
 pub enclosed_all : (s : Size) (c : Colouring) (chain : List ℕ) (i : ℕ) → length chain ≤ i → ((k : ℕ) → k < i → IsEnclosed s c chain (get_or chain k 0)) → (p : ℕ) → Contains chain p
     → IsEnclosed s c chain p
 enclosed_all s c chain i past each p has = subst (λ x. IsEnclosed s c chain x) (get_or_default chain has.0 0 p has.1 ∙ has.2) (each has.0 (omega (arith, has.1)))

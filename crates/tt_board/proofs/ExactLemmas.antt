@@ -56,11 +56,11 @@ listed f (suc n) =
           )
     ]
 
--- a count over a list of names is one over its places
-over_places : (ns : List ℕ) (e n : ℕ) → n ≤ length ns → count_by (λ x. eqb x e) (take n ns) ≡ count_by (λ q. eqb (name_at ns q) e) (range_with_len 0 n)
-over_places ns e zero few = refl
-over_places ns e (suc n) few =
-    let before = over_places ns e n (omega arith) in
+-- a count over a list of names is one over its points
+over_indices : (ns : List ℕ) (e n : ℕ) → n ≤ length ns → count_by (λ x. eqb x e) (take n ns) ≡ count_by (λ q. eqb (name_at ns q) e) (range_with_len 0 n)
+over_indices ns e zero few = refl
+over_indices ns e (suc n) few =
+    let before = over_indices ns e n (omega arith) in
     let more = score_more (λ q. eqb (name_at ns q) e) n in
     let step : count_by (λ x. eqb x e) (take (n + 1) ns) ≡ count_by (λ q. eqb (name_at ns q) e) (range_with_len 0 (n + 1)) =
     elim (cases_Bool (eqb (name_at ns n) e)) [
@@ -103,7 +103,7 @@ module _ (b : ChainBoard) (p : ℕ) (is : IsChainBoard b) (in_p : p < point_coun
       let e = name_at b.names p in
       let whole = ap (count_by (λ x. eqb x e)) (take_all (length b.names) b.names (omega arith)) in
       recount _ _ _ _ (listed (λ q. eqb (name_at b.names q) e) (length b.names))
-      (is.counted.stones_true p some ∙ sym whole ∙ over_places b.names e (length b.names) (omega arith))
+      (is.counted.stones_true p some ∙ sym whole ∙ over_indices b.names e (length b.names) (omega arith))
       (λ q. (
         λ h. (of_chain q).0 (eqb-true (name_at b.names q) e h.1),
         λ link.

@@ -68,11 +68,11 @@ code_colour (Some White) n Black h code = absurd (omega arith)
 pub colour_code : (e : Option Colour) (n : ℕ) (k : Colour) → IsNamed e n → e ≡ Some k → n / 512 ≡ colour_number k
 colour_code e n k h is = subst (λ x. IsNamed x n) is h
 
--- a colouring in which some places are bare
+-- a colouring in which some points are bare
 pub emptied : Size → (ℕ → Bool) → Colouring → Colouring
 emptied s test c = map (λ q. cond (test q) None (entry_at c q)) (range_with_len 0 (point_count s))
 
--- it has as many places, the ones meant are bare, and the others as they were
+-- it has as many points, the ones meant are bare, and the others as they were
 length-emptied : (s : Size) (test : ℕ → Bool) (c : Colouring) → length (emptied s test c) ≡ point_count s
 unfolding emptied
 length-emptied s test c = length-map-range_with_len (λ q. cond (test q) None (entry_at c q)) 0 (point_count s)
@@ -197,8 +197,8 @@ module _ (b : ChainBoard) (k : Colour) (p : ℕ) (is : IsChainBoard b) (in_p : p
           (lifted_none b.size (set b.points p (Some k)) k fits) (λ _. inl own_reaches))
 
     -- and only stones of the opponent's are beside p: the stone goes at once, alone
-    pub put_vain : ((q : ℕ) → IsNeighbour b.size p q → (entry_at b.points q ≢ None) × (entry_at b.points q ≢ Some k)) → play_of b.size b.points k p ≡ b.points
-    put_vain closed =
+    pub put_single_suicide : ((q : ℕ) → IsNeighbour b.size p q → (entry_at b.points q ≢ None) × (entry_at b.points q ≢ Some k)) → play_of b.size b.points k p ≡ b.points
+    put_single_suicide closed =
         let put = set b.points p (Some k) in
         let alone : IsLifted b.size put k b.points = lifted_set b.size put b.points k (λ q. q ≡ p) is.fits
         (λ q. elim (cases_eq q p) [

@@ -23,7 +23,7 @@ module _ (s : Size) (ns near : List ℕ) (p : ℕ) (roots : (m : ℕ) → Touche
       let t = near_living i in' in
       roots (name_at near i) t.1 t.0 (Contains-get_or near i 0 in')
 
-  -- the roots are places, and differ
+  -- the roots are points, and differ
   pub near_below : (i : ℕ) → i < length near → root_of (name_at near i) < length ns
   near_below i in' = root_below ns (name_at near i) (near_living i in').0 (near_rooted i in')
 

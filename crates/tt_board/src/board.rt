@@ -209,7 +209,7 @@ impl Board {
         self.size == size
     }
 
-    /// The colouring as an array, row by row; places past the last point hold none.
+    /// The colouring as an array, row by row; points past the last point hold none.
     pub fn entries(&self) -> [Option<Colour>; 361]
         ensures shown { take (point_count self.now.size) result ≡ self.now.points }
         ensures wide { length result ≡ MOST_POINTS }

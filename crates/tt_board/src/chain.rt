@@ -13,23 +13,23 @@ use crate::near::{Neighbours, beside};
 use arrayvec::ArrayVec;
 use tt_sgf::{Bits, Size};
 
-/// Looks at a place beside a stone: adds it to the chain where it is like `own` and new there; whether it is empty.
+/// Looks at a neighbour beside a stone: adds it to the chain where it is like `own` and new there; whether it is empty.
 fn visit(
     points: &Colouring,
     own: Option<Colour>,
-    place: Option<usize>,
+    neighbour: Option<usize>,
     marks: &mut Bits,
     chain: &mut ArrayVec<u16, 361>,
 ) -> bool
     requires small { length points.now ≤ MOST_POINTS }
-    requires on_board { (q : ℕ) → place ≡ Some q → q < length points.now }
+    requires on_board { (q : ℕ) → neighbour ≡ Some q → q < length points.now }
     requires growing { IsGrowing (marks_on marks.old.words) chain.old.items }
     ensures still_growing { IsGrowing (marks_on marks.new.words) chain.new.items }
-    ensures visited { IsVisited points.now own place chain.old.items chain.new.items }
-    ensures liberty { IsTrue result → IsEmptyAt points.now place }
-    ensures enclosed { result ≡ false → IsClosedAt points.now own chain.new.items place }
+    ensures visited { IsVisited points.now own neighbour chain.old.items chain.new.items }
+    ensures liberty { IsTrue result → IsEmptyAt points.now neighbour }
+    ensures enclosed { result ≡ false → IsClosedAt points.now own chain.new.items neighbour }
 {
-    let Some(q) = place else {
+    let Some(q) = neighbour else {
         return false;
     };
     let entry = points.at(q);
@@ -75,18 +75,18 @@ fn grow(
     visit(points, own, near.right, marks, chain)
 }
 
-/// Whether a place is there and empty.
-fn is_empty_at(points: &Colouring, place: Option<usize>) -> bool
-    requires { (q : ℕ) → place ≡ Some q → q < length points.now }
-    ensures { IsTrue result → IsEmptyAt points.now place }
+/// Whether a neighbour is there and empty.
+fn is_empty_at(points: &Colouring, neighbour: Option<usize>) -> bool
+    requires { (q : ℕ) → neighbour ≡ Some q → q < length points.now }
+    ensures { IsTrue result → IsEmptyAt points.now neighbour }
 {
-    match place {
+    match neighbour {
         Some(q) => points.at(q).is_none(),
         None => false,
     }
 }
 
-/// Whether one of the places is empty.
+/// Whether one of the points is empty.
 pub(crate) fn has_empty(points: &Colouring, near: Neighbours) -> bool
     requires { (q : ℕ) → IsOneOf near.above near.left near.right near.below q → q < length points.now }
     ensures { IsTrue result → (q : ℕ) × IsOneOf near.above near.left near.right near.below q × (entry_at points.now q ≡ None) }

@@ -15,29 +15,29 @@ use crate::colouring::Colouring;
 use crate::near::{Neighbours, beside};
 use tt_sgf::Size;
 
-/// Lifts the chain of `colour` on a place, found on `points`, from `after`, where it has no liberty.
+/// Lifts the chain of `colour` on a point, found on `points`, from `after`, where it has no liberty.
 fn capture_at(
     size: Size,
     points: &Colouring,
     colour: Colour,
-    place: Option<usize>,
+    index: Option<usize>,
     after: &mut Colouring,
 )
     requires fits { length points.now ≡ point_count size }
-    requires on_board { (q : ℕ) → place ≡ Some q → q < point_count size }
+    requires on_board { (q : ℕ) → index ≡ Some q → q < point_count size }
     requires lifted { IsLifted size points.now colour after.old }
     ensures still_lifted { IsLifted size points.now colour after.new }
-    ensures looked { (q : ℕ) → place ≡ Some q → entry_at points.now q ≡ Some colour → Reaches size points.now q None ⊎ (entry_at after.new q ≡ None) }
+    ensures looked { (q : ℕ) → index ≡ Some q → entry_at points.now q ≡ Some colour → Reaches size points.now q None ⊎ (entry_at after.new q ≡ None) }
     ensures kept { (x : ℕ) → entry_at after.old x ≡ None → entry_at after.new x ≡ None }
 {
-    if let Some(q) = place {
+    if let Some(q) = index {
         if points.at(q) == Some(colour) && !has_liberty(size, points, q) {
             lift_lifeless(size, points, q, after);
         }
     }
 }
 
-/// Lifts the chains of `colour` on the places, found on `points`, from `after`, where they have no liberty.
+/// Lifts the chains of `colour` on the points, found on `points`, from `after`, where they have no liberty.
 fn capture_beside(
     size: Size,
     points: &Colouring,

@@ -8,7 +8,8 @@ use Rattle.tt_game.specs.laws.Members.{IsIn, in_of_contains, contains_of_in}
 use Rattle.tt_game.specs.declared.frame.Frame.{Frame}
 use Rattle.tt_proof.specs.declared.footprints.Footprint.{Footprint}
 use Rattle.tt_proof.specs.Strategy.{Strategy}
-use Rattle.tt_proof.specs.Proven.{Proven, IsWon, StandsAt, FitsAt}
+use Rattle.tt_proof.specs.Proven.{Proven, IsWon, StandsAt}
+use Rattle.tt_proof.specs.Footprints.{FitsAt}
 use Rattle.tt_proof.specs.KeptFootprints.{IsFootprint, AreSized, frame_board}
 use Rattle.tt_proof.proofs.FootprintLemmas.{board_is}
 use Rattle.tt_proof.proofs.FitsLemmas.{fitting_wins}

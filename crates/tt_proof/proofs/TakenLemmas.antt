@@ -9,8 +9,8 @@ use Rattle.tt_game.specs.laws.Members.{IsIn, in_of_contains, contains_of_in}
 use Rattle.tt_game.specs.declared.frame.Frame.{Frame}
 use Rattle.tt_proof.specs.declared.footprints.Footprint.{Footprint}
 use Rattle.tt_proof.specs.Bounds.{IsWithin}
-use Rattle.tt_proof.specs.Proven.{Proven, IsWon, FitsAt}
-use Rattle.tt_proof.specs.Footprints.{IsMet}
+use Rattle.tt_proof.specs.Proven.{Proven, IsWon}
+use Rattle.tt_proof.specs.Footprints.{IsMet, FitsAt}
 use Rattle.tt_proof.specs.KeptFootprints.{IsFootprint, frame_board}
 use Rattle.tt_proof.proofs.CarryLemmas.{footprint_carried}
 use Rattle.tt_proof.proofs.FittingLemmas.{board_in}

@@ -9,7 +9,8 @@ ghost use Rattle.tt_game.specs.declared.turns.Turn.{Turn};
 ghost use Rattle.tt_proof.specs.declared.tree.TheConstants.{MOST_DEPTH};
 ghost use Rattle.tt_proof.specs.Strategy.{pick, reply, done, depth, strategy_of, IsInOrder, entries_of};
 ghost use Rattle.tt_proof.specs.Nodes.{nodes};
-ghost use Rattle.tt_proof.specs.Proven.{IsWon, StandsAt, FitsAt, IsChild, AreChildren, turns_of, trees_of, first_of};
+ghost use Rattle.tt_proof.specs.Proven.{IsWon, StandsAt, IsChild, AreChildren, turns_of, trees_of, first_of};
+ghost use Rattle.tt_proof.specs.Footprints.{FitsAt};
 ghost use Rattle.tt_proof.specs.KeptFootprints.{IsFootprint};
 ghost use Rattle.tt_proof.specs.Rejections.{IsRejected};
 

@@ -6,7 +6,7 @@ use Rattle.tt_search.specs.PartialTree.{PartialTree}
 use Rattle.tt_search.specs.inside.Walking.{Stand, Stage}
 use Rattle.tt_search.specs.inside.Taken.{Taken, IsLeft}
 use Rattle.tt_search.specs.Searched.{Searched}
-use Rattle.tt_search.specs.Ended.{HasSpent, SpentBy}
+use Rattle.tt_search.specs.RunEnds.{HasSpent, SpentBy}
 use Rattle.tt_search.specs.declared.search.End.TheVariants as end
 use Rattle.tt_search.specs.declared.limits.Reason.{Reason}
 use Rattle.tt_search.specs.declared.limits.Reason.TheVariants.{Budget, Depth, Total, Memory}

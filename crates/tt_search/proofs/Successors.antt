@@ -12,7 +12,7 @@ use Rattle.tt_search.specs.PartialTree.{PartialTree, more, expanded}
 use Rattle.tt_search.specs.inside.Children.{children_of}
 use Rattle.tt_search.specs.declared.tree.edges.Edge.{Edge}
 use Rattle.tt_search.specs.inside.Edges.{edge_turn, edge_state_of, tree_of, edge_turns, edge_trees}
-use Rattle.tt_search.proofs.Places.{turns_push, trees_push}
+use Rattle.tt_search.proofs.Indices.{turns_push, trees_push}
 use Rattle.tt_search.specs.Growing.{leaf_for, new_leaf, new_leaves, expansion}
 
 -- the turns of the successors of turns are these turns

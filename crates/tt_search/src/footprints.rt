@@ -157,9 +157,9 @@ fn picked(
         (pick_at side (first_settled side (children_in children.now)) (edge_turns children.now.edges) (children_in children.now)) x) }
     ensures same { line.new ≡ line.old }
 {
-    let (place, rank) = children.first_settled(side);
-    let turn = children.edges.at(place).turn();
-    let child = children.child(place, rank);
+    let (index, rank) = children.first_settled(side);
+    let turn = children.edges.at(index).turn();
+    let child = children.child(index, rank);
     let (board, behind) = child.footprint_behind(alloc, turn, line, side)?;
     Footprint::picked(alloc, line, &turn, &board, behind)
 }

@@ -307,18 +307,18 @@ impl ChildNodes {
     ) -> (Step, Pair)
         requires kept { IsKept focus.old self.old }
         requires was { ArePair focus.old.mover (node_with (choices_of focus.old.mover self.old)) was }
-        requires there { focus.old.place < length self.old.edges }
-        requires ready { MayDescend walk.old (child_of self.old focus.old.place) (G.asked grants.old) }
+        requires there { focus.old.index < length self.old.edges }
+        requires ready { MayDescend walk.old (child_of self.old focus.old.index) (G.asked grants.old) }
         ensures descends { Descends G.asked G.source S.may_answer stop walk.old grants.old result.0 walk.new grants.new }
         ensures steps { BestSteps stop walk.old (choices_of focus.old.mover self.old) result.0 (choices_of focus.new.mover self.new) walk.new }
         ensures kept { IsKept focus.new self.new }
         ensures numbers { ArePair focus.new.mover (node_with (choices_of focus.new.mover self.new)) result.1 }
     {
-        let (place, rank) = (usize::from(focus.place), usize::from(focus.rank));
+        let (index, rank) = (usize::from(focus.index), usize::from(focus.rank));
         let goal = focus.mover.opponent();
-        let old = self.child(place, rank).number(goal);
-        let step = self.grow_at(place, rank, walk, stop, store, grants);
-        let child = self.child(place, rank);
+        let old = self.child(index, rank).number(goal);
+        let step = self.grow_at(index, rank, walk, stop, store, grants);
+        let child = self.child(index, rank);
         let own = child.number(focus.mover);
         let new = child.number(goal);
         let other = self.sum_after(focus.mover, was.other, old, new);
@@ -326,7 +326,7 @@ impl ChildNodes {
             return (step, Pair { own, other });
         }
         let best = self.best(focus.mover, was.own);
-        focus.place = best.place;
+        focus.index = best.index;
         focus.rank = best.rank;
         let own = best.least;
         (step, Pair { own, other })
@@ -340,25 +340,25 @@ impl ChildNodes {
     #[inline(always)]
     fn grow_at<S: Store, G: Grants>(
         &mut self,
-        place: usize,
+        index: usize,
         rank: usize,
         walk: &mut Walk,
         stop: Stop,
         store: &mut S,
         grants: &mut G,
     ) -> Step
-        requires there { place < length self.old.edges }
-        requires rank { IsRank rank place self.old }
+        requires there { index < length self.old.edges }
+        requires rank { IsRank rank index self.old }
         requires whole { HasItsNodes self.old }
-        requires ready { MayDescend walk.old (child_of self.old place) (G.asked grants.old) }
+        requires ready { MayDescend walk.old (child_of self.old index) (G.asked grants.old) }
         ensures descends { Descends G.asked G.source S.may_answer stop walk.old grants.old result walk.new grants.new }
         ensures whole { HasItsNodes self.new }
-        ensures before { take place self.new.edges ≡ take place self.old.edges }
-        ensures steps { StepsBelow stop walk.old place self.old result self.new walk.new }
+        ensures before { take index self.new.edges ≡ take index self.old.edges }
+        ensures steps { StepsBelow stop walk.old index self.old result self.new walk.new }
     {
-        match self.edges.at(place).edge_state() {
+        match self.edges.at(index).edge_state() {
             EdgeState::Grown => self.grown[rank].grow(walk, stop, store, grants),
-            EdgeState::Fresh => self.sprout(place, rank, walk, store, grants),
+            EdgeState::Fresh => self.sprout(index, rank, walk, store, grants),
             EdgeState::Won(_) => unreachable!(),
         }
     }
@@ -369,7 +369,7 @@ impl ChildNodes {
     #[inline(always)]
     fn sprout<S: Store, G: Grants>(
         &mut self,
-        place: usize,
+        index: usize,
         rank: usize,
         walk: &mut Walk,
         store: &mut S,
@@ -377,14 +377,14 @@ impl ChildNodes {
     ) -> Step
         requires open { winner_of walk.old.line.frame walk.old.line.state ≡ None }
         requires whole { HasItsNodes self.old }
-        requires there { IsFreshAt place self.old.edges }
-        requires rank { IsRank rank place self.old }
+        requires there { IsFreshAt index self.old.edges }
+        requires rank { IsRank rank index self.old }
         requires grants { (G.asked grants.old).granted + walk.old.left < 2 ^ 64 }
         ensures descends { Descends G.asked G.source S.may_answer OneStep walk.old grants.old result walk.new grants.new }
         ensures kept { (reason : _) → result ≡ Stuck reason → S.kept store.new ≡ S.kept store.old }
         ensures whole { HasItsNodes self.new }
-        ensures before { take place self.new.edges ≡ take place self.old.edges }
-        ensures sprouts { Sprouts walk.old place self.old result self.new walk.new }
+        ensures before { take index self.new.edges ≡ take index self.old.edges }
+        ensures sprouts { Sprouts walk.old index self.old result self.new walk.new }
     {
         if self.grown.reserve_exact(1).is_err() {
             return Step::Stuck(Reason::Memory);
@@ -395,8 +395,8 @@ impl ChildNodes {
             let _fresh = self.grown.remove(rank);
             return Step::Stuck(reason);
         }
-        let edge = self.edges.at(place).grown();
-        self.edges.set(place, edge);
+        let edge = self.edges.at(index).grown();
+        self.edges.set(index, edge);
         step
     }
 }

@@ -154,7 +154,7 @@ pub(crate) fn untried_children(
     let edges = plays.row(alloc)?;
     let focus = BestChild {
         mover,
-        place: 0,
+        index: 0,
         rank: 0,
     };
     let grown = Vec::with_capacity(alloc, edges.len())?;

@@ -82,7 +82,7 @@ pub(crate) fn win_at(ends: &[Option<JobResult>], side: Side) -> Option<usize>
     None
 }
 
-/// Whether there is such a place, with no result.
+/// Whether there is such a slot, with no result.
 fn is_free_in(ends: &[Option<JobResult>], job: usize) -> bool
     ensures free { IsTrue result ↔ (slice_get ends.now job ≡ Some None) }
     ensures filled { result ≡ false → job < length ends.now → HasResult ends.now job }
@@ -90,7 +90,7 @@ fn is_free_in(ends: &[Option<JobResult>], job: usize) -> bool
     job < ends.len() && ends[job].is_none()
 }
 
-/// Writes a result at its place.
+/// Writes a result at its slot.
 fn fill(ends: &mut Vec<Option<JobResult>>, job: usize, end: JobResult)
     requires { job < vec_len ends.old }
     ensures filled { ends.new.items ≡ slice_set ends.old.items job (Some end) }
@@ -179,7 +179,7 @@ impl<'a> Results<'a> {
         is_free_in(self.ends.as_slice(), job)
     }
 
-    /// Puts a result at the place of its job. A double and a stranger are dropped.
+    /// Puts a result at the slot of its job. A double and a stranger are dropped.
     pub fn put(&mut self, searched: SearchedJob)
         requires searched { IsResult self.old.line self.old.limits searched }
         ensures same { self.new ≡ record self.old { ends = self.new.ends; spent = self.new.spent } }

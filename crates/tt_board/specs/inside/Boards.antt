@@ -58,14 +58,14 @@ pub record IsHalf (here there : Colouring) (n : ℕ) (c : Colouring) : Type 0 wh
 abbrev pub AreAlikeBy : ℕ → ℕ → Colouring → Colouring → Type 0
 AreAlikeBy word from here there = (i : ℕ) → i < 64 → bit_at word i ≡ 0 → entry_at here (from + i) ≡ entry_at there (from + i)
 
--- the edits from one place on finish a colouring next, and lead on from it behind another place
+-- the edits from one index on finish a colouring next, and lead on from it behind another index
 pub record FinishesNext (es : List Edit) (from to : ℕ) (c next : Colouring) : Type 0 where
   pub on : from < to
   pub inside : to ≤ length es
   pub colourings : colourings_from c (drop from es) ≡ next ∷ colourings_from next (drop to es)
   pub end : led c (drop from es) ≡ led next (drop to es)
 
--- the edits from one place on finish no colouring, and lead to the end
+-- the edits from one index on finish no colouring, and lead to the end
 pub record IsLast (es : List Edit) (from : ℕ) (c end : Colouring) : Type 0 where
   pub none : colourings_from c (drop from es) ≡ []
   pub led_on : led c (drop from es) ≡ end

@@ -35,17 +35,17 @@ pub record GrewByNeighbours (s : Size) (c : Colouring) (p : ℕ) (before after :
   pub longer : after ≡ before ++ more
   pub added : (q : ℕ) → Contains after q → Contains before q ⊎ (IsNeighbour s p q × (entry_at c q ≡ entry_at c p))
 
--- a place is there and empty
+-- a neighbour is there and empty
 abbrev pub IsEmptyAt : Colouring → Option ℕ → Type 0
-IsEmptyAt c place = (q : ℕ) × (place ≡ Some q) × (entry_at c q ≡ None)
+IsEmptyAt c neighbour = (q : ℕ) × (neighbour ≡ Some q) × (entry_at c q ≡ None)
 
--- a place, where there is one, isn't empty, and is in the chain if its entry is the chain's own
+-- a neighbour, where there is one, isn't empty, and is in the chain if its entry is the chain's own
 abbrev pub IsClosedAt : Colouring → Option Colour → List ℕ → Option ℕ → Type 0
-IsClosedAt c own chain place = (q : ℕ) → place ≡ Some q → (entry_at c q ≢ None) × (entry_at c q ≡ own → Contains chain q)
+IsClosedAt c own chain neighbour = (q : ℕ) → neighbour ≡ Some q → (entry_at c q ≢ None) × (entry_at c q ≡ own → Contains chain q)
 
--- the list stayed, or a place with the chain's own entry came to its end
+-- the list stayed, or a neighbour with the chain's own entry came to its end
 abbrev pub IsVisited : Colouring → Option Colour → Option ℕ → List ℕ → List ℕ → Type 0
-IsVisited c own place before after = (after ≡ before) ⊎ ((q : ℕ) × (place ≡ Some q) × (entry_at c q ≡ own) × (after ≡ before ++ q ∷ []))
+IsVisited c own neighbour before after = (after ≡ before) ⊎ ((q : ℕ) × (neighbour ≡ Some q) × (entry_at c q ≡ own) × (after ≡ before ++ q ∷ []))
 
 -- the whole chain of a stone that doesn't reach empty
 pub record IsLifelessChain (s : Size) (c : Colouring) (start : ℕ) (chain : List ℕ) : Type 0 where

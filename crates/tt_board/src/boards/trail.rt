@@ -1,4 +1,4 @@
-//! Boards one after another, kept by how they differ from a board that many share: what has been played since a place takes a few
+//! Boards one after another, kept by how they differ from a board that many share: what has been played since a board takes a few
 //! bytes for each turn, and no board of its own.
 
 ghost use Rattle.std.specs.Prelude.{◌≡◌, ◌↔◌, List, ◌∷◌, ◌++◌, [], All, IsTrue, IfOk, MatchOption};

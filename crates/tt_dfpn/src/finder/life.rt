@@ -6,7 +6,7 @@
 ghost use Rattle.std.specs.Prelude.{◌≡◌, ◌<◌};
 
 use crate::finder::board::{SearchBoard, index};
-use crate::finder::region::{Places, Region};
+use crate::finder::region::{PointFlags, Region};
 
 /// How many chains and how many areas are looked at.
 const MOST: usize = 64;
@@ -76,7 +76,7 @@ impl Region {
         &self,
         board: &SearchBoard,
         p: u16,
-        seen: &mut Places,
+        seen: &mut PointFlags,
         chains: &mut Chains,
         walk: &mut Walk,
     ) -> Option<()> {
@@ -108,7 +108,7 @@ impl Region {
         &self,
         board: &SearchBoard,
         start: u16,
-        seen: &mut Places,
+        seen: &mut PointFlags,
         chains: &mut Chains,
     ) -> Option<(u64, u64)> {
         let mut walk = Walk {
@@ -139,7 +139,7 @@ impl Region {
             vital: [0; 64],
             count: 0,
         };
-        let mut seen: Places = [false; 512];
+        let mut seen: PointFlags = [false; 512];
         for p in &self.points {
             if !board.is_empty(*p) || seen[index(*p)] {
                 continue;

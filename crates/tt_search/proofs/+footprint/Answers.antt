@@ -23,7 +23,7 @@ use Rattle.tt_search.specs.declared.tree.children.Child.{Child}
 use Rattle.tt_search.specs.declared.tree.children.Child.TheVariants.{Fresh, Won}
 use Rattle.tt_search.proofs.Joins.{on_ok, picked_there, picked_here, replied_children, settled_here, replies_to, joined_here, joined_all}
 use Rattle.tt_search.proofs.Lifted.{weight_at}
-use Rattle.tt_search.proofs.Places.{length-turns_of, length-trees_of, turn_at_place, weight_step}
+use Rattle.tt_search.proofs.Indices.{length-turns_of, length-trees_of, turn_at_index, weight_step}
 use Rattle.tt_search.proofs.Replies.{picked}
 use Rattle.tt_search.proofs.Sprouted.{any_default}
 use Rattle.tt_search.proofs.OneSide.{offered_for}
@@ -44,20 +44,20 @@ by_nothing side f s x child (inr (winner, e)) foot = subst (λ k. IsFootprint f 
 
 -- ---- a node, and its children
 
-pub children::Child::footprint_behind-returns-in-Fresh-clause-exact : goal.children::Child::footprint_behind-returns-in-Fresh-clause-exact
-children::Child::footprint_behind-returns-in-Fresh-clause-exact t c =
+pub tree::children::Child::footprint_behind-returns-in-Fresh-clause-exact : goal.tree::children::Child::footprint_behind-returns-in-Fresh-clause-exact
+tree::children::Child::footprint_behind-returns-in-Fresh-clause-exact t c =
     let f = c.args.line.now.frame in
     let s = after c.args.line.now.frame c.args.line.now.state c.args.turn in
     by_nothing c.args.side f s c.empty.result c.args.self c.in-Fresh.is (c.empty.ensures f s)
 
-pub node::Node::footprint-returns-in-Won-clause-exact : goal.node::Node::footprint-returns-in-Won-clause-exact
-node::Node::footprint-returns-in-Won-clause-exact t c =
+pub tree::node::Node::footprint-returns-in-Won-clause-exact : goal.tree::node::Node::footprint-returns-in-Won-clause-exact
+tree::node::Node::footprint-returns-in-Won-clause-exact t c =
     let f = c.args.line.now.frame in
     let s = c.args.line.now.state in
     subst (λ tree. IsFootprint f s (strategy_for c.args.side tree) c.empty-in-Won.result) (sym (ap shape c.in-Won.is) ∙ c.self.view_is) (c.empty-in-Won.ensures f s)
 
-pub node::Node::footprint-offered_footprint-requires : goal.node::Node::footprint-offered_footprint-requires
-node::Node::footprint-offered_footprint-requires t c =
+pub tree::node::Node::footprint-offered_footprint-requires : goal.tree::node::Node::footprint-offered_footprint-requires
+tree::node::Node::footprint-offered_footprint-requires t c =
     let f = c.args.line.now.frame in
     let s = c.args.line.now.state in
     let p = c.in-Offered.proof.value in
@@ -67,8 +67,8 @@ node::Node::footprint-offered_footprint-requires t c =
     let won = makes_proof c.args.side f s c.args.self.now p.tree offered.1 c.requires.settled c.requires.partial c.requires.stays in
     record { wins = subst (λ (q : Proven). IsWon q.side f s q.tree) (sym c.deref-in-Offered.ensures) (subst (λ side. IsWon side f s p.tree) (sym offered.0) won) }
 
-pub node::Node::footprint-returns-in-Offered-clause-exact : goal.node::Node::footprint-returns-in-Offered-clause-exact
-node::Node::footprint-returns-in-Offered-clause-exact t c =
+pub tree::node::Node::footprint-returns-in-Offered-clause-exact : goal.tree::node::Node::footprint-returns-in-Offered-clause-exact
+tree::node::Node::footprint-returns-in-Offered-clause-exact t c =
     let f = c.args.line.now.frame in
     let s = c.args.line.now.state in
     let p = c.in-Offered.proof.value in
@@ -78,8 +78,8 @@ node::Node::footprint-returns-in-Offered-clause-exact t c =
     let tree : c.deref-in-Offered.result.now.tree ≡ strategy_for c.args.side c.args.self.now = ap (λ (q : Proven). q.tree) c.deref-in-Offered.ensures ∙ offered.1 in
     subst (λ u. IfOk c.offered_footprint.result (λ x. IsFootprint f s u x)) tree c.offered_footprint.ensures.exact
 
-pub children::ChildNodes::footprint-replied-requires : goal.children::ChildNodes::footprint-replied-requires
-children::ChildNodes::footprint-replied-requires t c =
+pub tree::children::ChildNodes::footprint-replied-requires : goal.tree::children::ChildNodes::footprint-replied-requires
+tree::children::ChildNodes::footprint-replied-requires t c =
     let x = c.args.self.now in
     let edges = c.as_slice.ensures in
     let grown = c.as_slice-else-is_same.ensures.value in (
@@ -101,31 +101,31 @@ footprints::picked-at-requires t c =
     let x = c.args.children.now in
     omega (
       arith,
-      picked_there c.args.side c.args.line.now.frame c.args.line.now.state x c.first_settled-place.result.0 c.requires.settled c.first_settled-place.ensures.place,
+      picked_there c.args.side c.args.line.now.frame c.args.line.now.state x c.first_settled-index.result.0 c.requires.settled c.first_settled-index.ensures.index,
     )
 
 pub footprints::picked-child-child-requires-clause-there : goal.footprints::picked-child-child-requires-clause-there
 footprints::picked-child-child-requires-clause-there t c =
-    picked_there c.args.side c.args.line.now.frame c.args.line.now.state c.args.children.now c.first_settled-place.result.0 c.requires.settled c.first_settled-place.ensures.place
+    picked_there c.args.side c.args.line.now.frame c.args.line.now.state c.args.children.now c.first_settled-index.result.0 c.requires.settled c.first_settled-index.ensures.index
 
 pub footprints::picked-footprint_behind-requires : goal.footprints::picked-footprint_behind-requires
 footprints::picked-footprint_behind-requires t c =
     let x = c.args.children.now in
-    let i : ℕ = c.first_settled-place.result.0 in
+    let i : ℕ = c.first_settled-index.result.0 in
     let f = c.args.line.now.frame in
     let s = c.args.line.now.state in
-    let there = picked_there c.args.side f s x i c.requires.settled c.first_settled-place.ensures.place in
+    let there = picked_there c.args.side f s x i c.requires.settled c.first_settled-index.ensures.index in
     let w = weight_at (edge_trees x.edges x.grown.items) i fresh (omega (arith, there, length-trees_of x.edges x.grown.items)) in (
       omega (arith, c.decreases, w, ap weight c.child-child.ensures),
       picked_here c.args.side f s x i c.at.result c.turn-turn.result (child_tree c.child-child.result)
-          c.requires.settled c.first_settled-place.ensures.place c.at.ensures c.turn-turn.ensures c.child-child.ensures,
+          c.requires.settled c.first_settled-index.ensures.index c.at.ensures c.turn-turn.ensures c.child-child.ensures,
     )
 
 pub footprints::picked-picked-requires-clause-legal : goal.footprints::picked-picked-requires-clause-legal
 footprints::picked-picked-requires-clause-legal t c =
     let line = c.args.line.now in
-    let here = picked_here c.args.side line.frame line.state c.args.children.now c.first_settled-place.result.0 c.at.result c.turn-turn.result (child_tree c.child-child.result)
-    c.requires.settled c.first_settled-place.ensures.place c.at.ensures c.turn-turn.ensures c.child-child.ensures in
+    let here = picked_here c.args.side line.frame line.state c.args.children.now c.first_settled-index.result.0 c.at.result c.turn-turn.result (child_tree c.child-child.result)
+    c.requires.settled c.first_settled-index.ensures.index c.at.ensures c.turn-turn.ensures c.child-child.ensures in
     subst (λ (l : Standing). IsLegal l.frame l.state c.turn-turn.result) (sym c.in_ok-board.ensures.same) here.0
 
 pub footprints::picked-returns-clause-exact : goal.footprints::picked-returns-clause-exact
@@ -136,15 +136,15 @@ footprints::picked-returns-clause-exact t c =
     let x = c.args.children.now in
     let turns : List Turn = edge_turns x.edges in
     let trees : List PartialTree = edge_trees x.edges x.grown.items in
-    let i : ℕ = c.first_settled-place.result.0 in
+    let i : ℕ = c.first_settled-index.result.0 in
     let child : PartialTree = child_tree c.child-child.result in
-    let in_edges = picked_there side f s x i c.requires.settled c.first_settled-place.ensures.place in
+    let in_edges = picked_there side f s x i c.requires.settled c.first_settled-index.ensures.index in
     let in_trees : i < length trees = omega (arith, in_edges, length-trees_of x.edges x.grown.items) in
-    let turn = c.turn-turn.ensures ∙ ap edge_turn c.at.ensures ∙ sym (turn_at_place x.edges i c.at.result c.turn-turn.result in_edges) in
+    let turn = c.turn-turn.ensures ∙ ap edge_turn c.at.ensures ∙ sym (turn_at_index x.edges i c.at.result c.turn-turn.result in_edges) in
     let e : pick c.turn-turn.result (strategy_for side child) ≡ pick_at side (first_settled side (children_in x)) turns (children_in x) =
     picked side turns trees i c.turn-turn.result child (strategy_for side child) turn (c.child-child.ensures ∙ any_default trees i fresh child in_trees) refl
     (omega (arith, in_edges, length-turns_of x.edges)) in_trees
-    ∙ ap (λ k. pick_at side k turns (children_of trees)) c.first_settled-place.ensures.place in
+    ∙ ap (λ k. pick_at side k turns (children_of trees)) c.first_settled-index.ensures.index in
     on_ok c.picked.result _ _ (λ y more. subst (λ u. IsFootprint f s u y) e (more (strategy_for side child) c.in_ok-board.ensures.exact))
     (rw c.in_ok-board.ensures.same at c.picked.ensures)
 
@@ -218,8 +218,8 @@ footprints::replied-returns-clause-exact t c =
     joined_all c.args.side f s (replies_to c.args.side f s c.args.edges.now c.args.grown.now) c.args.edges.now c.loop-edge.rest.now c.loop-edge.edge-index c.loop-edge.footprint
     (omega (arith, c.loop-edge-test.false)) c.loop-edge.invariant.joined
 
-pub node::Node::footprint-unreachable-requires : goal.node::Node::footprint-unreachable-requires
-node::Node::footprint-unreachable-requires t c =
+pub tree::node::Node::footprint-unreachable-requires : goal.tree::node::Node::footprint-unreachable-requires
+tree::node::Node::footprint-unreachable-requires t c =
     let untried : AreUntried (plays_and_pass c.in-Untried.field-1) = subst HoldsItsOwn c.in-Untried.is c.self.invariant.1 in
     let is = sym (ap shape c.in-Untried.is) ∙ c.self.view_is in
     untried_number c.args.side c.in-Untried.field-0 (plays_and_pass c.in-Untried.field-1) untried (ap (number c.args.side) is ∙ c.requires.settled)

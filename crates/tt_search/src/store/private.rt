@@ -49,8 +49,8 @@ impl ProofRow for Vec<Arc<Proof>> {
 
     ghost proofs = { λ v. map arc_value v.items };
 
-    fn proof(&self, place: usize) -> &Proof {
-        &self[place]
+    fn proof(&self, slot: usize) -> &Proof {
+        &self[slot]
     }
 }
 
@@ -96,13 +96,13 @@ impl PrivateStore {
 }
 
 /// Another handle of the proof at the place, if it is one's.
-fn handle_at(proofs: &Vec<Arc<Proof>>, place: Option<usize>) -> Result<Option<Arc<Proof>>, NoMemory>
-    ensures { IfOk result (λ o. option_map (λ p. arc_value p) o ≡ proof_at (map arc_value proofs.now.items) place) }
+fn handle_at(proofs: &Vec<Arc<Proof>>, slot: Option<usize>) -> Result<Option<Arc<Proof>>, NoMemory>
+    ensures { IfOk result (λ o. option_map (λ p. arc_value p) o ≡ proof_at (map arc_value proofs.now.items) slot) }
 {
-    let Some(place) = place else {
+    let Some(slot) = slot else {
         return Ok(None);
     };
-    let Some(p) = proofs.get(place) else {
+    let Some(p) = proofs.get(slot) else {
         return Ok(None);
     };
     let handle = Arc::try_clone(p)?;

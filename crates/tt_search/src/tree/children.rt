@@ -20,11 +20,11 @@ pub(crate) struct ChildNodes {
     pub(crate) grown: Vec<Node>,
 }
 
-/// The side to move at an expanded node, the place of the child to go to, and how many before it have grown.
+/// The side to move at an expanded node, the index of the child to go to, and how many before it have grown.
 #[derive(Clone, Copy)]
 pub(crate) struct BestChild {
     pub(crate) mover: Side,
-    pub(crate) place: u16,
+    pub(crate) index: u16,
     pub(crate) rank: u16,
 }
 
@@ -60,7 +60,7 @@ impl ChildNodes {
         };
         let focus = BestChild {
             mover,
-            place: best.place,
+            index: best.index,
             rank: best.rank,
         };
         (focus, child_nodes, numbers)
@@ -68,10 +68,10 @@ impl ChildNodes {
 
     /// The turn to the child to go to.
     pub(crate) fn best_turn(&self, focus: BestChild) -> Turn
-        requires { focus.place < length self.now.edges }
-        ensures { result ≡ slice_index_or (edge_turns self.now.edges) focus.place result }
+        requires { focus.index < length self.now.edges }
+        ensures { result ≡ slice_index_or (edge_turns self.now.edges) focus.index result }
     {
-        self.edges.at(usize::from(focus.place)).turn()
+        self.edges.at(usize::from(focus.index)).turn()
     }
 }
 
@@ -79,14 +79,14 @@ impl ChildNodes {
     ghost use Rattle.tt_search.specs.inside.Child.{child_tree};
     ghost use Rattle.tt_search.specs.inside.ChildNodes.{HasItsNodes, IsRank, child_of};
 
-    /// The child at a place, and of a rank.
-    pub(crate) fn child(&self, place: usize, rank: usize) -> Child<'_>
-        requires there { place < length self.now.edges }
-        requires rank { IsRank rank place self.now }
+    /// The child at a index, and of a rank.
+    pub(crate) fn child(&self, index: usize, rank: usize) -> Child<'_>
+        requires there { index < length self.now.edges }
+        requires rank { IsRank rank index self.now }
         requires whole { HasItsNodes self.now }
-        ensures { child_tree result ≡ child_of self.now place }
+        ensures { child_tree result ≡ child_of self.now index }
     {
-        match self.edges.at(place).edge_state() {
+        match self.edges.at(index).edge_state() {
             EdgeState::Fresh => Child::Fresh,
             EdgeState::Won(side) => Child::Won(side),
             EdgeState::Grown => Child::Grown(&self.grown[rank]),

@@ -27,14 +27,14 @@ pub returns-then-not-has-clause-enclosed : goal.returns-then-not-has-clause-encl
 returns-then-not-has-clause-enclosed c = λ _.
     let q = c.in-Some.q in let xs = c.args.chain.now.items in
     let stone : entry_at c.args.points.now q ≢ None = search rules in
-    closed_at c.args.points.now c.args.own c.push.new.self.items c.args.place q c.in-Some.is stone (λ _. rw c.push.ensures.items (Contains-push xs q))
+    closed_at c.args.points.now c.args.own c.push.new.self.items c.args.neighbour q c.in-Some.is stone (λ _. rw c.push.ensures.items (Contains-push xs q))
 
 pub returns-else-eq-clause-enclosed : goal.returns-else-eq-clause-enclosed
 returns-else-eq-clause-enclosed c = λ _.
     let q = c.in-Some.q in let xs = c.args.chain.now.items in
     let inside = c.requires.on_board q c.in-Some.is in
     let stone : entry_at c.args.points.now q ≢ None = search rules in
-    closed_at c.args.points.now c.args.own xs c.args.place q c.in-Some.is stone
+    closed_at c.args.points.now c.args.own xs c.args.neighbour q c.in-Some.is stone
     (elim c.else-eq.branch [
       | else-eq-via-then-eq+else-not-has w ↦ λ _. c.requires.growing.listed q (mark_at c.args.marks.now.words q (omega (arith, inside, c.requires.small)) ∙ search rules)
       | else-eq-via-else-eq w ↦ let apart : entry_at c.args.points.now q ≢ c.args.own = search rules in λ like. absurd (apart like)

@@ -4,7 +4,7 @@ use Rattle.tt_game.specs.Turns.{successors_from}
 use Rattle.tt_game.specs.laws.TurnLaws.{from_all}
 use Rattle.tt_search.specs.Growing.{leaf_for}
 use Rattle.tt_search.specs.inside.Edges.{edge_turns, edge_trees, grown_in}
-use Rattle.tt_search.proofs.Places.{grown_push}
+use Rattle.tt_search.proofs.Indices.{grown_push}
 use Rattle.tt_search.proofs.Successors.{turns_of-successors, turns_more, leaves_more, turns_last, leaves_last}
 use Rattle.tt_search.specs.inside.Expanding.{AreNewEdges}
 use Rattle.tt_search.proofs.Joins.{on_ok}

@@ -4,7 +4,7 @@ use Rattle.tt_game.specs.Turns.{successors_of}
 use Rattle.tt_game.specs.laws.TurnLaws.{length-legal_turns}
 use Rattle.tt_search.specs.inside.Expanding.{AreNewEdges}
 use Rattle.tt_search.specs.inside.Untried.{plays_and_pass}
-use Rattle.tt_search.proofs.Places.{length-turns_of}
+use Rattle.tt_search.proofs.Indices.{length-turns_of}
 use Rattle.tt_search.proofs.Successors.{expansion_of, turns_of-successors}
 use Rattle.tt_search.proofs.leaves.expanded_at.Goals as goal
 

@@ -1,5 +1,6 @@
 use Rattle.std.proofs.Common.{◌≡◌, ◌↔◌, ◌∙◌, Bool, false, IsTrue, true≢false, sym, subst}
-use Rattle.tt_proof.specs.Proven.{Proven, IsWon, FitsAt}
+use Rattle.tt_proof.specs.Proven.{Proven, IsWon}
+use Rattle.tt_proof.specs.Footprints.{FitsAt}
 use Rattle.tt_proof.proofs.FittingLemmas.{fits_yes, fits_needs, fits_avoids, won_where_fits}
 use Rattle.tt_proof.proofs.proven.Proof.fits.Goals as goal
 

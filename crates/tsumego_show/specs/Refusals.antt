@@ -1,0 +1,68 @@
+-- What is written where something is refused: the line with the number, and a line that says in words why, and how to go on.
+use Rattle.std.specs.Prelude.{ℕ, zero, suc, ◌+◌, ◌-◌, nat_eq, nat_lt, Bool, false, List, [], ◌∷◌, ◌++◌, codes, decimal, length, take, Ok, Err, if◌then◌else◌}
+use Rattle.std.specs.declared.result.Result.{Result}
+use Rattle.tt_sgf.specs.Bytes.{newline}
+use Rattle.tt_sgf.specs.declared.nodes.Node.{Node}
+use Rattle.tt_game.specs.declared.faults.GameFault.{GameFault}
+use Rattle.tt_game.specs.declared.faults.GameFault.TheVariants.{NotGo, BadSize, BadValue, PointTwice, MixedNode, LifelessStone, OccupiedPoint, RepeatedBoard, AfterEnd}
+use Rattle.tt_game.specs.declared.faults.GameFault.TheVariants.{TooManyTurns, NoTarget, EmptyTarget, MixedTargets, NoMemory}
+use Rattle.tt_game.specs.Faults.{code_of}
+use Rattle.tt_game.specs.Line.{Standing}
+use Rattle.tt_game.specs.Problems.{problem_of}
+
+-- the line on a refusal of tree number k, which a newline ends
+abbrev pub refusal : ℕ → ℕ → List ℕ
+refusal k code = decimal k ++ (codes " refused " ++ (decimal code ++ newline ∷ []))
+
+-- ---- main lines that are no problem
+
+-- what a refusal means, and how to go on
+unfoldable pub meaning : GameFault → List ℕ
+meaning NotGo = codes "GM is not 1, so this is no game of Go\n"
+meaning BadSize = codes "SZ is no size: write a number from 1 to 19, or columns:rows\n"
+meaning BadValue = codes "a value is no point of the board (two letters, column then row), or the value of PL is no colour\n"
+meaning PointTwice = codes "a point stands in two of AB, AW and AE: take it out of all but one\n"
+meaning MixedNode = codes "stones are set up beside a move, or there are two moves: give each a node of its own\n"
+meaning LifelessStone = codes "the setup leaves a stone without liberties: take its chain off, or empty a point beside it\n"
+meaning OccupiedPoint = codes "the move is on a point where a stone stands\n"
+meaning RepeatedBoard = codes "the move makes a position of the whole board again, which superko forbids; a suicide of one stone does too\n"
+meaning AfterEnd = codes "the move comes after two passes in a row, which end a game\n"
+meaning TooManyTurns = codes "more than 2,000 turns, passes of the side that isn't named among them: set the position up instead\n"
+meaning NoTarget = codes "no node of the main line has TR: put a triangle on a stone of the group that is to live or die\n"
+meaning EmptyTarget = codes "TR is on an empty point: put the triangle on a stone\n"
+meaning MixedTargets = codes "TR is on stones of both colours: mark those of the group alone\n"
+meaning NoMemory = codes "memory was refused\n"
+
+-- a main line is refused with this number
+abbrev pub is_refused_with : ℕ → Result Standing GameFault → Bool
+is_refused_with code (Ok p) = false
+is_refused_with code (Err e) = nat_eq (code_of e) code
+
+-- of the first n nodes so many are needed for the refusal: the last of them is the node that is refused
+unfoldable pub needed : ℕ → List Node → ℕ → ℕ
+needed code ns zero = zero
+needed code ns (suc n) = if is_refused_with code (problem_of (take n ns)) then needed code ns n else suc n
+
+-- the most nodes of a main line in which the refused one is named
+abbrev pub most_nodes : ℕ
+most_nodes = 1000
+
+-- `node 3: `, where a node is refused and the main line is not too long to look for it; nodes count from 1
+abbrev pub node_text : ℕ → List Node → List ℕ
+node_text code ns =
+    if nat_eq code (code_of NoTarget) then [] else (if nat_lt most_nodes (length ns) then [] else codes "node " ++ (decimal (needed code ns (length ns)) ++ codes ": "))
+
+-- the lines on a main line that is refused so
+abbrev pub fault_text : ℕ → List Node → GameFault → List ℕ
+fault_text k ns e = refusal k (code_of e) ++ (codes "why: " ++ (node_text (code_of e) ns ++ meaning e))
+
+-- ---- inputs that are no game trees
+
+-- the lines on bytes of which the first n belong to other trees, where no tree can be read behind them; bytes count from 1
+abbrev pub syntax_text : ℕ → ℕ → List ℕ
+syntax_text k n =
+    refusal k 1 ++ (codes "why: from byte " ++ (decimal (n + 1) ++ codes " on no game tree can be read: a bracket is missing, or the ] of a value\n"))
+
+-- the lines on an input that is too long
+abbrev pub length_text : ℕ → List ℕ
+length_text k = refusal k 2 ++ codes "why: the input has more than 1,048,576 bytes: give each problem a file of its own\n"

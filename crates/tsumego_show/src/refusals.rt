@@ -1,0 +1,146 @@
+//! What is written where something is refused.
+ghost use Rattle.std.specs.Prelude.{◌≡◌, ◌++◌, ◌-◌, ◌^◌, ◌<◌, length, IfOk, OnOk};
+ghost use Rattle.tt_game.specs.Problems.{problem_of};
+ghost use Rattle.tsumego_show.specs.Refusals.{fault_text, is_refused_with, length_text, meaning, needed, node_text, refusal, syntax_text};
+
+use std::alloc::Global;
+use tt_game::{GameFault, problem};
+use tt_sgf::{Items, MainLine, NoMemory};
+
+/// The most nodes of a main line in which the refused one is named.
+const MOST_NODES: usize = 1000;
+
+/// The number of the refusal of a main line without TR.
+const NO_TARGET: u8 = 20;
+
+/// What a refusal means, and how to go on.
+#[tactic(auto, unfolding(crate::specs::Refusals::meaning))]
+fn meaning(fault: GameFault) -> &'static [u8]
+    ensures { result.now ≡ meaning fault }
+{
+    match fault {
+        GameFault::NotGo => b"GM is not 1, so this is no game of Go\n",
+        GameFault::BadSize => b"SZ is no size: write a number from 1 to 19, or columns:rows\n",
+        GameFault::BadValue =>
+            b"a value is no point of the board (two letters, column then row), or the value of PL is no colour\n",
+        GameFault::PointTwice =>
+            b"a point stands in two of AB, AW and AE: take it out of all but one\n",
+        GameFault::MixedNode =>
+            b"stones are set up beside a move, or there are two moves: give each a node of its own\n",
+        GameFault::LifelessStone =>
+            b"the setup leaves a stone without liberties: take its chain off, or empty a point beside it\n",
+        GameFault::OccupiedPoint => b"the move is on a point where a stone stands\n",
+        GameFault::RepeatedBoard =>
+            b"the move makes a position of the whole board again, which superko forbids; a suicide of one stone does too\n",
+        GameFault::AfterEnd => b"the move comes after two passes in a row, which end a game\n",
+        GameFault::TooManyTurns =>
+            b"more than 2,000 turns, passes of the side that isn't named among them: set the position up instead\n",
+        GameFault::NoTarget =>
+            b"no node of the main line has TR: put a triangle on a stone of the group that is to live or die\n",
+        GameFault::EmptyTarget => b"TR is on an empty point: put the triangle on a stone\n",
+        GameFault::MixedTargets =>
+            b"TR is on stones of both colours: mark those of the group alone\n",
+        GameFault::NoMemory => b"memory was refused\n",
+    }
+}
+
+/// Writes the line of a refusal behind the text.
+fn put_refusal(alloc: Global, out: &mut Vec<u8>, number: usize, code: u8) -> Result<(), NoMemory>
+    ensures { OnOk result (out.new.items ≡ out.old.items ++ refusal number code) }
+{
+    let text = format!(in alloc; "{number} refused {code}\n")?;
+    out.extend_from_slice(text.as_bytes())?;
+    Ok(())
+}
+
+/// Whether a main line is refused with this number.
+fn is_refused_with(alloc: Global, line: &MainLine, code: u8) -> Result<bool, NoMemory>
+    ensures { IfOk result (λ refused. refused ≡ is_refused_with code (problem_of line.now.nodes)) }
+{
+    match problem(alloc, line) {
+        Ok(_) => Ok(false),
+        Err(GameFault::NoMemory) => Err(NoMemory),
+        Err(fault) => Ok(fault.code() == code),
+    }
+}
+
+/// How many of the first nodes are needed for the refusal.
+fn needed(alloc: Global, line: MainLine, code: u8) -> Result<usize, NoMemory>
+    ensures { IfOk result (λ n. n ≡ needed code line.nodes (length line.nodes)) }
+{
+    let mut nodes = line.nodes.into_vec();
+    loop {
+        let count = nodes.len();
+        if count == 0 {
+            return Ok(0);
+        }
+        nodes.truncate(count - 1);
+        let shorter = MainLine {
+            nodes: Items::from_vec(nodes),
+        };
+        if !is_refused_with(alloc, &shorter, code)? {
+            return Ok(count);
+        }
+        nodes = shorter.nodes.into_vec();
+    }
+}
+
+/// Writes which node is refused behind the text, where one is, and the main line is not too long to look for it.
+fn put_node(alloc: Global, out: &mut Vec<u8>, line: MainLine, code: u8) -> Result<(), NoMemory>
+    ensures { OnOk result (out.new.items ≡ out.old.items ++ node_text code line.nodes) }
+{
+    if code == NO_TARGET || line.nodes.as_slice().len() > MOST_NODES {
+        return Ok(());
+    }
+    let number = needed(alloc, line, code)?;
+    let text = format!(in alloc; "node {number}: ")?;
+    out.extend_from_slice(text.as_bytes())?;
+    Ok(())
+}
+
+/// Writes that a main line is refused, at which node and why, and how to go on, behind the text.
+pub fn put_fault(
+    alloc: Global,
+    out: &mut Vec<u8>,
+    number: usize,
+    line: MainLine,
+    fault: GameFault,
+) -> Result<(), NoMemory>
+    ensures { OnOk result (out.new.items ≡ out.old.items ++ fault_text number line.nodes fault) }
+{
+    put_refusal(alloc, out, number, fault.code())?;
+    out.extend_from_slice(b"why: ")?;
+    put_node(alloc, out, line, fault.code())?;
+    out.extend_from_slice(meaning(fault))?;
+    Ok(())
+}
+
+/// Writes that no game tree can be read behind so many bytes behind the text.
+pub fn put_syntax(
+    alloc: Global,
+    out: &mut Vec<u8>,
+    number: usize,
+    used: usize,
+) -> Result<(), NoMemory>
+    requires { used < 2 ^ 64 - 1 }
+    ensures { OnOk result (out.new.items ≡ out.old.items ++ syntax_text number used) }
+{
+    put_refusal(alloc, out, number, 1)?;
+    let byte = used + 1;
+    let text = format!(in alloc;
+        "why: from byte {byte} on no game tree can be read: a bracket is missing, or the ] of a value\n"
+    )?;
+    out.extend_from_slice(text.as_bytes())?;
+    Ok(())
+}
+
+/// Writes that an input is too long behind the text.
+pub fn put_length(alloc: Global, out: &mut Vec<u8>, number: usize) -> Result<(), NoMemory>
+    ensures { OnOk result (out.new.items ≡ out.old.items ++ length_text number) }
+{
+    put_refusal(alloc, out, number, 2)?;
+    out.extend_from_slice(
+        b"why: the input has more than 1,048,576 bytes: give each problem a file of its own\n",
+    )?;
+    Ok(())
+}
