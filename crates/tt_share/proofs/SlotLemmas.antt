@@ -15,7 +15,7 @@ use Rattle.tt_game.specs.SameKey.{same_key}
 use Rattle.tt_game.specs.laws.KeyLaws.{same_key_equiv, same_key_same}
 use Rattle.tt_proof.specs.Proven.{Proven}
 use Rattle.tt_proof.specs.Nodes.{nodes}
-use Rattle.tt_share.specs.inside.Places.{slots_at, IsIndexOf}
+use Rattle.tt_share.specs.inside.Slots.{slots_at, IsIndexOf}
 use Rattle.tt_share.specs.Table.{slots_from, slots_of, nodes_of}
 
 -- one more element has its slot at the end, if it passes
