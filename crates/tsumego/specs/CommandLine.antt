@@ -53,11 +53,15 @@ solve_app = with_rule (with_rule (with_rule (with_rule (with_rule (with_rule (wi
     (flag_rule (codes "cert")))
     (flag_rule (codes "turns"))
 
+-- the option of `check`
+unfoldable pub check_app : App
+check_app = with_rule (new_app (codes "check")) (flag_rule (codes "parts"))
+
 -- the program's commands and options, as the argument parser reads them
 unfoldable pub tool : App
 tool = with_subcommand (with_subcommand (with_subcommand
     (needing_subcommand (telling_version (new_app (codes "tsumego"))))
-    (new_app (codes "score")).top) (new_app (codes "check")).top) solve_app.top
+    (new_app (codes "score")).top) check_app.top) solve_app.top
 
 -- the number that an option's text spells
 abbrev pub HasNumber : Text → List Row → ℕ → Type 0
@@ -83,7 +87,7 @@ HasOptions rows options = HasNumber (codes "budget") rows options.limits.budget 
 abbrev pub Asks : Option (Text × List Row) → Command → Type 0
 Asks None c = ⊥
 Asks (Some p) Score = p.0 ≡ codes "score"
-Asks (Some p) Check = p.0 ≡ codes "check"
+Asks (Some p) (Check parts) = (p.0 ≡ codes "check") × HasFlag (codes "parts") p.1 parts
 Asks (Some p) (Solve options) = (p.0 ≡ codes "solve") × HasOptions p.1 options
 
 -- flags were given that aren't taken together

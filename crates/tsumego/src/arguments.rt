@@ -2,7 +2,7 @@
 ghost use Rattle.std.specs.Prelude.{◌≡◌, ◌⊎◌, ◌≤◌, false, [], true, IfErr, IfOk, OnOk, IfSome, map, string_bytes};
 ghost use Rattle.clap.specs.Words.{app_of, subcommand_of, subcommand_rows_of, fault_of, takes, kind_of, new_app, rows_of, rule_of, found_of};
 ghost use Rattle.clap.specs.declared.builder.command.Command.TheViews.{out-Command};
-ghost use Rattle.tsumego.specs.CommandLine.{Asks, Contradicts, GivesNumber, HasFlag, HasNumber, HasOptions, flag_rule, number_rule, optional_rule, solve_app, tool};
+ghost use Rattle.tsumego.specs.CommandLine.{Asks, Contradicts, GivesNumber, HasFlag, HasNumber, HasOptions, check_app, flag_rule, number_rule, optional_rule, solve_app, tool};
 
 use crate::request::{Command, MOST_IN_ALL, Options};
 use clap::error::ErrorKind;
@@ -29,6 +29,8 @@ const DFPN_HELP: &str =
     "How many positions df-pn may visit before the search begins, 1 to 100000000";
 
 const WORKERS_HELP: &str = "How many threads search first turns side by side, 1 to 64";
+
+const PARTS_HELP: &str = "Read a certificate that may share parts";
 
 const CERT_HELP: &str = "Write the certificate on a line of its own";
 
@@ -146,16 +148,19 @@ fn solve_parser<'a>(alloc: Global) -> Result<Parser<'a>, AllocError>
     six.arg(turns)
 }
 
+fn check_parser<'a>(alloc: Global) -> Result<Parser<'a>, AllocError>
+    ensures shape { IfOk result (λ r. app_of r ≡ check_app) }
+    ensures local { IfOk result (λ r. (out-Command r).has_globals ≡ false) }
+{
+    let about = "Check the certificate behind a problem";
+    named(alloc, "check", about, CHECK_END).arg(flag(alloc, "parts", PARTS_HELP))
+}
+
 fn parser<'a>(alloc: Global) -> Result<Parser<'a>, AllocError>
     ensures { IfOk result (λ r. app_of r ≡ tool) }
 {
     let score = named(alloc, "score", "Score game records by area", SCORE_END);
-    let check = named(
-        alloc,
-        "check",
-        "Check the certificate behind a problem",
-        CHECK_END,
-    );
+    let check = check_parser(alloc)?;
     let solve = solve_parser(alloc)?;
     let about = "Life-and-death problems of Go, read from standard input";
     let plain = named(alloc, "tsumego", about, TOOL_END).version(VERSION);
@@ -253,7 +258,7 @@ fn asked(matches: &ArgMatches<'_>) -> Option<Command>
 {
     match matches.subcommand() {
         Some(("score", _)) => Some(Command::Score),
-        Some(("check", _)) => Some(Command::Check),
+        Some(("check", matches)) => Some(Command::Check(flag_of(matches, "parts")?)),
         Some(("solve", matches)) => Some(Command::Solve(options_of(matches)?)),
         _ => None,
     }

@@ -38,8 +38,8 @@ pub struct Options {
 pub enum Command {
     /// Score each game record of the input.
     Score,
-    /// Check the certificate that follows the first tree of the input, a problem.
-    Check,
+    /// Check the certificate that follows the first tree of the input, a problem. The flag says that it may share parts.
+    Check(bool),
     /// Solve each problem of the input.
     Solve(Options),
 }
