@@ -25,7 +25,7 @@ board_there p f s b is h =
     board_is b f.size s.present (ap (λ (w : Position). w.size) is ∙ ap (λ (g : Frame). g.size) h.0) (ap (λ (w : Position). w.points) is ∙ ap (λ (z : State). z.present) h.1)
 
 -- the colourings of boards of one size are those of the boards that show them
-colouring_in : (bs : List Position) (b : Position) → IsIn bs b → IsIn (colourings bs) b.points
+pub colouring_in : (bs : List Position) (b : Position) → IsIn bs b → IsIn (colourings bs) b.points
 colouring_in [] b m = absurd m
 colouring_in (x ∷ bs) b (inl e) = inl (ap (λ (w : Position). w.points) e)
 colouring_in (x ∷ bs) b (inr m) = inr (colouring_in bs b m)

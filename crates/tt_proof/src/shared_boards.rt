@@ -98,12 +98,12 @@ impl Model for SharedBoards {
     ghost view = { λ b. b.boards.items };
 }
 
-/// Whether the board is one of them.
+/// Whether the board is one of them. The last one is looked at first: most of what is repeated stood not long ago.
 fn is_among(board: &Board, boards: &[Board]) -> bool
     ensures { IsTrue result ↔ Contains boards.now board.now }
 {
-    for other in boards {
-        if other.same(board) {
+    for k in 0..boards.len() {
+        if boards[boards.len() - 1 - k].same(board) {
             return true;
         }
     }

@@ -19,7 +19,7 @@ use Rattle.tt_proof.proofs.Sent.{shared_send}
 use Rattle.tt_search.specs.contracts.tree.children.BestChild as BestChild
 use Rattle.tt_search.specs.contracts.tree.edge_row.Edges as Edges
 use Rattle.tt_search.specs.contracts.limits.Limits as Limits
-use Rattle.tt_search.specs.contracts.tree.plays.Plays as Plays
+use Rattle.tt_search.specs.contracts.tree.untried.Plays as Plays
 use Rattle.tt_search.specs.contracts.tree.node.Node as Node
 use Rattle.tt_search.specs.contracts.tree.node.Node.TheKnot as NodeKnot
 use Rattle.tt_search.specs.declared.tree.node.Node.TheDeep as Deep

@@ -18,7 +18,7 @@ use crate::tree::edge_row::Edges;
 use crate::tree::edges::{Edge, EdgeState};
 use crate::tree::node::{Growth, Node};
 use crate::tree::numbers::{Pair, decided_number};
-use crate::tree::plays::Plays;
+use crate::tree::untried::Plays;
 use arrayvec::ArrayVec;
 use std::alloc::Global;
 use std::sync::Arc;

@@ -6,7 +6,7 @@ pub(crate) mod rule;
 ghost use Rattle.std.specs.Prelude.{◌≡◌, ℕ, ◌≢◌, ◌+◌, ◌<◌, ◌≤◌, true, false, ◌||◌, [], ◌∷◌, ◌++◌, cond, length, min, vec_capacity, replicate, None};
 ghost use Rattle.std.specs.Prelude.{IfOk, IfSome, IfNone, MatchOption, MatchResult, IsTrue, All};
 ghost use Rattle.tt_game.specs.declared.turns.TheConstants.{MOST_LEGAL};
-ghost use Rattle.tt_share.specs.declared.bounds.TheConstants.{MOST_WORKERS};
+ghost use Rattle.tt_share.specs.declared.capacity.TheConstants.{MOST_WORKERS};
 ghost use Rattle.tt_share.specs.Desk.{blank, view_of};
 ghost use Rattle.tt_share.specs.Seats.{seat_of, fresh, EndsOverdraw, Adds, Gains, granted_of, Closes};
 ghost use Rattle.tt_share.specs.inside.Gathering.{Gathers};
@@ -40,7 +40,7 @@ pub struct Desk {
 impl Model for Desk {
     ghost use Rattle.std.specs.Prelude.{◌≡◌, ◌+◌, ◌^◌, ◌<◌, ◌≤◌, IfSome};
     ghost use Rattle.tt_game.specs.declared.turns.TheConstants.{MOST_LEGAL};
-    ghost use Rattle.tt_share.specs.declared.bounds.TheConstants.{MOST_WORKERS};
+    ghost use Rattle.tt_share.specs.declared.capacity.TheConstants.{MOST_WORKERS};
     ghost use Rattle.tt_share.specs.Seats.{DeskView};
 
     ghost Value = { DeskView };

@@ -8,7 +8,7 @@ ghost use Rattle.std.specs.Prelude.{◌≡◌, IfOk, IfSome};
 ghost use Rattle.std.specs.Arc.{arc_value};
 ghost use Rattle.tt_share.specs.Log.{IsOf};
 
-use crate::bounds::{ROOM_AT_ONCE, ROOM_BEFORE_A_PUSH};
+use crate::capacity::{ROOM_AT_ONCE, ROOM_BEFORE_A_PUSH};
 use boxcar::Pushed;
 use std::alloc::Global;
 use std::marker::Model;

@@ -13,7 +13,7 @@ const MOST: usize = 64;
 
 /// The chains of the defender beside the areas.
 #[derive(Drop)]
-struct Chains {
+struct BorderChains {
     names: [u16; 64],
     count: usize,
 }
@@ -40,7 +40,7 @@ fn place(k: usize) -> usize
     k % 64
 }
 
-impl Chains {
+impl BorderChains {
     /// The number of a chain; a new one where it is new. None where there are too many.
     #[inline]
     fn number(&mut self, name: u16) -> Option<usize> {
@@ -61,7 +61,7 @@ impl Chains {
 
 /// A walk over one area.
 #[derive(Drop)]
-struct Walk {
+struct AreaWalk {
     points: [u16; 512],
     count: usize,
     is_open: bool,
@@ -77,8 +77,8 @@ impl Region {
         board: &SearchBoard,
         p: u16,
         seen: &mut PointFlags,
-        chains: &mut Chains,
-        walk: &mut Walk,
+        chains: &mut BorderChains,
+        walk: &mut AreaWalk,
     ) -> Option<()> {
         let beside = board.beside(p);
         let mut touched = 0u64;
@@ -109,9 +109,9 @@ impl Region {
         board: &SearchBoard,
         start: u16,
         seen: &mut PointFlags,
-        chains: &mut Chains,
+        chains: &mut BorderChains,
     ) -> Option<(u64, u64)> {
-        let mut walk = Walk {
+        let mut walk = AreaWalk {
             points: [0; 512],
             count: 1,
             is_open: false,
@@ -133,7 +133,7 @@ impl Region {
     }
 
     /// The areas, where there aren't too many chains.
-    fn areas(&self, board: &SearchBoard, chains: &mut Chains) -> Option<Areas> {
+    fn areas(&self, board: &SearchBoard, chains: &mut BorderChains) -> Option<Areas> {
         let mut areas = Areas {
             beside: [0; 64],
             vital: [0; 64],
@@ -155,7 +155,7 @@ impl Region {
     }
 
     /// The set of the targets' chains, where all are beside an area.
-    fn target_chains(&self, board: &SearchBoard, chains: &mut Chains) -> Option<u64> {
+    fn target_chains(&self, board: &SearchBoard, chains: &mut BorderChains) -> Option<u64> {
         let mut set = 0u64;
         for t in &self.targets {
             let before = chains.count;
@@ -170,7 +170,7 @@ impl Region {
 
     /// Whether all targets are unconditionally alive. A chain with a liberty outside the region is, too.
     pub(crate) fn is_alive(&self, board: &SearchBoard) -> bool {
-        let mut chains = Chains {
+        let mut chains = BorderChains {
             names: [0; 64],
             count: 0,
         };
@@ -206,7 +206,7 @@ fn eyes(areas: &Areas, whole: u64, k: usize) -> usize {
 
 /// Takes away chains with fewer than two vital areas, and areas beside which one was taken away, until none goes; whether the targets
 /// stay.
-fn stay(chains: &Chains, areas: &Areas, safe: u64, targets: u64) -> bool {
+fn stay(chains: &BorderChains, areas: &Areas, safe: u64, targets: u64) -> bool {
     let mut alive = u64::MAX;
     let mut whole = u64::MAX;
     for _ in 0..130u8 {

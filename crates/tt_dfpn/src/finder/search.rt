@@ -8,7 +8,9 @@ ghost use Rattle.std.specs.Prelude.{◌≡◌, ◌<◌, ◌≤◌, length, true,
 use crate::advice::Visits;
 use crate::finder::board::{SearchBoard, index};
 use crate::finder::region::Region;
-use crate::finder::table::{Entry, INFINITE, LOST, NO_TURN, Numbers, PASS, Table, UNKNOWN, WON};
+use crate::finder::transpositions::{
+    Entry, INFINITE, LOST, NO_TURN, Numbers, PASS, TranspositionTable, UNKNOWN, WON,
+};
 use crate::finder::zobrist::mover_key;
 use std::alloc::Global;
 use tt_board::Colour;
@@ -63,8 +65,8 @@ pub(crate) struct Finder {
     pub(crate) alloc: Global,
     pub(crate) board: SearchBoard,
     pub(crate) region: Region,
-    positions: Table,
-    lines: Table,
+    positions: TranspositionTable,
+    lines: TranspositionTable,
     has_lines: bool,
     /// How often each turn won, by colour (J. Schaeffer, "The History Heuristic", 1989).
     wins: [[u32; 512]; 2],
@@ -162,8 +164,8 @@ impl Finder {
             alloc,
             board,
             region,
-            positions: Table::new(alloc, FIRST_ROWS, most)?,
-            lines: Table::new(alloc, FIRST_LINE_ROWS, MOST_LINE_ROWS)?,
+            positions: TranspositionTable::new(alloc, FIRST_ROWS, most)?,
+            lines: TranspositionTable::new(alloc, FIRST_LINE_ROWS, MOST_LINE_ROWS)?,
             has_lines: false,
             wins: [[0; 512]; 2],
             lists: Vec::new(alloc),

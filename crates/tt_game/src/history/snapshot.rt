@@ -1,6 +1,6 @@
 //! Where lines stood, kept in little memory.
 
-ghost use Rattle.std.specs.Prelude.{◌≡◌, ◌<◌, ◌≤◌, ◌++◌, ◌↔◌, length, take, All, IsTrue, IfOk};
+ghost use Rattle.std.specs.Prelude.{◌≡◌, ◌<◌, ◌≤◌, ◌++◌, ◌↔◌, length, take, All, Contains, IsTrue, IfOk};
 ghost use Rattle.std.specs.Arc.{arc_value};
 ghost use Rattle.tt_game.specs.Game.{history};
 ghost use Rattle.tt_game.specs.Keys.{key_of};
@@ -129,6 +129,13 @@ impl Snapshot {
             return 0;
         }
         self.root.count()
+    }
+
+    /// Whether the board was made there behind the beginning. It takes no memory.
+    pub fn has_made(&self, board: &Board) -> bool
+        ensures { IsTrue result → Contains (history self.now.state) board.now.points }
+    {
+        self.later.has(board)
     }
 
     /// Whether the line stands there: with the same frame, history, side to move and passes. It takes no memory.

@@ -57,7 +57,7 @@ impl<'a, R> LogStore<'a, R> {
 }
 
 impl<'a, R: Wait> Store for LogStore<'a, R> {
-    ghost use Rattle.tt_share.specs.declared.bounds.TheConstants.{MOST_KEPT};
+    ghost use Rattle.tt_share.specs.declared.capacity.TheConstants.{MOST_KEPT};
 
     ghost capacity = { λ _. MOST_KEPT };
 

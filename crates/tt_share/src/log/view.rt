@@ -8,7 +8,7 @@ ghost use Rattle.tt_search.specs.Stores.{AnswersFor, IsNewest};
 ghost use Rattle.tt_search.specs.declared.store.Kept.TheVariants.{Stored, Full};
 ghost use Rattle.tt_share.specs.Log.{IsOf, Keeps, Extends, newest_first, HasNewest};
 
-use crate::bounds::MOST_KEPT;
+use crate::capacity::MOST_KEPT;
 use crate::log::taken::Taken;
 use crate::log::{CertLog, Token};
 use std::alloc::Global;
@@ -40,7 +40,7 @@ impl<'a> Model for View<'a> {
     ghost use Rattle.tt_sgf.specs.contracts.sets.PointSet as points;
     ghost use Rattle.tt_proof.specs.laws.StrategyCode.{strategy_code};
     ghost use Rattle.tt_share.specs.Log.{ViewState};
-    ghost use Rattle.tt_share.specs.declared.bounds.TheConstants.{MOST_KEPT};
+    ghost use Rattle.tt_share.specs.declared.capacity.TheConstants.{MOST_KEPT};
 
     ghost Value = { ViewState };
 

@@ -4,7 +4,7 @@ ghost use Rattle.std.specs.Prelude.{◌≡◌, ◌≢◌, ◌≤◌, ◌+◌, �
 ghost use Rattle.tt_search.specs.Stores.{AnswersFor};
 ghost use Rattle.tt_search.specs.declared.store.Kept.TheVariants.{Stored, Full};
 
-use crate::bounds::MOST_KEPT;
+use crate::capacity::MOST_KEPT;
 use crate::table::TableState;
 use std::alloc::Global;
 use std::marker::Model;
@@ -41,7 +41,7 @@ pub struct LockedStore<'a, R> {
 
 impl<'a, R> Model for LockedStore<'a, R> {
     ghost use Rattle.std.specs.Prelude.{◌≤◌, ℕ};
-    ghost use Rattle.tt_share.specs.declared.bounds.TheConstants.{MOST_KEPT};
+    ghost use Rattle.tt_share.specs.declared.capacity.TheConstants.{MOST_KEPT};
 
     ghost Value = { ℕ };
 
@@ -60,7 +60,7 @@ impl<'a, R> LockedStore<'a, R> {
 }
 
 impl<'a, R: Wait> Store for LockedStore<'a, R> {
-    ghost use Rattle.tt_share.specs.declared.bounds.TheConstants.{MOST_KEPT};
+    ghost use Rattle.tt_share.specs.declared.capacity.TheConstants.{MOST_KEPT};
 
     ghost capacity = { λ _. MOST_KEPT };
 

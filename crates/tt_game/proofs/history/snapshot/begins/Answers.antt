@@ -1,7 +1,6 @@
-use Rattle.std.proofs.Common.{rules, ◌≡◌, List, length, take, IsTrue, sym, ap, subst, refl, ◌∙◌, arith}
-use Rattle.std.proofs.lemmas.Bool.{false≢true}
+use Rattle.std.proofs.Common.{◌≡◌, List, length, take, sym, ap, subst, refl, ◌∙◌}
 use Rattle.tt_board.specs.Position.{Position}
-use Rattle.tt_game.proofs.RootLemmas.{begun_boards, begun_fewer}
+use Rattle.tt_game.proofs.RootLemmas.{begun_boards}
 use Rattle.tt_game.proofs.history.snapshot.begins.Goals as goal
 
 pub returns-then-same_beginning : goal.returns-then-same_beginning

@@ -1,4 +1,4 @@
-use Rattle.std.proofs.Common.{◌≡◌, sym, ap, ◌∙◌, rules, arith}
+use Rattle.std.proofs.Common.{◌≡◌, sym, ap, ◌∙◌, arith}
 use Rattle.tt_sgf.specs.laws.SizeLaws.{sizes_same}
 use Rattle.tt_game.specs.Line.{Standing}
 use Rattle.tt_game.proofs.line.Line.has_board.Goals as goal
