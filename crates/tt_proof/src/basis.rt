@@ -160,6 +160,6 @@ impl Basis {
         if !self.board.same(line.present()) || !self.needs.all_in(line.history()) {
             return false;
         }
-        self.avoids.none_in(line.history())
+        self.avoids.none_in(line)
     }
 }
