@@ -14,7 +14,7 @@ use Rattle.tt_proof.specs.declared.certificate_read.CertFault.{CertFault}
 use Rattle.tt_proof.specs.declared.certificate_read.CertFault.TheVariants.{Syntax, TooDeep}
 use Rattle.tt_proof.specs.CertificateFaults.{IsFault}
 use Rattle.tt_proof.specs.CertificateText.{IsCertificate, IsTooDeep}
-use Rattle.tt_proof.specs.Outlines.{Outline, IsSharedCertificate, tree_of}
+use Rattle.tt_proof.specs.Outlines.{Outline, IsSharedCertificate, unfolded}
 use Rattle.tt_proof.specs.Strategy.{Strategy}
 use Rattle.tt_proof.specs.Wins.{Wins}
 use Rattle.devices.specs.declared.fault.RunFault.{RunFault}
@@ -52,10 +52,10 @@ module _ (p : Standing) (f : Frame) (bytes : List ℕ) (same : f ≡ p.frame) (s
   here : IsSharedCertificate p.frame.size bytes side o
   here = subst (λ (g : Frame). IsSharedCertificate g.size bytes side o) same is
 
-  pub shared_wins_at : Wins side p.frame (tree_of [] o) p.state → FindsShared p bytes Valid
+  pub shared_wins_at : Wins side p.frame (unfolded [] o) p.state → FindsShared p bytes Valid
   shared_wins_at w = shared_wins side o here w
 
-  pub shared_loses_at : (Wins side p.frame (tree_of [] o) p.state → ⊥) → FindsShared p bytes Invalid
+  pub shared_loses_at : (Wins side p.frame (unfolded [] o) p.state → ⊥) → FindsShared p bytes Invalid
   shared_loses_at w = shared_loses side o here w
 
   pub unfit_at : FindsShared p bytes (Refused 32)

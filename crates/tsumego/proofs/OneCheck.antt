@@ -60,7 +60,8 @@ module _ (one : OneCertificate) where
     found_same input o q (first_tree n t o' small s a) (first_tree m u q' little r b) =
         let same = reading input n m t u s r in
         found_on (problem_of (main_line u)) (trimmed (drop m input)) o' q'
-        (subst (λ (x : GameTree). FindsOn false (problem_of (main_line x)) (trimmed (drop m input)) o') same.1 (subst (λ x. FindsOn false (problem_of (main_line t)) (trimmed (drop x input)) o') same.0 a)) b
+        (subst (λ (x : GameTree). FindsOn false (problem_of (main_line x)) (trimmed (drop m input)) o') same.1
+        (subst (λ x. FindsOn false (problem_of (main_line t)) (trimmed (drop x input)) o') same.0 a)) b
 
     -- an input has one text and one status
     pub checks_same : (input s t : List ℕ) (m n : ℕ) → IsCheckText false input s m → IsCheckText false input t n → (s ≡ t) × (m ≡ n)

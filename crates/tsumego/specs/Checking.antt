@@ -11,7 +11,7 @@ use Rattle.tt_game.specs.Faults.{code_of}
 use Rattle.tt_game.specs.Line.{Standing}
 use Rattle.tt_game.specs.Problems.{problem_of}
 use Rattle.tt_proof.specs.CertificateText.{IsCertificate, IsTooDeep}
-use Rattle.tt_proof.specs.Outlines.{Outline, IsSharedCertificate, tree_of}
+use Rattle.tt_proof.specs.Outlines.{Outline, IsSharedCertificate, unfolded}
 use Rattle.tt_proof.specs.Strategy.{Strategy}
 use Rattle.tt_proof.specs.Wins.{Wins}
 use Rattle.tsumego.specs.declared.finding.Finding.{Finding}
@@ -34,9 +34,9 @@ pub data FindsShared (p : Standing) (bytes : List ℕ) : Finding → Type 0 wher
   unread : FindsShared p bytes (Refused 30)
   goes_deep : FindsShared p bytes (Refused 31)
   unfit : (side : Side) (o : Outline) → IsSharedCertificate p.frame.size bytes side o → FindsShared p bytes (Refused 32)
-  shared_wins : (side : Side) (o : Outline) → IsSharedCertificate p.frame.size bytes side o → Wins side p.frame (tree_of [] o) p.state
+  shared_wins : (side : Side) (o : Outline) → IsSharedCertificate p.frame.size bytes side o → Wins side p.frame (unfolded [] o) p.state
       → FindsShared p bytes Valid
-  shared_loses : (side : Side) (o : Outline) → IsSharedCertificate p.frame.size bytes side o → (Wins side p.frame (tree_of [] o) p.state → ⊥)
+  shared_loses : (side : Side) (o : Outline) → IsSharedCertificate p.frame.size bytes side o → (Wins side p.frame (unfolded [] o) p.state → ⊥)
       → FindsShared p bytes Invalid
 
 -- the one or the other, as parts are asked for

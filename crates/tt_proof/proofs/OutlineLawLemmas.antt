@@ -9,7 +9,8 @@ use Rattle.tt_game.specs.declared.turns.Turn.TheVariants.{Play, Pass}
 use Rattle.tt_proof.specs.declared.tree.TheConstants.{MOST_DEPTH}
 use Rattle.tt_proof.specs.Strategy.{Strategy, Entries, done, pick, reply, none, entry, depth, number_on, IsInOrder, AreInOrder}
 use Rattle.tt_proof.specs.CertificateText.{pick_mark, reply_mark, turn_text, tree_text, entries_text, side_text}
-use Rattle.tt_proof.specs.Outlines.{Outline, Branches, ended, picked, replied, part, no_branch, branch, tree_of, entries_with, names_behind, names_behind_all, IsClosed, AreClosed, IsOrderly, AreOrderly, outline_text, branches_text}
+use Rattle.tt_proof.specs.Outlines.{Outline, Branches, ended, picked, replied, part, no_branch, branch, unfolded}
+use Rattle.tt_proof.specs.Outlines.{entries_with, names_behind, names_behind_all, RefersBack, ReferBack, IsOrderly, AreOrderly, outline_text, branches_text}
 use Rattle.tt_proof.specs.OutlineLaws.{OneSharedCertificate, CertificatesAreShared}
 use Rattle.tt_proof.proofs.TextLemmas.{heads, tails, same_turn, turn_not_end}
 use Rattle.tt_proof.proofs.CertificateLemmas.{side_apart}
@@ -58,7 +59,7 @@ module _ (size : Size) (some : 1 ≤ size.columns) where
 
   mutual
     -- a text tells the outline that it begins with, and what follows
-    pub same_outline : (o p : Outline) (us vs : List Strategy) (y z : List ℕ) → IsClosed us o → IsClosed vs p → NoDigit y → NoDigit z
+    pub same_outline : (o p : Outline) (us vs : List Strategy) (y z : List ℕ) → RefersBack us o → RefersBack vs p → NoDigit y → NoDigit z
         → outline_text size o ++ y ≡ outline_text size p ++ z → (o ≡ p) × (y ≡ z)
     same_outline ended ended us vs y z c d ny nz e = (refl, tails e)
     same_outline ended (picked true s p) us vs y z c d ny nz e = absurd (omega (arith, heads e))
@@ -107,7 +108,7 @@ module _ (size : Size) (some : 1 ≤ size.columns) where
         let r = same_number k m y z (omega (arith, c.1)) (omega (arith, d.1)) ny nz (tails e) in (ap part r.0, r.1)
 
     -- so it does with branches
-    same_branches : (bs cs : Branches) (us vs : List Strategy) (y z : List ℕ) → AreClosed us bs → AreClosed vs cs → NoDigit y → NoDigit z
+    same_branches : (bs cs : Branches) (us vs : List Strategy) (y z : List ℕ) → ReferBack us bs → ReferBack vs cs → NoDigit y → NoDigit z
         → branches_text size bs ++ y ≡ branches_text size cs ++ z → (bs ≡ cs) × (y ≡ z)
     same_branches no_branch no_branch us vs y z c d ny nz e = (refl, tails e)
     same_branches no_branch (branch s p cs) us vs y z c d ny nz e = absurd (turn_not_end size some s (sym (heads e)))
@@ -139,16 +140,16 @@ abbrev mutual
   plain_all (entry t u es) = branch t (plain u) (plain_all es)
 
 record IsPlain (size : Size) (us : List Strategy) (u : Strategy) (o : Outline) : Type 0 where
-  tree : tree_of us o ≡ u
+  tree : unfolded us o ≡ u
   names : names_behind us o ≡ us
   text : outline_text size o ≡ tree_text size u
-  closed : IsClosed us o
+  closed : RefersBack us o
 
 record ArePlain (size : Size) (us : List Strategy) (es : Entries) (bs : Branches) : Type 0 where
   trees : entries_with us bs ≡ es
   names : names_behind_all us bs ≡ us
   text : branches_text size bs ≡ entries_text size es
-  closed : AreClosed us bs
+  closed : ReferBack us bs
 
 mutual
   plain_is : (size : Size) (us : List Strategy) (u : Strategy) → IsPlain size us u (plain u)
@@ -171,7 +172,7 @@ mutual
             ∙ ap (λ vs. entry t u (entries_with vs (plain_all es))) h.names ∙ ap (λ x. entry t u x) g.trees;
         names = ap (λ vs. names_behind_all vs (plain_all es)) h.names ∙ g.names;
         text = ap (λ w. turn_text size t ++ (w ++ branches_text size (plain_all es))) h.text ∙ ap (λ w. turn_text size t ++ (tree_text size u ++ w)) g.text;
-        closed = (h.closed, subst (λ vs. AreClosed vs (plain_all es)) (sym h.names) g.closed);
+        closed = (h.closed, subst (λ vs. ReferBack vs (plain_all es)) (sym h.names) g.closed);
       }
 
 mutual

@@ -9,7 +9,8 @@ use Rattle.tt_proof.specs.declared.outlines.Outline as form
 use Rattle.tt_proof.specs.declared.tree.TheConstants.{MOST_DEPTH}
 use Rattle.tt_proof.specs.Strategy.{Strategy, done, depth, depth_of_entries, IsOnBoard, number_on}
 use Rattle.tt_proof.specs.CertificateText.{won_mark, pick_mark, reply_mark, turn_text, side_text}
-use Rattle.tt_proof.specs.Outlines.{Outline, Branches, ended, picked, replied, part, no_branch, branch, with_name, entries_with, names_behind, names_behind_all, outline_of, branches_of_list, name_text, part_mark, outline_text, branches_text, IsSharedCertificate, AreOrderly}
+use Rattle.tt_proof.specs.Outlines.{Outline, Branches, ended, picked, replied, part, no_branch, branch, with_name, entries_with}
+use Rattle.tt_proof.specs.Outlines.{names_behind, names_behind_all, outline_of, branches_of_list, name_text, part_mark, outline_text, branches_text, IsSharedCertificate, AreOrderly}
 use Rattle.tt_proof.specs.inside.OutlineReading.{with_depth, BranchesAt, ReadsOutline, ReadsBranches}
 
 -- a name more is a depth more

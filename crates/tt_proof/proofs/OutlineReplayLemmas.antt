@@ -13,14 +13,15 @@ use Rattle.tt_proof.specs.declared.basis.Basis.{Basis}
 use Rattle.tt_proof.specs.declared.outline_replay.Found.{Found}
 use Rattle.tt_proof.specs.declared.outline_replay.Found.TheVariants.{Won, Lost, Unfit}
 use Rattle.tt_proof.specs.Strategy.{Strategy, Entries, done, pick, reply, none, entry, number_on}
-use Rattle.tt_proof.specs.Outlines.{Outline, Branches, no_branch, branch, tree_of, entries_with, names_behind, names_behind_all, AreOrderly}
+use Rattle.tt_proof.specs.Outlines.{Outline, Branches, no_branch, branch, unfolded, entries_with, names_behind, names_behind_all, AreOrderly}
 use Rattle.tt_proof.specs.Footprints.{IsRepeated, Makes}
 use Rattle.tt_proof.specs.declared.footprints.Footprint.{Footprint}
 use Rattle.tt_proof.specs.KeptFootprints.{IsFootprint, frame_board}
 use Rattle.tt_proof.specs.Wins.{Wins, WinsBehind}
 use Rattle.tt_proof.specs.inside.Collecting.{IsPassedUp, IsPlayed}
 use Rattle.tt_proof.specs.inside.Replaying.{HasEntry}
-use Rattle.tt_proof.specs.inside.OutlineReplaying.{Meets, StandsOn, NeedsRepeats, IsPickedOn, IsPassedOn, IsJoined, HasBranch, HasTree, IsFound, IsFoundBehind, IsFoundOf, IsNamed, AreNamed, IsBoth}
+use Rattle.tt_proof.specs.inside.OutlineReplaying.{Meets, HasPosition, NeedsRepeats, IsPickedOn, IsPassedOn, IsJoined, HasBranch}
+use Rattle.tt_proof.specs.inside.OutlineReplaying.{HasTree, IsFound, IsFoundBehind, IsFoundOf, WinsAsKept, WinAsKept, IsBoth}
 use Rattle.tt_proof.proofs.FitsLemmas.{Carried, splits_none, same_made, same_winner, legal_now, legal_before}
 use Rattle.tt_proof.proofs.FittingLemmas.{colouring_in}
 use Rattle.tt_proof.proofs.WinsLemmas.{has_behind}
@@ -110,7 +111,7 @@ makes_played f s (Play p) c m = ap (frame_board f) (sym m)
 -- ---- a pick
 
 pub found_pick : (f : Frame) (s : State) (t : Turn) (u : Strategy) (x y : Basis) → IsLegal f s t → IsFound s.to_move f (after f s t) u (Won x)
-    → StandsOn s y → IsPickedOn t (frame_board f (after f s t).present) x y → IsFound s.to_move f s (pick t u) (Won y)
+    → HasPosition s y → IsPickedOn t (frame_board f (after f s t).present) x y → IsFound s.to_move f s (pick t u) (Won y)
 found_pick f s t u x y l h at more = (here, there)
   where
     here : Meets f y s
@@ -143,7 +144,7 @@ found_pick f s t u x y l h at more = (here, there)
 -- ---- a branch
 
 pub found_branch : (side : Side) (f : Frame) (s : State) (t : Turn) (u : Strategy) (x y : Basis) → IsLegal f s t → IsFound side f (after f s t) u (Won x)
-    → StandsOn s y → IsPassedOn t (frame_board f (after f s t).present) x y → IsFoundBehind side f s t u (Won y)
+    → HasPosition s y → IsPassedOn t (frame_board f (after f s t).present) x y → IsFoundBehind side f s t u (Won y)
 found_branch side f s t u x y l h at more = (here, there)
   where
     back : (c : Colouring) → Contains y.avoids (frame_board f c) → Contains x.avoids (frame_board f c)
@@ -169,7 +170,7 @@ none_in : (bs : List Position) (b : Position) → bs ≡ [] → Contains bs b �
 none_in bs b e m = in_of_contains [] b (subst (λ xs. Contains xs b) e m)
 
 -- a basis that needs and avoids nothing is met where it stands
-pub met_empty : (f : Frame) (s : State) (x : Basis) → StandsOn s x → x.needs ≡ [] → x.avoids ≡ [] → Meets f x s
+pub met_empty : (f : Frame) (s : State) (x : Basis) → HasPosition s x → x.needs ≡ [] → x.avoids ≡ [] → Meets f x s
 met_empty f s x at n a = record {
   present = at.present;
   to_move = at.to_move;
@@ -179,12 +180,12 @@ met_empty f s x at n a = record {
 }
 
 -- the branch of a turn that isn't legal
-pub found_no_branch : (side : Side) (f : Frame) (s : State) (t : Turn) (u : Strategy) (x : Basis) → (IsLegal f s t → ⊥) → StandsOn s x → x.needs ≡ [] → x.avoids ≡ []
+pub found_no_branch : (side : Side) (f : Frame) (s : State) (t : Turn) (u : Strategy) (x : Basis) → (IsLegal f s t → ⊥) → HasPosition s x → x.needs ≡ [] → x.avoids ≡ []
     → IsFoundBehind side f s t u (Won x)
 found_no_branch side f s t u x bars at n a = (met_empty f s x at n a, λ s' m l. absurd (bars l))
 
 -- where the side has won, nothing more to play wins
-pub found_done : (side : Side) (f : Frame) (s : State) (x : Basis) → winner_of f s ≡ Some side → StandsOn s x → x.needs ≡ [] → x.avoids ≡ []
+pub found_done : (side : Side) (f : Frame) (s : State) (x : Basis) → winner_of f s ≡ Some side → HasPosition s x → x.needs ≡ [] → x.avoids ≡ []
     → IsFound side f s done (Won x)
 found_done side f s x w at n a =
     let here = met_empty f s x at n a in
@@ -193,7 +194,7 @@ found_done side f s x w at n a =
 -- ---- all branches
 
 -- what is left at the start is all
-pub found_start : (side : Side) (f : Frame) (s : State) (es : Entries) (x : Basis) → StandsOn s x → NeedsRepeats f s x → IsFoundOf side f s es es (Won x)
+pub found_start : (side : Side) (f : Frame) (s : State) (es : Entries) (x : Basis) → HasPosition s x → NeedsRepeats f s x → IsFoundOf side f s es es (Won x)
 found_start side f s es x at n = (
   record {
     present = at.present;
@@ -349,20 +350,20 @@ module _ (side : Side) (f : Frame) where
 
 module _ (side : Side) (f : Frame) where
   -- one more name
-  pub named_more : (us : List Strategy) (ns : List (Option Basis)) (u : Strategy) (n : Option Basis) → AreNamed side f us ns → IsNamed side f u n
-      → AreNamed side f (us ++ u ∷ []) (ns ++ n ∷ [])
+  pub named_more : (us : List Strategy) (ns : List (Option Basis)) (u : Strategy) (n : Option Basis) → WinAsKept side f us ns → WinsAsKept side f u n
+      → WinAsKept side f (us ++ u ∷ []) (ns ++ n ∷ [])
   named_more [] [] u n h w = (w, tt)
   named_more [] (m ∷ ns) u n h w = absurd h
   named_more (v ∷ us) [] u n h w = absurd h
   named_more (v ∷ us) (m ∷ ns) u n h w = (h.0, named_more us ns u n h.1 w)
 
   -- what is kept of a name
-  pub named_at : (us : List Strategy) (ns : List (Option Basis)) (k : ℕ) (n : Option Basis) → AreNamed side f us ns → n ≡ get_or ns k n → k < length ns
-      → IsNamed side f (get_or us k done) n
+  pub named_at : (us : List Strategy) (ns : List (Option Basis)) (k : ℕ) (n : Option Basis) → WinAsKept side f us ns → n ≡ get_or ns k n → k < length ns
+      → WinsAsKept side f (get_or us k done) n
   named_at [] [] k n h e lt = absurd (omega (arith, lt))
   named_at [] (m ∷ ns) k n h e lt = absurd h
   named_at (u ∷ us) [] k n h e lt = absurd h
-  named_at (u ∷ us) (m ∷ ns) zero n h e lt = subst (IsNamed side f u) (sym e) h.0
+  named_at (u ∷ us) (m ∷ ns) zero n h e lt = subst (WinsAsKept side f u) (sym e) h.0
   named_at (u ∷ us) (m ∷ ns) (suc k) n h e lt = named_at us ns k n h.1 e (omega (arith, lt))
 
 -- ---- the walk over all branches
@@ -370,13 +371,13 @@ module _ (side : Side) (f : Frame) where
 -- so far all branches but those that are left were replayed
 pub record Replayed (side : Side) (f : Frame) (s : State) (us : List Strategy) (bs left : Branches) (ns : List (Option Basis)) (found : Found) : Type 0 where
   pub now : List Strategy
-  pub named : AreNamed side f now ns
+  pub named : WinAsKept side f now ns
   pub behind : names_behind_all us bs ≡ names_behind_all now left
   pub among : (t : Turn) (u : Strategy) → HasTree (entries_with now left) t u → HasTree (entries_with us bs) t u
   pub holds : IsFoundOf side f s (entries_with us bs) (entries_with now left) found
 
-pub replayed_start : (side : Side) (f : Frame) (s : State) (us : List Strategy) (bs : Branches) (ns : List (Option Basis)) (x : Basis) → AreNamed side f us ns
-    → StandsOn s x → NeedsRepeats f s x → Replayed side f s us bs bs ns (Won x)
+pub replayed_start : (side : Side) (f : Frame) (s : State) (us : List Strategy) (bs : Branches) (ns : List (Option Basis)) (x : Basis) → WinAsKept side f us ns
+    → HasPosition s x → NeedsRepeats f s x → Replayed side f s us bs bs ns (Won x)
 replayed_start side f s us bs ns x h at n = record {
   now = us;
   named = h;
@@ -387,7 +388,7 @@ replayed_start side f s us bs ns x h at n = record {
 
 pub replayed_more : (side : Side) (f : Frame) (s : State) (us : List Strategy) (bs left : Branches) (t : Turn) (o : Outline) (ns ns' : List (Option Basis))
     (a b c : Found) → Replayed side f s us bs (branch t o left) ns a
-    → ((vs : List Strategy) → AreNamed side f vs ns → IsFoundBehind side f s t (tree_of vs o) b × AreNamed side f (names_behind vs o) ns')
+    → ((vs : List Strategy) → WinAsKept side f vs ns → IsFoundBehind side f s t (unfolded vs o) b × WinAsKept side f (names_behind vs o) ns')
     → IsBoth a b c → Replayed side f s us bs left ns' c
 replayed_more side f s us bs left t o ns ns' a b c r h e =
     let k = h r.now r.named in record {
@@ -395,27 +396,27 @@ replayed_more side f s us bs left t o ns ns' a b c r h e =
       named = k.1;
       behind = r.behind;
       among = λ v w m. r.among v w (inr m);
-      holds = found_more side f s (entries_with us bs) t (tree_of r.now o) (entries_with (names_behind r.now o) left) a b c r.among r.holds k.0 e;
+      holds = found_more side f s (entries_with us bs) t (unfolded r.now o) (entries_with (names_behind r.now o) left) a b c r.among r.holds k.0 e;
     }
 
 pub replayed_end : (side : Side) (f : Frame) (s : State) (us : List Strategy) (bs : Branches) (ns : List (Option Basis)) (found : Found)
-    → Replayed side f s us bs no_branch ns found → IsFoundOf side f s (entries_with us bs) none found × AreNamed side f (names_behind_all us bs) ns
-replayed_end side f s us bs ns found r = (r.holds, subst (λ vs. AreNamed side f vs ns) (sym r.behind) r.named)
+    → Replayed side f s us bs no_branch ns found → IsFoundOf side f s (entries_with us bs) none found × WinAsKept side f (names_behind_all us bs) ns
+replayed_end side f s us bs ns found r = (r.holds, subst (λ vs. WinAsKept side f vs ns) (sym r.behind) r.named)
 
 -- so far the names in all branches but those that are left were passed over
 pub record Skipped (side : Side) (f : Frame) (us : List Strategy) (bs left : Branches) (ns : List (Option Basis)) : Type 0 where
   pub now : List Strategy
-  pub named : AreNamed side f now ns
+  pub named : WinAsKept side f now ns
   pub behind : names_behind_all us bs ≡ names_behind_all now left
 
 pub skipped_more : (side : Side) (f : Frame) (us : List Strategy) (bs left : Branches) (t : Turn) (o : Outline) (ns ns' : List (Option Basis))
-    → Skipped side f us bs (branch t o left) ns → ((vs : List Strategy) → AreNamed side f vs ns → AreNamed side f (names_behind vs o) ns')
+    → Skipped side f us bs (branch t o left) ns → ((vs : List Strategy) → WinAsKept side f vs ns → WinAsKept side f (names_behind vs o) ns')
     → Skipped side f us bs left ns'
 skipped_more side f us bs left t o ns ns' r h = record { now = names_behind r.now o; named = h r.now r.named; behind = r.behind }
 
 pub skipped_end : (side : Side) (f : Frame) (us : List Strategy) (bs : Branches) (ns : List (Option Basis)) → Skipped side f us bs no_branch ns
-    → AreNamed side f (names_behind_all us bs) ns
-skipped_end side f us bs ns r = subst (λ vs. AreNamed side f vs ns) (sym r.behind) r.named
+    → WinAsKept side f (names_behind_all us bs) ns
+skipped_end side f us bs ns r = subst (λ vs. WinAsKept side f vs ns) (sym r.behind) r.named
 
 -- ---- a basis and a line
 

@@ -4,7 +4,7 @@ use Rattle.tt_sgf.specs.declared.size.Size.{Size}
 use Rattle.tt_game.specs.declared.frame.Side.{Side}
 use Rattle.tt_proof.specs.Strategy.{Strategy}
 use Rattle.tt_proof.specs.CertificateText.{IsCertificate}
-use Rattle.tt_proof.specs.Outlines.{Outline, IsSharedCertificate, tree_of}
+use Rattle.tt_proof.specs.Outlines.{Outline, IsSharedCertificate, unfolded}
 
 -- bytes are the certificate with shared parts of one side and one outline at the most, and so of one strategy
 abbrev pub OneSharedCertificate : Type 0
@@ -14,4 +14,4 @@ OneSharedCertificate =
 -- a certificate is one with shared parts, of the same strategy
 abbrev pub CertificatesAreShared : Type 0
 CertificatesAreShared =
-    (size : Size) (bytes : List ℕ) (s : Side) (u : Strategy) → IsCertificate size bytes s u → (o : Outline) × (IsSharedCertificate size bytes s o × (tree_of [] o ≡ u))
+    (size : Size) (bytes : List ℕ) (s : Side) (u : Strategy) → IsCertificate size bytes s u → (o : Outline) × (IsSharedCertificate size bytes s o × (unfolded [] o ≡ u))

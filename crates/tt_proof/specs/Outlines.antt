@@ -31,20 +31,20 @@ with_name false u us = us
 
 abbrev mutual
   -- the strategy that an outline is, with the trees put in that the names before it stand for
-  pub tree_of : List Strategy → Outline → Strategy
-  tree_of us ended = done
-  tree_of us (picked n t o) = pick t (tree_of us o)
-  tree_of us (replied n bs) = reply (entries_with us bs)
-  tree_of us (part k) = get_or us k done
+  pub unfolded : List Strategy → Outline → Strategy
+  unfolded us ended = done
+  unfolded us (picked n t o) = pick t (unfolded us o)
+  unfolded us (replied n bs) = reply (entries_with us bs)
+  unfolded us (part k) = get_or us k done
 
   pub entries_with : List Strategy → Branches → Entries
   entries_with us no_branch = none
-  entries_with us (branch t o bs) = entry t (tree_of us o) (entries_with (names_behind us o) bs)
+  entries_with us (branch t o bs) = entry t (unfolded us o) (entries_with (names_behind us o) bs)
 
   -- the trees of all names behind an outline: names are numbers, in the order in which the named trees end
   pub names_behind : List Strategy → Outline → List Strategy
   names_behind us ended = us
-  names_behind us (picked n t o) = with_name n (pick t (tree_of us o)) (names_behind us o)
+  names_behind us (picked n t o) = with_name n (pick t (unfolded us o)) (names_behind us o)
   names_behind us (replied n bs) = with_name n (reply (entries_with us bs)) (names_behind_all us bs)
   names_behind us (part k) = us
 
@@ -54,15 +54,15 @@ abbrev mutual
 
 abbrev mutual
   -- a name stands only for a tree that has ended before, and has nine digits at the most
-  pub IsClosed : List Strategy → Outline → Type 0
-  IsClosed us ended = Unit {0}
-  IsClosed us (picked n t o) = IsClosed us o
-  IsClosed us (replied n bs) = AreClosed us bs
-  IsClosed us (part k) = (k < length us) × (k < 1000000000)
+  pub RefersBack : List Strategy → Outline → Type 0
+  RefersBack us ended = Unit {0}
+  RefersBack us (picked n t o) = RefersBack us o
+  RefersBack us (replied n bs) = ReferBack us bs
+  RefersBack us (part k) = (k < length us) × (k < 1000000000)
 
-  pub AreClosed : List Strategy → Branches → Type 0
-  AreClosed us no_branch = Unit {0}
-  AreClosed us (branch t o bs) = IsClosed us o × AreClosed (names_behind us o) bs
+  pub ReferBack : List Strategy → Branches → Type 0
+  ReferBack us no_branch = Unit {0}
+  ReferBack us (branch t o bs) = RefersBack us o × ReferBack (names_behind us o) bs
 
 abbrev mutual
   -- the turns lie on the board, and those of each reply rise by their numbers
@@ -103,9 +103,9 @@ module _ (size : Size) where
   -- the bytes are the certificate of this side and outline: its names stand for trees that have ended, its turns are in order,
   -- and its tree has at most 512 turns on each way down
   pub record IsSharedCertificate (bytes : List ℕ) (side : Side) (o : Outline) : Type 0 where
-    pub closed : IsClosed [] o
+    pub closed : RefersBack [] o
     pub orderly : IsOrderly size o
-    pub low : depth (tree_of [] o) ≤ MOST_DEPTH
+    pub low : depth (unfolded [] o) ≤ MOST_DEPTH
     pub text : bytes ≡ side_text side ++ outline_text o
 
 -- ---- the outline that a value of the program is, whatever memory it lies in

@@ -1,7 +1,7 @@
 //! What a tree rests on: it wins wherever that is met.
 
 ghost use Rattle.std.specs.Prelude.{◌≡◌, [], IfOk, OnOk, IsTrue};
-ghost use Rattle.tt_proof.specs.inside.OutlineReplaying.{Meets, StandsOn, NeedsRepeats, IsPickedOn, IsPassedOn, IsJoined};
+ghost use Rattle.tt_proof.specs.inside.OutlineReplaying.{Meets, HasPosition, NeedsRepeats, IsPickedOn, IsPassedOn, IsJoined};
 
 use crate::footprints::{Footprint, put_played, take_made};
 use crate::shared_boards::SharedBoards;
@@ -23,7 +23,7 @@ pub(crate) struct Basis {
 impl Basis {
     /// The line's position with any history.
     pub(crate) fn of(alloc: Global, line: &Line) -> Basis
-        ensures stands { StandsOn line.now.state result }
+        ensures stands { HasPosition line.now.state result }
         ensures needs { result.needs ≡ [] }
         ensures avoids { result.avoids ≡ [] }
     {
@@ -38,7 +38,7 @@ impl Basis {
 
     /// The line's position with a history that has the boards which plays would repeat.
     pub(crate) fn of_plays(alloc: Global, line: &Line) -> Result<Basis, NoMemory>
-        ensures stands { IfOk result (λ x. StandsOn line.now.state x) }
+        ensures stands { IfOk result (λ x. HasPosition line.now.state x) }
         ensures repeats { IfOk result (λ x. NeedsRepeats line.now.frame line.now.state x) }
     {
         let Footprint {
@@ -63,7 +63,7 @@ impl Basis {
         turn: &Turn,
         board: &Board,
     ) -> Result<Basis, NoMemory>
-        ensures stands { IfOk result (λ x. StandsOn line.now.state x) }
+        ensures stands { IfOk result (λ x. HasPosition line.now.state x) }
         ensures picked { IfOk result (λ x. IsPickedOn turn.now board.now self x) }
     {
         let Basis {
@@ -86,7 +86,7 @@ impl Basis {
 
     /// What a tree that rests on this rests on in front of the turn of the other side, which leads to the board.
     pub(crate) fn passed(self, line: &Line, turn: &Turn, board: &Board) -> Basis
-        ensures stands { StandsOn line.now.state result }
+        ensures stands { HasPosition line.now.state result }
         ensures passed { IsPassedOn turn.now board.now self result }
     {
         let Basis {

@@ -7,9 +7,9 @@ ghost use Rattle.tt_game.specs.declared.frame.Frame.{Frame};
 ghost use Rattle.tt_game.specs.Game.{State, IsLegal, after, winner_of, opponent};
 ghost use Rattle.tt_proof.specs.KeptFootprints.{IsBoardAfter};
 ghost use Rattle.tt_proof.specs.Strategy.{Strategy, done, pick, reply, none, IsOnBoard};
-ghost use Rattle.tt_proof.specs.Outlines.{outline_of, branches_of_list, tree_of, entries_with, names_behind, names_behind_all, with_name, IsOrderly, AreOrderly};
+ghost use Rattle.tt_proof.specs.Outlines.{outline_of, branches_of_list, unfolded, entries_with, names_behind, names_behind_all, with_name, IsOrderly, AreOrderly};
 ghost use Rattle.tt_proof.specs.Wins.{Wins};
-ghost use Rattle.tt_proof.specs.inside.OutlineReplaying.{AreNamed, IsNamed, IsFound, IsFoundBehind, IsFoundOf, IsBoth, HasBranch};
+ghost use Rattle.tt_proof.specs.inside.OutlineReplaying.{WinAsKept, WinsAsKept, IsFound, IsFoundBehind, IsFoundOf, IsBoth, HasBranch};
 
 use crate::basis::Basis;
 use crate::outlines::Outline;
@@ -98,7 +98,7 @@ fn found_of_done(alloc: Global, s: Side, line: &Line) -> Found
 
 /// What is found on the part with this name, whose tree wins where this basis is met.
 fn found_of_part(alloc: Global, name: &Option<Basis>, line: &Line) -> Result<Found, NoMemory>
-    ensures { IfOk result (λ r. (s : Side) (u : Strategy) → IsNamed s line.now.frame u name.now → IsFound s line.now.frame line.now.state u r) }
+    ensures { IfOk result (λ r. (s : Side) (u : Strategy) → WinsAsKept s line.now.frame u name.now → IsFound s line.now.frame line.now.state u r) }
 {
     match name {
         Some(basis) => {
@@ -116,7 +116,7 @@ fn found_of_part(alloc: Global, name: &Option<Basis>, line: &Line) -> Result<Fou
 
 /// What is kept of a tree with a name, by what is found on it.
 fn name_of(alloc: Global, found: &Found) -> Result<Option<Basis>, NoMemory>
-    ensures { IfOk result (λ n. (s : Side) (f : Frame) (at : State) (u : Strategy) → IsFound s f at u found.now → IsNamed s f u n) }
+    ensures { IfOk result (λ n. (s : Side) (f : Frame) (at : State) (u : Strategy) → IsFound s f at u found.now → WinsAsKept s f u n) }
 {
     match found {
         Found::Won(basis) => match basis.try_clone(alloc) {
@@ -135,8 +135,8 @@ fn put_name(
     found: &Found,
     names: &mut Vec<Option<Basis>>,
 ) -> Result<(), NoMemory>
-    ensures { OnOk result ((s : Side) (f : Frame) (at : State) (u : Strategy) (us : List Strategy) → IsFound s f at u found.now → AreNamed s f us names.old.items
-        → AreNamed s f (with_name named u us) names.new.items) }
+    ensures { OnOk result ((s : Side) (f : Frame) (at : State) (u : Strategy) (us : List Strategy) → IsFound s f at u found.now → WinAsKept s f us names.old.items
+        → WinAsKept s f (with_name named u us) names.new.items) }
 {
     if named {
         let name = name_of(alloc, found)?;
@@ -147,8 +147,8 @@ fn put_name(
 
 /// Keeps that a tree, where it has a name, stands where no play leads.
 fn put_unreached(named: bool, names: &mut Vec<Option<Basis>>) -> Result<(), NoMemory>
-    ensures { OnOk result ((s : Side) (f : Frame) (u : Strategy) (us : List Strategy) → AreNamed s f us names.old.items
-        → AreNamed s f (with_name named u us) names.new.items) }
+    ensures { OnOk result ((s : Side) (f : Frame) (u : Strategy) (us : List Strategy) → WinAsKept s f us names.old.items
+        → WinAsKept s f (with_name named u us) names.new.items) }
 {
     if named {
         names.push(None)?;
@@ -159,8 +159,8 @@ fn put_unreached(named: bool, names: &mut Vec<Option<Basis>>) -> Result<(), NoMe
 /// Passes over an outline where no play leads: its names are counted.
 #[cycle(skip)]
 fn skip(o: &Outline, names: &mut Vec<Option<Basis>>) -> Result<(), NoMemory>
-    ensures { OnOk result ((s : Side) (f : Frame) (us : List Strategy) → AreNamed s f us names.old.items
-        → AreNamed s f (names_behind us (outline_of o.now)) names.new.items) }
+    ensures { OnOk result ((s : Side) (f : Frame) (us : List Strategy) → WinAsKept s f us names.old.items
+        → WinAsKept s f (names_behind us (outline_of o.now)) names.new.items) }
 {
     match o {
         Outline::Done => Ok(()),
@@ -178,8 +178,8 @@ fn skip(o: &Outline, names: &mut Vec<Option<Basis>>) -> Result<(), NoMemory>
 
 #[cycle(skip)]
 fn skip_each(list: &[(Turn, Outline)], names: &mut Vec<Option<Basis>>) -> Result<(), NoMemory>
-    ensures { OnOk result ((s : Side) (f : Frame) (us : List Strategy) → AreNamed s f us names.old.items
-        → AreNamed s f (names_behind_all us (branches_of_list list.now)) names.new.items) }
+    ensures { OnOk result ((s : Side) (f : Frame) (us : List Strategy) → WinAsKept s f us names.old.items
+        → WinAsKept s f (names_behind_all us (branches_of_list list.now)) names.new.items) }
 {
     for (_, child) in list {
         skip(child, names)?;
@@ -243,9 +243,9 @@ fn replay_branch(
 ) -> Result<Found, NoMemory>
     requires on_board { IsOnBoard line.old.frame.size turn }
     requires orderly { IsOrderly line.old.frame.size (outline_of child.now) }
-    ensures found { IfOk result (λ r. (us : List Strategy) → AreNamed s line.old.frame us names.old.items
-        → IsFoundBehind s line.old.frame line.old.state turn (tree_of us (outline_of child.now)) r
-        × AreNamed s line.old.frame (names_behind us (outline_of child.now)) names.new.items) }
+    ensures found { IfOk result (λ r. (us : List Strategy) → WinAsKept s line.old.frame us names.old.items
+        → IsFoundBehind s line.old.frame line.old.state turn (unfolded us (outline_of child.now)) r
+        × WinAsKept s line.old.frame (names_behind us (outline_of child.now)) names.new.items) }
     ensures same { line.new ≡ line.old }
 {
     match line.push(turn) {
@@ -276,9 +276,9 @@ fn replay_branches(
     names: &mut Vec<Option<Basis>>,
 ) -> Result<Found, NoMemory>
     requires orderly { AreOrderly line.old.frame.size 0 (branches_of_list list.now) }
-    ensures found { IfOk result (λ r. (us : List Strategy) → AreNamed s line.old.frame us names.old.items
+    ensures found { IfOk result (λ r. (us : List Strategy) → WinAsKept s line.old.frame us names.old.items
         → IsFoundOf s line.old.frame line.old.state (entries_with us (branches_of_list list.now)) none r
-        × AreNamed s line.old.frame (names_behind_all us (branches_of_list list.now)) names.new.items) }
+        × WinAsKept s line.old.frame (names_behind_all us (branches_of_list list.now)) names.new.items) }
     ensures same { line.new ≡ line.old }
 {
     let basis = Basis::of_plays(alloc, line)?;
@@ -299,9 +299,9 @@ fn replay_reply(
     names: &mut Vec<Option<Basis>>,
 ) -> Result<Found, NoMemory>
     requires orderly { AreOrderly line.old.frame.size 0 (branches_of_list list.now) }
-    ensures found { IfOk result (λ r. (us : List Strategy) → AreNamed s line.old.frame us names.old.items
+    ensures found { IfOk result (λ r. (us : List Strategy) → WinAsKept s line.old.frame us names.old.items
         → IsFound s line.old.frame line.old.state (reply (entries_with us (branches_of_list list.now))) r
-        × AreNamed s line.old.frame (names_behind_all us (branches_of_list list.now)) names.new.items) }
+        × WinAsKept s line.old.frame (names_behind_all us (branches_of_list list.now)) names.new.items) }
     ensures same { line.new ≡ line.old }
 {
     if !is_asked(s, line) {
@@ -325,9 +325,9 @@ fn replay_pick(
 ) -> Result<Found, NoMemory>
     requires on_board { IsOnBoard line.old.frame.size turn }
     requires orderly { IsOrderly line.old.frame.size (outline_of child.now) }
-    ensures found { IfOk result (λ r. (us : List Strategy) → AreNamed s line.old.frame us names.old.items
-        → IsFound s line.old.frame line.old.state (pick turn (tree_of us (outline_of child.now))) r
-        × AreNamed s line.old.frame (names_behind us (outline_of child.now)) names.new.items) }
+    ensures found { IfOk result (λ r. (us : List Strategy) → WinAsKept s line.old.frame us names.old.items
+        → IsFound s line.old.frame line.old.state (pick turn (unfolded us (outline_of child.now))) r
+        × WinAsKept s line.old.frame (names_behind us (outline_of child.now)) names.new.items) }
     ensures same { line.new ≡ line.old }
 {
     if line.to_move() != s {
@@ -362,9 +362,9 @@ fn replay_outline(
     names: &mut Vec<Option<Basis>>,
 ) -> Result<Found, NoMemory>
     requires orderly { IsOrderly line.old.frame.size (outline_of o.now) }
-    ensures found { IfOk result (λ r. (us : List Strategy) → AreNamed s line.old.frame us names.old.items
-        → IsFound s line.old.frame line.old.state (tree_of us (outline_of o.now)) r
-        × AreNamed s line.old.frame (names_behind us (outline_of o.now)) names.new.items) }
+    ensures found { IfOk result (λ r. (us : List Strategy) → WinAsKept s line.old.frame us names.old.items
+        → IsFound s line.old.frame line.old.state (unfolded us (outline_of o.now)) r
+        × WinAsKept s line.old.frame (names_behind us (outline_of o.now)) names.new.items) }
     ensures same { line.new ≡ line.old }
 {
     match o {
@@ -407,7 +407,7 @@ pub fn replay_parts(
     line: &mut Line,
 ) -> Result<Option<bool>, NoMemory>
     requires { IsOrderly line.old.frame.size (outline_of o.now) }
-    ensures exact { IfOk result (λ answer. IfSome answer (λ wins. IsTrue wins ↔ Wins s line.old.frame (tree_of [] (outline_of o.now)) line.old.state)) }
+    ensures exact { IfOk result (λ answer. IfSome answer (λ wins. IsTrue wins ↔ Wins s line.old.frame (unfolded [] (outline_of o.now)) line.old.state)) }
     ensures same { line.new ≡ line.old }
 {
     let mut names = Vec::new(alloc);

@@ -2,7 +2,7 @@
 use Rattle.std.specs.Prelude.{◌≡◌, ℕ, ◌≤◌, Bool, true, false, List, [], ◌∷◌, ◌++◌, map}
 use Rattle.tt_sgf.specs.declared.size.Size.{Size}
 use Rattle.tt_proof.specs.Strategy.{Strategy, depth, depth_of_entries}
-use Rattle.tt_proof.specs.Outlines.{Outline, Branches, tree_of, entries_with, names_behind, names_behind_all, IsClosed, AreClosed, IsOrderly, AreOrderly, outline_text, branches_text}
+use Rattle.tt_proof.specs.Outlines.{Outline, Branches, unfolded, entries_with, names_behind, names_behind_all, RefersBack, ReferBack, IsOrderly, AreOrderly, outline_text, branches_text}
 
 -- the depths of all named trees, with one more where the tree has a name
 abbrev pub with_depth : Bool → ℕ → List ℕ → List ℕ
@@ -12,13 +12,13 @@ with_depth false d ds = ds
 module _ (size : Size) where
   -- r begins with the text of o, whose tree has the depth d, and y follows; the names so far stand for us
   pub record OutlineAt (us : List Strategy) (o : Outline) (d : ℕ) (r y : List ℕ) : Type 0 where
-    pub closed : IsClosed us o
+    pub closed : RefersBack us o
     pub orderly : IsOrderly size o
-    pub deep : depth (tree_of us o) ≡ d
+    pub deep : depth (unfolded us o) ≡ d
     pub text : r ≡ outline_text size o ++ y
 
   pub record BranchesAt (us : List Strategy) (least : ℕ) (bs : Branches) (d : ℕ) (r y : List ℕ) : Type 0 where
-    pub closed : AreClosed us bs
+    pub closed : ReferBack us bs
     pub orderly : AreOrderly size least bs
     pub deep : depth_of_entries (entries_with us bs) ≡ d
     pub text : r ≡ branches_text size bs ++ y

@@ -26,7 +26,7 @@ pub record Meets (f : Frame) (x : Basis) (s : State) : Type 0 where
   pub avoids : (c : Colouring) → Contains x.avoids (frame_board f c) → Contains (history s) c → ⊥
 
 -- the position is the state's
-pub record StandsOn (s : State) (x : Basis) : Type 0 where
+pub record HasPosition (s : State) (x : Basis) : Type 0 where
   pub present : s.present ≡ x.board.points
   pub to_move : s.to_move ≡ x.to_move
   pub passes : s.passes ≡ x.passes
@@ -90,15 +90,15 @@ module _ (side : Side) (f : Frame) where
   IsFoundOf s es left Unfit = Unit {0}
 
   -- a name's tree wins on what is kept of it, where something is
-  abbrev pub IsNamed : Strategy → Option Basis → Type 0
-  IsNamed u None = Unit {0}
-  IsNamed u (Some x) = WinsOn u x
+  abbrev pub WinsAsKept : Strategy → Option Basis → Type 0
+  WinsAsKept u None = Unit {0}
+  WinsAsKept u (Some x) = WinsOn u x
 
-  abbrev pub AreNamed : List Strategy → List (Option Basis) → Type 0
-  AreNamed [] [] = Unit {0}
-  AreNamed [] (n ∷ ns) = ⊥
-  AreNamed (u ∷ us) [] = ⊥
-  AreNamed (u ∷ us) (n ∷ ns) = IsNamed u n × AreNamed us ns
+  abbrev pub WinAsKept : List Strategy → List (Option Basis) → Type 0
+  WinAsKept [] [] = Unit {0}
+  WinAsKept [] (n ∷ ns) = ⊥
+  WinAsKept (u ∷ us) [] = ⊥
+  WinAsKept (u ∷ us) (n ∷ ns) = WinsAsKept u n × WinAsKept us ns
 
 -- of two findings, one that doesn't fit comes first, and then one that doesn't win
 abbrev pub IsBoth : Found → Found → Found → Type 0

@@ -8,8 +8,8 @@ use Rattle.tt_game.specs.declared.turns.Turn.{Turn}
 use Rattle.tt_sgf.specs.declared.size.Size.{Size}
 use Rattle.tt_proof.specs.declared.outline_replay.Found.TheVariants.{Won}
 use Rattle.tt_proof.specs.Strategy.{Strategy, done, pick, reply, none, number_on}
-use Rattle.tt_proof.specs.Outlines.{Outline, Branches, branch, branches_of_list, outline_of, tree_of, entries_with, names_behind, AreOrderly}
-use Rattle.tt_proof.specs.inside.OutlineReplaying.{AreNamed, IsFound, IsFoundBehind, IsFoundOf, StandsOn}
+use Rattle.tt_proof.specs.Outlines.{Outline, Branches, branch, branches_of_list, outline_of, unfolded, entries_with, names_behind, AreOrderly}
+use Rattle.tt_proof.specs.inside.OutlineReplaying.{WinAsKept, IsFound, IsFoundBehind, IsFoundOf, HasPosition}
 use Rattle.tt_proof.proofs.ResultLemmas.{if_ok}
 use Rattle.tt_proof.proofs.FootprintLemmas.{refused_bars}
 use Rattle.tt_proof.proofs.OutlineLemmas.{outline_of_done, outline_of_pick, outline_of_reply, outline_of_part}
@@ -63,16 +63,16 @@ replay_pick-returns-in-Ok-found-clause-found t c =
     let turn = c.args.turn in
     let o = outline_of c.args.child.now in
     let mine : at.to_move ≡ s = search rules in
-    let behind = subst (λ (l : Standing). (us : List Strategy) → AreNamed s l.frame us c.args.names.now.items
-    → IsFound s l.frame l.state (tree_of us o) c.in-Ok-found.behind × AreNamed s l.frame (names_behind us o) c.replay_outline-found.new.names.items)
+    let behind = subst (λ (l : Standing). (us : List Strategy) → WinAsKept s l.frame us c.args.names.now.items
+    → IsFound s l.frame l.state (unfolded us o) c.in-Ok-found.behind × WinAsKept s l.frame (names_behind us o) c.replay_outline-found.new.names.items)
     c.in-Ok.ensures.ok.1 c.in-Ok-found.ensures.found in
     let more = subst (λ (l : Standing). IfOk c.found_before_pick.result (λ r. (u : Strategy)
     → IsFound l.state.to_move l.frame (after l.frame l.state turn) u c.in-Ok-found.behind → IsFound l.state.to_move l.frame l.state (pick turn u) r))
     same c.found_before_pick.ensures in
     if_ok c.found_before_pick.result _ _
     (λ r g us h. let k = behind us h in (
-      subst (λ x. IsFound x f at (pick turn (tree_of us o)) r) mine
-          (g (tree_of us o) (subst (λ x. IsFound x f (after f at turn) (tree_of us o) c.in-Ok-found.behind) (sym mine) k.0)),
+      subst (λ x. IsFound x f at (pick turn (unfolded us o)) r) mine
+          (g (unfolded us o) (subst (λ x. IsFound x f (after f at turn) (unfolded us o) c.in-Ok-found.behind) (sym mine) k.0)),
       k.1,
     )) more
 
@@ -109,21 +109,21 @@ replay_branch-returns-in-Ok-found-clause-found t c =
     let s = c.args.s in
     let turn = c.args.turn in
     let o = outline_of c.args.child.now in
-    let behind = subst (λ (l : Standing). (us : List Strategy) → AreNamed s l.frame us c.args.names.now.items
-    → IsFound s l.frame l.state (tree_of us o) c.in-Ok-found.behind × AreNamed s l.frame (names_behind us o) c.replay_outline-found.new.names.items)
+    let behind = subst (λ (l : Standing). (us : List Strategy) → WinAsKept s l.frame us c.args.names.now.items
+    → IsFound s l.frame l.state (unfolded us o) c.in-Ok-found.behind × WinAsKept s l.frame (names_behind us o) c.replay_outline-found.new.names.items)
     c.in-Ok.ensures.ok.1 c.in-Ok-found.ensures.found in
     let more = subst (λ (l : Standing). (x : Side) (u : Strategy) → IsFound x l.frame (after l.frame l.state turn) u c.in-Ok-found.behind
     → IsFoundBehind x l.frame l.state turn u c.found_before_branch.result) same c.found_before_branch.ensures in
-    λ us h. let k = behind us h in (more s (tree_of us o) k.0, k.1)
+    λ us h. let k = behind us h in (more s (unfolded us o) k.0, k.1)
 
 pub replay_branch-returns-in_ok-skip-in-Err-Illegal-clause-found : goal.replay_branch-returns-in_ok-skip-in-Err-Illegal-clause-found
 replay_branch-returns-in_ok-skip-in-Err-Illegal-clause-found t c =
     let f = c.args.line.now.frame in
     let at = c.args.line.now.state in
     let same : c.push.new.self ≡ c.args.line.now = search rules in
-    let stands = subst (λ (l : Standing). StandsOn l.state c.of.result) same c.of.ensures.stands in
+    let stands = subst (λ (l : Standing). HasPosition l.state c.of.result) same c.of.ensures.stands in
     λ us h. (
-      found_no_branch c.args.s f at c.args.turn (tree_of us (outline_of c.args.child.now)) c.of.result
+      found_no_branch c.args.s f at c.args.turn (unfolded us (outline_of c.args.child.now)) c.of.result
           (refused_bars f at c.args.turn c.in-Err-Illegal.field-0-0 (rw c.in-Err-Illegal.field-0-is at c.in-Err-Illegal.ensures.why)) stands
           c.of.ensures.needs c.of.ensures.avoids,
       c.in_ok-skip-in-Err-Illegal.ensures c.args.s f us h,
@@ -163,8 +163,8 @@ replay_branches-loop-turn-preserved t c =
     let left = branches_of_list (drop (n + 1) list) in
     let o = outline_of item.1 in
     let new = c.replay_branch.new in
-    let found = subst (λ (l : Standing). (vs : List Strategy) → AreNamed s l.frame vs c.loop-turn.names.items
-    → IsFoundBehind s l.frame l.state item.0 (tree_of vs o) c.in_ok-next.next × AreNamed s l.frame (names_behind vs o) new.names.items)
+    let found = subst (λ (l : Standing). (vs : List Strategy) → WinAsKept s l.frame vs c.loop-turn.names.items
+    → IsFoundBehind s l.frame l.state item.0 (unfolded vs o) c.in_ok-next.next × WinAsKept s l.frame (names_behind vs o) new.names.items)
     c.loop-turn.invariant.same c.in_ok-next.ensures.found in
     record {
       same = c.replay_branch.ensures.same ∙ c.loop-turn.invariant.same;
