@@ -197,8 +197,8 @@ impl Advisor {
         count
     }
 
-    /// The turn of the defender, whose targets live unconditionally, that leaves them so and the attacker the fewest points; a pass
-    /// where no play leaves them so.
+    /// The turn of the defender, whose targets live unconditionally: of the plays in enclosed areas that leave them so the one that
+    /// leaves the attacker the fewest points, or a pass where there is none. A play elsewhere only makes more positions.
     fn turn_of_living(&mut self) -> u16 {
         let mut best = PASS;
         let mut fewest = usize::MAX;
@@ -207,7 +207,8 @@ impl Advisor {
                 break;
             };
             let p = *point;
-            if !self.finder.board.is_empty(p) {
+            let board = &self.finder.board;
+            if !board.is_empty(p) || !self.finder.region.is_enclosed(board, p) {
                 continue;
             }
             if let Some(points) = self.points_behind(p) {

@@ -41,6 +41,14 @@ fn place(k: usize) -> usize
 }
 
 impl BorderChains {
+    /// None yet.
+    fn none() -> BorderChains {
+        BorderChains {
+            names: [0; 64],
+            count: 0,
+        }
+    }
+
     /// The number of a chain; a new one where it is new. None where there are too many.
     #[inline]
     fn number(&mut self, name: u16) -> Option<usize> {
@@ -132,6 +140,16 @@ impl Region {
         Some((walk.beside, walk.vital & walk.beside))
     }
 
+    /// Whether the area of an empty point touches nothing open.
+    pub(crate) fn is_enclosed(&self, board: &SearchBoard, p: u16) -> bool {
+        let mut chains = BorderChains::none();
+        let mut seen: PointFlags = [false; 512];
+        match self.area(board, p, &mut seen, &mut chains) {
+            Some((beside, _)) => beside != 0,
+            None => false,
+        }
+    }
+
     /// The areas, where there aren't too many chains.
     fn areas(&self, board: &SearchBoard, chains: &mut BorderChains) -> Option<Areas> {
         let mut areas = Areas {
@@ -170,10 +188,7 @@ impl Region {
 
     /// Whether all targets are unconditionally alive. A chain with a liberty outside the region is, too.
     pub(crate) fn is_alive(&self, board: &SearchBoard) -> bool {
-        let mut chains = BorderChains {
-            names: [0; 64],
-            count: 0,
-        };
+        let mut chains = BorderChains::none();
         let Some(areas) = self.areas(board, &mut chains) else {
             return false;
         };
