@@ -7,10 +7,6 @@ mod finding;
 mod laws;
 mod outcome;
 mod request;
-#[cfg(test)]
-mod row_tables;
-#[cfg(test)]
-mod row_tests;
 mod solving;
 mod task;
 mod verdict;
