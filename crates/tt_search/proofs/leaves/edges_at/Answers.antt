@@ -1,4 +1,4 @@
-use Rattle.std.proofs.Common.{◌++◌, [], map, length, sym, ap, subst, ◌∙◌, arith}
+use Rattle.std.proofs.Common.{◌++◌, [], map, length, refl, sym, ap, subst, ◌∙◌, arith}
 use Rattle.tt_game.specs.Turns.{Successor, successors_from}
 use Rattle.tt_game.specs.laws.TurnLaws.{from_all}
 use Rattle.tt_search.specs.Growing.{leaf_for}

@@ -1,4 +1,7 @@
-use Rattle.std.proofs.Common.{◌≡◌, ◌++◌, ◌∷◌, [], map, length, refl, sym, ap, subst, ◌<◌, ◌∙◌, arith}
+use Rattle.std.proofs.Common.{◌≡◌, ℕ, ◌+◌, ◌≤◌, List, ◌++◌, ◌∷◌, [], map, length, refl, sym, ap, subst, ◌<◌, ◌∙◌, arith}
+use Rattle.tt_sgf.specs.Sizes.{point_count}
+use Rattle.tt_game.specs.declared.frame.Frame.{Frame}
+use Rattle.tt_search.specs.declared.tree.edges.Edge.{Edge}
 use Rattle.std.proofs.lemmas.List.{length_push}
 use Rattle.tt_sgf.specs.declared.size.TheConstants.{MOST_POINTS}
 use Rattle.tt_sgf.specs.laws.SizeLaws.{few_points}
@@ -35,28 +38,35 @@ push-requires c =
     let found = rw (i.frame, i.state) at c.in-Some.ensures.next in
     below_more c.loop-p.plays.from _ c.loop-p.found found.0 i.below
 
+under_most : (f : Frame) (p : ℕ) → p < point_count f.size → p < MOST_POINTS
+under_most f p lt = omega (arith, lt, few_points f.size)
+
+fresh_play : (p : ℕ) → p < MOST_POINTS → edge_state_of (fresh_edge p) ≡ Fresh
+fresh_play p low = fresh_edge_state (fresh_edge p) (omega (arith, low))
+
+below_next : (es : List Edge) (p from n : ℕ) → from ≤ p → n ≡ p + 1 → AreBelow from es → AreBelow n (es ++ fresh_edge p ∷ [])
+below_next es p from n le is h = below_push n es (fresh_edge p) (below_more from n es (omega (arith, le, is)) h) (omega (arith, is))
+
 pub loop-p-preserved : goal.loop-p-preserved
 loop-p-preserved c =
     let f = c.args.plays.now.frame in let s = c.args.plays.now.state in let i = c.loop-p.invariant in
     let plays = c.loop-p.found in
     let next = rw (i.frame, i.state) at c.in-Some.ensures.next in
-    let p = c.in-Some.p in
     let is = next.2 in
-    let low : p < MOST_POINTS = omega (arith, next.1, few_points f.size) in
-    let e = fresh_edge p in
-    let items : c.push.new.self ≡ plays ++ e ∷ [] = c.push.ensures in
+    let low = under_most f _ next.1 in
+    let items = c.push.ensures in
     let won = no_winner _ (sym c.is_some-in-Some.ensures ∙ c.if-is_some-2.false) in
-    let edge_state : edge_state_of e ≡ Fresh = fresh_edge_state e (omega (arith, low)) in
+    let edge_state = fresh_play _ low in
+    let len = ap length items ∙ length_push plays _ in
     record {
       frame = c.next.ensures.same.0 ∙ i.frame;
       state = c.next.ensures.same.1 ∙ i.state;
-      turns = turns_more f s plays c.push.new.self e c.loop-p.plays.from _ c.next.new.self.from items (play_turn p low) next.4 is i.turns;
-      leaves = leaves_more f s plays c.push.new.self e _ c.loop-p.plays.from _ c.next.new.self.from items (ap (λ m. tree_of m []) edge_state ∙ sym (ap leaf_for won)) next.3 next.4 is
+      turns = turns_more f s plays c.push.new.self _ c.loop-p.plays.from _ c.next.new.self.from items (play_turn _ low) next.4 is i.turns;
+      leaves = leaves_more f s plays c.push.new.self _ _ c.loop-p.plays.from _ c.next.new.self.from items (ap (λ m. tree_of m []) edge_state ∙ sym (ap leaf_for won)) next.3 next.4 is
           i.leaves;
-      fresh = subst AreFresh (sym items) (fresh_push plays e i.fresh edge_state);
-      below = subst (AreBelow c.next.new.self.from) (sym items)
-          (below_push c.next.new.self.from plays e (below_more c.loop-p.plays.from c.next.new.self.from plays (omega (arith, is, next.0)) i.below) (omega (arith, is)));
-      few = omega (arith, ap length items, length_push plays e, i.few, is, next.0);
+      fresh = subst AreFresh (sym items) (fresh_push plays _ i.fresh edge_state);
+      below = subst (AreBelow c.next.new.self.from) (sym items) (below_next plays _ c.loop-p.plays.from c.next.new.self.from next.0 is i.below);
+      few = omega (arith, len, i.few, is, next.0);
       inside = rw i.frame at c.next.ensures.inside;
       low = omega (arith, is, low);
     }
