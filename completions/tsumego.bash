@@ -3,7 +3,8 @@ _tsumego() {
     local word=${COMP_WORDS[COMP_CWORD]} words=''
     case $COMP_CWORD,${COMP_WORDS[1]},$word in
         1,*) words='solve score check' ;;
-        *,solve,-*) words='--budget --depth --total --dfpn --workers --cert' ;;
+        *,check,-*) words='--parts' ;;
+        *,solve,-*) words='--budget --depth --total --dfpn --workers --cert --turns' ;;
     esac
     mapfile -t COMPREPLY < <(compgen -W "$words" -- "$word")
 }

@@ -549,14 +549,27 @@ def score_text(nodes):
     return [f"black {black} white {white} {'finished' if is_finished else 'unfinished'}"]
 
 
-def solve_text(nodes, budget=100_000, most_depth=512, total=362_000_000, with_certificate=False):
+def solve_text(nodes, with_certificate=False, with_turns=False, budget=100_000, most_depth=512, total=362_000_000):
     frame, state = problem(nodes)
-    found = solve(frame, state, budget, most_depth, total)
+    limits = budget, most_depth, total
+    turns = turn_texts(frame, state, limits) if with_turns else []
+    found = solve(frame, state, *limits)
     if isinstance(found, str):
-        return [f"unsettled {found}"]
+        return [f"unsettled {found}"] + turns
     side, tree = found
     first = " " + turn_name(frame[0], tree[1], "pass") if tree[0] == "pick" else ""
-    return [side + first] + ([f"{side} {tree_text(frame[0], tree)}"] if with_certificate else [])
+    return [side + first] + turns + ([f"{side} {tree_text(frame[0], tree)}"] if with_certificate else [])
+
+
+def turn_texts(frame, state, limits):
+    """A line on each legal turn: the side that wins after it, or why that isn't known."""
+    lines = []
+    for turn in legal_turns(frame, state):
+        behind = after(frame, state, turn)
+        found = winner(frame, behind) or solve(frame, behind, *limits)
+        said = f"unsettled {found}" if found in ("budget", "depth", "total") else found if isinstance(found, str) else found[0]
+        lines.append(f"  {turn_name(frame[0], turn, 'pass')} {said}")
+    return lines
 
 
 def check_text(data):
@@ -600,5 +613,5 @@ def answer(words, data):
     else:
         names = {"--budget": "budget", "--depth": "most_depth", "--total": "total"}
         options = {names[word.partition("=")[0]]: int(word.partition("=")[2]) for word in words[1:] if "=" in word}
-        text = trees_text(data, lambda nodes: solve_text(nodes, with_certificate="--cert" in words, **options))
+        text = trees_text(data, lambda nodes: solve_text(nodes, "--cert" in words, "--turns" in words, **options))
     return text, 1 if "refused" in text else 0

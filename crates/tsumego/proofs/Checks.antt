@@ -1,5 +1,5 @@
 -- Lemmas on what is found on a certificate.
-use Rattle.std.proofs.Common.{◌≡◌, ◌≤◌, ◌-◌, ℕ, List, [], inr, Option, None, Err, refl, ap, ◌∙◌, length, take, drop, arith, subst}
+use Rattle.std.proofs.Common.{◌≡◌, ◌≤◌, ◌-◌, ℕ, Bool, List, [], inr, Option, None, Err, refl, ap, ◌∙◌, length, take, drop, arith, subst}
 use Rattle.std.proofs.KnownBytes.{Appends-kept, Appends-nil}
 use Rattle.std.proofs.lemmas.List.{take_all, length-drop}
 use Rattle.tt_sgf.specs.declared.trees.TheConstants.{MAX_BYTES}
@@ -14,13 +14,14 @@ use Rattle.tt_proof.specs.declared.certificate_read.CertFault.{CertFault}
 use Rattle.tt_proof.specs.declared.certificate_read.CertFault.TheVariants.{Syntax, TooDeep}
 use Rattle.tt_proof.specs.CertificateFaults.{IsFault}
 use Rattle.tt_proof.specs.CertificateText.{IsCertificate, IsTooDeep}
+use Rattle.tt_proof.specs.Outlines.{Outline, IsSharedCertificate, unfolded}
 use Rattle.tt_proof.specs.Strategy.{Strategy}
 use Rattle.tt_proof.specs.Wins.{Wins}
 use Rattle.devices.specs.declared.fault.RunFault.{RunFault}
 use Rattle.devices.specs.declared.fault.RunFault.TheVariants.{Input, Output, Memory}
 use Rattle.tsumego.specs.declared.finding.Finding.{Finding}
 use Rattle.tsumego.specs.declared.finding.Finding.TheVariants.{Valid, Invalid, Refused}
-use Rattle.tsumego.specs.Checking.{Finds, FindsAt, FindsOn, finding_line, finding_status, first_tree, loses, no_certificate, too_deep, wins}
+use Rattle.tsumego.specs.Checking.{Finds, FindsAt, FindsOn, FindsShared, finding_line, finding_status, first_tree, loses, no_certificate, shared_loses, shared_wins, too_deep, unfit, wins}
 use Rattle.devices.specs.Writing.{Breaks}
 use Rattle.tsumego.specs.Writing.{WritesFor}
 
@@ -46,18 +47,32 @@ module _ (p : Standing) (f : Frame) (bytes : List ℕ) (same : f ≡ p.frame) wh
       let k : IsFault p.frame.size bytes TooDeep = subst (λ (g : Frame). IsFault g.size bytes TooDeep) same (subst (λ (x : CertFault). IsFault f.size bytes x) is h) in
       too_deep k
 
+-- the same of a certificate with shared parts
+module _ (p : Standing) (f : Frame) (bytes : List ℕ) (same : f ≡ p.frame) (side : Side) (o : Outline) (is : IsSharedCertificate f.size bytes side o) where
+  here : IsSharedCertificate p.frame.size bytes side o
+  here = subst (λ (g : Frame). IsSharedCertificate g.size bytes side o) same is
+
+  pub shared_wins_at : Wins side p.frame (unfolded [] o) p.state → FindsShared p bytes Valid
+  shared_wins_at w = shared_wins side o here w
+
+  pub shared_loses_at : (Wins side p.frame (unfolded [] o) p.state → ⊥) → FindsShared p bytes Invalid
+  shared_loses_at w = shared_loses side o here w
+
+  pub unfit_at : FindsShared p bytes (Refused 32)
+  unfit_at = unfit side o here
+
 -- what is found behind the first tree
-pub found_behind : (input : List ℕ) (used : ℕ) (t : GameTree) (nodes : List Node) (bytes : List ℕ) (o : Finding) → length input ≤ MAX_BYTES → SpelledUpTo input used t
-    → nodes ≡ main_line t → bytes ≡ trimmed (take (length input - used) (drop used input)) → FindsOn (problem_of nodes) bytes o → Finds input o
-found_behind input used t nodes bytes o small s same is h =
+pub found_behind : (parts : Bool) (input : List ℕ) (used : ℕ) (t : GameTree) (nodes : List Node) (bytes : List ℕ) (o : Finding) → length input ≤ MAX_BYTES → SpelledUpTo input used t
+    → nodes ≡ main_line t → bytes ≡ trimmed (take (length input - used) (drop used input)) → FindsOn parts (problem_of nodes) bytes o → Finds parts input o
+found_behind parts input used t nodes bytes o small s same is h =
     let whole : take (length input - used) (drop used input) ≡ drop used input = take_all _ _ (omega (arith, length-drop used input)) in
     first_tree used t o small s
-    (subst (λ (x : List Node). FindsOn (problem_of x) (trimmed (drop used input)) o) same (subst (λ (x : List ℕ). FindsOn (problem_of nodes) x o) (is ∙ ap trimmed whole) h))
+    (subst (λ (x : List Node). FindsOn parts (problem_of x) (trimmed (drop used input)) o) same (subst (λ (x : List ℕ). FindsOn parts (problem_of nodes) x o) (is ∙ ap trimmed whole) h))
 
 -- the line on what is found was written in part, or not at all
-pub check_breaks : (input bytes : List ℕ) (o : Finding) (e : RunFault) (a b : Option (List ℕ)) → Finds input o → bytes ≡ finding_line o → Breaks bytes e a b
-    → WritesFor None input (Err e) a b
-check_breaks input bytes o Input a b h is w = absurd w
-check_breaks input bytes o Output a b h is w =
+pub check_breaks : (parts : Bool) (input bytes : List ℕ) (o : Finding) (e : RunFault) (a b : Option (List ℕ)) → Finds parts input o → bytes ≡ finding_line o → Breaks bytes e a b
+    → WritesFor parts None input (Err e) a b
+check_breaks parts input bytes o Input a b h is w = absurd w
+check_breaks parts input bytes o Output a b h is w =
     (bytes, w.0, inr (finding_status o, record { finding = o; finds = h; line = is; status_is = refl }), w.1)
-check_breaks input bytes o Memory a b h is w = ([], refl, Appends-kept a a b [] (Appends-nil a) w)
+check_breaks parts input bytes o Memory a b h is w = ([], refl, Appends-kept a a b [] (Appends-nil a) w)

@@ -4,5 +4,6 @@ pub mod Limit
 pub mod OneCheck
 pub mod OneText
 pub mod Progress
+pub mod Turns
 pub mod Values
 pub mod Verdicts

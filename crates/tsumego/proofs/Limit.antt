@@ -1,5 +1,5 @@
 -- Lemmas on inputs past the limit, of which only a part is read.
-use Rattle.std.proofs.Common.{refl, true, false, ◌≡◌, ◌≤◌, ◌+◌, ℕ, List, [], inl, inr, Option, None, Some, Ok, Err, length, take, arith, subst}
+use Rattle.std.proofs.Common.{refl, true, false, ◌≡◌, ◌≤◌, ◌+◌, ℕ, Bool, List, [], inl, inr, Option, None, Some, Ok, Err, length, take, arith, subst}
 use Rattle.std.specs.declared.result.Result.{Result}
 use Rattle.std.proofs.KnownBytes.{Appends-nil, Keeps-refl}
 use Rattle.tt_sgf.specs.declared.trees.TheConstants.{MAX_BYTES}
@@ -54,50 +54,51 @@ module _ (allowed : List Node → Outcome → Type 0) where
     | inr p ↦ absurd (omega (arith, p.0))
   ]
 
--- what is found on a part of the input that is too long as well is found on the input
-long_found : (input part : List ℕ) (o : Finding) → length part ≡ MAX_BYTES + 1 → MAX_BYTES + 1 ≤ length input → Finds part o → Finds input o
-long_found input part o e le (find.too_long long) = find.too_long (omega arith)
-long_found input part o e le (no_tree small none) = absurd (omega arith)
-long_found input part o e le (first_tree count t o' small s h) = absurd (omega arith)
+module _ (parts : Bool) where
+  -- what is found on a part of the input that is too long as well is found on the input
+  long_found : (input part : List ℕ) (o : Finding) → length part ≡ MAX_BYTES + 1 → MAX_BYTES + 1 ≤ length input → Finds parts part o → Finds parts input o
+  long_found input part o e le (find.too_long long) = find.too_long (omega arith)
+  long_found input part o e le (no_tree small none) = absurd (omega arith)
+  long_found input part o e le (first_tree count t o' small s h) = absurd (omega arith)
 
--- what is found on the part up to the limit is found on the input
-found_whole : (input : List ℕ) (o : Finding) → Finds (take (MAX_BYTES + 1) input) o → Finds input o
-found_whole input o h = elim (cut_or_whole (MAX_BYTES + 1) input) [
-  | inl e ↦ subst (λ (x : List ℕ). Finds x o) e h
-  | inr p ↦ long_found input (take (MAX_BYTES + 1) input) o p.0 p.1 h
-]
+  -- what is found on the part up to the limit is found on the input
+  found_whole : (input : List ℕ) (o : Finding) → Finds parts (take (MAX_BYTES + 1) input) o → Finds parts input o
+  found_whole input o h = elim (cut_or_whole (MAX_BYTES + 1) input) [
+    | inl e ↦ subst (λ (x : List ℕ). Finds parts x o) e h
+    | inr p ↦ long_found input (take (MAX_BYTES + 1) input) o p.0 p.1 h
+  ]
 
--- what `check` writes for that part it writes for the input
-check_whole : (input text : List ℕ) (status : ℕ) → IsCheckText (take (MAX_BYTES + 1) input) text status → IsCheckText input text status
-check_whole input text status h = record { finding = h.finding; finds = found_whole input h.finding h.finds; line = h.line; status_is = h.status_is }
+  -- what `check` writes for that part it writes for the input
+  check_whole : (input text : List ℕ) (status : ℕ) → IsCheckText parts (take (MAX_BYTES + 1) input) text status → IsCheckText parts input text status
+  check_whole input text status h = record { finding = h.finding; finds = found_whole input h.finding h.finds; line = h.line; status_is = h.status_is }
 
--- what is written on the part up to the limit is written on the input
-writes_whole : (t : Option Task) (input : List ℕ) (r : Result ℕ RunFault) (a b : Option (List ℕ)) → WritesFor t (take (MAX_BYTES + 1) input) r a b → WritesFor t input r a b
-writes_whole (Some task) input (Ok status) a b w = (w.0, trees_whole (MakesOutcome task) input w.0 status w.1, w.2)
-writes_whole (Some task) input (Err Input) a b w = w
-writes_whole (Some task) input (Err Output) a b w = (w.0, w.1, trees_begun (MakesOutcome task) input w.0 w.2, w.3)
-writes_whole (Some task) input (Err Memory) a b w = (w.0, trees_earlier (MakesOutcome task) input w.0 w.1, w.2)
-writes_whole None input (Ok status) a b w = (w.0, check_whole input w.0 status w.1, w.2)
-writes_whole None input (Err Input) a b w = w
-writes_whole None input (Err Output) a b w = (w.0, w.1, elim w.2 [ inl e ↦ inl e | inr h ↦ inr (h.0, check_whole input w.0 h.0 h.1) ], w.3)
-writes_whole None input (Err Memory) a b w = w
+  -- what is written on the part up to the limit is written on the input
+  writes_whole : (t : Option Task) (input : List ℕ) (r : Result ℕ RunFault) (a b : Option (List ℕ)) → WritesFor parts t (take (MAX_BYTES + 1) input) r a b → WritesFor parts t input r a b
+  writes_whole (Some task) input (Ok status) a b w = (w.0, trees_whole (MakesOutcome task) input w.0 status w.1, w.2)
+  writes_whole (Some task) input (Err Input) a b w = w
+  writes_whole (Some task) input (Err Output) a b w = (w.0, w.1, trees_begun (MakesOutcome task) input w.0 w.2, w.3)
+  writes_whole (Some task) input (Err Memory) a b w = (w.0, trees_earlier (MakesOutcome task) input w.0 w.1, w.2)
+  writes_whole None input (Ok status) a b w = (w.0, check_whole input w.0 status w.1, w.2)
+  writes_whole None input (Err Input) a b w = w
+  writes_whole None input (Err Output) a b w = (w.0, w.1, elim w.2 [ inl e ↦ inl e | inr h ↦ inr (h.0, check_whole input w.0 h.0 h.1) ], w.3)
+  writes_whole None input (Err Memory) a b w = w
 
--- what is written on what was read up to the limit is written on what the reader had to give
-pub writes_read : (t : Option Task) (told : Option (List ℕ)) (bytes : List ℕ) (r : Result ℕ RunFault) (a b : Option (List ℕ)) → IsInput (MAX_BYTES + 1) told bytes
-    → WritesFor t bytes r a b → ForInput told (λ input. WritesFor t input r a b)
-writes_read t None bytes r a b e w = (bytes, w)
-writes_read t (Some input) bytes r a b e w = writes_whole t input r a b (subst (λ (x : List ℕ). WritesFor t x r a b) e w)
+  -- what is written on what was read up to the limit is written on what the reader had to give
+  pub writes_read : (t : Option Task) (told : Option (List ℕ)) (bytes : List ℕ) (r : Result ℕ RunFault) (a b : Option (List ℕ)) → IsInput (MAX_BYTES + 1) told bytes
+      → WritesFor parts t bytes r a b → ForInput told (λ input. WritesFor parts t input r a b)
+  writes_read t None bytes r a b e w = (bytes, w)
+  writes_read t (Some input) bytes r a b e w = writes_whole t input r a b (subst (λ (x : List ℕ). WritesFor parts t x r a b) e w)
 
--- where memory or the input failed, a run may have written nothing
-nothing_written : (t : Option Task) (input : List ℕ) (e : RunFault) (a : Option (List ℕ)) → is_output_fault {A = ℕ} (Err e) ≡ false → WritesFor t input (Err e) a a
-nothing_written (Some task) input Input a quiet = Keeps-refl a
-nothing_written None input Input a quiet = Keeps-refl a
-nothing_written t input Output a quiet = let bad : true ≡ false = quiet in cc
-nothing_written (Some task) input Memory a quiet = ([], nothing, Appends-nil a)
-nothing_written None input Memory a quiet = ([], refl, Appends-nil a)
+  -- where memory or the input failed, a run may have written nothing
+  nothing_written : (t : Option Task) (input : List ℕ) (e : RunFault) (a : Option (List ℕ)) → is_output_fault {A = ℕ} (Err e) ≡ false → WritesFor parts t input (Err e) a a
+  nothing_written (Some task) input Input a quiet = Keeps-refl a
+  nothing_written None input Input a quiet = Keeps-refl a
+  nothing_written t input Output a quiet = let bad : true ≡ false = quiet in cc
+  nothing_written (Some task) input Memory a quiet = ([], nothing, Appends-nil a)
+  nothing_written None input Memory a quiet = ([], refl, Appends-nil a)
 
--- so it may for what the reader had to give
-pub writes_nothing : (t : Option Task) (told : Option (List ℕ)) (e : RunFault) (a : Option (List ℕ)) → is_output_fault {A = ℕ} (Err e) ≡ false
-    → ForInput told (λ input. WritesFor t input (Err e) a a)
-writes_nothing t None e a quiet = ([], nothing_written t [] e a quiet)
-writes_nothing t (Some input) e a quiet = nothing_written t input e a quiet
+  -- so it may for what the reader had to give
+  pub writes_nothing : (t : Option Task) (told : Option (List ℕ)) (e : RunFault) (a : Option (List ℕ)) → is_output_fault {A = ℕ} (Err e) ≡ false
+      → ForInput told (λ input. WritesFor parts t input (Err e) a a)
+  writes_nothing t None e a quiet = ([], nothing_written t [] e a quiet)
+  writes_nothing t (Some input) e a quiet = nothing_written t input e a quiet

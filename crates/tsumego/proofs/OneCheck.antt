@@ -1,5 +1,5 @@
 -- An input has one text and one status that answer `check`.
-use Rattle.std.proofs.Common.{◌≡◌, ℕ, List, Ok, Err, refl, sym, ap, ◌∙◌, drop, arith, subst}
+use Rattle.std.proofs.Common.{◌≡◌, ℕ, false, List, Ok, Err, refl, sym, ap, ◌∙◌, drop, arith, subst}
 use Rattle.std.specs.declared.result.Result.{Result}
 use Rattle.tt_sgf.specs.Grammar.{GameTree, main_line, OneSpelling}
 use Rattle.tt_sgf.specs.Values.{trimmed}
@@ -42,13 +42,13 @@ module _ (one : OneCertificate) where
   found_at p bytes o q (loses s u flat is l) (loses t v level are m) = refl
 
   -- so it is where the problem may be refused before
-  found_on : (r : Result Standing GameFault) (bytes : List ℕ) (o q : Finding) → FindsOn r bytes o → FindsOn r bytes q → o ≡ q
+  found_on : (r : Result Standing GameFault) (bytes : List ℕ) (o q : Finding) → FindsOn false r bytes o → FindsOn false r bytes q → o ≡ q
   found_on (Ok p) bytes o q a b = found_at p bytes o q a b
   found_on (Err e) bytes o q a b = a ∙ sym b
 
   module _ (reading : OneSpelling) where
     -- one thing is found on an input
-    found_same : (input : List ℕ) (o q : Finding) → Finds input o → Finds input q → o ≡ q
+    found_same : (input : List ℕ) (o q : Finding) → Finds false input o → Finds false input q → o ≡ q
     found_same input o q (too_long long) (too_long more) = refl
     found_same input o q (too_long long) (no_tree small none) = absurd (omega arith)
     found_same input o q (too_long long) (first_tree n t q' small s b) = absurd (omega arith)
@@ -60,10 +60,11 @@ module _ (one : OneCertificate) where
     found_same input o q (first_tree n t o' small s a) (first_tree m u q' little r b) =
         let same = reading input n m t u s r in
         found_on (problem_of (main_line u)) (trimmed (drop m input)) o' q'
-        (subst (λ (x : GameTree). FindsOn (problem_of (main_line x)) (trimmed (drop m input)) o') same.1 (subst (λ x. FindsOn (problem_of (main_line t)) (trimmed (drop x input)) o') same.0 a)) b
+        (subst (λ (x : GameTree). FindsOn false (problem_of (main_line x)) (trimmed (drop m input)) o') same.1
+        (subst (λ x. FindsOn false (problem_of (main_line t)) (trimmed (drop x input)) o') same.0 a)) b
 
     -- an input has one text and one status
-    pub checks_same : (input s t : List ℕ) (m n : ℕ) → IsCheckText input s m → IsCheckText input t n → (s ≡ t) × (m ≡ n)
+    pub checks_same : (input s t : List ℕ) (m n : ℕ) → IsCheckText false input s m → IsCheckText false input t n → (s ≡ t) × (m ≡ n)
     checks_same input s t m n a b =
         let same = found_same input a.finding b.finding a.finds b.finds in
         (a.line ∙ ap finding_line same ∙ sym b.line, a.status_is ∙ ap finding_status same ∙ sym b.status_is)

@@ -1,10 +1,10 @@
 -- Lemmas on the text of a verdict.
-use Rattle.std.proofs.Common.{◌≡◌, ◌≤◌, ℕ, Bool, true, false, List, [], ◌++◌, Option, IsSome, refl, sym, ap₂, ◌∙◌, subst, if◌then◌else◌}
+use Rattle.std.proofs.Common.{◌≡◌, ◌≤◌, ℕ, Bool, true, false, List, [], ◌++◌, Option, Some, IsSome, refl, sym, ap₂, ◌∙◌, subst, if◌then◌else◌}
 use Rattle.tt_sgf.specs.declared.size.Size.{Size}
 use Rattle.tt_game.specs.declared.frame.Frame.{Frame}
 use Rattle.tt_game.specs.declared.frame.Side.{Side}
 use Rattle.tt_game.specs.declared.turns.Turn.{Turn}
-use Rattle.tt_game.specs.Game.{HasValue, State, after, value_for}
+use Rattle.tt_game.specs.Game.{HasValue, State, after, value_for, winner_of}
 use Rattle.tt_game.specs.GameLaws.{IsState}
 use Rattle.tt_game.specs.Line.{Standing}
 use Rattle.tt_game.proofs.SomeSide.{state_after, values_forced}
@@ -51,25 +51,40 @@ module _ (line : Standing) (is : IsState line.frame line.state) where
       decided side (first_of u) (if cert then certificate_line line.frame.size side u else []) (won_value side line.frame u line.state is w.wins)
       (first_keeps side u w.wins shown) (follows limits side u cert w low)
 
+  -- a proof that stands at the problem wins there
+  settled_won : (limits : Limits) (p : Proven) (first : Option Turn) → IsSettled line limits p first → IsWon p.side p.frame p.state p.tree → IsWon p.side line.frame line.state p.tree
+  settled_won limits p first h w =
+      subst (λ (s : State). IsWon p.side line.frame s p.tree) h.stands.1 (subst (λ (f : Frame). IsWon p.side f p.state p.tree) h.stands.0 w)
+
   -- the text of a proof that stands at the problem
   pub settled_verdict : (limits : Limits) (total : Option ℕ) (cert : Bool) (p : Proven) (first : Option Turn) (size : Size) (text : List ℕ) → IsSettled line limits p first
       → IsWon p.side p.frame p.state p.tree → size ≡ line.frame.size
       → text ≡ decided_text size p.side first ++ (if cert then certificate_line size p.side p.tree else []) → Verdict line limits total cert text
   settled_verdict limits total cert p first size text h w same e =
-      let won : IsWon p.side line.frame line.state p.tree =
-      subst (λ (s : State). IsWon p.side line.frame s p.tree) h.stands.1 (subst (λ (f : Frame). IsWon p.side f p.state p.tree) h.stands.0 w) in
+      let won = settled_won limits p first h w in
       let shown : p.side ≡ line.state.to_move → IsSome (first_of p.tree) = λ is. subst (λ (o : Option Turn). IsSome o) h.first_is (h.shown.1 is) in
       let is = e ∙ ap₂ (λ (x : Size) (o : Option Turn). decided_text x p.side o ++ (if cert then certificate_line x p.side p.tree else [])) same h.first_is in
       subst (λ (x : List ℕ). Verdict line limits total cert x) (sym is) (won_verdict limits total p.side p.tree cert won h.low shown)
 
+  -- its side is the value
+  pub settled_value : (limits : Limits) (p : Proven) (first : Option Turn) → IsSettled line limits p first → IsWon p.side p.frame p.state p.tree
+      → HasValue line.frame line.state (value_for p.side)
+  settled_value limits p first h w = won_value p.side line.frame p.tree line.state is (settled_won limits p first h w).wins
+
+  -- and so is a side that has won
+  pub winner_value : (side : Side) → winner_of line.frame line.state ≡ Some side → HasValue line.frame line.state (value_for side)
+  winner_value side w = (values_forced line.frame line.state side is).1 0 w
+
+-- what a stuck turn says is what the verdict says for the reason
+pub stuck_for : (line : Standing) (limits : Limits) (total : Option ℕ) (stuck : Stuck) (reason : Reason) → answer.IsUnsettled line limits total reason stuck
+    → IsUnsettledFor line limits total reason
+stuck_for line limits total stuck Budget h = (stuck.turn, h.0, h.2)
+stuck_for line limits total stuck Depth h = (stuck.turn, h.0, h.2)
+stuck_for line limits total stuck Total h = (h.0, h.1, stuck.turn, h.2, stuck.spent.items, h.4, h.5)
+stuck_for line limits total stuck Memory h = tt
+
 -- the text of a stuck turn
 pub stuck_verdict : (line : Standing) (limits : Limits) (total : Option ℕ) (cert : Bool) (stuck : Stuck) (text : List ℕ) → answer.IsUnsettled line limits total stuck.reason stuck
     → text ≡ unsettled_text stuck.reason → Verdict line limits total cert text
-stuck_verdict line limits total cert stuck text h e = subst (λ (x : List ℕ). Verdict line limits total cert x) (sym e) (unsettled stuck.reason (held stuck.reason h))
-  where
-    -- what the stuck turn says is what the verdict says for the reason
-    held : (reason : Reason) → answer.IsUnsettled line limits total reason stuck → IsUnsettledFor line limits total reason
-    held Budget h = (stuck.turn, h.0, h.2)
-    held Depth h = (stuck.turn, h.0, h.2)
-    held Total h = (h.0, h.1, stuck.turn, h.2, stuck.spent.items, h.4, h.5)
-    held Memory h = tt
+stuck_verdict line limits total cert stuck text h e =
+    subst (λ (x : List ℕ). Verdict line limits total cert x) (sym e) (unsettled stuck.reason (stuck_for line limits total stuck stuck.reason h))

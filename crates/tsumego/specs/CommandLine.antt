@@ -8,7 +8,7 @@ use Rattle.clap.specs.declared.builder.value_parser.ValueParser.TheVariants.{Sig
 use Rattle.tt_dfpn.specs.declared.attempts.TheConstants.{MOST_POSITIONS}
 use Rattle.tt_proof.specs.declared.tree.TheConstants.{MOST_DEPTH}
 use Rattle.tt_search.specs.declared.limits.TheConstants.{MOST_EXPANDED}
-use Rattle.tt_share.specs.declared.bounds.TheConstants.{MOST_WORKERS}
+use Rattle.tt_share.specs.declared.capacity.TheConstants.{MOST_WORKERS}
 use Rattle.tsumego.specs.declared.request.TheConstants.{MOST_IN_ALL}
 use Rattle.tsumego.specs.declared.request.Command.{Command}
 use Rattle.tsumego.specs.declared.request.Command.TheVariants.{Score, Check, Solve}
@@ -44,19 +44,24 @@ flag_rule name = record (new_rule name) { long = Some name; action = Some SetTru
 
 -- the options of `solve`
 unfoldable pub solve_app : App
-solve_app = with_rule (with_rule (with_rule (with_rule (with_rule (with_rule (new_app (codes "solve"))
+solve_app = with_rule (with_rule (with_rule (with_rule (with_rule (with_rule (with_rule (new_app (codes "solve"))
     (number_rule (codes "budget") MOST_EXPANDED (codes "100000")))
     (number_rule (codes "depth") MOST_DEPTH (codes "512")))
     (optional_rule (codes "total") MOST_IN_ALL))
     (optional_rule (codes "dfpn") MOST_POSITIONS))
     (number_rule (codes "workers") MOST_WORKERS (codes "1")))
-    (flag_rule (codes "cert"))
+    (flag_rule (codes "cert")))
+    (flag_rule (codes "turns"))
+
+-- the option of `check`
+unfoldable pub check_app : App
+check_app = with_rule (new_app (codes "check")) (flag_rule (codes "parts"))
 
 -- the program's commands and options, as the argument parser reads them
 unfoldable pub tool : App
 tool = with_subcommand (with_subcommand (with_subcommand
     (needing_subcommand (telling_version (new_app (codes "tsumego"))))
-    (new_app (codes "score")).top) (new_app (codes "check")).top) solve_app.top
+    (new_app (codes "score")).top) check_app.top) solve_app.top
 
 -- the number that an option's text spells
 abbrev pub HasNumber : Text → List Row → ℕ → Type 0
@@ -76,11 +81,16 @@ HasFlag name rows b = one_of name rows ≡ Some (bool_text b)
 abbrev pub HasOptions : List Row → Options → Type 0
 HasOptions rows options = HasNumber (codes "budget") rows options.limits.budget × HasNumber (codes "depth") rows options.limits.depth
     × GivesNumber (codes "total") rows options.total × GivesNumber (codes "dfpn") rows options.dfpn
-    × HasNumber (codes "workers") rows options.workers × HasFlag (codes "cert") rows options.cert
+    × HasNumber (codes "workers") rows options.workers × HasFlag (codes "cert") rows options.cert × HasFlag (codes "turns") rows options.turns
 
 -- the subcommand that was met, with its matches, is this command
 abbrev pub Asks : Option (Text × List Row) → Command → Type 0
 Asks None c = ⊥
 Asks (Some p) Score = p.0 ≡ codes "score"
-Asks (Some p) Check = p.0 ≡ codes "check"
+Asks (Some p) (Check parts) = (p.0 ≡ codes "check") × HasFlag (codes "parts") p.1 parts
 Asks (Some p) (Solve options) = (p.0 ≡ codes "solve") × HasOptions p.1 options
+
+-- flags were given that aren't taken together
+abbrev pub Contradicts : Option (Text × List Row) → Type 0
+Contradicts None = ⊥
+Contradicts (Some p) = HasFlag (codes "cert") p.1 true × HasFlag (codes "turns") p.1 true

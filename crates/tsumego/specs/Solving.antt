@@ -1,4 +1,4 @@
--- What `solve` says of a problem: killed or lives with the first turn and a certificate, or unsettled.
+-- What `solve` says of a problem: killed or lives with the first turn and a certificate, or unsettled; and of each legal turn.
 use Rattle.std.specs.Prelude.{◌≡◌, ◌≢◌, ◌≤◌, ℕ, Bool, true, false, List, [], ◌∷◌, ◌++◌, Option, Some, None, Ok, Err, codes}
 use Rattle.std.specs.declared.result.Result.{Result}
 use Rattle.tt_sgf.specs.Bytes.{newline, space}
@@ -12,6 +12,7 @@ use Rattle.tt_game.specs.Game.{HasValue, IsLegal, after, value_for}
 use Rattle.tt_game.specs.Line.{Standing}
 use Rattle.tt_game.specs.Problems.{problem_of}
 use Rattle.tt_game.specs.Sides.{side_word}
+use Rattle.tt_game.specs.Turns.{legal_turns}
 use Rattle.tt_proof.specs.CertificateText.{IsCertificate, certificate_text, shown_turn}
 use Rattle.tt_proof.specs.Proven.{first_of}
 use Rattle.tt_proof.specs.Strategy.{Strategy, depth}
@@ -50,6 +51,15 @@ reason_word Memory = codes "memory"
 abbrev pub unsettled_text : Reason → List ℕ
 unsettled_text reason = codes "unsettled " ++ (reason_word reason ++ newline ∷ [])
 
+-- what is said behind a turn: the side that wins, or why that isn't known
+abbrev pub value_text : Result Side Reason → List ℕ
+value_text (Ok side) = side_word side ++ newline ∷ []
+value_text (Err reason) = unsettled_text reason
+
+-- the line on a turn, behind two blanks
+abbrev pub value_line : Size → Turn → Result Side Reason → List ℕ
+value_line size t value = space ∷ space ∷ (shown_turn size t ++ space ∷ value_text value)
+
 -- ---- what they say
 
 -- the first turn is shown exactly where the winner is to move; it is legal, and keeps the value
@@ -86,11 +96,36 @@ pub data Verdict (p : Standing) (limits : Limits) (total : Option ℕ) (cert : B
       → Follows p limits side first cert lines → Verdict p limits total cert (decided_text p.frame.size side first ++ lines)
   unsettled : (reason : Reason) → IsUnsettledFor p limits total reason → Verdict p limits total cert (unsettled_text reason)
 
--- a verdict on the problem, or the number of its refusal
-abbrev pub SolvesAs : Limits → Option ℕ → Bool → Result Standing GameFault → Outcome → Type 0
-SolvesAs limits total cert (Ok p) o = (text : List ℕ) × (o ≡ Answered text) × Verdict p limits total cert text
-SolvesAs limits total cert (Err e) o = o ≡ Refused (code_of e)
+-- the side has the value, or a search is stuck for the reason
+abbrev pub IsValueOrReason : Standing → Limits → Option ℕ → Result Side Reason → Type 0
+IsValueOrReason p limits total (Ok side) = HasValue p.frame p.state (value_for side)
+IsValueOrReason p limits total (Err reason) = IsUnsettledFor p limits total reason
+
+-- the problem behind a turn, which alone may be undone
+abbrev pub line_behind : Standing → Turn → Standing
+line_behind p t = record { frame = p.frame; state = after p.frame p.state t; before = p.state ∷ [] }
+
+-- a line for each of the turns, with the value behind it, or why that isn't known under the same limits
+abbrev pub AreTurnLines : Standing → Limits → Option ℕ → List Turn → List ℕ → Type 0
+AreTurnLines p limits total [] lines = lines ≡ []
+AreTurnLines p limits total (t ∷ ts) lines = (value : Result Side Reason) × (rest : List ℕ) × IsValueOrReason (line_behind p t) limits total value
+    × (lines ≡ value_line p.frame.size t value ++ rest) × AreTurnLines p limits total ts rest
+
+-- nothing follows, or a line for each legal turn, in rising order, where they are asked for
+abbrev pub TurnsFollow : Standing → Limits → Option ℕ → Bool → List ℕ → Type 0
+TurnsFollow p limits total false lines = lines ≡ []
+TurnsFollow p limits total true lines = AreTurnLines p limits total (legal_turns p.frame p.state) lines
+
+-- a verdict on the problem, and what follows of its turns
+abbrev pub ProblemText : Options → Standing → List ℕ → Type 0
+ProblemText options p text = (verdict lines : List ℕ) × (text ≡ verdict ++ lines)
+    × Verdict p options.limits options.total options.cert verdict × TurnsFollow p options.limits options.total options.turns lines
+
+-- what is said of the problem, or the number of its refusal
+abbrev pub SolvesAs : Options → Result Standing GameFault → Outcome → Type 0
+SolvesAs options (Ok p) o = (text : List ℕ) × (o ≡ Answered text) × ProblemText options p text
+SolvesAs options (Err e) o = o ≡ Refused (code_of e)
 
 -- what `solve` makes of a main line; workers and df-pn have no part in it
 abbrev pub Solves : Options → List Node → Outcome → Type 0
-Solves options nodes o = SolvesAs options.limits options.total options.cert (problem_of nodes) o
+Solves options nodes o = SolvesAs options (problem_of nodes) o

@@ -1,5 +1,5 @@
 -- What a command does with each game tree of its input.
-use Rattle.std.specs.Prelude.{◌≡◌, List, Option, None, Some, Ok, Err}
+use Rattle.std.specs.Prelude.{◌≡◌, Bool, false, List, Option, None, Some, Ok, Err}
 use Rattle.std.specs.declared.result.Result.{Result}
 use Rattle.tt_sgf.specs.declared.nodes.Node.{Node}
 use Rattle.tt_game.specs.declared.faults.GameFault.{GameFault}
@@ -31,5 +31,11 @@ MakesOutcome (Solve options) = Solves options
 -- what the command does with each tree; `check` reads the first one alone
 abbrev pub task_of : Command → Option Task
 task_of commands.Score = Some Score
-task_of commands.Check = None
+task_of (commands.Check parts) = None
 task_of (commands.Solve options) = Some (Solve options)
+
+-- whether a certificate may share parts
+abbrev pub shares_parts : Command → Bool
+shares_parts commands.Score = false
+shares_parts (commands.Check parts) = parts
+shares_parts (commands.Solve options) = false

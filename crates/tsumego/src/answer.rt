@@ -4,7 +4,7 @@ ghost use Rattle.devices.specs.Faults.{is_input_fault, is_output_fault};
 ghost use Rattle.devices.specs.Watching.{TakesAtMost};
 ghost use Rattle.devices.specs.Writing.{ForInput, WritesText};
 ghost use Rattle.tsumego.specs.inside.Lines.{WritesOutcome};
-ghost use Rattle.tsumego.specs.Tasks.{MakesOutcome, task_of};
+ghost use Rattle.tsumego.specs.Tasks.{MakesOutcome, shares_parts, task_of};
 ghost use Rattle.tsumego.specs.Trees.{line_of};
 ghost use Rattle.tsumego.specs.Writing.{Writes, WritesFor};
 
@@ -89,7 +89,7 @@ fn answer_trees<X: Threads + Wait + Sync, W: Write>(
     writer: &mut Watched<W>,
 ) -> Result<u8, RunFault>
     requires { writer.old.failed ≡ false }
-    ensures written { WritesFor (Some task.now) input.now result (W.contents writer.old.device) (W.contents writer.new.device) }
+    ensures written { WritesFor false (Some task.now) input.now result (W.contents writer.old.device) (W.contents writer.new.device) }
     ensures reading { is_input_fault result ≡ false }
     ensures failed { writer.new.failed ≡ is_output_fault result }
 {
@@ -106,26 +106,32 @@ fn answer_trees<X: Threads + Wait + Sync, W: Write>(
                 }
                 number += 1;
             }
-            Err(SgfFault::Syntax) => return refuse(alloc, writer, number, 1),
-            Err(SgfFault::TooLong) => return refuse(alloc, writer, number, 2),
+            Err(SgfFault::Syntax) => return refuse(alloc, writer, number, SgfFault::Syntax.code()),
+            Err(SgfFault::TooLong) => return refuse(
+                alloc,
+                writer,
+                number,
+                SgfFault::TooLong.code(),
+            ),
             Err(SgfFault::NoMemory) => return Err(RunFault::Memory),
         }
     }
     Ok(if refused { 1 } else { 0 })
 }
 
-/// Answers the certificate of an input.
+/// Answers the certificate of an input, which may share parts where that is said.
 fn answer_certificate<W: Write>(
     alloc: Global,
+    parts: bool,
     input: &[u8],
     writer: &mut Watched<W>,
 ) -> Result<u8, RunFault>
     requires { writer.old.failed ≡ false }
-    ensures written { WritesFor None input.now result (W.contents writer.old.device) (W.contents writer.new.device) }
+    ensures written { WritesFor parts None input.now result (W.contents writer.old.device) (W.contents writer.new.device) }
     ensures reading { is_input_fault result ≡ false }
     ensures failed { writer.new.failed ≡ is_output_fault result }
 {
-    let Ok(finding) = find(alloc, input) else {
+    let Ok(finding) = find(alloc, parts, input) else {
         return Err(RunFault::Memory);
     };
     let Ok(text) = finding.line(alloc) else {
@@ -143,8 +149,19 @@ fn task_of(command: &Command) -> Option<Task>
 {
     match command {
         Command::Score => Some(Task::Score),
-        Command::Check => None,
+        Command::Check(_) => None,
         Command::Solve(options) => Some(Task::Solve(*options)),
+    }
+}
+
+/// Whether a certificate may share parts.
+fn shares_parts(command: &Command) -> bool
+    ensures { result ≡ shares_parts command.now }
+{
+    match command {
+        Command::Score => false,
+        Command::Check(parts) => *parts,
+        Command::Solve(_) => false,
     }
 }
 
@@ -163,7 +180,7 @@ fn answer<X: Threads + Wait + Sync, W: Write>(
 {
     match task_of(command) {
         Some(task) => answer_trees(rt, alloc, &task, input, writer),
-        None => answer_certificate(alloc, input, writer),
+        None => answer_certificate(alloc, shares_parts(command), input, writer),
     }
 }
 

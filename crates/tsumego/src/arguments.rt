@@ -1,8 +1,8 @@
 //! The command line.
-ghost use Rattle.std.specs.Prelude.{◌≡◌, ◌≤◌, false, [], true, IfErr, IfOk, OnOk, IfSome, map, string_bytes};
+ghost use Rattle.std.specs.Prelude.{◌≡◌, ◌⊎◌, ◌≤◌, false, [], true, IfErr, IfOk, OnOk, IfSome, map, string_bytes};
 ghost use Rattle.clap.specs.Words.{app_of, subcommand_of, subcommand_rows_of, fault_of, takes, kind_of, new_app, rows_of, rule_of, found_of};
 ghost use Rattle.clap.specs.declared.builder.command.Command.TheViews.{out-Command};
-ghost use Rattle.tsumego.specs.CommandLine.{Asks, GivesNumber, HasFlag, HasNumber, HasOptions, flag_rule, number_rule, optional_rule, solve_app, tool};
+ghost use Rattle.tsumego.specs.CommandLine.{Asks, Contradicts, GivesNumber, HasFlag, HasNumber, HasOptions, check_app, flag_rule, number_rule, optional_rule, solve_app, tool};
 
 use crate::request::{Command, MOST_IN_ALL, Options};
 use clap::error::ErrorKind;
@@ -30,7 +30,17 @@ const DFPN_HELP: &str =
 
 const WORKERS_HELP: &str = "How many threads search first turns side by side, 1 to 64";
 
+const PARTS_HELP: &str = "Read a certificate that may share parts";
+
 const CERT_HELP: &str = "Write the certificate on a line of its own";
+
+const TURNS_HELP: &str = "Write a line on each legal turn, with the value behind it";
+
+/// What is said where flags are given that aren't taken together.
+const APART: &str = "error: the argument '--turns' cannot be used with '--cert'
+
+For more information, try 'tsumego solve --help'.
+";
 
 /// The version, which CHANGELOG, README and the manual page name too.
 const VERSION: &str = "0.1.0";
@@ -50,6 +60,7 @@ Answers, where K counts the problems:
   K lives          the attacker is to move, and the defender wins
   K unsettled WHY  a limit came first: budget, depth, total or memory
   K refused N      no problem, for the reason with this number
+With --turns a line for each legal turn follows: the turn, and killed, lives or unsettled WHY
 Status: 0 all answered, 1 something refused, 2 these words or the run failed";
 
 const SCORE_END: &str = "Reads game records from standard input:
@@ -127,24 +138,29 @@ fn solve_parser<'a>(alloc: Global) -> Result<Parser<'a>, AllocError>
     let dfpn = optional_number(alloc, "dfpn", MOST_POSITIONS, DFPN_HELP);
     let workers = number_option(alloc, "workers", MOST_WORKERS as u32, "1", WORKERS_HELP);
     let cert = flag(alloc, "cert", CERT_HELP);
+    let turns = flag(alloc, "turns", TURNS_HELP);
     let one = named(alloc, "solve", "Solve problems", SOLVE_END).arg(budget)?;
     let two = one.arg(depth)?;
     let three = two.arg(total)?;
     let four = three.arg(dfpn)?;
     let five = four.arg(workers)?;
-    five.arg(cert)
+    let six = five.arg(cert)?;
+    six.arg(turns)
+}
+
+fn check_parser<'a>(alloc: Global) -> Result<Parser<'a>, AllocError>
+    ensures shape { IfOk result (λ r. app_of r ≡ check_app) }
+    ensures local { IfOk result (λ r. (out-Command r).has_globals ≡ false) }
+{
+    let about = "Check the certificate behind a problem";
+    named(alloc, "check", about, CHECK_END).arg(flag(alloc, "parts", PARTS_HELP))
 }
 
 fn parser<'a>(alloc: Global) -> Result<Parser<'a>, AllocError>
     ensures { IfOk result (λ r. app_of r ≡ tool) }
 {
     let score = named(alloc, "score", "Score game records by area", SCORE_END);
-    let check = named(
-        alloc,
-        "check",
-        "Check the certificate behind a problem",
-        CHECK_END,
-    );
+    let check = check_parser(alloc)?;
     let solve = solve_parser(alloc)?;
     let about = "Life-and-death problems of Go, read from standard input";
     let plain = named(alloc, "tsumego", about, TOOL_END).version(VERSION);
@@ -197,6 +213,13 @@ fn is_within(given: Option<u32>, most: u32) -> bool
     }
 }
 
+/// Whether one flag at the most was given.
+fn are_apart(one: bool, other: bool) -> bool
+    ensures { result ≡ true → one ≡ true → other ≡ false }
+{
+    !(one && other)
+}
+
 /// The options of `solve`.
 fn options_of(matches: &ArgMatches<'_>) -> Option<Options>
     ensures { IfSome result (HasOptions (rows_of (found_of matches.now))) }
@@ -207,12 +230,14 @@ fn options_of(matches: &ArgMatches<'_>) -> Option<Options>
     let dfpn = given_number(matches, "dfpn").ok()?;
     let workers = number_of(matches, "workers")?;
     let cert = flag_of(matches, "cert")?;
+    let turns = flag_of(matches, "turns")?;
     if depth < 1
         || depth > MOST_DEPTH as u32
         || workers < 1
         || workers > MOST_WORKERS as u32
         || !is_within(total, MOST_IN_ALL)
         || !is_within(dfpn, MOST_POSITIONS)
+        || !are_apart(cert, turns)
     {
         return None;
     }
@@ -223,6 +248,7 @@ fn options_of(matches: &ArgMatches<'_>) -> Option<Options>
         dfpn,
         workers: workers as usize,
         cert,
+        turns,
     })
 }
 
@@ -232,9 +258,32 @@ fn asked(matches: &ArgMatches<'_>) -> Option<Command>
 {
     match matches.subcommand() {
         Some(("score", _)) => Some(Command::Score),
-        Some(("check", _)) => Some(Command::Check),
+        Some(("check", matches)) => Some(Command::Check(flag_of(matches, "parts")?)),
         Some(("solve", matches)) => Some(Command::Solve(options_of(matches)?)),
         _ => None,
+    }
+}
+
+/// Whether a parse met flags that aren't taken together.
+fn contradicts(matches: &ArgMatches<'_>) -> bool
+    ensures { result ≡ true → Contradicts (subcommand_rows_of matches.now) }
+{
+    match matches.subcommand() {
+        Some(("solve", matches)) => {
+            flag_of(matches, "cert") == Some(true) && flag_of(matches, "turns") == Some(true)
+        }
+        _ => false,
+    }
+}
+
+/// Why a parse met no command. The text is empty where memory was refused.
+fn no_command(alloc: Global, matches: &ArgMatches<'_>) -> ArgFault
+    ensures { (string_bytes result.0 ≡ []) ⊎ Contradicts (subcommand_rows_of matches.now) }
+{
+    let text = if contradicts(matches) { APART } else { "" };
+    match String::from_str(alloc, text) {
+        Ok(text) => ArgFault(text),
+        Err(AllocError) => ArgFault(String::new(alloc)),
     }
 }
 
@@ -244,7 +293,7 @@ pub fn command(alloc: Global, words: &[String]) -> Result<Command, ArgFault>
     ensures asked { IfOk result (Asks (subcommand_of tool (map string_bytes words.now))) }
     ensures clean { OnOk result (fault_of tool (map string_bytes words.now) ≡ []) }
     ensures taken { takes tool (map string_bytes words.now) ≡ true
-        → IfErr result (λ fault. string_bytes fault.0 ≡ []) }
+        → IfErr result (λ fault. (string_bytes fault.0 ≡ []) ⊎ Contradicts (subcommand_of tool (map string_bytes words.now))) }
 {
     let Ok(parser) = parser(alloc) else {
         return Err(ArgFault(String::new(alloc)));
@@ -252,7 +301,7 @@ pub fn command(alloc: Global, words: &[String]) -> Result<Command, ArgFault>
     match parser.try_get_matches_from(words) {
         Ok(matches) => match asked(&matches) {
             Some(command) => Ok(command),
-            None => Err(ArgFault(String::new(alloc))),
+            None => Err(no_command(alloc, &matches)),
         },
         Err(error) => Err(fault(alloc, &error)),
     }

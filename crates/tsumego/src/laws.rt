@@ -1,5 +1,5 @@
 //! Laws of what the program writes. Each is a function that does nothing, whose contract is the law.
-ghost use Rattle.std.specs.Prelude.{◌≡◌, ℕ, List};
+ghost use Rattle.std.specs.Prelude.{◌≡◌, ℕ, List, false};
 ghost use Rattle.tsumego.specs.Checking.{IsCheckText};
 ghost use Rattle.tsumego.specs.Laws.{VerdictsAreValues};
 ghost use Rattle.tsumego.specs.Tasks.{Scores};
@@ -12,9 +12,9 @@ pub fn one_score_text()
     tt_sgf::laws::one_reading();
 }
 
-/// An input has one text and one status that answer `check`.
+/// An input has one text and one status that answer `check` without `--parts`.
 pub fn one_check_text()
-    ensures { (input s t : List ℕ) (m n : ℕ) → IsCheckText input s m → IsCheckText input t n → (s ≡ t) × (m ≡ n) }
+    ensures { (input s t : List ℕ) (m n : ℕ) → IsCheckText false input s m → IsCheckText false input t n → (s ≡ t) × (m ≡ n) }
 {
     tt_sgf::laws::one_reading();
     tt_proof::laws::one_certificate();

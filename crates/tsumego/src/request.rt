@@ -1,8 +1,8 @@
 //! What the program can be asked to do.
-ghost use Rattle.std.specs.Prelude.{◌≤◌, IfSome};
+ghost use Rattle.std.specs.Prelude.{◌≡◌, ◌≤◌, IfSome, true, false};
 ghost use Rattle.std.proofs.Props.{props};
 ghost use Rattle.tt_dfpn.specs.declared.attempts.TheConstants.{MOST_POSITIONS};
-ghost use Rattle.tt_share.specs.declared.bounds.TheConstants.{MOST_WORKERS};
+ghost use Rattle.tt_share.specs.declared.capacity.TheConstants.{MOST_WORKERS};
 ghost use Rattle.tsumego.specs.declared.request.TheConstants.{MOST_IN_ALL};
 
 use tt_search::Limits;
@@ -24,10 +24,13 @@ pub struct Options {
     pub workers: usize,
     /// Whether the certificate of each verdict is written.
     pub cert: bool,
+    /// Whether the value behind each legal turn is written. Then no certificate is.
+    pub turns: bool,
     ghost depth_in: { 1 ≤ limits.depth },
     ghost total_in: { IfSome total (λ n. (1 ≤ n) × (n ≤ MOST_IN_ALL)) } by { Prim.hlevel props },
     ghost dfpn_in: { IfSome dfpn (λ n. (1 ≤ n) × (n ≤ MOST_POSITIONS)) } by { Prim.hlevel props },
     ghost workers_in: { (1 ≤ workers) × (workers ≤ MOST_WORKERS) },
+    ghost apart: { cert ≡ true → turns ≡ false } by { Prim.hlevel props },
 }
 
 /// What the program is asked to do.
@@ -35,8 +38,8 @@ pub struct Options {
 pub enum Command {
     /// Score each game record of the input.
     Score,
-    /// Check the certificate that follows the first tree of the input, a problem.
-    Check,
+    /// Check the certificate that follows the first tree of the input, a problem. The flag says that it may share parts.
+    Check(bool),
     /// Solve each problem of the input.
     Solve(Options),
 }

@@ -1,22 +1,24 @@
 //! Solves the problem that a tree is.
 ghost use Rattle.std.specs.Prelude.{◌≡◌, ◌≤◌, ◌+◌, IfOk, IfSome, None, length, true};
 ghost use Rattle.tt_sgf.specs.declared.trees.TheConstants.{MAX_BYTES};
-ghost use Rattle.tt_game.specs.Game.{winner_of};
+ghost use Rattle.tt_game.specs.Game.{IsLegal, winner_of};
 ghost use Rattle.tt_game.specs.GameLaws.{IsState};
+ghost use Rattle.tt_game.specs.Turns.{legal_turns};
 ghost use Rattle.tt_proof.specs.CertificateText.{certificate_text};
 ghost use Rattle.tt_proof.specs.Proven.{StandsAt};
 ghost use Rattle.tt_share.specs.Answers.{IsAnswer};
-ghost use Rattle.tsumego.specs.Solving.{Solves, Verdict};
+ghost use Rattle.tsumego.specs.Solving.{AreTurnLines, IsValueOrReason, ProblemText, Solves, TurnsFollow, Verdict, line_behind};
 
 use crate::outcome::Outcome;
 use crate::request::Options;
-use crate::verdict::verdict_text;
+use crate::verdict::{put_value_line, value_of, verdict_text};
 use std::alloc::Global;
 use std::sync::{Arc, Wait};
 use std::thread::Threads;
-use tt_dfpn::find_proof;
-use tt_game::{GameFault, Line, problem};
+use tt_dfpn::{Visits, find_proof};
+use tt_game::{GameFault, Line, Side, Turn, problem};
 use tt_proof::{Proof, write_cert};
+use tt_search::Reason;
 use tt_sgf::{Items, MAX_BYTES, MainLine, NoMemory, Size};
 use tt_share::{Answer, CertLog, NoGate, View};
 
@@ -48,8 +50,9 @@ fn found(
     let Some(positions) = options.dfpn else {
         return Ok(None);
     };
+    let mut visits = Visits { left: positions };
     let mut copy = line.try_clone()?;
-    let Some(proof) = find_proof(alloc, &mut copy, options.limits.depth(), positions)? else {
+    let Some(proof) = find_proof(alloc, &mut copy, options.limits.depth(), &mut visits)? else {
         return Ok(None);
     };
     if !options.cert || is_checkable(alloc, &proof, line.frame().size, bytes)? {
@@ -95,6 +98,113 @@ fn solve_problem<X: Threads + Wait + Sync>(
 }
 
 /// The verdict on the problem at a line.
+fn verdict_at<X: Threads + Wait + Sync>(
+    rt: &X,
+    alloc: Global,
+    line: &Line,
+    options: Options,
+    bytes: usize,
+) -> Result<Vec<u8>, NoMemory>
+    requires open { winner_of line.now.frame line.now.state ≡ None }
+    requires state { IsState line.now.frame line.now.state }
+    ensures { IfOk result (λ text. Verdict line.now options.limits options.total options.cert text.items) }
+{
+    let answer = solve_problem(rt, alloc, line, options, bytes)?;
+    verdict_text(
+        alloc,
+        line,
+        &options.limits,
+        options.total,
+        &answer,
+        options.cert,
+    )
+}
+
+/// Which side wins at a line, or why that isn't known.
+fn value_at<X: Threads + Wait + Sync>(
+    rt: &X,
+    alloc: Global,
+    line: &Line,
+    options: Options,
+) -> Result<Side, Reason>
+    requires { IsState line.now.frame line.now.state }
+    ensures { IsValueOrReason line.now options.limits options.total result }
+{
+    if let Some(side) = line.winner() {
+        return Ok(side);
+    }
+    match solve_problem(rt, alloc, line, options, 0) {
+        Ok(answer) => value_of(line, &options.limits, options.total, &answer),
+        Err(NoMemory) => Err(Reason::Memory),
+    }
+}
+
+/// The line behind a legal turn.
+fn line_behind(line: &Line, turn: Turn) -> Result<Line, NoMemory>
+    requires { IsLegal line.now.frame line.now.state turn }
+    ensures { IfOk result (λ l. l ≡ line_behind line.now turn) }
+{
+    let mut next = line.try_clone()?;
+    next.push_legal(turn)?;
+    Ok(next)
+}
+
+/// Which side wins behind a legal turn, or why that isn't known.
+fn value_behind<X: Threads + Wait + Sync>(
+    rt: &X,
+    alloc: Global,
+    line: &Line,
+    options: Options,
+    turn: Turn,
+) -> Result<Side, Reason>
+    requires state { IsState line.now.frame line.now.state }
+    requires legal { IsLegal line.now.frame line.now.state turn }
+    ensures { IsValueOrReason (line_behind line.now turn) options.limits options.total result }
+{
+    match line_behind(line, turn) {
+        Ok(next) => value_at(rt, alloc, &next, options),
+        Err(NoMemory) => Err(Reason::Memory),
+    }
+}
+
+/// The lines on the legal turns of the problem at a line.
+fn turn_lines<X: Threads + Wait + Sync>(
+    rt: &X,
+    alloc: Global,
+    line: &Line,
+    options: Options,
+) -> Result<Vec<u8>, NoMemory>
+    requires { IsState line.now.frame line.now.state }
+    ensures { IfOk result (λ lines. AreTurnLines line.now options.limits options.total (legal_turns line.now.frame line.now.state) lines.items) }
+{
+    let turns = line.turns();
+    let mut lines = Vec::new(alloc);
+    for turn in turns.as_slice() {
+        let value = value_behind(rt, alloc, line, options, *turn);
+        put_value_line(&mut lines, line, *turn, value)?;
+    }
+    Ok(lines)
+}
+
+/// What follows of the problem's turns, nothing where it isn't asked for.
+fn asked_lines<X: Threads + Wait + Sync>(
+    rt: &X,
+    alloc: Global,
+    line: &Line,
+    options: Options,
+) -> Result<Vec<u8>, NoMemory>
+    requires { IsState line.now.frame line.now.state }
+    ensures { IfOk result (λ lines. TurnsFollow line.now options.limits options.total options.turns lines.items) }
+{
+    if options.turns {
+        turn_lines(rt, alloc, line, options)
+    } else {
+        Ok(Vec::new(alloc))
+    }
+}
+
+/// What is said of the problem at a line: a verdict, and the lines on its turns where they are asked for.
+#[tactic(auto, using(crate::proofs::Turns::problem_text))]
 fn solve_at<X: Threads + Wait + Sync>(
     rt: &X,
     alloc: Global,
@@ -104,21 +214,15 @@ fn solve_at<X: Threads + Wait + Sync>(
 ) -> Result<Items<u8>, NoMemory>
     requires open { winner_of line.now.frame line.now.state ≡ None }
     requires state { IsState line.now.frame line.now.state }
-    ensures { IfOk result (λ text. Verdict line.now options.limits options.total options.cert text) }
+    ensures { IfOk result (λ text. ProblemText options line.now text) }
 {
-    let answer = solve_problem(rt, alloc, line, options, bytes)?;
-    let text = verdict_text(
-        alloc,
-        line,
-        &options.limits,
-        options.total,
-        &answer,
-        options.cert,
-    )?;
+    let mut text = verdict_at(rt, alloc, line, options, bytes)?;
+    let lines = asked_lines(rt, alloc, line, options)?;
+    text.extend_from_slice(lines.as_slice())?;
     Ok(Items::from_vec(text))
 }
 
-/// The verdict on the problem that a main line is, or its refusal. The problem's text has so many bytes.
+/// What is said of the problem that a main line is, or its refusal. The problem's text has so many bytes.
 pub fn solve<X: Threads + Wait + Sync>(
     rt: &X,
     alloc: Global,

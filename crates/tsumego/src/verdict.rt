@@ -4,7 +4,7 @@ ghost use Rattle.tt_game.specs.GameLaws.{IsState};
 ghost use Rattle.tt_proof.specs.Proven.{IsWon, first_of};
 ghost use Rattle.tt_proof.specs.Strategy.{IsOnBoard};
 ghost use Rattle.tt_share.specs.Answers.{IsAnswer};
-ghost use Rattle.tsumego.specs.Solving.{Verdict, certificate_line, decided_text, first_text, reason_word, unsettled_text};
+ghost use Rattle.tsumego.specs.Solving.{IsValueOrReason, Verdict, certificate_line, decided_text, first_text, reason_word, unsettled_text, value_line, value_text};
 
 use std::alloc::Global;
 use tt_game::{Line, Side, Turn};
@@ -80,15 +80,44 @@ fn decided(
     Ok(out)
 }
 
+/// Writes which side wins behind the bytes, or why that isn't known.
+fn put_value(out: &mut Vec<u8>, value: Result<Side, Reason>) -> Result<(), NoMemory>
+    ensures { OnOk result (out.new.items ≡ out.old.items ++ value_text value) }
+{
+    match value {
+        Ok(side) => out.extend_from_slice(side.word())?,
+        Err(reason) => {
+            out.extend_from_slice(b"unsettled ")?;
+            out.extend_from_slice(reason_word(reason))?;
+        }
+    }
+    out.push(b'\n')?;
+    Ok(())
+}
+
 /// That no win was found, and why.
 fn unsettled(alloc: Global, reason: Reason) -> Result<Vec<u8>, NoMemory>
     ensures { IfOk result (λ text. text.items ≡ unsettled_text reason) }
 {
     let mut out = Vec::new(alloc);
-    out.extend_from_slice(b"unsettled ")?;
-    out.extend_from_slice(reason_word(reason))?;
-    out.push(b'\n')?;
+    put_value(&mut out, Err(reason))?;
     Ok(out)
+}
+
+/// Writes the line on a turn behind the bytes.
+pub fn put_value_line(
+    out: &mut Vec<u8>,
+    line: &Line,
+    turn: Turn,
+    value: Result<Side, Reason>,
+) -> Result<(), NoMemory>
+    requires { IsOnBoard line.now.frame.size turn }
+    ensures { OnOk result (out.new.items ≡ out.old.items ++ value_line line.now.frame.size turn value) }
+{
+    out.extend_from_slice(b"  ")?;
+    put_shown(out, turn, line.frame().size)?;
+    out.push(b' ')?;
+    put_value(out, value)
 }
 
 /// The verdict that an answer is.
@@ -109,5 +138,22 @@ pub fn verdict_text(
             decided(alloc, proof, first, line.frame().size, cert)
         }
         Answer::Unsettled(stuck) => unsettled(alloc, stuck.reason),
+    }
+}
+
+/// The value that an answer tells, or why it tells none.
+pub fn value_of(
+    line: &Line,
+    limits: &Limits,
+    total: Option<u32>,
+    answer: &Answer,
+) -> Result<Side, Reason>
+    requires state { IsState line.now.frame line.now.state }
+    requires answer { IsAnswer line.now limits.now total answer.now }
+    ensures { IsValueOrReason line.now limits.now total result }
+{
+    match answer {
+        Answer::Settled { proof, first: _ } => Ok(proof.side()),
+        Answer::Unsettled(stuck) => Err(stuck.reason),
     }
 }

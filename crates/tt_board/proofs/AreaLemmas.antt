@@ -40,10 +40,10 @@ bit_of (suc zero) true lt e = refl
 bit_of (suc zero) false lt e = absurd (true≢false e)
 bit_of (suc (suc x)) b lt e = absurd (omega arith)
 
--- the bit of a number, at its place in its word
+-- the bit of a number, at its index in its word
 placed_bit : (words : List ℕ) (n j i : ℕ) → n / 64 ≡ j → n % 64 ≡ i → eqb (bit_at (get_or words j 0) i) 1 ≡ bit_in words n
 unfolding bit_in
-placed_bit words n j i word place = rw (← word, ← place) refl
+placed_bit words n j i word index = rw (← word, ← index) refl
 
 -- words whose bits are 0 from the n-th on
 module _ (words : List ℕ) (n : ℕ) (past : (q : ℕ) → n ≤ q → q < BITS → bit_in words q ≡ false) where

@@ -114,7 +114,7 @@ releasing_more s old before e ns after left p r in_p wide within living stone = 
 -- when none is left they are gone
 module _ (s : Size) (old : List ℕ) (before : Colouring) (e : ℕ) (ns : List ℕ) (after : Colouring) (left : ℕ) (r : Releasing s old before e ns after left) (living : e ≢ 0)
     (same : length ns ≡ length old) (none : (k : ℕ) → k < length ns → name_at ns k ≢ e) where
-  -- the name stands nowhere, so all its places are empty
+  -- the name stands nowhere, so all its points are empty
   no_more : (k : ℕ) → name_at ns k ≢ e
   no_more k is = elim (cases_lt k (length ns)) [
     | inl inside ↦ none k inside is
@@ -127,9 +127,9 @@ module _ (s : Size) (old : List ℕ) (before : Colouring) (e : ℕ) (ns : List �
   pub released_gone : (q : ℕ) → name_at old q ≡ e → entry_at after q ≡ None
   released_gone q was = r.gone q was (no_more q)
 
--- ---- the stones of a chain from a place on
+-- ---- the stones of a chain from a point on
 
--- a stone of the chain on that place is one of them, and one of another isn't
+-- a stone of the chain on that point is one of them, and one of another isn't
 pub stones_from : (ns : List ℕ) (m p : ℕ) → p < length ns → stone_count (drop p ns) m ≡ cond (eqb (name_at ns p) m) 1 0 + stone_count (drop (p + 1) ns) m
 unfolding stone_count
 stones_from ns m p below = sum_by-drop_more (λ y. cond (eqb y m) 1 0) ns p 0 below
@@ -144,7 +144,7 @@ stones_not_here ns m p below other =
     let none : ◌≡◌ {A = ℕ} (cond (eqb (name_at ns p) m) 1 0) 0 = ap (λ b. cond b 1 0) (ne_eqb (name_at ns p) m other) in
     omega (arith, stones_from ns m p below, none)
 
--- where there are none, no place from there on has the name
+-- where there are none, no point from there on has the name
 pub none_from : (ns : List ℕ) (m p q : ℕ) → stone_count (drop p ns) m ≡ 0 → p ≤ q → q < length ns → name_at ns q ≢ m
 none_from ns m p q none from below is =
     let at : p + (q - p) ≡ q = omega (arith, from) in

@@ -1,10 +1,10 @@
 -- Counts of the points that pass a test.
-use Rattle.std.proofs.Common.{◌≡◌, ◌≢◌, ℕ, zero, suc, add-one, ◌+◌, ◌<◌, ◌≤◌, ◌⊎◌, ◌&&◌, List, [], ◌∷◌, Bool, true, false, not, cond, count_by, get_or, length, Contains, ◌++◌, inl}
+use Rattle.std.proofs.Common.{◌≡◌, ◌≢◌, ℕ, zero, suc, add-one, ◌+◌, ◌<◌, ◌≤◌, ◌⊎◌, ◌&&◌, List, [], ◌∷◌, Bool, true, false, not, cond, count_by, get_or, length, Contains, inl}
 use Rattle.std.proofs.Common.{inr, refl, sym, ap, subst, ◌∙◌, arith}
 use Rattle.std.specs.List.{range_with_len}
 use Rattle.std.proofs.lemmas.Bool.{false≢true, cases_eq, cases_lt, cases_Bool, and_parts, and_from, and_right}
 use Rattle.std.proofs.lemmas.Bool.Decides.{same_from_decides}
-use Rattle.std.proofs.lemmas.List.{get_or_append_left, get_or_push, length_push, get_or_default}
+use Rattle.std.proofs.lemmas.List.{get_or_default}
 use Rattle.std.proofs.lemmas.List.Elements.{Contains-get_or}
 use Rattle.std.proofs.lemmas.List.Sums.{sum_by-cons}
 use Rattle.tt_board.specs.Decided.{Decision, some_below, decided, decided_is, decided_not}
@@ -164,21 +164,6 @@ count_within f n (x ∷ xs) once inside =
     earlier : (k : ℕ) → k ≢ x → Contains (x ∷ xs) k → Contains xs k
     earlier k apart (zero, in', is) = absurd (apart (sym is))
     earlier k apart (suc i, in', is) = (i, omega arith, is)
-
--- one more number that the list hasn't got
-pub once_push : (xs : List ℕ) (y : ℕ) → IsEachOnce xs → (Contains xs y → ⊥) → IsEachOnce (xs ++ y ∷ [])
-once_push xs y d fresh i j before in' =
-    let len = length_push xs y in
-    elim (cases_lt j (length xs)) [
-      | inl inside ↦
-          let ei = get_or_append_left xs (y ∷ []) 0 i (omega arith) in
-          let ej = get_or_append_left xs (y ∷ []) 0 j inside in
-          λ e. d i j before inside (sym ei ∙ e ∙ ej)
-      | inr last ↦
-          let ei = get_or_append_left xs (y ∷ []) 0 i (omega arith) in
-          let ej = get_or_push xs y 0 j (omega arith) in
-          λ e. fresh (subst (Contains xs) (sym ei ∙ e ∙ ej) (Contains-get_or xs i 0 (omega arith)))
-    ]
 
 -- and one more at the head
 pub once_first : (y : ℕ) (xs : List ℕ) → IsEachOnce xs → (Contains xs y → ⊥) → IsEachOnce (y ∷ xs)

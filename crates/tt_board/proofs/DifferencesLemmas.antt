@@ -59,10 +59,6 @@ finished_none c p None = refl
 
 -- ---- from one colouring to the next
 
--- at the start all entries are those here
-pub half_none : (here there c : Colouring) → c ≡ here → ((q : ℕ) → q < 0 → entry_at here q ≡ entry_at there q) → IsHalf here there 0 c
-half_none here there c is h = record { same_length = ap length is; first = λ q below. absurd (omega arith); others = λ q above. ap (λ x. entry_at x q) is }
-
 -- entries that are the same in both count as led on
 pub half_more : (here there c : Colouring) (n m : ℕ) → IsHalf here there n c → n ≤ m → ((q : ℕ) → n ≤ q → q < m → entry_at here q ≡ entry_at there q) → IsHalf here there m c
 half_more here there c n m h le alike = record {
@@ -106,16 +102,16 @@ pub word_bit : (words : List ℕ) (k i : ℕ) → i < 64 → bit_at (get_or word
 unfolding bit_in
 word_bit words k i small none =
     let word : (64 * k + i) / 64 ≡ k = omega arith in
-    let place : (64 * k + i) % 64 ≡ i = omega arith in
-    rw (word, place, none) refl
+    let index : (64 * k + i) % 64 ≡ i = omega arith in
+    rw (word, index, none) refl
 
 -- what is left of a word from the bit of one point on
 module _ (word from p rest : ℕ) (after : from ≤ p) (is : rest ≡ word / 2 ^ (p - from)) where
   -- its bits are the word's
   left_bit : (q : ℕ) → p ≤ q → bit_at rest (q - p) ≡ bit_at word (q - from)
   left_bit q on =
-      let place : p - from + (q - p) ≡ q - from = omega arith in
-      ap (λ x. bit_at x (q - p)) is ∙ ap (λ x. x % 2) (shr-shr word (p - from) (q - p)) ∙ ap (bit_at word) place
+      let index : p - from + (q - p) ≡ q - from = omega arith in
+      ap (λ x. bit_at x (q - p)) is ∙ ap (λ x. x % 2) (shr-shr word (p - from) (q - p)) ∙ ap (bit_at word) index
 
   -- a point whose bit is 0 has the same entry in both
   alike_left : (here there : Colouring) → AreAlikeBy word from here there → (q : ℕ) → p ≤ q → q < from + 64 → bit_at rest (q - p) ≡ 0 → entry_at here q ≡ entry_at there q
@@ -131,8 +127,8 @@ module _ (word from p rest : ℕ) (after : from ≤ p) (is : rest ≡ word / 2 ^
   -- what is left behind one more bit
   pub left_next : (t : ℕ) → rest / 2 ^ t / 2 ≡ word / 2 ^ (p + t + 1 - from)
   left_next t =
-      let place : p - from + t + 1 ≡ p + t + 1 - from = omega arith in
-      ap (λ x. x / 2 ^ t / 2) is ∙ ap (λ x. x / 2) (shr-shr word (p - from) t) ∙ shr-shr word (p - from + t) 1 ∙ ap (λ n. word / 2 ^ n) place
+      let index : p - from + t + 1 ≡ p + t + 1 - from = omega arith in
+      ap (λ x. x / 2 ^ t / 2) is ∙ ap (λ x. x / 2) (shr-shr word (p - from) t) ∙ shr-shr word (p - from + t) 1 ∙ ap (λ n. word / 2 ^ n) index
 
   module _ (some : 0 < rest) (fits : word < 2 ^ 64) where
     lowest : (trailing_zeros w64 rest < 64) × (bit_at rest (trailing_zeros w64 rest) ≡ 1) × ((i : ℕ) → i < trailing_zeros w64 rest → bit_at rest i ≡ 0)

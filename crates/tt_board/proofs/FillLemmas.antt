@@ -49,27 +49,6 @@ module _ (s : Size) (c : Colouring) (fits : length c ≡ point_count s) where
       is_stone x Black e = rw e refl
       is_stone x White e = rw e refl
 
-  -- what is neither a black stone nor a white one is empty
-  pub empty_those : (all left made black white : List ℕ) → ((p : ℕ) → p < point_count s → bit_in all p ≡ true)
-      → AreBitsOf black (length c) (λ p. is_stone_of (entry_at c p) Black) → AreBitsOf white (length c) (λ p. is_stone_of (entry_at c p) White)
-      → ((q : ℕ) → q < BITS → bit_in left q ≡ (bit_in all q && not (bit_in black q))) → ((q : ℕ) → q < BITS → bit_in made q ≡ (bit_in left q && not (bit_in white q)))
-      → AreThose s made c None
-  empty_those all left made black white on blacks whites left_is made_is p in_p =
-      let lt = small p in_p in
-      let inside : p < length c = omega (arith, in_p, fits) in
-      let is : bit_in made p ≡ ((true && not (is_stone_of (entry_at c p) Black)) && not (is_stone_of (entry_at c p) White)) =
-      made_is p lt ∙ rw (left_is p lt, on p in_p, blacks.below p inside lt, whites.below p inside lt) refl in
-      (λ h. bare (entry_at c p) (sym is ∙ h), λ e. is ∙ rw e refl)
-    where
-      bare : (x : Option Colour) → ((true && not (is_stone_of x Black)) && not (is_stone_of x White)) ≡ true → x ≡ None
-      bare None h = refl
-      bare (Some Black) h = absurd (true≢false (sym h))
-      bare (Some White) h = absurd (true≢false (sym h))
-
--- what is left of a set on the board is on it
-pub left_on : (s : Size) (words others made : List ℕ) → AreOn s words → ((q : ℕ) → q < BITS → bit_in made q ≡ (bit_in words q && not (bit_in others q))) → AreOn s made
-left_on s words others made on is q past lt = is q lt ∙ rw (on q past lt) refl
-
 -- ---- the fill
 
 -- what a fill has found so far: points of its own that reach what is wanted, and all beside that

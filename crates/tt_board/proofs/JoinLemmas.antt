@@ -25,16 +25,16 @@ renamed_is a b x h = ap (λ t. cond t b x) (eq-eqb x a h)
 pub renamed_not : (a b x : ℕ) → x ≢ a → renamed a b x ≡ x
 renamed_not a b x h = ap (λ t. cond t b x) (ne_eqb x a h)
 
--- names are changed place by place, and past the end nothing is
+-- names are changed point by point, and past the end nothing is
 pub name_renamed : (a b : ℕ) (ns : List ℕ) (k : ℕ) → a ≢ 0 → name_at (map (renamed a b) ns) k ≡ renamed a b (name_at ns k)
 name_renamed a b ns k living = subst (λ d. get_or (map (renamed a b) ns) k d ≡ renamed a b (name_at ns k)) (renamed_not a b 0 (λ e. living (sym e))) (math.get_or-map (renamed a b) ns k 0)
 
--- what is changed at each place is changed as a whole
+-- what is changed at each point is changed as a whole
 pub renamed_from : (a b : ℕ) (old new : List ℕ) → a ≢ 0 → length new ≡ length old → ((k : ℕ) → k < length old → name_at new k ≡ renamed a b (name_at old k)) → new ≡ map (renamed a b) old
 renamed_from a b old new living fits each = ext_get_or 0 new (map (renamed a b) old) (fits ∙ sym (length-map old (renamed a b)))
     (λ k below. each k (omega (arith, fits)) ∙ sym (name_renamed a b old k living))
 
--- a name in part of its places is another
+-- a name in part of its points is another
 pub IsPartly : ℕ → ℕ → List ℕ → List ℕ → Type 0
 IsPartly a b old new = (k : ℕ) → (name_at new k ≡ name_at old k) ⊎ ((name_at old k ≡ a) × (name_at new k ≡ b))
 
@@ -42,7 +42,7 @@ pub partly_none : (a b : ℕ) (old : List ℕ) → IsPartly a b old old
 unfolding IsPartly
 partly_none a b old k = inl refl
 
--- one more place that had it
+-- one more point that had it
 pub partly_more : (a b : ℕ) (old new : List ℕ) (p : ℕ) → p < length new → name_at new p ≡ a → IsPartly a b old new → IsPartly a b old (set new p b)
 unfolding IsPartly
 partly_more a b old new p in_p is h k = elim (cases_eq k p) [
@@ -61,12 +61,12 @@ partly_more a b old new p in_p is h k = elim (cases_eq k p) [
       ]
 ]
 
--- a place that had another name still has it
+-- a point that had another name still has it
 pub partly_kept : (a b : ℕ) (old new : List ℕ) (k : ℕ) → IsPartly a b old new → name_at old k ≢ a → name_at new k ≡ name_at old k
 unfolding IsPartly
 partly_kept a b old new k h other = elim (h k) [ inl same ↦ same | inr gone ↦ absurd (other gone.0) ]
 
--- once no place has it any more it is changed as a whole
+-- once no point has it any more it is changed as a whole
 pub partly_whole : (a b : ℕ) (old new : List ℕ) → a ≢ 0 → length new ≡ length old → IsPartly a b old new → ((k : ℕ) → k < length old → name_at new k ≢ a) → new ≡ map (renamed a b) old
 unfolding IsPartly
 partly_whole a b old new living fits h none = renamed_from a b old new living fits (λ k below. elim (h k) [
@@ -74,7 +74,7 @@ partly_whole a b old new living fits h none = renamed_from a b old new living fi
   | inr gone ↦ gone.1 ∙ sym (renamed_is a b (name_at old k) gone.0)
 ])
 
--- a place that has it is on the board, where no name stands past that
+-- a point that has it is on the board, where no name stands past that
 pub partly_on_board : (s : Size) (a b : ℕ) (old new : List ℕ) (p : ℕ) → ((q : ℕ) → point_count s ≤ q → name_at old q ≡ 0) → a ≢ 0 → IsPartly a b old new → name_at new p ≡ a
     → p < point_count s
 partly_on_board s a b old new p ends living h is = elim (cases_lt p (point_count s)) [
@@ -84,12 +84,12 @@ partly_on_board s a b old new p ends living h is = elim (cases_lt p (point_count
 
 -- ---- stones
 
--- one place gets another name
+-- one point gets another name
 pub stones_set : (ns : List ℕ) (p x m : ℕ) → p < length ns → stone_count (set ns p x) m + cond (eqb (name_at ns p) m) 1 0 ≡ stone_count ns m + cond (eqb x m) 1 0
 unfolding stone_count
 stones_set ns p x m in_p = sum_by-set (λ y. cond (eqb y m) 1 0) ns p x 0 in_p
 
--- a chain has no more stones than there are places
+-- a chain has no more stones than there are points
 pub stone_count_le : (ns : List ℕ) (m : ℕ) → stone_count ns m ≤ length ns
 unfolding stone_count
 stone_count_le ns m = count_by-le-length (λ x. eqb x m) ns
@@ -122,7 +122,7 @@ some_stone (x ∷ xs) m some = elim (cases_eq x m) [
       (suc t.0, omega (arith, t.1), t.2)
 ]
 
--- a place that another name takes is a stone fewer of the one, and a stone more of the other
+-- a point that another name takes is a stone fewer of the one, and a stone more of the other
 pub stones_fewer : (ns : List ℕ) (p x m : ℕ) → p < length ns → name_at ns p ≡ m → x ≢ m → stone_count (set ns p x) m + 1 ≡ stone_count ns m
 stones_fewer ns p x m in_p is other =
     let one : ◌≡◌ {A = ℕ} (cond (eqb (name_at ns p) m) 1 0) 1 = ap (λ b. cond b 1 0) (eq-eqb (name_at ns p) m is) in
@@ -206,7 +206,7 @@ liberties_others s a b m ns living_a living_b old new =
       | inr apart ↦ sym (renamed_not a b _ apart) ∙ sym (name_renamed a b ns r living_a) ∙ is
     ]
 
-    -- the same places are empty
+    -- the same points are empty
     empty_same : (k : ℕ) → eqb (name_at (map (renamed a b) ns) k) 0 ≡ eqb (name_at ns k) 0
     empty_same k = elim (cases_eq (name_at ns k) a) [
       | inl at ↦ ne_eqb _ 0 (λ e. living_b (sym (renamed_is a b _ at) ∙ sym (name_renamed a b ns k living_a) ∙ e)) ∙ sym (ne_eqb _ 0 (λ e. living_a (sym at ∙ e)))
@@ -215,7 +215,7 @@ liberties_others s a b m ns living_a living_b old new =
 
 -- ---- both counts
 
--- the root of a living chain is a place
+-- the root of a living chain is a point
 pub root_below : (ns : List ℕ) (e : ℕ) → e ≢ 0 → name_at ns (root_of e) ≡ e → root_of e < length ns
 root_below ns e living rooted = elim (cases_lt (root_of e) (length ns)) [
   | inl h ↦ h

@@ -3,10 +3,8 @@ pub mod AreaLemmas
 pub mod AroundLemmas
 pub mod BoardsLemmas
 pub mod CaptureLemmas
-pub mod ChainLemmas
 pub mod CountLemmas
 pub mod DifferencesLemmas
-pub mod ExactLemmas
 pub mod FillLemmas
 pub mod JoinLemmas
 pub mod LiftLemmas

@@ -1,5 +1,5 @@
 -- What a move leaves, once the chains without liberties beside it are lifted.
-use Rattle.std.proofs.Common.{◌≡◌, ◌≢◌, ℕ, ◌<◌, ◌⊎◌, List, length, Some, None, Contains, set, inl, inr, refl, sym, ap, subst, ◌∙◌, arith}
+use Rattle.std.proofs.Common.{◌≡◌, ◌≢◌, ℕ, ◌<◌, ◌⊎◌, length, Some, None, set, inl, inr, refl, sym, ap, subst, ◌∙◌, arith}
 use Rattle.std.proofs.lemmas.Bool.{cases_eq, cases_Bool}
 use Rattle.std.proofs.lemmas.Option.{none-some}
 use Rattle.std.proofs.lemmas.List.{get_or-set_same, get_or-set_other}
@@ -12,7 +12,6 @@ use Rattle.tt_board.specs.Reach.{entry_at, Reaches}
 use Rattle.tt_board.specs.ReachLaws.{reaches_beside, reaches_on, reaches_all}
 use Rattle.tt_board.specs.Decided.{reaches, reaches_is, same_entry}
 use Rattle.tt_board.specs.Play.{other, clear, play_of, IsAlive}
-use Rattle.tt_board.specs.inside.Chain.{IsLifelessChain, IsChainLifted, IsLifted}
 use Rattle.tt_board.proofs.PlayLemmas.{cleared_gone, cleared_kept_other, cleared_kept_alive, clear_from, other_differs}
 
 -- neighbours are each other's
@@ -22,13 +21,11 @@ near_back s p q in_p (in_q, inl (row, inr step)) = (in_p, inl (sym row, inl step
 near_back s p q in_p (in_q, inr (column, inl step)) = (in_p, inr (sym column, inr step))
 near_back s p q in_p (in_q, inr (column, inr step)) = (in_p, inr (sym column, inl step))
 
--- an enclosed chain doesn't reach empty
-pub lifeless : (s : Size) (c : Colouring) (start : ℕ) (chain : List ℕ) → IsLifelessChain s c start chain → (p : ℕ) → Contains chain p → Reaches s c p None → ⊥
-lifeless s c start chain l p member r =
-    reaches_all s c None (λ x. Contains chain x → ⊥)
-    (λ x q in_x not_e near has inside. (l.enclosed x inside q near).0 has)
-    (λ x q in_x not_e near same later inside. later ((l.enclosed x inside q near).1 same))
-    p r.path (l.linked p member).0 r.adjacent r.alike r.other r.found r.beside r.has_entry member
+-- d is c, with some whole chains of colour k lifted that don't reach empty
+pub record IsLifted (s : Size) (c : Colouring) (k : Colour) (d : Colouring) : Type 0 where
+  pub fits : length d ≡ point_count s
+  pub each : (p : ℕ) → (entry_at d p ≡ entry_at c p) ⊎ ((entry_at d p ≡ None) × (entry_at c p ≡ Some k) × (Reaches s c p None → ⊥))
+  pub whole : (p q : ℕ) → IsNeighbour s p q → entry_at c p ≡ Some k → entry_at c q ≡ Some k → entry_at d p ≡ None → entry_at d q ≡ None
 
 -- before any chain is lifted the colouring is as it was
 pub lifted_none : (s : Size) (c : Colouring) (k : Colour) → length c ≡ point_count s → IsLifted s c k c
@@ -37,38 +34,6 @@ lifted_none s c k fits = record {
   each = λ p. inl refl;
   whole = λ p q near mine also gone. absurd (none-some k (sym gone ∙ mine));
 }
-
--- the new stone is there when the opponent's are taken
-pub new_stone : (s : Size) (c : Colouring) (k : Colour) (p : ℕ) (d : Colouring) → p < length c → IsLifted s (set c p (Some k)) (other k) d → entry_at d p ≡ Some k
-new_stone s c k p d inside l =
-    let here : entry_at (set c p (Some k)) p ≡ Some k = get_or-set_same c p (Some k) None inside in
-    elim (l.each p) [
-      | inl same ↦ same ∙ here
-      | inr gone ↦ absurd (other_differs k (sym here ∙ gone.1))
-    ]
-
--- one more chain is lifted
-module _ (s : Size) (c : Colouring) (k : Colour) (d e : Colouring) (start : ℕ) (more : IsChainLifted s c start d e) where
-  -- what is empty stays so
-  pub lifted_kept : (x : ℕ) → entry_at d x ≡ None → entry_at e x ≡ None
-  lifted_kept x bare = elim (more.each x) [ inl same ↦ same ∙ bare | inr now ↦ now.1 ]
-
-  -- with one more whole chain of the colour, those lifted are still whole chains that don't reach empty
-  pub lifted_more : IsLifted s c k d → entry_at c start ≡ Some k → IsLifted s c k e
-  lifted_more l mine = record {
-    fits = more.fits ∙ l.fits;
-    each = λ p. elim (more.each p) [
-      | inl same ↦ elim (l.each p) [
-        | inl before ↦ inl (same ∙ before)
-        | inr before ↦ inr (same ∙ before.0, before.1, before.2)
-      ]
-      | inr now ↦ inr (now.1, (more.lifeless.linked p now.0).1 ∙ mine, lifeless s c start more.chain more.lifeless p now.0)
-    ];
-    whole = λ p q near own also bare. elim (more.each p) [
-      | inl same ↦ lifted_kept q (l.whole p q near own also (sym same ∙ bare))
-      | inr now ↦ more.gone q ((more.lifeless.enclosed p now.0 q near).1 (also ∙ sym own))
-    ];
-  }
 
 -- a colouring with all chains lifted that don't reach empty is the cleared one
 pub cleared : (s : Size) (c : Colouring) (k : Colour) (d : Colouring) → IsLifted s c k d

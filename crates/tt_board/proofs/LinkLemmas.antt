@@ -45,14 +45,6 @@ module _ (s : Size) (c : Colouring) where
   spread S step p q [] in_p here h = subst S h here
   spread S step p q (x ∷ rest) in_p here h = spread S step x q rest h.0.0 (step p x in_p here h.0 h.1) h.2
 
-  -- linked points are of one colour
-  pub linked_colour : (p q : ℕ) → p < point_count s → AreLinked s c p q → entry_at c q ≡ entry_at c p
-  linked_colour p q in_p l = spread (λ x. entry_at c x ≡ entry_at c p) (λ x y in_x same near alike. alike ∙ same) p q l.0 in_p refl l.1
-
-  -- linked points are on the board
-  pub linked_on_board : (p q : ℕ) → p < point_count s → AreLinked s c p q → q < point_count s
-  linked_on_board p q in_p l = spread (λ x. x < point_count s) (λ x y in_x same near alike. near.0) p q l.0 in_p in_p l.1
-
   -- a point reaches what one linked with it reaches
   reaches_along : (p q : ℕ) (path : List ℕ) (e : Option Colour) → Leads s c p path q → Reaches s c q e → Reaches s c p e
   reaches_along p q [] e h r = subst (λ x. Reaches s c x e) (sym h) r
@@ -93,18 +85,6 @@ bare_named (Some White) n h is = absurd (omega arith)
 
 pub stone_named : (e : Option Colour) (n : ℕ) → IsNamed e n → n ≢ 0 → e ≢ None
 stone_named e n h some bare = some (named_bare e n h bare)
-
--- one name, one colour
-pub named_same : (e f : Option Colour) (n : ℕ) → IsNamed e n → IsNamed f n → e ≡ f
-named_same None None n h g = refl
-named_same None (Some Black) n h g = absurd (omega arith)
-named_same None (Some White) n h g = absurd (omega arith)
-named_same (Some Black) None n h g = absurd (omega arith)
-named_same (Some White) None n h g = absurd (omega arith)
-named_same (Some Black) (Some Black) n h g = refl
-named_same (Some White) (Some White) n h g = refl
-named_same (Some Black) (Some White) n h g = absurd (omega arith)
-named_same (Some White) (Some Black) n h g = absurd (omega arith)
 
 -- names of chains: adjacent stones of one colour have one name
 pub one_name : (s : Size) (c : Colouring) (ns : List ℕ) → AreNames s c ns → (x y : ℕ) → x < point_count s → IsNeighbour s x y

@@ -19,11 +19,10 @@ use Rattle.tt_board.specs.Reach.{entry_at, Reaches}
 use Rattle.tt_board.specs.ReachLaws.{reaches_beside, reaches_on, reaches_all}
 use Rattle.tt_board.specs.Decided.{decided, decided_is, decided_not}
 use Rattle.tt_board.specs.Play.{other, play_of}
-use Rattle.tt_board.specs.inside.Chain.{IsLifted}
 use Rattle.tt_board.specs.inside.Chains.{name_at, root_of, colour_number, IsNamed, Touches, touching, is_liberty, liberty_count, ChainBoard, IsChainBoard, IsEachOnce, IsOneName, AreNear}
 use Rattle.tt_board.proofs.CountLemmas.{count_some, another_counted, two_counted, in_list}
 use Rattle.tt_board.proofs.LinkLemmas.{linked_kept, reaches_linked, named_bare, bare_named, named_stone, stone_named, one_name}
-use Rattle.tt_board.proofs.LiftLemmas.{near_back, lifted_none, play_is}
+use Rattle.tt_board.proofs.LiftLemmas.{IsLifted, near_back, lifted_none, play_is}
 use Rattle.tt_board.proofs.PlayLemmas.{other_differs}
 use Rattle.tt_board.proofs.PlayKindLemmas.{coded}
 
@@ -68,11 +67,11 @@ code_colour (Some White) n Black h code = absurd (omega arith)
 pub colour_code : (e : Option Colour) (n : ℕ) (k : Colour) → IsNamed e n → e ≡ Some k → n / 512 ≡ colour_number k
 colour_code e n k h is = subst (λ x. IsNamed x n) is h
 
--- a colouring in which some places are bare
+-- a colouring in which some points are bare
 pub emptied : Size → (ℕ → Bool) → Colouring → Colouring
 emptied s test c = map (λ q. cond (test q) None (entry_at c q)) (range_with_len 0 (point_count s))
 
--- it has as many places, the ones meant are bare, and the others as they were
+-- it has as many points, the ones meant are bare, and the others as they were
 length-emptied : (s : Size) (test : ℕ → Bool) (c : Colouring) → length (emptied s test c) ≡ point_count s
 unfolding emptied
 length-emptied s test c = length-map-range_with_len (λ q. cond (test q) None (entry_at c q)) 0 (point_count s)
@@ -197,8 +196,8 @@ module _ (b : ChainBoard) (k : Colour) (p : ℕ) (is : IsChainBoard b) (in_p : p
           (lifted_none b.size (set b.points p (Some k)) k fits) (λ _. inl own_reaches))
 
     -- and only stones of the opponent's are beside p: the stone goes at once, alone
-    pub put_vain : ((q : ℕ) → IsNeighbour b.size p q → (entry_at b.points q ≢ None) × (entry_at b.points q ≢ Some k)) → play_of b.size b.points k p ≡ b.points
-    put_vain closed =
+    pub put_single_suicide : ((q : ℕ) → IsNeighbour b.size p q → (entry_at b.points q ≢ None) × (entry_at b.points q ≢ Some k)) → play_of b.size b.points k p ≡ b.points
+    put_single_suicide closed =
         let put = set b.points p (Some k) in
         let alone : IsLifted b.size put k b.points = lifted_set b.size put b.points k (λ q. q ≡ p) is.fits
         (λ q. elim (cases_eq q p) [

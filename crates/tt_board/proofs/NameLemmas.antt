@@ -1,4 +1,4 @@
--- Names of chains as they change place by place, and what that does to the counts.
+-- Names of chains as they change point by point, and what that does to the counts.
 use Rattle.std.proofs.Common.{◌≡◌, ◌≢◌, ℕ, ◌+◌, ◌<◌, ◌≤◌, ◌⊎◌, ◌↔◌, ◌&&◌, List, [], Option, Some, None, Bool, true, false, not, cond, count_by, eqb, set, length}
 use Rattle.std.proofs.Common.{inl, inr, sym, ap, subst, ◌∙◌, arith}
 use Rattle.std.specs.List.{range_with_len}
@@ -9,35 +9,35 @@ use Rattle.std.proofs.lemmas.List.Sums.{count_by-le-length, sum_by-cons}
 use Rattle.tt_sgf.specs.declared.size.Size.{Size}
 use Rattle.tt_sgf.specs.Sizes.{point_count}
 use Rattle.tt_board.specs.declared.counted.play_kind.Names.{Names}
-use Rattle.tt_board.specs.Near.{IsNeighbour, IsOneOf, ahead, places_there}
+use Rattle.tt_board.specs.Near.{IsNeighbour, IsOneOf, ahead, neighbours_there}
 use Rattle.tt_board.specs.Decided.{neighbour, decided, decided_is, decided_not}
 use Rattle.tt_board.specs.inside.Chains.{name_at, Touches, touching, is_liberty, liberty_count, IsEachOnce, AreNear, is_new, count_there, count_beside}
 use Rattle.tt_board.proofs.CountLemmas.{same_decided, count_change, count_same, count_both, count_within, in_list}
 use Rattle.tt_board.proofs.LiftLemmas.{near_back}
-use Rattle.tt_board.proofs.NearLemmas.{in_places}
+use Rattle.tt_board.proofs.NearLemmas.{in_neighbours}
 
 -- a stone beside p touches it
 pub touch_at : (s : Size) (ns : List ℕ) (p m q : ℕ) → IsNeighbour s p q → name_at ns q ≡ m → Touches s ns m p
 touch_at s ns p m q near is = (q, near.0, (near, is))
 
--- a count over a list with a place at its head
-count_ahead : (f : ℕ → Bool) (place : Option ℕ) (rest : List ℕ) → count_by f (ahead place rest) ≡ count_there f place + count_by f rest
+-- a count over a list with a point at its head
+count_ahead : (f : ℕ → Bool) (neighbour : Option ℕ) (rest : List ℕ) → count_by f (ahead neighbour rest) ≡ count_there f neighbour + count_by f rest
 count_ahead f None rest = omega arith
 count_ahead f (Some q) rest = sum_by-cons (λ k. cond (f k) 1 0) q rest
 
--- the places that pass a test are the points beside p that do
-pub beside_counted : (s : Size) (f : ℕ → Bool) (p : ℕ) (a b c d : Option ℕ) → ((q : ℕ) → IsOneOf a b c d q ↔ IsNeighbour s p q) → IsEachOnce (places_there a b c d)
+-- the points that pass a test are the points beside p that do
+pub beside_counted : (s : Size) (f : ℕ → Bool) (p : ℕ) (a b c d : Option ℕ) → ((q : ℕ) → IsOneOf a b c d q ↔ IsNeighbour s p q) → IsEachOnce (neighbours_there a b c d)
     → count_there f a + count_there f b + count_there f c + count_there f d ≡ count_beside s f p
 unfolding count_beside
 beside_counted s f p a b c d all once =
-    let items = places_there a b c d in
+    let items = neighbours_there a b c d in
     let sum : count_there f a + count_there f b + count_there f c + count_there f d ≡ count_by f items
     = omega (arith, count_ahead f a (ahead b (ahead c (ahead d []))), count_ahead f b (ahead c (ahead d [])), count_ahead f c (ahead d []), count_ahead f d []) in
     sum
-    ∙ sym (count_within f (point_count s) items once (λ q has. ((all q).0 ((in_places a b c d q).0 has)).0))
+    ∙ sym (count_within f (point_count s) items once (λ q has. ((all q).0 ((in_neighbours a b c d q).0 has)).0))
     ∙ sym (count_same (λ q. f q && decided (in_list items q)) (λ q. f q && decided (neighbour s p q)) (point_count s)
     (λ k below. ap (λ b. f k && b) (same_decided (in_list items k) (neighbour s p k)
-    (λ has. (all k).0 ((in_places a b c d k).0 has)) (λ near. (in_places a b c d k).1 ((all k).1 near)))))
+    (λ has. (all k).0 ((in_neighbours a b c d k).0 has)) (λ near. (in_neighbours a b c d k).1 ((all k).1 near)))))
 
 -- a count of liberties is no more than the board has points
 pub liberty_count_le : (s : Size) (ns : List ℕ) (m : ℕ) → liberty_count s ns m ≤ point_count s
@@ -52,9 +52,9 @@ bare_false x h = ne_eqb x 0 h
 bare_true : (x : ℕ) → x ≡ 0 → eqb x 0 ≡ true
 bare_true x h = eq-eqb x 0 h
 
--- one place gets another name
+-- one point gets another name
 module _ (s : Size) (ns : List ℕ) (p x : ℕ) (in_p : p < point_count s) (wide : p < length ns) where
-  -- the place has the new name, the others the old ones
+  -- the point has the new name, the others the old ones
   pub at_p : name_at (set ns p x) p ≡ x
   at_p = get_or-set_same ns p x 0 wide
 
@@ -70,14 +70,14 @@ module _ (s : Size) (ns : List ℕ) (p x : ℕ) (in_p : p < point_count s) (wide
         | inr away ↦ (t.0, t.1, (t.2.0, sym (off_p t.0 away) ∙ t.2.1))
       ])
 
-  -- their liberties change at the place alone
+  -- their liberties change at the point alone
   pub count_changed : (m : ℕ) → m ≢ name_at ns p → m ≢ x
       → liberty_count s (set ns p x) m + cond (is_liberty s ns m p) 1 0 ≡ liberty_count s ns m + cond (is_liberty s (set ns p x) m p) 1 0
   unfolding liberty_count
   count_changed m old new = (count_change (is_liberty s ns m) (is_liberty s (set ns p x) m) (point_count s) p (λ k below away.
       ap (λ y. eqb y 0 && decided (touching s ns m k)) (sym (off_p k away)) ∙ ap (λ b. eqb (name_at (set ns p x) k) 0 && b) (touch_other m k old new))).0 in_p
 
-  -- an emptied place is a liberty of each other chain beside it
+  -- an emptied point is a liberty of each other chain beside it
   pub count_emptied : (m : ℕ) → m ≢ name_at ns p → m ≢ x → name_at ns p ≢ 0 → x ≡ 0
       → liberty_count s (set ns p x) m ≡ liberty_count s ns m + cond (decided (touching s (set ns p x) m p)) 1 0
   count_emptied m old new stone bare =
@@ -86,7 +86,7 @@ module _ (s : Size) (ns : List ℕ) (p x : ℕ) (in_p : p < point_count s) (wide
       ap (λ b. cond (b && decided (touching s (set ns p x) m p)) 1 0) (bare_true _ (at_p ∙ bare)) in
       omega (arith, count_changed m old new, was, now)
 
-  -- a place that is filled is a liberty no more of each other chain beside it
+  -- a point that is filled is a liberty no more of each other chain beside it
   pub count_filled : (m : ℕ) → m ≢ name_at ns p → m ≢ x → name_at ns p ≡ 0 → x ≢ 0
       → liberty_count s (set ns p x) m + cond (decided (touching s ns m p)) 1 0 ≡ liberty_count s ns m
   count_filled m old new bare stone =

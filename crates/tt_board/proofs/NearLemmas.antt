@@ -5,11 +5,11 @@ use Rattle.std.proofs.lemmas.Nat.{div-mul-add, mod-mul-add, div-add-mod', mod_be
 use Rattle.std.proofs.lemmas.Option.{none-some}
 use Rattle.tt_sgf.specs.declared.size.Size.{Size}
 use Rattle.tt_sgf.specs.Sizes.{point_count}
-use Rattle.tt_board.specs.Near.{IsBeside, IsNeighbour, IsThere, IsOneOf, ahead, places_there}
+use Rattle.tt_board.specs.Near.{IsBeside, IsNeighbour, IsThere, IsOneOf, ahead, neighbours_there}
 use Rattle.tt_board.specs.inside.Chains.{IsEachOnce}
 use Rattle.tt_board.proofs.CountLemmas.{once_first}
 
--- the four places beside p, as the code finds them
+-- the four neighbours of p, as the code finds them
 pub data Side : ℕ → ℕ → ℕ → ℕ → Type 0 where
   above : (w h p q : ℕ) → 0 < p / w → q ≡ p - w → Side w h p q
   left : (w h p q : ℕ) → 0 < p % w → q ≡ p - 1 → Side w h p q
@@ -33,7 +33,7 @@ side_of w h p q pos in_p in_q (inr (same, inr step)) =
     let rows = ap (λ r. r * w) step in
     above w h p q (omega arith) (omega (arith, div-add-mod' p w, div-add-mod' q w))
 
--- where a place is, by its row and column
+-- where a point is, by its row and column
 placed : (w h p q r k : ℕ) → k < w → r < h → q ≡ r * w + k → (q < w * h) × (q / w ≡ r) × (q % w ≡ k)
 placed w h p q r k in_row in_rows e =
     (rw e (mul-add-lt r w k h in_rows in_row), rw e (div-mul-add r w k in_row), rw e (mod-mul-add r w k in_row))
@@ -60,47 +60,47 @@ of_side s p q pos in_p (below w h _ _ down e) =
     let at = placed w h p q (p / w + 1) (p % w) (mod_below p w pos) down (omega (arith, div-add-mod' p w)) in
     (at.0, inr (sym at.2, inl (omega arith)))
 
--- a place that is there is the one meant, and what it needs holds
-place_there : {P : Type 0} (place : Option ℕ) (x q : ℕ) → IsThere place P x → place ≡ Some q → P × (q ≡ x)
-place_there place x q (inl (p, e)) has =
+-- a point that is there is the one meant, and what it needs holds
+neighbour_there : {P : Type 0} (neighbour : Option ℕ) (x q : ℕ) → IsThere neighbour P x → neighbour ≡ Some q → P × (q ≡ x)
+neighbour_there neighbour x q (inl (p, e)) has =
     let same : Some q ≡ Some x = sym has ∙ e in
     (p, cc)
-place_there place x q (inr (_, e)) has = absurd (none-some q (sym e ∙ has))
+neighbour_there neighbour x q (inr (_, e)) has = absurd (none-some q (sym e ∙ has))
 
 -- where that holds it is there
-there_place : {P : Type 0} (place : Option ℕ) (x q : ℕ) → IsThere place P x → P → q ≡ x → place ≡ Some q
-there_place place x q (inl (_, e)) p same = e ∙ ap Some (sym same)
-there_place place x q (inr (none, _)) p same = absurd (none p)
+there_neighbour : {P : Type 0} (neighbour : Option ℕ) (x q : ℕ) → IsThere neighbour P x → P → q ≡ x → neighbour ≡ Some q
+there_neighbour neighbour x q (inl (_, e)) p same = e ∙ ap Some (sym same)
+there_neighbour neighbour x q (inr (none, _)) p same = absurd (none p)
 
--- ---- a place at the head of a list, where it is there
+-- ---- a point at the head of a list, where it is there
 
--- what such a list has, is the place or stands behind it
-pub of_ahead : (place : Option ℕ) (rest : List ℕ) (q : ℕ) → Contains (ahead place rest) q → (place ≡ Some q) ⊎ Contains rest q
+-- what such a list has, is the point or stands behind it
+pub of_ahead : (neighbour : Option ℕ) (rest : List ℕ) (q : ℕ) → Contains (ahead neighbour rest) q → (neighbour ≡ Some q) ⊎ Contains rest q
 of_ahead None rest q has = inr has
 of_ahead (Some x) rest q (zero, in', is) = inl (ap Some is)
 of_ahead (Some x) rest q (suc i, in', is) = inr (i, omega arith, is)
 
--- a list with the place, and the list behind it
-pub at_ahead : (place : Option ℕ) (rest : List ℕ) (q : ℕ) → place ≡ Some q → Contains (ahead place rest) q
+-- a list with the point, and the list behind it
+pub at_ahead : (neighbour : Option ℕ) (rest : List ℕ) (q : ℕ) → neighbour ≡ Some q → Contains (ahead neighbour rest) q
 at_ahead None rest q is = absurd (none-some q is)
 at_ahead (Some x) rest q is = let same : ◌≡◌ {A = ℕ} x q = cc in (0, omega arith, same)
 
-pub past_ahead : (place : Option ℕ) (rest : List ℕ) (q : ℕ) → Contains rest q → Contains (ahead place rest) q
+pub past_ahead : (neighbour : Option ℕ) (rest : List ℕ) (q : ℕ) → Contains rest q → Contains (ahead neighbour rest) q
 past_ahead None rest q has = has
 past_ahead (Some x) rest q has = (suc has.0, omega (arith, has.1), has.2)
 
--- a list of the place alone
-pub only_ahead : (place : Option ℕ) (q : ℕ) → Contains (ahead place []) q → place ≡ Some q
-only_ahead place q has = elim (of_ahead place [] q has) [ inl is ↦ is | inr none ↦ absurd (omega arith) ]
+-- a list of the point alone
+pub only_ahead : (neighbour : Option ℕ) (q : ℕ) → Contains (ahead neighbour []) q → neighbour ≡ Some q
+only_ahead neighbour q has = elim (of_ahead neighbour [] q has) [ inl is ↦ is | inr none ↦ absurd (omega arith) ]
 
--- a place that the list hasn't got
-once_ahead : (place : Option ℕ) (rest : List ℕ) → ((q : ℕ) → place ≡ Some q → Contains rest q → ⊥) → IsEachOnce rest → IsEachOnce (ahead place rest)
+-- a point that the list hasn't got
+once_ahead : (neighbour : Option ℕ) (rest : List ℕ) → ((q : ℕ) → neighbour ≡ Some q → Contains rest q → ⊥) → IsEachOnce rest → IsEachOnce (ahead neighbour rest)
 once_ahead None rest fresh once = once
 once_ahead (Some x) rest fresh once = once_first x rest once (fresh x refl)
 
--- the list of four places has them and nothing else
-pub in_places : (a b c d : Option ℕ) (q : ℕ) → Contains (places_there a b c d) q ↔ IsOneOf a b c d q
-in_places a b c d q = (
+-- the list of four neighbours has them and nothing else
+pub in_neighbours : (a b c d : Option ℕ) (q : ℕ) → Contains (neighbours_there a b c d) q ↔ IsOneOf a b c d q
+in_neighbours a b c d q = (
   λ has. elim (of_ahead a (ahead b (ahead c (ahead d []))) q has) [
     | inl is ↦ inl is
     | inr has2 ↦ elim (of_ahead b (ahead c (ahead d [])) q has2) [
@@ -134,50 +134,50 @@ module _ (s : Size) (p : ℕ) (pos : 0 < s.columns) where
       let there = ap (λ x. x / s.columns) e in
       omega (arith, row, in_rows, there)
 
--- the four places are the neighbours
+-- the four that are found are the neighbours
 module _ (s : Size) (p : ℕ) (pos : 0 < s.columns) (in_p : p < point_count s) (a l r b : Option ℕ)
     (up : IsThere a (s.columns ≤ p) (p - s.columns)) (back : IsThere l (0 < p % s.columns) (p - 1))
     (on : IsThere r (p % s.columns + 1 < s.columns) (p + 1)) (down : IsThere b (p + s.columns < point_count s) (p + s.columns)) where
-  -- each place is a side of the point
+  -- each point is a side of the point
   side_at : (q : ℕ) → IsOneOf a l r b q → Side s.columns s.rows p q
-  side_at q (inl has) = let h = place_there a _ q up has in above _ _ p q (row_above s p pos h.0) h.1
-  side_at q (inr (inl has)) = let h = place_there l _ q back has in left _ _ p q h.0 h.1
-  side_at q (inr (inr (inl has))) = let h = place_there r _ q on has in right _ _ p q h.0 h.1
-  side_at q (inr (inr (inr has))) = let h = place_there b _ q down has in below _ _ p q (row_below s p pos h.0) h.1
+  side_at q (inl has) = let h = neighbour_there a _ q up has in above _ _ p q (row_above s p pos h.0) h.1
+  side_at q (inr (inl has)) = let h = neighbour_there l _ q back has in left _ _ p q h.0 h.1
+  side_at q (inr (inr (inl has))) = let h = neighbour_there r _ q on has in right _ _ p q h.0 h.1
+  side_at q (inr (inr (inr has))) = let h = neighbour_there b _ q down has in below _ _ p q (row_below s p pos h.0) h.1
 
-  -- each side of the point is a place
-  place_of : (q : ℕ) → q < point_count s → Side s.columns s.rows p q → IsOneOf a l r b q
-  place_of q in_q (above w h _ _ row e) = inl (there_place a _ q up (omega (arith, div-add-mod' p w, row_before (p / w) w row)) e)
-  place_of q in_q (left w h _ _ before e) = inr (inl (there_place l _ q back before e))
-  place_of q in_q (right w h _ _ after e) = inr (inr (inl (there_place r _ q on after e)))
-  place_of q in_q (below w h _ _ row e) = inr (inr (inr (there_place b _ q down (omega arith) e)))
+  -- each side of the point is a point
+  index_of : (q : ℕ) → q < point_count s → Side s.columns s.rows p q → IsOneOf a l r b q
+  index_of q in_q (above w h _ _ row e) = inl (there_neighbour a _ q up (omega (arith, div-add-mod' p w, row_before (p / w) w row)) e)
+  index_of q in_q (left w h _ _ before e) = inr (inl (there_neighbour l _ q back before e))
+  index_of q in_q (right w h _ _ after e) = inr (inr (inl (there_neighbour r _ q on after e)))
+  index_of q in_q (below w h _ _ row e) = inr (inr (inr (there_neighbour b _ q down (omega arith) e)))
 
-  -- the places are the neighbours
-  pub near_places : (q : ℕ) → IsOneOf a l r b q ↔ IsNeighbour s p q
-  near_places q = (λ has. of_side s p q pos in_p (side_at q has), λ near. place_of q near.0 (side_of s.columns s.rows p q pos in_p near.0 near.1))
+  -- these are the neighbours
+  pub near_neighbours : (q : ℕ) → IsOneOf a l r b q ↔ IsNeighbour s p q
+  near_neighbours q = (λ has. of_side s p q pos in_p (side_at q has), λ near. index_of q near.0 (side_of s.columns s.rows p q pos in_p near.0 near.1))
 
-  -- no place stands twice: they ascend
-  pub places_once : IsEachOnce (places_there a l r b)
-  places_once =
+  -- no point stands twice: they ascend
+  pub neighbours_once : IsEachOnce (neighbours_there a l r b)
+  neighbours_once =
       let rows = div-add-mod' p s.columns in
       let column = mod_below p s.columns pos in
       once_ahead a (ahead l (ahead r (ahead b []))) (λ q is has.
-      let u = place_there a _ q up is in
+      let u = neighbour_there a _ q up is in
       elim (of_ahead l (ahead r (ahead b [])) q has) [
-        | inl x ↦ let v = place_there l _ q back x in omega (arith, u.0, u.1, v.0, v.1, rows, column)
+        | inl x ↦ let v = neighbour_there l _ q back x in omega (arith, u.0, u.1, v.0, v.1, rows, column)
         | inr has2 ↦ elim (of_ahead r (ahead b []) q has2) [
-          | inl x ↦ let v = place_there r _ q on x in omega (arith, u.1, v.1)
-          | inr has3 ↦ let v = place_there b _ q down (only_ahead b q has3) in omega (arith, u.1, v.1, pos)
+          | inl x ↦ let v = neighbour_there r _ q on x in omega (arith, u.1, v.1)
+          | inr has3 ↦ let v = neighbour_there b _ q down (only_ahead b q has3) in omega (arith, u.1, v.1, pos)
         ]
       ])
       (once_ahead l (ahead r (ahead b [])) (λ q is has.
-      let u = place_there l _ q back is in
+      let u = neighbour_there l _ q back is in
       elim (of_ahead r (ahead b []) q has) [
-        | inl x ↦ let v = place_there r _ q on x in omega (arith, u.1, v.1)
-        | inr has3 ↦ let v = place_there b _ q down (only_ahead b q has3) in omega (arith, u.1, v.1, pos)
+        | inl x ↦ let v = neighbour_there r _ q on x in omega (arith, u.1, v.1)
+        | inr has3 ↦ let v = neighbour_there b _ q down (only_ahead b q has3) in omega (arith, u.1, v.1, pos)
       ])
       (once_ahead r (ahead b []) (λ q is has.
-      let u = place_there r _ q on is in
-      let v = place_there b _ q down (only_ahead b q has) in
+      let u = neighbour_there r _ q on is in
+      let v = neighbour_there b _ q down (only_ahead b q has) in
       omega (arith, u.0, u.1, v.1))
       (once_ahead b [] (λ q is has. omega arith) (λ i j lt in'. absurd (omega arith)))))

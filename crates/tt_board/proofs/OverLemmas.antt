@@ -6,7 +6,7 @@ use Rattle.tt_sgf.specs.declared.size.Size.{Size}
 use Rattle.tt_board.specs.inside.Chains.{name_at, root_of, AreCounted}
 
 module _ (n : ℕ) (xs ys : List ℕ) (wide : n ≤ length xs) where
-  -- on the first places stands what was written
+  -- on the first points stands what was written
   pub over_before : (q : ℕ) → q < n → name_at (take n xs ++ drop n ys) q ≡ name_at xs q
   over_before q below = get_or_append_left (take n xs) (drop n ys) 0 q (omega (arith, length-take-le n xs wide, below)) ∙ get_or-take n xs q 0 below
 

@@ -1,4 +1,4 @@
--- The names on the four places beside a point.
+-- The names on the four neighbours of a point.
 use Rattle.std.proofs.Common.{◌≡◌, ◌≢◌, ℕ, ◌/◌, ◌<◌, ◌≤◌, ◌↔◌, ◌==◌, List, Option, Some, None, length, inl, inr, refl, sym, ap, subst, ◌∙◌, arith}
 use Rattle.std.specs.Prelude.{MatchOption}
 use Rattle.std.proofs.lemmas.Bool.{cases_eq, cases_lt}
@@ -11,16 +11,16 @@ use Rattle.tt_board.specs.Near.{IsNeighbour, IsOneOf}
 use Rattle.tt_board.specs.inside.Chains.{name_at, root_of, colour_number, IsNamed, Touches, IsOneName, bare_one, count_there}
 
 module _ (s : Size) (ns : List ℕ) (p m : ℕ) where
-  -- what is on a place that is there touches p
-  side : (place : Option ℕ) (r : ℕ) → MatchOption place (r ≡ NOWHERE) (λ q. r ≡ name_at ns q) → ((q : ℕ) → place ≡ Some q → IsNeighbour s p q) → m ≢ NOWHERE → r ≡ m → Touches s ns m p
+  -- what is on a point that is there touches p
+  side : (index : Option ℕ) (r : ℕ) → MatchOption index (r ≡ NOWHERE) (λ q. r ≡ name_at ns q) → ((q : ℕ) → index ≡ Some q → IsNeighbour s p q) → m ≢ NOWHERE → r ≡ m → Touches s ns m p
   side None r h inside apart e = absurd (apart (sym e ∙ h))
   side (Some q) r h inside apart e = let n = inside q refl in (q, n.0, (n, sym h ∙ e))
 
-  -- and the name of such a place is its own
-  given : (place : Option ℕ) (r q : ℕ) → MatchOption place (r ≡ NOWHERE) (λ x. r ≡ name_at ns x) → place ≡ Some q → r ≡ name_at ns q
-  given place r q h is = subst (λ o. MatchOption o (r ≡ NOWHERE) (λ x. r ≡ name_at ns x)) is h
+  -- and the name of such a point is its own
+  given : (index : Option ℕ) (r q : ℕ) → MatchOption index (r ≡ NOWHERE) (λ x. r ≡ name_at ns x) → index ≡ Some q → r ≡ name_at ns q
+  given index r q h is = subst (λ o. MatchOption o (r ≡ NOWHERE) (λ x. r ≡ name_at ns x)) is h
 
-  -- so the four names are those of the chains that touch p, and 0 where a place beside it is empty
+  -- so the four names are those of the chains that touch p, and 0 where a point beside it is empty
   pub one_touches : (a b c d : Option ℕ) (w x y z : ℕ) → ((q : ℕ) → IsOneOf a b c d q ↔ IsNeighbour s p q)
       → MatchOption a (w ≡ NOWHERE) (λ q. w ≡ name_at ns q) → MatchOption b (x ≡ NOWHERE) (λ q. x ≡ name_at ns q)
       → MatchOption c (y ≡ NOWHERE) (λ q. y ≡ name_at ns q) → MatchOption d (z ≡ NOWHERE) (λ q. z ≡ name_at ns q)
@@ -40,17 +40,17 @@ module _ (s : Size) (ns : List ℕ) (p m : ℕ) where
     ],
   )
 
--- the name of a place is 0 exactly where the place is there and empty
-pub bare_place : (ns : List ℕ) (place : Option ℕ) (r : ℕ) → MatchOption place (r ≡ NOWHERE) (λ q. r ≡ name_at ns q) → bare_one r ≡ count_there (λ q. name_at ns q == 0) place
-bare_place ns None r h = ap bare_one h
-bare_place ns (Some q) r h = ap bare_one h
+-- the name of a point is 0 exactly where the point is there and empty
+pub bare_index : (ns : List ℕ) (index : Option ℕ) (r : ℕ) → MatchOption index (r ≡ NOWHERE) (λ q. r ≡ name_at ns q) → bare_one r ≡ count_there (λ q. name_at ns q == 0) index
+bare_index ns None r h = ap bare_one h
+bare_index ns (Some q) r h = ap bare_one h
 
 -- a name of a colour's code is of a chain
 pub coded : (m : ℕ) (k : Colour) → m / 512 ≡ colour_number k → m ≢ NOWHERE
 coded m Black code is = omega (arith, code, is)
 coded m White code is = omega (arith, code, is)
 
--- the counts of each name beside a point have their place
+-- the counts of each name beside a point have their point
 pub roots_below : (s : Size) (ns : List ℕ) (p m : ℕ) → length ns ≡ 361 → ((q : ℕ) → name_at ns q ≢ 0 → name_at ns (root_of (name_at ns q)) ≡ name_at ns q)
     → (m ≢ NOWHERE → Touches s ns m p) → root_of m < 361
 roots_below s ns p m wide rooted touch = elim (cases_eq m NOWHERE) [
@@ -67,7 +67,7 @@ roots_below s ns p m wide rooted touch = elim (cases_eq m NOWHERE) [
   ]
 ]
 
--- no name on a board is that of no place
+-- no name on a board is that of no point
 pub never_nowhere : (e : Option Colour) (m : ℕ) → IsNamed e m → m ≢ NOWHERE
 never_nowhere None m named = omega (arith, named)
 never_nowhere (Some k) m named = coded m k named

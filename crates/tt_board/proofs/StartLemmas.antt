@@ -23,7 +23,7 @@ module _ (s : Size) (ns near : List ℕ) (p : ℕ) (roots : (m : ℕ) → Touche
       let t = near_living i in' in
       roots (name_at near i) t.1 t.0 (Contains-get_or near i 0 in')
 
-  -- the roots are places, and differ
+  -- the roots are points, and differ
   pub near_below : (i : ℕ) → i < length near → root_of (name_at near i) < length ns
   near_below i in' = root_below ns (name_at near i) (near_living i in').0 (near_rooted i in')
 
@@ -38,11 +38,6 @@ module _ (s : Size) (ns near : List ℕ) (p : ℕ) (roots : (m : ℕ) → Touche
 pub touch_rooted : (s : Size) (ns : List ℕ) (p : ℕ) → ((q : ℕ) → name_at ns q ≢ 0 → name_at ns (root_of (name_at ns q)) ≡ name_at ns q)
     → (m : ℕ) → Touches s ns m p → m ≢ 0 → name_at ns (root_of m) ≡ m
 touch_rooted s ns p rooted m t some = subst (λ x. name_at ns (root_of x) ≡ x) t.2.1 (rooted t.0 (λ e. some (sym t.2.1 ∙ e)))
-
--- and so has each of a list of them
-pub all_rooted : (s : Size) (ns near : List ℕ) (p : ℕ) → ((q : ℕ) → name_at ns q ≢ 0 → name_at ns (root_of (name_at ns q)) ≡ name_at ns q)
-    → (m : ℕ) → Touches s ns m p → m ≢ 0 → Contains near m → name_at ns (root_of m) ≡ m
-all_rooted s ns near p rooted m t some has = touch_rooted s ns p rooted m t some
 
 -- names that are taken from one after another, each that none before it is: each chain among them is once
 module _ (a b c d u : ℕ) (l0 l1 l2 l3 l4 : List ℕ)

@@ -77,15 +77,6 @@ module _ (s : Size) (c : Colouring) (e : Option Colour) where
         | inr apart ↦ sound q in_q (subst (λ b. b ≡ true) (get_or-set_other m p q true false apart) marked)
       ]
 
-  -- the points looked at so far are closed, and so is the next one
-  pub closed_more : (m : List Bool) (p : ℕ) → ((k : ℕ) → k < p → IsBesideMarked s c e m k → IsTrue (is_marked m k))
-      → (IsBesideMarked s c e m p → IsTrue (is_marked m p)) → (k : ℕ) → k < p + 1 → IsBesideMarked s c e m k → IsTrue (is_marked m k)
-  closed_more m p before here k below next =
-      elim (cases_eq k p) [
-        | inl same ↦ subst (λ x. IsTrue (is_marked m x)) (sym same) (here (subst (λ x. IsBesideMarked s c e m x) same next))
-        | inr apart ↦ before k (omega arith) next
-      ]
-
 -- a new mark is one point fewer without
 pub unmarked_fewer : (m : List Bool) (p : ℕ) → p < length m → is_marked m p ≡ false → unmarked_count (set m p true) + 1 ≡ unmarked_count m
 unmarked_fewer m p in_m bare =

@@ -2,6 +2,5 @@
 pub mod Planes
 pub mod Differences
 pub mod Boards
-pub mod Chain
 pub mod Chains
 pub mod Around

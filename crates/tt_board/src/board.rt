@@ -6,9 +6,9 @@ ghost use Rattle.tt_sgf.specs.Sizes.{point_count};
 
 use crate::Colour;
 use crate::area::{count_area, empty_reaching};
-use crate::clearing::put;
 use crate::colouring::Colouring;
 use crate::colouring::fill::empty_points;
+use crate::counted::CountedBoard;
 use crate::setup::{cover, first_lifeless};
 use std::marker::Model;
 use tt_sgf::{Bits, Point, PointSet, Size};
@@ -134,14 +134,10 @@ impl Board {
             × (b ≡ record { size = self.now.size; points = play_of self.now.size self.now.points colour p }))
             (λ _. entry_at self.now.points p ≢ None) }
     {
-        let index = usize::from(p.number());
-        if self.points.at(index).is_some() {
+        if self.at(p).is_some() {
             return Err(Occupied);
         }
-        Ok(Board {
-            size: self.size,
-            points: put(self.size, &self.points, colour, index),
-        })
+        Ok(CountedBoard::of(self).after(colour, p))
     }
 
     /// Plays `colour` on `p`, an empty point, where the play takes nothing off: its stone is put, and that is all. It is written in place.
@@ -209,7 +205,7 @@ impl Board {
         self.size == size
     }
 
-    /// The colouring as an array, row by row; places past the last point hold none.
+    /// The colouring as an array, row by row; points past the last point hold none.
     pub fn entries(&self) -> [Option<Colour>; 361]
         ensures shown { take (point_count self.now.size) result ≡ self.now.points }
         ensures wide { length result ≡ MOST_POINTS }

@@ -43,7 +43,7 @@ fn is_stone_of(entry: Option<Colour>, colour: Colour) -> bool
     entry == Some(colour)
 }
 
-/// No stone on any place.
+/// No stone on any point.
 fn no_stones() -> [Option<Colour>; 361]
     ensures { result ≡ replicate MOST_POINTS None }
 {
@@ -147,7 +147,7 @@ impl Colouring {
             .or(&self.white.xor(&other.white))
     }
 
-    /// The entries as an array; places past the last point hold none.
+    /// The entries as an array; points past the last point hold none.
     pub(crate) fn entries(&self) -> [Option<Colour>; 361]
         ensures shown { take (length self.now) result ≡ self.now }
         ensures wide { length result ≡ MOST_POINTS }

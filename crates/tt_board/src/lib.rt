@@ -1,6 +1,6 @@
 //! Boards of Go under the Tromp-Taylor rules: colourings in which each stone reaches empty, moves that capture, and area scores.
 //!
-//! A board takes no memory but its own: `Boards` and `Trail` alone ask for some, and say where there is none.
+//! A board takes no memory but its own: `Trail` alone asks for some, and says where there is none.
 //! A contract sees a board as a `Position`: its size, and its colouring as a list of entries, row by row.
 #![tactic(auto)]
 
@@ -10,8 +10,6 @@ ghost use Rattle.tt_board.specs.Play.{other};
 mod area;
 mod board;
 mod boards;
-mod chain;
-mod clearing;
 mod colouring;
 mod counted;
 pub mod laws;
@@ -19,7 +17,6 @@ mod near;
 mod setup;
 
 pub use board::{Board, Lifeless, Occupied};
-pub use boards::Boards;
 pub use boards::trail::Trail;
 pub use counted::CountedBoard;
 pub use counted::play_kind::PlayKind;

@@ -2,12 +2,12 @@
 
 ghost use Rattle.std.specs.Prelude.{◌≡◌, ℕ, ◌+◌, ◌-◌, ◌<◌, ◌≤◌, ◌↔◌, IsTrue};
 ghost use Rattle.tt_sgf.specs.Sizes.{point_count};
-ghost use Rattle.tt_board.specs.Near.{IsNeighbour, IsThere, IsOneOf, places_there};
+ghost use Rattle.tt_board.specs.Near.{IsNeighbour, IsThere, IsOneOf, neighbours_there};
 ghost use Rattle.tt_board.specs.inside.Chains.{IsEachOnce};
 
 use tt_sgf::Size;
 
-/// The four places beside a point, each where the board has it.
+/// The four neighbours of a point, each where the board has it.
 #[derive(Clone, Copy)]
 pub(crate) struct Neighbours {
     pub(crate) above: Option<usize>,
@@ -16,7 +16,7 @@ pub(crate) struct Neighbours {
     pub(crate) below: Option<usize>,
 }
 
-/// The place at a distance before `p`, where there is one.
+/// The point at a distance before `p`, where there is one.
 fn before(there: bool, p: usize, distance: usize) -> Option<usize>
     requires { IsTrue there → distance ≤ p }
     ensures { IsThere result (IsTrue there) (p - distance) }
@@ -24,7 +24,7 @@ fn before(there: bool, p: usize, distance: usize) -> Option<usize>
     if there { Some(p - distance) } else { None }
 }
 
-/// The place at a distance after `p`, where there is one.
+/// The point at a distance after `p`, where there is one.
 fn after(there: bool, p: usize, distance: usize) -> Option<usize>
     requires { p + distance < 1000 }
     ensures { IsThere result (IsTrue there) (p + distance) }
@@ -32,12 +32,12 @@ fn after(there: bool, p: usize, distance: usize) -> Option<usize>
     if there { Some(p + distance) } else { None }
 }
 
-/// The neighbours of `p` by their places, for those who look at each once and may stop early.
+/// The neighbours of `p` by their points, for those who look at each once and may stop early.
 #[inline]
 pub(crate) fn beside(size: Size, p: usize) -> Neighbours
     requires { p < point_count size }
     ensures all { (q : ℕ) → IsOneOf result.above result.left result.right result.below q ↔ IsNeighbour size p q }
-    ensures once { IsEachOnce (places_there result.above result.left result.right result.below) }
+    ensures once { IsEachOnce (neighbours_there result.above result.left result.right result.below) }
 {
     let count = size.point_count();
     let columns = usize::from(size.columns());

@@ -5,7 +5,7 @@ ghost use Rattle.std.specs.Prelude.{◌≤◌};
 use tt_game::{Line, Turn};
 use tt_sgf::NoMemory;
 
-/// How many positions may still be visited.
+/// How many positions may still be visited. Each visit takes one off.
 #[derive(Clone, Copy, Debug, PartialEq, Eq)]
 pub struct Visits {
     pub left: u32,

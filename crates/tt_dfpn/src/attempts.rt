@@ -20,37 +20,27 @@ pub const MOST_POSITIONS: u32 = 100_000_000;
 /// How often the finder may say who wins.
 const MOST_ATTEMPTS: u8 = 8;
 
-/// Looks for a proof at the line, for whichever side wins there, no deeper than `depth` turns; at most `positions` positions
-/// are visited. None where none was found within them. `NoMemory` where memory was refused. The line stands as before.
+/// Looks for a proof at the line, for whichever side wins there, no deeper than `depth` turns. None where none was found within
+/// the visits that are left. `NoMemory` where memory was refused. The line stands as before.
 pub fn find_proof(
     alloc: Global,
     line: &mut Line,
     depth: u16,
-    positions: u32,
+    visits: &mut Visits,
 ) -> Result<Option<Proof>, NoMemory>
     requires depth { depth ≤ MOST_DEPTH }
     ensures stands { IfOk result (λ o. IfSome o (λ p. StandsAt p line.old.frame line.old.state)) }
     ensures low { IfOk result (λ o. IfSome o (λ p. strategy.depth p.tree ≤ depth)) }
+    ensures fewer { visits.new.left ≤ visits.old.left }
     ensures same { line.new ≡ line.old }
 {
-    let mut visits = Visits {
-        left: positions.min(MOST_POSITIONS),
-    };
-    let mut memo = PrivateStore::with_capacity(alloc, positions as usize);
-    let mut advisor = Advisor::at(alloc, line, positions)?;
+    let mut memo = PrivateStore::with_capacity(alloc, visits.left as usize);
+    let mut advisor = Advisor::at(alloc, line, visits.left)?;
     for attempt in 0..MOST_ATTEMPTS {
-        let Some(side) = advisor.winner(line, &mut visits)? else {
+        let Some(side) = advisor.winner(line, visits)? else {
             return Ok(None);
         };
-        let found = certify(
-            alloc,
-            line,
-            side,
-            depth,
-            &mut advisor,
-            &mut memo,
-            &mut visits,
-        )?;
+        let found = certify(alloc, line, side, depth, &mut advisor, &mut memo, visits)?;
         if found.is_some() || visits.left == 0 {
             return Ok(found);
         }

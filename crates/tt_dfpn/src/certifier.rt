@@ -46,23 +46,49 @@ pub fn certify<A: Advice, S: Store>(
     match line.winner() {
         Some(winner) => won(alloc, line, side, winner),
         None => {
-            let known = known(alloc, line, side, room, memo)?;
-            if known.is_some() {
-                return Ok(known);
+            if is_same(line.to_move(), side) {
+                let known = known(alloc, line, side, room, memo)?;
+                if known.is_some() {
+                    return Ok(known);
+                }
             }
             if room == 0 || visits.left == 0 {
                 return Ok(None);
             }
-            visits.left -= 1;
-            let found = if is_same(line.to_move(), side) {
-                picked(alloc, line, side, room, advice, memo, visits)?
-            } else {
-                replied(alloc, line, side, room, advice, memo, visits)?
-            };
-            keep(alloc, line, &found, memo);
-            Ok(found)
+            visited(alloc, line, side, room, advice, memo, visits)
         }
     }
+}
+
+/// The same where nobody has won and nothing is known: a visit. A proof is kept where the side is to move: fewer lines lead to the
+/// others.
+#[cycle(certifying)]
+fn visited<A: Advice, S: Store>(
+    alloc: Global,
+    line: &mut Line,
+    side: Side,
+    room: u16,
+    advice: &mut A,
+    memo: &mut S,
+    visits: &mut Visits,
+) -> Result<Option<Proof>, NoMemory>
+    requires room { room ≤ MOST_DEPTH }
+    requires some { 0 < room }
+    requires left { 0 < visits.old.left }
+    requires nobody { winner_of line.old.frame line.old.state ≡ None }
+    ensures stands { IfOk result (λ o. IfSome o (λ p. StandsAt p line.old.frame line.old.state)) }
+    ensures side { IfOk result (λ o. IfSome o (λ p. p.side ≡ side)) }
+    ensures low { IfOk result (λ o. IfSome o (λ p. depth p.tree ≤ room)) }
+    ensures counts { visits.new.left < visits.old.left }
+    ensures same { line.new ≡ line.old }
+{
+    visits.left -= 1;
+    if !is_same(line.to_move(), side) {
+        return replied(alloc, line, side, room, advice, memo, visits);
+    }
+    let found = picked(alloc, line, side, room, advice, memo, visits)?;
+    keep(alloc, line, &found, memo);
+    Ok(found)
 }
 
 /// The proof where the winner has won, if this is the side.

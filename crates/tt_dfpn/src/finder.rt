@@ -9,7 +9,7 @@ mod hash_history;
 mod life;
 mod region;
 mod search;
-mod table;
+mod transpositions;
 mod zobrist;
 
 pub use advisor::Advisor;

@@ -5,9 +5,9 @@ use Rattle.std.proofs.lemmas.List.{length-map, get_or-map, get_or_default, take_
 use Rattle.tt_board.specs.Position.{Position, Colouring}
 use Rattle.tt_game.specs.declared.frame.Side.{Side}
 use Rattle.tt_game.specs.declared.frame.Side.TheVariants.{Attacker, Defender}
-use Rattle.tt_game.specs.Game.{State, history, opponent}
+use Rattle.tt_game.specs.Game.{opponent}
 use Rattle.tt_game.specs.Course.{Course, so_far, colourings}
-use Rattle.tt_game.specs.inside.Undoing.{course_of, without_play, state_at, front, last}
+use Rattle.tt_game.specs.inside.Undoing.{course_of, without_play, front, last}
 
 -- two courses are one where their parts are
 same_course : (g : Size) (xs ys : List Colouring) (x y : Colouring) (n : ℕ) → xs ≡ ys → x ≡ y
@@ -59,11 +59,6 @@ course_undone g bs live passes back inside =
     let all : colourings (take (live - 1) bs) ≡ front (colourings (take live bs)) =
     ap colourings (sym shorter) ∙ sym (take-map (λ (x : Position). x.points) (live - 1) (take live bs)) ∙ ap (λ n. take (n - 1) (colourings (take live bs))) (sym count) in
     ap (λ (cs : List Colouring). let c : Course = record { size = g; earlier = front cs; present = last cs; passes = back } in c) all
-
--- boards that show a state's history show the state
-pub state_from : (g : Size) (bs : List Position) (s : State) → colourings bs ≡ history s → state_at (course_of g bs s.passes) s.to_move ≡ s
-state_from g bs s e =
-    ap (λ (c : Course). state_at c s.to_move) (course_from bs (let c : Course = record { size = g; earlier = s.earlier; present = s.present; passes = s.passes } in c) e)
 
 -- boards of one size with one colouring each are one
 pub same_boards : (g : Size) (bs cs : List Position) → All (λ (b : Position). b.size ≡ g) bs → All (λ (b : Position). b.size ≡ g) cs → colourings bs ≡ colourings cs → bs ≡ cs

@@ -17,11 +17,11 @@ use Rattle.tt_sgf.specs.Words.{bit_in, AreBitsOf}
 use Rattle.tt_sgf.specs.laws.SizeLaws.{few_points}
 use Rattle.tt_game.specs.declared.frame.Frame.{Frame}
 use Rattle.tt_game.specs.Game.{State}
-use Rattle.tt_game.specs.Keys.{marks_of, binary, words_of, packed, key_of}
+use Rattle.tt_game.specs.Keys.{bits_of, binary, words_of, bit_words, key_of}
 
 -- ---- words
 
--- n marks are a number below 2 to the n
+-- n bits are a number below 2 to the n
 binary-below : (bs : List Bool) → binary bs < 2 ^ length bs
 binary-below [] = omega arith
 binary-below (b ∷ bs) =
@@ -39,7 +39,7 @@ odd true false m n e = absurd (omega (arith, e))
 odd false true m n e = absurd (omega (arith, e))
 odd false false m n e = (refl, omega (arith, e))
 
--- a number tells the marks that are its digits
+-- a number tells the bits that are its digits
 binary_tells : (bs cs : List Bool) → length bs ≡ length cs → binary bs ≡ binary cs → bs ≡ cs
 binary_tells [] [] e h = refl
 binary_tells [] (c ∷ cs) e h = absurd (omega (arith, e))
@@ -49,7 +49,7 @@ binary_tells (b ∷ bs) (c ∷ cs) e h =
     let r = binary_tells bs cs (omega (arith, e)) k.1 in
     let f = k.0 in cc
 
--- words of 64 marks tell all marks in them
+-- words of 64 bits tell all bits in them
 words_tell : (k : ℕ) (xs ys : List Bool) → length xs ≡ 64 * k → length ys ≡ 64 * k → words_of k xs ≡ words_of k ys → xs ≡ ys
 unfolding words_of
 words_tell zero [] [] e f h = refl
@@ -62,18 +62,18 @@ words_tell (suc k) xs ys e f h =
     let rest : drop 64 xs ≡ drop 64 ys = words_tell k (drop 64 xs) (drop 64 ys) (omega (arith, length-drop 64 xs)) (omega (arith, length-drop 64 ys)) tail' in
     sym (take-append-drop 64 xs) ∙ ap (λ x. x ++ drop 64 xs) first ∙ ap (λ x. take 64 ys ++ x) rest ∙ take-append-drop 64 ys
 
--- marks in words tell each point
-pub packed_tells : (size : Size) (test tell : ℕ → Bool) → words_of 6 (marks_of size test) ≡ words_of 6 (marks_of size tell) → (p : ℕ) → p < point_count size → test p ≡ tell p
-unfolding marks_of
-packed_tells size test tell h p lt =
+-- bits in words tell each point
+pub bit_words_tells : (size : Size) (test tell : ℕ → Bool) → words_of 6 (bits_of size test) ≡ words_of 6 (bits_of size tell) → (p : ℕ) → p < point_count size → test p ≡ tell p
+unfolding bits_of
+bit_words_tells size test tell h p lt =
     let n = point_count size in
     let few = few_points size in
     let wide = λ (t : ℕ → Bool). (let w : length (map t (range_with_len 0 n) ++ replicate (384 - n) false) ≡ 64 * 6 = omega
     (arith, few, length-append (map t (range_with_len 0 n)) (replicate (384 - n) false), length-map-range_with_len t 0 n, length-replicate (384 - n) false) in w) in
-    let marks = append_cancel_right (map test (range_with_len 0 n)) (map tell (range_with_len 0 n)) (replicate (384 - n) false) (words_tell 6 _ _ (wide test) (wide tell) h) in
-    sym (get_or-map-range_with_len test 0 n p p false lt (omega arith)) ∙ ap (λ xs. get_or xs p false) marks ∙ get_or-map-range_with_len tell 0 n p p false lt (omega arith)
+    let bits = append_cancel_right (map test (range_with_len 0 n)) (map tell (range_with_len 0 n)) (replicate (384 - n) false) (words_tell 6 _ _ (wide test) (wide tell) h) in
+    sym (get_or-map-range_with_len test 0 n p p false lt (omega arith)) ∙ ap (λ xs. get_or xs p false) bits ∙ get_or-map-range_with_len tell 0 n p p false lt (omega arith)
 
--- tests that agree on the first numbers mark them alike
+-- tests that agree on the first numbers bit them alike
 same_maps : (test tell : ℕ → Bool) (n : ℕ) → ((p : ℕ) → p < n → test p ≡ tell p) → map test (range_with_len 0 n) ≡ map tell (range_with_len 0 n)
 same_maps test tell n h = Rattle.std.proofs.lemmas.List.ext_get_or false (map test (range_with_len 0 n)) (map tell (range_with_len 0 n))
     (length-map-range_with_len test 0 n ∙ sym (length-map-range_with_len tell 0 n))
@@ -81,9 +81,9 @@ same_maps test tell n h = Rattle.std.proofs.lemmas.List.ext_get_or false (map te
     get_or-map-range_with_len test 0 n k k false lt (omega arith) ∙ h k lt ∙ sym (get_or-map-range_with_len tell 0 n k k false lt (omega arith)))
 
 -- tests that agree on the board's points are packed alike
-pub packed_same : (size : Size) (test tell : ℕ → Bool) → ((p : ℕ) → p < point_count size → test p ≡ tell p) → words_of 6 (marks_of size test) ≡ words_of 6 (marks_of size tell)
-unfolding marks_of
-packed_same size test tell h = ap (λ xs. words_of 6 (xs ++ replicate (384 - point_count size) false)) (same_maps test tell (point_count size) h)
+pub bit_words_same : (size : Size) (test tell : ℕ → Bool) → ((p : ℕ) → p < point_count size → test p ≡ tell p) → words_of 6 (bits_of size test) ≡ words_of 6 (bits_of size tell)
+unfolding bits_of
+bit_words_same size test tell h = ap (λ xs. words_of 6 (xs ++ replicate (384 - point_count size) false)) (same_maps test tell (point_count size) h)
 
 -- an entry is known by whether it is black and whether it is white
 pub entries_tell : (x y : Option Colour) → is_stone_of x Black ≡ is_stone_of y Black → is_stone_of x White ≡ is_stone_of y White → x ≡ y
@@ -104,38 +104,38 @@ digit : (b : Bool) (m : ℕ) → ((cond b 1 0 + 2 * m) % 2 ≡ cond b 1 0) × ((
 digit true m = (omega arith, omega arith)
 digit false m = (omega arith, omega arith)
 
--- the bits of the number are the marks
+-- the bits of the number are the bits
 bit_binary : (bs : List Bool) (i : ℕ) → bit_at (binary bs) i ≡ cond (get_or bs i false) 1 0
 bit_binary [] i = bit_at-zero i
 bit_binary (b ∷ bs) zero = bit_at_lowest (cond b 1 0 + 2 * binary bs) ∙ (digit b (binary bs)).0
 bit_binary (b ∷ bs) (suc i) = bit_at-suc (cond b 1 0 + 2 * binary bs) i ∙ ap (λ m. bit_at m i) (digit b (binary bs)).1 ∙ bit_binary bs i
 
 -- as many words are made as are asked for
-pub length-words_of : (n : ℕ) (marks : List Bool) → length (words_of n marks) ≡ n
+pub length-words_of : (n : ℕ) (bits : List Bool) → length (words_of n bits) ≡ n
 unfolding words_of
-length-words_of zero marks = refl
-length-words_of (suc n) marks = ap suc (length-words_of n (drop 64 marks))
+length-words_of zero bits = refl
+length-words_of (suc n) bits = ap suc (length-words_of n (drop 64 bits))
 
--- each word is the number of its 64 marks
-word_of : (n : ℕ) (marks : List Bool) (k : ℕ) → k < n → get_or (words_of n marks) k 0 ≡ binary (take 64 (drop (64 * k) marks))
+-- each word is the number of its 64 bits
+word_of : (n : ℕ) (bits : List Bool) (k : ℕ) → k < n → get_or (words_of n bits) k 0 ≡ binary (take 64 (drop (64 * k) bits))
 unfolding words_of
-word_of zero marks k lt = absurd (omega arith)
-word_of (suc n) marks zero lt = refl
-word_of (suc n) marks (suc k) lt =
+word_of zero bits k lt = absurd (omega arith)
+word_of (suc n) bits zero lt = refl
+word_of (suc n) bits (suc k) lt =
     let more : 64 + 64 * k ≡ 64 * suc k = omega arith in
-    word_of n (drop 64 marks) k (omega arith) ∙ ap (λ xs. binary (take 64 xs)) (drop-drop (64 * k) 64 marks ∙ ap (λ j. drop j marks) more)
+    word_of n (drop 64 bits) k (omega arith) ∙ ap (λ xs. binary (take 64 xs)) (drop-drop (64 * k) 64 bits ∙ ap (λ j. drop j bits) more)
 
--- no mark is set where none was made
+-- no bit is set where none was made
 none_marked : (n i : ℕ) → get_or (replicate n false) i false ≡ false
 none_marked n i = elim (cases_lt i n) [
   | inl below ↦ get_or-replicate n i false false below
   | inr past ↦ get_or_past (replicate n false) i false (omega (arith, length-replicate {A = Bool} n false))
 ]
 
--- the marks are the bits of words that have those of the test
-mark_is : (size : Size) (test : ℕ → Bool) (words : List ℕ) → AreBitsOf words (point_count size) test → (q : ℕ) → q < 384 → get_or (marks_of size test) q false ≡ bit_in words q
-unfolding marks_of
-mark_is size test words bits q lt =
+-- the bits are the bits of words that have those of the test
+bit_is_at : (size : Size) (test : ℕ → Bool) (words : List ℕ) → AreBitsOf words (point_count size) test → (q : ℕ) → q < 384 → get_or (bits_of size test) q false ≡ bit_in words q
+unfolding bits_of
+bit_is_at size test words bits q lt =
     let n = point_count size in
     let xs = map test (range_with_len 0 n) in
     let ys = replicate (384 - n) false in
@@ -159,19 +159,19 @@ bit_is words k i lt =
     let place : i ≡ (64 * k + i) % 64 = omega arith in
     ap (λ j. bit_at (get_or words j 0) i) word ∙ ap (bit_at (get_or words ((64 * k + i) / 64) 0)) place ∙ by_test _ (bit_at-lt (get_or words ((64 * k + i) / 64) 0) ((64 * k + i) % 64))
 
--- six words with the bits of the marks are the marks packed
-pub packed_is : (size : Size) (test : ℕ → Bool) (words : List ℕ) → length words ≡ 6 → ((k : ℕ) → get_or words k 0 < 2 ^ 64) → AreBitsOf words (point_count size) test → words ≡ packed size test
-packed_is size test words wide fits bits =
-    let marks = marks_of size test in
-    ext_get_or 0 words (words_of 6 marks) (wide ∙ sym (length-words_of 6 marks)) (λ k inside.
+-- six words with these bits are the words of the bits
+pub bit_words_is : (size : Size) (test : ℕ → Bool) (words : List ℕ) → length words ≡ 6 → ((k : ℕ) → get_or words k 0 < 2 ^ 64) → AreBitsOf words (point_count size) test → words ≡ bit_words size test
+bit_words_is size test words wide fits alike =
+    let bits = bits_of size test in
+    ext_get_or 0 words (words_of 6 bits) (wide ∙ sym (length-words_of 6 bits)) (λ k inside.
     let lt : k < 6 = omega (arith, wide) in
-    let part = take 64 (drop (64 * k) marks) in
-    let short : length part ≤ 64 = omega (arith, length-take 64 (drop (64 * k) marks)) in
+    let part = take 64 (drop (64 * k) bits) in
+    let short : length part ≤ 64 = omega (arith, length-take 64 (drop (64 * k) bits)) in
     let few : binary part < 2 ^ 64 = omega (arith, binary-below part, Rattle.std.proofs.Math.Pow.pow_mono short) in
     same_from_bits_below 64 (get_or words k 0) (binary part) (fits k) few (λ i small.
-    bit_is words k i small ∙ sym (bit_binary part i ∙ ap (λ b. cond b 1 0) (get_or-take 64 (drop (64 * k) marks) i false small ∙ get_or-drop (64 * k) marks i false
-    ∙ mark_is size test words bits (64 * k + i) (omega arith))))
-    ∙ sym (word_of 6 marks k lt))
+    bit_is words k i small ∙ sym (bit_binary part i ∙ ap (λ b. cond b 1 0) (get_or-take 64 (drop (64 * k) bits) i false small ∙ get_or-drop (64 * k) bits i false
+    ∙ bit_is_at size test words alike (64 * k + i) (omega arith))))
+    ∙ sym (word_of 6 bits k lt))
 
 -- the key is told by the frame, the present colouring, the side to move and the passes
 pub key_told : (f g : Frame) (s t : State) → f ≡ g → s.present ≡ t.present → s.to_move ≡ t.to_move → s.passes ≡ t.passes → key_of f s ≡ key_of g t

@@ -1,8 +1,8 @@
 -- What lines and what is kept of them have in common: the boards of their beginning.
 use Rattle.tt_sgf.specs.declared.size.Size.{Size}
-use Rattle.std.proofs.Common.{◌≡◌, ℕ, ◌<◌, ◌≤◌, min, All, List, [], ◌∷◌, ◌++◌, length, take, drop, reverse, refl, sym, ap, subst, ◌∙◌, arith}
+use Rattle.std.proofs.Common.{◌≡◌, ℕ, ◌<◌, ◌≤◌, min, All, Contains, inl, inr, List, [], ◌∷◌, ◌++◌, length, take, drop, reverse, refl, sym, ap, subst, ◌∙◌, arith}
 use Rattle.std.proofs.lemmas.List.{take-append-le, take-append-drop, take-map, take_at, drop_at, length-take, drop-map, map-append, reverse-append, length_push}
-use Rattle.std.proofs.lemmas.List.Elements.{All-drop}
+use Rattle.std.proofs.lemmas.List.Elements.{All-drop, All-take, Contains-append_right}
 use Rattle.tt_board.specs.Position.{Position, Colouring}
 use Rattle.tt_game.specs.declared.frame.Side.{Side}
 use Rattle.tt_game.specs.declared.line.Undo.{Undo}
@@ -11,6 +11,7 @@ use Rattle.tt_game.specs.Game.{State, history, opponent}
 use Rattle.tt_game.specs.Course.{Course, so_far, colourings, with_play, with_pass}
 use Rattle.tt_game.specs.inside.Undoing.{course_of, state_at, undone, board_on, last, IsUndoable}
 use Rattle.tt_game.specs.inside.Roots.{BoardsBegin, AreRooted}
+use Rattle.tt_game.specs.laws.Members.{IsIn, in_of_contains, contains_of_in}
 use Rattle.tt_game.proofs.CourseLemmas.{length-colourings, course_from, front_push, last_push, history_is, same_boards, twice}
 
 -- a history has at least as many colourings as boards that it begins with
@@ -108,6 +109,30 @@ begin_alike bs later there e =
     take-map (λ (x : Position). x.points) (length bs) there
     ∙ ap colourings (sym e ∙ sym (take_at bs later (length bs) refl))
     ∙ sym (take-map (λ (x : Position). x.points) (length bs) (bs ++ later))
+
+-- the colourings of boards are those of the boards in them
+points_in : (bs : List Position) (b : Position) → IsIn bs b → IsIn (colourings bs) b.points
+points_in [] b m = absurd m
+points_in (x ∷ bs) b (inl e) = inl (ap (λ (w : Position). w.points) e)
+points_in (x ∷ bs) b (inr m) = inr (points_in bs b m)
+
+pub made_among : (begun later : List Position) (b : Position) → Contains later b → Contains (colourings (begun ++ later)) b.points
+made_among begun later b m =
+    contains_of_in (colourings (begun ++ later)) b.points
+    (points_in (begun ++ later) b (in_of_contains (begun ++ later) b (Contains-append_right begun later b m)))
+
+-- boards of one size with which a history begins are the first that show it
+pub begun_boards : (g : Size) (bs there : List Position) → All (λ (b : Position). b.size ≡ g) bs → All (λ (b : Position). b.size ≡ g) there
+    → BoardsBegin bs (colourings there) → bs ≡ take (length bs) there
+begun_boards g bs there own sizes begins =
+    same_boards g bs (take (length bs) there) own (All-take (λ (b : Position). b.size ≡ g) (length bs) there sizes)
+    (sym begins ∙ take-map (λ (x : Position). x.points) (length bs) there)
+
+-- boards that are the first of others are no more
+pub begun_fewer : (bs there : List Position) → bs ≡ take (length bs) there → length bs ≤ length there
+begun_fewer bs there e =
+    let n : length bs ≡ min (length bs) (length there) = ap length e ∙ length-take (length bs) there in
+    omega (arith, n)
 
 -- a state that boards show has their history, and no other boards of their size have it
 pub shows_boards : (g : Size) (bs there : List Position) (passes : ℕ) (side : Side) (s : State) → 0 < length bs

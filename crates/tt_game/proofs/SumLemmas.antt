@@ -19,10 +19,10 @@ use Rattle.tt_sgf.specs.declared.size.Size.{Size}
 use Rattle.tt_sgf.specs.Sizes.{point_count}
 use Rattle.tt_sgf.specs.laws.SizeLaws.{few_points}
 use Rattle.tt_game.specs.declared.history.bloom_filter.TheConstants.{LOW, MIXER, FILTER_BITS, WEIGHTS}
-use Rattle.tt_game.specs.Keys.{marks_of, binary, words_of, packed}
+use Rattle.tt_game.specs.Keys.{bits_of, binary, words_of, bit_words}
 use Rattle.tt_game.specs.Mixing.{mix, mix_board}
 use Rattle.tt_game.specs.BloomFilter.{hash_of}
-use Rattle.tt_game.proofs.KeyLemmas.{packed_same, length-words_of}
+use Rattle.tt_game.proofs.KeyLemmas.{bit_words_same, length-words_of}
 
 -- ---- what words make
 
@@ -46,59 +46,59 @@ shifted s d (w ∷ ws) =
     ∙ shifted t (d * MIXER) ws
     ∙ ap (λ n. (mix t ws + n) % 2 ^ 64) (mul_assoc d MIXER (MIXER ^ length ws) ∙ ap (λ n. d * n) (sym (pow-succ' MIXER (length ws))))
 
--- a mark more adds its digit
+-- a bit more adds its digit
 binary_set : (bs : List Bool) (i : ℕ) → i < length bs → get_or bs i false ≡ false → binary (set bs i true) ≡ binary bs + 2 ^ i
 binary_set [] i lt off = absurd (omega (arith, lt))
 binary_set (true ∷ bs) zero lt off = absurd (Rattle.std.proofs.lemmas.Bool.false≢true (sym off))
 binary_set (false ∷ bs) zero lt off = omega arith
 binary_set (b ∷ bs) (suc i) lt off = omega (arith, binary_set bs i (omega (arith, lt)) off, pow-suc 2 i)
 
--- a mark more in words adds its digit, which counts by a power for each word behind its own
-grown : (s n : ℕ) (marks : List Bool) (p : ℕ) → length marks ≡ 64 * n → p < 64 * n → get_or marks p false ≡ false
-    → mix s (words_of n (set marks p true)) ≡ (mix s (words_of n marks) + 2 ^ (p % 64) * MIXER ^ (n - 1 - p / 64)) % 2 ^ 64
+-- a bit more in words adds its digit, which counts by a power for each word behind its own
+grown : (s n : ℕ) (bits : List Bool) (p : ℕ) → length bits ≡ 64 * n → p < 64 * n → get_or bits p false ≡ false
+    → mix s (words_of n (set bits p true)) ≡ (mix s (words_of n bits) + 2 ^ (p % 64) * MIXER ^ (n - 1 - p / 64)) % 2 ^ 64
 unfolding mix words_of
-grown s zero marks p wide lt off = absurd (omega (arith, lt))
-grown s (suc n) marks p wide lt off = elim (cases_lt p 64) [
+grown s zero bits p wide lt off = absurd (omega (arith, lt))
+grown s (suc n) bits p wide lt off = elim (cases_lt p 64) [
   | inl below ↦
-      let b = binary (take 64 marks) in let ws = words_of n (drop 64 marks) in let t = (s * MIXER % 2 ^ 64 + b) % 2 ^ 64 in
-      let here : binary (take 64 (set marks p true)) ≡ b + 2 ^ p =
-      ap binary (take-set-lt 64 marks p true below)
-      ∙ binary_set (take 64 marks) p (omega (arith, below, wide, length-take-le 64 marks (omega (arith, wide)))) (get_or-take 64 marks p false below ∙ off) in
-      let same : drop 64 (set marks p true) ≡ drop 64 marks = drop-set-lt 64 marks p true below in
+      let b = binary (take 64 bits) in let ws = words_of n (drop 64 bits) in let t = (s * MIXER % 2 ^ 64 + b) % 2 ^ 64 in
+      let here : binary (take 64 (set bits p true)) ≡ b + 2 ^ p =
+      ap binary (take-set-lt 64 bits p true below)
+      ∙ binary_set (take 64 bits) p (omega (arith, below, wide, length-take-le 64 bits (omega (arith, wide)))) (get_or-take 64 bits p false below ∙ off) in
+      let same : drop 64 (set bits p true) ≡ drop 64 bits = drop-set-lt 64 bits p true below in
       let digit : p % 64 ≡ p = omega (arith, below) in
       let place : suc n - 1 - p / 64 ≡ n = omega (arith, below) in
-      ap (λ x. mix ((s * MIXER % 2 ^ 64 + x) % 2 ^ 64) (words_of n (drop 64 (set marks p true)))) here
+      ap (λ x. mix ((s * MIXER % 2 ^ 64 + x) % 2 ^ 64) (words_of n (drop 64 (set bits p true)))) here
       ∙ ap (λ x. mix ((s * MIXER % 2 ^ 64 + (b + 2 ^ p)) % 2 ^ 64) (words_of n x)) same
       ∙ ap (λ x. mix x ws) (ap (λ x. x % 2 ^ 64) (omega arith) ∙ sym (mod-add-mod (s * MIXER % 2 ^ 64 + b) (2 ^ 64) (2 ^ p)))
       ∙ shifted t (2 ^ p) ws
-      ∙ ap (λ e. (mix t ws + 2 ^ p * MIXER ^ e) % 2 ^ 64) (length-words_of n (drop 64 marks) ∙ sym place)
+      ∙ ap (λ e. (mix t ws + 2 ^ p * MIXER ^ e) % 2 ^ 64) (length-words_of n (drop 64 bits) ∙ sym place)
       ∙ ap (λ e. (mix t ws + 2 ^ e * MIXER ^ (suc n - 1 - p / 64)) % 2 ^ 64) (sym digit)
   | inr past ↦
-      let q = p - 64 in let b = binary (take 64 marks) in let t = (s * MIXER % 2 ^ 64 + b) % 2 ^ 64 in
+      let q = p - 64 in let b = binary (take 64 bits) in let t = (s * MIXER % 2 ^ 64 + b) % 2 ^ 64 in
       let is : 64 + q ≡ p = omega (arith, past) in
-      let here : take 64 (set marks p true) ≡ take 64 marks = take-set-le 64 marks p true past in
-      let later : drop 64 (set marks p true) ≡ set (drop 64 marks) q true = ap (λ j. drop 64 (set marks j true)) (sym is) ∙ drop-set-add 64 marks q true in
-      let bare : get_or (drop 64 marks) q false ≡ false = get_or-drop 64 marks q false ∙ ap (λ j. get_or marks j false) is ∙ off in
+      let here : take 64 (set bits p true) ≡ take 64 bits = take-set-le 64 bits p true past in
+      let later : drop 64 (set bits p true) ≡ set (drop 64 bits) q true = ap (λ j. drop 64 (set bits j true)) (sym is) ∙ drop-set-add 64 bits q true in
+      let bare : get_or (drop 64 bits) q false ≡ false = get_or-drop 64 bits q false ∙ ap (λ j. get_or bits j false) is ∙ off in
       let digit : q % 64 ≡ p % 64 = omega (arith, past) in
       let place : n - 1 - q / 64 ≡ suc n - 1 - p / 64 = omega (arith, past) in
-      ap (λ x. mix ((s * MIXER % 2 ^ 64 + binary x) % 2 ^ 64) (words_of n (drop 64 (set marks p true)))) here
+      ap (λ x. mix ((s * MIXER % 2 ^ 64 + binary x) % 2 ^ 64) (words_of n (drop 64 (set bits p true)))) here
       ∙ ap (λ x. mix t (words_of n x)) later
-      ∙ grown t n (drop 64 marks) q (omega (arith, length-drop 64 marks, wide)) (omega (arith, past, lt)) bare
-      ∙ ap (λ e. (mix t (words_of n (drop 64 marks)) + 2 ^ e * MIXER ^ (n - 1 - q / 64)) % 2 ^ 64) digit
-      ∙ ap (λ e. (mix t (words_of n (drop 64 marks)) + 2 ^ (p % 64) * MIXER ^ e) % 2 ^ 64) place
+      ∙ grown t n (drop 64 bits) q (omega (arith, length-drop 64 bits, wide)) (omega (arith, past, lt)) bare
+      ∙ ap (λ e. (mix t (words_of n (drop 64 bits)) + 2 ^ e * MIXER ^ (n - 1 - q / 64)) % 2 ^ 64) digit
+      ∙ ap (λ e. (mix t (words_of n (drop 64 bits)) + 2 ^ (p % 64) * MIXER ^ e) % 2 ^ 64) place
 ]
 
 -- ---- a stone more
 
--- the marks of a test, one by one
-mark_at : (g : Size) (test : ℕ → Bool) (q : ℕ) → q < point_count g → get_or (marks_of g test) q false ≡ test q
-unfolding marks_of
+-- the bits of a test, one by one
+mark_at : (g : Size) (test : ℕ → Bool) (q : ℕ) → q < point_count g → get_or (bits_of g test) q false ≡ test q
+unfolding bits_of
 mark_at g test q lt =
     let n = point_count g in let xs = map test (range_with_len 0 n) in
     get_or_append_left xs (replicate (384 - n) false) false q (omega (arith, lt, length-map-range_with_len test 0 n)) ∙ get_or-map-range_with_len test 0 n q q false lt (omega arith)
 
-mark_past : (g : Size) (test : ℕ → Bool) (q : ℕ) → point_count g ≤ q → get_or (marks_of g test) q false ≡ false
-unfolding marks_of
+mark_past : (g : Size) (test : ℕ → Bool) (q : ℕ) → point_count g ≤ q → get_or (bits_of g test) q false ≡ false
+unfolding bits_of
 mark_past g test q past =
     let n = point_count g in let xs = map test (range_with_len 0 n) in
     get_or-append_right xs (replicate (384 - n) false) n q false (length-map-range_with_len test 0 n) past ∙ none (384 - n) (q - n)
@@ -109,25 +109,25 @@ mark_past g test q past =
       | inr behind ↦ get_or_past (replicate n false) i false (omega (arith, behind, length-replicate {A = Bool} n false))
     ]
 
-length-marks : (g : Size) (test : ℕ → Bool) → length (marks_of g test) ≡ 384
-unfolding marks_of
-length-marks g test =
+length-bits : (g : Size) (test : ℕ → Bool) → length (bits_of g test) ≡ 384
+unfolding bits_of
+length-bits g test =
     let n = point_count g in
     omega (arith, few_points g, length-append (map test (range_with_len 0 n)) (replicate (384 - n) false), length-map-range_with_len test 0 n, length-replicate {A = Bool} (384 - n) false)
 
--- a test that one point more passes has one mark more
-mark_more : (g : Size) (test tell : ℕ → Bool) (p : ℕ) → p < point_count g → tell p ≡ true → ((q : ℕ) → q ≢ p → tell q ≡ test q) → marks_of g tell ≡ set (marks_of g test) p true
+-- a test that one point more passes has one bit more
+mark_more : (g : Size) (test tell : ℕ → Bool) (p : ℕ) → p < point_count g → tell p ≡ true → ((q : ℕ) → q ≢ p → tell q ≡ test q) → bits_of g tell ≡ set (bits_of g test) p true
 mark_more g test tell p on here others =
-    ext_get_or false (marks_of g tell) (set (marks_of g test) p true) (length-marks g tell ∙ sym (length-set (marks_of g test) p true ∙ length-marks g test)) at
+    ext_get_or false (bits_of g tell) (set (bits_of g test) p true) (length-bits g tell ∙ sym (length-set (bits_of g test) p true ∙ length-bits g test)) at
   where
-    at : (q : ℕ) → q < length (marks_of g tell) → get_or (marks_of g tell) q false ≡ get_or (set (marks_of g test) p true) q false
+    at : (q : ℕ) → q < length (bits_of g tell) → get_or (bits_of g tell) q false ≡ get_or (set (bits_of g test) p true) q false
     at q in' = elim (cases_eq q p) [
       | inl same ↦
-          ap (λ j. get_or (marks_of g tell) j false) same ∙ mark_at g tell p on ∙ here
-          ∙ sym (ap (λ j. get_or (set (marks_of g test) p true) j false) same ∙ get_or-set_same (marks_of g test) p true false (omega (arith, on, few_points g, length-marks g test)))
+          ap (λ j. get_or (bits_of g tell) j false) same ∙ mark_at g tell p on ∙ here
+          ∙ sym (ap (λ j. get_or (set (bits_of g test) p true) j false) same ∙ get_or-set_same (bits_of g test) p true false (omega (arith, on, few_points g, length-bits g test)))
       | inr apart ↦ elim (cases_lt q (point_count g)) [
-        | inl below ↦ mark_at g tell q below ∙ others q apart ∙ sym (get_or-set_other (marks_of g test) p q true false apart ∙ mark_at g test q below)
-        | inr past ↦ mark_past g tell q past ∙ sym (get_or-set_other (marks_of g test) p q true false apart ∙ mark_past g test q past)
+        | inl below ↦ mark_at g tell q below ∙ others q apart ∙ sym (get_or-set_other (bits_of g test) p q true false apart ∙ mark_at g test q below)
+        | inr past ↦ mark_past g tell q past ∙ sym (get_or-set_other (bits_of g test) p q true false apart ∙ mark_past g test q past)
       ]
     ]
 
@@ -145,42 +145,42 @@ module _ (g : Size) (c : Colouring) (p : ℕ) (fits : length c ≡ point_count g
   away k q apart = get_or-set_other c p q (Some k) None apart
 
   -- the stones of the colour are one more, those of the other one are the same
-  own : (k : Colour) → is_stone_of (Some k) k ≡ true → marks_of g (λ q. is_stone_of (entry_at (set c p (Some k)) q) k) ≡ set (marks_of g (λ q. is_stone_of (entry_at c q) k)) p true
+  own : (k : Colour) → is_stone_of (Some k) k ≡ true → bits_of g (λ q. is_stone_of (entry_at (set c p (Some k)) q) k) ≡ set (bits_of g (λ q. is_stone_of (entry_at c q) k)) p true
   own k is = mark_more g (λ q. is_stone_of (entry_at c q) k) (λ q. is_stone_of (entry_at (set c p (Some k)) q) k) p on
       (ap (λ x. is_stone_of x k) (here k) ∙ is) (λ q apart. ap (λ x. is_stone_of x k) (away k q apart))
 
-  other : (k o : Colour) → is_stone_of (Some k) o ≡ is_stone_of None o → packed g (λ q. is_stone_of (entry_at (set c p (Some k)) q) o) ≡ packed g (λ q. is_stone_of (entry_at c q) o)
-  other k o not_ = packed_same g (λ q. is_stone_of (entry_at (set c p (Some k)) q) o) (λ q. is_stone_of (entry_at c q) o) (λ q lt. elim (cases_eq q p) [
+  other : (k o : Colour) → is_stone_of (Some k) o ≡ is_stone_of None o → bit_words g (λ q. is_stone_of (entry_at (set c p (Some k)) q) o) ≡ bit_words g (λ q. is_stone_of (entry_at c q) o)
+  other k o not_ = bit_words_same g (λ q. is_stone_of (entry_at (set c p (Some k)) q) o) (λ q. is_stone_of (entry_at c q) o) (λ q lt. elim (cases_eq q p) [
     | inl same ↦ ap (λ j. is_stone_of (entry_at (set c p (Some k)) j) o) same ∙ ap (λ x. is_stone_of x o) (here k) ∙ not_
         ∙ sym (ap (λ j. is_stone_of (entry_at c j) o) same ∙ ap (λ x. is_stone_of x o) free)
     | inr apart ↦ ap (λ x. is_stone_of x o) (away k q apart)
   ])
 
   grown_here : (s : ℕ) (k : Colour) → is_stone_of (Some k) k ≡ true → is_stone_of None k ≡ false
-      → mix s (packed g (λ q. is_stone_of (entry_at (set c p (Some k)) q) k))
-      ≡ (mix s (packed g (λ q. is_stone_of (entry_at c q) k)) + 2 ^ (p % 64) * MIXER ^ (5 - p / 64)) % 2 ^ 64
+      → mix s (bit_words g (λ q. is_stone_of (entry_at (set c p (Some k)) q) k))
+      ≡ (mix s (bit_words g (λ q. is_stone_of (entry_at c q) k)) + 2 ^ (p % 64) * MIXER ^ (5 - p / 64)) % 2 ^ 64
   grown_here s k is bare =
-      let marks = marks_of g (λ q. is_stone_of (entry_at c q) k) in
+      let bits = bits_of g (λ q. is_stone_of (entry_at c q) k) in
       ap (λ x. mix s (words_of 6 x)) (own k is)
-      ∙ grown s 6 marks p (length-marks g (λ q. is_stone_of (entry_at c q) k)) (omega (arith, on, few_points g))
+      ∙ grown s 6 bits p (length-bits g (λ q. is_stone_of (entry_at c q) k)) (omega (arith, on, few_points g))
       (mark_at g (λ q. is_stone_of (entry_at c q) k) p on ∙ ap (λ x. is_stone_of x k) free ∙ bare)
 
   pub summed : (k : Colour) → mix_board g (set c p (Some k)) ≡ (mix_board g c + 2 ^ (p % 64) * MIXER ^ (behind k - p / 64)) % 2 ^ 64
   summed Black =
-      let white = packed g (λ q. is_stone_of (entry_at c q) White) in
-      let s = mix 0 (packed g (λ q. is_stone_of (entry_at c q) Black)) in
+      let white = bit_words g (λ q. is_stone_of (entry_at c q) White) in
+      let s = mix 0 (bit_words g (λ q. is_stone_of (entry_at c q) Black)) in
       let d = 2 ^ (p % 64) * MIXER ^ (5 - p / 64) in
       let powers : d * MIXER ^ 6 ≡ 2 ^ (p % 64) * MIXER ^ (11 - p / 64) =
       mul_assoc (2 ^ (p % 64)) (MIXER ^ (5 - p / 64)) (MIXER ^ 6)
       ∙ ap (λ n. 2 ^ (p % 64) * n) (sym (pow-add MIXER (5 - p / 64) 6) ∙ ap (λ e. MIXER ^ e) (omega (arith, on, few_points g))) in
-      ap (mix (mix 0 (packed g (λ q. is_stone_of (entry_at (set c p (Some Black)) q) Black)))) (other Black White refl)
+      ap (mix (mix 0 (bit_words g (λ q. is_stone_of (entry_at (set c p (Some Black)) q) Black)))) (other Black White refl)
       ∙ ap (λ n. mix n white) (grown_here 0 Black refl refl)
       ∙ shifted s d white
-      ∙ ap (λ e. (mix s white + d * MIXER ^ e) % 2 ^ 64) (length-words_of 6 (marks_of g (λ q. is_stone_of (entry_at c q) White)))
+      ∙ ap (λ e. (mix s white + d * MIXER ^ e) % 2 ^ 64) (length-words_of 6 (bits_of g (λ q. is_stone_of (entry_at c q) White)))
       ∙ ap (λ n. (mix s white + n) % 2 ^ 64) powers
   summed White =
-      ap (λ n. mix (mix 0 n) (packed g (λ q. is_stone_of (entry_at (set c p (Some White)) q) White))) (other White Black refl)
-      ∙ grown_here (mix 0 (packed g (λ q. is_stone_of (entry_at c q) Black))) White refl refl
+      ap (λ n. mix (mix 0 n) (bit_words g (λ q. is_stone_of (entry_at (set c p (Some White)) q) White))) (other White Black refl)
+      ∙ grown_here (mix 0 (bit_words g (λ q. is_stone_of (entry_at c q) Black))) White refl refl
 
 -- the hash of a colouring with a stone more, by what the words make without it
 pub hash_more : (g : Size) (c : Colouring) (p : ℕ) (k : Colour) (sum w : ℕ) → length c ≡ point_count g → p < point_count g → entry_at c p ≡ None → sum ≡ mix_board g c

@@ -6,9 +6,8 @@ use Rattle.tt_sgf.specs.Sizes.{point_count}
 use Rattle.tt_game.specs.declared.frame.Frame.{Frame}
 use Rattle.tt_game.specs.declared.turns.Turn.{Turn}
 use Rattle.tt_game.specs.declared.turns.Turn.TheVariants.{Play, Pass}
-use Rattle.tt_game.specs.declared.turns.Successor.{Successor}
+use Rattle.tt_game.specs.Turns.{Successor, all_turns, is_legal, is_legal_is, legal_turns, successor, successors_of, successors_from}
 use Rattle.tt_game.specs.Game.{State, IsLegal, winner_of}
-use Rattle.tt_game.specs.Turns.{all_turns, is_legal, is_legal_is, legal_turns, successor, successors_of, successors_from}
 
 -- the first point of those that are left is the first in the list
 first : (f : Frame) (s : State) (n : ℕ) → n < point_count f.size

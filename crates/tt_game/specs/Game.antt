@@ -79,7 +79,8 @@ pub data Value : Type 0 where
 abbrev pub longest : Frame → ℕ
 longest f = 2 * 3 ^ point_count f.size
 
--- killed where the attacker forces a win within that many turns, else it lives
+-- killed where the attacker forces a win within that many turns, else it lives. No win needs more: each play makes a new
+-- colouring, and two passes in a row end the game. Where it lives the defender forces a win: `ValuesAreForced` of GameLaws
 abbrev pub HasValue : Frame → State → Value → Type 0
 HasValue f s killed = Forces f Attacker (longest f) s
 HasValue f s lives = Forces f Attacker (longest f) s → ⊥

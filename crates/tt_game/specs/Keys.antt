@@ -12,33 +12,33 @@ use Rattle.tt_game.specs.declared.frame.Frame.{Frame}
 use Rattle.tt_game.specs.declared.keys.Key.{Key}
 use Rattle.tt_game.specs.Game.{State}
 
--- a mark for each point of the board, and none behind them up to six words of 64
-unfoldable pub marks_of : Size → (ℕ → Bool) → List Bool
-marks_of size test = map test (range_with_len 0 (point_count size)) ++ replicate (BITS - point_count size) false
+-- a bit for each point of the board, and none behind them up to six words of 64
+unfoldable pub bits_of : Size → (ℕ → Bool) → List Bool
+bits_of size test = map test (range_with_len 0 (point_count size)) ++ replicate (BITS - point_count size) false
 
--- the number whose binary digits these marks are, the first mark the least digit
+-- the number whose binary digits these bits are, the first bit the least digit
 abbrev pub binary : List Bool → ℕ
 binary [] = 0
 binary (b ∷ bs) = cond b 1 0 + 2 * binary bs
 
--- so many words of 64 marks each
+-- so many words of 64 bits each
 unfoldable pub words_of : ℕ → List Bool → List ℕ
-words_of zero marks = []
-words_of (suc k) marks = binary (take 64 marks) ∷ words_of k (drop 64 marks)
+words_of zero bits = []
+words_of (suc k) bits = binary (take 64 bits) ∷ words_of k (drop 64 bits)
 
--- six words of 64 marks, on the points of the board that pass the test
-abbrev pub packed : Size → (ℕ → Bool) → List ℕ
-packed size test = words_of 6 (marks_of size test)
+-- six words of 64 bits, on the points of the board that pass the test
+abbrev pub bit_words : Size → (ℕ → Bool) → List ℕ
+bit_words size test = words_of 6 (bits_of size test)
 
 -- a position's key
 unfoldable pub key_of : Frame → State → Key
 key_of f s = record {
   size = f.size;
-  region = packed f.size (λ p. set.contains f.region p);
-  targets = packed f.size (λ p. set.contains f.targets p);
+  region = bit_words f.size (λ p. set.contains f.region p);
+  targets = bit_words f.size (λ p. set.contains f.targets p);
   defender = f.defender;
-  black = packed f.size (λ p. is_stone_of (entry_at s.present p) Black);
-  white = packed f.size (λ p. is_stone_of (entry_at s.present p) White);
+  black = bit_words f.size (λ p. is_stone_of (entry_at s.present p) Black);
+  white = bit_words f.size (λ p. is_stone_of (entry_at s.present p) White);
   to_move = s.to_move;
   passes = s.passes;
 }

@@ -1,6 +1,7 @@
 -- Lines: a frame, a state, and what pops lead back to. Why a turn is refused, and what a push does.
 use Rattle.std.specs.Prelude.{◌≡◌, ◌≢◌, ◌<◌, List, ◌∷◌, None, IsTrue}
 use Rattle.std.specs.FinSet as set
+use Rattle.tt_board.specs.Position.{Position}
 use Rattle.tt_board.specs.Reach.{entry_at}
 use Rattle.tt_board.specs.Stones.{LiesOn}
 use Rattle.tt_game.specs.declared.faults.Why.{Why}
@@ -31,6 +32,10 @@ pub record Stood : Type 0 where
 -- the state is of that frame, and has the present colouring, the side to move and the passes that stood there
 abbrev pub IsPosition : Stood → Frame → State → Type 0
 IsPosition p f s = (p.frame ≡ f) × (s.present ≡ p.state.present) × (s.to_move ≡ p.state.to_move) × (s.passes ≡ p.state.passes)
+
+-- the history of the state has the board: it is the frame's, with a colouring that has been
+abbrev pub HasBoard : Frame → State → Position → Type 0
+HasBoard f s b = (b.size ≡ f.size) × HasBeen (history s) b.points
 
 -- why a turn is refused: the first cause that holds
 abbrev pub IsRefusal : Frame → State → Turn → Why → Type 0

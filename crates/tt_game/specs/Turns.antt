@@ -1,12 +1,12 @@
 -- The legal turns of a state as a list, and what each of them leads to.
-use Rattle.std.specs.Prelude.{◌≡◌, ℕ, ◌-◌, ◌<◌, List, [], ◌∷◌, ◌++◌, length, map, Bool, true, false, slice_index_or}
+use Rattle.std.specs.Prelude.{◌≡◌, ℕ, ◌-◌, ◌<◌, List, [], ◌∷◌, ◌++◌, length, map, Option, Bool, true, false, slice_index_or}
 use Rattle.std.specs.List.{filter, range_with_len}
 use Rattle.tt_sgf.specs.declared.size.Size.{Size}
 use Rattle.tt_sgf.specs.Sizes.{point_count}
 use Rattle.tt_game.specs.declared.frame.Frame.{Frame}
 use Rattle.tt_game.specs.declared.turns.Turn.{Turn}
 use Rattle.tt_game.specs.declared.turns.Turn.TheVariants.{Play, Pass}
-use Rattle.tt_game.specs.declared.turns.Successor.{Successor}
+use Rattle.tt_game.specs.declared.frame.Side.{Side}
 use Rattle.tt_game.specs.Game.{State, winner_of, after, IsLegal}
 use Rattle.tt_board.specs.Decided.{decided, decided_is, decided_not}
 use Rattle.tt_game.specs.Legality.{legal}
@@ -54,6 +54,11 @@ unfoldable pub legal_turns : Frame → State → List Turn
 legal_turns f s = filter (is_legal f s) (all_turns f)
 
 -- a turn, and who has won after it
+pub record Successor : Type 0 where
+  pub turn : Turn
+  pub winner : Option Side
+
+-- those of a state's turn
 abbrev pub successor : Frame → State → Turn → Successor
 successor f s t = record { turn = t; winner = winner_of f (after f s t) }
 

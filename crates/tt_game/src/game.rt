@@ -137,23 +137,7 @@ impl Game {
         if !self.filter.has(hash) {
             return false;
         }
-        self.history.has_been(next)
-    }
-
-    /// The board after a move, where its point is empty.
-    fn after(&self, p: Point) -> Result<Board, Occupied>
-        requires { p < point_count self.now.size }
-        ensures { MatchResult result
-            (λ b. (entry_at self.now.present p ≡ None) × (b ≡ record { size = self.now.size; points = made_by self.now p }))
-            (λ _. entry_at self.now.present p ≢ None) }
-    {
-        if !self.counted {
-            return self.present().play(self.to_move, p);
-        }
-        if self.present().at(p).is_some() {
-            return Err(Occupied);
-        }
-        Ok(self.board.after(self.to_move, p))
+        self.history.has_been(0, next)
     }
 
     /// The board that a move makes, or why the move is refused.
@@ -163,7 +147,7 @@ impl Game {
             (λ b. (move_refusal self.now p ≡ None) × (b ≡ record { size = self.now.size; points = made_by self.now p }))
             (λ why. move_refusal self.now p ≡ Some why) }
     {
-        let next = match self.after(p) {
+        let next = match self.present().play(self.to_move, p) {
             Err(Occupied) => return Err(Why::Occupied),
             Ok(next) => next,
         };
@@ -261,17 +245,6 @@ impl Game {
         Ok(())
     }
 
-    /// The present board with its chains counted.
-    fn counted_board(&self) -> CountedBoard
-        ensures { result ≡ record { size = self.now.size; points = self.now.present } }
-    {
-        if self.counted {
-            self.board.copy()
-        } else {
-            CountedBoard::of(self.history.present())
-        }
-    }
-
     /// The game as a problem: the history and the side to move stay.
     pub(crate) fn pose(
         self,
@@ -294,7 +267,8 @@ impl Game {
             targets,
             defender,
         };
-        let board = self.counted_board();
+        let mut board = self.board;
+        count(&mut board, self.counted, self.history.present());
         Line::begin(frame, self.history.without_passes(), to_move, board)
     }
 }

@@ -166,16 +166,8 @@ impl History {
         stood(&self.boards()[from..], colour, p)
     }
 
-    /// Whether a board of this size has a colouring of the history.
-    pub(crate) fn has_been(&self, next: &Board) -> bool
-        requires { next.now.size ≡ self.now.size }
-        ensures { IsTrue result ↔ HasBeen (so_far self.now) next.now.points }
-    {
-        repeats(self.boards(), next)
-    }
-
     /// Whether a board of this size has the colouring of some board behind the first `from`.
-    pub(crate) fn has_been_since(&self, from: usize, next: &Board) -> bool
+    pub(crate) fn has_been(&self, from: usize, next: &Board) -> bool
         requires size { next.now.size ≡ self.now.size }
         requires within { from ≤ length (so_far self.now) }
         ensures { IsTrue result ↔ HasBeen (drop from (so_far self.now)) next.now.points }

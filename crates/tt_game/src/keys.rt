@@ -108,15 +108,6 @@ impl Line {
 }
 
 impl Key {
-    /// A number that other keys mostly haven't, for tables. As the hash it is of the position alone: who finds a key by it compares
-    /// the keys.
-    pub fn hash_code(&self) -> u32
-        ensures { result ≡ hash_of_key self.now }
-    {
-        let both = mix(mix(0, &self.black), &self.white);
-        hash_with(both, turn_word(self.to_move, self.passes))
-    }
-
     /// Whether both keys are one.
     pub fn same(&self, other: &Key) -> bool
         ensures { IsTrue result ↔ (self.now ≡ other.now) }

@@ -25,7 +25,6 @@ pub use history::snapshot::Snapshot;
 pub use keys::Key;
 pub use line::Line;
 pub use plays::LegalPlays;
-pub use plays::move_generator::MoveGenerator;
 pub use problems::problem;
 pub use records::{Record, play_record};
-pub use turns::{MOST_LEGAL, Successor, Turn, Turns};
+pub use turns::{MOST_LEGAL, Turn, Turns};

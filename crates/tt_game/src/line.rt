@@ -16,7 +16,7 @@ use crate::history::snapshot::Snapshot;
 use crate::turns::Turn;
 use std::marker::Model;
 use std::sync::Arc;
-use tt_board::{Board, Colour, CountedBoard, PlayKind};
+use tt_board::{Board, Colour, CountedBoard};
 use tt_sgf::{Bits, NoMemory, Point};
 
 /// How a push is undone.
@@ -67,13 +67,13 @@ impl Model for Line {
 impl Line {
     ghost use Rattle.std.specs.Prelude.{Some, None, Err, Ok, [], MatchResult, EachIndex};
     ghost use Rattle.tt_game.specs.Game.{history, winner_of, colour_of, made, IsLegal, IsBarred, after};
-    ghost use Rattle.tt_board.specs.PlayKind.{IsKind};
     ghost use Rattle.tt_board.specs.Reach.{entry_at};
     ghost use Rattle.std.specs.Prelude.{OnOk, OnErr, IfErr, IfOk};
-    ghost use Rattle.tt_game.specs.Line.{HasTargets, IsRefusal, IsRefused, IsPushed};
+    ghost use Rattle.tt_game.specs.Line.{HasTargets, HasBoard, IsRefusal, IsRefused, IsPushed};
+    ghost use Rattle.tt_game.specs.inside.Roots.{BoardsBegin};
     ghost use Rattle.tt_game.specs.inside.Undoing.{IsMoved, state_at, board_on};
     ghost use Rattle.tt_game.specs.Turns.{OnBoard};
-    ghost use Rattle.tt_game.specs.MoveGenerators.{HaveStood, IsKindAt};
+    ghost use Rattle.tt_game.specs.MoveGenerators.{HaveStood};
     ghost use Rattle.tt_game.specs.declared.turns.Turn.{Turn};
 
     /// The line that begins with this history, whose present board is given with its chains counted, with nothing to undo.
@@ -125,6 +125,15 @@ impl Line {
         }
     }
 
+    /// What all lines of its beginning share.
+    #[tactic(auto, using(crate::proofs::RootLemmas::rooted_here))]
+    pub(crate) fn root(&self) -> &Root
+        ensures frame { result.now.frame ≡ self.now.frame }
+        ensures begins { BoardsBegin result.now.begun (history self.now.state) }
+    {
+        &self.root
+    }
+
     /// The present board.
     pub fn present(&self) -> &Board
         ensures size { result.now.size ≡ self.now.frame.size }
@@ -156,16 +165,6 @@ impl Line {
         self.stack.present().after(self.mover(), p)
     }
 
-    /// The board after a play of the side to move on an empty point, of which this is told by the points beside it.
-    pub(crate) fn board_of_kind(&self, p: Point, kind: PlayKind) -> Board
-        requires on_board { p < point_count self.now.frame.size }
-        requires free { entry_at self.now.state.present p ≡ None }
-        requires kind { IsKind kind self.now.frame.size self.now.state.present (colour_of self.now.frame self.now.state.to_move) p }
-        ensures { result ≡ record { size = self.now.frame.size; points = made self.now.frame self.now.state p } }
-    {
-        self.stack.present().after_of_kind(self.mover(), p, kind)
-    }
-
     /// The board after a turn that is known to be legal. Nothing is pushed, and it takes no memory.
     pub fn board_behind(&self, t: Turn) -> Board
         requires { IsLegal self.now.frame self.now.state t }
@@ -189,7 +188,7 @@ impl Line {
     }
 
     /// Whether the region has many points. Nothing goes by it but time.
-    pub fn has_many(&self) -> bool {
+    pub(crate) fn has_many(&self) -> bool {
         self.root.has_many()
     }
 
@@ -201,38 +200,13 @@ impl Line {
         self.root.stones(colour).or(&later)
     }
 
-    /// What is told of a play of the side to move on an empty point, by the points beside it and by the stones that stood there.
-    /// It captures nothing where it takes nothing off and makes a colouring that hasn't been, and is a suicide of one stone where its colouring is the present one.
-    pub(crate) fn play_kind(&self, p: Point) -> PlayKind
-        requires on_board { p < point_count self.now.frame.size }
-        requires free { entry_at self.now.state.present p ≡ None }
-        ensures { IsKindAt result self.now.frame self.now.state p }
-    {
-        let colour = self.mover();
-        match self.stack.present().play_kind(colour, p) {
-            PlayKind::SingleStoneSuicide => PlayKind::SingleStoneSuicide,
-            PlayKind::NeedsBoard => PlayKind::NeedsBoard,
-            PlayKind::NoCapture => {
-                if self.has_stood(colour, p) {
-                    PlayKind::NeedsBoard
-                } else {
-                    PlayKind::NoCapture
-                }
-            }
-        }
-    }
-
     /// Whether a play of the side to move on an empty point makes a colouring that has been.
     fn repeats(&self, p: Point) -> bool
         requires on_board { p < point_count self.now.frame.size }
         requires free { entry_at self.now.state.present p ≡ None }
         ensures { IsTrue result ↔ HasBeen (history self.now.state) (made self.now.frame self.now.state p) }
     {
-        match self.play_kind(p) {
-            PlayKind::NoCapture => false,
-            PlayKind::SingleStoneSuicide => true,
-            PlayKind::NeedsBoard => self.has_been(p, &self.board_after(p)),
-        }
+        self.has_been(p, &self.board_after(p))
     }
 
     /// Whether a board of the line's size, which a play of the side to move on `p` may have made, has a colouring that has been. Where
@@ -256,17 +230,19 @@ impl Line {
         ensures { IsTrue result ↔ HasBeen (history self.now.state) next.now.points }
     {
         if self.root.unlike(next) {
-            return self.history.has_been_since(self.root.count(), next);
+            return self.history.has_been(self.root.count(), next);
         }
-        self.history.has_been(next)
+        self.history.has_been(0, next)
     }
 
-    /// What the words of the present board make.
-    #[inline(never)]
-    fn present_sum(&self) -> u64
-        ensures { result ≡ mix_board self.now.frame.size self.now.state.present }
+    /// Whether the line's history has the board. It takes no memory.
+    pub fn has_board(&self, board: &Board) -> bool
+        ensures { IsTrue result ↔ HasBoard self.now.frame self.now.state board.now }
     {
-        mix_board(self.present())
+        if board.size() != self.frame.size {
+            return false;
+        }
+        self.is_among(board)
     }
 
     /// What the words of the present board make, where hashes were noted of the boards of the beginning.
@@ -276,7 +252,7 @@ impl Line {
         if !self.root.has_hashes() {
             return None;
         }
-        Some(self.present_sum())
+        Some(mix_board(self.present()))
     }
 
     /// Whether a stone more, of `colour` on the empty point `p`, makes a colouring that is told from all so far: from those of the

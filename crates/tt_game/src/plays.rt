@@ -62,7 +62,6 @@ impl Line {
 
 impl<'a> LegalPlays<'a> {
     /// The next legal play, and who has won after it; none where only the pass is left. Each empty point is looked at once, and no other.
-    #[inline(always)]
     pub fn next(&mut self) -> Option<(Point, Option<Side>)>
         ensures same { (self.new.frame ≡ self.old.frame) × (self.new.state ≡ self.old.state) }
         ensures inside { self.new.from ≤ point_count self.old.frame.size }
@@ -72,11 +71,13 @@ impl<'a> LegalPlays<'a> {
             × (x.1 ≡ winner_of self.old.frame (after self.old.frame self.old.state (Turn.Play x.0)))
             × (successors_from self.old.frame self.old.state self.old.from ≡ successor self.old.frame self.old.state (Turn.Play x.0) ∷ successors_from self.old.frame self.old.state (x.0 + 1))) }
     {
-        let found = self.line.next_play(&self.moves, self.from);
-        if let Some((p, _)) = &found {
+        while let Some(p) = self.line.next_point(&self.moves, self.from) {
             self.from = p.number() + 1;
+            if let Some(winner) = self.line.winner_by_play(&self.moves, p) {
+                return Some((p, winner));
+            }
         }
-        found
+        None
     }
 
     /// Goes back to the first of them.
@@ -90,7 +91,8 @@ impl<'a> LegalPlays<'a> {
     pub fn winner_by_pass(&self) -> Option<Side>
         ensures { result ≡ winner_of self.now.frame (after self.now.frame self.now.state Turn.Pass) }
     {
-        self.line.winner_by_pass()
+        let line = self.line;
+        line.frame().winner_on(line.present(), line.passes() + 1)
     }
 
     /// Whether the region has many points. Nothing goes by it but time.

@@ -18,7 +18,7 @@ use Rattle.tt_proof.proofs.TextLemmas.{tails, same_tree, not_deep}
 
 module _ (size : Size) (some : 1 ≤ size.columns) where
   -- a text that begins with the words of a side tells the side and what follows
-  side_apart : (a b : Side) (r q : List ℕ) → side_text a ++ r ≡ side_text b ++ q → (a ≡ b) × (r ≡ q)
+  pub side_apart : (a b : Side) (r q : List ℕ) → side_text a ++ r ≡ side_text b ++ q → (a ≡ b) × (r ≡ q)
   side_apart a b r q e =
       let both = words_apart a b (space ∷ r) (space ∷ q) (sym (append_assoc (side_word a) (space ∷ []) r) ∙ e ∙ append_assoc (side_word b) (space ∷ []) q) in
       (both.0, tails both.1)

@@ -3,12 +3,13 @@ use Rattle.std.proofs.Common.{◌≡◌, ◌∙◌, ◌↔◌, inl, inr, List, [
 use Rattle.std.proofs.lemmas.List.Elements.{All-head, All-tail}
 use Rattle.tt_board.specs.Position.{Position, Colouring, colourings}
 use Rattle.tt_game.specs.Game.{State, history}
-use Rattle.tt_game.specs.Line.{IsPosition}
+use Rattle.tt_game.specs.Line.{IsPosition, HasBoard}
 use Rattle.tt_game.specs.laws.Members.{IsIn, in_of_contains, contains_of_in}
 use Rattle.tt_game.specs.declared.frame.Frame.{Frame}
 use Rattle.tt_proof.specs.declared.footprints.Footprint.{Footprint}
 use Rattle.tt_proof.specs.Strategy.{Strategy}
-use Rattle.tt_proof.specs.Proven.{Proven, IsWon, StandsAt, FitsAt}
+use Rattle.tt_proof.specs.Proven.{Proven, IsWon, StandsAt}
+use Rattle.tt_proof.specs.Footprints.{FitsAt}
 use Rattle.tt_proof.specs.KeptFootprints.{IsFootprint, AreSized, frame_board}
 use Rattle.tt_proof.proofs.FootprintLemmas.{board_is}
 use Rattle.tt_proof.proofs.FitsLemmas.{fitting_wins}
@@ -24,7 +25,7 @@ board_there p f s b is h =
     board_is b f.size s.present (ap (λ (w : Position). w.size) is ∙ ap (λ (g : Frame). g.size) h.0) (ap (λ (w : Position). w.points) is ∙ ap (λ (z : State). z.present) h.1)
 
 -- the colourings of boards of one size are those of the boards that show them
-colouring_in : (bs : List Position) (b : Position) → IsIn bs b → IsIn (colourings bs) b.points
+pub colouring_in : (bs : List Position) (b : Position) → IsIn bs b → IsIn (colourings bs) b.points
 colouring_in [] b m = absurd m
 colouring_in (x ∷ bs) b (inl e) = inl (ap (λ (w : Position). w.points) e)
 colouring_in (x ∷ bs) b (inr m) = inr (colouring_in bs b m)
@@ -45,7 +46,7 @@ module _ (p : Proven) (f : Frame) (s : State) (x : Footprint) (bs : List Positio
 
   -- a proof fits where the position is its own, and the lists stand right to the history's boards
   pub fits_yes : IsPosition (record { frame = p.frame; state = p.state }) f s → ((b : Position) → Contains x.needs b → Contains bs b) →
-      ((b : Position) → Contains x.avoids b → Contains bs b → ⊥) → FitsAt p f s
+      ((b : Position) → Contains x.avoids b → HasBoard f s b → ⊥) → FitsAt p f s
   fits_yes at n a = (
     at.0,
     record {
@@ -53,7 +54,7 @@ module _ (p : Proven) (f : Frame) (s : State) (x : Footprint) (bs : List Positio
       to_move = at.2;
       passes = at.3;
       needs = λ c h. (shown c).0 (n (frame_board f c) (subst (λ g. Contains x.needs (frame_board g c)) at.0 ((foot.needed c).1 h)));
-      avoids = λ c h m. a (frame_board f c) (subst (λ g. Contains x.avoids (frame_board g c)) at.0 ((foot.avoided c).1 h)) ((shown c).1 m);
+      avoids = λ c h m. a (frame_board f c) (subst (λ g. Contains x.avoids (frame_board g c)) at.0 ((foot.avoided c).1 h)) (refl, m);
     },
   )
 
@@ -69,10 +70,8 @@ module _ (p : Proven) (f : Frame) (s : State) (x : Footprint) (bs : List Positio
       subst (λ w. Contains bs w) (sym (here b h (foot.needs_sized b m)))
       ((shown b.points).1 (h.1.needs b.points ((foot.needed b.points).0 (held x.needs b foot.needs_sized m))))
 
-  pub fits_avoids : FitsAt p f s → (b : Position) → Contains x.avoids b → Contains bs b → ⊥
-  fits_avoids h b m k =
-      h.1.avoids b.points ((foot.avoided b.points).0 (held x.avoids b foot.avoids_sized m))
-      ((shown b.points).0 (subst (λ w. Contains bs w) (here b h (foot.avoids_sized b m)) k))
+  pub fits_avoids : FitsAt p f s → (b : Position) → Contains x.avoids b → HasBoard f s b → ⊥
+  fits_avoids h b m k = h.1.avoids b.points ((foot.avoided b.points).0 (held x.avoids b foot.avoids_sized m)) k.1
 
 -- a proof wins where it fits
 pub won_where_fits : (p : Proven) (f : Frame) (s : State) → IsWon p.side p.frame p.state p.tree → FitsAt p f s → IsWon p.side f s p.tree

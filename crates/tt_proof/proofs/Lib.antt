@@ -15,6 +15,10 @@ pub mod ReadLemmas
 pub mod ProvenLemmas
 pub mod MeasureLemmas
 pub mod StrategyLemmas
+pub mod OutlineLemmas
+pub mod OutlineReadLemmas
+pub mod OutlineReplayLemmas
+pub mod OutlineLawLemmas
 pub mod CertificateLemmas
 pub mod WinsLemmas
 pub mod Sent

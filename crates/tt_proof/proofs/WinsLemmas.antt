@@ -17,7 +17,7 @@ module _ (side : Side) (f : Frame) (s : State) where
   win_behind (entry t' u es) t l w (inr h) = inr (win_behind es t l w.1 h)
 
   -- a turn of which some entry wins has an entry
-  has_behind : (es : Entries) (t : Turn) → WinsBehind side f es t s → HasEntry es t
+  pub has_behind : (es : Entries) (t : Turn) → WinsBehind side f es t s → HasEntry es t
   has_behind none t h = h
   has_behind (entry t' u es) t (inl h) = inl h.0
   has_behind (entry t' u es) t (inr h) = inr (has_behind es t h)

@@ -11,6 +11,7 @@ use Rattle.tt_game.specs.declared.frame.Frame.{Frame}
 use Rattle.tt_game.specs.declared.turns.Turn.{Turn}
 use Rattle.tt_game.specs.declared.turns.Turn.TheVariants.{Play, Pass}
 use Rattle.tt_proof.specs.Strategy.{Strategy, Entries, done, pick, reply, none, entry}
+use Rattle.tt_proof.specs.Proven.{Proven}
 
 -- the path from a state on, after one more turn: a play appends the colouring that it makes, a pass nothing
 abbrev pub longer : Frame → State → Turn → List Colouring → List Colouring
@@ -76,3 +77,7 @@ pub record Fits (f : Frame) (u : Strategy) (s s' : State) : Type 0 where
   pub passes : s'.passes ≡ s.passes
   pub needs : (c : Colouring) → IsNeeded f (history s) u [] s c → Contains (history s') c
   pub avoids : (c : Colouring) → IsAvoided f u s c → Contains (history s') c → ⊥
+
+-- the proof may be moved to this state of this frame
+abbrev pub FitsAt : Proven → Frame → State → Type 0
+FitsAt p f s = (p.frame ≡ f) × Fits p.frame p.tree p.state s

@@ -10,6 +10,8 @@ pub mod Proven
 pub mod Rejections
 pub mod CertificateText
 pub mod CertificateFaults
+pub mod Outlines
+pub mod OutlineLaws
 -- What crates above cite: laws of the definitions, with their proofs. Nobody has to believe these.
 pub mod laws
 -- What private contracts and proofs cite. Nobody has to believe these.

@@ -7,7 +7,6 @@ use Rattle.tt_game.specs.declared.frame.Frame.{Frame}
 use Rattle.tt_proof.specs.declared.tree.TheConstants.{MOST_DEPTH}
 use Rattle.tt_proof.specs.Strategy.{Strategy, done, pick, reply, depth, IsInOrder}
 use Rattle.tt_proof.specs.Wins.{Wins}
-use Rattle.tt_proof.specs.Footprints.{Fits}
 
 -- a problem, a state of it, and a strategy for a side
 pub record Proven : Type 0 where
@@ -25,10 +24,6 @@ pub record IsWon (side : Side) (f : Frame) (s : State) (u : Strategy) : Type 0 w
 -- the proof has this frame, history, side to move and pass count
 abbrev pub StandsAt : Proven → Frame → State → Type 0
 StandsAt p f s = (p.frame ≡ f) × (p.state ≡ s)
-
--- the proof may be moved to this state of this frame
-abbrev pub FitsAt : Proven → Frame → State → Type 0
-FitsAt p f s = (p.frame ≡ f) × Fits p.frame p.tree p.state s
 
 -- the proof is the side's, stands after the turn, and has room for one more turn
 pub record IsChild (f : Frame) (s : State) (side : Side) (t : Turn) (p : Proven) : Type 0 where

@@ -88,18 +88,6 @@ impl Bound {
         }
         self.white.has(board, Colour::White)
     }
-
-    /// Whether none of the boards lies within.
-    pub fn has_none(&self, boards: &[Board]) -> bool
-        ensures { IsTrue result ↔ All (λ b. IsWithin (Some self.now) b → ⊥) boards.now }
-    {
-        for board in boards {
-            if self.has(board) {
-                return false;
-            }
-        }
-        true
-    }
 }
 
 /// A bound of the boards of both; none where there are no boards.
@@ -116,12 +104,12 @@ pub fn wider(one: &Option<Bound>, other: &Option<Bound>) -> Option<Bound>
     Some(a.both(b))
 }
 
-/// Whether none of the boards lies within the bound, where there is one.
-pub fn none_within(bound: &Option<Bound>, boards: &[Board]) -> bool
-    ensures { IsTrue result ↔ All (λ b. IsWithin bound.now b → ⊥) boards.now }
+/// Whether the board lies within the bound, where there is one.
+pub fn is_within(bound: &Option<Bound>, board: &Board) -> bool
+    ensures { IsTrue result ↔ IsWithin bound.now board.now }
 {
     match bound {
-        Some(bound) => bound.has_none(boards),
-        None => true,
+        Some(bound) => bound.has(board),
+        None => false,
     }
 }

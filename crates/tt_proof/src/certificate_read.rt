@@ -68,7 +68,7 @@ fn read_point(first: u8, second: u8, size: Size) -> Option<Point>
 }
 
 /// The turn at the front of the bytes, its number, and what follows.
-fn read_turn(bytes: &[u8], size: Size) -> Option<(Turn, u16, &[u8])>
+pub(crate) fn read_turn(bytes: &[u8], size: Size) -> Option<(Turn, u16, &[u8])>
     ensures { MatchOption result
         ((t : Turn) (y : List ℕ) → IsOnBoard size t → bytes.now ≡ turn_text size t ++ y → ⊥)
         (λ r. IsOnBoard size r.0 × (r.1 ≡ number_on size r.0) × (r.1 ≤ MOST_POINTS) × (bytes.now ≡ turn_text size r.0 ++ r.2.now)) }
@@ -85,7 +85,7 @@ fn read_turn(bytes: &[u8], size: Size) -> Option<(Turn, u16, &[u8])>
 }
 
 /// What follows the end of a reply, where that is at the front of the bytes.
-fn after_end(bytes: &[u8]) -> Option<&[u8]>
+pub(crate) fn after_end(bytes: &[u8]) -> Option<&[u8]>
     ensures { MatchOption result ((y : List ℕ) → bytes.now ≡ semicolon ∷ y → ⊥) (λ r. bytes.now ≡ semicolon ∷ r.now) }
 {
     match bytes.split_first() {
@@ -200,7 +200,7 @@ fn read_entries(
 }
 
 /// What follows the side's word, where that is at the front of the bytes.
-fn after_side(bytes: &[u8], s: Side) -> Option<&[u8]>
+pub(crate) fn after_side(bytes: &[u8], s: Side) -> Option<&[u8]>
     ensures { MatchOption result ((y : List ℕ) → bytes.now ≡ side_text s ++ y → ⊥) (λ r. bytes.now ≡ side_text s ++ r.now) }
 {
     let blank = bytes.strip_prefix(s.word())?;

@@ -130,7 +130,7 @@ impl Footprint {
 }
 
 /// Of what the child of a turn needs, which led to the board, only that stays which it needs in its parent's history too.
-fn take_made(needs: &mut SharedBoards, turn: &Turn, board: &Board)
+pub(crate) fn take_made(needs: &mut SharedBoards, turn: &Turn, board: &Board)
     ensures { (b : Position) → Contains needs.new b ↔ IsPassedUp turn.now board.now needs.old b }
 {
     match turn {
@@ -140,7 +140,7 @@ fn take_made(needs: &mut SharedBoards, turn: &Turn, board: &Board)
 }
 
 /// Adds the board that a play made; a pass made none.
-fn put_played(
+pub(crate) fn put_played(
     alloc: Global,
     avoids: &mut SharedBoards,
     turn: &Turn,

@@ -1,5 +1,6 @@
 //! Laws of trees and of certificates, over the definitions alone.
 
+ghost use Rattle.tt_proof.specs.OutlineLaws.{OneSharedCertificate, CertificatesAreShared};
 ghost use Rattle.tt_proof.specs.StrategyLaws.{WinningForces, FittingWins, FootprintsCarried, ChildNeeds, OneReading, OneCertificate, TreesAreStrategies};
 
 /// A winning tree of depth n makes its side force a win within n turns.
@@ -39,4 +40,14 @@ pub fn one_certificate()
 /// its list.
 pub fn strategies()
     ensures { TreesAreStrategies }
+{}
+
+/// Bytes are the certificate with shared parts of one side and one outline at the most, and so of one tree.
+pub fn one_shared_certificate()
+    ensures { OneSharedCertificate }
+{}
+
+/// A certificate is one with shared parts, of the same tree.
+pub fn certificates_are_shared()
+    ensures { CertificatesAreShared }
 {}

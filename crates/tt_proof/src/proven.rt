@@ -1,7 +1,7 @@
 //! Proofs: trees that win.
 
-ghost use Rattle.std.specs.Prelude.{◌≡◌, ◌≢◌, ◌↔◌, ◌≤◌, ◌+◌, ◌-◌, ◌^◌, min, IfOk, IfErr, IfSome, IsTrue, true, None, Some, Ok};
-ghost use Rattle.tt_game.specs.Game.{winner_of, opponent, IsLegal, after};
+ghost use Rattle.std.specs.Prelude.{◌≡◌, ◌≢◌, ◌↔◌, ◌≤◌, ◌+◌, ◌-◌, ◌^◌, min, All, Contains, IfOk, IfErr, IfSome, IsTrue, true, None, Some, Ok};
+ghost use Rattle.tt_game.specs.Game.{winner_of, opponent, history, IsLegal, after};
 ghost use Rattle.tt_game.specs.Turns.{legal_turns};
 ghost use Rattle.tt_game.specs.Keys.{key_of};
 ghost use Rattle.tt_game.specs.KeyHash.{hash_of_key};
@@ -9,11 +9,13 @@ ghost use Rattle.tt_game.specs.declared.turns.Turn.{Turn};
 ghost use Rattle.tt_proof.specs.declared.tree.TheConstants.{MOST_DEPTH};
 ghost use Rattle.tt_proof.specs.Strategy.{pick, reply, done, depth, strategy_of, IsInOrder, entries_of};
 ghost use Rattle.tt_proof.specs.Nodes.{nodes};
-ghost use Rattle.tt_proof.specs.Proven.{IsWon, StandsAt, FitsAt, IsChild, AreChildren, turns_of, trees_of, first_of};
+ghost use Rattle.tt_proof.specs.Bounds.{IsWithin};
+ghost use Rattle.tt_proof.specs.Proven.{IsWon, StandsAt, IsChild, AreChildren, turns_of, trees_of, first_of};
+ghost use Rattle.tt_proof.specs.Footprints.{FitsAt};
 ghost use Rattle.tt_proof.specs.KeptFootprints.{IsFootprint};
 ghost use Rattle.tt_proof.specs.Rejections.{IsRejected};
 
-use crate::bounds::none_within;
+use crate::bounds::{Bound, is_within};
 use crate::footprints::{Footprint, footprint_of};
 use crate::plan::{Plan, Replies};
 use crate::replays::replay;
@@ -178,11 +180,10 @@ impl Proof {
         if !self.snapshot.is_position_of(line) {
             return false;
         }
-        let history = line.history();
-        if !self.footprint.needs.all_in(history) {
+        if !self.footprint.needs.all_in(line.history()) {
             return false;
         }
-        self.footprint.avoids.none_in(history)
+        self.footprint.avoids.none_in(line)
     }
 
     /// Whether the tree wins at the line, too: it does where it fits, and otherwise a replay decides. The line has a board of the
@@ -201,7 +202,8 @@ impl Proof {
 
     /// The proof's own footprint where that is the tree's at the line, too, as is seen without a walk through the tree: where the
     /// line is where the proof stands; and where the tree fits, and each board of the line's history but the last, behind those
-    /// with which the proof's begins too, lies outside the bound of all boards that turns of the other side make.
+    /// with which the proof's begins too, was made where the proof stood, too, or lies outside the bound of all boards that turns of
+    /// the other side make.
     pub fn footprint_here(&self, line: &Line) -> Option<&Footprint>
         ensures wins { IfSome result (λ _. IsWon self.now.side line.now.frame line.now.state self.now.tree) }
         ensures exact { IfSome result (λ x. IsFootprint line.now.frame line.now.state self.now.tree x.now) }
@@ -213,7 +215,7 @@ impl Proof {
         }
         let behind = &line.history()[self.snapshot.begun_with(line)..];
         let earlier = &behind[..behind.len().saturating_sub(1)];
-        if self.fits(line) && none_within(&own.met, earlier) {
+        if self.fits(line) && are_known(&own.met, &self.snapshot, earlier) {
             return Some(own);
         }
         None
@@ -350,6 +352,28 @@ impl Proof {
             footprint,
         })
     }
+}
+
+/// Whether the board lies outside the bound, or was made where the snapshot is.
+fn is_known(bound: &Option<Bound>, snapshot: &Snapshot, board: &Board) -> bool
+    ensures { IsTrue result → IsWithin bound.now board.now → Contains (history snapshot.now.state) board.now.points }
+{
+    if is_within(bound, board) {
+        return snapshot.has_made(board);
+    }
+    true
+}
+
+/// Whether each of the boards lies outside the bound, or was made where the snapshot is.
+fn are_known(bound: &Option<Bound>, snapshot: &Snapshot, boards: &[Board]) -> bool
+    ensures { IsTrue result → All (λ b. IsWithin bound.now b → Contains (history snapshot.now.state) b.points) boards.now }
+{
+    for board in boards {
+        if !is_known(bound, snapshot, board) {
+            return false;
+        }
+    }
+    true
 }
 
 /// Where the line stands, and the footprint of the tree there. The line stands as before.

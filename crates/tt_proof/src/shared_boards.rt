@@ -1,9 +1,10 @@
 //! Lists of boards that share them: a board is made once, and each list holds a handle of it. The lists are kept in the order of the
-//! boards' hashes, so that two are joined by one walk over both. No contract speaks of the order: a list that is out of order is
-//! joined rightly too, and may only hold a board twice.
+//! boards' hashes, so that two are joined by one walk over both. Boards with one hash stand in any order. No contract speaks of the
+//! order: a list that is out of order is joined rightly too, and may only hold a board twice.
 
 ghost use Rattle.std.specs.Prelude.{◌≡◌, ◌≢◌, ◌↔◌, ◌⊎◌, ◌<◌, ◌≤◌, ◌++◌, ◌∷◌, ℕ, [], length, get_or, Contains, IfOk, OnOk, IsTrue, MatchOption};
 ghost use Rattle.tt_board.specs.Position.{Position};
+ghost use Rattle.tt_game.specs.Line.{HasBoard};
 ghost use Rattle.tt_game.specs.Mixing.{board_hash};
 ghost use Rattle.tt_proof.specs.inside.Collecting.{IsOneLess};
 
@@ -12,7 +13,7 @@ use std::marker::Model;
 use std::mem;
 use std::sync::Arc;
 use tt_board::Board;
-use tt_game::board_hash;
+use tt_game::{Line, board_hash};
 use tt_sgf::NoMemory;
 
 /// A board that is held by a handle, and its hash. Contracts see the board.
@@ -97,12 +98,12 @@ impl Model for SharedBoards {
     ghost view = { λ b. b.boards.items };
 }
 
-/// Whether the board is one of them.
+/// Whether the board is one of them. The last one is looked at first: most of what is repeated stood not long ago.
 fn is_among(board: &Board, boards: &[Board]) -> bool
     ensures { IsTrue result ↔ Contains boards.now board.now }
 {
-    for other in boards {
-        if other.same(board) {
+    for k in 0..boards.len() {
+        if boards[boards.len() - 1 - k].same(board) {
             return true;
         }
     }
@@ -199,15 +200,29 @@ impl SharedBoards {
         Ok(())
     }
 
-    /// Whether the last board is this one.
+    /// Whether the board stands at this place.
+    fn has_at(&self, k: usize, board: &SharedBoard) -> bool
+        ensures { IsTrue result → Contains self.now board.now }
+    {
+        match self.boards.get(k) {
+            Some(held) => held.same(board),
+            None => false,
+        }
+    }
+
+    /// Whether the board is one of the last ones, of those that have its hash.
     fn ends_with(&self, board: &SharedBoard) -> bool
         ensures { IsTrue result → Contains self.now board.now }
     {
-        let len = self.boards.len();
-        if len == 0 {
-            return false;
+        for k in (0..self.boards.len()).rev() {
+            if self.boards[k].hash != board.hash {
+                return false;
+            }
+            if self.has_at(k, board) {
+                return true;
+            }
         }
-        self.boards[len - 1].same(board)
+        false
     }
 
     /// Adds a board behind all others.
@@ -219,7 +234,7 @@ impl SharedBoards {
         Ok(())
     }
 
-    /// Adds a board behind all others, where the last one isn't it.
+    /// Adds a board behind all others, where it isn't one of the last ones, of those that have its hash.
     fn put(&mut self, board: SharedBoard) -> Result<(), NoMemory>
         ensures { OnOk result ((b : Position) → Contains self.new b ↔ (Contains self.old b ⊎ (b ≡ board))) }
     {
@@ -309,14 +324,19 @@ impl SharedBoards {
         low
     }
 
-    /// Whether the board stands at this place.
-    fn has_at(&self, k: usize, board: &SharedBoard) -> bool
+    /// Whether the board is one of those from this place on, of the first ones that have its hash.
+    fn has_from(&self, from: usize, board: &SharedBoard) -> bool
         ensures { IsTrue result → Contains self.now board.now }
     {
-        match self.boards.get(k) {
-            Some(held) => held.same(board),
-            None => false,
+        for k in from..self.boards.len() {
+            if self.boards[k].hash != board.hash {
+                return false;
+            }
+            if self.has_at(k, board) {
+                return true;
+            }
         }
+        false
     }
 
     /// Adds a board at a place.
@@ -335,7 +355,7 @@ impl SharedBoards {
     {
         let made = SharedBoard::of(alloc, board)?;
         let k = self.place_for(made.hash);
-        if self.has_at(k, &made) {
+        if self.has_from(k, &made) {
             return Ok(());
         }
         self.put_at(k, made)
@@ -364,12 +384,12 @@ impl SharedBoards {
         true
     }
 
-    /// Whether none is among the boards.
-    pub fn none_in(&self, boards: &[Board]) -> bool
-        ensures { IsTrue result ↔ ((b : Position) → Contains self.now b → Contains boards.now b → ⊥) }
+    /// Whether none is a board of the line's history.
+    pub fn none_in(&self, line: &Line) -> bool
+        ensures { IsTrue result ↔ ((b : Position) → Contains self.now b → HasBoard line.now.frame line.now.state b → ⊥) }
     {
-        for board in boards {
-            if self.has(board) {
+        for held in &self.boards {
+            if line.has_board(held.board()) {
                 return false;
             }
         }

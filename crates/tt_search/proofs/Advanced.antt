@@ -12,7 +12,7 @@ use Rattle.tt_search.specs.inside.Taken.{Taken, IsLeft}
 use Rattle.tt_search.specs.inside.Steady.{IsGrowth, Steady, AreStepsAt}
 use Rattle.tt_search.specs.inside.Searching.{IsSearch}
 use Rattle.tt_search.specs.Searched.{Searched, IsSameProblem, IsStuckFor, StepOf}
-use Rattle.tt_search.specs.Ended.{RanTo}
+use Rattle.tt_search.specs.RunEnds.{RanTo}
 use Rattle.tt_search.specs.inside.Advanced.{IsAdvanced}
 use Rattle.tt_search.specs.declared.limits.Limits.{Limits}
 use Rattle.tt_search.specs.declared.limits.Reason.{Reason}

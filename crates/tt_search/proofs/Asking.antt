@@ -6,7 +6,7 @@ use Rattle.tt_search.specs.PartialTree.{PartialTree}
 use Rattle.tt_search.specs.inside.Walking.{Stand, Stage}
 use Rattle.tt_search.specs.inside.Taken.{Taken, IsLeft}
 use Rattle.tt_search.specs.Searched.{Searched}
-use Rattle.tt_search.specs.Ended.{HasSpent, SpentBy}
+use Rattle.tt_search.specs.RunEnds.{HasSpent, SpentBy}
 use Rattle.tt_search.specs.declared.search.End.TheVariants as end
 use Rattle.tt_search.specs.declared.limits.Reason.{Reason}
 use Rattle.tt_search.specs.declared.limits.Reason.TheVariants.{Budget, Depth, Total, Memory}
@@ -14,23 +14,6 @@ use Rattle.tt_search.specs.declared.limits.Step.{Step}
 use Rattle.tt_search.specs.declared.limits.Step.TheVariants.{Expanded, Closed, Settled, Stuck}
 use Rattle.tt_search.specs.declared.walk.Stop.{Stop}
 use Rattle.tt_search.specs.declared.walk.Stop.TheVariants.{OneStep}
-
--- a step that is stuck for another reason than the total asks for nothing
-pub unasked_stuck : (asked : Asked) (reason : Reason) → Stuck reason ≢ Stuck Total → AskedBy asked (Stuck reason) asked
-unasked_stuck asked Budget h = refl
-unasked_stuck asked Depth h = refl
-unasked_stuck asked Total h = absurd (h refl)
-unasked_stuck asked Memory h = refl
-
--- where a step is taken, what is granted and what is left add up to what they were
-pub spent_by : (old new : Asked) (step : Step) (left after : ℕ) → AskedBy old step new → IsLeft step left after → new.granted + after ≡ old.granted + left
-spent_by old new Expanded left after h l = omega (arith, ap (λ (a : Asked). a.granted) h.1, l)
-spent_by old new Closed left after h l = omega (arith, ap (λ (a : Asked). a.granted) h, l)
-spent_by old new Settled left after h l = omega (arith, ap (λ (a : Asked). a.granted) h, l)
-spent_by old new (Stuck Budget) left after h l = omega (arith, ap (λ (a : Asked). a.granted) h, l)
-spent_by old new (Stuck Depth) left after h l = omega (arith, ap (λ (a : Asked). a.granted) h, l)
-spent_by old new (Stuck Total) left after h l = omega (arith, ap (λ (a : Asked). a.granted) h, l)
-spent_by old new (Stuck Memory) left after h l = omega (arith, ap (λ (a : Asked). a.granted) h, l)
 
 -- an expansion needs some of what is left
 pub room_to_ask : (at : Stand) (old : Stage) (step : Step) (tree : PartialTree) (granted : ℕ) → Taken at old step tree → granted + old.left < 2 ^ 64 → step ≡ Expanded → granted < 2 ^ 64 - 1

@@ -7,7 +7,7 @@ use Rattle.tt_game.specs.declared.turns.Turn.{Turn}
 use Rattle.tt_game.specs.Game.{opponent}
 use Rattle.tt_search.specs.PartialTree.{PartialTree, fresh, won, closed, expanded, Children, no_more, more}
 use Rattle.tt_search.specs.Numbers.{infinite, least, capped_sum, decided_number, number, numbers, IsUndecided}
-use Rattle.tt_search.specs.MostProving.{place, best}
+use Rattle.tt_search.specs.MostProving.{index, best}
 use Rattle.tt_search.specs.inside.Children.{children_of}
 use Rattle.tt_search.proofs.Rows.{least_le, number_le}
 
@@ -56,19 +56,19 @@ mutual
       (dual goal tree) (dual_row goal children)
 
 -- a least number that is not the first one is the least of the others
-place_least : (v x : ℕ) (xs : List ℕ) → v ≡ least (x ∷ xs) → (x == v) ≡ false → v ≡ least xs
-place_least v x xs e h = grind (arith, common_steps)
+index_least : (v x : ℕ) (xs : List ℕ) → v ≡ least (x ∷ xs) → (x == v) ≡ false → v ≡ least xs
+index_least v x xs e h = grind (arith, common_steps)
 
 -- the place of the number is there, and the child there has the number
 abbrev pub IsChildAt : Side → ℕ → List PartialTree → PartialTree → Type 0
-IsChildAt goal v trees d = (place v (numbers goal (children_of trees)) < length trees) × (number goal (get_or trees (place v (numbers goal (children_of trees))) d) ≡ v)
+IsChildAt goal v trees d = (index v (numbers goal (children_of trees)) < length trees) × (number goal (get_or trees (index v (numbers goal (children_of trees))) d) ≡ v)
 
 -- the first child with the least number is the first of all, or else it is found among the others
 child_here : (goal : Side) (v : ℕ) (tree : PartialTree) (trees : List PartialTree) (d : PartialTree) → v ≡ least (numbers goal (children_of (tree ∷ trees)))
     → (v ≡ least (numbers goal (children_of trees)) → IsChildAt goal v trees d) → (b : Bool) → (number goal tree == v) ≡ b → IsChildAt goal v (tree ∷ trees) d
 child_here goal v tree trees d e below true q = rw q (omega arith, grind (arith, common_steps))
 child_here goal v tree trees d e below false q =
-    let k = below (place_least v (number goal tree) (numbers goal (children_of trees)) e q) in
+    let k = below (index_least v (number goal tree) (numbers goal (children_of trees)) e q) in
     rw (q, add-one) (omega (arith, k.0), k.1)
 
 -- where the least number isn't infinite, the child at its place has it

@@ -16,38 +16,38 @@ use Rattle.tt_proof.specs.Proven.{Proven}
 use Rattle.tt_search.specs.Stores.{AnswersFor, IsNewest}
 use Rattle.tt_search.specs.KeyIndex.{index_hash, index_hashes}
 use Rattle.tt_search.specs.declared.store.key_index.TheConstants.{KEY_FILTER_BITS}
-use Rattle.tt_search.specs.inside.Buckets.{last_place, bucket_of_hash, in_bucket, MayHoldHashes, AreBuckets, NoneFrom, NoHashFrom}
+use Rattle.tt_search.specs.inside.Buckets.{last_slot, bucket_of_hash, in_bucket, MayHoldHashes, AreBuckets, NoneFrom, NoHashFrom}
 
--- ---- the last place that passes a test
+-- ---- the last slot that passes a test
 
 low_case : (b : Bool) (n m : ℕ) → m ≤ n → cond b (suc n) m ≤ suc n
 low_case true n m h = omega arith
 low_case false n m h = omega (arith, h)
 
-pub last_low : (t : ℕ → Bool) (n : ℕ) → last_place t n ≤ n
+pub last_low : (t : ℕ → Bool) (n : ℕ) → last_slot t n ≤ n
 last_low t zero = omega arith
-last_low t (suc n) = low_case (t n) n (last_place t n) (last_low t n)
+last_low t (suc n) = low_case (t n) n (last_slot t n) (last_low t n)
 
 passes_case : (b : Bool) (t : ℕ → Bool) (n m i : ℕ) → t n ≡ b → (m ≡ suc i → t i ≡ true) → cond b (suc n) m ≡ suc i → t i ≡ true
 passes_case true t n m i e h is = let same : n ≡ i = omega (arith, is) in subst (λ j. t j ≡ true) same e
 passes_case false t n m i e h is = h is
 
-last_passes : (t : ℕ → Bool) (n i : ℕ) → last_place t n ≡ suc i → t i ≡ true
+last_passes : (t : ℕ → Bool) (n i : ℕ) → last_slot t n ≡ suc i → t i ≡ true
 last_passes t zero i is = absurd (omega (arith, is))
-last_passes t (suc n) i is = passes_case (t n) t n (last_place t n) i refl (last_passes t n i) is
+last_passes t (suc n) i is = passes_case (t n) t n (last_slot t n) i refl (last_passes t n i) is
 
 beyond_case : (b : Bool) (t : ℕ → Bool) (n m i : ℕ) → t n ≡ b → (m ≤ i → i < n → t i ≡ false) → cond b (suc n) m ≤ i → i < suc n → t i ≡ false
 beyond_case true t n m i e h low high = absurd (omega (arith, low, high))
 beyond_case false t n m i e h low high = elim (cases_lt i n) [ inl lt ↦ h low lt | inr ge ↦ (let same : n ≡ i = omega (arith, ge, high) in subst (λ j. t j ≡ false) same e) ]
 
-last_beyond : (t : ℕ → Bool) (n i : ℕ) → last_place t n ≤ i → i < n → t i ≡ false
+last_beyond : (t : ℕ → Bool) (n i : ℕ) → last_slot t n ≤ i → i < n → t i ≡ false
 last_beyond t zero i low high = absurd (omega (arith, high))
-last_beyond t (suc n) i low high = beyond_case (t n) t n (last_place t n) i refl (last_beyond t n i) low high
+last_beyond t (suc n) i low high = beyond_case (t n) t n (last_slot t n) i refl (last_beyond t n i) low high
 
-last_same : (t u : ℕ → Bool) (n : ℕ) → ((i : ℕ) → i < n → t i ≡ u i) → last_place t n ≡ last_place u n
+last_same : (t u : ℕ → Bool) (n : ℕ) → ((i : ℕ) → i < n → t i ≡ u i) → last_slot t n ≡ last_slot u n
 last_same t u zero h = refl
 last_same t u (suc n) h =
-    ap (λ b. cond b (suc n) (last_place t n)) (h n (omega arith)) ∙ ap (λ m. cond (u n) (suc n) m) (last_same t u n (λ i lt. h i (omega (arith, lt))))
+    ap (λ b. cond b (suc n) (last_slot t n)) (h n (omega arith)) ∙ ap (λ m. cond (u n) (suc n) m) (last_same t u n (λ i lt. h i (omega (arith, lt))))
 
 -- ---- one more hash
 
@@ -60,7 +60,7 @@ linked_on heads before hashes m one was = record {
   heads_lead = λ c h. was.heads_lead c h ∙ last_same _ _ (length hashes) (λ i lt. same_bucket hashes m (length heads) c i lt);
   before_leads = λ i h. get_or_append_left before (0 ∷ []) 0 i (omega (arith, one, h)) ∙ was.before_leads i h
       ∙ last_same _ _ i (λ j lt. same_bucket hashes m (length heads) (bucket_of_hash (get_or hashes i 0) (length heads)) j (omega (arith, lt, h)))
-      ∙ ap (λ x. last_place (in_bucket (hashes ++ m ∷ []) (length heads) (bucket_of_hash x (length heads))) i) (sym (get_or_append_left hashes (m ∷ []) 0 i h));
+      ∙ ap (λ x. last_slot (in_bucket (hashes ++ m ∷ []) (length heads) (bucket_of_hash x (length heads))) i) (sym (get_or_append_left hashes (m ∷ []) 0 i h));
 }
 
 pub linked_more : (heads before hashes before' hashes' : List ℕ) (m n : ℕ) → length before ≡ length hashes → before' ≡ before ++ 0 ∷ [] → hashes' ≡ hashes ++ m ∷ [] → n ≡ length hashes
@@ -96,10 +96,10 @@ head_low heads before hashes hash next inside linked is =
     let leads = is ∙ linked.heads_lead (bucket_of_hash hash (length heads)) inside in
     omega (arith, low, leads)
 
-pub before_low : (heads before hashes : List ℕ) (place next : ℕ) → AreBuckets heads before hashes (length hashes) → place < length hashes → next ≡ get_or before place 0 → next ≤ place
-before_low heads before hashes place next linked within is =
-    let low = last_low (in_bucket hashes (length heads) (bucket_of_hash (get_or hashes place 0) (length heads))) place in
-    let leads = is ∙ linked.before_leads place within in
+pub before_low : (heads before hashes : List ℕ) (slot next : ℕ) → AreBuckets heads before hashes (length hashes) → slot < length hashes → next ≡ get_or before slot 0 → next ≤ slot
+before_low heads before hashes slot next linked within is =
+    let low = last_low (in_bucket hashes (length heads) (bucket_of_hash (get_or hashes slot 0) (length heads))) slot in
+    let leads = is ∙ linked.before_leads slot within in
     omega (arith, low, leads)
 
 -- ---- the walk down a bucket to a hash
@@ -107,38 +107,38 @@ before_low heads before hashes place next linked within is =
 in_its_bucket : (hashes : List ℕ) (n hash i : ℕ) → get_or hashes i 0 ≡ hash → in_bucket hashes n (bucket_of_hash hash n) i ≡ true
 in_its_bucket hashes n hash i e = rw e (grind arith)
 
-unmarked : (hashes : List ℕ) (n hash k i : ℕ) → last_place (in_bucket hashes n (bucket_of_hash hash n)) k ≤ i → i < k → get_or hashes i 0 ≢ hash
+unmarked : (hashes : List ℕ) (n hash k i : ℕ) → last_slot (in_bucket hashes n (bucket_of_hash hash n)) k ≤ i → i < k → get_or hashes i 0 ≢ hash
 unmarked hashes n hash k i low high e = false≢true (sym (last_beyond (in_bucket hashes n (bucket_of_hash hash n)) k i low high) ∙ in_its_bucket hashes n hash i e)
 
--- no place past the head of the hash's bucket has the hash
+-- no slot past the head of the hash's bucket has the hash
 pub unmarked_past_head : (heads before hashes : List ℕ) (hash next : ℕ) → bucket_of_hash hash (length heads) < length heads → AreBuckets heads before hashes (length hashes)
     → next ≡ get_or heads (bucket_of_hash hash (length heads)) 0
     → NoHashFrom hashes hash next
 unmarked_past_head heads before hashes hash next inside linked is i low high =
-    let leads : next ≡ last_place (in_bucket hashes (length heads) (bucket_of_hash hash (length heads))) (length hashes) = is ∙ linked.heads_lead (bucket_of_hash hash (length heads)) inside in
+    let leads : next ≡ last_slot (in_bucket hashes (length heads) (bucket_of_hash hash (length heads))) (length hashes) = is ∙ linked.heads_lead (bucket_of_hash hash (length heads)) inside in
     unmarked hashes (length heads) hash (length hashes) i (omega (arith, low, leads)) high
 
--- what holds of a place, past it and wherever another hash stands holds past the place before it in the hash's bucket
-past_next : (Holds : ℕ → Type 0) (heads before hashes : List ℕ) (hash place next : ℕ) → AreBuckets heads before hashes (length hashes) → place < length hashes
-    → bucket_of_hash (get_or hashes place 0) (length heads) ≡ bucket_of_hash hash (length heads) → next ≡ get_or before place 0 → ((i : ℕ) → get_or hashes i 0 ≢ hash → Holds i) → Holds place
-    → ((i : ℕ) → place + 1 ≤ i → Holds i) → (i : ℕ) → next ≤ i → Holds i
-past_next Holds heads before hashes hash place next linked within same is other here later i low =
-    let leads : next ≡ last_place (in_bucket hashes (length heads) (bucket_of_hash hash (length heads))) place =
-    is ∙ linked.before_leads place within ∙ ap (λ c. last_place (in_bucket hashes (length heads) c) place) same in
-    elim (cases_lt i place) [
-      | inl lt ↦ other i (unmarked hashes (length heads) hash place i (omega (arith, low, leads)) lt)
-      | inr ge ↦ (elim (cases_lt place i) [
+-- what holds of a slot, past it and wherever another hash stands holds past the slot before it in the hash's bucket
+past_next : (Holds : ℕ → Type 0) (heads before hashes : List ℕ) (hash slot next : ℕ) → AreBuckets heads before hashes (length hashes) → slot < length hashes
+    → bucket_of_hash (get_or hashes slot 0) (length heads) ≡ bucket_of_hash hash (length heads) → next ≡ get_or before slot 0 → ((i : ℕ) → get_or hashes i 0 ≢ hash → Holds i) → Holds slot
+    → ((i : ℕ) → slot + 1 ≤ i → Holds i) → (i : ℕ) → next ≤ i → Holds i
+past_next Holds heads before hashes hash slot next linked within same is other here later i low =
+    let leads : next ≡ last_slot (in_bucket hashes (length heads) (bucket_of_hash hash (length heads))) slot =
+    is ∙ linked.before_leads slot within ∙ ap (λ c. last_slot (in_bucket hashes (length heads) c) slot) same in
+    elim (cases_lt i slot) [
+      | inl lt ↦ other i (unmarked hashes (length heads) hash slot i (omega (arith, low, leads)) lt)
+      | inr ge ↦ (elim (cases_lt slot i) [
         | inl gt ↦ later i (omega (arith, gt))
-        | inr le ↦ (let e : place ≡ i = omega (arith, ge, le) in subst Holds e here)
+        | inr le ↦ (let e : slot ≡ i = omega (arith, ge, le) in subst Holds e here)
       ])
     ]
 
--- and none past the place before one that has another hash
-pub unmarked_past_next : (heads before hashes : List ℕ) (hash place next : ℕ) → AreBuckets heads before hashes (length hashes) → place < length hashes
-    → bucket_of_hash (get_or hashes place 0) (length heads) ≡ bucket_of_hash hash (length heads)
-    → next ≡ get_or before place 0 → NoHashFrom hashes hash (place + 1) → get_or hashes place 0 ≢ hash → NoHashFrom hashes hash next
-unmarked_past_next heads before hashes hash place next linked within same is later here =
-    past_next (λ i. i < length hashes → get_or hashes i 0 ≢ hash) heads before hashes hash place next linked within same is (λ i other _. other) (λ _. here) later
+-- and none past the slot before one that has another hash
+pub unmarked_past_next : (heads before hashes : List ℕ) (hash slot next : ℕ) → AreBuckets heads before hashes (length hashes) → slot < length hashes
+    → bucket_of_hash (get_or hashes slot 0) (length heads) ≡ bucket_of_hash hash (length heads)
+    → next ≡ get_or before slot 0 → NoHashFrom hashes hash (slot + 1) → get_or hashes slot 0 ≢ hash → NoHashFrom hashes hash next
+unmarked_past_next heads before hashes hash slot next linked within same is later here =
+    past_next (λ i. i < length hashes → get_or hashes i 0 ≢ hash) heads before hashes hash slot next linked within same is (λ i other _. other) (λ _. here) later
 
 -- ---- the newest proof
 
@@ -186,39 +186,39 @@ module _ (line : Standing) (side : Side) where
       → AnswersFor line side p → get_or hashes i 0 ≡ hash
   answers_hash hashes ps i hash p all m is a = hash_at hashes ps i p all is ∙ answer_hash p a ∙ sym m
 
-  -- no proof answers from a place on from which no place has the question's hash
+  -- no proof answers from a slot on from which no slot has the question's hash
   pub none_unmarked : (hashes : List ℕ) (ps : List Proven) (hash n : ℕ) → hashes ≡ index_hashes ps → hash ≡ index_hash (key_of line.frame line.state) → NoHashFrom hashes hash n
       → NoneFrom line side ps n
   none_unmarked hashes ps hash n all m un i p low at a =
       let many : length hashes ≡ length ps = ap length all ∙ length-map ps _ in
       un i low (omega (arith, many, slice_get_within ps i p at)) (answers_hash hashes ps i hash p all m at a)
 
-  -- nothing answers where no place has the question's hash
+  -- nothing answers where no slot has the question's hash
   pub newest_unmarked : (hashes : List ℕ) (ps : List Proven) (hash n : ℕ) → hashes ≡ index_hashes ps → hash ≡ index_hash (key_of line.frame line.state) → NoHashFrom hashes hash n → n ≡ 0
       → IsNewest line side (reverse ps) None
   newest_unmarked hashes ps hash n all m un none = none_newest ps (λ i p low at. none_unmarked hashes ps hash n all m un i p (omega (arith, none)) at)
 
-  -- no proof answers past the place before one that doesn't answer
-  pub none_past_next : (heads before hashes : List ℕ) (ps : List Proven) (hash place next : ℕ) → hashes ≡ index_hashes ps → hash ≡ index_hash (key_of line.frame line.state)
-      → AreBuckets heads before hashes (length hashes) → place < length hashes → bucket_of_hash (get_or hashes place 0) (length heads) ≡ bucket_of_hash hash (length heads)
-      → next ≡ get_or before place 0
-      → NoneFrom line side ps (place + 1) → ((p : Proven) → slice_get ps place ≡ Some p → AnswersFor line side p → ⊥) → NoneFrom line side ps next
-  none_past_next heads before hashes ps hash place next all m linked within same is later here i p low =
-      past_next (λ j. (q : Proven) → slice_get ps j ≡ Some q → AnswersFor line side q → ⊥) heads before hashes hash place next linked within same is
+  -- no proof answers past the slot before one that doesn't answer
+  pub none_past_next : (heads before hashes : List ℕ) (ps : List Proven) (hash slot next : ℕ) → hashes ≡ index_hashes ps → hash ≡ index_hash (key_of line.frame line.state)
+      → AreBuckets heads before hashes (length hashes) → slot < length hashes → bucket_of_hash (get_or hashes slot 0) (length heads) ≡ bucket_of_hash hash (length heads)
+      → next ≡ get_or before slot 0
+      → NoneFrom line side ps (slot + 1) → ((p : Proven) → slice_get ps slot ≡ Some p → AnswersFor line side p → ⊥) → NoneFrom line side ps next
+  none_past_next heads before hashes ps hash slot next all m linked within same is later here i p low =
+      past_next (λ j. (q : Proven) → slice_get ps j ≡ Some q → AnswersFor line side q → ⊥) heads before hashes hash slot next linked within same is
       (λ j other q at a. other (answers_hash hashes ps j hash q all m at a)) here (λ j late q. later j q late) i low p
 
-  -- a proof at a place doesn't answer where the one that was looked at there fails the test
-  pub not_found : (ps : List Proven) (place : ℕ) (b : Bool) (p q : Proven) → slice_get ps place ≡ Some q → slice_get ps place ≡ Some p → b ≡ false
+  -- a proof at a slot doesn't answer where the one that was looked at there fails the test
+  pub not_found : (ps : List Proven) (slot : ℕ) (b : Bool) (p q : Proven) → slice_get ps slot ≡ Some q → slice_get ps slot ≡ Some p → b ≡ false
       → (IsTrue b ↔ ((key_of q.frame q.state ≡ key_of line.frame line.state) × (q.side ≡ side))) → AnswersFor line side p → ⊥
-  not_found ps place b p q there at e h a =
+  not_found ps slot b p q there at e h a =
       let same : p ≡ q = cc (sym at ∙ there) in
       let answers : AnswersFor line side q = subst (AnswersFor line side) same a in
       false≢true (sym e ∙ h.1 (answers.same_key, answers.for_side))
 
--- a place that a head or another place leads to is of the bucket
-leads_inside : (hashes : List ℕ) (n c k next : ℕ) → next ≡ last_place (in_bucket hashes n c) k → 0 < next → bucket_of_hash (get_or hashes (next - 1) 0) n ≡ c
+-- a slot that a head or another slot leads to is of the bucket
+leads_inside : (hashes : List ℕ) (n c k next : ℕ) → next ≡ last_slot (in_bucket hashes n c) k → 0 < next → bucket_of_hash (get_or hashes (next - 1) 0) n ≡ c
 leads_inside hashes n c k next is some =
-    let e : last_place (in_bucket hashes n c) k ≡ suc (next - 1) = omega (arith, is, some) in
+    let e : last_slot (in_bucket hashes n c) k ≡ suc (next - 1) = omega (arith, is, some) in
     let inside = last_passes (in_bucket hashes n c) k (next - 1) e in
     grind (arith, inside)
 
@@ -228,16 +228,16 @@ pub head_inside : (heads before hashes : List ℕ) (hash next : ℕ) → bucket_
 head_inside heads before hashes hash next inside linked is =
     leads_inside hashes (length heads) (bucket_of_hash hash (length heads)) (length hashes) next (is ∙ linked.heads_lead (bucket_of_hash hash (length heads)) inside)
 
-pub before_inside : (heads before hashes : List ℕ) (hash place next : ℕ) → AreBuckets heads before hashes (length hashes) → place < length hashes
-    → bucket_of_hash (get_or hashes place 0) (length heads) ≡ bucket_of_hash hash (length heads)
-    → next ≡ get_or before place 0 → 0 < next → bucket_of_hash (get_or hashes (next - 1) 0) (length heads) ≡ bucket_of_hash hash (length heads)
-before_inside heads before hashes hash place next linked within same is =
-    leads_inside hashes (length heads) (bucket_of_hash hash (length heads)) place next (is ∙ linked.before_leads place within ∙ ap (λ c. last_place (in_bucket hashes (length heads) c) place) same)
+pub before_inside : (heads before hashes : List ℕ) (hash slot next : ℕ) → AreBuckets heads before hashes (length hashes) → slot < length hashes
+    → bucket_of_hash (get_or hashes slot 0) (length heads) ≡ bucket_of_hash hash (length heads)
+    → next ≡ get_or before slot 0 → 0 < next → bucket_of_hash (get_or hashes (next - 1) 0) (length heads) ≡ bucket_of_hash hash (length heads)
+before_inside heads before hashes hash slot next linked within same is =
+    leads_inside hashes (length heads) (bucket_of_hash hash (length heads)) slot next (is ∙ linked.before_leads slot within ∙ ap (λ c. last_slot (in_bucket hashes (length heads) c) slot) same)
 
 -- one more hash is noted
 pub seen_more : (before after : BloomFilter) (hashes : List ℕ) (hash : ℕ) → MayHoldHashes before hashes → MayHold after (hash % KEY_FILTER_BITS) → ((n : ℕ) → MayHold before n → MayHold after n)
     → MayHoldHashes after (hashes ++ hash ∷ [])
-seen_more before after hashes hash was here still place within = elim (cases_lt place (length hashes)) [
-  | inl h ↦ subst (λ n. MayHold after (n % KEY_FILTER_BITS)) (sym (get_or_append_left hashes (hash ∷ []) 0 place h)) (still _ (was place h))
-  | inr h ↦ subst (λ n. MayHold after (n % KEY_FILTER_BITS)) (sym (get_or_push hashes hash 0 place (omega (arith, h, within, length-append hashes (hash ∷ []))))) here
+seen_more before after hashes hash was here still slot within = elim (cases_lt slot (length hashes)) [
+  | inl h ↦ subst (λ n. MayHold after (n % KEY_FILTER_BITS)) (sym (get_or_append_left hashes (hash ∷ []) 0 slot h)) (still _ (was slot h))
+  | inr h ↦ subst (λ n. MayHold after (n % KEY_FILTER_BITS)) (sym (get_or_push hashes hash 0 slot (omega (arith, h, within, length-append hashes (hash ∷ []))))) here
 ]

@@ -6,47 +6,47 @@ use Rattle.tt_game.specs.declared.frame.Side.{Side}
 use Rattle.tt_game.specs.Game.{opponent}
 use Rattle.tt_search.specs.PartialTree.{PartialTree, fresh}
 use Rattle.tt_search.specs.Numbers.{infinite, cap, least, has_infinite, capped_sum, number, numbers}
-use Rattle.tt_search.specs.MostProving.{place, first_least}
+use Rattle.tt_search.specs.MostProving.{index, first_least}
 use Rattle.tt_search.specs.inside.Children.{children_of}
-use Rattle.tt_search.specs.inside.Choices.{Choices, node_with, best_place}
+use Rattle.tt_search.specs.inside.Choices.{Choices, node_with, best_index}
 use Rattle.tt_search.specs.inside.Pairs.{changed_sum, ArePair}
 use Rattle.tt_search.specs.inside.Edges.{edge_turns, edge_trees}
 use Rattle.tt_search.specs.inside.ChildNodes.{choices_of, child_of, AreFew}
 use Rattle.tt_search.specs.inside.Sprouting.{IsPut}
 use Rattle.tt_search.specs.declared.tree.children.ChildNodes.{ChildNodes}
 use Rattle.tt_search.specs.declared.tree.numbers.Pair.{Pair}
-use Rattle.tt_search.proofs.Places.{length-turns_of, length-trees_of}
+use Rattle.tt_search.proofs.Indices.{length-turns_of, length-trees_of}
 use Rattle.tt_search.proofs.Best.{own_number, other_number}
 
 -- ---- numbers
 
 -- the number at its place is there, behind a first one that may be it
-at_first : (v x : ℕ) (xs : List ℕ) → (place v xs < length xs → get_or xs (place v xs) 0 ≡ v) → (b : Bool) → (x == v) ≡ b → place v (x ∷ xs) < length (x ∷ xs)
-    → get_or (x ∷ xs) (place v (x ∷ xs)) 0 ≡ v
+at_first : (v x : ℕ) (xs : List ℕ) → (index v xs < length xs → get_or xs (index v xs) 0 ≡ v) → (b : Bool) → (x == v) ≡ b → index v (x ∷ xs) < length (x ∷ xs)
+    → get_or (x ∷ xs) (index v (x ∷ xs)) 0 ≡ v
 at_first v x xs rest true e l = rw e (grind (arith, common_steps))
 at_first v x xs rest false e l =
-    let here : place v (x ∷ xs) ≡ place v xs + 1 = ap (λ c. if c then 0 else place v xs + 1) e in
+    let here : index v (x ∷ xs) ≡ index v xs + 1 = ap (λ c. if c then 0 else index v xs + 1) e in
     rw (here, add-one) (rest (omega (arith, l, here)))
 
 -- the number at its place is there
-at_place : (v : ℕ) (xs : List ℕ) → place v xs < length xs → get_or xs (place v xs) 0 ≡ v
-at_place v [] l = absurd (omega arith)
-at_place v (x ∷ xs) l = at_first v x xs (at_place v xs) (x == v) refl l
+at_index : (v : ℕ) (xs : List ℕ) → index v xs < length xs → get_or xs (index v xs) 0 ≡ v
+at_index v [] l = absurd (omega arith)
+at_index v (x ∷ xs) l = at_first v x xs (at_index v xs) (x == v) refl l
 
 -- a number no greater than the least, in the place of the first least one behind another, is the first least one
-set_behind : (v m x : ℕ) (xs : List ℕ) (i : ℕ) → (i ≡ place v xs → place m (set xs i m) ≡ i) → (b : Bool) → (x == v) ≡ b → suc i ≡ place v (x ∷ xs) → v ≤ x → m ≤ v
-    → place m (x ∷ set xs i m) ≡ suc i
-set_behind v m x xs i rest true q e b h = absurd (omega (arith, e, ap (λ c. if c then 0 else place v xs + 1) q))
+set_behind : (v m x : ℕ) (xs : List ℕ) (i : ℕ) → (i ≡ index v xs → index m (set xs i m) ≡ i) → (b : Bool) → (x == v) ≡ b → suc i ≡ index v (x ∷ xs) → v ≤ x → m ≤ v
+    → index m (x ∷ set xs i m) ≡ suc i
+set_behind v m x xs i rest true q e b h = absurd (omega (arith, e, ap (λ c. if c then 0 else index v xs + 1) q))
 set_behind v m x xs i rest false q e b h =
-    let here : i ≡ place v xs = omega (arith, e, ap (λ c. if c then 0 else place v xs + 1) q) in
+    let here : i ≡ index v xs = omega (arith, e, ap (λ c. if c then 0 else index v xs + 1) q) in
     let k = rest here in
     grind (arith, common_steps)
 
 -- a number no greater than the least, in the place of the first least one, is the first least one
-place_set : (v m : ℕ) (xs : List ℕ) (i : ℕ) → i ≡ place v xs → i < length xs → v ≤ least xs → m ≤ v → place m (set xs i m) ≡ i
-place_set v m [] i e l b h = absurd (omega arith)
-place_set v m (x ∷ xs) zero e l b h = grind (arith, common_steps)
-place_set v m (x ∷ xs) (suc i) e l b h = set_behind v m x xs i (λ k. place_set v m xs i k (omega arith) (omega (arith, b)) h) (x == v) refl e (omega (arith, b)) h
+index_set : (v m : ℕ) (xs : List ℕ) (i : ℕ) → i ≡ index v xs → i < length xs → v ≤ least xs → m ≤ v → index m (set xs i m) ≡ i
+index_set v m [] i e l b h = absurd (omega arith)
+index_set v m (x ∷ xs) zero e l b h = grind (arith, common_steps)
+index_set v m (x ∷ xs) (suc i) e l b h = set_behind v m x xs i (λ k. index_set v m xs i k (omega arith) (omega (arith, b)) h) (x == v) refl e (omega (arith, b)) h
 
 -- the least is no greater than a number
 least_at : (xs : List ℕ) (i : ℕ) → i < length xs → least xs ≤ get_or xs i 0
@@ -132,7 +132,7 @@ length-numbers goal (t ∷ trees) = ap suc (length-numbers goal trees)
 
 -- ---- the best child has become another tree
 
-module _ (mover : Side) (old new : ChildNodes) (p : ℕ) (tree : PartialTree) (is : p ≡ best_place (choices_of mover old)) (there : p < length (edge_trees old.edges old.grown.items))
+module _ (mover : Side) (old new : ChildNodes) (p : ℕ) (tree : PartialTree) (is : p ≡ best_index (choices_of mover old)) (there : p < length (edge_trees old.edges old.grown.items))
     (put : IsPut p old tree new) where
   abbrev trees : List PartialTree
   trees = edge_trees old.edges old.grown.items
@@ -149,8 +149,8 @@ module _ (mover : Side) (old new : ChildNodes) (p : ℕ) (tree : PartialTree) (i
   few_stay h = omega (arith, h, edges_stay)
 
   -- and the place is still there
-  pub place_there : p < length new.edges
-  place_there = omega (arith, there, length-trees_of old.edges old.grown.items, edges_stay)
+  pub index_there : p < length new.edges
+  index_there = omega (arith, there, length-trees_of old.edges old.grown.items, edges_stay)
 
   -- the child at the place is the tree
   pub tree_there : child_of new p ≡ tree
@@ -166,7 +166,7 @@ module _ (mover : Side) (old new : ChildNodes) (p : ℕ) (tree : PartialTree) (i
 
   -- the number at the place was the least
   least_there : get_or (row mover) p 0 ≡ least (row mover)
-  least_there = ap (λ i. get_or (row mover) i 0) is ∙ at_place (least (row mover)) (row mover) (omega (arith, in_row mover, is))
+  least_there = ap (λ i. get_or (row mover) i 0) is ∙ at_index (least (row mover)) (row mover) (omega (arith, in_row mover, is))
 
   module _ (no_more : number mover tree ≤ least (row mover)) where
     -- where the least hasn't risen, it is the tree's number
@@ -177,10 +177,10 @@ module _ (mover : Side) (old new : ChildNodes) (p : ℕ) (tree : PartialTree) (i
     least_stays = sym (ap least (row_is mover) ∙ least_set_is)
 
     -- and the place is that of the best child
-    pub place_stays : p ≡ best_place (choices_of mover new)
-    place_stays =
-        sym (ap first_least (row_is mover) ∙ ap (λ v. place v (set (row mover) p (number mover tree))) least_set_is
-        ∙ place_set (least (row mover)) (number mover tree) (row mover) p is (in_row mover) (omega arith) no_more)
+    pub index_stays : p ≡ best_index (choices_of mover new)
+    index_stays =
+        sym (ap first_least (row_is mover) ∙ ap (λ v. index v (set (row mover) p (number mover tree))) least_set_is
+        ∙ index_set (least (row mover)) (number mover tree) (row mover) p is (in_row mover) (omega arith) no_more)
 
   -- where the sum was below the cap, the change gives the new sum
   pub sum_here : capped_sum (row (opponent mover)) < cap
@@ -194,8 +194,8 @@ module _ (mover : Side) (old new : ChildNodes) (p : ℕ) (tree : PartialTree) (i
 
 -- what steps of the best child make of the node's numbers, where it was the first child, and is the second one now
 module _ (mover : Side) (old new : ChildNodes) (p : ℕ) (v : Choices) (was : Pair) (view_is : choices_of mover old ≡ v)
-    (pair : ArePair v.mover (node_with v) was) (is : p ≡ best_place (choices_of mover old))
-    (there : best_place v < length v.trees) (tree : PartialTree) (put : IsPut p old tree new) (second : PartialTree) (second_is : second ≡ child_of new p) where
+    (pair : ArePair v.mover (node_with v) was) (is : p ≡ best_index (choices_of mover old))
+    (there : best_index v < length v.trees) (tree : PartialTree) (put : IsPut p old tree new) (second : PartialTree) (second_is : second ≡ child_of new p) where
   abbrev before : Side → List ℕ
   before goal = numbers goal (children_of (edge_trees old.edges old.grown.items))
 
@@ -204,7 +204,7 @@ module _ (mover : Side) (old new : ChildNodes) (p : ℕ) (v : Choices) (was : Pa
 
   -- the place is there
   pub in_trees : p < length (edge_trees old.edges old.grown.items)
-  in_trees = omega (arith, is, subst (λ (c : Choices). best_place c < length c.trees) (sym view_is) there)
+  in_trees = omega (arith, is, subst (λ (c : Choices). best_index c < length c.trees) (sym view_is) there)
 
   pair_here : ArePair mover (node_with (choices_of mover old)) was
   pair_here = subst (λ (c : Choices). ArePair c.mover (node_with c) was) (sym view_is) pair
@@ -247,8 +247,8 @@ module _ (mover : Side) (old new : ChildNodes) (p : ℕ) (v : Choices) (was : Pa
     not_risen = omega (arith, own_is, no_more, own_was, ap (number mover) tree_is)
 
     -- where the least hasn't risen, the place is still that of the best child
-    pub place_now : p ≡ best_place (choices_of mover new)
-    place_now = place_stays mover old new p tree is in_trees put not_risen
+    pub index_now : p ≡ best_index (choices_of mover new)
+    index_now = index_stays mover old new p tree is in_trees put not_risen
 
     -- and the child's number is the node's
     pub own_now : own ≡ least (after mover)

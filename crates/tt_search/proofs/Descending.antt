@@ -15,9 +15,9 @@ asked_by old new step h = subst (λ before. AskedBy before step new) (h.one refl
 
 module _ {G Source : Type 0} (asked : G → Asked) (source : G → Source) (may_answer : Type 0) where
   -- one step goes at any pace
-  pub any_pace : (stop : Stop) (walk : Walk) (old : G) (step : Step) (after : Walk) (new : G)
+  pub any_stop : (stop : Stop) (walk : Walk) (old : G) (step : Step) (after : Walk) (new : G)
       → Descends asked source may_answer OneStep walk old step after new → Descends asked source may_answer stop walk old step after new
-  any_pace stop walk old step after new h = record {
+  any_stop stop walk old step after new h = record {
     line = h.line;
     room = h.room;
     may = h.may;

@@ -7,7 +7,8 @@ use Rattle.tt_proof.specs.Proven.{Proven, StandsAt}
 use Rattle.tt_search.specs.Numbers.{number}
 use Rattle.tt_search.specs.Settled.{strategy_for}
 use Rattle.tt_search.specs.inside.Within.{StaysWithin}
-use Rattle.tt_search.specs.Searched.{Searched, IsProofOf}
+use Rattle.tt_search.specs.Searched.{Searched}
+use Rattle.tt_search.specs.RunEnds.{IsProofOf}
 use Rattle.tt_search.proofs.Strategies.{low}
 
 -- a proof at the search's line, for the side it is settled for and with the tree's strategy, is the search's

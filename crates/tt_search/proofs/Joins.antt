@@ -24,7 +24,7 @@ use Rattle.tt_search.specs.inside.Choices.{node_with}
 use Rattle.tt_search.specs.inside.ChildNodes.{choices_of, children_in, child_of}
 use Rattle.tt_search.specs.declared.tree.edges.Edge.{Edge}
 use Rattle.tt_search.specs.declared.tree.children.ChildNodes.{ChildNodes}
-use Rattle.tt_search.proofs.Places.{length-trees_of, turn_at_place, nodes_behind, replies_at_end, replied_step}
+use Rattle.tt_search.proofs.Indices.{length-trees_of, turn_at_index, nodes_behind, replies_at_end, replied_step}
 use Rattle.tt_search.proofs.Replies.{joined, joined_none, joined_push}
 use Rattle.tt_search.proofs.Sprouted.{any_default}
 use Rattle.tt_search.proofs.Steps.{stays_in_more}
@@ -84,7 +84,7 @@ module _ (side : Side) (f : Frame) (s : State) where
       let turns = edge_turns x.edges in
       let trees = edge_trees x.edges x.grown.items in
       let r = subst (λ k. IsSettledChild k turns trees t child) (sym is) (picked_child turns trees t child h) in
-      let a : get_or turns i t ≡ t = turn_at_place x.edges i e t (picked_there x i h is) ∙ ap edge_turn (sym at) ∙ sym turn in
+      let a : get_or turns i t ≡ t = turn_at_index x.edges i e t (picked_there x i h is) ∙ ap edge_turn (sym at) ∙ sym turn in
       let b : get_or trees i child ≡ child = any_default trees i child fresh r.there ∙ sym is_child in
       (subst (IsLegal f s) a r.legal, subst (λ u. IsSettledAt side f (after f s u) child) a (subst (λ d. IsSettledAt side f (after f s (get_or turns i t)) d) b r.child))
 

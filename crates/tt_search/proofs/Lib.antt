@@ -2,7 +2,7 @@ pub mod Rows
 pub mod Best
 pub mod Grown
 pub mod Lifted
-pub mod Places
+pub mod Indices
 pub mod Untried
 pub mod Steps
 pub mod Open

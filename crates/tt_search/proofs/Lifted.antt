@@ -84,42 +84,42 @@ module _ (at : Stand) (mover : Side) (turns : List Turn) (trees : List PartialTr
   abbrev pub node : PartialTree
   node = expanded mover turns (children_of trees)
 
-  abbrev pub place : ℕ
-  place = best mover (children_of trees)
+  abbrev pub index : ℕ
+  index = best mover (children_of trees)
 
   abbrev pub child : PartialTree
-  child = get_or trees place d
+  child = get_or trees index d
 
   abbrev pub below : Stand
-  below = stand_after at (get_or turns place t)
+  below = stand_after at (get_or turns index t)
 
   -- the node's most-proving leaf has the state of the child's
   leaf_state_is : most_proving_state at.frame at.state node ≡ most_proving_state below.frame below.state child
-  leaf_state_is = state_at at.frame at.state turns trees place t d same there
+  leaf_state_is = state_at at.frame at.state turns trees index t d same there
 
   -- it lies one turn deeper than the child's
   leaf_depth_is : most_proving_depth node ≡ most_proving_depth child + 1
-  leaf_depth_is = ap (λ n. n + 1) (depth_at trees place d there)
+  leaf_depth_is = ap (λ n. n + 1) (depth_at trees index d there)
 
   -- a tree put at the node's most-proving leaf is put at the child's
-  put_is : (leaf : PartialTree) → with_most_proving leaf node ≡ expanded mover turns (children_of (set trees place (with_most_proving leaf child)))
-  put_is leaf = ap (expanded mover turns) (put_at leaf trees place d there)
+  put_is : (leaf : PartialTree) → with_most_proving leaf node ≡ expanded mover turns (children_of (set trees index (with_most_proving leaf child)))
+  put_is leaf = ap (expanded mover turns) (put_at leaf trees index d there)
 
   -- where the child stays the same, so does the node
-  same_is : (new : PartialTree) → new ≡ child → expanded mover turns (children_of (set trees place new)) ≡ node
+  same_is : (new : PartialTree) → new ≡ child → expanded mover turns (children_of (set trees index new)) ≡ node
   same_is new e =
-      ap (λ n. expanded mover turns (children_of (set trees place n))) e
-      ∙ ap (λ ts. expanded mover turns (children_of ts)) (set_at trees place d there)
+      ap (λ n. expanded mover turns (children_of (set trees index n))) e
+      ∙ ap (λ ts. expanded mover turns (children_of ts)) (set_at trees index d there)
 
   -- a step at the best child is one at the node
   pub lifted : (left : ℕ) (step : Step) (new : PartialTree) → 0 < at.room → Taken below (stage child left) step new
-      → Taken at (stage node left) step (expanded mover turns (children_of (set trees place new)))
+      → Taken at (stage node left) step (expanded mover turns (children_of (set trees index new)))
   lifted left Expanded new pos h = (
     h.0,
     (
       omega (arith, h.1.0, leaf_depth_is),
       rw leaf_state_is
-          (ap (λ n. expanded mover turns (children_of (set trees place n))) h.1.1 ∙ sym (put_is (expansion at.frame (most_proving_state below.frame below.state child)))),
+          (ap (λ n. expanded mover turns (children_of (set trees index n))) h.1.1 ∙ sym (put_is (expansion at.frame (most_proving_state below.frame below.state child)))),
     ),
   )
   lifted left Closed new pos (side, strategy, w, o, l, e) = (
@@ -128,7 +128,7 @@ module _ (at : Stand) (mover : Side) (turns : List Turn) (trees : List PartialTr
     subst (Wins side at.frame strategy) (sym leaf_state_is) w,
     o,
     omega (arith, l, leaf_depth_is),
-    ap (λ n. expanded mover turns (children_of (set trees place n))) e ∙ sym (put_is (closed side strategy)),
+    ap (λ n. expanded mover turns (children_of (set trees index n))) e ∙ sym (put_is (closed side strategy)),
   )
   lifted left Settled new pos h = h
   lifted left (Stuck Budget) new pos h = (h.0, same_is new h.1)

@@ -11,7 +11,7 @@ use Rattle.tt_search.specs.Numbers.{count, IsUndecided}
 use Rattle.tt_search.specs.MostProving.{best, most_proving_state, with_most_proving, with_below}
 use Rattle.tt_search.specs.Growing.{leaf_for, new_leaves, expansion, IsExpansion, IsClosing, Grows, GrownFrom}
 use Rattle.tt_search.specs.Searched.{Searched, StepOf, IsSameProblem}
-use Rattle.tt_search.specs.Ended.{RanTo}
+use Rattle.tt_search.specs.RunEnds.{RanTo}
 use Rattle.tt_search.specs.declared.limits.Step.{Step}
 use Rattle.tt_search.specs.declared.limits.Step.TheVariants.{Expanded, Closed}
 use Rattle.tt_search.proofs.Grown.{UndecidedAt, best_undecided, won_decided, closed_decided, count_grown, expansion_count}

@@ -23,12 +23,12 @@ joined_push [] x es = refl
 joined_push (y ∷ ys) x es = ap (entry y.0 y.1) (joined_push ys x es)
 
 -- the pick at a place is the turn there, then the strategy of the child there
-pub pick_at_place : (side : Side) (turns : List Turn) (trees : List PartialTree) (i : ℕ) (t : Turn) (d : PartialTree) → i < length turns → i < length trees
+pub pick_at_index : (side : Side) (turns : List Turn) (trees : List PartialTree) (i : ℕ) (t : Turn) (d : PartialTree) → i < length turns → i < length trees
     → pick_at side i turns (children_of trees) ≡ pick (get_or turns i t) (strategy_for side (get_or trees i d))
-pick_at_place side [] trees i t d l k = absurd (omega arith)
-pick_at_place side (u ∷ us) [] i t d l k = absurd (omega arith)
-pick_at_place side (u ∷ us) (tree ∷ trees) zero t d l k = refl
-pick_at_place side (u ∷ us) (tree ∷ trees) (suc i) t d l k = pick_at_place side us trees i t d (omega arith) (omega arith)
+pick_at_index side [] trees i t d l k = absurd (omega arith)
+pick_at_index side (u ∷ us) [] i t d l k = absurd (omega arith)
+pick_at_index side (u ∷ us) (tree ∷ trees) zero t d l k = refl
+pick_at_index side (u ∷ us) (tree ∷ trees) (suc i) t d l k = pick_at_index side us trees i t d (omega arith) (omega arith)
 
 -- past the last turn there is nothing to pick
 pub pick_past_turns : (side : Side) (turns : List Turn) (trees : List PartialTree) (i : ℕ) → length turns ≤ i → pick_at side i turns (children_of trees) ≡ done
@@ -44,4 +44,4 @@ module _ (side : Side) (turns : List Turn) (trees : List PartialTree) where
   pub picked : (i : ℕ) (t : Turn) (child : PartialTree) (u : Strategy) → t ≡ get_or turns i t → child ≡ get_or trees i child → u ≡ strategy_for side child → i < length turns
       → i < length trees → pick t u ≡ pick_at side i turns (children_of trees)
   picked i t child u a b s l k =
-      ap (pick t) (s ∙ ap (strategy_for side) b) ∙ ap (λ v. pick v (strategy_for side (get_or trees i child))) a ∙ sym (pick_at_place side turns trees i t child l k)
+      ap (pick t) (s ∙ ap (strategy_for side) b) ∙ ap (λ v. pick v (strategy_for side (get_or trees i child))) a ∙ sym (pick_at_index side turns trees i t child l k)

@@ -19,7 +19,7 @@ use Rattle.tt_proof.proofs.Sent.{shared_send}
 use Rattle.tt_search.specs.contracts.tree.children.BestChild as BestChild
 use Rattle.tt_search.specs.contracts.tree.edge_row.Edges as Edges
 use Rattle.tt_search.specs.contracts.limits.Limits as Limits
-use Rattle.tt_search.specs.contracts.tree.plays.Plays as Plays
+use Rattle.tt_search.specs.contracts.tree.untried.Plays as Plays
 use Rattle.tt_search.specs.contracts.tree.node.Node as Node
 use Rattle.tt_search.specs.contracts.tree.node.Node.TheKnot as NodeKnot
 use Rattle.tt_search.specs.declared.tree.node.Node.TheDeep as Deep
@@ -34,8 +34,8 @@ module _ (h : RattleType) (below : IsSend h) where
   node_layer : IsSend (NodeKnot.layer-Node h)
   node_layer = search (sendable, crosses) depth 40
 
-aim_field : IsSend (as_row BestChild.the_field)
-aim_field = as_row_send BestChild.the_field (search (sendable, crosses, side_send) depth 40)
+best_child_field : IsSend (as_row BestChild.the_field)
+best_child_field = as_row_send BestChild.the_field (search (sendable, crosses, side_send) depth 40)
 
 edges_send : IsSend Edges.the_row
 edges_send = search (sendable, crosses) depth 40
@@ -64,7 +64,7 @@ growth_layer child_nodes boxed below above =
           (
             (side_send, (plays_field, tt)),
             (
-              (aim_field, (children, tt)),
+              (best_child_field, (children, tt)),
               ((side_send, (as_row_send (row_field _) box, (shared_field, tt))), tt),
             ),
           ),

@@ -23,7 +23,7 @@ use Rattle.tt_search.specs.declared.walk.Stop.{Stop}
 use Rattle.tt_search.specs.declared.walk.Walk.{Walk}
 use Rattle.tt_search.proofs.Grown.{won_decided}
 use Rattle.tt_search.proofs.Steps.{IsOfferable, expansion_offerable}
-use Rattle.tt_search.proofs.Places.{fresh_there, fresh_tree, rank_within, same_turns, one_more, sprouted, grown_on, grown_at_place, rank_there, tree_at_place}
+use Rattle.tt_search.proofs.Indices.{fresh_there, fresh_tree, rank_within, same_turns, one_more, sprouted, grown_on, grown_at_index, rank_there, tree_at_index}
 
 -- a stuck step leaves a fresh leaf fresh
 stuck_fresh : (at : Stand) (left : ℕ) (reason : Reason) (tree : PartialTree) → Taken at (stage fresh left) (Stuck reason) tree → Taken at (stage fresh left) (Stuck reason) fresh
@@ -33,28 +33,28 @@ stuck_fresh at left Total tree k = (k.0, k.1, refl)
 stuck_fresh at left Memory tree k = refl
 
 -- a child that stays fresh changes nothing
-put_nothing : (place : ℕ) (x y : ChildNodes) → IsFreshAt place x.edges → y.edges ≡ x.edges → y.grown.items ≡ x.grown.items → IsPut place x fresh y
-put_nothing place x y there edges row = record {
+put_nothing : (index : ℕ) (x y : ChildNodes) → IsFreshAt index x.edges → y.edges ≡ x.edges → y.grown.items ≡ x.grown.items → IsPut index x fresh y
+put_nothing index x y there edges row = record {
   turns = ap edge_turns edges;
-  trees = ap (λ es. edge_trees es y.grown.items) edges ∙ ap (edge_trees x.edges) row ∙ sym (fresh_tree x.edges x.grown.items place there);
+  trees = ap (λ es. edge_trees es y.grown.items) edges ∙ ap (edge_trees x.edges) row ∙ sym (fresh_tree x.edges x.grown.items index there);
 }
 
 -- where the step is stuck, nothing changes
-pub stays_fresh : (walk after : Walk) (place : ℕ) (x y : ChildNodes) (step : Step) (reason : Reason) (tree : PartialTree) → IsFreshAt place x.edges → y.edges ≡ x.edges
+pub stays_fresh : (walk after : Walk) (index : ℕ) (x y : ChildNodes) (step : Step) (reason : Reason) (tree : PartialTree) → IsFreshAt index x.edges → y.edges ≡ x.edges
     → y.grown.items ≡ x.grown.items → Taken (stand_of walk) (stage fresh walk.left) step tree → IsLeft step walk.left after.left → step ≡ Stuck reason
-    → Sprouts walk place x (Stuck reason) y after
-stays_fresh walk after place x y step reason tree there edges row h left e = (
+    → Sprouts walk index x (Stuck reason) y after
+stays_fresh walk after index x y step reason tree there edges row h left e = (
   fresh,
   stuck_fresh (stand_of walk) walk.left reason tree (subst (λ s. Taken (stand_of walk) (stage fresh walk.left) s tree) e h),
   subst (λ s. IsLeft s walk.left after.left) e left,
-  put_nothing place x y there edges row,
+  put_nothing index x y there edges row,
 )
 
 -- nor where there is no memory for the node
-pub stays_for_memory : (walk after : Walk) (place : ℕ) (x y : ChildNodes) → IsFreshAt place x.edges → after ≡ walk → y.edges ≡ x.edges
-    → y.grown.items ≡ x.grown.items → Sprouts walk place x (Stuck Memory) y after
-stays_for_memory walk after place x y there same edges row =
-    (fresh, refl, ap (λ (w : Walk). w.left) (sym same), put_nothing place x y there edges row)
+pub stays_for_memory : (walk after : Walk) (index : ℕ) (x y : ChildNodes) → IsFreshAt index x.edges → after ≡ walk → y.edges ≡ x.edges
+    → y.grown.items ≡ x.grown.items → Sprouts walk index x (Stuck Memory) y after
+stays_for_memory walk after index x y there same edges row =
+    (fresh, refl, ap (λ (w : Walk). w.left) (sym same), put_nothing index x y there edges row)
 
 -- the tree of an expanded leaf may be offered
 pub leaf_offerable : (walk after : Walk) (step : Step) (new : PartialTree) → after ≡ walk → winner_of walk.line.frame walk.line.state ≡ None → step ≡ Expanded
@@ -92,23 +92,23 @@ pub still_whole : (es : List Edge) (ts us : List PartialTree) → grown_in es �
 still_whole es ts us whole is same = whole ∙ ap length (sym (is ∙ same))
 
 -- where one more child has grown and its node stands among the others, each child that has grown has its node
-pub put_whole : (es fs : List Edge) (ts us : List PartialTree) (place rank : ℕ) (e : Edge) (tree : PartialTree) → IsFreshAt place es → grown_in es ≡ length ts
-    → rank ≡ grown_in (take place es) → edge_state_of e ≡ Grown → fs ≡ set es place e → us ≡ insert ts rank tree → grown_in fs ≡ length us
-put_whole es fs ts us place rank e tree there whole r edge_state edges row =
-    let within : rank ≤ length ts = omega (arith, r, rank_within es place, whole) in
-    omega (arith, ap grown_in edges, one_more es place e there edge_state, whole, ap length row, length-insert ts rank tree within)
+pub put_whole : (es fs : List Edge) (ts us : List PartialTree) (index rank : ℕ) (e : Edge) (tree : PartialTree) → IsFreshAt index es → grown_in es ≡ length ts
+    → rank ≡ grown_in (take index es) → edge_state_of e ≡ Grown → fs ≡ set es index e → us ≡ insert ts rank tree → grown_in fs ≡ length us
+put_whole es fs ts us index rank e tree there whole r edge_state edges row =
+    let within : rank ≤ length ts = omega (arith, r, rank_within es index, whole) in
+    omega (arith, ap grown_in edges, one_more es index e there edge_state, whole, ap length row, length-insert ts rank tree within)
 
 -- the new node stands among those that have grown, and its edge says so
-module _ (x y : ChildNodes) (place rank : ℕ) (d e : Edge) (tree : PartialTree) (there : IsFreshAt place x.edges) (whole : HasItsNodes x)
-    (r : rank ≡ grown_in (take place x.edges)) (edge_state : edge_state_of e ≡ Grown) (edges : y.edges ≡ set x.edges place e) (row : y.grown.items ≡ insert x.grown.items rank tree) where
+module _ (x y : ChildNodes) (index rank : ℕ) (d e : Edge) (tree : PartialTree) (there : IsFreshAt index x.edges) (whole : HasItsNodes x)
+    (r : rank ≡ grown_in (take index x.edges)) (edge_state : edge_state_of e ≡ Grown) (edges : y.edges ≡ set x.edges index e) (row : y.grown.items ≡ insert x.grown.items rank tree) where
   -- the child at the place becomes the new tree, and all else stays
-  pub put : edge_turn e ≡ edge_turn (get_or x.edges place d) → IsPut place x tree y
+  pub put : edge_turn e ≡ edge_turn (get_or x.edges index d) → IsPut index x tree y
   put turn = record {
-    turns = rw edges (same_turns x.edges place d e (fresh_there x.edges place there) turn);
+    turns = rw edges (same_turns x.edges index d e (fresh_there x.edges index there) turn);
     trees =
         rw edges
-        (ap (edge_trees (set x.edges place e)) (row ∙ ap (λ n. insert x.grown.items n tree) r)
-        ∙ sprouted x.edges x.grown.items place e tree there edge_state (omega (arith, rank_within x.edges place, whole)));
+        (ap (edge_trees (set x.edges index e)) (row ∙ ap (λ n. insert x.grown.items n tree) r)
+        ∙ sprouted x.edges x.grown.items index e tree there edge_state (omega (arith, rank_within x.edges index, whole)));
   }
 
 -- ---- what is below a node
@@ -123,7 +123,7 @@ fresh_at (e ∷ es) (suc i) d l m = fresh_at es i d (omega arith) m
 module _ (es : List Edge) (ts : List PartialTree) (i : ℕ) (e : Edge) (l : i < length es) (is : e ≡ get_or es i e) where
   -- the child's tree is its edge's, of the nodes from its rank on
   child_is : child_at i es ts ≡ tree_of (edge_state_of e) (drop (grown_in (take i es)) ts)
-  child_is = tree_at_place es ts i e fresh l ∙ ap (λ x. tree_of (edge_state_of x) (drop (grown_in (take i es)) ts)) (sym is)
+  child_is = tree_at_index es ts i e fresh l ∙ ap (λ x. tree_of (edge_state_of x) (drop (grown_in (take i es)) ts)) (sym is)
 
   -- a child whose edge says so is fresh
   pub fresh_here : edge_state_of e ≡ Fresh → IsFreshAt i es
@@ -147,7 +147,7 @@ module _ (es : List Edge) (ts : List PartialTree) (i : ℕ) (e : Edge) (l : i < 
 
   -- its tree is the node at its rank
   pub grown_child : grown_in es ≡ length ts → edge_state_of e ≡ Grown → child_at i es ts ≡ get_or ts (grown_in (take i es)) fresh
-  grown_child w m = grown_at_place es ts i e fresh l (ap edge_state_of (sym is) ∙ m) w
+  grown_child w m = grown_at_index es ts i e fresh l (ap edge_state_of (sym is) ∙ m) w
 
   -- a new node at its rank is a new tree at its place
   pub grown_put : grown_in es ≡ length ts → edge_state_of e ≡ Grown → (tree : PartialTree) → edge_trees es (set ts (grown_in (take i es)) tree) ≡ set (edge_trees es ts) i tree
@@ -191,9 +191,9 @@ module _ (x : ChildNodes) (i rank : ℕ) (e : Edge) (node : PartialTree) (l : i 
   )
 
 -- a step at a fresh child is one of its steps
-pub one_step : (stop : Stop) (walk : Walk) (place : ℕ) (x : ChildNodes) (step : Step) (y : ChildNodes) (after : Walk) → child_of x place ≡ fresh → Sprouts walk place x step y after
-    → StepsBelow stop walk place x step y after
-one_step stop walk place x step y after c (tree, taken, counted, put) = (
+pub one_step : (stop : Stop) (walk : Walk) (index : ℕ) (x : ChildNodes) (step : Step) (y : ChildNodes) (after : Walk) → child_of x index ≡ fresh → Sprouts walk index x step y after
+    → StepsBelow stop walk index x step y after
+one_step stop walk index x step y after c (tree, taken, counted, put) = (
   tree,
   subst (λ t. AreStepsAt stop (stand_of walk) (stage t walk.left) step (stage tree after.left)) (sym c) (record {
     how_many = 0;

@@ -172,7 +172,7 @@ set_twice [] i a b = refl
 set_twice (t ∷ trees) zero a b = refl
 set_twice (t ∷ trees) (suc i) a b = ap (λ ts. t ∷ ts) (set_twice trees i a b)
 
-module _ (at : Stand) (mover : Side) (turns : List Turn) (trees : List PartialTree) (t : Turn) (child : PartialTree) (p : ℕ) (place_is : p ≡ best mover (children_of trees))
+module _ (at : Stand) (mover : Side) (turns : List Turn) (trees : List PartialTree) (t : Turn) (child : PartialTree) (p : ℕ) (index_is : p ≡ best mover (children_of trees))
     (in_trees : p < length trees) (same : length turns ≡ length trees) (t_is : t ≡ get_or turns p t) (child_is : child ≡ get_or trees p child) (pos : 0 < at.room) where
   -- the node with another tree in the place of its best child
   abbrev pub with_child : PartialTree → PartialTree
@@ -196,7 +196,7 @@ module _ (at : Stand) (mover : Side) (turns : List Turn) (trees : List PartialTr
 
   -- and it is the best child again
   best_is : (tree : PartialTree) → HaveSameNumbers child tree → best mover (children_of (set trees p tree)) ≡ p
-  best_is tree h = ap first_least (row_is tree h mover) ∙ sym place_is
+  best_is tree h = ap first_least (row_is tree h mover) ∙ sym index_is
 
   -- two trees with the best child's numbers give the node the same numbers
   numbers_are : (a b : PartialTree) → HaveSameNumbers child a → HaveSameNumbers child b → HaveSameNumbers (with_child a) (with_child b)

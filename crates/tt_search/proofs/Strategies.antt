@@ -15,7 +15,7 @@ use Rattle.tt_proof.specs.Proven.{IsWon}
 use Rattle.tt_proof.specs.Wins.{Wins, WinsBehind}
 use Rattle.tt_search.specs.PartialTree.{PartialTree, fresh, won, closed, expanded, Children, no_more, more}
 use Rattle.tt_search.specs.Numbers.{is_same, least, capped_sum, decided_number, number, numbers}
-use Rattle.tt_search.specs.MostProving.{place}
+use Rattle.tt_search.specs.MostProving.{index}
 use Rattle.tt_search.specs.Growing.{IsPartialTree, ArePartialTrees}
 use Rattle.tt_search.specs.inside.Within.{StaysWithin, AllStayWithin}
 use Rattle.tt_search.specs.Settled.{strategy_for, first_settled, picked_or_replied, pick_at, replies}
@@ -42,8 +42,8 @@ least_zero x y e h = grind (arith, common_steps)
 
 -- the first 0 is the first child's, or else it is found among the others
 zero_by_first : (side : Side) (tree : PartialTree) (children : Children) → least (numbers side (more tree children)) ≡ 0
-    → (least (numbers side children) ≡ 0 → IsZeroAt side (place 0 (numbers side children)) children) → (b : Bool) → (number side tree == 0) ≡ b
-    → IsZeroAt side (place 0 (numbers side (more tree children))) (more tree children)
+    → (least (numbers side children) ≡ 0 → IsZeroAt side (index 0 (numbers side children)) children) → (b : Bool) → (number side tree == 0) ≡ b
+    → IsZeroAt side (index 0 (numbers side (more tree children))) (more tree children)
 zero_by_first side tree children e below true q = rw q (grind (arith, common_steps))
 zero_by_first side tree children e below false q = rw (q, add-one) (below (least_zero (number side tree) (least (numbers side children)) e q))
 

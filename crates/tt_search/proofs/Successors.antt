@@ -5,14 +5,13 @@ use Rattle.tt_game.specs.declared.frame.Side.{Side}
 use Rattle.tt_game.specs.declared.frame.Frame.{Frame}
 use Rattle.tt_game.specs.declared.turns.Turn.{Turn}
 use Rattle.tt_game.specs.declared.turns.Turn.TheVariants.{Play, Pass}
-use Rattle.tt_game.specs.declared.turns.Successor.{Successor}
+use Rattle.tt_game.specs.Turns.{Successor, legal_turns, successor, successors_of, successors_from}
 use Rattle.tt_game.specs.Game.{State, after, winner_of}
-use Rattle.tt_game.specs.Turns.{legal_turns, successor, successors_of, successors_from}
 use Rattle.tt_search.specs.PartialTree.{PartialTree, more, expanded}
 use Rattle.tt_search.specs.inside.Children.{children_of}
 use Rattle.tt_search.specs.declared.tree.edges.Edge.{Edge}
 use Rattle.tt_search.specs.inside.Edges.{edge_turn, edge_state_of, tree_of, edge_turns, edge_trees}
-use Rattle.tt_search.proofs.Places.{turns_push, trees_push}
+use Rattle.tt_search.proofs.Indices.{turns_push, trees_push}
 use Rattle.tt_search.specs.Growing.{leaf_for, new_leaf, new_leaves, expansion}
 
 -- the turns of the successors of turns are these turns
@@ -50,25 +49,25 @@ shifted done made rest next whole x is here all =
 
 -- an edge to the next legal play: the turns behind the edges, and those left, are the legal ones
 pub turns_more : (f : Frame) (s : State) (es made : List Edge) (e : Edge) (from p n : ℕ) → made ≡ es ++ e ∷ [] → edge_turn e ≡ Play p
-    → successors_from f s from ≡ successor f s (Play p) ∷ successors_from f s (p + 1) → n ≡ p
-    → edge_turns es ++ map (λ x. x.turn) (successors_from f s from) ≡ legal_turns f s → edge_turns made ++ map (λ x. x.turn) (successors_from f s (n + 1)) ≡ legal_turns f s
+    → successors_from f s from ≡ successor f s (Play p) ∷ successors_from f s (p + 1) → n ≡ p + 1
+    → edge_turns es ++ map (λ x. x.turn) (successors_from f s from) ≡ legal_turns f s → edge_turns made ++ map (λ x. x.turn) (successors_from f s n) ≡ legal_turns f s
 turns_more f s es made e from p n is turn next here all =
     shifted (edge_turns es) (edge_turns made) _ (map (λ x. x.turn) (successors_from f s from)) (legal_turns f s) (Play p)
     (ap edge_turns is ∙ turns_push es e ∙ ap (λ t. edge_turns es ++ t ∷ []) turn)
-    (ap (map (λ x. x.turn)) next ∙ ap (λ k. Play p ∷ map (λ x. x.turn) (successors_from f s (k + 1))) (sym here))
+    (ap (map (λ x. x.turn)) next ∙ ap (λ k. Play p ∷ map (λ x. x.turn) (successors_from f s k)) (sym here))
     all
 
 -- and so are the new leaves
 pub leaves_more : (f : Frame) (s : State) (es made : List Edge) (e : Edge) (winner : Option Side) (from p n : ℕ) → made ≡ es ++ e ∷ [] → tree_of (edge_state_of e) [] ≡ leaf_for winner
-    → winner ≡ winner_of f (after f s (Play p)) → successors_from f s from ≡ successor f s (Play p) ∷ successors_from f s (p + 1) → n ≡ p
+    → winner ≡ winner_of f (after f s (Play p)) → successors_from f s from ≡ successor f s (Play p) ∷ successors_from f s (p + 1) → n ≡ p + 1
     → edge_trees es [] ++ map (λ x. leaf_for x.winner) (successors_from f s from) ≡ map (λ x. leaf_for x.winner) (successors_of f s)
-    → edge_trees made [] ++ map (λ x. leaf_for x.winner) (successors_from f s (n + 1)) ≡ map (λ x. leaf_for x.winner) (successors_of f s)
+    → edge_trees made [] ++ map (λ x. leaf_for x.winner) (successors_from f s n) ≡ map (λ x. leaf_for x.winner) (successors_of f s)
 leaves_more f s es made e winner from p n is tree won next here all =
     shifted (edge_trees es []) (edge_trees made []) _ (map (λ x. leaf_for x.winner) (successors_from f s from)) (map (λ x. leaf_for x.winner) (successors_of f s))
     (leaf_for (winner_of f (after f s (Play p))))
     (ap (λ ys. edge_trees ys []) is ∙ trees_push es e ∙ ap (λ t. edge_trees es [] ++ t ∷ []) (tree ∙ ap leaf_for won))
     (ap (map (λ x. leaf_for x.winner)) next
-    ∙ ap (λ k. leaf_for (winner_of f (after f s (Play p))) ∷ map (λ x. leaf_for x.winner) (successors_from f s (k + 1))) (sym here))
+    ∙ ap (λ k. leaf_for (winner_of f (after f s (Play p))) ∷ map (λ x. leaf_for x.winner) (successors_from f s k)) (sym here))
     all
 
 -- the edge to a pass ends them: the turns are the legal ones

@@ -4,7 +4,7 @@ use Rattle.tt_game.specs.declared.turns.Turn.{Turn}
 use Rattle.tt_game.specs.Game.{IsLegal, after}
 use Rattle.tt_game.specs.laws.TurnLaws.{contains-legal_turns}
 use Rattle.tt_search.specs.PartialTree.{PartialTree, fresh}
-use Rattle.tt_search.specs.inside.Choices.{Choices, node_with, best_place, best_child, with_best}
+use Rattle.tt_search.specs.inside.Choices.{Choices, node_with, best_index, best_child, with_best}
 use Rattle.tt_search.specs.inside.Walking.{Stand, stage, stand, stand_of, stand_after, MayGrow, IsDown}
 use Rattle.tt_search.specs.inside.Steady.{AreStepsAt, AreSteps}
 use Rattle.tt_search.specs.inside.Sprouting.{BestSteps}
@@ -24,20 +24,20 @@ pub record IsWayDown (at : Stand) (c : Choices) (node : PartialTree) (t : Turn) 
 
 module _ (at : Stand) (c : Choices) (m : MayGrow at (node_with c)) where
   -- what is known of the best child's place
-  found_here : IsFound at c.turns c.trees (best_place c)
+  found_here : IsFound at c.turns c.trees (best_index c)
   found_here = found at c.mover c.turns c.trees m
 
   -- the child is the tree at the place
-  child_is : best_child c ≡ get_or c.trees (best_place c) (best_child c)
-  child_is = any_default c.trees (best_place c) fresh (best_child c) found_here.in_trees
+  child_is : best_child c ≡ get_or c.trees (best_index c) (best_child c)
+  child_is = any_default c.trees (best_index c) fresh (best_child c) found_here.in_trees
 
   -- the turn at the place leads down
-  way_here : (t : Turn) → t ≡ get_or c.turns (best_place c) t → IsWayDown at c (node_with c) t
+  way_here : (t : Turn) → t ≡ get_or c.turns (best_index c) t → IsWayDown at c (node_with c) t
   way_here t is = record {
     legal = (contains-legal_turns at.frame at.state t).0 (found_here.legal t is);
     may_grow = found_here.child t (best_child c) is child_is;
     steps = λ stop left step tree left_after steps.
-        steps_lifted at c.mover c.turns c.trees t (best_child c) (best_place c) refl found_here.in_trees (lengths at.frame at.state c.turns c.trees m.partial.3) is child_is
+        steps_lifted at c.mover c.turns c.trees t (best_child c) (best_index c) refl found_here.in_trees (lengths at.frame at.state c.turns c.trees m.partial.3) is child_is
         found_here.room stop left step (stage tree left_after) steps;
   }
 
@@ -47,11 +47,11 @@ module _ (at : Stand) (c : Choices) (node : PartialTree) (is : node_with c ≡ n
   here = subst (MayGrow at) (sym is) m
 
   -- there is a turn at the place
-  pub turn_there : best_place c < length c.turns
+  pub turn_there : best_index c < length c.turns
   turn_there = (found_here at c here).in_turns
 
   -- and a child
-  pub child_there : best_place c < length c.trees
+  pub child_there : best_index c < length c.trees
   child_there = (found_here at c here).in_trees
 
   -- there is room for a turn
@@ -59,7 +59,7 @@ module _ (at : Stand) (c : Choices) (node : PartialTree) (is : node_with c ≡ n
   has_room = (found_here at c here).room
 
   -- the turn at the place leads down
-  pub way_down : (t : Turn) → t ≡ get_or c.turns (best_place c) t → IsWayDown at c node t
+  pub way_down : (t : Turn) → t ≡ get_or c.turns (best_index c) t → IsWayDown at c node t
   way_down t turn = subst (λ n. IsWayDown at c n t) is (way_here at c here t turn)
 
 -- a walk that has gone down stands where the turn leads

@@ -21,13 +21,13 @@ pub record IndexState : Type 0 where
   pub hashes : List ℕ
   pub room : ℕ
 
--- the proof at the place that was found, if one was
+-- the proof at the slot that was found, if one was
 abbrev pub proof_at : List Proven → Option ℕ → Option Proven
 proof_at ps None = None
-proof_at ps (Some place) = slice_get ps place
+proof_at ps (Some slot) = slice_get ps slot
 
--- the place is that of the last proof of the line's key for the side, or there is none
-pub record IsPlaceOfNewest (line : Standing) (side : Side) (ps : List Proven) (place : Option ℕ) : Type 0 where
-  pub newest : IsNewest line side (reverse ps) (proof_at ps place)
-  pub within : IfSome place (λ n. n < length ps)
-  pub found : IfSome (proof_at ps place) (AnswersFor line side)
+-- the slot is that of the last proof of the line's key for the side, or there is none
+pub record IsIndexOfNewest (line : Standing) (side : Side) (ps : List Proven) (slot : Option ℕ) : Type 0 where
+  pub newest : IsNewest line side (reverse ps) (proof_at ps slot)
+  pub within : IfSome slot (λ n. n < length ps)
+  pub found : IfSome (proof_at ps slot) (AnswersFor line side)

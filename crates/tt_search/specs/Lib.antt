@@ -5,7 +5,7 @@ pub mod MostProving
 pub mod Growing
 pub mod Settled
 pub mod Searched
-pub mod Ended
+pub mod RunEnds
 pub mod Stores
 pub mod Usable
 pub mod Grants

@@ -8,16 +8,16 @@ use Rattle.tt_game.specs.Game.{State, after}
 use Rattle.tt_search.specs.PartialTree.{PartialTree, fresh, won, closed, expanded, Children, no_more, more}
 use Rattle.tt_search.specs.Numbers.{numbers, least}
 
--- the place of the first number that is this one
-abbrev pub place : ℕ → List ℕ → ℕ
-place v [] = 0
-place v (x ∷ xs) = if x == v then 0 else place v xs + 1
+-- the index of the first number that is this one
+abbrev pub index : ℕ → List ℕ → ℕ
+index v [] = 0
+index v (x ∷ xs) = if x == v then 0 else index v xs + 1
 
--- the place of the first least number
+-- the index of the first least number
 abbrev pub first_least : List ℕ → ℕ
-first_least xs = place (least xs) xs
+first_least xs = index (least xs) xs
 
--- the place of the child to go to: the first one with the least number of the side to move
+-- the index of the child to go to: the first one with the least number of the side to move
 abbrev pub best : Side → Children → ℕ
 best mover children = first_least (numbers mover children)
 
@@ -48,7 +48,7 @@ abbrev mutual
   depth_below zero (more tree children) = most_proving_depth tree
   depth_below (suc i) (more tree children) = depth_below i children
 
--- the tree with another one in the place of its most-proving leaf
+-- the tree with another one in the index of its most-proving leaf
 abbrev mutual
   pub with_most_proving : PartialTree → PartialTree → PartialTree
   with_most_proving leaf fresh = leaf

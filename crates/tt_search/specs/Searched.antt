@@ -1,13 +1,10 @@
 -- What contracts see of a search, and what a step of it does.
 use Rattle.std.specs.Prelude.{◌≡◌, ◌<◌, ◌≤◌}
 use Rattle.tt_game.specs.Line.{Standing}
-use Rattle.tt_proof.specs.Strategy.{depth}
-use Rattle.tt_proof.specs.Proven.{Proven, StandsAt}
 use Rattle.tt_search.specs.PartialTree.{PartialTree}
 use Rattle.tt_search.specs.Numbers.{number, count, IsUndecided}
 use Rattle.tt_search.specs.MostProving.{most_proving_depth}
 use Rattle.tt_search.specs.Growing.{IsExpansion, IsClosing}
-use Rattle.tt_search.specs.Settled.{strategy_for}
 use Rattle.tt_search.specs.declared.limits.Limits.{Limits}
 use Rattle.tt_search.specs.declared.limits.Step.{Step}
 use Rattle.tt_search.specs.declared.limits.Step.TheVariants.{Expanded, Closed, Settled, Stuck}
@@ -44,10 +41,3 @@ StepOf old (Stuck Budget) new = IsStuckFor Budget old × (new ≡ old)
 StepOf old (Stuck Depth) new = IsStuckFor Depth old × (new ≡ old)
 StepOf old (Stuck Total) new = IsStuckFor Total old × (new ≡ old)
 StepOf old (Stuck Memory) new = IsUndecided old.tree × (new ≡ old)
-
--- the proof stands at the search's line, within its limit on depth, and its strategy is that of the search's tree
-pub record IsProofOf (search : Searched) (p : Proven) : Type 0 where
-  pub stands : StandsAt p search.line.frame search.line.state
-  pub low : depth p.tree ≤ search.limits.depth
-  pub settled : number p.side search.tree ≡ 0
-  pub strategy : p.tree ≡ strategy_for p.side search.tree

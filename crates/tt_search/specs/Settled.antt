@@ -5,7 +5,7 @@ use Rattle.tt_game.specs.declared.turns.Turn.{Turn}
 use Rattle.tt_proof.specs.Strategy.{Strategy, Entries, done, pick, reply, none, entry}
 use Rattle.tt_search.specs.PartialTree.{PartialTree, fresh, won, closed, expanded, Children, no_more, more}
 use Rattle.tt_search.specs.Numbers.{is_same, numbers}
-use Rattle.tt_search.specs.MostProving.{place}
+use Rattle.tt_search.specs.MostProving.{index}
 
 abbrev pub picked_or_replied : Bool → Strategy → Entries → Strategy
 picked_or_replied true first all = first
@@ -13,7 +13,7 @@ picked_or_replied false first all = reply all
 
 -- the place of the first child that is settled for the side
 abbrev pub first_settled : Side → Children → ℕ
-first_settled side children = place 0 (numbers side children)
+first_settled side children = index 0 (numbers side children)
 
 -- at a won leaf nothing is left to do, and a closed leaf has its strategy; where the side is to move it picks the first
 -- child that is settled for it, and elsewhere it has a reply to each turn

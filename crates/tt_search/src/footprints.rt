@@ -5,7 +5,6 @@ ghost use Rattle.std.specs.Prelude.{◌≡◌, length, IfOk};
 ghost use Rattle.tt_game.specs.declared.frame.Frame.{Frame};
 ghost use Rattle.tt_game.specs.Game.{State, IsLegal, after};
 ghost use Rattle.tt_game.specs.laws.TurnLaws.{AreLegal};
-ghost use Rattle.tt_proof.specs.Proven.{IsWon};
 ghost use Rattle.tt_proof.specs.Strategy.{reply};
 ghost use Rattle.tt_proof.specs.KeptFootprints.{IsFootprint, IsBoardAfter, AreLegalPlays};
 ghost use Rattle.tt_search.specs.inside.Joining.{IsSettledAt, AreSettledAt};
@@ -23,7 +22,7 @@ use crate::tree::numbers::is_same;
 use std::alloc::Global;
 use tt_board::Board;
 use tt_game::{Line, Side, Turn};
-use tt_proof::{Footprint, Proof};
+use tt_proof::Footprint;
 use tt_sgf::{NoMemory, PointSet};
 
 impl Node {
@@ -46,7 +45,7 @@ impl Node {
             Growth::Closed(proof) => proof.footprint_at(alloc, line),
             Growth::Untried(_, _) => unreachable!(),
             Growth::Expanded(focus, children) => children.footprint(alloc, line, focus.mover, side),
-            Growth::Offered(_, _, proof) => offered_footprint(alloc, line, proof),
+            Growth::Offered(_, _, proof) => proof.footprint_at(alloc, line),
         }
     }
 
@@ -74,19 +73,6 @@ impl Node {
             Err(e) => Err(e),
         }
     }
-}
-
-/// The footprint of the proof that a node offered, where the line stands at the node. The proof stands there too, so that
-/// its own is meant, and nothing is asked of the boards that it needs and avoids.
-fn offered_footprint(alloc: Global, line: &mut Line, proof: &Proof) -> Result<Footprint, NoMemory>
-    requires wins { IsWon proof.now.side line.old.frame line.old.state proof.now.tree }
-    ensures exact { IfOk result (λ x. IsFootprint line.old.frame line.old.state proof.now.tree x) }
-    ensures same { line.new ≡ line.old }
-{
-    if proof.stands_at(line) {
-        return proof.footprint().try_clone(alloc);
-    }
-    proof.footprint_at(alloc, line)
 }
 
 impl Child<'_> {
@@ -157,9 +143,9 @@ fn picked(
         (pick_at side (first_settled side (children_in children.now)) (edge_turns children.now.edges) (children_in children.now)) x) }
     ensures same { line.new ≡ line.old }
 {
-    let (place, rank) = children.first_settled(side);
-    let turn = children.edges.at(place).turn();
-    let child = children.child(place, rank);
+    let (index, rank) = children.first_settled(side);
+    let turn = children.edges.at(index).turn();
+    let child = children.child(index, rank);
     let (board, behind) = child.footprint_behind(alloc, turn, line, side)?;
     Footprint::picked(alloc, line, &turn, &board, behind)
 }

@@ -1,13 +1,12 @@
 //! Steps of a search: the tree grows at its most-proving leaf, and the numbers on the way to it are brought up to date.
 
-ghost use Rattle.std.specs.Prelude.{◌≡◌, ◌≢◌, ◌+◌, ◌-◌, ◌^◌, ◌<◌, ◌≤◌, ◌↔◌, ◌⊎◌, true, false, None, length, take, insert};
+ghost use Rattle.std.specs.Prelude.{◌≡◌, ◌≢◌, ◌+◌, ◌-◌, ◌^◌, ◌<◌, ◌≤◌, ◌↔◌, ◌⊎◌, true, false, None, OnOk, length, take, insert};
 ghost use Rattle.std.specs.Vec.{vec_len, vec_capacity};
 ghost use Rattle.tt_game.specs.Game.{winner_of};
 ghost use Rattle.tt_search.specs.PartialTree.{fresh};
 ghost use Rattle.tt_search.specs.inside.ChildNodes.{HasItsNodes, IsRank, child_of, choices_of};
 ghost use Rattle.tt_search.specs.inside.Choices.{node_with};
-ghost use Rattle.tt_search.specs.inside.Kept.{IsKept};
-ghost use Rattle.tt_search.specs.inside.Pairs.{ArePair};
+ghost use Rattle.tt_search.specs.inside.Kept.{IsKept, IsKeptWith};
 ghost use Rattle.tt_search.specs.inside.Walking.{stage, stand_of};
 ghost use Rattle.tt_search.specs.inside.Descending.{MayDescend, Descends};
 ghost use Rattle.tt_search.specs.inside.Sprouting.{IsFreshAt, Sprouts, StepsBelow, BestSteps};
@@ -63,6 +62,17 @@ fn left_after(step: Step, left: u32) -> u32
         Step::Settled => left,
         Step::Stuck(_) => left,
     }
+}
+
+/// Makes room for one more node, and where there is none, for half as many as there are: most lists stay short.
+fn make_room(nodes: &mut Vec<Node>) -> Result<(), NoMemory>
+    ensures items { nodes.new.items ≡ nodes.old.items }
+    ensures room { OnOk result (vec_len nodes.new < vec_capacity nodes.new) }
+{
+    if nodes.len() == nodes.capacity() {
+        nodes.reserve_exact(nodes.len() / 2 + 1)?;
+    }
+    Ok(())
 }
 
 /// Puts a fresh node at a place among others, where there is room for it. It mostly comes last, and then no other one is looked at.
@@ -182,21 +192,6 @@ impl Node {
         step
     }
 
-    /// Becomes what another node is, where nothing is known of this one: so there is nothing to give back.
-    fn open_into(&mut self, node: Node)
-        requires fresh { self.old ≡ fresh }
-        ensures { self.new ≡ node }
-    {
-        match &self.growth {
-            Growth::Fresh => *self = node,
-            Growth::Won(_) => unreachable!(),
-            Growth::Closed(_) => unreachable!(),
-            Growth::Untried(_, _) => unreachable!(),
-            Growth::Expanded(_, _) => unreachable!(),
-            Growth::Offered(_, _, _) => unreachable!(),
-        }
-    }
-
     /// A step at a fresh leaf, and what the node becomes: a kept proof closes it, or it is expanded where the budget and the
     /// room allow it. The expansion is still to be asked for.
     fn leaf_step<S: Store>(&mut self, walk: &mut Walk, store: &mut S) -> Step
@@ -211,7 +206,7 @@ impl Node {
         match usable(&mut walk.line, walk.room, store) {
             Err(_) => return Step::Stuck(Reason::Memory),
             Ok(Some(proof)) => {
-                self.open_into(closed_leaf(proof));
+                *self = closed_leaf(proof);
                 return Step::Closed;
             }
             Ok(None) => {}
@@ -224,7 +219,7 @@ impl Node {
         }
         match expanded_at(walk.alloc, &mut walk.line) {
             Ok(node) => {
-                self.open_into(node);
+                *self = node;
                 Step::Expanded
             }
             Err(_) => Step::Stuck(Reason::Memory),
@@ -276,13 +271,11 @@ impl ChildNodes {
         store: &mut S,
         grants: &mut G,
     ) -> (Step, Pair)
-        requires kept { IsKept focus.old self.old }
-        requires was { ArePair focus.old.mover (node_with (choices_of focus.old.mover self.old)) was }
+        requires kept { IsKeptWith focus.old self.old was }
         requires ready { MayDescend walk.old (node_with (choices_of focus.old.mover self.old)) (G.asked grants.old) }
         ensures descends { Descends G.asked G.source S.may_answer stop walk.old grants.old result.0 walk.new grants.new }
         ensures steps { AreSteps stop walk.old (node_with (choices_of focus.old.mover self.old)) result.0 (node_with (choices_of focus.new.mover self.new)) walk.new }
-        ensures kept { IsKept focus.new self.new }
-        ensures numbers { ArePair focus.new.mover (node_with (choices_of focus.new.mover self.new)) result.1 }
+        ensures kept { IsKeptWith focus.new self.new result.1 }
     {
         let Ok(()) = walk.go_down(self.best_turn(*focus)) else {
             return (Step::Stuck(Reason::Memory), was);
@@ -305,20 +298,18 @@ impl ChildNodes {
         store: &mut S,
         grants: &mut G,
     ) -> (Step, Pair)
-        requires kept { IsKept focus.old self.old }
-        requires was { ArePair focus.old.mover (node_with (choices_of focus.old.mover self.old)) was }
-        requires there { focus.old.place < length self.old.edges }
-        requires ready { MayDescend walk.old (child_of self.old focus.old.place) (G.asked grants.old) }
+        requires kept { IsKeptWith focus.old self.old was }
+        requires there { focus.old.index < length self.old.edges }
+        requires ready { MayDescend walk.old (child_of self.old focus.old.index) (G.asked grants.old) }
         ensures descends { Descends G.asked G.source S.may_answer stop walk.old grants.old result.0 walk.new grants.new }
         ensures steps { BestSteps stop walk.old (choices_of focus.old.mover self.old) result.0 (choices_of focus.new.mover self.new) walk.new }
-        ensures kept { IsKept focus.new self.new }
-        ensures numbers { ArePair focus.new.mover (node_with (choices_of focus.new.mover self.new)) result.1 }
+        ensures kept { IsKeptWith focus.new self.new result.1 }
     {
-        let (place, rank) = (usize::from(focus.place), usize::from(focus.rank));
+        let (index, rank) = (usize::from(focus.index), usize::from(focus.rank));
         let goal = focus.mover.opponent();
-        let old = self.child(place, rank).number(goal);
-        let step = self.grow_at(place, rank, walk, stop, store, grants);
-        let child = self.child(place, rank);
+        let old = self.child(index, rank).number(goal);
+        let step = self.grow_at(index, rank, walk, stop, store, grants);
+        let child = self.child(index, rank);
         let own = child.number(focus.mover);
         let new = child.number(goal);
         let other = self.sum_after(focus.mover, was.other, old, new);
@@ -326,7 +317,7 @@ impl ChildNodes {
             return (step, Pair { own, other });
         }
         let best = self.best(focus.mover, was.own);
-        focus.place = best.place;
+        focus.index = best.index;
         focus.rank = best.rank;
         let own = best.least;
         (step, Pair { own, other })
@@ -340,25 +331,25 @@ impl ChildNodes {
     #[inline(always)]
     fn grow_at<S: Store, G: Grants>(
         &mut self,
-        place: usize,
+        index: usize,
         rank: usize,
         walk: &mut Walk,
         stop: Stop,
         store: &mut S,
         grants: &mut G,
     ) -> Step
-        requires there { place < length self.old.edges }
-        requires rank { IsRank rank place self.old }
+        requires there { index < length self.old.edges }
+        requires rank { IsRank rank index self.old }
         requires whole { HasItsNodes self.old }
-        requires ready { MayDescend walk.old (child_of self.old place) (G.asked grants.old) }
+        requires ready { MayDescend walk.old (child_of self.old index) (G.asked grants.old) }
         ensures descends { Descends G.asked G.source S.may_answer stop walk.old grants.old result walk.new grants.new }
         ensures whole { HasItsNodes self.new }
-        ensures before { take place self.new.edges ≡ take place self.old.edges }
-        ensures steps { StepsBelow stop walk.old place self.old result self.new walk.new }
+        ensures before { take index self.new.edges ≡ take index self.old.edges }
+        ensures steps { StepsBelow stop walk.old index self.old result self.new walk.new }
     {
-        match self.edges.at(place).edge_state() {
+        match self.edges.at(index).edge_state() {
             EdgeState::Grown => self.grown[rank].grow(walk, stop, store, grants),
-            EdgeState::Fresh => self.sprout(place, rank, walk, store, grants),
+            EdgeState::Fresh => self.sprout(index, rank, walk, store, grants),
             EdgeState::Won(_) => unreachable!(),
         }
     }
@@ -369,7 +360,7 @@ impl ChildNodes {
     #[inline(always)]
     fn sprout<S: Store, G: Grants>(
         &mut self,
-        place: usize,
+        index: usize,
         rank: usize,
         walk: &mut Walk,
         store: &mut S,
@@ -377,16 +368,16 @@ impl ChildNodes {
     ) -> Step
         requires open { winner_of walk.old.line.frame walk.old.line.state ≡ None }
         requires whole { HasItsNodes self.old }
-        requires there { IsFreshAt place self.old.edges }
-        requires rank { IsRank rank place self.old }
+        requires there { IsFreshAt index self.old.edges }
+        requires rank { IsRank rank index self.old }
         requires grants { (G.asked grants.old).granted + walk.old.left < 2 ^ 64 }
         ensures descends { Descends G.asked G.source S.may_answer OneStep walk.old grants.old result walk.new grants.new }
         ensures kept { (reason : _) → result ≡ Stuck reason → S.kept store.new ≡ S.kept store.old }
         ensures whole { HasItsNodes self.new }
-        ensures before { take place self.new.edges ≡ take place self.old.edges }
-        ensures sprouts { Sprouts walk.old place self.old result self.new walk.new }
+        ensures before { take index self.new.edges ≡ take index self.old.edges }
+        ensures sprouts { Sprouts walk.old index self.old result self.new walk.new }
     {
-        if self.grown.reserve_exact(1).is_err() {
+        if make_room(&mut self.grown).is_err() {
             return Step::Stuck(Reason::Memory);
         }
         put_fresh(&mut self.grown, rank);
@@ -395,8 +386,8 @@ impl ChildNodes {
             let _fresh = self.grown.remove(rank);
             return Step::Stuck(reason);
         }
-        let edge = self.edges.at(place).grown();
-        self.edges.set(place, edge);
+        let edge = self.edges.at(index).grown();
+        self.edges.set(index, edge);
         step
     }
 }

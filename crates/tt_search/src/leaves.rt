@@ -6,7 +6,6 @@ ghost use Rattle.tt_search.specs.PartialTree.{expanded, closed};
 ghost use Rattle.tt_search.specs.inside.Children.{children_of};
 ghost use Rattle.tt_search.specs.declared.tree.edges.TheConstants.{TURNS};
 ghost use Rattle.tt_search.specs.inside.Edges.{edge_turn, edge_state_of, tree_of, edge_turns, edge_trees, counted, grown_in};
-ghost use Rattle.tt_game.specs.MoveGenerators.{IsMoveGenerator};
 ghost use Rattle.tt_search.specs.Growing.{leaf_for, expansion};
 ghost use Rattle.tt_search.specs.inside.Expanding.{AreNewEdges};
 ghost use Rattle.tt_search.specs.inside.Choices.{node_with};
@@ -19,11 +18,11 @@ use crate::tree::edge_row::Edges;
 use crate::tree::edges::{Edge, EdgeState};
 use crate::tree::node::{Growth, Node};
 use crate::tree::numbers::{Pair, decided_number};
-use crate::tree::plays::Plays;
+use crate::tree::untried::Plays;
 use arrayvec::ArrayVec;
 use std::alloc::Global;
 use std::sync::Arc;
-use tt_game::{Line, MoveGenerator, Side, Turn};
+use tt_game::{LegalPlays, Line, MOST_LEGAL, Side, Turn};
 use tt_proof::Proof;
 use tt_sgf::NoMemory;
 
@@ -84,42 +83,37 @@ fn new_edge(turn: Turn, winner: Option<Side>) -> Edge
     }
 }
 
-/// The edges of the line's legal turns, to new leaves. Each play is made once.
-fn edges_at(alloc: Global, line: &Line, moves: &MoveGenerator) -> Result<Edges, NoMemory>
-    requires open { winner_of line.now.frame line.now.state ≡ None }
-    requires moves { IsMoveGenerator moves.now line.now.frame line.now.state }
-    ensures { IfOk result (λ edges. AreNewEdges line.now.frame line.now.state edges) }
+/// The edges of the legal turns, to new leaves. Each play is made once.
+fn edges_at(alloc: Global, plays: &mut LegalPlays) -> Result<Edges, NoMemory>
+    requires { plays.old.from ≡ 0 }
+    ensures { IfOk result (λ edges. AreNewEdges plays.old.frame plays.old.state edges) }
 {
-    let mut edges: ArrayVec<Edge, 362> = ArrayVec::new();
-    let mut from = 0;
-    while let Some((p, winner)) = line.next_play(moves, from) {
+    let mut edges: ArrayVec<Edge, MOST_LEGAL> = ArrayVec::new();
+    while let Some((p, winner)) = plays.next() {
         edges.push(new_edge(Turn::Play(p), winner));
-        from = p.number() + 1;
     }
-    edges.push(new_edge(Turn::Pass, line.winner_by_pass()));
+    edges.push(new_edge(Turn::Pass, plays.winner_by_pass()));
     Edges::of(alloc, edges.as_slice())
 }
 
-/// The line's legal plays, where these are many and nobody has won behind any turn.
-fn untried_plays(line: &Line, moves: &MoveGenerator) -> Option<Plays>
-    requires open { winner_of line.now.frame line.now.state ≡ None }
-    requires moves { IsMoveGenerator moves.now line.now.frame line.now.state }
-    ensures edges { IfSome result (λ plays. AreNewEdges line.now.frame line.now.state (plays_and_pass plays)) }
-    ensures untried { IfSome result (λ plays. AreUntried (plays_and_pass plays)) }
+/// The legal plays, where these are many and nobody has won behind any turn.
+fn untried_plays(plays: &mut LegalPlays) -> Option<Plays>
+    requires { plays.old.from ≡ 0 }
+    ensures edges { IfSome result (λ found. AreNewEdges plays.old.frame plays.old.state (plays_and_pass found)) }
+    ensures untried { IfSome result (λ found. AreUntried (plays_and_pass found)) }
+    ensures same { (plays.new.frame ≡ plays.old.frame) × (plays.new.state ≡ plays.old.state) }
 {
-    if !line.has_many() || line.winner_by_pass().is_some() {
+    if !plays.may_be_many() || plays.winner_by_pass().is_some() {
         return None;
     }
-    let mut plays = Plays::new();
-    let mut from = 0;
-    while let Some((p, winner)) = line.next_play(moves, from) {
+    let mut found = Plays::new();
+    while let Some((p, winner)) = plays.next() {
         if winner.is_some() {
             return None;
         }
-        plays.push(p);
-        from = p.number() + 1;
+        found.push(p);
     }
-    Some(plays)
+    Some(found)
 }
 
 /// An expanded node with these plays and a pass, of which no turn has been tried.
@@ -154,7 +148,7 @@ pub(crate) fn untried_children(
     let edges = plays.row(alloc)?;
     let focus = BestChild {
         mover,
-        place: 0,
+        index: 0,
         rank: 0,
     };
     let grown = Vec::with_capacity(alloc, edges.len())?;
@@ -166,10 +160,11 @@ pub(crate) fn expanded_at(alloc: Global, line: &Line) -> Result<Node, NoMemory>
     requires open { winner_of line.now.frame line.now.state ≡ None }
     ensures { IfOk result (λ node. node ≡ expansion line.now.frame line.now.state) }
 {
-    let moves = line.moves();
-    if let Some(plays) = untried_plays(line, &moves) {
-        return Ok(untried_node(line.to_move(), plays));
+    let mut plays = line.legal_plays();
+    if let Some(found) = untried_plays(&mut plays) {
+        return Ok(untried_node(line.to_move(), found));
     }
-    let edges = edges_at(alloc, line, &moves)?;
+    plays.restart();
+    let edges = edges_at(alloc, &mut plays)?;
     Ok(expanded_node(alloc, line.to_move(), edges))
 }

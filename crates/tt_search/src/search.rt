@@ -4,8 +4,8 @@ ghost use Rattle.std.specs.Prelude.{◌≡◌, ◌+◌, ◌^◌, ◌<◌, ◌≤
 ghost use Rattle.tt_search.specs.declared.limits.Step.TheVariants.{Closed};
 ghost use Rattle.tt_search.specs.Numbers.{proof_number, disproof_number, count, IsCapped, IsUndecided};
 ghost use Rattle.tt_search.specs.Growing.{new_leaf, IsGrown};
-ghost use Rattle.tt_search.specs.Searched.{IsProofOf, IsSameProblem, StepOf};
-ghost use Rattle.tt_search.specs.Ended.{EndOf, HasSpent, SpentBy};
+ghost use Rattle.tt_search.specs.Searched.{IsSameProblem, StepOf};
+ghost use Rattle.tt_search.specs.RunEnds.{EndOf, HasSpent, SpentBy, IsProofOf};
 ghost use Rattle.tt_search.specs.Grants.{AskedBy};
 ghost use Rattle.tt_search.specs.inside.Asking.{AreAsked};
 ghost use Rattle.tt_search.specs.inside.Advanced.{IsAdvanced};

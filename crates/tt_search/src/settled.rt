@@ -171,12 +171,12 @@ fn picked(alloc: Global, side: Side, children: &ChildNodes) -> Result<Plan, NoMe
     requires settled { least (numbers side (children_in children.now)) ≡ 0 }
     ensures { IfOk result (λ p. p ≡ pick_at side (first_settled side (children_in children.now)) (edge_turns children.now.edges) (children_in children.now)) }
 {
-    let (place, rank) = children.first_settled(side);
-    if place >= children.edges.len() {
+    let (index, rank) = children.first_settled(side);
+    if index >= children.edges.len() {
         return Ok(Plan::done());
     }
-    let child = children.child(place, rank).plan(alloc, side)?;
-    Plan::pick(alloc, children.edges.at(place).turn(), child)
+    let child = children.child(index, rank).plan(alloc, side)?;
+    Plan::pick(alloc, children.edges.at(index).turn(), child)
 }
 
 /// The strategy that replies to each turn.

@@ -5,4 +5,4 @@ pub(crate) mod edge_row;
 pub(crate) mod edges;
 pub(crate) mod node;
 pub(crate) mod numbers;
-pub(crate) mod plays;
+pub(crate) mod untried;

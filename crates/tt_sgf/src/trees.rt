@@ -45,7 +45,7 @@ fn next_event(alloc: Global, bytes: &[u8]) -> Result<(Event, &[u8]), SgfFault>
 
 /// Where a reader stands in the innermost open tree: right behind its bracket, among its nodes, or behind a sub-tree.
 #[derive(Clone, Copy)]
-enum Place {
+enum InTree {
     Opened,
     Nodes,
     Trees,
@@ -59,7 +59,7 @@ fn tree(alloc: Global, bytes: &[u8]) -> Result<(Vec<Node>, &[u8]), SgfFault>
 {
     let mut nodes = Vec::new(alloc);
     let mut rest = bytes;
-    let mut place = Place::Opened;
+    let mut in_tree = InTree::Opened;
     let mut enclosing = 0usize;
     let mut on_main = true;
     loop {
@@ -67,31 +67,31 @@ fn tree(alloc: Global, bytes: &[u8]) -> Result<(Vec<Node>, &[u8]), SgfFault>
         rest = after;
         match event {
             Event::Open => {
-                if let Place::Opened = place {
+                if let InTree::Opened = in_tree {
                     return Err(SgfFault::Syntax);
                 }
                 enclosing += 1;
-                place = Place::Opened;
+                in_tree = InTree::Opened;
             }
             Event::Close => {
-                if let Place::Opened = place {
+                if let InTree::Opened = in_tree {
                     return Err(SgfFault::Syntax);
                 }
                 if enclosing == 0 {
                     return Ok((nodes, rest));
                 }
                 enclosing -= 1;
-                place = Place::Trees;
+                in_tree = InTree::Trees;
                 on_main = false;
             }
             Event::Item(node) => {
-                if let Place::Trees = place {
+                if let InTree::Trees = in_tree {
                     return Err(SgfFault::Syntax);
                 }
                 if on_main {
                     nodes.push(node)?;
                 }
-                place = Place::Nodes;
+                in_tree = InTree::Nodes;
             }
         }
     }

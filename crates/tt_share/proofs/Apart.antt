@@ -12,7 +12,7 @@ use Rattle.tt_share.specs.declared.workers.HandedBack.{HandedBack}
 use Rattle.tt_share.specs.Answers.{spent_in_all}
 use Rattle.tt_share.specs.inside.Jobs.{kept_of}
 use Rattle.tt_share.specs.inside.Results.{Progress, Puts, Notes}
-use Rattle.tt_share.specs.inside.Workers.{times, spent_on, spent_by_all, held, held_in, AreApart, AddsSpare, jobs_of}
+use Rattle.tt_share.specs.inside.Workers.{times, spent_on, spent_by_all, held, held_in, AreApart, AddsOverdraw, jobs_of}
 use Rattle.tt_share.proofs.ResultLemmas.{get_set_other}
 
 -- ---- how often a job is among results
@@ -37,11 +37,11 @@ none_times job limit (f ∷ found) past all =
     omega (arith, e, other, sum_by-cons (λ (g : SearchedJob). cond (nat_eq g.job job) 1 0) f found)
 
 -- as often at most as the seat drew it
-pub times_drawn : (job jobs : ℕ) (first numbers : List ℕ) (found : List SearchedJob) → AddsSpare jobs (first ++ jobs_of found) numbers → times job found ≤ count_by (λ n. nat_eq n job) numbers
-times_drawn job jobs first numbers found (spare, is, all) =
+pub times_drawn : (job jobs : ℕ) (first numbers : List ℕ) (found : List SearchedJob) → AddsOverdraw jobs (first ++ jobs_of found) numbers → times job found ≤ count_by (λ n. nat_eq n job) numbers
+times_drawn job jobs first numbers found (overdraw, is, all) =
     let weight = λ (n : ℕ). cond (nat_eq n job) 1 0 in
     let sum = ap (sum_by weight) is in
-    omega (arith, sum, times_jobs job found, sum_by-append weight (first ++ jobs_of found) spare, sum_by-append weight first (jobs_of found))
+    omega (arith, sum, times_jobs job found, sum_by-append weight (first ++ jobs_of found) overdraw, sum_by-append weight first (jobs_of found))
 
 -- ---- what is put where there was no result
 

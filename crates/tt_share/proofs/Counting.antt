@@ -9,7 +9,7 @@ use Rattle.tt_search.specs.Grants.{Asked}
 use Rattle.tt_search.specs.Numbers.{count}
 use Rattle.tt_search.specs.Growing.{leaf_for, new_leaf, GrownFrom, IsGrown}
 use Rattle.tt_search.specs.Searched.{Searched}
-use Rattle.tt_search.specs.Ended.{RanTo, EndOf, HasSpent, SpentBy}
+use Rattle.tt_search.specs.RunEnds.{RanTo, EndOf, HasSpent, SpentBy}
 use Rattle.tt_search.specs.declared.limits.Limits.{Limits}
 use Rattle.tt_search.specs.declared.limits.Reason.{Reason}
 use Rattle.tt_search.specs.declared.limits.Reason.TheVariants.{Budget, Depth, Total, Memory}

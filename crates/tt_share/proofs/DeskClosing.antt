@@ -11,8 +11,8 @@ use native.Mathlib.Decide.{dec_lt}
 use lib.ListN.{get_elem?}
 use Rattle.tt_share.specs.declared.desk.rule.Ghost.{Ghost}
 use Rattle.tt_share.specs.declared.desk.rule.Quota.{Quota}
-use Rattle.tt_share.specs.Desk.{view_of, no_seat, joined, sum_below, spare_count, EachSeat, IsDesk}
-use Rattle.tt_share.specs.Seats.{DeskView, SeatView, EachOnce, AllJobsDrawn, EndsSpare, Spends}
+use Rattle.tt_share.specs.Desk.{view_of, no_seat, joined, sum_below, overdraw_count, EachSeat, IsDesk}
+use Rattle.tt_share.specs.Seats.{DeskView, SeatView, EachOnce, AllJobsDrawn, EndsOverdraw, Spends}
 use Rattle.tt_share.specs.inside.Gathering.{Gathers}
 use Rattle.tt_share.proofs.DeskLists.{at_within, at_read, sum_set, sum_at, sum_le}
 use Rattle.tt_share.proofs.DeskMoves.{counts_room, each_set, right_true}
@@ -42,7 +42,7 @@ or_swap false false c e = e
 
 -- what the table's seat of a seat knows
 abbrev pub sat_as : SeatView → Ghost
-sat_as s = view_of 1 s.numbers s.grants s.mark s.sighting
+sat_as s = view_of 1 s.numbers s.grants s.flag s.sighting
 
 -- the view of one seat gathers that seat
 pub gathers_first : (s : SeatView) → Gathers (s ∷ []) (sat_as s)
@@ -50,7 +50,7 @@ gathers_first s = record {
   parts = refl;
   numbers = λ weight. zero-add (sum_by weight s.numbers);
   grants = λ weight. zero-add (sum_by weight s.grants);
-  marks = or_nothing s.mark;
+  marks = or_nothing s.flag;
   sightings = or_nothing s.sighting;
 }
 
@@ -68,7 +68,7 @@ gathers_more s taken v h = record {
       let c = sum_by-cons (λ (t : SeatView). sum_by weight t.grants) s taken in
       let a = sum_by-append weight v.grants s.grants in
       omega arith;
-  marks = or_swap s.mark v.mark (list_any (λ t. t.mark) taken) h.marks;
+  marks = or_swap s.flag v.flag (list_any (λ t. t.flag) taken) h.marks;
   sightings = or_swap s.sighting v.sighting (list_any (λ t. t.sighting) taken) h.sightings;
 }
 
@@ -98,15 +98,15 @@ once_below n zero h = absurd (omega arith)
 once_below n (suc m) h =
     dite (dec_lt n m) (λ lt. let e = once_below n m lt in grind (arith, nat_tests)) (λ ge. let e = never_below n m (omega arith) in grind (arith, nat_tests))
 
--- as many numbers below n are spare as n is above the jobs
+-- as many numbers below n are overdraw as n is above the jobs
 spares_exact : (jobs n : ℕ) → sum_below (λ k. cond (leb jobs k) 1 0) n ≡ n - jobs
 spares_exact jobs zero = omega arith
 spares_exact jobs (suc n) = let e = spares_exact jobs n in grind (arith, nat_tests)
 
--- a list that ends with a spare number has one at least
-ends_spare : (jobs : ℕ) (xs : List ℕ) → 0 < jobs → EndsSpare jobs xs → 1 ≤ spare_count jobs xs
-ends_spare jobs [] job h = absurd (omega arith)
-ends_spare jobs (x ∷ xs) job h =
+-- a list that ends with a overdraw number has one at least
+ends_overdraw : (jobs : ℕ) (xs : List ℕ) → 0 < jobs → EndsOverdraw jobs xs → 1 ≤ overdraw_count jobs xs
+ends_overdraw jobs [] job h = absurd (omega arith)
+ends_overdraw jobs (x ∷ xs) job h =
     let b = get_or-le-sum_by (λ k. cond (leb jobs k) 1 0) (x ∷ xs) (length (x ∷ xs) - 1) 0 (omega arith) in grind (arith, nat_tests)
 
 -- a truth value that weighs 1 is true
@@ -129,16 +129,16 @@ module _ (list : SeatView → List ℕ) (count : ℕ) (seats : List SeatView) (w
     above = λ n le. weights (λ k. cond (nat_eq k n) 1 0) ∙ never_below n count le;
   }
 
-  -- as many of them are spare as the count is above the limit
-  spares : (limit : ℕ) → sum_by (λ s. spare_count limit (list s)) seats ≡ count - limit
+  -- as many of them are overdraw as the count is above the limit
+  spares : (limit : ℕ) → sum_by (λ s. overdraw_count limit (list s)) seats ≡ count - limit
   spares limit = weights (λ k. cond (leb limit k) 1 0) ∙ spares_exact limit count
 
   -- where some list ends with a number that is not below the limit, the count is above it
-  beyond : (limit : ℕ) → 0 < limit → (s : SeatView) → Contains seats s → EndsSpare limit (list s) → limit < count
+  beyond : (limit : ℕ) → 0 < limit → (s : SeatView) → Contains seats s → EndsOverdraw limit (list s) → limit < count
   beyond limit positive s has ends =
-      let spare : SeatView → ℕ = λ t. spare_count limit (list t) in
-      let one : spare s ≤ sum_by spare seats = All-contains (λ t. spare t ≤ sum_by spare seats) seats s (λ k d within. get_or-le-sum_by spare seats k d within) has in
-      let mine : 1 ≤ spare s = ends_spare limit (list s) positive ends in
+      let overdraw : SeatView → ℕ = λ t. overdraw_count limit (list t) in
+      let one : overdraw s ≤ sum_by overdraw seats = All-contains (λ t. overdraw t ≤ sum_by overdraw seats) seats s (λ k d within. get_or-le-sum_by overdraw seats k d within) has in
+      let mine : 1 ≤ overdraw s = ends_overdraw limit (list s) positive ends in
       let all = spares limit in
       omega arith
 
@@ -146,11 +146,11 @@ module _ (list : SeatView → List ℕ) (count : ℕ) (seats : List SeatView) (w
   uses : (limit : ℕ) → 0 < limit → AllJobsDrawn list limit seats
   uses limit positive s has ends number lt = each_once.below number (let b = beyond limit positive s has ends in omega arith)
 
-  -- where each list ends with a spare number, the count is at least the limit and the number of seats, added up
-  all_spare : (limit : ℕ) → 0 < limit → 0 < length seats → All (λ (s : SeatView). EndsSpare limit (list s)) seats → limit + length seats ≤ count
-  all_spare limit positive some_seat all =
-      let least = sum_le (λ _. 1) (λ s. spare_count limit (list s)) seats
-      (λ i s e. ends_spare limit (list s) positive (subst (λ (t : SeatView). EndsSpare limit (list t)) (at_read seats i s s e) (all i s (at_within seats i s e)))) in
+  -- where each list ends with a overdraw number, the count is at least the limit and the number of seats, added up
+  all_overdraw : (limit : ℕ) → 0 < limit → 0 < length seats → All (λ (s : SeatView). EndsOverdraw limit (list s)) seats → limit + length seats ≤ count
+  all_overdraw limit positive some_seat all =
+      let least = sum_le (λ _. 1) (λ s. overdraw_count limit (list s)) seats
+      (λ i s e. ends_overdraw limit (list s) positive (subst (λ (t : SeatView). EndsOverdraw limit (list t)) (at_read seats i s s e) (all i s (at_within seats i s e)))) in
       let number = ones seats in
       let exact = spares limit in
       omega arith
@@ -169,15 +169,15 @@ pub record End (desk : DeskView) (seats : List SeatView) (drawn asked : ℕ) : T
   pub draws : EachOnce (λ s. s.numbers) drawn seats
   pub jobs_drawn : AllJobsDrawn (λ s. s.numbers) desk.jobs seats
   pub draws_most : drawn ≤ desk.jobs + desk.seats
-  pub draws_are : All (λ s. EndsSpare desk.jobs s.numbers) seats → drawn ≡ desk.jobs + desk.seats
-  pub sighted : IsTrue (list_any (λ s. s.sighting) seats) → IsTrue (list_any (λ s. s.mark) seats)
+  pub draws_are : All (λ s. EndsOverdraw desk.jobs s.numbers) seats → drawn ≡ desk.jobs + desk.seats
+  pub sighted : IsTrue (list_any (λ s. s.sighting) seats) → IsTrue (list_any (λ s. s.flag) seats)
   pub grants : (total : ℕ) → 0 < total → Spends total (min asked total) seats
 
 -- where one view gathers all seats and has every part, they show what seats of a closed desk show
-pub closes : (desk : DeskView) (plan : Quota) (drawn mark asked : ℕ) (views : List Ghost) (id : ℕ) (v : Ghost) (seats : List SeatView) → plan.jobs ≡ desk.jobs → plan.seats ≡ desk.seats
+pub closes : (desk : DeskView) (plan : Quota) (drawn flag asked : ℕ) (views : List Ghost) (id : ℕ) (v : Ghost) (seats : List SeatView) → plan.jobs ≡ desk.jobs → plan.seats ≡ desk.seats
     → length seats ≡ desk.seats
-    → 0 < desk.jobs → 0 < desk.seats → Gathers seats v → IsDesk plan drawn mark asked views → get_elem? views id ≡ some v → End desk seats drawn asked
-closes desk plan drawn mark asked views id v seats same_jobs same_seats len some_job some_seat g h at =
+    → 0 < desk.jobs → 0 < desk.seats → Gathers seats v → IsDesk plan drawn flag asked views → get_elem? views id ≡ some v → End desk seats drawn asked
+closes desk plan drawn flag asked views id v seats same_jobs same_seats len some_job some_seat g h at =
     let all_parts : sum_by (λ u. u.parts) views ≡ v.parts = let p = h.parts in let q = g.parts in omega arith in
     let numbers : (weight : ℕ → ℕ) → sum_by (λ (s : SeatView). sum_by weight s.numbers) seats ≡ sum_below weight drawn = λ weight.
     g.numbers weight ∙ (sym (alone (λ u. sum_by weight u.numbers) views id v at all_parts refl h.spent) ∙ h.draws.each_once weight) in
@@ -187,16 +187,16 @@ closes desk plan drawn mark asked views id v seats same_jobs same_seats len some
       jobs_drawn = uses (λ s. s.numbers) drawn seats numbers desk.jobs some_job;
       draws_most = let most = counts_room (λ u. u.numbers) plan.jobs drawn views h.draws in omega arith;
       draws_are = λ all.
-          let least = all_spare (λ s. s.numbers) drawn seats numbers desk.jobs some_job (omega arith) all in
+          let least = all_overdraw (λ s. s.numbers) drawn seats numbers desk.jobs some_job (omega arith) all in
           let most = counts_room (λ u. u.numbers) plan.jobs drawn views h.draws in
           omega arith;
       sighted = λ saw.
-          let is : mark ≡ 1 = h.marked.known id v at (right_true v.mark v.sighting (sym g.sightings ∙ saw)) in
+          let is : flag ≡ 1 = h.marked.known id v at (right_true v.flag v.sighting (sym g.sightings ∙ saw)) in
           let has = h.marked.raised is in
-          let bit : Ghost → ℕ = λ u. cond u.mark 1 0 in
+          let bit : Ghost → ℕ = λ u. cond u.flag 1 0 in
           let one = sum_at bit views has.0 has.1 has.2 in
           let its_bit : bit has.1 ≡ 1 = ap (λ (b : Bool). cond b 1 0) has.3 in
-          g.marks ∙ is_set v.mark (let e = alone bit views id v at all_parts refl h.spent in omega arith);
+          g.marks ∙ is_set v.flag (let e = alone bit views id v at all_parts refl h.spent in omega arith);
       grants = λ total positive. spends total asked seats positive grants;
     }
 

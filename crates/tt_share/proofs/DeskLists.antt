@@ -13,7 +13,7 @@ use Rattle.tt_share.specs.Desk.{sum_below}
 use Rattle.tt_share.specs.Seats.{last_number}
 
 module _ {A : Type 0} where
-  -- the place of an element is within the list
+  -- the slot of an element is within the list
   pub at_within : (l : List A) (i : ℕ) (a : A) → get_elem? l i ≡ some a → i < length l
   at_within [] i a e = absurd (some-ne-none a (sym e))
   at_within (x ∷ xs) zero a e = omega arith
@@ -46,9 +46,9 @@ module _ {A : Type 0} where
       omega (arith, sum_by-cons f x xs, sum_by-cons g x xs)
 
 -- at most `jobs` of the numbers below n are below `jobs`
-pub spare_below : (jobs n : ℕ) → n ≤ sum_below (λ k. cond (leb jobs k) 1 0) n + jobs
-spare_below jobs zero = zero-le
-spare_below jobs (suc n) = let h = spare_below jobs n in grind (arith, nat_tests)
+pub overdraw_below : (jobs n : ℕ) → n ≤ sum_below (λ k. cond (leb jobs k) 1 0) n + jobs
+overdraw_below jobs zero = zero-le
+overdraw_below jobs (suc n) = let h = overdraw_below jobs n in grind (arith, nat_tests)
 
 -- no number below n is n or more
 pub none_below : (n m : ℕ) → m ≤ n → sum_below (λ k. cond (leb n k) 1 0) m ≡ 0
@@ -79,7 +79,7 @@ no_spares xs n up last = none_counted xs n (λ k lt.
     (λ e. subst (λ j. get_or xs j 0 < n) (sym e) last)
     (λ ne. let b = below_from_sorted xs k (length xs - 1) 0 (sorted_from_strictly_increasing xs up) (omega arith) (omega arith) in omega arith))
 
--- a rising list has at each place no less than the place
+-- a rising list has at each slot no less than the slot
 rising_at_least : (xs : List ℕ) (k : ℕ) → IsStrictlyIncreasing xs → k < length xs → k ≤ get_or xs k 0
 rising_at_least xs zero up h = zero-le
 rising_at_least xs (suc k) up h =

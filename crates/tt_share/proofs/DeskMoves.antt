@@ -12,10 +12,10 @@ use Rattle.atomic_table.proofs.Lists.{at_set, at_snoc, set_here, set_else, at_lo
 use Rattle.atomic_table.specs.Table.{keeps, Allows, Splits, Joins}
 use Rattle.tt_share.specs.declared.desk.rule.Ghost.{Ghost}
 use Rattle.tt_share.specs.declared.desk.rule.Quota.{Quota}
-use Rattle.tt_share.specs.Desk.{blank, one_seat, no_seat, fewer, joined, with_draw, with_grant, with_mark, with_sighting, spare_count, EachSeat, SomeSeat, Counts, IsMark, IsDesk}
+use Rattle.tt_share.specs.Desk.{blank, one_seat, no_seat, fewer, joined, with_draw, with_grant, with_flag, with_sighting, overdraw_count, EachSeat, SomeSeat, Counts, IsMark, IsDesk}
 use Rattle.tt_share.specs.Desk.{DeskHolds, SeatState, IsNext, Draws, Grants, Raises, Looks}
 use Rattle.tt_share.specs.Seats.{last_number}
-use Rattle.tt_share.proofs.DeskLists.{at_within, sum_set, sum_at, sum_le, spare_below, none_below, below_by_weight, rising_push, rising_short, no_spares}
+use Rattle.tt_share.proofs.DeskLists.{at_within, sum_set, sum_at, sum_le, overdraw_below, none_below, below_by_weight, rising_push, rising_short, no_spares}
 
 -- what holds at the view that changed and held at each view holds at each
 pub each_set : (P : Ghost → Type 0) (views : List Ghost) (id : ℕ) (w : Ghost) → P w → EachSeat P views → EachSeat P (set views id w)
@@ -43,9 +43,9 @@ module _ (numbers : Ghost → List ℕ) (limit : ℕ) where
   -- the count is at most the limit and the parts of all views
   pub counts_room : (count : ℕ) (views : List Ghost) → Counts numbers limit count views → count ≤ limit + sum_by (λ v. v.parts) views
   counts_room count views h =
-      let spares = sum_le (λ v. spare_count limit (numbers v)) (λ v. v.parts) views h.spares in
+      let spares = sum_le (λ v. overdraw_count limit (numbers v)) (λ v. v.parts) views h.spares in
       let all = h.each_once (λ n. cond (leb limit n) 1 0) in
-      omega (arith, spare_below limit count)
+      omega (arith, overdraw_below limit count)
 
   -- each number in a view is below the count
   pub counts_below : (count : ℕ) (views : List Ghost) (id : ℕ) (v : Ghost) → Counts numbers limit count views → get_elem? views id ≡ some v → (k : ℕ) → k < length (numbers v)
@@ -65,8 +65,8 @@ module _ (numbers : Ghost → List ℕ) (limit : ℕ) where
         let s = sum_set (λ u. sum_by weight (numbers u)) views id v w at in
         let e = ap (sum_by weight) same in
         let was = h.each_once weight in omega arith;
-    spares = each_set (λ u. spare_count limit (numbers u) ≤ u.parts) views id w
-        (let was = h.spares id v at in let e = ap (spare_count limit) same in omega arith) h.spares;
+    spares = each_set (λ u. overdraw_count limit (numbers u) ≤ u.parts) views id w
+        (let was = h.spares id v at in let e = ap (overdraw_count limit) same in omega arith) h.spares;
     rising = each_set (λ u. u.parts ≡ 1 → IsStrictlyIncreasing (numbers u)) views id w
         (λ one. subst IsStrictlyIncreasing (sym same) (h.rising id v at (sym parts ∙ one))) h.rising;
   }
@@ -81,10 +81,10 @@ module _ (numbers : Ghost → List ℕ) (limit : ℕ) where
             let e = ap (sum_by weight) is in
             let p = sum_by_push weight (numbers v) count in
             let was = h.each_once weight in grind arith;
-        spares = each_set (λ u. spare_count limit (numbers u) ≤ u.parts) views id w
-            (let none_spare = no_spares (numbers v) limit up within in
+        spares = each_set (λ u. overdraw_count limit (numbers u) ≤ u.parts) views id w
+            (let none_overdraw = no_spares (numbers v) limit up within in
             let p = sum_by_push (λ n. cond (leb limit n) 1 0) (numbers v) count in
-            let e = ap (spare_count limit) is in grind (arith, nat_tests)) h.spares;
+            let e = ap (overdraw_count limit) is in grind (arith, nat_tests)) h.spares;
         rising = each_set (λ u. u.parts ≡ 1 → IsStrictlyIncreasing (numbers u)) views id w
             (λ _. subst IsStrictlyIncreasing (sym is) (rising_push (numbers v) count up (counts_below count views id v h at))) h.rising;
       }
@@ -100,9 +100,9 @@ module _ (numbers : Ghost → List ℕ) (limit : ℕ) where
         let b = ap (sum_by weight) w_none in
         let c = ap (sum_by weight) new_none in
         let was = h.each_once weight in omega arith;
-    spares = each_cut (λ u. spare_count limit (numbers u) ≤ u.parts) views id w new
-        (subst (λ (l : List ℕ). spare_count limit l ≤ w.parts) (sym w_none) zero-le)
-        (subst (λ (l : List ℕ). spare_count limit l ≤ new.parts) (sym new_none) zero-le) h.spares;
+    spares = each_cut (λ u. overdraw_count limit (numbers u) ≤ u.parts) views id w new
+        (subst (λ (l : List ℕ). overdraw_count limit l ≤ w.parts) (sym w_none) zero-le)
+        (subst (λ (l : List ℕ). overdraw_count limit l ≤ new.parts) (sym new_none) zero-le) h.spares;
     rising = each_cut (λ u. u.parts ≡ 1 → IsStrictlyIncreasing (numbers u)) views id w new
         (λ _. subst IsStrictlyIncreasing (sym w_none) no_rise) (λ _. subst IsStrictlyIncreasing (sym new_none) no_rise) h.rising;
   }
@@ -120,11 +120,11 @@ module _ (numbers : Ghost → List ℕ) (limit : ℕ) where
         let e = ap (sum_by weight) is in
         let z = ap (sum_by weight) none_left in
         let old = h.each_once weight in omega arith;
-    spares = each_set (λ u. spare_count limit (numbers u) ≤ u.parts) (set views id both) other left
-        (subst (λ (l : List ℕ). spare_count limit l ≤ left.parts) (sym none_left) zero-le)
-        (each_set (λ u. spare_count limit (numbers u) ≤ u.parts) views id both
+    spares = each_set (λ u. overdraw_count limit (numbers u) ≤ u.parts) (set views id both) other left
+        (subst (λ (l : List ℕ). overdraw_count limit l ≤ left.parts) (sym none_left) zero-le)
+        (each_set (λ u. overdraw_count limit (numbers u) ≤ u.parts) views id both
         (let p = sum_by-append (λ n. cond (leb limit n) 1 0) (numbers v) (numbers w) in
-        let e = ap (spare_count limit) is in
+        let e = ap (overdraw_count limit) is in
         let a = h.spares id v at in
         let b = h.spares other w was in omega arith) h.spares);
     rising = each_set (λ u. u.parts ≡ 1 → IsStrictlyIncreasing (numbers u)) (set views id both) other left
@@ -136,16 +136,16 @@ module _ (numbers : Ghost → List ℕ) (limit : ℕ) where
 parts_same : (views : List Ghost) (id : ℕ) (v w : Ghost) → get_elem? views id ≡ some v → w.parts ≡ v.parts → sum_by (λ u. u.parts) (set views id w) ≡ sum_by (λ u. u.parts) views
 parts_same views id v w at same = let s = sum_set (λ u. u.parts) views id v w at in omega arith
 
--- where a view of one part takes a view's place, views with no part still hold nothing
+-- where a view of one part takes a view's slot, views with no part still hold nothing
 spent_same : (views : List Ghost) (id : ℕ) (w : Ghost) → w.parts ≡ 1 → EachSeat (λ u. u.parts ≡ 0 → u ≡ no_seat) views → EachSeat (λ u. u.parts ≡ 0 → u ≡ no_seat) (set views id w)
 spent_same views id w one spent = each_set (λ u. u.parts ≡ 0 → u ≡ no_seat) views id w (λ e. absurd (omega arith)) spent
 
--- where a view changes and keeps its mark and its sighting, what the mark says stays so
-mark_kept : (mark : ℕ) (views : List Ghost) (id : ℕ) (v w : Ghost) → get_elem? views id ≡ some v → w.mark ≡ v.mark → w.sighting ≡ v.sighting → IsMark mark views → IsMark mark (set views id w)
-mark_kept mark views id v w at same_mark same_sighting h = record {
+-- where a view changes and keeps its flag and its sighting, what the flag says stays so
+flag_kept : (flag : ℕ) (views : List Ghost) (id : ℕ) (v w : Ghost) → get_elem? views id ≡ some v → w.flag ≡ v.flag → w.sighting ≡ v.sighting → IsMark flag views → IsMark flag (set views id w)
+flag_kept flag views id v w at same_flag same_sighting h = record {
   bit = h.bit;
-  raised = λ is. some_set (λ u. u.mark ≡ true) views id v w at (λ p. same_mark ∙ p) (h.raised is);
-  known = each_set (λ u. (u.mark || u.sighting) ≡ true → mark ≡ 1) views id w (λ p. h.known id v at (sym (λ k. same_mark k || same_sighting k) ∙ p)) h.known;
+  raised = λ is. some_set (λ u. u.flag ≡ true) views id v w at (λ p. same_flag ∙ p) (h.raised is);
+  known = each_set (λ u. (u.flag || u.sighting) ≡ true → flag ≡ 1) views id w (λ p. h.known id v at (sym (λ k. same_flag k || same_sighting k) ∙ p)) h.known;
 }
 
 -- the number after a draw does not wrap
@@ -172,7 +172,7 @@ draws plan slots id me small empty one job s h homes at fits =
       parts = parts_same s.views id v w at refl ∙ h.4.parts;
       spent = spent_same s.views id w one h.4.spent;
       draws = counts_add (λ u. u.numbers) plan.jobs h.0 s.views id v w h.4.draws at one job refl one;
-      marked = mark_kept h.1 s.views id v w at refl refl h.4.marked;
+      marked = flag_kept h.1 s.views id v w at refl refl h.4.marked;
       grants = counts_same (λ u. u.grants) plan.total h.2 s.views id v w h.4.grants at refl refl;
     } in (
       with_draw v (slice_index s.words 0),
@@ -195,7 +195,7 @@ grants plan slots id me small empty one left s h homes at fits =
       parts = parts_same s.views id v w at refl ∙ h.4.parts;
       spent = spent_same s.views id w one h.4.spent;
       draws = counts_same (λ u. u.numbers) plan.jobs h.0 s.views id v w h.4.draws at refl refl;
-      marked = mark_kept h.1 s.views id v w at refl refl h.4.marked;
+      marked = flag_kept h.1 s.views id v w at refl refl h.4.marked;
       grants = counts_add (λ u. u.grants) plan.total h.2 s.views id v w h.4.grants at one left refl one;
     } in (
       with_grant v (slice_index s.words 2),
@@ -205,11 +205,11 @@ grants plan slots id me small empty one left s h homes at fits =
       (refl, subst (λ (n : ℕ). IsNext v.grants n) (sym here) (next_one (λ u. u.grants) plan.total h.2 s.views id v h.4.grants at one)),
     )
 
--- raising the mark keeps the rule
+-- raising the flag keeps the rule
 pub raises : (plan : Quota) (slots id : ℕ) (me : SeatState) → me.1 ≡ [] → me.0.parts ≡ 1 → Allows (DeskHolds plan) slots id me 1 (λ n. max n 1) (λ _ after. Raises me after)
 raises plan slots id me empty one s h homes at fits =
     let v : Ghost = me.0 in
-    let w : Ghost = with_mark v in
+    let w : Ghost = with_flag v in
     let here : slice_index s.words 1 ≡ h.1 = ap (λ (l : List ℕ). slice_index l 1) h.3 in
     let next : max (slice_index s.words 1) 1 ≡ 1 = let b = h.4.marked.bit in omega arith in (
       w,
@@ -241,23 +241,23 @@ seen_now true b c φ p old new = old refl
 seen_now false true c φ p old new = old refl
 seen_now false false c φ p old new = new p
 
--- a view that looks at the mark leaves a desk a desk
-desk_looks : (plan : Quota) (drawn mark asked : ℕ) (views : List Ghost) (id : ℕ) (v : Ghost) → IsDesk plan drawn mark asked views → get_elem? views id ≡ some v → v.parts ≡ 1
-    → IsDesk plan drawn mark asked (set views id (with_sighting v (nat_eq mark 1)))
-desk_looks plan drawn mark asked views id v h at one = let w : Ghost = with_sighting v (nat_eq mark 1) in record {
+-- a view that looks at the flag leaves a desk a desk
+desk_looks : (plan : Quota) (drawn flag asked : ℕ) (views : List Ghost) (id : ℕ) (v : Ghost) → IsDesk plan drawn flag asked views → get_elem? views id ≡ some v → v.parts ≡ 1
+    → IsDesk plan drawn flag asked (set views id (with_sighting v (nat_eq flag 1)))
+desk_looks plan drawn flag asked views id v h at one = let w : Ghost = with_sighting v (nat_eq flag 1) in record {
   parts = parts_same views id v w at refl ∙ h.parts;
   spent = spent_same views id w one h.spent;
   draws = counts_same (λ u. u.numbers) plan.jobs drawn views id v w h.draws at refl refl;
   marked = record {
     bit = h.marked.bit;
-    raised = λ is. some_set (λ u. u.mark ≡ true) views id v w at (λ p. p) (h.marked.raised is);
-    known = each_set (λ u. (u.mark || u.sighting) ≡ true → mark ≡ 1) views id w
-        (λ p. seen_now v.mark v.sighting (nat_eq mark 1) (mark ≡ 1) p (h.marked.known id v at) (λ e. grind (arith, nat_tests))) h.marked.known;
+    raised = λ is. some_set (λ u. u.flag ≡ true) views id v w at (λ p. p) (h.marked.raised is);
+    known = each_set (λ u. (u.flag || u.sighting) ≡ true → flag ≡ 1) views id w
+        (λ p. seen_now v.flag v.sighting (nat_eq flag 1) (flag ≡ 1) p (h.marked.known id v at) (λ e. grind (arith, nat_tests))) h.marked.known;
   };
   grants = counts_same (λ u. u.grants) plan.total asked views id v w h.grants at refl refl;
 }
 
--- looking at the mark keeps the rule
+-- looking at the flag keeps the rule
 pub looks : (plan : Quota) (slots id : ℕ) (me : SeatState) → me.1 ≡ [] → me.0.parts ≡ 1 → Allows (DeskHolds plan) slots id me 1 (λ n. n) (λ n after. Looks me n after)
 looks plan slots id me empty one s h homes at fits =
     let v : Ghost = me.0 in
@@ -276,9 +276,9 @@ looks plan slots id me empty one s h homes at fits =
     )
 
 -- one part of a view that has made no step becomes a seat of its own
-desk_cuts : (plan : Quota) (drawn mark asked : ℕ) (views : List Ghost) (id parts more : ℕ) → more ≡ parts + 1 → IsDesk plan drawn mark asked views → get_elem? views id ≡ some (blank more)
-    → IsDesk plan drawn mark asked (set views id (blank parts) ++ one_seat ∷ [])
-desk_cuts plan drawn mark asked views id parts more is_more h at =
+desk_cuts : (plan : Quota) (drawn flag asked : ℕ) (views : List Ghost) (id parts more : ℕ) → more ≡ parts + 1 → IsDesk plan drawn flag asked views → get_elem? views id ≡ some (blank more)
+    → IsDesk plan drawn flag asked (set views id (blank parts) ++ one_seat ∷ [])
+desk_cuts plan drawn flag asked views id parts more is_more h at =
     let v : Ghost = blank more in
     let w : Ghost = blank parts in record {
       parts =
@@ -289,9 +289,9 @@ desk_cuts plan drawn mark asked views id parts more is_more h at =
       draws = counts_cut (λ u. u.numbers) plan.jobs drawn views id v w one_seat h.draws at refl refl refl;
       marked = record {
         bit = h.marked.bit;
-        raised = λ is. let has = some_set (λ u. u.mark ≡ true) views id v w at (λ p. p) (h.marked.raised is) in
+        raised = λ is. let has = some_set (λ u. u.flag ≡ true) views id v w at (λ p. p) (h.marked.raised is) in
             (has.0, has.1, at_longer (set views id w) (one_seat ∷ []) has.0 has.1 has.2, has.3);
-        known = each_cut (λ u. (u.mark || u.sighting) ≡ true → mark ≡ 1) views id w one_seat (λ p. absurd (true≢false (sym p))) (λ p. absurd (true≢false (sym p))) h.marked.known;
+        known = each_cut (λ u. (u.flag || u.sighting) ≡ true → flag ≡ 1) views id w one_seat (λ p. absurd (true≢false (sym p))) (λ p. absurd (true≢false (sym p))) h.marked.known;
       };
       grants = counts_cut (λ u. u.grants) plan.total asked views id v w one_seat h.grants at refl refl refl;
     }
@@ -316,9 +316,9 @@ right_true true b e = refl
 right_true false b e = e
 
 -- two views that are joined leave a desk a desk
-desk_joins : (plan : Quota) (drawn mark asked : ℕ) (views : List Ghost) (id : ℕ) (v : Ghost) (other : ℕ) (w : Ghost) → IsDesk plan drawn mark asked views → get_elem? views id ≡ some v
-    → ¬ (other ≡ id) → get_elem? (set views id (joined v w)) other ≡ some w → 0 < v.parts → 0 < w.parts → IsDesk plan drawn mark asked (set (set views id (joined v w)) other no_seat)
-desk_joins plan drawn mark asked views id v other w h at two at' some_v some_w =
+desk_joins : (plan : Quota) (drawn flag asked : ℕ) (views : List Ghost) (id : ℕ) (v : Ghost) (other : ℕ) (w : Ghost) → IsDesk plan drawn flag asked views → get_elem? views id ≡ some v
+    → ¬ (other ≡ id) → get_elem? (set views id (joined v w)) other ≡ some w → 0 < v.parts → 0 < w.parts → IsDesk plan drawn flag asked (set (set views id (joined v w)) other no_seat)
+desk_joins plan drawn flag asked views id v other w h at two at' some_v some_w =
     let both : Ghost = joined v w in
     let mid : List Ghost = set views id both in
     let was : get_elem? views other ≡ some w = sym (set_else views id other both two) ∙ at' in
@@ -336,14 +336,14 @@ desk_joins plan drawn mark asked views id v other w h at two at' some_v some_w =
         bit = h.marked.bit;
         raised = λ is. let has = h.marked.raised is in
             dite (ℕ_discrete has.0 other)
-            (λ e. (id, both, keep_both, right_true v.mark w.mark (subst (λ (u : Ghost). u.mark ≡ true) (some-injective has.1 w (sym has.2 ∙ ap (get_elem? views) e ∙ was)) has.3)))
+            (λ e. (id, both, keep_both, right_true v.flag w.flag (subst (λ (u : Ghost). u.flag ≡ true) (some-injective has.1 w (sym has.2 ∙ ap (get_elem? views) e ∙ was)) has.3)))
             (λ ne. dite (ℕ_discrete has.0 id)
-            (λ e. (id, both, keep_both, left_true v.mark w.mark (subst (λ (u : Ghost). u.mark ≡ true) (some-injective has.1 v (sym has.2 ∙ ap (get_elem? views) e ∙ at)) has.3)))
+            (λ e. (id, both, keep_both, left_true v.flag w.flag (subst (λ (u : Ghost). u.flag ≡ true) (some-injective has.1 v (sym has.2 ∙ ap (get_elem? views) e ∙ at)) has.3)))
             (λ ne'. (has.0, has.1, set_else mid other has.0 no_seat ne ∙ (set_else views id has.0 both ne' ∙ has.2), has.3)));
-        known = all (λ u. (u.mark || u.sighting) ≡ true → mark ≡ 1)
-            (λ p. or_true (v.mark || w.mark) (v.sighting || w.sighting) (mark ≡ 1) p
-            (λ q. or_true v.mark w.mark (mark ≡ 1) q (λ r. h.marked.known id v at (left_true v.mark v.sighting r)) (λ r. h.marked.known other w was (left_true w.mark w.sighting r)))
-            (λ q. or_true v.sighting w.sighting (mark ≡ 1) q (λ r. h.marked.known id v at (right_true v.mark v.sighting r)) (λ r. h.marked.known other w was (right_true w.mark w.sighting r))))
+        known = all (λ u. (u.flag || u.sighting) ≡ true → flag ≡ 1)
+            (λ p. or_true (v.flag || w.flag) (v.sighting || w.sighting) (flag ≡ 1) p
+            (λ q. or_true v.flag w.flag (flag ≡ 1) q (λ r. h.marked.known id v at (left_true v.flag v.sighting r)) (λ r. h.marked.known other w was (left_true w.flag w.sighting r)))
+            (λ q. or_true v.sighting w.sighting (flag ≡ 1) q (λ r. h.marked.known id v at (right_true v.flag v.sighting r)) (λ r. h.marked.known other w was (right_true w.flag w.sighting r))))
             (λ p. absurd (true≢false (sym p))) h.marked.known;
       };
       grants = counts_join (λ u. u.grants) plan.total asked views id v other w both no_seat h.grants at was at' refl refl refl some_v some_w;

@@ -3,7 +3,7 @@ use Rattle.std.proofs.Common.{◌≡◌, ℕ, Bool, List, [], ◌∷◌, ◌++�
 use Rattle.std.proofs.lemmas.List.{map-append}
 use Rattle.atomic_table.specs.Seated.{TableId}
 use Rattle.tt_share.specs.Seats.{SeatView, seat_of}
-use Rattle.tt_share.specs.inside.Workers.{AddsSpare, jobs_of}
+use Rattle.tt_share.specs.inside.Workers.{AddsOverdraw, jobs_of}
 use Rattle.tt_share.specs.declared.jobs.SearchedJob.{SearchedJob}
 
 -- one more result of a job that was drawn
@@ -14,8 +14,9 @@ drawn_more first old drawn new found more f was is same all =
     same ∙ (is ∙ (ap (λ ns. ns ++ f.job ∷ []) was ∙ (append_assoc first (jobs_of found) (f.job ∷ []) ∙ ap (λ ns. first ++ ns) (sym jobs))))
 
 -- and at the end numbers that are no jobs
-pub drawn_all : (jobs : ℕ) (first old new : List ℕ) (found more : List SearchedJob) → old ≡ first ++ jobs_of found → more ≡ found → AddsSpare jobs old new → AddsSpare jobs (first ++ jobs_of more) new
-drawn_all jobs first old new found more was same spare = (spare.0, spare.1 ∙ ap (λ ns. ns ++ spare.0) (was ∙ ap (λ fs. first ++ jobs_of fs) (sym same)), spare.2)
+pub drawn_all : (jobs : ℕ) (first old new : List ℕ) (found more : List SearchedJob) → old ≡ first ++ jobs_of found
+    → more ≡ found → AddsOverdraw jobs old new → AddsOverdraw jobs (first ++ jobs_of more) new
+drawn_all jobs first old new found more was same overdraw = (overdraw.0, overdraw.1 ∙ ap (λ ns. ns ++ overdraw.0) (was ∙ ap (λ fs. first ++ jobs_of fs) (sym same)), overdraw.2)
 
-pub numbers_of : (s : SeatView) (desk : TableId) (numbers grants : List ℕ) (mark sighting : Bool) → s ≡ seat_of desk numbers grants mark sighting → s.numbers ≡ numbers
-numbers_of s desk numbers grants mark sighting is = ap (λ (t : SeatView). t.numbers) is
+pub numbers_of : (s : SeatView) (desk : TableId) (numbers grants : List ℕ) (flag sighting : Bool) → s ≡ seat_of desk numbers grants flag sighting → s.numbers ≡ numbers
+numbers_of s desk numbers grants flag sighting is = ap (λ (t : SeatView). t.numbers) is

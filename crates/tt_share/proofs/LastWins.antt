@@ -1,4 +1,4 @@
--- One more result of a worker, whose mark was down before.
+-- One more result of a worker, whose flag was down before.
 use Rattle.std.proofs.Common.{◌≡◌, ℕ, zero, suc, ◌⊎◌, ◌↔◌, inl, inr, Bool, true, false, ◌||◌, IsTrue, List, [], ◌∷◌, ◌++◌, Option, Some, None, slice_get, length, length-append}
 use Rattle.std.proofs.Common.{refl, ap, subst, sym, ◌∙◌, arith}
 use Rattle.std.proofs.lemmas.Option.{slice_get_within}
@@ -20,16 +20,16 @@ not_none o x is none = cc
 pub pushed : (xs ys zs : List SearchedJob) (f : SearchedJob) → zs ≡ ys ++ f ∷ [] → ys ≡ xs → zs ≡ xs ++ f ∷ []
 pushed xs ys zs f is same = is ∙ ap (λ (l : List SearchedJob). l ++ f ∷ []) same
 
--- where the mark was down, it is raised exactly by a win
-pub marked : (mark before won : Bool) → mark ≡ (before || won) → (IsTrue before → ⊥) → IsTrue mark ↔ IsTrue won
-marked mark true won is down = absurd (down refl)
-marked mark false won is down = (λ up. sym is ∙ up, λ up. is ∙ up)
+-- where the flag was down, it is raised exactly by a win
+pub marked : (flag before won : Bool) → flag ≡ (before || won) → (IsTrue before → ⊥) → IsTrue flag ↔ IsTrue won
+marked flag true won is down = absurd (down refl)
+marked flag false won is down = (λ up. sym is ∙ up, λ up. is ∙ up)
 
 pub marks_again : (before after : Bool) → after ≡ before → IsTrue before → IsTrue after
 marks_again before after same up = same ∙ up
 
-pub mark_of : (s : SeatView) (desk : TableId) (numbers grants : List ℕ) (mark sighting : Bool) → s ≡ seat_of desk numbers grants mark sighting → s.mark ≡ mark
-mark_of s desk numbers grants mark sighting is = ap (λ (t : SeatView). t.mark) is
+pub flag_of : (s : SeatView) (desk : TableId) (numbers grants : List ℕ) (flag sighting : Bool) → s ≡ seat_of desk numbers grants flag sighting → s.flag ≡ flag
+flag_of s desk numbers grants flag sighting is = ap (λ (t : SeatView). t.flag) is
 
 -- what is read of a longer list was there, or is the last
 pub read_more : {X : Type 0} (xs : List X) (x : X) (i : ℕ) (y : X) → slice_get (xs ++ x ∷ []) i ≡ Some y → (slice_get xs i ≡ Some y) ⊎ ((i ≡ length xs) × (x ≡ y))
@@ -41,15 +41,15 @@ read_more (z ∷ zs) x (suc i) y is = elim (read_more zs x i y is) [
   | inr h ↦ inr (ap suc h.0, h.1)
 ]
 
--- with one more result a win is still the last one, where the mark was down and a win raises it
-pub wins_more : (side : Side) (mark more : Bool) (found : List SearchedJob) (f : SearchedJob) → (IsTrue mark → ⊥) → (IsWinFor side f.end → IsTrue more) → WinsAreLast side mark found
+-- with one more result a win is still the last one, where the flag was down and a win raises it
+pub wins_more : (side : Side) (flag more : Bool) (found : List SearchedJob) (f : SearchedJob) → (IsTrue flag → ⊥) → (IsWinFor side f.end → IsTrue more) → WinsAreLast side flag found
     → WinsAreLast side more (found ++ f ∷ [])
-wins_more side mark more found f down raised was i g is win = elim (read_more found f i g is) [
+wins_more side flag more found f down raised was i g is win = elim (read_more found f i g is) [
   | inl h ↦ absurd (down (was i g h win).1)
   | inr h ↦ (let at = h.0 in omega (arith, at, length-append found (f ∷ [])), raised (subst (λ (x : SearchedJob). IsWinFor side x.end) (sym h.1) win))
 ]
 
--- one more stands at the place of the old length
+-- one more stands at the slot of the old length
 last_there : {X : Type 0} (xs : List X) (x : X) → slice_get (xs ++ x ∷ []) (length xs) ≡ Some x
 last_there [] x = refl
 last_there (y ∷ ys) x = last_there ys x

@@ -2,7 +2,7 @@ pub mod DeskLists
 pub mod DeskMoves
 pub mod DeskClosing
 pub mod PlainDesk
-pub mod PlaceLemmas
+pub mod SlotLemmas
 pub mod Newest
 pub mod Tokens
 pub mod Lost

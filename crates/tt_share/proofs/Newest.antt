@@ -1,4 +1,4 @@
--- The newest proof of a key for a side, found from the last place of the key down.
+-- The newest proof of a key for a side, found from the last slot of the key down.
 use Rattle.std.proofs.Math.Nat.{zero-add}
 use Rattle.std.proofs.Common.{◌≡◌, ℕ, zero, suc, ◌+◌, ◌-◌, ◌<◌, ◌≤◌, Bool, true, false, cond, List, [], ◌∷◌, ◌++◌, Option, Some, None, slice_get, get_or, length, reverse, map, inl}
 use Rattle.std.proofs.Common.{inr, refl, sym, ap, subst, ◌∙◌, arith}
@@ -14,11 +14,11 @@ use Rattle.tt_game.specs.Line.{Standing}
 use Rattle.tt_proof.specs.Proven.{Proven}
 use Rattle.tt_search.specs.Stores.{AnswersFor, IsNewest}
 use Rattle.tt_game.specs.SameKey.{same_key}
-use Rattle.tt_share.specs.Table.{places_from, places_of}
+use Rattle.tt_share.specs.Table.{slots_from, slots_of}
 use Rattle.tt_game.specs.laws.KeyLaws.{same_key_is}
-use Rattle.tt_share.proofs.PlaceLemmas.{place_low}
+use Rattle.tt_share.proofs.SlotLemmas.{slot_low}
 
--- ---- the newest proof, by its place in the list
+-- ---- the newest proof, by its slot in the list
 
 some_none : {X : Type 0} (x : X) → Some x ≡ None → ⊥
 some_none x e = cc
@@ -64,77 +64,77 @@ last_newest line side (q ∷ ps) (suc i) p at is later =
     let front = last_newest line side ps i p at is (λ j r more there for. later (suc j) r (omega (arith, more)) there for) in
     subst (λ l. IsNewest line side l (Some p)) (sym (reverse-append (q ∷ []) ps)) (more_before line side (reverse ps) (q ∷ []) p front)
 
--- ---- the places of what passes a test
+-- ---- the slots of what passes a test
 
 -- the number stands in the list
 abbrev Stands : ℕ → List ℕ → Type 0
-Stands n places = (j : ℕ) × (j < length places) × (get_or places j 0 ≡ n)
+Stands n slots = (j : ℕ) × (j < length slots) × (get_or slots j 0 ≡ n)
 
--- what passes the test at the first place has its place
-here : (b : Bool) (n : ℕ) (places : List ℕ) → b ≡ true → Stands (n + 0) (cond b (n ∷ places) places)
-here true n places e = (0, omega arith, omega arith)
-here false n places e = absurd (false≢true e)
+-- what passes the test at the first slot has its slot
+here : (b : Bool) (n : ℕ) (slots : List ℕ) → b ≡ true → Stands (n + 0) (cond b (n ∷ slots) slots)
+here true n slots e = (0, omega arith, omega arith)
+here false n slots e = absurd (false≢true e)
 
--- what has its place behind the first one has it among all
-later : (b : Bool) (n i : ℕ) (places : List ℕ) → Stands (n + 1 + i) places → Stands (n + suc i) (cond b (n ∷ places) places)
-later true n i places h = (suc h.0, omega (arith, h.1), h.2 ∙ omega arith)
-later false n i places h = (h.0, h.1, h.2 ∙ omega arith)
+-- what has its slot behind the first one has it among all
+later : (b : Bool) (n i : ℕ) (slots : List ℕ) → Stands (n + 1 + i) slots → Stands (n + suc i) (cond b (n ∷ slots) slots)
+later true n i slots h = (suc h.0, omega (arith, h.1), h.2 ∙ omega arith)
+later false n i slots h = (h.0, h.1, h.2 ∙ omega arith)
 
--- what passes the test has its place
-placed : {X : Type 0} (t : X → Bool) (n : ℕ) (xs : List X) (x : X) (i : ℕ) → slice_get xs i ≡ Some x → t x ≡ true → Stands (n + i) (places_from t n xs)
+-- what passes the test has its slot
+placed : {X : Type 0} (t : X → Bool) (n : ℕ) (xs : List X) (x : X) (i : ℕ) → slice_get xs i ≡ Some x → t x ≡ true → Stands (n + i) (slots_from t n xs)
 placed t n [] x i at is = absurd (some_none x (sym at))
-placed t n (y ∷ ys) x zero at is = let same : x ≡ y = cc in here (t y) n (places_from t (n + 1) ys) (subst (λ z. t z ≡ true) same is)
-placed t n (y ∷ ys) x (suc i) at is = later (t y) n i (places_from t (n + 1) ys) (placed t (n + 1) ys x i at is)
+placed t n (y ∷ ys) x zero at is = let same : x ≡ y = cc in here (t y) n (slots_from t (n + 1) ys) (subst (λ z. t z ≡ true) same is)
+placed t n (y ∷ ys) x (suc i) at is = later (t y) n i (slots_from t (n + 1) ys) (placed t (n + 1) ys x i at is)
 
--- places rise with the first one in front or without it
-rise_step : (b : Bool) (n : ℕ) (places : List ℕ) (j k : ℕ) → ((l : ℕ) → l < length places → n + 1 ≤ get_or places l 0)
-    → ((l m : ℕ) → l ≤ m → m < length places → get_or places l 0 ≤ get_or places m 0)
-    → j ≤ k → k < length (cond b (n ∷ places) places) → get_or (cond b (n ∷ places) places) j 0 ≤ get_or (cond b (n ∷ places) places) k 0
-rise_step true n places zero zero low rest le h = omega arith
-rise_step true n places zero (suc k) low rest le h = let e = low k (omega (arith, h)) in omega (arith, e)
-rise_step true n places (suc j) zero low rest le h = absurd (omega (arith, le))
-rise_step true n places (suc j) (suc k) low rest le h = rest j k (omega (arith, le)) (omega (arith, h))
-rise_step false n places j k low rest le h = rest j k le h
+-- slots rise with the first one in front or without it
+rise_step : (b : Bool) (n : ℕ) (slots : List ℕ) (j k : ℕ) → ((l : ℕ) → l < length slots → n + 1 ≤ get_or slots l 0)
+    → ((l m : ℕ) → l ≤ m → m < length slots → get_or slots l 0 ≤ get_or slots m 0)
+    → j ≤ k → k < length (cond b (n ∷ slots) slots) → get_or (cond b (n ∷ slots) slots) j 0 ≤ get_or (cond b (n ∷ slots) slots) k 0
+rise_step true n slots zero zero low rest le h = omega arith
+rise_step true n slots zero (suc k) low rest le h = let e = low k (omega (arith, h)) in omega (arith, e)
+rise_step true n slots (suc j) zero low rest le h = absurd (omega (arith, le))
+rise_step true n slots (suc j) (suc k) low rest le h = rest j k (omega (arith, le)) (omega (arith, h))
+rise_step false n slots j k low rest le h = rest j k le h
 
--- places rise
-rise : {X : Type 0} (t : X → Bool) (n : ℕ) (xs : List X) (j k : ℕ) → j ≤ k → k < length (places_from t n xs) → get_or (places_from t n xs) j 0 ≤ get_or (places_from t n xs) k 0
+-- slots rise
+rise : {X : Type 0} (t : X → Bool) (n : ℕ) (xs : List X) (j k : ℕ) → j ≤ k → k < length (slots_from t n xs) → get_or (slots_from t n xs) j 0 ≤ get_or (slots_from t n xs) k 0
 rise t n [] j k le h = absurd (omega (arith, h))
-rise t n (y ∷ ys) j k le h = rise_step (t y) n (places_from t (n + 1) ys) j k (place_low t (n + 1) ys) (rise t (n + 1) ys) le h
+rise t n (y ∷ ys) j k le h = rise_step (t y) n (slots_from t (n + 1) ys) j k (slot_low t (n + 1) ys) (rise t (n + 1) ys) le h
 
--- ---- from the last place of the key down
+-- ---- from the last slot of the key down
 
--- each proof of the key for the side stands at one of the first so many places
+-- each proof of the key for the side stands at one of the first so many slots
 abbrev pub AmongFirst : Standing → Side → List Proven → List ℕ → ℕ → Type 0
-AmongFirst line side ps places left = (i : ℕ) (p : Proven) → slice_get ps i ≡ Some p → AnswersFor line side p → (j : ℕ) × (j < left) × (get_or places j 0 ≡ i)
+AmongFirst line side ps slots left = (i : ℕ) (p : Proven) → slice_get ps i ≡ Some p → AnswersFor line side p → (j : ℕ) × (j < left) × (get_or slots j 0 ≡ i)
 
--- each of them stands at one of the key's places
-pub among_all : (line : Standing) (side : Side) (ps : List Proven) (places : List ℕ) → places ≡ places_of (key_of line.frame line.state) ps → AmongFirst line side ps places (length places)
-among_all line side ps places are i p at is =
+-- each of them stands at one of the key's slots
+pub among_all : (line : Standing) (side : Side) (ps : List Proven) (slots : List ℕ) → slots ≡ slots_of (key_of line.frame line.state) ps → AmongFirst line side ps slots (length slots)
+among_all line side ps slots are i p at is =
     let all =
     placed (λ (d : Proven). same_key (key_of line.frame line.state) (key_of d.frame d.state)) 0 ps p i at
     (same_key_is (key_of line.frame line.state) (key_of p.frame p.state) (sym is.same_key)) in
     subst (λ (l : List ℕ). (j : ℕ) × (j < length l) × (get_or l j 0 ≡ i)) (sym are) (all.0, all.1, all.2 ∙ zero-add i)
 
--- where the value at a place is p, what stands there has the value p
+-- where the value at a slot is p, what stands there has the value p
 read_value : {A : Type 0} (value : A → Proven) (xs : List A) (i : ℕ) (o : Option A) (p : Proven) → slice_get xs i ≡ o → option_map value o ≡ Some p → (x : A)
     × (slice_get xs i ≡ Some x) × (value x ≡ p)
 read_value value xs i None p e is = absurd (some_none p (sym is))
 read_value value xs i (Some x) p e is = (x, e, cc is)
 
--- where the last of these places has no such proof, they stand at those before it
-pub among_fewer : {A : Type 0} (value : A → Proven) (line : Standing) (side : Side) (xs : List A) (ps : List Proven) (places : List ℕ) (left : ℕ) → map value xs ≡ ps
-    → ((x : A) → slice_get xs (get_or places (left - 1) 0) ≡ Some x → (value x).side ≡ side → ⊥) → AmongFirst line side ps places left → AmongFirst line side ps places (left - 1)
-among_fewer value line side xs ps places left all other among i p at is =
+-- where the last of these slots has no such proof, they stand at those before it
+pub among_fewer : {A : Type 0} (value : A → Proven) (line : Standing) (side : Side) (xs : List A) (ps : List Proven) (slots : List ℕ) (left : ℕ) → map value xs ≡ ps
+    → ((x : A) → slice_get xs (get_or slots (left - 1) 0) ≡ Some x → (value x).side ≡ side → ⊥) → AmongFirst line side ps slots left → AmongFirst line side ps slots (left - 1)
+among_fewer value line side xs ps slots left all other among i p at is =
     let first = among i p at is in
     dite (dec_lt first.0 (left - 1)) (λ lt. (first.0, lt, first.2))
     (λ ge. let h = first.1 in
     let last : first.0 ≡ left - 1 = omega (arith, h, ge) in
     let there : slice_get (map value xs) i ≡ Some p = subst (λ l. slice_get l i ≡ Some p) (sym all) at in
     let read = read_value value xs i (slice_get xs i) p refl (sym (slice_get-map value xs i) ∙ there) in
-    let place : i ≡ get_or places (left - 1) 0 = sym first.2 ∙ ap (λ j. get_or places j 0) last in
-    absurd (other read.0 (subst (λ j. slice_get xs j ≡ Some read.0) place read.1) (ap (λ (q : Proven). q.side) read.2 ∙ is.for_side)))
+    let slot : i ≡ get_or slots (left - 1) 0 = sym first.2 ∙ ap (λ j. get_or slots j 0) last in
+    absurd (other read.0 (subst (λ j. slice_get xs j ≡ Some read.0) slot read.1) (ap (λ (q : Proven). q.side) read.2 ∙ is.for_side)))
 
--- what is read at a place is for the side that what stands there is for
+-- what is read at a slot is for the side that what stands there is for
 pub read_side : {A : Type 0} (value : A → Proven) (xs : List A) (i : ℕ) (x y : A) (side : Side) → i < length xs → x ≡ get_or xs i x → slice_get xs i ≡ Some y
     → (value y).side ≡ side → (value x).side ≡ side
 read_side value xs i x y side inside is at for =
@@ -142,21 +142,21 @@ read_side value xs i x y side inside is at for =
     let same : x ≡ y = cc in
     ap (λ z. (value z).side) same ∙ for
 
--- where none of the places is left, there is no newest proof
-pub none_is_newest : (line : Standing) (side : Side) (ps : List Proven) (places : List ℕ) (left : ℕ) → left ≡ 0 → AmongFirst line side ps places left → IsNewest line side (reverse ps) None
-none_is_newest line side ps places left done among =
+-- where none of the slots is left, there is no newest proof
+pub none_is_newest : (line : Standing) (side : Side) (ps : List Proven) (slots : List ℕ) (left : ℕ) → left ≡ 0 → AmongFirst line side ps slots left → IsNewest line side (reverse ps) None
+none_is_newest line side ps slots left done among =
     none_newest line side ps (λ i p at is. let first = among i p at is in let h = first.1 in absurd (omega (arith, h, done)))
 
--- a proof for the side at the last of the places that are left is the newest one
-pub found_is_newest : {A : Type 0} (value : A → Proven) (line : Standing) (side : Side) (xs : List A) (ps : List Proven) (x : A) (places : List ℕ) (left : ℕ)
-    → map value xs ≡ ps → places ≡ places_of (key_of line.frame line.state) ps
-    → left - 1 < length places → get_or places (left - 1) 0 < length xs → x ≡ get_or xs (get_or places (left - 1) 0) x → AnswersFor line side (value x) → AmongFirst line side ps places left
+-- a proof for the side at the last of the slots that are left is the newest one
+pub found_is_newest : {A : Type 0} (value : A → Proven) (line : Standing) (side : Side) (xs : List A) (ps : List Proven) (x : A) (slots : List ℕ) (left : ℕ)
+    → map value xs ≡ ps → slots ≡ slots_of (key_of line.frame line.state) ps
+    → left - 1 < length slots → get_or slots (left - 1) 0 < length xs → x ≡ get_or xs (get_or slots (left - 1) 0) x → AnswersFor line side (value x) → AmongFirst line side ps slots left
     → IsNewest line side (reverse ps) (Some (value x))
-found_is_newest value line side xs ps x places left all are h inside is answers among =
-    let place = get_or places (left - 1) 0 in
-    let at : slice_get xs place ≡ Some x = slice_get_read xs (length xs) place x refl inside is in
-    let there : slice_get ps place ≡ Some (value x) = subst (λ l. slice_get l place ≡ Some (value x)) all (slice_get-map value xs place ∙ ap (option_map value) at) in
-    last_newest line side ps place (value x) there answers
+found_is_newest value line side xs ps x slots left all are h inside is answers among =
+    let slot = get_or slots (left - 1) 0 in
+    let at : slice_get xs slot ≡ Some x = slice_get_read xs (length xs) slot x refl inside is in
+    let there : slice_get ps slot ≡ Some (value x) = subst (λ l. slice_get l slot ≡ Some (value x)) all (slice_get-map value xs slot ∙ ap (option_map value) at) in
+    last_newest line side ps slot (value x) there answers
     (λ j q more at_j for.
     let first = among j q at_j for in
     let lt = first.1 in

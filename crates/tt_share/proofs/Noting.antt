@@ -22,7 +22,7 @@ use Rattle.tt_share.specs.inside.Jobs.{IsCounted, IsForTotal, IsJobCount, IsJob,
 use Rattle.tt_share.specs.inside.Results.{Progress, AreNoted, HasEnd, FilledBelow, IsAllSpent}
 use Rattle.tt_share.proofs.ResultLemmas.{get_set_same, get_set_other}
 
--- what stands at a place stands there as its image
+-- what stands at a slot stands there as its image
 map_at : {A B : Type 0} (f : A → B) (xs : List A) (i : ℕ) (x : A) → slice_get xs i ≡ Some x → slice_get (map f xs) i ≡ Some (f x)
 map_at f xs i x is = slice_get-map f xs i ∙ ap (option_map f) is
 

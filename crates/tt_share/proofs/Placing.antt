@@ -1,4 +1,4 @@
--- Results that are put at their places.
+-- Results that are put at their slots.
 use Rattle.std.proofs.Common.{◌≡◌, ◌≢◌, ℕ, zero, suc, ◌<◌, inl, inr, List, [], ◌∷◌, ◌++◌, All, Option, Some, None, slice_get, slice_set, get_or, length, refl, sym, ap, subst, ◌∙◌, arith, append_assoc}
 use Rattle.std.proofs.lemmas.Option.{same_Some, none-some}
 use Rattle.tt_game.specs.Line.{Standing}
@@ -33,7 +33,7 @@ same_asked P old new same h =
 pub same_twice : (a b c : Progress) → b ≡ record a { ends = b.ends; spent = b.spent } → c ≡ record b { ends = c.ends; spent = c.spent } → c ≡ record a { ends = c.ends; spent = c.spent }
 same_twice a b c first second = second ∙ ap (λ (p : Progress). record p { ends = c.ends; spent = c.spent }) first
 
--- a place within the list is there
+-- a slot within the list is there
 none_past : {X : Type 0} (xs : List X) (i : ℕ) → i < length xs → slice_get xs i ≡ None → ⊥
 none_past [] i low is = absurd (omega (arith, low))
 none_past (x ∷ xs) zero low is = none-some x (sym is)
@@ -58,17 +58,17 @@ keeps_at old new f (Some (Some had)) is puts job end at = subst (λ l. HasEnd l 
 pub keeps : (old new : List (Option JobResult)) (f : SearchedJob) → Puts old new f → KeepsEnds old new
 keeps old new f puts = keeps_at old new f (slice_get old f.job) refl puts
 
--- and the result stands at its place, or the one that stood there
-places_at : (old new : List (Option JobResult)) (f : SearchedJob) (o : Option (Option JobResult)) → slice_get old f.job ≡ o → Puts old new f → IsPlaced new f
-places_at old new f None is puts low = absurd (none_past old f.job (let e = puts.len in omega (arith, low, e)) is)
-places_at old new f (Some None) is puts low =
+-- and the result stands at its slot, or the one that stood there
+slots_at : (old new : List (Option JobResult)) (f : SearchedJob) (o : Option (Option JobResult)) → slice_get old f.job ≡ o → Puts old new f → IsPlaced new f
+slots_at old new f None is puts low = absurd (none_past old f.job (let e = puts.len in omega (arith, low, e)) is)
+slots_at old new f (Some None) is puts low =
     let p = puts.put is in
     (kept_of p.0 f.end, ap (λ l. slice_get l f.job) p.2 ∙ get_set_same old f.job (Some (kept_of p.0 f.end)) None is)
-places_at old new f (Some (Some had)) is puts low = (had, ap (λ l. slice_get l f.job) (puts.dropped (λ e. not_free had (sym is ∙ e))) ∙ is)
+slots_at old new f (Some (Some had)) is puts low = (had, ap (λ l. slice_get l f.job) (puts.dropped (λ e. not_free had (sym is ∙ e))) ∙ is)
 
 -- putting a result leaves its job with one
-pub places : (old new : List (Option JobResult)) (f : SearchedJob) → Puts old new f → IsPlaced new f
-places old new f puts = places_at old new f (slice_get old f.job) refl puts
+pub slots : (old new : List (Option JobResult)) (f : SearchedJob) → Puts old new f → IsPlaced new f
+slots old new f puts = slots_at old new f (slice_get old f.job) refl puts
 
 -- what is kept twice is kept
 pub keeps_twice : (a b c : List (Option JobResult)) → KeepsEnds a b → KeepsEnds b c → KeepsEnds a c
@@ -95,7 +95,7 @@ all_more P x xs this all (suc k) d short = all k d (omega (arith, short))
 pub taken_more : {X : Type 0} (all left less taken : List X) (x : X) → all ≡ left ++ taken → left ≡ less ++ x ∷ [] → all ≡ less ++ x ∷ taken
 taken_more all left less taken x was is = was ∙ (ap (λ l. l ++ taken) is ∙ append_assoc less (x ∷ []) taken)
 
--- what stands between two lists has the length of the first one as its place
+-- what stands between two lists has the length of the first one as its slot
 there_at : {X : Type 0} (less more : List X) (x : X) → slice_get (less ++ x ∷ more) (length less) ≡ Some x
 there_at [] more x = refl
 there_at (y ∷ less) more x = there_at less more x
@@ -129,7 +129,7 @@ given_at first old new all i f (Some None) there is puts was = λ job end at. (
       ]
     ])
 
--- the same, whatever stood at its place
+-- the same, whatever stood at its slot
 pub given_more : (first old new : List (Option JobResult)) (all : List SearchedJob) (i : ℕ) (f : SearchedJob) → slice_get all i ≡ Some f → Puts old new f → AreGiven first old all → AreGiven first new all
 given_more first old new all i f there puts was = given_at first old new all i f (slice_get old f.job) there refl puts was
 

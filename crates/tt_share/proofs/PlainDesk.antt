@@ -6,13 +6,13 @@ use mathlib.Core.Logic.{dite}
 use native.Mathlib.Decide.{dec_lt}
 use Rattle.tt_share.specs.declared.desk.rule.Ghost.{Ghost}
 use Rattle.tt_share.specs.declared.desk.rule.Quota.{Quota}
-use Rattle.tt_share.specs.Desk.{spare_count, Counts, IsMark, IsDesk}
+use Rattle.tt_share.specs.Desk.{overdraw_count, Counts, IsMark, IsDesk}
 use Rattle.tt_share.specs.DeskLaw.{IsCount, IsStop, IsDeskState, DeskLaw}
 use Rattle.tt_share.proofs.DeskMoves.{left_true, right_true}
 use Rattle.tt_share.proofs.DeskClosing.{ones, ones_below, never_below, once_below, sum_same}
 
--- two spare numbers, one behind the other, are two
-two_spares : (limit : ℕ) (xs : List ℕ) (k : ℕ) → k + 1 < length xs → limit ≤ get_or xs k 0 → limit ≤ get_or xs (k + 1) 0 → 2 ≤ spare_count limit xs
+-- two overdraw numbers, one behind the other, are two
+two_spares : (limit : ℕ) (xs : List ℕ) (k : ℕ) → k + 1 < length xs → limit ≤ get_or xs k 0 → limit ≤ get_or xs (k + 1) 0 → 2 ≤ overdraw_count limit xs
 two_spares limit [] k h one two = absurd (omega arith)
 two_spares limit (x ∷ xs) zero h one two =
     let c = sum_by-cons (λ n. cond (leb limit n) 1 0) x xs in
@@ -29,7 +29,7 @@ count_law list limit word views h = record {
   below = λ n lt. h.each_once (λ k. cond (nat_eq k n) 1 0) ∙ once_below n word lt;
   above = λ n le. h.each_once (λ k. cond (nat_eq k n) 1 0) ∙ never_below n word le;
   rising = h.rising;
-  one_spare = λ seat v at one k lt.
+  one_overdraw = λ seat v at one k lt.
       dite (dec_lt (get_or (list v) k 0) limit) (λ p. p)
       (λ ge. let up = h.rising seat v at one k lt in
       let two = two_spares limit (list v) k lt (omega arith) (omega arith) in
@@ -37,23 +37,23 @@ count_law list limit word views h = record {
   spares = h.spares;
 }
 
--- what the mark says in plain words
+-- what the flag says in plain words
 stop_law : (word : ℕ) (views : List Ghost) → IsMark word views → IsStop word views
 stop_law word views h = record {
   bit = dite (dec_lt word 1) (λ lt. inl (omega arith)) (λ ge. let b = h.bit in inr (omega arith));
   raised = h.raised;
-  mark = λ seat v at is. h.known seat v at (left_true v.mark v.sighting is);
-  sighting = λ seat v at is. h.known seat v at (right_true v.mark v.sighting is);
+  flag = λ seat v at is. h.known seat v at (left_true v.flag v.sighting is);
+  sighting = λ seat v at is. h.known seat v at (right_true v.flag v.sighting is);
 }
 
 -- what a desk says in plain words
-state_law : (plan : Quota) (drawn mark asked : ℕ) (views : List Ghost) → IsDesk plan drawn mark asked views → IsDeskState plan (drawn ∷ mark ∷ asked ∷ []) views
-state_law plan drawn mark asked views h = record {
+state_law : (plan : Quota) (drawn flag asked : ℕ) (views : List Ghost) → IsDesk plan drawn flag asked views → IsDeskState plan (drawn ∷ flag ∷ asked ∷ []) views
+state_law plan drawn flag asked views h = record {
   three_words = refl;
   parts = h.parts;
   spent = h.spent;
   draws = count_law (λ v. v.numbers) plan.jobs drawn views h.draws;
-  stop = stop_law mark views h.marked;
+  stop = stop_law flag views h.marked;
   grants = count_law (λ v. v.grants) plan.total asked views h.grants;
 }
 

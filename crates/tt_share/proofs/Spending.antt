@@ -19,7 +19,7 @@ use Rattle.tt_share.specs.declared.workers.HandedBack.{HandedBack}
 use Rattle.tt_share.specs.Answers.{spent_in_all}
 use Rattle.tt_share.specs.inside.Jobs.{IsForTotal, end_of}
 use Rattle.tt_share.specs.inside.Results.{Progress, HasTotal, IsAllSpent, SpendsTotal, AskedFor}
-use Rattle.tt_share.specs.Seats.{DeskView, SeatView, EndsSpare, EachOnce, Spends, Closes, granted_of, last_number, occurrences}
+use Rattle.tt_share.specs.Seats.{DeskView, SeatView, EndsOverdraw, EachOnce, Spends, Closes, granted_of, last_number, occurrences}
 use Rattle.tt_share.specs.inside.Tallies.{Tallies}
 use Rattle.tt_share.specs.inside.Workers.{times, spent_on, spent_by_all, held, held_in, AllApart, AllGiven, SomeTotal, IsWork}
 use Rattle.tt_share.proofs.Apart.{none_times, held_most}
@@ -53,7 +53,7 @@ some_weighs {A} f (y ∷ ys) more = dite (ℕ_discrete (f y) 0)
     (h.0, (suc h.1.0, omega (arith, low), h.1.2), h.2)))
     (λ some_here. (y, (0, omega arith, refl), omega (arith, some_here)))
 
--- one value again and again is read at each place
+-- one value again and again is read at each slot
 blank_at : {X : Type 0} (x : X) (n i : ℕ) → i < n → slice_get (replicate n x) i ≡ Some x
 blank_at x zero i low = absurd (omega (arith, low))
 blank_at x (suc n) zero low = refl
@@ -70,14 +70,14 @@ nothing {A} (x ∷ xs) = let e = nothing xs in omega (arith, e, sum_by-cons (λ 
 abbrev refusal : ℕ → SeatView → ℕ
 refusal total s = cond (leb total (last_number s.grants)) 1 0
 
-refused_weighs : (total : ℕ) (s : SeatView) → EndsSpare total s.grants → refusal total s ≡ 1
+refused_weighs : (total : ℕ) (s : SeatView) → EndsOverdraw total s.grants → refusal total s ≡ 1
 refused_weighs total s e = grind (arith, nat_tests, e)
 
-weighs_refused : (total : ℕ) (s : SeatView) → 0 < refusal total s → EndsSpare total s.grants
+weighs_refused : (total : ℕ) (s : SeatView) → 0 < refusal total s → EndsOverdraw total s.grants
 weighs_refused total s e = grind (arith, nat_tests, e)
 
 -- a count that says that one was refused says so of a total
-pub refused_total : (total : Option ℕ) (grants : List ℕ) (count : ℕ) (refused : Bool) → Tallies total grants count refused → refused ≡ true → (n : ℕ) × (total ≡ Some n) × EndsSpare n grants
+pub refused_total : (total : Option ℕ) (grants : List ℕ) (count : ℕ) (refused : Bool) → Tallies total grants count refused → refused ≡ true → (n : ℕ) × (total ≡ Some n) × EndsOverdraw n grants
 refused_total None grants count refused h up = absurd (true≢false (sym up ∙ h.0 refl))
 refused_total (Some n) grants count refused h up = (n, refl, (h.1 n refl).1 up)
 
@@ -136,11 +136,11 @@ module _ (line : Standing) (limits : Limits) (desk : DeskView) (closed : Closed)
       omega (arith, less, more, backs weight)
 
   -- a worker's seat that was refused is among the seats
-  refused_there : (i : ℕ) (b : HandedBack) (total : ℕ) → slice_get work i ≡ Some b → EndsSpare total b.seat.grants → (s : SeatView) × Contains (seats ++ own ∷ []) s × EndsSpare total s.grants
-  refused_there i b total at spare =
+  refused_there : (i : ℕ) (b : HandedBack) (total : ℕ) → slice_get work i ≡ Some b → EndsOverdraw total b.seat.grants → (s : SeatView) × Contains (seats ++ own ∷ []) s × EndsOverdraw total s.grants
+  refused_there i b total at overdraw =
       let one = weighs (λ (c : HandedBack). refusal total c.seat) work i b at in
       let some_seat = some_weighs (refusal total) (seats ++ own ∷ [])
-      (omega (arith, one, refused_weighs total b.seat spare, backs (refusal total), sum_by_push (refusal total) seats own)) in
+      (omega (arith, one, refused_weighs total b.seat overdraw, backs (refusal total), sum_by_push (refusal total) seats own)) in
       (some_seat.0, some_seat.1, weighs_refused total some_seat.0 some_seat.2)
 
   module _ (first mid last : Progress) (before : Asked) (count : ℕ) (refused : Bool) (none : before.granted ≡ 0) (blank : first.ends ≡ replicate desk.jobs None)
@@ -148,7 +148,7 @@ module _ (line : Standing) (limits : Limits) (desk : DeskView) (closed : Closed)
       (gathered : AllApart first.ends work → spent_in_all mid.spent ≡ spent_in_all first.spent + spent_by_all work) (given : AllGiven first.ends mid.ends work)
       (asked : AskedFor mid before last (record { granted = count; refused = refused })) (tally : Tallies desk.total own.grants count refused) where
     -- some seat was refused where a job is stuck for the total
-    some_refused : HasTotal last.ends → (total : ℕ) × (desk.total ≡ Some total) × ((s : SeatView) × Contains (seats ++ own ∷ []) s × EndsSpare total s.grants)
+    some_refused : HasTotal last.ends → (total : ℕ) × (desk.total ≡ Some total) × ((s : SeatView) × Contains (seats ++ own ∷ []) s × EndsOverdraw total s.grants)
     some_refused h = elim (asked.refused h) [
       | inr up ↦ let t = refused_total desk.total own.grants count refused tally up in (t.0, t.1, (own, Contains-push seats own, t.2))
       | inl was ↦ elim (given was.0 was.1 was.2) [

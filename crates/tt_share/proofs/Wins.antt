@@ -31,13 +31,13 @@ below_more P i below this k low = elim (cases_lt k i) [
 pub no_win_more : (side : Side) (ends : List (Option JobResult)) (i : ℕ) → ((k : ℕ) → k < i → ¬ IsWinAt side ends k) → ¬ IsWinAt side ends i → (k : ℕ) → k < i + 1 → ¬ IsWinAt side ends k
 no_win_more side ends i = below_more (λ k. ¬ IsWinAt side ends k) i
 
--- a win is in what is read at its place
+-- a win is in what is read at its slot
 pub win_in : (side : Side) (ends : List (Option JobResult)) (i : ℕ) (slot : Option JobResult) → i < length ends → slot ≡ get_or ends i slot → IsWinAt side ends i → IsWinIn side slot
 win_in side ends i slot within read win =
     let here : slice_get ends i ≡ Some slot = slice_get_read ends (length ends) i slot refl within read in
     subst (IsWinIn side) (same_Some (Some win.0) slot (sym win.1 ∙ here)) win.2
 
--- a stuck search is in what is read at its place
+-- a stuck search is in what is read at its slot
 pub stuck_in : (ends : List (Option JobResult)) (i : ℕ) (slot : Option JobResult) → i < length ends → slot ≡ get_or ends i slot → IsStuckAt ends i → IsStuckIn slot
 stuck_in ends i slot within read stuck =
     let here : slice_get ends i ≡ Some slot = slice_get_read ends (length ends) i slot refl within read in
@@ -67,7 +67,7 @@ won_more ends i slot within read won below =
     let here : slice_get ends i ≡ Some slot = slice_get_read ends (length ends) i slot refl within read in
     below_more (λ k. (end : JobResult) → HasEnd ends k end → HasWon end) i below (λ end at. subst HasWonIn (same_Some slot (Some end) (sym here ∙ at)) won)
 
--- so do all proofs, once each place was read
+-- so do all proofs, once each slot was read
 pub all_won : (ends : List (Option JobResult)) → ((k : ℕ) → k < length ends → (end : JobResult) → HasEnd ends k end → HasWon end) → AllWon ends
 all_won ends won job end at = won job (slice_get_within ends job (Some end) at) end at
 
@@ -173,7 +173,7 @@ none_at side a ends xs is_side is_list none = subst (λ s. NoWin s ends) is_side
 pub least_at : (side a : Side) (ends xs : List (Option JobResult)) (job : ℕ) → a ≡ side → xs ≡ ends → IsLeastWin a xs job → IsLeastWin side ends job
 least_at side a ends xs job is_side is_list least = subst (λ s. IsLeastWin s ends job) is_side (subst (λ (l : List (Option JobResult)). IsLeastWin a l job) is_list least)
 
--- the turn that is read at a place is the job's
+-- the turn that is read at a slot is the job's
 pub job_here : (line : Standing) (turns : List Turn) (i n : ℕ) (t : Turn) → turns ≡ legal_turns line.frame line.state → n ≡ i → i < length turns → t ≡ get_or turns i t → IsJob line n t
 job_here line turns i n t all same within read =
     let here : slice_get turns i ≡ Some t = slice_get_read turns (length turns) i t refl within read in
@@ -201,11 +201,11 @@ lost_side side ends i end p none is here = other_side p.side side (λ same. none
 pub win_within : (side : Side) (ends : List (Option JobResult)) (i : ℕ) → IsWinAt side ends i → i < length ends
 win_within side ends i win = slice_get_within ends i (Some win.0) win.1
 
--- what fits a job's place is how the search behind its turn ends
+-- what fits a job's slot is how the search behind its turn ends
 pub ends_here : (line : Standing) (limits : Limits) (i : ℕ) (t : Turn) (end : JobResult) (is : End) → end_of end ≡ is → IsResultOf line limits i end → IsJob line i t → EndsBehind line limits t is
 ends_here line limits i t end is same fits job = subst (EndsBehind line limits t) same (fits t job)
 
--- a win stood there before, where its place is as it was
+-- a win stood there before, where its slot is as it was
 pub win_kept : (side : Side) (old new : List (Option JobResult)) (k : ℕ) → slice_get new k ≡ slice_get old k → IsWinAt side new k → IsWinAt side old k
 win_kept side old new k same win = (win.0, sym same ∙ win.1, win.2)
 

@@ -1,4 +1,4 @@
--- The rule of a desk. Word 0 counts the draws, word 1 is the mark that stops them, and word 2 counts the asks for a grant.
+-- The rule of a desk. Word 0 counts the draws, word 1 is the flag that stops them, and word 2 counts the asks for a grant.
 use Rattle.std.specs.Prelude.{◌≡◌, ℕ, zero, suc, ◌+◌, ◌-◌, ◌≤◌, Bool, true, false, ◌||◌, leb, nat_eq, List, [], ◌∷◌, ◌++◌, length, sum_by, count_by}
 use Rattle.std.specs.List.Sorted.{IsStrictlyIncreasing}
 use mathlib.Core.Option.{some}
@@ -8,7 +8,7 @@ use Rattle.tt_share.specs.declared.desk.rule.Ghost.{Ghost}
 use Rattle.tt_share.specs.declared.desk.rule.Quota.{Quota}
 
 abbrev pub view_of : ℕ → List ℕ → List ℕ → Bool → Bool → Ghost
-view_of parts numbers grants mark sighting = record { parts = parts; numbers = numbers; grants = grants; mark = mark; sighting = sighting }
+view_of parts numbers grants flag sighting = record { parts = parts; numbers = numbers; grants = grants; flag = flag; sighting = sighting }
 
 -- a view that has made no step
 abbrev pub blank : ℕ → Ghost
@@ -27,31 +27,31 @@ abbrev pub no_seat : Ghost
 no_seat = blank 0
 
 abbrev pub fewer : Ghost → Ghost
-fewer v = view_of (v.parts - 1) v.numbers v.grants v.mark v.sighting
+fewer v = view_of (v.parts - 1) v.numbers v.grants v.flag v.sighting
 
 abbrev pub joined : Ghost → Ghost → Ghost
-joined v w = view_of (v.parts + w.parts) (v.numbers ++ w.numbers) (v.grants ++ w.grants) (v.mark || w.mark) (v.sighting || w.sighting)
+joined v w = view_of (v.parts + w.parts) (v.numbers ++ w.numbers) (v.grants ++ w.grants) (v.flag || w.flag) (v.sighting || w.sighting)
 
 abbrev pub with_draw : Ghost → ℕ → Ghost
-with_draw v n = view_of v.parts (v.numbers ++ n ∷ []) v.grants v.mark v.sighting
+with_draw v n = view_of v.parts (v.numbers ++ n ∷ []) v.grants v.flag v.sighting
 
 abbrev pub with_grant : Ghost → ℕ → Ghost
-with_grant v n = view_of v.parts v.numbers (v.grants ++ n ∷ []) v.mark v.sighting
+with_grant v n = view_of v.parts v.numbers (v.grants ++ n ∷ []) v.flag v.sighting
 
-abbrev pub with_mark : Ghost → Ghost
-with_mark v = view_of v.parts v.numbers v.grants true v.sighting
+abbrev pub with_flag : Ghost → Ghost
+with_flag v = view_of v.parts v.numbers v.grants true v.sighting
 
 abbrev pub with_sighting : Ghost → Bool → Ghost
-with_sighting v seen = view_of v.parts v.numbers v.grants v.mark (v.sighting || seen)
+with_sighting v seen = view_of v.parts v.numbers v.grants v.flag (v.sighting || seen)
 
 -- the weights of the numbers below n, added up
 abbrev pub sum_below : (ℕ → ℕ) → ℕ → ℕ
 sum_below weight zero = 0
 sum_below weight (suc n) = sum_below weight n + weight n
 
--- how many of the numbers are spare: not below the limit, so no jobs, or no grants
-abbrev pub spare_count : ℕ → List ℕ → ℕ
-spare_count limit numbers = count_by (λ n. leb limit n) numbers
+-- how many of the numbers are overdraw: not below the limit, so no jobs, or no grants
+abbrev pub overdraw_count : ℕ → List ℕ → ℕ
+overdraw_count limit numbers = count_by (λ n. leb limit n) numbers
 
 -- each view that is there meets P
 abbrev pub EachSeat : (Ghost → Type 0) → List Ghost → Type 0
@@ -65,26 +65,26 @@ SomeSeat P views = (seat : ℕ) × (v : Ghost) × (get_elem? views seat ≡ some
 -- A view has at most as many numbers that are not below the limit as it has parts, and with one part its numbers rise
 pub record Counts (numbers : Ghost → List ℕ) (limit count : ℕ) (views : List Ghost) : Type 0 where
   pub each_once : (weight : ℕ → ℕ) → sum_by (λ v. sum_by weight (numbers v)) views ≡ sum_below weight count
-  pub spares : EachSeat (λ v. spare_count limit (numbers v) ≤ v.parts) views
+  pub spares : EachSeat (λ v. overdraw_count limit (numbers v) ≤ v.parts) views
   pub rising : EachSeat (λ v. v.parts ≡ 1 → IsStrictlyIncreasing (numbers v)) views
 
--- the mark is raised only where some view has its mark, and a mark or a sighting in any view says that it is
-pub record IsMark (mark : ℕ) (views : List Ghost) : Type 0 where
-  pub bit : mark ≤ 1
-  pub raised : mark ≡ 1 → SomeSeat (λ v. v.mark ≡ true) views
-  pub known : EachSeat (λ v. (v.mark || v.sighting) ≡ true → mark ≡ 1) views
+-- the flag is raised only where some view has its flag, and a flag or a sighting in any view says that it is
+pub record IsMark (flag : ℕ) (views : List Ghost) : Type 0 where
+  pub bit : flag ≤ 1
+  pub raised : flag ≡ 1 → SomeSeat (λ v. v.flag ≡ true) views
+  pub known : EachSeat (λ v. (v.flag || v.sighting) ≡ true → flag ≡ 1) views
 
 -- The parts of all views are the desk's seats, and a view with no part holds nothing
-pub record IsDesk (plan : Quota) (drawn mark asked : ℕ) (views : List Ghost) : Type 0 where
+pub record IsDesk (plan : Quota) (drawn flag asked : ℕ) (views : List Ghost) : Type 0 where
   pub parts : sum_by (λ v. v.parts) views ≡ plan.seats
   pub spent : EachSeat (λ v. v.parts ≡ 0 → v ≡ no_seat) views
   pub draws : Counts (λ v. v.numbers) plan.jobs drawn views
-  pub marked : IsMark mark views
+  pub marked : IsMark flag views
   pub grants : Counts (λ v. v.grants) plan.total asked views
 
--- What holds between any two steps: the first word counts the draws, the second is the mark, and the third counts the asks
+-- What holds between any two steps: the first word counts the draws, the second is the flag, and the third counts the asks
 abbrev pub DeskHolds : Quota → State (Unit {0}) Ghost → Type 0
-DeskHolds plan s = (drawn : ℕ) × (mark : ℕ) × (asked : ℕ) × (s.words ≡ drawn ∷ mark ∷ asked ∷ []) × IsDesk plan drawn mark asked s.views
+DeskHolds plan s = (drawn : ℕ) × (flag : ℕ) × (asked : ℕ) × (s.words ≡ drawn ∷ flag ∷ asked ∷ []) × IsDesk plan drawn flag asked s.views
 
 abbrev pub SeatState : Type 0
 SeatState = Me (Unit {0}) Ghost
@@ -100,9 +100,9 @@ abbrev pub Grants : SeatState → ℕ → SeatState → Type 0
 Grants before found after = (after ≡ (with_grant before.0 found, before.1)) × IsNext before.0.grants found
 
 abbrev pub Raises : SeatState → SeatState → Type 0
-Raises before after = after ≡ (with_mark before.0, before.1)
+Raises before after = after ≡ (with_flag before.0, before.1)
 
--- what was found is seen, and where this seat raised or saw the mark before, it was found
+-- what was found is seen, and where this seat raised or saw the flag before, it was found
 abbrev pub Looks : SeatState → ℕ → SeatState → Type 0
 Looks before found after =
-    (after ≡ (with_sighting before.0 (nat_eq found 1), before.1)) × ((before.0.mark || before.0.sighting) ≡ true → found ≡ 1)
+    (after ≡ (with_sighting before.0 (nat_eq found 1), before.1)) × ((before.0.flag || before.0.sighting) ≡ true → found ≡ 1)

@@ -4,7 +4,7 @@ use Rattle.std.specs.List.Sorted.{IsStrictlyIncreasing}
 use Rattle.atomic_table.specs.Table.{State}
 use Rattle.tt_share.specs.declared.desk.rule.Ghost.{Ghost}
 use Rattle.tt_share.specs.declared.desk.rule.Quota.{Quota}
-use Rattle.tt_share.specs.Desk.{EachSeat, SomeSeat, DeskHolds, spare_count, no_seat}
+use Rattle.tt_share.specs.Desk.{EachSeat, SomeSeat, DeskHolds, overdraw_count, no_seat}
 
 -- how often the number stands in the views' lists
 abbrev pub occurrences : (Ghost → List ℕ) → ℕ → List Ghost → ℕ
@@ -17,17 +17,17 @@ pub record IsCount (list : Ghost → List ℕ) (limit word : ℕ) (views : List 
   pub below : (number : ℕ) → number < word → occurrences list number views ≡ 1
   pub above : (number : ℕ) → word ≤ number → occurrences list number views ≡ 0
   pub rising : EachSeat (λ v. v.parts ≡ 1 → IsStrictlyIncreasing (list v)) views
-  pub one_spare : EachSeat (λ v. v.parts ≡ 1 → (k : ℕ) → k + 1 < length (list v) → slice_index (list v) k < limit) views
-  pub spares : EachSeat (λ v. spare_count limit (list v) ≤ v.parts) views
+  pub one_overdraw : EachSeat (λ v. v.parts ≡ 1 → (k : ℕ) → k + 1 < length (list v) → slice_index (list v) k < limit) views
+  pub spares : EachSeat (λ v. overdraw_count limit (list v) ≤ v.parts) views
 
--- the mark is 0 or 1, raised only where some view has its mark, and a mark or a sighting in any view says that it is 1
+-- the flag is 0 or 1, raised only where some view has its flag, and a flag or a sighting in any view says that it is 1
 pub record IsStop (word : ℕ) (views : List Ghost) : Type 0 where
   pub bit : (word ≡ 0) ⊎ (word ≡ 1)
-  pub raised : word ≡ 1 → SomeSeat (λ v. v.mark ≡ true) views
-  pub mark : EachSeat (λ v. v.mark ≡ true → word ≡ 1) views
+  pub raised : word ≡ 1 → SomeSeat (λ v. v.flag ≡ true) views
+  pub flag : EachSeat (λ v. v.flag ≡ true → word ≡ 1) views
   pub sighting : EachSeat (λ v. v.sighting ≡ true → word ≡ 1) views
 
--- There are three words: the count of draws, the mark, and the count of the asks for a grant. The parts of all views are the
+-- There are three words: the count of draws, the flag, and the count of the asks for a grant. The parts of all views are the
 -- desk's seats, and a view with no part holds nothing
 pub record IsDeskState (plan : Quota) (words : List ℕ) (views : List Ghost) : Type 0 where
   pub three_words : length words ≡ 3

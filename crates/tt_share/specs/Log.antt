@@ -6,9 +6,9 @@ use Rattle.tt_game.specs.Line.{Standing}
 use Rattle.tt_proof.specs.Proven.{Proven}
 use Rattle.tt_search.specs.Stores.{IsNewest}
 
--- a place in a log, and the proof there; the other two numbers tell of which log it is
+-- a slot in a log, and the proof there; the other two numbers tell of which log it is
 pub record Ticket : Type 0 where
-  pub place : ℕ
+  pub slot : ℕ
   pub proof : Proven
   pub bucket : ℕ
   pub row : ℕ

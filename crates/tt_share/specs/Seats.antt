@@ -13,16 +13,16 @@ pub record DeskView : Type 0 where
   pub seats : ℕ
   pub total : Option ℕ
 
--- the desk that made the seat, the numbers that the seat drew and those that it got as grants, whether it raised the mark and whether it saw it
+-- the desk that made the seat, the numbers that the seat drew and those that it got as grants, whether it raised the flag and whether it saw it
 pub record SeatView : Type 0 where
   pub desk : TableId
   pub numbers : List ℕ
   pub grants : List ℕ
-  pub mark : Bool
+  pub flag : Bool
   pub sighting : Bool
 
 abbrev pub seat_of : TableId → List ℕ → List ℕ → Bool → Bool → SeatView
-seat_of desk numbers grants mark sighting = record { desk = desk; numbers = numbers; grants = grants; mark = mark; sighting = sighting }
+seat_of desk numbers grants flag sighting = record { desk = desk; numbers = numbers; grants = grants; flag = flag; sighting = sighting }
 
 -- a seat that has made no step
 abbrev pub fresh : TableId → SeatView
@@ -32,9 +32,9 @@ fresh desk = seat_of desk [] [] false false
 abbrev pub last_number : List ℕ → ℕ
 last_number numbers = slice_index numbers (length numbers - 1)
 
--- the list ends with a spare number: one that is not below the limit, so no job, or no grant
-abbrev pub EndsSpare : ℕ → List ℕ → Type 0
-EndsSpare limit numbers = limit ≤ last_number numbers
+-- the list ends with a overdraw number: one that is not below the limit, so no job, or no grant
+abbrev pub EndsOverdraw : ℕ → List ℕ → Type 0
+EndsOverdraw limit numbers = limit ≤ last_number numbers
 
 -- n joins numbers that rise
 pub record Joins (before : List ℕ) (n : ℕ) (after : List ℕ) : Type 0 where
@@ -44,13 +44,13 @@ pub record Joins (before : List ℕ) (n : ℕ) (after : List ℕ) : Type 0 where
 
 -- the seat drew n
 pub record Adds (jobs : ℕ) (before : SeatView) (n : ℕ) (answer : Option ℕ) (after : SeatView) : Type 0 where
-  pub seat : after ≡ seat_of before.desk after.numbers before.grants before.mark before.sighting
+  pub seat : after ≡ seat_of before.desk after.numbers before.grants before.flag before.sighting
   pub joins : Joins before.numbers n after.numbers
   pub answer_is : answer ≡ cond (ltb n jobs) (Some n) None
 
 -- the seat asked for a grant and got n, which is one where it is below the total
 pub record Gains (total : ℕ) (before : SeatView) (n : ℕ) (answer : Bool) (after : SeatView) : Type 0 where
-  pub seat : after ≡ seat_of before.desk before.numbers after.grants before.mark before.sighting
+  pub seat : after ≡ seat_of before.desk before.numbers after.grants before.flag before.sighting
   pub joins : Joins before.grants n after.grants
   pub answer_is : answer ≡ ltb n total
 
@@ -70,7 +70,7 @@ pub record EachOnce (list : SeatView → List ℕ) (count : ℕ) (seats : List S
 
 -- where some seat's list ends with a number that is not below the limit, each number below it was drawn, once
 abbrev pub AllJobsDrawn : (SeatView → List ℕ) → ℕ → List SeatView → Type 0
-AllJobsDrawn list limit seats = (s : SeatView) → Contains seats s → EndsSpare limit (list s) → (number : ℕ) → number < limit → occurrences list number seats ≡ 1
+AllJobsDrawn list limit seats = (s : SeatView) → Contains seats s → EndsOverdraw limit (list s) → (number : ℕ) → number < limit → occurrences list number seats ≡ 1
 
 -- What all seats show of the grants of a desk with a total, once it is closed
 pub record Spends (total granted : ℕ) (seats : List SeatView) : Type 0 where
@@ -79,7 +79,7 @@ pub record Spends (total granted : ℕ) (seats : List SeatView) : Type 0 where
   -- so many of the numbers that they got are grants
   pub granted_is : granted ≡ sum_by (λ s. granted_of total s.grants) seats
   -- where some seat was refused, all of the total was granted
-  pub refused : (s : SeatView) → Contains seats s → EndsSpare total s.grants → granted ≡ total
+  pub refused : (s : SeatView) → Contains seats s → EndsOverdraw total s.grants → granted ≡ total
 
 -- What all seats of a desk show once it is closed
 pub record Closes (desk : DeskView) (seats : List SeatView) (closed : Closed) : Type 0 where
@@ -92,8 +92,8 @@ pub record Closes (desk : DeskView) (seats : List SeatView) (closed : Closed) : 
   -- no more numbers were drawn than there are jobs and seats
   pub draws_most : closed.draws ≤ desk.jobs + desk.seats
   -- where every seat did, there were as many draws as jobs and seats
-  pub draws_are : All (λ s. EndsSpare desk.jobs s.numbers) seats → closed.draws ≡ desk.jobs + desk.seats
-  -- where some seat saw the mark, some seat raised it
-  pub sighted : IsTrue (list_any (λ s. s.sighting) seats) → IsTrue (list_any (λ s. s.mark) seats)
+  pub draws_are : All (λ s. EndsOverdraw desk.jobs s.numbers) seats → closed.draws ≡ desk.jobs + desk.seats
+  -- where some seat saw the flag, some seat raised it
+  pub sighted : IsTrue (list_any (λ s. s.sighting) seats) → IsTrue (list_any (λ s. s.flag) seats)
   -- what was granted of the total; without one nothing is counted
   pub granted : MatchOption desk.total (closed.granted ≡ 0) (λ total. Spends total closed.granted seats)

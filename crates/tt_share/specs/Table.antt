@@ -6,14 +6,14 @@ use Rattle.tt_game.specs.SameKey.{same_key}
 use Rattle.tt_proof.specs.Proven.{Proven}
 use Rattle.tt_proof.specs.Nodes.{nodes}
 
--- the rising places, counted from n on, of what passes the test
-abbrev pub places_from : {X : Type 0} → (X → Bool) → ℕ → List X → List ℕ
-places_from test n [] = []
-places_from test n (x ∷ xs) = cond (test x) (n ∷ places_from test (n + 1) xs) (places_from test (n + 1) xs)
+-- the rising slots, counted from n on, of what passes the test
+abbrev pub slots_from : {X : Type 0} → (X → Bool) → ℕ → List X → List ℕ
+slots_from test n [] = []
+slots_from test n (x ∷ xs) = cond (test x) (n ∷ slots_from test (n + 1) xs) (slots_from test (n + 1) xs)
 
--- the rising places of the proofs whose position has the key
-abbrev pub places_of : Key → List Proven → List ℕ
-places_of k ps = places_from (λ (p : Proven). same_key k (key_of p.frame p.state)) 0 ps
+-- the rising slots of the proofs whose position has the key
+abbrev pub slots_of : Key → List Proven → List ℕ
+slots_of k ps = slots_from (λ (p : Proven). same_key k (key_of p.frame p.state)) 0 ps
 
 -- the nodes of all trees, or the greatest number of 64 bits where they are more
 abbrev pub nodes_of : List Proven → ℕ

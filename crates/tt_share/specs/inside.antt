@@ -4,6 +4,6 @@ pub mod Results
 pub mod Beginning
 pub mod Workers
 pub mod Gathering
-pub mod Places
+pub mod Slots
 pub mod Taking
 pub mod Tallies

@@ -5,9 +5,10 @@ pub(crate) mod rule;
 
 ghost use Rattle.std.specs.Prelude.{◌≡◌, ℕ, ◌≢◌, ◌+◌, ◌<◌, ◌≤◌, true, false, ◌||◌, [], ◌∷◌, ◌++◌, cond, length, min, vec_capacity, replicate, None};
 ghost use Rattle.std.specs.Prelude.{IfOk, IfSome, IfNone, MatchOption, MatchResult, IsTrue, All};
-ghost use Rattle.tt_share.specs.declared.bounds.TheConstants.{MOST_WORKERS};
+ghost use Rattle.tt_game.specs.declared.turns.TheConstants.{MOST_LEGAL};
+ghost use Rattle.tt_share.specs.declared.capacity.TheConstants.{MOST_WORKERS};
 ghost use Rattle.tt_share.specs.Desk.{blank, view_of};
-ghost use Rattle.tt_share.specs.Seats.{seat_of, fresh, EndsSpare, Adds, Gains, granted_of, Closes};
+ghost use Rattle.tt_share.specs.Seats.{seat_of, fresh, EndsOverdraw, Adds, Gains, granted_of, Closes};
 ghost use Rattle.tt_share.specs.inside.Gathering.{Gathers};
 
 use crate::desk::rule::{AtDesk, Both, Cut, Draw, Ghost, Grant, Quota, Raise, Sighting};
@@ -26,7 +27,7 @@ pub struct Closed {
     pub granted: u64,
 }
 
-/// Jobs that threads draw, none twice, a mark that each of them can raise, and grants, of which it gives `total` in all where
+/// Jobs that threads draw, none twice, a flag that each of them can raise, and grants, of which it gives `total` in all where
 /// it has one. Each thread has a seat of its own.
 #[derive(Drop)]
 pub struct Desk {
@@ -38,7 +39,8 @@ pub struct Desk {
 
 impl Model for Desk {
     ghost use Rattle.std.specs.Prelude.{◌≡◌, ◌+◌, ◌^◌, ◌<◌, ◌≤◌, IfSome};
-    ghost use Rattle.tt_share.specs.declared.bounds.TheConstants.{MOST_WORKERS};
+    ghost use Rattle.tt_game.specs.declared.turns.TheConstants.{MOST_LEGAL};
+    ghost use Rattle.tt_share.specs.declared.capacity.TheConstants.{MOST_WORKERS};
     ghost use Rattle.tt_share.specs.Seats.{DeskView};
 
     ghost Value = { DeskView };
@@ -51,13 +53,13 @@ impl Model for Desk {
       jobs_are : d.table.shared.key.jobs ≡ d.jobs;
       seats_are : d.table.shared.key.seats ≡ d.seats;
       total_is : IfSome d.total (λ n. (d.table.shared.key.total ≡ n) × (0 < n));
-      jobs : (0 < d.jobs) × (d.jobs ≤ 362);
+      jobs : (0 < d.jobs) × (d.jobs ≤ MOST_LEGAL);
       seats : (0 < d.seats) × (d.seats ≤ MOST_WORKERS + 1);
       grants : d.table.shared.key.total < 2 ^ 32;
     } };
 }
 
-/// A place at a desk, for one thread at a time.
+/// A slot at a desk, for one thread at a time.
 #[derive(Drop)]
 pub struct Seat {
     seat: atomic_table::Seat<(), Ghost>,
@@ -71,7 +73,7 @@ impl Model for Seat {
 
     ghost Value = { SeatView };
 
-    ghost view = { λ s. seat_of s.seat.table_id s.seat.me.0.numbers s.seat.me.0.grants s.seat.me.0.mark s.seat.me.0.sighting };
+    ghost view = { λ s. seat_of s.seat.table_id s.seat.me.0.numbers s.seat.me.0.grants s.seat.me.0.flag s.seat.me.0.sighting };
 
     ghost invariant = { λ s. record {
       one_part : s.seat.me.0.parts ≡ 1;
@@ -84,7 +86,7 @@ impl Model for Seat {
 impl Seat {
     fn into_inner(self) -> atomic_table::Seat<(), Ghost>
         ensures desk { result.table_id ≡ self.desk }
-        ensures me { result.me ≡ (view_of 1 self.numbers self.grants self.mark self.sighting, []) }
+        ensures me { result.me ≡ (view_of 1 self.numbers self.grants self.flag self.sighting, []) }
     {
         let Seat { seat, .. } = self;
         seat
@@ -151,7 +153,7 @@ fn capped(asked: u64, total: Option<u32>) -> u64
 }
 
 impl Desk {
-    /// A desk of 1 to 362 jobs with all its seats, 1 to `MOST_WORKERS` and one more, none of which has made a step. It gives as
+    /// A desk of 1 to `MOST_LEGAL` jobs with all its seats, 1 to `MOST_WORKERS` and one more, none of which has made a step. It gives as
     /// many grants as `total`, which is at least 1, or any number where there is none. `NoMemory` where memory was refused.
     pub fn new(
         alloc: Global,
@@ -159,7 +161,7 @@ impl Desk {
         seats: usize,
         total: Option<u32>,
     ) -> Result<(Desk, Vec<Seat>), NoMemory>
-        requires jobs { (0 < jobs) × (jobs ≤ 362) }
+        requires jobs { (0 < jobs) × (jobs ≤ MOST_LEGAL) }
         requires seats { (0 < seats) × (seats ≤ MOST_WORKERS + 1) }
         requires total { IfSome total (λ n. 0 < n) }
         ensures desk { IfOk result (λ r. (r.0.jobs ≡ jobs) × (r.0.seats ≡ seats) × (r.0.total ≡ total)) }
@@ -190,10 +192,10 @@ impl Desk {
     /// seat got none, each later call on that seat answers none and makes no step. The seat is one of this desk's.
     pub fn draw(&self, s: &mut Seat) -> Option<usize>
         requires { s.old.desk ≡ self.now.id }
-        ensures spent { EndsSpare self.now.jobs s.old.numbers → (result ≡ None) × (s.new ≡ s.old) }
-        ensures draws { ¬ EndsSpare self.now.jobs s.old.numbers → (n : ℕ) × Adds self.now.jobs s.old n result s.new }
+        ensures spent { EndsOverdraw self.now.jobs s.old.numbers → (result ≡ None) × (s.new ≡ s.old) }
+        ensures draws { ¬ EndsOverdraw self.now.jobs s.old.numbers → (n : ℕ) × Adds self.now.jobs s.old n result s.new }
         ensures some { IfSome result (λ n. (n < self.now.jobs) × (length s.old.numbers ≤ n) × (s.new.numbers ≡ s.old.numbers ++ n ∷ [])) }
-        ensures none { IfNone result (EndsSpare self.now.jobs s.new.numbers) }
+        ensures none { IfNone result (EndsOverdraw self.now.jobs s.new.numbers) }
         ensures desk { s.new.desk ≡ s.old.desk }
         ensures jobs { 0 < self.now.jobs }
     {
@@ -209,7 +211,7 @@ impl Desk {
         }
     }
 
-    /// Raises the mark, by one step. Nothing lowers it. The seat is one of this desk's.
+    /// Raises the flag, by one step. Nothing lowers it. The seat is one of this desk's.
     pub fn raise(&self, s: &mut Seat)
         requires { s.old.desk ≡ self.now.id }
         ensures { s.new ≡ seat_of s.old.desk s.old.numbers s.old.grants true s.old.sighting }
@@ -217,12 +219,12 @@ impl Desk {
         self.table.shared.fetch_max::<Raise>(&mut s.seat, 1, 1);
     }
 
-    /// True only where some seat raised the mark, and always where this seat raised it or saw it before. It may be false
+    /// True only where some seat raised the flag, and always where this seat raised it or saw it before. It may be false
     /// though another seat has raised it. The seat is one of this desk's.
     pub fn raised(&self, s: &mut Seat) -> bool
         requires { s.old.desk ≡ self.now.id }
-        ensures sighting { s.new ≡ seat_of s.old.desk s.old.numbers s.old.grants s.old.mark (s.old.sighting || result) }
-        ensures again { IsTrue (s.old.mark || s.old.sighting) → IsTrue result }
+        ensures sighting { s.new ≡ seat_of s.old.desk s.old.numbers s.old.grants s.old.flag (s.old.sighting || result) }
+        ensures again { IsTrue (s.old.flag || s.old.sighting) → IsTrue result }
     {
         self.table.shared.load::<Sighting>(&mut s.seat, 1) == 1
     }
@@ -233,11 +235,11 @@ impl Desk {
     pub fn grant(&self, s: &mut Seat) -> bool
         requires { s.old.desk ≡ self.now.id }
         ensures unbounded { self.now.total ≡ None → (result ≡ true) × (s.new ≡ s.old) }
-        ensures spent { IfSome self.now.total (λ total. EndsSpare total s.old.grants → (result ≡ false) × (s.new ≡ s.old)) }
-        ensures grants { IfSome self.now.total (λ total. ¬ EndsSpare total s.old.grants → (n : ℕ) × Gains total s.old n result s.new) }
+        ensures spent { IfSome self.now.total (λ total. EndsOverdraw total s.old.grants → (result ≡ false) × (s.new ≡ s.old)) }
+        ensures grants { IfSome self.now.total (λ total. ¬ EndsOverdraw total s.old.grants → (n : ℕ) × Gains total s.old n result s.new) }
         ensures tally { IfSome self.now.total (λ total. granted_of total s.new.grants ≡ granted_of total s.old.grants + cond result 1 0) }
-        ensures refused { IfSome self.now.total (λ total. result ≡ false → EndsSpare total s.new.grants) }
-        ensures stays { s.new ≡ seat_of s.old.desk s.old.numbers s.new.grants s.old.mark s.old.sighting }
+        ensures refused { IfSome self.now.total (λ total. result ≡ false → EndsOverdraw total s.new.grants) }
+        ensures stays { s.new ≡ seat_of s.old.desk s.old.numbers s.new.grants s.old.flag s.old.sighting }
         ensures desk { s.new.desk ≡ s.old.desk }
     {
         let Some(total) = self.total else {

@@ -3,6 +3,7 @@
 ghost use Rattle.std.specs.Prelude.{◌≡◌, ◌+◌, ◌^◌, ◌≤◌, ◌<◌, ◌↔◌, Bool, None, IfOk, IsTrue, length};
 ghost use Rattle.tt_game.specs.Game.{IsLegal, after, winner_of};
 ghost use Rattle.tt_game.specs.Turns.{legal_turns};
+ghost use Rattle.tt_game.specs.declared.turns.TheConstants.{MOST_LEGAL};
 ghost use Rattle.tt_search.specs.Growing.{new_leaf};
 ghost use Rattle.tt_share.specs.Answers.{IsBehind};
 ghost use Rattle.tt_share.specs.inside.Jobs.{AsksFor, HasWon, IsDropped, IsJob, IsOfEnd, IsResult, IsStuck, IsWinFor, end_of, kept_of};
@@ -44,7 +45,7 @@ pub(crate) struct Jobs<'a> {
     ghost open: { winner_of line.now.frame line.now.state ≡ None },
     ghost deep: { 1 ≤ limits.depth },
     ghost listed: { turns.items ≡ legal_turns line.now.frame line.now.state },
-    ghost few: { (1 ≤ length turns.items) × (length turns.items ≤ 362) },
+    ghost few: { (1 ≤ length turns.items) × (length turns.items ≤ MOST_LEGAL) },
 }
 
 /// Whether the result is a proof for the side.

@@ -5,7 +5,7 @@ ghost use Rattle.tt_share.specs.DeskLaw.{DeskLaw};
 ghost use Rattle.tt_game.specs.SameKey.{same_key};
 
 /// Between any two steps at a desk the numbers that all seats drew are those below the count of draws, each once; the
-/// numbers of each seat rise, and at most one of them, its last, is no job; the mark is raised only where some seat raised
+/// numbers of each seat rise, and at most one of them, its last, is no job; the flag is raised only where some seat raised
 /// it, and wherever a seat raised or saw it. The same holds of the numbers that seats got as grants and the count of the asks,
 /// where a number that is not below the total is no grant.
 pub fn desk_law()

@@ -7,7 +7,7 @@
 
 mod alone;
 mod answer;
-mod bounds;
+mod capacity;
 mod desk;
 mod gate;
 mod jobs;
@@ -20,7 +20,7 @@ mod workers;
 
 pub use alone::solve_one;
 pub use answer::{Answer, Stuck};
-pub use bounds::{MOST_KEPT, MOST_WORKERS};
+pub use capacity::{MOST_KEPT, MOST_WORKERS};
 pub use desk::{Closed, Desk, Seat};
 pub use gate::{Gate, NoGate};
 pub use log::log_store::LogStore;

@@ -8,7 +8,7 @@ ghost use Rattle.std.specs.Prelude.{◌≡◌, IfOk, IfSome};
 ghost use Rattle.std.specs.Arc.{arc_value};
 ghost use Rattle.tt_share.specs.Log.{IsOf};
 
-use crate::bounds::{ROOM_AT_ONCE, ROOM_BEFORE_A_PUSH};
+use crate::capacity::{ROOM_AT_ONCE, ROOM_BEFORE_A_PUSH};
 use boxcar::Pushed;
 use std::alloc::Global;
 use std::marker::Model;
@@ -16,7 +16,7 @@ use std::sync::{Arc, Wait};
 use tt_proof::Proof;
 use tt_sgf::NoMemory;
 
-/// Proofs that several threads share. An entry stays as it was pushed, at its place.
+/// Proofs that several threads share. An entry stays as it was pushed, at its slot.
 #[derive(Drop)]
 pub struct CertLog {
     entries: boxcar::Vec<Arc<Proof>>,
@@ -32,7 +32,7 @@ impl Model for CertLog {
     ghost view = { λ l. l.entries };
 }
 
-/// What shows that a log holds a proof at a place: 24 bytes.
+/// What shows that a log holds a proof at a slot: 24 bytes.
 #[derive(Drop)]
 pub struct Token {
     shown: Pushed<Arc<Proof>>,
@@ -49,13 +49,13 @@ impl Model for Token {
 
     ghost coded = { Prim.hlevel (codes, strategy_code, points.the_row.coded) };
 
-    ghost view = { λ t. record { place = t.shown.index; proof = arc_value t.shown.value; bucket = t.shown.bucket; row = t.shown.row } };
+    ghost view = { λ t. record { slot = t.shown.index; proof = arc_value t.shown.value; bucket = t.shown.bucket; row = t.shown.row } };
 }
 
 impl Token {
-    /// The place in the log, from 0 on.
-    pub fn place(&self) -> usize
-        ensures { result ≡ self.now.place }
+    /// The slot in the log, from 0 on.
+    pub fn slot(&self) -> usize
+        ensures { result ≡ self.now.slot }
     {
         self.shown.index()
     }
@@ -84,18 +84,18 @@ impl CertLog {
         self.entries.value(&t.shown)
     }
 
-    /// Two tokens of one place have one proof. It does nothing.
+    /// Two tokens of one slot have one proof. It does nothing.
     pub fn agree(&self, a: &Token, b: &Token)
         requires a { IsOf self.now a.now }
         requires b { IsOf self.now b.now }
-        requires place { a.now.place ≡ b.now.place }
+        requires slot { a.now.slot ≡ b.now.slot }
         ensures { a.now.proof ≡ b.now.proof }
     {
         self.entries.agrees(&a.shown, &b.shown);
     }
 
     /// Pushes the proof, once. Room for it, and for what others push meanwhile, comes first: an entry that was begun and
-    /// finds no memory would leave its place empty for good. `roomy` is how many entries are known to have room: more is made
+    /// finds no memory would leave its slot empty for good. `roomy` is how many entries are known to have room: more is made
     /// where these aren't enough, for many pushes at once.
     pub(crate) fn push(
         &self,
@@ -122,12 +122,12 @@ impl CertLog {
         self.entries.count()
     }
 
-    /// The token of a place, where its push is finished.
-    pub(crate) fn token(&self, place: usize) -> Option<Token>
+    /// The token of a slot, where its push is finished.
+    pub(crate) fn token(&self, slot: usize) -> Option<Token>
         ensures log { IfSome result (IsOf self.now) }
-        ensures place { IfSome result (λ t. t.place ≡ place) }
+        ensures slot { IfSome result (λ t. t.slot ≡ slot) }
     {
-        let shown = self.entries.witness(place)?;
+        let shown = self.entries.witness(slot)?;
         Some(Token { shown })
     }
 }

@@ -4,6 +4,7 @@ ghost use Rattle.std.specs.Prelude.{◌≡◌, ◌≢◌, ◌+◌, ◌^◌, ◌�
 ghost use Rattle.tt_game.specs.Game.{winner_of};
 ghost use Rattle.tt_game.specs.declared.turns.Turn.{Turn};
 ghost use Rattle.tt_game.specs.Turns.{legal_turns};
+ghost use Rattle.tt_game.specs.declared.turns.TheConstants.{MOST_LEGAL};
 ghost use Rattle.tt_search.specs.declared.limits.TheConstants.{MOST_EXPANDED};
 ghost use Rattle.tt_share.specs.declared.jobs.JobResult.{JobResult};
 ghost use Rattle.tt_share.specs.Answers.{spent_in_all};
@@ -82,7 +83,7 @@ pub(crate) fn win_at(ends: &[Option<JobResult>], side: Side) -> Option<usize>
     None
 }
 
-/// Whether there is such a place, with no result.
+/// Whether there is such a slot, with no result.
 fn is_free_in(ends: &[Option<JobResult>], job: usize) -> bool
     ensures free { IsTrue result ↔ (slice_get ends.now job ≡ Some None) }
     ensures filled { result ≡ false → job < length ends.now → HasResult ends.now job }
@@ -90,7 +91,7 @@ fn is_free_in(ends: &[Option<JobResult>], job: usize) -> bool
     job < ends.len() && ends[job].is_none()
 }
 
-/// Writes a result at its place.
+/// Writes a result at its slot.
 fn fill(ends: &mut Vec<Option<JobResult>>, job: usize, end: JobResult)
     requires { job < vec_len ends.old }
     ensures filled { ends.new.items ≡ slice_set ends.old.items job (Some end) }
@@ -158,7 +159,7 @@ impl<'a> Results<'a> {
     /// How many jobs the line has.
     pub fn count(&self) -> usize
         ensures count { result ≡ length self.now.ends }
-        ensures few { result ≤ 362 }
+        ensures few { result ≤ MOST_LEGAL }
     {
         self.ends.len()
     }
@@ -179,7 +180,7 @@ impl<'a> Results<'a> {
         is_free_in(self.ends.as_slice(), job)
     }
 
-    /// Puts a result at the place of its job. A double and a stranger are dropped.
+    /// Puts a result at the slot of its job. A double and a stranger are dropped.
     pub fn put(&mut self, searched: SearchedJob)
         requires searched { IsResult self.old.line self.old.limits searched }
         ensures same { self.new ≡ record self.old { ends = self.new.ends; spent = self.new.spent } }

@@ -1,4 +1,4 @@
-//! The table: proofs in the order in which they came, the places of each key, and the nodes of all trees.
+//! The table: proofs in the order in which they came, the slots of each key, and the nodes of all trees.
 
 pub(crate) mod locked;
 
@@ -8,8 +8,8 @@ ghost use Rattle.std.specs.Option.{option_map};
 ghost use Rattle.tt_search.specs.Stores.{AnswersFor, IsNewest};
 ghost use Rattle.tt_game.specs.Keys.{key_of};
 ghost use Rattle.tt_proof.specs.Nodes.{nodes};
-ghost use Rattle.tt_share.specs.inside.Places.{places_at};
-ghost use Rattle.tt_share.specs.Table.{places_of, nodes_of};
+ghost use Rattle.tt_share.specs.inside.Slots.{slots_at};
+ghost use Rattle.tt_share.specs.Table.{slots_of, nodes_of};
 
 use std::alloc::Global;
 use std::collections::HashMap;
@@ -36,7 +36,7 @@ impl Model for TableState {
     ghost use Rattle.std.specs.Arc.{arc_value};
     ghost use Rattle.tt_proof.specs.Proven.{Proven};
     ghost use Rattle.tt_proof.specs.laws.StrategyCode.{strategy_code};
-    ghost use Rattle.tt_share.specs.inside.Places.{IsIndexOf};
+    ghost use Rattle.tt_share.specs.inside.Slots.{IsIndexOf};
     ghost use Rattle.tt_share.specs.Table.{nodes_of};
 
     ghost Value = { List Proven };
@@ -48,23 +48,23 @@ impl Model for TableState {
     ghost invariant = { λ t. IsIndexOf t.index (map arc_value t.proofs.items) × (t.total ≡ nodes_of (map arc_value t.proofs.items)) };
 }
 
-/// Adds a place at the key.
-fn note_place<K: Copy + Drop + Eq + Hash>(
+/// Adds a slot at the key.
+fn note_slot<K: Copy + Drop + Eq + Hash>(
     alloc: Global,
     index: &mut HashMap<K, Vec<usize>>,
     key: &K,
-    place: usize,
+    slot: usize,
 ) -> Result<(), NoMemory>
-    ensures ok { OnOk result ((q : _) → places_at K.eq index.new q ≡ (if K.eq key.now q then places_at K.eq index.old q ++ place ∷ [] else places_at K.eq index.old q)) }
-    ensures err { OnErr result ((q : _) → places_at K.eq index.new q ≡ places_at K.eq index.old q) }
+    ensures ok { OnOk result ((q : _) → slots_at K.eq index.new q ≡ (if K.eq key.now q then slots_at K.eq index.old q ++ slot ∷ [] else slots_at K.eq index.old q)) }
+    ensures err { OnErr result ((q : _) → slots_at K.eq index.new q ≡ slots_at K.eq index.old q) }
 {
-    if let Some(places) = index.get_mut(key) {
-        places.push(place)?;
+    if let Some(slots) = index.get_mut(key) {
+        slots.push(slot)?;
         return Ok(());
     }
-    let mut places = Vec::new(alloc);
-    places.push(place)?;
-    match index.insert(*key, places) {
+    let mut slots = Vec::new(alloc);
+    slots.push(slot)?;
+    match index.insert(*key, slots) {
         Ok(_) => Ok(()),
         Err(_) => Err(NoMemory),
     }
@@ -83,24 +83,24 @@ impl TableState {
         })
     }
 
-    /// Appends the proof, of this key and so many nodes, and answers its place.
+    /// Appends the proof, of this key and so many nodes, and answers its slot.
     pub(crate) fn append(&mut self, key: &Key, size: u64, p: Arc<Proof>) -> Result<usize, NoMemory>
         requires key { key.now ≡ key_of (arc_value p).frame (arc_value p).state }
         requires size { size ≡ min (nodes (arc_value p).tree) (2 ^ 64 - 1) }
-        ensures ok { IfOk result (λ place. (self.new ≡ self.old ++ arc_value p ∷ []) × (place ≡ length self.old)) }
+        ensures ok { IfOk result (λ slot. (self.new ≡ self.old ++ arc_value p ∷ []) × (slot ≡ length self.old)) }
         ensures err { OnErr result (self.new ≡ self.old) }
     {
         self.proofs.reserve(1)?;
-        let place = self.proofs.len();
-        note_place(self.alloc, &mut self.index, key, place)?;
+        let slot = self.proofs.len();
+        note_slot(self.alloc, &mut self.index, key, slot)?;
         self.total = self.total.saturating_add(size);
         self.proofs.push_reserved(p);
-        Ok(place)
+        Ok(slot)
     }
 
-    /// Appends the proof, and answers its place. Where memory is refused nothing changes.
+    /// Appends the proof, and answers its slot. Where memory is refused nothing changes.
     pub fn insert(&mut self, p: Arc<Proof>) -> Result<usize, NoMemory>
-        ensures ok { IfOk result (λ place. (self.new ≡ self.old ++ arc_value p ∷ []) × (place ≡ length self.old)) }
+        ensures ok { IfOk result (λ slot. (self.new ≡ self.old ++ arc_value p ∷ []) × (slot ≡ length self.old)) }
         ensures err { OnErr result (self.new ≡ self.old) }
     {
         let key = p.key();
@@ -108,12 +108,12 @@ impl TableState {
         self.append(&key, size, p)
     }
 
-    /// The rising places of the proofs of the key.
-    pub fn places(&self, k: &Key) -> &[usize]
-        ensures { result.now ≡ places_of k.now self.now }
+    /// The rising slots of the proofs of the key.
+    pub fn slots(&self, k: &Key) -> &[usize]
+        ensures { result.now ≡ slots_of k.now self.now }
     {
         match self.index.get(k) {
-            Some(places) => places.as_slice(),
+            Some(slots) => slots.as_slice(),
             None => &[],
         }
     }
@@ -138,11 +138,11 @@ impl TableState {
         ensures found { IfSome result (λ r. AnswersFor line.now s (arc_value r.now)) }
     {
         let key = line.key();
-        let places = self.places(&key);
-        let mut left = places.len();
+        let slots = self.slots(&key);
+        let mut left = slots.len();
         while 0 < left {
             left -= 1;
-            if let Some(p) = self.proofs.get(places[left]) {
+            if let Some(p) = self.proofs.get(slots[left]) {
                 if p.side() == s {
                     return Some(p);
                 }

@@ -2,7 +2,7 @@
 
 ghost use Rattle.std.specs.Prelude.{◌≡◌, ◌≤◌, ◌<◌, None, IfSome, OnOk};
 ghost use Rattle.tt_game.specs.Game.{winner_of};
-ghost use Rattle.tt_share.specs.declared.bounds.TheConstants.{MOST_WORKERS};
+ghost use Rattle.tt_share.specs.declared.capacity.TheConstants.{MOST_WORKERS};
 ghost use Rattle.tt_share.specs.Answers.{IsAnswer};
 ghost use Rattle.tt_share.specs.inside.Results.{KnowsNothing, IsReady, SpendsTotal};
 

@@ -6,7 +6,7 @@ ghost use Rattle.tt_share.specs.inside.Results.{KeepsEnds};
 ghost use Rattle.tt_share.specs.Answers.{spent_in_all};
 ghost use Rattle.tt_share.specs.Seats.{SeatView, seat_of};
 ghost use Rattle.tt_share.specs.declared.workers.HandedBack.{HandedBack};
-ghost use Rattle.tt_share.specs.inside.Workers.{SomeWin, IsWork, held, times, spent_on, spent_by_all, AreApart, AllApart, IsPlaced, AllPlaced, AddsSpare, AllDrawn, KeepsFirstStuck, jobs_of, AreGiven, AllGiven};
+ghost use Rattle.tt_share.specs.inside.Workers.{SomeWin, IsWork, held, times, spent_on, spent_by_all, AreApart, AllApart, IsPlaced, AllPlaced, AddsOverdraw, AllDrawn, KeepsFirstStuck, jobs_of, AreGiven, AllGiven};
 
 use crate::desk::grants::SeatGrants;
 use crate::desk::{Desk, Seat};
@@ -29,15 +29,15 @@ pub(crate) struct HandedBack {
     pub searched: Vec<SearchedJob>,
 }
 
-/// Draws a job, with room for its result. A seat that raised the mark, or sees it or saw it before, draws no more.
+/// Draws a job, with room for its result. A seat that raised the flag, or sees it or saw it before, draws no more.
 fn next_job(grants: &mut SeatGrants<'_>, searched: &mut Vec<SearchedJob>) -> Option<usize>
     ensures desk { grants.new.desk.now ≡ grants.old.desk.now }
     ensures counts { (grants.new.granted ≡ grants.old.granted) × (grants.new.refused ≡ grants.old.refused) }
-    ensures seat { (grants.new.seat.desk ≡ grants.old.seat.desk) × (grants.new.seat.mark ≡ grants.old.seat.mark) }
+    ensures seat { (grants.new.seat.desk ≡ grants.old.seat.desk) × (grants.new.seat.flag ≡ grants.old.seat.flag) }
     ensures saw { IsTrue grants.old.seat.sighting → IsTrue grants.new.seat.sighting }
-    ensures stopped { IsTrue (grants.new.seat.mark || grants.new.seat.sighting) → (result ≡ None) × (grants.new.seat.numbers ≡ grants.old.seat.numbers) }
+    ensures stopped { IsTrue (grants.new.seat.flag || grants.new.seat.sighting) → (result ≡ None) × (grants.new.seat.numbers ≡ grants.old.seat.numbers) }
     ensures job { IfSome result (λ n. (n < grants.old.desk.now.jobs) × (length grants.old.seat.numbers ≤ n) × (grants.new.seat.numbers ≡ grants.old.seat.numbers ++ n ∷ [])) }
-    ensures spare { IfNone result (AddsSpare grants.old.desk.now.jobs grants.old.seat.numbers grants.new.seat.numbers) }
+    ensures overdraw { IfNone result (AddsOverdraw grants.old.desk.now.jobs grants.old.seat.numbers grants.new.seat.numbers) }
     ensures room { IfSome result (λ _. vec_len searched.new < vec_capacity searched.new) }
     ensures searched { searched.new.items ≡ searched.old.items }
 {
@@ -54,9 +54,9 @@ fn or_stuck(before: bool, end: &JobResult) -> bool
     before || is_stuck(end)
 }
 
-/// Draws jobs and searches them until no job is left, the mark is seen or memory is refused. Room for a result comes
+/// Draws jobs and searches them until no job is left, the flag is seen or memory is refused. Room for a result comes
 /// before its draw, so each job that was drawn has its result. The gate is told of each job as it begins and as it ends. A job
-/// that is settled for the side to move raises the mark. Jobs are drawn in rising order, so the first that is stuck is the least:
+/// that is settled for the side to move raises the flag. Jobs are drawn in rising order, so the first that is stuck is the least:
 /// its search is kept, and those of later ones are dropped.
 pub(crate) fn work<S: Store, G: Gate>(
     jobs: &Jobs<'_>,
@@ -68,8 +68,8 @@ pub(crate) fn work<S: Store, G: Gate>(
     requires jobs { desk.now.jobs ≡ length jobs.now.turns.items }
     requires seat { (seat.desk ≡ desk.now.id) × (seat.grants ≡ []) }
     ensures work { IsWork jobs.now.line.now jobs.now.limits desk.now result }
-    ensures drawn { AddsSpare desk.now.jobs (seat.numbers ++ jobs_of result.searched.items) result.seat.numbers }
-    ensures mark { IsTrue result.seat.mark → IsTrue seat.mark ⊎ SomeWin jobs.now.line.now.state.to_move result.searched.items }
+    ensures drawn { AddsOverdraw desk.now.jobs (seat.numbers ++ jobs_of result.searched.items) result.seat.numbers }
+    ensures flag { IsTrue result.seat.flag → IsTrue seat.flag ⊎ SomeWin jobs.now.line.now.state.to_move result.searched.items }
     ensures kept { KeepsFirstStuck result.searched.items }
 {
     let mut searched = Vec::new(jobs.alloc);
@@ -100,7 +100,7 @@ fn work_over<R: Wait, G: Gate>(
     requires jobs { desk.now.jobs ≡ length jobs.now.turns.items }
     requires seat { (seat.desk ≡ desk.now.id) × (seat.grants ≡ []) }
     ensures work { IsWork jobs.now.line.now jobs.now.limits desk.now result }
-    ensures drawn { AddsSpare desk.now.jobs (seat.numbers ++ jobs_of result.searched.items) result.seat.numbers }
+    ensures drawn { AddsOverdraw desk.now.jobs (seat.numbers ++ jobs_of result.searched.items) result.seat.numbers }
 {
     match View::new(jobs.alloc, log) {
         Ok(view) => work(jobs, desk, gate, seat, &mut LogStore::new(rt, view)),
@@ -129,7 +129,7 @@ pub(crate) fn run_workers<R: Threads + Wait + Sync, G: Gate>(
     let worker = |seat: Seat| -> HandedBack
         requires { (desk.now.jobs ≡ length jobs.now.turns.items) × (seat.desk ≡ desk.now.id) × (seat.grants ≡ []) }
         ensures work { IsWork jobs.entry.now.line.now jobs.entry.now.limits desk.entry.now result }
-        ensures drawn { AddsSpare desk.entry.now.jobs (seat.numbers ++ jobs_of result.searched.items) result.seat.numbers }
+        ensures drawn { AddsOverdraw desk.entry.now.jobs (seat.numbers ++ jobs_of result.searched.items) result.seat.numbers }
     { work_over(rt, jobs, desk, log, gate, seat) };
     match thread::map_vec(rt, seats, &worker) {
         Ok(work) => Ok(work),

@@ -44,12 +44,22 @@ fn is_of(
     )
 }
 
+/// Whether some of these boards is held.
+fn has_any(kept: &SharedBoards, boards: &[Board]) -> bool {
+    for board in boards {
+        if kept.has(board) {
+            return true;
+        }
+    }
+    false
+}
+
 /// Whether the footprint fits the history exactly where a plus stands before it. No problem has most of these histories, so
 /// the footprint is asked as `Proof::fits` asks it.
 fn fits_so(alloc: Global, found: &Footprint, size: Size, text: &[u8]) -> Option<bool> {
     let (sign, drawn) = text.split_first()?;
     let history = boards_of(alloc, size, drawn)?;
-    let fits = found.needs.all_in(&history) && found.avoids.none_in(&history);
+    let fits = found.needs.all_in(&history) && !has_any(&found.avoids, &history);
     Some(fits == (*sign == b'+'))
 }
 

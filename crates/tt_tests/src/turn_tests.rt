@@ -6,7 +6,8 @@ use crate::problem_tests::{has_turns, posed, turn};
 use crate::rows::{cut, short_number};
 use crate::turn_tables::TURNS;
 use std::alloc::{AllocError, Global};
-use tt_board::{Board, Boards};
+use std::sync::Arc;
+use tt_board::{Board, Trail};
 use tt_game::{Line, Side, Snapshot, Why};
 
 /// Whether the boards of a history are those that are drawn, with a stroke between two.
@@ -134,13 +135,18 @@ fn keeps(alloc: Global, line: &Line) -> bool {
     if boards.is_empty() {
         return false;
     }
-    let Ok(kept) = Boards::of(alloc, boards) else {
+    let Ok(base) = Arc::new(alloc, line.present().copy()) else {
         return false;
     };
-    let fewer = &boards[1..];
+    let Ok(kept) = Trail::of(alloc, &base, boards) else {
+        return false;
+    };
+    let Some(last) = kept.last() else {
+        return false;
+    };
     kept.are(boards)
-        && kept.last().same(line.present())
-        && !kept.are(fewer)
+        && last.same(line.present())
+        && !kept.are(&boards[1..])
         && !kept.are(&boards[..boards.len() - 1])
 }
 

@@ -1,7 +1,7 @@
--- How colourings are kept by edits, and boards one after another: by the last one and edits that lead back from it to the first, or
--- by a base and edits that lead on from it. The views of `Boards` and `Trail` and private contracts cite these.
+-- How colourings are kept by edits, and boards one after another by a base and edits that lead on from it. The view of `Trail` and
+-- private contracts cite these.
 use Rattle.std.specs.Int.{bit_at}
-use Rattle.std.specs.Prelude.{◌≡◌, ◌≢◌, ◌==◌, if◌then◌else◌, ℕ, ◌+◌, ◌<◌, ◌≤◌, List, [], ◌∷◌, ◌++◌, length, reverse, map, drop, Option, Some, None}
+use Rattle.std.specs.Prelude.{◌≡◌, ◌≢◌, ◌==◌, if◌then◌else◌, ℕ, ◌+◌, ◌<◌, ◌≤◌, List, [], ◌∷◌, ◌++◌, length, map, drop, Option, Some, None}
 use Rattle.tt_sgf.specs.declared.size.Size.{Size}
 use Rattle.tt_board.specs.declared.Colour.{Colour}
 use Rattle.tt_board.specs.declared.boards.differences.Edit.{Edit}
@@ -30,10 +30,6 @@ led c (e ∷ es) = led (edited c e) es
 abbrev pub board_of : Size → Colouring → Position
 board_of g c = record { size = g; points = c }
 
--- the boards to which edits lead back, oldest first, and the last one behind them
-abbrev pub boards_of : Position → List Edit → List Position
-boards_of b es = reverse (map (board_of b.size) (colourings_from b.points es)) ++ b ∷ []
-
 -- the boards to which edits lead from a base of their size, oldest first
 abbrev pub trail_of : Position → List Edit → List Position
 trail_of b es = map (board_of b.size) (colourings_from b.points es)
@@ -58,14 +54,14 @@ pub record IsHalf (here there : Colouring) (n : ℕ) (c : Colouring) : Type 0 wh
 abbrev pub AreAlikeBy : ℕ → ℕ → Colouring → Colouring → Type 0
 AreAlikeBy word from here there = (i : ℕ) → i < 64 → bit_at word i ≡ 0 → entry_at here (from + i) ≡ entry_at there (from + i)
 
--- the edits from one place on finish a colouring next, and lead on from it behind another place
+-- the edits from one index on finish a colouring next, and lead on from it behind another index
 pub record FinishesNext (es : List Edit) (from to : ℕ) (c next : Colouring) : Type 0 where
   pub on : from < to
   pub inside : to ≤ length es
   pub colourings : colourings_from c (drop from es) ≡ next ∷ colourings_from next (drop to es)
   pub end : led c (drop from es) ≡ led next (drop to es)
 
--- the edits from one place on finish no colouring, and lead to the end
+-- the edits from one index on finish no colouring, and lead to the end
 pub record IsLast (es : List Edit) (from : ℕ) (c end : Colouring) : Type 0 where
   pub none : colourings_from c (drop from es) ≡ []
   pub led_on : led c (drop from es) ≡ end

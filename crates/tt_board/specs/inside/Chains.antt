@@ -1,5 +1,5 @@
 -- Chains (the rules of Go): their stones and liberties, and the names by which a board finds them. Private contracts alone cite these.
-use Rattle.std.specs.Prelude.{◌≡◌, ◌≢◌, ℕ, ◌%◌, ◌/◌, ◌<◌, ◌≤◌, ◌⊎◌, ◌↔◌, ◌==◌, ◌&&◌, List, [], ◌∷◌, length, Option, Some, None, Bool, not, Contains, if◌then◌else◌, count_by, slice_index_or}
+use Rattle.std.specs.Prelude.{◌≡◌, ◌≢◌, ℕ, ◌%◌, ◌/◌, ◌<◌, ◌≤◌, ◌⊎◌, ◌↔◌, ◌==◌, ◌&&◌, List, [], ◌∷◌, length, Option, Some, None, Bool, not, if◌then◌else◌, count_by, slice_index_or}
 use Rattle.std.specs.List.{range_with_len}
 use Rattle.std.proofs.lemmas.Bool.{cases_eq}
 use Rattle.tt_board.specs.declared.Colour.{Colour}
@@ -28,21 +28,13 @@ AreLinked s c p q = (path : List ℕ) × Leads s c p path q
 abbrev pub IsEachOnce : List ℕ → Type 0
 IsEachOnce xs = (i j : ℕ) → i < j → j < length xs → slice_index_or xs i 0 ≢ slice_index_or xs j 0
 
--- n is how many points P holds of
-abbrev pub IsCountOf : ℕ → (ℕ → Type 0) → Type 0
-IsCountOf n P = (points : List ℕ) × (length points ≡ n) × IsEachOnce points × ((q : ℕ) → Contains points q ↔ P q)
-
--- q is a liberty of the chain of p: an empty point beside one of its stones
-abbrev pub IsLibertyOf : Size → Colouring → ℕ → ℕ → Type 0
-IsLibertyOf s c p q = (entry_at c q ≡ None) × ((r : ℕ) × AreLinked s c p r × IsNeighbour s r q)
-
 -- ---- how a board keeps them
 
--- the name of the chain on the place p; 0 where it is empty
+-- the name of the chain on the point p; 0 where it is empty
 abbrev pub name_at : List ℕ → ℕ → ℕ
 name_at ns p = slice_index_or ns p 0
 
--- the place where the counts of a chain are kept: one of its stones
+-- the point where the counts of a chain are kept: one of its stones
 abbrev pub root_of : ℕ → ℕ
 root_of e = e % 512
 
@@ -51,7 +43,7 @@ abbrev pub colour_number : Colour → ℕ
 colour_number Black = 1
 colour_number White = 2
 
--- a name fits what stands on a place
+-- a name fits what stands on a point
 abbrev pub IsNamed : Option Colour → ℕ → Type 0
 IsNamed None e = e ≡ 0
 IsNamed (Some k) e = e / 512 ≡ colour_number k
@@ -90,7 +82,7 @@ pub record AreCounted (s : Size) (ns stones liberties : List ℕ) : Type 0 where
   pub stones_true : (p : ℕ) → name_at ns p ≢ 0 → name_at stones (root_of (name_at ns p)) ≡ stone_count ns (name_at ns p)
   pub liberties_true : (p : ℕ) → name_at ns p ≢ 0 → name_at liberties (root_of (name_at ns p)) ≡ liberty_count s ns (name_at ns p)
 
--- a board with its chains: the name on each place, and counts of stones and of liberties
+-- a board with its chains: the name on each point, and counts of stones and of liberties
 pub record ChainBoard : Type 0 where
   pub size : Size
   pub points : Colouring
@@ -134,16 +126,16 @@ is_new s ns e q = (name_at ns q == 0) && not (decided (touching s ns e q))
 unfoldable pub count_beside : Size → (ℕ → Bool) → ℕ → ℕ
 count_beside s test p = count_by (λ q. test q && decided (neighbour s p q)) (range_with_len 0 (point_count s))
 
--- 1 for a place that is there and passes a test, 0 for another one or none
+-- 1 for a point that is there and passes a test, 0 for another one or none
 abbrev pub count_there : (ℕ → Bool) → Option ℕ → ℕ
 count_there test None = 0
 count_there test (Some q) = if test q then 1 else 0
 
--- 1 for the name of an empty place, 0 for another one
+-- 1 for the name of an empty point, 0 for another one
 abbrev pub bare_one : ℕ → ℕ
 bare_one m = if m == 0 then 1 else 0
 
--- the names on the four places beside p; NOWHERE where the board has no such place
+-- the names on the four neighbours of p; NOWHERE where the board has no such point
 pub record AreNear (s : Size) (ns : List ℕ) (p : ℕ) (near : Names) : Type 0 where
   pub touching : (m : ℕ) → m ≢ NOWHERE → IsOneName near.above near.left near.right near.below m ↔ Touches s ns m p
   pub bare : near.empty ≡ count_beside s (λ q. name_at ns q == 0) p

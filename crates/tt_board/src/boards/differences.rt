@@ -63,6 +63,14 @@ impl EditWord {
             _ => Edit::Whole,
         }
     }
+
+    /// Whether it is the same word, where those before were alike.
+    fn same_too(&self, other: &EditWord, before: bool) -> bool
+        ensures words { IsTrue result → self.now ≡ other.now }
+        ensures before { IsTrue result → IsTrue before }
+    {
+        self.0 == other.0 && before
+    }
 }
 
 /// Colourings of boards of one size, in a few bytes for each: the first is kept by how it differs from a base, which every
@@ -208,6 +216,20 @@ impl Differences {
             edit_points(points, edit);
         }
         None
+    }
+
+    /// Whether these are the same edits. No colouring is made for it.
+    pub(crate) fn same(&self, other: &Differences) -> bool
+        ensures { IsTrue result → self.now ≡ other.now }
+    {
+        if self.edits.len() != other.edits.len() {
+            return false;
+        }
+        let mut same = true;
+        for k in 0..self.edits.len() {
+            same = self.edits[k].same_too(&other.edits[k], same);
+        }
+        same
     }
 
     /// Whether there are no edits.

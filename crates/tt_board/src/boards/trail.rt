@@ -1,7 +1,7 @@
-//! Boards one after another, kept by how they differ from a board that many share: what has been played since a place takes a few
+//! Boards one after another, kept by how they differ from a board that many share: what has been played since a board takes a few
 //! bytes for each turn, and no board of its own.
 
-ghost use Rattle.std.specs.Prelude.{◌≡◌, ◌↔◌, List, ◌∷◌, ◌++◌, [], All, IsTrue, IfOk, MatchOption};
+ghost use Rattle.std.specs.Prelude.{◌≡◌, ◌↔◌, List, ◌∷◌, ◌++◌, [], All, Contains, IsTrue, IfOk, MatchOption};
 ghost use Rattle.std.specs.Arc.{arc_value};
 ghost use Rattle.tt_board.specs.Position.{Position};
 
@@ -67,6 +67,29 @@ impl Trail {
             from = next;
         }
         seen == boards.len()
+    }
+
+    /// Whether the others are kept alike, which are then the same boards. No board is made for it, and it takes no memory.
+    pub fn same(&self, other: &Trail) -> bool
+        ensures { IsTrue result → self.now ≡ other.now }
+    {
+        self.base.same(&*other.base) && self.steps.same(&other.steps)
+    }
+
+    /// Whether the board is one of them. It takes no memory.
+    pub fn has(&self, board: &Board) -> bool
+        ensures { IsTrue result → Contains self.now board.now }
+    {
+        let size = self.base.size();
+        let mut points = self.base.points().copy();
+        let mut from = 0;
+        while let Some(next) = self.steps.lead(from, &mut points) {
+            if board.shows(size, &points) {
+                return true;
+            }
+            from = next;
+        }
+        false
     }
 
     /// The last board, made anew; none where there are no boards.

@@ -1,4 +1,4 @@
-//! The points beside those of a set, all at once: six words are moved by a place and by a row.
+//! The points beside those of a set, all at once: six words are moved by a column and by a row.
 
 ghost use Rattle.std.specs.Prelude.{◌≡◌, ℕ, ◌%◌, ◌<◌, ◌≤◌, ◌↔◌, true, false};
 ghost use Rattle.tt_sgf.specs.declared.bits.TheConstants.{BITS};

@@ -9,7 +9,7 @@ ghost use Rattle.tt_sgf.specs.Words.{bit_in};
 ghost use Rattle.tt_board.specs.Reach.{entry_at};
 ghost use Rattle.tt_board.specs.Play.{IsAlive, play_of};
 ghost use Rattle.tt_board.specs.PlayKind.{IsKind};
-ghost use Rattle.tt_board.specs.inside.Chains.{name_at, root_of, colour_number, renamed, IsEachOnce, IsOneName, IsCountOf, IsLibertyOf, AreLinked, AreNear, HasLost};
+ghost use Rattle.tt_board.specs.inside.Chains.{name_at, root_of, colour_number, renamed, IsEachOnce, IsOneName, AreNear, HasLost};
 
 use crate::Colour;
 use crate::colouring::Colouring;
@@ -22,10 +22,10 @@ use crate::counted::play_kind::{Names, PlayKind, colour_number, names_beside};
 use std::marker::Model;
 use tt_sgf::{BITS, Bits, Size};
 
-/// Of so many places the names and the counts are copied in three parts; of more in one, with those behind them.
+/// Of so many points the names and the counts are copied in three parts; of more in one, with those behind them.
 const FEW: usize = 180;
 
-/// The name of the chain on each place, 0 where it is empty, and each chain's counts of stones and of liberties at its root. They lie
+/// The name of the chain on each point, 0 where it is empty, and each chain's counts of stones and of liberties at its root. They lie
 /// side by side, so that a large board takes them over from another one in one move.
 #[derive(Clone, Copy)]
 struct ChainCounts {
@@ -53,7 +53,7 @@ impl Model for Chains {
     ghost invariant = { λ b. IsChainBoard (record { size = b.size; points = b.points; names = b.counts.names; stones = b.counts.stones; liberties = b.counts.liberties; end = b.end }) };
 }
 
-/// A number 0 for each place.
+/// A number 0 for each point.
 fn zeros() -> [u16; 361]
     ensures { result ≡ replicate MOST_POINTS 0 }
 {
@@ -116,26 +116,8 @@ impl Chains {
         &self.points
     }
 
-    /// How many stones the chain of the stone on `p` has, 1 to 360.
-    pub(crate) fn stones(&self, p: usize) -> u16
-        requires on_board { p < point_count self.now.size }
-        requires stone { entry_at self.now.points p ≢ None }
-        ensures { IsCountOf result (AreLinked self.now.size self.now.points p) }
-    {
-        self.counts.stones[root_of(self.counts.names[p])]
-    }
-
-    /// How many liberties the chain of the stone on `p` has, 1 to 360.
-    pub(crate) fn liberties(&self, p: usize) -> u16
-        requires on_board { p < point_count self.now.size }
-        requires stone { entry_at self.now.points p ≢ None }
-        ensures { IsCountOf result (IsLibertyOf self.now.size self.now.points p) }
-    {
-        self.counts.liberties[root_of(self.counts.names[p])]
-    }
-
     /// Puts a stone on the empty point `p`, where each stone reaches empty then, and makes it one with the chains of its colour beside it.
-    pub(crate) fn place(&mut self, colour: Colour, p: usize)
+    pub(crate) fn put_stone(&mut self, colour: Colour, p: usize)
         requires on_board { p < point_count self.old.size }
         requires free { entry_at self.old.points p ≡ None }
         requires alive { IsAlive self.old.size (slice_set self.old.points p (Some colour)) }
@@ -146,7 +128,7 @@ impl Chains {
         self.put(colour, p, &near);
     }
 
-    /// Puts a stone as `place` does, where these are the names beside `p`.
+    /// Puts a stone as `put_stone` does, where these are the names beside `p`.
     fn put(&mut self, colour: Colour, p: usize, near: &Names)
         requires on_board { p < point_count self.old.size }
         requires free { entry_at self.old.points p ≡ None }
@@ -205,7 +187,7 @@ impl Chains {
         let mut made = Chains::empty(size);
         for p in 0..size.point_count() {
             if let Some(colour) = points.at(p) {
-                made.place(colour, p);
+                made.put_stone(colour, p);
             }
         }
         made
@@ -321,7 +303,7 @@ impl Chains {
             self.take(*name);
         }
         if !look.suicide {
-            self.place(colour, p);
+            self.put_stone(colour, p);
         }
     }
 

@@ -44,7 +44,7 @@ fn take_beside(liberties: &mut [u16], near: &Names)
     take_from(liberties, near.below, near.above, near.left, near.right);
 }
 
-/// Puts a stone on the empty place `p` as a chain of its own, which takes a liberty from each chain beside it.
+/// Puts a stone on the empty point `p` as a chain of its own, which takes a liberty from each chain beside it.
 pub(crate) fn start(
     size: Size,
     names: &mut [u16],
@@ -70,7 +70,7 @@ pub(crate) fn start(
     liberties[p] = near.empty;
 }
 
-/// The first place from `start` on with this name, where there is one.
+/// The first point from `start` on with this name, where there is one.
 fn next_named(names: &[u16], start: usize, name: u16) -> usize
     requires { (q : ℕ) × (start ≤ q) × (q < length names.now) × (name_at names.now q ≡ name) }
     ensures from { start ≤ result }

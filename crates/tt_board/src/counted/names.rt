@@ -1,4 +1,4 @@
-//! The names of chains on the places of a board: which chains are beside a point, and what a stone there brings them.
+//! The names of chains on the points of a board: which chains are beside a point, and what a stone there brings them.
 
 ghost use Rattle.std.specs.Prelude.{◌≡◌, ◌≢◌, ℕ, ◌+◌, ◌<◌, ◌≤◌, ◌⊎◌, ◌↔◌, ◌==◌, ◌++◌, length, take, drop, Contains, IsTrue, Some, false};
 ghost use Rattle.tt_sgf.specs.Sizes.{point_count};
@@ -8,7 +8,7 @@ use crate::near::beside;
 use arrayvec::ArrayVec;
 use tt_sgf::Size;
 
-/// The place where the counts of a chain are kept.
+/// The point where the counts of a chain are kept.
 #[inline]
 pub(crate) fn root_of(name: u16) -> usize
     ensures value { result ≡ root_of name }
@@ -17,7 +17,7 @@ pub(crate) fn root_of(name: u16) -> usize
     usize::from(name % 512)
 }
 
-/// Copies the entries of the first `count` places, and no other.
+/// Copies the entries of the first `count` points, and no other.
 #[inline]
 pub(crate) fn take_over(entries: &mut [u16], from: &[u16], count: usize)
     requires inside { (count ≤ length entries.old) × (count ≤ length from.now) }
@@ -26,13 +26,13 @@ pub(crate) fn take_over(entries: &mut [u16], from: &[u16], count: usize)
     entries[..count].copy_from_slice(&from[..count]);
 }
 
-/// Whether the board has a place, and this name stands there.
+/// Whether the board has a point, and this name stands there.
 #[inline]
-fn has_name(names: &[u16], place: Option<usize>, name: u16) -> bool
-    requires { (q : ℕ) → place ≡ Some q → q < length names.now }
-    ensures { IsTrue result ↔ ((q : ℕ) × (place ≡ Some q) × (name_at names.now q ≡ name)) }
+fn has_name(names: &[u16], index: Option<usize>, name: u16) -> bool
+    requires { (q : ℕ) → index ≡ Some q → q < length names.now }
+    ensures { IsTrue result ↔ ((q : ℕ) × (index ≡ Some q) × (name_at names.now q ≡ name)) }
 {
-    match place {
+    match index {
         Some(q) => names[q] == name,
         None => false,
     }
@@ -57,15 +57,15 @@ fn touches(size: Size, names: &[u16], name: u16, p: usize) -> bool
     has_name(names, near.below, name)
 }
 
-/// 1 for a place that is empty and that no stone of the chain is beside, 0 for another one or none.
+/// 1 for a point that is empty and that no stone of the chain is beside, 0 for another one or none.
 #[inline]
-fn new_there(size: Size, names: &[u16], name: u16, place: Option<usize>) -> u16
+fn new_there(size: Size, names: &[u16], name: u16, index: Option<usize>) -> u16
     requires wide { point_count size ≤ length names.now }
-    requires on_board { (q : ℕ) → place ≡ Some q → q < point_count size }
-    ensures value { result ≡ count_there (is_new size names.now name) place }
+    requires on_board { (q : ℕ) → index ≡ Some q → q < point_count size }
+    ensures value { result ≡ count_there (is_new size names.now name) index }
     ensures small { result ≤ 1 }
 {
-    match place {
+    match index {
         Some(q) => {
             if names[q] == 0 && !touches(size, names, name, q) {
                 1
@@ -99,18 +99,18 @@ pub(crate) fn is_fresh(found: &ArrayVec<u16, 4>, name: u16) -> bool
     found.is_empty() || !found.as_slice().contains(&name)
 }
 
-/// Adds the chain on a place to those found, if there is one that is not among them, and but one.
+/// Adds the chain on a point to those found, if there is one that is not among them, and but one.
 #[inline]
-fn push_there(found: &mut ArrayVec<u16, 4>, names: &[u16], place: Option<usize>, but: u16)
-    requires inside { (q : ℕ) → place ≡ Some q → q < length names.now }
+fn push_there(found: &mut ArrayVec<u16, 4>, names: &[u16], index: Option<usize>, but: u16)
+    requires inside { (q : ℕ) → index ≡ Some q → q < length names.now }
     requires room { length found.old.items < 4 }
     requires once { IsEachOnce found.old.items }
     ensures few { length found.new.items ≤ length found.old.items + 1 }
     ensures still_once { IsEachOnce found.new.items }
     ensures added { (m : ℕ) → Contains found.new.items m
-        ↔ (Contains found.old.items m ⊎ ((m ≢ 0) × (m ≢ but) × ((q : ℕ) × (place ≡ Some q) × (name_at names.now q ≡ m)))) }
+        ↔ (Contains found.old.items m ⊎ ((m ≢ 0) × (m ≢ but) × ((q : ℕ) × (index ≡ Some q) × (name_at names.now q ≡ m)))) }
 {
-    if let Some(q) = place {
+    if let Some(q) = index {
         let name = names[q];
         if name != 0 && name != but && is_fresh(found, name) {
             found.push(name);

@@ -21,10 +21,10 @@ pub enum PlayKind {
     NeedsBoard,
 }
 
-/// In the place of a name where the board has no place. No chain has it.
+/// Instead of a name where the board has no point. No chain has it.
 pub(crate) const NOWHERE: u16 = 1536;
 
-/// The names on the four places beside a point, `NOWHERE` where the board has no such place; and how many of them are empty.
+/// The names on the four neighbours of a point, `NOWHERE` where the board has no such point; and how many of them are empty.
 #[derive(Clone, Copy)]
 pub(crate) struct Names {
     pub(crate) above: u16,
@@ -45,13 +45,13 @@ pub(crate) fn colour_number(colour: Colour) -> u16
     }
 }
 
-/// The name on a place; `NOWHERE` for no place.
+/// The name on a point; `NOWHERE` for no point.
 #[inline]
-fn name_there(names: &[u16], place: Option<usize>) -> u16
-    requires { (q : ℕ) → place ≡ Some q → q < length names.now }
-    ensures { MatchOption place (result ≡ NOWHERE) (λ q. result ≡ name_at names.now q) }
+fn name_there(names: &[u16], index: Option<usize>) -> u16
+    requires { (q : ℕ) → index ≡ Some q → q < length names.now }
+    ensures { MatchOption index (result ≡ NOWHERE) (λ q. result ≡ name_at names.now q) }
 {
-    match place {
+    match index {
         Some(q) => names[q],
         None => NOWHERE,
     }
@@ -87,7 +87,7 @@ pub(crate) fn is_last(liberties: &[u16], name: u16, code: u16) -> bool
     name / 512 == code && liberties[root_of(name)] == 1
 }
 
-/// Whether the name is that of an empty place, or of a chain of the colour of this code, with another number of liberties than one.
+/// Whether the name is that of an empty point, or of a chain of the colour of this code, with another number of liberties than one.
 #[inline]
 fn is_open(liberties: &[u16], name: u16, code: u16) -> bool
     requires { root_of name < length liberties.now }
@@ -96,7 +96,7 @@ fn is_open(liberties: &[u16], name: u16, code: u16) -> bool
     name == 0 || (name / 512 == code && liberties[root_of(name)] != 1)
 }
 
-/// 1 for the name of an empty place, 0 for another one.
+/// 1 for the name of an empty point, 0 for another one.
 #[inline]
 fn empty_one(name: u16) -> u16
     ensures { result ≡ bare_one name }
@@ -118,7 +118,7 @@ impl Names {
             || is_last(liberties, self.below, code)
     }
 
-    /// Whether a place is empty, or a chain of the colour of this code has not one liberty.
+    /// Whether a point is empty, or a chain of the colour of this code has not one liberty.
     #[inline]
     pub(crate) fn has_open(&self, liberties: &[u16], code: u16) -> bool
         requires { (m : ℕ) → IsOneName self.now.above self.now.left self.now.right self.now.below m → root_of m < length liberties.now }

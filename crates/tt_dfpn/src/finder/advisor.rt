@@ -5,7 +5,7 @@ ghost use Rattle.std.specs.Prelude.{◌≡◌, ◌≤◌};
 use crate::advice::{Advice, Visits};
 use crate::finder::board::SearchBoard;
 use crate::finder::search::{Finder, keys_of};
-use crate::finder::table::{LOST, NO_TURN, Numbers, PASS, UNKNOWN, WON, turn_of};
+use crate::finder::transpositions::{LOST, NO_TURN, Numbers, PASS, UNKNOWN, WON, turn_of};
 use std::alloc::Global;
 use tt_board::{Board, Colour};
 use tt_game::{Line, Side, Turn};
@@ -110,15 +110,13 @@ impl Advisor {
         self.begin_anew(line)
     }
 
-    /// Searches where the finder's board stands, up to so many positions of those that are left.
+    /// Searches where the finder's board stands, with at most so many visits.
     fn search(&mut self, mover: Colour, most: u32, visits: &mut Visits) -> Numbers
         ensures fewer { visits.new.left ≤ visits.old.left }
     {
-        let granted = most.min(visits.left);
-        let numbers = self.finder.search_here(mover, granted);
-        let used = granted.saturating_sub(self.finder.left);
-        self.visited = self.visited.saturating_add(used);
-        visits.left = visits.left.saturating_sub(used);
+        let before = visits.left;
+        let numbers = self.finder.search_here(mover, most, visits);
+        self.visited = self.visited.saturating_add(before - visits.left);
         numbers
     }
 
@@ -199,8 +197,8 @@ impl Advisor {
         count
     }
 
-    /// The turn of the defender, whose targets live unconditionally, that leaves them so and the attacker the fewest points; a pass
-    /// where no play leaves them so.
+    /// The turn of the defender, whose targets live unconditionally: of the plays in enclosed areas that leave them so the one that
+    /// leaves the attacker the fewest points, or a pass where there is none. A play elsewhere only makes more positions.
     fn turn_of_living(&mut self) -> u16 {
         let mut best = PASS;
         let mut fewest = usize::MAX;
@@ -209,7 +207,8 @@ impl Advisor {
                 break;
             };
             let p = *point;
-            if !self.finder.board.is_empty(p) {
+            let board = &self.finder.board;
+            if !board.is_empty(p) || !self.finder.region.is_enclosed(board, p) {
                 continue;
             }
             if let Some(points) = self.points_behind(p) {

@@ -6,14 +6,14 @@
 ghost use Rattle.std.specs.Prelude.{◌≡◌, ◌<◌};
 
 use crate::finder::board::{SearchBoard, index};
-use crate::finder::region::{Places, Region};
+use crate::finder::region::{PointFlags, Region};
 
 /// How many chains and how many areas are looked at.
 const MOST: usize = 64;
 
 /// The chains of the defender beside the areas.
 #[derive(Drop)]
-struct Chains {
+struct BorderChains {
     names: [u16; 64],
     count: usize,
 }
@@ -40,7 +40,15 @@ fn place(k: usize) -> usize
     k % 64
 }
 
-impl Chains {
+impl BorderChains {
+    /// None yet.
+    fn none() -> BorderChains {
+        BorderChains {
+            names: [0; 64],
+            count: 0,
+        }
+    }
+
     /// The number of a chain; a new one where it is new. None where there are too many.
     #[inline]
     fn number(&mut self, name: u16) -> Option<usize> {
@@ -61,7 +69,7 @@ impl Chains {
 
 /// A walk over one area.
 #[derive(Drop)]
-struct Walk {
+struct AreaWalk {
     points: [u16; 512],
     count: usize,
     is_open: bool,
@@ -76,9 +84,9 @@ impl Region {
         &self,
         board: &SearchBoard,
         p: u16,
-        seen: &mut Places,
-        chains: &mut Chains,
-        walk: &mut Walk,
+        seen: &mut PointFlags,
+        chains: &mut BorderChains,
+        walk: &mut AreaWalk,
     ) -> Option<()> {
         let beside = board.beside(p);
         let mut touched = 0u64;
@@ -108,10 +116,10 @@ impl Region {
         &self,
         board: &SearchBoard,
         start: u16,
-        seen: &mut Places,
-        chains: &mut Chains,
+        seen: &mut PointFlags,
+        chains: &mut BorderChains,
     ) -> Option<(u64, u64)> {
-        let mut walk = Walk {
+        let mut walk = AreaWalk {
             points: [0; 512],
             count: 1,
             is_open: false,
@@ -132,14 +140,24 @@ impl Region {
         Some((walk.beside, walk.vital & walk.beside))
     }
 
+    /// Whether the area of an empty point touches nothing open.
+    pub(crate) fn is_enclosed(&self, board: &SearchBoard, p: u16) -> bool {
+        let mut chains = BorderChains::none();
+        let mut seen: PointFlags = [false; 512];
+        match self.area(board, p, &mut seen, &mut chains) {
+            Some((beside, _)) => beside != 0,
+            None => false,
+        }
+    }
+
     /// The areas, where there aren't too many chains.
-    fn areas(&self, board: &SearchBoard, chains: &mut Chains) -> Option<Areas> {
+    fn areas(&self, board: &SearchBoard, chains: &mut BorderChains) -> Option<Areas> {
         let mut areas = Areas {
             beside: [0; 64],
             vital: [0; 64],
             count: 0,
         };
-        let mut seen: Places = [false; 512];
+        let mut seen: PointFlags = [false; 512];
         for p in &self.points {
             if !board.is_empty(*p) || seen[index(*p)] {
                 continue;
@@ -155,7 +173,7 @@ impl Region {
     }
 
     /// The set of the targets' chains, where all are beside an area.
-    fn target_chains(&self, board: &SearchBoard, chains: &mut Chains) -> Option<u64> {
+    fn target_chains(&self, board: &SearchBoard, chains: &mut BorderChains) -> Option<u64> {
         let mut set = 0u64;
         for t in &self.targets {
             let before = chains.count;
@@ -170,10 +188,7 @@ impl Region {
 
     /// Whether all targets are unconditionally alive. A chain with a liberty outside the region is, too.
     pub(crate) fn is_alive(&self, board: &SearchBoard) -> bool {
-        let mut chains = Chains {
-            names: [0; 64],
-            count: 0,
-        };
+        let mut chains = BorderChains::none();
         let Some(areas) = self.areas(board, &mut chains) else {
             return false;
         };
@@ -206,7 +221,7 @@ fn eyes(areas: &Areas, whole: u64, k: usize) -> usize {
 
 /// Takes away chains with fewer than two vital areas, and areas beside which one was taken away, until none goes; whether the targets
 /// stay.
-fn stay(chains: &Chains, areas: &Areas, safe: u64, targets: u64) -> bool {
+fn stay(chains: &BorderChains, areas: &Areas, safe: u64, targets: u64) -> bool {
     let mut alive = u64::MAX;
     let mut whole = u64::MAX;
     for _ in 0..130u8 {

@@ -7,7 +7,7 @@ use tt_game::Line;
 use tt_sgf::{NoMemory, Point};
 
 /// A set of places.
-pub(crate) type Places = [bool; 512];
+pub(crate) type PointFlags = [bool; 512];
 
 /// The region and the targets of a problem.
 #[derive(Drop)]
@@ -15,9 +15,9 @@ pub(crate) struct Region {
     pub(crate) defender: Colour,
     pub(crate) points: Vec<u16>,
     pub(crate) targets: Vec<u16>,
-    pub(crate) inside: Places,
+    pub(crate) inside: PointFlags,
     /// What no eye of the defender may hold: open points outside the region, and the attacker's chains with a liberty there.
-    pub(crate) open: Places,
+    pub(crate) open: PointFlags,
 }
 
 impl Region {

@@ -3,11 +3,14 @@
 //! Positions that differ by their history alone share one entry, but for lines that were found to differ (A. Kishimoto,
 //! M. Müller, "A General Solution to the Graph History Interaction Problem", 2004).
 
-ghost use Rattle.std.specs.Prelude.{◌≡◌, ◌<◌, ◌≤◌, length, IfSome};
+ghost use Rattle.std.specs.Prelude.{◌≡◌, ◌<◌, ◌≤◌, length, true, false, IfSome};
 
+use crate::advice::Visits;
 use crate::finder::board::{SearchBoard, index};
 use crate::finder::region::Region;
-use crate::finder::table::{Entry, INFINITE, LOST, NO_TURN, Numbers, PASS, Table, UNKNOWN, WON};
+use crate::finder::transpositions::{
+    Entry, INFINITE, LOST, NO_TURN, Numbers, PASS, TranspositionTable, UNKNOWN, WON,
+};
 use crate::finder::zobrist::mover_key;
 use std::alloc::Global;
 use tt_board::Colour;
@@ -62,8 +65,8 @@ pub(crate) struct Finder {
     pub(crate) alloc: Global,
     pub(crate) board: SearchBoard,
     pub(crate) region: Region,
-    positions: Table,
-    lines: Table,
+    positions: TranspositionTable,
+    lines: TranspositionTable,
     has_lines: bool,
     /// How often each turn won, by colour (J. Schaeffer, "The History Heuristic", 1989).
     wins: [[u32; 512]; 2],
@@ -71,8 +74,8 @@ pub(crate) struct Finder {
     lists: Vec<Vec<Child>>,
     /// Whether suicides and plays into the mover's own eyes are left out.
     prunes: bool,
-    /// How many positions may still be visited.
-    pub(crate) left: u32,
+    /// The search ends where no more visits are left than these.
+    reserve: u32,
 }
 
 /// The index of a colour.
@@ -161,13 +164,13 @@ impl Finder {
             alloc,
             board,
             region,
-            positions: Table::new(alloc, FIRST_ROWS, most)?,
-            lines: Table::new(alloc, FIRST_LINE_ROWS, MOST_LINE_ROWS)?,
+            positions: TranspositionTable::new(alloc, FIRST_ROWS, most)?,
+            lines: TranspositionTable::new(alloc, FIRST_LINE_ROWS, MOST_LINE_ROWS)?,
             has_lines: false,
             wins: [[0; 512]; 2],
             lists: Vec::new(alloc),
             prunes: true,
-            left: positions,
+            reserve: 0,
         })
     }
 
@@ -197,9 +200,7 @@ impl Finder {
 
     /// Keeps what is known of a position: as its line's own, where that has an entry.
     #[inline]
-    fn keep(&mut self, keys: Keys, numbers: Numbers, best: u16, work: u32)
-        ensures left { self.new.left ≡ self.old.left }
-    {
+    fn keep(&mut self, keys: Keys, numbers: Numbers, best: u16, work: u32) {
         let mut entry = Entry {
             key: keys.position,
             numbers,
@@ -215,9 +216,7 @@ impl Finder {
     }
 
     /// Gives a line an entry of its own.
-    pub(crate) fn keep_line(&mut self, keys: Keys, numbers: Numbers, best: u16)
-        ensures left { self.new.left ≡ self.old.left }
-    {
+    pub(crate) fn keep_line(&mut self, keys: Keys, numbers: Numbers, best: u16) {
         self.has_lines = true;
         self.lines.grow(self.alloc);
         self.lines.keep(Entry {
@@ -238,9 +237,7 @@ impl Finder {
 
     /// Adds a turn to a list, behind those that won more often. Without memory the search ends.
     #[inline]
-    fn add(&mut self, list: &mut Vec<Child>, mover: Colour, turn: u16, keys: Keys)
-        ensures left { self.new.left ≤ self.old.left }
-    {
+    fn add(&mut self, list: &mut Vec<Child>, mover: Colour, turn: u16, keys: Keys) {
         let numbers = match self.find(keys) {
             Some(entry) => entry.numbers,
             None => UNKNOWN,
@@ -251,7 +248,7 @@ impl Finder {
             wins: self.wins[colour_index(mover)][index(turn)],
         };
         if list.push(child).is_err() {
-            self.left = 0;
+            self.end();
             return;
         }
         for k in (1..list.len()).rev() {
@@ -280,9 +277,7 @@ impl Finder {
 
     /// Adds a play on the empty point to a list, where it is worth a look; whether it wins at once.
     #[inline]
-    fn add_play(&mut self, list: &mut Vec<Child>, mover: Colour, p: u16) -> bool
-        ensures left { self.new.left ≤ self.old.left }
-    {
+    fn add_play(&mut self, list: &mut Vec<Child>, mover: Colour, p: u16) -> bool {
         let attacks = mover != self.region.defender;
         let effect = self.board.effect(mover, p);
         if (effect.is_suicide && self.prunes) || self.board.history().has(effect.hash) {
@@ -301,9 +296,7 @@ impl Finder {
     }
 
     /// Lists the turns of a colour, without the attacker's pass; or the turn that wins at once, where there is one.
-    pub(crate) fn list_turns(&mut self, mover: Colour, list: &mut Vec<Child>) -> Option<u16>
-        ensures left { self.new.left ≤ self.old.left }
-    {
+    pub(crate) fn list_turns(&mut self, mover: Colour, list: &mut Vec<Child>) -> Option<u16> {
         let attacks = mover != self.region.defender;
         if attacks {
             if let Some(p) = self.winning_play(mover) {
@@ -339,27 +332,48 @@ impl Finder {
         self.region.is_alive(&self.board)
     }
 
-    /// Searches where the board stands and a colour moves, up to so many positions; what is known then.
-    pub(crate) fn search_here(&mut self, mover: Colour, positions: u32) -> Numbers {
-        self.left = positions;
+    /// Ends the search that runs, where it has no memory.
+    fn end(&mut self) {
+        self.reserve = u32::MAX;
+    }
+
+    /// Whether the search that runs is at its end.
+    #[inline(always)]
+    fn is_over(&self, visits: &Visits) -> bool
+        ensures over { result ≡ true → visits.now.left ≤ self.now.reserve }
+        ensures open { result ≡ false → self.now.reserve < visits.now.left }
+    {
+        visits.left <= self.reserve
+    }
+
+    /// Searches where the board stands and a colour moves, with at most so many visits; what is known then.
+    pub(crate) fn search_here(
+        &mut self,
+        mover: Colour,
+        visited: u32,
+        visits: &mut Visits,
+    ) -> Numbers
+        ensures fewer { visits.new.left ≤ visits.old.left }
+    {
+        self.reserve = visits.left.saturating_sub(visited);
         let most = Numbers {
             proof: INFINITE,
             disproof: INFINITE,
         };
-        self.search(mover, most, MOST_TURNS)
+        self.search(mover, most, MOST_TURNS, visits)
     }
 
-    /// Searches a position until one of its numbers reaches its threshold.
+    /// Searches a position until one of its numbers reaches its threshold. It is a visit, where the search isn't over.
     #[cycle(descent)]
-    fn search(&mut self, mover: Colour, most: Numbers, room: u16) -> Numbers
-        ensures left { self.new.left ≤ self.old.left }
+    fn search(&mut self, mover: Colour, most: Numbers, room: u16, visits: &mut Visits) -> Numbers
+        ensures fewer { visits.new.left ≤ visits.old.left }
+        ensures counts { self.old.reserve < visits.old.left → visits.new.left < visits.old.left }
     {
-        if self.left == 0 {
+        if self.is_over(visits) {
             return UNKNOWN;
         }
-        self.left -= 1;
-        let start = self.left;
-        if start % 1024 == 0 {
+        visits.left -= 1;
+        if visits.left % 1024 == 0 {
             self.positions.grow(self.alloc);
         }
         let mut list = match self.lists.pop() {
@@ -375,13 +389,14 @@ impl Finder {
             self.keep(keys, LOST, NO_TURN, 1);
             LOST
         } else {
-            self.expand(mover, keys, most, room, &mut list)
+            self.expand(mover, keys, most, room, &mut list, visits)
         };
         let _ = self.lists.push(list);
         found
     }
 
-    /// Visits the best child until one of the position's numbers reaches its threshold.
+    /// Visits the best child until one of the position's numbers reaches its threshold. Nothing is known of the position where the
+    /// search ended before all its turns were listed.
     #[cycle(descent)]
     fn expand(
         &mut self,
@@ -390,17 +405,21 @@ impl Finder {
         most: Numbers,
         room: u16,
         list: &mut Vec<Child>,
+        visits: &mut Visits,
     ) -> Numbers
-        ensures left { self.new.left ≤ self.old.left }
+        ensures fewer { visits.new.left ≤ visits.old.left }
     {
-        let start = self.left;
+        if self.reserve == u32::MAX {
+            return UNKNOWN;
+        }
+        let start = visits.left;
         for _ in 0..u64::MAX {
             let choice = choice_of(list.as_slice());
             let numbers = choice.numbers;
             let k = match choice.best {
-                Some(k) if !self.is_done(numbers, most) => k,
+                Some(k) if !self.is_done(numbers, most, visits) => k,
                 best => {
-                    let work = start.saturating_sub(self.left).saturating_add(1);
+                    let work = start.saturating_sub(visits.left).saturating_add(1);
                     let turn = match best {
                         Some(k) => list[k].turn,
                         None => NO_TURN,
@@ -411,26 +430,24 @@ impl Finder {
             };
             let child = list[k];
             let bounds = thresholds_of(&choice, &child.numbers, most);
-            list[k].numbers = self.visit(mover, child.turn, bounds, room);
+            list[k].numbers = self.visit(mover, child.turn, bounds, room, visits);
         }
         UNKNOWN
     }
 
     /// Whether a search ends with these numbers.
     #[inline(always)]
-    fn is_done(&self, numbers: Numbers, most: Numbers) -> bool {
+    fn is_done(&self, numbers: Numbers, most: Numbers, visits: &Visits) -> bool {
         numbers.proof >= most.proof
             || numbers.disproof >= most.disproof
             || numbers.proof == 0
             || numbers.disproof == 0
-            || self.left == 0
+            || self.is_over(visits)
     }
 
     /// Keeps what a position's search came to.
     #[inline]
-    fn close(&mut self, mover: Colour, keys: Keys, numbers: Numbers, best: u16, work: u32)
-        ensures left { self.new.left ≡ self.old.left }
-    {
+    fn close(&mut self, mover: Colour, keys: Keys, numbers: Numbers, best: u16, work: u32) {
         if numbers.proof == 0 {
             let count = &mut self.wins[colour_index(mover)][index(best)];
             *count = count.wrapping_add(1);
@@ -438,22 +455,29 @@ impl Finder {
         self.keep(keys, numbers, best, work);
     }
 
-    /// Searches the position behind a turn.
+    /// Searches the position behind a turn; one that is too deep counts as lost. Nothing is known of one that has no memory.
     #[cycle(descent)]
-    fn visit(&mut self, mover: Colour, turn: u16, most: Numbers, room: u16) -> Numbers
-        ensures left { self.new.left ≤ self.old.left }
+    fn visit(
+        &mut self,
+        mover: Colour,
+        turn: u16,
+        most: Numbers,
+        room: u16,
+        visits: &mut Visits,
+    ) -> Numbers
+        ensures fewer { visits.new.left ≤ visits.old.left }
     {
         if room == 0 {
             return LOST;
         }
         if turn == PASS {
-            return self.search(mover.other(), most, room - 1);
+            return self.search(mover.other(), most, room - 1, visits);
         }
         if self.board.play(mover, turn).is_err() {
-            self.left = 0;
-            return LOST;
+            self.end();
+            return UNKNOWN;
         }
-        let numbers = self.search(mover.other(), most, room - 1);
+        let numbers = self.search(mover.other(), most, room - 1, visits);
         self.board.unplay();
         numbers
     }

@@ -14,7 +14,7 @@ use crate::history::History;
 use crate::history::bloom_filter::{BloomFilter, hash_of};
 use std::marker::Model;
 use std::sync::Arc;
-use tt_board::{Board, Boards, Colour};
+use tt_board::{Board, Colour, Trail};
 use tt_sgf::{Bits, NoMemory, Point};
 
 /// To compare a colouring with so many boards costs about what its hash costs.
@@ -26,12 +26,12 @@ pub(crate) const MANY: u16 = 20;
 /// A frame, and the boards that lines had when the first of them began. Contracts see it as `Rooted`.
 ///
 /// The stones of all these boards stand together in twelve words, and their hashes were noted, so that superko asks once for what
-/// hundreds of boards never had. The base is a board from which those of later places are told by how they differ.
+/// hundreds of boards never had. The base is the last of them: boards are kept by how they differ from it.
 #[derive(Drop)]
 pub(crate) struct Root {
     frame: Frame,
     many: bool,
-    boards: Boards,
+    boards: Trail,
     count: usize,
     base: Arc<Board>,
     black: Bits,
@@ -40,8 +40,9 @@ pub(crate) struct Root {
 }
 
 impl Model for Root {
-    ghost use Rattle.std.specs.Prelude.{◌≡◌, ◌<◌, length, All};
+    ghost use Rattle.std.specs.Prelude.{◌≡◌, ◌<◌, ◌++◌, ◌∷◌, [], List, length, All};
     ghost use Rattle.std.specs.Arc.{arc_value};
+    ghost use Rattle.tt_board.specs.Position.{Position};
     ghost use Rattle.std.specs.Coded.{codes};
     ghost use Rattle.tt_sgf.specs.contracts.sets.PointSet as points;
     ghost use Rattle.tt_board.specs.declared.Colour.TheVariants.{Black, White};
@@ -59,7 +60,7 @@ impl Model for Root {
       count : r.count ≡ length r.boards;
       some_board : 0 < length r.boards;
       sizes : All (λ b. b.size ≡ r.frame.size) r.boards;
-      base : (arc_value r.base).size ≡ r.frame.size;
+      base : (before : List Position) × (r.boards ≡ before ++ arc_value r.base ∷ []);
       black : AreStonesOf Black r.boards r.black.words;
       white : AreStonesOf White r.boards r.white.words;
       filter : MayHoldAll r.filter r.frame.size (colourings r.boards);
@@ -90,12 +91,13 @@ impl Root {
         } else {
             BloomFilter::of_all(alloc, boards)
         };
+        let base = Arc::new(alloc, boards[boards.len() - 1].copy())?;
         Ok(Root {
             frame: frame.copy(),
             many: frame.region.count() >= MANY,
-            boards: Boards::of(alloc, boards)?,
+            boards: Trail::of(alloc, &base, boards)?,
             count: boards.len(),
-            base: Arc::new(alloc, history.present().copy())?,
+            base,
             black: stones_of(boards, Colour::Black),
             white: stones_of(boards, Colour::White),
             filter,
@@ -176,6 +178,14 @@ impl Root {
         self.filter.has(hash)
     }
 
+    /// Whether the other beginning is kept alike, and so has the same boards. No board is made for it.
+    pub(crate) fn same_beginning(&self, other: &Root) -> bool
+        ensures same { IsTrue result → self.now.begun ≡ other.now.begun }
+        ensures sizes { All (λ b. b.size ≡ self.now.frame.size) self.now.begun }
+    {
+        self.boards.same(&other.boards)
+    }
+
     /// Whether these are exactly the boards of the beginning. It takes no memory.
     pub(crate) fn began_with(&self, boards: &[Board]) -> bool
         ensures { IsTrue result ↔ (self.now.begun ≡ boards.now) }
@@ -187,6 +197,6 @@ impl Root {
     pub(crate) fn last(&self) -> &Board
         ensures { (before : List Position) × (self.now.begun ≡ before ++ result.now ∷ []) }
     {
-        self.boards.last()
+        &*self.base
     }
 }

@@ -1,6 +1,6 @@
 //! Where lines stood, kept in little memory.
 
-ghost use Rattle.std.specs.Prelude.{◌≡◌, ◌<◌, ◌≤◌, ◌++◌, ◌↔◌, length, take, All, IsTrue, IfOk};
+ghost use Rattle.std.specs.Prelude.{◌≡◌, ◌<◌, ◌≤◌, ◌++◌, ◌↔◌, length, take, All, Contains, IsTrue, IfOk};
 ghost use Rattle.std.specs.Arc.{arc_value};
 ghost use Rattle.tt_game.specs.Game.{history};
 ghost use Rattle.tt_game.specs.Keys.{key_of};
@@ -59,6 +59,23 @@ impl Model for Snapshot {
     } };
 }
 
+/// Whether boards begin with those of a root. They begin with those of the other one, which mostly are the same: that is seen without
+/// a board made.
+fn begins(root: &Root, boards: &[Board], other: &Root) -> bool
+    requires sizes { All (λ b. b.size ≡ other.now.frame.size) boards.now }
+    requires begins { BoardsBegin other.now.begun (colourings boards.now) }
+    ensures { IsTrue result ↔ (root.now.begun ≡ take (length root.now.begun) boards.now) }
+{
+    if other.same_beginning(root) {
+        return true;
+    }
+    let begun = root.count();
+    if boards.len() < begun {
+        return false;
+    }
+    root.began_with(&boards[..begun])
+}
+
 impl Snapshot {
     /// What stands after this history, which begins as the root's lines began, with the hash of its key.
     pub(crate) fn of(
@@ -86,19 +103,20 @@ impl Snapshot {
         })
     }
 
-    /// Whether the boards are exactly those of the history there.
-    fn has_history(&self, boards: &[Board]) -> bool
-        requires { All (λ b. b.size ≡ self.now.frame.size) boards.now }
-        ensures { IsTrue result ↔ (history self.now.state ≡ colourings boards.now) }
+    /// Whether the line, of the same board size, has exactly the history there.
+    fn has_history(&self, line: &Line) -> bool
+        requires { line.now.frame.size ≡ self.now.frame.size }
+        ensures { IsTrue result ↔ (history self.now.state ≡ history line.now.state) }
     {
         let begun = self.root.count();
+        let boards = line.history();
         if boards.len() < begun {
             return false;
         }
         if !self.later.are(&boards[begun..]) {
             return false;
         }
-        self.root.began_with(&boards[..begun])
+        begins(&self.root, boards, line.root())
     }
 
     /// With how many boards the history there and the line's begin alike: with all those of the beginning, where the line has them,
@@ -107,15 +125,17 @@ impl Snapshot {
         ensures within { result ≤ length (history line.now.state) }
         ensures alike { take result (history line.now.state) ≡ take result (history self.now.state) }
     {
-        let begun = self.root.count();
-        let boards = line.history();
-        if boards.len() < begun {
+        if !begins(&self.root, line.history(), line.root()) {
             return 0;
         }
-        if !self.root.began_with(&boards[..begun]) {
-            return 0;
-        }
-        begun
+        self.root.count()
+    }
+
+    /// Whether the board was made there behind the beginning. It takes no memory.
+    pub fn has_made(&self, board: &Board) -> bool
+        ensures { IsTrue result → Contains (history self.now.state) board.now.points }
+    {
+        self.later.has(board)
     }
 
     /// Whether the line stands there: with the same frame, history, side to move and passes. It takes no memory.
@@ -125,7 +145,7 @@ impl Snapshot {
         if !self.has_turn_of(line) {
             return false;
         }
-        self.has_history(line.history())
+        self.has_history(line)
     }
 
     /// The present board there, made anew: a copy of some hundred bytes, which takes no memory.

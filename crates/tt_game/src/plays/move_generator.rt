@@ -1,10 +1,11 @@
-//! What is the same for all plays from where a line stands: it is worked out once, before they are looked at one by one.
+//! What is the same for all plays from where a line stands, worked out once, and what is told of each of them by it.
 
 ghost use Rattle.std.specs.Prelude.{◌≡◌, ◌<◌, ◌≤◌, IsTrue, MatchOption, true};
 ghost use Rattle.std.specs.FinSet as set;
 ghost use Rattle.tt_sgf.specs.Sizes.{point_count};
 ghost use Rattle.tt_sgf.specs.Words.{bit_in};
 
+use crate::frame::Side;
 use crate::history::root::MANY;
 use crate::line::Line;
 use tt_board::{Colour, PlayKind};
@@ -14,7 +15,7 @@ use tt_sgf::{BITS, Bits, Point};
 /// quiet, where stones of that colour have stood so far, and what the words of the present board make, where hashes by it tell new
 /// colourings.
 #[derive(Clone, Copy)]
-pub struct MoveGenerator {
+pub(crate) struct MoveGenerator {
     colour: Colour,
     empty: Bits,
     no_capture: Bits,
@@ -40,13 +41,13 @@ impl Line {
     ghost use Rattle.tt_board.specs.Reach.{entry_at};
     ghost use Rattle.tt_board.specs.PlayKind.{IsKind};
     ghost use Rattle.tt_board.specs.declared.counted.play_kind.PlayKind.TheVariants.{NoCapture};
-    ghost use Rattle.tt_game.specs.Game.{IsLegal, history, colour_of, made};
+    ghost use Rattle.tt_game.specs.Game.{IsLegal, after, history, colour_of, made, winner_of};
     ghost use Rattle.tt_game.specs.MoveGenerators.{IsMoveGenerator, HaveStood, IsKindAt};
     ghost use Rattle.tt_game.specs.declared.turns.Turn.{Turn};
 
     /// What is the same for all plays of the side to move.
     #[inline(always)]
-    pub fn moves(&self) -> MoveGenerator
+    pub(crate) fn moves(&self) -> MoveGenerator
         ensures { IsMoveGenerator result self.now.frame self.now.state }
     {
         let colour = self.mover();
@@ -105,7 +106,7 @@ impl Line {
 
     /// Whether a play of the side to move by which nothing goes is told to make a colouring that hasn't been. No board is made for it.
     #[inline(always)]
-    pub(crate) fn is_new(&self, moves: &MoveGenerator, p: Point) -> bool
+    fn is_new(&self, moves: &MoveGenerator, p: Point) -> bool
         requires moves { IsMoveGenerator moves.now self.now.frame self.now.state }
         requires on_board { p < point_count self.now.frame.size }
         requires free { entry_at self.now.state.present p ≡ None }
@@ -121,7 +122,7 @@ impl Line {
     /// What is foretold of a play of the side to move on an empty point, by the points beside it and by the stones that stood there, and
     /// what is told by the points beside it alone. It captures nothing where it takes nothing off and makes a colouring that hasn't been, and is
     /// a suicide of one stone where its colouring is the present one.
-    pub(crate) fn kind_by(&self, moves: &MoveGenerator, p: Point) -> (PlayKind, PlayKind)
+    fn kind_by(&self, moves: &MoveGenerator, p: Point) -> (PlayKind, PlayKind)
         requires moves { IsMoveGenerator moves.now self.now.frame self.now.state }
         requires on_board { p < point_count self.now.frame.size }
         requires free { entry_at self.now.state.present p ≡ None }
@@ -144,6 +145,73 @@ impl Line {
                 } else {
                     (PlayKind::NoCapture, kind)
                 }
+            }
+        }
+    }
+
+    /// Who has won after a play on an empty point of the region, where it is legal, by the board that it makes. This is told of it by
+    /// the points beside it.
+    #[inline(never)]
+    fn winner_made(&self, p: Point, kind: PlayKind) -> Option<Option<Side>>
+        requires on_board { p < point_count self.now.frame.size }
+        requires inside { IsTrue (set.contains self.now.frame.region p) }
+        requires free { entry_at self.now.state.present p ≡ None }
+        requires open { winner_of self.now.frame self.now.state ≡ None }
+        requires kind { IsKind kind self.now.frame.size self.now.state.present (colour_of self.now.frame self.now.state.to_move) p }
+        ensures { MatchOption result (IsLegal self.now.frame self.now.state (Turn.Play p) → ⊥)
+            (λ w. IsLegal self.now.frame self.now.state (Turn.Play p) × (w ≡ winner_of self.now.frame (after self.now.frame self.now.state (Turn.Play p)))) }
+    {
+        let next = self.counted().after_of_kind(self.mover(), p, kind);
+        if self.has_been(p, &next) {
+            return None;
+        }
+        Some(self.frame().winner_on(&next, 0))
+    }
+
+    /// Who has won after a play on an empty point of the region by which nothing goes, where it is legal: nobody. Its stone stood there
+    /// before, so the board that it makes is looked for.
+    #[inline(never)]
+    fn winner_put(&self, p: Point) -> Option<Option<Side>>
+        requires on_board { p < point_count self.now.frame.size }
+        requires inside { IsTrue (set.contains self.now.frame.region p) }
+        requires free { entry_at self.now.state.present p ≡ None }
+        requires open { winner_of self.now.frame self.now.state ≡ None }
+        requires put { made self.now.frame self.now.state p ≡ slice_set self.now.state.present p (Some (colour_of self.now.frame self.now.state.to_move)) }
+        ensures { MatchOption result (IsLegal self.now.frame self.now.state (Turn.Play p) → ⊥)
+            (λ w. IsLegal self.now.frame self.now.state (Turn.Play p) × (w ≡ winner_of self.now.frame (after self.now.frame self.now.state (Turn.Play p)))) }
+    {
+        let mut next = self.present().copy();
+        next.put_stone(self.mover(), p);
+        if self.is_among(&next) {
+            return None;
+        }
+        Some(None)
+    }
+
+    /// Who has won after a play on an empty point of the region, where it is legal. Most plays are told by the points beside them, and
+    /// no board is made for them.
+    #[inline(always)]
+    pub(crate) fn winner_by_play(&self, moves: &MoveGenerator, p: Point) -> Option<Option<Side>>
+        requires moves { IsMoveGenerator moves.now self.now.frame self.now.state }
+        requires on_board { p < point_count self.now.frame.size }
+        requires inside { IsTrue (set.contains self.now.frame.region p) }
+        requires free { entry_at self.now.state.present p ≡ None }
+        requires open { winner_of self.now.frame self.now.state ≡ None }
+        ensures { MatchOption result (IsLegal self.now.frame self.now.state (Turn.Play p) → ⊥)
+            (λ w. IsLegal self.now.frame self.now.state (Turn.Play p) × (w ≡ winner_of self.now.frame (after self.now.frame self.now.state (Turn.Play p)))) }
+    {
+        let (kind_here, kind) = self.kind_by(moves, p);
+        match kind_here {
+            PlayKind::NoCapture => Some(None),
+            PlayKind::SingleStoneSuicide => None,
+            PlayKind::NeedsBoard => {
+                if kind != PlayKind::NoCapture {
+                    return self.winner_made(p, kind);
+                }
+                if self.is_new(moves, p) {
+                    return Some(None);
+                }
+                self.winner_put(p)
             }
         }
     }

@@ -23,7 +23,7 @@ use Rattle.tt_search.specs.declared.tree.children.Child.{Child}
 use Rattle.tt_search.specs.declared.tree.children.Child.TheVariants.{Fresh, Won}
 use Rattle.tt_search.proofs.Joins.{on_ok, picked_there, picked_here, replied_children, settled_here, replies_to, joined_here, joined_all}
 use Rattle.tt_search.proofs.Lifted.{weight_at}
-use Rattle.tt_search.proofs.Places.{length-turns_of, length-trees_of, turn_at_place, weight_step}
+use Rattle.tt_search.proofs.Indices.{length-turns_of, length-trees_of, turn_at_index, weight_step}
 use Rattle.tt_search.proofs.Replies.{picked}
 use Rattle.tt_search.proofs.Sprouted.{any_default}
 use Rattle.tt_search.proofs.OneSide.{offered_for}
@@ -56,8 +56,8 @@ tree::node::Node::footprint-returns-in-Won-clause-exact t c =
     let s = c.args.line.now.state in
     subst (λ tree. IsFootprint f s (strategy_for c.args.side tree) c.empty-in-Won.result) (sym (ap shape c.in-Won.is) ∙ c.self.view_is) (c.empty-in-Won.ensures f s)
 
-pub tree::node::Node::footprint-offered_footprint-requires : goal.tree::node::Node::footprint-offered_footprint-requires
-tree::node::Node::footprint-offered_footprint-requires t c =
+pub tree::node::Node::footprint-footprint_at-requires-in-Offered : goal.tree::node::Node::footprint-footprint_at-requires-in-Offered
+tree::node::Node::footprint-footprint_at-requires-in-Offered t c =
     let f = c.args.line.now.frame in
     let s = c.args.line.now.state in
     let p = c.in-Offered.proof.value in
@@ -76,7 +76,7 @@ tree::node::Node::footprint-returns-in-Offered-clause-exact t c =
     let is = sym (ap shape c.in-Offered.is) ∙ c.self.view_is in
     let offered = offered_for c.in-Offered.field-0 c.in-Offered.field-1.value p c.args.side c.args.self.now holds is c.requires.settled in
     let tree : c.deref-in-Offered.result.now.tree ≡ strategy_for c.args.side c.args.self.now = ap (λ (q : Proven). q.tree) c.deref-in-Offered.ensures ∙ offered.1 in
-    subst (λ u. IfOk c.offered_footprint.result (λ x. IsFootprint f s u x)) tree c.offered_footprint.ensures.exact
+    subst (λ u. IfOk c.footprint_at-in-Offered.result (λ x. IsFootprint f s u x)) tree c.footprint_at-in-Offered.ensures.exact
 
 pub tree::children::ChildNodes::footprint-replied-requires : goal.tree::children::ChildNodes::footprint-replied-requires
 tree::children::ChildNodes::footprint-replied-requires t c =
@@ -101,31 +101,31 @@ footprints::picked-at-requires t c =
     let x = c.args.children.now in
     omega (
       arith,
-      picked_there c.args.side c.args.line.now.frame c.args.line.now.state x c.first_settled-place.result.0 c.requires.settled c.first_settled-place.ensures.place,
+      picked_there c.args.side c.args.line.now.frame c.args.line.now.state x c.first_settled-index.result.0 c.requires.settled c.first_settled-index.ensures.index,
     )
 
 pub footprints::picked-child-child-requires-clause-there : goal.footprints::picked-child-child-requires-clause-there
 footprints::picked-child-child-requires-clause-there t c =
-    picked_there c.args.side c.args.line.now.frame c.args.line.now.state c.args.children.now c.first_settled-place.result.0 c.requires.settled c.first_settled-place.ensures.place
+    picked_there c.args.side c.args.line.now.frame c.args.line.now.state c.args.children.now c.first_settled-index.result.0 c.requires.settled c.first_settled-index.ensures.index
 
 pub footprints::picked-footprint_behind-requires : goal.footprints::picked-footprint_behind-requires
 footprints::picked-footprint_behind-requires t c =
     let x = c.args.children.now in
-    let i : ℕ = c.first_settled-place.result.0 in
+    let i : ℕ = c.first_settled-index.result.0 in
     let f = c.args.line.now.frame in
     let s = c.args.line.now.state in
-    let there = picked_there c.args.side f s x i c.requires.settled c.first_settled-place.ensures.place in
+    let there = picked_there c.args.side f s x i c.requires.settled c.first_settled-index.ensures.index in
     let w = weight_at (edge_trees x.edges x.grown.items) i fresh (omega (arith, there, length-trees_of x.edges x.grown.items)) in (
       omega (arith, c.decreases, w, ap weight c.child-child.ensures),
       picked_here c.args.side f s x i c.at.result c.turn-turn.result (child_tree c.child-child.result)
-          c.requires.settled c.first_settled-place.ensures.place c.at.ensures c.turn-turn.ensures c.child-child.ensures,
+          c.requires.settled c.first_settled-index.ensures.index c.at.ensures c.turn-turn.ensures c.child-child.ensures,
     )
 
 pub footprints::picked-picked-requires-clause-legal : goal.footprints::picked-picked-requires-clause-legal
 footprints::picked-picked-requires-clause-legal t c =
     let line = c.args.line.now in
-    let here = picked_here c.args.side line.frame line.state c.args.children.now c.first_settled-place.result.0 c.at.result c.turn-turn.result (child_tree c.child-child.result)
-    c.requires.settled c.first_settled-place.ensures.place c.at.ensures c.turn-turn.ensures c.child-child.ensures in
+    let here = picked_here c.args.side line.frame line.state c.args.children.now c.first_settled-index.result.0 c.at.result c.turn-turn.result (child_tree c.child-child.result)
+    c.requires.settled c.first_settled-index.ensures.index c.at.ensures c.turn-turn.ensures c.child-child.ensures in
     subst (λ (l : Standing). IsLegal l.frame l.state c.turn-turn.result) (sym c.in_ok-board.ensures.same) here.0
 
 pub footprints::picked-returns-clause-exact : goal.footprints::picked-returns-clause-exact
@@ -136,15 +136,15 @@ footprints::picked-returns-clause-exact t c =
     let x = c.args.children.now in
     let turns : List Turn = edge_turns x.edges in
     let trees : List PartialTree = edge_trees x.edges x.grown.items in
-    let i : ℕ = c.first_settled-place.result.0 in
+    let i : ℕ = c.first_settled-index.result.0 in
     let child : PartialTree = child_tree c.child-child.result in
-    let in_edges = picked_there side f s x i c.requires.settled c.first_settled-place.ensures.place in
+    let in_edges = picked_there side f s x i c.requires.settled c.first_settled-index.ensures.index in
     let in_trees : i < length trees = omega (arith, in_edges, length-trees_of x.edges x.grown.items) in
-    let turn = c.turn-turn.ensures ∙ ap edge_turn c.at.ensures ∙ sym (turn_at_place x.edges i c.at.result c.turn-turn.result in_edges) in
+    let turn = c.turn-turn.ensures ∙ ap edge_turn c.at.ensures ∙ sym (turn_at_index x.edges i c.at.result c.turn-turn.result in_edges) in
     let e : pick c.turn-turn.result (strategy_for side child) ≡ pick_at side (first_settled side (children_in x)) turns (children_in x) =
     picked side turns trees i c.turn-turn.result child (strategy_for side child) turn (c.child-child.ensures ∙ any_default trees i fresh child in_trees) refl
     (omega (arith, in_edges, length-turns_of x.edges)) in_trees
-    ∙ ap (λ k. pick_at side k turns (children_of trees)) c.first_settled-place.ensures.place in
+    ∙ ap (λ k. pick_at side k turns (children_of trees)) c.first_settled-index.ensures.index in
     on_ok c.picked.result _ _ (λ y more. subst (λ u. IsFootprint f s u y) e (more (strategy_for side child) c.in_ok-board.ensures.exact))
     (rw c.in_ok-board.ensures.same at c.picked.ensures)
 

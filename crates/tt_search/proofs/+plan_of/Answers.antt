@@ -9,7 +9,7 @@ use Rattle.tt_search.specs.Settled.{strategy_for, pick_at, replies}
 use Rattle.tt_search.specs.inside.Weight.{weight, weight_all}
 use Rattle.tt_search.specs.declared.tree.edges.Edge.{Edge}
 use Rattle.tt_search.proofs.Replies.{joined, joined_push, joined_none, picked, pick_past_turns}
-use Rattle.tt_search.proofs.Places.{replies_at_end, length-turns_of, length-trees_of, turn_at_place, replied_step, weight_step, whole_behind}
+use Rattle.tt_search.proofs.Indices.{replies_at_end, length-turns_of, length-trees_of, turn_at_index, replied_step, weight_step, whole_behind}
 use Rattle.tt_search.proofs.Lifted.{weight_at}
 use Rattle.tt_search.proofs.Sprouted.{any_default}
 use Rattle.tt_search.specs.inside.ChildNodes.{child_of, children_in}
@@ -58,19 +58,19 @@ tree::children::ChildNodes::plan-replied-requires t c =
       (rw (edges, grown) c.requires.whole, rw (edges, grown) (all_zero side (children_in x) (zero_sum (numbers side (children_in x)) sum))),
     )
 
-pub settled::picked-returns-then-place-len : goal.settled::picked-returns-then-place-len
-settled::picked-returns-then-place-len t c =
+pub settled::picked-returns-then-index-len : goal.settled::picked-returns-then-index-len
+settled::picked-returns-then-index-len t c =
     let x = c.args.children.now in
-    c.done.ensures ∙ sym (rw (← c.first_settled-place.ensures.place)
-    (pick_past_turns c.args.side (edge_turns x.edges) (edge_trees x.edges x.grown.items) c.first_settled-place.result.0
-    (omega (arith, c.if-place-len.true, c.len.ensures, length-turns_of x.edges))))
+    c.done.ensures ∙ sym (rw (← c.first_settled-index.ensures.index)
+    (pick_past_turns c.args.side (edge_turns x.edges) (edge_trees x.edges x.grown.items) c.first_settled-index.result.0
+    (omega (arith, c.if-index-len.true, c.len.ensures, length-turns_of x.edges))))
 
 pub settled::picked-plan-requires : goal.settled::picked-plan-requires
 settled::picked-plan-requires t c =
     let x = c.args.children.now in
-    let i : ℕ = c.first_settled-place.result.0 in
-    let w = weight_at (edge_trees x.edges x.grown.items) i fresh (omega (arith, c.if-place-len.false, c.len.ensures, length-trees_of x.edges x.grown.items)) in
-    let z = subst (λ k. IsZeroAt c.args.side k (children_in x)) (sym c.first_settled-place.ensures.place) (zero_at c.args.side (children_in x) c.requires.settled) in
+    let i : ℕ = c.first_settled-index.result.0 in
+    let w = weight_at (edge_trees x.edges x.grown.items) i fresh (omega (arith, c.if-index-len.false, c.len.ensures, length-trees_of x.edges x.grown.items)) in
+    let z = subst (λ k. IsZeroAt c.args.side k (children_in x)) (sym c.first_settled-index.ensures.index) (zero_at c.args.side (children_in x) c.requires.settled) in
     (omega (arith, c.decreases, w, ap weight c.child.ensures), ap (number c.args.side) c.child.ensures ∙ zero_there c.args.side (edge_trees x.edges x.grown.items) i fresh z)
 
 pub settled::picked-returns : goal.settled::picked-returns
@@ -78,14 +78,14 @@ settled::picked-returns t c =
     let x = c.args.children.now in
     let turns : List Turn = edge_turns x.edges in
     let trees : List PartialTree = edge_trees x.edges x.grown.items in
-    let i : ℕ = c.first_settled-place.result.0 in
+    let i : ℕ = c.first_settled-index.result.0 in
     let child : PartialTree = child_of x i in
-    let in_edges : i < length x.edges = omega (arith, c.if-place-len.false, c.len.ensures) in
+    let in_edges : i < length x.edges = omega (arith, c.if-index-len.false, c.len.ensures) in
     let in_trees : i < length trees = omega (arith, in_edges, length-trees_of x.edges x.grown.items) in
-    let turn = c.turn.ensures ∙ ap edge_turn c.at.ensures ∙ sym (turn_at_place x.edges i c.at.result c.turn.result in_edges) in
+    let turn = c.turn.ensures ∙ ap edge_turn c.at.ensures ∙ sym (turn_at_index x.edges i c.at.result c.turn.result in_edges) in
     let e = picked c.args.side turns trees i c.turn.result child _ turn (any_default trees i fresh child in_trees) (c.in_ok-child.ensures ∙ ap (strategy_for c.args.side) c.child.ensures)
     (omega (arith, in_edges, length-turns_of x.edges)) in_trees in
-    subst (λ u. IfOk c.pick.result (λ p. p ≡ u)) (e ∙ ap (λ i. pick_at c.args.side i turns (children_of trees)) c.first_settled-place.ensures.place) c.pick.ensures
+    subst (λ u. IfOk c.pick.result (λ p. p ≡ u)) (e ∙ ap (λ i. pick_at c.args.side i turns (children_of trees)) c.first_settled-index.ensures.index) c.pick.ensures
 
 pub settled::replied-plan-requires : goal.settled::replied-plan-requires
 settled::replied-plan-requires t c =

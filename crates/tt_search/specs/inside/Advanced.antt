@@ -1,7 +1,7 @@
 -- How a search goes on: one step, or some steps together. For private contracts and proofs.
 use Rattle.std.specs.Prelude.{◌≡◌}
 use Rattle.tt_search.specs.Searched.{Searched, StepOf}
-use Rattle.tt_search.specs.Ended.{RanTo}
+use Rattle.tt_search.specs.RunEnds.{RanTo}
 use Rattle.tt_search.specs.declared.limits.Step.{Step}
 use Rattle.tt_search.specs.declared.walk.Stop.{Stop}
 use Rattle.tt_search.specs.declared.walk.Stop.TheVariants.{OneStep}

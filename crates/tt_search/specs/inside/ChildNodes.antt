@@ -25,14 +25,14 @@ children_in p = children_of (edge_trees p.edges p.grown.items)
 abbrev pub HasItsNodes : ChildNodes → Type 0
 HasItsNodes p = grown_in p.edges ≡ length p.grown.items
 
--- the tree of the child at a place
+-- the tree of the child at a index
 abbrev pub child_of : ChildNodes → ℕ → PartialTree
-child_of p place = child_at place p.edges p.grown.items
+child_of p index = child_at index p.edges p.grown.items
 
--- so many children have grown before the place
+-- so many children have grown before the index
 abbrev pub IsRank : ℕ → ℕ → ChildNodes → Type 0
-IsRank rank place p = rank ≡ grown_in (take place p.edges)
+IsRank rank index p = rank ≡ grown_in (take index p.edges)
 
--- there are no more than a place can tell apart
+-- there are no more than a index can tell apart
 abbrev pub AreFew : ChildNodes → Type 0
 AreFew p = length p.edges ≤ TURNS

@@ -15,14 +15,14 @@ pub record Choices : Type 0 where
 abbrev pub node_with : Choices → PartialTree
 node_with c = expanded c.mover c.turns (children_of c.trees)
 
--- the place of the child to go to
-abbrev pub best_place : Choices → ℕ
-best_place c = best c.mover (children_of c.trees)
+-- the index of the child to go to
+abbrev pub best_index : Choices → ℕ
+best_index c = best c.mover (children_of c.trees)
 
 -- that child
 abbrev pub best_child : Choices → PartialTree
-best_child c = slice_index_or c.trees (best_place c) fresh
+best_child c = slice_index_or c.trees (best_index c) fresh
 
--- the choices with this tree in its place
+-- the choices with this tree in its index
 abbrev pub with_best : Choices → PartialTree → Choices
-with_best c tree = record { mover = c.mover; turns = c.turns; trees = slice_set c.trees (best_place c) tree }
+with_best c tree = record { mover = c.mover; turns = c.turns; trees = slice_set c.trees (best_index c) tree }

@@ -55,7 +55,7 @@ abbrev pub grown_in : List Edge → ℕ
 grown_in [] = 0
 grown_in (e ∷ es) = counted (edge_state_of e) (grown_in es)
 
--- the tree of the child at a place
+-- the tree of the child at a index
 abbrev pub child_at : ℕ → List Edge → List PartialTree → PartialTree
 child_at i es grown = slice_index_or (edge_trees es grown) i fresh
 

@@ -1,9 +1,8 @@
 -- The edges of a leaf that is expanded. For private contracts and proofs.
 use Rattle.std.specs.Prelude.{◌≡◌, List, [], map}
 use Rattle.tt_game.specs.declared.frame.Frame.{Frame}
-use Rattle.tt_game.specs.declared.turns.Successor.{Successor}
+use Rattle.tt_game.specs.Turns.{Successor, successors_of}
 use Rattle.tt_game.specs.Game.{State}
-use Rattle.tt_game.specs.Turns.{successors_of}
 use Rattle.tt_search.specs.inside.Edges.{edge_turns, edge_trees, grown_in}
 use Rattle.tt_search.specs.Growing.{leaf_for}
 use Rattle.tt_search.specs.declared.tree.edges.Edge.{Edge}

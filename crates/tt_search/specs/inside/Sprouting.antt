@@ -14,30 +14,30 @@ use Rattle.tt_search.specs.declared.tree.children.ChildNodes.{ChildNodes}
 use Rattle.tt_search.specs.declared.walk.Stop.{Stop}
 use Rattle.tt_search.specs.declared.walk.Walk.{Walk}
 
--- the child at the place is there, and nothing is known of it
+-- the child at the index is there, and nothing is known of it
 abbrev pub IsFreshAt : ℕ → List Edge → Type 0
 IsFreshAt i [] = ⊥
 IsFreshAt zero (e ∷ es) = edge_state_of e ≡ edge_state.Fresh
 IsFreshAt (suc i) (e ∷ es) = IsFreshAt i es
 
--- the child at the place becomes this tree, and all else stays
-pub record IsPut (place : ℕ) (old : ChildNodes) (tree : PartialTree) (new : ChildNodes) : Type 0 where
+-- the child at the index becomes this tree, and all else stays
+pub record IsPut (index : ℕ) (old : ChildNodes) (tree : PartialTree) (new : ChildNodes) : Type 0 where
   pub turns : edge_turns new.edges ≡ edge_turns old.edges
-  pub trees : edge_trees new.edges new.grown.items ≡ slice_set (edge_trees old.edges old.grown.items) place tree
+  pub trees : edge_trees new.edges new.grown.items ≡ slice_set (edge_trees old.edges old.grown.items) index tree
 
--- the fresh child at the place takes a step
+-- the fresh child at the index takes a step
 abbrev pub Sprouts : Walk → ℕ → ChildNodes → Step → ChildNodes → Walk → Type 0
-Sprouts walk place old step new after =
-    (tree : PartialTree) × Taken (stand_of walk) (stage fresh walk.left) step tree × IsLeft step walk.left after.left × IsPut place old tree new
+Sprouts walk index old step new after =
+    (tree : PartialTree) × Taken (stand_of walk) (stage fresh walk.left) step tree × IsLeft step walk.left after.left × IsPut index old tree new
 
--- the child at the place takes steps, where the stand is the child's
+-- the child at the index takes steps, where the stand is the child's
 abbrev pub StepsBelowAt : Stop → Stand → ℕ → ChildNodes → ℕ → Step → ChildNodes → ℕ → Type 0
-StepsBelowAt stop at place old left step new left_after =
-    (tree : PartialTree) × AreStepsAt stop at (stage (child_of old place) left) step (stage tree left_after) × IsPut place old tree new
+StepsBelowAt stop at index old left step new left_after =
+    (tree : PartialTree) × AreStepsAt stop at (stage (child_of old index) left) step (stage tree left_after) × IsPut index old tree new
 
--- the child at the place takes the steps of a walk that stands there
+-- the child at the index takes the steps of a walk that stands there
 abbrev pub StepsBelow : Stop → Walk → ℕ → ChildNodes → Step → ChildNodes → Walk → Type 0
-StepsBelow stop walk place old step new after = StepsBelowAt stop (stand_of walk) place old walk.left step new after.left
+StepsBelow stop walk index old step new after = StepsBelowAt stop (stand_of walk) index old walk.left step new after.left
 
 -- the best child takes the steps of a walk that stands there
 abbrev pub BestSteps : Stop → Walk → Choices → Step → Choices → Walk → Type 0

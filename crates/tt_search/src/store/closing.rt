@@ -2,7 +2,7 @@
 
 ghost use Rattle.std.specs.Prelude.{◌≡◌, ◌≤◌, ◌↔◌, ◌⊎◌, IfOk, IfSome, IsTrue, true, Ok, Some};
 ghost use Rattle.tt_game.specs.Keys.{key_of};
-ghost use Rattle.tt_proof.specs.Proven.{FitsAt};
+ghost use Rattle.tt_proof.specs.Footprints.{FitsAt};
 ghost use Rattle.tt_proof.specs.Strategy.{depth};
 ghost use Rattle.tt_search.specs.Usable.{IsUsable};
 

@@ -5,7 +5,7 @@ ghost use Rattle.tt_game.specs.Keys.{key_of};
 ghost use Rattle.tt_proof.specs.Proven.{Proven};
 ghost use Rattle.tt_game.specs.declared.frame.Side.TheVariants.{Attacker, Defender};
 ghost use Rattle.tt_search.specs.Stores.{AnswersFor, IsNewest};
-ghost use Rattle.tt_search.specs.KeyIndex.{index_hash, index_hashes, proof_at, IsPlaceOfNewest};
+ghost use Rattle.tt_search.specs.KeyIndex.{index_hash, index_hashes, proof_at, IsIndexOfNewest};
 ghost use Rattle.tt_search.specs.inside.Buckets.{bucket_of_hash, AreLongEnough, AreBuckets, IsLastWithHash};
 
 use std::alloc::Global;
@@ -14,14 +14,14 @@ use tt_game::{BloomFilter, Line, Side};
 use tt_proof::Proof;
 use tt_sgf::NoMemory;
 
-/// Proofs in the order in which they came, each at its place, from 0 on.
+/// Proofs in the order in which they came, each at its slot, from 0 on.
 pub trait ProofRow {
     ghost proofs: { Self → List Proven };
 
-    /// The proof at a place.
-    fn proof(&self, place: usize) -> &Proof
-        requires { place < length (proofs self.now) }
-        ensures { slice_get (proofs self.now) place ≡ Some result.now };
+    /// The proof at a slot.
+    fn proof(&self, slot: usize) -> &Proof
+        requires { slot < length (proofs self.now) }
+        ensures { slice_get (proofs self.now) slot ≡ Some result.now };
 }
 
 /// How many bits the filter has: twelve for each of 16,384 proofs, which four workers may keep.
@@ -52,19 +52,19 @@ fn bucket_of(hash: u32, buckets: usize) -> usize
     (u64::from(hash) * buckets as u64 / 0x1_0000_0000) as usize
 }
 
-/// Links the place, behind all places before it.
-fn link(heads: &mut Vec<u32>, before: &mut Vec<u32>, hashes: &Vec<u32>, place: usize)
-    requires place { place < vec_len hashes.now }
+/// Links the slot, behind all places before it.
+fn link(heads: &mut Vec<u32>, before: &mut Vec<u32>, hashes: &Vec<u32>, slot: usize)
+    requires slot { slot < vec_len hashes.now }
     requires sized { AreLongEnough heads.old.items before.old.items hashes.now.items }
-    requires linked { AreBuckets heads.old.items before.old.items hashes.now.items place }
+    requires linked { AreBuckets heads.old.items before.old.items hashes.now.items slot }
     ensures sized { AreLongEnough heads.new.items before.new.items hashes.now.items }
-    ensures linked { AreBuckets heads.new.items before.new.items hashes.now.items (place + 1) }
+    ensures linked { AreBuckets heads.new.items before.new.items hashes.now.items (slot + 1) }
     ensures buckets { vec_len heads.new ≡ vec_len heads.old }
     ensures room { vec_capacity before.new ≡ vec_capacity before.old }
 {
-    let bucket = bucket_of(hashes[place], heads.len());
-    before[place] = heads[bucket];
-    heads[bucket] = place as u32 + 1;
+    let bucket = bucket_of(hashes[slot], heads.len());
+    before[slot] = heads[bucket];
+    heads[bucket] = slot as u32 + 1;
 }
 
 /// Links all places anew, where no head leads anywhere yet.
@@ -76,8 +76,8 @@ fn link_all(heads: &mut Vec<u32>, before: &mut Vec<u32>, hashes: &Vec<u32>)
     ensures buckets { vec_len heads.new ≡ vec_len heads.old }
     ensures room { vec_capacity before.new ≡ vec_capacity before.old }
 {
-    for place in 0..hashes.len() {
-        link(heads, before, hashes, place);
+    for slot in 0..hashes.len() {
+        link(heads, before, hashes, slot);
     }
 }
 
@@ -184,15 +184,15 @@ impl KeyIndex {
         requires { 0 < self.old.room }
         ensures { self.new.hashes ≡ self.old.hashes ++ index_hashes (p.now ∷ []) }
     {
-        let place = self.hashes.len();
+        let slot = self.hashes.len();
         let hash = p.key_hash();
         self.hashes.push_reserved(hash);
         self.filter.add(filter_bit(hash));
         self.before.push_reserved(0);
-        link(&mut self.heads, &mut self.before, &self.hashes, place);
+        link(&mut self.heads, &mut self.before, &self.hashes, slot);
     }
 
-    /// One more than the last place with the hash, or 0 where none has it.
+    /// One more than the last slot with the hash, or 0 where none has it.
     fn last_with_hash(&self, hash: u32) -> usize
         ensures { IsLastWithHash self.now.hashes hash result }
     {
@@ -202,7 +202,7 @@ impl KeyIndex {
         self.last_in_bucket(hash)
     }
 
-    /// One more than the last place with the hash in the hash's bucket, or 0 where none has it.
+    /// One more than the last slot with the hash in the hash's bucket, or 0 where none has it.
     fn last_in_bucket(&self, hash: u32) -> usize
         ensures { IsLastWithHash self.now.hashes hash result }
     {
@@ -219,8 +219,8 @@ impl KeyIndex {
         0
     }
 
-    /// The place of the row's last proof of the line's key for the side, where the key has the hash and this is one more than the
-    /// last place with it.
+    /// The slot of the row's last proof of the line's key for the side, where the key has the hash and this is one more than the
+    /// last slot with it.
     fn last_of<P: ProofRow>(
         &self,
         line: &Line,
@@ -233,24 +233,24 @@ impl KeyIndex {
         requires indexed { self.now.hashes ≡ index_hashes (P.proofs row.now) }
         requires last { IsLastWithHash self.now.hashes hash last }
         ensures newest { IsNewest line.now side (reverse (P.proofs row.now)) (proof_at (P.proofs row.now) result) }
-        ensures within { IfSome result (λ place. place < length (P.proofs row.now)) }
+        ensures within { IfSome result (λ slot. slot < length (P.proofs row.now)) }
         ensures found { IfSome (proof_at (P.proofs row.now) result) (AnswersFor line.now side) }
     {
         let mut next = last;
         while 0 < next {
-            let place = next - 1;
-            if self.hashes[place] == hash && is_for(row.proof(place), line, side) {
-                return Some(place);
+            let slot = next - 1;
+            if self.hashes[slot] == hash && is_for(row.proof(slot), line, side) {
+                return Some(slot);
             }
-            next = self.before[place] as usize;
+            next = self.before[slot] as usize;
         }
         None
     }
 
-    /// The place of the row's last proof of the line's key for the side. The index was told the row's proofs.
+    /// The slot of the row's last proof of the line's key for the side. The index was told the row's proofs.
     pub fn newest<P: ProofRow>(&self, line: &Line, side: Side, row: &P) -> Option<usize>
         requires { self.now.hashes ≡ index_hashes (P.proofs row.now) }
-        ensures { IsPlaceOfNewest line.now side (P.proofs row.now) result }
+        ensures { IsIndexOfNewest line.now side (P.proofs row.now) result }
     {
         let hash = line.key_hash();
         self.last_of(line, side, hash, self.last_with_hash(hash), row)
@@ -259,8 +259,8 @@ impl KeyIndex {
     /// What `newest` answers for the attacker and for the defender.
     pub fn newest_both<P: ProofRow>(&self, line: &Line, row: &P) -> (Option<usize>, Option<usize>)
         requires { self.now.hashes ≡ index_hashes (P.proofs row.now) }
-        ensures attacker { IsPlaceOfNewest line.now Attacker (P.proofs row.now) result.0 }
-        ensures defender { IsPlaceOfNewest line.now Defender (P.proofs row.now) result.1 }
+        ensures attacker { IsIndexOfNewest line.now Attacker (P.proofs row.now) result.0 }
+        ensures defender { IsIndexOfNewest line.now Defender (P.proofs row.now) result.1 }
     {
         let hash = line.key_hash();
         let last = self.last_with_hash(hash);

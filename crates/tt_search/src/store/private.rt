@@ -49,8 +49,8 @@ impl ProofRow for Vec<Arc<Proof>> {
 
     ghost proofs = { λ v. map arc_value v.items };
 
-    fn proof(&self, place: usize) -> &Proof {
-        &self[place]
+    fn proof(&self, slot: usize) -> &Proof {
+        &self[slot]
     }
 }
 
@@ -62,11 +62,7 @@ impl PrivateStore {
     pub fn new(alloc: Global) -> PrivateStore
         ensures { result ≡ record { proofs = []; capacity = 4096 } }
     {
-        PrivateStore {
-            proofs: Vec::new(alloc),
-            index: KeyIndex::new(alloc),
-            capacity: Self::CAPACITY,
-        }
+        PrivateStore::with_capacity(alloc, Self::CAPACITY)
     }
 
     /// An empty store that may keep so many proofs. It takes no memory.
@@ -87,22 +83,18 @@ impl PrivateStore {
         if capacity > Self::CAPACITY {
             return None;
         }
-        Some(PrivateStore {
-            proofs: Vec::new(alloc),
-            index: KeyIndex::new(alloc),
-            capacity,
-        })
+        Some(PrivateStore::with_capacity(alloc, capacity))
     }
 }
 
 /// Another handle of the proof at the place, if it is one's.
-fn handle_at(proofs: &Vec<Arc<Proof>>, place: Option<usize>) -> Result<Option<Arc<Proof>>, NoMemory>
-    ensures { IfOk result (λ o. option_map (λ p. arc_value p) o ≡ proof_at (map arc_value proofs.now.items) place) }
+fn handle_at(proofs: &Vec<Arc<Proof>>, slot: Option<usize>) -> Result<Option<Arc<Proof>>, NoMemory>
+    ensures { IfOk result (λ o. option_map (λ p. arc_value p) o ≡ proof_at (map arc_value proofs.now.items) slot) }
 {
-    let Some(place) = place else {
+    let Some(slot) = slot else {
         return Ok(None);
     };
-    let Some(p) = proofs.get(place) else {
+    let Some(p) = proofs.get(slot) else {
         return Ok(None);
     };
     let handle = Arc::try_clone(p)?;

@@ -20,11 +20,11 @@ pub(crate) struct ChildNodes {
     pub(crate) grown: Vec<Node>,
 }
 
-/// The side to move at an expanded node, the place of the child to go to, and how many before it have grown.
+/// The side to move at an expanded node, the index of the child to go to, and how many before it have grown.
 #[derive(Clone, Copy)]
 pub(crate) struct BestChild {
     pub(crate) mover: Side,
-    pub(crate) place: u16,
+    pub(crate) index: u16,
     pub(crate) rank: u16,
 }
 
@@ -38,9 +38,7 @@ pub(crate) enum Child<'a> {
 
 impl ChildNodes {
     ghost use Rattle.tt_search.specs.inside.ChildNodes.{choices_of};
-    ghost use Rattle.tt_search.specs.inside.Choices.{node_with};
-    ghost use Rattle.tt_search.specs.inside.Kept.{IsKept};
-    ghost use Rattle.tt_search.specs.inside.Pairs.{ArePair};
+    ghost use Rattle.tt_search.specs.inside.Kept.{IsKeptWith};
 
     /// Children of which none has grown, which of them to go to, and the numbers of the mover and of the other side at
     /// their node.
@@ -48,8 +46,7 @@ impl ChildNodes {
         requires few { length edges ≤ TURNS }
         requires none { grown_in edges ≡ 0 }
         ensures children { choices_of result.0.mover result.1 ≡ record { mover = mover; turns = edge_turns edges; trees = edge_trees edges [] } }
-        ensures kept { IsKept result.0 result.1 }
-        ensures numbers { ArePair result.0.mover (node_with (choices_of result.0.mover result.1)) result.2 }
+        ensures kept { IsKeptWith result.0 result.1 result.2 }
     {
         let grown = Vec::new(alloc);
         let child_nodes = ChildNodes { edges, grown };
@@ -60,7 +57,7 @@ impl ChildNodes {
         };
         let focus = BestChild {
             mover,
-            place: best.place,
+            index: best.index,
             rank: best.rank,
         };
         (focus, child_nodes, numbers)
@@ -68,10 +65,10 @@ impl ChildNodes {
 
     /// The turn to the child to go to.
     pub(crate) fn best_turn(&self, focus: BestChild) -> Turn
-        requires { focus.place < length self.now.edges }
-        ensures { result ≡ slice_index_or (edge_turns self.now.edges) focus.place result }
+        requires { focus.index < length self.now.edges }
+        ensures { result ≡ slice_index_or (edge_turns self.now.edges) focus.index result }
     {
-        self.edges.at(usize::from(focus.place)).turn()
+        self.edges.at(usize::from(focus.index)).turn()
     }
 }
 
@@ -79,14 +76,14 @@ impl ChildNodes {
     ghost use Rattle.tt_search.specs.inside.Child.{child_tree};
     ghost use Rattle.tt_search.specs.inside.ChildNodes.{HasItsNodes, IsRank, child_of};
 
-    /// The child at a place, and of a rank.
-    pub(crate) fn child(&self, place: usize, rank: usize) -> Child<'_>
-        requires there { place < length self.now.edges }
-        requires rank { IsRank rank place self.now }
+    /// The child at a index, and of a rank.
+    pub(crate) fn child(&self, index: usize, rank: usize) -> Child<'_>
+        requires there { index < length self.now.edges }
+        requires rank { IsRank rank index self.now }
         requires whole { HasItsNodes self.now }
-        ensures { child_tree result ≡ child_of self.now place }
+        ensures { child_tree result ≡ child_of self.now index }
     {
-        match self.edges.at(place).edge_state() {
+        match self.edges.at(index).edge_state() {
             EdgeState::Fresh => Child::Fresh,
             EdgeState::Won(side) => Child::Won(side),
             EdgeState::Grown => Child::Grown(&self.grown[rank]),

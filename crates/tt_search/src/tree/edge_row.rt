@@ -78,25 +78,25 @@ impl Edges {
         self.as_slice().len()
     }
 
-    /// The edge at a place.
-    pub(crate) fn at(&self, place: usize) -> Edge
-        requires { place < length self.now }
-        ensures { result ≡ slice_index_or self.now place result }
+    /// The edge at a index.
+    pub(crate) fn at(&self, index: usize) -> Edge
+        requires { index < length self.now }
+        ensures { result ≡ slice_index_or self.now index result }
     {
         match &self.form {
-            Form::Short(_, short) => short[place],
-            Form::Long(long) => long[place],
+            Form::Short(_, short) => short[index],
+            Form::Long(long) => long[index],
         }
     }
 
-    /// Puts an edge in the place of another.
-    pub(crate) fn set(&mut self, place: usize, edge: Edge)
-        requires { place < length self.old }
-        ensures { self.new ≡ set self.old place edge }
+    /// Puts an edge in the index of another.
+    pub(crate) fn set(&mut self, index: usize, edge: Edge)
+        requires { index < length self.old }
+        ensures { self.new ≡ set self.old index edge }
     {
         match &mut self.form {
-            Form::Short(_, short) => short[place] = edge,
-            Form::Long(long) => long[place] = edge,
+            Form::Short(_, short) => short[index] = edge,
+            Form::Long(long) => long[index] = edge,
         }
     }
 }

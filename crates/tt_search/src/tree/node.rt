@@ -3,7 +3,7 @@
 ghost use Rattle.std.specs.Prelude.{◌≡◌};
 
 use crate::tree::children::{BestChild, ChildNodes};
-use crate::tree::plays::Plays;
+use crate::tree::untried::Plays;
 use std::marker::Model;
 use std::sync::Arc;
 use tt_game::Side;

@@ -26,10 +26,10 @@ pub(crate) struct Pair {
     pub(crate) other: u32,
 }
 
-/// The child to go to: its place, how many before it have grown, and the mover's number of it.
+/// The child to go to: its index, how many before it have grown, and the mover's number of it.
 #[derive(Clone, Copy)]
 pub(crate) struct Best {
-    pub(crate) place: u16,
+    pub(crate) index: u16,
     pub(crate) rank: u16,
     pub(crate) least: u32,
 }
@@ -111,8 +111,8 @@ impl ChildNodes {
         requires whole { HasItsNodes self.now }
         requires lowest { from ≤ least (numbers mover (children_in self.now)) }
         requires finite { from < infinite }
-        ensures place { result.place ≡ best mover (children_in self.now) }
-        ensures rank { IsRank result.rank result.place self.now }
+        ensures index { result.index ≡ best mover (children_in self.now) }
+        ensures rank { IsRank result.rank result.index self.now }
         ensures least { result.least ≡ least (numbers mover (children_in self.now)) }
     {
         best_of(mover, from, self.edges.as_slice(), self.grown.as_slice())
@@ -134,14 +134,14 @@ impl ChildNodes {
     pub(crate) fn first_numbers(&self, mover: Side) -> (Best, u32)
         requires few { AreFew self.now }
         requires whole { HasItsNodes self.now }
-        ensures place { result.0.place ≡ best mover (children_in self.now) }
-        ensures rank { IsRank result.0.rank result.0.place self.now }
+        ensures index { result.0.index ≡ best mover (children_in self.now) }
+        ensures rank { IsRank result.0.rank result.0.index self.now }
         ensures least { result.0.least ≡ least (numbers mover (children_in self.now)) }
         ensures sum { result.1 ≡ capped_sum (numbers (opponent mover) (children_in self.now)) }
     {
         if are_fresh(self.edges.as_slice()) {
             let best = Best {
-                place: 0,
+                index: 0,
                 rank: 0,
                 least: 1,
             };
@@ -167,11 +167,11 @@ impl ChildNodes {
         (was - old).saturating_add(new).min(CAP)
     }
 
-    /// The place of the first child that is settled for the side, or how many children there are where none is, and its
+    /// The index of the first child that is settled for the side, or how many children there are where none is, and its
     /// rank.
     pub(crate) fn first_settled(&self, side: Side) -> (usize, usize)
         requires { HasItsNodes self.now }
-        ensures place { result.0 ≡ first_settled side (children_in self.now) }
+        ensures index { result.0 ≡ first_settled side (children_in self.now) }
         ensures rank { IsRank result.1 result.0 self.now }
     {
         settled_of(side, self.edges.as_slice(), self.grown.as_slice())
@@ -208,11 +208,11 @@ fn best_of(mover: Side, from: u32, edges: &[Edge], grown: &[Node]) -> Best
     requires whole { grown_in edges.now ≡ length grown.now }
     requires lowest { from ≤ least (numbers mover (children_of (edge_trees edges.now grown.now))) }
     requires finite { from < infinite }
-    ensures place { result.place ≡ best mover (children_of (edge_trees edges.now grown.now)) }
-    ensures rank { result.rank ≡ grown_in (take result.place edges.now) }
+    ensures index { result.index ≡ best mover (children_of (edge_trees edges.now grown.now)) }
+    ensures rank { result.rank ≡ grown_in (take result.index edges.now) }
     ensures least { result.least ≡ least (numbers mover (children_of (edge_trees edges.now grown.now))) }
 {
-    let mut place = 0;
+    let mut index = 0;
     let mut rank = 0;
     let mut least = INFINITE;
     let mut passed = 0;
@@ -222,13 +222,13 @@ fn best_of(mover: Side, from: u32, edges: &[Edge], grown: &[Node]) -> Best
         let number = child.number(mover);
         if number <= from {
             return Best {
-                place: i as u16,
+                index: i as u16,
                 rank: passed as u16,
                 least: number,
             };
         }
         if number < least {
-            place = i;
+            index = i;
             rank = passed;
             least = number;
         }
@@ -236,7 +236,7 @@ fn best_of(mover: Side, from: u32, edges: &[Edge], grown: &[Node]) -> Best
         rest = behind;
     }
     Best {
-        place: place as u16,
+        index: index as u16,
         rank: rank as u16,
         least,
     }
@@ -261,10 +261,10 @@ fn sum_of(goal: Side, edges: &[Edge], grown: &[Node]) -> u32
     total
 }
 
-/// The place of the first child that is settled for the side, or how many children there are where none is, and its rank.
+/// The index of the first child that is settled for the side, or how many children there are where none is, and its rank.
 fn settled_of(side: Side, edges: &[Edge], grown: &[Node]) -> (usize, usize)
     requires { grown_in edges.now ≡ length grown.now }
-    ensures place { result.0 ≡ first_settled side (children_of (edge_trees edges.now grown.now)) }
+    ensures index { result.0 ≡ first_settled side (children_of (edge_trees edges.now grown.now)) }
     ensures rank { result.1 ≡ grown_in (take result.0 edges.now) }
 {
     let mut rank = 0;

@@ -9,5 +9,5 @@ pub record Gathers (seats : List SeatView) (v : Ghost) : Type 0 where
   pub parts : v.parts ≡ length seats
   pub numbers : (weight : ℕ → ℕ) → sum_by (λ s. sum_by weight s.numbers) seats ≡ sum_by weight v.numbers
   pub grants : (weight : ℕ → ℕ) → sum_by (λ s. sum_by weight s.grants) seats ≡ sum_by weight v.grants
-  pub marks : list_any (λ s. s.mark) seats ≡ v.mark
+  pub marks : list_any (λ s. s.flag) seats ≡ v.flag
   pub sightings : list_any (λ s. s.sighting) seats ≡ v.sighting

@@ -10,7 +10,8 @@ use Rattle.tt_proof.specs.Proven.{StandsAt, IsWon}
 use Rattle.tt_search.specs.Numbers.{count}
 use Rattle.tt_search.specs.Grants.{Asked}
 use Rattle.tt_search.specs.Growing.{IsGrown}
-use Rattle.tt_search.specs.Searched.{Searched, IsProofOf, IsStuckFor}
+use Rattle.tt_search.specs.Searched.{Searched, IsStuckFor}
+use Rattle.tt_search.specs.RunEnds.{IsProofOf}
 use Rattle.tt_search.specs.declared.limits.Limits.{Limits}
 use Rattle.tt_search.specs.declared.limits.TheConstants.{MOST_EXPANDED}
 use Rattle.tt_search.specs.declared.limits.Reason.TheVariants.{Budget, Depth, Total, Memory}
@@ -57,7 +58,7 @@ pub record AsksFor (old : Asked) (n : ℕ) (end : End) (new : Asked) : Type 0 wh
   pub refused : IsForTotal end → new.refused ≡ true
   pub still : old.refused ≡ true → new.refused ≡ true
 
--- the turn has this place among the line's legal turns
+-- the turn has this slot among the line's legal turns
 abbrev pub IsJob : Standing → ℕ → Turn → Type 0
 IsJob line job t = slice_get (legal_turns line.frame line.state) job ≡ Some t
 

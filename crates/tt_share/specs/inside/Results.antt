@@ -128,7 +128,7 @@ NoneStuck ends = (job : ℕ) → ¬ IsStuckAt ends job
 abbrev pub KeepsEnds : List (Option JobResult) → List (Option JobResult) → Type 0
 KeepsEnds before after = (job : ℕ) (end : JobResult) → HasEnd before job end → HasEnd after job end
 
--- a result is put at its place where that is free, as it is kept; else it is dropped
+-- a result is put at its slot where that is free, as it is kept; else it is dropped
 pub record Puts (before after : List (Option JobResult)) (searched : SearchedJob) : Type 0 where
   pub put : slice_get before searched.job ≡ Some None → (past_stuck : Bool) × (IsTrue past_stuck ↔ IsPastStuck before searched.job)
       × (after ≡ slice_set before searched.job (Some (kept_of past_stuck searched.end)))

@@ -5,7 +5,7 @@ use Rattle.tt_game.specs.Line.{Standing}
 use Rattle.tt_search.specs.declared.limits.Limits.{Limits}
 use Rattle.tt_share.specs.inside.Jobs.{IsResult, IsForTotal, IsStuck, IsDropped, IsWinFor, end_of, kept_of}
 use Rattle.tt_share.specs.inside.Results.{HasEnd, HasResult, IsPastStuck}
-use Rattle.tt_share.specs.Seats.{DeskView, SeatView, EndsSpare, granted_of}
+use Rattle.tt_share.specs.Seats.{DeskView, SeatView, EndsOverdraw, granted_of}
 use Rattle.tt_share.specs.declared.jobs.JobResult.{JobResult}
 use Rattle.tt_share.specs.declared.jobs.SearchedJob.{SearchedJob}
 use Rattle.tt_share.specs.declared.workers.HandedBack.{HandedBack}
@@ -14,22 +14,22 @@ use Rattle.tt_share.specs.declared.workers.HandedBack.{HandedBack}
 abbrev pub SomeWin : Side → List SearchedJob → Type 0
 SomeWin side searched = (i : ℕ) × (f : SearchedJob) × (slice_get searched i ≡ Some f) × IsWinFor side f.end
 
--- a result that is a win for the side is the last one, and the mark was raised
+-- a result that is a win for the side is the last one, and the flag was raised
 abbrev pub WinsAreLast : Side → Bool → List SearchedJob → Type 0
-WinsAreLast side mark searched = (i : ℕ) (f : SearchedJob) → slice_get searched i ≡ Some f → IsWinFor side f.end → (i + 1 ≡ length searched) × IsTrue mark
+WinsAreLast side flag searched = (i : ℕ) (f : SearchedJob) → slice_get searched i ≡ Some f → IsWinFor side f.end → (i + 1 ≡ length searched) × IsTrue flag
 
 -- the numbers of the jobs whose results these are
 abbrev pub jobs_of : List SearchedJob → List ℕ
 jobs_of searched = map (λ (f : SearchedJob). f.job) searched
 
 -- the same numbers, and behind them only such as are no jobs
-abbrev pub AddsSpare : ℕ → List ℕ → List ℕ → Type 0
-AddsSpare jobs before after = (spare : List ℕ) × (after ≡ before ++ spare) × All (λ n. jobs ≤ n) spare
+abbrev pub AddsOverdraw : ℕ → List ℕ → List ℕ → Type 0
+AddsOverdraw jobs before after = (overdraw : List ℕ) × (after ≡ before ++ overdraw) × All (λ n. jobs ≤ n) overdraw
 
 -- each worker hands back a result of each job that its seat drew, in that order
 abbrev pub AllDrawn : ℕ → List SeatView → List HandedBack → Type 0
 AllDrawn jobs seats work = (i : ℕ) (seat : SeatView) (back : HandedBack) → slice_get seats i ≡ Some seat → slice_get work i ≡ Some back
-    → AddsSpare jobs (seat.numbers ++ jobs_of back.searched.items) back.seat.numbers
+    → AddsOverdraw jobs (seat.numbers ++ jobs_of back.searched.items) back.seat.numbers
 
 -- some result is no proof
 abbrev pub SomeStuck : List SearchedJob → Type 0
@@ -80,19 +80,19 @@ pub record IsWork (line : Standing) (limits : Limits) (desk : DeskView) (back : 
   -- each result is that of its job's turn
   pub searched : All (IsResult line limits) back.searched.items
   -- no job was drawn after one that was won
-  pub wins : WinsAreLast line.state.to_move back.seat.mark back.searched.items
+  pub wins : WinsAreLast line.state.to_move back.seat.flag back.searched.items
   -- each is of a job that the seat drew, as often at most
   pub jobs : All (λ (f : SearchedJob). f.job < desk.jobs) back.searched.items
   pub drawn : (job : ℕ) → times job back.searched.items ≤ count_by (λ n. nat_eq n job) back.seat.numbers
   -- what was expanded for them is what the seat was granted of the total, and it was refused where one is stuck for the total
   pub spent : (total : ℕ) → desk.total ≡ Some total → spent_on back.searched.items ≡ granted_of total back.seat.grants
-  pub refused : SomeTotal back.searched.items → (total : ℕ) × (desk.total ≡ Some total) × EndsSpare total back.seat.grants
+  pub refused : SomeTotal back.searched.items → (total : ℕ) × (desk.total ≡ Some total) × EndsOverdraw total back.seat.grants
 
 -- the job has a result, unless it is none of the line's
 abbrev pub IsPlaced : List (Option JobResult) → SearchedJob → Type 0
 IsPlaced ends searched = searched.job < length ends → HasResult ends searched.job
 
--- each job whose result the worker handed back has one: that, or one that stood at its place before
+-- each job whose result the worker handed back has one: that, or one that stood at its slot before
 abbrev pub AllPlaced : List (Option JobResult) → HandedBack → Type 0
 AllPlaced ends back = All (IsPlaced ends) back.searched.items
 

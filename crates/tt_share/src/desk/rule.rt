@@ -11,12 +11,12 @@ pub struct Quota {
 }
 
 /// What a seat knows: how many of the desk's seats it stands for, the numbers that it drew and those that it got as grants,
-/// whether it raised the mark and whether it saw the mark. No value of it is made.
+/// whether it raised the flag and whether it saw the flag. No value of it is made.
 pub struct Ghost {
     pub parts: u64,
     pub numbers: LinkedList<u64>,
     pub grants: LinkedList<u64>,
-    pub mark: bool,
+    pub flag: bool,
     pub sighting: bool,
 }
 
@@ -49,7 +49,7 @@ impl Play<(), Ghost> for Grant {
     ghost then = { λ step before found after. Grants before found after };
 }
 
-/// The mark was raised.
+/// The flag was raised.
 pub struct Raise;
 
 impl Play<(), Ghost> for Raise {
@@ -58,7 +58,7 @@ impl Play<(), Ghost> for Raise {
     ghost then = { λ step before found after. Raises before after };
 }
 
-/// The mark was looked at.
+/// The flag was looked at.
 pub struct Sighting;
 
 impl Play<(), Ghost> for Sighting {

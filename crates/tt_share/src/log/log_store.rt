@@ -8,7 +8,6 @@ ghost use Rattle.tt_search.specs.Stores.{AnswersFor, IsNewest};
 ghost use Rattle.tt_search.specs.declared.store.Kept.TheVariants.{Stored, Full};
 ghost use Rattle.tt_share.specs.Log.{Keeps, Extends, newest_first, HasNewest};
 
-use crate::bounds::MOST_KEPT;
 use crate::log::view::View;
 use std::marker::Model;
 use std::sync::{Arc, Wait};
@@ -57,25 +56,8 @@ impl<'a, R> LogStore<'a, R> {
     }
 }
 
-impl<'a, R> LogStore<'a, R> {
-    /// How many proofs may be kept through this store: 4,096.
-    pub fn capacity(&self) -> usize
-        ensures { result ≡ MOST_KEPT }
-    {
-        self.view.capacity()
-    }
-
-    /// How many proofs were kept through this store: at most 4,096.
-    pub fn kept(&self) -> usize
-        ensures kept { result ≡ self.now.kept }
-        ensures most { result ≤ MOST_KEPT }
-    {
-        self.view.kept()
-    }
-}
-
 impl<'a, R: Wait> Store for LogStore<'a, R> {
-    ghost use Rattle.tt_share.specs.declared.bounds.TheConstants.{MOST_KEPT};
+    ghost use Rattle.tt_share.specs.declared.capacity.TheConstants.{MOST_KEPT};
 
     ghost capacity = { λ _. MOST_KEPT };
 
@@ -84,11 +66,11 @@ impl<'a, R: Wait> Store for LogStore<'a, R> {
     ghost may_answer = { Unit {0} };
 
     fn capacity(&self) -> usize {
-        LogStore::capacity(self)
+        self.view.capacity()
     }
 
     fn kept(&self) -> usize {
-        LogStore::kept(self)
+        self.view.kept()
     }
 
     fn find(&mut self, line: &Line, s: Side) -> Result<Option<Arc<Proof>>, NoMemory>

@@ -30,8 +30,8 @@ impl<'a> ProofRow for TokenRow<'a> {
 
     ghost proofs = { λ t. proofs_of t.tokens.now.items };
 
-    fn proof(&self, place: usize) -> &Proof {
-        self.log.at(&self.tokens[place])
+    fn proof(&self, slot: usize) -> &Proof {
+        self.log.at(&self.tokens[slot])
     }
 }
 
@@ -121,11 +121,11 @@ impl<'a> Taken<'a> {
         }
     }
 
-    /// The handle of the token at the place, if it is one's.
-    fn handle_at(&self, place: Option<usize>) -> Option<&Arc<Proof>>
-        ensures { option_map (λ p. arc_value p.now) result ≡ proof_at (proofs_of self.now.tokens) place }
+    /// The handle of the token at the slot, if it is one's.
+    fn handle_at(&self, slot: Option<usize>) -> Option<&Arc<Proof>>
+        ensures { option_map (λ p. arc_value p.now) result ≡ proof_at (proofs_of self.now.tokens) slot }
     {
-        let token = self.tokens.get(place?)?;
+        let token = self.tokens.get(slot?)?;
         Some(self.log.handle_at(token))
     }
 

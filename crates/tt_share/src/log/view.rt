@@ -8,7 +8,7 @@ ghost use Rattle.tt_search.specs.Stores.{AnswersFor, IsNewest};
 ghost use Rattle.tt_search.specs.declared.store.Kept.TheVariants.{Stored, Full};
 ghost use Rattle.tt_share.specs.Log.{IsOf, Keeps, Extends, newest_first, HasNewest};
 
-use crate::bounds::MOST_KEPT;
+use crate::capacity::MOST_KEPT;
 use crate::log::taken::Taken;
 use crate::log::{CertLog, Token};
 use std::alloc::Global;
@@ -40,7 +40,7 @@ impl<'a> Model for View<'a> {
     ghost use Rattle.tt_sgf.specs.contracts.sets.PointSet as points;
     ghost use Rattle.tt_proof.specs.laws.StrategyCode.{strategy_code};
     ghost use Rattle.tt_share.specs.Log.{ViewState};
-    ghost use Rattle.tt_share.specs.declared.bounds.TheConstants.{MOST_KEPT};
+    ghost use Rattle.tt_share.specs.declared.capacity.TheConstants.{MOST_KEPT};
 
     ghost Value = { ViewState };
 
@@ -118,33 +118,33 @@ impl<'a> View<'a> {
         let Ok(token) = self.log.push(rt, p, &mut self.roomy) else {
             return Kept::NoMemory;
         };
-        self.own.push_reserved(token.place());
+        self.own.push_reserved(token.slot());
         self.taken.put(token);
         self.kept += 1;
         Kept::Stored
     }
 
-    /// Whether the place is that of the view's next proof of its own, which it has taken in already.
-    fn skips(&mut self, place: usize) -> bool
+    /// Whether the slot is that of the view's next proof of its own, which it has taken in already.
+    fn skips(&mut self, slot: usize) -> bool
         ensures { self.new ≡ self.old }
     {
-        if self.own.get(self.skipped).copied() != Some(place) {
+        if self.own.get(self.skipped).copied() != Some(slot) {
             return false;
         }
         self.skipped = self.skipped.saturating_add(1);
         true
     }
 
-    /// Takes in the entry at the place, where its push is finished and the view can grow; else it answers false.
-    fn read_one(&mut self, place: usize) -> bool
+    /// Takes in the entry at the slot, where its push is finished and the view can grow; else it answers false.
+    fn read_one(&mut self, slot: usize) -> bool
         ensures log { self.new.log ≡ self.old.log }
         ensures kept { self.new.kept ≡ self.old.kept }
         ensures tokens { Extends self.old.tokens self.new.tokens }
     {
-        if self.skips(place) {
+        if self.skips(slot) {
             return true;
         }
-        let Some(token) = self.log.token(place) else {
+        let Some(token) = self.log.token(slot) else {
             return false;
         };
         if self.taken.reserve().is_err() {
@@ -160,11 +160,11 @@ impl<'a> View<'a> {
         ensures kept { self.new.kept ≡ self.old.kept }
         ensures tokens { Extends self.old.tokens self.new.tokens }
     {
-        for place in self.read..self.log.count() {
-            if !self.read_one(place) {
+        for slot in self.read..self.log.count() {
+            if !self.read_one(slot) {
                 break;
             }
-            self.read = place.saturating_add(1);
+            self.read = slot.saturating_add(1);
         }
     }
 

@@ -4,7 +4,7 @@ ghost use Rattle.std.specs.Prelude.{◌≡◌, ◌≢◌, ◌≤◌, ◌+◌, �
 ghost use Rattle.tt_search.specs.Stores.{AnswersFor};
 ghost use Rattle.tt_search.specs.declared.store.Kept.TheVariants.{Stored, Full};
 
-use crate::bounds::MOST_KEPT;
+use crate::capacity::MOST_KEPT;
 use crate::table::TableState;
 use std::alloc::Global;
 use std::marker::Model;
@@ -41,7 +41,7 @@ pub struct LockedStore<'a, R> {
 
 impl<'a, R> Model for LockedStore<'a, R> {
     ghost use Rattle.std.specs.Prelude.{◌≤◌, ℕ};
-    ghost use Rattle.tt_share.specs.declared.bounds.TheConstants.{MOST_KEPT};
+    ghost use Rattle.tt_share.specs.declared.capacity.TheConstants.{MOST_KEPT};
 
     ghost Value = { ℕ };
 
@@ -57,24 +57,10 @@ impl<'a, R> LockedStore<'a, R> {
     {
         LockedStore { rt, table, kept: 0 }
     }
-
-    /// How many proofs may be kept through this handle: 4,096.
-    pub fn capacity(&self) -> usize
-        ensures { result ≡ MOST_KEPT }
-    {
-        MOST_KEPT
-    }
-
-    /// How many proofs were kept through this handle: at most 4,096.
-    pub fn kept(&self) -> usize
-        ensures { result ≡ self.now }
-    {
-        self.kept
-    }
 }
 
 impl<'a, R: Wait> Store for LockedStore<'a, R> {
-    ghost use Rattle.tt_share.specs.declared.bounds.TheConstants.{MOST_KEPT};
+    ghost use Rattle.tt_share.specs.declared.capacity.TheConstants.{MOST_KEPT};
 
     ghost capacity = { λ _. MOST_KEPT };
 
@@ -83,11 +69,11 @@ impl<'a, R: Wait> Store for LockedStore<'a, R> {
     ghost may_answer = { Unit {0} };
 
     fn capacity(&self) -> usize {
-        LockedStore::capacity(self)
+        MOST_KEPT
     }
 
     fn kept(&self) -> usize {
-        LockedStore::kept(self)
+        self.kept
     }
 
     fn find(&mut self, line: &Line, s: Side) -> Result<Option<Arc<Proof>>, NoMemory> {

@@ -19,18 +19,18 @@ const REPEATED: &[u8] = b"(;SZ[4:1]AW[ba];B[ca];W[da]TR[ba])";
 const NARROW: &[u8] = b"(;SZ[2:1]AW[ba]PL[W]TR[ba])";
 
 /// Whether a table has the proofs of a problem's key at these places.
-fn has_places(
+fn has_slots(
     alloc: Global,
     table: &TableState,
     record: &[u8],
     want: &[usize],
 ) -> Result<bool, Fail> {
     let line = posed(alloc, record)?;
-    Ok(table.places(&line.key()) == want)
+    Ok(table.slots(&line.key()) == want)
 }
 
 /// The place to which the proof of a certificate goes.
-fn place_of(
+fn slot_of(
     alloc: Global,
     table: &mut TableState,
     record: &[u8],
@@ -44,9 +44,9 @@ fn place_of(
 fn is_put(alloc: Global, table: &mut TableState, row: &[u8]) -> Result<bool, Fail> {
     let (record, rest) = cut(row, b'|');
     let (certificate, rest) = cut(rest, b'|');
-    let (place, nodes) = cut(rest, b'|');
-    let put = place_of(alloc, table, record, certificate)?;
-    Ok(put == usize::from(short_number(place)) && table.nodes() == u64::from(number(nodes)))
+    let (slot, nodes) = cut(rest, b'|');
+    let put = slot_of(alloc, table, record, certificate)?;
+    Ok(put == usize::from(short_number(slot)) && table.nodes() == u64::from(number(nodes)))
 }
 
 /// Problems, certificates, the place of each proof, and the nodes of the table with it.
@@ -63,28 +63,28 @@ fn are_put(alloc: Global, table: &mut TableState) -> Result<(), Fail> {
     let mut rest = PUT.as_bytes();
     for _ in 0..5u8 {
         let (row, behind) = cut(rest, b'\n');
-        want(is_put(alloc, table, row)?, "another place or count")?;
+        want(is_put(alloc, table, row)?, "another slot or count")?;
         rest = behind;
     }
     want(rest.is_empty(), "the table is longer")
 }
 
 /// Fails unless a table in which these proofs are tells the places of each key.
-fn tells_places(alloc: Global, table: &TableState) -> Result<(), Fail> {
-    want(has_places(alloc, table, SPLIT, &[0, 1, 3])?, "split")?;
-    want(has_places(alloc, table, REPEATED, &[0, 1, 3])?, "repeated")?;
-    want(has_places(alloc, table, NARROW, &[2, 4])?, "narrow")?;
+fn tells_slots(alloc: Global, table: &TableState) -> Result<(), Fail> {
+    want(has_slots(alloc, table, SPLIT, &[0, 1, 3])?, "split")?;
+    want(has_slots(alloc, table, REPEATED, &[0, 1, 3])?, "repeated")?;
+    want(has_slots(alloc, table, NARROW, &[2, 4])?, "narrow")?;
     want(table.len() == 5, "five proofs")
 }
 
 #[test]
-fn places_and_nodes(rt: HostRuntime) -> Result<(), Fail> {
+fn slots_and_nodes(rt: HostRuntime) -> Result<(), Fail> {
     let alloc = rt.alloc();
     let mut table = TableState::new(alloc)?;
-    want(has_places(alloc, &table, SPLIT, &[])?, "an empty table")?;
+    want(has_slots(alloc, &table, SPLIT, &[])?, "an empty table")?;
     want(table.nodes() == 0, "its nodes")?;
     are_put(alloc, &mut table)?;
-    tells_places(alloc, &table)
+    tells_slots(alloc, &table)
 }
 
 /// Whether a proof is the side's, and has this certificate at the line.

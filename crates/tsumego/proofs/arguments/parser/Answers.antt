@@ -14,7 +14,7 @@ returns c =
     ap app_of_fields c.subcommand_required-top.ensures ∙ ap needing_subcommand plain_is in
     let one_is = c.in_ok-subcommand.ensures.shape c.named-score.ensures.local
     ∙ ap₂ with_subcommand top_is (ap (λ (a : App). a.top) c.named-score.ensures.app) in
-    let two_is = c.in_ok-two.ensures.shape c.named-check.ensures.local
-    ∙ ap₂ with_subcommand one_is (ap (λ (a : App). a.top) c.named-check.ensures.app) in
+    let two_is = c.in_ok-two.ensures.shape c.in_ok-check.ensures.local
+    ∙ ap₂ with_subcommand one_is (ap (λ (a : App). a.top) c.in_ok-check.ensures.shape) in
     IfOk-weaker c.subcommand-3.result _ _ (λ r h. h.shape c.in_ok-solve.ensures.local
     ∙ ap₂ with_subcommand two_is (ap (λ (a : App). a.top) c.in_ok-solve.ensures.shape)) c.subcommand-3.ensures

@@ -15,7 +15,8 @@ returns-clause-shape c =
     let three_is = c.in_ok-three.ensures.shape c.optional_number-total.ensures.local ∙ ap₂ with_rule two_is c.optional_number-total.ensures.rule in
     let four_is = c.in_ok-four.ensures.shape c.optional_number-dfpn.ensures.local ∙ ap₂ with_rule three_is c.optional_number-dfpn.ensures.rule in
     let five_is = c.in_ok-five.ensures.shape c.number_option-workers.ensures.local ∙ ap₂ with_rule four_is c.number_option-workers.ensures.rule in
-    IfOk-weaker c.arg-6.result _ _ (λ r h. h.shape c.flag-cert.ensures.local ∙ ap₂ with_rule five_is c.flag-cert.ensures.rule) c.arg-6.ensures
+    let six_is = c.in_ok-six.ensures.shape c.flag-cert.ensures.local ∙ ap₂ with_rule five_is c.flag-cert.ensures.rule in
+    IfOk-weaker c.arg-7.result _ _ (λ r h. h.shape c.flag-turns.ensures.local ∙ ap₂ with_rule six_is c.flag-turns.ensures.rule) c.arg-7.ensures
 
 pub returns-clause-local : goal.returns-clause-local
 returns-clause-local c =
@@ -24,4 +25,5 @@ returns-clause-local c =
     let three = none_global _ _ _ c.in_ok-three.ensures.globals two c.optional_number-total.ensures.local in
     let four = none_global _ _ _ c.in_ok-four.ensures.globals three c.optional_number-dfpn.ensures.local in
     let five = none_global _ _ _ c.in_ok-five.ensures.globals four c.number_option-workers.ensures.local in
-    IfOk-weaker c.arg-6.result _ _ (λ r h. none_global _ _ _ h.globals five c.flag-cert.ensures.local) c.arg-6.ensures
+    let six = none_global _ _ _ c.in_ok-six.ensures.globals five c.flag-cert.ensures.local in
+    IfOk-weaker c.arg-7.result _ _ (λ r h. none_global _ _ _ h.globals six c.flag-turns.ensures.local) c.arg-7.ensures

@@ -7,7 +7,7 @@ use Rattle.tsumego.proofs.finding.find.Goals as goal
 pub returns-in-Ok : goal.returns-in-Ok
 returns-in-Ok c =
     let found = c.in-Ok.ensures.found in
-    IfOk-weaker c.find_on.result _ _ (λ o h. found_behind c.args.input.now c.in-Ok.used found.0 c.in-Ok.main.nodes c.trim.result.now o
+    IfOk-weaker c.find_on.result _ _ (λ o h. found_behind c.args.parts c.args.input.now c.in-Ok.used found.0 c.in-Ok.main.nodes c.trim.result.now o
     c.in-Ok.ensures.within.2 found.1 found.2 c.trim.ensures h) c.find_on.ensures
 
 pub returns-in-Err-Syntax : goal.returns-in-Err-Syntax

@@ -2,7 +2,7 @@ use Rattle.std.proofs.Common.{arith, inl, inr, ◌<◌, ◌≤◌, ◌+◌, ◌%
 use Rattle.tt_sgf.specs.Sizes.{point_count}
 use Rattle.tt_board.specs.Near.{IsThere}
 use Rattle.tt_board.proofs.near.beside.Goals as goal
-use Rattle.tt_board.proofs.NearLemmas.{near_places, places_once}
+use Rattle.tt_board.proofs.NearLemmas.{near_neighbours, neighbours_once}
 
 pub returns-clause-all : goal.returns-clause-all
 returns-clause-all c =
@@ -15,7 +15,7 @@ returns-clause-all c =
     elim c.after.ensures [ inl h ↦ inl (grind arith, grind arith) | inr h ↦ inr (λ on. h.0 (grind arith), h.1) ] in
     let down : IsThere c.after-2.result (p + s.columns < point_count s) (p + s.columns) =
     elim c.after-2.ensures [ inl h ↦ inl (grind arith, grind arith) | inr h ↦ inr (λ on. h.0 (grind arith), h.1) ] in
-    near_places s p (omega arith) c.requires _ _ _ _ up back on down
+    near_neighbours s p (omega arith) c.requires _ _ _ _ up back on down
 
 pub returns-clause-once : goal.returns-clause-once
 returns-clause-once c =
@@ -28,4 +28,4 @@ returns-clause-once c =
     elim c.after.ensures [ inl h ↦ inl (grind arith, grind arith) | inr h ↦ inr (λ on. h.0 (grind arith), h.1) ] in
     let down : IsThere c.after-2.result (p + s.columns < point_count s) (p + s.columns) =
     elim c.after-2.ensures [ inl h ↦ inl (grind arith, grind arith) | inr h ↦ inr (λ on. h.0 (grind arith), h.1) ] in
-    places_once s p (omega arith) c.requires _ _ _ _ up back on down
+    neighbours_once s p (omega arith) c.requires _ _ _ _ up back on down

@@ -1,5 +1,8 @@
-use Rattle.std.proofs.Common.{◌≡◌}
+use Rattle.std.proofs.Common.{◌≡◌, ◌≤◌}
 use Rattle.tt_dfpn.proofs.attempts.find_proof.Given as goal
 
 abbrev pub invariant-loop-attempt : goal.invariant-loop-attempt
-invariant-loop-attempt l = l.line ≡ l.fn.line
+invariant-loop-attempt l = record {
+  same : l.line ≡ l.fn.line;
+  fewer : l.visits.left ≤ l.fn.visits.left;
+}

@@ -10,14 +10,17 @@ decreases-behind g l = l.room * 8 + 8
 abbrev pub decreases-certify : goal.decreases-certify
 decreases-certify g l = l.room * 8 + 7
 
+abbrev pub decreases-visited : goal.decreases-visited
+decreases-visited g l = l.room * 8 + 6
+
 abbrev pub decreases-picked : goal.decreases-picked
-decreases-picked g l = l.room * 8 + 6
+decreases-picked g l = l.room * 8 + 5
 
 abbrev pub decreases-replied : goal.decreases-replied
-decreases-replied g l = l.room * 8 + 6
+decreases-replied g l = l.room * 8 + 5
 
 abbrev pub decreases-tried : goal.decreases-tried
-decreases-tried g l = l.room * 8 + 5
+decreases-tried g l = l.room * 8 + 4
 
 abbrev pub invariant-picked-loop-refused : goal.invariant-picked-loop-refused
 invariant-picked-loop-refused g l = record {

@@ -5,8 +5,8 @@ use Rattle.tt_board.specs.declared.Colour.TheVariants.{Black, White}
 use Rattle.tt_board.specs.Reach.{entry_at}
 use Rattle.tt_board.specs.Play.{is_stone_of}
 use Rattle.tt_sgf.specs.declared.size.Size.{Size}
-use Rattle.tt_game.specs.Keys.{key_of, packed}
-use Rattle.tt_game.proofs.KeyLemmas.{packed_is}
+use Rattle.tt_game.specs.Keys.{key_of, bit_words}
+use Rattle.tt_game.proofs.KeyLemmas.{bit_words_is}
 use Rattle.tt_game.proofs.keys.key_at.Goals as goal
 
 pub returns : goal.returns
@@ -22,10 +22,10 @@ returns c =
     let targets_fit : (k : ℕ) → get_or c.words_on-2.result k 0 < 2 ^ 64 = search rules in
     let black_fits : (k : ℕ) → get_or c.words.result k 0 < 2 ^ 64 = search rules in
     let white_fits : (k : ℕ) → get_or c.words-2.result k 0 < 2 ^ 64 = search rules in
-    let region = packed_is f.size (λ p. set.contains f.region p) c.words_on.result six region_fits c.words_on.ensures in
-    let targets = packed_is f.size (λ p. set.contains f.targets p) c.words_on-2.result six_too targets_fit c.words_on-2.ensures in
-    let stones = λ (k : Colour). (let m : packed board.size (λ p. is_stone_of (entry_at board.points p) k) ≡ packed f.size (λ p. is_stone_of (entry_at board.points p) k)
-    = ap (λ (g : Size). packed g (λ p. is_stone_of (entry_at board.points p) k)) c.requires in m) in
-    let black = packed_is board.size (λ p. is_stone_of (entry_at board.points p) Black) c.words.result six_black black_fits c.words.ensures ∙ stones Black in
-    let white = packed_is board.size (λ p. is_stone_of (entry_at board.points p) White) c.words-2.result six_white white_fits c.words-2.ensures ∙ stones White in
+    let region = bit_words_is f.size (λ p. set.contains f.region p) c.words_on.result six region_fits c.words_on.ensures in
+    let targets = bit_words_is f.size (λ p. set.contains f.targets p) c.words_on-2.result six_too targets_fit c.words_on-2.ensures in
+    let stones = λ (k : Colour). (let m : bit_words board.size (λ p. is_stone_of (entry_at board.points p) k) ≡ bit_words f.size (λ p. is_stone_of (entry_at board.points p) k)
+    = ap (λ (g : Size). bit_words g (λ p. is_stone_of (entry_at board.points p) k)) c.requires in m) in
+    let black = bit_words_is board.size (λ p. is_stone_of (entry_at board.points p) Black) c.words.result six_black black_fits c.words.ensures ∙ stones Black in
+    let white = bit_words_is board.size (λ p. is_stone_of (entry_at board.points p) White) c.words-2.result six_white white_fits c.words-2.ensures ∙ stones White in
     λ i. record { size = f.size; region = region i; targets = targets i; defender = f.defender; black = black i; white = white i; to_move = c.args.to_move; passes = c.args.passes }

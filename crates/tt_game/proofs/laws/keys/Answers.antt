@@ -8,8 +8,8 @@ use Rattle.tt_sgf.specs.Sizes.{point_count}
 use Rattle.tt_game.specs.declared.frame.Frame.{Frame}
 use Rattle.tt_game.specs.declared.keys.Key.{Key}
 use Rattle.tt_game.specs.Game.{State}
-use Rattle.tt_game.specs.Keys.{key_of, LookAlike, packed}
-use Rattle.tt_game.proofs.KeyLemmas.{packed_tells, packed_same, entries_tell}
+use Rattle.tt_game.specs.Keys.{key_of, LookAlike, bit_words}
+use Rattle.tt_game.proofs.KeyLemmas.{bit_words_tells, bit_words_same, entries_tell}
 use Rattle.tt_game.proofs.laws.keys.Goals as goal
 
 -- positions with the same key look alike
@@ -17,7 +17,7 @@ tells : (f g : Frame) (s t : State) → key_of f s ≡ key_of g t → LookAlike 
 unfolding key_of
 tells f g s t e =
     let size : f.size ≡ g.size = ap (λ (k : Key). k.size) e in
-    let same = λ (test tell : ℕ → Bool) (h : packed f.size test ≡ packed g.size tell). packed_tells f.size test tell (h ∙ ap (λ (x : Size). packed x tell) (sym size)) in
+    let same = λ (test tell : ℕ → Bool) (h : bit_words f.size test ≡ bit_words g.size tell). bit_words_tells f.size test tell (h ∙ ap (λ (x : Size). bit_words x tell) (sym size)) in
     let black = same (λ p. is_stone_of (entry_at s.present p) Black) (λ p. is_stone_of (entry_at t.present p) Black) (ap (λ (k : Key). k.black) e) in
     let white = same (λ p. is_stone_of (entry_at s.present p) White) (λ p. is_stone_of (entry_at t.present p) White) (ap (λ (k : Key). k.white) e) in
     record {
@@ -34,7 +34,7 @@ tells f g s t e =
 same : (f g : Frame) (s t : State) → LookAlike f g s t → key_of f s ≡ key_of g t
 unfolding key_of
 same f g s t h =
-    let pack = λ (test tell : ℕ → Bool) (h' : (p : ℕ) → p < point_count f.size → test p ≡ tell p). packed_same f.size test tell h' ∙ ap (λ (x : Size). packed x tell) h.size in
+    let pack = λ (test tell : ℕ → Bool) (h' : (p : ℕ) → p < point_count f.size → test p ≡ tell p). bit_words_same f.size test tell h' ∙ ap (λ (x : Size). bit_words x tell) h.size in
     let region = pack (λ p. set.contains f.region p) (λ p. set.contains g.region p) h.region in
     let black = pack (λ p. is_stone_of (entry_at s.present p) Black) (λ p. is_stone_of (entry_at t.present p) Black) (λ p lt. ap (λ x. is_stone_of x Black) (h.colouring p lt)) in
     let white = pack (λ p. is_stone_of (entry_at s.present p) White) (λ p. is_stone_of (entry_at t.present p) White) (λ p lt. ap (λ x. is_stone_of x White) (h.colouring p lt)) in

@@ -7,12 +7,15 @@ use Rattle.tt_search.proofs.leaves.edges_at.Given as goal
 
 abbrev pub invariant-loop-p : goal.invariant-loop-p
 invariant-loop-p l = record {
+  frame : l.plays.frame ≡ l.initial.plays.frame;
+  state : l.plays.state ≡ l.initial.plays.state;
   small : grown_in l.edges.items ≡ 0;
-  turns : edge_turns l.edges.items ++ map (λ x. x.turn) (successors_from l.line.frame l.line.state l.from) ≡ legal_turns l.line.frame l.line.state;
-  leaves : edge_trees l.edges.items [] ++ map (λ x. leaf_for x.winner) (successors_from l.line.frame l.line.state l.from) ≡ map (λ x. leaf_for x.winner) (successors_of l.line.frame l.line.state);
-  few : length l.edges.items ≤ l.from;
-  inside : l.from ≤ point_count l.line.frame.size;
+  turns : edge_turns l.edges.items ++ map (λ x. x.turn) (successors_from l.initial.plays.frame l.initial.plays.state l.plays.from) ≡ legal_turns l.initial.plays.frame l.initial.plays.state;
+  leaves : edge_trees l.edges.items [] ++ map (λ x. leaf_for x.winner) (successors_from l.initial.plays.frame l.initial.plays.state l.plays.from)
+      ≡ map (λ x. leaf_for x.winner) (successors_of l.initial.plays.frame l.initial.plays.state);
+  few : length l.edges.items ≤ l.plays.from;
+  inside : l.plays.from ≤ point_count l.initial.plays.frame.size;
 }
 
 abbrev pub decreases-loop-p : goal.decreases-loop-p
-decreases-loop-p l = 361 - l.from
+decreases-loop-p l = 361 - l.plays.from

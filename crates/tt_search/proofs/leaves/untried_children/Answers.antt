@@ -13,6 +13,6 @@ returns-clause-kept c =
     record {
       few = omega (arith, ap length is, c.requires.few);
       whole = fresh_grown es fresh ∙ sym (ap length c.in_ok-grown.ensures.items);
-      place = sym (ap first_least (ones c.args.mover es c.in_ok-grown.grown.items fresh) ∙ first_ones (length es) (omega (arith, ap length is, c.requires.some)));
+      index = sym (ap first_least (ones c.args.mover es c.in_ok-grown.grown.items fresh) ∙ first_ones (length es) (omega (arith, ap length is, c.requires.some)));
       rank = refl;
     }

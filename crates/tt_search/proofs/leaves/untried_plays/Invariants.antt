@@ -8,14 +8,17 @@ use Rattle.tt_search.proofs.leaves.untried_plays.Given as goal
 
 abbrev pub invariant-loop-p : goal.invariant-loop-p
 invariant-loop-p l = record {
-  turns : edge_turns l.plays ++ map (λ x. x.turn) (successors_from l.line.frame l.line.state l.from) ≡ legal_turns l.line.frame l.line.state;
-  leaves : edge_trees l.plays [] ++ map (λ x. leaf_for x.winner) (successors_from l.line.frame l.line.state l.from) ≡ map (λ x. leaf_for x.winner) (successors_of l.line.frame l.line.state);
-  fresh : AreFresh l.plays;
-  below : AreBelow l.from l.plays;
-  few : length l.plays ≤ l.from;
-  inside : l.from ≤ point_count l.line.frame.size;
-  low : l.from ≤ 361;
+  frame : l.plays.frame ≡ l.initial.plays.frame;
+  state : l.plays.state ≡ l.initial.plays.state;
+  turns : edge_turns l.found ++ map (λ x. x.turn) (successors_from l.initial.plays.frame l.initial.plays.state l.plays.from) ≡ legal_turns l.initial.plays.frame l.initial.plays.state;
+  leaves : edge_trees l.found [] ++ map (λ x. leaf_for x.winner) (successors_from l.initial.plays.frame l.initial.plays.state l.plays.from)
+      ≡ map (λ x. leaf_for x.winner) (successors_of l.initial.plays.frame l.initial.plays.state);
+  fresh : AreFresh l.found;
+  below : AreBelow l.plays.from l.found;
+  few : length l.found ≤ l.plays.from;
+  inside : l.plays.from ≤ point_count l.initial.plays.frame.size;
+  low : l.plays.from ≤ 361;
 }
 
 abbrev pub decreases-loop-p : goal.decreases-loop-p
-decreases-loop-p l = 361 - l.from
+decreases-loop-p l = 361 - l.plays.from

@@ -2,7 +2,7 @@ use Rattle.std.proofs.Common.{rules, ◌≡◌, ◌+◌, ◌^◌, ◌<◌, ◌�
 use Rattle.tt_game.specs.declared.frame.Side.TheVariants.{Attacker, Defender}
 use Rattle.tt_search.specs.PartialTree.{PartialTree}
 use Rattle.tt_search.specs.inside.Shape.{shape}
-use Rattle.tt_search.specs.inside.Choices.{node_with, best_place}
+use Rattle.tt_search.specs.inside.Choices.{node_with, best_index}
 use Rattle.tt_search.specs.inside.ChildNodes.{choices_of, child_of}
 use Rattle.tt_search.specs.inside.Child.{child_tree}
 use Rattle.tt_search.specs.inside.Edges.{edge_state_of, grown_in, edge_turns, edge_trees}
@@ -15,10 +15,10 @@ use Rattle.tt_search.specs.declared.walk.Walk.{Walk}
 use Rattle.tt_search.proofs.Sprouted.{fresh_here, fresh_child, not_won, rank_within_nodes, child_node, node_steps, one_step}
 use Rattle.tt_search.proofs.Steady.{last_round, next_round, round_falls, same_numbers, same_stand, steps_offerable}
 use Rattle.tt_search.proofs.Asking.{granted_more}
-use Rattle.tt_search.proofs.Descending.{any_pace, last_of}
+use Rattle.tt_search.proofs.Descending.{any_stop, last_of}
 use Rattle.tt_search.proofs.Steps.{IsOfferable}
-use Rattle.tt_search.proofs.Places.{length-trees_of, length-turns_of}
-use Rattle.tt_search.proofs.Changed.{few_stay, place_there, in_trees, part_was, sum_now, place_now, own_now, above_was, pair_of}
+use Rattle.tt_search.proofs.Indices.{length-trees_of, length-turns_of}
+use Rattle.tt_search.proofs.Changed.{few_stay, index_there, in_trees, part_was, sum_now, index_now, own_now, above_was, pair_of}
 use Rattle.tt_search.proofs.Rows.{number_le}
 use Rattle.tt_search.proofs.WayDown.{turn_there, child_there, has_room, way_down, child_may_grow, round_steps}
 use Rattle.tt_search.proofs.tree.+descent.Goals as goal
@@ -30,15 +30,15 @@ children::ChildNodes::grow_at-index_mut-requires g t c =
     let edge = c.at.result in
     omega (
       arith,
-      rank_within_nodes c.args.self.now c.args.place c.args.rank edge
-          (child_of c.args.self.now c.args.place) c.requires.there c.at.ensures c.requires.whole c.in-Grown.ensures c.requires.rank,
+      rank_within_nodes c.args.self.now c.args.index c.args.rank edge
+          (child_of c.args.self.now c.args.index) c.requires.there c.at.ensures c.requires.whole c.in-Grown.ensures c.requires.rank,
       c.args.self.now.grown.ok.0,
     )
 
 pub children::ChildNodes::grow_at-grow-requires : goal.children::ChildNodes::grow_at-grow-requires
 children::ChildNodes::grow_at-grow-requires g t c κs within =
     let node = c.index_mut.result.now in
-    let here = child_node c.args.self.now c.args.place c.args.rank c.at.result node c.requires.there c.at.ensures c.requires.whole c.in-Grown.ensures c.requires.rank
+    let here = child_node c.args.self.now c.args.index c.args.rank c.at.result node c.requires.there c.at.ensures c.requires.whole c.in-Grown.ensures c.requires.rank
     c.index_mut.ensures.value in
     let may_grow = subst (MayGrow (stand_of c.args.walk.now)) here c.requires.ready.may_grow in
     (omega (arith, c.decreases), (within.0, (within.1, record { may_grow = may_grow; room = c.requires.ready.room; grants = c.requires.ready.grants })))
@@ -47,36 +47,36 @@ pub children::ChildNodes::grow_at-sprout-requires-clause-open : goal.children::C
 children::ChildNodes::grow_at-sprout-requires-clause-open g t c =
     let x = c.args.self.now in
     let line = c.args.walk.now.line in
-    let is = fresh_child x.edges x.grown.items c.args.place c.at.result c.requires.there c.at.ensures (sym c.in-Fresh.ensures) in
+    let is = fresh_child x.edges x.grown.items c.args.index c.at.result c.requires.there c.at.ensures (sym c.in-Fresh.ensures) in
     subst (IsPartialTree line.frame line.state) is c.requires.ready.may_grow.partial
 
 pub children::ChildNodes::grow_at-sprout-requires-clause-there : goal.children::ChildNodes::grow_at-sprout-requires-clause-there
 children::ChildNodes::grow_at-sprout-requires-clause-there g t c =
     let x = c.args.self.now in
-    fresh_here x.edges x.grown.items c.args.place c.at.result c.requires.there c.at.ensures (sym c.in-Fresh.ensures)
+    fresh_here x.edges x.grown.items c.args.index c.at.result c.requires.there c.at.ensures (sym c.in-Fresh.ensures)
 
 pub children::ChildNodes::grow_at-unreachable-requires : goal.children::ChildNodes::grow_at-unreachable-requires
 children::ChildNodes::grow_at-unreachable-requires g t c =
     let x = c.args.self.now in
     let edge = c.at.result in
-    not_won x.edges x.grown.items c.args.place edge c.requires.there c.at.ensures c.requires.ready.may_grow.undecided (edge_state_of edge) refl c.in-Won.field-0 (sym c.in-Won.ensures)
+    not_won x.edges x.grown.items c.args.index edge c.requires.there c.at.ensures c.requires.ready.may_grow.undecided (edge_state_of edge) refl c.in-Won.field-0 (sym c.in-Won.ensures)
 
 pub children::ChildNodes::grow_at-returns-in-Grown-clause-steps : goal.children::ChildNodes::grow_at-returns-in-Grown-clause-steps
 children::ChildNodes::grow_at-returns-in-Grown-clause-steps g t c =
     let node = c.index_mut.result.now in
     let walk = c.args.walk.now in
-    node_steps c.args.self.now c.args.place c.args.rank c.at.result node c.requires.there c.at.ensures c.requires.whole c.in-Grown.ensures c.requires.rank
+    node_steps c.args.self.now c.args.index c.args.rank c.at.result node c.requires.there c.at.ensures c.requires.whole c.in-Grown.ensures c.requires.rank
     c.args.stop (stand_of walk) walk.left c.grow.result c.grow.new.self c.grow.new.walk.left _ refl refl c.index_mut.ensures.value c.grow.ensures.steps
 
 pub children::ChildNodes::grow_at-returns-in-Fresh-clause-steps : goal.children::ChildNodes::grow_at-returns-in-Fresh-clause-steps
 children::ChildNodes::grow_at-returns-in-Fresh-clause-steps g t c =
     let x = c.args.self.now in
-    let is = fresh_child x.edges x.grown.items c.args.place c.at.result c.requires.there c.at.ensures (sym c.in-Fresh.ensures) in
-    one_step c.args.stop c.args.walk.now c.args.place x c.sprout.result c.sprout.new.self c.sprout.new.walk is c.sprout.ensures.sprouts
+    let is = fresh_child x.edges x.grown.items c.args.index c.at.result c.requires.there c.at.ensures (sym c.in-Fresh.ensures) in
+    one_step c.args.stop c.args.walk.now c.args.index x c.sprout.result c.sprout.new.self c.sprout.new.walk is c.sprout.ensures.sprouts
 
 pub children::ChildNodes::grow_at-returns-in-Fresh-clause-descends : goal.children::ChildNodes::grow_at-returns-in-Fresh-clause-descends
 children::ChildNodes::grow_at-returns-in-Fresh-clause-descends g t c =
-    any_pace g.G.Grants.asked g.G.Grants.source g.S.Store.may_answer c.args.stop c.args.walk.now c.args.grants.now c.sprout.result c.sprout.new.walk c.sprout.new.grants c.sprout.ensures.descends
+    any_stop g.G.Grants.asked g.G.Grants.source g.S.Store.may_answer c.args.stop c.args.walk.now c.args.grants.now c.sprout.result c.sprout.new.walk c.sprout.new.grants c.sprout.ensures.descends
 
 -- ---- the rounds at a node
 
@@ -145,25 +145,25 @@ node::Node::grow-rounds-preserved g t c =
 pub children::ChildNodes::grow_best-child-requires-clause-there : goal.children::ChildNodes::grow_best-child-requires-clause-there
 children::ChildNodes::grow_best-child-requires-clause-there g t c =
     let x = c.args.self.now in
-    omega (arith, c.requires.there, c.from-place.ensures)
+    omega (arith, c.requires.there, c.from-index.ensures)
 
 pub children::ChildNodes::grow_best-grow_at-step-requires : goal.children::ChildNodes::grow_best-grow_at-step-requires
 children::ChildNodes::grow_best-grow_at-step-requires g t c κs within =
     let x = c.args.self.now in
-    let rank = c.from-rank.ensures ∙ c.requires.kept.rank ∙ ap (λ i. grown_in (take i x.edges)) (sym c.from-place.ensures) in (
+    let rank = c.from-rank.ensures ∙ c.requires.kept.kept.rank ∙ ap (λ i. grown_in (take i x.edges)) (sym c.from-index.ensures) in (
       omega (arith, c.decreases),
       (
         within.0,
         (
           within.1,
           (
-            omega (arith, c.requires.there, c.from-place.ensures),
+            omega (arith, c.requires.there, c.from-index.ensures),
             (
               rank,
               (
-                c.requires.kept.whole,
+                c.requires.kept.kept.whole,
                 record {
-                  may_grow = subst (λ i. MayGrow (stand_of c.args.walk.now) (child_of x i)) (sym c.from-place.ensures) c.requires.ready.may_grow;
+                  may_grow = subst (λ i. MayGrow (stand_of c.args.walk.now) (child_of x i)) (sym c.from-index.ensures) c.requires.ready.may_grow;
                   room = c.requires.ready.room;
                   grants = c.requires.ready.grants;
                 },
@@ -177,19 +177,19 @@ children::ChildNodes::grow_best-grow_at-step-requires g t c κs within =
 pub children::ChildNodes::grow_best-child-child-requires-clause-there : goal.children::ChildNodes::grow_best-child-child-requires-clause-there
 children::ChildNodes::grow_best-child-child-requires-clause-there g t c =
     let x = c.args.self.now in
-    let is = c.from-place.ensures ∙ c.requires.kept.place in
-    let in_trees : c.from-place.result < length (edge_trees x.edges x.grown.items) = omega (arith, c.requires.there, c.from-place.ensures, length-trees_of x.edges x.grown.items) in
+    let is = c.from-index.ensures ∙ c.requires.kept.kept.index in
+    let in_trees : c.from-index.result < length (edge_trees x.edges x.grown.items) = omega (arith, c.requires.there, c.from-index.ensures, length-trees_of x.edges x.grown.items) in
     let steps = c.grow_at-step.ensures.steps in
-    place_there c.args.focus.now.mover x c.grow_at-step.new.self c.from-place.result steps.0 is in_trees steps.2
+    index_there c.args.focus.now.mover x c.grow_at-step.new.self c.from-index.result steps.0 is in_trees steps.2
 
 pub children::ChildNodes::grow_best-sum_after-other-requires-clause-part : goal.children::ChildNodes::grow_best-sum_after-other-requires-clause-part
 children::ChildNodes::grow_best-sum_after-other-requires-clause-part g t c =
     let a = c.args.focus.now.mover in
     let x = c.args.self.now in
-    let there : best_place (choices_of a x) < length (edge_trees x.edges x.grown.items) = omega (arith, c.requires.there, c.requires.kept.place, length-trees_of x.edges x.grown.items) in
+    let there : best_index (choices_of a x) < length (edge_trees x.edges x.grown.items) = omega (arith, c.requires.there, c.requires.kept.kept.index, length-trees_of x.edges x.grown.items) in
     let steps = c.grow_at-step.ensures.steps in
-    let is = c.from-place.ensures ∙ c.requires.kept.place in
-    part_was a x c.grow_at-step.new.self c.from-place.result (choices_of a x) c.args.was refl c.requires.was is there steps.0 steps.2
+    let is = c.from-index.ensures ∙ c.requires.kept.kept.index in
+    part_was a x c.grow_at-step.new.self c.from-index.result (choices_of a x) c.args.was refl c.requires.kept.pair is there steps.0 steps.2
     (child_tree c.child-child.result) c.child-child.ensures c.opponent-goal.result c.opponent-goal.ensures (child_tree c.child.result) c.child.ensures
     c.number-old.result c.number-new.result c.number-old.ensures c.number-new.ensures
 
@@ -197,10 +197,10 @@ pub children::ChildNodes::grow_best-sum_after-other-requires-clause-changed : go
 children::ChildNodes::grow_best-sum_after-other-requires-clause-changed g t c =
     let a = c.args.focus.now.mover in
     let x = c.args.self.now in
-    let there : best_place (choices_of a x) < length (edge_trees x.edges x.grown.items) = omega (arith, c.requires.there, c.requires.kept.place, length-trees_of x.edges x.grown.items) in
+    let there : best_index (choices_of a x) < length (edge_trees x.edges x.grown.items) = omega (arith, c.requires.there, c.requires.kept.kept.index, length-trees_of x.edges x.grown.items) in
     let steps = c.grow_at-step.ensures.steps in
-    let is = c.from-place.ensures ∙ c.requires.kept.place in
-    sum_now a x c.grow_at-step.new.self c.from-place.result (choices_of a x) c.args.was refl c.requires.was is there steps.0 steps.2
+    let is = c.from-index.ensures ∙ c.requires.kept.kept.index in
+    sum_now a x c.grow_at-step.new.self c.from-index.result (choices_of a x) c.args.was refl c.requires.kept.pair is there steps.0 steps.2
     (child_tree c.child-child.result) c.child-child.ensures c.opponent-goal.result c.opponent-goal.ensures (child_tree c.child.result) c.child.ensures
     c.number-old.result c.number-new.result c.number-old.ensures c.number-new.ensures
 
@@ -208,62 +208,71 @@ pub children::ChildNodes::grow_best-returns-then-own-was-clause-kept : goal.chil
 children::ChildNodes::grow_best-returns-then-own-was-clause-kept g t c =
     let a = c.args.focus.now.mover in
     let x = c.args.self.now in
-    let there : best_place (choices_of a x) < length (edge_trees x.edges x.grown.items) = omega (arith, c.requires.there, c.requires.kept.place, length-trees_of x.edges x.grown.items) in
+    let there : best_index (choices_of a x) < length (edge_trees x.edges x.grown.items) = omega (arith, c.requires.there, c.requires.kept.kept.index, length-trees_of x.edges x.grown.items) in
     let steps = c.grow_at-step.ensures.steps in
-    let is = c.from-place.ensures ∙ c.requires.kept.place in
+    let is = c.from-index.ensures ∙ c.requires.kept.kept.index in
     let new = c.grow_at-step.new.self in
-    let in_trees_here = in_trees a x new c.from-place.result (choices_of a x) c.args.was refl c.requires.was is there steps.0 steps.2
+    let in_trees_here = in_trees a x new c.from-index.result (choices_of a x) c.args.was refl c.requires.kept.pair is there steps.0 steps.2
     (child_tree c.child-child.result) c.child-child.ensures in
     record {
-      few = few_stay a x new c.from-place.result steps.0 is in_trees_here steps.2 c.requires.kept.few;
-      whole = c.grow_at-step.ensures.whole;
-      place = sym c.from-place.ensures ∙ place_now a x new c.from-place.result (choices_of a x) c.args.was refl c.requires.was is there steps.0 steps.2
-          (child_tree c.child-child.result) c.child-child.ensures c.number-own.result c.number-own.ensures c.if-own-was.true;
-      rank = c.requires.kept.rank ∙ ap (λ i. grown_in (take i x.edges)) (sym c.from-place.ensures) ∙ ap grown_in (sym c.grow_at-step.ensures.before)
-          ∙ ap (λ i. grown_in (take i new.edges)) c.from-place.ensures;
+      kept = record {
+        few = few_stay a x new c.from-index.result steps.0 is in_trees_here steps.2 c.requires.kept.kept.few;
+        whole = c.grow_at-step.ensures.whole;
+        index = sym c.from-index.ensures ∙ index_now a x new c.from-index.result (choices_of a x) c.args.was refl c.requires.kept.pair is there steps.0 steps.2
+            (child_tree c.child-child.result) c.child-child.ensures c.number-own.result c.number-own.ensures c.if-own-was.true;
+        rank = c.requires.kept.kept.rank ∙ ap (λ i. grown_in (take i x.edges)) (sym c.from-index.ensures) ∙ ap grown_in (sym c.grow_at-step.ensures.before)
+            ∙ ap (λ i. grown_in (take i new.edges)) c.from-index.ensures;
+      };
+      pair = pair_of (choices_of a new) c.number-own.result c.sum_after-other.result
+          (own_now a x new c.from-index.result (choices_of a x) c.args.was refl c.requires.kept.pair is there steps.0 steps.2
+          (child_tree c.child-child.result) c.child-child.ensures c.number-own.result c.number-own.ensures c.if-own-was.true) c.sum_after-other.ensures;
     }
-
-pub children::ChildNodes::grow_best-returns-then-own-was-clause-numbers : goal.children::ChildNodes::grow_best-returns-then-own-was-clause-numbers
-children::ChildNodes::grow_best-returns-then-own-was-clause-numbers g t c =
-    let a = c.args.focus.now.mover in
-    let x = c.args.self.now in
-    let there : best_place (choices_of a x) < length (edge_trees x.edges x.grown.items) = omega (arith, c.requires.there, c.requires.kept.place, length-trees_of x.edges x.grown.items) in
-    let steps = c.grow_at-step.ensures.steps in
-    let is = c.from-place.ensures ∙ c.requires.kept.place in
-    let new = c.grow_at-step.new.self in
-    pair_of (choices_of a new) c.number-own.result c.sum_after-other.result
-    (own_now a x new c.from-place.result (choices_of a x) c.args.was refl c.requires.was is there steps.0 steps.2
-    (child_tree c.child-child.result) c.child-child.ensures c.number-own.result c.number-own.ensures c.if-own-was.true) c.sum_after-other.ensures
 
 pub children::ChildNodes::grow_best-best-best-requires-clause-lowest : goal.children::ChildNodes::grow_best-best-best-requires-clause-lowest
 children::ChildNodes::grow_best-best-best-requires-clause-lowest g t c =
     let a = c.args.focus.now.mover in
     let x = c.args.self.now in
-    let there : best_place (choices_of a x) < length (edge_trees x.edges x.grown.items) = omega (arith, c.requires.there, c.requires.kept.place, length-trees_of x.edges x.grown.items) in
+    let there : best_index (choices_of a x) < length (edge_trees x.edges x.grown.items) = omega (arith, c.requires.there, c.requires.kept.kept.index, length-trees_of x.edges x.grown.items) in
     let steps = c.grow_at-step.ensures.steps in
-    let is = c.from-place.ensures ∙ c.requires.kept.place in
-    above_was a x c.grow_at-step.new.self c.from-place.result (choices_of a x) c.args.was refl c.requires.was is there steps.0 steps.2
+    let is = c.from-index.ensures ∙ c.requires.kept.kept.index in
+    above_was a x c.grow_at-step.new.self c.from-index.result (choices_of a x) c.args.was refl c.requires.kept.pair is there steps.0 steps.2
     (child_tree c.child-child.result) c.child-child.ensures c.number-own.result c.number-own.ensures (omega (arith, c.if-own-was.false))
 
 pub children::ChildNodes::grow_best-best-best-requires-clause-finite : goal.children::ChildNodes::grow_best-best-best-requires-clause-finite
 children::ChildNodes::grow_best-best-best-requires-clause-finite g t c =
     omega (arith, c.if-own-was.false, c.number-own.ensures, number_le c.args.focus.now.mover (child_tree c.child-child.result))
 
-pub children::ChildNodes::grow_best-returns-clause-numbers : goal.children::ChildNodes::grow_best-returns-clause-numbers
-children::ChildNodes::grow_best-returns-clause-numbers g t c =
-    pair_of (choices_of c.args.focus.now.mover c.grow_at-step.new.self) c.best-best.result.least c.sum_after-other.result c.best-best.ensures.least c.sum_after-other.ensures
+pub children::ChildNodes::grow_best-returns-clause-kept : goal.children::ChildNodes::grow_best-returns-clause-kept
+children::ChildNodes::grow_best-returns-clause-kept g t c =
+    let a = c.args.focus.now.mover in
+    let x = c.args.self.now in
+    let there : best_index (choices_of a x) < length (edge_trees x.edges x.grown.items) = omega (arith, c.requires.there, c.requires.kept.kept.index, length-trees_of x.edges x.grown.items) in
+    let steps = c.grow_at-step.ensures.steps in
+    let is = c.from-index.ensures ∙ c.requires.kept.kept.index in
+    let new = c.grow_at-step.new.self in
+    let in_trees_here = in_trees a x new c.from-index.result (choices_of a x) c.args.was refl c.requires.kept.pair is there steps.0 steps.2
+    (child_tree c.child-child.result) c.child-child.ensures in
+    record {
+      kept = record {
+        few = few_stay a x new c.from-index.result steps.0 is in_trees_here steps.2 c.requires.kept.kept.few;
+        whole = c.grow_at-step.ensures.whole;
+        index = c.best-best.ensures.index;
+        rank = c.best-best.ensures.rank;
+      };
+      pair = pair_of (choices_of a new) c.best-best.result.least c.sum_after-other.result c.best-best.ensures.least c.sum_after-other.ensures;
+    }
 
 -- ---- a descent below a node with these children
 
 pub children::ChildNodes::descend-best_turn-requires : goal.children::ChildNodes::descend-best_turn-requires
 children::ChildNodes::descend-best_turn-requires g t c =
     let x = choices_of c.args.focus.now.mover c.args.self.now in
-    omega (arith, turn_there (stand_of c.args.walk.now) x (node_with x) refl c.requires.ready.may_grow, c.requires.kept.place, length-turns_of c.args.self.now.edges)
+    omega (arith, turn_there (stand_of c.args.walk.now) x (node_with x) refl c.requires.ready.may_grow, c.requires.kept.kept.index, length-turns_of c.args.self.now.edges)
 
 pub children::ChildNodes::descend-go_down-requires-clause-legal : goal.children::ChildNodes::descend-go_down-requires-clause-legal
 children::ChildNodes::descend-go_down-requires-clause-legal g t c =
     let x = choices_of c.args.focus.now.mover c.args.self.now in
-    let turn = c.best_turn.ensures ∙ ap (λ i. get_or (edge_turns c.args.self.now.edges) i c.best_turn.result) c.requires.kept.place in
+    let turn = c.best_turn.ensures ∙ ap (λ i. get_or (edge_turns c.args.self.now.edges) i c.best_turn.result) c.requires.kept.kept.index in
     (way_down (stand_of c.args.walk.now) x (node_with x) refl c.requires.ready.may_grow c.best_turn.result turn).legal
 
 pub children::ChildNodes::descend-grow_best-step-requires : goal.children::ChildNodes::descend-grow_best-step-requires
@@ -272,17 +281,17 @@ children::ChildNodes::descend-grow_best-step-requires g t c κs within =
     let children = c.args.self.now in
     let x = choices_of focus.mover children in
     let walk = c.args.walk.now in
-    let turn = c.best_turn.ensures ∙ ap (λ i. get_or (edge_turns children.edges) i c.best_turn.result) c.requires.kept.place in
+    let turn = c.best_turn.ensures ∙ ap (λ i. get_or (edge_turns children.edges) i c.best_turn.result) c.requires.kept.kept.index in
     let way = way_down (stand_of walk) x (node_with x) refl c.requires.ready.may_grow c.best_turn.result turn in
     let gone = c.in-Ok.ensures.ok in
     let room = has_room (stand_of walk) x (node_with x) refl c.requires.ready.may_grow in
     let below = child_there (stand_of walk) x (node_with x) refl c.requires.ready.may_grow in
-    let there : focus.place < length children.edges = omega (arith, below, c.requires.kept.place, length-trees_of children.edges children.grown.items) in
-    let may_grow = subst (λ i. MayGrow (stand_of c.go_down.new.self) (child_of children i)) (sym c.requires.kept.place)
+    let there : focus.index < length children.edges = omega (arith, below, c.requires.kept.kept.index, length-trees_of children.edges children.grown.items) in
+    let may_grow = subst (λ i. MayGrow (stand_of c.go_down.new.self) (child_of children i)) (sym c.requires.kept.kept.index)
     (child_may_grow walk x (node_with x) c.best_turn.result way c.go_down.new.self gone) in
     let grants = subst (λ (n : ℕ). (g.G.Grants.asked c.args.grants.now).granted + n < 2 ^ 64) (sym gone.left) c.requires.ready.grants in
     let low : c.go_down.new.self.room ≤ 512 = omega (arith, gone.room, c.requires.ready.room) in
-    (omega (arith, c.decreases, gone.room, room), (within.0, (within.1, (c.requires.kept, (c.requires.was, (there, record { may_grow = may_grow; room = low; grants = grants }))))))
+    (omega (arith, c.decreases, gone.room, room), (within.0, (within.1, (c.requires.kept, (there, record { may_grow = may_grow; room = low; grants = grants })))))
 
 pub children::ChildNodes::descend-returns-clause-steps : goal.children::ChildNodes::descend-returns-clause-steps
 children::ChildNodes::descend-returns-clause-steps g t c =
@@ -290,7 +299,7 @@ children::ChildNodes::descend-returns-clause-steps g t c =
     let children = c.args.self.now in
     let x = choices_of focus.mover children in
     let walk = c.args.walk.now in
-    let turn = c.best_turn.ensures ∙ ap (λ i. get_or (edge_turns children.edges) i c.best_turn.result) c.requires.kept.place in
+    let turn = c.best_turn.ensures ∙ ap (λ i. get_or (edge_turns children.edges) i c.best_turn.result) c.requires.kept.kept.index in
     let way = way_down (stand_of walk) x (node_with x) refl c.requires.ready.may_grow c.best_turn.result turn in
     let gone = c.in-Ok.ensures.ok in
     let new = choices_of c.grow_best-step.new.focus.mover c.grow_best-step.new.self in
@@ -302,7 +311,7 @@ children::ChildNodes::descend-returns-clause-steps g t c =
 pub node::Node::round-invariant_of-self : goal.node::Node::round-invariant_of-self
 node::Node::round-invariant_of-self g t c =
     let new = node_with (choices_of c.descend-step.new.focus.mover c.descend-step.new.self) in
-    (c.by_goal-proof.ensures new c.descend-step.ensures.numbers, c.descend-step.ensures.kept)
+    (c.by_goal-proof.ensures new c.descend-step.ensures.kept.pair, c.descend-step.ensures.kept.kept)
 
 pub node::Node::round-offer-walk-requires-clause-partial : goal.node::Node::round-offer-walk-requires-clause-partial
 node::Node::round-offer-walk-requires-clause-partial g t c =
@@ -344,7 +353,7 @@ node::Node::round-returns-in_default-clause-steps g t c =
 pub node::Node::first_round-invariant_of-self : goal.node::Node::first_round-invariant_of-self
 node::Node::first_round-invariant_of-self g t c =
     let new = node_with (choices_of c.descend-step.new.focus.mover c.descend-step.new.self) in
-    (c.by_goal-proof.ensures new c.descend-step.ensures.numbers, c.descend-step.ensures.kept)
+    (c.by_goal-proof.ensures new c.descend-step.ensures.kept.pair, c.descend-step.ensures.kept.kept)
 
 pub node::Node::first_round-offer-walk-requires-clause-partial : goal.node::Node::first_round-offer-walk-requires-clause-partial
 node::Node::first_round-offer-walk-requires-clause-partial g t c =

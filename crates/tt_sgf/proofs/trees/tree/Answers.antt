@@ -25,14 +25,14 @@ loop-nodes-preserved-in-Open c =
       omega (arith, c.loop-nodes.invariant.1),
     )
 
-pub returns-in-Opened-place-clause-none : goal.returns-in-Opened-place-clause-none
-returns-in-Opened-place-clause-none c = λ h. far_refused_close _ _ _ _ _ _ c.loop-nodes.invariant.0 _
-    (c.in_ok-event.ensures ∙ ap (λ (x : Event). Some (x, c.in_ok-event.after.now)) c.in-Close.is) c.in-Opened-place.is
+pub returns-in-Opened-in_tree-clause-none : goal.returns-in-Opened-in_tree-clause-none
+returns-in-Opened-in_tree-clause-none c = λ h. far_refused_close _ _ _ _ _ _ c.loop-nodes.invariant.0 _
+    (c.in_ok-event.ensures ∙ ap (λ (x : Event). Some (x, c.in_ok-event.after.now)) c.in-Close.is) c.in-Opened-in_tree.is
 
 pub returns-then-enclosing-eq0 : goal.returns-then-enclosing-eq0
 returns-then-enclosing-eq0 c = record {
   found = far_done _ _ _ _ _ _ c.loop-nodes.invariant.0 _ (c.in_ok-event.ensures
-      ∙ ap (λ (x : Event). Some (x, c.in_ok-event.after.now)) c.in-Close.is) c.in_default-place.not-Opened c.if-enclosing-eq0.true;
+      ∙ ap (λ (x : Event). Some (x, c.in_ok-event.after.now)) c.in-Close.is) c.in_default-in_tree.not-Opened c.if-enclosing-eq0.true;
   none = λ h. absurd cc;
   short = λ h. absurd cc;
 }
@@ -43,7 +43,7 @@ loop-nodes-smaller-in-Close c = event_shrinks c.loop-nodes.rest.now c.in_ok-even
 pub loop-nodes-preserved-in-Close : goal.loop-nodes-preserved-in-Close
 loop-nodes-preserved-in-Close c =
     let s = event_shrinks c.loop-nodes.rest.now c.in_ok-event.event c.in_ok-event.after.now c.in_ok-event.ensures in (
-      far_close _ _ _ _ _ _ c.loop-nodes.invariant.0 _ (c.in_ok-event.ensures ∙ ap (λ (x : Event). Some (x, c.in_ok-event.after.now)) c.in-Close.is) c.in_default-place.not-Opened
+      far_close _ _ _ _ _ _ c.loop-nodes.invariant.0 _ (c.in_ok-event.ensures ∙ ap (λ (x : Event). Some (x, c.in_ok-event.after.now)) c.in-Close.is) c.in_default-in_tree.not-Opened
           (omega arith),
       omega (arith, c.loop-nodes.invariant.1),
     )
@@ -62,7 +62,7 @@ loop-nodes-preserved-in_ok-push-in-Item c =
           (c.in_ok-event.ensures ∙ ap (λ (x : Event). Some (
             x,
             c.in_ok-event.after.now,
-          )) c.in-Item.is) c.in_default-place-2.not-Trees c.if-on_main.true c.in_ok-push-in-Item.ensures.items,
+          )) c.in-Item.is) c.in_default-in_tree-2.not-Trees c.if-on_main.true c.in_ok-push-in-Item.ensures.items,
       omega (arith, c.loop-nodes.invariant.1),
     )
 
@@ -73,6 +73,6 @@ pub loop-nodes-preserved : goal.loop-nodes-preserved
 loop-nodes-preserved c =
     let s = event_shrinks c.loop-nodes.rest.now c.in_ok-event.event c.in_ok-event.after.now c.in_ok-event.ensures in (
       far_aside _ _ _ _ _ _ c.loop-nodes.invariant.0 c.in-Item.node c.in_ok-event.after.now
-          (c.in_ok-event.ensures ∙ ap (λ (x : Event). Some (x, c.in_ok-event.after.now)) c.in-Item.is) c.in_default-place-2.not-Trees c.if-on_main.false,
+          (c.in_ok-event.ensures ∙ ap (λ (x : Event). Some (x, c.in_ok-event.after.now)) c.in-Item.is) c.in_default-in_tree-2.not-Trees c.if-on_main.false,
       omega (arith, c.loop-nodes.invariant.1),
     )

@@ -2,7 +2,7 @@ use Rattle.std.proofs.Common.{◌∷◌, All, Some, ◌∙◌, arith}
 use Rattle.std.proofs.lemmas.List.Elements.{All-pop}
 use Rattle.tt_share.specs.inside.Jobs.{IsResult}
 use Rattle.tt_share.specs.inside.Workers.{IsPlaced}
-use Rattle.tt_share.proofs.Placing.{same_asked, same_twice, keeps, places, keeps_twice, all_still, all_more, taken_more, taken_there, given_more}
+use Rattle.tt_share.proofs.Placing.{same_asked, same_twice, keeps, slots, keeps_twice, all_still, all_more, taken_more, taken_there, given_more}
 use Rattle.tt_share.proofs.Apart.{held_fewer, spent_fewer}
 use Rattle.tt_share.proofs.workers.gather_one.Goals as goal
 
@@ -28,7 +28,7 @@ loop-one-preserved c =
       placed = (
         one ∷ was.0,
         taken_more _ _ _ was.0 one was.1 c.in-Some.ensures.items,
-        all_more (IsPlaced new.ends) one was.0 (places old.ends new.ends one c.put.ensures.puts) (all_still old.ends new.ends was.0 c.put.ensures.puts.len kept was.2),
+        all_more (IsPlaced new.ends) one was.0 (slots old.ends new.ends one c.put.ensures.puts) (all_still old.ends new.ends was.0 c.put.ensures.puts.len kept was.2),
       );
     }
 

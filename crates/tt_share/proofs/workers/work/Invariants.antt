@@ -12,9 +12,9 @@ invariant-loop-job g l = record {
   few : l.grants.granted ≤ length l.searched.items * 1000000;
   refused : SomeTotal l.searched.items → l.grants.refused ≡ true;
   searched : All (IsResult l.jobs.line.now l.jobs.limits) l.searched.items;
-  wins : WinsAreLast l.jobs.line.now.state.to_move l.grants.seat.mark l.searched.items;
+  wins : WinsAreLast l.jobs.line.now.state.to_move l.grants.seat.flag l.searched.items;
   drawn : l.grants.seat.numbers ≡ l.fn.seat.numbers ++ jobs_of l.searched.items;
-  mark : IsTrue l.grants.seat.mark → IsTrue l.fn.seat.mark ⊎ SomeWin l.jobs.line.now.state.to_move l.searched.items;
+  flag : IsTrue l.grants.seat.flag → IsTrue l.fn.seat.flag ⊎ SomeWin l.jobs.line.now.state.to_move l.searched.items;
   stuck : IsTrue l.stuck → SomeStuck l.searched.items;
   kept : KeepsFirstStuck l.searched.items;
 }

@@ -1,7 +1,7 @@
 use Rattle.std.proofs.Common.{◌==◌, inl, inr, arith}
 use Rattle.tt_board.specs.inside.Chains.{name_at}
 use Rattle.tt_board.proofs.NameLemmas.{beside_counted}
-use Rattle.tt_board.proofs.PlayKindLemmas.{one_touches, bare_place}
+use Rattle.tt_board.proofs.PlayKindLemmas.{one_touches, bare_index}
 use Rattle.tt_board.proofs.counted.play_kind.names_beside.Goals as goal
 
 pub name_there-above-requires : goal.name_there-above-requires
@@ -26,10 +26,10 @@ returns c =
       bare = omega (
         arith,
         sum,
-        bare_place ns _ _ h1,
-        bare_place ns _ _ h2,
-        bare_place ns _ _ h3,
-        bare_place ns _ _ h4,
+        bare_index ns _ _ h1,
+        bare_index ns _ _ h2,
+        bare_index ns _ _ h3,
+        bare_index ns _ _ h4,
         c.empty_one.ensures,
         c.empty_one-2.ensures,
         c.empty_one-3.ensures,

@@ -1,8 +1,7 @@
 use Rattle.std.proofs.Common.{◌≡◌, ◌++◌, None, map, subst, sym, ap, ◌∙◌, arith, length, Contains, ◌↔◌, List, rules}
 use Rattle.tt_game.specs.declared.turns.Turn.{Turn}
-use Rattle.tt_game.specs.declared.turns.Successor.{Successor}
+use Rattle.tt_game.specs.Turns.{Successor, PlaysFrom, legal_turns, IsRising}
 use Rattle.tt_game.specs.Game.{IsLegal, winner_of}
-use Rattle.tt_game.specs.Turns.{PlaysFrom, legal_turns, IsRising}
 use Rattle.tt_game.specs.laws.TurnLaws.{contains-legal_turns, rising-legal_turns, length-legal_turns, from_all}
 use Rattle.tt_game.proofs.TurnsLemmas.{turns_of, none_over, one_more}
 use Rattle.tt_game.proofs.line.Line.turns.Goals as goal

@@ -1,7 +1,6 @@
 use Rattle.std.proofs.Common.{◌≡◌, ◌≤◌, ◌-◌, ◌++◌, length, map}
 use Rattle.tt_sgf.specs.Sizes.{point_count}
-use Rattle.tt_game.specs.declared.turns.Successor.{Successor}
-use Rattle.tt_game.specs.Turns.{legal_turns, successors_from}
+use Rattle.tt_game.specs.Turns.{Successor, legal_turns, successors_from}
 use Rattle.tt_game.proofs.line.Line.turns.Given as goal
 
 abbrev pub invariant-loop-p : goal.invariant-loop-p

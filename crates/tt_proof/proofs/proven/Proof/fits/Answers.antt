@@ -1,5 +1,6 @@
 use Rattle.std.proofs.Common.{◌≡◌, ◌↔◌, ◌∙◌, Bool, false, IsTrue, true≢false, sym, subst}
-use Rattle.tt_proof.specs.Proven.{Proven, IsWon, FitsAt}
+use Rattle.tt_proof.specs.Proven.{Proven, IsWon}
+use Rattle.tt_proof.specs.Footprints.{FitsAt}
 use Rattle.tt_proof.proofs.FittingLemmas.{fits_yes, fits_needs, fits_avoids, won_where_fits}
 use Rattle.tt_proof.proofs.proven.Proof.fits.Goals as goal
 
@@ -15,7 +16,7 @@ returns-then-not-is_position_of-clause-fits c =
 pub returns-then-not-all_in-clause-fits : goal.returns-then-not-all_in-clause-fits
 returns-then-not-all_in-clause-fits c =
     let i = c.self.inside in
-    let h = c.history-history in
+    let h = c.history in
     subst (λ (p : Proven). IsTrue false ↔ FitsAt p c.args.line.now.frame c.args.line.now.state) c.self.view_is
     (refused c.all_in.result _ _ c.if-not-all_in.true c.all_in.ensures
     (fits_needs (record { frame = i.snapshot.frame; state = i.snapshot.state; side = i.side; tree = i.plan }) _ _ i.footprint h.result.now
@@ -26,7 +27,7 @@ returns-clause-fits c =
     let i = c.self.inside in
     let f = c.args.line.now.frame in
     let s = c.args.line.now.state in
-    let h = c.history-history in
+    let h = c.history in
     let p : Proven = record { frame = i.snapshot.frame; state = i.snapshot.state; side = i.side; tree = i.plan } in
     subst (λ (q : Proven). IsTrue c.none_in.result ↔ FitsAt q f s) c.self.view_is (
       λ e. fits_yes p f s i.footprint h.result.now h.ensures.colourings h.ensures.sizes c.self.invariant.footprint

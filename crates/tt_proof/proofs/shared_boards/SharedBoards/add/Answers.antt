@@ -3,11 +3,11 @@ use Rattle.tt_proof.proofs.ResultLemmas.{on_ok}
 use Rattle.tt_proof.proofs.SharedLemmas.{held_already}
 use Rattle.tt_proof.proofs.shared_boards.SharedBoards.add.Goals as goal
 
-pub returns-then-has_at : goal.returns-then-has_at
-returns-then-has_at c b =
+pub returns-then-has_from : goal.returns-then-has_from
+returns-then-has_from c b =
     let is : c.in_ok-made.made ≡ c.args.board.now = search rules in
-    let yes : IsTrue c.has_at.result = search rules in
-    held_already c.args.self.now c.args.board.now b (subst (λ x. Contains c.args.self.now x) is (c.has_at.ensures yes))
+    let yes : IsTrue c.has_from.result = search rules in
+    held_already c.args.self.now c.args.board.now b (subst (λ x. Contains c.args.self.now x) is (c.has_from.ensures yes))
 
 pub returns : goal.returns
 returns c =

@@ -1,6 +1,7 @@
 use Rattle.std.proofs.Common.{◌≤◌, IfOk, sym, subst}
 use Rattle.tt_search.specs.inside.Within.{StaysWithin}
-use Rattle.tt_search.specs.Searched.{Searched, IsProofOf}
+use Rattle.tt_search.specs.Searched.{Searched}
+use Rattle.tt_search.specs.RunEnds.{IsProofOf}
 use Rattle.tt_search.proofs.Ends.{is_proof}
 use Rattle.tt_search.proofs.Steps.{offerable}
 use Rattle.tt_search.proofs.search.Search.proof.Goals as goal

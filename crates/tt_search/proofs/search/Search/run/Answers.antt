@@ -1,6 +1,6 @@
 use Rattle.std.proofs.Common.{◌∙◌, sym, ap, subst, arith}
 use Rattle.tt_search.specs.Searched.{Searched}
-use Rattle.tt_search.specs.Ended.{RanTo, HasSpent}
+use Rattle.tt_search.specs.RunEnds.{RanTo, HasSpent}
 use Rattle.tt_search.specs.declared.limits.Limits.{Limits}
 use Rattle.tt_search.specs.declared.walk.Stop.TheVariants.{NumbersChange}
 use Rattle.tt_search.proofs.Advanced.{advanced_falls, advanced_reached, settled_reached, stuck_reached}

@@ -1,5 +1,5 @@
 use Rattle.std.proofs.Common.{◌≡◌}
-use Rattle.tt_search.specs.Ended.{RanTo, HasSpent}
+use Rattle.tt_search.specs.RunEnds.{RanTo, HasSpent}
 use Rattle.tt_search.proofs.Open.{left_to_do}
 use Rattle.tt_search.proofs.search.Search.run.Given as goal
 

@@ -6,7 +6,7 @@ use Rattle.tt_search.specs.inside.Children.{children_of}
 use Rattle.tt_search.specs.Numbers.{number, numbers, least}
 use Rattle.tt_search.specs.inside.Edges.{edge_state_of, tree_of, edge_trees, grown_behind, counted}
 use Rattle.tt_search.specs.declared.tree.edges.Edge.{Edge}
-use Rattle.tt_search.proofs.Places.{rank_next, counted_most, whole_behind}
+use Rattle.tt_search.proofs.Indices.{rank_next, counted_most, whole_behind}
 use Rattle.tt_search.proofs.Rows.{least_le, best_from, best_from_start, best_from_less, best_from_least, best_from_same}
 use Rattle.tt_search.proofs.tree.numbers.best_of.Goals.{then-number-least, else-number-least}
 use Rattle.tt_search.proofs.tree.numbers.best_of.Goals as goal
@@ -49,23 +49,23 @@ module _ (mover : Side) (es : List Edge) (rest behind : List PartialTree) (i x :
       let lowest : x ≤ least (row behind) = omega (arith, low, high, bound, is_least, least_here) in
       (sym (best_from_least i x (i + 1) (row behind) lowest) ∙ less (omega (arith, low, high)), omega (arith, low, high, bound, is_least, least_here))
 
-pub returns-then-number-from-clause-place : goal.returns-then-number-from-clause-place
-returns-then-number-from-clause-place c =
+pub returns-then-number-from-clause-index : goal.returns-then-number-from-clause-index
+returns-then-number-from-clause-index c =
     let is = c.number-number.ensures ∙ ap (number c.args.mover) c.first.ensures.child in
     (ends c.args.mover c.args.edges.now c.loop-i.rest.now c.first.result.1.now c.loop-i.i c.number-number.result c.loop-i-test.true is c.first.ensures.behind
-    c.loop-i.place c.loop-i.least c.args.from _ c.if-number-from.true c.loop-i.invariant.higher c.requires.lowest c.loop-i.invariant.least).0 ∙ c.loop-i.invariant.place
+    c.loop-i.index c.loop-i.least c.args.from _ c.if-number-from.true c.loop-i.invariant.higher c.requires.lowest c.loop-i.invariant.least).0 ∙ c.loop-i.invariant.index
 
 pub returns-then-number-from-clause-least : goal.returns-then-number-from-clause-least
 returns-then-number-from-clause-least c =
     let is = c.number-number.ensures ∙ ap (number c.args.mover) c.first.ensures.child in
     (ends c.args.mover c.args.edges.now c.loop-i.rest.now c.first.result.1.now c.loop-i.i c.number-number.result c.loop-i-test.true is c.first.ensures.behind
-    c.loop-i.place c.loop-i.least c.args.from _ c.if-number-from.true c.loop-i.invariant.higher c.requires.lowest c.loop-i.invariant.least).1
+    c.loop-i.index c.loop-i.least c.args.from _ c.if-number-from.true c.loop-i.invariant.higher c.requires.lowest c.loop-i.invariant.least).1
 
 pub loop-i-init : goal.loop-i-init
 loop-i-init c = record {
   most = omega arith;
   higher = c.requires.finite;
-  place = best_from_start c.args.mover (children_of (edge_trees c.args.edges.now c.args.grown.now));
+  index = best_from_start c.args.mover (children_of (edge_trees c.args.edges.now c.args.grown.now));
   least = omega (arith, least_le (numbers c.args.mover (children_of (edge_trees c.args.edges.now c.args.grown.now))));
   looked_at = omega arith;
   few = omega arith;
@@ -80,22 +80,22 @@ loop-i-preserved c =
     let e : Edge = get_or c.args.edges.now c.loop-i.i first in
     let is = c.number-number.ensures ∙ ap (number c.args.mover) c.first.ensures.child in
     let least = least_here c.args.mover c.args.edges.now c.loop-i.rest.now c.first.result.1.now c.loop-i.i c.number-number.result c.loop-i-test.true is
-    c.first.ensures.behind c.loop-i.place c.loop-i.least in
+    c.first.ensures.behind c.loop-i.index c.loop-i.least in
     record {
       most = search rules;
       higher = elim c.if-number-least.branch [
         | then-number-least w ↦ omega (arith, w.least-is, c.if-number-from.false)
         | else-number-least w ↦ omega (arith, w.least-is, c.loop-i.invariant.higher)
       ];
-      place = elim c.if-number-least.branch [
+      index = elim c.if-number-least.branch [
         | then-number-least w ↦
-            rw (w.place-is, w.least-is)
+            rw (w.index-is, w.least-is)
             (less c.args.mover c.args.edges.now c.loop-i.rest.now c.first.result.1.now c.loop-i.i c.number-number.result c.loop-i-test.true is
-            c.first.ensures.behind c.loop-i.place c.loop-i.least w.if-number-least.true ∙ c.loop-i.invariant.place)
+            c.first.ensures.behind c.loop-i.index c.loop-i.least w.if-number-least.true ∙ c.loop-i.invariant.index)
         | else-number-least w ↦
-            rw (w.place-is, w.least-is)
+            rw (w.index-is, w.least-is)
             (same c.args.mover c.args.edges.now c.loop-i.rest.now c.first.result.1.now c.loop-i.i c.number-number.result c.loop-i-test.true is
-            c.first.ensures.behind c.loop-i.place c.loop-i.least w.if-number-least.false ∙ c.loop-i.invariant.place)
+            c.first.ensures.behind c.loop-i.index c.loop-i.least w.if-number-least.false ∙ c.loop-i.invariant.index)
       ];
       least = elim c.if-number-least.branch [
         | then-number-least w ↦ omega (arith, w.least-is, w.if-number-least.true, least, c.loop-i.invariant.least)

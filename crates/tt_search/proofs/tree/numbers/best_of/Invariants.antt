@@ -10,12 +10,12 @@ abbrev pub invariant-loop-i : goal.invariant-loop-i
 invariant-loop-i l = record {
   most : l.least ≤ infinite;
   higher : l.from < l.least;
-  place : best_from l.place l.least l.i (numbers l.mover (children_of (edge_trees (drop l.i l.edges) l.rest))) ≡ best l.mover (children_of (edge_trees l.edges l.grown));
+  index : best_from l.index l.least l.i (numbers l.mover (children_of (edge_trees (drop l.i l.edges) l.rest))) ≡ best l.mover (children_of (edge_trees l.edges l.grown));
   least : min l.least (least (numbers l.mover (children_of (edge_trees (drop l.i l.edges) l.rest)))) ≡ least (numbers l.mover (children_of (edge_trees l.edges l.grown)));
-  looked_at : l.place ≤ l.i;
+  looked_at : l.index ≤ l.i;
   few : l.passed ≤ l.i;
   fewer : l.rank ≤ l.i;
   passed : l.passed ≡ grown_in (take l.i l.edges);
-  rank : l.rank ≡ grown_in (take l.place l.edges);
+  rank : l.rank ≡ grown_in (take l.index l.edges);
   whole : grown_in (drop l.i l.edges) ≡ length l.rest;
 }

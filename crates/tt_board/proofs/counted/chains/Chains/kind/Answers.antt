@@ -3,7 +3,7 @@ use Rattle.tt_board.specs.declared.counted.play_kind.TheConstants.{NOWHERE}
 use Rattle.tt_board.specs.Play.{other}
 use Rattle.tt_board.specs.inside.Chains.{ChainBoard, IsChainBoard, name_at, root_of, colour_number, IsOneName}
 use Rattle.tt_board.proofs.LinkLemmas.{named_bare}
-use Rattle.tt_board.proofs.LookLemmas.{colour_code, put_no_capture, put_vain}
+use Rattle.tt_board.proofs.LookLemmas.{colour_code, put_no_capture, put_single_suicide}
 use Rattle.tt_board.proofs.PlayKindLemmas.{coded}
 use Rattle.tt_board.proofs.counted.chains.Chains.kind.Goals as goal
 
@@ -35,7 +35,7 @@ returns c = λ p in_p free touching.
     let weak = subst (λ (v : ChainBoard). (m : ℕ) → IsOneName near.above near.left near.right near.below m → m / 512 ≡ colour_number (other k) → name_at v.liberties (root_of m) ≢ 1)
     c.self.view_is (rw (c.colour_number.ensures, c.other.ensures) at (c.has_last.ensures c.if-has_last.false)) in
     let mine : (m : ℕ) → IsOneName near.above near.left near.right near.below m → m / 512 ≢ colour_number k = rw c.colour_number-3.ensures at (c.has_own.ensures c.if-has_own.false) in
-    put_vain b k p is in_p free
+    put_single_suicide b k p is in_p free
     (λ m t code. let there = coded m (other k) code in weak m ((touch m there).1 t) code)
     (λ q beside.
     let m = name_at b.names q in

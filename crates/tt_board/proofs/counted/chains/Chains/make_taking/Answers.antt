@@ -30,8 +30,8 @@ loop-name-preserved c =
           c.loop-name-test.true alive.0 c.take.ensures.lost.fits c.take.ensures.lost.gone c.take.ensures.lost.kept);
     }
 
-pub place-requires-clause-free : goal.place-requires-clause-free
-place-requires-clause-free c =
+pub put_stone-requires-clause-free : goal.put_stone-requires-clause-free
+put_stone-requires-clause-free c =
     let b = c.args.self.now in let k = c.args.colour in let p = c.args.p in let xs = c.as_slice-name-items.result.now in let l = c.look-look.ensures in
     let t = c.loop-name.invariant.taking in
     let end : c.loop-name.name-index ≡ length xs = omega arith in
@@ -41,8 +41,8 @@ place-requires-clause-free c =
     let kept = taken_kept b.names b.points xs c.loop-name.name-index c.loop-name.self.names c.loop-name.self.points t end in
     still_free b.size b.points c.loop-name.self.points k p b.names xs l.fits c.requires.on_board c.requires.free kind t.fits gone kept
 
-pub place-requires-clause-alive : goal.place-requires-clause-alive
-place-requires-clause-alive c =
+pub put_stone-requires-clause-alive : goal.put_stone-requires-clause-alive
+put_stone-requires-clause-alive c =
     let b = c.args.self.now in let k = c.args.colour in let p = c.args.p in let xs = c.as_slice-name-items.result.now in let l = c.look-look.ensures in
     let t = c.loop-name.invariant.taking in
     let end : c.loop-name.name-index ≡ length xs = omega arith in
@@ -66,7 +66,7 @@ returns-then-not-look-clause-points c =
     let kept = taken_kept b.names b.points xs c.loop-name.name-index c.loop-name.self.names c.loop-name.self.points t end in
     let stays : entry_at (play_of b.size b.points k p) p ≢ None = λ bare. true≢false (sym (l.suicide.1 bare) ∙ c.if-not-look.true) in
     let made = made_no_capture b.size b.points c.loop-name.self.points k p b.names xs l.fits c.requires.on_board c.requires.free kind t.fits gone kept stays in
-    c.place.ensures.points ∙ made
+    c.put_stone.ensures.points ∙ made
 
 pub returns-else-not-look-clause-points : goal.returns-else-not-look-clause-points
 returns-else-not-look-clause-points c =

@@ -6,8 +6,8 @@ use Rattle.tt_board.specs.Play.{IsAlive}
 use Rattle.tt_board.proofs.PlacedLemmas.{alive_fewer}
 use Rattle.tt_board.proofs.counted.chains.Chains.of.Goals as goal
 
-pub place-requires-clause-alive : goal.place-requires-clause-alive
-place-requires-clause-alive c =
+pub put_stone-requires-clause-alive : goal.put_stone-requires-clause-alive
+put_stone-requires-clause-alive c =
     let i = c.loop-p.invariant in let p = c.loop-p.p in let made = c.loop-p.made.points in let k = c.in-Some.colour in
     let here : Some k ≡ entry_at c.args.points.now p = c.in-Some.ensures in
     subst (λ s. IsAlive s (set made p (Some k))) (sym i.size) (alive_fewer c.args.size c.args.points.now (set made p (Some k)) c.requires.alive (λ q. elim (cases_eq q p) [

@@ -12,4 +12,4 @@ abbrev pub decreases-visit : goal.decreases-visit
 decreases-visit l = l.room * 3
 
 abbrev pub invariant-expand-loop : goal.invariant-expand-loop
-invariant-expand-loop l = l.self.left ≤ l.fn.self.left
+invariant-expand-loop l = l.visits.left ≤ l.fn.visits.left

@@ -21,11 +21,11 @@ loop-next-init c =
 
 pub loop-next-smaller : goal.loop-next-smaller
 loop-next-smaller c =
-    let place = c.loop-next.next - 1 in
+    let slot = c.loop-next.next - 1 in
     let next = c.index-in-loop-next-2.result.now in
-    let within : place < length c.self.inside.hashes.items = omega (arith, c.loop-next.invariant.low, c.loop-next-test.true) in
-    let is = get_or_read c.self.inside.before.items place next (omega (arith, within, c.self.invariant.sized.one_each)) c.index-in-loop-next-2.ensures 0 in
-    let low = before_low c.self.inside.heads.items c.self.inside.before.items c.self.inside.hashes.items place next c.self.invariant.linked within is in
+    let within : slot < length c.self.inside.hashes.items = omega (arith, c.loop-next.invariant.low, c.loop-next-test.true) in
+    let is = get_or_read c.self.inside.before.items slot next (omega (arith, within, c.self.invariant.sized.one_each)) c.index-in-loop-next-2.ensures 0 in
+    let low = before_low c.self.inside.heads.items c.self.inside.before.items c.self.inside.hashes.items slot next c.self.invariant.linked within is in
     omega (arith, low, c.loop-next-test.true)
 
 pub loop-next-preserved : goal.loop-next-preserved
@@ -33,17 +33,17 @@ loop-next-preserved c =
     let heads = c.self.inside.heads.items in
     let before = c.self.inside.before.items in
     let hashes = c.self.inside.hashes.items in
-    let place = c.loop-next.next - 1 in
+    let slot = c.loop-next.next - 1 in
     let next = c.index-in-loop-next-2.result.now in
-    let within : place < length hashes = omega (arith, c.loop-next.invariant.low, c.loop-next-test.true) in
-    let is = get_or_read before place next (omega (arith, within, c.self.invariant.sized.one_each)) c.index-in-loop-next-2.ensures 0 in
-    let low = before_low heads before hashes place next c.self.invariant.linked within is in
-    let there = get_or_read hashes place c.index-in-loop-next.result.now within c.index-in-loop-next.ensures 0 in
-    let later : NoHashFrom hashes c.args.hash (place + 1) = λ i late high. c.loop-next.invariant.none i (omega (arith, late)) high in
-    let here : get_or hashes place 0 ≢ c.args.hash = λ e. c.if-index-hash.false (there ∙ e) in
+    let within : slot < length hashes = omega (arith, c.loop-next.invariant.low, c.loop-next-test.true) in
+    let is = get_or_read before slot next (omega (arith, within, c.self.invariant.sized.one_each)) c.index-in-loop-next-2.ensures 0 in
+    let low = before_low heads before hashes slot next c.self.invariant.linked within is in
+    let there = get_or_read hashes slot c.index-in-loop-next.result.now within c.index-in-loop-next.ensures 0 in
+    let later : NoHashFrom hashes c.args.hash (slot + 1) = λ i late high. c.loop-next.invariant.none i (omega (arith, late)) high in
+    let here : get_or hashes slot 0 ≢ c.args.hash = λ e. c.if-index-hash.false (there ∙ e) in
     let same = c.loop-next.invariant.inside c.loop-next-test.true in
     record {
       low = omega (arith, low, within);
-      none = unmarked_past_next heads before hashes c.args.hash place next c.self.invariant.linked within same is later here;
-      inside = before_inside heads before hashes c.args.hash place next c.self.invariant.linked within same is;
+      none = unmarked_past_next heads before hashes c.args.hash slot next c.self.invariant.linked within same is later here;
+      inside = before_inside heads before hashes c.args.hash slot next c.self.invariant.linked within same is;
     }

@@ -29,10 +29,10 @@ returns-then-is_for-clause-newest g c =
 
 pub loop-next-smaller : goal.loop-next-smaller
 loop-next-smaller g c =
-    let place = c.loop-next.next - 1 in
-    let within : place < length c.self.inside.hashes.items = omega (arith, c.loop-next.invariant.low, c.loop-next-test.true) in
-    let is = get_or_read c.self.inside.before.items place c.index-in-loop-next.result.now (omega (arith, within, c.self.invariant.sized.one_each)) c.index-in-loop-next.ensures 0 in
-    let low = before_low c.self.inside.heads.items c.self.inside.before.items c.self.inside.hashes.items place c.index-in-loop-next.result.now c.self.invariant.linked within is in
+    let slot = c.loop-next.next - 1 in
+    let within : slot < length c.self.inside.hashes.items = omega (arith, c.loop-next.invariant.low, c.loop-next-test.true) in
+    let is = get_or_read c.self.inside.before.items slot c.index-in-loop-next.result.now (omega (arith, within, c.self.invariant.sized.one_each)) c.index-in-loop-next.ensures 0 in
+    let low = before_low c.self.inside.heads.items c.self.inside.before.items c.self.inside.hashes.items slot c.index-in-loop-next.result.now c.self.invariant.linked within is in
     omega (arith, low, c.loop-next-test.true)
 
 pub loop-next-preserved : goal.loop-next-preserved
@@ -42,25 +42,25 @@ loop-next-preserved g c =
     let hashes = c.self.inside.hashes.items in
     let line = c.args.line.now in
     let ps = g.P.ProofRow.proofs c.args.row.now in
-    let place = c.loop-next.next - 1 in
+    let slot = c.loop-next.next - 1 in
     let next = c.index-in-loop-next.result.now in
     let all : hashes ≡ index_hashes ps = ap (λ (v : IndexState). v.hashes) c.self.view_is ∙ c.requires.indexed in
     let hash = c.requires.hash in
-    let within : place < length hashes = omega (arith, c.loop-next.invariant.low, c.loop-next-test.true) in
-    let is = get_or_read before place next (omega (arith, within, c.self.invariant.sized.one_each)) c.index-in-loop-next.ensures 0 in
-    let low = before_low heads before hashes place next c.self.invariant.linked within is in
-    let there = get_or_read hashes place c.index.result.now within c.index.ensures 0 in
-    let on : NoneFrom line c.args.side ps (place + 1) = λ i p late. c.loop-next.invariant.none i p (omega (arith, late)) in
-    let here : (p : Proven) → slice_get ps place ≡ Some p → AnswersFor line c.args.side p → ⊥ = λ p at. elim c.else-index-hash.branch [
+    let within : slot < length hashes = omega (arith, c.loop-next.invariant.low, c.loop-next-test.true) in
+    let is = get_or_read before slot next (omega (arith, within, c.self.invariant.sized.one_each)) c.index-in-loop-next.ensures 0 in
+    let low = before_low heads before hashes slot next c.self.invariant.linked within is in
+    let there = get_or_read hashes slot c.index.result.now within c.index.ensures 0 in
+    let on : NoneFrom line c.args.side ps (slot + 1) = λ i p late. c.loop-next.invariant.none i p (omega (arith, late)) in
+    let here : (p : Proven) → slice_get ps slot ≡ Some p → AnswersFor line c.args.side p → ⊥ = λ p at. elim c.else-index-hash.branch [
       | else-index-hash-via-then-index-hash+else-is_for w ↦
-          not_found line c.args.side ps place w.is_for.result p w.proof.result.now w.proof.ensures at w.if-is_for.false w.is_for.ensures
-      | else-index-hash-via-else-index-hash w ↦ (λ a. w.if-index-hash.false (there ∙ answers_hash line c.args.side hashes ps place c.args.hash p all hash at a))
+          not_found line c.args.side ps slot w.is_for.result p w.proof.result.now w.proof.ensures at w.if-is_for.false w.is_for.ensures
+      | else-index-hash-via-else-index-hash w ↦ (λ a. w.if-index-hash.false (there ∙ answers_hash line c.args.side hashes ps slot c.args.hash p all hash at a))
     ] in
     record {
       low = omega (arith, low, within);
-      none = none_past_next line c.args.side heads before hashes ps c.args.hash place next all hash c.self.invariant.linked within
+      none = none_past_next line c.args.side heads before hashes ps c.args.hash slot next all hash c.self.invariant.linked within
           (c.loop-next.invariant.inside c.loop-next-test.true) is on here;
-      inside = before_inside heads before hashes c.args.hash place next c.self.invariant.linked within (c.loop-next.invariant.inside c.loop-next-test.true) is;
+      inside = before_inside heads before hashes c.args.hash slot next c.self.invariant.linked within (c.loop-next.invariant.inside c.loop-next-test.true) is;
     }
 
 pub returns-clause-newest : goal.returns-clause-newest

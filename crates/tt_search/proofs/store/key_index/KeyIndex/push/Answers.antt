@@ -15,5 +15,5 @@ invariant_of-self c = record {
 
 pub link-requires-clause-linked : goal.link-requires-clause-linked
 link-requires-clause-linked c =
-    linked_more c.self.inside.heads.items c.self.inside.before.items c.self.inside.hashes.items _ _ c.key_hash-hash.result c.len-place.result c.self.invariant.sized.one_each
-    c.push_reserved-2.ensures.items c.push_reserved.ensures.items (c.len-place.ensures ∙ c.self.inside.hashes.ok.0) c.self.invariant.linked
+    linked_more c.self.inside.heads.items c.self.inside.before.items c.self.inside.hashes.items _ _ c.key_hash-hash.result c.len-slot.result c.self.invariant.sized.one_each
+    c.push_reserved-2.ensures.items c.push_reserved.ensures.items (c.len-slot.ensures ∙ c.self.inside.hashes.ok.0) c.self.invariant.linked

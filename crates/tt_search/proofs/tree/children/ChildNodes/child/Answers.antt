@@ -8,21 +8,21 @@ index-requires c =
     let x = c.args.self.now in
     omega (
       arith,
-      rank_within_nodes x c.args.place c.args.rank c.at.result (child_of x c.args.place) c.requires.there c.at.ensures c.requires.whole c.in-Grown.ensures c.requires.rank,
+      rank_within_nodes x c.args.index c.args.rank c.at.result (child_of x c.args.index) c.requires.there c.at.ensures c.requires.whole c.in-Grown.ensures c.requires.rank,
       x.grown.ok.0,
     )
 
 pub returns-in-Fresh : goal.returns-in-Fresh
 returns-in-Fresh c =
     let x = c.args.self.now in
-    sym (fresh_child x.edges x.grown.items c.args.place c.at.result c.requires.there c.at.ensures (sym c.in-Fresh.ensures))
+    sym (fresh_child x.edges x.grown.items c.args.index c.at.result c.requires.there c.at.ensures (sym c.in-Fresh.ensures))
 
 pub returns-in-Won : goal.returns-in-Won
 returns-in-Won c =
     let x = c.args.self.now in
-    sym (won_child x.edges x.grown.items c.args.place c.at.result c.requires.there c.at.ensures c.in-Won.side (sym c.in-Won.ensures))
+    sym (won_child x.edges x.grown.items c.args.index c.at.result c.requires.there c.at.ensures c.in-Won.side (sym c.in-Won.ensures))
 
 pub returns-in-Grown : goal.returns-in-Grown
 returns-in-Grown c =
     let node = c.index.result.now in
-    sym (child_node c.args.self.now c.args.place c.args.rank c.at.result node c.requires.there c.at.ensures c.requires.whole c.in-Grown.ensures c.requires.rank c.index.ensures)
+    sym (child_node c.args.self.now c.args.index c.args.rank c.at.result node c.requires.there c.at.ensures c.requires.whole c.in-Grown.ensures c.requires.rank c.index.ensures)

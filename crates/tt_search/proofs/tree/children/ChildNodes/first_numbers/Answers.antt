@@ -6,8 +6,8 @@ use Rattle.tt_search.specs.inside.Edges.{AreFresh}
 use Rattle.tt_search.proofs.FreshRows.{ones, least_ones, first_ones, capped_ones}
 use Rattle.tt_search.proofs.tree.children.ChildNodes.first_numbers.Goals as goal
 
-pub returns-then-are_fresh-clause-place : goal.returns-then-are_fresh-clause-place
-returns-then-are_fresh-clause-place c =
+pub returns-then-are_fresh-clause-index : goal.returns-then-are_fresh-clause-index
+returns-then-are_fresh-clause-index c =
     let fresh : AreFresh c.args.self.now.edges × (0 < length c.args.self.now.edges) = rw (sym c.as_slice.ensures) (c.are_fresh.ensures c.if-are_fresh.true) in
     sym (ap first_least (ones c.args.mover c.args.self.now.edges c.args.self.now.grown.items fresh.0) ∙ first_ones (length c.args.self.now.edges) fresh.1)
 

@@ -1,7 +1,0 @@
-use Rattle.std.proofs.Common.{subst}
-use Rattle.tt_board.specs.inside.Chains.{ChainBoard, AreNear}
-use Rattle.tt_board.proofs.counted.chains.Chains.place.Goals as goal
-
-pub put-requires-clause-near : goal.put-requires-clause-near
-put-requires-clause-near c =
-    subst (λ (v : ChainBoard). AreNear v.size v.names c.args.p c.names_beside-near.result) c.self.view_is c.names_beside-near.ensures

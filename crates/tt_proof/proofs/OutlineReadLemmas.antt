@@ -1,0 +1,161 @@
+-- What the reader of certificates with shared parts knows at each place.
+use Rattle.std.proofs.Common.{◌≡◌, ◌≤◌, ◌<◌, ◌+◌, ℕ, zero, suc, Bool, true, false, max, arith, List, [], ◌∷◌, ◌++◌, ◌∙◌, refl, sym, ap, subst, append_assoc, length, get_or, map, decimal}
+use Rattle.std.proofs.lemmas.List.{map-append, append-nil}
+use Rattle.tt_sgf.specs.Bytes.{semicolon}
+use Rattle.tt_sgf.specs.declared.size.Size.{Size}
+use Rattle.tt_game.specs.declared.frame.Side.{Side}
+use Rattle.tt_game.specs.declared.turns.Turn.{Turn}
+use Rattle.tt_proof.specs.declared.outlines.Outline as form
+use Rattle.tt_proof.specs.declared.tree.TheConstants.{MOST_DEPTH}
+use Rattle.tt_proof.specs.Strategy.{Strategy, done, depth, depth_of_entries, IsOnBoard, number_on}
+use Rattle.tt_proof.specs.CertificateText.{won_mark, pick_mark, reply_mark, turn_text, side_text}
+use Rattle.tt_proof.specs.Outlines.{Outline, Branches, ended, picked, replied, part, no_branch, branch, with_name, entries_with}
+use Rattle.tt_proof.specs.Outlines.{names_behind, names_behind_all, outline_of, branches_of_list, name_text, part_mark, outline_text, branches_text, IsSharedCertificate, AreOrderly}
+use Rattle.tt_proof.specs.inside.OutlineReading.{with_depth, BranchesAt, ReadsOutline, ReadsBranches}
+
+-- a name more is a depth more
+names_more : (n : Bool) (u : Strategy) (us : List Strategy) → map depth (with_name n u us) ≡ with_depth n (depth u) (map depth us)
+names_more true u us = map-append depth us (u ∷ [])
+names_more false u us = refl
+
+-- the tree that a name stands for has the depth at its place
+there : (us : List Strategy) (k d : ℕ) → k < length (map depth us) → d ≡ get_or (map depth us) k d → (k < length us) × (depth (get_or us k done) ≡ d)
+there [] k d lt e = absurd (omega (arith, lt))
+there (u ∷ us) zero d lt e = (omega arith, sym e)
+there (u ∷ us) (suc k) d lt e = let r = there us k d (omega (arith, lt)) e in (omega (arith, r.0), r.1)
+
+module _ (size : Size) where
+  pub reads_done : (left : ℕ) (ds r y : List ℕ) → r ≡ won_mark ∷ y → ReadsOutline size left ds ds ended 0 r y
+  reads_done left ds r y e =
+      record { low = omega arith; at = λ us h. record { closed = tt; orderly = tt; deep = refl; text = e }; names = λ us h. h }
+
+  pub reads_part : (left : ℕ) (ds : List ℕ) (k d : ℕ) (r y : List ℕ) → d ≤ left → k < length ds → k < 1000000000 → d ≡ get_or ds k d → r ≡ decimal k ++ y
+      → ReadsOutline size left ds ds (part k) d (part_mark ∷ r) y
+  reads_part left ds k d r y low lt small e text = record {
+    low = low;
+    at = λ us h. let w = there us k d (subst (λ xs. k < length xs) (sym h) lt) (subst (λ xs. d ≡ get_or xs k d) (sym h) e) in
+        record { closed = (w.0, small); orderly = tt; deep = w.1; text = ap (λ w. part_mark ∷ w) text };
+    names = λ us h. h;
+  }
+
+  pub reads_pick : (left e : ℕ) (old mid new : List ℕ) (n : Bool) (t : Turn) (o : Outline) (d : ℕ) (r after y : List ℕ) → left ≡ suc e
+      → IsOnBoard size t → r ≡ turn_text size t ++ after → ReadsOutline size e old mid o d after y → new ≡ with_depth n (d + 1) mid
+      → ReadsOutline size left old new (picked n t o) (d + 1) (name_text n ++ (pick_mark ∷ r)) y
+  reads_pick left e old mid new n t o d r after y room on at h more = record {
+    low = let low = h.low in omega (arith, low, room);
+    at = λ us g. let w = h.at us g in
+        record {
+          closed = w.closed;
+          orderly = (on, w.orderly);
+          deep = ap (λ x. x + 1) w.deep;
+          text =
+              ap (λ w. name_text n ++ (pick_mark ∷ w)) (at ∙ ap (λ w. turn_text size t ++ w) w.text)
+              ∙ sym (append_assoc (name_text n) (pick_mark ∷ (turn_text size t ++ outline_text size o)) y);
+        };
+    names = λ us g.
+        names_more n _ (names_behind us o)
+        ∙ ap (λ x. with_depth n (x + 1) (map depth (names_behind us o))) (h.at us g).deep
+        ∙ ap (with_depth n (d + 1)) (h.names us g) ∙ sym more;
+  }
+
+  pub reads_reply : (left : ℕ) (old mid new : List ℕ) (n : Bool) (bs : Branches) (d : ℕ) (r y : List ℕ) → ReadsBranches size left old mid 0 bs d r y
+      → new ≡ with_depth n d mid → ReadsOutline size left old new (replied n bs) d (name_text n ++ (reply_mark ∷ r)) y
+  reads_reply left old mid new n bs d r y h more = record {
+    low = h.low;
+    at = λ us g. let w = h.at us g in
+        record {
+          closed = w.closed;
+          orderly = w.orderly;
+          deep = w.deep;
+          text =
+              ap (λ w. name_text n ++ (reply_mark ∷ w)) w.text
+              ∙ sym (append_assoc (name_text n) (reply_mark ∷ branches_text size bs) y);
+        };
+    names = λ us g.
+        names_more n _ (names_behind_all us bs)
+        ∙ ap (λ x. with_depth n x (map depth (names_behind_all us bs))) (h.at us g).deep
+        ∙ ap (with_depth n d) (h.names us g) ∙ sym more;
+  }
+
+  -- ---- branches
+
+  -- the list, and then bs
+  abbrev pub before : List (Turn × form.Outline) → Branches → Branches
+  before [] bs = bs
+  before (b ∷ list) bs = branch b.0 (outline_of b.1) (before list bs)
+
+  before_none : (list : List (Turn × form.Outline)) → before list no_branch ≡ branches_of_list list
+  before_none [] = refl
+  before_none (b ∷ list) = ap (λ r. branch b.0 (outline_of b.1) r) (before_none list)
+
+  before_push : (list : List (Turn × form.Outline)) (b : Turn × form.Outline) (bs : Branches)
+      → before (list ++ b ∷ []) bs ≡ before list (branch b.0 (outline_of b.1) bs)
+  before_push [] b bs = refl
+  before_push (x ∷ list) b bs = ap (λ r. branch x.0 (outline_of x.1) r) (before_push list b bs)
+
+  -- the list was read, with this depth; what is read from `now` on stands behind it
+  pub record Walked (us : List Strategy) (least : ℕ) (bytes now : List ℕ) (list : List (Turn × form.Outline)) (most : ℕ) (ds : List ℕ) : Type 0 where
+    pub names : List Strategy
+    pub deep : map depth names ≡ ds
+    pub rest : (bs : Branches) (d : ℕ) (y : List ℕ) → BranchesAt size names least bs d now y → BranchesAt size us 0 (before list bs) (max most d) bytes y
+    pub behind : (bs : Branches) → names_behind_all us (before list bs) ≡ names_behind_all names bs
+
+  pub walked_start : (us : List Strategy) (bytes : List ℕ) (ds : List ℕ) → map depth us ≡ ds → Walked us 0 bytes bytes [] 0 ds
+  walked_start us bytes ds e = record {
+    names = us;
+    deep = e;
+    rest = λ bs d y h. subst (λ m. BranchesAt size us 0 bs m bytes y) (let e : d ≡ max 0 d = omega arith in e) h;
+    behind = λ bs. refl;
+  }
+
+  -- one more branch is read
+  pub walked_more : (us : List Strategy) (least number left e : ℕ) (bytes now mid after : List ℕ) (list list' : List (Turn × form.Outline)) (t : Turn)
+      (o : form.Outline) (most most' d : ℕ) (old new : List ℕ) → Walked us least bytes now list most old → least ≤ number → number ≡ number_on size t
+      → IsOnBoard size t → now ≡ turn_text size t ++ mid → ReadsOutline size e old new (outline_of o) d mid after
+      → list' ≡ list ++ (t, o) ∷ [] → most' ≡ max most (d + 1) → Walked us (number + 1) bytes after list' most' new
+  walked_more us least number left e bytes now mid after list list' t o most most' d old new w rises is on at h listed deeper = record {
+    names = names_behind w.names (outline_of o);
+    deep = h.names w.names w.deep;
+    rest = λ bs m y g. rw (listed, before_push list (t, o) bs, deeper)
+        (subst (λ k. BranchesAt size us 0 (before list (branch t (outline_of o) bs)) k bytes y)
+        (let e : max most (max (d + 1) m) ≡ max (max most (d + 1)) m = omega arith in e)
+        (w.rest (branch t (outline_of o) bs) (max (d + 1) m) y (one bs m y g)));
+    behind = λ bs. ap (λ l. names_behind_all us (before l bs)) listed ∙ ap (names_behind_all us) (before_push list (t, o) bs) ∙ w.behind (branch t (outline_of o) bs);
+  }
+    where
+      one : (bs : Branches) (m : ℕ) (y : List ℕ) → BranchesAt size (names_behind w.names (outline_of o)) (number + 1) bs m after y
+          → BranchesAt size w.names least (branch t (outline_of o) bs) (max (d + 1) m) now y
+      one bs m y g = let k = h.at w.names w.deep in record {
+        closed = (k.closed, g.closed);
+        orderly = (omega (arith, rises, is), on, k.orderly, subst (λ x. AreOrderly size (x + 1) bs) is g.orderly);
+        deep =
+            ap (λ x. max (x + 1) (depth_of_entries (entries_with (names_behind w.names (outline_of o)) bs))) k.deep
+            ∙ ap (λ x. max (d + 1) x) g.deep;
+        text =
+            at ∙ ap (λ r. turn_text size t ++ r) (k.text ∙ ap (λ r. outline_text size (outline_of o) ++ r) g.text
+            ∙ sym (append_assoc (outline_text size (outline_of o)) (branches_text size bs) y));
+      }
+
+  -- the end was read
+  pub walked_end : (left least most : ℕ) (old new bytes now y : List ℕ) (list : List (Turn × form.Outline)) → most ≤ left
+      → ((us : List Strategy) → map depth us ≡ old → Walked us least bytes now list most new) → now ≡ semicolon ∷ y
+      → ReadsBranches size left old new 0 (branches_of_list list) most bytes y
+  walked_end left least most old new bytes now y list low w e = record {
+    low = low;
+    at = λ us h. let k = w us h in
+        subst (λ bs. BranchesAt size us 0 bs most bytes y) (before_none list)
+        (subst (λ m. BranchesAt size us 0 (before list no_branch) m bytes y) (let e : max most 0 ≡ most = omega arith in e)
+        (k.rest no_branch 0 y (record { closed = tt; orderly = tt; deep = refl; text = e })));
+    names = λ us h. let k = w us h in
+        ap (λ bs. map depth (names_behind_all us bs)) (sym (before_none list)) ∙ ap (map depth) (k.behind no_branch) ∙ k.deep;
+  }
+
+-- where nothing follows the outline, the bytes are its certificate
+pub shared_read : (size : Size) (bytes rest : List ℕ) (s : Side) (old new : List ℕ) (o : Outline) (d : ℕ) (y : List ℕ) → bytes ≡ side_text s ++ rest
+    → old ≡ [] → ReadsOutline size MOST_DEPTH old new o d rest y → y ≡ [] → IsSharedCertificate size bytes s o
+shared_read size bytes rest s old new o d y at none h e = let k = h.at [] (sym none) in record {
+  closed = k.closed;
+  orderly = k.orderly;
+  low = let low = h.low in let deep = k.deep in omega (arith, low, deep);
+  text = at ∙ ap (λ w. side_text s ++ w) (k.text ∙ ap (λ w. outline_text size o ++ w) e ∙ append-nil (outline_text size o));
+}

@@ -1,0 +1,15 @@
+use Rattle.std.proofs.Common.{rules, arith, ◌≡◌, ◌∷◌, [], List, length, ℕ, refl}
+use Rattle.tt_proof.specs.Outlines.{outline_of}
+use Rattle.tt_proof.proofs.OutlineReadLemmas.{shared_read}
+use Rattle.tt_proof.proofs.outline_read.read_parts_for.Goals as goal
+
+-- a list of no length is empty
+nil : (ys : List ℕ) → length ys ≡ 0 → ys ≡ []
+nil [] e = refl
+nil (y ∷ ys) e = absurd (omega (arith, e))
+
+pub returns-then-is_empty : goal.returns-then-is_empty
+returns-then-is_empty c =
+    let e : length c.in-Ok.more.now ≡ 0 = search rules in
+    shared_read c.args.size c.args.bytes.now c.args.rest.now c.args.s _ _ (outline_of c.in-Ok.outline) _ c.in-Ok.more.now c.requires
+    c.new-depths.ensures.items c.in-Ok.ensures (nil c.in-Ok.more.now e)

@@ -1,0 +1,7 @@
+use Rattle.std.proofs.Common.{◌↔◌, drop}
+use Rattle.tt_proof.specs.Outlines.{branches_of_list}
+use Rattle.tt_proof.specs.inside.OutlineReplaying.{HasBranch}
+use Rattle.tt_proof.proofs.outline_replay.has_branch.Given as goal
+
+abbrev pub invariant-loop-branch : goal.invariant-loop-branch
+invariant-loop-branch l = HasBranch (branches_of_list l.list) l.turn ↔ HasBranch (branches_of_list (drop l.branch-index l.list)) l.turn

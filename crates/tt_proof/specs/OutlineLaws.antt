@@ -1,0 +1,17 @@
+-- Laws of certificates with shared parts.
+use Rattle.std.specs.Prelude.{◌≡◌, ℕ, List, []}
+use Rattle.tt_sgf.specs.declared.size.Size.{Size}
+use Rattle.tt_game.specs.declared.frame.Side.{Side}
+use Rattle.tt_proof.specs.Strategy.{Strategy}
+use Rattle.tt_proof.specs.CertificateText.{IsCertificate}
+use Rattle.tt_proof.specs.Outlines.{Outline, IsSharedCertificate, unfolded}
+
+-- bytes are the certificate with shared parts of one side and one outline at the most, and so of one strategy
+abbrev pub OneSharedCertificate : Type 0
+OneSharedCertificate =
+    (size : Size) (bytes : List ℕ) (s t : Side) (o p : Outline) → IsSharedCertificate size bytes s o → IsSharedCertificate size bytes t p → (s ≡ t) × (o ≡ p)
+
+-- a certificate is one with shared parts, of the same strategy
+abbrev pub CertificatesAreShared : Type 0
+CertificatesAreShared =
+    (size : Size) (bytes : List ℕ) (s : Side) (u : Strategy) → IsCertificate size bytes s u → (o : Outline) × (IsSharedCertificate size bytes s o × (unfolded [] o ≡ u))

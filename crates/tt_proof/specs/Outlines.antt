@@ -1,0 +1,128 @@
+-- Certificates with shared parts: an outline is a strategy in which trees have names, and a name may stand for its tree.
+use Rattle.std.specs.Prelude.{◌≡◌, ℕ, ◌+◌, ◌≤◌, ◌<◌, Bool, true, false, List, [], ◌∷◌, ◌++◌, length, get_or, decimal}
+use Rattle.tt_sgf.specs.Bytes.{semicolon}
+use Rattle.tt_sgf.specs.declared.size.Size.{Size}
+use Rattle.tt_game.specs.declared.frame.Side.{Side}
+use Rattle.tt_game.specs.declared.turns.Turn.{Turn}
+use Rattle.tt_proof.specs.declared.outlines.Outline as form
+use Rattle.tt_proof.specs.declared.outlines.Outline.TheOpen as layer
+use Rattle.tt_proof.specs.declared.tree.TheConstants.{MOST_DEPTH}
+use Rattle.tt_proof.specs.Strategy.{Strategy, Entries, done, pick, reply, none, entry, depth, IsOnBoard, number_on}
+use Rattle.tt_proof.specs.CertificateText.{won_mark, pick_mark, reply_mark, turn_text, side_text}
+
+mutual
+  -- nothing more to play; a turn, and how it goes on; an answer to each turn of the other side; or the tree with this name. The
+  -- flag says that the tree that begins there has a name
+  pub data Outline : Type 0 where
+    ended : Outline
+    picked : Bool → Turn → Outline → Outline
+    replied : Bool → Branches → Outline
+    part : ℕ → Outline
+
+  -- turns of the other side, each with how it goes on
+  pub data Branches : Type 0 where
+    no_branch : Branches
+    branch : Turn → Outline → Branches → Branches
+
+-- the trees of all names, with one more where the tree has a name
+abbrev pub with_name : Bool → Strategy → List Strategy → List Strategy
+with_name true u us = us ++ u ∷ []
+with_name false u us = us
+
+abbrev mutual
+  -- the strategy that an outline is, with the trees put in that the names before it stand for
+  pub unfolded : List Strategy → Outline → Strategy
+  unfolded us ended = done
+  unfolded us (picked n t o) = pick t (unfolded us o)
+  unfolded us (replied n bs) = reply (entries_with us bs)
+  unfolded us (part k) = get_or us k done
+
+  pub entries_with : List Strategy → Branches → Entries
+  entries_with us no_branch = none
+  entries_with us (branch t o bs) = entry t (unfolded us o) (entries_with (names_behind us o) bs)
+
+  -- the trees of all names behind an outline: names are numbers, in the order in which the named trees end
+  pub names_behind : List Strategy → Outline → List Strategy
+  names_behind us ended = us
+  names_behind us (picked n t o) = with_name n (pick t (unfolded us o)) (names_behind us o)
+  names_behind us (replied n bs) = with_name n (reply (entries_with us bs)) (names_behind_all us bs)
+  names_behind us (part k) = us
+
+  pub names_behind_all : List Strategy → Branches → List Strategy
+  names_behind_all us no_branch = us
+  names_behind_all us (branch t o bs) = names_behind_all (names_behind us o) bs
+
+abbrev mutual
+  -- a name stands only for a tree that has ended before, and has nine digits at the most
+  pub RefersBack : List Strategy → Outline → Type 0
+  RefersBack us ended = Unit {0}
+  RefersBack us (picked n t o) = RefersBack us o
+  RefersBack us (replied n bs) = ReferBack us bs
+  RefersBack us (part k) = (k < length us) × (k < 1000000000)
+
+  pub ReferBack : List Strategy → Branches → Type 0
+  ReferBack us no_branch = Unit {0}
+  ReferBack us (branch t o bs) = RefersBack us o × ReferBack (names_behind us o) bs
+
+abbrev mutual
+  -- the turns lie on the board, and those of each reply rise by their numbers
+  pub IsOrderly : Size → Outline → Type 0
+  IsOrderly size ended = Unit {0}
+  IsOrderly size (picked n t o) = IsOnBoard size t × IsOrderly size o
+  IsOrderly size (replied n bs) = AreOrderly size 0 bs
+  IsOrderly size (part k) = Unit {0}
+
+  pub AreOrderly : Size → ℕ → Branches → Type 0
+  AreOrderly size least no_branch = Unit {0}
+  AreOrderly size least (branch t o bs) =
+      (least ≤ number_on size t) × IsOnBoard size t × IsOrderly size o × AreOrderly size (number_on size t + 1) bs
+
+-- ---- texts: `=` in front of a tree names it, `*` and a number stands for the tree of that name
+abbrev pub name_mark : ℕ
+name_mark = 61
+
+abbrev pub part_mark : ℕ
+part_mark = 42
+
+abbrev pub name_text : Bool → List ℕ
+name_text true = name_mark ∷ []
+name_text false = []
+
+module _ (size : Size) where
+  abbrev mutual
+    pub outline_text : Outline → List ℕ
+    outline_text ended = won_mark ∷ []
+    outline_text (picked n t o) = name_text n ++ (pick_mark ∷ (turn_text size t ++ outline_text o))
+    outline_text (replied n bs) = name_text n ++ (reply_mark ∷ branches_text bs)
+    outline_text (part k) = part_mark ∷ decimal k
+
+    pub branches_text : Branches → List ℕ
+    branches_text no_branch = semicolon ∷ []
+    branches_text (branch t o bs) = turn_text size t ++ (outline_text o ++ branches_text bs)
+
+  -- the bytes are the certificate of this side and outline: its names stand for trees that have ended, its turns are in order,
+  -- and its tree has at most 512 turns on each way down
+  pub record IsSharedCertificate (bytes : List ℕ) (side : Side) (o : Outline) : Type 0 where
+    pub closed : RefersBack [] o
+    pub orderly : IsOrderly size o
+    pub low : depth (unfolded [] o) ≤ MOST_DEPTH
+    pub text : bytes ≡ side_text side ++ outline_text o
+
+-- ---- the outline that a value of the program is, whatever memory it lies in
+abbrev pub branches_of : List (Turn × Outline) → Branches
+branches_of [] = no_branch
+branches_of (b ∷ bs) = branch b.0 b.1 (branches_of bs)
+
+abbrev pub outline_step : layer.Outline-F Outline → Outline
+outline_step layer.Done = ended
+outline_step (layer.Pick n t b) = picked n t b.value
+outline_step (layer.Reply n b) = replied n (branches_of b.value.items)
+outline_step (layer.Part k) = part k
+
+unfoldable pub outline_of : form.Outline → Outline
+outline_of = form.fold-Outline Outline outline_step
+
+-- the branches that the list of a `Reply` is
+abbrev pub branches_of_list : List (Turn × form.Outline) → Branches
+branches_of_list [] = no_branch
+branches_of_list (b ∷ bs) = branch b.0 (outline_of b.1) (branches_of_list bs)

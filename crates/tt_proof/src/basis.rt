@@ -1,0 +1,165 @@
+//! What a tree rests on: it wins wherever that is met.
+
+ghost use Rattle.std.specs.Prelude.{◌≡◌, [], IfOk, OnOk, IsTrue};
+ghost use Rattle.tt_proof.specs.inside.OutlineReplaying.{Meets, HasPosition, NeedsRepeats, IsPickedOn, IsPassedOn, IsJoined};
+
+use crate::footprints::{Footprint, put_played, take_made};
+use crate::shared_boards::SharedBoards;
+use std::alloc::Global;
+use tt_board::Board;
+use tt_game::{Line, Side, Turn};
+use tt_sgf::NoMemory;
+
+/// A position, the boards that a history there has to have, and those that it may not have.
+#[derive(Drop)]
+pub(crate) struct Basis {
+    board: Board,
+    to_move: Side,
+    passes: u8,
+    needs: SharedBoards,
+    avoids: SharedBoards,
+}
+
+impl Basis {
+    /// The line's position with any history.
+    pub(crate) fn of(alloc: Global, line: &Line) -> Basis
+        ensures stands { HasPosition line.now.state result }
+        ensures needs { result.needs ≡ [] }
+        ensures avoids { result.avoids ≡ [] }
+    {
+        Basis {
+            board: line.present().copy(),
+            to_move: line.to_move(),
+            passes: line.passes(),
+            needs: SharedBoards::new(alloc),
+            avoids: SharedBoards::new(alloc),
+        }
+    }
+
+    /// The line's position with a history that has the boards which plays would repeat.
+    pub(crate) fn of_plays(alloc: Global, line: &Line) -> Result<Basis, NoMemory>
+        ensures stands { IfOk result (λ x. HasPosition line.now.state x) }
+        ensures repeats { IfOk result (λ x. NeedsRepeats line.now.frame line.now.state x) }
+    {
+        let Footprint {
+            needs,
+            avoids,
+            met: _,
+        } = Footprint::of_plays(alloc, line)?;
+        Ok(Basis {
+            board: line.present().copy(),
+            to_move: line.to_move(),
+            passes: line.passes(),
+            needs,
+            avoids,
+        })
+    }
+
+    /// What a tree rests on at the line that plays the turn, which leads to the board, and goes on with a tree that rests on this.
+    pub(crate) fn picked(
+        self,
+        alloc: Global,
+        line: &Line,
+        turn: &Turn,
+        board: &Board,
+    ) -> Result<Basis, NoMemory>
+        ensures stands { IfOk result (λ x. HasPosition line.now.state x) }
+        ensures picked { IfOk result (λ x. IsPickedOn turn.now board.now self x) }
+    {
+        let Basis {
+            board: _,
+            to_move: _,
+            passes: _,
+            mut needs,
+            mut avoids,
+        } = self;
+        take_made(&mut needs, turn, board);
+        put_played(alloc, &mut avoids, turn, board)?;
+        Ok(Basis {
+            board: line.present().copy(),
+            to_move: line.to_move(),
+            passes: line.passes(),
+            needs,
+            avoids,
+        })
+    }
+
+    /// What a tree that rests on this rests on in front of the turn of the other side, which leads to the board.
+    pub(crate) fn passed(self, line: &Line, turn: &Turn, board: &Board) -> Basis
+        ensures stands { HasPosition line.now.state result }
+        ensures passed { IsPassedOn turn.now board.now self result }
+    {
+        let Basis {
+            board: _,
+            to_move: _,
+            passes: _,
+            mut needs,
+            avoids,
+        } = self;
+        take_made(&mut needs, turn, board);
+        Basis {
+            board: line.present().copy(),
+            to_move: line.to_move(),
+            passes: line.passes(),
+            needs,
+            avoids,
+        }
+    }
+
+    /// What two trees rest on together that stand at one position.
+    pub(crate) fn joined(self, other: Basis) -> Result<Basis, NoMemory>
+        ensures { IfOk result (λ x. IsJoined self other x) }
+    {
+        let Basis {
+            board,
+            to_move,
+            passes,
+            mut needs,
+            mut avoids,
+        } = self;
+        let Basis {
+            board: _,
+            to_move: _,
+            passes: _,
+            needs: more_needs,
+            avoids: more_avoids,
+        } = other;
+        needs.join(more_needs)?;
+        avoids.join(more_avoids)?;
+        Ok(Basis {
+            board,
+            to_move,
+            passes,
+            needs,
+            avoids,
+        })
+    }
+
+    /// The same once more.
+    pub(crate) fn try_clone(&self, alloc: Global) -> Result<Basis, NoMemory>
+        ensures { IfOk result (λ x. x ≡ self.now) }
+    {
+        let needs = self.needs.try_clone(alloc)?;
+        let avoids = self.avoids.try_clone(alloc)?;
+        Ok(Basis {
+            board: self.board.copy(),
+            to_move: self.to_move,
+            passes: self.passes,
+            needs,
+            avoids,
+        })
+    }
+
+    /// Whether the line has the position, and its history all that is needed and nothing that is avoided.
+    pub(crate) fn is_met(&self, line: &Line) -> bool
+        ensures { IsTrue result → Meets line.now.frame self.now line.now.state }
+    {
+        if self.to_move != line.to_move() || self.passes != line.passes() {
+            return false;
+        }
+        if !self.board.same(line.present()) || !self.needs.all_in(line.history()) {
+            return false;
+        }
+        self.avoids.none_in(line)
+    }
+}

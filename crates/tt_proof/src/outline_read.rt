@@ -1,0 +1,281 @@
+//! Reads certificates with shared parts.
+
+ghost use Rattle.std.specs.Prelude.{◌≡◌, ◌≤◌, ◌+◌, ◌++◌, ◌∷◌, decimal, IfOk, OnOk, IfSome};
+ghost use Rattle.tt_sgf.specs.declared.size.TheConstants.{MOST_POINTS};
+ghost use Rattle.tt_proof.specs.CertificateText.{pick_mark, reply_mark, side_text};
+ghost use Rattle.tt_proof.specs.Outlines.{IsSharedCertificate, outline_of, branches_of_list, name_text, part_mark};
+ghost use Rattle.tt_proof.specs.inside.OutlineReading.{ReadsOutline, ReadsBranches, with_depth};
+
+use crate::certificate_read::{CertFault, after_end, after_side, read_turn};
+use crate::outlines::Outline;
+use crate::tree::MOST_DEPTH;
+use std::alloc::Global;
+use tt_game::{Side, Turn};
+use tt_sgf::{NoMemory, Size};
+
+/// The greatest name: it has nine digits.
+const MOST_NAME: usize = 999_999_999;
+
+/// The number that the digits at the front of the bytes spell, at most nine of them; where the first one is 0, that one.
+fn leading_number(bytes: &[u8]) -> usize {
+    let mut number = 0u32;
+    for k in 0..9 {
+        match bytes.get(k) {
+            None => return number as usize,
+            Some(byte) => {
+                if !byte.is_ascii_digit() || (k == 1 && number == 0) {
+                    return number as usize;
+                }
+                let digit = u32::from(byte.saturating_sub(b'0'));
+                number = number.saturating_mul(10).saturating_add(digit);
+            }
+        }
+    }
+    number as usize
+}
+
+/// What follows the front, where it stands there.
+fn after<'a>(bytes: &'a [u8], front: &[u8]) -> Option<&'a [u8]>
+    ensures { IfSome result (λ r. bytes.now ≡ front.now ++ r.now) }
+{
+    match bytes.strip_prefix(front) {
+        Some(rest) => Some(rest),
+        None => None,
+    }
+}
+
+/// What follows the number, where its text is at the front of the bytes.
+fn after_number(alloc: Global, bytes: &[u8], number: usize) -> Result<Option<&[u8]>, NoMemory>
+    ensures { IfOk result (λ o. IfSome o (λ r. bytes.now ≡ decimal number ++ r.now)) }
+{
+    let text = format!(in alloc; "{number}")?;
+    Ok(after(bytes, text.as_bytes()))
+}
+
+/// Adds the depth of a tree, where it has a name.
+fn put_depth(depths: &mut Vec<u16>, named: bool, depth: u16) -> Result<(), CertFault>
+    ensures { OnOk result (depths.new.items ≡ with_depth named depth depths.old.items) }
+{
+    if named && depths.push(depth).is_err() {
+        return Err(CertFault::NoMemory);
+    }
+    Ok(())
+}
+
+/// The part whose name is at the front of the bytes, its depth, and what follows.
+fn read_part<'a>(
+    alloc: Global,
+    bytes: &'a [u8],
+    left: u16,
+    depths: &Vec<u16>,
+    size: Size,
+) -> Result<(Outline, u16, &'a [u8]), CertFault>
+    ensures { IfOk result (λ r. ReadsOutline size left depths.now.items depths.now.items (outline_of r.0) r.1 (part_mark ∷ bytes.now) r.2.now) }
+{
+    let number = leading_number(bytes);
+    if number > MOST_NAME {
+        return Err(CertFault::Syntax);
+    }
+    match after_number(alloc, bytes, number) {
+        Err(_) => Err(CertFault::NoMemory),
+        Ok(None) => Err(CertFault::Syntax),
+        Ok(Some(rest)) => match depths.get(number) {
+            None => Err(CertFault::Syntax),
+            Some(depth) => {
+                if *depth > left {
+                    return Err(CertFault::TooDeep);
+                }
+                Ok((Outline::Part(number), *depth, rest))
+            }
+        },
+    }
+}
+
+/// The outline at the front of the bytes, the depth of its tree, which is at most `left`, and what follows. `depths` are those of the
+/// named trees so far.
+#[cycle(outline)]
+fn read_outline<'a>(
+    alloc: Global,
+    bytes: &'a [u8],
+    size: Size,
+    left: u16,
+    depths: &mut Vec<u16>,
+) -> Result<(Outline, u16, &'a [u8]), CertFault>
+    ensures { IfOk result (λ r. ReadsOutline size left depths.old.items depths.new.items (outline_of r.0) r.1 bytes.now r.2.now) }
+{
+    match bytes.split_first() {
+        None => Err(CertFault::Syntax),
+        Some((first, rest)) => {
+            if *first == b'.' {
+                return Ok((Outline::Done, 0, rest));
+            }
+            if *first == b'*' {
+                return read_part(alloc, rest, left, depths, size);
+            }
+            if *first == b'=' {
+                return read_node(alloc, true, rest, size, left, depths);
+            }
+            read_node(alloc, false, bytes, size, left, depths)
+        }
+    }
+}
+
+/// The outline that begins with `!` or `?`, behind its name where it has one.
+#[cycle(outline)]
+fn read_node<'a>(
+    alloc: Global,
+    named: bool,
+    bytes: &'a [u8],
+    size: Size,
+    left: u16,
+    depths: &mut Vec<u16>,
+) -> Result<(Outline, u16, &'a [u8]), CertFault>
+    ensures { IfOk result (λ r. ReadsOutline size left depths.old.items depths.new.items (outline_of r.0) r.1 (name_text named ++ bytes.now) r.2.now) }
+{
+    match bytes.split_first() {
+        None => Err(CertFault::Syntax),
+        Some((first, rest)) => {
+            if *first == b'!' {
+                return read_pick(alloc, named, rest, size, left, depths);
+            }
+            if *first == b'?' {
+                return read_reply(alloc, named, rest, size, left, depths);
+            }
+            Err(CertFault::Syntax)
+        }
+    }
+}
+
+#[cycle(outline)]
+fn read_pick<'a>(
+    alloc: Global,
+    named: bool,
+    bytes: &'a [u8],
+    size: Size,
+    left: u16,
+    depths: &mut Vec<u16>,
+) -> Result<(Outline, u16, &'a [u8]), CertFault>
+    ensures { IfOk result (λ r. ReadsOutline size left depths.old.items depths.new.items (outline_of r.0) r.1 (name_text named ++ (pick_mark ∷ bytes.now)) r.2.now) }
+{
+    match read_turn(bytes, size) {
+        None => Err(CertFault::Syntax),
+        Some((turn, _, after)) => {
+            if left == 0 {
+                return Err(CertFault::TooDeep);
+            }
+            match read_outline(alloc, after, size, left - 1, depths) {
+                Err(fault) => Err(fault),
+                Ok((child, depth, rest)) => match Outline::pick(alloc, named, turn, child) {
+                    Err(_) => Err(CertFault::NoMemory),
+                    Ok(outline) => match put_depth(depths, named, depth + 1) {
+                        Err(fault) => Err(fault),
+                        Ok(()) => Ok((outline, depth + 1, rest)),
+                    },
+                },
+            }
+        }
+    }
+}
+
+#[cycle(outline)]
+fn read_reply<'a>(
+    alloc: Global,
+    named: bool,
+    bytes: &'a [u8],
+    size: Size,
+    left: u16,
+    depths: &mut Vec<u16>,
+) -> Result<(Outline, u16, &'a [u8]), CertFault>
+    ensures { IfOk result (λ r. ReadsOutline size left depths.old.items depths.new.items (outline_of r.0) r.1 (name_text named ++ (reply_mark ∷ bytes.now)) r.2.now) }
+{
+    match read_branches(alloc, bytes, size, left, depths) {
+        Err(fault) => Err(fault),
+        Ok((list, depth, rest)) => match Outline::reply(alloc, named, list) {
+            Err(_) => Err(CertFault::NoMemory),
+            Ok(outline) => match put_depth(depths, named, depth) {
+                Err(fault) => Err(fault),
+                Ok(()) => Ok((outline, depth, rest)),
+            },
+        },
+    }
+}
+
+/// The branches up to the end of a reply, the depth of the reply, and what follows.
+#[cycle(outline)]
+fn read_branches<'a>(
+    alloc: Global,
+    bytes: &'a [u8],
+    size: Size,
+    left: u16,
+    depths: &mut Vec<u16>,
+) -> Result<(Vec<(Turn, Outline)>, u16, &'a [u8]), CertFault>
+    ensures { IfOk result (λ r. ReadsBranches size left depths.old.items depths.new.items 0 (branches_of_list r.0.items) r.1 bytes.now r.2.now) }
+{
+    let mut list = Vec::new(alloc);
+    let mut now = bytes;
+    let mut least = 0;
+    let mut most = 0u16;
+    loop {
+        match after_end(now) {
+            Some(rest) => return Ok((list, most, rest)),
+            None => match read_turn(now, size) {
+                None => return Err(CertFault::Syntax),
+                Some((turn, number, middle)) => {
+                    if number < least {
+                        return Err(CertFault::Syntax);
+                    }
+                    if left == 0 {
+                        return Err(CertFault::TooDeep);
+                    }
+                    match read_outline(alloc, middle, size, left - 1, depths) {
+                        Err(fault) => return Err(fault),
+                        Ok((outline, depth, after)) => {
+                            if list.push((turn, outline)).is_err() {
+                                return Err(CertFault::NoMemory);
+                            }
+                            most = most.max(depth + 1);
+                            least = number + 1;
+                            now = after;
+                        }
+                    }
+                }
+            },
+        }
+    }
+}
+
+/// The outline that the bytes behind the side's word spell.
+fn read_parts_for(
+    alloc: Global,
+    bytes: &[u8],
+    rest: &[u8],
+    s: Side,
+    size: Size,
+) -> Result<(Side, Outline), CertFault>
+    requires { bytes.now ≡ side_text s ++ rest.now }
+    ensures { IfOk result (λ r. IsSharedCertificate size bytes.now r.0 (outline_of r.1)) }
+{
+    let mut depths = Vec::new(alloc);
+    match read_outline(alloc, rest, size, MOST_DEPTH, &mut depths) {
+        Err(fault) => Err(fault),
+        Ok((outline, _, more)) => {
+            if more.is_empty() {
+                return Ok((s, outline));
+            }
+            Err(CertFault::Syntax)
+        }
+    }
+}
+
+/// The side and the outline that the bytes are the certificate of, on a board of this size.
+pub fn read_parts(alloc: Global, bytes: &[u8], size: Size) -> Result<(Side, Outline), CertFault>
+    ensures { IfOk result (λ r. IsSharedCertificate size bytes.now r.0 (outline_of r.1)) }
+{
+    match after_side(bytes, Side::Attacker) {
+        Some(rest) => read_parts_for(alloc, bytes, rest, Side::Attacker, size),
+        None => match after_side(bytes, Side::Defender) {
+            Some(rest) => read_parts_for(alloc, bytes, rest, Side::Defender, size),
+            None => Err(CertFault::Syntax),
+        },
+    }
+}

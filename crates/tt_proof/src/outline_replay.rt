@@ -1,0 +1,418 @@
+//! The replay of an outline: each part is played once, where it stands.
+
+ghost use Rattle.std.specs.Prelude.{◌≡◌, ◌↔◌, List, [], None, IfOk, OnOk, IfSome, IsTrue};
+ghost use Rattle.tt_game.specs.declared.turns.Turn.{Turn};
+ghost use Rattle.tt_game.specs.declared.frame.Side.{Side};
+ghost use Rattle.tt_game.specs.declared.frame.Frame.{Frame};
+ghost use Rattle.tt_game.specs.Game.{State, IsLegal, after, winner_of, opponent};
+ghost use Rattle.tt_proof.specs.KeptFootprints.{IsBoardAfter};
+ghost use Rattle.tt_proof.specs.Strategy.{Strategy, done, pick, reply, none, IsOnBoard};
+ghost use Rattle.tt_proof.specs.Outlines.{outline_of, branches_of_list, unfolded, entries_with, names_behind, names_behind_all, with_name, IsOrderly, AreOrderly};
+ghost use Rattle.tt_proof.specs.Wins.{Wins};
+ghost use Rattle.tt_proof.specs.inside.OutlineReplaying.{WinAsKept, WinsAsKept, IsFound, IsFoundBehind, IsFoundOf, IsBoth, HasBranch};
+
+use crate::basis::Basis;
+use crate::outlines::Outline;
+use crate::replays::is_asked;
+use std::alloc::Global;
+use tt_board::Board;
+use tt_game::{Line, Refused, Side, Turn};
+use tt_sgf::NoMemory;
+
+/// What is found on a tree where it stands: it wins, and on what that rests; or it doesn't win; or a part doesn't fit.
+#[derive(Drop)]
+pub(crate) enum Found {
+    Won(Basis),
+    Lost,
+    Unfit,
+}
+
+/// What is found on two trees together: one that doesn't fit comes before one that doesn't win.
+fn both(first: Found, second: Found) -> Result<Found, NoMemory>
+    ensures { IfOk result (IsBoth first second) }
+{
+    match first {
+        Found::Unfit => Ok(Found::Unfit),
+        Found::Lost => match second {
+            Found::Unfit => Ok(Found::Unfit),
+            Found::Lost => Ok(Found::Lost),
+            Found::Won(_) => Ok(Found::Lost),
+        },
+        Found::Won(one) => match second {
+            Found::Unfit => Ok(Found::Unfit),
+            Found::Lost => Ok(Found::Lost),
+            Found::Won(other) => match one.joined(other) {
+                Ok(basis) => Ok(Found::Won(basis)),
+                Err(e) => Err(e),
+            },
+        },
+    }
+}
+
+/// What is found on the pick of a legal turn, which leads to the board, by what is found behind it.
+fn found_before_pick(
+    alloc: Global,
+    line: &Line,
+    turn: &Turn,
+    board: &Board,
+    found: Found,
+) -> Result<Found, NoMemory>
+    requires legal { IsLegal line.now.frame line.now.state turn.now }
+    requires board { IsBoardAfter line.now.frame line.now.state turn.now board.now }
+    ensures { IfOk result (λ r. (u : Strategy) → IsFound line.now.state.to_move line.now.frame (after line.now.frame line.now.state turn.now) u found
+        → IsFound line.now.state.to_move line.now.frame line.now.state (pick turn.now u) r) }
+{
+    match found {
+        Found::Won(behind) => match behind.picked(alloc, line, turn, board) {
+            Ok(basis) => Ok(Found::Won(basis)),
+            Err(e) => Err(e),
+        },
+        Found::Lost => Ok(Found::Lost),
+        Found::Unfit => Ok(Found::Unfit),
+    }
+}
+
+/// What is found on the branch of a legal turn, which leads to the board, by what is found behind it.
+fn found_before_branch(line: &Line, turn: &Turn, board: &Board, found: Found) -> Found
+    requires legal { IsLegal line.now.frame line.now.state turn.now }
+    requires board { IsBoardAfter line.now.frame line.now.state turn.now board.now }
+    ensures { (s : Side) (u : Strategy) → IsFound s line.now.frame (after line.now.frame line.now.state turn.now) u found
+        → IsFoundBehind s line.now.frame line.now.state turn.now u result }
+{
+    match found {
+        Found::Won(basis) => Found::Won(basis.passed(line, turn, board)),
+        Found::Lost => Found::Lost,
+        Found::Unfit => Found::Unfit,
+    }
+}
+
+/// What is found on the outline of nothing more to play.
+fn found_of_done(alloc: Global, s: Side, line: &Line) -> Found
+    ensures { IsFound s line.now.frame line.now.state done result }
+{
+    if line.winner() == Some(s) {
+        return Found::Won(Basis::of(alloc, line));
+    }
+    Found::Lost
+}
+
+/// What is found on the part with this name, whose tree wins where this basis is met.
+fn found_of_part(alloc: Global, name: &Option<Basis>, line: &Line) -> Result<Found, NoMemory>
+    ensures { IfOk result (λ r. (s : Side) (u : Strategy) → WinsAsKept s line.now.frame u name.now → IsFound s line.now.frame line.now.state u r) }
+{
+    match name {
+        Some(basis) => {
+            if !basis.is_met(line) {
+                return Ok(Found::Unfit);
+            }
+            match basis.try_clone(alloc) {
+                Ok(basis) => Ok(Found::Won(basis)),
+                Err(e) => Err(e),
+            }
+        }
+        None => Ok(Found::Unfit),
+    }
+}
+
+/// What is kept of a tree with a name, by what is found on it.
+fn name_of(alloc: Global, found: &Found) -> Result<Option<Basis>, NoMemory>
+    ensures { IfOk result (λ n. (s : Side) (f : Frame) (at : State) (u : Strategy) → IsFound s f at u found.now → WinsAsKept s f u n) }
+{
+    match found {
+        Found::Won(basis) => match basis.try_clone(alloc) {
+            Ok(basis) => Ok(Some(basis)),
+            Err(e) => Err(e),
+        },
+        Found::Lost => Ok(None),
+        Found::Unfit => Ok(None),
+    }
+}
+
+/// Keeps what is found on a tree, where the tree has a name.
+fn put_name(
+    alloc: Global,
+    named: bool,
+    found: &Found,
+    names: &mut Vec<Option<Basis>>,
+) -> Result<(), NoMemory>
+    ensures { OnOk result ((s : Side) (f : Frame) (at : State) (u : Strategy) (us : List Strategy) → IsFound s f at u found.now → WinAsKept s f us names.old.items
+        → WinAsKept s f (with_name named u us) names.new.items) }
+{
+    if named {
+        let name = name_of(alloc, found)?;
+        names.push(name)?;
+    }
+    Ok(())
+}
+
+/// Keeps that a tree, where it has a name, stands where no play leads.
+fn put_unreached(named: bool, names: &mut Vec<Option<Basis>>) -> Result<(), NoMemory>
+    ensures { OnOk result ((s : Side) (f : Frame) (u : Strategy) (us : List Strategy) → WinAsKept s f us names.old.items
+        → WinAsKept s f (with_name named u us) names.new.items) }
+{
+    if named {
+        names.push(None)?;
+    }
+    Ok(())
+}
+
+/// Passes over an outline where no play leads: its names are counted.
+#[cycle(skip)]
+fn skip(o: &Outline, names: &mut Vec<Option<Basis>>) -> Result<(), NoMemory>
+    ensures { OnOk result ((s : Side) (f : Frame) (us : List Strategy) → WinAsKept s f us names.old.items
+        → WinAsKept s f (names_behind us (outline_of o.now)) names.new.items) }
+{
+    match o {
+        Outline::Done => Ok(()),
+        Outline::Part(_) => Ok(()),
+        Outline::Pick(named, _, child) => {
+            skip(child, names)?;
+            put_unreached(*named, names)
+        }
+        Outline::Reply(named, list) => {
+            skip_each(list, names)?;
+            put_unreached(*named, names)
+        }
+    }
+}
+
+#[cycle(skip)]
+fn skip_each(list: &[(Turn, Outline)], names: &mut Vec<Option<Basis>>) -> Result<(), NoMemory>
+    ensures { OnOk result ((s : Side) (f : Frame) (us : List Strategy) → WinAsKept s f us names.old.items
+        → WinAsKept s f (names_behind_all us (branches_of_list list.now)) names.new.items) }
+{
+    for (_, child) in list {
+        skip(child, names)?;
+    }
+    Ok(())
+}
+
+fn has_branch(list: &[(Turn, Outline)], turn: Turn) -> bool
+    ensures { IsTrue result ↔ HasBranch (branches_of_list list.now) turn }
+{
+    for branch in list {
+        if branch.0 == turn {
+            return true;
+        }
+    }
+    false
+}
+
+/// Whether each legal turn has a branch.
+fn answers_all(list: &[(Turn, Outline)], line: &Line) -> bool
+    ensures { IsTrue result ↔ ((t : Turn) → IsLegal line.now.frame line.now.state t → HasBranch (branches_of_list list.now) t) }
+{
+    let turns = line.turns();
+    for turn in turns.as_slice() {
+        if !has_branch(list, *turn) {
+            return false;
+        }
+    }
+    true
+}
+
+/// What is found on a reply by what is found on all its branches.
+fn found_of_reply(list: &[(Turn, Outline)], line: &Line, found: Found) -> Found
+    requires asked { winner_of line.now.frame line.now.state ≡ None }
+    requires orderly { AreOrderly line.now.frame.size 0 (branches_of_list list.now) }
+    ensures { (s : Side) (us : List Strategy) → line.now.state.to_move ≡ opponent s
+        → IsFoundOf s line.now.frame line.now.state (entries_with us (branches_of_list list.now)) none found
+        → IsFound s line.now.frame line.now.state (reply (entries_with us (branches_of_list list.now))) result }
+{
+    match found {
+        Found::Won(basis) => {
+            if answers_all(list, line) {
+                return Found::Won(basis);
+            }
+            Found::Lost
+        }
+        Found::Lost => Found::Lost,
+        Found::Unfit => Found::Unfit,
+    }
+}
+
+/// What is found on the branch of a turn. The line stands as before.
+#[cycle(play)]
+fn replay_branch(
+    alloc: Global,
+    turn: Turn,
+    child: &Outline,
+    s: Side,
+    line: &mut Line,
+    names: &mut Vec<Option<Basis>>,
+) -> Result<Found, NoMemory>
+    requires on_board { IsOnBoard line.old.frame.size turn }
+    requires orderly { IsOrderly line.old.frame.size (outline_of child.now) }
+    ensures found { IfOk result (λ r. (us : List Strategy) → WinAsKept s line.old.frame us names.old.items
+        → IsFoundBehind s line.old.frame line.old.state turn (unfolded us (outline_of child.now)) r
+        × WinAsKept s line.old.frame (names_behind us (outline_of child.now)) names.new.items) }
+    ensures same { line.new ≡ line.old }
+{
+    match line.push(turn) {
+        Ok(()) => {
+            let board = line.present().copy();
+            let found = replay_outline(alloc, child, s, line, names);
+            line.pop();
+            match found {
+                Ok(behind) => Ok(found_before_branch(line, &turn, &board, behind)),
+                Err(e) => Err(e),
+            }
+        }
+        Err(Refused::Illegal(_)) => {
+            skip(child, names)?;
+            Ok(Found::Won(Basis::of(alloc, line)))
+        }
+        Err(Refused::NoMemory) => Err(NoMemory),
+    }
+}
+
+/// What is found on all branches. The line stands as before.
+#[cycle(play)]
+fn replay_branches(
+    alloc: Global,
+    list: &[(Turn, Outline)],
+    s: Side,
+    line: &mut Line,
+    names: &mut Vec<Option<Basis>>,
+) -> Result<Found, NoMemory>
+    requires orderly { AreOrderly line.old.frame.size 0 (branches_of_list list.now) }
+    ensures found { IfOk result (λ r. (us : List Strategy) → WinAsKept s line.old.frame us names.old.items
+        → IsFoundOf s line.old.frame line.old.state (entries_with us (branches_of_list list.now)) none r
+        × WinAsKept s line.old.frame (names_behind_all us (branches_of_list list.now)) names.new.items) }
+    ensures same { line.new ≡ line.old }
+{
+    let basis = Basis::of_plays(alloc, line)?;
+    let mut found = Found::Won(basis);
+    for (turn, child) in list {
+        let next = replay_branch(alloc, *turn, child, s, line, names)?;
+        found = both(found, next)?;
+    }
+    Ok(found)
+}
+
+#[cycle(play)]
+fn replay_reply(
+    alloc: Global,
+    list: &[(Turn, Outline)],
+    s: Side,
+    line: &mut Line,
+    names: &mut Vec<Option<Basis>>,
+) -> Result<Found, NoMemory>
+    requires orderly { AreOrderly line.old.frame.size 0 (branches_of_list list.now) }
+    ensures found { IfOk result (λ r. (us : List Strategy) → WinAsKept s line.old.frame us names.old.items
+        → IsFound s line.old.frame line.old.state (reply (entries_with us (branches_of_list list.now))) r
+        × WinAsKept s line.old.frame (names_behind_all us (branches_of_list list.now)) names.new.items) }
+    ensures same { line.new ≡ line.old }
+{
+    if !is_asked(s, line) {
+        skip_each(list, names)?;
+        return Ok(Found::Lost);
+    }
+    match replay_branches(alloc, list, s, line, names) {
+        Ok(found) => Ok(found_of_reply(list, line, found)),
+        Err(e) => Err(e),
+    }
+}
+
+#[cycle(play)]
+fn replay_pick(
+    alloc: Global,
+    turn: Turn,
+    child: &Outline,
+    s: Side,
+    line: &mut Line,
+    names: &mut Vec<Option<Basis>>,
+) -> Result<Found, NoMemory>
+    requires on_board { IsOnBoard line.old.frame.size turn }
+    requires orderly { IsOrderly line.old.frame.size (outline_of child.now) }
+    ensures found { IfOk result (λ r. (us : List Strategy) → WinAsKept s line.old.frame us names.old.items
+        → IsFound s line.old.frame line.old.state (pick turn (unfolded us (outline_of child.now))) r
+        × WinAsKept s line.old.frame (names_behind us (outline_of child.now)) names.new.items) }
+    ensures same { line.new ≡ line.old }
+{
+    if line.to_move() != s {
+        skip(child, names)?;
+        return Ok(Found::Lost);
+    }
+    match line.push(turn) {
+        Ok(()) => {
+            let board = line.present().copy();
+            let found = replay_outline(alloc, child, s, line, names);
+            line.pop();
+            match found {
+                Ok(behind) => found_before_pick(alloc, line, &turn, &board, behind),
+                Err(e) => Err(e),
+            }
+        }
+        Err(Refused::Illegal(_)) => {
+            skip(child, names)?;
+            Ok(Found::Lost)
+        }
+        Err(Refused::NoMemory) => Err(NoMemory),
+    }
+}
+
+/// What is found on the outline at the line, where the names so far stand for trees that rest on these. The line stands as before.
+#[cycle(play)]
+fn replay_outline(
+    alloc: Global,
+    o: &Outline,
+    s: Side,
+    line: &mut Line,
+    names: &mut Vec<Option<Basis>>,
+) -> Result<Found, NoMemory>
+    requires orderly { IsOrderly line.old.frame.size (outline_of o.now) }
+    ensures found { IfOk result (λ r. (us : List Strategy) → WinAsKept s line.old.frame us names.old.items
+        → IsFound s line.old.frame line.old.state (unfolded us (outline_of o.now)) r
+        × WinAsKept s line.old.frame (names_behind us (outline_of o.now)) names.new.items) }
+    ensures same { line.new ≡ line.old }
+{
+    match o {
+        Outline::Done => Ok(found_of_done(alloc, s, line)),
+        Outline::Part(k) => match names.get(*k) {
+            Some(name) => found_of_part(alloc, name, line),
+            None => Ok(Found::Unfit),
+        },
+        Outline::Pick(named, turn, child) => {
+            let found = replay_pick(alloc, *turn, child, s, line, names)?;
+            put_name(alloc, *named, &found, names)?;
+            Ok(found)
+        }
+        Outline::Reply(named, list) => {
+            let found = replay_reply(alloc, list, s, line, names)?;
+            put_name(alloc, *named, &found, names)?;
+            Ok(found)
+        }
+    }
+}
+
+/// Whether the tree wins on which this is found, where that is known.
+fn said_of(found: &Found) -> Option<bool>
+    ensures { (s : Side) (f : Frame) (at : State) (u : Strategy) → IsFound s f at u found.now → IfSome result (λ wins. IsTrue wins ↔ Wins s f u at) }
+{
+    match found {
+        Found::Won(_) => Some(true),
+        Found::Lost => Some(false),
+        Found::Unfit => None,
+    }
+}
+
+/// Whether the outline's tree wins for the side from the line's state; none where a part doesn't fit the history where it stands
+/// in for its tree. Each part is played once. The outline's turns are in order. The line stands as before, also after want of
+/// memory.
+pub fn replay_parts(
+    alloc: Global,
+    o: &Outline,
+    s: Side,
+    line: &mut Line,
+) -> Result<Option<bool>, NoMemory>
+    requires { IsOrderly line.old.frame.size (outline_of o.now) }
+    ensures exact { IfOk result (λ answer. IfSome answer (λ wins. IsTrue wins ↔ Wins s line.old.frame (unfolded [] (outline_of o.now)) line.old.state)) }
+    ensures same { line.new ≡ line.old }
+{
+    let mut names = Vec::new(alloc);
+    match replay_outline(alloc, o, s, line, &mut names) {
+        Ok(found) => Ok(said_of(&found)),
+        Err(e) => Err(e),
+    }
+}
