@@ -113,8 +113,11 @@ square_text x y e =
 unfoldable pub number_head : ℕ → ℕ → List ℕ
 number_head x below = codes "<text x='" ++ (decimal x ++ (codes "' y='" ++ (decimal below ++ codes "' font-size='14' fill='")))
 
+unfoldable pub number_end : List ℕ
+number_end = codes "'>1</text>\n"
+
 unfoldable pub digit_text : ℕ → ℕ → Colour → List ℕ
-digit_text x below k = number_head x below ++ (mark_ink (Some k) ++ codes "'>1</text>\n")
+digit_text x below k = number_head x below ++ (mark_ink (Some k) ++ number_end)
 
 abbrev pub number_text : ℕ → ℕ → Colour → List ℕ
 number_text x y k = stone_text x y k ++ digit_text x (y + 5) k

@@ -6,7 +6,7 @@ ghost use Rattle.tt_board.specs.Reach.{entry_at};
 ghost use Rattle.tsumego_show.specs.inside.Trees.{found_of};
 ghost use Rattle.tsumego_show.specs.inside.Windows.{IsWindow};
 ghost use Rattle.tsumego_show.specs.Diagram.{bottom_end, cell_shapes, column_shapes, column_stroke, columns_shown, digit_text, entry_text, numbered_text, first_turn, further, has_square, ink, is_play_on};
-ghost use Rattle.tsumego_show.specs.Diagram.{mark_ground, mark_ink, mark_text, number_head, number_text, point_shapes, points_shapes, right_end, row_shapes, row_stroke, rows_shown, square_text, stone_head, stone_text};
+ghost use Rattle.tsumego_show.specs.Diagram.{mark_ground, mark_ink, mark_text, number_end, number_head, number_text, point_shapes, points_shapes, right_end, row_shapes, row_stroke, rows_shown, square_text, stone_head, stone_text};
 ghost use Rattle.tsumego_show.specs.Diagram.{svg_head, svg_text, triangle_head, triangle_text};
 
 use crate::marks::{is_inside, is_target, point_numbered};
@@ -137,6 +137,15 @@ fn put_number_head(alloc: Global, out: &mut Vec<u8>, x: usize, below: usize) -> 
     Ok(())
 }
 
+/// Writes the end of the number 1 behind the text.
+#[tactic(auto, unfolding(crate::specs::Diagram::number_end))]
+fn put_number_end(out: &mut Vec<u8>) -> Result<(), NoMemory>
+    ensures { OnOk result (out.new.items ≡ out.old.items ++ number_end) }
+{
+    out.extend_from_slice(b"'>1</text>\n")?;
+    Ok(())
+}
+
 /// Writes the number 1 on a stone behind the text.
 #[tactic(auto, unfolding(crate::specs::Diagram::digit_text))]
 fn put_digit(
@@ -151,8 +160,7 @@ fn put_digit(
     let word = mark_ink(Some(colour));
     put_number_head(alloc, out, x, below)?;
     out.extend_from_slice(word)?;
-    out.extend_from_slice(b"'>1</text>\n")?;
-    Ok(())
+    put_number_end(out)
 }
 
 /// Writes a stone with the number 1 behind the text.
