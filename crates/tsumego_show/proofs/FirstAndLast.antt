@@ -1,5 +1,5 @@
 -- Lemmas on the first and the last number that is so.
-use Rattle.std.proofs.Common.{◌≡◌, ◌<◌, ◌≤◌, ◌+◌, ◌-◌, ◌||◌, ℕ, zero, suc, Bool, true, false, refl, sym, ap, ◌∙◌, arith, if◌then◌else◌}
+use Rattle.std.proofs.Common.{◌≡◌, ◌<◌, ◌≤◌, ◌+◌, ◌-◌, ◌||◌, ℕ, suc, Bool, true, false, ap, ◌∙◌, arith, if◌then◌else◌}
 use Rattle.tsumego_show.specs.Diagram.{any_below, greatest, least_from}
 
 -- one number more

@@ -1,5 +1,5 @@
 -- What stands behind a problem: a strategy, or none.
-use Rattle.std.specs.Prelude.{◌⊎◌, List, ℕ, Option, Some, None}
+use Rattle.std.specs.Prelude.{◌⊎◌, List, ℕ}
 use Rattle.tt_sgf.specs.declared.size.Size.{Size}
 use Rattle.tt_sgf.specs.Grammar.{HasOpen}
 use Rattle.tt_sgf.specs.Values.{trimmed}

@@ -1,5 +1,5 @@
 use Rattle.std.proofs.Common.{◌≡◌, ◌≤◌, ◌-◌}
-use Rattle.tsumego_show.specs.Diagram.{count_along, least_from, matters_along}
+use Rattle.tsumego_show.specs.Diagram.{least_from, matters_along}
 use Rattle.tsumego_show.proofs.windows.least.Given as goal
 
 abbrev pub invariant-loop-n : goal.invariant-loop-n
