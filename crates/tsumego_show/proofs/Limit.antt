@@ -15,7 +15,8 @@ use Rattle.tsumego_show.specs.Shown.{IsShown, IsInputText, too_long, trees}
 use Rattle.tsumego_show.specs.Writing.{WritesShown}
 
 -- what is told of a part that is too long is told of the input
-long_told : (form : Form) (input part text : List ℕ) (refused : Bool) → length part ≡ MAX_BYTES + 1 → MAX_BYTES + 1 ≤ length input → IsInputText form part text refused → IsInputText form input text refused
+long_told : (form : Form) (input part text : List ℕ) (refused : Bool) → length part ≡ MAX_BYTES + 1 → MAX_BYTES + 1 ≤ length input → IsInputText form part text refused
+    → IsInputText form input text refused
 long_told form input part text refused e le (too_long long) = too_long (omega arith)
 long_told form input part text refused e le (trees text' refused' small h) = absurd (omega arith)
 

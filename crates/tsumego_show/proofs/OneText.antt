@@ -77,7 +77,8 @@ module _ (one : OneCertificate) where
     told_same form whole k bytes s t a b (tree _ _ n g x more refused spells is rest) (tree _ _ m h y more' refused' spells' is' rest') =
         let same = reading bytes n m g h spells spells' in
         let its : IsTreeText form k (main_line h) (problem_of (main_line h)) (drop m bytes) x =
-        subst (λ (q : GameTree). IsTreeText form k (main_line q) (problem_of (main_line q)) (drop m bytes) x) same.1 (subst (λ q. IsTreeText form k (main_line g) (problem_of (main_line g)) (drop q bytes) x) same.0 is) in
+        subst (λ (q : GameTree). IsTreeText form k (main_line q) (problem_of (main_line q)) (drop m bytes) x) same.1
+          (subst (λ q. IsTreeText form k (main_line g) (problem_of (main_line g)) (drop q bytes) x) same.0 is) in
         let go = told_same form whole (k + 1) (drop m bytes) more more' refused refused' (subst (λ q. Tells form whole (k + 1) (drop q bytes) more refused) same.0 rest) rest' in (
           ap₂ (λ (q w : List ℕ). q ++ w) (tree_text_same form k (main_line h) (problem_of (main_line h)) (drop m bytes) x y its is') go.0,
           ap₂ (λ (q : GameTree) (w : Bool). is_no_problem (problem_of (main_line q)) || w) same.1 go.1,

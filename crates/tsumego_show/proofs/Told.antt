@@ -48,7 +48,8 @@ tree_more form input k rest text refused used t nodes text' bad far s same w b =
     let words : text ++ (w.0 ++ more) ≡ text' ++ more = sym (append_assoc text w.0 more) ∙ ap (λ (x : List ℕ). x ++ more) (sym w.2) in
     let flag : (refused || (is_no_problem (problem_of (main_line t)) || other)) ≡ ((refused || bad) || other) =
     ap (λ (x : Bool). refused || (x || other)) its ∙ sym (or_assoc refused bad other) in
-    subst (λ (x : Bool). Tells form (length input) 1 input (text' ++ more) x) flag (subst (λ (x : List ℕ). Tells form (length input) 1 input x (refused || (is_no_problem (problem_of (main_line t)) || other))) words (far _ _ one))
+    subst (λ (x : Bool). Tells form (length input) 1 input (text' ++ more) x) flag
+      (subst (λ (x : List ℕ). Tells form (length input) 1 input x (refused || (is_no_problem (problem_of (main_line t)) || other))) words (far _ _ one))
 
 -- what is read and told so far; an input with a tree is not too long
 pub record Progress (form : Form) (input rest text : List ℕ) (k : ℕ) (refused : Bool) : Type 0 where
@@ -66,7 +67,8 @@ module _ {form : Form} {input rest text : List ℕ} {k : ℕ} {refused : Bool} (
 
   -- one more tree is read and told
   pub progress_step : (used : ℕ) (t : GameTree) (nodes : List Node) (text' : List ℕ) (bad : Bool) → SpelledUpTo rest used t → nodes ≡ main_line t
-      → length rest ≤ MAX_BYTES → (x : List ℕ) × IsTreeText form k nodes (problem_of nodes) (take (length rest - used) (drop used rest)) x × (text' ≡ text ++ x) → bad ≡ is_no_problem (problem_of nodes)
+      → length rest ≤ MAX_BYTES → (x : List ℕ) × IsTreeText form k nodes (problem_of nodes) (take (length rest - used) (drop used rest)) x × (text' ≡ text ++ x)
+      → bad ≡ is_no_problem (problem_of nodes)
       → Progress form input (take (length rest - used) (drop used rest)) text' (k + 1) (refused || bad)
   progress_step used t nodes text' bad s same small e b = record {
     some = omega (arith, p.some);
