@@ -9,3 +9,4 @@ _tsumego() {
     mapfile -t COMPREPLY < <(compgen -W "$words" -- "$word")
 }
 complete -o default -F _tsumego tsumego
+complete -o default -W --svg tsumego-show

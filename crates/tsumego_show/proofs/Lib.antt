@@ -6,3 +6,5 @@ pub mod FirstTurn
 pub mod Spreading
 pub mod Texts
 pub mod Told
+pub mod FoundDrawn
+pub mod FirstAndLast

@@ -10,44 +10,46 @@ use Rattle.devices.specs.laws.PartLaws.{cut_or_whole}
 use Rattle.devices.specs.Faults.{is_output_fault}
 use Rattle.devices.specs.Watching.{IsInput}
 use Rattle.devices.specs.Writing.{Breaks, ForInput}
+use Rattle.tsumego_show.specs.declared.form.Form.{Form}
 use Rattle.tsumego_show.specs.Shown.{IsShown, IsInputText, too_long, trees}
 use Rattle.tsumego_show.specs.Writing.{WritesShown}
 
 -- what is told of a part that is too long is told of the input
-long_told : (input part text : List ℕ) (refused : Bool) → length part ≡ MAX_BYTES + 1 → MAX_BYTES + 1 ≤ length input → IsInputText part text refused → IsInputText input text refused
-long_told input part text refused e le (too_long long) = too_long (omega arith)
-long_told input part text refused e le (trees text' refused' small h) = absurd (omega arith)
+long_told : (form : Form) (input part text : List ℕ) (refused : Bool) → length part ≡ MAX_BYTES + 1 → MAX_BYTES + 1 ≤ length input → IsInputText form part text refused
+    → IsInputText form input text refused
+long_told form input part text refused e le (too_long long) = too_long (omega arith)
+long_told form input part text refused e le (trees text' refused' small h) = absurd (omega arith)
 
 -- what is shown of the part up to the limit is shown of the input
-shown_whole : (input text : List ℕ) (status : ℕ) → IsShown (take (MAX_BYTES + 1) input) text status → IsShown input text status
-shown_whole input text status h = elim (cut_or_whole (MAX_BYTES + 1) input) [
-  | inl e ↦ subst (λ (x : List ℕ). IsShown x text status) e h
-  | inr p ↦ (h.0, long_told input (take (MAX_BYTES + 1) input) text h.0 p.0 p.1 h.1, h.2)
+shown_whole : (form : Form) (input text : List ℕ) (status : ℕ) → IsShown form (take (MAX_BYTES + 1) input) text status → IsShown form input text status
+shown_whole form input text status h = elim (cut_or_whole (MAX_BYTES + 1) input) [
+  | inl e ↦ subst (λ (x : List ℕ). IsShown form x text status) e h
+  | inr p ↦ (h.0, long_told form input (take (MAX_BYTES + 1) input) text h.0 p.0 p.1 h.1, h.2)
 ]
 
 -- and what is written of it is written of the input
-writes_whole : (input : List ℕ) (r : Result ℕ RunFault) (a b : Option (List ℕ)) → WritesShown (take (MAX_BYTES + 1) input) r a b → WritesShown input r a b
-writes_whole input (Ok status) a b w = (w.0, shown_whole input w.0 status w.1, w.2)
-writes_whole input (Err Input) a b w = w
-writes_whole input (Err Output) a b w = (w.0, w.1, (w.2.0, shown_whole input w.0 w.2.0 w.2.1), w.3)
-writes_whole input (Err Memory) a b w = w
+writes_whole : (form : Form) (input : List ℕ) (r : Result ℕ RunFault) (a b : Option (List ℕ)) → WritesShown form (take (MAX_BYTES + 1) input) r a b → WritesShown form input r a b
+writes_whole form input (Ok status) a b w = (w.0, shown_whole form input w.0 status w.1, w.2)
+writes_whole form input (Err Input) a b w = w
+writes_whole form input (Err Output) a b w = (w.0, w.1, (w.2.0, shown_whole form input w.0 w.2.0 w.2.1), w.3)
+writes_whole form input (Err Memory) a b w = w
 
 -- what is written on the part up to the limit is written on the input
-pub writes_read : (told : Option (List ℕ)) (bytes : List ℕ) (r : Result ℕ RunFault) (a b : Option (List ℕ)) → IsInput (MAX_BYTES + 1) told bytes → WritesShown bytes r a b
-    → ForInput told (λ input. WritesShown input r a b)
-writes_read None bytes r a b e w = (bytes, w)
-writes_read (Some input) bytes r a b e w = writes_whole input r a b (subst (λ (x : List ℕ). WritesShown x r a b) e w)
+pub writes_read : (form : Form) (told : Option (List ℕ)) (bytes : List ℕ) (r : Result ℕ RunFault) (a b : Option (List ℕ)) → IsInput (MAX_BYTES + 1) told bytes → WritesShown form bytes r a b
+    → ForInput told (λ input. WritesShown form input r a b)
+writes_read form None bytes r a b e w = (bytes, w)
+writes_read form (Some input) bytes r a b e w = writes_whole form input r a b (subst (λ (x : List ℕ). WritesShown form x r a b) e w)
 
 -- nothing is written where nothing was read
-nothing_written : (input : List ℕ) (e : RunFault) (a : Option (List ℕ)) → is_output_fault {A = ℕ} (Err e) ≡ false → WritesShown input (Err e) a a
-nothing_written input Input a quiet = Keeps-refl a
-nothing_written input Output a quiet = let bad : true ≡ false = quiet in cc
-nothing_written input Memory a quiet = ([], refl, Appends-nil a)
+nothing_written : (form : Form) (input : List ℕ) (e : RunFault) (a : Option (List ℕ)) → is_output_fault {A = ℕ} (Err e) ≡ false → WritesShown form input (Err e) a a
+nothing_written form input Input a quiet = Keeps-refl a
+nothing_written form input Output a quiet = let bad : true ≡ false = quiet in cc
+nothing_written form input Memory a quiet = ([], refl, Appends-nil a)
 
 -- so it is where the reader tells what it had to give
-pub writes_nothing : (told : Option (List ℕ)) (e : RunFault) (a : Option (List ℕ)) → is_output_fault {A = ℕ} (Err e) ≡ false → ForInput told (λ input. WritesShown input (Err e) a a)
-writes_nothing None e a quiet = ([], nothing_written [] e a quiet)
-writes_nothing (Some input) e a quiet = nothing_written input e a quiet
+pub writes_nothing : (form : Form) (told : Option (List ℕ)) (e : RunFault) (a : Option (List ℕ)) → is_output_fault {A = ℕ} (Err e) ≡ false → ForInput told (λ input. WritesShown form input (Err e) a a)
+writes_nothing form None e a quiet = ([], nothing_written form [] e a quiet)
+writes_nothing form (Some input) e a quiet = nothing_written form input e a quiet
 
 -- what is kept has grown by nothing
 kept_whole : (a b : Option (List ℕ)) → Keeps a b → Appends a b []
@@ -56,7 +58,7 @@ kept_whole (Some x) None w = absurd w
 kept_whole (Some x) (Some y) w = w ∙ sym (append-nil x)
 
 -- a fault came where a text was to be written
-pub text_breaks : (input text : List ℕ) (status : ℕ) (e : RunFault) (a b : Option (List ℕ)) → IsShown input text status → Breaks text e a b → WritesShown input (Err e) a b
-text_breaks input text status Input a b h w = absurd w
-text_breaks input text status Output a b h w = (text, w.0, (status, h), w.1)
-text_breaks input text status Memory a b h w = ([], refl, kept_whole a b w)
+pub text_breaks : (form : Form) (input text : List ℕ) (status : ℕ) (e : RunFault) (a b : Option (List ℕ)) → IsShown form input text status → Breaks text e a b → WritesShown form input (Err e) a b
+text_breaks form input text status Input a b h w = absurd w
+text_breaks form input text status Output a b h w = (text, w.0, (status, h), w.1)
+text_breaks form input text status Memory a b h w = ([], refl, kept_whole a b w)

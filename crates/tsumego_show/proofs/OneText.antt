@@ -13,7 +13,12 @@ use Rattle.tt_proof.specs.StrategyLaws.{OneCertificate}
 use Rattle.tt_proof.specs.Strategy.{Strategy}
 use Rattle.tsumego_show.proofs.FirstTurn.{turn_same}
 use Rattle.tsumego_show.specs.Drawing.{DrawsCertificate, DrawsFirst, begins, begins_none, deep_drawn, drawn, none_drawn, strategy_text, turned_text}
-use Rattle.tsumego_show.specs.Shown.{DrawsBehind, IsShown, IsInputText, IsTreeText, Tells, ended, is_no_problem, last_tree, more_trees, problem_text, stopped, too_long, tree, trees}
+use Rattle.tt_sgf.specs.declared.size.Size.{Size}
+use Rattle.tsumego_show.specs.declared.form.Form.{Form}
+use Rattle.tsumego_show.specs.declared.form.Form.TheVariants.{Picture, Diagram}
+use Rattle.tsumego_show.specs.Diagram.{svg_text}
+use Rattle.tsumego_show.specs.Found.{Found, IsFound, no_strategy, found}
+use Rattle.tsumego_show.specs.Shown.{DrawsBehind, IsShown, IsInputText, IsProblemText, IsTreeText, Tells, ended, is_no_problem, last_tree, more_trees, problem_text, stopped, too_long, tree, trees}
 
 module _ (one : OneCertificate) where
   -- a strategy has one text of its first turn
@@ -45,42 +50,59 @@ module _ (one : OneCertificate) where
   behind_same p behind s t (last_tree s' none d) (more_trees b) = absurd (none b)
   behind_same p behind s t (last_tree s' none d) (last_tree t' never e) = drawn_same p (trimmed behind) s' t' d e
 
-  -- and so has a tree
-  tree_text_same : (k : ℕ) (ns : List Node) (r : Result Standing GameFault) (behind s t : List ℕ) → IsTreeText k ns r behind s → IsTreeText k ns r behind t → s ≡ t
-  tree_text_same k ns (Ok p) behind s t a b = a.2 ∙ ap (λ (x : List ℕ). problem_text k p ++ x) (behind_same p behind a.0 b.0 a.1 b.1) ∙ sym b.2
-  tree_text_same k ns (Err e) behind s t a b = a ∙ sym b
+  -- so has the strategy that is found there
+  found_same : (size : Size) (bytes : List ℕ) (a b : Found) → IsFound size bytes a → IsFound size bytes b → a ≡ b
+  found_same size bytes no_strategy no_strategy x y = refl
+  found_same size bytes no_strategy (found side u) (inl opens) y = absurd (y.0 opens)
+  found_same size bytes no_strategy (found side u) (inr (inl deep)) y = absurd (y.2 deep)
+  found_same size bytes no_strategy (found side u) (inr (inr none)) y = absurd (none side u y.1)
+  found_same size bytes (found side u) no_strategy x (inl opens) = absurd (x.0 opens)
+  found_same size bytes (found side u) no_strategy x (inr (inl deep)) = absurd (x.2 deep)
+  found_same size bytes (found side u) no_strategy x (inr (inr none)) = absurd (none side u x.1)
+  found_same size bytes (found a u) (found b v) x y = let same = one size (trimmed bytes) a b u v x.1 y.1 in ap₂ (λ (k : Side) (w : Strategy). found k w) same.0 same.1
+
+  -- and so has a problem
+  problem_text_same : (form : Form) (k : ℕ) (p : Standing) (behind s t : List ℕ) → IsProblemText form k p behind s → IsProblemText form k p behind t → s ≡ t
+  problem_text_same Picture k p behind s t a b = a.2 ∙ ap (λ (x : List ℕ). problem_text k p ++ x) (behind_same p behind a.0 b.0 a.1 b.1) ∙ sym b.2
+  problem_text_same Diagram k p behind s t a b = a.2 ∙ ap (λ (x : Found). svg_text p x) (found_same p.frame.size behind a.0 b.0 a.1 b.1) ∙ sym b.2
+
+  -- and a tree
+  tree_text_same : (form : Form) (k : ℕ) (ns : List Node) (r : Result Standing GameFault) (behind s t : List ℕ) → IsTreeText form k ns r behind s → IsTreeText form k ns r behind t → s ≡ t
+  tree_text_same form k ns (Ok p) behind s t a b = problem_text_same form k p behind s t a b
+  tree_text_same form k ns (Err e) behind s t a b = a ∙ sym b
 
   module _ (reading : OneSpelling) where
     -- bytes are told in one way from a tree's number on
-    told_same : (whole k : ℕ) (bytes s t : List ℕ) (a b : Bool) → Tells whole k bytes s a → Tells whole k bytes t b → (s ≡ t) × (a ≡ b)
-    told_same whole k bytes s t a b (tree _ _ n g x more refused spells is rest) (tree _ _ m h y more' refused' spells' is' rest') =
+    told_same : (form : Form) (whole k : ℕ) (bytes s t : List ℕ) (a b : Bool) → Tells form whole k bytes s a → Tells form whole k bytes t b → (s ≡ t) × (a ≡ b)
+    told_same form whole k bytes s t a b (tree _ _ n g x more refused spells is rest) (tree _ _ m h y more' refused' spells' is' rest') =
         let same = reading bytes n m g h spells spells' in
-        let its : IsTreeText k (main_line h) (problem_of (main_line h)) (drop m bytes) x =
-        subst (λ (q : GameTree). IsTreeText k (main_line q) (problem_of (main_line q)) (drop m bytes) x) same.1 (subst (λ q. IsTreeText k (main_line g) (problem_of (main_line g)) (drop q bytes) x) same.0 is) in
-        let go = told_same whole (k + 1) (drop m bytes) more more' refused refused' (subst (λ q. Tells whole (k + 1) (drop q bytes) more refused) same.0 rest) rest' in (
-          ap₂ (λ (q w : List ℕ). q ++ w) (tree_text_same k (main_line h) (problem_of (main_line h)) (drop m bytes) x y its is') go.0,
+        let its : IsTreeText form k (main_line h) (problem_of (main_line h)) (drop m bytes) x =
+        subst (λ (q : GameTree). IsTreeText form k (main_line q) (problem_of (main_line q)) (drop m bytes) x) same.1
+          (subst (λ q. IsTreeText form k (main_line g) (problem_of (main_line g)) (drop q bytes) x) same.0 is) in
+        let go = told_same form whole (k + 1) (drop m bytes) more more' refused refused' (subst (λ q. Tells form whole (k + 1) (drop q bytes) more refused) same.0 rest) rest' in (
+          ap₂ (λ (q w : List ℕ). q ++ w) (tree_text_same form k (main_line h) (problem_of (main_line h)) (drop m bytes) x y its is') go.0,
           ap₂ (λ (q : GameTree) (w : Bool). is_no_problem (problem_of (main_line q)) || w) same.1 go.1,
         )
-    told_same whole k bytes s t a b (tree _ _ n g x more refused spells is rest) (ended _ _ many none) = absurd (none (spelled_opens bytes n g spells))
-    told_same whole k bytes s t a b (tree _ _ n g x more refused spells is rest) (stopped _ _ why none) = absurd (none g n spells)
-    told_same whole k bytes s t a b (ended _ _ many none) (tree _ _ m h y more' refused' spells' is' rest') = absurd (none (spelled_opens bytes m h spells'))
-    told_same whole k bytes s t a b (ended _ _ many none) (ended _ _ many' none') = (refl, refl)
-    told_same whole k bytes s t a b (ended _ _ many none) (stopped _ _ (inl e) none') = absurd (omega arith)
-    told_same whole k bytes s t a b (ended _ _ many none) (stopped _ _ (inr opens) none') = absurd (none opens)
-    told_same whole k bytes s t a b (stopped _ _ why none) (tree _ _ m h y more' refused' spells' is' rest') = absurd (none h m spells')
-    told_same whole k bytes s t a b (stopped _ _ (inl e) none) (ended _ _ many none') = absurd (omega arith)
-    told_same whole k bytes s t a b (stopped _ _ (inr opens) none) (ended _ _ many none') = absurd (none' opens)
-    told_same whole k bytes s t a b (stopped _ _ why none) (stopped _ _ why' none') = (refl, refl)
+    told_same form whole k bytes s t a b (tree _ _ n g x more refused spells is rest) (ended _ _ many none) = absurd (none (spelled_opens bytes n g spells))
+    told_same form whole k bytes s t a b (tree _ _ n g x more refused spells is rest) (stopped _ _ why none) = absurd (none g n spells)
+    told_same form whole k bytes s t a b (ended _ _ many none) (tree _ _ m h y more' refused' spells' is' rest') = absurd (none (spelled_opens bytes m h spells'))
+    told_same form whole k bytes s t a b (ended _ _ many none) (ended _ _ many' none') = (refl, refl)
+    told_same form whole k bytes s t a b (ended _ _ many none) (stopped _ _ (inl e) none') = absurd (omega arith)
+    told_same form whole k bytes s t a b (ended _ _ many none) (stopped _ _ (inr opens) none') = absurd (none opens)
+    told_same form whole k bytes s t a b (stopped _ _ why none) (tree _ _ m h y more' refused' spells' is' rest') = absurd (none h m spells')
+    told_same form whole k bytes s t a b (stopped _ _ (inl e) none) (ended _ _ many none') = absurd (omega arith)
+    told_same form whole k bytes s t a b (stopped _ _ (inr opens) none) (ended _ _ many none') = absurd (none' opens)
+    told_same form whole k bytes s t a b (stopped _ _ why none) (stopped _ _ why' none') = (refl, refl)
 
     -- an input is told in one way
-    whole_same : (input s t : List ℕ) (a b : Bool) → IsInputText input s a → IsInputText input t b → (s ≡ t) × (a ≡ b)
-    whole_same input s t a b (too_long long) (too_long more) = (refl, refl)
-    whole_same input s t a b (too_long long) (trees t' b' small h) = absurd (omega arith)
-    whole_same input s t a b (trees s' a' small h) (too_long long) = absurd (omega arith)
-    whole_same input s t a b (trees s' a' small h) (trees t' b' little g) = told_same (length input) 1 input s' t' a' b' h g
+    whole_same : (form : Form) (input s t : List ℕ) (a b : Bool) → IsInputText form input s a → IsInputText form input t b → (s ≡ t) × (a ≡ b)
+    whole_same form input s t a b (too_long long) (too_long more) = (refl, refl)
+    whole_same form input s t a b (too_long long) (trees t' b' small h) = absurd (omega arith)
+    whole_same form input s t a b (trees s' a' small h) (too_long long) = absurd (omega arith)
+    whole_same form input s t a b (trees s' a' small h) (trees t' b' little g) = told_same form (length input) 1 input s' t' a' b' h g
 
     -- an input has one text and one status
-    pub shown_same : (input s t : List ℕ) (m n : ℕ) → IsShown input s m → IsShown input t n → (s ≡ t) × (m ≡ n)
-    shown_same input s t m n a b =
-        let same = whole_same input s t a.0 b.0 a.1 b.1 in
+    pub shown_same : (form : Form) (input s t : List ℕ) (m n : ℕ) → IsShown form input s m → IsShown form input t n → (s ≡ t) × (m ≡ n)
+    shown_same form input s t m n a b =
+        let same = whole_same form input s t a.0 b.0 a.1 b.1 in
         (same.0, a.2 ∙ ap (λ (x : Bool). if x then 1 else 0) same.1 ∙ sym b.2)

@@ -5,6 +5,8 @@ use Rattle.std.specs.declared.result.Result.{Result}
 use Rattle.tt_sgf.specs.declared.trees.TheConstants.{MAX_BYTES}
 use Rattle.tt_sgf.specs.Values.{trimmed}
 use Rattle.tt_game.specs.Line.{Standing}
+use Rattle.tsumego_show.specs.declared.form.Form.{Form}
+use Rattle.tsumego_show.specs.declared.form.Form.TheVariants.{Picture}
 use Rattle.tsumego_show.specs.Drawing.{DrawsCertificate}
 use Rattle.std.proofs.lemmas.List.{take_all, length-drop}
 use Rattle.tt_sgf.specs.declared.nodes.Node.{Node}
@@ -28,33 +30,34 @@ or_false true = refl
 or_false false = refl
 
 -- what is told on the rest, behind the text so far, is told on the input
-abbrev pub IsSoFar : List ℕ → ℕ → List ℕ → List ℕ → Bool → Type 0
-IsSoFar input k rest text refused =
-    (more : List ℕ) (other : Bool) → Tells (length input) k rest more other → Tells (length input) 1 input (text ++ more) (refused || other)
+abbrev pub IsSoFar : Form → List ℕ → ℕ → List ℕ → List ℕ → Bool → Type 0
+IsSoFar form input k rest text refused =
+    (more : List ℕ) (other : Bool) → Tells form (length input) k rest more other → Tells form (length input) 1 input (text ++ more) (refused || other)
 
 -- one more tree
-pub tree_more : (input : List ℕ) (k : ℕ) (rest text : List ℕ) (refused : Bool) (used : ℕ) (t : GameTree) (nodes : List Node) (text' : List ℕ) (bad : Bool)
-    → IsSoFar input k rest text refused → SpelledUpTo rest used t → nodes ≡ main_line t
-    → (x : List ℕ) × IsTreeText k nodes (problem_of nodes) (take (length rest - used) (drop used rest)) x × (text' ≡ text ++ x)
-    → bad ≡ is_no_problem (problem_of nodes) → IsSoFar input (k + 1) (take (length rest - used) (drop used rest)) text' (refused || bad)
-tree_more input k rest text refused used t nodes text' bad far s same w b = λ more other h.
+pub tree_more : (form : Form) (input : List ℕ) (k : ℕ) (rest text : List ℕ) (refused : Bool) (used : ℕ) (t : GameTree) (nodes : List Node) (text' : List ℕ) (bad : Bool)
+    → IsSoFar form input k rest text refused → SpelledUpTo rest used t → nodes ≡ main_line t
+    → (x : List ℕ) × IsTreeText form k nodes (problem_of nodes) (take (length rest - used) (drop used rest)) x × (text' ≡ text ++ x)
+    → bad ≡ is_no_problem (problem_of nodes) → IsSoFar form input (k + 1) (take (length rest - used) (drop used rest)) text' (refused || bad)
+tree_more form input k rest text refused used t nodes text' bad far s same w b = λ more other h.
     let all : take (length rest - used) (drop used rest) ≡ drop used rest = take_all (length rest - used) (drop used rest) (omega (arith, length-drop used rest)) in
-    let its_text : IsTreeText k (main_line t) (problem_of (main_line t)) (drop used rest) w.0 =
-    subst (λ (x : List Node). IsTreeText k x (problem_of x) (drop used rest) w.0) same (subst (λ (x : List ℕ). IsTreeText k nodes (problem_of nodes) x w.0) all w.1) in
-    let one = tree k rest used t w.0 more other s its_text (subst (λ (x : List ℕ). Tells (length input) (k + 1) x more other) all h) in
+    let its_text : IsTreeText form k (main_line t) (problem_of (main_line t)) (drop used rest) w.0 =
+    subst (λ (x : List Node). IsTreeText form k x (problem_of x) (drop used rest) w.0) same (subst (λ (x : List ℕ). IsTreeText form k nodes (problem_of nodes) x w.0) all w.1) in
+    let one = tree k rest used t w.0 more other s its_text (subst (λ (x : List ℕ). Tells form (length input) (k + 1) x more other) all h) in
     let its : is_no_problem (problem_of (main_line t)) ≡ bad = ap (λ (x : List Node). is_no_problem (problem_of x)) (sym same) ∙ sym b in
     let words : text ++ (w.0 ++ more) ≡ text' ++ more = sym (append_assoc text w.0 more) ∙ ap (λ (x : List ℕ). x ++ more) (sym w.2) in
     let flag : (refused || (is_no_problem (problem_of (main_line t)) || other)) ≡ ((refused || bad) || other) =
     ap (λ (x : Bool). refused || (x || other)) its ∙ sym (or_assoc refused bad other) in
-    subst (λ (x : Bool). Tells (length input) 1 input (text' ++ more) x) flag (subst (λ (x : List ℕ). Tells (length input) 1 input x (refused || (is_no_problem (problem_of (main_line t)) || other))) words (far _ _ one))
+    subst (λ (x : Bool). Tells form (length input) 1 input (text' ++ more) x) flag
+      (subst (λ (x : List ℕ). Tells form (length input) 1 input x (refused || (is_no_problem (problem_of (main_line t)) || other))) words (far _ _ one))
 
 -- what is read and told so far; an input with a tree is not too long
-pub record Progress (input rest text : List ℕ) (k : ℕ) (refused : Bool) : Type 0 where
+pub record Progress (form : Form) (input rest text : List ℕ) (k : ℕ) (refused : Bool) : Type 0 where
   pub some : 1 ≤ k
   pub small : ((k ≡ 1) × (rest ≡ input) × (text ≡ [])) ⊎ (length input ≤ MAX_BYTES)
-  pub far : IsSoFar input k rest text refused
+  pub far : IsSoFar form input k rest text refused
 
-module _ {input rest text : List ℕ} {k : ℕ} {refused : Bool} (p : Progress input rest text k refused) where
+module _ {form : Form} {input rest text : List ℕ} {k : ℕ} {refused : Bool} (p : Progress form input rest text k refused) where
   -- where the rest is not too long, the input isn't
   small_whole : length rest ≤ MAX_BYTES → length input ≤ MAX_BYTES
   small_whole le = elim p.small [
@@ -64,39 +67,40 @@ module _ {input rest text : List ℕ} {k : ℕ} {refused : Bool} (p : Progress i
 
   -- one more tree is read and told
   pub progress_step : (used : ℕ) (t : GameTree) (nodes : List Node) (text' : List ℕ) (bad : Bool) → SpelledUpTo rest used t → nodes ≡ main_line t
-      → length rest ≤ MAX_BYTES → (x : List ℕ) × IsTreeText k nodes (problem_of nodes) (take (length rest - used) (drop used rest)) x × (text' ≡ text ++ x) → bad ≡ is_no_problem (problem_of nodes)
-      → Progress input (take (length rest - used) (drop used rest)) text' (k + 1) (refused || bad)
+      → length rest ≤ MAX_BYTES → (x : List ℕ) × IsTreeText form k nodes (problem_of nodes) (take (length rest - used) (drop used rest)) x × (text' ≡ text ++ x)
+      → bad ≡ is_no_problem (problem_of nodes)
+      → Progress form input (take (length rest - used) (drop used rest)) text' (k + 1) (refused || bad)
   progress_step used t nodes text' bad s same small e b = record {
     some = omega (arith, p.some);
     small = inr (small_whole small);
-    far = tree_more input k rest text refused used t nodes text' bad p.far s same e b;
+    far = tree_more form input k rest text refused used t nodes text' bad p.far s same e b;
   }
 
   -- no tree is spelled, at a bracket or before the first tree
-  pub progress_stopped : (k ≡ 1) ⊎ HasOpen rest → length rest ≤ MAX_BYTES → HasNoTree rest → (text' : List ℕ) → text' ≡ text ++ syntax_text k (length input - length rest) → IsShown input text' 1
+  pub progress_stopped : (k ≡ 1) ⊎ HasOpen rest → length rest ≤ MAX_BYTES → HasNoTree rest → (text' : List ℕ) → text' ≡ text ++ syntax_text k (length input - length rest) → IsShown form input text' 1
   progress_stopped why small none text' e = (
     refused || true,
     trees text' (refused || true) (small_whole small)
-        (subst (λ (x : List ℕ). Tells (length input) 1 input x (refused || true)) (sym e) (p.far (syntax_text k (length input - length rest)) true (stopped k rest why none))),
+        (subst (λ (x : List ℕ). Tells form (length input) 1 input x (refused || true)) (sym e) (p.far (syntax_text k (length input - length rest)) true (stopped k rest why none))),
     sym (ap (λ x. if x then 1 else 0) (or_true refused)),
   )
 
   -- the rest is too long, which can be at the start alone
-  pub progress_long : MAX_BYTES < length rest → k + length rest ≤ length input + 1 → (text' : List ℕ) → text' ≡ text ++ length_text k → IsShown input text' 1
+  pub progress_long : MAX_BYTES < length rest → k + length rest ≤ length input + 1 → (text' : List ℕ) → text' ≡ text ++ length_text k → IsShown form input text' 1
   progress_long long bound text' e = elim p.small [
     | inl h ↦
         let told : text' ≡ length_text 1 = e ∙ ap₂ (λ (x : List ℕ) n. x ++ length_text n) h.2 h.0 in
-        (true, subst (λ (x : List ℕ). IsInputText input x true) (sym told) (too_long (subst (λ (x : List ℕ). MAX_BYTES < length x) h.1 long)), refl)
+        (true, subst (λ (x : List ℕ). IsInputText form input x true) (sym told) (too_long (subst (λ (x : List ℕ). MAX_BYTES < length x) h.1 long)), refl)
     | inr small ↦ absurd (omega (arith, p.some))
   ]
 
   -- all trees are read
-  pub progress_ended : ((k ≡ 1) → ⊥) → (HasOpen rest → ⊥) → (status : ℕ) → status ≡ (if refused then 1 else 0) → IsShown input text status
+  pub progress_ended : ((k ≡ 1) → ⊥) → (HasOpen rest → ⊥) → (status : ℕ) → status ≡ (if refused then 1 else 0) → IsShown form input text status
   progress_ended more none status e = (
     refused,
     trees text refused (elim p.small [ inl h ↦ absurd (more h.0) | inr le ↦ le ])
-        (subst (λ (x : Bool). Tells (length input) 1 input text x) (or_false refused)
-        (subst (λ (x : List ℕ). Tells (length input) 1 input x (refused || false)) (append-nil text) (p.far [] false (ended k rest many none)))),
+        (subst (λ (x : Bool). Tells form (length input) 1 input text x) (or_false refused)
+        (subst (λ (x : List ℕ). Tells form (length input) 1 input x (refused || false)) (append-nil text) (p.far [] false (ended k rest many none)))),
     e,
   )
     where
@@ -115,7 +119,7 @@ behind_last (Err y) p behind bytes old new none is w = w
 
 -- a problem and what is drawn behind it
 pub problem_behind : {A E : Type 0} (r : Result A E) (k : ℕ) (p : Standing) (behind old mid new : List ℕ) → mid ≡ old ++ problem_text k p
-    → OnOk r ((x : List ℕ) × DrawsBehind p behind x × (new ≡ mid ++ x)) → OnOk r ((x : List ℕ) × IsProblemText k p behind x × (new ≡ old ++ x))
+    → OnOk r ((x : List ℕ) × DrawsBehind p behind x × (new ≡ mid ++ x)) → OnOk r ((x : List ℕ) × IsProblemText Picture k p behind x × (new ≡ old ++ x))
 problem_behind (Ok y) k p behind old mid new e w =
     (problem_text k p ++ w.0, (w.0, w.1, refl), w.2 ∙ ap (λ (x : List ℕ). x ++ w.0) e ∙ append_assoc old (problem_text k p) w.0)
 problem_behind (Err y) k p behind old mid new e w = w

@@ -1,7 +1,11 @@
 -- What public contracts cite.
+pub mod Diagram
 pub mod Drawing
+pub mod Found
 pub mod Hints
 pub mod Picture
 pub mod Refusals
 pub mod Shown
 pub mod Writing
+-- What private contracts and proofs cite. Nobody has to believe these.
+pub mod inside

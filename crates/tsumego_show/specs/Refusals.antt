@@ -1,5 +1,5 @@
 -- What is written where something is refused: the line with the number, and a line that says in words why, and how to go on.
-use Rattle.std.specs.Prelude.{ℕ, zero, suc, ◌+◌, ◌-◌, nat_eq, nat_lt, Bool, false, List, [], ◌∷◌, ◌++◌, codes, decimal, length, take, Ok, Err, if◌then◌else◌}
+use Rattle.std.specs.Prelude.{ℕ, zero, suc, ◌+◌, nat_eq, nat_lt, Bool, false, List, [], ◌∷◌, ◌++◌, codes, decimal, length, take, Ok, Err, if◌then◌else◌}
 use Rattle.std.specs.declared.result.Result.{Result}
 use Rattle.tt_sgf.specs.Bytes.{newline}
 use Rattle.tt_sgf.specs.declared.nodes.Node.{Node}

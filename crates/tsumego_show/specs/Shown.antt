@@ -9,7 +9,11 @@ use Rattle.tt_game.specs.declared.faults.GameFault.{GameFault}
 use Rattle.tt_game.specs.Line.{Standing}
 use Rattle.tt_game.specs.Problems.{problem_of}
 use Rattle.tt_sgf.specs.Values.{trimmed}
+use Rattle.tsumego_show.specs.declared.form.Form.{Form}
+use Rattle.tsumego_show.specs.declared.form.Form.TheVariants.{Picture, Diagram}
+use Rattle.tsumego_show.specs.Diagram.{svg_text}
 use Rattle.tsumego_show.specs.Drawing.{DrawsCertificate}
+use Rattle.tsumego_show.specs.Found.{Found, IsFound}
 use Rattle.tsumego_show.specs.Hints.{hints}
 use Rattle.tsumego_show.specs.Picture.{picture}
 use Rattle.tsumego_show.specs.Refusals.{fault_text, length_text, syntax_text}
@@ -24,14 +28,16 @@ pub data DrawsBehind (p : Standing) (behind : List ℕ) : List ℕ → Type 0 wh
 abbrev pub problem_text : ℕ → Standing → List ℕ
 problem_text k p = decimal k ++ (space ∷ (picture p ++ hints p))
 
--- the text on tree number k, which is this problem and is followed by these bytes
-abbrev pub IsProblemText : ℕ → Standing → List ℕ → List ℕ → Type 0
-IsProblemText k p behind text = (drawn : List ℕ) × DrawsBehind p behind drawn × (text ≡ problem_text k p ++ drawn)
+-- the text on tree number k, which is this problem and is followed by these bytes: the picture with what follows it;
+-- or the diagram with the strategy that stands there
+abbrev pub IsProblemText : Form → ℕ → Standing → List ℕ → List ℕ → Type 0
+IsProblemText Picture k p behind text = (drawn : List ℕ) × DrawsBehind p behind drawn × (text ≡ problem_text k p ++ drawn)
+IsProblemText Diagram k p behind text = (b : Found) × IsFound p.frame.size behind b × (text ≡ svg_text p b)
 
 -- the text on tree number k, whose main line is a problem or refused, and which is followed by these bytes
-abbrev pub IsTreeText : ℕ → List Node → Result Standing GameFault → List ℕ → List ℕ → Type 0
-IsTreeText k ns (Ok p) behind text = IsProblemText k p behind text
-IsTreeText k ns (Err e) behind text = text ≡ fault_text k ns e
+abbrev pub IsTreeText : Form → ℕ → List Node → Result Standing GameFault → List ℕ → List ℕ → Type 0
+IsTreeText form k ns (Ok p) behind text = IsProblemText form k p behind text
+IsTreeText form k ns (Err e) behind text = text ≡ fault_text k ns e
 
 abbrev pub is_no_problem : Result Standing GameFault → Bool
 is_no_problem (Ok p) = false
@@ -40,18 +46,18 @@ is_no_problem (Err e) = true
 -- The text on bytes at the end of an input of so many, whose first tree has number k, and whether something is refused: a tree
 -- and what follows it; or no tree is left, and none was wanted; or none is spelled where one is wanted: at a `(`, or where no
 -- tree was read yet.
-pub data Tells (whole : ℕ) : ℕ → List ℕ → List ℕ → Bool → Type 0 where
+pub data Tells (form : Form) (whole : ℕ) : ℕ → List ℕ → List ℕ → Bool → Type 0 where
   tree : (k : ℕ) (bytes : List ℕ) (count : ℕ) (t : GameTree) (text more : List ℕ) (refused : Bool) → SpelledUpTo bytes count t
-      → IsTreeText k (main_line t) (problem_of (main_line t)) (drop count bytes) text → Tells whole (k + 1) (drop count bytes) more refused
-      → Tells whole k bytes (text ++ more) (is_no_problem (problem_of (main_line t)) || refused)
-  ended : (k : ℕ) (bytes : List ℕ) → 1 < k → (HasOpen bytes → ⊥) → Tells whole k bytes [] false
-  stopped : (k : ℕ) (bytes : List ℕ) → (k ≡ 1) ⊎ HasOpen bytes → HasNoTree bytes → Tells whole k bytes (syntax_text k (whole - length bytes)) true
+      → IsTreeText form k (main_line t) (problem_of (main_line t)) (drop count bytes) text → Tells form whole (k + 1) (drop count bytes) more refused
+      → Tells form whole k bytes (text ++ more) (is_no_problem (problem_of (main_line t)) || refused)
+  ended : (k : ℕ) (bytes : List ℕ) → 1 < k → (HasOpen bytes → ⊥) → Tells form whole k bytes [] false
+  stopped : (k : ℕ) (bytes : List ℕ) → (k ≡ 1) ⊎ HasOpen bytes → HasNoTree bytes → Tells form whole k bytes (syntax_text k (whole - length bytes)) true
 
 -- the text for an input, and whether something is refused: the input is too long, or its trees are told from number 1 on
-pub data IsInputText (input : List ℕ) : List ℕ → Bool → Type 0 where
-  too_long : MAX_BYTES < length input → IsInputText input (length_text 1) true
-  trees : (text : List ℕ) (refused : Bool) → length input ≤ MAX_BYTES → Tells (length input) 1 input text refused → IsInputText input text refused
+pub data IsInputText (form : Form) (input : List ℕ) : List ℕ → Bool → Type 0 where
+  too_long : MAX_BYTES < length input → IsInputText form input (length_text 1) true
+  trees : (text : List ℕ) (refused : Bool) → length input ≤ MAX_BYTES → Tells form (length input) 1 input text refused → IsInputText form input text refused
 
 -- the text for an input and the exit status: 1 where something is refused
-abbrev pub IsShown : List ℕ → List ℕ → ℕ → Type 0
-IsShown input text status = (refused : Bool) × IsInputText input text refused × (status ≡ (if refused then 1 else 0))
+abbrev pub IsShown : Form → List ℕ → List ℕ → ℕ → Type 0
+IsShown form input text status = (refused : Bool) × IsInputText form input text refused × (status ≡ (if refused then 1 else 0))

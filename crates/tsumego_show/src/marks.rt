@@ -104,7 +104,7 @@ pub fn is_unfillable(line: &Line, number: usize) -> bool
 }
 
 /// Whether the point of this number is a target.
-fn is_target(line: &Line, number: usize) -> bool
+pub fn is_target(line: &Line, number: usize) -> bool
     requires { number < point_count line.now.frame.size }
     ensures { result ≡ is_target line.now number }
 {

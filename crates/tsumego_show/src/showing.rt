@@ -1,9 +1,13 @@
 //! The text for an input.
 ghost use Rattle.std.specs.Prelude.{◌≡◌, ◌++◌, if◌then◌else◌, ℕ, List, IfOk, OnOk, Ok};
 ghost use Rattle.tt_game.specs.Problems.{problem_of};
+ghost use Rattle.tsumego_show.specs.declared.form.Form.TheVariants.{Diagram, Picture};
 ghost use Rattle.tsumego_show.specs.Shown.{DrawsBehind, IsProblemText, IsShown, IsTreeText, is_no_problem, problem_text};
 
+use crate::diagram::put_svg;
 use crate::drawing::put_certificate;
+use crate::form::Form;
+use crate::found::find;
 use crate::hints::put_hints;
 use crate::picture::put_picture;
 use crate::refusals::{put_fault, put_length, put_syntax};
@@ -32,34 +36,61 @@ fn put_problem(alloc: Global, out: &mut Vec<u8>, number: usize, line: &Line) -> 
 }
 
 /// Writes a problem, and the strategy behind it, behind the text.
-fn put_whole(
+fn put_drawn(
     alloc: Global,
     out: &mut Vec<u8>,
     number: usize,
     line: &Line,
     behind: &[u8],
 ) -> Result<(), NoMemory>
-    ensures { OnOk result ((text : List ℕ) × IsProblemText number line.now behind.now text × (out.new.items ≡ out.old.items ++ text)) }
+    ensures { OnOk result ((text : List ℕ) × IsProblemText Picture number line.now behind.now text × (out.new.items ≡ out.old.items ++ text)) }
 {
     put_problem(alloc, out, number, line)?;
     put_behind(alloc, out, line, behind)
+}
+
+/// Writes a problem, with the first turn of the strategy behind it, as a diagram behind the text.
+fn put_diagram(alloc: Global, out: &mut Vec<u8>, line: &Line, behind: &[u8]) -> Result<(), NoMemory>
+    ensures { (k : ℕ) → OnOk result ((text : List ℕ) × IsProblemText Diagram k line.now behind.now text
+        × (out.new.items ≡ out.old.items ++ text)) }
+{
+    let found = find(alloc, line.frame().size, behind)?;
+    put_svg(alloc, out, line, &found)
+}
+
+/// Writes the text on a problem, which these bytes follow, behind the text.
+fn put_whole(
+    alloc: Global,
+    out: &mut Vec<u8>,
+    form: Form,
+    number: usize,
+    line: &Line,
+    behind: &[u8],
+) -> Result<(), NoMemory>
+    ensures { OnOk result ((text : List ℕ) × IsProblemText form number line.now behind.now text × (out.new.items ≡ out.old.items ++ text)) }
+{
+    match form {
+        Form::Picture => put_drawn(alloc, out, number, line, behind),
+        Form::Diagram => put_diagram(alloc, out, line, behind),
+    }
 }
 
 /// Writes the text on a tree, which these bytes follow, behind the text, and says whether it was refused.
 fn put_tree(
     alloc: Global,
     out: &mut Vec<u8>,
+    form: Form,
     number: usize,
     main: MainLine,
     behind: &[u8],
 ) -> Result<bool, NoMemory>
-    ensures text { OnOk result ((text : List ℕ) × IsTreeText number main.nodes (problem_of main.nodes) behind.now text
+    ensures text { OnOk result ((text : List ℕ) × IsTreeText form number main.nodes (problem_of main.nodes) behind.now text
         × (out.new.items ≡ out.old.items ++ text)) }
     ensures refused { IfOk result (λ refused. refused ≡ is_no_problem (problem_of main.nodes)) }
 {
     match problem(alloc, &main) {
         Ok(line) => {
-            put_whole(alloc, out, number, &line, behind)?;
+            put_whole(alloc, out, form, number, &line, behind)?;
             Ok(false)
         }
         Err(GameFault::NoMemory) => Err(NoMemory),
@@ -78,8 +109,8 @@ fn status_of(refused: bool) -> u8
 }
 
 /// The text for an input, and the exit status: 1 where something is refused, else 0.
-pub fn show(alloc: Global, input: &[u8]) -> Result<(Vec<u8>, u8), NoMemory>
-    ensures { IfOk result (λ r. IsShown input.now r.0.items r.1) }
+pub fn show(alloc: Global, form: Form, input: &[u8]) -> Result<(Vec<u8>, u8), NoMemory>
+    ensures { IfOk result (λ r. IsShown form input.now r.0.items r.1) }
 {
     let mut out = Vec::new(alloc);
     let mut number = 1;
@@ -89,7 +120,7 @@ pub fn show(alloc: Global, input: &[u8]) -> Result<(Vec<u8>, u8), NoMemory>
         match read_tree(alloc, rest) {
             Ok((main, used)) => {
                 rest = &rest[used..];
-                refused |= put_tree(alloc, &mut out, number, main, rest)?;
+                refused |= put_tree(alloc, &mut out, form, number, main, rest)?;
                 number += 1;
             }
             Err(SgfFault::Syntax) => {

@@ -1,8 +1,4 @@
-use Rattle.std.proofs.Common.{rules}
-use Rattle.tsumego_show.proofs.Told.{problem_behind}
 use Rattle.tsumego_show.proofs.showing.put_whole.Goals as goal
 
-pub returns : goal.returns
-returns c =
-    problem_behind c.put_behind.result c.args.number c.args.line.now c.args.behind.now c.args.out.now.items c.put_problem.new.out.items c.put_behind.new.out.items
-    (search (rules, c.in_ok-put_problem.ensures)) c.put_behind.ensures
+pub returns-in-Diagram : goal.returns-in-Diagram
+returns-in-Diagram c = rw c.in-Diagram.is (c.put_diagram.ensures c.args.number)

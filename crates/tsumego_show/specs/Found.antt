@@ -1,0 +1,20 @@
+-- What stands behind a problem: a strategy, or none.
+use Rattle.std.specs.Prelude.{◌⊎◌, List, ℕ}
+use Rattle.tt_sgf.specs.declared.size.Size.{Size}
+use Rattle.tt_sgf.specs.Grammar.{HasOpen}
+use Rattle.tt_sgf.specs.Values.{trimmed}
+use Rattle.tt_game.specs.declared.frame.Side.{Side}
+use Rattle.tt_proof.specs.CertificateText.{IsCertificate, IsTooDeep}
+use Rattle.tt_proof.specs.Strategy.{Strategy}
+
+pub data Found : Type 0 where
+  no_strategy : Found
+  found : Side → Strategy → Found
+
+-- no tree may follow, and the bytes, without the white space at both ends, are a certificate of this side and strategy; or there
+-- is no such strategy
+abbrev pub IsFound : Size → List ℕ → Found → Type 0
+IsFound size bytes no_strategy =
+    HasOpen bytes ⊎ (IsTooDeep size (trimmed bytes) ⊎ ((side : Side) (u : Strategy) → IsCertificate size (trimmed bytes) side u → ⊥))
+IsFound size bytes (found side u) =
+    (HasOpen bytes → ⊥) × IsCertificate size (trimmed bytes) side u × (IsTooDeep size (trimmed bytes) → ⊥)

@@ -1,0 +1,537 @@
+//! The diagram of a problem as SVG.
+ghost use Rattle.std.specs.Prelude.{◌≡◌, ◌++◌, ◌<◌, ◌≤◌, OnOk, Some};
+ghost use Rattle.std.specs.List.{flat_map, range_with_len};
+ghost use Rattle.tt_sgf.specs.Sizes.{point_count};
+ghost use Rattle.tt_board.specs.Reach.{entry_at};
+ghost use Rattle.tsumego_show.specs.inside.Trees.{found_of};
+ghost use Rattle.tsumego_show.specs.inside.Windows.{IsWindow};
+ghost use Rattle.tsumego_show.specs.Diagram.{bottom_end, cell_shapes, column_shapes, column_stroke, columns_shown, digit_text, entry_text, numbered_text, first_turn, further, has_square, ink, is_play_on};
+ghost use Rattle.tsumego_show.specs.Diagram.{mark_ground, mark_ink, mark_text, number_end, number_head, number_text, point_shapes, points_shapes, right_end, row_shapes, row_stroke, rows_shown, square_text, stone_head, stone_text};
+ghost use Rattle.tsumego_show.specs.Diagram.{svg_head, svg_text, triangle_head, triangle_text};
+
+use crate::marks::{is_inside, is_target, point_numbered};
+use crate::picture::{colour_of, column_letter};
+use crate::windows::{Window, number_at, window_of};
+use std::alloc::Global;
+use tt_board::Colour;
+use tt_game::{Line, Side, Turn};
+use tt_proof::Tree;
+use tt_sgf::{NoMemory, Size};
+
+/// The word for a colour.
+fn ink(colour: Colour) -> &'static [u8]
+    ensures { result.now ≡ ink colour }
+{
+    match colour {
+        Colour::Black => b"black",
+        Colour::White => b"white",
+    }
+}
+
+/// The ink of a mark on this entry.
+fn mark_ink(entry: Option<Colour>) -> &'static [u8]
+    ensures { result.now ≡ mark_ink entry }
+{
+    match entry {
+        None => ink(Colour::Black),
+        Some(colour) => ink(colour.other()),
+    }
+}
+
+/// What is behind a mark on this entry.
+fn mark_ground(entry: Option<Colour>) -> &'static [u8]
+    ensures { result.now ≡ mark_ground entry }
+{
+    match entry {
+        None => b"white",
+        Some(_) => b"none",
+    }
+}
+
+/// Writes the beginning of a stone behind the text.
+#[tactic(auto, unfolding(crate::specs::Diagram::stone_head))]
+fn put_stone_head(alloc: Global, out: &mut Vec<u8>, x: usize, y: usize) -> Result<(), NoMemory>
+    ensures { OnOk result (out.new.items ≡ out.old.items ++ stone_head x y) }
+{
+    let text = format!(in alloc; "<circle cx='{x}' cy='{y}' r='11' stroke='black' fill='")?;
+    out.extend_from_slice(text.as_bytes())?;
+    Ok(())
+}
+
+/// Writes a stone behind the text.
+#[tactic(auto, unfolding(crate::specs::Diagram::stone_text))]
+fn put_stone(
+    alloc: Global,
+    out: &mut Vec<u8>,
+    x: usize,
+    y: usize,
+    colour: Colour,
+) -> Result<(), NoMemory>
+    ensures { OnOk result (out.new.items ≡ out.old.items ++ stone_text x y colour) }
+{
+    put_stone_head(alloc, out, x, y)?;
+    out.extend_from_slice(ink(colour))?;
+    out.extend_from_slice(b"'/>\n")?;
+    Ok(())
+}
+
+/// Writes the beginning of a triangle behind the text.
+#[tactic(auto, unfolding(crate::specs::Diagram::triangle_head))]
+fn put_triangle_head(alloc: Global, out: &mut Vec<u8>, x: usize, top: usize) -> Result<(), NoMemory>
+    ensures { OnOk result (out.new.items ≡ out.old.items ++ triangle_head x top) }
+{
+    let text = format!(in alloc;
+        "<path d='M{x} {top}l6 11h-12z' stroke-width='1.5' fill='none' stroke='"
+    )?;
+    out.extend_from_slice(text.as_bytes())?;
+    Ok(())
+}
+
+/// Writes a triangle behind the text.
+fn put_triangle(
+    alloc: Global,
+    out: &mut Vec<u8>,
+    x: usize,
+    y: usize,
+    entry: Option<Colour>,
+) -> Result<(), NoMemory>
+    requires { 7 ≤ y }
+    ensures { OnOk result (out.new.items ≡ out.old.items ++ triangle_text x y entry) }
+{
+    put_triangle_head(alloc, out, x, y - 7)?;
+    out.extend_from_slice(mark_ink(entry))?;
+    out.extend_from_slice(b"'/>\n")?;
+    Ok(())
+}
+
+/// Writes a square behind the text.
+fn put_square(
+    alloc: Global,
+    out: &mut Vec<u8>,
+    x: usize,
+    y: usize,
+    entry: Option<Colour>,
+) -> Result<(), NoMemory>
+    requires x { 4 ≤ x }
+    requires y { 4 ≤ y }
+    ensures { OnOk result (out.new.items ≡ out.old.items ++ square_text x y entry) }
+{
+    let left = x - 4;
+    let top = y - 4;
+    let text = format!(in alloc; "<rect x='{left}' y='{top}' width='8' height='8' fill='")?;
+    out.extend_from_slice(text.as_bytes())?;
+    out.extend_from_slice(mark_ground(entry))?;
+    out.extend_from_slice(b"' stroke='")?;
+    out.extend_from_slice(mark_ink(entry))?;
+    out.extend_from_slice(b"'/>\n")?;
+    Ok(())
+}
+
+/// Writes the beginning of a number behind the text.
+#[tactic(auto, unfolding(crate::specs::Diagram::number_head))]
+fn put_number_head(alloc: Global, out: &mut Vec<u8>, x: usize, below: usize) -> Result<(), NoMemory>
+    ensures { OnOk result (out.new.items ≡ out.old.items ++ number_head x below) }
+{
+    let text = format!(in alloc; "<text x='{x}' y='{below}' font-size='14' fill='")?;
+    out.extend_from_slice(text.as_bytes())?;
+    Ok(())
+}
+
+/// Writes the end of the number 1 behind the text.
+#[tactic(auto, unfolding(crate::specs::Diagram::number_end))]
+fn put_number_end(out: &mut Vec<u8>) -> Result<(), NoMemory>
+    ensures { OnOk result (out.new.items ≡ out.old.items ++ number_end) }
+{
+    out.extend_from_slice(b"'>1</text>\n")?;
+    Ok(())
+}
+
+/// Writes the number 1 on a stone behind the text.
+#[tactic(auto, unfolding(crate::specs::Diagram::digit_text))]
+fn put_digit(
+    alloc: Global,
+    out: &mut Vec<u8>,
+    x: usize,
+    below: usize,
+    colour: Colour,
+) -> Result<(), NoMemory>
+    ensures { OnOk result (out.new.items ≡ out.old.items ++ digit_text x below colour) }
+{
+    let word = mark_ink(Some(colour));
+    put_number_head(alloc, out, x, below)?;
+    out.extend_from_slice(word)?;
+    put_number_end(out)
+}
+
+/// Writes a stone with the number 1 behind the text.
+fn put_number(
+    alloc: Global,
+    out: &mut Vec<u8>,
+    x: usize,
+    y: usize,
+    colour: Colour,
+) -> Result<(), NoMemory>
+    requires { y ≤ 1000 }
+    ensures { OnOk result (out.new.items ≡ out.old.items ++ number_text x y colour) }
+{
+    put_stone(alloc, out, x, y, colour)?;
+    put_digit(alloc, out, x, y + 5, colour)
+}
+
+/// Whether a turn is a play on the point of this number.
+fn is_on(turn: Turn, number: usize) -> bool
+    ensures { result ≡ is_play_on (Some turn) number }
+{
+    match turn {
+        Turn::Pass => false,
+        Turn::Play(point) => usize::from(point.number()) == number,
+    }
+}
+
+/// Whether there is a turn, and it is a play on the point of this number.
+fn is_play_on(first: &Option<Turn>, number: usize) -> bool
+    ensures { result ≡ is_play_on first.now number }
+{
+    match first {
+        None => false,
+        Some(turn) => is_on(*turn, number),
+    }
+}
+
+/// Whether a square is drawn on the point of this number.
+fn has_square(line: &Line, first: &Option<Turn>, number: usize) -> bool
+    requires { number < point_count line.now.frame.size }
+    ensures { result ≡ has_square line.now first.now number }
+{
+    let is_whole = usize::from(line.frame().region.count()) == line.frame().size.point_count();
+    is_inside(line, number) && (!is_play_on(first, number) && !is_whole)
+}
+
+/// What stands on the point of this number.
+fn entry(line: &Line, number: usize) -> Option<Colour>
+    requires { number < point_count line.now.frame.size }
+    ensures { result ≡ entry_at line.now.state.present number }
+{
+    line.present().at(point_numbered(line.frame().size, number))
+}
+
+/// Writes the stone on a point behind the text, where one is.
+fn put_entry(
+    alloc: Global,
+    out: &mut Vec<u8>,
+    x: usize,
+    y: usize,
+    entry: Option<Colour>,
+) -> Result<(), NoMemory>
+    ensures { OnOk result (out.new.items ≡ out.old.items ++ entry_text x y entry) }
+{
+    match entry {
+        None => Ok(()),
+        Some(colour) => put_stone(alloc, out, x, y, colour),
+    }
+}
+
+/// Writes the mark on a point behind the text, where one is.
+fn put_mark(
+    alloc: Global,
+    out: &mut Vec<u8>,
+    line: &Line,
+    first: &Option<Turn>,
+    x: usize,
+    y: usize,
+    number: usize,
+) -> Result<(), NoMemory>
+    requires x { 36 ≤ x }
+    requires y { 36 ≤ y }
+    requires on_board { number < point_count line.now.frame.size }
+    ensures { OnOk result (out.new.items ≡ out.old.items ++ mark_text line.now first.now x y number) }
+{
+    if is_target(line, number) {
+        return put_triangle(alloc, out, x, y, entry(line, number));
+    }
+    if has_square(line, first, number) {
+        return put_square(alloc, out, x, y, entry(line, number));
+    }
+    Ok(())
+}
+
+/// Writes the number on a point behind the text, where the first turn is a play on it.
+fn put_first(
+    alloc: Global,
+    out: &mut Vec<u8>,
+    line: &Line,
+    first: &Option<Turn>,
+    x: usize,
+    y: usize,
+    number: usize,
+) -> Result<(), NoMemory>
+    requires { y ≤ 1000 }
+    ensures { OnOk result (out.new.items ≡ out.old.items ++ numbered_text line.now first.now x y number) }
+{
+    if is_play_on(first, number) {
+        return put_number(alloc, out, x, y, colour_of(line, line.to_move()));
+    }
+    Ok(())
+}
+
+/// Writes the shapes on a point behind the text.
+#[tactic(auto, unfolding(crate::specs::Diagram::point_shapes))]
+fn put_point(
+    alloc: Global,
+    out: &mut Vec<u8>,
+    line: &Line,
+    first: &Option<Turn>,
+    x: usize,
+    y: usize,
+    number: usize,
+) -> Result<(), NoMemory>
+    requires x { 36 ≤ x }
+    requires y { (36 ≤ y) × (y ≤ 1000) }
+    requires on_board { number < point_count line.now.frame.size }
+    ensures { OnOk result (out.new.items ≡ out.old.items ++ point_shapes line.now first.now x y number) }
+{
+    put_entry(alloc, out, x, y, entry(line, number))?;
+    put_mark(alloc, out, line, first, x, y, number)?;
+    put_first(alloc, out, line, first, x, y, number)
+}
+
+/// Half a cell, where the board goes on.
+fn further(goes_on: bool) -> usize
+    ensures { result ≡ further goes_on }
+{
+    if goes_on { 12 } else { 0 }
+}
+
+/// Writes the line of a column, and the beginning of its letter, behind the text.
+#[tactic(auto, unfolding(crate::specs::Diagram::column_stroke))]
+fn put_column_stroke(
+    alloc: Global,
+    out: &mut Vec<u8>,
+    x: usize,
+    top: usize,
+    bottom: usize,
+) -> Result<(), NoMemory>
+    ensures { OnOk result (out.new.items ≡ out.old.items ++ column_stroke x top bottom) }
+{
+    let text = format!(in alloc;
+        "<path d='M{x} {top}V{bottom}' stroke='black'/>\n<text x='{x}' y='17'>"
+    )?;
+    out.extend_from_slice(text.as_bytes())?;
+    Ok(())
+}
+
+/// Where the lines of the columns end.
+fn bottom_end(size: Size, w: Window) -> usize
+    requires { IsWindow size w }
+    ensures { result ≡ bottom_end size w }
+{
+    24 * (w.bottom - w.top) + 36 + further(w.bottom + 1 < usize::from(size.rows()))
+}
+
+/// Where the lines of the rows end.
+fn right_end(size: Size, w: Window) -> usize
+    requires { IsWindow size w }
+    ensures { result ≡ right_end size w }
+{
+    24 * (w.right - w.left) + 36 + further(w.right + 1 < usize::from(size.columns()))
+}
+
+/// Writes the line and the letter of a column behind the text.
+#[tactic(auto, unfolding(crate::specs::Diagram::column_shapes))]
+fn put_column(
+    alloc: Global,
+    out: &mut Vec<u8>,
+    size: Size,
+    w: Window,
+    i: usize,
+) -> Result<(), NoMemory>
+    requires window { IsWindow size w }
+    requires within { i < columns_shown w }
+    ensures { OnOk result (out.new.items ≡ out.old.items ++ column_shapes size w i) }
+{
+    put_column_stroke(
+        alloc,
+        out,
+        24 * i + 36,
+        36 - further(0 < w.top),
+        bottom_end(size, w),
+    )?;
+    out.push(column_letter((w.left + i) as u16))?;
+    out.extend_from_slice(b"</text>\n")?;
+    Ok(())
+}
+
+/// Writes the line of a row and its number behind the text.
+#[tactic(auto, unfolding(crate::specs::Diagram::row_stroke))]
+fn put_row_stroke(
+    alloc: Global,
+    out: &mut Vec<u8>,
+    left: usize,
+    y: usize,
+    right: usize,
+    below: usize,
+    number: usize,
+) -> Result<(), NoMemory>
+    ensures { OnOk result (out.new.items ≡ out.old.items ++ row_stroke left y right below number) }
+{
+    let text = format!(in alloc;
+        "<path d='M{left} {y}H{right}' stroke='black'/>\n<text x='12' y='{below}'>{number}</text>\n"
+    )?;
+    out.extend_from_slice(text.as_bytes())?;
+    Ok(())
+}
+
+/// Writes the line and the number of a row behind the text.
+#[tactic(auto, unfolding(crate::specs::Diagram::row_shapes))]
+fn put_row(
+    alloc: Global,
+    out: &mut Vec<u8>,
+    size: Size,
+    w: Window,
+    j: usize,
+) -> Result<(), NoMemory>
+    requires window { IsWindow size w }
+    requires within { j < rows_shown w }
+    ensures { OnOk result (out.new.items ≡ out.old.items ++ row_shapes size w j) }
+{
+    let y = 24 * j + 36;
+    let number = usize::from(size.rows()) - (w.top + j);
+    put_row_stroke(
+        alloc,
+        out,
+        36 - further(0 < w.left),
+        y,
+        right_end(size, w),
+        y + 4,
+        number,
+    )
+}
+
+/// Writes the shapes on the point of a row and a column of the window behind the text.
+#[tactic(auto, unfolding(crate::specs::Diagram::cell_shapes))]
+fn put_cell(
+    alloc: Global,
+    out: &mut Vec<u8>,
+    line: &Line,
+    first: &Option<Turn>,
+    w: Window,
+    j: usize,
+    i: usize,
+) -> Result<(), NoMemory>
+    requires window { IsWindow line.now.frame.size w }
+    requires row { j < rows_shown w }
+    requires column { i < columns_shown w }
+    ensures { OnOk result (out.new.items ≡ out.old.items ++ cell_shapes line.now first.now w j i) }
+{
+    let number = number_at(line.frame().size, w.top + j, w.left + i);
+    put_point(alloc, out, line, first, 24 * i + 36, 24 * j + 36, number)
+}
+
+/// Writes the shapes on the points of a row of the window behind the text.
+#[tactic(auto, using(crate::proofs::Texts::next_text))]
+fn put_points(
+    alloc: Global,
+    out: &mut Vec<u8>,
+    line: &Line,
+    first: &Option<Turn>,
+    w: Window,
+    j: usize,
+) -> Result<(), NoMemory>
+    requires window { IsWindow line.now.frame.size w }
+    requires row { j < rows_shown w }
+    ensures { OnOk result (out.new.items ≡ out.old.items ++ points_shapes line.now first.now w j) }
+{
+    for i in 0..w.right + 1 - w.left {
+        put_cell(alloc, out, line, first, w, j, i)?;
+    }
+    Ok(())
+}
+
+/// Writes the lines and letters of the columns behind the text.
+#[tactic(auto, using(crate::proofs::Texts::next_text))]
+fn put_columns(alloc: Global, out: &mut Vec<u8>, size: Size, w: Window) -> Result<(), NoMemory>
+    requires window { IsWindow size w }
+    ensures { OnOk result (out.new.items ≡ out.old.items ++ flat_map (column_shapes size w) (range_with_len 0 (columns_shown w))) }
+{
+    for i in 0..w.right + 1 - w.left {
+        put_column(alloc, out, size, w, i)?;
+    }
+    Ok(())
+}
+
+/// Writes the lines and numbers of the rows behind the text.
+#[tactic(auto, using(crate::proofs::Texts::next_text))]
+fn put_rows(alloc: Global, out: &mut Vec<u8>, size: Size, w: Window) -> Result<(), NoMemory>
+    requires window { IsWindow size w }
+    ensures { OnOk result (out.new.items ≡ out.old.items ++ flat_map (row_shapes size w) (range_with_len 0 (rows_shown w))) }
+{
+    for j in 0..w.bottom + 1 - w.top {
+        put_row(alloc, out, size, w, j)?;
+    }
+    Ok(())
+}
+
+/// Writes the shapes on the points of the window behind the text.
+#[tactic(auto, using(crate::proofs::Texts::next_text))]
+fn put_all_points(
+    alloc: Global,
+    out: &mut Vec<u8>,
+    line: &Line,
+    first: &Option<Turn>,
+    w: Window,
+) -> Result<(), NoMemory>
+    requires window { IsWindow line.now.frame.size w }
+    ensures { OnOk result (out.new.items ≡ out.old.items ++ flat_map (points_shapes line.now first.now w) (range_with_len 0 (rows_shown w))) }
+{
+    for j in 0..w.bottom + 1 - w.top {
+        put_points(alloc, out, line, first, w, j)?;
+    }
+    Ok(())
+}
+
+/// Writes the beginning of the document behind the text.
+#[tactic(auto, unfolding(crate::specs::Diagram::svg_head))]
+fn put_head(alloc: Global, out: &mut Vec<u8>, size: Size, w: Window) -> Result<(), NoMemory>
+    requires window { IsWindow size w }
+    ensures { OnOk result (out.new.items ≡ out.old.items ++ svg_head w) }
+{
+    let width = 24 * (w.right - w.left) + 60;
+    let height = 24 * (w.bottom - w.top) + 60;
+    let text = format!(in alloc;
+        "<svg xmlns='http://www.w3.org/2000/svg' width='{width}' height='{height}' font-family='sans-serif' font-size='11' text-anchor='middle'>\n<rect width='{width}' height='{height}' fill='white'/>\n"
+    )?;
+    out.extend_from_slice(text.as_bytes())?;
+    Ok(())
+}
+
+/// The first turn of the strategy that was found.
+fn first_turn(found: &Option<(Side, Tree)>) -> Option<Turn>
+    ensures { result ≡ first_turn (found_of found.now) }
+{
+    match found {
+        None => None,
+        Some((_, tree)) => tree.first(),
+    }
+}
+
+/// Writes the diagram of the problem at a line as SVG behind the text: what matters of the board, with the coordinates of editors,
+/// the targets and the region marked, and the first turn of the strategy that was found as a stone with the number 1.
+/// `NoMemory` where memory was refused; a part may stand there then.
+pub fn put_svg(
+    alloc: Global,
+    out: &mut Vec<u8>,
+    line: &Line,
+    found: &Option<(Side, Tree)>,
+) -> Result<(), NoMemory>
+    ensures { OnOk result (out.new.items ≡ out.old.items ++ svg_text line.now (found_of found.now)) }
+{
+    let size = line.frame().size;
+    let w = window_of(line);
+    put_head(alloc, out, size, w)?;
+    put_columns(alloc, out, size, w)?;
+    put_rows(alloc, out, size, w)?;
+    let first = first_turn(found);
+    put_all_points(alloc, out, line, &first, w)?;
+    out.extend_from_slice(b"</svg>\n")?;
+    Ok(())
+}
