@@ -40,14 +40,14 @@ returns-in-Err-Syntax-clause-written g c =
     let goes : (c.loop-number.number ≡ 1) ⊎ HasOpen c.loop-number.rest.now =
     elim c.if-number-eq1.branch [ then-number-eq1 w ↦ inl w.if-number-eq1.true | else-number-eq1+then-has_tree w ↦ inr (search (rules, w.if-has_tree.true)) ] in
     let none = c.in-Err-Syntax.ensures.syntax (search rules) in
-    progress_stopped c.loop-number.invariant.progress _ c.refuse.result goes none.0 none.1 c.refuse.ensures.status c.refuse.ensures.written
+    progress_stopped c.loop-number.invariant.progress _ c.refuse.result goes none.0 none.1 c.refuse.ensures.status (rw c.code.ensures at c.refuse.ensures.written)
 
 pub returns-in-Err-TooLong-clause-written : goal.returns-in-Err-TooLong-clause-written
 returns-in-Err-TooLong-clause-written g c =
     let goes : (c.loop-number.number ≡ 1) ⊎ HasOpen c.loop-number.rest.now =
     elim c.if-number-eq1.branch [ then-number-eq1 w ↦ inl w.if-number-eq1.true | else-number-eq1+then-has_tree w ↦ inr (search (rules, w.if-has_tree.true)) ] in
     progress_long c.loop-number.invariant.progress _ goes c.refuse-in-Err-TooLong.result (c.in-Err-TooLong.ensures.too_long.0 (search rules)) c.loop-number.invariant.bound
-    c.refuse-in-Err-TooLong.ensures.status c.refuse-in-Err-TooLong.ensures.written
+    c.refuse-in-Err-TooLong.ensures.status (rw c.code-in-Err-TooLong.ensures at c.refuse-in-Err-TooLong.ensures.written)
 
 pub returns-in-Err-NoMemory-clause-written : goal.returns-in-Err-NoMemory-clause-written
 returns-in-Err-NoMemory-clause-written g c =

@@ -1,6 +1,7 @@
-use Rattle.std.proofs.Common.{rules}
+use Rattle.std.proofs.Common.{rules, sym, subst}
 use Rattle.std.proofs.lemmas.Result.{IfOk-weaker}
-use Rattle.tsumego.specs.Checking.{no_tree, too_long}
+use Rattle.tsumego.specs.Checking.{Finds, no_tree, too_long}
+use Rattle.tsumego.specs.declared.finding.Finding.TheVariants.{Refused}
 use Rattle.tsumego.proofs.Checks.{found_behind}
 use Rattle.tsumego.proofs.finding.find.Goals as goal
 
@@ -11,7 +12,10 @@ returns-in-Ok c =
     c.in-Ok.ensures.within.2 found.1 found.2 c.trim.ensures h) c.find_on.ensures
 
 pub returns-in-Err-Syntax : goal.returns-in-Err-Syntax
-returns-in-Err-Syntax c = let none = c.in-Err-Syntax.ensures.syntax (search rules) in no_tree none.0 none.1
+returns-in-Err-Syntax c =
+    let none = c.in-Err-Syntax.ensures.syntax (search rules) in
+    subst (λ k. Finds c.args.parts c.args.input.now (Refused k)) (sym c.code.ensures) (no_tree none.0 none.1)
 
 pub returns-in-Err-TooLong : goal.returns-in-Err-TooLong
-returns-in-Err-TooLong c = too_long (c.in-Err-TooLong.ensures.too_long.0 (search rules))
+returns-in-Err-TooLong c =
+    subst (λ k. Finds c.args.parts c.args.input.now (Refused k)) (sym c.code-in-Err-TooLong.ensures) (too_long (c.in-Err-TooLong.ensures.too_long.0 (search rules)))

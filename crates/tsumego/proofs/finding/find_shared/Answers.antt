@@ -1,6 +1,7 @@
 use Rattle.std.proofs.Common.{rules, subst}
 use Rattle.tt_game.specs.declared.frame.Frame.{Frame}
 use Rattle.tt_proof.specs.Outlines.{outline_of, IsOrderly}
+use Rattle.tsumego.specs.Checking.{unread, goes_deep}
 use Rattle.tsumego.proofs.Checks.{shared_loses_at, shared_wins_at, unfit_at}
 use Rattle.tsumego.proofs.finding.find_shared.Goals as goal
 
@@ -20,3 +21,9 @@ returns-in-Ok-Some-false c =
 pub returns-in-Ok-None : goal.returns-in-Ok-None
 returns-in-Ok-None c =
     unfit_at c.args.line.now c.frame.result.now c.args.certificate.now c.frame.ensures.value c.in-Ok.side (outline_of c.in-Ok.outline) c.in-Ok.ensures
+
+pub returns-in-Err-Syntax : goal.returns-in-Err-Syntax
+returns-in-Err-Syntax c = unread
+
+pub returns-in-Err-TooDeep : goal.returns-in-Err-TooDeep
+returns-in-Err-TooDeep c = goes_deep
