@@ -1,4 +1,4 @@
-//! Solving a problem in this thread, by df-pn or else by a search, and its certificate.
+//! Solving a problem in this thread, and its certificate.
 
 ghost use Rattle.std.specs.Prelude.{◌≡◌, IfOk, IfSome, IsTrue};
 ghost use Rattle.std.specs.Arc.{arc_value};
@@ -8,28 +8,14 @@ ghost use Rattle.library.specs.Winning.{IsWinning};
 
 use std::alloc::Global;
 use std::sync::Arc;
-use tt_dfpn::{Visits, find_proof};
 use tt_game::Line;
 use tt_proof::{CertFault, MOST_DEPTH, Proof, read_cert, replay, write_cert};
 use tt_search::{Limits, PrivateStore};
 use tt_sgf::NoMemory;
 use tt_share::{Answer, solve_one};
 
-/// How many positions df-pn may visit.
-const POSITIONS: u32 = 100_000;
-
 /// How many nodes may be expanded behind each first turn.
 const BUDGET: u32 = 100_000;
-
-/// A proof that df-pn finds at the line.
-fn found(alloc: Global, line: &Line) -> Option<Arc<Proof>>
-    ensures { IfSome result (λ proof. StandsAt (arc_value proof) line.now.frame line.now.state) }
-{
-    let mut copy = line.try_clone().ok()?;
-    let mut visits = Visits { left: POSITIONS };
-    let proof = find_proof(alloc, &mut copy, MOST_DEPTH, &mut visits).ok()??;
-    Arc::new(alloc, proof).ok()
-}
 
 /// A proof that stands at the line, where the limits and memory suffice for one and nobody has won yet.
 pub fn proof_at(alloc: Global, line: &Line) -> Option<Arc<Proof>>
@@ -37,10 +23,6 @@ pub fn proof_at(alloc: Global, line: &Line) -> Option<Arc<Proof>>
 {
     if line.winner().is_some() {
         return None;
-    }
-    let known = found(alloc, line);
-    if known.is_some() {
-        return known;
     }
     let Some(limits) = Limits::new(BUDGET, MOST_DEPTH) else {
         unreachable!();
