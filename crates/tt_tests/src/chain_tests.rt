@@ -185,7 +185,7 @@ fn done(before: &Board, colour: Colour, p: Point, after: &Board) -> Most {
     }
 }
 
-/// Whether a counted board says of a play of a colour what the plain one does, which walks chains and counts nothing.
+/// Whether a counted board says of a play of a colour what the board does, whose chains are counted anew.
 fn says(counted: &CountedBoard, board: &Board, colour: Colour, p: Point) -> bool
     requires same { counted.now ≡ board.now }
     requires on_board { p < point_count board.now.size }
@@ -233,14 +233,15 @@ impl Counted {
         let asked = self.played.after(colour, p);
         self.above.become_after(&self.played, colour, p);
         self.played.play(colour, p);
-        if asked.same(&next) && counts(&self.played, &next) && counts(&self.above, &next) {
+        if asked.same(&next) && self.played.board().same(&next) && self.above.board().same(&next) {
             return Some(next);
         }
         None
     }
 }
 
-/// What the plays of a game do at the most; none where a counted board isn't the plain one after some turn.
+/// What the plays of a game do at the most; none where a counted board isn't the plain one after some turn, or says at the end of
+/// some play what another doesn't.
 fn played(size: Size, turns: &[u8]) -> Option<Most> {
     let mut board = Board::empty(size);
     let mut counted = Counted {
@@ -261,7 +262,7 @@ fn played(size: Size, turns: &[u8]) -> Option<Most> {
         }
         colour = colour.other();
     }
-    if !counts(&CountedBoard::of(&board), &board) {
+    if !counts(&counted.played, &board) || !counts(&counted.above, &board) {
         return None;
     }
     Some(most)
