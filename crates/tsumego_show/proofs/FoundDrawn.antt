@@ -5,10 +5,10 @@ use Rattle.tt_game.specs.declared.frame.Frame.{Frame}
 use Rattle.tt_game.specs.Line.{Standing}
 use Rattle.tsumego_show.specs.declared.form.Form.TheVariants.{Diagram}
 use Rattle.tsumego_show.specs.Diagram.{svg_text}
-use Rattle.tsumego_show.specs.Found.{Found, IsFound}
+use Rattle.tsumego_show.specs.Found.{Found, StandsBehind}
 use Rattle.tsumego_show.specs.Shown.{IsProblemText}
 
-pub found_drawn : {A E : Type 0} (r : Result A E) (p : Standing) (f : Frame) (behind old new : List ℕ) (b : Found) → f ≡ p.frame → IsFound f.size behind b
+pub found_drawn : {A E : Type 0} (r : Result A E) (p : Standing) (f : Frame) (behind old new : List ℕ) (b : Found) → f ≡ p.frame → StandsBehind f.size behind b
     → OnOk r (new ≡ old ++ svg_text p b) → (k : ℕ) → OnOk r ((x : List ℕ) × IsProblemText Diagram k p behind x × (new ≡ old ++ x))
-found_drawn (Ok y) p f behind old new b same h w k = (svg_text p b, (b, subst (λ (g : Frame). IsFound g.size behind b) same h, refl), w)
+found_drawn (Ok y) p f behind old new b same h w k = (svg_text p b, (b, subst (λ (g : Frame). StandsBehind g.size behind b) same h, refl), w)
 found_drawn (Err y) p f behind old new b same h w k = w

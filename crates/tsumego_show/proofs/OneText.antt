@@ -17,7 +17,7 @@ use Rattle.tt_sgf.specs.declared.size.Size.{Size}
 use Rattle.tsumego_show.specs.declared.form.Form.{Form}
 use Rattle.tsumego_show.specs.declared.form.Form.TheVariants.{Picture, Diagram}
 use Rattle.tsumego_show.specs.Diagram.{svg_text}
-use Rattle.tsumego_show.specs.Found.{Found, IsFound, no_strategy, found}
+use Rattle.tsumego_show.specs.Found.{Found, StandsBehind, no_strategy, found}
 use Rattle.tsumego_show.specs.Shown.{DrawsBehind, IsShown, IsInputText, IsProblemText, IsTreeText, Tells, ended, is_no_problem, last_tree, more_trees, problem_text, stopped, too_long, tree, trees}
 
 module _ (one : OneCertificate) where
@@ -51,7 +51,7 @@ module _ (one : OneCertificate) where
   behind_same p behind s t (last_tree s' none d) (last_tree t' never e) = drawn_same p (trimmed behind) s' t' d e
 
   -- so has the strategy that is found there
-  found_same : (size : Size) (bytes : List ℕ) (a b : Found) → IsFound size bytes a → IsFound size bytes b → a ≡ b
+  found_same : (size : Size) (bytes : List ℕ) (a b : Found) → StandsBehind size bytes a → StandsBehind size bytes b → a ≡ b
   found_same size bytes no_strategy no_strategy x y = refl
   found_same size bytes no_strategy (found side u) (inl opens) y = absurd (y.0 opens)
   found_same size bytes no_strategy (found side u) (inr (inl deep)) y = absurd (y.2 deep)
@@ -78,7 +78,7 @@ module _ (one : OneCertificate) where
         let same = reading bytes n m g h spells spells' in
         let its : IsTreeText form k (main_line h) (problem_of (main_line h)) (drop m bytes) x =
         subst (λ (q : GameTree). IsTreeText form k (main_line q) (problem_of (main_line q)) (drop m bytes) x) same.1
-          (subst (λ q. IsTreeText form k (main_line g) (problem_of (main_line g)) (drop q bytes) x) same.0 is) in
+        (subst (λ q. IsTreeText form k (main_line g) (problem_of (main_line g)) (drop q bytes) x) same.0 is) in
         let go = told_same form whole (k + 1) (drop m bytes) more more' refused refused' (subst (λ q. Tells form whole (k + 1) (drop q bytes) more refused) same.0 rest) rest' in (
           ap₂ (λ (q w : List ℕ). q ++ w) (tree_text_same form k (main_line h) (problem_of (main_line h)) (drop m bytes) x y its is') go.0,
           ap₂ (λ (q : GameTree) (w : Bool). is_no_problem (problem_of (main_line q)) || w) same.1 go.1,

@@ -49,7 +49,7 @@ tree_more form input k rest text refused used t nodes text' bad far s same w b =
     let flag : (refused || (is_no_problem (problem_of (main_line t)) || other)) ≡ ((refused || bad) || other) =
     ap (λ (x : Bool). refused || (x || other)) its ∙ sym (or_assoc refused bad other) in
     subst (λ (x : Bool). Tells form (length input) 1 input (text' ++ more) x) flag
-      (subst (λ (x : List ℕ). Tells form (length input) 1 input x (refused || (is_no_problem (problem_of (main_line t)) || other))) words (far _ _ one))
+    (subst (λ (x : List ℕ). Tells form (length input) 1 input x (refused || (is_no_problem (problem_of (main_line t)) || other))) words (far _ _ one))
 
 -- what is read and told so far; an input with a tree is not too long
 pub record Progress (form : Form) (input rest text : List ℕ) (k : ℕ) (refused : Bool) : Type 0 where

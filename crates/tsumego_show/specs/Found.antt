@@ -13,8 +13,8 @@ pub data Found : Type 0 where
 
 -- no tree may follow, and the bytes, without the white space at both ends, are a certificate of this side and strategy; or there
 -- is no such strategy
-abbrev pub IsFound : Size → List ℕ → Found → Type 0
-IsFound size bytes no_strategy =
+abbrev pub StandsBehind : Size → List ℕ → Found → Type 0
+StandsBehind size bytes no_strategy =
     HasOpen bytes ⊎ (IsTooDeep size (trimmed bytes) ⊎ ((side : Side) (u : Strategy) → IsCertificate size (trimmed bytes) side u → ⊥))
-IsFound size bytes (found side u) =
+StandsBehind size bytes (found side u) =
     (HasOpen bytes → ⊥) × IsCertificate size (trimmed bytes) side u × (IsTooDeep size (trimmed bytes) → ⊥)

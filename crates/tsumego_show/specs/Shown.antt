@@ -13,7 +13,7 @@ use Rattle.tsumego_show.specs.declared.form.Form.{Form}
 use Rattle.tsumego_show.specs.declared.form.Form.TheVariants.{Picture, Diagram}
 use Rattle.tsumego_show.specs.Diagram.{svg_text}
 use Rattle.tsumego_show.specs.Drawing.{DrawsCertificate}
-use Rattle.tsumego_show.specs.Found.{Found, IsFound}
+use Rattle.tsumego_show.specs.Found.{Found, StandsBehind}
 use Rattle.tsumego_show.specs.Hints.{hints}
 use Rattle.tsumego_show.specs.Picture.{picture}
 use Rattle.tsumego_show.specs.Refusals.{fault_text, length_text, syntax_text}
@@ -32,7 +32,7 @@ problem_text k p = decimal k ++ (space ∷ (picture p ++ hints p))
 -- or the diagram with the strategy that stands there
 abbrev pub IsProblemText : Form → ℕ → Standing → List ℕ → List ℕ → Type 0
 IsProblemText Picture k p behind text = (drawn : List ℕ) × DrawsBehind p behind drawn × (text ≡ problem_text k p ++ drawn)
-IsProblemText Diagram k p behind text = (b : Found) × IsFound p.frame.size behind b × (text ≡ svg_text p b)
+IsProblemText Diagram k p behind text = (b : Found) × StandsBehind p.frame.size behind b × (text ≡ svg_text p b)
 
 -- the text on tree number k, whose main line is a problem or refused, and which is followed by these bytes
 abbrev pub IsTreeText : Form → ℕ → List Node → Result Standing GameFault → List ℕ → List ℕ → Type 0

@@ -1,7 +1,7 @@
 //! Reads the strategy that stands behind a problem.
 ghost use Rattle.std.specs.Prelude.{IfOk, IfSome};
 ghost use Rattle.tt_proof.specs.Strategy.{IsInOrder, strategy_of};
-ghost use Rattle.tsumego_show.specs.Found.{IsFound};
+ghost use Rattle.tsumego_show.specs.Found.{StandsBehind};
 ghost use Rattle.tsumego_show.specs.inside.Trees.{found_of};
 
 use std::alloc::Global;
@@ -12,7 +12,7 @@ use tt_sgf::{NoMemory, Size, has_tree, trim};
 /// The side and the strategy of the certificate that stands behind a problem; none where a tree may follow, and where what
 /// follows is no certificate, or goes too deep.
 pub fn find(alloc: Global, size: Size, behind: &[u8]) -> Result<Option<(Side, Tree)>, NoMemory>
-    ensures found { IfOk result (λ r. IsFound size behind.now (found_of r)) }
+    ensures found { IfOk result (λ r. StandsBehind size behind.now (found_of r)) }
     ensures in_order { IfOk result (λ r. IfSome r (λ f. IsInOrder size (strategy_of f.1))) }
 {
     if has_tree(behind) {
