@@ -16,8 +16,8 @@ use tt_sgf::{Bits, Point, PointSet, Size};
 /// A board: a size, and a colouring of its points in which each stone reaches empty.
 #[derive(Drop)]
 pub struct Board {
-    size: Size,
     points: Colouring,
+    size: Size,
 }
 
 impl Model for Board {

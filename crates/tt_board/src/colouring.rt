@@ -17,11 +17,12 @@ use crate::Colour;
 use std::marker::Model;
 use tt_sgf::Bits;
 
-/// The entries of a board's points. Contracts see their list.
+/// The entries of a board's points. Contracts see their list. Black's stones come first, here and in a board, so that a copy of a
+/// board takes them straight to their place.
 #[derive(Drop)]
 pub(crate) struct Colouring {
-    count: usize,
     black: Bits,
+    count: usize,
     white: Bits,
 }
 

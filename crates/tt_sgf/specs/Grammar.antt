@@ -121,7 +121,7 @@ pub record SpelledUpTo (bytes : List ℕ) (count : ℕ) (t : GameTree) : Type 0 
 abbrev pub HasOpen : List ℕ → Type 0
 HasOpen bytes = Contains bytes open_tree
 
--- from the first `(` on, bytes spell one tree at most, and it ends in one place
+-- from the first `(` on, bytes spell one tree at most, and it has one end
 abbrev pub OneSpelling : Type 0
 OneSpelling = (bytes : List ℕ) (n m : ℕ) (s t : GameTree) → SpelledUpTo bytes n s → SpelledUpTo bytes m t → (n ≡ m) × (s ≡ t)
 

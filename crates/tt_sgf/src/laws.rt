@@ -8,7 +8,7 @@ pub fn one_tree()
     ensures { (a b : List ℕ) (s t : GameTree) (x y : List ℕ) → Spells a s → Spells b t → a ++ x ≡ b ++ y → (a ≡ b) × (s ≡ t) }
 {}
 
-/// The bytes spell one tree at most from their first `(` on, and it ends in one place: what `read_tree` answers is a
+/// The bytes spell one tree at most from their first `(` on, and it has one end: what `read_tree` answers is a
 /// function of the bytes.
 pub fn one_reading()
     ensures { OneSpelling }
