@@ -14,11 +14,11 @@ use Rattle.tt_board.specs.Stones.{any_empty}
 use Rattle.tt_game.specs.declared.frame.Frame.{Frame}
 use Rattle.tt_game.specs.declared.frame.Side.TheVariants.{Attacker}
 use Rattle.tt_game.specs.Course.{HasBeen}
-use Rattle.tt_game.specs.Game.{State, history, colour_of, made, winner_of, winner_on}
+use Rattle.tt_game.specs.Game.{State, history, side_colour, made, winner_of, winner_on}
 use Rattle.tt_game.specs.MoveGenerators.{IsKindAt}
 
 -- a stone that comes alone, on a point where its colour never stood, makes a colouring that hasn't been
-pub no_capture_where_new : (f : Frame) (s : State) (k : Colour) (p : ℕ) → k ≡ colour_of f s.to_move → length s.present ≡ point_count f.size → p < point_count f.size
+pub no_capture_where_new : (f : Frame) (s : State) (k : Colour) (p : ℕ) → k ≡ side_colour f s.to_move → length s.present ≡ point_count f.size → p < point_count f.size
     → play_of f.size s.present k p ≡ set s.present p (Some k) → ((c : Colouring) → HasBeen (history s) c → entry_at c p ≡ Some k → ⊥) → IsKindAt NoCapture f s p
 no_capture_where_new f s k p colour fits on no_capture never =
     let here : entry_at (set s.present p (Some k)) p ≡ Some k = get_or-set_same s.present p (Some k) None (omega (arith, fits, on)) in
@@ -48,10 +48,10 @@ still_filled ts c p k free filled = elim (cases_Bool (any_empty ts (set c p (Som
 
 -- nobody has won after a play that puts its stone and takes none off, where nobody had before it
 pub nobody_put : (f : Frame) (s : State) (p : ℕ) → winner_of f s ≡ None → entry_at s.present p ≡ None
-    → made f s p ≡ set s.present p (Some (colour_of f s.to_move)) → winner_on f (made f s p) 0 ≡ None
+    → made f s p ≡ set s.present p (Some (side_colour f s.to_move)) → winner_on f (made f s p) 0 ≡ None
 nobody_put f s p open_ free no_capture =
     let filled : any_empty f.targets s.present ≡ false = elim (cases_Bool (any_empty f.targets s.present)) [
       | inl dead ↦ absurd (none-some Attacker (sym open_ ∙ cond-true _ _ _ dead))
       | inr alive ↦ alive
     ] in
-    cond-false _ _ _ (ap (any_empty f.targets) no_capture ∙ still_filled f.targets s.present p (colour_of f s.to_move) free filled)
+    cond-false _ _ _ (ap (any_empty f.targets) no_capture ∙ still_filled f.targets s.present p (side_colour f s.to_move) free filled)

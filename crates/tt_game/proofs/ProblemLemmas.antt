@@ -1,5 +1,5 @@
 -- Targets, and the nodes up to the first that marks one.
-use Rattle.std.proofs.Common.{◌≡◌, ℕ, ◌*◌, ◌<◌, ltb, true, false, cond, List, [], ◌∷◌, Option, Some, None, Ok, Err, refl, sym, ap, ◌∙◌, inl, inr}
+use Rattle.std.proofs.Common.{◌≡◌, ℕ, suc, ◌*◌, ◌<◌, ◌&&◌, ◌||◌, nat_le, ltb, Bool, true, false, cond, List, [], ◌∷◌, Option, Some, None, Ok, Err, refl, sym, ap, ◌∙◌, inl, inr}
 use Rattle.std.specs.List.{list_any, list_all}
 use Rattle.std.specs.FinSet as set
 use Rattle.std.specs.Ordering.{nat_cmp}
@@ -15,9 +15,9 @@ use Rattle.tt_sgf.specs.laws.PointLaws.{contains-passing}
 use Rattle.tt_game.specs.declared.faults.GameFault.{GameFault}
 use Rattle.tt_game.specs.declared.faults.GameFault.TheVariants.{NoTarget}
 use Rattle.tt_game.specs.declared.records.Replay.{Replay}
-use Rattle.tt_game.specs.Nodes.{TR, has, set_named}
+use Rattle.tt_game.specs.Nodes.{TR, has, moves_in, set_named}
 use Rattle.tt_game.specs.Records.{and_then, step_node}
-use Rattle.tt_game.specs.Problems.{region_of, problem_at, run_to_mark}
+use Rattle.tt_game.specs.Problems.{asked_count, puts_stones, region_of, problem_at, run_to_mark}
 
 -- what a value covers is on the board
 covered_on : (size : Size) (e : Option _) (q : ℕ) → covers_by size e q ≡ true → q < point_count size
@@ -63,3 +63,19 @@ unfolding run_to_mark
 mark-here s t n ns h on =
     ap (λ r. and_then r (λ x. cond (has TR n) (problem_at x.game (set_named x.game.size TR n) (region_of x.game.size n)) (run_to_mark x ns))) h
     ∙ ap (λ b. cond b (problem_at t.game (set_named t.game.size TR n) (region_of t.game.size n)) (run_to_mark t ns)) on
+
+-- ---- the nodes in front of a solution
+
+pub asked_nil : (up : Bool) → asked_count up [] ≡ 0
+unfolding asked_count
+asked_nil up = refl
+
+-- a solution begins
+pub asked_stop : (up : Bool) (n : Node) (ns : List Node) → (up && nat_le 1 (moves_in n)) ≡ true → asked_count up (n ∷ ns) ≡ 0
+unfolding asked_count
+asked_stop up n ns h = rw h refl
+
+-- or it doesn't yet
+pub asked_step : (up : Bool) (n : Node) (ns : List Node) → (up && nat_le 1 (moves_in n)) ≡ false → asked_count up (n ∷ ns) ≡ suc (asked_count (up || puts_stones n) ns)
+unfolding asked_count
+asked_step up n ns h = rw h refl

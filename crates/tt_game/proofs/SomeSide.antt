@@ -14,7 +14,7 @@ use Rattle.tt_game.specs.declared.frame.Side.TheVariants.{Attacker, Defender}
 use Rattle.tt_game.specs.declared.turns.Turn.{Turn}
 use Rattle.tt_game.specs.declared.turns.Turn.TheVariants.{Play, Pass}
 use Rattle.tt_game.specs.declared.frame.Frame.{Frame}
-use Rattle.tt_game.specs.Game.{State, history, winner_of, made, after, opponent, IsLegal, Forces, colour_of, longest}
+use Rattle.tt_game.specs.Game.{State, history, winner_of, made, after, opponent, IsLegal, Forces, side_colour, longest}
 use Rattle.tt_game.proofs.CourseLemmas.{twice}
 use Rattle.tt_game.specs.Legality.{legal}
 use Rattle.tt_game.specs.GameLaws.{IsState, SomeSideForces, TurnsKeepStates, ValuesAreForced}
@@ -108,7 +108,7 @@ unfolding room
 smaller f s Pass is less l =
     (record { sized = is.sized; passes = omega (arith, is.passes) }, omega (arith, is.passes))
 smaller f s (Play p) is less l =
-    let fits = length-play_of f.size s.present (colour_of f s.to_move) p in
+    let fits = length-play_of f.size s.present (side_colour f s.to_move) p in
     let fewer = fewer_new (history s) (made f s p) (point_count f.size) fits l.4 in (
       record {
         sized = All-push (λ c. length c ≡ point_count f.size) (history s) (made f s p) is.sized fits;

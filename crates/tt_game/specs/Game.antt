@@ -30,10 +30,10 @@ abbrev pub opponent : Side → Side
 opponent Attacker = Defender
 opponent Defender = Attacker
 
--- the targets' stones are the defender's
-abbrev pub colour_of : Frame → Side → Colour
-colour_of f Attacker = other f.defender
-colour_of f Defender = f.defender
+-- the colour of a side: the targets' stones are the defender's
+abbrev pub side_colour : Frame → Side → Colour
+side_colour f Attacker = other f.defender
+side_colour f Defender = f.defender
 
 -- the attacker has won where some target is empty, whoever emptied it; else the defender has after two passes in a row
 abbrev pub winner_on : Frame → Colouring → ℕ → Option Side
@@ -45,7 +45,7 @@ winner_of f s = winner_on f s.present s.passes
 
 -- the colouring that a play of the side to move on p makes
 abbrev pub made : Frame → State → ℕ → Colouring
-made f s p = play_of f.size s.present (colour_of f s.to_move) p
+made f s p = play_of f.size s.present (side_colour f s.to_move) p
 
 -- nobody has won, and the turn is a pass, or a play on an empty point of the region that repeats no colouring, the
 -- present one among them

@@ -14,11 +14,11 @@ use Rattle.tt_game.specs.declared.frame.Frame.{Frame}
 use Rattle.tt_game.specs.declared.plays.move_generator.MoveGenerator.{MoveGenerator}
 use Rattle.tt_game.specs.Course.{HasBeen}
 use Rattle.tt_game.specs.Mixing.{mix_board}
-use Rattle.tt_game.specs.Game.{State, history, colour_of, made}
+use Rattle.tt_game.specs.Game.{State, history, side_colour, made}
 
 -- what is foretold of a play: one that captures nothing makes a new colouring by its stone alone, a suicide of one stone the present colouring again
 abbrev pub IsKindAt : PlayKind → Frame → State → ℕ → Type 0
-IsKindAt NoCapture f s p = (HasBeen (history s) (made f s p) → ⊥) × (made f s p ≡ slice_set s.present p (Some (colour_of f s.to_move)))
+IsKindAt NoCapture f s p = (HasBeen (history s) (made f s p) → ⊥) × (made f s p ≡ slice_set s.present p (Some (side_colour f s.to_move)))
 IsKindAt SingleStoneSuicide f s p = made f s p ≡ s.present
 IsKindAt NeedsBoard f s p = Unit {0}
 
@@ -30,9 +30,9 @@ HaveStood k size h words = (c : Colouring) (p : ℕ) → HasBeen h c → p < poi
 -- the points that it tells at once are some of those where a play takes nothing off, and of those where it makes a new colouring too; and if it has a sum, that is what
 -- the words of the present board make
 pub record IsMoveGenerator (v : MoveGenerator) (f : Frame) (s : State) : Type 0 where
-  pub colour : v.colour ≡ colour_of f s.to_move
+  pub colour : v.colour ≡ side_colour f s.to_move
   pub empty : (p : ℕ) → p < point_count f.size → (bit_in v.empty.words p ≡ true) ↔ IsEmptyIn f.size f.region s.present p
   pub stood : HaveStood v.colour f.size (history s) v.stood.words
-  pub no_capture : (p : ℕ) → p < point_count f.size → bit_in v.no_capture.words p ≡ true → IsKind NoCapture f.size s.present (colour_of f s.to_move) p
+  pub no_capture : (p : ℕ) → p < point_count f.size → bit_in v.no_capture.words p ≡ true → IsKind NoCapture f.size s.present (side_colour f s.to_move) p
   pub new_colouring : (p : ℕ) → p < point_count f.size → bit_in v.new_colouring.words p ≡ true → IsKindAt NoCapture f s p
   pub sum : IfSome v.sum (λ n. n ≡ mix_board f.size s.present)

@@ -1,5 +1,5 @@
 -- Problems: a main line up to the first node that marks targets by TR, with the region by SQ (SGF FF[4]).
-use Rattle.std.specs.Prelude.{nat_eq, cond, List, [], ◌∷◌, Option, Some, None, Ok, Err, true, if◌then◌else◌}
+use Rattle.std.specs.Prelude.{ℕ, suc, ◌&&◌, ◌||◌, nat_eq, nat_le, cond, Bool, List, [], ◌∷◌, take, Option, Some, None, Ok, Err, true, false, if◌then◌else◌}
 use Rattle.std.specs.declared.result.Result.{Result}
 use Rattle.std.specs.FinSet as set
 use Rattle.tt_sgf.specs.declared.size.Size.{Size}
@@ -18,8 +18,8 @@ use Rattle.tt_game.specs.declared.frame.Side.TheVariants.{Attacker, Defender}
 use Rattle.tt_game.specs.Line.{Standing}
 use Rattle.tt_game.specs.declared.records.Replay.{Replay}
 use Rattle.tt_game.specs.Games.{GameState}
-use Rattle.tt_game.specs.Nodes.{TR, SQ, has, set_named}
-use Rattle.tt_game.specs.Records.{and_then, step_node, begin_line}
+use Rattle.tt_game.specs.Nodes.{AB, AW, TR, SQ, has, moves_in, set_named}
+use Rattle.tt_game.specs.Records.{and_then, step_node, begin_line, run_nodes}
 
 -- all points of a board
 abbrev pub whole : Size → Points
@@ -70,3 +70,17 @@ run_to_mark r (n ∷ ns) = and_then (step_node r n)
 -- what problem a main line is
 unfoldable pub problem_of : List Node → Result Standing GameFault
 problem_of ns = and_then (begin_line ns) (λ r. run_to_mark r ns)
+
+-- ---- main lines without targets
+
+abbrev pub puts_stones : Node → Bool
+puts_stones n = has AB n || has AW n
+
+-- how many nodes stand in front of the first move behind stones that are set up, given whether some are already
+unfoldable pub asked_count : Bool → List Node → ℕ
+asked_count up [] = 0
+asked_count up (n ∷ ns) = if up && nat_le 1 (moves_in n) then 0 else suc (asked_count (up || puts_stones n) ns)
+
+-- the game that those nodes come to: what stands behind them is a solution
+unfoldable pub game_of : List Node → Result GameState GameFault
+game_of ns = and_then (begin_line ns) (λ r. and_then (run_nodes r (take (asked_count false ns) ns)) (λ q. Ok q.game))

@@ -246,7 +246,7 @@ impl Game {
     }
 
     /// The game as a problem: the history and the side to move stay.
-    pub(crate) fn pose(
+    pub fn pose(
         self,
         region: PointSet,
         targets: PointSet,

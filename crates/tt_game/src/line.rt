@@ -66,7 +66,7 @@ impl Model for Line {
 
 impl Line {
     ghost use Rattle.std.specs.Prelude.{Some, None, Err, Ok, [], MatchResult, EachIndex};
-    ghost use Rattle.tt_game.specs.Game.{history, winner_of, colour_of, made, IsLegal, IsBarred, after};
+    ghost use Rattle.tt_game.specs.Game.{history, winner_of, side_colour, made, IsLegal, IsBarred, after};
     ghost use Rattle.tt_board.specs.Reach.{entry_at};
     ghost use Rattle.std.specs.Prelude.{OnOk, OnErr, IfErr, IfOk};
     ghost use Rattle.tt_game.specs.Line.{HasTargets, HasBoard, IsRefusal, IsRefused, IsPushed};
@@ -117,7 +117,7 @@ impl Line {
 
     /// The colour that moves next.
     pub(crate) fn mover(&self) -> Colour
-        ensures { result ≡ colour_of self.now.frame self.now.state.to_move }
+        ensures { result ≡ side_colour self.now.frame self.now.state.to_move }
     {
         match self.to_move {
             Side::Attacker => self.frame.defender.other(),

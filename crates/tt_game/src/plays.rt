@@ -71,7 +71,7 @@ impl<'a> LegalPlays<'a> {
             × (x.1 ≡ winner_of self.old.frame (after self.old.frame self.old.state (Turn.Play x.0)))
             × (successors_from self.old.frame self.old.state self.old.from ≡ successor self.old.frame self.old.state (Turn.Play x.0) ∷ successors_from self.old.frame self.old.state (x.0 + 1))) }
     {
-        while let Some(p) = self.line.next_point(&self.moves, self.from) {
+        while let Some(p) = self.line.next_empty(&self.moves, self.from) {
             self.from = p.number() + 1;
             if let Some(winner) = self.line.winner_by_play(&self.moves, p) {
                 return Some((p, winner));

@@ -1,16 +1,16 @@
 //! Problems: a main line up to the node that marks targets.
 
-ghost use Rattle.std.specs.Prelude.{◌≡◌, IfOk};
+ghost use Rattle.std.specs.Prelude.{◌≡◌, ◌≤◌, IfOk, false, length};
 ghost use Rattle.tt_board.specs.Stones.{LiesOn};
 ghost use Rattle.tt_game.specs.Nodes.{set_named, ReadsSet, TR};
 ghost use Rattle.tt_game.specs.Records.{Returns};
-ghost use Rattle.tt_game.specs.Problems.{region_of, common_colour, problem_at, run_to_mark, problem_of};
+ghost use Rattle.tt_game.specs.Problems.{asked_count, game_of, puts_stones, region_of, common_colour, problem_at, run_to_mark, problem_of};
 
 use crate::faults::GameFault;
 use crate::game::Game;
 use crate::line::Line;
-use crate::nodes::{has_value, named_set};
-use crate::records::{Replay, begin_line};
+use crate::nodes::{has_move, has_value, named_set};
+use crate::records::{Replay, begin_line, run};
 use std::alloc::Global;
 use tt_board::{Board, Colour};
 use tt_sgf::{BadPoint, MainLine, Node, PointSet, Size};
@@ -105,4 +105,47 @@ pub fn problem(alloc: Global, line: &MainLine) -> Result<Line, GameFault>
 {
     let nodes = line.nodes.as_slice();
     run_to_mark(begin_line(alloc, nodes)?, nodes)
+}
+
+/// Whether a node puts stones on the board.
+fn puts_stones(node: &Node) -> bool
+    ensures { result ≡ puts_stones node.now }
+{
+    let properties = node.properties.as_slice();
+    has_value(properties, b"AB") || has_value(properties, b"AW")
+}
+
+/// How many of these nodes stand in front of the first move behind stones that are set up.
+#[tactic(auto, using(crate::proofs::ProblemLemmas::asked_nil, crate::proofs::ProblemLemmas::asked_stop, crate::proofs::ProblemLemmas::asked_step))]
+fn asked_count(nodes: &[Node]) -> usize
+    ensures value { result ≡ asked_count false nodes.now }
+    ensures most { result ≤ length nodes.now }
+{
+    let mut count: usize = 0;
+    let mut up = false;
+    let mut rest = nodes;
+    while let Some((node, behind)) = rest.split_first() {
+        if up && has_move(node) {
+            return count;
+        }
+        up = up || puts_stones(node);
+        count += 1;
+        rest = behind;
+    }
+    count
+}
+
+/// The game in which a main line without targets asks something (SGF FF[4]), or the first refusal, node by node: in front of
+/// the first move behind stones that are set up, for there a solution begins; without one behind the last node.
+///
+/// # Errors
+///
+/// Those of `play_record` up to there.
+#[tactic(auto, unfolding(crate::specs::Problems::game_of))]
+pub fn asked_game(alloc: Global, line: &MainLine) -> Result<Game, GameFault>
+    ensures { Returns result (game_of line.now.nodes) }
+{
+    let nodes = line.nodes.as_slice();
+    let last = run(begin_line(alloc, nodes)?, &nodes[..asked_count(nodes)])?;
+    Ok(last.game)
 }

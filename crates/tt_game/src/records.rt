@@ -218,7 +218,7 @@ pub(crate) fn begin_line(alloc: Global, nodes: &[Node]) -> Result<Replay, GameFa
 }
 
 /// After all nodes.
-fn run(replay: Replay, nodes: &[Node]) -> Result<Replay, GameFault>
+pub(crate) fn run(replay: Replay, nodes: &[Node]) -> Result<Replay, GameFault>
     ensures { Returns result (run_nodes replay nodes.now) }
 {
     let mut last = replay;

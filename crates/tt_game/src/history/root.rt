@@ -1,4 +1,4 @@
-//! What lines of one beginning share: it stands once, however many places are kept of them.
+//! What lines of one beginning share: it stands once, however many snapshots are kept of them.
 
 ghost use Rattle.std.specs.Prelude.{◌≡◌, ◌<◌, ◌↔◌, List, ◌∷◌, ◌++◌, [], length, All, IsTrue, IfOk, Some, false};
 ghost use Rattle.std.specs.Arc.{arc_value};

@@ -22,7 +22,7 @@ use tt_sgf::NoMemory;
 
 /// Where a line stood: its frame, history, side to move and passes. What the line shares with others of its beginning stands
 /// once; the boards since then are kept by their differences, and none of them stands here. The hash of the position's key is kept
-/// too, so that a table takes the place in without its board.
+/// too, so that a table finds the position without its board.
 #[derive(Drop)]
 pub struct Snapshot {
     root: Arc<Root>,

@@ -41,7 +41,7 @@ impl Line {
     ghost use Rattle.tt_board.specs.Reach.{entry_at};
     ghost use Rattle.tt_board.specs.PlayKind.{IsKind};
     ghost use Rattle.tt_board.specs.declared.counted.play_kind.PlayKind.TheVariants.{NoCapture};
-    ghost use Rattle.tt_game.specs.Game.{IsLegal, after, history, colour_of, made, winner_of};
+    ghost use Rattle.tt_game.specs.Game.{IsLegal, after, history, side_colour, made, winner_of};
     ghost use Rattle.tt_game.specs.MoveGenerators.{IsMoveGenerator, HaveStood, IsKindAt};
     ghost use Rattle.tt_game.specs.declared.turns.Turn.{Turn};
 
@@ -67,10 +67,10 @@ impl Line {
     /// Some of these empty points on which a play of the side to move puts its stone and takes nothing off, found all at once: none
     /// where they are few. A small region has few of them.
     fn no_capture_if_many(&self, colour: Colour, empty: &Bits) -> Bits
-        requires colour { colour ≡ colour_of self.now.frame self.now.state.to_move }
+        requires colour { colour ≡ side_colour self.now.frame self.now.state.to_move }
         requires free { (p : ℕ) → p < point_count self.now.frame.size → bit_in empty.now.words p ≡ true → entry_at self.now.state.present p ≡ None }
         ensures { (p : ℕ) → p < point_count self.now.frame.size → bit_in result.words p ≡ true
-            → IsKind NoCapture self.now.frame.size self.now.state.present (colour_of self.now.frame self.now.state.to_move) p }
+            → IsKind NoCapture self.now.frame.size self.now.state.present (side_colour self.now.frame self.now.state.to_move) p }
     {
         if !self.has_many() {
             return Bits::none();
@@ -83,9 +83,9 @@ impl Line {
 
     /// Those of these points on which a play of the side to move is quiet, since its stones never stood there.
     fn no_capture_among(&self, colour: Colour, no_capture: &Bits, stood: &Bits) -> Bits
-        requires colour { colour ≡ colour_of self.now.frame self.now.state.to_move }
+        requires colour { colour ≡ side_colour self.now.frame self.now.state.to_move }
         requires no_capture { (p : ℕ) → p < point_count self.now.frame.size → bit_in no_capture.now.words p ≡ true
-            → IsKind NoCapture self.now.frame.size self.now.state.present (colour_of self.now.frame self.now.state.to_move) p }
+            → IsKind NoCapture self.now.frame.size self.now.state.present (side_colour self.now.frame self.now.state.to_move) p }
         requires stood { HaveStood colour self.now.frame.size (history self.now.state) stood.now.words }
         ensures { (p : ℕ) → p < point_count self.now.frame.size → bit_in result.words p ≡ true → IsKindAt NoCapture self.now.frame self.now.state p }
     {
@@ -93,7 +93,7 @@ impl Line {
     }
 
     /// The first empty point of the region from a number on: none where the board has no such point.
-    pub(crate) fn next_point(&self, moves: &MoveGenerator, from: u16) -> Option<Point>
+    pub(crate) fn next_empty(&self, moves: &MoveGenerator, from: u16) -> Option<Point>
         requires { IsMoveGenerator moves.now self.now.frame self.now.state }
         ensures { MatchOption result
             ((q : ℕ) → from ≤ q → IsLegal self.now.frame self.now.state (Turn.Play q) → ⊥)
@@ -110,7 +110,7 @@ impl Line {
         requires moves { IsMoveGenerator moves.now self.now.frame self.now.state }
         requires on_board { p < point_count self.now.frame.size }
         requires free { entry_at self.now.state.present p ≡ None }
-        requires no_capture { made self.now.frame self.now.state p ≡ slice_set self.now.state.present p (Some (colour_of self.now.frame self.now.state.to_move)) }
+        requires no_capture { made self.now.frame self.now.state p ≡ slice_set self.now.state.present p (Some (side_colour self.now.frame self.now.state.to_move)) }
         ensures { IsTrue result → HasBeen (history self.now.state) (made self.now.frame self.now.state p) → ⊥ }
     {
         match moves.sum {
@@ -127,7 +127,7 @@ impl Line {
         requires on_board { p < point_count self.now.frame.size }
         requires free { entry_at self.now.state.present p ≡ None }
         ensures kind_here { IsKindAt result.0 self.now.frame self.now.state p }
-        ensures kind { IsKind result.1 self.now.frame.size self.now.state.present (colour_of self.now.frame self.now.state.to_move) p }
+        ensures kind { IsKind result.1 self.now.frame.size self.now.state.present (side_colour self.now.frame self.now.state.to_move) p }
     {
         if moves.new_colouring.has(usize::from(p.number())) {
             return (PlayKind::NoCapture, PlayKind::NoCapture);
@@ -157,7 +157,7 @@ impl Line {
         requires inside { IsTrue (set.contains self.now.frame.region p) }
         requires free { entry_at self.now.state.present p ≡ None }
         requires open { winner_of self.now.frame self.now.state ≡ None }
-        requires kind { IsKind kind self.now.frame.size self.now.state.present (colour_of self.now.frame self.now.state.to_move) p }
+        requires kind { IsKind kind self.now.frame.size self.now.state.present (side_colour self.now.frame self.now.state.to_move) p }
         ensures { MatchOption result (IsLegal self.now.frame self.now.state (Turn.Play p) → ⊥)
             (λ w. IsLegal self.now.frame self.now.state (Turn.Play p) × (w ≡ winner_of self.now.frame (after self.now.frame self.now.state (Turn.Play p)))) }
     {
@@ -176,7 +176,7 @@ impl Line {
         requires inside { IsTrue (set.contains self.now.frame.region p) }
         requires free { entry_at self.now.state.present p ≡ None }
         requires open { winner_of self.now.frame self.now.state ≡ None }
-        requires put { made self.now.frame self.now.state p ≡ slice_set self.now.state.present p (Some (colour_of self.now.frame self.now.state.to_move)) }
+        requires put { made self.now.frame self.now.state p ≡ slice_set self.now.state.present p (Some (side_colour self.now.frame self.now.state.to_move)) }
         ensures { MatchOption result (IsLegal self.now.frame self.now.state (Turn.Play p) → ⊥)
             (λ w. IsLegal self.now.frame self.now.state (Turn.Play p) × (w ≡ winner_of self.now.frame (after self.now.frame self.now.state (Turn.Play p)))) }
     {

@@ -5,7 +5,7 @@ use Rattle.tt_sgf.specs.Sizes.{point_count}
 use Rattle.tt_sgf.specs.laws.SizeLaws.{few_points}
 use Rattle.tt_sgf.specs.Words.{bit_in}
 use Rattle.tt_board.specs.Play.{play_of, length-play_of}
-use Rattle.tt_game.specs.Game.{colour_of}
+use Rattle.tt_game.specs.Game.{side_colour}
 use Rattle.tt_game.proofs.MoveGeneratorLemmas.{no_capture_where_new}
 use Rattle.tt_game.proofs.line.Line.no_capture_among.Goals as goal
 
@@ -21,7 +21,7 @@ this_one false b h = absurd (false≢true h)
 
 pub returns : goal.returns
 returns c = λ p on bit.
-    let l = c.args.self.now in let k = colour_of l.frame l.state.to_move in let stood = c.args.stood.now.words in
+    let l = c.args.self.now in let k = side_colour l.frame l.state.to_move in let stood = c.args.stood.now.words in
     let few : point_count l.frame.size ≤ 361 = few_points l.frame.size in
     let small : p < 384 = omega (arith, on, few) in
     let left : (bit_in c.args.no_capture.now.words p && not (bit_in stood p)) ≡ true = sym (c.minus.ensures p small) ∙ bit in

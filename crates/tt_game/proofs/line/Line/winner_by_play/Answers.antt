@@ -1,7 +1,7 @@
 use Rattle.std.proofs.Common.{rules, ◌≡◌, Some, None, set, Contains, sym, subst}
 use Rattle.std.proofs.lemmas.List.Elements.{Contains-push}
 use Rattle.tt_board.specs.Reach.{entry_at}
-use Rattle.tt_game.specs.Game.{history, made, colour_of}
+use Rattle.tt_game.specs.Game.{history, made, side_colour}
 use Rattle.tt_game.specs.MoveGenerators.{IsKindAt}
 use Rattle.tt_game.proofs.MoveGeneratorLemmas.{nobody_put}
 use Rattle.tt_game.proofs.line.Line.winner_by_play.Goals as goal
@@ -22,5 +22,5 @@ returns-in-SingleStoneSuicide c = λ legal.
 pub returns-then-is_new : goal.returns-then-is_new
 returns-then-is_new c =
     let l = c.args.self.now in let p = c.args.p in
-    let no_capture : made l.frame l.state p ≡ set l.state.present p (Some (colour_of l.frame l.state.to_move)) = search rules in
+    let no_capture : made l.frame l.state p ≡ set l.state.present p (Some (side_colour l.frame l.state.to_move)) = search rules in
     ((c.requires.open, c.requires.on_board, c.requires.free, c.requires.inside, c.is_new.ensures c.if-is_new.true), sym (nobody_put l.frame l.state p c.requires.open c.requires.free no_capture))

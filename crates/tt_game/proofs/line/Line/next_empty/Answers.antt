@@ -9,7 +9,7 @@ use Rattle.tt_board.specs.Stones.{IsEmptyIn}
 use Rattle.tt_game.specs.declared.frame.Frame.{Frame}
 use Rattle.tt_game.specs.declared.turns.Turn.TheVariants.{Play}
 use Rattle.tt_game.specs.Game.{State, IsLegal}
-use Rattle.tt_game.proofs.line.Line.next_point.Goals as goal
+use Rattle.tt_game.proofs.line.Line.next_empty.Goals as goal
 
 -- the first bit of the empty points of the region is that of the first point on which somebody may play
 next_is : (f : Frame) (s : State) (ws : List ℕ) → ((p : ℕ) → p < point_count f.size → (bit_in ws p ≡ true) ↔ IsEmptyIn f.size f.region s.present p)
