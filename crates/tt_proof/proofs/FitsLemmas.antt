@@ -4,7 +4,7 @@ use Rattle.std.proofs.lemmas.List.Elements.{Contains-append_left, Contains-appen
 use Rattle.tt_board.specs.Position.{Colouring}
 use Rattle.tt_board.specs.Play.{play_of}
 use Rattle.tt_board.specs.Reach.{entry_at}
-use Rattle.tt_game.specs.Game.{State, IsLegal, after, winner_of, winner_on, opponent, colour_of, history, made}
+use Rattle.tt_game.specs.Game.{State, IsLegal, after, winner_of, winner_on, opponent, side_colour, history, made}
 use Rattle.tt_game.specs.declared.frame.Side.{Side}
 use Rattle.tt_game.specs.declared.frame.Frame.{Frame}
 use Rattle.tt_game.specs.declared.turns.Turn.{Turn}
@@ -53,7 +53,7 @@ pub record Carried (h k path : List Colouring) (a b : State) : Type 0 where
 module _ (side : Side) (f : Frame) (h k : List Colouring) where
   pub same_made : (path : List Colouring) (a b : State) (p : ℕ) → Carried h k path a b → made f b p ≡ made f a p
   same_made path a b p r =
-      ap (λ x. play_of f.size x (colour_of f b.to_move) p) r.present ∙ ap (λ x. play_of f.size a.present (colour_of f x) p) r.to_move
+      ap (λ x. play_of f.size x (side_colour f b.to_move) p) r.present ∙ ap (λ x. play_of f.size a.present (side_colour f x) p) r.to_move
 
   pub same_winner : (path : List Colouring) (a b : State) → Carried h k path a b → winner_of f b ≡ winner_of f a
   same_winner path a b r = ap (λ x. winner_on f x b.passes) r.present ∙ ap (λ n. winner_on f a.present n) r.passes

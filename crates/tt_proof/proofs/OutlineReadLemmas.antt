@@ -8,9 +8,9 @@ use Rattle.tt_game.specs.declared.turns.Turn.{Turn}
 use Rattle.tt_proof.specs.declared.outlines.Outline as form
 use Rattle.tt_proof.specs.declared.tree.TheConstants.{MOST_DEPTH}
 use Rattle.tt_proof.specs.Strategy.{Strategy, done, depth, depth_of_entries, IsOnBoard, number_on}
-use Rattle.tt_proof.specs.CertificateText.{won_mark, pick_mark, reply_mark, turn_text, side_text}
-use Rattle.tt_proof.specs.Outlines.{Outline, Branches, ended, picked, replied, part, no_branch, branch, with_name, entries_with}
-use Rattle.tt_proof.specs.Outlines.{names_behind, names_behind_all, outline_of, branches_of_list, name_text, part_mark, outline_text, branches_text, IsSharedCertificate, AreOrderly}
+use Rattle.tt_proof.specs.CertificateText.{won_symbol, pick_symbol, reply_symbol, turn_text, side_text}
+use Rattle.tt_proof.specs.Outlines.{Outline, Branches, ended, picked, replied, part, no_branch, branch, with_name, entries_with, unfolded}
+use Rattle.tt_proof.specs.Outlines.{names_behind, names_behind_all, outline_of, branches_of_list, name_text, part_symbol, outline_text, branches_text, IsSharedCertificate, AreOrderly}
 use Rattle.tt_proof.specs.inside.OutlineReading.{with_depth, BranchesAt, ReadsOutline, ReadsBranches}
 
 -- a name more is a depth more
@@ -25,22 +25,22 @@ there (u ∷ us) zero d lt e = (omega arith, sym e)
 there (u ∷ us) (suc k) d lt e = let r = there us k d (omega (arith, lt)) e in (omega (arith, r.0), r.1)
 
 module _ (size : Size) where
-  pub reads_done : (left : ℕ) (ds r y : List ℕ) → r ≡ won_mark ∷ y → ReadsOutline size left ds ds ended 0 r y
+  pub reads_done : (left : ℕ) (ds r y : List ℕ) → r ≡ won_symbol ∷ y → ReadsOutline size left ds ds ended 0 r y
   reads_done left ds r y e =
       record { low = omega arith; at = λ us h. record { closed = tt; orderly = tt; deep = refl; text = e }; names = λ us h. h }
 
   pub reads_part : (left : ℕ) (ds : List ℕ) (k d : ℕ) (r y : List ℕ) → d ≤ left → k < length ds → k < 1000000000 → d ≡ get_or ds k d → r ≡ decimal k ++ y
-      → ReadsOutline size left ds ds (part k) d (part_mark ∷ r) y
+      → ReadsOutline size left ds ds (part k) d (part_symbol ∷ r) y
   reads_part left ds k d r y low lt small e text = record {
     low = low;
     at = λ us h. let w = there us k d (subst (λ xs. k < length xs) (sym h) lt) (subst (λ xs. d ≡ get_or xs k d) (sym h) e) in
-        record { closed = (w.0, small); orderly = tt; deep = w.1; text = ap (λ w. part_mark ∷ w) text };
+        record { closed = (w.0, small); orderly = tt; deep = w.1; text = ap (λ w. part_symbol ∷ w) text };
     names = λ us h. h;
   }
 
   pub reads_pick : (left e : ℕ) (old mid new : List ℕ) (n : Bool) (t : Turn) (o : Outline) (d : ℕ) (r after y : List ℕ) → left ≡ suc e
       → IsOnBoard size t → r ≡ turn_text size t ++ after → ReadsOutline size e old mid o d after y → new ≡ with_depth n (d + 1) mid
-      → ReadsOutline size left old new (picked n t o) (d + 1) (name_text n ++ (pick_mark ∷ r)) y
+      → ReadsOutline size left old new (picked n t o) (d + 1) (name_text n ++ (pick_symbol ∷ r)) y
   reads_pick left e old mid new n t o d r after y room on at h more = record {
     low = let low = h.low in omega (arith, low, room);
     at = λ us g. let w = h.at us g in
@@ -49,8 +49,8 @@ module _ (size : Size) where
           orderly = (on, w.orderly);
           deep = ap (λ x. x + 1) w.deep;
           text =
-              ap (λ w. name_text n ++ (pick_mark ∷ w)) (at ∙ ap (λ w. turn_text size t ++ w) w.text)
-              ∙ sym (append_assoc (name_text n) (pick_mark ∷ (turn_text size t ++ outline_text size o)) y);
+              ap (λ w. name_text n ++ (pick_symbol ∷ w)) (at ∙ ap (λ w. turn_text size t ++ w) w.text)
+              ∙ sym (append_assoc (name_text n) (pick_symbol ∷ (turn_text size t ++ outline_text size o)) y);
         };
     names = λ us g.
         names_more n _ (names_behind us o)
@@ -59,7 +59,7 @@ module _ (size : Size) where
   }
 
   pub reads_reply : (left : ℕ) (old mid new : List ℕ) (n : Bool) (bs : Branches) (d : ℕ) (r y : List ℕ) → ReadsBranches size left old mid 0 bs d r y
-      → new ≡ with_depth n d mid → ReadsOutline size left old new (replied n bs) d (name_text n ++ (reply_mark ∷ r)) y
+      → new ≡ with_depth n d mid → ReadsOutline size left old new (replied n bs) d (name_text n ++ (reply_symbol ∷ r)) y
   reads_reply left old mid new n bs d r y h more = record {
     low = h.low;
     at = λ us g. let w = h.at us g in
@@ -68,8 +68,8 @@ module _ (size : Size) where
           orderly = w.orderly;
           deep = w.deep;
           text =
-              ap (λ w. name_text n ++ (reply_mark ∷ w)) w.text
-              ∙ sym (append_assoc (name_text n) (reply_mark ∷ branches_text size bs) y);
+              ap (λ w. name_text n ++ (reply_symbol ∷ w)) w.text
+              ∙ sym (append_assoc (name_text n) (reply_symbol ∷ branches_text size bs) y);
         };
     names = λ us g.
         names_more n _ (names_behind_all us bs)
@@ -151,11 +151,16 @@ module _ (size : Size) where
   }
 
 -- where nothing follows the outline, the bytes are its certificate
-pub shared_read : (size : Size) (bytes rest : List ℕ) (s : Side) (old new : List ℕ) (o : Outline) (d : ℕ) (y : List ℕ) → bytes ≡ side_text s ++ rest
-    → old ≡ [] → ReadsOutline size MOST_DEPTH old new o d rest y → y ≡ [] → IsSharedCertificate size bytes s o
-shared_read size bytes rest s old new o d y at none h e = let k = h.at [] (sym none) in record {
+pub shared_read : (size : Size) (bytes rest : List ℕ) (s : Side) (old : List ℕ) (left : ℕ) (new : List ℕ) (o : Outline) (d : ℕ) (y : List ℕ)
+    → bytes ≡ side_text s ++ rest → left ≤ MOST_DEPTH → old ≡ [] → ReadsOutline size left old new o d rest y → y ≡ [] → IsSharedCertificate size bytes s o
+shared_read size bytes rest s old left new o d y at room none h e = let k = h.at [] (sym none) in record {
   closed = k.closed;
   orderly = k.orderly;
-  low = let low = h.low in let deep = k.deep in omega (arith, low, deep);
+  low = let low = h.low in let deep = k.deep in omega (arith, low, deep, room);
   text = at ∙ ap (λ w. side_text s ++ w) (k.text ∙ ap (λ w. outline_text size o ++ w) e ∙ append-nil (outline_text size o));
 }
+
+-- and its tree is no deeper than was allowed
+pub low_read : (size : Size) (old : List ℕ) (left : ℕ) (new : List ℕ) (o : Outline) (d : ℕ) (rest y : List ℕ) → old ≡ [] → ReadsOutline size left old new o d rest y
+    → depth (unfolded [] o) ≤ left
+low_read size old left new o d rest y none h = let low = h.low in let deep = (h.at [] (sym none)).deep in omega (arith, low, deep)

@@ -5,7 +5,7 @@ use Rattle.tt_game.specs.declared.turns.Turn.{Turn}
 use Rattle.tt_proof.specs.declared.certificate_read.CertFault.{CertFault}
 use Rattle.tt_proof.specs.declared.certificate_read.CertFault.TheVariants.{Syntax, TooDeep, NoMemory}
 use Rattle.tt_proof.specs.Strategy.{Strategy, Entries, done, pick, reply, none, entry, depth, depth_of_entries, IsOnBoard, IsInOrder}
-use Rattle.tt_proof.specs.CertificateText.{won_mark, pick_mark, reply_mark, turn_text, tree_text, entries_text, EndsBelow, EndsInEntries}
+use Rattle.tt_proof.specs.CertificateText.{won_symbol, pick_symbol, reply_symbol, turn_text, tree_text, entries_text, EndsBelow, EndsInEntries}
 use Rattle.tt_proof.specs.inside.CertificateReading.{TreeAt, DeepAt, EntriesAt, EntriesDeepAt, FaultAt, EntriesFaultAt}
 use Rattle.tt_proof.proofs.TextLemmas.{heads, tails}
 
@@ -18,11 +18,11 @@ module _ (size : Size) where
   mutual
     pub deep_tree : (u : Strategy) (e : ℕ) → e < depth u → (x : List ℕ) × ((y : List ℕ) × (EndsBelow size u e x × (tree_text size u ≡ x ++ y)))
     deep_tree done e lt = absurd (omega (arith, lt))
-    deep_tree (pick t u) zero lt = (pick_mark ∷ turn_text size t, (tree_text size u, (refl, refl)))
+    deep_tree (pick t u) zero lt = (pick_symbol ∷ turn_text size t, (tree_text size u, (refl, refl)))
     deep_tree (pick t u) (suc e) lt =
         let r = deep_tree u e (omega (arith, lt)) in
-        (pick_mark ∷ (turn_text size t ++ r.0), (r.1.0, ((r.0, (refl, r.1.1.0)), ap (λ w. pick_mark ∷ (turn_text size t ++ w)) r.1.1.1)))
-    deep_tree (reply es) e lt = let r = deep_entries es e lt in (reply_mark ∷ r.0, (r.1.0, ((r.0, (refl, r.1.1.0)), ap (λ w. reply_mark ∷ w) r.1.1.1)))
+        (pick_symbol ∷ (turn_text size t ++ r.0), (r.1.0, ((r.0, (refl, r.1.1.0)), ap (λ w. pick_symbol ∷ (turn_text size t ++ w)) r.1.1.1)))
+    deep_tree (reply es) e lt = let r = deep_entries es e lt in (reply_symbol ∷ r.0, (r.1.0, ((r.0, (refl, r.1.1.0)), ap (λ w. reply_symbol ∷ w) r.1.1.1)))
 
     -- so have entries that are deeper than e
     deep_entries : (es : Entries) (e : ℕ) → e < depth_of_entries es →
@@ -85,7 +85,8 @@ module _ (size : Size) where
   -- ---- the first byte
 
   -- where none of `.`, `!` and `?` stands, there is no tree
-  pub not_tree : (r : List ℕ) → ((b : ℕ) (y : List ℕ) → r ≡ b ∷ y → (b ≡ won_mark) ⊎ ((b ≡ pick_mark) ⊎ (b ≡ reply_mark)) → ⊥) → (d : ℕ) → FaultAt size d r Syntax
+  pub not_tree : (r : List ℕ) → ((b : ℕ) (y : List ℕ) → r ≡ b ∷ y → (b ≡ won_symbol) ⊎ ((b ≡ pick_symbol) ⊎ (b ≡ reply_symbol)) → ⊥)
+      → (d : ℕ) → FaultAt size d r Syntax
   not_tree r h d = (λ u y at. no u y at.text, λ at. deep at.tree d at.beginning at.follows at.text at.ends)
     where
       -- no tree is read
@@ -104,63 +105,63 @@ module _ (size : Size) where
   -- ---- a pick
 
   -- where no turn stands behind `!`, there is no tree
-  pub pick_no_turn : (d : ℕ) (r : List ℕ) → NoTurn r → FaultAt size d (pick_mark ∷ r) Syntax
+  pub pick_no_turn : (d : ℕ) (r : List ℕ) → NoTurn r → FaultAt size d (pick_symbol ∷ r) Syntax
   pick_no_turn d r h = (λ u y at. no u y at.in_order at.text, λ at. deep at.tree d at.beginning at.follows at.in_order at.text at.ends)
     where
       -- no tree is read
-      no : (u : Strategy) (y : List ℕ) → IsInOrder size u → pick_mark ∷ r ≡ tree_text size u ++ y → ⊥
+      no : (u : Strategy) (y : List ℕ) → IsInOrder size u → pick_symbol ∷ r ≡ tree_text size u ++ y → ⊥
       no done y o e = omega (arith, heads e)
       no (pick t u) y o e = h t (tree_text size u ++ y) o.0 (tails e)
       no (reply es) y o e = omega (arith, heads e)
 
       -- nor is a turn too deep
-      deep : (u : Strategy) (k : ℕ) (x y : List ℕ) → IsInOrder size u → pick_mark ∷ r ≡ x ++ y → EndsBelow size u k x → ⊥
+      deep : (u : Strategy) (k : ℕ) (x y : List ℕ) → IsInOrder size u → pick_symbol ∷ r ≡ x ++ y → EndsBelow size u k x → ⊥
       deep done k x y o e w = w
       deep (pick t u) zero x y o e w = h t y o.0 (tails (e ∙ ap (λ z. z ++ y) w))
       deep (pick t u) (suc k) x y o e w = h t (w.0 ++ y) o.0 (tails (e ∙ ap (λ z. z ++ y) w.1.0))
       deep (reply es) k x y o e w = omega (arith, heads (e ∙ ap (λ z. z ++ y) w.1.0))
 
   -- where no turn has room, a turn behind `!` is too deep
-  pub pick_deep : (t : Turn) (r y : List ℕ) → IsOnBoard size t → r ≡ turn_text size t ++ y → DeepAt size 0 (pick_mark ∷ r)
+  pub pick_deep : (t : Turn) (r y : List ℕ) → IsOnBoard size t → r ≡ turn_text size t ++ y → DeepAt size 0 (pick_symbol ∷ r)
   pick_deep t r y o e = record {
     tree = pick t done;
-    beginning = pick_mark ∷ turn_text size t;
+    beginning = pick_symbol ∷ turn_text size t;
     follows = y;
     in_order = (o, tt);
     ends = refl;
-    text = ap (λ w. pick_mark ∷ w) e;
+    text = ap (λ w. pick_symbol ∷ w) e;
   }
 
   -- a turn and a tree behind `!` are a pick, a turn deeper
   pub pick_read : (e : ℕ) (t : Turn) (u : Strategy) (r after y : List ℕ) → IsOnBoard size t → r ≡ turn_text size t ++ after →
-      TreeAt size e u after y → TreeAt size (suc e) (pick t u) (pick_mark ∷ r) y
+      TreeAt size e u after y → TreeAt size (suc e) (pick t u) (pick_symbol ∷ r) y
   pick_read e t u r after y o at h =
-      record { in_order = (o, h.in_order); low = omega (arith, h.low); text = ap (λ w. pick_mark ∷ w) (at ∙ ap (λ w. turn_text size t ++ w) h.text) }
+      record { in_order = (o, h.in_order); low = omega (arith, h.low); text = ap (λ w. pick_symbol ∷ w) (at ∙ ap (λ w. turn_text size t ++ w) h.text) }
 
   -- a fault of the tree behind the turn is one of the pick
   pub pick_fault : (e : ℕ) (t : Turn) (r after : List ℕ) (f : CertFault) → IsOnBoard size t → r ≡ turn_text size t ++ after →
-      FaultAt size e after f → FaultAt size (suc e) (pick_mark ∷ r) f
+      FaultAt size e after f → FaultAt size (suc e) (pick_symbol ∷ r) f
   pick_fault e t r after NoMemory o at h = tt
   pick_fault e t r after TooDeep o at h = record {
     tree = pick t h.tree;
-    beginning = pick_mark ∷ (turn_text size t ++ h.beginning);
+    beginning = pick_symbol ∷ (turn_text size t ++ h.beginning);
     follows = h.follows;
     in_order = (o, h.in_order);
     ends = (h.beginning, (refl, h.ends));
-    text = ap (λ w. pick_mark ∷ w) (at ∙ ap (λ w. turn_text size t ++ w) h.text);
+    text = ap (λ w. pick_symbol ∷ w) (at ∙ ap (λ w. turn_text size t ++ w) h.text);
   }
   pick_fault e t r after Syntax o at h =
       (λ u y w. no u y w.in_order w.low w.text, λ w. deep w.tree w.beginning w.follows w.in_order w.text w.ends)
     where
       -- no tree is read
-      no : (u : Strategy) (y : List ℕ) → IsInOrder size u → depth u ≤ suc e → pick_mark ∷ r ≡ tree_text size u ++ y → ⊥
+      no : (u : Strategy) (y : List ℕ) → IsInOrder size u → depth u ≤ suc e → pick_symbol ∷ r ≡ tree_text size u ++ y → ⊥
       no done y i low g = omega (arith, heads g)
       no (pick v u) y i low g =
           h.0 u y (record { in_order = i.1; low = omega (arith, low); text = tails (tails (sym at ∙ tails g)) })
       no (reply es) y i low g = omega (arith, heads g)
 
       -- nor is a turn too deep
-      deep : (u : Strategy) (x y : List ℕ) → IsInOrder size u → pick_mark ∷ r ≡ x ++ y → EndsBelow size u (suc e) x → ⊥
+      deep : (u : Strategy) (x y : List ℕ) → IsInOrder size u → pick_symbol ∷ r ≡ x ++ y → EndsBelow size u (suc e) x → ⊥
       deep done x y i g w = w
       deep (pick v u) x y i g w =
           h.1 (record {
@@ -176,31 +177,31 @@ module _ (size : Size) where
   -- ---- a reply
 
   -- entries behind `?` are a reply
-  pub reply_read : (d : ℕ) (es : Entries) (r y : List ℕ) → EntriesAt size d 0 es r y → TreeAt size d (reply es) (reply_mark ∷ r) y
-  reply_read d es r y h = record { in_order = h.in_order; low = h.low; text = ap (λ w. reply_mark ∷ w) h.text }
+  pub reply_read : (d : ℕ) (es : Entries) (r y : List ℕ) → EntriesAt size d 0 es r y → TreeAt size d (reply es) (reply_symbol ∷ r) y
+  reply_read d es r y h = record { in_order = h.in_order; low = h.low; text = ap (λ w. reply_symbol ∷ w) h.text }
 
   -- a fault of the entries is one of the reply
-  pub reply_fault : (d : ℕ) (r : List ℕ) (f : CertFault) → EntriesFaultAt size d 0 r f → FaultAt size d (reply_mark ∷ r) f
+  pub reply_fault : (d : ℕ) (r : List ℕ) (f : CertFault) → EntriesFaultAt size d 0 r f → FaultAt size d (reply_symbol ∷ r) f
   reply_fault d r NoMemory h = tt
   reply_fault d r TooDeep h = record {
     tree = reply h.entries;
-    beginning = reply_mark ∷ h.beginning;
+    beginning = reply_symbol ∷ h.beginning;
     follows = h.follows;
     in_order = h.in_order;
     ends = (h.beginning, (refl, h.ends));
-    text = ap (λ w. reply_mark ∷ w) h.text;
+    text = ap (λ w. reply_symbol ∷ w) h.text;
   }
   reply_fault d r Syntax h =
       (λ u y w. no u y w.in_order w.low w.text, λ w. deep w.tree d w.beginning w.follows w.in_order w.text w.ends (λ x. x))
     where
       -- no tree is read
-      no : (u : Strategy) (y : List ℕ) → IsInOrder size u → depth u ≤ d → reply_mark ∷ r ≡ tree_text size u ++ y → ⊥
+      no : (u : Strategy) (y : List ℕ) → IsInOrder size u → depth u ≤ d → reply_symbol ∷ r ≡ tree_text size u ++ y → ⊥
       no done y i low g = omega (arith, heads g)
       no (pick v u) y i low g = omega (arith, heads g)
       no (reply es) y i low g = h.0 es y (record { in_order = i; low = low; text = tails g })
 
       -- nor is a turn too deep
-      deep : (u : Strategy) (k : ℕ) (x y : List ℕ) → IsInOrder size u → reply_mark ∷ r ≡ x ++ y → EndsBelow size u k x →
+      deep : (u : Strategy) (k : ℕ) (x y : List ℕ) → IsInOrder size u → reply_symbol ∷ r ≡ x ++ y → EndsBelow size u k x →
           (EntriesDeepAt size k 0 r → EntriesDeepAt size d 0 r) → ⊥
       deep done k x y i g w to = w
       deep (pick v u) zero x y i g w to = omega (arith, heads (g ∙ ap (λ z. z ++ y) w))

@@ -10,14 +10,14 @@ use Rattle.tt_proof.specs.declared.tree.TheConstants.{MOST_DEPTH}
 use Rattle.tt_proof.specs.Strategy.{Strategy, Entries, done, pick, reply, none, entry, depth, IsInOrder}
 
 -- ---- bytes by their names: `.`, `!`, `?` and the dash of a pass
-abbrev pub won_mark : ℕ
-won_mark = 46
+abbrev pub won_symbol : ℕ
+won_symbol = 46
 
-abbrev pub pick_mark : ℕ
-pick_mark = 33
+abbrev pub pick_symbol : ℕ
+pick_symbol = 33
 
-abbrev pub reply_mark : ℕ
-reply_mark = 63
+abbrev pub reply_symbol : ℕ
+reply_symbol = 63
 
 abbrev pub dash : ℕ
 dash = 45
@@ -51,9 +51,9 @@ module _ (size : Size) where
   abbrev mutual
     -- `.`, `!` with a turn and a tree, or `?` with turns and trees up to `;`
     pub tree_text : Strategy → List ℕ
-    tree_text done = won_mark ∷ []
-    tree_text (pick t u) = pick_mark ∷ (turn_text t ++ tree_text u)
-    tree_text (reply es) = reply_mark ∷ entries_text es
+    tree_text done = won_symbol ∷ []
+    tree_text (pick t u) = pick_symbol ∷ (turn_text t ++ tree_text u)
+    tree_text (reply es) = reply_symbol ∷ entries_text es
 
     pub entries_text : Entries → List ℕ
     entries_text none = semicolon ∷ []
@@ -66,9 +66,9 @@ module _ (size : Size) where
     -- x is a beginning of the tree's text that ends with a turn, and d turns lie above that one
     pub EndsBelow : Strategy → ℕ → List ℕ → Type 0
     EndsBelow done d x = ⊥
-    EndsBelow (pick t u) zero x = x ≡ pick_mark ∷ turn_text t
-    EndsBelow (pick t u) (suc d) x = (y : List ℕ) × ((x ≡ pick_mark ∷ (turn_text t ++ y)) × EndsBelow u d y)
-    EndsBelow (reply es) d x = (y : List ℕ) × ((x ≡ reply_mark ∷ y) × EndsInEntries es d y)
+    EndsBelow (pick t u) zero x = x ≡ pick_symbol ∷ turn_text t
+    EndsBelow (pick t u) (suc d) x = (y : List ℕ) × ((x ≡ pick_symbol ∷ (turn_text t ++ y)) × EndsBelow u d y)
+    EndsBelow (reply es) d x = (y : List ℕ) × ((x ≡ reply_symbol ∷ y) × EndsInEntries es d y)
 
     -- so with the entries' text
     pub EndsInEntries : Entries → ℕ → List ℕ → Type 0

@@ -8,7 +8,7 @@ use Rattle.tt_proof.specs.declared.outlines.Outline as form
 use Rattle.tt_proof.specs.declared.outlines.Outline.TheOpen as layer
 use Rattle.tt_proof.specs.declared.tree.TheConstants.{MOST_DEPTH}
 use Rattle.tt_proof.specs.Strategy.{Strategy, Entries, done, pick, reply, none, entry, depth, IsOnBoard, number_on}
-use Rattle.tt_proof.specs.CertificateText.{won_mark, pick_mark, reply_mark, turn_text, side_text}
+use Rattle.tt_proof.specs.CertificateText.{won_symbol, pick_symbol, reply_symbol, turn_text, side_text}
 
 mutual
   -- nothing more to play; a turn, and how it goes on; an answer to each turn of the other side; or the tree with this name. The
@@ -78,23 +78,23 @@ abbrev mutual
       (least ≤ number_on size t) × IsOnBoard size t × IsOrderly size o × AreOrderly size (number_on size t + 1) bs
 
 -- ---- texts: `=` in front of a tree names it, `*` and a number stands for the tree of that name
-abbrev pub name_mark : ℕ
-name_mark = 61
+abbrev pub name_symbol : ℕ
+name_symbol = 61
 
-abbrev pub part_mark : ℕ
-part_mark = 42
+abbrev pub part_symbol : ℕ
+part_symbol = 42
 
 abbrev pub name_text : Bool → List ℕ
-name_text true = name_mark ∷ []
+name_text true = name_symbol ∷ []
 name_text false = []
 
 module _ (size : Size) where
   abbrev mutual
     pub outline_text : Outline → List ℕ
-    outline_text ended = won_mark ∷ []
-    outline_text (picked n t o) = name_text n ++ (pick_mark ∷ (turn_text size t ++ outline_text o))
-    outline_text (replied n bs) = name_text n ++ (reply_mark ∷ branches_text bs)
-    outline_text (part k) = part_mark ∷ decimal k
+    outline_text ended = won_symbol ∷ []
+    outline_text (picked n t o) = name_text n ++ (pick_symbol ∷ (turn_text size t ++ outline_text o))
+    outline_text (replied n bs) = name_text n ++ (reply_symbol ∷ branches_text bs)
+    outline_text (part k) = part_symbol ∷ decimal k
 
     pub branches_text : Branches → List ℕ
     branches_text no_branch = semicolon ∷ []

@@ -1,60 +1,45 @@
 //! Bounds of boards, by which a board is told from all that lie within, without a look at each.
 
-ghost use Rattle.std.specs.Prelude.{◌≡◌, ◌<◌, ◌↔◌, ◌&&◌, ◌||◌, ℕ, All, IsTrue, Some, None};
-ghost use Rattle.tt_sgf.specs.Words.{bit_in};
+ghost use Rattle.std.specs.Prelude.{◌≡◌, ◌<◌, ◌↔◌, IsTrue, Some};
 ghost use Rattle.tt_sgf.specs.declared.bits.TheConstants.{BITS};
-ghost use Rattle.tt_proof.specs.Bounds.{IsBetween, IsWithin, IsWider};
+ghost use Rattle.tt_proof.specs.Bounds.{IsWithin, IsWider, HasStones, hash_bit};
 
 use tt_board::{Board, Colour};
-use tt_sgf::Bits;
+use tt_game::board_hash;
+use tt_sgf::{BITS, Bits};
 
-/// The stones of a colour that all of some boards have, and those that some of them has.
-#[derive(Clone, Copy)]
-pub struct Span {
-    pub floor: Bits,
-    pub ceiling: Bits,
-}
+/// The lowest bits of a hash say least, so its bit is taken from those above.
+const LOW: u64 = 0x100_0000_0000;
 
-impl Span {
-    /// That of one board alone.
-    fn of(board: &Board, colour: Colour) -> Span
-        ensures { IsBetween result colour board.now }
-    {
-        let stones = *board.bits(colour);
-        Span {
-            floor: stones,
-            ceiling: stones,
-        }
-    }
-
-    /// That of the boards of both.
-    fn both(&self, other: &Span) -> Span
-        ensures floor { (p : ℕ) → p < BITS → bit_in result.floor.words p ≡ (bit_in self.now.floor.words p && bit_in other.now.floor.words p) }
-        ensures ceiling { (p : ℕ) → p < BITS → bit_in result.ceiling.words p ≡ (bit_in self.now.ceiling.words p || bit_in other.now.ceiling.words p) }
-    {
-        Span {
-            floor: self.floor.and(&other.floor),
-            ceiling: self.ceiling.or(&other.ceiling),
-        }
-    }
-
-    /// Whether the board has each stone of the floor, and none beside the ceiling.
-    fn has(&self, board: &Board, colour: Colour) -> bool
-        ensures { IsTrue result ↔ IsBetween self.now colour board.now }
-    {
-        let stones = board.bits(colour);
-        if !self.floor.are_covered(stones, stones) {
-            return false;
-        }
-        stones.are_covered(&self.ceiling, &self.ceiling)
-    }
-}
-
-/// The stones of each colour that all of some boards have, and those that some of them has.
+/// The stones of each colour that all of some boards have, and a bit for the hash of each of these boards.
 #[derive(Clone, Copy)]
 pub struct Bound {
-    pub black: Span,
-    pub white: Span,
+    pub black: Bits,
+    pub white: Bits,
+    pub hashes: Bits,
+}
+
+/// The bit of a board's hash.
+fn hash_bit(board: &Board) -> usize
+    ensures value { result ≡ hash_bit board.now }
+    ensures small { result < BITS }
+{
+    (board_hash(board) / LOW) as usize % BITS
+}
+
+/// The stones of a colour on the board.
+fn stones_of(board: &Board, colour: Colour) -> Bits
+    ensures { HasStones result colour board.now }
+{
+    *board.bits(colour)
+}
+
+/// Whether the board has each of these stones of the colour.
+fn has_stones(stones: &Bits, board: &Board, colour: Colour) -> bool
+    ensures { IsTrue result ↔ HasStones stones.now colour board.now }
+{
+    let there = board.bits(colour);
+    stones.are_covered(there, there)
 }
 
 impl Bound {
@@ -62,9 +47,12 @@ impl Bound {
     pub fn of(board: &Board) -> Bound
         ensures { IsWithin (Some result) board.now }
     {
+        let mut hashes = Bits::none();
+        hashes.set(hash_bit(board));
         Bound {
-            black: Span::of(board, Colour::Black),
-            white: Span::of(board, Colour::White),
+            black: stones_of(board, Colour::Black),
+            white: stones_of(board, Colour::White),
+            hashes,
         }
     }
 
@@ -74,8 +62,9 @@ impl Bound {
         ensures right { IsWider (Some result) (Some other.now) }
     {
         Bound {
-            black: self.black.both(&other.black),
-            white: self.white.both(&other.white),
+            black: self.black.and(&other.black),
+            white: self.white.and(&other.white),
+            hashes: self.hashes.or(&other.hashes),
         }
     }
 
@@ -83,10 +72,9 @@ impl Bound {
     pub fn has(&self, board: &Board) -> bool
         ensures { IsTrue result ↔ IsWithin (Some self.now) board.now }
     {
-        if !self.black.has(board, Colour::Black) {
-            return false;
-        }
-        self.white.has(board, Colour::White)
+        has_stones(&self.black, board, Colour::Black)
+            && has_stones(&self.white, board, Colour::White)
+            && self.hashes.has(hash_bit(board))
     }
 }
 

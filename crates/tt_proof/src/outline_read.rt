@@ -1,9 +1,11 @@
 //! Reads certificates with shared parts.
 
-ghost use Rattle.std.specs.Prelude.{◌≡◌, ◌≤◌, ◌+◌, ◌++◌, ◌∷◌, decimal, IfOk, OnOk, IfSome};
+ghost use Rattle.std.specs.Prelude.{◌≡◌, ◌≤◌, ◌+◌, ◌++◌, ◌∷◌, [], decimal, IfOk, OnOk, IfSome};
 ghost use Rattle.tt_sgf.specs.declared.size.TheConstants.{MOST_POINTS};
-ghost use Rattle.tt_proof.specs.CertificateText.{pick_mark, reply_mark, side_text};
-ghost use Rattle.tt_proof.specs.Outlines.{IsSharedCertificate, outline_of, branches_of_list, name_text, part_mark};
+ghost use Rattle.tt_proof.specs.CertificateText.{pick_symbol, reply_symbol, side_text};
+ghost use Rattle.tt_proof.specs.declared.tree.TheConstants.{MOST_DEPTH};
+ghost use Rattle.tt_proof.specs.Strategy.{depth};
+ghost use Rattle.tt_proof.specs.Outlines.{IsSharedCertificate, outline_of, unfolded, branches_of_list, name_text, part_symbol};
 ghost use Rattle.tt_proof.specs.inside.OutlineReading.{ReadsOutline, ReadsBranches, with_depth};
 
 use crate::certificate_read::{CertFault, after_end, after_side, read_turn};
@@ -70,7 +72,7 @@ fn read_part<'a>(
     depths: &Vec<u16>,
     size: Size,
 ) -> Result<(Outline, u16, &'a [u8]), CertFault>
-    ensures { IfOk result (λ r. ReadsOutline size left depths.now.items depths.now.items (outline_of r.0) r.1 (part_mark ∷ bytes.now) r.2.now) }
+    ensures { IfOk result (λ r. ReadsOutline size left depths.now.items depths.now.items (outline_of r.0) r.1 (part_symbol ∷ bytes.now) r.2.now) }
 {
     let number = leading_number(bytes);
     if number > MOST_NAME {
@@ -155,7 +157,7 @@ fn read_pick<'a>(
     left: u16,
     depths: &mut Vec<u16>,
 ) -> Result<(Outline, u16, &'a [u8]), CertFault>
-    ensures { IfOk result (λ r. ReadsOutline size left depths.old.items depths.new.items (outline_of r.0) r.1 (name_text named ++ (pick_mark ∷ bytes.now)) r.2.now) }
+    ensures { IfOk result (λ r. ReadsOutline size left depths.old.items depths.new.items (outline_of r.0) r.1 (name_text named ++ (pick_symbol ∷ bytes.now)) r.2.now) }
 {
     match read_turn(bytes, size) {
         None => Err(CertFault::Syntax),
@@ -186,7 +188,7 @@ fn read_reply<'a>(
     left: u16,
     depths: &mut Vec<u16>,
 ) -> Result<(Outline, u16, &'a [u8]), CertFault>
-    ensures { IfOk result (λ r. ReadsOutline size left depths.old.items depths.new.items (outline_of r.0) r.1 (name_text named ++ (reply_mark ∷ bytes.now)) r.2.now) }
+    ensures { IfOk result (λ r. ReadsOutline size left depths.old.items depths.new.items (outline_of r.0) r.1 (name_text named ++ (reply_symbol ∷ bytes.now)) r.2.now) }
 {
     match read_branches(alloc, bytes, size, left, depths) {
         Err(fault) => Err(fault),
@@ -244,19 +246,22 @@ fn read_branches<'a>(
     }
 }
 
-/// The outline that the bytes behind the side's word spell.
+/// The outline that the bytes behind the side's word spell, whose tree is at most so deep.
 fn read_parts_for(
     alloc: Global,
     bytes: &[u8],
     rest: &[u8],
     s: Side,
     size: Size,
+    most_depth: u16,
 ) -> Result<(Side, Outline), CertFault>
-    requires { bytes.now ≡ side_text s ++ rest.now }
-    ensures { IfOk result (λ r. IsSharedCertificate size bytes.now r.0 (outline_of r.1)) }
+    requires side { bytes.now ≡ side_text s ++ rest.now }
+    requires depth { most_depth ≤ MOST_DEPTH }
+    ensures certificate { IfOk result (λ r. IsSharedCertificate size bytes.now r.0 (outline_of r.1)) }
+    ensures low { IfOk result (λ r. depth (unfolded [] (outline_of r.1)) ≤ most_depth) }
 {
     let mut depths = Vec::new(alloc);
-    match read_outline(alloc, rest, size, MOST_DEPTH, &mut depths) {
+    match read_outline(alloc, rest, size, most_depth, &mut depths) {
         Err(fault) => Err(fault),
         Ok((outline, _, more)) => {
             if more.is_empty() {
@@ -267,15 +272,29 @@ fn read_parts_for(
     }
 }
 
+/// The side and the outline that the bytes are the certificate of, on a board of this size. Its tree is at most so deep.
+pub(crate) fn read_within(
+    alloc: Global,
+    bytes: &[u8],
+    size: Size,
+    most_depth: u16,
+) -> Result<(Side, Outline), CertFault>
+    requires { most_depth ≤ MOST_DEPTH }
+    ensures certificate { IfOk result (λ r. IsSharedCertificate size bytes.now r.0 (outline_of r.1)) }
+    ensures low { IfOk result (λ r. depth (unfolded [] (outline_of r.1)) ≤ most_depth) }
+{
+    match after_side(bytes, Side::Attacker) {
+        Some(rest) => read_parts_for(alloc, bytes, rest, Side::Attacker, size, most_depth),
+        None => match after_side(bytes, Side::Defender) {
+            Some(rest) => read_parts_for(alloc, bytes, rest, Side::Defender, size, most_depth),
+            None => Err(CertFault::Syntax),
+        },
+    }
+}
+
 /// The side and the outline that the bytes are the certificate of, on a board of this size.
 pub fn read_parts(alloc: Global, bytes: &[u8], size: Size) -> Result<(Side, Outline), CertFault>
     ensures { IfOk result (λ r. IsSharedCertificate size bytes.now r.0 (outline_of r.1)) }
 {
-    match after_side(bytes, Side::Attacker) {
-        Some(rest) => read_parts_for(alloc, bytes, rest, Side::Attacker, size),
-        None => match after_side(bytes, Side::Defender) {
-            Some(rest) => read_parts_for(alloc, bytes, rest, Side::Defender, size),
-            None => Err(CertFault::Syntax),
-        },
-    }
+    read_within(alloc, bytes, size, MOST_DEPTH)
 }

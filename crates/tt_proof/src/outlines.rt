@@ -1,7 +1,8 @@
 //! Outlines: strategy trees in which a part is written once and named.
 
-ghost use Rattle.std.specs.Prelude.{◌≡◌, IfOk};
-ghost use Rattle.tt_proof.specs.Outlines.{picked, replied, outline_of, branches_of_list};
+ghost use Rattle.std.specs.Prelude.{◌≡◌, [], IfOk};
+ghost use Rattle.tt_proof.specs.Outlines.{picked, replied, outline_of, branches_of_list, unfolded};
+ghost use Rattle.tt_proof.specs.Proven.{first_of};
 
 use std::alloc::Global;
 use std::sync::Arc;
@@ -46,5 +47,17 @@ impl Outline {
         ensures { IfOk result (λ o. outline_of o ≡ replied named (branches_of_list branches.items)) }
     {
         Ok(Outline::Reply(named, Arc::new(alloc, branches)?))
+    }
+
+    /// The turn that the tree begins with, where it plays one at once.
+    pub(crate) fn first(&self) -> Option<Turn>
+        ensures { result ≡ first_of (unfolded [] (outline_of self.now)) }
+    {
+        match self {
+            Outline::Pick(_, turn, _) => Some(*turn),
+            Outline::Done => None,
+            Outline::Reply(_, _) => None,
+            Outline::Part(_) => None,
+        }
     }
 }

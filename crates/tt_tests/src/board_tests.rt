@@ -16,7 +16,7 @@ pub(crate) fn sized(line: &[u8]) -> Option<(Size, &[u8])> {
 }
 
 /// The number of the point of a turn in letters, column before row; past the board for `--`, a pass.
-pub(crate) fn number_of(size: Size, word: &[u8]) -> u16 {
+pub(crate) fn point_number(size: Size, word: &[u8]) -> u16 {
     if word.len() < 2 || word[0] < b'a' || word[1] < b'a' {
         return u16::MAX;
     }
@@ -30,7 +30,7 @@ fn played(size: Size, turns: &[u8]) -> Option<Board> {
     let mut board = Board::empty(size);
     let mut colour = Colour::Black;
     for word in turns.chunks(3) {
-        if let Some(p) = board.size().point(number_of(size, word)) {
+        if let Some(p) = board.size().point(point_number(size, word)) {
             board = board.play(colour, p).ok()?;
         }
         colour = colour.other();

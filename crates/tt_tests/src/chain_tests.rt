@@ -4,7 +4,7 @@ ghost use Rattle.std.specs.Prelude.{◌≡◌, ◌<◌};
 ghost use Rattle.tt_sgf.specs.Sizes.{point_count};
 
 use crate::board_tables::CHAIN_GAMES;
-use crate::board_tests::{number_of, sized};
+use crate::board_tests::{point_number, sized};
 use crate::rows::{Table, cut, holding, short_number};
 use std::alloc::Global;
 use tt_board::{Board, Colour, CountedBoard};
@@ -255,7 +255,7 @@ fn played(size: Size, turns: &[u8]) -> Option<Most> {
         joined: 0,
     };
     for word in turns.chunks(3) {
-        if let Some(p) = size.point(number_of(size, word)) {
+        if let Some(p) = size.point(point_number(size, word)) {
             let next = counted.play(colour, p)?;
             most = most.with(done(&board, colour, p, &next));
             board = next;

@@ -4,8 +4,8 @@ use crate::drawings::boards_of;
 use crate::footprint_tables::TABLES;
 use crate::problem_tests::posed;
 use crate::proof_tests::{
-    KILLED, LIVES, ONE_MOVE, PLAYED, SPLIT, UNPASSED, found, found_passed, made_by_attacker,
-    made_by_defender, passed,
+    KILLED_CERT, LIVES_CERT, ONE_MOVE, PLAYED, SPLIT, UNPASSED, found, found_passed,
+    made_by_attacker, made_by_defender, passed,
 };
 use crate::rows::{Table, cut, holding};
 use std::alloc::Global;
@@ -199,20 +199,20 @@ fn rests_as_lives(alloc: Global, proof: Option<Proof>) -> bool {
 #[test]
 fn of_worked_proofs(rt: HostRuntime) {
     let alloc = rt.alloc();
-    assert!(&rt; rests_as_killed(alloc, found(alloc, SPLIT, KILLED)));
+    assert!(&rt; rests_as_killed(alloc, found(alloc, SPLIT, KILLED_CERT)));
     assert!(&rt; rests_as_killed(alloc, made_by_attacker(alloc)));
-    assert!(&rt; rests_as_lives(alloc, found(alloc, PLAYED, LIVES)));
+    assert!(&rt; rests_as_lives(alloc, found(alloc, PLAYED, LIVES_CERT)));
     assert!(&rt; rests_as_lives(alloc, made_by_defender(alloc)));
 }
 
 /// Whether the attacker's proof of the first problem has its footprint at a problem.
 fn killed_at(alloc: Global, other: &[u8]) -> bool {
-    carries(alloc, SPLIT, KILLED, other, b".W.W", b".WB./B.B.") == Some(true)
+    carries(alloc, SPLIT, KILLED_CERT, other, b".W.W", b".WB./B.B.") == Some(true)
 }
 
 /// Whether the defender's proof of the second problem has its footprint there.
 fn lives_there(alloc: Global) -> bool {
-    carries(alloc, PLAYED, LIVES, PLAYED, b".W.W/.WB.", b"") == Some(true)
+    carries(alloc, PLAYED, LIVES_CERT, PLAYED, b".W.W/.WB.", b"") == Some(true)
 }
 
 #[test]

@@ -43,9 +43,9 @@ pub(crate) const UNPASSED: &[u8] = b"(;SZ[4:1]AW[ba][da]PL[W]TR[ba])";
 pub(crate) const ONE_MOVE: &[u8] = b"(;SZ[4:1]AW[da]PL[W];W[ba]TR[ba])";
 
 /// The certificates of the first problem and of the second one.
-pub(crate) const KILLED: &[u8] = b"killed !ca?aa.--!aa.;";
+pub(crate) const KILLED_CERT: &[u8] = b"killed !ca?aa.--!aa.;";
 
-pub(crate) const LIVES: &[u8] = b"lives ?--!--.;";
+pub(crate) const LIVES_CERT: &[u8] = b"lives ?--!--.;";
 
 /// Whether what comes of a certificate at a problem is as it is written.
 fn comes_to(alloc: Global, record: &[u8], certificate: &[u8], want: &[u8]) -> bool {
@@ -244,7 +244,7 @@ fn shows_killed(proof: &Proof, first: Turn) -> bool {
 
 /// Whether the proof of the first problem's certificate does.
 fn found_shows_killed(alloc: Global) -> Option<bool> {
-    let proof = found(alloc, SPLIT, KILLED)?;
+    let proof = found(alloc, SPLIT, KILLED_CERT)?;
     Some(shows_killed(&proof, turn(proof.present().size(), 2)))
 }
 
@@ -258,8 +258,8 @@ fn found_has_text(alloc: Global, record: &[u8], certificate: &[u8]) -> Option<bo
 fn proofs_by_replay(rt: HostRuntime) {
     let alloc = rt.alloc();
     assert!(&rt; found_shows_killed(alloc) == Some(true));
-    assert!(&rt; found_has_text(alloc, SPLIT, KILLED) == Some(true));
-    assert!(&rt; found_has_text(alloc, PLAYED, LIVES) == Some(true));
+    assert!(&rt; found_has_text(alloc, SPLIT, KILLED_CERT) == Some(true));
+    assert!(&rt; found_has_text(alloc, PLAYED, LIVES_CERT) == Some(true));
 }
 
 /// Whether the tree of a certificate is refused at a line since it doesn't win there.
@@ -282,9 +282,9 @@ fn is_rejected_at(alloc: Global, record: &[u8], certificate: &[u8]) -> Option<bo
 #[test]
 fn trees_that_do_not_win(rt: HostRuntime) {
     let alloc = rt.alloc();
-    assert!(&rt; is_rejected_at(alloc, PLAYED, KILLED) == Some(true));
-    assert!(&rt; is_rejected_at(alloc, SPLIT, LIVES) == Some(true));
-    assert!(&rt; is_rejected_at(alloc, SPLIT, KILLED) == Some(false));
+    assert!(&rt; is_rejected_at(alloc, PLAYED, KILLED_CERT) == Some(true));
+    assert!(&rt; is_rejected_at(alloc, SPLIT, LIVES_CERT) == Some(true));
+    assert!(&rt; is_rejected_at(alloc, SPLIT, KILLED_CERT) == Some(false));
 }
 
 /// The proof after a turn with which the problem is won.
@@ -367,8 +367,8 @@ fn made_has_text(alloc: Global, made: Option<Proof>, text: &[u8]) -> Option<bool
 #[test]
 fn proofs_by_parts(rt: HostRuntime) {
     let alloc = rt.alloc();
-    assert!(&rt; made_has_text(alloc, made_by_attacker(alloc), KILLED) == Some(true));
-    assert!(&rt; made_has_text(alloc, made_by_defender(alloc), LIVES) == Some(true));
+    assert!(&rt; made_has_text(alloc, made_by_attacker(alloc), KILLED_CERT) == Some(true));
+    assert!(&rt; made_has_text(alloc, made_by_defender(alloc), LIVES_CERT) == Some(true));
 }
 
 /// The letters of what is so of a proof and a line: `k` where it has the line's key, `f` where it fits the line, and `s` where

@@ -2,7 +2,7 @@
 
 ghost use Rattle.std.specs.Prelude.{◌≡◌, ◌+◌, ◌≤◌};
 
-use crate::proof_tests::{KILLED, found};
+use crate::proof_tests::{KILLED_CERT, found};
 use crate::search_tests::{AMPLE, SPLIT, has_trace, put_counts, put_step, searching, stepped};
 use std::alloc::Global;
 use std::sync::Arc;
@@ -230,7 +230,7 @@ fn fills(store: &mut PrivateStore, proof: &Arc<Proof>, times: u32) -> bool {
 
 /// Whether a new store does.
 fn fills_a_new_store(alloc: Global, times: u32) -> Option<bool> {
-    let proof = Arc::new(alloc, found(alloc, SPLIT, KILLED)?).ok()?;
+    let proof = Arc::new(alloc, found(alloc, SPLIT, KILLED_CERT)?).ok()?;
     let mut store = PrivateStore::new(alloc);
     Some(fills(&mut store, &proof, times))
 }

@@ -1,7 +1,7 @@
 use Rattle.tt_proof.specs.declared.certificate_read.CertFault.TheVariants.{Syntax, TooDeep}
 use Rattle.std.proofs.Common.{length, rules, arith, ◌≡◌, ◌+◌, ◌-◌, ◌++◌, ◌⊎◌, ℕ, suc, [], ◌∷◌, ◌∙◌, sym, ap, subst, inl, inr}
 use Rattle.tt_proof.specs.Strategy.{number_on}
-use Rattle.tt_proof.specs.CertificateText.{won_mark, pick_mark, reply_mark}
+use Rattle.tt_proof.specs.CertificateText.{won_symbol, pick_symbol, reply_symbol}
 use Rattle.tt_proof.specs.inside.CertificateReading.{DeepAt, EntriesDeepAt, FaultAt, EntriesFaultAt}
 use Rattle.tt_proof.proofs.StrategyLemmas.{strategy_of_done, strategy_of_reply}
 use Rattle.tt_proof.proofs.ReadLemmas.{not_tree, pick_no_turn, pick_deep, pick_fault, reply_read, reply_fault}
@@ -27,12 +27,12 @@ read_pick-returns-in-None t c = pick_no_turn c.args.size c.args.left c.args.byte
 
 pub read_pick-returns-then-left-eq0 : goal.read_pick-returns-then-left-eq0
 read_pick-returns-then-left-eq0 t c =
-    subst (λ k. DeepAt c.args.size k (pick_mark ∷ c.args.bytes.now)) (sym c.if-left-eq0.true)
+    subst (λ k. DeepAt c.args.size k (pick_symbol ∷ c.args.bytes.now)) (sym c.if-left-eq0.true)
     (pick_deep c.args.size c.in-Some.turn c.args.bytes.now c.in-Some.after.now c.in-Some.ensures.0 c.in-Some.ensures.3)
 
 pub read_pick-returns-in-Err : goal.read_pick-returns-in-Err
 read_pick-returns-in-Err t c =
-    subst (λ k. FaultAt c.args.size k (pick_mark ∷ c.args.bytes.now) c.in-Err.fault) (sym (one_more c.args.left c.if-left-eq0.false))
+    subst (λ k. FaultAt c.args.size k (pick_symbol ∷ c.args.bytes.now) c.in-Err.fault) (sym (one_more c.args.left c.if-left-eq0.false))
     (pick_fault c.args.size (c.args.left - 1) c.in-Some.turn c.args.bytes.now c.in-Some.after.now c.in-Err.fault c.in-Some.ensures.0 c.in-Some.ensures.3 c.in-Err.ensures)
 
 pub read_entries-returns-in-Some : goal.read_entries-returns-in-Some
@@ -94,8 +94,9 @@ read_tree-returns-then-first-eq46 t c =
       text = c.in-Some.ensures.cases.0 ∙ ap (λ b. b ∷ c.in-Some.rest.now) c.if-first-eq46.true;
     })
 
--- a byte that is none of the three marks is no mark
-neither : (first b : ℕ) → first ≡ b → (first ≡ won_mark → ⊥) → (first ≡ pick_mark → ⊥) → (first ≡ reply_mark → ⊥) → (b ≡ won_mark) ⊎ ((b ≡ pick_mark) ⊎ (b ≡ reply_mark)) → ⊥
+-- a byte that is none of the three symbols begins no tree
+neither : (first b : ℕ) → first ≡ b → (first ≡ won_symbol → ⊥) → (first ≡ pick_symbol → ⊥) → (first ≡ reply_symbol → ⊥)
+    → (b ≡ won_symbol) ⊎ ((b ≡ pick_symbol) ⊎ (b ≡ reply_symbol)) → ⊥
 neither first b e x y z (inl h) = x (e ∙ h)
 neither first b e x y z (inr (inl h)) = y (e ∙ h)
 neither first b e x y z (inr (inr h)) = z (e ∙ h)

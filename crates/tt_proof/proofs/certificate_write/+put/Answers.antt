@@ -1,5 +1,5 @@
 use Rattle.std.proofs.Common.{rules, ◌≡◌, ◌∙◌, ◌++◌, List, [], ◌∷◌, ℕ, ap, append_assoc}
-use Rattle.tt_proof.specs.CertificateText.{pick_mark, reply_mark}
+use Rattle.tt_proof.specs.CertificateText.{pick_symbol, reply_symbol}
 use Rattle.std.proofs.lemmas.Result.{on_ok_weaker}
 use Rattle.tt_proof.specs.declared.tree.Tree.TheViews.{the_lemmas}
 use Rattle.tt_proof.proofs.StrategyLemmas.{strategy_of_done, strategy_of_pick, strategy_of_reply}
@@ -27,9 +27,9 @@ put_tree-returns-in_ok-put_turn-in-Pick t c =
     (on_ok_weaker c.put_tree.result (λ e. e ∙ joined _ _ _ _ _ c.in_ok-put-in-Pick.ensures c.in_ok-put_turn-in-Pick.ensures.ok) c.put_tree.ensures)
   where
     -- what is written behind `!` and a turn
-    joined : (a b d x y : List ℕ) → b ≡ a ++ (pick_mark ∷ []) → d ≡ b ++ x → d ++ y ≡ a ++ (pick_mark ∷ (x ++ y))
+    joined : (a b d x y : List ℕ) → b ≡ a ++ (pick_symbol ∷ []) → d ≡ b ++ x → d ++ y ≡ a ++ (pick_symbol ∷ (x ++ y))
     joined a b d x y e f =
-        ap (λ w. w ++ y) (f ∙ ap (λ w. w ++ x) e) ∙ append_assoc (a ++ (pick_mark ∷ [])) x y ∙ append_assoc a (pick_mark ∷ []) (x ++ y)
+        ap (λ w. w ++ y) (f ∙ ap (λ w. w ++ x) e) ∙ append_assoc (a ++ (pick_symbol ∷ [])) x y ∙ append_assoc a (pick_symbol ∷ []) (x ++ y)
 
 pub put_tree-returns-in_ok-put-in-Reply : goal.put_tree-returns-in_ok-put-in-Reply
 put_tree-returns-in_ok-put-in-Reply t c =
@@ -37,5 +37,5 @@ put_tree-returns-in_ok-put-in-Reply t c =
     (on_ok_weaker c.put_entries.result (λ e. e ∙ joined _ _ _ c.in_ok-put-in-Reply.ensures) c.put_entries.ensures)
   where
     -- what is written behind `?`
-    joined : (a b y : List ℕ) → b ≡ a ++ (reply_mark ∷ []) → b ++ y ≡ a ++ (reply_mark ∷ y)
-    joined a b y e = ap (λ w. w ++ y) e ∙ append_assoc a (reply_mark ∷ []) y
+    joined : (a b y : List ℕ) → b ≡ a ++ (reply_symbol ∷ []) → b ++ y ≡ a ++ (reply_symbol ∷ y)
+    joined a b y e = ap (λ w. w ++ y) e ∙ append_assoc a (reply_symbol ∷ []) y

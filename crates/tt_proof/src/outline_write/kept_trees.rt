@@ -1,0 +1,141 @@
+//! Trees that are written, by their positions. No contract speaks of what is kept.
+
+use crate::basis::Basis;
+use std::alloc::Global;
+use tt_game::{Line, board_hash};
+use tt_sgf::NoMemory;
+
+/// How many chains the kept trees are in, by the hashes of their boards.
+const CHAINS: usize = 65_536;
+
+/// No index at all.
+const NONE: usize = usize::MAX;
+
+/// What is known of a tree that is written: on what it rests, and how many turns its longest way down has.
+#[derive(Drop)]
+pub(crate) struct Written {
+    pub(crate) basis: Basis,
+    pub(crate) depth: u16,
+}
+
+impl Written {
+    /// The same once more.
+    fn try_clone(&self, alloc: Global) -> Result<Written, NoMemory> {
+        Ok(Written {
+            basis: self.basis.try_clone(alloc)?,
+            depth: self.depth,
+        })
+    }
+}
+
+/// A kept tree, the hash of its board, the tree before it in its chain, and whether a part stands for it.
+#[derive(Drop)]
+struct KeptTree {
+    written: Written,
+    hash: u64,
+    before: usize,
+    is_used: bool,
+}
+
+/// Trees in the order in which they end, and the last one of each chain.
+#[derive(Drop)]
+pub(crate) struct KeptTrees {
+    trees: Vec<KeptTree>,
+    last: Vec<usize>,
+}
+
+/// The chain of a hash: its highest bits say most.
+fn chain_of(hash: u64) -> usize {
+    (hash >> 48) as usize
+}
+
+impl KeptTrees {
+    /// None yet.
+    pub(crate) fn new(alloc: Global) -> Result<KeptTrees, NoMemory> {
+        Ok(KeptTrees {
+            trees: Vec::new(alloc),
+            last: vec![in alloc; NONE; CHAINS]?,
+        })
+    }
+
+    /// The last tree of the hash's chain.
+    fn last_of(&self, hash: u64) -> usize {
+        match self.last.get(chain_of(hash)) {
+            Some(last) => *last,
+            None => NONE,
+        }
+    }
+
+    /// The youngest tree that wins at the line and is at most so deep.
+    pub(crate) fn find(&self, line: &Line, most_depth: u16) -> Option<usize> {
+        let hash = board_hash(line.present());
+        let mut next = self.last_of(hash);
+        for _ in 0..self.trees.len() {
+            let tree = self.trees.get(next)?;
+            if tree.hash == hash
+                && tree.written.depth <= most_depth
+                && tree.written.basis.is_met(line)
+            {
+                return Some(next);
+            }
+            next = tree.before;
+        }
+        None
+    }
+
+    /// Keeps a tree that is written at the line, and answers its index.
+    pub(crate) fn keep(
+        &mut self,
+        alloc: Global,
+        line: &Line,
+        written: &Written,
+    ) -> Result<usize, NoMemory> {
+        let hash = board_hash(line.present());
+        let index = self.trees.len();
+        let kept = KeptTree {
+            written: written.try_clone(alloc)?,
+            hash,
+            before: self.last_of(hash),
+            is_used: false,
+        };
+        self.trees.push(kept)?;
+        if let Some(last) = self.last.get_mut(chain_of(hash)) {
+            *last = index;
+        }
+        Ok(index)
+    }
+
+    /// What is known of the tree at the index, for which a part stands from now on.
+    pub(crate) fn part(
+        &mut self,
+        alloc: Global,
+        index: usize,
+    ) -> Result<Option<Written>, NoMemory> {
+        let Some(tree) = self.trees.get_mut(index) else {
+            return Ok(None);
+        };
+        tree.is_used = true;
+        Ok(Some(tree.written.try_clone(alloc)?))
+    }
+
+    /// Whether a part stands for the tree at the index.
+    pub(crate) fn is_used(&self, index: usize) -> bool {
+        match self.trees.get(index) {
+            Some(tree) => tree.is_used,
+            None => false,
+        }
+    }
+
+    /// The name of each tree: how many before it have parts that stand for them.
+    pub(crate) fn names(&self, alloc: Global) -> Result<Vec<usize>, NoMemory> {
+        let mut names = Vec::with_capacity(alloc, self.trees.len())?;
+        let mut count = 0usize;
+        for tree in &self.trees {
+            names.push(count)?;
+            if tree.is_used {
+                count = count.saturating_add(1);
+            }
+        }
+        Ok(names)
+    }
+}
