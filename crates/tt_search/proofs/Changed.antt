@@ -12,7 +12,7 @@ use Rattle.tt_search.specs.inside.Choices.{Choices, node_with, best_index}
 use Rattle.tt_search.specs.inside.Pairs.{changed_sum, ArePair}
 use Rattle.tt_search.specs.inside.Edges.{edge_turns, edge_trees}
 use Rattle.tt_search.specs.inside.ChildNodes.{choices_of, child_of, AreFew}
-use Rattle.tt_search.specs.inside.Sprouting.{IsPut}
+use Rattle.tt_search.specs.inside.ChildSteps.{IsPut}
 use Rattle.tt_search.specs.declared.tree.children.ChildNodes.{ChildNodes}
 use Rattle.tt_search.specs.declared.tree.numbers.Pair.{Pair}
 use Rattle.tt_search.proofs.Indices.{length-turns_of, length-trees_of}

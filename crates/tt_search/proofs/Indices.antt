@@ -9,7 +9,7 @@ use Rattle.tt_search.specs.inside.Weight.{weight, weight_all}
 use Rattle.tt_game.specs.declared.turns.Turn.{Turn}
 use Rattle.tt_search.specs.PartialTree.{PartialTree, fresh}
 use Rattle.tt_search.specs.inside.Edges.{edge_turn, edge_state_of, edge_turns, tree_of, grown_behind, edge_trees, counted, grown_in}
-use Rattle.tt_search.specs.inside.Sprouting.{IsFreshAt}
+use Rattle.tt_search.specs.inside.ChildSteps.{IsFreshAt}
 use Rattle.tt_search.specs.declared.tree.edges.Edge.{Edge}
 use Rattle.tt_search.specs.declared.tree.edges.EdgeState.{EdgeState}
 use Rattle.tt_search.specs.declared.tree.edges.EdgeState.TheVariants.{Fresh, Won, Grown}
@@ -221,18 +221,18 @@ most_behind Grown n [] l = absurd (omega (arith, l))
 most_behind Grown n (t ∷ ts) l = omega (arith, l)
 
 -- where a fresh child grows, a node inserted at its rank becomes the tree at its place
-pub sprouted : (es : List Edge) (ts : List PartialTree) (i : ℕ) (e : Edge) (tree : PartialTree) → IsFreshAt i es → edge_state_of e ≡ Grown → grown_in (take i es) ≤ length ts
+pub inserted_at_rank : (es : List Edge) (ts : List PartialTree) (i : ℕ) (e : Edge) (tree : PartialTree) → IsFreshAt i es → edge_state_of e ≡ Grown → grown_in (take i es) ≤ length ts
     → edge_trees (set es i e) (take (grown_in (take i es)) ts ++ tree ∷ drop (grown_in (take i es)) ts) ≡ set (edge_trees es ts) i tree
-sprouted [] ts i e tree h g r = absurd h
-sprouted (x ∷ es) ts zero e tree h g r =
+inserted_at_rank [] ts i e tree h g r = absurd h
+inserted_at_rank (x ∷ es) ts zero e tree h g r =
     ap (λ m. tree_of m (tree ∷ ts) ∷ edge_trees es (grown_behind m (tree ∷ ts))) g
     ∙ ap (λ m. tree ∷ edge_trees es (grown_behind m ts)) (sym h)
-sprouted (x ∷ es) ts (suc i) e tree h g r =
+inserted_at_rank (x ∷ es) ts (suc i) e tree h g r =
     let n : ℕ = grown_in (take i es) in
     let row : List PartialTree = take (counted (edge_state_of x) n) ts ++ tree ∷ drop (counted (edge_state_of x) n) ts in
     ap (λ u. u ∷ edge_trees (set es i e) (grown_behind (edge_state_of x) row)) (insert_first (edge_state_of x) n ts tree r)
     ∙ ap (λ us. tree_of (edge_state_of x) ts ∷ edge_trees (set es i e) us) (insert_behind (edge_state_of x) n ts tree r)
-    ∙ ap (λ us. tree_of (edge_state_of x) ts ∷ us) (sprouted es (grown_behind (edge_state_of x) ts) i e tree h g (most_behind (edge_state_of x) n ts r))
+    ∙ ap (λ us. tree_of (edge_state_of x) ts ∷ us) (inserted_at_rank es (grown_behind (edge_state_of x) ts) i e tree h g (most_behind (edge_state_of x) n ts r))
 
 -- ---- edges are added
 

@@ -26,7 +26,7 @@ use Rattle.tt_search.specs.declared.tree.edges.Edge.{Edge}
 use Rattle.tt_search.specs.declared.tree.children.ChildNodes.{ChildNodes}
 use Rattle.tt_search.proofs.Indices.{length-trees_of, turn_at_index, nodes_behind, replies_at_end, replied_step}
 use Rattle.tt_search.proofs.Replies.{joined, joined_none, joined_push}
-use Rattle.tt_search.proofs.Sprouted.{any_default}
+use Rattle.tt_search.proofs.ChildSteps.{any_default}
 use Rattle.tt_search.proofs.Steps.{stays_in_more}
 use Rattle.tt_search.proofs.Strategies.{IsZeroAt, zero_at, own_zero, other_zero, all_zero, zero_sum}
 

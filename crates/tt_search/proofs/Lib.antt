@@ -9,7 +9,7 @@ pub mod Open
 pub mod Steady
 pub mod Asking
 pub mod Descending
-pub mod Sprouted
+pub mod ChildSteps
 pub mod WayDown
 pub mod Changed
 pub mod Advanced

@@ -11,7 +11,6 @@ use mathlib.Core.Path.{◌≡◌}
 use Rattle.std.proofs.Crossing.{crosses}
 use Rattle.std.specs.contracts.alloc.Global as Global
 use Rattle.std.specs.contracts.impls.GlobalAllocator.TheImpl.{ghosts}
-use Rattle.std.specs.contracts.boxed.Box as Box
 use Rattle.std.specs.contracts.sync.Arc as Arc
 use Rattle.tt_game.proofs.Sent.{line_send, side_send}
 use Rattle.tt_proof.specs.contracts.proven.Proof as Proof
@@ -50,12 +49,10 @@ plays_field = as_row_send Plays.the_field plays_send
 shared_field : IsSend (as_row (Arc.the_field Proof.the_row Global.the_row ghosts))
 shared_field = search (sendable, crosses, shared_send) depth 40
 
--- what a node has become holds packed children, or a box of them
-growth_layer : (child_nodes boxed : RattleType) → IsSend child_nodes → IsSend boxed → IsSend (NodeKnot.layer-Growth child_nodes boxed)
-growth_layer child_nodes boxed below above =
-    let children : IsSend (as_row (row_field child_nodes)) = as_row_send (row_field child_nodes) below in
-    let box : IsSend (Box.the_row boxed Global.the_row ghosts) = search (sendable, crosses, above) depth 40 in
-    variants_send (NodeKnot.type-Growth child_nodes boxed) (
+-- what a node has become holds packed children, of an expanded node or of one that has offered its proof
+growth_layer : (expanded offered : RattleType) → IsSend expanded → IsSend offered → IsSend (NodeKnot.layer-Growth expanded offered)
+growth_layer expanded offered below above =
+    variants_send (NodeKnot.type-Growth expanded offered) (
       tt,
       (
         (side_send, tt),
@@ -64,8 +61,8 @@ growth_layer child_nodes boxed below above =
           (
             (side_send, (plays_field, tt)),
             (
-              (best_child_field, (children, tt)),
-              ((side_send, (as_row_send (row_field _) box, (shared_field, tt))), tt),
+              (best_child_field, (as_row_send (row_field expanded) below, tt)),
+              ((side_send, (as_row_send (row_field offered) above, (shared_field, tt))), tt),
             ),
           ),
         ),

@@ -153,7 +153,7 @@ pub steps_offerable : (stop : Stop) (line : Standing) (room : ℕ) (old : Stage)
 steps_offerable stop line room old step new l m k =
     offerable line room new.tree l (taken_keeps (stand line room) k.before step new.tree (steady_keeps k.how_many (stand line room) old k.before k.steady m) k.taken)
 
--- two walks on one line with the same room stand at one place
+-- two walks on one line with the same room have one stand
 pub same_stand : (a b : Walk) → a.line ≡ b.line → a.room ≡ b.room → stand_of a ≡ stand_of b
 same_stand a b l r = ap (λ x. stand x a.room) l ∙ ap (stand b.line) r
 

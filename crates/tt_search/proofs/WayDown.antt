@@ -7,12 +7,12 @@ use Rattle.tt_search.specs.PartialTree.{PartialTree, fresh}
 use Rattle.tt_search.specs.inside.Choices.{Choices, node_with, best_index, best_child, with_best}
 use Rattle.tt_search.specs.inside.Walking.{Stand, stage, stand, stand_of, stand_after, MayGrow, IsDown}
 use Rattle.tt_search.specs.inside.Steady.{AreStepsAt, AreSteps}
-use Rattle.tt_search.specs.inside.Sprouting.{BestSteps}
+use Rattle.tt_search.specs.inside.ChildSteps.{BestSteps}
 use Rattle.tt_search.specs.declared.limits.Step.{Step}
 use Rattle.tt_search.specs.declared.walk.Stop.{Stop}
 use Rattle.tt_search.specs.declared.walk.Walk.{Walk}
 use Rattle.tt_search.proofs.Lifted.{IsFound, found, lengths}
-use Rattle.tt_search.proofs.Sprouted.{any_default}
+use Rattle.tt_search.proofs.ChildSteps.{any_default}
 use Rattle.tt_search.proofs.Steady.{steps_lifted}
 
 -- what is known of the turn to the best child

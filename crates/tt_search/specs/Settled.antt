@@ -11,7 +11,7 @@ abbrev pub picked_or_replied : Bool → Strategy → Entries → Strategy
 picked_or_replied true first all = first
 picked_or_replied false first all = reply all
 
--- the place of the first child that is settled for the side
+-- the index of the first child that is settled for the side
 abbrev pub first_settled : Side → Children → ℕ
 first_settled side children = index 0 (numbers side children)
 

@@ -21,7 +21,7 @@ pub mod Taken
 pub mod Steady
 pub mod Asking
 pub mod Descending
-pub mod Sprouting
+pub mod ChildSteps
 pub mod Searching
 pub mod Advanced
 pub mod Buckets

@@ -9,7 +9,7 @@ ghost use Rattle.tt_search.specs.inside.Choices.{node_with};
 ghost use Rattle.tt_search.specs.inside.Kept.{IsKept, IsKeptWith};
 ghost use Rattle.tt_search.specs.inside.Walking.{stage, stand_of};
 ghost use Rattle.tt_search.specs.inside.Descending.{MayDescend, Descends};
-ghost use Rattle.tt_search.specs.inside.Sprouting.{IsFreshAt, Sprouts, StepsBelow, BestSteps};
+ghost use Rattle.tt_search.specs.inside.ChildSteps.{IsFreshAt, FirstStepAt, StepsBelow, BestSteps};
 ghost use Rattle.tt_search.specs.inside.Taken.{Taken, IsLeft};
 ghost use Rattle.tt_search.specs.inside.Steady.{AreSteps};
 ghost use Rattle.tt_search.specs.Grants.{AskedBy};
@@ -349,7 +349,7 @@ impl ChildNodes {
     {
         match self.edges.at(index).edge_state() {
             EdgeState::Grown => self.grown[rank].grow(walk, stop, store, grants),
-            EdgeState::Fresh => self.sprout(index, rank, walk, store, grants),
+            EdgeState::Fresh => self.first_step_at(index, rank, walk, store, grants),
             EdgeState::Won(_) => unreachable!(),
         }
     }
@@ -358,7 +358,7 @@ impl ChildNodes {
     /// room for the node before its expansion is asked for and its proof is offered, so nothing is granted or kept of a node that the
     /// search can't hold. Where the step is stuck, the child has no node as before.
     #[inline(always)]
-    fn sprout<S: Store, G: Grants>(
+    fn first_step_at<S: Store, G: Grants>(
         &mut self,
         index: usize,
         rank: usize,
@@ -375,7 +375,7 @@ impl ChildNodes {
         ensures kept { (reason : _) → result ≡ Stuck reason → S.kept store.new ≡ S.kept store.old }
         ensures whole { HasItsNodes self.new }
         ensures before { take index self.new.edges ≡ take index self.old.edges }
-        ensures sprouts { Sprouts walk.old index self.old result self.new walk.new }
+        ensures first_step { FirstStepAt walk.old index self.old result self.new walk.new }
     {
         if make_room(&mut self.grown).is_err() {
             return Step::Stuck(Reason::Memory);

@@ -9,9 +9,7 @@ ghost use Rattle.tt_search.specs.Numbers.{number, numbers, least, IsUndecided};
 ghost use Rattle.tt_search.specs.Growing.{IsPartialTree};
 ghost use Rattle.tt_search.specs.inside.Within.{StaysWithin};
 ghost use Rattle.tt_search.specs.Settled.{strategy_for, first_settled, pick_at, replies};
-ghost use Rattle.tt_search.specs.inside.Kept.{IsKept};
-ghost use Rattle.tt_search.specs.inside.Shape.{shape};
-ghost use Rattle.tt_search.specs.inside.Offered.{IsProofOfTree, HoldsItsOwn};
+ghost use Rattle.tt_search.specs.inside.Offered.{IsProofOfTree};
 ghost use Rattle.tt_search.specs.inside.Joining.{IsSettledAt, AreZero};
 ghost use Rattle.tt_search.specs.inside.Children.{children_of};
 ghost use Rattle.tt_search.specs.inside.Edges.{edge_turns, edge_trees, grown_in};
@@ -20,7 +18,7 @@ ghost use Rattle.tt_search.specs.inside.ChildNodes.{HasItsNodes, children_in, ch
 ghost use Rattle.tt_search.specs.inside.Child.{child_tree};
 
 use crate::store::Store;
-use crate::tree::children::{BestChild, Child, ChildNodes};
+use crate::tree::children::{Child, ChildNodes};
 use crate::tree::edges::Edge;
 use crate::tree::node::{Growth, Node};
 use crate::tree::numbers::is_same;
@@ -81,8 +79,8 @@ impl Node {
         Proof::winning_with(line, side, plan, footprint)
     }
 
-    /// Holds a proof that the node offers, where memory for a handle is left, and for a box of its children.
-    fn hold(&mut self, alloc: Global, proof: &Arc<Proof>)
+    /// Holds a proof that the node offers, where memory for a handle is left.
+    fn hold(&mut self, proof: &Arc<Proof>)
         requires { IsProofOfTree self.old proof.now.value }
         ensures { self.new ≡ self.old }
     {
@@ -90,7 +88,7 @@ impl Node {
             return;
         };
         self.growth = match mem::replace(&mut self.growth, Growth::Fresh) {
-            Growth::Expanded(focus, children) => offered(alloc, focus, children, handle),
+            Growth::Expanded(focus, children) => Growth::Offered(focus.mover, children, handle),
             kept => kept,
         };
     }
@@ -115,22 +113,9 @@ impl Node {
         let Ok(proof) = Arc::new(walk.alloc, proof) else {
             return false;
         };
-        self.hold(walk.alloc, &proof);
+        self.hold(&proof);
         let _kept = store.keep(proof);
         true
-    }
-}
-
-/// What an expanded node with these children becomes with its proof: where memory for their box is refused, it stays as it is.
-fn offered(alloc: Global, focus: BestChild, children: ChildNodes, proof: Arc<Proof>) -> Growth
-    requires kept { IsKept focus children }
-    requires proof { IsProofOfTree (node_with (choices_of focus.mover children)) proof.value }
-    ensures same { shape result ≡ node_with (choices_of focus.mover children) }
-    ensures holds { HoldsItsOwn result }
-{
-    match Box::new(alloc, children) {
-        Ok(children) => Growth::Offered(focus.mover, children, proof),
-        Err(refused) => Growth::Expanded(focus, refused.value),
     }
 }
 

@@ -29,7 +29,7 @@ pub struct BothSides {
     pub defender: Option<Arc<Proof>>,
 }
 
-/// A place for proofs. It keeps so many of them, and answers those of a line's key again. A proof that it answers may
+/// Keeps so many proofs, and answers those of a line's key again. A proof that it answers may
 /// have been found under another history than the line's, so it need not win there.
 pub trait Store {
     // How many proofs it keeps at most, and how many were kept through it.

@@ -25,7 +25,7 @@ use Rattle.tt_search.proofs.Joins.{on_ok, picked_there, picked_here, replied_chi
 use Rattle.tt_search.proofs.Lifted.{weight_at}
 use Rattle.tt_search.proofs.Indices.{length-turns_of, length-trees_of, turn_at_index, weight_step}
 use Rattle.tt_search.proofs.Replies.{picked}
-use Rattle.tt_search.proofs.Sprouted.{any_default}
+use Rattle.tt_search.proofs.ChildSteps.{any_default}
 use Rattle.tt_search.proofs.OneSide.{offered_for}
 use Rattle.tt_search.proofs.Strategies.{makes_proof}
 use Rattle.tt_search.specs.Numbers.{number}
@@ -63,7 +63,7 @@ tree::node::Node::footprint-footprint_at-requires-in-Offered t c =
     let p = c.in-Offered.proof.value in
     let holds = subst HoldsItsOwn c.in-Offered.is c.self.invariant.1 in
     let is = sym (ap shape c.in-Offered.is) ∙ c.self.view_is in
-    let offered = offered_for c.in-Offered.field-0 c.in-Offered.field-1.value p c.args.side c.args.self.now holds is c.requires.settled in
+    let offered = offered_for c.in-Offered.field-0 c.in-Offered.field-1 p c.args.side c.args.self.now holds is c.requires.settled in
     let won = makes_proof c.args.side f s c.args.self.now p.tree offered.1 c.requires.settled c.requires.partial c.requires.stays in
     record { wins = subst (λ (q : Proven). IsWon q.side f s q.tree) (sym c.deref-in-Offered.ensures) (subst (λ side. IsWon side f s p.tree) (sym offered.0) won) }
 
@@ -74,7 +74,7 @@ tree::node::Node::footprint-returns-in-Offered-clause-exact t c =
     let p = c.in-Offered.proof.value in
     let holds = subst HoldsItsOwn c.in-Offered.is c.self.invariant.1 in
     let is = sym (ap shape c.in-Offered.is) ∙ c.self.view_is in
-    let offered = offered_for c.in-Offered.field-0 c.in-Offered.field-1.value p c.args.side c.args.self.now holds is c.requires.settled in
+    let offered = offered_for c.in-Offered.field-0 c.in-Offered.field-1 p c.args.side c.args.self.now holds is c.requires.settled in
     let tree : c.deref-in-Offered.result.now.tree ≡ strategy_for c.args.side c.args.self.now = ap (λ (q : Proven). q.tree) c.deref-in-Offered.ensures ∙ offered.1 in
     subst (λ u. IfOk c.footprint_at-in-Offered.result (λ x. IsFootprint f s u x)) tree c.footprint_at-in-Offered.ensures.exact
 

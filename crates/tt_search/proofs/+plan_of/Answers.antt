@@ -11,7 +11,7 @@ use Rattle.tt_search.specs.declared.tree.edges.Edge.{Edge}
 use Rattle.tt_search.proofs.Replies.{joined, joined_push, joined_none, picked, pick_past_turns}
 use Rattle.tt_search.proofs.Indices.{replies_at_end, length-turns_of, length-trees_of, turn_at_index, replied_step, weight_step, whole_behind}
 use Rattle.tt_search.proofs.Lifted.{weight_at}
-use Rattle.tt_search.proofs.Sprouted.{any_default}
+use Rattle.tt_search.proofs.ChildSteps.{any_default}
 use Rattle.tt_search.specs.inside.ChildNodes.{child_of, children_in}
 use Rattle.tt_search.specs.Numbers.{number, numbers}
 use Rattle.tt_search.specs.inside.Joining.{AreZero}
@@ -31,7 +31,7 @@ tree::node::Node::plan-returns-in-Offered t c =
     let p = c.in-Offered.proof.value in
     let holds = subst HoldsItsOwn c.in-Offered.is c.self.invariant.1 in
     let is = sym (ap shape c.in-Offered.is) ∙ c.self.view_is in
-    let tree = (offered_for c.in-Offered.field-0 c.in-Offered.field-1.value p c.args.side c.args.self.now holds is c.requires).1 in
+    let tree = (offered_for c.in-Offered.field-0 c.in-Offered.field-1 p c.args.side c.args.self.now holds is c.requires).1 in
     let made = c.plan-in-Offered.ensures.plan ∙ ap (λ (q : Proven). q.tree) c.deref-in-Offered.ensures ∙ tree in
     subst (λ u. IfOk c.try_clone-in-Offered.result (λ q. q ≡ u)) made c.try_clone-in-Offered.ensures
 

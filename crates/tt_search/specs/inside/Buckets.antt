@@ -21,13 +21,13 @@ bucket_of_hash hash buckets = hash * buckets / 4294967296
 abbrev pub in_bucket : List ℕ → ℕ → ℕ → ℕ → Bool
 in_bucket hashes buckets bucket slot = nat_eq (bucket_of_hash (get_or hashes slot 0) buckets) bucket
 
--- over the first n places, each bucket's head leads to the bucket's last slot, and each slot to the one before it in its
+-- over the first n slots, each bucket's head leads to the bucket's last slot, and each slot to the one before it in its
 -- bucket
 pub record AreBuckets (heads before hashes : List ℕ) (n : ℕ) : Type 0 where
   pub heads_lead : (bucket : ℕ) → bucket < length heads → get_or heads bucket 0 ≡ last_slot (in_bucket hashes (length heads) bucket) n
   pub before_leads : (slot : ℕ) → slot < n → get_or before slot 0 ≡ last_slot (in_bucket hashes (length heads) (bucket_of_hash (get_or hashes slot 0) (length heads))) slot
 
--- each slot has its hash and the one before it, and there are as many buckets as places at least, fewer than 2 ^ 32
+-- each slot has its hash and the one before it, and there are as many buckets as slots at least, fewer than 2 ^ 32
 pub record AreLongEnough (heads before hashes : List ℕ) : Type 0 where
   pub one_each : length before ≡ length hashes
   pub enough : length hashes ≤ length heads

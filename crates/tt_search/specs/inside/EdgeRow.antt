@@ -7,9 +7,9 @@ use Rattle.tt_search.specs.declared.tree.edges.Edge.{Edge}
 -- the first ones of the array, or those of the block
 abbrev pub edges_of : Form → List Edge
 edges_of (Short count short) = take count short
-edges_of (Long long) = long.items
+edges_of (Long long) = long.value.items
 
 -- no more than the array has
 abbrev pub AreWithin : Form → Type 0
-AreWithin (Short count short) = count ≤ 15
+AreWithin (Short count short) = count ≤ 11
 AreWithin (Long long) = Unit {0}

@@ -43,4 +43,4 @@ deep-weight (Won s) h = omega arith
 deep-weight (Closed p) h = omega arith
 deep-weight (Untried mover plays) h = omega arith
 deep-weight (Expanded focus children) h = omega (arith, children-fall children h.whole)
-deep-weight (Offered mover children p) h = omega (arith, children-fall children.value h.whole)
+deep-weight (Offered mover children p) h = omega (arith, children-fall children h.whole)

@@ -30,4 +30,4 @@ HoldsItsOwn (Won side) = Unit {0}
 HoldsItsOwn (Closed proof) = Unit {0}
 HoldsItsOwn (Untried mover plays) = AreUntried (plays_and_pass plays)
 HoldsItsOwn (Expanded focus children) = IsKept focus children
-HoldsItsOwn (Offered mover children proof) = IsOffered mover children.value proof.value
+HoldsItsOwn (Offered mover children proof) = IsOffered mover children proof.value

@@ -13,4 +13,4 @@ shape (Won side) = won side
 shape (Closed proof) = closed proof.value.side proof.value.tree
 shape (Untried mover plays) = node_with (choices_with mover (plays_and_pass plays) [])
 shape (Expanded focus children) = node_with (choices_of focus.mover children)
-shape (Offered mover children proof) = node_with (choices_of mover children.value)
+shape (Offered mover children proof) = node_with (choices_of mover children)

@@ -52,7 +52,7 @@ fn bucket_of(hash: u32, buckets: usize) -> usize
     (u64::from(hash) * buckets as u64 / 0x1_0000_0000) as usize
 }
 
-/// Links the slot, behind all places before it.
+/// Links the slot, behind all slots before it.
 fn link(heads: &mut Vec<u32>, before: &mut Vec<u32>, hashes: &Vec<u32>, slot: usize)
     requires slot { slot < vec_len hashes.now }
     requires sized { AreLongEnough heads.old.items before.old.items hashes.now.items }
@@ -67,7 +67,7 @@ fn link(heads: &mut Vec<u32>, before: &mut Vec<u32>, hashes: &Vec<u32>, slot: us
     heads[bucket] = slot as u32 + 1;
 }
 
-/// Links all places anew, where no head leads anywhere yet.
+/// Links all slots anew, where no head leads anywhere yet.
 fn link_all(heads: &mut Vec<u32>, before: &mut Vec<u32>, hashes: &Vec<u32>)
     requires sized { AreLongEnough heads.old.items before.old.items hashes.now.items }
     requires fresh { AreBuckets heads.old.items before.old.items hashes.now.items 0 }
@@ -94,7 +94,7 @@ fn doubled(buckets: usize) -> Option<usize>
     Some(2 * buckets)
 }
 
-/// Links all places anew, in twice as many buckets.
+/// Links all slots anew, in twice as many buckets.
 fn grow(
     alloc: Global,
     heads: &mut Vec<u32>,

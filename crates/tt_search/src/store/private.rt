@@ -87,7 +87,7 @@ impl PrivateStore {
     }
 }
 
-/// Another handle of the proof at the place, if it is one's.
+/// Another handle of the proof in the slot, where there is one.
 fn handle_at(proofs: &Vec<Arc<Proof>>, slot: Option<usize>) -> Result<Option<Arc<Proof>>, NoMemory>
     ensures { IfOk result (λ o. option_map (λ p. arc_value p) o ≡ proof_at (map arc_value proofs.now.items) slot) }
 {

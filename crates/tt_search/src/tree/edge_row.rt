@@ -7,14 +7,14 @@ use std::alloc::Global;
 use std::marker::Model;
 use tt_sgf::NoMemory;
 
-/// How many edges stand in the node itself. With so many it has 72 bytes.
-const SHORT: usize = 15;
+/// How many edges stand in the node itself. With so many it has 72 bytes, also beside a proof.
+const SHORT: usize = 11;
 
 /// So many edges of the array, or a block of them.
 #[derive(Drop)]
 enum Form {
-    Short(u8, [Edge; 15]),
-    Long(Vec<Edge>),
+    Short(u8, [Edge; 11]),
+    Long(Box<Vec<Edge>>),
 }
 
 /// Edges in a row, which never becomes longer or shorter.
@@ -37,11 +37,11 @@ impl Model for Edges {
 }
 
 /// So many edges in an array.
-fn short_of(edges: &[Edge]) -> [Edge; 15]
-    requires { length edges.now ≤ 15 }
+fn short_of(edges: &[Edge]) -> [Edge; 11]
+    requires { length edges.now ≤ 11 }
     ensures { take (length edges.now) result ≡ edges.now }
 {
-    let mut short = [Edge::default(); 15];
+    let mut short = [Edge::default(); 11];
     short[..edges.len()].copy_from_slice(edges);
     short
 }
@@ -57,8 +57,13 @@ impl Edges {
         }
         let mut long = Vec::with_capacity(alloc, edges.len())?;
         long.extend_from_slice(edges)?;
-        let form = Form::Long(long);
-        Ok(Edges { form })
+        match Box::new(alloc, long) {
+            Ok(long) => {
+                let form = Form::Long(long);
+                Ok(Edges { form })
+            }
+            Err(_) => Err(NoMemory),
+        }
     }
 
     /// The edges.

@@ -29,7 +29,7 @@ pub(crate) enum Growth {
     Closed(Arc<Proof>),
     Untried(Side, Plays),
     Expanded(BestChild, ChildNodes),
-    Offered(Side, Box<ChildNodes>, Arc<Proof>),
+    Offered(Side, ChildNodes, Arc<Proof>),
 }
 
 impl Model for Node {

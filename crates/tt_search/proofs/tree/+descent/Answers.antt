@@ -12,7 +12,7 @@ use Rattle.tt_search.specs.inside.Walking.{stage, stand_of, MayGrow}
 use Rattle.tt_search.specs.inside.Steady.{AreStepsAt, AreSteps}
 use Rattle.tt_search.specs.declared.limits.Step.TheVariants.{Expanded, Closed}
 use Rattle.tt_search.specs.declared.walk.Walk.{Walk}
-use Rattle.tt_search.proofs.Sprouted.{fresh_here, fresh_child, not_won, rank_within_nodes, child_node, node_steps, one_step}
+use Rattle.tt_search.proofs.ChildSteps.{fresh_here, fresh_child, not_won, rank_within_nodes, child_node, node_steps, one_step}
 use Rattle.tt_search.proofs.Steady.{last_round, next_round, round_falls, same_numbers, same_stand, steps_offerable}
 use Rattle.tt_search.proofs.Asking.{granted_more}
 use Rattle.tt_search.proofs.Descending.{any_stop, last_of}
@@ -43,15 +43,15 @@ children::ChildNodes::grow_at-grow-requires g t c κs within =
     let may_grow = subst (MayGrow (stand_of c.args.walk.now)) here c.requires.ready.may_grow in
     (omega (arith, c.decreases), (within.0, (within.1, record { may_grow = may_grow; room = c.requires.ready.room; grants = c.requires.ready.grants })))
 
-pub children::ChildNodes::grow_at-sprout-requires-clause-open : goal.children::ChildNodes::grow_at-sprout-requires-clause-open
-children::ChildNodes::grow_at-sprout-requires-clause-open g t c =
+pub children::ChildNodes::grow_at-first_step_at-requires-clause-open : goal.children::ChildNodes::grow_at-first_step_at-requires-clause-open
+children::ChildNodes::grow_at-first_step_at-requires-clause-open g t c =
     let x = c.args.self.now in
     let line = c.args.walk.now.line in
     let is = fresh_child x.edges x.grown.items c.args.index c.at.result c.requires.there c.at.ensures (sym c.in-Fresh.ensures) in
     subst (IsPartialTree line.frame line.state) is c.requires.ready.may_grow.partial
 
-pub children::ChildNodes::grow_at-sprout-requires-clause-there : goal.children::ChildNodes::grow_at-sprout-requires-clause-there
-children::ChildNodes::grow_at-sprout-requires-clause-there g t c =
+pub children::ChildNodes::grow_at-first_step_at-requires-clause-there : goal.children::ChildNodes::grow_at-first_step_at-requires-clause-there
+children::ChildNodes::grow_at-first_step_at-requires-clause-there g t c =
     let x = c.args.self.now in
     fresh_here x.edges x.grown.items c.args.index c.at.result c.requires.there c.at.ensures (sym c.in-Fresh.ensures)
 
@@ -72,11 +72,12 @@ pub children::ChildNodes::grow_at-returns-in-Fresh-clause-steps : goal.children:
 children::ChildNodes::grow_at-returns-in-Fresh-clause-steps g t c =
     let x = c.args.self.now in
     let is = fresh_child x.edges x.grown.items c.args.index c.at.result c.requires.there c.at.ensures (sym c.in-Fresh.ensures) in
-    one_step c.args.stop c.args.walk.now c.args.index x c.sprout.result c.sprout.new.self c.sprout.new.walk is c.sprout.ensures.sprouts
+    one_step c.args.stop c.args.walk.now c.args.index x c.first_step_at.result c.first_step_at.new.self c.first_step_at.new.walk is c.first_step_at.ensures.first_step
 
 pub children::ChildNodes::grow_at-returns-in-Fresh-clause-descends : goal.children::ChildNodes::grow_at-returns-in-Fresh-clause-descends
 children::ChildNodes::grow_at-returns-in-Fresh-clause-descends g t c =
-    any_stop g.G.Grants.asked g.G.Grants.source g.S.Store.may_answer c.args.stop c.args.walk.now c.args.grants.now c.sprout.result c.sprout.new.walk c.sprout.new.grants c.sprout.ensures.descends
+    any_stop g.G.Grants.asked g.G.Grants.source g.S.Store.may_answer c.args.stop c.args.walk.now c.args.grants.now
+    c.first_step_at.result c.first_step_at.new.walk c.first_step_at.new.grants c.first_step_at.ensures.descends
 
 -- ---- the rounds at a node
 

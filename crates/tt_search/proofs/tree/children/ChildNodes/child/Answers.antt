@@ -1,6 +1,6 @@
 use Rattle.std.proofs.Common.{sym, arith}
 use Rattle.tt_search.specs.inside.ChildNodes.{child_of}
-use Rattle.tt_search.proofs.Sprouted.{rank_within_nodes, child_node, fresh_child, won_child}
+use Rattle.tt_search.proofs.ChildSteps.{rank_within_nodes, child_node, fresh_child, won_child}
 use Rattle.tt_search.proofs.tree.children.ChildNodes.child.Goals as goal
 
 pub index-requires : goal.index-requires

@@ -3,7 +3,7 @@ use Rattle.tt_search.specs.PartialTree.{fresh}
 use Rattle.tt_search.specs.inside.Walking.{stage, stand_of}
 use Rattle.tt_search.specs.inside.Taken.{Taken}
 use Rattle.tt_search.proofs.Asking.{room_to_ask}
-use Rattle.tt_search.proofs.Sprouted.{leaf_offerable}
+use Rattle.tt_search.proofs.ChildSteps.{leaf_offerable}
 use Rattle.tt_search.proofs.tree.node.Node.first_step.Goals as goal
 
 pub offer-walk-requires-clause-partial : goal.offer-walk-requires-clause-partial

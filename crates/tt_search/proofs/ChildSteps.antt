@@ -10,7 +10,7 @@ use Rattle.tt_search.specs.inside.ChildNodes.{HasItsNodes, child_of}
 use Rattle.tt_search.specs.inside.Walking.{Stand, stage, stand_of}
 use Rattle.tt_search.specs.inside.Taken.{Taken, IsLeft}
 use Rattle.tt_search.specs.inside.Steady.{AreStepsAt}
-use Rattle.tt_search.specs.inside.Sprouting.{IsFreshAt, IsPut, Sprouts, StepsBelowAt, StepsBelow}
+use Rattle.tt_search.specs.inside.ChildSteps.{IsFreshAt, IsPut, FirstStepAt, StepsBelowAt, StepsBelow}
 use Rattle.tt_search.specs.declared.tree.edges.Edge.{Edge}
 use Rattle.tt_search.specs.declared.tree.edges.EdgeState.{EdgeState}
 use Rattle.tt_search.specs.declared.tree.edges.EdgeState.TheVariants.{Fresh, Won, Grown}
@@ -23,7 +23,7 @@ use Rattle.tt_search.specs.declared.walk.Stop.{Stop}
 use Rattle.tt_search.specs.declared.walk.Walk.{Walk}
 use Rattle.tt_search.proofs.Grown.{won_decided}
 use Rattle.tt_search.proofs.Steps.{IsOfferable, expansion_offerable}
-use Rattle.tt_search.proofs.Indices.{fresh_there, fresh_tree, rank_within, same_turns, one_more, sprouted, grown_on, grown_at_index, rank_there, tree_at_index}
+use Rattle.tt_search.proofs.Indices.{fresh_there, fresh_tree, rank_within, same_turns, one_more, inserted_at_rank, grown_on, grown_at_index, rank_there, tree_at_index}
 
 -- a stuck step leaves a fresh leaf fresh
 stuck_fresh : (at : Stand) (left : ℕ) (reason : Reason) (tree : PartialTree) → Taken at (stage fresh left) (Stuck reason) tree → Taken at (stage fresh left) (Stuck reason) fresh
@@ -42,7 +42,7 @@ put_nothing index x y there edges row = record {
 -- where the step is stuck, nothing changes
 pub stays_fresh : (walk after : Walk) (index : ℕ) (x y : ChildNodes) (step : Step) (reason : Reason) (tree : PartialTree) → IsFreshAt index x.edges → y.edges ≡ x.edges
     → y.grown.items ≡ x.grown.items → Taken (stand_of walk) (stage fresh walk.left) step tree → IsLeft step walk.left after.left → step ≡ Stuck reason
-    → Sprouts walk index x (Stuck reason) y after
+    → FirstStepAt walk index x (Stuck reason) y after
 stays_fresh walk after index x y step reason tree there edges row h left e = (
   fresh,
   stuck_fresh (stand_of walk) walk.left reason tree (subst (λ s. Taken (stand_of walk) (stage fresh walk.left) s tree) e h),
@@ -52,7 +52,7 @@ stays_fresh walk after index x y step reason tree there edges row h left e = (
 
 -- nor where there is no memory for the node
 pub stays_for_memory : (walk after : Walk) (index : ℕ) (x y : ChildNodes) → IsFreshAt index x.edges → after ≡ walk → y.edges ≡ x.edges
-    → y.grown.items ≡ x.grown.items → Sprouts walk index x (Stuck Memory) y after
+    → y.grown.items ≡ x.grown.items → FirstStepAt walk index x (Stuck Memory) y after
 stays_for_memory walk after index x y there same edges row =
     (fresh, refl, ap (λ (w : Walk). w.left) (sym same), put_nothing index x y there edges row)
 
@@ -108,7 +108,7 @@ module _ (x y : ChildNodes) (index rank : ℕ) (d e : Edge) (tree : PartialTree)
     trees =
         rw edges
         (ap (edge_trees (set x.edges index e)) (row ∙ ap (λ n. insert x.grown.items n tree) r)
-        ∙ sprouted x.edges x.grown.items index e tree there edge_state (omega (arith, rank_within x.edges index, whole)));
+        ∙ inserted_at_rank x.edges x.grown.items index e tree there edge_state (omega (arith, rank_within x.edges index, whole)));
   }
 
 -- ---- what is below a node
@@ -191,7 +191,7 @@ module _ (x : ChildNodes) (i rank : ℕ) (e : Edge) (node : PartialTree) (l : i 
   )
 
 -- a step at a fresh child is one of its steps
-pub one_step : (stop : Stop) (walk : Walk) (index : ℕ) (x : ChildNodes) (step : Step) (y : ChildNodes) (after : Walk) → child_of x index ≡ fresh → Sprouts walk index x step y after
+pub one_step : (stop : Stop) (walk : Walk) (index : ℕ) (x : ChildNodes) (step : Step) (y : ChildNodes) (after : Walk) → child_of x index ≡ fresh → FirstStepAt walk index x step y after
     → StepsBelow stop walk index x step y after
 one_step stop walk index x step y after c (tree, taken, counted, put) = (
   tree,

@@ -25,9 +25,9 @@ pub record IsPut (index : ℕ) (old : ChildNodes) (tree : PartialTree) (new : Ch
   pub turns : edge_turns new.edges ≡ edge_turns old.edges
   pub trees : edge_trees new.edges new.grown.items ≡ slice_set (edge_trees old.edges old.grown.items) index tree
 
--- the fresh child at the index takes a step
-abbrev pub Sprouts : Walk → ℕ → ChildNodes → Step → ChildNodes → Walk → Type 0
-Sprouts walk index old step new after =
+-- the fresh child at the index takes its first step
+abbrev pub FirstStepAt : Walk → ℕ → ChildNodes → Step → ChildNodes → Walk → Type 0
+FirstStepAt walk index old step new after =
     (tree : PartialTree) × Taken (stand_of walk) (stage fresh walk.left) step tree × IsLeft step walk.left after.left × IsPut index old tree new
 
 -- the child at the index takes steps, where the stand is the child's

@@ -5,8 +5,8 @@ use Rattle.tt_search.specs.inside.Edges.{edge_turn}
 use Rattle.tt_search.specs.inside.Descending.{Descends}
 use Rattle.tt_search.specs.declared.walk.Stop.TheVariants.{OneStep}
 use Rattle.tt_search.proofs.Indices.{fresh_there, rank_within, take_set}
-use Rattle.tt_search.proofs.Sprouted.{stays_fresh, stays_for_memory, stands_inserted, gone_again, still_whole, put, put_whole}
-use Rattle.tt_search.proofs.tree.children.ChildNodes.sprout.Goals as goal
+use Rattle.tt_search.proofs.ChildSteps.{stays_fresh, stays_for_memory, stands_inserted, gone_again, still_whole, put, put_whole}
+use Rattle.tt_search.proofs.tree.children.ChildNodes.first_step_at.Goals as goal
 
 pub put_fresh-requires-clause-within : goal.put_fresh-requires-clause-within
 put_fresh-requires-clause-within g c =
@@ -42,8 +42,8 @@ returns-in-Stuck-clause-descends g c =
     let leaf = c.first_step-step in
     subst (λ s. Descends g.G.Grants.asked g.G.Grants.source g.S.Store.may_answer OneStep c.args.walk.now c.args.grants.now s leaf.new.walk leaf.new.grants) c.in-Stuck.is leaf.ensures.descends
 
-pub returns-in-Stuck-clause-sprouts : goal.returns-in-Stuck-clause-sprouts
-returns-in-Stuck-clause-sprouts g c =
+pub returns-in-Stuck-clause-first_step : goal.returns-in-Stuck-clause-first_step
+returns-in-Stuck-clause-first_step g c =
     let x = c.args.self.now in
     let leaf = c.first_step-step in
     let within : c.args.rank ≤ length x.grown.items = omega (arith, c.requires.rank, rank_within x.edges c.args.index, c.requires.whole) in
@@ -55,8 +55,8 @@ returns-in-Stuck-clause-sprouts g c =
 pub returns-then-is_err-clause-whole : goal.returns-then-is_err-clause-whole
 returns-then-is_err-clause-whole g c = c.requires.whole ∙ ap length (sym c.make_room.ensures.items)
 
-pub returns-then-is_err-clause-sprouts : goal.returns-then-is_err-clause-sprouts
-returns-then-is_err-clause-sprouts g c =
+pub returns-then-is_err-clause-first_step : goal.returns-then-is_err-clause-first_step
+returns-then-is_err-clause-first_step g c =
     stays_for_memory c.args.walk.now c.args.walk.now c.args.index c.args.self.now _ c.requires.there refl refl c.make_room.ensures.items
 
 pub at-requires : goal.at-requires
@@ -80,7 +80,7 @@ returns g c =
           c.requires.there c.requires.whole c.requires.rank
           c.grown-edge.ensures.edge_state c.set.ensures row;
       before = ap (take c.args.index) c.set.ensures ∙ take_set x.edges c.args.index c.grown-edge.result;
-      sprouts = (
+      first_step = (
         leaf.new.self,
         leaf.ensures.taken,
         leaf.ensures.left,
