@@ -15,7 +15,7 @@ use Rattle.tt_search.specs.declared.limits.Reason.{Reason}
 use Rattle.tt_search.specs.declared.limits.Reason.TheVariants.{Budget, Depth, Total, Memory}
 use Rattle.tt_search.specs.declared.search.End.{End}
 use Rattle.tt_search.specs.declared.search.End.TheVariants.{Settled, Stuck}
-use Rattle.tt_share.specs.Answers.{IsBehind, IsCountBehind}
+use Rattle.tt_share.specs.Answers.{IsBehind, IsCountAfter}
 use Rattle.tt_share.specs.inside.Jobs.{AsksFor, EndsBehind, IsCounted, IsOfEnd, end_of}
 use Rattle.tt_share.specs.declared.jobs.JobResult.{JobResult}
 
@@ -75,12 +75,12 @@ module _ (line : Standing) (limits : Limits) (t : Turn) (start : Searched) (behi
   start_count : count start.tree ≡ 0
   start_count = ap count new_is ∙ new_count start.line.frame start.line.state
 
-  reached_count : (search : Searched) (old new : Asked) (n : ℕ) → RanTo start search → HasSpent start old search new → new.granted ≡ old.granted + n → IsCountBehind line limits t n
+  reached_count : (search : Searched) (old new : Asked) (n : ℕ) → RanTo start search → HasSpent start old search new → new.granted ≡ old.granted + n → IsCountAfter line limits t n
   reached_count search old new n h spent granted = (search, reached_behind search h, reached_grown search h, omega (arith, spent, granted, start_count))
 
   -- its count is what was asked for
   stuck_count : (search : Searched) (old new : Asked) (n : ℕ) → RanTo start search → HasSpent start old search new → new.granted ≡ old.granted + n
-      → IsCountBehind line limits t n × (count search.tree ≡ n)
+      → IsCountAfter line limits t n × (count search.tree ≡ n)
   stuck_count search old new n h spent granted = (reached_count search old new n h spent granted, omega (arith, spent, granted, start_count))
 
   -- how a run from there ends is how the search behind the turn ends
@@ -132,7 +132,7 @@ made_asks start old new end made n is spent granted few =
     ]
 
 -- where no search could begin, a new one behind the turn has no expanded node
-pub none_begun : (line : Standing) (limits : Limits) (t : Turn) → 1 ≤ limits.depth → IsCountBehind line limits t 0
+pub none_begun : (line : Standing) (limits : Limits) (t : Turn) → 1 ≤ limits.depth → IsCountAfter line limits t 0
 none_begun line limits t deep =
     let f = line.frame in
     let s = after line.frame line.state t in

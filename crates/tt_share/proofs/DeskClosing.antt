@@ -10,7 +10,7 @@ use mathlib.Core.Logic.{dite}
 use native.Mathlib.Decide.{dec_lt}
 use lib.ListN.{get_elem?}
 use Rattle.tt_share.specs.declared.desk.rule.Ghost.{Ghost}
-use Rattle.tt_share.specs.declared.desk.rule.Quota.{Quota}
+use Rattle.tt_share.specs.declared.desk.rule.DeskSize.{DeskSize}
 use Rattle.tt_share.specs.Desk.{view_of, no_seat, joined, sum_below, overdraw_count, EachSeat, IsDesk}
 use Rattle.tt_share.specs.Seats.{DeskView, SeatView, EachOnce, AllJobsDrawn, EndsOverdraw, Spends}
 use Rattle.tt_share.specs.inside.Gathering.{Gathers}
@@ -174,7 +174,7 @@ pub record End (desk : DeskView) (seats : List SeatView) (drawn asked : ℕ) : T
   pub grants : (total : ℕ) → 0 < total → Spends total (min asked total) seats
 
 -- where one view gathers all seats and has every part, they show what seats of a closed desk show
-pub closes : (desk : DeskView) (plan : Quota) (drawn flag asked : ℕ) (views : List Ghost) (id : ℕ) (v : Ghost) (seats : List SeatView) → plan.jobs ≡ desk.jobs → plan.seats ≡ desk.seats
+pub closes : (desk : DeskView) (plan : DeskSize) (drawn flag asked : ℕ) (views : List Ghost) (id : ℕ) (v : Ghost) (seats : List SeatView) → plan.jobs ≡ desk.jobs → plan.seats ≡ desk.seats
     → length seats ≡ desk.seats
     → 0 < desk.jobs → 0 < desk.seats → Gathers seats v → IsDesk plan drawn flag asked views → get_elem? views id ≡ some v → End desk seats drawn asked
 closes desk plan drawn flag asked views id v seats same_jobs same_seats len some_job some_seat g h at =

@@ -11,7 +11,7 @@ use lib.ListN.{get_elem?}
 use Rattle.atomic_table.proofs.Lists.{at_set, at_snoc, set_here, set_else, at_longer}
 use Rattle.atomic_table.specs.Table.{keeps, Allows, Splits, Joins}
 use Rattle.tt_share.specs.declared.desk.rule.Ghost.{Ghost}
-use Rattle.tt_share.specs.declared.desk.rule.Quota.{Quota}
+use Rattle.tt_share.specs.declared.desk.rule.DeskSize.{DeskSize}
 use Rattle.tt_share.specs.Desk.{blank, one_seat, no_seat, fewer, joined, with_draw, with_grant, with_flag, with_sighting, overdraw_count, EachSeat, SomeSeat, Counts, IsMark, IsDesk}
 use Rattle.tt_share.specs.Desk.{DeskHolds, SeatState, IsNext, Draws, Grants, Raises, Looks}
 use Rattle.tt_share.specs.Seats.{last_number}
@@ -160,7 +160,7 @@ next_one numbers limit count views id v h at one =
     let below = counts_below numbers limit count views id v h at in (rising_push (numbers v) count up below, rising_short (numbers v) count up below)
 
 -- a draw keeps the rule, and finds the seat's next number
-pub draws : (plan : Quota) (slots id : ℕ) (me : SeatState) → plan.jobs + plan.seats + 1 < 2 ^ 64 → me.1 ≡ [] → me.0.parts ≡ 1 → last_number me.0.numbers < plan.jobs
+pub draws : (plan : DeskSize) (slots id : ℕ) (me : SeatState) → plan.jobs + plan.seats + 1 < 2 ^ 64 → me.1 ≡ [] → me.0.parts ≡ 1 → last_number me.0.numbers < plan.jobs
     → Allows (DeskHolds plan) slots id me 0 (λ n. (n + 1) % 2 ^ 64) (λ n after. Draws me n after)
 draws plan slots id me small empty one job s h homes at fits =
     let v : Ghost = me.0 in
@@ -183,7 +183,7 @@ draws plan slots id me small empty one job s h homes at fits =
     )
 
 -- an ask for a grant keeps the rule, and finds the seat's next number
-pub grants : (plan : Quota) (slots id : ℕ) (me : SeatState) → plan.total + plan.seats + 1 < 2 ^ 64 → me.1 ≡ [] → me.0.parts ≡ 1 → last_number me.0.grants < plan.total
+pub grants : (plan : DeskSize) (slots id : ℕ) (me : SeatState) → plan.total + plan.seats + 1 < 2 ^ 64 → me.1 ≡ [] → me.0.parts ≡ 1 → last_number me.0.grants < plan.total
     → Allows (DeskHolds plan) slots id me 2 (λ n. (n + 1) % 2 ^ 64) (λ n after. Grants me n after)
 grants plan slots id me small empty one left s h homes at fits =
     let v : Ghost = me.0 in
@@ -206,7 +206,7 @@ grants plan slots id me small empty one left s h homes at fits =
     )
 
 -- raising the flag keeps the rule
-pub raises : (plan : Quota) (slots id : ℕ) (me : SeatState) → me.1 ≡ [] → me.0.parts ≡ 1 → Allows (DeskHolds plan) slots id me 1 (λ n. max n 1) (λ _ after. Raises me after)
+pub raises : (plan : DeskSize) (slots id : ℕ) (me : SeatState) → me.1 ≡ [] → me.0.parts ≡ 1 → Allows (DeskHolds plan) slots id me 1 (λ n. max n 1) (λ _ after. Raises me after)
 raises plan slots id me empty one s h homes at fits =
     let v : Ghost = me.0 in
     let w : Ghost = with_flag v in
@@ -242,7 +242,7 @@ seen_now false true c φ p old new = old refl
 seen_now false false c φ p old new = new p
 
 -- a view that looks at the flag leaves a desk a desk
-desk_looks : (plan : Quota) (drawn flag asked : ℕ) (views : List Ghost) (id : ℕ) (v : Ghost) → IsDesk plan drawn flag asked views → get_elem? views id ≡ some v → v.parts ≡ 1
+desk_looks : (plan : DeskSize) (drawn flag asked : ℕ) (views : List Ghost) (id : ℕ) (v : Ghost) → IsDesk plan drawn flag asked views → get_elem? views id ≡ some v → v.parts ≡ 1
     → IsDesk plan drawn flag asked (set views id (with_sighting v (nat_eq flag 1)))
 desk_looks plan drawn flag asked views id v h at one = let w : Ghost = with_sighting v (nat_eq flag 1) in record {
   parts = parts_same views id v w at refl ∙ h.parts;
@@ -258,7 +258,7 @@ desk_looks plan drawn flag asked views id v h at one = let w : Ghost = with_sigh
 }
 
 -- looking at the flag keeps the rule
-pub looks : (plan : Quota) (slots id : ℕ) (me : SeatState) → me.1 ≡ [] → me.0.parts ≡ 1 → Allows (DeskHolds plan) slots id me 1 (λ n. n) (λ n after. Looks me n after)
+pub looks : (plan : DeskSize) (slots id : ℕ) (me : SeatState) → me.1 ≡ [] → me.0.parts ≡ 1 → Allows (DeskHolds plan) slots id me 1 (λ n. n) (λ n after. Looks me n after)
 looks plan slots id me empty one s h homes at fits =
     let v : Ghost = me.0 in
     let here : slice_index s.words 1 ≡ h.1 = ap (λ (l : List ℕ). slice_index l 1) h.3 in (
@@ -276,7 +276,7 @@ looks plan slots id me empty one s h homes at fits =
     )
 
 -- one part of a view that has made no step becomes a seat of its own
-desk_cuts : (plan : Quota) (drawn flag asked : ℕ) (views : List Ghost) (id parts more : ℕ) → more ≡ parts + 1 → IsDesk plan drawn flag asked views → get_elem? views id ≡ some (blank more)
+desk_cuts : (plan : DeskSize) (drawn flag asked : ℕ) (views : List Ghost) (id parts more : ℕ) → more ≡ parts + 1 → IsDesk plan drawn flag asked views → get_elem? views id ≡ some (blank more)
     → IsDesk plan drawn flag asked (set views id (blank parts) ++ one_seat ∷ [])
 desk_cuts plan drawn flag asked views id parts more is_more h at =
     let v : Ghost = blank more in
@@ -297,7 +297,7 @@ desk_cuts plan drawn flag asked views id parts more is_more h at =
     }
 
 -- handing out a seat keeps the rule
-pub cuts : (plan : Quota) (id : ℕ) (v : Ghost) → v ≡ blank v.parts → 0 < v.parts → Splits (DeskHolds plan) id v (fewer v) one_seat
+pub cuts : (plan : DeskSize) (id : ℕ) (v : Ghost) → v ≡ blank v.parts → 0 < v.parts → Splits (DeskHolds plan) id v (fewer v) one_seat
 cuts plan id v is_blank some_part =
     subst (λ (u : Ghost). Splits (DeskHolds plan) id u (fewer u) one_seat) (sym is_blank)
     (λ s h at. (h.0, h.1, h.2, h.3, desk_cuts plan h.0 h.1 h.2 s.views id (v.parts - 1) v.parts (omega arith) h.4 at))
@@ -316,7 +316,7 @@ right_true true b e = refl
 right_true false b e = e
 
 -- two views that are joined leave a desk a desk
-desk_joins : (plan : Quota) (drawn flag asked : ℕ) (views : List Ghost) (id : ℕ) (v : Ghost) (other : ℕ) (w : Ghost) → IsDesk plan drawn flag asked views → get_elem? views id ≡ some v
+desk_joins : (plan : DeskSize) (drawn flag asked : ℕ) (views : List Ghost) (id : ℕ) (v : Ghost) (other : ℕ) (w : Ghost) → IsDesk plan drawn flag asked views → get_elem? views id ≡ some v
     → ¬ (other ≡ id) → get_elem? (set views id (joined v w)) other ≡ some w → 0 < v.parts → 0 < w.parts → IsDesk plan drawn flag asked (set (set views id (joined v w)) other no_seat)
 desk_joins plan drawn flag asked views id v other w h at two at' some_v some_w =
     let both : Ghost = joined v w in
@@ -350,5 +350,5 @@ desk_joins plan drawn flag asked views id v other w h at two at' some_v some_w =
     }
 
 -- joining two seats keeps the rule
-pub joins : (plan : Quota) (id : ℕ) (v : Ghost) (other : ℕ) (w : Ghost) → 0 < v.parts → 0 < w.parts → Joins (DeskHolds plan) id v other w (joined v w) no_seat
+pub joins : (plan : DeskSize) (id : ℕ) (v : Ghost) (other : ℕ) (w : Ghost) → 0 < v.parts → 0 < w.parts → Joins (DeskHolds plan) id v other w (joined v w) no_seat
 joins plan id v other w some_v some_w s h at two at' = (h.0, h.1, h.2, h.3, desk_joins plan h.0 h.1 h.2 s.views id v other w h.4 at two at' some_v some_w)

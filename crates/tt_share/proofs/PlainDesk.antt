@@ -5,7 +5,7 @@ use Rattle.std.proofs.lemmas.List.Sums.{sum_by-cons, get_or-le-sum_by}
 use mathlib.Core.Logic.{dite}
 use native.Mathlib.Decide.{dec_lt}
 use Rattle.tt_share.specs.declared.desk.rule.Ghost.{Ghost}
-use Rattle.tt_share.specs.declared.desk.rule.Quota.{Quota}
+use Rattle.tt_share.specs.declared.desk.rule.DeskSize.{DeskSize}
 use Rattle.tt_share.specs.Desk.{overdraw_count, Counts, IsMark, IsDesk}
 use Rattle.tt_share.specs.DeskLaw.{IsCount, IsStop, IsDeskState, DeskLaw}
 use Rattle.tt_share.proofs.DeskMoves.{left_true, right_true}
@@ -47,7 +47,7 @@ stop_law word views h = record {
 }
 
 -- what a desk says in plain words
-state_law : (plan : Quota) (drawn flag asked : ℕ) (views : List Ghost) → IsDesk plan drawn flag asked views → IsDeskState plan (drawn ∷ flag ∷ asked ∷ []) views
+state_law : (plan : DeskSize) (drawn flag asked : ℕ) (views : List Ghost) → IsDesk plan drawn flag asked views → IsDeskState plan (drawn ∷ flag ∷ asked ∷ []) views
 state_law plan drawn flag asked views h = record {
   three_words = refl;
   parts = h.parts;

@@ -20,7 +20,7 @@ use Rattle.tt_share.specs.Answers.{spent_in_all}
 use Rattle.tt_share.specs.inside.Jobs.{IsForTotal, end_of}
 use Rattle.tt_share.specs.inside.Results.{Progress, HasTotal, IsAllSpent, SpendsTotal, AskedFor}
 use Rattle.tt_share.specs.Seats.{DeskView, SeatView, EndsOverdraw, EachOnce, Spends, Closes, granted_of, last_number, occurrences}
-use Rattle.tt_share.specs.inside.Tallies.{Tallies}
+use Rattle.tt_share.specs.inside.Tallies.{IsGranted, Tallies}
 use Rattle.tt_share.specs.inside.Workers.{times, spent_on, spent_by_all, held, held_in, AllApart, AllGiven, SomeTotal, IsWork}
 use Rattle.tt_share.proofs.Apart.{none_times, held_most}
 use Rattle.tt_share.proofs.Asked.{total_kept}
@@ -95,13 +95,18 @@ most_one list drawn seats once job = elim (cases_lt job drawn) [
   | inr h ↦ let e = once.above job (omega arith) in omega (arith, e)
 ]
 
--- where none was refused, no job is stuck for a total
-pub none_asked : (n : ℕ) (first last : Progress) (before after : Asked) (total : Option ℕ) → first.ends ≡ replicate n None → after.refused ≡ false → AskedFor first before last after
-    → IsAllSpent total last
-none_asked n first last before after total blank none asked h = elim (asked.refused h) [
+-- of what one caller was granted, all is spent where some job is stuck for the total
+pub own_spent : (n : ℕ) (first last : Progress) (before after : Asked) (total : Option ℕ) → first.ends ≡ replicate n None → spent_in_all first.spent ≡ 0
+    → before.granted ≡ 0 → IsGranted total after.granted after.refused → AskedFor first before last after → IsAllSpent total last
+own_spent n first last before after total blank unspent unasked granted h asked = elim (h.refused asked) [
   | inl was ↦ absurd (blank_none n was.0 was.1 (ap (λ (l : List (Option JobResult)). slice_get l was.0) (sym blank) ∙ was.2))
-  | inr up ↦ absurd (true≢false (sym up ∙ none))
+  | inr up ↦ spends total granted up
 ]
+  where
+    -- as many as the total
+    spends : (o : Option ℕ) → IsGranted o after.granted after.refused → after.refused ≡ true → (m : ℕ) × (o ≡ Some m) × (spent_in_all last.spent ≡ m)
+    spends None is up = absurd (true≢false (sym up ∙ is.0 refl))
+    spends (Some m) is up = (m, refl, omega (arith, h.spent, (is.1 m refl).1 up, unspent, unasked))
 
 -- ---- all workers and the caller
 

@@ -34,8 +34,8 @@ pub record IsBehind (line : Standing) (limits : Limits) (t : Turn) (search : Sea
   pub depth_is : search.limits.depth + 1 ≡ limits.depth
 
 -- some search behind the turn is grown from there and has so many expanded nodes
-abbrev pub IsCountBehind : Standing → Limits → Turn → ℕ → Type 0
-IsCountBehind line limits t n =
+abbrev pub IsCountAfter : Standing → Limits → Turn → ℕ → Type 0
+IsCountAfter line limits t n =
     (search : Searched) × IsBehind line limits t search × IsGrown search.limits search.line.frame search.line.state search.tree × (count search.tree ≡ n)
 
 -- how many nodes are expanded in all
@@ -47,7 +47,7 @@ pub record IsSpent (line : Standing) (limits : Limits) (total : ℕ) (t : Turn) 
   -- each legal turn is there, in rising order
   pub turns : map (λ (e : Turn × ℕ). e.0) spent ≡ legal_turns line.frame line.state
   -- each with the count of a grown search behind it, under the same budget and a depth one less
-  pub counts : All (λ (e : Turn × ℕ). IsCountBehind line limits e.0 e.1) spent
+  pub counts : All (λ (e : Turn × ℕ). IsCountAfter line limits e.0 e.1) spent
   -- the search's own count is there
   pub own : Contains spent (t, count search.tree)
   -- the counts add up to the total

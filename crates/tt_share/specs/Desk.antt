@@ -5,7 +5,7 @@ use mathlib.Core.Option.{some}
 use lib.ListN.{get_elem?}
 use Rattle.atomic_table.specs.Table.{State, Me}
 use Rattle.tt_share.specs.declared.desk.rule.Ghost.{Ghost}
-use Rattle.tt_share.specs.declared.desk.rule.Quota.{Quota}
+use Rattle.tt_share.specs.declared.desk.rule.DeskSize.{DeskSize}
 
 abbrev pub view_of : ℕ → List ℕ → List ℕ → Bool → Bool → Ghost
 view_of parts numbers grants flag sighting = record { parts = parts; numbers = numbers; grants = grants; flag = flag; sighting = sighting }
@@ -15,7 +15,7 @@ abbrev pub blank : ℕ → Ghost
 blank parts = view_of parts [] [] false false
 
 -- the view of the one seat that a new desk has
-abbrev pub whole_view : Quota → Ghost
+abbrev pub whole_view : DeskSize → Ghost
 whole_view plan = blank plan.seats
 
 -- the view of a seat that was handed out
@@ -75,7 +75,7 @@ pub record IsMark (flag : ℕ) (views : List Ghost) : Type 0 where
   pub known : EachSeat (λ v. (v.flag || v.sighting) ≡ true → flag ≡ 1) views
 
 -- The parts of all views are the desk's seats, and a view with no part holds nothing
-pub record IsDesk (plan : Quota) (drawn flag asked : ℕ) (views : List Ghost) : Type 0 where
+pub record IsDesk (plan : DeskSize) (drawn flag asked : ℕ) (views : List Ghost) : Type 0 where
   pub parts : sum_by (λ v. v.parts) views ≡ plan.seats
   pub spent : EachSeat (λ v. v.parts ≡ 0 → v ≡ no_seat) views
   pub draws : Counts (λ v. v.numbers) plan.jobs drawn views
@@ -83,7 +83,7 @@ pub record IsDesk (plan : Quota) (drawn flag asked : ℕ) (views : List Ghost) :
   pub grants : Counts (λ v. v.grants) plan.total asked views
 
 -- What holds between any two steps: the first word counts the draws, the second is the flag, and the third counts the asks
-abbrev pub DeskHolds : Quota → State (Unit {0}) Ghost → Type 0
+abbrev pub DeskHolds : DeskSize → State (Unit {0}) Ghost → Type 0
 DeskHolds plan s = (drawn : ℕ) × (flag : ℕ) × (asked : ℕ) × (s.words ≡ drawn ∷ flag ∷ asked ∷ []) × IsDesk plan drawn flag asked s.views
 
 abbrev pub SeatState : Type 0

@@ -3,7 +3,7 @@ use Rattle.std.specs.Prelude.{◌≡◌, ℕ, ◌+◌, ◌<◌, ◌≤◌, true,
 use Rattle.std.specs.List.Sorted.{IsStrictlyIncreasing}
 use Rattle.atomic_table.specs.Table.{State}
 use Rattle.tt_share.specs.declared.desk.rule.Ghost.{Ghost}
-use Rattle.tt_share.specs.declared.desk.rule.Quota.{Quota}
+use Rattle.tt_share.specs.declared.desk.rule.DeskSize.{DeskSize}
 use Rattle.tt_share.specs.Desk.{EachSeat, SomeSeat, DeskHolds, overdraw_count, no_seat}
 
 -- how often the number stands in the views' lists
@@ -29,7 +29,7 @@ pub record IsStop (word : ℕ) (views : List Ghost) : Type 0 where
 
 -- There are three words: the count of draws, the flag, and the count of the asks for a grant. The parts of all views are the
 -- desk's seats, and a view with no part holds nothing
-pub record IsDeskState (plan : Quota) (words : List ℕ) (views : List Ghost) : Type 0 where
+pub record IsDeskState (plan : DeskSize) (words : List ℕ) (views : List Ghost) : Type 0 where
   pub three_words : length words ≡ 3
   pub parts : sum_by (λ v. v.parts) views ≡ plan.seats
   pub spent : EachSeat (λ v. v.parts ≡ 0 → v ≡ no_seat) views
@@ -38,4 +38,4 @@ pub record IsDeskState (plan : Quota) (words : List ℕ) (views : List Ghost) : 
   pub grants : IsCount (λ v. v.grants) plan.total (slice_index words 2) views
 
 abbrev pub DeskLaw : Type 0
-DeskLaw = (plan : Quota) (s : State (Unit {0}) Ghost) → DeskHolds plan s → IsDeskState plan s.words s.views
+DeskLaw = (plan : DeskSize) (s : State (Unit {0}) Ghost) → DeskHolds plan s → IsDeskState plan s.words s.views

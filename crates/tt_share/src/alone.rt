@@ -1,9 +1,10 @@
 //! Solving by the caller alone, and how each solving begins and ends.
 
-ghost use Rattle.std.specs.Prelude.{◌≡◌, ℕ, ◌≤◌, Option, None, IfErr, IfOk};
+ghost use Rattle.std.specs.Prelude.{◌≡◌, ℕ, ◌≤◌, Option, None, IfErr, IfOk, MatchOption, ltb, true};
 ghost use Rattle.tt_game.specs.Game.{winner_of};
 ghost use Rattle.tt_share.specs.Answers.{IsAnswer};
 ghost use Rattle.tt_share.specs.inside.Results.{IsReady, IsAllSpent, KnowsNothing};
+ghost use Rattle.tt_share.specs.inside.Tallies.{IsGranted};
 
 use crate::answer::Answer;
 use crate::answer::conclude::no_memory;
@@ -11,7 +12,69 @@ use crate::answer::root_proof::{from_store, offer};
 use crate::results::Results;
 use std::alloc::Global;
 use tt_game::Line;
-use tt_search::{Free, Limits, Store};
+use tt_search::{Grants, Limits, Store};
+
+/// Grants of a total, where there is one, for one caller.
+#[derive(Drop)]
+struct OwnGrants {
+    total: Option<u32>,
+    granted: u64,
+    refused: bool,
+    ghost is_granted: { IsGranted total granted refused },
+}
+
+impl OwnGrants {
+    /// Those of a caller that hasn't asked yet.
+    fn new(total: Option<u32>) -> OwnGrants
+        ensures total { result.total ≡ total }
+        ensures granted { result.granted ≡ 0 }
+    {
+        OwnGrants {
+            total,
+            granted: 0,
+            refused: false,
+        }
+    }
+
+    /// Whether the total has one more.
+    fn has_more(&self) -> bool
+        ensures { MatchOption self.now.total (result ≡ true) (λ n. result ≡ ltb self.now.granted n) }
+    {
+        match self.total {
+            Some(n) => self.granted < u64::from(n),
+            None => true,
+        }
+    }
+}
+
+impl Grants for OwnGrants {
+    ghost asked = { λ g. record { granted = g.granted; refused = g.refused } };
+
+    ghost Source = { Option ℕ };
+
+    ghost source = { λ g. g.total };
+
+    fn ask(&mut self) -> bool {
+        if self.refused {
+            return false;
+        }
+        let granted = self.has_more();
+        if granted {
+            self.granted += 1;
+        } else {
+            self.refused = true;
+        }
+        granted
+    }
+
+    fn granted(&self) -> u64 {
+        self.granted
+    }
+
+    fn refused(&self) -> bool {
+        self.refused
+    }
+}
 
 /// The results of the line's jobs, none of them known yet; or the answer, where the store has one or memory was refused.
 pub(crate) fn begin<'a, S: Store>(
@@ -54,15 +117,23 @@ pub(crate) fn finish<S: Store>(alloc: Global, results: Results<'_>, store: &mut 
 
 /// Solves the line. The store is asked first for a proof that wins at the line itself. Else each legal turn, in rising
 /// order, is searched with the same budget and a depth one less, until one is settled for the side to move; and the
-/// proof that they make is offered to the store. The depth is at least 1, and nobody has won at the line.
-pub fn solve_one<S: Store>(alloc: Global, line: &Line, limits: &Limits, store: &mut S) -> Answer
+/// proof that they make is offered to the store. Where there is a total, all searches together expand at most so many nodes. The
+/// depth is at least 1, and nobody has won at the line.
+pub fn solve_one<S: Store>(
+    alloc: Global,
+    line: &Line,
+    limits: &Limits,
+    total: Option<u32>,
+    store: &mut S,
+) -> Answer
     requires limits { 1 ≤ limits.now.depth }
     requires open { winner_of line.now.frame line.now.state ≡ None }
-    ensures { IsAnswer line.now limits.now None result }
+    ensures { IsAnswer line.now limits.now total result }
 {
     match begin(alloc, line, limits, store) {
         Ok(mut results) => {
-            results.search_missing(store, &mut Free::new());
+            let mut grants = OwnGrants::new(total);
+            results.search_missing(store, &mut grants);
             finish(alloc, results, store)
         }
         Err(answer) => answer,

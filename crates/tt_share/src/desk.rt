@@ -11,13 +11,13 @@ ghost use Rattle.tt_share.specs.Desk.{blank, view_of};
 ghost use Rattle.tt_share.specs.Seats.{seat_of, fresh, EndsOverdraw, Adds, Gains, granted_of, Closes};
 ghost use Rattle.tt_share.specs.inside.Gathering.{Gathers};
 
-use crate::desk::rule::{AtDesk, Both, Cut, Draw, Ghost, Grant, Quota, Raise, Sighting};
+use crate::desk::rule::{AtDesk, Both, Cut, DeskSize, Draw, Ghost, Grant, Raise, Sighting};
 use atomic_table::Table;
 use std::alloc::Global;
 use std::marker::Model;
 use tt_sgf::NoMemory;
 
-type Words = Table<(), Ghost, Quota, AtDesk, Global>;
+type Words = Table<(), Ghost, DeskSize, AtDesk, Global>;
 
 /// What a closed desk counted: the steps that all draws made, and the grants that it gave of its total, or 0 where it had
 /// none.
@@ -170,7 +170,7 @@ impl Desk {
         let Ok(all) = Vec::with_capacity(alloc, seats) else {
             return Err(NoMemory);
         };
-        let plan = Quota {
+        let plan = DeskSize {
             jobs,
             seats,
             total: total.unwrap_or(0),

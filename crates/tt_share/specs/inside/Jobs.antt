@@ -17,7 +17,7 @@ use Rattle.tt_search.specs.declared.limits.TheConstants.{MOST_EXPANDED}
 use Rattle.tt_search.specs.declared.limits.Reason.TheVariants.{Budget, Depth, Total, Memory}
 use Rattle.tt_search.specs.declared.search.End.{End}
 use Rattle.tt_search.specs.declared.search.End.TheVariants.{Settled, Stuck}
-use Rattle.tt_share.specs.Answers.{IsBehind, IsCountBehind}
+use Rattle.tt_share.specs.Answers.{IsBehind, IsCountAfter}
 use Rattle.tt_share.specs.declared.jobs.JobResult.{JobResult}
 use Rattle.tt_share.specs.declared.jobs.JobResult.TheVariants as result
 use Rattle.tt_share.specs.declared.jobs.SearchedJob.{SearchedJob}
@@ -49,7 +49,7 @@ IsOwnCount line limits t n (Stuck reason None) = Unit {0}
 
 -- so many nodes were expanded behind the turn in the search that ends so
 abbrev pub IsCounted : Standing → Limits → Turn → ℕ → End → Type 0
-IsCounted line limits t n end = IsCountBehind line limits t n × IsOwnCount line limits t n end
+IsCounted line limits t n end = IsCountAfter line limits t n × IsOwnCount line limits t n end
 
 -- what a search asks for: so many expansions are granted; one is refused where it is stuck for the total, and later ones are too
 pub record AsksFor (old : Asked) (n : ℕ) (end : End) (new : Asked) : Type 0 where

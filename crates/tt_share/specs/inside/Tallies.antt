@@ -1,5 +1,5 @@
--- What a count of grants says of the seat that asked for them. Only private contracts cite this.
-use Rattle.std.specs.Prelude.{◌≡◌, ℕ, Bool, true, false, Option, Some, None, List, []}
+-- What counts of grants say. Only private contracts cite this.
+use Rattle.std.specs.Prelude.{◌≡◌, ◌≤◌, ℕ, Bool, true, false, Option, Some, None, List, []}
 use Rattle.tt_share.specs.Seats.{DeskView, SeatView, seat_of, EndsOverdraw, granted_of}
 
 -- where there is a total, the count is that of the seat's grants, and it was refused only where the seat was; without one
@@ -11,3 +11,8 @@ Tallies total grants count refused =
 -- what asks leave of a seat with its desk: all but the seat's grants
 abbrev pub source_of : DeskView → SeatView → DeskView × SeatView
 source_of desk seat = (desk, seat_of seat.desk seat.numbers [] seat.flag seat.sighting)
+
+-- what one caller was granted of a total: no more than it, and all of it where an ask was refused; without one nothing is refused
+abbrev pub IsGranted : Option ℕ → ℕ → Bool → Type 0
+IsGranted total granted refused =
+    (total ≡ None → refused ≡ false) × ((n : ℕ) → total ≡ Some n → (granted ≤ n) × (refused ≡ true → granted ≡ n))

@@ -4,7 +4,7 @@ use std::collections::LinkedList;
 
 /// How many jobs, seats and grants a desk has. Where it has no total it grants without a step, and `total` is 0.
 #[derive(Drop)]
-pub struct Quota {
+pub struct DeskSize {
     pub jobs: usize,
     pub seats: usize,
     pub total: u32,
@@ -23,7 +23,7 @@ pub struct Ghost {
 /// The rule of the desk.
 pub struct AtDesk;
 
-impl TableRule<(), Ghost, Quota> for AtDesk {
+impl TableRule<(), Ghost, DeskSize> for AtDesk {
     ghost use Rattle.tt_share.specs.Desk.{DeskHolds, whole_view};
 
     ghost holds = { DeskHolds };

@@ -101,7 +101,7 @@ fn answered<S: Store>(
     if limits.depth() == 0 || line.winner().is_some() {
         return Err(Fail::new("nothing to solve"));
     }
-    Ok(solve_one(alloc, line, &limits, store))
+    Ok(solve_one(alloc, line, &limits, None, store))
 }
 
 /// Whether an answer is that of the row.
