@@ -1,9 +1,4 @@
-pub mod Checks
+pub mod Breaks
 pub mod Getters
 pub mod Limit
-pub mod OneCheck
-pub mod OneText
-pub mod Progress
-pub mod Turns
-pub mod Values
-pub mod Verdicts
+pub mod TreeByTree

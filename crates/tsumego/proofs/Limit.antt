@@ -5,14 +5,14 @@ use Rattle.std.proofs.KnownBytes.{Appends-nil, Keeps-refl}
 use Rattle.tt_sgf.specs.declared.trees.TheConstants.{MAX_BYTES}
 use Rattle.devices.specs.declared.fault.RunFault.{RunFault}
 use Rattle.devices.specs.declared.fault.RunFault.TheVariants.{Input, Output, Memory}
-use Rattle.tsumego.specs.declared.outcome.Outcome.{Outcome}
+use Rattle.tt_text.specs.declared.outcome.Outcome.{Outcome}
 use Rattle.tt_sgf.specs.declared.nodes.Node.{Node}
-use Rattle.tsumego.specs.declared.finding.Finding.{Finding}
-use Rattle.tsumego.specs.Checking.{Finds, IsCheckText, first_tree, no_tree}
-use Rattle.tsumego.specs.Checking as find
+use Rattle.tt_text.specs.declared.finding.Finding.{Finding}
+use Rattle.tt_text.specs.Checking.{Finds, IsCheckText, first_tree, no_tree}
+use Rattle.tt_text.specs.Checking as find
 use Rattle.tsumego.specs.declared.task.Task.{Task}
 use Rattle.tsumego.specs.Tasks.{MakesOutcome}
-use Rattle.tsumego.specs.Trees.{AreOutcomes, BeginsTreesText, EarlierTreesText, IsTreesText, all_lines, all_read, before_more, no_line, nothing, some_lines, stopped, too_long}
+use Rattle.tt_text.specs.Trees.{AreOutcomes, BeginsTreesText, EarlierTreesText, IsTreesText, all_lines, all_read, before_more, no_line, nothing, some_lines, stopped, too_long}
 use Rattle.devices.specs.Watching.{IsInput}
 use Rattle.devices.specs.laws.PartLaws.{cut_or_whole}
 use Rattle.devices.specs.Faults.{is_output_fault}

@@ -1,5 +1,5 @@
 -- What the command line says.
-use Rattle.std.specs.Prelude.{◌≡◌, ℕ, Bool, true, List, [], ◌∷◌, Option, Some, None, codes, pos}
+use Rattle.std.specs.Prelude.{◌≡◌, ℕ, ◌⊎◌, Bool, true, false, List, [], ◌∷◌, Option, Some, None, codes, pos}
 use Rattle.std.specs.Str.Parse.{IsNumeral, digits_value, without_leading_plus}
 use Rattle.clap.specs.Values.{bool_text}
 use Rattle.clap.specs.Words.{App, Row, Rule, Text, new_app, new_rule, one_of, with_rule, with_subcommand}
@@ -9,10 +9,12 @@ use Rattle.tt_dfpn.specs.declared.attempts.TheConstants.{MOST_POSITIONS}
 use Rattle.tt_proof.specs.declared.tree.TheConstants.{MOST_DEPTH}
 use Rattle.tt_search.specs.declared.limits.TheConstants.{MOST_EXPANDED}
 use Rattle.tt_share.specs.declared.capacity.TheConstants.{MOST_WORKERS}
-use Rattle.tsumego.specs.declared.request.TheConstants.{MOST_IN_ALL}
+use Rattle.tt_text.specs.declared.options.TheConstants.{MOST_IN_ALL}
+use Rattle.tt_text.specs.declared.options.Cert.{Cert}
+use Rattle.tt_text.specs.declared.options.Cert.TheVariants.{Unasked, Plain, Shared}
 use Rattle.tsumego.specs.declared.request.Command.{Command}
 use Rattle.tsumego.specs.declared.request.Command.TheVariants.{Score, Check, Solve}
-use Rattle.tsumego.specs.declared.request.Options.{Options}
+use Rattle.tt_text.specs.declared.options.Options.{Options}
 
 -- a line without a subcommand is refused
 abbrev pub needing_subcommand : App → App
@@ -44,14 +46,16 @@ flag_rule name = record (new_rule name) { long = Some name; action = Some SetTru
 
 -- the options of `solve`
 unfoldable pub solve_app : App
-solve_app = with_rule (with_rule (with_rule (with_rule (with_rule (with_rule (with_rule (new_app (codes "solve"))
+solve_app = with_rule (with_rule (with_rule (with_rule (with_rule (with_rule (with_rule (with_rule (with_rule (new_app (codes "solve"))
     (number_rule (codes "budget") MOST_EXPANDED (codes "100000")))
     (number_rule (codes "depth") MOST_DEPTH (codes "512")))
     (optional_rule (codes "total") MOST_IN_ALL))
     (optional_rule (codes "dfpn") MOST_POSITIONS))
     (number_rule (codes "workers") MOST_WORKERS (codes "1")))
     (flag_rule (codes "cert")))
-    (flag_rule (codes "turns"))
+    (flag_rule (codes "parts")))
+    (flag_rule (codes "turns")))
+    (flag_rule (codes "progress"))
 
 -- the option of `check`
 unfoldable pub check_app : App
@@ -77,20 +81,34 @@ GivesNumber name rows (Some n) = HasNumber name rows n
 abbrev pub HasFlag : Text → List Row → Bool → Type 0
 HasFlag name rows b = one_of name rows ≡ Some (bool_text b)
 
+-- whether a certificate is written
+abbrev pub is_asked : Cert → Bool
+is_asked Unasked = false
+is_asked Plain = true
+is_asked Shared = true
+
+-- whether it may share parts
+abbrev pub is_shared : Cert → Bool
+is_shared Unasked = false
+is_shared Plain = false
+is_shared Shared = true
+
 -- the options of `solve` in these matches
 abbrev pub HasOptions : List Row → Options → Type 0
 HasOptions rows options = HasNumber (codes "budget") rows options.limits.budget × HasNumber (codes "depth") rows options.limits.depth
     × GivesNumber (codes "total") rows options.total × GivesNumber (codes "dfpn") rows options.dfpn
-    × HasNumber (codes "workers") rows options.workers × HasFlag (codes "cert") rows options.cert × HasFlag (codes "turns") rows options.turns
+    × HasNumber (codes "workers") rows options.workers × HasFlag (codes "cert") rows (is_asked options.cert) × HasFlag (codes "parts") rows (is_shared options.cert)
+    × HasFlag (codes "turns") rows options.turns
 
 -- the subcommand that was met, with its matches, is this command
 abbrev pub Asks : Option (Text × List Row) → Command → Type 0
 Asks None c = ⊥
 Asks (Some p) Score = p.0 ≡ codes "score"
 Asks (Some p) (Check parts) = (p.0 ≡ codes "check") × HasFlag (codes "parts") p.1 parts
-Asks (Some p) (Solve options) = (p.0 ≡ codes "solve") × HasOptions p.1 options
+Asks (Some p) (Solve options told) = (p.0 ≡ codes "solve") × HasOptions p.1 options × HasFlag (codes "progress") p.1 told
 
--- flags were given that aren't taken together
+-- flags were given that aren't taken together, or one without the one that it goes with
 abbrev pub Contradicts : Option (Text × List Row) → Type 0
 Contradicts None = ⊥
-Contradicts (Some p) = HasFlag (codes "cert") p.1 true × HasFlag (codes "turns") p.1 true
+Contradicts (Some p) = (HasFlag (codes "cert") p.1 true × HasFlag (codes "turns") p.1 true)
+    ⊎ (HasFlag (codes "parts") p.1 true × HasFlag (codes "cert") p.1 false)

@@ -5,9 +5,9 @@ use Rattle.devices.specs.declared.fault.RunFault.{RunFault}
 use Rattle.devices.specs.Writing.{WritesOf}
 use Rattle.tsumego.specs.declared.request.Command.{Command}
 use Rattle.tsumego.specs.declared.task.Task.{Task}
-use Rattle.tsumego.specs.Checking.{IsCheckText}
+use Rattle.tt_text.specs.Checking.{IsCheckText}
 use Rattle.tsumego.specs.Tasks.{MakesOutcome, shares_parts, task_of}
-use Rattle.tsumego.specs.Trees.{BeginsTreesText, EarlierTreesText, IsTreesText}
+use Rattle.tt_text.specs.Trees.{BeginsTreesText, EarlierTreesText, IsTreesText}
 
 -- an answer to the input, or a beginning of one; and where memory was refused the whole lines on earlier trees alone. The flag says
 -- that a certificate may share parts.

@@ -5,19 +5,19 @@ ghost use Rattle.devices.specs.Watching.{TakesAtMost};
 ghost use Rattle.devices.specs.Writing.{ForInput, WritesText};
 ghost use Rattle.tsumego.specs.inside.Lines.{WritesOutcome};
 ghost use Rattle.tsumego.specs.Tasks.{MakesOutcome, shares_parts, task_of};
-ghost use Rattle.tsumego.specs.Trees.{line_of};
+ghost use Rattle.tt_text.specs.Trees.{line_of};
 ghost use Rattle.tsumego.specs.Writing.{Writes, WritesFor};
 
-use crate::finding::find;
-use crate::outcome::{Outcome, line};
+use crate::progress::Progress;
 use crate::request::Command;
 use crate::task::Task;
 use devices::{RunFault, Watched, read_input, write_bytes};
 use std::alloc::Global;
-use std::io::{Read, Write};
+use std::io::{Eprint, Read, Write};
 use std::sync::Wait;
 use std::thread::Threads;
 use tt_sgf::{MAX_BYTES, MainLine, SgfFault, has_tree, read_tree};
+use tt_text::{Outcome, find, line};
 
 /// One byte more than the longest input whose trees are read.
 const MOST_READ: usize = MAX_BYTES + 1;
@@ -39,11 +39,13 @@ fn write_line<W: Write>(
     }
 }
 
-/// Writes what becomes of a tree by its main line, whose text has so many bytes, and says whether it was refused.
-fn answer_tree<X: Threads + Wait + Sync, W: Write>(
+/// Writes what becomes of a tree by its main line, whose text has so many bytes, and says whether it was refused. How far it is may
+/// be told.
+fn answer_tree<X: Threads + Wait + Eprint + Sync, W: Write>(
     rt: &X,
     alloc: Global,
     task: &Task,
+    told: bool,
     number: usize,
     main: &MainLine,
     bytes: usize,
@@ -53,7 +55,10 @@ fn answer_tree<X: Threads + Wait + Sync, W: Write>(
     ensures written { WritesOutcome (MakesOutcome task.now) number main.now.nodes result (W.contents writer.old.device) (W.contents writer.new.device) }
     ensures failed { writer.new.failed ≡ is_output_fault result }
 {
-    let Ok(outcome) = task.outcome(rt, alloc, main, bytes) else {
+    let progress = Progress::begin(rt, alloc, told, number);
+    let made = task.outcome(rt, alloc, main, bytes, &progress);
+    progress.end();
+    let Ok(outcome) = made else {
         return Err(RunFault::Memory);
     };
     match write_line(alloc, writer, number, &outcome) {
@@ -81,10 +86,11 @@ fn refuse<W: Write>(
 }
 
 /// Answers the trees of an input one after the other.
-fn answer_trees<X: Threads + Wait + Sync, W: Write>(
+fn answer_trees<X: Threads + Wait + Eprint + Sync, W: Write>(
     rt: &X,
     alloc: Global,
     task: &Task,
+    told: bool,
     input: &[u8],
     writer: &mut Watched<W>,
 ) -> Result<u8, RunFault>
@@ -100,7 +106,7 @@ fn answer_trees<X: Threads + Wait + Sync, W: Write>(
         match read_tree(alloc, rest) {
             Ok((main, used)) => {
                 rest = &rest[used..];
-                match answer_tree(rt, alloc, task, number, &main, used, writer) {
+                match answer_tree(rt, alloc, task, told, number, &main, used, writer) {
                     Ok(bad) => refused |= bad,
                     Err(fault) => return Err(fault),
                 }
@@ -150,7 +156,7 @@ fn task_of(command: &Command) -> Option<Task>
     match command {
         Command::Score => Some(Task::Score),
         Command::Check(_) => None,
-        Command::Solve(options) => Some(Task::Solve(*options)),
+        Command::Solve(options, _) => Some(Task::Solve(*options)),
     }
 }
 
@@ -161,12 +167,20 @@ fn shares_parts(command: &Command) -> bool
     match command {
         Command::Score => false,
         Command::Check(parts) => *parts,
-        Command::Solve(_) => false,
+        Command::Solve(_, _) => false,
+    }
+}
+
+/// Whether it is told how far a command is.
+fn is_told(command: &Command) -> bool {
+    match command {
+        Command::Solve(_, told) => *told,
+        Command::Score | Command::Check(_) => false,
     }
 }
 
 /// Answers an input.
-fn answer<X: Threads + Wait + Sync, W: Write>(
+fn answer<X: Threads + Wait + Eprint + Sync, W: Write>(
     rt: &X,
     alloc: Global,
     command: &Command,
@@ -179,7 +193,7 @@ fn answer<X: Threads + Wait + Sync, W: Write>(
     ensures failed { writer.new.failed ≡ is_output_fault result }
 {
     match task_of(command) {
-        Some(task) => answer_trees(rt, alloc, &task, input, writer),
+        Some(task) => answer_trees(rt, alloc, &task, is_told(command), input, writer),
         None => answer_certificate(alloc, shares_parts(command), input, writer),
     }
 }
@@ -190,7 +204,7 @@ fn answer<X: Threads + Wait + Sync, W: Write>(
 /// Neither reader nor writer has failed before. `Input` comes exactly where a read failed, and then nothing is written;
 /// `Output` exactly where a write failed or took no byte, and then a beginning of the answer is written; after `Memory`
 /// the whole lines of earlier trees are written, or nothing.
-pub fn run<X: Threads + Wait + Sync, R: Read, W: Write>(
+pub fn run<X: Threads + Wait + Eprint + Sync, R: Read, W: Write>(
     rt: &X,
     alloc: Global,
     command: &Command,

@@ -1,10 +1,10 @@
 //! The command line.
-ghost use Rattle.std.specs.Prelude.{◌≡◌, ◌⊎◌, ◌≤◌, false, [], true, IfErr, IfOk, OnOk, IfSome, map, string_bytes};
+ghost use Rattle.std.specs.Prelude.{◌≡◌, ◌≢◌, ◌⊎◌, ◌≤◌, false, [], true, IfErr, IfOk, OnOk, IfSome, map, string_bytes};
 ghost use Rattle.clap.specs.Words.{app_of, subcommand_of, subcommand_rows_of, fault_of, takes, kind_of, new_app, rows_of, rule_of, found_of};
 ghost use Rattle.clap.specs.declared.builder.command.Command.TheViews.{out-Command};
-ghost use Rattle.tsumego.specs.CommandLine.{Asks, Contradicts, GivesNumber, HasFlag, HasNumber, HasOptions, check_app, flag_rule, number_rule, optional_rule, solve_app, tool};
+ghost use Rattle.tsumego.specs.CommandLine.{Asks, Contradicts, GivesNumber, HasFlag, HasNumber, HasOptions, check_app, flag_rule, is_asked, is_shared, number_rule, optional_rule, solve_app, tool};
 
-use crate::request::{Command, MOST_IN_ALL, Options};
+use crate::request::Command;
 use clap::error::ErrorKind;
 use clap::{Arg, ArgAction, ArgMatches, Command as Parser, Error, value_parser};
 use std::alloc::{AllocError, Global};
@@ -13,6 +13,7 @@ use tt_dfpn::MOST_POSITIONS;
 use tt_proof::MOST_DEPTH;
 use tt_search::{Limits, MOST_EXPANDED};
 use tt_share::MOST_WORKERS;
+use tt_text::{Cert, MOST_IN_ALL, Options};
 
 /// Why a command line was refused: the parser's text, empty where memory was refused or the words couldn't be read.
 #[derive(Debug, Drop)]
@@ -34,10 +35,20 @@ const PARTS_HELP: &str = "Read a certificate that may share parts";
 
 const CERT_HELP: &str = "Write the certificate on a line of its own";
 
+const SHARE_HELP: &str = "Write each shared part of the certificate once";
+
+const PROGRESS_HELP: &str = "Tell on standard error how far it is, as on a terminal";
+
 const TURNS_HELP: &str = "Write a line on each legal turn, with the value behind it";
 
 /// What is said where flags are given that aren't taken together.
 const APART: &str = "error: the argument '--turns' cannot be used with '--cert'
+
+For more information, try 'tsumego solve --help'.
+";
+
+/// What is said where a flag is given without the one that it goes with.
+const ALONE: &str = "error: the argument '--parts' cannot be used without '--cert'
 
 For more information, try 'tsumego solve --help'.
 ";
@@ -138,14 +149,18 @@ fn solve_parser<'a>(alloc: Global) -> Result<Parser<'a>, AllocError>
     let dfpn = optional_number(alloc, "dfpn", MOST_POSITIONS, DFPN_HELP);
     let workers = number_option(alloc, "workers", MOST_WORKERS as u32, "1", WORKERS_HELP);
     let cert = flag(alloc, "cert", CERT_HELP);
+    let parts = flag(alloc, "parts", SHARE_HELP);
     let turns = flag(alloc, "turns", TURNS_HELP);
+    let progress = flag(alloc, "progress", PROGRESS_HELP);
     let one = named(alloc, "solve", "Solve problems", SOLVE_END).arg(budget)?;
     let two = one.arg(depth)?;
     let three = two.arg(total)?;
     let four = three.arg(dfpn)?;
     let five = four.arg(workers)?;
     let six = five.arg(cert)?;
-    six.arg(turns)
+    let seven = six.arg(parts)?;
+    let eight = seven.arg(turns)?;
+    eight.arg(progress)
 }
 
 fn check_parser<'a>(alloc: Global) -> Result<Parser<'a>, AllocError>
@@ -213,11 +228,22 @@ fn is_within(given: Option<u32>, most: u32) -> bool
     }
 }
 
-/// Whether one flag at the most was given.
-fn are_apart(one: bool, other: bool) -> bool
-    ensures { result ≡ true → one ≡ true → other ≡ false }
+/// Which certificate the flags ask for, where they go together.
+fn cert_of(cert: bool, parts: bool, turns: bool) -> Option<Cert>
+    ensures flags { IfSome result (λ c. (cert ≡ is_asked c) × (parts ≡ is_shared c)) }
+    ensures apart { IfSome result (λ c. c ≢ Cert.Unasked → turns ≡ false) }
 {
-    !(one && other)
+    if !cert {
+        return if parts { None } else { Some(Cert::Unasked) };
+    }
+    if turns {
+        return None;
+    }
+    if parts {
+        Some(Cert::Shared)
+    } else {
+        Some(Cert::Plain)
+    }
 }
 
 /// The options of `solve`.
@@ -229,15 +255,14 @@ fn options_of(matches: &ArgMatches<'_>) -> Option<Options>
     let total = given_number(matches, "total").ok()?;
     let dfpn = given_number(matches, "dfpn").ok()?;
     let workers = number_of(matches, "workers")?;
-    let cert = flag_of(matches, "cert")?;
     let turns = flag_of(matches, "turns")?;
+    let cert = cert_of(flag_of(matches, "cert")?, flag_of(matches, "parts")?, turns)?;
     if depth < 1
         || depth > MOST_DEPTH as u32
         || workers < 1
         || workers > MOST_WORKERS as u32
         || !is_within(total, MOST_IN_ALL)
         || !is_within(dfpn, MOST_POSITIONS)
-        || !are_apart(cert, turns)
     {
         return None;
     }
@@ -259,20 +284,30 @@ fn asked(matches: &ArgMatches<'_>) -> Option<Command>
     match matches.subcommand() {
         Some(("score", _)) => Some(Command::Score),
         Some(("check", matches)) => Some(Command::Check(flag_of(matches, "parts")?)),
-        Some(("solve", matches)) => Some(Command::Solve(options_of(matches)?)),
+        Some(("solve", matches)) => Some(Command::Solve(
+            options_of(matches)?,
+            flag_of(matches, "progress")?,
+        )),
         _ => None,
     }
 }
 
-/// Whether a parse met flags that aren't taken together.
-fn contradicts(matches: &ArgMatches<'_>) -> bool
-    ensures { result ≡ true → Contradicts (subcommand_rows_of matches.now) }
+/// What is said of flags that were given and don't go together; nothing where they do.
+fn contradiction(matches: &ArgMatches<'_>) -> &'static str
+    ensures { (result.now ≡ []) ⊎ Contradicts (subcommand_rows_of matches.now) }
 {
     match matches.subcommand() {
         Some(("solve", matches)) => {
-            flag_of(matches, "cert") == Some(true) && flag_of(matches, "turns") == Some(true)
+            let cert = flag_of(matches, "cert");
+            if cert == Some(true) && flag_of(matches, "turns") == Some(true) {
+                return APART;
+            }
+            if cert == Some(false) && flag_of(matches, "parts") == Some(true) {
+                return ALONE;
+            }
+            ""
         }
-        _ => false,
+        _ => "",
     }
 }
 
@@ -280,8 +315,7 @@ fn contradicts(matches: &ArgMatches<'_>) -> bool
 fn no_command(alloc: Global, matches: &ArgMatches<'_>) -> ArgFault
     ensures { (string_bytes result.0 ≡ []) ⊎ Contradicts (subcommand_rows_of matches.now) }
 {
-    let text = if contradicts(matches) { APART } else { "" };
-    match String::from_str(alloc, text) {
+    match String::from_str(alloc, contradiction(matches)) {
         Ok(text) => ArgFault(text),
         Err(AllocError) => ArgFault(String::new(alloc)),
     }

@@ -3,18 +3,20 @@
 
 mod answer;
 mod arguments;
-mod finding;
-mod laws;
-mod outcome;
+mod progress;
 mod request;
-mod solving;
+#[cfg(test)]
+mod row_tables;
+#[cfg(test)]
+mod row_tests;
 mod task;
-mod verdict;
 
 use answer::run;
 use arguments::{ArgFault, command};
 use devices::Watched;
+use request::Command;
 use std::alloc::AllocError;
+use std::io::IsTerminal;
 use std::process::ExitCode;
 use std::{env, io};
 
@@ -37,6 +39,14 @@ fn tell(rt: &HostRuntime, text: &str) -> io::Result<()> {
     rt.eprint(text)
 }
 
+/// The command, which tells how far it is where standard error is a terminal too.
+fn with_progress(command: Command, terminal: bool) -> Command {
+    match command {
+        Command::Solve(options, told) => Command::Solve(options, told || terminal),
+        Command::Score | Command::Check(_) => command,
+    }
+}
+
 fn main(rt: HostRuntime) -> ExitCode {
     let asked = match words_of(&rt) {
         Ok(words) => command(rt.alloc(), words.as_slice()),
@@ -49,6 +59,7 @@ fn main(rt: HostRuntime) -> ExitCode {
             return ExitCode::from(2);
         }
     };
+    let command = with_progress(command, rt.stderr().is_terminal());
     let mut reader = Watched::new(rt.stdin());
     let mut writer = Watched::new(rt.stdout());
     match run(&rt, rt.alloc(), &command, &mut reader, &mut writer) {

@@ -1,37 +1,6 @@
 //! What the program can be asked to do.
-ghost use Rattle.std.specs.Prelude.{◌≡◌, ◌≤◌, IfSome, true, false};
-ghost use Rattle.std.proofs.Props.{props};
-ghost use Rattle.tt_dfpn.specs.declared.attempts.TheConstants.{MOST_POSITIONS};
-ghost use Rattle.tt_share.specs.declared.capacity.TheConstants.{MOST_WORKERS};
-ghost use Rattle.tsumego.specs.declared.request.TheConstants.{MOST_IN_ALL};
 
-use tt_search::Limits;
-
-/// The greatest total: the greatest budget behind each of 362 first turns.
-pub const MOST_IN_ALL: u32 = 362_000_000;
-
-/// How problems are solved. Each option lies in its range.
-#[derive(Clone, Copy, Debug)]
-pub struct Options {
-    /// How many expansions each first turn may take, and how many turns deep the search may go from the
-    /// problem: at least 1.
-    pub limits: Limits,
-    /// How many expansions all first turns may take together, where there is such a total: 1 to `MOST_IN_ALL`.
-    pub total: Option<u32>,
-    /// How many positions df-pn may visit before the search begins, where it is asked for: 1 to `MOST_POSITIONS`.
-    pub dfpn: Option<u32>,
-    /// How many workers search: 1 to `MOST_WORKERS`.
-    pub workers: usize,
-    /// Whether the certificate of each verdict is written.
-    pub cert: bool,
-    /// Whether the value behind each legal turn is written. Then no certificate is.
-    pub turns: bool,
-    ghost depth_in: { 1 ≤ limits.depth },
-    ghost total_in: { IfSome total (λ n. (1 ≤ n) × (n ≤ MOST_IN_ALL)) } by { Prim.hlevel props },
-    ghost dfpn_in: { IfSome dfpn (λ n. (1 ≤ n) × (n ≤ MOST_POSITIONS)) } by { Prim.hlevel props },
-    ghost workers_in: { (1 ≤ workers) × (workers ≤ MOST_WORKERS) },
-    ghost apart: { cert ≡ true → turns ≡ false } by { Prim.hlevel props },
-}
+use tt_text::Options;
 
 /// What the program is asked to do.
 #[derive(Clone, Copy, Debug)]
@@ -40,6 +9,6 @@ pub enum Command {
     Score,
     /// Check the certificate that follows the first tree of the input, a problem. The flag says that it may share parts.
     Check(bool),
-    /// Solve each problem of the input.
-    Solve(Options),
+    /// Solve each problem of the input. The flag says that it is told how far it is.
+    Solve(Options, bool),
 }

@@ -2,13 +2,12 @@
 ghost use Rattle.std.specs.Prelude.{IfOk};
 ghost use Rattle.tsumego.specs.Tasks.{MakesOutcome};
 
-use crate::outcome::{Outcome, score};
-use crate::request::Options;
-use crate::solving::solve;
 use std::alloc::Global;
 use std::sync::Wait;
 use std::thread::Threads;
 use tt_sgf::{MainLine, NoMemory};
+use tt_share::Gate;
+use tt_text::{Options, Outcome, score, solve};
 
 /// What is done with each tree of an input: it is scored as a record or solved as a problem.
 #[derive(Clone, Copy, Debug)]
@@ -18,19 +17,20 @@ pub enum Task {
 }
 
 impl Task {
-    /// What becomes of a tree, whose text has so many bytes.
-    pub fn outcome<X: Threads + Wait + Sync>(
+    /// What becomes of a tree, whose text has so many bytes. The gate is told of a problem's first turns.
+    pub fn outcome<X: Threads + Wait + Sync, G: Gate>(
         &self,
         rt: &X,
         alloc: Global,
         main: &MainLine,
         bytes: usize,
+        gate: &G,
     ) -> Result<Outcome, NoMemory>
         ensures { IfOk result (MakesOutcome self.now main.now.nodes) }
     {
         match self {
             Task::Score => score(alloc, main),
-            Task::Solve(options) => solve(rt, alloc, main, *options, bytes),
+            Task::Solve(options) => solve(rt, alloc, main, *options, bytes, gate),
         }
     }
 }

@@ -5,8 +5,8 @@ use Rattle.std.specs.Io.KnownBytes.{Appends, Keeps}
 use Rattle.tt_sgf.specs.declared.nodes.Node.{Node}
 use Rattle.devices.specs.declared.fault.RunFault.{RunFault}
 use Rattle.devices.specs.declared.fault.RunFault.TheVariants.{Input, Output, Memory}
-use Rattle.tsumego.specs.declared.outcome.Outcome.{Outcome}
-use Rattle.tsumego.specs.Trees.{is_refused, line_of}
+use Rattle.tt_text.specs.declared.outcome.Outcome.{Outcome}
+use Rattle.tt_text.specs.Trees.{is_refused, line_of}
 
 -- the line on an outcome of tree number k was written, and says whether it is a refusal; or a fault came
 abbrev pub WritesOutcome : (List Node → Outcome → Type 0) → ℕ → List Node → Result Bool RunFault → Option (List ℕ) → Option (List ℕ) → Type 0

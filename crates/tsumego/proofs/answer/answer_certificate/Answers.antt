@@ -1,5 +1,5 @@
 use Rattle.std.proofs.Common.{rules}
-use Rattle.tsumego.proofs.Checks.{check_breaks}
+use Rattle.tsumego.proofs.Breaks.{check_breaks}
 use Rattle.tsumego.proofs.answer.answer_certificate.Goals as goal
 
 pub returns-clause-written : goal.returns-clause-written

@@ -1,7 +1,7 @@
 use Rattle.std.proofs.Common.{◌≡◌, ◌⊎◌, inl, inr, rules, arith, length, take, drop, ◌-◌}
 use Rattle.std.proofs.lemmas.List.{length-drop, length-take-le}
 use Rattle.tt_sgf.specs.Grammar.{HasOpen}
-use Rattle.tsumego.proofs.Progress.{progress_ended, progress_fault, progress_kept, progress_long, progress_step, progress_stopped}
+use Rattle.tsumego.proofs.TreeByTree.{progress_ended, progress_fault, progress_kept, progress_long, progress_step, progress_stopped}
 use Rattle.tsumego.proofs.answer.answer_trees.Goals as goal
 use Rattle.tsumego.proofs.answer.answer_trees.Goals.{then-number-eq1, else-number-eq1+then-has_tree}
 

@@ -1,6 +1,6 @@
 use Rattle.std.proofs.Common.{◌≡◌, ◌≤◌, ◌+◌, length, false}
 use Rattle.tsumego.specs.Tasks.{MakesOutcome}
-use Rattle.tsumego.proofs.Progress.{Progress}
+use Rattle.tsumego.proofs.TreeByTree.{Progress}
 use Rattle.tsumego.proofs.answer.answer_trees.Given as goal
 
 abbrev pub invariant-loop-number : goal.invariant-loop-number

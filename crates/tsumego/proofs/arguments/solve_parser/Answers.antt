@@ -16,7 +16,9 @@ returns-clause-shape c =
     let four_is = c.in_ok-four.ensures.shape c.optional_number-dfpn.ensures.local ∙ ap₂ with_rule three_is c.optional_number-dfpn.ensures.rule in
     let five_is = c.in_ok-five.ensures.shape c.number_option-workers.ensures.local ∙ ap₂ with_rule four_is c.number_option-workers.ensures.rule in
     let six_is = c.in_ok-six.ensures.shape c.flag-cert.ensures.local ∙ ap₂ with_rule five_is c.flag-cert.ensures.rule in
-    IfOk-weaker c.arg-7.result _ _ (λ r h. h.shape c.flag-turns.ensures.local ∙ ap₂ with_rule six_is c.flag-turns.ensures.rule) c.arg-7.ensures
+    let seven_is = c.in_ok-seven.ensures.shape c.flag-parts.ensures.local ∙ ap₂ with_rule six_is c.flag-parts.ensures.rule in
+    let eight_is = c.in_ok-eight.ensures.shape c.flag-turns.ensures.local ∙ ap₂ with_rule seven_is c.flag-turns.ensures.rule in
+    IfOk-weaker c.arg-9.result _ _ (λ r h. h.shape c.flag-progress.ensures.local ∙ ap₂ with_rule eight_is c.flag-progress.ensures.rule) c.arg-9.ensures
 
 pub returns-clause-local : goal.returns-clause-local
 returns-clause-local c =
@@ -26,4 +28,6 @@ returns-clause-local c =
     let four = none_global _ _ _ c.in_ok-four.ensures.globals three c.optional_number-dfpn.ensures.local in
     let five = none_global _ _ _ c.in_ok-five.ensures.globals four c.number_option-workers.ensures.local in
     let six = none_global _ _ _ c.in_ok-six.ensures.globals five c.flag-cert.ensures.local in
-    IfOk-weaker c.arg-7.result _ _ (λ r h. none_global _ _ _ h.globals six c.flag-turns.ensures.local) c.arg-7.ensures
+    let seven = none_global _ _ _ c.in_ok-seven.ensures.globals six c.flag-parts.ensures.local in
+    let eight = none_global _ _ _ c.in_ok-eight.ensures.globals seven c.flag-turns.ensures.local in
+    IfOk-weaker c.arg-9.result _ _ (λ r h. none_global _ _ _ h.globals eight c.flag-progress.ensures.local) c.arg-9.ensures

@@ -1,5 +1,0 @@
-use Rattle.tsumego.proofs.OneCheck.{checks_same}
-use Rattle.tsumego.proofs.laws.one_check_text.Goals as goal
-
-pub returns : goal.returns
-returns c = λ input s t m n. checks_same c.one_certificate.ensures c.one_reading.ensures input s t m n

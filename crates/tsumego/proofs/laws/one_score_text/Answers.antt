@@ -1,5 +1,0 @@
-use Rattle.tsumego.proofs.OneText.{answers_same}
-use Rattle.tsumego.proofs.laws.one_score_text.Goals as goal
-
-pub returns : goal.returns
-returns c = λ input s t m n. answers_same c.one_reading.ensures input s t m n

@@ -1,6 +1,0 @@
-use Rattle.std.proofs.Common.{rules}
-use Rattle.tsumego.proofs.Verdicts.{winner_value}
-use Rattle.tsumego.proofs.solving.value_at.Goals as goal
-
-pub returns-in-Some : goal.returns-in-Some
-returns-in-Some g c = winner_value c.args.line.now c.requires c.in-Some.side (search (rules, c.in-Some.is, c.in-Some.ensures))

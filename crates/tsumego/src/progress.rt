@@ -1,0 +1,63 @@
+//! How far a problem is, told on standard error while it is solved.
+
+use std::alloc::Global;
+use std::io::Eprint;
+use tt_share::Gate;
+
+/// Tells which problem is being solved, and which of its first turns was begun last, where that is asked for. It stands on one line,
+/// which is wiped in the end. Workers draw first turns in rising order, so those before it are through or under way.
+#[derive(Clone, Copy)]
+pub struct Progress<'a, X> {
+    rt: &'a X,
+    alloc: Global,
+    told: bool,
+    number: usize,
+}
+
+impl<'a, X: Eprint> Progress<'a, X> {
+    /// Of the problem with this number, which begins now.
+    pub fn begin(rt: &'a X, alloc: Global, told: bool, number: usize) -> Progress<'a, X> {
+        let progress = Progress {
+            rt,
+            alloc,
+            told,
+            number,
+        };
+        progress.tell_problem();
+        progress
+    }
+
+    fn tell_problem(&self) {
+        if !self.told {
+            return;
+        }
+        if let Ok(text) = format!(in self.alloc; "problem {}", self.number) {
+            let _ = self.rt.eprint(text.as_str());
+        }
+    }
+
+    fn tell_turn(&self, job: usize) {
+        if !self.told {
+            return;
+        }
+        let turn = job.saturating_add(1);
+        if let Ok(text) = format!(in self.alloc; "\rproblem {}: first turn {turn}", self.number) {
+            let _ = self.rt.eprint(text.as_str());
+        }
+    }
+
+    /// Wipes the line.
+    pub fn end(&self) {
+        if self.told {
+            let _ = self.rt.eprint("\r\u{1b}[K");
+        }
+    }
+}
+
+impl<X: Eprint + Sync> Gate for Progress<'_, X> {
+    fn begin(&self, job: usize) {
+        self.tell_turn(job);
+    }
+
+    fn end(&self, _job: usize) {}
+}

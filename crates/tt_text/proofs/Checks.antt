@@ -1,0 +1,65 @@
+-- Lemmas on what is found on a certificate.
+use Rattle.std.proofs.Common.{◌≡◌, ◌≤◌, ◌-◌, ℕ, Bool, List, [], ap, ◌∙◌, length, take, drop, arith, subst}
+use Rattle.std.proofs.lemmas.List.{take_all, length-drop}
+use Rattle.tt_sgf.specs.declared.trees.TheConstants.{MAX_BYTES}
+use Rattle.tt_sgf.specs.declared.nodes.Node.{Node}
+use Rattle.tt_sgf.specs.Grammar.{GameTree, SpelledUpTo, main_line}
+use Rattle.tt_sgf.specs.Values.{trimmed}
+use Rattle.tt_game.specs.declared.frame.Frame.{Frame}
+use Rattle.tt_game.specs.declared.frame.Side.{Side}
+use Rattle.tt_game.specs.Line.{Standing}
+use Rattle.tt_game.specs.Problems.{problem_of}
+use Rattle.tt_proof.specs.declared.certificate_read.CertFault.{CertFault}
+use Rattle.tt_proof.specs.declared.certificate_read.CertFault.TheVariants.{Syntax, TooDeep}
+use Rattle.tt_proof.specs.CertificateFaults.{IsFault}
+use Rattle.tt_proof.specs.CertificateText.{IsCertificate, IsTooDeep}
+use Rattle.tt_proof.specs.Outlines.{Outline, IsSharedCertificate, unfolded}
+use Rattle.tt_proof.specs.Strategy.{Strategy}
+use Rattle.tt_proof.specs.Wins.{Wins}
+use Rattle.tt_text.specs.declared.finding.Finding.{Finding}
+use Rattle.tt_text.specs.declared.finding.Finding.TheVariants.{Valid, Invalid, Refused}
+use Rattle.tt_text.specs.Checking.{Finds, FindsAt, FindsOn, FindsShared, first_tree, loses, no_certificate, shared_loses, shared_wins, too_deep, unfit, wins}
+
+-- the size of the line's frame is that of its problem
+module _ (p : Standing) (f : Frame) (bytes : List ℕ) (same : f ≡ p.frame) where
+  -- a certificate whose tree wins is valid
+  pub wins_at : (side : Side) (u : Strategy) → IsCertificate f.size bytes side u × (IsTooDeep f.size bytes → ⊥) → Wins side p.frame u p.state → FindsAt p bytes Valid
+  wins_at side u h w = let k = subst (λ (g : Frame). IsCertificate g.size bytes side u × (IsTooDeep g.size bytes → ⊥)) same h in wins side u k.1 k.0 w
+
+  -- one whose tree doesn't win is invalid
+  pub loses_at : (side : Side) (u : Strategy) → IsCertificate f.size bytes side u × (IsTooDeep f.size bytes → ⊥) → (Wins side p.frame u p.state → ⊥) → FindsAt p bytes Invalid
+  loses_at side u h w = let k = subst (λ (g : Frame). IsCertificate g.size bytes side u × (IsTooDeep g.size bytes → ⊥)) same h in loses side u k.1 k.0 w
+
+  -- bytes that are no certificate are refused with 30
+  pub none_at : (e : CertFault) → e ≡ Syntax → IsFault f.size bytes e → FindsAt p bytes (Refused 30)
+  none_at e is h =
+      let k : IsFault p.frame.size bytes Syntax = subst (λ (g : Frame). IsFault g.size bytes Syntax) same (subst (λ (x : CertFault). IsFault f.size bytes x) is h) in
+      no_certificate k.1 k.0
+
+  -- bytes with a turn that lies too deep are refused with 31
+  pub deep_at : (e : CertFault) → e ≡ TooDeep → IsFault f.size bytes e → FindsAt p bytes (Refused 31)
+  deep_at e is h =
+      let k : IsFault p.frame.size bytes TooDeep = subst (λ (g : Frame). IsFault g.size bytes TooDeep) same (subst (λ (x : CertFault). IsFault f.size bytes x) is h) in
+      too_deep k
+
+-- the same of a certificate with shared parts
+module _ (p : Standing) (f : Frame) (bytes : List ℕ) (same : f ≡ p.frame) (side : Side) (o : Outline) (is : IsSharedCertificate f.size bytes side o) where
+  here : IsSharedCertificate p.frame.size bytes side o
+  here = subst (λ (g : Frame). IsSharedCertificate g.size bytes side o) same is
+
+  pub shared_wins_at : Wins side p.frame (unfolded [] o) p.state → FindsShared p bytes Valid
+  shared_wins_at w = shared_wins side o here w
+
+  pub shared_loses_at : (Wins side p.frame (unfolded [] o) p.state → ⊥) → FindsShared p bytes Invalid
+  shared_loses_at w = shared_loses side o here w
+
+  pub unfit_at : FindsShared p bytes (Refused 32)
+  unfit_at = unfit side o here
+
+-- what is found behind the first tree
+pub found_behind : (parts : Bool) (input : List ℕ) (used : ℕ) (t : GameTree) (nodes : List Node) (bytes : List ℕ) (o : Finding) → length input ≤ MAX_BYTES → SpelledUpTo input used t
+    → nodes ≡ main_line t → bytes ≡ trimmed (take (length input - used) (drop used input)) → FindsOn parts (problem_of nodes) bytes o → Finds parts input o
+found_behind parts input used t nodes bytes o small s same is h =
+    let whole : take (length input - used) (drop used input) ≡ drop used input = take_all _ _ (omega (arith, length-drop used input)) in
+    first_tree used t o small s
+    (subst (λ (x : List Node). FindsOn parts (problem_of x) (trimmed (drop used input)) o) same (subst (λ (x : List ℕ). FindsOn parts (problem_of nodes) x o) (is ∙ ap trimmed whole) h))

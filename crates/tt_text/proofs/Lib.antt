@@ -1,0 +1,6 @@
+pub mod Checks
+pub mod OneCheck
+pub mod OneText
+pub mod Turns
+pub mod Values
+pub mod Verdicts

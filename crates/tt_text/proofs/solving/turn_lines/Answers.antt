@@ -1,0 +1,43 @@
+use Rattle.std.proofs.Common.{◌≡◌, ◌<◌, ℕ, List, rules, length, get_or}
+use Rattle.tt_game.specs.declared.turns.Turn.{Turn}
+use Rattle.tt_game.specs.Game.{IsLegal}
+use Rattle.tt_game.specs.Turns.{OnBoard}
+use Rattle.tt_text.proofs.Turns.{all_lines, legal_on_board, legal_there, next_line}
+use Rattle.tt_text.proofs.solving.turn_lines.Goals as goal
+
+pub value_behind-value-requires-clause-legal : goal.value_behind-value-requires-clause-legal
+value_behind-value-requires-clause-legal g c =
+    let items : List Turn = c.as_slice-turn-items.result.now in
+    let n : ℕ = c.loop-turn.turn-index in
+    let turn : Turn = c.turn-item.result in
+    let lt : n < length items = search rules in
+    let is : turn ≡ get_or items n turn = search rules in
+    let there : IsLegal c.args.line.now.frame c.args.line.now.state turn = legal_there c.args.line.now items n turn c.loop-turn.invariant.all lt is in
+    search (rules, there)
+
+pub put_value_line-requires : goal.put_value_line-requires
+put_value_line-requires g c =
+    let items : List Turn = c.as_slice-turn-items.result.now in
+    let n : ℕ = c.loop-turn.turn-index in
+    let turn : Turn = c.turn-item.result in
+    let lt : n < length items = search rules in
+    let is : turn ≡ get_or items n turn = search rules in
+    let there : OnBoard c.args.line.now.frame turn = legal_on_board c.args.line.now turn (legal_there c.args.line.now items n turn c.loop-turn.invariant.all lt is) in
+    search (rules, there)
+
+pub loop-turn-preserved : goal.loop-turn-preserved
+loop-turn-preserved g c =
+    let items : List Turn = c.as_slice-turn-items.result.now in
+    let n : ℕ = c.loop-turn.turn-index in
+    let turn : Turn = c.turn-item.result in
+    let lt : n < length items = search rules in
+    let is : turn ≡ get_or items n turn = search rules in
+    record {
+      all = c.loop-turn.invariant.all;
+      lines = next_line c.args.line.now c.args.options.limits c.args.options.total items n turn c.loop-turn.lines.items _ c.value_behind-value.result lt is
+          c.loop-turn.invariant.lines c.value_behind-value.ensures c.in_ok-put_value_line.ensures;
+    }
+
+pub returns : goal.returns
+returns g c = all_lines c.args.line.now c.args.options.limits c.args.options.total c.as_slice-turn-items.result.now c.loop-turn.turn-index c.loop-turn.lines.items
+    c.loop-turn-test.false c.loop-turn.invariant.all c.loop-turn.invariant.lines

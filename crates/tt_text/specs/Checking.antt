@@ -1,0 +1,77 @@
+-- What `check` writes for an input: one line on the certificate that follows the first tree.
+use Rattle.std.specs.Prelude.{◌≡◌, ◌<◌, ◌≤◌, ℕ, Bool, true, false, List, [], ◌∷◌, ◌++◌, length, drop, codes, decimal, Ok, Err}
+use Rattle.std.specs.declared.result.Result.{Result}
+use Rattle.tt_sgf.specs.Bytes.{newline}
+use Rattle.tt_sgf.specs.declared.trees.TheConstants.{MAX_BYTES}
+use Rattle.tt_sgf.specs.Grammar.{GameTree, HasNoTree, SpelledUpTo, main_line}
+use Rattle.tt_sgf.specs.Values.{trimmed}
+use Rattle.tt_game.specs.declared.faults.GameFault.{GameFault}
+use Rattle.tt_game.specs.declared.frame.Side.{Side}
+use Rattle.tt_game.specs.Faults.{code_of}
+use Rattle.tt_game.specs.Line.{Standing}
+use Rattle.tt_game.specs.Problems.{problem_of}
+use Rattle.tt_proof.specs.CertificateText.{IsCertificate, IsTooDeep}
+use Rattle.tt_proof.specs.Outlines.{Outline, IsSharedCertificate, unfolded}
+use Rattle.tt_proof.specs.Strategy.{Strategy}
+use Rattle.tt_proof.specs.Wins.{Wins}
+use Rattle.tt_text.specs.declared.finding.Finding.{Finding}
+use Rattle.tt_text.specs.declared.finding.Finding.TheVariants.{Valid, Invalid, Refused}
+
+-- What is found on bytes at a problem: a turn lies too deep; or they are no certificate; or they are one, and its tree
+-- wins at the problem or doesn't.
+pub data FindsAt (p : Standing) (bytes : List ℕ) : Finding → Type 0 where
+  too_deep : IsTooDeep p.frame.size bytes → FindsAt p bytes (Refused 31)
+  no_certificate : (IsTooDeep p.frame.size bytes → ⊥) → ((side : Side) (u : Strategy) → IsCertificate p.frame.size bytes side u → ⊥)
+      → FindsAt p bytes (Refused 30)
+  wins : (side : Side) (u : Strategy) → (IsTooDeep p.frame.size bytes → ⊥) → IsCertificate p.frame.size bytes side u
+      → Wins side p.frame u p.state → FindsAt p bytes Valid
+  loses : (side : Side) (u : Strategy) → (IsTooDeep p.frame.size bytes → ⊥) → IsCertificate p.frame.size bytes side u
+      → (Wins side p.frame u p.state → ⊥) → FindsAt p bytes Invalid
+
+-- What is found on bytes at a problem where parts may be shared: they are a certificate with shared parts, and its tree wins at
+-- the problem or doesn't, or a part doesn't fit; else they are refused, which says no more.
+pub data FindsShared (p : Standing) (bytes : List ℕ) : Finding → Type 0 where
+  unread : FindsShared p bytes (Refused 30)
+  goes_deep : FindsShared p bytes (Refused 31)
+  unfit : (side : Side) (o : Outline) → IsSharedCertificate p.frame.size bytes side o → FindsShared p bytes (Refused 32)
+  shared_wins : (side : Side) (o : Outline) → IsSharedCertificate p.frame.size bytes side o → Wins side p.frame (unfolded [] o) p.state
+      → FindsShared p bytes Valid
+  shared_loses : (side : Side) (o : Outline) → IsSharedCertificate p.frame.size bytes side o → (Wins side p.frame (unfolded [] o) p.state → ⊥)
+      → FindsShared p bytes Invalid
+
+-- the one or the other, as parts are asked for
+abbrev pub FindsBy : Bool → Standing → List ℕ → Finding → Type 0
+FindsBy true = FindsShared
+FindsBy false = FindsAt
+
+-- the same, where the problem may be refused before
+abbrev pub FindsOn : Bool → Result Standing GameFault → List ℕ → Finding → Type 0
+FindsOn parts (Ok p) bytes o = FindsBy parts p bytes o
+FindsOn parts (Err e) bytes o = o ≡ Refused (code_of e)
+
+-- What is found on the whole input: it is too long; or it has no tree; or the first tree is the problem, and what follows it,
+-- without the white space at both ends, is to be the certificate.
+pub data Finds (parts : Bool) (input : List ℕ) : Finding → Type 0 where
+  too_long : MAX_BYTES < length input → Finds parts input (Refused 2)
+  no_tree : length input ≤ MAX_BYTES → HasNoTree input → Finds parts input (Refused 1)
+  first_tree : (count : ℕ) (t : GameTree) (o : Finding) → length input ≤ MAX_BYTES → SpelledUpTo input count t
+      → FindsOn parts (problem_of (main_line t)) (trimmed (drop count input)) o → Finds parts input o
+
+-- the line on a finding; a newline ends it
+abbrev pub finding_line : Finding → List ℕ
+finding_line Valid = codes "valid" ++ newline ∷ []
+finding_line Invalid = codes "invalid" ++ newline ∷ []
+finding_line (Refused code) = codes "refused " ++ (decimal code ++ newline ∷ [])
+
+-- the exit status: 0 where the certificate is valid
+abbrev pub finding_status : Finding → ℕ
+finding_status Valid = 0
+finding_status Invalid = 1
+finding_status (Refused code) = 1
+
+-- the text is the line on what is found
+pub record IsCheckText (parts : Bool) (input text : List ℕ) (status : ℕ) : Type 0 where
+  pub finding : Finding
+  pub finds : Finds parts input finding
+  pub line : text ≡ finding_line finding
+  pub status_is : status ≡ finding_status finding

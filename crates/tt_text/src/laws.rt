@@ -1,0 +1,27 @@
+//! Laws of what the program writes. Each is a function that does nothing, whose contract is the law.
+ghost use Rattle.std.specs.Prelude.{◌≡◌, ℕ, List, false};
+ghost use Rattle.tt_text.specs.Checking.{IsCheckText};
+ghost use Rattle.tt_text.specs.Laws.{VerdictsAreValues};
+ghost use Rattle.tt_text.specs.Scoring.{Scores};
+ghost use Rattle.tt_text.specs.Trees.{IsTreesText};
+
+/// An input has one text and one status that answer `score`.
+pub fn one_score_text()
+    ensures { (input s t : List ℕ) (m n : ℕ) → IsTreesText Scores input s m → IsTreesText Scores input t n → (s ≡ t) × (m ≡ n) }
+{
+    tt_sgf::laws::one_reading();
+}
+
+/// An input has one text and one status that answer `check` without `--parts`.
+pub fn one_check_text()
+    ensures { (input s t : List ℕ) (m n : ℕ) → IsCheckText false input s m → IsCheckText false input t n → (s ≡ t) × (m ≡ n) }
+{
+    tt_sgf::laws::one_reading();
+    tt_proof::laws::one_certificate();
+}
+
+/// A verdict of `solve` that names a side says the problem's value. The turn that it shows keeps that value, and where it
+/// shows none the winner isn't to move.
+pub fn verdicts_are_values()
+    ensures { VerdictsAreValues }
+{}

@@ -1,0 +1,81 @@
+//! What becomes of one game tree, and the line that says so.
+ghost use Rattle.std.specs.Prelude.{◌≡◌, IfOk};
+ghost use Rattle.tt_text.specs.Scoring.{Scores};
+ghost use Rattle.tt_text.specs.Trees.{is_refused, line_of};
+
+use std::alloc::{AllocError, Global};
+use tt_game::{GameFault, Record, play_record};
+use tt_sgf::{Items, MainLine, NoMemory};
+
+/// What becomes of one game tree.
+#[derive(Drop)]
+pub enum Outcome {
+    /// A record was scored.
+    Scored(Record),
+    /// A problem was answered, by this text behind the tree's number.
+    Answered(Items<u8>),
+    /// The tree was refused, with this number.
+    Refused(u8),
+}
+
+impl Outcome {
+    /// Whether the tree was refused.
+    pub fn is_refused(&self) -> bool
+        ensures { result ≡ is_refused self.now }
+    {
+        matches!(self, Outcome::Refused(_))
+    }
+}
+
+/// The line of a score.
+fn score_line(alloc: Global, number: usize, scored: &Record) -> Result<Vec<u8>, AllocError>
+    ensures { IfOk result (λ text. text.items ≡ line_of number (Outcome.Scored scored.now)) }
+{
+    let Record {
+        black,
+        white,
+        finished,
+    } = *scored;
+    let end = if finished { "finished" } else { "unfinished" };
+    let text = format!(in alloc; "{number} black {black} white {white} {end}\n")?;
+    Ok(text.into_bytes())
+}
+
+/// The number of a tree, and the text of its answer behind a blank.
+fn answer_lines(alloc: Global, number: usize, answer: &[u8]) -> Result<Vec<u8>, AllocError>
+    ensures { IfOk result (λ text. text.items ≡ line_of number (Outcome.Answered answer.now)) }
+{
+    let mut text = format!(in alloc; "{number} ")?.into_bytes();
+    text.extend_from_slice(answer)?;
+    Ok(text)
+}
+
+/// The line of a refusal.
+fn refusal_line(alloc: Global, number: usize, code: u8) -> Result<Vec<u8>, AllocError>
+    ensures { IfOk result (λ text. text.items ≡ line_of number (Outcome.Refused code)) }
+{
+    let text = format!(in alloc; "{number} refused {code}\n")?;
+    Ok(text.into_bytes())
+}
+
+/// The line on the outcome of the tree with this number, with the line of a certificate where there is one.
+pub fn line(alloc: Global, number: usize, outcome: &Outcome) -> Result<Vec<u8>, AllocError>
+    ensures { IfOk result (λ text. text.items ≡ line_of number outcome.now) }
+{
+    match outcome {
+        Outcome::Scored(record) => score_line(alloc, number, record),
+        Outcome::Answered(text) => answer_lines(alloc, number, text.as_slice()),
+        Outcome::Refused(code) => refusal_line(alloc, number, *code),
+    }
+}
+
+/// The score of a main line, or its refusal.
+pub fn score(alloc: Global, main: &MainLine) -> Result<Outcome, NoMemory>
+    ensures { IfOk result (Scores main.now.nodes) }
+{
+    match play_record(alloc, main) {
+        Ok(record) => Ok(Outcome::Scored(record)),
+        Err(GameFault::NoMemory) => Err(NoMemory),
+        Err(fault) => Ok(Outcome::Refused(fault.code())),
+    }
+}

@@ -1,0 +1,288 @@
+//! Solves the problem that a tree is.
+ghost use Rattle.std.specs.Prelude.{◌≡◌, ◌≤◌, ◌+◌, IfOk, IfSome, None, length, true};
+ghost use Rattle.tt_sgf.specs.declared.trees.TheConstants.{MAX_BYTES};
+ghost use Rattle.tt_game.specs.Game.{IsLegal, winner_of};
+ghost use Rattle.tt_game.specs.GameLaws.{IsState};
+ghost use Rattle.tt_game.specs.Turns.{legal_turns};
+ghost use Rattle.tt_proof.specs.CertificateText.{certificate_text};
+ghost use Rattle.tt_proof.specs.declared.tree.TheConstants.{MOST_DEPTH};
+ghost use Rattle.tt_proof.specs.Proven.{StandsAt};
+ghost use Rattle.tt_share.specs.Answers.{IsAnswer};
+ghost use Rattle.tt_text.specs.Solving.{AreTurnLines, IsValueOrReason, ProblemText, Solves, TurnsFollow, Verdict, line_behind};
+
+use crate::options::{Cert, Options};
+use crate::outcome::Outcome;
+use crate::verdict::{put_value_line, value_of, verdict_text};
+use std::alloc::Global;
+use std::sync::{Arc, Wait};
+use std::thread::Threads;
+use tt_dfpn::{Visits, find_proof};
+use tt_game::{GameFault, Line, Side, Turn, problem};
+use tt_proof::{Proof, write_cert, write_parts};
+use tt_search::Reason;
+use tt_sgf::{Items, MAX_BYTES, MainLine, NoMemory, Size};
+use tt_share::{Answer, CertLog, Gate, NoGate, View};
+
+/// Whether `check` reads the certificate of a proof behind a problem's text, with the ends of two lines.
+fn is_checkable(alloc: Global, proof: &Proof, size: Size, bytes: usize) -> Result<bool, NoMemory>
+    requires { size ≡ proof.now.frame.size }
+    ensures { IfOk result (λ b. b ≡ true → bytes + length (certificate_text size proof.now.side proof.now.tree) + 2 ≤ MAX_BYTES) }
+{
+    // each node takes a byte or more
+    if bytes >= MAX_BYTES || proof.nodes() > MAX_BYTES as u64 {
+        return Ok(false);
+    }
+    let text = write_cert(alloc, proof.side(), proof.tree(), size)?;
+    Ok(text.len() < MAX_BYTES - bytes - 1)
+}
+
+/// Whether `check --parts` reads a certificate with shared parts of a proof at the line behind a problem's text, with the ends of two
+/// lines.
+fn is_shareable(
+    alloc: Global,
+    proof: &Proof,
+    line: &Line,
+    most_depth: u16,
+    bytes: usize,
+) -> Result<bool, NoMemory>
+    requires stands { StandsAt proof.now line.now.frame line.now.state }
+    requires depth { most_depth ≤ MOST_DEPTH }
+{
+    if bytes >= MAX_BYTES - 1 {
+        return Ok(false);
+    }
+    let room = MAX_BYTES - 2 - bytes;
+    let text = write_parts(alloc, proof.side(), proof.tree(), line, most_depth, room)?;
+    Ok(text.is_some())
+}
+
+/// Whether the certificate that is asked for can be checked behind the problem's text.
+fn is_usable(
+    alloc: Global,
+    proof: &Proof,
+    line: &Line,
+    options: Options,
+    bytes: usize,
+) -> Result<bool, NoMemory>
+    requires { StandsAt proof.now line.now.frame line.now.state }
+    ensures { IfOk result (λ b. b ≡ true → options.cert ≡ Cert.Plain
+        → bytes + length (certificate_text line.now.frame.size proof.now.side proof.now.tree) + 2 ≤ MAX_BYTES) }
+{
+    match options.cert {
+        Cert::Unasked => Ok(true),
+        Cert::Plain => is_checkable(alloc, proof, line.frame().size, bytes),
+        Cert::Shared => is_shareable(alloc, proof, line, options.limits.depth(), bytes),
+    }
+}
+
+/// What df-pn finds at a line, where it is asked for. A proof whose certificate is to be written, and can't be checked behind the
+/// problem's text, is left.
+fn found(
+    alloc: Global,
+    line: &Line,
+    options: Options,
+    bytes: usize,
+) -> Result<Option<Proof>, NoMemory>
+    ensures stands { IfOk result (λ o. IfSome o (λ p. StandsAt p line.now.frame line.now.state)) }
+    ensures checkable { IfOk result (λ o. IfSome o (λ p. options.cert ≡ Cert.Plain
+        → bytes + length (certificate_text line.now.frame.size p.side p.tree) + 2 ≤ MAX_BYTES)) }
+{
+    let Some(positions) = options.dfpn else {
+        return Ok(None);
+    };
+    let mut visits = Visits { left: positions };
+    let mut copy = line.try_clone()?;
+    let Some(proof) = find_proof(alloc, &mut copy, options.limits.depth(), &mut visits)? else {
+        return Ok(None);
+    };
+    if is_usable(alloc, &proof, line, options, bytes)? {
+        Ok(Some(proof))
+    } else {
+        Ok(None)
+    }
+}
+
+/// Keeps a proof in the log.
+fn keep<X: Wait>(rt: &X, alloc: Global, log: &CertLog, proof: Proof) -> Result<(), NoMemory> {
+    let mut view = View::new(alloc, log)?;
+    view.keep(rt, Arc::new(alloc, proof)?);
+    Ok(())
+}
+
+/// Solves the problem at a line over a log of its own, where df-pn comes first if it is asked for. Where it has no memory the
+/// search goes on.
+fn solve_problem<X: Threads + Wait + Sync, G: Gate>(
+    rt: &X,
+    alloc: Global,
+    line: &Line,
+    options: Options,
+    bytes: usize,
+    gate: &G,
+) -> Result<Answer, NoMemory>
+    requires { winner_of line.now.frame line.now.state ≡ None }
+    ensures { IfOk result (λ answer. IsAnswer line.now options.limits options.total answer) }
+{
+    let log = CertLog::new(alloc)?;
+    if let Ok(Some(proof)) = found(alloc, line, options, bytes) {
+        let _ = keep(rt, alloc, &log, proof);
+    }
+    Ok(tt_share::solve(
+        rt,
+        alloc,
+        line,
+        &options.limits,
+        options.total,
+        options.workers,
+        &log,
+        gate,
+    ))
+}
+
+/// The verdict on the problem at a line.
+fn verdict_at<X: Threads + Wait + Sync, G: Gate>(
+    rt: &X,
+    alloc: Global,
+    line: &Line,
+    options: Options,
+    bytes: usize,
+    gate: &G,
+) -> Result<Vec<u8>, NoMemory>
+    requires open { winner_of line.now.frame line.now.state ≡ None }
+    requires state { IsState line.now.frame line.now.state }
+    ensures { IfOk result (λ text. Verdict line.now options.limits options.total options.cert text.items) }
+{
+    let answer = solve_problem(rt, alloc, line, options, bytes, gate)?;
+    verdict_text(
+        alloc,
+        line,
+        &options.limits,
+        options.total,
+        &answer,
+        options.cert,
+    )
+}
+
+/// Which side wins at a line, or why that isn't known.
+fn value_at<X: Threads + Wait + Sync>(
+    rt: &X,
+    alloc: Global,
+    line: &Line,
+    options: Options,
+) -> Result<Side, Reason>
+    requires { IsState line.now.frame line.now.state }
+    ensures { IsValueOrReason line.now options.limits options.total result }
+{
+    if let Some(side) = line.winner() {
+        return Ok(side);
+    }
+    match solve_problem(rt, alloc, line, options, 0, &NoGate) {
+        Ok(answer) => value_of(line, &options.limits, options.total, &answer),
+        Err(NoMemory) => Err(Reason::Memory),
+    }
+}
+
+/// The line behind a legal turn.
+fn line_behind(line: &Line, turn: Turn) -> Result<Line, NoMemory>
+    requires { IsLegal line.now.frame line.now.state turn }
+    ensures { IfOk result (λ l. l ≡ line_behind line.now turn) }
+{
+    let mut next = line.try_clone()?;
+    next.push_legal(turn)?;
+    Ok(next)
+}
+
+/// Which side wins behind a legal turn, or why that isn't known.
+fn value_behind<X: Threads + Wait + Sync>(
+    rt: &X,
+    alloc: Global,
+    line: &Line,
+    options: Options,
+    turn: Turn,
+) -> Result<Side, Reason>
+    requires state { IsState line.now.frame line.now.state }
+    requires legal { IsLegal line.now.frame line.now.state turn }
+    ensures { IsValueOrReason (line_behind line.now turn) options.limits options.total result }
+{
+    match line_behind(line, turn) {
+        Ok(next) => value_at(rt, alloc, &next, options),
+        Err(NoMemory) => Err(Reason::Memory),
+    }
+}
+
+/// The lines on the legal turns of the problem at a line.
+fn turn_lines<X: Threads + Wait + Sync>(
+    rt: &X,
+    alloc: Global,
+    line: &Line,
+    options: Options,
+) -> Result<Vec<u8>, NoMemory>
+    requires { IsState line.now.frame line.now.state }
+    ensures { IfOk result (λ lines. AreTurnLines line.now options.limits options.total (legal_turns line.now.frame line.now.state) lines.items) }
+{
+    let turns = line.turns();
+    let mut lines = Vec::new(alloc);
+    for turn in turns.as_slice() {
+        let value = value_behind(rt, alloc, line, options, *turn);
+        put_value_line(&mut lines, line, *turn, value)?;
+    }
+    Ok(lines)
+}
+
+/// What follows of the problem's turns, nothing where it isn't asked for.
+fn asked_lines<X: Threads + Wait + Sync>(
+    rt: &X,
+    alloc: Global,
+    line: &Line,
+    options: Options,
+) -> Result<Vec<u8>, NoMemory>
+    requires { IsState line.now.frame line.now.state }
+    ensures { IfOk result (λ lines. TurnsFollow line.now options.limits options.total options.turns lines.items) }
+{
+    if options.turns {
+        turn_lines(rt, alloc, line, options)
+    } else {
+        Ok(Vec::new(alloc))
+    }
+}
+
+/// What is said of the problem at a line: a verdict, and the lines on its turns where they are asked for.
+#[tactic(auto, using(crate::proofs::Turns::problem_text))]
+fn solve_at<X: Threads + Wait + Sync, G: Gate>(
+    rt: &X,
+    alloc: Global,
+    line: &Line,
+    options: Options,
+    bytes: usize,
+    gate: &G,
+) -> Result<Items<u8>, NoMemory>
+    requires open { winner_of line.now.frame line.now.state ≡ None }
+    requires state { IsState line.now.frame line.now.state }
+    ensures { IfOk result (λ text. ProblemText options line.now text) }
+{
+    let mut text = verdict_at(rt, alloc, line, options, bytes, gate)?;
+    let lines = asked_lines(rt, alloc, line, options)?;
+    text.extend_from_slice(lines.as_slice())?;
+    Ok(Items::from_vec(text))
+}
+
+/// What is said of the problem that a main line is, or its refusal. The problem's text has so many bytes. The gate is told of the
+/// problem's first turns, and of no turn behind one.
+pub fn solve<X: Threads + Wait + Sync, G: Gate>(
+    rt: &X,
+    alloc: Global,
+    main: &MainLine,
+    options: Options,
+    bytes: usize,
+    gate: &G,
+) -> Result<Outcome, NoMemory>
+    ensures { IfOk result (λ outcome. Solves options main.now.nodes outcome) }
+{
+    match problem(alloc, main) {
+        Ok(line) => {
+            let text = solve_at(rt, alloc, &line, options, bytes, gate)?;
+            Ok(Outcome::Answered(text))
+        }
+        Err(GameFault::NoMemory) => Err(NoMemory),
+        Err(fault) => Ok(Outcome::Refused(fault.code())),
+    }
+}
