@@ -4,9 +4,9 @@ _tsumego() {
     case $COMP_CWORD,${COMP_WORDS[1]},$word in
         1,*) words='solve score check' ;;
         *,check,-*) words='--parts' ;;
-        *,solve,-*) words='--budget --depth --total --dfpn --workers --cert --turns' ;;
+        *,solve,-*) words='--budget --depth --total --dfpn --workers --cert --parts --turns --progress' ;;
     esac
     mapfile -t COMPREPLY < <(compgen -W "$words" -- "$word")
 }
 complete -o default -F _tsumego tsumego
-complete -o default -W --svg tsumego-show
+complete -o default -W '--svg --sgf --depth' tsumego-show

@@ -7,4 +7,5 @@ pub mod Spreading
 pub mod Texts
 pub mod Told
 pub mod FoundDrawn
+pub mod LegalTurns
 pub mod FirstAndLast

@@ -15,8 +15,9 @@ use Rattle.tsumego_show.proofs.FirstTurn.{turn_same}
 use Rattle.tsumego_show.specs.Drawing.{DrawsCertificate, DrawsFirst, begins, begins_none, deep_drawn, drawn, none_drawn, strategy_text, turned_text}
 use Rattle.tt_sgf.specs.declared.size.Size.{Size}
 use Rattle.tsumego_show.specs.declared.form.Form.{Form}
-use Rattle.tsumego_show.specs.declared.form.Form.TheVariants.{Picture, Diagram}
+use Rattle.tsumego_show.specs.declared.form.Form.TheVariants.{Picture, Diagram, Variations}
 use Rattle.tsumego_show.specs.Diagram.{svg_text}
+use Rattle.tsumego_show.specs.Variations.{sgf_text}
 use Rattle.tsumego_show.specs.Found.{Found, StandsBehind, no_strategy, found}
 use Rattle.tsumego_show.specs.Shown.{DrawsBehind, IsShown, IsInputText, IsProblemText, IsTreeText, Tells, ended, is_no_problem, last_tree, more_trees, problem_text, stopped, too_long, tree, trees}
 
@@ -65,6 +66,7 @@ module _ (one : OneCertificate) where
   problem_text_same : (form : Form) (k : ℕ) (p : Standing) (behind s t : List ℕ) → IsProblemText form k p behind s → IsProblemText form k p behind t → s ≡ t
   problem_text_same Picture k p behind s t a b = a.2 ∙ ap (λ (x : List ℕ). problem_text k p ++ x) (behind_same p behind a.0 b.0 a.1 b.1) ∙ sym b.2
   problem_text_same Diagram k p behind s t a b = a.2 ∙ ap (λ (x : Found). svg_text p x) (found_same p.frame.size behind a.0 b.0 a.1 b.1) ∙ sym b.2
+  problem_text_same (Variations depth) k p behind s t a b = a.2 ∙ ap (λ (x : Found). sgf_text p depth x) (found_same p.frame.size behind a.0 b.0 a.1 b.1) ∙ sym b.2
 
   -- and a tree
   tree_text_same : (form : Form) (k : ℕ) (ns : List Node) (r : Result Standing GameFault) (behind s t : List ℕ) → IsTreeText form k ns r behind s → IsTreeText form k ns r behind t → s ≡ t

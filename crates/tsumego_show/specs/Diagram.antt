@@ -9,7 +9,7 @@ use Rattle.tt_board.specs.declared.Colour.{Colour}
 use Rattle.tt_board.specs.declared.Colour.TheVariants.{Black, White}
 use Rattle.tt_board.specs.Play.{other}
 use Rattle.tt_board.specs.Reach.{entry_at}
-use Rattle.tt_game.specs.Game.{colour_of}
+use Rattle.tt_game.specs.Game.{side_colour}
 use Rattle.tt_game.specs.Line.{Standing}
 use Rattle.tt_game.specs.declared.turns.Turn.TheVariants.{Play, Pass}
 use Rattle.tt_game.specs.declared.turns.Turn.{Turn}
@@ -149,7 +149,7 @@ module _ (p : Standing) (first : Option Turn) where
       if is_target p q then triangle_text x y (entry_at p.state.present q) else (if has_square q then square_text x y (entry_at p.state.present q) else [])
 
   abbrev pub numbered_text : ℕ → ℕ → ℕ → List ℕ
-  numbered_text x y q = if is_play_on first q then number_text x y (colour_of p.frame p.state.to_move) else []
+  numbered_text x y q = if is_play_on first q then number_text x y (side_colour p.frame p.state.to_move) else []
 
   -- the stone, the mark and the number on q
   unfoldable pub point_shapes : ℕ → ℕ → ℕ → List ℕ

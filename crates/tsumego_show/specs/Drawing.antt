@@ -7,7 +7,7 @@ use Rattle.tt_board.specs.declared.Colour.{Colour}
 use Rattle.tt_board.specs.Play.{other}
 use Rattle.tt_game.specs.declared.frame.Side.{Side}
 use Rattle.tt_game.specs.declared.turns.Turn.{Turn}
-use Rattle.tt_game.specs.Game.{IsLegal, after, colour_of}
+use Rattle.tt_game.specs.Game.{IsLegal, after, side_colour}
 use Rattle.tt_game.specs.Line.{Standing}
 use Rattle.tt_proof.specs.CertificateText.{IsCertificate, IsTooDeep, shown_turn}
 use Rattle.tt_proof.specs.Proven.{first_of}
@@ -61,7 +61,7 @@ module _ (p : Standing) where
   -- whose strategy it is, and its first lines
   abbrev pub strategy_text : Side → Strategy → List ℕ
   strategy_text side u =
-      heading (colour_of p.frame side) ++ first_lines most_lines (tree_lines p.frame.size (colour_of p.frame side) 1 u)
+      heading (side_colour p.frame side) ++ first_lines most_lines (tree_lines p.frame.size (side_colour p.frame side) 1 u)
 
   -- ---- the first turn
 
@@ -71,7 +71,7 @@ module _ (p : Standing) where
 
   -- `After Black ca:`
   abbrev pub turned_head : Turn → List ℕ
-  turned_head t = codes "After " ++ (colour_name (colour_of p.frame p.state.to_move) ++ (space ∷ (shown_turn p.frame.size t ++ codes ":\n")))
+  turned_head t = codes "After " ++ (colour_name (side_colour p.frame p.state.to_move) ++ (space ∷ (shown_turn p.frame.size t ++ codes ":\n")))
 
   -- that, and the board then
   abbrev pub turned_text : Turn → List ℕ

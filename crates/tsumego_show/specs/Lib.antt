@@ -6,6 +6,7 @@ pub mod Hints
 pub mod Picture
 pub mod Refusals
 pub mod Shown
+pub mod Variations
 pub mod Writing
 -- What private contracts and proofs cite. Nobody has to believe these.
 pub mod inside

@@ -7,7 +7,7 @@ use Rattle.tt_sgf.specs.declared.size.Size.{Size}
 use Rattle.tt_board.specs.declared.Colour.{Colour}
 use Rattle.tt_board.specs.declared.Colour.TheVariants.{Black, White}
 use Rattle.tt_board.specs.Reach.{entry_at}
-use Rattle.tt_game.specs.Game.{colour_of}
+use Rattle.tt_game.specs.Game.{side_colour}
 use Rattle.tt_game.specs.Line.{Standing}
 
 -- ---- points, by the codes of ASCII
@@ -80,7 +80,7 @@ colour_name Black = codes "Black"
 colour_name White = codes "White"
 
 abbrev pub mover_text : Standing → List ℕ
-mover_text p = colour_name (colour_of p.frame p.state.to_move) ++ codes " to move, "
+mover_text p = colour_name (side_colour p.frame p.state.to_move) ++ codes " to move, "
 
 abbrev pub target_text : Standing → List ℕ
 target_text p = codes "T is " ++ colour_name p.frame.defender

@@ -10,13 +10,14 @@ use Rattle.tt_game.specs.Line.{Standing}
 use Rattle.tt_game.specs.Problems.{problem_of}
 use Rattle.tt_sgf.specs.Values.{trimmed}
 use Rattle.tsumego_show.specs.declared.form.Form.{Form}
-use Rattle.tsumego_show.specs.declared.form.Form.TheVariants.{Picture, Diagram}
+use Rattle.tsumego_show.specs.declared.form.Form.TheVariants.{Picture, Diagram, Variations}
 use Rattle.tsumego_show.specs.Diagram.{svg_text}
 use Rattle.tsumego_show.specs.Drawing.{DrawsCertificate}
 use Rattle.tsumego_show.specs.Found.{Found, StandsBehind}
 use Rattle.tsumego_show.specs.Hints.{hints}
 use Rattle.tsumego_show.specs.Picture.{picture}
 use Rattle.tsumego_show.specs.Refusals.{fault_text, length_text, syntax_text}
+use Rattle.tsumego_show.specs.Variations.{sgf_text}
 
 -- The text on what follows a problem: nothing where a tree may follow; else that on a certificate, without the white space
 -- at both ends.
@@ -29,10 +30,11 @@ abbrev pub problem_text : ℕ → Standing → List ℕ
 problem_text k p = decimal k ++ (space ∷ (picture p ++ hints p))
 
 -- the text on tree number k, which is this problem and is followed by these bytes: the picture with what follows it;
--- or the diagram with the strategy that stands there
+-- or the diagram or the game tree with the strategy that stands there
 abbrev pub IsProblemText : Form → ℕ → Standing → List ℕ → List ℕ → Type 0
 IsProblemText Picture k p behind text = (drawn : List ℕ) × DrawsBehind p behind drawn × (text ≡ problem_text k p ++ drawn)
 IsProblemText Diagram k p behind text = (b : Found) × StandsBehind p.frame.size behind b × (text ≡ svg_text p b)
+IsProblemText (Variations depth) k p behind text = (b : Found) × StandsBehind p.frame.size behind b × (text ≡ sgf_text p depth b)
 
 -- the text on tree number k, whose main line is a problem or refused, and which is followed by these bytes
 abbrev pub IsTreeText : Form → ℕ → List Node → Result Standing GameFault → List ℕ → List ℕ → Type 0

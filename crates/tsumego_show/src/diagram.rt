@@ -10,7 +10,7 @@ ghost use Rattle.tsumego_show.specs.Diagram.{mark_ground, mark_ink, mark_text, n
 ghost use Rattle.tsumego_show.specs.Diagram.{svg_head, svg_text, triangle_head, triangle_text};
 
 use crate::marks::{is_inside, is_target, point_numbered};
-use crate::picture::{colour_of, column_letter};
+use crate::picture::{column_letter, side_colour};
 use crate::windows::{Window, number_at, window_of};
 use std::alloc::Global;
 use tt_board::Colour;
@@ -199,7 +199,7 @@ fn is_play_on(first: &Option<Turn>, number: usize) -> bool
 }
 
 /// Whether a square is drawn on the point of this number.
-fn has_square(line: &Line, first: &Option<Turn>, number: usize) -> bool
+pub fn has_square(line: &Line, first: &Option<Turn>, number: usize) -> bool
     requires { number < point_count line.now.frame.size }
     ensures { result ≡ has_square line.now first.now number }
 {
@@ -269,7 +269,7 @@ fn put_first(
     ensures { OnOk result (out.new.items ≡ out.old.items ++ numbered_text line.now first.now x y number) }
 {
     if is_play_on(first, number) {
-        return put_number(alloc, out, x, y, colour_of(line, line.to_move()));
+        return put_number(alloc, out, x, y, side_colour(line, line.to_move()));
     }
     Ok(())
 }

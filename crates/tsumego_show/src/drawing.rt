@@ -7,7 +7,7 @@ ghost use Rattle.tsumego_show.specs.Picture.{colour_name};
 ghost use Rattle.tsumego_show.specs.Drawing.{DrawsCertificate, DrawsFirst, deep_line, deeper, entries_lines, first_lines, heading, most_lines, none_line, strategy_text, tree_lines, turn_line};
 
 use crate::opening::put_first;
-use crate::picture::{colour_name, colour_of};
+use crate::picture::{colour_name, side_colour};
 use std::alloc::Global;
 use tt_board::Colour;
 use tt_game::{Line, Side, Turn};
@@ -151,7 +151,7 @@ fn put_strategy(
     requires { IsInOrder line.now.frame.size (strategy_of tree.now) }
     ensures { OnOk result (out.new.items ≡ out.old.items ++ strategy_text line.now side (strategy_of tree.now)) }
 {
-    let own = colour_of(line, side);
+    let own = side_colour(line, side);
     let mut lines = Vec::new(alloc);
     put_tree(&mut lines, tree, line.frame().size, own, 1)?;
     put_heading(out, own)?;

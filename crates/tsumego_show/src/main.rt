@@ -14,6 +14,7 @@ mod picture;
 mod refusals;
 mod running;
 mod showing;
+mod variations;
 mod windows;
 
 use arguments::{USAGE, form_of};

@@ -52,7 +52,7 @@ pub fn is_beside(size: Size, marks: &[bool], number: usize) -> bool
 }
 
 /// Whether a stone of this colour stands on the point of this number.
-fn is_stone(line: &Line, number: usize, colour: Colour) -> bool
+pub fn is_stone(line: &Line, number: usize, colour: Colour) -> bool
     requires { number < point_count line.now.frame.size }
     ensures { result ≡ is_stone line.now colour number }
 {

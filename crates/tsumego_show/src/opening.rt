@@ -4,7 +4,7 @@ ghost use Rattle.tt_game.specs.Game.{IsLegal};
 ghost use Rattle.tt_proof.specs.Strategy.{IsInOrder, IsOnBoard, strategy_of};
 ghost use Rattle.tsumego_show.specs.Drawing.{DrawsFirst, turned, turned_head, turned_text};
 
-use crate::picture::{colour_name, colour_of, put_board};
+use crate::picture::{colour_name, put_board, side_colour};
 use std::alloc::Global;
 use tt_game::{Line, Side, Turn};
 use tt_proof::{Tree, put_shown};
@@ -34,7 +34,7 @@ fn put_head(out: &mut Vec<u8>, line: &Line, turn: Turn) -> Result<(), NoMemory>
     ensures { OnOk result (out.new.items ≡ out.old.items ++ turned_head line.now turn) }
 {
     out.extend_from_slice(b"After ")?;
-    out.extend_from_slice(colour_name(colour_of(line, line.to_move())))?;
+    out.extend_from_slice(colour_name(side_colour(line, line.to_move())))?;
     out.push(b' ')?;
     put_shown(out, turn, line.frame().size)?;
     Ok(out.extend_from_slice(b":\n")?)

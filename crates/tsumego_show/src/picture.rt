@@ -3,7 +3,7 @@ ghost use Rattle.std.specs.Prelude.{◌≡◌, ◌∷◌, ◌++◌, ◌+◌, ◌
 ghost use Rattle.std.specs.List.{flat_map, range_with_len};
 ghost use Rattle.tt_sgf.specs.Bytes.{newline, space};
 ghost use Rattle.tt_sgf.specs.Sizes.{point_count};
-ghost use Rattle.tt_game.specs.Game.{colour_of};
+ghost use Rattle.tt_game.specs.Game.{side_colour};
 ghost use Rattle.tsumego_show.specs.Picture.{asked_line, board_text, colour_name, column_letter, column_letters_line, columns_text, earlier_text, letter, letters_line, shown_at};
 ghost use Rattle.tsumego_show.specs.Picture.{mover_text, picture, row_line, row_number, shown_in, small_mark, stone_mark, target_text};
 
@@ -200,8 +200,8 @@ pub fn colour_name(colour: Colour) -> &'static [u8]
 }
 
 /// The colour of a side.
-pub fn colour_of(line: &Line, side: Side) -> Colour
-    ensures { result ≡ colour_of line.now.frame side }
+pub fn side_colour(line: &Line, side: Side) -> Colour
+    ensures { result ≡ side_colour line.now.frame side }
 {
     let defender = line.frame().defender;
     match side {
@@ -214,7 +214,7 @@ pub fn colour_of(line: &Line, side: Side) -> Colour
 fn put_mover(out: &mut Vec<u8>, line: &Line) -> Result<(), NoMemory>
     ensures { OnOk result (out.new.items ≡ out.old.items ++ mover_text line.now) }
 {
-    out.extend_from_slice(colour_name(colour_of(line, line.to_move())))?;
+    out.extend_from_slice(colour_name(side_colour(line, line.to_move())))?;
     out.extend_from_slice(b" to move, ")?;
     Ok(())
 }

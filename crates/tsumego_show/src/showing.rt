@@ -1,7 +1,7 @@
 //! The text for an input.
 ghost use Rattle.std.specs.Prelude.{◌≡◌, ◌++◌, if◌then◌else◌, ℕ, List, IfOk, OnOk, Ok};
 ghost use Rattle.tt_game.specs.Problems.{problem_of};
-ghost use Rattle.tsumego_show.specs.declared.form.Form.TheVariants.{Diagram, Picture};
+ghost use Rattle.tsumego_show.specs.declared.form.Form.TheVariants.{Diagram, Picture, Variations};
 ghost use Rattle.tsumego_show.specs.Shown.{DrawsBehind, IsProblemText, IsShown, IsTreeText, is_no_problem, problem_text};
 
 use crate::diagram::put_svg;
@@ -11,6 +11,7 @@ use crate::found::find;
 use crate::hints::put_hints;
 use crate::picture::put_picture;
 use crate::refusals::{put_fault, put_length, put_syntax};
+use crate::variations::put_sgf;
 use std::alloc::Global;
 use tt_game::{GameFault, Line, problem};
 use tt_sgf::{MainLine, NoMemory, SgfFault, has_tree, read_tree, trim};
@@ -58,20 +59,36 @@ fn put_diagram(alloc: Global, out: &mut Vec<u8>, line: &Line, behind: &[u8]) -> 
     put_svg(alloc, out, line, &found)
 }
 
+/// Writes a problem, with the strategy behind it as variations to so many turns, as a game tree behind the text.
+fn put_variations(
+    alloc: Global,
+    out: &mut Vec<u8>,
+    line: &mut Line,
+    behind: &[u8],
+    depth: usize,
+) -> Result<(), NoMemory>
+    ensures { (k : ℕ) → OnOk result ((text : List ℕ) × IsProblemText (Variations depth) k line.old behind.now text
+        × (out.new.items ≡ out.old.items ++ text)) }
+{
+    let found = find(alloc, line.frame().size, behind)?;
+    put_sgf(alloc, out, line, &found, depth)
+}
+
 /// Writes the text on a problem, which these bytes follow, behind the text.
 fn put_whole(
     alloc: Global,
     out: &mut Vec<u8>,
     form: Form,
     number: usize,
-    line: &Line,
+    line: &mut Line,
     behind: &[u8],
 ) -> Result<(), NoMemory>
-    ensures { OnOk result ((text : List ℕ) × IsProblemText form number line.now behind.now text × (out.new.items ≡ out.old.items ++ text)) }
+    ensures { OnOk result ((text : List ℕ) × IsProblemText form number line.old behind.now text × (out.new.items ≡ out.old.items ++ text)) }
 {
     match form {
         Form::Picture => put_drawn(alloc, out, number, line, behind),
         Form::Diagram => put_diagram(alloc, out, line, behind),
+        Form::Variations(depth) => put_variations(alloc, out, line, behind, depth),
     }
 }
 
@@ -89,8 +106,8 @@ fn put_tree(
     ensures refused { IfOk result (λ refused. refused ≡ is_no_problem (problem_of main.nodes)) }
 {
     match problem(alloc, &main) {
-        Ok(line) => {
-            put_whole(alloc, out, form, number, &line, behind)?;
+        Ok(mut line) => {
+            put_whole(alloc, out, form, number, &mut line, behind)?;
             Ok(false)
         }
         Err(GameFault::NoMemory) => Err(NoMemory),

@@ -1,0 +1,149 @@
+-- A problem as a game tree of SGF FF[4], and the strategy of a certificate as its variations: who has won, and why, stands in a
+-- comment at each end.
+use Rattle.std.specs.Prelude.{ℕ, zero, suc, nat_eq, Bool, List, [], ◌∷◌, ◌++◌, codes, decimal, length, Option, Some, None, if◌then◌else◌}
+use Rattle.std.specs.List.{flat_map, range_with_len}
+use Rattle.tt_sgf.specs.Bytes.{close_tree, close_value, colon, newline, open_tree, open_value, semicolon}
+use Rattle.tt_sgf.specs.declared.size.Size.{Size}
+use Rattle.tt_sgf.specs.Sizes.{point_count}
+use Rattle.tt_board.specs.declared.Colour.{Colour}
+use Rattle.tt_board.specs.declared.Colour.TheVariants.{Black, White}
+use Rattle.tt_game.specs.declared.frame.Frame.{Frame}
+use Rattle.tt_game.specs.declared.frame.Side.{Side}
+use Rattle.tt_game.specs.declared.frame.Side.TheVariants.{Attacker, Defender}
+use Rattle.tt_game.specs.declared.turns.Turn.{Turn}
+use Rattle.tt_game.specs.declared.turns.Turn.TheVariants.{Play, Pass}
+use Rattle.tt_game.specs.Game.{State, after, side_colour, winner_of}
+use Rattle.tt_game.specs.Turns.{is_legal}
+use Rattle.tt_game.specs.Line.{Standing}
+use Rattle.tt_proof.specs.CertificateText.{turn_text}
+use Rattle.tt_proof.specs.Strategy.{Strategy, Entries, done, pick, reply, none, entry}
+use Rattle.tsumego_show.specs.declared.variations.PointList.{PointList}
+use Rattle.tsumego_show.specs.declared.variations.PointList.TheVariants.{Blacks, Whites, Triangles, Squares}
+use Rattle.tsumego_show.specs.Diagram.{has_square}
+use Rattle.tsumego_show.specs.Found.{Found, no_strategy, found}
+use Rattle.tsumego_show.specs.Hints.{is_stone, is_target}
+use Rattle.tsumego_show.specs.Picture.{colour_name, earlier_text}
+
+-- a value in its brackets
+abbrev pub bracketed : List ℕ → List ℕ
+bracketed text = open_value ∷ (text ++ close_value ∷ [])
+
+-- B or W
+abbrev pub colour_letter : Colour → ℕ
+colour_letter Black = 66
+colour_letter White = 87
+
+-- ---- the root: the problem
+
+-- `7`, or `7:5`
+abbrev pub size_text : Size → List ℕ
+size_text size = if nat_eq size.columns size.rows then decimal size.columns else decimal size.columns ++ (colon ∷ decimal size.rows)
+
+-- the game and its size
+unfoldable pub game_text : Size → List ℕ
+game_text size = codes "(;GM[1]FF[4]SZ" ++ bracketed (size_text size)
+
+-- the name of a list of points
+abbrev pub list_name : PointList → List ℕ
+list_name Blacks = codes "AB"
+list_name Whites = codes "AW"
+list_name Triangles = codes "TR"
+list_name Squares = codes "SQ"
+
+-- a property, where it has a value
+abbrev pub property_text : List ℕ → List ℕ → List ℕ
+property_text name [] = []
+property_text name (b ∷ bs) = name ++ (b ∷ bs)
+
+module _ (p : Standing) where
+  -- a list has the point: it has a stone, or is a target, or a point of a region that isn't the whole board
+  abbrev pub is_listed : PointList → ℕ → Bool
+  is_listed Blacks q = is_stone p Black q
+  is_listed Whites q = is_stone p White q
+  is_listed Triangles q = is_target p q
+  is_listed Squares q = has_square p None q
+
+  unfoldable pub listed_value : PointList → ℕ → List ℕ
+  listed_value points q = if is_listed points q then bracketed (turn_text p.frame.size (Play q)) else []
+
+  -- the values of the points of a list, row by row
+  abbrev pub listed_values : PointList → List ℕ
+  listed_values points = flat_map (listed_value points) (range_with_len 0 (point_count p.frame.size))
+
+  abbrev pub list_text : PointList → List ℕ
+  list_text points = property_text (list_name points) (listed_values points)
+
+  -- who moves
+  abbrev pub mover_property : List ℕ
+  mover_property = codes "PL" ++ bracketed (colour_letter (side_colour p.frame p.state.to_move) ∷ [])
+
+  abbrev pub root_text : List ℕ
+  root_text =
+      game_text p.frame.size ++ (list_text Blacks ++ (list_text Whites ++ (mover_property ++ (list_text Triangles ++ list_text Squares))))
+
+-- ---- the variations
+
+-- the point of a play, and nothing for a pass
+abbrev pub move_point : Size → Turn → List ℕ
+move_point size (Play q) = turn_text size (Play q)
+move_point size Pass = []
+
+-- a variation begins with this move
+unfoldable pub move_text : Size → Colour → Turn → List ℕ
+move_text size k t = newline ∷ open_tree ∷ semicolon ∷ colour_letter k ∷ bracketed (move_point size t)
+
+abbrev pub cut_text : List ℕ
+cut_text = codes "C[The strategy goes on: it is cut here.]"
+
+-- why a side has won
+abbrev pub why_won : Side → List ℕ
+why_won Attacker = codes "a target is taken"
+why_won Defender = codes "two passes in a row, and all targets stand"
+
+-- who has won, and why
+unfoldable pub won_text : Colour → List ℕ → List ℕ
+won_text k why = codes "C[" ++ (colour_name k ++ (codes " has won: " ++ (why ++ codes ".]")))
+
+module _ (f : Frame) where
+  abbrev pub ending_text : Option Side → List ℕ
+  ending_text None = codes "C[The strategy ends, and nobody has won.]"
+  ending_text (Some side) = won_text (side_colour f side) (why_won side)
+
+  -- a turn and the text of what follows it, where the turn is legal
+  abbrev pub legal_text : State → Turn → List ℕ → List ℕ
+  legal_text s t behind = if is_legal f s t then move_text f.size (side_colour f s.to_move) t ++ (behind ++ close_tree ∷ []) else []
+
+  abbrev mutual
+    -- what follows a position, to so many turns: the end; the side's turn; or each turn of the other side
+    pub variations : State → Strategy → ℕ → List ℕ
+    variations s done n = ending_text (winner_of f s)
+    variations s (pick t u) zero = cut_text
+    variations s (pick t u) (suc n) = legal_text s t (variations (after f s t) u n)
+    variations s (reply es) zero = cut_text
+    variations s (reply es) (suc n) = reply_variations s es n
+
+    -- each turn of the other side, and so many turns behind it
+    pub reply_variations : State → Entries → ℕ → List ℕ
+    reply_variations s none n = []
+    reply_variations s (entry t u es) n = legal_text s t (variations (after f s t) u n) ++ reply_variations s es n
+
+-- ---- the whole tree
+
+module _ (p : Standing) where
+  -- whose strategy it is
+  abbrev pub owner_text : Found → List ℕ
+  owner_text no_strategy = codes "no certificate follows"
+  owner_text (found side u) = colour_name (side_colour p.frame side) ++ codes "'s strategy"
+
+  -- `N[White's strategy, after 1 earlier position]`
+  abbrev pub name_property : Found → List ℕ
+  name_property b = codes "N[" ++ (owner_text b ++ (earlier_text (length p.state.earlier) ++ close_value ∷ []))
+
+  -- the variations of the strategy that was found
+  abbrev pub found_variations : ℕ → Found → List ℕ
+  found_variations depth no_strategy = []
+  found_variations depth (found side u) = variations p.frame p.state u depth
+
+  -- the problem with the strategy that was found, to so many turns
+  abbrev pub sgf_text : ℕ → Found → List ℕ
+  sgf_text depth b = root_text p ++ (name_property b ++ (found_variations depth b ++ codes ")\n"))

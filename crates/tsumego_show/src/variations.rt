@@ -1,0 +1,404 @@
+//! A problem as a game tree of SGF, and a strategy as its variations.
+ghost use Rattle.std.specs.Prelude.{◌≡◌, ◌++◌, ◌∷◌, ◌<◌, [], codes, IfSome, OnOk};
+ghost use Rattle.tt_sgf.specs.Bytes.{close_tree};
+ghost use Rattle.tt_sgf.specs.Sizes.{point_count};
+ghost use Rattle.tt_game.specs.Game.{after, winner_of};
+ghost use Rattle.tt_proof.specs.Strategy.{AreInOrder, IsInOrder, IsOnBoard, entries_of_trees, strategy_of};
+ghost use Rattle.tsumego_show.specs.inside.Trees.{found_of};
+ghost use Rattle.tsumego_show.specs.Picture.{colour_name};
+ghost use Rattle.tsumego_show.specs.Variations.{bracketed, colour_letter, cut_text, ending_text, found_variations, game_text, is_listed, legal_text, list_name, list_text, listed_value, listed_values};
+ghost use Rattle.tsumego_show.specs.Variations.{move_point, move_text, mover_property, name_property, owner_text, reply_variations, root_text, sgf_text, size_text, variations, why_won, won_text};
+
+use crate::diagram::has_square;
+use crate::marks::{is_stone, is_target, point_numbered};
+use crate::picture::{colour_name, earlier_count, put_earlier, side_colour};
+use std::alloc::Global;
+use tt_board::Colour;
+use tt_game::{Line, Refused, Side, Turn};
+use tt_proof::{Tree, put_turn};
+use tt_sgf::{NoMemory, Size};
+
+/// The lists of points in a root: AB, AW, TR and SQ.
+#[derive(Clone, Copy)]
+pub enum PointList {
+    Blacks,
+    Whites,
+    Triangles,
+    Squares,
+}
+
+/// B or W.
+fn colour_letter(colour: Colour) -> u8
+    ensures { result ≡ colour_letter colour }
+{
+    match colour {
+        Colour::Black => b'B',
+        Colour::White => b'W',
+    }
+}
+
+/// The name of a list of points.
+fn list_name(points: PointList) -> &'static [u8]
+    ensures { result.now ≡ list_name points }
+{
+    match points {
+        PointList::Blacks => b"AB",
+        PointList::Whites => b"AW",
+        PointList::Triangles => b"TR",
+        PointList::Squares => b"SQ",
+    }
+}
+
+/// Whether a list has the point of this number.
+fn is_listed(line: &Line, points: PointList, number: usize) -> bool
+    requires { number < point_count line.now.frame.size }
+    ensures { result ≡ is_listed line.now points number }
+{
+    match points {
+        PointList::Blacks => is_stone(line, number, Colour::Black),
+        PointList::Whites => is_stone(line, number, Colour::White),
+        PointList::Triangles => is_target(line, number),
+        PointList::Squares => has_square(line, &None, number),
+    }
+}
+
+/// Writes the point of a play behind the text, and nothing for a pass.
+fn put_point(out: &mut Vec<u8>, size: Size, turn: Turn) -> Result<(), NoMemory>
+    requires { IsOnBoard size turn }
+    ensures { OnOk result (out.new.items ≡ out.old.items ++ move_point size turn) }
+{
+    match turn {
+        Turn::Play(_) => put_turn(out, turn, size),
+        Turn::Pass => Ok(()),
+    }
+}
+
+/// Writes the value of a turn behind the text.
+fn put_bracketed(out: &mut Vec<u8>, size: Size, turn: Turn) -> Result<(), NoMemory>
+    requires { IsOnBoard size turn }
+    ensures { OnOk result (out.new.items ≡ out.old.items ++ bracketed (move_point size turn)) }
+{
+    out.push(b'[')?;
+    put_point(out, size, turn)?;
+    out.push(b']')?;
+    Ok(())
+}
+
+/// Writes the value of a point behind the text, where a list has it.
+#[tactic(auto, unfolding(crate::specs::Variations::listed_value))]
+fn put_value(
+    out: &mut Vec<u8>,
+    line: &Line,
+    points: PointList,
+    number: usize,
+) -> Result<(), NoMemory>
+    requires { number < point_count line.now.frame.size }
+    ensures { OnOk result (out.new.items ≡ out.old.items ++ listed_value line.now points number) }
+{
+    let size = line.frame().size;
+    if is_listed(line, points, number) {
+        return put_bracketed(out, size, Turn::Play(point_numbered(size, number)));
+    }
+    Ok(())
+}
+
+/// Writes the values of a list behind the text.
+#[tactic(auto, using(crate::proofs::Texts::next_text))]
+fn put_values(out: &mut Vec<u8>, line: &Line, points: PointList) -> Result<(), NoMemory>
+    ensures { OnOk result (out.new.items ≡ out.old.items ++ listed_values line.now points) }
+{
+    for number in 0..line.frame().size.point_count() {
+        put_value(out, line, points, number)?;
+    }
+    Ok(())
+}
+
+/// Writes a list of points behind the text, where it has one.
+fn put_list(
+    alloc: Global,
+    out: &mut Vec<u8>,
+    line: &Line,
+    points: PointList,
+) -> Result<(), NoMemory>
+    ensures { OnOk result (out.new.items ≡ out.old.items ++ list_text line.now points) }
+{
+    let mut values = Vec::new(alloc);
+    put_values(&mut values, line, points)?;
+    if values.is_empty() {
+        return Ok(());
+    }
+    out.extend_from_slice(list_name(points))?;
+    out.extend_from_slice(values.as_slice())?;
+    Ok(())
+}
+
+/// Writes the size of a board behind the text.
+fn put_size(alloc: Global, out: &mut Vec<u8>, size: Size) -> Result<(), NoMemory>
+    ensures { OnOk result (out.new.items ≡ out.old.items ++ size_text size) }
+{
+    let columns = size.columns();
+    let rows = size.rows();
+    if columns == rows {
+        let text = format!(in alloc; "{columns}")?;
+        return Ok(out.extend_from_slice(text.as_bytes())?);
+    }
+    let text = format!(in alloc; "{columns}:{rows}")?;
+    out.extend_from_slice(text.as_bytes())?;
+    Ok(())
+}
+
+/// Writes the value of a size behind the text.
+fn put_size_value(alloc: Global, out: &mut Vec<u8>, size: Size) -> Result<(), NoMemory>
+    ensures { OnOk result (out.new.items ≡ out.old.items ++ bracketed (size_text size)) }
+{
+    out.push(b'[')?;
+    put_size(alloc, out, size)?;
+    out.push(b']')?;
+    Ok(())
+}
+
+/// Writes the game and its size behind the text.
+#[tactic(auto, unfolding(crate::specs::Variations::game_text))]
+fn put_game(alloc: Global, out: &mut Vec<u8>, size: Size) -> Result<(), NoMemory>
+    ensures { OnOk result (out.new.items ≡ out.old.items ++ game_text size) }
+{
+    out.extend_from_slice(b"(;GM[1]FF[4]SZ")?;
+    put_size_value(alloc, out, size)
+}
+
+/// Writes who moves behind the text.
+fn put_mover(out: &mut Vec<u8>, line: &Line) -> Result<(), NoMemory>
+    ensures { OnOk result (out.new.items ≡ out.old.items ++ mover_property line.now) }
+{
+    out.extend_from_slice(b"PL[")?;
+    out.push(colour_letter(side_colour(line, line.to_move())))?;
+    out.push(b']')?;
+    Ok(())
+}
+
+/// Writes the problem as the properties of a root behind the text.
+fn put_root(alloc: Global, out: &mut Vec<u8>, line: &Line) -> Result<(), NoMemory>
+    ensures { OnOk result (out.new.items ≡ out.old.items ++ root_text line.now) }
+{
+    put_game(alloc, out, line.frame().size)?;
+    put_list(alloc, out, line, PointList::Blacks)?;
+    put_list(alloc, out, line, PointList::Whites)?;
+    put_mover(out, line)?;
+    put_list(alloc, out, line, PointList::Triangles)?;
+    put_list(alloc, out, line, PointList::Squares)
+}
+
+/// Why a side has won.
+fn why_won(side: Side) -> &'static [u8]
+    ensures { result.now ≡ why_won side }
+{
+    match side {
+        Side::Attacker => b"a target is taken",
+        Side::Defender => b"two passes in a row, and all targets stand",
+    }
+}
+
+/// Writes who has won and why behind the text.
+#[tactic(auto, unfolding(crate::specs::Variations::won_text))]
+fn put_won(out: &mut Vec<u8>, colour: Colour, why: &[u8]) -> Result<(), NoMemory>
+    ensures { OnOk result (out.new.items ≡ out.old.items ++ won_text colour why.now) }
+{
+    out.extend_from_slice(b"C[")?;
+    out.extend_from_slice(colour_name(colour))?;
+    out.extend_from_slice(b" has won: ")?;
+    out.extend_from_slice(why)?;
+    out.extend_from_slice(b".]")?;
+    Ok(())
+}
+
+/// Writes who has won and why behind the text, or that nobody has.
+fn put_ending(out: &mut Vec<u8>, line: &Line) -> Result<(), NoMemory>
+    ensures { OnOk result (out.new.items ≡ out.old.items ++ ending_text line.now.frame (winner_of line.now.frame line.now.state)) }
+{
+    match line.winner() {
+        None => Ok(out.extend_from_slice(b"C[The strategy ends, and nobody has won.]")?),
+        Some(side) => put_won(out, side_colour(line, side), why_won(side)),
+    }
+}
+
+/// Writes that the strategy goes on behind the text.
+fn put_cut(out: &mut Vec<u8>) -> Result<(), NoMemory>
+    ensures { OnOk result (out.new.items ≡ out.old.items ++ cut_text) }
+{
+    out.extend_from_slice(b"C[The strategy goes on: it is cut here.]")?;
+    Ok(())
+}
+
+/// Writes the beginning of a variation with this move behind the text.
+#[tactic(auto, unfolding(crate::specs::Variations::move_text))]
+fn put_move(out: &mut Vec<u8>, size: Size, colour: Colour, turn: Turn) -> Result<(), NoMemory>
+    requires { IsOnBoard size turn }
+    ensures { OnOk result (out.new.items ≡ out.old.items ++ move_text size colour turn) }
+{
+    out.extend_from_slice(b"\n(;")?;
+    out.push(colour_letter(colour))?;
+    put_bracketed(out, size, turn)
+}
+
+/// Writes a move that was made, and what follows it, behind the text.
+#[cycle(vary)]
+fn put_made(
+    out: &mut Vec<u8>,
+    turn: &Turn,
+    colour: Colour,
+    child: &Tree,
+    line: &mut Line,
+    left: usize,
+) -> Result<(), NoMemory>
+    requires on_board { IsOnBoard line.old.frame.size turn.now }
+    requires in_order { IsInOrder line.old.frame.size (strategy_of child.now) }
+    ensures text { OnOk result (out.new.items ≡ out.old.items ++ (move_text line.old.frame.size colour turn.now
+        ++ (variations line.old.frame line.old.state (strategy_of child.now) left ++ close_tree ∷ []))) }
+    ensures same { line.new ≡ line.old }
+{
+    put_move(out, line.frame().size, colour, *turn)?;
+    put_tree(out, child, line, left)?;
+    out.push(b')')?;
+    Ok(())
+}
+
+/// Writes a turn and what follows it behind the text, where it is legal.
+#[cycle(vary)]
+fn put_legal(
+    out: &mut Vec<u8>,
+    turn: &Turn,
+    child: &Tree,
+    line: &mut Line,
+    left: usize,
+) -> Result<(), NoMemory>
+    requires on_board { IsOnBoard line.old.frame.size turn.now }
+    requires in_order { IsInOrder line.old.frame.size (strategy_of child.now) }
+    ensures text { OnOk result (out.new.items ≡ out.old.items ++ legal_text line.old.frame line.old.state turn.now
+        (variations line.old.frame (after line.old.frame line.old.state turn.now) (strategy_of child.now) left)) }
+    ensures same { line.new ≡ line.old }
+{
+    let colour = side_colour(line, line.to_move());
+    match line.push(*turn) {
+        Ok(()) => {
+            let put = put_made(out, turn, colour, child, line, left);
+            line.pop();
+            put
+        }
+        Err(Refused::Illegal(_)) => Ok(()),
+        Err(Refused::NoMemory) => Err(NoMemory),
+    }
+}
+
+/// Writes each turn of the other side and what follows it behind the text.
+#[cycle(vary)]
+fn put_replies(
+    out: &mut Vec<u8>,
+    list: &[(Turn, Tree)],
+    line: &mut Line,
+    left: usize,
+) -> Result<(), NoMemory>
+    requires in_order { AreInOrder line.old.frame.size 0 (entries_of_trees list.now) }
+    ensures text { OnOk result (out.new.items ≡ out.old.items ++ reply_variations line.old.frame line.old.state (entries_of_trees list.now) left) }
+    ensures same { line.new ≡ line.old }
+{
+    for (turn, child) in list {
+        put_legal(out, turn, child, line, left)?;
+    }
+    Ok(())
+}
+
+/// Writes what follows a position behind the text, to so many turns.
+#[cycle(vary)]
+fn put_tree(out: &mut Vec<u8>, tree: &Tree, line: &mut Line, left: usize) -> Result<(), NoMemory>
+    requires in_order { IsInOrder line.old.frame.size (strategy_of tree.now) }
+    ensures text { OnOk result (out.new.items ≡ out.old.items ++ variations line.old.frame line.old.state (strategy_of tree.now) left) }
+    ensures same { line.new ≡ line.old }
+{
+    match tree {
+        Tree::Done => put_ending(out, line),
+        Tree::Pick(turn, child) => {
+            if left == 0 {
+                return put_cut(out);
+            }
+            put_legal(out, turn, child, line, left - 1)
+        }
+        Tree::Reply(list) => {
+            if left == 0 {
+                return put_cut(out);
+            }
+            put_replies(out, list, line, left - 1)
+        }
+    }
+}
+
+/// Writes that a strategy is one of this colour behind the text.
+fn put_owned(out: &mut Vec<u8>, colour: Colour) -> Result<(), NoMemory>
+    ensures { OnOk result (out.new.items ≡ out.old.items ++ colour_name colour ++ codes "'s strategy") }
+{
+    out.extend_from_slice(colour_name(colour))?;
+    out.extend_from_slice(b"'s strategy")?;
+    Ok(())
+}
+
+/// Writes whose strategy it is behind the text.
+fn put_owner(out: &mut Vec<u8>, line: &Line, found: &Option<(Side, Tree)>) -> Result<(), NoMemory>
+    ensures { OnOk result (out.new.items ≡ out.old.items ++ owner_text line.now (found_of found.now)) }
+{
+    match found {
+        None => Ok(out.extend_from_slice(b"no certificate follows")?),
+        Some((side, _)) => put_owned(out, side_colour(line, *side)),
+    }
+}
+
+/// Writes whose strategy it is, and how many positions came before the problem, as the root's name behind the text.
+fn put_name(
+    alloc: Global,
+    out: &mut Vec<u8>,
+    line: &Line,
+    found: &Option<(Side, Tree)>,
+) -> Result<(), NoMemory>
+    ensures { OnOk result (out.new.items ≡ out.old.items ++ name_property line.now (found_of found.now)) }
+{
+    out.extend_from_slice(b"N[")?;
+    put_owner(out, line, found)?;
+    put_earlier(alloc, out, earlier_count(line))?;
+    out.push(b']')?;
+    Ok(())
+}
+
+/// Writes the variations of a strategy behind the text, where there is one.
+fn put_variations(
+    out: &mut Vec<u8>,
+    line: &mut Line,
+    found: &Option<(Side, Tree)>,
+    depth: usize,
+) -> Result<(), NoMemory>
+    requires in_order { IfSome found.now (λ f. IsInOrder line.old.frame.size (strategy_of f.1)) }
+    ensures text { OnOk result (out.new.items ≡ out.old.items ++ found_variations line.old depth (found_of found.now)) }
+    ensures same { line.new ≡ line.old }
+{
+    match found {
+        None => Ok(()),
+        Some((_, tree)) => put_tree(out, tree, line, depth),
+    }
+}
+
+/// Writes the problem at a line as a game tree of SGF behind the text, and the strategy that was found as its variations, to so
+/// many turns. `NoMemory` where memory was refused; a part may stand there then. The line stands as before.
+pub fn put_sgf(
+    alloc: Global,
+    out: &mut Vec<u8>,
+    line: &mut Line,
+    found: &Option<(Side, Tree)>,
+    depth: usize,
+) -> Result<(), NoMemory>
+    requires in_order { IfSome found.now (λ f. IsInOrder line.old.frame.size (strategy_of f.1)) }
+    ensures text { OnOk result (out.new.items ≡ out.old.items ++ sgf_text line.old depth (found_of found.now)) }
+    ensures same { line.new ≡ line.old }
+{
+    put_root(alloc, out, line)?;
+    put_name(alloc, out, line, found)?;
+    put_variations(out, line, found, depth)?;
+    out.extend_from_slice(b")\n")?;
+    Ok(())
+}
