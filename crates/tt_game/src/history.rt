@@ -175,6 +175,15 @@ impl History {
         repeats(&self.boards()[from..], next)
     }
 
+    /// Whether the board at a place has the colouring of a board of this size.
+    pub(crate) fn has_at(&self, place: usize, next: &Board) -> bool
+        requires { next.now.size ≡ self.now.size }
+        ensures { IsTrue result → HasBeen (so_far self.now) next.now.points }
+    {
+        let boards = self.boards();
+        place < boards.len() && boards[place].same(next)
+    }
+
     /// Adds the board that a play made; without memory it is as it was.
     pub(crate) fn push(&mut self, next: Board) -> Result<(), NoMemory>
         requires { next.size ≡ self.old.size }

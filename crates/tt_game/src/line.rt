@@ -224,15 +224,15 @@ impl Line {
     }
 
     /// Whether a board of the line's size has a colouring that has been: none of the beginning is compared where its hash tells it from
-    /// them.
+    /// them, and where it doesn't, the one that its hash names is compared first.
     pub(crate) fn is_among(&self, next: &Board) -> bool
         requires { next.now.size ≡ self.now.frame.size }
         ensures { IsTrue result ↔ HasBeen (history self.now.state) next.now.points }
     {
-        if self.root.unlike(next) {
-            return self.history.has_been(self.root.count(), next);
+        match self.root.place_of(next) {
+            None => self.history.has_been(self.root.count(), next),
+            Some(place) => self.history.has_at(place, next) || self.history.has_been(0, next),
         }
-        self.history.has_been(0, next)
     }
 
     /// Whether the line's history has the board. It takes no memory.

@@ -1,6 +1,6 @@
 //! What lines of one beginning share: it stands once, however many snapshots are kept of them.
 
-ghost use Rattle.std.specs.Prelude.{◌≡◌, ◌<◌, ◌↔◌, List, ◌∷◌, ◌++◌, [], length, All, IsTrue, IfOk, Some, false};
+ghost use Rattle.std.specs.Prelude.{◌≡◌, ◌<◌, ◌↔◌, List, ◌∷◌, ◌++◌, [], length, All, IsTrue, IfOk, Some, None, false};
 ghost use Rattle.std.specs.Arc.{arc_value};
 ghost use Rattle.tt_sgf.specs.Sizes.{point_count};
 ghost use Rattle.tt_board.specs.Position.{Position, Colouring};
@@ -12,6 +12,7 @@ ghost use Rattle.tt_game.specs.BloomFilter.{hash_of};
 use crate::frame::Frame;
 use crate::history::History;
 use crate::history::bloom_filter::{BloomFilter, hash_of};
+use std::alloc::Global;
 use std::marker::Model;
 use std::sync::Arc;
 use tt_board::{Board, Colour, Trail};
@@ -20,13 +21,17 @@ use tt_sgf::{Bits, NoMemory, Point};
 /// To compare a colouring with so many boards costs about what its hash costs.
 const FEW: usize = 8;
 
+/// How many places are noted of a beginning of many boards.
+const PLACES: usize = 8_192;
+
 /// From so many points of the region on it pays to look at all of them at once, and with fewer one by one.
 pub(crate) const MANY: u16 = 20;
 
 /// A frame, and the boards that lines had when the first of them began. Contracts see it as `Rooted`.
 ///
 /// The stones of all these boards stand together in twelve words, and their hashes were noted, so that superko asks once for what
-/// hundreds of boards never had. The base is the last of them: boards are kept by how they differ from it.
+/// hundreds of boards never had, and looks first where the hash stood. The base is the last of them: boards are kept by how they
+/// differ from it.
 #[derive(Drop)]
 pub(crate) struct Root {
     frame: Frame,
@@ -37,6 +42,7 @@ pub(crate) struct Root {
     black: Bits,
     white: Bits,
     filter: BloomFilter,
+    places: Vec<usize>,
 }
 
 impl Model for Root {
@@ -78,6 +84,22 @@ pub(crate) fn stones_of(boards: &[Board], colour: Colour) -> Bits
     stones
 }
 
+/// For each remainder of a hash the place of the last board that has it, and 0 where none has; no places without memory. Nothing goes by
+/// it but time.
+fn places_of(alloc: Global, boards: &[Board]) -> Vec<usize> {
+    let mut places = Vec::new(alloc);
+    if places.resize(PLACES, 0).is_err() {
+        return Vec::new(alloc);
+    }
+    for k in 0..boards.len() {
+        let index = hash_of(&boards[k]) % PLACES;
+        if index < places.len() {
+            places[index] = k;
+        }
+    }
+    places
+}
+
 impl Root {
     /// What lines that begin with this history share.
     pub(crate) fn of(frame: &Frame, history: &History) -> Result<Root, NoMemory>
@@ -86,10 +108,10 @@ impl Root {
     {
         let alloc = history.alloc();
         let boards = history.boards();
-        let filter = if boards.len() <= FEW {
-            BloomFilter::saturated(alloc)
+        let (filter, places) = if boards.len() <= FEW {
+            (BloomFilter::saturated(alloc), Vec::new(alloc))
         } else {
-            BloomFilter::of_all(alloc, boards)
+            (BloomFilter::of_all(alloc, boards), places_of(alloc, boards))
         };
         let base = Arc::new(alloc, boards[boards.len() - 1].copy())?;
         Ok(Root {
@@ -101,6 +123,7 @@ impl Root {
             black: stones_of(boards, Colour::Black),
             white: stones_of(boards, Colour::White),
             filter,
+            places,
         })
     }
 
@@ -154,16 +177,23 @@ impl Root {
         }
     }
 
-    /// Whether a board of the frame's size has a colouring that its hash tells from those of all boards of the beginning. Where
-    /// those are few, no hash is made.
-    pub(crate) fn unlike(&self, board: &Board) -> bool
+    /// Where a board of the frame's size is looked for first; none where its hash tells its colouring from those of all boards of the
+    /// beginning. Where those are few, no hash is made.
+    pub(crate) fn place_of(&self, board: &Board) -> Option<usize>
         requires { board.now.size ≡ self.now.frame.size }
-        ensures { IsTrue result → HasBeen (colourings self.now.begun) board.now.points → ⊥ }
+        ensures { result ≡ None → HasBeen (colourings self.now.begun) board.now.points → ⊥ }
     {
         if self.count <= FEW {
-            return false;
+            return Some(0);
         }
-        !self.filter.has(hash_of(board))
+        let hash = hash_of(board);
+        if !self.filter.has(hash) {
+            return None;
+        }
+        match self.places.get(hash % PLACES) {
+            Some(place) => Some(*place),
+            None => Some(0),
+        }
     }
 
     /// Whether the boards of the beginning are so many that hashes were noted of them. Nothing goes by it but time.
