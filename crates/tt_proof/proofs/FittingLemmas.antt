@@ -1,10 +1,10 @@
 -- When a proof with a footprint fits.
-use Rattle.std.proofs.Common.{◌≡◌, ◌∙◌, ◌↔◌, inl, inr, List, [], ◌∷◌, All, Contains, refl, sym, ap, subst}
+use Rattle.std.proofs.Common.{◌≡◌, ◌∙◌, inl, inr, List, [], ◌∷◌, All, Contains, refl, ap, subst}
 use Rattle.std.proofs.lemmas.List.Elements.{All-head, All-tail}
 use Rattle.tt_board.specs.Position.{Position, Colouring, colourings}
-use Rattle.tt_game.specs.Game.{State, history}
+use Rattle.tt_game.specs.Game.{State}
 use Rattle.tt_game.specs.Line.{IsPosition, HasBoard}
-use Rattle.tt_game.specs.laws.Members.{IsIn, in_of_contains, contains_of_in}
+use Rattle.tt_game.specs.laws.Members.{IsIn}
 use Rattle.tt_game.specs.declared.frame.Frame.{Frame}
 use Rattle.tt_proof.specs.declared.footprints.Footprint.{Footprint}
 use Rattle.tt_proof.specs.Strategy.{Strategy}
@@ -24,28 +24,15 @@ pub board_there : (p : Proven) (f : Frame) (s : State) (b : Position) → b ≡ 
 board_there p f s b is h =
     board_is b f.size s.present (ap (λ (w : Position). w.size) is ∙ ap (λ (g : Frame). g.size) h.0) (ap (λ (w : Position). w.points) is ∙ ap (λ (z : State). z.present) h.1)
 
--- the colourings of boards of one size are those of the boards that show them
-pub colouring_in : (bs : List Position) (b : Position) → IsIn bs b → IsIn (colourings bs) b.points
-colouring_in [] b m = absurd m
-colouring_in (x ∷ bs) b (inl e) = inl (ap (λ (w : Position). w.points) e)
-colouring_in (x ∷ bs) b (inr m) = inr (colouring_in bs b m)
-
+-- a colouring of boards of one size is that of the board that shows it
 pub board_in : (f : Frame) (bs : List Position) (c : Colouring) → All (λ (b : Position). b.size ≡ f.size) bs → IsIn (colourings bs) c → IsIn bs (frame_board f c)
 board_in f [] c all m = absurd m
 board_in f (x ∷ bs) c all (inl e) = inl (board_is x f.size c (All-head (λ (b : Position). b.size ≡ f.size) x bs all) e)
 board_in f (x ∷ bs) c all (inr m) = inr (board_in f bs c (All-tail (λ (b : Position). b.size ≡ f.size) x bs all) m)
 
-module _ (p : Proven) (f : Frame) (s : State) (x : Footprint) (bs : List Position) (shows : colourings bs ≡ history s)
-    (sizes : All (λ (b : Position). b.size ≡ f.size) bs) (foot : IsFootprint p.frame p.state p.tree x) where
-  -- a colouring of the history is that of one of its boards
-  shown : (c : Colouring) → Contains bs (frame_board f c) ↔ Contains (history s) c
-  shown c = (
-    λ m. subst (λ cs. Contains cs c) shows (contains_of_in (colourings bs) c (colouring_in bs (frame_board f c) (in_of_contains bs (frame_board f c) m))),
-    λ m. contains_of_in bs (frame_board f c) (board_in f bs c sizes (in_of_contains (colourings bs) c (subst (λ cs. Contains cs c) (sym shows) m))),
-  )
-
+module _ (p : Proven) (f : Frame) (s : State) (x : Footprint) (foot : IsFootprint p.frame p.state p.tree x) where
   -- a proof fits where the position is its own, and the lists stand right to the history's boards
-  pub fits_yes : IsPosition (record { frame = p.frame; state = p.state }) f s → ((b : Position) → Contains x.needs b → Contains bs b) →
+  pub fits_yes : IsPosition (record { frame = p.frame; state = p.state }) f s → ((b : Position) → Contains x.needs b → HasBoard f s b) →
       ((b : Position) → Contains x.avoids b → HasBoard f s b → ⊥) → FitsAt p f s
   fits_yes at n a = (
     at.0,
@@ -53,7 +40,7 @@ module _ (p : Proven) (f : Frame) (s : State) (x : Footprint) (bs : List Positio
       present = at.1;
       to_move = at.2;
       passes = at.3;
-      needs = λ c h. (shown c).0 (n (frame_board f c) (subst (λ g. Contains x.needs (frame_board g c)) at.0 ((foot.needed c).1 h)));
+      needs = λ c h. (n (frame_board f c) (subst (λ g. Contains x.needs (frame_board g c)) at.0 ((foot.needed c).1 h))).1;
       avoids = λ c h m. a (frame_board f c) (subst (λ g. Contains x.avoids (frame_board g c)) at.0 ((foot.avoided c).1 h)) (refl, m);
     },
   )
@@ -62,13 +49,9 @@ module _ (p : Proven) (f : Frame) (s : State) (x : Footprint) (bs : List Positio
   held : (bs' : List Position) (b : Position) → AreSized p.frame bs' → Contains bs' b → Contains bs' (frame_board p.frame b.points)
   held bs' b sized m = subst (λ w. Contains bs' w) (board_is b p.frame.size b.points (sized b m) refl) m
 
-  here : (b : Position) → FitsAt p f s → b.size ≡ p.frame.size → b ≡ frame_board f b.points
-  here b h e = board_is b f.size b.points (e ∙ ap (λ (g : Frame). g.size) h.0) refl
-
-  pub fits_needs : FitsAt p f s → (b : Position) → Contains x.needs b → Contains bs b
+  pub fits_needs : FitsAt p f s → (b : Position) → Contains x.needs b → HasBoard f s b
   fits_needs h b m =
-      subst (λ w. Contains bs w) (sym (here b h (foot.needs_sized b m)))
-      ((shown b.points).1 (h.1.needs b.points ((foot.needed b.points).0 (held x.needs b foot.needs_sized m))))
+      (foot.needs_sized b m ∙ ap (λ (g : Frame). g.size) h.0, h.1.needs b.points ((foot.needed b.points).0 (held x.needs b foot.needs_sized m)))
 
   pub fits_avoids : FitsAt p f s → (b : Position) → Contains x.avoids b → HasBoard f s b → ⊥
   fits_avoids h b m k = h.1.avoids b.points ((foot.avoided b.points).0 (held x.avoids b foot.avoids_sized m)) k.1

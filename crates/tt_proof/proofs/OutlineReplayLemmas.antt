@@ -1,14 +1,14 @@
 -- What the parts of an outline's replay find makes up what the whole finds.
 use Rattle.std.proofs.Common.{◌≡◌, ◌≤◌, ◌<◌, zero, suc, ◌+◌, ◌⊎◌, ℕ, inl, inr, arith, Some, None, List, [], ◌∷◌, ◌++◌, ◌∙◌, refl, sym, ap, subst, Contains, Option, get_or, length, take, drop}
 use Rattle.std.proofs.lemmas.List.Elements.{Contains-append_left, Contains-append_right, Contains-append_cases}
-use Rattle.tt_board.specs.Position.{Position, Colouring, colourings}
+use Rattle.tt_board.specs.Position.{Position, Colouring}
 use Rattle.tt_game.specs.Game.{State, IsLegal, after, history, made, winner_of, opponent}
 use Rattle.tt_game.specs.Line.{HasBoard}
 use Rattle.tt_game.specs.declared.frame.Frame.{Frame}
 use Rattle.tt_game.specs.declared.frame.Side.{Side}
 use Rattle.tt_game.specs.declared.turns.Turn.{Turn}
 use Rattle.tt_game.specs.declared.turns.Turn.TheVariants.{Play, Pass}
-use Rattle.tt_game.specs.laws.Members.{IsIn, in_of_contains, contains_of_in}
+use Rattle.tt_game.specs.laws.Members.{IsIn, in_of_contains}
 use Rattle.tt_proof.specs.declared.basis.Basis.{Basis}
 use Rattle.tt_proof.specs.declared.outline_replay.Found.{Found}
 use Rattle.tt_proof.specs.declared.outline_replay.Found.TheVariants.{Won, Lost, Unfit}
@@ -23,7 +23,6 @@ use Rattle.tt_proof.specs.inside.Replaying.{HasEntry}
 use Rattle.tt_proof.specs.inside.OutlineReplaying.{Meets, HasPosition, NeedsRepeats, IsPickedOn, IsPassedOn, IsJoined, HasBranch}
 use Rattle.tt_proof.specs.inside.OutlineReplaying.{HasTree, IsFound, IsFoundBehind, IsFoundOf, WinsAsKept, WinAsKept, IsBoth}
 use Rattle.tt_proof.proofs.FitsLemmas.{Carried, splits_none, same_made, same_winner, legal_now, legal_before}
-use Rattle.tt_proof.proofs.FittingLemmas.{colouring_in}
 use Rattle.tt_proof.proofs.WinsLemmas.{has_behind}
 
 -- states of one position, whose histories begin here
@@ -436,15 +435,13 @@ needs_plays f s foot x h n a = record {
     first c (inr w) = absurd w
 
 -- the position is the state's, and the boards of its history are as they have to be
-pub met_here : (f : Frame) (s : State) (x : Basis) (bs : List Position) → s.present ≡ x.board.points → s.to_move ≡ x.to_move → s.passes ≡ x.passes
-    → colourings bs ≡ history s → ((b : Position) → Contains x.needs b → Contains bs b) → ((b : Position) → Contains x.avoids b → HasBoard f s b → ⊥)
-    → Meets f x s
-met_here f s x bs present to_move passes shows n a = record {
+pub met_here : (f : Frame) (s : State) (x : Basis) → s.present ≡ x.board.points → s.to_move ≡ x.to_move → s.passes ≡ x.passes
+    → ((b : Position) → Contains x.needs b → HasBoard f s b) → ((b : Position) → Contains x.avoids b → HasBoard f s b → ⊥) → Meets f x s
+met_here f s x present to_move passes n a = record {
   present = present;
   to_move = to_move;
   passes = passes;
-  needs = λ c m. subst (λ h. Contains h c) shows
-      (contains_of_in (colourings bs) c (colouring_in bs (frame_board f c) (in_of_contains bs (frame_board f c) (n (frame_board f c) m))));
+  needs = λ c m. (n (frame_board f c) m).1;
   avoids = λ c m h. a (frame_board f c) m (refl, h);
 }
 

@@ -157,7 +157,7 @@ impl Basis {
         if self.to_move != line.to_move() || self.passes != line.passes() {
             return false;
         }
-        if !self.board.same(line.present()) || !self.needs.all_in(line.history()) {
+        if !self.board.same(line.present()) || !self.needs.all_in(line) {
             return false;
         }
         self.avoids.none_in(line)

@@ -180,7 +180,7 @@ impl Proof {
         if !self.snapshot.is_position_of(line) {
             return false;
         }
-        if !self.footprint.needs.all_in(line.history()) {
+        if !self.footprint.needs.all_in(line) {
             return false;
         }
         self.footprint.avoids.none_in(line)

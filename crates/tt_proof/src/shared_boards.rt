@@ -373,11 +373,23 @@ impl SharedBoards {
     }
 
     /// Whether all are among the boards.
-    pub fn all_in(&self, boards: &[Board]) -> bool
+    pub fn all_among(&self, boards: &[Board]) -> bool
         ensures { IsTrue result ↔ ((b : Position) → Contains self.now b → Contains boards.now b) }
     {
         for held in &self.boards {
             if !is_among(held.board(), boards) {
+                return false;
+            }
+        }
+        true
+    }
+
+    /// Whether all are boards of the line's history.
+    pub fn all_in(&self, line: &Line) -> bool
+        ensures { IsTrue result ↔ ((b : Position) → Contains self.now b → HasBoard line.now.frame line.now.state b) }
+    {
+        for held in &self.boards {
+            if !line.has_board(held.board()) {
                 return false;
             }
         }

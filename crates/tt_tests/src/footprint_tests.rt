@@ -21,7 +21,7 @@ fn shows(kept: &SharedBoards, boards: &[Board]) -> bool {
             return false;
         }
     }
-    kept.all_in(boards)
+    kept.all_among(boards)
 }
 
 /// Whether the boards that the text draws are held, and no others.
@@ -59,7 +59,7 @@ fn has_any(kept: &SharedBoards, boards: &[Board]) -> bool {
 fn fits_so(alloc: Global, found: &Footprint, size: Size, text: &[u8]) -> Option<bool> {
     let (sign, drawn) = text.split_first()?;
     let history = boards_of(alloc, size, drawn)?;
-    let fits = found.needs.all_in(&history) && !has_any(&found.avoids, &history);
+    let fits = found.needs.all_among(&history) && !has_any(&found.avoids, &history);
     Some(fits == (*sign == b'+'))
 }
 

@@ -9,6 +9,6 @@ returns c = λ e.
     let x = c.args.self.now in
     let to_move : s.to_move ≡ x.to_move = search rules in
     let passes : s.passes ≡ x.passes = search rules in
-    met_here c.args.line.now.frame s x c.history.result.now
+    met_here c.args.line.now.frame s x
     (sym c.present.ensures.points ∙ sym (ap (λ (b : Position). b.points) (c.same.ensures.0 c.if-not-same.false))) to_move passes
-    c.history.ensures.colourings (c.all_in.ensures.0 c.if-not-all_in.false) (c.none_in.ensures.0 e)
+    (c.all_in.ensures.0 c.if-not-all_in.false) (c.none_in.ensures.0 e)
