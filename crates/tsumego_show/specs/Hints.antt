@@ -9,7 +9,7 @@ use Rattle.tt_sgf.specs.Sizes.{point_count}
 use Rattle.tt_board.specs.declared.Colour.{Colour}
 use Rattle.tt_board.specs.Play.{is_empty, is_stone_of, other}
 use Rattle.tt_board.specs.Reach.{entry_at}
-use Rattle.tt_board.specs.Fill.{is_marked}
+use Rattle.tt_board.specs.Fill.{is_flagged}
 use Rattle.tt_game.specs.declared.turns.Turn.TheVariants.{Play}
 use Rattle.tt_game.specs.Line.{Standing}
 use Rattle.tt_proof.specs.CertificateText.{turn_text}
@@ -22,9 +22,9 @@ marks_by size so = map so (range_with_len 0 (point_count size))
 
 -- a point above, left of, right of or below point q is marked
 abbrev pub is_beside : Size → List Bool → ℕ → Bool
-is_beside size m q = (nat_le size.columns q && is_marked m (q - size.columns)) || (nat_lt 0 (q % size.columns) && is_marked m (q - 1))
-    || (nat_lt (q % size.columns + 1) size.columns && is_marked m (q + 1))
-    || (nat_lt (q + size.columns) (point_count size) && is_marked m (q + size.columns))
+is_beside size m q = (nat_le size.columns q && is_flagged m (q - size.columns)) || (nat_lt 0 (q % size.columns) && is_flagged m (q - 1))
+    || (nat_lt (q % size.columns + 1) size.columns && is_flagged m (q + 1))
+    || (nat_lt (q + size.columns) (point_count size) && is_flagged m (q + size.columns))
 
 module _ (p : Standing) where
   -- a stone of this colour stands on q
@@ -51,7 +51,7 @@ module _ (p : Standing) where
 
   -- q is marked, or a stone of this colour beside a mark
   abbrev pub is_reached : Colour → List Bool → ℕ → Bool
-  is_reached k m q = is_marked m q || (is_stone k q && is_beside p.frame.size m q)
+  is_reached k m q = is_flagged m q || (is_stone k q && is_beside p.frame.size m q)
 
   -- the marks spread so many times
   unfoldable pub spread : Colour → ℕ → List Bool → List Bool
@@ -93,7 +93,7 @@ module _ (p : Standing) where
 
   -- an empty point of the region, or a stone of these chains: what has no liberty outside where the region is closed
   abbrev pub is_enclosed : ℕ → Bool
-  is_enclosed q = (is_inside q && is_free q) || is_marked held_chains q
+  is_enclosed q = (is_inside q && is_free q) || is_flagged held_chains q
 
   unfoldable pub enclosed : List Bool
   enclosed = marks_by p.frame.size is_enclosed
@@ -107,7 +107,7 @@ module _ (p : Standing) where
 
   -- a stone of the attacker outside the region, whose chain has all its liberties in it
   abbrev pub is_takeable : ℕ → Bool
-  is_takeable q = (is_attacker q && not (is_inside q)) && not (is_marked safe_chains q)
+  is_takeable q = (is_attacker q && not (is_inside q)) && not (is_flagged safe_chains q)
 
   unfoldable pub takeables : List Bool
   takeables = marks_by p.frame.size is_takeable
@@ -117,7 +117,7 @@ module _ (p : Standing) where
 
   -- a stone of the defender in or beside the region, of another chain than the targets'
   abbrev pub is_stranger : ℕ → Bool
-  is_stranger q = (is_defender q && not (is_marked target_chains q)) && (is_inside q || is_beside p.frame.size insides q)
+  is_stranger q = (is_defender q && not (is_flagged target_chains q)) && (is_inside q || is_beside p.frame.size insides q)
 
   unfoldable pub strangers : List Bool
   strangers = marks_by p.frame.size is_stranger
@@ -134,7 +134,7 @@ module _ (p : Standing) where
 
   -- a blank and the name of a point, where it is marked
   unfoldable pub name_if : List Bool → ℕ → List ℕ
-  name_if m q = if is_marked m q then space ∷ turn_text p.frame.size (Play q) else []
+  name_if m q = if is_flagged m q then space ∷ turn_text p.frame.size (Play q) else []
 
   -- the names of the marked points
   abbrev pub points_text : List Bool → List ℕ

@@ -4,8 +4,8 @@ ghost use Rattle.tt_sgf.specs.Sizes.{point_count};
 ghost use Rattle.tsumego_show.specs.Hints.{enclosed, hints, insides, is_wide, leaks, leaks_line, listed, name_if, points_text, strangers, strangers_line, takeables, takeables_line, wide_line};
 
 use crate::marks::{
-    held_chains, is_attacker, is_beside, is_defender, is_free, is_inside, is_marked, is_unfillable,
-    point_numbered, safe_chains, target_chains,
+    held_chains, is_attacker, is_beside, is_defender, is_flagged, is_free, is_inside,
+    is_unfillable, point_numbered, safe_chains, target_chains,
 };
 use std::alloc::Global;
 use tt_game::{Line, Turn};
@@ -24,7 +24,7 @@ fn enclosed(alloc: Global, line: &Line) -> Result<Vec<bool>, NoMemory>
     let mut made = Vec::new(alloc);
     for number in 0..line.frame().size.point_count() {
         let playable = is_inside(line, number) && is_free(line, number);
-        made.push(playable || is_marked(chains.as_slice(), number))?;
+        made.push(playable || is_flagged(chains.as_slice(), number))?;
     }
     Ok(made)
 }
@@ -53,7 +53,7 @@ fn takeables(alloc: Global, line: &Line) -> Result<Vec<bool>, NoMemory>
     let mut made = Vec::new(alloc);
     for number in 0..line.frame().size.point_count() {
         let outside = is_attacker(line, number) && !is_inside(line, number);
-        made.push(outside && !is_marked(safe.as_slice(), number))?;
+        made.push(outside && !is_flagged(safe.as_slice(), number))?;
     }
     Ok(made)
 }
@@ -80,7 +80,7 @@ fn strangers(alloc: Global, line: &Line) -> Result<Vec<bool>, NoMemory>
     let region = insides(alloc, line)?;
     let mut made = Vec::new(alloc);
     for number in 0..size.point_count() {
-        let strange = is_defender(line, number) && !is_marked(chains.as_slice(), number);
+        let strange = is_defender(line, number) && !is_flagged(chains.as_slice(), number);
         let near = is_inside(line, number) || is_beside(size, region.as_slice(), number);
         made.push(strange && near)?;
     }
@@ -102,7 +102,7 @@ fn put_point(out: &mut Vec<u8>, line: &Line, marks: &[bool], number: usize) -> R
     ensures { OnOk result (out.new.items ≡ out.old.items ++ name_if line.now marks.now number) }
 {
     let size = line.frame().size;
-    if is_marked(marks, number) {
+    if is_flagged(marks, number) {
         out.push(b' ')?;
         put_turn(out, Turn::Play(point_numbered(size, number)), size)?;
     }

@@ -2,7 +2,7 @@
 ghost use Rattle.std.specs.Prelude.{◌≡◌, ◌<◌, IfOk};
 ghost use Rattle.tt_sgf.specs.Sizes.{point_count};
 ghost use Rattle.tsumego_show.specs.Hints.{held_chains, is_attacker, is_beside, is_defender, is_free, is_held, is_inside, is_reached};
-ghost use Rattle.tt_board.specs.Fill.{is_marked};
+ghost use Rattle.tt_board.specs.Fill.{is_flagged};
 ghost use Rattle.tsumego_show.specs.Hints.{is_safe, is_stone, is_target, is_unfillable, marks_by, safe_chains, spread, target_chains, unfillables};
 
 use std::alloc::Global;
@@ -23,8 +23,8 @@ pub fn point_numbered(size: Size, number: usize) -> Point
 }
 
 /// Whether the point of this number is marked.
-pub fn is_marked(marks: &[bool], number: usize) -> bool
-    ensures { result ≡ is_marked marks.now number }
+pub fn is_flagged(marks: &[bool], number: usize) -> bool
+    ensures { result ≡ is_flagged marks.now number }
 {
     if number < marks.len() {
         return marks[number];
@@ -39,16 +39,16 @@ pub fn is_beside(size: Size, marks: &[bool], number: usize) -> bool
 {
     let columns = usize::from(size.columns());
     let column = number % columns;
-    if columns <= number && is_marked(marks, number - columns) {
+    if columns <= number && is_flagged(marks, number - columns) {
         return true;
     }
-    if 0 < column && is_marked(marks, number - 1) {
+    if 0 < column && is_flagged(marks, number - 1) {
         return true;
     }
-    if column + 1 < columns && is_marked(marks, number + 1) {
+    if column + 1 < columns && is_flagged(marks, number + 1) {
         return true;
     }
-    number + columns < size.point_count() && is_marked(marks, number + columns)
+    number + columns < size.point_count() && is_flagged(marks, number + columns)
 }
 
 /// Whether a stone of this colour stands on the point of this number.
@@ -122,7 +122,7 @@ fn spread(alloc: Global, line: &Line, colour: Colour, marks: &[bool]) -> Result<
     let mut made = Vec::new(alloc);
     for number in 0..size.point_count() {
         let joins = is_stone(line, number, colour) && is_beside(size, marks, number);
-        made.push(is_marked(marks, number) || joins)?;
+        made.push(is_flagged(marks, number) || joins)?;
     }
     Ok(made)
 }

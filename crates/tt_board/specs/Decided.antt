@@ -10,8 +10,8 @@ use Rattle.tt_sgf.specs.Sizes.{point_count}
 use Rattle.tt_board.specs.Near.{IsBeside, IsNeighbour}
 use Rattle.tt_board.specs.Position.{Colouring}
 use Rattle.tt_board.specs.Reach.{entry_at, Reaches}
-use Rattle.tt_board.specs.Fill.{is_marked, IsBesideMarked, IsSound, IsFilled, unmarked_count}
-use Rattle.tt_board.specs.ReachLaws.{sound_more, unmarked_fewer, filled}
+use Rattle.tt_board.specs.Fill.{is_flagged, IsBesideFilled, IsSound, IsFilled, unfilled_count}
+use Rattle.tt_board.specs.ReachLaws.{sound_more, unfilled_fewer, filled}
 
 -- a fact, or that it doesn't hold
 abbrev pub Decision : Type 0 → Type 0
@@ -88,47 +88,47 @@ neighbour s p q = both (below q (point_count s))
     below a b = elim (cases_lt a b) [ inl h ↦ inl h | inr h ↦ inr (λ l. omega arith) ]
 
 module _ (s : Size) (c : Colouring) (e : Option Colour) where
-  -- whether a fill may mark p next
-  next : (m : List Bool) (p : ℕ) → Decision (IsBesideMarked s c e m p)
+  -- whether p may be filled next
+  next : (m : List Bool) (p : ℕ) → Decision (IsBesideFilled s c e m p)
   next m p = elim (denied (same_entry (entry_at c p) e)) [
     | inr same ↦ inr (λ h. same h.0)
-    | inl other ↦ elim (some_below (λ q. IsNeighbour s p q × ((entry_at c q ≡ e) ⊎ ((entry_at c q ≡ entry_at c p) × IsTrue (is_marked m q))))
-        (λ q. both (neighbour s p q) (either (same_entry (entry_at c q) e) (both (same_entry (entry_at c q) (entry_at c p)) (marked q)))) (point_count s)) [
+    | inl other ↦ elim (some_below (λ q. IsNeighbour s p q × ((entry_at c q ≡ e) ⊎ ((entry_at c q ≡ entry_at c p) × IsTrue (is_flagged m q))))
+        (λ q. both (neighbour s p q) (either (same_entry (entry_at c q) e) (both (same_entry (entry_at c q) (entry_at c p)) (in_fill q)))) (point_count s)) [
           | inl h ↦ inl (other, (h.0, h.2.0, h.2.1))
           | inr none ↦ inr (λ h. none (h.1.0, h.1.1.0, (h.1.1, h.1.2)))
         ]
   ]
     where
-      marked : (q : ℕ) → Decision (IsTrue (is_marked m q))
-      marked q = elim (cases_Bool (is_marked m q)) [ inl on ↦ inl on | inr off ↦ inr (λ on. false≢true (sym off ∙ on)) ]
+      in_fill : (q : ℕ) → Decision (IsTrue (is_flagged m q))
+      in_fill q = elim (cases_Bool (is_flagged m q)) [ inl on ↦ inl on | inr off ↦ inr (λ on. false≢true (sym off ∙ on)) ]
 
-  -- marks that can't go on, from marks that are sound: one more mark each time
-  grown : (room : ℕ) (m : List Bool) → length m ≡ point_count s → IsSound s c e m → unmarked_count m < room
+  -- a fill that can't go on, from one that is sound: one more point each time
+  grown : (room : ℕ) (m : List Bool) → length m ≡ point_count s → IsSound s c e m → unfilled_count m < room
       → (m' : List Bool) × IsFilled s c e m'
   grown zero m fits sound enough = absurd (omega arith)
   grown (suc room) m fits sound enough =
-      elim (some_below (λ p. IsBesideMarked s c e m p × (is_marked m p ≡ false)) (λ p. both (next m p) (bare p)) (point_count s)) [
+      elim (some_below (λ p. IsBesideFilled s c e m p × (is_flagged m p ≡ false)) (λ p. both (next m p) (bare p)) (point_count s)) [
         | inl h ↦ grown room (slice_set m h.0 true) (length-set m h.0 true ∙ fits)
-            (sound_more s c e m h.0 (omega (arith, h.1)) sound h.2.0) (omega (arith, unmarked_fewer m h.0 (omega (arith, h.1)) h.2.1))
-        | inr none ↦ (m, filled s c e m sound (λ p in_p nx. elim (cases_Bool (is_marked m p)) [ inl on ↦ on | inr off ↦ absurd (none (p, in_p, (nx, off))) ]))
+            (sound_more s c e m h.0 (omega (arith, h.1)) sound h.2.0) (omega (arith, unfilled_fewer m h.0 (omega (arith, h.1)) h.2.1))
+        | inr none ↦ (m, filled s c e m sound (λ p in_p nx. elim (cases_Bool (is_flagged m p)) [ inl on ↦ on | inr off ↦ absurd (none (p, in_p, (nx, off))) ]))
       ]
     where
-      bare : (p : ℕ) → Decision (is_marked m p ≡ false)
-      bare p = elim (cases_Bool (is_marked m p)) [ inl on ↦ inr (λ off. false≢true (sym off ∙ on)) | inr off ↦ inl off ]
+      bare : (p : ℕ) → Decision (is_flagged m p ≡ false)
+      bare p = elim (cases_Bool (is_flagged m p)) [ inl on ↦ inr (λ off. false≢true (sym off ∙ on)) | inr off ↦ inl off ]
 
-  -- marks that are on exactly those points of the board that reach e
-  pub marks : (m : List Bool) × IsFilled s c e m
-  marks =
+  -- the fill of exactly those points of the board that reach e
+  pub fill : (m : List Bool) × IsFilled s c e m
+  fill =
       let m = replicate (point_count s) false in
-      grown (unmarked_count m + 1) m (length-replicate (point_count s) false)
+      grown (unfilled_count m + 1) m (length-replicate (point_count s) false)
       (λ p in_p on. absurd (false≢true (sym (get_or-replicate (point_count s) p false false in_p) ∙ on))) (omega arith)
 
 -- whether p reaches e
 pub reaches : Size → Colouring → ℕ → Option Colour → Bool
-reaches s c p e = is_marked (marks s c e).0 p
+reaches s c p e = is_flagged (fill s c e).0 p
 
 -- of a point of the board the test is true exactly where it reaches e
 pub reaches_is : (s : Size) (c : Colouring) (p : ℕ) (e : Option Colour) → p < point_count s
     → (reaches s c p e ≡ true → Reaches s c p e) × (Reaches s c p e → reaches s c p e ≡ true)
 unfolding reaches
-reaches_is s c p e in_p = (marks s c e).1 p in_p
+reaches_is s c p e in_p = (fill s c e).1 p in_p

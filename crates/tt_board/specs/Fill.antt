@@ -1,4 +1,4 @@
--- Marks on the points that reach something, as the test of `Decided` finds them. Of contracts private ones alone cite these; `Decided` makes the
+-- Flags of the points that reach something, as the test of `Decided` finds them. Of contracts private ones alone cite these; `Decided` makes the
 -- test of reaching, which public ones cite, out of them.
 use Rattle.std.specs.Prelude.{◌≡◌, ◌≢◌, ℕ, ◌<◌, ◌⊎◌, List, Option, Bool, false, not, IsTrue, slice_index_or, count_by}
 use Rattle.tt_board.specs.declared.Colour.{Colour}
@@ -8,27 +8,27 @@ use Rattle.tt_board.specs.Near.{IsNeighbour}
 use Rattle.tt_board.specs.Position.{Colouring}
 use Rattle.tt_board.specs.Reach.{entry_at, Reaches}
 
--- whether p is marked; past the end of the list nothing is
-abbrev pub is_marked : List Bool → ℕ → Bool
-is_marked m p = slice_index_or m p false
+-- whether the flag of p is on; past the end of the list none is
+abbrev pub is_flagged : List Bool → ℕ → Bool
+is_flagged m p = slice_index_or m p false
 
--- p, which is not e, is beside a point that is e, or beside a marked one that is like p
-abbrev pub IsBesideMarked : Size → Colouring → Option Colour → List Bool → ℕ → Type 0
-IsBesideMarked s c e m p =
-    (entry_at c p ≢ e) × ((q : ℕ) × IsNeighbour s p q × ((entry_at c q ≡ e) ⊎ ((entry_at c q ≡ entry_at c p) × IsTrue (is_marked m q))))
+-- p, which is not e, is beside a point that is e, or beside one in the fill that is like p
+abbrev pub IsBesideFilled : Size → Colouring → Option Colour → List Bool → ℕ → Type 0
+IsBesideFilled s c e m p =
+    (entry_at c p ≢ e) × ((q : ℕ) × IsNeighbour s p q × ((entry_at c q ≡ e) ⊎ ((entry_at c q ≡ entry_at c p) × IsTrue (is_flagged m q))))
 
--- only points that reach e are marked
+-- only points that reach e are filled
 abbrev pub IsSound : Size → Colouring → Option Colour → List Bool → Type 0
-IsSound s c e m = (p : ℕ) → p < point_count s → IsTrue (is_marked m p) → Reaches s c p e
+IsSound s c e m = (p : ℕ) → p < point_count s → IsTrue (is_flagged m p) → Reaches s c p e
 
--- all that is next to what is marked is marked
+-- all that is next to the fill is filled
 abbrev pub IsClosed : Size → Colouring → Option Colour → List Bool → Type 0
-IsClosed s c e m = (p : ℕ) → p < point_count s → IsBesideMarked s c e m p → IsTrue (is_marked m p)
+IsClosed s c e m = (p : ℕ) → p < point_count s → IsBesideFilled s c e m p → IsTrue (is_flagged m p)
 
--- exactly the points that reach e are marked
+-- exactly the points that reach e are filled
 abbrev pub IsFilled : Size → Colouring → Option Colour → List Bool → Type 0
-IsFilled s c e m = (p : ℕ) → p < point_count s → (IsTrue (is_marked m p) → Reaches s c p e) × (Reaches s c p e → IsTrue (is_marked m p))
+IsFilled s c e m = (p : ℕ) → p < point_count s → (IsTrue (is_flagged m p) → Reaches s c p e) × (Reaches s c p e → IsTrue (is_flagged m p))
 
--- how many points of the list have no mark
-abbrev pub unmarked_count : List Bool → ℕ
-unmarked_count m = count_by not m
+-- how many points of the list aren't filled
+abbrev pub unfilled_count : List Bool → ℕ
+unfilled_count m = count_by not m

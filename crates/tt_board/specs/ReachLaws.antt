@@ -10,7 +10,7 @@ use Rattle.tt_sgf.specs.Sizes.{point_count}
 use Rattle.tt_board.specs.Near.{IsNeighbour}
 use Rattle.tt_board.specs.Position.{Colouring}
 use Rattle.tt_board.specs.Reach.{entry_at, IsPath, last_of, Reaches}
-use Rattle.tt_board.specs.Fill.{is_marked, IsBesideMarked, IsSound, IsClosed, IsFilled, unmarked_count}
+use Rattle.tt_board.specs.Fill.{is_flagged, IsBesideFilled, IsSound, IsClosed, IsFilled, unfilled_count}
 
 module _ (s : Size) (c : Colouring) (e : Option Colour) where
   -- a point beside one with entry e reaches it
@@ -53,33 +53,33 @@ module _ (s : Size) (c : Colouring) (e : Option Colour) where
       (All-weaker (λ x. entry_at c x ≡ entry_at c p) (λ x. entry_at c x ≡ entry_at c q) (λ x h. h ∙ sym same) rest tail)
       (λ h. other (sym same ∙ h)) found near has)
 
-  -- a step of the fill marks only what reaches e
-  pub next_reaches : (m : List Bool) (p : ℕ) → IsSound s c e m → IsBesideMarked s c e m p → Reaches s c p e
+  -- a step of the fill takes only what reaches e
+  pub next_reaches : (m : List Bool) (p : ℕ) → IsSound s c e m → IsBesideFilled s c e m p → Reaches s c p e
   next_reaches m p sound (other, (q, near, inl has)) = reaches_beside p q other near has
   next_reaches m p sound (other, (q, near, inr like)) = reaches_on p q near like.0 (sound q near.0 like.1)
 
-  -- a fill that can't go on has marked all that reaches e
+  -- a fill that can't go on has all that reaches e
   pub filled : (m : List Bool) → IsSound s c e m → IsClosed s c e m → IsFilled s c e m
   filled m sound closed p in_p = (
     sound p in_p,
     λ r.
-        reaches_all (λ x. IsTrue (is_marked m x))
+        reaches_all (λ x. IsTrue (is_flagged m x))
         (λ x q in_x other near has. closed x in_x (other, (q, near, inl has)))
-        (λ x q in_x other near same marked. closed x in_x (other, (q, near, inr (same, marked))))
+        (λ x q in_x other near same in_fill. closed x in_x (other, (q, near, inr (same, in_fill))))
         p r.path in_p r.adjacent r.alike r.other r.found r.beside r.has_entry,
   )
 
-  -- a point that is next may be marked
-  pub sound_more : (m : List Bool) (p : ℕ) → p < length m → IsSound s c e m → IsBesideMarked s c e m p → IsSound s c e (set m p true)
-  sound_more m p in_m sound next q in_q marked =
+  -- a point that is next may be filled
+  pub sound_more : (m : List Bool) (p : ℕ) → p < length m → IsSound s c e m → IsBesideFilled s c e m p → IsSound s c e (set m p true)
+  sound_more m p in_m sound next q in_q in_fill =
       elim (cases_eq q p) [
         | inl same ↦ subst (λ x. Reaches s c x e) (sym same) (next_reaches m p sound next)
-        | inr apart ↦ sound q in_q (subst (λ b. b ≡ true) (get_or-set_other m p q true false apart) marked)
+        | inr apart ↦ sound q in_q (subst (λ b. b ≡ true) (get_or-set_other m p q true false apart) in_fill)
       ]
 
--- a new mark is one point fewer without
-pub unmarked_fewer : (m : List Bool) (p : ℕ) → p < length m → is_marked m p ≡ false → unmarked_count (set m p true) + 1 ≡ unmarked_count m
-unmarked_fewer m p in_m bare =
+-- a point more in the fill is one fewer outside
+pub unfilled_fewer : (m : List Bool) (p : ℕ) → p < length m → is_flagged m p ≡ false → unfilled_count (set m p true) + 1 ≡ unfilled_count m
+unfilled_fewer m p in_m bare =
     let h = sum_by-set (λ b. cond (not b) 1 0) m p true false in_m in
     let was : ◌≡◌ {A = ℕ} (cond (not (get_or m p false)) 1 0) 1 = rw bare in
     omega (arith, h, was)

@@ -37,7 +37,7 @@ impl Basis {
     }
 
     /// The line's position with a history that has the boards which plays would repeat.
-    pub(crate) fn of_plays(alloc: Global, line: &Line) -> Result<Basis, NoMemory>
+    pub(crate) fn of_repeats(alloc: Global, line: &Line) -> Result<Basis, NoMemory>
         ensures stands { IfOk result (λ x. HasPosition line.now.state x) }
         ensures repeats { IfOk result (λ x. NeedsRepeats line.now.frame line.now.state x) }
     {
@@ -45,7 +45,7 @@ impl Basis {
             needs,
             avoids,
             met: _,
-        } = Footprint::of_plays(alloc, line)?;
+        } = Footprint::of_repeats(alloc, line)?;
         Ok(Basis {
             board: line.present().copy(),
             to_move: line.to_move(),

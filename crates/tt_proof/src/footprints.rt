@@ -43,14 +43,14 @@ impl Footprint {
 
     /// That of a reply without entries: it needs the colourings of the history that plays on empty points of the region
     /// would repeat.
-    pub fn of_plays(alloc: Global, line: &Line) -> Result<Footprint, NoMemory>
+    pub fn of_repeats(alloc: Global, line: &Line) -> Result<Footprint, NoMemory>
         ensures { IfOk result (λ x. IsFootprint line.now.frame line.now.state (reply none) x) }
     {
-        Footprint::of_plays_beside(alloc, line, &PointSet::empty())
+        Footprint::of_repeats_beside(alloc, line, &PointSet::empty())
     }
 
     /// The same where plays on these points are known to be legal: such a play repeats nothing, and isn't tried.
-    pub fn of_plays_beside(
+    pub fn of_repeats_beside(
         alloc: Global,
         line: &Line,
         legal: &PointSet,
@@ -286,7 +286,7 @@ fn footprint_of_reply(
     ensures exact { IfOk result (λ x. IsFootprint line.old.frame line.old.state (reply (entries_of_trees list.now)) x) }
     ensures same { line.new ≡ line.old }
 {
-    let mut footprint = Footprint::of_plays(alloc, line)?;
+    let mut footprint = Footprint::of_repeats(alloc, line)?;
     for (turn, tree) in list {
         join_entry(alloc, turn, tree, line, &mut footprint)?;
     }

@@ -281,7 +281,7 @@ fn replay_branches(
         × WinAsKept s line.old.frame (names_behind_all us (branches_of_list list.now)) names.new.items) }
     ensures same { line.new ≡ line.old }
 {
-    let basis = Basis::of_plays(alloc, line)?;
+    let basis = Basis::of_repeats(alloc, line)?;
     let mut found = Found::Won(basis);
     for (turn, child) in list {
         let next = replay_branch(alloc, *turn, child, s, line, names)?;

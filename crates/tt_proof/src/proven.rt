@@ -314,7 +314,7 @@ impl Proof {
         ensures { IfOk result (λ p. StandsAt p line.now.frame line.now.state × (p.side ≡ opponent line.now.state.to_move)
             × (p.tree ≡ reply (entries_of (trees_of children.items)))) }
     {
-        let mut footprint = Footprint::of_plays(alloc, line)?;
+        let mut footprint = Footprint::of_repeats(alloc, line)?;
         let mut replies = Replies::with_capacity(alloc, children.len())?;
         for (turn, child) in children {
             let board = child.present();

@@ -177,7 +177,7 @@ fn replied(
         (reply (replies side (edge_turns edges.now) (children_of (edge_trees edges.now grown.now)))) x) }
     ensures same { line.new ≡ line.old }
 {
-    let mut footprint = Footprint::of_plays_beside(alloc, line, &played(edges))?;
+    let mut footprint = Footprint::of_repeats_beside(alloc, line, &played(edges))?;
     let mut rest = grown;
     for edge in edges {
         let (child, behind) = Child::first(*edge, rest);

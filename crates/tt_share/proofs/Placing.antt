@@ -9,7 +9,7 @@ use Rattle.tt_share.specs.declared.jobs.SearchedJob.{SearchedJob}
 use Rattle.tt_share.specs.declared.workers.HandedBack.{HandedBack}
 use Rattle.tt_share.specs.inside.Jobs.{kept_of}
 use Rattle.tt_share.specs.inside.Results.{Progress, Puts, HasEnd, IsPastStuck, KeepsEnds}
-use Rattle.tt_share.specs.inside.Workers.{IsPlaced, AllPlaced, IsGiven, AreGiven, AllGiven}
+use Rattle.tt_share.specs.inside.Workers.{IsPlaced, AllPlaced, IsGiven, AreGiven, OnlyHandedBack}
 use Rattle.tt_share.proofs.ResultLemmas.{read_after, get_set_same, get_set_other}
 
 -- what is known of what contracts see is known of the fields of results
@@ -135,7 +135,7 @@ given_more first old new all i f there puts was = given_at first old new all i f
 
 -- so it is with what one more worker handed back
 pub given_backs : (first old new : List (Option JobResult)) (work : List HandedBack) (i : ℕ) (back : HandedBack) → slice_get work i ≡ Some back → KeepsEnds old new
-    → AreGiven old new back.searched.items → AllGiven first old work → AllGiven first new work
+    → AreGiven old new back.searched.items → OnlyHandedBack first old work → OnlyHandedBack first new work
 given_backs first old new work i back there kept this was job end at = elim (this job end at) [
   | inl h ↦ elim (was job end h) [
     | inl g ↦ inl g

@@ -21,7 +21,7 @@ use Rattle.tt_share.specs.inside.Jobs.{IsForTotal, end_of}
 use Rattle.tt_share.specs.inside.Results.{Progress, HasTotal, IsAllSpent, SpendsTotal, AskedFor}
 use Rattle.tt_share.specs.Seats.{DeskView, SeatView, EndsOverdraw, EachOnce, Spends, Closes, granted_of, last_number, occurrences}
 use Rattle.tt_share.specs.inside.Tallies.{IsGranted, Tallies}
-use Rattle.tt_share.specs.inside.Workers.{times, spent_on, spent_by_all, held, held_in, AllApart, AllGiven, SomeTotal, IsWork}
+use Rattle.tt_share.specs.inside.Workers.{times, spent_on, spent_by_all, held, held_in, AllApart, OnlyHandedBack, SomeTotal, IsWork}
 use Rattle.tt_share.proofs.Apart.{none_times, held_most}
 use Rattle.tt_share.proofs.Asked.{total_kept}
 use Rattle.tt_share.proofs.LastWins.{read_more}
@@ -150,7 +150,7 @@ module _ (line : Standing) (limits : Limits) (desk : DeskView) (closed : Closed)
 
   module _ (first mid last : Progress) (before : Asked) (count : ℕ) (refused : Bool) (none : before.granted ≡ 0) (blank : first.ends ≡ replicate desk.jobs None)
       (unspent : spent_in_all first.spent ≡ 0)
-      (gathered : AllApart first.ends work → spent_in_all mid.spent ≡ spent_in_all first.spent + spent_by_all work) (given : AllGiven first.ends mid.ends work)
+      (gathered : AllApart first.ends work → spent_in_all mid.spent ≡ spent_in_all first.spent + spent_by_all work) (given : OnlyHandedBack first.ends mid.ends work)
       (asked : AskedFor mid before last (record { granted = count; refused = refused })) (tally : Tallies desk.total own.grants count refused) where
     -- some seat was refused where a job is stuck for the total
     some_refused : HasTotal last.ends → (total : ℕ) × (desk.total ≡ Some total) × ((s : SeatView) × Contains (seats ++ own ∷ []) s × EndsOverdraw total s.grants)

@@ -29,13 +29,13 @@ module _ (line : Standing) (limits : Limits) (total : Option ℕ) (stuck : answe
   pub says : (reason : Reason) (o : Option Searched) → stuck.search ≡ o → EndsBehind line limits stuck.turn (Stuck reason o) → stuck.spent.items ≡ spent_shown_of reason spent
       → ((held : Searched) → reason ≡ Total → o ≡ Some held → (n : ℕ) × (total ≡ Some n) × IsSpent line limits n stuck.turn held spent) → IsUnsettled line limits total reason stuck
   says Budget None is behind spent_shown all = absurd behind
-  says Budget (Some held) is behind spent_shown all = (held, is, record { legal = legal; behind = behind.0; grown = behind.1; stuck_for = behind.2; lesser = lesser }, spent_shown)
+  says Budget (Some held) is behind spent_shown all = (held, is, record { legal = legal; behind = behind.0; grown = behind.1; stuck_for = behind.2; lesser_lose = lesser }, spent_shown)
   says Depth None is behind spent_shown all = absurd behind
-  says Depth (Some held) is behind spent_shown all = (held, is, record { legal = legal; behind = behind.0; grown = behind.1; stuck_for = behind.2; lesser = lesser }, spent_shown)
+  says Depth (Some held) is behind spent_shown all = (held, is, record { legal = legal; behind = behind.0; grown = behind.1; stuck_for = behind.2; lesser_lose = lesser }, spent_shown)
   says Total None is behind spent_shown all = absurd behind
   says Total (Some held) is behind spent_shown all =
       let h = all held refl refl in
-      (h.0, h.1, held, is, record { legal = legal; behind = behind.0; grown = behind.1; stuck_for = behind.2; lesser = lesser }, subst (IsSpent line limits h.0 stuck.turn held) (sym spent_shown) h.2)
+      (h.0, h.1, held, is, record { legal = legal; behind = behind.0; grown = behind.1; stuck_for = behind.2; lesser_lose = lesser }, subst (IsSpent line limits h.0 stuck.turn held) (sym spent_shown) h.2)
   says Memory None is behind spent_shown all = (record { turn = inr (legal, lesser); behind = λ other held. absurd (none_held other (sym is ∙ held)) }, spent_shown)
   says Memory (Some held) is behind spent_shown all =
       (record { turn = inr (legal, lesser); behind = λ other at. held_behind line limits stuck.turn held other behind.0 behind.1 (sym is ∙ at) }, spent_shown)

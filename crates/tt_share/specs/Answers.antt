@@ -71,7 +71,7 @@ pub record IsStuckBehind (line : Standing) (limits : Limits) (reason : Reason) (
   pub behind : IsBehind line limits t search
   pub grown : IsGrown search.limits search.line.frame search.line.state search.tree
   pub stuck_for : IsStuckFor reason search
-  pub lesser : LesserLose line.frame line.state t
+  pub lesser_lose : LesserLose line.frame line.state t
 
 -- memory was refused: outside a job the turn is a pass and no search is held, inside one it is the job's, and the lesser
 -- turns lose; a search that is held is behind that turn

@@ -6,7 +6,7 @@ ghost use Rattle.tt_share.specs.inside.Results.{KeepsEnds};
 ghost use Rattle.tt_share.specs.Answers.{spent_in_all};
 ghost use Rattle.tt_share.specs.Seats.{SeatView, seat_of};
 ghost use Rattle.tt_share.specs.declared.workers.HandedBack.{HandedBack};
-ghost use Rattle.tt_share.specs.inside.Workers.{SomeWin, IsWork, held, times, spent_on, spent_by_all, AreApart, AllApart, IsPlaced, AllPlaced, AddsOverdraw, AllDrawn, KeepsFirstStuck, jobs_of, AreGiven, AllGiven};
+ghost use Rattle.tt_share.specs.inside.Workers.{SomeWin, IsWork, held, times, spent_on, spent_by_all, AreApart, AllApart, IsPlaced, AllPlaced, AddsOverdraw, AllDrawn, KeepsFirstStuck, jobs_of, AreGiven, OnlyHandedBack};
 
 use crate::desk::grants::SeatGrants;
 use crate::desk::{Desk, Seat};
@@ -168,7 +168,7 @@ pub(crate) fn gather(
     ensures room { vec_len result < vec_capacity result }
     ensures kept { KeepsEnds results.old.ends results.new.ends }
     ensures placed { All (AllPlaced results.new.ends) work.items }
-    ensures given { AllGiven results.old.ends results.new.ends work.items }
+    ensures given { OnlyHandedBack results.old.ends results.new.ends work.items }
     ensures seats { All (λ s. s.desk ≡ desk.now.id) result.items }
     ensures all { vec_len result ≡ vec_len work }
 {

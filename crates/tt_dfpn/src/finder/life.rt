@@ -32,9 +32,9 @@ fn bit(k: usize) -> u64 {
     1u64 << (k % 64)
 }
 
-/// The place of a number.
+/// A number below 64, modulo that.
 #[inline(always)]
-fn place(k: usize) -> usize
+fn below_64(k: usize) -> usize
     ensures { result < 64 }
 {
     k % 64
@@ -53,7 +53,7 @@ impl BorderChains {
     #[inline]
     fn number(&mut self, name: u16) -> Option<usize> {
         for k in 0..self.count.min(MOST) {
-            if self.names[place(k)] == name {
+            if self.names[below_64(k)] == name {
                 return Some(k);
             }
         }
@@ -61,7 +61,7 @@ impl BorderChains {
             return None;
         }
         let k = self.count;
-        self.names[place(k)] = name;
+        self.names[below_64(k)] = name;
         self.count = k + 1;
         Some(k)
     }
@@ -164,8 +164,8 @@ impl Region {
             }
             let (beside, vital) = self.area(board, *p, &mut seen, chains)?;
             if beside != 0 && areas.count < MOST {
-                areas.beside[place(areas.count)] = beside;
-                areas.vital[place(areas.count)] = vital;
+                areas.beside[below_64(areas.count)] = beside;
+                areas.vital[below_64(areas.count)] = vital;
                 areas.count += 1;
             }
         }
@@ -194,7 +194,7 @@ impl Region {
         };
         let mut safe = 0u64;
         for k in 0..chains.count.min(MOST) {
-            if self.reaches_out(board, chains.names[place(k)]) {
+            if self.reaches_out(board, chains.names[below_64(k)]) {
                 safe |= bit(k);
             }
         }
@@ -212,7 +212,7 @@ impl Region {
 fn eyes(areas: &Areas, whole: u64, k: usize) -> usize {
     let mut count = 0usize;
     for r in 0..areas.count.min(MOST) {
-        if whole & bit(r) != 0 && areas.vital[place(r)] & bit(k) != 0 {
+        if whole & bit(r) != 0 && areas.vital[below_64(r)] & bit(k) != 0 {
             count = count.saturating_add(1);
         }
     }
@@ -235,7 +235,7 @@ fn stay(chains: &BorderChains, areas: &Areas, safe: u64, targets: u64) -> bool {
             return false;
         }
         for r in 0..areas.count.min(MOST) {
-            if areas.beside[place(r)] & !alive != 0 {
+            if areas.beside[below_64(r)] & !alive != 0 {
                 whole &= !bit(r);
             }
         }

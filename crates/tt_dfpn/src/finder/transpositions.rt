@@ -1,4 +1,4 @@
-//! The transposition table: what is known of positions, by a key of 64 bits, two places to a row.
+//! The transposition table: what is known of positions, by a key of 64 bits, two slots to a row.
 
 use std::alloc::Global;
 use tt_game::Turn;
@@ -55,7 +55,7 @@ pub(crate) fn turn_of(number: u16) -> Turn {
     }
 }
 
-/// Two places to a row, for the keys that end alike.
+/// Two slots to a row, for the keys that end alike.
 type Row = [Entry; 2];
 
 /// A row where nothing is known.
@@ -69,7 +69,7 @@ fn no_row() -> Row {
     [nothing, nothing]
 }
 
-/// How many places of a row are taken.
+/// How many slots of a row are taken.
 #[inline(always)]
 fn taken_of(row: &Row) -> usize {
     usize::from(row[0].key != 0) + usize::from(row[1].key != 0)
@@ -115,7 +115,7 @@ impl TranspositionTable {
         key as usize & self.rows.len().wrapping_sub(1)
     }
 
-    /// Makes the table twice as large, where a quarter of its places is taken and it may grow. Without memory for that it stays
+    /// Makes the table twice as large, where a quarter of its slots is taken and it may grow. Without memory for that it stays
     /// as it is.
     pub(crate) fn grow(&mut self, alloc: Global) {
         let rows = self.rows.len();
@@ -158,11 +158,11 @@ impl TranspositionTable {
         None
     }
 
-    /// Keeps an entry: in the place of what was known under its key, else in the place that is worth least.
+    /// Keeps an entry: in the slot of what was known under its key, else in the slot that is worth least.
     #[inline]
     pub(crate) fn keep(&mut self, entry: Entry) {
-        let place = self.row_of(entry.key);
-        let Some(row) = self.rows.get_mut(place) else {
+        let row = self.row_of(entry.key);
+        let Some(row) = self.rows.get_mut(row) else {
             return;
         };
         let before = taken_of(row);

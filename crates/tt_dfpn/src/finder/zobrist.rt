@@ -40,8 +40,8 @@ pub(crate) fn mover_key(mover: Colour) -> u64 {
     }
 }
 
-/// The hash of the stones of a colour, whose keys stand at the place.
-fn hash_of_stones(keys: &StoneKeys, stones: &Bits, place: bool) -> u64 {
+/// The hash of the stones of a colour, whose keys are the first or the second of each point.
+fn hash_of_stones(keys: &StoneKeys, stones: &Bits, second: bool) -> u64 {
     let words = stones.words();
     let mut hash = 0;
     for k in 0..6u16 {
@@ -53,7 +53,7 @@ fn hash_of_stones(keys: &StoneKeys, stones: &Bits, place: bool) -> u64 {
             let p = k
                 .wrapping_mul(64)
                 .wrapping_add(rest.trailing_zeros() as u16);
-            hash ^= keys[index(p)][usize::from(place)];
+            hash ^= keys[index(p)][usize::from(second)];
             rest &= rest.wrapping_sub(1);
         }
     }

@@ -2,7 +2,7 @@
 use Rattle.std.specs.Prelude.{◌≡◌, true}
 use Rattle.std.proofs.Common.{rules, arith, ap, subst}
 use Rattle.std.specs.Cmp.{IsEquivalence}
-use Rattle.tt_sgf.specs.laws.SizeLaws.{sizes_same}
+use Rattle.tt_sgf.specs.laws.SizeLaws.{size_by_sides}
 use Rattle.tt_game.specs.declared.keys.Key.{Key}
 use Rattle.tt_game.specs.declared.frame.Frame.{Frame}
 use Rattle.tt_game.specs.Game.{State}
@@ -32,7 +32,7 @@ same_key_same a b e =
     let white : a.white ≡ b.white = search (rules, e) in
     let to_move : a.to_move ≡ b.to_move = search (rules, e) in
     let passes : a.passes ≡ b.passes = search (rules, e) in
-    same_keys a b (sizes_same a.size b.size columns rows) region targets defender black white to_move passes
+    same_keys a b (size_by_sides a.size b.size columns rows) region targets defender black white to_move passes
 
 -- and back
 pub same_key_is : (a b : Key) → a ≡ b → same_key a b ≡ true

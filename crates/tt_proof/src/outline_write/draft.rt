@@ -219,7 +219,7 @@ fn walk_reply(
     ensures same { OnOk result (line.new ≡ line.old) }
 {
     let mut written = Written {
-        basis: Basis::of_plays(alloc, line)?,
+        basis: Basis::of_repeats(alloc, line)?,
         depth: 0,
     };
     for (turn, child) in list {

@@ -150,8 +150,8 @@ footprints::picked-returns-clause-exact t c =
 
 -- ---- the children that are replied to
 
-pub footprints::replied-of_plays_beside-requires : goal.footprints::replied-of_plays_beside-requires
-footprints::replied-of_plays_beside-requires t c = c.played.ensures c.args.line.now.frame c.args.line.now.state c.requires.legal
+pub footprints::replied-of_repeats_beside-requires : goal.footprints::replied-of_repeats_beside-requires
+footprints::replied-of_repeats_beside-requires t c = c.played.ensures c.args.line.now.frame c.args.line.now.state c.requires.legal
 
 pub footprints::replied-footprint_behind-requires : goal.footprints::replied-footprint_behind-requires
 footprints::replied-footprint_behind-requires t c =

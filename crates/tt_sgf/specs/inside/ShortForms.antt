@@ -10,6 +10,6 @@ kept_bytes (Short count short) = take count short
 kept_bytes (Long long) = long.value.items
 
 -- no more than the array has
-abbrev pub AreBytesWithin : Form → Type 0
-AreBytesWithin (Short count short) = count ≤ SHORT
-AreBytesWithin (Long long) = Unit {0}
+abbrev pub IsWithinArray : Form → Type 0
+IsWithinArray (Short count short) = count ≤ SHORT
+IsWithinArray (Long long) = Unit {0}

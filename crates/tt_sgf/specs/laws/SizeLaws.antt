@@ -17,9 +17,9 @@ made_same c d r t h k l m e f =
     (λ x. subst (λ y. (z : IsSide y) → size_with c r h k ≡ size_with c y x z) f (λ z. λ i. size_with c r (same_side c h x i) (same_side r k z i)) m) l
 
 -- a size is known by its columns and rows
-pub sizes_same : (a b : Size) → a.columns ≡ b.columns → a.rows ≡ b.rows → a ≡ b
+pub size_by_sides : (a b : Size) → a.columns ≡ b.columns → a.rows ≡ b.rows → a ≡ b
 unfolding size_with
-sizes_same a b e f = made_same a.columns b.columns a.rows b.rows a.columns_in a.rows_in b.columns_in b.rows_in e f
+size_by_sides a b e f = made_same a.columns b.columns a.rows b.rows a.columns_in a.rows_in b.columns_in b.rows_in e f
 
 -- a board has no more points than the largest
 pub few_points : (size : Size) → point_count size ≤ MOST_POINTS
@@ -32,7 +32,7 @@ sized_is s = elim (side s.columns) as (λ x. sized_by s.columns s.rows x (side s
   | inl out ↦ absurd (out s.columns_in)
   | inr h ↦ elim (side s.rows) as (λ y. sized_by s.columns s.rows (inr h) y ≡ Some s) [
     | inl out ↦ absurd (out s.rows_in)
-    | inr k ↦ λ i. Some (sizes_same (size_with s.columns s.rows h k) s refl refl i)
+    | inr k ↦ λ i. Some (size_by_sides (size_with s.columns s.rows h k) s refl refl i)
   ]
 ]
 

@@ -24,13 +24,13 @@ pub struct SmallBytes {
 
 impl Model for SmallBytes {
     ghost use Rattle.std.specs.Prelude.{ℕ, List};
-    ghost use Rattle.tt_sgf.specs.inside.ShortForms.{kept_bytes, AreBytesWithin};
+    ghost use Rattle.tt_sgf.specs.inside.ShortForms.{kept_bytes, IsWithinArray};
 
     ghost Value = { List ℕ };
 
     ghost view = { λ b. kept_bytes b.form };
 
-    ghost invariant = { λ b. AreBytesWithin b.form };
+    ghost invariant = { λ b. IsWithinArray b.form };
 }
 
 /// So many bytes in an array.

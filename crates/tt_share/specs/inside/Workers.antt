@@ -107,6 +107,6 @@ abbrev pub AreGiven : List (Option JobResult) → List (Option JobResult) → Li
 AreGiven before after searched = (job : ℕ) (end : JobResult) → HasEnd after job end → HasEnd before job end ⊎ IsGiven after searched job end
 
 -- each result stood there before, or is one that a worker handed back
-abbrev pub AllGiven : List (Option JobResult) → List (Option JobResult) → List HandedBack → Type 0
-AllGiven before after work = (job : ℕ) (end : JobResult) → HasEnd after job end → HasEnd before job end
+abbrev pub OnlyHandedBack : List (Option JobResult) → List (Option JobResult) → List HandedBack → Type 0
+OnlyHandedBack before after work = (job : ℕ) (end : JobResult) → HasEnd after job end → HasEnd before job end
     ⊎ ((i : ℕ) × (back : HandedBack) × (slice_get work i ≡ Some back) × IsGiven after back.searched.items job end)

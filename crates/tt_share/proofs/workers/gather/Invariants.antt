@@ -3,7 +3,7 @@ use Rattle.tt_share.specs.declared.workers.HandedBack.{HandedBack}
 use Rattle.tt_share.specs.Seats.{SeatView}
 use Rattle.tt_share.specs.inside.Results.{KeepsEnds}
 use Rattle.tt_share.specs.Answers.{spent_in_all}
-use Rattle.tt_share.specs.inside.Workers.{IsWork, times, spent_by_all, held, AllApart, AllPlaced, AllGiven}
+use Rattle.tt_share.specs.inside.Workers.{IsWork, times, spent_by_all, held, AllApart, AllPlaced, OnlyHandedBack}
 use Rattle.tt_share.proofs.workers.gather.Given as goal
 
 abbrev pub invariant-loop-back : goal.invariant-loop-back
@@ -19,7 +19,7 @@ invariant-loop-back l = record {
   backs : (weight : SeatView → ℕ) → sum_by weight l.seats.items + sum_by (λ (b : HandedBack). weight b.seat) l.work.items ≡ sum_by (λ (b : HandedBack). weight b.seat) l.fn.work.items;
   len : length l.results.ends ≡ length l.initial.results.ends;
   kept : KeepsEnds l.initial.results.ends l.results.ends;
-  given : AllGiven l.initial.results.ends l.results.ends l.fn.work.items;
+  given : OnlyHandedBack l.initial.results.ends l.results.ends l.fn.work.items;
   placed : (put : List HandedBack) × (l.fn.work.items ≡ l.work.items ++ put) × All (AllPlaced l.results.ends) put;
 }
 
