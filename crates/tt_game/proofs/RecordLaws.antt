@@ -37,7 +37,7 @@ use Rattle.tt_game.specs.Nodes.{AB, AE, AW, B, GM, PL, SZ, TR, W, apart, colour_
 use Rattle.tt_board.specs.Stones.{any_empty}
 use Rattle.tt_game.specs.Problems.{common_colour, posed, problem_at, problem_of, problem_on, problem_with, region_of, run_to_mark}
 use Rattle.tt_game.specs.Records.{all_alive, and_then, as_turn, begin_at, begin_line, begin_node, begun, go_on, move_of, record_at, record_of, run_nodes, set_up_by, step_node}
-use Rattle.tt_game.specs.Records.{turn_by, turn_named, turn_of}
+use Rattle.tt_game.specs.Records.{turn_by, turn_named, replay_with}
 use Rattle.tt_game.specs.RecordLaws.{UnmarkedAreNoProblems}
 use Rattle.tt_game.specs.RecordLaws.{ArePlays, IsByTheRules, IsOfLeastNode, IsPlay, LeastNodesRefuse, ProblemsAreGames, ProblemsAreRecords, RecordsAreGames, SetupsBeginHistories, SuperkoDecides}
 use Rattle.tt_game.specs.Turns.{IsOnBoard}
@@ -115,7 +115,7 @@ abbrev after_turn : Replay → Turn → Replay
 after_turn r t = record { game = turned r.game t; turns = r.turns + 1 }
 
 -- a turn that is taken is a lawful one, and the 2,000th at most
-turn_made : (r : Replay) (t : Turn) (q : Replay) → turn_of r t ≡ Ok q → (refusal_of r.game t ≡ None) × (r.turns < 2000) × (after_turn r t ≡ q)
+turn_made : (r : Replay) (t : Turn) (q : Replay) → replay_with r t ≡ Ok q → (refusal_of r.game t ≡ None) × (r.turns < 2000) × (after_turn r t ≡ q)
 turn_made r t q e = elim (choice (r.game.passes == 2) _ _ _ e) [
   | inl over ↦ let bad : Err _ ≡ Ok q = over.1 in cc
   | inr on ↦ elim (choice (nat_le 2000 r.turns) _ _ _ on.1) [
@@ -146,7 +146,7 @@ goes_on r (Play p) on taken few =
     }
 
 -- so does a turn that was taken
-one_turn : (r : Replay) (t : Turn) (q : Replay) → IsOnBoard r.game.size t → turn_of r t ≡ Ok q → GoesOn r q
+one_turn : (r : Replay) (t : Turn) (q : Replay) → IsOnBoard r.game.size t → replay_with r t ≡ Ok q → GoesOn r q
 one_turn r t q on e = let made = turn_made r t q e in subst (λ (x : Replay). GoesOn r x) made.2 (goes_on r t on made.0 made.1)
 
 -- and a turn of a colour, with the pass before it where that is needed
@@ -154,9 +154,9 @@ turns_by : (r : Replay) (k : Colour) (t : Turn) (q : Replay) → IsOnBoard r.gam
 turns_by r k t q on e = elim (choice (same_colour r.game.to_move k) _ _ _ e) [
   | inl its ↦ one_turn r t q on its.1
   | inr others ↦
-      let passed = step_made (turn_of r Pass) (λ x. turn_of x t) q others.1 in
+      let passed = step_made (replay_with r Pass) (λ x. replay_with x t) q others.1 in
       let first = turn_made r Pass passed.0 passed.1 in
-      let second : turn_of (after_turn r Pass) t ≡ Ok q = subst (λ (x : Replay). turn_of x t ≡ Ok q) (sym first.2) passed.2 in
+      let second : replay_with (after_turn r Pass) t ≡ Ok q = subst (λ (x : Replay). replay_with x t ≡ Ok q) (sym first.2) passed.2 in
       let on_it = goes_on r Pass tt first.0 first.1 in
       let behind = one_turn (after_turn r Pass) t q on second in
       record { lawful = λ h. behind.lawful (on_it.lawful h); grows = behind.grows }

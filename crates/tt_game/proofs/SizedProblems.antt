@@ -23,7 +23,7 @@ use Rattle.tt_game.specs.GameLaws.{IsState, ProblemsAreStates}
 use Rattle.tt_game.specs.Line.{Standing}
 use Rattle.tt_game.specs.Nodes.{AB, AE, AW, B, GM, PL, SZ, TR, W, apart, colour_named, has, is_go, is_setup, moves_in, set_named, size_named, values_of}
 use Rattle.tt_game.specs.Problems.{common_colour, posed, problem_at, problem_of, problem_on, problem_with, region_of, run_to_mark}
-use Rattle.tt_game.specs.Records.{all_alive, as_turn, begin_at, begin_line, begin_node, begun, go_on, move_of, set_up_by, step_node, turn_by, turn_named, turn_of}
+use Rattle.tt_game.specs.Records.{all_alive, as_turn, begin_at, begin_line, begin_node, begun, go_on, move_of, set_up_by, step_node, turn_by, turn_named, replay_with}
 use Rattle.tt_game.proofs.OpenProblems.{either, step_made}
 
 -- each colouring of the game has an entry for each point
@@ -48,7 +48,7 @@ sized_on r t None q e h =
     subst (λ (x : Replay). IsSized x.game) same (sized_turned r.game t h)
 sized_on r t (Some why) q e h = let bad : Err _ ≡ Ok q = e in cc
 
-sized_turn : (r : Replay) (t : Turn) (q : Replay) → turn_of r t ≡ Ok q → IsSized r.game → IsSized q.game
+sized_turn : (r : Replay) (t : Turn) (q : Replay) → replay_with r t ≡ Ok q → IsSized r.game → IsSized q.game
 sized_turn r t q e h = elim (either (r.game.passes == 2) _ _ _ e) [
   | inl over ↦ let bad : Err _ ≡ Ok q = over in cc
   | inr on ↦ elim (either (nat_le 2000 r.turns) _ _ _ on) [
@@ -61,7 +61,7 @@ sized_by : (r : Replay) (k : Colour) (t : Turn) (q : Replay) → turn_by r k t �
 sized_by r k t q e h = elim (either (same_colour r.game.to_move k) _ _ _ e) [
   | inl its ↦ sized_turn r t q its h
   | inr others ↦
-      let passed = step_made (turn_of r Pass) (λ x. turn_of x t) q others in
+      let passed = step_made (replay_with r Pass) (λ x. replay_with x t) q others in
       sized_turn passed.0 t q passed.2 (sized_turn r Pass passed.0 passed.1 h)
 ]
 

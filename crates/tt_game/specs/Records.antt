@@ -47,12 +47,12 @@ go_on r t None = Ok (record { game = turned r.game t; turns = r.turns + 1 })
 go_on r t (Some why) = Err (fault_of why)
 
 -- a turn of the side to move: after the end no turn, no more than a record has, and a legal one
-abbrev pub turn_of : Replay → Turn → Result Replay GameFault
-turn_of r t = cond (r.game.passes == 2) (Err AfterEnd) (cond (nat_le MOST_TURNS r.turns) (Err TooManyTurns) (go_on r t (refusal_of r.game t)))
+abbrev pub replay_with : Replay → Turn → Result Replay GameFault
+replay_with r t = cond (r.game.passes == 2) (Err AfterEnd) (cond (nat_le MOST_TURNS r.turns) (Err TooManyTurns) (go_on r t (refusal_of r.game t)))
 
 -- a turn of a colour; where the other is to move it passes first
 abbrev pub turn_by : Replay → Colour → Turn → Result Replay GameFault
-turn_by r k t = cond (same_colour r.game.to_move k) (turn_of r t) (and_then (turn_of r Pass) (λ q. turn_of q t))
+turn_by r k t = cond (same_colour r.game.to_move k) (replay_with r t) (and_then (replay_with r Pass) (λ q. replay_with q t))
 
 -- a point as a play on it, a pass as a pass
 abbrev pub as_turn : PointOrPass → Turn

@@ -5,13 +5,13 @@ ghost use Rattle.tt_game.specs.Keys.{KeysTell};
 ghost use Rattle.tt_game.specs.RecordLaws.{RecordsAreGames, ProblemsAreGames, SetupsBeginHistories, LeastNodesRefuse, ProblemsAreRecords, UnmarkedAreNoProblems, SuperkoDecides};
 
 /// Not both sides force a win at one state.
-pub fn l2()
+pub fn one_side_forces()
     ensures { OneSideForces }
 {}
 
 /// At a state whose colourings fit the board, with two passes at most, one side forces a win, within twice as many turns as there
 /// are colourings of the board.
-pub fn l4()
+pub fn some_side_forces()
     ensures { SomeSideForces }
 {}
 
@@ -41,7 +41,7 @@ pub fn problems()
     ensures { ProblemsOpen }
 {}
 
-/// The state of a problem is of those that `l4` and `values` speak of: its colourings fit the board, and the passes are
+/// The state of a problem is of those that `some_side_forces` and `values` speak of: its colourings fit the board, and the passes are
 /// two at most.
 pub fn problems_are_states()
     ensures { ProblemsAreStates }

@@ -463,7 +463,7 @@ impl Line {
             frame: self.frame.copy(),
             root: Arc::try_clone(&self.root)?,
             history,
-            stack: self.stack.again(alloc)?,
+            stack: self.stack.from_present(alloc)?,
             to_move: self.to_move,
             pushes: Vec::new(alloc),
         })

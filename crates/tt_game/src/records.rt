@@ -6,7 +6,7 @@ ghost use Rattle.tt_sgf.specs.Entries.{set_of};
 ghost use Rattle.tt_board.specs.Play.{placed};
 ghost use Rattle.tt_game.specs.Turns.{IsOnBoard};
 ghost use Rattle.tt_game.specs.Nodes.{values_of, colour_named, AB, AW, AE, PL, B, W};
-ghost use Rattle.tt_game.specs.Records.{Returns, Becomes, fault_of, as_turn, turn_of, turn_by, turn_named, move_of, begun};
+ghost use Rattle.tt_game.specs.Records.{Returns, Becomes, fault_of, as_turn, replay_with, turn_by, turn_named, move_of, begun};
 ghost use Rattle.tt_game.specs.Records.{set_up_by, step_node, begin_at, begin_node, begin_line, run_nodes, record_at, record_of};
 
 use crate::faults::{GameFault, Refused, Why};
@@ -66,7 +66,7 @@ impl Replay {
     /// A turn of the side to move.
     fn turn(&mut self, t: Turn) -> Result<(), GameFault>
         requires { IsOnBoard self.old.game.size t }
-        ensures { Becomes result self.new (turn_of self.old t) }
+        ensures { Becomes result self.new (replay_with self.old t) }
     {
         if self.game.passes() == 2 {
             return Err(GameFault::AfterEnd);

@@ -20,7 +20,7 @@ use Rattle.tt_proof.specs.KeptFootprints.{IsFootprint, frame_board}
 use Rattle.tt_proof.specs.Wins.{Wins, WinsBehind}
 use Rattle.tt_proof.specs.inside.Collecting.{IsPassedUp, IsPlayed}
 use Rattle.tt_proof.specs.inside.Replaying.{HasEntry}
-use Rattle.tt_proof.specs.inside.OutlineReplaying.{Meets, HasPosition, NeedsRepeats, IsPickedOn, IsPassedOn, IsJoined, HasBranch}
+use Rattle.tt_proof.specs.inside.OutlineReplaying.{Meets, HasPosition, NeedsRepeats, IsBeforePick, IsBeforeReply, IsJoined, HasBranch}
 use Rattle.tt_proof.specs.inside.OutlineReplaying.{HasTree, IsFound, IsFoundBehind, IsFoundOf, WinsAsKept, WinAsKept, IsBoth}
 use Rattle.tt_proof.proofs.FitsLemmas.{Carried, splits_none, same_made, same_winner, legal_now, legal_before}
 use Rattle.tt_proof.proofs.WinsLemmas.{has_behind}
@@ -110,7 +110,7 @@ makes_played f s (Play p) c m = ap (frame_board f) (sym m)
 -- ---- a pick
 
 pub found_pick : (f : Frame) (s : State) (t : Turn) (u : Strategy) (x y : Basis) → IsLegal f s t → IsFound s.to_move f (after f s t) u (Won x)
-    → HasPosition s y → IsPickedOn t (frame_board f (after f s t).present) x y → IsFound s.to_move f s (pick t u) (Won y)
+    → HasPosition s y → IsBeforePick t (frame_board f (after f s t).present) x y → IsFound s.to_move f s (pick t u) (Won y)
 found_pick f s t u x y l h at more = (here, there)
   where
     here : Meets f y s
@@ -143,7 +143,7 @@ found_pick f s t u x y l h at more = (here, there)
 -- ---- a branch
 
 pub found_branch : (side : Side) (f : Frame) (s : State) (t : Turn) (u : Strategy) (x y : Basis) → IsLegal f s t → IsFound side f (after f s t) u (Won x)
-    → HasPosition s y → IsPassedOn t (frame_board f (after f s t).present) x y → IsFoundBehind side f s t u (Won y)
+    → HasPosition s y → IsBeforeReply t (frame_board f (after f s t).present) x y → IsFoundBehind side f s t u (Won y)
 found_branch side f s t u x y l h at more = (here, there)
   where
     back : (c : Colouring) → Contains y.avoids (frame_board f c) → Contains x.avoids (frame_board f c)

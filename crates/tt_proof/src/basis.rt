@@ -1,7 +1,7 @@
 //! What a tree rests on: it wins wherever that is met.
 
 ghost use Rattle.std.specs.Prelude.{◌≡◌, [], IfOk, OnOk, IsTrue};
-ghost use Rattle.tt_proof.specs.inside.OutlineReplaying.{Meets, HasPosition, NeedsRepeats, IsPickedOn, IsPassedOn, IsJoined};
+ghost use Rattle.tt_proof.specs.inside.OutlineReplaying.{Meets, HasPosition, NeedsRepeats, IsBeforePick, IsBeforeReply, IsJoined};
 
 use crate::footprints::{Footprint, put_played, take_made};
 use crate::shared_boards::SharedBoards;
@@ -64,7 +64,7 @@ impl Basis {
         board: &Board,
     ) -> Result<Basis, NoMemory>
         ensures stands { IfOk result (λ x. HasPosition line.now.state x) }
-        ensures picked { IfOk result (λ x. IsPickedOn turn.now board.now self x) }
+        ensures picked { IfOk result (λ x. IsBeforePick turn.now board.now self x) }
     {
         let Basis {
             board: _,
@@ -87,7 +87,7 @@ impl Basis {
     /// What a tree that rests on this rests on in front of the turn of the other side, which leads to the board.
     pub(crate) fn passed(self, line: &Line, turn: &Turn, board: &Board) -> Basis
         ensures stands { HasPosition line.now.state result }
-        ensures passed { IsPassedOn turn.now board.now self result }
+        ensures passed { IsBeforeReply turn.now board.now self result }
     {
         let Basis {
             board: _,

@@ -4,12 +4,12 @@ ghost use Rattle.tt_proof.specs.OutlineLaws.{OneSharedCertificate, CertificatesA
 ghost use Rattle.tt_proof.specs.StrategyLaws.{WinningForces, FittingWins, FootprintsCarried, ChildNeeds, OneReading, OneCertificate, TreesAreStrategies};
 
 /// A winning tree of depth n makes its side force a win within n turns.
-pub fn l1()
+pub fn winning_forces()
     ensures { WinningForces }
 {}
 
 /// A tree that wins from one state wins from each state that it fits, whatever the path there.
-pub fn l3()
+pub fn fitting_trees_win()
     ensures { FittingWins }
 {}
 

@@ -13,7 +13,7 @@ use Rattle.tt_game.specs.Keys.{key_of}
 use Rattle.tt_game.specs.Line.{Standing}
 use Rattle.tt_game.specs.BloomFilter.{MayHold}
 use Rattle.tt_proof.specs.Proven.{Proven}
-use Rattle.tt_search.specs.Stores.{AnswersFor, IsNewest}
+use Rattle.tt_search.specs.Stores.{HasKeyAndSide, IsNewest}
 use Rattle.tt_search.specs.KeyIndex.{index_hash, index_hashes}
 use Rattle.tt_search.specs.declared.store.key_index.TheConstants.{KEY_FILTER_BITS}
 use Rattle.tt_search.specs.inside.Buckets.{last_slot, bucket_of_hash, in_bucket, MayHoldHashes, AreBuckets, NoneFrom, NoHashFrom}
@@ -164,10 +164,10 @@ module _ (line : Standing) (side : Side) where
   none_newest (p ∷ ps) h =
       reversed ps p None (newest_over (reverse ps) (p ∷ []) None (none_newest ps (λ i q low is. h (suc i) q (omega arith) is)) (inr (h 0 p (omega arith) refl, refl)))
 
-  pub found_newest : (ps : List Proven) (n : ℕ) (p : Proven) → slice_get ps n ≡ Some p → AnswersFor line side p → NoneFrom line side ps (suc n) → IsNewest line side (reverse ps) (Some p)
+  pub found_newest : (ps : List Proven) (n : ℕ) (p : Proven) → slice_get ps n ≡ Some p → HasKeyAndSide line side p → NoneFrom line side ps (suc n) → IsNewest line side (reverse ps) (Some p)
   found_newest [] n p is a h = absurd (grind (arith, is))
   found_newest (q ∷ ps) zero p is a h = let same : q ≡ p = cc is in
-      reversed ps q (Some p) (newest_over (reverse ps) (q ∷ []) (Some p) (none_newest ps (none_behind ps q 0 h)) (inl (subst (AnswersFor line side) (sym same) a, ap Some (sym same))))
+      reversed ps q (Some p) (newest_over (reverse ps) (q ∷ []) (Some p) (none_newest ps (none_behind ps q 0 h)) (inl (subst (HasKeyAndSide line side) (sym same) a, ap Some (sym same))))
   found_newest (q ∷ ps) (suc n) p is a h = reversed ps q (Some p) (newest_before (reverse ps) (q ∷ []) p (found_newest ps n p is a (none_behind ps q (suc n) h)))
 
   -- ---- the walk down a bucket
@@ -178,12 +178,12 @@ module _ (line : Standing) (side : Side) where
       ∙ get_or_from_slice_get (index_hashes ps) i (index_hash (key_of p.frame p.state)) 0
       (slice_get-map (λ (q : Proven). index_hash (key_of q.frame q.state)) ps i ∙ ap (option_map (λ (q : Proven). index_hash (key_of q.frame q.state))) is)
 
-  answer_hash : (p : Proven) → AnswersFor line side p → index_hash (key_of p.frame p.state) ≡ index_hash (key_of line.frame line.state)
+  answer_hash : (p : Proven) → HasKeyAndSide line side p → index_hash (key_of p.frame p.state) ≡ index_hash (key_of line.frame line.state)
   answer_hash p a = ap index_hash a.same_key
 
   -- what answers has the hash of the question
   pub answers_hash : (hashes : List ℕ) (ps : List Proven) (i hash : ℕ) (p : Proven) → hashes ≡ index_hashes ps → hash ≡ index_hash (key_of line.frame line.state) → slice_get ps i ≡ Some p
-      → AnswersFor line side p → get_or hashes i 0 ≡ hash
+      → HasKeyAndSide line side p → get_or hashes i 0 ≡ hash
   answers_hash hashes ps i hash p all m is a = hash_at hashes ps i p all is ∙ answer_hash p a ∙ sym m
 
   -- no proof answers from a slot on from which no slot has the question's hash
@@ -202,17 +202,17 @@ module _ (line : Standing) (side : Side) where
   pub none_past_next : (heads before hashes : List ℕ) (ps : List Proven) (hash slot next : ℕ) → hashes ≡ index_hashes ps → hash ≡ index_hash (key_of line.frame line.state)
       → AreBuckets heads before hashes (length hashes) → slot < length hashes → bucket_of_hash (get_or hashes slot 0) (length heads) ≡ bucket_of_hash hash (length heads)
       → next ≡ get_or before slot 0
-      → NoneFrom line side ps (slot + 1) → ((p : Proven) → slice_get ps slot ≡ Some p → AnswersFor line side p → ⊥) → NoneFrom line side ps next
+      → NoneFrom line side ps (slot + 1) → ((p : Proven) → slice_get ps slot ≡ Some p → HasKeyAndSide line side p → ⊥) → NoneFrom line side ps next
   none_past_next heads before hashes ps hash slot next all m linked within same is later here i p low =
-      past_next (λ j. (q : Proven) → slice_get ps j ≡ Some q → AnswersFor line side q → ⊥) heads before hashes hash slot next linked within same is
+      past_next (λ j. (q : Proven) → slice_get ps j ≡ Some q → HasKeyAndSide line side q → ⊥) heads before hashes hash slot next linked within same is
       (λ j other q at a. other (answers_hash hashes ps j hash q all m at a)) here (λ j late q. later j q late) i low p
 
   -- a proof at a slot doesn't answer where the one that was looked at there fails the test
   pub not_found : (ps : List Proven) (slot : ℕ) (b : Bool) (p q : Proven) → slice_get ps slot ≡ Some q → slice_get ps slot ≡ Some p → b ≡ false
-      → (IsTrue b ↔ ((key_of q.frame q.state ≡ key_of line.frame line.state) × (q.side ≡ side))) → AnswersFor line side p → ⊥
+      → (IsTrue b ↔ ((key_of q.frame q.state ≡ key_of line.frame line.state) × (q.side ≡ side))) → HasKeyAndSide line side p → ⊥
   not_found ps slot b p q there at e h a =
       let same : p ≡ q = cc (sym at ∙ there) in
-      let answers : AnswersFor line side q = subst (AnswersFor line side) same a in
+      let answers : HasKeyAndSide line side q = subst (HasKeyAndSide line side) same a in
       false≢true (sym e ∙ h.1 (answers.same_key, answers.for_side))
 
 -- a slot that a head or another slot leads to is of the bucket

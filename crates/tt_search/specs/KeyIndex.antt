@@ -6,7 +6,7 @@ use Rattle.tt_game.specs.Keys.{key_of}
 use Rattle.tt_game.specs.KeyHash.{hash_of_key}
 use Rattle.tt_game.specs.Line.{Standing}
 use Rattle.tt_proof.specs.Proven.{Proven}
-use Rattle.tt_search.specs.Stores.{AnswersFor, IsNewest}
+use Rattle.tt_search.specs.Stores.{HasKeyAndSide, IsNewest}
 
 -- the hash of a key. Other keys may have it too: nothing is found by it alone
 abbrev pub index_hash : Key → ℕ
@@ -30,4 +30,4 @@ proof_at ps (Some slot) = slice_get ps slot
 pub record IsIndexOfNewest (line : Standing) (side : Side) (ps : List Proven) (slot : Option ℕ) : Type 0 where
   pub newest : IsNewest line side (reverse ps) (proof_at ps slot)
   pub within : IfSome slot (λ n. n < length ps)
-  pub found : IfSome (proof_at ps slot) (AnswersFor line side)
+  pub found : IfSome (proof_at ps slot) (HasKeyAndSide line side)

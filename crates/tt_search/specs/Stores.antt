@@ -6,7 +6,7 @@ use Rattle.tt_game.specs.Keys.{key_of}
 use Rattle.tt_proof.specs.Proven.{Proven}
 
 -- the proof has the line's key and is for the side
-pub record AnswersFor (line : Standing) (side : Side) (p : Proven) : Type 0 where
+pub record HasKeyAndSide (line : Standing) (side : Side) (p : Proven) : Type 0 where
   pub same_key : key_of p.frame p.state ≡ key_of line.frame line.state
   pub for_side : p.side ≡ side
 
@@ -15,7 +15,7 @@ pub record AnswersFor (line : Standing) (side : Side) (p : Proven) : Type 0 wher
 abbrev pub IsNewest : Standing → Side → List Proven → Option Proven → Type 0
 IsNewest line side [] o = o ≡ None
 IsNewest line side (p ∷ ps) o =
-    (AnswersFor line side p × (o ≡ Some p)) ⊎ ((AnswersFor line side p → ⊥) × IsNewest line side ps o)
+    (HasKeyAndSide line side p × (o ≡ Some p)) ⊎ ((HasKeyAndSide line side p → ⊥) × IsNewest line side ps o)
 
 -- the proofs that were kept, the newest first, and how many there may be
 pub record Keeping : Type 0 where

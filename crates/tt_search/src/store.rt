@@ -6,7 +6,7 @@ pub(crate) mod private;
 
 ghost use Rattle.std.specs.Prelude.{◌≡◌, ◌≢◌, ℕ, ◌+◌, ◌↔◌, Ok, None, IfOk, IfSome};
 ghost use Rattle.tt_game.specs.declared.frame.Side.TheVariants.{Attacker, Defender};
-ghost use Rattle.tt_search.specs.Stores.{AnswersFor};
+ghost use Rattle.tt_search.specs.Stores.{HasKeyAndSide};
 ghost use Rattle.tt_search.specs.declared.store.Kept.TheVariants.{Stored, Full};
 
 use std::sync::Arc;
@@ -50,15 +50,15 @@ pub trait Store {
 
     /// A proof of the line's key for the side, or none.
     fn find(&mut self, line: &Line, s: Side) -> Result<Option<Arc<Proof>>, NoMemory>
-        ensures found { IfOk result (λ o. IfSome o (λ p. AnswersFor line.now s p.value)) }
+        ensures found { IfOk result (λ o. IfSome o (λ p. HasKeyAndSide line.now s p.value)) }
         ensures may { IfOk result (λ o. IfSome o (λ _. may_answer)) }
         ensures capacity { capacity self.new ≡ capacity self.old }
         ensures kept { kept self.new ≡ kept self.old };
 
     /// What `find` answers for both sides, in one look.
     fn find_both(&mut self, line: &Line) -> Result<BothSides, NoMemory>
-        ensures attacker { IfOk result (λ a. IfSome a.attacker (λ p. AnswersFor line.now Attacker p.value)) }
-        ensures defender { IfOk result (λ a. IfSome a.defender (λ p. AnswersFor line.now Defender p.value)) }
+        ensures attacker { IfOk result (λ a. IfSome a.attacker (λ p. HasKeyAndSide line.now Attacker p.value)) }
+        ensures defender { IfOk result (λ a. IfSome a.defender (λ p. HasKeyAndSide line.now Defender p.value)) }
         ensures may_attacker { IfOk result (λ a. IfSome a.attacker (λ _. may_answer)) }
         ensures may_defender { IfOk result (λ a. IfSome a.defender (λ _. may_answer)) }
         ensures capacity { capacity self.new ≡ capacity self.old }

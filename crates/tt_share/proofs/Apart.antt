@@ -11,7 +11,7 @@ use Rattle.tt_share.specs.declared.jobs.SearchedJob.{SearchedJob}
 use Rattle.tt_share.specs.declared.workers.HandedBack.{HandedBack}
 use Rattle.tt_share.specs.Answers.{spent_in_all}
 use Rattle.tt_share.specs.inside.Jobs.{kept_of}
-use Rattle.tt_share.specs.inside.Results.{Progress, Puts, Notes}
+use Rattle.tt_share.specs.inside.Results.{ResultsSoFar, Puts, Notes}
 use Rattle.tt_share.specs.inside.Workers.{times, spent_on, spent_by_all, held, held_in, AreApart, AddsOverdraw, jobs_of}
 use Rattle.tt_share.proofs.ResultLemmas.{get_set_other}
 
@@ -85,7 +85,7 @@ held_fewer old new f left less is puts job most was =
     omega (arith, e, was, held_put old new f puts job, sum_by_push (λ (g : SearchedJob). cond (nat_eq g.job job) 1 0) less f)
 
 -- and where no job comes twice, what is counted and what is left to count stay the same together
-pub spent_fewer : (old new : Progress) (f : SearchedJob) (left less : List SearchedJob) (all : ℕ) → left ≡ less ++ f ∷ [] → held old.ends f.job + times f.job left ≤ 1 → Notes old new f
+pub spent_fewer : (old new : ResultsSoFar) (f : SearchedJob) (left less : List SearchedJob) (all : ℕ) → left ≡ less ++ f ∷ [] → held old.ends f.job + times f.job left ≤ 1 → Notes old new f
     → spent_in_all old.spent + spent_on left ≡ all → spent_in_all new.spent + spent_on less ≡ all
 spent_fewer old new f left less all is apart notes was =
     let e = ap (times f.job) is in

@@ -6,7 +6,7 @@ use Rattle.tt_share.specs.declared.jobs.JobResult.{JobResult}
 use Rattle.tt_share.specs.declared.jobs.JobResult.TheVariants as result
 use Rattle.tt_share.specs.declared.jobs.SearchedJob.{SearchedJob}
 use Rattle.tt_share.specs.inside.Jobs.{IsForTotal, AsksFor, end_of, kept_of}
-use Rattle.tt_share.specs.inside.Results.{Progress, AskedFor, Puts, Notes}
+use Rattle.tt_share.specs.inside.Results.{ResultsSoFar, AskedFor, Puts, Notes}
 use Rattle.tt_share.proofs.ResultLemmas.{read_after}
 
 -- what is kept as stuck for the total was so
@@ -18,7 +18,7 @@ total_kept true result.Dropped h = h
 total_kept true result.NoMemory h = h
 
 -- a result of a job that had none, with what was asked for it
-pub asked_put : (old new : Progress) (f : SearchedJob) (before after : Asked) → slice_get old.ends f.job ≡ Some None → Puts old.ends new.ends f → Notes old new f → AsksFor before f.spent (end_of f.end) after
+pub asked_put : (old new : ResultsSoFar) (f : SearchedJob) (before after : Asked) → slice_get old.ends f.job ≡ Some None → Puts old.ends new.ends f → Notes old new f → AsksFor before f.spent (end_of f.end) after
     → AskedFor old before new after
 asked_put old new f before after free puts notes asks = record {
   spent = let s = notes.put free in let g = asks.granted in omega (arith, s, g);
@@ -33,11 +33,11 @@ asked_put old new f before after free puts notes asks = record {
 }
 
 -- where nothing is put nothing is asked for
-pub asked_nothing : (p : Progress) (asked : Asked) → AskedFor p asked p asked
+pub asked_nothing : (p : ResultsSoFar) (asked : Asked) → AskedFor p asked p asked
 asked_nothing p asked = record { spent = refl; refused = λ h. inl h; still = λ e. e }
 
 -- what is asked for in two parts
-pub asked_twice : (a b c : Progress) (x y z : Asked) → AskedFor a x b y → AskedFor b y c z → AskedFor a x c z
+pub asked_twice : (a b c : ResultsSoFar) (x y z : Asked) → AskedFor a x b y → AskedFor b y c z → AskedFor a x c z
 asked_twice a b c x y z first second = record {
   spent = let s = first.spent in let t = second.spent in omega (arith, s, t);
   refused = λ h. elim (second.refused h) [

@@ -11,7 +11,7 @@ use native.Mathlib.Decide.{dec_lt}
 use lib.ListN.{get_elem?}
 use Rattle.tt_share.specs.declared.desk.rule.Ghost.{Ghost}
 use Rattle.tt_share.specs.declared.desk.rule.DeskSize.{DeskSize}
-use Rattle.tt_share.specs.Desk.{view_of, no_seat, joined, sum_below, overdraw_count, EachSeat, IsDesk}
+use Rattle.tt_share.specs.Desk.{view_of, no_seat_view, joined, sum_below, overdraw_count, EachSeat, IsDesk}
 use Rattle.tt_share.specs.Seats.{DeskView, SeatView, EachOnce, AllJobsDrawn, EndsOverdraw, Spends}
 use Rattle.tt_share.specs.inside.Gathering.{Gathers}
 use Rattle.tt_share.proofs.DeskLists.{at_within, at_read, sum_set, sum_at, sum_le}
@@ -19,14 +19,14 @@ use Rattle.tt_share.proofs.DeskMoves.{counts_room, each_set, right_true}
 
 -- where one view has every part, what the others add up to is nothing
 alone : (f : Ghost → ℕ) (views : List Ghost) (id : ℕ) (v : Ghost) → get_elem? views id ≡ some v → sum_by (λ u. u.parts) views ≡ v.parts
-    → f no_seat ≡ 0 → EachSeat (λ u. u.parts ≡ 0 → u ≡ no_seat) views
+    → f no_seat_view ≡ 0 → EachSeat (λ u. u.parts ≡ 0 → u ≡ no_seat_view) views
     → sum_by f views ≡ f v
 alone f views id v at all nothing spent =
-    let s = sum_set f views id v no_seat at in
-    let p = sum_set (λ u. u.parts) views id v no_seat at in
-    let rest : List Ghost = set views id no_seat in
+    let s = sum_set f views id v no_seat_view at in
+    let p = sum_set (λ u. u.parts) views id v no_seat_view at in
+    let rest : List Ghost = set views id no_seat_view in
     let none_left : EachSeat (λ u. u.parts ≡ 0) rest = λ i u e. let b = sum_at (λ w. w.parts) rest i u e in omega arith in
-    let spent_too : EachSeat (λ u. u.parts ≡ 0 → u ≡ no_seat) rest = each_set (λ u. u.parts ≡ 0 → u ≡ no_seat) views id no_seat (λ _. refl) spent in
+    let spent_too : EachSeat (λ u. u.parts ≡ 0 → u ≡ no_seat_view) rest = each_set (λ u. u.parts ≡ 0 → u ≡ no_seat_view) views id no_seat_view (λ _. refl) spent in
     let small = sum_le f (λ u. u.parts) rest (λ i u e. let z : f u ≡ 0 = ap f (spent_too i u e (none_left i u e)) ∙ nothing in omega arith) in
     omega arith
 

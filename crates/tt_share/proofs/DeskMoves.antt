@@ -12,8 +12,8 @@ use Rattle.atomic_table.proofs.Lists.{at_set, at_snoc, set_here, set_else, at_lo
 use Rattle.atomic_table.specs.Table.{keeps, Allows, Splits, Joins}
 use Rattle.tt_share.specs.declared.desk.rule.Ghost.{Ghost}
 use Rattle.tt_share.specs.declared.desk.rule.DeskSize.{DeskSize}
-use Rattle.tt_share.specs.Desk.{blank, one_seat, no_seat, fewer, joined, with_draw, with_grant, with_flag, with_sighting, overdraw_count, EachSeat, SomeSeat, Counts, IsMark, IsDesk}
-use Rattle.tt_share.specs.Desk.{DeskHolds, SeatState, IsNext, Draws, Grants, Raises, Looks}
+use Rattle.tt_share.specs.Desk.{blank, one_seat_view, no_seat_view, fewer, joined, with_draw, with_grant, with_flag, with_sighting, overdraw_count, EachSeat, SomeSeat, Counts, IsMark, IsDesk}
+use Rattle.tt_share.specs.Desk.{DeskHolds, SeatState, IsNext, Draws, GivesGrant, Raises, Looks}
 use Rattle.tt_share.specs.Seats.{last_number}
 use Rattle.tt_share.proofs.DeskLists.{at_within, sum_set, sum_at, sum_le, overdraw_below, none_below, below_by_weight, rising_push, rising_short, no_spares}
 
@@ -137,8 +137,8 @@ parts_same : (views : List Ghost) (id : ℕ) (v w : Ghost) → get_elem? views i
 parts_same views id v w at same = let s = sum_set (λ u. u.parts) views id v w at in omega arith
 
 -- where a view of one part takes a view's slot, views with no part still hold nothing
-spent_same : (views : List Ghost) (id : ℕ) (w : Ghost) → w.parts ≡ 1 → EachSeat (λ u. u.parts ≡ 0 → u ≡ no_seat) views → EachSeat (λ u. u.parts ≡ 0 → u ≡ no_seat) (set views id w)
-spent_same views id w one spent = each_set (λ u. u.parts ≡ 0 → u ≡ no_seat) views id w (λ e. absurd (omega arith)) spent
+spent_same : (views : List Ghost) (id : ℕ) (w : Ghost) → w.parts ≡ 1 → EachSeat (λ u. u.parts ≡ 0 → u ≡ no_seat_view) views → EachSeat (λ u. u.parts ≡ 0 → u ≡ no_seat_view) (set views id w)
+spent_same views id w one spent = each_set (λ u. u.parts ≡ 0 → u ≡ no_seat_view) views id w (λ e. absurd (omega arith)) spent
 
 -- where a view changes and keeps its flag and its sighting, what the flag says stays so
 flag_kept : (flag : ℕ) (views : List Ghost) (id : ℕ) (v w : Ghost) → get_elem? views id ≡ some v → w.flag ≡ v.flag → w.sighting ≡ v.sighting → IsMark flag views → IsMark flag (set views id w)
@@ -184,7 +184,7 @@ draws plan slots id me small empty one job s h homes at fits =
 
 -- an ask for a grant keeps the rule, and finds the seat's next number
 pub grants : (plan : DeskSize) (slots id : ℕ) (me : SeatState) → plan.total + plan.seats + 1 < 2 ^ 64 → me.1 ≡ [] → me.0.parts ≡ 1 → last_number me.0.grants < plan.total
-    → Allows (DeskHolds plan) slots id me 2 (λ n. (n + 1) % 2 ^ 64) (λ n after. Grants me n after)
+    → Allows (DeskHolds plan) slots id me 2 (λ n. (n + 1) % 2 ^ 64) (λ n after. GivesGrant me n after)
 grants plan slots id me small empty one left s h homes at fits =
     let v : Ghost = me.0 in
     let here : slice_index s.words 2 ≡ h.2 = ap (λ (l : List ℕ). slice_index l 2) h.3 in
@@ -277,29 +277,29 @@ looks plan slots id me empty one s h homes at fits =
 
 -- one part of a view that has made no step becomes a seat of its own
 desk_cuts : (plan : DeskSize) (drawn flag asked : ℕ) (views : List Ghost) (id parts more : ℕ) → more ≡ parts + 1 → IsDesk plan drawn flag asked views → get_elem? views id ≡ some (blank more)
-    → IsDesk plan drawn flag asked (set views id (blank parts) ++ one_seat ∷ [])
+    → IsDesk plan drawn flag asked (set views id (blank parts) ++ one_seat_view ∷ [])
 desk_cuts plan drawn flag asked views id parts more is_more h at =
     let v : Ghost = blank more in
     let w : Ghost = blank parts in record {
       parts =
           let s = sum_set (λ u. u.parts) views id v w at in
-          let p = sum_by_push (λ (u : Ghost). u.parts) (set views id w) one_seat in
+          let p = sum_by_push (λ (u : Ghost). u.parts) (set views id w) one_seat_view in
           omega (arith, h.parts);
-      spent = each_cut (λ u. u.parts ≡ 0 → u ≡ no_seat) views id w one_seat (λ e. ap blank e) (λ e. ap blank e) h.spent;
-      draws = counts_cut (λ u. u.numbers) plan.jobs drawn views id v w one_seat h.draws at refl refl refl;
+      spent = each_cut (λ u. u.parts ≡ 0 → u ≡ no_seat_view) views id w one_seat_view (λ e. ap blank e) (λ e. ap blank e) h.spent;
+      draws = counts_cut (λ u. u.numbers) plan.jobs drawn views id v w one_seat_view h.draws at refl refl refl;
       marked = record {
         bit = h.marked.bit;
         raised = λ is. let has = some_set (λ u. u.flag ≡ true) views id v w at (λ p. p) (h.marked.raised is) in
-            (has.0, has.1, at_longer (set views id w) (one_seat ∷ []) has.0 has.1 has.2, has.3);
-        known = each_cut (λ u. (u.flag || u.sighting) ≡ true → flag ≡ 1) views id w one_seat (λ p. absurd (true≢false (sym p))) (λ p. absurd (true≢false (sym p))) h.marked.known;
+            (has.0, has.1, at_longer (set views id w) (one_seat_view ∷ []) has.0 has.1 has.2, has.3);
+        known = each_cut (λ u. (u.flag || u.sighting) ≡ true → flag ≡ 1) views id w one_seat_view (λ p. absurd (true≢false (sym p))) (λ p. absurd (true≢false (sym p))) h.marked.known;
       };
-      grants = counts_cut (λ u. u.grants) plan.total asked views id v w one_seat h.grants at refl refl refl;
+      grants = counts_cut (λ u. u.grants) plan.total asked views id v w one_seat_view h.grants at refl refl refl;
     }
 
 -- handing out a seat keeps the rule
-pub cuts : (plan : DeskSize) (id : ℕ) (v : Ghost) → v ≡ blank v.parts → 0 < v.parts → Splits (DeskHolds plan) id v (fewer v) one_seat
+pub cuts : (plan : DeskSize) (id : ℕ) (v : Ghost) → v ≡ blank v.parts → 0 < v.parts → Splits (DeskHolds plan) id v (fewer v) one_seat_view
 cuts plan id v is_blank some_part =
-    subst (λ (u : Ghost). Splits (DeskHolds plan) id u (fewer u) one_seat) (sym is_blank)
+    subst (λ (u : Ghost). Splits (DeskHolds plan) id u (fewer u) one_seat_view) (sym is_blank)
     (λ s h at. (h.0, h.1, h.2, h.3, desk_cuts plan h.0 h.1 h.2 s.views id (v.parts - 1) v.parts (omega arith) h.4 at))
 
 -- what follows from each of two follows where one of them is true
@@ -317,21 +317,21 @@ right_true false b e = e
 
 -- two views that are joined leave a desk a desk
 desk_joins : (plan : DeskSize) (drawn flag asked : ℕ) (views : List Ghost) (id : ℕ) (v : Ghost) (other : ℕ) (w : Ghost) → IsDesk plan drawn flag asked views → get_elem? views id ≡ some v
-    → ¬ (other ≡ id) → get_elem? (set views id (joined v w)) other ≡ some w → 0 < v.parts → 0 < w.parts → IsDesk plan drawn flag asked (set (set views id (joined v w)) other no_seat)
+    → ¬ (other ≡ id) → get_elem? (set views id (joined v w)) other ≡ some w → 0 < v.parts → 0 < w.parts → IsDesk plan drawn flag asked (set (set views id (joined v w)) other no_seat_view)
 desk_joins plan drawn flag asked views id v other w h at two at' some_v some_w =
     let both : Ghost = joined v w in
     let mid : List Ghost = set views id both in
     let was : get_elem? views other ≡ some w = sym (set_else views id other both two) ∙ at' in
     let apart : id ≢ other = λ e. two (sym e) in
-    let all : (P : Ghost → Type 0) → P both → P no_seat → EachSeat P views → EachSeat P (set mid other no_seat) = λ P one none_left old.
-    each_set P mid other no_seat none_left (each_set P views id both one old) in
-    let keep_both : get_elem? (set mid other no_seat) id ≡ some both = set_else mid other id no_seat apart ∙ set_here views id both (at_within views id v at) in record {
+    let all : (P : Ghost → Type 0) → P both → P no_seat_view → EachSeat P views → EachSeat P (set mid other no_seat_view) = λ P one none_left old.
+    each_set P mid other no_seat_view none_left (each_set P views id both one old) in
+    let keep_both : get_elem? (set mid other no_seat_view) id ≡ some both = set_else mid other id no_seat_view apart ∙ set_here views id both (at_within views id v at) in record {
       parts =
           let s = sum_set (λ u. u.parts) views id v both at in
-          let t = sum_set (λ u. u.parts) mid other w no_seat at' in
+          let t = sum_set (λ u. u.parts) mid other w no_seat_view at' in
           omega (arith, h.parts);
-      spent = all (λ u. u.parts ≡ 0 → u ≡ no_seat) (λ e. absurd (omega arith)) (λ e. refl) h.spent;
-      draws = counts_join (λ u. u.numbers) plan.jobs drawn views id v other w both no_seat h.draws at was at' refl refl refl some_v some_w;
+      spent = all (λ u. u.parts ≡ 0 → u ≡ no_seat_view) (λ e. absurd (omega arith)) (λ e. refl) h.spent;
+      draws = counts_join (λ u. u.numbers) plan.jobs drawn views id v other w both no_seat_view h.draws at was at' refl refl refl some_v some_w;
       marked = record {
         bit = h.marked.bit;
         raised = λ is. let has = h.marked.raised is in
@@ -339,16 +339,16 @@ desk_joins plan drawn flag asked views id v other w h at two at' some_v some_w =
             (λ e. (id, both, keep_both, right_true v.flag w.flag (subst (λ (u : Ghost). u.flag ≡ true) (some-injective has.1 w (sym has.2 ∙ ap (get_elem? views) e ∙ was)) has.3)))
             (λ ne. dite (ℕ_discrete has.0 id)
             (λ e. (id, both, keep_both, left_true v.flag w.flag (subst (λ (u : Ghost). u.flag ≡ true) (some-injective has.1 v (sym has.2 ∙ ap (get_elem? views) e ∙ at)) has.3)))
-            (λ ne'. (has.0, has.1, set_else mid other has.0 no_seat ne ∙ (set_else views id has.0 both ne' ∙ has.2), has.3)));
+            (λ ne'. (has.0, has.1, set_else mid other has.0 no_seat_view ne ∙ (set_else views id has.0 both ne' ∙ has.2), has.3)));
         known = all (λ u. (u.flag || u.sighting) ≡ true → flag ≡ 1)
             (λ p. or_true (v.flag || w.flag) (v.sighting || w.sighting) (flag ≡ 1) p
             (λ q. or_true v.flag w.flag (flag ≡ 1) q (λ r. h.marked.known id v at (left_true v.flag v.sighting r)) (λ r. h.marked.known other w was (left_true w.flag w.sighting r)))
             (λ q. or_true v.sighting w.sighting (flag ≡ 1) q (λ r. h.marked.known id v at (right_true v.flag v.sighting r)) (λ r. h.marked.known other w was (right_true w.flag w.sighting r))))
             (λ p. absurd (true≢false (sym p))) h.marked.known;
       };
-      grants = counts_join (λ u. u.grants) plan.total asked views id v other w both no_seat h.grants at was at' refl refl refl some_v some_w;
+      grants = counts_join (λ u. u.grants) plan.total asked views id v other w both no_seat_view h.grants at was at' refl refl refl some_v some_w;
     }
 
 -- joining two seats keeps the rule
-pub joins : (plan : DeskSize) (id : ℕ) (v : Ghost) (other : ℕ) (w : Ghost) → 0 < v.parts → 0 < w.parts → Joins (DeskHolds plan) id v other w (joined v w) no_seat
+pub joins : (plan : DeskSize) (id : ℕ) (v : Ghost) (other : ℕ) (w : Ghost) → 0 < v.parts → 0 < w.parts → Joins (DeskHolds plan) id v other w (joined v w) no_seat_view
 joins plan id v other w some_v some_w s h at two at' = (h.0, h.1, h.2, h.3, desk_joins plan h.0 h.1 h.2 s.views id v other w h.4 at two at' some_v some_w)

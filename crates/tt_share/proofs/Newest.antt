@@ -12,7 +12,7 @@ use Rattle.tt_game.specs.declared.frame.Side.{Side}
 use Rattle.tt_game.specs.Keys.{key_of}
 use Rattle.tt_game.specs.Line.{Standing}
 use Rattle.tt_proof.specs.Proven.{Proven}
-use Rattle.tt_search.specs.Stores.{AnswersFor, IsNewest}
+use Rattle.tt_search.specs.Stores.{HasKeyAndSide, IsNewest}
 use Rattle.tt_game.specs.SameKey.{same_key}
 use Rattle.tt_share.specs.Table.{slots_from, slots_of}
 use Rattle.tt_game.specs.laws.KeyLaws.{same_key_is}
@@ -25,7 +25,7 @@ some_none x e = cc
 
 -- no proof is for the key and the side
 abbrev NoneFor : Standing → Side → List Proven → Type 0
-NoneFor line side ps = (i : ℕ) (p : Proven) → slice_get ps i ≡ Some p → AnswersFor line side p → ⊥
+NoneFor line side ps = (i : ℕ) (p : Proven) → slice_get ps i ≡ Some p → HasKeyAndSide line side p → ⊥
 
 -- older proofs behind leave the newest one as it was
 more_before : (line : Standing) (side : Side) (ps qs : List Proven) (p : Proven) → IsNewest line side ps (Some p) → IsNewest line side (ps ++ qs) (Some p)
@@ -52,12 +52,12 @@ none_newest line side (p ∷ ps) none =
     subst (λ l. IsNewest line side l None) (sym (reverse-append (p ∷ []) ps)) rest
 
 -- the last proof that is for them is the newest one
-last_newest : (line : Standing) (side : Side) (ps : List Proven) (i : ℕ) (p : Proven) → slice_get ps i ≡ Some p → AnswersFor line side p
-    → ((j : ℕ) (q : Proven) → i < j → slice_get ps j ≡ Some q → AnswersFor line side q → ⊥) → IsNewest line side (reverse ps) (Some p)
+last_newest : (line : Standing) (side : Side) (ps : List Proven) (i : ℕ) (p : Proven) → slice_get ps i ≡ Some p → HasKeyAndSide line side p
+    → ((j : ℕ) (q : Proven) → i < j → slice_get ps j ≡ Some q → HasKeyAndSide line side q → ⊥) → IsNewest line side (reverse ps) (Some p)
 last_newest line side [] i p at is later = absurd (some_none p (sym at))
 last_newest line side (q ∷ ps) zero p at is later =
     let same : q ≡ p = cc in
-    let this : IsNewest line side (q ∷ []) (Some p) = inl (subst (AnswersFor line side) (sym same) is, ap Some (sym same)) in
+    let this : IsNewest line side (q ∷ []) (Some p) = inl (subst (HasKeyAndSide line side) (sym same) is, ap Some (sym same)) in
     let rest = none_after line side ps (q ∷ []) (Some p) (λ j r there for. later (suc j) r (omega arith) there for) this in
     subst (λ l. IsNewest line side l (Some p)) (sym (reverse-append (q ∷ []) ps)) rest
 last_newest line side (q ∷ ps) (suc i) p at is later =
@@ -105,7 +105,7 @@ rise t n (y ∷ ys) j k le h = rise_step (t y) n (slots_from t (n + 1) ys) j k (
 
 -- each proof of the key for the side stands at one of the first so many slots
 abbrev pub AmongFirst : Standing → Side → List Proven → List ℕ → ℕ → Type 0
-AmongFirst line side ps slots left = (i : ℕ) (p : Proven) → slice_get ps i ≡ Some p → AnswersFor line side p → (j : ℕ) × (j < left) × (get_or slots j 0 ≡ i)
+AmongFirst line side ps slots left = (i : ℕ) (p : Proven) → slice_get ps i ≡ Some p → HasKeyAndSide line side p → (j : ℕ) × (j < left) × (get_or slots j 0 ≡ i)
 
 -- each of them stands at one of the key's slots
 pub among_all : (line : Standing) (side : Side) (ps : List Proven) (slots : List ℕ) → slots ≡ slots_of (key_of line.frame line.state) ps → AmongFirst line side ps slots (length slots)
@@ -150,7 +150,7 @@ none_is_newest line side ps slots left done among =
 -- a proof for the side at the last of the slots that are left is the newest one
 pub found_is_newest : {A : Type 0} (value : A → Proven) (line : Standing) (side : Side) (xs : List A) (ps : List Proven) (x : A) (slots : List ℕ) (left : ℕ)
     → map value xs ≡ ps → slots ≡ slots_of (key_of line.frame line.state) ps
-    → left - 1 < length slots → get_or slots (left - 1) 0 < length xs → x ≡ get_or xs (get_or slots (left - 1) 0) x → AnswersFor line side (value x) → AmongFirst line side ps slots left
+    → left - 1 < length slots → get_or slots (left - 1) 0 < length xs → x ≡ get_or xs (get_or slots (left - 1) 0) x → HasKeyAndSide line side (value x) → AmongFirst line side ps slots left
     → IsNewest line side (reverse ps) (Some (value x))
 found_is_newest value line side xs ps x slots left all are h inside is answers among =
     let slot = get_or slots (left - 1) 0 in

@@ -19,7 +19,7 @@ use Rattle.tt_search.specs.declared.search.End.TheVariants.{Stuck}
 use Rattle.tt_share.specs.declared.jobs.JobResult.TheVariants as result
 use Rattle.tt_share.specs.Answers.{IsSpent, spent_in_all}
 use Rattle.tt_share.specs.inside.Jobs.{IsCounted, IsForTotal, IsJobCount, IsJob, end_of, kept_of}
-use Rattle.tt_share.specs.inside.Results.{Progress, AreNoted, HasEnd, FilledBelow, IsAllSpent}
+use Rattle.tt_share.specs.inside.Results.{ResultsSoFar, AreNoted, HasEnd, FilledBelow, IsAllSpent}
 use Rattle.tt_share.proofs.ResultLemmas.{get_set_same, get_set_other}
 
 -- what stands at a slot stands there as its image
@@ -108,7 +108,7 @@ blank_sum (e ∷ spent) none =
     omega (arith, one, more, sum_by-cons (λ (x : Turn × ℕ). x.1) e spent)
 
 -- where every job has a result and all of the total is spent, the counts tell how
-pub spent_told : (p : Progress) (total : Option ℕ) (job : ℕ) (t : Turn) (held : Searched) (end : JobResult) → AreNoted p.line p.limits p.ends p.spent → FilledBelow (length p.ends) p.ends
+pub spent_told : (p : ResultsSoFar) (total : Option ℕ) (job : ℕ) (t : Turn) (held : Searched) (end : JobResult) → AreNoted p.line p.limits p.ends p.spent → FilledBelow (length p.ends) p.ends
     → HasEnd p.ends job end → end_of end ≡ Stuck Total (Some held) → IsJob p.line job t → IsAllSpent total p → (n : ℕ) × (total ≡ Some n) × IsSpent p.line p.limits n t held p.spent
 spent_told p total job t held end noted filled here is at all =
     let h = all (job, end, here, subst IsForTotal (sym is) tt) in

@@ -8,30 +8,30 @@ use Rattle.tt_share.specs.declared.jobs.JobResult.{JobResult}
 use Rattle.tt_share.specs.declared.jobs.SearchedJob.{SearchedJob}
 use Rattle.tt_share.specs.declared.workers.HandedBack.{HandedBack}
 use Rattle.tt_share.specs.inside.Jobs.{kept_of}
-use Rattle.tt_share.specs.inside.Results.{Progress, Puts, HasEnd, IsPastStuck, KeepsEnds}
+use Rattle.tt_share.specs.inside.Results.{ResultsSoFar, Puts, HasEnd, IsPastStuck, KeepsEnds}
 use Rattle.tt_share.specs.inside.Workers.{IsPlaced, AllPlaced, IsGiven, AreGiven, OnlyHandedBack}
 use Rattle.tt_share.proofs.ResultLemmas.{read_after, get_set_same, get_set_other}
 
 -- what is known of what contracts see is known of the fields of results
-pub seen : (P : Standing → Limits → Type 0) (line : Standing) (limits : Limits) (ends : List (Option JobResult)) (spent : List (Turn × ℕ)) (p : Progress)
+pub seen : (P : Standing → Limits → Type 0) (line : Standing) (limits : Limits) (ends : List (Option JobResult)) (spent : List (Turn × ℕ)) (p : ResultsSoFar)
     → record { line = line; limits = limits; ends = ends; spent = spent } ≡ p → P p.line p.limits → P line limits
 seen P line limits ends spent p same h =
-    subst (λ l. P line l) (sym (ap (λ (q : Progress). q.limits) same)) (subst (λ l. P l p.limits) (sym (ap (λ (q : Progress). q.line) same)) h)
+    subst (λ l. P line l) (sym (ap (λ (q : ResultsSoFar). q.limits) same)) (subst (λ l. P l p.limits) (sym (ap (λ (q : ResultsSoFar). q.line) same)) h)
 
 -- and what is known of the fields is known of what contracts see
-pub shown : (P : Standing → Limits → List (Option JobResult) → Type 0) (line : Standing) (limits : Limits) (ends : List (Option JobResult)) (spent : List (Turn × ℕ)) (p : Progress)
+pub shown : (P : Standing → Limits → List (Option JobResult) → Type 0) (line : Standing) (limits : Limits) (ends : List (Option JobResult)) (spent : List (Turn × ℕ)) (p : ResultsSoFar)
     → record { line = line; limits = limits; ends = ends; spent = spent } ≡ p
     → P line limits ends → P p.line p.limits p.ends
-shown P line limits ends spent p same h = subst (λ (q : Progress). P q.line q.limits q.ends) same h
+shown P line limits ends spent p same h = subst (λ (q : ResultsSoFar). P q.line q.limits q.ends) same h
 
 -- what holds of a line and limits holds where the ends and their counts alone changed
-pub same_asked : (P : Standing → Limits → Type 0) (old new : Progress) → new ≡ record old { ends = new.ends; spent = new.spent } → P old.line old.limits → P new.line new.limits
+pub same_asked : (P : Standing → Limits → Type 0) (old new : ResultsSoFar) → new ≡ record old { ends = new.ends; spent = new.spent } → P old.line old.limits → P new.line new.limits
 same_asked P old new same h =
-    subst (λ l. P new.line l) (sym (ap (λ (p : Progress). p.limits) same)) (subst (λ l. P l old.limits) (sym (ap (λ (p : Progress). p.line) same)) h)
+    subst (λ l. P new.line l) (sym (ap (λ (p : ResultsSoFar). p.limits) same)) (subst (λ l. P l old.limits) (sym (ap (λ (p : ResultsSoFar). p.line) same)) h)
 
 -- twice the ends and their counts alone changed
-pub same_twice : (a b c : Progress) → b ≡ record a { ends = b.ends; spent = b.spent } → c ≡ record b { ends = c.ends; spent = c.spent } → c ≡ record a { ends = c.ends; spent = c.spent }
-same_twice a b c first second = second ∙ ap (λ (p : Progress). record p { ends = c.ends; spent = c.spent }) first
+pub same_twice : (a b c : ResultsSoFar) → b ≡ record a { ends = b.ends; spent = b.spent } → c ≡ record b { ends = c.ends; spent = c.spent } → c ≡ record a { ends = c.ends; spent = c.spent }
+same_twice a b c first second = second ∙ ap (λ (p : ResultsSoFar). record p { ends = c.ends; spent = c.spent }) first
 
 -- a slot within the list is there
 none_past : {X : Type 0} (xs : List X) (i : ℕ) → i < length xs → slice_get xs i ≡ None → ⊥

@@ -18,7 +18,7 @@ use Rattle.tt_share.specs.declared.jobs.SearchedJob.{SearchedJob}
 use Rattle.tt_share.specs.declared.workers.HandedBack.{HandedBack}
 use Rattle.tt_share.specs.Answers.{spent_in_all}
 use Rattle.tt_share.specs.inside.Jobs.{IsForTotal, end_of}
-use Rattle.tt_share.specs.inside.Results.{Progress, HasTotal, IsAllSpent, SpendsTotal, AskedFor}
+use Rattle.tt_share.specs.inside.Results.{ResultsSoFar, HasTotal, IsAllSpent, SpendsTotal, AskedFor}
 use Rattle.tt_share.specs.Seats.{DeskView, SeatView, EndsOverdraw, EachOnce, Spends, Closes, granted_of, last_number, occurrences}
 use Rattle.tt_share.specs.inside.Tallies.{IsGranted, Tallies}
 use Rattle.tt_share.specs.inside.Workers.{times, spent_on, spent_by_all, held, held_in, AllApart, OnlyHandedBack, SomeTotal, IsWork}
@@ -96,7 +96,7 @@ most_one list drawn seats once job = elim (cases_lt job drawn) [
 ]
 
 -- of what one caller was granted, all is spent where some job is stuck for the total
-pub own_spent : (n : ℕ) (first last : Progress) (before after : Asked) (total : Option ℕ) → first.ends ≡ replicate n None → spent_in_all first.spent ≡ 0
+pub own_spent : (n : ℕ) (first last : ResultsSoFar) (before after : Asked) (total : Option ℕ) → first.ends ≡ replicate n None → spent_in_all first.spent ≡ 0
     → before.granted ≡ 0 → IsGranted total after.granted after.refused → AskedFor first before last after → IsAllSpent total last
 own_spent n first last before after total blank unspent unasked granted h asked = elim (h.refused asked) [
   | inl was ↦ absurd (blank_none n was.0 was.1 (ap (λ (l : List (Option JobResult)). slice_get l was.0) (sym blank) ∙ was.2))
@@ -148,7 +148,7 @@ module _ (line : Standing) (limits : Limits) (desk : DeskView) (closed : Closed)
       (omega (arith, one, refused_weighs total b.seat overdraw, backs (refusal total), sum_by_push (refusal total) seats own)) in
       (some_seat.0, some_seat.1, weighs_refused total some_seat.0 some_seat.2)
 
-  module _ (first mid last : Progress) (before : Asked) (count : ℕ) (refused : Bool) (none : before.granted ≡ 0) (blank : first.ends ≡ replicate desk.jobs None)
+  module _ (first mid last : ResultsSoFar) (before : Asked) (count : ℕ) (refused : Bool) (none : before.granted ≡ 0) (blank : first.ends ≡ replicate desk.jobs None)
       (unspent : spent_in_all first.spent ≡ 0)
       (gathered : AllApart first.ends work → spent_in_all mid.spent ≡ spent_in_all first.spent + spent_by_all work) (given : OnlyHandedBack first.ends mid.ends work)
       (asked : AskedFor mid before last (record { granted = count; refused = refused })) (tally : Tallies desk.total own.grants count refused) where

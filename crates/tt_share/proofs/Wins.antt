@@ -16,8 +16,8 @@ use Rattle.tt_search.specs.Searched.{Searched}
 use Rattle.tt_game.specs.declared.turns.Turn.{Turn}
 use Rattle.tt_game.specs.Line.{Standing}
 use Rattle.tt_game.specs.Turns.{legal_turns}
-use Rattle.tt_share.specs.inside.Jobs.{EndsBehind, IsResultOf, IsJob, IsStuck, HasWon, end_of}
-use Rattle.tt_share.specs.inside.Results.{HasWonIn, AllWon, IsStuckIn, IsStuckAt, IsWinIn, HasEnd, HasResult, IsWinAt, NoWin, IsLeastWin, IsLeastStuck, FilledBelow, IsReady, StopsAtWin}
+use Rattle.tt_share.specs.inside.Jobs.{EndsBehind, IsResultOf, IsJob, IsStuck, IsStuckOrWon, end_of}
+use Rattle.tt_share.specs.inside.Results.{HasWonIn, AllStuckOrWon, IsStuckIn, IsStuckAt, IsWinIn, HasEnd, HasResult, IsWinAt, NoWin, IsLeastWin, IsLeastStuck, FilledBelow, IsReady, StopsAtWin}
 use Rattle.tt_share.proofs.ResultLemmas.{get_set_other}
 
 -- what holds below i and at i holds below the next
@@ -62,13 +62,13 @@ stuck_within ends i stuck = slice_get_within ends i (Some stuck.0) stuck.1
 
 -- the proofs below the next job win
 pub won_more : (ends : List (Option JobResult)) (i : ℕ) (slot : Option JobResult) → i < length ends → slot ≡ get_or ends i slot → HasWonIn slot
-    → ((k : ℕ) → k < i → (end : JobResult) → HasEnd ends k end → HasWon end) → (k : ℕ) → k < i + 1 → (end : JobResult) → HasEnd ends k end → HasWon end
+    → ((k : ℕ) → k < i → (end : JobResult) → HasEnd ends k end → IsStuckOrWon end) → (k : ℕ) → k < i + 1 → (end : JobResult) → HasEnd ends k end → IsStuckOrWon end
 won_more ends i slot within read won below =
     let here : slice_get ends i ≡ Some slot = slice_get_read ends (length ends) i slot refl within read in
-    below_more (λ k. (end : JobResult) → HasEnd ends k end → HasWon end) i below (λ end at. subst HasWonIn (same_Some slot (Some end) (sym here ∙ at)) won)
+    below_more (λ k. (end : JobResult) → HasEnd ends k end → IsStuckOrWon end) i below (λ end at. subst HasWonIn (same_Some slot (Some end) (sym here ∙ at)) won)
 
 -- so do all proofs, once each slot was read
-pub all_won : (ends : List (Option JobResult)) → ((k : ℕ) → k < length ends → (end : JobResult) → HasEnd ends k end → HasWon end) → AllWon ends
+pub all_won : (ends : List (Option JobResult)) → ((k : ℕ) → k < length ends → (end : JobResult) → HasEnd ends k end → IsStuckOrWon end) → AllStuckOrWon ends
 all_won ends won job end at = won job (slice_get_within ends job (Some end) at) end at
 
 -- no job of the list has a win

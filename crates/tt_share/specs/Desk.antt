@@ -19,12 +19,12 @@ abbrev pub whole_view : DeskSize → Ghost
 whole_view plan = blank plan.seats
 
 -- the view of a seat that was handed out
-abbrev pub one_seat : Ghost
-one_seat = blank 1
+abbrev pub one_seat_view : Ghost
+one_seat_view = blank 1
 
 -- what a join leaves behind
-abbrev pub no_seat : Ghost
-no_seat = blank 0
+abbrev pub no_seat_view : Ghost
+no_seat_view = blank 0
 
 abbrev pub fewer : Ghost → Ghost
 fewer v = view_of (v.parts - 1) v.numbers v.grants v.flag v.sighting
@@ -77,7 +77,7 @@ pub record IsMark (flag : ℕ) (views : List Ghost) : Type 0 where
 -- The parts of all views are the desk's seats, and a view with no part holds nothing
 pub record IsDesk (plan : DeskSize) (drawn flag asked : ℕ) (views : List Ghost) : Type 0 where
   pub parts : sum_by (λ v. v.parts) views ≡ plan.seats
-  pub spent : EachSeat (λ v. v.parts ≡ 0 → v ≡ no_seat) views
+  pub spent : EachSeat (λ v. v.parts ≡ 0 → v ≡ no_seat_view) views
   pub draws : Counts (λ v. v.numbers) plan.jobs drawn views
   pub marked : IsMark flag views
   pub grants : Counts (λ v. v.grants) plan.total asked views
@@ -96,8 +96,8 @@ IsNext numbers n = IsStrictlyIncreasing (numbers ++ n ∷ []) × (length numbers
 abbrev pub Draws : SeatState → ℕ → SeatState → Type 0
 Draws before found after = (after ≡ (with_draw before.0 found, before.1)) × IsNext before.0.numbers found
 
-abbrev pub Grants : SeatState → ℕ → SeatState → Type 0
-Grants before found after = (after ≡ (with_grant before.0 found, before.1)) × IsNext before.0.grants found
+abbrev pub GivesGrant : SeatState → ℕ → SeatState → Type 0
+GivesGrant before found after = (after ≡ (with_grant before.0 found, before.1)) × IsNext before.0.grants found
 
 abbrev pub Raises : SeatState → SeatState → Type 0
 Raises before after = after ≡ (with_flag before.0, before.1)

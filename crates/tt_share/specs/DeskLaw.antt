@@ -4,7 +4,7 @@ use Rattle.std.specs.List.Sorted.{IsStrictlyIncreasing}
 use Rattle.atomic_table.specs.Table.{State}
 use Rattle.tt_share.specs.declared.desk.rule.Ghost.{Ghost}
 use Rattle.tt_share.specs.declared.desk.rule.DeskSize.{DeskSize}
-use Rattle.tt_share.specs.Desk.{EachSeat, SomeSeat, DeskHolds, overdraw_count, no_seat}
+use Rattle.tt_share.specs.Desk.{EachSeat, SomeSeat, DeskHolds, overdraw_count, no_seat_view}
 
 -- how often the number stands in the views' lists
 abbrev pub occurrences : (Ghost → List ℕ) → ℕ → List Ghost → ℕ
@@ -32,7 +32,7 @@ pub record IsStop (word : ℕ) (views : List Ghost) : Type 0 where
 pub record IsDeskState (plan : DeskSize) (words : List ℕ) (views : List Ghost) : Type 0 where
   pub three_words : length words ≡ 3
   pub parts : sum_by (λ v. v.parts) views ≡ plan.seats
-  pub spent : EachSeat (λ v. v.parts ≡ 0 → v ≡ no_seat) views
+  pub spent : EachSeat (λ v. v.parts ≡ 0 → v ≡ no_seat_view) views
   pub draws : IsCount (λ v. v.numbers) plan.jobs (slice_index words 0) views
   pub stop : IsStop (slice_index words 1) views
   pub grants : IsCount (λ v. v.grants) plan.total (slice_index words 2) views

@@ -6,7 +6,7 @@ ghost use Rattle.tt_game.specs.Turns.{legal_turns};
 ghost use Rattle.tt_game.specs.declared.turns.TheConstants.{MOST_LEGAL};
 ghost use Rattle.tt_search.specs.Growing.{new_leaf};
 ghost use Rattle.tt_share.specs.Answers.{IsBehind};
-ghost use Rattle.tt_share.specs.inside.Jobs.{AsksFor, HasWon, IsDropped, IsJob, IsOfEnd, IsResult, IsStuck, IsWinFor, end_of, kept_of};
+ghost use Rattle.tt_share.specs.inside.Jobs.{AsksFor, IsStuckOrWon, IsDropped, IsJob, IsOfEnd, IsResult, IsStuck, IsWinFor, end_of, kept_of};
 
 use std::alloc::Global;
 use tt_game::{Line, Side, Turn, Turns};
@@ -51,7 +51,7 @@ pub(crate) struct Jobs<'a> {
 /// Whether the result is a proof for the side.
 pub(crate) fn is_win(end: &JobResult, side: Side) -> bool
     ensures win { IsTrue result ↔ IsWinFor side end.now }
-    ensures won { HasWon end.now }
+    ensures won { IsStuckOrWon end.now }
 {
     match end {
         JobResult::Settled(proof) => proof.side() == side,

@@ -9,7 +9,7 @@ ghost use Rattle.tt_search.specs.declared.limits.TheConstants.{MOST_EXPANDED};
 ghost use Rattle.tt_share.specs.declared.jobs.JobResult.{JobResult};
 ghost use Rattle.tt_share.specs.Answers.{spent_in_all};
 ghost use Rattle.tt_share.specs.inside.Jobs.{IsResult, IsWinFor};
-ghost use Rattle.tt_share.specs.inside.Results.{Notes, AskedFor, HasEnd, HasResult, HasWonIn, AllWon, IsPastStuck, IsStuckIn, IsWinIn, IsWinAt, NoWin, IsLeastWin, IsReady, StopsAtWin, KeepsEnds, Puts};
+ghost use Rattle.tt_share.specs.inside.Results.{Notes, AskedFor, HasEnd, HasResult, HasWonIn, AllStuckOrWon, IsPastStuck, IsStuckIn, IsWinIn, IsWinAt, NoWin, IsLeastWin, IsReady, StopsAtWin, KeepsEnds, Puts};
 
 use crate::jobs::{JobResult, Jobs, SearchedJob, is_stuck, is_win, kept};
 use std::alloc::Global;
@@ -34,9 +34,9 @@ impl<'a> Model for Results<'a> {
     ghost use Rattle.tt_proof.specs.laws.StrategyCode.{strategy_code};
     ghost use Rattle.tt_search.specs.laws.PartialTreeCode.{partial_code};
     ghost use Rattle.tt_share.specs.inside.Jobs.{AreResults};
-    ghost use Rattle.tt_share.specs.inside.Results.{Progress, AreNoted};
+    ghost use Rattle.tt_share.specs.inside.Results.{ResultsSoFar, AreNoted};
 
-    ghost Value = { Progress };
+    ghost Value = { ResultsSoFar };
 
     ghost coded = { Prim.hlevel (codes, strategy_code, partial_code, points.the_row.coded) };
 
@@ -73,7 +73,7 @@ fn is_stuck_in(end: &Option<JobResult>) -> bool
 /// The least job whose result is a proof for the side.
 pub(crate) fn win_at(ends: &[Option<JobResult>], side: Side) -> Option<usize>
     ensures least { MatchOption result (NoWin side ends.now) (IsLeastWin side ends.now) }
-    ensures won { IfNone result (AllWon ends.now) }
+    ensures won { IfNone result (AllStuckOrWon ends.now) }
 {
     for (job, end) in ends.iter().enumerate() {
         if is_win_in(end, side) {

@@ -5,7 +5,7 @@ pub(crate) mod locked;
 ghost use Rattle.std.specs.Prelude.{◌≡◌, ◌++◌, ◌∷◌, [], ◌+◌, ◌-◌, ◌^◌, min, length, reverse, IfOk, IfSome, OnOk, OnErr, if◌then◌else◌};
 ghost use Rattle.std.specs.Arc.{arc_value};
 ghost use Rattle.std.specs.Option.{option_map};
-ghost use Rattle.tt_search.specs.Stores.{AnswersFor, IsNewest};
+ghost use Rattle.tt_search.specs.Stores.{HasKeyAndSide, IsNewest};
 ghost use Rattle.tt_game.specs.Keys.{key_of};
 ghost use Rattle.tt_proof.specs.Nodes.{nodes};
 ghost use Rattle.tt_share.specs.inside.Slots.{slots_at};
@@ -135,7 +135,7 @@ impl TableState {
     /// The last proof of the line's key for the side.
     fn newest(&self, line: &Line, s: Side) -> Option<&Arc<Proof>>
         ensures newest { IsNewest line.now s (reverse self.now) (option_map (λ r. arc_value r.now) result) }
-        ensures found { IfSome result (λ r. AnswersFor line.now s (arc_value r.now)) }
+        ensures found { IfSome result (λ r. HasKeyAndSide line.now s (arc_value r.now)) }
     {
         let key = line.key();
         let slots = self.slots(&key);
@@ -154,7 +154,7 @@ impl TableState {
     /// A handle of the last proof of the line's key for the side, or none.
     pub(crate) fn find(&self, line: &Line, s: Side) -> Result<Option<Arc<Proof>>, NoMemory>
         ensures newest { IfOk result (λ o. IsNewest line.now s (reverse self.now) (option_map (λ p. arc_value p) o)) }
-        ensures found { IfOk result (λ o. IfSome o (λ p. AnswersFor line.now s (arc_value p))) }
+        ensures found { IfOk result (λ o. IfSome o (λ p. HasKeyAndSide line.now s (arc_value p))) }
     {
         let Some(p) = self.newest(line, s) else {
             return Ok(None);

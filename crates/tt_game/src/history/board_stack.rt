@@ -105,7 +105,7 @@ impl BoardStack {
     }
 
     /// The same present board, with no play to undo.
-    pub(crate) fn again(&self, alloc: Global) -> Result<BoardStack, NoMemory>
+    pub(crate) fn from_present(&self, alloc: Global) -> Result<BoardStack, NoMemory>
         ensures { IfOk result (λ s. s ≡ record { present = self.now.present; below = [] }) }
     {
         Ok(BoardStack {

@@ -37,11 +37,11 @@ pub record NeedsRepeats (f : Frame) (s : State) (x : Basis) : Type 0 where
   pub avoids : (c : Colouring) → Contains x.avoids (frame_board f c) → ⊥
 
 -- what is needed and avoided in front of a turn of the side, and of the other side
-pub record IsPickedOn (t : Turn) (board : Position) (x y : Basis) : Type 0 where
+pub record IsBeforePick (t : Turn) (board : Position) (x y : Basis) : Type 0 where
   pub needs : (b : Position) → Contains y.needs b ↔ IsPassedUp t board x.needs b
   pub avoids : (b : Position) → Contains y.avoids b ↔ (Contains x.avoids b ⊎ IsPlayed t board b)
 
-pub record IsPassedOn (t : Turn) (board : Position) (x y : Basis) : Type 0 where
+pub record IsBeforeReply (t : Turn) (board : Position) (x y : Basis) : Type 0 where
   pub needs : (b : Position) → Contains y.needs b ↔ IsPassedUp t board x.needs b
   pub avoids : y.avoids ≡ x.avoids
 

@@ -5,7 +5,7 @@ use Rattle.tt_game.specs.declared.history.bloom_filter.BloomFilter.{BloomFilter}
 use Rattle.tt_game.specs.Line.{Standing}
 use Rattle.tt_game.specs.BloomFilter.{MayHold}
 use Rattle.tt_proof.specs.Proven.{Proven}
-use Rattle.tt_search.specs.Stores.{AnswersFor}
+use Rattle.tt_search.specs.Stores.{HasKeyAndSide}
 use Rattle.tt_search.specs.declared.store.key_index.TheConstants.{KEY_FILTER_BITS}
 
 -- one more than the last slot below n that passes the test, or 0 where none does
@@ -39,7 +39,7 @@ MayHoldHashes filter hashes = (slot : ℕ) → slot < length hashes → MayHold 
 
 -- no proof answers from this slot on
 abbrev pub NoneFrom : Standing → Side → List Proven → ℕ → Type 0
-NoneFrom line side ps n = (i : ℕ) (p : Proven) → n ≤ i → slice_get ps i ≡ Some p → AnswersFor line side p → ⊥
+NoneFrom line side ps n = (i : ℕ) (p : Proven) → n ≤ i → slice_get ps i ≡ Some p → HasKeyAndSide line side p → ⊥
 
 -- no slot from this one on has the hash
 abbrev pub NoHashFrom : List ℕ → ℕ → ℕ → Type 0

@@ -4,7 +4,7 @@ ghost use Rattle.std.specs.Prelude.{◌≡◌, ℕ, ◌+◌, ◌/◌, ◌%◌, �
 ghost use Rattle.tt_game.specs.Keys.{key_of};
 ghost use Rattle.tt_proof.specs.Proven.{Proven};
 ghost use Rattle.tt_game.specs.declared.frame.Side.TheVariants.{Attacker, Defender};
-ghost use Rattle.tt_search.specs.Stores.{AnswersFor, IsNewest};
+ghost use Rattle.tt_search.specs.Stores.{HasKeyAndSide, IsNewest};
 ghost use Rattle.tt_search.specs.KeyIndex.{index_hash, index_hashes, proof_at, IsIndexOfNewest};
 ghost use Rattle.tt_search.specs.inside.Buckets.{bucket_of_hash, AreLongEnough, AreBuckets, IsLastWithHash};
 
@@ -234,7 +234,7 @@ impl KeyIndex {
         requires last { IsLastWithHash self.now.hashes hash last }
         ensures newest { IsNewest line.now side (reverse (P.proofs row.now)) (proof_at (P.proofs row.now) result) }
         ensures within { IfSome result (λ slot. slot < length (P.proofs row.now)) }
-        ensures found { IfSome (proof_at (P.proofs row.now) result) (AnswersFor line.now side) }
+        ensures found { IfSome (proof_at (P.proofs row.now) result) (HasKeyAndSide line.now side) }
     {
         let mut next = last;
         while 0 < next {

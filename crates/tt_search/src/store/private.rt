@@ -4,7 +4,7 @@ ghost use Rattle.std.specs.Prelude.{◌≡◌, ◌≢◌, ◌<◌, ◌≤◌, �
 ghost use Rattle.std.specs.Option.{option_map};
 ghost use Rattle.std.specs.Arc.{arc_value};
 ghost use Rattle.tt_game.specs.declared.frame.Side.TheVariants.{Attacker, Defender};
-ghost use Rattle.tt_search.specs.Stores.{AnswersFor, IsNewest};
+ghost use Rattle.tt_search.specs.Stores.{HasKeyAndSide, IsNewest};
 ghost use Rattle.tt_search.specs.KeyIndex.{proof_at};
 ghost use Rattle.tt_search.specs.declared.store.Kept.TheVariants.{Stored, Full};
 
@@ -118,7 +118,7 @@ impl Store for PrivateStore {
 
     fn find(&mut self, line: &Line, s: Side) -> Result<Option<Arc<Proof>>, NoMemory>
         ensures newest { IfOk result (λ o. IsNewest line.now s self.old.proofs (option_map (λ p. p.value) o)) }
-        ensures found { IfOk result (λ o. IfSome o (λ p. AnswersFor line.now s p.value)) }
+        ensures found { IfOk result (λ o. IfSome o (λ p. HasKeyAndSide line.now s p.value)) }
         ensures may { IfOk result (λ o. IfSome o (λ _. Unit {0})) }
         ensures capacity { self.new.capacity ≡ self.old.capacity }
         ensures kept { length self.new.proofs ≡ length self.old.proofs }
@@ -130,8 +130,8 @@ impl Store for PrivateStore {
     fn find_both(&mut self, line: &Line) -> Result<BothSides, NoMemory>
         ensures newest_attacker { IfOk result (λ a. IsNewest line.now Attacker self.old.proofs (option_map (λ p. p.value) a.attacker)) }
         ensures newest_defender { IfOk result (λ a. IsNewest line.now Defender self.old.proofs (option_map (λ p. p.value) a.defender)) }
-        ensures attacker { IfOk result (λ a. IfSome a.attacker (λ p. AnswersFor line.now Attacker p.value)) }
-        ensures defender { IfOk result (λ a. IfSome a.defender (λ p. AnswersFor line.now Defender p.value)) }
+        ensures attacker { IfOk result (λ a. IfSome a.attacker (λ p. HasKeyAndSide line.now Attacker p.value)) }
+        ensures defender { IfOk result (λ a. IfSome a.defender (λ p. HasKeyAndSide line.now Defender p.value)) }
         ensures may_attacker { IfOk result (λ a. IfSome a.attacker (λ _. Unit {0})) }
         ensures may_defender { IfOk result (λ a. IfSome a.defender (λ _. Unit {0})) }
         ensures capacity { self.new.capacity ≡ self.old.capacity }

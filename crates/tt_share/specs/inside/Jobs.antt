@@ -110,11 +110,11 @@ IsDropped result.Dropped = Unit {0}
 IsDropped result.NoMemory = ⊥
 
 -- the result is stuck, or a proof whose strategy wins
-abbrev pub HasWon : JobResult → Type 0
-HasWon (result.Settled p) = IsWon p.side p.frame p.state p.tree
-HasWon (result.Stuck reason search) = Unit {0}
-HasWon result.Dropped = Unit {0}
-HasWon result.NoMemory = Unit {0}
+abbrev pub IsStuckOrWon : JobResult → Type 0
+IsStuckOrWon (result.Settled p) = IsWon p.side p.frame p.state p.tree
+IsStuckOrWon (result.Stuck reason search) = Unit {0}
+IsStuckOrWon result.Dropped = Unit {0}
+IsStuckOrWon result.NoMemory = Unit {0}
 
 -- a result as it is kept: a stuck search is dropped where a lesser job is stuck
 abbrev pub kept_of : Bool → JobResult → JobResult

@@ -13,13 +13,13 @@ use Rattle.tt_search.specs.declared.limits.Limits.{Limits}
 use Rattle.tt_search.specs.declared.limits.Reason.{Reason}
 use Rattle.tt_search.specs.declared.search.End.TheVariants.{Stuck}
 use Rattle.tt_share.specs.Answers.{spent_in_all}
-use Rattle.tt_share.specs.inside.Jobs.{IsWinFor, IsStuck, IsForTotal, IsCounted, HasWon, end_of, kept_of}
+use Rattle.tt_share.specs.inside.Jobs.{IsWinFor, IsStuck, IsForTotal, IsCounted, IsStuckOrWon, end_of, kept_of}
 use Rattle.tt_share.specs.declared.jobs.JobResult.{JobResult}
 use Rattle.tt_share.specs.declared.jobs.SearchedJob.{SearchedJob}
 
 -- a line, the limits on its search, and the ends of its jobs, as far as they are known; and the jobs' turns, each with how many
 -- nodes its search expanded
-pub record Progress : Type 0 where
+pub record ResultsSoFar : Type 0 where
   pub line : Standing
   pub limits : Limits
   pub ends : List (Option JobResult)
@@ -37,7 +37,7 @@ pub record AreNoted (line : Standing) (limits : Limits) (ends : List (Option Job
   pub noted : (job : ℕ) (end : JobResult) (e : Turn × ℕ) → HasEnd ends job end → slice_get spent job ≡ Some e → IsCounted line limits e.0 e.1 (end_of end)
 
 -- nothing is known of any job
-pub record KnowsNothing (p : Progress) : Type 0 where
+pub record KnowsNothing (p : ResultsSoFar) : Type 0 where
   pub none : p.ends ≡ replicate (length (legal_turns p.line.frame p.line.state)) None
   pub unspent : spent_in_all p.spent ≡ 0
 
@@ -46,11 +46,11 @@ abbrev pub HasTotal : List (Option JobResult) → Type 0
 HasTotal ends = (job : ℕ) × (end : JobResult) × HasEnd ends job end × IsForTotal (end_of end)
 
 -- where some job is stuck for the total, all of it is spent
-abbrev pub IsAllSpent : Option ℕ → Progress → Type 0
+abbrev pub IsAllSpent : Option ℕ → ResultsSoFar → Type 0
 IsAllSpent total p = HasTotal p.ends → (n : ℕ) × (total ≡ Some n) × (spent_in_all p.spent ≡ n)
 
 -- How the searches spend a total, where there is one
-pub record SpendsTotal (total : Option ℕ) (p : Progress) : Type 0 where
+pub record SpendsTotal (total : Option ℕ) (p : ResultsSoFar) : Type 0 where
   -- no more than it, whatever the results are
   pub within : (n : ℕ) → total ≡ Some n → spent_in_all p.spent ≤ n
   -- all of it where some job is stuck for it
@@ -58,7 +58,7 @@ pub record SpendsTotal (total : Option ℕ) (p : Progress) : Type 0 where
 
 -- what was asked for while results were put: as many were granted as the counts rose by, and one was refused where a job is newly
 -- stuck for the total
-pub record AskedFor (before : Progress) (old : Asked) (after : Progress) (new : Asked) : Type 0 where
+pub record AskedFor (before : ResultsSoFar) (old : Asked) (after : ResultsSoFar) (new : Asked) : Type 0 where
   pub spent : spent_in_all after.spent + old.granted ≡ spent_in_all before.spent + new.granted
   pub refused : HasTotal after.ends → HasTotal before.ends ⊎ (new.refused ≡ true)
   pub still : old.refused ≡ true → new.refused ≡ true
@@ -92,11 +92,11 @@ pub record IsLeastWin (side : Side) (ends : List (Option JobResult)) (job : ℕ)
 -- there is no result, or it is stuck, or a proof whose strategy wins
 abbrev pub HasWonIn : Option JobResult → Type 0
 HasWonIn None = Unit {0}
-HasWonIn (Some end) = HasWon end
+HasWonIn (Some end) = IsStuckOrWon end
 
 -- the strategy of each proof wins
-abbrev pub AllWon : List (Option JobResult) → Type 0
-AllWon ends = (job : ℕ) (end : JobResult) → HasEnd ends job end → HasWon end
+abbrev pub AllStuckOrWon : List (Option JobResult) → Type 0
+AllStuckOrWon ends = (job : ℕ) (end : JobResult) → HasEnd ends job end → IsStuckOrWon end
 
 -- there is a result, and it is a stuck search
 abbrev pub IsStuckIn : Option JobResult → Type 0
@@ -136,7 +136,7 @@ pub record Puts (before after : List (Option JobResult)) (searched : SearchedJob
   pub len : length after ≡ length before
 
 -- a result's count is noted where the result is put
-pub record Notes (before after : Progress) (searched : SearchedJob) : Type 0 where
+pub record Notes (before after : ResultsSoFar) (searched : SearchedJob) : Type 0 where
   pub put : slice_get before.ends searched.job ≡ Some None → spent_in_all after.spent ≡ spent_in_all before.spent + searched.spent
   pub dropped : slice_get before.ends searched.job ≢ Some None → after.spent ≡ before.spent
 

@@ -44,9 +44,9 @@ impl Play<(), Ghost> for Draw {
 pub struct Grant;
 
 impl Play<(), Ghost> for Grant {
-    ghost use Rattle.tt_share.specs.Desk.{Grants};
+    ghost use Rattle.tt_share.specs.Desk.{GivesGrant};
 
-    ghost then = { λ step before found after. Grants before found after };
+    ghost then = { λ step before found after. GivesGrant before found after };
 }
 
 /// The flag was raised.
@@ -71,20 +71,20 @@ impl Play<(), Ghost> for Sighting {
 pub struct Cut;
 
 impl Split<Ghost> for Cut {
-    ghost use Rattle.tt_share.specs.Desk.{fewer, one_seat};
+    ghost use Rattle.tt_share.specs.Desk.{fewer, one_seat_view};
 
     ghost left = { fewer };
 
-    ghost right = { λ view. one_seat };
+    ghost right = { λ view. one_seat_view };
 }
 
 /// Two views are made one.
 pub struct Both;
 
 impl Join<Ghost> for Both {
-    ghost use Rattle.tt_share.specs.Desk.{joined, no_seat};
+    ghost use Rattle.tt_share.specs.Desk.{joined, no_seat_view};
 
     ghost both = { joined };
 
-    ghost spent = { no_seat };
+    ghost spent = { no_seat_view };
 }

@@ -4,7 +4,7 @@ ghost use Rattle.std.specs.Prelude.{◌≡◌, ◌≢◌, ◌≤◌, ◌+◌, �
 ghost use Rattle.std.specs.Option.{option_map};
 ghost use Rattle.std.specs.Arc.{arc_value};
 ghost use Rattle.tt_game.specs.declared.frame.Side.TheVariants.{Attacker, Defender};
-ghost use Rattle.tt_search.specs.Stores.{AnswersFor, IsNewest};
+ghost use Rattle.tt_search.specs.Stores.{HasKeyAndSide, IsNewest};
 ghost use Rattle.tt_search.specs.declared.store.Kept.TheVariants.{Stored, Full};
 ghost use Rattle.tt_share.specs.Log.{Keeps, Extends, newest_first, HasNewest};
 
@@ -74,7 +74,7 @@ impl<'a, R: Wait> Store for LogStore<'a, R> {
     }
 
     fn find(&mut self, line: &Line, s: Side) -> Result<Option<Arc<Proof>>, NoMemory>
-        ensures found { IfOk result (λ o. IfSome o (λ p. AnswersFor line.now s p.value)) }
+        ensures found { IfOk result (λ o. IfSome o (λ p. HasKeyAndSide line.now s p.value)) }
         ensures may { IfOk result (λ o. IfSome o (λ _. Unit {0})) }
         ensures kept { self.new.kept ≡ self.old.kept }
         ensures log { self.new.log ≡ self.old.log }
@@ -86,8 +86,8 @@ impl<'a, R: Wait> Store for LogStore<'a, R> {
     }
 
     fn find_both(&mut self, line: &Line) -> Result<BothSides, NoMemory>
-        ensures attacker { IfOk result (λ b. IfSome b.attacker (λ p. AnswersFor line.now Attacker p.value)) }
-        ensures defender { IfOk result (λ b. IfSome b.defender (λ p. AnswersFor line.now Defender p.value)) }
+        ensures attacker { IfOk result (λ b. IfSome b.attacker (λ p. HasKeyAndSide line.now Attacker p.value)) }
+        ensures defender { IfOk result (λ b. IfSome b.defender (λ p. HasKeyAndSide line.now Defender p.value)) }
         ensures may_attacker { IfOk result (λ b. IfSome b.attacker (λ _. Unit {0})) }
         ensures may_defender { IfOk result (λ b. IfSome b.defender (λ _. Unit {0})) }
         ensures kept { self.new.kept ≡ self.old.kept }

@@ -4,7 +4,7 @@ ghost use Rattle.std.specs.Prelude.{◌≡◌, ◌<◌, ◌++◌, ◌∷◌, [],
 ghost use Rattle.std.specs.Option.{option_map};
 ghost use Rattle.std.specs.Arc.{arc_value};
 ghost use Rattle.tt_game.specs.declared.frame.Side.TheVariants.{Attacker, Defender};
-ghost use Rattle.tt_search.specs.Stores.{AnswersFor, IsNewest};
+ghost use Rattle.tt_search.specs.Stores.{HasKeyAndSide, IsNewest};
 ghost use Rattle.tt_search.specs.KeyIndex.{proof_at};
 ghost use Rattle.tt_share.specs.Log.{IsOf, newest_first, proofs_of};
 
@@ -132,7 +132,7 @@ impl<'a> Taken<'a> {
     /// The proof of the last token of the line's key for the side.
     pub fn newest(&self, line: &Line, side: Side) -> Option<&Arc<Proof>>
         ensures newest { IsNewest line.now side (newest_first self.now.tokens) (option_map (λ p. arc_value p.now) result) }
-        ensures found { IfSome result (λ p. AnswersFor line.now side (arc_value p.now)) }
+        ensures found { IfSome result (λ p. HasKeyAndSide line.now side (arc_value p.now)) }
     {
         self.handle_at(self.index.newest(line, side, &self.row()))
     }
@@ -141,8 +141,8 @@ impl<'a> Taken<'a> {
     pub fn newest_both(&self, line: &Line) -> (Option<&Arc<Proof>>, Option<&Arc<Proof>>)
         ensures attacker { IsNewest line.now Attacker (newest_first self.now.tokens) (option_map (λ p. arc_value p.now) result.0) }
         ensures defender { IsNewest line.now Defender (newest_first self.now.tokens) (option_map (λ p. arc_value p.now) result.1) }
-        ensures found_attacker { IfSome result.0 (λ p. AnswersFor line.now Attacker (arc_value p.now)) }
-        ensures found_defender { IfSome result.1 (λ p. AnswersFor line.now Defender (arc_value p.now)) }
+        ensures found_attacker { IfSome result.0 (λ p. HasKeyAndSide line.now Attacker (arc_value p.now)) }
+        ensures found_defender { IfSome result.1 (λ p. HasKeyAndSide line.now Defender (arc_value p.now)) }
     {
         let (attacker, defender) = self.index.newest_both(line, &self.row());
         (self.handle_at(attacker), self.handle_at(defender))

@@ -4,7 +4,7 @@ ghost use Rattle.std.specs.Prelude.{◌≡◌, ◌≢◌, ◌≤◌, ◌<◌, �
 ghost use Rattle.std.specs.Option.{option_map};
 ghost use Rattle.std.specs.Arc.{arc_value};
 ghost use Rattle.tt_game.specs.declared.frame.Side.TheVariants.{Attacker, Defender};
-ghost use Rattle.tt_search.specs.Stores.{AnswersFor, IsNewest};
+ghost use Rattle.tt_search.specs.Stores.{HasKeyAndSide, IsNewest};
 ghost use Rattle.tt_search.specs.declared.store.Kept.TheVariants.{Stored, Full};
 ghost use Rattle.tt_share.specs.Log.{IsOf, Keeps, Extends, newest_first, HasNewest};
 
@@ -176,7 +176,7 @@ impl<'a> View<'a> {
         ensures kept { self.new.kept ≡ self.old.kept }
         ensures tokens { Extends self.old.tokens self.new.tokens }
         ensures newest { IfOk result (λ o. IsNewest line.now s (newest_first self.new.tokens) (option_map (λ p. arc_value p) o)) }
-        ensures found { IfOk result (λ o. IfSome o (λ p. AnswersFor line.now s (arc_value p))) }
+        ensures found { IfOk result (λ o. IfSome o (λ p. HasKeyAndSide line.now s (arc_value p))) }
         ensures memory { IfErr result (λ _. HasNewest line.now s self.new.tokens) }
     {
         self.read_on();
@@ -190,8 +190,8 @@ impl<'a> View<'a> {
         ensures tokens { Extends self.old.tokens self.new.tokens }
         ensures newest_attacker { IfOk result (λ b. IsNewest line.now Attacker (newest_first self.new.tokens) (option_map (λ p. arc_value p) b.attacker)) }
         ensures newest_defender { IfOk result (λ b. IsNewest line.now Defender (newest_first self.new.tokens) (option_map (λ p. arc_value p) b.defender)) }
-        ensures attacker { IfOk result (λ b. IfSome b.attacker (λ p. AnswersFor line.now Attacker (arc_value p))) }
-        ensures defender { IfOk result (λ b. IfSome b.defender (λ p. AnswersFor line.now Defender (arc_value p))) }
+        ensures attacker { IfOk result (λ b. IfSome b.attacker (λ p. HasKeyAndSide line.now Attacker (arc_value p))) }
+        ensures defender { IfOk result (λ b. IfSome b.defender (λ p. HasKeyAndSide line.now Defender (arc_value p))) }
         ensures memory { IfErr result (λ _. HasNewest line.now Attacker self.new.tokens ⊎ HasNewest line.now Defender self.new.tokens) }
     {
         self.read_on();

@@ -1,7 +1,7 @@
 //! A table behind a lock, and the stores that searches have of it.
 
 ghost use Rattle.std.specs.Prelude.{◌≡◌, ◌≢◌, ◌≤◌, ◌+◌, ◌↔◌, ℕ, IfOk, IfSome};
-ghost use Rattle.tt_search.specs.Stores.{AnswersFor};
+ghost use Rattle.tt_search.specs.Stores.{HasKeyAndSide};
 ghost use Rattle.tt_search.specs.declared.store.Kept.TheVariants.{Stored, Full};
 
 use crate::capacity::MOST_KEPT;

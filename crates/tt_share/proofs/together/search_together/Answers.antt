@@ -2,7 +2,7 @@ use Rattle.std.proofs.Common.{◌≡◌, ℕ, List, [], ◌∷◌, ◌++◌, Opt
 use Rattle.std.proofs.lemmas.List.Elements.{All-push}
 use Rattle.tt_game.specs.declared.turns.Turn.{Turn}
 use Rattle.tt_game.specs.Turns.{legal_turns}
-use Rattle.tt_share.specs.inside.Results.{Progress, SpendsTotal}
+use Rattle.tt_share.specs.inside.Results.{ResultsSoFar, SpendsTotal}
 use Rattle.tt_share.specs.Seats.{DeskView, SeatView, Closes}
 use Rattle.tt_share.specs.inside.Tallies.{Tallies}
 use Rattle.tt_share.proofs.Spending.{total_spent}
@@ -26,7 +26,7 @@ returns-clause-spent g c =
     let grants = c.search_missing.new.grants in
     let own = c.into_seat.result in
     let same : grants.desk.now ≡ desk = ap (λ (p : DeskView × SeatView). p.0) c.search_missing.ensures.source ∙ c.new-grants.ensures.desk in
-    let turns = ap (λ (ts : List Turn). length ts) (jobs.listed ∙ ap (λ (p : Progress). legal_turns p.line.frame p.line.state) c.results.view_is) in
+    let turns = ap (λ (ts : List Turn). length ts) (jobs.listed ∙ ap (λ (p : ResultsSoFar). legal_turns p.line.frame p.line.state) c.results.view_is) in
     let jobs_are : length (legal_turns first.line.frame first.line.state) ≡ desk.jobs = omega (arith, turns, c.len-count.ensures.value, c.in_ok-desk.ensures.desk.0) in
     let blank : first.ends ≡ replicate desk.jobs None = c.requires.blank.none ∙ ap (λ (n : ℕ). replicate n None) jobs_are in
     let closes : Closes desk (c.gather-seats.result.items ++ own ∷ []) c.in-Ok.field-0 =

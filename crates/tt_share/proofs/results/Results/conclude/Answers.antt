@@ -9,9 +9,9 @@ use Rattle.tt_search.specs.declared.search.End.TheVariants.{Settled, Stuck}
 use Rattle.tt_search.specs.declared.limits.Reason.TheVariants.{Total}
 use Rattle.tt_share.specs.declared.jobs.JobResult.TheVariants as result
 use Rattle.tt_share.specs.inside.Beginning.{BeginsWith}
-use Rattle.tt_share.specs.inside.Jobs.{AreResults, EndsBehind, IsJob, HasWon, end_of}
+use Rattle.tt_share.specs.inside.Jobs.{AreResults, EndsBehind, IsJob, IsStuckOrWon, end_of}
 use Rattle.tt_share.specs.Answers.{IsAnswer, spent_shown_of}
-use Rattle.tt_share.specs.inside.Results.{Progress, AreNoted, HasEnd, HaveLost, IsLost, AllWon, NoWin, IsStuckAt}
+use Rattle.tt_share.specs.inside.Results.{ResultsSoFar, AreNoted, HasEnd, HaveLost, IsLost, AllStuckOrWon, NoWin, IsStuckAt}
 use Rattle.tt_share.proofs.Lost.{legal_job, lesser_lose, one_more}
 use Rattle.tt_share.proofs.Placing.{seen, shown}
 use Rattle.tt_share.proofs.Noting.{spent_told}
@@ -48,11 +48,11 @@ picked-requires-clause-child c =
 
 pub returns-in-Some-clause-picks : goal.returns-in-Some-clause-picks
 returns-in-Some-clause-picks c =
-    let side : c.to_move.result ≡ c.args.self.line.state.to_move = c.to_move.ensures ∙ ap (λ (p : Progress). p.line.state.to_move) c.self.view_is in
-    let ends : c.as_slice.result.now ≡ c.args.self.ends = c.as_slice.ensures.value ∙ ap (λ (p : Progress). p.ends) c.self.view_is in
+    let side : c.to_move.result ≡ c.args.self.line.state.to_move = c.to_move.ensures ∙ ap (λ (p : ResultsSoFar). p.line.state.to_move) c.self.view_is in
+    let ends : c.as_slice.result.now ≡ c.args.self.ends = c.as_slice.ensures.value ∙ ap (λ (p : ResultsSoFar). p.ends) c.self.view_is in
     let least = least_at c.args.self.line.state.to_move c.to_move.result c.args.self.ends c.as_slice.result.now c.in-Some.job side ends c.in-Some.ensures.least in
     let turns : c.as_slice-turns.result.now ≡ legal_turns c.args.self.line.frame c.args.self.line.state =
-    c.as_slice-turns.ensures.value ∙ (c.self.inside.jobs.listed ∙ ap (λ (p : Progress). legal_turns p.line.frame p.line.state) c.self.view_is) in
+    c.as_slice-turns.ensures.value ∙ (c.self.inside.jobs.listed ∙ ap (λ (p : ResultsSoFar). legal_turns p.line.frame p.line.state) c.self.view_is) in
     λ job turn win at.
     subst (λ (t : Turn). IfOk c.picked.result (BeginsWith (Some t)))
     (same_turn c.args.self.line.state.to_move c.args.self.ends c.as_slice-turns.result.now c.in-Some.job c.index-turns-job.result least c.index-turns-job.is job turn win
@@ -61,22 +61,22 @@ returns-in-Some-clause-picks c =
 
 pub returns-in-Some-clause-stuck : goal.returns-in-Some-clause-stuck
 returns-in-Some-clause-stuck c =
-    let side : c.to_move.result ≡ c.args.self.line.state.to_move = c.to_move.ensures ∙ ap (λ (p : Progress). p.line.state.to_move) c.self.view_is in
-    let ends : c.as_slice.result.now ≡ c.args.self.ends = c.as_slice.ensures.value ∙ ap (λ (p : Progress). p.ends) c.self.view_is in
+    let side : c.to_move.result ≡ c.args.self.line.state.to_move = c.to_move.ensures ∙ ap (λ (p : ResultsSoFar). p.line.state.to_move) c.self.view_is in
+    let ends : c.as_slice.result.now ≡ c.args.self.ends = c.as_slice.ensures.value ∙ ap (λ (p : ResultsSoFar). p.ends) c.self.view_is in
     let least = least_at c.args.self.line.state.to_move c.to_move.result c.args.self.ends c.as_slice.result.now c.in-Some.job side ends c.in-Some.ensures.least in
     λ job turn reason search none stuck at. absurd (none c.in-Some.job least.wins)
 
 pub returns-in-Some-clause-replies : goal.returns-in-Some-clause-replies
 returns-in-Some-clause-replies c =
-    let side : c.to_move.result ≡ c.args.self.line.state.to_move = c.to_move.ensures ∙ ap (λ (p : Progress). p.line.state.to_move) c.self.view_is in
-    let ends : c.as_slice.result.now ≡ c.args.self.ends = c.as_slice.ensures.value ∙ ap (λ (p : Progress). p.ends) c.self.view_is in
+    let side : c.to_move.result ≡ c.args.self.line.state.to_move = c.to_move.ensures ∙ ap (λ (p : ResultsSoFar). p.line.state.to_move) c.self.view_is in
+    let ends : c.as_slice.result.now ≡ c.args.self.ends = c.as_slice.ensures.value ∙ ap (λ (p : ResultsSoFar). p.ends) c.self.view_is in
     let least = least_at c.args.self.line.state.to_move c.to_move.result c.args.self.ends c.as_slice.result.now c.in-Some.job side ends c.in-Some.ensures.least in
     λ none unstuck. absurd (none c.in-Some.job least.wins)
 
 pub returns-in-Some-Stuck-clause-answer : goal.returns-in-Some-Stuck-clause-answer
 returns-in-Some-Stuck-clause-answer c =
     let turns : c.as_slice-turns.result.now ≡ legal_turns c.args.self.line.frame c.args.self.line.state =
-    c.as_slice-turns.ensures.value ∙ (c.self.inside.jobs.listed ∙ ap (λ (p : Progress). legal_turns p.line.frame p.line.state) c.self.view_is) in
+    c.as_slice-turns.ensures.value ∙ (c.self.inside.jobs.listed ∙ ap (λ (p : ResultsSoFar). legal_turns p.line.frame p.line.state) c.self.view_is) in
     let i = c.loop-job.job in
     let turn = c.index-turns-job-in-loop-job.result in
     let are : AreResults c.args.self.line c.args.self.limits c.args.self.ends = shown
@@ -86,16 +86,16 @@ returns-in-Some-Stuck-clause-answer c =
     job_here c.args.self.line c.as_slice-turns.result.now i (length c.loop-job.children.items) turn turns
     (sym c.loop-job.children.ok.0 ∙ c.loop-job.invariant.noted) c.loop-job-test.true c.index-turns-job-in-loop-job.is in
     let taken = c.in-Some-Stuck.ensures.taken in
-    let there : HasEnd c.args.self.ends i taken.0 = ap (λ (p : Progress). slice_get p.ends i) (sym c.self.view_is) ∙ (sym (c.loop-job.invariant.same i (omega arith)) ∙ taken.1) in
+    let there : HasEnd c.args.self.ends i taken.0 = ap (λ (p : ResultsSoFar). slice_get p.ends i) (sym c.self.view_is) ∙ (sym (c.loop-job.invariant.same i (omega arith)) ∙ taken.1) in
     let is : end_of taken.0 ≡ Stuck c.in-Some-Stuck.reason c.in-Some-Stuck.search = sym taken.2 ∙ c.in-Some-Stuck.field-0-is in
     let behind = ends_here c.args.self.line c.args.self.limits i turn taken.0 _ is (are i taken.0 there) job in
     let lesser = lesser_lose c.args.self.line c.args.self.limits c.loop-job.children.items turn next c.loop-job.invariant.lost in
-    let side : c.to_move.result ≡ c.args.self.line.state.to_move = c.to_move.ensures ∙ ap (λ (p : Progress). p.line.state.to_move) c.self.view_is in
-    let ends : c.as_slice.result.now ≡ c.args.self.ends = c.as_slice.ensures.value ∙ ap (λ (p : Progress). p.ends) c.self.view_is in
+    let side : c.to_move.result ≡ c.args.self.line.state.to_move = c.to_move.ensures ∙ ap (λ (p : ResultsSoFar). p.line.state.to_move) c.self.view_is in
+    let ends : c.as_slice.result.now ≡ c.args.self.ends = c.as_slice.ensures.value ∙ ap (λ (p : ResultsSoFar). p.ends) c.self.view_is in
     let none : NoWin c.args.self.line.state.to_move c.args.self.ends = none_at c.args.self.line.state.to_move c.to_move.result c.args.self.ends c.as_slice.result.now
     side ends c.in_default.ensures.least in
-    let noted = subst (λ (p : Progress). AreNoted p.line p.limits p.ends p.spent) c.self.view_is c.self.invariant.noted in
-    let spent_shown = c.spent_shown.ensures ∙ ap (λ (p : Progress). spent_shown_of c.in-Some-Stuck.reason p.spent) c.self.view_is in
+    let noted = subst (λ (p : ResultsSoFar). AreNoted p.line p.limits p.ends p.spent) c.self.view_is c.self.invariant.noted in
+    let spent_shown = c.spent_shown.ensures ∙ ap (λ (p : ResultsSoFar). spent_shown_of c.in-Some-Stuck.reason p.spent) c.self.view_is in
     λ total all. says c.args.self.line c.args.self.limits total _ (legal_job c.args.self.line i turn job) lesser c.args.self.spent c.in-Some-Stuck.reason c.in-Some-Stuck.search refl behind spent_shown
     (λ held reason holds. spent_told c.args.self total i turn held taken.0 noted (all_filled c.args.self.line.state.to_move c.args.self.ends none c.requires.ready) there
     (is ∙ (ap (λ (r : Reason). Stuck r c.in-Some-Stuck.search) reason ∙ ap (λ (o : Option Searched). Stuck Total o) holds))
@@ -103,8 +103,8 @@ returns-in-Some-Stuck-clause-answer c =
 
 pub returns-in-Some-Stuck-clause-picks : goal.returns-in-Some-Stuck-clause-picks
 returns-in-Some-Stuck-clause-picks c =
-    let side : c.to_move.result ≡ c.args.self.line.state.to_move = c.to_move.ensures ∙ ap (λ (p : Progress). p.line.state.to_move) c.self.view_is in
-    let ends : c.as_slice.result.now ≡ c.args.self.ends = c.as_slice.ensures.value ∙ ap (λ (p : Progress). p.ends) c.self.view_is in
+    let side : c.to_move.result ≡ c.args.self.line.state.to_move = c.to_move.ensures ∙ ap (λ (p : ResultsSoFar). p.line.state.to_move) c.self.view_is in
+    let ends : c.as_slice.result.now ≡ c.args.self.ends = c.as_slice.ensures.value ∙ ap (λ (p : ResultsSoFar). p.ends) c.self.view_is in
     let none : NoWin c.args.self.line.state.to_move c.args.self.ends = none_at c.args.self.line.state.to_move c.to_move.result c.args.self.ends c.as_slice.result.now
     side ends c.in_default.ensures.least in
     λ job turn win at. absurd (none job win.wins)
@@ -112,7 +112,7 @@ returns-in-Some-Stuck-clause-picks c =
 pub returns-in-Some-Stuck-clause-stuck : goal.returns-in-Some-Stuck-clause-stuck
 returns-in-Some-Stuck-clause-stuck c =
     let turns : c.as_slice-turns.result.now ≡ legal_turns c.args.self.line.frame c.args.self.line.state =
-    c.as_slice-turns.ensures.value ∙ (c.self.inside.jobs.listed ∙ ap (λ (p : Progress). legal_turns p.line.frame p.line.state) c.self.view_is) in
+    c.as_slice-turns.ensures.value ∙ (c.self.inside.jobs.listed ∙ ap (λ (p : ResultsSoFar). legal_turns p.line.frame p.line.state) c.self.view_is) in
     let i = c.loop-job.job in
     let turn = c.index-turns-job-in-loop-job.result in
     let are : AreResults c.args.self.line c.args.self.limits c.args.self.ends = shown
@@ -122,9 +122,9 @@ returns-in-Some-Stuck-clause-stuck c =
     job_here c.args.self.line c.as_slice-turns.result.now i (length c.loop-job.children.items) turn turns
     (sym c.loop-job.children.ok.0 ∙ c.loop-job.invariant.noted) c.loop-job-test.true c.index-turns-job-in-loop-job.is in
     let taken = c.in-Some-Stuck.ensures.taken in
-    let there : HasEnd c.args.self.ends i taken.0 = ap (λ (p : Progress). slice_get p.ends i) (sym c.self.view_is) ∙ (sym (c.loop-job.invariant.same i (omega arith)) ∙ taken.1) in
+    let there : HasEnd c.args.self.ends i taken.0 = ap (λ (p : ResultsSoFar). slice_get p.ends i) (sym c.self.view_is) ∙ (sym (c.loop-job.invariant.same i (omega arith)) ∙ taken.1) in
     let is : end_of taken.0 ≡ Stuck c.in-Some-Stuck.reason c.in-Some-Stuck.search = sym taken.2 ∙ c.in-Some-Stuck.field-0-is in
-    let spent_shown = c.spent_shown.ensures ∙ ap (λ (p : Progress). spent_shown_of c.in-Some-Stuck.reason p.spent) c.self.view_is in
+    let spent_shown = c.spent_shown.ensures ∙ ap (λ (p : ResultsSoFar). spent_shown_of c.in-Some-Stuck.reason p.spent) c.self.view_is in
     λ other t reason search none least at.
     (let here : IsStuckAt c.args.self.ends i = (taken.0, there, stuck_of taken.0 c.in-Some-Stuck.reason c.in-Some-Stuck.search is) in
     let same = same_stuck c.args.self.line c.args.self.ends i other turn t c.in-Some-Stuck.reason reason c.in-Some-Stuck.search search taken.0
@@ -135,31 +135,31 @@ pub returns-in-Some-Stuck-clause-replies : goal.returns-in-Some-Stuck-clause-rep
 returns-in-Some-Stuck-clause-replies c =
     let i = c.loop-job.job in
     let taken = c.in-Some-Stuck.ensures.taken in
-    let there : HasEnd c.args.self.ends i taken.0 = ap (λ (p : Progress). slice_get p.ends i) (sym c.self.view_is) ∙ (sym (c.loop-job.invariant.same i (omega arith)) ∙ taken.1) in
+    let there : HasEnd c.args.self.ends i taken.0 = ap (λ (p : ResultsSoFar). slice_get p.ends i) (sym c.self.view_is) ∙ (sym (c.loop-job.invariant.same i (omega arith)) ∙ taken.1) in
     let is : end_of taken.0 ≡ Stuck c.in-Some-Stuck.reason c.in-Some-Stuck.search = sym taken.2 ∙ c.in-Some-Stuck.field-0-is in
     λ none unstuck. unstuck i (taken.0, there, stuck_of taken.0 c.in-Some-Stuck.reason c.in-Some-Stuck.search is)
 
 pub unreachable-requires-in-None : goal.unreachable-requires-in-None
 unreachable-requires-in-None c =
-    let side : c.to_move.result ≡ c.args.self.line.state.to_move = c.to_move.ensures ∙ ap (λ (p : Progress). p.line.state.to_move) c.self.view_is in
-    let ends : c.as_slice.result.now ≡ c.args.self.ends = c.as_slice.ensures.value ∙ ap (λ (p : Progress). p.ends) c.self.view_is in
+    let side : c.to_move.result ≡ c.args.self.line.state.to_move = c.to_move.ensures ∙ ap (λ (p : ResultsSoFar). p.line.state.to_move) c.self.view_is in
+    let ends : c.as_slice.result.now ≡ c.args.self.ends = c.as_slice.ensures.value ∙ ap (λ (p : ResultsSoFar). p.ends) c.self.view_is in
     let none : NoWin c.args.self.line.state.to_move c.args.self.ends = none_at c.args.self.line.state.to_move c.to_move.result c.args.self.ends c.as_slice.result.now
     side ends c.in_default.ensures.least in
     let i = c.loop-job.job in
-    let long : length c.self.inside.ends.items ≡ length c.args.self.ends = ap (λ (p : Progress). length p.ends) c.self.view_is in
+    let long : length c.self.inside.ends.items ≡ length c.args.self.ends = ap (λ (p : ResultsSoFar). length p.ends) c.self.view_is in
     let all = ap (λ (l : List Turn). length l) c.as_slice-turns.ensures.value in
     let within : i < length c.args.self.ends = omega (arith, c.loop-job-test.true, long, all, c.self.inside.ends.ok.0, c.self.invariant.one_each) in
-    let same : slice_get c.loop-job.ends.items i ≡ slice_get c.args.self.ends i = c.loop-job.invariant.same i (omega arith) ∙ ap (λ (p : Progress). slice_get p.ends i) c.self.view_is in
+    let same : slice_get c.loop-job.ends.items i ≡ slice_get c.args.self.ends i = c.loop-job.invariant.same i (omega arith) ∙ ap (λ (p : ResultsSoFar). slice_get p.ends i) c.self.view_is in
     not_missing c.args.self.line.state.to_move c.args.self.ends c.loop-job.ends.items i none c.requires.ready within same c.in-None.ensures.taken
 
 pub loop-job-preserved : goal.loop-job-preserved
 loop-job-preserved c =
-    let side : c.to_move.result ≡ c.args.self.line.state.to_move = c.to_move.ensures ∙ ap (λ (p : Progress). p.line.state.to_move) c.self.view_is in
-    let ends : c.as_slice.result.now ≡ c.args.self.ends = c.as_slice.ensures.value ∙ ap (λ (p : Progress). p.ends) c.self.view_is in
+    let side : c.to_move.result ≡ c.args.self.line.state.to_move = c.to_move.ensures ∙ ap (λ (p : ResultsSoFar). p.line.state.to_move) c.self.view_is in
+    let ends : c.as_slice.result.now ≡ c.args.self.ends = c.as_slice.ensures.value ∙ ap (λ (p : ResultsSoFar). p.ends) c.self.view_is in
     let none : NoWin c.args.self.line.state.to_move c.args.self.ends = none_at c.args.self.line.state.to_move c.to_move.result c.args.self.ends c.as_slice.result.now
     side ends c.in_default.ensures.least in
     let turns : c.as_slice-turns.result.now ≡ legal_turns c.args.self.line.frame c.args.self.line.state =
-    c.as_slice-turns.ensures.value ∙ (c.self.inside.jobs.listed ∙ ap (λ (p : Progress). legal_turns p.line.frame p.line.state) c.self.view_is) in
+    c.as_slice-turns.ensures.value ∙ (c.self.inside.jobs.listed ∙ ap (λ (p : ResultsSoFar). legal_turns p.line.frame p.line.state) c.self.view_is) in
     let i = c.loop-job.job in
     let turn = c.index-turns-job-in-loop-job.result in
     let are : AreResults c.args.self.line c.args.self.limits c.args.self.ends = shown
@@ -169,11 +169,11 @@ loop-job-preserved c =
     job_here c.args.self.line c.as_slice-turns.result.now i (length c.loop-job.children.items) turn turns
     (sym c.loop-job.children.ok.0 ∙ c.loop-job.invariant.noted) c.loop-job-test.true c.index-turns-job-in-loop-job.is in
     let taken = c.in-Some-Settled-take_end.ensures.taken in
-    let there : HasEnd c.args.self.ends i taken.0 = ap (λ (p : Progress). slice_get p.ends i) (sym c.self.view_is) ∙ (sym (c.loop-job.invariant.same i (omega arith)) ∙ taken.1) in
+    let there : HasEnd c.args.self.ends i taken.0 = ap (λ (p : ResultsSoFar). slice_get p.ends i) (sym c.self.view_is) ∙ (sym (c.loop-job.invariant.same i (omega arith)) ∙ taken.1) in
     let child = c.in-Some-Settled-take_end.child in
     let is : end_of taken.0 ≡ Settled child = sym taken.2 ∙ c.in-Some-Settled-take_end.field-0-is in
     let behind : EndsBehind c.args.self.line c.args.self.limits turn (Settled child) = ends_here c.args.self.line c.args.self.limits i turn taken.0 (Settled child) is (are i taken.0 there) job in
-    let won : HasWon (result.Settled child) = subst HasWon (settled_of taken.0 child is) (subst AllWon ends c.in_default.ensures.won i taken.0 there) in
+    let won : IsStuckOrWon (result.Settled child) = subst IsStuckOrWon (settled_of taken.0 child is) (subst AllStuckOrWon ends c.in_default.ensures.won i taken.0 there) in
     let this : IsLost c.args.self.line c.args.self.limits (turn, child) =
     record { stands = behind.0; side = lost_side c.args.self.line.state.to_move c.args.self.ends i taken.0 child none is there; low = behind.1; wins = won } in
     let more = one_more c.args.self.line c.args.self.limits c.loop-job.children.items (turn, child) c.loop-job.invariant.lost next this in
@@ -199,15 +199,15 @@ replied-requires-clause-all c =
 
 pub returns-clause-picks : goal.returns-clause-picks
 returns-clause-picks c =
-    let side : c.to_move.result ≡ c.args.self.line.state.to_move = c.to_move.ensures ∙ ap (λ (p : Progress). p.line.state.to_move) c.self.view_is in
-    let ends : c.as_slice.result.now ≡ c.args.self.ends = c.as_slice.ensures.value ∙ ap (λ (p : Progress). p.ends) c.self.view_is in
+    let side : c.to_move.result ≡ c.args.self.line.state.to_move = c.to_move.ensures ∙ ap (λ (p : ResultsSoFar). p.line.state.to_move) c.self.view_is in
+    let ends : c.as_slice.result.now ≡ c.args.self.ends = c.as_slice.ensures.value ∙ ap (λ (p : ResultsSoFar). p.ends) c.self.view_is in
     let none : NoWin c.args.self.line.state.to_move c.args.self.ends = none_at c.args.self.line.state.to_move c.to_move.result c.args.self.ends c.as_slice.result.now
     side ends c.in_default.ensures.least in
     λ job turn win at. absurd (none job win.wins)
 
 pub returns-clause-stuck : goal.returns-clause-stuck
 returns-clause-stuck c =
-    let long : length c.self.inside.ends.items ≡ length c.args.self.ends = ap (λ (p : Progress). length p.ends) c.self.view_is in
+    let long : length c.self.inside.ends.items ≡ length c.args.self.ends = ap (λ (p : ResultsSoFar). length p.ends) c.self.view_is in
     let all = ap (λ (l : List Turn). length l) c.as_slice-turns.ensures.value in
     λ job turn reason search none stuck at.
     (let here : IsStuckAt c.args.self.ends job = stuck_there c.args.self.ends job reason search stuck in

@@ -4,7 +4,7 @@ use Rattle.std.proofs.lemmas.Option.{slice_get_within}
 use Rattle.tt_share.specs.declared.jobs.JobResult.{JobResult}
 use Rattle.tt_share.specs.Answers.{spent_in_all}
 use Rattle.tt_share.specs.inside.Jobs.{IsResultOf, IsJobCount, AreResults, kept_of}
-use Rattle.tt_share.specs.inside.Results.{Progress, AreNoted, IsPastStuck}
+use Rattle.tt_share.specs.inside.Results.{ResultsSoFar, AreNoted, IsPastStuck}
 use Rattle.tt_share.proofs.Noting.{noted_put, sum_noted, kept_count}
 use Rattle.tt_share.proofs.ResultLemmas.{one_more_result, kept_result}
 use Rattle.tt_share.proofs.Placing.{seen}
@@ -20,7 +20,7 @@ invariant_of-self c =
     let this : IsResultOf line limits job c.kept.result =
     subst (IsResultOf line limits job) (sym c.kept.ensures) (kept_result line limits job c.is_past_stuck-past_stuck.result c.args.searched.end found) in
     let all = one_more_result line limits c.self.inside.ends.items job c.kept.result c.self.invariant.are this in
-    let ends : c.self.inside.ends.items ≡ c.args.self.now.ends = ap (λ (p : Progress). p.ends) c.self.view_is in
+    let ends : c.self.inside.ends.items ≡ c.args.self.now.ends = ap (λ (p : ResultsSoFar). p.ends) c.self.view_is in
     let free : slice_get c.self.inside.ends.items job ≡ Some None = ap (λ (l : List (Option JobResult)). slice_get l job) ends ∙ c.is_free.ensures.free.0 c.if-is_free.true in
     let note = c.note.ensures.noted in
     let count : IsJobCount line limits job c.args.searched.spent c.args.searched.end =
@@ -40,8 +40,8 @@ returns-then-is_free-clause-notes c =
     let line = c.self.inside.jobs.line.now in
     let limits = c.self.inside.jobs.limits in
     let job = c.args.searched.job in
-    let ends : c.self.inside.ends.items ≡ c.args.self.now.ends = ap (λ (p : Progress). p.ends) c.self.view_is in
-    let spent = ap (λ (p : Progress). spent_in_all p.spent) c.self.view_is in
+    let ends : c.self.inside.ends.items ≡ c.args.self.now.ends = ap (λ (p : ResultsSoFar). p.ends) c.self.view_is in
+    let spent = ap (λ (p : ResultsSoFar). spent_in_all p.spent) c.self.view_is in
     let free : slice_get c.self.inside.ends.items job ≡ Some None = ap (λ (l : List (Option JobResult)). slice_get l job) ends ∙ c.is_free.ensures.free.0 c.if-is_free.true in
     let note = c.note.ensures.noted in
     let more = sum_noted line limits c.self.inside.ends.items c.self.inside.spent.items job note.0 c.self.invariant.noted free note.1 c.args.searched.spent in
@@ -52,14 +52,14 @@ returns-then-is_free-clause-notes c =
 
 pub note-requires : goal.note-requires
 note-requires c =
-    let ends : length c.self.inside.ends.items ≡ length c.args.self.now.ends = ap (λ (p : Progress). length p.ends) c.self.view_is in
+    let ends : length c.self.inside.ends.items ≡ length c.args.self.now.ends = ap (λ (p : ResultsSoFar). length p.ends) c.self.view_is in
     let within : c.args.searched.job < length c.args.self.now.ends = slice_get_within c.args.self.now.ends c.args.searched.job None (c.is_free.ensures.free.0 c.if-is_free.true) in
     omega (arith, within, ends, c.self.invariant.noted.each, c.self.inside.spent.ok.0)
 
 pub returns-then-is_free-clause-puts : goal.returns-then-is_free-clause-puts
 returns-then-is_free-clause-puts c =
     let job = c.args.searched.job in
-    let ends : c.self.inside.ends.items ≡ c.args.self.now.ends = ap (λ (p : Progress). p.ends) c.self.view_is in
+    let ends : c.self.inside.ends.items ≡ c.args.self.now.ends = ap (λ (p : ResultsSoFar). p.ends) c.self.view_is in
     let past : IsTrue c.is_past_stuck-past_stuck.result ↔ IsPastStuck c.args.self.now.ends job =
     subst (λ (l : List (Option JobResult)). IsTrue c.is_past_stuck-past_stuck.result ↔ IsPastStuck l job) (c.as_slice.ensures.value ∙ ends) c.is_past_stuck-past_stuck.ensures in
     let put : c.fill.new.ends.items ≡ slice_set c.args.self.now.ends job (Some (kept_of c.is_past_stuck-past_stuck.result c.args.searched.end)) =
@@ -72,6 +72,6 @@ returns-then-is_free-clause-puts c =
 
 pub fill-requires : goal.fill-requires
 fill-requires c =
-    let ends : length c.self.inside.ends.items ≡ length c.args.self.now.ends = ap (λ (p : Progress). length p.ends) c.self.view_is in
+    let ends : length c.self.inside.ends.items ≡ length c.args.self.now.ends = ap (λ (p : ResultsSoFar). length p.ends) c.self.view_is in
     let within : c.args.searched.job < length c.args.self.now.ends = slice_get_within c.args.self.now.ends c.args.searched.job None (c.is_free.ensures.free.0 c.if-is_free.true) in
     omega (arith, within, ends, c.self.inside.ends.ok.0)

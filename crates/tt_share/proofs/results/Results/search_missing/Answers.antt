@@ -1,6 +1,6 @@
 use Rattle.std.proofs.Common.{◌∙◌, ◌<◌, ◌+◌, ℕ, sym, ap, subst, arith}
 use Rattle.tt_game.specs.declared.frame.Side.{Side}
-use Rattle.tt_share.specs.inside.Results.{Progress, IsWinAt, StopsAtWin}
+use Rattle.tt_share.specs.inside.Results.{ResultsSoFar, IsWinAt, StopsAtWin}
 use Rattle.tt_share.proofs.Placing.{same_twice, keeps_twice}
 use Rattle.tt_share.proofs.Asked.{asked_nothing, asked_twice}
 use Rattle.tt_share.proofs.Wins.{ready_by, filled_more, no_win, win_kept, lost_more, same_more, stops_at, stops_never}
@@ -20,7 +20,7 @@ pub returns-then-search_job-clause-stops : goal.returns-then-search_job-clause-s
 returns-then-search_job-clause-stops g c =
     let old = c.loop-job.self in
     let new = c.search_job.new.self in
-    let side = ap (λ (p : Progress). p.line.state.to_move) c.search_job.ensures.same in
+    let side = ap (λ (p : ResultsSoFar). p.line.state.to_move) c.search_job.ensures.same in
     subst (λ (s : Side). StopsAtWin s c.args.self.now.ends new.ends) (sym side)
     (stops_at old.line.state.to_move c.args.self.now.ends old.ends new.ends c.loop-job.job c.loop-job.invariant.lost c.loop-job.invariant.rest c.search_job.ensures.others)
 
@@ -38,8 +38,8 @@ loop-job-preserved g c =
     let first = c.args.self.now in
     let old = c.loop-job.self in
     let new = c.search_job.new.self in
-    let side = ap (λ (p : Progress). p.line.state.to_move) c.search_job.ensures.same in
-    let begun = ap (λ (p : Progress). p.line.state.to_move) c.loop-job.invariant.same in
+    let side = ap (λ (p : ResultsSoFar). p.line.state.to_move) c.search_job.ensures.same in
+    let begun = ap (λ (p : ResultsSoFar). p.line.state.to_move) c.loop-job.invariant.same in
     let before : ¬ IsWinAt first.line.state.to_move old.ends c.loop-job.job = λ win. c.in_default.ensures c.loop-job.job
     (win_kept first.line.state.to_move first.ends old.ends c.loop-job.job (c.loop-job.invariant.rest c.loop-job.job (omega arith)) win) in
     let this : ¬ IsWinAt old.line.state.to_move new.ends c.loop-job.job = λ win. before

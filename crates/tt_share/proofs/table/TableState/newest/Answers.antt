@@ -4,7 +4,7 @@ use Rattle.std.specs.Arc.{arc_value}
 use Rattle.tt_share.proofs.SlotLemmas.{has_key_at}
 use Rattle.tt_share.proofs.Newest.{among_all, among_fewer, read_side, none_is_newest, found_is_newest}
 use Rattle.tt_game.specs.Keys.{key_of}
-use Rattle.tt_search.specs.Stores.{AnswersFor}
+use Rattle.tt_search.specs.Stores.{HasKeyAndSide}
 use Rattle.tt_share.specs.Table.{slots_of}
 use Rattle.tt_share.proofs.table.TableState.newest.Goals as goal
 
@@ -52,7 +52,7 @@ returns-then-eq c =
     let inside : slot < length c.self.inside.proofs.items = search rules in
     let is : c.in-Some.p.now ≡ get_or c.self.inside.proofs.items slot c.in-Some.p.now = search rules in
     let side : (arc_value c.in-Some.p.now).side ≡ c.args.s = search rules in
-    let answers : AnswersFor c.args.line.now c.args.s (arc_value c.in-Some.p.now) =
+    let answers : HasKeyAndSide c.args.line.now c.args.s (arc_value c.in-Some.p.now) =
     record {
       same_key = has_key_at arc_value (key_of c.args.line.now.frame c.args.line.now.state) c.self.inside.proofs.items c.args.self.now c.in-Some.p.now c.slots-slots.result.now
           (c.loop-left.left - 1) c.self.view_is c.loop-left.invariant.0 left inside is;

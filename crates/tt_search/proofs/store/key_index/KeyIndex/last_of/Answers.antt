@@ -1,7 +1,7 @@
 use Rattle.std.proofs.Common.{arith, ◌≡◌, suc, ◌-◌, ◌+◌, ◌<◌, ◌∙◌, sym, ap, subst, Some, length, get_or, slice_get}
 use Rattle.std.proofs.lemmas.List.{get_or_read}
 use Rattle.tt_proof.specs.Proven.{Proven}
-use Rattle.tt_search.specs.Stores.{AnswersFor, IsNewest}
+use Rattle.tt_search.specs.Stores.{HasKeyAndSide, IsNewest}
 use Rattle.tt_search.specs.KeyIndex.{index_hashes, IndexState}
 use Rattle.tt_search.specs.inside.Buckets.{bucket_of_hash, NoneFrom}
 use Rattle.tt_search.proofs.Buckets.{before_low, before_inside, none_unmarked, none_past_next, not_found, answers_hash, found_newest, none_newest}
@@ -22,7 +22,7 @@ pub returns-then-is_for-clause-newest : goal.returns-then-is_for-clause-newest
 returns-then-is_for-clause-newest g c =
     let ps = g.P.ProofRow.proofs c.args.row.now in
     let found = c.is_for.ensures.0 c.if-is_for.true in
-    let answers : AnswersFor c.args.line.now c.args.side c.proof.result.now = record { same_key = found.0; for_side = found.1 } in
+    let answers : HasKeyAndSide c.args.line.now c.args.side c.proof.result.now = record { same_key = found.0; for_side = found.1 } in
     let on : NoneFrom c.args.line.now c.args.side ps (suc (c.loop-next.next - 1)) = λ i p low. c.loop-next.invariant.none i p (omega (arith, low)) in
     let newest = found_newest c.args.line.now c.args.side ps (c.loop-next.next - 1) c.proof.result.now c.proof.ensures answers on in
     subst (IsNewest c.args.line.now c.args.side _) (sym c.proof.ensures) newest
@@ -51,7 +51,7 @@ loop-next-preserved g c =
     let low = before_low heads before hashes slot next c.self.invariant.linked within is in
     let there = get_or_read hashes slot c.index.result.now within c.index.ensures 0 in
     let on : NoneFrom line c.args.side ps (slot + 1) = λ i p late. c.loop-next.invariant.none i p (omega (arith, late)) in
-    let here : (p : Proven) → slice_get ps slot ≡ Some p → AnswersFor line c.args.side p → ⊥ = λ p at. elim c.else-index-hash.branch [
+    let here : (p : Proven) → slice_get ps slot ≡ Some p → HasKeyAndSide line c.args.side p → ⊥ = λ p at. elim c.else-index-hash.branch [
       | else-index-hash-via-then-index-hash+else-is_for w ↦
           not_found line c.args.side ps slot w.is_for.result p w.proof.result.now w.proof.ensures at w.if-is_for.false w.is_for.ensures
       | else-index-hash-via-else-index-hash w ↦ (λ a. w.if-index-hash.false (there ∙ answers_hash line c.args.side hashes ps slot c.args.hash p all hash at a))
