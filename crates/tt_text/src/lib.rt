@@ -12,4 +12,5 @@ mod verdict;
 pub use finding::{Finding, find};
 pub use options::{Cert, MOST_IN_ALL, Options};
 pub use outcome::{Outcome, line, score};
-pub use solving::solve;
+pub use solving::{found, solve};
+pub use verdict::verdict_text;

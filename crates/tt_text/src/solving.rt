@@ -75,9 +75,25 @@ fn is_usable(
     }
 }
 
+/// What df-pn finds at a line within so many positions. Its frame is large, and is never made where df-pn isn't asked for.
+#[inline(never)]
+fn proof_by_dfpn(
+    alloc: Global,
+    line: &Line,
+    depth: u16,
+    positions: u32,
+) -> Result<Option<Proof>, NoMemory>
+    requires { depth ≤ MOST_DEPTH }
+    ensures { IfOk result (λ o. IfSome o (λ p. StandsAt p line.now.frame line.now.state)) }
+{
+    let mut visits = Visits { left: positions };
+    let mut copy = line.try_clone()?;
+    find_proof(alloc, &mut copy, depth, &mut visits)
+}
+
 /// What df-pn finds at a line, where it is asked for. A proof whose certificate is to be written, and can't be checked behind the
 /// problem's text, is left.
-fn found(
+pub fn found(
     alloc: Global,
     line: &Line,
     options: Options,
@@ -90,9 +106,7 @@ fn found(
     let Some(positions) = options.dfpn else {
         return Ok(None);
     };
-    let mut visits = Visits { left: positions };
-    let mut copy = line.try_clone()?;
-    let Some(proof) = find_proof(alloc, &mut copy, options.limits.depth(), &mut visits)? else {
+    let Some(proof) = proof_by_dfpn(alloc, line, options.limits.depth(), positions)? else {
         return Ok(None);
     };
     if is_usable(alloc, &proof, line, options, bytes)? {
