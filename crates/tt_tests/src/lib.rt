@@ -12,6 +12,7 @@
 //! | `search_tests`, `trace_tests`, `trace_tables` | `tt_search`: searches, their traces, and tables of these |
 //! | `store_tests` | `tt_search`: searches over stores that are full, refuse or are refused |
 //! | `grants_tests` | `tt_search`: searches whose expansions are granted |
+//! | `dfpn_tests` | `tt_dfpn`: proofs after good advice and after lies |
 //! | `text_tables` | tables of texts: trees, values, records, problems and certificates |
 //! | `rows`, `drawings` | how a table is read that is one text, and boards that are drawn in one |
 
@@ -23,6 +24,8 @@ mod board_tables;
 mod board_tests;
 #[cfg(test)]
 mod chain_tests;
+#[cfg(test)]
+mod dfpn_tests;
 #[cfg(test)]
 mod drawings;
 #[cfg(test)]

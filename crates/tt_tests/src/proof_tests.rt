@@ -14,7 +14,7 @@ use tt_game::{Line, Side, Turn};
 use tt_proof::{Proof, Rejected, Tree, read_cert, replay, write_cert};
 
 /// Whether the certificate wins at the line, or the number of the refusal.
-fn replays(alloc: Global, line: &mut Line, certificate: &[u8]) -> Result<bool, u8> {
+pub fn replays(alloc: Global, line: &mut Line, certificate: &[u8]) -> Result<bool, u8> {
     match read_cert(alloc, certificate, line.frame().size) {
         Err(fault) => Err(fault.code()),
         Ok((side, tree)) => match replay(&tree, side, line) {
