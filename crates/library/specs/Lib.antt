@@ -1,1 +1,1 @@
-pub mod Winning
+pub mod ValidCertificates

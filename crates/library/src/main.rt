@@ -4,7 +4,7 @@
 
 mod solving;
 
-use solving::{certificate, is_winning, proof_at};
+use solving::{certificate, is_valid_certificate, proof_at};
 use std::alloc::Global;
 use std::io::{self, Read, Write};
 use std::process::ExitCode;
@@ -25,7 +25,7 @@ fn answer(alloc: Global, input: &[u8]) -> Option<Vec<u8>> {
     let mut line = posed(alloc, input)?;
     let proof = proof_at(alloc, &line)?;
     let text = certificate(alloc, &line, &proof).ok()?;
-    if is_winning(alloc, &mut line, text.as_slice()).ok()? {
+    if is_valid_certificate(alloc, &mut line, text.as_slice()).ok()? {
         return Some(text);
     }
     None

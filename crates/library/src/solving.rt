@@ -1,21 +1,48 @@
-//! Solving a problem in this thread, and its certificate.
+//! Solving a problem in this thread, by df-pn or else by a search, and its certificate.
 
 ghost use Rattle.std.specs.Prelude.{◌≡◌, IfOk, IfSome, IsTrue};
 ghost use Rattle.std.specs.Arc.{arc_value};
 ghost use Rattle.tt_proof.specs.CertificateText.{certificate_text};
 ghost use Rattle.tt_proof.specs.Proven.{StandsAt};
-ghost use Rattle.library.specs.Winning.{IsWinning};
+ghost use Rattle.library.specs.ValidCertificates.{IsValidCertificate};
 
 use std::alloc::Global;
 use std::sync::Arc;
+use tt_dfpn::{Visits, find_proof};
 use tt_game::Line;
 use tt_proof::{CertFault, MOST_DEPTH, Proof, read_cert, replay, write_cert};
 use tt_search::{Limits, PrivateStore};
 use tt_sgf::NoMemory;
 use tt_share::{Answer, solve_one};
 
+/// How many positions df-pn may visit.
+const POSITIONS: u32 = 100_000;
+
 /// How many nodes may be expanded behind each first turn.
 const BUDGET: u32 = 100_000;
+
+/// What df-pn finds at the line.
+fn proof_by_dfpn(alloc: Global, line: &Line) -> Result<Option<Proof>, NoMemory>
+    ensures { IfOk result (λ o. IfSome o (λ p. StandsAt p line.now.frame line.now.state)) }
+{
+    let mut visits = Visits { left: POSITIONS };
+    let mut copy = line.try_clone()?;
+    find_proof(alloc, &mut copy, MOST_DEPTH, &mut visits)
+}
+
+/// The same behind a handle, where memory suffices for it.
+fn found(alloc: Global, line: &Line) -> Option<Arc<Proof>>
+    ensures { IfSome result (λ proof. StandsAt (arc_value proof) line.now.frame line.now.state) }
+{
+    match proof_by_dfpn(alloc, line) {
+        Ok(Some(proof)) => match Arc::new(alloc, proof) {
+            Ok(handle) => Some(handle),
+            Err(_) => None,
+        },
+        Ok(None) => None,
+        Err(NoMemory) => None,
+    }
+}
 
 /// A proof that stands at the line, where the limits and memory suffice for one and nobody has won yet.
 pub fn proof_at(alloc: Global, line: &Line) -> Option<Arc<Proof>>
@@ -23,6 +50,10 @@ pub fn proof_at(alloc: Global, line: &Line) -> Option<Arc<Proof>>
 {
     if line.winner().is_some() {
         return None;
+    }
+    let known = found(alloc, line);
+    if known.is_some() {
+        return known;
     }
     let Some(limits) = Limits::new(BUDGET, MOST_DEPTH) else {
         unreachable!();
@@ -43,8 +74,8 @@ pub fn certificate(alloc: Global, line: &Line, proof: &Proof) -> Result<Vec<u8>,
 }
 
 /// Whether the text is the certificate of a strategy that wins at the line. The line stands as before.
-pub fn is_winning(alloc: Global, line: &mut Line, text: &[u8]) -> Result<bool, NoMemory>
-    ensures wins { IfOk result (λ wins. IsTrue wins → IsWinning line.old text.now) }
+pub fn is_valid_certificate(alloc: Global, line: &mut Line, text: &[u8]) -> Result<bool, NoMemory>
+    ensures wins { IfOk result (λ wins. IsTrue wins → IsValidCertificate line.old text.now) }
     ensures same { line.new ≡ line.old }
 {
     let size = line.frame().size;
