@@ -1,0 +1,31 @@
+#!/usr/bin/env python3
+"""The line on standard input, in Python: solve.py LIBRARY WORD [cert]."""
+import ctypes
+import sys
+
+
+class Options(ctypes.Structure):
+    _fields_ = [(name, ctypes.c_uint32) for name in ("budget", "depth", "total", "dfpn", "cert")]
+
+
+class Tsumego:
+    def __init__(self, path):
+        self.library = ctypes.CDLL(path)
+
+    def answer(self, word, sgf, budget=100_000, depth=512, total=0, dfpn=0, cert=0, parts=0):
+        """The line, and whether it says that something was refused. Other threads of Python run meanwhile."""
+        options = {"solve": [ctypes.byref(Options(budget, depth, total, dfpn, cert))], "check": [parts], "score": []}[word]
+        call, length, room, status = getattr(self.library, "tsumego_" + word), ctypes.c_size_t(), 128, 3
+        while status == 3:
+            out = ctypes.create_string_buffer(room)
+            status = call(sgf, ctypes.c_size_t(len(sgf)), *options, out, ctypes.c_size_t(room), ctypes.byref(length))
+            room = length.value
+        if status > 1:
+            raise MemoryError if status == 2 else ValueError(f"status {status}")
+        return out.raw[:length.value], status == 1
+
+
+if __name__ == "__main__":
+    line, refused = Tsumego(sys.argv[1]).answer(sys.argv[2], sys.stdin.buffer.read(), cert=int("cert" in sys.argv))
+    sys.stdout.buffer.write(line)
+    sys.exit(refused)

@@ -1,0 +1,78 @@
+/* tsumego: a solver of life-and-death problems in Go, for programs in C and whatever calls C.
+
+   Each call takes bytes of SGF and answers by a line of text, the line that the program tsumego writes on the first game
+   tree of these bytes, with number 1. docs/FORMATS.md says what lines there are, docs/USING.md how a problem is marked.
+
+   A call starts no thread, keeps nothing behind and frees all memory that it took, so there is no handle to free. Any number
+   of threads may call at once. A call runs until it has its answer: what bounds it are the options.
+
+   The caller owns all memory that is passed. Nothing passed may overlap what is written to, or change during the call. Memory
+   comes from malloc and realloc; where they refuse, the status says so, and the program isn't ended. Don't call from a signal
+   handler, nor from the forked child of a process with threads. TSUMEGO_STACK bytes of stack suffice for a call.
+
+   Link with libtsumego.a or libtsumego.so. */
+#ifndef TSUMEGO_H
+#define TSUMEGO_H
+
+#include <stddef.h>
+#include <stdint.h>
+
+#ifdef __cplusplus
+extern "C" {
+#endif
+
+#define TSUMEGO_VERSION "0.1.0"
+
+/* Bytes of input that are read at most: a longer input is refused with number 2. */
+#define TSUMEGO_MOST_BYTES 1048576
+
+/* Bytes that suffice for an answer without a certificate. */
+#define TSUMEGO_LINE 128
+
+/* Bytes of stack that suffice for a call. */
+#define TSUMEGO_STACK 4194304
+
+/* How a call ended. */
+enum {
+    TSUMEGO_DONE = 0,       /* the line is written */
+    TSUMEGO_REFUSED = 1,    /* it is written, and says that something was refused, or that the certificate is invalid */
+    TSUMEGO_NO_MEMORY = 2,  /* memory was refused; nothing is written */
+    TSUMEGO_NO_ROOM = 3,    /* the line takes *length bytes, which is more than capacity; nothing is written */
+    TSUMEGO_BAD_OPTION = 4, /* an option is out of its range; nothing is written */
+    TSUMEGO_BAD_POINTER = 5 /* a pointer is null, or a size is above PTRDIFF_MAX; nothing is written */
+};
+
+/* How a problem is solved, as by the options of `tsumego solve`. */
+typedef struct {
+    uint32_t budget; /* how many nodes may be expanded behind each first turn: 1 to 1000000 */
+    uint32_t depth;  /* how many turns deep a search may go from the problem: 1 to 512 */
+    uint32_t total;  /* how many nodes may be expanded behind all first turns together: to 362000000; 0: no such bound */
+    uint32_t dfpn;   /* how many positions df-pn may visit before the search begins: to 100000000; 0: no df-pn */
+    uint32_t cert;   /* 1: the certificate follows the verdict on a line of its own; 0: it doesn't */
+} tsumego_options;
+
+/* What `tsumego solve` takes without options: tsumego_options options = TSUMEGO_DEFAULTS; */
+#define TSUMEGO_DEFAULTS {100000, 512, 0, 0, 0}
+
+/* Each function below reads `size` bytes at `sgf`, writes its line to `out` where it takes at most `capacity` bytes, says in
+   *length how many it takes, and returns how it ended. No byte of 0 ends the line. Behind the line `out` stays as it was.
+   `sgf` may be null where `size` is 0, and `out` where `capacity` is 0; no other pointer may be null. */
+
+/* Solves the problem that is the first tree. */
+int tsumego_solve(const char *sgf, size_t size, const tsumego_options *options, char *out, size_t capacity, size_t *length);
+
+/* Checks the certificate that follows the first tree, a problem: `valid`, `invalid` or `refused` with a number. It may share
+   parts where `parts` isn't 0. */
+int tsumego_check(const char *sgf, size_t size, int parts, char *out, size_t capacity, size_t *length);
+
+/* Scores the record that is the first tree. */
+int tsumego_score(const char *sgf, size_t size, char *out, size_t capacity, size_t *length);
+
+/* TSUMEGO_VERSION of the library. */
+const char *tsumego_version(void);
+
+#ifdef __cplusplus
+}
+#endif
+
+#endif

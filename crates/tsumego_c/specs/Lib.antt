@@ -1,0 +1,4 @@
+-- What public contracts cite.
+pub mod Calls
+pub mod First
+pub mod Options

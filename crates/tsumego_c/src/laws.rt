@@ -1,0 +1,11 @@
+//! What the line on the first tree is to a run of the program. A function that does nothing, whose contract is the law.
+ghost use Rattle.tt_text.specs.declared.options.Options.{Options};
+ghost use Rattle.tt_text.specs.Scoring.{Scores};
+ghost use Rattle.tt_text.specs.Solving.{Solves};
+ghost use Rattle.tsumego_c.specs.First.{IsWholeText};
+
+/// Where no other tree follows, the line on the first one, with its status, is what a run of the program answers to the input.
+pub fn first_is_all()
+    ensures score { IsWholeText Scores }
+    ensures solve { (options : Options) → IsWholeText (Solves options) }
+{}

@@ -1,0 +1,78 @@
+//! The solver for programs in other languages: bytes in, bytes out. Each call answers for one game tree, starts no thread and
+//! keeps nothing. `c/tsumego.h` says what callers owe; `c/tsumego.c` refuses null before it comes here.
+#![tactic(auto)]
+
+mod by_caller;
+mod call_options;
+mod handing;
+pub mod laws;
+mod lines;
+
+ghost use Rattle.std.specs.Prelude.{◌≡◌, ◌≢◌};
+ghost use Rattle.tt_text.specs.Checking.{IsCheckText};
+ghost use Rattle.tt_text.specs.Scoring.{Scores};
+ghost use Rattle.tsumego_c.specs.Calls.{Ends, Leaves};
+ghost use Rattle.tsumego_c.specs.First.{IsFirstText};
+ghost use Rattle.tsumego_c.specs.Options.{AreInRange, IsSolveText};
+
+pub use call_options::CallOptions;
+use call_options::options_of;
+use handing::hand_over;
+use lines::{check_text, score_text, solve_text};
+use std::alloc::Global;
+
+/// The status where an option is out of its range.
+const BAD_OPTION: u32 = 4;
+
+/// Scores the record that is the first tree of an input.
+#[unsafe(no_mangle)]
+pub extern "C" fn tsumego_c_score(
+    alloc: Global,
+    sgf: &[u8],
+    out: &mut [u8],
+    taken: &mut usize,
+) -> u32
+    ensures { Ends (IsFirstText Scores sgf.now) out.old out.new taken.new result }
+{
+    let made = score_text(alloc, sgf);
+    hand_over(&made, out, taken)
+}
+
+/// Checks the certificate that follows the first tree of an input. It may share parts where that is said.
+#[unsafe(no_mangle)]
+pub extern "C" fn tsumego_c_check(
+    alloc: Global,
+    sgf: &[u8],
+    parts: bool,
+    out: &mut [u8],
+    taken: &mut usize,
+) -> u32
+    ensures { Ends (IsCheckText parts sgf.now) out.old out.new taken.new result }
+{
+    let made = check_text(alloc, parts, sgf);
+    hand_over(&made, out, taken)
+}
+
+/// Solves the problem that is the first tree of an input.
+#[unsafe(no_mangle)]
+pub extern "C" fn tsumego_c_solve(
+    alloc: Global,
+    sgf: &[u8],
+    options: &CallOptions,
+    out: &mut [u8],
+    taken: &mut usize,
+) -> u32
+    ensures solved { AreInRange options.now → Ends (IsSolveText options.now sgf.now) out.old out.new taken.new result }
+    ensures refused { ¬ AreInRange options.now → (result ≡ BAD_OPTION) × Leaves out.old out.new taken.new }
+{
+    match options_of(options) {
+        Some(options) => {
+            let made = solve_text(alloc, sgf, options);
+            hand_over(&made, out, taken)
+        }
+        None => {
+            *taken = 0;
+            BAD_OPTION
+        }
+    }
+}
