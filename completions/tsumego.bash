@@ -9,4 +9,4 @@ _tsumego() {
     mapfile -t COMPREPLY < <(compgen -W "$words" -- "$word")
 }
 complete -o default -F _tsumego tsumego
-complete -o default -W '--svg --sgf --depth' tsumego-show
+complete -o default -W '--mark --svg --sgf --depth' tsumego-show

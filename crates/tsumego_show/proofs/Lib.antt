@@ -3,7 +3,7 @@ pub mod Limit
 pub mod OneText
 pub mod Refused
 pub mod FirstTurn
-pub mod Spreading
+pub mod Sets
 pub mod Texts
 pub mod Told
 pub mod FoundDrawn

@@ -15,11 +15,11 @@ use Rattle.tsumego_show.proofs.FirstTurn.{turn_same}
 use Rattle.tsumego_show.specs.Drawing.{DrawsCertificate, DrawsFirst, begins, begins_none, deep_drawn, drawn, none_drawn, strategy_text, turned_text}
 use Rattle.tt_sgf.specs.declared.size.Size.{Size}
 use Rattle.tsumego_show.specs.declared.form.Form.{Form}
-use Rattle.tsumego_show.specs.declared.form.Form.TheVariants.{Picture, Diagram, Variations}
+use Rattle.tsumego_show.specs.declared.form.Form.TheVariants.{Picture, Diagram, Marks, Variations}
 use Rattle.tsumego_show.specs.Diagram.{svg_text}
 use Rattle.tsumego_show.specs.Variations.{sgf_text}
 use Rattle.tsumego_show.specs.Found.{Found, StandsBehind, no_strategy, found}
-use Rattle.tsumego_show.specs.Shown.{DrawsBehind, IsShown, IsInputText, IsProblemText, IsTreeText, Tells, ended, is_no_problem, last_tree, more_trees, problem_text, stopped, too_long, tree, trees}
+use Rattle.tsumego_show.specs.Shown.{DrawsBehind, IsShown, IsInputText, IsProblemText, IsTreeText, Tells, ended, is_tree_refused, last_tree, more_trees, problem_text, stopped, too_long, tree, trees}
 
 module _ (one : OneCertificate) where
   -- a strategy has one text of its first turn
@@ -66,6 +66,7 @@ module _ (one : OneCertificate) where
   problem_text_same : (form : Form) (k : ℕ) (p : Standing) (behind s t : List ℕ) → IsProblemText form k p behind s → IsProblemText form k p behind t → s ≡ t
   problem_text_same Picture k p behind s t a b = a.2 ∙ ap (λ (x : List ℕ). problem_text k p ++ x) (behind_same p behind a.0 b.0 a.1 b.1) ∙ sym b.2
   problem_text_same Diagram k p behind s t a b = a.2 ∙ ap (λ (x : Found). svg_text p x) (found_same p.frame.size behind a.0 b.0 a.1 b.1) ∙ sym b.2
+  problem_text_same (Marks place) k p behind s t a b = a ∙ sym b
   problem_text_same (Variations depth) k p behind s t a b = a.2 ∙ ap (λ (x : Found). sgf_text p depth x) (found_same p.frame.size behind a.0 b.0 a.1 b.1) ∙ sym b.2
 
   -- and a tree
@@ -83,7 +84,7 @@ module _ (one : OneCertificate) where
         (subst (λ q. IsTreeText form k (main_line g) (problem_of (main_line g)) (drop q bytes) x) same.0 is) in
         let go = told_same form whole (k + 1) (drop m bytes) more more' refused refused' (subst (λ q. Tells form whole (k + 1) (drop q bytes) more refused) same.0 rest) rest' in (
           ap₂ (λ (q w : List ℕ). q ++ w) (tree_text_same form k (main_line h) (problem_of (main_line h)) (drop m bytes) x y its is') go.0,
-          ap₂ (λ (q : GameTree) (w : Bool). is_no_problem (problem_of (main_line q)) || w) same.1 go.1,
+          ap₂ (λ (q : GameTree) (w : Bool). is_tree_refused form (main_line q) (problem_of (main_line q)) || w) same.1 go.1,
         )
     told_same form whole k bytes s t a b (tree _ _ n g x more refused spells is rest) (ended _ _ many none) = absurd (none (spelled_opens bytes n g spells))
     told_same form whole k bytes s t a b (tree _ _ n g x more refused spells is rest) (stopped _ _ why none) = absurd (none g n spells)

@@ -1,6 +1,5 @@
 -- Lemmas on texts and lists that are made piece by piece.
-use Rattle.std.proofs.Common.{◌≡◌, ℕ, zero, suc, ◌+◌, List, [], ◌∷◌, ◌++◌, sym, ap, ◌∙◌, arith, append-nil, append_assoc, Bool, map}
-use Rattle.std.proofs.lemmas.List.FromFn.{map-range_with_len_more}
+use Rattle.std.proofs.Common.{◌≡◌, ℕ, zero, suc, ◌+◌, List, ◌++◌, sym, ap, ◌∙◌, arith, append-nil, append_assoc}
 use Rattle.std.specs.List.{flat_map, range_with_len}
 
 -- one more piece
@@ -13,7 +12,3 @@ pieces_more f a (suc n) j e =
 pub next_text : (f : ℕ → List ℕ) (old : List ℕ) (n : ℕ) → (old ++ flat_map f (range_with_len 0 n)) ++ f n ≡ old ++ flat_map f (range_with_len 0 (n + 1))
 next_text f old n = append_assoc old (flat_map f (range_with_len 0 n)) (f n) ∙ ap (λ l. old ++ l) (pieces_more f 0 n n (omega arith))
     ∙ ap (λ k. old ++ flat_map f (range_with_len 0 k)) (let e : suc n ≡ n + 1 = omega arith in e)
-
--- one more mark
-pub one_more : (f : ℕ → Bool) (n : ℕ) → map f (range_with_len 0 (n + 1)) ≡ map f (range_with_len 0 n) ++ f n ∷ []
-one_more f n = map-range_with_len_more f 0 n n (omega arith)

@@ -12,7 +12,7 @@ use Rattle.std.proofs.lemmas.List.{take_all, length-drop}
 use Rattle.tt_sgf.specs.declared.nodes.Node.{Node}
 use Rattle.tt_sgf.specs.Grammar.{GameTree, HasNoTree, SpelledUpTo, main_line, HasOpen}
 use Rattle.tt_game.specs.Problems.{problem_of}
-use Rattle.tsumego_show.specs.Shown.{DrawsBehind, IsShown, IsInputText, IsProblemText, IsTreeText, Tells, ended, is_no_problem, last_tree, more_trees, problem_text, stopped}
+use Rattle.tsumego_show.specs.Shown.{DrawsBehind, IsShown, IsInputText, IsProblemText, IsTreeText, Tells, ended, is_tree_refused, last_tree, more_trees, problem_text, stopped}
 use Rattle.tsumego_show.specs.Shown.{too_long, tree, trees}
 use Rattle.tsumego_show.specs.Refusals.{length_text, syntax_text}
 
@@ -38,18 +38,18 @@ IsSoFar form input k rest text refused =
 pub tree_more : (form : Form) (input : List ℕ) (k : ℕ) (rest text : List ℕ) (refused : Bool) (used : ℕ) (t : GameTree) (nodes : List Node) (text' : List ℕ) (bad : Bool)
     → IsSoFar form input k rest text refused → SpelledUpTo rest used t → nodes ≡ main_line t
     → (x : List ℕ) × IsTreeText form k nodes (problem_of nodes) (take (length rest - used) (drop used rest)) x × (text' ≡ text ++ x)
-    → bad ≡ is_no_problem (problem_of nodes) → IsSoFar form input (k + 1) (take (length rest - used) (drop used rest)) text' (refused || bad)
+    → bad ≡ is_tree_refused form nodes (problem_of nodes) → IsSoFar form input (k + 1) (take (length rest - used) (drop used rest)) text' (refused || bad)
 tree_more form input k rest text refused used t nodes text' bad far s same w b = λ more other h.
     let all : take (length rest - used) (drop used rest) ≡ drop used rest = take_all (length rest - used) (drop used rest) (omega (arith, length-drop used rest)) in
     let its_text : IsTreeText form k (main_line t) (problem_of (main_line t)) (drop used rest) w.0 =
     subst (λ (x : List Node). IsTreeText form k x (problem_of x) (drop used rest) w.0) same (subst (λ (x : List ℕ). IsTreeText form k nodes (problem_of nodes) x w.0) all w.1) in
     let one = tree k rest used t w.0 more other s its_text (subst (λ (x : List ℕ). Tells form (length input) (k + 1) x more other) all h) in
-    let its : is_no_problem (problem_of (main_line t)) ≡ bad = ap (λ (x : List Node). is_no_problem (problem_of x)) (sym same) ∙ sym b in
+    let its : is_tree_refused form (main_line t) (problem_of (main_line t)) ≡ bad = ap (λ (x : List Node). is_tree_refused form x (problem_of x)) (sym same) ∙ sym b in
     let words : text ++ (w.0 ++ more) ≡ text' ++ more = sym (append_assoc text w.0 more) ∙ ap (λ (x : List ℕ). x ++ more) (sym w.2) in
-    let flag : (refused || (is_no_problem (problem_of (main_line t)) || other)) ≡ ((refused || bad) || other) =
+    let flag : (refused || (is_tree_refused form (main_line t) (problem_of (main_line t)) || other)) ≡ ((refused || bad) || other) =
     ap (λ (x : Bool). refused || (x || other)) its ∙ sym (or_assoc refused bad other) in
     subst (λ (x : Bool). Tells form (length input) 1 input (text' ++ more) x) flag
-    (subst (λ (x : List ℕ). Tells form (length input) 1 input x (refused || (is_no_problem (problem_of (main_line t)) || other))) words (far _ _ one))
+    (subst (λ (x : List ℕ). Tells form (length input) 1 input x (refused || (is_tree_refused form (main_line t) (problem_of (main_line t)) || other))) words (far _ _ one))
 
 -- what is read and told so far; an input with a tree is not too long
 pub record Progress (form : Form) (input rest text : List ℕ) (k : ℕ) (refused : Bool) : Type 0 where
@@ -68,7 +68,7 @@ module _ {form : Form} {input rest text : List ℕ} {k : ℕ} {refused : Bool} (
   -- one more tree is read and told
   pub progress_step : (used : ℕ) (t : GameTree) (nodes : List Node) (text' : List ℕ) (bad : Bool) → SpelledUpTo rest used t → nodes ≡ main_line t
       → length rest ≤ MAX_BYTES → (x : List ℕ) × IsTreeText form k nodes (problem_of nodes) (take (length rest - used) (drop used rest)) x × (text' ≡ text ++ x)
-      → bad ≡ is_no_problem (problem_of nodes)
+      → bad ≡ is_tree_refused form nodes (problem_of nodes)
       → Progress form input (take (length rest - used) (drop used rest)) text' (k + 1) (refused || bad)
   progress_step used t nodes text' bad s same small e b = record {
     some = omega (arith, p.some);

@@ -18,7 +18,6 @@ use Rattle.tsumego_show.specs.Found.{Found, no_strategy, found}
 use Rattle.tsumego_show.specs.declared.windows.Along.{Along}
 use Rattle.tsumego_show.specs.declared.windows.Along.TheVariants.{Columns, Rows}
 use Rattle.tsumego_show.specs.declared.windows.Window.{Window}
-use Rattle.tsumego_show.specs.Hints.{is_inside, is_target}
 use Rattle.tsumego_show.specs.Picture.{column_letter, row_number}
 
 -- ---- what matters: the columns and rows with a target or a point of the region, and two more on each side
@@ -46,8 +45,15 @@ abbrev pub last_shown : (ℕ → Bool) → ℕ → ℕ
 last_shown so n = max (first_shown so n) (min (greatest so n + 2) (n - 1))
 
 module _ (p : Standing) where
+  -- both sides may play on q
+  abbrev pub is_inside : ℕ → Bool
+  is_inside q = set.contains p.frame.region q
+
+  abbrev pub is_target : ℕ → Bool
+  is_target q = set.contains p.frame.targets q
+
   abbrev pub matters : ℕ → Bool
-  matters q = is_target p q || is_inside p q
+  matters q = is_target q || is_inside q
 
   unfoldable pub column_matters : ℕ → Bool
   column_matters column = any_below (λ row. matters (row * p.frame.size.columns + column)) p.frame.size.rows

@@ -3,8 +3,10 @@ pub mod Diagram
 pub mod Drawing
 pub mod Found
 pub mod Hints
+pub mod Marking
 pub mod Picture
 pub mod Refusals
+pub mod Regions
 pub mod Shown
 pub mod Variations
 pub mod Writing

@@ -13,22 +13,22 @@ use Rattle.tt_game.specs.Line.{Standing}
 -- ---- points, by the codes of ASCII
 
 -- T is a target, X a black stone and O a white one
-abbrev pub stone_mark : Bool → Colour → ℕ
-stone_mark true k = 84
-stone_mark false Black = 88
-stone_mark false White = 79
+abbrev pub stone_symbol : Bool → Colour → ℕ
+stone_symbol true k = 84
+stone_symbol false Black = 88
+stone_symbol false White = 79
 
--- the small letter of such a mark, for a stone on a point of the region
-abbrev pub small_mark : Bool → Colour → ℕ
-small_mark true k = 116
-small_mark false Black = 120
-small_mark false White = 111
+-- the small letter of such a symbol, for a stone on a point of the region
+abbrev pub small_symbol : Bool → Colour → ℕ
+small_symbol true k = 116
+small_symbol false Black = 120
+small_symbol false White = 111
 
 -- what is shown of a point, where `target` and `region` say whether it is one of them: + is an empty point of the region,
 -- and . another one
 abbrev pub shown_of : Bool → Bool → Option Colour → ℕ
 shown_of target region None = if region then 43 else 46
-shown_of target region (Some k) = if region then small_mark target k else stone_mark target k
+shown_of target region (Some k) = if region then small_symbol target k else stone_symbol target k
 
 -- what is shown of the point with this number
 abbrev pub shown_at : Standing → ℕ → ℕ

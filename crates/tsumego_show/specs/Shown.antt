@@ -10,11 +10,12 @@ use Rattle.tt_game.specs.Line.{Standing}
 use Rattle.tt_game.specs.Problems.{problem_of}
 use Rattle.tt_sgf.specs.Values.{trimmed}
 use Rattle.tsumego_show.specs.declared.form.Form.{Form}
-use Rattle.tsumego_show.specs.declared.form.Form.TheVariants.{Picture, Diagram, Variations}
+use Rattle.tsumego_show.specs.declared.form.Form.TheVariants.{Picture, Diagram, Marks, Variations}
 use Rattle.tsumego_show.specs.Diagram.{svg_text}
 use Rattle.tsumego_show.specs.Drawing.{DrawsCertificate}
 use Rattle.tsumego_show.specs.Found.{Found, StandsBehind}
 use Rattle.tsumego_show.specs.Hints.{hints}
+use Rattle.tsumego_show.specs.Marking.{is_left, line_marked, marked_text}
 use Rattle.tsumego_show.specs.Picture.{picture}
 use Rattle.tsumego_show.specs.Refusals.{fault_text, length_text, syntax_text}
 use Rattle.tsumego_show.specs.Variations.{sgf_text}
@@ -30,20 +31,35 @@ abbrev pub problem_text : ℕ → Standing → List ℕ
 problem_text k p = decimal k ++ (space ∷ (picture p ++ hints p))
 
 -- the text on tree number k, which is this problem and is followed by these bytes: the picture with what follows it;
--- or the diagram or the game tree with the strategy that stands there
+-- or the diagram or the game tree with the strategy that stands there; or the problem with its marks
 abbrev pub IsProblemText : Form → ℕ → Standing → List ℕ → List ℕ → Type 0
 IsProblemText Picture k p behind text = (drawn : List ℕ) × DrawsBehind p behind drawn × (text ≡ problem_text k p ++ drawn)
 IsProblemText Diagram k p behind text = (b : Found) × StandsBehind p.frame.size behind b × (text ≡ svg_text p b)
 IsProblemText (Variations depth) k p behind text = (b : Found) × StandsBehind p.frame.size behind b × (text ≡ sgf_text p depth b)
+IsProblemText (Marks place) k p behind text = text ≡ marked_text p
+
+-- the text on tree number k, whose main line is no problem, and whether it is refused: where marks are wanted and it has none, they may be proposed
+abbrev pub fault_told : Form → ℕ → List Node → GameFault → List ℕ
+fault_told Picture k ns e = fault_text k ns e
+fault_told Diagram k ns e = fault_text k ns e
+fault_told (Variations depth) k ns e = fault_text k ns e
+fault_told (Marks place) k ns e = line_marked place k ns e
+
+abbrev pub is_fault_left : Form → List Node → GameFault → Bool
+is_fault_left Picture ns e = true
+is_fault_left Diagram ns e = true
+is_fault_left (Variations depth) ns e = true
+is_fault_left (Marks place) ns e = is_left place ns e
 
 -- the text on tree number k, whose main line is a problem or refused, and which is followed by these bytes
 abbrev pub IsTreeText : Form → ℕ → List Node → Result Standing GameFault → List ℕ → List ℕ → Type 0
 IsTreeText form k ns (Ok p) behind text = IsProblemText form k p behind text
-IsTreeText form k ns (Err e) behind text = text ≡ fault_text k ns e
+IsTreeText form k ns (Err e) behind text = text ≡ fault_told form k ns e
 
-abbrev pub is_no_problem : Result Standing GameFault → Bool
-is_no_problem (Ok p) = false
-is_no_problem (Err e) = true
+-- and whether it is refused
+abbrev pub is_tree_refused : Form → List Node → Result Standing GameFault → Bool
+is_tree_refused form ns (Ok p) = false
+is_tree_refused form ns (Err e) = is_fault_left form ns e
 
 -- The text on bytes at the end of an input of so many, whose first tree has number k, and whether something is refused: a tree
 -- and what follows it; or no tree is left, and none was wanted; or none is spelled where one is wanted: at a `(`, or where no
@@ -51,7 +67,7 @@ is_no_problem (Err e) = true
 pub data Tells (form : Form) (whole : ℕ) : ℕ → List ℕ → List ℕ → Bool → Type 0 where
   tree : (k : ℕ) (bytes : List ℕ) (count : ℕ) (t : GameTree) (text more : List ℕ) (refused : Bool) → SpelledUpTo bytes count t
       → IsTreeText form k (main_line t) (problem_of (main_line t)) (drop count bytes) text → Tells form whole (k + 1) (drop count bytes) more refused
-      → Tells form whole k bytes (text ++ more) (is_no_problem (problem_of (main_line t)) || refused)
+      → Tells form whole k bytes (text ++ more) (is_tree_refused form (main_line t) (problem_of (main_line t)) || refused)
   ended : (k : ℕ) (bytes : List ℕ) → 1 < k → (HasOpen bytes → ⊥) → Tells form whole k bytes [] false
   stopped : (k : ℕ) (bytes : List ℕ) → (k ≡ 1) ⊎ HasOpen bytes → HasNoTree bytes → Tells form whole k bytes (syntax_text k (whole - length bytes)) true
 

@@ -7,6 +7,8 @@ use Rattle.tt_sgf.specs.declared.size.Size.{Size}
 use Rattle.tt_sgf.specs.Sizes.{point_count}
 use Rattle.tt_board.specs.declared.Colour.{Colour}
 use Rattle.tt_board.specs.declared.Colour.TheVariants.{Black, White}
+use Rattle.tt_board.specs.Play.{is_stone_of}
+use Rattle.tt_board.specs.Reach.{entry_at}
 use Rattle.tt_game.specs.declared.frame.Frame.{Frame}
 use Rattle.tt_game.specs.declared.frame.Side.{Side}
 use Rattle.tt_game.specs.declared.frame.Side.TheVariants.{Attacker, Defender}
@@ -19,9 +21,8 @@ use Rattle.tt_proof.specs.CertificateText.{turn_text}
 use Rattle.tt_proof.specs.Strategy.{Strategy, Entries, done, pick, reply, none, entry}
 use Rattle.tsumego_show.specs.declared.variations.PointList.{PointList}
 use Rattle.tsumego_show.specs.declared.variations.PointList.TheVariants.{Blacks, Whites, Triangles, Squares}
-use Rattle.tsumego_show.specs.Diagram.{has_square}
+use Rattle.tsumego_show.specs.Diagram.{has_square, is_target}
 use Rattle.tsumego_show.specs.Found.{Found, no_strategy, found}
-use Rattle.tsumego_show.specs.Hints.{is_stone, is_target}
 use Rattle.tsumego_show.specs.Picture.{colour_name, earlier_text}
 
 -- a value in its brackets
@@ -56,10 +57,14 @@ property_text name [] = []
 property_text name (b ∷ bs) = name ++ (b ∷ bs)
 
 module _ (p : Standing) where
+  -- a stone of this colour stands on q
+  abbrev pub is_stone : Colour → ℕ → Bool
+  is_stone k q = is_stone_of (entry_at p.state.present q) k
+
   -- a list has the point: it has a stone, or is a target, or a point of a region that isn't the whole board
   abbrev pub is_listed : PointList → ℕ → Bool
-  is_listed Blacks q = is_stone p Black q
-  is_listed Whites q = is_stone p White q
+  is_listed Blacks q = is_stone Black q
+  is_listed Whites q = is_stone White q
   is_listed Triangles q = is_target p q
   is_listed Squares q = has_square p None q
 

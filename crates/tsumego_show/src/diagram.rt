@@ -9,8 +9,8 @@ ghost use Rattle.tsumego_show.specs.Diagram.{bottom_end, cell_shapes, column_sha
 ghost use Rattle.tsumego_show.specs.Diagram.{mark_ground, mark_ink, mark_text, number_end, number_head, number_text, point_shapes, points_shapes, right_end, row_shapes, row_stroke, rows_shown, square_text, stone_head, stone_text};
 ghost use Rattle.tsumego_show.specs.Diagram.{svg_head, svg_text, triangle_head, triangle_text};
 
-use crate::marks::{is_inside, is_target, point_numbered};
 use crate::picture::{column_letter, side_colour};
+use crate::points::{is_inside, is_target, point_numbered};
 use crate::windows::{Window, number_at, window_of};
 use std::alloc::Global;
 use tt_board::Colour;

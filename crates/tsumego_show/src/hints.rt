@@ -1,90 +1,153 @@
 //! Hints on what is likely marked wrong in a problem.
-ghost use Rattle.std.specs.Prelude.{◌≡◌, ◌<◌, ◌++◌, IfOk, OnOk};
+ghost use Rattle.std.specs.Prelude.{◌≡◌, ◌<◌, ◌++◌, OnOk};
+ghost use Rattle.std.specs.List.{flat_map, range_with_len};
 ghost use Rattle.tt_sgf.specs.Sizes.{point_count};
-ghost use Rattle.tsumego_show.specs.Hints.{enclosed, hints, insides, is_wide, leaks, leaks_line, listed, name_if, points_text, strangers, strangers_line, takeables, takeables_line, wide_line};
+ghost use Rattle.tsumego_show.specs.Hints.{attackers, defenders, enclosed, held_chains, hints, is_wide, leaks, leaks_line, listed, member_name, members_text, strangers};
+ghost use Rattle.tsumego_show.specs.Hints.{strangers_line, takeables, takeables_line, target_chains, unfillables, wide_line};
 
-use crate::marks::{
-    held_chains, is_attacker, is_beside, is_defender, is_flagged, is_free, is_inside,
-    is_unfillable, point_numbered, safe_chains, target_chains,
-};
-use std::alloc::Global;
+use crate::points::point_numbered;
+use crate::regions::{empties, near, reached, stones, untaken};
 use tt_game::{Line, Turn};
 use tt_proof::put_turn;
-use tt_sgf::NoMemory;
+use tt_sgf::{NoMemory, PointSet, Size};
 
 /// The most points of a board that may well be a region as a whole.
 const MOST_POINTS: usize = 10;
 
-/// Marks on the empty points of the region and on the chains that play there is about.
-#[tactic(auto, using(crate::proofs::Texts::one_more), unfolding(crate::specs::Hints::enclosed))]
-fn enclosed(alloc: Global, line: &Line) -> Result<Vec<bool>, NoMemory>
-    ensures { IfOk result (λ m. m.items ≡ enclosed line.now) }
+/// Writes a blank and the name of a point behind the text, where it is in the set.
+#[tactic(auto, unfolding(crate::specs::Hints::member_name))]
+fn put_member(
+    out: &mut Vec<u8>,
+    size: Size,
+    points: &PointSet,
+    number: usize,
+) -> Result<(), NoMemory>
+    requires { number < point_count size }
+    ensures { OnOk result (out.new.items ≡ out.old.items ++ member_name size points.now number) }
 {
-    let chains = held_chains(alloc, line)?;
-    let mut made = Vec::new(alloc);
-    for number in 0..line.frame().size.point_count() {
-        let playable = is_inside(line, number) && is_free(line, number);
-        made.push(playable || is_flagged(chains.as_slice(), number))?;
+    let point = point_numbered(size, number);
+    if points.has(point) {
+        out.push(b' ')?;
+        put_turn(out, Turn::Play(point), size)?;
     }
-    Ok(made)
+    Ok(())
 }
 
-/// Marks on the empty points that nobody can fill, beside one of those.
-#[tactic(auto, using(crate::proofs::Texts::one_more), unfolding(crate::specs::Hints::leaks))]
-fn leaks(alloc: Global, line: &Line) -> Result<Vec<bool>, NoMemory>
-    ensures { IfOk result (λ m. m.items ≡ leaks line.now) }
+/// Writes the names of the points of a set behind the text, each with a blank in front.
+#[tactic(auto, using(crate::proofs::Texts::next_text))]
+fn put_names(out: &mut Vec<u8>, size: Size, points: &PointSet) -> Result<(), NoMemory>
+    ensures { OnOk result (out.new.items ≡ out.old.items ++ flat_map (member_name size points.now) (range_with_len 0 (point_count size))) }
 {
-    let size = line.frame().size;
-    let within = enclosed(alloc, line)?;
-    let mut made = Vec::new(alloc);
     for number in 0..size.point_count() {
-        let near = is_beside(size, within.as_slice(), number);
-        made.push(is_unfillable(line, number) && near)?;
+        put_member(out, size, points, number)?;
     }
-    Ok(made)
+    Ok(())
 }
 
-/// Marks on the attacker's stones outside the region, whose chains have all their liberties in it.
-#[tactic(auto, using(crate::proofs::Texts::one_more), unfolding(crate::specs::Hints::takeables))]
-fn takeables(alloc: Global, line: &Line) -> Result<Vec<bool>, NoMemory>
-    ensures { IfOk result (λ m. m.items ≡ takeables line.now) }
+/// Writes the names of the points of a set behind the text, each with a blank in front, and a newline.
+pub fn put_members(out: &mut Vec<u8>, size: Size, points: &PointSet) -> Result<(), NoMemory>
+    ensures { OnOk result (out.new.items ≡ out.old.items ++ members_text size points.now) }
 {
-    let safe = safe_chains(alloc, line)?;
-    let mut made = Vec::new(alloc);
-    for number in 0..line.frame().size.point_count() {
-        let outside = is_attacker(line, number) && !is_inside(line, number);
-        made.push(outside && !is_flagged(safe.as_slice(), number))?;
-    }
-    Ok(made)
+    put_names(out, size, points)?;
+    out.push(b'\n')?;
+    Ok(())
 }
 
-/// Marks on the points of the region.
-#[tactic(auto, using(crate::proofs::Texts::one_more), unfolding(crate::specs::Hints::insides))]
-fn insides(alloc: Global, line: &Line) -> Result<Vec<bool>, NoMemory>
-    ensures { IfOk result (λ m. m.items ≡ insides line.now) }
+/// Writes a line of these words and of the points of a set behind the text, where the set has points.
+fn put_listed(
+    out: &mut Vec<u8>,
+    size: Size,
+    words: &[u8],
+    points: &PointSet,
+) -> Result<(), NoMemory>
+    ensures { OnOk result (out.new.items ≡ out.old.items ++ listed size words.now points.now) }
 {
-    let mut made = Vec::new(alloc);
-    for number in 0..line.frame().size.point_count() {
-        made.push(is_inside(line, number))?;
+    if points.count() == 0 {
+        return Ok(());
     }
-    Ok(made)
+    out.extend_from_slice(words)?;
+    put_members(out, size, points)
 }
 
-/// Marks on the defender's stones in or beside the region, of other chains than the targets'.
-#[tactic(auto, using(crate::proofs::Texts::one_more), unfolding(crate::specs::Hints::strangers))]
-fn strangers(alloc: Global, line: &Line) -> Result<Vec<bool>, NoMemory>
-    ensures { IfOk result (λ m. m.items ≡ strangers line.now) }
+/// The stones of the defender.
+#[tactic(auto, unfolding(crate::specs::Hints::defenders))]
+fn defenders(line: &Line) -> PointSet
+    ensures { result ≡ defenders line.now }
 {
-    let size = line.frame().size;
-    let chains = target_chains(alloc, line)?;
-    let region = insides(alloc, line)?;
-    let mut made = Vec::new(alloc);
-    for number in 0..size.point_count() {
-        let strange = is_defender(line, number) && !is_flagged(chains.as_slice(), number);
-        let near = is_inside(line, number) || is_beside(size, region.as_slice(), number);
-        made.push(strange && near)?;
-    }
-    Ok(made)
+    stones(line.present(), line.frame().defender)
+}
+
+/// The stones of the attacker.
+#[tactic(auto, unfolding(crate::specs::Hints::attackers))]
+fn attackers(line: &Line) -> PointSet
+    ensures { result ≡ attackers line.now }
+{
+    stones(line.present(), line.frame().defender.other())
+}
+
+/// The chains of the targets.
+#[tactic(auto, unfolding(crate::specs::Hints::target_chains))]
+fn target_chains(line: &Line) -> PointSet
+    ensures { result ≡ target_chains line.now }
+{
+    let frame = line.frame();
+    reached(frame.size, &defenders(line), frame.targets.copy())
+}
+
+/// The chains of the targets and of the defender's stones in the region.
+#[tactic(auto, unfolding(crate::specs::Hints::held_chains))]
+fn held_chains(line: &Line) -> PointSet
+    ensures { result ≡ held_chains line.now }
+{
+    let frame = line.frame();
+    let free = defenders(line);
+    let start = frame.targets.or(&frame.region.and(&free));
+    reached(frame.size, &free, start)
+}
+
+/// The empty points that nobody can fill.
+#[tactic(auto, unfolding(crate::specs::Hints::unfillables))]
+fn unfillables(line: &Line) -> PointSet
+    ensures { result ≡ unfillables line.now }
+{
+    empties(line.present()).minus(&line.frame().region)
+}
+
+/// The empty points of the region, and the chains that play there is about.
+#[tactic(auto, unfolding(crate::specs::Hints::enclosed))]
+fn enclosed(line: &Line) -> PointSet
+    ensures { result ≡ enclosed line.now }
+{
+    let playable = line.frame().region.and(&empties(line.present()));
+    playable.or(&held_chains(line))
+}
+
+/// The empty points that nobody can fill, beside one of those.
+#[tactic(auto, unfolding(crate::specs::Hints::leaks))]
+fn leaks(line: &Line) -> PointSet
+    ensures { result ≡ leaks line.now }
+{
+    unfillables(line).and(&near(line.frame().size, &enclosed(line)))
+}
+
+/// The attacker's stones outside the region, whose chains have all their liberties in it.
+#[tactic(auto, unfolding(crate::specs::Hints::takeables))]
+fn takeables(line: &Line) -> PointSet
+    ensures { result ≡ takeables line.now }
+{
+    let frame = line.frame();
+    let outside = attackers(line).minus(&frame.region);
+    outside.minus(&untaken(line.present(), frame.defender, &frame.region))
+}
+
+/// The defender's stones in or beside the region, of other chains than the targets'.
+#[tactic(auto, unfolding(crate::specs::Hints::strangers))]
+fn strangers(line: &Line) -> PointSet
+    ensures { result ≡ strangers line.now }
+{
+    let frame = line.frame();
+    let strange = defenders(line).minus(&target_chains(line));
+    strange.and(&frame.region.or(&near(frame.size, &frame.region)))
 }
 
 /// Whether the region is all of a board with more than a few points.
@@ -95,77 +158,28 @@ fn is_wide(line: &Line) -> bool
     MOST_POINTS < count && usize::from(line.frame().region.count()) == count
 }
 
-/// Writes a blank and the name of a point behind the text, where it is marked.
-#[tactic(auto, unfolding(crate::specs::Hints::name_if))]
-fn put_point(out: &mut Vec<u8>, line: &Line, marks: &[bool], number: usize) -> Result<(), NoMemory>
-    requires { number < point_count line.now.frame.size }
-    ensures { OnOk result (out.new.items ≡ out.old.items ++ name_if line.now marks.now number) }
-{
-    let size = line.frame().size;
-    if is_flagged(marks, number) {
-        out.push(b' ')?;
-        put_turn(out, Turn::Play(point_numbered(size, number)), size)?;
-    }
-    Ok(())
-}
-
-/// Writes the names of the marked points behind the text, each with a blank in front.
-#[tactic(auto, using(crate::proofs::Texts::next_text))]
-fn put_points(out: &mut Vec<u8>, line: &Line, marks: &[bool]) -> Result<(), NoMemory>
-    ensures { OnOk result (out.new.items ≡ out.old.items ++ points_text line.now marks.now) }
-{
-    for number in 0..line.frame().size.point_count() {
-        put_point(out, line, marks, number)?;
-    }
-    Ok(())
-}
-
-/// Writes a line of these words and of the marked points behind the text, where a point is marked.
-fn put_listed(
-    alloc: Global,
-    out: &mut Vec<u8>,
-    line: &Line,
-    words: &[u8],
-    marks: &[bool],
-) -> Result<(), NoMemory>
-    ensures { OnOk result (out.new.items ≡ out.old.items ++ listed line.now words.now (points_text line.now marks.now)) }
-{
-    let mut names = Vec::new(alloc);
-    put_points(&mut names, line, marks)?;
-    if names.is_empty() {
-        return Ok(());
-    }
-    out.extend_from_slice(words)?;
-    out.extend_from_slice(names.as_slice())?;
-    out.push(b'\n')?;
-    Ok(())
-}
-
 /// Writes the line on points that nobody can fill behind the text.
-fn put_leaks(alloc: Global, out: &mut Vec<u8>, line: &Line) -> Result<(), NoMemory>
+fn put_leaks(out: &mut Vec<u8>, line: &Line) -> Result<(), NoMemory>
     ensures { OnOk result (out.new.items ≡ out.old.items ++ leaks_line line.now) }
 {
-    let marks = leaks(alloc, line)?;
     let words = b"hint: empty and not in the region, so that nobody can fill them:";
-    put_listed(alloc, out, line, words, marks.as_slice())
+    put_listed(out, line.frame().size, words, &leaks(line))
 }
 
 /// Writes the line on stones that can be taken where nobody can play again behind the text.
-fn put_takeables(alloc: Global, out: &mut Vec<u8>, line: &Line) -> Result<(), NoMemory>
+fn put_takeables(out: &mut Vec<u8>, line: &Line) -> Result<(), NoMemory>
     ensures { OnOk result (out.new.items ≡ out.old.items ++ takeables_line line.now) }
 {
-    let marks = takeables(alloc, line)?;
     let words = b"hint: unlike T and not in the region, and can be taken by plays in it:";
-    put_listed(alloc, out, line, words, marks.as_slice())
+    put_listed(out, line.frame().size, words, &takeables(line))
 }
 
 /// Writes the line on stones that nobody marked behind the text.
-fn put_strangers(alloc: Global, out: &mut Vec<u8>, line: &Line) -> Result<(), NoMemory>
+fn put_strangers(out: &mut Vec<u8>, line: &Line) -> Result<(), NoMemory>
     ensures { OnOk result (out.new.items ≡ out.old.items ++ strangers_line line.now) }
 {
-    let marks = strangers(alloc, line)?;
     let words = b"hint: stones like T in or beside the region, of other chains:";
-    put_listed(alloc, out, line, words, marks.as_slice())
+    put_listed(out, line.frame().size, words, &strangers(line))
 }
 
 /// Writes the line on a region that is all of the board behind the text.
@@ -183,11 +197,11 @@ fn put_wide(out: &mut Vec<u8>, line: &Line) -> Result<(), NoMemory>
 /// whose chains have all their liberties in it; the defender's stones in or beside the region that aren't of a target's chain;
 /// and that the region is all of a board of more than 10 points.
 /// `NoMemory` where memory was refused; a part may stand there then.
-pub fn put_hints(alloc: Global, out: &mut Vec<u8>, line: &Line) -> Result<(), NoMemory>
+pub fn put_hints(out: &mut Vec<u8>, line: &Line) -> Result<(), NoMemory>
     ensures { OnOk result (out.new.items ≡ out.old.items ++ hints line.now) }
 {
-    put_leaks(alloc, out, line)?;
-    put_takeables(alloc, out, line)?;
-    put_strangers(alloc, out, line)?;
+    put_leaks(out, line)?;
+    put_takeables(out, line)?;
+    put_strangers(out, line)?;
     put_wide(out, line)
 }

@@ -5,16 +5,16 @@ ghost use Rattle.tt_sgf.specs.Bytes.{newline, space};
 ghost use Rattle.tt_sgf.specs.Sizes.{point_count};
 ghost use Rattle.tt_game.specs.Game.{side_colour};
 ghost use Rattle.tsumego_show.specs.Picture.{asked_line, board_text, colour_name, column_letter, column_letters_line, columns_text, earlier_text, letter, letters_line, shown_at};
-ghost use Rattle.tsumego_show.specs.Picture.{mover_text, picture, row_line, row_number, shown_in, small_mark, stone_mark, target_text};
+ghost use Rattle.tsumego_show.specs.Picture.{mover_text, picture, row_line, row_number, shown_in, small_symbol, stone_symbol, target_text};
 
 use std::alloc::Global;
 use tt_board::Colour;
 use tt_game::{Line, Side};
 use tt_sgf::{NoMemory, Point, Size};
 
-/// The mark of a stone.
-fn stone_mark(is_target: bool, colour: Colour) -> u8
-    ensures { result ≡ stone_mark is_target colour }
+/// The symbol of a stone.
+fn stone_symbol(is_target: bool, colour: Colour) -> u8
+    ensures { result ≡ stone_symbol is_target colour }
 {
     if is_target {
         return b'T';
@@ -25,9 +25,9 @@ fn stone_mark(is_target: bool, colour: Colour) -> u8
     }
 }
 
-/// The mark of a stone on a point of the region.
-fn small_mark(is_target: bool, colour: Colour) -> u8
-    ensures { result ≡ small_mark is_target colour }
+/// The symbol of a stone on a point of the region.
+fn small_symbol(is_target: bool, colour: Colour) -> u8
+    ensures { result ≡ small_symbol is_target colour }
 {
     if is_target {
         return b't';
@@ -39,7 +39,7 @@ fn small_mark(is_target: bool, colour: Colour) -> u8
 }
 
 /// What is shown of a point.
-fn mark(line: &Line, point: Point) -> u8
+fn symbol(line: &Line, point: Point) -> u8
     requires { point < point_count line.now.frame.size }
     ensures { result ≡ shown_at line.now point }
 {
@@ -49,9 +49,9 @@ fn mark(line: &Line, point: Point) -> u8
         None => if is_playable { b'+' } else { b'.' },
         Some(colour) => {
             if is_playable {
-                small_mark(is_target, colour)
+                small_symbol(is_target, colour)
             } else {
-                stone_mark(is_target, colour)
+                stone_symbol(is_target, colour)
             }
         }
     }
@@ -70,12 +70,12 @@ fn point_at(size: Size, column: u16, row: u16) -> Point
     point
 }
 
-/// Writes a blank and a mark behind the text.
-fn put_spaced(out: &mut Vec<u8>, mark: u8) -> Result<(), NoMemory>
-    ensures { OnOk result (out.new.items ≡ out.old.items ++ space ∷ mark ∷ []) }
+/// Writes a blank and a symbol behind the text.
+fn put_spaced(out: &mut Vec<u8>, symbol: u8) -> Result<(), NoMemory>
+    ensures { OnOk result (out.new.items ≡ out.old.items ++ space ∷ symbol ∷ []) }
 {
     out.push(b' ')?;
-    out.push(mark)?;
+    out.push(symbol)?;
     Ok(())
 }
 
@@ -133,15 +133,15 @@ fn put_editor_letters(out: &mut Vec<u8>, size: Size) -> Result<(), NoMemory>
     Ok(())
 }
 
-/// Writes a blank and the mark of each point of a row behind the text.
+/// Writes a blank and the symbol of each point of a row behind the text.
 #[tactic(auto, using(crate::proofs::Texts::next_text))]
-fn put_marks(out: &mut Vec<u8>, line: &Line, row: u16) -> Result<(), NoMemory>
+fn put_symbols(out: &mut Vec<u8>, line: &Line, row: u16) -> Result<(), NoMemory>
     requires { row < line.now.frame.size.rows }
     ensures { OnOk result (out.new.items ≡ out.old.items ++ columns_text (shown_in line.now row) line.now.frame.size.columns) }
 {
     let size = line.frame().size;
     for column in 0..size.columns() {
-        put_spaced(out, mark(line, point_at(size, column, row)))?;
+        put_spaced(out, symbol(line, point_at(size, column, row)))?;
     }
     Ok(())
 }
@@ -163,7 +163,7 @@ fn put_row(alloc: Global, out: &mut Vec<u8>, line: &Line, row: u16) -> Result<()
     ensures { OnOk result (out.new.items ≡ out.old.items ++ row_line line.now row) }
 {
     out.push(b'a' + row as u8)?;
-    put_marks(out, line, row)?;
+    put_symbols(out, line, row)?;
     put_row_number(alloc, out, line.frame().size, row)
 }
 

@@ -11,7 +11,7 @@ use tt_sgf::{Items, MainLine, NoMemory};
 const MOST_NODES: usize = 1000;
 
 /// The number of the refusal of a main line without TR.
-const NO_TARGET: u8 = 20;
+pub const NO_TARGET: u8 = 20;
 
 /// What a refusal means, and how to go on.
 #[tactic(auto, unfolding(crate::specs::Refusals::meaning))]
@@ -36,7 +36,7 @@ fn meaning(fault: GameFault) -> &'static [u8]
         GameFault::TooManyTurns =>
             b"more than 2,000 turns, passes of the side that isn't named among them: set the position up instead\n",
         GameFault::NoTarget =>
-            b"no node of the main line has TR: put a triangle on a stone of the group that is to live or die\n",
+            b"no node of the main line has TR: put a triangle on a stone of the group that is to live or die, or let --mark do so\n",
         GameFault::EmptyTarget => b"TR is on an empty point: put the triangle on a stone\n",
         GameFault::MixedTargets =>
             b"TR is on stones of both colours: mark those of the group alone\n",
@@ -45,7 +45,12 @@ fn meaning(fault: GameFault) -> &'static [u8]
 }
 
 /// Writes the line of a refusal behind the text.
-fn put_refusal(alloc: Global, out: &mut Vec<u8>, number: usize, code: u8) -> Result<(), NoMemory>
+pub fn put_refusal(
+    alloc: Global,
+    out: &mut Vec<u8>,
+    number: usize,
+    code: u8,
+) -> Result<(), NoMemory>
     ensures { OnOk result (out.new.items ≡ out.old.items ++ refusal number code) }
 {
     let text = format!(in alloc; "{number} refused {code}\n")?;

@@ -1,14 +1,16 @@
 //! The text for an input.
-ghost use Rattle.std.specs.Prelude.{◌≡◌, ◌++◌, if◌then◌else◌, ℕ, List, IfOk, OnOk, Ok};
+ghost use Rattle.std.specs.Prelude.{◌≡◌, ◌++◌, if◌then◌else◌, ℕ, List, IfOk, OnOk, Ok, Option};
 ghost use Rattle.tt_game.specs.Problems.{problem_of};
-ghost use Rattle.tsumego_show.specs.declared.form.Form.TheVariants.{Diagram, Picture, Variations};
-ghost use Rattle.tsumego_show.specs.Shown.{DrawsBehind, IsProblemText, IsShown, IsTreeText, is_no_problem, problem_text};
+ghost use Rattle.tsumego_show.specs.declared.form.Place.{Place};
+ghost use Rattle.tsumego_show.specs.declared.form.Form.TheVariants.{Diagram, Marks, Picture, Variations};
+ghost use Rattle.tsumego_show.specs.Shown.{DrawsBehind, IsProblemText, IsShown, IsTreeText, fault_told, is_fault_left, is_tree_refused, problem_text};
 
 use crate::diagram::put_svg;
 use crate::drawing::put_certificate;
 use crate::form::Form;
 use crate::found::find;
 use crate::hints::put_hints;
+use crate::marking::{put_line, put_marked};
 use crate::picture::put_picture;
 use crate::refusals::{put_fault, put_length, put_syntax};
 use crate::variations::put_sgf;
@@ -33,7 +35,7 @@ fn put_problem(alloc: Global, out: &mut Vec<u8>, number: usize, line: &Line) -> 
     let text = format!(in alloc; "{number} ")?;
     out.extend_from_slice(text.as_bytes())?;
     put_picture(alloc, out, line)?;
-    put_hints(alloc, out, line)
+    put_hints(out, line)
 }
 
 /// Writes a problem, and the strategy behind it, behind the text.
@@ -57,6 +59,14 @@ fn put_diagram(alloc: Global, out: &mut Vec<u8>, line: &Line, behind: &[u8]) -> 
 {
     let found = find(alloc, line.frame().size, behind)?;
     put_svg(alloc, out, line, &found)
+}
+
+/// Writes a problem with its marks behind the text.
+fn put_marks(alloc: Global, out: &mut Vec<u8>, line: &Line) -> Result<(), NoMemory>
+    ensures { (place : Option Place) (k : ℕ) (behind : List ℕ) → OnOk result ((text : List ℕ) × IsProblemText (Marks place) k line.now behind text
+        × (out.new.items ≡ out.old.items ++ text)) }
+{
+    put_marked(alloc, out, line)
 }
 
 /// Writes a problem, with the strategy behind it as variations to so many turns, as a game tree behind the text.
@@ -89,6 +99,28 @@ fn put_whole(
         Form::Picture => put_drawn(alloc, out, number, line, behind),
         Form::Diagram => put_diagram(alloc, out, line, behind),
         Form::Variations(depth) => put_variations(alloc, out, line, behind, depth),
+        Form::Marks(_) => put_marks(alloc, out, line),
+    }
+}
+
+/// Writes the text on a main line that is no problem, by this fault, behind the text, and says whether it is refused.
+fn put_untold(
+    alloc: Global,
+    out: &mut Vec<u8>,
+    form: Form,
+    number: usize,
+    main: MainLine,
+    fault: GameFault,
+) -> Result<bool, NoMemory>
+    ensures text { OnOk result (out.new.items ≡ out.old.items ++ fault_told form number main.nodes fault) }
+    ensures refused { IfOk result (λ refused. refused ≡ is_fault_left form main.nodes fault) }
+{
+    match form {
+        Form::Marks(place) => put_line(alloc, out, place, number, main, fault),
+        Form::Picture | Form::Diagram | Form::Variations(_) => {
+            put_fault(alloc, out, number, main, fault)?;
+            Ok(true)
+        }
     }
 }
 
@@ -103,7 +135,7 @@ fn put_tree(
 ) -> Result<bool, NoMemory>
     ensures text { OnOk result ((text : List ℕ) × IsTreeText form number main.nodes (problem_of main.nodes) behind.now text
         × (out.new.items ≡ out.old.items ++ text)) }
-    ensures refused { IfOk result (λ refused. refused ≡ is_no_problem (problem_of main.nodes)) }
+    ensures refused { IfOk result (λ refused. refused ≡ is_tree_refused form main.nodes (problem_of main.nodes)) }
 {
     match problem(alloc, &main) {
         Ok(mut line) => {
@@ -111,10 +143,7 @@ fn put_tree(
             Ok(false)
         }
         Err(GameFault::NoMemory) => Err(NoMemory),
-        Err(fault) => {
-            put_fault(alloc, out, number, main, fault)?;
-            Ok(true)
-        }
+        Err(fault) => put_untold(alloc, out, form, number, main, fault),
     }
 }
 

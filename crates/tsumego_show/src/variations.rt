@@ -10,8 +10,8 @@ ghost use Rattle.tsumego_show.specs.Variations.{bracketed, colour_letter, cut_te
 ghost use Rattle.tsumego_show.specs.Variations.{move_point, move_text, mover_property, name_property, owner_text, reply_variations, root_text, sgf_text, size_text, variations, why_won, won_text};
 
 use crate::diagram::has_square;
-use crate::marks::{is_stone, is_target, point_numbered};
 use crate::picture::{colour_name, earlier_count, put_earlier, side_colour};
+use crate::points::{is_stone, is_target, point_numbered};
 use std::alloc::Global;
 use tt_board::Colour;
 use tt_game::{Line, Refused, Side, Turn};
@@ -177,7 +177,7 @@ fn put_mover(out: &mut Vec<u8>, line: &Line) -> Result<(), NoMemory>
 }
 
 /// Writes the problem as the properties of a root behind the text.
-fn put_root(alloc: Global, out: &mut Vec<u8>, line: &Line) -> Result<(), NoMemory>
+pub fn put_root(alloc: Global, out: &mut Vec<u8>, line: &Line) -> Result<(), NoMemory>
     ensures { OnOk result (out.new.items ≡ out.old.items ++ root_text line.now) }
 {
     put_game(alloc, out, line.frame().size)?;

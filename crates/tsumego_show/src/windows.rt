@@ -4,7 +4,7 @@ ghost use Rattle.tt_sgf.specs.Sizes.{point_count};
 ghost use Rattle.tsumego_show.specs.inside.Windows.{IsWindow};
 ghost use Rattle.tsumego_show.specs.Diagram.{column_matters, count_along, first_shown, greatest, last_shown, least_from, matters, matters_along, row_matters, window};
 
-use crate::marks::{is_inside, is_target};
+use crate::points::{is_inside, is_target};
 use tt_game::Line;
 use tt_sgf::Size;
 

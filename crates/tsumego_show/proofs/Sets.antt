@@ -1,0 +1,103 @@
+-- Sets that are made point by point and step by step, and proposals.
+use Rattle.std.proofs.Common.{◌≡◌, ℕ, zero, suc, ◌+◌, ◌-◌, ◌/◌, ◌%◌, ◌<◌, ◌≤◌, ◌≢◌, Bool, true, false, cond, None, inl, inr, refl, sym, ap, subst, ◌∙◌, arith}
+use Rattle.std.proofs.lemmas.Bool.{cases_eq, ne_eqb, false≢true}
+use Rattle.std.proofs.lemmas.Nat.{div-add-mod', div_below, mul-add-lt}
+use Rattle.std.specs.Cmp.{nat_cmp_total, unsigned_tied}
+use Rattle.std.specs.Ordering.{nat_cmp}
+use Rattle.tt_sgf.specs.Sizes.{point_count}
+use Rattle.tt_board.specs.Stones.{LiesOn}
+use Rattle.std.specs.FinSet as set
+use Rattle.tt_sgf.specs.declared.size.Size.{Size}
+use Rattle.tt_sgf.specs.Points.{passing}
+use Rattle.tt_board.specs.declared.Colour.{Colour}
+use Rattle.tt_board.specs.Position.{Colouring}
+use Rattle.tt_board.specs.Play.{Points, other}
+use Rattle.tt_board.specs.Reach.{entry_at}
+use Rattle.tt_game.specs.Games.{GameState}
+use Rattle.tsumego_show.specs.Marking.{closed_at, fewer_squares, fewest}
+use Rattle.tsumego_show.specs.Regions.{inside, near, reached_in, stones, untaken, wall_after}
+
+-- no number yet
+pub none_passed : (f : ℕ → Bool) → passing f 0 ≡ set.empty
+unfolding passing
+none_passed f = refl
+
+-- one more that passes, or doesn't
+pub one_in : (f : ℕ → Bool) (n : ℕ) → f n ≡ true → passing f (n + 1) ≡ set.insert (passing f n) n
+unfolding passing
+one_in f n h = ap (passing f) (let e : n + 1 ≡ suc n = omega arith in e) ∙ rw h refl
+
+pub one_out : (f : ℕ → Bool) (n : ℕ) → f n ≡ false → passing f (n + 1) ≡ passing f n
+unfolding passing
+one_out f n h = ap (passing f) (let e : n + 1 ≡ suc n = omega arith in e) ∙ rw h refl
+
+-- no step yet, and one more
+pub no_step : (size : Size) (free s : Points) → reached_in size free 0 s ≡ s
+unfolding reached_in
+no_step size free s = refl
+
+pub one_step : (size : Size) (free : Points) (n : ℕ) (s : Points)
+    → reached_in size free (n + 1) s ≡ set.union (reached_in size free n s) (set.intersection free (near size (reached_in size free n s)))
+unfolding reached_in
+one_step size free n s = ap (λ k. reached_in size free k s) (let e : n + 1 ≡ suc n = omega arith in e)
+
+-- a step that reaches nothing more is followed by none that does
+no_more : (size : Size) (free : Points) (n : ℕ) (s : Points)
+    → set.union (reached_in size free n s) (set.intersection free (near size (reached_in size free n s))) ≡ reached_in size free n s
+    → (d : ℕ) → reached_in size free (n + d) s ≡ reached_in size free n s
+unfolding reached_in
+no_more size free n s h zero = ap (λ k. reached_in size free k s) (let e : n + 0 ≡ n = omega arith in e)
+no_more size free n s h (suc d) = ap (λ k. reached_in size free k s) (let e : n + suc d ≡ suc (n + d) = omega arith in e)
+    ∙ ap (λ (x : Points). set.union x (set.intersection free (near size x))) (no_more size free n s h d) ∙ h
+
+pub all_reached : (size : Size) (free found : Points) (n m : ℕ) (s : Points) → found ≡ reached_in size free n s
+    → set.union found (set.intersection free (near size found)) ≡ found → n ≤ m → found ≡ reached_in size free m s
+all_reached size free found n m s e same h = let e2 : m ≡ n + (m - n) = omega arith in
+    e ∙ sym (ap (λ k. reached_in size free k s) e2 ∙ no_more size free n s (subst (λ (x : Points). set.union x (set.intersection free (near size x)) ≡ x) e same) (m - n))
+
+-- the point on the right of one that isn't in the last column is on the board
+pub right_on_board : (size : Size) (q : ℕ) → q < point_count size → q % size.columns + 1 < size.columns → q + 1 < point_count size
+right_on_board size q h after =
+    let row = div_below q size.columns size.rows (omega arith) (omega arith) in
+    omega (arith, div-add-mod' q size.columns, mul-add-lt (q / size.columns) size.columns (q % size.columns + 1) size.rows row after)
+
+module _ (size : Size) (c : Colouring) (k : Colour) (q : ℕ) where
+  pub first_wall : (n : ℕ) → wall_after size c k q (n + 1) ≡ untaken size c k (inside size q (wall_after size c k q n))
+  unfolding wall_after
+  first_wall n = ap (λ j. wall_after size c k q j) (let e : n + 1 ≡ suc n = omega arith in e)
+
+  -- a wall that stays once stays
+  same_wall : (n : ℕ) → untaken size c k (inside size q (wall_after size c k q n)) ≡ wall_after size c k q n
+      → (d : ℕ) → wall_after size c k q (n + d) ≡ wall_after size c k q n
+  unfolding wall_after
+  same_wall n h zero = ap (λ j. wall_after size c k q j) (let e : n + 0 ≡ n = omega arith in e)
+  same_wall n h (suc d) = ap (λ j. wall_after size c k q j) (let e : n + suc d ≡ suc (n + d) = omega arith in e)
+      ∙ ap (λ (w : Points). untaken size c k (inside size q w)) (same_wall n h d) ∙ h
+
+  pub wall_stays : (found : Points) (n m : ℕ) → found ≡ wall_after size c k q n → untaken size c k (inside size q found) ≡ found → n ≤ m
+      → found ≡ wall_after size c k q m
+  wall_stays found n m e same h = let e2 : m ≡ n + (m - n) = omega arith in
+      e ∙ sym (ap (λ j. wall_after size c k q j) e2 ∙ same_wall n (subst (λ (w : Points). untaken size c k (inside size q w) ≡ w) e same) (m - n))
+
+-- one more stone
+pub fewest_more : (s : GameState) (n : ℕ) → fewest s (n + 1) ≡ fewer_squares (fewest s n) (closed_at s n (entry_at s.present n))
+unfolding fewest
+fewest_more s n = ap (fewest s) (let e : n + 1 ≡ suc n = omega arith in e)
+
+pub fewest_none : (s : GameState) → fewest s 0 ≡ None
+unfolding fewest
+fewest_none s = refl
+
+pub first_wall_stones : (size : Size) (c : Colouring) (k : Colour) (q : ℕ) → wall_after size c k q 0 ≡ stones size c (other k)
+unfolding wall_after
+first_wall_stones size c k q = refl
+
+-- the set of one point
+pub one_counts : (q : ℕ) → set.len (set.insert (set.empty {R = nat_cmp}) q) ≡ 1
+one_counts q = set.len-insert nat_cmp_total set.empty q ∙ rw (set.contains-empty nat_cmp q, set.len-empty nat_cmp) refl
+
+pub one_lies : (size : Size) (q : ℕ) → q < point_count size → LiesOn size (set.insert set.empty q)
+one_lies size q h = λ p held. elim (cases_eq p q) [
+  | inl e ↦ rw e h
+  | inr d ↦ absurd (false≢true (sym (set.contains-insert nat_cmp_total set.empty q p ∙ rw (unsigned_tied p q, ne_eqb p q d, set.contains-empty nat_cmp p) refl) ∙ held))
+]

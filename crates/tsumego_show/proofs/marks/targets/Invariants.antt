@@ -1,7 +1,0 @@
-use Rattle.std.proofs.Common.{◌≡◌, map}
-use Rattle.std.specs.List.{range_with_len}
-use Rattle.tsumego_show.specs.Hints.{is_target}
-use Rattle.tsumego_show.proofs.marks.targets.Given as goal
-
-abbrev pub invariant-loop-number : goal.invariant-loop-number
-invariant-loop-number l = l.made.items ≡ map (is_target l.line) (range_with_len 0 l.number)

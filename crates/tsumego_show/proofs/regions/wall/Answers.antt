@@ -1,0 +1,19 @@
+use Rattle.std.proofs.Common.{◌≡◌, arith, rules, sym, ap, ◌∙◌}
+use Rattle.tt_sgf.specs.declared.size.Size.{Size}
+use Rattle.tt_sgf.specs.Sizes.{point_count}
+use Rattle.tt_board.specs.Play.{Points}
+use Rattle.tsumego_show.specs.Regions.{inside, untaken, wall}
+use Rattle.tsumego_show.proofs.Sets.{wall_stays}
+use Rattle.tsumego_show.proofs.regions.wall.Goals as goal
+
+pub returns-then-same : goal.returns-then-same
+unfolding wall
+returns-then-same c =
+    let board = c.args.board.now in
+    let found = c.loop-time.found in
+    let is : c.untaken-less.result ≡ found = c.same.ensures.0 (search (rules, c.if-same.true)) in
+    wall_stays board.size board.points c.args.colour c.args.stone found c.loop-time._time (point_count board.size) c.loop-time.invariant
+    (ap (λ (w : Points). untaken board.size board.points c.args.colour w)
+    (ap (λ (s : Size). inside s c.args.stone found) (sym c.size-in-loop-time.ensures.value) ∙ sym c.inside.ensures)
+    ∙ sym c.untaken-less.ensures ∙ is)
+    (omega (arith, ap (λ (s : Size). point_count s) c.size.ensures.value))

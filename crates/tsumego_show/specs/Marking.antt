@@ -1,0 +1,129 @@
+-- The marks that are proposed for a problem without them, and what is written then.
+use Rattle.std.specs.Prelude.{ℕ, zero, suc, ◌+◌, ◌-◌, ◌*◌, ◌&&◌, nat_eq, nat_lt, nat_le, Bool, true, false, List, [], ◌∷◌, ◌++◌, codes, length, Option, Some, None, Ok, Err, if◌then◌else◌}
+use Rattle.std.specs.declared.result.Result.{Result}
+use Rattle.std.specs.FinSet as set
+use Rattle.tt_sgf.specs.declared.size.Size.{Size}
+use Rattle.tt_sgf.specs.declared.nodes.Node.{Node}
+use Rattle.tt_sgf.specs.Sizes.{point_count}
+use Rattle.tt_board.specs.declared.Colour.{Colour}
+use Rattle.tt_board.specs.Position.{Colouring}
+use Rattle.tt_board.specs.Reach.{entry_at}
+use Rattle.tt_game.specs.declared.faults.GameFault.{GameFault}
+use Rattle.tt_game.specs.declared.faults.GameFault.TheVariants.{NoTarget}
+use Rattle.tt_game.specs.Faults.{code_of}
+use Rattle.tt_game.specs.Games.{GameState}
+use Rattle.tt_game.specs.Line.{Standing}
+use Rattle.tt_game.specs.Problems.{game_of, posed, problem_of}
+use Rattle.tsumego_show.specs.declared.form.Place.{Place}
+use Rattle.tsumego_show.specs.declared.form.Place.TheVariants.{FromAbove, FromBelow}
+use Rattle.tsumego_show.specs.declared.proposals.Proposal.{Proposal}
+use Rattle.tsumego_show.specs.Hints.{hints, members_text}
+use Rattle.tsumego_show.specs.Refusals.{fault_text, refusal}
+use Rattle.tsumego_show.specs.Regions.{around, is_closed, region}
+use Rattle.tsumego_show.specs.Variations.{bracketed, root_text}
+
+-- ---- which stone
+
+-- the point of this column and row, where the board has it
+abbrev pub point_at : Size → ℕ → ℕ → Option ℕ
+point_at size column row = if nat_lt column size.columns && nat_lt row size.rows then Some (row * size.columns + column) else None
+
+-- the point of a place; rows count from above, or from 1 below
+abbrev pub placed_point : Size → Place → Option ℕ
+placed_point size (FromAbove column row) = point_at size column row
+placed_point size (FromBelow column number) = if nat_lt 0 number && nat_le number size.rows then point_at size column (size.rows - number) else None
+
+-- ---- which marks
+
+-- the one with the fewer squares, and of two with as many the first
+abbrev pub fewer_squares : Option Proposal → Option Proposal → Option Proposal
+fewer_squares a None = a
+fewer_squares None (Some b) = Some b
+fewer_squares (Some a) (Some b) = if nat_lt (set.len b.region) (set.len a.region) then Some b else Some a
+
+module _ (s : GameState) where
+  -- the mark on the stone on q, where a stone is there, and its region is closed
+  abbrev pub closed_at : ℕ → Option Colour → Option Proposal
+  closed_at q None = None
+  closed_at q (Some k) = if is_closed s.size s.present k q then Some (record { stone = q; colour = k; region = region s.size s.present k q }) else None
+
+  -- of the stones on the first n points the one with the fewest squares
+  unfoldable pub fewest : ℕ → Option Proposal
+  fewest zero = None
+  fewest (suc n) = fewer_squares (fewest n) (closed_at n (entry_at s.present n))
+
+  -- the mark on the point, where the board has it
+  abbrev pub closed_on : Option ℕ → Option Proposal
+  closed_on None = None
+  closed_on (Some q) = closed_at q (entry_at s.present q)
+
+  -- the mark on the stone in a place, or on any
+  abbrev pub chosen : Option Place → Option Proposal
+  chosen None = fewest (point_count s.size)
+  chosen (Some place) = closed_on (placed_point s.size place)
+
+  -- the problem that the mark makes of the game
+  abbrev pub marked : Proposal → Standing
+  marked m = posed s m.region (set.insert set.empty m.stone) m.colour
+
+-- ---- what is written of a problem; a newline ends it
+
+-- a comment, where there is something to say
+abbrev pub comment : List ℕ → List ℕ
+comment [] = []
+comment (b ∷ bs) = codes "C" ++ bracketed (b ∷ bs)
+
+-- where the problem was given by turns
+abbrev pub lost_line : ℕ → List ℕ
+lost_line n = if nat_eq n 0 then [] else codes "the turns before are left out, so that superko doesn't know their positions\n"
+
+-- the problem as a game tree, with what its own hints have against it
+unfoldable pub marked_text : Standing → List ℕ
+marked_text p = root_text p ++ (comment (hints p ++ lost_line (length p.state.earlier)) ++ codes ")\n")
+
+-- ---- why nothing is marked
+
+-- where a group is open
+unfoldable pub open_line : Size → Colouring → Colour → ℕ → List ℕ
+open_line size c k q = codes "no wall leaves the group 2 to 40 points: put stones of the wall on some of these, or mark by hand:" ++ members_text size (around size c k q)
+
+module _ (s : GameState) where
+  abbrev pub why_at : ℕ → Option Colour → List ℕ
+  why_at q None = codes "no stone stands there\n"
+  why_at q (Some k) = open_line s.size s.present k q
+
+  abbrev pub why_on : Option ℕ → List ℕ
+  why_on None = codes "the board has no such point\n"
+  why_on (Some q) = why_at q (entry_at s.present q)
+
+  abbrev pub why_not : Option Place → List ℕ
+  why_not None = codes "no group is enclosed: close the wall, or name a stone of the group\n"
+  why_not (Some place) = why_on (placed_point s.size place)
+
+  -- ---- tree number k
+
+  -- what is written of the game with this mark, or without one
+  abbrev pub with_mark : Option Place → ℕ → Option Proposal → List ℕ
+  with_mark place k None = refusal k (code_of NoTarget) ++ (codes "why: " ++ why_not place)
+  with_mark place k (Some m) = marked_text (marked s m)
+
+-- what is written of a main line without a target: it comes to a game, or is refused
+abbrev pub game_marked : Option Place → ℕ → List Node → Result GameState GameFault → List ℕ
+game_marked place k ns (Ok s) = with_mark s place k (chosen s place)
+game_marked place k ns (Err e) = fault_text k ns e
+
+-- what is written of a main line that is no problem
+abbrev pub line_marked : Option Place → ℕ → List Node → GameFault → List ℕ
+line_marked place k ns e = if nat_eq (code_of e) (code_of NoTarget) then game_marked place k ns (game_of ns) else fault_text k ns e
+
+-- and whether it is refused
+abbrev pub has_no_mark : Option Proposal → Bool
+has_no_mark None = true
+has_no_mark (Some m) = false
+
+abbrev pub is_game_left : Option Place → Result GameState GameFault → Bool
+is_game_left place (Ok s) = has_no_mark (chosen s place)
+is_game_left place (Err e) = true
+
+abbrev pub is_left : Option Place → List Node → GameFault → Bool
+is_left place ns e = if nat_eq (code_of e) (code_of NoTarget) then is_game_left place (game_of ns) else true

@@ -1,0 +1,81 @@
+-- The region that is proposed for the chain of a stone: what is inside the wall. The wall are the stones of the other colour that can't be
+-- taken from inside.
+use Rattle.std.specs.Prelude.{ℕ, zero, suc, ◌+◌, ◌-◌, ◌%◌, ◌&&◌, ◌||◌, nat_eq, nat_le, nat_lt, Bool}
+use Rattle.std.specs.FinSet as set
+use Rattle.tt_sgf.specs.declared.size.Size.{Size}
+use Rattle.tt_sgf.specs.Points.{passing}
+use Rattle.tt_sgf.specs.Sizes.{point_count}
+use Rattle.tt_board.specs.declared.Colour.{Colour}
+use Rattle.tt_board.specs.Position.{Colouring}
+use Rattle.tt_board.specs.Play.{Points, is_empty, is_stone_of, other}
+use Rattle.tt_board.specs.Reach.{entry_at}
+use Rattle.tt_game.specs.Problems.{whole}
+
+-- ---- points beside others
+
+module _ (size : Size) where
+  -- a point above, left of, right of or below q is in the set
+  abbrev pub is_near : Points → ℕ → Bool
+  is_near s q = (nat_le size.columns q && set.contains s (q - size.columns)) || (nat_lt 0 (q % size.columns) && set.contains s (q - 1))
+      || (nat_lt (q % size.columns + 1) size.columns && set.contains s (q + 1))
+      || (nat_lt (q + size.columns) (point_count size) && set.contains s (q + size.columns))
+
+  unfoldable pub near : Points → Points
+  near s = passing (is_near s) (point_count size)
+
+  -- the set, and what is reached from it in so many steps through points that are free
+  unfoldable pub reached_in : Points → ℕ → Points → Points
+  reached_in free zero s = s
+  reached_in free (suc n) s = set.union (reached_in free n s) (set.intersection free (near (reached_in free n s)))
+
+  -- what is reached at all
+  abbrev pub reached : Points → Points → Points
+  reached free s = reached_in free (point_count size) s
+
+  -- what is reached from point q without passing a wall
+  unfoldable pub inside : ℕ → Points → Points
+  inside q wall = reached (set.difference (whole size) wall) (set.insert set.empty q)
+
+-- ---- on a board
+
+-- the most points of a region that is closed
+abbrev pub most_squares : ℕ
+most_squares = 40
+
+module _ (size : Size) (c : Colouring) where
+  unfoldable pub stones : Colour → Points
+  stones k = passing (λ q. is_stone_of (entry_at c q) k) (point_count size)
+
+  unfoldable pub empties : Points
+  empties = passing (λ q. is_empty (entry_at c q)) (point_count size)
+
+  -- what the other colour has around a group of this one
+  module _ (k : Colour) where
+    -- its chains with a liberty outside
+    unfoldable pub untaken : Points → Points
+    untaken within = reached size (stones (other k)) (set.intersection (stones (other k)) (near size (set.difference empties within)))
+
+    -- for a stone on point q
+    module _ (q : ℕ) where
+      unfoldable pub chain : Points
+      chain = reached size (stones k) (set.insert set.empty q)
+
+      -- the wall: first all stones of the other colour, then, so many times, those that can't be taken from inside
+      unfoldable pub wall_after : ℕ → Points
+      wall_after zero = stones (other k)
+      wall_after (suc n) = untaken (inside size q (wall_after n))
+
+      unfoldable pub wall : Points
+      wall = wall_after (point_count size)
+
+      -- the points inside the wall but the chain's own
+      unfoldable pub region : Points
+      region = set.difference (inside size q wall) chain
+
+      -- there is a wall, and the region has some points and not too many
+      unfoldable pub is_closed : Bool
+      is_closed = nat_lt 0 (set.len wall) && (nat_lt 1 (set.len region) && nat_le (set.len region) most_squares)
+
+      -- empty points within three steps of the chain, where the wall may want a stone
+      unfoldable pub around : Points
+      around = set.intersection empties (reached_in size (set.difference (whole size) (stones (other k))) 3 chain)

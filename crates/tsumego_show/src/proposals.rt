@@ -1,0 +1,121 @@
+//! The marks that are proposed for a game.
+ghost use Rattle.std.specs.Prelude.{◌≡◌, ℕ, ◌<◌, IfSome};
+ghost use Rattle.tt_sgf.specs.Sizes.{point_count};
+ghost use Rattle.tt_board.specs.Reach.{entry_at};
+ghost use Rattle.tsumego_show.specs.Marking.{chosen, closed_at, closed_on, fewer_squares, fewest, placed_point, point_at};
+
+use crate::form::Place;
+use crate::points::point_numbered;
+use crate::regions::region;
+use tt_board::Colour;
+use tt_game::Game;
+use tt_sgf::{Point, PointSet, Size};
+
+/// A triangle on a stone of this colour, and squares on a region.
+#[derive(Drop)]
+pub struct Proposal {
+    /// The point of the stone.
+    pub stone: Point,
+    /// The colour of the stone.
+    pub colour: Colour,
+    /// The points of the squares.
+    pub region: PointSet,
+}
+
+/// The point of this column and row, where the board has it.
+fn point_at(size: Size, column: usize, row: usize) -> Option<Point>
+    ensures value { result ≡ point_at size column row }
+    ensures on_board { IfSome result (λ q. q < point_count size) }
+{
+    let columns = usize::from(size.columns());
+    if column < columns && row < usize::from(size.rows()) {
+        return Some(point_numbered(size, row * columns + column));
+    }
+    None
+}
+
+/// The point of a place, where the board has it.
+pub fn placed_point(size: Size, place: Place) -> Option<Point>
+    ensures value { result ≡ placed_point size place }
+    ensures on_board { IfSome result (λ q. q < point_count size) }
+{
+    match place {
+        Place::FromAbove(column, row) => point_at(size, column, row),
+        Place::FromBelow(column, number) => {
+            let rows = usize::from(size.rows());
+            if 0 < number && number <= rows {
+                return point_at(size, column, rows - number);
+            }
+            None
+        }
+    }
+}
+
+/// The mark on the stone on a point, where a stone is there, and its region is closed.
+fn closed_at(game: &Game, stone: Point) -> Option<Proposal>
+    requires { stone < point_count game.now.size }
+    ensures value { result ≡ closed_at game.now stone (entry_at game.now.present stone) }
+    ensures on_board { IfSome result (λ m. m.stone < point_count game.now.size) }
+{
+    let colour = game.present().at(stone)?;
+    let found = region(game.present(), colour, stone);
+    if !found.closed {
+        return None;
+    }
+    Some(Proposal {
+        stone,
+        colour,
+        region: found.points,
+    })
+}
+
+/// The one with the fewer squares, and of two with as many the first.
+fn fewer_squares(first: Option<Proposal>, second: Option<Proposal>) -> Option<Proposal>
+    ensures value { result ≡ fewer_squares first second }
+    ensures bound { (n : ℕ) → IfSome first (λ m. m.stone < n) → IfSome second (λ m. m.stone < n) → IfSome result (λ m. m.stone < n) }
+{
+    let Some(b) = second else {
+        return first;
+    };
+    let Some(a) = first else {
+        return Some(b);
+    };
+    if b.region.count() < a.region.count() {
+        return Some(b);
+    }
+    Some(a)
+}
+
+/// Of all stones the one with the fewest squares.
+#[tactic(auto, using(crate::proofs::Sets::fewest_none, crate::proofs::Sets::fewest_more), unfolding(crate::specs::Marking::fewest))]
+fn fewest(game: &Game) -> Option<Proposal>
+    ensures value { result ≡ fewest game.now (point_count game.now.size) }
+    ensures on_board { IfSome result (λ m. m.stone < point_count game.now.size) }
+{
+    let size = game.size();
+    let mut found = None;
+    for number in 0..size.point_count() {
+        found = fewer_squares(found, closed_at(game, point_numbered(size, number)));
+    }
+    found
+}
+
+/// The mark on the stone on a point, where the board has the point.
+fn closed_on(game: &Game, stone: Option<Point>) -> Option<Proposal>
+    requires { IfSome stone (λ q. q < point_count game.now.size) }
+    ensures value { result ≡ closed_on game.now stone }
+    ensures on_board { IfSome result (λ m. m.stone < point_count game.now.size) }
+{
+    closed_at(game, stone?)
+}
+
+/// The mark on the stone in a place, or on any.
+pub fn chosen(game: &Game, place: Option<Place>) -> Option<Proposal>
+    ensures value { result ≡ chosen game.now place }
+    ensures on_board { IfSome result (λ m. m.stone < point_count game.now.size) }
+{
+    match place {
+        None => fewest(game),
+        Some(place) => closed_on(game, placed_point(game.size(), place)),
+    }
+}

@@ -1,0 +1,183 @@
+//! The region that is proposed for the chain of a stone.
+ghost use Rattle.std.specs.Prelude.{◌≡◌, ◌<◌};
+ghost use Rattle.tt_sgf.specs.Sizes.{point_count};
+ghost use Rattle.tsumego_show.specs.Regions.{around, chain, empties, inside, is_closed, is_near, near, reached, reached_in, region, stones, untaken, wall};
+
+use crate::points::{has, point_numbered};
+use tt_board::{Board, Colour};
+use tt_sgf::{Point, PointSet, Size};
+
+/// The most points of a region that is closed.
+const MOST_SQUARES: u16 = 40;
+
+/// So many steps around a chain an open region is told.
+const STEPS: usize = 3;
+
+/// Whether a point beside the one of this number is in the set.
+#[tactic(auto, using(crate::proofs::Sets::right_on_board))]
+fn is_near(size: Size, points: &PointSet, number: usize) -> bool
+    requires { number < point_count size }
+    ensures { result ≡ is_near size points.now number }
+{
+    let columns = usize::from(size.columns());
+    let column = number % columns;
+    if columns <= number && has(size, points, number - columns) {
+        return true;
+    }
+    if 0 < column && has(size, points, number - 1) {
+        return true;
+    }
+    if column + 1 < columns && has(size, points, number + 1) {
+        return true;
+    }
+    number + columns < size.point_count() && has(size, points, number + columns)
+}
+
+/// The points beside those of a set.
+#[tactic(auto, using(crate::proofs::Sets::none_passed, crate::proofs::Sets::one_in, crate::proofs::Sets::one_out), unfolding(crate::specs::Regions::near))]
+pub fn near(size: Size, points: &PointSet) -> PointSet
+    ensures { result ≡ near size points.now }
+{
+    let mut made = PointSet::empty();
+    for number in 0..size.point_count() {
+        if is_near(size, points, number) {
+            made = made.with(point_numbered(size, number));
+        }
+    }
+    made
+}
+
+/// The stones of a colour.
+#[tactic(auto, using(crate::proofs::Sets::none_passed, crate::proofs::Sets::one_in, crate::proofs::Sets::one_out), unfolding(crate::specs::Regions::stones))]
+pub fn stones(board: &Board, colour: Colour) -> PointSet
+    ensures { result ≡ stones board.now.size board.now.points colour }
+{
+    let size = board.size();
+    let mut made = PointSet::empty();
+    for number in 0..size.point_count() {
+        let point = point_numbered(size, number);
+        if board.at(point) == Some(colour) {
+            made = made.with(point);
+        }
+    }
+    made
+}
+
+/// The empty points.
+#[tactic(auto, using(crate::proofs::Sets::none_passed, crate::proofs::Sets::one_in, crate::proofs::Sets::one_out), unfolding(crate::specs::Regions::empties))]
+pub fn empties(board: &Board) -> PointSet
+    ensures { result ≡ empties board.now.size board.now.points }
+{
+    let size = board.size();
+    let mut made = PointSet::empty();
+    for number in 0..size.point_count() {
+        let point = point_numbered(size, number);
+        if board.at(point).is_none() {
+            made = made.with(point);
+        }
+    }
+    made
+}
+
+/// What is reached from a set in so many steps through free points.
+#[tactic(auto, using(crate::proofs::Sets::no_step, crate::proofs::Sets::one_step, crate::proofs::Sets::all_reached))]
+fn reached_in(size: Size, free: &PointSet, steps: usize, start: PointSet) -> PointSet
+    ensures { result ≡ reached_in size free.now steps start }
+{
+    let mut found = start;
+    for _step in 0..steps {
+        let more = found.or(&free.and(&near(size, &found)));
+        if more.same(&found) {
+            return found;
+        }
+        found = more;
+    }
+    found
+}
+
+/// What is reached from a set through free points.
+pub fn reached(size: Size, free: &PointSet, start: PointSet) -> PointSet
+    ensures { result ≡ reached size free.now start }
+{
+    reached_in(size, free, size.point_count(), start)
+}
+
+/// The chain of a stone of this colour.
+#[tactic(auto, unfolding(crate::specs::Regions::chain))]
+fn chain(board: &Board, colour: Colour, stone: Point) -> PointSet
+    ensures { result ≡ chain board.now.size board.now.points colour stone }
+{
+    let free = stones(board, colour);
+    reached(board.size(), &free, PointSet::empty().with(stone))
+}
+
+/// What is reached from a point without passing a wall.
+#[tactic(auto, unfolding(crate::specs::Regions::inside))]
+fn inside(size: Size, point: Point, wall: &PointSet) -> PointSet
+    ensures { result ≡ inside size point wall.now }
+{
+    let free = PointSet::whole(size).minus(wall);
+    reached(size, &free, PointSet::empty().with(point))
+}
+
+/// The chains of the other colour with a liberty outside.
+#[tactic(auto, unfolding(crate::specs::Regions::untaken))]
+pub fn untaken(board: &Board, colour: Colour, within: &PointSet) -> PointSet
+    ensures { result ≡ untaken board.now.size board.now.points colour within.now }
+{
+    let size = board.size();
+    let others = stones(board, colour.other());
+    let liberties = empties(board).minus(within);
+    let free = others.and(&near(size, &liberties));
+    reached(size, &others, free)
+}
+
+/// The wall around a stone of this colour: the stones of the other colour that can't be taken from inside.
+#[tactic(auto, using(crate::proofs::Sets::first_wall_stones, crate::proofs::Sets::first_wall, crate::proofs::Sets::wall_stays), unfolding(crate::specs::Regions::wall))]
+fn wall(board: &Board, colour: Colour, stone: Point) -> PointSet
+    ensures { result ≡ wall board.now.size board.now.points colour stone }
+{
+    let mut found = stones(board, colour.other());
+    for _time in 0..board.size().point_count() {
+        let less = untaken(board, colour, &inside(board.size(), stone, &found));
+        if less.same(&found) {
+            return found;
+        }
+        found = less;
+    }
+    found
+}
+
+/// The points of a region, and whether it is closed.
+#[derive(Drop)]
+pub struct Squares {
+    /// The points.
+    pub points: PointSet,
+    /// Whether there is a wall, and the region has some points and not too many.
+    pub closed: bool,
+}
+
+/// The region of the chain of a stone of this colour: the points inside its wall but the chain's own.
+#[tactic(auto, unfolding(crate::specs::Regions::region, crate::specs::Regions::is_closed))]
+pub fn region(board: &Board, colour: Colour, stone: Point) -> Squares
+    ensures points { result.points ≡ region board.now.size board.now.points colour stone }
+    ensures closed { result.closed ≡ is_closed board.now.size board.now.points colour stone }
+{
+    let wall = wall(board, colour, stone);
+    let points = inside(board.size(), stone, &wall).minus(&chain(board, colour, stone));
+    let count = points.count();
+    Squares {
+        closed: 0 < wall.count() && 1 < count && count <= MOST_SQUARES,
+        points,
+    }
+}
+
+/// The empty points within three steps of the chain of a stone of this colour.
+#[tactic(auto, unfolding(crate::specs::Regions::around))]
+pub fn around(board: &Board, colour: Colour, stone: Point) -> PointSet
+    ensures { result ≡ around board.now.size board.now.points colour stone }
+{
+    let size = board.size();
+    let free = PointSet::whole(size).minus(&stones(board, colour.other()));
+    empties(board).and(&reached_in(size, &free, STEPS, chain(board, colour, stone)))
+}
