@@ -18,7 +18,7 @@ use Rattle.tsumego_show.specs.declared.form.Place.{Place}
 use Rattle.tsumego_show.specs.declared.form.Place.TheVariants.{FromAbove, FromBelow}
 use Rattle.tsumego_show.specs.declared.proposals.Proposal.{Proposal}
 use Rattle.tsumego_show.specs.Hints.{hints, members_text}
-use Rattle.tsumego_show.specs.Refusals.{fault_text, refusal}
+use Rattle.tsumego_show.specs.Refusals.{fault_text, refusal_line}
 use Rattle.tsumego_show.specs.Regions.{around, is_closed, region}
 use Rattle.tsumego_show.specs.Variations.{bracketed, root_text}
 
@@ -104,7 +104,7 @@ module _ (s : GameState) where
 
   -- what is written of the game with this mark, or without one
   abbrev pub with_mark : Option Place → ℕ → Option Proposal → List ℕ
-  with_mark place k None = refusal k (code_of NoTarget) ++ (codes "why: " ++ why_not place)
+  with_mark place k None = refusal_line k (code_of NoTarget) ++ (codes "why: " ++ why_not place)
   with_mark place k (Some m) = marked_text (marked s m)
 
 -- what is written of a main line without a target: it comes to a game, or is refused

@@ -11,8 +11,8 @@ use Rattle.tt_game.specs.Line.{Standing}
 use Rattle.tt_game.specs.Problems.{problem_of}
 
 -- the line on a refusal of tree number k, which a newline ends
-abbrev pub refusal : ℕ → ℕ → List ℕ
-refusal k code = decimal k ++ (codes " refused " ++ (decimal code ++ newline ∷ []))
+abbrev pub refusal_line : ℕ → ℕ → List ℕ
+refusal_line k code = decimal k ++ (codes " refused " ++ (decimal code ++ newline ∷ []))
 
 -- ---- main lines that are no problem
 
@@ -54,15 +54,15 @@ node_text code ns =
 
 -- the lines on a main line that is refused so
 abbrev pub fault_text : ℕ → List Node → GameFault → List ℕ
-fault_text k ns e = refusal k (code_of e) ++ (codes "why: " ++ (node_text (code_of e) ns ++ meaning e))
+fault_text k ns e = refusal_line k (code_of e) ++ (codes "why: " ++ (node_text (code_of e) ns ++ meaning e))
 
 -- ---- inputs that are no game trees
 
 -- the lines on bytes of which the first n belong to other trees, where no tree can be read behind them; bytes count from 1
 abbrev pub syntax_text : ℕ → ℕ → List ℕ
 syntax_text k n =
-    refusal k 1 ++ (codes "why: from byte " ++ (decimal (n + 1) ++ codes " on no game tree can be read: a bracket is missing, or the ] of a value\n"))
+    refusal_line k 1 ++ (codes "why: from byte " ++ (decimal (n + 1) ++ codes " on no game tree can be read: a bracket is missing, or the ] of a value\n"))
 
 -- the lines on an input that is too long
 abbrev pub length_text : ℕ → List ℕ
-length_text k = refusal k 2 ++ codes "why: the input has more than 1,048,576 bytes: give each problem a file of its own\n"
+length_text k = refusal_line k 2 ++ codes "why: the input has more than 1,048,576 bytes: give each problem a file of its own\n"

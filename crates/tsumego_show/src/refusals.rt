@@ -1,7 +1,7 @@
 //! What is written where something is refused.
 ghost use Rattle.std.specs.Prelude.{◌≡◌, ◌++◌, ◌-◌, ◌^◌, ◌<◌, length, IfOk, OnOk};
 ghost use Rattle.tt_game.specs.Problems.{problem_of};
-ghost use Rattle.tsumego_show.specs.Refusals.{fault_text, is_refused_with, length_text, meaning, needed, node_text, refusal, syntax_text};
+ghost use Rattle.tsumego_show.specs.Refusals.{fault_text, is_refused_with, length_text, meaning, needed, node_text, refusal_line, syntax_text};
 
 use std::alloc::Global;
 use tt_game::{GameFault, problem};
@@ -51,7 +51,7 @@ pub fn put_refusal(
     number: usize,
     code: u8,
 ) -> Result<(), NoMemory>
-    ensures { OnOk result (out.new.items ≡ out.old.items ++ refusal number code) }
+    ensures { OnOk result (out.new.items ≡ out.old.items ++ refusal_line number code) }
 {
     let text = format!(in alloc; "{number} refused {code}\n")?;
     out.extend_from_slice(text.as_bytes())?;

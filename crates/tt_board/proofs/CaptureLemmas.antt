@@ -8,14 +8,14 @@ use Rattle.tt_sgf.specs.declared.size.Size.{Size}
 use Rattle.tt_sgf.specs.Sizes.{point_count}
 use Rattle.tt_board.specs.Position.{Colouring}
 use Rattle.tt_board.specs.Reach.{entry_at}
-use Rattle.tt_board.specs.inside.Chains.{name_at, root_of, Touches, touching, liberty_count, stone_count, renamed, IsRootedBut, IsCountedBut}
+use Rattle.tt_board.specs.inside.Chains.{name_at, root_of, Touches, touching, liberty_count, stone_count, renamed, OtherChainsRooted, OtherChainsCounted}
 use Rattle.tt_board.specs.Decided.{decided, decided_is}
 use Rattle.tt_board.proofs.NameLemmas.{count_emptied, at_p, off_p, liberty_count_le}
 use Rattle.tt_board.proofs.StartLemmas.{away}
 use Rattle.tt_board.proofs.JoinLemmas.{IsPartly, partly_more, partly_kept, partly_whole, stones_fewer, none_stones}
 
 -- a stone of chain e on p is taken off
-module _ (s : Size) (ns : List ℕ) (p e : ℕ) (in_p : p < point_count s) (wide : p < length ns) (living : e ≢ 0) (stone : name_at ns p ≡ e) (rooted : IsRootedBut ns e) where
+module _ (s : Size) (ns : List ℕ) (p e : ℕ) (in_p : p < point_count s) (wide : p < length ns) (living : e ≢ 0) (stone : name_at ns p ≡ e) (rooted : OtherChainsRooted ns e) where
   -- the other chains keep their names and roots
   pub others_were : (q : ℕ) → name_at (set ns p 0) q ≢ 0 → (q ≢ p) × (name_at (set ns p 0) q ≡ name_at ns q)
   others_were q some = elim (cases_eq q p) [
@@ -23,7 +23,7 @@ module _ (s : Size) (ns : List ℕ) (p e : ℕ) (in_p : p < point_count s) (wide
     | inr apart ↦ (apart, off_p s ns p 0 in_p wide q apart)
   ]
 
-  pub rooted_released : IsRootedBut (set ns p 0) e
+  pub rooted_released : OtherChainsRooted (set ns p 0) e
   rooted_released q some other =
       let was = (others_were q some).1 in
       let root = rooted q (λ z. some (was ∙ z)) (λ z. other (was ∙ z)) in
@@ -40,7 +40,7 @@ module _ (s : Size) (ns : List ℕ) (p e : ℕ) (in_p : p < point_count s) (wide
         let h = (all m).0 has in
         subst (λ x. name_at (set ns p 0) (root_of x) ≡ x) t.2.1 (rooted_released t.0 (λ z. some (sym t.2.1 ∙ z)) (λ z. h.1 (sym t.2.1 ∙ z)))
 
-    module _ (liberties : List ℕ) (counted : IsCountedBut s ns liberties e) where
+    module _ (liberties : List ℕ) (counted : OtherChainsCounted s ns liberties e) where
       -- the count of a chain beside p is true
       counts : (m r : ℕ) → name_at (set ns p 0) r ≡ m → m ≢ 0 → m ≢ e → name_at liberties (root_of m) ≡ liberty_count s ns m
       counts m r is some other =
@@ -58,7 +58,7 @@ module _ (s : Size) (ns : List ℕ) (p e : ℕ) (in_p : p < point_count s) (wide
       pub counted_released : (raised : List ℕ)
           → ((i : ℕ) → i < length near → name_at raised (root_of (name_at near i)) ≡ name_at liberties (root_of (name_at near i)) + 1)
           → ((r : ℕ) → ((i : ℕ) → i < length near → root_of (name_at near i) ≢ r) → name_at raised r ≡ name_at liberties r)
-          → IsCountedBut s (set ns p 0) raised e
+          → OtherChainsCounted s (set ns p 0) raised e
       counted_released raised more same q some other =
           let m = name_at (set ns p 0) q in
           let old = counts m q refl some other in
@@ -82,7 +82,7 @@ pub record Releasing (s : Size) (old : List ℕ) (before : Colouring) (e : ℕ) 
   pub fits : length after ≡ length before
   pub ends : (q : ℕ) → point_count s ≤ q → name_at ns q ≡ 0
   pub partly : IsPartly e 0 old ns
-  pub rooted : IsRootedBut ns e
+  pub rooted : OtherChainsRooted ns e
   pub left_true : left ≡ stone_count ns e
   pub gone : (q : ℕ) → name_at old q ≡ e → name_at ns q ≢ e → entry_at after q ≡ None
   pub kept : (q : ℕ) → name_at old q ≢ e → entry_at after q ≡ entry_at before q

@@ -10,7 +10,7 @@ use Rattle.tt_board.specs.Reach.{entry_at, Reaches}
 use Rattle.tt_board.specs.ReachLaws.{reaches_beside, reaches_on, reaches_all}
 use Rattle.tt_board.specs.Decided.{same_entry}
 use Rattle.tt_board.specs.Play.{IsAlive}
-use Rattle.tt_board.specs.inside.Chains.{AreLinked, name_at, root_of, colour_number, IsNamed, stone_count, renamed, AreCounted, AreNames, AreNamesBut, IsCountedBut, IsChainBoard}
+use Rattle.tt_board.specs.inside.Chains.{AreLinked, name_at, root_of, colour_number, IsNamed, stone_count, renamed, AreCounted, AreNames, AreNamesBut, OtherChainsCounted, IsChainBoard}
 use Rattle.tt_board.proofs.LinkLemmas.{linked_self, linked_kept, named_bare, stone_named, one_name}
 use Rattle.tt_board.proofs.NameLemmas.{at_p, off_p}
 use Rattle.tt_board.proofs.JoinLemmas.{name_renamed, renamed_is, renamed_not, stones_others}
@@ -117,7 +117,7 @@ module _ (s : Size) (c d : Colouring) (ns : List ℕ) (e : ℕ) (living : e ≢ 
   taken_fewer q = elim (cases_eq (name_at ns q) e) [ inl is ↦ inr (gone q is) | inr other ↦ inl (kept q other) ]
 
 -- the counts of the other chains are true still
-pub counted_taken : (s : Size) (ns stones liberties left : List ℕ) (e : ℕ) → e ≢ 0 → AreCounted s ns stones liberties → IsCountedBut s (map (renamed e 0) ns) left e
+pub counted_taken : (s : Size) (ns stones liberties left : List ℕ) (e : ℕ) → e ≢ 0 → AreCounted s ns stones liberties → OtherChainsCounted s (map (renamed e 0) ns) left e
     → AreCounted s (map (renamed e 0) ns) stones left
 counted_taken s ns stones liberties left e living counted true' = record {
   rooted = λ q some. let w = was q some in

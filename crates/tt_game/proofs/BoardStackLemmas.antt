@@ -5,7 +5,7 @@ use Rattle.std.proofs.lemmas.List.{get_or-set_other, take_more, take-set, take-a
 use Rattle.tt_board.specs.Position.{Position}
 use Rattle.tt_board.specs.declared.Colour.{Colour}
 use Rattle.tt_board.specs.Play.{play_of}
-use Rattle.tt_game.specs.inside.Undoing.{Stack, stack_of, board_on, AreMade}
+use Rattle.tt_game.specs.inside.Undoing.{Stack, stack_at, board_on, AreMade}
 
 -- the board in a place, and what a play makes of it
 abbrev get_or2 : Position → List Position → ℕ → Position
@@ -20,8 +20,8 @@ same_stack : (x y : Position) (xs ys : List Position) → x ≡ y → xs ≡ ys
 same_stack x y xs ys e f = cc
 
 -- a board behind the first one
-pub stack_at : (b : Position) (bs : List Position) (n : ℕ) → get_or (b ∷ bs) (n + 1) b ≡ get_or bs n b
-stack_at b bs n = let e : n + 1 ≡ suc n = omega arith in ap (λ k. get_or (b ∷ bs) k b) e ∙ at n
+pub get_behind : (b : Position) (bs : List Position) (n : ℕ) → get_or (b ∷ bs) (n + 1) b ≡ get_or bs n b
+get_behind b bs n = let e : n + 1 ≡ suc n = omega arith in ap (λ k. get_or (b ∷ bs) k b) e ∙ at n
   where
     at : (k : ℕ) → get_or (b ∷ bs) (suc k) b ≡ get_or bs k b
     at k = refl
@@ -31,12 +31,12 @@ pub below_more : (b : Position) (bs : List Position) (n : ℕ) → n ≤ length 
 below_more b bs n within = ap reverse (take_more (b ∷ bs) n b (omega arith)) ∙ reverse-append (take n (b ∷ bs)) (get_or (b ∷ bs) n b ∷ [])
 
 -- more room above leaves the stack as it is
-pub stack_room : (b x : Position) (bs : List Position) (n : ℕ) → n ≤ length bs → stack_of b (bs ++ x ∷ []) n ≡ stack_of b bs n
+pub stack_room : (b x : Position) (bs : List Position) (n : ℕ) → n ≤ length bs → stack_at b (bs ++ x ∷ []) n ≡ stack_at b bs n
 stack_room b x bs n within = same_stack _ _ _ _ (get_or_append_left (b ∷ bs) (x ∷ []) b n (omega arith)) (ap reverse (take-append-le n (b ∷ bs) (x ∷ []) (omega arith)))
 
 -- the board above is written over
 pub written_present : (b x : Position) (bs : List Position) (n : ℕ) → n < length bs → get_or (b ∷ set bs n x) (n + 1) b ≡ x
-written_present b x bs n within = stack_at b (set bs n x) n ∙ get_or-set_same bs n x b within
+written_present b x bs n within = get_behind b (set bs n x) n ∙ get_or-set_same bs n x b within
 
 pub written_below : (b x : Position) (bs : List Position) (n : ℕ) → n < length bs
     → reverse (take (n + 1) (b ∷ set bs n x)) ≡ get_or (b ∷ bs) n b ∷ reverse (take n (b ∷ bs))
@@ -51,7 +51,7 @@ written_below b x bs n within =
         step j = ap (λ xs. b ∷ xs) (take-set bs j x)
 
 -- a stack with boards below has a play to undo
-pub some_live : (b : Position) (bs : List Position) (n : ℕ) → 0 < length (stack_of b bs n).below → 0 < n
+pub some_live : (b : Position) (bs : List Position) (n : ℕ) → 0 < length (stack_at b bs n).below → 0 < n
 some_live b bs zero some = absurd (omega (arith, some))
 some_live b bs (suc n) some = omega arith
 
@@ -64,7 +64,7 @@ written_split b r y bs under over k make parts long some is =
     let new : Position = make (get_or (b ∷ bs) k b) in
     let below : get_or under (k - 1) r ≡ get_or (b ∷ bs) k b =
     get_or_default under (k - 1) r b (omega (arith, long, some)) ∙ sym (get_or_append_left under over b (k - 1) (omega (arith, long, some)))
-    ∙ ap (λ ys. get_or ys (k - 1) b) (sym parts) ∙ sym (stack_at b bs (k - 1)) ∙ ap (λ n. get_or (b ∷ bs) n b) e in
+    ∙ ap (λ ys. get_or ys (k - 1) b) (sym parts) ∙ sym (get_behind b bs (k - 1)) ∙ ap (λ n. get_or (b ∷ bs) n b) e in
     ap (λ z. under ++ set over 0 z) (is ∙ ap make below)
     ∙ sym (ap (λ ys. set ys k new) parts ∙ set-append_right under over k k new long (omega arith) ∙ ap (λ j. under ++ set over j new) none)
 

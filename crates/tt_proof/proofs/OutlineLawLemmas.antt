@@ -8,7 +8,7 @@ use Rattle.tt_sgf.specs.declared.size.Size.{Size}
 use Rattle.tt_game.specs.declared.turns.Turn.TheVariants.{Play, Pass}
 use Rattle.tt_proof.specs.declared.tree.TheConstants.{MOST_DEPTH}
 use Rattle.tt_proof.specs.Strategy.{Strategy, Entries, done, pick, reply, none, entry, depth, number_on, IsInOrder, AreInOrder}
-use Rattle.tt_proof.specs.CertificateText.{pick_symbol, reply_symbol, turn_text, tree_text, entries_text, side_text}
+use Rattle.tt_proof.specs.CertificateText.{pick_symbol, replies_symbol, turn_text, tree_text, entries_text, side_text}
 use Rattle.tt_proof.specs.Outlines.{Outline, Branches, ended, picked, replied, part, no_branch, branch, unfolded}
 use Rattle.tt_proof.specs.Outlines.{entries_with, names_behind, names_behind_all, RefersBack, ReferBack, IsOrderly, AreOrderly, outline_text, branches_text}
 use Rattle.tt_proof.specs.OutlineLaws.{OneSharedCertificate, CertificatesAreShared}
@@ -159,7 +159,7 @@ mutual
       record { tree = ap (pick t) h.tree; names = h.names; text = ap (λ w. pick_symbol ∷ (turn_text size t ++ w)) h.text; closed = h.closed }
   plain_is size us (reply es) =
       let h = plain_all_is size us es in
-      record { tree = ap reply h.trees; names = h.names; text = ap (λ w. reply_symbol ∷ w) h.text; closed = h.closed }
+      record { tree = ap reply h.trees; names = h.names; text = ap (λ w. replies_symbol ∷ w) h.text; closed = h.closed }
 
   plain_all_is : (size : Size) (us : List Strategy) (es : Entries) → ArePlain size us es (plain_all es)
   plain_all_is size us none = record { trees = refl; names = refl; text = refl; closed = tt }

@@ -8,7 +8,7 @@ use Rattle.tt_game.specs.declared.turns.Turn.{Turn}
 use Rattle.tt_proof.specs.declared.outlines.Outline as form
 use Rattle.tt_proof.specs.declared.tree.TheConstants.{MOST_DEPTH}
 use Rattle.tt_proof.specs.Strategy.{Strategy, done, depth, depth_of_entries, IsOnBoard, number_on}
-use Rattle.tt_proof.specs.CertificateText.{won_symbol, pick_symbol, reply_symbol, turn_text, side_text}
+use Rattle.tt_proof.specs.CertificateText.{won_symbol, pick_symbol, replies_symbol, turn_text, side_text}
 use Rattle.tt_proof.specs.Outlines.{Outline, Branches, ended, picked, replied, part, no_branch, branch, with_name, entries_with, unfolded}
 use Rattle.tt_proof.specs.Outlines.{names_behind, names_behind_all, outline_of, branches_of_list, name_text, part_symbol, outline_text, branches_text, IsSharedCertificate, AreOrderly}
 use Rattle.tt_proof.specs.inside.OutlineReading.{with_depth, BranchesAt, ReadsOutline, ReadsBranches}
@@ -59,7 +59,7 @@ module _ (size : Size) where
   }
 
   pub reads_reply : (left : ℕ) (old mid new : List ℕ) (n : Bool) (bs : Branches) (d : ℕ) (r y : List ℕ) → ReadsBranches size left old mid 0 bs d r y
-      → new ≡ with_depth n d mid → ReadsOutline size left old new (replied n bs) d (name_text n ++ (reply_symbol ∷ r)) y
+      → new ≡ with_depth n d mid → ReadsOutline size left old new (replied n bs) d (name_text n ++ (replies_symbol ∷ r)) y
   reads_reply left old mid new n bs d r y h more = record {
     low = h.low;
     at = λ us g. let w = h.at us g in
@@ -68,8 +68,8 @@ module _ (size : Size) where
           orderly = w.orderly;
           deep = w.deep;
           text =
-              ap (λ w. name_text n ++ (reply_symbol ∷ w)) w.text
-              ∙ sym (append_assoc (name_text n) (reply_symbol ∷ branches_text size bs) y);
+              ap (λ w. name_text n ++ (replies_symbol ∷ w)) w.text
+              ∙ sym (append_assoc (name_text n) (replies_symbol ∷ branches_text size bs) y);
         };
     names = λ us g.
         names_more n _ (names_behind_all us bs)

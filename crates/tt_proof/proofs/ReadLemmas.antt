@@ -5,7 +5,7 @@ use Rattle.tt_game.specs.declared.turns.Turn.{Turn}
 use Rattle.tt_proof.specs.declared.certificate_read.CertFault.{CertFault}
 use Rattle.tt_proof.specs.declared.certificate_read.CertFault.TheVariants.{Syntax, TooDeep, NoMemory}
 use Rattle.tt_proof.specs.Strategy.{Strategy, Entries, done, pick, reply, none, entry, depth, depth_of_entries, IsOnBoard, IsInOrder}
-use Rattle.tt_proof.specs.CertificateText.{won_symbol, pick_symbol, reply_symbol, turn_text, tree_text, entries_text, EndsBelow, EndsInEntries}
+use Rattle.tt_proof.specs.CertificateText.{won_symbol, pick_symbol, replies_symbol, turn_text, tree_text, entries_text, EndsBelow, EndsInEntries}
 use Rattle.tt_proof.specs.inside.CertificateReading.{TreeAt, DeepAt, EntriesAt, EntriesDeepAt, FaultAt, EntriesFaultAt}
 use Rattle.tt_proof.proofs.TextLemmas.{heads, tails}
 
@@ -22,7 +22,7 @@ module _ (size : Size) where
     deep_tree (pick t u) (suc e) lt =
         let r = deep_tree u e (omega (arith, lt)) in
         (pick_symbol ∷ (turn_text size t ++ r.0), (r.1.0, ((r.0, (refl, r.1.1.0)), ap (λ w. pick_symbol ∷ (turn_text size t ++ w)) r.1.1.1)))
-    deep_tree (reply es) e lt = let r = deep_entries es e lt in (reply_symbol ∷ r.0, (r.1.0, ((r.0, (refl, r.1.1.0)), ap (λ w. reply_symbol ∷ w) r.1.1.1)))
+    deep_tree (reply es) e lt = let r = deep_entries es e lt in (replies_symbol ∷ r.0, (r.1.0, ((r.0, (refl, r.1.1.0)), ap (λ w. replies_symbol ∷ w) r.1.1.1)))
 
     -- so have entries that are deeper than e
     deep_entries : (es : Entries) (e : ℕ) → e < depth_of_entries es →
@@ -85,7 +85,7 @@ module _ (size : Size) where
   -- ---- the first byte
 
   -- where none of `.`, `!` and `?` stands, there is no tree
-  pub not_tree : (r : List ℕ) → ((b : ℕ) (y : List ℕ) → r ≡ b ∷ y → (b ≡ won_symbol) ⊎ ((b ≡ pick_symbol) ⊎ (b ≡ reply_symbol)) → ⊥)
+  pub not_tree : (r : List ℕ) → ((b : ℕ) (y : List ℕ) → r ≡ b ∷ y → (b ≡ won_symbol) ⊎ ((b ≡ pick_symbol) ⊎ (b ≡ replies_symbol)) → ⊥)
       → (d : ℕ) → FaultAt size d r Syntax
   not_tree r h d = (λ u y at. no u y at.text, λ at. deep at.tree d at.beginning at.follows at.text at.ends)
     where
@@ -177,31 +177,31 @@ module _ (size : Size) where
   -- ---- a reply
 
   -- entries behind `?` are a reply
-  pub reply_read : (d : ℕ) (es : Entries) (r y : List ℕ) → EntriesAt size d 0 es r y → TreeAt size d (reply es) (reply_symbol ∷ r) y
-  reply_read d es r y h = record { in_order = h.in_order; low = h.low; text = ap (λ w. reply_symbol ∷ w) h.text }
+  pub reply_read : (d : ℕ) (es : Entries) (r y : List ℕ) → EntriesAt size d 0 es r y → TreeAt size d (reply es) (replies_symbol ∷ r) y
+  reply_read d es r y h = record { in_order = h.in_order; low = h.low; text = ap (λ w. replies_symbol ∷ w) h.text }
 
   -- a fault of the entries is one of the reply
-  pub reply_fault : (d : ℕ) (r : List ℕ) (f : CertFault) → EntriesFaultAt size d 0 r f → FaultAt size d (reply_symbol ∷ r) f
+  pub reply_fault : (d : ℕ) (r : List ℕ) (f : CertFault) → EntriesFaultAt size d 0 r f → FaultAt size d (replies_symbol ∷ r) f
   reply_fault d r NoMemory h = tt
   reply_fault d r TooDeep h = record {
     tree = reply h.entries;
-    beginning = reply_symbol ∷ h.beginning;
+    beginning = replies_symbol ∷ h.beginning;
     follows = h.follows;
     in_order = h.in_order;
     ends = (h.beginning, (refl, h.ends));
-    text = ap (λ w. reply_symbol ∷ w) h.text;
+    text = ap (λ w. replies_symbol ∷ w) h.text;
   }
   reply_fault d r Syntax h =
       (λ u y w. no u y w.in_order w.low w.text, λ w. deep w.tree d w.beginning w.follows w.in_order w.text w.ends (λ x. x))
     where
       -- no tree is read
-      no : (u : Strategy) (y : List ℕ) → IsInOrder size u → depth u ≤ d → reply_symbol ∷ r ≡ tree_text size u ++ y → ⊥
+      no : (u : Strategy) (y : List ℕ) → IsInOrder size u → depth u ≤ d → replies_symbol ∷ r ≡ tree_text size u ++ y → ⊥
       no done y i low g = omega (arith, heads g)
       no (pick v u) y i low g = omega (arith, heads g)
       no (reply es) y i low g = h.0 es y (record { in_order = i; low = low; text = tails g })
 
       -- nor is a turn too deep
-      deep : (u : Strategy) (k : ℕ) (x y : List ℕ) → IsInOrder size u → reply_symbol ∷ r ≡ x ++ y → EndsBelow size u k x →
+      deep : (u : Strategy) (k : ℕ) (x y : List ℕ) → IsInOrder size u → replies_symbol ∷ r ≡ x ++ y → EndsBelow size u k x →
           (EntriesDeepAt size k 0 r → EntriesDeepAt size d 0 r) → ⊥
       deep done k x y i g w to = w
       deep (pick v u) zero x y i g w to = omega (arith, heads (g ∙ ap (λ z. z ++ y) w))

@@ -16,8 +16,8 @@ won_symbol = 46
 abbrev pub pick_symbol : ℕ
 pick_symbol = 33
 
-abbrev pub reply_symbol : ℕ
-reply_symbol = 63
+abbrev pub replies_symbol : ℕ
+replies_symbol = 63
 
 abbrev pub dash : ℕ
 dash = 45
@@ -53,7 +53,7 @@ module _ (size : Size) where
     pub tree_text : Strategy → List ℕ
     tree_text done = won_symbol ∷ []
     tree_text (pick t u) = pick_symbol ∷ (turn_text t ++ tree_text u)
-    tree_text (reply es) = reply_symbol ∷ entries_text es
+    tree_text (reply es) = replies_symbol ∷ entries_text es
 
     pub entries_text : Entries → List ℕ
     entries_text none = semicolon ∷ []
@@ -68,7 +68,7 @@ module _ (size : Size) where
     EndsBelow done d x = ⊥
     EndsBelow (pick t u) zero x = x ≡ pick_symbol ∷ turn_text t
     EndsBelow (pick t u) (suc d) x = (y : List ℕ) × ((x ≡ pick_symbol ∷ (turn_text t ++ y)) × EndsBelow u d y)
-    EndsBelow (reply es) d x = (y : List ℕ) × ((x ≡ reply_symbol ∷ y) × EndsInEntries es d y)
+    EndsBelow (reply es) d x = (y : List ℕ) × ((x ≡ replies_symbol ∷ y) × EndsInEntries es d y)
 
     -- so with the entries' text
     pub EndsInEntries : Entries → ℕ → List ℕ → Type 0

@@ -8,7 +8,7 @@ use Rattle.tt_proof.specs.declared.outlines.Outline as form
 use Rattle.tt_proof.specs.declared.outlines.Outline.TheOpen as layer
 use Rattle.tt_proof.specs.declared.tree.TheConstants.{MOST_DEPTH}
 use Rattle.tt_proof.specs.Strategy.{Strategy, Entries, done, pick, reply, none, entry, depth, IsOnBoard, number_on}
-use Rattle.tt_proof.specs.CertificateText.{won_symbol, pick_symbol, reply_symbol, turn_text, side_text}
+use Rattle.tt_proof.specs.CertificateText.{won_symbol, pick_symbol, replies_symbol, turn_text, side_text}
 
 mutual
   -- nothing more to play; a turn, and how it goes on; an answer to each turn of the other side; or the tree with this name. The
@@ -93,7 +93,7 @@ module _ (size : Size) where
     pub outline_text : Outline → List ℕ
     outline_text ended = won_symbol ∷ []
     outline_text (picked n t o) = name_text n ++ (pick_symbol ∷ (turn_text size t ++ outline_text o))
-    outline_text (replied n bs) = name_text n ++ (reply_symbol ∷ branches_text bs)
+    outline_text (replied n bs) = name_text n ++ (replies_symbol ∷ branches_text bs)
     outline_text (part k) = part_symbol ∷ decimal k
 
     pub branches_text : Branches → List ℕ

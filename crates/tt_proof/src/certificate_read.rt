@@ -6,7 +6,7 @@ ghost use Rattle.tt_sgf.specs.Sizes.{point_count};
 ghost use Rattle.tt_sgf.specs.declared.size.TheConstants.{MOST_POINTS};
 ghost use Rattle.tt_game.specs.declared.turns.Turn.{Turn};
 ghost use Rattle.tt_proof.specs.Strategy.{strategy_of, entries_of_trees, number_on, IsOnBoard};
-ghost use Rattle.tt_proof.specs.CertificateText.{pick_symbol, reply_symbol, turn_text, side_text, IsCertificate, IsTooDeep};
+ghost use Rattle.tt_proof.specs.CertificateText.{pick_symbol, replies_symbol, turn_text, side_text, IsCertificate, IsTooDeep};
 ghost use Rattle.tt_proof.specs.inside.CertificateReading.{TreeAt, EntriesAt, FaultAt, EntriesFaultAt};
 ghost use Rattle.tt_proof.specs.CertificateFaults.{IsFault, code_of};
 
@@ -145,8 +145,8 @@ fn read_reply(
     size: Size,
     left: u16,
 ) -> Result<(Tree, &[u8]), CertFault>
-    ensures { MatchResult result (λ r. TreeAt size left (strategy_of r.0) (reply_symbol ∷ bytes.now) r.1.now)
-        (λ e. FaultAt size left (reply_symbol ∷ bytes.now) e) }
+    ensures { MatchResult result (λ r. TreeAt size left (strategy_of r.0) (replies_symbol ∷ bytes.now) r.1.now)
+        (λ e. FaultAt size left (replies_symbol ∷ bytes.now) e) }
 {
     match read_entries(alloc, bytes, size, left) {
         Err(fault) => Err(fault),

@@ -2,7 +2,7 @@
 
 ghost use Rattle.std.specs.Prelude.{◌≡◌, ◌≤◌, ◌+◌, ◌++◌, ◌∷◌, [], decimal, IfOk, OnOk, IfSome};
 ghost use Rattle.tt_sgf.specs.declared.size.TheConstants.{MOST_POINTS};
-ghost use Rattle.tt_proof.specs.CertificateText.{pick_symbol, reply_symbol, side_text};
+ghost use Rattle.tt_proof.specs.CertificateText.{pick_symbol, replies_symbol, side_text};
 ghost use Rattle.tt_proof.specs.declared.tree.TheConstants.{MOST_DEPTH};
 ghost use Rattle.tt_proof.specs.Strategy.{depth};
 ghost use Rattle.tt_proof.specs.Outlines.{IsSharedCertificate, outline_of, unfolded, branches_of_list, name_text, part_symbol};
@@ -188,7 +188,7 @@ fn read_reply<'a>(
     left: u16,
     depths: &mut Vec<u16>,
 ) -> Result<(Outline, u16, &'a [u8]), CertFault>
-    ensures { IfOk result (λ r. ReadsOutline size left depths.old.items depths.new.items (outline_of r.0) r.1 (name_text named ++ (reply_symbol ∷ bytes.now)) r.2.now) }
+    ensures { IfOk result (λ r. ReadsOutline size left depths.old.items depths.new.items (outline_of r.0) r.1 (name_text named ++ (replies_symbol ∷ bytes.now)) r.2.now) }
 {
     match read_branches(alloc, bytes, size, left, depths) {
         Err(fault) => Err(fault),

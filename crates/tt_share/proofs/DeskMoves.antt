@@ -12,8 +12,8 @@ use Rattle.atomic_table.proofs.Lists.{at_set, at_snoc, set_here, set_else, at_lo
 use Rattle.atomic_table.specs.Table.{keeps, Allows, Splits, Joins}
 use Rattle.tt_share.specs.declared.desk.rule.Ghost.{Ghost}
 use Rattle.tt_share.specs.declared.desk.rule.DeskSize.{DeskSize}
-use Rattle.tt_share.specs.Desk.{blank, one_seat_view, no_seat_view, fewer, joined, with_draw, with_grant, with_flag, with_sighting, overdraw_count, EachSeat, SomeSeat, Counts, IsMark, IsDesk}
-use Rattle.tt_share.specs.Desk.{DeskHolds, SeatState, IsNext, Draws, GivesGrant, Raises, Looks}
+use Rattle.tt_share.specs.Desk.{blank, handed_out_view, no_seat_view, fewer, joined, with_draw, with_grant, with_flag, with_sighting, overdraw_count, EachSeat, SomeSeat, Counts, IsMark, IsDesk}
+use Rattle.tt_share.specs.Desk.{DeskHolds, SeatState, CanFollow, Draws, AsksForGrant, Raises, Looks}
 use Rattle.tt_share.specs.Seats.{last_number}
 use Rattle.tt_share.proofs.DeskLists.{at_within, sum_set, sum_at, sum_le, overdraw_below, none_below, below_by_weight, rising_push, rising_short, no_spares}
 
@@ -154,7 +154,7 @@ no_wrap n m le small = omega arith
 
 -- the number that a step finds is the view's next one
 next_one : (numbers : Ghost → List ℕ) (limit count : ℕ) (views : List Ghost) (id : ℕ) (v : Ghost) → Counts numbers limit count views → get_elem? views id ≡ some v
-    → v.parts ≡ 1 → IsNext (numbers v) count
+    → v.parts ≡ 1 → CanFollow (numbers v) count
 next_one numbers limit count views id v h at one =
     let up = h.rising id v at one in
     let below = counts_below numbers limit count views id v h at in (rising_push (numbers v) count up below, rising_short (numbers v) count up below)
@@ -179,12 +179,12 @@ draws plan slots id me small empty one job s h homes at fits =
       keeps,
       tt,
       (h.0 + 1, h.1, h.2, (λ k. set (h.3 k) 0 (next k)), subst (λ (n : ℕ). IsDesk plan (h.0 + 1) h.1 h.2 (set s.views id (with_draw v n))) (sym here) desk),
-      (refl, subst (λ (n : ℕ). IsNext v.numbers n) (sym here) (next_one (λ u. u.numbers) plan.jobs h.0 s.views id v h.4.draws at one)),
+      (refl, subst (λ (n : ℕ). CanFollow v.numbers n) (sym here) (next_one (λ u. u.numbers) plan.jobs h.0 s.views id v h.4.draws at one)),
     )
 
 -- an ask for a grant keeps the rule, and finds the seat's next number
 pub grants : (plan : DeskSize) (slots id : ℕ) (me : SeatState) → plan.total + plan.seats + 1 < 2 ^ 64 → me.1 ≡ [] → me.0.parts ≡ 1 → last_number me.0.grants < plan.total
-    → Allows (DeskHolds plan) slots id me 2 (λ n. (n + 1) % 2 ^ 64) (λ n after. GivesGrant me n after)
+    → Allows (DeskHolds plan) slots id me 2 (λ n. (n + 1) % 2 ^ 64) (λ n after. AsksForGrant me n after)
 grants plan slots id me small empty one left s h homes at fits =
     let v : Ghost = me.0 in
     let here : slice_index s.words 2 ≡ h.2 = ap (λ (l : List ℕ). slice_index l 2) h.3 in
@@ -202,7 +202,7 @@ grants plan slots id me small empty one left s h homes at fits =
       keeps,
       tt,
       (h.0, h.1, h.2 + 1, (λ k. set (h.3 k) 2 (next k)), subst (λ (n : ℕ). IsDesk plan h.0 h.1 (h.2 + 1) (set s.views id (with_grant v n))) (sym here) desk),
-      (refl, subst (λ (n : ℕ). IsNext v.grants n) (sym here) (next_one (λ u. u.grants) plan.total h.2 s.views id v h.4.grants at one)),
+      (refl, subst (λ (n : ℕ). CanFollow v.grants n) (sym here) (next_one (λ u. u.grants) plan.total h.2 s.views id v h.4.grants at one)),
     )
 
 -- raising the flag keeps the rule
@@ -277,29 +277,29 @@ looks plan slots id me empty one s h homes at fits =
 
 -- one part of a view that has made no step becomes a seat of its own
 desk_cuts : (plan : DeskSize) (drawn flag asked : ℕ) (views : List Ghost) (id parts more : ℕ) → more ≡ parts + 1 → IsDesk plan drawn flag asked views → get_elem? views id ≡ some (blank more)
-    → IsDesk plan drawn flag asked (set views id (blank parts) ++ one_seat_view ∷ [])
+    → IsDesk plan drawn flag asked (set views id (blank parts) ++ handed_out_view ∷ [])
 desk_cuts plan drawn flag asked views id parts more is_more h at =
     let v : Ghost = blank more in
     let w : Ghost = blank parts in record {
       parts =
           let s = sum_set (λ u. u.parts) views id v w at in
-          let p = sum_by_push (λ (u : Ghost). u.parts) (set views id w) one_seat_view in
+          let p = sum_by_push (λ (u : Ghost). u.parts) (set views id w) handed_out_view in
           omega (arith, h.parts);
-      spent = each_cut (λ u. u.parts ≡ 0 → u ≡ no_seat_view) views id w one_seat_view (λ e. ap blank e) (λ e. ap blank e) h.spent;
-      draws = counts_cut (λ u. u.numbers) plan.jobs drawn views id v w one_seat_view h.draws at refl refl refl;
+      spent = each_cut (λ u. u.parts ≡ 0 → u ≡ no_seat_view) views id w handed_out_view (λ e. ap blank e) (λ e. ap blank e) h.spent;
+      draws = counts_cut (λ u. u.numbers) plan.jobs drawn views id v w handed_out_view h.draws at refl refl refl;
       marked = record {
         bit = h.marked.bit;
         raised = λ is. let has = some_set (λ u. u.flag ≡ true) views id v w at (λ p. p) (h.marked.raised is) in
-            (has.0, has.1, at_longer (set views id w) (one_seat_view ∷ []) has.0 has.1 has.2, has.3);
-        known = each_cut (λ u. (u.flag || u.sighting) ≡ true → flag ≡ 1) views id w one_seat_view (λ p. absurd (true≢false (sym p))) (λ p. absurd (true≢false (sym p))) h.marked.known;
+            (has.0, has.1, at_longer (set views id w) (handed_out_view ∷ []) has.0 has.1 has.2, has.3);
+        known = each_cut (λ u. (u.flag || u.sighting) ≡ true → flag ≡ 1) views id w handed_out_view (λ p. absurd (true≢false (sym p))) (λ p. absurd (true≢false (sym p))) h.marked.known;
       };
-      grants = counts_cut (λ u. u.grants) plan.total asked views id v w one_seat_view h.grants at refl refl refl;
+      grants = counts_cut (λ u. u.grants) plan.total asked views id v w handed_out_view h.grants at refl refl refl;
     }
 
 -- handing out a seat keeps the rule
-pub cuts : (plan : DeskSize) (id : ℕ) (v : Ghost) → v ≡ blank v.parts → 0 < v.parts → Splits (DeskHolds plan) id v (fewer v) one_seat_view
+pub cuts : (plan : DeskSize) (id : ℕ) (v : Ghost) → v ≡ blank v.parts → 0 < v.parts → Splits (DeskHolds plan) id v (fewer v) handed_out_view
 cuts plan id v is_blank some_part =
-    subst (λ (u : Ghost). Splits (DeskHolds plan) id u (fewer u) one_seat_view) (sym is_blank)
+    subst (λ (u : Ghost). Splits (DeskHolds plan) id u (fewer u) handed_out_view) (sym is_blank)
     (λ s h at. (h.0, h.1, h.2, h.3, desk_cuts plan h.0 h.1 h.2 s.views id (v.parts - 1) v.parts (omega arith) h.4 at))
 
 -- what follows from each of two follows where one of them is true

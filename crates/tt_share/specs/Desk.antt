@@ -19,8 +19,8 @@ abbrev pub whole_view : DeskSize → Ghost
 whole_view plan = blank plan.seats
 
 -- the view of a seat that was handed out
-abbrev pub one_seat_view : Ghost
-one_seat_view = blank 1
+abbrev pub handed_out_view : Ghost
+handed_out_view = blank 1
 
 -- what a join leaves behind
 abbrev pub no_seat_view : Ghost
@@ -89,15 +89,15 @@ DeskHolds plan s = (drawn : ℕ) × (flag : ℕ) × (asked : ℕ) × (s.words �
 abbrev pub SeatState : Type 0
 SeatState = Me (Unit {0}) Ghost
 
--- the number that was found is the seat's next one: its numbers rise, and it is no less than the count of those before
-abbrev pub IsNext : List ℕ → ℕ → Type 0
-IsNext numbers n = IsStrictlyIncreasing (numbers ++ n ∷ []) × (length numbers ≤ n)
+-- n can follow the numbers of a seat: they go on rising, and as each desk number is found once, n is no less than their count
+abbrev pub CanFollow : List ℕ → ℕ → Type 0
+CanFollow numbers n = IsStrictlyIncreasing (numbers ++ n ∷ []) × (length numbers ≤ n)
 
 abbrev pub Draws : SeatState → ℕ → SeatState → Type 0
-Draws before found after = (after ≡ (with_draw before.0 found, before.1)) × IsNext before.0.numbers found
+Draws before found after = (after ≡ (with_draw before.0 found, before.1)) × CanFollow before.0.numbers found
 
-abbrev pub GivesGrant : SeatState → ℕ → SeatState → Type 0
-GivesGrant before found after = (after ≡ (with_grant before.0 found, before.1)) × IsNext before.0.grants found
+abbrev pub AsksForGrant : SeatState → ℕ → SeatState → Type 0
+AsksForGrant before found after = (after ≡ (with_grant before.0 found, before.1)) × CanFollow before.0.grants found
 
 abbrev pub Raises : SeatState → SeatState → Type 0
 Raises before after = after ≡ (with_flag before.0, before.1)

@@ -141,12 +141,12 @@ pub record AreNear (s : Size) (ns : List ℕ) (p : ℕ) (near : Names) : Type 0 
   pub bare : near.empty ≡ count_beside s (λ q. name_at ns q == 0) p
 
 -- each chain but one has its root
-abbrev pub IsRootedBut : List ℕ → ℕ → Type 0
-IsRootedBut ns e = (p : ℕ) → name_at ns p ≢ 0 → name_at ns p ≢ e → name_at ns (root_of (name_at ns p)) ≡ name_at ns p
+abbrev pub OtherChainsRooted : List ℕ → ℕ → Type 0
+OtherChainsRooted ns e = (p : ℕ) → name_at ns p ≢ 0 → name_at ns p ≢ e → name_at ns (root_of (name_at ns p)) ≡ name_at ns p
 
 -- the counts of liberties are true of each chain but one
-abbrev pub IsCountedBut : Size → List ℕ → List ℕ → ℕ → Type 0
-IsCountedBut s ns liberties e = (p : ℕ) → name_at ns p ≢ 0 → name_at ns p ≢ e → name_at liberties (root_of (name_at ns p)) ≡ liberty_count s ns (name_at ns p)
+abbrev pub OtherChainsCounted : Size → List ℕ → List ℕ → ℕ → Type 0
+OtherChainsCounted s ns liberties e = (p : ℕ) → name_at ns p ≢ 0 → name_at ns p ≢ e → name_at liberties (root_of (name_at ns p)) ≡ liberty_count s ns (name_at ns p)
 
 -- e is a chain of so many stones, by names that stand on the board alone
 pub record IsChainOf (s : Size) (ns : List ℕ) (e stones : ℕ) : Type 0 where
@@ -159,8 +159,8 @@ pub record IsChainOf (s : Size) (ns : List ℕ) (e stones : ℕ) : Type 0 where
 -- each chain but e has its root, where the count of its liberties is true
 pub record AreOthersCounted (s : Size) (ns liberties : List ℕ) (e : ℕ) : Type 0 where
   pub wide : length liberties ≡ MOST_POINTS
-  pub rooted : IsRootedBut ns e
-  pub counted : IsCountedBut s ns liberties e
+  pub rooted : OtherChainsRooted ns e
+  pub counted : OtherChainsCounted s ns liberties e
 
 -- a colouring has lost the stones of chain e, and no other
 pub record HasLost (ns : List ℕ) (e : ℕ) (old new : Colouring) : Type 0 where

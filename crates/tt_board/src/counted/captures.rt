@@ -3,7 +3,7 @@
 ghost use Rattle.std.specs.Prelude.{◌≡◌, ◌≢◌, ◌<◌, length, map, slice_set, None};
 ghost use Rattle.tt_sgf.specs.declared.size.TheConstants.{MOST_POINTS};
 ghost use Rattle.tt_sgf.specs.Sizes.{point_count};
-ghost use Rattle.tt_board.specs.inside.Chains.{name_at, renamed, IsCountedBut, IsChainOf, AreOthersCounted, HasLost};
+ghost use Rattle.tt_board.specs.inside.Chains.{name_at, renamed, OtherChainsCounted, IsChainOf, AreOthersCounted, HasLost};
 
 use crate::colouring::Colouring;
 use crate::counted::names::{chains_beside, give_liberty, root_of};
@@ -26,7 +26,7 @@ fn release_stone(
     requires others { AreOthersCounted size names.old liberties.old name }
     ensures names { names.new ≡ slice_set names.old p 0 }
     ensures points { points.new ≡ slice_set points.old p None }
-    ensures still_counted { IsCountedBut size names.new liberties.new name }
+    ensures still_counted { OtherChainsCounted size names.new liberties.new name }
 {
     names[p] = 0;
     points.set(p, None);
@@ -48,7 +48,7 @@ fn release_all(
     requires others { AreOthersCounted size names.old liberties.old name }
     ensures names { names.new ≡ map (renamed name 0) names.old }
     ensures lost { HasLost names.old name points.old points.new }
-    ensures still_counted { IsCountedBut size names.new liberties.new name }
+    ensures still_counted { OtherChainsCounted size names.new liberties.new name }
 {
     let mut left = stones;
     for p in 0..size.point_count() {
@@ -76,7 +76,7 @@ pub(crate) fn release(
     requires others { AreOthersCounted size names.old liberties.old name }
     ensures names { names.new ≡ map (renamed name 0) names.old }
     ensures lost { HasLost names.old name points.old points.new }
-    ensures still_counted { IsCountedBut size names.new liberties.new name }
+    ensures still_counted { OtherChainsCounted size names.new liberties.new name }
 {
     if stones == 1 {
         release_stone(size, points, names, liberties, name, root_of(name));

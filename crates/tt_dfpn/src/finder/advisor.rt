@@ -4,8 +4,8 @@ ghost use Rattle.std.specs.Prelude.{◌≡◌, ◌≤◌};
 
 use crate::advice::{Advice, Visits};
 use crate::finder::board::SearchBoard;
-use crate::finder::search::{Finder, keys_of};
-use crate::finder::transpositions::{LOST, NO_TURN, Numbers, PASS, UNKNOWN, WON, turn_of};
+use crate::finder::search::{Finder, hashes_of};
+use crate::finder::transpositions::{LOST, NO_TURN, ProofNumbers, PASS, UNKNOWN, WON, turn_of};
 use std::alloc::Global;
 use tt_board::{Board, Colour};
 use tt_game::{Line, Side, Turn};
@@ -111,7 +111,7 @@ impl Advisor {
     }
 
     /// Searches where the finder's board stands, with at most so many visits.
-    fn search(&mut self, mover: Colour, most: u32, visits: &mut Visits) -> Numbers
+    fn search(&mut self, mover: Colour, most: u32, visits: &mut Visits) -> ProofNumbers
         ensures fewer { visits.new.left ≤ visits.old.left }
     {
         let before = visits.left;
@@ -138,11 +138,11 @@ impl Advisor {
 
     /// Notes that the line is lost for its mover, and that the line before it is won by the other colour.
     fn note_lost(&mut self, line: &Line, mover: Colour) {
-        let keys = self.finder.keys_here(mover);
-        self.finder.keep_line(keys, LOST, NO_TURN);
+        let hashes = self.finder.hashes_here(mover);
+        self.finder.keep_line(hashes, LOST, NO_TURN);
         if line.passes() > 0 {
-            let keys = self.finder.keys_here(mover.other());
-            self.finder.keep_line(keys, WON, PASS);
+            let hashes = self.finder.hashes_here(mover.other());
+            self.finder.keep_line(hashes, WON, PASS);
             return;
         }
         let boards = line.history();
@@ -157,8 +157,8 @@ impl Advisor {
         };
         let board = &self.finder.board;
         let history = board.history().all_with(board.hash());
-        let keys = keys_of(board.hash_of(before), mover.other(), history);
-        self.finder.keep_line(keys, WON, turn);
+        let hashes = hashes_of(board.hash_of(before), mover.other(), history);
+        self.finder.keep_line(hashes, WON, turn);
     }
 
     /// Whether the targets live unconditionally behind the defender's play on the empty point; how many points the attacker has then.
@@ -231,7 +231,7 @@ impl Advisor {
                 return Some(self.turn_of_living());
             }
         }
-        let entry = self.finder.find(self.finder.keys_here(mover))?;
+        let entry = self.finder.find(self.finder.hashes_here(mover))?;
         if entry.numbers.proof == 0 && entry.best != NO_TURN {
             Some(entry.best)
         } else {
@@ -241,7 +241,7 @@ impl Advisor {
 
     /// Another turn than the best one that wins by the numbers behind it, where so many were refused.
     fn other_turn(&mut self, mover: Colour, refused: u16) -> Option<u16> {
-        let best = match self.finder.find(self.finder.keys_here(mover)) {
+        let best = match self.finder.find(self.finder.hashes_here(mover)) {
             Some(entry) => entry.best,
             None => NO_TURN,
         };
@@ -271,13 +271,13 @@ impl Advisor {
     ) -> Option<u16>
         ensures fewer { visits.new.left ≤ visits.old.left }
     {
-        let keys = self.finder.keys_here(mover);
+        let hashes = self.finder.hashes_here(mover);
         if refused > 0 {
-            self.finder.keep_line(keys, UNKNOWN, NO_TURN);
+            self.finder.keep_line(hashes, UNKNOWN, NO_TURN);
         }
         let numbers = self.search(mover, share_of(self.visited), visits);
         if numbers.proof == 0 {
-            if let Some(entry) = self.finder.find(keys) {
+            if let Some(entry) = self.finder.find(hashes) {
                 return Some(entry.best);
             }
         }

@@ -9,7 +9,7 @@ use crate::advice::Visits;
 use crate::finder::board::{SearchBoard, index};
 use crate::finder::region::Region;
 use crate::finder::transpositions::{
-    Entry, INFINITE, LOST, NO_TURN, Numbers, PASS, TranspositionTable, UNKNOWN, WON,
+    Entry, INFINITE, LOST, NO_TURN, ProofNumbers, PASS, TranspositionTable, UNKNOWN, WON,
 };
 use crate::finder::zobrist::mover_key;
 use std::alloc::Global;
@@ -36,9 +36,9 @@ const MOST_LINE_ROWS: usize = 262_144;
 /// What a line that was found to differ has as its work, so that it is kept.
 const LINE_WORK: u32 = 0x1000_0000;
 
-/// The keys of a position: without its history, and with it.
+/// The hashes of a position: without its history, and with it.
 #[derive(Clone, Copy)]
-pub(crate) struct Keys {
+pub(crate) struct Hashes {
     pub(crate) position: u64,
     pub(crate) line: u64,
 }
@@ -47,14 +47,14 @@ pub(crate) struct Keys {
 #[derive(Clone, Copy)]
 pub(crate) struct Child {
     pub(crate) turn: u16,
-    pub(crate) numbers: Numbers,
+    pub(crate) numbers: ProofNumbers,
     wins: u32,
 }
 
 /// What the children say of a position: its numbers, the best child, and the second least proof number.
 #[derive(Clone, Copy)]
 struct Choice {
-    numbers: Numbers,
+    numbers: ProofNumbers,
     best: Option<usize>,
     second: u32,
 }
@@ -89,11 +89,11 @@ fn colour_index(colour: Colour) -> usize
     }
 }
 
-/// The keys of the position with this hash, where a colour moves, behind boards with one hash of them all.
+/// The hashes of the position with this hash, where a colour moves, behind boards with one hash of them all.
 #[inline(always)]
-pub(crate) fn keys_of(hash: u64, mover: Colour, history: u64) -> Keys {
+pub(crate) fn hashes_of(hash: u64, mover: Colour, history: u64) -> Hashes {
     let position = hash ^ mover_key(mover);
-    Keys {
+    Hashes {
         position,
         line: position ^ history.rotate_left(17),
     }
@@ -136,7 +136,7 @@ fn choice_of(list: &[Child]) -> Choice
 
 /// How far the best child is searched, where a position is searched until one of its numbers reaches its threshold.
 #[inline]
-fn thresholds_of(choice: &Choice, child: &Numbers, most: Numbers) -> Numbers {
+fn thresholds_of(choice: &Choice, child: &ProofNumbers, most: ProofNumbers) -> ProofNumbers {
     let others = choice.numbers.disproof.saturating_sub(child.proof);
     let next = choice
         .second
@@ -148,7 +148,7 @@ fn thresholds_of(choice: &Choice, child: &Numbers, most: Numbers) -> Numbers {
     } else {
         most.disproof.saturating_sub(others)
     };
-    Numbers {
+    ProofNumbers {
         proof,
         disproof: most.proof.min(next),
     }
@@ -182,33 +182,33 @@ impl Finder {
         }
     }
 
-    /// The keys of the position where the board stands and a colour moves.
-    pub(crate) fn keys_here(&self, mover: Colour) -> Keys {
-        keys_of(self.board.hash(), mover, self.board.history().all())
+    /// The hashes of the position where the board stands and a colour moves.
+    pub(crate) fn hashes_here(&self, mover: Colour) -> Hashes {
+        hashes_of(self.board.hash(), mover, self.board.history().all())
     }
 
     /// What is known of a position: what is known of its line, where that has an entry of its own.
     #[inline]
-    pub(crate) fn find(&self, keys: Keys) -> Option<Entry> {
+    pub(crate) fn find(&self, hashes: Hashes) -> Option<Entry> {
         if self.has_lines {
-            if let Some(entry) = self.lines.find(keys.line) {
+            if let Some(entry) = self.lines.find(hashes.line) {
                 return Some(entry);
             }
         }
-        self.positions.find(keys.position)
+        self.positions.find(hashes.position)
     }
 
     /// Keeps what is known of a position: as its line's own, where that has an entry.
     #[inline]
-    fn keep(&mut self, keys: Keys, numbers: Numbers, best: u16, work: u32) {
+    fn keep(&mut self, hashes: Hashes, numbers: ProofNumbers, best: u16, work: u32) {
         let mut entry = Entry {
-            key: keys.position,
+            key: hashes.position,
             numbers,
             work,
             best,
         };
-        if self.has_lines && self.lines.find(keys.line).is_some() {
-            entry.key = keys.line;
+        if self.has_lines && self.lines.find(hashes.line).is_some() {
+            entry.key = hashes.line;
             self.lines.keep(entry);
             return;
         }
@@ -216,11 +216,11 @@ impl Finder {
     }
 
     /// Gives a line an entry of its own.
-    pub(crate) fn keep_line(&mut self, keys: Keys, numbers: Numbers, best: u16) {
+    pub(crate) fn keep_line(&mut self, hashes: Hashes, numbers: ProofNumbers, best: u16) {
         self.has_lines = true;
         self.lines.grow(self.alloc);
         self.lines.keep(Entry {
-            key: keys.line,
+            key: hashes.line,
             numbers,
             work: LINE_WORK,
             best,
@@ -237,8 +237,8 @@ impl Finder {
 
     /// Adds a turn to a list, behind those that won more often. Without memory the search ends.
     #[inline]
-    fn add(&mut self, list: &mut Vec<Child>, mover: Colour, turn: u16, keys: Keys) {
-        let numbers = match self.find(keys) {
+    fn add(&mut self, list: &mut Vec<Child>, mover: Colour, turn: u16, hashes: Hashes) {
+        let numbers = match self.find(hashes) {
             Some(entry) => entry.numbers,
             None => UNKNOWN,
         };
@@ -290,8 +290,8 @@ impl Finder {
             return false;
         }
         let history = self.board.history().all_with(effect.hash);
-        let keys = keys_of(effect.hash, mover.other(), history);
-        self.add(list, mover, p, keys);
+        let hashes = hashes_of(effect.hash, mover.other(), history);
+        self.add(list, mover, p, hashes);
         false
     }
 
@@ -313,18 +313,18 @@ impl Finder {
             }
         }
         if !attacks {
-            let keys = self.keys_here(mover.other());
-            self.add(list, mover, PASS, keys);
+            let hashes = self.hashes_here(mover.other());
+            self.add(list, mover, PASS, hashes);
         }
         None
     }
 
     /// Whether the targets live unconditionally, where the attacker moves and the position is new.
-    fn lives(&self, mover: Colour, keys: Keys) -> bool {
+    fn lives(&self, mover: Colour, hashes: Hashes) -> bool {
         if mover == self.region.defender {
             return false;
         }
-        if let Some(entry) = self.find(keys) {
+        if let Some(entry) = self.find(hashes) {
             if entry.best != NO_TURN {
                 return false;
             }
@@ -352,11 +352,11 @@ impl Finder {
         mover: Colour,
         visited: u32,
         visits: &mut Visits,
-    ) -> Numbers
+    ) -> ProofNumbers
         ensures fewer { visits.new.left ≤ visits.old.left }
     {
         self.reserve = visits.left.saturating_sub(visited);
-        let most = Numbers {
+        let most = ProofNumbers {
             proof: INFINITE,
             disproof: INFINITE,
         };
@@ -365,7 +365,7 @@ impl Finder {
 
     /// Searches a position until one of its numbers reaches its threshold. It is a visit, where the search isn't over.
     #[cycle(descent)]
-    fn search(&mut self, mover: Colour, most: Numbers, room: u16, visits: &mut Visits) -> Numbers
+    fn search(&mut self, mover: Colour, most: ProofNumbers, room: u16, visits: &mut Visits) -> ProofNumbers
         ensures fewer { visits.new.left ≤ visits.old.left }
         ensures counts { self.old.reserve < visits.old.left → visits.new.left < visits.old.left }
     {
@@ -381,15 +381,15 @@ impl Finder {
             None => Vec::new(self.alloc),
         };
         list.clear();
-        let keys = self.keys_here(mover);
+        let hashes = self.hashes_here(mover);
         let found = if let Some(turn) = self.list_turns(mover, &mut list) {
-            self.keep(keys, WON, turn, 1);
+            self.keep(hashes, WON, turn, 1);
             WON
-        } else if self.lives(mover, keys) {
-            self.keep(keys, LOST, NO_TURN, 1);
+        } else if self.lives(mover, hashes) {
+            self.keep(hashes, LOST, NO_TURN, 1);
             LOST
         } else {
-            self.expand(mover, keys, most, room, &mut list, visits)
+            self.expand(mover, hashes, most, room, &mut list, visits)
         };
         let _ = self.lists.push(list);
         found
@@ -401,12 +401,12 @@ impl Finder {
     fn expand(
         &mut self,
         mover: Colour,
-        keys: Keys,
-        most: Numbers,
+        hashes: Hashes,
+        most: ProofNumbers,
         room: u16,
         list: &mut Vec<Child>,
         visits: &mut Visits,
-    ) -> Numbers
+    ) -> ProofNumbers
         ensures fewer { visits.new.left ≤ visits.old.left }
     {
         if self.reserve == u32::MAX {
@@ -424,7 +424,7 @@ impl Finder {
                         Some(k) => list[k].turn,
                         None => NO_TURN,
                     };
-                    self.close(mover, keys, numbers, turn, work);
+                    self.close(mover, hashes, numbers, turn, work);
                     return numbers;
                 }
             };
@@ -437,7 +437,7 @@ impl Finder {
 
     /// Whether a search ends with these numbers.
     #[inline(always)]
-    fn is_done(&self, numbers: Numbers, most: Numbers, visits: &Visits) -> bool {
+    fn is_done(&self, numbers: ProofNumbers, most: ProofNumbers, visits: &Visits) -> bool {
         numbers.proof >= most.proof
             || numbers.disproof >= most.disproof
             || numbers.proof == 0
@@ -447,12 +447,12 @@ impl Finder {
 
     /// Keeps what a position's search came to.
     #[inline]
-    fn close(&mut self, mover: Colour, keys: Keys, numbers: Numbers, best: u16, work: u32) {
+    fn close(&mut self, mover: Colour, hashes: Hashes, numbers: ProofNumbers, best: u16, work: u32) {
         if numbers.proof == 0 {
             let count = &mut self.wins[colour_index(mover)][index(best)];
             *count = count.wrapping_add(1);
         }
-        self.keep(keys, numbers, best, work);
+        self.keep(hashes, numbers, best, work);
     }
 
     /// Searches the position behind a turn; one that is too deep counts as lost. Nothing is known of one that has no memory.
@@ -461,10 +461,10 @@ impl Finder {
         &mut self,
         mover: Colour,
         turn: u16,
-        most: Numbers,
+        most: ProofNumbers,
         room: u16,
         visits: &mut Visits,
-    ) -> Numbers
+    ) -> ProofNumbers
         ensures fewer { visits.new.left ≤ visits.old.left }
     {
         if room == 0 {

@@ -15,25 +15,25 @@ pub(crate) const NO_TURN: u16 = 510;
 
 /// Proof and disproof number of a position, from the side that moves there: 0 and infinity where it wins.
 #[derive(Clone, Copy, PartialEq, Eq)]
-pub(crate) struct Numbers {
+pub(crate) struct ProofNumbers {
     pub(crate) proof: u32,
     pub(crate) disproof: u32,
 }
 
 /// Those of a position that the side to move wins.
-pub(crate) const WON: Numbers = Numbers {
+pub(crate) const WON: ProofNumbers = ProofNumbers {
     proof: 0,
     disproof: INFINITE,
 };
 
 /// Those of a position that the side to move loses.
-pub(crate) const LOST: Numbers = Numbers {
+pub(crate) const LOST: ProofNumbers = ProofNumbers {
     proof: INFINITE,
     disproof: 0,
 };
 
 /// Those of a position of which nothing is known.
-pub(crate) const UNKNOWN: Numbers = Numbers {
+pub(crate) const UNKNOWN: ProofNumbers = ProofNumbers {
     proof: 1,
     disproof: 1,
 };
@@ -42,7 +42,7 @@ pub(crate) const UNKNOWN: Numbers = Numbers {
 #[derive(Clone, Copy)]
 pub(crate) struct Entry {
     pub(crate) key: u64,
-    pub(crate) numbers: Numbers,
+    pub(crate) numbers: ProofNumbers,
     pub(crate) work: u32,
     pub(crate) best: u16,
 }

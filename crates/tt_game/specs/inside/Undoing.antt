@@ -51,8 +51,8 @@ pub record Stack : Type 0 where
   pub below : List Position
 
 -- the stack of a first board and of later ones, the present one in this place
-abbrev pub stack_of : Position → List Position → ℕ → Stack
-stack_of b bs n = record { present = slice_index_or (b ∷ bs) n b; below = reverse (take n (b ∷ bs)) }
+abbrev pub stack_at : Position → List Position → ℕ → Stack
+stack_at b bs n = record { present = slice_index_or (b ∷ bs) n b; below = reverse (take n (b ∷ bs)) }
 
 -- each of the first so many boards behind the first one is what its play made of the board before it
 abbrev pub AreMade : Position → List Position → List (Colour × ℕ) → ℕ → Type 0

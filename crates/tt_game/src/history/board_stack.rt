@@ -30,11 +30,11 @@ pub(crate) struct BoardStack {
 impl Model for BoardStack {
     ghost use Rattle.std.specs.Prelude.{◌≡◌, ◌≤◌, length};
     ghost use Rattle.std.specs.Arc.{arc_value};
-    ghost use Rattle.tt_game.specs.inside.Undoing.{Stack, stack_of, AreMade};
+    ghost use Rattle.tt_game.specs.inside.Undoing.{Stack, stack_at, AreMade};
 
     ghost Value = { Stack };
 
-    ghost view = { λ s. stack_of (arc_value s.first) s.later.items s.count };
+    ghost view = { λ s. stack_at (arc_value s.first) s.later.items s.count };
 
     ghost invariant = { λ s. record {
       count : s.count ≤ s.valid;

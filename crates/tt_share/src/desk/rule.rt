@@ -44,9 +44,9 @@ impl Play<(), Ghost> for Draw {
 pub struct Grant;
 
 impl Play<(), Ghost> for Grant {
-    ghost use Rattle.tt_share.specs.Desk.{GivesGrant};
+    ghost use Rattle.tt_share.specs.Desk.{AsksForGrant};
 
-    ghost then = { λ step before found after. GivesGrant before found after };
+    ghost then = { λ step before found after. AsksForGrant before found after };
 }
 
 /// The flag was raised.
@@ -71,11 +71,11 @@ impl Play<(), Ghost> for Sighting {
 pub struct Cut;
 
 impl Split<Ghost> for Cut {
-    ghost use Rattle.tt_share.specs.Desk.{fewer, one_seat_view};
+    ghost use Rattle.tt_share.specs.Desk.{fewer, handed_out_view};
 
     ghost left = { fewer };
 
-    ghost right = { λ view. one_seat_view };
+    ghost right = { λ view. handed_out_view };
 }
 
 /// Two views are made one.

@@ -1,7 +1,7 @@
 use Rattle.tt_proof.specs.declared.certificate_read.CertFault.TheVariants.{Syntax, TooDeep}
 use Rattle.std.proofs.Common.{length, rules, arith, ◌≡◌, ◌+◌, ◌-◌, ◌++◌, ◌⊎◌, ℕ, suc, [], ◌∷◌, ◌∙◌, sym, ap, subst, inl, inr}
 use Rattle.tt_proof.specs.Strategy.{number_on}
-use Rattle.tt_proof.specs.CertificateText.{won_symbol, pick_symbol, reply_symbol}
+use Rattle.tt_proof.specs.CertificateText.{won_symbol, pick_symbol, replies_symbol}
 use Rattle.tt_proof.specs.inside.CertificateReading.{DeepAt, EntriesDeepAt, FaultAt, EntriesFaultAt}
 use Rattle.tt_proof.proofs.StrategyLemmas.{strategy_of_done, strategy_of_reply}
 use Rattle.tt_proof.proofs.ReadLemmas.{not_tree, pick_no_turn, pick_deep, pick_fault, reply_read, reply_fault}
@@ -95,8 +95,8 @@ read_tree-returns-then-first-eq46 t c =
     })
 
 -- a byte that is none of the three symbols begins no tree
-neither : (first b : ℕ) → first ≡ b → (first ≡ won_symbol → ⊥) → (first ≡ pick_symbol → ⊥) → (first ≡ reply_symbol → ⊥)
-    → (b ≡ won_symbol) ⊎ ((b ≡ pick_symbol) ⊎ (b ≡ reply_symbol)) → ⊥
+neither : (first b : ℕ) → first ≡ b → (first ≡ won_symbol → ⊥) → (first ≡ pick_symbol → ⊥) → (first ≡ replies_symbol → ⊥)
+    → (b ≡ won_symbol) ⊎ ((b ≡ pick_symbol) ⊎ (b ≡ replies_symbol)) → ⊥
 neither first b e x y z (inl h) = x (e ∙ h)
 neither first b e x y z (inr (inl h)) = y (e ∙ h)
 neither first b e x y z (inr (inr h)) = z (e ∙ h)

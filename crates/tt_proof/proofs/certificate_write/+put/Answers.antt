@@ -1,5 +1,5 @@
 use Rattle.std.proofs.Common.{rules, ◌≡◌, ◌∙◌, ◌++◌, List, [], ◌∷◌, ℕ, ap, append_assoc}
-use Rattle.tt_proof.specs.CertificateText.{pick_symbol, reply_symbol}
+use Rattle.tt_proof.specs.CertificateText.{pick_symbol, replies_symbol}
 use Rattle.std.proofs.lemmas.Result.{on_ok_weaker}
 use Rattle.tt_proof.specs.declared.tree.Tree.TheViews.{the_lemmas}
 use Rattle.tt_proof.proofs.StrategyLemmas.{strategy_of_done, strategy_of_pick, strategy_of_reply}
@@ -37,5 +37,5 @@ put_tree-returns-in_ok-put-in-Reply t c =
     (on_ok_weaker c.put_entries.result (λ e. e ∙ joined _ _ _ c.in_ok-put-in-Reply.ensures) c.put_entries.ensures)
   where
     -- what is written behind `?`
-    joined : (a b y : List ℕ) → b ≡ a ++ (reply_symbol ∷ []) → b ++ y ≡ a ++ (reply_symbol ∷ y)
-    joined a b y e = ap (λ w. w ++ y) e ∙ append_assoc a (reply_symbol ∷ []) y
+    joined : (a b y : List ℕ) → b ≡ a ++ (replies_symbol ∷ []) → b ++ y ≡ a ++ (replies_symbol ∷ y)
+    joined a b y e = ap (λ w. w ++ y) e ∙ append_assoc a (replies_symbol ∷ []) y

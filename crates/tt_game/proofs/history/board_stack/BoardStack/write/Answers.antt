@@ -3,7 +3,7 @@ use Rattle.std.proofs.lemmas.List.{take_at, length_push, length-set}
 use Rattle.std.specs.Arc.{arc_value}
 use Rattle.tt_board.specs.Position.{Position}
 use Rattle.tt_board.specs.Play.{play_of}
-use Rattle.tt_game.specs.inside.Undoing.{Stack, stack_of, board_on, AreMade}
+use Rattle.tt_game.specs.inside.Undoing.{Stack, stack_at, board_on, AreMade}
 use Rattle.tt_game.proofs.BoardStackLemmas.{after, stack_room, written_below, written_present, made_more, made_room, made_fewer}
 use Rattle.tt_game.proofs.history.board_stack.BoardStack.write.Goals as goal
 use Rattle.tt_game.proofs.history.board_stack.BoardStack.write.Goals.{then-self-len+in_ok-grow, else-self-len}
@@ -11,9 +11,9 @@ use Rattle.tt_game.proofs.history.board_stack.BoardStack.write.Goals.{then-self-
 pub returns-clause-below : goal.returns-clause-below
 returns-clause-below c =
     let i = c.if-self-len.self-inside in let n = i.count in let xs = i.later.items in let new = c.write_over.new.later in
-    let was : stack_of (arc_value i.first) xs n ≡ c.args.self.now = elim c.if-self-len.branch [
+    let was : stack_at (arc_value i.first) xs n ≡ c.args.self.now = elim c.if-self-len.branch [
       | then-self-len+in_ok-grow w ↦
-          rw w.self-inside-is (ap (λ ys. stack_of (arc_value c.self.inside.first) ys c.self.inside.count) w.in_ok-grow.ensures.later
+          rw w.self-inside-is (ap (λ ys. stack_at (arc_value c.self.inside.first) ys c.self.inside.count) w.in_ok-grow.ensures.later
           ∙ stack_room (arc_value c.self.inside.first) _ c.self.inside.later.items c.self.inside.count (omega (arith, c.self.invariant.count, c.self.invariant.valid)) ∙ c.self.view_is)
       | else-self-len w ↦ rw w.self-inside-is c.self.view_is
     ] in
@@ -33,9 +33,9 @@ returns-clause-below c =
 pub returns-clause-present : goal.returns-clause-present
 returns-clause-present c =
     let i = c.if-self-len.self-inside in let n = i.count in let xs = i.later.items in let new = c.write_over.new.later in
-    let was : stack_of (arc_value i.first) xs n ≡ c.args.self.now = elim c.if-self-len.branch [
+    let was : stack_at (arc_value i.first) xs n ≡ c.args.self.now = elim c.if-self-len.branch [
       | then-self-len+in_ok-grow w ↦
-          rw w.self-inside-is (ap (λ ys. stack_of (arc_value c.self.inside.first) ys c.self.inside.count) w.in_ok-grow.ensures.later
+          rw w.self-inside-is (ap (λ ys. stack_at (arc_value c.self.inside.first) ys c.self.inside.count) w.in_ok-grow.ensures.later
           ∙ stack_room (arc_value c.self.inside.first) _ c.self.inside.later.items c.self.inside.count (omega (arith, c.self.invariant.count, c.self.invariant.valid)) ∙ c.self.view_is)
       | else-self-len w ↦ rw w.self-inside-is c.self.view_is
     ] in

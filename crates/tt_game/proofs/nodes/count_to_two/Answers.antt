@@ -3,7 +3,7 @@ use Rattle.std.proofs.lemmas.List.{nil_from_length}
 use lib.Pointwise.{pointwise}
 use Rattle.tt_game.specs.Nodes.{values_of}
 use Rattle.tt_game.proofs.NodeLemmas.{values-nil, values-named, values-other}
-use Rattle.tt_game.proofs.nodes.count_values.Goals as goal
+use Rattle.tt_game.proofs.nodes.count_to_two.Goals as goal
 
 pub loop-property-preserved-then-eq : goal.loop-property-preserved-then-eq
 loop-property-preserved-then-eq c =
