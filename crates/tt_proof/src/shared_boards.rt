@@ -110,13 +110,6 @@ fn is_among(board: &Board, boards: &[Board]) -> bool
     false
 }
 
-/// For how many handles more a full list gets room: for a quarter and one.
-fn room(len: usize) -> usize
-    ensures { 0 < result }
-{
-    len / 4 + 1
-}
-
 /// The one of two lists whose last hash is greater, or which alone has one, gives its last board.
 fn take_greatest(left: &mut SharedBoards, right: &mut SharedBoards) -> Option<SharedBoard>
     ensures { MatchOption result ((left.old ≡ []) × (right.old ≡ [])) (λ x. IsOneLess left.old left.new right.old right.new x) }
@@ -195,7 +188,7 @@ impl SharedBoards {
     {
         let len = self.boards.len();
         if len == self.boards.capacity() {
-            self.boards.reserve_exact(room(len))?;
+            self.boards.reserve_exact(len / 4 + 1)?;
         }
         Ok(())
     }

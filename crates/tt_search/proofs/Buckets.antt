@@ -1,11 +1,9 @@
 -- The buckets of an index, and how they lead to the newest proof of a key and side.
-use Rattle.std.proofs.Common.{◌≡◌, ◌≢◌, ℕ, zero, suc, ◌+◌, ◌-◌, ◌*◌, ◌%◌, ◌<◌, ◌≤◌, Bool, true, false, cond, List, [], ◌∷◌, ◌++◌, length, length-append, get_or, nat_eq, Option, Some, None, slice_get}
+use Rattle.std.proofs.Common.{◌≡◌, ◌≢◌, ℕ, zero, suc, ◌+◌, ◌-◌, ◌%◌, ◌<◌, ◌≤◌, Bool, true, false, cond, List, [], ◌∷◌, ◌++◌, length, length-append, get_or, nat_eq, Option, Some, None, slice_get}
 use Rattle.std.proofs.Common.{reverse, IsTrue, ◌↔◌, inl, inr, refl, sym, ap, ◌∙◌, subst, arith}
 use Rattle.std.specs.Option.{option_map}
 use Rattle.std.proofs.lemmas.Bool.{cases_lt, false≢true}
 use Rattle.std.proofs.lemmas.List.{reverse-append, get_or_append_left, get_or_push, get_or_read, length-map}
-use Rattle.std.proofs.lemmas.Nat.{div_below, mul-lt}
-use Rattle.std.proofs.Math.Nat.{mul-lt-mul_of_pos_right, mul_comm}
 use Rattle.std.proofs.lemmas.Option.{slice_get_within, slice_get-map, get_or_from_slice_get}
 use Rattle.tt_game.specs.declared.frame.Side.{Side}
 use Rattle.tt_game.specs.declared.history.bloom_filter.BloomFilter.{BloomFilter}
@@ -66,16 +64,6 @@ linked_on heads before hashes m one was = record {
 pub linked_more : (heads before hashes before' hashes' : List ℕ) (m n : ℕ) → length before ≡ length hashes → before' ≡ before ++ 0 ∷ [] → hashes' ≡ hashes ++ m ∷ [] → n ≡ length hashes
     → AreBuckets heads before hashes (length hashes) → AreBuckets heads before' hashes' n
 linked_more heads before hashes before' hashes' m n one b k e was = rw (b, k, e) (linked_on heads before hashes m one was)
-
--- ---- the bucket of a hash
-
-pub product_low : (hash buckets : ℕ) → hash < 4294967296 → buckets < 4294967296 → hash * buckets < 18446744073709551616
-product_low hash buckets m c = mul-lt hash buckets 4294967296 4294967296 m c
-
-pub bucket_low : (hash buckets : ℕ) → 0 < buckets → hash < 4294967296 → bucket_of_hash hash buckets < buckets
-unfolding bucket_of_hash
-bucket_low hash buckets some m =
-    div_below (hash * buckets) 4294967296 buckets (omega arith) (subst (λ p. hash * buckets < p) (mul_comm 4294967296 buckets) (mul-lt-mul_of_pos_right m some))
 
 -- ---- what is read of an index
 

@@ -8,13 +8,13 @@ use tt_search::{Free, Grants, NoStore, PrivateStore, Reason, Search, Step};
 
 /// Grants so many asks.
 #[derive(Drop)]
-struct Few {
+struct GrantsUpTo {
     most: u64,
     granted: u64,
     refused: bool,
 }
 
-impl Grants for Few {
+impl Grants for GrantsUpTo {
     ghost asked = { λ f. record { granted = f.granted; refused = f.refused } };
 
     ghost source = { λ _. tt };
@@ -37,10 +37,10 @@ impl Grants for Few {
     }
 }
 
-fn granting(most: u64) -> Few
+fn granting(most: u64) -> GrantsUpTo
     ensures granted { result.granted ≡ 0 }
 {
-    Few {
+    GrantsUpTo {
         most,
         granted: 0,
         refused: false,
@@ -48,7 +48,7 @@ fn granting(most: u64) -> Few
 }
 
 /// Whether the grants of a step tell what it did.
-fn tells(grants: &Few, step: Step) -> bool {
+fn tells(grants: &GrantsUpTo, step: Step) -> bool {
     grants.granted() == u64::from(step == Step::Expanded)
         && grants.refused() == (step == Step::Stuck(Reason::Total))
 }

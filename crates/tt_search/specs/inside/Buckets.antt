@@ -1,5 +1,5 @@
 -- How an index leads to the last proof of a key and side. Only private contracts cite these.
-use Rattle.std.specs.Prelude.{◌≡◌, ◌≢◌, ℕ, zero, suc, ◌-◌, ◌*◌, ◌/◌, ◌%◌, ◌<◌, ◌≤◌, Bool, List, length, cond, get_or, nat_eq, slice_get, Some}
+use Rattle.std.specs.Prelude.{◌≡◌, ◌≢◌, ℕ, zero, suc, ◌-◌, ◌%◌, ◌<◌, ◌≤◌, Bool, List, length, cond, get_or, nat_eq, slice_get, Some}
 use Rattle.tt_game.specs.declared.frame.Side.{Side}
 use Rattle.tt_game.specs.declared.history.bloom_filter.BloomFilter.{BloomFilter}
 use Rattle.tt_game.specs.Line.{Standing}
@@ -13,9 +13,9 @@ abbrev pub last_slot : (ℕ → Bool) → ℕ → ℕ
 last_slot test zero = 0
 last_slot test (suc n) = cond (test n) (suc n) (last_slot test n)
 
--- the bucket of a hash of 32 bits, one of so many: all hashes in as many parts, equal but for one hash, the lowest hashes in the first
+-- the bucket of a hash, one of so many
 unfoldable pub bucket_of_hash : ℕ → ℕ → ℕ
-bucket_of_hash hash buckets = hash * buckets / 4294967296
+bucket_of_hash hash buckets = hash % buckets
 
 -- whether the slot is of the bucket: one of so many, by its hash
 abbrev pub in_bucket : List ℕ → ℕ → ℕ → ℕ → Bool

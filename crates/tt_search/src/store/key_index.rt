@@ -41,15 +41,13 @@ fn is_for(p: &Proof, line: &Line, side: Side) -> bool
     p.side() == side && p.has_key_of(line)
 }
 
-/// The bucket of a hash, one of so many: a product takes a fraction of a division's time, and the highest bits, which it goes by,
-/// say most of a key.
+/// The bucket of a hash, one of so many.
 fn bucket_of(hash: u32, buckets: usize) -> usize
     requires some { 0 < buckets }
-    requires few { buckets < 4294967296 }
     ensures bucket { result ≡ bucket_of_hash hash buckets }
     ensures within { result < buckets }
 {
-    (u64::from(hash) * buckets as u64 / 0x1_0000_0000) as usize
+    hash as usize % buckets
 }
 
 /// Links the slot, behind all slots before it.
