@@ -12,7 +12,7 @@ use Rattle.atomic_table.proofs.Lists.{at_set, at_snoc, set_here, set_else, at_lo
 use Rattle.atomic_table.specs.Table.{keeps, Allows, Splits, Joins}
 use Rattle.tt_share.specs.declared.desk.rule.Ghost.{Ghost}
 use Rattle.tt_share.specs.declared.desk.rule.DeskSize.{DeskSize}
-use Rattle.tt_share.specs.Desk.{blank, handed_out_view, no_seat_view, fewer, joined, with_draw, with_grant, with_flag, with_sighting, overdraw_count, EachSeat, SomeSeat, Counts, IsMark, IsDesk}
+use Rattle.tt_share.specs.Desk.{blank, handed_out_view, no_seat_view, fewer, joined, with_draw, with_grant, with_flag, with_sighting, overdraw_count, EachSeat, SomeSeat, EachNumberOnce, IsMark, IsDesk}
 use Rattle.tt_share.specs.Desk.{DeskHolds, SeatState, CanFollow, Draws, AsksForGrant, Raises, Looks}
 use Rattle.tt_share.specs.Seats.{last_number}
 use Rattle.tt_share.proofs.DeskLists.{at_within, sum_set, sum_at, sum_le, overdraw_below, none_below, below_by_weight, rising_push, rising_short, no_spares}
@@ -41,14 +41,14 @@ no_rise k h = absurd (omega arith)
 -- the lists of one kind of number, and how each step changes what they count
 module _ (numbers : Ghost → List ℕ) (limit : ℕ) where
   -- the count is at most the limit and the parts of all views
-  pub counts_room : (count : ℕ) (views : List Ghost) → Counts numbers limit count views → count ≤ limit + sum_by (λ v. v.parts) views
+  pub counts_room : (count : ℕ) (views : List Ghost) → EachNumberOnce numbers limit count views → count ≤ limit + sum_by (λ v. v.parts) views
   counts_room count views h =
       let spares = sum_le (λ v. overdraw_count limit (numbers v)) (λ v. v.parts) views h.spares in
       let all = h.each_once (λ n. cond (leb limit n) 1 0) in
       omega (arith, overdraw_below limit count)
 
   -- each number in a view is below the count
-  pub counts_below : (count : ℕ) (views : List Ghost) (id : ℕ) (v : Ghost) → Counts numbers limit count views → get_elem? views id ≡ some v → (k : ℕ) → k < length (numbers v)
+  pub counts_below : (count : ℕ) (views : List Ghost) (id : ℕ) (v : Ghost) → EachNumberOnce numbers limit count views → get_elem? views id ≡ some v → (k : ℕ) → k < length (numbers v)
       → get_or (numbers v) k 0 < count
   counts_below count views id v h at k lt =
       let weight : ℕ → ℕ = λ n. cond (leb count n) 1 0 in
@@ -58,8 +58,8 @@ module _ (numbers : Ghost → List ℕ) (limit : ℕ) where
       below_by_weight (numbers v) count k (omega arith) lt
 
   -- where a view changes and keeps its numbers and its parts, the count stays
-  counts_same : (count : ℕ) (views : List Ghost) (id : ℕ) (v w : Ghost) → Counts numbers limit count views → get_elem? views id ≡ some v → numbers w ≡ numbers v → w.parts ≡ v.parts
-      → Counts numbers limit count (set views id w)
+  counts_same : (count : ℕ) (views : List Ghost) (id : ℕ) (v w : Ghost) → EachNumberOnce numbers limit count views → get_elem? views id ≡ some v → numbers w ≡ numbers v → w.parts ≡ v.parts
+      → EachNumberOnce numbers limit count (set views id w)
   counts_same count views id v w h at same parts = record {
     each_once = λ weight.
         let s = sum_set (λ u. sum_by weight (numbers u)) views id v w at in
@@ -72,8 +72,8 @@ module _ (numbers : Ghost → List ℕ) (limit : ℕ) where
   }
 
   -- where a view of one part that ends below the limit gets the count as a number, there is one more
-  counts_add : (count : ℕ) (views : List Ghost) (id : ℕ) (v w : Ghost) → Counts numbers limit count views → get_elem? views id ≡ some v → v.parts ≡ 1 → last_number (numbers v) < limit
-      → numbers w ≡ numbers v ++ count ∷ [] → w.parts ≡ 1 → Counts numbers limit (count + 1) (set views id w)
+  counts_add : (count : ℕ) (views : List Ghost) (id : ℕ) (v w : Ghost) → EachNumberOnce numbers limit count views → get_elem? views id ≡ some v → v.parts ≡ 1 → last_number (numbers v) < limit
+      → numbers w ≡ numbers v ++ count ∷ [] → w.parts ≡ 1 → EachNumberOnce numbers limit (count + 1) (set views id w)
   counts_add count views id v w h at one within is one' =
       let up = h.rising id v at one in record {
         each_once = λ weight.
@@ -90,8 +90,8 @@ module _ (numbers : Ghost → List ℕ) (limit : ℕ) where
       }
 
   -- where a view without numbers becomes two without numbers, the count stays
-  counts_cut : (count : ℕ) (views : List Ghost) (id : ℕ) (v w new : Ghost) → Counts numbers limit count views → get_elem? views id ≡ some v → numbers v ≡ [] → numbers w ≡ [] → numbers new ≡ []
-      → Counts numbers limit count (set views id w ++ new ∷ [])
+  counts_cut : (count : ℕ) (views : List Ghost) (id : ℕ) (v w new : Ghost) → EachNumberOnce numbers limit count views → get_elem? views id ≡ some v → numbers v ≡ [] → numbers w ≡ [] → numbers new ≡ []
+      → EachNumberOnce numbers limit count (set views id w ++ new ∷ [])
   counts_cut count views id v w new h at v_none w_none new_none = record {
     each_once = λ weight.
         let s = sum_set (λ u. sum_by weight (numbers u)) views id v w at in
@@ -108,10 +108,10 @@ module _ (numbers : Ghost → List ℕ) (limit : ℕ) where
   }
 
   -- where one view takes over the numbers and parts of another one, the count stays
-  counts_join : (count : ℕ) (views : List Ghost) (id : ℕ) (v : Ghost) (other : ℕ) (w both left : Ghost) → Counts numbers limit count views → get_elem? views id ≡ some v
+  counts_join : (count : ℕ) (views : List Ghost) (id : ℕ) (v : Ghost) (other : ℕ) (w both left : Ghost) → EachNumberOnce numbers limit count views → get_elem? views id ≡ some v
       → get_elem? views other ≡ some w
       → get_elem? (set views id both) other ≡ some w → numbers both ≡ numbers v ++ numbers w → both.parts ≡ v.parts + w.parts → numbers left ≡ [] → 0 < v.parts → 0 < w.parts
-      → Counts numbers limit count (set (set views id both) other left)
+      → EachNumberOnce numbers limit count (set (set views id both) other left)
   counts_join count views id v other w both left h at was at' is parts none_left some_v some_w = record {
     each_once = λ weight.
         let s = sum_set (λ u. sum_by weight (numbers u)) views id v both at in
@@ -153,7 +153,7 @@ no_wrap : (n m : ℕ) → n ≤ m → m + 1 < 2 ^ 64 → (n + 1) % 2 ^ 64 ≡ n 
 no_wrap n m le small = omega arith
 
 -- the number that a step finds is the view's next one
-next_one : (numbers : Ghost → List ℕ) (limit count : ℕ) (views : List Ghost) (id : ℕ) (v : Ghost) → Counts numbers limit count views → get_elem? views id ≡ some v
+next_one : (numbers : Ghost → List ℕ) (limit count : ℕ) (views : List Ghost) (id : ℕ) (v : Ghost) → EachNumberOnce numbers limit count views → get_elem? views id ≡ some v
     → v.parts ≡ 1 → CanFollow (numbers v) count
 next_one numbers limit count views id v h at one =
     let up = h.rising id v at one in

@@ -6,7 +6,7 @@ use mathlib.Core.Logic.{dite}
 use native.Mathlib.Decide.{dec_lt}
 use Rattle.tt_share.specs.declared.desk.rule.Ghost.{Ghost}
 use Rattle.tt_share.specs.declared.desk.rule.DeskSize.{DeskSize}
-use Rattle.tt_share.specs.Desk.{overdraw_count, Counts, IsMark, IsDesk}
+use Rattle.tt_share.specs.Desk.{overdraw_count, EachNumberOnce, IsMark, IsDesk}
 use Rattle.tt_share.specs.DeskLaw.{IsCount, IsStop, IsDeskState, DeskLaw}
 use Rattle.tt_share.proofs.DeskMoves.{left_true, right_true}
 use Rattle.tt_share.proofs.DeskClosing.{ones, ones_below, never_below, once_below, sum_same}
@@ -23,7 +23,7 @@ two_spares limit (x ∷ xs) (suc k) h one two =
     let more = two_spares limit xs k (omega arith) one (subst (λ (j : ℕ). limit ≤ get_or (x ∷ xs) j 0) next two) in omega arith
 
 -- what numbers that are counted say in plain words
-count_law : (list : Ghost → List ℕ) (limit word : ℕ) (views : List Ghost) → Counts list limit word views → IsCount list limit word views
+count_law : (list : Ghost → List ℕ) (limit word : ℕ) (views : List Ghost) → EachNumberOnce list limit word views → IsCount list limit word views
 count_law list limit word views h = record {
   count = sum_same (λ v. length (list v)) (λ v. sum_by (λ _. 1) (list v)) views (λ v. sym (ones (list v))) ∙ (h.each_once (λ _. 1) ∙ ones_below word);
   below = λ n lt. h.each_once (λ k. cond (nat_eq k n) 1 0) ∙ once_below n word lt;

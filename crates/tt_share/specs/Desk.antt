@@ -63,7 +63,7 @@ SomeSeat P views = (seat : ℕ) × (v : Ghost) × (get_elem? views seat ≡ some
 
 -- The numbers in the views' lists are those below `count`, each once: however numbers are weighed, both weigh the same.
 -- A view has at most as many numbers that are not below the limit as it has parts, and with one part its numbers rise
-pub record Counts (numbers : Ghost → List ℕ) (limit count : ℕ) (views : List Ghost) : Type 0 where
+pub record EachNumberOnce (numbers : Ghost → List ℕ) (limit count : ℕ) (views : List Ghost) : Type 0 where
   pub each_once : (weight : ℕ → ℕ) → sum_by (λ v. sum_by weight (numbers v)) views ≡ sum_below weight count
   pub spares : EachSeat (λ v. overdraw_count limit (numbers v) ≤ v.parts) views
   pub rising : EachSeat (λ v. v.parts ≡ 1 → IsStrictlyIncreasing (numbers v)) views
@@ -78,9 +78,9 @@ pub record IsMark (flag : ℕ) (views : List Ghost) : Type 0 where
 pub record IsDesk (plan : DeskSize) (drawn flag asked : ℕ) (views : List Ghost) : Type 0 where
   pub parts : sum_by (λ v. v.parts) views ≡ plan.seats
   pub spent : EachSeat (λ v. v.parts ≡ 0 → v ≡ no_seat_view) views
-  pub draws : Counts (λ v. v.numbers) plan.jobs drawn views
+  pub draws : EachNumberOnce (λ v. v.numbers) plan.jobs drawn views
   pub marked : IsMark flag views
-  pub grants : Counts (λ v. v.grants) plan.total asked views
+  pub grants : EachNumberOnce (λ v. v.grants) plan.total asked views
 
 -- What holds between any two steps: the first word counts the draws, the second is the flag, and the third counts the asks
 abbrev pub DeskHolds : DeskSize → State (Unit {0}) Ghost → Type 0
