@@ -44,9 +44,9 @@ enum {
 
 /* How a problem is solved, as by the options of `tsumego solve`. */
 typedef struct {
-    uint32_t budget; /* how many nodes may be expanded behind each first turn: 1 to 1000000 */
+    uint32_t budget; /* how many nodes may be expanded after each first turn: 1 to 1000000 */
     uint32_t depth;  /* how many turns deep a search may go from the problem: 1 to 512 */
-    uint32_t total;  /* how many nodes may be expanded behind all first turns together: to 362000000; 0: no such bound */
+    uint32_t total;  /* how many nodes may be expanded after all first turns together: to 362000000; 0: no such bound */
     uint32_t dfpn;   /* how many positions df-pn may visit before the search begins: to 100000000; 0: no df-pn */
     uint32_t cert;   /* 1: the certificate follows the verdict on a line of its own; 0: it doesn't */
 } tsumego_options;

@@ -18,7 +18,7 @@ use tt_share::{Answer, solve_one};
 /// How many positions df-pn may visit.
 const POSITIONS: u32 = 100_000;
 
-/// How many nodes may be expanded behind each first turn.
+/// How many nodes may be expanded after each first turn.
 const BUDGET: u32 = 100_000;
 
 /// What df-pn finds at the line.

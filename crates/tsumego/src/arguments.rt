@@ -19,12 +19,12 @@ use tt_text::{Cert, MOST_IN_ALL, Options};
 #[derive(Debug, Drop)]
 pub struct ArgFault(pub String);
 
-const BUDGET_HELP: &str = "How many nodes may be expanded behind each first turn, 1 to 1000000";
+const BUDGET_HELP: &str = "How many nodes may be expanded after each first turn, 1 to 1000000";
 
 const DEPTH_HELP: &str = "How many turns deep a search may go from the problem, 1 to 512";
 
 const TOTAL_HELP: &str =
-    "How many nodes may be expanded behind all first turns together, 1 to 362000000";
+    "How many nodes may be expanded after all first turns together, 1 to 362000000";
 
 const DFPN_HELP: &str =
     "How many positions df-pn may visit before the search begins, 1 to 100000000";
