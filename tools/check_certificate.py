@@ -349,7 +349,7 @@ class Certificate:
         return found
 
     def part(self, level, is_reached):
-        digits = re.compile(rb"0|[1-9][0-9]{0,8}").match(self.text, self.at)
+        digits = re.compile(rb"(0|[1-9][0-9]{0,8})(?![0-9])").match(self.text, self.at)
         if digits is None or int(digits[0]) >= len(self.named):
             raise Refused(30)
         self.at = digits.end()

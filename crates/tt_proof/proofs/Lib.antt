@@ -16,7 +16,9 @@ pub mod ProvenLemmas
 pub mod MeasureLemmas
 pub mod StrategyLemmas
 pub mod OutlineLemmas
+pub mod NameLemmas
 pub mod OutlineReadLemmas
+pub mod OutlineFaultLemmas
 pub mod OutlineReplayLemmas
 pub mod OutlineLawLemmas
 pub mod CertificateLemmas

@@ -1,9 +1,6 @@
 -- Certificates with shared parts have one reading, and those without are such.
-use Rattle.std.proofs.Common.{◌≡◌, ◌≤◌, ◌<◌, ◌^◌, ◌+◌, ℕ, true, false, arith, List, [], ◌∷◌, ◌++◌, ◌∙◌, refl, sym, ap, subst, append_assoc, decimal}
+use Rattle.std.proofs.Common.{◌≡◌, ◌≤◌, ◌+◌, ℕ, true, false, arith, List, [], ◌++◌, ◌∷◌, ◌∙◌, refl, sym, ap, subst, append_assoc}
 use Rattle.std.proofs.lemmas.List.{append-nil}
-use Rattle.std.proofs.lemmas.Fmt.{decimal_is_IsNumeral}
-use Rattle.std.proofs.lemmas.Str.Parse.{tells_digits}
-use Rattle.std.specs.Str.Parse.{AllDigits, digits_value}
 use Rattle.tt_sgf.specs.declared.size.Size.{Size}
 use Rattle.tt_game.specs.declared.turns.Turn.TheVariants.{Play, Pass}
 use Rattle.tt_proof.specs.declared.tree.TheConstants.{MOST_DEPTH}
@@ -11,55 +8,31 @@ use Rattle.tt_proof.specs.Strategy.{Strategy, Entries, done, pick, reply, none, 
 use Rattle.tt_proof.specs.CertificateText.{pick_symbol, replies_symbol, turn_text, tree_text, entries_text, side_text}
 use Rattle.tt_proof.specs.Outlines.{Outline, Branches, ended, picked, replied, part, no_branch, branch, unfolded}
 use Rattle.tt_proof.specs.Outlines.{entries_with, names_behind, names_behind_all, RefersBack, ReferBack, IsOrderly, AreOrderly, outline_text, branches_text}
+use Rattle.tt_proof.specs.inside.OutlineReading.{NoDigit, EndsBefore}
 use Rattle.tt_proof.specs.OutlineLaws.{OneSharedCertificate, CertificatesAreShared}
 use Rattle.tt_proof.proofs.TextLemmas.{heads, tails, same_turn, turn_not_end}
 use Rattle.tt_proof.proofs.CertificateLemmas.{side_apart}
-
--- ---- numbers
-
-abbrev IsDigit : ℕ → Type 0
-IsDigit b = (48 ≤ b) × (b ≤ 57)
-
-abbrev Digits : List ℕ → Type 0
-Digits [] = Unit {0}
-Digits (b ∷ bs) = IsDigit b × Digits bs
-
--- no digit stands in front
-abbrev pub NoDigit : List ℕ → Type 0
-NoDigit [] = Unit {0}
-NoDigit (b ∷ bs) = IsDigit b → ⊥
-
-digits_in : (bs : List ℕ) → AllDigits 10 bs → Digits bs
-digits_in [] d = tt
-digits_in (b ∷ bs) d = let k = tells_digits.parts b bs d in ((k.0.0, k.0.1), digits_in bs k.1)
-
-digits_apart : (ds es y z : List ℕ) → Digits ds → Digits es → NoDigit y → NoDigit z → ds ++ y ≡ es ++ z → (ds ≡ es) × (y ≡ z)
-digits_apart [] [] y z d e ny nz h = (refl, h)
-digits_apart [] (b ∷ es) y z d e ny nz h = let n = subst NoDigit h ny in absurd (n e.0)
-digits_apart (a ∷ ds) [] y z d e ny nz h = let n = subst NoDigit (sym h) nz in absurd (n d.0)
-digits_apart (a ∷ ds) (b ∷ es) y z d e ny nz h =
-    let r = digits_apart ds es y z d.1 e.1 ny nz (tails h) in
-    (ap (λ x. x ∷ ds) (heads h) ∙ ap (λ xs. b ∷ xs) r.0, r.1)
-
-same_number : (k m : ℕ) (y z : List ℕ) → k < 2 ^ 64 → m < 2 ^ 64 → NoDigit y → NoDigit z → decimal k ++ y ≡ decimal m ++ z → (k ≡ m) × (y ≡ z)
-same_number k m y z low low' ny nz h =
-    let a = decimal_is_IsNumeral k low in
-    let b = decimal_is_IsNumeral m low' in
-    let r = digits_apart (decimal k) (decimal m) y z (digits_in (decimal k) a.0.1) (digits_in (decimal m) b.0.1) ny nz h in
-    (sym a.1 ∙ ap (digits_value 10) r.0 ∙ b.1, r.1)
+use Rattle.tt_proof.proofs.NameLemmas.{same_number}
 
 -- ---- one reading
 
+-- where no digit follows, none follows a name at the end
+pub ends_before : (o : Outline) (y : List ℕ) → NoDigit y → EndsBefore o y
+ends_before ended y n = tt
+ends_before (picked b t o) y n = ends_before o y n
+ends_before (replied b bs) y n = tt
+ends_before (part k) y n = n
+
 module _ (size : Size) (some : 1 ≤ size.columns) where
   -- neither a branch nor the end of a reply begins with a digit
-  no_digit_behind : (bs : Branches) (y : List ℕ) → NoDigit (branches_text size bs ++ y)
+  pub no_digit_behind : (bs : Branches) (y : List ℕ) → NoDigit (branches_text size bs ++ y)
   no_digit_behind no_branch y = λ d. omega (arith, d.1)
   no_digit_behind (branch (Play p) o bs) y = λ d. omega (arith, d.1)
   no_digit_behind (branch Pass o bs) y = λ d. omega (arith, d.0)
 
   mutual
     -- a text tells the outline that it begins with, and what follows
-    pub same_outline : (o p : Outline) (us vs : List Strategy) (y z : List ℕ) → RefersBack us o → RefersBack vs p → NoDigit y → NoDigit z
+    pub same_outline : (o p : Outline) (us vs : List Strategy) (y z : List ℕ) → RefersBack us o → RefersBack vs p → EndsBefore o y → EndsBefore p z
         → outline_text size o ++ y ≡ outline_text size p ++ z → (o ≡ p) × (y ≡ z)
     same_outline ended ended us vs y z c d ny nz e = (refl, tails e)
     same_outline ended (picked true s p) us vs y z c d ny nz e = absurd (omega (arith, heads e))
@@ -89,7 +62,7 @@ module _ (size : Size) (some : 1 ≤ size.columns) where
     same_outline (replied true bs) (picked true s p) us vs y z c d ny nz e = absurd (omega (arith, heads (tails e)))
     same_outline (replied true bs) (picked false s p) us vs y z c d ny nz e = absurd (omega (arith, heads e))
     same_outline (replied true bs) (replied true cs) us vs y z c d ny nz e =
-        let r = same_branches bs cs us vs y z c d ny nz (tails (tails e)) in (ap (replied true) r.0, r.1)
+        let r = same_branches bs cs us vs y z c d (tails (tails e)) in (ap (replied true) r.0, r.1)
     same_outline (replied true bs) (replied false cs) us vs y z c d ny nz e = absurd (omega (arith, heads e))
     same_outline (replied true bs) (part m) us vs y z c d ny nz e = absurd (omega (arith, heads e))
     same_outline (replied false bs) ended us vs y z c d ny nz e = absurd (omega (arith, heads e))
@@ -97,7 +70,7 @@ module _ (size : Size) (some : 1 ≤ size.columns) where
     same_outline (replied false bs) (picked false s p) us vs y z c d ny nz e = absurd (omega (arith, heads e))
     same_outline (replied false bs) (replied true cs) us vs y z c d ny nz e = absurd (omega (arith, heads e))
     same_outline (replied false bs) (replied false cs) us vs y z c d ny nz e =
-        let r = same_branches bs cs us vs y z c d ny nz (tails e) in (ap (replied false) r.0, r.1)
+        let r = same_branches bs cs us vs y z c d (tails e) in (ap (replied false) r.0, r.1)
     same_outline (replied false bs) (part m) us vs y z c d ny nz e = absurd (omega (arith, heads e))
     same_outline (part k) ended us vs y z c d ny nz e = absurd (omega (arith, heads e))
     same_outline (part k) (picked true s p) us vs y z c d ny nz e = absurd (omega (arith, heads e))
@@ -108,23 +81,24 @@ module _ (size : Size) (some : 1 ≤ size.columns) where
         let r = same_number k m y z (omega (arith, c.1)) (omega (arith, d.1)) ny nz (tails e) in (ap part r.0, r.1)
 
     -- so it does with branches
-    same_branches : (bs cs : Branches) (us vs : List Strategy) (y z : List ℕ) → ReferBack us bs → ReferBack vs cs → NoDigit y → NoDigit z
+    same_branches : (bs cs : Branches) (us vs : List Strategy) (y z : List ℕ) → ReferBack us bs → ReferBack vs cs
         → branches_text size bs ++ y ≡ branches_text size cs ++ z → (bs ≡ cs) × (y ≡ z)
-    same_branches no_branch no_branch us vs y z c d ny nz e = (refl, tails e)
-    same_branches no_branch (branch s p cs) us vs y z c d ny nz e = absurd (turn_not_end size some s (sym (heads e)))
-    same_branches (branch t o bs) no_branch us vs y z c d ny nz e = absurd (turn_not_end size some t (heads e))
-    same_branches (branch t o bs) (branch s p cs) us vs y z c d ny nz e =
+    same_branches no_branch no_branch us vs y z c d e = (refl, tails e)
+    same_branches no_branch (branch s p cs) us vs y z c d e = absurd (turn_not_end size some s (sym (heads e)))
+    same_branches (branch t o bs) no_branch us vs y z c d e = absurd (turn_not_end size some t (heads e))
+    same_branches (branch t o bs) (branch s p cs) us vs y z c d e =
         let t_is = same_turn size some t s (heads e) (heads (tails e)) in
-        let r = same_outline o p us vs (branches_text size bs ++ y) (branches_text size cs ++ z) c.0 d.0 (no_digit_behind bs y) (no_digit_behind cs z)
+        let r = same_outline o p us vs (branches_text size bs ++ y) (branches_text size cs ++ z) c.0 d.0 (ends_before o _ (no_digit_behind bs y)) (ends_before p _ (no_digit_behind cs z))
         (sym (append_assoc (outline_text size o) (branches_text size bs) y) ∙ tails (tails e) ∙ append_assoc (outline_text size p) (branches_text size cs) z) in
-        let q = same_branches bs cs (names_behind us o) (names_behind vs p) y z c.1 d.1 ny nz r.1 in
+        let q = same_branches bs cs (names_behind us o) (names_behind vs p) y z c.1 d.1 r.1 in
         (ap (λ x. branch x o bs) t_is ∙ ap (λ x. branch s x bs) r.0 ∙ ap (λ x. branch s p x) q.0, q.1)
 
 pub one_shared : OneSharedCertificate
 one_shared size bytes s t o p a b =
     let some = size.columns_in.0 in
     let both = side_apart size some s t (outline_text size o) (outline_text size p) (sym a.text ∙ b.text) in
-    let one = same_outline size some o p [] [] [] [] a.closed b.closed tt tt (append-nil (outline_text size o) ∙ both.1 ∙ sym (append-nil (outline_text size p))) in
+    let one = same_outline size some o p [] [] [] [] a.closed b.closed (ends_before o [] tt) (ends_before p [] tt)
+        (append-nil (outline_text size o) ∙ both.1 ∙ sym (append-nil (outline_text size p))) in
     (both.0, one.0)
 
 -- ---- a strategy as an outline without names

@@ -10,8 +10,10 @@ use Rattle.tt_proof.specs.declared.tree.TheConstants.{MOST_DEPTH}
 use Rattle.tt_proof.specs.Strategy.{Strategy, done, depth, depth_of_entries, IsOnBoard, number_on}
 use Rattle.tt_proof.specs.CertificateText.{won_symbol, pick_symbol, replies_symbol, turn_text, side_text}
 use Rattle.tt_proof.specs.Outlines.{Outline, Branches, ended, picked, replied, part, no_branch, branch, with_name, entries_with, unfolded}
-use Rattle.tt_proof.specs.Outlines.{names_behind, names_behind_all, outline_of, branches_of_list, name_text, part_symbol, outline_text, branches_text, IsSharedCertificate, AreOrderly}
-use Rattle.tt_proof.specs.inside.OutlineReading.{with_depth, BranchesAt, ReadsOutline, ReadsBranches}
+use Rattle.tt_proof.specs.Outlines.{names_behind, names_behind_all, outline_of, branches_of_list, name_text, part_symbol, outline_text, branches_text, IsSharedCertificate, AreOrderly, ReferBack}
+use Rattle.tt_proof.specs.inside.OutlineReading.{NoDigit, with_depth, OutlineAt, BranchesAt, ReadsOutline, ReadsBranches}
+use Rattle.tt_proof.proofs.TextLemmas.{heads, tails, same_turn, turn_not_end}
+use Rattle.tt_proof.proofs.OutlineLawLemmas.{ends_before, no_digit_behind, same_outline}
 
 -- a name more is a depth more
 names_more : (n : Bool) (u : Strategy) (us : List Strategy) → map depth (with_name n u us) ≡ with_depth n (depth u) (map depth us)
@@ -19,7 +21,7 @@ names_more true u us = map-append depth us (u ∷ [])
 names_more false u us = refl
 
 -- the tree that a name stands for has the depth at its place
-there : (us : List Strategy) (k d : ℕ) → k < length (map depth us) → d ≡ get_or (map depth us) k d → (k < length us) × (depth (get_or us k done) ≡ d)
+pub there : (us : List Strategy) (k d : ℕ) → k < length (map depth us) → d ≡ get_or (map depth us) k d → (k < length us) × (depth (get_or us k done) ≡ d)
 there [] k d lt e = absurd (omega (arith, lt))
 there (u ∷ us) zero d lt e = (omega arith, sym e)
 there (u ∷ us) (suc k) d lt e = let r = there us k d (omega (arith, lt)) e in (omega (arith, r.0), r.1)
@@ -27,14 +29,14 @@ there (u ∷ us) (suc k) d lt e = let r = there us k d (omega (arith, lt)) e in 
 module _ (size : Size) where
   pub reads_done : (left : ℕ) (ds r y : List ℕ) → r ≡ won_symbol ∷ y → ReadsOutline size left ds ds ended 0 r y
   reads_done left ds r y e =
-      record { low = omega arith; at = λ us h. record { closed = tt; orderly = tt; deep = refl; text = e }; names = λ us h. h }
+      record { low = omega arith; at = λ us h. record { closed = tt; orderly = tt; deep = refl; text = e; ends = tt }; names = λ us h. h }
 
-  pub reads_part : (left : ℕ) (ds : List ℕ) (k d : ℕ) (r y : List ℕ) → d ≤ left → k < length ds → k < 1000000000 → d ≡ get_or ds k d → r ≡ decimal k ++ y
+  pub reads_part : (left : ℕ) (ds : List ℕ) (k d : ℕ) (r y : List ℕ) → d ≤ left → k < length ds → k < 1000000000 → d ≡ get_or ds k d → NoDigit y → r ≡ decimal k ++ y
       → ReadsOutline size left ds ds (part k) d (part_symbol ∷ r) y
-  reads_part left ds k d r y low lt small e text = record {
+  reads_part left ds k d r y low lt small e none text = record {
     low = low;
     at = λ us h. let w = there us k d (subst (λ xs. k < length xs) (sym h) lt) (subst (λ xs. d ≡ get_or xs k d) (sym h) e) in
-        record { closed = (w.0, small); orderly = tt; deep = w.1; text = ap (λ w. part_symbol ∷ w) text };
+        record { closed = (w.0, small); orderly = tt; deep = w.1; text = ap (λ w. part_symbol ∷ w) text; ends = none };
     names = λ us h. h;
   }
 
@@ -51,6 +53,7 @@ module _ (size : Size) where
           text =
               ap (λ w. name_text n ++ (pick_symbol ∷ w)) (at ∙ ap (λ w. turn_text size t ++ w) w.text)
               ∙ sym (append_assoc (name_text n) (pick_symbol ∷ (turn_text size t ++ outline_text size o)) y);
+          ends = w.ends;
         };
     names = λ us g.
         names_more n _ (names_behind us o)
@@ -70,6 +73,7 @@ module _ (size : Size) where
           text =
               ap (λ w. name_text n ++ (replies_symbol ∷ w)) w.text
               ∙ sym (append_assoc (name_text n) (replies_symbol ∷ branches_text size bs) y);
+          ends = tt;
         };
     names = λ us g.
         names_more n _ (names_behind_all us bs)
@@ -93,12 +97,47 @@ module _ (size : Size) where
   before_push [] b bs = refl
   before_push (x ∷ list) b bs = ap (λ r. branch x.0 (outline_of x.1) r) (before_push list b bs)
 
-  -- the list was read, with this depth; what is read from `now` on stands behind it
+  -- branches that are read where a turn stands: an outline behind that turn, and branches
+  pub record BranchBehind (us : List Strategy) (least d : ℕ) (t : Turn) (mid y : List ℕ) : Type 0 where
+    pub outline : Outline
+    pub branches : Branches
+    pub rises : least ≤ number_on size t
+    pub inside : OutlineAt size us outline (depth (unfolded us outline)) mid (branches_text size branches ++ y)
+    pub closed : ReferBack (names_behind us outline) branches
+    pub orderly : AreOrderly size (number_on size t + 1) branches
+    pub deep : d ≡ max (depth (unfolded us outline) + 1) (depth_of_entries (entries_with (names_behind us outline) branches))
+
+  pub branch_behind : (us : List Strategy) (least d : ℕ) (t : Turn) (now mid y : List ℕ) (bs : Branches) → now ≡ turn_text size t ++ mid
+      → BranchesAt size us least bs d now y → BranchBehind us least d t mid y
+  branch_behind us least d t now mid y no_branch e at = absurd (turn_not_end size size.columns_in.0 t (heads (sym e ∙ at.text)))
+  branch_behind us least d t now mid y (branch v o bs) e at =
+      let g = sym e ∙ at.text in
+      let t_is = same_turn size size.columns_in.0 t v (heads g) (heads (tails g)) in
+      record {
+        outline = o;
+        branches = bs;
+        rises = subst (λ x. least ≤ number_on size x) (sym t_is) at.orderly.0;
+        inside = record {
+          closed = at.closed.0;
+          orderly = at.orderly.2;
+          deep = refl;
+          text = tails (tails g) ∙ append_assoc (outline_text size o) (branches_text size bs) y;
+          ends = ends_before o (branches_text size bs ++ y) (no_digit_behind size size.columns_in.0 bs y);
+        };
+        closed = at.closed.1;
+        orderly = subst (λ x. AreOrderly size (number_on size x + 1) bs) (sym t_is) at.orderly.3;
+        deep = sym at.deep;
+      }
+
+  -- the list was read, with this depth; what is read from `now` on stands behind it, and whatever is read
+  -- from the start on goes on so
   pub record Walked (us : List Strategy) (least : ℕ) (bytes now : List ℕ) (list : List (Turn × form.Outline)) (most : ℕ) (ds : List ℕ) : Type 0 where
     pub names : List Strategy
     pub deep : map depth names ≡ ds
     pub rest : (bs : Branches) (d : ℕ) (y : List ℕ) → BranchesAt size names least bs d now y → BranchesAt size us 0 (before list bs) (max most d) bytes y
     pub behind : (bs : Branches) → names_behind_all us (before list bs) ≡ names_behind_all names bs
+    pub only : (bs : Branches) (d : ℕ) (y : List ℕ) → BranchesAt size us 0 bs d bytes y
+        → (bs' : Branches) × ((d' : ℕ) × ((d' ≤ d) × BranchesAt size names least bs' d' now y))
 
   pub walked_start : (us : List Strategy) (bytes : List ℕ) (ds : List ℕ) → map depth us ≡ ds → Walked us 0 bytes bytes [] 0 ds
   walked_start us bytes ds e = record {
@@ -106,6 +145,7 @@ module _ (size : Size) where
     deep = e;
     rest = λ bs d y h. subst (λ m. BranchesAt size us 0 bs m bytes y) (let e : d ≡ max 0 d = omega arith in e) h;
     behind = λ bs. refl;
+    only = λ bs d y h. (bs, (d, (omega arith, h)));
   }
 
   -- one more branch is read
@@ -121,8 +161,34 @@ module _ (size : Size) where
         (let e : max most (max (d + 1) m) ≡ max (max most (d + 1)) m = omega arith in e)
         (w.rest (branch t (outline_of o) bs) (max (d + 1) m) y (one bs m y g)));
     behind = λ bs. ap (λ l. names_behind_all us (before l bs)) listed ∙ ap (names_behind_all us) (before_push list (t, o) bs) ∙ w.behind (branch t (outline_of o) bs);
+    only = λ bs m y g. let r = w.only bs m y g in
+        goes_on r.1.0 m y r.1.1.0 (branch_behind w.names least r.1.0 t now mid y r.0 at r.1.1.1);
   }
     where
+      -- what is read behind this branch
+      goes_on : (k m : ℕ) (y : List ℕ) → k ≤ m → BranchBehind w.names least k t mid y
+          → (bs' : Branches) × ((d' : ℕ) × ((d' ≤ m) × BranchesAt size (names_behind w.names (outline_of o)) (number + 1) bs' d' after y))
+      goes_on k m y low g =
+          let here = h.at w.names w.deep in
+          let same = same_outline size size.columns_in.0 (outline_of o) g.outline w.names w.names after (branches_text size g.branches ++ y)
+          here.closed g.inside.closed here.ends g.inside.ends (sym here.text ∙ g.inside.text) in
+          let deep = g.deep in
+          let eq = ap (λ p. depth_of_entries (entries_with (names_behind w.names p) g.branches)) same.0 in (
+            g.branches,
+            (
+              depth_of_entries (entries_with (names_behind w.names (outline_of o)) g.branches),
+              (
+                omega (arith, low, deep, eq),
+                record {
+                  closed = subst (λ p. ReferBack (names_behind w.names p) g.branches) (sym same.0) g.closed;
+                  orderly = subst (λ x. AreOrderly size (x + 1) g.branches) (sym is) g.orderly;
+                  deep = refl;
+                  text = same.1;
+                },
+              ),
+            ),
+          )
+
       one : (bs : Branches) (m : ℕ) (y : List ℕ) → BranchesAt size (names_behind w.names (outline_of o)) (number + 1) bs m after y
           → BranchesAt size w.names least (branch t (outline_of o) bs) (max (d + 1) m) now y
       one bs m y g = let k = h.at w.names w.deep in record {

@@ -1,11 +1,12 @@
 -- When each fault comes.
-use Rattle.std.specs.Prelude.{ℕ, List}
+use Rattle.std.specs.Prelude.{◌≡◌, ℕ, ◌<◌, List, [], ◌++◌}
 use Rattle.tt_sgf.specs.declared.size.Size.{Size}
 use Rattle.tt_game.specs.declared.frame.Side.{Side}
 use Rattle.tt_proof.specs.declared.certificate_read.CertFault.{CertFault}
 use Rattle.tt_proof.specs.declared.certificate_read.CertFault.TheVariants.{Syntax, TooDeep, NoMemory}
-use Rattle.tt_proof.specs.Strategy.{Strategy}
-use Rattle.tt_proof.specs.CertificateText.{IsCertificate, IsTooDeep}
+use Rattle.tt_proof.specs.Strategy.{Strategy, depth}
+use Rattle.tt_proof.specs.CertificateText.{IsCertificate, IsTooDeep, side_text}
+use Rattle.tt_proof.specs.Outlines.{Outline, RefersBack, IsOrderly, unfolded, outline_text}
 
 -- the numbers of the refusals
 abbrev pub code_of : CertFault → ℕ
@@ -18,3 +19,11 @@ abbrev pub IsFault : Size → List ℕ → CertFault → Type 0
 IsFault size bytes Syntax = ((side : Side) (u : Strategy) → IsCertificate size bytes side u → ⊥) × (IsTooDeep size bytes → ⊥)
 IsFault size bytes TooDeep = IsTooDeep size bytes
 IsFault size bytes NoMemory = Unit {0}
+
+-- with shared parts: no certificate, however deep its tree is, or only one whose tree is deeper than that
+abbrev pub IsSharedFault : Size → ℕ → List ℕ → CertFault → Type 0
+IsSharedFault size most_depth bytes Syntax =
+    (side : Side) (o : Outline) → RefersBack [] o → IsOrderly size o → bytes ≡ side_text side ++ outline_text size o → ⊥
+IsSharedFault size most_depth bytes TooDeep =
+    (side : Side) (o : Outline) → RefersBack [] o → IsOrderly size o → bytes ≡ side_text side ++ outline_text size o → most_depth < depth (unfolded [] o)
+IsSharedFault size most_depth bytes NoMemory = Unit {0}

@@ -1,12 +1,13 @@
 //! Reads certificates with shared parts.
 
-ghost use Rattle.std.specs.Prelude.{◌≡◌, ◌≤◌, ◌+◌, ◌++◌, ◌∷◌, [], decimal, IfOk, OnOk, IfSome};
+ghost use Rattle.std.specs.Prelude.{◌≡◌, ◌<◌, ◌≤◌, ◌+◌, ◌++◌, ◌∷◌, ℕ, List, [], decimal, IfOk, IfErr, OnOk, MatchOption, MatchResult};
 ghost use Rattle.tt_sgf.specs.declared.size.TheConstants.{MOST_POINTS};
 ghost use Rattle.tt_proof.specs.CertificateText.{pick_symbol, replies_symbol, side_text};
 ghost use Rattle.tt_proof.specs.declared.tree.TheConstants.{MOST_DEPTH};
 ghost use Rattle.tt_proof.specs.Strategy.{depth};
-ghost use Rattle.tt_proof.specs.Outlines.{IsSharedCertificate, outline_of, unfolded, branches_of_list, name_text, part_symbol};
-ghost use Rattle.tt_proof.specs.inside.OutlineReading.{ReadsOutline, ReadsBranches, with_depth};
+ghost use Rattle.tt_proof.specs.Outlines.{IsSharedCertificate, outline_of, unfolded, branches_of_list, name_symbol, name_text, part_symbol};
+ghost use Rattle.tt_proof.specs.CertificateFaults.{IsSharedFault};
+ghost use Rattle.tt_proof.specs.inside.OutlineReading.{NoDigit, DigitsAt, ReadsOutline, ReadsBranches, OutlineFaultAt, BranchesFaultAt, with_depth};
 
 use crate::certificate_read::{CertFault, after_end, after_side, read_turn};
 use crate::outlines::Outline;
@@ -16,72 +17,68 @@ use tt_game::{Side, Turn};
 use tt_sgf::{NoMemory, Size};
 
 /// The greatest name: it has nine digits.
-const MOST_NAME: usize = 999_999_999;
+const MOST_NAME: u32 = 999_999_999;
 
-/// The number that the digits at the front of the bytes spell, at most nine of them; where the first one is 0, that one.
-fn leading_number(bytes: &[u8]) -> usize {
+/// The number that the digits at the front of the bytes spell, or the greatest of its type where that is greater, and what
+/// follows.
+fn read_digits(bytes: &[u8]) -> (u32, &[u8])
+    ensures { DigitsAt result.0 bytes.now result.1.now }
+{
     let mut number = 0u32;
-    for k in 0..9 {
-        match bytes.get(k) {
-            None => return number as usize,
-            Some(byte) => {
-                if !byte.is_ascii_digit() || (k == 1 && number == 0) {
-                    return number as usize;
+    let mut now = bytes;
+    loop {
+        match now.split_first() {
+            None => return (number, now),
+            Some((byte, rest)) => {
+                if !byte.is_ascii_digit() {
+                    return (number, now);
                 }
-                let digit = u32::from(byte.saturating_sub(b'0'));
+                let digit = u32::from(*byte - b'0');
                 number = number.saturating_mul(10).saturating_add(digit);
+                now = rest;
             }
         }
     }
-    number as usize
 }
 
-/// What follows the front, where it stands there.
-fn after<'a>(bytes: &'a [u8], front: &[u8]) -> Option<&'a [u8]>
-    ensures { IfSome result (λ r. bytes.now ≡ front.now ++ r.now) }
+/// The name at the front of the bytes, and what follows, which is no digit.
+fn read_name(bytes: &[u8]) -> Option<(usize, &[u8])>
+    ensures { MatchOption result
+        ((k : ℕ) (y : List ℕ) → k < 1000000000 → NoDigit y → bytes.now ≡ decimal k ++ y → ⊥)
+        (λ r. (r.0 < 1000000000) × NoDigit r.1.now × (bytes.now ≡ decimal r.0 ++ r.1.now)) }
 {
-    match bytes.strip_prefix(front) {
-        Some(rest) => Some(rest),
-        None => None,
+    let (number, rest) = read_digits(bytes);
+    let length = bytes.len() - rest.len();
+    if length == 0 || number > MOST_NAME || (length > 1 && bytes[0] == b'0') {
+        return None;
     }
-}
-
-/// What follows the number, where its text is at the front of the bytes.
-fn after_number(alloc: Global, bytes: &[u8], number: usize) -> Result<Option<&[u8]>, NoMemory>
-    ensures { IfOk result (λ o. IfSome o (λ r. bytes.now ≡ decimal number ++ r.now)) }
-{
-    let text = format!(in alloc; "{number}")?;
-    Ok(after(bytes, text.as_bytes()))
+    Some((number as usize, rest))
 }
 
 /// Adds the depth of a tree, where it has a name.
-fn put_depth(depths: &mut Vec<u16>, named: bool, depth: u16) -> Result<(), CertFault>
+fn put_depth(depths: &mut Vec<u16>, named: bool, depth: u16) -> Result<(), NoMemory>
     ensures { OnOk result (depths.new.items ≡ with_depth named depth depths.old.items) }
 {
-    if named && depths.push(depth).is_err() {
-        return Err(CertFault::NoMemory);
+    if named {
+        depths.push(depth)?;
     }
     Ok(())
 }
 
 /// The part whose name is at the front of the bytes, its depth, and what follows.
 fn read_part<'a>(
-    alloc: Global,
     bytes: &'a [u8],
     left: u16,
     depths: &Vec<u16>,
     size: Size,
 ) -> Result<(Outline, u16, &'a [u8]), CertFault>
-    ensures { IfOk result (λ r. ReadsOutline size left depths.now.items depths.now.items (outline_of r.0) r.1 (part_symbol ∷ bytes.now) r.2.now) }
+    ensures { MatchResult result
+        (λ r. ReadsOutline size left depths.now.items depths.now.items (outline_of r.0) r.1 (part_symbol ∷ bytes.now) r.2.now)
+        (λ e. OutlineFaultAt size left depths.now.items (part_symbol ∷ bytes.now) e) }
 {
-    let number = leading_number(bytes);
-    if number > MOST_NAME {
-        return Err(CertFault::Syntax);
-    }
-    match after_number(alloc, bytes, number) {
-        Err(_) => Err(CertFault::NoMemory),
-        Ok(None) => Err(CertFault::Syntax),
-        Ok(Some(rest)) => match depths.get(number) {
+    match read_name(bytes) {
+        None => Err(CertFault::Syntax),
+        Some((number, rest)) => match depths.get(number) {
             None => Err(CertFault::Syntax),
             Some(depth) => {
                 if *depth > left {
@@ -103,7 +100,9 @@ fn read_outline<'a>(
     left: u16,
     depths: &mut Vec<u16>,
 ) -> Result<(Outline, u16, &'a [u8]), CertFault>
-    ensures { IfOk result (λ r. ReadsOutline size left depths.old.items depths.new.items (outline_of r.0) r.1 bytes.now r.2.now) }
+    ensures { MatchResult result
+        (λ r. ReadsOutline size left depths.old.items depths.new.items (outline_of r.0) r.1 bytes.now r.2.now)
+        (λ e. OutlineFaultAt size left depths.old.items bytes.now e) }
 {
     match bytes.split_first() {
         None => Err(CertFault::Syntax),
@@ -112,36 +111,43 @@ fn read_outline<'a>(
                 return Ok((Outline::Done, 0, rest));
             }
             if *first == b'*' {
-                return read_part(alloc, rest, left, depths, size);
+                return read_part(rest, left, depths, size);
             }
             if *first == b'=' {
-                return read_node(alloc, true, rest, size, left, depths);
+                return read_named(alloc, rest, size, left, depths);
             }
-            read_node(alloc, false, bytes, size, left, depths)
+            if *first == b'!' {
+                return read_pick(alloc, false, rest, size, left, depths);
+            }
+            if *first == b'?' {
+                return read_reply(alloc, false, rest, size, left, depths);
+            }
+            Err(CertFault::Syntax)
         }
     }
 }
 
-/// The outline that begins with `!` or `?`, behind its name where it has one.
+/// The outline behind a `=`, which gives it a name.
 #[cycle(outline)]
-fn read_node<'a>(
+fn read_named<'a>(
     alloc: Global,
-    named: bool,
     bytes: &'a [u8],
     size: Size,
     left: u16,
     depths: &mut Vec<u16>,
 ) -> Result<(Outline, u16, &'a [u8]), CertFault>
-    ensures { IfOk result (λ r. ReadsOutline size left depths.old.items depths.new.items (outline_of r.0) r.1 (name_text named ++ bytes.now) r.2.now) }
+    ensures { MatchResult result
+        (λ r. ReadsOutline size left depths.old.items depths.new.items (outline_of r.0) r.1 (name_symbol ∷ bytes.now) r.2.now)
+        (λ e. OutlineFaultAt size left depths.old.items (name_symbol ∷ bytes.now) e) }
 {
     match bytes.split_first() {
         None => Err(CertFault::Syntax),
         Some((first, rest)) => {
             if *first == b'!' {
-                return read_pick(alloc, named, rest, size, left, depths);
+                return read_pick(alloc, true, rest, size, left, depths);
             }
             if *first == b'?' {
-                return read_reply(alloc, named, rest, size, left, depths);
+                return read_reply(alloc, true, rest, size, left, depths);
             }
             Err(CertFault::Syntax)
         }
@@ -157,7 +163,9 @@ fn read_pick<'a>(
     left: u16,
     depths: &mut Vec<u16>,
 ) -> Result<(Outline, u16, &'a [u8]), CertFault>
-    ensures { IfOk result (λ r. ReadsOutline size left depths.old.items depths.new.items (outline_of r.0) r.1 (name_text named ++ (pick_symbol ∷ bytes.now)) r.2.now) }
+    ensures { MatchResult result
+        (λ r. ReadsOutline size left depths.old.items depths.new.items (outline_of r.0) r.1 (name_text named ++ (pick_symbol ∷ bytes.now)) r.2.now)
+        (λ e. OutlineFaultAt size left depths.old.items (name_text named ++ (pick_symbol ∷ bytes.now)) e) }
 {
     match read_turn(bytes, size) {
         None => Err(CertFault::Syntax),
@@ -170,7 +178,7 @@ fn read_pick<'a>(
                 Ok((child, depth, rest)) => match Outline::pick(alloc, named, turn, child) {
                     Err(_) => Err(CertFault::NoMemory),
                     Ok(outline) => match put_depth(depths, named, depth + 1) {
-                        Err(fault) => Err(fault),
+                        Err(_) => Err(CertFault::NoMemory),
                         Ok(()) => Ok((outline, depth + 1, rest)),
                     },
                 },
@@ -188,14 +196,16 @@ fn read_reply<'a>(
     left: u16,
     depths: &mut Vec<u16>,
 ) -> Result<(Outline, u16, &'a [u8]), CertFault>
-    ensures { IfOk result (λ r. ReadsOutline size left depths.old.items depths.new.items (outline_of r.0) r.1 (name_text named ++ (replies_symbol ∷ bytes.now)) r.2.now) }
+    ensures { MatchResult result
+        (λ r. ReadsOutline size left depths.old.items depths.new.items (outline_of r.0) r.1 (name_text named ++ (replies_symbol ∷ bytes.now)) r.2.now)
+        (λ e. OutlineFaultAt size left depths.old.items (name_text named ++ (replies_symbol ∷ bytes.now)) e) }
 {
     match read_branches(alloc, bytes, size, left, depths) {
         Err(fault) => Err(fault),
         Ok((list, depth, rest)) => match Outline::reply(alloc, named, list) {
             Err(_) => Err(CertFault::NoMemory),
             Ok(outline) => match put_depth(depths, named, depth) {
-                Err(fault) => Err(fault),
+                Err(_) => Err(CertFault::NoMemory),
                 Ok(()) => Ok((outline, depth, rest)),
             },
         },
@@ -211,7 +221,9 @@ fn read_branches<'a>(
     left: u16,
     depths: &mut Vec<u16>,
 ) -> Result<(Vec<(Turn, Outline)>, u16, &'a [u8]), CertFault>
-    ensures { IfOk result (λ r. ReadsBranches size left depths.old.items depths.new.items 0 (branches_of_list r.0.items) r.1 bytes.now r.2.now) }
+    ensures { MatchResult result
+        (λ r. ReadsBranches size left depths.old.items depths.new.items 0 (branches_of_list r.0.items) r.1 bytes.now r.2.now)
+        (λ e. BranchesFaultAt size left depths.old.items 0 bytes.now e) }
 {
     let mut list = Vec::new(alloc);
     let mut now = bytes;
@@ -259,6 +271,7 @@ fn read_parts_for(
     requires depth { most_depth ≤ MOST_DEPTH }
     ensures certificate { IfOk result (λ r. IsSharedCertificate size bytes.now r.0 (outline_of r.1)) }
     ensures low { IfOk result (λ r. depth (unfolded [] (outline_of r.1)) ≤ most_depth) }
+    ensures fault { IfErr result (λ e. IsSharedFault size most_depth bytes.now e) }
 {
     let mut depths = Vec::new(alloc);
     match read_outline(alloc, rest, size, most_depth, &mut depths) {
@@ -282,6 +295,7 @@ pub(crate) fn read_within(
     requires { most_depth ≤ MOST_DEPTH }
     ensures certificate { IfOk result (λ r. IsSharedCertificate size bytes.now r.0 (outline_of r.1)) }
     ensures low { IfOk result (λ r. depth (unfolded [] (outline_of r.1)) ≤ most_depth) }
+    ensures fault { IfErr result (λ e. IsSharedFault size most_depth bytes.now e) }
 {
     match after_side(bytes, Side::Attacker) {
         Some(rest) => read_parts_for(alloc, bytes, rest, Side::Attacker, size, most_depth),
@@ -294,7 +308,9 @@ pub(crate) fn read_within(
 
 /// The side and the outline that the bytes are the certificate of, on a board of this size.
 pub fn read_parts(alloc: Global, bytes: &[u8], size: Size) -> Result<(Side, Outline), CertFault>
-    ensures { IfOk result (λ r. IsSharedCertificate size bytes.now r.0 (outline_of r.1)) }
+    ensures { MatchResult result
+        (λ r. IsSharedCertificate size bytes.now r.0 (outline_of r.1))
+        (λ e. IsSharedFault size MOST_DEPTH bytes.now e) }
 {
     read_within(alloc, bytes, size, MOST_DEPTH)
 }

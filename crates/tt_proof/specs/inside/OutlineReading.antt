@@ -1,13 +1,37 @@
 -- What the reader of certificates with shared parts finds at the front of bytes.
-use Rattle.std.specs.Prelude.{◌≡◌, ℕ, ◌≤◌, Bool, true, false, List, [], ◌∷◌, ◌++◌, map}
+use Rattle.std.specs.Prelude.{◌≡◌, ℕ, ◌≤◌, ◌<◌, ◌^◌, ◌-◌, min, Bool, true, false, List, [], ◌∷◌, ◌++◌, map}
+use Rattle.std.specs.Str.Parse.{AllDigits, digits_value}
 use Rattle.tt_sgf.specs.declared.size.Size.{Size}
+use Rattle.tt_proof.specs.declared.certificate_read.CertFault.{CertFault}
+use Rattle.tt_proof.specs.declared.certificate_read.CertFault.TheVariants.{Syntax, TooDeep, NoMemory}
 use Rattle.tt_proof.specs.Strategy.{Strategy, depth, depth_of_entries}
-use Rattle.tt_proof.specs.Outlines.{Outline, Branches, unfolded, entries_with, names_behind, names_behind_all, RefersBack, ReferBack, IsOrderly, AreOrderly, outline_text, branches_text}
+use Rattle.tt_proof.specs.Outlines.{Outline, Branches, ended, picked, replied, part, unfolded, entries_with, names_behind, names_behind_all, RefersBack, ReferBack, IsOrderly, AreOrderly}
+use Rattle.tt_proof.specs.Outlines.{outline_text, branches_text}
 
 -- the depths of all named trees, with one more where the tree has a name
 abbrev pub with_depth : Bool → ℕ → List ℕ → List ℕ
 with_depth true d ds = ds ++ d ∷ []
 with_depth false d ds = ds
+
+-- no decimal digit stands in front
+abbrev pub NoDigit : List ℕ → Type 0
+NoDigit [] = Unit {0}
+NoDigit (b ∷ bs) = (48 ≤ b) × (b ≤ 57) → ⊥
+
+-- digits are all that stands before y, which begins with none, and n is their number, or the greatest of 32 bits
+pub record DigitsAt (n : ℕ) (r y : List ℕ) : Type 0 where
+  pub digits : List ℕ
+  pub all : AllDigits 10 digits
+  pub value : n ≡ min (digits_value 10 digits) (2 ^ 32 - 1)
+  pub text : r ≡ digits ++ y
+  pub ends : NoDigit y
+
+-- where an outline ends with a name, no digit follows
+abbrev pub EndsBefore : Outline → List ℕ → Type 0
+EndsBefore ended y = Unit {0}
+EndsBefore (picked n t o) y = EndsBefore o y
+EndsBefore (replied n bs) y = Unit {0}
+EndsBefore (part k) y = NoDigit y
 
 module _ (size : Size) where
   -- r begins with the text of o, whose tree has the depth d, and y follows; the names so far stand for us
@@ -16,6 +40,7 @@ module _ (size : Size) where
     pub orderly : IsOrderly size o
     pub deep : depth (unfolded us o) ≡ d
     pub text : r ≡ outline_text size o ++ y
+    pub ends : EndsBefore o y
 
   pub record BranchesAt (us : List Strategy) (least : ℕ) (bs : Branches) (d : ℕ) (r y : List ℕ) : Type 0 where
     pub closed : ReferBack us bs
@@ -33,3 +58,18 @@ module _ (size : Size) where
     pub low : d ≤ left
     pub at : (us : List Strategy) → map depth us ≡ old → BranchesAt us least bs d r y
     pub names : (us : List Strategy) → map depth us ≡ old → map depth (names_behind_all us bs) ≡ new
+
+  -- no outline is at the front of r, or only deeper ones
+  abbrev pub OutlineFaultAt : ℕ → List ℕ → List ℕ → CertFault → Type 0
+  OutlineFaultAt left old r Syntax =
+      (us : List Strategy) → map depth us ≡ old → (o : Outline) (d : ℕ) (y : List ℕ) → OutlineAt us o d r y → ⊥
+  OutlineFaultAt left old r TooDeep =
+      (us : List Strategy) → map depth us ≡ old → (o : Outline) (d : ℕ) (y : List ℕ) → OutlineAt us o d r y → left < d
+  OutlineFaultAt left old r NoMemory = Unit {0}
+
+  abbrev pub BranchesFaultAt : ℕ → List ℕ → ℕ → List ℕ → CertFault → Type 0
+  BranchesFaultAt left old least r Syntax =
+      (us : List Strategy) → map depth us ≡ old → (bs : Branches) (d : ℕ) (y : List ℕ) → BranchesAt us least bs d r y → ⊥
+  BranchesFaultAt left old least r TooDeep =
+      (us : List Strategy) → map depth us ≡ old → (bs : Branches) (d : ℕ) (y : List ℕ) → BranchesAt us least bs d r y → left < d
+  BranchesFaultAt left old least r NoMemory = Unit {0}

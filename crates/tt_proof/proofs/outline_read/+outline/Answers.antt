@@ -1,6 +1,12 @@
-use Rattle.std.proofs.Common.{rules, arith, ◌≡◌, ◌+◌, ◌-◌, ◌++◌, max, [], ◌∷◌, ◌∙◌, ap}
+use Rattle.std.proofs.Common.{rules, arith, length, ◌≡◌, ◌+◌, ◌-◌, ◌++◌, ℕ, suc, max, [], ◌∷◌, ◌∙◌, sym, ap, subst}
+use Rattle.tt_proof.specs.declared.certificate_read.CertFault.TheVariants.{Syntax, TooDeep}
+use Rattle.tt_proof.specs.CertificateText.{pick_symbol}
+use Rattle.tt_proof.specs.Outlines.{name_text}
+use Rattle.tt_proof.specs.inside.OutlineReading.{OutlineFaultAt, BranchesFaultAt}
+use Rattle.tt_proof.proofs.TextLemmas.{heads}
 use Rattle.tt_proof.proofs.OutlineLemmas.{outline_of_done}
 use Rattle.tt_proof.proofs.OutlineReadLemmas.{reads_done, walked_more, walked_end}
+use Rattle.tt_proof.proofs.OutlineFaultLemmas.{no_outline, no_named, no_turn, no_room, pick_fault, reply_fault, no_branches, not_rising, no_room_below, branch_fault, walked_fault}
 use Rattle.tt_proof.proofs.outline_read.+outline.Goals as goal
 
 pub read_outline-returns-then-first-eq46 : goal.read_outline-returns-then-first-eq46
@@ -30,3 +36,90 @@ read_branches-loop-rest-preserved t c =
       low = let some = c.if-left-eq0.false in omega (arith, low, deeper, some, c.loop-rest.invariant.low);
       small = omega (arith, here.2);
     }
+
+-- ---- refusals
+
+-- a number that isn't 0 is one more than the number before it
+one_more : (n : ℕ) → (n ≡ 0 → ⊥) → n ≡ suc (n - 1)
+one_more n h = omega (arith, h)
+
+-- no other byte stands there than the first
+not_first : (first b m : ℕ) → first ≡ b → (first ≡ m → ⊥) → b ≡ m → ⊥
+not_first first b m e n h = n (e ∙ h)
+
+pub read_outline-returns-in-None : goal.read_outline-returns-in-None
+read_outline-returns-in-None t c =
+    no_outline c.args.size c.args.left c.args.depths.now.items c.args.bytes.now (λ b y e. absurd (omega (arith, c.in-None.ensures.cases, ap length e)))
+
+pub read_outline-returns-else-first-eq63 : goal.read_outline-returns-else-first-eq63
+read_outline-returns-else-first-eq63 t c =
+    no_outline c.args.size c.args.left c.args.depths.now.items c.args.bytes.now
+    (λ b y e. let same = heads (sym c.in-Some.ensures.cases.0 ∙ e) in (
+      not_first _ b _ same c.if-first-eq46.false,
+      not_first _ b _ same c.if-first-eq42.false,
+      not_first _ b _ same c.if-first-eq61.false,
+      not_first _ b _ same c.if-first-eq33.false,
+      not_first _ b _ same c.if-first-eq63.false,
+    ))
+
+pub read_named-returns-in-None : goal.read_named-returns-in-None
+read_named-returns-in-None t c =
+    no_named c.args.size c.args.left c.args.depths.now.items c.args.bytes.now (λ b y e. absurd (omega (arith, c.in-None.ensures.cases, ap length e)))
+
+pub read_named-returns-else-first-eq63 : goal.read_named-returns-else-first-eq63
+read_named-returns-else-first-eq63 t c =
+    no_named c.args.size c.args.left c.args.depths.now.items c.args.bytes.now
+    (λ b y e. let same = heads (sym c.in-Some.ensures.cases.0 ∙ e) in
+    (not_first _ b _ same c.if-first-eq33.false, not_first _ b _ same c.if-first-eq63.false))
+
+pub read_pick-returns-in-None : goal.read_pick-returns-in-None
+read_pick-returns-in-None t c = no_turn c.args.size c.args.named c.args.left c.args.depths.now.items c.args.bytes.now c.in-None.ensures
+
+pub read_pick-returns-then-left-eq0 : goal.read_pick-returns-then-left-eq0
+read_pick-returns-then-left-eq0 t c =
+    subst (λ k. OutlineFaultAt c.args.size k c.args.depths.now.items (name_text c.args.named ++ (pick_symbol ∷ c.args.bytes.now)) TooDeep)
+    (sym c.if-left-eq0.true) (no_room c.args.size c.args.named c.args.depths.now.items c.args.bytes.now)
+
+pub read_pick-returns-in-Err : goal.read_pick-returns-in-Err
+read_pick-returns-in-Err t c =
+    subst (λ k. OutlineFaultAt c.args.size k c.args.depths.now.items (name_text c.args.named ++ (pick_symbol ∷ c.args.bytes.now)) c.in-Err.fault)
+    (sym (one_more c.args.left c.if-left-eq0.false))
+    (pick_fault c.args.size c.args.named (c.args.left - 1) c.args.depths.now.items c.in-Some.turn c.args.bytes.now c.in-Some.after.now c.in-Err.fault
+    c.in-Some.ensures.3 c.in-Err.ensures)
+
+pub read_reply-returns-in-Err : goal.read_reply-returns-in-Err
+read_reply-returns-in-Err t c =
+    reply_fault c.args.size c.args.named c.args.left c.args.depths.now.items c.args.bytes.now c.in-Err.fault c.in-Err.ensures
+
+pub read_branches-returns-in-None-read_turn : goal.read_branches-returns-in-None-read_turn
+read_branches-returns-in-None-read_turn t c =
+    walked_fault c.args.size c.args.left c.loop-rest.least c.loop-rest.most c.args.depths.now.items c.loop-rest.depths.items c.args.bytes.now
+    c.loop-rest.now.now c.loop-rest.list.items Syntax c.loop-rest.invariant.walked
+    (no_branches c.args.size c.args.left c.loop-rest.depths.items c.loop-rest.least c.loop-rest.now.now c.in-None.ensures c.in-None-read_turn.ensures)
+
+pub read_branches-returns-then-number-least : goal.read_branches-returns-then-number-least
+read_branches-returns-then-number-least t c =
+    let turn = c.in-Some-read_turn in
+    let e = turn.ensures.1 in
+    walked_fault c.args.size c.args.left c.loop-rest.least c.loop-rest.most c.args.depths.now.items c.loop-rest.depths.items c.args.bytes.now
+    c.loop-rest.now.now c.loop-rest.list.items Syntax c.loop-rest.invariant.walked
+    (not_rising c.args.size c.loop-rest.depths.items c.loop-rest.least c.loop-rest.now.now turn.middle.now turn.turn turn.ensures.3 c.args.left
+    (omega (arith, e)))
+
+pub read_branches-returns-then-left-eq0 : goal.read_branches-returns-then-left-eq0
+read_branches-returns-then-left-eq0 t c =
+    let turn = c.in-Some-read_turn in
+    walked_fault c.args.size c.args.left c.loop-rest.least c.loop-rest.most c.args.depths.now.items c.loop-rest.depths.items c.args.bytes.now
+    c.loop-rest.now.now c.loop-rest.list.items TooDeep c.loop-rest.invariant.walked
+    (subst (λ k. BranchesFaultAt c.args.size k c.loop-rest.depths.items c.loop-rest.least c.loop-rest.now.now TooDeep) (sym c.if-left-eq0.true)
+    (no_room_below c.args.size c.loop-rest.depths.items c.loop-rest.least c.loop-rest.now.now turn.middle.now turn.turn turn.ensures.3))
+
+pub read_branches-returns-in-Err : goal.read_branches-returns-in-Err
+read_branches-returns-in-Err t c =
+    let turn = c.in-Some-read_turn in
+    walked_fault c.args.size c.args.left c.loop-rest.least c.loop-rest.most c.args.depths.now.items c.loop-rest.depths.items c.args.bytes.now
+    c.loop-rest.now.now c.loop-rest.list.items c.in-Err.fault c.loop-rest.invariant.walked
+    (subst (λ k. BranchesFaultAt c.args.size k c.loop-rest.depths.items c.loop-rest.least c.loop-rest.now.now c.in-Err.fault)
+    (sym (one_more c.args.left c.if-left-eq0.false))
+    (branch_fault c.args.size c.loop-rest.depths.items c.loop-rest.least c.loop-rest.now.now turn.middle.now turn.turn turn.ensures.3
+    (c.args.left - 1) c.in-Err.fault c.in-Err.ensures))

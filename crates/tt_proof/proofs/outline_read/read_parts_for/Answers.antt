@@ -1,6 +1,7 @@
-use Rattle.std.proofs.Common.{rules, arith, ◌≡◌, ◌∷◌, [], List, length, ℕ, refl}
+use Rattle.std.proofs.Common.{rules, arith, ◌≡◌, ◌∷◌, [], List, length, ap, ℕ, refl}
 use Rattle.tt_proof.specs.Outlines.{outline_of}
 use Rattle.tt_proof.proofs.OutlineReadLemmas.{shared_read, low_read}
+use Rattle.tt_proof.proofs.OutlineFaultLemmas.{shared_fault, shared_more}
 use Rattle.tt_proof.proofs.outline_read.read_parts_for.Goals as goal
 
 -- a list of no length is empty
@@ -17,3 +18,13 @@ returns-then-is_empty-clause-certificate c =
 pub returns-then-is_empty-clause-low : goal.returns-then-is_empty-clause-low
 returns-then-is_empty-clause-low c =
     low_read c.args.size _ c.args.most_depth _ (outline_of c.in-Ok.outline) _ c.args.rest.now c.in-Ok.more.now c.new-depths.ensures.items c.in-Ok.ensures
+
+pub returns-in-Err-clause-fault : goal.returns-in-Err-clause-fault
+returns-in-Err-clause-fault c =
+    shared_fault c.args.size c.args.bytes.now c.args.rest.now c.args.s c.args.most_depth c.requires.side _ c.in-Err.fault
+    c.new-depths.ensures.items c.in-Err.ensures
+
+pub returns-clause-fault : goal.returns-clause-fault
+returns-clause-fault c =
+    shared_more c.args.size c.args.bytes.now c.args.rest.now c.args.s c.args.most_depth c.requires.side c.args.most_depth _ _
+    (outline_of c.in-Ok.outline) _ c.in-Ok.more.now c.new-depths.ensures.items c.in-Ok.ensures (λ e. let n = ap length e in search rules)
