@@ -98,7 +98,7 @@ one_shared size bytes s t o p a b =
     let some = size.columns_in.0 in
     let both = side_apart size some s t (outline_text size o) (outline_text size p) (sym a.text ∙ b.text) in
     let one = same_outline size some o p [] [] [] [] a.closed b.closed (ends_before o [] tt) (ends_before p [] tt)
-        (append-nil (outline_text size o) ∙ both.1 ∙ sym (append-nil (outline_text size p))) in
+    (append-nil (outline_text size o) ∙ both.1 ∙ sym (append-nil (outline_text size p))) in
     (both.0, one.0)
 
 -- ---- a strategy as an outline without names

@@ -5,7 +5,7 @@ ghost use Rattle.std.specs.Prelude.{◌≡◌, ◌≤◌};
 use crate::advice::{Advice, Visits};
 use crate::finder::board::SearchBoard;
 use crate::finder::search::{Finder, hashes_of};
-use crate::finder::transpositions::{LOST, NO_TURN, ProofNumbers, PASS, UNKNOWN, WON, turn_of};
+use crate::finder::transpositions::{LOST, NO_TURN, PASS, ProofNumbers, UNKNOWN, WON, turn_of};
 use std::alloc::Global;
 use tt_board::{Board, Colour};
 use tt_game::{Line, Side, Turn};

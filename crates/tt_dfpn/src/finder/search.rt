@@ -9,7 +9,7 @@ use crate::advice::Visits;
 use crate::finder::board::{SearchBoard, index};
 use crate::finder::region::Region;
 use crate::finder::transpositions::{
-    Entry, INFINITE, LOST, NO_TURN, ProofNumbers, PASS, TranspositionTable, UNKNOWN, WON,
+    Entry, INFINITE, LOST, NO_TURN, PASS, ProofNumbers, TranspositionTable, UNKNOWN, WON,
 };
 use crate::finder::zobrist::mover_key;
 use std::alloc::Global;
@@ -365,7 +365,13 @@ impl Finder {
 
     /// Searches a position until one of its numbers reaches its threshold. It is a visit, where the search isn't over.
     #[cycle(descent)]
-    fn search(&mut self, mover: Colour, most: ProofNumbers, room: u16, visits: &mut Visits) -> ProofNumbers
+    fn search(
+        &mut self,
+        mover: Colour,
+        most: ProofNumbers,
+        room: u16,
+        visits: &mut Visits,
+    ) -> ProofNumbers
         ensures fewer { visits.new.left ≤ visits.old.left }
         ensures counts { self.old.reserve < visits.old.left → visits.new.left < visits.old.left }
     {
@@ -447,7 +453,14 @@ impl Finder {
 
     /// Keeps what a position's search came to.
     #[inline]
-    fn close(&mut self, mover: Colour, hashes: Hashes, numbers: ProofNumbers, best: u16, work: u32) {
+    fn close(
+        &mut self,
+        mover: Colour,
+        hashes: Hashes,
+        numbers: ProofNumbers,
+        best: u16,
+        work: u32,
+    ) {
         if numbers.proof == 0 {
             let count = &mut self.wins[colour_index(mover)][index(best)];
             *count = count.wrapping_add(1);
