@@ -11,14 +11,15 @@ use Rattle.tt_game.specs.Line.{Standing}
 use Rattle.tt_game.specs.Problems.{problem_of}
 use Rattle.tt_proof.specs.declared.certificate_read.CertFault.{CertFault}
 use Rattle.tt_proof.specs.declared.certificate_read.CertFault.TheVariants.{Syntax, TooDeep}
-use Rattle.tt_proof.specs.CertificateFaults.{IsFault}
+use Rattle.tt_proof.specs.CertificateFaults.{IsFault, IsSharedFault}
+use Rattle.tt_proof.specs.declared.tree.TheConstants.{MOST_DEPTH}
 use Rattle.tt_proof.specs.CertificateText.{IsCertificate, IsTooDeep}
 use Rattle.tt_proof.specs.Outlines.{Outline, IsSharedCertificate, unfolded}
 use Rattle.tt_proof.specs.Strategy.{Strategy}
 use Rattle.tt_proof.specs.Wins.{Wins}
 use Rattle.tt_text.specs.declared.finding.Finding.{Finding}
 use Rattle.tt_text.specs.declared.finding.Finding.TheVariants.{Valid, Invalid, Refused}
-use Rattle.tt_text.specs.Checking.{Finds, FindsAt, FindsOn, FindsShared, first_tree, loses, no_certificate, shared_loses, shared_wins, too_deep, unfit, wins}
+use Rattle.tt_text.specs.Checking.{Finds, FindsAt, FindsOn, FindsShared, first_tree, goes_deep, loses, no_certificate, shared_loses, shared_wins, too_deep, unfit, unread, wins}
 
 -- the size of the line's frame is that of its problem
 module _ (p : Standing) (f : Frame) (bytes : List ℕ) (same : f ≡ p.frame) where
@@ -41,6 +42,15 @@ module _ (p : Standing) (f : Frame) (bytes : List ℕ) (same : f ≡ p.frame) wh
   deep_at e is h =
       let k : IsFault p.frame.size bytes TooDeep = subst (λ (g : Frame). IsFault g.size bytes TooDeep) same (subst (λ (x : CertFault). IsFault f.size bytes x) is h) in
       too_deep k
+
+  -- so it is with parts that may be shared
+  pub unread_at : (e : CertFault) → e ≡ Syntax → IsSharedFault f.size MOST_DEPTH bytes e → FindsShared p bytes (Refused 30)
+  unread_at e is h =
+      unread (subst (λ (g : Frame). IsSharedFault g.size MOST_DEPTH bytes Syntax) same (subst (λ (x : CertFault). IsSharedFault f.size MOST_DEPTH bytes x) is h))
+
+  pub goes_deep_at : (e : CertFault) → e ≡ TooDeep → IsSharedFault f.size MOST_DEPTH bytes e → FindsShared p bytes (Refused 31)
+  goes_deep_at e is h =
+      goes_deep (subst (λ (g : Frame). IsSharedFault g.size MOST_DEPTH bytes TooDeep) same (subst (λ (x : CertFault). IsSharedFault f.size MOST_DEPTH bytes x) is h))
 
 -- the same of a certificate with shared parts
 module _ (p : Standing) (f : Frame) (bytes : List ℕ) (same : f ≡ p.frame) (side : Side) (o : Outline) (is : IsSharedCertificate f.size bytes side o) where

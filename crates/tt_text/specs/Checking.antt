@@ -10,6 +10,9 @@ use Rattle.tt_game.specs.declared.frame.Side.{Side}
 use Rattle.tt_game.specs.Faults.{code_of}
 use Rattle.tt_game.specs.Line.{Standing}
 use Rattle.tt_game.specs.Problems.{problem_of}
+use Rattle.tt_proof.specs.declared.certificate_read.CertFault.TheVariants.{Syntax, TooDeep}
+use Rattle.tt_proof.specs.declared.tree.TheConstants.{MOST_DEPTH}
+use Rattle.tt_proof.specs.CertificateFaults.{IsSharedFault}
 use Rattle.tt_proof.specs.CertificateText.{IsCertificate, IsTooDeep}
 use Rattle.tt_proof.specs.Outlines.{Outline, IsSharedCertificate, unfolded}
 use Rattle.tt_proof.specs.Strategy.{Strategy}
@@ -29,10 +32,10 @@ pub data FindsAt (p : Standing) (bytes : List ℕ) : Finding → Type 0 where
       → (Wins side p.frame u p.state → ⊥) → FindsAt p bytes Invalid
 
 -- What is found on bytes at a problem where parts may be shared: they are a certificate with shared parts, and its tree wins at
--- the problem or doesn't, or a part doesn't fit; else they are refused, which says no more.
+-- the problem or doesn't, or a part doesn't fit; or they are none, or only a tree that is too deep has them.
 pub data FindsShared (p : Standing) (bytes : List ℕ) : Finding → Type 0 where
-  unread : FindsShared p bytes (Refused 30)
-  goes_deep : FindsShared p bytes (Refused 31)
+  unread : IsSharedFault p.frame.size MOST_DEPTH bytes Syntax → FindsShared p bytes (Refused 30)
+  goes_deep : IsSharedFault p.frame.size MOST_DEPTH bytes TooDeep → FindsShared p bytes (Refused 31)
   unfit : (side : Side) (o : Outline) → IsSharedCertificate p.frame.size bytes side o → FindsShared p bytes (Refused 32)
   shared_wins : (side : Side) (o : Outline) → IsSharedCertificate p.frame.size bytes side o → Wins side p.frame (unfolded [] o) p.state
       → FindsShared p bytes Valid

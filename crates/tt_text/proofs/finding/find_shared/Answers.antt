@@ -1,8 +1,7 @@
 use Rattle.std.proofs.Common.{rules, subst}
 use Rattle.tt_game.specs.declared.frame.Frame.{Frame}
 use Rattle.tt_proof.specs.Outlines.{outline_of, IsOrderly}
-use Rattle.tt_text.specs.Checking.{unread, goes_deep}
-use Rattle.tt_text.proofs.Checks.{shared_loses_at, shared_wins_at, unfit_at}
+use Rattle.tt_text.proofs.Checks.{goes_deep_at, shared_loses_at, shared_wins_at, unfit_at, unread_at}
 use Rattle.tt_text.proofs.finding.find_shared.Goals as goal
 
 pub replay_parts-requires : goal.replay_parts-requires
@@ -23,7 +22,9 @@ returns-in-Ok-None c =
     unfit_at c.args.line.now c.frame.result.now c.args.certificate.now c.frame.ensures.value c.in-Ok.side (outline_of c.in-Ok.outline) c.in-Ok.ensures
 
 pub returns-in-Err-Syntax : goal.returns-in-Err-Syntax
-returns-in-Err-Syntax c = unread
+returns-in-Err-Syntax c =
+    unread_at c.args.line.now c.frame.result.now c.args.certificate.now c.frame.ensures.value c.in-Err-Syntax.field-0 c.in-Err-Syntax.field-0-is c.in-Err-Syntax.ensures
 
 pub returns-in-Err-TooDeep : goal.returns-in-Err-TooDeep
-returns-in-Err-TooDeep c = goes_deep
+returns-in-Err-TooDeep c =
+    goes_deep_at c.args.line.now c.frame.result.now c.args.certificate.now c.frame.ensures.value c.in-Err-TooDeep.field-0 c.in-Err-TooDeep.field-0-is c.in-Err-TooDeep.ensures
