@@ -10,7 +10,7 @@ use Rattle.tt_game.specs.declared.turns.Turn.{Turn}
 use Rattle.tt_game.specs.declared.turns.Turn.TheVariants.{Play, Pass}
 use Rattle.tt_game.specs.Game.{State, IsLegal, after, side_colour}
 use Rattle.tt_game.specs.Line.{IsPushed, IsRefusal, Standing}
-use Rattle.tt_game.specs.Turns.{is_legal, is_legal_is}
+use Rattle.tt_game.specs.Turns.{is_legal_is}
 use Rattle.tt_proof.specs.Strategy.{Strategy, Entries, pick, reply}
 use Rattle.tsumego_show.specs.Variations.{legal_text, move_text, reply_variations, variations}
 

@@ -1,5 +1,7 @@
 pub mod FirstLines
 pub mod Limit
+pub mod Looked
+pub mod Nodes
 pub mod OneText
 pub mod Refused
 pub mod FirstTurn

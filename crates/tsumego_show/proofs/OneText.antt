@@ -1,5 +1,5 @@
 -- An input has one text and one status.
-use Rattle.std.proofs.Common.{◌≡◌, ℕ, Bool, List, ◌++◌, ◌||◌, ◌+◌, inl, inr, Ok, Err, refl, sym, ap, ap₂, ◌∙◌, drop, length, arith, subst, if◌then◌else◌}
+use Rattle.std.proofs.Common.{◌≡◌, ℕ, Bool, true, false, List, ◌++◌, ◌||◌, ◌+◌, inl, inr, Ok, Err, refl, sym, ap, ap₂, ◌∙◌, drop, take, length, arith, subst, if◌then◌else◌}
 use Rattle.std.specs.declared.result.Result.{Result}
 use Rattle.tt_sgf.specs.Grammar.{GameTree, main_line, OneSpelling}
 use Rattle.tt_sgf.specs.declared.nodes.Node.{Node}
@@ -19,7 +19,7 @@ use Rattle.tsumego_show.specs.declared.form.Form.TheVariants.{Picture, Diagram, 
 use Rattle.tsumego_show.specs.Diagram.{svg_text}
 use Rattle.tsumego_show.specs.Variations.{sgf_text}
 use Rattle.tsumego_show.specs.Found.{Found, StandsBehind, no_strategy, found}
-use Rattle.tsumego_show.specs.Shown.{DrawsBehind, IsShown, IsInputText, IsProblemText, IsTreeText, Tells, ended, is_tree_refused, last_tree, more_trees, problem_text, stopped, too_long, tree, trees}
+use Rattle.tsumego_show.specs.Shown.{DrawsBehind, IsDiagram, IsShown, IsInputText, IsProblemText, IsTreeText, Tells, ended, is_alone, is_tree_refused, last_tree, more_trees, problem_text, stopped, too_long, tree, trees}
 
 module _ (one : OneCertificate) where
   -- a strategy has one text of its first turn
@@ -62,29 +62,35 @@ module _ (one : OneCertificate) where
   found_same size bytes (found side u) no_strategy x (inr (inr none)) = absurd (none side u x.1)
   found_same size bytes (found a u) (found b v) x y = let same = one size (trimmed bytes) a b u v x.1 y.1 in ap₂ (λ (k : Side) (w : Strategy). found k w) same.0 same.1
 
+  diagram_same : (alone : Bool) (k : ℕ) (p : Standing) (behind s t : List ℕ) → IsDiagram alone k p behind s → IsDiagram alone k p behind t → s ≡ t
+  diagram_same true k p behind s t a b = a.2 ∙ ap (λ (x : Found). svg_text p x) (found_same p.frame.size behind a.0 b.0 a.1 b.1) ∙ sym b.2
+  diagram_same false k p behind s t a b = a ∙ sym b
+
   -- and so has a problem
-  problem_text_same : (form : Form) (k : ℕ) (p : Standing) (behind s t : List ℕ) → IsProblemText form k p behind s → IsProblemText form k p behind t → s ≡ t
-  problem_text_same Picture k p behind s t a b = a.2 ∙ ap (λ (x : List ℕ). problem_text k p ++ x) (behind_same p behind a.0 b.0 a.1 b.1) ∙ sym b.2
-  problem_text_same Diagram k p behind s t a b = a.2 ∙ ap (λ (x : Found). svg_text p x) (found_same p.frame.size behind a.0 b.0 a.1 b.1) ∙ sym b.2
-  problem_text_same (Marks place) k p behind s t a b = a ∙ sym b
-  problem_text_same (Variations depth) k p behind s t a b = a.2 ∙ ap (λ (x : Found). sgf_text p depth x) (found_same p.frame.size behind a.0 b.0 a.1 b.1) ∙ sym b.2
+  problem_text_same : (form : Form) (k : ℕ) (its : List ℕ) (p : Standing) (behind s t : List ℕ) → IsProblemText form k its p behind s → IsProblemText form k its p behind t → s ≡ t
+  problem_text_same Picture k its p behind s t a b = a.2 ∙ ap (λ (x : List ℕ). problem_text k p ++ x) (behind_same p behind a.0 b.0 a.1 b.1) ∙ sym b.2
+  problem_text_same Diagram k its p behind s t a b = diagram_same (is_alone k behind) k p behind s t a b
+  problem_text_same (Marks place) k its p behind s t a b = a ∙ sym b
+  problem_text_same (Variations depth) k its p behind s t a b = a.2 ∙ ap (λ (x : Found). sgf_text p depth x) (found_same p.frame.size behind a.0 b.0 a.1 b.1) ∙ sym b.2
 
   -- and a tree
-  tree_text_same : (form : Form) (k : ℕ) (ns : List Node) (r : Result Standing GameFault) (behind s t : List ℕ) → IsTreeText form k ns r behind s → IsTreeText form k ns r behind t → s ≡ t
-  tree_text_same form k ns (Ok p) behind s t a b = problem_text_same form k p behind s t a b
-  tree_text_same form k ns (Err e) behind s t a b = a ∙ sym b
+  tree_text_same : (form : Form) (k : ℕ) (its : List ℕ) (ns : List Node) (r : Result Standing GameFault) (behind s t : List ℕ)
+      → IsTreeText form k its ns r behind s → IsTreeText form k its ns r behind t → s ≡ t
+  tree_text_same form k its ns (Ok p) behind s t a b = problem_text_same form k its p behind s t a b
+  tree_text_same form k its ns (Err e) behind s t a b = a ∙ sym b
 
   module _ (reading : OneSpelling) where
     -- bytes are told in one way from a tree's number on
     told_same : (form : Form) (whole k : ℕ) (bytes s t : List ℕ) (a b : Bool) → Tells form whole k bytes s a → Tells form whole k bytes t b → (s ≡ t) × (a ≡ b)
     told_same form whole k bytes s t a b (tree _ _ n g x more refused spells is rest) (tree _ _ m h y more' refused' spells' is' rest') =
         let same = reading bytes n m g h spells spells' in
-        let its : IsTreeText form k (main_line h) (problem_of (main_line h)) (drop m bytes) x =
-        subst (λ (q : GameTree). IsTreeText form k (main_line q) (problem_of (main_line q)) (drop m bytes) x) same.1
-        (subst (λ q. IsTreeText form k (main_line g) (problem_of (main_line g)) (drop q bytes) x) same.0 is) in
+        let its : IsTreeText form k (take m bytes) (main_line h) (problem_of (main_line h)) (drop m bytes) x =
+        subst (λ (q : GameTree). IsTreeText form k (take m bytes) (main_line q) (problem_of (main_line q)) (drop m bytes) x) same.1
+        (subst (λ q. IsTreeText form k (take q bytes) (main_line g) (problem_of (main_line g)) (drop q bytes) x) same.0 is) in
         let go = told_same form whole (k + 1) (drop m bytes) more more' refused refused' (subst (λ q. Tells form whole (k + 1) (drop q bytes) more refused) same.0 rest) rest' in (
-          ap₂ (λ (q w : List ℕ). q ++ w) (tree_text_same form k (main_line h) (problem_of (main_line h)) (drop m bytes) x y its is') go.0,
-          ap₂ (λ (q : GameTree) (w : Bool). is_tree_refused form (main_line q) (problem_of (main_line q)) || w) same.1 go.1,
+          ap₂ (λ (q w : List ℕ). q ++ w) (tree_text_same form k (take m bytes) (main_line h) (problem_of (main_line h)) (drop m bytes) x y its is') go.0,
+          ap₂ (λ (q : GameTree) (w : Bool). is_tree_refused form k (main_line q) (problem_of (main_line q)) (drop n bytes) || w) same.1 go.1
+              ∙ ap (λ q. is_tree_refused form k (main_line h) (problem_of (main_line h)) (drop q bytes) || refused') same.0,
         )
     told_same form whole k bytes s t a b (tree _ _ n g x more refused spells is rest) (ended _ _ many none) = absurd (none (spelled_opens bytes n g spells))
     told_same form whole k bytes s t a b (tree _ _ n g x more refused spells is rest) (stopped _ _ why none) = absurd (none g n spells)

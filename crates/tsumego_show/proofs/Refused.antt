@@ -1,9 +1,10 @@
 -- Lemmas on how many of the first nodes a refusal needs.
-use Rattle.std.proofs.Common.{◌≡◌, ◌≤◌, ◌<◌, ◌-◌, ℕ, zero, suc, List, length, take, Bool, true, false, refl, sym, ap, ap₂, ◌∙◌, arith, if◌then◌else◌}
-use Rattle.std.proofs.lemmas.List.{take-take, length-take-le}
+use Rattle.std.proofs.Common.{◌≡◌, ◌≤◌, ◌<◌, ◌-◌, ◌+◌, ℕ, zero, suc, List, [], ◌∷◌, ◌++◌, length, take, Some, None, Bool, true, false, refl, sym, ap, ap₂, ◌∙◌, arith, if◌then◌else◌}
+use Rattle.std.proofs.lemmas.List.{take-take, length-append, length-take-le}
+use Rattle.std.proofs.Math.Seq.{take-append_seam}
 use Rattle.tt_sgf.specs.declared.nodes.Node.{Node}
 use Rattle.tt_game.specs.Problems.{problem_of}
-use Rattle.tsumego_show.specs.Refusals.{is_refused_with, needed}
+use Rattle.tsumego_show.specs.Refusals.{is_refused_with, last_of, needed}
 
 -- of no nodes none is needed
 pub needed_none : (code : ℕ) (ns : List Node) → length ns ≡ 0 → needed code ns (length ns) ≡ 0
@@ -37,3 +38,52 @@ module _ (code : ℕ) (ns fewer : List Node) (some : 0 < length ns) (is : fewer 
   pub needed_all : is_refused_with code (problem_of fewer) ≡ false → needed code ns (length ns) ≡ length ns
   needed_all off =
       last_first ∙ ap (λ (b : Bool). if b then needed code ns (length ns - 1) else suc (length ns - 1)) off ∙ (let e : suc (length ns - 1) ≡ length ns = omega (arith, some) in e)
+
+-- ---- the last of the first nodes
+
+cons_same : (x y : Node) (xs ys : List Node) → x ∷ xs ≡ y ∷ ys → (x ≡ y) × (xs ≡ ys)
+cons_same x y xs ys e = ((let h : x ≡ y = cc in h), (let t : xs ≡ ys = cc in t))
+
+pub last_of_first : (all front : List Node) (n : Node) → take (suc (length front)) all ≡ front ++ (n ∷ []) → last_of (suc (length front)) all ≡ Some n
+unfolding last_of
+last_of_first [] [] n e = absurd (omega (arith, ap length e))
+last_of_first [] (f ∷ fs) n e = absurd (omega (arith, ap length e))
+last_of_first (m ∷ ms) [] n e = ap Some (cons_same m n (take 0 ms) [] e).0
+last_of_first (m ∷ ms) (f ∷ fs) n e = last_of_first ms fs n (cons_same m f (take (suc (length fs)) ms) (fs ++ (n ∷ [])) e).1
+
+last_of_none : (ns : List Node) → last_of 0 ns ≡ None
+unfolding last_of
+last_of_none [] = refl
+last_of_none (m ∷ ms) = refl
+
+-- where no node is needed there is no last one
+pub none_last : (code : ℕ) (ns : List Node) → needed code ns (length ns) ≡ 0 → last_of (needed code ns (length ns)) ns ≡ None
+none_last code ns e = ap (λ k. last_of k ns) e ∙ last_of_none ns
+
+module _ (code : ℕ) (all ns front : List Node) (n : Node) (popped : ns ≡ front ++ (n ∷ [])) (first : ns ≡ take (length ns) all) where
+  count : length ns ≡ suc (length front)
+  count = ap length popped ∙ (let e : length (front ++ (n ∷ [])) ≡ suc (length front) = omega (arith, length-append front (n ∷ [])) in e)
+
+  shorter : front ≡ take (length ns - 1) ns
+  shorter = sym (ap (λ k. take k ns) (let e : length ns - 1 ≡ length front = omega (arith, count) in e) ∙ ap (take (length front)) popped ∙ take-append_seam front (n ∷ []))
+
+  -- what stands in front are the first nodes
+  pub front_first : front ≡ take (length front) all
+  front_first = shorter ∙ ap (λ k. take k ns) (let e : length ns - 1 ≡ length front = omega (arith, count) in e)
+      ∙ ap (take (length front)) first ∙ take-take (length front) (length ns) all (omega (arith, count))
+
+  module _ (needs : needed code ns (length ns) ≡ needed code all (length all)) where
+    -- the refusal comes without the last node
+    pub still_needed : is_refused_with code (problem_of front) ≡ true → needed code front (length front) ≡ needed code all (length all)
+    still_needed on = needed_less code ns front (omega (arith, count)) shorter on ∙ needs
+
+    -- it doesn't
+    pub refused_here : is_refused_with code (problem_of front) ≡ false
+        → (front ≡ take (needed code all (length all) - 1) all) × (last_of (needed code all (length all)) all ≡ Some n) × (needed code all (length all) ≡ length front + 1)
+    refused_here off =
+        let m : needed code all (length all) ≡ suc (length front) = sym needs ∙ needed_all code ns front (omega (arith, count)) shorter off ∙ count in
+        let whole : take (suc (length front)) all ≡ front ++ (n ∷ []) = ap (λ k. take k all) (sym count) ∙ sym first ∙ popped in (
+          front_first ∙ ap (λ k. take k all) (let e : length front ≡ needed code all (length all) - 1 = omega (arith, m) in e),
+          ap (λ k. last_of k all) m ∙ last_of_first all front n whole,
+          (let e : needed code all (length all) ≡ length front + 1 = omega (arith, m) in e),
+        )

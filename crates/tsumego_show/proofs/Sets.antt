@@ -1,5 +1,5 @@
 -- Sets that are made point by point and step by step, and proposals.
-use Rattle.std.proofs.Common.{◌≡◌, ℕ, zero, suc, ◌+◌, ◌-◌, ◌/◌, ◌%◌, ◌<◌, ◌≤◌, ◌≢◌, Bool, true, false, cond, None, inl, inr, refl, sym, ap, subst, ◌∙◌, arith}
+use Rattle.std.proofs.Common.{◌≡◌, ℕ, zero, suc, ◌+◌, ◌-◌, ◌/◌, ◌%◌, ◌<◌, ◌≤◌, Bool, true, false, None, inl, inr, refl, sym, ap, subst, ◌∙◌, arith}
 use Rattle.std.proofs.lemmas.Bool.{cases_eq, ne_eqb, false≢true}
 use Rattle.std.proofs.lemmas.Nat.{div-add-mod', div_below, mul-add-lt}
 use Rattle.std.specs.Cmp.{nat_cmp_total, unsigned_tied}
@@ -55,11 +55,14 @@ pub all_reached : (size : Size) (free found : Points) (n m : ℕ) (s : Points) �
 all_reached size free found n m s e same h = let e2 : m ≡ n + (m - n) = omega arith in
     e ∙ sym (ap (λ k. reached_in size free k s) e2 ∙ no_more size free n s (subst (λ (x : Points). set.union x (set.intersection free (near size x)) ≡ x) e same) (m - n))
 
+-- the row of a point is on the board
+pub row_on_board : (size : Size) (q : ℕ) → q < point_count size → q / size.columns < size.rows
+row_on_board size q h = div_below q size.columns size.rows (omega arith) (omega arith)
+
 -- the point on the right of one that isn't in the last column is on the board
 pub right_on_board : (size : Size) (q : ℕ) → q < point_count size → q % size.columns + 1 < size.columns → q + 1 < point_count size
 right_on_board size q h after =
-    let row = div_below q size.columns size.rows (omega arith) (omega arith) in
-    omega (arith, div-add-mod' q size.columns, mul-add-lt (q / size.columns) size.columns (q % size.columns + 1) size.rows row after)
+    omega (arith, div-add-mod' q size.columns, mul-add-lt (q / size.columns) size.columns (q % size.columns + 1) size.rows (row_on_board size q h) after)
 
 module _ (size : Size) (c : Colouring) (k : Colour) (q : ℕ) where
   pub first_wall : (n : ℕ) → wall_after size c k q (n + 1) ≡ untaken size c k (inside size q (wall_after size c k q n))
@@ -80,7 +83,7 @@ module _ (size : Size) (c : Colouring) (k : Colour) (q : ℕ) where
       e ∙ sym (ap (λ j. wall_after size c k q j) e2 ∙ same_wall n (subst (λ (w : Points). untaken size c k (inside size q w) ≡ w) e same) (m - n))
 
 -- one more stone
-pub fewest_more : (s : GameState) (n : ℕ) → fewest s (n + 1) ≡ fewer_squares (fewest s n) (closed_at s n (entry_at s.present n))
+pub fewest_more : (s : GameState) (n : ℕ) → fewest s (n + 1) ≡ fewer_squares (fewest s n) (closed_at s false n (entry_at s.present n))
 unfolding fewest
 fewest_more s n = ap (fewest s) (let e : n + 1 ≡ suc n = omega arith in e)
 

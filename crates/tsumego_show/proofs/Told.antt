@@ -37,19 +37,20 @@ IsSoFar form input k rest text refused =
 -- one more tree
 pub tree_more : (form : Form) (input : List ℕ) (k : ℕ) (rest text : List ℕ) (refused : Bool) (used : ℕ) (t : GameTree) (nodes : List Node) (text' : List ℕ) (bad : Bool)
     → IsSoFar form input k rest text refused → SpelledUpTo rest used t → nodes ≡ main_line t
-    → (x : List ℕ) × IsTreeText form k nodes (problem_of nodes) (take (length rest - used) (drop used rest)) x × (text' ≡ text ++ x)
-    → bad ≡ is_tree_refused form nodes (problem_of nodes) → IsSoFar form input (k + 1) (take (length rest - used) (drop used rest)) text' (refused || bad)
+    → (x : List ℕ) × IsTreeText form k (take used rest) nodes (problem_of nodes) (take (length rest - used) (drop used rest)) x × (text' ≡ text ++ x)
+    → bad ≡ is_tree_refused form k nodes (problem_of nodes) (take (length rest - used) (drop used rest)) → IsSoFar form input (k + 1) (take (length rest - used) (drop used rest)) text' (refused || bad)
 tree_more form input k rest text refused used t nodes text' bad far s same w b = λ more other h.
     let all : take (length rest - used) (drop used rest) ≡ drop used rest = take_all (length rest - used) (drop used rest) (omega (arith, length-drop used rest)) in
-    let its_text : IsTreeText form k (main_line t) (problem_of (main_line t)) (drop used rest) w.0 =
-    subst (λ (x : List Node). IsTreeText form k x (problem_of x) (drop used rest) w.0) same (subst (λ (x : List ℕ). IsTreeText form k nodes (problem_of nodes) x w.0) all w.1) in
+    let its_text : IsTreeText form k (take used rest) (main_line t) (problem_of (main_line t)) (drop used rest) w.0 =
+    subst (λ (x : List Node). IsTreeText form k (take used rest) x (problem_of x) (drop used rest) w.0) same (subst (λ (x : List ℕ). IsTreeText form k (take used rest) nodes (problem_of nodes) x w.0) all w.1) in
     let one = tree k rest used t w.0 more other s its_text (subst (λ (x : List ℕ). Tells form (length input) (k + 1) x more other) all h) in
-    let its : is_tree_refused form (main_line t) (problem_of (main_line t)) ≡ bad = ap (λ (x : List Node). is_tree_refused form x (problem_of x)) (sym same) ∙ sym b in
+    let its : is_tree_refused form k (main_line t) (problem_of (main_line t)) (drop used rest) ≡ bad =
+    ap (λ (x : List Node). is_tree_refused form k x (problem_of x) (drop used rest)) (sym same) ∙ ap (is_tree_refused form k nodes (problem_of nodes)) (sym all) ∙ sym b in
     let words : text ++ (w.0 ++ more) ≡ text' ++ more = sym (append_assoc text w.0 more) ∙ ap (λ (x : List ℕ). x ++ more) (sym w.2) in
-    let flag : (refused || (is_tree_refused form (main_line t) (problem_of (main_line t)) || other)) ≡ ((refused || bad) || other) =
+    let flag : (refused || (is_tree_refused form k (main_line t) (problem_of (main_line t)) (drop used rest) || other)) ≡ ((refused || bad) || other) =
     ap (λ (x : Bool). refused || (x || other)) its ∙ sym (or_assoc refused bad other) in
     subst (λ (x : Bool). Tells form (length input) 1 input (text' ++ more) x) flag
-    (subst (λ (x : List ℕ). Tells form (length input) 1 input x (refused || (is_tree_refused form (main_line t) (problem_of (main_line t)) || other))) words (far _ _ one))
+    (subst (λ (x : List ℕ). Tells form (length input) 1 input x (refused || (is_tree_refused form k (main_line t) (problem_of (main_line t)) (drop used rest) || other))) words (far _ _ one))
 
 -- what is read and told so far; an input with a tree is not too long
 pub record Progress (form : Form) (input rest text : List ℕ) (k : ℕ) (refused : Bool) : Type 0 where
@@ -67,8 +68,8 @@ module _ {form : Form} {input rest text : List ℕ} {k : ℕ} {refused : Bool} (
 
   -- one more tree is read and told
   pub progress_step : (used : ℕ) (t : GameTree) (nodes : List Node) (text' : List ℕ) (bad : Bool) → SpelledUpTo rest used t → nodes ≡ main_line t
-      → length rest ≤ MAX_BYTES → (x : List ℕ) × IsTreeText form k nodes (problem_of nodes) (take (length rest - used) (drop used rest)) x × (text' ≡ text ++ x)
-      → bad ≡ is_tree_refused form nodes (problem_of nodes)
+      → length rest ≤ MAX_BYTES → (x : List ℕ) × IsTreeText form k (take used rest) nodes (problem_of nodes) (take (length rest - used) (drop used rest)) x × (text' ≡ text ++ x)
+      → bad ≡ is_tree_refused form k nodes (problem_of nodes) (take (length rest - used) (drop used rest))
       → Progress form input (take (length rest - used) (drop used rest)) text' (k + 1) (refused || bad)
   progress_step used t nodes text' bad s same small e b = record {
     some = omega (arith, p.some);
@@ -119,7 +120,7 @@ behind_last (Err y) p behind bytes old new none is w = w
 
 -- a problem and what is drawn behind it
 pub problem_behind : {A E : Type 0} (r : Result A E) (k : ℕ) (p : Standing) (behind old mid new : List ℕ) → mid ≡ old ++ problem_text k p
-    → OnOk r ((x : List ℕ) × DrawsBehind p behind x × (new ≡ mid ++ x)) → OnOk r ((x : List ℕ) × IsProblemText Picture k p behind x × (new ≡ old ++ x))
+    → OnOk r ((x : List ℕ) × DrawsBehind p behind x × (new ≡ mid ++ x)) → OnOk r ((x : List ℕ) × IsProblemText Picture k [] p behind x × (new ≡ old ++ x))
 problem_behind (Ok y) k p behind old mid new e w =
     (problem_text k p ++ w.0, (w.0, w.1, refl), w.2 ∙ ap (λ (x : List ℕ). x ++ w.0) e ∙ append_assoc old (problem_text k p) w.0)
 problem_behind (Err y) k p behind old mid new e w = w

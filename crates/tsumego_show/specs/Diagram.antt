@@ -7,7 +7,7 @@ use Rattle.tt_sgf.specs.declared.size.Size.{Size}
 use Rattle.tt_sgf.specs.Sizes.{point_count}
 use Rattle.tt_board.specs.declared.Colour.{Colour}
 use Rattle.tt_board.specs.declared.Colour.TheVariants.{Black, White}
-use Rattle.tt_board.specs.Play.{other}
+use Rattle.tt_board.specs.Play.{is_empty, other}
 use Rattle.tt_board.specs.Reach.{entry_at}
 use Rattle.tt_game.specs.Game.{side_colour}
 use Rattle.tt_game.specs.Line.{Standing}
@@ -19,8 +19,9 @@ use Rattle.tsumego_show.specs.declared.windows.Along.{Along}
 use Rattle.tsumego_show.specs.declared.windows.Along.TheVariants.{Columns, Rows}
 use Rattle.tsumego_show.specs.declared.windows.Window.{Window}
 use Rattle.tsumego_show.specs.Picture.{column_letter, row_number}
+use Rattle.tsumego_show.specs.Regions.{near}
 
--- ---- what matters: the columns and rows with a target or a point of the region, and two more on each side
+-- ---- what matters: the columns and rows with a target, a point of the region or a stone beside one, and one more on each side
 
 -- some number below n is so
 abbrev pub any_below : (ℕ → Bool) → ℕ → Bool
@@ -39,10 +40,10 @@ least_from so k (suc n) = if so k then k else least_from so (k + 1) n
 
 -- of n columns or rows the first that is drawn, and the last
 abbrev pub first_shown : (ℕ → Bool) → ℕ → ℕ
-first_shown so n = least_from so 0 (n - 1) - 2
+first_shown so n = least_from so 0 (n - 1) - 1
 
 abbrev pub last_shown : (ℕ → Bool) → ℕ → ℕ
-last_shown so n = max (first_shown so n) (min (greatest so n + 2) (n - 1))
+last_shown so n = max (first_shown so n) (min (greatest so n + 1) (n - 1))
 
 module _ (p : Standing) where
   -- both sides may play on q
@@ -52,8 +53,12 @@ module _ (p : Standing) where
   abbrev pub is_target : ℕ → Bool
   is_target q = set.contains p.frame.targets q
 
+  -- a stone beside the region
+  abbrev pub is_beside : ℕ → Bool
+  is_beside q = not (is_empty (entry_at p.state.present q)) && set.contains (near p.frame.size p.frame.region) q
+
   abbrev pub matters : ℕ → Bool
-  matters q = is_target q || is_inside q
+  matters q = is_target q || (is_inside q || is_beside q)
 
   unfoldable pub column_matters : ℕ → Bool
   column_matters column = any_below (λ row. matters (row * p.frame.size.columns + column)) p.frame.size.rows

@@ -1,6 +1,6 @@
 -- What is likely marked wrong in a problem: points that nobody can fill, stones that can be taken where nobody can play again, stones
 -- that nobody marked, and a region that is too wide.
-use Rattle.std.specs.Prelude.{ℕ, ◌&&◌, nat_eq, nat_lt, Bool, List, [], ◌∷◌, ◌++◌, codes, if◌then◌else◌}
+use Rattle.std.specs.Prelude.{ℕ, ◌/◌, ◌%◌, ◌&&◌, nat_eq, nat_lt, Bool, List, [], ◌∷◌, ◌++◌, codes, decimal, if◌then◌else◌}
 use Rattle.std.specs.List.{flat_map, range_with_len}
 use Rattle.std.specs.FinSet as set
 use Rattle.tt_sgf.specs.Bytes.{newline, space}
@@ -10,18 +10,31 @@ use Rattle.tt_board.specs.Play.{Points, other}
 use Rattle.tt_game.specs.declared.turns.Turn.TheVariants.{Play}
 use Rattle.tt_game.specs.Line.{Standing}
 use Rattle.tt_proof.specs.CertificateText.{turn_text}
+use Rattle.tsumego_show.specs.Picture.{column_letter, row_number}
 use Rattle.tsumego_show.specs.Regions.{empties, near, reached, stones, untaken}
 
 -- ---- points by their names
 
 module _ (size : Size) where
-  -- a blank and the name of a point, where the set has it
-  unfoldable pub member_name : Points → ℕ → List ℕ
-  member_name points q = if set.contains points q then space ∷ turn_text size (Play q) else []
+  -- the name of a point as editors have it
+  abbrev pub editor_name : ℕ → List ℕ
+  editor_name q = column_letter (q % size.columns) ∷ decimal (row_number size (q / size.columns))
 
-  -- the names of the points of a set, row by row, which a newline ends
+  -- both names of a point, as `C18=cb`
+  unfoldable pub both_names : ℕ → List ℕ
+  both_names q = editor_name q ++ (codes "=" ++ turn_text size (Play q))
+
+  -- a blank and the names of a point, where the set has it
+  unfoldable pub member_name : Points → ℕ → List ℕ
+  member_name points q = if set.contains points q then space ∷ both_names q else []
+
+  -- the names of the points of a set, row by row
+  abbrev pub names_text : Points → List ℕ
+  names_text points = flat_map (member_name points) (range_with_len 0 (point_count size))
+
+  -- a newline ends them
   abbrev pub members_text : Points → List ℕ
-  members_text points = flat_map (member_name points) (range_with_len 0 (point_count size)) ++ newline ∷ []
+  members_text points = names_text points ++ newline ∷ []
 
   -- the words and the points, where there are points
   abbrev pub listed : List ℕ → Points → List ℕ

@@ -1,6 +1,7 @@
 -- What public contracts cite.
 pub mod Diagram
 pub mod Drawing
+pub mod Faulty
 pub mod Found
 pub mod Hints
 pub mod Marking
@@ -8,6 +9,7 @@ pub mod Picture
 pub mod Refusals
 pub mod Regions
 pub mod Shown
+pub mod Trees
 pub mod Variations
 pub mod Writing
 -- What private contracts and proofs cite. Nobody has to believe these.

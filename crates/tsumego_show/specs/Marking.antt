@@ -1,5 +1,5 @@
 -- The marks that are proposed for a problem without them, and what is written then.
-use Rattle.std.specs.Prelude.{ℕ, zero, suc, ◌+◌, ◌-◌, ◌*◌, ◌&&◌, nat_eq, nat_lt, nat_le, Bool, true, false, List, [], ◌∷◌, ◌++◌, codes, length, Option, Some, None, Ok, Err, if◌then◌else◌}
+use Rattle.std.specs.Prelude.{ℕ, zero, suc, ◌+◌, ◌-◌, ◌*◌, ◌&&◌, ◌||◌, nat_eq, nat_lt, nat_le, Bool, true, false, List, [], ◌∷◌, ◌++◌, codes, drop, take, Option, Some, None, Ok, Err, if◌then◌else◌}
 use Rattle.std.specs.declared.result.Result.{Result}
 use Rattle.std.specs.FinSet as set
 use Rattle.tt_sgf.specs.declared.size.Size.{Size}
@@ -13,14 +13,18 @@ use Rattle.tt_game.specs.declared.faults.GameFault.TheVariants.{NoTarget}
 use Rattle.tt_game.specs.Faults.{code_of}
 use Rattle.tt_game.specs.Games.{GameState}
 use Rattle.tt_game.specs.Line.{Standing}
-use Rattle.tt_game.specs.Problems.{game_of, posed, problem_of}
+use Rattle.tt_sgf.specs.Bytes.{newline}
+use Rattle.tt_game.specs.Problems.{asked_count, game_of, posed}
 use Rattle.tsumego_show.specs.declared.form.Place.{Place}
 use Rattle.tsumego_show.specs.declared.form.Place.TheVariants.{FromAbove, FromBelow}
 use Rattle.tsumego_show.specs.declared.proposals.Proposal.{Proposal}
-use Rattle.tsumego_show.specs.Hints.{hints, members_text}
+use Rattle.tsumego_show.specs.declared.trees.Spot.TheVariants.{Outside}
+use Rattle.tsumego_show.specs.declared.variations.PointList.TheVariants.{Squares, Triangles}
+use Rattle.tsumego_show.specs.Hints.{hints, members_text, names_text}
 use Rattle.tsumego_show.specs.Refusals.{fault_text, refusal_line}
-use Rattle.tsumego_show.specs.Regions.{around, is_closed, region}
-use Rattle.tsumego_show.specs.Variations.{bracketed, root_text}
+use Rattle.tsumego_show.specs.Regions.{around, is_closed, is_inner, region, ways_out}
+use Rattle.tsumego_show.specs.Trees.{behind_semicolon, from_open, kept_text}
+use Rattle.tsumego_show.specs.Variations.{list_text}
 
 -- ---- which stone
 
@@ -42,20 +46,21 @@ fewer_squares None (Some b) = Some b
 fewer_squares (Some a) (Some b) = if nat_lt (set.len b.region) (set.len a.region) then Some b else Some a
 
 module _ (s : GameState) where
-  -- the mark on the stone on q, where a stone is there, and its region is closed
-  abbrev pub closed_at : ℕ → Option Colour → Option Proposal
-  closed_at q None = None
-  closed_at q (Some k) = if is_closed s.size s.present k q then Some (record { stone = q; colour = k; region = region s.size s.present k q }) else None
+  -- the mark on the stone on q, where a stone is there, and its region is closed and, where nobody named the stone, an inner one
+  abbrev pub closed_at : Bool → ℕ → Option Colour → Option Proposal
+  closed_at is_named q None = None
+  closed_at is_named q (Some k) =
+      if is_closed s.size s.present k q && (is_named || is_inner s.size s.present k q) then Some (record { stone = q; colour = k; region = region s.size s.present k q }) else None
 
   -- of the stones on the first n points the one with the fewest squares
   unfoldable pub fewest : ℕ → Option Proposal
   fewest zero = None
-  fewest (suc n) = fewer_squares (fewest n) (closed_at n (entry_at s.present n))
+  fewest (suc n) = fewer_squares (fewest n) (closed_at false n (entry_at s.present n))
 
   -- the mark on the point, where the board has it
   abbrev pub closed_on : Option ℕ → Option Proposal
   closed_on None = None
-  closed_on (Some q) = closed_at q (entry_at s.present q)
+  closed_on (Some q) = closed_at true q (entry_at s.present q)
 
   -- the mark on the stone in a place, or on any
   abbrev pub chosen : Option Place → Option Proposal
@@ -66,26 +71,29 @@ module _ (s : GameState) where
   abbrev pub marked : Proposal → Standing
   marked m = posed s m.region (set.insert set.empty m.stone) m.colour
 
--- ---- what is written of a problem; a newline ends it
+-- ---- what is written of a problem
 
--- a comment, where there is something to say
-abbrev pub comment : List ℕ → List ℕ
-comment [] = []
-comment (b ∷ bs) = codes "C" ++ bracketed (b ∷ bs)
+-- the triangles and squares of a problem
+abbrev pub marks_text : Standing → List ℕ
+marks_text p = list_text p Triangles ++ list_text p Squares
 
--- where the problem was given by turns
-abbrev pub lost_line : ℕ → List ℕ
-lost_line n = if nat_eq n 0 then [] else codes "the turns before are left out, so that superko doesn't know their positions\n"
+-- a tree with them at the head of the node of this number
+abbrev pub with_marks : ℕ → Standing → List ℕ → List ℕ
+with_marks n p tree = take (behind_semicolon Outside n tree) tree ++ (marks_text p ++ (drop (behind_semicolon Outside n tree) tree ++ newline ∷ []))
 
--- the problem as a game tree, with what its own hints have against it
-unfoldable pub marked_text : Standing → List ℕ
-marked_text p = root_text p ++ (comment (hints p ++ lost_line (length p.state.earlier)) ++ codes ")\n")
+-- what the hints have against a problem, and its tree with the marks
+unfoldable pub marked_text : ℕ → Standing → List ℕ → List ℕ
+marked_text n p tree = hints p ++ with_marks n p (from_open tree)
 
 -- ---- why nothing is marked
 
--- where a group is open
+abbrev pub open_words : List ℕ
+open_words = codes "no wall leaves the group 2 to 40 points: put stones of the wall on some of these, or mark by hand:"
+
+-- where a group is open: its ways out first
 unfoldable pub open_line : Size → Colouring → Colour → ℕ → List ℕ
-open_line size c k q = codes "no wall leaves the group 2 to 40 points: put stones of the wall on some of these, or mark by hand:" ++ members_text size (around size c k q)
+open_line size c k q =
+    open_words ++ (names_text size (ways_out size c k q) ++ members_text size (set.difference (around size c k q) (ways_out size c k q)))
 
 module _ (s : GameState) where
   abbrev pub why_at : ℕ → Option Colour → List ℕ
@@ -102,19 +110,19 @@ module _ (s : GameState) where
 
   -- ---- tree number k
 
-  -- what is written of the game with this mark, or without one
-  abbrev pub with_mark : Option Place → ℕ → Option Proposal → List ℕ
-  with_mark place k None = refusal_line k (code_of NoTarget) ++ (codes "why: " ++ why_not place)
-  with_mark place k (Some m) = marked_text (marked s m)
+  -- what is written of the game with this mark in the node of this number, or without one
+  abbrev pub with_mark : Option Place → ℕ → ℕ → List ℕ → Option Proposal → List ℕ
+  with_mark place k n tree None = refusal_line k (code_of NoTarget) ++ (codes "why: " ++ (why_not place ++ kept_text tree))
+  with_mark place k n tree (Some m) = marked_text n (marked s m) tree
 
 -- what is written of a main line without a target: it comes to a game, or is refused
-abbrev pub game_marked : Option Place → ℕ → List Node → Result GameState GameFault → List ℕ
-game_marked place k ns (Ok s) = with_mark s place k (chosen s place)
-game_marked place k ns (Err e) = fault_text k ns e
+abbrev pub game_marked : Option Place → ℕ → List ℕ → List Node → Result GameState GameFault → List ℕ
+game_marked place k tree ns (Ok s) = with_mark s place k (asked_count false ns) tree (chosen s place)
+game_marked place k tree ns (Err e) = fault_text k ns e ++ kept_text tree
 
--- what is written of a main line that is no problem
-abbrev pub line_marked : Option Place → ℕ → List Node → GameFault → List ℕ
-line_marked place k ns e = if nat_eq (code_of e) (code_of NoTarget) then game_marked place k ns (game_of ns) else fault_text k ns e
+-- what is written of a main line that is no problem: where it isn't marked, the tree as it was stands behind the lines
+abbrev pub line_marked : Option Place → ℕ → List ℕ → List Node → GameFault → List ℕ
+line_marked place k tree ns e = if nat_eq (code_of e) (code_of NoTarget) then game_marked place k tree ns (game_of ns) else fault_text k ns e ++ kept_text tree
 
 -- and whether it is refused
 abbrev pub has_no_mark : Option Proposal → Bool

@@ -1,5 +1,5 @@
 -- What is written where something is refused: the line with the number, and a line that says in words why, and how to go on.
-use Rattle.std.specs.Prelude.{ℕ, zero, suc, ◌+◌, nat_eq, nat_lt, Bool, false, List, [], ◌∷◌, ◌++◌, codes, decimal, length, take, Ok, Err, if◌then◌else◌}
+use Rattle.std.specs.Prelude.{ℕ, zero, suc, ◌+◌, ◌-◌, ◌||◌, nat_eq, nat_lt, Bool, false, List, [], ◌∷◌, ◌++◌, codes, decimal, length, take, Option, Some, None, Ok, Err, if◌then◌else◌}
 use Rattle.std.specs.declared.result.Result.{Result}
 use Rattle.tt_sgf.specs.Bytes.{newline}
 use Rattle.tt_sgf.specs.declared.nodes.Node.{Node}
@@ -9,6 +9,7 @@ use Rattle.tt_game.specs.declared.faults.GameFault.TheVariants.{TooManyTurns, No
 use Rattle.tt_game.specs.Faults.{code_of}
 use Rattle.tt_game.specs.Line.{Standing}
 use Rattle.tt_game.specs.Problems.{problem_of}
+use Rattle.tsumego_show.specs.Faulty.{look_line}
 
 -- the line on a refusal of tree number k, which a newline ends
 abbrev pub refusal_line : ℕ → ℕ → List ℕ
@@ -20,7 +21,7 @@ refusal_line k code = decimal k ++ (codes " refused " ++ (decimal code ++ newlin
 unfoldable pub meaning : GameFault → List ℕ
 meaning NotGo = codes "GM is not 1, so this is no game of Go\n"
 meaning BadSize = codes "SZ is no size: write a number from 1 to 19, or columns:rows\n"
-meaning BadValue = codes "a value is no point of the board (two letters, column then row), or the value of PL is no colour\n"
+meaning BadValue = codes "a value is no point of the board, which is two letters, column then row; or that of PL is no colour\n"
 meaning PointTwice = codes "a point stands in two of AB, AW and AE: take it out of all but one\n"
 meaning MixedNode = codes "stones are set up beside a move, or there are two moves: give each a node of its own\n"
 meaning LifelessStone = codes "the setup leaves a stone without liberties: take its chain off, or empty a point beside it\n"
@@ -43,18 +44,36 @@ unfoldable pub needed : ℕ → List Node → ℕ → ℕ
 needed code ns zero = zero
 needed code ns (suc n) = if is_refused_with code (problem_of (take n ns)) then needed code ns n else suc n
 
+-- the last of the first n nodes
+unfoldable pub last_of : ℕ → List Node → Option Node
+last_of n [] = None
+last_of zero (m ∷ ms) = None
+last_of (suc zero) (m ∷ ms) = Some m
+last_of (suc (suc n)) (m ∷ ms) = last_of (suc n) ms
+
 -- the most nodes of a main line in which the refused one is named
 abbrev pub most_nodes : ℕ
 most_nodes = 1000
 
--- `node 3: `, where a node is refused and the main line is not too long to look for it; nodes count from 1
-abbrev pub node_text : ℕ → List Node → List ℕ
-node_text code ns =
-    if nat_eq code (code_of NoTarget) then [] else (if nat_lt most_nodes (length ns) then [] else codes "node " ++ (decimal (needed code ns (length ns)) ++ codes ": "))
+-- `node 3: `, and what is wrong there, with those nodes in front; nodes count from 1
+abbrev pub named_fault : GameFault → ℕ → List Node → Node → List ℕ
+named_fault e k front n = codes "node " ++ (decimal k ++ (codes ": " ++ (meaning e ++ look_line e front n)))
+
+abbrev pub maybe_named : GameFault → ℕ → List Node → Option Node → List ℕ
+maybe_named e k front None = meaning e
+maybe_named e k front (Some n) = named_fault e k front n
+
+-- and at which node of a main line, where one is
+abbrev pub at_node : GameFault → List Node → List ℕ
+at_node e ns = maybe_named e (needed (code_of e) ns (length ns)) (take (needed (code_of e) ns (length ns) - 1) ns) (last_of (needed (code_of e) ns (length ns)) ns)
+
+-- why a main line is refused so; where it isn't too long, the node is looked for
+abbrev pub why_text : GameFault → List Node → List ℕ
+why_text e ns = if nat_eq (code_of e) (code_of NoTarget) || nat_lt most_nodes (length ns) then meaning e else at_node e ns
 
 -- the lines on a main line that is refused so
 abbrev pub fault_text : ℕ → List Node → GameFault → List ℕ
-fault_text k ns e = refusal_line k (code_of e) ++ (codes "why: " ++ (node_text (code_of e) ns ++ meaning e))
+fault_text k ns e = refusal_line k (code_of e) ++ (codes "why: " ++ why_text e ns)
 
 -- ---- inputs that are no game trees
 

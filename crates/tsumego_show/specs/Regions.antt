@@ -1,6 +1,6 @@
 -- The region that is proposed for the chain of a stone: what is inside the wall. The wall are the stones of the other colour that can't be
 -- taken from inside.
-use Rattle.std.specs.Prelude.{ℕ, zero, suc, ◌+◌, ◌-◌, ◌%◌, ◌&&◌, ◌||◌, nat_eq, nat_le, nat_lt, Bool}
+use Rattle.std.specs.Prelude.{ℕ, zero, suc, ◌+◌, ◌-◌, ◌%◌, ◌&&◌, ◌||◌, nat_le, nat_lt, Bool}
 use Rattle.std.specs.FinSet as set
 use Rattle.tt_sgf.specs.declared.size.Size.{Size}
 use Rattle.tt_sgf.specs.Points.{passing}
@@ -76,6 +76,14 @@ module _ (size : Size) (c : Colouring) where
       unfoldable pub is_closed : Bool
       is_closed = nat_lt 0 (set.len wall) && (nat_lt 1 (set.len region) && nat_le (set.len region) most_squares)
 
+      -- the board isn't turned inside out: no more empty points are in the region than outside
+      unfoldable pub is_inner : Bool
+      is_inner = nat_le (set.len (set.intersection region empties)) (set.len (set.difference empties region))
+
       -- empty points within three steps of the chain, where the wall may want a stone
       unfoldable pub around : Points
       around = set.intersection empties (reached_in size (set.difference (whole size) (stones (other k))) 3 chain)
+
+      -- those beside the chain from which empty points lead further
+      unfoldable pub ways_out : Points
+      ways_out = set.intersection (near size chain) (set.intersection around (reached size empties (set.difference empties around)))

@@ -1,5 +1,5 @@
 -- What is written for an input: a text on each of its game trees.
-use Rattle.std.specs.Prelude.{◌≡◌, ◌⊎◌, ◌+◌, ◌-◌, ◌<◌, ◌≤◌, ℕ, Bool, true, false, ◌||◌, List, [], ◌∷◌, ◌++◌, length, drop, decimal, Ok, Err, if◌then◌else◌}
+use Rattle.std.specs.Prelude.{◌≡◌, ◌⊎◌, ◌+◌, ◌-◌, ◌<◌, ◌≤◌, ℕ, Bool, true, false, ◌&&◌, ◌||◌, not, nat_eq, List, [], ◌∷◌, ◌++◌, length, drop, take, codes, decimal, Ok, Err, if◌then◌else◌}
 use Rattle.std.specs.declared.result.Result.{Result}
 use Rattle.tt_sgf.specs.declared.trees.TheConstants.{MAX_BYTES}
 use Rattle.tt_sgf.specs.Bytes.{space}
@@ -15,9 +15,10 @@ use Rattle.tsumego_show.specs.Diagram.{svg_text}
 use Rattle.tsumego_show.specs.Drawing.{DrawsCertificate}
 use Rattle.tsumego_show.specs.Found.{Found, StandsBehind}
 use Rattle.tsumego_show.specs.Hints.{hints}
-use Rattle.tsumego_show.specs.Marking.{is_left, line_marked, marked_text}
+use Rattle.tsumego_show.specs.Marking.{is_left, line_marked}
 use Rattle.tsumego_show.specs.Picture.{picture}
 use Rattle.tsumego_show.specs.Refusals.{fault_text, length_text, syntax_text}
+use Rattle.tsumego_show.specs.Trees.{from_open, is_nil, kept_text}
 use Rattle.tsumego_show.specs.Variations.{sgf_text}
 
 -- The text on what follows a problem: nothing where a tree may follow; else that on a certificate, without the white space
@@ -26,24 +27,37 @@ pub data DrawsBehind (p : Standing) (behind : List ℕ) : List ℕ → Type 0 wh
   more_trees : HasOpen behind → DrawsBehind p behind []
   last_tree : (text : List ℕ) → (HasOpen behind → ⊥) → DrawsCertificate p (trimmed behind) text → DrawsBehind p behind text
 
+-- an input is one problem, where this is its first tree and none may follow
+abbrev pub is_alone : ℕ → List ℕ → Bool
+is_alone k behind = nat_eq k 1 && is_nil (from_open behind)
+
+-- a diagram is a document of its own
+abbrev pub several_line : ℕ → List ℕ
+several_line k = decimal k ++ codes " not drawn: give each problem a file of its own\n"
+
+-- the diagram of a problem that is alone, with the strategy that stands behind it
+abbrev pub IsDiagram : Bool → ℕ → Standing → List ℕ → List ℕ → Type 0
+IsDiagram false k p behind text = text ≡ several_line k
+IsDiagram true k p behind text = (b : Found) × StandsBehind p.frame.size behind b × (text ≡ svg_text p b)
+
 -- the number, the picture and the hints
 abbrev pub problem_text : ℕ → Standing → List ℕ
 problem_text k p = decimal k ++ (space ∷ (picture p ++ hints p))
 
--- the text on tree number k, which is this problem and is followed by these bytes: the picture with what follows it;
--- or the diagram or the game tree with the strategy that stands there; or the problem with its marks
-abbrev pub IsProblemText : Form → ℕ → Standing → List ℕ → List ℕ → Type 0
-IsProblemText Picture k p behind text = (drawn : List ℕ) × DrawsBehind p behind drawn × (text ≡ problem_text k p ++ drawn)
-IsProblemText Diagram k p behind text = (b : Found) × StandsBehind p.frame.size behind b × (text ≡ svg_text p b)
-IsProblemText (Variations depth) k p behind text = (b : Found) × StandsBehind p.frame.size behind b × (text ≡ sgf_text p depth b)
-IsProblemText (Marks place) k p behind text = text ≡ marked_text p
+-- the text on tree number k with these bytes, which is this problem and is followed by the others: the picture with what follows it;
+-- or the diagram or the game tree with the strategy that stands there; or the tree as it was, since it has its marks
+abbrev pub IsProblemText : Form → ℕ → List ℕ → Standing → List ℕ → List ℕ → Type 0
+IsProblemText Picture k tree p behind text = (drawn : List ℕ) × DrawsBehind p behind drawn × (text ≡ problem_text k p ++ drawn)
+IsProblemText Diagram k tree p behind text = IsDiagram (is_alone k behind) k p behind text
+IsProblemText (Variations depth) k tree p behind text = (b : Found) × StandsBehind p.frame.size behind b × (text ≡ sgf_text p depth b)
+IsProblemText (Marks place) k tree p behind text = text ≡ kept_text tree
 
--- the text on tree number k, whose main line is no problem, and whether it is refused: where marks are wanted and it has none, they may be proposed
-abbrev pub fault_told : Form → ℕ → List Node → GameFault → List ℕ
-fault_told Picture k ns e = fault_text k ns e
-fault_told Diagram k ns e = fault_text k ns e
-fault_told (Variations depth) k ns e = fault_text k ns e
-fault_told (Marks place) k ns e = line_marked place k ns e
+-- the text on tree number k with these bytes, whose main line is no problem, and whether it is refused: where marks are wanted and it has none, they may be proposed
+abbrev pub fault_told : Form → ℕ → List ℕ → List Node → GameFault → List ℕ
+fault_told Picture k tree ns e = fault_text k ns e
+fault_told Diagram k tree ns e = fault_text k ns e
+fault_told (Variations depth) k tree ns e = fault_text k ns e
+fault_told (Marks place) k tree ns e = line_marked place k tree ns e
 
 abbrev pub is_fault_left : Form → List Node → GameFault → Bool
 is_fault_left Picture ns e = true
@@ -51,23 +65,29 @@ is_fault_left Diagram ns e = true
 is_fault_left (Variations depth) ns e = true
 is_fault_left (Marks place) ns e = is_left place ns e
 
--- the text on tree number k, whose main line is a problem or refused, and which is followed by these bytes
-abbrev pub IsTreeText : Form → ℕ → List Node → Result Standing GameFault → List ℕ → List ℕ → Type 0
-IsTreeText form k ns (Ok p) behind text = IsProblemText form k p behind text
-IsTreeText form k ns (Err e) behind text = text ≡ fault_told form k ns e
+-- the text on tree number k with these bytes, whose main line is a problem or refused, and which is followed by the others
+abbrev pub IsTreeText : Form → ℕ → List ℕ → List Node → Result Standing GameFault → List ℕ → List ℕ → Type 0
+IsTreeText form k tree ns (Ok p) behind text = IsProblemText form k tree p behind text
+IsTreeText form k tree ns (Err e) behind text = text ≡ fault_told form k tree ns e
 
 -- and whether it is refused
-abbrev pub is_tree_refused : Form → List Node → Result Standing GameFault → Bool
-is_tree_refused form ns (Ok p) = false
-is_tree_refused form ns (Err e) = is_fault_left form ns e
+abbrev pub is_one_of_several : Form → ℕ → List ℕ → Bool
+is_one_of_several Picture k behind = false
+is_one_of_several Diagram k behind = not (is_alone k behind)
+is_one_of_several (Variations depth) k behind = false
+is_one_of_several (Marks place) k behind = false
+
+abbrev pub is_tree_refused : Form → ℕ → List Node → Result Standing GameFault → List ℕ → Bool
+is_tree_refused form k ns (Ok p) behind = is_one_of_several form k behind
+is_tree_refused form k ns (Err e) behind = is_fault_left form ns e
 
 -- The text on bytes at the end of an input of so many, whose first tree has number k, and whether something is refused: a tree
 -- and what follows it; or no tree is left, and none was wanted; or none is spelled where one is wanted: at a `(`, or where no
 -- tree was read yet.
 pub data Tells (form : Form) (whole : ℕ) : ℕ → List ℕ → List ℕ → Bool → Type 0 where
   tree : (k : ℕ) (bytes : List ℕ) (count : ℕ) (t : GameTree) (text more : List ℕ) (refused : Bool) → SpelledUpTo bytes count t
-      → IsTreeText form k (main_line t) (problem_of (main_line t)) (drop count bytes) text → Tells form whole (k + 1) (drop count bytes) more refused
-      → Tells form whole k bytes (text ++ more) (is_tree_refused form (main_line t) (problem_of (main_line t)) || refused)
+      → IsTreeText form k (take count bytes) (main_line t) (problem_of (main_line t)) (drop count bytes) text → Tells form whole (k + 1) (drop count bytes) more refused
+      → Tells form whole k bytes (text ++ more) (is_tree_refused form k (main_line t) (problem_of (main_line t)) (drop count bytes) || refused)
   ended : (k : ℕ) (bytes : List ℕ) → 1 < k → (HasOpen bytes → ⊥) → Tells form whole k bytes [] false
   stopped : (k : ℕ) (bytes : List ℕ) → (k ≡ 1) ⊎ HasOpen bytes → HasNoTree bytes → Tells form whole k bytes (syntax_text k (whole - length bytes)) true
 

@@ -1,12 +1,13 @@
 //! Hints on what is likely marked wrong in a problem.
 ghost use Rattle.std.specs.Prelude.{◌≡◌, ◌<◌, ◌++◌, OnOk};
-ghost use Rattle.std.specs.List.{flat_map, range_with_len};
 ghost use Rattle.tt_sgf.specs.Sizes.{point_count};
-ghost use Rattle.tsumego_show.specs.Hints.{attackers, defenders, enclosed, held_chains, hints, is_wide, leaks, leaks_line, listed, member_name, members_text, strangers};
+ghost use Rattle.tsumego_show.specs.Hints.{attackers, both_names, defenders, editor_name, enclosed, held_chains, hints, is_wide, leaks, leaks_line, listed, member_name, members_text, names_text, strangers};
 ghost use Rattle.tsumego_show.specs.Hints.{strangers_line, takeables, takeables_line, target_chains, unfillables, wide_line};
 
+use crate::picture::column_letter;
 use crate::points::point_numbered;
 use crate::regions::{empties, near, reached, stones, untaken};
+use std::alloc::Global;
 use tt_game::{Line, Turn};
 use tt_proof::put_turn;
 use tt_sgf::{NoMemory, PointSet, Size};
@@ -14,9 +15,45 @@ use tt_sgf::{NoMemory, PointSet, Size};
 /// The most points of a board that may well be a region as a whole.
 const MOST_POINTS: usize = 10;
 
-/// Writes a blank and the name of a point behind the text, where it is in the set.
+/// Writes the name of a point as editors have it behind the text.
+#[tactic(auto, using(crate::proofs::Sets::row_on_board))]
+fn put_editor_name(
+    alloc: Global,
+    out: &mut Vec<u8>,
+    size: Size,
+    number: usize,
+) -> Result<(), NoMemory>
+    requires { number < point_count size }
+    ensures { OnOk result (out.new.items ≡ out.old.items ++ editor_name size number) }
+{
+    let columns = usize::from(size.columns());
+    let row = usize::from(size.rows()) - number / columns;
+    let text = format!(in alloc; "{row}")?;
+    out.push(column_letter((number % columns) as u16))?;
+    out.extend_from_slice(text.as_bytes())?;
+    Ok(())
+}
+
+/// Writes both names of a point behind the text.
+#[tactic(auto, unfolding(crate::specs::Hints::both_names))]
+fn put_both_names(
+    alloc: Global,
+    out: &mut Vec<u8>,
+    size: Size,
+    number: usize,
+) -> Result<(), NoMemory>
+    requires { number < point_count size }
+    ensures { OnOk result (out.new.items ≡ out.old.items ++ both_names size number) }
+{
+    put_editor_name(alloc, out, size, number)?;
+    out.push(b'=')?;
+    put_turn(out, Turn::Play(point_numbered(size, number)), size)
+}
+
+/// Writes a blank and the names of a point behind the text, where it is in the set.
 #[tactic(auto, unfolding(crate::specs::Hints::member_name))]
 fn put_member(
+    alloc: Global,
     out: &mut Vec<u8>,
     size: Size,
     points: &PointSet,
@@ -25,36 +62,46 @@ fn put_member(
     requires { number < point_count size }
     ensures { OnOk result (out.new.items ≡ out.old.items ++ member_name size points.now number) }
 {
-    let point = point_numbered(size, number);
-    if points.has(point) {
+    if points.has(point_numbered(size, number)) {
         out.push(b' ')?;
-        put_turn(out, Turn::Play(point), size)?;
+        put_both_names(alloc, out, size, number)?;
     }
     Ok(())
 }
 
 /// Writes the names of the points of a set behind the text, each with a blank in front.
 #[tactic(auto, using(crate::proofs::Texts::next_text))]
-fn put_names(out: &mut Vec<u8>, size: Size, points: &PointSet) -> Result<(), NoMemory>
-    ensures { OnOk result (out.new.items ≡ out.old.items ++ flat_map (member_name size points.now) (range_with_len 0 (point_count size))) }
+pub fn put_names(
+    alloc: Global,
+    out: &mut Vec<u8>,
+    size: Size,
+    points: &PointSet,
+) -> Result<(), NoMemory>
+    ensures { OnOk result (out.new.items ≡ out.old.items ++ names_text size points.now) }
 {
     for number in 0..size.point_count() {
-        put_member(out, size, points, number)?;
+        put_member(alloc, out, size, points, number)?;
     }
     Ok(())
 }
 
 /// Writes the names of the points of a set behind the text, each with a blank in front, and a newline.
-pub fn put_members(out: &mut Vec<u8>, size: Size, points: &PointSet) -> Result<(), NoMemory>
+pub fn put_members(
+    alloc: Global,
+    out: &mut Vec<u8>,
+    size: Size,
+    points: &PointSet,
+) -> Result<(), NoMemory>
     ensures { OnOk result (out.new.items ≡ out.old.items ++ members_text size points.now) }
 {
-    put_names(out, size, points)?;
+    put_names(alloc, out, size, points)?;
     out.push(b'\n')?;
     Ok(())
 }
 
 /// Writes a line of these words and of the points of a set behind the text, where the set has points.
-fn put_listed(
+pub fn put_listed(
+    alloc: Global,
     out: &mut Vec<u8>,
     size: Size,
     words: &[u8],
@@ -66,7 +113,7 @@ fn put_listed(
         return Ok(());
     }
     out.extend_from_slice(words)?;
-    put_members(out, size, points)
+    put_members(alloc, out, size, points)
 }
 
 /// The stones of the defender.
@@ -159,27 +206,27 @@ fn is_wide(line: &Line) -> bool
 }
 
 /// Writes the line on points that nobody can fill behind the text.
-fn put_leaks(out: &mut Vec<u8>, line: &Line) -> Result<(), NoMemory>
+fn put_leaks(alloc: Global, out: &mut Vec<u8>, line: &Line) -> Result<(), NoMemory>
     ensures { OnOk result (out.new.items ≡ out.old.items ++ leaks_line line.now) }
 {
     let words = b"hint: empty and not in the region, so that nobody can fill them:";
-    put_listed(out, line.frame().size, words, &leaks(line))
+    put_listed(alloc, out, line.frame().size, words, &leaks(line))
 }
 
 /// Writes the line on stones that can be taken where nobody can play again behind the text.
-fn put_takeables(out: &mut Vec<u8>, line: &Line) -> Result<(), NoMemory>
+fn put_takeables(alloc: Global, out: &mut Vec<u8>, line: &Line) -> Result<(), NoMemory>
     ensures { OnOk result (out.new.items ≡ out.old.items ++ takeables_line line.now) }
 {
     let words = b"hint: unlike T and not in the region, and can be taken by plays in it:";
-    put_listed(out, line.frame().size, words, &takeables(line))
+    put_listed(alloc, out, line.frame().size, words, &takeables(line))
 }
 
 /// Writes the line on stones that nobody marked behind the text.
-fn put_strangers(out: &mut Vec<u8>, line: &Line) -> Result<(), NoMemory>
+fn put_strangers(alloc: Global, out: &mut Vec<u8>, line: &Line) -> Result<(), NoMemory>
     ensures { OnOk result (out.new.items ≡ out.old.items ++ strangers_line line.now) }
 {
     let words = b"hint: stones like T in or beside the region, of other chains:";
-    put_listed(out, line.frame().size, words, &strangers(line))
+    put_listed(alloc, out, line.frame().size, words, &strangers(line))
 }
 
 /// Writes the line on a region that is all of the board behind the text.
@@ -197,11 +244,11 @@ fn put_wide(out: &mut Vec<u8>, line: &Line) -> Result<(), NoMemory>
 /// whose chains have all their liberties in it; the defender's stones in or beside the region that aren't of a target's chain;
 /// and that the region is all of a board of more than 10 points.
 /// `NoMemory` where memory was refused; a part may stand there then.
-pub fn put_hints(out: &mut Vec<u8>, line: &Line) -> Result<(), NoMemory>
+pub fn put_hints(alloc: Global, out: &mut Vec<u8>, line: &Line) -> Result<(), NoMemory>
     ensures { OnOk result (out.new.items ≡ out.old.items ++ hints line.now) }
 {
-    put_leaks(out, line)?;
-    put_takeables(out, line)?;
-    put_strangers(out, line)?;
+    put_leaks(alloc, out, line)?;
+    put_takeables(alloc, out, line)?;
+    put_strangers(alloc, out, line)?;
     put_wide(out, line)
 }

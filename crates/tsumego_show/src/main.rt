@@ -4,6 +4,7 @@
 mod arguments;
 mod diagram;
 mod drawing;
+mod faulty;
 mod form;
 mod found;
 mod hints;
@@ -12,11 +13,13 @@ mod marking;
 mod opening;
 mod picture;
 mod points;
+mod properties;
 mod proposals;
 mod refusals;
 mod regions;
 mod running;
 mod showing;
+mod trees;
 mod variations;
 mod windows;
 

@@ -51,22 +51,23 @@ pub fn placed_point(size: Size, place: Place) -> Option<Point>
     }
 }
 
-/// The mark on the stone on a point, where a stone is there, and its region is closed.
-fn closed_at(game: &Game, stone: Point) -> Option<Proposal>
+/// The mark on the stone on a point, where a stone is there, and its region is closed and, where nobody named the stone, an inner
+/// one.
+fn closed_at(game: &Game, is_named: bool, stone: Point) -> Option<Proposal>
     requires { stone < point_count game.now.size }
-    ensures value { result ≡ closed_at game.now stone (entry_at game.now.present stone) }
+    ensures value { result ≡ closed_at game.now is_named stone (entry_at game.now.present stone) }
     ensures on_board { IfSome result (λ m. m.stone < point_count game.now.size) }
 {
     let colour = game.present().at(stone)?;
     let found = region(game.present(), colour, stone);
-    if !found.closed {
-        return None;
+    if found.closed && (is_named || found.inner) {
+        return Some(Proposal {
+            stone,
+            colour,
+            region: found.points,
+        });
     }
-    Some(Proposal {
-        stone,
-        colour,
-        region: found.points,
-    })
+    None
 }
 
 /// The one with the fewer squares, and of two with as many the first.
@@ -95,7 +96,7 @@ fn fewest(game: &Game) -> Option<Proposal>
     let size = game.size();
     let mut found = None;
     for number in 0..size.point_count() {
-        found = fewer_squares(found, closed_at(game, point_numbered(size, number)));
+        found = fewer_squares(found, closed_at(game, false, point_numbered(size, number)));
     }
     found
 }
@@ -106,7 +107,7 @@ fn closed_on(game: &Game, stone: Option<Point>) -> Option<Proposal>
     ensures value { result ≡ closed_on game.now stone }
     ensures on_board { IfSome result (λ m. m.stone < point_count game.now.size) }
 {
-    closed_at(game, stone?)
+    closed_at(game, true, stone?)
 }
 
 /// The mark on the stone in a place, or on any.

@@ -1,11 +1,12 @@
 //! What is written where something is refused.
-ghost use Rattle.std.specs.Prelude.{◌≡◌, ◌++◌, ◌-◌, ◌^◌, ◌<◌, length, IfOk, OnOk};
+ghost use Rattle.std.specs.Prelude.{◌≡◌, ◌++◌, ◌+◌, ◌-◌, ◌^◌, ◌<◌, length, take, IfOk, MatchOption, OnOk, Some};
 ghost use Rattle.tt_game.specs.Problems.{problem_of};
-ghost use Rattle.tsumego_show.specs.Refusals.{fault_text, is_refused_with, length_text, meaning, needed, node_text, refusal_line, syntax_text};
+ghost use Rattle.tsumego_show.specs.Refusals.{at_node, fault_text, is_refused_with, last_of, length_text, meaning, named_fault, needed, refusal_line, syntax_text, why_text};
 
+use crate::faulty::put_look;
 use std::alloc::Global;
 use tt_game::{GameFault, problem};
-use tt_sgf::{Items, MainLine, NoMemory};
+use tt_sgf::{Items, MainLine, NoMemory, Node};
 
 /// The most nodes of a main line in which the refused one is named.
 const MOST_NODES: usize = 1000;
@@ -22,7 +23,7 @@ fn meaning(fault: GameFault) -> &'static [u8]
         GameFault::NotGo => b"GM is not 1, so this is no game of Go\n",
         GameFault::BadSize => b"SZ is no size: write a number from 1 to 19, or columns:rows\n",
         GameFault::BadValue =>
-            b"a value is no point of the board (two letters, column then row), or the value of PL is no colour\n",
+            b"a value is no point of the board, which is two letters, column then row; or that of PL is no colour\n",
         GameFault::PointTwice =>
             b"a point stands in two of AB, AW and AE: take it out of all but one\n",
         GameFault::MixedNode =>
@@ -69,41 +70,82 @@ fn is_refused_with(alloc: Global, line: &MainLine, code: u8) -> Result<bool, NoM
     }
 }
 
-/// How many of the first nodes are needed for the refusal.
-fn needed(alloc: Global, line: MainLine, code: u8) -> Result<usize, NoMemory>
-    ensures { IfOk result (λ n. n ≡ needed code line.nodes (length line.nodes)) }
+/// A refused node, and those in front of it.
+#[derive(Drop)]
+struct RefusedNode {
+    front: MainLine,
+    node: Node,
+}
+
+/// The node that is refused, and those in front of it, as many of the first nodes as are needed for the refusal.
+fn refused_node(alloc: Global, line: MainLine, code: u8) -> Result<Option<RefusedNode>, NoMemory>
+    ensures { IfOk result (λ r. MatchOption r (needed code line.nodes (length line.nodes) ≡ 0)
+        (λ x. (x.front.nodes ≡ take (needed code line.nodes (length line.nodes) - 1) line.nodes)
+        × (last_of (needed code line.nodes (length line.nodes)) line.nodes ≡ Some x.node)
+        × (needed code line.nodes (length line.nodes) ≡ length x.front.nodes + 1))) }
 {
     let mut nodes = line.nodes.into_vec();
-    loop {
-        let count = nodes.len();
-        if count == 0 {
-            return Ok(0);
-        }
-        nodes.truncate(count - 1);
-        let shorter = MainLine {
+    while let Some(node) = nodes.pop() {
+        let front = MainLine {
             nodes: Items::from_vec(nodes),
         };
-        if !is_refused_with(alloc, &shorter, code)? {
-            return Ok(count);
+        if !is_refused_with(alloc, &front, code)? {
+            return Ok(Some(RefusedNode { front, node }));
         }
-        nodes = shorter.nodes.into_vec();
+        nodes = front.nodes.into_vec();
     }
+    Ok(None)
 }
 
-/// Writes which node is refused behind the text, where one is, and the main line is not too long to look for it.
-fn put_node(alloc: Global, out: &mut Vec<u8>, line: MainLine, code: u8) -> Result<(), NoMemory>
-    ensures { OnOk result (out.new.items ≡ out.old.items ++ node_text code line.nodes) }
+/// Writes which node is refused and why, how to go on and what to look at behind the text.
+fn put_named(
+    alloc: Global,
+    out: &mut Vec<u8>,
+    fault: GameFault,
+    refused: &RefusedNode,
+) -> Result<(), NoMemory>
+    ensures { OnOk result (out.new.items ≡ out.old.items ++ named_fault fault (length refused.now.front.nodes + 1) refused.now.front.nodes refused.now.node) }
 {
-    if code == NO_TARGET || line.nodes.as_slice().len() > MOST_NODES {
-        return Ok(());
-    }
-    let number = needed(alloc, line, code)?;
+    let number = refused.front.nodes.as_slice().len() + 1;
     let text = format!(in alloc; "node {number}: ")?;
     out.extend_from_slice(text.as_bytes())?;
-    Ok(())
+    out.extend_from_slice(meaning(fault))?;
+    put_look(alloc, out, fault, &refused.front, &refused.node)
 }
 
-/// Writes that a main line is refused, at which node and why, and how to go on, behind the text.
+/// Writes why a main line is refused, and at which node where one is, behind the text.
+#[tactic(auto, using(crate::proofs::Refused::none_last))]
+fn put_at_node(
+    alloc: Global,
+    out: &mut Vec<u8>,
+    line: MainLine,
+    fault: GameFault,
+) -> Result<(), NoMemory>
+    ensures { OnOk result (out.new.items ≡ out.old.items ++ at_node fault line.nodes) }
+{
+    match refused_node(alloc, line, fault.code())? {
+        Some(refused) => put_named(alloc, out, fault, &refused),
+        None => Ok(out.extend_from_slice(meaning(fault))?),
+    }
+}
+
+/// Writes why a main line is refused, at which node where one is and the main line is not too long to look for it, and how to go
+/// on behind the text.
+fn put_why(
+    alloc: Global,
+    out: &mut Vec<u8>,
+    line: MainLine,
+    fault: GameFault,
+) -> Result<(), NoMemory>
+    ensures { OnOk result (out.new.items ≡ out.old.items ++ why_text fault line.nodes) }
+{
+    if fault.code() == NO_TARGET || line.nodes.as_slice().len() > MOST_NODES {
+        return Ok(out.extend_from_slice(meaning(fault))?);
+    }
+    put_at_node(alloc, out, line, fault)
+}
+
+/// Writes that a main line is refused, at which node and why, how to go on and what to look at, behind the text.
 pub fn put_fault(
     alloc: Global,
     out: &mut Vec<u8>,
@@ -115,9 +157,7 @@ pub fn put_fault(
 {
     put_refusal(alloc, out, number, fault.code())?;
     out.extend_from_slice(b"why: ")?;
-    put_node(alloc, out, line, fault.code())?;
-    out.extend_from_slice(meaning(fault))?;
-    Ok(())
+    put_why(alloc, out, line, fault)
 }
 
 /// Writes that no game tree can be read behind so many bytes behind the text.

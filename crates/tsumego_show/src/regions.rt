@@ -1,7 +1,7 @@
 //! The region that is proposed for the chain of a stone.
 ghost use Rattle.std.specs.Prelude.{◌≡◌, ◌<◌};
 ghost use Rattle.tt_sgf.specs.Sizes.{point_count};
-ghost use Rattle.tsumego_show.specs.Regions.{around, chain, empties, inside, is_closed, is_near, near, reached, reached_in, region, stones, untaken, wall};
+ghost use Rattle.tsumego_show.specs.Regions.{around, chain, empties, inside, is_closed, is_inner, is_near, near, reached, reached_in, region, stones, untaken, wall, ways_out};
 
 use crate::points::{has, point_numbered};
 use tt_board::{Board, Colour};
@@ -155,18 +155,23 @@ pub struct Squares {
     pub points: PointSet,
     /// Whether there is a wall, and the region has some points and not too many.
     pub closed: bool,
+    /// Whether no more empty points are in the region than outside.
+    pub inner: bool,
 }
 
 /// The region of the chain of a stone of this colour: the points inside its wall but the chain's own.
-#[tactic(auto, unfolding(crate::specs::Regions::region, crate::specs::Regions::is_closed))]
+#[tactic(auto, unfolding(crate::specs::Regions::region, crate::specs::Regions::is_closed, crate::specs::Regions::is_inner))]
 pub fn region(board: &Board, colour: Colour, stone: Point) -> Squares
     ensures points { result.points ≡ region board.now.size board.now.points colour stone }
     ensures closed { result.closed ≡ is_closed board.now.size board.now.points colour stone }
+    ensures inner { result.inner ≡ is_inner board.now.size board.now.points colour stone }
 {
     let wall = wall(board, colour, stone);
     let points = inside(board.size(), stone, &wall).minus(&chain(board, colour, stone));
     let count = points.count();
+    let free = empties(board);
     Squares {
+        inner: points.and(&free).count() <= free.minus(&points).count(),
         closed: 0 < wall.count() && 1 < count && count <= MOST_SQUARES,
         points,
     }
@@ -180,4 +185,16 @@ pub fn around(board: &Board, colour: Colour, stone: Point) -> PointSet
     let size = board.size();
     let free = PointSet::whole(size).minus(&stones(board, colour.other()));
     empties(board).and(&reached_in(size, &free, STEPS, chain(board, colour, stone)))
+}
+
+/// Those beside the chain from which empty points lead further.
+#[tactic(auto, unfolding(crate::specs::Regions::ways_out))]
+pub fn ways_out(board: &Board, colour: Colour, stone: Point) -> PointSet
+    ensures { result ≡ ways_out board.now.size board.now.points colour stone }
+{
+    let size = board.size();
+    let free = empties(board);
+    let here = around(board, colour, stone);
+    let leading = reached(size, &free, free.minus(&here));
+    near(size, &chain(board, colour, stone)).and(&here.and(&leading))
 }

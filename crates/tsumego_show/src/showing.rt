@@ -1,18 +1,18 @@
 //! The text for an input.
-ghost use Rattle.std.specs.Prelude.{◌≡◌, ◌++◌, if◌then◌else◌, ℕ, List, IfOk, OnOk, Ok, Option};
+ghost use Rattle.std.specs.Prelude.{◌≡◌, ◌++◌, if◌then◌else◌, ℕ, List, [], true, IfOk, OnOk};
 ghost use Rattle.tt_game.specs.Problems.{problem_of};
-ghost use Rattle.tsumego_show.specs.declared.form.Place.{Place};
-ghost use Rattle.tsumego_show.specs.declared.form.Form.TheVariants.{Diagram, Marks, Picture, Variations};
-ghost use Rattle.tsumego_show.specs.Shown.{DrawsBehind, IsProblemText, IsShown, IsTreeText, fault_told, is_fault_left, is_tree_refused, problem_text};
+ghost use Rattle.tsumego_show.specs.declared.form.Form.TheVariants.{Picture, Variations};
+ghost use Rattle.tsumego_show.specs.Shown.{DrawsBehind, IsDiagram, IsProblemText, IsShown, IsTreeText, fault_told, is_alone, is_fault_left, is_one_of_several, is_tree_refused, problem_text, several_line};
 
 use crate::diagram::put_svg;
 use crate::drawing::put_certificate;
 use crate::form::Form;
 use crate::found::find;
 use crate::hints::put_hints;
-use crate::marking::{put_line, put_marked};
+use crate::marking::put_line;
 use crate::picture::put_picture;
 use crate::refusals::{put_fault, put_length, put_syntax};
+use crate::trees::{has_none, put_kept};
 use crate::variations::put_sgf;
 use std::alloc::Global;
 use tt_game::{GameFault, Line, problem};
@@ -35,7 +35,7 @@ fn put_problem(alloc: Global, out: &mut Vec<u8>, number: usize, line: &Line) -> 
     let text = format!(in alloc; "{number} ")?;
     out.extend_from_slice(text.as_bytes())?;
     put_picture(alloc, out, line)?;
-    put_hints(out, line)
+    put_hints(alloc, out, line)
 }
 
 /// Writes a problem, and the strategy behind it, behind the text.
@@ -46,27 +46,52 @@ fn put_drawn(
     line: &Line,
     behind: &[u8],
 ) -> Result<(), NoMemory>
-    ensures { OnOk result ((text : List ℕ) × IsProblemText Picture number line.now behind.now text × (out.new.items ≡ out.old.items ++ text)) }
+    ensures { OnOk result ((text : List ℕ) × IsProblemText Picture number [] line.now behind.now text × (out.new.items ≡ out.old.items ++ text)) }
 {
     put_problem(alloc, out, number, line)?;
     put_behind(alloc, out, line, behind)
 }
 
+/// Whether this is the only problem of an input.
+fn is_alone(number: usize, behind: &[u8]) -> bool
+    ensures { result ≡ is_alone number behind.now }
+{
+    number == 1 && has_none(behind)
+}
+
+/// Writes that a problem isn't drawn behind the text.
+fn put_several(alloc: Global, out: &mut Vec<u8>, number: usize) -> Result<(), NoMemory>
+    ensures { OnOk result (out.new.items ≡ out.old.items ++ several_line number) }
+{
+    let text = format!(in alloc; "{number} not drawn: give each problem a file of its own\n")?;
+    out.extend_from_slice(text.as_bytes())?;
+    Ok(())
+}
+
 /// Writes a problem, with the first turn of the strategy behind it, as a diagram behind the text.
-fn put_diagram(alloc: Global, out: &mut Vec<u8>, line: &Line, behind: &[u8]) -> Result<(), NoMemory>
-    ensures { (k : ℕ) → OnOk result ((text : List ℕ) × IsProblemText Diagram k line.now behind.now text
+fn put_alone(alloc: Global, out: &mut Vec<u8>, line: &Line, behind: &[u8]) -> Result<(), NoMemory>
+    ensures { (k : ℕ) → OnOk result ((text : List ℕ) × IsDiagram true k line.now behind.now text
         × (out.new.items ≡ out.old.items ++ text)) }
 {
     let found = find(alloc, line.frame().size, behind)?;
     put_svg(alloc, out, line, &found)
 }
 
-/// Writes a problem with its marks behind the text.
-fn put_marks(alloc: Global, out: &mut Vec<u8>, line: &Line) -> Result<(), NoMemory>
-    ensures { (place : Option Place) (k : ℕ) (behind : List ℕ) → OnOk result ((text : List ℕ) × IsProblemText (Marks place) k line.now behind text
+/// Writes the diagram of a problem behind the text, or that it isn't drawn.
+fn put_diagram(
+    alloc: Global,
+    out: &mut Vec<u8>,
+    number: usize,
+    line: &Line,
+    behind: &[u8],
+) -> Result<(), NoMemory>
+    ensures { OnOk result ((text : List ℕ) × IsDiagram (is_alone number behind.now) number line.now behind.now text
         × (out.new.items ≡ out.old.items ++ text)) }
 {
-    put_marked(alloc, out, line)
+    if is_alone(number, behind) {
+        return put_alone(alloc, out, line, behind);
+    }
+    put_several(alloc, out, number)
 }
 
 /// Writes a problem, with the strategy behind it as variations to so many turns, as a game tree behind the text.
@@ -77,7 +102,7 @@ fn put_variations(
     behind: &[u8],
     depth: usize,
 ) -> Result<(), NoMemory>
-    ensures { (k : ℕ) → OnOk result ((text : List ℕ) × IsProblemText (Variations depth) k line.old behind.now text
+    ensures { (k : ℕ) (tree : List ℕ) → OnOk result ((text : List ℕ) × IsProblemText (Variations depth) k tree line.old behind.now text
         × (out.new.items ≡ out.old.items ++ text)) }
 {
     let found = find(alloc, line.frame().size, behind)?;
@@ -90,16 +115,17 @@ fn put_whole(
     out: &mut Vec<u8>,
     form: Form,
     number: usize,
+    tree: &[u8],
     line: &mut Line,
     behind: &[u8],
 ) -> Result<(), NoMemory>
-    ensures { OnOk result ((text : List ℕ) × IsProblemText form number line.old behind.now text × (out.new.items ≡ out.old.items ++ text)) }
+    ensures { OnOk result ((text : List ℕ) × IsProblemText form number tree.now line.old behind.now text × (out.new.items ≡ out.old.items ++ text)) }
 {
     match form {
         Form::Picture => put_drawn(alloc, out, number, line, behind),
-        Form::Diagram => put_diagram(alloc, out, line, behind),
+        Form::Diagram => put_diagram(alloc, out, number, line, behind),
         Form::Variations(depth) => put_variations(alloc, out, line, behind, depth),
-        Form::Marks(_) => put_marks(alloc, out, line),
+        Form::Marks(_) => put_kept(out, tree),
     }
 }
 
@@ -109,18 +135,29 @@ fn put_untold(
     out: &mut Vec<u8>,
     form: Form,
     number: usize,
+    tree: &[u8],
     main: MainLine,
     fault: GameFault,
 ) -> Result<bool, NoMemory>
-    ensures text { OnOk result (out.new.items ≡ out.old.items ++ fault_told form number main.nodes fault) }
+    ensures text { OnOk result (out.new.items ≡ out.old.items ++ fault_told form number tree.now main.nodes fault) }
     ensures refused { IfOk result (λ refused. refused ≡ is_fault_left form main.nodes fault) }
 {
     match form {
-        Form::Marks(place) => put_line(alloc, out, place, number, main, fault),
+        Form::Marks(place) => put_line(alloc, out, place, number, main, tree, fault),
         Form::Picture | Form::Diagram | Form::Variations(_) => {
             put_fault(alloc, out, number, main, fault)?;
             Ok(true)
         }
+    }
+}
+
+/// Whether a problem isn't drawn, since there are several.
+fn is_one_of_several(form: Form, number: usize, behind: &[u8]) -> bool
+    ensures { result ≡ is_one_of_several form number behind.now }
+{
+    match form {
+        Form::Diagram => !is_alone(number, behind),
+        Form::Picture | Form::Variations(_) | Form::Marks(_) => false,
     }
 }
 
@@ -130,20 +167,21 @@ fn put_tree(
     out: &mut Vec<u8>,
     form: Form,
     number: usize,
+    tree: &[u8],
     main: MainLine,
     behind: &[u8],
 ) -> Result<bool, NoMemory>
-    ensures text { OnOk result ((text : List ℕ) × IsTreeText form number main.nodes (problem_of main.nodes) behind.now text
+    ensures text { OnOk result ((text : List ℕ) × IsTreeText form number tree.now main.nodes (problem_of main.nodes) behind.now text
         × (out.new.items ≡ out.old.items ++ text)) }
-    ensures refused { IfOk result (λ refused. refused ≡ is_tree_refused form main.nodes (problem_of main.nodes)) }
+    ensures refused { IfOk result (λ refused. refused ≡ is_tree_refused form number main.nodes (problem_of main.nodes) behind.now) }
 {
     match problem(alloc, &main) {
         Ok(mut line) => {
-            put_whole(alloc, out, form, number, &mut line, behind)?;
-            Ok(false)
+            put_whole(alloc, out, form, number, tree, &mut line, behind)?;
+            Ok(is_one_of_several(form, number, behind))
         }
         Err(GameFault::NoMemory) => Err(NoMemory),
-        Err(fault) => put_untold(alloc, out, form, number, main, fault),
+        Err(fault) => put_untold(alloc, out, form, number, tree, main, fault),
     }
 }
 
@@ -165,8 +203,9 @@ pub fn show(alloc: Global, form: Form, input: &[u8]) -> Result<(Vec<u8>, u8), No
     while number == 1 || has_tree(rest) {
         match read_tree(alloc, rest) {
             Ok((main, used)) => {
+                let tree = &rest[..used];
                 rest = &rest[used..];
-                refused |= put_tree(alloc, &mut out, form, number, main, rest)?;
+                refused |= put_tree(alloc, &mut out, form, number, tree, main, rest)?;
                 number += 1;
             }
             Err(SgfFault::Syntax) => {

@@ -114,7 +114,7 @@ fn put_values(out: &mut Vec<u8>, line: &Line, points: PointList) -> Result<(), N
 }
 
 /// Writes a list of points behind the text, where it has one.
-fn put_list(
+pub fn put_list(
     alloc: Global,
     out: &mut Vec<u8>,
     line: &Line,

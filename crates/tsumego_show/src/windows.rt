@@ -2,9 +2,10 @@
 ghost use Rattle.std.specs.Prelude.{◌≡◌, ◌+◌, ◌-◌, ◌*◌, ◌<◌, ◌≤◌};
 ghost use Rattle.tt_sgf.specs.Sizes.{point_count};
 ghost use Rattle.tsumego_show.specs.inside.Windows.{IsWindow};
-ghost use Rattle.tsumego_show.specs.Diagram.{column_matters, count_along, first_shown, greatest, last_shown, least_from, matters, matters_along, row_matters, window};
+ghost use Rattle.tsumego_show.specs.Diagram.{column_matters, count_along, first_shown, greatest, is_beside, last_shown, least_from, matters, matters_along, row_matters, window};
 
-use crate::points::{is_inside, is_target};
+use crate::points::{has, is_inside, is_target, point_numbered};
+use crate::regions::near;
 use tt_game::Line;
 use tt_sgf::Size;
 
@@ -34,14 +35,24 @@ pub fn number_at(size: Size, row: usize, column: usize) -> usize
     row * usize::from(size.columns()) + column
 }
 
-/// Whether a point is a target or one of the region.
+/// Whether a stone on the point of this number is beside the region.
+fn is_beside(line: &Line, number: usize) -> bool
+    requires { number < point_count line.now.frame.size }
+    ensures { result ≡ is_beside line.now number }
+{
+    let size = line.frame().size;
+    line.present().at(point_numbered(size, number)).is_some()
+        && has(size, &near(size, &line.frame().region), number)
+}
+
+/// Whether a point is a target, or one of the region, or has a stone beside the region.
 fn matters(line: &Line, row: usize, column: usize) -> bool
     requires row { row < line.now.frame.size.rows }
     requires column { column < line.now.frame.size.columns }
     ensures { result ≡ matters line.now (row * line.now.frame.size.columns + column) }
 {
     let number = number_at(line.frame().size, row, column);
-    is_target(line, number) || is_inside(line, number)
+    is_target(line, number) || is_inside(line, number) || is_beside(line, number)
 }
 
 /// Whether such a point lies in a column.
@@ -131,7 +142,7 @@ fn first_shown(line: &Line, along: Along) -> usize
     ensures value { result ≡ first_shown (matters_along line.now along) (count_along line.now.frame.size along) }
     ensures bound { result < count_along line.now.frame.size along }
 {
-    least(line, along).saturating_sub(2)
+    least(line, along).saturating_sub(1)
 }
 
 /// The last column or row that is drawn.
@@ -141,7 +152,7 @@ fn last_shown(line: &Line, along: Along) -> usize
     ensures bound { result < count_along line.now.frame.size along }
 {
     let last = count(line.frame().size, along) - 1;
-    let wide = (greatest(line, along) + 2).min(last);
+    let wide = (greatest(line, along) + 1).min(last);
     first_shown(line, along).max(wide)
 }
 

@@ -1,11 +1,12 @@
-use Rattle.std.proofs.Common.{None}
+use Rattle.tsumego_show.proofs.FoundDrawn.{kept_drawn}
 use Rattle.tsumego_show.proofs.showing.put_whole.Goals as goal
 
 pub returns-in-Diagram : goal.returns-in-Diagram
-returns-in-Diagram c = rw c.in-Diagram.is (c.put_diagram.ensures c.args.number)
+returns-in-Diagram c = rw c.in-Diagram.is c.put_diagram.ensures
 
 pub returns-in-Marks : goal.returns-in-Marks
-returns-in-Marks c = rw c.in-Marks.is (c.put_marks.ensures None c.args.number c.args.behind.now)
+returns-in-Marks c =
+    rw c.in-Marks.is (kept_drawn c.put_kept.result c.args.tree.now c.args.line.now c.args.out.now.items c.put_kept.new.out.items c.put_kept.ensures c.in-Marks.field-0 c.args.number c.args.behind.now)
 
 pub returns-in-Variations : goal.returns-in-Variations
-returns-in-Variations c = rw c.in-Variations.is (c.put_variations.ensures c.args.number)
+returns-in-Variations c = rw c.in-Variations.is (c.put_variations.ensures c.args.number c.args.tree.now)

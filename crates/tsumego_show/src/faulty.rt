@@ -1,0 +1,324 @@
+//! What to look at in a node that is refused.
+ghost use Rattle.std.specs.Prelude.{◌≡◌, ◌++◌, ℕ, List, [], IfOk, MatchOption, OnOk, None, Some};
+ghost use Rattle.std.specs.List.{list_all};
+ghost use Rattle.tt_board.specs.declared.Colour.TheVariants.{Black, White};
+ghost use Rattle.tt_game.specs.Problems.{game_of};
+ghost use Rattle.tsumego_show.specs.Faulty.{are_known, bad_in, bad_move, blacks_behind, first_bad, first_size, first_values, head, is_plain, is_setup_fault, list_line, look_line, moved_on, mover_line};
+ghost use Rattle.tsumego_show.specs.Faulty.{plain_value, points_at_fault, points_in, points_line, set_up_twice, stones_before, vacant, value_line, value_or, whites_behind, without_liberty};
+
+use crate::hints::put_listed;
+use crate::properties::{asked_count, first_values, has_move};
+use crate::regions::{near, reached, stones};
+use std::alloc::Global;
+use tt_board::Colour;
+use tt_game::{GameFault, asked_game};
+use tt_sgf::{MainLine, NoMemory, Node, PointSet, Size, SmallBytes, board_size, point, point_set};
+
+/// The longest value that is written as it is.
+const MOST_BYTES: usize = 20;
+
+/// Stones of both colours.
+#[derive(Drop)]
+pub struct Stones {
+    pub blacks: PointSet,
+    pub whites: PointSet,
+}
+
+/// What the first property of this name names, where all of its values are read.
+#[tactic(auto, unfolding(crate::specs::Faulty::points_in))]
+fn points_in(size: Size, node: &Node, name: &[u8]) -> PointSet
+    ensures { result ≡ points_in size node.now name.now }
+{
+    match point_set(first_values(node.properties.as_slice(), name), size) {
+        Ok(points) => points,
+        Err(_) => PointSet::empty(),
+    }
+}
+
+/// What stands in two of AB, AW and AE.
+#[tactic(auto, unfolding(crate::specs::Faulty::set_up_twice))]
+fn set_up_twice(size: Size, node: &Node) -> PointSet
+    ensures { result ≡ set_up_twice size node.now }
+{
+    let blacks = points_in(size, node, b"AB");
+    let whites = points_in(size, node, b"AW");
+    let cleared = blacks.or(&whites).and(&points_in(size, node, b"AE"));
+    blacks.and(&whites).or(&cleared)
+}
+
+/// Where the move is.
+#[tactic(auto, unfolding(crate::specs::Faulty::moved_on))]
+fn moved_on(size: Size, node: &Node) -> PointSet
+    ensures { result ≡ moved_on size node.now }
+{
+    points_in(size, node, b"B").or(&points_in(size, node, b"W"))
+}
+
+/// The stones behind a setup, which are put over those before.
+#[tactic(auto, unfolding(crate::specs::Faulty::blacks_behind, crate::specs::Faulty::whites_behind))]
+fn behind(size: Size, node: &Node, before: &Stones) -> Stones
+    ensures blacks { result.blacks ≡ blacks_behind size node.now before.now.blacks }
+    ensures whites { result.whites ≡ whites_behind size node.now before.now.whites }
+{
+    let blacks = points_in(size, node, b"AB");
+    let whites = points_in(size, node, b"AW");
+    let cleared = points_in(size, node, b"AE");
+    Stones {
+        blacks: blacks.or(&before.blacks.minus(&whites.or(&cleared))),
+        whites: whites.or(&before.whites.minus(&blacks.or(&cleared))),
+    }
+}
+
+/// The points without a stone.
+#[tactic(auto, unfolding(crate::specs::Faulty::vacant))]
+fn vacant(size: Size, on: &Stones) -> PointSet
+    ensures { result ≡ vacant size on.now.blacks on.now.whites }
+{
+    PointSet::whole(size).minus(&on.blacks.or(&on.whites))
+}
+
+/// The chains of these stones that have no liberty.
+#[tactic(auto, unfolding(crate::specs::Faulty::without_liberty))]
+fn without_liberty(size: Size, on: &Stones, some: &PointSet) -> PointSet
+    ensures { result ≡ without_liberty size on.now.blacks on.now.whites some.now }
+{
+    let free = some.and(&near(size, &vacant(size, on)));
+    some.minus(&reached(size, some, free))
+}
+
+/// What is wrong in a node, with these stones behind its setup.
+fn points_at_fault(size: Size, fault: GameFault, node: &Node, on: &Stones) -> PointSet
+    ensures { result ≡ points_at_fault size fault node.now on.now.blacks on.now.whites }
+{
+    match fault {
+        GameFault::PointTwice => set_up_twice(size, node),
+        GameFault::LifelessStone => {
+            without_liberty(size, on, &on.blacks).or(&without_liberty(size, on, &on.whites))
+        }
+        GameFault::OccupiedPoint | GameFault::RepeatedBoard | GameFault::AfterEnd => {
+            moved_on(size, node)
+        }
+        GameFault::EmptyTarget => points_in(size, node, b"TR").and(&vacant(size, on)),
+        GameFault::MixedTargets => points_in(size, node, b"TR").and(&on.whites),
+        GameFault::NotGo
+        | GameFault::BadSize
+        | GameFault::BadValue
+        | GameFault::MixedNode
+        | GameFault::TooManyTurns
+        | GameFault::NoTarget
+        | GameFault::NoMemory => PointSet::empty(),
+    }
+}
+
+/// The stones of the game in front of a solution; none where there is no game.
+fn stones_before(alloc: Global, front: &MainLine) -> Result<Stones, NoMemory>
+    ensures { IfOk result (λ s. (s.blacks ≡ stones_before Black (game_of front.now.nodes)) × (s.whites ≡ stones_before White (game_of front.now.nodes))) }
+{
+    match asked_game(alloc, front) {
+        Ok(game) => Ok(Stones {
+            blacks: stones(game.present(), Colour::Black),
+            whites: stones(game.present(), Colour::White),
+        }),
+        Err(GameFault::NoMemory) => Err(NoMemory),
+        Err(_) => Ok(Stones {
+            blacks: PointSet::empty(),
+            whites: PointSet::empty(),
+        }),
+    }
+}
+
+/// Whether the fault is one of stones.
+fn is_setup_fault(fault: GameFault) -> bool
+    ensures { result ≡ is_setup_fault fault }
+{
+    fault.code() == 15 || fault.code() == 22 || fault.code() == 23
+}
+
+/// Whether the stones behind a node are known.
+fn are_known(front: &MainLine, node: &Node) -> bool
+    ensures { result ≡ are_known front.now.nodes node.now }
+{
+    let nodes = front.nodes.as_slice();
+    asked_count(nodes) == nodes.len() && !has_move(node)
+}
+
+/// Writes the points to look at behind the text.
+fn put_points(
+    alloc: Global,
+    out: &mut Vec<u8>,
+    fault: GameFault,
+    size: Size,
+    front: &MainLine,
+    node: &Node,
+) -> Result<(), NoMemory>
+    ensures { OnOk result (out.new.items ≡ out.old.items ++ points_line fault size front.now.nodes node.now) }
+{
+    if is_setup_fault(fault) && !are_known(front, node) {
+        return Ok(());
+    }
+    let on = behind(size, node, &stones_before(alloc, front)?);
+    let points = points_at_fault(size, fault, node, &on);
+    put_listed(alloc, out, size, b"look at:", &points)
+}
+
+/// The first value that names no point or rectangle.
+#[tactic(auto, using(crate::proofs::Nodes::bad_none, crate::proofs::Nodes::bad_here, crate::proofs::Nodes::bad_behind))]
+fn first_bad(size: Size, values: &[SmallBytes]) -> Option<&[u8]>
+    ensures { MatchOption result (first_bad size values.now ≡ None) (λ v. first_bad size values.now ≡ Some v.now) }
+{
+    let mut rest = values;
+    while let Some((value, behind)) = rest.split_first() {
+        if point_set(std::slice::from_ref(value), size).is_err() {
+            return Some(value.as_slice());
+        }
+        rest = behind;
+    }
+    None
+}
+
+/// The first value, where it is neither a point nor a pass.
+fn bad_move(size: Size, values: &[SmallBytes]) -> Option<&[u8]>
+    ensures { MatchOption result (bad_move size values.now ≡ None) (λ v. bad_move size values.now ≡ Some v.now) }
+{
+    let (value, _) = values.split_first()?;
+    match point(value.as_slice(), size) {
+        Some(_) => None,
+        None => Some(value.as_slice()),
+    }
+}
+
+/// The first value.
+fn head(values: &[SmallBytes]) -> Option<&[u8]>
+    ensures { MatchOption result (head values.now ≡ None) (λ v. head values.now ≡ Some v.now) }
+{
+    let (value, _) = values.split_first()?;
+    Some(value.as_slice())
+}
+
+/// Whether all bytes are from * to ~.
+#[tactic(auto, using(crate::proofs::Nodes::plain_none, crate::proofs::Nodes::plain_no, crate::proofs::Nodes::plain_yes))]
+fn are_plain(value: &[u8]) -> bool
+    ensures { result ≡ list_all is_plain value.now }
+{
+    let mut rest = value;
+    while let Some((byte, behind)) = rest.split_first() {
+        if *byte < 42 || 126 < *byte {
+            return false;
+        }
+        rest = behind;
+    }
+    true
+}
+
+/// A value; dots for a long one, and for one with other bytes.
+#[tactic(auto, unfolding(crate::specs::Faulty::plain_value))]
+fn plain_value(value: &[u8]) -> &[u8]
+    ensures { result.now ≡ plain_value value.now }
+{
+    if value.len() <= MOST_BYTES && are_plain(value) {
+        value
+    } else {
+        b".."
+    }
+}
+
+/// Writes a property with its value behind the text.
+fn put_value(out: &mut Vec<u8>, name: &[u8], value: &[u8]) -> Result<(), NoMemory>
+    ensures { (other : List ℕ) → OnOk result (out.new.items ≡ out.old.items ++ value_or name.now (Some value.now) other) }
+{
+    out.extend_from_slice(b"look at: ")?;
+    out.extend_from_slice(name)?;
+    out.push(b'[')?;
+    out.extend_from_slice(plain_value(value))?;
+    out.extend_from_slice(b"]\n")?;
+    Ok(())
+}
+
+/// The first value of a property that names no point or rectangle.
+fn bad_in<'a>(size: Size, node: &'a Node, name: &[u8]) -> Option<&'a [u8]>
+    ensures { MatchOption result (bad_in size node.now name.now ≡ None) (λ v. bad_in size node.now name.now ≡ Some v.now) }
+{
+    first_bad(size, first_values(node.properties.as_slice(), name))
+}
+
+/// A property with a list of points, and a value of it that names none.
+fn bad_list(size: Size, node: &Node) -> Option<(&'static [u8], &[u8])>
+    ensures { (other : List ℕ) → MatchOption result (list_line size node.now other ≡ other) (λ r. list_line size node.now other ≡ value_or r.0.now (Some r.1.now) other) }
+{
+    if let Some(value) = bad_in(size, node, b"AB") {
+        return Some((b"AB", value));
+    }
+    if let Some(value) = bad_in(size, node, b"AW") {
+        return Some((b"AW", value));
+    }
+    if let Some(value) = bad_in(size, node, b"AE") {
+        return Some((b"AE", value));
+    }
+    if let Some(value) = bad_in(size, node, b"TR") {
+        return Some((b"TR", value));
+    }
+    Some((b"SQ", bad_in(size, node, b"SQ")?))
+}
+
+/// A move, and its value that is neither a point nor a pass; or who moves, by a value that may be no colour.
+fn bad_mover(size: Size, node: &Node) -> Option<(&'static [u8], &[u8])>
+    ensures { MatchOption result (mover_line size node.now ≡ []) (λ r. mover_line size node.now ≡ value_or r.0.now (Some r.1.now) []) }
+{
+    let properties = node.properties.as_slice();
+    if let Some(value) = bad_move(size, first_values(properties, b"B")) {
+        return Some((b"B", value));
+    }
+    if let Some(value) = bad_move(size, first_values(properties, b"W")) {
+        return Some((b"W", value));
+    }
+    Some((b"PL", head(first_values(properties, b"PL"))?))
+}
+
+/// Writes the value to look at behind the text.
+#[tactic(auto, unfolding(crate::specs::Faulty::value_line))]
+fn put_bad_value(out: &mut Vec<u8>, size: Size, node: &Node) -> Result<(), NoMemory>
+    ensures { OnOk result (out.new.items ≡ out.old.items ++ value_line size node.now) }
+{
+    if let Some((name, value)) = bad_list(size, node) {
+        return put_value(out, name, value);
+    }
+    match bad_mover(size, node) {
+        Some((name, value)) => put_value(out, name, value),
+        None => Ok(()),
+    }
+}
+
+/// The size of the board, by the first node.
+fn first_size(front: &MainLine, node: &Node) -> Option<Size>
+    ensures { result ≡ first_size front.now.nodes node.now }
+{
+    let first = match front.nodes.as_slice().split_first() {
+        Some((first, _)) => first,
+        None => node,
+    };
+    match first_values(first.properties.as_slice(), b"SZ").split_first() {
+        Some((value, _)) => board_size(value.as_slice()),
+        None => Size::new(19, 19),
+    }
+}
+
+/// Writes what to look at in a node that is refused so behind the text; those nodes stand in front.
+pub fn put_look(
+    alloc: Global,
+    out: &mut Vec<u8>,
+    fault: GameFault,
+    front: &MainLine,
+    node: &Node,
+) -> Result<(), NoMemory>
+    ensures { OnOk result (out.new.items ≡ out.old.items ++ look_line fault front.now.nodes node.now) }
+{
+    match first_size(front, node) {
+        Some(size) => {
+            if fault.code() == 12 {
+                return put_bad_value(out, size, node);
+            }
+            put_points(alloc, out, fault, size, front, node)
+        }
+        None => Ok(()),
+    }
+}
