@@ -2,6 +2,8 @@
 #![tactic(auto)]
 
 mod arguments;
+mod certificates;
+mod depths;
 mod diagram;
 mod drawing;
 mod form;
@@ -17,6 +19,7 @@ mod refusals;
 mod regions;
 mod running;
 mod showing;
+mod unfolding;
 mod variations;
 mod windows;
 
