@@ -8,7 +8,7 @@ use Rattle.tsumego_show.specs.Diagram.{svg_text}
 use Rattle.tsumego_show.specs.Found.{Found, StandsBehind}
 use Rattle.tsumego_show.specs.declared.form.Place.{Place}
 use Rattle.tsumego_show.specs.Shown.{IsDiagram, IsProblemText, several_line}
-use Rattle.tsumego_show.specs.Trees.{kept_text}
+use Rattle.tsumego_show.specs.TreeBytes.{kept_text}
 use Rattle.tsumego_show.specs.Variations.{sgf_text}
 
 pub found_drawn : {A E : Type 0} (r : Result A E) (p : Standing) (f : Frame) (behind old new : List ℕ) (b : Found) → f ≡ p.frame → StandsBehind f.size behind b

@@ -1,4 +1,6 @@
 pub mod FirstLines
+pub mod EntryLines
+pub mod SpareTurns
 pub mod Limit
 pub mod Looked
 pub mod Nodes
@@ -8,6 +10,8 @@ pub mod FirstTurn
 pub mod Sets
 pub mod Texts
 pub mod Told
+pub mod NamedTrees
+pub mod Readings
 pub mod FoundDrawn
 pub mod LegalTurns
 pub mod FirstAndLast

@@ -14,9 +14,9 @@ use Rattle.tt_sgf.specs.Points.{passing}
 use Rattle.tt_board.specs.Play.{Points}
 use Rattle.tt_game.specs.Nodes.{moves_in, some_value, values_of}
 use Rattle.tt_game.specs.Problems.{asked_count, puts_stones}
-use Rattle.tsumego_show.specs.declared.trees.Spot.{Spot}
+use Rattle.tsumego_show.specs.declared.tree_bytes.Spot.{Spot}
 use Rattle.tsumego_show.specs.Faulty.{first_bad, first_values, is_plain}
-use Rattle.tsumego_show.specs.Trees.{begins_node, behind_semicolon, from_open, next_spot}
+use Rattle.tsumego_show.specs.TreeBytes.{begins_node, behind_semicolon, from_open, next_spot}
 
 -- ---- the values of the first property of a name
 

@@ -1,5 +1,5 @@
 -- An input has one text and one status.
-use Rattle.std.proofs.Common.{◌≡◌, ℕ, Bool, true, false, List, ◌++◌, ◌||◌, ◌+◌, inl, inr, Ok, Err, refl, sym, ap, ap₂, ◌∙◌, drop, take, length, arith, subst, if◌then◌else◌}
+use Rattle.std.proofs.Common.{◌≡◌, ℕ, Bool, true, false, List, [], ◌++◌, ◌||◌, ◌+◌, inl, inr, Ok, Err, refl, sym, ap, ap₂, ◌∙◌, drop, take, length, arith, subst, if◌then◌else◌}
 use Rattle.std.specs.declared.result.Result.{Result}
 use Rattle.tt_sgf.specs.Grammar.{GameTree, main_line, OneSpelling}
 use Rattle.tt_sgf.specs.declared.nodes.Node.{Node}
@@ -9,7 +9,8 @@ use Rattle.tt_game.specs.declared.faults.GameFault.{GameFault}
 use Rattle.tt_game.specs.declared.frame.Side.{Side}
 use Rattle.tt_game.specs.Line.{Standing}
 use Rattle.tt_game.specs.Problems.{problem_of}
-use Rattle.tt_proof.specs.StrategyLaws.{OneCertificate}
+use Rattle.tt_proof.specs.OutlineLaws.{OneSharedCertificate}
+use Rattle.tt_proof.specs.Outlines.{unfolded}
 use Rattle.tt_proof.specs.Strategy.{Strategy}
 use Rattle.tsumego_show.proofs.FirstTurn.{turn_same}
 use Rattle.tsumego_show.specs.Drawing.{DrawsCertificate, DrawsFirst, begins, begins_none, deep_drawn, drawn, none_drawn, strategy_text, turned_text}
@@ -18,10 +19,14 @@ use Rattle.tsumego_show.specs.declared.form.Form.{Form}
 use Rattle.tsumego_show.specs.declared.form.Form.TheVariants.{Picture, Diagram, Marks, Variations}
 use Rattle.tsumego_show.specs.Diagram.{svg_text}
 use Rattle.tsumego_show.specs.Variations.{sgf_text}
-use Rattle.tsumego_show.specs.Found.{Found, StandsBehind, no_strategy, found}
+use Rattle.tsumego_show.specs.Found.{Found, IsCertificateFor, StandsBehind, no_strategy, found}
 use Rattle.tsumego_show.specs.Shown.{DrawsBehind, IsDiagram, IsShown, IsInputText, IsProblemText, IsTreeText, Tells, ended, is_alone, is_tree_refused, last_tree, more_trees, problem_text, stopped, too_long, tree, trees}
 
-module _ (one : OneCertificate) where
+module _ (one : OneSharedCertificate) where
+  -- a certificate is that of one side and strategy
+  stands_same : (size : Size) (bytes : List ℕ) (a b : Side) (u v : Strategy) → IsCertificateFor size bytes a u → IsCertificateFor size bytes b v → (a ≡ b) × (u ≡ v)
+  stands_same size bytes a b u v x y = let same = one size bytes a b x.0 y.0 x.1 y.1 in (same.0, sym x.2 ∙ ap (unfolded []) same.1 ∙ y.2)
+
   -- a strategy has one text of its first turn
   first_same : (p : Standing) (side : Side) (u : Strategy) (s t : List ℕ) → DrawsFirst p side u s → DrawsFirst p side u t → s ≡ t
   first_same p side u s t (begins a x) (begins b y) = ap (turned_text p) (turn_same a b (sym x.0 ∙ y.0))
@@ -32,7 +37,7 @@ module _ (one : OneCertificate) where
   -- bytes behind a problem have one drawing
   drawn_same : (p : Standing) (bytes s t : List ℕ) → DrawsCertificate p bytes s → DrawsCertificate p bytes t → s ≡ t
   drawn_same p bytes s t (drawn a u x is flat its_first) (drawn b v y are low others) =
-      let same = one p.frame.size bytes a b u v is are in
+      let same = stands_same p.frame.size bytes a b u v is are in
       let its : DrawsFirst p b v x = subst (λ (k : Side). DrawsFirst p k v x) same.0 (subst (λ (w : Strategy). DrawsFirst p a w x) same.1 its_first) in
       ap₂ (λ (k : Side) (w : Strategy). x ++ strategy_text p k w) same.0 same.1 ∙ ap (λ (l : List ℕ). l ++ strategy_text p b v) (first_same p b v x y its others)
   drawn_same p bytes s t (drawn a u x is flat its_first) (none_drawn none low) = absurd (none a u is)
@@ -60,7 +65,7 @@ module _ (one : OneCertificate) where
   found_same size bytes (found side u) no_strategy x (inl opens) = absurd (x.0 opens)
   found_same size bytes (found side u) no_strategy x (inr (inl deep)) = absurd (x.2 deep)
   found_same size bytes (found side u) no_strategy x (inr (inr none)) = absurd (none side u x.1)
-  found_same size bytes (found a u) (found b v) x y = let same = one size (trimmed bytes) a b u v x.1 y.1 in ap₂ (λ (k : Side) (w : Strategy). found k w) same.0 same.1
+  found_same size bytes (found a u) (found b v) x y = let same = stands_same size (trimmed bytes) a b u v x.1 y.1 in ap₂ (λ (k : Side) (w : Strategy). found k w) same.0 same.1
 
   diagram_same : (alone : Bool) (k : ℕ) (p : Standing) (behind s t : List ℕ) → IsDiagram alone k p behind s → IsDiagram alone k p behind t → s ≡ t
   diagram_same true k p behind s t a b = a.2 ∙ ap (λ (x : Found). svg_text p x) (found_same p.frame.size behind a.0 b.0 a.1 b.1) ∙ sym b.2

@@ -4,7 +4,7 @@ use Rattle.std.proofs.lemmas.List.{take-take, length-append, length-take-le}
 use Rattle.std.proofs.Math.Seq.{take-append_seam}
 use Rattle.tt_sgf.specs.declared.nodes.Node.{Node}
 use Rattle.tt_game.specs.Problems.{problem_of}
-use Rattle.tsumego_show.specs.Refusals.{is_refused_with, last_of, needed}
+use Rattle.tsumego_show.specs.Refusals.{is_refused_with, nth_node, needed}
 
 -- of no nodes none is needed
 pub needed_none : (code : ℕ) (ns : List Node) → length ns ≡ 0 → needed code ns (length ns) ≡ 0
@@ -44,21 +44,21 @@ module _ (code : ℕ) (ns fewer : List Node) (some : 0 < length ns) (is : fewer 
 cons_same : (x y : Node) (xs ys : List Node) → x ∷ xs ≡ y ∷ ys → (x ≡ y) × (xs ≡ ys)
 cons_same x y xs ys e = ((let h : x ≡ y = cc in h), (let t : xs ≡ ys = cc in t))
 
-pub last_of_first : (all front : List Node) (n : Node) → take (suc (length front)) all ≡ front ++ (n ∷ []) → last_of (suc (length front)) all ≡ Some n
-unfolding last_of
+pub last_of_first : (all front : List Node) (n : Node) → take (suc (length front)) all ≡ front ++ (n ∷ []) → nth_node (suc (length front)) all ≡ Some n
+unfolding nth_node
 last_of_first [] [] n e = absurd (omega (arith, ap length e))
 last_of_first [] (f ∷ fs) n e = absurd (omega (arith, ap length e))
 last_of_first (m ∷ ms) [] n e = ap Some (cons_same m n (take 0 ms) [] e).0
 last_of_first (m ∷ ms) (f ∷ fs) n e = last_of_first ms fs n (cons_same m f (take (suc (length fs)) ms) (fs ++ (n ∷ [])) e).1
 
-last_of_none : (ns : List Node) → last_of 0 ns ≡ None
-unfolding last_of
+last_of_none : (ns : List Node) → nth_node 0 ns ≡ None
+unfolding nth_node
 last_of_none [] = refl
 last_of_none (m ∷ ms) = refl
 
 -- where no node is needed there is no last one
-pub none_last : (code : ℕ) (ns : List Node) → needed code ns (length ns) ≡ 0 → last_of (needed code ns (length ns)) ns ≡ None
-none_last code ns e = ap (λ k. last_of k ns) e ∙ last_of_none ns
+pub none_last : (code : ℕ) (ns : List Node) → needed code ns (length ns) ≡ 0 → nth_node (needed code ns (length ns)) ns ≡ None
+none_last code ns e = ap (λ k. nth_node k ns) e ∙ last_of_none ns
 
 module _ (code : ℕ) (all ns front : List Node) (n : Node) (popped : ns ≡ front ++ (n ∷ [])) (first : ns ≡ take (length ns) all) where
   count : length ns ≡ suc (length front)
@@ -79,11 +79,11 @@ module _ (code : ℕ) (all ns front : List Node) (n : Node) (popped : ns ≡ fro
 
     -- it doesn't
     pub refused_here : is_refused_with code (problem_of front) ≡ false
-        → (front ≡ take (needed code all (length all) - 1) all) × (last_of (needed code all (length all)) all ≡ Some n) × (needed code all (length all) ≡ length front + 1)
+        → (front ≡ take (needed code all (length all) - 1) all) × (nth_node (needed code all (length all)) all ≡ Some n) × (needed code all (length all) ≡ length front + 1)
     refused_here off =
         let m : needed code all (length all) ≡ suc (length front) = sym needs ∙ needed_all code ns front (omega (arith, count)) shorter off ∙ count in
         let whole : take (suc (length front)) all ≡ front ++ (n ∷ []) = ap (λ k. take k all) (sym count) ∙ sym first ∙ popped in (
           front_first ∙ ap (λ k. take k all) (let e : length front ≡ needed code all (length all) - 1 = omega (arith, m) in e),
-          ap (λ k. last_of k all) m ∙ last_of_first all front n whole,
+          ap (λ k. nth_node k all) m ∙ last_of_first all front n whole,
           (let e : needed code all (length all) ≡ length front + 1 = omega (arith, m) in e),
         )

@@ -9,9 +9,10 @@ use Rattle.tt_game.specs.declared.frame.Side.{Side}
 use Rattle.tt_game.specs.declared.turns.Turn.{Turn}
 use Rattle.tt_game.specs.Game.{IsLegal, after, side_colour}
 use Rattle.tt_game.specs.Line.{Standing}
-use Rattle.tt_proof.specs.CertificateText.{IsCertificate, IsTooDeep, shown_turn}
+use Rattle.tt_proof.specs.CertificateText.{IsTooDeep, shown_turn}
 use Rattle.tt_proof.specs.Proven.{first_of}
 use Rattle.tt_proof.specs.Strategy.{Strategy, Entries, done, pick, reply, none, entry}
+use Rattle.tsumego_show.specs.Found.{IsCertificateFor}
 use Rattle.tsumego_show.specs.Picture.{board_text, colour_name}
 
 -- one step further in; the blanks in front of a line are 40 at the most
@@ -90,8 +91,8 @@ module _ (p : Standing) where
 
   -- the text on bytes that may be a certificate
   pub data DrawsCertificate (bytes : List ℕ) : List ℕ → Type 0 where
-    drawn : (side : Side) (u : Strategy) (first : List ℕ) → IsCertificate p.frame.size bytes side u → (IsTooDeep p.frame.size bytes → ⊥)
+    drawn : (side : Side) (u : Strategy) (first : List ℕ) → IsCertificateFor p.frame.size bytes side u → (IsTooDeep p.frame.size bytes → ⊥)
         → DrawsFirst side u first → DrawsCertificate bytes (first ++ strategy_text side u)
-    none_drawn : ((side : Side) (u : Strategy) → IsCertificate p.frame.size bytes side u → ⊥) → (IsTooDeep p.frame.size bytes → ⊥)
+    none_drawn : ((side : Side) (u : Strategy) → IsCertificateFor p.frame.size bytes side u → ⊥) → (IsTooDeep p.frame.size bytes → ⊥)
         → DrawsCertificate bytes (none_line bytes)
     deep_drawn : IsTooDeep p.frame.size bytes → DrawsCertificate bytes deep_line

@@ -152,8 +152,8 @@ module _ (size : Size) (n : Node) where
       (value_or PL (head (first_values PL n.properties)) []))
 
   -- the value that can't be read; where no other is bad it is that of PL
-  unfoldable pub value_line : List ℕ
-  value_line = list_line mover_line
+  unfoldable pub bad_value_line : List ℕ
+  bad_value_line = list_line mover_line
 
 -- ---- the line, which a newline ends
 
@@ -164,7 +164,7 @@ first_size (m ∷ ms) n = size_named (first_values SZ m.properties)
 
 abbrev pub look_on : GameFault → List Node → Node → Option Size → List ℕ
 look_on e front n None = []
-look_on e front n (Some size) = if nat_eq (code_of e) (code_of BadValue) then value_line size n else points_line e size front n
+look_on e front n (Some size) = if nat_eq (code_of e) (code_of BadValue) then bad_value_line size n else points_line e size front n
 
 -- what to look at in a node that is refused so, with those nodes in front
 abbrev pub look_line : GameFault → List Node → Node → List ℕ

@@ -1,11 +1,16 @@
 -- What stands behind a problem: a strategy, or none.
-use Rattle.std.specs.Prelude.{◌⊎◌, List, ℕ}
+use Rattle.std.specs.Prelude.{◌≡◌, ◌⊎◌, List, [], ℕ}
 use Rattle.tt_sgf.specs.declared.size.Size.{Size}
 use Rattle.tt_sgf.specs.Grammar.{HasOpen}
 use Rattle.tt_sgf.specs.Values.{trimmed}
 use Rattle.tt_game.specs.declared.frame.Side.{Side}
-use Rattle.tt_proof.specs.CertificateText.{IsCertificate, IsTooDeep}
+use Rattle.tt_proof.specs.CertificateText.{IsTooDeep}
+use Rattle.tt_proof.specs.Outlines.{Outline, IsSharedCertificate, unfolded}
 use Rattle.tt_proof.specs.Strategy.{Strategy}
+
+-- the bytes are a certificate of this side, which stands for this strategy. It may have shared parts
+abbrev pub IsCertificateFor : Size → List ℕ → Side → Strategy → Type 0
+IsCertificateFor size bytes side u = (o : Outline) × IsSharedCertificate size bytes side o × (unfolded [] o ≡ u)
 
 pub data Found : Type 0 where
   no_strategy : Found
@@ -15,6 +20,6 @@ pub data Found : Type 0 where
 -- is no such strategy
 abbrev pub StandsBehind : Size → List ℕ → Found → Type 0
 StandsBehind size bytes no_strategy =
-    HasOpen bytes ⊎ (IsTooDeep size (trimmed bytes) ⊎ ((side : Side) (u : Strategy) → IsCertificate size (trimmed bytes) side u → ⊥))
+    HasOpen bytes ⊎ (IsTooDeep size (trimmed bytes) ⊎ ((side : Side) (u : Strategy) → IsCertificateFor size (trimmed bytes) side u → ⊥))
 StandsBehind size bytes (found side u) =
-    (HasOpen bytes → ⊥) × IsCertificate size (trimmed bytes) side u × (IsTooDeep size (trimmed bytes) → ⊥)
+    (HasOpen bytes → ⊥) × IsCertificateFor size (trimmed bytes) side u × (IsTooDeep size (trimmed bytes) → ⊥)

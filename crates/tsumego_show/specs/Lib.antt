@@ -9,7 +9,7 @@ pub mod Picture
 pub mod Refusals
 pub mod Regions
 pub mod Shown
-pub mod Trees
+pub mod TreeBytes
 pub mod Variations
 pub mod Writing
 -- What private contracts and proofs cite. Nobody has to believe these.

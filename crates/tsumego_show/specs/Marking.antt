@@ -18,12 +18,12 @@ use Rattle.tt_game.specs.Problems.{asked_count, game_of, posed}
 use Rattle.tsumego_show.specs.declared.form.Place.{Place}
 use Rattle.tsumego_show.specs.declared.form.Place.TheVariants.{FromAbove, FromBelow}
 use Rattle.tsumego_show.specs.declared.proposals.Proposal.{Proposal}
-use Rattle.tsumego_show.specs.declared.trees.Spot.TheVariants.{Outside}
+use Rattle.tsumego_show.specs.declared.tree_bytes.Spot.TheVariants.{Outside}
 use Rattle.tsumego_show.specs.declared.variations.PointList.TheVariants.{Squares, Triangles}
 use Rattle.tsumego_show.specs.Hints.{hints, members_text, names_text}
 use Rattle.tsumego_show.specs.Refusals.{fault_text, refusal_line}
 use Rattle.tsumego_show.specs.Regions.{around, is_closed, is_inner, region, ways_out}
-use Rattle.tsumego_show.specs.Trees.{behind_semicolon, from_open, kept_text}
+use Rattle.tsumego_show.specs.TreeBytes.{behind_semicolon, from_open, kept_text}
 use Rattle.tsumego_show.specs.Variations.{list_text}
 
 -- ---- which stone

@@ -45,11 +45,11 @@ needed code ns zero = zero
 needed code ns (suc n) = if is_refused_with code (problem_of (take n ns)) then needed code ns n else suc n
 
 -- the last of the first n nodes
-unfoldable pub last_of : ℕ → List Node → Option Node
-last_of n [] = None
-last_of zero (m ∷ ms) = None
-last_of (suc zero) (m ∷ ms) = Some m
-last_of (suc (suc n)) (m ∷ ms) = last_of (suc n) ms
+unfoldable pub nth_node : ℕ → List Node → Option Node
+nth_node n [] = None
+nth_node zero (m ∷ ms) = None
+nth_node (suc zero) (m ∷ ms) = Some m
+nth_node (suc (suc n)) (m ∷ ms) = nth_node (suc n) ms
 
 -- the most nodes of a main line in which the refused one is named
 abbrev pub most_nodes : ℕ
@@ -65,7 +65,7 @@ maybe_named e k front (Some n) = named_fault e k front n
 
 -- and at which node of a main line, where one is
 abbrev pub at_node : GameFault → List Node → List ℕ
-at_node e ns = maybe_named e (needed (code_of e) ns (length ns)) (take (needed (code_of e) ns (length ns) - 1) ns) (last_of (needed (code_of e) ns (length ns)) ns)
+at_node e ns = maybe_named e (needed (code_of e) ns (length ns)) (take (needed (code_of e) ns (length ns) - 1) ns) (nth_node (needed (code_of e) ns (length ns)) ns)
 
 -- why a main line is refused so; where it isn't too long, the node is looked for
 abbrev pub why_text : GameFault → List Node → List ℕ

@@ -1,7 +1,7 @@
 -- What is written for an input: a text on each of its game trees.
 use Rattle.std.specs.Prelude.{◌≡◌, ◌⊎◌, ◌+◌, ◌-◌, ◌<◌, ◌≤◌, ℕ, Bool, true, false, ◌&&◌, ◌||◌, not, nat_eq, List, [], ◌∷◌, ◌++◌, length, drop, take, codes, decimal, Ok, Err, if◌then◌else◌}
 use Rattle.std.specs.declared.result.Result.{Result}
-use Rattle.tt_sgf.specs.declared.trees.TheConstants.{MAX_BYTES}
+use Rattle.tt_sgf.specs.declared.tree_bytes.TheConstants.{MAX_BYTES}
 use Rattle.tt_sgf.specs.Bytes.{space}
 use Rattle.tt_sgf.specs.declared.nodes.Node.{Node}
 use Rattle.tt_sgf.specs.Grammar.{GameTree, HasNoTree, HasOpen, SpelledUpTo, main_line}
@@ -18,7 +18,7 @@ use Rattle.tsumego_show.specs.Hints.{hints}
 use Rattle.tsumego_show.specs.Marking.{is_left, line_marked}
 use Rattle.tsumego_show.specs.Picture.{picture}
 use Rattle.tsumego_show.specs.Refusals.{fault_text, length_text, syntax_text}
-use Rattle.tsumego_show.specs.Trees.{from_open, is_nil, kept_text}
+use Rattle.tsumego_show.specs.TreeBytes.{from_open, is_nil, kept_text}
 use Rattle.tsumego_show.specs.Variations.{sgf_text}
 
 -- The text on what follows a problem: nothing where a tree may follow; else that on a certificate, without the white space

@@ -1,6 +1,6 @@
 -- A problem as a game tree of SGF FF[4], and the strategy of a certificate as its variations: who has won, and why, stands in a
 -- comment at each end.
-use Rattle.std.specs.Prelude.{ℕ, zero, suc, nat_eq, Bool, List, [], ◌∷◌, ◌++◌, codes, decimal, length, Option, Some, None, if◌then◌else◌}
+use Rattle.std.specs.Prelude.{ℕ, zero, suc, ◌+◌, nat_eq, nat_le, Bool, List, [], ◌∷◌, ◌++◌, codes, decimal, length, Option, Some, None, if◌then◌else◌}
 use Rattle.std.specs.List.{flat_map, range_with_len}
 use Rattle.tt_sgf.specs.Bytes.{close_tree, close_value, colon, newline, open_tree, open_value, semicolon}
 use Rattle.tt_sgf.specs.declared.size.Size.{Size}
@@ -21,7 +21,7 @@ use Rattle.tt_proof.specs.CertificateText.{turn_text}
 use Rattle.tt_proof.specs.Strategy.{Strategy, Entries, done, pick, reply, none, entry}
 use Rattle.tsumego_show.specs.declared.variations.PointList.{PointList}
 use Rattle.tsumego_show.specs.declared.variations.PointList.TheVariants.{Blacks, Whites, Triangles, Squares}
-use Rattle.tsumego_show.specs.Diagram.{has_square, is_target}
+use Rattle.tsumego_show.specs.Diagram.{greatest, has_square, is_target}
 use Rattle.tsumego_show.specs.Found.{Found, no_strategy, found}
 use Rattle.tsumego_show.specs.Picture.{colour_name, earlier_text}
 
@@ -132,6 +132,30 @@ module _ (f : Frame) where
     reply_variations s none n = []
     reply_variations s (entry t u es) n = legal_text s t (variations (after f s t) u n) ++ reply_variations s es n
 
+-- ---- how deep they go
+
+abbrev mutual
+  -- how many turns a strategy has that lie at most so deep
+  pub turns_within : Strategy → ℕ → ℕ
+  turns_within done n = zero
+  turns_within (pick t u) zero = zero
+  turns_within (pick t u) (suc n) = suc (turns_within u n)
+  turns_within (reply es) zero = zero
+  turns_within (reply es) (suc n) = entries_turns es n
+
+  -- the turns of all entries, and those that lie at most so deep behind them
+  pub entries_turns : Entries → ℕ → ℕ
+  entries_turns none n = zero
+  entries_turns (entry t u es) n = suc (turns_within u n) + entries_turns es n
+
+-- the most turns that are written: no certificate without shared parts has as many
+abbrev pub most_moves : ℕ
+most_moves = 350000
+
+-- as deep as is asked, or as deep as the strategy has no more turns than that
+abbrev pub shown_depth : ℕ → Strategy → ℕ
+shown_depth depth u = greatest (λ n. nat_le (turns_within u n) most_moves) (depth + 1)
+
 -- ---- the whole tree
 
 module _ (p : Standing) where
@@ -147,8 +171,8 @@ module _ (p : Standing) where
   -- the variations of the strategy that was found
   abbrev pub found_variations : ℕ → Found → List ℕ
   found_variations depth no_strategy = []
-  found_variations depth (found side u) = variations p.frame p.state u depth
+  found_variations depth (found side u) = variations p.frame p.state u (shown_depth depth u)
 
-  -- the problem with the strategy that was found, to so many turns
+  -- the problem with the strategy that was found, to so many turns deep at the most
   abbrev pub sgf_text : ℕ → Found → List ℕ
   sgf_text depth b = root_text p ++ (name_property b ++ (found_variations depth b ++ codes ")\n"))

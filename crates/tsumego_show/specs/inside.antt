@@ -1,3 +1,4 @@
 -- What private contracts and proofs cite. Nobody has to believe these.
+pub mod Lines
 pub mod Trees
 pub mod Windows

@@ -1,17 +1,19 @@
 //! Draws what follows a problem: the first turn and the strategy of a certificate.
-ghost use Rattle.std.specs.Prelude.{◌≡◌, ◌≢◌, ◌++◌, ◌∷◌, ◌==◌, ◌-◌, [], ℕ, List, replicate, if◌then◌else◌, OnOk};
+ghost use Rattle.std.specs.Prelude.{◌≡◌, ◌++◌, ◌∷◌, [], ℕ, List, replicate, IfOk, OnOk};
 ghost use Rattle.tt_sgf.specs.Bytes.{newline, space};
 ghost use Rattle.tt_proof.specs.CertificateText.{shown_turn};
 ghost use Rattle.tt_proof.specs.Strategy.{AreInOrder, IsInOrder, IsOnBoard, entries_of_trees, strategy_of};
 ghost use Rattle.tsumego_show.specs.Picture.{colour_name};
-ghost use Rattle.tsumego_show.specs.Drawing.{DrawsCertificate, DrawsFirst, deep_line, deeper, entries_lines, first_lines, heading, most_lines, none_line, strategy_text, tree_lines, turn_line};
+ghost use Rattle.tsumego_show.specs.Drawing.{DrawsCertificate, DrawsFirst, deep_line, deeper, entries_lines, heading, none_line, strategy_text, tree_lines, turn_line};
+ghost use Rattle.tsumego_show.specs.inside.Lines.{Goes};
 
+use crate::certificates::read_either;
 use crate::opening::put_first;
 use crate::picture::{colour_name, side_colour};
 use std::alloc::Global;
 use tt_board::Colour;
 use tt_game::{Line, Side, Turn};
-use tt_proof::{CertFault, Tree, put_shown, read_cert};
+use tt_proof::{CertFault, Tree, put_shown};
 use tt_sgf::{NoMemory, Size};
 
 /// How many lines of a strategy are shown.
@@ -62,6 +64,28 @@ fn put_line(
     put_played(out, turn, size, colour)
 }
 
+/// Writes the line of a turn behind the text, where lines are left, and else three dots. The answer is how many lines are left;
+/// none behind the dots.
+fn put_next_line(
+    out: &mut Vec<u8>,
+    turn: Turn,
+    size: Size,
+    colour: Colour,
+    level: usize,
+    left: usize,
+) -> Result<Option<usize>, NoMemory>
+    requires { IsOnBoard size turn }
+    ensures { IfOk result (λ r. Goes r out.new.items out.old.items left (turn_line size level colour turn)) }
+{
+    if left == 0 {
+        out.extend_from_slice(b"...\n")?;
+        return Ok(None);
+    }
+    put_line(out, turn, size, colour, level)?;
+    Ok(Some(left - 1))
+}
+
+/// Writes the lines of a tree behind the text, as many as are left.
 #[cycle(draw)]
 fn put_tree(
     out: &mut Vec<u8>,
@@ -69,17 +93,39 @@ fn put_tree(
     size: Size,
     own: Colour,
     level: usize,
-) -> Result<(), NoMemory>
+    left: usize,
+) -> Result<Option<usize>, NoMemory>
     requires in_order { IsInOrder size (strategy_of tree.now) }
-    ensures { OnOk result (out.new.items ≡ out.old.items ++ tree_lines size own level (strategy_of tree.now)) }
+    ensures { IfOk result (λ r. Goes r out.new.items out.old.items left (tree_lines size own level (strategy_of tree.now))) }
 {
     match tree {
-        Tree::Done => Ok(()),
-        Tree::Pick(turn, child) => {
-            put_line(out, *turn, size, own, level)?;
-            put_tree(out, child, size, own, deeper(level))
-        }
-        Tree::Reply(list) => put_entries(out, list, size, own, level),
+        Tree::Done => Ok(Some(left)),
+        Tree::Pick(turn, child) => put_turn(out, *turn, own, child, size, own, level, left),
+        Tree::Reply(list) => put_entries(out, list, size, own, level, left),
+    }
+}
+
+/// Writes the lines of a turn and of what follows it.
+#[cycle(draw)]
+fn put_turn(
+    out: &mut Vec<u8>,
+    turn: Turn,
+    colour: Colour,
+    child: &Tree,
+    size: Size,
+    own: Colour,
+    level: usize,
+    left: usize,
+) -> Result<Option<usize>, NoMemory>
+    requires on_board { IsOnBoard size turn }
+    requires in_order { IsInOrder size (strategy_of child.now) }
+    ensures { IfOk result (λ r. Goes r out.new.items out.old.items left
+        (turn_line size level colour turn ++ tree_lines size own (deeper level) (strategy_of child.now))) }
+{
+    match put_next_line(out, turn, size, colour, level, left) {
+        Ok(Some(more)) => put_tree(out, child, size, own, deeper(level), more),
+        Ok(None) => Ok(None),
+        Err(e) => Err(e),
     }
 }
 
@@ -90,45 +136,20 @@ fn put_entries(
     size: Size,
     own: Colour,
     level: usize,
-) -> Result<(), NoMemory>
+    left: usize,
+) -> Result<Option<usize>, NoMemory>
     requires in_order { AreInOrder size 0 (entries_of_trees list.now) }
-    ensures { OnOk result (out.new.items ≡ out.old.items ++ entries_lines size own level (entries_of_trees list.now)) }
+    ensures { IfOk result (λ r. Goes r out.new.items out.old.items left (entries_lines size own level (entries_of_trees list.now))) }
 {
+    let mut more = left;
     for (turn, child) in list {
-        put_line(out, *turn, size, own.other(), level)?;
-        put_tree(out, child, size, own, deeper(level))?;
-    }
-    Ok(())
-}
-
-/// How many lines are left behind a byte.
-fn fewer(left: usize, byte: u8) -> usize
-    requires { left ≢ 0 }
-    ensures { result ≡ (if byte == newline then left - 1 else left) }
-{
-    if byte == b'\n' { left - 1 } else { left }
-}
-
-/// Writes the first lines of a text behind the other, and three dots where there are more.
-fn put_first_lines(out: &mut Vec<u8>, text: &[u8]) -> Result<(), NoMemory>
-    ensures { OnOk result (out.new.items ≡ out.old.items ++ first_lines most_lines text.now) }
-{
-    let mut left = MOST_LINES;
-    let mut rest = text;
-    loop {
-        match rest.split_first() {
-            None => return Ok(()),
-            Some((byte, behind)) => {
-                if left == 0 {
-                    out.extend_from_slice(b"...\n")?;
-                    return Ok(());
-                }
-                out.push(*byte)?;
-                left = fewer(left, *byte);
-                rest = behind;
-            }
+        match put_turn(out, *turn, own.other(), child, size, own, level, more) {
+            Ok(Some(rest)) => more = rest,
+            Ok(None) => return Ok(None),
+            Err(e) => return Err(e),
         }
     }
+    Ok(Some(more))
 }
 
 /// Writes whose strategy follows behind the text.
@@ -141,21 +162,14 @@ fn put_heading(out: &mut Vec<u8>, colour: Colour) -> Result<(), NoMemory>
 }
 
 /// Writes the strategy of a side behind the text.
-fn put_strategy(
-    alloc: Global,
-    out: &mut Vec<u8>,
-    line: &Line,
-    side: Side,
-    tree: &Tree,
-) -> Result<(), NoMemory>
+fn put_strategy(out: &mut Vec<u8>, line: &Line, side: Side, tree: &Tree) -> Result<(), NoMemory>
     requires { IsInOrder line.now.frame.size (strategy_of tree.now) }
     ensures { OnOk result (out.new.items ≡ out.old.items ++ strategy_text line.now side (strategy_of tree.now)) }
 {
     let own = side_colour(line, side);
-    let mut lines = Vec::new(alloc);
-    put_tree(&mut lines, tree, line.frame().size, own, 1)?;
     put_heading(out, own)?;
-    put_first_lines(out, lines.as_slice())
+    put_tree(out, tree, line.frame().size, own, 1, MOST_LINES)?;
+    Ok(())
 }
 
 /// Writes that what follows is no certificate behind the text, where something follows.
@@ -189,7 +203,7 @@ fn put_drawn(
         × (out.new.items ≡ out.old.items ++ (text ++ strategy_text line.now side (strategy_of tree.now)))) }
 {
     put_first(alloc, out, line, side, tree)?;
-    put_strategy(alloc, out, line, side, tree)
+    put_strategy(out, line, side, tree)
 }
 
 /// Writes the text on what follows a problem behind the text. Where it is a certificate, the board after its side's first turn,
@@ -203,7 +217,7 @@ pub fn put_certificate(
 ) -> Result<(), NoMemory>
     ensures { OnOk result ((text : List ℕ) × DrawsCertificate line.now bytes.now text × (out.new.items ≡ out.old.items ++ text)) }
 {
-    match read_cert(alloc, bytes, line.frame().size) {
+    match read_either(alloc, bytes, line.frame().size) {
         Ok((side, tree)) => put_drawn(alloc, out, line, side, &tree),
         Err(CertFault::NoMemory) => Err(NoMemory),
         Err(CertFault::Syntax) => put_none(out, bytes),

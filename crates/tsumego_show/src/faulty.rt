@@ -4,10 +4,10 @@ ghost use Rattle.std.specs.List.{list_all};
 ghost use Rattle.tt_board.specs.declared.Colour.TheVariants.{Black, White};
 ghost use Rattle.tt_game.specs.Problems.{game_of};
 ghost use Rattle.tsumego_show.specs.Faulty.{are_known, bad_in, bad_move, blacks_behind, first_bad, first_size, first_values, head, is_plain, is_setup_fault, list_line, look_line, moved_on, mover_line};
-ghost use Rattle.tsumego_show.specs.Faulty.{plain_value, points_at_fault, points_in, points_line, set_up_twice, stones_before, vacant, value_line, value_or, whites_behind, without_liberty};
+ghost use Rattle.tsumego_show.specs.Faulty.{plain_value, points_at_fault, points_in, points_line, set_up_twice, stones_before, vacant, bad_value_line, value_or, whites_behind, without_liberty};
 
 use crate::hints::put_listed;
-use crate::properties::{asked_count, first_values, has_move};
+use crate::node_values::{asked_count, first_values, has_move};
 use crate::regions::{near, reached, stones};
 use std::alloc::Global;
 use tt_board::Colour;
@@ -275,9 +275,9 @@ fn bad_mover(size: Size, node: &Node) -> Option<(&'static [u8], &[u8])>
 }
 
 /// Writes the value to look at behind the text.
-#[tactic(auto, unfolding(crate::specs::Faulty::value_line))]
+#[tactic(auto, unfolding(crate::specs::Faulty::bad_value_line))]
 fn put_bad_value(out: &mut Vec<u8>, size: Size, node: &Node) -> Result<(), NoMemory>
-    ensures { OnOk result (out.new.items ≡ out.old.items ++ value_line size node.now) }
+    ensures { OnOk result (out.new.items ≡ out.old.items ++ bad_value_line size node.now) }
 {
     if let Some((name, value)) = bad_list(size, node) {
         return put_value(out, name, value);

@@ -4,9 +4,10 @@ ghost use Rattle.tt_proof.specs.Strategy.{IsInOrder, strategy_of};
 ghost use Rattle.tsumego_show.specs.Found.{StandsBehind};
 ghost use Rattle.tsumego_show.specs.inside.Trees.{found_of};
 
+use crate::certificates::read_either;
 use std::alloc::Global;
 use tt_game::Side;
-use tt_proof::{CertFault, Tree, read_cert};
+use tt_proof::{CertFault, Tree};
 use tt_sgf::{NoMemory, Size, has_tree, trim};
 
 /// The side and the strategy of the certificate that stands behind a problem; none where a tree may follow, and where what
@@ -18,7 +19,7 @@ pub fn find(alloc: Global, size: Size, behind: &[u8]) -> Result<Option<(Side, Tr
     if has_tree(behind) {
         return Ok(None);
     }
-    match read_cert(alloc, trim(behind), size) {
+    match read_either(alloc, trim(behind), size) {
         Ok(found) => Ok(Some(found)),
         Err(CertFault::NoMemory) => Err(NoMemory),
         Err(CertFault::Syntax) => Ok(None),

@@ -8,5 +8,5 @@ pub fn one_text()
     ensures { (form : Form) (input s t : List ℕ) (m n : ℕ) → IsShown form input s m → IsShown form input t n → (s ≡ t) × (m ≡ n) }
 {
     tt_sgf::laws::one_reading();
-    tt_proof::laws::one_certificate();
+    tt_proof::laws::one_shared_certificate();
 }

@@ -2,6 +2,8 @@
 #![tactic(auto)]
 
 mod arguments;
+mod certificates;
+mod depths;
 mod diagram;
 mod drawing;
 mod faulty;
@@ -10,16 +12,17 @@ mod found;
 mod hints;
 mod laws;
 mod marking;
+mod node_values;
 mod opening;
 mod picture;
 mod points;
-mod properties;
 mod proposals;
 mod refusals;
 mod regions;
 mod running;
 mod showing;
-mod trees;
+mod tree_bytes;
+mod unfolding;
 mod variations;
 mod windows;
 

@@ -7,15 +7,15 @@ ghost use Rattle.tt_game.specs.Problems.{asked_count, game_of};
 ghost use Rattle.tsumego_show.specs.Hints.{members_text, names_text};
 ghost use Rattle.tsumego_show.specs.Marking.{chosen, game_marked, has_no_mark, is_game_left, is_left, line_marked, marked, marked_text, open_line, why_at, why_not, why_on, with_mark, with_marks};
 ghost use Rattle.tsumego_show.specs.Refusals.{fault_text};
-ghost use Rattle.tsumego_show.specs.Trees.{kept_text};
+ghost use Rattle.tsumego_show.specs.TreeBytes.{kept_text};
 
 use crate::form::Place;
 use crate::hints::{put_hints, put_members, put_names};
-use crate::properties::asked_count;
+use crate::node_values::asked_count;
 use crate::proposals::{Proposal, chosen, placed_point};
 use crate::refusals::{NO_TARGET, put_fault, put_refusal};
 use crate::regions::{around, ways_out};
-use crate::trees::{behind_semicolon, from_open, put_kept};
+use crate::tree_bytes::{behind_semicolon, from_open, put_kept};
 use crate::variations::{PointList, put_list};
 use std::alloc::Global;
 use tt_board::{Board, Colour};

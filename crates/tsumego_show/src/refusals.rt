@@ -1,7 +1,7 @@
 //! What is written where something is refused.
 ghost use Rattle.std.specs.Prelude.{◌≡◌, ◌++◌, ◌+◌, ◌-◌, ◌^◌, ◌<◌, length, take, IfOk, MatchOption, OnOk, Some};
 ghost use Rattle.tt_game.specs.Problems.{problem_of};
-ghost use Rattle.tsumego_show.specs.Refusals.{at_node, fault_text, is_refused_with, last_of, length_text, meaning, named_fault, needed, refusal_line, syntax_text, why_text};
+ghost use Rattle.tsumego_show.specs.Refusals.{at_node, fault_text, is_refused_with, nth_node, length_text, meaning, named_fault, needed, refusal_line, syntax_text, why_text};
 
 use crate::faulty::put_look;
 use std::alloc::Global;
@@ -81,7 +81,7 @@ struct RefusedNode {
 fn refused_node(alloc: Global, line: MainLine, code: u8) -> Result<Option<RefusedNode>, NoMemory>
     ensures { IfOk result (λ r. MatchOption r (needed code line.nodes (length line.nodes) ≡ 0)
         (λ x. (x.front.nodes ≡ take (needed code line.nodes (length line.nodes) - 1) line.nodes)
-        × (last_of (needed code line.nodes (length line.nodes)) line.nodes ≡ Some x.node)
+        × (nth_node (needed code line.nodes (length line.nodes)) line.nodes ≡ Some x.node)
         × (needed code line.nodes (length line.nodes) ≡ length x.front.nodes + 1))) }
 {
     let mut nodes = line.nodes.into_vec();

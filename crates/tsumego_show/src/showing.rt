@@ -12,7 +12,7 @@ use crate::hints::put_hints;
 use crate::marking::put_line;
 use crate::picture::put_picture;
 use crate::refusals::{put_fault, put_length, put_syntax};
-use crate::trees::{has_none, put_kept};
+use crate::tree_bytes::{has_none, put_kept};
 use crate::variations::put_sgf;
 use std::alloc::Global;
 use tt_game::{GameFault, Line, problem};

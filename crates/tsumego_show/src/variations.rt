@@ -9,6 +9,7 @@ ghost use Rattle.tsumego_show.specs.Picture.{colour_name};
 ghost use Rattle.tsumego_show.specs.Variations.{bracketed, colour_letter, cut_text, ending_text, found_variations, game_text, is_listed, legal_text, list_name, list_text, listed_value, listed_values};
 ghost use Rattle.tsumego_show.specs.Variations.{move_point, move_text, mover_property, name_property, owner_text, reply_variations, root_text, sgf_text, size_text, variations, why_won, won_text};
 
+use crate::depths::shown_depth;
 use crate::diagram::has_square;
 use crate::picture::{colour_name, earlier_count, put_earlier, side_colour};
 use crate::points::{is_stone, is_target, point_numbered};
@@ -379,12 +380,12 @@ fn put_variations(
 {
     match found {
         None => Ok(()),
-        Some((_, tree)) => put_tree(out, tree, line, depth),
+        Some((_, tree)) => put_tree(out, tree, line, shown_depth(tree, depth)),
     }
 }
 
 /// Writes the problem at a line as a game tree of SGF behind the text, and the strategy that was found as its variations, to so
-/// many turns. `NoMemory` where memory was refused; a part may stand there then. The line stands as before.
+/// many turns deep at the most. `NoMemory` where memory was refused; a part may stand there then. The line stands as before.
 pub fn put_sgf(
     alloc: Global,
     out: &mut Vec<u8>,

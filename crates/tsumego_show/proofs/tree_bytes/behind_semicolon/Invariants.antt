@@ -1,0 +1,13 @@
+use Rattle.std.proofs.Common.{◌≡◌, ◌+◌, length}
+use Rattle.tsumego_show.specs.declared.tree_bytes.Spot.TheVariants.{Outside}
+use Rattle.tsumego_show.specs.TreeBytes.{behind_semicolon}
+use Rattle.tsumego_show.proofs.tree_bytes.behind_semicolon.Given as goal
+
+abbrev pub invariant-loop-byte : goal.invariant-loop-byte
+invariant-loop-byte l = record {
+  all : l.count + behind_semicolon l.spot l.left l.rest ≡ behind_semicolon Outside l.number l.tree;
+  most : l.count + length l.rest ≡ length l.tree;
+}
+
+abbrev pub decreases-loop-byte : goal.decreases-loop-byte
+decreases-loop-byte l = length l.rest

@@ -1,0 +1,107 @@
+//! The text of a tree, as it was given.
+ghost use Rattle.std.specs.Prelude.{◌≡◌, ◌≤◌, ◌++◌, length, OnOk};
+ghost use Rattle.tsumego_show.specs.declared.tree_bytes.Spot.TheVariants.{Outside};
+ghost use Rattle.tsumego_show.specs.TreeBytes.{begins_node, behind_semicolon, from_open, is_nil, kept_text, next_spot};
+
+use tt_sgf::NoMemory;
+
+/// Where a byte of a tree stands: outside of values, in one, or behind a backslash there.
+#[derive(Clone, Copy)]
+pub enum Spot {
+    Outside,
+    Inside,
+    Escaped,
+}
+
+/// Where the byte behind this one stands.
+fn next_spot(spot: Spot, byte: u8) -> Spot
+    ensures { result ≡ next_spot spot byte }
+{
+    match spot {
+        Spot::Outside => {
+            if byte == b'[' {
+                Spot::Inside
+            } else {
+                Spot::Outside
+            }
+        }
+        Spot::Inside => {
+            if byte == b']' {
+                Spot::Outside
+            } else if byte == b'\\' {
+                Spot::Escaped
+            } else {
+                Spot::Inside
+            }
+        }
+        Spot::Escaped => Spot::Inside,
+    }
+}
+
+/// Whether a node begins with this byte.
+fn begins_node(spot: Spot, byte: u8) -> bool
+    ensures { result ≡ begins_node spot byte }
+{
+    match spot {
+        Spot::Outside => byte == b';',
+        Spot::Inside | Spot::Escaped => false,
+    }
+}
+
+/// How many bytes stand up to the `;` of the node of this number, and with it; all where there are fewer nodes.
+#[tactic(auto, using(crate::proofs::Nodes::semicolon_none, crate::proofs::Nodes::semicolon_here, crate::proofs::Nodes::semicolon_behind, crate::proofs::Nodes::semicolon_further))]
+pub fn behind_semicolon(tree: &[u8], number: usize) -> usize
+    ensures value { result ≡ behind_semicolon Outside number tree.now }
+    ensures bound { result ≤ length tree.now }
+{
+    let mut spot = Spot::Outside;
+    let mut left = number;
+    let mut count: usize = 0;
+    let mut rest = tree;
+    while let Some((byte, behind)) = rest.split_first() {
+        count += 1;
+        if begins_node(spot, *byte) {
+            if left <= 1 {
+                return count;
+            }
+            left -= 1;
+        }
+        spot = next_spot(spot, *byte);
+        rest = behind;
+    }
+    count
+}
+
+/// The bytes from the first `(` on.
+#[tactic(auto, using(crate::proofs::Nodes::open_none, crate::proofs::Nodes::open_here, crate::proofs::Nodes::open_further))]
+pub fn from_open(bytes: &[u8]) -> &[u8]
+    ensures { result.now ≡ from_open bytes.now }
+{
+    let mut rest = bytes;
+    while let Some((byte, behind)) = rest.split_first() {
+        if *byte == b'(' {
+            return rest;
+        }
+        rest = behind;
+    }
+    rest
+}
+
+/// Whether no tree may begin in the bytes.
+pub fn has_none(bytes: &[u8]) -> bool
+    ensures { result ≡ is_nil (from_open bytes.now) }
+{
+    match from_open(bytes).split_first() {
+        Some(_) => false,
+        None => true,
+    }
+}
+
+/// Writes a tree as it was behind the text.
+pub fn put_kept(out: &mut Vec<u8>, tree: &[u8]) -> Result<(), NoMemory>
+    ensures { OnOk result (out.new.items ≡ out.old.items ++ kept_text tree.now) }
+{
+    out.extend_from_slice(from_open(tree))?;
+    out.push(b'\n')?;
+    Ok(())
+}
