@@ -2,7 +2,7 @@
 use Rattle.std.proofs.Common.{refl, [], true, false, ◌≡◌, ◌≤◌, ◌+◌, ℕ, Bool, List, inl, inr, Option, None, Some, Ok, Err, length, take, arith, subst, sym, ◌∙◌, append-nil}
 use Rattle.std.specs.declared.result.Result.{Result}
 use Rattle.std.proofs.KnownBytes.{Appends-nil, Keeps-refl}
-use Rattle.tt_sgf.specs.declared.tree_bytes.TheConstants.{MAX_BYTES}
+use Rattle.tt_sgf.specs.declared.trees.TheConstants.{MAX_BYTES}
 use Rattle.devices.specs.declared.fault.RunFault.{RunFault}
 use Rattle.devices.specs.declared.fault.RunFault.TheVariants.{Input, Output, Memory}
 use Rattle.std.specs.Io.KnownBytes.{Appends, Keeps}

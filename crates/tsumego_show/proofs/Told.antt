@@ -2,7 +2,7 @@
 use Rattle.std.proofs.Common.{◌≡◌, ◌≤◌, ◌<◌, ◌+◌, ◌-◌, ◌⊎◌, ℕ, List, [], ◌++◌, Bool, true, false, ◌||◌, inl, inr, refl, sym, ap, ap₂, ◌∙◌, length, take, drop, arith, append-nil}
 use Rattle.std.proofs.Common.{append_assoc, subst, if◌then◌else◌, Ok, Err, OnOk}
 use Rattle.std.specs.declared.result.Result.{Result}
-use Rattle.tt_sgf.specs.declared.tree_bytes.TheConstants.{MAX_BYTES}
+use Rattle.tt_sgf.specs.declared.trees.TheConstants.{MAX_BYTES}
 use Rattle.tt_sgf.specs.Values.{trimmed}
 use Rattle.tt_game.specs.Line.{Standing}
 use Rattle.tsumego_show.specs.declared.form.Form.{Form}

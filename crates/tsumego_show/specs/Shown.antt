@@ -1,7 +1,7 @@
 -- What is written for an input: a text on each of its game trees.
 use Rattle.std.specs.Prelude.{◌≡◌, ◌⊎◌, ◌+◌, ◌-◌, ◌<◌, ◌≤◌, ℕ, Bool, true, false, ◌&&◌, ◌||◌, not, nat_eq, List, [], ◌∷◌, ◌++◌, length, drop, take, codes, decimal, Ok, Err, if◌then◌else◌}
 use Rattle.std.specs.declared.result.Result.{Result}
-use Rattle.tt_sgf.specs.declared.tree_bytes.TheConstants.{MAX_BYTES}
+use Rattle.tt_sgf.specs.declared.trees.TheConstants.{MAX_BYTES}
 use Rattle.tt_sgf.specs.Bytes.{space}
 use Rattle.tt_sgf.specs.declared.nodes.Node.{Node}
 use Rattle.tt_sgf.specs.Grammar.{GameTree, HasNoTree, HasOpen, SpelledUpTo, main_line}
