@@ -10,7 +10,7 @@ use Rattle.std.specs.List.{list_any}
 use Rattle.std.specs.Io.KnownBytes.{Appends, Keeps}
 use Rattle.tt_sgf.specs.declared.trees.TheConstants.{MAX_BYTES}
 use Rattle.tt_sgf.specs.declared.nodes.Node.{Node}
-use Rattle.tt_sgf.specs.Grammar.{GameTree, HasNoTree, SpelledUpTo, main_line, HasOpen}
+use Rattle.tt_sgf.specs.Grammar.{GameTree, HasNoTree, FirstTreeEndsAt, main_line, HasOpen}
 use Rattle.devices.specs.declared.fault.RunFault.{RunFault}
 use Rattle.devices.specs.declared.fault.RunFault.TheVariants.{Input, Output, Memory}
 use Rattle.tt_text.specs.declared.outcome.Outcome.{Outcome}
@@ -22,8 +22,8 @@ use Rattle.devices.specs.Writing.{WritesOf, WritesText}
 
 -- one more tree
 pub Reads-more : (allowed : List Node → Outcome → Type 0) (input : List ℕ) (os : List Outcome) (o : Outcome) (rest : List ℕ) (count : ℕ) (t : GameTree) → Reads allowed input os rest
-    → SpelledUpTo rest count t → allowed (main_line t) o → Reads allowed input (os ++ o ∷ []) (drop count rest)
-Reads-more allowed input [] o rest count t r s ok = (count, t, subst (λ (x : List ℕ). SpelledUpTo x count t) (sym r) s, ok, ap (drop count) r)
+    → FirstTreeEndsAt rest count t → allowed (main_line t) o → Reads allowed input (os ++ o ∷ []) (drop count rest)
+Reads-more allowed input [] o rest count t r s ok = (count, t, subst (λ (x : List ℕ). FirstTreeEndsAt x count t) (sym r) s, ok, ap (drop count) r)
 Reads-more allowed input (x ∷ os) o rest count t r s ok = (r.0, r.1, r.2, r.3, Reads-more allowed (drop r.0 input) os o rest count t r.4 s ok)
 
 -- the lines on outcomes with one more end with the line on that one
@@ -80,7 +80,7 @@ module _ {allowed : List Node → Outcome → Type 0} {input rest : List ℕ} {n
   ]
 
   -- one more tree was read, and its line written
-  pub progress_step : (d : Option (List ℕ)) (used : ℕ) (t : GameTree) (nodes : List Node) (bad : Bool) → SpelledUpTo rest used t → nodes ≡ main_line t → length rest ≤ MAX_BYTES
+  pub progress_step : (d : Option (List ℕ)) (used : ℕ) (t : GameTree) (nodes : List Node) (bad : Bool) → FirstTreeEndsAt rest used t → nodes ≡ main_line t → length rest ≤ MAX_BYTES
       → WritesOutcome allowed number nodes (Ok bad) b d
       → Progress allowed input (take (length rest - used) (drop used rest)) (number + 1) (refused || bad) a d
   progress_step d used t nodes bad s same small w = record {
@@ -112,7 +112,7 @@ module _ {allowed : List Node → Outcome → Type 0} {input rest : List ℕ} {n
   progress_kept d why k = (lines_from 1 p.os, earlier why, Appends-kept a b d _ p.told k)
 
   -- a fault came where the line of one more tree was to be written
-  pub progress_fault : (d : Option (List ℕ)) → (number ≡ 1) ⊎ HasOpen rest → (used : ℕ) (t : GameTree) (nodes : List Node) (e : RunFault) → SpelledUpTo rest used t
+  pub progress_fault : (d : Option (List ℕ)) → (number ≡ 1) ⊎ HasOpen rest → (used : ℕ) (t : GameTree) (nodes : List Node) (e : RunFault) → FirstTreeEndsAt rest used t
       → nodes ≡ main_line t → length rest ≤ MAX_BYTES
       → WritesOutcome allowed number nodes (Err e) b d → EndsAs (Err e) a d
   progress_fault d why used t nodes Input s same small w = absurd w

@@ -2,7 +2,7 @@
 use Rattle.std.proofs.Common.{◌≡◌, ◌≤◌, ℕ, List, [], ◌∷◌, inl, refl, sym, ◌∙◌, append-nil, drop, length, subst}
 use Rattle.tt_sgf.specs.declared.nodes.Node.{Node}
 use Rattle.tt_sgf.specs.declared.trees.TheConstants.{MAX_BYTES}
-use Rattle.tt_sgf.specs.Grammar.{GameTree, SpelledUpTo, main_line}
+use Rattle.tt_sgf.specs.Grammar.{GameTree, FirstTreeEndsAt, main_line}
 use Rattle.tt_text.specs.declared.outcome.Outcome.{Outcome}
 use Rattle.tt_text.specs.Trees.{AreOutcomes, all_read, line_of, stopped}
 use Rattle.tt_text.specs.Trees as trees
@@ -10,7 +10,7 @@ use Rattle.tsumego_c.specs.First.{IsAlone, IsFirstOutcome, IsWholeText, first_tr
 
 module _ (allowed : List Node → Outcome → Type 0) where
   -- the outcome of the tree that was read
-  pub outcome_read : (input : List ℕ) (count : ℕ) (t : GameTree) (nodes : List Node) (o : Outcome) → length input ≤ MAX_BYTES → SpelledUpTo input count t
+  pub outcome_read : (input : List ℕ) (count : ℕ) (t : GameTree) (nodes : List Node) (o : Outcome) → length input ≤ MAX_BYTES → FirstTreeEndsAt input count t
       → nodes ≡ main_line t → allowed nodes o → IsFirstOutcome allowed input o
   outcome_read input count t nodes o small s same ok = first_tree count t o small s (subst (λ (x : List Node). allowed x o) same ok)
 

@@ -2,7 +2,7 @@
 use Rattle.std.specs.Prelude.{◌≡◌, ◌<◌, ◌≤◌, ℕ, List, [], ◌∷◌, length, drop}
 use Rattle.tt_sgf.specs.declared.trees.TheConstants.{MAX_BYTES}
 use Rattle.tt_sgf.specs.declared.nodes.Node.{Node}
-use Rattle.tt_sgf.specs.Grammar.{GameTree, HasNoTree, HasOpen, SpelledUpTo, main_line}
+use Rattle.tt_sgf.specs.Grammar.{GameTree, HasNoTree, HasOpen, FirstTreeEndsAt, main_line}
 use Rattle.tt_text.specs.declared.outcome.Outcome.{Outcome}
 use Rattle.tt_text.specs.declared.outcome.Outcome.TheVariants.{Refused}
 use Rattle.tt_text.specs.Trees.{IsTreesText, line_of, status_of}
@@ -12,7 +12,7 @@ use Rattle.tt_text.specs.Trees.{IsTreesText, line_of, status_of}
 pub data IsFirstOutcome (allowed : List Node → Outcome → Type 0) (input : List ℕ) : Outcome → Type 0 where
   too_long : MAX_BYTES < length input → IsFirstOutcome allowed input (Refused 2)
   no_tree : length input ≤ MAX_BYTES → HasNoTree input → IsFirstOutcome allowed input (Refused 1)
-  first_tree : (count : ℕ) (t : GameTree) (o : Outcome) → length input ≤ MAX_BYTES → SpelledUpTo input count t → allowed (main_line t) o
+  first_tree : (count : ℕ) (t : GameTree) (o : Outcome) → length input ≤ MAX_BYTES → FirstTreeEndsAt input count t → allowed (main_line t) o
       → IsFirstOutcome allowed input o
 
 -- the text is the line on the first tree, and the status is 1 where that is refused
@@ -24,7 +24,7 @@ pub record IsFirstText (allowed : List Node → Outcome → Type 0) (input text 
 
 -- nothing that follows the first tree opens a tree
 abbrev pub IsAlone : List ℕ → Type 0
-IsAlone input = (count : ℕ) (t : GameTree) → SpelledUpTo input count t → HasOpen (drop count input) → ⊥
+IsAlone input = (count : ℕ) (t : GameTree) → FirstTreeEndsAt input count t → HasOpen (drop count input) → ⊥
 
 -- the text on the first tree is the text on all trees
 abbrev pub IsWholeText : (List Node → Outcome → Type 0) → Type 0

@@ -12,7 +12,7 @@ use Rattle.tt_game.specs.declared.frame.Side.{Side}
 use Rattle.tt_game.specs.declared.turns.Turn.{Turn}
 use Rattle.tt_game.specs.declared.turns.Turn.TheVariants.{Play, Pass}
 use Rattle.tt_game.specs.Game.{side_colour}
-use Rattle.tt_game.specs.Line.{Standing}
+use Rattle.tt_game.specs.Line.{LineWithUndo}
 use Rattle.tt_proof.specs.declared.certificate_read.CertFault.{CertFault}
 use Rattle.tt_proof.specs.declared.certificate_read.CertFault.TheVariants.{Syntax, TooDeep}
 use Rattle.tt_proof.specs.CertificateText.{IsTooDeep, shown_turn}
@@ -131,7 +131,7 @@ gone None new old left a h = h [] ∙ ap (λ (x : List ℕ). old ++ first_lines 
 gone (Some more) new old left a h = sym (append-nil new) ∙ h [] ∙ ap (λ (x : List ℕ). old ++ first_lines left x) (append-nil a)
 
 -- the heading is written, and the first lines behind it
-pub strategy_written : (p : Standing) (side : Side) (u : Strategy) (f : Frame) (own : Colour) (r : Option ℕ) (new mid old : List ℕ) → f ≡ p.frame
+pub strategy_written : (p : LineWithUndo) (side : Side) (u : Strategy) (f : Frame) (own : Colour) (r : Option ℕ) (new mid old : List ℕ) → f ≡ p.frame
     → own ≡ side_colour p.frame side → mid ≡ old ++ heading own → Goes r new mid most_lines (tree_lines f.size own 1 u) → new ≡ old ++ strategy_text p side u
 strategy_written p side u f own r new mid old same is head goes =
     gone r new mid most_lines (tree_lines f.size own 1 u) goes
@@ -140,7 +140,7 @@ strategy_written p side u f own r new mid old same is head goes =
     ∙ ap₂ (λ (g : Frame) (k : Colour). old ++ (heading k ++ first_lines most_lines (tree_lines g.size k 1 u))) same is
 
 -- the size of the line's frame is that of its problem
-module _ (p : Standing) (f : Frame) (bytes : List ℕ) (same : f ≡ p.frame) where
+module _ (p : LineWithUndo) (f : Frame) (bytes : List ℕ) (same : f ≡ p.frame) where
   -- what is drawn of a certificate on the frame's board is drawn at the problem
   pub drawn_at : {A E : Type 0} (r : Result A E) (old new : List ℕ) (side : Side) (u : Strategy) → IsCertificateFor f.size bytes side u × (IsTooDeep f.size bytes → ⊥)
       → OnOk r ((first : List ℕ) × DrawsFirst p side u first × (new ≡ old ++ (first ++ strategy_text p side u))) → OnOk r ((x : List ℕ) × DrawsCertificate p bytes x × (new ≡ old ++ x))

@@ -5,7 +5,7 @@ use Rattle.tt_sgf.specs.declared.size.Size.{Size}
 use Rattle.tt_game.specs.declared.frame.Side.{Side}
 use Rattle.tt_game.specs.declared.turns.Turn.{Turn}
 use Rattle.tt_game.specs.Game.{IsLegal}
-use Rattle.tt_game.specs.Line.{Standing}
+use Rattle.tt_game.specs.Line.{LineWithUndo}
 use Rattle.tt_proof.specs.Proven.{first_of}
 use Rattle.tt_proof.specs.Strategy.{Strategy, IsInOrder, IsOnBoard, done, pick, reply}
 use Rattle.tsumego_show.specs.Drawing.{DrawsFirst, BeginsWithTurn, begins, begins_none, turned_text}
@@ -22,7 +22,7 @@ first_on_board size done t o e = absurd (unlike t e)
 first_on_board size (pick s v) t o e = subst (IsOnBoard size) (turn_same s t e) o.0
 first_on_board size (reply es) t o e = absurd (unlike t e)
 
-module _ (p : Standing) (side : Side) (u : Strategy) where
+module _ (p : LineWithUndo) (side : Side) (u : Strategy) where
   -- the side begins with this turn
   pub begun : {A E : Type 0} (r : Result A E) (t : Turn) (old new : List ℕ) → first_of u ≡ Some t → (p.state.to_move ≡ side) × IsLegal p.frame p.state t
       → OnOk r (new ≡ old ++ turned_text p t) → OnOk r ((text : List ℕ) × DrawsFirst p side u text × (new ≡ old ++ text))

@@ -2,7 +2,7 @@
 use Rattle.std.proofs.Common.{◌≡◌, ℕ, true, false, List, ◌++◌, Option, refl, subst, Ok, Err, OnOk}
 use Rattle.std.specs.declared.result.Result.{Result}
 use Rattle.tt_game.specs.declared.frame.Frame.{Frame}
-use Rattle.tt_game.specs.Line.{Standing}
+use Rattle.tt_game.specs.Line.{LineWithUndo}
 use Rattle.tsumego_show.specs.declared.form.Form.TheVariants.{Marks, Variations}
 use Rattle.tsumego_show.specs.Diagram.{svg_text}
 use Rattle.tsumego_show.specs.Found.{Found, StandsBehind}
@@ -11,24 +11,24 @@ use Rattle.tsumego_show.specs.Shown.{IsDiagram, IsProblemText, several_line}
 use Rattle.tsumego_show.specs.TreeBytes.{kept_text}
 use Rattle.tsumego_show.specs.Variations.{sgf_text}
 
-pub found_drawn : {A E : Type 0} (r : Result A E) (p : Standing) (f : Frame) (behind old new : List ℕ) (b : Found) → f ≡ p.frame → StandsBehind f.size behind b
+pub found_drawn : {A E : Type 0} (r : Result A E) (p : LineWithUndo) (f : Frame) (behind old new : List ℕ) (b : Found) → f ≡ p.frame → StandsBehind f.size behind b
     → OnOk r (new ≡ old ++ svg_text p b) → (k : ℕ) → OnOk r ((x : List ℕ) × IsDiagram true k p behind x × (new ≡ old ++ x))
 found_drawn (Ok y) p f behind old new b same h w k = (svg_text p b, (b, subst (λ (g : Frame). StandsBehind g.size behind b) same h, refl), w)
 found_drawn (Err y) p f behind old new b same h w k = w
 
-pub found_written : {A E : Type 0} (r : Result A E) (p : Standing) (f : Frame) (behind old new : List ℕ) (b : Found) → f ≡ p.frame → StandsBehind f.size behind b
+pub found_written : {A E : Type 0} (r : Result A E) (p : LineWithUndo) (f : Frame) (behind old new : List ℕ) (b : Found) → f ≡ p.frame → StandsBehind f.size behind b
     → (depth : ℕ) → OnOk r (new ≡ old ++ sgf_text p depth b) → (k : ℕ) (tree : List ℕ) → OnOk r ((x : List ℕ) × IsProblemText (Variations depth) k tree p behind x × (new ≡ old ++ x))
 found_written (Ok y) p f behind old new b same h depth w k tree = (sgf_text p depth b, (b, subst (λ (g : Frame). StandsBehind g.size behind b) same h, refl), w)
 found_written (Err y) p f behind old new b same h depth w k tree = w
 
 -- or that it isn't
-pub several_said : {A E : Type 0} (r : Result A E) (k : ℕ) (p : Standing) (behind old new : List ℕ) → OnOk r (new ≡ old ++ several_line k)
+pub several_said : {A E : Type 0} (r : Result A E) (k : ℕ) (p : LineWithUndo) (behind old new : List ℕ) → OnOk r (new ≡ old ++ several_line k)
     → OnOk r ((x : List ℕ) × IsDiagram false k p behind x × (new ≡ old ++ x))
 several_said (Ok y) k p behind old new w = (several_line k, refl, w)
 several_said (Err y) k p behind old new w = w
 
 -- and a tree as it was
-pub kept_drawn : {A E : Type 0} (r : Result A E) (tree : List ℕ) (p : Standing) (old new : List ℕ) → OnOk r (new ≡ old ++ kept_text tree)
+pub kept_drawn : {A E : Type 0} (r : Result A E) (tree : List ℕ) (p : LineWithUndo) (old new : List ℕ) → OnOk r (new ≡ old ++ kept_text tree)
     → (place : Option Place) (k : ℕ) (behind : List ℕ) → OnOk r ((x : List ℕ) × IsProblemText (Marks place) k tree p behind x × (new ≡ old ++ x))
 kept_drawn (Ok y) tree p old new w place k behind = (kept_text tree, refl, w)
 kept_drawn (Err y) tree p old new w place k behind = w

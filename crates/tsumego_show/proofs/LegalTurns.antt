@@ -9,7 +9,7 @@ use Rattle.tt_game.specs.declared.frame.Frame.{Frame}
 use Rattle.tt_game.specs.declared.turns.Turn.{Turn}
 use Rattle.tt_game.specs.declared.turns.Turn.TheVariants.{Play, Pass}
 use Rattle.tt_game.specs.Game.{State, IsLegal, after, side_colour}
-use Rattle.tt_game.specs.Line.{IsPushed, IsRefusal, Standing}
+use Rattle.tt_game.specs.Line.{IsPushed, IsRefusal, LineWithUndo}
 use Rattle.tt_game.specs.Turns.{is_legal_is}
 use Rattle.tt_proof.specs.Strategy.{Strategy, Entries, pick, reply}
 use Rattle.tsumego_show.specs.Variations.{legal_text, move_text, reply_variations, variations}
@@ -39,13 +39,13 @@ module _ (f : Frame) (s : State) (t : Turn) (behind : List ℕ) where
   refused_written old why r = sym (ap (λ (b : Bool). old ++ text_if b) ((is_legal_is f s t).2 (not_legal f s t why r)) ∙ append-nil old)
 
 -- a turn that was made is written with what follows it
-pub made_written : {A E : Type 0} (r : Result A E) (p q : Standing) (t : Turn) (k : Colour) (n : ℕ) (u : Strategy) (old new : List ℕ)
+pub made_written : {A E : Type 0} (r : Result A E) (p q : LineWithUndo) (t : Turn) (k : Colour) (n : ℕ) (u : Strategy) (old new : List ℕ)
     → IsLegal p.frame p.state t → IsPushed p q t → k ≡ side_colour p.frame p.state.to_move
     → OnOk r (new ≡ old ++ (move_text q.frame.size k t ++ (variations q.frame q.state u n ++ close_tree ∷ [])))
     → OnOk r (new ≡ old ++ legal_text p.frame p.state t (variations p.frame (after p.frame p.state t) u n))
 made_written (Ok y) p q t k n u old new legal pushed same w =
     let behind = variations p.frame (after p.frame p.state t) u n in
-    let here = subst (λ (l : Standing). new ≡ old ++ (move_text l.frame.size k t ++ (variations l.frame l.state u n ++ close_tree ∷ []))) pushed w in
+    let here = subst (λ (l : LineWithUndo). new ≡ old ++ (move_text l.frame.size k t ++ (variations l.frame l.state u n ++ close_tree ∷ []))) pushed w in
     here ∙ ap (λ (x : Colour). old ++ (move_text p.frame.size x t ++ (behind ++ close_tree ∷ []))) same
     ∙ ap (λ (x : List ℕ). old ++ x) (sym (legal_written p.frame p.state t behind legal))
 made_written (Err y) p q t k n u old new legal pushed same w = w

@@ -7,7 +7,7 @@ use Rattle.tt_sgf.specs.laws.TreeLaws.{spelled_opens}
 use Rattle.tt_sgf.specs.Values.{trimmed}
 use Rattle.tt_game.specs.declared.faults.GameFault.{GameFault}
 use Rattle.tt_game.specs.declared.frame.Side.{Side}
-use Rattle.tt_game.specs.Line.{Standing}
+use Rattle.tt_game.specs.Line.{LineWithUndo}
 use Rattle.tt_game.specs.Problems.{problem_of}
 use Rattle.tt_proof.specs.OutlineLaws.{OneSharedCertificate}
 use Rattle.tt_proof.specs.Outlines.{unfolded}
@@ -28,14 +28,14 @@ module _ (one : OneSharedCertificate) where
   stands_same size bytes a b u v x y = let same = one size bytes a b x.0 y.0 x.1 y.1 in (same.0, sym x.2 ∙ ap (unfolded []) same.1 ∙ y.2)
 
   -- a strategy has one text of its first turn
-  first_same : (p : Standing) (side : Side) (u : Strategy) (s t : List ℕ) → DrawsFirst p side u s → DrawsFirst p side u t → s ≡ t
+  first_same : (p : LineWithUndo) (side : Side) (u : Strategy) (s t : List ℕ) → DrawsFirst p side u s → DrawsFirst p side u t → s ≡ t
   first_same p side u s t (begins a x) (begins b y) = ap (turned_text p) (turn_same a b (sym x.0 ∙ y.0))
   first_same p side u s t (begins a x) (begins_none none) = absurd (none a x)
   first_same p side u s t (begins_none none) (begins b y) = absurd (none b y)
   first_same p side u s t (begins_none none) (begins_none never) = refl
 
   -- bytes behind a problem have one drawing
-  drawn_same : (p : Standing) (bytes s t : List ℕ) → DrawsCertificate p bytes s → DrawsCertificate p bytes t → s ≡ t
+  drawn_same : (p : LineWithUndo) (bytes s t : List ℕ) → DrawsCertificate p bytes s → DrawsCertificate p bytes t → s ≡ t
   drawn_same p bytes s t (drawn a u x is flat its_first) (drawn b v y are low others) =
       let same = stands_same p.frame.size bytes a b u v is are in
       let its : DrawsFirst p b v x = subst (λ (k : Side). DrawsFirst p k v x) same.0 (subst (λ (w : Strategy). DrawsFirst p a w x) same.1 its_first) in
@@ -50,7 +50,7 @@ module _ (one : OneSharedCertificate) where
   drawn_same p bytes s t (deep_drawn deep) (deep_drawn more) = refl
 
   -- what follows a problem has one text
-  behind_same : (p : Standing) (behind s t : List ℕ) → DrawsBehind p behind s → DrawsBehind p behind t → s ≡ t
+  behind_same : (p : LineWithUndo) (behind s t : List ℕ) → DrawsBehind p behind s → DrawsBehind p behind t → s ≡ t
   behind_same p behind s t (more_trees a) (more_trees b) = refl
   behind_same p behind s t (more_trees a) (last_tree t' none d) = absurd (none a)
   behind_same p behind s t (last_tree s' none d) (more_trees b) = absurd (none b)
@@ -67,19 +67,19 @@ module _ (one : OneSharedCertificate) where
   found_same size bytes (found side u) no_strategy x (inr (inr none)) = absurd (none side u x.1)
   found_same size bytes (found a u) (found b v) x y = let same = stands_same size (trimmed bytes) a b u v x.1 y.1 in ap₂ (λ (k : Side) (w : Strategy). found k w) same.0 same.1
 
-  diagram_same : (alone : Bool) (k : ℕ) (p : Standing) (behind s t : List ℕ) → IsDiagram alone k p behind s → IsDiagram alone k p behind t → s ≡ t
+  diagram_same : (alone : Bool) (k : ℕ) (p : LineWithUndo) (behind s t : List ℕ) → IsDiagram alone k p behind s → IsDiagram alone k p behind t → s ≡ t
   diagram_same true k p behind s t a b = a.2 ∙ ap (λ (x : Found). svg_text p x) (found_same p.frame.size behind a.0 b.0 a.1 b.1) ∙ sym b.2
   diagram_same false k p behind s t a b = a ∙ sym b
 
   -- and so has a problem
-  problem_text_same : (form : Form) (k : ℕ) (its : List ℕ) (p : Standing) (behind s t : List ℕ) → IsProblemText form k its p behind s → IsProblemText form k its p behind t → s ≡ t
+  problem_text_same : (form : Form) (k : ℕ) (its : List ℕ) (p : LineWithUndo) (behind s t : List ℕ) → IsProblemText form k its p behind s → IsProblemText form k its p behind t → s ≡ t
   problem_text_same Picture k its p behind s t a b = a.2 ∙ ap (λ (x : List ℕ). problem_text k p ++ x) (behind_same p behind a.0 b.0 a.1 b.1) ∙ sym b.2
   problem_text_same Diagram k its p behind s t a b = diagram_same (is_alone k behind) k p behind s t a b
   problem_text_same (Marks place) k its p behind s t a b = a ∙ sym b
   problem_text_same (Variations depth) k its p behind s t a b = a.2 ∙ ap (λ (x : Found). sgf_text p depth x) (found_same p.frame.size behind a.0 b.0 a.1 b.1) ∙ sym b.2
 
   -- and a tree
-  tree_text_same : (form : Form) (k : ℕ) (its : List ℕ) (ns : List Node) (r : Result Standing GameFault) (behind s t : List ℕ)
+  tree_text_same : (form : Form) (k : ℕ) (its : List ℕ) (ns : List Node) (r : Result LineWithUndo GameFault) (behind s t : List ℕ)
       → IsTreeText form k its ns r behind s → IsTreeText form k its ns r behind t → s ≡ t
   tree_text_same form k its ns (Ok p) behind s t a b = problem_text_same form k its p behind s t a b
   tree_text_same form k its ns (Err e) behind s t a b = a ∙ sym b

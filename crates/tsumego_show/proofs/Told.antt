@@ -4,13 +4,13 @@ use Rattle.std.proofs.Common.{append_assoc, subst, if◌then◌else◌, Ok, Err,
 use Rattle.std.specs.declared.result.Result.{Result}
 use Rattle.tt_sgf.specs.declared.trees.TheConstants.{MAX_BYTES}
 use Rattle.tt_sgf.specs.Values.{trimmed}
-use Rattle.tt_game.specs.Line.{Standing}
+use Rattle.tt_game.specs.Line.{LineWithUndo}
 use Rattle.tsumego_show.specs.declared.form.Form.{Form}
 use Rattle.tsumego_show.specs.declared.form.Form.TheVariants.{Picture}
 use Rattle.tsumego_show.specs.Drawing.{DrawsCertificate}
 use Rattle.std.proofs.lemmas.List.{take_all, length-drop}
 use Rattle.tt_sgf.specs.declared.nodes.Node.{Node}
-use Rattle.tt_sgf.specs.Grammar.{GameTree, HasNoTree, SpelledUpTo, main_line, HasOpen}
+use Rattle.tt_sgf.specs.Grammar.{GameTree, HasNoTree, FirstTreeEndsAt, main_line, HasOpen}
 use Rattle.tt_game.specs.Problems.{problem_of}
 use Rattle.tsumego_show.specs.Shown.{DrawsBehind, IsShown, IsInputText, IsProblemText, IsTreeText, Tells, ended, is_tree_refused, last_tree, more_trees, problem_text, stopped}
 use Rattle.tsumego_show.specs.Shown.{too_long, tree, trees}
@@ -36,7 +36,7 @@ IsSoFar form input k rest text refused =
 
 -- one more tree
 pub tree_more : (form : Form) (input : List ℕ) (k : ℕ) (rest text : List ℕ) (refused : Bool) (used : ℕ) (t : GameTree) (nodes : List Node) (text' : List ℕ) (bad : Bool)
-    → IsSoFar form input k rest text refused → SpelledUpTo rest used t → nodes ≡ main_line t
+    → IsSoFar form input k rest text refused → FirstTreeEndsAt rest used t → nodes ≡ main_line t
     → (x : List ℕ) × IsTreeText form k (take used rest) nodes (problem_of nodes) (take (length rest - used) (drop used rest)) x × (text' ≡ text ++ x)
     → bad ≡ is_tree_refused form k nodes (problem_of nodes) (take (length rest - used) (drop used rest)) → IsSoFar form input (k + 1) (take (length rest - used) (drop used rest)) text' (refused || bad)
 tree_more form input k rest text refused used t nodes text' bad far s same w b = λ more other h.
@@ -67,7 +67,7 @@ module _ {form : Form} {input rest text : List ℕ} {k : ℕ} {refused : Bool} (
   ]
 
   -- one more tree is read and told
-  pub progress_step : (used : ℕ) (t : GameTree) (nodes : List Node) (text' : List ℕ) (bad : Bool) → SpelledUpTo rest used t → nodes ≡ main_line t
+  pub progress_step : (used : ℕ) (t : GameTree) (nodes : List Node) (text' : List ℕ) (bad : Bool) → FirstTreeEndsAt rest used t → nodes ≡ main_line t
       → length rest ≤ MAX_BYTES → (x : List ℕ) × IsTreeText form k (take used rest) nodes (problem_of nodes) (take (length rest - used) (drop used rest)) x × (text' ≡ text ++ x)
       → bad ≡ is_tree_refused form k nodes (problem_of nodes) (take (length rest - used) (drop used rest))
       → Progress form input (take (length rest - used) (drop used rest)) text' (k + 1) (refused || bad)
@@ -109,17 +109,17 @@ module _ {form : Form} {input rest text : List ℕ} {k : ℕ} {refused : Bool} (
       many = elim (Rattle.std.proofs.lemmas.Bool.cases_lt 1 k) [ inl lt ↦ lt | inr le ↦ absurd (more (omega (arith, p.some))) ]
 
 -- a tree may follow
-pub behind_more : (p : Standing) (behind old : List ℕ) → HasOpen behind → (x : List ℕ) × DrawsBehind p behind x × (old ≡ old ++ x)
+pub behind_more : (p : LineWithUndo) (behind old : List ℕ) → HasOpen behind → (x : List ℕ) × DrawsBehind p behind x × (old ≡ old ++ x)
 behind_more p behind old h = ([], more_trees h, sym (append-nil old))
 
 -- no tree follows, so what follows is drawn
-pub behind_last : {A E : Type 0} (r : Result A E) (p : Standing) (behind bytes old new : List ℕ) → (HasOpen behind → ⊥) → bytes ≡ trimmed behind
+pub behind_last : {A E : Type 0} (r : Result A E) (p : LineWithUndo) (behind bytes old new : List ℕ) → (HasOpen behind → ⊥) → bytes ≡ trimmed behind
     → OnOk r ((x : List ℕ) × DrawsCertificate p bytes x × (new ≡ old ++ x)) → OnOk r ((x : List ℕ) × DrawsBehind p behind x × (new ≡ old ++ x))
 behind_last (Ok y) p behind bytes old new none is w = (w.0, last_tree w.0 none (subst (λ (x : List ℕ). DrawsCertificate p x w.0) is w.1), w.2)
 behind_last (Err y) p behind bytes old new none is w = w
 
 -- a problem and what is drawn behind it
-pub problem_behind : {A E : Type 0} (r : Result A E) (k : ℕ) (p : Standing) (behind old mid new : List ℕ) → mid ≡ old ++ problem_text k p
+pub problem_behind : {A E : Type 0} (r : Result A E) (k : ℕ) (p : LineWithUndo) (behind old mid new : List ℕ) → mid ≡ old ++ problem_text k p
     → OnOk r ((x : List ℕ) × DrawsBehind p behind x × (new ≡ mid ++ x)) → OnOk r ((x : List ℕ) × IsProblemText Picture k [] p behind x × (new ≡ old ++ x))
 problem_behind (Ok y) k p behind old mid new e w =
     (problem_text k p ++ w.0, (w.0, w.1, refl), w.2 ∙ ap (λ (x : List ℕ). x ++ w.0) e ∙ append_assoc old (problem_text k p) w.0)

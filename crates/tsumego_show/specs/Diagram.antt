@@ -10,7 +10,7 @@ use Rattle.tt_board.specs.declared.Colour.TheVariants.{Black, White}
 use Rattle.tt_board.specs.Play.{is_empty, other}
 use Rattle.tt_board.specs.Reach.{entry_at}
 use Rattle.tt_game.specs.Game.{side_colour}
-use Rattle.tt_game.specs.Line.{Standing}
+use Rattle.tt_game.specs.Line.{LineWithUndo}
 use Rattle.tt_game.specs.declared.turns.Turn.TheVariants.{Play, Pass}
 use Rattle.tt_game.specs.declared.turns.Turn.{Turn}
 use Rattle.tt_proof.specs.Proven.{first_of}
@@ -45,7 +45,7 @@ first_shown so n = least_from so 0 (n - 1) - 1
 abbrev pub last_shown : (ℕ → Bool) → ℕ → ℕ
 last_shown so n = max (first_shown so n) (min (greatest so n + 1) (n - 1))
 
-module _ (p : Standing) where
+module _ (p : LineWithUndo) where
   -- both sides may play on q
   abbrev pub is_inside : ℕ → Bool
   is_inside q = set.contains p.frame.region q
@@ -150,7 +150,7 @@ abbrev pub entry_text : ℕ → ℕ → Option Colour → List ℕ
 entry_text x y None = []
 entry_text x y (Some k) = stone_text x y k
 
-module _ (p : Standing) (first : Option Turn) where
+module _ (p : LineWithUndo) (first : Option Turn) where
   -- a point of a region that isn't the whole board, where no number stands
   abbrev pub has_square : ℕ → Bool
   has_square q = is_inside p q && (not (is_play_on first q) && not (nat_eq (set.len p.frame.region) (point_count p.frame.size)))
@@ -226,7 +226,7 @@ module _ (size : Size) (w : Window) where
   unfoldable pub row_shapes : ℕ → List ℕ
   row_shapes j = row_stroke (left_end w) (middle j) right_end (middle j + 4) (row_number size (w.top + j))
 
-module _ (p : Standing) (first : Option Turn) (w : Window) where
+module _ (p : LineWithUndo) (first : Option Turn) (w : Window) where
   -- the shapes on the points of a row
   unfoldable pub cell_shapes : ℕ → ℕ → List ℕ
   cell_shapes j i = point_shapes p first (middle i) (middle j) ((w.top + j) * p.frame.size.columns + (w.left + i))
@@ -239,5 +239,5 @@ module _ (p : Standing) (first : Option Turn) (w : Window) where
       ++ (flat_map points_shapes (range_with_len 0 (rows_shown w)) ++ codes "</svg>\n")))
 
 -- the problem with the first turn of the strategy that was found
-abbrev pub svg_text : Standing → Found → List ℕ
+abbrev pub svg_text : LineWithUndo → Found → List ℕ
 svg_text p b = drawing p (first_turn b) (window p)

@@ -8,7 +8,7 @@ use Rattle.tt_board.specs.Play.{other}
 use Rattle.tt_game.specs.declared.frame.Side.{Side}
 use Rattle.tt_game.specs.declared.turns.Turn.{Turn}
 use Rattle.tt_game.specs.Game.{IsLegal, after, side_colour}
-use Rattle.tt_game.specs.Line.{Standing}
+use Rattle.tt_game.specs.Line.{LineWithUndo}
 use Rattle.tt_proof.specs.CertificateText.{IsTooDeep, shown_turn}
 use Rattle.tt_proof.specs.Proven.{first_of}
 use Rattle.tt_proof.specs.Strategy.{Strategy, Entries, done, pick, reply, none, entry}
@@ -58,7 +58,7 @@ none_line (b ∷ bs) = codes "what follows is no certificate\n"
 abbrev pub deep_line : List ℕ
 deep_line = codes "what follows goes deeper than 512 turns, so it is no certificate\n"
 
-module _ (p : Standing) where
+module _ (p : LineWithUndo) where
   -- whose strategy it is, and its first lines
   abbrev pub strategy_text : Side → Strategy → List ℕ
   strategy_text side u =
@@ -67,7 +67,7 @@ module _ (p : Standing) where
   -- ---- the first turn
 
   -- the problem after a turn
-  abbrev pub turned : Turn → Standing
+  abbrev pub turned : Turn → LineWithUndo
   turned t = record { frame = p.frame; state = after p.frame p.state t; before = p.state ∷ [] }
 
   -- `After Black ca:`

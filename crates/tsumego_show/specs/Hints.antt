@@ -8,7 +8,7 @@ use Rattle.tt_sgf.specs.declared.size.Size.{Size}
 use Rattle.tt_sgf.specs.Sizes.{point_count}
 use Rattle.tt_board.specs.Play.{Points, other}
 use Rattle.tt_game.specs.declared.turns.Turn.TheVariants.{Play}
-use Rattle.tt_game.specs.Line.{Standing}
+use Rattle.tt_game.specs.Line.{LineWithUndo}
 use Rattle.tt_proof.specs.CertificateText.{turn_text}
 use Rattle.tsumego_show.specs.Picture.{column_letter, row_number}
 use Rattle.tsumego_show.specs.Regions.{empties, near, reached, stones, untaken}
@@ -40,7 +40,7 @@ module _ (size : Size) where
   abbrev pub listed : List ℕ → Points → List ℕ
   listed words points = if nat_eq (set.len points) 0 then [] else words ++ members_text points
 
-module _ (p : Standing) where
+module _ (p : LineWithUndo) where
   -- ---- stones and chains
 
   -- the stones of the defender, and of the attacker

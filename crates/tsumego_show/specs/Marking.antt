@@ -12,7 +12,7 @@ use Rattle.tt_game.specs.declared.faults.GameFault.{GameFault}
 use Rattle.tt_game.specs.declared.faults.GameFault.TheVariants.{NoTarget}
 use Rattle.tt_game.specs.Faults.{code_of}
 use Rattle.tt_game.specs.Games.{GameState}
-use Rattle.tt_game.specs.Line.{Standing}
+use Rattle.tt_game.specs.Line.{LineWithUndo}
 use Rattle.tt_sgf.specs.Bytes.{newline}
 use Rattle.tt_game.specs.Problems.{asked_count, game_of, posed}
 use Rattle.tsumego_show.specs.declared.form.Place.{Place}
@@ -68,21 +68,21 @@ module _ (s : GameState) where
   chosen (Some place) = closed_on (placed_point s.size place)
 
   -- the problem that the mark makes of the game
-  abbrev pub marked : Proposal → Standing
+  abbrev pub marked : Proposal → LineWithUndo
   marked m = posed s m.region (set.insert set.empty m.stone) m.colour
 
 -- ---- what is written of a problem
 
 -- the triangles and squares of a problem
-abbrev pub marks_text : Standing → List ℕ
+abbrev pub marks_text : LineWithUndo → List ℕ
 marks_text p = list_text p Triangles ++ list_text p Squares
 
 -- a tree with them at the head of the node of this number
-abbrev pub with_marks : ℕ → Standing → List ℕ → List ℕ
+abbrev pub with_marks : ℕ → LineWithUndo → List ℕ → List ℕ
 with_marks n p tree = take (behind_semicolon Outside n tree) tree ++ (marks_text p ++ (drop (behind_semicolon Outside n tree) tree ++ newline ∷ []))
 
 -- what the hints have against a problem, and its tree with the marks
-unfoldable pub marked_text : ℕ → Standing → List ℕ → List ℕ
+unfoldable pub marked_text : ℕ → LineWithUndo → List ℕ → List ℕ
 marked_text n p tree = hints p ++ with_marks n p (from_open tree)
 
 -- ---- why nothing is marked

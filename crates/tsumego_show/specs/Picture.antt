@@ -8,7 +8,7 @@ use Rattle.tt_board.specs.declared.Colour.{Colour}
 use Rattle.tt_board.specs.declared.Colour.TheVariants.{Black, White}
 use Rattle.tt_board.specs.Reach.{entry_at}
 use Rattle.tt_game.specs.Game.{side_colour}
-use Rattle.tt_game.specs.Line.{Standing}
+use Rattle.tt_game.specs.Line.{LineWithUndo}
 
 -- ---- points, by the codes of ASCII
 
@@ -31,7 +31,7 @@ shown_of target region None = if region then 43 else 46
 shown_of target region (Some k) = if region then small_symbol target k else stone_symbol target k
 
 -- what is shown of the point with this number
-abbrev pub shown_at : Standing → ℕ → ℕ
+abbrev pub shown_at : LineWithUndo → ℕ → ℕ
 shown_at p n = shown_of (set.contains p.frame.targets n) (set.contains p.frame.region n) (entry_at p.state.present n)
 
 -- ---- lines; a newline ends each
@@ -61,16 +61,16 @@ abbrev pub column_letters_line : Size → List ℕ
 column_letters_line size = space ∷ (columns_text column_letter size.columns ++ newline ∷ [])
 
 -- what is shown of the points of a row, column by column
-abbrev pub shown_in : Standing → ℕ → ℕ → ℕ
+abbrev pub shown_in : LineWithUndo → ℕ → ℕ → ℕ
 shown_in p row column = shown_at p (row * p.frame.size.columns + column)
 
 -- the letter of a row, what is shown of its points, and its number
-abbrev pub row_line : Standing → ℕ → List ℕ
+abbrev pub row_line : LineWithUndo → ℕ → List ℕ
 row_line p row =
     letter row ∷ (columns_text (shown_in p row) p.frame.size.columns ++ (space ∷ (decimal (row_number p.frame.size row) ++ newline ∷ [])))
 
 -- the rows between both lines of letters
-abbrev pub board_text : Standing → List ℕ
+abbrev pub board_text : LineWithUndo → List ℕ
 board_text p = letters_line p.frame.size ++ (flat_map (row_line p) (range_with_len 0 p.frame.size.rows) ++ column_letters_line p.frame.size)
 
 -- ---- who moves
@@ -79,10 +79,10 @@ unfoldable pub colour_name : Colour → List ℕ
 colour_name Black = codes "Black"
 colour_name White = codes "White"
 
-abbrev pub mover_text : Standing → List ℕ
+abbrev pub mover_text : LineWithUndo → List ℕ
 mover_text p = colour_name (side_colour p.frame p.state.to_move) ++ codes " to move, "
 
-abbrev pub target_text : Standing → List ℕ
+abbrev pub target_text : LineWithUndo → List ℕ
 target_text p = codes "T is " ++ colour_name p.frame.defender
 
 -- how many positions came before, which no play may make again
@@ -91,9 +91,9 @@ earlier_text n =
     if nat_eq n 0 then [] else (if nat_eq n 1 then codes ", after 1 earlier position" else codes ", after " ++ (decimal n ++ codes " earlier positions"))
 
 -- `Black to move, T is White, after 1 earlier position`
-abbrev pub asked_line : Standing → List ℕ
+abbrev pub asked_line : LineWithUndo → List ℕ
 asked_line p = mover_text p ++ (target_text p ++ (earlier_text (length p.state.earlier) ++ newline ∷ []))
 
 -- the picture of a problem
-abbrev pub picture : Standing → List ℕ
+abbrev pub picture : LineWithUndo → List ℕ
 picture p = asked_line p ++ board_text p

@@ -7,7 +7,7 @@ use Rattle.tt_game.specs.declared.faults.GameFault.{GameFault}
 use Rattle.tt_game.specs.declared.faults.GameFault.TheVariants.{NotGo, BadSize, BadValue, PointTwice, MixedNode, LifelessStone, OccupiedPoint, RepeatedBoard, AfterEnd}
 use Rattle.tt_game.specs.declared.faults.GameFault.TheVariants.{TooManyTurns, NoTarget, EmptyTarget, MixedTargets, NoMemory}
 use Rattle.tt_game.specs.Faults.{code_of}
-use Rattle.tt_game.specs.Line.{Standing}
+use Rattle.tt_game.specs.Line.{LineWithUndo}
 use Rattle.tt_game.specs.Problems.{problem_of}
 use Rattle.tsumego_show.specs.Faulty.{look_line}
 
@@ -35,7 +35,7 @@ meaning MixedTargets = codes "TR is on stones of both colours: mark those of the
 meaning NoMemory = codes "memory was refused\n"
 
 -- a main line is refused with this number
-abbrev pub is_refused_with : ℕ → Result Standing GameFault → Bool
+abbrev pub is_refused_with : ℕ → Result LineWithUndo GameFault → Bool
 is_refused_with code (Ok p) = false
 is_refused_with code (Err e) = nat_eq (code_of e) code
 

@@ -4,9 +4,9 @@ use Rattle.std.specs.declared.result.Result.{Result}
 use Rattle.tt_sgf.specs.declared.trees.TheConstants.{MAX_BYTES}
 use Rattle.tt_sgf.specs.Bytes.{space}
 use Rattle.tt_sgf.specs.declared.nodes.Node.{Node}
-use Rattle.tt_sgf.specs.Grammar.{GameTree, HasNoTree, HasOpen, SpelledUpTo, main_line}
+use Rattle.tt_sgf.specs.Grammar.{GameTree, HasNoTree, HasOpen, FirstTreeEndsAt, main_line}
 use Rattle.tt_game.specs.declared.faults.GameFault.{GameFault}
-use Rattle.tt_game.specs.Line.{Standing}
+use Rattle.tt_game.specs.Line.{LineWithUndo}
 use Rattle.tt_game.specs.Problems.{problem_of}
 use Rattle.tt_sgf.specs.Values.{trimmed}
 use Rattle.tsumego_show.specs.declared.form.Form.{Form}
@@ -23,7 +23,7 @@ use Rattle.tsumego_show.specs.Variations.{sgf_text}
 
 -- The text on what follows a problem: nothing where a tree may follow; else that on a certificate, without the white space
 -- at both ends.
-pub data DrawsBehind (p : Standing) (behind : List ℕ) : List ℕ → Type 0 where
+pub data DrawsBehind (p : LineWithUndo) (behind : List ℕ) : List ℕ → Type 0 where
   more_trees : HasOpen behind → DrawsBehind p behind []
   last_tree : (text : List ℕ) → (HasOpen behind → ⊥) → DrawsCertificate p (trimmed behind) text → DrawsBehind p behind text
 
@@ -36,17 +36,17 @@ abbrev pub several_line : ℕ → List ℕ
 several_line k = decimal k ++ codes " not drawn: give each problem a file of its own\n"
 
 -- the diagram of a problem that is alone, with the strategy that stands behind it
-abbrev pub IsDiagram : Bool → ℕ → Standing → List ℕ → List ℕ → Type 0
+abbrev pub IsDiagram : Bool → ℕ → LineWithUndo → List ℕ → List ℕ → Type 0
 IsDiagram false k p behind text = text ≡ several_line k
 IsDiagram true k p behind text = (b : Found) × StandsBehind p.frame.size behind b × (text ≡ svg_text p b)
 
 -- the number, the picture and the hints
-abbrev pub problem_text : ℕ → Standing → List ℕ
+abbrev pub problem_text : ℕ → LineWithUndo → List ℕ
 problem_text k p = decimal k ++ (space ∷ (picture p ++ hints p))
 
 -- the text on tree number k with these bytes, which is this problem and is followed by the others: the picture with what follows it;
 -- or the diagram or the game tree with the strategy that stands there; or the tree as it was, since it has its marks
-abbrev pub IsProblemText : Form → ℕ → List ℕ → Standing → List ℕ → List ℕ → Type 0
+abbrev pub IsProblemText : Form → ℕ → List ℕ → LineWithUndo → List ℕ → List ℕ → Type 0
 IsProblemText Picture k tree p behind text = (drawn : List ℕ) × DrawsBehind p behind drawn × (text ≡ problem_text k p ++ drawn)
 IsProblemText Diagram k tree p behind text = IsDiagram (is_alone k behind) k p behind text
 IsProblemText (Variations depth) k tree p behind text = (b : Found) × StandsBehind p.frame.size behind b × (text ≡ sgf_text p depth b)
@@ -66,7 +66,7 @@ is_fault_left (Variations depth) ns e = true
 is_fault_left (Marks place) ns e = is_left place ns e
 
 -- the text on tree number k with these bytes, whose main line is a problem or refused, and which is followed by the others
-abbrev pub IsTreeText : Form → ℕ → List ℕ → List Node → Result Standing GameFault → List ℕ → List ℕ → Type 0
+abbrev pub IsTreeText : Form → ℕ → List ℕ → List Node → Result LineWithUndo GameFault → List ℕ → List ℕ → Type 0
 IsTreeText form k tree ns (Ok p) behind text = IsProblemText form k tree p behind text
 IsTreeText form k tree ns (Err e) behind text = text ≡ fault_told form k tree ns e
 
@@ -77,7 +77,7 @@ is_one_of_several Diagram k behind = not (is_alone k behind)
 is_one_of_several (Variations depth) k behind = false
 is_one_of_several (Marks place) k behind = false
 
-abbrev pub is_tree_refused : Form → ℕ → List Node → Result Standing GameFault → List ℕ → Bool
+abbrev pub is_tree_refused : Form → ℕ → List Node → Result LineWithUndo GameFault → List ℕ → Bool
 is_tree_refused form k ns (Ok p) behind = is_one_of_several form k behind
 is_tree_refused form k ns (Err e) behind = is_fault_left form ns e
 
@@ -85,7 +85,7 @@ is_tree_refused form k ns (Err e) behind = is_fault_left form ns e
 -- and what follows it; or no tree is left, and none was wanted; or none is spelled where one is wanted: at a `(`, or where no
 -- tree was read yet.
 pub data Tells (form : Form) (whole : ℕ) : ℕ → List ℕ → List ℕ → Bool → Type 0 where
-  tree : (k : ℕ) (bytes : List ℕ) (count : ℕ) (t : GameTree) (text more : List ℕ) (refused : Bool) → SpelledUpTo bytes count t
+  tree : (k : ℕ) (bytes : List ℕ) (count : ℕ) (t : GameTree) (text more : List ℕ) (refused : Bool) → FirstTreeEndsAt bytes count t
       → IsTreeText form k (take count bytes) (main_line t) (problem_of (main_line t)) (drop count bytes) text → Tells form whole (k + 1) (drop count bytes) more refused
       → Tells form whole k bytes (text ++ more) (is_tree_refused form k (main_line t) (problem_of (main_line t)) (drop count bytes) || refused)
   ended : (k : ℕ) (bytes : List ℕ) → 1 < k → (HasOpen bytes → ⊥) → Tells form whole k bytes [] false

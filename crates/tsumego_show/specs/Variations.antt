@@ -16,7 +16,7 @@ use Rattle.tt_game.specs.declared.turns.Turn.{Turn}
 use Rattle.tt_game.specs.declared.turns.Turn.TheVariants.{Play, Pass}
 use Rattle.tt_game.specs.Game.{State, after, side_colour, winner_of}
 use Rattle.tt_game.specs.Turns.{is_legal}
-use Rattle.tt_game.specs.Line.{Standing}
+use Rattle.tt_game.specs.Line.{LineWithUndo}
 use Rattle.tt_proof.specs.CertificateText.{turn_text}
 use Rattle.tt_proof.specs.Strategy.{Strategy, Entries, done, pick, reply, none, entry}
 use Rattle.tsumego_show.specs.declared.variations.PointList.{PointList}
@@ -56,7 +56,7 @@ abbrev pub property_text : List ℕ → List ℕ → List ℕ
 property_text name [] = []
 property_text name (b ∷ bs) = name ++ (b ∷ bs)
 
-module _ (p : Standing) where
+module _ (p : LineWithUndo) where
   -- a stone of this colour stands on q
   abbrev pub is_stone : Colour → ℕ → Bool
   is_stone k q = is_stone_of (entry_at p.state.present q) k
@@ -158,7 +158,7 @@ shown_depth depth u = greatest (λ n. nat_le (turns_within u n) most_moves) (dep
 
 -- ---- the whole tree
 
-module _ (p : Standing) where
+module _ (p : LineWithUndo) where
   -- whose strategy it is
   abbrev pub owner_text : Found → List ℕ
   owner_text no_strategy = codes "no certificate follows"

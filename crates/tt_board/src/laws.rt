@@ -3,6 +3,6 @@
 ghost use Rattle.tt_board.specs.Laws.{TestDecides};
 
 /// The test `reaches` of the definitions is true exactly of the points from which a path leads.
-pub fn reaches()
+pub fn reaches_decides()
     ensures { TestDecides }
 {}

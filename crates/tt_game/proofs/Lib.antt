@@ -1,5 +1,5 @@
 pub mod FrameLemmas
-pub mod CourseLemmas
+pub mod GameHistoryLemmas
 pub mod KeyLemmas
 pub mod TurnsLemmas
 pub mod ValueLemmas

@@ -13,7 +13,7 @@ use Rattle.tt_board.specs.Play.{Points, play_of, is_empty}
 use Rattle.tt_board.specs.Stones.{any_empty}
 use Rattle.tt_game.specs.declared.frame.Frame.{Frame}
 use Rattle.tt_game.specs.declared.frame.Side.TheVariants.{Attacker}
-use Rattle.tt_game.specs.Course.{HasBeen}
+use Rattle.tt_game.specs.GameHistory.{HasBeen}
 use Rattle.tt_game.specs.Game.{State, history, side_colour, made, winner_of, winner_on}
 use Rattle.tt_game.specs.MoveGenerators.{IsKindAt}
 

@@ -12,13 +12,13 @@ use Rattle.tt_game.specs.declared.frame.Side.TheVariants.{Attacker, Defender}
 use Rattle.tt_game.specs.declared.records.Replay.{Replay}
 use Rattle.tt_game.specs.Game.{winner_of}
 use Rattle.tt_game.specs.Games.{GameState}
-use Rattle.tt_game.specs.Line.{Standing}
+use Rattle.tt_game.specs.Line.{LineWithUndo}
 use Rattle.tt_game.specs.Nodes.{TR, has, set_named}
 use Rattle.tt_game.specs.Problems.{common_colour, posed, problem_at, problem_of, problem_on, problem_with, region_of, run_to_mark}
 use Rattle.tt_game.specs.Records.{and_then, begin_line, step_node}
 
 -- nobody has won at it
-abbrev IsOpen : Standing → Type 0
+abbrev IsOpen : LineWithUndo → Type 0
 IsOpen p = winner_of p.frame p.state ≡ None
 
 -- a step that came to something came to it from what the step before gave
@@ -32,7 +32,7 @@ either true x y z e = inl e
 either false x y z e = inr e
 
 -- a problem whose targets all have a stone is open
-open_with : (s : GameState) (region targets : Points) (o : Option Colour) (q : Standing) → any_empty targets s.present ≡ false → problem_with s region targets o ≡ Ok q → IsOpen q
+open_with : (s : GameState) (region targets : Points) (o : Option Colour) (q : LineWithUndo) → any_empty targets s.present ≡ false → problem_with s region targets o ≡ Ok q → IsOpen q
 open_with s region targets None q full h = let bad : Err _ ≡ Ok q = h in cc
 open_with s region targets (Some k) q full h =
     let same : posed s region targets k ≡ q = cc in
@@ -41,7 +41,7 @@ open_with s region targets (Some k) q full h =
     subst IsOpen same won
 
 -- so is one posed on sets
-open_on : (s : GameState) (region targets : Points) (q : Standing) → problem_on s region targets ≡ Ok q → IsOpen q
+open_on : (s : GameState) (region targets : Points) (q : LineWithUndo) → problem_on s region targets ≡ Ok q → IsOpen q
 open_on s region targets q h = elim (either (nat_eq (set.len targets) 0) _ _ _ h) [
   | inl none ↦ let bad : Err _ ≡ Ok q = none in cc
   | inr some ↦ elim (cases_Bool (any_empty targets s.present)) [
@@ -51,13 +51,13 @@ open_on s region targets q h = elim (either (nat_eq (set.len targets) 0) _ _ _ h
 ]
 
 -- and one of sets that a node names
-open_at : (s : GameState) (targets region : Option Points) (q : Standing) → problem_at s targets region ≡ Ok q → IsOpen q
+open_at : (s : GameState) (targets region : Option Points) (q : LineWithUndo) → problem_at s targets region ≡ Ok q → IsOpen q
 open_at s None region q h = let bad : Err _ ≡ Ok q = h in cc
 open_at s (Some targets) None q h = let bad : Err _ ≡ Ok q = h in cc
 open_at s (Some targets) (Some region) q h = open_on s region targets q h
 
 -- and one that nodes come to
-open_nodes : (r : Replay) (ns : List Node) (q : Standing) → run_to_mark r ns ≡ Ok q → IsOpen q
+open_nodes : (r : Replay) (ns : List Node) (q : LineWithUndo) → run_to_mark r ns ≡ Ok q → IsOpen q
 unfolding run_to_mark
 open_nodes r [] q h = let bad : Err _ ≡ Ok q = h in cc
 open_nodes r (n ∷ ns) q h =
@@ -68,6 +68,6 @@ open_nodes r (n ∷ ns) q h =
     ]
 
 -- nobody has won at a problem
-pub problem_open : (ns : List Node) (q : Standing) → problem_of ns ≡ Ok q → winner_of q.frame q.state ≡ None
+pub problem_open : (ns : List Node) (q : LineWithUndo) → problem_of ns ≡ Ok q → winner_of q.frame q.state ≡ None
 unfolding problem_of
 problem_open ns q h = let made = step_made (begin_line ns) _ q h in open_nodes made.0 ns q made.2

@@ -32,7 +32,7 @@ use Rattle.tt_game.specs.declared.turns.Turn.TheVariants.{Play, Pass}
 use Rattle.tt_game.specs.Game.{history}
 use Rattle.tt_game.specs.Games.{GameState, all_of, begun_with, empty_game, made_by, refusal_of, turned}
 use Rattle.tt_game.specs.History.{repeats, repeats_is}
-use Rattle.tt_game.specs.Line.{Standing}
+use Rattle.tt_game.specs.Line.{LineWithUndo}
 use Rattle.tt_game.specs.Nodes.{AB, AE, AW, B, GM, PL, SZ, TR, W, apart, colour_named, has, is_go, is_setup, moves_in, set_named, size_named, values_of}
 use Rattle.tt_board.specs.Stones.{any_empty}
 use Rattle.tt_game.specs.Problems.{common_colour, posed, problem_at, problem_of, problem_on, problem_with, region_of, run_to_mark}
@@ -285,19 +285,19 @@ records_are_games ns r e =
 -- ---- problems
 
 -- a problem has the history of the game that it is posed in
-record IsOfGame (s : GameState) (q : Standing) : Type 0 where
+record IsOfGame (s : GameState) (q : LineWithUndo) : Type 0 where
   size : s.size ≡ q.frame.size
   history : all_of s ≡ history q.state
 
 -- a problem posed in a game has that game's history and size
-of_game_with : (s : GameState) (region targets : Points) (o : Option Colour) (q : Standing) → problem_with s region targets o ≡ Ok q → IsOfGame s q
+of_game_with : (s : GameState) (region targets : Points) (o : Option Colour) (q : LineWithUndo) → problem_with s region targets o ≡ Ok q → IsOfGame s q
 of_game_with s region targets None q e = let bad : Err _ ≡ Ok q = e in cc
 of_game_with s region targets (Some k) q e =
     let same : posed s region targets k ≡ q = cc in
-    subst (λ (x : Standing). IsOfGame s x) same (record { size = refl; history = refl })
+    subst (λ (x : LineWithUndo). IsOfGame s x) same (record { size = refl; history = refl })
 
 -- so has one posed on sets
-of_game_on : (s : GameState) (region targets : Points) (q : Standing) → problem_on s region targets ≡ Ok q → IsOfGame s q
+of_game_on : (s : GameState) (region targets : Points) (q : LineWithUndo) → problem_on s region targets ≡ Ok q → IsOfGame s q
 of_game_on s region targets q e = elim (choice (nat_eq (set.len targets) 0) _ _ _ e) [
   | inl none ↦ let bad : Err _ ≡ Ok q = none.1 in cc
   | inr some ↦ elim (choice (any_empty targets s.present) _ _ _ some.1) [
@@ -307,13 +307,13 @@ of_game_on s region targets q e = elim (choice (nat_eq (set.len targets) 0) _ _ 
 ]
 
 -- and one of sets that a node names
-of_game : (s : GameState) (targets region : Option Points) (q : Standing) → problem_at s targets region ≡ Ok q → IsOfGame s q
+of_game : (s : GameState) (targets region : Option Points) (q : LineWithUndo) → problem_at s targets region ≡ Ok q → IsOfGame s q
 of_game s None region q e = let bad : Err _ ≡ Ok q = e in cc
 of_game s (Some targets) None q e = let bad : Err _ ≡ Ok q = e in cc
 of_game s (Some targets) (Some region) q e = of_game_on s region targets q e
 
 -- the history of a problem that nodes come to is by the rules
-mark_lawful : (r : Replay) (ns : List Node) (q : Standing) → run_to_mark r ns ≡ Ok q → IsLawful r → IsByTheRules q.frame.size (history q.state)
+mark_lawful : (r : Replay) (ns : List Node) (q : LineWithUndo) → run_to_mark r ns ≡ Ok q → IsLawful r → IsByTheRules q.frame.size (history q.state)
 unfolding run_to_mark
 mark_lawful r [] q e h = let bad : Err _ ≡ Ok q = e in cc
 mark_lawful r (n ∷ ns) q e h =

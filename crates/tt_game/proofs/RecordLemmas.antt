@@ -16,7 +16,7 @@ use Rattle.tt_game.specs.Records.{alive_below, all_alive, run_nodes, step_node, 
 use Rattle.tt_game.specs.declared.faults.GameFault.{GameFault}
 use Rattle.tt_sgf.specs.declared.nodes.Node.{Node}
 use Rattle.std.specs.Prelude.{Ok, Err}
-use Rattle.tt_game.specs.Course.{HasBeen}
+use Rattle.tt_game.specs.GameHistory.{HasBeen}
 use Rattle.tt_game.proofs.FrameLemmas.{bools}
 
 -- the test of a repeat is what says exactly whether the colouring has been

@@ -8,11 +8,11 @@ use Rattle.tt_game.specs.declared.frame.Side.{Side}
 use Rattle.tt_game.specs.declared.line.Undo.{Undo}
 use Rattle.tt_game.specs.declared.line.Undo.TheVariants.{UndoPlay, UndoPass}
 use Rattle.tt_game.specs.Game.{State, history, opponent}
-use Rattle.tt_game.specs.Course.{Course, so_far, colourings, with_play, with_pass}
-use Rattle.tt_game.specs.inside.Undoing.{course_of, state_at, undone, board_on, last, IsUndoable}
+use Rattle.tt_game.specs.GameHistory.{GameHistory, so_far, colourings, with_play, with_pass}
+use Rattle.tt_game.specs.inside.Undoing.{game_history_of, state_at, undone, board_on, last, IsUndoable}
 use Rattle.tt_game.specs.inside.Roots.{BoardsBegin, AreRooted}
 use Rattle.tt_game.specs.laws.Members.{IsIn, in_of_contains, contains_of_in}
-use Rattle.tt_game.proofs.CourseLemmas.{length-colourings, course_from, front_push, last_push, history_is, same_boards, twice}
+use Rattle.tt_game.proofs.GameHistoryLemmas.{length-colourings, game_history_from, front_push, last_push, history_is, same_boards, twice}
 
 -- a history has at least as many colourings as boards that it begins with
 pub begins_long : (bs : List Position) (h : List Colouring) → BoardsBegin bs h → length bs ≤ length h
@@ -41,35 +41,35 @@ same_state : (xs ys : List Colouring) (x y : Colouring) (a b : Side) (n m : ℕ)
 same_state xs ys x y a b n m e f g h = cc
 
 -- a pass leads back to the state before it, and so does a play
-before_pass : (c : Course) (side : Side) → undone (state_at (with_pass c) (opponent side)) UndoPass ≡ state_at c side
+before_pass : (c : GameHistory) (side : Side) → undone (state_at (with_pass c) (opponent side)) UndoPass ≡ state_at c side
 before_pass c side = same_state c.earlier c.earlier c.present c.present _ side _ c.passes refl refl (twice side) (omega arith)
 
-before_play : (c : Course) (side : Side) (next : Colouring) → undone (state_at (with_play c next) (opponent side)) (UndoPlay c.passes) ≡ state_at c side
+before_play : (c : GameHistory) (side : Side) (next : Colouring) → undone (state_at (with_play c next) (opponent side)) (UndoPlay c.passes) ≡ state_at c side
 before_play c side next = same_state _ c.earlier _ c.present _ side c.passes c.passes (front_push c.earlier c.present) (last_push c.earlier c.present) (twice side) refl
 
 -- a pass keeps the histories
-pub rooted_pass : (bs : List Position) (c : Course) (side : Side) (ps : List Undo) → AreRooted bs (state_at c side) (reverse ps)
+pub rooted_pass : (bs : List Position) (c : GameHistory) (side : Side) (ps : List Undo) → AreRooted bs (state_at c side) (reverse ps)
     → AreRooted bs (state_at (with_pass c) (opponent side)) (reverse (ps ++ UndoPass ∷ []))
 rooted_pass bs c side ps r =
     rooted_push bs (state_at c side) (state_at (with_pass c) (opponent side)) UndoPass ps
     (before_pass c side) (rooted_here bs (state_at c side) (reverse ps) r) r
 
 -- a play goes on with them
-pub rooted_play : (bs : List Position) (c : Course) (side : Side) (ps : List Undo) (next : Colouring) → AreRooted bs (state_at c side) (reverse ps)
+pub rooted_play : (bs : List Position) (c : GameHistory) (side : Side) (ps : List Undo) (next : Colouring) → AreRooted bs (state_at c side) (reverse ps)
     → AreRooted bs (state_at (with_play c next) (opponent side)) (reverse (ps ++ UndoPlay c.passes ∷ []))
 rooted_play bs c side ps next r =
     rooted_push bs (state_at c side) (state_at (with_play c next) (opponent side)) (UndoPlay c.passes) ps
     (before_play c side next) (begins_on bs (so_far c) (next ∷ []) (rooted_here bs (state_at c side) (reverse ps) r)) r
 
 -- a pass can be undone, and so can what could before it
-pub undoable_pass : (g : Size) (c : Course) (side : Side) (ps : List Undo) (below : List Position) → IsUndoable g (state_at c side) (reverse ps) below
+pub undoable_pass : (g : Size) (c : GameHistory) (side : Side) (ps : List Undo) (below : List Position) → IsUndoable g (state_at c side) (reverse ps) below
     → IsUndoable g (state_at (with_pass c) (opponent side)) (reverse (ps ++ UndoPass ∷ [])) below
 undoable_pass g c side ps below u =
     subst (λ us. IsUndoable g (state_at (with_pass c) (opponent side)) us below) (sym (reverse-append ps (UndoPass ∷ [])))
     (omega arith, subst (λ s. IsUndoable g s (reverse ps) below) (sym (before_pass c side)) u)
 
 -- so can a play, where the board before it is kept
-pub undoable_play : (g : Size) (c : Course) (side : Side) (ps : List Undo) (next : Colouring) (b : Position) (below : List Position) → c.passes ≤ 2
+pub undoable_play : (g : Size) (c : GameHistory) (side : Side) (ps : List Undo) (next : Colouring) (b : Position) (below : List Position) → c.passes ≤ 2
     → b ≡ board_on g c.present → IsUndoable g (state_at c side) (reverse ps) below
     → IsUndoable g (state_at (with_play c next) (opponent side)) (reverse (ps ++ UndoPlay c.passes ∷ [])) (b ∷ below)
 undoable_play g c side ps next b below most here u =
@@ -88,11 +88,11 @@ begun_and_since bs there b =
     ∙ ap (λ cs. take (length bs) (colourings there) ++ cs) (sym (drop-map (λ (x : Position). x.points) (length bs) there))
     ∙ take-append-drop (length bs) (colourings there)
 
--- what is kept of a course that begins with boards, those and the boards behind them, shows the course
-pub kept_shows : (c : Course) (bs there : List Position) (side : Side) → colourings there ≡ so_far c → BoardsBegin bs (so_far c)
-    → state_at (course_of c.size (bs ++ drop (length bs) there) c.passes) side ≡ state_at c side
+-- what is kept of a history that begins with boards, those and the boards behind them, shows it
+pub kept_shows : (c : GameHistory) (bs there : List Position) (side : Side) → colourings there ≡ so_far c → BoardsBegin bs (so_far c)
+    → state_at (game_history_of c.size (bs ++ drop (length bs) there) c.passes) side ≡ state_at c side
 kept_shows c bs there side e b =
-    ap (λ (x : Course). state_at x side) (course_from (bs ++ drop (length bs) there) c (begun_and_since bs there (ap (take (length bs)) e ∙ b) ∙ e))
+    ap (λ (x : GameHistory). state_at x side) (game_history_from (bs ++ drop (length bs) there) c (begun_and_since bs there (ap (take (length bs)) e ∙ b) ∙ e))
 
 -- boards are two lists one behind the other exactly where they begin with the first and go on with the second
 pub two_parts : (bs later there : List Position) → bs ++ later ≡ there → (bs ≡ take (length bs) there) × (later ≡ drop (length bs) there)
@@ -136,7 +136,7 @@ begun_fewer bs there e =
 
 -- a state that boards show has their history, and no other boards of their size have it
 pub shows_boards : (g : Size) (bs there : List Position) (passes : ℕ) (side : Side) (s : State) → 0 < length bs
-    → All (λ (b : Position). b.size ≡ g) bs → All (λ (b : Position). b.size ≡ g) there → state_at (course_of g bs passes) side ≡ s
+    → All (λ (b : Position). b.size ≡ g) bs → All (λ (b : Position). b.size ≡ g) there → state_at (game_history_of g bs passes) side ≡ s
     → (history s ≡ colourings there → bs ≡ there) × (bs ≡ there → history s ≡ colourings there)
 shows_boards g bs there passes side s some sizes others shown =
     let own : history s ≡ colourings bs = ap history (sym shown) ∙ history_is g bs passes some in

@@ -20,7 +20,7 @@ use Rattle.tt_game.specs.declared.turns.Turn.{Turn}
 use Rattle.tt_game.specs.declared.turns.Turn.TheVariants.{Play, Pass}
 use Rattle.tt_game.specs.Games.{GameState, all_of, begun_with, empty_game, made_by, refusal_of, turned}
 use Rattle.tt_game.specs.GameLaws.{IsState, ProblemsAreStates}
-use Rattle.tt_game.specs.Line.{Standing}
+use Rattle.tt_game.specs.Line.{LineWithUndo}
 use Rattle.tt_game.specs.Nodes.{AB, AE, AW, B, GM, PL, SZ, TR, W, apart, colour_named, has, is_go, is_setup, moves_in, set_named, size_named, values_of}
 use Rattle.tt_game.specs.Problems.{common_colour, posed, problem_at, problem_of, problem_on, problem_with, region_of, run_to_mark}
 use Rattle.tt_game.specs.Records.{all_alive, as_turn, begin_at, begin_line, begin_node, begun, go_on, move_of, set_up_by, step_node, turn_by, turn_named, replay_with}
@@ -131,17 +131,17 @@ sized_begin (n ∷ ns) q e = elim (either (is_go (values_of GM n.properties)) _ 
 -- ---- problems
 
 -- the problem's state is one as the game has them
-abbrev IsStanding : Standing → Type 0
-IsStanding p = IsState p.frame p.state
+abbrev HasState : LineWithUndo → Type 0
+HasState p = IsState p.frame p.state
 
 -- a problem posed in a game that fits its board has such a state
-state_with : (s : GameState) (region targets : Points) (o : Option Colour) (q : Standing) → problem_with s region targets o ≡ Ok q → IsSized s → IsStanding q
+state_with : (s : GameState) (region targets : Points) (o : Option Colour) (q : LineWithUndo) → problem_with s region targets o ≡ Ok q → IsSized s → HasState q
 state_with s region targets None q e h = let bad : Err _ ≡ Ok q = e in cc
 state_with s region targets (Some k) q e h =
     let same : posed s region targets k ≡ q = cc in
-    subst IsStanding same (record { sized = h; passes = omega arith })
+    subst HasState same (record { sized = h; passes = omega arith })
 
-state_on : (s : GameState) (region targets : Points) (q : Standing) → problem_on s region targets ≡ Ok q → IsSized s → IsStanding q
+state_on : (s : GameState) (region targets : Points) (q : LineWithUndo) → problem_on s region targets ≡ Ok q → IsSized s → HasState q
 state_on s region targets q e h = elim (either (nat_eq (set.len targets) 0) _ _ _ e) [
   | inl none ↦ let bad : Err _ ≡ Ok q = none in cc
   | inr some ↦ elim (either (any_empty targets s.present) _ _ _ some) [
@@ -150,13 +150,13 @@ state_on s region targets q e h = elim (either (nat_eq (set.len targets) 0) _ _ 
   ]
 ]
 
-state_at : (s : GameState) (targets region : Option Points) (q : Standing) → problem_at s targets region ≡ Ok q → IsSized s → IsStanding q
+state_at : (s : GameState) (targets region : Option Points) (q : LineWithUndo) → problem_at s targets region ≡ Ok q → IsSized s → HasState q
 state_at s None region q e h = let bad : Err _ ≡ Ok q = e in cc
 state_at s (Some targets) None q e h = let bad : Err _ ≡ Ok q = e in cc
 state_at s (Some targets) (Some region) q e h = state_on s region targets q e h
 
 -- so has one that nodes come to
-state_nodes : (r : Replay) (ns : List Node) (q : Standing) → run_to_mark r ns ≡ Ok q → IsSized r.game → IsStanding q
+state_nodes : (r : Replay) (ns : List Node) (q : LineWithUndo) → run_to_mark r ns ≡ Ok q → IsSized r.game → HasState q
 unfolding run_to_mark
 state_nodes r [] q e h = let bad : Err _ ≡ Ok q = e in cc
 state_nodes r (n ∷ ns) q e h =

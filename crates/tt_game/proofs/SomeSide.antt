@@ -15,7 +15,7 @@ use Rattle.tt_game.specs.declared.turns.Turn.{Turn}
 use Rattle.tt_game.specs.declared.turns.Turn.TheVariants.{Play, Pass}
 use Rattle.tt_game.specs.declared.frame.Frame.{Frame}
 use Rattle.tt_game.specs.Game.{State, history, winner_of, made, after, opponent, IsLegal, Forces, side_colour, longest}
-use Rattle.tt_game.proofs.CourseLemmas.{twice}
+use Rattle.tt_game.proofs.GameHistoryLemmas.{twice}
 use Rattle.tt_game.specs.Legality.{legal}
 use Rattle.tt_game.specs.GameLaws.{IsState, SomeSideForces, TurnsKeepStates, ValuesAreForced}
 use Rattle.tt_game.proofs.OneSide.{not_both}

@@ -7,7 +7,7 @@ use Rattle.tt_sgf.specs.Words.{bit_in}
 use Rattle.tt_board.specs.Position.{Colouring}
 use Rattle.tt_game.specs.declared.history.bloom_filter.BloomFilter.{BloomFilter}
 use Rattle.tt_game.specs.declared.history.bloom_filter.TheConstants.{LOW, MIXER, FILTER_BITS}
-use Rattle.tt_game.specs.Course.{HasBeen}
+use Rattle.tt_game.specs.GameHistory.{HasBeen}
 use Rattle.tt_game.specs.Mixing.{mix_board}
 
 -- the hash of a colouring: what the words of both colours make, multiplied once more, since the last word was only added

@@ -5,7 +5,7 @@ use Rattle.tt_game.specs.declared.frame.Side.{Side}
 use Rattle.tt_game.specs.declared.frame.Side.TheVariants.{Attacker, Defender}
 use Rattle.tt_game.specs.declared.frame.Frame.{Frame}
 use Rattle.tt_game.specs.Game.{State, history, winner_of, after, IsLegal, Forces, HasValue, longest, value_for}
-use Rattle.tt_game.specs.Line.{Standing}
+use Rattle.tt_game.specs.Line.{LineWithUndo}
 use Rattle.tt_game.specs.Problems.{problem_of}
 use Rattle.tt_sgf.specs.declared.nodes.Node.{Node}
 use Rattle.tt_game.specs.declared.turns.Turn.{Turn}
@@ -40,8 +40,8 @@ LegalTurnsListed = (f : Frame) (s : State) → ((t : Turn) → Contains (legal_t
 
 -- nobody has won at a problem
 abbrev pub ProblemsOpen : Type 0
-ProblemsOpen = (nodes : List Node) (p : Standing) → problem_of nodes ≡ Ok p → winner_of p.frame p.state ≡ None
+ProblemsOpen = (nodes : List Node) (p : LineWithUndo) → problem_of nodes ≡ Ok p → winner_of p.frame p.state ≡ None
 
 -- the state of a problem is such a state
 abbrev pub ProblemsAreStates : Type 0
-ProblemsAreStates = (nodes : List Node) (p : Standing) → problem_of nodes ≡ Ok p → IsState p.frame p.state
+ProblemsAreStates = (nodes : List Node) (p : LineWithUndo) → problem_of nodes ≡ Ok p → IsState p.frame p.state

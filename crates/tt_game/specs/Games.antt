@@ -13,7 +13,7 @@ use Rattle.tt_game.specs.declared.faults.Refused.{Refused}
 use Rattle.tt_game.specs.declared.faults.Refused.TheVariants.{Illegal, NoMemory}
 use Rattle.tt_game.specs.declared.turns.Turn.{Turn}
 use Rattle.tt_game.specs.declared.turns.Turn.TheVariants.{Play, Pass}
-use Rattle.tt_game.specs.Course.{Course, so_far, with_play, with_pass, first_course}
+use Rattle.tt_game.specs.GameHistory.{GameHistory, so_far, with_play, with_pass, new_game_history}
 use Rattle.tt_game.specs.History.{repeats}
 
 -- a game: its board's size, the colourings before the present one (oldest first), the present one, who moves, and the
@@ -25,17 +25,17 @@ pub record GameState : Type 0 where
   pub to_move : Colour
   pub passes : ℕ
 
--- the course of a game
-abbrev pub course : GameState → Course
-course s = record { size = s.size; earlier = s.earlier; present = s.present; passes = s.passes }
+-- the history of a game
+abbrev pub game_history : GameState → GameHistory
+game_history s = record { size = s.size; earlier = s.earlier; present = s.present; passes = s.passes }
 
--- the game of a course at which a colour moves
-abbrev pub game_at : Course → Colour → GameState
+-- the game of a history at which a colour moves
+abbrev pub game_at : GameHistory → Colour → GameState
 game_at c k = record { size = c.size; earlier = c.earlier; present = c.present; to_move = k; passes = c.passes }
 
 -- every colouring so far, oldest first, the present one last
 abbrev pub all_of : GameState → List Colouring
-all_of s = so_far (course s)
+all_of s = so_far (game_history s)
 
 -- the colouring that a move on p makes
 abbrev pub made_by : GameState → ℕ → Colouring
@@ -52,8 +52,8 @@ refusal_of s (Play p) = cond (s.passes == 2) (Some Over) (move_refusal s p)
 
 -- the game after a turn
 abbrev pub turned : GameState → Turn → GameState
-turned s Pass = game_at (with_pass (course s)) (other s.to_move)
-turned s (Play p) = game_at (with_play (course s) (made_by s p)) (other s.to_move)
+turned s Pass = game_at (with_pass (game_history s)) (other s.to_move)
+turned s (Play p) = game_at (with_play (game_history s) (made_by s p)) (other s.to_move)
 
 -- an error of a push
 abbrev pub IsHalted : GameState → Turn → Refused → Type 0
@@ -62,7 +62,7 @@ IsHalted s t NoMemory = refusal_of s t ≡ None
 
 -- a game that begins with this colouring alone
 abbrev pub begun_with : Size → Colouring → Colour → GameState
-begun_with size c k = game_at (first_course size c) k
+begun_with size c k = game_at (new_game_history size c) k
 
 -- before the first turn: the empty board, and Black moves
 abbrev pub empty_game : Size → GameState

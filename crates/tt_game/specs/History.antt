@@ -2,7 +2,7 @@
 use Rattle.std.specs.Prelude.{◌≡◌, List, [], ◌∷◌, length, Bool, true, false, slice_index_or}
 use Rattle.std.proofs.Common.{inl, inr, refl}
 use Rattle.tt_board.specs.Position.{Colouring}
-use Rattle.tt_game.specs.Course.{HasBeen}
+use Rattle.tt_game.specs.GameHistory.{HasBeen}
 use Rattle.tt_board.specs.Decided.{Decision, some_below, same_entry, decided, decided_is, decided_not}
 
 -- whether two colourings are equal

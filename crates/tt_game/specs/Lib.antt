@@ -1,5 +1,5 @@
 -- What public contracts cite.
-pub mod Course
+pub mod GameHistory
 pub mod Game
 pub mod Sides
 pub mod History

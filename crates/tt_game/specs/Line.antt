@@ -11,7 +11,7 @@ use Rattle.tt_game.specs.declared.faults.Refused.TheVariants.{Illegal, NoMemory}
 use Rattle.tt_game.specs.declared.frame.Frame.{Frame}
 use Rattle.tt_game.specs.declared.turns.Turn.{Turn}
 use Rattle.tt_game.specs.declared.turns.Turn.TheVariants.{Play, Pass}
-use Rattle.tt_game.specs.Course.{HasBeen}
+use Rattle.tt_game.specs.GameHistory.{HasBeen}
 use Rattle.tt_game.specs.Game.{State, history, winner_of, made, IsLegal, after}
 
 -- a problem has some target, and all are on its board
@@ -19,18 +19,18 @@ abbrev pub HasTargets : Frame → Type 0
 HasTargets f = (0 < set.len f.targets) × LiesOn f.size f.targets
 
 -- a frame, a state, and the states before the pushes that may be undone, the last one first
-pub record Standing : Type 0 where
+pub record LineWithUndo : Type 0 where
   pub frame : Frame
   pub state : State
   pub before : List State
 
 -- where a line stood: its frame and its state
-pub record Stood : Type 0 where
+pub record SnapshotState : Type 0 where
   pub frame : Frame
   pub state : State
 
 -- the state is of that frame, and has the present colouring, the side to move and the passes that stood there
-abbrev pub IsPosition : Stood → Frame → State → Type 0
+abbrev pub IsPosition : SnapshotState → Frame → State → Type 0
 IsPosition p f s = (p.frame ≡ f) × (s.present ≡ p.state.present) × (s.to_move ≡ p.state.to_move) × (s.passes ≡ p.state.passes)
 
 -- the history of the state has the board: it is the frame's, with a colouring that has been
@@ -54,5 +54,5 @@ IsRefused f s t (Illegal why) = IsRefusal f s t why
 IsRefused f s t NoMemory = IsLegal f s t
 
 -- the turn was made, and the state before it may be undone to
-abbrev pub IsPushed : Standing → Standing → Turn → Type 0
+abbrev pub IsPushed : LineWithUndo → LineWithUndo → Turn → Type 0
 IsPushed old new t = new ≡ record { frame = old.frame; state = after old.frame old.state t; before = old.state ∷ old.before }

@@ -12,7 +12,7 @@ use Rattle.tt_board.specs.Reach.{entry_at}
 use Rattle.tt_board.specs.Stones.{IsEmptyIn}
 use Rattle.tt_game.specs.declared.frame.Frame.{Frame}
 use Rattle.tt_game.specs.declared.plays.move_generator.MoveGenerator.{MoveGenerator}
-use Rattle.tt_game.specs.Course.{HasBeen}
+use Rattle.tt_game.specs.GameHistory.{HasBeen}
 use Rattle.tt_game.specs.Mixing.{mix_board}
 use Rattle.tt_game.specs.Game.{State, history, side_colour, made}
 

@@ -15,7 +15,7 @@ use Rattle.tt_game.specs.declared.faults.GameFault.{GameFault}
 use Rattle.tt_game.specs.declared.faults.GameFault.TheVariants.{BadValue, NoTarget, EmptyTarget, MixedTargets}
 use Rattle.tt_game.specs.declared.frame.Side.{Side}
 use Rattle.tt_game.specs.declared.frame.Side.TheVariants.{Attacker, Defender}
-use Rattle.tt_game.specs.Line.{Standing}
+use Rattle.tt_game.specs.Line.{LineWithUndo}
 use Rattle.tt_game.specs.declared.records.Replay.{Replay}
 use Rattle.tt_game.specs.Games.{GameState}
 use Rattle.tt_game.specs.Nodes.{AB, AW, TR, SQ, has, moves_in, set_named}
@@ -34,7 +34,7 @@ abbrev pub side_of : Colour → Colour → Side
 side_of defender k = cond (same_colour defender k) Defender Attacker
 
 -- the game goes on as a problem: the history and the side to move stay, and the passes are counted anew
-abbrev pub posed : GameState → Points → Points → Colour → Standing
+abbrev pub posed : GameState → Points → Points → Colour → LineWithUndo
 posed s region targets k = record {
   frame = record { size = s.size; region = region; targets = targets; defender = k };
   state = record { earlier = s.earlier; present = s.present; to_move = side_of k s.to_move; passes = 0 };
@@ -46,29 +46,29 @@ abbrev pub common_colour : Points → Colouring → Option Colour
 common_colour s c = if all_stones_of s c Black then Some Black else (if all_stones_of s c White then Some White else None)
 
 -- the defender is the colour of the targets' stones
-abbrev pub problem_with : GameState → Points → Points → Option Colour → Result Standing GameFault
+abbrev pub problem_with : GameState → Points → Points → Option Colour → Result LineWithUndo GameFault
 problem_with s region targets None = Err MixedTargets
 problem_with s region targets (Some k) = Ok (posed s region targets k)
 
 -- a problem wants some target, a stone on each, and all of one colour
-abbrev pub problem_on : GameState → Points → Points → Result Standing GameFault
+abbrev pub problem_on : GameState → Points → Points → Result LineWithUndo GameFault
 problem_on s region targets =
     if nat_eq (set.len targets) 0 then Err NoTarget else (if any_empty targets s.present then Err EmptyTarget else problem_with s region targets (common_colour targets s.present))
 
 -- the sets of TR and SQ: bad ones first, then an empty target, then stones of both colours
-abbrev pub problem_at : GameState → Option Points → Option Points → Result Standing GameFault
+abbrev pub problem_at : GameState → Option Points → Option Points → Result LineWithUndo GameFault
 problem_at s None region = Err BadValue
 problem_at s (Some targets) None = Err BadValue
 problem_at s (Some targets) (Some region) = problem_on s region targets
 
 -- nodes up to and with the first that has TR
-unfoldable pub run_to_mark : Replay → List Node → Result Standing GameFault
+unfoldable pub run_to_mark : Replay → List Node → Result LineWithUndo GameFault
 run_to_mark r [] = Err NoTarget
 run_to_mark r (n ∷ ns) = and_then (step_node r n)
     (λ q. cond (has TR n) (problem_at q.game (set_named q.game.size TR n) (region_of q.game.size n)) (run_to_mark q ns))
 
 -- what problem a main line is
-unfoldable pub problem_of : List Node → Result Standing GameFault
+unfoldable pub problem_of : List Node → Result LineWithUndo GameFault
 problem_of ns = and_then (begin_line ns) (λ r. run_to_mark r ns)
 
 -- ---- main lines without targets

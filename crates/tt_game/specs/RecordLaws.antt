@@ -15,7 +15,7 @@ use Rattle.tt_game.specs.declared.records.TheConstants.{MOST_TURNS}
 use Rattle.tt_game.specs.Game.{history}
 use Rattle.tt_game.specs.Games.{all_of}
 use Rattle.tt_game.specs.History.{repeats}
-use Rattle.tt_game.specs.Line.{Standing}
+use Rattle.tt_game.specs.Line.{LineWithUndo}
 use Rattle.tt_game.specs.Nodes.{TR, has, is_setup}
 use Rattle.tt_game.specs.Problems.{problem_of}
 use Rattle.tt_game.specs.Records.{and_then, begin_line, record_of, run_nodes, step_node}
@@ -45,7 +45,7 @@ RecordsAreGames = (nodes : List Node) (r : Replay) → ComesTo nodes r → IsByT
 
 -- a problem's history is by the rules
 abbrev pub ProblemsAreGames : Type 0
-ProblemsAreGames = (nodes : List Node) (p : Standing) → problem_of nodes ≡ Ok p → IsByTheRules p.frame.size (history p.state)
+ProblemsAreGames = (nodes : List Node) (p : LineWithUndo) → problem_of nodes ≡ Ok p → IsByTheRules p.frame.size (history p.state)
 
 -- a setup begins the history anew, with one colouring; another node leaves it, or a play adds the present one at its end
 abbrev pub SetupsBeginHistories : Type 0

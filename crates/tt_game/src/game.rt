@@ -2,7 +2,7 @@
 
 ghost use Rattle.std.specs.Prelude.{◌≡◌, ◌≢◌, ℕ, ◌+◌, ◌*◌, ◌<◌, ◌≤◌, ◌↔◌, length, map, Some, None, All, IsTrue, Contains, MatchResult, OnOk, OnErr, IfOk, IfErr};
 ghost use Rattle.tt_sgf.specs.Sizes.{point_count};
-ghost use Rattle.tt_game.specs.Course.{so_far};
+ghost use Rattle.tt_game.specs.GameHistory.{so_far};
 ghost use Rattle.tt_game.specs.BloomFilter.{hash_of, MayHoldAll};
 
 use crate::faults::{Refused, Why};
@@ -59,7 +59,7 @@ fn note(filter: &mut BloomFilter, history: &History, hash: usize)
 
 impl Model for Game {
     ghost use Rattle.std.specs.Prelude.{◌≡◌, IsTrue};
-    ghost use Rattle.tt_game.specs.Course.{so_far};
+    ghost use Rattle.tt_game.specs.GameHistory.{so_far};
     ghost use Rattle.tt_game.specs.Games.{GameState, game_at};
     ghost use Rattle.tt_game.specs.BloomFilter.{MayHoldAll};
     ghost use Rattle.tt_game.specs.inside.Undoing.{board_on};

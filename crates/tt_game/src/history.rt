@@ -1,4 +1,4 @@
-//! The course of a game: its boards so far and the passes in a row. Superko stands here, for problems and for records.
+//! The history of a game: its boards so far and the passes in a row. Superko stands here, for problems and for records.
 
 pub(crate) mod bloom_filter;
 pub(crate) mod board_stack;
@@ -8,7 +8,7 @@ pub(crate) mod snapshot;
 ghost use Rattle.std.specs.Prelude.{◌≡◌, ◌≢◌, ◌+◌, ◌<◌, ◌≤◌, ◌↔◌, ◌∷◌, ◌++◌, [], length, take, drop, All, IsTrue, OnOk, OnErr, IfOk, Some};
 ghost use Rattle.tt_sgf.specs.Sizes.{point_count};
 ghost use Rattle.tt_board.specs.Position.{Colouring};
-ghost use Rattle.tt_game.specs.Course.{HasBeen, colourings};
+ghost use Rattle.tt_game.specs.GameHistory.{HasBeen, colourings};
 ghost use Rattle.tt_board.specs.Reach.{entry_at};
 
 use std::alloc::Global;
@@ -20,7 +20,7 @@ use tt_sgf::{NoMemory, Point, Size};
 const ROOM: usize = 16;
 
 /// The boards of a game so far, the last one present, and how many passes were made in a row since the last play.
-/// Contracts see it as `Course`.
+/// Contracts see it as `GameHistory`.
 ///
 /// The first `count` boards are those so far. Boards above them stay when plays are taken back, so that the next play is written over
 /// one of them: it moves no board and takes no memory.
@@ -35,12 +35,12 @@ pub(crate) struct History {
 
 impl Model for History {
     ghost use Rattle.std.specs.Prelude.{◌≡◌, ◌<◌, ◌≤◌, length, take, All};
-    ghost use Rattle.tt_game.specs.Course.{Course};
-    ghost use Rattle.tt_game.specs.inside.Undoing.{course_of};
+    ghost use Rattle.tt_game.specs.GameHistory.{GameHistory};
+    ghost use Rattle.tt_game.specs.inside.Undoing.{game_history_of};
 
-    ghost Value = { Course };
+    ghost Value = { GameHistory };
 
-    ghost view = { λ h. course_of h.size (take h.count h.boards.items) h.passes };
+    ghost view = { λ h. game_history_of h.size (take h.count h.boards.items) h.passes };
 
     ghost invariant = { λ h. record {
       some_board : 0 < h.count;
@@ -92,12 +92,12 @@ fn write(boards: &mut Vec<Board>, count: usize, next: &CountedBoard) -> Result<(
 }
 
 impl History {
-    ghost use Rattle.tt_game.specs.Course.{Course, so_far, with_play, with_pass, first_course};
+    ghost use Rattle.tt_game.specs.GameHistory.{GameHistory, so_far, with_play, with_pass, new_game_history};
     ghost use Rattle.tt_game.specs.inside.Undoing.{without_play, without_pass};
 
     /// The history of this board alone.
     pub(crate) fn of(alloc: Global, board: Board) -> Result<History, NoMemory>
-        ensures { IfOk result (λ h. h ≡ first_course board.size board.points) }
+        ensures { IfOk result (λ h. h ≡ new_game_history board.size board.points) }
     {
         let size = board.size();
         let mut boards = Vec::new(alloc);

@@ -25,6 +25,7 @@ pub use history::snapshot::Snapshot;
 pub use keys::Key;
 pub use line::Line;
 pub use plays::LegalPlays;
-pub use problems::{asked_game, problem};
+pub use nodes::{has_move, named_set};
+pub use problems::{asked_count, asked_game, problem};
 pub use records::{Record, play_record};
 pub use turns::{MOST_LEGAL, Turn, Turns};

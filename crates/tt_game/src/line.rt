@@ -1,7 +1,7 @@
 //! A problem and a game of it (Tromp-Taylor rules with a region and targets): turns are made and undone.
 
 ghost use Rattle.std.specs.Prelude.{◌≡◌, ◌≢◌, ℕ, ◌+◌, ◌-◌, ◌<◌, ◌≤◌, ◌↔◌, ◌∷◌, length, slice_set, IsTrue, IsSome, IfSome, MatchOption, Contains, All};
-ghost use Rattle.tt_game.specs.Course.{HasBeen, colourings};
+ghost use Rattle.tt_game.specs.GameHistory.{HasBeen, colourings};
 ghost use Rattle.tt_game.specs.Mixing.{mix_board};
 ghost use Rattle.tt_board.specs.Position.{Colouring};
 ghost use Rattle.tt_sgf.specs.Sizes.{point_count};
@@ -42,17 +42,17 @@ impl Model for Line {
     ghost use Rattle.std.specs.Prelude.{◌≡◌, ◌<◌, ◌≤◌, reverse, length, All};
     ghost use Rattle.tt_sgf.specs.Sizes.{point_count};
     ghost use Rattle.std.specs.Arc.{arc_value};
-    ghost use Rattle.tt_game.specs.Line.{Standing, HasTargets};
+    ghost use Rattle.tt_game.specs.Line.{LineWithUndo, HasTargets};
     ghost use Rattle.tt_game.specs.inside.Roots.{AreRooted};
-    ghost use Rattle.tt_game.specs.inside.Undoing.{standing_of, state_at, board_on, IsUndoable};
+    ghost use Rattle.tt_game.specs.inside.Undoing.{line_with_undo, state_at, board_on, IsUndoable};
     ghost use Rattle.tt_sgf.specs.contracts.sets.PointSet as points;
     ghost use Rattle.std.specs.Coded.{codes};
 
-    ghost Value = { Standing };
+    ghost Value = { LineWithUndo };
 
     ghost coded = { Prim.hlevel (codes, points.the_row.coded) };
 
-    ghost view = { λ l. standing_of l.frame (state_at l.history l.to_move) (reverse l.pushes.items) };
+    ghost view = { λ l. line_with_undo l.frame (state_at l.history l.to_move) (reverse l.pushes.items) };
 
     ghost invariant = { λ l. record {
       size : l.history.size ≡ l.frame.size;

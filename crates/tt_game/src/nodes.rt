@@ -11,8 +11,12 @@ use tt_sgf::{
     BadPoint, Node, PointSet, Property, Size, board_size, number, point_set, skip_blanks,
 };
 
-/// The union of the sets that the properties of this name give.
-pub(crate) fn named_set(
+/// The union of the sets of points that the properties of this name give (SGF FF[4], "list of point").
+///
+/// # Errors
+///
+/// A value that names no point or rectangle of the board.
+pub fn named_set(
     properties: &[Property],
     name: &[u8],
     size: Size,
@@ -118,9 +122,9 @@ pub(crate) fn sets_up(node: &Node) -> bool
             && !(has_value(properties, b"B") || has_value(properties, b"W")))
 }
 
-/// Whether a node has a move.
+/// Whether a node has a move: a value of B or W.
 #[tactic(auto, using(crate::proofs::RecordLemmas::counted_one))]
-pub(crate) fn has_move(node: &Node) -> bool
+pub fn has_move(node: &Node) -> bool
     ensures { result ≡ nat_le 1 (moves_in node.now) }
 {
     let properties = node.properties.as_slice();

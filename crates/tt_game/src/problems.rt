@@ -115,9 +115,9 @@ fn puts_stones(node: &Node) -> bool
     has_value(properties, b"AB") || has_value(properties, b"AW")
 }
 
-/// How many of these nodes stand in front of the first move behind stones that are set up.
+/// How many of these nodes stand in front of the first move behind stones that are set up: all of them without such a move.
 #[tactic(auto, using(crate::proofs::ProblemLemmas::asked_nil, crate::proofs::ProblemLemmas::asked_stop, crate::proofs::ProblemLemmas::asked_step))]
-fn asked_count(nodes: &[Node]) -> usize
+pub fn asked_count(nodes: &[Node]) -> usize
     ensures value { result ≡ asked_count false nodes.now }
     ensures most { result ≤ length nodes.now }
 {

@@ -2,7 +2,7 @@
 use Rattle.std.proofs.Common.{◌≡◌, ℕ, zero, suc, ◌+◌, ◌-◌, ◌*◌, ◌<◌, ◌≤◌, ◌⊎◌, inl, inr, refl, sym, ◌∙◌, ap, subst, arith}
 use Rattle.tt_game.specs.declared.frame.Frame.{Frame}
 use Rattle.tt_game.specs.Game.{State}
-use Rattle.tt_game.specs.Line.{Standing}
+use Rattle.tt_game.specs.Line.{LineWithUndo}
 use Rattle.tt_search.specs.PartialTree.{PartialTree}
 use Rattle.tt_search.specs.Numbers.{count, IsUndecided}
 use Rattle.tt_search.specs.MostProving.{most_proving_depth}
@@ -70,10 +70,10 @@ module _ (at : Stand) (limits : Limits) where
     grows_with before new (steady_with n old before h u k) (steady_undecided n at old before k u) g,
   )
 
-abbrev searched : Standing → Limits → PartialTree → Searched
+abbrev searched : LineWithUndo → Limits → PartialTree → Searched
 searched line limits tree = record { line = line; limits = limits; tree = tree }
 
-module _ (line : Standing) (room : ℕ) (limits : Limits) where
+module _ (line : LineWithUndo) (room : ℕ) (limits : Limits) where
   -- what a step at the root is to a search
   step_of : (old : Stage) (step : Step) (new : Stage) → IsSearch (stand line room) limits old → IsUndecided old.tree → Taken (stand line room) old step new.tree
       → IsLeft step old.left new.left → StepOf (searched line limits old.tree) step (searched line limits new.tree)

@@ -8,7 +8,7 @@ use Rattle.std.proofs.lemmas.Option.{slice_get_within, slice_get-map, get_or_fro
 use Rattle.tt_game.specs.declared.frame.Side.{Side}
 use Rattle.tt_game.specs.declared.history.bloom_filter.BloomFilter.{BloomFilter}
 use Rattle.tt_game.specs.Keys.{key_of}
-use Rattle.tt_game.specs.Line.{Standing}
+use Rattle.tt_game.specs.Line.{LineWithUndo}
 use Rattle.tt_game.specs.BloomFilter.{MayHold}
 use Rattle.tt_proof.specs.Proven.{Proven}
 use Rattle.tt_search.specs.Stores.{HasKeyAndSide, IsNewest}
@@ -130,7 +130,7 @@ unmarked_past_next heads before hashes hash slot next linked within same is late
 
 -- ---- the newest proof
 
-module _ (line : Standing) (side : Side) where
+module _ (line : LineWithUndo) (side : Side) where
   newest_over : (xs ys : List Proven) (o : Option Proven) → IsNewest line side xs None → IsNewest line side ys o → IsNewest line side (xs ++ ys) o
   newest_over [] ys o none h = h
   newest_over (x ∷ xs) ys o (inl none) h = absurd (grind (arith, none))

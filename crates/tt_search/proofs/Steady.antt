@@ -4,7 +4,7 @@ use Rattle.std.proofs.lemmas.List.{length-set, get_or-set_same, set-get_or}
 use Rattle.tt_game.specs.declared.frame.Side.{Side}
 use Rattle.tt_game.specs.declared.frame.Side.TheVariants.{Attacker, Defender}
 use Rattle.tt_game.specs.declared.turns.Turn.{Turn}
-use Rattle.tt_game.specs.Line.{Standing}
+use Rattle.tt_game.specs.Line.{LineWithUndo}
 use Rattle.tt_search.specs.PartialTree.{PartialTree, expanded}
 use Rattle.tt_search.specs.Numbers.{combined, number, numbers, count, IsUndecided}
 use Rattle.tt_search.specs.MostProving.{first_least, best}
@@ -148,7 +148,7 @@ same_numbers a b p d Attacker = p
 same_numbers a b p d Defender = d
 
 -- what steps make of a tree may be offered
-pub steps_offerable : (stop : Stop) (line : Standing) (room : ℕ) (old : Stage) (step : Step) (new : Stage) → room ≤ 512 → MayGrow (stand line room) old.tree
+pub steps_offerable : (stop : Stop) (line : LineWithUndo) (room : ℕ) (old : Stage) (step : Step) (new : Stage) → room ≤ 512 → MayGrow (stand line room) old.tree
     → AreStepsAt stop (stand line room) old step new → IsOfferable line new.tree
 steps_offerable stop line room old step new l m k =
     offerable line room new.tree l (taken_keeps (stand line room) k.before step new.tree (steady_keeps k.how_many (stand line room) old k.before k.steady m) k.taken)

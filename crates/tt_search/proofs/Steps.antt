@@ -2,7 +2,7 @@
 use Rattle.std.proofs.Common.{◌≡◌, ℕ, suc, ◌+◌, ◌-◌, ◌≤◌, inl, inr, None, sym, ap, subst, arith}
 use Rattle.tt_sgf.specs.declared.size.Size.{Size}
 use Rattle.tt_game.specs.Game.{State, winner_of}
-use Rattle.tt_game.specs.Line.{Standing}
+use Rattle.tt_game.specs.Line.{LineWithUndo}
 use Rattle.tt_search.specs.PartialTree.{PartialTree, fresh, won, closed, expanded, Children, no_more, more}
 use Rattle.tt_search.specs.Numbers.{count, IsUndecided}
 use Rattle.tt_search.specs.MostProving.{most_proving_state, most_proving_depth}
@@ -98,14 +98,14 @@ mutual
   all_stay_in_more size room more' (more tree children) l h = (stays_in_more size room more' tree l h.0, all_stay_in_more size room more' children l h.1)
 
 -- a tree may be offered where the line stands
-abbrev pub IsOfferable : Standing → PartialTree → Type 0
+abbrev pub IsOfferable : LineWithUndo → PartialTree → Type 0
 IsOfferable line tree = IsPartialTree line.frame line.state tree × StaysWithin line.frame.size 512 tree
 
 -- a tree within a room of at most 512 turns may be offered
-pub offerable : (line : Standing) (room : ℕ) (tree : PartialTree) → room ≤ 512 → IsTreeWithin (stand line room) tree → IsOfferable line tree
+pub offerable : (line : LineWithUndo) (room : ℕ) (tree : PartialTree) → room ≤ 512 → IsTreeWithin (stand line room) tree → IsOfferable line tree
 offerable line room tree l h = (h.0, stays_in_more line.frame.size room 512 tree l h.1)
 
 -- an expanded leaf may be offered
-pub expansion_offerable : (line : Standing) (new : PartialTree) → winner_of line.frame line.state ≡ None → new ≡ expansion line.frame line.state → IsOfferable line new
+pub expansion_offerable : (line : LineWithUndo) (new : PartialTree) → winner_of line.frame line.state ≡ None → new ≡ expansion line.frame line.state → IsOfferable line new
 expansion_offerable line new nobody is =
     subst (IsOfferable line) (sym is) (expansion_partial line.frame line.state nobody, expansion_stays line.frame.size 512 line.frame line.state (omega arith))

@@ -4,7 +4,7 @@ use Rattle.tt_game.specs.declared.frame.Side.{Side}
 use Rattle.tt_game.specs.declared.keys.Key.{Key}
 use Rattle.tt_game.specs.Keys.{key_of}
 use Rattle.tt_game.specs.KeyHash.{hash_of_key}
-use Rattle.tt_game.specs.Line.{Standing}
+use Rattle.tt_game.specs.Line.{LineWithUndo}
 use Rattle.tt_proof.specs.Proven.{Proven}
 use Rattle.tt_search.specs.Stores.{HasKeyAndSide, IsNewest}
 
@@ -27,7 +27,7 @@ proof_at ps None = None
 proof_at ps (Some slot) = slice_get ps slot
 
 -- the slot is that of the last proof of the line's key for the side, or there is none
-pub record IsIndexOfNewest (line : Standing) (side : Side) (ps : List Proven) (slot : Option ℕ) : Type 0 where
+pub record IsIndexOfNewest (line : LineWithUndo) (side : Side) (ps : List Proven) (slot : Option ℕ) : Type 0 where
   pub newest : IsNewest line side (reverse ps) (proof_at ps slot)
   pub within : IfSome slot (λ n. n < length ps)
   pub found : IfSome (proof_at ps slot) (HasKeyAndSide line side)

@@ -1,6 +1,6 @@
 -- What contracts see of a search, and what a step of it does.
 use Rattle.std.specs.Prelude.{◌≡◌, ◌<◌, ◌≤◌}
-use Rattle.tt_game.specs.Line.{Standing}
+use Rattle.tt_game.specs.Line.{LineWithUndo}
 use Rattle.tt_search.specs.PartialTree.{PartialTree}
 use Rattle.tt_search.specs.Numbers.{number, count, IsUndecided}
 use Rattle.tt_search.specs.MostProving.{most_proving_depth}
@@ -13,7 +13,7 @@ use Rattle.tt_search.specs.declared.limits.Reason.TheVariants.{Budget, Depth, To
 
 -- the line of a search, its limits and its tree
 pub record Searched : Type 0 where
-  pub line : Standing
+  pub line : LineWithUndo
   pub limits : Limits
   pub tree : PartialTree
 

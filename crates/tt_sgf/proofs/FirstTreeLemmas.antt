@@ -7,7 +7,7 @@ use Rattle.tt_sgf.specs.Bytes.{open_tree}
 use Rattle.tt_sgf.specs.declared.nodes.Node.{Node}
 use Rattle.tt_sgf.proofs.GrammarLemmas.{one_tree}
 use Rattle.tt_sgf.specs.declared.nodes.Property.{Property}
-use Rattle.tt_sgf.specs.Grammar.{AreProperties, AreNodes, AreTrees, GameTree, Trees, game, no_tree, more_trees, Spells, main_line, first_main_line, SpelledUpTo, IsMainLine}
+use Rattle.tt_sgf.specs.Grammar.{AreProperties, AreNodes, AreTrees, GameTree, Trees, game, no_tree, more_trees, Spells, main_line, first_main_line, FirstTreeEndsAt, IsMainLine}
 use Rattle.tt_sgf.specs.inside.Reading.{Begins}
 
 -- some byte is a `(`
@@ -40,7 +40,7 @@ same_split (x ∷ xs) (y ∷ ys) r q h k e =
     (ap (λ (z : ℕ). z ∷ xs) f ∙ ap (λ (z : List ℕ). y ∷ z) i.0, i.1)
 
 -- in bytes without a `(` no tree is spelled
-pub no_tree_without : (bytes : List ℕ) → has_open bytes ≡ false → (t : GameTree) (count : ℕ) → SpelledUpTo bytes count t → ⊥
+pub no_tree_without : (bytes : List ℕ) → has_open bytes ≡ false → (t : GameTree) (count : ℕ) → FirstTreeEndsAt bytes count t → ⊥
 no_tree_without bytes h t count s =
     let i = starts t s.text s.spells in
     let is : bytes ≡ s.skipped ++ (open_tree ∷ (i.0 ++ s.rest)) = s.parts ∙ ap (λ (x : List ℕ). s.skipped ++ (x ++ s.rest)) i.1 in
@@ -52,7 +52,7 @@ module _ (bytes : List ℕ) (i : ℕ) (lt : i < length bytes) (none : has_open (
   bytes-are = sym (take-append-drop i bytes) ∙ ap (λ (x : List ℕ). take i bytes ++ x) (drop_more bytes i 0 lt ∙ ap (λ (b : ℕ). b ∷ drop (i + 1) bytes) there)
 
   -- where no tree begins at the first `(`, the bytes spell none
-  pub no_tree_there : ((t : GameTree) (rest : List ℕ) → Begins (open_tree ∷ drop (i + 1) bytes) t rest → ⊥) → (t : GameTree) (count : ℕ) → SpelledUpTo bytes count t → ⊥
+  pub no_tree_there : ((t : GameTree) (rest : List ℕ) → Begins (open_tree ∷ drop (i + 1) bytes) t rest → ⊥) → (t : GameTree) (count : ℕ) → FirstTreeEndsAt bytes count t → ⊥
   no_tree_there never t count s =
       let k = starts t s.text s.spells in
       let is : take i bytes ++ (open_tree ∷ drop (i + 1) bytes) ≡ s.skipped ++ (open_tree ∷ (k.0 ++ s.rest)) = sym bytes-are ∙ s.parts ∙ ap (λ (x : List ℕ). s.skipped ++ (x ++ s.rest)) k.1 in
@@ -69,7 +69,7 @@ module _ (bytes : List ℕ) (i : ℕ) (lt : i < length bytes) (none : has_open (
   rest_fits t rest b = let e = begins_len t rest b in omega arith
 
   -- a tree that begins at the first `(` is spelled up to where the rest begins
-  pub tree_there : (t : GameTree) (rest : List ℕ) → Begins (open_tree ∷ drop (i + 1) bytes) t rest → SpelledUpTo bytes (length bytes - length rest) t
+  pub tree_there : (t : GameTree) (rest : List ℕ) → Begins (open_tree ∷ drop (i + 1) bytes) t rest → FirstTreeEndsAt bytes (length bytes - length rest) t
   tree_there t rest b = record {
     skipped = take i bytes;
     text = b.text;
@@ -123,7 +123,7 @@ pub line_is : (bytes : List ℕ) (t : GameTree) (rest : List ℕ) (nodes : List 
 line_is bytes t rest nodes b e = subst IsMainLine (sym e) (main_is t b.text b.spells)
 
 -- the first bracket of the bytes begins one tree alone
-pub one_reading : (bytes : List ℕ) (n m : ℕ) (s t : GameTree) → SpelledUpTo bytes n s → SpelledUpTo bytes m t → (n ≡ m) × (s ≡ t)
+pub one_reading : (bytes : List ℕ) (n m : ℕ) (s t : GameTree) → FirstTreeEndsAt bytes n s → FirstTreeEndsAt bytes m t → (n ≡ m) × (s ≡ t)
 one_reading bytes n m s t h k =
     let i = starts s h.text h.spells in
     let j = starts t k.text k.spells in

@@ -108,7 +108,7 @@ abbrev mutual
   first_main_line (more_trees t ts) = main_line t
 
 -- the first `(` of the bytes begins a text of the tree, which ends behind that many bytes
-pub record SpelledUpTo (bytes : List ℕ) (count : ℕ) (t : GameTree) : Type 0 where
+pub record FirstTreeEndsAt (bytes : List ℕ) (count : ℕ) (t : GameTree) : Type 0 where
   pub skipped : List ℕ
   pub text : List ℕ
   pub rest : List ℕ
@@ -123,11 +123,11 @@ HasOpen bytes = Contains bytes open_tree
 
 -- from the first `(` on, bytes spell one tree at most, and it has one end
 abbrev pub OneSpelling : Type 0
-OneSpelling = (bytes : List ℕ) (n m : ℕ) (s t : GameTree) → SpelledUpTo bytes n s → SpelledUpTo bytes m t → (n ≡ m) × (s ≡ t)
+OneSpelling = (bytes : List ℕ) (n m : ℕ) (s t : GameTree) → FirstTreeEndsAt bytes n s → FirstTreeEndsAt bytes m t → (n ≡ m) × (s ≡ t)
 
 -- no tree begins at the first `(`, or there is none
 abbrev pub HasNoTree : List ℕ → Type 0
-HasNoTree bytes = (t : GameTree) (count : ℕ) → SpelledUpTo bytes count t → ⊥
+HasNoTree bytes = (t : GameTree) (count : ℕ) → FirstTreeEndsAt bytes count t → ⊥
 
 -- what each main line is: not empty, and each property has a value
 pub record IsMainLine (nodes : List Node) : Type 0 where

@@ -4,7 +4,7 @@
 ghost use Rattle.std.specs.Prelude.{◌≡◌, ℕ, ◌<◌, ◌≤◌, ◌⊎◌, List, length, false, IsTrue, IfOk, ◌↔◌, take, MatchOption, ◌∷◌, ◌==◌, Err, slice_index};
 ghost use Rattle.std.specs.List.{list_any};
 ghost use Rattle.tt_sgf.specs.Bytes.{open_tree};
-ghost use Rattle.tt_sgf.specs.Grammar.{GameTree, main_line, SpelledUpTo, HasNoTree, HasOpen, IsMainLine};
+ghost use Rattle.tt_sgf.specs.Grammar.{GameTree, main_line, FirstTreeEndsAt, HasNoTree, HasOpen, IsMainLine};
 ghost use Rattle.tt_sgf.specs.inside.Reading.{event_at, Begins, Gives};
 
 use crate::faults::SgfFault;
@@ -131,7 +131,7 @@ pub fn has_tree(bytes: &[u8]) -> bool
 /// - `Syntax` exactly where there are not, and no game tree begins at the first `(`, or there is no `(`.
 /// - `NoMemory` where memory was refused, in the place of any answer but `TooLong`.
 pub fn read_tree(alloc: Global, bytes: &[u8]) -> Result<(MainLine, usize), SgfFault>
-    ensures found { IfOk result (λ x. (t : GameTree) × SpelledUpTo bytes.now x.1 t × (x.0.nodes ≡ main_line t)) }
+    ensures found { IfOk result (λ x. (t : GameTree) × FirstTreeEndsAt bytes.now x.1 t × (x.0.nodes ≡ main_line t)) }
     ensures line { IfOk result (λ x. IsMainLine x.0.nodes) }
     ensures within { IfOk result (λ x. (1 ≤ x.1) × (x.1 ≤ length bytes.now) × (length bytes.now ≤ MAX_BYTES)) }
     ensures syntax { result ≡ Err SgfFault.Syntax → (length bytes.now ≤ MAX_BYTES) × HasNoTree bytes.now }

@@ -4,7 +4,7 @@ use Rattle.tt_game.specs.declared.frame.Frame.{Frame}
 use Rattle.tt_game.specs.declared.frame.Side.{Side}
 use Rattle.tt_game.specs.declared.turns.Turn.{Turn}
 use Rattle.tt_game.specs.Game.{State, after, winner_of}
-use Rattle.tt_game.specs.Line.{Standing}
+use Rattle.tt_game.specs.Line.{LineWithUndo}
 use Rattle.tt_search.specs.Grants.{Asked}
 use Rattle.tt_search.specs.Numbers.{count}
 use Rattle.tt_search.specs.Growing.{leaf_for, new_leaf, GrownFrom, IsGrown}
@@ -59,17 +59,17 @@ new_count f s = leaf_count (winner_of f s)
 pub spent_more : (start : Searched) (old new : Asked) (end : End) → start.tree ≡ new_leaf start.line.frame start.line.state → SpentBy start old end new → old.granted ≤ new.granted
 spent_more start old new end new_is = more start old new end (ap count new_is ∙ new_count start.line.frame start.line.state)
 
-module _ (line : Standing) (limits : Limits) (t : Turn) (start : Searched) (behind : IsBehind line limits t start) (new_is : start.tree ≡ new_leaf start.line.frame start.line.state) where
+module _ (line : LineWithUndo) (limits : Limits) (t : Turn) (start : Searched) (behind : IsBehind line limits t start) (new_is : start.tree ≡ new_leaf start.line.frame start.line.state) where
   -- what is reached from a new search behind the turn is behind it, and grown
   reached_behind : (search : Searched) → RanTo start search → IsBehind line limits t search
   reached_behind search h = subst (λ (l : Limits). IsBehind line limits t (record search { limits = l })) (sym h.problem.limits)
-      (subst (λ (l : Standing). IsBehind line limits t (record { line = l; limits = start.limits; tree = search.tree })) (sym h.problem.line)
+      (subst (λ (l : LineWithUndo). IsBehind line limits t (record { line = l; limits = start.limits; tree = search.tree })) (sym h.problem.line)
       (record { frame = behind.frame; state = behind.state; budget = behind.budget; depth_is = behind.depth_is }))
 
   reached_grown : (search : Searched) → RanTo start search → IsGrown search.limits search.line.frame search.line.state search.tree
   reached_grown search h =
       subst (λ (l : Limits). IsGrown l search.line.frame search.line.state search.tree) (sym h.problem.limits)
-      (subst (λ (l : Standing). IsGrown start.limits l.frame l.state search.tree) (sym h.problem.line)
+      (subst (λ (l : LineWithUndo). IsGrown start.limits l.frame l.state search.tree) (sym h.problem.line)
       (subst (λ (tree : _). GrownFrom start.limits start.line.frame start.line.state tree search.tree) new_is h.grown))
 
   start_count : count start.tree ≡ 0
@@ -106,7 +106,7 @@ module _ (line : Standing) (limits : Limits) (t : Turn) (start : Searched) (behi
 
 -- ---- what is made of an end
 
-module _ (line : Standing) (limits : Limits) (t : Turn) (start : Searched) (behind : IsBehind line limits t start) (new_is : start.tree ≡ new_leaf start.line.frame start.line.state)
+module _ (line : LineWithUndo) (limits : Limits) (t : Turn) (start : Searched) (behind : IsBehind line limits t start) (new_is : start.tree ≡ new_leaf start.line.frame start.line.state)
     (end : End) (made : JobResult) (is : IsOfEnd end made) (ran : EndOf start end) where
   pub made_behind : EndsBehind line limits t (end_of made)
   made_behind = elim is [
@@ -132,7 +132,7 @@ made_asks start old new end made n is spent granted few =
     ]
 
 -- where no search could begin, a new one behind the turn has no expanded node
-pub none_begun : (line : Standing) (limits : Limits) (t : Turn) → 1 ≤ limits.depth → IsCountAfter line limits t 0
+pub none_begun : (line : LineWithUndo) (limits : Limits) (t : Turn) → 1 ≤ limits.depth → IsCountAfter line limits t 0
 none_begun line limits t deep =
     let f = line.frame in
     let s = after line.frame line.state t in

@@ -7,7 +7,7 @@ use Rattle.std.proofs.lemmas.Option.{slice_get_within, get_or_from_slice_get}
 use Rattle.tt_game.specs.declared.frame.Frame.{Frame}
 use Rattle.tt_game.specs.declared.turns.Turn.{Turn}
 use Rattle.tt_game.specs.Game.{IsLegal, after, opponent, Forces}
-use Rattle.tt_game.specs.Line.{Standing}
+use Rattle.tt_game.specs.Line.{LineWithUndo}
 use Rattle.tt_game.specs.Turns.{legal_turns, turn_number, IsRising}
 use Rattle.tt_game.specs.laws.TurnLaws.{contains-legal_turns, rising-legal_turns}
 use Rattle.tt_proof.proofs.ForcesLemmas.{win_forces}
@@ -26,14 +26,14 @@ pub rest_of_all : {X : Type 0} (P : X → Type 0) (x : X) (xs : List X) → All 
 rest_of_all P x xs all k d short = all (suc k) d (omega arith)
 
 -- they are children of a reply
-pub are_children : (line : Standing) (limits : Limits) (cs : List (Turn × Proven)) → limits.depth ≤ 512 → All (IsLost line limits) cs → AreChildren line.frame line.state cs
+pub are_children : (line : LineWithUndo) (limits : Limits) (cs : List (Turn × Proven)) → limits.depth ≤ 512 → All (IsLost line limits) cs → AreChildren line.frame line.state cs
 are_children line limits [] most all = tt
 are_children line limits (c ∷ cs) most all =
     let lost = first_of_all (IsLost line limits) c cs all in
     (record { stands = lost.stands; same_side = lost.side; low = omega (arith, lost.low) }, are_children line limits cs most (rest_of_all (IsLost line limits) c cs all))
 
 -- and the reply is within the limit on depth
-pub reply_is_low : (line : Standing) (limits : Limits) (cs : List (Turn × Proven)) → All (IsLost line limits) cs → depth_of_entries (entries_of (trees_of cs)) ≤ limits.depth
+pub reply_is_low : (line : LineWithUndo) (limits : Limits) (cs : List (Turn × Proven)) → All (IsLost line limits) cs → depth_of_entries (entries_of (trees_of cs)) ≤ limits.depth
 reply_is_low line limits [] all = omega arith
 reply_is_low line limits (c ∷ cs) all =
     let lost = first_of_all (IsLost line limits) c cs all in
@@ -41,7 +41,7 @@ reply_is_low line limits (c ∷ cs) all =
     omega (arith, lost.low, rest)
 
 -- one more turn that has lost
-pub one_more : (line : Standing) (limits : Limits) (cs : List (Turn × Proven)) (c : Turn × Proven) → HaveLost line limits cs → IsJob line (length cs) c.0 → IsLost line limits c
+pub one_more : (line : LineWithUndo) (limits : Limits) (cs : List (Turn × Proven)) (c : Turn × Proven) → HaveLost line limits cs → IsJob line (length cs) c.0 → IsLost line limits c
     → HaveLost line limits (cs ++ c ∷ [])
 one_more line limits cs c lost job this =
     let all = legal_turns line.frame line.state in
@@ -81,7 +81,7 @@ before_it f ts rising i k t u hi hk at_i at_k low = elim (cases_lt k i) [
 ]
 
 -- a legal turn of a lesser number is among those before the one at i
-among_first : (line : Standing) (i : ℕ) (t u : Turn) → IsJob line i t → IsLegal line.frame line.state u → turn_number line.frame u < turn_number line.frame t
+among_first : (line : LineWithUndo) (i : ℕ) (t u : Turn) → IsJob line i t → IsLegal line.frame line.state u → turn_number line.frame u < turn_number line.frame t
     → Contains (take i (legal_turns line.frame line.state)) u
 among_first line i t u job legal low =
     let all = legal_turns line.frame line.state in
@@ -94,7 +94,7 @@ among_first line i t u job legal low =
     (h.0, grind (arith, l, within), get_or-take _ _ _ _ k ∙ h.2)
 
 -- after a turn that has lost the other side forces
-forces : (line : Standing) (limits : Limits) (c : Turn × Proven) → IsLost line limits c → (n : ℕ) × Forces line.frame (opponent line.state.to_move) n (after line.frame line.state c.0)
+forces : (line : LineWithUndo) (limits : Limits) (c : Turn × Proven) → IsLost line limits c → (n : ℕ) × Forces line.frame (opponent line.state.to_move) n (after line.frame line.state c.0)
 forces line limits c lost =
     let w = win_forces c.1.side c.1.frame c.1.tree c.1.state lost.wins.wins in
     let a = subst (λ x. Forces c.1.frame x (depth c.1.tree) c.1.state) lost.side w in
@@ -102,14 +102,14 @@ forces line limits c lost =
     (depth c.1.tree, subst (λ x. Forces line.frame (opponent line.state.to_move) (depth c.1.tree) x) lost.stands.1 b)
 
 -- the legal turns below the one behind them have lost
-pub lesser_lose : (line : Standing) (limits : Limits) (cs : List (Turn × Proven)) (t : Turn) → IsJob line (length cs) t → HaveLost line limits cs → LesserLose line.frame line.state t
+pub lesser_lose : (line : LineWithUndo) (limits : Limits) (cs : List (Turn × Proven)) (t : Turn) → IsJob line (length cs) t → HaveLost line limits cs → LesserLose line.frame line.state t
 lesser_lose line limits cs t job lost u legal low =
     let first = among_first line (length cs) t u job legal low in
     let first' : Contains (turns_of cs) u = subst (λ (ts : List Turn). Contains ts u) (sym lost.turns) first in
     of_turns (λ v. (n : ℕ) × Forces line.frame (opponent line.state.to_move) n (after line.frame line.state v)) cs (λ k d short. forces line limits (get_or cs k d) (lost.each k d short)) u first'
 
 -- the turn of a job is legal
-pub legal_job : (line : Standing) (i : ℕ) (t : Turn) → IsJob line i t → IsLegal line.frame line.state t
+pub legal_job : (line : LineWithUndo) (i : ℕ) (t : Turn) → IsJob line i t → IsLegal line.frame line.state t
 legal_job line i t job =
     let all = legal_turns line.frame line.state in
     (contains-legal_turns line.frame line.state t).0 (i, slice_get_within all i t job, get_or_from_slice_get all i t t job)

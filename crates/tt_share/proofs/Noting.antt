@@ -8,7 +8,7 @@ use Rattle.std.specs.Option.{option_map}
 use mathlib.Core.Logic.{dite}
 use native.Mathlib.Decide.{ℕ_discrete}
 use Rattle.tt_game.specs.declared.turns.Turn.{Turn}
-use Rattle.tt_game.specs.Line.{Standing}
+use Rattle.tt_game.specs.Line.{LineWithUndo}
 use Rattle.tt_game.specs.Turns.{legal_turns}
 use Rattle.tt_search.specs.Numbers.{count}
 use Rattle.tt_search.specs.Searched.{Searched}
@@ -42,7 +42,7 @@ not_free : {X : Type 0} (x : X) → Some (Some x) ≡ Some None → ⊥
 not_free x e = none-some x (sym (same_Some (Some x) None e))
 
 -- a count is that of an end also as it is kept
-pub kept_counted : (line : Standing) (limits : Limits) (t : Turn) (past : Bool) (n : ℕ) (end : JobResult) → IsCounted line limits t n (end_of end)
+pub kept_counted : (line : LineWithUndo) (limits : Limits) (t : Turn) (past : Bool) (n : ℕ) (end : JobResult) → IsCounted line limits t n (end_of end)
     → IsCounted line limits t n (end_of (kept_of past end))
 kept_counted line limits t false n end h = h
 kept_counted line limits t true n (result.Settled p) h = h
@@ -50,11 +50,11 @@ kept_counted line limits t true n (result.Stuck reason search) h = (h.0, tt)
 kept_counted line limits t true n result.Dropped h = h
 kept_counted line limits t true n result.NoMemory h = h
 
-pub kept_count : (line : Standing) (limits : Limits) (job : ℕ) (past : Bool) (n : ℕ) (end : JobResult) → IsJobCount line limits job n end → IsJobCount line limits job n (kept_of past end)
+pub kept_count : (line : LineWithUndo) (limits : Limits) (job : ℕ) (past : Bool) (n : ℕ) (end : JobResult) → IsJobCount line limits job n end → IsJobCount line limits job n (kept_of past end)
 kept_count line limits job past n end h t at = kept_counted line limits t past n end (h t at)
 
 -- a result and its count are put where there was none
-module _ (line : Standing) (limits : Limits) (ends : List (Option JobResult)) (spent : List (Turn × ℕ)) (job : ℕ) (e : Turn × ℕ) (was : AreNoted line limits ends spent)
+module _ (line : LineWithUndo) (limits : Limits) (ends : List (Option JobResult)) (spent : List (Turn × ℕ)) (job : ℕ) (e : Turn × ℕ) (was : AreNoted line limits ends spent)
     (free : slice_get ends job ≡ Some None) (at : slice_get spent job ≡ Some e) where
   own_turn : IsJob line job e.0
   own_turn = subst (λ (ts : List Turn). slice_get ts job ≡ Some e.0) was.turns (map_at (λ (x : Turn × ℕ). x.0) spent job e at)
@@ -91,7 +91,7 @@ blank_none (suc n) zero end is = none-some end (same_Some None (Some end) is)
 blank_none (suc n) (suc i) end is = blank_none n i end is
 
 -- before anything is known, nothing was expanded
-pub blank_noted : (line : Standing) (limits : Limits) (ends : List (Option JobResult)) (spent : List (Turn × ℕ)) (n : ℕ) → map (λ (e : Turn × ℕ). e.0) spent ≡ legal_turns line.frame line.state
+pub blank_noted : (line : LineWithUndo) (limits : Limits) (ends : List (Option JobResult)) (spent : List (Turn × ℕ)) (n : ℕ) → map (λ (e : Turn × ℕ). e.0) spent ≡ legal_turns line.frame line.state
     → length spent ≡ length ends → All (λ (e : Turn × ℕ). e.1 ≡ 0) spent → ends ≡ replicate n None → AreNoted line limits ends spent
 blank_noted line limits ends spent n turns each none blank = record {
   turns = turns;

@@ -1,7 +1,7 @@
 -- Results that are put at their slots.
 use Rattle.std.proofs.Common.{◌≡◌, ◌≢◌, ℕ, zero, suc, ◌<◌, inl, inr, List, [], ◌∷◌, ◌++◌, All, Option, Some, None, slice_get, slice_set, get_or, length, refl, sym, ap, subst, ◌∙◌, arith, append_assoc}
 use Rattle.std.proofs.lemmas.Option.{same_Some, none-some}
-use Rattle.tt_game.specs.Line.{Standing}
+use Rattle.tt_game.specs.Line.{LineWithUndo}
 use Rattle.tt_game.specs.declared.turns.Turn.{Turn}
 use Rattle.tt_search.specs.declared.limits.Limits.{Limits}
 use Rattle.tt_share.specs.declared.jobs.JobResult.{JobResult}
@@ -13,19 +13,19 @@ use Rattle.tt_share.specs.inside.Workers.{IsPlaced, AllPlaced, IsGiven, AreGiven
 use Rattle.tt_share.proofs.ResultLemmas.{read_after, get_set_same, get_set_other}
 
 -- what is known of what contracts see is known of the fields of results
-pub seen : (P : Standing → Limits → Type 0) (line : Standing) (limits : Limits) (ends : List (Option JobResult)) (spent : List (Turn × ℕ)) (p : ResultsSoFar)
+pub seen : (P : LineWithUndo → Limits → Type 0) (line : LineWithUndo) (limits : Limits) (ends : List (Option JobResult)) (spent : List (Turn × ℕ)) (p : ResultsSoFar)
     → record { line = line; limits = limits; ends = ends; spent = spent } ≡ p → P p.line p.limits → P line limits
 seen P line limits ends spent p same h =
     subst (λ l. P line l) (sym (ap (λ (q : ResultsSoFar). q.limits) same)) (subst (λ l. P l p.limits) (sym (ap (λ (q : ResultsSoFar). q.line) same)) h)
 
 -- and what is known of the fields is known of what contracts see
-pub shown : (P : Standing → Limits → List (Option JobResult) → Type 0) (line : Standing) (limits : Limits) (ends : List (Option JobResult)) (spent : List (Turn × ℕ)) (p : ResultsSoFar)
+pub shown : (P : LineWithUndo → Limits → List (Option JobResult) → Type 0) (line : LineWithUndo) (limits : Limits) (ends : List (Option JobResult)) (spent : List (Turn × ℕ)) (p : ResultsSoFar)
     → record { line = line; limits = limits; ends = ends; spent = spent } ≡ p
     → P line limits ends → P p.line p.limits p.ends
 shown P line limits ends spent p same h = subst (λ (q : ResultsSoFar). P q.line q.limits q.ends) same h
 
 -- what holds of a line and limits holds where the ends and their counts alone changed
-pub same_asked : (P : Standing → Limits → Type 0) (old new : ResultsSoFar) → new ≡ record old { ends = new.ends; spent = new.spent } → P old.line old.limits → P new.line new.limits
+pub same_asked : (P : LineWithUndo → Limits → Type 0) (old new : ResultsSoFar) → new ≡ record old { ends = new.ends; spent = new.spent } → P old.line old.limits → P new.line new.limits
 same_asked P old new same h =
     subst (λ l. P new.line l) (sym (ap (λ (p : ResultsSoFar). p.limits) same)) (subst (λ l. P l old.limits) (sym (ap (λ (p : ResultsSoFar). p.line) same)) h)
 

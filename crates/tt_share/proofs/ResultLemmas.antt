@@ -1,7 +1,7 @@
 -- Results of jobs.
 use Rattle.std.proofs.Common.{◌≡◌, ◌≢◌, ℕ, zero, suc, Bool, true, false, ◌⊎◌, inl, inr, List, [], ◌∷◌, ◌++◌, Option, Some, None, slice_get, slice_set, refl, sym, ap, subst}
 use Rattle.std.proofs.lemmas.Option.{same_Some, none-some}
-use Rattle.tt_game.specs.Line.{Standing}
+use Rattle.tt_game.specs.Line.{LineWithUndo}
 use Rattle.tt_search.specs.declared.limits.Limits.{Limits}
 use Rattle.tt_share.specs.declared.jobs.JobResult.{JobResult}
 use Rattle.tt_game.specs.declared.turns.Turn.{Turn}
@@ -21,14 +21,14 @@ read_after (z ∷ zs) (suc i) (suc k) x y is = elim (read_after zs i k x y is) [
 ]
 
 -- one more job whose end isn't known
-pub none_more : (line : Standing) (limits : Limits) (ends : List (Option JobResult)) → AreResults line limits ends → AreResults line limits (ends ++ None ∷ [])
+pub none_more : (line : LineWithUndo) (limits : Limits) (ends : List (Option JobResult)) → AreResults line limits ends → AreResults line limits (ends ++ None ∷ [])
 none_more line limits ends all job end at = elim (read_more ends None job (Some end) at) [
   | inl h ↦ all job end h
   | inr h ↦ absurd (none-some end h.1)
 ]
 
 -- one more end that is its job's
-pub one_more_result : (line : Standing) (limits : Limits) (ends : List (Option JobResult)) (job : ℕ) (end : JobResult) → AreResults line limits ends → IsResultOf line limits job end
+pub one_more_result : (line : LineWithUndo) (limits : Limits) (ends : List (Option JobResult)) (job : ℕ) (end : JobResult) → AreResults line limits ends → IsResultOf line limits job end
     → AreResults line limits (slice_set ends job (Some end))
 one_more_result line limits ends job end all this k e is = elim (read_after ends job k (Some end) (Some e) is) [
   | inl h ↦ subst (IsResultOf line limits k) (same_Some end e h.1) (subst (λ n. IsResultOf line limits n end) (sym h.0) this)
@@ -36,7 +36,7 @@ one_more_result line limits ends job end all this k e is = elim (read_after ends
 ]
 
 -- an end is its job's also as it is kept
-pub kept_behind : (line : Standing) (limits : Limits) (t : Turn) (past_stuck : Bool) (end : JobResult) → EndsBehind line limits t (end_of end)
+pub kept_behind : (line : LineWithUndo) (limits : Limits) (t : Turn) (past_stuck : Bool) (end : JobResult) → EndsBehind line limits t (end_of end)
     → EndsBehind line limits t (end_of (kept_of past_stuck end))
 kept_behind line limits t false end h = h
 kept_behind line limits t true (result.Settled p) h = h
@@ -45,7 +45,7 @@ kept_behind line limits t true result.Dropped h = tt
 kept_behind line limits t true result.NoMemory h = tt
 
 -- so is the end of a job
-pub kept_result : (line : Standing) (limits : Limits) (job : ℕ) (past_stuck : Bool) (end : JobResult) → IsResultOf line limits job end → IsResultOf line limits job (kept_of past_stuck end)
+pub kept_result : (line : LineWithUndo) (limits : Limits) (job : ℕ) (past_stuck : Bool) (end : JobResult) → IsResultOf line limits job end → IsResultOf line limits job (kept_of past_stuck end)
 kept_result line limits job past_stuck end this t at = kept_behind line limits t past_stuck end (this t at)
 
 -- what is written is read where it was written

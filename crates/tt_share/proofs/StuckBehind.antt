@@ -2,7 +2,7 @@
 use Rattle.std.proofs.Common.{◌≡◌, ℕ, List, Option, Some, None, refl, sym, subst, ◌∙◌, inr}
 use Rattle.tt_game.specs.declared.turns.Turn.{Turn}
 use Rattle.tt_game.specs.Game.{IsLegal}
-use Rattle.tt_game.specs.Line.{Standing}
+use Rattle.tt_game.specs.Line.{LineWithUndo}
 use Rattle.tt_search.specs.Searched.{Searched}
 use Rattle.tt_search.specs.declared.limits.Limits.{Limits}
 use Rattle.tt_search.specs.declared.limits.Reason.{Reason}
@@ -17,14 +17,14 @@ none_held : (search : Searched) → None ≡ Some search → ⊥
 none_held search e = cc
 
 -- what is known of a search is known of the one that is held
-held_behind : (line : Standing) (limits : Limits) (t : Turn) (search held : Searched) → IsBehind line limits t search
+held_behind : (line : LineWithUndo) (limits : Limits) (t : Turn) (search held : Searched) → IsBehind line limits t search
     → IsGrown search.limits search.line.frame search.line.state search.tree → Some search ≡ Some held → IsBehind line limits t held × IsGrown held.limits held.line.frame held.line.state held.tree
 held_behind line limits t search held behind grown e =
     let same : search ≡ held = cc in
     subst (λ (x : Searched). IsBehind line limits t x × IsGrown x.limits x.line.frame x.line.state x.tree) same (behind, grown)
 
 -- it says what is stuck, where the turn's counts are all of the total if that is why
-module _ (line : Standing) (limits : Limits) (total : Option ℕ) (stuck : answer.Stuck) (legal : IsLegal line.frame line.state stuck.turn) (lesser : LesserLose line.frame line.state stuck.turn)
+module _ (line : LineWithUndo) (limits : Limits) (total : Option ℕ) (stuck : answer.Stuck) (legal : IsLegal line.frame line.state stuck.turn) (lesser : LesserLose line.frame line.state stuck.turn)
     (spent : List (Turn × ℕ)) where
   pub says : (reason : Reason) (o : Option Searched) → stuck.search ≡ o → EndsBehind line limits stuck.turn (Stuck reason o) → stuck.spent.items ≡ spent_shown_of reason spent
       → ((held : Searched) → reason ≡ Total → o ≡ Some held → (n : ℕ) × (total ≡ Some n) × IsSpent line limits n stuck.turn held spent) → IsUnsettled line limits total reason stuck

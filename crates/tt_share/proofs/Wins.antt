@@ -14,7 +14,7 @@ use Rattle.tt_search.specs.declared.search.End.TheVariants.{Settled, Stuck}
 use Rattle.tt_search.specs.declared.limits.Reason.{Reason}
 use Rattle.tt_search.specs.Searched.{Searched}
 use Rattle.tt_game.specs.declared.turns.Turn.{Turn}
-use Rattle.tt_game.specs.Line.{Standing}
+use Rattle.tt_game.specs.Line.{LineWithUndo}
 use Rattle.tt_game.specs.Turns.{legal_turns}
 use Rattle.tt_share.specs.inside.Jobs.{EndsBehind, IsResultOf, IsJob, IsStuck, IsStuckOrWon, end_of}
 use Rattle.tt_share.specs.inside.Results.{HasWonIn, AllStuckOrWon, IsStuckIn, IsStuckAt, IsWinIn, HasEnd, HasResult, IsWinAt, NoWin, IsLeastWin, IsLeastStuck, FilledBelow, IsReady, StopsAtWin}
@@ -146,7 +146,7 @@ stuck_same ends i job reason search here lesser least = elim (cases_lt i job) [
 ]
 
 -- and it says one thing
-pub same_stuck : (line : Standing) (ends : List (Option JobResult)) (i job : ℕ) (t turn : Turn) (r reason : Reason) (o search : Option Searched) (end : JobResult) → i ≡ job → HasEnd ends i end
+pub same_stuck : (line : LineWithUndo) (ends : List (Option JobResult)) (i job : ℕ) (t turn : Turn) (r reason : Reason) (o search : Option Searched) (end : JobResult) → i ≡ job → HasEnd ends i end
     → end_of end ≡ Stuck r o → IsLeastStuck ends job reason search → IsJob line i t → IsJob line job turn → (t ≡ turn) × (r ≡ reason) × (o ≡ search)
 same_stuck line ends i job t turn r reason o search end same here is least at_i at_job =
     let other = least.stuck.0 in
@@ -174,7 +174,7 @@ pub least_at : (side a : Side) (ends xs : List (Option JobResult)) (job : ℕ) �
 least_at side a ends xs job is_side is_list least = subst (λ s. IsLeastWin s ends job) is_side (subst (λ (l : List (Option JobResult)). IsLeastWin a l job) is_list least)
 
 -- the turn that is read at a slot is the job's
-pub job_here : (line : Standing) (turns : List Turn) (i n : ℕ) (t : Turn) → turns ≡ legal_turns line.frame line.state → n ≡ i → i < length turns → t ≡ get_or turns i t → IsJob line n t
+pub job_here : (line : LineWithUndo) (turns : List Turn) (i n : ℕ) (t : Turn) → turns ≡ legal_turns line.frame line.state → n ≡ i → i < length turns → t ≡ get_or turns i t → IsJob line n t
 job_here line turns i n t all same within read =
     let here : slice_get turns i ≡ Some t = slice_get_read turns (length turns) i t refl within read in
     subst (λ (ts : List Turn). slice_get ts n ≡ Some t) all (subst (λ k. slice_get turns k ≡ Some t) (sym same) here)
@@ -202,7 +202,7 @@ pub win_within : (side : Side) (ends : List (Option JobResult)) (i : ℕ) → Is
 win_within side ends i win = slice_get_within ends i (Some win.0) win.1
 
 -- what fits a job's slot is how the search behind its turn ends
-pub ends_here : (line : Standing) (limits : Limits) (i : ℕ) (t : Turn) (end : JobResult) (is : End) → end_of end ≡ is → IsResultOf line limits i end → IsJob line i t → EndsBehind line limits t is
+pub ends_here : (line : LineWithUndo) (limits : Limits) (i : ℕ) (t : Turn) (end : JobResult) (is : End) → end_of end ≡ is → IsResultOf line limits i end → IsJob line i t → EndsBehind line limits t is
 ends_here line limits i t end is same fits job = subst (EndsBehind line limits t) same (fits t job)
 
 -- a win stood there before, where its slot is as it was

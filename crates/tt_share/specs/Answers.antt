@@ -5,7 +5,7 @@ use Rattle.tt_game.specs.declared.frame.Frame.{Frame}
 use Rattle.tt_game.specs.declared.turns.Turn.{Turn}
 use Rattle.tt_game.specs.declared.turns.Turn.TheVariants.{Pass}
 use Rattle.tt_game.specs.Game.{State, IsLegal, after, opponent, Forces}
-use Rattle.tt_game.specs.Line.{Standing}
+use Rattle.tt_game.specs.Line.{LineWithUndo}
 use Rattle.tt_game.specs.Turns.{turn_number, legal_turns}
 use Rattle.tt_proof.specs.Strategy.{depth}
 use Rattle.tt_proof.specs.Proven.{Proven, StandsAt, first_of}
@@ -20,21 +20,21 @@ use Rattle.tt_share.specs.declared.answer.Answer.TheVariants.{Settled, Unsettled
 use Rattle.tt_share.specs.declared.answer.Stuck.{Stuck}
 
 -- the proof stands at the line, within the limit on depth; its first turn is there exactly where its side is to move
-pub record IsSettled (line : Standing) (limits : Limits) (p : Proven) (first : Option Turn) : Type 0 where
+pub record IsSettled (line : LineWithUndo) (limits : Limits) (p : Proven) (first : Option Turn) : Type 0 where
   pub stands : StandsAt p line.frame line.state
   pub low : depth p.tree ≤ limits.depth
   pub first_is : first ≡ first_of p.tree
   pub shown : IsSome first ↔ (p.side ≡ line.state.to_move)
 
 -- the search is on the line after the turn, under the same budget and a depth one less
-pub record IsBehind (line : Standing) (limits : Limits) (t : Turn) (search : Searched) : Type 0 where
+pub record IsBehind (line : LineWithUndo) (limits : Limits) (t : Turn) (search : Searched) : Type 0 where
   pub frame : search.line.frame ≡ line.frame
   pub state : search.line.state ≡ after line.frame line.state t
   pub budget : search.limits.budget ≡ limits.budget
   pub depth_is : search.limits.depth + 1 ≡ limits.depth
 
 -- some search behind the turn is grown from there and has so many expanded nodes
-abbrev pub IsCountAfter : Standing → Limits → Turn → ℕ → Type 0
+abbrev pub IsCountAfter : LineWithUndo → Limits → Turn → ℕ → Type 0
 IsCountAfter line limits t n =
     (search : Searched) × IsBehind line limits t search × IsGrown search.limits search.line.frame search.line.state search.tree × (count search.tree ≡ n)
 
@@ -43,7 +43,7 @@ abbrev pub spent_in_all : List (Turn × ℕ) → ℕ
 spent_in_all spent = sum_by (λ (e : Turn × ℕ). e.1) spent
 
 -- How a total was spent, where the search is behind the turn
-pub record IsSpent (line : Standing) (limits : Limits) (total : ℕ) (t : Turn) (search : Searched) (spent : List (Turn × ℕ)) : Type 0 where
+pub record IsSpent (line : LineWithUndo) (limits : Limits) (total : ℕ) (t : Turn) (search : Searched) (spent : List (Turn × ℕ)) : Type 0 where
   -- each legal turn is there, in rising order
   pub turns : map (λ (e : Turn × ℕ). e.0) spent ≡ legal_turns line.frame line.state
   -- each with the count of a grown search behind it, under the same budget and a depth one less
@@ -66,7 +66,7 @@ LesserLose f s t =
     (u : Turn) → IsLegal f s u → turn_number f u < turn_number f t → (n : ℕ) × Forces f (opponent s.to_move) n (after f s u)
 
 -- the turn is legal, the grown search behind it is stuck for the reason, and the lesser turns lose
-pub record IsStuckBehind (line : Standing) (limits : Limits) (reason : Reason) (t : Turn) (search : Searched) : Type 0 where
+pub record IsStuckBehind (line : LineWithUndo) (limits : Limits) (reason : Reason) (t : Turn) (search : Searched) : Type 0 where
   pub legal : IsLegal line.frame line.state t
   pub behind : IsBehind line limits t search
   pub grown : IsGrown search.limits search.line.frame search.line.state search.tree
@@ -75,13 +75,13 @@ pub record IsStuckBehind (line : Standing) (limits : Limits) (reason : Reason) (
 
 -- memory was refused: outside a job the turn is a pass and no search is held, inside one it is the job's, and the lesser
 -- turns lose; a search that is held is behind that turn
-pub record IsStuckForMemory (line : Standing) (limits : Limits) (stuck : Stuck) : Type 0 where
+pub record IsStuckForMemory (line : LineWithUndo) (limits : Limits) (stuck : Stuck) : Type 0 where
   pub turn : ((stuck.turn ≡ Pass) × (stuck.search ≡ None)) ⊎ (IsLegal line.frame line.state stuck.turn × LesserLose line.frame line.state stuck.turn)
   pub behind : (search : Searched) → stuck.search ≡ Some search → IsBehind line limits stuck.turn search × IsGrown search.limits search.line.frame search.line.state search.tree
 
 -- the search that is held is stuck behind the turn, or memory was refused; it is stuck for the total only where there is one, and
 -- then all of it is spent
-abbrev pub IsUnsettled : Standing → Limits → Option ℕ → Reason → Stuck → Type 0
+abbrev pub IsUnsettled : LineWithUndo → Limits → Option ℕ → Reason → Stuck → Type 0
 IsUnsettled line limits total Budget stuck =
     (search : Searched) × (stuck.search ≡ Some search) × IsStuckBehind line limits Budget stuck.turn search × (stuck.spent.items ≡ [])
 IsUnsettled line limits total Depth stuck =
@@ -91,6 +91,6 @@ IsUnsettled line limits total Total stuck = (n : ℕ) × (total ≡ Some n) × (
 IsUnsettled line limits total Memory stuck = IsStuckForMemory line limits stuck × (stuck.spent.items ≡ [])
 
 -- a proof of the line and its first turn, or what is stuck
-abbrev pub IsAnswer : Standing → Limits → Option ℕ → Answer → Type 0
+abbrev pub IsAnswer : LineWithUndo → Limits → Option ℕ → Answer → Type 0
 IsAnswer line limits total (Settled proof first) = IsSettled line limits (arc_value proof) first
 IsAnswer line limits total (Unsettled stuck) = IsUnsettled line limits total stuck.reason stuck

@@ -2,7 +2,7 @@
 use Rattle.std.specs.Prelude.{◌≡◌, ℕ, ◌+◌, ◌++◌, ◌∷◌, [], List, Some, map, reverse}
 use Rattle.boxcar.specs.Table.{Shelves, id_at}
 use Rattle.tt_game.specs.declared.frame.Side.{Side}
-use Rattle.tt_game.specs.Line.{Standing}
+use Rattle.tt_game.specs.Line.{LineWithUndo}
 use Rattle.tt_proof.specs.Proven.{Proven}
 use Rattle.tt_search.specs.Stores.{IsNewest}
 
@@ -32,7 +32,7 @@ abbrev pub newest_first : List Ticket → List Proven
 newest_first tokens = reverse (proofs_of tokens)
 
 -- among the tokens is one of the line's key for the side: a last one
-abbrev pub HasNewest : Standing → Side → List Ticket → Type 0
+abbrev pub HasNewest : LineWithUndo → Side → List Ticket → Type 0
 HasNewest line side tokens = (p : Proven) × IsNewest line side (newest_first tokens) (Some p)
 
 -- the later tokens are the earlier ones with none or more behind them

@@ -3,11 +3,11 @@ use Rattle.std.proofs.Common.{◌≡◌, ◌≤◌, ◌-◌, ℕ, Bool, List, []
 use Rattle.std.proofs.lemmas.List.{take_all, length-drop}
 use Rattle.tt_sgf.specs.declared.trees.TheConstants.{MAX_BYTES}
 use Rattle.tt_sgf.specs.declared.nodes.Node.{Node}
-use Rattle.tt_sgf.specs.Grammar.{GameTree, SpelledUpTo, main_line}
+use Rattle.tt_sgf.specs.Grammar.{GameTree, FirstTreeEndsAt, main_line}
 use Rattle.tt_sgf.specs.Values.{trimmed}
 use Rattle.tt_game.specs.declared.frame.Frame.{Frame}
 use Rattle.tt_game.specs.declared.frame.Side.{Side}
-use Rattle.tt_game.specs.Line.{Standing}
+use Rattle.tt_game.specs.Line.{LineWithUndo}
 use Rattle.tt_game.specs.Problems.{problem_of}
 use Rattle.tt_proof.specs.declared.certificate_read.CertFault.{CertFault}
 use Rattle.tt_proof.specs.declared.certificate_read.CertFault.TheVariants.{Syntax, TooDeep}
@@ -22,7 +22,7 @@ use Rattle.tt_text.specs.declared.finding.Finding.TheVariants.{Valid, Invalid, R
 use Rattle.tt_text.specs.Checking.{Finds, FindsAt, FindsOn, FindsShared, first_tree, goes_deep, loses, no_certificate, shared_loses, shared_wins, too_deep, unfit, unread, wins}
 
 -- the size of the line's frame is that of its problem
-module _ (p : Standing) (f : Frame) (bytes : List ℕ) (same : f ≡ p.frame) where
+module _ (p : LineWithUndo) (f : Frame) (bytes : List ℕ) (same : f ≡ p.frame) where
   -- a certificate whose tree wins is valid
   pub wins_at : (side : Side) (u : Strategy) → IsCertificate f.size bytes side u × (IsTooDeep f.size bytes → ⊥) → Wins side p.frame u p.state → FindsAt p bytes Valid
   wins_at side u h w = let k = subst (λ (g : Frame). IsCertificate g.size bytes side u × (IsTooDeep g.size bytes → ⊥)) same h in wins side u k.1 k.0 w
@@ -53,7 +53,7 @@ module _ (p : Standing) (f : Frame) (bytes : List ℕ) (same : f ≡ p.frame) wh
       goes_deep (subst (λ (g : Frame). IsSharedFault g.size MOST_DEPTH bytes TooDeep) same (subst (λ (x : CertFault). IsSharedFault f.size MOST_DEPTH bytes x) is h))
 
 -- the same of a certificate with shared parts
-module _ (p : Standing) (f : Frame) (bytes : List ℕ) (same : f ≡ p.frame) (side : Side) (o : Outline) (is : IsSharedCertificate f.size bytes side o) where
+module _ (p : LineWithUndo) (f : Frame) (bytes : List ℕ) (same : f ≡ p.frame) (side : Side) (o : Outline) (is : IsSharedCertificate f.size bytes side o) where
   here : IsSharedCertificate p.frame.size bytes side o
   here = subst (λ (g : Frame). IsSharedCertificate g.size bytes side o) same is
 
@@ -67,7 +67,7 @@ module _ (p : Standing) (f : Frame) (bytes : List ℕ) (same : f ≡ p.frame) (s
   unfit_at = unfit side o here
 
 -- what is found behind the first tree
-pub found_behind : (parts : Bool) (input : List ℕ) (used : ℕ) (t : GameTree) (nodes : List Node) (bytes : List ℕ) (o : Finding) → length input ≤ MAX_BYTES → SpelledUpTo input used t
+pub found_behind : (parts : Bool) (input : List ℕ) (used : ℕ) (t : GameTree) (nodes : List Node) (bytes : List ℕ) (o : Finding) → length input ≤ MAX_BYTES → FirstTreeEndsAt input used t
     → nodes ≡ main_line t → bytes ≡ trimmed (take (length input - used) (drop used input)) → FindsOn parts (problem_of nodes) bytes o → Finds parts input o
 found_behind parts input used t nodes bytes o small s same is h =
     let whole : take (length input - used) (drop used input) ≡ drop used input = take_all _ _ (omega (arith, length-drop used input)) in

@@ -5,7 +5,7 @@ use Rattle.tt_sgf.specs.Grammar.{GameTree, main_line, OneSpelling}
 use Rattle.tt_sgf.specs.Values.{trimmed}
 use Rattle.tt_game.specs.declared.faults.GameFault.{GameFault}
 use Rattle.tt_game.specs.declared.frame.Side.{Side}
-use Rattle.tt_game.specs.Line.{Standing}
+use Rattle.tt_game.specs.Line.{LineWithUndo}
 use Rattle.tt_game.specs.Problems.{problem_of}
 use Rattle.tt_proof.specs.CertificateText.{IsCertificate}
 use Rattle.tt_proof.specs.StrategyLaws.{OneCertificate}
@@ -16,14 +16,14 @@ use Rattle.tt_text.specs.Checking.{Finds, FindsAt, FindsOn, IsCheckText, finding
 
 module _ (one : OneCertificate) where
   -- a tree doesn't win and lose
-  not_both : (p : Standing) (bytes : List ℕ) (s t : Side) (u v : Strategy) → IsCertificate p.frame.size bytes s u → IsCertificate p.frame.size bytes t v
+  not_both : (p : LineWithUndo) (bytes : List ℕ) (s t : Side) (u v : Strategy) → IsCertificate p.frame.size bytes s u → IsCertificate p.frame.size bytes t v
       → Wins s p.frame u p.state → (Wins t p.frame v p.state → ⊥) → ⊥
   not_both p bytes s t u v a b w l =
       let same = one p.frame.size bytes s t u v a b in
       l (subst (λ (x : Side). Wins x p.frame v p.state) same.0 (subst (λ (x : Strategy). Wins s p.frame x p.state) same.1 w))
 
   -- one thing is found on bytes at a problem
-  found_at : (p : Standing) (bytes : List ℕ) (o q : Finding) → FindsAt p bytes o → FindsAt p bytes q → o ≡ q
+  found_at : (p : LineWithUndo) (bytes : List ℕ) (o q : Finding) → FindsAt p bytes o → FindsAt p bytes q → o ≡ q
   found_at p bytes o q (too_deep deep) (too_deep more) = refl
   found_at p bytes o q (too_deep deep) (no_certificate flat none) = absurd (flat deep)
   found_at p bytes o q (too_deep deep) (wins s u flat is w) = absurd (flat deep)
@@ -42,7 +42,7 @@ module _ (one : OneCertificate) where
   found_at p bytes o q (loses s u flat is l) (loses t v level are m) = refl
 
   -- so it is where the problem may be refused before
-  found_on : (r : Result Standing GameFault) (bytes : List ℕ) (o q : Finding) → FindsOn false r bytes o → FindsOn false r bytes q → o ≡ q
+  found_on : (r : Result LineWithUndo GameFault) (bytes : List ℕ) (o q : Finding) → FindsOn false r bytes o → FindsOn false r bytes q → o ≡ q
   found_on (Ok p) bytes o q a b = found_at p bytes o q a b
   found_on (Err e) bytes o q a b = a ∙ sym b
 

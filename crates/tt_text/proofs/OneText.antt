@@ -1,6 +1,6 @@
 -- An input has one text and one status that answer `score`.
 use Rattle.std.proofs.Common.{◌≡◌, ◌≢◌, ◌⊎◌, ℕ, List, [], ◌∷◌, ◌++◌, inl, inr, refl, sym, ap, ap₂, ◌∙◌, drop, arith, subst}
-use Rattle.tt_sgf.specs.Grammar.{GameTree, HasNoTree, SpelledUpTo, main_line, HasOpen, OneSpelling}
+use Rattle.tt_sgf.specs.Grammar.{GameTree, HasNoTree, FirstTreeEndsAt, main_line, HasOpen, OneSpelling}
 use Rattle.tt_sgf.specs.laws.TreeLaws.{spelled_opens}
 use Rattle.tt_game.specs.Records.{record_of}
 use Rattle.tt_text.specs.declared.outcome.Outcome.{Outcome}
@@ -17,8 +17,8 @@ module _ (one : OneSpelling) where
   reads_same : (bytes : List ℕ) (os ps : List Outcome) (rest left : List ℕ) → Reads Scores bytes os rest → Reads Scores bytes ps left → HasNoTree rest → HasNoTree left
       → (os ≡ ps) × (rest ≡ left)
   reads_same bytes [] [] rest left r l empty none = (refl, sym r ∙ l)
-  reads_same bytes [] (p ∷ ps) rest left r l empty none = absurd (empty l.1 l.0 (subst (λ (x : List ℕ). SpelledUpTo x l.0 l.1) r l.2))
-  reads_same bytes (o ∷ os) [] rest left r l empty none = absurd (none r.1 r.0 (subst (λ (x : List ℕ). SpelledUpTo x r.0 r.1) l r.2))
+  reads_same bytes [] (p ∷ ps) rest left r l empty none = absurd (empty l.1 l.0 (subst (λ (x : List ℕ). FirstTreeEndsAt x l.0 l.1) r l.2))
+  reads_same bytes (o ∷ os) [] rest left r l empty none = absurd (none r.1 r.0 (subst (λ (x : List ℕ). FirstTreeEndsAt x r.0 r.1) l r.2))
   reads_same bytes (o ∷ os) (p ∷ ps) rest left r l empty none =
       let same = one bytes r.0 l.0 r.1 l.1 r.2 l.2 in
       let more = reads_same (drop r.0 bytes) os ps rest left r.4 (subst (λ n. Reads Scores (drop n bytes) ps left) (sym same.0) l.4) empty none in

@@ -6,7 +6,7 @@ use Rattle.tt_game.specs.declared.frame.Side.{Side}
 use Rattle.tt_game.specs.declared.turns.Turn.{Turn}
 use Rattle.tt_game.specs.declared.turns.Turn.TheVariants.{Play, Pass}
 use Rattle.tt_game.specs.Game.{IsLegal}
-use Rattle.tt_game.specs.Line.{Standing}
+use Rattle.tt_game.specs.Line.{LineWithUndo}
 use Rattle.tt_game.specs.Turns.{OnBoard, legal_turns}
 use Rattle.tt_game.specs.laws.TurnLaws.{contains-legal_turns}
 use Rattle.tt_search.specs.declared.limits.Limits.{Limits}
@@ -15,17 +15,17 @@ use Rattle.tt_text.specs.Solving.{AreTurnLines, IsValueOrReason, ProblemText, Tu
 use Rattle.tt_text.specs.declared.options.Options.{Options}
 
 -- a turn in the list of legal turns is legal
-pub legal_there : (p : Standing) (ts : List Turn) (n : ℕ) (t : Turn) → ts ≡ legal_turns p.frame p.state → n < length ts → t ≡ get_or ts n t → IsLegal p.frame p.state t
+pub legal_there : (p : LineWithUndo) (ts : List Turn) (n : ℕ) (t : Turn) → ts ≡ legal_turns p.frame p.state → n < length ts → t ≡ get_or ts n t → IsLegal p.frame p.state t
 legal_there p ts n t all lt is =
     let here : Contains ts t = subst (λ (u : Turn). Contains ts u) (sym is) (Contains-get_or ts n t lt) in
     (contains-legal_turns p.frame p.state t).0 (subst (λ (us : List Turn). Contains us t) all here)
 
 -- and on the board
-pub legal_on_board : (p : Standing) (t : Turn) → IsLegal p.frame p.state t → OnBoard p.frame t
+pub legal_on_board : (p : LineWithUndo) (t : Turn) → IsLegal p.frame p.state t → OnBoard p.frame t
 legal_on_board p (Play q) l = l.1
 legal_on_board p Pass l = tt
 
-module _ (p : Standing) (limits : Limits) (total : Option ℕ) where
+module _ (p : LineWithUndo) (limits : Limits) (total : Option ℕ) where
   -- one more line behind the lines
   one_more : (ts : List Turn) (t : Turn) (lines : List ℕ) (value : Result Side Reason) → AreTurnLines p limits total ts lines
       → IsValueOrReason (line_behind p t) limits total value → AreTurnLines p limits total (ts ++ t ∷ []) (lines ++ value_line p.frame.size t value)
@@ -49,11 +49,11 @@ module _ (p : Standing) (limits : Limits) (total : Option ℕ) where
       (subst (λ (us : List Turn). AreTurnLines p limits total us (lines ++ value_line p.frame.size t value)) more (one_more (take n ts) t lines value h v))
 
 -- the lines of the whole list
-pub all_lines : (p : Standing) (limits : Limits) (total : Option ℕ) (ts : List Turn) (n : ℕ) (lines : List ℕ) → length ts ≤ n → ts ≡ legal_turns p.frame p.state
+pub all_lines : (p : LineWithUndo) (limits : Limits) (total : Option ℕ) (ts : List Turn) (n : ℕ) (lines : List ℕ) → length ts ≤ n → ts ≡ legal_turns p.frame p.state
     → AreTurnLines p limits total (take n ts) lines → AreTurnLines p limits total (legal_turns p.frame p.state) lines
 all_lines p limits total ts n lines whole all h = subst (λ (us : List Turn). AreTurnLines p limits total us lines) (take_all n ts whole ∙ all) h
 
 -- a verdict, and what follows it
-pub problem_text : (options : Options) (p : Standing) (verdict lines text : List ℕ) → Verdict p options.limits options.total options.cert verdict
+pub problem_text : (options : Options) (p : LineWithUndo) (verdict lines text : List ℕ) → Verdict p options.limits options.total options.cert verdict
     → TurnsFollow p options.limits options.total options.turns lines → text ≡ verdict ++ lines → ProblemText options p text
 problem_text options p verdict lines text v h e = (verdict, lines, e, v, h)

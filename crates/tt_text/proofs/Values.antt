@@ -9,7 +9,7 @@ use Rattle.tt_game.specs.declared.frame.Side.TheVariants.{Attacker, Defender}
 use Rattle.tt_game.specs.declared.turns.Turn.{Turn}
 use Rattle.tt_game.specs.declared.turns.Turn.TheVariants.{Play, Pass}
 use Rattle.tt_game.specs.Game.{HasValue, value_for}
-use Rattle.tt_game.specs.Line.{Standing}
+use Rattle.tt_game.specs.Line.{LineWithUndo}
 use Rattle.tt_game.specs.laws.SideLaws.{words_apart}
 use Rattle.tt_game.specs.Sides.{side_word}
 use Rattle.tt_proof.specs.CertificateText.{shown_turn}
@@ -48,7 +48,7 @@ firsts_same size (Some t) None x y e = let bad : space ≡ newline = ap (byte 0)
 firsts_same size (Some t) (Some u) x y e = ap Some (turns_same size t u x y (append_cancel_left (space ∷ []) (shown_turn size t ++ newline ∷ x) (shown_turn size u ++ newline ∷ y) e))
 
 -- what a verdict that begins with the side's word says
-record Says (p : Standing) (side : Side) (rest : List ℕ) : Type 0 where
+record Says (p : LineWithUndo) (side : Side) (rest : List ℕ) : Type 0 where
   first : Option Turn
   lines : List ℕ
   valued : HasValue p.frame p.state (value_for side)
@@ -56,7 +56,7 @@ record Says (p : Standing) (side : Side) (rest : List ℕ) : Type 0 where
   text : first_text p.frame.size first ++ newline ∷ lines ≡ rest
 
 -- a verdict that begins with a side's word says so
-says : (p : Standing) (limits : Limits) (total : Option ℕ) (cert : Cert) (side : Side) (rest text : List ℕ) → Verdict p limits total cert text → text ≡ side_word side ++ rest → Says p side rest
+says : (p : LineWithUndo) (limits : Limits) (total : Option ℕ) (cert : Cert) (side : Side) (rest text : List ℕ) → Verdict p limits total cert text → text ≡ side_word side ++ rest → Says p side rest
 says p limits total cert side rest text (decided s first lines valued keeps more) e =
     let size = p.frame.size in
     let parts : decided_text size s first ++ lines ≡ side_word s ++ (first_text size first ++ newline ∷ lines) =

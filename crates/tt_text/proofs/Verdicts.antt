@@ -5,7 +5,7 @@ use Rattle.tt_game.specs.declared.frame.Side.{Side}
 use Rattle.tt_game.specs.declared.turns.Turn.{Turn}
 use Rattle.tt_game.specs.Game.{HasValue, State, after, value_for, winner_of}
 use Rattle.tt_game.specs.GameLaws.{IsState}
-use Rattle.tt_game.specs.Line.{Standing}
+use Rattle.tt_game.specs.Line.{LineWithUndo}
 use Rattle.tt_game.proofs.SomeSide.{state_after, values_forced}
 use Rattle.tt_proof.specs.CertificateText.{certificate_text}
 use Rattle.tt_proof.specs.Proven.{IsWon, Proven, StandsAt, first_of}
@@ -48,25 +48,25 @@ plain_shared p f s most text at won low e =
     }
 
 -- and as a line it follows the verdict
-pub plain_follows : (p : Proven) (line : Standing) (limits : Limits) (text lines : List ℕ) → StandsAt p line.frame line.state
+pub plain_follows : (p : Proven) (line : LineWithUndo) (limits : Limits) (text lines : List ℕ) → StandsAt p line.frame line.state
     → IsWon p.side p.frame p.state p.tree → depth p.tree ≤ limits.depth → text ≡ certificate_text line.frame.size p.side p.tree
     → lines ≡ text ++ newline ∷ [] → Follows line limits p.side (first_of p.tree) Plain lines
 plain_follows p line limits text lines at won low e f =
     let w = won_there p line.frame line.state at won in
     (text, record { strategy = p.tree; is = record { in_order = w.in_order; low = w.low; text = e }; wins = w.wins; low = low; begins = refl }, f)
 
-pub shared_follows : (line : Standing) (limits : Limits) (side : Side) (first : Option Turn) (most : ℕ) (text lines : List ℕ) → most ≡ limits.depth
+pub shared_follows : (line : LineWithUndo) (limits : Limits) (side : Side) (first : Option Turn) (most : ℕ) (text lines : List ℕ) → most ≡ limits.depth
     → IsWinningSharedCertificate line.frame line.state side first most text → lines ≡ text ++ newline ∷ [] → Follows line limits side first Shared lines
 shared_follows line limits side first most text lines same w e =
     (text, subst (λ (n : ℕ). IsWinningSharedCertificate line.frame line.state side first n text) same w, e)
 
 -- the line of a verdict, and what follows it
-pub said : (line : Standing) (limits : Limits) (p : Proven) (first : Option Turn) (cert : Cert) (lines text : List ℕ) → first ≡ first_of p.tree
+pub said : (line : LineWithUndo) (limits : Limits) (p : Proven) (first : Option Turn) (cert : Cert) (lines text : List ℕ) → first ≡ first_of p.tree
     → Follows line limits p.side (first_of p.tree) cert lines → text ≡ decided_text line.frame.size p.side first ++ lines
     → IsSaid line limits p.side first cert text
 said line limits p first cert lines text e h at = (lines, subst (λ (o : Option Turn). Follows line limits p.side o cert lines) (sym e) h, at)
 
-module _ (line : Standing) (is : IsState line.frame line.state) where
+module _ (line : LineWithUndo) (is : IsState line.frame line.state) where
   -- the first turn of a winning strategy keeps the value
   first_keeps : (side : Side) (u : Strategy) → Wins side line.frame u line.state → (side ≡ line.state.to_move → IsSome (first_of u)) → IsFirst line side (first_of u)
   first_keeps side done w shown = λ e. let bad : false ≡ true = shown (sym e) in cc
@@ -102,7 +102,7 @@ module _ (line : Standing) (is : IsState line.frame line.state) where
   winner_value side w = (values_forced line.frame line.state side is).1 0 w
 
 -- what a stuck turn says is what the verdict says for the reason
-pub stuck_for : (line : Standing) (limits : Limits) (total : Option ℕ) (stuck : Stuck) (reason : Reason) → answer.IsUnsettled line limits total reason stuck
+pub stuck_for : (line : LineWithUndo) (limits : Limits) (total : Option ℕ) (stuck : Stuck) (reason : Reason) → answer.IsUnsettled line limits total reason stuck
     → IsUnsettledFor line limits total reason
 stuck_for line limits total stuck Budget h = (stuck.turn, h.0, h.2)
 stuck_for line limits total stuck Depth h = (stuck.turn, h.0, h.2)
@@ -110,7 +110,7 @@ stuck_for line limits total stuck Total h = (h.0, h.1, stuck.turn, h.2, stuck.sp
 stuck_for line limits total stuck Memory h = tt
 
 -- the text of a stuck turn
-pub stuck_verdict : (line : Standing) (limits : Limits) (total : Option ℕ) (cert : Cert) (stuck : Stuck) (text : List ℕ) → answer.IsUnsettled line limits total stuck.reason stuck
+pub stuck_verdict : (line : LineWithUndo) (limits : Limits) (total : Option ℕ) (cert : Cert) (stuck : Stuck) (text : List ℕ) → answer.IsUnsettled line limits total stuck.reason stuck
     → text ≡ unsettled_text stuck.reason → Verdict line limits total cert text
 stuck_verdict line limits total cert stuck text h e =
     subst (λ (x : List ℕ). Verdict line limits total cert x) (sym e) (unsettled stuck.reason (stuck_for line limits total stuck stuck.reason h))

@@ -3,12 +3,12 @@ use Rattle.std.specs.Prelude.{◌≡◌, ◌<◌, ◌≤◌, ℕ, Bool, true, fa
 use Rattle.std.specs.declared.result.Result.{Result}
 use Rattle.tt_sgf.specs.Bytes.{newline}
 use Rattle.tt_sgf.specs.declared.trees.TheConstants.{MAX_BYTES}
-use Rattle.tt_sgf.specs.Grammar.{GameTree, HasNoTree, SpelledUpTo, main_line}
+use Rattle.tt_sgf.specs.Grammar.{GameTree, HasNoTree, FirstTreeEndsAt, main_line}
 use Rattle.tt_sgf.specs.Values.{trimmed}
 use Rattle.tt_game.specs.declared.faults.GameFault.{GameFault}
 use Rattle.tt_game.specs.declared.frame.Side.{Side}
 use Rattle.tt_game.specs.Faults.{code_of}
-use Rattle.tt_game.specs.Line.{Standing}
+use Rattle.tt_game.specs.Line.{LineWithUndo}
 use Rattle.tt_game.specs.Problems.{problem_of}
 use Rattle.tt_proof.specs.declared.certificate_read.CertFault.TheVariants.{Syntax, TooDeep}
 use Rattle.tt_proof.specs.declared.tree.TheConstants.{MOST_DEPTH}
@@ -22,7 +22,7 @@ use Rattle.tt_text.specs.declared.finding.Finding.TheVariants.{Valid, Invalid, R
 
 -- What is found on bytes at a problem: a turn lies too deep; or they are no certificate; or they are one, and its tree
 -- wins at the problem or doesn't.
-pub data FindsAt (p : Standing) (bytes : List ℕ) : Finding → Type 0 where
+pub data FindsAt (p : LineWithUndo) (bytes : List ℕ) : Finding → Type 0 where
   too_deep : IsTooDeep p.frame.size bytes → FindsAt p bytes (Refused 31)
   no_certificate : (IsTooDeep p.frame.size bytes → ⊥) → ((side : Side) (u : Strategy) → IsCertificate p.frame.size bytes side u → ⊥)
       → FindsAt p bytes (Refused 30)
@@ -33,7 +33,7 @@ pub data FindsAt (p : Standing) (bytes : List ℕ) : Finding → Type 0 where
 
 -- What is found on bytes at a problem where parts may be shared: they are a certificate with shared parts, and its tree wins at
 -- the problem or doesn't, or a part doesn't fit; or they are none, or only a tree that is too deep has them.
-pub data FindsShared (p : Standing) (bytes : List ℕ) : Finding → Type 0 where
+pub data FindsShared (p : LineWithUndo) (bytes : List ℕ) : Finding → Type 0 where
   unread : IsSharedFault p.frame.size MOST_DEPTH bytes Syntax → FindsShared p bytes (Refused 30)
   goes_deep : IsSharedFault p.frame.size MOST_DEPTH bytes TooDeep → FindsShared p bytes (Refused 31)
   unfit : (side : Side) (o : Outline) → IsSharedCertificate p.frame.size bytes side o → FindsShared p bytes (Refused 32)
@@ -43,12 +43,12 @@ pub data FindsShared (p : Standing) (bytes : List ℕ) : Finding → Type 0 wher
       → FindsShared p bytes Invalid
 
 -- the one or the other, as parts are asked for
-abbrev pub FindsBy : Bool → Standing → List ℕ → Finding → Type 0
+abbrev pub FindsBy : Bool → LineWithUndo → List ℕ → Finding → Type 0
 FindsBy true = FindsShared
 FindsBy false = FindsAt
 
 -- the same, where the problem may be refused before
-abbrev pub FindsOn : Bool → Result Standing GameFault → List ℕ → Finding → Type 0
+abbrev pub FindsOn : Bool → Result LineWithUndo GameFault → List ℕ → Finding → Type 0
 FindsOn parts (Ok p) bytes o = FindsBy parts p bytes o
 FindsOn parts (Err e) bytes o = o ≡ Refused (code_of e)
 
@@ -57,7 +57,7 @@ FindsOn parts (Err e) bytes o = o ≡ Refused (code_of e)
 pub data Finds (parts : Bool) (input : List ℕ) : Finding → Type 0 where
   too_long : MAX_BYTES < length input → Finds parts input (Refused 2)
   no_tree : length input ≤ MAX_BYTES → HasNoTree input → Finds parts input (Refused 1)
-  first_tree : (count : ℕ) (t : GameTree) (o : Finding) → length input ≤ MAX_BYTES → SpelledUpTo input count t
+  first_tree : (count : ℕ) (t : GameTree) (o : Finding) → length input ≤ MAX_BYTES → FirstTreeEndsAt input count t
       → FindsOn parts (problem_of (main_line t)) (trimmed (drop count input)) o → Finds parts input o
 
 -- the line on a finding; a newline ends it

@@ -4,7 +4,7 @@ use Rattle.tt_sgf.specs.Bytes.{newline}
 use Rattle.tt_game.specs.declared.frame.Side.{Side}
 use Rattle.tt_game.specs.declared.turns.Turn.{Turn}
 use Rattle.tt_game.specs.Game.{HasValue, value_for}
-use Rattle.tt_game.specs.Line.{Standing}
+use Rattle.tt_game.specs.Line.{LineWithUndo}
 use Rattle.tt_game.specs.Sides.{side_word}
 use Rattle.tt_search.specs.declared.limits.Limits.{Limits}
 use Rattle.tt_text.specs.declared.options.Cert.{Cert}
@@ -12,6 +12,6 @@ use Rattle.tt_text.specs.Solving.{IsFirst, Verdict, first_text}
 
 -- a verdict that begins with a side's word names the problem's value, and the turn behind the word, or its absence, is so
 abbrev pub VerdictsAreValues : Type 0
-VerdictsAreValues = (p : Standing) (limits : Limits) (total : Option ℕ) (cert : Cert) (side : Side) (rest : List ℕ) → Verdict p limits total cert (side_word side ++ rest)
+VerdictsAreValues = (p : LineWithUndo) (limits : Limits) (total : Option ℕ) (cert : Cert) (side : Side) (rest : List ℕ) → Verdict p limits total cert (side_word side ++ rest)
     → HasValue p.frame p.state (value_for side)
     × ((first : Option Turn) (lines : List ℕ) → rest ≡ first_text p.frame.size first ++ newline ∷ lines → IsFirst p side first)

@@ -9,7 +9,7 @@ use Rattle.tt_game.specs.declared.frame.Side.{Side}
 use Rattle.tt_game.specs.declared.turns.Turn.{Turn}
 use Rattle.tt_game.specs.Faults.{code_of}
 use Rattle.tt_game.specs.Game.{HasValue, IsLegal, after, value_for}
-use Rattle.tt_game.specs.Line.{Standing}
+use Rattle.tt_game.specs.Line.{LineWithUndo}
 use Rattle.tt_game.specs.Problems.{problem_of}
 use Rattle.tt_game.specs.Sides.{side_word}
 use Rattle.tt_game.specs.Turns.{legal_turns}
@@ -62,13 +62,13 @@ value_line size t value = space ∷ space ∷ (shown_turn size t ++ space ∷ va
 -- ---- what they say
 
 -- the first turn is shown exactly where the winner is to move; it is legal, and keeps the value
-abbrev pub IsFirst : Standing → Side → Option Turn → Type 0
+abbrev pub IsFirst : LineWithUndo → Side → Option Turn → Type 0
 IsFirst p side None = p.state.to_move ≢ side
 IsFirst p side (Some t) =
     (p.state.to_move ≡ side) × IsLegal p.frame p.state t × HasValue p.frame (after p.frame p.state t) (value_for side)
 
 -- the bytes are the certificate of a strategy that wins for the side, within the limit on depth, and begins with that turn
-pub record IsWinningCertificate (p : Standing) (limits : Limits) (side : Side) (first : Option Turn) (bytes : List ℕ) : Type 0 where
+pub record IsWinningCertificate (p : LineWithUndo) (limits : Limits) (side : Side) (first : Option Turn) (bytes : List ℕ) : Type 0 where
   pub strategy : Strategy
   pub is : IsCertificate p.frame.size bytes side strategy
   pub wins : Wins side p.frame strategy p.state
@@ -76,20 +76,20 @@ pub record IsWinningCertificate (p : Standing) (limits : Limits) (side : Side) (
   pub begins : first ≡ first_of strategy
 
 -- nothing follows, or a certificate on a line of its own where it is asked for
-abbrev pub Follows : Standing → Limits → Side → Option Turn → Cert → List ℕ → Type 0
+abbrev pub Follows : LineWithUndo → Limits → Side → Option Turn → Cert → List ℕ → Type 0
 Follows p limits side first Unasked lines = lines ≡ []
 Follows p limits side first Plain lines = (bytes : List ℕ) × IsWinningCertificate p limits side first bytes × (lines ≡ bytes ++ newline ∷ [])
 Follows p limits side first Shared lines =
     (bytes : List ℕ) × IsWinningSharedCertificate p.frame p.state side first limits.depth bytes × (lines ≡ bytes ++ newline ∷ [])
 
 -- the text of a decided problem, with what follows it
-abbrev pub IsSaid : Standing → Limits → Side → Option Turn → Cert → List ℕ → Type 0
+abbrev pub IsSaid : LineWithUndo → Limits → Side → Option Turn → Cert → List ℕ → Type 0
 IsSaid p limits side first cert text =
     (lines : List ℕ) × Follows p limits side first cert lines × (text ≡ decided_text p.frame.size side first ++ lines)
 
 -- behind some legal turn the search is stuck for the reason, and the lesser turns lose; for the total only where there is one, and
 -- then the count of this search and those of grown searches behind the other legal turns add up to it; of memory nothing is said
-abbrev pub IsUnsettledFor : Standing → Limits → Option ℕ → Reason → Type 0
+abbrev pub IsUnsettledFor : LineWithUndo → Limits → Option ℕ → Reason → Type 0
 IsUnsettledFor p limits total Budget = (t : Turn) × (search : Searched) × IsStuckBehind p limits Budget t search
 IsUnsettledFor p limits total Depth = (t : Turn) × (search : Searched) × IsStuckBehind p limits Depth t search
 IsUnsettledFor p limits total Total = (n : ℕ) × (total ≡ Some n) × (t : Turn) × (search : Searched) × (spent : List (Turn × ℕ))
@@ -97,38 +97,38 @@ IsUnsettledFor p limits total Total = (n : ℕ) × (total ≡ Some n) × (t : Tu
 IsUnsettledFor p limits total Memory = Unit {0}
 
 -- The text is a verdict on the problem: its value, killed or lives; or that no win was found, for a reason.
-pub data Verdict (p : Standing) (limits : Limits) (total : Option ℕ) (cert : Cert) : List ℕ → Type 0 where
+pub data Verdict (p : LineWithUndo) (limits : Limits) (total : Option ℕ) (cert : Cert) : List ℕ → Type 0 where
   decided : (side : Side) (first : Option Turn) (lines : List ℕ) → HasValue p.frame p.state (value_for side) → IsFirst p side first
       → Follows p limits side first cert lines → Verdict p limits total cert (decided_text p.frame.size side first ++ lines)
   unsettled : (reason : Reason) → IsUnsettledFor p limits total reason → Verdict p limits total cert (unsettled_text reason)
 
 -- the side has the value, or a search is stuck for the reason
-abbrev pub IsValueOrReason : Standing → Limits → Option ℕ → Result Side Reason → Type 0
+abbrev pub IsValueOrReason : LineWithUndo → Limits → Option ℕ → Result Side Reason → Type 0
 IsValueOrReason p limits total (Ok side) = HasValue p.frame p.state (value_for side)
 IsValueOrReason p limits total (Err reason) = IsUnsettledFor p limits total reason
 
 -- the problem behind a turn, which alone may be undone
-abbrev pub line_behind : Standing → Turn → Standing
+abbrev pub line_behind : LineWithUndo → Turn → LineWithUndo
 line_behind p t = record { frame = p.frame; state = after p.frame p.state t; before = p.state ∷ [] }
 
 -- a line for each of the turns, with the value behind it, or why that isn't known under the same limits
-abbrev pub AreTurnLines : Standing → Limits → Option ℕ → List Turn → List ℕ → Type 0
+abbrev pub AreTurnLines : LineWithUndo → Limits → Option ℕ → List Turn → List ℕ → Type 0
 AreTurnLines p limits total [] lines = lines ≡ []
 AreTurnLines p limits total (t ∷ ts) lines = (value : Result Side Reason) × (rest : List ℕ) × IsValueOrReason (line_behind p t) limits total value
     × (lines ≡ value_line p.frame.size t value ++ rest) × AreTurnLines p limits total ts rest
 
 -- nothing follows, or a line for each legal turn, in rising order, where they are asked for
-abbrev pub TurnsFollow : Standing → Limits → Option ℕ → Bool → List ℕ → Type 0
+abbrev pub TurnsFollow : LineWithUndo → Limits → Option ℕ → Bool → List ℕ → Type 0
 TurnsFollow p limits total false lines = lines ≡ []
 TurnsFollow p limits total true lines = AreTurnLines p limits total (legal_turns p.frame p.state) lines
 
 -- a verdict on the problem, and what follows of its turns
-abbrev pub ProblemText : Options → Standing → List ℕ → Type 0
+abbrev pub ProblemText : Options → LineWithUndo → List ℕ → Type 0
 ProblemText options p text = (verdict lines : List ℕ) × (text ≡ verdict ++ lines)
     × Verdict p options.limits options.total options.cert verdict × TurnsFollow p options.limits options.total options.turns lines
 
 -- what is said of the problem, or the number of its refusal
-abbrev pub SolvesAs : Options → Result Standing GameFault → Outcome → Type 0
+abbrev pub SolvesAs : Options → Result LineWithUndo GameFault → Outcome → Type 0
 SolvesAs options (Ok p) o = (text : List ℕ) × (o ≡ Answered text) × ProblemText options p text
 SolvesAs options (Err e) o = o ≡ Refused (code_of e)
 

@@ -4,7 +4,7 @@ use Rattle.std.specs.List.{list_any}
 use Rattle.tt_sgf.specs.declared.trees.TheConstants.{MAX_BYTES}
 use Rattle.tt_sgf.specs.Bytes.{newline, space}
 use Rattle.tt_sgf.specs.declared.nodes.Node.{Node}
-use Rattle.tt_sgf.specs.Grammar.{GameTree, HasNoTree, HasOpen, SpelledUpTo, main_line}
+use Rattle.tt_sgf.specs.Grammar.{GameTree, HasNoTree, HasOpen, FirstTreeEndsAt, main_line}
 use Rattle.tt_text.specs.declared.outcome.Outcome.{Outcome}
 use Rattle.tt_text.specs.declared.outcome.Outcome.TheVariants.{Scored, Answered, Refused}
 
@@ -36,7 +36,7 @@ status_of os = if list_any is_refused os then 1 else 0
 -- the trees at the front of the bytes, read one after the other, have these outcomes and leave the rest
 abbrev pub Reads : (List Node → Outcome → Type 0) → List ℕ → List Outcome → List ℕ → Type 0
 Reads allowed bytes [] rest = bytes ≡ rest
-Reads allowed bytes (o ∷ os) rest = (count : ℕ) × (t : GameTree) × SpelledUpTo bytes count t
+Reads allowed bytes (o ∷ os) rest = (count : ℕ) × (t : GameTree) × FirstTreeEndsAt bytes count t
     × allowed (main_line t) o × Reads allowed (drop count bytes) os rest
 
 -- These are the outcomes for the whole input: it is too long; or it has trees and no further `(`; or reading stops where

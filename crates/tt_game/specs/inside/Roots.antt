@@ -6,7 +6,7 @@ use Rattle.tt_board.specs.declared.Colour.{Colour}
 use Rattle.tt_board.specs.Position.{Position, Colouring}
 use Rattle.tt_board.specs.Reach.{entry_at}
 use Rattle.tt_game.specs.declared.frame.Frame.{Frame}
-use Rattle.tt_game.specs.Course.{HasBeen, colourings}
+use Rattle.tt_game.specs.GameHistory.{HasBeen, colourings}
 use Rattle.tt_game.specs.declared.line.Undo.{Undo}
 use Rattle.tt_game.specs.Game.{State, history}
 use Rattle.tt_game.specs.inside.Undoing.{undone}

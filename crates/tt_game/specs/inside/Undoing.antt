@@ -8,9 +8,9 @@ use Rattle.tt_game.specs.declared.frame.Frame.{Frame}
 use Rattle.tt_game.specs.declared.frame.Side.{Side}
 use Rattle.tt_game.specs.declared.line.Undo.{Undo}
 use Rattle.tt_game.specs.declared.line.Undo.TheVariants.{UndoPlay, UndoPass}
-use Rattle.tt_game.specs.Course.{Course, colourings}
+use Rattle.tt_game.specs.GameHistory.{GameHistory, colourings}
 use Rattle.tt_game.specs.Game.{State, history, opponent}
-use Rattle.tt_game.specs.Line.{Standing}
+use Rattle.tt_game.specs.Line.{LineWithUndo}
 
 -- all but the last
 abbrev pub front : List Colouring → List Colouring
@@ -20,20 +20,20 @@ front cs = take (length cs - 1) cs
 abbrev pub last : List Colouring → Colouring
 last cs = slice_index_or cs (length cs - 1) []
 
--- the course that boards show, the last one present
-abbrev pub course_of : Size → List Position → ℕ → Course
-course_of size bs passes = record { size = size; earlier = front (colourings bs); present = last (colourings bs); passes = passes }
+-- the history that boards show, the last one present
+abbrev pub game_history_of : Size → List Position → ℕ → GameHistory
+game_history_of size bs passes = record { size = size; earlier = front (colourings bs); present = last (colourings bs); passes = passes }
 
--- the course before a play that was made after so many passes
-abbrev pub without_play : Course → ℕ → Course
+-- the history before a play that was made after so many passes
+abbrev pub without_play : GameHistory → ℕ → GameHistory
 without_play c passes = record { size = c.size; earlier = front c.earlier; present = last c.earlier; passes = passes }
 
--- the course before a pass
-abbrev pub without_pass : Course → Course
+-- the history before a pass
+abbrev pub without_pass : GameHistory → GameHistory
 without_pass c = record { size = c.size; earlier = c.earlier; present = c.present; passes = c.passes - 1 }
 
--- the state of a course at which a side moves
-abbrev pub state_at : Course → Side → State
+-- the state of a history at which a side moves
+abbrev pub state_at : GameHistory → Side → State
 state_at c side = record { earlier = c.earlier; present = c.present; to_move = side; passes = c.passes }
 
 -- the state before a push
@@ -73,11 +73,11 @@ IsUndoable g s (UndoPlay n ∷ us) (b ∷ bs) =
     (1 ≤ length s.earlier) × (n ≤ 2) × (b ≡ board_on g (last s.earlier)) × IsUndoable g (undone s (UndoPlay n)) us bs
 
 -- what a line shows, from its parts; the pushes are given the last one first
-abbrev pub standing_of : Frame → State → List Undo → Standing
-standing_of f s us = record { frame = f; state = s; before = states_before s us }
+abbrev pub line_with_undo : Frame → State → List Undo → LineWithUndo
+line_with_undo f s us = record { frame = f; state = s; before = states_before s us }
 
 -- a play that made this colouring was added
-abbrev pub IsMoved : Standing → Standing → Colouring → Type 0
+abbrev pub IsMoved : LineWithUndo → LineWithUndo → Colouring → Type 0
 IsMoved old new points = new ≡ record {
   frame = old.frame;
   state = record { earlier = history old.state; present = points; to_move = opponent old.state.to_move; passes = 0 };

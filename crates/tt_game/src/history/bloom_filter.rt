@@ -6,7 +6,7 @@ ghost use Rattle.tt_sgf.specs.declared.size.TheConstants.{MOST_POINTS};
 ghost use Rattle.tt_board.specs.Position.{Colouring};
 ghost use Rattle.tt_board.specs.Reach.{entry_at};
 ghost use Rattle.tt_sgf.specs.declared.size.Size.{Size};
-ghost use Rattle.tt_game.specs.Course.{colourings};
+ghost use Rattle.tt_game.specs.GameHistory.{colourings};
 ghost use Rattle.tt_game.specs.Mixing.{mix, mix_board, board_hash};
 ghost use Rattle.tt_game.specs.BloomFilter.{hash_of, MayHold, MayHoldAll};
 

@@ -5,7 +5,7 @@ ghost use Rattle.std.specs.Arc.{arc_value};
 ghost use Rattle.tt_sgf.specs.Sizes.{point_count};
 ghost use Rattle.tt_board.specs.Position.{Position, Colouring};
 ghost use Rattle.tt_board.specs.Reach.{entry_at};
-ghost use Rattle.tt_game.specs.Course.{HasBeen, so_far, colourings};
+ghost use Rattle.tt_game.specs.GameHistory.{HasBeen, so_far, colourings};
 ghost use Rattle.tt_game.specs.inside.Roots.{AreStonesOf};
 ghost use Rattle.tt_game.specs.BloomFilter.{hash_of};
 
@@ -52,7 +52,7 @@ impl Model for Root {
     ghost use Rattle.std.specs.Coded.{codes};
     ghost use Rattle.tt_sgf.specs.contracts.sets.PointSet as points;
     ghost use Rattle.tt_board.specs.declared.Colour.TheVariants.{Black, White};
-    ghost use Rattle.tt_game.specs.Course.{colourings};
+    ghost use Rattle.tt_game.specs.GameHistory.{colourings};
     ghost use Rattle.tt_game.specs.inside.Roots.{Rooted, AreStonesOf};
     ghost use Rattle.tt_game.specs.BloomFilter.{MayHoldAll};
 

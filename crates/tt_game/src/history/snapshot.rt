@@ -7,7 +7,7 @@ ghost use Rattle.tt_game.specs.Keys.{key_of};
 ghost use Rattle.tt_game.specs.KeyHash.{hash_of_key};
 ghost use Rattle.tt_game.specs.Line.{IsPosition};
 ghost use Rattle.tt_game.specs.inside.Undoing.{state_at};
-ghost use Rattle.tt_game.specs.Course.{so_far, colourings};
+ghost use Rattle.tt_game.specs.GameHistory.{so_far, colourings};
 ghost use Rattle.tt_game.specs.inside.Roots.{BoardsBegin};
 
 use crate::frame::Side;
@@ -39,23 +39,23 @@ impl Model for Snapshot {
     ghost use Rattle.tt_sgf.specs.contracts.sets.PointSet as points;
     ghost use Rattle.tt_game.specs.Keys.{key_of};
     ghost use Rattle.tt_game.specs.KeyHash.{hash_of_key};
-    ghost use Rattle.tt_game.specs.Line.{Stood};
-    ghost use Rattle.tt_game.specs.inside.Undoing.{course_of, state_at};
+    ghost use Rattle.tt_game.specs.Line.{SnapshotState};
+    ghost use Rattle.tt_game.specs.inside.Undoing.{game_history_of, state_at};
 
-    ghost Value = { Stood };
+    ghost Value = { SnapshotState };
 
     ghost coded = { Prim.hlevel (codes, points.the_row.coded) };
 
     ghost view = { λ p. record {
       frame = (arc_value p.root).frame;
-      state = state_at (course_of (arc_value p.root).frame.size ((arc_value p.root).begun ++ p.later) p.passes) p.to_move;
+      state = state_at (game_history_of (arc_value p.root).frame.size ((arc_value p.root).begun ++ p.later) p.passes) p.to_move;
     } };
 
     ghost invariant = { λ p. record {
       some_board : 0 < length ((arc_value p.root).begun ++ p.later);
       sizes : All (λ b. b.size ≡ (arc_value p.root).frame.size) ((arc_value p.root).begun ++ p.later);
       hash : p.hash ≡ hash_of_key (key_of (arc_value p.root).frame
-          (state_at (course_of (arc_value p.root).frame.size ((arc_value p.root).begun ++ p.later) p.passes) p.to_move));
+          (state_at (game_history_of (arc_value p.root).frame.size ((arc_value p.root).begun ++ p.later) p.passes) p.to_move));
     } };
 }
 

@@ -37,7 +37,7 @@ fn has_many(points: &Bits) -> bool {
 
 impl Line {
     ghost use Rattle.std.specs.Prelude.{ℕ, Some, None, slice_set};
-    ghost use Rattle.tt_game.specs.Course.{HasBeen};
+    ghost use Rattle.tt_game.specs.GameHistory.{HasBeen};
     ghost use Rattle.tt_board.specs.Reach.{entry_at};
     ghost use Rattle.tt_board.specs.PlayKind.{IsKind};
     ghost use Rattle.tt_board.specs.declared.counted.play_kind.PlayKind.TheVariants.{NoCapture};

@@ -3,7 +3,7 @@ use Rattle.tt_game.specs.declared.turns.Turn.{Turn}
 use Rattle.tt_game.specs.declared.frame.Frame.{Frame}
 use Rattle.tt_game.specs.declared.frame.Side.{Side}
 use Rattle.tt_game.specs.Game.{State, IsLegal, after}
-use Rattle.tt_game.specs.Line.{Standing}
+use Rattle.tt_game.specs.Line.{LineWithUndo}
 use Rattle.tt_proof.specs.Proven.{Proven, IsWon}
 use Rattle.tt_proof.specs.declared.footprints.Footprint.{Footprint}
 use Rattle.tt_proof.specs.Strategy.{Entries, done, pick}
@@ -126,7 +126,7 @@ footprints::picked-picked-requires-clause-legal t c =
     let line = c.args.line.now in
     let here = picked_here c.args.side line.frame line.state c.args.children.now c.first_settled-index.result.0 c.at.result c.turn-turn.result (child_tree c.child-child.result)
     c.requires.settled c.first_settled-index.ensures.index c.at.ensures c.turn-turn.ensures c.child-child.ensures in
-    subst (λ (l : Standing). IsLegal l.frame l.state c.turn-turn.result) (sym c.in_ok-board.ensures.same) here.0
+    subst (λ (l : LineWithUndo). IsLegal l.frame l.state c.turn-turn.result) (sym c.in_ok-board.ensures.same) here.0
 
 pub footprints::picked-returns-clause-exact : goal.footprints::picked-returns-clause-exact
 footprints::picked-returns-clause-exact t c =
@@ -172,8 +172,8 @@ footprints::replied-footprint_behind-requires t c =
         ap weight c.first.ensures.child,
       ),
       (
-        subst (λ (l : Standing). IsLegal l.frame l.state turn) (sym c.loop-edge.invariant.same) (subst (IsLegal f s) (sym c.turn-turn.ensures) here.legal),
-        subst (λ (l : Standing). IsSettledAt side l.frame (after l.frame l.state turn) child) (sym c.loop-edge.invariant.same)
+        subst (λ (l : LineWithUndo). IsLegal l.frame l.state turn) (sym c.loop-edge.invariant.same) (subst (IsLegal f s) (sym c.turn-turn.ensures) here.legal),
+        subst (λ (l : LineWithUndo). IsSettledAt side l.frame (after l.frame l.state turn) child) (sym c.loop-edge.invariant.same)
             (subst (λ u. IsSettledAt side f (after f s u) child) (sym c.turn-turn.ensures) is_child),
       ),
     )
@@ -195,7 +195,7 @@ footprints::replied-loop-edge-preserved t c =
     let foot : IsFootprint f (after f s turn) (strategy_for side child) c.in_ok-board.below = rw c.loop-edge.invariant.same at c.in_ok-board.ensures.exact in
     let more : IsEntryJoined f s turn (strategy_for side child) c.loop-edge.footprint c.join.new.self =
     subst
-    (λ (l : Standing). IsFootprint l.frame (after l.frame l.state turn) (strategy_for side child) c.in_ok-board.below
+    (λ (l : LineWithUndo). IsFootprint l.frame (after l.frame l.state turn) (strategy_for side child) c.in_ok-board.below
     → IsEntryJoined l.frame l.state turn (strategy_for side child) c.loop-edge.footprint c.join.new.self)
     same (c.in_ok-join.ensures (strategy_for side child)) foot in
     record {

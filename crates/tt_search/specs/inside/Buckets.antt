@@ -2,7 +2,7 @@
 use Rattle.std.specs.Prelude.{◌≡◌, ◌≢◌, ℕ, zero, suc, ◌-◌, ◌%◌, ◌<◌, ◌≤◌, Bool, List, length, cond, get_or, nat_eq, slice_get, Some}
 use Rattle.tt_game.specs.declared.frame.Side.{Side}
 use Rattle.tt_game.specs.declared.history.bloom_filter.BloomFilter.{BloomFilter}
-use Rattle.tt_game.specs.Line.{Standing}
+use Rattle.tt_game.specs.Line.{LineWithUndo}
 use Rattle.tt_game.specs.BloomFilter.{MayHold}
 use Rattle.tt_proof.specs.Proven.{Proven}
 use Rattle.tt_search.specs.Stores.{HasKeyAndSide}
@@ -38,7 +38,7 @@ abbrev pub MayHoldHashes : BloomFilter → List ℕ → Type 0
 MayHoldHashes filter hashes = (slot : ℕ) → slot < length hashes → MayHold filter (get_or hashes slot 0 % KEY_FILTER_BITS)
 
 -- no proof answers from this slot on
-abbrev pub NoneFrom : Standing → Side → List Proven → ℕ → Type 0
+abbrev pub NoneFrom : LineWithUndo → Side → List Proven → ℕ → Type 0
 NoneFrom line side ps n = (i : ℕ) (p : Proven) → n ≤ i → slice_get ps i ≡ Some p → HasKeyAndSide line side p → ⊥
 
 -- no slot from this one on has the hash

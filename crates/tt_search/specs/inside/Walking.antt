@@ -3,7 +3,7 @@ use Rattle.std.specs.Prelude.{◌≡◌, ℕ, ◌-◌}
 use Rattle.tt_game.specs.declared.frame.Frame.{Frame}
 use Rattle.tt_game.specs.declared.turns.Turn.{Turn}
 use Rattle.tt_game.specs.Game.{State, after}
-use Rattle.tt_game.specs.Line.{Standing, IsPushed}
+use Rattle.tt_game.specs.Line.{LineWithUndo, IsPushed}
 use Rattle.tt_search.specs.PartialTree.{PartialTree}
 use Rattle.tt_search.specs.Numbers.{IsUndecided}
 use Rattle.tt_search.specs.Growing.{IsPartialTree}
@@ -24,7 +24,7 @@ pub record Stage : Type 0 where
 abbrev pub stage : PartialTree → ℕ → Stage
 stage tree left = record { tree = tree; left = left }
 
-abbrev pub stand : Standing → ℕ → Stand
+abbrev pub stand : LineWithUndo → ℕ → Stand
 stand line room = record { frame = line.frame; state = line.state; room = room }
 
 -- where a walk stands

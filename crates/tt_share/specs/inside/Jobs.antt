@@ -3,7 +3,7 @@ use Rattle.std.specs.Prelude.{◌≡◌, ◌⊎◌, ℕ, ◌+◌, ◌≤◌, Boo
 use Rattle.tt_game.specs.declared.frame.Side.{Side}
 use Rattle.tt_game.specs.declared.turns.Turn.{Turn}
 use Rattle.tt_game.specs.Game.{after}
-use Rattle.tt_game.specs.Line.{Standing}
+use Rattle.tt_game.specs.Line.{LineWithUndo}
 use Rattle.tt_game.specs.Turns.{legal_turns}
 use Rattle.tt_proof.specs.Strategy.{depth}
 use Rattle.tt_proof.specs.Proven.{StandsAt, IsWon}
@@ -31,7 +31,7 @@ IsForTotal (Stuck Total search) = Unit {0}
 IsForTotal (Stuck Memory search) = ⊥
 
 -- how the search behind a turn ends: with a proof that leaves room for the turn, or stuck
-abbrev pub EndsBehind : Standing → Limits → Turn → End → Type 0
+abbrev pub EndsBehind : LineWithUndo → Limits → Turn → End → Type 0
 EndsBehind line limits t (Settled p) = StandsAt p line.frame (after line.frame line.state t) × (depth p.tree + 1 ≤ limits.depth)
 EndsBehind line limits t (Stuck reason (Some search)) =
     IsBehind line limits t search × IsGrown search.limits search.line.frame search.line.state search.tree × IsStuckFor reason search
@@ -41,14 +41,14 @@ EndsBehind line limits t (Stuck Total None) = ⊥
 EndsBehind line limits t (Stuck Memory None) = Unit {0}
 
 -- the search that ends so has so many expanded nodes: the one that is held, or one behind the turn whose proof it is
-abbrev pub IsOwnCount : Standing → Limits → Turn → ℕ → End → Type 0
+abbrev pub IsOwnCount : LineWithUndo → Limits → Turn → ℕ → End → Type 0
 IsOwnCount line limits t n (Settled p) = (search : Searched) × IsBehind line limits t search
     × IsGrown search.limits search.line.frame search.line.state search.tree × IsProofOf search p × (count search.tree ≡ n)
 IsOwnCount line limits t n (Stuck reason (Some search)) = count search.tree ≡ n
 IsOwnCount line limits t n (Stuck reason None) = Unit {0}
 
 -- so many nodes were expanded behind the turn in the search that ends so
-abbrev pub IsCounted : Standing → Limits → Turn → ℕ → End → Type 0
+abbrev pub IsCounted : LineWithUndo → Limits → Turn → ℕ → End → Type 0
 IsCounted line limits t n end = IsCountAfter line limits t n × IsOwnCount line limits t n end
 
 -- what a search asks for: so many expansions are granted; one is refused where it is stuck for the total, and later ones are too
@@ -59,7 +59,7 @@ pub record AsksFor (old : Asked) (n : ℕ) (end : End) (new : Asked) : Type 0 wh
   pub still : old.refused ≡ true → new.refused ≡ true
 
 -- the turn has this slot among the line's legal turns
-abbrev pub IsJob : Standing → ℕ → Turn → Type 0
+abbrev pub IsJob : LineWithUndo → ℕ → Turn → Type 0
 IsJob line job t = slice_get (legal_turns line.frame line.state) job ≡ Some t
 
 -- the end of the search that a result tells of; where there is no search, it is one that is stuck for want of memory
@@ -70,18 +70,18 @@ end_of result.Dropped = Stuck Memory None
 end_of result.NoMemory = Stuck Memory None
 
 -- the result is that of the search behind the job's turn
-abbrev pub IsResultOf : Standing → Limits → ℕ → JobResult → Type 0
+abbrev pub IsResultOf : LineWithUndo → Limits → ℕ → JobResult → Type 0
 IsResultOf line limits job end = (t : Turn) → IsJob line job t → EndsBehind line limits t (end_of end)
 
 -- the count is that of the search behind the job's turn
-abbrev pub IsJobCount : Standing → Limits → ℕ → ℕ → JobResult → Type 0
+abbrev pub IsJobCount : LineWithUndo → Limits → ℕ → ℕ → JobResult → Type 0
 IsJobCount line limits job n end = (t : Turn) → IsJob line job t → IsCounted line limits t n (end_of end)
 
-abbrev pub IsResult : Standing → Limits → SearchedJob → Type 0
+abbrev pub IsResult : LineWithUndo → Limits → SearchedJob → Type 0
 IsResult line limits searched = IsResultOf line limits searched.job searched.end × IsJobCount line limits searched.job searched.spent searched.end
 
 -- each result that is known is its job's
-abbrev pub AreResults : Standing → Limits → List (Option JobResult) → Type 0
+abbrev pub AreResults : LineWithUndo → Limits → List (Option JobResult) → Type 0
 AreResults line limits ends = (job : ℕ) (end : JobResult) → slice_get ends job ≡ Some (Some end) → IsResultOf line limits job end
 
 -- the result is that of a run which ends so, or there was no memory for it

@@ -3,7 +3,7 @@ use Rattle.std.specs.Prelude.{◌≡◌, ◌≢◌, ℕ, ◌+◌, ◌<◌, ◌�
 use Rattle.tt_game.specs.declared.frame.Side.{Side}
 use Rattle.tt_game.specs.declared.turns.Turn.{Turn}
 use Rattle.tt_game.specs.Game.{after, opponent}
-use Rattle.tt_game.specs.Line.{Standing}
+use Rattle.tt_game.specs.Line.{LineWithUndo}
 use Rattle.tt_game.specs.Turns.{legal_turns}
 use Rattle.tt_proof.specs.Strategy.{depth}
 use Rattle.tt_proof.specs.Proven.{Proven, StandsAt, IsWon, turns_of}
@@ -20,7 +20,7 @@ use Rattle.tt_share.specs.declared.jobs.SearchedJob.{SearchedJob}
 -- a line, the limits on its search, and the ends of its jobs, as far as they are known; and the jobs' turns, each with how many
 -- nodes its search expanded
 pub record ResultsSoFar : Type 0 where
-  pub line : Standing
+  pub line : LineWithUndo
   pub limits : Limits
   pub ends : List (Option JobResult)
   pub spent : List (Turn × ℕ)
@@ -30,7 +30,7 @@ abbrev pub HasEnd : List (Option JobResult) → ℕ → JobResult → Type 0
 HasEnd ends job end = slice_get ends job ≡ Some (Some end)
 
 -- what is noted of the jobs: the turns, and for each job that has a result its count; the others expanded nothing
-pub record AreNoted (line : Standing) (limits : Limits) (ends : List (Option JobResult)) (spent : List (Turn × ℕ)) : Type 0 where
+pub record AreNoted (line : LineWithUndo) (limits : Limits) (ends : List (Option JobResult)) (spent : List (Turn × ℕ)) : Type 0 where
   pub turns : map (λ (e : Turn × ℕ). e.0) spent ≡ legal_turns line.frame line.state
   pub each : length spent ≡ length ends
   pub unspent : (job : ℕ) (e : Turn × ℕ) → slice_get ends job ≡ Some None → slice_get spent job ≡ Some e → e.1 ≡ 0
@@ -146,13 +146,13 @@ StopsAtWin side before after =
     (job later : ℕ) → IsWinAt side after job → job < later → slice_get after later ≡ slice_get before later
 
 -- the turn has lost: the proof stands after it, for the side that is not to move, and leaves room for the turn
-pub record IsLost (line : Standing) (limits : Limits) (child : Turn × Proven) : Type 0 where
+pub record IsLost (line : LineWithUndo) (limits : Limits) (child : Turn × Proven) : Type 0 where
   pub stands : StandsAt child.1 line.frame (after line.frame line.state child.0)
   pub side : child.1.side ≡ opponent line.state.to_move
   pub low : depth child.1.tree + 1 ≤ limits.depth
   pub wins : IsWon child.1.side child.1.frame child.1.state child.1.tree
 
 -- these are the first of the legal turns, each with the proof that it has lost
-pub record HaveLost (line : Standing) (limits : Limits) (children : List (Turn × Proven)) : Type 0 where
+pub record HaveLost (line : LineWithUndo) (limits : Limits) (children : List (Turn × Proven)) : Type 0 where
   pub turns : turns_of children ≡ take (length children) (legal_turns line.frame line.state)
   pub each : All (IsLost line limits) children

@@ -1,7 +1,7 @@
 -- What workers hand back. Only private contracts cite these.
 use Rattle.std.specs.Prelude.{◌≡◌, ℕ, ◌+◌, ◌++◌, ◌<◌, ◌≤◌, ◌⊎◌, Bool, IsTrue, All, List, Option, length, map, Some, None, slice_get, sum_by, count_by, nat_eq}
 use Rattle.tt_game.specs.declared.frame.Side.{Side}
-use Rattle.tt_game.specs.Line.{Standing}
+use Rattle.tt_game.specs.Line.{LineWithUndo}
 use Rattle.tt_search.specs.declared.limits.Limits.{Limits}
 use Rattle.tt_share.specs.inside.Jobs.{IsResult, IsForTotal, IsStuck, IsDropped, IsWinFor, end_of, kept_of}
 use Rattle.tt_share.specs.inside.Results.{HasEnd, HasResult, IsPastStuck}
@@ -74,7 +74,7 @@ abbrev pub SomeTotal : List SearchedJob → Type 0
 SomeTotal searched = (i : ℕ) × (f : SearchedJob) × (slice_get searched i ≡ Some f) × IsForTotal (end_of f.end)
 
 -- What a worker hands back to a desk
-pub record IsWork (line : Standing) (limits : Limits) (desk : DeskView) (back : HandedBack) : Type 0 where
+pub record IsWork (line : LineWithUndo) (limits : Limits) (desk : DeskView) (back : HandedBack) : Type 0 where
   -- the seat is the desk's
   pub seat : back.seat.desk ≡ desk.id
   -- each result is that of its job's turn

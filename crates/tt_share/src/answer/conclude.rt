@@ -2,7 +2,7 @@
 
 ghost use Rattle.std.specs.Prelude.{◌≡◌, ℕ, ◌<◌, ◌≤◌, ◌↔◌, MatchOption, Option, Some, None, IfOk, IsSome, slice_get, slice_set, length, vec_len};
 ghost use Rattle.tt_game.specs.Game.{IsLegal, winner_of};
-ghost use Rattle.tt_game.specs.Line.{Standing};
+ghost use Rattle.tt_game.specs.Line.{LineWithUndo};
 ghost use Rattle.tt_game.specs.Turns.{legal_turns};
 ghost use Rattle.tt_proof.specs.Strategy.{depth};
 ghost use Rattle.tt_proof.specs.Proven.{StandsAt, first_of};
@@ -29,7 +29,7 @@ use tt_sgf::NoMemory;
 
 /// The answer where memory was refused outside a search.
 pub(crate) fn no_memory(alloc: Global) -> Answer
-    ensures { (line : Standing) (limits : Limits) (total : Option ℕ) → IsAnswer line limits total result }
+    ensures { (line : LineWithUndo) (limits : Limits) (total : Option ℕ) → IsAnswer line limits total result }
 {
     Answer::Unsettled(Stuck {
         turn: Turn::Pass,

@@ -1,6 +1,6 @@
 use Rattle.std.proofs.Common.{rules, arith, ◌≡◌, ◌∙◌, ◌≤◌, ◌<◌, ◌+◌, ◌++◌, ◌∷◌, [], ℕ, ◌-◌, List, length, get_or, sym, ap, subst}
 use Rattle.tt_game.specs.Game.{opponent}
-use Rattle.tt_game.specs.Line.{Standing}
+use Rattle.tt_game.specs.Line.{LineWithUndo}
 use Rattle.tt_game.specs.Turns.{legal_turns}
 use Rattle.tt_game.specs.declared.turns.Turn.{Turn}
 use Rattle.tt_proof.specs.Proven.{Proven, IsChild, trees_of}
@@ -26,7 +26,7 @@ replied-loop-turn-preserved g t c =
     let within : depth c.in-Some.child.tree ≤ c.args.room - 1 = search rules in
     let low : depth c.in-Some.child.tree < c.args.room = omega (arith, within, c.requires.some) in
     let there : IsChild f s (opponent s.to_move) turn c.in-Some.child =
-    subst (λ x. IsChild f s x turn c.in-Some.child) c.requires.to_move (subst (λ (l : Standing). IsChild l.frame l.state c.args.side turn c.in-Some.child) here child) in
+    subst (λ x. IsChild f s x turn c.in-Some.child) c.requires.to_move (subst (λ (l : LineWithUndo). IsChild l.frame l.state c.args.side turn c.in-Some.child) here child) in
     record {
       same = c.behind.ensures.same ∙ here;
       fewer = let a = c.behind.ensures.fewer in let b = c.loop-turn.invariant.fewer in omega (arith, a, b);

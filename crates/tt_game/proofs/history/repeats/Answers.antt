@@ -2,7 +2,7 @@ use Rattle.std.proofs.Common.{◌≡◌, ℕ, ◌-◌, ◌<◌, List, length, ge
 use Rattle.std.proofs.lemmas.Bool.{false≢true}
 use Rattle.std.proofs.lemmas.List.{get_or-map, get_or_default, length-map}
 use Rattle.tt_board.specs.Position.{Position}
-use Rattle.tt_game.specs.Course.{colourings}
+use Rattle.tt_game.specs.GameHistory.{colourings}
 use Rattle.tt_game.proofs.history.repeats.Goals as goal
 
 -- no board with the next one's colouring: it isn't in the history

@@ -6,7 +6,7 @@ use Rattle.tt_board.specs.declared.Colour.TheVariants.{Black, White}
 use Rattle.tt_board.specs.Position.{Position, Colouring}
 use Rattle.tt_board.specs.Reach.{entry_at}
 use Rattle.tt_board.specs.Play.{is_stone_of}
-use Rattle.tt_game.specs.Course.{colourings}
+use Rattle.tt_game.specs.GameHistory.{colourings}
 use Rattle.tt_game.proofs.history.stood.Goals as goal
 
 -- a stone is of its colour

@@ -3,7 +3,7 @@ use Rattle.std.specs.declared.result.Result.{Result}
 use Rattle.std.proofs.lemmas.List.{nil_from_length}
 use Rattle.std.proofs.lemmas.Result.{err_from_is_err_and}
 use Rattle.tt_game.specs.declared.faults.GameFault.{GameFault}
-use Rattle.tt_game.specs.Line.{Standing}
+use Rattle.tt_game.specs.Line.{LineWithUndo}
 use Rattle.tt_game.specs.Nodes.{has, TR, set_named}
 use Rattle.tt_game.specs.Records.{step_node, IsStopped}
 use Rattle.tt_game.specs.Problems.{run_to_mark, problem_at, region_of}
@@ -32,7 +32,7 @@ returns-then-has_value c =
     let t = c.step.new.self in let n = c.in-Some.node.now in
     let all : problem_at t.game (set_named t.game.size TR n) (region_of t.game.size n) ≡ run_to_mark c.args.replay c.args.nodes.now =
     sym (mark-here c.loop-node.last t n c.in-Some.behind.now k on) ∙ ap (run_to_mark c.loop-node.last) (sym e) ∙ c.loop-node.invariant in
-    subst (λ (want : Result Standing GameFault). MatchResult c.pose.result (λ l. want ≡ Ok l) (λ f. IsStopped f want)) all c.pose.ensures
+    subst (λ (want : Result LineWithUndo GameFault). MatchResult c.pose.result (λ l. want ≡ Ok l) (λ f. IsStopped f want)) all c.pose.ensures
 
 pub returns : goal.returns
 returns c = λ _.

@@ -2,7 +2,7 @@ use Rattle.tt_proof.specs.declared.tree.Tree.TheViews.{the_lemmas}
 use Rattle.std.proofs.Common.{rules, arith, ℕ, ◌+◌, add-one, drop-cons, ◌≡◌, ◌<◌, ◌≤◌, ◌∙◌, IfOk, OnOk, map, take, drop, get_or, ◌++◌, ◌∷◌, [], sym, ap, subst, length}
 use Rattle.std.proofs.lemmas.List.{take_all, map_more}
 use Rattle.tt_game.specs.Game.{after}
-use Rattle.tt_game.specs.Line.{Standing}
+use Rattle.tt_game.specs.Line.{LineWithUndo}
 use Rattle.tt_game.specs.declared.turns.Turn.{Turn}
 use Rattle.tt_sgf.specs.declared.size.Size.{Size}
 use Rattle.tt_proof.specs.Strategy.{Strategy, Entries, entry, number_on, strategy_of, pick, reply, entries_of, entries_of_trees, depth_of_entries, AreInOrder}
@@ -68,8 +68,8 @@ footprint_of_pick-returns-in-Ok-found-clause-exact t c =
     let same : c.pop.new.self ≡ c.args.line.now = search rules in
     let turn = c.args.turn.now in
     let behind = c.in-Ok-found.behind in
-    let foot = subst (λ (l : Standing). IsFootprint l.frame l.state (strategy_of c.args.tree.now) behind) c.in-Ok.ensures.ok.1 c.in-Ok-found.ensures.exact in
-    let more = subst (λ (l : Standing). IfOk c.picked.result (λ x. (u : Strategy) → IsFootprint l.frame (after l.frame l.state turn) u behind
+    let foot = subst (λ (l : LineWithUndo). IsFootprint l.frame l.state (strategy_of c.args.tree.now) behind) c.in-Ok.ensures.ok.1 c.in-Ok-found.ensures.exact in
+    let more = subst (λ (l : LineWithUndo). IfOk c.picked.result (λ x. (u : Strategy) → IsFootprint l.frame (after l.frame l.state turn) u behind
     → IsFootprint l.frame l.state (pick turn u) x)) same c.picked.ensures in
     if_ok c.picked.result _ _ (λ x h. h (strategy_of c.args.tree.now) foot) more
 
@@ -78,8 +78,8 @@ join_entry-returns-in-Ok-found-clause-exact t c =
     let same : c.pop.new.self ≡ c.args.line.now = search rules in
     let turn = c.args.turn.now in
     let behind = c.in-Ok-found.behind in
-    let foot = subst (λ (l : Standing). IsFootprint l.frame l.state (strategy_of c.args.tree.now) behind) c.in-Ok.ensures.ok.1 c.in-Ok-found.ensures.exact in
-    let more = subst (λ (l : Standing). OnOk c.join.result ((u : Strategy) → IsFootprint l.frame (after l.frame l.state turn) u behind
+    let foot = subst (λ (l : LineWithUndo). IsFootprint l.frame l.state (strategy_of c.args.tree.now) behind) c.in-Ok.ensures.ok.1 c.in-Ok-found.ensures.exact in
+    let more = subst (λ (l : LineWithUndo). OnOk c.join.result ((u : Strategy) → IsFootprint l.frame (after l.frame l.state turn) u behind
     → IsEntryJoined l.frame l.state turn u c.args.footprint.now c.join.new.self)) same c.join.ensures in
     on_ok c.join.result _ _ (λ h. h (strategy_of c.args.tree.now) foot) more
 
@@ -100,11 +100,11 @@ footprint_of_reply-loop-turn-preserved t c =
           subst (λ es. IsFootprint new.line.frame new.line.state (reply (entries_of es)) new.footprint)
           (sym (map_more (λ e. (e.0, strategy_of e.1)) list n item lt))
           (subst (λ e. IsFootprint new.line.frame new.line.state (reply (entries_of (map (λ e. (e.0, strategy_of e.1)) (take n list) ++ (e.0, strategy_of e.1) ∷ []))) new.footprint) is
-          (subst (λ (l : Standing). IsFootprint l.frame l.state (reply (entries_of (map (λ e. (e.0, strategy_of e.1)) (take n list) ++ (item.0, strategy_of item.1) ∷ []))) new.footprint)
+          (subst (λ (l : LineWithUndo). IsFootprint l.frame l.state (reply (entries_of (map (λ e. (e.0, strategy_of e.1)) (take n list) ++ (item.0, strategy_of item.1) ∷ []))) new.footprint)
           (sym c.join_entry.ensures.same) joined));
       depth = let low = subst (λ es. depth_of_entries (entries_of_trees es) ≤ 512) rest c.loop-turn.invariant.depth in omega (arith, low);
       in_order =
-          subst (λ (l : Standing). (least : ℕ) × AreInOrder l.frame.size least (entries_of_trees (drop (n + 1) list))) (sym c.join_entry.ensures.same)
+          subst (λ (l : LineWithUndo). (least : ℕ) × AreInOrder l.frame.size least (entries_of_trees (drop (n + 1) list))) (sym c.join_entry.ensures.same)
           (rest_in_order c.loop-turn.line.frame.size c.loop-turn.invariant.in_order.0 item.0 (strategy_of item.1) (entries_of_trees (drop (n + 1) list))
           (subst (λ es. AreInOrder c.loop-turn.line.frame.size c.loop-turn.invariant.in_order.0 (entries_of_trees es)) rest c.loop-turn.invariant.in_order.1));
     }

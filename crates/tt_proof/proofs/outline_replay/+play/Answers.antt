@@ -2,7 +2,7 @@ use Rattle.tt_proof.specs.declared.outlines.Outline.TheViews.{the_lemmas}
 use Rattle.std.proofs.Common.{rules, ◌≡◌, ◌≢◌, ◌∙◌, ◌<◌, ◌≤◌, ◌+◌, ◌∷◌, ℕ, List, IfOk, sym, ap, refl, subst, drop, get_or, length, drop-cons, add-one, true≢false}
 use Rattle.std.proofs.Math.ListN.{drop_of_length-le}
 use Rattle.tt_game.specs.Game.{after, opponent}
-use Rattle.tt_game.specs.Line.{Standing}
+use Rattle.tt_game.specs.Line.{LineWithUndo}
 use Rattle.tt_game.specs.declared.frame.Side.{Side}
 use Rattle.tt_game.specs.declared.turns.Turn.{Turn}
 use Rattle.tt_sgf.specs.declared.size.Size.{Size}
@@ -63,10 +63,10 @@ replay_pick-returns-in-Ok-found-clause-found t c =
     let turn = c.args.turn in
     let o = outline_of c.args.child.now in
     let mine : at.to_move ≡ s = search rules in
-    let behind = subst (λ (l : Standing). (us : List Strategy) → WinAsKept s l.frame us c.args.names.now.items
+    let behind = subst (λ (l : LineWithUndo). (us : List Strategy) → WinAsKept s l.frame us c.args.names.now.items
     → IsFound s l.frame l.state (unfolded us o) c.in-Ok-found.behind × WinAsKept s l.frame (names_behind us o) c.replay_outline-found.new.names.items)
     c.in-Ok.ensures.ok.1 c.in-Ok-found.ensures.found in
-    let more = subst (λ (l : Standing). IfOk c.found_before_pick.result (λ r. (u : Strategy)
+    let more = subst (λ (l : LineWithUndo). IfOk c.found_before_pick.result (λ r. (u : Strategy)
     → IsFound l.state.to_move l.frame (after l.frame l.state turn) u c.in-Ok-found.behind → IsFound l.state.to_move l.frame l.state (pick turn u) r))
     same c.found_before_pick.ensures in
     if_ok c.found_before_pick.result _ _
@@ -98,7 +98,7 @@ pub replay_reply-returns-in-Ok-clause-found : goal.replay_reply-returns-in-Ok-cl
 replay_reply-returns-in-Ok-clause-found t c =
     let bs = branches_of_list c.args.list.now in
     let turn = (c.is_asked.ensures.0 c.if-not-is_asked.false).1 in
-    let more = subst (λ (l : Standing). (s : Side) (us : List Strategy) → l.state.to_move ≡ opponent s
+    let more = subst (λ (l : LineWithUndo). (s : Side) (us : List Strategy) → l.state.to_move ≡ opponent s
     → IsFoundOf s l.frame l.state (entries_with us bs) none c.in-Ok.found → IsFound s l.frame l.state (reply (entries_with us bs)) c.found_of_reply.result)
     c.in-Ok.ensures.same c.found_of_reply.ensures in
     λ us h. let k = c.in-Ok.ensures.found us h in (more c.args.s us turn k.0, k.1)
@@ -109,10 +109,10 @@ replay_branch-returns-in-Ok-found-clause-found t c =
     let s = c.args.s in
     let turn = c.args.turn in
     let o = outline_of c.args.child.now in
-    let behind = subst (λ (l : Standing). (us : List Strategy) → WinAsKept s l.frame us c.args.names.now.items
+    let behind = subst (λ (l : LineWithUndo). (us : List Strategy) → WinAsKept s l.frame us c.args.names.now.items
     → IsFound s l.frame l.state (unfolded us o) c.in-Ok-found.behind × WinAsKept s l.frame (names_behind us o) c.replay_outline-found.new.names.items)
     c.in-Ok.ensures.ok.1 c.in-Ok-found.ensures.found in
-    let more = subst (λ (l : Standing). (x : Side) (u : Strategy) → IsFound x l.frame (after l.frame l.state turn) u c.in-Ok-found.behind
+    let more = subst (λ (l : LineWithUndo). (x : Side) (u : Strategy) → IsFound x l.frame (after l.frame l.state turn) u c.in-Ok-found.behind
     → IsFoundBehind x l.frame l.state turn u c.found_before_branch.result) same c.found_before_branch.ensures in
     λ us h. let k = behind us h in (more s (unfolded us o) k.0, k.1)
 
@@ -121,7 +121,7 @@ replay_branch-returns-in_ok-skip-in-Err-Illegal-clause-found t c =
     let f = c.args.line.now.frame in
     let at = c.args.line.now.state in
     let same : c.push.new.self ≡ c.args.line.now = search rules in
-    let stands = subst (λ (l : Standing). HasPosition l.state c.of.result) same c.of.ensures.stands in
+    let stands = subst (λ (l : LineWithUndo). HasPosition l.state c.of.result) same c.of.ensures.stands in
     λ us h. (
       found_no_branch c.args.s f at c.args.turn (unfolded us (outline_of c.args.child.now)) c.of.result
           (refused_bars f at c.args.turn c.in-Err-Illegal.field-0-0 (rw c.in-Err-Illegal.field-0-is at c.in-Err-Illegal.ensures.why)) stands
@@ -163,13 +163,13 @@ replay_branches-loop-turn-preserved t c =
     let left = branches_of_list (drop (n + 1) list) in
     let o = outline_of item.1 in
     let new = c.replay_branch.new in
-    let found = subst (λ (l : Standing). (vs : List Strategy) → WinAsKept s l.frame vs c.loop-turn.names.items
+    let found = subst (λ (l : LineWithUndo). (vs : List Strategy) → WinAsKept s l.frame vs c.loop-turn.names.items
     → IsFoundBehind s l.frame l.state item.0 (unfolded vs o) c.in_ok-next.next × WinAsKept s l.frame (names_behind vs o) new.names.items)
     c.loop-turn.invariant.same c.in_ok-next.ensures.found in
     record {
       same = c.replay_branch.ensures.same ∙ c.loop-turn.invariant.same;
       orderly =
-          subst (λ (l : Standing). (least : ℕ) × AreOrderly l.frame.size least left) (sym c.replay_branch.ensures.same)
+          subst (λ (l : LineWithUndo). (least : ℕ) × AreOrderly l.frame.size least left) (sym c.replay_branch.ensures.same)
           (rest_orderly c.loop-turn.line.frame.size c.loop-turn.invariant.orderly.0 item.0 o left
           (subst (λ xs. AreOrderly c.loop-turn.line.frame.size c.loop-turn.invariant.orderly.0 (branches_of_list xs)) rest c.loop-turn.invariant.orderly.1));
       replayed = λ us h.

@@ -1,5 +1,5 @@
 use Rattle.std.proofs.Common.{◌≡◌, ℕ, Option, length, ap, subst, ◌∙◌}
-use Rattle.tt_game.specs.Line.{Standing}
+use Rattle.tt_game.specs.Line.{LineWithUndo}
 use Rattle.tt_game.specs.Turns.{legal_turns}
 use Rattle.tt_search.specs.declared.limits.Limits.{Limits}
 use Rattle.tt_share.specs.Answers.{IsAnswer}
@@ -19,7 +19,7 @@ returns-in-Ok g c =
     c.in-Ok.ensures.blank.unspent c.new-grants.ensures.granted granted c.search_missing.ensures.asks in
     let line : last.line ≡ c.args.line.now = ap (λ (p : ResultsSoFar). p.line) c.search_missing.ensures.same ∙ c.in-Ok.ensures.line in
     let limits : last.limits ≡ c.args.limits.now = ap (λ (p : ResultsSoFar). p.limits) c.search_missing.ensures.same ∙ c.in-Ok.ensures.limits in
-    subst (λ (l : Standing). IsAnswer l c.args.limits.now c.args.total c.finish.result) line
+    subst (λ (l : LineWithUndo). IsAnswer l c.args.limits.now c.args.total c.finish.result) line
     (subst (λ (m : Limits). IsAnswer last.line m c.args.total c.finish.result) limits (c.finish.ensures c.args.total all))
 
 pub returns-in-Err : goal.returns-in-Err

@@ -1,5 +1,5 @@
 use Rattle.std.proofs.Common.{subst, ◌∙◌}
-use Rattle.tt_game.specs.Line.{Standing}
+use Rattle.tt_game.specs.Line.{LineWithUndo}
 use Rattle.tt_search.specs.declared.limits.Limits.{Limits}
 use Rattle.tt_share.specs.Answers.{IsAnswer}
 use Rattle.tt_share.proofs.together.solve.Goals as goal
@@ -12,7 +12,7 @@ returns-in-Ok-search_together g c =
     let last = c.search_together.new.results in
     let line = c.search_together.ensures.line.0 ∙ c.in-Ok-begin.ensures.line in
     let limits = c.search_together.ensures.line.1 ∙ c.in-Ok-begin.ensures.limits in
-    subst (λ (l : Standing). IsAnswer l c.args.limits.now c.args.total c.finish.result) line
+    subst (λ (l : LineWithUndo). IsAnswer l c.args.limits.now c.args.total c.finish.result) line
     (subst (λ (m : Limits). IsAnswer last.line m c.args.total c.finish.result) limits (c.finish.ensures c.args.total c.in-Ok-search_together.ensures.spent.all))
 
 pub returns-in-Ok-begin : goal.returns-in-Ok-begin

@@ -1,7 +1,7 @@
 use Rattle.std.proofs.Common.{◌≡◌, sym, ap, subst, ◌∙◌}
 use Rattle.std.proofs.lemmas.Bool.{false≢true}
 use Rattle.tt_sgf.specs.declared.size.Size.{Size}
-use Rattle.tt_game.specs.Course.{HasBeen, so_far}
+use Rattle.tt_game.specs.GameHistory.{HasBeen, so_far}
 use Rattle.tt_game.specs.Games.{GameState, all_of}
 use Rattle.tt_game.specs.History.{repeats, repeats_is}
 use Rattle.tt_game.specs.BloomFilter.{MayHold, hash_of}

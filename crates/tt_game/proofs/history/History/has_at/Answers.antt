@@ -1,7 +1,7 @@
 use Rattle.std.proofs.Common.{◌≡◌, ◌<◌, length, get_or, Contains, sym, ap, subst, ◌∙◌, arith}
 use Rattle.std.proofs.lemmas.List.{get_or-map, get_or_default, length-map}
 use Rattle.tt_board.specs.Position.{Position}
-use Rattle.tt_game.specs.Course.{colourings}
+use Rattle.tt_game.specs.GameHistory.{colourings}
 use Rattle.tt_game.proofs.history.History.has_at.Goals as goal
 
 pub returns-then-place-boards : goal.returns-then-place-boards

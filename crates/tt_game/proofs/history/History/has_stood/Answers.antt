@@ -1,7 +1,7 @@
 use Rattle.std.proofs.Common.{◌≡◌, ◌-◌, length, take, drop, sym, ap, subst, ◌∙◌}
 use Rattle.std.proofs.lemmas.List.{take_rest, drop-map}
 use Rattle.tt_board.specs.Position.{Position}
-use Rattle.tt_game.specs.Course.{HasBeen, colourings, so_far}
+use Rattle.tt_game.specs.GameHistory.{HasBeen, colourings, so_far}
 use Rattle.tt_game.proofs.history.History.has_stood.Goals as goal
 
 pub returns : goal.returns

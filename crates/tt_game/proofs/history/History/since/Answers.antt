@@ -2,7 +2,7 @@ use Rattle.std.proofs.Common.{◌≡◌, drop, All, sym, ap, subst, ◌∙◌}
 use Rattle.std.proofs.lemmas.List.{take_rest, drop-map}
 use Rattle.std.proofs.lemmas.List.Elements.{All-drop}
 use Rattle.tt_board.specs.Position.{Position}
-use Rattle.tt_game.specs.Course.{colourings}
+use Rattle.tt_game.specs.GameHistory.{colourings}
 use Rattle.tt_game.proofs.history.History.since.Goals as goal
 
 pub returns-clause-colourings : goal.returns-clause-colourings

@@ -1,7 +1,7 @@
 use Rattle.std.proofs.Common.{◌<◌, length, ap, ◌∙◌, arith}
 use Rattle.tt_board.specs.Position.{Position}
 use Rattle.tt_board.specs.Reach.{entry_at}
-use Rattle.tt_game.proofs.CourseLemmas.{been_at}
+use Rattle.tt_game.proofs.GameHistoryLemmas.{been_at}
 use Rattle.tt_game.proofs.history.root.stones_of.Goals as goal
 
 pub returns : goal.returns

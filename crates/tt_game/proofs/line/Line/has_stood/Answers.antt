@@ -3,7 +3,7 @@ use Rattle.std.proofs.lemmas.Bool.{false≢true}
 use Rattle.std.proofs.lemmas.List.{take-append-drop}
 use Rattle.std.proofs.lemmas.List.Elements.{Contains-append_cases}
 use Rattle.std.specs.Arc.{arc_value}
-use Rattle.tt_game.specs.Course.{so_far, colourings}
+use Rattle.tt_game.specs.GameHistory.{so_far, colourings}
 use Rattle.tt_game.specs.Game.{history}
 use Rattle.tt_game.specs.inside.Undoing.{state_at}
 use Rattle.tt_game.specs.inside.Roots.{Rooted}

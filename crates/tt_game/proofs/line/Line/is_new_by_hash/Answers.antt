@@ -5,7 +5,7 @@ use Rattle.std.proofs.lemmas.List.Elements.{Contains-append_cases}
 use Rattle.std.specs.Arc.{arc_value}
 use Rattle.tt_board.specs.Position.{Colouring}
 use Rattle.tt_board.specs.Reach.{entry_at}
-use Rattle.tt_game.specs.Course.{so_far, colourings}
+use Rattle.tt_game.specs.GameHistory.{so_far, colourings}
 use Rattle.tt_game.specs.Game.{history}
 use Rattle.tt_game.specs.BloomFilter.{hash_of}
 use Rattle.tt_game.specs.inside.Undoing.{state_at}

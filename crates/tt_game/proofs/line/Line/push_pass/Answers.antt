@@ -1,7 +1,7 @@
 use Rattle.std.proofs.Common.{rules, ◌≡◌, ◌∷◌, ◌++◌, [], reverse}
 use Rattle.std.specs.Arc.{arc_value}
 use Rattle.tt_game.specs.declared.line.Undo.TheVariants.{UndoPass}
-use Rattle.tt_game.specs.Course.{with_pass}
+use Rattle.tt_game.specs.GameHistory.{with_pass}
 use Rattle.tt_game.specs.Game.{opponent}
 use Rattle.tt_game.specs.inside.Undoing.{state_at}
 use Rattle.tt_game.specs.inside.Roots.{AreRooted}

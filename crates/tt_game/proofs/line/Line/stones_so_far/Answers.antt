@@ -7,7 +7,7 @@ use Rattle.tt_sgf.specs.Sizes.{point_count}
 use Rattle.tt_sgf.specs.laws.SizeLaws.{few_points}
 use Rattle.tt_sgf.specs.Words.{bit_in}
 use Rattle.tt_board.specs.Position.{Position}
-use Rattle.tt_game.specs.Course.{so_far, colourings}
+use Rattle.tt_game.specs.GameHistory.{so_far, colourings}
 use Rattle.tt_game.specs.Game.{history}
 use Rattle.tt_game.specs.inside.Undoing.{state_at}
 use Rattle.tt_game.specs.declared.frame.Frame.{Frame}

@@ -1,6 +1,6 @@
 use Rattle.std.proofs.Common.{rules, ◌≡◌, sym, subst, ◌∙◌}
 use Rattle.std.proofs.lemmas.Bool.{false≢true}
-use Rattle.tt_game.specs.Course.{HasBeen}
+use Rattle.tt_game.specs.GameHistory.{HasBeen}
 use Rattle.tt_game.specs.Game.{history, made}
 use Rattle.tt_game.proofs.MoveGeneratorLemmas.{nobody_put}
 use Rattle.tt_game.proofs.line.Line.winner_put.Goals as goal

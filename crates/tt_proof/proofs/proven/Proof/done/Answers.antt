@@ -1,5 +1,5 @@
 use Rattle.std.proofs.Common.{rules, ap}
-use Rattle.tt_game.specs.Line.{Stood}
+use Rattle.tt_game.specs.Line.{SnapshotState}
 use Rattle.tt_proof.proofs.ProvenLemmas.{won_done}
 use Rattle.tt_proof.proofs.proven.Proof.done.Goals as goal
 
@@ -8,11 +8,11 @@ invariant_of-result c =
     let own = c.in_ok-snapshot-in-Some.ensures in
     rw c.done.ensures
     (record {
-      won = won_done _ c.args.line.now.frame _ c.args.line.now.state _ (ap (λ (l : Stood). l.frame) own) (ap (λ (l : Stood). l.state) own) (search rules);
+      won = won_done _ c.args.line.now.frame _ c.args.line.now.state _ (ap (λ (l : SnapshotState). l.frame) own) (ap (λ (l : SnapshotState). l.state) own) (search rules);
       footprint = c.empty.ensures _ _;
     })
 
 pub returns : goal.returns
 returns c =
     let own = c.in_ok-snapshot-in-Some.ensures in
-    ((ap (λ (l : Stood). l.frame) own, ap (λ (l : Stood). l.state) own), search rules, c.done.ensures)
+    ((ap (λ (l : SnapshotState). l.frame) own, ap (λ (l : SnapshotState). l.state) own), search rules, c.done.ensures)

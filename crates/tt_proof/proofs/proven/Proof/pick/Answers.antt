@@ -1,6 +1,6 @@
 use Rattle.std.proofs.Common.{◌∙◌, ap, sym}
 use Rattle.tt_game.specs.Game.{after}
-use Rattle.tt_game.specs.Line.{Stood}
+use Rattle.tt_game.specs.Line.{SnapshotState}
 use Rattle.tt_proof.specs.Strategy.{pick}
 use Rattle.tt_proof.proofs.ProvenLemmas.{won_pick}
 use Rattle.tt_proof.proofs.FittingLemmas.{foot_moved, board_there}
@@ -18,17 +18,17 @@ invariant_of-result c =
     rw (c.in_ok-plan.ensures, c.into_parts-below.ensures.plan, c.side-side.ensures.side)
     (record {
       won =
-          won_pick f _ s _ c.args.t c.args.child (ap (λ (l : Stood). l.frame) own) (ap (λ (l : Stood). l.state) own) c.requires.legal
+          won_pick f _ s _ c.args.t c.args.child (ap (λ (l : SnapshotState). l.frame) own) (ap (λ (l : SnapshotState). l.state) own) c.requires.legal
           c.requires.child c.into_parts-below.ensures.wins;
       footprint =
-          foot_moved f _ s _ (pick c.args.t c.args.child.tree) _ (sym (ap (λ (l : Stood). l.frame) own)) (sym (ap (λ (l : Stood). l.state) own))
+          foot_moved f _ s _ (pick c.args.t c.args.child.tree) _ (sym (ap (λ (l : SnapshotState). l.frame) own)) (sym (ap (λ (l : SnapshotState). l.state) own))
           (c.in_ok-footprint.ensures c.args.child.tree behind);
     })
 
 pub returns : goal.returns
 returns c =
     let own = c.in_ok-snapshot.ensures in (
-      (ap (λ (l : Stood). l.frame) own, ap (λ (l : Stood). l.state) own),
+      (ap (λ (l : SnapshotState). l.frame) own, ap (λ (l : SnapshotState). l.state) own),
       c.side-side.ensures.side,
       c.in_ok-plan.ensures ∙ ap (λ x. pick c.args.t x) c.into_parts-below.ensures.plan,
     )

@@ -2,7 +2,7 @@ use Rattle.std.proofs.Common.{◌≡◌, ◌∙◌, ◌++◌, [], ◌∷◌, ◌
 use Rattle.std.proofs.Math.Seq.{append_snoc}
 use Rattle.std.proofs.lemmas.List.{append-nil}
 use Rattle.tt_game.specs.Game.{IsLegal, after, opponent}
-use Rattle.tt_game.specs.Line.{Stood}
+use Rattle.tt_game.specs.Line.{SnapshotState}
 use Rattle.tt_game.specs.laws.TurnLaws.{contains-legal_turns}
 use Rattle.tt_game.specs.declared.turns.Turn.{Turn}
 use Rattle.tt_proof.specs.Proven.{AreChildren, trees_of, turns_of}
@@ -64,11 +64,11 @@ invariant_of-result c =
     rw same
     (record {
       won =
-          won_reply f s _ _ _ c.args.children.items (ap (λ (l : Stood). l.frame) own) (ap (λ (l : Stood). l.state) own)
+          won_reply f s _ _ _ c.args.children.items (ap (λ (l : SnapshotState). l.frame) own) (ap (λ (l : SnapshotState). l.state) own)
           (c.opponent.ensures ∙ ap opponent c.to_move.ensures) c.requires.nobody
           c.requires.turns c.requires.children (subst AllWon all c.loop-turn.invariant.won);
       footprint =
-          foot_moved f _ s _ _ _ (sym (ap (λ (l : Stood). l.frame) own)) (sym (ap (λ (l : Stood). l.state) own))
+          foot_moved f _ s _ _ _ (sym (ap (λ (l : SnapshotState). l.frame) own)) (sym (ap (λ (l : SnapshotState). l.state) own))
           (subst (λ es. IsFootprint f s (reply (entries_of (trees_of es))) c.loop-turn.footprint) all c.loop-turn.invariant.joined);
     })
 
@@ -77,7 +77,7 @@ returns c =
     let own = c.in_ok-snapshot.ensures in
     let left = c.loop-turn.turn-iterator.rest in
     let all = at_end c.loop-turn.yielded left.items _ c.loop-turn.invariant.order (omega (arith, left.ok.0, c.in-None.ensures.steps.0)) in (
-      (ap (λ (l : Stood). l.frame) own, ap (λ (l : Stood). l.state) own),
+      (ap (λ (l : SnapshotState). l.frame) own, ap (λ (l : SnapshotState). l.state) own),
       c.opponent.ensures ∙ ap opponent c.to_move.ensures,
       c.in_ok-plan.ensures ∙ ap (λ es. reply (entries_of es)) (c.loop-turn.invariant.same ∙ ap trees_of all),
     )

@@ -1,5 +1,5 @@
 use Rattle.std.proofs.Common.{rules, ◌≡◌, ◌+◌, ◌^◌, ◌<◌, ◌≤◌, refl, sym, subst, arith}
-use Rattle.tt_game.specs.Line.{Standing}
+use Rattle.tt_game.specs.Line.{LineWithUndo}
 use Rattle.tt_search.specs.Numbers.{count, IsUndecided}
 use Rattle.tt_search.specs.inside.Walking.{stage, stand_of}
 use Rattle.tt_search.specs.Searched.{Searched}
@@ -30,7 +30,7 @@ returns-clause-advanced g c =
     let u : IsUndecided now.root = search rules in
     let new = stage c.grow.new.self c.grow.new.walk.left in
     let search = advanced now.walk.line now.walk.room now.limits c.args.stop (stage now.root now.walk.left) c.grow.result new c.self.invariant u c.grow.ensures.steps in
-    subst (λ (l : Standing). IsAdvanced c.args.stop c.args.self.now c.grow.result (record { line = l; limits = now.limits; tree = c.grow.new.self })) (sym c.grow.ensures.descends.line)
+    subst (λ (l : LineWithUndo). IsAdvanced c.args.stop c.args.self.now c.grow.result (record { line = l; limits = now.limits; tree = c.grow.new.self })) (sym c.grow.ensures.descends.line)
     (subst (λ (old : Searched). IsAdvanced c.args.stop old c.grow.result (record { line = now.walk.line; limits = now.limits; tree = c.grow.new.self })) c.self.view_is search)
 
 pub grow-requires : goal.grow-requires

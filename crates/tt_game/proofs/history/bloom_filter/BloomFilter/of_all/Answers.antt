@@ -4,7 +4,7 @@ use Rattle.std.proofs.lemmas.List.{get_or_default}
 use Rattle.tt_sgf.specs.declared.size.Size.{Size}
 use Rattle.tt_board.specs.Position.{Position, Colouring}
 use Rattle.tt_game.specs.BloomFilter.{MayHold, hash_of}
-use Rattle.tt_game.proofs.CourseLemmas.{been_at}
+use Rattle.tt_game.proofs.GameHistoryLemmas.{been_at}
 use Rattle.tt_game.proofs.history.bloom_filter.BloomFilter.of_all.Goals as goal
 
 pub returns : goal.returns

@@ -1,10 +1,10 @@
 use Rattle.std.proofs.Common.{rules, ◌≡◌, ◌++◌, length, take, IsTrue, sym, ap, subst, ◌∙◌, arith}
 use Rattle.std.specs.Arc.{arc_value}
-use Rattle.tt_game.specs.Course.{colourings}
+use Rattle.tt_game.specs.GameHistory.{colourings}
 use Rattle.tt_game.specs.Game.{history}
-use Rattle.tt_game.specs.Line.{Stood}
+use Rattle.tt_game.specs.Line.{SnapshotState}
 use Rattle.tt_game.specs.inside.Roots.{Rooted}
-use Rattle.tt_game.proofs.CourseLemmas.{history_is, length-colourings}
+use Rattle.tt_game.proofs.GameHistoryLemmas.{history_is, length-colourings}
 use Rattle.tt_game.proofs.RootLemmas.{begin_alike, begun_fewer}
 use Rattle.tt_game.proofs.history.snapshot.Snapshot.begun_with.Goals as goal
 
@@ -28,6 +28,6 @@ returns-clause-alike c =
     let has : IsTrue c.begins.result = search rules in
     let begun : root.begun ≡ take (length root.begun) there = subst (λ (r : Rooted). r.begun ≡ take (length r.begun) there) found (c.begins.ensures.0 has) in
     let own : history c.args.self.now.state ≡ colourings (root.begun ++ i.later) =
-    ap (λ (x : Stood). history x.state) (sym c.self.view_is) ∙ history_is root.frame.size (root.begun ++ i.later) i.passes c.self.invariant.some_board in
+    ap (λ (x : SnapshotState). history x.state) (sym c.self.view_is) ∙ history_is root.frame.size (root.begun ++ i.later) i.passes c.self.invariant.some_board in
     subst (λ k. take k (history c.args.line.now.state) ≡ take k (history c.args.self.now.state)) (sym n)
     (ap (take (length root.begun)) (sym c.history.ensures.colourings) ∙ begin_alike root.begun i.later there begun ∙ ap (take (length root.begun)) (sym own))

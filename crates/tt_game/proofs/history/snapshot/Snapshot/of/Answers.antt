@@ -6,8 +6,8 @@ use Rattle.tt_sgf.specs.declared.size.Size.{Size}
 use Rattle.tt_board.specs.Position.{Position}
 use Rattle.tt_game.specs.Keys.{key_of}
 use Rattle.tt_game.specs.KeyHash.{hash_of_key}
-use Rattle.tt_game.specs.Line.{Stood}
-use Rattle.tt_game.specs.inside.Undoing.{course_of, state_at}
+use Rattle.tt_game.specs.Line.{SnapshotState}
+use Rattle.tt_game.specs.inside.Undoing.{game_history_of, state_at}
 use Rattle.tt_game.specs.inside.Roots.{Rooted}
 use Rattle.tt_game.proofs.RootLemmas.{kept_shows}
 use Rattle.tt_game.proofs.history.snapshot.Snapshot.of.Goals as goal
@@ -38,9 +38,9 @@ invariant_of-result c =
     let h = c.args.history.now in
     let count : c.count.result ≡ length root.begun = c.count.ensures.value ∙ ap (λ (r : Rooted). length r.begun) found in
     let passes : c.passes.result ≡ h.passes = c.passes.ensures.value in
-    let shown : state_at (course_of h.size (root.begun ++ drop (length root.begun) there) h.passes) c.args.to_move ≡ state_at h c.args.to_move =
+    let shown : state_at (game_history_of h.size (root.begun ++ drop (length root.begun) there) h.passes) c.args.to_move ≡ state_at h c.args.to_move =
     kept_shows h root.begun there c.args.to_move c.boards.ensures.colourings c.requires.begins in
-    let kept : state_at (course_of root.frame.size (root.begun ++ c.in_ok-later.later) c.passes.result) c.args.to_move ≡ state_at h c.args.to_move =
+    let kept : state_at (game_history_of root.frame.size (root.begun ++ c.in_ok-later.later) c.passes.result) c.args.to_move ≡ state_at h c.args.to_move =
     rw (behind, count, passes, sym c.requires.size) shown in
     rw same_root (record {
       some_board = omega (arith, some, length-append root.begun c.in_ok-later.later);
@@ -58,8 +58,8 @@ returns c =
     let found : c.deref-2.result.now ≡ root = search rules in
     let count : c.count.result ≡ length root.begun = c.count.ensures.value ∙ ap (λ (r : Rooted). length r.begun) found in
     let passes : c.passes.result ≡ h.passes = c.passes.ensures.value in
-    let shown : state_at (course_of h.size (root.begun ++ drop (length root.begun) there) h.passes) c.args.to_move ≡ state_at h c.args.to_move =
+    let shown : state_at (game_history_of h.size (root.begun ++ drop (length root.begun) there) h.passes) c.args.to_move ≡ state_at h c.args.to_move =
     kept_shows h root.begun there c.args.to_move c.boards.ensures.colourings c.requires.begins in
-    let kept : state_at (course_of root.frame.size (root.begun ++ c.in_ok-later.later) c.passes.result) c.args.to_move ≡ state_at h c.args.to_move =
+    let kept : state_at (game_history_of root.frame.size (root.begun ++ c.in_ok-later.later) c.passes.result) c.args.to_move ≡ state_at h c.args.to_move =
     rw (behind, count, passes, sym c.requires.size) shown in
-    rw same_root (ap (λ s. let p : Stood = record { frame = root.frame; state = s } in p) kept)
+    rw same_root (ap (λ s. let p : SnapshotState = record { frame = root.frame; state = s } in p) kept)

@@ -1,5 +1,5 @@
 use Rattle.std.proofs.Common.{sym, subst}
-use Rattle.tt_game.specs.Line.{Standing}
+use Rattle.tt_game.specs.Line.{LineWithUndo}
 use Rattle.tt_proof.specs.Proven.{IsWon}
 use Rattle.tt_search.proofs.Strategies.{makes_proof}
 use Rattle.tt_search.proofs.tree.node.Node.proof.Goals as goal
@@ -7,4 +7,4 @@ use Rattle.tt_search.proofs.tree.node.Node.proof.Goals as goal
 pub winning_with-requires-clause-wins : goal.winning_with-requires-clause-wins
 winning_with-requires-clause-wins c =
     let won = makes_proof c.args.side c.args.line.now.frame c.args.line.now.state c.args.self.now c.in_ok-plan.plan c.in_ok-plan.ensures c.requires.settled c.requires.partial c.requires.stays in
-    subst (λ (l : Standing). IsWon c.args.side l.frame l.state c.in_ok-plan.plan) (sym c.in_ok-footprint.ensures.same) won
+    subst (λ (l : LineWithUndo). IsWon c.args.side l.frame l.state c.in_ok-plan.plan) (sym c.in_ok-footprint.ensures.same) won

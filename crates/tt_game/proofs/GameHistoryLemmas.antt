@@ -1,4 +1,4 @@
--- Courses and the boards that show them.
+-- Histories of games and the boards that show them.
 use Rattle.tt_sgf.specs.declared.size.Size.{Size}
 use Rattle.std.proofs.Common.{◌≡◌, ℕ, ◌+◌, ◌-◌, ◌<◌, ◌≤◌, List, [], ◌∷◌, ◌++◌, length, take, get_or, All, Contains, drop, suc, refl, sym, ap, subst, ◌∙◌, arith}
 use Rattle.std.proofs.lemmas.List.{length-map, get_or-map, get_or_default, take_more, take_all, take_at, get_or_push, length_push, take-map, take-take, length-take-le}
@@ -6,13 +6,13 @@ use Rattle.tt_board.specs.Position.{Position, Colouring}
 use Rattle.tt_game.specs.declared.frame.Side.{Side}
 use Rattle.tt_game.specs.declared.frame.Side.TheVariants.{Attacker, Defender}
 use Rattle.tt_game.specs.Game.{opponent}
-use Rattle.tt_game.specs.Course.{Course, so_far, colourings}
-use Rattle.tt_game.specs.inside.Undoing.{course_of, without_play, front, last}
+use Rattle.tt_game.specs.GameHistory.{GameHistory, so_far, colourings}
+use Rattle.tt_game.specs.inside.Undoing.{game_history_of, without_play, front, last}
 
--- two courses are one where their parts are
-same_course : (g : Size) (xs ys : List Colouring) (x y : Colouring) (n : ℕ) → xs ≡ ys → x ≡ y
-    → (let c : Course = record { size = g; earlier = xs; present = x; passes = n } in c) ≡ (let c : Course = record { size = g; earlier = ys; present = y; passes = n } in c)
-same_course g xs ys x y n e f = cc
+-- two histories are one where their parts are
+same_game_history : (g : Size) (xs ys : List Colouring) (x y : Colouring) (n : ℕ) → xs ≡ ys → x ≡ y
+    → (let c : GameHistory = record { size = g; earlier = xs; present = x; passes = n } in c) ≡ (let c : GameHistory = record { size = g; earlier = ys; present = y; passes = n } in c)
+same_game_history g xs ys x y n e f = cc
 
 -- a list that is not empty is all but its last, and its last
 pub front_last : (cs : List Colouring) → 0 < length cs → front cs ++ last cs ∷ [] ≡ cs
@@ -41,24 +41,24 @@ been_at (b ∷ bs) c (j, in', e) =
       sym (get_or-map (λ x. x.points) (b ∷ bs) j b b.points lt) ∙ get_or_default (colourings (b ∷ bs)) j b.points c in' ∙ e,
     )
 
--- the colourings of the course are those of the boards
-pub history_is : (g : Size) (bs : List Position) (passes : ℕ) → 0 < length bs → so_far (course_of g bs passes) ≡ colourings bs
+-- the colourings of the history are those of the boards
+pub history_is : (g : Size) (bs : List Position) (passes : ℕ) → 0 < length bs → so_far (game_history_of g bs passes) ≡ colourings bs
 history_is g bs passes some = front_last (colourings bs) (omega (arith, length-colourings bs))
 
--- boards with a course's colourings show the course
-pub course_from : (bs : List Position) (c : Course) → colourings bs ≡ so_far c → course_of c.size bs c.passes ≡ c
-course_from bs c e =
-    same_course c.size _ _ _ _ c.passes (ap front e ∙ front_push c.earlier c.present) (ap last e ∙ last_push c.earlier c.present)
+-- boards with a history's colourings show it
+pub game_history_from : (bs : List Position) (c : GameHistory) → colourings bs ≡ so_far c → game_history_of c.size bs c.passes ≡ c
+game_history_from bs c e =
+    same_game_history c.size _ _ _ _ c.passes (ap front e ∙ front_push c.earlier c.present) (ap last e ∙ last_push c.earlier c.present)
 
--- all boards but the last show the course before the last play
-pub course_undone : (g : Size) (bs : List Position) (live passes back : ℕ) → live ≤ length bs → course_of g (take (live - 1) bs) back ≡ without_play (course_of g (take live bs) passes) back
-course_undone g bs live passes back inside =
+-- all boards but the last show the history before the last play
+pub game_history_undone : (g : Size) (bs : List Position) (live passes back : ℕ) → live ≤ length bs → game_history_of g (take (live - 1) bs) back ≡ without_play (game_history_of g (take live bs) passes) back
+game_history_undone g bs live passes back inside =
     let count : length (colourings (take live bs)) ≡ live = length-colourings (take live bs) ∙ length-take-le live bs inside in
     let fewer : live - 1 ≤ live = omega arith in
     let shorter : take (live - 1) (take live bs) ≡ take (live - 1) bs = take-take (live - 1) live bs fewer in
     let all : colourings (take (live - 1) bs) ≡ front (colourings (take live bs)) =
     ap colourings (sym shorter) ∙ sym (take-map (λ (x : Position). x.points) (live - 1) (take live bs)) ∙ ap (λ n. take (n - 1) (colourings (take live bs))) (sym count) in
-    ap (λ (cs : List Colouring). let c : Course = record { size = g; earlier = front cs; present = last cs; passes = back } in c) all
+    ap (λ (cs : List Colouring). let c : GameHistory = record { size = g; earlier = front cs; present = last cs; passes = back } in c) all
 
 -- boards of one size with one colouring each are one
 pub same_boards : (g : Size) (bs cs : List Position) → All (λ (b : Position). b.size ≡ g) bs → All (λ (b : Position). b.size ≡ g) cs → colourings bs ≡ colourings cs → bs ≡ cs
