@@ -17,7 +17,7 @@ use Rattle.tsumego_show.specs.Found.{Found, StandsBehind}
 use Rattle.tsumego_show.specs.Hints.{hints}
 use Rattle.tsumego_show.specs.Marking.{is_left, line_marked}
 use Rattle.tsumego_show.specs.Picture.{picture}
-use Rattle.tsumego_show.specs.Refusals.{fault_text, length_text, syntax_text}
+use Rattle.tsumego_show.specs.Refusals.{fault_text, length_text, no_tree_text}
 use Rattle.tsumego_show.specs.TreeBytes.{from_open, is_nil, kept_text}
 use Rattle.tsumego_show.specs.Variations.{sgf_text}
 
@@ -89,7 +89,7 @@ pub data Tells (form : Form) (whole : ℕ) : ℕ → List ℕ → List ℕ → B
       → IsTreeText form k (take count bytes) (main_line t) (problem_of (main_line t)) (drop count bytes) text → Tells form whole (k + 1) (drop count bytes) more refused
       → Tells form whole k bytes (text ++ more) (is_tree_refused form k (main_line t) (problem_of (main_line t)) (drop count bytes) || refused)
   ended : (k : ℕ) (bytes : List ℕ) → 1 < k → (HasOpen bytes → ⊥) → Tells form whole k bytes [] false
-  stopped : (k : ℕ) (bytes : List ℕ) → (k ≡ 1) ⊎ HasOpen bytes → HasNoTree bytes → Tells form whole k bytes (syntax_text k (whole - length bytes)) true
+  stopped : (k : ℕ) (bytes : List ℕ) → (k ≡ 1) ⊎ HasOpen bytes → HasNoTree bytes → Tells form whole k bytes (no_tree_text k (whole - length bytes)) true
 
 -- the text for an input, and whether something is refused: the input is too long, or its trees are told from number 1 on
 pub data IsInputText (form : Form) (input : List ℕ) : List ℕ → Bool → Type 0 where

@@ -1,7 +1,7 @@
 //! What is written where something is refused.
 ghost use Rattle.std.specs.Prelude.{◌≡◌, ◌++◌, ◌+◌, ◌-◌, ◌^◌, ◌<◌, length, take, IfOk, MatchOption, OnOk, Some};
 ghost use Rattle.tt_game.specs.Problems.{problem_of};
-ghost use Rattle.tsumego_show.specs.Refusals.{at_node, fault_text, is_refused_with, nth_node, length_text, meaning, named_fault, needed, refusal_line, syntax_text, why_text};
+ghost use Rattle.tsumego_show.specs.Refusals.{at_node, fault_text, is_refused_with, nth_node, length_text, meaning, named_fault, needed, refusal_line, no_tree_text, why_text};
 
 use crate::faulty::put_look;
 use std::alloc::Global;
@@ -161,14 +161,14 @@ pub fn put_fault(
 }
 
 /// Writes that no game tree can be read behind so many bytes behind the text.
-pub fn put_syntax(
+pub fn put_no_tree(
     alloc: Global,
     out: &mut Vec<u8>,
     number: usize,
     used: usize,
 ) -> Result<(), NoMemory>
     requires { used < 2 ^ 64 - 1 }
-    ensures { OnOk result (out.new.items ≡ out.old.items ++ syntax_text number used) }
+    ensures { OnOk result (out.new.items ≡ out.old.items ++ no_tree_text number used) }
 {
     put_refusal(alloc, out, number, 1)?;
     let byte = used + 1;

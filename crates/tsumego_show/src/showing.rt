@@ -11,7 +11,7 @@ use crate::found::find;
 use crate::hints::put_hints;
 use crate::marking::put_line;
 use crate::picture::put_picture;
-use crate::refusals::{put_fault, put_length, put_syntax};
+use crate::refusals::{put_fault, put_length, put_no_tree};
 use crate::tree_bytes::{has_none, put_kept};
 use crate::variations::put_sgf;
 use std::alloc::Global;
@@ -209,7 +209,7 @@ pub fn show(alloc: Global, form: Form, input: &[u8]) -> Result<(Vec<u8>, u8), No
                 number += 1;
             }
             Err(SgfFault::Syntax) => {
-                put_syntax(alloc, &mut out, number, input.len() - rest.len())?;
+                put_no_tree(alloc, &mut out, number, input.len() - rest.len())?;
                 return Ok((out, 1));
             }
             Err(SgfFault::TooLong) => {
