@@ -11,7 +11,6 @@ ghost use Rattle.tsumego_show.specs.TreeBytes.{kept_text};
 
 use crate::form::Place;
 use crate::hints::{put_hints, put_members, put_names};
-use crate::node_values::asked_count;
 use crate::proposals::{Proposal, chosen, placed_point};
 use crate::refusals::{NO_TARGET, put_fault, put_refusal};
 use crate::regions::{around, ways_out};
@@ -19,7 +18,7 @@ use crate::tree_bytes::{behind_semicolon, from_open, put_kept};
 use crate::variations::{PointList, put_list};
 use std::alloc::Global;
 use tt_board::{Board, Colour};
-use tt_game::{Game, GameFault, Line, asked_game};
+use tt_game::{Game, GameFault, Line, asked_count, asked_game};
 use tt_sgf::{MainLine, NoMemory, Point, PointSet, Size};
 
 /// Writes a tree with the marks of a problem at the head of the node of this number behind the text.
