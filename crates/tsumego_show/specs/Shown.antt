@@ -59,11 +59,11 @@ fault_told Diagram k tree ns e = fault_text k ns e
 fault_told (Variations depth) k tree ns e = fault_text k ns e
 fault_told (Marks place) k tree ns e = line_marked place k tree ns e
 
-abbrev pub is_fault_left : Form → List Node → GameFault → Bool
-is_fault_left Picture ns e = true
-is_fault_left Diagram ns e = true
-is_fault_left (Variations depth) ns e = true
-is_fault_left (Marks place) ns e = is_left place ns e
+abbrev pub is_fault_left : Form → List Node → Bool
+is_fault_left Picture ns = true
+is_fault_left Diagram ns = true
+is_fault_left (Variations depth) ns = true
+is_fault_left (Marks place) ns = is_left place ns
 
 -- the text on tree number k with these bytes, whose main line is a problem or refused, and which is followed by the others
 abbrev pub IsTreeText : Form → ℕ → List ℕ → List Node → Result LineWithUndo GameFault → List ℕ → List ℕ → Type 0
@@ -79,7 +79,7 @@ is_one_of_several (Marks place) k behind = false
 
 abbrev pub is_tree_refused : Form → ℕ → List Node → Result LineWithUndo GameFault → List ℕ → Bool
 is_tree_refused form k ns (Ok p) behind = is_one_of_several form k behind
-is_tree_refused form k ns (Err e) behind = is_fault_left form ns e
+is_tree_refused form k ns (Err e) behind = is_fault_left form ns
 
 -- The text on bytes at the end of an input of so many, whose first tree has number k, and whether something is refused: a tree
 -- and what follows it; or no tree is left, and none was wanted; or none is spelled where one is wanted: at a `(`, or where no

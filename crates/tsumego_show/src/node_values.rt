@@ -1,8 +1,8 @@
 //! What the properties of nodes say.
 ghost use Rattle.std.specs.Prelude.{◌≡◌, ◌∷◌, ℕ, [], List, MatchOption};
-ghost use Rattle.tt_game.specs.Nodes.{values_of};
+ghost use Rattle.tt_game.specs.Nodes.{has, values_of};
 
-use tt_sgf::Property;
+use tt_sgf::{Node, Property};
 
 /// The first value of the properties of this name.
 pub fn first_value<'a>(properties: &'a [Property], name: &[u8]) -> Option<&'a [u8]>
@@ -19,4 +19,11 @@ pub fn first_value<'a>(properties: &'a [Property], name: &[u8]) -> Option<&'a [u
         rest = behind;
     }
     None
+}
+
+/// Whether a property has a value in a node.
+pub fn has(node: &Node, name: &[u8]) -> bool
+    ensures { result ≡ has name.now node.now }
+{
+    first_value(node.properties.as_slice(), name).is_some()
 }

@@ -140,7 +140,7 @@ fn put_untold(
     fault: GameFault,
 ) -> Result<bool, NoMemory>
     ensures text { OnOk result (out.new.items ≡ out.old.items ++ fault_told form number tree.now main.nodes fault) }
-    ensures refused { IfOk result (λ refused. refused ≡ is_fault_left form main.nodes fault) }
+    ensures refused { IfOk result (λ refused. refused ≡ is_fault_left form main.nodes) }
 {
     match form {
         Form::Marks(place) => put_line(alloc, out, place, number, main, tree, fault),
