@@ -172,9 +172,9 @@ most_bytes = 20
 unfoldable pub plain_value : List ℕ → List ℕ
 plain_value v = if nat_le (length v) most_bytes && list_all is_plain v then v else codes ".."
 
-abbrev pub value_line : Option NamedValue → List ℕ
-value_line None = []
-value_line (Some v) = codes "look at: " ++ (v.0 ++ (bracketed (plain_value v.1) ++ newline ∷ []))
+abbrev pub bad_value_line : Option NamedValue → List ℕ
+bad_value_line None = []
+bad_value_line (Some v) = codes "look at: " ++ (v.0 ++ (bracketed (plain_value v.1) ++ newline ∷ []))
 
 -- ---- the line, which a newline ends
 
@@ -185,7 +185,7 @@ first_size (m ∷ ms) n = size_named (values_of SZ m.properties)
 
 abbrev pub look_on : GameFault → List Node → Node → Option Size → List ℕ
 look_on e front n None = []
-look_on e front n (Some size) = if nat_eq (code_of e) (code_of BadValue) then value_line (bad_value size n) else points_line e size front n
+look_on e front n (Some size) = if nat_eq (code_of e) (code_of BadValue) then bad_value_line (bad_value size n) else points_line e size front n
 
 -- what to look at in a node that is refused so, with those nodes in front
 abbrev pub look_line : GameFault → List Node → Node → List ℕ

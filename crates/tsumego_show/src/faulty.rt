@@ -6,7 +6,7 @@ ghost use Rattle.tt_game.specs.Problems.{game_of};
 ghost use Rattle.tt_sgf.specs.Values.{after_blanks};
 ghost use Rattle.tt_game.specs.Nodes.{PL, colour_at, values_of};
 ghost use Rattle.tsumego_show.specs.Faulty.{are_known, bad_colour, bad_in, bad_marks, bad_move, bad_moves, bad_setup, bad_turn, bad_value, blacks_behind, first_bad, first_size, if_unread, is_plain, is_setup_fault, look_line, moved_on, named_or};
-ghost use Rattle.tsumego_show.specs.Faulty.{plain_value, points_at_fault, points_in, points_line, set_up_twice, stones_before, vacant, value_line, whites_behind, without_liberty};
+ghost use Rattle.tsumego_show.specs.Faulty.{plain_value, points_at_fault, points_in, points_line, set_up_twice, stones_before, vacant, bad_value_line, whites_behind, without_liberty};
 
 use crate::hints::put_listed;
 use crate::node_values::first_value;
@@ -323,7 +323,7 @@ fn bad_value(size: Size, node: &Node) -> Option<NamedValue<'_>>
 
 /// Writes a property and its value behind the text.
 fn put_value(out: &mut Vec<u8>, name: &[u8], value: &[u8]) -> Result<(), NoMemory>
-    ensures { OnOk result (out.new.items ≡ out.old.items ++ value_line (Some (name.now, value.now))) }
+    ensures { OnOk result (out.new.items ≡ out.old.items ++ bad_value_line (Some (name.now, value.now))) }
 {
     out.extend_from_slice(b"look at: ")?;
     out.extend_from_slice(name)?;
@@ -335,7 +335,7 @@ fn put_value(out: &mut Vec<u8>, name: &[u8], value: &[u8]) -> Result<(), NoMemor
 
 /// Writes the value to look at behind the text.
 fn put_bad_value(out: &mut Vec<u8>, size: Size, node: &Node) -> Result<(), NoMemory>
-    ensures { OnOk result (out.new.items ≡ out.old.items ++ value_line (bad_value size node.now)) }
+    ensures { OnOk result (out.new.items ≡ out.old.items ++ bad_value_line (bad_value size node.now)) }
 {
     match bad_value(size, node) {
         Some((name, value)) => put_value(out, name, value),
