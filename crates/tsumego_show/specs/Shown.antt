@@ -1,17 +1,18 @@
 -- What is written for an input: a text on each of its game trees.
-use Rattle.std.specs.Prelude.{◌≡◌, ◌⊎◌, ◌+◌, ◌-◌, ◌<◌, ◌≤◌, ℕ, Bool, true, false, ◌&&◌, ◌||◌, not, nat_eq, List, [], ◌∷◌, ◌++◌, length, drop, take, codes, decimal, Ok, Err, if◌then◌else◌}
+use Rattle.std.specs.Prelude.{◌≡◌, ◌⊎◌, ◌+◌, ◌-◌, ◌<◌, ◌≤◌, ℕ, Bool, true, false, ◌&&◌, ◌||◌, not, nat_eq, List, [], ◌∷◌, ◌++◌, length, drop, take, codes, decimal, Option, Ok, Err, if◌then◌else◌}
 use Rattle.std.specs.declared.result.Result.{Result}
 use Rattle.tt_sgf.specs.declared.trees.TheConstants.{MAX_BYTES}
 use Rattle.tt_sgf.specs.Bytes.{space}
 use Rattle.tt_sgf.specs.declared.nodes.Node.{Node}
 use Rattle.tt_sgf.specs.Grammar.{GameTree, HasNoTree, HasOpen, FirstTreeEndsAt, main_line}
 use Rattle.tt_game.specs.declared.faults.GameFault.{GameFault}
+use Rattle.tt_game.specs.declared.turns.Turn.{Turn}
 use Rattle.tt_game.specs.Line.{LineWithUndo}
 use Rattle.tt_game.specs.Problems.{problem_of}
 use Rattle.tt_sgf.specs.Values.{trimmed}
 use Rattle.tsumego_show.specs.declared.form.Form.{Form}
 use Rattle.tsumego_show.specs.declared.form.Form.TheVariants.{Picture, Diagram, Marks, Variations}
-use Rattle.tsumego_show.specs.Diagram.{svg_text}
+use Rattle.tsumego_show.specs.Diagram.{IsNumbered, svg_text}
 use Rattle.tsumego_show.specs.Drawing.{DrawsCertificate}
 use Rattle.tsumego_show.specs.Found.{Found, StandsBehind}
 use Rattle.tsumego_show.specs.Hints.{hints}
@@ -38,7 +39,12 @@ several_line k = decimal k ++ codes " not drawn: give each problem a file of its
 -- the diagram of a problem that is alone, with the strategy that stands behind it
 abbrev pub IsDiagram : Bool → ℕ → LineWithUndo → List ℕ → List ℕ → Type 0
 IsDiagram false k p behind text = text ≡ several_line k
-IsDiagram true k p behind text = (b : Found) × StandsBehind p.frame.size behind b × (text ≡ svg_text p b)
+IsDiagram true k p behind text = (b : Found) × (first : Option Turn) × StandsBehind p.frame.size behind b × IsNumbered p b first × (text ≡ svg_text p first)
+
+-- what is said where no strategy stands behind a problem
+abbrev pub without_strategy : List ℕ → List ℕ
+without_strategy behind =
+    if is_nil (from_open behind) && not (is_nil (trimmed behind)) then codes "what follows is no certificate" else codes "no certificate follows"
 
 -- the number, the picture and the hints
 abbrev pub problem_text : ℕ → LineWithUndo → List ℕ
@@ -49,7 +55,7 @@ problem_text k p = decimal k ++ (space ∷ (picture p ++ hints p))
 abbrev pub IsProblemText : Form → ℕ → List ℕ → LineWithUndo → List ℕ → List ℕ → Type 0
 IsProblemText Picture k tree p behind text = (drawn : List ℕ) × DrawsBehind p behind drawn × (text ≡ problem_text k p ++ drawn)
 IsProblemText Diagram k tree p behind text = IsDiagram (is_alone k behind) k p behind text
-IsProblemText (Variations depth) k tree p behind text = (b : Found) × StandsBehind p.frame.size behind b × (text ≡ sgf_text p depth b)
+IsProblemText (Variations depth) k tree p behind text = (b : Found) × StandsBehind p.frame.size behind b × (text ≡ sgf_text p depth (without_strategy behind) b)
 IsProblemText (Marks place) k tree p behind text = text ≡ kept_text tree
 
 -- the text on tree number k with these bytes, whose main line is no problem, and whether it is refused: where marks are wanted and it has none, they may be proposed
