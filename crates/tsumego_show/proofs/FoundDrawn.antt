@@ -19,7 +19,8 @@ found_drawn (Ok y) p f behind old new b first same h is w k = (svg_text p first,
 found_drawn (Err y) p f behind old new b first same h is w k = w
 
 pub found_written : {A E : Type 0} (r : Result A E) (p : LineWithUndo) (f : Frame) (behind old new : List ℕ) (b : Found) → f ≡ p.frame → StandsBehind f.size behind b
-    → (depth : ℕ) → OnOk r (new ≡ old ++ sgf_text p depth (without_strategy behind) b) → (k : ℕ) (tree : List ℕ) → OnOk r ((x : List ℕ) × IsProblemText (Variations depth) k tree p behind x × (new ≡ old ++ x))
+    → (depth : ℕ) → OnOk r (new ≡ old ++ sgf_text p depth (without_strategy behind) b)
+    → (k : ℕ) (tree : List ℕ) → OnOk r ((x : List ℕ) × IsProblemText (Variations depth) k tree p behind x × (new ≡ old ++ x))
 found_written (Ok y) p f behind old new b same h depth w k tree = (sgf_text p depth (without_strategy behind) b, (b, subst (λ (g : Frame). StandsBehind g.size behind b) same h, refl), w)
 found_written (Err y) p f behind old new b same h depth w k tree = w
 
