@@ -4,21 +4,24 @@ use Rattle.std.specs.declared.result.Result.{Result}
 use Rattle.tt_game.specs.declared.frame.Frame.{Frame}
 use Rattle.tt_game.specs.Line.{LineWithUndo}
 use Rattle.tsumego_show.specs.declared.form.Form.TheVariants.{Marks, Variations}
-use Rattle.tsumego_show.specs.Diagram.{svg_text}
+use Rattle.tt_game.specs.declared.turns.Turn.{Turn}
+use Rattle.tsumego_show.specs.Diagram.{IsNumbered, svg_text}
 use Rattle.tsumego_show.specs.Found.{Found, StandsBehind}
 use Rattle.tsumego_show.specs.declared.form.Place.{Place}
-use Rattle.tsumego_show.specs.Shown.{IsDiagram, IsProblemText, several_line}
+use Rattle.tsumego_show.specs.Shown.{IsDiagram, IsProblemText, several_line, without_strategy}
 use Rattle.tsumego_show.specs.TreeBytes.{kept_text}
 use Rattle.tsumego_show.specs.Variations.{sgf_text}
 
-pub found_drawn : {A E : Type 0} (r : Result A E) (p : LineWithUndo) (f : Frame) (behind old new : List ℕ) (b : Found) → f ≡ p.frame → StandsBehind f.size behind b
-    → OnOk r (new ≡ old ++ svg_text p b) → (k : ℕ) → OnOk r ((x : List ℕ) × IsDiagram true k p behind x × (new ≡ old ++ x))
-found_drawn (Ok y) p f behind old new b same h w k = (svg_text p b, (b, subst (λ (g : Frame). StandsBehind g.size behind b) same h, refl), w)
-found_drawn (Err y) p f behind old new b same h w k = w
+pub found_drawn : {A E : Type 0} (r : Result A E) (p : LineWithUndo) (f : Frame) (behind old new : List ℕ) (b : Found) (first : Option Turn) → f ≡ p.frame
+    → StandsBehind f.size behind b → IsNumbered p b first → OnOk r (new ≡ old ++ svg_text p first)
+    → (k : ℕ) → OnOk r ((x : List ℕ) × IsDiagram true k p behind x × (new ≡ old ++ x))
+found_drawn (Ok y) p f behind old new b first same h is w k = (svg_text p first, (b, first, subst (λ (g : Frame). StandsBehind g.size behind b) same h, is, refl), w)
+found_drawn (Err y) p f behind old new b first same h is w k = w
 
 pub found_written : {A E : Type 0} (r : Result A E) (p : LineWithUndo) (f : Frame) (behind old new : List ℕ) (b : Found) → f ≡ p.frame → StandsBehind f.size behind b
-    → (depth : ℕ) → OnOk r (new ≡ old ++ sgf_text p depth b) → (k : ℕ) (tree : List ℕ) → OnOk r ((x : List ℕ) × IsProblemText (Variations depth) k tree p behind x × (new ≡ old ++ x))
-found_written (Ok y) p f behind old new b same h depth w k tree = (sgf_text p depth b, (b, subst (λ (g : Frame). StandsBehind g.size behind b) same h, refl), w)
+    → (depth : ℕ) → OnOk r (new ≡ old ++ sgf_text p depth (without_strategy behind) b)
+    → (k : ℕ) (tree : List ℕ) → OnOk r ((x : List ℕ) × IsProblemText (Variations depth) k tree p behind x × (new ≡ old ++ x))
+found_written (Ok y) p f behind old new b same h depth w k tree = (sgf_text p depth (without_strategy behind) b, (b, subst (λ (g : Frame). StandsBehind g.size behind b) same h, refl), w)
 found_written (Err y) p f behind old new b same h depth w k tree = w
 
 -- or that it isn't

@@ -12,7 +12,7 @@ use Rattle.tt_game.specs.Game.{State, IsLegal, after, side_colour}
 use Rattle.tt_game.specs.Line.{IsPushed, IsRefusal, LineWithUndo}
 use Rattle.tt_game.specs.Turns.{is_legal_is}
 use Rattle.tt_proof.specs.Strategy.{Strategy, Entries, pick, reply}
-use Rattle.tsumego_show.specs.Variations.{legal_text, move_text, reply_variations, variations}
+use Rattle.tsumego_show.specs.Variations.{legal_text, move_text, or_ending, reply_variations, variations}
 
 -- a turn that is refused isn't legal
 not_legal : (f : Frame) (s : State) (t : Turn) (why : Why) → IsRefusal f s t why → IsLegal f s t → ⊥
@@ -50,15 +50,20 @@ made_written (Ok y) p q t k n u old new legal pushed same w =
     ∙ ap (λ (x : List ℕ). old ++ x) (sym (legal_written p.frame p.state t behind legal))
 made_written (Err y) p q t k n u old new legal pushed same w = w
 
+-- a strategy ends at the line as it was
+pub end_of : {A E : Type 0} (r : Result A E) (q p : LineWithUndo) (old new text : List ℕ) → q ≡ p
+    → OnOk r (new ≡ old ++ or_ending q.frame q.state text) → OnOk r (new ≡ old ++ or_ending p.frame p.state text)
+end_of r q p old new text same w = subst (λ (l : LineWithUndo). OnOk r (new ≡ old ++ or_ending l.frame l.state text)) same w
+
 module _ {A E : Type 0} (r : Result A E) (f : Frame) (s : State) (old new : List ℕ) where
   -- the side's turn is written where turns are left
-  pub pick_written : (n : ℕ) (t : Turn) (u : Strategy) → 0 < n → OnOk r (new ≡ old ++ legal_text f s t (variations f (after f s t) u (n - 1)))
+  pub pick_written : (n : ℕ) (t : Turn) (u : Strategy) → 0 < n → OnOk r (new ≡ old ++ or_ending f s (legal_text f s t (variations f (after f s t) u (n - 1))))
       → OnOk r (new ≡ old ++ variations f s (pick t u) n)
   pick_written zero t u some w = absurd (omega (arith, some))
   pick_written (suc n) t u some w =
-      subst (λ (k : ℕ). OnOk r (new ≡ old ++ legal_text f s t (variations f (after f s t) u k))) (let e : suc n - 1 ≡ n = omega arith in e) w
+      subst (λ (k : ℕ). OnOk r (new ≡ old ++ or_ending f s (legal_text f s t (variations f (after f s t) u k)))) (let e : suc n - 1 ≡ n = omega arith in e) w
 
   -- and so are the turns of the other side
-  pub reply_written : (n : ℕ) (es : Entries) → 0 < n → OnOk r (new ≡ old ++ reply_variations f s es (n - 1)) → OnOk r (new ≡ old ++ variations f s (reply es) n)
+  pub reply_written : (n : ℕ) (es : Entries) → 0 < n → OnOk r (new ≡ old ++ or_ending f s (reply_variations f s es (n - 1))) → OnOk r (new ≡ old ++ variations f s (reply es) n)
   reply_written zero es some w = absurd (omega (arith, some))
-  reply_written (suc n) es some w = subst (λ (k : ℕ). OnOk r (new ≡ old ++ reply_variations f s es k)) (let e : suc n - 1 ≡ n = omega arith in e) w
+  reply_written (suc n) es some w = subst (λ (k : ℕ). OnOk r (new ≡ old ++ or_ending f s (reply_variations f s es k))) (let e : suc n - 1 ≡ n = omega arith in e) w

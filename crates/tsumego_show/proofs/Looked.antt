@@ -1,32 +1,14 @@
--- What is written of a value or of points to look at.
-use Rattle.std.proofs.Common.{◌≡◌, ℕ, List, [], ◌++◌, Some, Ok, Err, OnOk, sym, ap, ◌∙◌, append_assoc}
+-- What is written of a group that is open.
+use Rattle.std.proofs.Common.{◌≡◌, ℕ, List, ◌++◌, Ok, Err, OnOk, ap, ◌∙◌, append_assoc}
 use Rattle.std.specs.declared.result.Result.{Result}
 use Rattle.std.specs.FinSet as set
 use Rattle.tt_sgf.specs.declared.size.Size.{Size}
-use Rattle.tt_sgf.specs.declared.nodes.Node.{Node}
 use Rattle.tt_board.specs.declared.Colour.{Colour}
 use Rattle.tt_board.specs.Play.{Points}
 use Rattle.tt_board.specs.Position.{Colouring}
-use Rattle.tsumego_show.specs.Faulty.{list_line, mover_line, bad_value_line, value_or}
 use Rattle.tsumego_show.specs.Hints.{members_text, names_text}
 use Rattle.tsumego_show.specs.Marking.{open_line, open_words}
 use Rattle.tsumego_show.specs.Regions.{around, ways_out}
-
--- a value of a list of points
-pub list_written : {A E : Type 0} (r : Result A E) (size : Size) (n : Node) (name value old new : List ℕ)
-    → ((other : List ℕ) → list_line size n other ≡ value_or name (Some value) other) → ((other : List ℕ) → OnOk r (new ≡ old ++ value_or name (Some value) other))
-    → OnOk r (new ≡ old ++ bad_value_line size n)
-unfolding bad_value_line
-list_written (Ok y) size n name value old new h w = w (mover_line size n) ∙ ap (λ (x : List ℕ). old ++ x) (sym (h (mover_line size n)))
-list_written (Err y) size n name value old new h w = w (mover_line size n)
-
--- another value
-pub mover_written : {A E : Type 0} (r : Result A E) (size : Size) (n : Node) (name value old new : List ℕ)
-    → ((other : List ℕ) → list_line size n other ≡ other) → mover_line size n ≡ value_or name (Some value) [] → ((other : List ℕ) → OnOk r (new ≡ old ++ value_or name (Some value) other))
-    → OnOk r (new ≡ old ++ bad_value_line size n)
-unfolding bad_value_line
-mover_written (Ok y) size n name value old new none h w = w [] ∙ ap (λ (x : List ℕ). old ++ x) (sym (none (mover_line size n) ∙ h))
-mover_written (Err y) size n name value old new none h w = w []
 
 -- where a group is open
 pub open_written : {A E : Type 0} (r : Result A E) (size s : Size) (c : Colouring) (k : Colour) (q : ℕ) (first all : Points) (old mid new : List ℕ)

@@ -1,81 +1,20 @@
--- Lemmas on nodes, property by property and value by value, and on the bytes of a tree.
-use Rattle.std.proofs.Common.{◌≡◌, ℕ, suc, ◌+◌, ◌-◌, ◌&&◌, ◌||◌, ◌==◌, nat_eq, nat_le, Bool, true, false, cond, List, [], ◌∷◌, ◌++◌, codes, length, Some, None, refl, sym, ap, ◌∙◌, arith}
+-- Lemmas on values that can't be read, and on the bytes of a tree.
+use Rattle.std.proofs.Common.{◌≡◌, ℕ, suc, ◌-◌, ◌&&◌, ◌||◌, ◌==◌, nat_eq, nat_le, Bool, true, false, cond, List, [], ◌∷◌, ◌++◌, Option, Some, None, refl, sym, ap, ◌∙◌}
 use Rattle.std.specs.List.{list_all}
-use Rattle.std.proofs.lemmas.Bool.{le-leb}
 use Rattle.std.proofs.lemmas.Option.{none-some}
 use lib.Pointwise.{pointwise}
 use Rattle.tt_sgf.specs.Bytes.{open_tree}
 use Rattle.tt_sgf.specs.declared.size.Size.{Size}
-use Rattle.tt_sgf.specs.declared.nodes.Node.{Node}
 use Rattle.tt_sgf.specs.declared.nodes.Property.{Property}
 use Rattle.tt_sgf.specs.declared.size.TheConstants.{MOST_POINTS}
 use Rattle.tt_sgf.specs.Entries.{covers, is_entry, set_of}
 use Rattle.tt_sgf.specs.Points.{passing}
 use Rattle.tt_board.specs.Play.{Points}
-use Rattle.tt_game.specs.Nodes.{moves_in, some_value, values_of}
-use Rattle.tt_game.specs.Problems.{asked_count, puts_stones}
+use Rattle.tt_game.specs.Nodes.{values_of}
+use Rattle.tt_game.proofs.NodeLemmas.{values-named, values-nil, values-other}
 use Rattle.tsumego_show.specs.declared.tree_bytes.Spot.{Spot}
-use Rattle.tsumego_show.specs.Faulty.{first_bad, first_values, is_plain}
+use Rattle.tsumego_show.specs.Faulty.{first_bad, is_plain}
 use Rattle.tsumego_show.specs.TreeBytes.{begins_node, behind_semicolon, from_open, next_spot}
-
--- ---- the values of the first property of a name
-
-pub values_none : (name : List ℕ) → first_values name [] ≡ []
-unfolding first_values
-values_none name = refl
-
-pub values_here : (name : List ℕ) (p : Property) (ps : List Property) → pointwise ◌==◌ p.ident name ≡ true → first_values name (p ∷ ps) ≡ p.values
-unfolding first_values
-values_here name p ps e = rw e refl
-
-pub values_behind : (name : List ℕ) (p : Property) (ps : List Property) → pointwise ◌==◌ p.ident name ≡ false → first_values name (p ∷ ps) ≡ first_values name ps
-unfolding first_values
-values_behind name p ps e = rw e refl
-
--- ---- whether one of all has a value
-
-some_more : (vs ws : List (List ℕ)) → some_value (vs ++ ws) ≡ (some_value vs || some_value ws)
-some_more [] ws = refl
-some_more (v ∷ vs) ws = refl
-
-pub has_none : (name : List ℕ) → some_value (values_of name []) ≡ false
-unfolding values_of
-has_none name = refl
-
-pub has_here : (name : List ℕ) (p : Property) (ps : List Property) → pointwise ◌==◌ p.ident name ≡ true → some_value p.values ≡ true → some_value (values_of name (p ∷ ps)) ≡ true
-unfolding values_of
-has_here name p ps e some = rw e (some_more p.values (values_of name ps) ∙ ap (λ b. b || some_value (values_of name ps)) some)
-
-pub has_behind : (name : List ℕ) (p : Property) (ps : List Property) → pointwise ◌==◌ p.ident name ≡ true → some_value p.values ≡ false
-    → some_value (values_of name (p ∷ ps)) ≡ some_value (values_of name ps)
-unfolding values_of
-has_behind name p ps e some = rw e (some_more p.values (values_of name ps) ∙ ap (λ b. b || some_value (values_of name ps)) some)
-
-pub has_other : (name : List ℕ) (p : Property) (ps : List Property) → pointwise ◌==◌ p.ident name ≡ false → some_value (values_of name (p ∷ ps)) ≡ some_value (values_of name ps)
-unfolding values_of
-has_other name p ps e = rw e refl
-
--- ---- moves, and the nodes in front of a solution
-
-some_of_two : (vs ws : List (List ℕ)) → nat_le 1 (length vs + length ws) ≡ (some_value vs || some_value ws)
-some_of_two [] [] = refl
-some_of_two [] (w ∷ ws) = le-leb 1 (length {A = List ℕ} [] + length (w ∷ ws)) (omega arith)
-some_of_two (v ∷ vs) ws = le-leb 1 (length (v ∷ vs) + length ws) (omega arith)
-
-pub some_move : (n : Node) → nat_le 1 (moves_in n) ≡ (some_value (values_of (codes "B") n.properties) || some_value (values_of (codes "W") n.properties))
-some_move n = some_of_two (values_of (codes "B") n.properties) (values_of (codes "W") n.properties)
-
-pub asked_nil : (up : Bool) → asked_count up [] ≡ 0
-unfolding asked_count
-asked_nil up = refl
-
-pub asked_stop : (up : Bool) (n : Node) (ns : List Node) → (up && nat_le 1 (moves_in n)) ≡ true → asked_count up (n ∷ ns) ≡ 0
-unfolding asked_count
-asked_stop up n ns h = rw h refl
-
-pub asked_step : (up : Bool) (n : Node) (ns : List Node) → (up && nat_le 1 (moves_in n)) ≡ false → asked_count up (n ∷ ns) ≡ suc (asked_count (up || puts_stones n) ns)
-unfolding asked_count
-asked_step up n ns h = rw h refl
 
 -- ---- values that can't be read
 
@@ -103,6 +42,41 @@ bad_here size v vs h = rw (no_entry (is_entry size v) _ (sym (one_set size v) �
 pub bad_behind : (size : Size) (v : List ℕ) (vs : List (List ℕ)) (s : Points) → set_of size (v ∷ []) ≡ Some s → first_bad size (v ∷ vs) ≡ first_bad size vs
 unfolding first_bad
 bad_behind size v vs s h = rw (an_entry (is_entry size v) _ s (sym (one_set size v) ∙ h)) refl
+
+-- among the values of all properties of a name
+
+cond_some : (b : Bool) (r s : Option (List ℕ)) (x v : List ℕ) → (r ≡ Some v → s ≡ Some v) → cond b r (Some x) ≡ Some v → cond b s (Some x) ≡ Some v
+cond_some true r s x v f h = f h
+cond_some false r s x v f h = h
+
+cond_none : (b : Bool) (r s t : Option (List ℕ)) (x : List ℕ) → (r ≡ None → s ≡ t) → cond b r (Some x) ≡ None → cond b s (Some x) ≡ t
+cond_none true r s t x f h = f h
+cond_none false r s t x f h = absurd (none-some x (sym h))
+
+bad_first : (size : Size) (vs ws : List (List ℕ)) (v : List ℕ) → first_bad size vs ≡ Some v → first_bad size (vs ++ ws) ≡ Some v
+unfolding first_bad
+bad_first size [] ws v h = absurd (none-some v h)
+bad_first size (x ∷ xs) ws v h = cond_some (is_entry size x) (first_bad size xs) (first_bad size (xs ++ ws)) x v (bad_first size xs ws v) h
+
+bad_further : (size : Size) (vs ws : List (List ℕ)) → first_bad size vs ≡ None → first_bad size (vs ++ ws) ≡ first_bad size ws
+unfolding first_bad
+bad_further size [] ws h = refl
+bad_further size (x ∷ xs) ws h = cond_none (is_entry size x) (first_bad size xs) (first_bad size (xs ++ ws)) (first_bad size ws) x (bad_further size xs ws) h
+
+module _ (size : Size) (name : List ℕ) where
+  pub bad_nowhere : first_bad size (values_of name []) ≡ None
+  bad_nowhere = ap (first_bad size) (values-nil name) ∙ bad_none size
+
+  pub bad_in_first : (p : Property) (ps : List Property) (v : List ℕ) → pointwise ◌==◌ p.ident name ≡ true → first_bad size p.values ≡ Some v
+      → first_bad size (values_of name (p ∷ ps)) ≡ Some v
+  bad_in_first p ps v e h = ap (first_bad size) (values-named name p ps e) ∙ bad_first size p.values (values_of name ps) v h
+
+  pub bad_in_others : (p : Property) (ps : List Property) → pointwise ◌==◌ p.ident name ≡ true → first_bad size p.values ≡ None
+      → first_bad size (values_of name (p ∷ ps)) ≡ first_bad size (values_of name ps)
+  bad_in_others p ps e h = ap (first_bad size) (values-named name p ps e) ∙ bad_further size p.values (values_of name ps) h
+
+  pub bad_in_other : (p : Property) (ps : List Property) → pointwise ◌==◌ p.ident name ≡ false → first_bad size (values_of name (p ∷ ps)) ≡ first_bad size (values_of name ps)
+  bad_in_other p ps e = ap (first_bad size) (values-other name p ps e)
 
 -- ---- plain bytes
 

@@ -14,7 +14,7 @@ use Rattle.tt_sgf.specs.Grammar.{GameTree, HasNoTree, FirstTreeEndsAt, main_line
 use Rattle.tt_game.specs.Problems.{problem_of}
 use Rattle.tsumego_show.specs.Shown.{DrawsBehind, IsShown, IsInputText, IsProblemText, IsTreeText, Tells, ended, is_tree_refused, last_tree, more_trees, problem_text, stopped}
 use Rattle.tsumego_show.specs.Shown.{too_long, tree, trees}
-use Rattle.tsumego_show.specs.Refusals.{length_text, syntax_text}
+use Rattle.tsumego_show.specs.Refusals.{length_text, no_tree_text}
 
 -- the brackets of an `or` of three
 or_assoc : (x y z : Bool) → ((x || y) || z) ≡ (x || (y || z))
@@ -78,11 +78,11 @@ module _ {form : Form} {input rest text : List ℕ} {k : ℕ} {refused : Bool} (
   }
 
   -- no tree is spelled, at a bracket or before the first tree
-  pub progress_stopped : (k ≡ 1) ⊎ HasOpen rest → length rest ≤ MAX_BYTES → HasNoTree rest → (text' : List ℕ) → text' ≡ text ++ syntax_text k (length input - length rest) → IsShown form input text' 1
+  pub progress_stopped : (k ≡ 1) ⊎ HasOpen rest → length rest ≤ MAX_BYTES → HasNoTree rest → (text' : List ℕ) → text' ≡ text ++ no_tree_text k (length input - length rest) → IsShown form input text' 1
   progress_stopped why small none text' e = (
     refused || true,
     trees text' (refused || true) (small_whole small)
-        (subst (λ (x : List ℕ). Tells form (length input) 1 input x (refused || true)) (sym e) (p.far (syntax_text k (length input - length rest)) true (stopped k rest why none))),
+        (subst (λ (x : List ℕ). Tells form (length input) 1 input x (refused || true)) (sym e) (p.far (no_tree_text k (length input - length rest)) true (stopped k rest why none))),
     sym (ap (λ x. if x then 1 else 0) (or_true refused)),
   )
 

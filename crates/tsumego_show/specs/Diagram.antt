@@ -1,6 +1,6 @@
 -- The diagram of a problem as SVG 1.1: black and white as in books, the part of the board that matters, with the coordinates of
 -- editors. A cell is 24 wide; the middle of the first one is at 36, 36.
-use Rattle.std.specs.Prelude.{ℕ, zero, suc, ◌+◌, ◌-◌, ◌*◌, ◌&&◌, ◌||◌, not, max, min, nat_eq, nat_lt, Bool, false, List, [], ◌∷◌, ◌++◌, codes, decimal, Option, Some, None, if◌then◌else◌}
+use Rattle.std.specs.Prelude.{◌≡◌, ℕ, zero, suc, ◌+◌, ◌-◌, ◌*◌, ◌&&◌, ◌||◌, not, max, min, nat_eq, nat_lt, Bool, false, List, [], ◌∷◌, ◌++◌, codes, decimal, Option, Some, None, if◌then◌else◌}
 use Rattle.std.specs.List.{flat_map, range_with_len}
 use Rattle.std.specs.FinSet as set
 use Rattle.tt_sgf.specs.declared.size.Size.{Size}
@@ -13,7 +13,7 @@ use Rattle.tt_game.specs.Game.{side_colour}
 use Rattle.tt_game.specs.Line.{LineWithUndo}
 use Rattle.tt_game.specs.declared.turns.Turn.TheVariants.{Play, Pass}
 use Rattle.tt_game.specs.declared.turns.Turn.{Turn}
-use Rattle.tt_proof.specs.Proven.{first_of}
+use Rattle.tsumego_show.specs.Drawing.{BeginsWithTurn}
 use Rattle.tsumego_show.specs.Found.{Found, no_strategy, found}
 use Rattle.tsumego_show.specs.declared.windows.Along.{Along}
 use Rattle.tsumego_show.specs.declared.windows.Along.TheVariants.{Columns, Rows}
@@ -135,10 +135,11 @@ number_text x y k = stone_text x y k ++ digit_text x (y + 5) k
 
 -- ---- points
 
--- the first turn of the strategy that was found
-abbrev pub first_turn : Found → Option Turn
-first_turn no_strategy = None
-first_turn (found side u) = first_of u
+-- the turn with the number: the first of the strategy that was found, where its side is to move and the turn is legal
+abbrev pub IsNumbered : LineWithUndo → Found → Option Turn → Type 0
+IsNumbered p no_strategy first = first ≡ None
+IsNumbered p (found side u) None = (t : Turn) → BeginsWithTurn p side u t → ⊥
+IsNumbered p (found side u) (Some t) = BeginsWithTurn p side u t
 
 -- it is a play on q
 abbrev pub is_play_on : Option Turn → ℕ → Bool
@@ -238,6 +239,6 @@ module _ (p : LineWithUndo) (first : Option Turn) (w : Window) where
   drawing = svg_head w ++ (flat_map (column_shapes p.frame.size w) (range_with_len 0 (columns_shown w)) ++ (flat_map (row_shapes p.frame.size w) (range_with_len 0 (rows_shown w))
       ++ (flat_map points_shapes (range_with_len 0 (rows_shown w)) ++ codes "</svg>\n")))
 
--- the problem with the first turn of the strategy that was found
-abbrev pub svg_text : LineWithUndo → Found → List ℕ
-svg_text p b = drawing p (first_turn b) (window p)
+-- the problem with this first turn
+abbrev pub svg_text : LineWithUndo → Option Turn → List ℕ
+svg_text p first = drawing p first (window p)

@@ -1,16 +1,13 @@
 -- What to look at in a node that is refused: its points, or a value of it.
-use Rattle.std.specs.Prelude.{ℕ, ◌&&◌, ◌||◌, ◌==◌, nat_eq, nat_le, nat_lt, not, cond, Bool, false, List, [], ◌∷◌, ◌++◌, codes, length, Option, Some, None, Ok, Err, if◌then◌else◌}
+use Rattle.std.specs.Prelude.{ℕ, ◌&&◌, ◌||◌, nat_eq, nat_le, not, cond, Bool, false, List, [], ◌∷◌, ◌++◌, codes, length, Option, Some, None, Ok, Err, if◌then◌else◌}
 use Rattle.std.specs.List.{list_all}
 use Rattle.std.specs.declared.result.Result.{Result}
 use Rattle.std.specs.FinSet as set
-use lib.Pointwise.{pointwise}
 use Rattle.tt_sgf.specs.Bytes.{newline}
 use Rattle.tt_sgf.specs.declared.size.Size.{Size}
-use Rattle.tt_sgf.specs.declared.size.PointOrPass.{PointOrPass}
 use Rattle.tt_sgf.specs.declared.nodes.Node.{Node}
-use Rattle.tt_sgf.specs.declared.nodes.Property.{Property}
-use Rattle.tt_sgf.specs.Entries.{is_entry, set_of}
-use Rattle.tt_sgf.specs.Values.{point_of, trimmed}
+use Rattle.tt_sgf.specs.Entries.{is_entry}
+use Rattle.tt_sgf.specs.Values.{after_blanks, point_of, trimmed}
 use Rattle.tt_board.specs.declared.Colour.{Colour}
 use Rattle.tt_board.specs.declared.Colour.TheVariants.{Black, White}
 use Rattle.tt_board.specs.Play.{Points}
@@ -19,16 +16,11 @@ use Rattle.tt_game.specs.declared.faults.GameFault.TheVariants.{NotGo, BadSize, 
 use Rattle.tt_game.specs.declared.faults.GameFault.TheVariants.{TooManyTurns, NoTarget, EmptyTarget, MixedTargets, NoMemory}
 use Rattle.tt_game.specs.Faults.{code_of}
 use Rattle.tt_game.specs.Games.{GameState}
-use Rattle.tt_game.specs.Nodes.{AB, AE, AW, B, PL, SQ, SZ, TR, W, moves_in, size_named}
+use Rattle.tt_game.specs.Nodes.{AB, AE, AW, B, PL, SQ, SZ, TR, W, colour_at, moves_in, set_named, size_named, values_of}
 use Rattle.tt_game.specs.Problems.{asked_count, game_of, whole}
 use Rattle.tsumego_show.specs.Hints.{listed}
 use Rattle.tsumego_show.specs.Regions.{near, reached, stones}
 use Rattle.tsumego_show.specs.Variations.{bracketed}
-
--- the values of the first property of this name: SGF has no name twice in a node
-unfoldable pub first_values : List ℕ → List Property → List (List ℕ)
-first_values name [] = []
-first_values name (p ∷ ps) = cond (pointwise ◌==◌ p.ident name) p.values (first_values name ps)
 
 -- ---- points
 
@@ -38,9 +30,9 @@ some_points (Some s) = s
 
 module _ (size : Size) where
   module _ (n : Node) where
-    -- what a property names
+    -- what the properties of a name name
     unfoldable pub points_in : List ℕ → Points
-    points_in name = some_points (set_of size (first_values name n.properties))
+    points_in name = some_points (set_named size name n)
 
     -- what stands in two of AB, AW and AE
     unfoldable pub set_up_twice : Points
@@ -104,6 +96,11 @@ points_line e size front n =
 
 -- ---- values
 
+-- the value, where nothing is read from it
+abbrev pub if_unread : {A : Type 0} → List ℕ → Option A → Option (List ℕ)
+if_unread v None = Some v
+if_unread v (Some x) = None
+
 module _ (size : Size) where
   -- the first that names no point or rectangle
   unfoldable pub first_bad : List (List ℕ) → Option (List ℕ)
@@ -111,60 +108,84 @@ module _ (size : Size) where
   first_bad (v ∷ vs) = cond (is_entry size v) (first_bad vs) (Some v)
 
   -- the first, where it is neither a point nor a pass
-  abbrev pub if_unread : List ℕ → Option PointOrPass → Option (List ℕ)
-  if_unread v None = Some v
-  if_unread v (Some p) = None
-
   abbrev pub bad_move : List (List ℕ) → Option (List ℕ)
   bad_move [] = None
   bad_move (v ∷ vs) = if_unread v (point_of size (trimmed v))
 
--- the first
-abbrev pub head : List (List ℕ) → Option (List ℕ)
-head [] = None
-head (v ∷ vs) = Some v
+-- the first, where it is no colour
+abbrev pub bad_colour : List (List ℕ) → Option (List ℕ)
+bad_colour [] = None
+bad_colour (v ∷ vs) = if_unread v (colour_at (after_blanks v))
+
+-- a property and a value of it
+abbrev pub NamedValue : Type 0
+NamedValue = List ℕ × List ℕ
+
+-- the property with the value, where there is one, or else another
+abbrev pub named_or : List ℕ → Option (List ℕ) → Option NamedValue → Option NamedValue
+named_or name (Some v) other = Some (name, v)
+named_or name None other = other
+
+abbrev pub first_or : Option NamedValue → Option NamedValue → Option NamedValue
+first_or (Some v) other = Some v
+first_or None other = other
+
+module _ (size : Size) (n : Node) where
+  -- of a list of points
+  abbrev pub bad_in : List ℕ → Option (List ℕ)
+  bad_in name = first_bad size (values_of name n.properties)
+
+  abbrev pub bad_setup : Option NamedValue
+  bad_setup = named_or AB (bad_in AB) (named_or AW (bad_in AW) (named_or AE (bad_in AE) None))
+
+  abbrev pub bad_moves : Option NamedValue
+  bad_moves = named_or B (bad_move size (values_of B n.properties)) (named_or W (bad_move size (values_of W n.properties)) None)
+
+  -- PL is read where there is no move
+  abbrev pub bad_turn : Option NamedValue
+  bad_turn = if nat_le 1 (moves_in n) then bad_moves else named_or PL (bad_colour (values_of PL n.properties)) None
+
+  abbrev pub bad_marks : Option NamedValue
+  bad_marks = named_or TR (bad_in TR) (named_or SQ (bad_in SQ) None)
+
+  -- the first that can't be read, in the order in which a node is read
+  unfoldable pub bad_value : Option NamedValue
+  bad_value = first_or bad_setup (first_or bad_turn bad_marks)
+
+-- ---- how a value is written
+
+abbrev pub star : ℕ
+star = 42
+
+abbrev pub tilde : ℕ
+tilde = 126
 
 -- a byte from * to ~
 abbrev pub is_plain : ℕ → Bool
-is_plain b = nat_lt 41 b && nat_lt b 127
+is_plain b = nat_le star b && nat_le b tilde
+
+-- the longest value that is written
+abbrev pub most_bytes : ℕ
+most_bytes = 20
 
 -- a value; dots for a long one, and for one with other bytes
 unfoldable pub plain_value : List ℕ → List ℕ
-plain_value v = if nat_le (length v) 20 && list_all is_plain v then v else codes ".."
+plain_value v = if nat_le (length v) most_bytes && list_all is_plain v then v else codes ".."
 
--- the property with its value, where there is one, or else other words
-abbrev pub value_or : List ℕ → Option (List ℕ) → List ℕ → List ℕ
-value_or name (Some v) other = codes "look at: " ++ (name ++ (bracketed (plain_value v) ++ newline ∷ []))
-value_or name None other = other
-
-module _ (size : Size) (n : Node) where
-  abbrev pub bad_in : List ℕ → Option (List ℕ)
-  bad_in name = first_bad size (first_values name n.properties)
-
-  -- of a list of points
-  abbrev pub list_line : List ℕ → List ℕ
-  list_line other = value_or AB (bad_in AB) (value_or AW (bad_in AW) (value_or AE (bad_in AE) (value_or TR (bad_in TR) (value_or SQ (bad_in SQ) other))))
-
-  -- of a move, or else the colour of PL
-  abbrev pub mover_line : List ℕ
-  mover_line =
-      value_or B (bad_move size (first_values B n.properties)) (value_or W (bad_move size (first_values W n.properties))
-      (value_or PL (head (first_values PL n.properties)) []))
-
-  -- the value that can't be read; where no other is bad it is that of PL
-  unfoldable pub bad_value_line : List ℕ
-  bad_value_line = list_line mover_line
+abbrev pub bad_value_line : Option NamedValue → List ℕ
+bad_value_line None = []
+bad_value_line (Some v) = codes "look at: " ++ (v.0 ++ (bracketed (plain_value v.1) ++ newline ∷ []))
 
 -- ---- the line, which a newline ends
 
 -- the size of the board
 abbrev pub first_size : List Node → Node → Option Size
-first_size [] n = size_named (first_values SZ n.properties)
-first_size (m ∷ ms) n = size_named (first_values SZ m.properties)
+first_size [] n = size_named (values_of SZ n.properties)
+first_size (m ∷ ms) n = size_named (values_of SZ m.properties)
 
 abbrev pub look_on : GameFault → List Node → Node → Option Size → List ℕ
 look_on e front n None = []
-look_on e front n (Some size) = if nat_eq (code_of e) (code_of BadValue) then bad_value_line size n else points_line e size front n
+look_on e front n (Some size) = if nat_eq (code_of e) (code_of BadValue) then bad_value_line (bad_value size n) else points_line e size front n
 
 -- what to look at in a node that is refused so, with those nodes in front
 abbrev pub look_line : GameFault → List Node → Node → List ℕ

@@ -1,4 +1,5 @@
 -- What public contracts cite.
+pub mod CommandLine
 pub mod Diagram
 pub mod Drawing
 pub mod Faulty

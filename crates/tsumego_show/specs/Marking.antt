@@ -1,5 +1,7 @@
 -- The marks that are proposed for a problem without them, and what is written then.
-use Rattle.std.specs.Prelude.{ℕ, zero, suc, ◌+◌, ◌-◌, ◌*◌, ◌&&◌, ◌||◌, nat_eq, nat_lt, nat_le, Bool, true, false, List, [], ◌∷◌, ◌++◌, codes, drop, take, Option, Some, None, Ok, Err, if◌then◌else◌}
+use Rattle.std.specs.Prelude.{ℕ, zero, suc, ◌+◌, ◌-◌, ◌*◌, ◌&&◌, ◌||◌, nat_lt, nat_le, Bool, true, false, if◌then◌else◌, Option, Some, None, Ok, Err}
+use Rattle.std.specs.Prelude.{List, [], ◌∷◌, ◌++◌, codes, drop, length, take, slice_get}
+use Rattle.std.specs.List.{list_any}
 use Rattle.std.specs.declared.result.Result.{Result}
 use Rattle.std.specs.FinSet as set
 use Rattle.tt_sgf.specs.declared.size.Size.{Size}
@@ -13,6 +15,7 @@ use Rattle.tt_game.specs.declared.faults.GameFault.TheVariants.{NoTarget}
 use Rattle.tt_game.specs.Faults.{code_of}
 use Rattle.tt_game.specs.Games.{GameState}
 use Rattle.tt_game.specs.Line.{LineWithUndo}
+use Rattle.tt_game.specs.Nodes.{SQ, TR, has}
 use Rattle.tt_sgf.specs.Bytes.{newline}
 use Rattle.tt_game.specs.Problems.{asked_count, game_of, posed}
 use Rattle.tsumego_show.specs.declared.form.Place.{Place}
@@ -25,6 +28,24 @@ use Rattle.tsumego_show.specs.Refusals.{fault_text, refusal_line}
 use Rattle.tsumego_show.specs.Regions.{around, is_closed, is_inner, region, ways_out}
 use Rattle.tsumego_show.specs.TreeBytes.{behind_semicolon, from_open, kept_text}
 use Rattle.tsumego_show.specs.Variations.{list_text}
+
+-- ---- which marks are there
+
+-- the nodes up to where a main line asks
+abbrev pub asked_nodes : List Node → List Node
+asked_nodes ns = take (asked_count false ns) ns
+
+-- one of them has triangles
+abbrev pub has_triangles : List Node → Bool
+has_triangles ns = list_any (has TR) (asked_nodes ns)
+
+abbrev pub has_in : List ℕ → Option Node → Bool
+has_in name None = false
+has_in name (Some n) = has name n
+
+-- the last of them, which is to get the marks, has squares
+abbrev pub has_squares : List Node → Bool
+has_squares ns = has_in SQ (slice_get (asked_nodes ns) (length (asked_nodes ns) - 1))
 
 -- ---- which stone
 
@@ -67,6 +88,10 @@ module _ (s : GameState) where
   chosen None = fewest (point_count s.size)
   chosen (Some place) = closed_on (placed_point s.size place)
 
+  -- where there are squares none is proposed: two regions would be one
+  abbrev pub proposed : Bool → Option Place → Option Proposal
+  proposed is_squared place = if is_squared then None else chosen place
+
   -- the problem that the mark makes of the game
   abbrev pub marked : Proposal → LineWithUndo
   marked m = posed s m.region (set.insert set.empty m.stone) m.colour
@@ -87,6 +112,9 @@ marked_text n p tree = hints p ++ with_marks n p (from_open tree)
 
 -- ---- why nothing is marked
 
+abbrev pub squared_line : List ℕ
+squared_line = codes "squares stand there already: put a triangle on a stone of the group, or take SQ out\n"
+
 abbrev pub open_words : List ℕ
 open_words = codes "no wall leaves the group 2 to 40 points: put stones of the wall on some of these, or mark by hand:"
 
@@ -105,33 +133,36 @@ module _ (s : GameState) where
   why_on (Some q) = why_at q (entry_at s.present q)
 
   abbrev pub why_not : Option Place → List ℕ
-  why_not None = codes "no group is enclosed: close the wall, or name a stone of the group\n"
+  why_not None = codes "no group is enclosed with 2 to 40 points: close the wall, or name a stone of the group\n"
   why_not (Some place) = why_on (placed_point s.size place)
+
+  abbrev pub why_left : Bool → Option Place → List ℕ
+  why_left is_squared place = if is_squared then squared_line else why_not place
 
   -- ---- tree number k
 
   -- what is written of the game with this mark in the node of this number, or without one
-  abbrev pub with_mark : Option Place → ℕ → ℕ → List ℕ → Option Proposal → List ℕ
-  with_mark place k n tree None = refusal_line k (code_of NoTarget) ++ (codes "why: " ++ (why_not place ++ kept_text tree))
-  with_mark place k n tree (Some m) = marked_text n (marked s m) tree
+  abbrev pub with_mark : Bool → Option Place → ℕ → ℕ → List ℕ → Option Proposal → List ℕ
+  with_mark is_squared place k n tree None = refusal_line k (code_of NoTarget) ++ (codes "why: " ++ (why_left is_squared place ++ kept_text tree))
+  with_mark is_squared place k n tree (Some m) = marked_text n (marked s m) tree
 
--- what is written of a main line without a target: it comes to a game, or is refused
+-- what is written of a main line without triangles: up to where it asks it comes to a game, or is refused
 abbrev pub game_marked : Option Place → ℕ → List ℕ → List Node → Result GameState GameFault → List ℕ
-game_marked place k tree ns (Ok s) = with_mark s place k (asked_count false ns) tree (chosen s place)
+game_marked place k tree ns (Ok s) = with_mark s (has_squares ns) place k (asked_count false ns) tree (proposed s (has_squares ns) place)
 game_marked place k tree ns (Err e) = fault_text k ns e ++ kept_text tree
 
--- what is written of a main line that is no problem: where it isn't marked, the tree as it was stands behind the lines
+-- what is written of a main line that is no problem, by this fault: where nothing is proposed, the tree as it was stands behind the lines
 abbrev pub line_marked : Option Place → ℕ → List ℕ → List Node → GameFault → List ℕ
-line_marked place k tree ns e = if nat_eq (code_of e) (code_of NoTarget) then game_marked place k tree ns (game_of ns) else fault_text k ns e ++ kept_text tree
+line_marked place k tree ns e = if has_triangles ns then fault_text k ns e ++ kept_text tree else game_marked place k tree ns (game_of ns)
 
 -- and whether it is refused
 abbrev pub has_no_mark : Option Proposal → Bool
 has_no_mark None = true
 has_no_mark (Some m) = false
 
-abbrev pub is_game_left : Option Place → Result GameState GameFault → Bool
-is_game_left place (Ok s) = has_no_mark (chosen s place)
-is_game_left place (Err e) = true
+abbrev pub is_game_left : Bool → Option Place → Result GameState GameFault → Bool
+is_game_left is_squared place (Ok s) = has_no_mark (proposed s is_squared place)
+is_game_left is_squared place (Err e) = true
 
-abbrev pub is_left : Option Place → List Node → GameFault → Bool
-is_left place ns e = if nat_eq (code_of e) (code_of NoTarget) then is_game_left place (game_of ns) else true
+abbrev pub is_left : Option Place → List Node → Bool
+is_left place ns = if has_triangles ns then true else is_game_left (has_squares ns) place (game_of ns)

@@ -78,8 +78,8 @@ fault_text k ns e = refusal_line k (code_of e) ++ (codes "why: " ++ why_text e n
 -- ---- inputs that are no game trees
 
 -- the lines on bytes of which the first n belong to other trees, where no tree can be read behind them; bytes count from 1
-abbrev pub syntax_text : ℕ → ℕ → List ℕ
-syntax_text k n =
+abbrev pub no_tree_text : ℕ → ℕ → List ℕ
+no_tree_text k n =
     refusal_line k 1 ++ (codes "why: from byte " ++ (decimal (n + 1) ++ codes " on no game tree can be read: a bracket is missing, or the ] of a value\n"))
 
 -- the lines on an input that is too long

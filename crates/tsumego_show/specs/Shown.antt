@@ -1,23 +1,24 @@
 -- What is written for an input: a text on each of its game trees.
-use Rattle.std.specs.Prelude.{◌≡◌, ◌⊎◌, ◌+◌, ◌-◌, ◌<◌, ◌≤◌, ℕ, Bool, true, false, ◌&&◌, ◌||◌, not, nat_eq, List, [], ◌∷◌, ◌++◌, length, drop, take, codes, decimal, Ok, Err, if◌then◌else◌}
+use Rattle.std.specs.Prelude.{◌≡◌, ◌⊎◌, ◌+◌, ◌-◌, ◌<◌, ◌≤◌, ℕ, Bool, true, false, ◌&&◌, ◌||◌, not, nat_eq, List, [], ◌∷◌, ◌++◌, length, drop, take, codes, decimal, Option, Ok, Err, if◌then◌else◌}
 use Rattle.std.specs.declared.result.Result.{Result}
 use Rattle.tt_sgf.specs.declared.trees.TheConstants.{MAX_BYTES}
 use Rattle.tt_sgf.specs.Bytes.{space}
 use Rattle.tt_sgf.specs.declared.nodes.Node.{Node}
 use Rattle.tt_sgf.specs.Grammar.{GameTree, HasNoTree, HasOpen, FirstTreeEndsAt, main_line}
 use Rattle.tt_game.specs.declared.faults.GameFault.{GameFault}
+use Rattle.tt_game.specs.declared.turns.Turn.{Turn}
 use Rattle.tt_game.specs.Line.{LineWithUndo}
 use Rattle.tt_game.specs.Problems.{problem_of}
 use Rattle.tt_sgf.specs.Values.{trimmed}
 use Rattle.tsumego_show.specs.declared.form.Form.{Form}
 use Rattle.tsumego_show.specs.declared.form.Form.TheVariants.{Picture, Diagram, Marks, Variations}
-use Rattle.tsumego_show.specs.Diagram.{svg_text}
+use Rattle.tsumego_show.specs.Diagram.{IsNumbered, svg_text}
 use Rattle.tsumego_show.specs.Drawing.{DrawsCertificate}
 use Rattle.tsumego_show.specs.Found.{Found, StandsBehind}
 use Rattle.tsumego_show.specs.Hints.{hints}
 use Rattle.tsumego_show.specs.Marking.{is_left, line_marked}
 use Rattle.tsumego_show.specs.Picture.{picture}
-use Rattle.tsumego_show.specs.Refusals.{fault_text, length_text, syntax_text}
+use Rattle.tsumego_show.specs.Refusals.{fault_text, length_text, no_tree_text}
 use Rattle.tsumego_show.specs.TreeBytes.{from_open, is_nil, kept_text}
 use Rattle.tsumego_show.specs.Variations.{sgf_text}
 
@@ -38,7 +39,12 @@ several_line k = decimal k ++ codes " not drawn: give each problem a file of its
 -- the diagram of a problem that is alone, with the strategy that stands behind it
 abbrev pub IsDiagram : Bool → ℕ → LineWithUndo → List ℕ → List ℕ → Type 0
 IsDiagram false k p behind text = text ≡ several_line k
-IsDiagram true k p behind text = (b : Found) × StandsBehind p.frame.size behind b × (text ≡ svg_text p b)
+IsDiagram true k p behind text = (b : Found) × (first : Option Turn) × StandsBehind p.frame.size behind b × IsNumbered p b first × (text ≡ svg_text p first)
+
+-- what is said where no strategy stands behind a problem
+abbrev pub without_strategy : List ℕ → List ℕ
+without_strategy behind =
+    if is_nil (from_open behind) && not (is_nil (trimmed behind)) then codes "what follows is no certificate" else codes "no certificate follows"
 
 -- the number, the picture and the hints
 abbrev pub problem_text : ℕ → LineWithUndo → List ℕ
@@ -49,7 +55,7 @@ problem_text k p = decimal k ++ (space ∷ (picture p ++ hints p))
 abbrev pub IsProblemText : Form → ℕ → List ℕ → LineWithUndo → List ℕ → List ℕ → Type 0
 IsProblemText Picture k tree p behind text = (drawn : List ℕ) × DrawsBehind p behind drawn × (text ≡ problem_text k p ++ drawn)
 IsProblemText Diagram k tree p behind text = IsDiagram (is_alone k behind) k p behind text
-IsProblemText (Variations depth) k tree p behind text = (b : Found) × StandsBehind p.frame.size behind b × (text ≡ sgf_text p depth b)
+IsProblemText (Variations depth) k tree p behind text = (b : Found) × StandsBehind p.frame.size behind b × (text ≡ sgf_text p depth (without_strategy behind) b)
 IsProblemText (Marks place) k tree p behind text = text ≡ kept_text tree
 
 -- the text on tree number k with these bytes, whose main line is no problem, and whether it is refused: where marks are wanted and it has none, they may be proposed
@@ -59,11 +65,11 @@ fault_told Diagram k tree ns e = fault_text k ns e
 fault_told (Variations depth) k tree ns e = fault_text k ns e
 fault_told (Marks place) k tree ns e = line_marked place k tree ns e
 
-abbrev pub is_fault_left : Form → List Node → GameFault → Bool
-is_fault_left Picture ns e = true
-is_fault_left Diagram ns e = true
-is_fault_left (Variations depth) ns e = true
-is_fault_left (Marks place) ns e = is_left place ns e
+abbrev pub is_fault_left : Form → List Node → Bool
+is_fault_left Picture ns = true
+is_fault_left Diagram ns = true
+is_fault_left (Variations depth) ns = true
+is_fault_left (Marks place) ns = is_left place ns
 
 -- the text on tree number k with these bytes, whose main line is a problem or refused, and which is followed by the others
 abbrev pub IsTreeText : Form → ℕ → List ℕ → List Node → Result LineWithUndo GameFault → List ℕ → List ℕ → Type 0
@@ -79,7 +85,7 @@ is_one_of_several (Marks place) k behind = false
 
 abbrev pub is_tree_refused : Form → ℕ → List Node → Result LineWithUndo GameFault → List ℕ → Bool
 is_tree_refused form k ns (Ok p) behind = is_one_of_several form k behind
-is_tree_refused form k ns (Err e) behind = is_fault_left form ns e
+is_tree_refused form k ns (Err e) behind = is_fault_left form ns
 
 -- The text on bytes at the end of an input of so many, whose first tree has number k, and whether something is refused: a tree
 -- and what follows it; or no tree is left, and none was wanted; or none is spelled where one is wanted: at a `(`, or where no
@@ -89,7 +95,7 @@ pub data Tells (form : Form) (whole : ℕ) : ℕ → List ℕ → List ℕ → B
       → IsTreeText form k (take count bytes) (main_line t) (problem_of (main_line t)) (drop count bytes) text → Tells form whole (k + 1) (drop count bytes) more refused
       → Tells form whole k bytes (text ++ more) (is_tree_refused form k (main_line t) (problem_of (main_line t)) (drop count bytes) || refused)
   ended : (k : ℕ) (bytes : List ℕ) → 1 < k → (HasOpen bytes → ⊥) → Tells form whole k bytes [] false
-  stopped : (k : ℕ) (bytes : List ℕ) → (k ≡ 1) ⊎ HasOpen bytes → HasNoTree bytes → Tells form whole k bytes (syntax_text k (whole - length bytes)) true
+  stopped : (k : ℕ) (bytes : List ℕ) → (k ≡ 1) ⊎ HasOpen bytes → HasNoTree bytes → Tells form whole k bytes (no_tree_text k (whole - length bytes)) true
 
 -- the text for an input, and whether something is refused: the input is too long, or its trees are told from number 1 on
 pub data IsInputText (form : Form) (input : List ℕ) : List ℕ → Bool → Type 0 where

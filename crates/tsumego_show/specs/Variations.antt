@@ -118,14 +118,19 @@ module _ (f : Frame) where
   abbrev pub legal_text : State → Turn → List ℕ → List ℕ
   legal_text s t behind = if is_legal f s t then move_text f.size (side_colour f s.to_move) t ++ (behind ++ close_tree ∷ []) else []
 
+  -- the turns, or the end where none is written
+  abbrev pub or_ending : State → List ℕ → List ℕ
+  or_ending s [] = ending_text (winner_of f s)
+  or_ending s (b ∷ bs) = b ∷ bs
+
   abbrev mutual
     -- what follows a position, to so many turns: the end; the side's turn; or each turn of the other side
     pub variations : State → Strategy → ℕ → List ℕ
     variations s done n = ending_text (winner_of f s)
     variations s (pick t u) zero = cut_text
-    variations s (pick t u) (suc n) = legal_text s t (variations (after f s t) u n)
+    variations s (pick t u) (suc n) = or_ending s (legal_text s t (variations (after f s t) u n))
     variations s (reply es) zero = cut_text
-    variations s (reply es) (suc n) = reply_variations s es n
+    variations s (reply es) (suc n) = or_ending s (reply_variations s es n)
 
     -- each turn of the other side, and so many turns behind it
     pub reply_variations : State → Entries → ℕ → List ℕ
@@ -159,14 +164,14 @@ shown_depth depth u = greatest (λ n. nat_le (turns_within u n) most_moves) (dep
 -- ---- the whole tree
 
 module _ (p : LineWithUndo) where
-  -- whose strategy it is
-  abbrev pub owner_text : Found → List ℕ
-  owner_text no_strategy = codes "no certificate follows"
-  owner_text (found side u) = colour_name (side_colour p.frame side) ++ codes "'s strategy"
+  -- whose strategy it is, or these words where there is none
+  abbrev pub owner_text : List ℕ → Found → List ℕ
+  owner_text without no_strategy = without
+  owner_text without (found side u) = colour_name (side_colour p.frame side) ++ codes "'s strategy"
 
   -- `N[White's strategy, after 1 earlier position]`
-  abbrev pub name_property : Found → List ℕ
-  name_property b = codes "N[" ++ (owner_text b ++ (earlier_text (length p.state.earlier) ++ close_value ∷ []))
+  abbrev pub name_property : List ℕ → Found → List ℕ
+  name_property without b = codes "N[" ++ (owner_text without b ++ (earlier_text (length p.state.earlier) ++ close_value ∷ []))
 
   -- the variations of the strategy that was found
   abbrev pub found_variations : ℕ → Found → List ℕ
@@ -174,5 +179,5 @@ module _ (p : LineWithUndo) where
   found_variations depth (found side u) = variations p.frame p.state u (shown_depth depth u)
 
   -- the problem with the strategy that was found, to so many turns deep at the most
-  abbrev pub sgf_text : ℕ → Found → List ℕ
-  sgf_text depth b = root_text p ++ (name_property b ++ (found_variations depth b ++ codes ")\n"))
+  abbrev pub sgf_text : ℕ → List ℕ → Found → List ℕ
+  sgf_text depth without b = root_text p ++ (name_property without b ++ (found_variations depth b ++ codes ")\n"))

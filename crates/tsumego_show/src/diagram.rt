@@ -1,14 +1,16 @@
 //! The diagram of a problem as SVG.
-ghost use Rattle.std.specs.Prelude.{◌≡◌, ◌++◌, ◌<◌, ◌≤◌, OnOk, Some};
+ghost use Rattle.std.specs.Prelude.{◌≡◌, ◌++◌, ◌<◌, ◌≤◌, IfSome, OnOk, Some};
 ghost use Rattle.std.specs.List.{flat_map, range_with_len};
 ghost use Rattle.tt_sgf.specs.Sizes.{point_count};
 ghost use Rattle.tt_board.specs.Reach.{entry_at};
+ghost use Rattle.tt_proof.specs.Strategy.{IsInOrder, strategy_of};
 ghost use Rattle.tsumego_show.specs.inside.Trees.{found_of};
 ghost use Rattle.tsumego_show.specs.inside.Windows.{IsWindow};
-ghost use Rattle.tsumego_show.specs.Diagram.{bottom_end, cell_shapes, column_shapes, column_stroke, columns_shown, digit_text, entry_text, numbered_text, first_turn, further, has_square, ink, is_play_on};
+ghost use Rattle.tsumego_show.specs.Diagram.{bottom_end, cell_shapes, column_shapes, column_stroke, columns_shown, digit_text, entry_text, numbered_text, IsNumbered, further, has_square, ink, is_play_on};
 ghost use Rattle.tsumego_show.specs.Diagram.{mark_ground, mark_ink, mark_text, number_end, number_head, number_text, point_shapes, points_shapes, right_end, row_shapes, row_stroke, rows_shown, square_text, stone_head, stone_text};
 ghost use Rattle.tsumego_show.specs.Diagram.{svg_head, svg_text, triangle_head, triangle_text};
 
+use crate::opening::first_turn;
 use crate::picture::{column_letter, side_colour};
 use crate::points::{is_inside, is_target, point_numbered};
 use crate::windows::{Window, number_at, window_of};
@@ -504,34 +506,34 @@ fn put_head(alloc: Global, out: &mut Vec<u8>, size: Size, w: Window) -> Result<(
     Ok(())
 }
 
-/// The first turn of the strategy that was found.
-fn first_turn(found: &Option<(Side, Tree)>) -> Option<Turn>
-    ensures { result ≡ first_turn (found_of found.now) }
+/// The turn that gets the number: the first of the strategy that was found, where its side is to move and the turn is legal.
+pub fn numbered_turn(line: &Line, found: &Option<(Side, Tree)>) -> Option<Turn>
+    requires { IfSome found.now (λ f. IsInOrder line.now.frame.size (strategy_of f.1)) }
+    ensures { IsNumbered line.now (found_of found.now) result }
 {
     match found {
         None => None,
-        Some((_, tree)) => tree.first(),
+        Some((side, tree)) => first_turn(line, *side, tree),
     }
 }
 
 /// Writes the diagram of the problem at a line as SVG behind the text: what matters of the board, with the coordinates of editors,
-/// the targets and the region marked, and the first turn of the strategy that was found as a stone with the number 1.
+/// the targets and the region marked, and the first turn, where it is a play, as a stone with the number 1.
 /// `NoMemory` where memory was refused; a part may stand there then.
 pub fn put_svg(
     alloc: Global,
     out: &mut Vec<u8>,
     line: &Line,
-    found: &Option<(Side, Tree)>,
+    first: &Option<Turn>,
 ) -> Result<(), NoMemory>
-    ensures { OnOk result (out.new.items ≡ out.old.items ++ svg_text line.now (found_of found.now)) }
+    ensures { OnOk result (out.new.items ≡ out.old.items ++ svg_text line.now first.now) }
 {
     let size = line.frame().size;
     let w = window_of(line);
     put_head(alloc, out, size, w)?;
     put_columns(alloc, out, size, w)?;
     put_rows(alloc, out, size, w)?;
-    let first = first_turn(found);
-    put_all_points(alloc, out, line, &first, w)?;
+    put_all_points(alloc, out, line, first, w)?;
     out.extend_from_slice(b"</svg>\n")?;
     Ok(())
 }

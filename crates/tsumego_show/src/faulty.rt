@@ -1,18 +1,22 @@
 //! What to look at in a node that is refused.
-ghost use Rattle.std.specs.Prelude.{◌≡◌, ◌++◌, ℕ, List, [], IfOk, MatchOption, OnOk, None, Some};
+ghost use Rattle.std.specs.Prelude.{◌≡◌, ◌++◌, if◌then◌else◌, IfOk, MatchOption, OnOk, None, Some};
 ghost use Rattle.std.specs.List.{list_all};
 ghost use Rattle.tt_board.specs.declared.Colour.TheVariants.{Black, White};
 ghost use Rattle.tt_game.specs.Problems.{game_of};
-ghost use Rattle.tsumego_show.specs.Faulty.{are_known, bad_in, bad_move, blacks_behind, first_bad, first_size, first_values, head, is_plain, is_setup_fault, list_line, look_line, moved_on, mover_line};
-ghost use Rattle.tsumego_show.specs.Faulty.{plain_value, points_at_fault, points_in, points_line, set_up_twice, stones_before, vacant, bad_value_line, value_or, whites_behind, without_liberty};
+ghost use Rattle.tt_sgf.specs.Values.{after_blanks};
+ghost use Rattle.tt_game.specs.Nodes.{PL, colour_at, values_of};
+ghost use Rattle.tsumego_show.specs.Faulty.{are_known, bad_colour, bad_in, bad_marks, bad_move, bad_moves, bad_setup, bad_turn, bad_value, blacks_behind, first_bad, first_size, if_unread, is_plain, is_setup_fault, look_line, moved_on, named_or};
+ghost use Rattle.tsumego_show.specs.Faulty.{plain_value, points_at_fault, points_in, points_line, set_up_twice, stones_before, vacant, bad_value_line, whites_behind, without_liberty};
 
 use crate::hints::put_listed;
-use crate::node_values::{asked_count, first_values, has_move};
+use crate::node_values::first_value;
 use crate::regions::{near, reached, stones};
 use std::alloc::Global;
 use tt_board::Colour;
-use tt_game::{GameFault, asked_game};
-use tt_sgf::{MainLine, NoMemory, Node, PointSet, Size, SmallBytes, board_size, point, point_set};
+use tt_game::{GameFault, asked_count, asked_game, has_move, named_set};
+use tt_sgf::{
+    MainLine, NoMemory, Node, PointSet, Size, SmallBytes, board_size, point, point_set, skip_blanks,
+};
 
 /// The longest value that is written as it is.
 const MOST_BYTES: usize = 20;
@@ -24,12 +28,12 @@ pub struct Stones {
     pub whites: PointSet,
 }
 
-/// What the first property of this name names, where all of its values are read.
+/// What the properties of this name name, where all of their values are read.
 #[tactic(auto, unfolding(crate::specs::Faulty::points_in))]
 fn points_in(size: Size, node: &Node, name: &[u8]) -> PointSet
     ensures { result ≡ points_in size node.now name.now }
 {
-    match point_set(first_values(node.properties.as_slice(), name), size) {
+    match named_set(node.properties.as_slice(), name, size) {
         Ok(points) => points,
         Err(_) => PointSet::empty(),
     }
@@ -131,7 +135,10 @@ fn stones_before(alloc: Global, front: &MainLine) -> Result<Stones, NoMemory>
 fn is_setup_fault(fault: GameFault) -> bool
     ensures { result ≡ is_setup_fault fault }
 {
-    fault.code() == 15 || fault.code() == 22 || fault.code() == 23
+    matches!(
+        fault,
+        GameFault::LifelessStone | GameFault::EmptyTarget | GameFault::MixedTargets
+    )
 }
 
 /// Whether the stones behind a node are known.
@@ -176,25 +183,6 @@ fn first_bad(size: Size, values: &[SmallBytes]) -> Option<&[u8]>
     None
 }
 
-/// The first value, where it is neither a point nor a pass.
-fn bad_move(size: Size, values: &[SmallBytes]) -> Option<&[u8]>
-    ensures { MatchOption result (bad_move size values.now ≡ None) (λ v. bad_move size values.now ≡ Some v.now) }
-{
-    let (value, _) = values.split_first()?;
-    match point(value.as_slice(), size) {
-        Some(_) => None,
-        None => Some(value.as_slice()),
-    }
-}
-
-/// The first value.
-fn head(values: &[SmallBytes]) -> Option<&[u8]>
-    ensures { MatchOption result (head values.now ≡ None) (λ v. head values.now ≡ Some v.now) }
-{
-    let (value, _) = values.split_first()?;
-    Some(value.as_slice())
-}
-
 /// Whether all bytes are from * to ~.
 #[tactic(auto, using(crate::proofs::Nodes::plain_none, crate::proofs::Nodes::plain_no, crate::proofs::Nodes::plain_yes))]
 fn are_plain(value: &[u8]) -> bool
@@ -202,7 +190,7 @@ fn are_plain(value: &[u8]) -> bool
 {
     let mut rest = value;
     while let Some((byte, behind)) = rest.split_first() {
-        if *byte < 42 || 126 < *byte {
+        if *byte < b'*' || b'~' < *byte {
             return false;
         }
         rest = behind;
@@ -222,9 +210,120 @@ fn plain_value(value: &[u8]) -> &[u8]
     }
 }
 
-/// Writes a property with its value behind the text.
+/// The first value of the properties of this name that names no point or rectangle.
+#[tactic(auto, using(crate::proofs::Nodes::bad_nowhere, crate::proofs::Nodes::bad_in_first, crate::proofs::Nodes::bad_in_others, crate::proofs::Nodes::bad_in_other))]
+fn bad_in<'a>(size: Size, node: &'a Node, name: &[u8]) -> Option<&'a [u8]>
+    ensures { MatchOption result (bad_in size node.now name.now ≡ None) (λ v. bad_in size node.now name.now ≡ Some v.now) }
+{
+    let mut rest = node.properties.as_slice();
+    while let Some((property, behind)) = rest.split_first() {
+        if property.ident.as_slice() == name {
+            if let Some(value) = first_bad(size, property.values.as_slice()) {
+                return Some(value);
+            }
+        }
+        rest = behind;
+    }
+    None
+}
+
+/// A property by its name, and a value of it.
+type NamedValue<'a> = (&'static [u8], &'a [u8]);
+
+/// The first value of what a node sets up that can't be read.
+fn bad_setup(size: Size, node: &Node) -> Option<NamedValue<'_>>
+    ensures { MatchOption result (bad_setup size node.now ≡ None) (λ r. bad_setup size node.now ≡ Some (r.0.now, r.1.now)) }
+{
+    if let Some(value) = bad_in(size, node, b"AB") {
+        return Some((b"AB", value));
+    }
+    if let Some(value) = bad_in(size, node, b"AW") {
+        return Some((b"AW", value));
+    }
+    Some((b"AE", bad_in(size, node, b"AE")?))
+}
+
+/// The value of a move of this colour that is neither a point nor a pass.
+fn bad_move<'a>(size: Size, node: &'a Node, name: &[u8]) -> Option<&'a [u8]>
+    ensures { MatchOption result (bad_move size (values_of name.now node.now.properties) ≡ None) (λ v. bad_move size (values_of name.now node.now.properties) ≡ Some v.now) }
+{
+    let value = first_value(node.properties.as_slice(), name)?;
+    match point(value, size) {
+        Some(_) => None,
+        None => Some(value),
+    }
+}
+
+/// Whether a value is a colour, by its first letter.
+fn is_colour(value: &[u8]) -> bool
+    ensures { if_unread value.now (colour_at (after_blanks value.now)) ≡ (if result then None else Some value.now) }
+{
+    match skip_blanks(value).split_first() {
+        Some((letter, _)) => {
+            *letter == b'B' || *letter == b'b' || *letter == b'W' || *letter == b'w'
+        }
+        None => false,
+    }
+}
+
+/// The value of PL that is no colour.
+fn bad_colour(node: &Node) -> Option<&[u8]>
+    ensures { MatchOption result (bad_colour (values_of PL node.now.properties) ≡ None) (λ v. bad_colour (values_of PL node.now.properties) ≡ Some v.now) }
+{
+    let value = first_value(node.properties.as_slice(), b"PL")?;
+    if is_colour(value) {
+        return None;
+    }
+    Some(value)
+}
+
+/// The value of a move that can't be read.
+fn bad_moves(size: Size, node: &Node) -> Option<NamedValue<'_>>
+    ensures { MatchOption result (bad_moves size node.now ≡ None) (λ r. bad_moves size node.now ≡ Some (r.0.now, r.1.now)) }
+{
+    if let Some(value) = bad_move(size, node, b"B") {
+        return Some((b"B", value));
+    }
+    Some((b"W", bad_move(size, node, b"W")?))
+}
+
+/// The value of a move that can't be read, or of PL, which is read where there is no move.
+fn bad_turn(size: Size, node: &Node) -> Option<NamedValue<'_>>
+    ensures { MatchOption result (bad_turn size node.now ≡ None) (λ r. bad_turn size node.now ≡ Some (r.0.now, r.1.now)) }
+{
+    if has_move(node) {
+        return bad_moves(size, node);
+    }
+    Some((b"PL", bad_colour(node)?))
+}
+
+/// The first value of a mark that can't be read.
+fn bad_marks(size: Size, node: &Node) -> Option<NamedValue<'_>>
+    ensures { MatchOption result (bad_marks size node.now ≡ None) (λ r. bad_marks size node.now ≡ Some (r.0.now, r.1.now)) }
+{
+    if let Some(value) = bad_in(size, node, b"TR") {
+        return Some((b"TR", value));
+    }
+    Some((b"SQ", bad_in(size, node, b"SQ")?))
+}
+
+/// The first value of a node that can't be read.
+#[tactic(auto, unfolding(crate::specs::Faulty::bad_value))]
+fn bad_value(size: Size, node: &Node) -> Option<NamedValue<'_>>
+    ensures { MatchOption result (bad_value size node.now ≡ None) (λ r. bad_value size node.now ≡ Some (r.0.now, r.1.now)) }
+{
+    if let Some(found) = bad_setup(size, node) {
+        return Some(found);
+    }
+    if let Some(found) = bad_turn(size, node) {
+        return Some(found);
+    }
+    bad_marks(size, node)
+}
+
+/// Writes a property and its value behind the text.
 fn put_value(out: &mut Vec<u8>, name: &[u8], value: &[u8]) -> Result<(), NoMemory>
-    ensures { (other : List ℕ) → OnOk result (out.new.items ≡ out.old.items ++ value_or name.now (Some value.now) other) }
+    ensures { OnOk result (out.new.items ≡ out.old.items ++ bad_value_line (Some (name.now, value.now))) }
 {
     out.extend_from_slice(b"look at: ")?;
     out.extend_from_slice(name)?;
@@ -234,55 +333,11 @@ fn put_value(out: &mut Vec<u8>, name: &[u8], value: &[u8]) -> Result<(), NoMemor
     Ok(())
 }
 
-/// The first value of a property that names no point or rectangle.
-fn bad_in<'a>(size: Size, node: &'a Node, name: &[u8]) -> Option<&'a [u8]>
-    ensures { MatchOption result (bad_in size node.now name.now ≡ None) (λ v. bad_in size node.now name.now ≡ Some v.now) }
-{
-    first_bad(size, first_values(node.properties.as_slice(), name))
-}
-
-/// A property with a list of points, and a value of it that names none.
-fn bad_list(size: Size, node: &Node) -> Option<(&'static [u8], &[u8])>
-    ensures { (other : List ℕ) → MatchOption result (list_line size node.now other ≡ other) (λ r. list_line size node.now other ≡ value_or r.0.now (Some r.1.now) other) }
-{
-    if let Some(value) = bad_in(size, node, b"AB") {
-        return Some((b"AB", value));
-    }
-    if let Some(value) = bad_in(size, node, b"AW") {
-        return Some((b"AW", value));
-    }
-    if let Some(value) = bad_in(size, node, b"AE") {
-        return Some((b"AE", value));
-    }
-    if let Some(value) = bad_in(size, node, b"TR") {
-        return Some((b"TR", value));
-    }
-    Some((b"SQ", bad_in(size, node, b"SQ")?))
-}
-
-/// A move, and its value that is neither a point nor a pass; or who moves, by a value that may be no colour.
-fn bad_mover(size: Size, node: &Node) -> Option<(&'static [u8], &[u8])>
-    ensures { MatchOption result (mover_line size node.now ≡ []) (λ r. mover_line size node.now ≡ value_or r.0.now (Some r.1.now) []) }
-{
-    let properties = node.properties.as_slice();
-    if let Some(value) = bad_move(size, first_values(properties, b"B")) {
-        return Some((b"B", value));
-    }
-    if let Some(value) = bad_move(size, first_values(properties, b"W")) {
-        return Some((b"W", value));
-    }
-    Some((b"PL", head(first_values(properties, b"PL"))?))
-}
-
 /// Writes the value to look at behind the text.
-#[tactic(auto, unfolding(crate::specs::Faulty::bad_value_line))]
 fn put_bad_value(out: &mut Vec<u8>, size: Size, node: &Node) -> Result<(), NoMemory>
-    ensures { OnOk result (out.new.items ≡ out.old.items ++ bad_value_line size node.now) }
+    ensures { OnOk result (out.new.items ≡ out.old.items ++ bad_value_line (bad_value size node.now)) }
 {
-    if let Some((name, value)) = bad_list(size, node) {
-        return put_value(out, name, value);
-    }
-    match bad_mover(size, node) {
+    match bad_value(size, node) {
         Some((name, value)) => put_value(out, name, value),
         None => Ok(()),
     }
@@ -296,8 +351,8 @@ fn first_size(front: &MainLine, node: &Node) -> Option<Size>
         Some((first, _)) => first,
         None => node,
     };
-    match first_values(first.properties.as_slice(), b"SZ").split_first() {
-        Some((value, _)) => board_size(value.as_slice()),
+    match first_value(first.properties.as_slice(), b"SZ") {
+        Some(value) => board_size(value),
         None => Size::new(19, 19),
     }
 }
@@ -313,12 +368,10 @@ pub fn put_look(
     ensures { OnOk result (out.new.items ≡ out.old.items ++ look_line fault front.now.nodes node.now) }
 {
     match first_size(front, node) {
-        Some(size) => {
-            if fault.code() == 12 {
-                return put_bad_value(out, size, node);
-            }
-            put_points(alloc, out, fault, size, front, node)
-        }
+        Some(size) => match fault {
+            GameFault::BadValue => put_bad_value(out, size, node),
+            _ => put_points(alloc, out, fault, size, front, node),
+        },
         None => Ok(()),
     }
 }

@@ -1,26 +1,29 @@
 //! Writes problems with the marks that are proposed for them.
-ghost use Rattle.std.specs.Prelude.{◌≡◌, ◌++◌, ◌<◌, IfOk, IfSome, OnOk, false};
+ghost use Rattle.std.specs.Prelude.{◌≡◌, ◌++◌, ◌-◌, ◌<◌, IfOk, IfSome, OnOk, false, length, slice_get};
+ghost use Rattle.std.specs.List.{list_any};
 ghost use Rattle.std.specs.FinSet as set;
 ghost use Rattle.tt_sgf.specs.Sizes.{point_count};
 ghost use Rattle.tt_board.specs.Reach.{entry_at};
+ghost use Rattle.tt_game.specs.Nodes.{SQ, TR, has};
 ghost use Rattle.tt_game.specs.Problems.{asked_count, game_of};
 ghost use Rattle.tsumego_show.specs.Hints.{members_text, names_text};
-ghost use Rattle.tsumego_show.specs.Marking.{chosen, game_marked, has_no_mark, is_game_left, is_left, line_marked, marked, marked_text, open_line, why_at, why_not, why_on, with_mark, with_marks};
+ghost use Rattle.tsumego_show.specs.Marking.{asked_nodes, game_marked, has_in, has_no_mark, has_squares, has_triangles, is_game_left, is_left, line_marked, marked, marked_text, open_line, proposed};
+ghost use Rattle.tsumego_show.specs.Marking.{why_at, why_left, why_not, why_on, with_mark, with_marks};
 ghost use Rattle.tsumego_show.specs.Refusals.{fault_text};
 ghost use Rattle.tsumego_show.specs.TreeBytes.{kept_text};
 
 use crate::form::Place;
 use crate::hints::{put_hints, put_members, put_names};
-use crate::node_values::asked_count;
-use crate::proposals::{Proposal, chosen, placed_point};
-use crate::refusals::{NO_TARGET, put_fault, put_refusal};
+use crate::node_values::has;
+use crate::proposals::{Proposal, placed_point, proposed};
+use crate::refusals::{put_fault, put_refusal};
 use crate::regions::{around, ways_out};
 use crate::tree_bytes::{behind_semicolon, from_open, put_kept};
 use crate::variations::{PointList, put_list};
 use std::alloc::Global;
 use tt_board::{Board, Colour};
-use tt_game::{Game, GameFault, Line, asked_game};
-use tt_sgf::{MainLine, NoMemory, Point, PointSet, Size};
+use tt_game::{Game, GameFault, Line, asked_count, asked_game};
+use tt_sgf::{MainLine, NoMemory, Node, Point, PointSet, Size};
 
 /// Writes a tree with the marks of a problem at the head of the node of this number behind the text.
 fn put_with_marks(
@@ -126,9 +129,51 @@ fn put_why_not(
 {
     match place {
         None => Ok(out.extend_from_slice(
-            b"no group is enclosed: close the wall, or name a stone of the group\n",
+            b"no group is enclosed with 2 to 40 points: close the wall, or name a stone of the group\n",
         )?),
         Some(place) => put_why_on(alloc, out, game, placed_point(game.size(), place)),
+    }
+}
+
+/// Writes why no mark is proposed, since there are squares or for a place, behind the text.
+fn put_why_left(
+    alloc: Global,
+    out: &mut Vec<u8>,
+    game: &Game,
+    is_squared: bool,
+    place: Option<Place>,
+) -> Result<(), NoMemory>
+    ensures { OnOk result (out.new.items ≡ out.old.items ++ why_left game.now is_squared place) }
+{
+    if is_squared {
+        return Ok(out.extend_from_slice(
+            b"squares stand there already: put a triangle on a stone of the group, or take SQ out\n",
+        )?);
+    }
+    put_why_not(alloc, out, game, place)
+}
+
+/// The nodes up to where a main line asks.
+fn asked_nodes(nodes: &[Node]) -> &[Node]
+    ensures { result.now ≡ asked_nodes nodes.now }
+{
+    &nodes[..asked_count(nodes)]
+}
+
+/// Whether a main line has triangles up to where it asks.
+fn has_triangles(nodes: &[Node]) -> bool
+    ensures { result ≡ has_triangles nodes.now }
+{
+    asked_nodes(nodes).iter().any(|node| has(node, b"TR"))
+}
+
+/// Whether the node that is to get the marks has squares.
+fn has_squares(nodes: &[Node]) -> bool
+    ensures { result ≡ has_squares nodes.now }
+{
+    match asked_nodes(nodes).last() {
+        Some(node) => has(node, b"SQ"),
+        None => false,
     }
 }
 
@@ -160,19 +205,22 @@ fn put_game(
     tree: &[u8],
     game: Game,
 ) -> Result<bool, NoMemory>
-    ensures text { OnOk result (out.new.items ≡ out.old.items ++ with_mark game place number (asked_count false main.now.nodes) tree.now (chosen game place)) }
-    ensures left { IfOk result (λ left. left ≡ has_no_mark (chosen game place)) }
+    ensures text { OnOk result (out.new.items ≡ out.old.items
+        ++ with_mark game (has_squares main.now.nodes) place number (asked_count false main.now.nodes) tree.now (proposed game (has_squares main.now.nodes) place)) }
+    ensures left { IfOk result (λ left. left ≡ has_no_mark (proposed game (has_squares main.now.nodes) place)) }
 {
-    match chosen(&game, place) {
+    let nodes = main.nodes.as_slice();
+    let is_squared = has_squares(nodes);
+    match proposed(&game, is_squared, place) {
         Some(mark) => {
-            let node = asked_count(main.nodes.as_slice());
+            let node = asked_count(nodes);
             put_with(alloc, out, game, mark, node, tree)?;
             Ok(false)
         }
         None => {
-            put_refusal(alloc, out, number, NO_TARGET)?;
+            put_refusal(alloc, out, number, GameFault::NoTarget.code())?;
             out.extend_from_slice(b"why: ")?;
-            put_why_not(alloc, out, &game, place)?;
+            put_why_left(alloc, out, &game, is_squared, place)?;
             put_kept(out, tree)?;
             Ok(true)
         }
@@ -194,7 +242,7 @@ fn put_left(
     put_kept(out, tree)
 }
 
-/// Writes a tree without a target with the mark for a stone behind the text, or why there is none, and says whether there is none.
+/// Writes a tree without triangles with the mark for a stone behind the text, or why there is none, and says whether there is none.
 fn put_unmarked(
     alloc: Global,
     out: &mut Vec<u8>,
@@ -204,7 +252,7 @@ fn put_unmarked(
     tree: &[u8],
 ) -> Result<bool, NoMemory>
     ensures text { OnOk result (out.new.items ≡ out.old.items ++ game_marked place number tree.now main.nodes (game_of main.nodes)) }
-    ensures left { IfOk result (λ left. left ≡ is_game_left place (game_of main.nodes)) }
+    ensures left { IfOk result (λ left. left ≡ is_game_left (has_squares main.nodes) place (game_of main.nodes)) }
 {
     match asked_game(alloc, &main) {
         Ok(game) => put_game(alloc, out, place, number, &main, tree, game),
@@ -228,11 +276,11 @@ pub fn put_line(
     fault: GameFault,
 ) -> Result<bool, NoMemory>
     ensures text { OnOk result (out.new.items ≡ out.old.items ++ line_marked place number tree.now main.nodes fault) }
-    ensures left { IfOk result (λ left. left ≡ is_left place main.nodes fault) }
+    ensures left { IfOk result (λ left. left ≡ is_left place main.nodes) }
 {
-    if fault.code() == NO_TARGET {
-        return put_unmarked(alloc, out, place, number, main, tree);
+    if has_triangles(main.nodes.as_slice()) {
+        put_left(alloc, out, number, main, tree, fault)?;
+        return Ok(true);
     }
-    put_left(alloc, out, number, main, tree, fault)?;
-    Ok(true)
+    put_unmarked(alloc, out, place, number, main, tree)
 }

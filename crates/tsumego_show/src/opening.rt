@@ -1,8 +1,8 @@
 //! The first turn of a strategy, and the board after it.
-ghost use Rattle.std.specs.Prelude.{◌≡◌, ◌↔◌, ◌++◌, ℕ, List, IfOk, IsTrue, OnOk};
+ghost use Rattle.std.specs.Prelude.{◌≡◌, ◌↔◌, ◌++◌, ℕ, List, IfOk, IfSome, IsTrue, MatchOption, OnOk};
 ghost use Rattle.tt_game.specs.Game.{IsLegal};
 ghost use Rattle.tt_proof.specs.Strategy.{IsInOrder, IsOnBoard, strategy_of};
-ghost use Rattle.tsumego_show.specs.Drawing.{DrawsFirst, turned, turned_head, turned_text};
+ghost use Rattle.tsumego_show.specs.Drawing.{BeginsWithTurn, DrawsFirst, turned, turned_head, turned_text};
 
 use crate::picture::{colour_name, put_board, side_colour};
 use std::alloc::Global;
@@ -16,6 +16,18 @@ fn may_begin(line: &Line, side: Side, turn: Turn) -> bool
     ensures { IsTrue result ↔ ((line.now.state.to_move ≡ side) × IsLegal line.now.frame line.now.state turn) }
 {
     line.to_move() == side && line.refusal(turn).is_none()
+}
+
+/// The first turn of a side's strategy, where the side is to move and that turn is legal.
+pub fn first_turn(line: &Line, side: Side, tree: &Tree) -> Option<Turn>
+    requires { IsInOrder line.now.frame.size (strategy_of tree.now) }
+    ensures value { MatchOption result ((t : Turn) → BeginsWithTurn line.now side (strategy_of tree.now) t → ⊥) (BeginsWithTurn line.now side (strategy_of tree.now)) }
+    ensures on_board { IfSome result (λ t. IsOnBoard line.now.frame.size t) }
+{
+    if may_begin(line, side, tree.first()?) {
+        return tree.first();
+    }
+    None
 }
 
 /// The problem after a legal turn.
@@ -63,13 +75,8 @@ pub fn put_first(
     requires { IsInOrder line.now.frame.size (strategy_of tree.now) }
     ensures { OnOk result ((text : List ℕ) × DrawsFirst line.now side (strategy_of tree.now) text × (out.new.items ≡ out.old.items ++ text)) }
 {
-    match tree.first() {
-        Some(turn) => {
-            if may_begin(line, side, turn) {
-                return put_turned(alloc, out, line, &turn);
-            }
-            Ok(())
-        }
+    match first_turn(line, side, tree) {
+        Some(turn) => put_turned(alloc, out, line, &turn),
         None => Ok(()),
     }
 }

@@ -2,7 +2,7 @@
 ghost use Rattle.std.specs.Prelude.{◌≡◌, ℕ, ◌<◌, IfSome};
 ghost use Rattle.tt_sgf.specs.Sizes.{point_count};
 ghost use Rattle.tt_board.specs.Reach.{entry_at};
-ghost use Rattle.tsumego_show.specs.Marking.{chosen, closed_at, closed_on, fewer_squares, fewest, placed_point, point_at};
+ghost use Rattle.tsumego_show.specs.Marking.{chosen, closed_at, closed_on, fewer_squares, fewest, placed_point, point_at, proposed};
 
 use crate::form::Place;
 use crate::points::point_numbered;
@@ -111,7 +111,7 @@ fn closed_on(game: &Game, stone: Option<Point>) -> Option<Proposal>
 }
 
 /// The mark on the stone in a place, or on any.
-pub fn chosen(game: &Game, place: Option<Place>) -> Option<Proposal>
+fn chosen(game: &Game, place: Option<Place>) -> Option<Proposal>
     ensures value { result ≡ chosen game.now place }
     ensures on_board { IfSome result (λ m. m.stone < point_count game.now.size) }
 {
@@ -119,4 +119,15 @@ pub fn chosen(game: &Game, place: Option<Place>) -> Option<Proposal>
         None => fewest(game),
         Some(place) => closed_on(game, placed_point(game.size(), place)),
     }
+}
+
+/// The mark on the stone in a place, or on any, where the problem has no squares.
+pub fn proposed(game: &Game, is_squared: bool, place: Option<Place>) -> Option<Proposal>
+    ensures value { result ≡ proposed game.now is_squared place }
+    ensures on_board { IfSome result (λ m. m.stone < point_count game.now.size) }
+{
+    if is_squared {
+        return None;
+    }
+    chosen(game, place)
 }

@@ -1,7 +1,8 @@
 //! What is written where something is refused.
-ghost use Rattle.std.specs.Prelude.{◌≡◌, ◌++◌, ◌+◌, ◌-◌, ◌^◌, ◌<◌, length, take, IfOk, MatchOption, OnOk, Some};
+ghost use Rattle.std.specs.Prelude.{◌≡◌, ◌++◌, ◌+◌, ◌-◌, ◌^◌, ◌<◌, length, nat_eq, take, IfOk, MatchOption, OnOk, Some};
+ghost use Rattle.tt_game.specs.Faults.{code_of};
 ghost use Rattle.tt_game.specs.Problems.{problem_of};
-ghost use Rattle.tsumego_show.specs.Refusals.{at_node, fault_text, is_refused_with, nth_node, length_text, meaning, named_fault, needed, refusal_line, syntax_text, why_text};
+ghost use Rattle.tsumego_show.specs.Refusals.{at_node, fault_text, is_refused_with, nth_node, length_text, meaning, named_fault, needed, refusal_line, no_tree_text, why_text};
 
 use crate::faulty::put_look;
 use std::alloc::Global;
@@ -10,9 +11,6 @@ use tt_sgf::{Items, MainLine, NoMemory, Node};
 
 /// The most nodes of a main line in which the refused one is named.
 const MOST_NODES: usize = 1000;
-
-/// The number of the refusal of a main line without TR.
-pub const NO_TARGET: u8 = 20;
 
 /// What a refusal means, and how to go on.
 #[tactic(auto, unfolding(crate::specs::Refusals::meaning))]
@@ -129,6 +127,13 @@ fn put_at_node(
     }
 }
 
+/// Whether no node has TR.
+fn is_no_target(fault: GameFault) -> bool
+    ensures { result ≡ nat_eq (code_of fault) (code_of GameFault.NoTarget) }
+{
+    matches!(fault, GameFault::NoTarget)
+}
+
 /// Writes why a main line is refused, at which node where one is and the main line is not too long to look for it, and how to go
 /// on behind the text.
 fn put_why(
@@ -139,7 +144,7 @@ fn put_why(
 ) -> Result<(), NoMemory>
     ensures { OnOk result (out.new.items ≡ out.old.items ++ why_text fault line.nodes) }
 {
-    if fault.code() == NO_TARGET || line.nodes.as_slice().len() > MOST_NODES {
+    if is_no_target(fault) || line.nodes.as_slice().len() > MOST_NODES {
         return Ok(out.extend_from_slice(meaning(fault))?);
     }
     put_at_node(alloc, out, line, fault)
@@ -161,14 +166,14 @@ pub fn put_fault(
 }
 
 /// Writes that no game tree can be read behind so many bytes behind the text.
-pub fn put_syntax(
+pub fn put_no_tree(
     alloc: Global,
     out: &mut Vec<u8>,
     number: usize,
     used: usize,
 ) -> Result<(), NoMemory>
     requires { used < 2 ^ 64 - 1 }
-    ensures { OnOk result (out.new.items ≡ out.old.items ++ syntax_text number used) }
+    ensures { OnOk result (out.new.items ≡ out.old.items ++ no_tree_text number used) }
 {
     put_refusal(alloc, out, number, 1)?;
     let byte = used + 1;

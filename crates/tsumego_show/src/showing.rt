@@ -2,16 +2,16 @@
 ghost use Rattle.std.specs.Prelude.{◌≡◌, ◌++◌, if◌then◌else◌, ℕ, List, [], true, IfOk, OnOk};
 ghost use Rattle.tt_game.specs.Problems.{problem_of};
 ghost use Rattle.tsumego_show.specs.declared.form.Form.TheVariants.{Picture, Variations};
-ghost use Rattle.tsumego_show.specs.Shown.{DrawsBehind, IsDiagram, IsProblemText, IsShown, IsTreeText, fault_told, is_alone, is_fault_left, is_one_of_several, is_tree_refused, problem_text, several_line};
+ghost use Rattle.tsumego_show.specs.Shown.{DrawsBehind, IsDiagram, IsProblemText, IsShown, IsTreeText, fault_told, is_alone, is_fault_left, is_one_of_several, is_tree_refused, problem_text, several_line, without_strategy};
 
-use crate::diagram::put_svg;
+use crate::diagram::{numbered_turn, put_svg};
 use crate::drawing::put_certificate;
 use crate::form::Form;
 use crate::found::find;
 use crate::hints::put_hints;
 use crate::marking::put_line;
 use crate::picture::put_picture;
-use crate::refusals::{put_fault, put_length, put_syntax};
+use crate::refusals::{put_fault, put_length, put_no_tree};
 use crate::tree_bytes::{has_none, put_kept};
 use crate::variations::put_sgf;
 use std::alloc::Global;
@@ -74,7 +74,8 @@ fn put_alone(alloc: Global, out: &mut Vec<u8>, line: &Line, behind: &[u8]) -> Re
         × (out.new.items ≡ out.old.items ++ text)) }
 {
     let found = find(alloc, line.frame().size, behind)?;
-    put_svg(alloc, out, line, &found)
+    let first = numbered_turn(line, &found);
+    put_svg(alloc, out, line, &first)
 }
 
 /// Writes the diagram of a problem behind the text, or that it isn't drawn.
@@ -94,6 +95,17 @@ fn put_diagram(
     put_several(alloc, out, number)
 }
 
+/// What is said where no strategy stands behind a problem.
+fn without_strategy(behind: &[u8]) -> &'static [u8]
+    ensures { result.now ≡ without_strategy behind.now }
+{
+    if has_none(behind) && !trim(behind).is_empty() {
+        b"what follows is no certificate"
+    } else {
+        b"no certificate follows"
+    }
+}
+
 /// Writes a problem, with the strategy behind it as variations to so many turns, as a game tree behind the text.
 fn put_variations(
     alloc: Global,
@@ -106,7 +118,7 @@ fn put_variations(
         × (out.new.items ≡ out.old.items ++ text)) }
 {
     let found = find(alloc, line.frame().size, behind)?;
-    put_sgf(alloc, out, line, &found, depth)
+    put_sgf(alloc, out, line, without_strategy(behind), &found, depth)
 }
 
 /// Writes the text on a problem, which these bytes follow, behind the text.
@@ -140,7 +152,7 @@ fn put_untold(
     fault: GameFault,
 ) -> Result<bool, NoMemory>
     ensures text { OnOk result (out.new.items ≡ out.old.items ++ fault_told form number tree.now main.nodes fault) }
-    ensures refused { IfOk result (λ refused. refused ≡ is_fault_left form main.nodes fault) }
+    ensures refused { IfOk result (λ refused. refused ≡ is_fault_left form main.nodes) }
 {
     match form {
         Form::Marks(place) => put_line(alloc, out, place, number, main, tree, fault),
@@ -209,7 +221,7 @@ pub fn show(alloc: Global, form: Form, input: &[u8]) -> Result<(Vec<u8>, u8), No
                 number += 1;
             }
             Err(SgfFault::Syntax) => {
-                put_syntax(alloc, &mut out, number, input.len() - rest.len())?;
+                put_no_tree(alloc, &mut out, number, input.len() - rest.len())?;
                 return Ok((out, 1));
             }
             Err(SgfFault::TooLong) => {

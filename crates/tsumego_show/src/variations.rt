@@ -1,5 +1,5 @@
 //! A problem as a game tree of SGF, and a strategy as its variations.
-ghost use Rattle.std.specs.Prelude.{◌≡◌, ◌++◌, ◌∷◌, ◌<◌, [], codes, IfSome, OnOk};
+ghost use Rattle.std.specs.Prelude.{◌≡◌, ◌++◌, ◌∷◌, ◌<◌, ℕ, [], List, codes, length, IfSome, OnOk};
 ghost use Rattle.tt_sgf.specs.Bytes.{close_tree};
 ghost use Rattle.tt_sgf.specs.Sizes.{point_count};
 ghost use Rattle.tt_game.specs.Game.{after, winner_of};
@@ -7,7 +7,7 @@ ghost use Rattle.tt_proof.specs.Strategy.{AreInOrder, IsInOrder, IsOnBoard, entr
 ghost use Rattle.tsumego_show.specs.inside.Trees.{found_of};
 ghost use Rattle.tsumego_show.specs.Picture.{colour_name};
 ghost use Rattle.tsumego_show.specs.Variations.{bracketed, colour_letter, cut_text, ending_text, found_variations, game_text, is_listed, legal_text, list_name, list_text, listed_value, listed_values};
-ghost use Rattle.tsumego_show.specs.Variations.{move_point, move_text, mover_property, name_property, owner_text, reply_variations, root_text, sgf_text, size_text, variations, why_won, won_text};
+ghost use Rattle.tsumego_show.specs.Variations.{move_point, move_text, mover_property, name_property, or_ending, owner_text, reply_variations, root_text, sgf_text, size_text, variations, why_won, won_text};
 
 use crate::depths::shown_depth;
 use crate::diagram::has_square;
@@ -222,6 +222,17 @@ fn put_ending(out: &mut Vec<u8>, line: &Line) -> Result<(), NoMemory>
     }
 }
 
+/// Writes how a strategy ends behind the text, where no turn is written behind so many bytes.
+fn put_end(out: &mut Vec<u8>, line: &Line, count: usize) -> Result<(), NoMemory>
+    ensures { (start text : List ℕ) → out.old.items ≡ start ++ text → count ≡ length start
+        → OnOk result (out.new.items ≡ start ++ or_ending line.now.frame line.now.state text) }
+{
+    if out.len() == count {
+        return put_ending(out, line);
+    }
+    Ok(())
+}
+
 /// Writes that the strategy goes on behind the text.
 fn put_cut(out: &mut Vec<u8>) -> Result<(), NoMemory>
     ensures { OnOk result (out.new.items ≡ out.old.items ++ cut_text) }
@@ -321,13 +332,17 @@ fn put_tree(out: &mut Vec<u8>, tree: &Tree, line: &mut Line, left: usize) -> Res
             if left == 0 {
                 return put_cut(out);
             }
-            put_legal(out, turn, child, line, left - 1)
+            let count = out.len();
+            put_legal(out, turn, child, line, left - 1)?;
+            put_end(out, line, count)
         }
         Tree::Reply(list) => {
             if left == 0 {
                 return put_cut(out);
             }
-            put_replies(out, list, line, left - 1)
+            let count = out.len();
+            put_replies(out, list, line, left - 1)?;
+            put_end(out, line, count)
         }
     }
 }
@@ -341,27 +356,34 @@ fn put_owned(out: &mut Vec<u8>, colour: Colour) -> Result<(), NoMemory>
     Ok(())
 }
 
-/// Writes whose strategy it is behind the text.
-fn put_owner(out: &mut Vec<u8>, line: &Line, found: &Option<(Side, Tree)>) -> Result<(), NoMemory>
-    ensures { OnOk result (out.new.items ≡ out.old.items ++ owner_text line.now (found_of found.now)) }
+/// Writes whose strategy it is behind the text, or these words where there is none.
+fn put_owner(
+    out: &mut Vec<u8>,
+    line: &Line,
+    without: &[u8],
+    found: &Option<(Side, Tree)>,
+) -> Result<(), NoMemory>
+    ensures { OnOk result (out.new.items ≡ out.old.items ++ owner_text line.now without.now (found_of found.now)) }
 {
     match found {
-        None => Ok(out.extend_from_slice(b"no certificate follows")?),
+        None => Ok(out.extend_from_slice(without)?),
         Some((side, _)) => put_owned(out, side_colour(line, *side)),
     }
 }
 
-/// Writes whose strategy it is, and how many positions came before the problem, as the root's name behind the text.
+/// Writes whose strategy it is, or these words where there is none, and how many positions came before the problem, as the root's
+/// name behind the text.
 fn put_name(
     alloc: Global,
     out: &mut Vec<u8>,
     line: &Line,
+    without: &[u8],
     found: &Option<(Side, Tree)>,
 ) -> Result<(), NoMemory>
-    ensures { OnOk result (out.new.items ≡ out.old.items ++ name_property line.now (found_of found.now)) }
+    ensures { OnOk result (out.new.items ≡ out.old.items ++ name_property line.now without.now (found_of found.now)) }
 {
     out.extend_from_slice(b"N[")?;
-    put_owner(out, line, found)?;
+    put_owner(out, line, without, found)?;
     put_earlier(alloc, out, earlier_count(line))?;
     out.push(b']')?;
     Ok(())
@@ -385,20 +407,21 @@ fn put_variations(
 }
 
 /// Writes the problem at a line as a game tree of SGF behind the text, and the strategy that was found as its variations, to so
-/// many turns deep at the most. `NoMemory` where memory was refused; a part may stand there then. The line stands as before.
+/// many turns deep at the most; the root's name has these words where none was. `NoMemory` where memory was refused; a part may stand there then. The line stands as before.
 pub fn put_sgf(
     alloc: Global,
     out: &mut Vec<u8>,
     line: &mut Line,
+    without: &[u8],
     found: &Option<(Side, Tree)>,
     depth: usize,
 ) -> Result<(), NoMemory>
     requires in_order { IfSome found.now (λ f. IsInOrder line.old.frame.size (strategy_of f.1)) }
-    ensures text { OnOk result (out.new.items ≡ out.old.items ++ sgf_text line.old depth (found_of found.now)) }
+    ensures text { OnOk result (out.new.items ≡ out.old.items ++ sgf_text line.old depth without.now (found_of found.now)) }
     ensures same { line.new ≡ line.old }
 {
     put_root(alloc, out, line)?;
-    put_name(alloc, out, line, found)?;
+    put_name(alloc, out, line, without, found)?;
     put_variations(out, line, found, depth)?;
     out.extend_from_slice(b")\n")?;
     Ok(())

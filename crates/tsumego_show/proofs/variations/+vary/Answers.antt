@@ -2,7 +2,7 @@ use Rattle.std.proofs.Common.{rules, arith}
 use Rattle.tt_proof.specs.declared.tree.Tree.TheViews.{the_lemmas}
 use Rattle.tt_proof.specs.Strategy.{strategy_of}
 use Rattle.tt_proof.proofs.StrategyLemmas.{trees_are_strategies}
-use Rattle.tsumego_show.proofs.LegalTurns.{made_written, pick_written, refused_written, reply_written}
+use Rattle.tsumego_show.proofs.LegalTurns.{end_of, made_written, pick_written, refused_written, reply_written}
 use Rattle.tsumego_show.proofs.variations.+vary.Goals as goal
 
 pub put_legal-returns-in-Ok-clause-text : goal.put_legal-returns-in-Ok-clause-text
@@ -32,13 +32,15 @@ put_tree-returns-then-left-eq0-clause-text t c = rw (c.in-Pick.is, trees_are_str
 pub put_tree-returns-then-left-eq0-2-clause-text : goal.put_tree-returns-then-left-eq0-2-clause-text
 put_tree-returns-then-left-eq0-2-clause-text t c = rw (c.in-Reply.is, trees_are_strategies.of_reply, c.if-left-eq0-2.true) c.put_cut-then-left-eq0-2.ensures
 
-pub put_tree-returns-else-left-eq0-clause-text : goal.put_tree-returns-else-left-eq0-clause-text
-put_tree-returns-else-left-eq0-clause-text t c =
+pub put_tree-returns-in_ok-put_legal-in-Pick-clause-text : goal.put_tree-returns-in_ok-put_legal-in-Pick-clause-text
+put_tree-returns-in_ok-put_legal-in-Pick-clause-text t c =
     rw (c.in-Pick.is, trees_are_strategies.of_pick, ← c.deref.ensures)
-    (pick_written c.put_legal.result c.args.line.now.frame c.args.line.now.state _ _ c.args.left c.in-Pick.turn (strategy_of c.deref.result.now) (omega (arith, c.if-left-eq0.false))
-    c.put_legal.ensures.text)
+    (pick_written c.put_end.result c.args.line.now.frame c.args.line.now.state _ _ c.args.left c.in-Pick.turn (strategy_of c.deref.result.now) (omega (arith, c.if-left-eq0.false))
+    (end_of c.put_end.result c.put_legal.new.line c.args.line.now _ _ _ c.put_legal.ensures.same (c.put_end.ensures c.args.out.now.items _ c.in_ok-put_legal-in-Pick.ensures.text (search rules))))
 
-pub put_tree-returns-else-left-eq0-2-clause-text : goal.put_tree-returns-else-left-eq0-2-clause-text
-put_tree-returns-else-left-eq0-2-clause-text t c =
+pub put_tree-returns-in_ok-put_replies-in-Reply-clause-text : goal.put_tree-returns-in_ok-put_replies-in-Reply-clause-text
+put_tree-returns-in_ok-put_replies-in-Reply-clause-text t c =
     rw (c.in-Reply.is, trees_are_strategies.of_reply, ← c.deref-in-Reply.ensures, ← c.deref-in-Reply-2.ensures.value)
-    (reply_written c.put_replies.result c.args.line.now.frame c.args.line.now.state _ _ c.args.left _ (omega (arith, c.if-left-eq0-2.false)) c.put_replies.ensures.text)
+    (reply_written c.put_end-in-Reply.result c.args.line.now.frame c.args.line.now.state _ _ c.args.left _ (omega (arith, c.if-left-eq0-2.false))
+    (end_of c.put_end-in-Reply.result c.put_replies.new.line c.args.line.now _ _ _ c.put_replies.ensures.same
+    (c.put_end-in-Reply.ensures c.args.out.now.items _ c.in_ok-put_replies-in-Reply.ensures.text (search rules))))
