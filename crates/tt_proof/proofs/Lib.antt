@@ -20,6 +20,8 @@ pub mod NameLemmas
 pub mod OutlineReadLemmas
 pub mod OutlineFaultLemmas
 pub mod OutlineReplayLemmas
+pub mod OutlineWinsLemmas
+pub mod OutlineSameLemmas
 pub mod OutlineLawLemmas
 pub mod CertificateLemmas
 pub mod WinsLemmas
