@@ -17,6 +17,7 @@ pub mod MeasureLemmas
 pub mod StrategyLemmas
 pub mod OutlineLemmas
 pub mod NameLemmas
+pub mod OutlineDeepLemmas
 pub mod OutlineReadLemmas
 pub mod OutlineFaultLemmas
 pub mod OutlineReplayLemmas
