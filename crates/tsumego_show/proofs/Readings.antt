@@ -24,13 +24,13 @@ module _ (size : Size) (bytes : List ℕ) where
   pub none_read : (e : CertFault) → e ≡ Syntax → IsSharedFault size MOST_DEPTH bytes e → (side : Side) (u : Strategy) → IsCertificateFor size bytes side u → ⊥
   none_read e is h side u w =
       let k : IsSharedFault size MOST_DEPTH bytes Syntax = subst (λ (x : CertFault). IsSharedFault size MOST_DEPTH bytes x) is h in
-      k side w.0 w.1.closed w.1.orderly w.1.text
+      k.0 side w.0 w.1.closed w.1.orderly w.1.text
 
   -- nor where only a deeper tree is
   pub deep_read : (e : CertFault) → e ≡ TooDeep → IsSharedFault size MOST_DEPTH bytes e → (side : Side) (u : Strategy) → IsCertificateFor size bytes side u → ⊥
   deep_read e is h side u w =
       let k : IsSharedFault size MOST_DEPTH bytes TooDeep = subst (λ (x : CertFault). IsSharedFault size MOST_DEPTH bytes x) is h in
-      let deep = k side w.0 w.1.closed w.1.orderly w.1.text in
+      let deep = k.1 side w.0 w.1.closed w.1.orderly w.1.text in
       let low = w.1.low in
       omega (arith, deep, low)
 

@@ -17,9 +17,12 @@ pub mod MeasureLemmas
 pub mod StrategyLemmas
 pub mod OutlineLemmas
 pub mod NameLemmas
+pub mod OutlineDeepLemmas
 pub mod OutlineReadLemmas
 pub mod OutlineFaultLemmas
 pub mod OutlineReplayLemmas
+pub mod OutlineWinsLemmas
+pub mod OutlineSameLemmas
 pub mod OutlineLawLemmas
 pub mod CertificateLemmas
 pub mod WinsLemmas

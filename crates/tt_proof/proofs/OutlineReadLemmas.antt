@@ -1,5 +1,5 @@
 -- What the reader of certificates with shared parts knows at each place.
-use Rattle.std.proofs.Common.{◌≡◌, ◌≤◌, ◌<◌, ◌+◌, ℕ, zero, suc, Bool, true, false, max, arith, List, [], ◌∷◌, ◌++◌, ◌∙◌, refl, sym, ap, subst, append_assoc, length, get_or, map, decimal}
+use Rattle.std.proofs.Common.{◌≡◌, ◌≤◌, ◌<◌, ◌+◌, ℕ, zero, suc, ◌⊎◌, inl, inr, Bool, true, false, max, arith, List, [], ◌∷◌, ◌++◌, ◌∙◌, refl, sym, ap, subst, append_assoc, length, get_or, map, decimal}
 use Rattle.std.proofs.lemmas.List.{map-append, append-nil}
 use Rattle.tt_sgf.specs.Bytes.{semicolon}
 use Rattle.tt_sgf.specs.declared.size.Size.{Size}
@@ -10,10 +10,10 @@ use Rattle.tt_proof.specs.declared.tree.TheConstants.{MOST_DEPTH}
 use Rattle.tt_proof.specs.Strategy.{Strategy, done, depth, depth_of_entries, IsOnBoard, number_on}
 use Rattle.tt_proof.specs.CertificateText.{won_symbol, pick_symbol, replies_symbol, turn_text, side_text}
 use Rattle.tt_proof.specs.Outlines.{Outline, Branches, ended, picked, replied, part, no_branch, branch, with_name, entries_with, unfolded}
-use Rattle.tt_proof.specs.Outlines.{names_behind, names_behind_all, outline_of, branches_of_list, name_text, part_symbol, outline_text, branches_text, IsSharedCertificate, AreOrderly, ReferBack}
-use Rattle.tt_proof.specs.inside.OutlineReading.{NoDigit, with_depth, OutlineAt, BranchesAt, ReadsOutline, ReadsBranches}
-use Rattle.tt_proof.proofs.TextLemmas.{heads, tails, same_turn, turn_not_end}
-use Rattle.tt_proof.proofs.OutlineLawLemmas.{ends_before, no_digit_behind, same_outline}
+use Rattle.tt_proof.specs.Outlines.{names_behind, names_behind_all, outline_of, branches_of_list, name_text, part_symbol, outline_text, branches_text, GoDeep, IsSharedCertificate, AreOrderly, ReferBack}
+use Rattle.tt_proof.specs.inside.OutlineReading.{NoDigit, with_depth, OutlineAt, BranchesAt, OutlineDeepAt, BranchesDeepAt, ReadsOutline, ReadsBranches}
+use Rattle.tt_proof.proofs.OutlineLawLemmas.{same_outline}
+use Rattle.tt_proof.proofs.OutlineDeepLemmas.{BranchBehind, branch_behind, deep_behind, apart}
 
 -- a name more is a depth more
 names_more : (n : Bool) (u : Strategy) (us : List Strategy) → map depth (with_name n u us) ≡ with_depth n (depth u) (map depth us)
@@ -97,38 +97,6 @@ module _ (size : Size) where
   before_push [] b bs = refl
   before_push (x ∷ list) b bs = ap (λ r. branch x.0 (outline_of x.1) r) (before_push list b bs)
 
-  -- branches that are read where a turn stands: an outline behind that turn, and branches
-  pub record BranchBehind (us : List Strategy) (least d : ℕ) (t : Turn) (mid y : List ℕ) : Type 0 where
-    pub outline : Outline
-    pub branches : Branches
-    pub rises : least ≤ number_on size t
-    pub inside : OutlineAt size us outline (depth (unfolded us outline)) mid (branches_text size branches ++ y)
-    pub closed : ReferBack (names_behind us outline) branches
-    pub orderly : AreOrderly size (number_on size t + 1) branches
-    pub deep : d ≡ max (depth (unfolded us outline) + 1) (depth_of_entries (entries_with (names_behind us outline) branches))
-
-  pub branch_behind : (us : List Strategy) (least d : ℕ) (t : Turn) (now mid y : List ℕ) (bs : Branches) → now ≡ turn_text size t ++ mid
-      → BranchesAt size us least bs d now y → BranchBehind us least d t mid y
-  branch_behind us least d t now mid y no_branch e at = absurd (turn_not_end size size.columns_in.0 t (heads (sym e ∙ at.text)))
-  branch_behind us least d t now mid y (branch v o bs) e at =
-      let g = sym e ∙ at.text in
-      let t_is = same_turn size size.columns_in.0 t v (heads g) (heads (tails g)) in
-      record {
-        outline = o;
-        branches = bs;
-        rises = subst (λ x. least ≤ number_on size x) (sym t_is) at.orderly.0;
-        inside = record {
-          closed = at.closed.0;
-          orderly = at.orderly.2;
-          deep = refl;
-          text = tails (tails g) ∙ append_assoc (outline_text size o) (branches_text size bs) y;
-          ends = ends_before o (branches_text size bs ++ y) (no_digit_behind size size.columns_in.0 bs y);
-        };
-        closed = at.closed.1;
-        orderly = subst (λ x. AreOrderly size (number_on size x + 1) bs) (sym t_is) at.orderly.3;
-        deep = sym at.deep;
-      }
-
   -- the list was read, with this depth; what is read from `now` on stands behind it, and whatever is read
   -- from the start on goes on so
   pub record Walked (us : List Strategy) (least : ℕ) (bytes now : List ℕ) (list : List (Turn × form.Outline)) (most : ℕ) (ds : List ℕ) : Type 0 where
@@ -138,6 +106,10 @@ module _ (size : Size) where
     pub behind : (bs : Branches) → names_behind_all us (before list bs) ≡ names_behind_all names bs
     pub only : (bs : Branches) (d : ℕ) (y : List ℕ) → BranchesAt size us 0 bs d bytes y
         → (bs' : Branches) × ((d' : ℕ) × ((d' ≤ d) × BranchesAt size names least bs' d' now y))
+    pub closes : (bs : Branches) → ReferBack names bs → ReferBack us (before list bs)
+    pub orders : (bs : Branches) → AreOrderly size least bs → AreOrderly size 0 (before list bs)
+    pub stays : (left : ℕ) → most ≤ left → BranchesDeepAt size us left 0 bytes → BranchesDeepAt size names left least now
+    pub runs : (left : ℕ) (bs : Branches) → GoDeep size names left bs now → GoDeep size us left (before list bs) bytes
 
   pub walked_start : (us : List Strategy) (bytes : List ℕ) (ds : List ℕ) → map depth us ≡ ds → Walked us 0 bytes bytes [] 0 ds
   walked_start us bytes ds e = record {
@@ -146,6 +118,10 @@ module _ (size : Size) where
     rest = λ bs d y h. subst (λ m. BranchesAt size us 0 bs m bytes y) (let e : d ≡ max 0 d = omega arith in e) h;
     behind = λ bs. refl;
     only = λ bs d y h. (bs, (d, (omega arith, h)));
+    closes = λ bs h. h;
+    orders = λ bs h. h;
+    stays = λ left low k. k;
+    runs = λ left bs h. h;
   }
 
   -- one more branch is read
@@ -162,11 +138,17 @@ module _ (size : Size) where
         (w.rest (branch t (outline_of o) bs) (max (d + 1) m) y (one bs m y g)));
     behind = λ bs. ap (λ l. names_behind_all us (before l bs)) listed ∙ ap (names_behind_all us) (before_push list (t, o) bs) ∙ w.behind (branch t (outline_of o) bs);
     only = λ bs m y g. let r = w.only bs m y g in
-        goes_on r.1.0 m y r.1.1.0 (branch_behind w.names least r.1.0 t now mid y r.0 at r.1.1.1);
+        goes_on r.1.0 m y r.1.1.0 (branch_behind size w.names least r.1.0 t now mid y r.0 at r.1.1.1);
+    closes = λ bs g. rw (listed, before_push list (t, o) bs) (w.closes (branch t (outline_of o) bs) ((h.at w.names w.deep).closed, g));
+    orders = λ bs g. rw (listed, before_push list (t, o) bs)
+        (w.orders (branch t (outline_of o) bs)
+        (omega (arith, rises, is), on, (h.at w.names w.deep).orderly, subst (λ x. AreOrderly size (x + 1) bs) is g));
+    stays = λ left low k. behind_this left low (w.stays left (omega (arith, low, deeper)) k);
+    runs = λ left bs g. rw (listed, before_push list (t, o) bs) (w.runs left (branch t (outline_of o) bs) (run left bs g));
   }
     where
       -- what is read behind this branch
-      goes_on : (k m : ℕ) (y : List ℕ) → k ≤ m → BranchBehind w.names least k t mid y
+      goes_on : (k m : ℕ) (y : List ℕ) → k ≤ m → BranchBehind size w.names least k t mid y
           → (bs' : Branches) × ((d' : ℕ) × ((d' ≤ m) × BranchesAt size (names_behind w.names (outline_of o)) (number + 1) bs' d' after y))
       goes_on k m y low g =
           let here = h.at w.names w.deep in
@@ -188,6 +170,31 @@ module _ (size : Size) where
               ),
             ),
           )
+
+      -- what goes deeper does so behind this branch
+      behind_this : (left : ℕ) → most' ≤ left → BranchesDeepAt size w.names left least now
+          → BranchesDeepAt size (names_behind w.names (outline_of o)) left (number + 1) after
+      behind_this zero low k = absurd (omega (arith, low, deeper))
+      behind_this (suc m) low k = pass ((deep_behind size w.names (suc m) least t now mid at k).more m refl)
+        where
+          here : OutlineAt size w.names (outline_of o) d mid after
+          here = h.at w.names w.deep
+
+          pass : OutlineDeepAt size w.names m mid
+              ⊎ ((p : Outline) × ((y : List ℕ) × (OutlineAt size w.names p (depth (unfolded w.names p)) mid y
+              × BranchesDeepAt size (names_behind w.names p) (suc m) (number_on size t + 1) y)))
+              → BranchesDeepAt size (names_behind w.names (outline_of o)) (suc m) (number + 1) after
+          pass (inl g) = absurd (apart size g.outline (outline_of o) w.names m d mid after g.closed here (omega (arith, low, deeper)) g.deep)
+          pass (inr g) =
+              let same = same_outline size size.columns_in.0 (outline_of o) g.0 w.names w.names after g.1.0 here.closed g.1.1.0.closed here.ends g.1.1.0.ends
+              (sym here.text ∙ g.1.1.0.text) in
+              subst (λ n. BranchesDeepAt size (names_behind w.names (outline_of o)) (suc m) n after) (ap (λ x. x + 1) (sym is))
+              (subst (λ y. BranchesDeepAt size (names_behind w.names (outline_of o)) (suc m) (number_on size t + 1) y) (sym same.1)
+              (subst (λ p. BranchesDeepAt size (names_behind w.names p) (suc m) (number_on size t + 1) g.1.0) (sym same.0) g.1.1.1))
+
+      run : (left : ℕ) (bs : Branches) → GoDeep size (names_behind w.names (outline_of o)) left bs after → GoDeep size w.names left (branch t (outline_of o) bs) now
+      run zero bs g = (mid, at)
+      run (suc m) bs g = inr (after, (at ∙ ap (λ r. turn_text size t ++ r) (h.at w.names w.deep).text, g))
 
       one : (bs : Branches) (m : ℕ) (y : List ℕ) → BranchesAt size (names_behind w.names (outline_of o)) (number + 1) bs m after y
           → BranchesAt size w.names least (branch t (outline_of o) bs) (max (d + 1) m) now y

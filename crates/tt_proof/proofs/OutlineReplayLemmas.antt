@@ -1,455 +1,282 @@
--- What the parts of an outline's replay find makes up what the whole finds.
-use Rattle.std.proofs.Common.{◌≡◌, ◌≤◌, ◌<◌, zero, suc, ◌+◌, ◌⊎◌, ℕ, inl, inr, arith, Some, None, List, [], ◌∷◌, ◌++◌, ◌∙◌, refl, sym, ap, subst, Contains, Option, get_or, length, take, drop}
+-- What the parts of an outline's replay find makes up what the whole finds; and what that says of the outline's tree.
+use Rattle.std.proofs.Common.{◌≡◌, ◌≤◌, ◌<◌, ◌↔◌, zero, suc, ◌⊎◌, ℕ, inl, inr, arith, Some, None, List, [], ◌∷◌, ◌++◌, ◌∙◌, refl, sym, ap, subst, Contains, Option, get_or, length, take, drop}
 use Rattle.std.proofs.lemmas.List.Elements.{Contains-append_left, Contains-append_right, Contains-append_cases}
 use Rattle.tt_board.specs.Position.{Position, Colouring}
-use Rattle.tt_game.specs.Game.{State, IsLegal, after, history, made, winner_of, opponent}
-use Rattle.tt_game.specs.Line.{HasBoard}
+use Rattle.tt_game.specs.Game.{State, IsLegal, after, history, made, winner_of}
 use Rattle.tt_game.specs.declared.frame.Frame.{Frame}
 use Rattle.tt_game.specs.declared.frame.Side.{Side}
 use Rattle.tt_game.specs.declared.turns.Turn.{Turn}
 use Rattle.tt_game.specs.declared.turns.Turn.TheVariants.{Play, Pass}
-use Rattle.tt_game.specs.laws.Members.{IsIn, in_of_contains}
+use Rattle.tt_game.specs.laws.Members.{IsIn, in_of_contains, contains_of_in}
 use Rattle.tt_proof.specs.declared.basis.Basis.{Basis}
 use Rattle.tt_proof.specs.declared.outline_replay.Found.{Found}
 use Rattle.tt_proof.specs.declared.outline_replay.Found.TheVariants.{Won, Lost, Unfit}
-use Rattle.tt_proof.specs.Strategy.{Strategy, Entries, done, pick, reply, none, entry, number_on}
-use Rattle.tt_proof.specs.Outlines.{Outline, Branches, no_branch, branch, unfolded, entries_with, names_behind, names_behind_all, AreOrderly}
-use Rattle.tt_proof.specs.Footprints.{IsRepeated, Makes}
+use Rattle.tt_proof.specs.Strategy.{reply, none}
+use Rattle.tt_proof.specs.Outlines.{Outline, Branches, no_branch, branch}
+use Rattle.tt_proof.specs.Footprints.{IsRepeated}
 use Rattle.tt_proof.specs.declared.footprints.Footprint.{Footprint}
 use Rattle.tt_proof.specs.KeptFootprints.{IsFootprint, frame_board}
-use Rattle.tt_proof.specs.Wins.{Wins, WinsBehind}
 use Rattle.tt_proof.specs.inside.Collecting.{IsPassedUp, IsPlayed}
-use Rattle.tt_proof.specs.inside.Replaying.{HasEntry}
-use Rattle.tt_proof.specs.inside.OutlineReplaying.{Meets, HasPosition, NeedsRepeats, IsBeforePick, IsBeforeReply, IsJoined, HasBranch}
-use Rattle.tt_proof.specs.inside.OutlineReplaying.{HasTree, IsFound, IsFoundBehind, IsFoundOf, WinsAsKept, WinAsKept, IsBoth}
-use Rattle.tt_proof.proofs.FitsLemmas.{Carried, splits_none, same_made, same_winner, legal_now, legal_before}
-use Rattle.tt_proof.proofs.WinsLemmas.{has_behind}
+use Rattle.tt_proof.specs.SharedParts.{HasPosition, Meets, RestsOnPosition, RestsOnRepeats, MakesBoard, RestsOnBoth, IsBoth}
+use Rattle.tt_proof.specs.SharedParts.{Bases}
+use Rattle.tt_proof.specs.SharedParts.{FindsBranches}
+use Rattle.tt_proof.specs.inside.OutlineReplaying.{FindsTogether, FindsBranch}
+use Rattle.tt_proof.proofs.FitsLemmas.{Carried, splits_none}
+use Rattle.tt_proof.proofs.FootprintLemmas.{board_is, none_held}
+
+-- ---- boards that a turn makes
+
+pub iff_chain : {A B C : Type 0} → (A ↔ B) → (B ↔ C) → A ↔ C
+iff_chain h k = (λ a. k.0 (h.0 a), λ c. h.1 (k.1 c))
+
+pub or_second : {A B C D : Type 0} → (A ↔ (B ⊎ C)) → (C ↔ D) → A ↔ (B ⊎ D)
+or_second {A = A} {B = B} {C = C} {D = D} h k = (λ a. to (h.0 a), λ w. h.1 (back w))
+  where
+    to : B ⊎ C → B ⊎ D
+    to (inl b) = inl b
+    to (inr c) = inr (k.0 c)
+
+    back : B ⊎ D → B ⊎ C
+    back (inl b) = inl b
+    back (inr d) = inr (k.1 d)
 
 -- states of one position, whose histories begin here
 carried : (s s' : State) → s'.present ≡ s.present → s'.to_move ≡ s.to_move → s'.passes ≡ s.passes → Carried (history s) (history s') [] s s'
 carried s s' p m n = record { present = p; to_move = m; passes = n; before = splits_none (history s); now = splits_none (history s') }
 
 -- the only member of a list of one
-only : (c d : Colouring) → Contains (c ∷ []) d → d ≡ c
+pub only : (c d : Colouring) → Contains (c ∷ []) d → d ≡ c
 only c d m = pass (in_of_contains (c ∷ []) d m)
   where
     pass : IsIn (c ∷ []) d → d ≡ c
     pass (inl e) = sym e
     pass (inr w) = absurd w
 
-legal_nobody : (f : Frame) (s : State) (t : Turn) → IsLegal f s t → winner_of f s ≡ None
+pub legal_nobody : (f : Frame) (s : State) (t : Turn) → IsLegal f s t → winner_of f s ≡ None
 legal_nobody f s (Play p) l = l.0
 legal_nobody f s Pass l = l
 
--- two states that meet a basis have one position
-module _ (f : Frame) (x : Basis) (s s' : State) (m : Meets f x s) (m' : Meets f x s') where
-  met_carried : Carried (history s) (history s') [] s s'
-  met_carried = carried s s' (m'.present ∙ sym m.present) (m'.to_move ∙ sym m.to_move) (m'.passes ∙ sym m.passes)
-
--- ---- behind a legal turn
-
-module _ (f : Frame) (s : State) (x : Basis) where
-  -- what is needed in front of the turn is in the history there
-  pub needs_before : (t : Turn) → Meets f x (after f s t) → (c : Colouring)
-      → IsPassedUp t (frame_board f (after f s t).present) x.needs (frame_board f c) → Contains (history s) c
-  needs_before Pass m c n = m.needs c n
-  needs_before (Play p) m c n = pass (Contains-append_cases (history s) (made f s p ∷ []) c (m.needs c n.0))
+module _ (f : Frame) (s : State) (t : Turn) (board : Position) (is : board ≡ frame_board f (after f s t).present) where
+  pub made_board : (b : Position) → IsPlayed t board b ↔ MakesBoard f s t b
+  made_board b = pass t is
     where
-      pass : Contains (history s) c ⊎ Contains (made f s p ∷ []) c → Contains (history s) c
-      pass (inl h) = h
-      pass (inr h) = absurd (n.1 (ap (frame_board f) (only (made f s p) c h)))
+      pass : (v : Turn) → board ≡ frame_board f (after f s v).present → IsPlayed v board b ↔ MakesBoard f s v b
+      pass Pass e = (λ w. absurd w, λ w. w.1)
+      pass (Play p) e = (
+        λ w. (ap (λ (z : Position). z.size) (w ∙ e), sym (ap (λ (z : Position). z.points) (w ∙ e))),
+        λ w. board_is b f.size (made f s p) w.0 (sym w.1) ∙ sym e,
+      )
 
-  -- and what is avoided behind it is not
-  pub avoids_before : (t : Turn) → Meets f x (after f s t) → (c : Colouring) → Contains x.avoids (frame_board f c) → Contains (history s) c → ⊥
-  avoids_before Pass m c a h = m.avoids c a h
-  avoids_before (Play p) m c a h = m.avoids c a (Contains-append_left (history s) (made f s p ∷ []) c h)
-
-  -- the basis is met behind the turn at another state, where in front of it all is met
-  pub met_behind : (t : Turn) → IsLegal f s t → Meets f x (after f s t) → (s' : State) → Carried (history s) (history s') [] s s'
-      → ((c : Colouring) → IsPassedUp t (frame_board f (after f s t).present) x.needs (frame_board f c) → Contains (history s') c)
-      → ((c : Colouring) → Contains x.avoids (frame_board f c) → Contains (history s') c → ⊥) → Meets f x (after f s' t)
-  met_behind Pass l m s' r n a = record {
-    present = r.present ∙ m.present;
-    to_move = ap opponent r.to_move ∙ m.to_move;
-    passes = ap (λ k. k + 1) r.passes ∙ m.passes;
-    needs = n;
-    avoids = a;
-  }
-  met_behind (Play p) l m s' r n a = record {
-    present = same ∙ m.present;
-    to_move = ap opponent r.to_move ∙ m.to_move;
-    passes = m.passes;
-    needs = λ c w. need c w (Contains-append_cases (history s) (made f s p ∷ []) c (m.needs c w));
-    avoids = λ c w h. avoid c w (Contains-append_cases (history s') (made f s' p ∷ []) c h);
-  }
+  pub passed_up : (bs : List Position) (b : Position) → IsPassedUp t board bs b ↔ (Contains bs b × (MakesBoard f s t b → ⊥))
+  passed_up bs b = pass t is
     where
-      same : made f s' p ≡ made f s p
-      same = same_made s.to_move f (history s) (history s') [] s s' p r
+      pass : (v : Turn) → board ≡ frame_board f (after f s v).present → IsPassedUp v board bs b ↔ (Contains bs b × (MakesBoard f s v b → ⊥))
+      pass Pass e = (λ w. (w, λ h. h.1), λ w. w.0)
+      pass (Play p) e = (
+        λ w. (w.0, λ h. w.1 (board_is b f.size (made f s p) h.0 (sym h.1) ∙ sym e)),
+        λ w. (w.0, λ h. w.1 (ap (λ (z : Position). z.size) (h ∙ e), sym (ap (λ (z : Position). z.points) (h ∙ e)))),
+      )
 
-      need : (c : Colouring) → Contains x.needs (frame_board f c) → Contains (history s) c ⊎ Contains (made f s p ∷ []) c
-          → Contains (history s' ++ made f s' p ∷ []) c
-      need c w (inl h) = Contains-append_left (history s') (made f s' p ∷ []) c
-          (n c (w, λ e. l.4 (subst (λ d. Contains (history s) d) (ap (λ (b : Position). b.points) e) h)))
-      need c w (inr h) = Contains-append_right (history s') (made f s' p ∷ []) c (subst (λ d. Contains (d ∷ []) c) (sym same) h)
+-- ---- a basis and a state
 
-      avoid : (c : Colouring) → Contains x.avoids (frame_board f c) → Contains (history s') c ⊎ Contains (made f s' p ∷ []) c → ⊥
-      avoid c w (inl h) = a c w h
-      avoid c w (inr h) =
-          m.avoids c w (Contains-append_right (history s) (made f s p ∷ []) c (subst (λ d. Contains (d ∷ []) c) same h))
+pub has_position : (f : Frame) (s : State) (x : Basis) → x.board.size ≡ f.size → x.board.points ≡ s.present → x.to_move ≡ s.to_move → x.passes ≡ s.passes
+    → HasPosition f s x
+has_position f s x size points to_move passes =
+    record { present = board_is x.board f.size s.present size points; to_move = to_move; passes = passes }
 
--- a colouring that the turn makes is not in the history, where the turn is legal
-not_made : (f : Frame) (s : State) (t : Turn) (c : Colouring) → IsLegal f s t → IsPlayed t (frame_board f (after f s t).present) (frame_board f c)
-    → Contains (history s) c → ⊥
-not_made f s Pass c l e h = e
-not_made f s (Play p) c l e h = l.4 (subst (λ d. Contains (history s) d) (ap (λ (b : Position). b.points) e) h)
-
-makes_played : (f : Frame) (s : State) (t : Turn) (c : Colouring) → Makes f s t c → IsPlayed t (frame_board f (after f s t).present) (frame_board f c)
-makes_played f s Pass c m = m
-makes_played f s (Play p) c m = ap (frame_board f) (sym m)
-
--- ---- a pick
-
-pub found_pick : (f : Frame) (s : State) (t : Turn) (u : Strategy) (x y : Basis) → IsLegal f s t → IsFound s.to_move f (after f s t) u (Won x)
-    → HasPosition s y → IsBeforePick t (frame_board f (after f s t).present) x y → IsFound s.to_move f s (pick t u) (Won y)
-found_pick f s t u x y l h at more = (here, there)
-  where
-    here : Meets f y s
-    here = record {
-      present = at.present;
-      to_move = at.to_move;
-      passes = at.passes;
-      needs = λ c n. needs_before f s x t h.0 c ((more.needs (frame_board f c)).0 n);
-      avoids = λ c a. avoid c ((more.avoids (frame_board f c)).0 a);
-    }
-      where
-        avoid : (c : Colouring) → Contains x.avoids (frame_board f c) ⊎ IsPlayed t (frame_board f (after f s t).present) (frame_board f c)
-            → Contains (history s) c → ⊥
-        avoid c (inl a) = avoids_before f s x t h.0 c a
-        avoid c (inr e) = not_made f s t c l e
-
-    there : (s' : State) → Meets f y s' → Wins s.to_move f (pick t u) s'
-    there s' m =
-        let r = met_carried f y s s' here m in
-        let w = same_winner s.to_move f (history s) (history s') [] s s' r in (
-          w ∙ legal_nobody f s t l,
-          r.to_move,
-          legal_now s.to_move f (history s) (history s') [] s s' t r l
-              (λ c k. m.avoids c ((more.avoids (frame_board f c)).1 (inr (makes_played f s t c k)))),
-          h.1 (after f s' t)
-              (met_behind f s x t l h.0 s' r (λ c n. m.needs c ((more.needs (frame_board f c)).1 n))
-              (λ c a. m.avoids c ((more.avoids (frame_board f c)).1 (inl a)))),
-        )
-
--- ---- a branch
-
-pub found_branch : (side : Side) (f : Frame) (s : State) (t : Turn) (u : Strategy) (x y : Basis) → IsLegal f s t → IsFound side f (after f s t) u (Won x)
-    → HasPosition s y → IsBeforeReply t (frame_board f (after f s t).present) x y → IsFoundBehind side f s t u (Won y)
-found_branch side f s t u x y l h at more = (here, there)
-  where
-    back : (c : Colouring) → Contains y.avoids (frame_board f c) → Contains x.avoids (frame_board f c)
-    back c a = subst (λ bs. Contains bs (frame_board f c)) more.avoids a
-
-    here : Meets f y s
-    here = record {
-      present = at.present;
-      to_move = at.to_move;
-      passes = at.passes;
-      needs = λ c n. needs_before f s x t h.0 c ((more.needs (frame_board f c)).0 n);
-      avoids = λ c a. avoids_before f s x t h.0 c (back c a);
-    }
-
-    there : (s' : State) → Meets f y s' → IsLegal f s t → Wins side f u (after f s' t)
-    there s' m k =
-        h.1 (after f s' t)
-        (met_behind f s x t l h.0 s' (met_carried f y s s' here m) (λ c n. m.needs c ((more.needs (frame_board f c)).1 n))
-        (λ c a. m.avoids c (subst (λ bs. Contains bs (frame_board f c)) (sym more.avoids) a)))
-
--- nothing is in an empty list
-none_in : (bs : List Position) (b : Position) → bs ≡ [] → Contains bs b → ⊥
-none_in bs b e m = in_of_contains [] b (subst (λ xs. Contains xs b) e m)
-
--- a basis that needs and avoids nothing is met where it stands
-pub met_empty : (f : Frame) (s : State) (x : Basis) → HasPosition s x → x.needs ≡ [] → x.avoids ≡ [] → Meets f x s
-met_empty f s x at n a = record {
-  present = at.present;
-  to_move = at.to_move;
-  passes = at.passes;
-  needs = λ c m. absurd (none_in x.needs (frame_board f c) n m);
-  avoids = λ c m. absurd (none_in x.avoids (frame_board f c) a m);
-}
-
--- the branch of a turn that isn't legal
-pub found_no_branch : (side : Side) (f : Frame) (s : State) (t : Turn) (u : Strategy) (x : Basis) → (IsLegal f s t → ⊥) → HasPosition s x → x.needs ≡ [] → x.avoids ≡ []
-    → IsFoundBehind side f s t u (Won x)
-found_no_branch side f s t u x bars at n a = (met_empty f s x at n a, λ s' m l. absurd (bars l))
-
--- where the side has won, nothing more to play wins
-pub found_done : (side : Side) (f : Frame) (s : State) (x : Basis) → winner_of f s ≡ Some side → HasPosition s x → x.needs ≡ [] → x.avoids ≡ []
-    → IsFound side f s done (Won x)
-found_done side f s x w at n a =
-    let here = met_empty f s x at n a in
-    (here, λ s' m. same_winner side f (history s) (history s') [] s s' (met_carried f x s s' here m) ∙ w)
-
--- ---- all branches
-
--- what is left at the start is all
-pub found_start : (side : Side) (f : Frame) (s : State) (es : Entries) (x : Basis) → HasPosition s x → NeedsRepeats f s x → IsFoundOf side f s es es (Won x)
-found_start side f s es x at n = (
-  record {
-    present = at.present;
-    to_move = at.to_move;
-    passes = at.passes;
-    needs = λ c m. ((n.needs c).0 m).1;
-    avoids = λ c m. absurd (n.avoids c m);
-  },
-  λ c r. (n.needs c).1 r,
-  λ s' m t u h. inl h,
-)
-
--- what is met by both is met by each
-module _ (f : Frame) (s s' : State) (x y z : Basis) (j : IsJoined x y z) (m : Meets f x s) (n : Meets f y s) where
-  joined_here : Meets f z s
-  joined_here = record {
-    present = m.present ∙ sym (ap (λ (b : Position). b.points) j.board);
-    to_move = m.to_move ∙ sym j.to_move;
-    passes = m.passes ∙ sym j.passes;
-    needs = λ c w. need c ((j.needs (frame_board f c)).0 w);
-    avoids = λ c w. avoid c ((j.avoids (frame_board f c)).0 w);
-  }
-    where
-      need : (c : Colouring) → Contains x.needs (frame_board f c) ⊎ Contains y.needs (frame_board f c) → Contains (history s) c
-      need c (inl w) = m.needs c w
-      need c (inr w) = n.needs c w
-
-      avoid : (c : Colouring) → Contains x.avoids (frame_board f c) ⊎ Contains y.avoids (frame_board f c) → Contains (history s) c → ⊥
-      avoid c (inl w) = m.avoids c w
-      avoid c (inr w) = n.avoids c w
-
-  module _ (k : Meets f z s') where
-    joined_first : Meets f x s'
-    joined_first = record {
-      present = k.present ∙ ap (λ (b : Position). b.points) j.board;
-      to_move = k.to_move ∙ j.to_move;
-      passes = k.passes ∙ j.passes;
-      needs = λ c w. k.needs c ((j.needs (frame_board f c)).1 (inl w));
-      avoids = λ c w. k.avoids c ((j.avoids (frame_board f c)).1 (inl w));
-    }
-
-    joined_second : Meets f y s'
-    joined_second = record {
-      present = k.present ∙ ap (λ (b : Position). b.points) j.board ∙ sym m.present ∙ n.present;
-      to_move = k.to_move ∙ j.to_move ∙ sym m.to_move ∙ n.to_move;
-      passes = k.passes ∙ j.passes ∙ sym m.passes ∙ n.passes;
-      needs = λ c w. k.needs c ((j.needs (frame_board f c)).1 (inr w));
-      avoids = λ c w. k.avoids c ((j.avoids (frame_board f c)).1 (inr w));
-    }
-
-module _ (side : Side) (f : Frame) (s : State) (es : Entries) (t : Turn) (u : Strategy) (left : Entries) where
-  -- one more branch is found
-  pub found_more : (a b c : Found) → ((v : Turn) (w : Strategy) → HasTree (entry t u left) v w → HasTree es v w) → IsFoundOf side f s es (entry t u left) a
-      → IsFoundBehind side f s t u b → IsBoth a b c → IsFoundOf side f s es left c
-  found_more Unfit b c sub h g e = subst (IsFoundOf side f s es left) (sym e) tt
-  found_more Lost Unfit c sub h g e = subst (IsFoundOf side f s es left) (sym e) tt
-  found_more Lost Lost c sub h g e = subst (IsFoundOf side f s es left) (sym e) h
-  found_more Lost (Won y) c sub h g e = subst (IsFoundOf side f s es left) (sym e) h
-  found_more (Won x) Unfit c sub h g e = subst (IsFoundOf side f s es left) (sym e) tt
-  found_more (Won x) Lost c sub h g e = subst (IsFoundOf side f s es left) (sym e) (t, (u, (sub t u (inl (refl, refl)), g.0, g.1)))
-  found_more (Won x) (Won y) c sub h g e = subst (IsFoundOf side f s es left) (sym e.1.0) (
-    joined_here f s s x y e.0 e.1.1 h.0 g.0,
-    λ d r. (e.1.1.needs (frame_board f d)).1 (inl (h.1 d r)),
-    λ s' m v w k. pass s' m v w (h.2 s' (joined_first f s s' x y e.0 e.1.1 h.0 g.0 m) v w k),
-  )
-    where
-      pass : (s' : State) → Meets f e.0 s' → (v : Turn) (w : Strategy) → HasTree (entry t u left) v w ⊎ (IsLegal f s v → Wins side f w (after f s' v))
-          → HasTree left v w ⊎ (IsLegal f s v → Wins side f w (after f s' v))
-      pass s' m v w (inr q) = inr q
-      pass s' m v w (inl (inr q)) = inl q
-      pass s' m v w (inl (inl q)) = inr (λ l.
-          subst (λ z. Wins side f z (after f s' v)) q.1
-          (subst (λ z. Wins side f u (after f s' z)) q.0
-          (g.1 s' (joined_second f s s' x y e.0 e.1.1 h.0 g.0 m) (subst (λ z. IsLegal f s z) (sym q.0) l))))
-
--- ---- a reply
-
-module _ (side : Side) (f : Frame) where
-  -- where each tree of the turn wins, a turn that has an entry has one that wins
-  some_wins : (es : Entries) (t : Turn) (s : State) → ((u : Strategy) → HasTree es t u → Wins side f u (after f s t)) → HasEntry es t → WinsBehind side f es t s
-  some_wins none t s w h = h
-  some_wins (entry t' u es) t s w (inl e) = inl (e, w u (inl (e, refl)))
-  some_wins (entry t' u es) t s w (inr h) = inr (some_wins es t s (λ v k. w v (inr k)) h)
-
-  -- a turn that has a branch has an entry, whatever the names stand for; and the other way round
-  pub entry_of_branch : (us : List Strategy) (bs : Branches) (t : Turn) → HasBranch bs t → HasEntry (entries_with us bs) t
-  entry_of_branch us no_branch t h = h
-  entry_of_branch us (branch t' o bs) t (inl e) = inl e
-  entry_of_branch us (branch t' o bs) t (inr h) = inr (entry_of_branch (names_behind us o) bs t h)
-
-  branch_of_entry : (us : List Strategy) (bs : Branches) (t : Turn) → HasEntry (entries_with us bs) t → HasBranch bs t
-  branch_of_entry us no_branch t h = h
-  branch_of_entry us (branch t' o bs) t (inl e) = inl e
-  branch_of_entry us (branch t' o bs) t (inr h) = inr (branch_of_entry (names_behind us o) bs t h)
-
-  -- where each legal turn has a branch and all branches win, the reply wins
-  pub found_reply : (s : State) (us : List Strategy) (bs : Branches) (x : Basis) → winner_of f s ≡ None → s.to_move ≡ opponent side
-      → ((t : Turn) → IsLegal f s t → HasBranch bs t) → IsFoundOf side f s (entries_with us bs) none (Won x)
-      → IsFound side f s (reply (entries_with us bs)) (Won x)
-  found_reply s us bs x nobody turn all h = (h.0, there)
-    where
-      there : (s' : State) → Meets f x s' → Wins side f (reply (entries_with us bs)) s'
-      there s' m =
-          let r = met_carried f x s s' h.0 m in (
-            same_winner side f (history s) (history s') [] s s' r ∙ nobody,
-            r.to_move ∙ turn,
-            λ t l. let l' = legal_before side f (history s) (history s') [] s s' t r l (λ c w. m.needs c (h.1 c w)) in
-                some_wins (entries_with us bs) t s' (λ u k. wins t u l' (h.2 s' m t u k)) (entry_of_branch us bs t (all t l')),
-          )
-        where
-          wins : (t : Turn) (u : Strategy) → IsLegal f s t → ⊥ ⊎ (IsLegal f s t → Wins side f u (after f s' t)) → Wins side f u (after f s' t)
-          wins t u l (inl w) = absurd w
-          wins t u l (inr w) = w l
-
-  -- where some legal turn has no branch, it doesn't
-  pub found_unanswered : (s : State) (us : List Strategy) (bs : Branches) → (((t : Turn) → IsLegal f s t → HasBranch bs t) → ⊥)
-      → Wins side f (reply (entries_with us bs)) s → ⊥
-  found_unanswered s us bs not w = not (λ t l. branch_of_entry us bs t (has_behind side f s (entries_with us bs) t (w.2 t l)))
-
-  -- branches in order have one of a turn at the most
-  least_tree : (us : List Strategy) (least : ℕ) (bs : Branches) (t : Turn) (u : Strategy) → AreOrderly f.size least bs → HasTree (entries_with us bs) t u
-      → least ≤ number_on f.size t
-  least_tree us least no_branch t u o h = absurd h
-  least_tree us least (branch t' c bs) t u o (inl e) = let same = ap (number_on f.size) e.0 in omega (arith, o.0, same)
-  least_tree us least (branch t' c bs) t u o (inr h) =
-      let past = least_tree (names_behind us c) (number_on f.size t' + 1) bs t u o.3 h in omega (arith, o.0, past)
-
-  least_entry : (us : List Strategy) (least : ℕ) (bs : Branches) (t : Turn) (s : State) → AreOrderly f.size least bs → WinsBehind side f (entries_with us bs) t s
-      → least ≤ number_on f.size t
-  least_entry us least no_branch t s o h = absurd h
-  least_entry us least (branch t' c bs) t s o (inl e) = let same = ap (number_on f.size) e.0 in omega (arith, o.0, same)
-  least_entry us least (branch t' c bs) t s o (inr h) =
-      let past = least_entry (names_behind us c) (number_on f.size t' + 1) bs t s o.3 h in omega (arith, o.0, past)
-
-  only_one : (us : List Strategy) (least : ℕ) (bs : Branches) (t : Turn) (u : Strategy) (s : State) → AreOrderly f.size least bs
-      → HasTree (entries_with us bs) t u → WinsBehind side f (entries_with us bs) t s → Wins side f u (after f s t)
-  only_one us least no_branch t u s o h w = absurd h
-  only_one us least (branch t' c bs) t u s o (inl e) (inl w) = subst (λ z. Wins side f z (after f s t)) e.1 w.1
-  only_one us least (branch t' c bs) t u s o (inl e) (inr w) =
-      let past = least_entry (names_behind us c) (number_on f.size t' + 1) bs t s o.3 w in
-      let same = ap (number_on f.size) e.0 in absurd (omega (arith, past, same))
-  only_one us least (branch t' c bs) t u s o (inr h) (inl w) =
-      let past = least_tree (names_behind us c) (number_on f.size t' + 1) bs t u o.3 h in
-      let same = ap (number_on f.size) w.0 in absurd (omega (arith, past, same))
-  only_one us least (branch t' c bs) t u s o (inr h) (inr w) = only_one (names_behind us c) (number_on f.size t' + 1) bs t u s o.3 h w
-
-  -- where the branch of a legal turn doesn't win, the reply doesn't
-  pub found_lost : (s : State) (us : List Strategy) (bs : Branches) (left : Entries) → AreOrderly f.size 0 bs → IsFoundOf side f s (entries_with us bs) left Lost
-      → Wins side f (reply (entries_with us bs)) s → ⊥
-  found_lost s us bs left o h w = h.1.1.2 (only_one us 0 bs h.0 h.1.0 s o h.1.1.0 (w.2 h.0 h.1.1.1))
-
--- ---- names
-
-module _ (side : Side) (f : Frame) where
-  -- one more name
-  pub named_more : (us : List Strategy) (ns : List (Option Basis)) (u : Strategy) (n : Option Basis) → WinAsKept side f us ns → WinsAsKept side f u n
-      → WinAsKept side f (us ++ u ∷ []) (ns ++ n ∷ [])
-  named_more [] [] u n h w = (w, tt)
-  named_more [] (m ∷ ns) u n h w = absurd h
-  named_more (v ∷ us) [] u n h w = absurd h
-  named_more (v ∷ us) (m ∷ ns) u n h w = (h.0, named_more us ns u n h.1 w)
-
-  -- what is kept of a name
-  pub named_at : (us : List Strategy) (ns : List (Option Basis)) (k : ℕ) (n : Option Basis) → WinAsKept side f us ns → n ≡ get_or ns k n → k < length ns
-      → WinsAsKept side f (get_or us k done) n
-  named_at [] [] k n h e lt = absurd (omega (arith, lt))
-  named_at [] (m ∷ ns) k n h e lt = absurd h
-  named_at (u ∷ us) [] k n h e lt = absurd h
-  named_at (u ∷ us) (m ∷ ns) zero n h e lt = subst (WinsAsKept side f u) (sym e) h.0
-  named_at (u ∷ us) (m ∷ ns) (suc k) n h e lt = named_at us ns k n h.1 e (omega (arith, lt))
-
--- ---- the walk over all branches
-
--- so far all branches but those that are left were replayed
-pub record Replayed (side : Side) (f : Frame) (s : State) (us : List Strategy) (bs left : Branches) (ns : List (Option Basis)) (found : Found) : Type 0 where
-  pub now : List Strategy
-  pub named : WinAsKept side f now ns
-  pub behind : names_behind_all us bs ≡ names_behind_all now left
-  pub among : (t : Turn) (u : Strategy) → HasTree (entries_with now left) t u → HasTree (entries_with us bs) t u
-  pub holds : IsFoundOf side f s (entries_with us bs) (entries_with now left) found
-
-pub replayed_start : (side : Side) (f : Frame) (s : State) (us : List Strategy) (bs : Branches) (ns : List (Option Basis)) (x : Basis) → WinAsKept side f us ns
-    → HasPosition s x → NeedsRepeats f s x → Replayed side f s us bs bs ns (Won x)
-replayed_start side f s us bs ns x h at n = record {
-  now = us;
-  named = h;
-  behind = refl;
-  among = λ t u k. k;
-  holds = found_start side f s (entries_with us bs) x at n;
-}
-
-pub replayed_more : (side : Side) (f : Frame) (s : State) (us : List Strategy) (bs left : Branches) (t : Turn) (o : Outline) (ns ns' : List (Option Basis))
-    (a b c : Found) → Replayed side f s us bs (branch t o left) ns a
-    → ((vs : List Strategy) → WinAsKept side f vs ns → IsFoundBehind side f s t (unfolded vs o) b × WinAsKept side f (names_behind vs o) ns')
-    → IsBoth a b c → Replayed side f s us bs left ns' c
-replayed_more side f s us bs left t o ns ns' a b c r h e =
-    let k = h r.now r.named in record {
-      now = names_behind r.now o;
-      named = k.1;
-      behind = r.behind;
-      among = λ v w m. r.among v w (inr m);
-      holds = found_more side f s (entries_with us bs) t (unfolded r.now o) (entries_with (names_behind r.now o) left) a b c r.among r.holds k.0 e;
-    }
-
-pub replayed_end : (side : Side) (f : Frame) (s : State) (us : List Strategy) (bs : Branches) (ns : List (Option Basis)) (found : Found)
-    → Replayed side f s us bs no_branch ns found → IsFoundOf side f s (entries_with us bs) none found × WinAsKept side f (names_behind_all us bs) ns
-replayed_end side f s us bs ns found r = (r.holds, subst (λ vs. WinAsKept side f vs ns) (sym r.behind) r.named)
-
--- so far the names in all branches but those that are left were passed over
-pub record Skipped (side : Side) (f : Frame) (us : List Strategy) (bs left : Branches) (ns : List (Option Basis)) : Type 0 where
-  pub now : List Strategy
-  pub named : WinAsKept side f now ns
-  pub behind : names_behind_all us bs ≡ names_behind_all now left
-
-pub skipped_more : (side : Side) (f : Frame) (us : List Strategy) (bs left : Branches) (t : Turn) (o : Outline) (ns ns' : List (Option Basis))
-    → Skipped side f us bs (branch t o left) ns → ((vs : List Strategy) → WinAsKept side f vs ns → WinAsKept side f (names_behind vs o) ns')
-    → Skipped side f us bs left ns'
-skipped_more side f us bs left t o ns ns' r h = record { now = names_behind r.now o; named = h r.now r.named; behind = r.behind }
-
-pub skipped_end : (side : Side) (f : Frame) (us : List Strategy) (bs : Branches) (ns : List (Option Basis)) → Skipped side f us bs no_branch ns
-    → WinAsKept side f (names_behind_all us bs) ns
-skipped_end side f us bs ns r = subst (λ vs. WinAsKept side f vs ns) (sym r.behind) r.named
-
--- ---- a basis and a line
+-- a list that has nothing in it
+all_none : (bs : List Position) → ((b : Position) → Contains bs b → ⊥) → bs ≡ []
+all_none [] h = refl
+all_none (b ∷ bs) h = absurd (h b (contains_of_in (b ∷ bs) b (inl refl)))
 
 -- the basis of a reply whose plays were tried
-pub needs_plays : (f : Frame) (s : State) (foot : Footprint) (x : Basis) → IsFootprint f s (reply none) foot → x.needs ≡ foot.needs → x.avoids ≡ foot.avoids
-    → NeedsRepeats f s x
-needs_plays f s foot x h n a = record {
-  needs = λ c. (
-    λ m. first c ((h.needed c).0 (subst (λ bs. Contains bs (frame_board f c)) n m)),
-    λ r. subst (λ bs. Contains bs (frame_board f c)) (sym n) ((h.needed c).1 (inl r)),
+pub rests_on_repeats : (f : Frame) (s : State) (foot : Footprint) (x : Basis) → IsFootprint f s (reply none) foot → HasPosition f s x → x.needs ≡ foot.needs
+    → x.avoids ≡ foot.avoids → RestsOnRepeats f s x
+rests_on_repeats f s foot x h at n a = record {
+  position = at;
+  needs = λ b. (
+    λ m. let k = subst (λ bs. Contains bs b) n m in
+        let size = h.needs_sized b k in
+        (size, first b.points ((h.needed b.points).0 (subst (λ w. Contains foot.needs w) (board_is b f.size b.points size refl) k))),
+    λ r. subst (λ bs. Contains bs b) (sym n)
+        (subst (λ w. Contains foot.needs w) (sym (board_is b f.size b.points r.0 refl)) ((h.needed b.points).1 (inl r.1))),
   );
-  avoids = λ c m. (h.avoided c).0 (subst (λ bs. Contains bs (frame_board f c)) a m);
+  avoids = a ∙ all_none foot.avoids (λ b m. (h.avoided b.points).0 (subst (λ w. Contains foot.avoids w) (board_is b f.size b.points (h.avoids_sized b m) refl) m));
 }
   where
     first : (c : Colouring) → IsRepeated f (history s) [] s c ⊎ ⊥ → IsRepeated f (history s) [] s c
     first c (inl r) = r
     first c (inr w) = absurd w
 
--- the position is the state's, and the boards of its history are as they have to be
-pub met_here : (f : Frame) (s : State) (x : Basis) → s.present ≡ x.board.points → s.to_move ≡ x.to_move → s.passes ≡ x.passes
-    → ((b : Position) → Contains x.needs b → HasBoard f s b) → ((b : Position) → Contains x.avoids b → HasBoard f s b → ⊥) → Meets f x s
-met_here f s x present to_move passes n a = record {
-  present = present;
-  to_move = to_move;
-  passes = passes;
-  needs = λ c m. (n (frame_board f c) m).1;
-  avoids = λ c m h. a (frame_board f c) m (refl, h);
+-- a basis that needs and avoids nothing is met where it stands
+pub met_empty : (f : Frame) (s : State) (x : Basis) → RestsOnPosition f s x → Meets f x s
+met_empty f s x h = record {
+  position = h.position;
+  needs = λ b m. absurd (none_held x.needs b h.needs m);
+  avoids = λ b m. absurd (none_held x.avoids b h.avoids m);
 }
+
+-- two states that meet a basis have one position
+module _ (f : Frame) (x : Basis) (s s' : State) (m : Meets f x s) (m' : Meets f x s') where
+  pub met_carried : Carried (history s) (history s') [] s s'
+  met_carried =
+      carried s s' (ap (λ (b : Position). b.points) (sym m'.position.present ∙ m.position.present)) (sym m'.position.to_move ∙ m.position.to_move)
+      (sym m'.position.passes ∙ m.position.passes)
+
+-- ---- two trees together
+
+pub both_found : (a b : Found) → (r : Found) × IsBoth a b r
+both_found Unfit b = (Unfit, refl)
+both_found Lost Unfit = (Unfit, refl)
+both_found Lost Lost = (Lost, refl)
+both_found Lost (Won y) = (Lost, refl)
+both_found (Won x) Unfit = (Unfit, refl)
+both_found (Won x) Lost = (Lost, refl)
+both_found (Won x) (Won y) = (Won all, (all, (refl, rests)))
+  where
+    all : Basis
+    all = record { board = x.board; to_move = x.to_move; passes = x.passes; needs = x.needs ++ y.needs; avoids = x.avoids ++ y.avoids }
+
+    either : (bs ds : List Position) (b : Position) → Contains bs b ⊎ Contains ds b → Contains (bs ++ ds) b
+    either bs ds b (inl m) = Contains-append_left bs ds b m
+    either bs ds b (inr m) = Contains-append_right bs ds b m
+
+    rests : RestsOnBoth x y all
+    rests = record {
+      board = refl;
+      to_move = refl;
+      passes = refl;
+      needs = λ b. (Contains-append_cases x.needs y.needs b, either x.needs y.needs b);
+      avoids = λ b. (Contains-append_cases x.avoids y.avoids b, either x.avoids y.avoids b);
+    }
+
+-- with one that rests on the position alone it is as without
+pub both_alone : (r : Found) (e : Basis) → e.needs ≡ [] → e.avoids ≡ [] → IsBoth r (Won e) r
+both_alone Unfit e n a = refl
+both_alone Lost e n a = refl
+both_alone (Won x) e n a = (
+  x,
+  (
+    refl,
+    record {
+      board = refl;
+      to_move = refl;
+      passes = refl;
+      needs = λ b. (λ m. inl m, first x.needs e.needs b n);
+      avoids = λ b. (λ m. inl m, first x.avoids e.avoids b a);
+    },
+  ),
+)
+  where
+    first : (bs ds : List Position) (b : Position) → ds ≡ [] → Contains bs b ⊎ Contains ds b → Contains bs b
+    first bs ds b h (inl m) = m
+    first bs ds b h (inr m) = absurd (none_held ds b h m)
+
+regroup : {A B C P Q : Type 0} → (P ↔ (A ⊎ B)) → (Q ↔ (P ⊎ C)) → Q ↔ (A ⊎ (B ⊎ C))
+regroup {A = A} {B = B} {C = C} {P = P} h k = (λ q. to (k.0 q), λ w. k.1 (back w))
+  where
+    split : {X Y Z : Type 0} → X ⊎ Y → X ⊎ (Y ⊎ Z)
+    split (inl x) = inl x
+    split (inr y) = inr (inl y)
+
+    to : P ⊎ C → A ⊎ (B ⊎ C)
+    to (inl p) = split (h.0 p)
+    to (inr c) = inr (inr c)
+
+    back : A ⊎ (B ⊎ C) → P ⊎ C
+    back (inl a) = inl (h.1 (inl a))
+    back (inr (inl b)) = inl (h.1 (inr b))
+    back (inr (inr c)) = inr c
+
+under : {A B C P : Type 0} → (P ↔ (B ⊎ C)) → {Q : Type 0} → (Q ↔ (A ⊎ (B ⊎ C))) → Q ↔ (A ⊎ P)
+under {A = A} {B = B} {C = C} {P = P} h k = (λ q. to (k.0 q), λ w. k.1 (back w))
+  where
+    to : A ⊎ (B ⊎ C) → A ⊎ P
+    to (inl a) = inl a
+    to (inr w) = inr (h.1 w)
+
+    back : A ⊎ P → A ⊎ (B ⊎ C)
+    back (inl a) = inl a
+    back (inr p) = inr (h.0 p)
+
+rests_regrouped : (x y z v w j : Basis) → RestsOnBoth x y z → RestsOnBoth z v w → RestsOnBoth y v j → RestsOnBoth x j w
+rests_regrouped x y z v w j h k g = record {
+  board = k.board ∙ h.board;
+  to_move = k.to_move ∙ h.to_move;
+  passes = k.passes ∙ h.passes;
+  needs = λ b. under (g.needs b) (regroup (h.needs b) (k.needs b));
+  avoids = λ b. under (g.avoids b) (regroup (h.avoids b) (k.avoids b));
+}
+
+-- the order of three makes no difference
+pub both_regrouped : (a b c p r : Found) → IsBoth a b c → IsBoth c p r → (z : Found) × (IsBoth b p z × IsBoth a z r)
+both_regrouped a b c p r h k = pass a b c p h k
+  where
+    with_some : (a' b' p' : Found) → ((z : Found) → IsBoth b' p' z → IsBoth a' z r) → (z : Found) × (IsBoth b' p' z × IsBoth a' z r)
+    with_some a' b' p' g = let z = both_found b' p' in (z.0, (z.1, g z.0 z.1))
+
+    pass : (a' b' c' p' : Found) → IsBoth a' b' c' → IsBoth c' p' r → (z : Found) × (IsBoth b' p' z × IsBoth a' z r)
+    pass Unfit b' c' p' e i = with_some Unfit b' p' (λ z m. subst (λ x. IsBoth x p' r) e i)
+    pass Lost Unfit c' p' e i = (Unfit, (refl, subst (λ x. IsBoth x p' r) e i))
+    pass Lost Lost c' Unfit e i = (Unfit, (refl, subst (λ x. IsBoth x Unfit r) e i))
+    pass Lost Lost c' Lost e i = (Lost, (refl, subst (λ x. IsBoth x Lost r) e i))
+    pass Lost Lost c' (Won v) e i = (Lost, (refl, subst (λ x. IsBoth x (Won v) r) e i))
+    pass Lost (Won y) c' Unfit e i = (Unfit, (refl, subst (λ x. IsBoth x Unfit r) e i))
+    pass Lost (Won y) c' Lost e i = (Lost, (refl, subst (λ x. IsBoth x Lost r) e i))
+    pass Lost (Won y) c' (Won v) e i = with_some Lost (Won y) (Won v) (λ z m. subst (λ x. IsBoth Lost x r) (sym m.1.0) (subst (λ x. IsBoth x (Won v) r) e i))
+    pass (Won x) Unfit c' p' e i = (Unfit, (refl, subst (λ z. IsBoth z p' r) e i))
+    pass (Won x) Lost c' Unfit e i = (Unfit, (refl, subst (λ z. IsBoth z Unfit r) e i))
+    pass (Won x) Lost c' Lost e i = (Lost, (refl, subst (λ z. IsBoth z Lost r) e i))
+    pass (Won x) Lost c' (Won v) e i = (Lost, (refl, subst (λ z. IsBoth z (Won v) r) e i))
+    pass (Won x) (Won y) c' Unfit e i = (Unfit, (refl, subst (λ z. IsBoth z Unfit r) e.1.0 i))
+    pass (Won x) (Won y) c' Lost e i = (Lost, (refl, subst (λ z. IsBoth z Lost r) e.1.0 i))
+    pass (Won x) (Won y) c' (Won v) e i =
+        let w = subst (λ z. IsBoth z (Won v) r) e.1.0 i in
+        with_some (Won x) (Won y) (Won v)
+        (λ z m. subst (λ q. IsBoth (Won x) q r) (sym m.1.0) (w.0, (w.1.0, rests_regrouped x y e.0 v w.0 m.0 e.1.1 w.1.1 m.1.1)))
+
+-- ---- the walk over all branches
+
+module _ (side : Side) (f : Frame) (s : State) (ns : Bases) (bs : Branches) where
+  -- so far all branches but those that are left were replayed
+  abbrev pub Replayed : Branches → Bases → Found → Type 0
+  Replayed left ls found = (p r : Found) (ms : Bases) → FindsBranches side f ls left s p ms → IsBoth found p r → FindsTogether side f ns bs s r ms
+
+  pub replayed_start : (x : Basis) → RestsOnRepeats f s x → Replayed bs ns (Won x)
+  replayed_start x h p r ms k e = (x, (h, (p, (k, e))))
+
+  pub replayed_more : (left : Branches) (t : Turn) (o : Outline) (ls ls' : Bases) (a b c : Found) → Replayed (branch t o left) ls a
+      → FindsBranch side f ls t o s b ls' → IsBoth a b c → Replayed left ls' c
+  replayed_more left t o ls ls' a b c h g e p r ms k i =
+      let z = both_regrouped a b c p r e i in h z.0 r ms (b, (p, (ls', (g, k, z.1.0)))) z.1.1
+
+  pub replayed_end : (ls : Bases) (found : Found) → Replayed no_branch ls found → FindsTogether side f ns bs s found ls
+  replayed_end ls found h = h (Won alone) found ls ((alone, (refl, rests)), refl) (both_alone found alone refl refl)
+    where
+      alone : Basis
+      alone = record { board = frame_board f s.present; to_move = s.to_move; passes = s.passes; needs = []; avoids = [] }
+
+      rests : RestsOnPosition f s alone
+      rests = record { position = record { present = refl; to_move = refl; passes = refl }; needs = refl; avoids = refl }
 
 -- ---- lists
 
 pub drop_none : {X : Type 0} (xs : List X) → drop 0 xs ≡ xs
 drop_none [] = refl
 drop_none (x ∷ xs) = refl
+
+pub any_other : (ns : Bases) (k : ℕ) (d h : Option Basis) → k < length ns → get_or ns k d ≡ get_or ns k h
+any_other [] k d h lt = absurd (omega (arith, lt))
+any_other (n ∷ ns) zero d h lt = refl
+any_other (n ∷ ns) (suc k) d h lt = any_other ns k d h (omega (arith, lt))
+
+pub some_none : (x : Basis) → None ≡ Some x → ⊥
+some_none x e = cc
+
+pub none_past : (ns : Bases) (k : ℕ) → length ns ≤ k → get_or ns k None ≡ None
+none_past [] k le = refl
+none_past (n ∷ ns) zero le = absurd (omega (arith, le))
+none_past (n ∷ ns) (suc k) le = none_past ns k (omega (arith, le))
 
 none_taken : (ts : List Turn) (t : Turn) → IsIn (take 0 ts) t → ⊥
 none_taken [] t m = m

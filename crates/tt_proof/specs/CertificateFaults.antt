@@ -6,7 +6,7 @@ use Rattle.tt_proof.specs.declared.certificate_read.CertFault.{CertFault}
 use Rattle.tt_proof.specs.declared.certificate_read.CertFault.TheVariants.{Syntax, TooDeep, NoMemory}
 use Rattle.tt_proof.specs.Strategy.{Strategy, depth}
 use Rattle.tt_proof.specs.CertificateText.{IsCertificate, IsTooDeep, side_text}
-use Rattle.tt_proof.specs.Outlines.{Outline, RefersBack, IsOrderly, unfolded, outline_text}
+use Rattle.tt_proof.specs.Outlines.{Outline, RefersBack, IsOrderly, IsSharedTooDeep, unfolded, outline_text}
 
 -- the numbers of the refusals
 abbrev pub code_of : CertFault → ℕ
@@ -20,10 +20,13 @@ IsFault size bytes Syntax = ((side : Side) (u : Strategy) → IsCertificate size
 IsFault size bytes TooDeep = IsTooDeep size bytes
 IsFault size bytes NoMemory = Unit {0}
 
--- with shared parts: no certificate, however deep its tree is, or only one whose tree is deeper than that
+-- with shared parts: too deep, and no certificate but one whose tree is deeper than that; else no certificate, however deep its tree
 abbrev pub IsSharedFault : Size → ℕ → List ℕ → CertFault → Type 0
 IsSharedFault size most_depth bytes Syntax =
-    (side : Side) (o : Outline) → RefersBack [] o → IsOrderly size o → bytes ≡ side_text side ++ outline_text size o → ⊥
+    ((side : Side) (o : Outline) → RefersBack [] o → IsOrderly size o → bytes ≡ side_text side ++ outline_text size o → ⊥)
+    × (IsSharedTooDeep size most_depth bytes → ⊥)
 IsSharedFault size most_depth bytes TooDeep =
-    (side : Side) (o : Outline) → RefersBack [] o → IsOrderly size o → bytes ≡ side_text side ++ outline_text size o → most_depth < depth (unfolded [] o)
+    IsSharedTooDeep size most_depth bytes
+    × ((side : Side) (o : Outline) → RefersBack [] o → IsOrderly size o → bytes ≡ side_text side ++ outline_text size o
+    → most_depth < depth (unfolded [] o))
 IsSharedFault size most_depth bytes NoMemory = Unit {0}

@@ -12,6 +12,7 @@ pub mod CertificateText
 pub mod CertificateFaults
 pub mod Outlines
 pub mod OutlineLaws
+pub mod SharedParts
 pub mod SharedWins
 -- What crates above cite: laws of the definitions, with their proofs. Nobody has to believe these.
 pub mod laws

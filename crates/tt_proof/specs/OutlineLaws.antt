@@ -1,17 +1,26 @@
 -- Laws of certificates with shared parts.
-use Rattle.std.specs.Prelude.{◌≡◌, ℕ, List, []}
+use Rattle.std.specs.Prelude.{◌≡◌, ℕ, Bool, Option, None, List, []}
 use Rattle.tt_sgf.specs.declared.size.Size.{Size}
+use Rattle.tt_game.specs.Game.{State}
+use Rattle.tt_game.specs.declared.frame.Frame.{Frame}
 use Rattle.tt_game.specs.declared.frame.Side.{Side}
 use Rattle.tt_proof.specs.Strategy.{Strategy}
 use Rattle.tt_proof.specs.CertificateText.{IsCertificate}
 use Rattle.tt_proof.specs.Outlines.{Outline, IsSharedCertificate, unfolded}
+use Rattle.tt_proof.specs.SharedParts.{SharedPartsSay}
 
 -- bytes are the certificate with shared parts of one side and one outline at the most, and so of one strategy
 abbrev pub OneSharedCertificate : Type 0
 OneSharedCertificate =
     (size : Size) (bytes : List ℕ) (s t : Side) (o p : Outline) → IsSharedCertificate size bytes s o → IsSharedCertificate size bytes t p → (s ≡ t) × (o ≡ p)
 
--- a certificate is one with shared parts, of the same strategy
+-- a certificate is one with shared parts, of the same strategy, and no part of it doesn't fit
 abbrev pub CertificatesAreShared : Type 0
 CertificatesAreShared =
-    (size : Size) (bytes : List ℕ) (s : Side) (u : Strategy) → IsCertificate size bytes s u → (o : Outline) × (IsSharedCertificate size bytes s o × (unfolded [] o ≡ u))
+    (size : Size) (bytes : List ℕ) (s : Side) (u : Strategy) → IsCertificate size bytes s u
+    → (o : Outline) × (IsSharedCertificate size bytes s o × (unfolded [] o ≡ u) × ((side : Side) (f : Frame) (at : State) → SharedPartsSay side f o at None → ⊥))
+
+-- the rule for shared parts has one answer to an outline at a state
+abbrev pub OneSharedAnswer : Type 0
+OneSharedAnswer =
+    (side : Side) (f : Frame) (o : Outline) (s : State) (a b : Option Bool) → SharedPartsSay side f o s a → SharedPartsSay side f o s b → a ≡ b

@@ -1,5 +1,5 @@
 -- Certificates with shared parts: an outline is a strategy in which trees have names, and a name may stand for its tree.
-use Rattle.std.specs.Prelude.{◌≡◌, ℕ, ◌+◌, ◌≤◌, ◌<◌, Bool, true, false, List, [], ◌∷◌, ◌++◌, length, get_or, decimal}
+use Rattle.std.specs.Prelude.{◌≡◌, ℕ, zero, suc, ◌+◌, ◌≤◌, ◌<◌, ◌⊎◌, Bool, true, false, List, [], ◌∷◌, ◌++◌, length, get_or, decimal}
 use Rattle.tt_sgf.specs.Bytes.{semicolon}
 use Rattle.tt_sgf.specs.declared.size.Size.{Size}
 use Rattle.tt_game.specs.declared.frame.Side.{Side}
@@ -107,6 +107,42 @@ module _ (size : Size) where
     pub orderly : IsOrderly size o
     pub low : depth (unfolded [] o) ≤ MOST_DEPTH
     pub text : bytes ≡ side_text side ++ outline_text o
+
+-- no decimal digit stands in front
+abbrev pub NoDigit : List ℕ → Type 0
+NoDigit [] = Unit {0}
+NoDigit (b ∷ bs) = (48 ≤ b) × (b ≤ 57) → ⊥
+
+module _ (size : Size) where
+  abbrev mutual
+    -- the bytes begin as the outline's text does, up to where its tree goes deeper than so many turns: up to a turn with as many
+    -- above it, or to the whole name of a tree that is too deep there
+    pub GoesDeep : List Strategy → ℕ → Outline → List ℕ → Type 0
+    GoesDeep us left ended r = ⊥
+    GoesDeep us zero (picked n t o) r = (y : List ℕ) × (r ≡ name_text n ++ (pick_symbol ∷ (turn_text size t ++ y)))
+    GoesDeep us (suc left) (picked n t o) r =
+        (y : List ℕ) × ((r ≡ name_text n ++ (pick_symbol ∷ (turn_text size t ++ y))) × GoesDeep us left o y)
+    GoesDeep us left (replied n bs) r = (y : List ℕ) × ((r ≡ name_text n ++ (replies_symbol ∷ y)) × GoDeep us left bs y)
+    GoesDeep us left (part k) r =
+        (y : List ℕ) × ((r ≡ part_symbol ∷ (decimal k ++ y)) × NoDigit y × (left < depth (get_or us k done)))
+
+    -- so with the branches' text
+    pub GoDeep : List Strategy → ℕ → Branches → List ℕ → Type 0
+    GoDeep us left no_branch r = ⊥
+    GoDeep us zero (branch t o bs) r = (y : List ℕ) × (r ≡ turn_text size t ++ y)
+    GoDeep us (suc left) (branch t o bs) r =
+        ((y : List ℕ) × ((r ≡ turn_text size t ++ y) × GoesDeep us left o y))
+        ⊎ ((y : List ℕ) × ((r ≡ turn_text size t ++ (outline_text size o ++ y)) × GoDeep (names_behind us o) (suc left) bs y))
+
+  -- the bytes begin as a certificate with shared parts does whose tree has more than so many turns on some way down, up to there
+  pub record IsSharedTooDeep (most : ℕ) (bytes : List ℕ) : Type 0 where
+    pub side : Side
+    pub outline : Outline
+    pub behind : List ℕ
+    pub closed : RefersBack [] outline
+    pub orderly : IsOrderly size outline
+    pub deep : GoesDeep [] most outline behind
+    pub text : bytes ≡ side_text side ++ behind
 
 -- ---- the outline that a value of the program is, whatever memory it lies in
 abbrev pub branches_of : List (Turn × Outline) → Branches

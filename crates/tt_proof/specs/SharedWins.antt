@@ -1,19 +1,21 @@
 -- Certificates with shared parts that win.
-use Rattle.std.specs.Prelude.{◌≡◌, ◌≤◌, ℕ, List, [], Option}
+use Rattle.std.specs.Prelude.{◌≡◌, ◌≤◌, ℕ, List, [], Option, None}
 use Rattle.tt_game.specs.Game.{State}
 use Rattle.tt_game.specs.declared.frame.Frame.{Frame}
 use Rattle.tt_game.specs.declared.frame.Side.{Side}
 use Rattle.tt_game.specs.declared.turns.Turn.{Turn}
 use Rattle.tt_proof.specs.Outlines.{Outline, IsSharedCertificate, unfolded}
 use Rattle.tt_proof.specs.Proven.{first_of}
+use Rattle.tt_proof.specs.SharedParts.{SharedPartsSay}
 use Rattle.tt_proof.specs.Strategy.{depth}
 use Rattle.tt_proof.specs.Wins.{Wins}
 
 -- the bytes are a certificate with shared parts: with its names' trees put in it wins for the side from the state, has at most so
--- many turns on each way down, and begins with that turn
+-- many turns on each way down, and begins with that turn; each of its parts fits where play reaches it
 pub record IsWinningSharedCertificate (f : Frame) (s : State) (side : Side) (first : Option Turn) (most : ℕ) (bytes : List ℕ) : Type 0 where
   pub outline : Outline
   pub is : IsSharedCertificate f.size bytes side outline
   pub wins : Wins side f (unfolded [] outline) s
+  pub fits : SharedPartsSay side f outline s None → ⊥
   pub low : depth (unfolded [] outline) ≤ most
   pub begins : first ≡ first_of (unfolded [] outline)

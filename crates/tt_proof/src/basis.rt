@@ -1,7 +1,8 @@
 //! What a tree rests on: it wins wherever that is met.
 
-ghost use Rattle.std.specs.Prelude.{◌≡◌, [], IfOk, OnOk, IsTrue};
-ghost use Rattle.tt_proof.specs.inside.OutlineReplaying.{Meets, HasPosition, NeedsRepeats, IsBeforePick, IsBeforeReply, IsJoined};
+ghost use Rattle.std.specs.Prelude.{◌≡◌, ◌↔◌, IfOk, IsTrue};
+ghost use Rattle.tt_proof.specs.KeptFootprints.{IsBoardAfter};
+ghost use Rattle.tt_proof.specs.SharedParts.{Meets, RestsOnPosition, RestsOnRepeats, RestsBeforePick, RestsBeforeReply, RestsOnBoth};
 
 use crate::footprints::{Footprint, put_played, take_made};
 use crate::shared_boards::SharedBoards;
@@ -23,9 +24,7 @@ pub(crate) struct Basis {
 impl Basis {
     /// The line's position with any history.
     pub(crate) fn of(alloc: Global, line: &Line) -> Basis
-        ensures stands { HasPosition line.now.state result }
-        ensures needs { result.needs ≡ [] }
-        ensures avoids { result.avoids ≡ [] }
+        ensures { RestsOnPosition line.now.frame line.now.state result }
     {
         Basis {
             board: line.present().copy(),
@@ -38,8 +37,7 @@ impl Basis {
 
     /// The line's position with a history that has the boards which plays would repeat.
     pub(crate) fn of_repeats(alloc: Global, line: &Line) -> Result<Basis, NoMemory>
-        ensures stands { IfOk result (λ x. HasPosition line.now.state x) }
-        ensures repeats { IfOk result (λ x. NeedsRepeats line.now.frame line.now.state x) }
+        ensures { IfOk result (λ x. RestsOnRepeats line.now.frame line.now.state x) }
     {
         let Footprint {
             needs,
@@ -63,8 +61,8 @@ impl Basis {
         turn: &Turn,
         board: &Board,
     ) -> Result<Basis, NoMemory>
-        ensures stands { IfOk result (λ x. HasPosition line.now.state x) }
-        ensures picked { IfOk result (λ x. IsBeforePick turn.now board.now self x) }
+        requires { IsBoardAfter line.now.frame line.now.state turn.now board.now }
+        ensures { IfOk result (λ x. RestsBeforePick line.now.frame line.now.state turn.now self x) }
     {
         let Basis {
             board: _,
@@ -86,8 +84,8 @@ impl Basis {
 
     /// What a tree that rests on this rests on in front of the turn of the other side, which leads to the board.
     pub(crate) fn passed(self, line: &Line, turn: &Turn, board: &Board) -> Basis
-        ensures stands { HasPosition line.now.state result }
-        ensures passed { IsBeforeReply turn.now board.now self result }
+        requires { IsBoardAfter line.now.frame line.now.state turn.now board.now }
+        ensures { RestsBeforeReply line.now.frame line.now.state turn.now self result }
     {
         let Basis {
             board: _,
@@ -108,7 +106,7 @@ impl Basis {
 
     /// What two trees rest on together that stand at one position.
     pub(crate) fn joined(self, other: Basis) -> Result<Basis, NoMemory>
-        ensures { IfOk result (λ x. IsJoined self other x) }
+        ensures { IfOk result (λ x. RestsOnBoth self other x) }
     {
         let Basis {
             board,
@@ -152,7 +150,7 @@ impl Basis {
 
     /// Whether the line has the position, and its history all that is needed and nothing that is avoided.
     pub(crate) fn is_met(&self, line: &Line) -> bool
-        ensures { IsTrue result → Meets line.now.frame self.now line.now.state }
+        ensures { IsTrue result ↔ Meets line.now.frame self.now line.now.state }
     {
         if self.to_move != line.to_move() || self.passes != line.passes() {
             return false;

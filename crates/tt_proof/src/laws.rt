@@ -1,6 +1,6 @@
 //! Laws of trees and of certificates, over the definitions alone.
 
-ghost use Rattle.tt_proof.specs.OutlineLaws.{OneSharedCertificate, CertificatesAreShared};
+ghost use Rattle.tt_proof.specs.OutlineLaws.{OneSharedCertificate, CertificatesAreShared, OneSharedAnswer};
 ghost use Rattle.tt_proof.specs.StrategyLaws.{WinningForces, FittingWins, FootprintsCarried, ChildNeeds, OneReading, OneCertificate, TreesAreStrategies};
 
 /// A winning tree of depth n makes its side force a win within n turns.
@@ -47,7 +47,12 @@ pub fn one_shared_certificate()
     ensures { OneSharedCertificate }
 {}
 
-/// A certificate is one with shared parts, of the same tree.
+/// A certificate is one with shared parts, of the same tree, and no part of it doesn't fit.
 pub fn certificates_are_shared()
     ensures { CertificatesAreShared }
+{}
+
+/// The rule for shared parts has one answer to an outline at a state: it wins, it doesn't, or a part doesn't fit.
+pub fn one_shared_answer()
+    ensures { OneSharedAnswer }
 {}

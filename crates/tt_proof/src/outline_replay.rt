@@ -1,15 +1,14 @@
 //! The replay of an outline: each part is played once, where it stands.
 
-ghost use Rattle.std.specs.Prelude.{◌≡◌, ◌↔◌, List, [], None, IfOk, OnOk, IfSome, IsTrue};
-ghost use Rattle.tt_game.specs.declared.turns.Turn.{Turn};
-ghost use Rattle.tt_game.specs.declared.frame.Side.{Side};
-ghost use Rattle.tt_game.specs.declared.frame.Frame.{Frame};
-ghost use Rattle.tt_game.specs.Game.{State, IsLegal, after, winner_of, opponent};
+ghost use Rattle.std.specs.Prelude.{◌≡◌, ◌↔◌, [], None, IfOk, OnOk, IfSome, IsTrue};
+ghost use Rattle.tt_game.specs.Game.{IsLegal};
 ghost use Rattle.tt_proof.specs.KeptFootprints.{IsBoardAfter};
-ghost use Rattle.tt_proof.specs.Strategy.{Strategy, done, pick, reply, none, IsOnBoard};
-ghost use Rattle.tt_proof.specs.Outlines.{outline_of, branches_of_list, unfolded, entries_with, names_behind, names_behind_all, with_name, IsOrderly, AreOrderly};
+ghost use Rattle.tt_proof.specs.Strategy.{IsOnBoard};
+ghost use Rattle.tt_proof.specs.Outlines.{outline_of, branches_of_list, unfolded, IsOrderly, AreOrderly};
 ghost use Rattle.tt_proof.specs.Wins.{Wins};
-ghost use Rattle.tt_proof.specs.inside.OutlineReplaying.{WinAsKept, WinsAsKept, IsFound, IsFoundBehind, IsFoundOf, IsBoth, HasBranch};
+ghost use Rattle.tt_proof.specs.SharedParts.{IsBoth, IsFoundBefore, RestsBeforePick, RestsBeforeReply, IsFoundOfEnd, IsFoundOfName, IsFoundOfReply, HasBranch};
+ghost use Rattle.tt_proof.specs.SharedParts.{FindsOutline, basis_of, with_basis, unreached, unreached_all, answer_of, SharedPartsSay};
+ghost use Rattle.tt_proof.specs.inside.OutlineReplaying.{FindsPick, FindsReply, FindsBranch, FindsTogether};
 
 use crate::basis::Basis;
 use crate::outlines::Outline;
@@ -57,10 +56,8 @@ fn found_before_pick(
     board: &Board,
     found: Found,
 ) -> Result<Found, NoMemory>
-    requires legal { IsLegal line.now.frame line.now.state turn.now }
-    requires board { IsBoardAfter line.now.frame line.now.state turn.now board.now }
-    ensures { IfOk result (λ r. (u : Strategy) → IsFound line.now.state.to_move line.now.frame (after line.now.frame line.now.state turn.now) u found
-        → IsFound line.now.state.to_move line.now.frame line.now.state (pick turn.now u) r) }
+    requires { IsBoardAfter line.now.frame line.now.state turn.now board.now }
+    ensures { IfOk result (IsFoundBefore (RestsBeforePick line.now.frame line.now.state turn.now) found) }
 {
     match found {
         Found::Won(behind) => match behind.picked(alloc, line, turn, board) {
@@ -74,10 +71,8 @@ fn found_before_pick(
 
 /// What is found on the branch of a legal turn, which leads to the board, by what is found behind it.
 fn found_before_branch(line: &Line, turn: &Turn, board: &Board, found: Found) -> Found
-    requires legal { IsLegal line.now.frame line.now.state turn.now }
-    requires board { IsBoardAfter line.now.frame line.now.state turn.now board.now }
-    ensures { (s : Side) (u : Strategy) → IsFound s line.now.frame (after line.now.frame line.now.state turn.now) u found
-        → IsFoundBehind s line.now.frame line.now.state turn.now u result }
+    requires { IsBoardAfter line.now.frame line.now.state turn.now board.now }
+    ensures { IsFoundBefore (RestsBeforeReply line.now.frame line.now.state turn.now) found result }
 {
     match found {
         Found::Won(basis) => Found::Won(basis.passed(line, turn, board)),
@@ -88,7 +83,7 @@ fn found_before_branch(line: &Line, turn: &Turn, board: &Board, found: Found) ->
 
 /// What is found on the outline of nothing more to play.
 fn found_of_done(alloc: Global, s: Side, line: &Line) -> Found
-    ensures { IsFound s line.now.frame line.now.state done result }
+    ensures { IsFoundOfEnd s line.now.frame line.now.state result }
 {
     if line.winner() == Some(s) {
         return Found::Won(Basis::of(alloc, line));
@@ -98,7 +93,7 @@ fn found_of_done(alloc: Global, s: Side, line: &Line) -> Found
 
 /// What is found on the part with this name, whose tree wins where this basis is met.
 fn found_of_part(alloc: Global, name: &Option<Basis>, line: &Line) -> Result<Found, NoMemory>
-    ensures { IfOk result (λ r. (s : Side) (u : Strategy) → WinsAsKept s line.now.frame u name.now → IsFound s line.now.frame line.now.state u r) }
+    ensures { IfOk result (IsFoundOfName line.now.frame name.now line.now.state) }
 {
     match name {
         Some(basis) => {
@@ -116,7 +111,7 @@ fn found_of_part(alloc: Global, name: &Option<Basis>, line: &Line) -> Result<Fou
 
 /// What is kept of a tree with a name, by what is found on it.
 fn name_of(alloc: Global, found: &Found) -> Result<Option<Basis>, NoMemory>
-    ensures { IfOk result (λ n. (s : Side) (f : Frame) (at : State) (u : Strategy) → IsFound s f at u found.now → WinsAsKept s f u n) }
+    ensures { IfOk result (λ n. n ≡ basis_of found.now) }
 {
     match found {
         Found::Won(basis) => match basis.try_clone(alloc) {
@@ -135,8 +130,7 @@ fn put_name(
     found: &Found,
     names: &mut Vec<Option<Basis>>,
 ) -> Result<(), NoMemory>
-    ensures { OnOk result ((s : Side) (f : Frame) (at : State) (u : Strategy) (us : List Strategy) → IsFound s f at u found.now → WinAsKept s f us names.old.items
-        → WinAsKept s f (with_name named u us) names.new.items) }
+    ensures { OnOk result (names.new.items ≡ with_basis named (basis_of found.now) names.old.items) }
 {
     if named {
         let name = name_of(alloc, found)?;
@@ -147,8 +141,7 @@ fn put_name(
 
 /// Keeps that a tree, where it has a name, stands where no play leads.
 fn put_unreached(named: bool, names: &mut Vec<Option<Basis>>) -> Result<(), NoMemory>
-    ensures { OnOk result ((s : Side) (f : Frame) (u : Strategy) (us : List Strategy) → WinAsKept s f us names.old.items
-        → WinAsKept s f (with_name named u us) names.new.items) }
+    ensures { OnOk result (names.new.items ≡ with_basis named None names.old.items) }
 {
     if named {
         names.push(None)?;
@@ -159,8 +152,7 @@ fn put_unreached(named: bool, names: &mut Vec<Option<Basis>>) -> Result<(), NoMe
 /// Passes over an outline where no play leads: its names are counted.
 #[cycle(skip)]
 fn skip(o: &Outline, names: &mut Vec<Option<Basis>>) -> Result<(), NoMemory>
-    ensures { OnOk result ((s : Side) (f : Frame) (us : List Strategy) → WinAsKept s f us names.old.items
-        → WinAsKept s f (names_behind us (outline_of o.now)) names.new.items) }
+    ensures { OnOk result (names.new.items ≡ unreached names.old.items (outline_of o.now)) }
 {
     match o {
         Outline::Done => Ok(()),
@@ -178,8 +170,7 @@ fn skip(o: &Outline, names: &mut Vec<Option<Basis>>) -> Result<(), NoMemory>
 
 #[cycle(skip)]
 fn skip_each(list: &[(Turn, Outline)], names: &mut Vec<Option<Basis>>) -> Result<(), NoMemory>
-    ensures { OnOk result ((s : Side) (f : Frame) (us : List Strategy) → WinAsKept s f us names.old.items
-        → WinAsKept s f (names_behind_all us (branches_of_list list.now)) names.new.items) }
+    ensures { OnOk result (names.new.items ≡ unreached_all names.old.items (branches_of_list list.now)) }
 {
     for (_, child) in list {
         skip(child, names)?;
@@ -213,11 +204,7 @@ fn answers_all(list: &[(Turn, Outline)], line: &Line) -> bool
 
 /// What is found on a reply by what is found on all its branches.
 fn found_of_reply(list: &[(Turn, Outline)], line: &Line, found: Found) -> Found
-    requires asked { winner_of line.now.frame line.now.state ≡ None }
-    requires orderly { AreOrderly line.now.frame.size 0 (branches_of_list list.now) }
-    ensures { (s : Side) (us : List Strategy) → line.now.state.to_move ≡ opponent s
-        → IsFoundOf s line.now.frame line.now.state (entries_with us (branches_of_list list.now)) none found
-        → IsFound s line.now.frame line.now.state (reply (entries_with us (branches_of_list list.now))) result }
+    ensures { IsFoundOfReply line.now.frame line.now.state (branches_of_list list.now) found result }
 {
     match found {
         Found::Won(basis) => {
@@ -243,9 +230,7 @@ fn replay_branch(
 ) -> Result<Found, NoMemory>
     requires on_board { IsOnBoard line.old.frame.size turn }
     requires orderly { IsOrderly line.old.frame.size (outline_of child.now) }
-    ensures found { IfOk result (λ r. (us : List Strategy) → WinAsKept s line.old.frame us names.old.items
-        → IsFoundBehind s line.old.frame line.old.state turn (unfolded us (outline_of child.now)) r
-        × WinAsKept s line.old.frame (names_behind us (outline_of child.now)) names.new.items) }
+    ensures found { IfOk result (λ r. FindsBranch s line.old.frame names.old.items turn (outline_of child.now) line.old.state r names.new.items) }
     ensures same { line.new ≡ line.old }
 {
     match line.push(turn) {
@@ -276,9 +261,7 @@ fn replay_branches(
     names: &mut Vec<Option<Basis>>,
 ) -> Result<Found, NoMemory>
     requires orderly { AreOrderly line.old.frame.size 0 (branches_of_list list.now) }
-    ensures found { IfOk result (λ r. (us : List Strategy) → WinAsKept s line.old.frame us names.old.items
-        → IsFoundOf s line.old.frame line.old.state (entries_with us (branches_of_list list.now)) none r
-        × WinAsKept s line.old.frame (names_behind_all us (branches_of_list list.now)) names.new.items) }
+    ensures found { IfOk result (λ r. FindsTogether s line.old.frame names.old.items (branches_of_list list.now) line.old.state r names.new.items) }
     ensures same { line.new ≡ line.old }
 {
     let basis = Basis::of_repeats(alloc, line)?;
@@ -299,9 +282,7 @@ fn replay_reply(
     names: &mut Vec<Option<Basis>>,
 ) -> Result<Found, NoMemory>
     requires orderly { AreOrderly line.old.frame.size 0 (branches_of_list list.now) }
-    ensures found { IfOk result (λ r. (us : List Strategy) → WinAsKept s line.old.frame us names.old.items
-        → IsFound s line.old.frame line.old.state (reply (entries_with us (branches_of_list list.now))) r
-        × WinAsKept s line.old.frame (names_behind_all us (branches_of_list list.now)) names.new.items) }
+    ensures found { IfOk result (λ r. FindsReply s line.old.frame names.old.items (branches_of_list list.now) line.old.state r names.new.items) }
     ensures same { line.new ≡ line.old }
 {
     if !is_asked(s, line) {
@@ -325,9 +306,7 @@ fn replay_pick(
 ) -> Result<Found, NoMemory>
     requires on_board { IsOnBoard line.old.frame.size turn }
     requires orderly { IsOrderly line.old.frame.size (outline_of child.now) }
-    ensures found { IfOk result (λ r. (us : List Strategy) → WinAsKept s line.old.frame us names.old.items
-        → IsFound s line.old.frame line.old.state (pick turn (unfolded us (outline_of child.now))) r
-        × WinAsKept s line.old.frame (names_behind us (outline_of child.now)) names.new.items) }
+    ensures found { IfOk result (λ r. FindsPick s line.old.frame names.old.items turn (outline_of child.now) line.old.state r names.new.items) }
     ensures same { line.new ≡ line.old }
 {
     if line.to_move() != s {
@@ -362,9 +341,7 @@ fn replay_outline(
     names: &mut Vec<Option<Basis>>,
 ) -> Result<Found, NoMemory>
     requires orderly { IsOrderly line.old.frame.size (outline_of o.now) }
-    ensures found { IfOk result (λ r. (us : List Strategy) → WinAsKept s line.old.frame us names.old.items
-        → IsFound s line.old.frame line.old.state (unfolded us (outline_of o.now)) r
-        × WinAsKept s line.old.frame (names_behind us (outline_of o.now)) names.new.items) }
+    ensures found { IfOk result (λ r. FindsOutline s line.old.frame names.old.items (outline_of o.now) line.old.state r names.new.items) }
     ensures same { line.new ≡ line.old }
 {
     match o {
@@ -388,7 +365,7 @@ fn replay_outline(
 
 /// Whether the tree wins on which this is found, where that is known.
 fn said_of(found: &Found) -> Option<bool>
-    ensures { (s : Side) (f : Frame) (at : State) (u : Strategy) → IsFound s f at u found.now → IfSome result (λ wins. IsTrue wins ↔ Wins s f u at) }
+    ensures { result ≡ answer_of found.now }
 {
     match found {
         Found::Won(_) => Some(true),
@@ -397,8 +374,8 @@ fn said_of(found: &Found) -> Option<bool>
     }
 }
 
-/// Whether the outline's tree wins for the side from the line's state; none where a part doesn't fit the history where it stands
-/// in for its tree. Each part is played once. The outline's turns are in order. The line stands as before, also after want of
+/// Whether the outline's tree wins for the side from the line's state; none exactly where a part doesn't fit the history where it
+/// stands in for its tree. Each part is played once. The outline's turns are in order. The line stands as before, also after want of
 /// memory.
 pub fn replay_parts(
     alloc: Global,
@@ -407,6 +384,7 @@ pub fn replay_parts(
     line: &mut Line,
 ) -> Result<Option<bool>, NoMemory>
     requires { IsOrderly line.old.frame.size (outline_of o.now) }
+    ensures parts { IfOk result (SharedPartsSay s line.old.frame (outline_of o.now) line.old.state) }
     ensures exact { IfOk result (λ answer. IfSome answer (λ wins. IsTrue wins ↔ Wins s line.old.frame (unfolded [] (outline_of o.now)) line.old.state)) }
     ensures same { line.new ≡ line.old }
 {

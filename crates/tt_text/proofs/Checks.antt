@@ -1,5 +1,5 @@
 -- Lemmas on what is found on a certificate.
-use Rattle.std.proofs.Common.{◌≡◌, ◌≤◌, ◌-◌, ℕ, Bool, List, [], ap, ◌∙◌, length, take, drop, arith, subst}
+use Rattle.std.proofs.Common.{◌≡◌, ◌≤◌, ◌-◌, ℕ, Bool, true, false, Some, None, List, [], ap, ◌∙◌, length, take, drop, arith, subst}
 use Rattle.std.proofs.lemmas.List.{take_all, length-drop}
 use Rattle.tt_sgf.specs.declared.trees.TheConstants.{MAX_BYTES}
 use Rattle.tt_sgf.specs.declared.nodes.Node.{Node}
@@ -15,6 +15,7 @@ use Rattle.tt_proof.specs.CertificateFaults.{IsFault, IsSharedFault}
 use Rattle.tt_proof.specs.declared.tree.TheConstants.{MOST_DEPTH}
 use Rattle.tt_proof.specs.CertificateText.{IsCertificate, IsTooDeep}
 use Rattle.tt_proof.specs.Outlines.{Outline, IsSharedCertificate, unfolded}
+use Rattle.tt_proof.specs.SharedParts.{SharedPartsSay}
 use Rattle.tt_proof.specs.Strategy.{Strategy}
 use Rattle.tt_proof.specs.Wins.{Wins}
 use Rattle.tt_text.specs.declared.finding.Finding.{Finding}
@@ -57,14 +58,14 @@ module _ (p : LineWithUndo) (f : Frame) (bytes : List ℕ) (same : f ≡ p.frame
   here : IsSharedCertificate p.frame.size bytes side o
   here = subst (λ (g : Frame). IsSharedCertificate g.size bytes side o) same is
 
-  pub shared_wins_at : Wins side p.frame (unfolded [] o) p.state → FindsShared p bytes Valid
-  shared_wins_at w = shared_wins side o here w
+  pub shared_wins_at : SharedPartsSay side p.frame o p.state (Some true) → Wins side p.frame (unfolded [] o) p.state → FindsShared p bytes Valid
+  shared_wins_at h w = shared_wins side o here h w
 
-  pub shared_loses_at : (Wins side p.frame (unfolded [] o) p.state → ⊥) → FindsShared p bytes Invalid
-  shared_loses_at w = shared_loses side o here w
+  pub shared_loses_at : SharedPartsSay side p.frame o p.state (Some false) → (Wins side p.frame (unfolded [] o) p.state → ⊥) → FindsShared p bytes Invalid
+  shared_loses_at h w = shared_loses side o here h w
 
-  pub unfit_at : FindsShared p bytes (Refused 32)
-  unfit_at = unfit side o here
+  pub unfit_at : SharedPartsSay side p.frame o p.state None → FindsShared p bytes (Refused 32)
+  unfit_at h = unfit side o here h
 
 -- what is found behind the first tree
 pub found_behind : (parts : Bool) (input : List ℕ) (used : ℕ) (t : GameTree) (nodes : List Node) (bytes : List ℕ) (o : Finding) → length input ≤ MAX_BYTES → FirstTreeEndsAt input used t

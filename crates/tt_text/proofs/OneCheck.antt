@@ -1,5 +1,5 @@
 -- An input has one text and one status that answer `check`.
-use Rattle.std.proofs.Common.{◌≡◌, ℕ, false, List, Ok, Err, refl, sym, ap, ◌∙◌, drop, arith, subst}
+use Rattle.std.proofs.Common.{◌≡◌, ℕ, Bool, true, false, Option, Some, None, List, Ok, Err, refl, sym, ap, ◌∙◌, drop, arith, subst}
 use Rattle.std.specs.declared.result.Result.{Result}
 use Rattle.tt_sgf.specs.Grammar.{GameTree, main_line, OneSpelling}
 use Rattle.tt_sgf.specs.Values.{trimmed}
@@ -8,13 +8,68 @@ use Rattle.tt_game.specs.declared.frame.Side.{Side}
 use Rattle.tt_game.specs.Line.{LineWithUndo}
 use Rattle.tt_game.specs.Problems.{problem_of}
 use Rattle.tt_proof.specs.CertificateText.{IsCertificate}
+use Rattle.tt_proof.specs.CertificateFaults.{IsSharedFault}
+use Rattle.tt_proof.specs.declared.certificate_read.CertFault.TheVariants.{Syntax, TooDeep}
+use Rattle.tt_proof.specs.declared.tree.TheConstants.{MOST_DEPTH}
 use Rattle.tt_proof.specs.StrategyLaws.{OneCertificate}
+use Rattle.tt_proof.specs.OutlineLaws.{OneSharedCertificate, OneSharedAnswer}
+use Rattle.tt_proof.specs.Outlines.{Outline, IsSharedCertificate}
+use Rattle.tt_proof.specs.SharedParts.{SharedPartsSay}
 use Rattle.tt_proof.specs.Strategy.{Strategy}
 use Rattle.tt_proof.specs.Wins.{Wins}
 use Rattle.tt_text.specs.declared.finding.Finding.{Finding}
-use Rattle.tt_text.specs.Checking.{Finds, FindsAt, FindsOn, IsCheckText, finding_line, finding_status, first_tree, loses, no_certificate, no_tree, too_deep, too_long, wins}
+use Rattle.tt_text.specs.Checking.{Finds, FindsAt, FindsShared, FindsBy, FindsOn, IsCheckText, finding_line, finding_status, first_tree, loses, no_certificate, no_tree}
+use Rattle.tt_text.specs.Checking.{too_deep, too_long, wins, unread, goes_deep, unfit, shared_wins, shared_loses}
 
-module _ (one : OneCertificate) where
+no_answer : (b : Bool) → None ≡ Some b → ⊥
+no_answer b e = cc
+
+two_answers : Some true ≡ Some false → ⊥
+two_answers e = cc
+
+module _ (one : OneSharedCertificate) (answer : OneSharedAnswer) (p : LineWithUndo) (bytes : List ℕ) where
+  -- the rule has one answer to the bytes
+  says_same : (s t : Side) (o q : Outline) (a b : Option Bool) → IsSharedCertificate p.frame.size bytes s o → IsSharedCertificate p.frame.size bytes t q
+      → SharedPartsSay s p.frame o p.state a → SharedPartsSay t p.frame q p.state b → a ≡ b
+  says_same s t o q a b is are h k =
+      let same = one p.frame.size bytes s t o q is are in
+      answer t p.frame q p.state a b (subst (λ (x : Side). SharedPartsSay x p.frame q p.state a) same.0 (subst (λ (x : Outline). SharedPartsSay s p.frame x p.state a) same.1 h)) k
+
+  not_deeper : (s : Side) (o : Outline) → IsSharedCertificate p.frame.size bytes s o → IsSharedFault p.frame.size MOST_DEPTH bytes TooDeep → ⊥
+  not_deeper s o is h = let deep = h.1 s o is.closed is.orderly is.text in let low = is.low in omega (arith, deep, low)
+
+  is_read : (s : Side) (o : Outline) → IsSharedCertificate p.frame.size bytes s o → IsSharedFault p.frame.size MOST_DEPTH bytes Syntax → ⊥
+  is_read s o is h = h.0 s o is.closed is.orderly is.text
+
+  -- one thing is found on bytes at a problem where parts may be shared
+  found_shared : (o q : Finding) → FindsShared p bytes o → FindsShared p bytes q → o ≡ q
+  found_shared o q (unread a) (unread b) = refl
+  found_shared o q (unread a) (goes_deep b) = absurd (a.1 b.0)
+  found_shared o q (unread a) (unfit t v are k) = absurd (is_read t v are a)
+  found_shared o q (unread a) (shared_wins t v are k w) = absurd (is_read t v are a)
+  found_shared o q (unread a) (shared_loses t v are k l) = absurd (is_read t v are a)
+  found_shared o q (goes_deep a) (unread b) = absurd (b.1 a.0)
+  found_shared o q (goes_deep a) (goes_deep b) = refl
+  found_shared o q (goes_deep a) (unfit t v are k) = absurd (not_deeper t v are a)
+  found_shared o q (goes_deep a) (shared_wins t v are k w) = absurd (not_deeper t v are a)
+  found_shared o q (goes_deep a) (shared_loses t v are k l) = absurd (not_deeper t v are a)
+  found_shared o q (unfit s u is h) (unread b) = absurd (is_read s u is b)
+  found_shared o q (unfit s u is h) (goes_deep b) = absurd (not_deeper s u is b)
+  found_shared o q (unfit s u is h) (unfit t v are k) = refl
+  found_shared o q (unfit s u is h) (shared_wins t v are k w) = absurd (no_answer true (says_same s t u v None (Some true) is are h k))
+  found_shared o q (unfit s u is h) (shared_loses t v are k l) = absurd (no_answer false (says_same s t u v None (Some false) is are h k))
+  found_shared o q (shared_wins s u is h w) (unread b) = absurd (is_read s u is b)
+  found_shared o q (shared_wins s u is h w) (goes_deep b) = absurd (not_deeper s u is b)
+  found_shared o q (shared_wins s u is h w) (unfit t v are k) = absurd (no_answer true (says_same t s v u None (Some true) are is k h))
+  found_shared o q (shared_wins s u is h w) (shared_wins t v are k x) = refl
+  found_shared o q (shared_wins s u is h w) (shared_loses t v are k l) = absurd (two_answers (says_same s t u v (Some true) (Some false) is are h k))
+  found_shared o q (shared_loses s u is h l) (unread b) = absurd (is_read s u is b)
+  found_shared o q (shared_loses s u is h l) (goes_deep b) = absurd (not_deeper s u is b)
+  found_shared o q (shared_loses s u is h l) (unfit t v are k) = absurd (no_answer false (says_same t s v u None (Some false) are is k h))
+  found_shared o q (shared_loses s u is h l) (shared_wins t v are k w) = absurd (two_answers (says_same t s v u (Some true) (Some false) are is k h))
+  found_shared o q (shared_loses s u is h l) (shared_loses t v are k m) = refl
+
+module _ (one : OneCertificate) (one_shared : OneSharedCertificate) (answer : OneSharedAnswer) where
   -- a tree doesn't win and lose
   not_both : (p : LineWithUndo) (bytes : List ℕ) (s t : Side) (u v : Strategy) → IsCertificate p.frame.size bytes s u → IsCertificate p.frame.size bytes t v
       → Wins s p.frame u p.state → (Wins t p.frame v p.state → ⊥) → ⊥
@@ -42,13 +97,14 @@ module _ (one : OneCertificate) where
   found_at p bytes o q (loses s u flat is l) (loses t v level are m) = refl
 
   -- so it is where the problem may be refused before
-  found_on : (r : Result LineWithUndo GameFault) (bytes : List ℕ) (o q : Finding) → FindsOn false r bytes o → FindsOn false r bytes q → o ≡ q
-  found_on (Ok p) bytes o q a b = found_at p bytes o q a b
-  found_on (Err e) bytes o q a b = a ∙ sym b
+  found_on : (parts : Bool) (r : Result LineWithUndo GameFault) (bytes : List ℕ) (o q : Finding) → FindsOn parts r bytes o → FindsOn parts r bytes q → o ≡ q
+  found_on true (Ok p) bytes o q a b = found_shared one_shared answer p bytes o q a b
+  found_on false (Ok p) bytes o q a b = found_at p bytes o q a b
+  found_on parts (Err e) bytes o q a b = a ∙ sym b
 
-  module _ (reading : OneSpelling) where
+  module _ (reading : OneSpelling) (parts : Bool) where
     -- one thing is found on an input
-    found_same : (input : List ℕ) (o q : Finding) → Finds false input o → Finds false input q → o ≡ q
+    found_same : (input : List ℕ) (o q : Finding) → Finds parts input o → Finds parts input q → o ≡ q
     found_same input o q (too_long long) (too_long more) = refl
     found_same input o q (too_long long) (no_tree small none) = absurd (omega arith)
     found_same input o q (too_long long) (first_tree n t q' small s b) = absurd (omega arith)
@@ -59,12 +115,12 @@ module _ (one : OneCertificate) where
     found_same input o q (first_tree n t o' small s a) (no_tree little none) = absurd (none t n s)
     found_same input o q (first_tree n t o' small s a) (first_tree m u q' little r b) =
         let same = reading input n m t u s r in
-        found_on (problem_of (main_line u)) (trimmed (drop m input)) o' q'
-        (subst (λ (x : GameTree). FindsOn false (problem_of (main_line x)) (trimmed (drop m input)) o') same.1
-        (subst (λ x. FindsOn false (problem_of (main_line t)) (trimmed (drop x input)) o') same.0 a)) b
+        found_on parts (problem_of (main_line u)) (trimmed (drop m input)) o' q'
+        (subst (λ (x : GameTree). FindsOn parts (problem_of (main_line x)) (trimmed (drop m input)) o') same.1
+        (subst (λ x. FindsOn parts (problem_of (main_line t)) (trimmed (drop x input)) o') same.0 a)) b
 
     -- an input has one text and one status
-    pub checks_same : (input s t : List ℕ) (m n : ℕ) → IsCheckText false input s m → IsCheckText false input t n → (s ≡ t) × (m ≡ n)
+    pub checks_same : (input s t : List ℕ) (m n : ℕ) → IsCheckText parts input s m → IsCheckText parts input t n → (s ≡ t) × (m ≡ n)
     checks_same input s t m n a b =
         let same = found_same input a.finding b.finding a.finds b.finds in
         (a.line ∙ ap finding_line same ∙ sym b.line, a.status_is ∙ ap finding_status same ∙ sym b.status_is)

@@ -44,6 +44,7 @@ plain_shared p f s most text at won low e =
       is = c.1.0;
       wins = subst (λ (v : Strategy). Wins p.side f v s) (sym c.1.1) w.wins;
       low = subst (λ (v : Strategy). depth v ≤ most) (sym c.1.1) low;
+      fits = c.1.2 p.side f s;
       begins = sym (ap first_of c.1.1);
     }
 

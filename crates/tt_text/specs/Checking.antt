@@ -1,5 +1,5 @@
 -- What `check` writes for an input: one line on the certificate that follows the first tree.
-use Rattle.std.specs.Prelude.{◌≡◌, ◌<◌, ◌≤◌, ℕ, Bool, true, false, List, [], ◌∷◌, ◌++◌, length, drop, codes, decimal, Ok, Err}
+use Rattle.std.specs.Prelude.{◌≡◌, ◌<◌, ◌≤◌, ℕ, Bool, true, false, List, [], ◌∷◌, ◌++◌, length, drop, codes, decimal, Some, None, Ok, Err}
 use Rattle.std.specs.declared.result.Result.{Result}
 use Rattle.tt_sgf.specs.Bytes.{newline}
 use Rattle.tt_sgf.specs.declared.trees.TheConstants.{MAX_BYTES}
@@ -15,6 +15,7 @@ use Rattle.tt_proof.specs.declared.tree.TheConstants.{MOST_DEPTH}
 use Rattle.tt_proof.specs.CertificateFaults.{IsSharedFault}
 use Rattle.tt_proof.specs.CertificateText.{IsCertificate, IsTooDeep}
 use Rattle.tt_proof.specs.Outlines.{Outline, IsSharedCertificate, unfolded}
+use Rattle.tt_proof.specs.SharedParts.{SharedPartsSay}
 use Rattle.tt_proof.specs.Strategy.{Strategy}
 use Rattle.tt_proof.specs.Wins.{Wins}
 use Rattle.tt_text.specs.declared.finding.Finding.{Finding}
@@ -31,16 +32,17 @@ pub data FindsAt (p : LineWithUndo) (bytes : List ℕ) : Finding → Type 0 wher
   loses : (side : Side) (u : Strategy) → (IsTooDeep p.frame.size bytes → ⊥) → IsCertificate p.frame.size bytes side u
       → (Wins side p.frame u p.state → ⊥) → FindsAt p bytes Invalid
 
--- What is found on bytes at a problem where parts may be shared: they are a certificate with shared parts, and its tree wins at
--- the problem or doesn't, or a part doesn't fit; or they are none, or only a tree that is too deep has them.
+-- What is found on bytes at a problem where parts may be shared: they are a certificate with shared parts, and a part of it
+-- doesn't fit, or its tree wins at the problem or doesn't; or they are none.
 pub data FindsShared (p : LineWithUndo) (bytes : List ℕ) : Finding → Type 0 where
   unread : IsSharedFault p.frame.size MOST_DEPTH bytes Syntax → FindsShared p bytes (Refused 30)
   goes_deep : IsSharedFault p.frame.size MOST_DEPTH bytes TooDeep → FindsShared p bytes (Refused 31)
-  unfit : (side : Side) (o : Outline) → IsSharedCertificate p.frame.size bytes side o → FindsShared p bytes (Refused 32)
-  shared_wins : (side : Side) (o : Outline) → IsSharedCertificate p.frame.size bytes side o → Wins side p.frame (unfolded [] o) p.state
-      → FindsShared p bytes Valid
-  shared_loses : (side : Side) (o : Outline) → IsSharedCertificate p.frame.size bytes side o → (Wins side p.frame (unfolded [] o) p.state → ⊥)
-      → FindsShared p bytes Invalid
+  unfit : (side : Side) (o : Outline) → IsSharedCertificate p.frame.size bytes side o → SharedPartsSay side p.frame o p.state None
+      → FindsShared p bytes (Refused 32)
+  shared_wins : (side : Side) (o : Outline) → IsSharedCertificate p.frame.size bytes side o → SharedPartsSay side p.frame o p.state (Some true)
+      → Wins side p.frame (unfolded [] o) p.state → FindsShared p bytes Valid
+  shared_loses : (side : Side) (o : Outline) → IsSharedCertificate p.frame.size bytes side o → SharedPartsSay side p.frame o p.state (Some false)
+      → (Wins side p.frame (unfolded [] o) p.state → ⊥) → FindsShared p bytes Invalid
 
 -- the one or the other, as parts are asked for
 abbrev pub FindsBy : Bool → LineWithUndo → List ℕ → Finding → Type 0

@@ -1,5 +1,5 @@
 //! Laws of what the program writes. Each is a function that does nothing, whose contract is the law.
-ghost use Rattle.std.specs.Prelude.{◌≡◌, ℕ, List, false};
+ghost use Rattle.std.specs.Prelude.{◌≡◌, ℕ, Bool, List};
 ghost use Rattle.tt_text.specs.Checking.{IsCheckText};
 ghost use Rattle.tt_text.specs.Laws.{VerdictsAreValues};
 ghost use Rattle.tt_text.specs.Scoring.{Scores};
@@ -12,12 +12,14 @@ pub fn one_score_text()
     tt_sgf::laws::one_reading();
 }
 
-/// An input has one text and one status that answer `check` without `--parts`.
+/// An input has one text and one status that answer `check`, with `--parts` or without.
 pub fn one_check_text()
-    ensures { (input s t : List ℕ) (m n : ℕ) → IsCheckText false input s m → IsCheckText false input t n → (s ≡ t) × (m ≡ n) }
+    ensures { (parts : Bool) (input s t : List ℕ) (m n : ℕ) → IsCheckText parts input s m → IsCheckText parts input t n → (s ≡ t) × (m ≡ n) }
 {
     tt_sgf::laws::one_reading();
     tt_proof::laws::one_certificate();
+    tt_proof::laws::one_shared_certificate();
+    tt_proof::laws::one_shared_answer();
 }
 
 /// A verdict of `solve` that names a side says the problem's value. The turn that it shows keeps that value, and where it

@@ -6,17 +6,13 @@ use Rattle.tt_proof.specs.declared.certificate_read.CertFault.{CertFault}
 use Rattle.tt_proof.specs.declared.certificate_read.CertFault.TheVariants.{Syntax, TooDeep, NoMemory}
 use Rattle.tt_proof.specs.Strategy.{Strategy, depth, depth_of_entries}
 use Rattle.tt_proof.specs.Outlines.{Outline, Branches, ended, picked, replied, part, unfolded, entries_with, names_behind, names_behind_all, RefersBack, ReferBack, IsOrderly, AreOrderly}
-use Rattle.tt_proof.specs.Outlines.{outline_text, branches_text}
+use Rattle.tt_proof.specs.Outlines.{outline_text, branches_text, GoesDeep, GoDeep}
+pub use Rattle.tt_proof.specs.Outlines.{NoDigit}
 
 -- the depths of all named trees, with one more where the tree has a name
 abbrev pub with_depth : Bool → ℕ → List ℕ → List ℕ
 with_depth true d ds = ds ++ d ∷ []
 with_depth false d ds = ds
-
--- no decimal digit stands in front
-abbrev pub NoDigit : List ℕ → Type 0
-NoDigit [] = Unit {0}
-NoDigit (b ∷ bs) = (48 ≤ b) × (b ≤ 57) → ⊥
 
 -- digits are all that stands before y, which begins with none, and n is their number, or the greatest of 32 bits
 pub record DigitsAt (n : ℕ) (r y : List ℕ) : Type 0 where
@@ -59,17 +55,34 @@ module _ (size : Size) where
     pub at : (us : List Strategy) → map depth us ≡ old → BranchesAt us least bs d r y
     pub names : (us : List Strategy) → map depth us ≡ old → map depth (names_behind_all us bs) ≡ new
 
+  -- r begins as an outline does that goes deeper
+  pub record OutlineDeepAt (us : List Strategy) (left : ℕ) (r : List ℕ) : Type 0 where
+    pub outline : Outline
+    pub closed : RefersBack us outline
+    pub orderly : IsOrderly size outline
+    pub deep : GoesDeep size us left outline r
+
+  pub record BranchesDeepAt (us : List Strategy) (left least : ℕ) (r : List ℕ) : Type 0 where
+    pub branches : Branches
+    pub closed : ReferBack us branches
+    pub orderly : AreOrderly size least branches
+    pub deep : GoDeep size us left branches r
+
   -- no outline is at the front of r, or only deeper ones
   abbrev pub OutlineFaultAt : ℕ → List ℕ → List ℕ → CertFault → Type 0
   OutlineFaultAt left old r Syntax =
-      (us : List Strategy) → map depth us ≡ old → (o : Outline) (d : ℕ) (y : List ℕ) → OutlineAt us o d r y → ⊥
+      ((us : List Strategy) → map depth us ≡ old → (o : Outline) (d : ℕ) (y : List ℕ) → OutlineAt us o d r y → ⊥)
+      × ((us : List Strategy) → map depth us ≡ old → OutlineDeepAt us left r → ⊥)
   OutlineFaultAt left old r TooDeep =
-      (us : List Strategy) → map depth us ≡ old → (o : Outline) (d : ℕ) (y : List ℕ) → OutlineAt us o d r y → left < d
+      ((us : List Strategy) → map depth us ≡ old → (o : Outline) (d : ℕ) (y : List ℕ) → OutlineAt us o d r y → left < d)
+      × ((us : List Strategy) → map depth us ≡ old → OutlineDeepAt us left r)
   OutlineFaultAt left old r NoMemory = Unit {0}
 
   abbrev pub BranchesFaultAt : ℕ → List ℕ → ℕ → List ℕ → CertFault → Type 0
   BranchesFaultAt left old least r Syntax =
-      (us : List Strategy) → map depth us ≡ old → (bs : Branches) (d : ℕ) (y : List ℕ) → BranchesAt us least bs d r y → ⊥
+      ((us : List Strategy) → map depth us ≡ old → (bs : Branches) (d : ℕ) (y : List ℕ) → BranchesAt us least bs d r y → ⊥)
+      × ((us : List Strategy) → map depth us ≡ old → BranchesDeepAt us left least r → ⊥)
   BranchesFaultAt left old least r TooDeep =
-      (us : List Strategy) → map depth us ≡ old → (bs : Branches) (d : ℕ) (y : List ℕ) → BranchesAt us least bs d r y → left < d
+      ((us : List Strategy) → map depth us ≡ old → (bs : Branches) (d : ℕ) (y : List ℕ) → BranchesAt us least bs d r y → left < d)
+      × ((us : List Strategy) → map depth us ≡ old → BranchesDeepAt us left least r)
   BranchesFaultAt left old least r NoMemory = Unit {0}

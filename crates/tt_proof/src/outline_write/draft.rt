@@ -2,6 +2,7 @@
 //! whatever tree the walk has there. No contract speaks of what a draft says.
 
 ghost use Rattle.std.specs.Prelude.{◌≡◌, OnOk};
+ghost use Rattle.tt_proof.specs.KeptFootprints.{IsBoardAfter};
 ghost use Rattle.tt_proof.specs.Strategy.{strategy_of, entries_of_trees, IsInOrder, AreInOrder, IsOnBoard};
 
 use crate::basis::Basis;
@@ -142,7 +143,9 @@ fn picked(
     turn: &Turn,
     board: &Board,
     behind: Written,
-) -> Result<Written, NoMemory> {
+) -> Result<Written, NoMemory>
+    requires { IsBoardAfter line.now.frame line.now.state turn.now board.now }
+{
     let Written { basis, depth } = behind;
     Ok(Written {
         basis: basis.picked(alloc, line, turn, board)?,
@@ -157,7 +160,9 @@ fn joined(
     board: &Board,
     before: Written,
     behind: Written,
-) -> Result<Written, NoMemory> {
+) -> Result<Written, NoMemory>
+    requires { IsBoardAfter line.now.frame line.now.state turn.now board.now }
+{
     let Written { basis, depth } = behind;
     let Written {
         basis: others,

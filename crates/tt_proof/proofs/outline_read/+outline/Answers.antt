@@ -1,4 +1,4 @@
-use Rattle.std.proofs.Common.{rules, arith, length, ◌≡◌, ◌+◌, ◌-◌, ◌++◌, ℕ, suc, max, [], ◌∷◌, ◌∙◌, sym, ap, subst}
+use Rattle.std.proofs.Common.{rules, arith, length, ◌≡◌, ◌+◌, ◌-◌, ◌≤◌, ◌++◌, ℕ, suc, max, [], ◌∷◌, ◌∙◌, sym, ap, subst}
 use Rattle.tt_proof.specs.declared.certificate_read.CertFault.TheVariants.{Syntax, TooDeep}
 use Rattle.tt_proof.specs.CertificateText.{pick_symbol}
 use Rattle.tt_proof.specs.Outlines.{name_text}
@@ -78,14 +78,15 @@ read_pick-returns-in-None t c = no_turn c.args.size c.args.named c.args.left c.a
 pub read_pick-returns-then-left-eq0 : goal.read_pick-returns-then-left-eq0
 read_pick-returns-then-left-eq0 t c =
     subst (λ k. OutlineFaultAt c.args.size k c.args.depths.now.items (name_text c.args.named ++ (pick_symbol ∷ c.args.bytes.now)) TooDeep)
-    (sym c.if-left-eq0.true) (no_room c.args.size c.args.named c.args.depths.now.items c.args.bytes.now)
+    (sym c.if-left-eq0.true)
+    (no_room c.args.size c.args.named c.args.depths.now.items c.in-Some.turn c.args.bytes.now c.in-Some.after.now c.in-Some.ensures.0 c.in-Some.ensures.3)
 
 pub read_pick-returns-in-Err : goal.read_pick-returns-in-Err
 read_pick-returns-in-Err t c =
     subst (λ k. OutlineFaultAt c.args.size k c.args.depths.now.items (name_text c.args.named ++ (pick_symbol ∷ c.args.bytes.now)) c.in-Err.fault)
     (sym (one_more c.args.left c.if-left-eq0.false))
     (pick_fault c.args.size c.args.named (c.args.left - 1) c.args.depths.now.items c.in-Some.turn c.args.bytes.now c.in-Some.after.now c.in-Err.fault
-    c.in-Some.ensures.3 c.in-Err.ensures)
+    c.in-Some.ensures.0 c.in-Some.ensures.3 c.in-Err.ensures)
 
 pub read_reply-returns-in-Err : goal.read_reply-returns-in-Err
 read_reply-returns-in-Err t c =
@@ -94,7 +95,7 @@ read_reply-returns-in-Err t c =
 pub read_branches-returns-in-None-read_turn : goal.read_branches-returns-in-None-read_turn
 read_branches-returns-in-None-read_turn t c =
     walked_fault c.args.size c.args.left c.loop-rest.least c.loop-rest.most c.args.depths.now.items c.loop-rest.depths.items c.args.bytes.now
-    c.loop-rest.now.now c.loop-rest.list.items Syntax c.loop-rest.invariant.walked
+    c.loop-rest.now.now c.loop-rest.list.items Syntax c.loop-rest.invariant.walked c.loop-rest.invariant.low
     (no_branches c.args.size c.args.left c.loop-rest.depths.items c.loop-rest.least c.loop-rest.now.now c.in-None.ensures c.in-None-read_turn.ensures)
 
 pub read_branches-returns-then-number-least : goal.read_branches-returns-then-number-least
@@ -102,7 +103,7 @@ read_branches-returns-then-number-least t c =
     let turn = c.in-Some-read_turn in
     let e = turn.ensures.1 in
     walked_fault c.args.size c.args.left c.loop-rest.least c.loop-rest.most c.args.depths.now.items c.loop-rest.depths.items c.args.bytes.now
-    c.loop-rest.now.now c.loop-rest.list.items Syntax c.loop-rest.invariant.walked
+    c.loop-rest.now.now c.loop-rest.list.items Syntax c.loop-rest.invariant.walked c.loop-rest.invariant.low
     (not_rising c.args.size c.loop-rest.depths.items c.loop-rest.least c.loop-rest.now.now turn.middle.now turn.turn turn.ensures.3 c.args.left
     (omega (arith, e)))
 
@@ -110,16 +111,17 @@ pub read_branches-returns-then-left-eq0 : goal.read_branches-returns-then-left-e
 read_branches-returns-then-left-eq0 t c =
     let turn = c.in-Some-read_turn in
     walked_fault c.args.size c.args.left c.loop-rest.least c.loop-rest.most c.args.depths.now.items c.loop-rest.depths.items c.args.bytes.now
-    c.loop-rest.now.now c.loop-rest.list.items TooDeep c.loop-rest.invariant.walked
+    c.loop-rest.now.now c.loop-rest.list.items TooDeep c.loop-rest.invariant.walked c.loop-rest.invariant.low
     (subst (λ k. BranchesFaultAt c.args.size k c.loop-rest.depths.items c.loop-rest.least c.loop-rest.now.now TooDeep) (sym c.if-left-eq0.true)
-    (no_room_below c.args.size c.loop-rest.depths.items c.loop-rest.least c.loop-rest.now.now turn.middle.now turn.turn turn.ensures.3))
+    (no_room_below c.args.size c.loop-rest.depths.items c.loop-rest.least c.loop-rest.now.now turn.middle.now turn.turn turn.ensures.3 turn.ensures.0
+    (subst (λ n. c.loop-rest.least ≤ n) turn.ensures.1 c.if-number-least.false)))
 
 pub read_branches-returns-in-Err : goal.read_branches-returns-in-Err
 read_branches-returns-in-Err t c =
     let turn = c.in-Some-read_turn in
     walked_fault c.args.size c.args.left c.loop-rest.least c.loop-rest.most c.args.depths.now.items c.loop-rest.depths.items c.args.bytes.now
-    c.loop-rest.now.now c.loop-rest.list.items c.in-Err.fault c.loop-rest.invariant.walked
+    c.loop-rest.now.now c.loop-rest.list.items c.in-Err.fault c.loop-rest.invariant.walked c.loop-rest.invariant.low
     (subst (λ k. BranchesFaultAt c.args.size k c.loop-rest.depths.items c.loop-rest.least c.loop-rest.now.now c.in-Err.fault)
     (sym (one_more c.args.left c.if-left-eq0.false))
     (branch_fault c.args.size c.loop-rest.depths.items c.loop-rest.least c.loop-rest.now.now turn.middle.now turn.turn turn.ensures.3
-    (c.args.left - 1) c.in-Err.fault c.in-Err.ensures))
+    (c.args.left - 1) c.in-Err.fault turn.ensures.0 (subst (λ n. c.loop-rest.least ≤ n) turn.ensures.1 c.if-number-least.false) c.in-Err.ensures))

@@ -1,4 +1,4 @@
-use Rattle.std.proofs.Common.{rules, arith, ◌-◌}
+use Rattle.std.proofs.Common.{rules, arith}
 use Rattle.tt_proof.proofs.NameLemmas.{name_stands, no_name_empty, no_name_great, no_name_zero}
 use Rattle.tt_proof.proofs.outline_read.read_name.Goals.{then-length-eq0-via-then-length-eq0, then-length-eq0-via-else-length-eq0+then-number-gt-MOST_NAME}
 use Rattle.tt_proof.proofs.outline_read.read_name.Goals.{then-length-eq0-via-else-length-eq0+else-number-gt-MOST_NAME+then-bytes-eq48, then-length-gt1, else-length-gt1}

@@ -26,5 +26,5 @@ returns-in-Err-clause-fault c =
 
 pub returns-clause-fault : goal.returns-clause-fault
 returns-clause-fault c =
-    shared_more c.args.size c.args.bytes.now c.args.rest.now c.args.s c.args.most_depth c.requires.side c.args.most_depth _ _
+    shared_more c.args.size c.args.bytes.now c.args.rest.now c.args.s c.args.most_depth c.requires.side _ _
     (outline_of c.in-Ok.outline) _ c.in-Ok.more.now c.new-depths.ensures.items c.in-Ok.ensures (λ e. let n = ap length e in search rules)

@@ -1,48 +1,50 @@
 use Rattle.tt_proof.specs.declared.outlines.Outline.TheViews.{the_lemmas}
-use Rattle.std.proofs.Common.{rules, ◌≡◌, ◌≢◌, ◌∙◌, ◌<◌, ◌≤◌, ◌+◌, ◌∷◌, ℕ, List, IfOk, sym, ap, refl, subst, drop, get_or, length, drop-cons, add-one, true≢false}
+use Rattle.std.proofs.Common.{rules, ◌≡◌, ◌≢◌, ◌∙◌, ◌<◌, ◌≤◌, ◌+◌, ◌∷◌, ℕ, inl, inr, None, Option, IfOk, sym, ap, refl, subst, drop, get_or, length, drop-cons, add-one, true≢false}
 use Rattle.std.proofs.Math.ListN.{drop_of_length-le}
-use Rattle.tt_game.specs.Game.{after, opponent}
 use Rattle.tt_game.specs.Line.{LineWithUndo}
-use Rattle.tt_game.specs.declared.frame.Side.{Side}
-use Rattle.tt_game.specs.declared.turns.Turn.{Turn}
 use Rattle.tt_sgf.specs.declared.size.Size.{Size}
-use Rattle.tt_proof.specs.declared.outline_replay.Found.TheVariants.{Won}
-use Rattle.tt_proof.specs.Strategy.{Strategy, done, pick, reply, none, number_on}
-use Rattle.tt_proof.specs.Outlines.{Outline, Branches, branch, branches_of_list, outline_of, unfolded, entries_with, names_behind, AreOrderly}
-use Rattle.tt_proof.specs.inside.OutlineReplaying.{WinAsKept, IsFound, IsFoundBehind, IsFoundOf, HasPosition}
+use Rattle.tt_game.specs.declared.turns.Turn.{Turn}
+use Rattle.tt_proof.specs.declared.basis.Basis.{Basis}
+use Rattle.tt_proof.specs.declared.outline_replay.Found.TheVariants.{Won, Unfit}
+use Rattle.tt_proof.specs.Strategy.{number_on}
+use Rattle.tt_proof.specs.Outlines.{Outline, Branches, branch, branches_of_list, outline_of, AreOrderly}
+use Rattle.tt_proof.specs.SharedParts.{FindsOutline, IsFoundBefore, IsFoundOfName, IsFoundOfReply, RestsBeforePick, RestsBeforeReply, RestsOnPosition}
+use Rattle.tt_proof.specs.inside.OutlineReplaying.{FindsBranch}
 use Rattle.tt_proof.proofs.ResultLemmas.{if_ok}
 use Rattle.tt_proof.proofs.FootprintLemmas.{refused_bars}
 use Rattle.tt_proof.proofs.OutlineLemmas.{outline_of_done, outline_of_pick, outline_of_reply, outline_of_part}
-use Rattle.tt_proof.proofs.OutlineReplayLemmas.{Replayed, replayed_start, replayed_more, replayed_end, found_no_branch, named_at, drop_none}
+use Rattle.tt_proof.proofs.OutlineReplayLemmas.{Replayed, replayed_start, replayed_more, replayed_end, any_other, none_past, some_none, drop_none}
 use Rattle.tt_proof.proofs.outline_replay.+play.Goals as goal
 
 pub replay_outline-returns-in-Done-clause-found : goal.replay_outline-returns-in-Done-clause-found
-replay_outline-returns-in-Done-clause-found t c = rw (c.in-Done.is, outline_of_done) (λ us h. (c.found_of_done.ensures, h))
+replay_outline-returns-in-Done-clause-found t c = rw (c.in-Done.is, outline_of_done) (c.found_of_done.ensures, refl)
 
 pub replay_outline-returns-in-Some-clause-found : goal.replay_outline-returns-in-Some-clause-found
 replay_outline-returns-in-Some-clause-found t c =
     let ns = c.args.names.now.items in
     let k = c.in-Part.k in
+    let f = c.args.line.now.frame in
+    let at = c.args.line.now.state in
     let within : k < length ns = search rules in
     let stands : c.in-Some.name.now ≡ get_or ns k c.in-Some.name.now = search rules in
     rw (c.in-Part.is, outline_of_part)
     (if_ok c.found_of_part.result _ _
-    (λ r g us h. (g c.args.s (get_or us k done) (named_at c.args.s c.args.line.now.frame us ns k c.in-Some.name.now h stands within), h)) c.found_of_part.ensures)
+    (λ r g. (subst (λ (n : Option Basis). IsFoundOfName f n at r) (stands ∙ any_other ns k c.in-Some.name.now None within) g, refl)) c.found_of_part.ensures)
 
 pub replay_outline-returns-in-None-clause-found : goal.replay_outline-returns-in-None-clause-found
-replay_outline-returns-in-None-clause-found t c = rw (c.in-Part.is, outline_of_part) (λ us h. (tt, h))
+replay_outline-returns-in-None-clause-found t c =
+    let ns = c.args.names.now.items in
+    let past : length ns ≤ c.in-Part.k = search rules in
+    rw (c.in-Part.is, outline_of_part) (subst (λ (n : Option Basis). IsFoundOfName c.args.line.now.frame n c.args.line.now.state Unfit) (sym (none_past ns c.in-Part.k past)) (λ x e m. some_none x e), refl)
 
 pub replay_outline-returns-in_ok-put_name-in-Pick-clause-found : goal.replay_outline-returns-in_ok-put_name-in-Pick-clause-found
 replay_outline-returns-in_ok-put_name-in-Pick-clause-found t c =
-    rw (c.in-Pick.is, outline_of_pick, ← c.deref-in-Pick.ensures)
-    (λ us h. let k = c.in_ok-found-in-Pick.ensures.found us h in
-    (k.0, c.in_ok-put_name-in-Pick.ensures c.args.s c.args.line.now.frame c.args.line.now.state _ _ k.0 k.1))
+    rw (c.in-Pick.is, outline_of_pick, ← c.deref-in-Pick.ensures) (_, (c.in_ok-put_name-in-Pick.ensures, c.in_ok-found-in-Pick.ensures.found))
 
 pub replay_outline-returns-in_ok-put_name-in-Reply-clause-found : goal.replay_outline-returns-in_ok-put_name-in-Reply-clause-found
 replay_outline-returns-in_ok-put_name-in-Reply-clause-found t c =
     rw (c.in-Reply.is, outline_of_reply, ← c.deref-in-Reply.ensures, ← c.deref-in-Reply-2.ensures.value)
-    (λ us h. let k = c.in_ok-found-in-Reply.ensures.found us h in
-    (k.0, c.in_ok-put_name-in-Reply.ensures c.args.s c.args.line.now.frame c.args.line.now.state _ _ k.0 k.1))
+    (_, (c.in_ok-put_name-in-Reply.ensures, c.in_ok-found-in-Reply.ensures.found))
 
 pub replay_outline-replay_pick-requires : goal.replay_outline-replay_pick-requires
 replay_outline-replay_pick-requires t c =
@@ -57,51 +59,39 @@ replay_outline-replay_reply-requires t c =
 pub replay_pick-returns-in-Ok-found-clause-found : goal.replay_pick-returns-in-Ok-found-clause-found
 replay_pick-returns-in-Ok-found-clause-found t c =
     let same : c.pop.new.self ≡ c.args.line.now = search rules in
-    let f = c.args.line.now.frame in
-    let at = c.args.line.now.state in
     let s = c.args.s in
     let turn = c.args.turn in
     let o = outline_of c.args.child.now in
-    let mine : at.to_move ≡ s = search rules in
-    let behind = subst (λ (l : LineWithUndo). (us : List Strategy) → WinAsKept s l.frame us c.args.names.now.items
-    → IsFound s l.frame l.state (unfolded us o) c.in-Ok-found.behind × WinAsKept s l.frame (names_behind us o) c.replay_outline-found.new.names.items)
+    let mine : c.args.line.now.state.to_move ≡ s = search rules in
+    let behind = subst (λ (l : LineWithUndo). FindsOutline s l.frame c.args.names.now.items o l.state c.in-Ok-found.behind c.replay_outline-found.new.names.items)
     c.in-Ok.ensures.ok.1 c.in-Ok-found.ensures.found in
-    let more = subst (λ (l : LineWithUndo). IfOk c.found_before_pick.result (λ r. (u : Strategy)
-    → IsFound l.state.to_move l.frame (after l.frame l.state turn) u c.in-Ok-found.behind → IsFound l.state.to_move l.frame l.state (pick turn u) r))
+    let more = subst (λ (l : LineWithUndo). IfOk c.found_before_pick.result (IsFoundBefore (RestsBeforePick l.frame l.state turn) c.in-Ok-found.behind))
     same c.found_before_pick.ensures in
-    if_ok c.found_before_pick.result _ _
-    (λ r g us h. let k = behind us h in (
-      subst (λ x. IsFound x f at (pick turn (unfolded us o)) r) mine
-          (g (unfolded us o) (subst (λ x. IsFound x f (after f at turn) (unfolded us o) c.in-Ok-found.behind) (sym mine) k.0)),
-      k.1,
-    )) more
+    if_ok c.found_before_pick.result _ _ (λ r g. inl (mine, c.in-Ok.ensures.ok.0, (c.in-Ok-found.behind, (behind, g)))) more
 
 pub replay_pick-returns-in_ok-skip-in-Err-Illegal-clause-found : goal.replay_pick-returns-in_ok-skip-in-Err-Illegal-clause-found
-replay_pick-returns-in_ok-skip-in-Err-Illegal-clause-found t c = λ us h. (
-  λ w. refused_bars c.args.line.now.frame c.args.line.now.state c.args.turn c.in-Err-Illegal.field-0-0
-      (rw c.in-Err-Illegal.field-0-is at c.in-Err-Illegal.ensures.why) w.2,
-  c.in_ok-skip-in-Err-Illegal.ensures c.args.s c.args.line.now.frame us h,
+replay_pick-returns-in_ok-skip-in-Err-Illegal-clause-found t c = inr (
+  λ e. refused_bars c.args.line.now.frame c.args.line.now.state c.args.turn c.in-Err-Illegal.field-0-0
+      (rw c.in-Err-Illegal.field-0-is at c.in-Err-Illegal.ensures.why),
+  refl,
+  c.in_ok-skip-in-Err-Illegal.ensures,
 )
 
 pub replay_pick-returns-then-ne-clause-found : goal.replay_pick-returns-then-ne-clause-found
 replay_pick-returns-then-ne-clause-found t c =
     let differs : c.args.line.now.state.to_move ≢ c.args.s = search rules in
-    λ us h. (λ w. differs w.1, c.in_ok-skip.ensures c.args.s c.args.line.now.frame us h)
+    inr (λ e l. differs e, refl, c.in_ok-skip.ensures)
 
 pub replay_reply-returns-then-not-is_asked-clause-found : goal.replay_reply-returns-then-not-is_asked-clause-found
-replay_reply-returns-then-not-is_asked-clause-found t c = λ us h. (
-  λ w. true≢false (sym (c.is_asked.ensures.1 (w.0, w.1)) ∙ c.if-not-is_asked.true),
-  c.in_ok-skip_each.ensures c.args.s c.args.line.now.frame us h,
-)
+replay_reply-returns-then-not-is_asked-clause-found t c =
+    inr (λ e d. true≢false (sym (c.is_asked.ensures.1 (e, d)) ∙ c.if-not-is_asked.true), refl, c.in_ok-skip_each.ensures)
 
 pub replay_reply-returns-in-Ok-clause-found : goal.replay_reply-returns-in-Ok-clause-found
 replay_reply-returns-in-Ok-clause-found t c =
-    let bs = branches_of_list c.args.list.now in
-    let turn = (c.is_asked.ensures.0 c.if-not-is_asked.false).1 in
-    let more = subst (λ (l : LineWithUndo). (s : Side) (us : List Strategy) → l.state.to_move ≡ opponent s
-    → IsFoundOf s l.frame l.state (entries_with us bs) none c.in-Ok.found → IsFound s l.frame l.state (reply (entries_with us bs)) c.found_of_reply.result)
+    let asked = c.is_asked.ensures.0 c.if-not-is_asked.false in
+    let more = subst (λ (l : LineWithUndo). IsFoundOfReply l.frame l.state (branches_of_list c.args.list.now) c.in-Ok.found c.found_of_reply.result)
     c.in-Ok.ensures.same c.found_of_reply.ensures in
-    λ us h. let k = c.in-Ok.ensures.found us h in (more c.args.s us turn k.0, k.1)
+    inl (asked.0, asked.1, (c.in-Ok.found, (c.in-Ok.ensures.found, more)))
 
 pub replay_branch-returns-in-Ok-found-clause-found : goal.replay_branch-returns-in-Ok-found-clause-found
 replay_branch-returns-in-Ok-found-clause-found t c =
@@ -109,24 +99,22 @@ replay_branch-returns-in-Ok-found-clause-found t c =
     let s = c.args.s in
     let turn = c.args.turn in
     let o = outline_of c.args.child.now in
-    let behind = subst (λ (l : LineWithUndo). (us : List Strategy) → WinAsKept s l.frame us c.args.names.now.items
-    → IsFound s l.frame l.state (unfolded us o) c.in-Ok-found.behind × WinAsKept s l.frame (names_behind us o) c.replay_outline-found.new.names.items)
+    let behind = subst (λ (l : LineWithUndo). FindsOutline s l.frame c.args.names.now.items o l.state c.in-Ok-found.behind c.replay_outline-found.new.names.items)
     c.in-Ok.ensures.ok.1 c.in-Ok-found.ensures.found in
-    let more = subst (λ (l : LineWithUndo). (x : Side) (u : Strategy) → IsFound x l.frame (after l.frame l.state turn) u c.in-Ok-found.behind
-    → IsFoundBehind x l.frame l.state turn u c.found_before_branch.result) same c.found_before_branch.ensures in
-    λ us h. let k = behind us h in (more s (unfolded us o) k.0, k.1)
+    let more = subst (λ (l : LineWithUndo). IsFoundBefore (RestsBeforeReply l.frame l.state turn) c.in-Ok-found.behind c.found_before_branch.result)
+    same c.found_before_branch.ensures in
+    inl (c.in-Ok.ensures.ok.0, (c.in-Ok-found.behind, (behind, more)))
 
 pub replay_branch-returns-in_ok-skip-in-Err-Illegal-clause-found : goal.replay_branch-returns-in_ok-skip-in-Err-Illegal-clause-found
 replay_branch-returns-in_ok-skip-in-Err-Illegal-clause-found t c =
     let f = c.args.line.now.frame in
     let at = c.args.line.now.state in
     let same : c.push.new.self ≡ c.args.line.now = search rules in
-    let stands = subst (λ (l : LineWithUndo). HasPosition l.state c.of.result) same c.of.ensures.stands in
-    λ us h. (
-      found_no_branch c.args.s f at c.args.turn (unfolded us (outline_of c.args.child.now)) c.of.result
-          (refused_bars f at c.args.turn c.in-Err-Illegal.field-0-0 (rw c.in-Err-Illegal.field-0-is at c.in-Err-Illegal.ensures.why)) stands
-          c.of.ensures.needs c.of.ensures.avoids,
-      c.in_ok-skip-in-Err-Illegal.ensures c.args.s f us h,
+    let stands = subst (λ (l : LineWithUndo). RestsOnPosition l.frame l.state c.of.result) same c.of.ensures in
+    inr (
+      refused_bars f at c.args.turn c.in-Err-Illegal.field-0-0 (rw c.in-Err-Illegal.field-0-is at c.in-Err-Illegal.ensures.why),
+      (c.of.result, (refl, stands)),
+      c.in_ok-skip-in-Err-Illegal.ensures,
     )
 
 -- behind a branch the others are in order
@@ -138,13 +126,13 @@ replay_branches-loop-turn-init t c =
     let list = c.args.list.now in
     let f = c.args.line.now.frame in
     let at = c.args.line.now.state in
+    let bs = branches_of_list list in
     record {
       same = refl;
       orderly = (0, subst (λ xs. AreOrderly f.size 0 (branches_of_list xs)) (sym (drop_none list)) c.requires.orderly);
-      replayed = λ us h.
-          subst (λ xs. Replayed c.args.s f at us (branches_of_list list) (branches_of_list xs) c.args.names.now.items (Won c.in_ok-basis.basis))
-          (sym (drop_none list))
-          (replayed_start c.args.s f at us (branches_of_list list) c.args.names.now.items c.in_ok-basis.basis h c.in_ok-basis.ensures.stands c.in_ok-basis.ensures.repeats);
+      replayed =
+          subst (λ xs. Replayed c.args.s f at c.args.names.now.items bs (branches_of_list xs) c.args.names.now.items (Won c.in_ok-basis.basis)) (sym (drop_none list))
+          (replayed_start c.args.s f at c.args.names.now.items bs c.in_ok-basis.basis c.in_ok-basis.ensures);
     }
 
 pub replay_branches-loop-turn-preserved : goal.replay_branches-loop-turn-preserved
@@ -162,9 +150,9 @@ replay_branches-loop-turn-preserved t c =
     let bs = branches_of_list list in
     let left = branches_of_list (drop (n + 1) list) in
     let o = outline_of item.1 in
+    let ns = c.args.names.now.items in
     let new = c.replay_branch.new in
-    let found = subst (λ (l : LineWithUndo). (vs : List Strategy) → WinAsKept s l.frame vs c.loop-turn.names.items
-    → IsFoundBehind s l.frame l.state item.0 (unfolded vs o) c.in_ok-next.next × WinAsKept s l.frame (names_behind vs o) new.names.items)
+    let found = subst (λ (l : LineWithUndo). FindsBranch s l.frame c.loop-turn.names.items item.0 o l.state c.in_ok-next.next new.names.items)
     c.loop-turn.invariant.same c.in_ok-next.ensures.found in
     record {
       same = c.replay_branch.ensures.same ∙ c.loop-turn.invariant.same;
@@ -172,20 +160,20 @@ replay_branches-loop-turn-preserved t c =
           subst (λ (l : LineWithUndo). (least : ℕ) × AreOrderly l.frame.size least left) (sym c.replay_branch.ensures.same)
           (rest_orderly c.loop-turn.line.frame.size c.loop-turn.invariant.orderly.0 item.0 o left
           (subst (λ xs. AreOrderly c.loop-turn.line.frame.size c.loop-turn.invariant.orderly.0 (branches_of_list xs)) rest c.loop-turn.invariant.orderly.1));
-      replayed = λ us h.
-          replayed_more s f at us bs left item.0 o c.loop-turn.names.items new.names.items c.loop-turn.found c.in_ok-next.next _
-          (subst (λ xs. Replayed s f at us bs (branches_of_list xs) c.loop-turn.names.items c.loop-turn.found) rest (c.loop-turn.invariant.replayed us h))
+      replayed =
+          replayed_more s f at ns bs left item.0 o c.loop-turn.names.items new.names.items c.loop-turn.found c.in_ok-next.next _
+          (subst (λ xs. Replayed s f at ns bs (branches_of_list xs) c.loop-turn.names.items c.loop-turn.found) rest c.loop-turn.invariant.replayed)
           found c.in_ok-found.ensures;
     }
 
 pub replay_branches-returns-clause-found : goal.replay_branches-returns-clause-found
-replay_branches-returns-clause-found t c = λ us h.
+replay_branches-returns-clause-found t c =
     let list = c.args.list.now in
     let s = c.args.s in
     let f = c.args.line.now.frame in
     let at = c.args.line.now.state in
     let bs = branches_of_list list in
+    let ns = c.args.names.now.items in
     let end : length list ≤ c.loop-turn.turn-index = search rules in
-    replayed_end s f at us bs c.loop-turn.names.items c.loop-turn.found
-    (subst (λ xs. Replayed s f at us bs (branches_of_list xs) c.loop-turn.names.items c.loop-turn.found) (drop_of_length-le list end)
-    (c.loop-turn.invariant.replayed us h))
+    replayed_end s f at ns bs c.loop-turn.names.items c.loop-turn.found
+    (subst (λ xs. Replayed s f at ns bs (branches_of_list xs) c.loop-turn.names.items c.loop-turn.found) (drop_of_length-le list end) c.loop-turn.invariant.replayed)

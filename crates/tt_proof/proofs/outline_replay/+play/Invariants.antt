@@ -1,7 +1,5 @@
-use Rattle.std.proofs.Common.{◌≡◌, ℕ, List, drop}
-use Rattle.tt_proof.specs.Strategy.{Strategy}
+use Rattle.std.proofs.Common.{◌≡◌, ℕ, drop}
 use Rattle.tt_proof.specs.Outlines.{branches_of_list, AreOrderly}
-use Rattle.tt_proof.specs.inside.OutlineReplaying.{WinAsKept}
 use Rattle.tt_proof.proofs.OutlineReplayLemmas.{Replayed}
 use Rattle.tt_proof.proofs.outline_replay.+play.Given as goal
 
@@ -9,6 +7,6 @@ abbrev pub invariant-replay_branches-loop-turn : goal.invariant-replay_branches-
 invariant-replay_branches-loop-turn l = record {
   same : l.line ≡ l.fn.line;
   orderly : (least : ℕ) × AreOrderly l.line.frame.size least (branches_of_list (drop l.turn-index l.list));
-  replayed : (us : List Strategy) → WinAsKept l.s l.fn.line.frame us l.fn.names.items
-      → Replayed l.s l.fn.line.frame l.fn.line.state us (branches_of_list l.list) (branches_of_list (drop l.turn-index l.list)) l.names.items l.found;
+  replayed :
+      Replayed l.s l.fn.line.frame l.fn.line.state l.fn.names.items (branches_of_list l.list) (branches_of_list (drop l.turn-index l.list)) l.names.items l.found;
 }

@@ -1,34 +1,34 @@
-use Rattle.std.proofs.Common.{rules, ◌≡◌, ◌∙◌, ◌<◌, ◌≤◌, ◌+◌, ◌∷◌, sym, ap, refl, subst, drop, get_or, length, drop-cons, add-one}
+use Rattle.std.proofs.Common.{rules, ◌≡◌, ◌∙◌, ◌<◌, ◌≤◌, ◌+◌, ◌∷◌, sym, ap, refl, subst, drop, get_or, length, drop-cons, add-one, None}
 use Rattle.std.proofs.Math.ListN.{drop_of_length-le}
-use Rattle.tt_proof.specs.Outlines.{branches_of_list, outline_of}
+use Rattle.tt_proof.specs.Outlines.{branches_of_list}
+use Rattle.tt_proof.specs.SharedParts.{Bases, unreached_all, with_basis}
 use Rattle.tt_proof.proofs.ResultLemmas.{on_ok}
 use Rattle.tt_proof.proofs.OutlineLemmas.{outline_of_done, outline_of_pick, outline_of_reply, outline_of_part}
-use Rattle.tt_proof.proofs.OutlineReplayLemmas.{Skipped, skipped_more, skipped_end, drop_none}
+use Rattle.tt_proof.proofs.OutlineReplayLemmas.{drop_none}
 use Rattle.tt_proof.proofs.outline_replay.+skip.Goals as goal
 
 pub skip-returns-in-Done : goal.skip-returns-in-Done
-skip-returns-in-Done t c = rw (c.in-Done.is, outline_of_done) (λ s f us h. h)
+skip-returns-in-Done t c = rw (c.in-Done.is, outline_of_done) refl
 
 pub skip-returns-in-Part : goal.skip-returns-in-Part
-skip-returns-in-Part t c = rw (c.in-Part.is, outline_of_part) (λ s f us h. h)
+skip-returns-in-Part t c = rw (c.in-Part.is, outline_of_part) refl
 
 pub skip-returns-in_ok-skip-in-Pick : goal.skip-returns-in_ok-skip-in-Pick
 skip-returns-in_ok-skip-in-Pick t c =
     rw (c.in-Pick.is, outline_of_pick, ← c.deref.ensures)
-    (on_ok c.put_unreached.result _ _ (λ g s f us h. g s f _ _ (c.in_ok-skip-in-Pick.ensures s f us h)) c.put_unreached.ensures)
+    (on_ok c.put_unreached.result _ _ (λ g. g ∙ ap (λ (ns : Bases). with_basis c.in-Pick.named None ns) c.in_ok-skip-in-Pick.ensures) c.put_unreached.ensures)
 
 pub skip-returns-in_ok-skip_each-in-Reply : goal.skip-returns-in_ok-skip_each-in-Reply
 skip-returns-in_ok-skip_each-in-Reply t c =
     rw (c.in-Reply.is, outline_of_reply, ← c.deref-in-Reply.ensures, ← c.deref-in-Reply-2.ensures.value)
-    (on_ok c.put_unreached-in-Reply.result _ _ (λ g s f us h. g s f _ _ (c.in_ok-skip_each-in-Reply.ensures s f us h)) c.put_unreached-in-Reply.ensures)
+    (on_ok c.put_unreached-in-Reply.result _ _ (λ g. g ∙ ap (λ (ns : Bases). with_basis c.in-Reply.named None ns) c.in_ok-skip_each-in-Reply.ensures)
+    c.put_unreached-in-Reply.ensures)
 
 pub skip_each-loop-child-init : goal.skip_each-loop-child-init
-skip_each-loop-child-init t c = λ s f us h.
-    subst (λ xs. Skipped s f us (branches_of_list c.args.list.now) (branches_of_list xs) c.args.names.now.items) (sym (drop_none c.args.list.now))
-    (record { now = us; named = h; behind = refl })
+skip_each-loop-child-init t c = ap (λ xs. unreached_all c.args.names.now.items (branches_of_list xs)) (drop_none c.args.list.now)
 
 pub skip_each-loop-child-preserved : goal.skip_each-loop-child-preserved
-skip_each-loop-child-preserved t c = λ s f us h.
+skip_each-loop-child-preserved t c =
     let list = c.args.list.now in
     let n = c.loop-child.child-index in
     let item = c.loop-child-item.result in
@@ -36,14 +36,12 @@ skip_each-loop-child-preserved t c = λ s f us h.
     let is : item ≡ get_or list n item = search rules in
     let rest : drop n list ≡ item ∷ drop (n + 1) list =
     drop-cons list n item lt ∙ ap (λ m. get_or list n item ∷ drop m list) (sym (add-one n)) ∙ ap (λ e. e ∷ drop (n + 1) list) (sym is) in
-    skipped_more s f us (branches_of_list list) (branches_of_list (drop (n + 1) list)) item.0 (outline_of item.1) c.loop-child.names.items c.skip.new.names.items
-    (subst (λ xs. Skipped s f us (branches_of_list list) (branches_of_list xs) c.loop-child.names.items) rest (c.loop-child.invariant s f us h))
-    (λ vs k. c.in_ok-skip.ensures s f vs k)
+    ap (λ (ns : Bases). unreached_all ns (branches_of_list (drop (n + 1) list))) c.in_ok-skip.ensures
+    ∙ subst (λ xs. unreached_all c.loop-child.names.items (branches_of_list xs) ≡ unreached_all c.args.names.now.items (branches_of_list list)) rest c.loop-child.invariant
 
 pub skip_each-returns : goal.skip_each-returns
-skip_each-returns t c = λ s f us h.
+skip_each-returns t c =
     let list = c.args.list.now in
     let end : length list ≤ c.loop-child.child-index = search rules in
-    skipped_end s f us (branches_of_list list) c.loop-child.names.items
-    (subst (λ xs. Skipped s f us (branches_of_list list) (branches_of_list xs) c.loop-child.names.items) (drop_of_length-le list end)
-    (c.loop-child.invariant s f us h))
+    subst (λ xs. unreached_all c.loop-child.names.items (branches_of_list xs) ≡ unreached_all c.args.names.now.items (branches_of_list list))
+    (drop_of_length-le list end) c.loop-child.invariant

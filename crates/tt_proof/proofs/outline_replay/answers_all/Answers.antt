@@ -2,7 +2,7 @@ use Rattle.std.proofs.Common.{rules, ◌<◌, ◌≤◌, take, length, sym, refl
 use Rattle.std.proofs.lemmas.List.{take_all}
 use Rattle.tt_game.specs.laws.Members.{IsIn, in_of_contains}
 use Rattle.tt_proof.specs.Outlines.{branches_of_list}
-use Rattle.tt_proof.specs.inside.OutlineReplaying.{HasBranch}
+use Rattle.tt_proof.specs.SharedParts.{HasBranch}
 use Rattle.tt_proof.proofs.OutlineReplayLemmas.{taken_more}
 use Rattle.tt_proof.proofs.outline_replay.answers_all.Goals as goal
 

@@ -1,6 +1,6 @@
 use Rattle.std.proofs.Common.{◌↔◌, drop}
 use Rattle.tt_proof.specs.Outlines.{branches_of_list}
-use Rattle.tt_proof.specs.inside.OutlineReplaying.{HasBranch}
+use Rattle.tt_proof.specs.SharedParts.{HasBranch}
 use Rattle.tt_proof.proofs.outline_replay.has_branch.Given as goal
 
 abbrev pub invariant-loop-branch : goal.invariant-loop-branch

@@ -10,16 +10,17 @@ replay_parts-requires c = subst (λ (g : Frame). IsOrderly g.size (outline_of c.
 pub returns-in-Ok-Some-true : goal.returns-in-Ok-Some-true
 returns-in-Ok-Some-true c =
     shared_wins_at c.args.line.now c.frame.result.now c.args.certificate.now c.frame.ensures.value c.in-Ok.side (outline_of c.in-Ok.outline) c.in-Ok.ensures
-    (search (rules, c.in-Ok-Some-true.ensures.exact, c.in-Ok-Some-true.field-0-0-test))
+    (search (rules, c.in-Ok-Some-true.ensures.parts, c.in-Ok-Some-true.field-0-0-test)) (search (rules, c.in-Ok-Some-true.ensures.exact, c.in-Ok-Some-true.field-0-0-test))
 
 pub returns-in-Ok-Some-false : goal.returns-in-Ok-Some-false
 returns-in-Ok-Some-false c =
     shared_loses_at c.args.line.now c.frame.result.now c.args.certificate.now c.frame.ensures.value c.in-Ok.side (outline_of c.in-Ok.outline) c.in-Ok.ensures
-    (search (rules, c.in-Ok-Some-false.ensures.exact, c.in-Ok-Some-false.field-0-0-test))
+    (search (rules, c.in-Ok-Some-false.ensures.parts, c.in-Ok-Some-false.field-0-0-test)) (search (rules, c.in-Ok-Some-false.ensures.exact, c.in-Ok-Some-false.field-0-0-test))
 
 pub returns-in-Ok-None : goal.returns-in-Ok-None
 returns-in-Ok-None c =
     unfit_at c.args.line.now c.frame.result.now c.args.certificate.now c.frame.ensures.value c.in-Ok.side (outline_of c.in-Ok.outline) c.in-Ok.ensures
+    (search (rules, c.in-Ok-None.ensures.parts, c.in-Ok-None.field-0-is))
 
 pub returns-in-Err-Syntax : goal.returns-in-Err-Syntax
 returns-in-Err-Syntax c =

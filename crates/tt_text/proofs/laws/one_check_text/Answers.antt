@@ -2,4 +2,4 @@ use Rattle.tt_text.proofs.OneCheck.{checks_same}
 use Rattle.tt_text.proofs.laws.one_check_text.Goals as goal
 
 pub returns : goal.returns
-returns c = λ input s t m n. checks_same c.one_certificate.ensures c.one_reading.ensures input s t m n
+returns c = checks_same c.one_certificate.ensures c.one_shared_certificate.ensures c.one_shared_answer.ensures c.one_reading.ensures
