@@ -17,7 +17,7 @@ use Rattle.tt_game.specs.declared.faults.GameFault.TheVariants.{TooManyTurns, No
 use Rattle.tt_game.specs.Faults.{code_of}
 use Rattle.tt_game.specs.Games.{GameState}
 use Rattle.tt_game.specs.Nodes.{AB, AE, AW, B, PL, SQ, SZ, TR, W, colour_at, moves_in, set_named, size_named, values_of}
-use Rattle.tt_game.specs.Problems.{asked_count, game_of, whole}
+use Rattle.tt_game.specs.Problems.{nodes_before_solution, game_of, whole}
 use Rattle.tsumego_show.specs.Hints.{listed}
 use Rattle.tsumego_show.specs.Regions.{near, reached, stones}
 use Rattle.tsumego_show.specs.Variations.{bracketed}
@@ -85,7 +85,7 @@ abbrev pub is_setup_fault : GameFault → Bool
 is_setup_fault e = nat_eq (code_of e) (code_of LifelessStone) || (nat_eq (code_of e) (code_of EmptyTarget) || nat_eq (code_of e) (code_of MixedTargets))
 
 abbrev pub are_known : List Node → Node → Bool
-are_known front n = nat_eq (asked_count false front) (length front) && not (nat_le 1 (moves_in n))
+are_known front n = nat_eq (nodes_before_solution false front) (length front) && not (nat_le 1 (moves_in n))
 
 -- the points to look at, with those nodes in front
 abbrev pub points_line : GameFault → Size → List Node → Node → List ℕ

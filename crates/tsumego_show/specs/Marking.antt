@@ -17,7 +17,7 @@ use Rattle.tt_game.specs.Games.{GameState}
 use Rattle.tt_game.specs.Line.{LineWithUndo}
 use Rattle.tt_game.specs.Nodes.{SQ, TR, has}
 use Rattle.tt_sgf.specs.Bytes.{newline}
-use Rattle.tt_game.specs.Problems.{asked_count, game_of, posed}
+use Rattle.tt_game.specs.Problems.{nodes_before_solution, game_of, posed}
 use Rattle.tsumego_show.specs.declared.form.Place.{Place}
 use Rattle.tsumego_show.specs.declared.form.Place.TheVariants.{FromAbove, FromBelow}
 use Rattle.tsumego_show.specs.declared.proposals.Proposal.{Proposal}
@@ -33,7 +33,7 @@ use Rattle.tsumego_show.specs.Variations.{list_text}
 
 -- the nodes up to where a main line asks
 abbrev pub asked_nodes : List Node → List Node
-asked_nodes ns = take (asked_count false ns) ns
+asked_nodes ns = take (nodes_before_solution false ns) ns
 
 -- one of them has triangles
 abbrev pub has_triangles : List Node → Bool
@@ -148,7 +148,7 @@ module _ (s : GameState) where
 
 -- what is written of a main line without triangles: up to where it asks it comes to a game, or is refused
 abbrev pub game_marked : Option Place → ℕ → List ℕ → List Node → Result GameState GameFault → List ℕ
-game_marked place k tree ns (Ok s) = with_mark s (has_squares ns) place k (asked_count false ns) tree (proposed s (has_squares ns) place)
+game_marked place k tree ns (Ok s) = with_mark s (has_squares ns) place k (nodes_before_solution false ns) tree (proposed s (has_squares ns) place)
 game_marked place k tree ns (Err e) = fault_text k ns e ++ kept_text tree
 
 -- what is written of a main line that is no problem, by this fault: where nothing is proposed, the tree as it was stands behind the lines

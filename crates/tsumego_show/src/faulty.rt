@@ -13,7 +13,7 @@ use crate::node_values::first_value;
 use crate::regions::{near, reached, stones};
 use std::alloc::Global;
 use tt_board::Colour;
-use tt_game::{GameFault, asked_count, asked_game, has_move, named_set};
+use tt_game::{GameFault, game_before_solution, has_move, named_set, nodes_before_solution};
 use tt_sgf::{
     MainLine, NoMemory, Node, PointSet, Size, SmallBytes, board_size, point, point_set, skip_blanks,
 };
@@ -118,7 +118,7 @@ fn points_at_fault(size: Size, fault: GameFault, node: &Node, on: &Stones) -> Po
 fn stones_before(alloc: Global, front: &MainLine) -> Result<Stones, NoMemory>
     ensures { IfOk result (λ s. (s.blacks ≡ stones_before Black (game_of front.now.nodes)) × (s.whites ≡ stones_before White (game_of front.now.nodes))) }
 {
-    match asked_game(alloc, front) {
+    match game_before_solution(alloc, front) {
         Ok(game) => Ok(Stones {
             blacks: stones(game.present(), Colour::Black),
             whites: stones(game.present(), Colour::White),
@@ -146,7 +146,7 @@ fn are_known(front: &MainLine, node: &Node) -> bool
     ensures { result ≡ are_known front.now.nodes node.now }
 {
     let nodes = front.nodes.as_slice();
-    asked_count(nodes) == nodes.len() && !has_move(node)
+    nodes_before_solution(nodes) == nodes.len() && !has_move(node)
 }
 
 /// Writes the points to look at behind the text.

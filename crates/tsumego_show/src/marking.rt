@@ -5,7 +5,7 @@ ghost use Rattle.std.specs.FinSet as set;
 ghost use Rattle.tt_sgf.specs.Sizes.{point_count};
 ghost use Rattle.tt_board.specs.Reach.{entry_at};
 ghost use Rattle.tt_game.specs.Nodes.{SQ, TR, has};
-ghost use Rattle.tt_game.specs.Problems.{asked_count, game_of};
+ghost use Rattle.tt_game.specs.Problems.{nodes_before_solution, game_of};
 ghost use Rattle.tsumego_show.specs.Hints.{members_text, names_text};
 ghost use Rattle.tsumego_show.specs.Marking.{asked_nodes, game_marked, has_in, has_no_mark, has_squares, has_triangles, is_game_left, is_left, line_marked, marked, marked_text, open_line, proposed};
 ghost use Rattle.tsumego_show.specs.Marking.{why_at, why_left, why_not, why_on, with_mark, with_marks};
@@ -22,7 +22,7 @@ use crate::tree_bytes::{behind_semicolon, from_open, put_kept};
 use crate::variations::{PointList, put_list};
 use std::alloc::Global;
 use tt_board::{Board, Colour};
-use tt_game::{Game, GameFault, Line, asked_count, asked_game};
+use tt_game::{Game, GameFault, Line, game_before_solution, nodes_before_solution};
 use tt_sgf::{MainLine, NoMemory, Node, Point, PointSet, Size};
 
 /// Writes a tree with the marks of a problem at the head of the node of this number behind the text.
@@ -157,7 +157,7 @@ fn put_why_left(
 fn asked_nodes(nodes: &[Node]) -> &[Node]
     ensures { result.now ≡ asked_nodes nodes.now }
 {
-    &nodes[..asked_count(nodes)]
+    &nodes[..nodes_before_solution(nodes)]
 }
 
 /// Whether a main line has triangles up to where it asks.
@@ -206,14 +206,14 @@ fn put_game(
     game: Game,
 ) -> Result<bool, NoMemory>
     ensures text { OnOk result (out.new.items ≡ out.old.items
-        ++ with_mark game (has_squares main.now.nodes) place number (asked_count false main.now.nodes) tree.now (proposed game (has_squares main.now.nodes) place)) }
+        ++ with_mark game (has_squares main.now.nodes) place number (nodes_before_solution false main.now.nodes) tree.now (proposed game (has_squares main.now.nodes) place)) }
     ensures left { IfOk result (λ left. left ≡ has_no_mark (proposed game (has_squares main.now.nodes) place)) }
 {
     let nodes = main.nodes.as_slice();
     let is_squared = has_squares(nodes);
     match proposed(&game, is_squared, place) {
         Some(mark) => {
-            let node = asked_count(nodes);
+            let node = nodes_before_solution(nodes);
             put_with(alloc, out, game, mark, node, tree)?;
             Ok(false)
         }
@@ -254,7 +254,7 @@ fn put_unmarked(
     ensures text { OnOk result (out.new.items ≡ out.old.items ++ game_marked place number tree.now main.nodes (game_of main.nodes)) }
     ensures left { IfOk result (λ left. left ≡ is_game_left (has_squares main.nodes) place (game_of main.nodes)) }
 {
-    match asked_game(alloc, &main) {
+    match game_before_solution(alloc, &main) {
         Ok(game) => put_game(alloc, out, place, number, &main, tree, game),
         Err(GameFault::NoMemory) => Err(NoMemory),
         Err(fault) => {

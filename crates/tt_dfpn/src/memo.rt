@@ -25,8 +25,8 @@ fn taken(alloc: Global, line: &Line, room: u16, proof: &Proof) -> Result<Option<
         return Ok(None);
     };
     let footprint = own.try_clone(alloc)?;
-    let plan = proof.plan().try_clone()?;
-    let here = Proof::winning_with(line, proof.side(), plan, footprint)?;
+    let measured_tree = proof.measured_tree().try_clone()?;
+    let here = Proof::winning_with(line, proof.side(), measured_tree, footprint)?;
     Ok(Some(here))
 }
 

@@ -9,7 +9,7 @@ use Rattle.tt_board.specs.Play.{Points}
 use Rattle.tt_board.specs.Stones.{any_empty}
 use Rattle.tt_game.specs.declared.faults.GameFault.{GameFault}
 use Rattle.tt_game.specs.declared.frame.Side.TheVariants.{Attacker, Defender}
-use Rattle.tt_game.specs.declared.records.Replay.{Replay}
+use Rattle.tt_game.specs.declared.records.GameSoFar.{GameSoFar}
 use Rattle.tt_game.specs.Game.{winner_of}
 use Rattle.tt_game.specs.Games.{GameState}
 use Rattle.tt_game.specs.Line.{LineWithUndo}
@@ -57,7 +57,7 @@ open_at s (Some targets) None q h = let bad : Err _ ≡ Ok q = h in cc
 open_at s (Some targets) (Some region) q h = open_on s region targets q h
 
 -- and one that nodes come to
-open_nodes : (r : Replay) (ns : List Node) (q : LineWithUndo) → run_to_mark r ns ≡ Ok q → IsOpen q
+open_nodes : (r : GameSoFar) (ns : List Node) (q : LineWithUndo) → run_to_mark r ns ≡ Ok q → IsOpen q
 unfolding run_to_mark
 open_nodes r [] q h = let bad : Err _ ≡ Ok q = h in cc
 open_nodes r (n ∷ ns) q h =

@@ -14,10 +14,10 @@ use Rattle.tt_sgf.specs.Points.{passing}
 use Rattle.tt_sgf.specs.laws.PointLaws.{contains-passing}
 use Rattle.tt_game.specs.declared.faults.GameFault.{GameFault}
 use Rattle.tt_game.specs.declared.faults.GameFault.TheVariants.{NoTarget}
-use Rattle.tt_game.specs.declared.records.Replay.{Replay}
+use Rattle.tt_game.specs.declared.records.GameSoFar.{GameSoFar}
 use Rattle.tt_game.specs.Nodes.{TR, has, moves_in, set_named}
 use Rattle.tt_game.specs.Records.{and_then, step_node}
-use Rattle.tt_game.specs.Problems.{asked_count, puts_stones, region_of, problem_at, run_to_mark}
+use Rattle.tt_game.specs.Problems.{nodes_before_solution, puts_stones, region_of, problem_at, run_to_mark}
 
 -- what a value covers is on the board
 covered_on : (size : Size) (e : Option _) (q : ℕ) → covers_by size e q ≡ true → q < point_count size
@@ -44,21 +44,21 @@ set_on_board size vs s q e h = elim (cases_Bool (list_all (is_entry size) vs)) [
 ]
 
 -- the way to the mark: at its end no target, then a refused node, a node without a mark, and one with it
-pub mark-nil : (s : Replay) → run_to_mark s [] ≡ Err NoTarget
+pub mark-nil : (s : GameSoFar) → run_to_mark s [] ≡ Err NoTarget
 unfolding run_to_mark
 mark-nil s = refl
 
-pub mark-stop : (s : Replay) (e : GameFault) (n : Node) (ns : List Node) → step_node s n ≡ Err e → run_to_mark s (n ∷ ns) ≡ Err e
+pub mark-stop : (s : GameSoFar) (e : GameFault) (n : Node) (ns : List Node) → step_node s n ≡ Err e → run_to_mark s (n ∷ ns) ≡ Err e
 unfolding run_to_mark
 mark-stop s e n ns h = ap (λ r. and_then r (λ t. cond (has TR n) (problem_at t.game (set_named t.game.size TR n) (region_of t.game.size n)) (run_to_mark t ns))) h
 
-pub mark-step : (s t : Replay) (n : Node) (ns : List Node) → step_node s n ≡ Ok t → has TR n ≡ false → run_to_mark s (n ∷ ns) ≡ run_to_mark t ns
+pub mark-step : (s t : GameSoFar) (n : Node) (ns : List Node) → step_node s n ≡ Ok t → has TR n ≡ false → run_to_mark s (n ∷ ns) ≡ run_to_mark t ns
 unfolding run_to_mark
 mark-step s t n ns h off =
     ap (λ r. and_then r (λ x. cond (has TR n) (problem_at x.game (set_named x.game.size TR n) (region_of x.game.size n)) (run_to_mark x ns))) h
     ∙ ap (λ b. cond b (problem_at t.game (set_named t.game.size TR n) (region_of t.game.size n)) (run_to_mark t ns)) off
 
-pub mark-here : (s t : Replay) (n : Node) (ns : List Node) → step_node s n ≡ Ok t → has TR n ≡ true → run_to_mark s (n ∷ ns) ≡ problem_at t.game (set_named t.game.size TR n) (region_of t.game.size n)
+pub mark-here : (s t : GameSoFar) (n : Node) (ns : List Node) → step_node s n ≡ Ok t → has TR n ≡ true → run_to_mark s (n ∷ ns) ≡ problem_at t.game (set_named t.game.size TR n) (region_of t.game.size n)
 unfolding run_to_mark
 mark-here s t n ns h on =
     ap (λ r. and_then r (λ x. cond (has TR n) (problem_at x.game (set_named x.game.size TR n) (region_of x.game.size n)) (run_to_mark x ns))) h
@@ -66,16 +66,16 @@ mark-here s t n ns h on =
 
 -- ---- the nodes in front of a solution
 
-pub asked_nil : (up : Bool) → asked_count up [] ≡ 0
-unfolding asked_count
+pub asked_nil : (up : Bool) → nodes_before_solution up [] ≡ 0
+unfolding nodes_before_solution
 asked_nil up = refl
 
 -- a solution begins
-pub asked_stop : (up : Bool) (n : Node) (ns : List Node) → (up && nat_le 1 (moves_in n)) ≡ true → asked_count up (n ∷ ns) ≡ 0
-unfolding asked_count
+pub asked_stop : (up : Bool) (n : Node) (ns : List Node) → (up && nat_le 1 (moves_in n)) ≡ true → nodes_before_solution up (n ∷ ns) ≡ 0
+unfolding nodes_before_solution
 asked_stop up n ns h = rw h refl
 
 -- or it doesn't yet
-pub asked_step : (up : Bool) (n : Node) (ns : List Node) → (up && nat_le 1 (moves_in n)) ≡ false → asked_count up (n ∷ ns) ≡ suc (asked_count (up || puts_stones n) ns)
-unfolding asked_count
+pub asked_step : (up : Bool) (n : Node) (ns : List Node) → (up && nat_le 1 (moves_in n)) ≡ false → nodes_before_solution up (n ∷ ns) ≡ suc (nodes_before_solution (up || puts_stones n) ns)
+unfolding nodes_before_solution
 asked_step up n ns h = rw h refl

@@ -26,7 +26,7 @@ use Rattle.tt_game.specs.declared.faults.GameFault.{GameFault}
 use Rattle.tt_game.specs.declared.faults.GameFault.TheVariants.{NoTarget}
 use Rattle.tt_game.specs.declared.faults.Why.{Why}
 use Rattle.tt_game.specs.declared.records.Record.{Record}
-use Rattle.tt_game.specs.declared.records.Replay.{Replay}
+use Rattle.tt_game.specs.declared.records.GameSoFar.{GameSoFar}
 use Rattle.tt_game.specs.declared.turns.Turn.{Turn}
 use Rattle.tt_game.specs.declared.turns.Turn.TheVariants.{Play, Pass}
 use Rattle.tt_game.specs.Game.{history}
@@ -98,24 +98,24 @@ lawful s p e = elim (choice (s.passes == 2) _ _ _ e) [
 -- ---- turns
 
 -- the history is by the rules, and the turns are few
-abbrev IsLawful : Replay → Type 0
+abbrev IsLawful : GameSoFar → Type 0
 IsLawful r = IsByTheRules r.game.size (all_of r.game) × (r.turns ≤ 2000)
 
 -- the history stays, or gets the present colouring at its end
-abbrev Grows : Replay → Replay → Type 0
+abbrev Grows : GameSoFar → GameSoFar → Type 0
 Grows r q = (all_of q.game ≡ all_of r.game) ⊎ (all_of q.game ≡ all_of r.game ++ q.game.present ∷ [])
 
 -- what turns do to a replay
-record GoesOn (r q : Replay) : Type 0 where
+record GoesOn (r q : GameSoFar) : Type 0 where
   lawful : IsLawful r → IsLawful q
   grows : Grows r q
 
 -- one more turn
-abbrev after_turn : Replay → Turn → Replay
+abbrev after_turn : GameSoFar → Turn → GameSoFar
 after_turn r t = record { game = turned r.game t; turns = r.turns + 1 }
 
 -- a turn that is taken is a lawful one, and the 2,000th at most
-turn_made : (r : Replay) (t : Turn) (q : Replay) → replay_with r t ≡ Ok q → (refusal_of r.game t ≡ None) × (r.turns < 2000) × (after_turn r t ≡ q)
+turn_made : (r : GameSoFar) (t : Turn) (q : GameSoFar) → replay_with r t ≡ Ok q → (refusal_of r.game t ≡ None) × (r.turns < 2000) × (after_turn r t ≡ q)
 turn_made r t q e = elim (choice (r.game.passes == 2) _ _ _ e) [
   | inl over ↦ let bad : Err _ ≡ Ok q = over.1 in cc
   | inr on ↦ elim (choice (nat_le 2000 r.turns) _ _ _ on.1) [
@@ -129,7 +129,7 @@ turn_made r t q e = elim (choice (r.game.passes == 2) _ _ _ e) [
     gone (Some why) h = let bad : Err _ ≡ Ok q = h in cc
 
 -- a lawful turn keeps a history by the rules and the count within 2,000
-goes_on : (r : Replay) (t : Turn) → IsOnBoard r.game.size t → refusal_of r.game t ≡ None → r.turns < 2000 → GoesOn r (after_turn r t)
+goes_on : (r : GameSoFar) (t : Turn) → IsOnBoard r.game.size t → refusal_of r.game t ≡ None → r.turns < 2000 → GoesOn r (after_turn r t)
 goes_on r Pass on taken few = record { lawful = λ h. (h.0, omega (arith, few)); grows = inl refl }
 goes_on r (Play p) on taken few =
     let s = r.game in
@@ -146,17 +146,17 @@ goes_on r (Play p) on taken few =
     }
 
 -- so does a turn that was taken
-one_turn : (r : Replay) (t : Turn) (q : Replay) → IsOnBoard r.game.size t → replay_with r t ≡ Ok q → GoesOn r q
-one_turn r t q on e = let made = turn_made r t q e in subst (λ (x : Replay). GoesOn r x) made.2 (goes_on r t on made.0 made.1)
+one_turn : (r : GameSoFar) (t : Turn) (q : GameSoFar) → IsOnBoard r.game.size t → replay_with r t ≡ Ok q → GoesOn r q
+one_turn r t q on e = let made = turn_made r t q e in subst (λ (x : GameSoFar). GoesOn r x) made.2 (goes_on r t on made.0 made.1)
 
 -- and a turn of a colour, with the pass before it where that is needed
-turns_by : (r : Replay) (k : Colour) (t : Turn) (q : Replay) → IsOnBoard r.game.size t → turn_by r k t ≡ Ok q → GoesOn r q
+turns_by : (r : GameSoFar) (k : Colour) (t : Turn) (q : GameSoFar) → IsOnBoard r.game.size t → turn_by r k t ≡ Ok q → GoesOn r q
 turns_by r k t q on e = elim (choice (same_colour r.game.to_move k) _ _ _ e) [
   | inl its ↦ one_turn r t q on its.1
   | inr others ↦
       let passed = step_made (replay_with r Pass) (λ x. replay_with x t) q others.1 in
       let first = turn_made r Pass passed.0 passed.1 in
-      let second : replay_with (after_turn r Pass) t ≡ Ok q = subst (λ (x : Replay). replay_with x t ≡ Ok q) (sym first.2) passed.2 in
+      let second : replay_with (after_turn r Pass) t ≡ Ok q = subst (λ (x : GameSoFar). replay_with x t ≡ Ok q) (sym first.2) passed.2 in
       let on_it = goes_on r Pass tt first.0 first.1 in
       let behind = one_turn (after_turn r Pass) t q on second in
       record { lawful = λ h. behind.lawful (on_it.lawful h); grows = behind.grows }
@@ -186,36 +186,36 @@ value_on size (c ∷ d ∷ []) (On p) e = elim (choice (c == 116 && d == 116) _ 
 value_on size (c ∷ d ∷ x ∷ xs) (On p) e = let bad : None ≡ Some (On p) = e in cc
 
 -- a turn by the value of its property does what turns do
-turn_goes : (r : Replay) (k : Colour) (text : List ℕ) (o : Option PointOrPass) (q : Replay) → point_of r.game.size text ≡ o → turn_named r k o ≡ Ok q → GoesOn r q
+turn_goes : (r : GameSoFar) (k : Colour) (text : List ℕ) (o : Option PointOrPass) (q : GameSoFar) → point_of r.game.size text ≡ o → turn_named r k o ≡ Ok q → GoesOn r q
 turn_goes r k text None q is e = let bad : Err _ ≡ Ok q = e in cc
 turn_goes r k text (Some v) q is e = turns_by r k (as_turn v) q (value_on r.game.size text v is) e
 
 -- so does a node's move, or none
-move_goes : (r : Replay) (vs ws : List (List ℕ)) (q : Replay) → move_of r vs ws ≡ Ok q → GoesOn r q
+move_goes : (r : GameSoFar) (vs ws : List (List ℕ)) (q : GameSoFar) → move_of r vs ws ≡ Ok q → GoesOn r q
 move_goes r (v ∷ vs) ws q e = turn_goes r Black (trimmed v) (point_of r.game.size (trimmed v)) q refl e
 move_goes r [] (w ∷ ws) q e = turn_goes r White (trimmed w) (point_of r.game.size (trimmed w)) q refl e
 move_goes r [] [] q e =
     let same : r ≡ q = cc in
-    subst (λ (x : Replay). GoesOn r x) same (record { lawful = λ h. h; grows = inl refl })
+    subst (λ (x : GameSoFar). GoesOn r x) same (record { lawful = λ h. h; grows = inl refl })
 
 -- ---- setup
 
 -- what a setup does to a replay
-record BeginsAnew (r q : Replay) : Type 0 where
+record BeginsAnew (r q : GameSoFar) : Type 0 where
   lawful : IsLawful r → IsLawful q
   alone : all_of q.game ≡ q.game.present ∷ []
 
 -- a colouring begins the history anew
-begun_anew : (r : Replay) (c : Colouring) (k : Colour) (q : Replay) → begun r c k ≡ Ok q → BeginsAnew r q
+begun_anew : (r : GameSoFar) (c : Colouring) (k : Colour) (q : GameSoFar) → begun r c k ≡ Ok q → BeginsAnew r q
 begun_anew r c k q e = elim (choice (all_alive r.game.size c) _ _ _ e) [
   | inl alive ↦
       let same : record { game = begun_with r.game.size c k; turns = r.turns } ≡ q = let is = alive.1 in cc in
-      subst (λ (x : Replay). BeginsAnew r x) same (record { lawful = λ h. (alone r.game.size c, h.1); alone = refl })
+      subst (λ (x : GameSoFar). BeginsAnew r x) same (record { lawful = λ h. (alone r.game.size c, h.1); alone = refl })
   | inr lifeless ↦ let bad : Err _ ≡ Ok q = lifeless.1 in cc
 ]
 
 -- so do sets put over the board
-set_up_anew : (r : Replay) (black white bare : Option Points) (k : Option Colour) (q : Replay) → set_up_by r black white bare k ≡ Ok q → BeginsAnew r q
+set_up_anew : (r : GameSoFar) (black white bare : Option Points) (k : Option Colour) (q : GameSoFar) → set_up_by r black white bare k ≡ Ok q → BeginsAnew r q
 set_up_anew r None white bare k q e = let bad : Err _ ≡ Ok q = e in cc
 set_up_anew r (Some black) None bare k q e = let bad : Err _ ≡ Ok q = e in cc
 set_up_anew r (Some black) (Some white) None k q e = let bad : Err _ ≡ Ok q = e in cc
@@ -228,7 +228,7 @@ set_up_anew r (Some black) (Some white) (Some bare) (Some k) q e = elim (choice 
 -- ---- nodes
 
 -- what a node does to a replay
-node_does : (r : Replay) (n : Node) (q : Replay) → step_node r n ≡ Ok q → ((is_setup n ≡ true) × BeginsAnew r q) ⊎ ((is_setup n ≡ false) × GoesOn r q)
+node_does : (r : GameSoFar) (n : Node) (q : GameSoFar) → step_node r n ≡ Ok q → ((is_setup n ≡ true) × BeginsAnew r q) ⊎ ((is_setup n ≡ false) × GoesOn r q)
 unfolding step_node
 node_does r n q e = elim (choice (is_setup n) _ _ _ e) [
   | inl setup ↦ elim (choice (nat_le 1 (moves_in n)) _ _ _ setup.1) [
@@ -249,11 +249,11 @@ setups_begin r q n e = elim (node_does r n q e) [
 ]
 
 -- a node keeps a history by the rules and the count within 2,000
-node_lawful : (r : Replay) (n : Node) (q : Replay) → step_node r n ≡ Ok q → IsLawful r → IsLawful q
+node_lawful : (r : GameSoFar) (n : Node) (q : GameSoFar) → step_node r n ≡ Ok q → IsLawful r → IsLawful q
 node_lawful r n q e h = elim (node_does r n q e) [ inl setup ↦ setup.1.lawful h | inr move ↦ move.1.lawful h ]
 
 -- so do nodes one after another
-run_lawful : (r : Replay) (ns : List Node) (q : Replay) → run_nodes r ns ≡ Ok q → IsLawful r → IsLawful q
+run_lawful : (r : GameSoFar) (ns : List Node) (q : GameSoFar) → run_nodes r ns ≡ Ok q → IsLawful r → IsLawful q
 unfolding run_nodes
 run_lawful r [] q e h = let same : r ≡ q = cc in subst IsLawful same h
 run_lawful r (n ∷ ns) q e h =
@@ -261,14 +261,14 @@ run_lawful r (n ∷ ns) q e h =
     run_lawful made.0 ns q made.2 (node_lawful r n made.0 made.1 h)
 
 -- the empty board begins a history by the rules
-empty_lawful : (o : Option Size) (q : Replay) → begin_at o ≡ Ok q → IsLawful q
+empty_lawful : (o : Option Size) (q : GameSoFar) → begin_at o ≡ Ok q → IsLawful q
 empty_lawful None q e = let bad : Err _ ≡ Ok q = e in cc
 empty_lawful (Some size) q e =
     let same : record { game = empty_game size; turns = 0 } ≡ q = cc in
     subst IsLawful same (alone size (empty_game size).present, omega arith)
 
 -- a line begins with a history by the rules
-begin_lawful : (ns : List Node) (q : Replay) → begin_line ns ≡ Ok q → IsLawful q
+begin_lawful : (ns : List Node) (q : GameSoFar) → begin_line ns ≡ Ok q → IsLawful q
 unfolding begin_node
 begin_lawful [] q e = empty_lawful (sized 19 19) q e
 begin_lawful (n ∷ ns) q e = elim (choice (is_go (values_of GM n.properties)) _ _ _ e) [
@@ -313,7 +313,7 @@ of_game s (Some targets) None q e = let bad : Err _ ≡ Ok q = e in cc
 of_game s (Some targets) (Some region) q e = of_game_on s region targets q e
 
 -- the history of a problem that nodes come to is by the rules
-mark_lawful : (r : Replay) (ns : List Node) (q : LineWithUndo) → run_to_mark r ns ≡ Ok q → IsLawful r → IsByTheRules q.frame.size (history q.state)
+mark_lawful : (r : GameSoFar) (ns : List Node) (q : LineWithUndo) → run_to_mark r ns ≡ Ok q → IsLawful r → IsByTheRules q.frame.size (history q.state)
 unfolding run_to_mark
 mark_lawful r [] q e h = let bad : Err _ ≡ Ok q = e in cc
 mark_lawful r (n ∷ ns) q e h =
@@ -337,17 +337,17 @@ problems_are_games ns q e =
 -- ---- refusals
 
 -- the node at which a run is refused, and what the nodes before it came to
-record StopsAt (r : Replay) (ns : List Node) (e : GameFault) : Type 0 where
+record StopsAt (r : GameSoFar) (ns : List Node) (e : GameFault) : Type 0 where
   front : List Node
   node : Node
   behind : List Node
-  last : Replay
+  last : GameSoFar
   parts : ns ≡ front ++ node ∷ behind
   taken : run_nodes r front ≡ Ok last
   refused : step_node last node ≡ Err e
 
 -- a refused run stops at a node: the ones before it came to something, and it was refused
-stops_at : (r : Replay) (ns : List Node) (e : GameFault) → run_nodes r ns ≡ Err e → StopsAt r ns e
+stops_at : (r : GameSoFar) (ns : List Node) (e : GameFault) → run_nodes r ns ≡ Err e → StopsAt r ns e
 unfolding run_nodes
 stops_at r [] e h = let bad : Ok r ≡ Err e = h in cc
 stops_at r (n ∷ ns) e h = elim (step_refused (step_node r n) _ e h) [
@@ -366,20 +366,20 @@ stops_at r (n ∷ ns) e h = elim (step_refused (step_node r n) _ e h) [
 ]
 
 -- a run over nodes goes on from what the first of them came to
-run_on : (r : Replay) (front ns : List Node) (q : Replay) → run_nodes r front ≡ Ok q → run_nodes r (front ++ ns) ≡ run_nodes q ns
+run_on : (r : GameSoFar) (front ns : List Node) (q : GameSoFar) → run_nodes r front ≡ Ok q → run_nodes r (front ++ ns) ≡ run_nodes q ns
 unfolding run_nodes
-run_on r [] ns q e = let same : r ≡ q = cc in ap (λ (x : Replay). run_nodes x ns) same
+run_on r [] ns q e = let same : r ≡ q = cc in ap (λ (x : GameSoFar). run_nodes x ns) same
 run_on r (n ∷ front) ns q e =
     let made = step_made (step_node r n) _ q e in
     ap (λ x. and_then x (λ s. run_nodes s (front ++ ns))) made.1 ∙ run_on made.0 front ns q made.2
 
 -- a node that is refused ends a run
-ends_run : (q : Replay) (n : Node) (ns : List Node) (e : GameFault) → step_node q n ≡ Err e → run_nodes q (n ∷ ns) ≡ Err e
+ends_run : (q : GameSoFar) (n : Node) (ns : List Node) (e : GameFault) → step_node q n ≡ Err e → run_nodes q (n ∷ ns) ≡ Err e
 unfolding run_nodes
 ends_run q n ns e h = ap (λ x. and_then x (λ s. run_nodes s ns)) h
 
 -- the record of nodes, where the begin of the line is known
-record_begun : (ns : List Node) (r : Replay) → begin_line ns ≡ Ok r → record_of ns ≡ and_then (run_nodes r ns) (λ q. Ok (record_at q.game))
+record_begun : (ns : List Node) (r : GameSoFar) → begin_line ns ≡ Ok r → record_of ns ≡ and_then (run_nodes r ns) (λ q. Ok (record_at q.game))
 unfolding record_of
 record_begun ns r e = ap (λ x. and_then x (λ s. and_then (run_nodes s ns) (λ q. Ok (record_at q.game)))) e
 
@@ -407,13 +407,13 @@ begins_alike [] n ns others = refl
 begins_alike (m ∷ front) n ns others = refl
 
 -- the nodes before a refused one are a record
-front_taken : (front : List Node) (n : Node) (ns : List Node) (r q : Replay) → begin_line (front ++ n ∷ ns) ≡ Ok r → run_nodes r front ≡ Ok q → (s : Record) × (record_of front ≡ Ok s)
+front_taken : (front : List Node) (n : Node) (ns : List Node) (r q : GameSoFar) → begin_line (front ++ n ∷ ns) ≡ Ok r → run_nodes r front ≡ Ok q → (s : Record) × (record_of front ≡ Ok s)
 front_taken [] n ns r q begins runs = empty_record
 front_taken (m ∷ front) n ns r q begins runs =
     (record_at q.game, record_begun (m ∷ front) r begins ∙ ap (λ x. and_then x (λ s. Ok (record_at s.game))) runs)
 
 -- where a run stops, the record stops
-least_of : (ns : List Node) (r : Replay) (e : GameFault) → begin_line ns ≡ Ok r → StopsAt r ns e → IsOfLeastNode ns e
+least_of : (ns : List Node) (r : GameSoFar) (e : GameFault) → begin_line ns ≡ Ok r → StopsAt r ns e → IsOfLeastNode ns e
 least_of ns r e begins stop =
     let begins_so : begin_line (stop.front ++ stop.node ∷ stop.behind) ≡ Ok r = ap begin_line (sym stop.parts) ∙ begins in
     let taken = front_taken stop.front stop.node stop.behind r stop.last begins_so stop.taken in
@@ -431,7 +431,7 @@ least_of ns r e begins stop =
     }
 
 -- a record is refused before its first node, or by a run
-refused_by : (ns : List Node) (e : GameFault) → record_of ns ≡ Err e → (begin_line ns ≡ Err e) ⊎ ((r : Replay) × (begin_line ns ≡ Ok r) × (run_nodes r ns ≡ Err e))
+refused_by : (ns : List Node) (e : GameFault) → record_of ns ≡ Err e → (begin_line ns ≡ Err e) ⊎ ((r : GameSoFar) × (begin_line ns ≡ Ok r) × (run_nodes r ns ≡ Err e))
 unfolding record_of
 refused_by ns e h = elim (step_refused (begin_line ns) _ e h) [
   | inl never ↦ inl never
@@ -458,11 +458,11 @@ least_nodes_refuse (m ∷ ms) e h = elim (refused_by (m ∷ ms) e h) [
 ]
 
 -- a run that is refused before a mark is refused on the way to the mark
-mark_refused : (r : Replay) (ns behind : List Node) (e : GameFault) → All (λ n. has TR n ≡ false) ns → run_nodes r ns ≡ Err e → run_to_mark r (ns ++ behind) ≡ Err e
+mark_refused : (r : GameSoFar) (ns behind : List Node) (e : GameFault) → All (λ n. has TR n ≡ false) ns → run_nodes r ns ≡ Err e → run_to_mark r (ns ++ behind) ≡ Err e
 unfolding run_nodes run_to_mark
 mark_refused r [] behind e unmarked h = let bad : Ok r ≡ Err e = h in cc
 mark_refused r (n ∷ ns) behind e unmarked h =
-    let go = λ (q : Replay). cond (has TR n) (problem_at q.game (set_named q.game.size TR n) (region_of q.game.size n)) (run_to_mark q (ns ++ behind)) in
+    let go = λ (q : GameSoFar). cond (has TR n) (problem_at q.game (set_named q.game.size TR n) (region_of q.game.size n)) (run_to_mark q (ns ++ behind)) in
     elim (step_refused (step_node r n) _ e h) [
       | inl here ↦ ap (λ x. and_then x go) here
       | inr on ↦
@@ -476,18 +476,18 @@ pub problems_are_records : ProblemsAreRecords
 unfolding problem_of
 problems_are_records [] behind e unmarked h = absurd (never_empty e h)
 problems_are_records (m ∷ ms) behind e unmarked h =
-    let go = λ (r : Replay). run_to_mark r ((m ∷ ms) ++ behind) in
+    let go = λ (r : GameSoFar). run_to_mark r ((m ∷ ms) ++ behind) in
     elim (refused_by (m ∷ ms) e h) [
       | inl never ↦ ap (λ x. and_then x go) never
       | inr on ↦ ap (λ x. and_then x go) on.1 ∙ mark_refused on.0 (m ∷ ms) behind e unmarked on.2
     ]
 
 -- nodes without a mark come to the end of the way to the mark
-mark_missing : (r q : Replay) (ns : List Node) → All (λ n. has TR n ≡ false) ns → run_nodes r ns ≡ Ok q → run_to_mark r ns ≡ Err NoTarget
+mark_missing : (r q : GameSoFar) (ns : List Node) → All (λ n. has TR n ≡ false) ns → run_nodes r ns ≡ Ok q → run_to_mark r ns ≡ Err NoTarget
 unfolding run_nodes run_to_mark
 mark_missing r q [] unmarked h = refl
 mark_missing r q (n ∷ ns) unmarked h =
-    let go = λ (x : Replay). cond (has TR n) (problem_at x.game (set_named x.game.size TR n) (region_of x.game.size n)) (run_to_mark x ns) in
+    let go = λ (x : GameSoFar). cond (has TR n) (problem_at x.game (set_named x.game.size TR n) (region_of x.game.size n)) (run_to_mark x ns) in
     let on = step_made (step_node r n) _ q h in
     ap (λ x. and_then x go) on.1
     ∙ ap (λ b. cond b (problem_at on.0.game (set_named on.0.game.size TR n) (region_of on.0.game.size n)) (run_to_mark on.0 ns)) (All-head (λ m. has TR m ≡ false) n ns unmarked)

@@ -11,7 +11,7 @@ use Rattle.tt_board.specs.Reach.{entry_at, Reaches}
 use Rattle.tt_board.specs.Decided.{reaches, reaches_is}
 use Rattle.tt_board.specs.Play.{is_empty, IsAlive, IsLeastLifeless}
 use Rattle.tt_game.specs.History.{repeats, repeats_is}
-use Rattle.tt_game.specs.declared.records.Replay.{Replay}
+use Rattle.tt_game.specs.declared.records.GameSoFar.{GameSoFar}
 use Rattle.tt_game.specs.Records.{alive_below, all_alive, run_nodes, step_node, and_then}
 use Rattle.tt_game.specs.declared.faults.GameFault.{GameFault}
 use Rattle.tt_sgf.specs.declared.nodes.Node.{Node}
@@ -76,14 +76,14 @@ pub counted_two : (a b : ℕ) → leb 2 (min 2 a + min 2 b) ≡ leb 2 (a + b)
 counted_two a b = counted 2 a b (omega arith)
 
 -- a run over nodes: at its end what it came to, on from a node, and up to a refused one
-pub run-nil : (s : Replay) → run_nodes s [] ≡ Ok s
+pub run-nil : (s : GameSoFar) → run_nodes s [] ≡ Ok s
 unfolding run_nodes
 run-nil s = refl
 
-pub run-step : (s t : Replay) (n : Node) (ns : List Node) → step_node s n ≡ Ok t → run_nodes s (n ∷ ns) ≡ run_nodes t ns
+pub run-step : (s t : GameSoFar) (n : Node) (ns : List Node) → step_node s n ≡ Ok t → run_nodes s (n ∷ ns) ≡ run_nodes t ns
 unfolding run_nodes
 run-step s t n ns e = ap (λ r. and_then r (λ x. run_nodes x ns)) e
 
-pub run-stop : (s : Replay) (e : GameFault) (n : Node) (ns : List Node) → step_node s n ≡ Err e → run_nodes s (n ∷ ns) ≡ Err e
+pub run-stop : (s : GameSoFar) (e : GameFault) (n : Node) (ns : List Node) → step_node s n ≡ Err e → run_nodes s (n ∷ ns) ≡ Err e
 unfolding run_nodes
 run-stop s e n ns h = ap (λ r. and_then r (λ x. run_nodes x ns)) h

@@ -15,7 +15,7 @@ use Rattle.tt_board.specs.Position.{Colouring}
 use Rattle.tt_board.specs.Play.{Points, length-placed, length-play_of, placed, same_colour}
 use Rattle.tt_board.specs.Stones.{any_empty}
 use Rattle.tt_game.specs.declared.faults.Why.{Why}
-use Rattle.tt_game.specs.declared.records.Replay.{Replay}
+use Rattle.tt_game.specs.declared.records.GameSoFar.{GameSoFar}
 use Rattle.tt_game.specs.declared.turns.Turn.{Turn}
 use Rattle.tt_game.specs.declared.turns.Turn.TheVariants.{Play, Pass}
 use Rattle.tt_game.specs.Games.{GameState, all_of, begun_with, empty_game, made_by, refusal_of, turned}
@@ -42,13 +42,13 @@ sized_turned g (Play p) h = All-push (λ c. length c ≡ point_count g.size) (al
 -- ---- turns
 
 -- so does a turn that was taken: alone, of a colour, by a value, or as a node's move
-sized_on : (r : Replay) (t : Turn) (o : Option Why) (q : Replay) → go_on r t o ≡ Ok q → IsSized r.game → IsSized q.game
+sized_on : (r : GameSoFar) (t : Turn) (o : Option Why) (q : GameSoFar) → go_on r t o ≡ Ok q → IsSized r.game → IsSized q.game
 sized_on r t None q e h =
     let same : record { game = turned r.game t; turns = r.turns + 1 } ≡ q = cc in
-    subst (λ (x : Replay). IsSized x.game) same (sized_turned r.game t h)
+    subst (λ (x : GameSoFar). IsSized x.game) same (sized_turned r.game t h)
 sized_on r t (Some why) q e h = let bad : Err _ ≡ Ok q = e in cc
 
-sized_turn : (r : Replay) (t : Turn) (q : Replay) → replay_with r t ≡ Ok q → IsSized r.game → IsSized q.game
+sized_turn : (r : GameSoFar) (t : Turn) (q : GameSoFar) → replay_with r t ≡ Ok q → IsSized r.game → IsSized q.game
 sized_turn r t q e h = elim (either (r.game.passes == 2) _ _ _ e) [
   | inl over ↦ let bad : Err _ ≡ Ok q = over in cc
   | inr on ↦ elim (either (nat_le 2000 r.turns) _ _ _ on) [
@@ -57,7 +57,7 @@ sized_turn r t q e h = elim (either (r.game.passes == 2) _ _ _ e) [
   ]
 ]
 
-sized_by : (r : Replay) (k : Colour) (t : Turn) (q : Replay) → turn_by r k t ≡ Ok q → IsSized r.game → IsSized q.game
+sized_by : (r : GameSoFar) (k : Colour) (t : Turn) (q : GameSoFar) → turn_by r k t ≡ Ok q → IsSized r.game → IsSized q.game
 sized_by r k t q e h = elim (either (same_colour r.game.to_move k) _ _ _ e) [
   | inl its ↦ sized_turn r t q its h
   | inr others ↦
@@ -65,28 +65,28 @@ sized_by r k t q e h = elim (either (same_colour r.game.to_move k) _ _ _ e) [
       sized_turn passed.0 t q passed.2 (sized_turn r Pass passed.0 passed.1 h)
 ]
 
-sized_named : (r : Replay) (k : Colour) (o : Option PointOrPass) (q : Replay) → turn_named r k o ≡ Ok q → IsSized r.game → IsSized q.game
+sized_named : (r : GameSoFar) (k : Colour) (o : Option PointOrPass) (q : GameSoFar) → turn_named r k o ≡ Ok q → IsSized r.game → IsSized q.game
 sized_named r k None q e h = let bad : Err _ ≡ Ok q = e in cc
 sized_named r k (Some v) q e h = sized_by r k (as_turn v) q e h
 
-sized_move : (r : Replay) (vs ws : List (List ℕ)) (q : Replay) → move_of r vs ws ≡ Ok q → IsSized r.game → IsSized q.game
+sized_move : (r : GameSoFar) (vs ws : List (List ℕ)) (q : GameSoFar) → move_of r vs ws ≡ Ok q → IsSized r.game → IsSized q.game
 sized_move r (v ∷ vs) ws q e h = sized_named r Black (point_of r.game.size (trimmed v)) q e h
 sized_move r [] (w ∷ ws) q e h = sized_named r White (point_of r.game.size (trimmed w)) q e h
-sized_move r [] [] q e h = let same : r ≡ q = cc in subst (λ (x : Replay). IsSized x.game) same h
+sized_move r [] [] q e h = let same : r ≡ q = cc in subst (λ (x : GameSoFar). IsSized x.game) same h
 
 -- ---- setup
 
 -- a setup's colouring begins a history with an entry for each point
-sized_begun : (r : Replay) (c : Colouring) (k : Colour) (q : Replay) → begun r c k ≡ Ok q → length c ≡ point_count r.game.size → IsSized q.game
+sized_begun : (r : GameSoFar) (c : Colouring) (k : Colour) (q : GameSoFar) → begun r c k ≡ Ok q → length c ≡ point_count r.game.size → IsSized q.game
 sized_begun r c k q e fits = elim (either (all_alive r.game.size c) _ _ _ e) [
   | inl alive ↦
       let same : record { game = begun_with r.game.size c k; turns = r.turns } ≡ q = cc in
-      subst (λ (x : Replay). IsSized x.game) same (alone r.game.size c fits)
+      subst (λ (x : GameSoFar). IsSized x.game) same (alone r.game.size c fits)
   | inr lifeless ↦ let bad : Err _ ≡ Ok q = lifeless in cc
 ]
 
 -- so do sets put over the board
-sized_set_up : (r : Replay) (black white bare : Option Points) (k : Option Colour) (q : Replay) → set_up_by r black white bare k ≡ Ok q → IsSized q.game
+sized_set_up : (r : GameSoFar) (black white bare : Option Points) (k : Option Colour) (q : GameSoFar) → set_up_by r black white bare k ≡ Ok q → IsSized q.game
 sized_set_up r None white bare k q e = let bad : Err _ ≡ Ok q = e in cc
 sized_set_up r (Some black) None bare k q e = let bad : Err _ ≡ Ok q = e in cc
 sized_set_up r (Some black) (Some white) None k q e = let bad : Err _ ≡ Ok q = e in cc
@@ -99,7 +99,7 @@ sized_set_up r (Some black) (Some white) (Some bare) (Some k) q e = elim (either
 -- ---- nodes
 
 -- a node keeps an entry for each point
-sized_step : (r : Replay) (n : Node) (q : Replay) → step_node r n ≡ Ok q → IsSized r.game → IsSized q.game
+sized_step : (r : GameSoFar) (n : Node) (q : GameSoFar) → step_node r n ≡ Ok q → IsSized r.game → IsSized q.game
 unfolding step_node
 sized_step r n q e h = elim (either (is_setup n) _ _ _ e) [
   | inl setup ↦ elim (either (nat_le 1 (moves_in n)) _ _ _ setup) [
@@ -113,14 +113,14 @@ sized_step r n q e h = elim (either (is_setup n) _ _ _ e) [
 ]
 
 -- the empty board has an entry for each point
-sized_empty : (o : Option Size) (q : Replay) → begin_at o ≡ Ok q → IsSized q.game
+sized_empty : (o : Option Size) (q : GameSoFar) → begin_at o ≡ Ok q → IsSized q.game
 sized_empty None q e = let bad : Err _ ≡ Ok q = e in cc
 sized_empty (Some size) q e =
     let same : record { game = empty_game size; turns = 0 } ≡ q = cc in
-    subst (λ (x : Replay). IsSized x.game) same (alone size (replicate (point_count size) None) (length-replicate (point_count size) None))
+    subst (λ (x : GameSoFar). IsSized x.game) same (alone size (replicate (point_count size) None) (length-replicate (point_count size) None))
 
 -- and so has the board with which a line begins
-sized_begin : (ns : List Node) (q : Replay) → begin_line ns ≡ Ok q → IsSized q.game
+sized_begin : (ns : List Node) (q : GameSoFar) → begin_line ns ≡ Ok q → IsSized q.game
 unfolding begin_node
 sized_begin [] q e = sized_empty (sized 19 19) q e
 sized_begin (n ∷ ns) q e = elim (either (is_go (values_of GM n.properties)) _ _ _ e) [
@@ -156,7 +156,7 @@ state_at s (Some targets) None q e h = let bad : Err _ ≡ Ok q = e in cc
 state_at s (Some targets) (Some region) q e h = state_on s region targets q e h
 
 -- so has one that nodes come to
-state_nodes : (r : Replay) (ns : List Node) (q : LineWithUndo) → run_to_mark r ns ≡ Ok q → IsSized r.game → HasState q
+state_nodes : (r : GameSoFar) (ns : List Node) (q : LineWithUndo) → run_to_mark r ns ≡ Ok q → IsSized r.game → HasState q
 unfolding run_to_mark
 state_nodes r [] q e h = let bad : Err _ ≡ Ok q = e in cc
 state_nodes r (n ∷ ns) q e h =

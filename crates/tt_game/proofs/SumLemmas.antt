@@ -21,7 +21,7 @@ use Rattle.tt_sgf.specs.laws.SizeLaws.{few_points}
 use Rattle.tt_game.specs.declared.history.bloom_filter.TheConstants.{LOW, MIXER, FILTER_BITS, WEIGHTS}
 use Rattle.tt_game.specs.Keys.{bits_of, binary, words_of, bit_words}
 use Rattle.tt_game.specs.Mixing.{mix, mix_board}
-use Rattle.tt_game.specs.BloomFilter.{hash_of}
+use Rattle.tt_game.specs.BloomFilter.{filter_index}
 use Rattle.tt_game.proofs.KeyLemmas.{bit_words_same, length-words_of}
 
 -- ---- what words make
@@ -184,8 +184,8 @@ module _ (g : Size) (c : Colouring) (p : ℕ) (fits : length c ≡ point_count g
 
 -- the hash of a colouring with a stone more, by what the words make without it
 pub hash_more : (g : Size) (c : Colouring) (p : ℕ) (k : Colour) (sum w : ℕ) → length c ≡ point_count g → p < point_count g → entry_at c p ≡ None → sum ≡ mix_board g c
-    → w ≡ MIXER ^ (behind k - p / 64) % 2 ^ 64 → (sum + 2 ^ (p % 64) * w % 2 ^ 64) % 2 ^ 64 * MIXER % 2 ^ 64 / LOW % FILTER_BITS ≡ hash_of g (set c p (Some k))
-unfolding hash_of
+    → w ≡ MIXER ^ (behind k - p / 64) % 2 ^ 64 → (sum + 2 ^ (p % 64) * w % 2 ^ 64) % 2 ^ 64 * MIXER % 2 ^ 64 / LOW % FILTER_BITS ≡ filter_index g (set c p (Some k))
+unfolding filter_index
 hash_more g c p k sum w fits on free is weighs =
     let d = 2 ^ (p % 64) in
     let power = MIXER ^ (behind k - p / 64) in

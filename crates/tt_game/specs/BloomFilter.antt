@@ -11,8 +11,8 @@ use Rattle.tt_game.specs.GameHistory.{HasBeen}
 use Rattle.tt_game.specs.Mixing.{mix_board}
 
 -- the hash of a colouring: what the words of both colours make, multiplied once more, since the last word was only added
-unfoldable pub hash_of : Size → Colouring → ℕ
-hash_of size c = mix_board size c * MIXER % 2 ^ 64 / LOW % FILTER_BITS
+unfoldable pub filter_index : Size → Colouring → ℕ
+filter_index size c = mix_board size c * MIXER % 2 ^ 64 / LOW % FILTER_BITS
 
 -- a hash was noted, or no row has a bit for it
 abbrev pub MayHold : BloomFilter → ℕ → Type 0
@@ -20,4 +20,4 @@ MayHold s n = (d : Bits) → n / BITS < length s.rows.items → bit_in (get_or s
 
 -- the hashes of all colourings of a history were noted
 abbrev pub MayHoldAll : BloomFilter → Size → List Colouring → Type 0
-MayHoldAll s size h = (c : Colouring) → HasBeen h c → MayHold s (hash_of size c)
+MayHoldAll s size h = (c : Colouring) → HasBeen h c → MayHold s (filter_index size c)

@@ -16,7 +16,7 @@ use Rattle.tt_game.specs.declared.faults.GameFault.TheVariants.{BadValue, NoTarg
 use Rattle.tt_game.specs.declared.frame.Side.{Side}
 use Rattle.tt_game.specs.declared.frame.Side.TheVariants.{Attacker, Defender}
 use Rattle.tt_game.specs.Line.{LineWithUndo}
-use Rattle.tt_game.specs.declared.records.Replay.{Replay}
+use Rattle.tt_game.specs.declared.records.GameSoFar.{GameSoFar}
 use Rattle.tt_game.specs.Games.{GameState}
 use Rattle.tt_game.specs.Nodes.{AB, AW, TR, SQ, has, moves_in, set_named}
 use Rattle.tt_game.specs.Records.{and_then, step_node, begin_line, run_nodes}
@@ -62,7 +62,7 @@ problem_at s (Some targets) None = Err BadValue
 problem_at s (Some targets) (Some region) = problem_on s region targets
 
 -- nodes up to and with the first that has TR
-unfoldable pub run_to_mark : Replay → List Node → Result LineWithUndo GameFault
+unfoldable pub run_to_mark : GameSoFar → List Node → Result LineWithUndo GameFault
 run_to_mark r [] = Err NoTarget
 run_to_mark r (n ∷ ns) = and_then (step_node r n)
     (λ q. cond (has TR n) (problem_at q.game (set_named q.game.size TR n) (region_of q.game.size n)) (run_to_mark q ns))
@@ -77,10 +77,10 @@ abbrev pub puts_stones : Node → Bool
 puts_stones n = has AB n || has AW n
 
 -- how many nodes stand in front of the first move behind stones that are set up, given whether some are already
-unfoldable pub asked_count : Bool → List Node → ℕ
-asked_count up [] = 0
-asked_count up (n ∷ ns) = if up && nat_le 1 (moves_in n) then 0 else suc (asked_count (up || puts_stones n) ns)
+unfoldable pub nodes_before_solution : Bool → List Node → ℕ
+nodes_before_solution up [] = 0
+nodes_before_solution up (n ∷ ns) = if up && nat_le 1 (moves_in n) then 0 else suc (nodes_before_solution (up || puts_stones n) ns)
 
 -- the game that those nodes come to: what stands behind them is a solution
 unfoldable pub game_of : List Node → Result GameState GameFault
-game_of ns = and_then (begin_line ns) (λ r. and_then (run_nodes r (take (asked_count false ns) ns)) (λ q. Ok q.game))
+game_of ns = and_then (begin_line ns) (λ r. and_then (run_nodes r (take (nodes_before_solution false ns) ns)) (λ q. Ok q.game))

@@ -10,7 +10,7 @@ use Rattle.tt_board.specs.Play.{play_of}
 use Rattle.tt_game.specs.declared.faults.GameFault.{GameFault}
 use Rattle.tt_game.specs.declared.faults.GameFault.TheVariants.{NoTarget}
 use Rattle.tt_game.specs.declared.records.Record.{Record}
-use Rattle.tt_game.specs.declared.records.Replay.{Replay}
+use Rattle.tt_game.specs.declared.records.GameSoFar.{GameSoFar}
 use Rattle.tt_game.specs.declared.records.TheConstants.{MOST_TURNS}
 use Rattle.tt_game.specs.Game.{history}
 use Rattle.tt_game.specs.Games.{all_of}
@@ -36,12 +36,12 @@ pub record IsByTheRules (size : Size) (h : List Colouring) : Type 0 where
   pub once : AllPairs ◌≢◌ h
 
 -- the game and the count of turns that a record's nodes come to
-abbrev pub ComesTo : List Node → Replay → Type 0
+abbrev pub ComesTo : List Node → GameSoFar → Type 0
 ComesTo nodes r = and_then (begin_line nodes) (λ q. run_nodes q nodes) ≡ Ok r
 
 -- the history of a record's game is by the rules, and its turns, implied passes among them, are no more than a record has
 abbrev pub RecordsAreGames : Type 0
-RecordsAreGames = (nodes : List Node) (r : Replay) → ComesTo nodes r → IsByTheRules r.game.size (all_of r.game) × (r.turns ≤ MOST_TURNS)
+RecordsAreGames = (nodes : List Node) (r : GameSoFar) → ComesTo nodes r → IsByTheRules r.game.size (all_of r.game) × (r.turns ≤ MOST_TURNS)
 
 -- a problem's history is by the rules
 abbrev pub ProblemsAreGames : Type 0
@@ -49,7 +49,7 @@ ProblemsAreGames = (nodes : List Node) (p : LineWithUndo) → problem_of nodes �
 
 -- a setup begins the history anew, with one colouring; another node leaves it, or a play adds the present one at its end
 abbrev pub SetupsBeginHistories : Type 0
-SetupsBeginHistories = (r q : Replay) (n : Node) → step_node r n ≡ Ok q
+SetupsBeginHistories = (r q : GameSoFar) (n : Node) → step_node r n ≡ Ok q
     → (is_setup n ≡ true → all_of q.game ≡ q.game.present ∷ [])
     × (is_setup n ≡ false → (all_of q.game ≡ all_of r.game) ⊎ (all_of q.game ≡ all_of r.game ++ q.game.present ∷ []))
 
@@ -75,7 +75,7 @@ ProblemsAreRecords = (nodes behind : List Node) (e : GameFault) → All (λ n. h
 
 -- where the nodes come to a game, and none marks a target, they are no problem: a target is wanted
 abbrev pub UnmarkedAreNoProblems : Type 0
-UnmarkedAreNoProblems = (nodes : List Node) (r : Replay) → All (λ n. has TR n ≡ false) nodes → ComesTo nodes r → problem_of nodes ≡ Err NoTarget
+UnmarkedAreNoProblems = (nodes : List Node) (r : GameSoFar) → All (λ n. has TR n ≡ false) nodes → ComesTo nodes r → problem_of nodes ≡ Err NoTarget
 
 -- the test of superko is true exactly where the colouring is in the history
 abbrev pub SuperkoDecides : Type 0

@@ -18,14 +18,14 @@ use Rattle.tt_game.specs.declared.faults.Why.TheVariants.{Over, Occupied, Outsid
 use Rattle.tt_game.specs.declared.faults.GameFault.{GameFault}
 use Rattle.tt_game.specs.declared.faults.GameFault.TheVariants.{NotGo, BadSize, BadValue, PointTwice, MixedNode, LifelessStone, OccupiedPoint, RepeatedBoard, AfterEnd, TooManyTurns, NoMemory}
 use Rattle.tt_game.specs.declared.records.Record.{Record}
-use Rattle.tt_game.specs.declared.records.Replay.{Replay}
+use Rattle.tt_game.specs.declared.records.GameSoFar.{GameSoFar}
 use Rattle.tt_game.specs.declared.records.TheConstants.{MOST_TURNS}
 use Rattle.tt_game.specs.declared.turns.Turn.{Turn}
 use Rattle.tt_game.specs.declared.turns.Turn.TheVariants.{Play, Pass}
 use Rattle.tt_game.specs.Games.{GameState, refusal_of, turned, empty_game, begun_with}
 use Rattle.tt_game.specs.Nodes.{values_of, set_named, colour_named, apart, moves_in, is_setup, is_go, size_named, AB, AW, AE, PL, B, W, GM, SZ}
 
--- A Replay is a game and the count of the turns that were played, implied passes among them.
+-- A GameSoFar is a game and the count of the turns that were played, implied passes among them.
 
 -- what follows, where the step before was not refused
 abbrev pub and_then : {A B : Type 0} → Result A GameFault → (A → Result B GameFault) → Result B GameFault
@@ -42,16 +42,16 @@ fault_of Outside = OccupiedPoint
 fault_of Repeats = RepeatedBoard
 
 -- a turn that is refused is the fault, any other is made and counted
-abbrev pub go_on : Replay → Turn → Option Why → Result Replay GameFault
+abbrev pub go_on : GameSoFar → Turn → Option Why → Result GameSoFar GameFault
 go_on r t None = Ok (record { game = turned r.game t; turns = r.turns + 1 })
 go_on r t (Some why) = Err (fault_of why)
 
 -- a turn of the side to move: after the end no turn, no more than a record has, and a legal one
-abbrev pub replay_with : Replay → Turn → Result Replay GameFault
+abbrev pub replay_with : GameSoFar → Turn → Result GameSoFar GameFault
 replay_with r t = cond (r.game.passes == 2) (Err AfterEnd) (cond (nat_le MOST_TURNS r.turns) (Err TooManyTurns) (go_on r t (refusal_of r.game t)))
 
 -- a turn of a colour; where the other is to move it passes first
-abbrev pub turn_by : Replay → Colour → Turn → Result Replay GameFault
+abbrev pub turn_by : GameSoFar → Colour → Turn → Result GameSoFar GameFault
 turn_by r k t = cond (same_colour r.game.to_move k) (replay_with r t) (and_then (replay_with r Pass) (λ q. replay_with q t))
 
 -- a point as a play on it, a pass as a pass
@@ -60,12 +60,12 @@ as_turn (On p) = Play p
 as_turn NoPoint = Pass
 
 -- a turn of a colour, by the point or pass that its value is; a value that is neither is refused
-abbrev pub turn_named : Replay → Colour → Option PointOrPass → Result Replay GameFault
+abbrev pub turn_named : GameSoFar → Colour → Option PointOrPass → Result GameSoFar GameFault
 turn_named r k None = Err BadValue
 turn_named r k (Some v) = turn_by r k (as_turn v)
 
 -- the move of a node, where it has one
-abbrev pub move_of : Replay → List (List ℕ) → List (List ℕ) → Result Replay GameFault
+abbrev pub move_of : GameSoFar → List (List ℕ) → List (List ℕ) → Result GameSoFar GameFault
 move_of r (v ∷ vs) ws = turn_named r Black (point_of r.game.size (trimmed v))
 move_of r [] (w ∷ ws) = turn_named r White (point_of r.game.size (trimmed w))
 move_of r [] [] = Ok r
@@ -82,11 +82,11 @@ abbrev pub all_alive : Size → Colouring → Bool
 all_alive size c = alive_below size c (point_count size)
 
 -- the colouring that a setup makes is the whole history; the count of turns goes on
-abbrev pub begun : Replay → Colouring → Colour → Result Replay GameFault
+abbrev pub begun : GameSoFar → Colouring → Colour → Result GameSoFar GameFault
 begun r c k = cond (all_alive r.game.size c) (Ok (record { game = begun_with r.game.size c k; turns = r.turns })) (Err LifelessStone)
 
 -- the sets of AB, AW and AE, put over the present colouring, and the colour of PL
-abbrev pub set_up_by : Replay → Option Points → Option Points → Option Points → Option Colour → Result Replay GameFault
+abbrev pub set_up_by : GameSoFar → Option Points → Option Points → Option Points → Option Colour → Result GameSoFar GameFault
 set_up_by r (Some black) (Some white) (Some clear) (Some k) =
     cond (apart black white && apart black clear && apart white clear) (begun r (placed r.game.size r.game.present black white clear) k) (Err PointTwice)
 set_up_by r None white clear k = Err BadValue
@@ -95,33 +95,33 @@ set_up_by r (Some black) (Some white) None k = Err BadValue
 set_up_by r (Some black) (Some white) (Some clear) None = Err BadValue
 
 -- a node's setup: the sets of AB, AW and AE, and the colour of PL
-abbrev pub setup_node : Replay → Node → Result Replay GameFault
+abbrev pub setup_node : GameSoFar → Node → Result GameSoFar GameFault
 setup_node r n = set_up_by r (set_named r.game.size AB n) (set_named r.game.size AW n) (set_named r.game.size AE n) (colour_named (values_of PL n.properties))
 
 -- ---- nodes
 
 -- a setup node has no move, and a move node one at the most
-unfoldable pub step_node : Replay → Node → Result Replay GameFault
+unfoldable pub step_node : GameSoFar → Node → Result GameSoFar GameFault
 step_node r n =
     cond (is_setup n) (cond (nat_le 1 (moves_in n)) (Err MixedNode) (setup_node r n))
     (cond (nat_le 2 (moves_in n)) (Err MixedNode) (move_of r (values_of B n.properties) (values_of W n.properties)))
 
 -- the empty board of this size, and no turn played; without a size a fault
-abbrev pub begin_at : Option Size → Result Replay GameFault
+abbrev pub begin_at : Option Size → Result GameSoFar GameFault
 begin_at None = Err BadSize
 begin_at (Some size) = Ok (record { game = empty_game size; turns = 0 })
 
 -- before the first node: its game and its size
-unfoldable pub begin_node : Node → Result Replay GameFault
+unfoldable pub begin_node : Node → Result GameSoFar GameFault
 begin_node n = cond (is_go (values_of GM n.properties)) (begin_at (size_named (values_of SZ n.properties))) (Err NotGo)
 
 -- before the first node; where there is none, on a board of 19 by 19
-abbrev pub begin_line : List Node → Result Replay GameFault
+abbrev pub begin_line : List Node → Result GameSoFar GameFault
 begin_line [] = begin_at (sized 19 19)
 begin_line (n ∷ ns) = begin_node n
 
 -- after all nodes
-unfoldable pub run_nodes : Replay → List Node → Result Replay GameFault
+unfoldable pub run_nodes : GameSoFar → List Node → Result GameSoFar GameFault
 run_nodes r [] = Ok r
 run_nodes r (n ∷ ns) = and_then (step_node r n) (λ q. run_nodes q ns)
 

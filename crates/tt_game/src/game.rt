@@ -3,12 +3,12 @@
 ghost use Rattle.std.specs.Prelude.{◌≡◌, ◌≢◌, ℕ, ◌+◌, ◌*◌, ◌<◌, ◌≤◌, ◌↔◌, length, map, Some, None, All, IsTrue, Contains, MatchResult, OnOk, OnErr, IfOk, IfErr};
 ghost use Rattle.tt_sgf.specs.Sizes.{point_count};
 ghost use Rattle.tt_game.specs.GameHistory.{so_far};
-ghost use Rattle.tt_game.specs.BloomFilter.{hash_of, MayHoldAll};
+ghost use Rattle.tt_game.specs.BloomFilter.{filter_index, MayHoldAll};
 
 use crate::faults::{Refused, Why};
 use crate::frame::{Frame, Side};
 use crate::history::History;
-use crate::history::bloom_filter::{BloomFilter, hash_of};
+use crate::history::bloom_filter::{BloomFilter, filter_index};
 use crate::line::Line;
 use crate::turns::Turn;
 use std::alloc::Global;
@@ -45,7 +45,7 @@ fn count(board: &mut CountedBoard, counted: bool, present: &Board)
 
 /// Notes the present board, which has this hash. From so many boards on all are noted.
 fn note(filter: &mut BloomFilter, history: &History, hash: usize)
-    requires hash { hash ≡ hash_of history.now.size history.now.present }
+    requires hash { hash ≡ filter_index history.now.size history.now.present }
     requires before { MayHoldAll filter.old history.now.size history.now.earlier }
     ensures { MayHoldAll filter.new history.now.size (so_far history.now) }
 {
@@ -131,7 +131,7 @@ impl Game {
     /// Whether a board of the game's size, which has this hash, has a colouring of the history.
     fn has_been(&self, next: &Board, hash: usize) -> bool
         requires size { next.now.size ≡ self.now.size }
-        requires hash { hash ≡ hash_of next.now.size next.now.points }
+        requires hash { hash ≡ filter_index next.now.size next.now.points }
         ensures { result ≡ repeats (all_of self.now) next.now.points }
     {
         if !self.filter.has(hash) {
@@ -151,7 +151,7 @@ impl Game {
             Err(Occupied) => return Err(Why::Occupied),
             Ok(next) => next,
         };
-        if self.has_been(&next, hash_of(&next)) {
+        if self.has_been(&next, filter_index(&next)) {
             return Err(Why::Repeats);
         }
         Ok(next)
@@ -196,7 +196,7 @@ impl Game {
         self.board.play(self.to_move, p);
         self.counted = false;
         let next = self.board.board();
-        let hash = hash_of(&next);
+        let hash = filter_index(&next);
         if self.has_been(&next, hash) {
             return Err(Refused::Illegal(Why::Repeats));
         }

@@ -9,7 +9,7 @@ ghost use Rattle.tt_sgf.specs.Sizes.{point_count};
 use crate::faults::{Refused, Why};
 use crate::frame::{Frame, Side};
 use crate::history::History;
-use crate::history::bloom_filter::{hash_with_stone, mix_board};
+use crate::history::bloom_filter::{filter_index_with_stone, mix_board};
 use crate::history::board_stack::BoardStack;
 use crate::history::root::{Root, stones_of};
 use crate::history::snapshot::Snapshot;
@@ -264,7 +264,7 @@ impl Line {
         requires free { entry_at self.now.state.present p ≡ None }
         ensures { IsTrue result → HasBeen (history self.now.state) (slice_set self.now.state.present p (Some colour)) → ⊥ }
     {
-        if self.root.has_hash(hash_with_stone(sum, colour, p)) {
+        if self.root.has_hash(filter_index_with_stone(sum, colour, p)) {
             return false;
         }
         !self.history.has_stood(self.root.count(), colour, p)

@@ -4,13 +4,13 @@ ghost use Rattle.std.specs.Prelude.{◌≡◌, ◌≤◌, IfOk, false, length};
 ghost use Rattle.tt_board.specs.Stones.{LiesOn};
 ghost use Rattle.tt_game.specs.Nodes.{set_named, ReadsSet, TR};
 ghost use Rattle.tt_game.specs.Records.{Returns};
-ghost use Rattle.tt_game.specs.Problems.{asked_count, game_of, puts_stones, region_of, common_colour, problem_at, run_to_mark, problem_of};
+ghost use Rattle.tt_game.specs.Problems.{nodes_before_solution, game_of, puts_stones, region_of, common_colour, problem_at, run_to_mark, problem_of};
 
 use crate::faults::GameFault;
 use crate::game::Game;
 use crate::line::Line;
 use crate::nodes::{has_move, has_value, named_set};
-use crate::records::{Replay, begin_line, run};
+use crate::records::{GameSoFar, begin_line, run};
 use std::alloc::Global;
 use tt_board::{Board, Colour};
 use tt_sgf::{BadPoint, MainLine, Node, PointSet, Size};
@@ -76,7 +76,7 @@ fn pose(game: Game, node: &Node) -> Result<Line, GameFault>
 }
 
 /// The problem at the first of these nodes with TR.
-fn run_to_mark(replay: Replay, nodes: &[Node]) -> Result<Line, GameFault>
+fn run_to_mark(replay: GameSoFar, nodes: &[Node]) -> Result<Line, GameFault>
     ensures { Returns result (run_to_mark replay nodes.now) }
 {
     let mut last = replay;
@@ -117,8 +117,8 @@ fn puts_stones(node: &Node) -> bool
 
 /// How many of these nodes stand in front of the first move behind stones that are set up: all of them without such a move.
 #[tactic(auto, using(crate::proofs::ProblemLemmas::asked_nil, crate::proofs::ProblemLemmas::asked_stop, crate::proofs::ProblemLemmas::asked_step))]
-pub fn asked_count(nodes: &[Node]) -> usize
-    ensures value { result ≡ asked_count false nodes.now }
+pub fn nodes_before_solution(nodes: &[Node]) -> usize
+    ensures value { result ≡ nodes_before_solution false nodes.now }
     ensures most { result ≤ length nodes.now }
 {
     let mut count: usize = 0;
@@ -142,10 +142,13 @@ pub fn asked_count(nodes: &[Node]) -> usize
 ///
 /// Those of `play_record` up to there.
 #[tactic(auto, unfolding(crate::specs::Problems::game_of))]
-pub fn asked_game(alloc: Global, line: &MainLine) -> Result<Game, GameFault>
+pub fn game_before_solution(alloc: Global, line: &MainLine) -> Result<Game, GameFault>
     ensures { Returns result (game_of line.now.nodes) }
 {
     let nodes = line.nodes.as_slice();
-    let last = run(begin_line(alloc, nodes)?, &nodes[..asked_count(nodes)])?;
+    let last = run(
+        begin_line(alloc, nodes)?,
+        &nodes[..nodes_before_solution(nodes)],
+    )?;
     Ok(last.game)
 }

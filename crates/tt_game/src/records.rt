@@ -36,7 +36,7 @@ pub(crate) const MOST_TURNS: u16 = 2_000;
 
 /// The game that a main line has come to, and how many turns were played.
 #[derive(Drop)]
-pub(crate) struct Replay {
+pub(crate) struct GameSoFar {
     pub(crate) game: Game,
     pub(crate) turns: u16,
 }
@@ -62,7 +62,7 @@ fn as_turn(value: PointOrPass) -> Turn
     }
 }
 
-impl Replay {
+impl GameSoFar {
     /// A turn of the side to move.
     fn turn(&mut self, t: Turn) -> Result<(), GameFault>
         requires { IsOnBoard self.old.game.size t }
@@ -180,18 +180,18 @@ impl Replay {
     }
 
     /// Before the first turn on a board of this size.
-    fn begin(alloc: Global, size: Size) -> Result<Replay, GameFault>
+    fn begin(alloc: Global, size: Size) -> Result<GameSoFar, GameFault>
         ensures { Returns result (begin_at (Some size)) }
     {
         match Game::empty(alloc, size) {
-            Ok(game) => Ok(Replay { game, turns: 0 }),
+            Ok(game) => Ok(GameSoFar { game, turns: 0 }),
             Err(_) => Err(GameFault::NoMemory),
         }
     }
 
     /// Before the first node: its game and its size.
     #[tactic(auto, unfolding(crate::specs::Records::begin_node))]
-    fn before(alloc: Global, node: &Node) -> Result<Replay, GameFault>
+    fn before(alloc: Global, node: &Node) -> Result<GameSoFar, GameFault>
         ensures { Returns result (begin_node node.now) }
     {
         if !says_go(node.properties.as_slice()) {
@@ -200,25 +200,25 @@ impl Replay {
         let Some(size) = said_size(node.properties.as_slice()) else {
             return Err(GameFault::BadSize);
         };
-        Replay::begin(alloc, size)
+        GameSoFar::begin(alloc, size)
     }
 }
 
 /// Before the first of these nodes; without a node the board is 19 by 19.
-pub(crate) fn begin_line(alloc: Global, nodes: &[Node]) -> Result<Replay, GameFault>
+pub(crate) fn begin_line(alloc: Global, nodes: &[Node]) -> Result<GameSoFar, GameFault>
     ensures { Returns result (begin_line nodes.now) }
 {
     if let Some((first, _)) = nodes.split_first() {
-        return Replay::before(alloc, first);
+        return GameSoFar::before(alloc, first);
     }
     let Some(size) = Size::new(19, 19) else {
         return Err(GameFault::BadSize);
     };
-    Replay::begin(alloc, size)
+    GameSoFar::begin(alloc, size)
 }
 
 /// After all nodes.
-pub(crate) fn run(replay: Replay, nodes: &[Node]) -> Result<Replay, GameFault>
+pub(crate) fn run(replay: GameSoFar, nodes: &[Node]) -> Result<GameSoFar, GameFault>
     ensures { Returns result (run_nodes replay nodes.now) }
 {
     let mut last = replay;

@@ -14,10 +14,10 @@ use Rattle.tt_game.specs.Game.{State, after}
 use Rattle.tt_game.specs.declared.frame.Frame.{Frame}
 use Rattle.tt_game.specs.declared.frame.Side.{Side}
 use Rattle.tt_game.specs.declared.turns.Turn.{Turn}
-use Rattle.tt_proof.specs.declared.basis.Basis.{Basis}
-use Rattle.tt_proof.specs.declared.outline_replay.Found.{Found}
-use Rattle.tt_proof.specs.declared.outline_replay.Found.TheVariants.{Won, Lost, Unfit}
-use Rattle.tt_proof.specs.SharedParts.{Bases, RestsBeforePick, RestsBeforeReply, IsBoth, IsFoundBefore, IsFoundOfEnd, IsFoundOfReply, FindsOutline, FindsBranches, SharedPartsSay, answer_of}
+use Rattle.tt_proof.specs.declared.position_footprint.PositionFootprint.{PositionFootprint}
+use Rattle.tt_proof.specs.declared.outline_replay.ReplayResult.{ReplayResult}
+use Rattle.tt_proof.specs.declared.outline_replay.ReplayResult.TheVariants.{Won, Lost, Unfit}
+use Rattle.tt_proof.specs.SharedParts.{NamedFootprints, RestsBeforePick, RestsBeforeReply, IsBoth, IsFoundBefore, IsFoundOfEnd, IsFoundOfReply, FindsOutline, FindsBranches, SharedPartsSay, answer_of}
 use Rattle.tt_proof.specs.inside.OutlineReplaying.{FindsPick, FindsReply, FindsBranch}
 use Rattle.tt_proof.proofs.TextLemmas.{heads, tails, same_turn, turn_not_end}
 use Rattle.tt_proof.proofs.CertificateLemmas.{side_apart}
@@ -170,12 +170,12 @@ mutual
 
 -- ---- and none of its parts doesn't fit
 
-abbrev IsFit : Found → Type 0
+abbrev IsFit : ReplayResult → Type 0
 IsFit (Won x) = Unit {0}
 IsFit Lost = Unit {0}
 IsFit Unfit = ⊥
 
-both_fit : (a b r : Found) → IsFit a → IsFit b → IsBoth a b r → IsFit r
+both_fit : (a b r : ReplayResult) → IsFit a → IsFit b → IsBoth a b r → IsFit r
 both_fit Unfit b r h k e = absurd h
 both_fit Lost Unfit r h k e = absurd k
 both_fit Lost Lost r h k e = subst IsFit (sym e) tt
@@ -184,56 +184,56 @@ both_fit (Won x) Unfit r h k e = absurd k
 both_fit (Won x) Lost r h k e = subst IsFit (sym e) tt
 both_fit (Won x) (Won y) r h k e = subst IsFit (sym e.1.0) tt
 
-before_fit : (Rests : Basis → Basis → Type 0) (q r : Found) → IsFit q → IsFoundBefore Rests q r → IsFit r
+before_fit : (Rests : PositionFootprint → PositionFootprint → Type 0) (q r : ReplayResult) → IsFit q → IsFoundBefore Rests q r → IsFit r
 before_fit Rests (Won x) r h e = subst IsFit (sym e.1.0) tt
 before_fit Rests Lost r h e = subst IsFit (sym e) tt
 before_fit Rests Unfit r h e = absurd h
 
 module _ (side : Side) (f : Frame) where
-  end_fit : (s : State) (r : Found) → IsFoundOfEnd side f s r → IsFit r
+  end_fit : (s : State) (r : ReplayResult) → IsFoundOfEnd side f s r → IsFit r
   end_fit s (Won x) e = tt
   end_fit s Lost e = tt
   end_fit s Unfit e = e
 
-  reply_fit : (s : State) (bs : Branches) (q r : Found) → IsFit q → IsFoundOfReply f s bs q r → IsFit r
+  reply_fit : (s : State) (bs : Branches) (q r : ReplayResult) → IsFit q → IsFoundOfReply f s bs q r → IsFit r
   reply_fit s bs (Won x) (Won y) h e = tt
   reply_fit s bs (Won x) Lost h e = tt
   reply_fit s bs (Won x) Unfit h e = e
   reply_fit s bs Lost r h e = subst IsFit (sym e) tt
   reply_fit s bs Unfit r h e = absurd h
 
-  pick_fit : (ns : Bases) (t : Turn) (o : Outline) (s : State) (r : Found) (ms : Bases)
-      → ((q : Found) → FindsOutline side f ns o (after f s t) q ms → IsFit q) → FindsPick side f ns t o s r ms → IsFit r
+  pick_fit : (ns : NamedFootprints) (t : Turn) (o : Outline) (s : State) (r : ReplayResult) (ms : NamedFootprints)
+      → ((q : ReplayResult) → FindsOutline side f ns o (after f s t) q ms → IsFit q) → FindsPick side f ns t o s r ms → IsFit r
   pick_fit ns t o s r ms h (inl w) = before_fit (RestsBeforePick f s t) w.2.0 r (h w.2.0 w.2.1.0) w.2.1.1
   pick_fit ns t o s r ms h (inr w) = subst IsFit (sym w.1) tt
 
-  branch_fit : (ns : Bases) (t : Turn) (o : Outline) (s : State) (r : Found) (ms : Bases)
-      → ((q : Found) → FindsOutline side f ns o (after f s t) q ms → IsFit q) → FindsBranch side f ns t o s r ms → IsFit r
+  branch_fit : (ns : NamedFootprints) (t : Turn) (o : Outline) (s : State) (r : ReplayResult) (ms : NamedFootprints)
+      → ((q : ReplayResult) → FindsOutline side f ns o (after f s t) q ms → IsFit q) → FindsBranch side f ns t o s r ms → IsFit r
   branch_fit ns t o s r ms h (inl w) = before_fit (RestsBeforeReply f s t) w.1.0 r (h w.1.0 w.1.1.0) w.1.1.1
   branch_fit ns t o s r ms h (inr w) = subst IsFit (sym w.1.1.0) tt
 
-  all_fit : (ns : Bases) (bs : Branches) (s : State) (r : Found) (ms : Bases) → ((q : Found) → FindsBranches side f ns bs s q ms → IsFit q)
+  all_fit : (ns : NamedFootprints) (bs : Branches) (s : State) (r : ReplayResult) (ms : NamedFootprints) → ((q : ReplayResult) → FindsBranches side f ns bs s q ms → IsFit q)
       → FindsReply side f ns bs s r ms → IsFit r
   all_fit ns bs s r ms h (inl w) =
       let e = w.2.1.0 in reply_fit s bs w.2.0 r (both_fit (Won e.0) e.1.1.0 w.2.0 tt (h e.1.1.0 e.1.1.1.0) e.1.1.1.1) w.2.1.1
   all_fit ns bs s r ms h (inr w) = subst IsFit (sym w.1) tt
 
   mutual
-    plain_fit : (u : Strategy) (ns : Bases) (s : State) (r : Found) (ms : Bases) → FindsOutline side f ns (plain u) s r ms → IsFit r
+    plain_fit : (u : Strategy) (ns : NamedFootprints) (s : State) (r : ReplayResult) (ms : NamedFootprints) → FindsOutline side f ns (plain u) s r ms → IsFit r
     plain_fit done ns s r ms e = end_fit s r e.0
     plain_fit (pick t u) ns s r ms e = pick_fit ns t (plain u) s r e.0 (λ q g. plain_fit u ns (after f s t) q e.0 g) e.1.1
     plain_fit (reply es) ns s r ms e = all_fit ns (plain_all es) s r e.0 (λ q g. plain_all_fit es ns s q e.0 g) e.1.1
 
-    plain_all_fit : (es : Entries) (ns : Bases) (s : State) (r : Found) (ms : Bases) → FindsBranches side f ns (plain_all es) s r ms → IsFit r
+    plain_all_fit : (es : Entries) (ns : NamedFootprints) (s : State) (r : ReplayResult) (ms : NamedFootprints) → FindsBranches side f ns (plain_all es) s r ms → IsFit r
     plain_all_fit none ns s r ms e = subst IsFit (sym e.0.1.0) tt
     plain_all_fit (entry t u es) ns s r ms e =
         both_fit e.0 e.1.0 r (branch_fit ns t (plain u) s e.0 e.1.1.0 (λ q g. plain_fit u ns (after f s t) q e.1.1.0 g) e.1.1.1.0)
         (plain_all_fit es e.1.1.0 s e.1.0 ms e.1.1.1.1) e.1.1.1.2
 
-  fit_says : (o : Outline) (s : State) → ((r : Found) (ms : Bases) → FindsOutline side f [] o s r ms → IsFit r) → SharedPartsSay side f o s None → ⊥
+  fit_says : (o : Outline) (s : State) → ((r : ReplayResult) (ms : NamedFootprints) → FindsOutline side f [] o s r ms → IsFit r) → SharedPartsSay side f o s None → ⊥
   fit_says o s h e = pass e.0 (h e.0 e.1.0 e.1.1.0) e.1.1.1
     where
-      pass : (r : Found) → IsFit r → None ≡ answer_of r → ⊥
+      pass : (r : ReplayResult) → IsFit r → None ≡ answer_of r → ⊥
       pass (Won x) k d = cc
       pass Lost k d = cc
       pass Unfit k d = k

@@ -8,9 +8,9 @@ use Rattle.tt_game.specs.declared.frame.Side.{Side}
 use Rattle.tt_game.specs.declared.turns.Turn.{Turn}
 use Rattle.tt_game.specs.declared.turns.Turn.TheVariants.{Play, Pass}
 use Rattle.tt_game.specs.laws.Members.{IsIn, in_of_contains, contains_of_in}
-use Rattle.tt_proof.specs.declared.basis.Basis.{Basis}
-use Rattle.tt_proof.specs.declared.outline_replay.Found.{Found}
-use Rattle.tt_proof.specs.declared.outline_replay.Found.TheVariants.{Won, Lost, Unfit}
+use Rattle.tt_proof.specs.declared.position_footprint.PositionFootprint.{PositionFootprint}
+use Rattle.tt_proof.specs.declared.outline_replay.ReplayResult.{ReplayResult}
+use Rattle.tt_proof.specs.declared.outline_replay.ReplayResult.TheVariants.{Won, Lost, Unfit}
 use Rattle.tt_proof.specs.Strategy.{reply, none}
 use Rattle.tt_proof.specs.Outlines.{Outline, Branches, no_branch, branch}
 use Rattle.tt_proof.specs.Footprints.{IsRepeated}
@@ -18,7 +18,7 @@ use Rattle.tt_proof.specs.declared.footprints.Footprint.{Footprint}
 use Rattle.tt_proof.specs.KeptFootprints.{IsFootprint, frame_board}
 use Rattle.tt_proof.specs.inside.Collecting.{IsPassedUp, IsPlayed}
 use Rattle.tt_proof.specs.SharedParts.{HasPosition, Meets, RestsOnPosition, RestsOnRepeats, MakesBoard, RestsOnBoth, IsBoth}
-use Rattle.tt_proof.specs.SharedParts.{Bases}
+use Rattle.tt_proof.specs.SharedParts.{NamedFootprints}
 use Rattle.tt_proof.specs.SharedParts.{FindsBranches}
 use Rattle.tt_proof.specs.inside.OutlineReplaying.{FindsTogether, FindsBranch}
 use Rattle.tt_proof.proofs.FitsLemmas.{Carried, splits_none}
@@ -79,7 +79,7 @@ module _ (f : Frame) (s : State) (t : Turn) (board : Position) (is : board ≡ f
 
 -- ---- a basis and a state
 
-pub has_position : (f : Frame) (s : State) (x : Basis) → x.board.size ≡ f.size → x.board.points ≡ s.present → x.to_move ≡ s.to_move → x.passes ≡ s.passes
+pub has_position : (f : Frame) (s : State) (x : PositionFootprint) → x.board.size ≡ f.size → x.board.points ≡ s.present → x.to_move ≡ s.to_move → x.passes ≡ s.passes
     → HasPosition f s x
 has_position f s x size points to_move passes =
     record { present = board_is x.board f.size s.present size points; to_move = to_move; passes = passes }
@@ -90,7 +90,7 @@ all_none [] h = refl
 all_none (b ∷ bs) h = absurd (h b (contains_of_in (b ∷ bs) b (inl refl)))
 
 -- the basis of a reply whose plays were tried
-pub rests_on_repeats : (f : Frame) (s : State) (foot : Footprint) (x : Basis) → IsFootprint f s (reply none) foot → HasPosition f s x → x.needs ≡ foot.needs
+pub rests_on_repeats : (f : Frame) (s : State) (foot : Footprint) (x : PositionFootprint) → IsFootprint f s (reply none) foot → HasPosition f s x → x.needs ≡ foot.needs
     → x.avoids ≡ foot.avoids → RestsOnRepeats f s x
 rests_on_repeats f s foot x h at n a = record {
   position = at;
@@ -109,7 +109,7 @@ rests_on_repeats f s foot x h at n a = record {
     first c (inr w) = absurd w
 
 -- a basis that needs and avoids nothing is met where it stands
-pub met_empty : (f : Frame) (s : State) (x : Basis) → RestsOnPosition f s x → Meets f x s
+pub met_empty : (f : Frame) (s : State) (x : PositionFootprint) → RestsOnPosition f s x → Meets f x s
 met_empty f s x h = record {
   position = h.position;
   needs = λ b m. absurd (none_held x.needs b h.needs m);
@@ -117,7 +117,7 @@ met_empty f s x h = record {
 }
 
 -- two states that meet a basis have one position
-module _ (f : Frame) (x : Basis) (s s' : State) (m : Meets f x s) (m' : Meets f x s') where
+module _ (f : Frame) (x : PositionFootprint) (s s' : State) (m : Meets f x s) (m' : Meets f x s') where
   pub met_carried : Carried (history s) (history s') [] s s'
   met_carried =
       carried s s' (ap (λ (b : Position). b.points) (sym m'.position.present ∙ m.position.present)) (sym m'.position.to_move ∙ m.position.to_move)
@@ -125,7 +125,7 @@ module _ (f : Frame) (x : Basis) (s s' : State) (m : Meets f x s) (m' : Meets f 
 
 -- ---- two trees together
 
-pub both_found : (a b : Found) → (r : Found) × IsBoth a b r
+pub both_found : (a b : ReplayResult) → (r : ReplayResult) × IsBoth a b r
 both_found Unfit b = (Unfit, refl)
 both_found Lost Unfit = (Unfit, refl)
 both_found Lost Lost = (Lost, refl)
@@ -134,7 +134,7 @@ both_found (Won x) Unfit = (Unfit, refl)
 both_found (Won x) Lost = (Lost, refl)
 both_found (Won x) (Won y) = (Won all, (all, (refl, rests)))
   where
-    all : Basis
+    all : PositionFootprint
     all = record { board = x.board; to_move = x.to_move; passes = x.passes; needs = x.needs ++ y.needs; avoids = x.avoids ++ y.avoids }
 
     either : (bs ds : List Position) (b : Position) → Contains bs b ⊎ Contains ds b → Contains (bs ++ ds) b
@@ -151,7 +151,7 @@ both_found (Won x) (Won y) = (Won all, (all, (refl, rests)))
     }
 
 -- with one that rests on the position alone it is as without
-pub both_alone : (r : Found) (e : Basis) → e.needs ≡ [] → e.avoids ≡ [] → IsBoth r (Won e) r
+pub both_alone : (r : ReplayResult) (e : PositionFootprint) → e.needs ≡ [] → e.avoids ≡ [] → IsBoth r (Won e) r
 both_alone Unfit e n a = refl
 both_alone Lost e n a = refl
 both_alone (Won x) e n a = (
@@ -199,7 +199,7 @@ under {A = A} {B = B} {C = C} {P = P} h k = (λ q. to (k.0 q), λ w. k.1 (back w
     back (inl a) = inl a
     back (inr p) = inr (h.0 p)
 
-rests_regrouped : (x y z v w j : Basis) → RestsOnBoth x y z → RestsOnBoth z v w → RestsOnBoth y v j → RestsOnBoth x j w
+rests_regrouped : (x y z v w j : PositionFootprint) → RestsOnBoth x y z → RestsOnBoth z v w → RestsOnBoth y v j → RestsOnBoth x j w
 rests_regrouped x y z v w j h k g = record {
   board = k.board ∙ h.board;
   to_move = k.to_move ∙ h.to_move;
@@ -209,13 +209,13 @@ rests_regrouped x y z v w j h k g = record {
 }
 
 -- the order of three makes no difference
-pub both_regrouped : (a b c p r : Found) → IsBoth a b c → IsBoth c p r → (z : Found) × (IsBoth b p z × IsBoth a z r)
+pub both_regrouped : (a b c p r : ReplayResult) → IsBoth a b c → IsBoth c p r → (z : ReplayResult) × (IsBoth b p z × IsBoth a z r)
 both_regrouped a b c p r h k = pass a b c p h k
   where
-    with_some : (a' b' p' : Found) → ((z : Found) → IsBoth b' p' z → IsBoth a' z r) → (z : Found) × (IsBoth b' p' z × IsBoth a' z r)
+    with_some : (a' b' p' : ReplayResult) → ((z : ReplayResult) → IsBoth b' p' z → IsBoth a' z r) → (z : ReplayResult) × (IsBoth b' p' z × IsBoth a' z r)
     with_some a' b' p' g = let z = both_found b' p' in (z.0, (z.1, g z.0 z.1))
 
-    pass : (a' b' c' p' : Found) → IsBoth a' b' c' → IsBoth c' p' r → (z : Found) × (IsBoth b' p' z × IsBoth a' z r)
+    pass : (a' b' c' p' : ReplayResult) → IsBoth a' b' c' → IsBoth c' p' r → (z : ReplayResult) × (IsBoth b' p' z × IsBoth a' z r)
     pass Unfit b' c' p' e i = with_some Unfit b' p' (λ z m. subst (λ x. IsBoth x p' r) e i)
     pass Lost Unfit c' p' e i = (Unfit, (refl, subst (λ x. IsBoth x p' r) e i))
     pass Lost Lost c' Unfit e i = (Unfit, (refl, subst (λ x. IsBoth x Unfit r) e i))
@@ -237,23 +237,23 @@ both_regrouped a b c p r h k = pass a b c p h k
 
 -- ---- the walk over all branches
 
-module _ (side : Side) (f : Frame) (s : State) (ns : Bases) (bs : Branches) where
+module _ (side : Side) (f : Frame) (s : State) (ns : NamedFootprints) (bs : Branches) where
   -- so far all branches but those that are left were replayed
-  abbrev pub Replayed : Branches → Bases → Found → Type 0
-  Replayed left ls found = (p r : Found) (ms : Bases) → FindsBranches side f ls left s p ms → IsBoth found p r → FindsTogether side f ns bs s r ms
+  abbrev pub Replayed : Branches → NamedFootprints → ReplayResult → Type 0
+  Replayed left ls found = (p r : ReplayResult) (ms : NamedFootprints) → FindsBranches side f ls left s p ms → IsBoth found p r → FindsTogether side f ns bs s r ms
 
-  pub replayed_start : (x : Basis) → RestsOnRepeats f s x → Replayed bs ns (Won x)
+  pub replayed_start : (x : PositionFootprint) → RestsOnRepeats f s x → Replayed bs ns (Won x)
   replayed_start x h p r ms k e = (x, (h, (p, (k, e))))
 
-  pub replayed_more : (left : Branches) (t : Turn) (o : Outline) (ls ls' : Bases) (a b c : Found) → Replayed (branch t o left) ls a
+  pub replayed_more : (left : Branches) (t : Turn) (o : Outline) (ls ls' : NamedFootprints) (a b c : ReplayResult) → Replayed (branch t o left) ls a
       → FindsBranch side f ls t o s b ls' → IsBoth a b c → Replayed left ls' c
   replayed_more left t o ls ls' a b c h g e p r ms k i =
       let z = both_regrouped a b c p r e i in h z.0 r ms (b, (p, (ls', (g, k, z.1.0)))) z.1.1
 
-  pub replayed_end : (ls : Bases) (found : Found) → Replayed no_branch ls found → FindsTogether side f ns bs s found ls
+  pub replayed_end : (ls : NamedFootprints) (found : ReplayResult) → Replayed no_branch ls found → FindsTogether side f ns bs s found ls
   replayed_end ls found h = h (Won alone) found ls ((alone, (refl, rests)), refl) (both_alone found alone refl refl)
     where
-      alone : Basis
+      alone : PositionFootprint
       alone = record { board = frame_board f s.present; to_move = s.to_move; passes = s.passes; needs = []; avoids = [] }
 
       rests : RestsOnPosition f s alone
@@ -265,15 +265,15 @@ pub drop_none : {X : Type 0} (xs : List X) → drop 0 xs ≡ xs
 drop_none [] = refl
 drop_none (x ∷ xs) = refl
 
-pub any_other : (ns : Bases) (k : ℕ) (d h : Option Basis) → k < length ns → get_or ns k d ≡ get_or ns k h
+pub any_other : (ns : NamedFootprints) (k : ℕ) (d h : Option PositionFootprint) → k < length ns → get_or ns k d ≡ get_or ns k h
 any_other [] k d h lt = absurd (omega (arith, lt))
 any_other (n ∷ ns) zero d h lt = refl
 any_other (n ∷ ns) (suc k) d h lt = any_other ns k d h (omega (arith, lt))
 
-pub some_none : (x : Basis) → None ≡ Some x → ⊥
+pub some_none : (x : PositionFootprint) → None ≡ Some x → ⊥
 some_none x e = cc
 
-pub none_past : (ns : Bases) (k : ℕ) → length ns ≤ k → get_or ns k None ≡ None
+pub none_past : (ns : NamedFootprints) (k : ℕ) → length ns ≤ k → get_or ns k None ≡ None
 none_past [] k le = refl
 none_past (n ∷ ns) zero le = absurd (omega (arith, le))
 none_past (n ∷ ns) (suc k) le = none_past ns k (omega (arith, le))

@@ -8,9 +8,9 @@ use Rattle.tt_game.specs.declared.frame.Frame.{Frame}
 use Rattle.tt_game.specs.declared.frame.Side.{Side}
 use Rattle.tt_game.specs.declared.turns.Turn.{Turn}
 use Rattle.tt_game.specs.declared.turns.Turn.TheVariants.{Play, Pass}
-use Rattle.tt_proof.specs.declared.basis.Basis.{Basis}
-use Rattle.tt_proof.specs.declared.outline_replay.Found.{Found}
-use Rattle.tt_proof.specs.declared.outline_replay.Found.TheVariants.{Won, Lost, Unfit}
+use Rattle.tt_proof.specs.declared.position_footprint.PositionFootprint.{PositionFootprint}
+use Rattle.tt_proof.specs.declared.outline_replay.ReplayResult.{ReplayResult}
+use Rattle.tt_proof.specs.declared.outline_replay.ReplayResult.TheVariants.{Won, Lost, Unfit}
 use Rattle.tt_proof.specs.Strategy.{Strategy, Entries, done, pick, reply, none, entry, number_on}
 use Rattle.tt_proof.specs.Outlines.{Outline, Branches, ended, picked, replied, part, no_branch, branch, unfolded, entries_with, with_name, names_behind, names_behind_all, IsOrderly, AreOrderly}
 use Rattle.tt_proof.specs.Footprints.{IsRepeated}
@@ -18,7 +18,7 @@ use Rattle.tt_proof.specs.KeptFootprints.{frame_board}
 use Rattle.tt_proof.specs.Wins.{Wins, WinsBehind}
 use Rattle.tt_proof.specs.inside.Replaying.{HasEntry}
 use Rattle.tt_proof.specs.SharedParts.{Meets, RestsOnPosition, RestsOnRepeats, MakesBoard, RestsBeforePick, RestsBeforeReply, RestsOnBoth, IsBoth, IsFoundBefore, HasBranch}
-use Rattle.tt_proof.specs.SharedParts.{Bases, basis_of, answer_of, with_basis, unreached, unreached_all, IsFoundOfEnd, IsFoundOfName, IsFoundOfReply}
+use Rattle.tt_proof.specs.SharedParts.{NamedFootprints, kept_footprint, answer_of, with_named_footprint, unreached, unreached_all, IsFoundOfEnd, IsFoundOfName, IsFoundOfReply}
 use Rattle.tt_proof.specs.SharedParts.{FindsOutline, FindsBranches}
 use Rattle.tt_proof.specs.inside.OutlineReplaying.{FindsPick, FindsReply, FindsBranch}
 use Rattle.tt_proof.proofs.FitsLemmas.{Carried, same_made, same_winner, legal_now, legal_before}
@@ -33,40 +33,40 @@ HasTree (entry t' u' es) t u = ((t' ≡ t) × (u' ≡ u)) ⊎ HasTree es t u
 
 module _ (side : Side) (f : Frame) where
   -- the tree wins wherever the basis is met
-  abbrev pub WinsOn : Strategy → Basis → Type 0
+  abbrev pub WinsOn : Strategy → PositionFootprint → Type 0
   WinsOn u x = (s : State) → Meets f x s → Wins side f u s
 
   -- the tree wins on a basis that is met here, or doesn't win; of one with a part that doesn't fit nothing is said
-  abbrev pub IsSound : State → Strategy → Found → Type 0
+  abbrev pub IsSound : State → Strategy → ReplayResult → Type 0
   IsSound s u (Won x) = Meets f x s × WinsOn u x
   IsSound s u Lost = Wins side f u s → ⊥
   IsSound s u Unfit = Unit {0}
 
   -- the same of the tree behind a turn, in front of it
-  abbrev pub IsSoundBehind : State → Turn → Strategy → Found → Type 0
+  abbrev pub IsSoundBehind : State → Turn → Strategy → ReplayResult → Type 0
   IsSoundBehind s t u (Won x) = Meets f x s × ((s' : State) → Meets f x s' → IsLegal f s t → Wins side f u (after f s' t))
   IsSoundBehind s t u Lost = IsLegal f s t × (Wins side f u (after f s t) → ⊥)
   IsSoundBehind s t u Unfit = Unit {0}
 
   -- the same of all entries together
-  abbrev pub AreSound : State → Entries → Found → Type 0
+  abbrev pub AreSound : State → Entries → ReplayResult → Type 0
   AreSound s es (Won x) =
       Meets f x s × ((s' : State) → Meets f x s' → (t : Turn) (u : Strategy) → HasTree es t u → IsLegal f s t → Wins side f u (after f s' t))
   AreSound s es Lost = (t : Turn) × ((u : Strategy) × (HasTree es t u × IsLegal f s t × (Wins side f u (after f s t) → ⊥)))
   AreSound s es Unfit = Unit {0}
 
   -- and of what plays would repeat
-  abbrev pub KnowRepeats : State → Found → Type 0
+  abbrev pub KnowRepeats : State → ReplayResult → Type 0
   KnowRepeats s (Won x) = (c : Colouring) → IsRepeated f (history s) [] s c → Contains x.needs (frame_board f c)
   KnowRepeats s Lost = Unit {0}
   KnowRepeats s Unfit = Unit {0}
 
   -- a name's tree wins on what is kept of it, where something is
-  abbrev pub WinsAsKept : Strategy → Option Basis → Type 0
+  abbrev pub WinsAsKept : Strategy → Option PositionFootprint → Type 0
   WinsAsKept u None = Unit {0}
   WinsAsKept u (Some x) = WinsOn u x
 
-  abbrev pub WinAsKept : List Strategy → Bases → Type 0
+  abbrev pub WinAsKept : List Strategy → NamedFootprints → Type 0
   WinAsKept [] [] = Unit {0}
   WinAsKept [] (n ∷ ns) = ⊥
   WinAsKept (u ∷ us) [] = ⊥
@@ -74,7 +74,7 @@ module _ (side : Side) (f : Frame) where
 
 -- ---- behind a legal turn
 
-module _ (f : Frame) (s : State) (x : Basis) where
+module _ (f : Frame) (s : State) (x : PositionFootprint) where
   -- what is needed in front of the turn is in the history there
   needs_before : (t : Turn) → Meets f x (after f s t) → (b : Position) → Contains x.needs b × (MakesBoard f s t b → ⊥) → HasBoard f s b
   needs_before Pass m b n = m.needs b n.0
@@ -133,7 +133,7 @@ not_made f s (Play p) b l e h = l.4 (subst (λ d. Contains (history s) d) (sym e
 
 -- ---- a pick
 
-sound_pick : (side : Side) (f : Frame) (s : State) (t : Turn) (u : Strategy) (x y : Basis) → s.to_move ≡ side → IsLegal f s t
+sound_pick : (side : Side) (f : Frame) (s : State) (t : Turn) (u : Strategy) (x y : PositionFootprint) → s.to_move ≡ side → IsLegal f s t
     → IsSound side f (after f s t) u (Won x) → RestsBeforePick f s t x y → IsSound side f s (pick t u) (Won y)
 sound_pick side f s t u x y mine l h more = (here, there)
   where
@@ -162,7 +162,7 @@ sound_pick side f s t u x y mine l h more = (here, there)
 
 -- ---- a branch
 
-sound_branch : (side : Side) (f : Frame) (s : State) (t : Turn) (u : Strategy) (x y : Basis) → IsLegal f s t
+sound_branch : (side : Side) (f : Frame) (s : State) (t : Turn) (u : Strategy) (x y : PositionFootprint) → IsLegal f s t
     → IsSound side f (after f s t) u (Won x) → RestsBeforeReply f s t x y → IsSoundBehind side f s t u (Won y)
 sound_branch side f s t u x y l h more = (here, there)
   where
@@ -185,7 +185,7 @@ sound_branch side f s t u x y l h more = (here, there)
 -- ---- branches together
 
 -- what is met by both is met by each
-module _ (f : Frame) (s s' : State) (x y z : Basis) (j : RestsOnBoth x y z) (m : Meets f x s) (n : Meets f y s) where
+module _ (f : Frame) (s s' : State) (x y z : PositionFootprint) (j : RestsOnBoth x y z) (m : Meets f x s) (n : Meets f y s) where
   joined_here : Meets f z s
   joined_here = record {
     position = record {
@@ -230,7 +230,7 @@ module _ (f : Frame) (s s' : State) (x y z : Basis) (j : RestsOnBoth x y z) (m :
 
 module _ (side : Side) (f : Frame) (s : State) (t : Turn) (u : Strategy) (es : Entries) where
   -- one more branch in front of others
-  sound_more : (q p r : Found) → IsSoundBehind side f s t u q → AreSound side f s es p → IsBoth q p r → AreSound side f s (entry t u es) r
+  sound_more : (q p r : ReplayResult) → IsSoundBehind side f s t u q → AreSound side f s es p → IsBoth q p r → AreSound side f s (entry t u es) r
   sound_more Unfit p r g h e = subst (AreSound side f s (entry t u es)) (sym e) tt
   sound_more Lost Unfit r g h e = subst (AreSound side f s (entry t u es)) (sym e) tt
   sound_more Lost Lost r g h e = subst (AreSound side f s (entry t u es)) (sym e) (t, (u, (inl (refl, refl), g.0, g.1)))
@@ -250,14 +250,14 @@ module _ (side : Side) (f : Frame) (s : State) (t : Turn) (u : Strategy) (es : E
           (g.1 s' (joined_first f s s' x y e.0 e.1.1 g.0 h.0 m) (subst (λ z. IsLegal f s z) (sym k.0) l)))
 
 -- what a reply rests on by itself
-met_repeats : (f : Frame) (s : State) (x : Basis) → RestsOnRepeats f s x → Meets f x s
+met_repeats : (f : Frame) (s : State) (x : PositionFootprint) → RestsOnRepeats f s x → Meets f x s
 met_repeats f s x h = record {
   position = h.position;
   needs = λ b m. let k = (h.needs b).0 m in (k.0, k.1.1);
   avoids = λ b m. absurd (none_held x.avoids b h.avoids m);
 }
 
-sound_together : (side : Side) (f : Frame) (s : State) (es : Entries) (x : Basis) (q r : Found) → RestsOnRepeats f s x → AreSound side f s es q → IsBoth (Won x) q r
+sound_together : (side : Side) (f : Frame) (s : State) (es : Entries) (x : PositionFootprint) (q r : ReplayResult) → RestsOnRepeats f s x → AreSound side f s es q → IsBoth (Won x) q r
     → AreSound side f s es r × KnowRepeats side f s r
 sound_together side f s es x Unfit r a h e = rw e (tt, tt)
 sound_together side f s es x Lost r a h e = rw e (h, tt)
@@ -313,7 +313,7 @@ module _ (side : Side) (f : Frame) where
       let same = ap (number_on f.size) w.0 in absurd (omega (arith, past, same))
   only_one us least (branch t' c bs) t u s o (inr h) (inr w) = only_one (names_behind us c) (number_on f.size t' + 1) bs t u s o.3 h w
 
-  sound_reply : (s : State) (us : List Strategy) (bs : Branches) (q r : Found) → winner_of f s ≡ None → s.to_move ≡ opponent side → AreOrderly f.size 0 bs
+  sound_reply : (s : State) (us : List Strategy) (bs : Branches) (q r : ReplayResult) → winner_of f s ≡ None → s.to_move ≡ opponent side → AreOrderly f.size 0 bs
       → AreSound side f s (entries_with us bs) q × KnowRepeats side f s q → IsFoundOfReply f s bs q r → IsSound side f s (reply (entries_with us bs)) r
   sound_reply s us bs Unfit r nobody turn o h e = subst (IsSound side f s (reply (entries_with us bs))) (sym e) tt
   sound_reply s us bs Lost r nobody turn o h e =
@@ -336,25 +336,25 @@ module _ (side : Side) (f : Frame) where
 
 module _ (side : Side) (f : Frame) where
   -- one more name
-  named_more : (us : List Strategy) (ns : Bases) (u : Strategy) (n : Option Basis) → WinAsKept side f us ns → WinsAsKept side f u n
+  named_more : (us : List Strategy) (ns : NamedFootprints) (u : Strategy) (n : Option PositionFootprint) → WinAsKept side f us ns → WinsAsKept side f u n
       → WinAsKept side f (us ++ u ∷ []) (ns ++ n ∷ [])
   named_more [] [] u n h w = (w, tt)
   named_more [] (m ∷ ns) u n h w = absurd h
   named_more (v ∷ us) [] u n h w = absurd h
   named_more (v ∷ us) (m ∷ ns) u n h w = (h.0, named_more us ns u n h.1 w)
 
-  named_with : (b : Bool) (us : List Strategy) (ns : Bases) (u : Strategy) (n : Option Basis) → WinAsKept side f us ns → WinsAsKept side f u n
-      → WinAsKept side f (with_name b u us) (with_basis b n ns)
+  named_with : (b : Bool) (us : List Strategy) (ns : NamedFootprints) (u : Strategy) (n : Option PositionFootprint) → WinAsKept side f us ns → WinsAsKept side f u n
+      → WinAsKept side f (with_name b u us) (with_named_footprint b n ns)
   named_with true us ns u n h w = named_more us ns u n h w
   named_with false us ns u n h w = h
 
-  kept_sound : (s : State) (u : Strategy) (r : Found) → IsSound side f s u r → WinsAsKept side f u (basis_of r)
+  kept_sound : (s : State) (u : Strategy) (r : ReplayResult) → IsSound side f s u r → WinsAsKept side f u (kept_footprint r)
   kept_sound s u (Won x) h = h.1
   kept_sound s u Lost h = tt
   kept_sound s u Unfit h = tt
 
   -- what is kept of a name
-  named_at : (us : List Strategy) (ns : Bases) (k : ℕ) (x : Basis) → WinAsKept side f us ns → get_or ns k None ≡ Some x → WinsOn side f (get_or us k done) x
+  named_at : (us : List Strategy) (ns : NamedFootprints) (k : ℕ) (x : PositionFootprint) → WinAsKept side f us ns → get_or ns k None ≡ Some x → WinsOn side f (get_or us k done) x
   named_at [] [] k x h e = absurd (some_none x e)
   named_at [] (m ∷ ns) k x h e = absurd h
   named_at (u ∷ us) [] k x h e = absurd h
@@ -362,7 +362,7 @@ module _ (side : Side) (f : Frame) where
   named_at (u ∷ us) (m ∷ ns) (suc k) x h e = named_at us ns k x h.1 e
 
   mutual
-    unreached_kept : (us : List Strategy) (ns : Bases) (o : Outline) → WinAsKept side f us ns → WinAsKept side f (names_behind us o) (unreached ns o)
+    unreached_kept : (us : List Strategy) (ns : NamedFootprints) (o : Outline) → WinAsKept side f us ns → WinAsKept side f (names_behind us o) (unreached ns o)
     unreached_kept us ns ended h = h
     unreached_kept us ns (picked n t o) h =
         named_with n (names_behind us o) (unreached ns o) (pick t (unfolded us o)) None (unreached_kept us ns o h) tt
@@ -370,44 +370,44 @@ module _ (side : Side) (f : Frame) where
         named_with n (names_behind_all us bs) (unreached_all ns bs) (reply (entries_with us bs)) None (unreached_all_kept us ns bs h) tt
     unreached_kept us ns (part k) h = h
 
-    unreached_all_kept : (us : List Strategy) (ns : Bases) (bs : Branches) → WinAsKept side f us ns → WinAsKept side f (names_behind_all us bs) (unreached_all ns bs)
+    unreached_all_kept : (us : List Strategy) (ns : NamedFootprints) (bs : Branches) → WinAsKept side f us ns → WinAsKept side f (names_behind_all us bs) (unreached_all ns bs)
     unreached_all_kept us ns no_branch h = h
     unreached_all_kept us ns (branch t o bs) h = unreached_all_kept (names_behind us o) (unreached ns o) bs (unreached_kept us ns o h)
 
   -- ---- the whole
 
-  before_pick : (s : State) (t : Turn) (u : Strategy) (q r : Found) → s.to_move ≡ side → IsLegal f s t → IsSound side f (after f s t) u q
+  before_pick : (s : State) (t : Turn) (u : Strategy) (q r : ReplayResult) → s.to_move ≡ side → IsLegal f s t → IsSound side f (after f s t) u q
       → IsFoundBefore (RestsBeforePick f s t) q r → IsSound side f s (pick t u) r
   before_pick s t u (Won x) r mine l h e = subst (IsSound side f s (pick t u)) (sym e.1.0) (sound_pick side f s t u x e.0 mine l h e.1.1)
   before_pick s t u Lost r mine l h e = subst (IsSound side f s (pick t u)) (sym e) (λ w. h w.3)
   before_pick s t u Unfit r mine l h e = subst (IsSound side f s (pick t u)) (sym e) tt
 
-  before_reply : (s : State) (t : Turn) (u : Strategy) (q r : Found) → IsLegal f s t → IsSound side f (after f s t) u q
+  before_reply : (s : State) (t : Turn) (u : Strategy) (q r : ReplayResult) → IsLegal f s t → IsSound side f (after f s t) u q
       → IsFoundBefore (RestsBeforeReply f s t) q r → IsSoundBehind side f s t u r
   before_reply s t u (Won x) r l h e = subst (IsSoundBehind side f s t u) (sym e.1.0) (sound_branch side f s t u x e.0 l h e.1.1)
   before_reply s t u Lost r l h e = subst (IsSoundBehind side f s t u) (sym e) (l, h)
   before_reply s t u Unfit r l h e = subst (IsSoundBehind side f s t u) (sym e) tt
 
-  at_end : (s : State) (r : Found) → IsFoundOfEnd side f s r → IsSound side f s done r
+  at_end : (s : State) (r : ReplayResult) → IsFoundOfEnd side f s r → IsSound side f s done r
   at_end s (Won x) h =
       let here = met_empty f s x h.1 in (here, λ s' m. same_winner side f (history s) (history s') [] s s' (met_carried f x s s' here m) ∙ h.0)
   at_end s Lost h = h
   at_end s Unfit h = tt
 
-  of_name : (us : List Strategy) (ns : Bases) (k : ℕ) (s : State) (r : Found) → WinAsKept side f us ns → IsFoundOfName f (get_or ns k None) s r
+  of_name : (us : List Strategy) (ns : NamedFootprints) (k : ℕ) (s : State) (r : ReplayResult) → WinAsKept side f us ns → IsFoundOfName f (get_or ns k None) s r
       → IsSound side f s (get_or us k done) r
   of_name us ns k s (Won x) h e = (e.1, named_at us ns k x h e.0)
   of_name us ns k s Lost h e = absurd e
   of_name us ns k s Unfit h e = tt
 
-  alone_behind : (s : State) (t : Turn) (u : Strategy) (x : Basis) → (IsLegal f s t → ⊥) → RestsOnPosition f s x → IsSoundBehind side f s t u (Won x)
+  alone_behind : (s : State) (t : Turn) (u : Strategy) (x : PositionFootprint) → (IsLegal f s t → ⊥) → RestsOnPosition f s x → IsSoundBehind side f s t u (Won x)
   alone_behind s t u x bars h = (met_empty f s x h, λ s' m l. absurd (bars l))
 
   -- by what is found behind a turn
-  abbrev Behind : List Strategy → Bases → Outline → State → Bases → Type 0
-  Behind us ns o s ms = (q : Found) → FindsOutline side f ns o s q ms → IsSound side f s (unfolded us o) q × WinAsKept side f (names_behind us o) ms
+  abbrev Behind : List Strategy → NamedFootprints → Outline → State → NamedFootprints → Type 0
+  Behind us ns o s ms = (q : ReplayResult) → FindsOutline side f ns o s q ms → IsSound side f s (unfolded us o) q × WinAsKept side f (names_behind us o) ms
 
-  of_pick : (us : List Strategy) (ns : Bases) (t : Turn) (o : Outline) (s : State) (r : Found) (ms : Bases) → WinAsKept side f us ns → Behind us ns o (after f s t) ms
+  of_pick : (us : List Strategy) (ns : NamedFootprints) (t : Turn) (o : Outline) (s : State) (r : ReplayResult) (ms : NamedFootprints) → WinAsKept side f us ns → Behind us ns o (after f s t) ms
       → FindsPick side f ns t o s r ms → IsSound side f s (pick t (unfolded us o)) r × WinAsKept side f (names_behind us o) ms
   of_pick us ns t o s r ms h g (inl w) = let k = g w.2.0 w.2.1.0 in (before_pick s t (unfolded us o) w.2.0 r w.0 w.1 k.0 w.2.1.1, k.1)
   of_pick us ns t o s r ms h g (inr w) = (
@@ -415,7 +415,7 @@ module _ (side : Side) (f : Frame) where
     subst (WinAsKept side f (names_behind us o)) (sym w.2) (unreached_kept us ns o h),
   )
 
-  of_branch : (us : List Strategy) (ns : Bases) (t : Turn) (o : Outline) (s : State) (r : Found) (ms : Bases) → WinAsKept side f us ns → Behind us ns o (after f s t) ms
+  of_branch : (us : List Strategy) (ns : NamedFootprints) (t : Turn) (o : Outline) (s : State) (r : ReplayResult) (ms : NamedFootprints) → WinAsKept side f us ns → Behind us ns o (after f s t) ms
       → FindsBranch side f ns t o s r ms → IsSoundBehind side f s t (unfolded us o) r × WinAsKept side f (names_behind us o) ms
   of_branch us ns t o s r ms h g (inl w) = let k = g w.1.0 w.1.1.0 in (before_reply s t (unfolded us o) w.1.0 r w.0 k.0 w.1.1.1, k.1)
   of_branch us ns t o s r ms h g (inr w) = (
@@ -423,8 +423,8 @@ module _ (side : Side) (f : Frame) where
     subst (WinAsKept side f (names_behind us o)) (sym w.2) (unreached_kept us ns o h),
   )
 
-  of_reply : (us : List Strategy) (ns : Bases) (bs : Branches) (s : State) (r : Found) (ms : Bases) → AreOrderly f.size 0 bs → WinAsKept side f us ns
-      → ((q : Found) → FindsBranches side f ns bs s q ms → AreSound side f s (entries_with us bs) q × WinAsKept side f (names_behind_all us bs) ms)
+  of_reply : (us : List Strategy) (ns : NamedFootprints) (bs : Branches) (s : State) (r : ReplayResult) (ms : NamedFootprints) → AreOrderly f.size 0 bs → WinAsKept side f us ns
+      → ((q : ReplayResult) → FindsBranches side f ns bs s q ms → AreSound side f s (entries_with us bs) q × WinAsKept side f (names_behind_all us bs) ms)
       → FindsReply side f ns bs s r ms → IsSound side f s (reply (entries_with us bs)) r × WinAsKept side f (names_behind_all us bs) ms
   of_reply us ns bs s r ms o h g (inl w) =
       let e = w.2.1.0 in
@@ -437,12 +437,12 @@ module _ (side : Side) (f : Frame) where
     subst (WinAsKept side f (names_behind_all us bs)) (sym w.2) (unreached_all_kept us ns bs h),
   )
 
-  with_name_kept : (n : Bool) (us : List Strategy) (ls ms : Bases) (s : State) (u : Strategy) (r : Found) → IsSound side f s u r × WinAsKept side f us ls
-      → ms ≡ with_basis n (basis_of r) ls → IsSound side f s u r × WinAsKept side f (with_name n u us) ms
-  with_name_kept n us ls ms s u r k e = (k.0, rw e (named_with n us ls u (basis_of r) k.1 (kept_sound s u r k.0)))
+  with_name_kept : (n : Bool) (us : List Strategy) (ls ms : NamedFootprints) (s : State) (u : Strategy) (r : ReplayResult) → IsSound side f s u r × WinAsKept side f us ls
+      → ms ≡ with_named_footprint n (kept_footprint r) ls → IsSound side f s u r × WinAsKept side f (with_name n u us) ms
+  with_name_kept n us ls ms s u r k e = (k.0, rw e (named_with n us ls u (kept_footprint r) k.1 (kept_sound s u r k.0)))
 
   mutual
-    pub sound : (us : List Strategy) (ns : Bases) (o : Outline) (s : State) (r : Found) (ms : Bases) → IsOrderly f.size o → WinAsKept side f us ns
+    pub sound : (us : List Strategy) (ns : NamedFootprints) (o : Outline) (s : State) (r : ReplayResult) (ms : NamedFootprints) → IsOrderly f.size o → WinAsKept side f us ns
         → FindsOutline side f ns o s r ms → IsSound side f s (unfolded us o) r × WinAsKept side f (names_behind us o) ms
     sound us ns ended s r ms o h e = (at_end s r e.0, subst (WinAsKept side f us) (sym e.1) h)
     sound us ns (part k) s r ms o h e = (of_name us ns k s r h e.0, subst (WinAsKept side f us) (sym e.1) h)
@@ -453,7 +453,7 @@ module _ (side : Side) (f : Frame) where
         with_name_kept n (names_behind_all us bs) e.0 ms s (reply (entries_with us bs)) r
         (of_reply us ns bs s r e.0 o h (λ q g. sound_all us ns 0 bs s q e.0 o h g) e.1.1) e.1.0
 
-    sound_all : (us : List Strategy) (ns : Bases) (least : ℕ) (bs : Branches) (s : State) (r : Found) (ms : Bases) → AreOrderly f.size least bs
+    sound_all : (us : List Strategy) (ns : NamedFootprints) (least : ℕ) (bs : Branches) (s : State) (r : ReplayResult) (ms : NamedFootprints) → AreOrderly f.size least bs
         → WinAsKept side f us ns → FindsBranches side f ns bs s r ms → AreSound side f s (entries_with us bs) r × WinAsKept side f (names_behind_all us bs) ms
     sound_all us ns least no_branch s r ms o h e = (
       subst (AreSound side f s none) (sym e.0.1.0) (met_empty f s e.0.0 e.0.1.1, λ s' m t u k. absurd k),
@@ -465,11 +465,11 @@ module _ (side : Side) (f : Frame) where
         (sound_more side f s t (unfolded us c) (entries_with (names_behind us c) bs) e.0 e.1.0 r here.0 rest.0 e.1.1.1.2, rest.1)
 
 -- the answer says whether the tree wins
-pub answer_sound : (side : Side) (f : Frame) (o : Outline) (s : State) (r : Found) (ms : Bases) → IsOrderly f.size o → FindsOutline side f [] o s r ms
+pub answer_sound : (side : Side) (f : Frame) (o : Outline) (s : State) (r : ReplayResult) (ms : NamedFootprints) → IsOrderly f.size o → FindsOutline side f [] o s r ms
     → IfSome (answer_of r) (λ wins. IsTrue wins ↔ Wins side f (unfolded [] o) s)
 answer_sound side f o s r ms ordered h = pass r (sound side f [] [] o s r ms ordered tt h).0
   where
-    pass : (q : Found) → IsSound side f s (unfolded [] o) q
+    pass : (q : ReplayResult) → IsSound side f s (unfolded [] o) q
         → IfSome (answer_of q) (λ wins. IsTrue wins ↔ Wins side f (unfolded [] o) s)
     pass (Won x) k = (λ e. k.1 s k.0, λ w. refl)
     pass Lost k = (λ e. absurd (true≢false (sym e)), λ w. absurd (k w))

@@ -13,8 +13,8 @@ use Rattle.tt_game.specs.contracts.history.snapshot.Snapshot as Snapshot
 use Rattle.tt_game.proofs.Sent.{snapshot_send, snapshot_sync, side_send, side_sync}
 use Rattle.tt_proof.specs.contracts.tree.Tree as Tree
 use Rattle.tt_proof.specs.contracts.tree.Tree.TheKnot as TreeKnot
-use Rattle.tt_proof.specs.contracts.plan.Plan as Plan
-use Rattle.tt_proof.specs.contracts.plan.Plan.TheInside as Planned
+use Rattle.tt_proof.specs.contracts.measured_tree.MeasuredTree as MeasuredTree
+use Rattle.tt_proof.specs.contracts.measured_tree.MeasuredTree.TheInside as Planned
 use Rattle.tt_proof.specs.contracts.shared_boards.SharedBoards as SharedBoards
 use Rattle.tt_proof.specs.contracts.footprints.Footprint as Footprint
 use Rattle.tt_proof.specs.contracts.proven.Proof as Proof
@@ -49,11 +49,11 @@ tree_send = search (sendable, crosses, tree_hole, tree_hole_shared) depth 40
 pub tree_sync : IsSync Tree.the_row
 tree_sync = search (sendable, crosses, tree_hole, tree_hole_shared) depth 40
 
-pub plan_send : IsSend Plan.the_row
-plan_send = view_send _ _ _ _ _ (declared_send Planned.the_type (tree_send, (as_row_send u16-field (search sendable depth 20), (as_row_send u64-field (search sendable depth 20), tt))))
+pub measured_tree_send : IsSend MeasuredTree.the_row
+measured_tree_send = view_send _ _ _ _ _ (declared_send Planned.the_type (tree_send, (as_row_send u16-field (search sendable depth 20), (as_row_send u64-field (search sendable depth 20), tt))))
 
-pub plan_sync : IsSync Plan.the_row
-plan_sync = view_sync _ _ _ _ _ (declared_sync Planned.the_type (tree_sync, (as_row_sync u16-field (search sendable depth 20), (as_row_sync u64-field (search sendable depth 20), tt))))
+pub measured_tree_sync : IsSync MeasuredTree.the_row
+measured_tree_sync = view_sync _ _ _ _ _ (declared_sync Planned.the_type (tree_sync, (as_row_sync u16-field (search sendable depth 20), (as_row_sync u64-field (search sendable depth 20), tt))))
 
 -- the boards of a footprint are held through handles
 pub boards_send : IsSend SharedBoards.the_row
@@ -69,10 +69,10 @@ pub footprint_sync : IsSync Footprint.the_row
 footprint_sync = search (sendable, crosses, boards_sync) depth 40
 
 pub proof_send : IsSend Proof.the_row
-proof_send = view_send _ _ _ _ _ (declared_send Inside.the_type (as_row_send Snapshot.the_field snapshot_send, (side_send, (as_row_send Plan.the_field plan_send, (footprint_send, tt)))))
+proof_send = view_send _ _ _ _ _ (declared_send Inside.the_type (as_row_send Snapshot.the_field snapshot_send, (side_send, (as_row_send MeasuredTree.the_field measured_tree_send, (footprint_send, tt)))))
 
 pub proof_sync : IsSync Proof.the_row
-proof_sync = view_sync _ _ _ _ _ (declared_sync Inside.the_type (as_row_sync Snapshot.the_field snapshot_sync, (side_sync, (as_row_sync Plan.the_field plan_sync, (footprint_sync, tt)))))
+proof_sync = view_sync _ _ _ _ _ (declared_sync Inside.the_type (as_row_sync Snapshot.the_field snapshot_sync, (side_sync, (as_row_sync MeasuredTree.the_field measured_tree_sync, (footprint_sync, tt)))))
 
 -- so are proofs held through a handle
 pub shared_send : IsSend (Arc.the_row Proof.the_row Global.the_row ghosts)

@@ -7,9 +7,9 @@ use Rattle.tt_game.specs.Line.{HasBoard}
 use Rattle.tt_game.specs.declared.frame.Frame.{Frame}
 use Rattle.tt_game.specs.declared.frame.Side.{Side}
 use Rattle.tt_game.specs.declared.turns.Turn.{Turn}
-use Rattle.tt_proof.specs.declared.basis.Basis.{Basis}
-use Rattle.tt_proof.specs.declared.outline_replay.Found.{Found}
-use Rattle.tt_proof.specs.declared.outline_replay.Found.TheVariants.{Won, Lost, Unfit}
+use Rattle.tt_proof.specs.declared.position_footprint.PositionFootprint.{PositionFootprint}
+use Rattle.tt_proof.specs.declared.outline_replay.ReplayResult.{ReplayResult}
+use Rattle.tt_proof.specs.declared.outline_replay.ReplayResult.TheVariants.{Won, Lost, Unfit}
 use Rattle.tt_proof.specs.Outlines.{Outline, Branches, ended, picked, replied, part, no_branch, branch}
 use Rattle.tt_proof.specs.Footprints.{IsRepeated, Makes}
 use Rattle.tt_proof.specs.KeptFootprints.{frame_board}
@@ -18,25 +18,25 @@ use Rattle.tt_proof.specs.KeptFootprints.{frame_board}
 
 module _ (f : Frame) where
   -- the position is the state's
-  pub record HasPosition (s : State) (x : Basis) : Type 0 where
+  pub record HasPosition (s : State) (x : PositionFootprint) : Type 0 where
     pub present : x.board ≡ frame_board f s.present
     pub to_move : x.to_move ≡ s.to_move
     pub passes : x.passes ≡ s.passes
 
   -- a tree that rests on this fits at the state: the history has all that is needed and nothing that is avoided
-  pub record Meets (x : Basis) (s : State) : Type 0 where
+  pub record Meets (x : PositionFootprint) (s : State) : Type 0 where
     pub position : HasPosition s x
     pub needs : (b : Position) → Contains x.needs b → HasBoard f s b
     pub avoids : (b : Position) → Contains x.avoids b → HasBoard f s b → ⊥
 
   -- it rests on the position alone, as an ended tree does
-  pub record RestsOnPosition (s : State) (x : Basis) : Type 0 where
+  pub record RestsOnPosition (s : State) (x : PositionFootprint) : Type 0 where
     pub position : HasPosition s x
     pub needs : x.needs ≡ []
     pub avoids : x.avoids ≡ []
 
   -- it rests on the boards that plays would repeat, as a reply does besides what its branches rest on
-  pub record RestsOnRepeats (s : State) (x : Basis) : Type 0 where
+  pub record RestsOnRepeats (s : State) (x : PositionFootprint) : Type 0 where
     pub position : HasPosition s x
     pub needs : (b : Position) → Contains x.needs b ↔ ((b.size ≡ f.size) × IsRepeated f (history s) [] s b.points)
     pub avoids : x.avoids ≡ []
@@ -46,19 +46,19 @@ module _ (f : Frame) where
   MakesBoard s t b = (b.size ≡ f.size) × Makes f s t b.points
 
   -- in front of a turn of the side: the board that the turn makes is no more needed, and has to be avoided
-  pub record RestsBeforePick (s : State) (t : Turn) (behind x : Basis) : Type 0 where
+  pub record RestsBeforePick (s : State) (t : Turn) (behind x : PositionFootprint) : Type 0 where
     pub position : HasPosition s x
     pub needs : (b : Position) → Contains x.needs b ↔ (Contains behind.needs b × (MakesBoard s t b → ⊥))
     pub avoids : (b : Position) → Contains x.avoids b ↔ (Contains behind.avoids b ⊎ MakesBoard s t b)
 
   -- in front of a turn of the other side: that board is no more needed
-  pub record RestsBeforeReply (s : State) (t : Turn) (behind x : Basis) : Type 0 where
+  pub record RestsBeforeReply (s : State) (t : Turn) (behind x : PositionFootprint) : Type 0 where
     pub position : HasPosition s x
     pub needs : (b : Position) → Contains x.needs b ↔ (Contains behind.needs b × (MakesBoard s t b → ⊥))
     pub avoids : x.avoids ≡ behind.avoids
 
 -- what two trees of one position rest on together
-pub record RestsOnBoth (x y z : Basis) : Type 0 where
+pub record RestsOnBoth (x y z : PositionFootprint) : Type 0 where
   pub board : z.board ≡ x.board
   pub to_move : z.to_move ≡ x.to_move
   pub passes : z.passes ≡ x.passes
@@ -68,18 +68,18 @@ pub record RestsOnBoth (x y z : Basis) : Type 0 where
 -- ---- what is found on trees: a win that rests on something, none, or a part that doesn't fit
 
 -- of two trees together: a part that doesn't fit comes first, and then no win
-abbrev pub IsBoth : Found → Found → Found → Type 0
+abbrev pub IsBoth : ReplayResult → ReplayResult → ReplayResult → Type 0
 IsBoth Unfit b r = r ≡ Unfit
 IsBoth Lost Unfit r = r ≡ Unfit
 IsBoth Lost Lost r = r ≡ Lost
 IsBoth Lost (Won y) r = r ≡ Lost
 IsBoth (Won x) Unfit r = r ≡ Unfit
 IsBoth (Won x) Lost r = r ≡ Lost
-IsBoth (Won x) (Won y) r = (z : Basis) × ((r ≡ Won z) × RestsOnBoth x y z)
+IsBoth (Won x) (Won y) r = (z : PositionFootprint) × ((r ≡ Won z) × RestsOnBoth x y z)
 
 -- in front of a turn, by what is found behind it: a win rests on what the relation says
-abbrev pub IsFoundBefore : (Basis → Basis → Type 0) → Found → Found → Type 0
-IsFoundBefore Rests (Won x) r = (y : Basis) × ((r ≡ Won y) × Rests x y)
+abbrev pub IsFoundBefore : (PositionFootprint → PositionFootprint → Type 0) → ReplayResult → ReplayResult → Type 0
+IsFoundBefore Rests (Won x) r = (y : PositionFootprint) × ((r ≡ Won y) × Rests x y)
 IsFoundBefore Rests Lost r = r ≡ Lost
 IsFoundBefore Rests Unfit r = r ≡ Unfit
 
@@ -89,46 +89,46 @@ HasBranch no_branch t = ⊥
 HasBranch (branch t' o bs) t = (t' ≡ t) ⊎ HasBranch bs t
 
 -- what the trees of all names so far rest on; none where the tree isn't reached or doesn't win: it fits nowhere
-abbrev pub Bases : Type 0
-Bases = List (Option Basis)
+abbrev pub NamedFootprints : Type 0
+NamedFootprints = List (Option PositionFootprint)
 
-abbrev pub basis_of : Found → Option Basis
-basis_of (Won x) = Some x
-basis_of Lost = None
-basis_of Unfit = None
+abbrev pub kept_footprint : ReplayResult → Option PositionFootprint
+kept_footprint (Won x) = Some x
+kept_footprint Lost = None
+kept_footprint Unfit = None
 
 -- whether the tree wins; none where a part doesn't fit
-abbrev pub answer_of : Found → Option Bool
+abbrev pub answer_of : ReplayResult → Option Bool
 answer_of (Won x) = Some true
 answer_of Lost = Some false
 answer_of Unfit = None
 
 -- one more where the tree has a name
-abbrev pub with_basis : Bool → Option Basis → Bases → Bases
-with_basis true n ns = ns ++ n ∷ []
-with_basis false n ns = ns
+abbrev pub with_named_footprint : Bool → Option PositionFootprint → NamedFootprints → NamedFootprints
+with_named_footprint true n ns = ns ++ n ∷ []
+with_named_footprint false n ns = ns
 
 abbrev mutual
   -- all names behind an outline that no play reaches
-  pub unreached : Bases → Outline → Bases
+  pub unreached : NamedFootprints → Outline → NamedFootprints
   unreached ns ended = ns
-  unreached ns (picked n t o) = with_basis n None (unreached ns o)
-  unreached ns (replied n bs) = with_basis n None (unreached_all ns bs)
+  unreached ns (picked n t o) = with_named_footprint n None (unreached ns o)
+  unreached ns (replied n bs) = with_named_footprint n None (unreached_all ns bs)
   unreached ns (part k) = ns
 
-  pub unreached_all : Bases → Branches → Bases
+  pub unreached_all : NamedFootprints → Branches → NamedFootprints
   unreached_all ns no_branch = ns
   unreached_all ns (branch t o bs) = unreached_all (unreached ns o) bs
 
 module _ (f : Frame) where
   -- on the tree with a name, where the name stands for it
-  abbrev pub IsFoundOfName : Option Basis → State → Found → Type 0
+  abbrev pub IsFoundOfName : Option PositionFootprint → State → ReplayResult → Type 0
   IsFoundOfName n s (Won x) = (n ≡ Some x) × Meets f x s
   IsFoundOfName n s Lost = ⊥
-  IsFoundOfName n s Unfit = (x : Basis) → n ≡ Some x → Meets f x s → ⊥
+  IsFoundOfName n s Unfit = (x : PositionFootprint) → n ≡ Some x → Meets f x s → ⊥
 
   -- on a reply, by what is found on all its branches: each legal turn needs one
-  abbrev pub IsFoundOfReply : State → Branches → Found → Found → Type 0
+  abbrev pub IsFoundOfReply : State → Branches → ReplayResult → ReplayResult → Type 0
   IsFoundOfReply s bs (Won x) (Won y) = (x ≡ y) × ((t : Turn) → IsLegal f s t → HasBranch bs t)
   IsFoundOfReply s bs (Won x) Lost = ((t : Turn) → IsLegal f s t → HasBranch bs t) → ⊥
   IsFoundOfReply s bs (Won x) Unfit = ⊥
@@ -137,52 +137,52 @@ module _ (f : Frame) where
 
 module _ (side : Side) (f : Frame) where
   -- on an ended tree
-  abbrev pub IsFoundOfEnd : State → Found → Type 0
+  abbrev pub IsFoundOfEnd : State → ReplayResult → Type 0
   IsFoundOfEnd s (Won x) = (winner_of f s ≡ Some side) × RestsOnPosition f s x
   IsFoundOfEnd s Lost = winner_of f s ≡ Some side → ⊥
   IsFoundOfEnd s Unfit = ⊥
 
   -- on a node, by what is found behind it. Where no play leads on, the names are those that are skipped.
-  module _ (s : State) (Behind : Found → Bases → Type 0) (skipped : Bases) (r : Found) (ms : Bases) where
+  module _ (s : State) (Behind : ReplayResult → NamedFootprints → Type 0) (skipped : NamedFootprints) (r : ReplayResult) (ms : NamedFootprints) where
     -- on a pick: the side is to move, and the turn is legal; else it doesn't win
     abbrev pub PickFinds : Turn → Type 0
     PickFinds t =
-        ((s.to_move ≡ side) × IsLegal f s t × ((q : Found) × (Behind q ms × IsFoundBefore (RestsBeforePick f s t) q r)))
+        ((s.to_move ≡ side) × IsLegal f s t × ((q : ReplayResult) × (Behind q ms × IsFoundBefore (RestsBeforePick f s t) q r)))
         ⊎ ((s.to_move ≡ side → IsLegal f s t → ⊥) × (r ≡ Lost) × (ms ≡ skipped))
 
     -- on a branch: its turn is legal; else it rests on the position alone
     abbrev pub BranchFinds : Turn → Type 0
     BranchFinds t =
-        (IsLegal f s t × ((q : Found) × (Behind q ms × IsFoundBefore (RestsBeforeReply f s t) q r)))
-        ⊎ ((IsLegal f s t → ⊥) × ((x : Basis) × ((r ≡ Won x) × RestsOnPosition f s x)) × (ms ≡ skipped))
+        (IsLegal f s t × ((q : ReplayResult) × (Behind q ms × IsFoundBefore (RestsBeforeReply f s t) q r)))
+        ⊎ ((IsLegal f s t → ⊥) × ((x : PositionFootprint) × ((r ≡ Won x) × RestsOnPosition f s x)) × (ms ≡ skipped))
 
     -- on a reply: nobody has won, and the other side is to move; else it doesn't win
     abbrev pub ReplyFinds : Branches → Type 0
     ReplyFinds bs =
-        ((winner_of f s ≡ None) × (s.to_move ≡ opponent side) × ((q : Found) × (Behind q ms × IsFoundOfReply f s bs q r)))
+        ((winner_of f s ≡ None) × (s.to_move ≡ opponent side) × ((q : ReplayResult) × (Behind q ms × IsFoundOfReply f s bs q r)))
         ⊎ ((winner_of f s ≡ None → s.to_move ≡ opponent side → ⊥) × (r ≡ Lost) × (ms ≡ skipped))
 
   -- on branches, with what plays would repeat
-  abbrev pub WithRepeats : State → (Found → Bases → Type 0) → Found → Bases → Type 0
-  WithRepeats s Behind r ms = (x : Basis) × (RestsOnRepeats f s x × ((q : Found) × (Behind q ms × IsBoth (Won x) q r)))
+  abbrev pub WithRepeats : State → (ReplayResult → NamedFootprints → Type 0) → ReplayResult → NamedFootprints → Type 0
+  WithRepeats s Behind r ms = (x : PositionFootprint) × (RestsOnRepeats f s x × ((q : ReplayResult) × (Behind q ms × IsBoth (Won x) q r)))
 
   abbrev mutual
     -- on an outline at a state, by what the names before it rest on; the last list says what all names behind it rest on
-    pub FindsOutline : Bases → Outline → State → Found → Bases → Type 0
+    pub FindsOutline : NamedFootprints → Outline → State → ReplayResult → NamedFootprints → Type 0
     FindsOutline ns ended s r ms = IsFoundOfEnd s r × (ms ≡ ns)
     FindsOutline ns (picked n t o) s r ms =
-        (ls : Bases) × ((ms ≡ with_basis n (basis_of r) ls) × PickFinds s (FindsOutline ns o (after f s t)) (unreached ns o) r ls t)
+        (ls : NamedFootprints) × ((ms ≡ with_named_footprint n (kept_footprint r) ls) × PickFinds s (FindsOutline ns o (after f s t)) (unreached ns o) r ls t)
     FindsOutline ns (replied n bs) s r ms =
-        (ls : Bases) × ((ms ≡ with_basis n (basis_of r) ls) × ReplyFinds s (WithRepeats s (FindsBranches ns bs s)) (unreached_all ns bs) r ls bs)
+        (ls : NamedFootprints) × ((ms ≡ with_named_footprint n (kept_footprint r) ls) × ReplyFinds s (WithRepeats s (FindsBranches ns bs s)) (unreached_all ns bs) r ls bs)
     FindsOutline ns (part k) s r ms = IsFoundOfName f (get_or ns k None) s r × (ms ≡ ns)
 
     -- on branches together
-    pub FindsBranches : Bases → Branches → State → Found → Bases → Type 0
-    FindsBranches ns no_branch s r ms = ((x : Basis) × ((r ≡ Won x) × RestsOnPosition f s x)) × (ms ≡ ns)
+    pub FindsBranches : NamedFootprints → Branches → State → ReplayResult → NamedFootprints → Type 0
+    FindsBranches ns no_branch s r ms = ((x : PositionFootprint) × ((r ≡ Won x) × RestsOnPosition f s x)) × (ms ≡ ns)
     FindsBranches ns (branch t o bs) s r ms =
-        (q : Found) × ((p : Found) × ((ls : Bases) × (
+        (q : ReplayResult) × ((p : ReplayResult) × ((ls : NamedFootprints) × (
         BranchFinds s (FindsOutline ns o (after f s t)) (unreached ns o) q ls t × FindsBranches ls bs s p ms × IsBoth q p r)))
 
   -- the answer on a whole outline
   abbrev pub SharedPartsSay : Outline → State → Option Bool → Type 0
-  SharedPartsSay o s a = (r : Found) × ((ms : Bases) × (FindsOutline [] o s r ms × (a ≡ answer_of r)))
+  SharedPartsSay o s a = (r : ReplayResult) × ((ms : NamedFootprints) × (FindsOutline [] o s r ms × (a ≡ answer_of r)))

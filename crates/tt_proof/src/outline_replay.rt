@@ -7,11 +7,11 @@ ghost use Rattle.tt_proof.specs.Strategy.{IsOnBoard};
 ghost use Rattle.tt_proof.specs.Outlines.{outline_of, branches_of_list, unfolded, IsOrderly, AreOrderly};
 ghost use Rattle.tt_proof.specs.Wins.{Wins};
 ghost use Rattle.tt_proof.specs.SharedParts.{IsBoth, IsFoundBefore, RestsBeforePick, RestsBeforeReply, IsFoundOfEnd, IsFoundOfName, IsFoundOfReply, HasBranch};
-ghost use Rattle.tt_proof.specs.SharedParts.{FindsOutline, basis_of, with_basis, unreached, unreached_all, answer_of, SharedPartsSay};
+ghost use Rattle.tt_proof.specs.SharedParts.{FindsOutline, kept_footprint, with_named_footprint, unreached, unreached_all, answer_of, SharedPartsSay};
 ghost use Rattle.tt_proof.specs.inside.OutlineReplaying.{FindsPick, FindsReply, FindsBranch, FindsTogether};
 
-use crate::basis::Basis;
 use crate::outlines::Outline;
+use crate::position_footprint::PositionFootprint;
 use crate::replays::is_asked;
 use std::alloc::Global;
 use tt_board::Board;
@@ -20,28 +20,28 @@ use tt_sgf::NoMemory;
 
 /// What is found on a tree where it stands: it wins, and on what that rests; or it doesn't win; or a part doesn't fit.
 #[derive(Drop)]
-pub(crate) enum Found {
-    Won(Basis),
+pub(crate) enum ReplayResult {
+    Won(PositionFootprint),
     Lost,
     Unfit,
 }
 
 /// What is found on two trees together: one that doesn't fit comes before one that doesn't win.
-fn both(first: Found, second: Found) -> Result<Found, NoMemory>
+fn both(first: ReplayResult, second: ReplayResult) -> Result<ReplayResult, NoMemory>
     ensures { IfOk result (IsBoth first second) }
 {
     match first {
-        Found::Unfit => Ok(Found::Unfit),
-        Found::Lost => match second {
-            Found::Unfit => Ok(Found::Unfit),
-            Found::Lost => Ok(Found::Lost),
-            Found::Won(_) => Ok(Found::Lost),
+        ReplayResult::Unfit => Ok(ReplayResult::Unfit),
+        ReplayResult::Lost => match second {
+            ReplayResult::Unfit => Ok(ReplayResult::Unfit),
+            ReplayResult::Lost => Ok(ReplayResult::Lost),
+            ReplayResult::Won(_) => Ok(ReplayResult::Lost),
         },
-        Found::Won(one) => match second {
-            Found::Unfit => Ok(Found::Unfit),
-            Found::Lost => Ok(Found::Lost),
-            Found::Won(other) => match one.joined(other) {
-                Ok(basis) => Ok(Found::Won(basis)),
+        ReplayResult::Won(one) => match second {
+            ReplayResult::Unfit => Ok(ReplayResult::Unfit),
+            ReplayResult::Lost => Ok(ReplayResult::Lost),
+            ReplayResult::Won(other) => match one.joined(other) {
+                Ok(basis) => Ok(ReplayResult::Won(basis)),
                 Err(e) => Err(e),
             },
         },
@@ -54,72 +54,76 @@ fn found_before_pick(
     line: &Line,
     turn: &Turn,
     board: &Board,
-    found: Found,
-) -> Result<Found, NoMemory>
+    found: ReplayResult,
+) -> Result<ReplayResult, NoMemory>
     requires { IsBoardAfter line.now.frame line.now.state turn.now board.now }
     ensures { IfOk result (IsFoundBefore (RestsBeforePick line.now.frame line.now.state turn.now) found) }
 {
     match found {
-        Found::Won(behind) => match behind.picked(alloc, line, turn, board) {
-            Ok(basis) => Ok(Found::Won(basis)),
+        ReplayResult::Won(behind) => match behind.picked(alloc, line, turn, board) {
+            Ok(basis) => Ok(ReplayResult::Won(basis)),
             Err(e) => Err(e),
         },
-        Found::Lost => Ok(Found::Lost),
-        Found::Unfit => Ok(Found::Unfit),
+        ReplayResult::Lost => Ok(ReplayResult::Lost),
+        ReplayResult::Unfit => Ok(ReplayResult::Unfit),
     }
 }
 
 /// What is found on the branch of a legal turn, which leads to the board, by what is found behind it.
-fn found_before_branch(line: &Line, turn: &Turn, board: &Board, found: Found) -> Found
+fn found_before_branch(line: &Line, turn: &Turn, board: &Board, found: ReplayResult) -> ReplayResult
     requires { IsBoardAfter line.now.frame line.now.state turn.now board.now }
     ensures { IsFoundBefore (RestsBeforeReply line.now.frame line.now.state turn.now) found result }
 {
     match found {
-        Found::Won(basis) => Found::Won(basis.passed(line, turn, board)),
-        Found::Lost => Found::Lost,
-        Found::Unfit => Found::Unfit,
+        ReplayResult::Won(basis) => ReplayResult::Won(basis.passed(line, turn, board)),
+        ReplayResult::Lost => ReplayResult::Lost,
+        ReplayResult::Unfit => ReplayResult::Unfit,
     }
 }
 
 /// What is found on the outline of nothing more to play.
-fn found_of_done(alloc: Global, s: Side, line: &Line) -> Found
+fn found_of_done(alloc: Global, s: Side, line: &Line) -> ReplayResult
     ensures { IsFoundOfEnd s line.now.frame line.now.state result }
 {
     if line.winner() == Some(s) {
-        return Found::Won(Basis::of(alloc, line));
+        return ReplayResult::Won(PositionFootprint::of(alloc, line));
     }
-    Found::Lost
+    ReplayResult::Lost
 }
 
 /// What is found on the part with this name, whose tree wins where this basis is met.
-fn found_of_part(alloc: Global, name: &Option<Basis>, line: &Line) -> Result<Found, NoMemory>
+fn found_of_part(
+    alloc: Global,
+    name: &Option<PositionFootprint>,
+    line: &Line,
+) -> Result<ReplayResult, NoMemory>
     ensures { IfOk result (IsFoundOfName line.now.frame name.now line.now.state) }
 {
     match name {
         Some(basis) => {
             if !basis.is_met(line) {
-                return Ok(Found::Unfit);
+                return Ok(ReplayResult::Unfit);
             }
             match basis.try_clone(alloc) {
-                Ok(basis) => Ok(Found::Won(basis)),
+                Ok(basis) => Ok(ReplayResult::Won(basis)),
                 Err(e) => Err(e),
             }
         }
-        None => Ok(Found::Unfit),
+        None => Ok(ReplayResult::Unfit),
     }
 }
 
 /// What is kept of a tree with a name, by what is found on it.
-fn name_of(alloc: Global, found: &Found) -> Result<Option<Basis>, NoMemory>
-    ensures { IfOk result (λ n. n ≡ basis_of found.now) }
+fn name_of(alloc: Global, found: &ReplayResult) -> Result<Option<PositionFootprint>, NoMemory>
+    ensures { IfOk result (λ n. n ≡ kept_footprint found.now) }
 {
     match found {
-        Found::Won(basis) => match basis.try_clone(alloc) {
+        ReplayResult::Won(basis) => match basis.try_clone(alloc) {
             Ok(basis) => Ok(Some(basis)),
             Err(e) => Err(e),
         },
-        Found::Lost => Ok(None),
-        Found::Unfit => Ok(None),
+        ReplayResult::Lost => Ok(None),
+        ReplayResult::Unfit => Ok(None),
     }
 }
 
@@ -127,10 +131,10 @@ fn name_of(alloc: Global, found: &Found) -> Result<Option<Basis>, NoMemory>
 fn put_name(
     alloc: Global,
     named: bool,
-    found: &Found,
-    names: &mut Vec<Option<Basis>>,
+    found: &ReplayResult,
+    names: &mut Vec<Option<PositionFootprint>>,
 ) -> Result<(), NoMemory>
-    ensures { OnOk result (names.new.items ≡ with_basis named (basis_of found.now) names.old.items) }
+    ensures { OnOk result (names.new.items ≡ with_named_footprint named (kept_footprint found.now) names.old.items) }
 {
     if named {
         let name = name_of(alloc, found)?;
@@ -140,8 +144,8 @@ fn put_name(
 }
 
 /// Keeps that a tree, where it has a name, stands where no play leads.
-fn put_unreached(named: bool, names: &mut Vec<Option<Basis>>) -> Result<(), NoMemory>
-    ensures { OnOk result (names.new.items ≡ with_basis named None names.old.items) }
+fn put_unreached(named: bool, names: &mut Vec<Option<PositionFootprint>>) -> Result<(), NoMemory>
+    ensures { OnOk result (names.new.items ≡ with_named_footprint named None names.old.items) }
 {
     if named {
         names.push(None)?;
@@ -151,7 +155,7 @@ fn put_unreached(named: bool, names: &mut Vec<Option<Basis>>) -> Result<(), NoMe
 
 /// Passes over an outline where no play leads: its names are counted.
 #[cycle(skip)]
-fn skip(o: &Outline, names: &mut Vec<Option<Basis>>) -> Result<(), NoMemory>
+fn skip(o: &Outline, names: &mut Vec<Option<PositionFootprint>>) -> Result<(), NoMemory>
     ensures { OnOk result (names.new.items ≡ unreached names.old.items (outline_of o.now)) }
 {
     match o {
@@ -169,7 +173,10 @@ fn skip(o: &Outline, names: &mut Vec<Option<Basis>>) -> Result<(), NoMemory>
 }
 
 #[cycle(skip)]
-fn skip_each(list: &[(Turn, Outline)], names: &mut Vec<Option<Basis>>) -> Result<(), NoMemory>
+fn skip_each(
+    list: &[(Turn, Outline)],
+    names: &mut Vec<Option<PositionFootprint>>,
+) -> Result<(), NoMemory>
     ensures { OnOk result (names.new.items ≡ unreached_all names.old.items (branches_of_list list.now)) }
 {
     for (_, child) in list {
@@ -203,18 +210,18 @@ fn answers_all(list: &[(Turn, Outline)], line: &Line) -> bool
 }
 
 /// What is found on a reply by what is found on all its branches.
-fn found_of_reply(list: &[(Turn, Outline)], line: &Line, found: Found) -> Found
+fn found_of_reply(list: &[(Turn, Outline)], line: &Line, found: ReplayResult) -> ReplayResult
     ensures { IsFoundOfReply line.now.frame line.now.state (branches_of_list list.now) found result }
 {
     match found {
-        Found::Won(basis) => {
+        ReplayResult::Won(basis) => {
             if answers_all(list, line) {
-                return Found::Won(basis);
+                return ReplayResult::Won(basis);
             }
-            Found::Lost
+            ReplayResult::Lost
         }
-        Found::Lost => Found::Lost,
-        Found::Unfit => Found::Unfit,
+        ReplayResult::Lost => ReplayResult::Lost,
+        ReplayResult::Unfit => ReplayResult::Unfit,
     }
 }
 
@@ -226,8 +233,8 @@ fn replay_branch(
     child: &Outline,
     s: Side,
     line: &mut Line,
-    names: &mut Vec<Option<Basis>>,
-) -> Result<Found, NoMemory>
+    names: &mut Vec<Option<PositionFootprint>>,
+) -> Result<ReplayResult, NoMemory>
     requires on_board { IsOnBoard line.old.frame.size turn }
     requires orderly { IsOrderly line.old.frame.size (outline_of child.now) }
     ensures found { IfOk result (λ r. FindsBranch s line.old.frame names.old.items turn (outline_of child.now) line.old.state r names.new.items) }
@@ -245,7 +252,7 @@ fn replay_branch(
         }
         Err(Refused::Illegal(_)) => {
             skip(child, names)?;
-            Ok(Found::Won(Basis::of(alloc, line)))
+            Ok(ReplayResult::Won(PositionFootprint::of(alloc, line)))
         }
         Err(Refused::NoMemory) => Err(NoMemory),
     }
@@ -258,14 +265,14 @@ fn replay_branches(
     list: &[(Turn, Outline)],
     s: Side,
     line: &mut Line,
-    names: &mut Vec<Option<Basis>>,
-) -> Result<Found, NoMemory>
+    names: &mut Vec<Option<PositionFootprint>>,
+) -> Result<ReplayResult, NoMemory>
     requires orderly { AreOrderly line.old.frame.size 0 (branches_of_list list.now) }
     ensures found { IfOk result (λ r. FindsTogether s line.old.frame names.old.items (branches_of_list list.now) line.old.state r names.new.items) }
     ensures same { line.new ≡ line.old }
 {
-    let basis = Basis::of_repeats(alloc, line)?;
-    let mut found = Found::Won(basis);
+    let basis = PositionFootprint::of_repeats(alloc, line)?;
+    let mut found = ReplayResult::Won(basis);
     for (turn, child) in list {
         let next = replay_branch(alloc, *turn, child, s, line, names)?;
         found = both(found, next)?;
@@ -279,15 +286,15 @@ fn replay_reply(
     list: &[(Turn, Outline)],
     s: Side,
     line: &mut Line,
-    names: &mut Vec<Option<Basis>>,
-) -> Result<Found, NoMemory>
+    names: &mut Vec<Option<PositionFootprint>>,
+) -> Result<ReplayResult, NoMemory>
     requires orderly { AreOrderly line.old.frame.size 0 (branches_of_list list.now) }
     ensures found { IfOk result (λ r. FindsReply s line.old.frame names.old.items (branches_of_list list.now) line.old.state r names.new.items) }
     ensures same { line.new ≡ line.old }
 {
     if !is_asked(s, line) {
         skip_each(list, names)?;
-        return Ok(Found::Lost);
+        return Ok(ReplayResult::Lost);
     }
     match replay_branches(alloc, list, s, line, names) {
         Ok(found) => Ok(found_of_reply(list, line, found)),
@@ -302,8 +309,8 @@ fn replay_pick(
     child: &Outline,
     s: Side,
     line: &mut Line,
-    names: &mut Vec<Option<Basis>>,
-) -> Result<Found, NoMemory>
+    names: &mut Vec<Option<PositionFootprint>>,
+) -> Result<ReplayResult, NoMemory>
     requires on_board { IsOnBoard line.old.frame.size turn }
     requires orderly { IsOrderly line.old.frame.size (outline_of child.now) }
     ensures found { IfOk result (λ r. FindsPick s line.old.frame names.old.items turn (outline_of child.now) line.old.state r names.new.items) }
@@ -311,7 +318,7 @@ fn replay_pick(
 {
     if line.to_move() != s {
         skip(child, names)?;
-        return Ok(Found::Lost);
+        return Ok(ReplayResult::Lost);
     }
     match line.push(turn) {
         Ok(()) => {
@@ -325,7 +332,7 @@ fn replay_pick(
         }
         Err(Refused::Illegal(_)) => {
             skip(child, names)?;
-            Ok(Found::Lost)
+            Ok(ReplayResult::Lost)
         }
         Err(Refused::NoMemory) => Err(NoMemory),
     }
@@ -338,8 +345,8 @@ fn replay_outline(
     o: &Outline,
     s: Side,
     line: &mut Line,
-    names: &mut Vec<Option<Basis>>,
-) -> Result<Found, NoMemory>
+    names: &mut Vec<Option<PositionFootprint>>,
+) -> Result<ReplayResult, NoMemory>
     requires orderly { IsOrderly line.old.frame.size (outline_of o.now) }
     ensures found { IfOk result (λ r. FindsOutline s line.old.frame names.old.items (outline_of o.now) line.old.state r names.new.items) }
     ensures same { line.new ≡ line.old }
@@ -348,7 +355,7 @@ fn replay_outline(
         Outline::Done => Ok(found_of_done(alloc, s, line)),
         Outline::Part(k) => match names.get(*k) {
             Some(name) => found_of_part(alloc, name, line),
-            None => Ok(Found::Unfit),
+            None => Ok(ReplayResult::Unfit),
         },
         Outline::Pick(named, turn, child) => {
             let found = replay_pick(alloc, *turn, child, s, line, names)?;
@@ -364,13 +371,13 @@ fn replay_outline(
 }
 
 /// Whether the tree wins on which this is found, where that is known.
-fn said_of(found: &Found) -> Option<bool>
+fn said_of(found: &ReplayResult) -> Option<bool>
     ensures { result ≡ answer_of found.now }
 {
     match found {
-        Found::Won(_) => Some(true),
-        Found::Lost => Some(false),
-        Found::Unfit => None,
+        ReplayResult::Won(_) => Some(true),
+        ReplayResult::Lost => Some(false),
+        ReplayResult::Unfit => None,
     }
 }
 

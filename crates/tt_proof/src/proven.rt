@@ -17,7 +17,7 @@ ghost use Rattle.tt_proof.specs.Rejections.{IsRejected};
 
 use crate::bounds::{Bound, is_within};
 use crate::footprints::{Footprint, footprint_of};
-use crate::plan::{Plan, Replies};
+use crate::measured_tree::{MeasuredTree, Replies};
 use crate::replays::replay;
 use crate::tree::Tree;
 use std::alloc::Global;
@@ -32,7 +32,7 @@ use tt_sgf::NoMemory;
 pub struct Proof {
     snapshot: Snapshot,
     side: Side,
-    plan: Plan,
+    measured_tree: MeasuredTree,
     footprint: Footprint,
 }
 
@@ -47,9 +47,9 @@ impl Model for Proof {
 
     ghost coded = { Prim.hlevel (codes, points.the_row.coded, strategy_code) };
 
-    ghost view = { λ p. record { frame = p.snapshot.frame; state = p.snapshot.state; side = p.side; tree = p.plan } };
+    ghost view = { λ p. record { frame = p.snapshot.frame; state = p.snapshot.state; side = p.side; tree = p.measured_tree } };
 
-    ghost invariant = { λ p. IsFooted p.side p.snapshot.frame p.snapshot.state p.plan p.footprint };
+    ghost invariant = { λ p. IsFooted p.side p.snapshot.frame p.snapshot.state p.measured_tree p.footprint };
 }
 
 /// Why a tree was not made a proof. The tree comes back.
@@ -73,37 +73,37 @@ impl Proof {
         ensures tree { strategy_of result.now ≡ self.now.tree }
         ensures wins { IsWon self.now.side self.now.frame self.now.state self.now.tree }
     {
-        self.plan.tree()
+        self.measured_tree.tree()
     }
 
     /// The tree with its measures.
-    pub fn plan(&self) -> &Plan
-        ensures plan { result.now ≡ self.now.tree }
+    pub fn measured_tree(&self) -> &MeasuredTree
+        ensures measured_tree { result.now ≡ self.now.tree }
         ensures wins { IsWon self.now.side self.now.frame self.now.state self.now.tree }
     {
-        &self.plan
+        &self.measured_tree
     }
 
     /// The tree with its measures, and its footprint, and nothing of where the proof stood.
-    fn into_parts(self) -> (Plan, Footprint)
-        ensures plan { result.0 ≡ self.tree }
+    fn into_parts(self) -> (MeasuredTree, Footprint)
+        ensures measured_tree { result.0 ≡ self.tree }
         ensures wins { IsWon self.side self.frame self.state self.tree }
         ensures footprint { IsFootprint self.frame self.state self.tree result.1 }
     {
         let Proof {
             snapshot: _,
             side: _,
-            plan,
+            measured_tree,
             footprint,
         } = self;
-        (plan, footprint)
+        (measured_tree, footprint)
     }
 
     /// The turn that the side plays first, where it is to move.
     pub fn first(&self) -> Option<Turn>
         ensures { result ≡ first_of self.now.tree }
     {
-        self.plan.tree().first()
+        self.measured_tree.tree().first()
     }
 
     /// How many turns the longest way down the tree has: at most 512.
@@ -111,14 +111,14 @@ impl Proof {
         ensures depth { result ≡ depth self.now.tree }
         ensures low { result ≤ MOST_DEPTH }
     {
-        self.plan.depth()
+        self.measured_tree.depth()
     }
 
     /// How many nodes the tree has, or the greatest `u64` where they are more.
     pub fn nodes(&self) -> u64
         ensures { result ≡ min (nodes self.now.tree) (2 ^ 64 - 1) }
     {
-        self.plan.nodes()
+        self.measured_tree.nodes()
     }
 
     /// The key of the proof's own position.
@@ -250,7 +250,7 @@ impl Proof {
                 Ok((snapshot, footprint)) => Ok(Proof {
                     snapshot,
                     side: s,
-                    plan: Plan::of(t),
+                    measured_tree: MeasuredTree::of(t),
                     footprint,
                 }),
                 Err(_) => Err(Rejected::NoMemory(t)),
@@ -270,7 +270,7 @@ impl Proof {
                 Ok(Proof {
                     snapshot,
                     side,
-                    plan: Plan::done(),
+                    measured_tree: MeasuredTree::done(),
                     footprint: Footprint::empty(alloc),
                 })
             }
@@ -291,11 +291,11 @@ impl Proof {
         let (below, behind) = child.into_parts();
         let footprint = Footprint::picked(alloc, line, &t, &board, behind)?;
         let snapshot = line.snapshot()?;
-        let plan = Plan::pick(alloc, t, below)?;
+        let measured_tree = MeasuredTree::pick(alloc, t, below)?;
         Ok(Proof {
             snapshot,
             side,
-            plan,
+            measured_tree,
             footprint,
         })
     }
@@ -318,37 +318,37 @@ impl Proof {
         let mut replies = Replies::with_capacity(alloc, children.len())?;
         for (turn, child) in children {
             let board = child.present();
-            let (plan, behind) = child.into_parts();
+            let (measured_tree, behind) = child.into_parts();
             footprint.join(line, &turn, &board, behind)?;
-            replies.push(turn, plan)?;
+            replies.push(turn, measured_tree)?;
         }
         let snapshot = line.snapshot()?;
-        let plan = replies.into_plan(alloc)?;
+        let measured_tree = replies.into_measured_tree(alloc)?;
         Ok(Proof {
             snapshot,
             side: line.to_move().opponent(),
-            plan,
+            measured_tree,
             footprint,
         })
     }
 
-    /// The proof of a plan that is known to win at the line, and of its footprint there. No turn is played for it, and its
+    /// The proof of a measured tree that is known to win at the line, and of its footprint there. No turn is played for it, and its
     /// tree is not looked at.
     pub fn winning_with(
         line: &Line,
         s: Side,
-        plan: Plan,
+        measured_tree: MeasuredTree,
         footprint: Footprint,
     ) -> Result<Proof, NoMemory>
-        requires wins { IsWon s line.now.frame line.now.state plan }
-        requires footprint { IsFootprint line.now.frame line.now.state plan footprint }
-        ensures { IfOk result (λ p. StandsAt p line.now.frame line.now.state × (p.side ≡ s) × (p.tree ≡ plan)) }
+        requires wins { IsWon s line.now.frame line.now.state measured_tree }
+        requires footprint { IsFootprint line.now.frame line.now.state measured_tree footprint }
+        ensures { IfOk result (λ p. StandsAt p line.now.frame line.now.state × (p.side ≡ s) × (p.tree ≡ measured_tree)) }
     {
         let snapshot = line.snapshot()?;
         Ok(Proof {
             snapshot,
             side: s,
-            plan,
+            measured_tree,
             footprint,
         })
     }

@@ -19,7 +19,7 @@ use Rattle.tt_search.specs.declared.limits.Reason.{Reason}
 use Rattle.tt_search.specs.declared.limits.Reason.TheVariants.{Budget, Depth, Total, Memory}
 use Rattle.tt_search.specs.declared.limits.Step.{Step}
 use Rattle.tt_search.specs.declared.limits.Step.TheVariants.{Expanded, Closed, Settled, Stuck}
-use Rattle.tt_search.specs.declared.walk.Stop.{Stop}
+use Rattle.tt_search.specs.declared.descent.Stop.{Stop}
 use Rattle.tt_search.proofs.Open.{open_leaves, left_to_do, falls, falls_expanded, falls_closed, reached_itself, reached_more, same_problem}
 use Rattle.tt_search.proofs.Steady.{steady_undecided}
 use Rattle.tt_search.proofs.Steps.{search_expanded, search_closed}

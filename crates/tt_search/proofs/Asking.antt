@@ -12,8 +12,8 @@ use Rattle.tt_search.specs.declared.limits.Reason.{Reason}
 use Rattle.tt_search.specs.declared.limits.Reason.TheVariants.{Budget, Depth, Total, Memory}
 use Rattle.tt_search.specs.declared.limits.Step.{Step}
 use Rattle.tt_search.specs.declared.limits.Step.TheVariants.{Expanded, Closed, Settled, Stuck}
-use Rattle.tt_search.specs.declared.walk.Stop.{Stop}
-use Rattle.tt_search.specs.declared.walk.Stop.TheVariants.{OneStep}
+use Rattle.tt_search.specs.declared.descent.Stop.{Stop}
+use Rattle.tt_search.specs.declared.descent.Stop.TheVariants.{OneStep}
 
 -- an expansion needs some of what is left
 pub room_to_ask : (at : Stand) (old : Stage) (step : Step) (tree : PartialTree) (granted : ℕ) → Taken at old step tree → granted + old.left < 2 ^ 64 → step ≡ Expanded → granted < 2 ^ 64 - 1

@@ -19,8 +19,8 @@ use Rattle.tt_search.specs.declared.limits.Reason.TheVariants.{Budget, Depth, To
 use Rattle.tt_search.specs.declared.limits.Step.{Step}
 use Rattle.tt_search.specs.declared.limits.Step.TheVariants.{Expanded, Stuck}
 use Rattle.tt_search.specs.declared.tree.children.ChildNodes.{ChildNodes}
-use Rattle.tt_search.specs.declared.walk.Stop.{Stop}
-use Rattle.tt_search.specs.declared.walk.Walk.{Walk}
+use Rattle.tt_search.specs.declared.descent.Stop.{Stop}
+use Rattle.tt_search.specs.declared.descent.Descent.{Descent}
 use Rattle.tt_search.proofs.Grown.{won_decided}
 use Rattle.tt_search.proofs.Steps.{IsOfferable, expansion_offerable}
 use Rattle.tt_search.proofs.Indices.{fresh_there, fresh_tree, rank_within, same_turns, one_more, inserted_at_rank, grown_on, grown_at_index, rank_there, tree_at_index}
@@ -40,7 +40,7 @@ put_nothing index x y there edges row = record {
 }
 
 -- where the step is stuck, nothing changes
-pub stays_fresh : (walk after : Walk) (index : ℕ) (x y : ChildNodes) (step : Step) (reason : Reason) (tree : PartialTree) → IsFreshAt index x.edges → y.edges ≡ x.edges
+pub stays_fresh : (walk after : Descent) (index : ℕ) (x y : ChildNodes) (step : Step) (reason : Reason) (tree : PartialTree) → IsFreshAt index x.edges → y.edges ≡ x.edges
     → y.grown.items ≡ x.grown.items → Taken (stand_of walk) (stage fresh walk.left) step tree → IsLeft step walk.left after.left → step ≡ Stuck reason
     → FirstStepAt walk index x (Stuck reason) y after
 stays_fresh walk after index x y step reason tree there edges row h left e = (
@@ -51,17 +51,17 @@ stays_fresh walk after index x y step reason tree there edges row h left e = (
 )
 
 -- nor where there is no memory for the node
-pub stays_for_memory : (walk after : Walk) (index : ℕ) (x y : ChildNodes) → IsFreshAt index x.edges → after ≡ walk → y.edges ≡ x.edges
+pub stays_for_memory : (walk after : Descent) (index : ℕ) (x y : ChildNodes) → IsFreshAt index x.edges → after ≡ walk → y.edges ≡ x.edges
     → y.grown.items ≡ x.grown.items → FirstStepAt walk index x (Stuck Memory) y after
 stays_for_memory walk after index x y there same edges row =
-    (fresh, refl, ap (λ (w : Walk). w.left) (sym same), put_nothing index x y there edges row)
+    (fresh, refl, ap (λ (w : Descent). w.left) (sym same), put_nothing index x y there edges row)
 
 -- the tree of an expanded leaf may be offered
-pub leaf_offerable : (walk after : Walk) (step : Step) (new : PartialTree) → after ≡ walk → winner_of walk.line.frame walk.line.state ≡ None → step ≡ Expanded
+pub leaf_offerable : (walk after : Descent) (step : Step) (new : PartialTree) → after ≡ walk → winner_of walk.line.frame walk.line.state ≡ None → step ≡ Expanded
     → Taken (stand_of walk) (stage fresh walk.left) step new → IsOfferable after.line new
 leaf_offerable walk after step new e nobody is h =
     let expands = subst (λ x. Taken (stand_of walk) (stage fresh walk.left) x new) is h in
-    subst (λ (w : Walk). IsOfferable w.line new) (sym e) (expansion_offerable walk.line new nobody expands.1.1)
+    subst (λ (w : Descent). IsOfferable w.line new) (sym e) (expansion_offerable walk.line new nobody expands.1.1)
 
 -- ---- a tree that is put among others, and becomes another one
 
@@ -191,7 +191,7 @@ module _ (x : ChildNodes) (i rank : ℕ) (e : Edge) (node : PartialTree) (l : i 
   )
 
 -- a step at a fresh child is one of its steps
-pub one_step : (stop : Stop) (walk : Walk) (index : ℕ) (x : ChildNodes) (step : Step) (y : ChildNodes) (after : Walk) → child_of x index ≡ fresh → FirstStepAt walk index x step y after
+pub one_step : (stop : Stop) (walk : Descent) (index : ℕ) (x : ChildNodes) (step : Step) (y : ChildNodes) (after : Descent) → child_of x index ≡ fresh → FirstStepAt walk index x step y after
     → StepsBelow stop walk index x step y after
 one_step stop walk index x step y after c (tree, taken, counted, put) = (
   tree,

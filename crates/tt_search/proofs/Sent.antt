@@ -24,7 +24,7 @@ use Rattle.tt_search.specs.contracts.tree.node.Node.TheKnot as NodeKnot
 use Rattle.tt_search.specs.declared.tree.node.Node.TheDeep as Deep
 use Rattle.tt_search.specs.contracts.search.Search as Search
 use Rattle.tt_search.specs.contracts.search.Search.TheInside as Within
-use Rattle.tt_search.specs.contracts.walk.Walk as Walk
+use Rattle.tt_search.specs.contracts.descent.Descent as Descent
 
 module _ (h : RattleType) (below : IsSend h) where
   child_nodes_layer : IsSend (NodeKnot.layer-ChildNodes h)
@@ -90,7 +90,7 @@ node_send = tied_send NodeKnot.frame NodeKnot.step NodeKnot.sizes node_keeps Dee
 pub limits_send : IsSend Limits.the_row
 limits_send = search (sendable, crosses) depth 40
 
-walk_send : IsSend Walk.the_row
+walk_send : IsSend Descent.the_row
 walk_send = search (sendable, crosses, line_send) depth 40
 
 pub search_send : IsSend Search.the_row

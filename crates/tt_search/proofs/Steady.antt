@@ -14,9 +14,9 @@ use Rattle.tt_search.specs.inside.Steady.{HaveSameNumbers, IsGrowth, Steady, Are
 use Rattle.tt_search.specs.inside.Children.{children_of}
 use Rattle.tt_search.specs.declared.limits.Step.{Step}
 use Rattle.tt_search.specs.declared.limits.Step.TheVariants.{Expanded, Closed}
-use Rattle.tt_search.specs.declared.walk.Stop.{Stop}
-use Rattle.tt_search.specs.declared.walk.Stop.TheVariants.{OneStep}
-use Rattle.tt_search.specs.declared.walk.Walk.{Walk}
+use Rattle.tt_search.specs.declared.descent.Stop.{Stop}
+use Rattle.tt_search.specs.declared.descent.Stop.TheVariants.{OneStep}
+use Rattle.tt_search.specs.declared.descent.Descent.{Descent}
 use Rattle.tt_search.proofs.Lifted.{lifted}
 use Rattle.tt_search.proofs.Steps.{taken_keeps, counted_expanded, counted_closed, IsTreeWithin, IsOfferable, offerable}
 use Rattle.tt_search.proofs.Open.{open_leaves, falls_expanded, falls_closed}
@@ -154,7 +154,7 @@ steps_offerable stop line room old step new l m k =
     offerable line room new.tree l (taken_keeps (stand line room) k.before step new.tree (steady_keeps k.how_many (stand line room) old k.before k.steady m) k.taken)
 
 -- two walks on one line with the same room have one stand
-pub same_stand : (a b : Walk) → a.line ≡ b.line → a.room ≡ b.room → stand_of a ≡ stand_of b
+pub same_stand : (a b : Descent) → a.line ≡ b.line → a.room ≡ b.room → stand_of a ≡ stand_of b
 same_stand a b l r = ap (λ x. stand x a.room) l ∙ ap (stand b.line) r
 
 -- ---- from the best child to its node

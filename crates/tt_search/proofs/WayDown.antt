@@ -9,8 +9,8 @@ use Rattle.tt_search.specs.inside.Walking.{Stand, stage, stand, stand_of, stand_
 use Rattle.tt_search.specs.inside.Steady.{AreStepsAt, AreSteps}
 use Rattle.tt_search.specs.inside.ChildSteps.{BestSteps}
 use Rattle.tt_search.specs.declared.limits.Step.{Step}
-use Rattle.tt_search.specs.declared.walk.Stop.{Stop}
-use Rattle.tt_search.specs.declared.walk.Walk.{Walk}
+use Rattle.tt_search.specs.declared.descent.Stop.{Stop}
+use Rattle.tt_search.specs.declared.descent.Descent.{Descent}
 use Rattle.tt_search.proofs.Lifted.{IsFound, found, lengths}
 use Rattle.tt_search.proofs.ChildSteps.{any_default}
 use Rattle.tt_search.proofs.Steady.{steps_lifted}
@@ -63,19 +63,19 @@ module _ (at : Stand) (c : Choices) (node : PartialTree) (is : node_with c ≡ n
   way_down t turn = subst (λ n. IsWayDown at c n t) is (way_here at c here t turn)
 
 -- a walk that has gone down stands where the turn leads
-stand_down : (t : Turn) (old new : Walk) → IsDown t old new → stand_of new ≡ stand_after (stand_of old) t
+stand_down : (t : Turn) (old new : Descent) → IsDown t old new → stand_of new ≡ stand_after (stand_of old) t
 stand_down t old new down =
     ap (λ l. stand l new.room) down.line
     ∙ ap (stand (record { frame = old.line.frame; state = after old.line.frame old.line.state t; before = old.line.state ∷ old.line.before })) down.room
 
 -- the way down of a walk from a node
-module _ (walk : Walk) (c : Choices) (node : PartialTree) (t : Turn) (way : IsWayDown (stand_of walk) c node t) (down : Walk) (gone : IsDown t walk down) where
+module _ (walk : Descent) (c : Choices) (node : PartialTree) (t : Turn) (way : IsWayDown (stand_of walk) c node t) (down : Descent) (gone : IsDown t walk down) where
   -- the child may grow where the walk stands now
   pub child_may_grow : MayGrow (stand_of down) (best_child c)
   child_may_grow = subst (λ at. MayGrow at (best_child c)) (sym (stand_down t walk down gone)) way.may_grow
 
   -- the steps below, as steps of the node, where the walk comes back up with what they left
-  pub round_steps : (stop : Stop) (step : Step) (d : Choices) (deep up : Walk) → BestSteps stop down c step d deep → up.left ≡ deep.left → AreSteps stop walk node step (node_with d) up
+  pub round_steps : (stop : Stop) (step : Step) (d : Choices) (deep up : Descent) → BestSteps stop down c step d deep → up.left ≡ deep.left → AreSteps stop walk node step (node_with d) up
   round_steps stop step d deep up (tree, below, put) l =
       let here = subst (λ at. AreStepsAt stop at (stage (best_child c) down.left) step (stage tree deep.left)) (stand_down t walk down gone) below in
       let steps = way.steps stop walk.left step tree deep.left

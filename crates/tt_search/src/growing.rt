@@ -15,8 +15,9 @@ ghost use Rattle.tt_search.specs.inside.Steady.{AreSteps};
 ghost use Rattle.tt_search.specs.Grants.{AskedBy};
 ghost use Rattle.tt_search.specs.declared.limits.Reason.TheVariants.{Total};
 ghost use Rattle.tt_search.specs.declared.limits.Step.TheVariants.{Expanded, Closed, Stuck};
-ghost use Rattle.tt_search.specs.declared.walk.Stop.TheVariants.{OneStep};
+ghost use Rattle.tt_search.specs.declared.descent.Stop.TheVariants.{OneStep};
 
+use crate::descent::{Descent, Stop};
 use crate::grants::Grants;
 use crate::leaves::{closed_leaf, expanded_at, new_leaf, untried_children};
 use crate::limits::{Reason, Step};
@@ -26,7 +27,6 @@ use crate::tree::children::{BestChild, ChildNodes};
 use crate::tree::edges::EdgeState;
 use crate::tree::node::{Growth, Node};
 use crate::tree::numbers::Pair;
-use crate::walk::{Stop, Walk};
 use tt_game::Side;
 use tt_sgf::NoMemory;
 
@@ -98,7 +98,7 @@ impl Node {
     #[cycle(descent)]
     pub(crate) fn grow<S: Store, G: Grants>(
         &mut self,
-        walk: &mut Walk,
+        walk: &mut Descent,
         stop: Stop,
         store: &mut S,
         grants: &mut G,
@@ -127,7 +127,7 @@ impl Node {
     #[cycle(descent)]
     fn round<S: Store, G: Grants>(
         &mut self,
-        walk: &mut Walk,
+        walk: &mut Descent,
         stop: Stop,
         store: &mut S,
         grants: &mut G,
@@ -167,7 +167,7 @@ impl Node {
         &mut self,
         mut focus: BestChild,
         mut children: ChildNodes,
-        walk: &mut Walk,
+        walk: &mut Descent,
         stop: Stop,
         store: &mut S,
         grants: &mut G,
@@ -194,7 +194,7 @@ impl Node {
 
     /// A step at a fresh leaf, and what the node becomes: a kept proof closes it, or it is expanded where the budget and the
     /// room allow it. The expansion is still to be asked for.
-    fn leaf_step<S: Store>(&mut self, walk: &mut Walk, store: &mut S) -> Step
+    fn leaf_step<S: Store>(&mut self, walk: &mut Descent, store: &mut S) -> Step
         requires fresh { self.old ≡ fresh }
         requires open { winner_of walk.old.line.frame walk.old.line.state ≡ None }
         ensures walk { walk.new ≡ walk.old }
@@ -230,7 +230,7 @@ impl Node {
     /// stays fresh.
     fn first_step<S: Store, G: Grants>(
         &mut self,
-        walk: &mut Walk,
+        walk: &mut Descent,
         store: &mut S,
         grants: &mut G,
     ) -> Step
@@ -266,7 +266,7 @@ impl ChildNodes {
         &mut self,
         focus: &mut BestChild,
         was: Pair,
-        walk: &mut Walk,
+        walk: &mut Descent,
         stop: Stop,
         store: &mut S,
         grants: &mut G,
@@ -293,7 +293,7 @@ impl ChildNodes {
         &mut self,
         focus: &mut BestChild,
         was: Pair,
-        walk: &mut Walk,
+        walk: &mut Descent,
         stop: Stop,
         store: &mut S,
         grants: &mut G,
@@ -333,7 +333,7 @@ impl ChildNodes {
         &mut self,
         index: usize,
         rank: usize,
-        walk: &mut Walk,
+        walk: &mut Descent,
         stop: Stop,
         store: &mut S,
         grants: &mut G,
@@ -362,7 +362,7 @@ impl ChildNodes {
         &mut self,
         index: usize,
         rank: usize,
-        walk: &mut Walk,
+        walk: &mut Descent,
         store: &mut S,
         grants: &mut G,
     ) -> Step

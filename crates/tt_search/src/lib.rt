@@ -9,6 +9,7 @@
 
 #![tactic(auto)]
 
+mod descent;
 mod footprints;
 mod grants;
 mod growing;
@@ -18,7 +19,6 @@ mod search;
 mod settled;
 mod store;
 mod tree;
-mod walk;
 
 pub use grants::{Free, Grants};
 pub use limits::{Limits, MOST_EXPANDED, Reason, Step};
@@ -26,4 +26,4 @@ pub use search::{End, Search};
 pub use store::closing::usable;
 pub use store::key_index::{KeyIndex, ProofRow};
 pub use store::private::PrivateStore;
-pub use store::{BothSides, Kept, NoStore, Store};
+pub use store::{Kept, NoStore, ProofPerSide, Store};

@@ -10,12 +10,12 @@ ghost use Rattle.tt_search.specs.Grants.{AskedBy};
 ghost use Rattle.tt_search.specs.inside.Asking.{AreAsked};
 ghost use Rattle.tt_search.specs.inside.Advanced.{IsAdvanced};
 
+use crate::descent::{Descent, Stop};
 use crate::grants::Grants;
 use crate::leaves::new_leaf;
 use crate::limits::{Limits, Reason, Step};
 use crate::store::Store;
 use crate::tree::node::Node;
-use crate::walk::{Stop, Walk};
 use std::alloc::Global;
 use std::marker::Model;
 use tt_game::{Line, Side};
@@ -33,7 +33,7 @@ pub enum End {
 /// A proof-number search: a line, limits, and a partial tree that grows at its most-proving leaf.
 #[derive(Drop)]
 pub struct Search {
-    walk: Walk,
+    walk: Descent,
     limits: Limits,
     root: Node,
 }
@@ -61,7 +61,7 @@ impl Search {
         ensures { result ≡ Ok (record { line = line; limits = limits; tree = new_leaf line.frame line.state }) }
     {
         let root = new_leaf(line.winner());
-        let walk = Walk {
+        let walk = Descent {
             alloc,
             line,
             room: limits.depth(),

@@ -17,33 +17,33 @@ ghost use Rattle.tt_search.specs.inside.Choices.{node_with};
 ghost use Rattle.tt_search.specs.inside.ChildNodes.{HasItsNodes, children_in, choices_of};
 ghost use Rattle.tt_search.specs.inside.Child.{child_tree};
 
+use crate::descent::Descent;
 use crate::store::Store;
 use crate::tree::children::{Child, ChildNodes};
 use crate::tree::edges::Edge;
 use crate::tree::node::{Growth, Node};
 use crate::tree::numbers::is_same;
-use crate::walk::Walk;
 use std::alloc::Global;
 use std::mem;
 use std::sync::Arc;
 use tt_game::{Line, Side};
-use tt_proof::{Plan, Proof, Replies};
+use tt_proof::{MeasuredTree, Proof, Replies};
 use tt_sgf::NoMemory;
 
 impl Node {
     /// The strategy of a node for the side that it is settled for.
-    #[cycle(plan_of)]
-    pub(crate) fn plan(&self, alloc: Global, side: Side) -> Result<Plan, NoMemory>
+    #[cycle(measured_tree_of)]
+    pub(crate) fn measured_tree(&self, alloc: Global, side: Side) -> Result<MeasuredTree, NoMemory>
         requires { number side self.now ≡ 0 }
         ensures { IfOk result (λ p. p ≡ strategy_for side self.now) }
     {
         match &self.growth {
-            Growth::Fresh => Ok(Plan::done()),
-            Growth::Won(_) => Ok(Plan::done()),
-            Growth::Closed(proof) => proof.plan().try_clone(),
+            Growth::Fresh => Ok(MeasuredTree::done()),
+            Growth::Won(_) => Ok(MeasuredTree::done()),
+            Growth::Closed(proof) => proof.measured_tree().try_clone(),
             Growth::Untried(_, _) => unreachable!(),
-            Growth::Expanded(focus, children) => children.plan(alloc, focus.mover, side),
-            Growth::Offered(_, _, proof) => proof.plan().try_clone(),
+            Growth::Expanded(focus, children) => children.measured_tree(alloc, focus.mover, side),
+            Growth::Offered(_, _, proof) => proof.measured_tree().try_clone(),
         }
     }
 
@@ -60,7 +60,7 @@ impl Node {
         None
     }
 
-    /// The proof of a settled node, where the line stands at it. Its tree is not walked through: the plan is a new root over
+    /// The proof of a settled node, where the line stands at it. Its tree is not walked through: the measured tree is a new root over
     /// the children's, and the footprint is joined from theirs. The line stands as before.
     pub(crate) fn proof(
         &self,
@@ -74,9 +74,9 @@ impl Node {
         ensures tree { IfOk result (λ p. p.tree ≡ strategy_for side self.now) }
         ensures same { line.new ≡ line.old }
     {
-        let plan = self.plan(alloc, side)?;
+        let measured_tree = self.measured_tree(alloc, side)?;
         let footprint = self.footprint(alloc, line, side)?;
-        Proof::winning_with(line, side, plan, footprint)
+        Proof::winning_with(line, side, measured_tree, footprint)
     }
 
     /// Holds a proof that the node offers, where memory for a handle is left.
@@ -96,7 +96,7 @@ impl Node {
     /// Offers the proof of a node that is settled for the side to the store, where the walk stands at the node, and
     /// answers whether the walk may offer on. None is made for a store that is full, nor where the proof of a node below it
     /// couldn't be made.
-    pub(crate) fn offer<S: Store>(&mut self, side: Side, walk: &mut Walk, store: &mut S) -> bool
+    pub(crate) fn offer<S: Store>(&mut self, side: Side, walk: &mut Descent, store: &mut S) -> bool
         requires settled { number side self.old ≡ 0 }
         requires partial { IsPartialTree walk.old.line.frame walk.old.line.state self.old }
         requires stays { StaysWithin walk.old.line.frame.size MOST_DEPTH self.old }
@@ -121,22 +121,27 @@ impl Node {
 
 impl Child<'_> {
     /// The strategy of a child for the side that it is settled for.
-    #[cycle(plan_of)]
-    fn plan(self, alloc: Global, side: Side) -> Result<Plan, NoMemory>
+    #[cycle(measured_tree_of)]
+    fn measured_tree(self, alloc: Global, side: Side) -> Result<MeasuredTree, NoMemory>
         requires { number side (child_tree self) ≡ 0 }
         ensures { IfOk result (λ p. p ≡ strategy_for side (child_tree self.entry)) }
     {
         match self {
-            Child::Fresh | Child::Won(_) => Ok(Plan::done()),
-            Child::Grown(node) => node.plan(alloc, side),
+            Child::Fresh | Child::Won(_) => Ok(MeasuredTree::done()),
+            Child::Grown(node) => node.measured_tree(alloc, side),
         }
     }
 }
 
 impl ChildNodes {
     /// The strategy of the node for the side that it is settled for.
-    #[cycle(plan_of)]
-    fn plan(&self, alloc: Global, mover: Side, side: Side) -> Result<Plan, NoMemory>
+    #[cycle(measured_tree_of)]
+    fn measured_tree(
+        &self,
+        alloc: Global,
+        mover: Side,
+        side: Side,
+    ) -> Result<MeasuredTree, NoMemory>
         requires whole { HasItsNodes self.now }
         requires settled { number side (node_with (choices_of mover self.now)) ≡ 0 }
         ensures { IfOk result (λ p. p ≡ strategy_for side (node_with (choices_of mover self.now))) }
@@ -150,23 +155,28 @@ impl ChildNodes {
 }
 
 /// The strategy that picks the first child that is settled for the side.
-#[cycle(plan_of)]
-fn picked(alloc: Global, side: Side, children: &ChildNodes) -> Result<Plan, NoMemory>
+#[cycle(measured_tree_of)]
+fn picked(alloc: Global, side: Side, children: &ChildNodes) -> Result<MeasuredTree, NoMemory>
     requires whole { HasItsNodes children.now }
     requires settled { least (numbers side (children_in children.now)) ≡ 0 }
     ensures { IfOk result (λ p. p ≡ pick_at side (first_settled side (children_in children.now)) (edge_turns children.now.edges) (children_in children.now)) }
 {
     let (index, rank) = children.first_settled(side);
     if index >= children.edges.len() {
-        return Ok(Plan::done());
+        return Ok(MeasuredTree::done());
     }
-    let child = children.child(index, rank).plan(alloc, side)?;
-    Plan::pick(alloc, children.edges.at(index).turn(), child)
+    let child = children.child(index, rank).measured_tree(alloc, side)?;
+    MeasuredTree::pick(alloc, children.edges.at(index).turn(), child)
 }
 
 /// The strategy that replies to each turn.
-#[cycle(plan_of)]
-fn replied(alloc: Global, side: Side, edges: &[Edge], grown: &[Node]) -> Result<Plan, NoMemory>
+#[cycle(measured_tree_of)]
+fn replied(
+    alloc: Global,
+    side: Side,
+    edges: &[Edge],
+    grown: &[Node],
+) -> Result<MeasuredTree, NoMemory>
     requires whole { grown_in edges.now ≡ length grown.now }
     requires settled { AreZero side (children_of (edge_trees edges.now grown.now)) }
     ensures { IfOk result (λ p. p ≡ reply (replies side (edge_turns edges.now) (children_of (edge_trees edges.now grown.now)))) }
@@ -175,9 +185,9 @@ fn replied(alloc: Global, side: Side, edges: &[Edge], grown: &[Node]) -> Result<
     let mut rest = grown;
     for edge in edges {
         let (child, behind) = Child::first(*edge, rest);
-        let answer = child.plan(alloc, side)?;
+        let answer = child.measured_tree(alloc, side)?;
         answers.push(edge.turn(), answer)?;
         rest = behind;
     }
-    answers.into_plan(alloc)
+    answers.into_measured_tree(alloc)
 }

@@ -24,7 +24,7 @@ pub enum Kept {
 
 /// What a store answers of one key: a proof of each side, or none.
 #[derive(Drop)]
-pub struct BothSides {
+pub struct ProofPerSide {
     pub attacker: Option<Arc<Proof>>,
     pub defender: Option<Arc<Proof>>,
 }
@@ -56,7 +56,7 @@ pub trait Store {
         ensures kept { kept self.new ≡ kept self.old };
 
     /// What `find` answers for both sides, in one look.
-    fn find_both(&mut self, line: &Line) -> Result<BothSides, NoMemory>
+    fn find_both(&mut self, line: &Line) -> Result<ProofPerSide, NoMemory>
         ensures attacker { IfOk result (λ a. IfSome a.attacker (λ p. HasKeyAndSide line.now Attacker p.value)) }
         ensures defender { IfOk result (λ a. IfSome a.defender (λ p. HasKeyAndSide line.now Defender p.value)) }
         ensures may_attacker { IfOk result (λ a. IfSome a.attacker (λ _. may_answer)) }
@@ -66,7 +66,7 @@ pub trait Store {
     {
         let attacker = self.find(line, Side::Attacker)?;
         let defender = self.find(line, Side::Defender)?;
-        Ok(BothSides { attacker, defender })
+        Ok(ProofPerSide { attacker, defender })
     }
 
     /// Keeps the proof, where there is room and memory for it.

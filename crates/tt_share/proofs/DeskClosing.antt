@@ -9,7 +9,7 @@ use mathlib.Core.Option.{some}
 use mathlib.Core.Logic.{dite}
 use native.Mathlib.Decide.{dec_lt}
 use lib.ListN.{get_elem?}
-use Rattle.tt_share.specs.declared.desk.rule.Ghost.{Ghost}
+use Rattle.tt_share.specs.declared.desk.rule.SeatKnowledge.{SeatKnowledge}
 use Rattle.tt_share.specs.declared.desk.rule.DeskSize.{DeskSize}
 use Rattle.tt_share.specs.Desk.{view_of, no_seat_view, joined, sum_below, overdraw_count, EachSeat, IsDesk}
 use Rattle.tt_share.specs.Seats.{DeskView, SeatView, EachOnce, AllJobsDrawn, EndsOverdraw, Spends}
@@ -18,13 +18,13 @@ use Rattle.tt_share.proofs.DeskLists.{at_within, at_read, sum_set, sum_at, sum_l
 use Rattle.tt_share.proofs.DeskMoves.{counts_room, each_set, right_true}
 
 -- where one view has every part, what the others add up to is nothing
-alone : (f : Ghost → ℕ) (views : List Ghost) (id : ℕ) (v : Ghost) → get_elem? views id ≡ some v → sum_by (λ u. u.parts) views ≡ v.parts
+alone : (f : SeatKnowledge → ℕ) (views : List SeatKnowledge) (id : ℕ) (v : SeatKnowledge) → get_elem? views id ≡ some v → sum_by (λ u. u.parts) views ≡ v.parts
     → f no_seat_view ≡ 0 → EachSeat (λ u. u.parts ≡ 0 → u ≡ no_seat_view) views
     → sum_by f views ≡ f v
 alone f views id v at all nothing spent =
     let s = sum_set f views id v no_seat_view at in
     let p = sum_set (λ u. u.parts) views id v no_seat_view at in
-    let rest : List Ghost = set views id no_seat_view in
+    let rest : List SeatKnowledge = set views id no_seat_view in
     let none_left : EachSeat (λ u. u.parts ≡ 0) rest = λ i u e. let b = sum_at (λ w. w.parts) rest i u e in omega arith in
     let spent_too : EachSeat (λ u. u.parts ≡ 0 → u ≡ no_seat_view) rest = each_set (λ u. u.parts ≡ 0 → u ≡ no_seat_view) views id no_seat_view (λ _. refl) spent in
     let small = sum_le f (λ u. u.parts) rest (λ i u e. let z : f u ≡ 0 = ap f (spent_too i u e (none_left i u e)) ∙ nothing in omega arith) in
@@ -41,7 +41,7 @@ or_swap false true c e = e
 or_swap false false c e = e
 
 -- what the table's seat of a seat knows
-abbrev pub sat_as : SeatView → Ghost
+abbrev pub sat_as : SeatView → SeatKnowledge
 sat_as s = view_of 1 s.numbers s.grants s.flag s.sighting
 
 -- the view of one seat gathers that seat
@@ -55,7 +55,7 @@ gathers_first s = record {
 }
 
 -- joined with the view of one more seat, a view gathers that seat too
-pub gathers_more : (s : SeatView) (taken : List SeatView) (v : Ghost) → Gathers taken v → Gathers (s ∷ taken) (joined v (sat_as s))
+pub gathers_more : (s : SeatView) (taken : List SeatView) (v : SeatKnowledge) → Gathers taken v → Gathers (s ∷ taken) (joined v (sat_as s))
 gathers_more s taken v h = record {
   parts = let p = h.parts in omega arith;
   numbers = λ weight.
@@ -174,7 +174,7 @@ pub record End (desk : DeskView) (seats : List SeatView) (drawn asked : ℕ) : T
   pub grants : (total : ℕ) → 0 < total → Spends total (min asked total) seats
 
 -- where one view gathers all seats and has every part, they show what seats of a closed desk show
-pub closes : (desk : DeskView) (plan : DeskSize) (drawn flag asked : ℕ) (views : List Ghost) (id : ℕ) (v : Ghost) (seats : List SeatView) → plan.jobs ≡ desk.jobs → plan.seats ≡ desk.seats
+pub closes : (desk : DeskView) (plan : DeskSize) (drawn flag asked : ℕ) (views : List SeatKnowledge) (id : ℕ) (v : SeatKnowledge) (seats : List SeatView) → plan.jobs ≡ desk.jobs → plan.seats ≡ desk.seats
     → length seats ≡ desk.seats
     → 0 < desk.jobs → 0 < desk.seats → Gathers seats v → IsDesk plan drawn flag asked views → get_elem? views id ≡ some v → End desk seats drawn asked
 closes desk plan drawn flag asked views id v seats same_jobs same_seats len some_job some_seat g h at =
@@ -193,7 +193,7 @@ closes desk plan drawn flag asked views id v seats same_jobs same_seats len some
       sighted = λ saw.
           let is : flag ≡ 1 = h.marked.known id v at (right_true v.flag v.sighting (sym g.sightings ∙ saw)) in
           let has = h.marked.raised is in
-          let bit : Ghost → ℕ = λ u. cond u.flag 1 0 in
+          let bit : SeatKnowledge → ℕ = λ u. cond u.flag 1 0 in
           let one = sum_at bit views has.0 has.1 has.2 in
           let its_bit : bit has.1 ≡ 1 = ap (λ (b : Bool). cond b 1 0) has.3 in
           g.marks ∙ is_set v.flag (let e = alone bit views id v at all_parts refl h.spent in omega arith);

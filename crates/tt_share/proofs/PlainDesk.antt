@@ -4,7 +4,7 @@ use Rattle.std.proofs.lemmas.Bool.Decides.{nat_tests}
 use Rattle.std.proofs.lemmas.List.Sums.{sum_by-cons, get_or-le-sum_by}
 use mathlib.Core.Logic.{dite}
 use native.Mathlib.Decide.{dec_lt}
-use Rattle.tt_share.specs.declared.desk.rule.Ghost.{Ghost}
+use Rattle.tt_share.specs.declared.desk.rule.SeatKnowledge.{SeatKnowledge}
 use Rattle.tt_share.specs.declared.desk.rule.DeskSize.{DeskSize}
 use Rattle.tt_share.specs.Desk.{overdraw_count, EachNumberOnce, IsMark, IsDesk}
 use Rattle.tt_share.specs.DeskLaw.{IsCount, IsStop, IsDeskState, DeskLaw}
@@ -23,7 +23,7 @@ two_spares limit (x ∷ xs) (suc k) h one two =
     let more = two_spares limit xs k (omega arith) one (subst (λ (j : ℕ). limit ≤ get_or (x ∷ xs) j 0) next two) in omega arith
 
 -- what numbers that are counted say in plain words
-count_law : (list : Ghost → List ℕ) (limit word : ℕ) (views : List Ghost) → EachNumberOnce list limit word views → IsCount list limit word views
+count_law : (list : SeatKnowledge → List ℕ) (limit word : ℕ) (views : List SeatKnowledge) → EachNumberOnce list limit word views → IsCount list limit word views
 count_law list limit word views h = record {
   count = sum_same (λ v. length (list v)) (λ v. sum_by (λ _. 1) (list v)) views (λ v. sym (ones (list v))) ∙ (h.each_once (λ _. 1) ∙ ones_below word);
   below = λ n lt. h.each_once (λ k. cond (nat_eq k n) 1 0) ∙ once_below n word lt;
@@ -38,7 +38,7 @@ count_law list limit word views h = record {
 }
 
 -- what the flag says in plain words
-stop_law : (word : ℕ) (views : List Ghost) → IsMark word views → IsStop word views
+stop_law : (word : ℕ) (views : List SeatKnowledge) → IsMark word views → IsStop word views
 stop_law word views h = record {
   bit = dite (dec_lt word 1) (λ lt. inl (omega arith)) (λ ge. let b = h.bit in inr (omega arith));
   raised = h.raised;
@@ -47,7 +47,7 @@ stop_law word views h = record {
 }
 
 -- what a desk says in plain words
-state_law : (plan : DeskSize) (drawn flag asked : ℕ) (views : List Ghost) → IsDesk plan drawn flag asked views → IsDeskState plan (drawn ∷ flag ∷ asked ∷ []) views
+state_law : (plan : DeskSize) (drawn flag asked : ℕ) (views : List SeatKnowledge) → IsDesk plan drawn flag asked views → IsDeskState plan (drawn ∷ flag ∷ asked ∷ []) views
 state_law plan drawn flag asked views h = record {
   three_words = refl;
   parts = h.parts;

@@ -11,13 +11,13 @@ ghost use Rattle.tt_share.specs.Desk.{blank, view_of};
 ghost use Rattle.tt_share.specs.Seats.{seat_of, fresh, EndsOverdraw, Adds, Gains, granted_of, Closes};
 ghost use Rattle.tt_share.specs.inside.Gathering.{Gathers};
 
-use crate::desk::rule::{AtDesk, Both, Cut, DeskSize, Draw, Ghost, Grant, Raise, Sighting};
+use crate::desk::rule::{AtDesk, Both, Cut, DeskSize, Draw, Grant, Raise, SeatKnowledge, Sighting};
 use atomic_table::Table;
 use std::alloc::Global;
 use std::marker::Model;
 use tt_sgf::NoMemory;
 
-type Words = Table<(), Ghost, DeskSize, AtDesk, Global>;
+type Words = Table<(), SeatKnowledge, DeskSize, AtDesk, Global>;
 
 /// What a closed desk counted: the steps that all draws made, and the grants that it gave of its total, or 0 where it had
 /// none.
@@ -62,7 +62,7 @@ impl Model for Desk {
 /// A slot at a desk, for one thread at a time.
 #[derive(Drop)]
 pub struct Seat {
-    seat: atomic_table::Seat<(), Ghost>,
+    seat: atomic_table::Seat<(), SeatKnowledge>,
     last: u64,
     last_grant: u64,
 }
@@ -84,7 +84,7 @@ impl Model for Seat {
 }
 
 impl Seat {
-    fn into_inner(self) -> atomic_table::Seat<(), Ghost>
+    fn into_inner(self) -> atomic_table::Seat<(), SeatKnowledge>
         ensures desk { result.table_id ≡ self.desk }
         ensures me { result.me ≡ (view_of 1 self.numbers self.grants self.flag self.sighting, []) }
     {
@@ -92,7 +92,7 @@ impl Seat {
         seat
     }
 
-    fn blank(seat: atomic_table::Seat<(), Ghost>) -> Seat
+    fn blank(seat: atomic_table::Seat<(), SeatKnowledge>) -> Seat
         requires { seat.me ≡ (blank 1, []) }
         ensures { result ≡ fresh seat.table_id }
     {
@@ -107,7 +107,7 @@ impl Seat {
 // Cuts the first seat into as many as it has parts, into a list that has room for them.
 fn cut_all(
     table: &Words,
-    mut first: atomic_table::Seat<(), Ghost>,
+    mut first: atomic_table::Seat<(), SeatKnowledge>,
     seats: usize,
     mut all: Vec<Seat>,
 ) -> Vec<Seat>
@@ -126,7 +126,11 @@ fn cut_all(
 }
 
 // Joins the seats to the last one.
-fn join_all(table: &Words, last: Seat, mut seats: Vec<Seat>) -> atomic_table::Seat<(), Ghost>
+fn join_all(
+    table: &Words,
+    last: Seat,
+    mut seats: Vec<Seat>,
+) -> atomic_table::Seat<(), SeatKnowledge>
     requires words { 0 < table.now.shared.table_id.words }
     requires last { last.desk ≡ table.now.shared.table_id }
     requires seats { All (λ s. s.desk ≡ table.now.shared.table_id) seats.items }

@@ -225,9 +225,9 @@ fn has_text(alloc: Global, proof: &Proof, text: &[u8]) -> bool {
     }
 }
 
-/// Whether a copy of a proof's plan is so deep.
+/// Whether a copy of a proof's measured tree is so deep.
 fn has_copy(proof: &Proof, depth: u16) -> bool {
-    match proof.plan().try_clone() {
+    match proof.measured_tree().try_clone() {
         Ok(copy) => copy.depth() == depth,
         Err(_) => false,
     }

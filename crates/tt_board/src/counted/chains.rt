@@ -16,7 +16,7 @@ use crate::colouring::Colouring;
 use crate::colouring::around::{around, first_column};
 use crate::counted::captures::{lift_chain, release};
 use crate::counted::joins::{join_beside, start};
-use crate::counted::looks::{Look, last_ones};
+use crate::counted::looks::{PlayEffect, last_ones};
 use crate::counted::names::{root_of, take_over};
 use crate::counted::play_kind::{Names, PlayKind, colour_number, names_beside};
 use std::marker::Model;
@@ -261,7 +261,7 @@ impl Chains {
     ///
     /// A chain goes with it exactly where `p` is its one liberty: the opponent's; or one's own, where none of the opponent's goes,
     /// no point beside `p` is empty, and no own chain beside it has another liberty.
-    pub(crate) fn look(&self, colour: Colour, p: usize) -> Look
+    pub(crate) fn look(&self, colour: Colour, p: usize) -> PlayEffect
         requires on_board { p < point_count self.now.size }
         requires free { entry_at self.now.points p ≡ None }
         ensures fits { length self.now.points ≡ point_count self.now.size }
@@ -274,18 +274,18 @@ impl Chains {
         let near = names_beside(self.size, &self.counts.names, p);
         let weak = last_ones(&self.counts.liberties, &near, colour_number(colour.other()));
         if !weak.is_empty() {
-            return Look {
+            return PlayEffect {
                 goes: weak,
                 suicide: false,
             };
         }
         if near.has_open(&self.counts.liberties, colour_number(colour)) {
-            return Look {
+            return PlayEffect {
                 goes: weak,
                 suicide: false,
             };
         }
-        Look {
+        PlayEffect {
             goes: last_ones(&self.counts.liberties, &near, colour_number(colour)),
             suicide: true,
         }

@@ -9,7 +9,7 @@ use arrayvec::ArrayVec;
 
 /// What a play does: the names of the chains that go, one's own in a suicide and else the opponent's, and whether it is suicide.
 #[derive(Drop)]
-pub(crate) struct Look {
+pub(crate) struct PlayEffect {
     pub(crate) goes: ArrayVec<u16, 4>,
     pub(crate) suicide: bool,
 }

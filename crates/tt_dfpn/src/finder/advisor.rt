@@ -65,7 +65,7 @@ impl Advisor {
     /// Whether the finder's board is the last of the first so many.
     fn shows(&self, boards: &[Board], count: usize) -> bool {
         match boards.get(count.wrapping_sub(1)) {
-            Some(board) => self.finder.board.hash_of(board) == self.finder.board.hash(),
+            Some(board) => self.finder.board.zobrist_hash(board) == self.finder.board.hash(),
             None => false,
         }
     }
@@ -157,7 +157,7 @@ impl Advisor {
         };
         let board = &self.finder.board;
         let history = board.history().all_with(board.hash());
-        let hashes = hashes_of(board.hash_of(before), mover.other(), history);
+        let hashes = hashes_of(board.zobrist_hash(before), mover.other(), history);
         self.finder.keep_line(hashes, WON, turn);
     }
 

@@ -5,7 +5,7 @@
 ghost use Rattle.std.specs.Prelude.{◌≡◌, ◌<◌};
 
 use crate::finder::hash_history::HashHistory;
-use crate::finder::zobrist::{StoneKeys, hash_of, stone_keys};
+use crate::finder::zobrist::{StoneKeys, stone_keys, zobrist_hash};
 use std::alloc::Global;
 use tt_board::{Board, Colour};
 use tt_game::Line;
@@ -245,15 +245,15 @@ impl SearchBoard {
         board.undo.clear();
         board.history = HashHistory::new(alloc)?;
         for past in line.history() {
-            let hash = board.hash_of(past);
+            let hash = board.zobrist_hash(past);
             board.history.push(hash)?;
         }
         Ok(board)
     }
 
     /// The hash of a board.
-    pub(crate) fn hash_of(&self, board: &Board) -> u64 {
-        hash_of(&self.keys, board)
+    pub(crate) fn zobrist_hash(&self, board: &Board) -> u64 {
+        zobrist_hash(&self.keys, board)
     }
 
     /// The hash of this board.

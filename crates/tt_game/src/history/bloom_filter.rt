@@ -8,7 +8,7 @@ ghost use Rattle.tt_board.specs.Reach.{entry_at};
 ghost use Rattle.tt_sgf.specs.declared.size.Size.{Size};
 ghost use Rattle.tt_game.specs.GameHistory.{colourings};
 ghost use Rattle.tt_game.specs.Mixing.{mix, mix_board, board_hash};
-ghost use Rattle.tt_game.specs.BloomFilter.{hash_of, MayHold, MayHoldAll};
+ghost use Rattle.tt_game.specs.BloomFilter.{filter_index, MayHold, MayHoldAll};
 
 use std::alloc::Global;
 use tt_board::{Board, Colour};
@@ -81,10 +81,10 @@ fn hash_by(sum: u64) -> usize
 
 /// The hash of a colouring with one stone more, which a play of `colour` puts on `p`, by what the words make without it. No board is
 /// made for it.
-pub(crate) fn hash_with_stone(sum: u64, colour: Colour, p: Point) -> usize
+pub(crate) fn filter_index_with_stone(sum: u64, colour: Colour, p: Point) -> usize
     requires { p < MOST_POINTS }
     ensures { (g : Size) (c : Colouring) → length c ≡ point_count g → p < point_count g → entry_at c p ≡ None → sum ≡ mix_board g c
-        → result ≡ hash_of g (slice_set c p (Some colour)) }
+        → result ≡ filter_index g (slice_set c p (Some colour)) }
 {
     let n = usize::from(p.number());
     let first = match colour {
@@ -96,8 +96,8 @@ pub(crate) fn hash_with_stone(sum: u64, colour: Colour, p: Point) -> usize
 }
 
 /// The hash of a colouring: a number that others mostly haven't.
-pub(crate) fn hash_of(board: &Board) -> usize
-    ensures { result ≡ hash_of board.now.size board.now.points }
+pub(crate) fn filter_index(board: &Board) -> usize
+    ensures { result ≡ filter_index board.now.size board.now.points }
 {
     hash_by(mix_board(board))
 }
@@ -128,7 +128,7 @@ impl BloomFilter {
     {
         let mut filter = BloomFilter::empty(alloc, FILTER_BITS);
         for board in boards {
-            filter.add(hash_of(board));
+            filter.add(filter_index(board));
         }
         filter
     }

@@ -7,11 +7,11 @@ ghost use Rattle.tt_board.specs.Position.{Position, Colouring};
 ghost use Rattle.tt_board.specs.Reach.{entry_at};
 ghost use Rattle.tt_game.specs.GameHistory.{HasBeen, so_far, colourings};
 ghost use Rattle.tt_game.specs.inside.Roots.{AreStonesOf};
-ghost use Rattle.tt_game.specs.BloomFilter.{hash_of};
+ghost use Rattle.tt_game.specs.BloomFilter.{filter_index};
 
 use crate::frame::Frame;
 use crate::history::History;
-use crate::history::bloom_filter::{BloomFilter, hash_of};
+use crate::history::bloom_filter::{BloomFilter, filter_index};
 use std::alloc::Global;
 use std::marker::Model;
 use std::sync::Arc;
@@ -92,7 +92,7 @@ fn places_of(alloc: Global, boards: &[Board]) -> Vec<usize> {
         return Vec::new(alloc);
     }
     for k in 0..boards.len() {
-        let index = hash_of(&boards[k]) % PLACES;
+        let index = filter_index(&boards[k]) % PLACES;
         if index < places.len() {
             places[index] = k;
         }
@@ -186,7 +186,7 @@ impl Root {
         if self.count <= FEW {
             return Some(0);
         }
-        let hash = hash_of(board);
+        let hash = filter_index(board);
         if !self.filter.has(hash) {
             return None;
         }
@@ -203,7 +203,7 @@ impl Root {
 
     /// Whether some board of the beginning may have this hash. Where none has, no colouring of theirs has it.
     pub(crate) fn has_hash(&self, hash: usize) -> bool
-        ensures { result ≡ false → (c : Colouring) → hash_of self.now.frame.size c ≡ hash → HasBeen (colourings self.now.begun) c → ⊥ }
+        ensures { result ≡ false → (c : Colouring) → filter_index self.now.frame.size c ≡ hash → HasBeen (colourings self.now.begun) c → ⊥ }
     {
         self.filter.has(hash)
     }

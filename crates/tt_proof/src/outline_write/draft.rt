@@ -5,9 +5,9 @@ ghost use Rattle.std.specs.Prelude.{◌≡◌, OnOk};
 ghost use Rattle.tt_proof.specs.KeptFootprints.{IsBoardAfter};
 ghost use Rattle.tt_proof.specs.Strategy.{strategy_of, entries_of_trees, IsInOrder, AreInOrder, IsOnBoard};
 
-use crate::basis::Basis;
 use crate::certificate_write::put_turn;
 use crate::outline_write::kept_trees::{KeptTrees, Written};
+use crate::position_footprint::PositionFootprint;
 use crate::tree::Tree;
 use std::alloc::Global;
 use tt_board::Board;
@@ -56,7 +56,7 @@ impl Draft {
     fn put_done(&mut self, alloc: Global, line: &Line) -> Result<Option<Written>, NoMemory> {
         self.text.push(b'.')?;
         Ok(Some(Written {
-            basis: Basis::of(alloc, line),
+            basis: PositionFootprint::of(alloc, line),
             depth: 0,
         }))
     }
@@ -224,7 +224,7 @@ fn walk_reply(
     ensures same { OnOk result (line.new ≡ line.old) }
 {
     let mut written = Written {
-        basis: Basis::of_repeats(alloc, line)?,
+        basis: PositionFootprint::of_repeats(alloc, line)?,
         depth: 0,
     };
     for (turn, child) in list {

@@ -1,6 +1,6 @@
 //! Trees that are written, by their positions. No contract speaks of what is kept.
 
-use crate::basis::Basis;
+use crate::position_footprint::PositionFootprint;
 use std::alloc::Global;
 use tt_game::{Line, board_hash};
 use tt_sgf::NoMemory;
@@ -14,7 +14,7 @@ const NONE: usize = usize::MAX;
 /// What is known of a tree that is written: on what it rests, and how many turns its longest way down has.
 #[derive(Drop)]
 pub(crate) struct Written {
-    pub(crate) basis: Basis,
+    pub(crate) basis: PositionFootprint,
     pub(crate) depth: u16,
 }
 

@@ -3,8 +3,8 @@ use Rattle.std.specs.Prelude.{◌≡◌}
 use Rattle.tt_search.specs.Searched.{Searched, StepOf}
 use Rattle.tt_search.specs.RunEnds.{RanTo}
 use Rattle.tt_search.specs.declared.limits.Step.{Step}
-use Rattle.tt_search.specs.declared.walk.Stop.{Stop}
-use Rattle.tt_search.specs.declared.walk.Stop.TheVariants.{OneStep}
+use Rattle.tt_search.specs.declared.descent.Stop.{Stop}
+use Rattle.tt_search.specs.declared.descent.Stop.TheVariants.{OneStep}
 
 -- growths lead to a search, and a step of that one is the last; where it stops after one step it is the only one
 pub record IsAdvanced (stop : Stop) (old : Searched) (step : Step) (new : Searched) : Type 0 where

@@ -11,8 +11,8 @@ use Rattle.tt_search.specs.declared.tree.edges.Edge.{Edge}
 use Rattle.tt_search.specs.declared.tree.edges.EdgeState.TheVariants as edge_state
 use Rattle.tt_search.specs.declared.limits.Step.{Step}
 use Rattle.tt_search.specs.declared.tree.children.ChildNodes.{ChildNodes}
-use Rattle.tt_search.specs.declared.walk.Stop.{Stop}
-use Rattle.tt_search.specs.declared.walk.Walk.{Walk}
+use Rattle.tt_search.specs.declared.descent.Stop.{Stop}
+use Rattle.tt_search.specs.declared.descent.Descent.{Descent}
 
 -- the child at the index is there, and nothing is known of it
 abbrev pub IsFreshAt : ℕ → List Edge → Type 0
@@ -26,7 +26,7 @@ pub record IsPut (index : ℕ) (old : ChildNodes) (tree : PartialTree) (new : Ch
   pub trees : edge_trees new.edges new.grown.items ≡ slice_set (edge_trees old.edges old.grown.items) index tree
 
 -- the fresh child at the index takes its first step
-abbrev pub FirstStepAt : Walk → ℕ → ChildNodes → Step → ChildNodes → Walk → Type 0
+abbrev pub FirstStepAt : Descent → ℕ → ChildNodes → Step → ChildNodes → Descent → Type 0
 FirstStepAt walk index old step new after =
     (tree : PartialTree) × Taken (stand_of walk) (stage fresh walk.left) step tree × IsLeft step walk.left after.left × IsPut index old tree new
 
@@ -36,9 +36,9 @@ StepsBelowAt stop at index old left step new left_after =
     (tree : PartialTree) × AreStepsAt stop at (stage (child_of old index) left) step (stage tree left_after) × IsPut index old tree new
 
 -- the child at the index takes the steps of a walk that stands there
-abbrev pub StepsBelow : Stop → Walk → ℕ → ChildNodes → Step → ChildNodes → Walk → Type 0
+abbrev pub StepsBelow : Stop → Descent → ℕ → ChildNodes → Step → ChildNodes → Descent → Type 0
 StepsBelow stop walk index old step new after = StepsBelowAt stop (stand_of walk) index old walk.left step new after.left
 
 -- the best child takes the steps of a walk that stands there
-abbrev pub BestSteps : Stop → Walk → Choices → Step → Choices → Walk → Type 0
+abbrev pub BestSteps : Stop → Descent → Choices → Step → Choices → Descent → Type 0
 BestSteps stop walk old step new after = (tree : PartialTree) × AreSteps stop walk (best_child old) step tree after × (new ≡ with_best old tree)

@@ -7,9 +7,9 @@ use Rattle.tt_search.specs.Growing.{IsExpansion, IsClosing}
 use Rattle.tt_search.specs.inside.Walking.{Stand, Stage, stage, stand_of}
 use Rattle.tt_search.specs.inside.Taken.{Taken, IsLeft}
 use Rattle.tt_search.specs.declared.limits.Step.{Step}
-use Rattle.tt_search.specs.declared.walk.Stop.{Stop}
-use Rattle.tt_search.specs.declared.walk.Stop.TheVariants.{OneStep}
-use Rattle.tt_search.specs.declared.walk.Walk.{Walk}
+use Rattle.tt_search.specs.declared.descent.Stop.{Stop}
+use Rattle.tt_search.specs.declared.descent.Stop.TheVariants.{OneStep}
+use Rattle.tt_search.specs.declared.descent.Descent.{Descent}
 
 -- the trees have the same proof number and the same disproof number
 abbrev pub HaveSameNumbers : PartialTree → PartialTree → Type 0
@@ -36,5 +36,5 @@ pub record AreStepsAt (stop : Stop) (at : Stand) (old : Stage) (step : Step) (ne
   pub counted : IsLeft step before.left new.left
 
 -- the steps of a walk at a tree
-abbrev pub AreSteps : Stop → Walk → PartialTree → Step → PartialTree → Walk → Type 0
+abbrev pub AreSteps : Stop → Descent → PartialTree → Step → PartialTree → Descent → Type 0
 AreSteps stop walk old step new after = AreStepsAt stop (stand_of walk) (stage old walk.left) step (stage new after.left)

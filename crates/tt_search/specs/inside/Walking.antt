@@ -8,7 +8,7 @@ use Rattle.tt_search.specs.PartialTree.{PartialTree}
 use Rattle.tt_search.specs.Numbers.{IsUndecided}
 use Rattle.tt_search.specs.Growing.{IsPartialTree}
 use Rattle.tt_search.specs.inside.Within.{StaysWithin}
-use Rattle.tt_search.specs.declared.walk.Walk.{Walk}
+use Rattle.tt_search.specs.declared.descent.Descent.{Descent}
 
 -- a state of a frame, with room for so many turns
 pub record Stand : Type 0 where
@@ -28,7 +28,7 @@ abbrev pub stand : LineWithUndo → ℕ → Stand
 stand line room = record { frame = line.frame; state = line.state; room = room }
 
 -- where a walk stands
-abbrev pub stand_of : Walk → Stand
+abbrev pub stand_of : Descent → Stand
 stand_of walk = stand walk.line walk.room
 
 -- where a turn leads
@@ -42,7 +42,7 @@ pub record MayGrow (at : Stand) (tree : PartialTree) : Type 0 where
   pub stays : StaysWithin at.frame.size at.room tree
 
 -- the walk has gone down by the turn
-pub record IsDown (t : Turn) (old new : Walk) : Type 0 where
+pub record IsDown (t : Turn) (old new : Descent) : Type 0 where
   pub line : IsPushed old.line new.line t
   pub room : new.room ≡ old.room - 1
   pub left : new.left ≡ old.left

@@ -6,7 +6,7 @@ ghost use Rattle.tt_proof.specs.Footprints.{FitsAt};
 ghost use Rattle.tt_proof.specs.Strategy.{depth};
 ghost use Rattle.tt_search.specs.Usable.{IsUsable};
 
-use crate::store::{BothSides, Store};
+use crate::store::{ProofPerSide, Store};
 use std::sync::Arc;
 use tt_game::Line;
 use tt_proof::Proof;
@@ -69,6 +69,6 @@ pub fn usable<S: Store>(
     ensures may { IfOk result (λ o. IfSome o (λ _. S.may_answer)) }
     ensures kept { S.kept store.new ≡ S.kept store.old }
 {
-    let BothSides { attacker, defender } = store.find_both(line)?;
+    let ProofPerSide { attacker, defender } = store.find_both(line)?;
     first_usable(line, room, attacker, defender)
 }

@@ -9,7 +9,7 @@ ghost use Rattle.tt_search.specs.KeyIndex.{proof_at};
 ghost use Rattle.tt_search.specs.declared.store.Kept.TheVariants.{Stored, Full};
 
 use crate::store::key_index::{KeyIndex, ProofRow};
-use crate::store::{BothSides, Kept, Store};
+use crate::store::{Kept, ProofPerSide, Store};
 use std::alloc::Global;
 use std::marker::Model;
 use std::sync::Arc;
@@ -127,7 +127,7 @@ impl Store for PrivateStore {
         handle_at(&self.proofs, self.index.newest(line, s, &self.proofs))
     }
 
-    fn find_both(&mut self, line: &Line) -> Result<BothSides, NoMemory>
+    fn find_both(&mut self, line: &Line) -> Result<ProofPerSide, NoMemory>
         ensures newest_attacker { IfOk result (λ a. IsNewest line.now Attacker self.old.proofs (option_map (λ p. p.value) a.attacker)) }
         ensures newest_defender { IfOk result (λ a. IsNewest line.now Defender self.old.proofs (option_map (λ p. p.value) a.defender)) }
         ensures attacker { IfOk result (λ a. IfSome a.attacker (λ p. HasKeyAndSide line.now Attacker p.value)) }
@@ -141,7 +141,7 @@ impl Store for PrivateStore {
         let (attacker, defender) = self.index.newest_both(line, &self.proofs);
         let attacker = handle_at(&self.proofs, attacker)?;
         let defender = handle_at(&self.proofs, defender)?;
-        Ok(BothSides { attacker, defender })
+        Ok(ProofPerSide { attacker, defender })
     }
 
     fn keep(&mut self, p: Arc<Proof>) -> Kept

@@ -21,9 +21,9 @@ fn moved_to(alloc: Global, line: &mut Line, found: &Proof) -> Result<Proof, NoMe
     ensures stands { IfOk result (λ p. StandsAt p line.old.frame line.old.state) }
     ensures tree { IfOk result (λ p. p.tree ≡ found.now.tree) }
 {
-    let plan = found.plan().try_clone()?;
+    let measured_tree = found.measured_tree().try_clone()?;
     let footprint = found.footprint_at(alloc, line)?;
-    Proof::winning_with(line, found.side(), plan, footprint)
+    Proof::winning_with(line, found.side(), measured_tree, footprint)
 }
 
 /// The answer that the store has for the line: a proof of the attacker, or else of the defender.

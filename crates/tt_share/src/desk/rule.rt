@@ -12,7 +12,7 @@ pub struct DeskSize {
 
 /// What a seat knows: how many of the desk's seats it stands for, the numbers that it drew and those that it got as grants,
 /// whether it raised the flag and whether it saw the flag. No value of it is made.
-pub struct Ghost {
+pub struct SeatKnowledge {
     pub parts: u64,
     pub numbers: LinkedList<u64>,
     pub grants: LinkedList<u64>,
@@ -23,7 +23,7 @@ pub struct Ghost {
 /// The rule of the desk.
 pub struct AtDesk;
 
-impl TableRule<(), Ghost, DeskSize> for AtDesk {
+impl TableRule<(), SeatKnowledge, DeskSize> for AtDesk {
     ghost use Rattle.tt_share.specs.Desk.{DeskHolds, whole_view};
 
     ghost holds = { DeskHolds };
@@ -34,7 +34,7 @@ impl TableRule<(), Ghost, DeskSize> for AtDesk {
 /// A number was drawn.
 pub struct Draw;
 
-impl Play<(), Ghost> for Draw {
+impl Play<(), SeatKnowledge> for Draw {
     ghost use Rattle.tt_share.specs.Desk.{Draws};
 
     ghost then = { λ step before found after. Draws before found after };
@@ -43,7 +43,7 @@ impl Play<(), Ghost> for Draw {
 /// A grant was asked for: the number says whether it was given.
 pub struct Grant;
 
-impl Play<(), Ghost> for Grant {
+impl Play<(), SeatKnowledge> for Grant {
     ghost use Rattle.tt_share.specs.Desk.{AsksForGrant};
 
     ghost then = { λ step before found after. AsksForGrant before found after };
@@ -52,7 +52,7 @@ impl Play<(), Ghost> for Grant {
 /// The flag was raised.
 pub struct Raise;
 
-impl Play<(), Ghost> for Raise {
+impl Play<(), SeatKnowledge> for Raise {
     ghost use Rattle.tt_share.specs.Desk.{Raises};
 
     ghost then = { λ step before found after. Raises before after };
@@ -61,7 +61,7 @@ impl Play<(), Ghost> for Raise {
 /// The flag was looked at.
 pub struct Sighting;
 
-impl Play<(), Ghost> for Sighting {
+impl Play<(), SeatKnowledge> for Sighting {
     ghost use Rattle.tt_share.specs.Desk.{Looks};
 
     ghost then = { λ step before found after. Looks before found after };
@@ -70,7 +70,7 @@ impl Play<(), Ghost> for Sighting {
 /// One seat is cut from a view that has made no step.
 pub struct Cut;
 
-impl Split<Ghost> for Cut {
+impl Split<SeatKnowledge> for Cut {
     ghost use Rattle.tt_share.specs.Desk.{fewer, handed_out_view};
 
     ghost left = { fewer };
@@ -81,7 +81,7 @@ impl Split<Ghost> for Cut {
 /// Two views are made one.
 pub struct Both;
 
-impl Join<Ghost> for Both {
+impl Join<SeatKnowledge> for Both {
     ghost use Rattle.tt_share.specs.Desk.{joined, no_seat_view};
 
     ghost both = { joined };

@@ -13,7 +13,7 @@ use std::marker::Model;
 use std::sync::{Arc, Wait};
 use tt_game::{Line, Side};
 use tt_proof::Proof;
-use tt_search::{BothSides, Kept, Store};
+use tt_search::{Kept, ProofPerSide, Store};
 use tt_sgf::NoMemory;
 
 /// A store that keeps proofs in a log, and answers those of a view of it: up to 4,096 proofs may be kept through it, and
@@ -85,7 +85,7 @@ impl<'a, R: Wait> Store for LogStore<'a, R> {
         self.view.find(line, s)
     }
 
-    fn find_both(&mut self, line: &Line) -> Result<BothSides, NoMemory>
+    fn find_both(&mut self, line: &Line) -> Result<ProofPerSide, NoMemory>
         ensures attacker { IfOk result (λ b. IfSome b.attacker (λ p. HasKeyAndSide line.now Attacker p.value)) }
         ensures defender { IfOk result (λ b. IfSome b.defender (λ p. HasKeyAndSide line.now Defender p.value)) }
         ensures may_attacker { IfOk result (λ b. IfSome b.attacker (λ _. Unit {0})) }

@@ -16,7 +16,7 @@ use std::marker::Model;
 use std::sync::{Arc, Wait};
 use tt_game::{Line, Side};
 use tt_proof::Proof;
-use tt_search::{BothSides, Kept};
+use tt_search::{Kept, ProofPerSide};
 use tt_sgf::NoMemory;
 
 /// What one store has taken in of a log: tokens, the oldest first, and how many proofs were kept through it. It takes 24
@@ -184,7 +184,7 @@ impl<'a> View<'a> {
     }
 
     /// What `find` answers for both sides, from the same tokens.
-    pub fn find_both(&mut self, line: &Line) -> Result<BothSides, NoMemory>
+    pub fn find_both(&mut self, line: &Line) -> Result<ProofPerSide, NoMemory>
         ensures log { self.new.log ≡ self.old.log }
         ensures kept { self.new.kept ≡ self.old.kept }
         ensures tokens { Extends self.old.tokens self.new.tokens }
@@ -198,7 +198,7 @@ impl<'a> View<'a> {
         let (attacker, defender) = self.taken.newest_both(line);
         let attacker = handle_of(attacker)?;
         let defender = handle_of(defender)?;
-        Ok(BothSides { attacker, defender })
+        Ok(ProofPerSide { attacker, defender })
     }
 }
 

@@ -8,7 +8,7 @@ use std::test::Fail;
 use std::thread;
 use std::thread::Threads;
 use tt_game::{Line, Turn};
-use tt_search::BothSides;
+use tt_search::ProofPerSide;
 use tt_share::{CertLog, Gate, NoGate, View};
 
 /// A lone white stone, which lives: three turns, and none wins.
@@ -243,7 +243,7 @@ struct Looking<'a> {
 
 /// Whether a view has a proof of the line's key.
 fn has_any(view: &mut View<'_>, line: &Line) -> Option<bool> {
-    let BothSides { attacker, defender } = view.find_both(line).ok()?;
+    let ProofPerSide { attacker, defender } = view.find_both(line).ok()?;
     Some(attacker.is_some() || defender.is_some())
 }
 

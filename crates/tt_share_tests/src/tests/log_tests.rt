@@ -8,7 +8,7 @@ use std::thread;
 use std::thread::Threads;
 use tt_game::{Line, Side};
 use tt_proof::Proof;
-use tt_search::{BothSides, Free, Kept, Limits, PrivateStore, Search, Step, Store};
+use tt_search::{Free, Kept, Limits, PrivateStore, ProofPerSide, Search, Step, Store};
 use tt_share::{CertLog, LockedStore, LogStore, Table, View};
 
 /// The colouring of the first problem reached by moves, so that Black may not repeat the board before.
@@ -184,7 +184,7 @@ fn keeps<R: Wait>(rt: &R, alloc: Global, view: &mut View<'_>, number: u32) -> Re
 
 /// Whether a view answers the attacker's proof, and none of the defender, when it is asked for both at once.
 fn has_one_side(view: &mut View<'_>, line: &Line) -> Result<bool, Fail> {
-    let BothSides { attacker, defender } = view.find_both(line)?;
+    let ProofPerSide { attacker, defender } = view.find_both(line)?;
     Ok(attacker.is_some() && defender.is_none())
 }
 

@@ -10,7 +10,7 @@ use std::test::Fail;
 use std::thread::Threads;
 use tt_game::Line;
 use tt_proof::Proof;
-use tt_search::{BothSides, Kept};
+use tt_search::{Kept, ProofPerSide};
 use tt_share::{CertLog, Gate, View};
 
 /// A line of a table: a problem, what it is solved with, a problem whose proof is put into the log before, the answers of
@@ -96,7 +96,7 @@ fn stands(found: &Option<Arc<Proof>>, line: &Line) -> bool {
 
 /// Whether a view finds a proof for one side alone, and it stands at the line.
 fn finds_one(view: &mut View<'_>, line: &Line) -> Result<bool, Fail> {
-    let BothSides { attacker, defender } = view.find_both(line)?;
+    let ProofPerSide { attacker, defender } = view.find_both(line)?;
     let one = attacker.is_some() != defender.is_some();
     Ok(one && (stands(&attacker, line) || stands(&defender, line)))
 }

@@ -4,8 +4,8 @@ use Rattle.std.proofs.Math.ListN.{drop_of_length-le}
 use Rattle.tt_game.specs.Line.{LineWithUndo}
 use Rattle.tt_sgf.specs.declared.size.Size.{Size}
 use Rattle.tt_game.specs.declared.turns.Turn.{Turn}
-use Rattle.tt_proof.specs.declared.basis.Basis.{Basis}
-use Rattle.tt_proof.specs.declared.outline_replay.Found.TheVariants.{Won, Unfit}
+use Rattle.tt_proof.specs.declared.position_footprint.PositionFootprint.{PositionFootprint}
+use Rattle.tt_proof.specs.declared.outline_replay.ReplayResult.TheVariants.{Won, Unfit}
 use Rattle.tt_proof.specs.Strategy.{number_on}
 use Rattle.tt_proof.specs.Outlines.{Outline, Branches, branch, branches_of_list, outline_of, AreOrderly}
 use Rattle.tt_proof.specs.SharedParts.{FindsOutline, IsFoundBefore, IsFoundOfName, IsFoundOfReply, RestsBeforePick, RestsBeforeReply, RestsOnPosition}
@@ -29,13 +29,13 @@ replay_outline-returns-in-Some-clause-found t c =
     let stands : c.in-Some.name.now ≡ get_or ns k c.in-Some.name.now = search rules in
     rw (c.in-Part.is, outline_of_part)
     (if_ok c.found_of_part.result _ _
-    (λ r g. (subst (λ (n : Option Basis). IsFoundOfName f n at r) (stands ∙ any_other ns k c.in-Some.name.now None within) g, refl)) c.found_of_part.ensures)
+    (λ r g. (subst (λ (n : Option PositionFootprint). IsFoundOfName f n at r) (stands ∙ any_other ns k c.in-Some.name.now None within) g, refl)) c.found_of_part.ensures)
 
 pub replay_outline-returns-in-None-clause-found : goal.replay_outline-returns-in-None-clause-found
 replay_outline-returns-in-None-clause-found t c =
     let ns = c.args.names.now.items in
     let past : length ns ≤ c.in-Part.k = search rules in
-    rw (c.in-Part.is, outline_of_part) (subst (λ (n : Option Basis). IsFoundOfName c.args.line.now.frame n c.args.line.now.state Unfit) (sym (none_past ns c.in-Part.k past)) (λ x e m. some_none x e), refl)
+    rw (c.in-Part.is, outline_of_part) (subst (λ (n : Option PositionFootprint). IsFoundOfName c.args.line.now.frame n c.args.line.now.state Unfit) (sym (none_past ns c.in-Part.k past)) (λ x e m. some_none x e), refl)
 
 pub replay_outline-returns-in_ok-put_name-in-Pick-clause-found : goal.replay_outline-returns-in_ok-put_name-in-Pick-clause-found
 replay_outline-returns-in_ok-put_name-in-Pick-clause-found t c =

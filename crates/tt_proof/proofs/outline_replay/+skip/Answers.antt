@@ -1,7 +1,7 @@
 use Rattle.std.proofs.Common.{rules, ◌≡◌, ◌∙◌, ◌<◌, ◌≤◌, ◌+◌, ◌∷◌, sym, ap, refl, subst, drop, get_or, length, drop-cons, add-one, None}
 use Rattle.std.proofs.Math.ListN.{drop_of_length-le}
 use Rattle.tt_proof.specs.Outlines.{branches_of_list}
-use Rattle.tt_proof.specs.SharedParts.{Bases, unreached_all, with_basis}
+use Rattle.tt_proof.specs.SharedParts.{NamedFootprints, unreached_all, with_named_footprint}
 use Rattle.tt_proof.proofs.ResultLemmas.{on_ok}
 use Rattle.tt_proof.proofs.OutlineLemmas.{outline_of_done, outline_of_pick, outline_of_reply, outline_of_part}
 use Rattle.tt_proof.proofs.OutlineReplayLemmas.{drop_none}
@@ -16,12 +16,12 @@ skip-returns-in-Part t c = rw (c.in-Part.is, outline_of_part) refl
 pub skip-returns-in_ok-skip-in-Pick : goal.skip-returns-in_ok-skip-in-Pick
 skip-returns-in_ok-skip-in-Pick t c =
     rw (c.in-Pick.is, outline_of_pick, ← c.deref.ensures)
-    (on_ok c.put_unreached.result _ _ (λ g. g ∙ ap (λ (ns : Bases). with_basis c.in-Pick.named None ns) c.in_ok-skip-in-Pick.ensures) c.put_unreached.ensures)
+    (on_ok c.put_unreached.result _ _ (λ g. g ∙ ap (λ (ns : NamedFootprints). with_named_footprint c.in-Pick.named None ns) c.in_ok-skip-in-Pick.ensures) c.put_unreached.ensures)
 
 pub skip-returns-in_ok-skip_each-in-Reply : goal.skip-returns-in_ok-skip_each-in-Reply
 skip-returns-in_ok-skip_each-in-Reply t c =
     rw (c.in-Reply.is, outline_of_reply, ← c.deref-in-Reply.ensures, ← c.deref-in-Reply-2.ensures.value)
-    (on_ok c.put_unreached-in-Reply.result _ _ (λ g. g ∙ ap (λ (ns : Bases). with_basis c.in-Reply.named None ns) c.in_ok-skip_each-in-Reply.ensures)
+    (on_ok c.put_unreached-in-Reply.result _ _ (λ g. g ∙ ap (λ (ns : NamedFootprints). with_named_footprint c.in-Reply.named None ns) c.in_ok-skip_each-in-Reply.ensures)
     c.put_unreached-in-Reply.ensures)
 
 pub skip_each-loop-child-init : goal.skip_each-loop-child-init
@@ -36,7 +36,7 @@ skip_each-loop-child-preserved t c =
     let is : item ≡ get_or list n item = search rules in
     let rest : drop n list ≡ item ∷ drop (n + 1) list =
     drop-cons list n item lt ∙ ap (λ m. get_or list n item ∷ drop m list) (sym (add-one n)) ∙ ap (λ e. e ∷ drop (n + 1) list) (sym is) in
-    ap (λ (ns : Bases). unreached_all ns (branches_of_list (drop (n + 1) list))) c.in_ok-skip.ensures
+    ap (λ (ns : NamedFootprints). unreached_all ns (branches_of_list (drop (n + 1) list))) c.in_ok-skip.ensures
     ∙ subst (λ xs. unreached_all c.loop-child.names.items (branches_of_list xs) ≡ unreached_all c.args.names.now.items (branches_of_list list)) rest c.loop-child.invariant
 
 pub skip_each-returns : goal.skip_each-returns

@@ -11,7 +11,7 @@ use Rattle.tt_search.specs.Growing.{IsPartialTree}
 use Rattle.tt_search.specs.inside.Walking.{stage, stand_of, MayGrow}
 use Rattle.tt_search.specs.inside.Steady.{AreStepsAt, AreSteps}
 use Rattle.tt_search.specs.declared.limits.Step.TheVariants.{Expanded, Closed}
-use Rattle.tt_search.specs.declared.walk.Walk.{Walk}
+use Rattle.tt_search.specs.declared.descent.Descent.{Descent}
 use Rattle.tt_search.proofs.ChildSteps.{fresh_here, fresh_child, not_won, rank_within_nodes, child_node, node_steps, one_step}
 use Rattle.tt_search.proofs.Steady.{last_round, next_round, round_falls, same_numbers, same_stand, steps_offerable}
 use Rattle.tt_search.proofs.Asking.{granted_more}
@@ -338,7 +338,7 @@ node::Node::round-returns-in-Some-clause-steps g t c =
     let after = c.descend-step.new.walk in
     let new = node_with (choices_of c.descend-step.new.focus.mover c.descend-step.new.self) in
     let steps = subst (λ (n : PartialTree). AreSteps c.args.stop walk n c.descend-step.result.0 new after) (sym (ap shape c.in-Expanded.is) ∙ c.self.view_is) c.descend-step.ensures.steps in
-    subst (λ (w : Walk). AreStepsAt c.args.stop (stand_of walk) (stage c.args.self.now walk.left) c.descend-step.result.0 (stage c.offer-walk.new.self w.left)) (sym c.offer-walk.ensures.walk)
+    subst (λ (w : Descent). AreStepsAt c.args.stop (stand_of walk) (stage c.args.self.now walk.left) c.descend-step.result.0 (stage c.offer-walk.new.self w.left)) (sym c.offer-walk.ensures.walk)
     (subst (λ (tree : PartialTree). AreStepsAt c.args.stop (stand_of walk) (stage c.args.self.now walk.left) c.descend-step.result.0 (stage tree after.left)) (sym c.offer-walk.ensures.same) steps)
 
 pub node::Node::round-returns-in_default-clause-steps : goal.node::Node::round-returns-in_default-clause-steps
@@ -382,7 +382,7 @@ node::Node::first_round-returns-in-Some-clause-steps g t c =
     let after = c.descend-step.new.walk in
     let new = node_with (choices_of c.descend-step.new.focus.mover c.descend-step.new.self) in
     let steps = subst (λ (n : PartialTree). AreSteps c.args.stop walk n c.descend-step.result.0 new after) (c.requires.same) c.descend-step.ensures.steps in
-    subst (λ (w : Walk). AreStepsAt c.args.stop (stand_of walk) (stage c.args.self.now walk.left) c.descend-step.result.0 (stage c.offer-walk.new.self w.left)) (sym c.offer-walk.ensures.walk)
+    subst (λ (w : Descent). AreStepsAt c.args.stop (stand_of walk) (stage c.args.self.now walk.left) c.descend-step.result.0 (stage c.offer-walk.new.self w.left)) (sym c.offer-walk.ensures.walk)
     (subst (λ (tree : PartialTree). AreStepsAt c.args.stop (stand_of walk) (stage c.args.self.now walk.left) c.descend-step.result.0 (stage tree after.left)) (sym c.offer-walk.ensures.same) steps)
 
 pub node::Node::first_round-returns-in_default-clause-steps : goal.node::Node::first_round-returns-in_default-clause-steps

@@ -1,7 +1,7 @@
 use Rattle.std.proofs.Common.{rules, ◌≡◌, ◌∷◌, ◌++◌, List, [], refl, sym, ap, ◌∙◌, subst, arith, append_assoc, Some}
 use Rattle.std.proofs.lemmas.List.Elements.{All-pop}
 use Rattle.tt_share.specs.Desk.{SeatState, joined}
-use Rattle.tt_share.specs.declared.desk.rule.Ghost.{Ghost}
+use Rattle.tt_share.specs.declared.desk.rule.SeatKnowledge.{SeatKnowledge}
 use Rattle.tt_share.specs.Seats.{SeatView}
 use Rattle.tt_share.specs.inside.Gathering.{Gathers}
 use Rattle.tt_share.proofs.DeskMoves.{joins}
@@ -14,7 +14,7 @@ loop-other-init c =
       seated = search rules;
       ours = c.requires.seats;
       some = let parts = ap (λ (m : SeatState). m.0.parts) me in omega arith;
-      taken = (c.args.last ∷ [], refl, subst (λ (v : Ghost). Gathers (c.args.last ∷ []) v) (sym (ap (λ (m : SeatState). m.0) me)) (gathers_first c.args.last));
+      taken = (c.args.last ∷ [], refl, subst (λ (v : SeatKnowledge). Gathers (c.args.last ∷ []) v) (sym (ap (λ (m : SeatState). m.0) me)) (gathers_first c.args.last));
     }
 
 pub join_seat-requires : goal.join_seat-requires
@@ -40,10 +40,10 @@ loop-other-preserved c =
     ap (λ (m : SeatState). m.0) after ∙ ap (λ (m : SeatState). joined c.loop-other.whole.me.0 m.0) me in record {
       seated = (c.join_seat.ensures.0 ∙ c.loop-other.invariant.seated.0, ap (λ (m : SeatState). m.1) after ∙ c.loop-other.invariant.seated.1);
       ours = both.0;
-      some = let parts = ap (λ (v : Ghost). v.parts) now in omega arith;
+      some = let parts = ap (λ (v : SeatKnowledge). v.parts) now in omega arith;
       taken = (
         other ∷ was.0,
         was.1 ∙ (ap (λ (l : List SeatView). l ++ was.0) c.in-Some.ensures.items ∙ append_assoc c.pop.new.self.items (other ∷ []) was.0),
-        subst (λ (v : Ghost). Gathers (other ∷ was.0) v) (sym now) (gathers_more other was.0 c.loop-other.whole.me.0 was.2),
+        subst (λ (v : SeatKnowledge). Gathers (other ∷ was.0) v) (sym now) (gathers_more other was.0 c.loop-other.whole.me.0 was.2),
       );
     }

@@ -4,7 +4,7 @@ use Rattle.tt_sgf.specs.declared.size.Size.{Size}
 use Rattle.tt_game.specs.GameHistory.{HasBeen, so_far}
 use Rattle.tt_game.specs.Games.{GameState, all_of}
 use Rattle.tt_game.specs.History.{repeats, repeats_is}
-use Rattle.tt_game.specs.BloomFilter.{MayHold, hash_of}
+use Rattle.tt_game.specs.BloomFilter.{MayHold, filter_index}
 use Rattle.tt_game.proofs.RecordLemmas.{been_is}
 use Rattle.tt_game.proofs.game.Game.has_been.Goals as goal
 
@@ -17,6 +17,6 @@ returns-then-not-has c =
     let size : i.history.size ≡ next.size = ap (λ (s : GameState). s.size) c.self.view_is ∙ sym c.requires.size in
     sym ((repeats_is (all_of c.args.self.now) next.points).2 (λ has.
     let here : HasBeen (so_far i.history) next.points = subst (λ (s : GameState). HasBeen (all_of s) next.points) (sym c.self.view_is) has in
-    let filter : MayHold i.filter (hash_of next.size next.points) =
-    subst (λ (g : Size). MayHold i.filter (hash_of g next.points)) size (c.self.invariant.filter next.points here) in
+    let filter : MayHold i.filter (filter_index next.size next.points) =
+    subst (λ (g : Size). MayHold i.filter (filter_index g next.points)) size (c.self.invariant.filter next.points here) in
     false≢true (sym c.if-not-has.true ∙ c.has.ensures.1 (subst (MayHold i.filter) (sym c.requires.hash) filter))))

@@ -7,7 +7,7 @@ use Rattle.tt_board.specs.Position.{Colouring}
 use Rattle.tt_board.specs.Reach.{entry_at}
 use Rattle.tt_game.specs.GameHistory.{so_far, colourings}
 use Rattle.tt_game.specs.Game.{history}
-use Rattle.tt_game.specs.BloomFilter.{hash_of}
+use Rattle.tt_game.specs.BloomFilter.{filter_index}
 use Rattle.tt_game.specs.inside.Undoing.{state_at}
 use Rattle.tt_game.specs.inside.Roots.{Rooted}
 use Rattle.tt_game.proofs.RootLemmas.{begins_long, rooted_here}
@@ -34,8 +34,8 @@ returns c = λ new has.
     ap (λ k. take k h) count ∙ rooted_here begun (state_at i.history i.to_move) _ c.self.invariant.rooted ∙ ap (λ (x : Rooted). colourings x.begun) (sym one) in
     let parts : Contains (take n h ++ drop n h) col = subst (λ x. Contains x col) (sym all ∙ sym (take-append-drop n h)) has in
     let stone : entry_at col p ≡ Some c.args.colour = get_or-set_same l.state.present p (Some c.args.colour) None (omega (arith, r.on_board, r.fits)) in
-    let hash : hash_of c.deref.result.now.frame.size col ≡ c.hash_with_stone.result =
-    ap (λ g. hash_of g col) size ∙ sym (c.hash_with_stone.ensures l.frame.size l.state.present r.fits r.on_board r.free r.sum) in
+    let hash : filter_index c.deref.result.now.frame.size col ≡ c.filter_index_with_stone.result =
+    ap (λ g. filter_index g col) size ∙ sym (c.filter_index_with_stone.ensures l.frame.size l.state.present r.fits r.on_board r.free r.sum) in
     elim (Contains-append_cases (take n h) (drop n h) col parts) [
       | inl early ↦ c.has_hash.ensures c.if-has_hash.false col hash (subst (λ x. Contains x col) begins early)
       | inr later ↦ false≢true (sym (ap not (c.has_stood.ensures col later stone)) ∙ new)

@@ -18,14 +18,14 @@ returns-then-not-all_in-clause-fits c =
     let i = c.self.inside in
     subst (λ (p : Proven). IsTrue false ↔ FitsAt p c.args.line.now.frame c.args.line.now.state) c.self.view_is
     (refused c.all_in.result _ _ c.if-not-all_in.true c.all_in.ensures
-    (fits_needs (record { frame = i.snapshot.frame; state = i.snapshot.state; side = i.side; tree = i.plan }) _ _ i.footprint c.self.invariant.footprint))
+    (fits_needs (record { frame = i.snapshot.frame; state = i.snapshot.state; side = i.side; tree = i.measured_tree }) _ _ i.footprint c.self.invariant.footprint))
 
 pub returns-clause-fits : goal.returns-clause-fits
 returns-clause-fits c =
     let i = c.self.inside in
     let f = c.args.line.now.frame in
     let s = c.args.line.now.state in
-    let p : Proven = record { frame = i.snapshot.frame; state = i.snapshot.state; side = i.side; tree = i.plan } in
+    let p : Proven = record { frame = i.snapshot.frame; state = i.snapshot.state; side = i.side; tree = i.measured_tree } in
     subst (λ (q : Proven). IsTrue c.none_in.result ↔ FitsAt q f s) c.self.view_is (
       λ e. fits_yes p f s i.footprint c.self.invariant.footprint
           (c.is_position_of.ensures.0 c.if-not-is_position_of.false) (c.all_in.ensures.0 c.if-not-all_in.false) (c.none_in.ensures.0 e),

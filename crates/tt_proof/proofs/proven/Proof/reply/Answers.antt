@@ -35,17 +35,17 @@ loop-turn-preserved c =
     let child = c.in-Some.child in
     let left = subst (λ xs. AreChildren f s xs) c.in-Some.ensures.steps.0 c.loop-turn.invariant.left in
     let legal = subst (λ xs. (t : Turn) → IsIn (turns_of xs) t → IsLegal f s t) c.in-Some.ensures.steps.0 c.loop-turn.invariant.legal in
-    let behind = foot_moved _ f _ (after f s turn) _ _ left.0.stands.0 left.0.stands.1 c.into_parts-plan.ensures.footprint in
+    let behind = foot_moved _ f _ (after f s turn) _ _ left.0.stands.0 left.0.stands.1 c.into_parts-measured_tree.ensures.footprint in
     record {
       order =
           append_snoc c.loop-turn.yielded (turn, child) _
           ∙ ap (λ r. c.loop-turn.yielded ++ r) (sym c.in-Some.ensures.steps.0) ∙ c.loop-turn.invariant.order;
       same =
           c.in_ok-push.ensures.ok
-          ∙ ap (λ xs. xs ++ ((turn, c.into_parts-plan.result.0) ∷ [])) c.loop-turn.invariant.same
-          ∙ ap (λ y. trees_of c.loop-turn.yielded ++ ((turn, y) ∷ [])) c.into_parts-plan.ensures.plan
+          ∙ ap (λ xs. xs ++ ((turn, c.into_parts-measured_tree.result.0) ∷ [])) c.loop-turn.invariant.same
+          ∙ ap (λ y. trees_of c.loop-turn.yielded ++ ((turn, y) ∷ [])) c.into_parts-measured_tree.ensures.measured_tree
           ∙ sym (trees_of_push c.loop-turn.yielded (turn, child));
-      won = all_won_push c.loop-turn.yielded (turn, child) c.loop-turn.invariant.won c.into_parts-plan.ensures.wins;
+      won = all_won_push c.loop-turn.yielded (turn, child) c.loop-turn.invariant.won c.into_parts-measured_tree.ensures.wins;
       left = left.1;
       legal = λ t i. legal t (inr i);
       joined =
@@ -60,7 +60,7 @@ invariant_of-result c =
     let s = c.args.line.now.state in
     let rest = c.loop-turn.turn-iterator.rest in
     let all = at_end c.loop-turn.yielded rest.items _ c.loop-turn.invariant.order (omega (arith, rest.ok.0, c.in-None.ensures.steps.0)) in
-    let same = c.in_ok-plan.ensures ∙ ap (λ es. reply (entries_of es)) (c.loop-turn.invariant.same ∙ ap trees_of all) in
+    let same = c.in_ok-measured_tree.ensures ∙ ap (λ es. reply (entries_of es)) (c.loop-turn.invariant.same ∙ ap trees_of all) in
     rw same
     (record {
       won =
@@ -79,7 +79,7 @@ returns c =
     let all = at_end c.loop-turn.yielded left.items _ c.loop-turn.invariant.order (omega (arith, left.ok.0, c.in-None.ensures.steps.0)) in (
       (ap (λ (l : SnapshotState). l.frame) own, ap (λ (l : SnapshotState). l.state) own),
       c.opponent.ensures ∙ ap opponent c.to_move.ensures,
-      c.in_ok-plan.ensures ∙ ap (λ es. reply (entries_of es)) (c.loop-turn.invariant.same ∙ ap trees_of all),
+      c.in_ok-measured_tree.ensures ∙ ap (λ es. reply (entries_of es)) (c.loop-turn.invariant.same ∙ ap trees_of all),
     )
 
 pub loop-turn-init : goal.loop-turn-init

@@ -2,7 +2,7 @@ use Rattle.std.proofs.Common.{◌∙◌, sym, ap, subst, arith}
 use Rattle.tt_search.specs.Searched.{Searched}
 use Rattle.tt_search.specs.RunEnds.{RanTo, HasSpent}
 use Rattle.tt_search.specs.declared.limits.Limits.{Limits}
-use Rattle.tt_search.specs.declared.walk.Stop.TheVariants.{NumbersChange}
+use Rattle.tt_search.specs.declared.descent.Stop.TheVariants.{NumbersChange}
 use Rattle.tt_search.proofs.Advanced.{advanced_falls, advanced_reached, settled_reached, stuck_reached}
 use Rattle.tt_search.proofs.Asking.{kept_refused, settled_refused, spent_stuck}
 use Rattle.tt_search.proofs.search.Search.run.Goals as goal

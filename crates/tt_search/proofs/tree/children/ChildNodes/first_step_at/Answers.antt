@@ -3,7 +3,7 @@ use Rattle.std.proofs.lemmas.List.Edits.{get_or-insert_at}
 use Rattle.tt_search.specs.PartialTree.{fresh}
 use Rattle.tt_search.specs.inside.Edges.{edge_turn}
 use Rattle.tt_search.specs.inside.Descending.{Descends}
-use Rattle.tt_search.specs.declared.walk.Stop.TheVariants.{OneStep}
+use Rattle.tt_search.specs.declared.descent.Stop.TheVariants.{OneStep}
 use Rattle.tt_search.proofs.Indices.{fresh_there, rank_within, take_set}
 use Rattle.tt_search.proofs.ChildSteps.{stays_fresh, stays_for_memory, stands_inserted, gone_again, still_whole, put, put_whole}
 use Rattle.tt_search.proofs.tree.children.ChildNodes.first_step_at.Goals as goal
