@@ -99,13 +99,13 @@ pub(crate) fn hashes_of(hash: u64, mover: Colour, history: u64) -> Hashes {
     }
 }
 
-/// The sum of two numbers; infinity where one is infinite.
+/// The sum of two numbers; infinity where one is infinite, and only there.
 #[inline(always)]
 fn sum(one: u32, two: u32) -> u32 {
     if one >= INFINITE || two >= INFINITE {
         return INFINITE;
     }
-    one.saturating_add(two).min(INFINITE)
+    one.saturating_add(two).min(INFINITE - 1)
 }
 
 /// What the children say of a position.
