@@ -401,8 +401,8 @@ impl Finder {
         found
     }
 
-    /// Visits the best child until one of the position's numbers reaches its threshold. Nothing is known of the position where the
-    /// search ended before all its turns were listed.
+    /// Visits the best child until one of the position's numbers reaches its threshold: each time a visit is spent, or the search
+    /// ends. Nothing is known of the position where it ended before all its turns were listed.
     #[cycle(descent)]
     fn expand(
         &mut self,
@@ -419,7 +419,7 @@ impl Finder {
             return UNKNOWN;
         }
         let start = visits.left;
-        for _ in 0..u64::MAX {
+        for _ in 0..=start {
             let choice = choice_of(list.as_slice());
             let numbers = choice.numbers;
             let k = match choice.best {
