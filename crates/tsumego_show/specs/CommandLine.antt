@@ -71,8 +71,8 @@ marks_by (w ∷ []) = marks_in (place_of w)
 marks_by (w ∷ v ∷ ws) = None
 
 -- how many turns deep variations go where no word says so
-abbrev pub usual_depth : ℕ
-usual_depth = 20
+abbrev pub default_depth : ℕ
+default_depth = 20
 
 abbrev pub variations_to : Option ℕ → Option Form
 variations_to None = None
@@ -80,7 +80,7 @@ variations_to (Some n) = if nat_le 1 n && nat_le n MOST_DEPTH then Some (Variati
 
 -- behind `--sgf`
 abbrev pub variations_by : List (List ℕ) → Option Form
-variations_by [] = Some (Variations usual_depth)
+variations_by [] = Some (Variations default_depth)
 variations_by (w ∷ []) = None
 variations_by (w ∷ v ∷ []) = if pointwise ◌==◌ w (codes "--depth") then variations_to (number_of v) else None
 variations_by (w ∷ v ∷ u ∷ ws) = None

@@ -70,7 +70,7 @@ Forces f side (suc n) s =
     (winner_of f s ≡ Some side) ⊎ ((winner_of f s ≡ None) × (((s.to_move ≡ side) × ((t : Turn) × IsLegal f s t × Forces f side n (after f s t)))
     ⊎ ((s.to_move ≡ opponent side) × ((t : Turn) → IsLegal f s t → Forces f side n (after f s t)))))
 
--- what a problem comes to
+-- the game-theoretic value of a problem
 pub data Value : Type 0 where
   killed : Value
   lives : Value

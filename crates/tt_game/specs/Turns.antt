@@ -54,17 +54,17 @@ unfoldable pub legal_turns : Frame → State → List Turn
 legal_turns f s = filter (is_legal f s) (all_turns f)
 
 -- a turn, and who has won after it
-pub record Successor : Type 0 where
+pub record TurnWithWinner : Type 0 where
   pub turn : Turn
   pub winner : Option Side
 
 -- those of a state's turn
-abbrev pub successor : Frame → State → Turn → Successor
-successor f s t = record { turn = t; winner = winner_of f (after f s t) }
+abbrev pub turn_with_winner : Frame → State → Turn → TurnWithWinner
+turn_with_winner f s t = record { turn = t; winner = winner_of f (after f s t) }
 
 -- the legal turns, each with who has won after it
-unfoldable pub successors_of : Frame → State → List Successor
-successors_of f s = map (successor f s) (legal_turns f s)
+unfoldable pub turns_with_winners : Frame → State → List TurnWithWinner
+turns_with_winners f s = map (turn_with_winner f s) (legal_turns f s)
 
 -- the plays of a state on the points from a number on
 pub record PlaysFrom : Type 0 where
@@ -73,5 +73,5 @@ pub record PlaysFrom : Type 0 where
   pub from : ℕ
 
 -- those of them whose number is at least n: of the plays on the points from n on, and of the pass
-unfoldable pub successors_from : Frame → State → ℕ → List Successor
-successors_from f s n = map (successor f s) (filter (is_legal f s) (map (λ p. Play p) (range_with_len n (point_count f.size - n)) ++ Pass ∷ []))
+unfoldable pub turns_with_winners_from : Frame → State → ℕ → List TurnWithWinner
+turns_with_winners_from f s n = map (turn_with_winner f s) (filter (is_legal f s) (map (λ p. Play p) (range_with_len n (point_count f.size - n)) ++ Pass ∷ []))

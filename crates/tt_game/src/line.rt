@@ -188,8 +188,8 @@ impl Line {
     }
 
     /// Whether the region has many points. Nothing goes by it but time.
-    pub(crate) fn has_many(&self) -> bool {
-        self.root.has_many()
+    pub(crate) fn has_large_region(&self) -> bool {
+        self.root.has_large_region()
     }
 
     /// The stones of a colour on all boards so far.

@@ -5,7 +5,7 @@ pub(crate) mod move_generator;
 ghost use Rattle.std.specs.Prelude.{◌≡◌, ◌+◌, ◌<◌, ◌≤◌, ◌∷◌, [], None, MatchOption};
 ghost use Rattle.tt_sgf.specs.Sizes.{point_count};
 ghost use Rattle.tt_game.specs.Game.{winner_of, after};
-ghost use Rattle.tt_game.specs.Turns.{successor, successors_from};
+ghost use Rattle.tt_game.specs.Turns.{turn_with_winner, turns_with_winners_from};
 ghost use Rattle.tt_game.specs.declared.turns.Turn.{Turn};
 
 use crate::frame::Side;
@@ -66,10 +66,10 @@ impl<'a> LegalPlays<'a> {
         ensures same { (self.new.frame ≡ self.old.frame) × (self.new.state ≡ self.old.state) }
         ensures inside { self.new.from ≤ point_count self.old.frame.size }
         ensures next { MatchOption result
-            (successors_from self.old.frame self.old.state self.old.from ≡ successor self.old.frame self.old.state Turn.Pass ∷ [])
+            (turns_with_winners_from self.old.frame self.old.state self.old.from ≡ turn_with_winner self.old.frame self.old.state Turn.Pass ∷ [])
             (λ x. (self.old.from ≤ x.0) × (x.0 < point_count self.old.frame.size) × (self.new.from ≡ x.0 + 1)
             × (x.1 ≡ winner_of self.old.frame (after self.old.frame self.old.state (Turn.Play x.0)))
-            × (successors_from self.old.frame self.old.state self.old.from ≡ successor self.old.frame self.old.state (Turn.Play x.0) ∷ successors_from self.old.frame self.old.state (x.0 + 1))) }
+            × (turns_with_winners_from self.old.frame self.old.state self.old.from ≡ turn_with_winner self.old.frame self.old.state (Turn.Play x.0) ∷ turns_with_winners_from self.old.frame self.old.state (x.0 + 1))) }
     {
         while let Some(p) = self.line.next_empty(&self.moves, self.from) {
             self.from = p.number() + 1;
@@ -97,6 +97,6 @@ impl<'a> LegalPlays<'a> {
 
     /// Whether the region has many points. Nothing goes by it but time.
     pub fn may_be_many(&self) -> bool {
-        self.line.has_many()
+        self.line.has_large_region()
     }
 }

@@ -15,7 +15,7 @@ use Rattle.tt_proof.specs.contracts.tree.Tree as Tree
 use Rattle.tt_proof.specs.contracts.tree.Tree.TheKnot as TreeKnot
 use Rattle.tt_proof.specs.contracts.measured_tree.MeasuredTree as MeasuredTree
 use Rattle.tt_proof.specs.contracts.measured_tree.MeasuredTree.TheInside as Planned
-use Rattle.tt_proof.specs.contracts.shared_boards.SharedBoards as SharedBoards
+use Rattle.tt_proof.specs.contracts.board_set.BoardSet as BoardSet
 use Rattle.tt_proof.specs.contracts.footprints.Footprint as Footprint
 use Rattle.tt_proof.specs.contracts.proven.Proof as Proof
 use Rattle.tt_proof.specs.contracts.proven.Proof.TheInside as Inside
@@ -56,10 +56,10 @@ pub measured_tree_sync : IsSync MeasuredTree.the_row
 measured_tree_sync = view_sync _ _ _ _ _ (declared_sync Planned.the_type (tree_sync, (as_row_sync u16-field (search sendable depth 20), (as_row_sync u64-field (search sendable depth 20), tt))))
 
 -- the boards of a footprint are held through handles
-pub boards_send : IsSend SharedBoards.the_row
+pub boards_send : IsSend BoardSet.the_row
 boards_send = search (sendable, crosses, board_send, board_sync) depth 40
 
-pub boards_sync : IsSync SharedBoards.the_row
+pub boards_sync : IsSync BoardSet.the_row
 boards_sync = search (sendable, crosses, board_send, board_sync) depth 40
 
 pub footprint_send : IsSend Footprint.the_row

@@ -12,8 +12,8 @@ ghost use Rattle.tt_proof.specs.KeptFootprints.{IsFootprint, IsBoardAfter, IsEnt
 ghost use Rattle.tt_proof.specs.inside.Collecting.{IsPassedUp, IsPlayed, IsMadeWithin};
 ghost use Rattle.tt_proof.specs.Bounds.{IsWider};
 
+use crate::board_set::BoardSet;
 use crate::bounds::{Bound, wider};
-use crate::shared_boards::SharedBoards;
 use crate::tree::Tree;
 use std::alloc::Global;
 use tt_board::Board;
@@ -24,8 +24,8 @@ use tt_sgf::{NoMemory, Point, PointSet};
 /// a turn of the other side makes lies within the bound `met`.
 #[derive(Drop)]
 pub struct Footprint {
-    pub needs: SharedBoards,
-    pub avoids: SharedBoards,
+    pub needs: BoardSet,
+    pub avoids: BoardSet,
     pub met: Option<Bound>,
 }
 
@@ -35,8 +35,8 @@ impl Footprint {
         ensures { (f : Frame) (s : State) → IsFootprint f s done result }
     {
         Footprint {
-            needs: SharedBoards::new(alloc),
-            avoids: SharedBoards::new(alloc),
+            needs: BoardSet::new(alloc),
+            avoids: BoardSet::new(alloc),
             met: None,
         }
     }
@@ -61,7 +61,7 @@ impl Footprint {
         let needs = repeats(alloc, line, legal)?;
         Ok(Footprint {
             needs,
-            avoids: SharedBoards::new(alloc),
+            avoids: BoardSet::new(alloc),
             met: None,
         })
     }
@@ -130,7 +130,7 @@ impl Footprint {
 }
 
 /// Of what the child of a turn needs, which led to the board, only that stays which it needs in its parent's history too.
-pub(crate) fn take_made(needs: &mut SharedBoards, turn: &Turn, board: &Board)
+pub(crate) fn take_made(needs: &mut BoardSet, turn: &Turn, board: &Board)
     ensures { (b : Position) → Contains needs.new b ↔ IsPassedUp turn.now board.now needs.old b }
 {
     match turn {
@@ -142,7 +142,7 @@ pub(crate) fn take_made(needs: &mut SharedBoards, turn: &Turn, board: &Board)
 /// Adds the board that a play made; a pass made none.
 pub(crate) fn put_played(
     alloc: Global,
-    avoids: &mut SharedBoards,
+    avoids: &mut BoardSet,
     turn: &Turn,
     board: &Board,
 ) -> Result<(), NoMemory>
@@ -183,7 +183,7 @@ fn repeated(line: &Line, legal: &PointSet, p: Point) -> Option<Board>
 /// Adds the board of the history that a play on the point would repeat.
 fn put_repeated(
     alloc: Global,
-    needs: &mut SharedBoards,
+    needs: &mut BoardSet,
     line: &Line,
     legal: &PointSet,
     p: Point,
@@ -201,14 +201,14 @@ fn put_repeated(
 }
 
 /// The boards of the history that plays on empty points of the region would repeat.
-fn repeats(alloc: Global, line: &Line, legal: &PointSet) -> Result<SharedBoards, NoMemory>
+fn repeats(alloc: Global, line: &Line, legal: &PointSet) -> Result<BoardSet, NoMemory>
     requires { AreLegalPlays line.now.frame line.now.state legal.now }
     ensures sized { IfOk result (λ needs. AreSized line.now.frame needs) }
     ensures exact { IfOk result (λ needs. (c : Colouring) → Contains needs (frame_board line.now.frame c)
         ↔ IsRepeated line.now.frame (history line.now.state) [] line.now.state c) }
 {
     let region = &line.frame().region;
-    let mut needs = SharedBoards::new(alloc);
+    let mut needs = BoardSet::new(alloc);
     let mut from = 0;
     while let Some(p) = region.least_from(from) {
         put_repeated(alloc, &mut needs, line, legal, p)?;

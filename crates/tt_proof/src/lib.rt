@@ -1,6 +1,7 @@
 //! Strategy trees, their exact replay, proofs that win with their footprints, and certificates. Their tests stand in `tt_tests`: `proof_tests`.
 #![tactic(auto)]
 
+mod board_set;
 mod bounds;
 mod building;
 mod certificate_read;
@@ -16,9 +17,9 @@ mod outlines;
 mod position_footprint;
 mod proven;
 mod replays;
-mod shared_boards;
 mod tree;
 
+pub use board_set::BoardSet;
 pub use bounds::{Bound, is_within};
 pub use certificate_read::{CertFault, read_cert};
 pub use certificate_write::{put_shown, put_turn, write_cert};
@@ -30,5 +31,4 @@ pub use outline_write::write_parts;
 pub use outlines::Outline;
 pub use proven::{Proof, Rejected};
 pub use replays::replay;
-pub use shared_boards::SharedBoards;
 pub use tree::{MOST_DEPTH, Tree};

@@ -4,8 +4,8 @@ ghost use Rattle.std.specs.Prelude.{◌≡◌, ◌↔◌, IfOk, IsTrue};
 ghost use Rattle.tt_proof.specs.KeptFootprints.{IsBoardAfter};
 ghost use Rattle.tt_proof.specs.SharedParts.{Meets, RestsOnPosition, RestsOnRepeats, RestsBeforePick, RestsBeforeReply, RestsOnBoth};
 
+use crate::board_set::BoardSet;
 use crate::footprints::{Footprint, put_played, take_made};
-use crate::shared_boards::SharedBoards;
 use std::alloc::Global;
 use tt_board::Board;
 use tt_game::{Line, Side, Turn};
@@ -17,8 +17,8 @@ pub(crate) struct PositionFootprint {
     board: Board,
     to_move: Side,
     passes: u8,
-    needs: SharedBoards,
-    avoids: SharedBoards,
+    needs: BoardSet,
+    avoids: BoardSet,
 }
 
 impl PositionFootprint {
@@ -30,8 +30,8 @@ impl PositionFootprint {
             board: line.present().copy(),
             to_move: line.to_move(),
             passes: line.passes(),
-            needs: SharedBoards::new(alloc),
-            avoids: SharedBoards::new(alloc),
+            needs: BoardSet::new(alloc),
+            avoids: BoardSet::new(alloc),
         }
     }
 

@@ -11,7 +11,9 @@ ghost use Rattle.tt_share.specs.Desk.{blank, view_of};
 ghost use Rattle.tt_share.specs.Seats.{seat_of, fresh, EndsOverdraw, Adds, Gains, granted_of, Closes};
 ghost use Rattle.tt_share.specs.inside.Gathering.{Gathers};
 
-use crate::desk::rule::{AtDesk, Both, Cut, DeskSize, Draw, Grant, Raise, SeatKnowledge, Sighting};
+use crate::desk::rule::{
+    AtDesk, DeskSize, Draw, Grant, Raise, SeatJoin, SeatKnowledge, SeatSplit, Sighting,
+};
 use atomic_table::Table;
 use std::alloc::Global;
 use std::marker::Model;
@@ -118,7 +120,7 @@ fn cut_all(
     ensures { result.items ≡ replicate seats (fresh table.now.shared.table_id) }
 {
     for _ in 1..seats {
-        let seat = table.shared.split_seat::<Cut>(&mut first);
+        let seat = table.shared.split_seat::<SeatSplit>(&mut first);
         all.push_reserved(Seat::blank(seat));
     }
     all.push_reserved(Seat::blank(first));
@@ -141,7 +143,7 @@ fn join_all(
     while let Some(other) = seats.pop() {
         table
             .shared
-            .join_seat::<Both>(&mut whole, other.into_inner());
+            .join_seat::<SeatJoin>(&mut whole, other.into_inner());
     }
     whole
 }

@@ -11,11 +11,11 @@ use crate::rows::{Table, cut, holding};
 use std::alloc::Global;
 use tt_board::Board;
 use tt_game::Line;
-use tt_proof::{Footprint, Proof, SharedBoards, footprint_of, read_cert};
+use tt_proof::{BoardSet, Footprint, Proof, footprint_of, read_cert};
 use tt_sgf::Size;
 
 /// Whether these boards are held, and no others.
-fn shows(kept: &SharedBoards, boards: &[Board]) -> bool {
+fn shows(kept: &BoardSet, boards: &[Board]) -> bool {
     for board in boards {
         if !kept.has(board) {
             return false;
@@ -25,7 +25,7 @@ fn shows(kept: &SharedBoards, boards: &[Board]) -> bool {
 }
 
 /// Whether the boards that the text draws are held, and no others.
-fn are_drawn(alloc: Global, kept: &SharedBoards, size: Size, text: &[u8]) -> Option<bool> {
+fn are_drawn(alloc: Global, kept: &BoardSet, size: Size, text: &[u8]) -> Option<bool> {
     let boards = boards_of(alloc, size, text)?;
     Some(shows(kept, &boards))
 }
@@ -45,7 +45,7 @@ fn is_of(
 }
 
 /// Whether some of these boards is held.
-fn has_any(kept: &SharedBoards, boards: &[Board]) -> bool {
+fn has_any(kept: &BoardSet, boards: &[Board]) -> bool {
     for board in boards {
         if kept.has(board) {
             return true;

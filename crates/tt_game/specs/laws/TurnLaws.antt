@@ -15,7 +15,7 @@ use Rattle.tt_game.specs.declared.turns.Turn.{Turn}
 use Rattle.tt_game.specs.declared.turns.TheConstants.{MOST_LEGAL}
 use Rattle.tt_game.specs.declared.turns.Turn.TheVariants.{Play, Pass}
 use Rattle.tt_game.specs.Game.{State, IsLegal}
-use Rattle.tt_game.specs.Turns.{IsOnBoard, number_on, turn_number, IsRising, plays, all_turns, is_legal, is_legal_is, legal_turns, successor, successors_of, successors_from}
+use Rattle.tt_game.specs.Turns.{IsOnBoard, number_on, turn_number, IsRising, plays, all_turns, is_legal, is_legal_is, legal_turns, turn_with_winner, turns_with_winners, turns_with_winners_from}
 
 -- what is in a list and passes a test is among those that pass
 contains_filter : {X : Type 0} (p : X → Bool) (xs : List X) (x : X) → Contains xs x → p x ≡ true → Contains (filter p xs) x
@@ -157,8 +157,8 @@ pub rises_from_0 : (f : Frame) (s : State) → RisesFrom f.size 0 (legal_turns f
 rises_from_0 f s = rises_on f s 0 (legal_turns f s) (are_legal f s) (rising-legal_turns f s) (λ h. omega arith)
 
 -- from the first number on the successors are all
-pub from_all : (f : Frame) (s : State) → successors_from f s 0 ≡ successors_of f s
-unfolding successors_from successors_of legal_turns all_turns
+pub from_all : (f : Frame) (s : State) → turns_with_winners_from f s 0 ≡ turns_with_winners f s
+unfolding turns_with_winners_from turns_with_winners legal_turns all_turns
 from_all f s =
     let e : point_count f.size - 0 ≡ point_count f.size = omega arith in
-    ap (λ k. map (successor f s) (filter (is_legal f s) (map (λ p. Play p) (range_with_len 0 k) ++ Pass ∷ []))) e
+    ap (λ k. map (turn_with_winner f s) (filter (is_legal f s) (map (λ p. Play p) (range_with_len 0 k) ++ Pass ∷ []))) e

@@ -135,7 +135,7 @@ impl Root {
     }
 
     /// Whether the region has many points. Nothing goes by it but time.
-    pub(crate) fn has_many(&self) -> bool {
+    pub(crate) fn has_large_region(&self) -> bool {
         self.many
     }
 

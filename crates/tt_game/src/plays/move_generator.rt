@@ -25,7 +25,7 @@ pub(crate) struct MoveGenerator {
 }
 
 /// Whether at least `MANY` bits are 1. Nothing goes by it but time.
-fn has_many(points: &Bits) -> bool {
+fn are_many(points: &Bits) -> bool {
     let mut wanted = u32::from(MANY);
     for word in points.words() {
         if word != 0 {
@@ -72,10 +72,10 @@ impl Line {
         ensures { (p : ℕ) → p < point_count self.now.frame.size → bit_in result.words p ≡ true
             → IsKind NoCapture self.now.frame.size self.now.state.present (side_colour self.now.frame self.now.state.to_move) p }
     {
-        if !self.has_many() {
+        if !self.has_large_region() {
             return Bits::none();
         }
-        if !has_many(empty) {
+        if !are_many(empty) {
             return Bits::none();
         }
         self.counted().no_capture_among(colour, empty)

@@ -68,9 +68,9 @@ impl Play<(), SeatKnowledge> for Sighting {
 }
 
 /// One seat is cut from a view that has made no step.
-pub struct Cut;
+pub struct SeatSplit;
 
-impl Split<SeatKnowledge> for Cut {
+impl Split<SeatKnowledge> for SeatSplit {
     ghost use Rattle.tt_share.specs.Desk.{fewer, handed_out_view};
 
     ghost left = { fewer };
@@ -79,9 +79,9 @@ impl Split<SeatKnowledge> for Cut {
 }
 
 /// Two views are made one.
-pub struct Both;
+pub struct SeatJoin;
 
-impl Join<SeatKnowledge> for Both {
+impl Join<SeatKnowledge> for SeatJoin {
     ghost use Rattle.tt_share.specs.Desk.{joined, no_seat_view};
 
     ghost both = { joined };

@@ -1,6 +1,6 @@
 use Rattle.std.proofs.Common.{rules, ◌≡◌, refl, ap, subst, ◌∙◌, length, arith}
 use Rattle.std.specs.Prelude.{IfSome}
-use Rattle.tt_game.specs.Turns.{successors_of}
+use Rattle.tt_game.specs.Turns.{turns_with_winners}
 use Rattle.tt_game.specs.laws.TurnLaws.{length-legal_turns}
 use Rattle.tt_search.specs.inside.Expanding.{AreNewEdges}
 use Rattle.tt_search.specs.inside.Untried.{plays_and_pass}
@@ -25,7 +25,7 @@ returns-in-Some c =
     let there : AreNewEdges c.legal_plays-plays.result.frame c.legal_plays-plays.result.state (plays_and_pass c.in-Some.found) =
     subst (λ o. IfSome o (λ found. AreNewEdges c.legal_plays-plays.result.frame c.legal_plays-plays.result.state (plays_and_pass found))) c.in-Some.is c.untried_plays.ensures.edges in
     let new : AreNewEdges f s (plays_and_pass c.in-Some.found) = rw (frame, state) at there in
-    c.untried_node.ensures ∙ expansion_of f s c.to_move.result (successors_of f s) _ _ c.to_move.ensures refl new.turns new.leaves
+    c.untried_node.ensures ∙ expansion_of f s c.to_move.result (turns_with_winners f s) _ _ c.to_move.ensures refl new.turns new.leaves
 
 pub returns : goal.returns
 returns c =
@@ -33,4 +33,4 @@ returns c =
     let frame : c.restart.new.self.frame ≡ f = search rules in
     let state : c.restart.new.self.state ≡ s = search rules in
     let new : AreNewEdges f s c.in_ok-edges.edges = rw (frame, state) at c.in_ok-edges.ensures in
-    c.expanded_node.ensures ∙ expansion_of f s c.to_move-2.result (successors_of f s) _ _ c.to_move-2.ensures refl new.turns new.leaves
+    c.expanded_node.ensures ∙ expansion_of f s c.to_move-2.result (turns_with_winners f s) _ _ c.to_move-2.ensures refl new.turns new.leaves

@@ -5,7 +5,7 @@ use Rattle.tt_search.specs.declared.tree.edges.Edge.{Edge}
 use Rattle.std.proofs.lemmas.List.{length_push}
 use Rattle.tt_sgf.specs.declared.size.TheConstants.{MOST_POINTS}
 use Rattle.tt_sgf.specs.laws.SizeLaws.{few_points}
-use Rattle.tt_game.specs.Turns.{Successor, successors_from}
+use Rattle.tt_game.specs.Turns.{TurnWithWinner, turns_with_winners_from}
 use Rattle.tt_game.specs.declared.turns.Turn.TheVariants.{Play}
 use Rattle.tt_search.specs.declared.tree.edges.EdgeState.TheVariants.{Fresh}
 use Rattle.tt_game.specs.laws.TurnLaws.{from_all}
@@ -23,8 +23,8 @@ loop-p-init c =
     record {
       frame = refl;
       state = refl;
-      turns = rw (from, c.new-found.ensures) (ap (map (λ (x : Successor). x.turn)) (from_all f s) ∙ turns_of-successors f s);
-      leaves = rw (from, c.new-found.ensures) (ap (map (λ (x : Successor). leaf_for x.winner)) (from_all f s));
+      turns = rw (from, c.new-found.ensures) (ap (map (λ (x : TurnWithWinner). x.turn)) (from_all f s) ∙ turns_of-successors f s);
+      leaves = rw (from, c.new-found.ensures) (ap (map (λ (x : TurnWithWinner). leaf_for x.winner)) (from_all f s));
       fresh = subst AreFresh (sym c.new-found.ensures) tt;
       below = subst (AreBelow c.args.plays.now.from) (sym c.new-found.ensures) tt;
       few = omega (arith, ap length c.new-found.ensures);

@@ -1,6 +1,6 @@
 use Rattle.std.proofs.Common.{◌≡◌, ◌++◌, None, map, subst, sym, ap, ◌∙◌, arith, length, Contains, ◌↔◌, List, rules}
 use Rattle.tt_game.specs.declared.turns.Turn.{Turn}
-use Rattle.tt_game.specs.Turns.{Successor, PlaysFrom, legal_turns, IsRising}
+use Rattle.tt_game.specs.Turns.{TurnWithWinner, PlaysFrom, legal_turns, IsRising}
 use Rattle.tt_game.specs.Game.{IsLegal, winner_of}
 use Rattle.tt_game.specs.laws.TurnLaws.{contains-legal_turns, rising-legal_turns, length-legal_turns, from_all}
 use Rattle.tt_game.proofs.TurnsLemmas.{turns_of, none_over, one_more}
@@ -10,7 +10,7 @@ pub returns-then-is_some : goal.returns-then-is_some
 returns-then-is_some c =
     let f = c.args.self.now.frame in let s = c.args.self.now.state in
     let won : winner_of f s ≡ None → ⊥ = search rules in
-    let list : c.new-turns.result.items ≡ legal_turns f s = c.new-turns.ensures ∙ ap (map (λ (x : Successor). x.turn)) (none_over f s won) ∙ turns_of f s in
+    let list : c.new-turns.result.items ≡ legal_turns f s = c.new-turns.ensures ∙ ap (map (λ (x : TurnWithWinner). x.turn)) (none_over f s won) ∙ turns_of f s in
     record {
       list = list;
       legal = λ t. subst (λ ts. Contains ts t ↔ IsLegal f s t) (sym list) (contains-legal_turns f s t);
@@ -25,7 +25,7 @@ loop-p-init c =
     record {
       frame = ap (λ (x : PlaysFrom). x.frame) c.legal_plays-plays.ensures;
       state = ap (λ (x : PlaysFrom). x.state) c.legal_plays-plays.ensures;
-      list = rw (from, c.new-turns.ensures) (ap (map (λ (x : Successor). x.turn)) (from_all f s) ∙ turns_of f s);
+      list = rw (from, c.new-turns.ensures) (ap (map (λ (x : TurnWithWinner). x.turn)) (from_all f s) ∙ turns_of f s);
       few = omega (arith, ap (λ (ts : List Turn). length ts) c.new-turns.ensures);
       inside = omega (arith, from);
     }
@@ -47,7 +47,7 @@ returns c =
     let f = c.args.self.now.frame in let s = c.args.self.now.state in let i = c.loop-p.invariant in
     let last = rw (i.frame, i.state) at c.in_default.ensures.next in
     let list : c.push-2.new.self.items ≡ legal_turns f s =
-    c.push-2.ensures.items ∙ ap (λ xs. c.loop-p.turns.items ++ map (λ (x : Successor). x.turn) xs) (sym last) ∙ i.list in
+    c.push-2.ensures.items ∙ ap (λ xs. c.loop-p.turns.items ++ map (λ (x : TurnWithWinner). x.turn) xs) (sym last) ∙ i.list in
     record {
       list = list;
       legal = λ t. subst (λ ts. Contains ts t ↔ IsLegal f s t) (sym list) (contains-legal_turns f s t);

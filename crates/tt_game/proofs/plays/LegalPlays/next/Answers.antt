@@ -1,6 +1,6 @@
 use Rattle.std.proofs.Common.{rules, ◌≡◌, ◌+◌, None, sym, ap, subst, ◌∙◌, arith}
 use Rattle.tt_game.specs.Game.{winner_of}
-use Rattle.tt_game.specs.Turns.{PlaysFrom, successors_from}
+use Rattle.tt_game.specs.Turns.{PlaysFrom, turns_with_winners_from}
 use Rattle.tt_game.proofs.TurnsLemmas.{from_more, from_skip, from_gap, from_last}
 use Rattle.tt_game.proofs.plays.LegalPlays.next.Goals as goal
 
@@ -11,7 +11,7 @@ returns-in-Some-winner_by_play-clause-next c =
     let state : c.loop-p.self-inside.line.now.state ≡ s = search rules in
     let found = rw (frame, state) at c.in-Some.ensures in
     let won = rw (frame, state) at c.in-Some-winner_by_play.ensures in
-    let here : successors_from f s c.args.self.now.from ≡ successors_from f s p = i.same ∙ from_gap f s c.loop-p.self-inside.from p found.1 (omega (arith, found.0)) found.2 in
+    let here : turns_with_winners_from f s c.args.self.now.from ≡ turns_with_winners_from f s p = i.same ∙ from_gap f s c.loop-p.self-inside.from p found.1 (omega (arith, found.0)) found.2 in
     (omega (arith, found.1, i.after), found.0, ap (λ n. n + 1) c.number.ensures.number, won.1, here ∙ from_more f s p won.0)
 
 pub loop-p-preserved : goal.loop-p-preserved
@@ -26,7 +26,7 @@ loop-p-preserved c =
     record {
       line = i.line;
       moves = i.moves;
-      same = i.same ∙ from_gap f s c.loop-p.self-inside.from p found.1 (omega (arith, found.0)) found.2 ∙ from_skip f s p found.0 refused ∙ ap (successors_from f s) step;
+      same = i.same ∙ from_gap f s c.loop-p.self-inside.from p found.1 (omega (arith, found.0)) found.2 ∙ from_skip f s p found.0 refused ∙ ap (turns_with_winners_from f s) step;
       after = omega (arith, found.1, is, i.after);
       inside = omega (arith, found.0, is);
     }

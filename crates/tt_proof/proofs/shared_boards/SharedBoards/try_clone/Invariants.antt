@@ -1,5 +1,0 @@
-use Rattle.std.proofs.Common.{◌≡◌, take}
-use Rattle.tt_proof.proofs.shared_boards.SharedBoards.try_clone.Given as goal
-
-abbrev pub invariant-loop-board : goal.invariant-loop-board
-invariant-loop-board l = l.boards.items ≡ take l.board-index l.self
