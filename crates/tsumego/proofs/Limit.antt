@@ -10,7 +10,7 @@ use Rattle.tt_sgf.specs.declared.nodes.Node.{Node}
 use Rattle.tt_text.specs.declared.finding.Finding.{Finding}
 use Rattle.tt_text.specs.Checking.{Finds, IsCheckText, first_tree, no_tree}
 use Rattle.tt_text.specs.Checking as find
-use Rattle.tsumego.specs.declared.task.Task.{Task}
+use Rattle.tsumego.specs.declared.task.TreeTask.{TreeTask}
 use Rattle.tsumego.specs.Tasks.{MakesOutcome}
 use Rattle.tt_text.specs.Trees.{AreOutcomes, BeginsTreesText, EarlierTreesText, IsTreesText, all_lines, all_read, before_more, no_line, nothing, some_lines, stopped, too_long}
 use Rattle.devices.specs.Watching.{IsInput}
@@ -73,7 +73,7 @@ module _ (parts : Bool) where
   check_whole input text status h = record { finding = h.finding; finds = found_whole input h.finding h.finds; line = h.line; status_is = h.status_is }
 
   -- what is written on the part up to the limit is written on the input
-  writes_whole : (t : Option Task) (input : List ℕ) (r : Result ℕ RunFault) (a b : Option (List ℕ)) → WritesFor parts t (take (MAX_BYTES + 1) input) r a b → WritesFor parts t input r a b
+  writes_whole : (t : Option TreeTask) (input : List ℕ) (r : Result ℕ RunFault) (a b : Option (List ℕ)) → WritesFor parts t (take (MAX_BYTES + 1) input) r a b → WritesFor parts t input r a b
   writes_whole (Some task) input (Ok status) a b w = (w.0, trees_whole (MakesOutcome task) input w.0 status w.1, w.2)
   writes_whole (Some task) input (Err Input) a b w = w
   writes_whole (Some task) input (Err Output) a b w = (w.0, w.1, trees_begun (MakesOutcome task) input w.0 w.2, w.3)
@@ -84,13 +84,13 @@ module _ (parts : Bool) where
   writes_whole None input (Err Memory) a b w = w
 
   -- what is written on what was read up to the limit is written on what the reader had to give
-  pub writes_read : (t : Option Task) (told : Option (List ℕ)) (bytes : List ℕ) (r : Result ℕ RunFault) (a b : Option (List ℕ)) → IsInput (MAX_BYTES + 1) told bytes
+  pub writes_read : (t : Option TreeTask) (told : Option (List ℕ)) (bytes : List ℕ) (r : Result ℕ RunFault) (a b : Option (List ℕ)) → IsInput (MAX_BYTES + 1) told bytes
       → WritesFor parts t bytes r a b → ForInput told (λ input. WritesFor parts t input r a b)
   writes_read t None bytes r a b e w = (bytes, w)
   writes_read t (Some input) bytes r a b e w = writes_whole t input r a b (subst (λ (x : List ℕ). WritesFor parts t x r a b) e w)
 
   -- where memory or the input failed, a run may have written nothing
-  nothing_written : (t : Option Task) (input : List ℕ) (e : RunFault) (a : Option (List ℕ)) → is_output_fault {A = ℕ} (Err e) ≡ false → WritesFor parts t input (Err e) a a
+  nothing_written : (t : Option TreeTask) (input : List ℕ) (e : RunFault) (a : Option (List ℕ)) → is_output_fault {A = ℕ} (Err e) ≡ false → WritesFor parts t input (Err e) a a
   nothing_written (Some task) input Input a quiet = Keeps-refl a
   nothing_written None input Input a quiet = Keeps-refl a
   nothing_written t input Output a quiet = let bad : true ≡ false = quiet in cc
@@ -98,7 +98,7 @@ module _ (parts : Bool) where
   nothing_written None input Memory a quiet = ([], refl, Appends-nil a)
 
   -- so it may for what the reader had to give
-  pub writes_nothing : (t : Option Task) (told : Option (List ℕ)) (e : RunFault) (a : Option (List ℕ)) → is_output_fault {A = ℕ} (Err e) ≡ false
+  pub writes_nothing : (t : Option TreeTask) (told : Option (List ℕ)) (e : RunFault) (a : Option (List ℕ)) → is_output_fault {A = ℕ} (Err e) ≡ false
       → ForInput told (λ input. WritesFor parts t input (Err e) a a)
   writes_nothing t None e a quiet = ([], nothing_written t [] e a quiet)
   writes_nothing t (Some input) e a quiet = nothing_written t input e a quiet

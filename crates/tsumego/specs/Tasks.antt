@@ -6,16 +6,16 @@ use Rattle.tt_text.specs.Scoring.{Scores}
 use Rattle.tt_text.specs.Solving.{Solves}
 use Rattle.tsumego.specs.declared.request.Command.{Command}
 use Rattle.tsumego.specs.declared.request.Command.TheVariants as commands
-use Rattle.tsumego.specs.declared.task.Task.{Task}
-use Rattle.tsumego.specs.declared.task.Task.TheVariants.{Score, Solve}
+use Rattle.tsumego.specs.declared.task.TreeTask.{TreeTask}
+use Rattle.tsumego.specs.declared.task.TreeTask.TheVariants.{Score, Solve}
 
 -- the outcomes that the task gives to a main line
-abbrev pub MakesOutcome : Task → List Node → Outcome → Type 0
+abbrev pub MakesOutcome : TreeTask → List Node → Outcome → Type 0
 MakesOutcome Score = Scores
 MakesOutcome (Solve options) = Solves options
 
 -- what the command does with each tree; `check` reads the first one alone
-abbrev pub task_of : Command → Option Task
+abbrev pub task_of : Command → Option TreeTask
 task_of commands.Score = Some Score
 task_of (commands.Check parts) = None
 task_of (commands.Solve options told) = Some (Solve options)

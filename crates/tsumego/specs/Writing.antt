@@ -4,14 +4,14 @@ use Rattle.std.specs.declared.result.Result.{Result}
 use Rattle.devices.specs.declared.fault.RunFault.{RunFault}
 use Rattle.devices.specs.Writing.{WritesOf}
 use Rattle.tsumego.specs.declared.request.Command.{Command}
-use Rattle.tsumego.specs.declared.task.Task.{Task}
+use Rattle.tsumego.specs.declared.task.TreeTask.{TreeTask}
 use Rattle.tt_text.specs.Checking.{IsCheckText}
 use Rattle.tsumego.specs.Tasks.{MakesOutcome, shares_parts, task_of}
 use Rattle.tt_text.specs.Trees.{BeginsTreesText, EarlierTreesText, IsTreesText}
 
 -- an answer to the input, or a beginning of one; and where memory was refused the whole lines on earlier trees alone. The flag says
 -- that a certificate may share parts.
-abbrev pub WritesFor : Bool → Option Task → List ℕ → Result ℕ RunFault → Option (List ℕ) → Option (List ℕ) → Type 0
+abbrev pub WritesFor : Bool → Option TreeTask → List ℕ → Result ℕ RunFault → Option (List ℕ) → Option (List ℕ) → Type 0
 WritesFor parts (Some task) input = WritesOf (IsTreesText (MakesOutcome task) input) (BeginsTreesText (MakesOutcome task) input)
     (EarlierTreesText (MakesOutcome task) input)
 WritesFor parts None input =

@@ -10,7 +10,7 @@ ghost use Rattle.tsumego.specs.Writing.{Writes, WritesFor};
 
 use crate::progress::Progress;
 use crate::request::Command;
-use crate::task::Task;
+use crate::task::TreeTask;
 use devices::{RunFault, Watched, read_input, write_bytes};
 use std::alloc::Global;
 use std::io::{Eprint, Read, Write};
@@ -44,7 +44,7 @@ fn write_line<W: Write>(
 fn answer_tree<X: Threads + Wait + Eprint + Sync, W: Write>(
     rt: &X,
     alloc: Global,
-    task: &Task,
+    task: &TreeTask,
     told: bool,
     number: usize,
     main: &MainLine,
@@ -89,7 +89,7 @@ fn refuse<W: Write>(
 fn answer_trees<X: Threads + Wait + Eprint + Sync, W: Write>(
     rt: &X,
     alloc: Global,
-    task: &Task,
+    task: &TreeTask,
     told: bool,
     input: &[u8],
     writer: &mut Watched<W>,
@@ -150,13 +150,13 @@ fn answer_certificate<W: Write>(
 }
 
 /// What a command does with each tree, where it goes tree by tree.
-fn task_of(command: &Command) -> Option<Task>
+fn task_of(command: &Command) -> Option<TreeTask>
     ensures { result ≡ task_of command.now }
 {
     match command {
-        Command::Score => Some(Task::Score),
+        Command::Score => Some(TreeTask::Score),
         Command::Check(_) => None,
-        Command::Solve(options, _) => Some(Task::Solve(*options)),
+        Command::Solve(options, _) => Some(TreeTask::Solve(*options)),
     }
 }
 

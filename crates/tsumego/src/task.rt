@@ -11,12 +11,12 @@ use tt_text::{Options, Outcome, score, solve};
 
 /// What is done with each tree of an input: it is scored as a record or solved as a problem.
 #[derive(Clone, Copy, Debug)]
-pub enum Task {
+pub enum TreeTask {
     Score,
     Solve(Options),
 }
 
-impl Task {
+impl TreeTask {
     /// What becomes of a tree, whose text has so many bytes. The gate is told of a problem's first turns.
     pub fn outcome<X: Threads + Wait + Sync, G: Gate>(
         &self,
@@ -29,8 +29,8 @@ impl Task {
         ensures { IfOk result (MakesOutcome self.now main.now.nodes) }
     {
         match self {
-            Task::Score => score(alloc, main),
-            Task::Solve(options) => solve(rt, alloc, main, *options, bytes, gate),
+            TreeTask::Score => score(alloc, main),
+            TreeTask::Solve(options) => solve(rt, alloc, main, *options, bytes, gate),
         }
     }
 }

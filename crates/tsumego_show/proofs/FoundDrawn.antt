@@ -8,7 +8,7 @@ use Rattle.tt_game.specs.declared.turns.Turn.{Turn}
 use Rattle.tsumego_show.specs.Diagram.{IsNumbered, svg_text}
 use Rattle.tsumego_show.specs.Found.{Found, StandsBehind}
 use Rattle.tsumego_show.specs.declared.form.Place.{Place}
-use Rattle.tsumego_show.specs.Shown.{IsDiagram, IsProblemText, several_line, without_strategy}
+use Rattle.tsumego_show.specs.Shown.{IsDiagram, IsProblemText, one_of_several_line, without_strategy}
 use Rattle.tsumego_show.specs.TreeBytes.{kept_text}
 use Rattle.tsumego_show.specs.Variations.{sgf_text}
 
@@ -25,9 +25,9 @@ found_written (Ok y) p f behind old new b same h depth w k tree = (sgf_text p de
 found_written (Err y) p f behind old new b same h depth w k tree = w
 
 -- or that it isn't
-pub several_said : {A E : Type 0} (r : Result A E) (k : ℕ) (p : LineWithUndo) (behind old new : List ℕ) → OnOk r (new ≡ old ++ several_line k)
+pub several_said : {A E : Type 0} (r : Result A E) (k : ℕ) (p : LineWithUndo) (behind old new : List ℕ) → OnOk r (new ≡ old ++ one_of_several_line k)
     → OnOk r ((x : List ℕ) × IsDiagram false k p behind x × (new ≡ old ++ x))
-several_said (Ok y) k p behind old new w = (several_line k, refl, w)
+several_said (Ok y) k p behind old new w = (one_of_several_line k, refl, w)
 several_said (Err y) k p behind old new w = w
 
 -- and a tree as it was

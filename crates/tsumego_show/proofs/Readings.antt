@@ -31,7 +31,7 @@ module _ (size : Size) (bytes : List ℕ) where
   deep_read e is h side u w =
       let k : IsSharedFault size MOST_DEPTH bytes TooDeep = subst (λ (x : CertFault). IsSharedFault size MOST_DEPTH bytes x) is h in
       let deep = k.1 side w.0 w.1.closed w.1.orderly w.1.text in
-      let low = w.1.low in
+      let low = w.1.shallow in
       omega (arith, deep, low)
 
 -- where the bytes behind a problem are no certificate, no strategy stands there

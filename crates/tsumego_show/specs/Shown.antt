@@ -33,12 +33,12 @@ abbrev pub is_alone : ℕ → List ℕ → Bool
 is_alone k behind = nat_eq k 1 && is_nil (from_open behind)
 
 -- a diagram is a document of its own
-abbrev pub several_line : ℕ → List ℕ
-several_line k = decimal k ++ codes " not drawn: give each problem a file of its own\n"
+abbrev pub one_of_several_line : ℕ → List ℕ
+one_of_several_line k = decimal k ++ codes " not drawn: give each problem a file of its own\n"
 
 -- the diagram of a problem that is alone, with the strategy that stands behind it
 abbrev pub IsDiagram : Bool → ℕ → LineWithUndo → List ℕ → List ℕ → Type 0
-IsDiagram false k p behind text = text ≡ several_line k
+IsDiagram false k p behind text = text ≡ one_of_several_line k
 IsDiagram true k p behind text = (b : Found) × (first : Option Turn) × StandsBehind p.frame.size behind b × IsNumbered p b first × (text ≡ svg_text p first)
 
 -- what is said where no strategy stands behind a problem

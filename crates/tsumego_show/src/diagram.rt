@@ -10,7 +10,7 @@ ghost use Rattle.tsumego_show.specs.Diagram.{bottom_end, cell_shapes, column_sha
 ghost use Rattle.tsumego_show.specs.Diagram.{mark_ground, mark_ink, mark_text, number_end, number_head, number_text, point_shapes, points_shapes, right_end, row_shapes, row_stroke, rows_shown, square_text, stone_head, stone_text};
 ghost use Rattle.tsumego_show.specs.Diagram.{svg_head, svg_text, triangle_head, triangle_text};
 
-use crate::opening::first_turn;
+use crate::first_turn::first_turn;
 use crate::picture::{column_letter, side_colour};
 use crate::points::{is_inside, is_target, point_numbered};
 use crate::windows::{Window, number_at, window_of};
@@ -258,7 +258,7 @@ fn put_mark(
 }
 
 /// Writes the number on a point behind the text, where the first turn is a play on it.
-fn put_first(
+fn put_first_turn(
     alloc: Global,
     out: &mut Vec<u8>,
     line: &Line,
@@ -294,7 +294,7 @@ fn put_point(
 {
     put_entry(alloc, out, x, y, entry(line, number))?;
     put_mark(alloc, out, line, first, x, y, number)?;
-    put_first(alloc, out, line, first, x, y, number)
+    put_first_turn(alloc, out, line, first, x, y, number)
 }
 
 /// Half a cell, where the board goes on.

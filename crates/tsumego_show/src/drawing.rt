@@ -8,7 +8,7 @@ ghost use Rattle.tsumego_show.specs.Drawing.{DrawsCertificate, DrawsFirst, deep_
 ghost use Rattle.tsumego_show.specs.inside.Lines.{Goes};
 
 use crate::certificates::read_either;
-use crate::opening::put_first;
+use crate::first_turn::put_first_turn;
 use crate::picture::{colour_name, side_colour};
 use std::alloc::Global;
 use tt_board::Colour;
@@ -202,7 +202,7 @@ fn put_drawn(
     ensures { OnOk result ((text : List ℕ) × DrawsFirst line.now side (strategy_of tree.now) text
         × (out.new.items ≡ out.old.items ++ (text ++ strategy_text line.now side (strategy_of tree.now)))) }
 {
-    put_first(alloc, out, line, side, tree)?;
+    put_first_turn(alloc, out, line, side, tree)?;
     put_strategy(out, line, side, tree)
 }
 

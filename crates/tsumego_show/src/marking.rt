@@ -60,7 +60,7 @@ fn put_marked(
 }
 
 /// Writes the names of these points first, and those of the others, behind the text.
-fn put_first(
+fn put_first_turn(
     alloc: Global,
     out: &mut Vec<u8>,
     size: Size,
@@ -88,7 +88,7 @@ fn put_open(
     )?;
     let first = ways_out(board, colour, stone);
     let all = around(board, colour, stone);
-    put_first(alloc, out, board.size(), &first, &all)
+    put_first_turn(alloc, out, board.size(), &first, &all)
 }
 
 /// Writes why no mark is proposed for what stands on a point behind the text.

@@ -2,7 +2,7 @@
 ghost use Rattle.std.specs.Prelude.{◌≡◌, ◌++◌, if◌then◌else◌, ℕ, List, [], true, IfOk, OnOk};
 ghost use Rattle.tt_game.specs.Problems.{problem_of};
 ghost use Rattle.tsumego_show.specs.declared.form.Form.TheVariants.{Picture, Variations};
-ghost use Rattle.tsumego_show.specs.Shown.{DrawsBehind, IsDiagram, IsProblemText, IsShown, IsTreeText, fault_told, is_alone, is_fault_left, is_one_of_several, is_tree_refused, problem_text, several_line, without_strategy};
+ghost use Rattle.tsumego_show.specs.Shown.{DrawsBehind, IsDiagram, IsProblemText, IsShown, IsTreeText, fault_told, is_alone, is_fault_left, is_one_of_several, is_tree_refused, problem_text, one_of_several_line, without_strategy};
 
 use crate::diagram::{numbered_turn, put_svg};
 use crate::drawing::put_certificate;
@@ -61,7 +61,7 @@ fn is_alone(number: usize, behind: &[u8]) -> bool
 
 /// Writes that a problem isn't drawn behind the text.
 fn put_several(alloc: Global, out: &mut Vec<u8>, number: usize) -> Result<(), NoMemory>
-    ensures { OnOk result (out.new.items ≡ out.old.items ++ several_line number) }
+    ensures { OnOk result (out.new.items ≡ out.old.items ++ one_of_several_line number) }
 {
     let text = format!(in alloc; "{number} not drawn: give each problem a file of its own\n")?;
     out.extend_from_slice(text.as_bytes())?;

@@ -117,18 +117,18 @@ module _ (s : Size) (c : Colouring) (e : Option Colour) where
       bare p = elim (cases_Bool (is_flagged m p)) [ inl on ↦ inr (λ off. false≢true (sym off ∙ on)) | inr off ↦ inl off ]
 
   -- the fill of exactly those points of the board that reach e
-  pub fill : (m : List Bool) × IsFilled s c e m
-  fill =
+  pub reaching_fill : (m : List Bool) × IsFilled s c e m
+  reaching_fill =
       let m = replicate (point_count s) false in
       grown (unfilled_count m + 1) m (length-replicate (point_count s) false)
       (λ p in_p on. absurd (false≢true (sym (get_or-replicate (point_count s) p false false in_p) ∙ on))) (omega arith)
 
 -- whether p reaches e
 pub reaches : Size → Colouring → ℕ → Option Colour → Bool
-reaches s c p e = is_flagged (fill s c e).0 p
+reaches s c p e = is_flagged (reaching_fill s c e).0 p
 
 -- of a point of the board the test is true exactly where it reaches e
 pub reaches_is : (s : Size) (c : Colouring) (p : ℕ) (e : Option Colour) → p < point_count s
     → (reaches s c p e ≡ true → Reaches s c p e) × (Reaches s c p e → reaches s c p e ≡ true)
 unfolding reaches
-reaches_is s c p e in_p = (fill s c e).1 p in_p
+reaches_is s c p e in_p = (reaching_fill s c e).1 p in_p

@@ -30,7 +30,7 @@ pub fn find_proof(
 ) -> Result<Option<Proof>, NoMemory>
     requires depth { depth ≤ MOST_DEPTH }
     ensures stands { IfOk result (λ o. IfSome o (λ p. StandsAt p line.old.frame line.old.state)) }
-    ensures low { IfOk result (λ o. IfSome o (λ p. strategy.depth p.tree ≤ depth)) }
+    ensures shallow { IfOk result (λ o. IfSome o (λ p. strategy.depth p.tree ≤ depth)) }
     ensures fewer { visits.new.left ≤ visits.old.left }
     ensures same { line.new ≡ line.old }
 {

@@ -39,7 +39,7 @@ pub fn certify<A: Advice, S: Store>(
     requires room { room ≤ MOST_DEPTH }
     ensures stands { IfOk result (λ o. IfSome o (λ p. StandsAt p line.old.frame line.old.state)) }
     ensures side { IfOk result (λ o. IfSome o (λ p. p.side ≡ side)) }
-    ensures low { IfOk result (λ o. IfSome o (λ p. depth p.tree ≤ room)) }
+    ensures shallow { IfOk result (λ o. IfSome o (λ p. depth p.tree ≤ room)) }
     ensures fewer { visits.new.left ≤ visits.old.left }
     ensures same { line.new ≡ line.old }
 {
@@ -78,7 +78,7 @@ fn visited<A: Advice, S: Store>(
     requires nobody { winner_of line.old.frame line.old.state ≡ None }
     ensures stands { IfOk result (λ o. IfSome o (λ p. StandsAt p line.old.frame line.old.state)) }
     ensures side { IfOk result (λ o. IfSome o (λ p. p.side ≡ side)) }
-    ensures low { IfOk result (λ o. IfSome o (λ p. depth p.tree ≤ room)) }
+    ensures shallow { IfOk result (λ o. IfSome o (λ p. depth p.tree ≤ room)) }
     ensures counts { visits.new.left < visits.old.left }
     ensures same { line.new ≡ line.old }
 {
@@ -96,7 +96,7 @@ fn won(alloc: Global, line: &Line, side: Side, winner: Side) -> Result<Option<Pr
     requires { winner_of line.now.frame line.now.state ≡ Some winner }
     ensures stands { IfOk result (λ o. IfSome o (λ p. StandsAt p line.now.frame line.now.state)) }
     ensures side { IfOk result (λ o. IfSome o (λ p. p.side ≡ side)) }
-    ensures low { IfOk result (λ o. IfSome o (λ p. depth p.tree ≡ 0)) }
+    ensures shallow { IfOk result (λ o. IfSome o (λ p. depth p.tree ≡ 0)) }
 {
     if winner != side {
         return Ok(None);
@@ -120,7 +120,7 @@ fn behind<A: Advice, S: Store>(
     requires room { room < MOST_DEPTH }
     requires legal { IsLegal line.old.frame line.old.state turn.now }
     ensures child { IfOk result (λ o. IfSome o (λ p. IsChild line.old.frame line.old.state side turn.now p)) }
-    ensures low { IfOk result (λ o. IfSome o (λ p. depth p.tree ≤ room)) }
+    ensures shallow { IfOk result (λ o. IfSome o (λ p. depth p.tree ≤ room)) }
     ensures fewer { visits.new.left ≤ visits.old.left }
     ensures same { line.new ≡ line.old }
 {
@@ -159,7 +159,7 @@ fn picked<A: Advice, S: Store>(
     requires to_move { line.old.state.to_move ≡ side }
     ensures stands { IfOk result (λ o. IfSome o (λ p. StandsAt p line.old.frame line.old.state)) }
     ensures side { IfOk result (λ o. IfSome o (λ p. p.side ≡ side)) }
-    ensures low { IfOk result (λ o. IfSome o (λ p. depth p.tree ≤ room)) }
+    ensures shallow { IfOk result (λ o. IfSome o (λ p. depth p.tree ≤ room)) }
     ensures fewer { visits.new.left ≤ visits.old.left }
     ensures same { line.new ≡ line.old }
 {
@@ -192,7 +192,7 @@ fn tried<A: Advice, S: Store>(
     requires to_move { line.old.state.to_move ≡ side }
     ensures stands { IfOk result (λ o. IfSome o (λ p. StandsAt p line.old.frame line.old.state)) }
     ensures side { IfOk result (λ o. IfSome o (λ p. p.side ≡ side)) }
-    ensures low { IfOk result (λ o. IfSome o (λ p. depth p.tree ≤ room)) }
+    ensures shallow { IfOk result (λ o. IfSome o (λ p. depth p.tree ≤ room)) }
     ensures fewer { visits.new.left ≤ visits.old.left }
     ensures same { line.new ≡ line.old }
 {
@@ -213,10 +213,10 @@ fn played(
 ) -> Result<Option<Proof>, NoMemory>
     requires legal { IsLegal line.now.frame line.now.state turn.now }
     requires child { IfSome child (λ p. IsChild line.now.frame line.now.state line.now.state.to_move turn.now p) }
-    requires low { IfSome child (λ p. depth p.tree + 1 ≤ room) }
+    requires shallow { IfSome child (λ p. depth p.tree + 1 ≤ room) }
     ensures stands { IfOk result (λ o. IfSome o (λ p. StandsAt p line.now.frame line.now.state)) }
     ensures side { IfOk result (λ o. IfSome o (λ p. p.side ≡ line.now.state.to_move)) }
-    ensures low { IfOk result (λ o. IfSome o (λ p. depth p.tree ≤ room)) }
+    ensures shallow { IfOk result (λ o. IfSome o (λ p. depth p.tree ≤ room)) }
 {
     let Some(child) = child else {
         return Ok(None);
@@ -242,7 +242,7 @@ fn replied<A: Advice, S: Store>(
     requires to_move { side ≡ opponent line.old.state.to_move }
     ensures stands { IfOk result (λ o. IfSome o (λ p. StandsAt p line.old.frame line.old.state)) }
     ensures side { IfOk result (λ o. IfSome o (λ p. p.side ≡ side)) }
-    ensures low { IfOk result (λ o. IfSome o (λ p. depth p.tree ≤ room)) }
+    ensures shallow { IfOk result (λ o. IfSome o (λ p. depth p.tree ≤ room)) }
     ensures fewer { visits.new.left ≤ visits.old.left }
     ensures same { line.new ≡ line.old }
 {

@@ -16,7 +16,7 @@ use tt_sgf::NoMemory;
 fn taken(alloc: Global, line: &Line, room: u16, proof: &Proof) -> Result<Option<Proof>, NoMemory>
     ensures stands { IfOk result (λ o. IfSome o (λ p. StandsAt p line.now.frame line.now.state)) }
     ensures side { IfOk result (λ o. IfSome o (λ p. p.side ≡ proof.now.side)) }
-    ensures low { IfOk result (λ o. IfSome o (λ p. depth p.tree ≤ room)) }
+    ensures shallow { IfOk result (λ o. IfSome o (λ p. depth p.tree ≤ room)) }
 {
     if proof.depth() > room {
         return Ok(None);
@@ -40,7 +40,7 @@ pub(crate) fn known<S: Store>(
 ) -> Result<Option<Proof>, NoMemory>
     ensures stands { IfOk result (λ o. IfSome o (λ p. StandsAt p line.now.frame line.now.state)) }
     ensures side { IfOk result (λ o. IfSome o (λ p. p.side ≡ side)) }
-    ensures low { IfOk result (λ o. IfSome o (λ p. depth p.tree ≤ room)) }
+    ensures shallow { IfOk result (λ o. IfSome o (λ p. depth p.tree ≤ room)) }
 {
     let Some(proof) = memo.find(line, side)? else {
         return Ok(None);

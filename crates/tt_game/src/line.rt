@@ -229,7 +229,7 @@ impl Line {
         requires { next.now.size ≡ self.now.frame.size }
         ensures { IsTrue result ↔ HasBeen (history self.now.state) next.now.points }
     {
-        match self.root.place_of(next) {
+        match self.root.search_start(next) {
             None => self.history.has_been(self.root.count(), next),
             Some(place) => self.history.has_at(place, next) || self.history.has_been(0, next),
         }

@@ -32,7 +32,7 @@ module _ (size : Size) (some : 1 ≤ size.columns) where
     -- of a certificate, the rest is the text of its tree
     cert_tree : (side : Side) (u : Strategy) → IsCertificate size bytes side u → TreeAt size MOST_DEPTH u rest []
     cert_tree side u c =
-        record { in_order = c.in_order; low = c.low; text = rest_of side (tree_text size u) c.text ∙ sym (append-nil (tree_text size u)) }
+        record { in_order = c.in_order; shallow = c.shallow; text = rest_of side (tree_text size u) c.text ∙ sym (append-nil (tree_text size u)) }
 
     -- where the bytes are too deep, the rest is
     too_deep : IsTooDeep size bytes → DeepAt size MOST_DEPTH rest
@@ -49,14 +49,14 @@ module _ (size : Size) (some : 1 ≤ size.columns) where
     not_too_deep : (u : Strategy) (y : List ℕ) → TreeAt size MOST_DEPTH u rest y → IsTooDeep size bytes → ⊥
     not_too_deep u y h deep =
         let d = too_deep deep in
-        not_deep size some u d.tree MOST_DEPTH d.beginning y d.follows h.low (sym h.text ∙ d.text) d.ends
+        not_deep size some u d.tree MOST_DEPTH d.beginning y d.follows h.shallow (sym h.text ∙ d.text) d.ends
 
     -- where nothing follows that tree, the bytes are its certificate, and aren't too deep
     pub cert_read : (u : Strategy) (y : List ℕ) → TreeAt size MOST_DEPTH u rest y → y ≡ [] → IsCertificate size bytes s u × (IsTooDeep size bytes → ⊥)
     cert_read u y h e = (
       record {
         in_order = h.in_order;
-        low = h.low;
+        shallow = h.shallow;
         text = at ∙ ap (λ w. side_text s ++ w) (h.text ∙ ap (λ w. tree_text size u ++ w) e ∙ append-nil (tree_text size u));
       },
       not_too_deep u y h,

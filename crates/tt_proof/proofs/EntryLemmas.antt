@@ -33,7 +33,7 @@ pub walked_end : (size : Size) (d least : ℕ) (start now rest : List ℕ) (list
     now ≡ semicolon ∷ rest → EntriesAt size d 0 (entries_of_trees list) start rest
 walked_end size d least start now rest list w e =
     subst (λ es. EntriesAt size d 0 es start rest) (before_none list)
-    (w.read none rest (record { in_order = tt; low = omega arith; text = e }))
+    (w.read none rest (record { in_order = tt; shallow = omega arith; text = e }))
 
 module _ (size : Size) (some : 1 ≤ size.columns) where
   -- ---- one entry: its turn is t, its tree u, and `after` follows
@@ -44,7 +44,7 @@ module _ (size : Size) (some : 1 ≤ size.columns) where
         EntriesAt size (suc e) least (entry t u es) now y
     step_read es y h = record {
       in_order = (rises, on, tree.in_order, h.in_order);
-      low = omega (arith, tree.low, h.low);
+      shallow = omega (arith, tree.shallow, h.shallow);
       text =
           at ∙ ap (λ w. turn_text size t ++ w) (tree.text ∙ ap (λ w. tree_text size u ++ w) h.text)
           ∙ ap (λ w. turn_text size t ++ w) (sym (append_assoc (tree_text size u) (entries_text size es) y));
@@ -59,11 +59,11 @@ module _ (size : Size) (some : 1 ≤ size.columns) where
         let t_is = same_turn size some t v (heads g) (heads (tails g)) in
         let r = same_tree size some u w after (entries_text size es ++ y)
         (sym tree.text ∙ tails (tails g) ∙ append_assoc (tree_text size w) (entries_text size es) y) in
-        let low = h.low in (
+        let low = h.shallow in (
           es,
           record {
             in_order = subst (λ x. AreInOrder size (number_on size x + 1) es) (sym t_is) h.in_order.3;
-            low = omega (arith, low);
+            shallow = omega (arith, low);
             text = r.1;
           },
         )
@@ -91,7 +91,7 @@ module _ (size : Size) (some : 1 ≤ size.columns) where
         go none x y i h g = absurd h
         go (entry v w es) x y i (inl h) g =
             let g' = tails (tails (sym at ∙ g ∙ ap (λ z. z ++ y) h.1.0)) in
-            absurd (not_deep size some u w e h.0 after y tree.low (sym tree.text ∙ g') h.1.1)
+            absurd (not_deep size some u w e h.0 after y tree.shallow (sym tree.text ∙ g') h.1.1)
         go (entry v w es) x y i (inr h) g =
             let g' = sym at ∙ g ∙ ap (λ z. z ++ y) h.1.0 in
             let t_is = same_turn size some t v (heads g') (heads (tails g')) in
@@ -191,7 +191,7 @@ module _ (size : Size) (some : 1 ≤ size.columns) where
     text = at ∙ ap (λ w. turn_text size t ++ w) h.text;
   }
   entry_fault e least now mid t Syntax on rises at h =
-      (λ es y k. no es y k.in_order k.low k.text, λ k. deep k.entries k.beginning k.follows k.in_order k.ends k.text)
+      (λ es y k. no es y k.in_order k.shallow k.text, λ k. deep k.entries k.beginning k.follows k.in_order k.ends k.text)
     where
       -- no entries are read
       no : (es : Entries) (y : List ℕ) → AreInOrder size least es → depth_of_entries es ≤ suc e → now ≡ entries_text size es ++ y → ⊥
@@ -199,13 +199,13 @@ module _ (size : Size) (some : 1 ≤ size.columns) where
       no (entry v u es) y i low g =
           h.0 u (entries_text size es ++ y) (record {
             in_order = i.2;
-            low = omega (arith, low);
+            shallow = omega (arith, low);
             text = tails (tails (sym at ∙ g)) ∙ append_assoc (tree_text size u) (entries_text size es) y;
           })
 
       -- the tree of the entry is read, or is too deep
       either : (u : Strategy) (y : List ℕ) → IsInOrder size u → mid ≡ tree_text size u ++ y → (depth u ≤ e) ⊎ (e < depth u) → ⊥
-      either u y i g (inl low) = h.0 u y (record { in_order = i; low = low; text = g })
+      either u y i g (inl low) = h.0 u y (record { in_order = i; shallow = low; text = g })
       either u y i g (inr high) =
           let r = deep_tree size u e high in
           h.1 (record {

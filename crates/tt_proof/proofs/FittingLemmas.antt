@@ -60,4 +60,4 @@ module _ (p : Proven) (f : Frame) (s : State) (x : Footprint) (foot : IsFootprin
 pub won_where_fits : (p : Proven) (f : Frame) (s : State) → IsWon p.side p.frame p.state p.tree → FitsAt p f s → IsWon p.side f s p.tree
 won_where_fits p f s w h =
     subst (λ y. IsWon p.side y s p.tree) h.0
-    (record { wins = fitting_wins p.side p.frame p.tree p.state s w.wins h.1; low = w.low; in_order = w.in_order })
+    (record { wins = fitting_wins p.side p.frame p.tree p.state s w.wins h.1; shallow = w.shallow; in_order = w.in_order })

@@ -308,7 +308,7 @@ module _ (size : Size) where
       λ side p c q e.
           let k = h.at [] (sym none) in
           n (same_outline size size.columns_in.0 o p [] [] y [] k.closed c k.ends (ends_before p [] tt) (sym k.text ∙ rest_is side p e)).1,
-      λ w. apart size w.outline o [] most_depth d rest y w.closed (h.at [] (sym none)) h.low (deep_rest w),
+      λ w. apart size w.outline o [] most_depth d rest y w.closed (h.at [] (sym none)) h.shallow (deep_rest w),
     )
 
   -- bytes that begin with the words of no side are no certificate

@@ -246,7 +246,7 @@ certificates_shared size bytes s u c =
         record {
           closed = h.closed;
           orderly = plain_orderly size u c.in_order;
-          low = subst (λ x. depth x ≤ MOST_DEPTH) (sym h.tree) c.low;
+          shallow = subst (λ x. depth x ≤ MOST_DEPTH) (sym h.tree) c.shallow;
           text = c.text ∙ ap (λ w. side_text s ++ w) (sym h.text);
         },
         h.tree,

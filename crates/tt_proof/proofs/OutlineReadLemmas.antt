@@ -29,12 +29,12 @@ there (u ∷ us) (suc k) d lt e = let r = there us k d (omega (arith, lt)) e in 
 module _ (size : Size) where
   pub reads_done : (left : ℕ) (ds r y : List ℕ) → r ≡ won_symbol ∷ y → ReadsOutline size left ds ds ended 0 r y
   reads_done left ds r y e =
-      record { low = omega arith; at = λ us h. record { closed = tt; orderly = tt; deep = refl; text = e; ends = tt }; names = λ us h. h }
+      record { shallow = omega arith; at = λ us h. record { closed = tt; orderly = tt; deep = refl; text = e; ends = tt }; names = λ us h. h }
 
   pub reads_part : (left : ℕ) (ds : List ℕ) (k d : ℕ) (r y : List ℕ) → d ≤ left → k < length ds → k < 1000000000 → d ≡ get_or ds k d → NoDigit y → r ≡ decimal k ++ y
       → ReadsOutline size left ds ds (part k) d (part_symbol ∷ r) y
   reads_part left ds k d r y low lt small e none text = record {
-    low = low;
+    shallow = low;
     at = λ us h. let w = there us k d (subst (λ xs. k < length xs) (sym h) lt) (subst (λ xs. d ≡ get_or xs k d) (sym h) e) in
         record { closed = (w.0, small); orderly = tt; deep = w.1; text = ap (λ w. part_symbol ∷ w) text; ends = none };
     names = λ us h. h;
@@ -44,7 +44,7 @@ module _ (size : Size) where
       → IsOnBoard size t → r ≡ turn_text size t ++ after → ReadsOutline size e old mid o d after y → new ≡ with_depth n (d + 1) mid
       → ReadsOutline size left old new (picked n t o) (d + 1) (name_text n ++ (pick_symbol ∷ r)) y
   reads_pick left e old mid new n t o d r after y room on at h more = record {
-    low = let low = h.low in omega (arith, low, room);
+    shallow = let low = h.shallow in omega (arith, low, room);
     at = λ us g. let w = h.at us g in
         record {
           closed = w.closed;
@@ -64,7 +64,7 @@ module _ (size : Size) where
   pub reads_reply : (left : ℕ) (old mid new : List ℕ) (n : Bool) (bs : Branches) (d : ℕ) (r y : List ℕ) → ReadsBranches size left old mid 0 bs d r y
       → new ≡ with_depth n d mid → ReadsOutline size left old new (replied n bs) d (name_text n ++ (replies_symbol ∷ r)) y
   reads_reply left old mid new n bs d r y h more = record {
-    low = h.low;
+    shallow = h.shallow;
     at = λ us g. let w = h.at us g in
         record {
           closed = w.closed;
@@ -214,7 +214,7 @@ module _ (size : Size) where
       → ((us : List Strategy) → map depth us ≡ old → Walked us least bytes now list most new) → now ≡ semicolon ∷ y
       → ReadsBranches size left old new 0 (branches_of_list list) most bytes y
   walked_end left least most old new bytes now y list low w e = record {
-    low = low;
+    shallow = low;
     at = λ us h. let k = w us h in
         subst (λ bs. BranchesAt size us 0 bs most bytes y) (before_none list)
         (subst (λ m. BranchesAt size us 0 (before list no_branch) m bytes y) (let e : max most 0 ≡ most = omega arith in e)
@@ -229,11 +229,11 @@ pub shared_read : (size : Size) (bytes rest : List ℕ) (s : Side) (old : List �
 shared_read size bytes rest s old left new o d y at room none h e = let k = h.at [] (sym none) in record {
   closed = k.closed;
   orderly = k.orderly;
-  low = let low = h.low in let deep = k.deep in omega (arith, low, deep, room);
+  shallow = let low = h.shallow in let deep = k.deep in omega (arith, low, deep, room);
   text = at ∙ ap (λ w. side_text s ++ w) (k.text ∙ ap (λ w. outline_text size o ++ w) e ∙ append-nil (outline_text size o));
 }
 
 -- and its tree is no deeper than was allowed
 pub low_read : (size : Size) (old : List ℕ) (left : ℕ) (new : List ℕ) (o : Outline) (d : ℕ) (rest y : List ℕ) → old ≡ [] → ReadsOutline size left old new o d rest y
     → depth (unfolded [] o) ≤ left
-low_read size old left new o d rest y none h = let low = h.low in let deep = (h.at [] (sym none)).deep in omega (arith, low, deep)
+low_read size old left new o d rest y none h = let low = h.shallow in let deep = (h.at [] (sym none)).deep in omega (arith, low, deep)

@@ -18,7 +18,7 @@ use Rattle.tt_game.specs.laws.Members.{IsIn, in_of_contains}
 -- where the side has won, playing nothing more wins
 pub won_done : (side : Side) (f f' : Frame) (s s' : State) → f' ≡ f → s' ≡ s → winner_of f s ≡ Some side → IsWon side f' s' done
 won_done side f f' s s' same_f same_s e =
-    rw (same_f, same_s) record { wins = e; low = omega arith; in_order = tt }
+    rw (same_f, same_s) record { wins = e; shallow = omega arith; in_order = tt }
 
 -- where a turn is legal, nobody has won
 legal_nobody : (f : Frame) (s : State) (t : Turn) → IsLegal f s t → winner_of f s ≡ None
@@ -37,11 +37,11 @@ pub won_pick : (f f' : Frame) (s s' : State) (t : Turn) (p : Proven) → f' ≡ 
     IsLegal f s t → IsChild f s s.to_move t p → IsWon p.side p.frame p.state p.tree → IsWon p.side f' s' (pick t p.tree)
 won_pick f f' s s' t p same_f same_s l h w =
     let c = child_won f s s.to_move t p h w in
-    let low = h.low in
+    let low = h.shallow in
     rw (same_f, same_s, h.same_side)
     record {
       wins = (legal_nobody f s t l, refl, l, c.wins);
-      low = omega (arith, low);
+      shallow = omega (arith, low);
       in_order = (legal_on_board f s t l, c.in_order);
     }
 
@@ -65,7 +65,7 @@ module _ (f : Frame) (s : State) where
   -- replies with children's trees are at most `MOST_DEPTH` deep
   children_low : (es : List (Turn × Proven)) → AreChildren f s es → depth_of_entries (entries_of (trees_of es)) ≤ MOST_DEPTH
   children_low [] h = omega arith
-  children_low (e ∷ es) h = let low = h.0.low in omega (arith, low, children_low es h.1)
+  children_low (e ∷ es) h = let low = h.0.shallow in omega (arith, low, children_low es h.1)
 
   -- they are in order where the turns lie on the board and rise
   children_in_order : (least : ℕ) (es : List (Turn × Proven)) → AreChildren f s es → AllWon es →
@@ -98,7 +98,7 @@ module _ (f : Frame) (s : State) where
             ((reply_wins (opponent s.to_move) f s (entries_of (trees_of es)) order
             ((nobody, opponent_twice s.to_move), λ t l. has_entry es t (in_of_contains ts t ((legal t).1 l)))).0
             (children_win es h w));
-        low = children_low es h;
+        shallow = children_low es h;
         in_order = order;
       }
 

@@ -136,7 +136,7 @@ module _ (size : Size) where
   pub pick_read : (e : ℕ) (t : Turn) (u : Strategy) (r after y : List ℕ) → IsOnBoard size t → r ≡ turn_text size t ++ after →
       TreeAt size e u after y → TreeAt size (suc e) (pick t u) (pick_symbol ∷ r) y
   pick_read e t u r after y o at h =
-      record { in_order = (o, h.in_order); low = omega (arith, h.low); text = ap (λ w. pick_symbol ∷ w) (at ∙ ap (λ w. turn_text size t ++ w) h.text) }
+      record { in_order = (o, h.in_order); shallow = omega (arith, h.shallow); text = ap (λ w. pick_symbol ∷ w) (at ∙ ap (λ w. turn_text size t ++ w) h.text) }
 
   -- a fault of the tree behind the turn is one of the pick
   pub pick_fault : (e : ℕ) (t : Turn) (r after : List ℕ) (f : CertFault) → IsOnBoard size t → r ≡ turn_text size t ++ after →
@@ -151,13 +151,13 @@ module _ (size : Size) where
     text = ap (λ w. pick_symbol ∷ w) (at ∙ ap (λ w. turn_text size t ++ w) h.text);
   }
   pick_fault e t r after Syntax o at h =
-      (λ u y w. no u y w.in_order w.low w.text, λ w. deep w.tree w.beginning w.follows w.in_order w.text w.ends)
+      (λ u y w. no u y w.in_order w.shallow w.text, λ w. deep w.tree w.beginning w.follows w.in_order w.text w.ends)
     where
       -- no tree is read
       no : (u : Strategy) (y : List ℕ) → IsInOrder size u → depth u ≤ suc e → pick_symbol ∷ r ≡ tree_text size u ++ y → ⊥
       no done y i low g = omega (arith, heads g)
       no (pick v u) y i low g =
-          h.0 u y (record { in_order = i.1; low = omega (arith, low); text = tails (tails (sym at ∙ tails g)) })
+          h.0 u y (record { in_order = i.1; shallow = omega (arith, low); text = tails (tails (sym at ∙ tails g)) })
       no (reply es) y i low g = omega (arith, heads g)
 
       -- nor is a turn too deep
@@ -178,7 +178,7 @@ module _ (size : Size) where
 
   -- entries behind `?` are a reply
   pub reply_read : (d : ℕ) (es : Entries) (r y : List ℕ) → EntriesAt size d 0 es r y → TreeAt size d (reply es) (replies_symbol ∷ r) y
-  reply_read d es r y h = record { in_order = h.in_order; low = h.low; text = ap (λ w. replies_symbol ∷ w) h.text }
+  reply_read d es r y h = record { in_order = h.in_order; shallow = h.shallow; text = ap (λ w. replies_symbol ∷ w) h.text }
 
   -- a fault of the entries is one of the reply
   pub reply_fault : (d : ℕ) (r : List ℕ) (f : CertFault) → EntriesFaultAt size d 0 r f → FaultAt size d (replies_symbol ∷ r) f
@@ -192,13 +192,13 @@ module _ (size : Size) where
     text = ap (λ w. replies_symbol ∷ w) h.text;
   }
   reply_fault d r Syntax h =
-      (λ u y w. no u y w.in_order w.low w.text, λ w. deep w.tree d w.beginning w.follows w.in_order w.text w.ends (λ x. x))
+      (λ u y w. no u y w.in_order w.shallow w.text, λ w. deep w.tree d w.beginning w.follows w.in_order w.text w.ends (λ x. x))
     where
       -- no tree is read
       no : (u : Strategy) (y : List ℕ) → IsInOrder size u → depth u ≤ d → replies_symbol ∷ r ≡ tree_text size u ++ y → ⊥
       no done y i low g = omega (arith, heads g)
       no (pick v u) y i low g = omega (arith, heads g)
-      no (reply es) y i low g = h.0 es y (record { in_order = i; low = low; text = tails g })
+      no (reply es) y i low g = h.0 es y (record { in_order = i; shallow = low; text = tails g })
 
       -- nor is a turn too deep
       deep : (u : Strategy) (k : ℕ) (x y : List ℕ) → IsInOrder size u → replies_symbol ∷ r ≡ x ++ y → EndsBelow size u k x →

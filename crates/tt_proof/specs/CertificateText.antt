@@ -82,7 +82,7 @@ module _ (size : Size) where
   -- the bytes are the certificate of this side and tree, which is in order and has at most 512 turns on each way down
   pub record IsCertificate (bytes : List ℕ) (side : Side) (u : Strategy) : Type 0 where
     pub in_order : IsInOrder size u
-    pub low : depth u ≤ MOST_DEPTH
+    pub shallow : depth u ≤ MOST_DEPTH
     pub text : bytes ≡ certificate_text side u
 
   -- some beginning of the bytes ends with a turn below 512 others, and can be completed to the text of a tree in order

@@ -105,7 +105,7 @@ module _ (size : Size) where
   pub record IsSharedCertificate (bytes : List ℕ) (side : Side) (o : Outline) : Type 0 where
     pub closed : RefersBack [] o
     pub orderly : IsOrderly size o
-    pub low : depth (unfolded [] o) ≤ MOST_DEPTH
+    pub shallow : depth (unfolded [] o) ≤ MOST_DEPTH
     pub text : bytes ≡ side_text side ++ outline_text o
 
 -- no decimal digit stands in front

@@ -18,7 +18,7 @@ pub record Proven : Type 0 where
 -- the tree wins, has at most 512 turns on any way down, and is in order
 pub record IsWon (side : Side) (f : Frame) (s : State) (u : Strategy) : Type 0 where
   pub wins : Wins side f u s
-  pub low : depth u ≤ MOST_DEPTH
+  pub shallow : depth u ≤ MOST_DEPTH
   pub in_order : IsInOrder f.size u
 
 -- the proof has this frame, history, side to move and pass count
@@ -29,7 +29,7 @@ StandsAt p f s = (p.frame ≡ f) × (p.state ≡ s)
 pub record IsChild (f : Frame) (s : State) (side : Side) (t : Turn) (p : Proven) : Type 0 where
   pub stands : StandsAt p f (after f s t)
   pub same_side : p.side ≡ side
-  pub low : depth p.tree < MOST_DEPTH
+  pub shallow : depth p.tree < MOST_DEPTH
 
 -- each is a child for its turn, of the side that is not to move
 abbrev pub AreChildren : Frame → State → List (Turn × Proven) → Type 0

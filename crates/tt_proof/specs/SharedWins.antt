@@ -17,5 +17,5 @@ pub record IsWinningSharedCertificate (f : Frame) (s : State) (side : Side) (fir
   pub is : IsSharedCertificate f.size bytes side outline
   pub wins : Wins side f (unfolded [] outline) s
   pub fits : SharedPartsSay side f outline s None → ⊥
-  pub low : depth (unfolded [] outline) ≤ most
+  pub shallow : depth (unfolded [] outline) ≤ most
   pub begins : first ≡ first_of (unfolded [] outline)

@@ -134,7 +134,7 @@ impl BoardSet {
     }
 
     /// Where the board stands first.
-    fn place_of(&self, board: &Board) -> Option<usize>
+    fn index_of(&self, board: &Board) -> Option<usize>
         ensures { MatchOption result (Contains self.now board.now → ⊥)
             (λ k. (k < length self.now) × ((d : Position) → get_or self.now k d ≡ board.now)) }
     {
@@ -151,7 +151,7 @@ impl BoardSet {
     pub fn has(&self, board: &Board) -> bool
         ensures { IsTrue result ↔ Contains self.now board.now }
     {
-        match self.place_of(board) {
+        match self.index_of(board) {
             Some(_) => true,
             None => false,
         }
@@ -295,13 +295,13 @@ impl BoardSet {
     pub(crate) fn remove(&mut self, board: &Board)
         ensures { (b : Position) → Contains self.new b ↔ (Contains self.old b × (b ≢ board.now)) }
     {
-        while let Some(k) = self.place_of(board) {
+        while let Some(k) = self.index_of(board) {
             self.take_out(k);
         }
     }
 
     /// The place of the first board whose hash isn't less, where the hashes rise.
-    fn place_for(&self, hash: u64) -> usize
+    fn index_for(&self, hash: u64) -> usize
         ensures { result ≤ length self.now }
     {
         let mut low = 0;
@@ -347,7 +347,7 @@ impl BoardSet {
         ensures { OnOk result ((b : Position) → Contains self.new b ↔ (Contains self.old b ⊎ (b ≡ board.now))) }
     {
         let made = SharedBoard::of(alloc, board)?;
-        let k = self.place_for(made.hash);
+        let k = self.index_for(made.hash);
         if self.has_from(k, &made) {
             return Ok(());
         }

@@ -58,7 +58,7 @@ impl Footprint {
         requires { AreLegalPlays line.now.frame line.now.state legal.now }
         ensures { IfOk result (λ x. IsFootprint line.now.frame line.now.state (reply none) x) }
     {
-        let needs = repeats(alloc, line, legal)?;
+        let needs = repeated_boards(alloc, line, legal)?;
         Ok(Footprint {
             needs,
             avoids: BoardSet::new(alloc),
@@ -201,7 +201,7 @@ fn put_repeated(
 }
 
 /// The boards of the history that plays on empty points of the region would repeat.
-fn repeats(alloc: Global, line: &Line, legal: &PointSet) -> Result<BoardSet, NoMemory>
+fn repeated_boards(alloc: Global, line: &Line, legal: &PointSet) -> Result<BoardSet, NoMemory>
     requires { AreLegalPlays line.now.frame line.now.state legal.now }
     ensures sized { IfOk result (λ needs. AreSized line.now.frame needs) }
     ensures exact { IfOk result (λ needs. (c : Colouring) → Contains needs (frame_board line.now.frame c)

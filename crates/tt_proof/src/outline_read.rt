@@ -270,7 +270,7 @@ fn read_parts_for(
     requires side { bytes.now ≡ side_text s ++ rest.now }
     requires depth { most_depth ≤ MOST_DEPTH }
     ensures certificate { IfOk result (λ r. IsSharedCertificate size bytes.now r.0 (outline_of r.1)) }
-    ensures low { IfOk result (λ r. depth (unfolded [] (outline_of r.1)) ≤ most_depth) }
+    ensures shallow { IfOk result (λ r. depth (unfolded [] (outline_of r.1)) ≤ most_depth) }
     ensures fault { IfErr result (λ e. IsSharedFault size most_depth bytes.now e) }
 {
     let mut depths = Vec::new(alloc);
@@ -294,7 +294,7 @@ pub(crate) fn read_within(
 ) -> Result<(Side, Outline), CertFault>
     requires { most_depth ≤ MOST_DEPTH }
     ensures certificate { IfOk result (λ r. IsSharedCertificate size bytes.now r.0 (outline_of r.1)) }
-    ensures low { IfOk result (λ r. depth (unfolded [] (outline_of r.1)) ≤ most_depth) }
+    ensures shallow { IfOk result (λ r. depth (unfolded [] (outline_of r.1)) ≤ most_depth) }
     ensures fault { IfErr result (λ e. IsSharedFault size most_depth bytes.now e) }
 {
     match after_side(bytes, Side::Attacker) {

@@ -109,7 +109,7 @@ impl Proof {
     /// How many turns the longest way down the tree has: at most 512.
     pub fn depth(&self) -> u16
         ensures depth { result ≡ depth self.now.tree }
-        ensures low { result ≤ MOST_DEPTH }
+        ensures shallow { result ≤ MOST_DEPTH }
     {
         self.measured_tree.depth()
     }

@@ -18,7 +18,7 @@ pub is_proof : {E : Type 0} (search : Searched) (side : Side) (r : Result Proven
 is_proof search side (Err e) z h stands of tree = tt
 is_proof search side (Ok p) z h stands of tree = record {
   stands = stands;
-  low = subst (λ u. depth u ≤ search.limits.depth) (sym tree) (low side search.line.frame.size search.limits.depth search.tree h);
+  shallow = subst (λ u. depth u ≤ search.limits.depth) (sym tree) (low side search.line.frame.size search.limits.depth search.tree h);
   settled = subst (λ s. number s search.tree ≡ 0) (sym of) z;
   strategy = subst (λ s. p.tree ≡ strategy_for s search.tree) (sym of) tree;
 }

@@ -199,4 +199,4 @@ mutual
 -- the strategy of a settled tree makes a proof
 pub makes_proof : (side : Side) (f : Frame) (s : State) (tree : PartialTree) (strategy : Strategy) → strategy ≡ strategy_for side tree → number side tree ≡ 0
     → IsPartialTree f s tree → StaysWithin f.size 512 tree → IsWon side f s strategy
-makes_proof side f s tree strategy e z p h = subst (IsWon side f s) (sym e) (record { wins = wins side f s tree p z; low = low side f.size 512 tree h; in_order = in_order side f s 512 tree p h })
+makes_proof side f s tree strategy e z p h = subst (IsWon side f s) (sym e) (record { wins = wins side f s tree p z; shallow = low side f.size 512 tree h; in_order = in_order side f s 512 tree p h })

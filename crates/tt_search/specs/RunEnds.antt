@@ -19,7 +19,7 @@ pub record RanTo (start search : Searched) : Type 0 where
 -- the proof stands at the search's line, within its limit on depth, and its strategy is that of the search's tree
 pub record IsProofOf (search : Searched) (p : Proven) : Type 0 where
   pub stands : StandsAt p search.line.frame search.line.state
-  pub low : depth p.tree ≤ search.limits.depth
+  pub shallow : depth p.tree ≤ search.limits.depth
   pub settled : number p.side search.tree ≡ 0
   pub strategy : p.tree ≡ strategy_for p.side search.tree
 

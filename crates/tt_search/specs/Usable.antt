@@ -7,4 +7,4 @@ use Rattle.tt_proof.specs.Strategy.{depth}
 -- the proof's strategy wins at the line, and is no deeper than the room
 pub record IsUsable (room : ℕ) (line : LineWithUndo) (p : Proven) : Type 0 where
   pub won : IsWon p.side line.frame line.state p.tree
-  pub low : depth p.tree ≤ room
+  pub shallow : depth p.tree ≤ room

@@ -87,7 +87,7 @@ module _ (line : LineWithUndo) (limits : Limits) (t : Turn) (start : Searched) (
   ends_behind : (end : End) → EndOf start end → EndsBehind line limits t end
   ends_behind (Settled p) (search, ran, proof) =
       let b = reached_behind search ran in
-      let low = proof.low in
+      let low = proof.shallow in
       let deep = b.depth_is in
       ((proof.stands.0 ∙ b.frame, proof.stands.1 ∙ b.state), omega (arith, low, deep))
   ends_behind (Stuck reason (Some search)) (ran, stuck) = (reached_behind search ran, reached_grown search ran, stuck)

@@ -1,4 +1,4 @@
--- What a desk shows once one view has every part.
+-- What a desk shows once one seat stands for all.
 use Rattle.std.proofs.Common.{◌≡◌, ℕ, zero, suc, ◌+◌, ◌-◌, ◌<◌, ◌≤◌, Bool, true, false, ◌||◌, List, [], ◌∷◌, length, set, sum_by, All, Contains, cond, leb, ltb, min, nat_eq, refl, sym, ap}
 use Rattle.std.proofs.Common.{◌∙◌, zero-add, subst, arith, Option, Some, None, MatchOption, IfSome, IsTrue}
 use Rattle.std.specs.List.{list_any}
@@ -11,23 +11,23 @@ use native.Mathlib.Decide.{dec_lt}
 use lib.ListN.{get_elem?}
 use Rattle.tt_share.specs.declared.desk.rule.SeatKnowledge.{SeatKnowledge}
 use Rattle.tt_share.specs.declared.desk.rule.DeskSize.{DeskSize}
-use Rattle.tt_share.specs.Desk.{view_of, no_seat_view, joined, sum_below, overdraw_count, EachSeat, IsDesk}
+use Rattle.tt_share.specs.Desk.{knowledge_of, no_knowledge, joined, sum_below, overdraw_count, EachSeat, IsDesk}
 use Rattle.tt_share.specs.Seats.{DeskView, SeatView, EachOnce, AllJobsDrawn, EndsOverdraw, Spends}
 use Rattle.tt_share.specs.inside.Gathering.{Gathers}
 use Rattle.tt_share.proofs.DeskLists.{at_within, at_read, sum_set, sum_at, sum_le}
 use Rattle.tt_share.proofs.DeskMoves.{counts_room, each_set, right_true}
 
--- where one view has every part, what the others add up to is nothing
-alone : (f : SeatKnowledge → ℕ) (views : List SeatKnowledge) (id : ℕ) (v : SeatKnowledge) → get_elem? views id ≡ some v → sum_by (λ u. u.parts) views ≡ v.parts
-    → f no_seat_view ≡ 0 → EachSeat (λ u. u.parts ≡ 0 → u ≡ no_seat_view) views
-    → sum_by f views ≡ f v
-alone f views id v at all nothing spent =
-    let s = sum_set f views id v no_seat_view at in
-    let p = sum_set (λ u. u.parts) views id v no_seat_view at in
-    let rest : List SeatKnowledge = set views id no_seat_view in
-    let none_left : EachSeat (λ u. u.parts ≡ 0) rest = λ i u e. let b = sum_at (λ w. w.parts) rest i u e in omega arith in
-    let spent_too : EachSeat (λ u. u.parts ≡ 0 → u ≡ no_seat_view) rest = each_set (λ u. u.parts ≡ 0 → u ≡ no_seat_view) views id no_seat_view (λ _. refl) spent in
-    let small = sum_le f (λ u. u.parts) rest (λ i u e. let z : f u ≡ 0 = ap f (spent_too i u e (none_left i u e)) ∙ nothing in omega arith) in
+-- where one seat stands for all, what the others add up to is nothing
+alone : (f : SeatKnowledge → ℕ) (knowledge : List SeatKnowledge) (id : ℕ) (v : SeatKnowledge) → get_elem? knowledge id ≡ some v → sum_by (λ u. u.seat_count) knowledge ≡ v.seat_count
+    → f no_knowledge ≡ 0 → EachSeat (λ u. u.seat_count ≡ 0 → u ≡ no_knowledge) knowledge
+    → sum_by f knowledge ≡ f v
+alone f knowledge id v at all nothing spent =
+    let s = sum_set f knowledge id v no_knowledge at in
+    let p = sum_set (λ u. u.seat_count) knowledge id v no_knowledge at in
+    let rest : List SeatKnowledge = set knowledge id no_knowledge in
+    let none_left : EachSeat (λ u. u.seat_count ≡ 0) rest = λ i u e. let b = sum_at (λ w. w.seat_count) rest i u e in omega arith in
+    let spent_too : EachSeat (λ u. u.seat_count ≡ 0 → u ≡ no_knowledge) rest = each_set (λ u. u.seat_count ≡ 0 → u ≡ no_knowledge) knowledge id no_knowledge (λ _. refl) spent in
+    let small = sum_le f (λ u. u.seat_count) rest (λ i u e. let z : f u ≡ 0 = ap f (spent_too i u e (none_left i u e)) ∙ nothing in omega arith) in
     omega arith
 
 or_nothing : (b : Bool) → (b || false) ≡ b
@@ -42,22 +42,22 @@ or_swap false false c e = e
 
 -- what the table's seat of a seat knows
 abbrev pub sat_as : SeatView → SeatKnowledge
-sat_as s = view_of 1 s.numbers s.grants s.flag s.sighting
+sat_as s = knowledge_of 1 s.numbers s.grants s.flag s.saw_flag
 
--- the view of one seat gathers that seat
+-- what one seat knows gathers that seat
 pub gathers_first : (s : SeatView) → Gathers (s ∷ []) (sat_as s)
 gathers_first s = record {
-  parts = refl;
+  seat_count = refl;
   numbers = λ weight. zero-add (sum_by weight s.numbers);
   grants = λ weight. zero-add (sum_by weight s.grants);
   marks = or_nothing s.flag;
-  sightings = or_nothing s.sighting;
+  saw_flag = or_nothing s.saw_flag;
 }
 
--- joined with the view of one more seat, a view gathers that seat too
+-- joined with what one more seat knows, it gathers that seat too
 pub gathers_more : (s : SeatView) (taken : List SeatView) (v : SeatKnowledge) → Gathers taken v → Gathers (s ∷ taken) (joined v (sat_as s))
 gathers_more s taken v h = record {
-  parts = let p = h.parts in omega arith;
+  seat_count = let p = h.seat_count in omega arith;
   numbers = λ weight.
       let was = h.numbers weight in
       let c = sum_by-cons (λ (t : SeatView). sum_by weight t.numbers) s taken in
@@ -69,7 +69,7 @@ gathers_more s taken v h = record {
       let a = sum_by-append weight v.grants s.grants in
       omega arith;
   marks = or_swap s.flag v.flag (list_any (λ t. t.flag) taken) h.marks;
-  sightings = or_swap s.sighting v.sighting (list_any (λ t. t.sighting) taken) h.sightings;
+  saw_flag = or_swap s.saw_flag v.saw_flag (list_any (λ t. t.saw_flag) taken) h.saw_flag;
 }
 
 -- where each number weighs 1, those below n weigh n
@@ -170,33 +170,33 @@ pub record End (desk : DeskView) (seats : List SeatView) (drawn asked : ℕ) : T
   pub jobs_drawn : AllJobsDrawn (λ s. s.numbers) desk.jobs seats
   pub draws_most : drawn ≤ desk.jobs + desk.seats
   pub draws_are : All (λ s. EndsOverdraw desk.jobs s.numbers) seats → drawn ≡ desk.jobs + desk.seats
-  pub sighted : IsTrue (list_any (λ s. s.sighting) seats) → IsTrue (list_any (λ s. s.flag) seats)
+  pub sighted : IsTrue (list_any (λ s. s.saw_flag) seats) → IsTrue (list_any (λ s. s.flag) seats)
   pub grants : (total : ℕ) → 0 < total → Spends total (min asked total) seats
 
--- where one view gathers all seats and has every part, they show what seats of a closed desk show
-pub closes : (desk : DeskView) (plan : DeskSize) (drawn flag asked : ℕ) (views : List SeatKnowledge) (id : ℕ) (v : SeatKnowledge) (seats : List SeatView) → plan.jobs ≡ desk.jobs → plan.seats ≡ desk.seats
+-- where one gathers all seats and stands for all, they show what seats of a closed desk show
+pub closes : (desk : DeskView) (plan : DeskSize) (drawn flag asked : ℕ) (knowledge : List SeatKnowledge) (id : ℕ) (v : SeatKnowledge) (seats : List SeatView) → plan.jobs ≡ desk.jobs → plan.seats ≡ desk.seats
     → length seats ≡ desk.seats
-    → 0 < desk.jobs → 0 < desk.seats → Gathers seats v → IsDesk plan drawn flag asked views → get_elem? views id ≡ some v → End desk seats drawn asked
-closes desk plan drawn flag asked views id v seats same_jobs same_seats len some_job some_seat g h at =
-    let all_parts : sum_by (λ u. u.parts) views ≡ v.parts = let p = h.parts in let q = g.parts in omega arith in
+    → 0 < desk.jobs → 0 < desk.seats → Gathers seats v → IsDesk plan drawn flag asked knowledge → get_elem? knowledge id ≡ some v → End desk seats drawn asked
+closes desk plan drawn flag asked knowledge id v seats same_jobs same_seats len some_job some_seat g h at =
+    let all_parts : sum_by (λ u. u.seat_count) knowledge ≡ v.seat_count = let p = h.seat_count in let q = g.seat_count in omega arith in
     let numbers : (weight : ℕ → ℕ) → sum_by (λ (s : SeatView). sum_by weight s.numbers) seats ≡ sum_below weight drawn = λ weight.
-    g.numbers weight ∙ (sym (alone (λ u. sum_by weight u.numbers) views id v at all_parts refl h.spent) ∙ h.draws.each_once weight) in
+    g.numbers weight ∙ (sym (alone (λ u. sum_by weight u.numbers) knowledge id v at all_parts refl h.spent) ∙ h.draws.each_once weight) in
     let grants : (weight : ℕ → ℕ) → sum_by (λ (s : SeatView). sum_by weight s.grants) seats ≡ sum_below weight asked = λ weight.
-    g.grants weight ∙ (sym (alone (λ u. sum_by weight u.grants) views id v at all_parts refl h.spent) ∙ h.grants.each_once weight) in record {
+    g.grants weight ∙ (sym (alone (λ u. sum_by weight u.grants) knowledge id v at all_parts refl h.spent) ∙ h.grants.each_once weight) in record {
       draws = each_once (λ s. s.numbers) drawn seats numbers;
       jobs_drawn = uses (λ s. s.numbers) drawn seats numbers desk.jobs some_job;
-      draws_most = let most = counts_room (λ u. u.numbers) plan.jobs drawn views h.draws in omega arith;
+      draws_most = let most = counts_room (λ u. u.numbers) plan.jobs drawn knowledge h.draws in omega arith;
       draws_are = λ all.
           let least = all_overdraw (λ s. s.numbers) drawn seats numbers desk.jobs some_job (omega arith) all in
-          let most = counts_room (λ u. u.numbers) plan.jobs drawn views h.draws in
+          let most = counts_room (λ u. u.numbers) plan.jobs drawn knowledge h.draws in
           omega arith;
       sighted = λ saw.
-          let is : flag ≡ 1 = h.marked.known id v at (right_true v.flag v.sighting (sym g.sightings ∙ saw)) in
+          let is : flag ≡ 1 = h.marked.known id v at (right_true v.flag v.saw_flag (sym g.saw_flag ∙ saw)) in
           let has = h.marked.raised is in
           let bit : SeatKnowledge → ℕ = λ u. cond u.flag 1 0 in
-          let one = sum_at bit views has.0 has.1 has.2 in
+          let one = sum_at bit knowledge has.0 has.1 has.2 in
           let its_bit : bit has.1 ≡ 1 = ap (λ (b : Bool). cond b 1 0) has.3 in
-          g.marks ∙ is_set v.flag (let e = alone bit views id v at all_parts refl h.spent in omega arith);
+          g.marks ∙ is_set v.flag (let e = alone bit knowledge id v at all_parts refl h.spent in omega arith);
       grants = λ total positive. spends total asked seats positive grants;
     }
 

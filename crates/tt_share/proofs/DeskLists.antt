@@ -1,4 +1,4 @@
--- Sums over the views, after one of them changed.
+-- Sums over what the seats know, after one of them changed.
 use Rattle.std.proofs.Common.{◌≡◌, ℕ, zero, suc, ◌+◌, ◌-◌, ◌<◌, ◌≤◌, List, [], ◌∷◌, ◌++◌, length, get_or, set, sum_by, count_by, cond, leb, refl, sym, ap, add-one, subst, arith, zero-le}
 use Rattle.std.specs.List.Sorted.{IsStrictlyIncreasing}
 use Rattle.std.proofs.lemmas.Grind.{common_steps}

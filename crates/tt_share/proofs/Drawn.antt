@@ -18,5 +18,5 @@ pub drawn_all : (jobs : ℕ) (first old new : List ℕ) (found more : List Searc
     → more ≡ found → AddsOverdraw jobs old new → AddsOverdraw jobs (first ++ jobs_of more) new
 drawn_all jobs first old new found more was same overdraw = (overdraw.0, overdraw.1 ∙ ap (λ ns. ns ++ overdraw.0) (was ∙ ap (λ fs. first ++ jobs_of fs) (sym same)), overdraw.2)
 
-pub numbers_of : (s : SeatView) (desk : TableId) (numbers grants : List ℕ) (flag sighting : Bool) → s ≡ seat_of desk numbers grants flag sighting → s.numbers ≡ numbers
-numbers_of s desk numbers grants flag sighting is = ap (λ (t : SeatView). t.numbers) is
+pub numbers_of : (s : SeatView) (desk : TableId) (numbers grants : List ℕ) (flag saw_flag : Bool) → s ≡ seat_of desk numbers grants flag saw_flag → s.numbers ≡ numbers
+numbers_of s desk numbers grants flag saw_flag is = ap (λ (t : SeatView). t.numbers) is

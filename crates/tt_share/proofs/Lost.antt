@@ -30,7 +30,7 @@ pub are_children : (line : LineWithUndo) (limits : Limits) (cs : List (Turn × P
 are_children line limits [] most all = tt
 are_children line limits (c ∷ cs) most all =
     let lost = first_of_all (IsLost line limits) c cs all in
-    (record { stands = lost.stands; same_side = lost.side; low = omega (arith, lost.low) }, are_children line limits cs most (rest_of_all (IsLost line limits) c cs all))
+    (record { stands = lost.stands; same_side = lost.side; shallow = omega (arith, lost.shallow) }, are_children line limits cs most (rest_of_all (IsLost line limits) c cs all))
 
 -- and the reply is within the limit on depth
 pub reply_is_low : (line : LineWithUndo) (limits : Limits) (cs : List (Turn × Proven)) → All (IsLost line limits) cs → depth_of_entries (entries_of (trees_of cs)) ≤ limits.depth
@@ -38,7 +38,7 @@ reply_is_low line limits [] all = omega arith
 reply_is_low line limits (c ∷ cs) all =
     let lost = first_of_all (IsLost line limits) c cs all in
     let rest = reply_is_low line limits cs (rest_of_all (IsLost line limits) c cs all) in
-    omega (arith, lost.low, rest)
+    omega (arith, lost.shallow, rest)
 
 -- one more turn that has lost
 pub one_more : (line : LineWithUndo) (limits : Limits) (cs : List (Turn × Proven)) (c : Turn × Proven) → HaveLost line limits cs → IsJob line (length cs) c.0 → IsLost line limits c

@@ -23,9 +23,9 @@ two_spares limit (x ∷ xs) (suc k) h one two =
     let more = two_spares limit xs k (omega arith) one (subst (λ (j : ℕ). limit ≤ get_or (x ∷ xs) j 0) next two) in omega arith
 
 -- what numbers that are counted say in plain words
-count_law : (list : SeatKnowledge → List ℕ) (limit word : ℕ) (views : List SeatKnowledge) → EachNumberOnce list limit word views → IsCount list limit word views
-count_law list limit word views h = record {
-  count = sum_same (λ v. length (list v)) (λ v. sum_by (λ _. 1) (list v)) views (λ v. sym (ones (list v))) ∙ (h.each_once (λ _. 1) ∙ ones_below word);
+count_law : (list : SeatKnowledge → List ℕ) (limit word : ℕ) (knowledge : List SeatKnowledge) → EachNumberOnce list limit word knowledge → IsCount list limit word knowledge
+count_law list limit word knowledge h = record {
+  count = sum_same (λ v. length (list v)) (λ v. sum_by (λ _. 1) (list v)) knowledge (λ v. sym (ones (list v))) ∙ (h.each_once (λ _. 1) ∙ ones_below word);
   below = λ n lt. h.each_once (λ k. cond (nat_eq k n) 1 0) ∙ once_below n word lt;
   above = λ n le. h.each_once (λ k. cond (nat_eq k n) 1 0) ∙ never_below n word le;
   rising = h.rising;
@@ -38,23 +38,23 @@ count_law list limit word views h = record {
 }
 
 -- what the flag says in plain words
-stop_law : (word : ℕ) (views : List SeatKnowledge) → IsMark word views → IsStop word views
-stop_law word views h = record {
+stop_law : (word : ℕ) (knowledge : List SeatKnowledge) → IsMark word knowledge → IsStop word knowledge
+stop_law word knowledge h = record {
   bit = dite (dec_lt word 1) (λ lt. inl (omega arith)) (λ ge. let b = h.bit in inr (omega arith));
   raised = h.raised;
-  flag = λ seat v at is. h.known seat v at (left_true v.flag v.sighting is);
-  sighting = λ seat v at is. h.known seat v at (right_true v.flag v.sighting is);
+  flag = λ seat v at is. h.known seat v at (left_true v.flag v.saw_flag is);
+  saw_flag = λ seat v at is. h.known seat v at (right_true v.flag v.saw_flag is);
 }
 
 -- what a desk says in plain words
-state_law : (plan : DeskSize) (drawn flag asked : ℕ) (views : List SeatKnowledge) → IsDesk plan drawn flag asked views → IsDeskState plan (drawn ∷ flag ∷ asked ∷ []) views
-state_law plan drawn flag asked views h = record {
+state_law : (plan : DeskSize) (drawn flag asked : ℕ) (knowledge : List SeatKnowledge) → IsDesk plan drawn flag asked knowledge → IsDeskState plan (drawn ∷ flag ∷ asked ∷ []) knowledge
+state_law plan drawn flag asked knowledge h = record {
   three_words = refl;
-  parts = h.parts;
+  seat_count = h.seat_count;
   spent = h.spent;
-  draws = count_law (λ v. v.numbers) plan.jobs drawn views h.draws;
-  stop = stop_law flag views h.marked;
-  grants = count_law (λ v. v.grants) plan.total asked views h.grants;
+  draws = count_law (λ v. v.numbers) plan.jobs drawn knowledge h.draws;
+  stop = stop_law flag knowledge h.marked;
+  grants = count_law (λ v. v.grants) plan.total asked knowledge h.grants;
 }
 
 -- what the rule says of each state in plain words

@@ -22,7 +22,7 @@ use Rattle.tt_share.specs.declared.answer.Stuck.{Stuck}
 -- the proof stands at the line, within the limit on depth; its first turn is there exactly where its side is to move
 pub record IsSettled (line : LineWithUndo) (limits : Limits) (p : Proven) (first : Option Turn) : Type 0 where
   pub stands : StandsAt p line.frame line.state
-  pub low : depth p.tree ≤ limits.depth
+  pub shallow : depth p.tree ≤ limits.depth
   pub first_is : first ≡ first_of p.tree
   pub shown : IsSome first ↔ (p.side ≡ line.state.to_move)
 

@@ -7,42 +7,44 @@ use Rattle.atomic_table.specs.Table.{State, Me}
 use Rattle.tt_share.specs.declared.desk.rule.SeatKnowledge.{SeatKnowledge}
 use Rattle.tt_share.specs.declared.desk.rule.DeskSize.{DeskSize}
 
-abbrev pub view_of : ℕ → List ℕ → List ℕ → Bool → Bool → SeatKnowledge
-view_of parts numbers grants flag sighting = record { parts = parts; numbers = numbers; grants = grants; flag = flag; sighting = sighting }
+-- how many of the desk's seats it stands for, the numbers that it drew and those that it got as grants, whether it raised the flag and
+-- whether it saw it
+abbrev pub knowledge_of : ℕ → List ℕ → List ℕ → Bool → Bool → SeatKnowledge
+knowledge_of seat_count numbers grants flag saw_flag = record { seat_count = seat_count; numbers = numbers; grants = grants; flag = flag; saw_flag = saw_flag }
 
--- a view that has made no step
-abbrev pub blank : ℕ → SeatKnowledge
-blank parts = view_of parts [] [] false false
+-- what is known before the first step
+abbrev pub unused : ℕ → SeatKnowledge
+unused seat_count = knowledge_of seat_count [] [] false false
 
--- the view of the one seat that a new desk has
-abbrev pub whole_view : DeskSize → SeatKnowledge
-whole_view plan = blank plan.seats
+-- what the one seat of a new desk knows
+abbrev pub first_knowledge : DeskSize → SeatKnowledge
+first_knowledge plan = unused plan.seats
 
--- the view of a seat that was handed out
-abbrev pub handed_out_view : SeatKnowledge
-handed_out_view = blank 1
+-- what a seat knows when it is handed out
+abbrev pub handed_out_knowledge : SeatKnowledge
+handed_out_knowledge = unused 1
 
 -- what a join leaves behind
-abbrev pub no_seat_view : SeatKnowledge
-no_seat_view = blank 0
+abbrev pub no_knowledge : SeatKnowledge
+no_knowledge = unused 0
 
 abbrev pub fewer : SeatKnowledge → SeatKnowledge
-fewer v = view_of (v.parts - 1) v.numbers v.grants v.flag v.sighting
+fewer v = knowledge_of (v.seat_count - 1) v.numbers v.grants v.flag v.saw_flag
 
 abbrev pub joined : SeatKnowledge → SeatKnowledge → SeatKnowledge
-joined v w = view_of (v.parts + w.parts) (v.numbers ++ w.numbers) (v.grants ++ w.grants) (v.flag || w.flag) (v.sighting || w.sighting)
+joined v w = knowledge_of (v.seat_count + w.seat_count) (v.numbers ++ w.numbers) (v.grants ++ w.grants) (v.flag || w.flag) (v.saw_flag || w.saw_flag)
 
 abbrev pub with_draw : SeatKnowledge → ℕ → SeatKnowledge
-with_draw v n = view_of v.parts (v.numbers ++ n ∷ []) v.grants v.flag v.sighting
+with_draw v n = knowledge_of v.seat_count (v.numbers ++ n ∷ []) v.grants v.flag v.saw_flag
 
 abbrev pub with_grant : SeatKnowledge → ℕ → SeatKnowledge
-with_grant v n = view_of v.parts v.numbers (v.grants ++ n ∷ []) v.flag v.sighting
+with_grant v n = knowledge_of v.seat_count v.numbers (v.grants ++ n ∷ []) v.flag v.saw_flag
 
 abbrev pub with_flag : SeatKnowledge → SeatKnowledge
-with_flag v = view_of v.parts v.numbers v.grants true v.sighting
+with_flag v = knowledge_of v.seat_count v.numbers v.grants true v.saw_flag
 
-abbrev pub with_sighting : SeatKnowledge → Bool → SeatKnowledge
-with_sighting v seen = view_of v.parts v.numbers v.grants v.flag (v.sighting || seen)
+abbrev pub with_look : SeatKnowledge → Bool → SeatKnowledge
+with_look v seen = knowledge_of v.seat_count v.numbers v.grants v.flag (v.saw_flag || seen)
 
 -- the weights of the numbers below n, added up
 abbrev pub sum_below : (ℕ → ℕ) → ℕ → ℕ
@@ -53,34 +55,34 @@ sum_below weight (suc n) = sum_below weight n + weight n
 abbrev pub overdraw_count : ℕ → List ℕ → ℕ
 overdraw_count limit numbers = count_by (λ n. leb limit n) numbers
 
--- each view that is there meets P
+-- what each seat knows meets P
 abbrev pub EachSeat : (SeatKnowledge → Type 0) → List SeatKnowledge → Type 0
-EachSeat P views = (seat : ℕ) (v : SeatKnowledge) → get_elem? views seat ≡ some v → P v
+EachSeat P knowledge = (seat : ℕ) (v : SeatKnowledge) → get_elem? knowledge seat ≡ some v → P v
 
--- some view that is there meets P
+-- what some seat knows meets P
 abbrev pub SomeSeat : (SeatKnowledge → Type 0) → List SeatKnowledge → Type 0
-SomeSeat P views = (seat : ℕ) × (v : SeatKnowledge) × (get_elem? views seat ≡ some v) × P v
+SomeSeat P knowledge = (seat : ℕ) × (v : SeatKnowledge) × (get_elem? knowledge seat ≡ some v) × P v
 
--- The numbers in the views' lists are those below `count`, each once: however numbers are weighed, both weigh the same.
--- A view has at most as many numbers that are not below the limit as it has parts, and with one part its numbers rise
-pub record EachNumberOnce (numbers : SeatKnowledge → List ℕ) (limit count : ℕ) (views : List SeatKnowledge) : Type 0 where
-  pub each_once : (weight : ℕ → ℕ) → sum_by (λ v. sum_by weight (numbers v)) views ≡ sum_below weight count
-  pub spares : EachSeat (λ v. overdraw_count limit (numbers v) ≤ v.parts) views
-  pub rising : EachSeat (λ v. v.parts ≡ 1 → IsStrictlyIncreasing (numbers v)) views
+-- The numbers in the seats' lists are those below `count`, each once: however numbers are weighed, both weigh the same.
+-- A seat knows at most as many numbers not below the limit as it stands for seats; where it stands for one, its numbers rise
+pub record EachNumberOnce (numbers : SeatKnowledge → List ℕ) (limit count : ℕ) (knowledge : List SeatKnowledge) : Type 0 where
+  pub each_once : (weight : ℕ → ℕ) → sum_by (λ v. sum_by weight (numbers v)) knowledge ≡ sum_below weight count
+  pub spares : EachSeat (λ v. overdraw_count limit (numbers v) ≤ v.seat_count) knowledge
+  pub rising : EachSeat (λ v. v.seat_count ≡ 1 → IsStrictlyIncreasing (numbers v)) knowledge
 
--- the flag is raised only where some view has its flag, and a flag or a sighting in any view says that it is
-pub record IsMark (flag : ℕ) (views : List SeatKnowledge) : Type 0 where
+-- the flag is raised only where some seat raised it, and where a seat raised it or saw it, it is
+pub record IsMark (flag : ℕ) (knowledge : List SeatKnowledge) : Type 0 where
   pub bit : flag ≤ 1
-  pub raised : flag ≡ 1 → SomeSeat (λ v. v.flag ≡ true) views
-  pub known : EachSeat (λ v. (v.flag || v.sighting) ≡ true → flag ≡ 1) views
+  pub raised : flag ≡ 1 → SomeSeat (λ v. v.flag ≡ true) knowledge
+  pub known : EachSeat (λ v. (v.flag || v.saw_flag) ≡ true → flag ≡ 1) knowledge
 
--- The parts of all views are the desk's seats, and a view with no part holds nothing
-pub record IsDesk (plan : DeskSize) (drawn flag asked : ℕ) (views : List SeatKnowledge) : Type 0 where
-  pub parts : sum_by (λ v. v.parts) views ≡ plan.seats
-  pub spent : EachSeat (λ v. v.parts ≡ 0 → v ≡ no_seat_view) views
-  pub draws : EachNumberOnce (λ v. v.numbers) plan.jobs drawn views
-  pub marked : IsMark flag views
-  pub grants : EachNumberOnce (λ v. v.grants) plan.total asked views
+-- Together they stand for all of the desk's seats, and one that stands for none knows nothing
+pub record IsDesk (plan : DeskSize) (drawn flag asked : ℕ) (knowledge : List SeatKnowledge) : Type 0 where
+  pub seat_count : sum_by (λ v. v.seat_count) knowledge ≡ plan.seats
+  pub spent : EachSeat (λ v. v.seat_count ≡ 0 → v ≡ no_knowledge) knowledge
+  pub draws : EachNumberOnce (λ v. v.numbers) plan.jobs drawn knowledge
+  pub marked : IsMark flag knowledge
+  pub grants : EachNumberOnce (λ v. v.grants) plan.total asked knowledge
 
 -- What holds between any two steps: the first word counts the draws, the second is the flag, and the third counts the asks
 abbrev pub DeskHolds : DeskSize → State (Unit {0}) SeatKnowledge → Type 0
@@ -105,4 +107,4 @@ Raises before after = after ≡ (with_flag before.0, before.1)
 -- what was found is seen, and where this seat raised or saw the flag before, it was found
 abbrev pub Looks : SeatState → ℕ → SeatState → Type 0
 Looks before found after =
-    (after ≡ (with_sighting before.0 (nat_eq found 1), before.1)) × ((before.0.flag || before.0.sighting) ≡ true → found ≡ 1)
+    (after ≡ (with_look before.0 (nat_eq found 1), before.1)) × ((before.0.flag || before.0.saw_flag) ≡ true → found ≡ 1)

@@ -19,10 +19,10 @@ pub record SeatView : Type 0 where
   pub numbers : List ℕ
   pub grants : List ℕ
   pub flag : Bool
-  pub sighting : Bool
+  pub saw_flag : Bool
 
 abbrev pub seat_of : TableId → List ℕ → List ℕ → Bool → Bool → SeatView
-seat_of desk numbers grants flag sighting = record { desk = desk; numbers = numbers; grants = grants; flag = flag; sighting = sighting }
+seat_of desk numbers grants flag saw_flag = record { desk = desk; numbers = numbers; grants = grants; flag = flag; saw_flag = saw_flag }
 
 -- a seat that has made no step
 abbrev pub fresh : TableId → SeatView
@@ -44,13 +44,13 @@ pub record Joins (before : List ℕ) (n : ℕ) (after : List ℕ) : Type 0 where
 
 -- the seat drew n
 pub record Adds (jobs : ℕ) (before : SeatView) (n : ℕ) (answer : Option ℕ) (after : SeatView) : Type 0 where
-  pub seat : after ≡ seat_of before.desk after.numbers before.grants before.flag before.sighting
+  pub seat : after ≡ seat_of before.desk after.numbers before.grants before.flag before.saw_flag
   pub joins : Joins before.numbers n after.numbers
   pub answer_is : answer ≡ cond (ltb n jobs) (Some n) None
 
 -- the seat asked for a grant and got n, which is one where it is below the total
 pub record Gains (total : ℕ) (before : SeatView) (n : ℕ) (answer : Bool) (after : SeatView) : Type 0 where
-  pub seat : after ≡ seat_of before.desk before.numbers after.grants before.flag before.sighting
+  pub seat : after ≡ seat_of before.desk before.numbers after.grants before.flag before.saw_flag
   pub joins : Joins before.grants n after.grants
   pub answer_is : answer ≡ ltb n total
 
@@ -94,6 +94,6 @@ pub record Closes (desk : DeskView) (seats : List SeatView) (closed : Closed) : 
   -- where every seat did, there were as many draws as jobs and seats
   pub draws_are : All (λ s. EndsOverdraw desk.jobs s.numbers) seats → closed.draws ≡ desk.jobs + desk.seats
   -- where some seat saw the flag, some seat raised it
-  pub sighted : IsTrue (list_any (λ s. s.sighting) seats) → IsTrue (list_any (λ s. s.flag) seats)
+  pub sighted : IsTrue (list_any (λ s. s.saw_flag) seats) → IsTrue (list_any (λ s. s.flag) seats)
   -- what was granted of the total; without one nothing is counted
   pub granted : MatchOption desk.total (closed.granted ≡ 0) (λ total. Spends total closed.granted seats)

@@ -7,12 +7,12 @@ ghost use Rattle.std.specs.Prelude.{◌≡◌, ℕ, ◌≢◌, ◌+◌, ◌<◌,
 ghost use Rattle.std.specs.Prelude.{IfOk, IfSome, IfNone, MatchOption, MatchResult, IsTrue, All};
 ghost use Rattle.tt_game.specs.declared.turns.TheConstants.{MOST_LEGAL};
 ghost use Rattle.tt_share.specs.declared.capacity.TheConstants.{MOST_WORKERS};
-ghost use Rattle.tt_share.specs.Desk.{blank, view_of};
+ghost use Rattle.tt_share.specs.Desk.{unused, knowledge_of};
 ghost use Rattle.tt_share.specs.Seats.{seat_of, fresh, EndsOverdraw, Adds, Gains, granted_of, Closes};
 ghost use Rattle.tt_share.specs.inside.Gathering.{Gathers};
 
 use crate::desk::rule::{
-    AtDesk, DeskSize, Draw, Grant, Raise, SeatJoin, SeatKnowledge, SeatSplit, Sighting,
+    AtDesk, DeskSize, Draw, Grant, Look, Raise, SeatJoin, SeatKnowledge, SeatSplit,
 };
 use atomic_table::Table;
 use std::alloc::Global;
@@ -75,10 +75,10 @@ impl Model for Seat {
 
     ghost Value = { SeatView };
 
-    ghost view = { λ s. seat_of s.seat.table_id s.seat.me.0.numbers s.seat.me.0.grants s.seat.me.0.flag s.seat.me.0.sighting };
+    ghost view = { λ s. seat_of s.seat.table_id s.seat.me.0.numbers s.seat.me.0.grants s.seat.me.0.flag s.seat.me.0.saw_flag };
 
     ghost invariant = { λ s. record {
-      one_part : s.seat.me.0.parts ≡ 1;
+      one_part : s.seat.me.0.seat_count ≡ 1;
       no_slot : s.seat.me.1 ≡ [];
       last : s.last ≡ last_number s.seat.me.0.numbers;
       last_grant : s.last_grant ≡ last_number s.seat.me.0.grants;
@@ -88,14 +88,14 @@ impl Model for Seat {
 impl Seat {
     fn into_inner(self) -> atomic_table::Seat<(), SeatKnowledge>
         ensures desk { result.table_id ≡ self.desk }
-        ensures me { result.me ≡ (view_of 1 self.numbers self.grants self.flag self.sighting, []) }
+        ensures me { result.me ≡ (knowledge_of 1 self.numbers self.grants self.flag self.saw_flag, []) }
     {
         let Seat { seat, .. } = self;
         seat
     }
 
-    fn blank(seat: atomic_table::Seat<(), SeatKnowledge>) -> Seat
-        requires { seat.me ≡ (blank 1, []) }
+    fn unused(seat: atomic_table::Seat<(), SeatKnowledge>) -> Seat
+        requires { seat.me ≡ (unused 1, []) }
         ensures { result ≡ fresh seat.table_id }
     {
         Seat {
@@ -106,7 +106,7 @@ impl Seat {
     }
 }
 
-// Cuts the first seat into as many as it has parts, into a list that has room for them.
+// Cuts the first seat into as many as it stands for, into a list that has room for them.
 fn cut_all(
     table: &Words,
     mut first: atomic_table::Seat<(), SeatKnowledge>,
@@ -115,15 +115,15 @@ fn cut_all(
 ) -> Vec<Seat>
     requires seats { 0 < seats }
     requires table { (first.table_id ≡ table.now.shared.table_id) × (0 < table.now.shared.table_id.words) }
-    requires first { first.me ≡ (blank seats, []) }
+    requires first { first.me ≡ (unused seats, []) }
     requires room { (all.items ≡ []) × (vec_capacity all ≡ seats) }
     ensures { result.items ≡ replicate seats (fresh table.now.shared.table_id) }
 {
     for _ in 1..seats {
         let seat = table.shared.split_seat::<SeatSplit>(&mut first);
-        all.push_reserved(Seat::blank(seat));
+        all.push_reserved(Seat::unused(seat));
     }
-    all.push_reserved(Seat::blank(first));
+    all.push_reserved(Seat::unused(first));
     all
 }
 
@@ -137,7 +137,7 @@ fn join_all(
     requires last { last.desk ≡ table.now.shared.table_id }
     requires seats { All (λ s. s.desk ≡ table.now.shared.table_id) seats.items }
     ensures table { (result.table_id ≡ table.now.shared.table_id) × (result.me.1 ≡ []) }
-    ensures view { Gathers (seats.items ++ last ∷ []) result.me.0 }
+    ensures knowledge { Gathers (seats.items ++ last ∷ []) result.me.0 }
 {
     let mut whole = last.into_inner();
     while let Some(other) = seats.pop() {
@@ -220,7 +220,7 @@ impl Desk {
     /// Raises the flag, by one step. Nothing lowers it. The seat is one of this desk's.
     pub fn raise(&self, s: &mut Seat)
         requires { s.old.desk ≡ self.now.id }
-        ensures { s.new ≡ seat_of s.old.desk s.old.numbers s.old.grants true s.old.sighting }
+        ensures { s.new ≡ seat_of s.old.desk s.old.numbers s.old.grants true s.old.saw_flag }
     {
         self.table.shared.fetch_max::<Raise>(&mut s.seat, 1, 1);
     }
@@ -229,10 +229,10 @@ impl Desk {
     /// though another seat has raised it. The seat is one of this desk's.
     pub fn raised(&self, s: &mut Seat) -> bool
         requires { s.old.desk ≡ self.now.id }
-        ensures sighting { s.new ≡ seat_of s.old.desk s.old.numbers s.old.grants s.old.flag (s.old.sighting || result) }
-        ensures again { IsTrue (s.old.flag || s.old.sighting) → IsTrue result }
+        ensures saw_flag { s.new ≡ seat_of s.old.desk s.old.numbers s.old.grants s.old.flag (s.old.saw_flag || result) }
+        ensures again { IsTrue (s.old.flag || s.old.saw_flag) → IsTrue result }
     {
-        self.table.shared.load::<Sighting>(&mut s.seat, 1) == 1
+        self.table.shared.load::<Look>(&mut s.seat, 1) == 1
     }
 
     /// Whether one more of the desk's total was left, by one step. Once a seat was refused, each later call on that seat is
@@ -245,7 +245,7 @@ impl Desk {
         ensures grants { IfSome self.now.total (λ total. ¬ EndsOverdraw total s.old.grants → (n : ℕ) × Gains total s.old n result s.new) }
         ensures tally { IfSome self.now.total (λ total. granted_of total s.new.grants ≡ granted_of total s.old.grants + cond result 1 0) }
         ensures refused { IfSome self.now.total (λ total. result ≡ false → EndsOverdraw total s.new.grants) }
-        ensures stays { s.new ≡ seat_of s.old.desk s.old.numbers s.new.grants s.old.flag s.old.sighting }
+        ensures stays { s.new ≡ seat_of s.old.desk s.old.numbers s.new.grants s.old.flag s.old.saw_flag }
         ensures desk { s.new.desk ≡ s.old.desk }
     {
         let Some(total) = self.total else {

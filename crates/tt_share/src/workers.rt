@@ -34,8 +34,8 @@ fn next_job(grants: &mut SeatGrants<'_>, searched: &mut Vec<SearchedJob>) -> Opt
     ensures desk { grants.new.desk.now ≡ grants.old.desk.now }
     ensures counts { (grants.new.granted ≡ grants.old.granted) × (grants.new.refused ≡ grants.old.refused) }
     ensures seat { (grants.new.seat.desk ≡ grants.old.seat.desk) × (grants.new.seat.flag ≡ grants.old.seat.flag) }
-    ensures saw { IsTrue grants.old.seat.sighting → IsTrue grants.new.seat.sighting }
-    ensures stopped { IsTrue (grants.new.seat.flag || grants.new.seat.sighting) → (result ≡ None) × (grants.new.seat.numbers ≡ grants.old.seat.numbers) }
+    ensures saw { IsTrue grants.old.seat.saw_flag → IsTrue grants.new.seat.saw_flag }
+    ensures stopped { IsTrue (grants.new.seat.flag || grants.new.seat.saw_flag) → (result ≡ None) × (grants.new.seat.numbers ≡ grants.old.seat.numbers) }
     ensures job { IfSome result (λ n. (n < grants.old.desk.now.jobs) × (length grants.old.seat.numbers ≤ n) × (grants.new.seat.numbers ≡ grants.old.seat.numbers ++ n ∷ [])) }
     ensures overdraw { IfNone result (AddsOverdraw grants.old.desk.now.jobs grants.old.seat.numbers grants.new.seat.numbers) }
     ensures room { IfSome result (λ _. vec_len searched.new < vec_capacity searched.new) }

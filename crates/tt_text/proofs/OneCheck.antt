@@ -36,7 +36,7 @@ module _ (one : OneSharedCertificate) (answer : OneSharedAnswer) (p : LineWithUn
       answer t p.frame q p.state a b (subst (λ (x : Side). SharedPartsSay x p.frame q p.state a) same.0 (subst (λ (x : Outline). SharedPartsSay s p.frame x p.state a) same.1 h)) k
 
   not_deeper : (s : Side) (o : Outline) → IsSharedCertificate p.frame.size bytes s o → IsSharedFault p.frame.size MOST_DEPTH bytes TooDeep → ⊥
-  not_deeper s o is h = let deep = h.1 s o is.closed is.orderly is.text in let low = is.low in omega (arith, deep, low)
+  not_deeper s o is h = let deep = h.1 s o is.closed is.orderly is.text in let low = is.shallow in omega (arith, deep, low)
 
   is_read : (s : Side) (o : Outline) → IsSharedCertificate p.frame.size bytes s o → IsSharedFault p.frame.size MOST_DEPTH bytes Syntax → ⊥
   is_read s o is h = h.0 s o is.closed is.orderly is.text

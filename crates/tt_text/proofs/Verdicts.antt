@@ -38,12 +38,12 @@ pub plain_shared : (p : Proven) (f : Frame) (s : State) (most : ℕ) (text : Lis
     → depth p.tree ≤ most → text ≡ certificate_text f.size p.side p.tree → IsWinningSharedCertificate f s p.side (first_of p.tree) most text
 plain_shared p f s most text at won low e =
     let w = won_there p f s at won in
-    let c = certificates_shared f.size text p.side p.tree (record { in_order = w.in_order; low = w.low; text = e }) in
+    let c = certificates_shared f.size text p.side p.tree (record { in_order = w.in_order; shallow = w.shallow; text = e }) in
     record {
       outline = c.0;
       is = c.1.0;
       wins = subst (λ (v : Strategy). Wins p.side f v s) (sym c.1.1) w.wins;
-      low = subst (λ (v : Strategy). depth v ≤ most) (sym c.1.1) low;
+      shallow = subst (λ (v : Strategy). depth v ≤ most) (sym c.1.1) low;
       fits = c.1.2 p.side f s;
       begins = sym (ap first_of c.1.1);
     }
@@ -54,7 +54,7 @@ pub plain_follows : (p : Proven) (line : LineWithUndo) (limits : Limits) (text l
     → lines ≡ text ++ newline ∷ [] → Follows line limits p.side (first_of p.tree) Plain lines
 plain_follows p line limits text lines at won low e f =
     let w = won_there p line.frame line.state at won in
-    (text, record { strategy = p.tree; is = record { in_order = w.in_order; low = w.low; text = e }; wins = w.wins; low = low; begins = refl }, f)
+    (text, record { strategy = p.tree; is = record { in_order = w.in_order; shallow = w.shallow; text = e }; wins = w.wins; shallow = low; begins = refl }, f)
 
 pub shared_follows : (line : LineWithUndo) (limits : Limits) (side : Side) (first : Option Turn) (most : ℕ) (text lines : List ℕ) → most ≡ limits.depth
     → IsWinningSharedCertificate line.frame line.state side first most text → lines ≡ text ++ newline ∷ [] → Follows line limits side first Shared lines

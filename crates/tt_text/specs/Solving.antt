@@ -72,7 +72,7 @@ pub record IsWinningCertificate (p : LineWithUndo) (limits : Limits) (side : Sid
   pub strategy : Strategy
   pub is : IsCertificate p.frame.size bytes side strategy
   pub wins : Wins side p.frame strategy p.state
-  pub low : depth strategy ≤ limits.depth
+  pub shallow : depth strategy ≤ limits.depth
   pub begins : first ≡ first_of strategy
 
 -- nothing follows, or a certificate on a line of its own where it is asked for

@@ -57,7 +57,7 @@ fn plain(alloc: Global, proof: &Proof, line: &Line) -> Result<Vec<u8>, NoMemory>
 #[tactic(auto, using(crate::proofs::Verdicts::plain_shared))]
 fn shared(alloc: Global, proof: &Proof, line: &Line, most_depth: u16) -> Result<Vec<u8>, NoMemory>
     requires stands { StandsAt proof.now line.now.frame line.now.state }
-    requires low { depth proof.now.tree ≤ most_depth }
+    requires shallow { depth proof.now.tree ≤ most_depth }
     requires most { most_depth ≤ MOST_DEPTH }
     ensures { IfOk result (λ text.
         IsWinningSharedCertificate line.now.frame line.now.state proof.now.side (first_of proof.now.tree) most_depth text.items) }
@@ -96,7 +96,7 @@ fn following(
     cert: Cert,
 ) -> Result<Vec<u8>, NoMemory>
     requires stands { StandsAt proof.now line.now.frame line.now.state }
-    requires low { depth proof.now.tree ≤ limits.now.depth }
+    requires shallow { depth proof.now.tree ≤ limits.now.depth }
     ensures { IfOk result (λ lines. Follows line.now limits.now proof.now.side (first_of proof.now.tree) cert lines.items) }
 {
     match cert {

@@ -179,7 +179,7 @@ impl Root {
 
     /// Where a board of the frame's size is looked for first; none where its hash tells its colouring from those of all boards of the
     /// beginning. Where those are few, no hash is made.
-    pub(crate) fn place_of(&self, board: &Board) -> Option<usize>
+    pub(crate) fn search_start(&self, board: &Board) -> Option<usize>
         requires { board.now.size ≡ self.now.frame.size }
         ensures { result ≡ None → HasBeen (colourings self.now.begun) board.now.points → ⊥ }
     {

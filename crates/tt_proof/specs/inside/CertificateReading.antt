@@ -10,7 +10,7 @@ module _ (size : Size) where
   -- r begins with the text of u, of a depth of at most d, and y follows
   pub record TreeAt (d : ℕ) (u : Strategy) (r y : List ℕ) : Type 0 where
     pub in_order : IsInOrder size u
-    pub low : depth u ≤ d
+    pub shallow : depth u ≤ d
     pub text : r ≡ tree_text size u ++ y
 
   -- some beginning of r ends with a turn that has d turns above it, and can be completed
@@ -24,7 +24,7 @@ module _ (size : Size) where
 
   pub record EntriesAt (d least : ℕ) (es : Entries) (r y : List ℕ) : Type 0 where
     pub in_order : AreInOrder size least es
-    pub low : depth_of_entries es ≤ d
+    pub shallow : depth_of_entries es ≤ d
     pub text : r ≡ entries_text size es ++ y
 
   pub record EntriesDeepAt (d least : ℕ) (r : List ℕ) : Type 0 where

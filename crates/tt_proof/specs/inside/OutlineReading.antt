@@ -46,12 +46,12 @@ module _ (size : Size) where
 
   -- so it is whatever trees of the old depths the names stand for; behind the outline all names stand for trees of the new depths
   pub record ReadsOutline (left : ℕ) (old new : List ℕ) (o : Outline) (d : ℕ) (r y : List ℕ) : Type 0 where
-    pub low : d ≤ left
+    pub shallow : d ≤ left
     pub at : (us : List Strategy) → map depth us ≡ old → OutlineAt us o d r y
     pub names : (us : List Strategy) → map depth us ≡ old → map depth (names_behind us o) ≡ new
 
   pub record ReadsBranches (left : ℕ) (old new : List ℕ) (least : ℕ) (bs : Branches) (d : ℕ) (r y : List ℕ) : Type 0 where
-    pub low : d ≤ left
+    pub shallow : d ≤ left
     pub at : (us : List Strategy) → map depth us ≡ old → BranchesAt us least bs d r y
     pub names : (us : List Strategy) → map depth us ≡ old → map depth (names_behind_all us bs) ≡ new
 

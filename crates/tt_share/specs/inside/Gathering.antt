@@ -1,13 +1,13 @@
--- What a view is that stands for several seats.
+-- What a seat knows that stands for several.
 use Rattle.std.specs.Prelude.{◌≡◌, ℕ, List, length, sum_by}
 use Rattle.std.specs.List.{list_any}
 use Rattle.tt_share.specs.declared.desk.rule.SeatKnowledge.{SeatKnowledge}
 use Rattle.tt_share.specs.Seats.{SeatView}
 
--- the view is that of the seats, joined
+-- it knows what the seats know, joined
 pub record Gathers (seats : List SeatView) (v : SeatKnowledge) : Type 0 where
-  pub parts : v.parts ≡ length seats
+  pub seat_count : v.seat_count ≡ length seats
   pub numbers : (weight : ℕ → ℕ) → sum_by (λ s. sum_by weight s.numbers) seats ≡ sum_by weight v.numbers
   pub grants : (weight : ℕ → ℕ) → sum_by (λ s. sum_by weight s.grants) seats ≡ sum_by weight v.grants
   pub marks : list_any (λ s. s.flag) seats ≡ v.flag
-  pub sightings : list_any (λ s. s.sighting) seats ≡ v.sighting
+  pub saw_flag : list_any (λ s. s.saw_flag) seats ≡ v.saw_flag

@@ -149,7 +149,7 @@ StopsAtWin side before after =
 pub record IsLost (line : LineWithUndo) (limits : Limits) (child : Turn × Proven) : Type 0 where
   pub stands : StandsAt child.1 line.frame (after line.frame line.state child.0)
   pub side : child.1.side ≡ opponent line.state.to_move
-  pub low : depth child.1.tree + 1 ≤ limits.depth
+  pub shallow : depth child.1.tree + 1 ≤ limits.depth
   pub wins : IsWon child.1.side child.1.frame child.1.state child.1.tree
 
 -- these are the first of the legal turns, each with the proof that it has lost

@@ -10,7 +10,7 @@ Tallies total grants count refused =
 
 -- what asks leave of a seat with its desk: all but the seat's grants
 abbrev pub source_of : DeskView → SeatView → DeskView × SeatView
-source_of desk seat = (desk, seat_of seat.desk seat.numbers [] seat.flag seat.sighting)
+source_of desk seat = (desk, seat_of seat.desk seat.numbers [] seat.flag seat.saw_flag)
 
 -- what one caller was granted of a total: no more than it, and all of it where an ask was refused; without one nothing is refused
 abbrev pub IsGranted : Option ℕ → ℕ → Bool → Type 0

@@ -61,7 +61,7 @@ pub(crate) fn settled(
 ) -> Result<Answer, NoMemory>
     requires open { winner_of line.now.frame line.now.state ≡ None }
     requires stands { StandsAt proof line.now.frame line.now.state }
-    requires low { depth proof.tree ≤ limits.depth }
+    requires shallow { depth proof.tree ≤ limits.depth }
     ensures answer { (total : Option ℕ) → IfOk result (IsAnswer line.now limits total) }
     ensures begins { IfOk result (BeginsWith (first_of proof.tree)) }
 {

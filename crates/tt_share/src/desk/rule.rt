@@ -1,4 +1,4 @@
-//! What a desk's words and views keep to between any two steps. The types here are for the proofs alone.
+//! What a desk's words, and what its seats know, keep to between any two steps. The types here are for the proofs alone.
 use atomic_table::{Join, Play, Split, TableRule};
 use std::collections::LinkedList;
 
@@ -13,22 +13,22 @@ pub struct DeskSize {
 /// What a seat knows: how many of the desk's seats it stands for, the numbers that it drew and those that it got as grants,
 /// whether it raised the flag and whether it saw the flag. No value of it is made.
 pub struct SeatKnowledge {
-    pub parts: u64,
+    pub seat_count: u64,
     pub numbers: LinkedList<u64>,
     pub grants: LinkedList<u64>,
     pub flag: bool,
-    pub sighting: bool,
+    pub saw_flag: bool,
 }
 
 /// The rule of the desk.
 pub struct AtDesk;
 
 impl TableRule<(), SeatKnowledge, DeskSize> for AtDesk {
-    ghost use Rattle.tt_share.specs.Desk.{DeskHolds, whole_view};
+    ghost use Rattle.tt_share.specs.Desk.{DeskHolds, first_knowledge};
 
     ghost holds = { DeskHolds };
 
-    ghost first = { whole_view };
+    ghost first = { first_knowledge };
 }
 
 /// A number was drawn.
@@ -59,32 +59,32 @@ impl Play<(), SeatKnowledge> for Raise {
 }
 
 /// The flag was looked at.
-pub struct Sighting;
+pub struct Look;
 
-impl Play<(), SeatKnowledge> for Sighting {
+impl Play<(), SeatKnowledge> for Look {
     ghost use Rattle.tt_share.specs.Desk.{Looks};
 
     ghost then = { λ step before found after. Looks before found after };
 }
 
-/// One seat is cut from a view that has made no step.
+/// One seat is cut from one that has made no step.
 pub struct SeatSplit;
 
 impl Split<SeatKnowledge> for SeatSplit {
-    ghost use Rattle.tt_share.specs.Desk.{fewer, handed_out_view};
+    ghost use Rattle.tt_share.specs.Desk.{fewer, handed_out_knowledge};
 
     ghost left = { fewer };
 
-    ghost right = { λ view. handed_out_view };
+    ghost right = { λ knowledge. handed_out_knowledge };
 }
 
-/// Two views are made one.
+/// Two seats are made one.
 pub struct SeatJoin;
 
 impl Join<SeatKnowledge> for SeatJoin {
-    ghost use Rattle.tt_share.specs.Desk.{joined, no_seat_view};
+    ghost use Rattle.tt_share.specs.Desk.{joined, no_knowledge};
 
     ghost both = { joined };
 
-    ghost spent = { no_seat_view };
+    ghost spent = { no_knowledge };
 }

@@ -1,24 +1,24 @@
 use Rattle.std.proofs.Common.{◌≡◌, ◌∙◌, ℕ, Bool, false, List, Option, None, Some, subst, sym}
 use Rattle.std.specs.declared.result.Result.{Result}
 use Rattle.devices.specs.declared.fault.RunFault.{RunFault}
-use Rattle.tsumego.specs.declared.task.Task.{Task}
+use Rattle.tsumego.specs.declared.task.TreeTask.{TreeTask}
 use Rattle.tsumego.specs.Writing.{WritesFor}
 use Rattle.tsumego.proofs.answer.answer.Goals as goal
 
 -- what is written for the task is written for what has that task, whatever is said of parts
-of_task : (parts : Bool) (asked : Option Task) (t : Task) (o : Option Task) (input : List ℕ) (r : Result ℕ RunFault) (a b : Option (List ℕ)) → o ≡ asked → o ≡ Some t
+of_task : (parts : Bool) (asked : Option TreeTask) (t : TreeTask) (o : Option TreeTask) (input : List ℕ) (r : Result ℕ RunFault) (a b : Option (List ℕ)) → o ≡ asked → o ≡ Some t
     → WritesFor false (Some t) input r a b → WritesFor parts asked input r a b
-of_task parts asked t o input r a b is some w = subst (λ (x : Option Task). WritesFor parts x input r a b) (sym some ∙ is) w
+of_task parts asked t o input r a b is some w = subst (λ (x : Option TreeTask). WritesFor parts x input r a b) (sym some ∙ is) w
 
 pub returns-in-Some-clause-written : goal.returns-in-Some-clause-written
 returns-in-Some-clause-written g c =
     of_task _ _ c.in-Some.task _ c.args.input.now c.answer_trees.result _ _ c.task_of.ensures c.in-Some.is c.answer_trees.ensures.written
 
 -- what is written for no task is written for what has none, where the same is said of parts
-of_check : (p q : Bool) (asked o : Option Task) (input : List ℕ) (r : Result ℕ RunFault) (a b : Option (List ℕ)) → p ≡ q → o ≡ asked → o ≡ None
+of_check : (p q : Bool) (asked o : Option TreeTask) (input : List ℕ) (r : Result ℕ RunFault) (a b : Option (List ℕ)) → p ≡ q → o ≡ asked → o ≡ None
     → WritesFor p None input r a b → WritesFor q asked input r a b
 of_check p q asked o input r a b same is none w =
-    subst (λ (x : Bool). WritesFor x asked input r a b) same (subst (λ (x : Option Task). WritesFor p x input r a b) (sym none ∙ is) w)
+    subst (λ (x : Bool). WritesFor x asked input r a b) same (subst (λ (x : Option TreeTask). WritesFor p x input r a b) (sym none ∙ is) w)
 
 pub returns-in-None-clause-written : goal.returns-in-None-clause-written
 returns-in-None-clause-written g c =

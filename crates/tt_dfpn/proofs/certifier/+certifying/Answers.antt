@@ -36,7 +36,7 @@ replied-loop-turn-preserved g t c =
           (first_push f s c.args.room n c.loop-turn.children.items turn c.in-Some.child c.loop-turn.invariant.first lt is there low);
     }
 
-pub replied-returns-clause-low : goal.replied-returns-clause-low
-replied-returns-clause-low g t c =
-    let low = low_reply c.args.room c.loop-turn.children.items c.loop-turn.invariant.first.low in
+pub replied-returns-clause-shallow : goal.replied-returns-clause-shallow
+replied-returns-clause-shallow g t c =
+    let low = low_reply c.args.room c.loop-turn.children.items c.loop-turn.invariant.first.shallow in
     subst (λ u. depth u ≤ c.args.room) (sym c.in_ok-proof.ensures.2) low

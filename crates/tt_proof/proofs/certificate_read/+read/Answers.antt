@@ -90,7 +90,7 @@ read_tree-returns-then-first-eq46 t c =
     rw strategy_of_done
     (record {
       in_order = tt;
-      low = omega arith;
+      shallow = omega arith;
       text = c.in-Some.ensures.cases.0 ∙ ap (λ b. b ∷ c.in-Some.rest.now) c.if-first-eq46.true;
     })
 

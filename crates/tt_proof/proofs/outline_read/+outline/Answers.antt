@@ -18,14 +18,14 @@ read_outline-returns-then-first-eq46 t c =
 pub read_branches-returns-in-Some : goal.read_branches-returns-in-Some
 read_branches-returns-in-Some t c =
     walked_end c.args.size c.args.left c.loop-rest.least c.loop-rest.most c.args.depths.now.items c.loop-rest.depths.items c.args.bytes.now
-    c.loop-rest.now.now c.in-Some.rest.now c.loop-rest.list.items c.loop-rest.invariant.low c.loop-rest.invariant.walked c.in-Some.ensures
+    c.loop-rest.now.now c.in-Some.rest.now c.loop-rest.list.items c.loop-rest.invariant.shallow c.loop-rest.invariant.walked c.in-Some.ensures
 
 pub read_branches-loop-rest-preserved : goal.read_branches-loop-rest-preserved
 read_branches-loop-rest-preserved t c =
     let turn = c.in-Some-read_turn in
     let here = turn.ensures in
     let read = c.in-Ok.ensures in
-    let low = read.low in
+    let low = read.shallow in
     let items : c.push.new.self.items ≡ c.loop-rest.list.items ++ ((turn.turn, c.in-Ok.outline) ∷ []) = search rules in
     let deeper : c.max-most.result ≡ max c.loop-rest.most (c.in-Ok.depth + 1) = search rules in
     record {
@@ -33,7 +33,7 @@ read_branches-loop-rest-preserved t c =
           walked_more c.args.size us c.loop-rest.least turn.number c.args.left (c.args.left - 1) c.args.bytes.now c.loop-rest.now.now turn.middle.now
           c.in-Ok.after.now c.loop-rest.list.items c.push.new.self.items turn.turn c.in-Ok.outline c.loop-rest.most c.max-most.result c.in-Ok.depth
           c.loop-rest.depths.items c.read_outline.new.depths.items (c.loop-rest.invariant.walked us h) c.if-number-least.false here.1 here.0 here.3 read items deeper;
-      low = let some = c.if-left-eq0.false in omega (arith, low, deeper, some, c.loop-rest.invariant.low);
+      shallow = let some = c.if-left-eq0.false in omega (arith, low, deeper, some, c.loop-rest.invariant.shallow);
       small = omega (arith, here.2);
     }
 
@@ -95,7 +95,7 @@ read_reply-returns-in-Err t c =
 pub read_branches-returns-in-None-read_turn : goal.read_branches-returns-in-None-read_turn
 read_branches-returns-in-None-read_turn t c =
     walked_fault c.args.size c.args.left c.loop-rest.least c.loop-rest.most c.args.depths.now.items c.loop-rest.depths.items c.args.bytes.now
-    c.loop-rest.now.now c.loop-rest.list.items Syntax c.loop-rest.invariant.walked c.loop-rest.invariant.low
+    c.loop-rest.now.now c.loop-rest.list.items Syntax c.loop-rest.invariant.walked c.loop-rest.invariant.shallow
     (no_branches c.args.size c.args.left c.loop-rest.depths.items c.loop-rest.least c.loop-rest.now.now c.in-None.ensures c.in-None-read_turn.ensures)
 
 pub read_branches-returns-then-number-least : goal.read_branches-returns-then-number-least
@@ -103,7 +103,7 @@ read_branches-returns-then-number-least t c =
     let turn = c.in-Some-read_turn in
     let e = turn.ensures.1 in
     walked_fault c.args.size c.args.left c.loop-rest.least c.loop-rest.most c.args.depths.now.items c.loop-rest.depths.items c.args.bytes.now
-    c.loop-rest.now.now c.loop-rest.list.items Syntax c.loop-rest.invariant.walked c.loop-rest.invariant.low
+    c.loop-rest.now.now c.loop-rest.list.items Syntax c.loop-rest.invariant.walked c.loop-rest.invariant.shallow
     (not_rising c.args.size c.loop-rest.depths.items c.loop-rest.least c.loop-rest.now.now turn.middle.now turn.turn turn.ensures.3 c.args.left
     (omega (arith, e)))
 
@@ -111,7 +111,7 @@ pub read_branches-returns-then-left-eq0 : goal.read_branches-returns-then-left-e
 read_branches-returns-then-left-eq0 t c =
     let turn = c.in-Some-read_turn in
     walked_fault c.args.size c.args.left c.loop-rest.least c.loop-rest.most c.args.depths.now.items c.loop-rest.depths.items c.args.bytes.now
-    c.loop-rest.now.now c.loop-rest.list.items TooDeep c.loop-rest.invariant.walked c.loop-rest.invariant.low
+    c.loop-rest.now.now c.loop-rest.list.items TooDeep c.loop-rest.invariant.walked c.loop-rest.invariant.shallow
     (subst (λ k. BranchesFaultAt c.args.size k c.loop-rest.depths.items c.loop-rest.least c.loop-rest.now.now TooDeep) (sym c.if-left-eq0.true)
     (no_room_below c.args.size c.loop-rest.depths.items c.loop-rest.least c.loop-rest.now.now turn.middle.now turn.turn turn.ensures.3 turn.ensures.0
     (subst (λ n. c.loop-rest.least ≤ n) turn.ensures.1 c.if-number-least.false)))
@@ -120,7 +120,7 @@ pub read_branches-returns-in-Err : goal.read_branches-returns-in-Err
 read_branches-returns-in-Err t c =
     let turn = c.in-Some-read_turn in
     walked_fault c.args.size c.args.left c.loop-rest.least c.loop-rest.most c.args.depths.now.items c.loop-rest.depths.items c.args.bytes.now
-    c.loop-rest.now.now c.loop-rest.list.items c.in-Err.fault c.loop-rest.invariant.walked c.loop-rest.invariant.low
+    c.loop-rest.now.now c.loop-rest.list.items c.in-Err.fault c.loop-rest.invariant.walked c.loop-rest.invariant.shallow
     (subst (λ k. BranchesFaultAt c.args.size k c.loop-rest.depths.items c.loop-rest.least c.loop-rest.now.now c.in-Err.fault)
     (sym (one_more c.args.left c.if-left-eq0.false))
     (branch_fault c.args.size c.loop-rest.depths.items c.loop-rest.least c.loop-rest.now.now turn.middle.now turn.turn turn.ensures.3

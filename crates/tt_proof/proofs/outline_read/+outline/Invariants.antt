@@ -22,7 +22,7 @@ decreases-read_branches l = 4 * l.left
 abbrev pub invariant-read_branches-loop-rest : goal.invariant-read_branches-loop-rest
 invariant-read_branches-loop-rest l = record {
   walked : (us : List Strategy) → map depth us ≡ l.fn.depths.items → Walked l.size us l.least l.bytes l.now l.list.items l.most l.depths.items;
-  low : l.most ≤ l.left;
+  shallow : l.most ≤ l.left;
   small : l.least ≤ MOST_POINTS + 1;
 }
 

@@ -15,8 +15,8 @@ returns-then-is_empty-clause-certificate c =
     shared_read c.args.size c.args.bytes.now c.args.rest.now c.args.s _ c.args.most_depth _ (outline_of c.in-Ok.outline) _ c.in-Ok.more.now c.requires.side c.requires.depth
     c.new-depths.ensures.items c.in-Ok.ensures (nil c.in-Ok.more.now e)
 
-pub returns-then-is_empty-clause-low : goal.returns-then-is_empty-clause-low
-returns-then-is_empty-clause-low c =
+pub returns-then-is_empty-clause-shallow : goal.returns-then-is_empty-clause-shallow
+returns-then-is_empty-clause-shallow c =
     low_read c.args.size _ c.args.most_depth _ (outline_of c.in-Ok.outline) _ c.args.rest.now c.in-Ok.more.now c.new-depths.ensures.items c.in-Ok.ensures
 
 pub returns-in-Err-clause-fault : goal.returns-in-Err-clause-fault

@@ -23,6 +23,6 @@ returns-in-Ok-replay_parts c = λ e.
           (subst (λ (g : Frame). IsSharedCertificate g.size c.args.bytes.now c.in-Ok.side o) c.frame.ensures.value c.in-Ok.ensures.certificate);
       wins = subst (λ (x : Side). Wins x f (unfolded [] o) at) side (exact.0 refl);
       fits = winning_fits c.args.s f o at (subst (λ (x : Side). SharedPartsSay x f o at (Some true)) side says);
-      low = c.in-Ok.ensures.low;
+      shallow = c.in-Ok.ensures.shallow;
       begins = search rules;
     }

@@ -1,12 +1,12 @@
 use Rattle.std.proofs.Common.{◌≡◌, replicate, [], ◌-◌, ◌+◌, vec_capacity}
-use Rattle.tt_share.specs.Desk.{blank}
+use Rattle.tt_share.specs.Desk.{unused}
 use Rattle.tt_share.specs.Seats.{fresh}
 use Rattle.tt_share.proofs.desk.cut_all.Given as goal
 
 abbrev pub invariant-loop : goal.invariant-loop
 invariant-loop l = record {
   seated : l.first.table_id ≡ l.table.shared.table_id;
-  whole : l.first.me ≡ (blank (l.seats + 1 - l.counter), []);
+  whole : l.first.me ≡ (unused (l.seats + 1 - l.counter), []);
   room : vec_capacity l.all ≡ l.seats;
   handed : l.all.items ≡ replicate (l.counter - 1) (fresh l.table.shared.table_id);
 }

@@ -13,14 +13,14 @@ loop-other-init c =
     let me = c.into_inner-whole.ensures.me in record {
       seated = search rules;
       ours = c.requires.seats;
-      some = let parts = ap (λ (m : SeatState). m.0.parts) me in omega arith;
+      some = let seat_count = ap (λ (m : SeatState). m.0.seat_count) me in omega arith;
       taken = (c.args.last ∷ [], refl, subst (λ (v : SeatKnowledge). Gathers (c.args.last ∷ []) v) (sym (ap (λ (m : SeatState). m.0) me)) (gathers_first c.args.last));
     }
 
 pub join_seat-requires : goal.join_seat-requires
 join_seat-requires c =
     let me = c.into_inner.ensures.me in
-    let parts = ap (λ (m : SeatState). m.0.parts) me in
+    let seat_count = ap (λ (m : SeatState). m.0.seat_count) me in
     let both = All-pop (λ (s : SeatView). s.desk ≡ c.args.table.now.shared.table_id) _ _ (Some c.in-Some.other) c.in-Some.ensures.items c.loop-other.invariant.ours in (
       search rules,
       c.into_inner.ensures.desk ∙ both.1,
@@ -40,7 +40,7 @@ loop-other-preserved c =
     ap (λ (m : SeatState). m.0) after ∙ ap (λ (m : SeatState). joined c.loop-other.whole.me.0 m.0) me in record {
       seated = (c.join_seat.ensures.0 ∙ c.loop-other.invariant.seated.0, ap (λ (m : SeatState). m.1) after ∙ c.loop-other.invariant.seated.1);
       ours = both.0;
-      some = let parts = ap (λ (v : SeatKnowledge). v.parts) now in omega arith;
+      some = let seat_count = ap (λ (v : SeatKnowledge). v.seat_count) now in omega arith;
       taken = (
         other ∷ was.0,
         was.1 ∙ (ap (λ (l : List SeatView). l ++ was.0) c.in-Some.ensures.items ∙ append_assoc c.pop.new.self.items (other ∷ []) was.0),

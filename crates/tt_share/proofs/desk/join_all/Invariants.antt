@@ -7,7 +7,7 @@ abbrev pub invariant-loop-other : goal.invariant-loop-other
 invariant-loop-other l = record {
   seated : (l.whole.table_id ≡ l.table.shared.table_id) × (l.whole.me.1 ≡ []);
   ours : All (λ (s : SeatView). s.desk ≡ l.table.shared.table_id) l.seats.items;
-  some : 0 < l.whole.me.0.parts;
+  some : 0 < l.whole.me.0.seat_count;
   taken : (taken : List SeatView) × (l.fn.seats.items ++ l.fn.last ∷ [] ≡ l.seats.items ++ taken) × Gathers taken l.whole.me.0;
 }
 

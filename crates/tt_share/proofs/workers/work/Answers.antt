@@ -65,11 +65,11 @@ loop-job-preserved g c =
       subst (IsJobCount line limits made.job made.spent) (sym end_is) (kept_count line limits made.job past made.spent made.end ended.ensures.result.1),
     ) in
     let more = All-push (IsResult line limits) c.loop-job.searched.items f c.loop-job.invariant.searched this in
-    let down : IsTrue before.seat.flag → ⊥ = λ up. not_none c.next_job.result c.in-Some.job c.in-Some.is (c.next_job.ensures.stopped (left_true before.seat.flag before.seat.sighting up)).0 in
+    let down : IsTrue before.seat.flag → ⊥ = λ up. not_none c.next_job.result c.in-Some.job c.in-Some.is (c.next_job.ensures.stopped (left_true before.seat.flag before.seat.saw_flag up)).0 in
     let flag : after.seat.flag ≡ (before.seat.flag || won) =
-    flag_of after.seat searched.seat.desk searched.seat.numbers searched.seat.grants (searched.seat.flag || won) searched.seat.sighting c.raise_for.ensures.seat ∙ ap (λ b. b || won) same_flag in
+    flag_of after.seat searched.seat.desk searched.seat.numbers searched.seat.grants (searched.seat.flag || won) searched.seat.saw_flag c.raise_for.ensures.seat ∙ ap (λ b. b || won) same_flag in
     let numbers : after.seat.numbers ≡ before.seat.numbers =
-    numbers_of after.seat searched.seat.desk searched.seat.numbers searched.seat.grants (searched.seat.flag || won) searched.seat.sighting c.raise_for.ensures.seat ∙ same_numbers in
+    numbers_of after.seat searched.seat.desk searched.seat.numbers searched.seat.grants (searched.seat.flag || won) searched.seat.saw_flag c.raise_for.ensures.seat ∙ same_numbers in
     let drawn : before.seat.numbers ≡ c.loop-job.grants.seat.numbers ++ made.job ∷ [] =
     c.in-Some.ensures.job.2 ∙ ap (λ n. c.loop-job.grants.seat.numbers ++ n ∷ []) (sym ended.ensures.job) in
     let sum = ap spent_on all in

@@ -7,6 +7,6 @@ wins_at-requires c = same_size c.args.proof.now.frame c.args.line.now.frame c.ar
 
 pub returns-clause-usable : goal.returns-clause-usable
 returns-clause-usable c = (
-  λ wins. record { won = c.in_ok-wins.ensures.exact.0 wins; low = search rules },
+  λ wins. record { won = c.in_ok-wins.ensures.exact.0 wins; shallow = search rules },
   λ usable. c.in_ok-wins.ensures.exact.1 usable.won,
 )

@@ -8,8 +8,8 @@ reply-requires-clause-children c =
     let jobs = c.args.self.now in
     are_children jobs.line.now jobs.limits c.args.children.items (omega (arith, jobs.limits.depth_in)) c.requires.lost.each
 
-pub settled-requires-clause-low : goal.settled-requires-clause-low
-settled-requires-clause-low c =
+pub settled-requires-clause-shallow : goal.settled-requires-clause-shallow
+settled-requires-clause-shallow c =
     let jobs = c.args.self.now in
     let low = reply_is_low jobs.line.now jobs.limits c.args.children.items c.requires.lost.each in
     subst (λ tree. depth tree ≤ jobs.limits.depth) (sym c.in_ok-proof.ensures.2) low

@@ -175,7 +175,7 @@ loop-job-preserved c =
     let behind : EndsBehind c.args.self.line c.args.self.limits turn (Settled child) = ends_here c.args.self.line c.args.self.limits i turn taken.0 (Settled child) is (are i taken.0 there) job in
     let won : IsStuckOrWon (result.Settled child) = subst IsStuckOrWon (settled_of taken.0 child is) (subst AllStuckOrWon ends c.in_default.ensures.won i taken.0 there) in
     let this : IsLost c.args.self.line c.args.self.limits (turn, child) =
-    record { stands = behind.0; side = lost_side c.args.self.line.state.to_move c.args.self.ends i taken.0 child none is there; low = behind.1; wins = won } in
+    record { stands = behind.0; side = lost_side c.args.self.line.state.to_move c.args.self.ends i taken.0 child none is there; shallow = behind.1; wins = won } in
     let more = one_more c.args.self.line c.args.self.limits c.loop-job.children.items (turn, child) c.loop-job.invariant.lost next this in
     let all : c.push.new.self.items ≡ c.loop-job.children.items ++ (turn, child) ∷ [] = c.in_ok-push-in-Some-Settled-take_end.ensures.items in
     let long = ap (λ (l : List (Turn × Proven)). length l) all in

@@ -1,5 +1,5 @@
 use Rattle.std.proofs.Common.{◌≤◌, ◌-◌, length}
-use Rattle.tt_proof.proofs.board_set.BoardSet.place_for.Given as goal
+use Rattle.tt_proof.proofs.board_set.BoardSet.index_for.Given as goal
 
 abbrev pub invariant-loop-low : goal.invariant-loop-low
 invariant-loop-low l = record {

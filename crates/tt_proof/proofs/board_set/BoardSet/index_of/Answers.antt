@@ -1,7 +1,7 @@
 use Rattle.std.proofs.Common.{rules, ◌≡◌, ◌<◌, length, get_or, sym, ◌∙◌}
 use Rattle.std.proofs.lemmas.Bool.{false≢true}
 use Rattle.tt_proof.proofs.SharedLemmas.{shown_at, one_more_place}
-use Rattle.tt_proof.proofs.board_set.BoardSet.place_of.Goals as goal
+use Rattle.tt_proof.proofs.board_set.BoardSet.index_of.Goals as goal
 
 pub loop-k-preserved : goal.loop-k-preserved
 loop-k-preserved c =

@@ -65,7 +65,7 @@ fn put_turned(alloc: Global, out: &mut Vec<u8>, line: &Line, turn: &Turn) -> Res
 
 /// Writes the first turn of a side's strategy and the board then behind the text, where the side is to move and that turn is
 /// legal. `NoMemory` where memory was refused; a part may stand there then.
-pub fn put_first(
+pub fn put_first_turn(
     alloc: Global,
     out: &mut Vec<u8>,
     line: &Line,

@@ -1,6 +1,6 @@
 use Rattle.tt_proof.specs.Strategy.{strategy_of}
 use Rattle.tsumego_show.proofs.FirstTurn.{begun, none_begun}
-use Rattle.tsumego_show.proofs.opening.put_first.Goals as goal
+use Rattle.tsumego_show.proofs.first_turn.put_first_turn.Goals as goal
 
 pub returns-in-Some : goal.returns-in-Some
 returns-in-Some c =

@@ -2,7 +2,7 @@ use Rattle.std.proofs.Common.{Contains, arith}
 use Rattle.tt_proof.specs.KeptFootprints.{frame_board}
 use Rattle.tt_proof.proofs.FootprintLemmas.{none_held}
 use Rattle.tt_proof.proofs.RepeatLemmas.{below_more, below_all}
-use Rattle.tt_proof.proofs.footprints.repeats.Goals as goal
+use Rattle.tt_proof.proofs.footprints.repeated_boards.Goals as goal
 
 pub loop-p-init : goal.loop-p-init
 loop-p-init c =

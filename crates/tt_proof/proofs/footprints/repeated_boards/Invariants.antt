@@ -2,7 +2,7 @@ use Rattle.std.proofs.Common.{◌↔◌, ◌-◌, Contains}
 use Rattle.tt_board.specs.Position.{Colouring}
 use Rattle.tt_proof.specs.KeptFootprints.{AreSized, frame_board}
 use Rattle.tt_proof.specs.inside.Collecting.{RepeatsBelow}
-use Rattle.tt_proof.proofs.footprints.repeats.Given as goal
+use Rattle.tt_proof.proofs.footprints.repeated_boards.Given as goal
 
 abbrev pub invariant-loop-p : goal.invariant-loop-p
 invariant-loop-p l = record {
