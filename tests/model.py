@@ -562,7 +562,7 @@ def solve_text(nodes, with_certificate=False, with_turns=False, budget=100_000, 
 
 
 def turn_texts(frame, state, limits):
-    """A line on each legal turn: the side that wins after it, or why that isn't known."""
+    """A line for each legal turn: the side that wins after it, or why that isn't known."""
     lines = []
     for turn in legal_turns(frame, state):
         behind = after(frame, state, turn)

@@ -29,7 +29,7 @@ const TOTAL_HELP: &str =
 const DFPN_HELP: &str =
     "How many positions df-pn may visit before the search begins, 1 to 100000000";
 
-const WORKERS_HELP: &str = "How many threads search first turns side by side, 1 to 64";
+const WORKERS_HELP: &str = "How many threads search first turns in parallel, 1 to 64";
 
 const PARTS_HELP: &str = "Read a certificate that may share parts";
 
@@ -37,9 +37,9 @@ const CERT_HELP: &str = "Write the certificate on a line of its own";
 
 const SHARE_HELP: &str = "Write each shared part of the certificate once";
 
-const PROGRESS_HELP: &str = "Tell on standard error how far it is, as on a terminal";
+const PROGRESS_HELP: &str = "Write on standard error how far the search is";
 
-const TURNS_HELP: &str = "Write a line on each legal turn, with the value behind it";
+const TURNS_HELP: &str = "Write a line for each legal turn: who wins after it";
 
 /// What is said where flags are given that aren't taken together.
 const APART: &str = "error: the argument '--turns' cannot be used with '--cert'
