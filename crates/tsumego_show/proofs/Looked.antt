@@ -4,7 +4,7 @@ use Rattle.std.specs.declared.result.Result.{Result}
 use Rattle.std.specs.FinSet as set
 use Rattle.tt_sgf.specs.declared.size.Size.{Size}
 use Rattle.tt_board.specs.declared.Colour.{Colour}
-use Rattle.tt_board.specs.Play.{Points}
+use Rattle.tt_board.specs.Stones.{Points}
 use Rattle.tt_board.specs.Position.{Colouring}
 use Rattle.tsumego_show.specs.Hints.{members_text, names_text}
 use Rattle.tsumego_show.specs.Marking.{open_line, open_words}

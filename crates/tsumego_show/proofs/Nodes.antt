@@ -9,7 +9,7 @@ use Rattle.tt_sgf.specs.declared.nodes.Property.{Property}
 use Rattle.tt_sgf.specs.declared.size.TheConstants.{MOST_POINTS}
 use Rattle.tt_sgf.specs.Entries.{covers, is_entry, set_of}
 use Rattle.tt_sgf.specs.Points.{passing}
-use Rattle.tt_board.specs.Play.{Points}
+use Rattle.tt_board.specs.Stones.{Points}
 use Rattle.tt_game.specs.Nodes.{values_of}
 use Rattle.tt_game.proofs.NodeLemmas.{values-named, values-nil, values-other}
 use Rattle.tsumego_show.specs.declared.tree_bytes.Spot.{Spot}

@@ -11,7 +11,8 @@ use Rattle.tt_sgf.specs.declared.size.Size.{Size}
 use Rattle.tt_sgf.specs.Points.{passing}
 use Rattle.tt_board.specs.declared.Colour.{Colour}
 use Rattle.tt_board.specs.Position.{Colouring}
-use Rattle.tt_board.specs.Play.{Points, other}
+use Rattle.tt_board.specs.Play.{other}
+use Rattle.tt_board.specs.Stones.{Points}
 use Rattle.tt_board.specs.Reach.{entry_at}
 use Rattle.tt_game.specs.Games.{GameState}
 use Rattle.tsumego_show.specs.Marking.{closed_at, fewer_squares, fewest}

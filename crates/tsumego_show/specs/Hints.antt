@@ -6,7 +6,8 @@ use Rattle.std.specs.FinSet as set
 use Rattle.tt_sgf.specs.Bytes.{newline, space}
 use Rattle.tt_sgf.specs.declared.size.Size.{Size}
 use Rattle.tt_sgf.specs.Sizes.{point_count}
-use Rattle.tt_board.specs.Play.{Points, other}
+use Rattle.tt_board.specs.Play.{other}
+use Rattle.tt_board.specs.Stones.{Points}
 use Rattle.tt_game.specs.declared.turns.Turn.TheVariants.{Play}
 use Rattle.tt_game.specs.Line.{LineWithUndo}
 use Rattle.tt_proof.specs.CertificateText.{turn_text}

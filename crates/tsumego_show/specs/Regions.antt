@@ -7,7 +7,8 @@ use Rattle.tt_sgf.specs.Points.{passing}
 use Rattle.tt_sgf.specs.Sizes.{point_count}
 use Rattle.tt_board.specs.declared.Colour.{Colour}
 use Rattle.tt_board.specs.Position.{Colouring}
-use Rattle.tt_board.specs.Play.{Points, is_empty, is_stone_of, other}
+use Rattle.tt_board.specs.Play.{is_empty, is_stone_of, other}
+use Rattle.tt_board.specs.Stones.{Points}
 use Rattle.tt_board.specs.Reach.{entry_at}
 use Rattle.tt_game.specs.Problems.{whole}
 

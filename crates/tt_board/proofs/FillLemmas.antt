@@ -15,7 +15,8 @@ use Rattle.tt_board.specs.declared.Colour.TheVariants.{Black, White}
 use Rattle.tt_board.specs.Position.{Colouring}
 use Rattle.tt_board.specs.Reach.{entry_at, Reaches}
 use Rattle.tt_board.specs.ReachLaws.{reaches_beside, reaches_on, reaches_all}
-use Rattle.tt_board.specs.Play.{is_stone_of, IsAlive, IsLeastLifeless}
+use Rattle.tt_board.specs.Play.{is_stone_of}
+use Rattle.tt_board.specs.Setup.{IsAlive, IsLeastLifeless}
 use Rattle.tt_board.specs.inside.Around.{AreOn, AreThose, AreReaching, IsBesideSome}
 use Rattle.tt_board.proofs.AroundLemmas.{off_if}
 use Rattle.tt_board.proofs.CountLemmas.{count_both, count_some}

@@ -11,7 +11,8 @@ use Rattle.tt_board.specs.Position.{Colouring}
 use Rattle.tt_board.specs.Reach.{entry_at, Reaches}
 use Rattle.tt_board.specs.ReachLaws.{reaches_beside, reaches_on, reaches_all}
 use Rattle.tt_board.specs.Decided.{reaches, reaches_is, same_entry}
-use Rattle.tt_board.specs.Play.{other, clear, play_of, IsAlive}
+use Rattle.tt_board.specs.Play.{other, clear, play_of}
+use Rattle.tt_board.specs.Setup.{IsAlive}
 use Rattle.tt_board.proofs.PlayLemmas.{cleared_gone, cleared_kept_other, cleared_kept_alive, clear_from, other_differs}
 
 -- neighbours are each other's

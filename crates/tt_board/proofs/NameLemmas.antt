@@ -9,7 +9,8 @@ use Rattle.std.proofs.lemmas.List.Sums.{count_by-le-length, sum_by-cons}
 use Rattle.tt_sgf.specs.declared.size.Size.{Size}
 use Rattle.tt_sgf.specs.Sizes.{point_count}
 use Rattle.tt_board.specs.declared.counted.play_kind.Names.{Names}
-use Rattle.tt_board.specs.Near.{IsNeighbour, IsOneOf, ahead, neighbours_there}
+use Rattle.tt_board.specs.Near.{IsNeighbour}
+use Rattle.tt_board.specs.inside.Neighbours.{IsOneOf, ahead, neighbours_there}
 use Rattle.tt_board.specs.Decided.{neighbour, decided, decided_is, decided_not}
 use Rattle.tt_board.specs.inside.Chains.{name_at, Touches, touching, is_liberty, liberty_count, IsEachOnce, AreNear, is_new, count_there, count_beside}
 use Rattle.tt_board.proofs.CountLemmas.{same_decided, count_change, count_same, count_both, count_within, in_list}

@@ -5,7 +5,8 @@ use Rattle.std.proofs.lemmas.Nat.{div-mul-add, mod-mul-add, div-add-mod', mod_be
 use Rattle.std.proofs.lemmas.Option.{none-some}
 use Rattle.tt_sgf.specs.declared.size.Size.{Size}
 use Rattle.tt_sgf.specs.Sizes.{point_count}
-use Rattle.tt_board.specs.Near.{IsBeside, IsNeighbour, IsThere, IsOneOf, ahead, neighbours_there}
+use Rattle.tt_board.specs.Near.{IsBeside, IsNeighbour}
+use Rattle.tt_board.specs.inside.Neighbours.{IsThere, IsOneOf, ahead, neighbours_there}
 use Rattle.tt_board.specs.inside.Chains.{IsEachOnce}
 use Rattle.tt_board.proofs.CountLemmas.{once_first}
 

@@ -9,7 +9,7 @@ use Rattle.tt_board.specs.Position.{Colouring}
 use Rattle.tt_board.specs.Reach.{entry_at, Reaches}
 use Rattle.tt_board.specs.ReachLaws.{reaches_beside, reaches_on, reaches_all}
 use Rattle.tt_board.specs.Decided.{same_entry}
-use Rattle.tt_board.specs.Play.{IsAlive}
+use Rattle.tt_board.specs.Setup.{IsAlive}
 use Rattle.tt_board.specs.inside.Chains.{AreLinked, name_at, root_of, colour_number, IsNamed, stone_count, renamed, AreCounted, AreNames, AreNamesBut, OtherChainsCounted, IsChainBoard}
 use Rattle.tt_board.proofs.LinkLemmas.{linked_self, linked_kept, named_bare, stone_named, one_name}
 use Rattle.tt_board.proofs.NameLemmas.{at_p, off_p}

@@ -7,7 +7,8 @@ use Rattle.tt_sgf.specs.declared.size.Size.{Size}
 use Rattle.tt_board.specs.declared.Colour.{Colour}
 use Rattle.tt_board.specs.declared.Colour.TheVariants.{Black, White}
 use Rattle.tt_board.specs.declared.counted.play_kind.TheConstants.{NOWHERE}
-use Rattle.tt_board.specs.Near.{IsNeighbour, IsOneOf}
+use Rattle.tt_board.specs.Near.{IsNeighbour}
+use Rattle.tt_board.specs.inside.Neighbours.{IsOneOf}
 use Rattle.tt_board.specs.inside.Chains.{name_at, root_of, colour_number, IsNamed, Touches, IsOneName, bare_one, count_there}
 
 module _ (s : Size) (ns : List ℕ) (p m : ℕ) where

@@ -11,7 +11,8 @@ use Rattle.tt_sgf.specs.Sizes.{point_count}
 use Rattle.tt_board.specs.Reach.{entry_at, Reaches}
 use Rattle.tt_board.specs.ReachLaws.{reaches_beside, reaches_on, reaches_all}
 use Rattle.tt_board.specs.Decided.{reaches, reaches_is}
-use Rattle.tt_board.specs.Play.{other, same_colour, is_stone_of, cleared_entry, clear, play_of, IsAlive}
+use Rattle.tt_board.specs.Play.{other, same_colour, is_stone_of, cleared_entry, clear, play_of}
+use Rattle.tt_board.specs.Setup.{IsAlive}
 
 same_colour_self : (k : Colour) → same_colour k k ≡ true
 same_colour_self Black = refl

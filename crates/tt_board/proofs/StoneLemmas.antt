@@ -14,7 +14,8 @@ use Rattle.tt_board.specs.declared.Colour.{Colour}
 use Rattle.tt_board.specs.declared.Colour.TheVariants.{Black, White}
 use Rattle.tt_board.specs.Position.{Colouring}
 use Rattle.tt_board.specs.Reach.{entry_at}
-use Rattle.tt_board.specs.Play.{Points, is_empty, is_stone_of}
+use Rattle.tt_board.specs.Play.{is_empty, is_stone_of}
+use Rattle.tt_board.specs.Stones.{Points}
 use Rattle.tt_board.specs.Stones.{any_empty, all_stones_of, IsEmptyIn}
 
 -- ---- sets

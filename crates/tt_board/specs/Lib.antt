@@ -9,6 +9,8 @@ pub mod Decided
 pub mod Play
 pub mod PlayKind
 pub mod Stones
+pub mod Score
+pub mod Setup
 pub mod Laws
 -- What private contracts and proofs cite. Nobody has to believe these.
 pub mod inside

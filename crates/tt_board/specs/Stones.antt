@@ -2,12 +2,17 @@
 use Rattle.std.specs.Prelude.{◌≡◌, ℕ, ◌<◌, Bool, true, None}
 use Rattle.std.specs.List.{list_any, list_all}
 use Rattle.std.specs.FinSet as set
+use Rattle.std.specs.Ordering.{nat_cmp}
 use Rattle.tt_sgf.specs.declared.size.Size.{Size}
 use Rattle.tt_sgf.specs.Sizes.{point_count}
 use Rattle.tt_board.specs.declared.Colour.{Colour}
 use Rattle.tt_board.specs.Position.{Colouring}
 use Rattle.tt_board.specs.Reach.{entry_at}
-use Rattle.tt_board.specs.Play.{Points, is_empty, is_stone_of}
+use Rattle.tt_board.specs.Play.{is_empty, is_stone_of}
+
+-- a set of points
+abbrev pub Points : Type 0
+Points = set.FinSet nat_cmp
 
 -- all points of the set are on a board of this size
 abbrev pub LiesOn : Size → Points → Type 0

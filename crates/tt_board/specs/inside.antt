@@ -4,3 +4,4 @@ pub mod Differences
 pub mod Boards
 pub mod Chains
 pub mod Around
+pub mod Neighbours

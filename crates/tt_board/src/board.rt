@@ -24,7 +24,7 @@ impl Model for Board {
     ghost use Rattle.std.specs.Prelude.{◌≡◌, length, take};
     ghost use Rattle.tt_sgf.specs.Sizes.{point_count};
     ghost use Rattle.tt_board.specs.Position.{Position};
-    ghost use Rattle.tt_board.specs.Play.{IsAlive};
+    ghost use Rattle.tt_board.specs.Setup.{IsAlive};
 
     ghost Value = { Position };
 
@@ -44,7 +44,9 @@ pub struct Lifeless(pub Point);
 impl Board {
     ghost use Rattle.tt_board.specs.declared.Colour.TheVariants.{Black, White};
     ghost use Rattle.tt_board.specs.Reach.{entry_at};
-    ghost use Rattle.tt_board.specs.Play.{play_of, score_of, placed, is_stone_of, IsAlive, IsLeastLifeless};
+    ghost use Rattle.tt_board.specs.Play.{play_of, is_stone_of};
+    ghost use Rattle.tt_board.specs.Setup.{placed, IsAlive, IsLeastLifeless};
+    ghost use Rattle.tt_board.specs.Score.{score_of};
     ghost use Rattle.tt_sgf.specs.Words.{AreBitsOf};
 
     /// The board of this size without any stone.

@@ -2,7 +2,8 @@
 
 ghost use Rattle.std.specs.Prelude.{◌≡◌, ℕ, ◌+◌, ◌-◌, ◌<◌, ◌≤◌, ◌↔◌, IsTrue};
 ghost use Rattle.tt_sgf.specs.Sizes.{point_count};
-ghost use Rattle.tt_board.specs.Near.{IsNeighbour, IsThere, IsOneOf, neighbours_there};
+ghost use Rattle.tt_board.specs.Near.{IsNeighbour};
+ghost use Rattle.tt_board.specs.inside.Neighbours.{IsThere, IsOneOf, neighbours_there};
 ghost use Rattle.tt_board.specs.inside.Chains.{IsEachOnce};
 
 use tt_sgf::Size;

@@ -2,7 +2,7 @@
 
 ghost use Rattle.std.specs.Prelude.{◌≡◌, length, MatchOption};
 ghost use Rattle.tt_sgf.specs.Sizes.{point_count};
-ghost use Rattle.tt_board.specs.Play.{placed, IsAlive, IsLeastLifeless};
+ghost use Rattle.tt_board.specs.Setup.{placed, IsAlive, IsLeastLifeless};
 
 use crate::Colour;
 use crate::colouring::Colouring;

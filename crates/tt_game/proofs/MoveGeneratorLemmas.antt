@@ -9,7 +9,8 @@ use Rattle.tt_board.specs.declared.Colour.{Colour}
 use Rattle.tt_board.specs.declared.counted.play_kind.PlayKind.TheVariants.{NoCapture}
 use Rattle.tt_board.specs.Position.{Colouring}
 use Rattle.tt_board.specs.Reach.{entry_at}
-use Rattle.tt_board.specs.Play.{Points, play_of, is_empty}
+use Rattle.tt_board.specs.Play.{play_of, is_empty}
+use Rattle.tt_board.specs.Stones.{Points}
 use Rattle.tt_board.specs.Stones.{any_empty}
 use Rattle.tt_game.specs.declared.frame.Frame.{Frame}
 use Rattle.tt_game.specs.declared.frame.Side.TheVariants.{Attacker}

@@ -5,7 +5,7 @@ use Rattle.std.specs.declared.result.Result.{Result}
 use Rattle.std.specs.FinSet as set
 use Rattle.tt_sgf.specs.declared.nodes.Node.{Node}
 use Rattle.tt_board.specs.declared.Colour.{Colour}
-use Rattle.tt_board.specs.Play.{Points}
+use Rattle.tt_board.specs.Stones.{Points}
 use Rattle.tt_board.specs.Stones.{any_empty}
 use Rattle.tt_game.specs.declared.faults.GameFault.{GameFault}
 use Rattle.tt_game.specs.declared.frame.Side.TheVariants.{Attacker, Defender}

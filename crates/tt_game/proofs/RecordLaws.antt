@@ -21,7 +21,9 @@ use Rattle.tt_board.specs.declared.Colour.{Colour}
 use Rattle.tt_board.specs.declared.Colour.TheVariants.{Black, White}
 use Rattle.tt_board.specs.Position.{Colouring}
 use Rattle.tt_board.specs.Reach.{entry_at}
-use Rattle.tt_board.specs.Play.{Points, is_empty, placed, same_colour}
+use Rattle.tt_board.specs.Play.{is_empty, same_colour}
+use Rattle.tt_board.specs.Stones.{Points}
+use Rattle.tt_board.specs.Setup.{placed}
 use Rattle.tt_game.specs.declared.faults.GameFault.{GameFault}
 use Rattle.tt_game.specs.declared.faults.GameFault.TheVariants.{NoTarget}
 use Rattle.tt_game.specs.declared.faults.Why.{Why}

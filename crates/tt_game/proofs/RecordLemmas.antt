@@ -9,7 +9,8 @@ use Rattle.tt_sgf.specs.declared.size.Size.{Size}
 use Rattle.tt_sgf.specs.Sizes.{point_count}
 use Rattle.tt_board.specs.Reach.{entry_at, Reaches}
 use Rattle.tt_board.specs.Decided.{reaches, reaches_is}
-use Rattle.tt_board.specs.Play.{is_empty, IsAlive, IsLeastLifeless}
+use Rattle.tt_board.specs.Play.{is_empty}
+use Rattle.tt_board.specs.Setup.{IsAlive, IsLeastLifeless}
 use Rattle.tt_game.specs.History.{repeats, repeats_is}
 use Rattle.tt_game.specs.declared.records.GameSoFar.{GameSoFar}
 use Rattle.tt_game.specs.Records.{alive_below, all_alive, run_nodes, step_node, and_then}

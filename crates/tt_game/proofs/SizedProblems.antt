@@ -12,7 +12,9 @@ use Rattle.tt_sgf.specs.Values.{point_of, trimmed}
 use Rattle.tt_board.specs.declared.Colour.{Colour}
 use Rattle.tt_board.specs.declared.Colour.TheVariants.{Black, White}
 use Rattle.tt_board.specs.Position.{Colouring}
-use Rattle.tt_board.specs.Play.{Points, length-placed, length-play_of, placed, same_colour}
+use Rattle.tt_board.specs.Play.{length-play_of, same_colour}
+use Rattle.tt_board.specs.Stones.{Points}
+use Rattle.tt_board.specs.Setup.{length-placed, placed}
 use Rattle.tt_board.specs.Stones.{any_empty}
 use Rattle.tt_game.specs.declared.faults.Why.{Why}
 use Rattle.tt_game.specs.declared.records.GameSoFar.{GameSoFar}

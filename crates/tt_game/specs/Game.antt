@@ -54,10 +54,6 @@ IsLegal f s Pass = winner_of f s ≡ None
 IsLegal f s (Play p) =
     (winner_of f s ≡ None) × (p < point_count f.size) × (entry_at s.present p ≡ None) × IsTrue (set.contains f.region p) × (Contains (history s) (made f s p) → ⊥)
 
--- the play of the side to move on p, an empty point of the region, repeats a colouring of the history
-abbrev pub IsBarred : Frame → State → ℕ → Type 0
-IsBarred f s p = (p < point_count f.size) × (entry_at s.present p ≡ None) × IsTrue (set.contains f.region p) × Contains (history s) (made f s p)
-
 -- a pass appends nothing and is counted; a play appends its colouring and ends the count
 abbrev pub after : Frame → State → Turn → State
 after f s Pass = record { earlier = s.earlier; present = s.present; to_move = opponent s.to_move; passes = s.passes + 1 }

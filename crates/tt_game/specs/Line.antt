@@ -1,6 +1,7 @@
 -- Lines: a frame, a state, and what pops lead back to. Why a turn is refused, and what a push does.
-use Rattle.std.specs.Prelude.{◌≡◌, ◌≢◌, ◌<◌, List, ◌∷◌, None, IsTrue}
+use Rattle.std.specs.Prelude.{◌≡◌, ◌≢◌, ℕ, ◌<◌, List, ◌∷◌, Contains, None, IsTrue}
 use Rattle.std.specs.FinSet as set
+use Rattle.tt_sgf.specs.Sizes.{point_count}
 use Rattle.tt_board.specs.Position.{Position}
 use Rattle.tt_board.specs.Reach.{entry_at}
 use Rattle.tt_board.specs.Stones.{LiesOn}
@@ -17,6 +18,10 @@ use Rattle.tt_game.specs.Game.{State, history, winner_of, made, IsLegal, after}
 -- a problem has some target, and all are on its board
 abbrev pub HasTargets : Frame → Type 0
 HasTargets f = (0 < set.len f.targets) × LiesOn f.size f.targets
+
+-- the play of the side to move on p, an empty point of the region, repeats a colouring of the history
+abbrev pub IsBarred : Frame → State → ℕ → Type 0
+IsBarred f s p = (p < point_count f.size) × (entry_at s.present p ≡ None) × IsTrue (set.contains f.region p) × Contains (history s) (made f s p)
 
 -- a frame, a state, and the states before the pushes that may be undone, the last one first
 pub record LineWithUndo : Type 0 where

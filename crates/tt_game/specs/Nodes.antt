@@ -11,7 +11,7 @@ use Rattle.tt_sgf.specs.Values.{after_blanks, number_of, size_of}
 use Rattle.tt_sgf.specs.Entries.{set_of}
 use Rattle.tt_board.specs.declared.Colour.{Colour}
 use Rattle.tt_board.specs.declared.Colour.TheVariants.{Black, White}
-use Rattle.tt_board.specs.Play.{Points}
+use Rattle.tt_board.specs.Stones.{Points}
 
 -- the values of all properties of this name, in order
 unfoldable pub values_of : List ℕ → List Property → List (List ℕ)

@@ -9,7 +9,8 @@ use Rattle.tt_sgf.specs.Points.{passing}
 use Rattle.tt_board.specs.declared.Colour.{Colour}
 use Rattle.tt_board.specs.declared.Colour.TheVariants.{Black, White}
 use Rattle.tt_board.specs.Position.{Colouring}
-use Rattle.tt_board.specs.Play.{Points, same_colour}
+use Rattle.tt_board.specs.Play.{same_colour}
+use Rattle.tt_board.specs.Stones.{Points}
 use Rattle.tt_board.specs.Stones.{any_empty, all_stones_of}
 use Rattle.tt_game.specs.declared.faults.GameFault.{GameFault}
 use Rattle.tt_game.specs.declared.faults.GameFault.TheVariants.{BadValue, NoTarget, EmptyTarget, MixedTargets}

@@ -12,7 +12,10 @@ use Rattle.tt_board.specs.declared.Colour.TheVariants.{Black, White}
 use Rattle.tt_board.specs.Position.{Colouring}
 use Rattle.tt_board.specs.Reach.{entry_at}
 use Rattle.tt_board.specs.Decided.{reaches}
-use Rattle.tt_board.specs.Play.{Points, placed, score_of, same_colour, is_empty}
+use Rattle.tt_board.specs.Play.{same_colour, is_empty}
+use Rattle.tt_board.specs.Stones.{Points}
+use Rattle.tt_board.specs.Setup.{placed}
+use Rattle.tt_board.specs.Score.{score_of}
 use Rattle.tt_game.specs.declared.faults.Why.{Why}
 use Rattle.tt_game.specs.declared.faults.Why.TheVariants.{Over, Occupied, Outside, Repeats}
 use Rattle.tt_game.specs.declared.faults.GameFault.{GameFault}

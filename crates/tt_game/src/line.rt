@@ -66,7 +66,8 @@ impl Model for Line {
 
 impl Line {
     ghost use Rattle.std.specs.Prelude.{Some, None, Err, Ok, [], MatchResult, EachIndex};
-    ghost use Rattle.tt_game.specs.Game.{history, winner_of, side_colour, made, IsLegal, IsBarred, after};
+    ghost use Rattle.tt_game.specs.Game.{history, winner_of, side_colour, made, IsLegal, after};
+    ghost use Rattle.tt_game.specs.Line.{IsBarred};
     ghost use Rattle.tt_board.specs.Reach.{entry_at};
     ghost use Rattle.std.specs.Prelude.{OnOk, OnErr, IfErr, IfOk};
     ghost use Rattle.tt_game.specs.Line.{HasTargets, HasBoard, IsRefusal, IsRefused, IsPushed};

@@ -3,7 +3,7 @@
 ghost use Rattle.std.specs.Prelude.{◌≡◌, Some};
 ghost use Rattle.tt_sgf.specs.Values.{point_of, trimmed};
 ghost use Rattle.tt_sgf.specs.Entries.{set_of};
-ghost use Rattle.tt_board.specs.Play.{placed};
+ghost use Rattle.tt_board.specs.Setup.{placed};
 ghost use Rattle.tt_game.specs.Turns.{IsOnBoard};
 ghost use Rattle.tt_game.specs.Nodes.{values_of, colour_named, AB, AW, AE, PL, B, W};
 ghost use Rattle.tt_game.specs.Records.{Returns, Becomes, fault_of, as_turn, replay_with, turn_by, turn_named, move_of, begun};

@@ -3,7 +3,8 @@ use Rattle.std.proofs.Common.{◌≡◌, ◌↔◌, ◌<◌, ◌≤◌, ◌+◌,
 use Rattle.std.proofs.lemmas.Bool.{cases_lt}
 use Rattle.std.specs.FinSet as set
 use Rattle.tt_board.specs.Position.{Colouring}
-use Rattle.tt_game.specs.Game.{State, IsBarred, history, made}
+use Rattle.tt_game.specs.Game.{State, history, made}
+use Rattle.tt_game.specs.Line.{IsBarred}
 use Rattle.tt_game.specs.declared.frame.Frame.{Frame}
 use Rattle.tt_proof.specs.Footprints.{IsRepeated}
 use Rattle.tt_proof.specs.inside.Collecting.{RepeatsBelow}

@@ -1,7 +1,7 @@
 -- Footprints as they are kept: as lists of boards, and a bound.
 use Rattle.std.specs.Prelude.{◌≡◌, ◌↔◌, ℕ, List, [], ◌∷◌, ◌++◌, Contains, IsTrue}
 use Rattle.std.specs.FinSet as set
-use Rattle.tt_board.specs.Play.{Points}
+use Rattle.tt_board.specs.Stones.{Points}
 use Rattle.tt_board.specs.Position.{Position, Colouring}
 use Rattle.tt_game.specs.Game.{State, IsLegal, after, history}
 use Rattle.tt_game.specs.declared.frame.Frame.{Frame}

@@ -2,7 +2,8 @@
 
 ghost use Rattle.std.specs.Prelude.{◌≡◌, ◌≤◌, ◌<◌, ◌↔◌, ◌⊎◌, List, [], ◌∷◌, ◌++◌, Contains, IfOk, OnOk, MatchOption};
 ghost use Rattle.tt_board.specs.Position.{Position, Colouring};
-ghost use Rattle.tt_game.specs.Game.{State, IsLegal, IsBarred, after, history, made};
+ghost use Rattle.tt_game.specs.Game.{State, IsLegal, after, history, made};
+ghost use Rattle.tt_game.specs.Line.{IsBarred};
 ghost use Rattle.tt_game.specs.declared.turns.Turn.{Turn};
 ghost use Rattle.tt_game.specs.declared.frame.Frame.{Frame};
 ghost use Rattle.tt_proof.specs.declared.tree.TheConstants.{MOST_DEPTH};

@@ -8,7 +8,7 @@ use Rattle.tt_board.specs.declared.boards.differences.Edit.{Edit}
 use Rattle.tt_board.specs.declared.boards.differences.Edit.TheVariants.{Black, White, Empty, Whole}
 use Rattle.tt_board.specs.Position.{Position, Colouring}
 use Rattle.tt_board.specs.Reach.{entry_at}
-use Rattle.tt_board.specs.Play.{IsAlive}
+use Rattle.tt_board.specs.Setup.{IsAlive}
 use Rattle.tt_board.specs.inside.Differences.{edited, colourings_from}
 
 -- the edit of a kind, at a point

@@ -12,7 +12,7 @@ use Rattle.tt_board.specs.declared.counted.play_kind.TheConstants.{NOWHERE}
 use Rattle.tt_board.specs.Near.{IsNeighbour}
 use Rattle.tt_board.specs.Position.{Colouring}
 use Rattle.tt_board.specs.Reach.{entry_at}
-use Rattle.tt_board.specs.Play.{IsAlive}
+use Rattle.tt_board.specs.Setup.{IsAlive}
 use Rattle.tt_board.specs.Decided.{Decision, both, some_below, neighbour, decided}
 
 -- a path of adjacent points of one colour leads from p to q

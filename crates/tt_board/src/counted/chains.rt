@@ -7,7 +7,8 @@ ghost use Rattle.tt_sgf.specs.declared.size.TheConstants.{MOST_POINTS};
 ghost use Rattle.tt_sgf.specs.Sizes.{point_count};
 ghost use Rattle.tt_sgf.specs.Words.{bit_in};
 ghost use Rattle.tt_board.specs.Reach.{entry_at};
-ghost use Rattle.tt_board.specs.Play.{IsAlive, play_of};
+ghost use Rattle.tt_board.specs.Play.{play_of};
+ghost use Rattle.tt_board.specs.Setup.{IsAlive};
 ghost use Rattle.tt_board.specs.PlayKind.{IsKind};
 ghost use Rattle.tt_board.specs.inside.Chains.{name_at, root_of, colour_number, renamed, IsEachOnce, IsOneName, AreNear, HasLost};
 

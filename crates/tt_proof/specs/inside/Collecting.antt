@@ -1,7 +1,8 @@
 -- What the parts of a walk for a footprint find.
 use Rattle.std.specs.Prelude.{◌≡◌, ◌≢◌, ◌↔◌, ◌⊎◌, ℕ, ◌<◌, Option, List, [], ◌∷◌, ◌++◌, Contains}
 use Rattle.tt_board.specs.Position.{Position, Colouring}
-use Rattle.tt_game.specs.Game.{State, IsBarred, made}
+use Rattle.tt_game.specs.Game.{State, made}
+use Rattle.tt_game.specs.Line.{IsBarred}
 use Rattle.tt_game.specs.declared.frame.Frame.{Frame}
 use Rattle.tt_game.specs.declared.turns.Turn.{Turn}
 use Rattle.tt_game.specs.declared.turns.Turn.TheVariants.{Play, Pass}

@@ -1,7 +1,7 @@
 use Rattle.std.proofs.Common.{◌≡◌, ◌++◌, codes, OnOk, ap, subst}
 use Rattle.tt_sgf.specs.declared.size.Size.{Size}
 use Rattle.tt_game.specs.declared.frame.Frame.{Frame}
-use Rattle.tt_board.specs.Play.{Points}
+use Rattle.tt_board.specs.Stones.{Points}
 use Rattle.tsumego_show.specs.Hints.{listed, takeables}
 use Rattle.tsumego_show.proofs.hints.put_takeables.Goals as goal
 

@@ -1,6 +1,6 @@
 use Rattle.std.proofs.Common.{◌≡◌, arith, rules, sym, ap, ◌∙◌}
 use Rattle.std.specs.FinSet as set
-use Rattle.tt_board.specs.Play.{Points}
+use Rattle.tt_board.specs.Stones.{Points}
 use Rattle.tsumego_show.proofs.Sets.{all_reached}
 use Rattle.tsumego_show.proofs.regions.reached_in.Goals as goal
 

@@ -1,7 +1,7 @@
 use Rattle.std.proofs.Common.{◌≡◌, arith, rules, sym, ap, ◌∙◌}
 use Rattle.tt_sgf.specs.declared.size.Size.{Size}
 use Rattle.tt_sgf.specs.Sizes.{point_count}
-use Rattle.tt_board.specs.Play.{Points}
+use Rattle.tt_board.specs.Stones.{Points}
 use Rattle.tsumego_show.specs.Regions.{inside, untaken, wall}
 use Rattle.tsumego_show.proofs.Sets.{wall_stays}
 use Rattle.tsumego_show.proofs.regions.wall.Goals as goal

@@ -1,6 +1,6 @@
 use Rattle.std.proofs.Common.{arith, inl, inr, ◌<◌, ◌≤◌, ◌+◌, ◌%◌, ◌-◌}
 use Rattle.tt_sgf.specs.Sizes.{point_count}
-use Rattle.tt_board.specs.Near.{IsThere}
+use Rattle.tt_board.specs.inside.Neighbours.{IsThere}
 use Rattle.tt_board.proofs.near.beside.Goals as goal
 use Rattle.tt_board.proofs.NearLemmas.{near_neighbours, neighbours_once}
 

@@ -1,7 +1,7 @@
 use Rattle.std.proofs.Common.{None, arith}
 use Rattle.std.proofs.lemmas.List.FromFn.{fill_by_all}
 use Rattle.tt_sgf.specs.Sizes.{point_count}
-use Rattle.tt_board.specs.Play.{placed, placed_entry}
+use Rattle.tt_board.specs.Setup.{placed, placed_entry}
 use Rattle.tt_board.proofs.setup.cover.Goals as goal
 
 pub returns : goal.returns

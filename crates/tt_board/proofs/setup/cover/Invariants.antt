@@ -1,7 +1,7 @@
 use Rattle.std.proofs.Common.{◌≡◌, ℕ, ◌<◌, ◌≤◌, length}
 use Rattle.tt_sgf.specs.Sizes.{point_count}
 use Rattle.tt_board.specs.Reach.{entry_at}
-use Rattle.tt_board.specs.Play.{placed_entry}
+use Rattle.tt_board.specs.Setup.{placed_entry}
 use Rattle.tt_board.proofs.setup.cover.Given as goal
 
 abbrev pub invariant-loop-index : goal.invariant-loop-index

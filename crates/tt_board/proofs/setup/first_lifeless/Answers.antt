@@ -1,6 +1,6 @@
 use Rattle.std.proofs.Common.{Option, Some, None, MatchOption, sym, subst}
 use Rattle.tt_board.specs.declared.Colour.TheVariants.{Black, White}
-use Rattle.tt_board.specs.Play.{IsLeastLifeless}
+use Rattle.tt_board.specs.Setup.{IsLeastLifeless}
 use Rattle.tt_board.specs.inside.Around.{AreReaching}
 use Rattle.tt_board.proofs.FillLemmas.{stones_on, stones_those, least_lifeless, none_lifeless}
 use Rattle.tt_board.proofs.setup.first_lifeless.Goals as goal

@@ -1,6 +1,7 @@
 use Rattle.std.proofs.Common.{rules, ◌≡◌, length, set, Some, sym, ap, subst, ◌∙◌}
 use Rattle.tt_board.specs.Position.{Position}
-use Rattle.tt_board.specs.Play.{play_of, IsAlive}
+use Rattle.tt_board.specs.Play.{play_of}
+use Rattle.tt_board.specs.Setup.{IsAlive}
 use Rattle.tt_board.proofs.PlayLemmas.{length-play, alive-play}
 use Rattle.tt_board.proofs.board.Board.put_stone.Goals as goal
 

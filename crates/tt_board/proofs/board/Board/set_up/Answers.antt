@@ -1,5 +1,5 @@
 use Rattle.std.proofs.Common.{length, ap, ◌∙◌}
-use Rattle.tt_board.specs.Play.{length-placed}
+use Rattle.tt_board.specs.Setup.{length-placed}
 use Rattle.tt_board.proofs.board.Board.set_up.Goals as goal
 
 pub first_lifeless-requires : goal.first_lifeless-requires

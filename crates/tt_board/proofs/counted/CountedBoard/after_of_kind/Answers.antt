@@ -1,6 +1,6 @@
 use Rattle.std.proofs.Common.{length, sym, subst, ◌∙◌, ap}
 use Rattle.tt_sgf.specs.Sizes.{point_count}
-use Rattle.tt_board.specs.Play.{IsAlive}
+use Rattle.tt_board.specs.Setup.{IsAlive}
 use Rattle.tt_board.proofs.PlayLemmas.{length-play, alive-play}
 use Rattle.tt_board.proofs.counted.CountedBoard.after_of_kind.Goals as goal
 

@@ -1,7 +1,7 @@
 use Rattle.std.proofs.Common.{◌≡◌, ◌≢◌, ◌++◌, ◌∷◌, List, [], length, take}
 use Rattle.tt_sgf.specs.Sizes.{point_count}
 use Rattle.tt_board.specs.Position.{Colouring, colourings}
-use Rattle.tt_board.specs.Play.{IsAlive}
+use Rattle.tt_board.specs.Setup.{IsAlive}
 use Rattle.tt_board.specs.inside.Differences.{colourings_from}
 use Rattle.tt_board.specs.inside.Boards.{led}
 use Rattle.tt_board.proofs.boards.trail.Trail.of.Given as goal

@@ -1,6 +1,6 @@
 use Rattle.std.proofs.Common.{subst}
 use Rattle.tt_board.specs.PlayKind.{IsKind}
-use Rattle.tt_board.specs.Play.{IsAlive}
+use Rattle.tt_board.specs.Setup.{IsAlive}
 use Rattle.tt_board.specs.inside.Chains.{ChainBoard, AreNear}
 use Rattle.tt_board.proofs.PlayLemmas.{alive-play}
 use Rattle.tt_board.proofs.PlayKindLemmas.{roots_below}

@@ -2,7 +2,8 @@ use Rattle.std.proofs.Common.{ℕ, ◌≡◌, ◌≢◌, ◌↔◌, Some, None, 
 use Rattle.std.proofs.lemmas.Bool.{true≢false}
 use Rattle.std.proofs.lemmas.List.Elements.{Contains-get_or}
 use Rattle.tt_board.specs.Reach.{entry_at}
-use Rattle.tt_board.specs.Play.{IsAlive, play_of}
+use Rattle.tt_board.specs.Play.{play_of}
+use Rattle.tt_board.specs.Setup.{IsAlive}
 use Rattle.tt_board.specs.inside.Chains.{name_at, IsEachOnce}
 use Rattle.tt_board.proofs.PlayLemmas.{alive-play}
 use Rattle.tt_board.proofs.MakeLemmas.{taking_more, taking_next, taken_gone, taken_kept, still_free, made_no_capture, made_suicide}

@@ -2,7 +2,7 @@ use Rattle.std.proofs.Common.{◌≡◌, ◌≢◌, ◌<◌, None, Some, set, le
 use Rattle.std.proofs.lemmas.List.{length-set, get_or-set_other}
 use Rattle.tt_sgf.specs.Sizes.{point_count}
 use Rattle.tt_board.specs.Reach.{entry_at}
-use Rattle.tt_board.specs.Play.{IsAlive}
+use Rattle.tt_board.specs.Setup.{IsAlive}
 use Rattle.tt_board.specs.inside.Chains.{ChainBoard, AreNames, AreNamesBut, AreNear}
 use Rattle.tt_sgf.specs.laws.SizeLaws.{few_points}
 use Rattle.tt_board.proofs.NameLemmas.{near_off}
