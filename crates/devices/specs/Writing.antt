@@ -26,6 +26,6 @@ WritesOf Whole Begun Earlier (Err Output) before behind = (text : List ℕ) × (
 WritesOf Whole Begun Earlier (Err Memory) before behind = (text : List ℕ) × Earlier text × Appends before behind text
 
 -- the fact holds of all that a reader had to give, or of some input where the reader doesn't tell
-abbrev pub ForInput : Option (List ℕ) → (List ℕ → Type 0) → Type 0
-ForInput None P = (input : List ℕ) × P input
-ForInput (Some told) P = P told
+abbrev pub HoldsForInput : Option (List ℕ) → (List ℕ → Type 0) → Type 0
+HoldsForInput None P = (input : List ℕ) × P input
+HoldsForInput (Some told) P = P told

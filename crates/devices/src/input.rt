@@ -1,6 +1,6 @@
 //! Reads the whole input.
 ghost use Rattle.std.specs.Prelude.{◌≡◌, IfOk, false};
-ghost use Rattle.devices.specs.Watching.{IsInput, TakesAtMost};
+ghost use Rattle.devices.specs.Watching.{IsReadInput, TakesAtMost};
 ghost use Rattle.devices.specs.Faults.{is_input_fault, is_output_fault};
 
 use crate::fault::RunFault;
@@ -17,7 +17,7 @@ pub fn read_input<R: Read>(
     most: usize,
 ) -> Result<Vec<u8>, RunFault>
     requires { reader.old.failed ≡ false }
-    ensures read { IfOk result (λ input. IsInput most (R.remaining reader.old.device) input.items) }
+    ensures read { IfOk result (λ input. IsReadInput most (R.remaining reader.old.device) input.items) }
     ensures taken { TakesAtMost most (R.remaining reader.old.device) (R.remaining reader.new.device) }
     ensures failed { reader.new.failed ≡ is_input_fault result }
     ensures fault { is_output_fault result ≡ false }

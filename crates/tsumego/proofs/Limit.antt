@@ -5,7 +5,7 @@ use Rattle.std.proofs.KnownBytes.{Appends-nil, Keeps-refl}
 use Rattle.tt_sgf.specs.declared.trees.TheConstants.{MAX_BYTES}
 use Rattle.devices.specs.declared.fault.RunFault.{RunFault}
 use Rattle.devices.specs.declared.fault.RunFault.TheVariants.{Input, Output, Memory}
-use Rattle.tt_text.specs.declared.outcome.Outcome.{Outcome}
+use Rattle.tt_text.specs.declared.outcome.TreeOutcome.{TreeOutcome}
 use Rattle.tt_sgf.specs.declared.nodes.Node.{Node}
 use Rattle.tt_text.specs.declared.finding.Finding.{Finding}
 use Rattle.tt_text.specs.Checking.{Finds, IsCheckText, first_tree, no_tree}
@@ -13,21 +13,21 @@ use Rattle.tt_text.specs.Checking as find
 use Rattle.tsumego.specs.declared.task.TreeTask.{TreeTask}
 use Rattle.tsumego.specs.Tasks.{MakesOutcome}
 use Rattle.tt_text.specs.Trees.{AreOutcomes, BeginsTreesText, EarlierTreesText, IsTreesText, all_lines, all_read, before_more, no_line, nothing, some_lines, stopped, too_long}
-use Rattle.devices.specs.Watching.{IsInput}
+use Rattle.devices.specs.Watching.{IsReadInput}
 use Rattle.devices.specs.laws.PartLaws.{cut_or_whole}
 use Rattle.devices.specs.Faults.{is_output_fault}
-use Rattle.devices.specs.Writing.{ForInput}
+use Rattle.devices.specs.Writing.{HoldsForInput}
 use Rattle.tsumego.specs.Writing.{WritesFor}
 
-module _ (allowed : List Node → Outcome → Type 0) where
+module _ (allowed : List Node → TreeOutcome → Type 0) where
   -- outcomes for a part of the input that is too long as well are outcomes for the input
-  long_outcomes : (input part : List ℕ) (os : List Outcome) → length part ≡ MAX_BYTES + 1 → MAX_BYTES + 1 ≤ length input → AreOutcomes allowed part os → AreOutcomes allowed input os
+  long_outcomes : (input part : List ℕ) (os : List TreeOutcome) → length part ≡ MAX_BYTES + 1 → MAX_BYTES + 1 ≤ length input → AreOutcomes allowed part os → AreOutcomes allowed input os
   long_outcomes input part os e le (too_long long) = too_long (omega arith)
   long_outcomes input part os e le (all_read os' rest small reads some none) = absurd (omega arith)
   long_outcomes input part os e le (stopped os' rest small reads why none) = absurd (omega arith)
 
   -- outcomes for the part up to the limit are outcomes for the input
-  outcomes_whole : (input : List ℕ) (os : List Outcome) → AreOutcomes allowed (take (MAX_BYTES + 1) input) os → AreOutcomes allowed input os
+  outcomes_whole : (input : List ℕ) (os : List TreeOutcome) → AreOutcomes allowed (take (MAX_BYTES + 1) input) os → AreOutcomes allowed input os
   outcomes_whole input os h = elim (cut_or_whole (MAX_BYTES + 1) input) [
     | inl e ↦ subst (λ (x : List ℕ). AreOutcomes allowed x os) e h
     | inr p ↦ long_outcomes input (take (MAX_BYTES + 1) input) os p.0 p.1 h
@@ -84,8 +84,8 @@ module _ (parts : Bool) where
   writes_whole None input (Err Memory) a b w = w
 
   -- what is written on what was read up to the limit is written on what the reader had to give
-  pub writes_read : (t : Option TreeTask) (told : Option (List ℕ)) (bytes : List ℕ) (r : Result ℕ RunFault) (a b : Option (List ℕ)) → IsInput (MAX_BYTES + 1) told bytes
-      → WritesFor parts t bytes r a b → ForInput told (λ input. WritesFor parts t input r a b)
+  pub writes_read : (t : Option TreeTask) (told : Option (List ℕ)) (bytes : List ℕ) (r : Result ℕ RunFault) (a b : Option (List ℕ)) → IsReadInput (MAX_BYTES + 1) told bytes
+      → WritesFor parts t bytes r a b → HoldsForInput told (λ input. WritesFor parts t input r a b)
   writes_read t None bytes r a b e w = (bytes, w)
   writes_read t (Some input) bytes r a b e w = writes_whole t input r a b (subst (λ (x : List ℕ). WritesFor parts t x r a b) e w)
 
@@ -99,6 +99,6 @@ module _ (parts : Bool) where
 
   -- so it may for what the reader had to give
   pub writes_nothing : (t : Option TreeTask) (told : Option (List ℕ)) (e : RunFault) (a : Option (List ℕ)) → is_output_fault {A = ℕ} (Err e) ≡ false
-      → ForInput told (λ input. WritesFor parts t input (Err e) a a)
+      → HoldsForInput told (λ input. WritesFor parts t input (Err e) a a)
   writes_nothing t None e a quiet = ([], nothing_written t [] e a quiet)
   writes_nothing t (Some input) e a quiet = nothing_written t input e a quiet

@@ -13,21 +13,21 @@ use Rattle.tt_sgf.specs.declared.nodes.Node.{Node}
 use Rattle.tt_sgf.specs.Grammar.{GameTree, HasNoTree, FirstTreeEndsAt, main_line, HasOpen}
 use Rattle.devices.specs.declared.fault.RunFault.{RunFault}
 use Rattle.devices.specs.declared.fault.RunFault.TheVariants.{Input, Output, Memory}
-use Rattle.tt_text.specs.declared.outcome.Outcome.{Outcome}
-use Rattle.tt_text.specs.declared.outcome.Outcome.TheVariants.{Scored, Answered, Refused}
+use Rattle.tt_text.specs.declared.outcome.TreeOutcome.{TreeOutcome}
+use Rattle.tt_text.specs.declared.outcome.TreeOutcome.TheVariants.{Scored, Answered, Refused}
 use Rattle.tsumego.specs.inside.Lines.{WritesOutcome}
 use Rattle.tt_text.specs.Trees.{AreOutcomes, BeginsTreesText, EarlierTreesText, IsTreesText, Reads, all_lines, all_read, before_more, is_refused, line_of, lines_from}
 use Rattle.tt_text.specs.Trees.{nothing, some_lines, stopped, too_long}
 use Rattle.devices.specs.Writing.{WritesOf, WritesText}
 
 -- one more tree
-pub Reads-more : (allowed : List Node → Outcome → Type 0) (input : List ℕ) (os : List Outcome) (o : Outcome) (rest : List ℕ) (count : ℕ) (t : GameTree) → Reads allowed input os rest
+pub Reads-more : (allowed : List Node → TreeOutcome → Type 0) (input : List ℕ) (os : List TreeOutcome) (o : TreeOutcome) (rest : List ℕ) (count : ℕ) (t : GameTree) → Reads allowed input os rest
     → FirstTreeEndsAt rest count t → allowed (main_line t) o → Reads allowed input (os ++ o ∷ []) (drop count rest)
 Reads-more allowed input [] o rest count t r s ok = (count, t, subst (λ (x : List ℕ). FirstTreeEndsAt x count t) (sym r) s, ok, ap (drop count) r)
 Reads-more allowed input (x ∷ os) o rest count t r s ok = (r.0, r.1, r.2, r.3, Reads-more allowed (drop r.0 input) os o rest count t r.4 s ok)
 
 -- the lines on outcomes with one more end with the line on that one
-lines_from-more : (k : ℕ) (os : List Outcome) (o : Outcome) → lines_from k (os ++ o ∷ []) ≡ lines_from k os ++ line_of (k + length os) o
+lines_from-more : (k : ℕ) (os : List TreeOutcome) (o : TreeOutcome) → lines_from k (os ++ o ∷ []) ≡ lines_from k os ++ line_of (k + length os) o
 lines_from-more k [] o = append-nil (line_of k o) ∙ ap (λ n. line_of n o) (omega arith)
 lines_from-more k (x ∷ os) o =
     let next : k + 1 + length os ≡ k + length (x ∷ os) = omega arith in
@@ -36,7 +36,7 @@ lines_from-more k (x ∷ os) o =
     ∙ ap (λ n. line_of k x ++ lines_from (k + 1) os ++ line_of n o) next
 
 -- no outcome, where the next number is 1
-no_outcomes : (os : List Outcome) → 1 ≡ length os + 1 → os ≡ []
+no_outcomes : (os : List TreeOutcome) → 1 ≡ length os + 1 → os ≡ []
 no_outcomes [] e = refl
 no_outcomes (x ∷ os) e = let bad : 1 ≡ suc (length os) + 1 = e in absurd (omega arith)
 
@@ -45,32 +45,32 @@ or_true true = refl
 or_true false = refl
 
 -- of one outcome alone, some outcome is refused where it is
-any-one : (o : Outcome) → list_any is_refused (o ∷ []) ≡ is_refused o
+any-one : (o : TreeOutcome) → list_any is_refused (o ∷ []) ≡ is_refused o
 any-one (Scored x) = refl
 any-one (Answered x) = refl
 any-one (Refused x) = refl
 
 -- what is read and written so far; an input with an outcome is not too long
-pub record Progress (allowed : List Node → Outcome → Type 0) (input rest : List ℕ) (number : ℕ) (refused : Bool) (a b : Option (List ℕ)) : Type 0 where
-  pub os : List Outcome
+pub record Progress (allowed : List Node → TreeOutcome → Type 0) (input rest : List ℕ) (number : ℕ) (refused : Bool) (a b : Option (List ℕ)) : Type 0 where
+  pub os : List TreeOutcome
   pub count : number ≡ length os + 1
   pub reads : Reads allowed input os rest
   pub small : (os ≡ []) ⊎ (length input ≤ MAX_BYTES)
   pub bad : refused ≡ list_any is_refused os
   pub told : Appends a b (lines_from 1 os)
 
-module _ {allowed : List Node → Outcome → Type 0} {input rest : List ℕ} {number : ℕ} {refused : Bool} {a b : Option (List ℕ)} (p : Progress allowed input rest number refused a b) where
+module _ {allowed : List Node → TreeOutcome → Type 0} {input rest : List ℕ} {number : ℕ} {refused : Bool} {a b : Option (List ℕ)} (p : Progress allowed input rest number refused a b) where
   -- how a run that writes on the trees ends
   abbrev EndsAs : Result ℕ RunFault → Option (List ℕ) → Option (List ℕ) → Type 0
   EndsAs = WritesOf (IsTreesText allowed input) (BeginsTreesText allowed input) (EarlierTreesText allowed input)
 
   -- the lines with one more
-  lines_more : (o : Outcome) → lines_from 1 (p.os ++ o ∷ []) ≡ lines_from 1 p.os ++ line_of number o
+  lines_more : (o : TreeOutcome) → lines_from 1 (p.os ++ o ∷ []) ≡ lines_from 1 p.os ++ line_of number o
   lines_more o = lines_from-more 1 p.os o ∙ ap (λ n. lines_from 1 p.os ++ line_of n o) (let e : 1 + length p.os ≡ number = omega (arith, p.count) in e)
 
   -- where no tree is read yet, the rest is the whole
-  nothing_read : (os : List Outcome) → os ≡ [] → Reads allowed input os rest → input ≡ rest
-  nothing_read os e r = subst (λ (x : List Outcome). Reads allowed input x rest) e r
+  nothing_read : (os : List TreeOutcome) → os ≡ [] → Reads allowed input os rest → input ≡ rest
+  nothing_read os e r = subst (λ (x : List TreeOutcome). Reads allowed input x rest) e r
 
   -- where the rest is not too long, nor is the input
   small_whole : length rest ≤ MAX_BYTES → length input ≤ MAX_BYTES
@@ -94,16 +94,16 @@ module _ {allowed : List Node → Outcome → Type 0} {input rest : List ℕ} {n
   }
 
   -- a part of one more line is a part of the lines
-  cut : (d : Option (List ℕ)) (o : Outcome) (n : ℕ) → Appends b d (take n (line_of number o)) → Appends a d (take (length (lines_from 1 p.os) + n) (lines_from 1 (p.os ++ o ∷ [])))
+  cut : (d : Option (List ℕ)) (o : TreeOutcome) (n : ℕ) → Appends b d (take n (line_of number o)) → Appends a d (take (length (lines_from 1 p.os) + n) (lines_from 1 (p.os ++ o ∷ [])))
   cut d o n w = subst (Appends a d)
       (sym (ap (take (length (lines_from 1 p.os) + n)) (lines_more o) ∙ take-append-add (lines_from 1 p.os) (line_of number o) n))
       (Appends-trans a b d _ _ p.told w)
 
   -- the lines so far are the earlier part, where more is to be written
   earlier : (number ≡ 1) ⊎ HasOpen rest → EarlierTreesText allowed input (lines_from 1 p.os)
-  earlier (inl e) = subst (λ (x : List Outcome). EarlierTreesText allowed input (lines_from 1 x)) (sym (no_outcomes p.os (sym e ∙ p.count))) nothing
+  earlier (inl e) = subst (λ (x : List TreeOutcome). EarlierTreesText allowed input (lines_from 1 x)) (sym (no_outcomes p.os (sym e ∙ p.count))) nothing
   earlier (inr more) = elim p.small [
-    | inl e ↦ subst (λ (x : List Outcome). EarlierTreesText allowed input (lines_from 1 x)) (sym e) nothing
+    | inl e ↦ subst (λ (x : List TreeOutcome). EarlierTreesText allowed input (lines_from 1 x)) (sym e) nothing
     | inr small ↦ before_more p.os rest small p.reads more
   ]
 
@@ -157,7 +157,7 @@ module _ {allowed : List Node → Outcome → Type 0} {input rest : List ℕ} {n
   pub progress_long : (d : Option (List ℕ)) → (number ≡ 1) ⊎ HasOpen rest → (r : Result ℕ RunFault) → MAX_BYTES < length rest → number + length rest ≤ length input + 1
       → IfOk r (λ status. status ≡ 1) → WritesText (line_of number (Refused 2)) r b d → EndsAs r a d
   progress_long d why r long bound one w = progress_last d why 2 r (elim p.small [
-    | inl e ↦ subst (λ (x : List Outcome). AreOutcomes allowed input (x ++ Refused 2 ∷ [])) (sym e)
+    | inl e ↦ subst (λ (x : List TreeOutcome). AreOutcomes allowed input (x ++ Refused 2 ∷ [])) (sym e)
         (too_long (subst (λ (x : List ℕ). MAX_BYTES < length x) (sym (nothing_read p.os e p.reads)) long))
     | inr small ↦ absurd (omega (arith, p.count))
   ]) one w
@@ -172,7 +172,7 @@ module _ {allowed : List Node → Outcome → Type 0} {input rest : List ℕ} {n
     where
       -- there is an outcome
       some : p.os ≢ []
-      some e = more (p.count ∙ ap (λ (l : List Outcome). length l + 1) e)
+      some e = more (p.count ∙ ap (λ (l : List TreeOutcome). length l + 1) e)
 
       -- so the input is not too long
       small : length input ≤ MAX_BYTES

@@ -1,7 +1,7 @@
 -- What a command does with each game tree of its input.
 use Rattle.std.specs.Prelude.{Bool, false, List, Option, None, Some}
 use Rattle.tt_sgf.specs.declared.nodes.Node.{Node}
-use Rattle.tt_text.specs.declared.outcome.Outcome.{Outcome}
+use Rattle.tt_text.specs.declared.outcome.TreeOutcome.{TreeOutcome}
 use Rattle.tt_text.specs.Scoring.{Scores}
 use Rattle.tt_text.specs.Solving.{Solves}
 use Rattle.tsumego.specs.declared.request.Command.{Command}
@@ -10,7 +10,7 @@ use Rattle.tsumego.specs.declared.task.TreeTask.{TreeTask}
 use Rattle.tsumego.specs.declared.task.TreeTask.TheVariants.{Score, Solve}
 
 -- the outcomes that the task gives to a main line
-abbrev pub MakesOutcome : TreeTask → List Node → Outcome → Type 0
+abbrev pub MakesOutcome : TreeTask → List Node → TreeOutcome → Type 0
 MakesOutcome Score = Scores
 MakesOutcome (Solve options) = Solves options
 

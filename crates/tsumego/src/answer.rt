@@ -2,7 +2,7 @@
 ghost use Rattle.std.specs.Prelude.{◌≡◌, IfOk, None, Some, false};
 ghost use Rattle.devices.specs.Faults.{is_input_fault, is_output_fault};
 ghost use Rattle.devices.specs.Watching.{TakesAtMost};
-ghost use Rattle.devices.specs.Writing.{ForInput, WritesText};
+ghost use Rattle.devices.specs.Writing.{HoldsForInput, WritesText};
 ghost use Rattle.tsumego.specs.inside.Lines.{WritesOutcome};
 ghost use Rattle.tsumego.specs.Tasks.{MakesOutcome, shares_parts, task_of};
 ghost use Rattle.tt_text.specs.Trees.{line_of};
@@ -17,7 +17,7 @@ use std::io::{Eprint, Read, Write};
 use std::sync::Wait;
 use std::thread::Threads;
 use tt_sgf::{MAX_BYTES, MainLine, SgfFault, has_tree, read_tree};
-use tt_text::{Outcome, find, line};
+use tt_text::{TreeOutcome, find, line};
 
 /// One byte more than the longest input whose trees are read.
 const MOST_READ: usize = MAX_BYTES + 1;
@@ -27,7 +27,7 @@ fn write_line<W: Write>(
     alloc: Global,
     writer: &mut Watched<W>,
     number: usize,
-    outcome: &Outcome,
+    outcome: &TreeOutcome,
 ) -> Result<(), RunFault>
     requires { writer.old.failed ≡ false }
     ensures written { WritesText (line_of number outcome.now) result (W.contents writer.old.device) (W.contents writer.new.device) }
@@ -75,11 +75,11 @@ fn refuse<W: Write>(
     code: u8,
 ) -> Result<u8, RunFault>
     requires { writer.old.failed ≡ false }
-    ensures written { WritesText (line_of number (Outcome.Refused code)) result (W.contents writer.old.device) (W.contents writer.new.device) }
+    ensures written { WritesText (line_of number (TreeOutcome.Refused code)) result (W.contents writer.old.device) (W.contents writer.new.device) }
     ensures status { IfOk result (λ status. status ≡ 1) }
     ensures failed { writer.new.failed ≡ is_output_fault result }
 {
-    match write_line(alloc, writer, number, &Outcome::Refused(code)) {
+    match write_line(alloc, writer, number, &TreeOutcome::Refused(code)) {
         Ok(()) => Ok(1),
         Err(fault) => Err(fault),
     }
@@ -213,7 +213,7 @@ pub fn run<X: Threads + Wait + Eprint + Sync, R: Read, W: Write>(
 ) -> Result<u8, RunFault>
     requires reader { reader.old.failed ≡ false }
     requires writer { writer.old.failed ≡ false }
-    ensures written { ForInput (R.remaining reader.old.device) (λ input.
+    ensures written { HoldsForInput (R.remaining reader.old.device) (λ input.
         Writes command.now input result (W.contents writer.old.device) (W.contents writer.new.device)) }
     ensures taken { TakesAtMost MOST_READ (R.remaining reader.old.device) (R.remaining reader.new.device) }
     ensures input { reader.new.failed ≡ is_input_fault result }

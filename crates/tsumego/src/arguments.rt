@@ -31,11 +31,11 @@ const DFPN_HELP: &str =
 
 const WORKERS_HELP: &str = "How many threads search first turns in parallel, 1 to 64";
 
-const PARTS_HELP: &str = "Read a certificate that may share parts";
+const CHECK_PARTS_HELP: &str = "Read a certificate that may share parts";
 
 const CERT_HELP: &str = "Write the certificate on a line of its own";
 
-const SHARE_HELP: &str = "Write each shared part of the certificate once";
+const SOLVE_PARTS_HELP: &str = "Write each shared part of the certificate once";
 
 const PROGRESS_HELP: &str = "Write on standard error how far the search is";
 
@@ -149,7 +149,7 @@ fn solve_parser<'a>(alloc: Global) -> Result<Parser<'a>, AllocError>
     let dfpn = optional_number(alloc, "dfpn", MOST_POSITIONS, DFPN_HELP);
     let workers = number_option(alloc, "workers", MOST_WORKERS as u32, "1", WORKERS_HELP);
     let cert = flag(alloc, "cert", CERT_HELP);
-    let parts = flag(alloc, "parts", SHARE_HELP);
+    let parts = flag(alloc, "parts", SOLVE_PARTS_HELP);
     let turns = flag(alloc, "turns", TURNS_HELP);
     let progress = flag(alloc, "progress", PROGRESS_HELP);
     let one = named(alloc, "solve", "Solve problems", SOLVE_END).arg(budget)?;
@@ -168,7 +168,7 @@ fn check_parser<'a>(alloc: Global) -> Result<Parser<'a>, AllocError>
     ensures local { IfOk result (λ r. (out-Command r).has_globals ≡ false) }
 {
     let about = "Check the certificate behind a problem";
-    named(alloc, "check", about, CHECK_END).arg(flag(alloc, "parts", PARTS_HELP))
+    named(alloc, "check", about, CHECK_END).arg(flag(alloc, "parts", CHECK_PARTS_HELP))
 }
 
 fn parser<'a>(alloc: Global) -> Result<Parser<'a>, AllocError>

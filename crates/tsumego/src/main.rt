@@ -3,12 +3,12 @@
 
 mod answer;
 mod arguments;
+#[cfg(test)]
+mod command_cases;
+#[cfg(test)]
+mod command_tests;
 mod progress;
 mod request;
-#[cfg(test)]
-mod row_tables;
-#[cfg(test)]
-mod row_tests;
 mod task;
 
 use answer::run;

@@ -7,7 +7,7 @@ use std::sync::Wait;
 use std::thread::Threads;
 use tt_sgf::{MainLine, NoMemory};
 use tt_share::Gate;
-use tt_text::{Options, Outcome, score, solve};
+use tt_text::{Options, TreeOutcome, score, solve};
 
 /// What is done with each tree of an input: it is scored as a record or solved as a problem.
 #[derive(Clone, Copy, Debug)]
@@ -25,7 +25,7 @@ impl TreeTask {
         main: &MainLine,
         bytes: usize,
         gate: &G,
-    ) -> Result<Outcome, NoMemory>
+    ) -> Result<TreeOutcome, NoMemory>
         ensures { IfOk result (MakesOutcome self.now main.now.nodes) }
     {
         match self {

@@ -12,7 +12,7 @@ use tt_proof::Proof;
 use tt_search::{PrivateStore, Store};
 use tt_sgf::{Items, MainLine, NoMemory};
 use tt_share::{Answer, MOST_KEPT, solve_one};
-use tt_text::{Options, Outcome, found, verdict_text};
+use tt_text::{Options, TreeOutcome, found, verdict_text};
 
 /// Keeps a proof in the store.
 fn keep(alloc: Global, store: &mut PrivateStore, proof: Proof) -> Result<(), NoMemory> {
@@ -79,16 +79,16 @@ pub fn solve(
     main: &MainLine,
     options: Options,
     bytes: usize,
-) -> Result<Outcome, NoMemory>
+) -> Result<TreeOutcome, NoMemory>
     requires { options.turns ≡ false }
     ensures { IfOk result (Solves options main.now.nodes) }
 {
     match problem(alloc, main) {
         Ok(line) => {
             let text = solve_at(alloc, &line, options, bytes)?;
-            Ok(Outcome::Answered(text))
+            Ok(TreeOutcome::Answered(text))
         }
         Err(GameFault::NoMemory) => Err(NoMemory),
-        Err(fault) => Ok(Outcome::Refused(fault.code())),
+        Err(fault) => Ok(TreeOutcome::Refused(fault.code())),
     }
 }

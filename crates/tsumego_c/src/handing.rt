@@ -12,7 +12,7 @@ const NO_ROOM: u32 = 3;
 
 /// A text and its status: 1 where something was refused or the certificate is invalid, else 0.
 #[derive(Drop)]
-pub struct Text {
+pub struct TextAndStatus {
     pub bytes: Vec<u8>,
     pub status: u32,
 }
@@ -48,8 +48,8 @@ fn give(text: &[u8], status: u32, out: &mut [u8], taken: &mut usize) -> u32
 }
 
 /// Hands over the text that was made, where memory wasn't refused to it.
-pub fn hand_over(made: &Result<Text, NoMemory>, out: &mut [u8], taken: &mut usize) -> u32
-    ensures { Ends (λ bytes status. (t : Text) × (made.now ≡ Ok t) × (bytes ≡ t.bytes.items) × (status ≡ t.status)) out.old out.new taken.new result }
+pub fn hand_over(made: &Result<TextAndStatus, NoMemory>, out: &mut [u8], taken: &mut usize) -> u32
+    ensures { Ends (λ bytes status. (t : TextAndStatus) × (made.now ≡ Ok t) × (bytes ≡ t.bytes.items) × (status ≡ t.status)) out.old out.new taken.new result }
 {
     match made {
         Ok(text) => give(text.bytes.as_slice(), text.status, out, taken),

@@ -9,7 +9,7 @@ use Rattle.tt_game.specs.declared.frame.Frame.{Frame}
 use Rattle.tt_game.specs.declared.turns.Turn.{Turn}
 use Rattle.tt_game.specs.declared.turns.Turn.TheVariants.{Play, Pass}
 use Rattle.tt_game.specs.Game.{State, IsLegal, after, side_colour}
-use Rattle.tt_game.specs.Line.{IsPushed, IsRefusal, LineWithUndo}
+use Rattle.tt_game.specs.Line.{IsLineAfterTurn, IsRefusal, LineWithUndo}
 use Rattle.tt_game.specs.Turns.{is_legal_is}
 use Rattle.tt_proof.specs.Strategy.{Strategy, Entries, pick, reply}
 use Rattle.tsumego_show.specs.Variations.{legal_text, move_text, or_ending, reply_variations, variations}
@@ -40,7 +40,7 @@ module _ (f : Frame) (s : State) (t : Turn) (behind : List ℕ) where
 
 -- a turn that was made is written with what follows it
 pub made_written : {A E : Type 0} (r : Result A E) (p q : LineWithUndo) (t : Turn) (k : Colour) (n : ℕ) (u : Strategy) (old new : List ℕ)
-    → IsLegal p.frame p.state t → IsPushed p q t → k ≡ side_colour p.frame p.state.to_move
+    → IsLegal p.frame p.state t → IsLineAfterTurn p q t → k ≡ side_colour p.frame p.state.to_move
     → OnOk r (new ≡ old ++ (move_text q.frame.size k t ++ (variations q.frame q.state u n ++ close_tree ∷ [])))
     → OnOk r (new ≡ old ++ legal_text p.frame p.state t (variations p.frame (after p.frame p.state t) u n))
 made_written (Ok y) p q t k n u old new legal pushed same w =

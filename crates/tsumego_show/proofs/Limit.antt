@@ -8,8 +8,8 @@ use Rattle.devices.specs.declared.fault.RunFault.TheVariants.{Input, Output, Mem
 use Rattle.std.specs.Io.KnownBytes.{Appends, Keeps}
 use Rattle.devices.specs.laws.PartLaws.{cut_or_whole}
 use Rattle.devices.specs.Faults.{is_output_fault}
-use Rattle.devices.specs.Watching.{IsInput}
-use Rattle.devices.specs.Writing.{Breaks, ForInput}
+use Rattle.devices.specs.Watching.{IsReadInput}
+use Rattle.devices.specs.Writing.{Breaks, HoldsForInput}
 use Rattle.tsumego_show.specs.declared.form.Form.{Form}
 use Rattle.tsumego_show.specs.Shown.{IsShown, IsInputText, too_long, trees}
 use Rattle.tsumego_show.specs.Writing.{WritesShown}
@@ -35,8 +35,8 @@ writes_whole form input (Err Output) a b w = (w.0, w.1, (w.2.0, shown_whole form
 writes_whole form input (Err Memory) a b w = w
 
 -- what is written on the part up to the limit is written on the input
-pub writes_read : (form : Form) (told : Option (List ℕ)) (bytes : List ℕ) (r : Result ℕ RunFault) (a b : Option (List ℕ)) → IsInput (MAX_BYTES + 1) told bytes → WritesShown form bytes r a b
-    → ForInput told (λ input. WritesShown form input r a b)
+pub writes_read : (form : Form) (told : Option (List ℕ)) (bytes : List ℕ) (r : Result ℕ RunFault) (a b : Option (List ℕ)) → IsReadInput (MAX_BYTES + 1) told bytes → WritesShown form bytes r a b
+    → HoldsForInput told (λ input. WritesShown form input r a b)
 writes_read form None bytes r a b e w = (bytes, w)
 writes_read form (Some input) bytes r a b e w = writes_whole form input r a b (subst (λ (x : List ℕ). WritesShown form x r a b) e w)
 
@@ -47,7 +47,7 @@ nothing_written form input Output a quiet = let bad : true ≡ false = quiet in 
 nothing_written form input Memory a quiet = ([], refl, Appends-nil a)
 
 -- so it is where the reader tells what it had to give
-pub writes_nothing : (form : Form) (told : Option (List ℕ)) (e : RunFault) (a : Option (List ℕ)) → is_output_fault {A = ℕ} (Err e) ≡ false → ForInput told (λ input. WritesShown form input (Err e) a a)
+pub writes_nothing : (form : Form) (told : Option (List ℕ)) (e : RunFault) (a : Option (List ℕ)) → is_output_fault {A = ℕ} (Err e) ≡ false → HoldsForInput told (λ input. WritesShown form input (Err e) a a)
 writes_nothing form None e a quiet = ([], nothing_written form [] e a quiet)
 writes_nothing form (Some input) e a quiet = nothing_written form input e a quiet
 

@@ -10,7 +10,7 @@ use Rattle.tt_proof.specs.declared.outlines.Outline as form
 use Rattle.tt_proof.specs.declared.tree.Tree.{Tree}
 use Rattle.tt_proof.specs.Outlines.{Outline, Branches, ended, picked, replied, part, no_branch, branch, unfolded, entries_with, names_behind, names_behind_all, outline_of, branches_of_list}
 use Rattle.tt_proof.specs.Outlines.{with_name, IsOrderly, AreOrderly}
-use Rattle.tt_proof.specs.Strategy.{Strategy, done, pick, reply, entry, IsInOrder, AreInOrder, number_on, strategy_of, entries_of_trees}
+use Rattle.tt_proof.specs.Strategy.{Strategy, done, pick, reply, entry, IsInOrder, AreInOrder, number_on, strategy_of, entries_of_list}
 use Rattle.tt_proof.proofs.StrategyLemmas.{before, before_none, before_push}
 
 -- ---- an unfolded outline is in order
@@ -120,7 +120,7 @@ unfolds_more us all left entries names more t o tree h same behind = record {
 }
 
 pub unfolds_all : (us : List Strategy) (all : Branches) (entries : List (Turn × Tree)) (names : List Strategy) → Unfolds us all no_branch entries names
-    → (entries_of_trees entries ≡ entries_with us all) × (names ≡ names_behind_all us all)
+    → (entries_of_list entries ≡ entries_with us all) × (names ≡ names_behind_all us all)
 unfolds_all us all entries names h = (sym (before_none entries) ∙ h.entries_are, h.names_are)
 
 -- ---- the same with the list of a reply
@@ -149,7 +149,7 @@ module _ (us : List Strategy) (list : List (Turn × form.Outline)) where
       (drop-cons list n e within ∙ ap (λ m. get_or list n e ∷ drop m list) (sym (add-one n)) ∙ ap (λ x. x ∷ drop (n + 1) list) (sym is)) h) same after)
 
   pub unfolds_end : (n : ℕ) (entries : List (Turn × Tree)) (names : List Strategy) → length list ≤ n → UnfoldsFrom n entries names
-      → (entries_of_trees entries ≡ entries_with us (branches_of_list list)) × (names ≡ names_behind_all us (branches_of_list list))
+      → (entries_of_list entries ≡ entries_with us (branches_of_list list)) × (names ≡ names_behind_all us (branches_of_list list))
   unfolds_end n entries names le h =
       unfolds_all us (branches_of_list list) entries names
       (subst (λ (x : List (Turn × form.Outline)). Unfolds us (branches_of_list list) (branches_of_list x) entries names) (drop_of_length-le list le) h)

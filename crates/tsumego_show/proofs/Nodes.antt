@@ -12,9 +12,9 @@ use Rattle.tt_sgf.specs.Points.{passing}
 use Rattle.tt_board.specs.Stones.{Points}
 use Rattle.tt_game.specs.Nodes.{values_of}
 use Rattle.tt_game.proofs.NodeLemmas.{values-named, values-nil, values-other}
-use Rattle.tsumego_show.specs.declared.tree_bytes.Spot.{Spot}
-use Rattle.tsumego_show.specs.Faulty.{first_bad, is_plain}
-use Rattle.tsumego_show.specs.TreeBytes.{begins_node, behind_semicolon, from_open, next_spot}
+use Rattle.tsumego_show.specs.declared.tree_bytes.LexicalState.{LexicalState}
+use Rattle.tsumego_show.specs.FaultDetails.{first_bad, is_star_to_tilde}
+use Rattle.tsumego_show.specs.TreeBytes.{begins_node, behind_semicolon, from_open, next_lexical_state}
 
 -- ---- values that can't be read
 
@@ -80,14 +80,14 @@ module _ (size : Size) (name : List ℕ) where
 
 -- ---- plain bytes
 
-pub plain_none : list_all is_plain [] ≡ true
+pub plain_none : list_all is_star_to_tilde [] ≡ true
 plain_none = refl
 
-pub plain_no : (b : ℕ) (bs : List ℕ) → is_plain b ≡ false → list_all is_plain (b ∷ bs) ≡ false
-plain_no b bs h = ap (λ x. x && list_all is_plain bs) h
+pub plain_no : (b : ℕ) (bs : List ℕ) → is_star_to_tilde b ≡ false → list_all is_star_to_tilde (b ∷ bs) ≡ false
+plain_no b bs h = ap (λ x. x && list_all is_star_to_tilde bs) h
 
-pub plain_yes : (b : ℕ) (bs : List ℕ) → is_plain b ≡ true → list_all is_plain (b ∷ bs) ≡ list_all is_plain bs
-plain_yes b bs h = ap (λ x. x && list_all is_plain bs) h
+pub plain_yes : (b : ℕ) (bs : List ℕ) → is_star_to_tilde b ≡ true → list_all is_star_to_tilde (b ∷ bs) ≡ list_all is_star_to_tilde bs
+plain_yes b bs h = ap (λ x. x && list_all is_star_to_tilde bs) h
 
 -- ---- the bytes of a tree
 
@@ -103,19 +103,19 @@ pub open_further : (b : ℕ) (bs : List ℕ) → nat_eq b open_tree ≡ false �
 unfolding from_open
 open_further b bs h = rw h refl
 
-pub semicolon_none : (spot : Spot) (n : ℕ) → behind_semicolon spot n [] ≡ 0
+pub semicolon_none : (spot : LexicalState) (n : ℕ) → behind_semicolon spot n [] ≡ 0
 unfolding behind_semicolon
 semicolon_none spot n = refl
 
-pub semicolon_here : (spot : Spot) (n b : ℕ) (bs : List ℕ) → begins_node spot b ≡ true → nat_le n 1 ≡ true → behind_semicolon spot n (b ∷ bs) ≡ 1
+pub semicolon_here : (spot : LexicalState) (n b : ℕ) (bs : List ℕ) → begins_node spot b ≡ true → nat_le n 1 ≡ true → behind_semicolon spot n (b ∷ bs) ≡ 1
 unfolding behind_semicolon
 semicolon_here spot n b bs begins last = rw (begins, last) refl
 
-pub semicolon_behind : (spot : Spot) (n b : ℕ) (bs : List ℕ) → begins_node spot b ≡ true → nat_le n 1 ≡ false
-    → behind_semicolon spot n (b ∷ bs) ≡ suc (behind_semicolon (next_spot spot b) (n - 1) bs)
+pub semicolon_behind : (spot : LexicalState) (n b : ℕ) (bs : List ℕ) → begins_node spot b ≡ true → nat_le n 1 ≡ false
+    → behind_semicolon spot n (b ∷ bs) ≡ suc (behind_semicolon (next_lexical_state spot b) (n - 1) bs)
 unfolding behind_semicolon
 semicolon_behind spot n b bs begins more = rw (begins, more) refl
 
-pub semicolon_further : (spot : Spot) (n b : ℕ) (bs : List ℕ) → begins_node spot b ≡ false → behind_semicolon spot n (b ∷ bs) ≡ suc (behind_semicolon (next_spot spot b) n bs)
+pub semicolon_further : (spot : LexicalState) (n b : ℕ) (bs : List ℕ) → begins_node spot b ≡ false → behind_semicolon spot n (b ∷ bs) ≡ suc (behind_semicolon (next_lexical_state spot b) n bs)
 unfolding behind_semicolon
 semicolon_further spot n b bs begins = rw begins refl

@@ -1,7 +1,7 @@
 -- An input has one text and one status.
 use Rattle.std.proofs.Common.{◌≡◌, ℕ, Bool, true, false, List, [], ◌++◌, ◌||◌, ◌+◌, inl, inr, Option, None, Some, Ok, Err, refl, sym, ap, ap₂, ◌∙◌, drop, take, length, arith, subst, if◌then◌else◌}
 use Rattle.std.specs.declared.result.Result.{Result}
-use Rattle.tt_sgf.specs.Grammar.{GameTree, main_line, OneSpelling}
+use Rattle.tt_sgf.specs.Grammar.{GameTree, main_line, IsUnambiguous}
 use Rattle.tt_sgf.specs.declared.nodes.Node.{Node}
 use Rattle.tt_sgf.specs.laws.TreeLaws.{spelled_opens}
 use Rattle.tt_sgf.specs.Values.{trimmed}
@@ -95,7 +95,7 @@ module _ (one : OneSharedCertificate) where
   tree_text_same form k its ns (Ok p) behind s t a b = problem_text_same form k its p behind s t a b
   tree_text_same form k its ns (Err e) behind s t a b = a ∙ sym b
 
-  module _ (reading : OneSpelling) where
+  module _ (reading : IsUnambiguous) where
     -- bytes are told in one way from a tree's number on
     told_same : (form : Form) (whole k : ℕ) (bytes s t : List ℕ) (a b : Bool) → Tells form whole k bytes s a → Tells form whole k bytes t b → (s ≡ t) × (a ≡ b)
     told_same form whole k bytes s t a b (tree _ _ n g x more refused spells is rest) (tree _ _ m h y more' refused' spells' is' rest') =

@@ -5,17 +5,16 @@ use Rattle.std.proofs.lemmas.Nat.{div-add-mod', div_below, mul-add-lt}
 use Rattle.std.specs.Cmp.{nat_cmp_total, unsigned_tied}
 use Rattle.std.specs.Ordering.{nat_cmp}
 use Rattle.tt_sgf.specs.Sizes.{point_count}
-use Rattle.tt_board.specs.Stones.{LiesOn}
+use Rattle.tt_board.specs.Stones.{LiesOn, Points}
 use Rattle.std.specs.FinSet as set
 use Rattle.tt_sgf.specs.declared.size.Size.{Size}
 use Rattle.tt_sgf.specs.Points.{passing}
 use Rattle.tt_board.specs.declared.Colour.{Colour}
 use Rattle.tt_board.specs.Position.{Colouring}
 use Rattle.tt_board.specs.Play.{other}
-use Rattle.tt_board.specs.Stones.{Points}
 use Rattle.tt_board.specs.Reach.{entry_at}
 use Rattle.tt_game.specs.Games.{GameState}
-use Rattle.tsumego_show.specs.Marking.{closed_at, fewer_squares, fewest}
+use Rattle.tsumego_show.specs.Marking.{closed_at, smaller_proposal, fewest}
 use Rattle.tsumego_show.specs.Regions.{inside, near, reached_in, stones, untaken, wall_after}
 
 -- no number yet
@@ -84,7 +83,7 @@ module _ (size : Size) (c : Colouring) (k : Colour) (q : ℕ) where
       e ∙ sym (ap (λ j. wall_after size c k q j) e2 ∙ same_wall n (subst (λ (w : Points). untaken size c k (inside size q w) ≡ w) e same) (m - n))
 
 -- one more stone
-pub fewest_more : (s : GameState) (n : ℕ) → fewest s (n + 1) ≡ fewer_squares (fewest s n) (closed_at s false n (entry_at s.present n))
+pub fewest_more : (s : GameState) (n : ℕ) → fewest s (n + 1) ≡ smaller_proposal (fewest s n) (closed_at s false n (entry_at s.present n))
 unfolding fewest
 fewest_more s n = ap (fewest s) (let e : n + 1 ≡ suc n = omega arith in e)
 

@@ -14,7 +14,7 @@ use Rattle.tt_sgf.specs.Grammar.{GameTree, HasNoTree, FirstTreeEndsAt, main_line
 use Rattle.tt_game.specs.Problems.{problem_of}
 use Rattle.tsumego_show.specs.Shown.{DrawsBehind, IsShown, IsInputText, IsProblemText, IsTreeText, Tells, ended, is_tree_refused, last_tree, more_trees, problem_text, stopped}
 use Rattle.tsumego_show.specs.Shown.{too_long, tree, trees}
-use Rattle.tsumego_show.specs.Refusals.{length_text, no_tree_text}
+use Rattle.tsumego_show.specs.Refusals.{too_long_text, no_tree_text}
 
 -- the brackets of an `or` of three
 or_assoc : (x y z : Bool) → ((x || y) || z) ≡ (x || (y || z))
@@ -87,10 +87,10 @@ module _ {form : Form} {input rest text : List ℕ} {k : ℕ} {refused : Bool} (
   )
 
   -- the rest is too long, which can be at the start alone
-  pub progress_long : MAX_BYTES < length rest → k + length rest ≤ length input + 1 → (text' : List ℕ) → text' ≡ text ++ length_text k → IsShown form input text' 1
+  pub progress_long : MAX_BYTES < length rest → k + length rest ≤ length input + 1 → (text' : List ℕ) → text' ≡ text ++ too_long_text k → IsShown form input text' 1
   progress_long long bound text' e = elim p.small [
     | inl h ↦
-        let told : text' ≡ length_text 1 = e ∙ ap₂ (λ (x : List ℕ) n. x ++ length_text n) h.2 h.0 in
+        let told : text' ≡ too_long_text 1 = e ∙ ap₂ (λ (x : List ℕ) n. x ++ too_long_text n) h.2 h.0 in
         (true, subst (λ (x : List ℕ). IsInputText form input x true) (sym told) (too_long (subst (λ (x : List ℕ). MAX_BYTES < length x) h.1 long)), refl)
     | inr small ↦ absurd (omega (arith, p.some))
   ]

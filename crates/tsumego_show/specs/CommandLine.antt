@@ -54,9 +54,9 @@ place_with b bs None = from_below (column_of (to_ascii_uppercase b)) (number_of 
 place_with b bs (Some row) = from_above (count_of b) row
 
 -- the place that a word names: `cb` as SGF does, `C18` or `c18` as editors do
-abbrev pub place_of : List ℕ → Option Place
-place_of [] = None
-place_of (b ∷ bs) = place_with b bs (row_of bs)
+abbrev pub point_of_word : List ℕ → Option Place
+point_of_word [] = None
+point_of_word (b ∷ bs) = place_with b bs (row_of bs)
 
 -- ---- words
 
@@ -67,7 +67,7 @@ marks_in (Some place) = Some (Marks (Some place))
 -- behind `--mark`
 abbrev pub marks_by : List (List ℕ) → Option Form
 marks_by [] = Some (Marks None)
-marks_by (w ∷ []) = marks_in (place_of w)
+marks_by (w ∷ []) = marks_in (point_of_word w)
 marks_by (w ∷ v ∷ ws) = None
 
 -- how many turns deep variations go where no word says so

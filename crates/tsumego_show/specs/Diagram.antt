@@ -18,7 +18,7 @@ use Rattle.tsumego_show.specs.Found.{Found, no_strategy, found}
 use Rattle.tsumego_show.specs.declared.windows.Along.{Along}
 use Rattle.tsumego_show.specs.declared.windows.Along.TheVariants.{Columns, Rows}
 use Rattle.tsumego_show.specs.declared.windows.Window.{Window}
-use Rattle.tsumego_show.specs.Picture.{column_letter, row_number}
+use Rattle.tsumego_show.specs.Picture.{editor_column_letter, row_number}
 use Rattle.tsumego_show.specs.Regions.{near}
 
 -- ---- what matters: the columns and rows with a target, a point of the region or a stone beside one, and one more on each side
@@ -89,20 +89,20 @@ count_along size Rows = size.rows
 abbrev pub middle : ℕ → ℕ
 middle n = 24 * n + 36
 
-abbrev pub ink : Colour → List ℕ
-ink Black = codes "black"
-ink White = codes "white"
+abbrev pub fill_colour : Colour → List ℕ
+fill_colour Black = codes "black"
+fill_colour White = codes "white"
 
 unfoldable pub stone_head : ℕ → ℕ → List ℕ
 stone_head x y = codes "<circle cx='" ++ (decimal x ++ (codes "' cy='" ++ (decimal y ++ codes "' r='11' stroke='black' fill='")))
 
 unfoldable pub stone_text : ℕ → ℕ → Colour → List ℕ
-stone_text x y k = stone_head x y ++ (ink k ++ codes "'/>\n")
+stone_text x y k = stone_head x y ++ (fill_colour k ++ codes "'/>\n")
 
--- the ink of a mark on this entry
-abbrev pub mark_ink : Option Colour → List ℕ
-mark_ink None = ink Black
-mark_ink (Some k) = ink (other k)
+-- the fill_colour of a mark on this entry
+abbrev pub mark_colour : Option Colour → List ℕ
+mark_colour None = fill_colour Black
+mark_colour (Some k) = fill_colour (other k)
 
 -- what is behind a mark on this entry
 abbrev pub mark_ground : Option Colour → List ℕ
@@ -113,12 +113,12 @@ unfoldable pub triangle_head : ℕ → ℕ → List ℕ
 triangle_head x top = codes "<path d='M" ++ (decimal x ++ (codes " " ++ (decimal top ++ codes "l6 11h-12z' stroke-width='1.5' fill='none' stroke='")))
 
 abbrev pub triangle_text : ℕ → ℕ → Option Colour → List ℕ
-triangle_text x y e = triangle_head x (y - 7) ++ (mark_ink e ++ codes "'/>\n")
+triangle_text x y e = triangle_head x (y - 7) ++ (mark_colour e ++ codes "'/>\n")
 
 abbrev pub square_text : ℕ → ℕ → Option Colour → List ℕ
 square_text x y e =
     codes "<rect x='" ++ (decimal (x - 4) ++ (codes "' y='" ++ (decimal (y - 4) ++ (codes "' width='8' height='8' fill='"
-    ++ (mark_ground e ++ (codes "' stroke='" ++ (mark_ink e ++ codes "'/>\n")))))))
+    ++ (mark_ground e ++ (codes "' stroke='" ++ (mark_colour e ++ codes "'/>\n")))))))
 
 -- a stone with the number 1
 unfoldable pub number_head : ℕ → ℕ → List ℕ
@@ -128,10 +128,10 @@ unfoldable pub number_end : List ℕ
 number_end = codes "'>1</text>\n"
 
 unfoldable pub digit_text : ℕ → ℕ → Colour → List ℕ
-digit_text x below k = number_head x below ++ (mark_ink (Some k) ++ number_end)
+digit_text x below k = number_head x below ++ (mark_colour (Some k) ++ number_end)
 
-abbrev pub number_text : ℕ → ℕ → Colour → List ℕ
-number_text x y k = stone_text x y k ++ digit_text x (y + 5) k
+abbrev pub numbered_stone : ℕ → ℕ → Colour → List ℕ
+numbered_stone x y k = stone_text x y k ++ digit_text x (y + 5) k
 
 -- ---- points
 
@@ -161,7 +161,7 @@ module _ (p : LineWithUndo) (first : Option Turn) where
       if is_target p q then triangle_text x y (entry_at p.state.present q) else (if has_square q then square_text x y (entry_at p.state.present q) else [])
 
   abbrev pub numbered_text : ℕ → ℕ → ℕ → List ℕ
-  numbered_text x y q = if is_play_on first q then number_text x y (side_colour p.frame p.state.to_move) else []
+  numbered_text x y q = if is_play_on first q then numbered_stone x y (side_colour p.frame p.state.to_move) else []
 
   -- the stone, the mark and the number on q
   unfoldable pub point_shapes : ℕ → ℕ → ℕ → List ℕ
@@ -221,7 +221,7 @@ module _ (size : Size) (w : Window) where
 
   -- a column's line and letter
   unfoldable pub column_shapes : ℕ → List ℕ
-  column_shapes i = column_stroke (middle i) (top_end w) bottom_end ++ (column_letter (w.left + i) ∷ codes "</text>\n")
+  column_shapes i = column_stroke (middle i) (top_end w) bottom_end ++ (editor_column_letter (w.left + i) ∷ codes "</text>\n")
 
   -- a row's line and number
   unfoldable pub row_shapes : ℕ → List ℕ

@@ -11,7 +11,7 @@ use Rattle.tt_board.specs.Stones.{Points}
 use Rattle.tt_game.specs.declared.turns.Turn.TheVariants.{Play}
 use Rattle.tt_game.specs.Line.{LineWithUndo}
 use Rattle.tt_proof.specs.CertificateText.{turn_text}
-use Rattle.tsumego_show.specs.Picture.{column_letter, row_number}
+use Rattle.tsumego_show.specs.Picture.{editor_column_letter, row_number}
 use Rattle.tsumego_show.specs.Regions.{empties, near, reached, stones, untaken}
 
 -- ---- points by their names
@@ -19,7 +19,7 @@ use Rattle.tsumego_show.specs.Regions.{empties, near, reached, stones, untaken}
 module _ (size : Size) where
   -- the name of a point as editors have it
   abbrev pub editor_name : ℕ → List ℕ
-  editor_name q = column_letter (q % size.columns) ∷ decimal (row_number size (q / size.columns))
+  editor_name q = editor_column_letter (q % size.columns) ∷ decimal (row_number size (q / size.columns))
 
   -- both names of a point, as `C18=cb`
   unfoldable pub both_names : ℕ → List ℕ

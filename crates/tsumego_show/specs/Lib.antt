@@ -2,7 +2,7 @@
 pub mod CommandLine
 pub mod Diagram
 pub mod Drawing
-pub mod Faulty
+pub mod FaultDetails
 pub mod Found
 pub mod Hints
 pub mod Marking

@@ -21,7 +21,7 @@ use Rattle.tt_game.specs.Problems.{nodes_before_solution, game_of, posed}
 use Rattle.tsumego_show.specs.declared.form.Place.{Place}
 use Rattle.tsumego_show.specs.declared.form.Place.TheVariants.{FromAbove, FromBelow}
 use Rattle.tsumego_show.specs.declared.proposals.Proposal.{Proposal}
-use Rattle.tsumego_show.specs.declared.tree_bytes.Spot.TheVariants.{Outside}
+use Rattle.tsumego_show.specs.declared.tree_bytes.LexicalState.TheVariants.{Outside}
 use Rattle.tsumego_show.specs.declared.variations.PointList.TheVariants.{Squares, Triangles}
 use Rattle.tsumego_show.specs.Hints.{hints, members_text, names_text}
 use Rattle.tsumego_show.specs.Refusals.{fault_text, refusal_line}
@@ -50,21 +50,21 @@ has_squares ns = has_in SQ (slice_get (asked_nodes ns) (length (asked_nodes ns) 
 -- ---- which stone
 
 -- the point of this column and row, where the board has it
-abbrev pub point_at : Size → ℕ → ℕ → Option ℕ
-point_at size column row = if nat_lt column size.columns && nat_lt row size.rows then Some (row * size.columns + column) else None
+abbrev pub point_of_coordinates : Size → ℕ → ℕ → Option ℕ
+point_of_coordinates size column row = if nat_lt column size.columns && nat_lt row size.rows then Some (row * size.columns + column) else None
 
 -- the point of a place; rows count from above, or from 1 below
 abbrev pub placed_point : Size → Place → Option ℕ
-placed_point size (FromAbove column row) = point_at size column row
-placed_point size (FromBelow column number) = if nat_lt 0 number && nat_le number size.rows then point_at size column (size.rows - number) else None
+placed_point size (FromAbove column row) = point_of_coordinates size column row
+placed_point size (FromBelow column number) = if nat_lt 0 number && nat_le number size.rows then point_of_coordinates size column (size.rows - number) else None
 
 -- ---- which marks
 
 -- the one with the fewer squares, and of two with as many the first
-abbrev pub fewer_squares : Option Proposal → Option Proposal → Option Proposal
-fewer_squares a None = a
-fewer_squares None (Some b) = Some b
-fewer_squares (Some a) (Some b) = if nat_lt (set.len b.region) (set.len a.region) then Some b else Some a
+abbrev pub smaller_proposal : Option Proposal → Option Proposal → Option Proposal
+smaller_proposal a None = a
+smaller_proposal None (Some b) = Some b
+smaller_proposal (Some a) (Some b) = if nat_lt (set.len b.region) (set.len a.region) then Some b else Some a
 
 module _ (s : GameState) where
   -- the mark on the stone on q, where a stone is there, and its region is closed and, where nobody named the stone, an inner one
@@ -76,7 +76,7 @@ module _ (s : GameState) where
   -- of the stones on the first n points the one with the fewest squares
   unfoldable pub fewest : ℕ → Option Proposal
   fewest zero = None
-  fewest (suc n) = fewer_squares (fewest n) (closed_at false n (entry_at s.present n))
+  fewest (suc n) = smaller_proposal (fewest n) (closed_at false n (entry_at s.present n))
 
   -- the mark on the point, where the board has it
   abbrev pub closed_on : Option ℕ → Option Proposal
@@ -156,12 +156,12 @@ abbrev pub line_marked : Option Place → ℕ → List ℕ → List Node → Gam
 line_marked place k tree ns e = if has_triangles ns then fault_text k ns e ++ kept_text tree else game_marked place k tree ns (game_of ns)
 
 -- and whether it is refused
-abbrev pub has_no_mark : Option Proposal → Bool
-has_no_mark None = true
-has_no_mark (Some m) = false
+abbrev pub is_proposal_missing : Option Proposal → Bool
+is_proposal_missing None = true
+is_proposal_missing (Some m) = false
 
 abbrev pub is_game_left : Bool → Option Place → Result GameState GameFault → Bool
-is_game_left is_squared place (Ok s) = has_no_mark (proposed s is_squared place)
+is_game_left is_squared place (Ok s) = is_proposal_missing (proposed s is_squared place)
 is_game_left is_squared place (Err e) = true
 
 abbrev pub is_left : Option Place → List Node → Bool

@@ -19,16 +19,16 @@ stone_symbol false Black = 88
 stone_symbol false White = 79
 
 -- the small letter of such a symbol, for a stone on a point of the region
-abbrev pub small_symbol : Bool → Colour → ℕ
-small_symbol true k = 116
-small_symbol false Black = 120
-small_symbol false White = 111
+abbrev pub lowercase_symbol : Bool → Colour → ℕ
+lowercase_symbol true k = 116
+lowercase_symbol false Black = 120
+lowercase_symbol false White = 111
 
 -- what is shown of a point, where `target` and `region` say whether it is one of them: + is an empty point of the region,
 -- and . another one
 abbrev pub shown_of : Bool → Bool → Option Colour → ℕ
 shown_of target region None = if region then 43 else 46
-shown_of target region (Some k) = if region then small_symbol target k else stone_symbol target k
+shown_of target region (Some k) = if region then lowercase_symbol target k else stone_symbol target k
 
 -- what is shown of the point with this number
 abbrev pub shown_at : LineWithUndo → ℕ → ℕ
@@ -49,8 +49,8 @@ abbrev pub letters_line : Size → List ℕ
 letters_line size = space ∷ (columns_text letter size.columns ++ newline ∷ [])
 
 -- the letter of a column as editors have it, who leave out I: A is the first
-abbrev pub column_letter : ℕ → ℕ
-column_letter n = if nat_lt n 8 then upper_A + n else upper_A + n + 1
+abbrev pub editor_column_letter : ℕ → ℕ
+editor_column_letter n = if nat_lt n 8 then upper_A + n else upper_A + n + 1
 
 -- the number of a row as editors have it, who count from below
 abbrev pub row_number : Size → ℕ → ℕ
@@ -58,7 +58,7 @@ row_number size row = size.rows - row
 
 -- the editors' letters of the columns
 abbrev pub column_letters_line : Size → List ℕ
-column_letters_line size = space ∷ (columns_text column_letter size.columns ++ newline ∷ [])
+column_letters_line size = space ∷ (columns_text editor_column_letter size.columns ++ newline ∷ [])
 
 -- what is shown of the points of a row, column by column
 abbrev pub shown_in : LineWithUndo → ℕ → ℕ → ℕ

@@ -4,12 +4,12 @@ use Rattle.std.specs.declared.result.Result.{Result}
 use Rattle.tt_sgf.specs.Bytes.{newline}
 use Rattle.tt_sgf.specs.declared.nodes.Node.{Node}
 use Rattle.tt_game.specs.declared.faults.GameFault.{GameFault}
-use Rattle.tt_game.specs.declared.faults.GameFault.TheVariants.{NotGo, BadSize, BadValue, PointTwice, MixedNode, LifelessStone, OccupiedPoint, RepeatedBoard, AfterEnd}
+use Rattle.tt_game.specs.declared.faults.GameFault.TheVariants.{NotGo, BadSize, BadValue, PointTwice, MixedNode, StoneWithoutLiberty, OccupiedPoint, RepeatedBoard, AfterEnd}
 use Rattle.tt_game.specs.declared.faults.GameFault.TheVariants.{TooManyTurns, NoTarget, EmptyTarget, MixedTargets, NoMemory}
 use Rattle.tt_game.specs.Faults.{code_of}
 use Rattle.tt_game.specs.Line.{LineWithUndo}
 use Rattle.tt_game.specs.Problems.{problem_of}
-use Rattle.tsumego_show.specs.Faulty.{look_line}
+use Rattle.tsumego_show.specs.FaultDetails.{look_line}
 
 -- the line on a refusal of tree number k, which a newline ends
 abbrev pub refusal_line : ℕ → ℕ → List ℕ
@@ -24,7 +24,7 @@ meaning BadSize = codes "SZ is no size: write a number from 1 to 19, or columns:
 meaning BadValue = codes "a value is no point of the board, which is two letters, column then row; or that of PL is no colour\n"
 meaning PointTwice = codes "a point stands in two of AB, AW and AE: take it out of all but one\n"
 meaning MixedNode = codes "stones are set up beside a move, or there are two moves: give each a node of its own\n"
-meaning LifelessStone = codes "the setup leaves a stone without liberties: take its chain off, or empty a point beside it\n"
+meaning StoneWithoutLiberty = codes "the setup leaves a stone without liberties: take its chain off, or empty a point beside it\n"
 meaning OccupiedPoint = codes "the move is on a point where a stone stands\n"
 meaning RepeatedBoard = codes "the move makes a position of the whole board again, which superko forbids; a suicide of one stone does too\n"
 meaning AfterEnd = codes "the move comes after two passes in a row, which end a game\n"
@@ -83,5 +83,5 @@ no_tree_text k n =
     refusal_line k 1 ++ (codes "why: from byte " ++ (decimal (n + 1) ++ codes " on no game tree can be read: a bracket is missing, or the ] of a value\n"))
 
 -- the lines on an input that is too long
-abbrev pub length_text : ℕ → List ℕ
-length_text k = refusal_line k 2 ++ codes "why: the input has more than 1,048,576 bytes: give each problem a file of its own\n"
+abbrev pub too_long_text : ℕ → List ℕ
+too_long_text k = refusal_line k 2 ++ codes "why: the input has more than 1,048,576 bytes: give each problem a file of its own\n"

@@ -18,7 +18,7 @@ use Rattle.tsumego_show.specs.Found.{Found, StandsBehind}
 use Rattle.tsumego_show.specs.Hints.{hints}
 use Rattle.tsumego_show.specs.Marking.{is_left, line_marked}
 use Rattle.tsumego_show.specs.Picture.{picture}
-use Rattle.tsumego_show.specs.Refusals.{fault_text, length_text, no_tree_text}
+use Rattle.tsumego_show.specs.Refusals.{fault_text, too_long_text, no_tree_text}
 use Rattle.tsumego_show.specs.TreeBytes.{from_open, is_nil, kept_text}
 use Rattle.tsumego_show.specs.Variations.{sgf_text}
 
@@ -99,7 +99,7 @@ pub data Tells (form : Form) (whole : ℕ) : ℕ → List ℕ → List ℕ → B
 
 -- the text for an input, and whether something is refused: the input is too long, or its trees are told from number 1 on
 pub data IsInputText (form : Form) (input : List ℕ) : List ℕ → Bool → Type 0 where
-  too_long : MAX_BYTES < length input → IsInputText form input (length_text 1) true
+  too_long : MAX_BYTES < length input → IsInputText form input (too_long_text 1) true
   trees : (text : List ℕ) (refused : Bool) → length input ≤ MAX_BYTES → Tells form (length input) 1 input text refused → IsInputText form input text refused
 
 -- the text for an input and the exit status: 1 where something is refused

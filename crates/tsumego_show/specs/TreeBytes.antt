@@ -1,8 +1,8 @@
 -- The text of a tree, as it was given, and where a node of it begins.
 use Rattle.std.specs.Prelude.{ℕ, suc, ◌-◌, nat_eq, nat_le, Bool, true, false, List, [], ◌∷◌, ◌++◌, if◌then◌else◌}
 use Rattle.tt_sgf.specs.Bytes.{backslash, close_value, newline, open_tree, open_value, semicolon}
-use Rattle.tsumego_show.specs.declared.tree_bytes.Spot.{Spot}
-use Rattle.tsumego_show.specs.declared.tree_bytes.Spot.TheVariants.{Escaped, Inside, Outside}
+use Rattle.tsumego_show.specs.declared.tree_bytes.LexicalState.{LexicalState}
+use Rattle.tsumego_show.specs.declared.tree_bytes.LexicalState.TheVariants.{Escaped, Inside, Outside}
 
 -- from the first `(` on
 unfoldable pub from_open : List ℕ → List ℕ
@@ -18,19 +18,19 @@ abbrev pub kept_text : List ℕ → List ℕ
 kept_text tree = from_open tree ++ newline ∷ []
 
 -- where the byte behind this one stands: outside of values, in one, or behind a backslash there
-abbrev pub next_spot : Spot → ℕ → Spot
-next_spot Outside b = if nat_eq b open_value then Inside else Outside
-next_spot Inside b = if nat_eq b close_value then Outside else (if nat_eq b backslash then Escaped else Inside)
-next_spot Escaped b = Inside
+abbrev pub next_lexical_state : LexicalState → ℕ → LexicalState
+next_lexical_state Outside b = if nat_eq b open_value then Inside else Outside
+next_lexical_state Inside b = if nat_eq b close_value then Outside else (if nat_eq b backslash then Escaped else Inside)
+next_lexical_state Escaped b = Inside
 
 -- a node begins with it
-abbrev pub begins_node : Spot → ℕ → Bool
+abbrev pub begins_node : LexicalState → ℕ → Bool
 begins_node Outside b = nat_eq b semicolon
 begins_node Inside b = false
 begins_node Escaped b = false
 
 -- how many bytes stand up to the `;` of node n, and with it; all where there are fewer nodes
-unfoldable pub behind_semicolon : Spot → ℕ → List ℕ → ℕ
+unfoldable pub behind_semicolon : LexicalState → ℕ → List ℕ → ℕ
 behind_semicolon spot n [] = 0
 behind_semicolon spot n (b ∷ bs) =
-    if begins_node spot b then (if nat_le n 1 then 1 else suc (behind_semicolon (next_spot spot b) (n - 1) bs)) else suc (behind_semicolon (next_spot spot b) n bs)
+    if begins_node spot b then (if nat_le n 1 then 1 else suc (behind_semicolon (next_lexical_state spot b) (n - 1) bs)) else suc (behind_semicolon (next_lexical_state spot b) n bs)

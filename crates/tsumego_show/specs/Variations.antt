@@ -154,12 +154,12 @@ abbrev mutual
   entries_turns (entry t u es) n = suc (turns_within u n) + entries_turns es n
 
 -- the most turns that are written: no certificate without shared parts has as many
-abbrev pub most_moves : ℕ
-most_moves = 350000
+abbrev pub most_written_turns : ℕ
+most_written_turns = 350000
 
 -- as deep as is asked, or as deep as the strategy has no more turns than that
 abbrev pub shown_depth : ℕ → Strategy → ℕ
-shown_depth depth u = greatest (λ n. nat_le (turns_within u n) most_moves) (depth + 1)
+shown_depth depth u = greatest (λ n. nat_le (turns_within u n) most_written_turns) (depth + 1)
 
 -- ---- the whole tree
 

@@ -1,7 +1,7 @@
 //! Reads the words behind the program's name.
 ghost use Rattle.std.specs.Prelude.{◌≡◌, map, string_bytes};
 ghost use Rattle.tt_sgf.specs.Values.{number_of};
-ghost use Rattle.tsumego_show.specs.CommandLine.{column_of, count_of, diagram_by, form_of, from_below, marks_by, place_of, row_of, variations_by, variations_to};
+ghost use Rattle.tsumego_show.specs.CommandLine.{column_of, count_of, diagram_by, form_of, from_below, marks_by, point_of_word, row_of, variations_by, variations_to};
 
 use crate::form::{Form, Place};
 use tt_proof::MOST_DEPTH;
@@ -57,8 +57,8 @@ fn from_below(column: Option<usize>, row: Option<u16>) -> Option<Place>
 }
 
 /// The place that a word names, as SGF or as editors do.
-fn place_of(word: &[u8]) -> Option<Place>
-    ensures { result ≡ place_of word.now }
+fn point_of_word(word: &[u8]) -> Option<Place>
+    ensures { result ≡ point_of_word word.now }
 {
     let (first, rest) = word.split_first()?;
     match row_of(rest) {
@@ -73,7 +73,7 @@ fn marks_by(words: &[String]) -> Option<Form>
 {
     match words {
         [] => Some(Form::Marks(None)),
-        [word] => Some(Form::Marks(Some(place_of(word.as_bytes())?))),
+        [word] => Some(Form::Marks(Some(point_of_word(word.as_bytes())?))),
         _ => None,
     }
 }

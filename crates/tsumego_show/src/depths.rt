@@ -1,13 +1,13 @@
 //! How deep the variations of a strategy go.
 ghost use Rattle.std.specs.Prelude.{◌≡◌, ◌+◌, ◌<◌, MatchOption, nat_le};
-ghost use Rattle.tt_proof.specs.Strategy.{entries_of_trees, strategy_of};
-ghost use Rattle.tsumego_show.specs.Variations.{entries_turns, most_moves, shown_depth, turns_within};
+ghost use Rattle.tt_proof.specs.Strategy.{entries_of_list, strategy_of};
+ghost use Rattle.tsumego_show.specs.Variations.{entries_turns, most_written_turns, shown_depth, turns_within};
 
 use tt_game::Turn;
 use tt_proof::Tree;
 
 /// The most turns that are written: no certificate of 1 MiB without shared parts has as many.
-const MOST_MOVES: usize = 350_000;
+const MOST_WRITTEN_TURNS: usize = 350_000;
 
 /// How many turns may be written beside those of a tree that lie at most so deep, if not all are written already; none where they
 /// are too many.
@@ -38,7 +38,7 @@ fn spare(tree: &Tree, depth: usize, left: usize) -> Option<usize>
 /// The same with the turns of a list, and those that lie at most so deep behind them.
 #[cycle(spare)]
 fn spare_all(list: &[(Turn, Tree)], depth: usize, left: usize) -> Option<usize>
-    ensures { MatchOption result (left < entries_turns (entries_of_trees list.now) depth) (λ r. entries_turns (entries_of_trees list.now) depth + r ≡ left) }
+    ensures { MatchOption result (left < entries_turns (entries_of_list list.now) depth) (λ r. entries_turns (entries_of_list list.now) depth + r ≡ left) }
 {
     let mut more = left;
     for (_, child) in list {
@@ -55,9 +55,9 @@ fn spare_all(list: &[(Turn, Tree)], depth: usize, left: usize) -> Option<usize>
 
 /// Whether the turns of a tree that lie at most so deep may be written.
 fn is_written(tree: &Tree, depth: usize) -> bool
-    ensures { result ≡ nat_le (turns_within (strategy_of tree.now) depth) most_moves }
+    ensures { result ≡ nat_le (turns_within (strategy_of tree.now) depth) most_written_turns }
 {
-    spare(tree, depth, MOST_MOVES).is_some()
+    spare(tree, depth, MOST_WRITTEN_TURNS).is_some()
 }
 
 /// How deep the variations of a tree go: as deep as is asked, or as deep as they have at most 350,000 turns.

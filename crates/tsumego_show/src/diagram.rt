@@ -6,12 +6,12 @@ ghost use Rattle.tt_board.specs.Reach.{entry_at};
 ghost use Rattle.tt_proof.specs.Strategy.{IsInOrder, strategy_of};
 ghost use Rattle.tsumego_show.specs.inside.Trees.{found_of};
 ghost use Rattle.tsumego_show.specs.inside.Windows.{IsWindow};
-ghost use Rattle.tsumego_show.specs.Diagram.{bottom_end, cell_shapes, column_shapes, column_stroke, columns_shown, digit_text, entry_text, numbered_text, IsNumbered, further, has_square, ink, is_play_on};
-ghost use Rattle.tsumego_show.specs.Diagram.{mark_ground, mark_ink, mark_text, number_end, number_head, number_text, point_shapes, points_shapes, right_end, row_shapes, row_stroke, rows_shown, square_text, stone_head, stone_text};
+ghost use Rattle.tsumego_show.specs.Diagram.{bottom_end, cell_shapes, column_shapes, column_stroke, columns_shown, digit_text, entry_text, numbered_text, IsNumbered, further, has_square, fill_colour, is_play_on};
+ghost use Rattle.tsumego_show.specs.Diagram.{mark_ground, mark_colour, mark_text, number_end, number_head, numbered_stone, point_shapes, points_shapes, right_end, row_shapes, row_stroke, rows_shown, square_text, stone_head, stone_text};
 ghost use Rattle.tsumego_show.specs.Diagram.{svg_head, svg_text, triangle_head, triangle_text};
 
 use crate::first_turn::first_turn;
-use crate::picture::{column_letter, side_colour};
+use crate::picture::{editor_column_letter, side_colour};
 use crate::points::{is_inside, is_target, point_numbered};
 use crate::windows::{Window, number_at, window_of};
 use std::alloc::Global;
@@ -21,8 +21,8 @@ use tt_proof::Tree;
 use tt_sgf::{NoMemory, Size};
 
 /// The word for a colour.
-fn ink(colour: Colour) -> &'static [u8]
-    ensures { result.now ≡ ink colour }
+fn fill_colour(colour: Colour) -> &'static [u8]
+    ensures { result.now ≡ fill_colour colour }
 {
     match colour {
         Colour::Black => b"black",
@@ -30,13 +30,13 @@ fn ink(colour: Colour) -> &'static [u8]
     }
 }
 
-/// The ink of a mark on this entry.
-fn mark_ink(entry: Option<Colour>) -> &'static [u8]
-    ensures { result.now ≡ mark_ink entry }
+/// The fill_colour of a mark on this entry.
+fn mark_colour(entry: Option<Colour>) -> &'static [u8]
+    ensures { result.now ≡ mark_colour entry }
 {
     match entry {
-        None => ink(Colour::Black),
-        Some(colour) => ink(colour.other()),
+        None => fill_colour(Colour::Black),
+        Some(colour) => fill_colour(colour.other()),
     }
 }
 
@@ -72,7 +72,7 @@ fn put_stone(
     ensures { OnOk result (out.new.items ≡ out.old.items ++ stone_text x y colour) }
 {
     put_stone_head(alloc, out, x, y)?;
-    out.extend_from_slice(ink(colour))?;
+    out.extend_from_slice(fill_colour(colour))?;
     out.extend_from_slice(b"'/>\n")?;
     Ok(())
 }
@@ -101,7 +101,7 @@ fn put_triangle(
     ensures { OnOk result (out.new.items ≡ out.old.items ++ triangle_text x y entry) }
 {
     put_triangle_head(alloc, out, x, y - 7)?;
-    out.extend_from_slice(mark_ink(entry))?;
+    out.extend_from_slice(mark_colour(entry))?;
     out.extend_from_slice(b"'/>\n")?;
     Ok(())
 }
@@ -124,7 +124,7 @@ fn put_square(
     out.extend_from_slice(text.as_bytes())?;
     out.extend_from_slice(mark_ground(entry))?;
     out.extend_from_slice(b"' stroke='")?;
-    out.extend_from_slice(mark_ink(entry))?;
+    out.extend_from_slice(mark_colour(entry))?;
     out.extend_from_slice(b"'/>\n")?;
     Ok(())
 }
@@ -159,7 +159,7 @@ fn put_digit(
 ) -> Result<(), NoMemory>
     ensures { OnOk result (out.new.items ≡ out.old.items ++ digit_text x below colour) }
 {
-    let word = mark_ink(Some(colour));
+    let word = mark_colour(Some(colour));
     put_number_head(alloc, out, x, below)?;
     out.extend_from_slice(word)?;
     put_number_end(out)
@@ -174,7 +174,7 @@ fn put_number(
     colour: Colour,
 ) -> Result<(), NoMemory>
     requires { y ≤ 1000 }
-    ensures { OnOk result (out.new.items ≡ out.old.items ++ number_text x y colour) }
+    ensures { OnOk result (out.new.items ≡ out.old.items ++ numbered_stone x y colour) }
 {
     put_stone(alloc, out, x, y, colour)?;
     put_digit(alloc, out, x, y + 5, colour)
@@ -358,7 +358,7 @@ fn put_column(
         36 - further(0 < w.top),
         bottom_end(size, w),
     )?;
-    out.push(column_letter((w.left + i) as u16))?;
+    out.push(editor_column_letter((w.left + i) as u16))?;
     out.extend_from_slice(b"</text>\n")?;
     Ok(())
 }

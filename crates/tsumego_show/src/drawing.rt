@@ -2,7 +2,7 @@
 ghost use Rattle.std.specs.Prelude.{◌≡◌, ◌++◌, ◌∷◌, [], ℕ, List, replicate, IfOk, OnOk};
 ghost use Rattle.tt_sgf.specs.Bytes.{newline, space};
 ghost use Rattle.tt_proof.specs.CertificateText.{shown_turn};
-ghost use Rattle.tt_proof.specs.Strategy.{AreInOrder, IsInOrder, IsOnBoard, entries_of_trees, strategy_of};
+ghost use Rattle.tt_proof.specs.Strategy.{AreInOrder, IsInOrder, IsOnBoard, entries_of_list, strategy_of};
 ghost use Rattle.tsumego_show.specs.Picture.{colour_name};
 ghost use Rattle.tsumego_show.specs.Drawing.{DrawsCertificate, DrawsFirst, deep_line, deeper, entries_lines, heading, none_line, strategy_text, tree_lines, turn_line};
 ghost use Rattle.tsumego_show.specs.inside.Lines.{Goes};
@@ -138,8 +138,8 @@ fn put_entries(
     level: usize,
     left: usize,
 ) -> Result<Option<usize>, NoMemory>
-    requires in_order { AreInOrder size 0 (entries_of_trees list.now) }
-    ensures { IfOk result (λ r. Goes r out.new.items out.old.items left (entries_lines size own level (entries_of_trees list.now))) }
+    requires in_order { AreInOrder size 0 (entries_of_list list.now) }
+    ensures { IfOk result (λ r. Goes r out.new.items out.old.items left (entries_lines size own level (entries_of_list list.now))) }
 {
     let mut more = left;
     for (turn, child) in list {

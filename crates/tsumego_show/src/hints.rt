@@ -4,7 +4,7 @@ ghost use Rattle.tt_sgf.specs.Sizes.{point_count};
 ghost use Rattle.tsumego_show.specs.Hints.{attackers, both_names, defenders, editor_name, enclosed, held_chains, hints, is_wide, leaks, leaks_line, listed, member_name, members_text, names_text, strangers};
 ghost use Rattle.tsumego_show.specs.Hints.{strangers_line, takeables, takeables_line, target_chains, unfillables, wide_line};
 
-use crate::picture::column_letter;
+use crate::picture::editor_column_letter;
 use crate::points::point_numbered;
 use crate::regions::{empties, near, reached, stones, untaken};
 use std::alloc::Global;
@@ -29,7 +29,7 @@ fn put_editor_name(
     let columns = usize::from(size.columns());
     let row = usize::from(size.rows()) - number / columns;
     let text = format!(in alloc; "{row}")?;
-    out.push(column_letter((number % columns) as u16))?;
+    out.push(editor_column_letter((number % columns) as u16))?;
     out.extend_from_slice(text.as_bytes())?;
     Ok(())
 }

@@ -6,7 +6,7 @@ mod certificates;
 mod depths;
 mod diagram;
 mod drawing;
-mod faulty;
+mod fault_details;
 mod first_turn;
 mod form;
 mod found;

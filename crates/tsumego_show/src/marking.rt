@@ -7,7 +7,7 @@ ghost use Rattle.tt_board.specs.Reach.{entry_at};
 ghost use Rattle.tt_game.specs.Nodes.{SQ, TR, has};
 ghost use Rattle.tt_game.specs.Problems.{nodes_before_solution, game_of};
 ghost use Rattle.tsumego_show.specs.Hints.{members_text, names_text};
-ghost use Rattle.tsumego_show.specs.Marking.{asked_nodes, game_marked, has_in, has_no_mark, has_squares, has_triangles, is_game_left, is_left, line_marked, marked, marked_text, open_line, proposed};
+ghost use Rattle.tsumego_show.specs.Marking.{asked_nodes, game_marked, has_in, is_proposal_missing, has_squares, has_triangles, is_game_left, is_left, line_marked, marked, marked_text, open_line, proposed};
 ghost use Rattle.tsumego_show.specs.Marking.{why_at, why_left, why_not, why_on, with_mark, with_marks};
 ghost use Rattle.tsumego_show.specs.Refusals.{fault_text};
 ghost use Rattle.tsumego_show.specs.TreeBytes.{kept_text};
@@ -207,7 +207,7 @@ fn put_game(
 ) -> Result<bool, NoMemory>
     ensures text { OnOk result (out.new.items ≡ out.old.items
         ++ with_mark game (has_squares main.now.nodes) place number (nodes_before_solution false main.now.nodes) tree.now (proposed game (has_squares main.now.nodes) place)) }
-    ensures left { IfOk result (λ left. left ≡ has_no_mark (proposed game (has_squares main.now.nodes) place)) }
+    ensures left { IfOk result (λ left. left ≡ is_proposal_missing (proposed game (has_squares main.now.nodes) place)) }
 {
     let nodes = main.nodes.as_slice();
     let is_squared = has_squares(nodes);

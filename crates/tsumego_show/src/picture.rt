@@ -4,8 +4,8 @@ ghost use Rattle.std.specs.List.{flat_map, range_with_len};
 ghost use Rattle.tt_sgf.specs.Bytes.{newline, space};
 ghost use Rattle.tt_sgf.specs.Sizes.{point_count};
 ghost use Rattle.tt_game.specs.Game.{side_colour};
-ghost use Rattle.tsumego_show.specs.Picture.{asked_line, board_text, colour_name, column_letter, column_letters_line, columns_text, earlier_text, letter, letters_line, shown_at};
-ghost use Rattle.tsumego_show.specs.Picture.{mover_text, picture, row_line, row_number, shown_in, small_symbol, stone_symbol, target_text};
+ghost use Rattle.tsumego_show.specs.Picture.{asked_line, board_text, colour_name, editor_column_letter, column_letters_line, columns_text, earlier_text, letter, letters_line, shown_at};
+ghost use Rattle.tsumego_show.specs.Picture.{mover_text, picture, row_line, row_number, shown_in, lowercase_symbol, stone_symbol, target_text};
 
 use std::alloc::Global;
 use tt_board::Colour;
@@ -26,8 +26,8 @@ fn stone_symbol(is_target: bool, colour: Colour) -> u8
 }
 
 /// The symbol of a stone on a point of the region.
-fn small_symbol(is_target: bool, colour: Colour) -> u8
-    ensures { result ≡ small_symbol is_target colour }
+fn lowercase_symbol(is_target: bool, colour: Colour) -> u8
+    ensures { result ≡ lowercase_symbol is_target colour }
 {
     if is_target {
         return b't';
@@ -49,7 +49,7 @@ fn symbol(line: &Line, point: Point) -> u8
         None => if is_playable { b'+' } else { b'.' },
         Some(colour) => {
             if is_playable {
-                small_symbol(is_target, colour)
+                lowercase_symbol(is_target, colour)
             } else {
                 stone_symbol(is_target, colour)
             }
@@ -58,7 +58,7 @@ fn symbol(line: &Line, point: Point) -> u8
 }
 
 /// The point of a column and a row of the board.
-fn point_at(size: Size, column: u16, row: u16) -> Point
+fn point_of_coordinates(size: Size, column: u16, row: u16) -> Point
     requires column { column < size.columns }
     requires row { row < size.rows }
     ensures value { result ≡ row * size.columns + column }
@@ -101,9 +101,9 @@ fn put_letters(out: &mut Vec<u8>, size: Size) -> Result<(), NoMemory>
 }
 
 /// The letter of a column as editors have it, who leave out I.
-pub fn column_letter(column: u16) -> u8
+pub fn editor_column_letter(column: u16) -> u8
     requires { column < 19 }
-    ensures { result ≡ column_letter column }
+    ensures { result ≡ editor_column_letter column }
 {
     if column < 8 {
         b'A' + column as u8
@@ -115,10 +115,10 @@ pub fn column_letter(column: u16) -> u8
 /// Writes a blank and the editors' letter of each column behind the text.
 #[tactic(auto, using(crate::proofs::Texts::next_text))]
 fn put_column_letters(out: &mut Vec<u8>, size: Size) -> Result<(), NoMemory>
-    ensures { OnOk result (out.new.items ≡ out.old.items ++ columns_text column_letter size.columns) }
+    ensures { OnOk result (out.new.items ≡ out.old.items ++ columns_text editor_column_letter size.columns) }
 {
     for column in 0..size.columns() {
-        put_spaced(out, column_letter(column))?;
+        put_spaced(out, editor_column_letter(column))?;
     }
     Ok(())
 }
@@ -141,7 +141,7 @@ fn put_symbols(out: &mut Vec<u8>, line: &Line, row: u16) -> Result<(), NoMemory>
 {
     let size = line.frame().size;
     for column in 0..size.columns() {
-        put_spaced(out, symbol(line, point_at(size, column, row)))?;
+        put_spaced(out, symbol(line, point_of_coordinates(size, column, row)))?;
     }
     Ok(())
 }

@@ -2,7 +2,7 @@
 ghost use Rattle.std.specs.Prelude.{◌≡◌, ℕ, ◌<◌, IfSome};
 ghost use Rattle.tt_sgf.specs.Sizes.{point_count};
 ghost use Rattle.tt_board.specs.Reach.{entry_at};
-ghost use Rattle.tsumego_show.specs.Marking.{chosen, closed_at, closed_on, fewer_squares, fewest, placed_point, point_at, proposed};
+ghost use Rattle.tsumego_show.specs.Marking.{chosen, closed_at, closed_on, smaller_proposal, fewest, placed_point, point_of_coordinates, proposed};
 
 use crate::form::Place;
 use crate::points::point_numbered;
@@ -23,8 +23,8 @@ pub struct Proposal {
 }
 
 /// The point of this column and row, where the board has it.
-fn point_at(size: Size, column: usize, row: usize) -> Option<Point>
-    ensures value { result ≡ point_at size column row }
+fn point_of_coordinates(size: Size, column: usize, row: usize) -> Option<Point>
+    ensures value { result ≡ point_of_coordinates size column row }
     ensures on_board { IfSome result (λ q. q < point_count size) }
 {
     let columns = usize::from(size.columns());
@@ -40,11 +40,11 @@ pub fn placed_point(size: Size, place: Place) -> Option<Point>
     ensures on_board { IfSome result (λ q. q < point_count size) }
 {
     match place {
-        Place::FromAbove(column, row) => point_at(size, column, row),
+        Place::FromAbove(column, row) => point_of_coordinates(size, column, row),
         Place::FromBelow(column, number) => {
             let rows = usize::from(size.rows());
             if 0 < number && number <= rows {
-                return point_at(size, column, rows - number);
+                return point_of_coordinates(size, column, rows - number);
             }
             None
         }
@@ -71,8 +71,8 @@ fn closed_at(game: &Game, is_named: bool, stone: Point) -> Option<Proposal>
 }
 
 /// The one with the fewer squares, and of two with as many the first.
-fn fewer_squares(first: Option<Proposal>, second: Option<Proposal>) -> Option<Proposal>
-    ensures value { result ≡ fewer_squares first second }
+fn smaller_proposal(first: Option<Proposal>, second: Option<Proposal>) -> Option<Proposal>
+    ensures value { result ≡ smaller_proposal first second }
     ensures bound { (n : ℕ) → IfSome first (λ m. m.stone < n) → IfSome second (λ m. m.stone < n) → IfSome result (λ m. m.stone < n) }
 {
     let Some(b) = second else {
@@ -96,7 +96,7 @@ fn fewest(game: &Game) -> Option<Proposal>
     let size = game.size();
     let mut found = None;
     for number in 0..size.point_count() {
-        found = fewer_squares(found, closed_at(game, false, point_numbered(size, number)));
+        found = smaller_proposal(found, closed_at(game, false, point_numbered(size, number)));
     }
     found
 }

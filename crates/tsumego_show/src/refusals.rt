@@ -2,9 +2,9 @@
 ghost use Rattle.std.specs.Prelude.{◌≡◌, ◌++◌, ◌+◌, ◌-◌, ◌^◌, ◌<◌, length, nat_eq, take, IfOk, MatchOption, OnOk, Some};
 ghost use Rattle.tt_game.specs.Faults.{code_of};
 ghost use Rattle.tt_game.specs.Problems.{problem_of};
-ghost use Rattle.tsumego_show.specs.Refusals.{at_node, fault_text, is_refused_with, nth_node, length_text, meaning, named_fault, needed, refusal_line, no_tree_text, why_text};
+ghost use Rattle.tsumego_show.specs.Refusals.{at_node, fault_text, is_refused_with, nth_node, too_long_text, meaning, named_fault, needed, refusal_line, no_tree_text, why_text};
 
-use crate::faulty::put_look;
+use crate::fault_details::put_look;
 use std::alloc::Global;
 use tt_game::{GameFault, problem};
 use tt_sgf::{Items, MainLine, NoMemory, Node};
@@ -26,7 +26,7 @@ fn meaning(fault: GameFault) -> &'static [u8]
             b"a point stands in two of AB, AW and AE: take it out of all but one\n",
         GameFault::MixedNode =>
             b"stones are set up beside a move, or there are two moves: give each a node of its own\n",
-        GameFault::LifelessStone =>
+        GameFault::StoneWithoutLiberty =>
             b"the setup leaves a stone without liberties: take its chain off, or empty a point beside it\n",
         GameFault::OccupiedPoint => b"the move is on a point where a stone stands\n",
         GameFault::RepeatedBoard =>
@@ -186,7 +186,7 @@ pub fn put_no_tree(
 
 /// Writes that an input is too long behind the text.
 pub fn put_length(alloc: Global, out: &mut Vec<u8>, number: usize) -> Result<(), NoMemory>
-    ensures { OnOk result (out.new.items ≡ out.old.items ++ length_text number) }
+    ensures { OnOk result (out.new.items ≡ out.old.items ++ too_long_text number) }
 {
     put_refusal(alloc, out, number, 2)?;
     out.extend_from_slice(

@@ -2,7 +2,7 @@
 ghost use Rattle.std.specs.Prelude.{◌≡◌, false};
 ghost use Rattle.devices.specs.Faults.{is_input_fault, is_output_fault};
 ghost use Rattle.devices.specs.Watching.{TakesAtMost};
-ghost use Rattle.devices.specs.Writing.{ForInput};
+ghost use Rattle.devices.specs.Writing.{HoldsForInput};
 ghost use Rattle.tsumego_show.specs.Writing.{WritesShown};
 
 use crate::form::Form;
@@ -50,7 +50,7 @@ pub fn run<R: Read, W: Write>(
 ) -> Result<u8, RunFault>
     requires reader { reader.old.failed ≡ false }
     requires writer { writer.old.failed ≡ false }
-    ensures written { ForInput (R.remaining reader.old.device) (λ input.
+    ensures written { HoldsForInput (R.remaining reader.old.device) (λ input.
         WritesShown form input result (W.contents writer.old.device) (W.contents writer.new.device)) }
     ensures taken { TakesAtMost MOST_READ (R.remaining reader.old.device) (R.remaining reader.new.device) }
     ensures input { reader.new.failed ≡ is_input_fault result }

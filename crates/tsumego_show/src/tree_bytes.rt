@@ -1,50 +1,50 @@
 //! The text of a tree, as it was given.
 ghost use Rattle.std.specs.Prelude.{◌≡◌, ◌≤◌, ◌++◌, length, OnOk};
-ghost use Rattle.tsumego_show.specs.declared.tree_bytes.Spot.TheVariants.{Outside};
-ghost use Rattle.tsumego_show.specs.TreeBytes.{begins_node, behind_semicolon, from_open, is_nil, kept_text, next_spot};
+ghost use Rattle.tsumego_show.specs.declared.tree_bytes.LexicalState.TheVariants.{Outside};
+ghost use Rattle.tsumego_show.specs.TreeBytes.{begins_node, behind_semicolon, from_open, is_nil, kept_text, next_lexical_state};
 
 use tt_sgf::NoMemory;
 
 /// Where a byte of a tree stands: outside of values, in one, or behind a backslash there.
 #[derive(Clone, Copy)]
-pub enum Spot {
+pub enum LexicalState {
     Outside,
     Inside,
     Escaped,
 }
 
 /// Where the byte behind this one stands.
-fn next_spot(spot: Spot, byte: u8) -> Spot
-    ensures { result ≡ next_spot spot byte }
+fn next_lexical_state(spot: LexicalState, byte: u8) -> LexicalState
+    ensures { result ≡ next_lexical_state spot byte }
 {
     match spot {
-        Spot::Outside => {
+        LexicalState::Outside => {
             if byte == b'[' {
-                Spot::Inside
+                LexicalState::Inside
             } else {
-                Spot::Outside
+                LexicalState::Outside
             }
         }
-        Spot::Inside => {
+        LexicalState::Inside => {
             if byte == b']' {
-                Spot::Outside
+                LexicalState::Outside
             } else if byte == b'\\' {
-                Spot::Escaped
+                LexicalState::Escaped
             } else {
-                Spot::Inside
+                LexicalState::Inside
             }
         }
-        Spot::Escaped => Spot::Inside,
+        LexicalState::Escaped => LexicalState::Inside,
     }
 }
 
 /// Whether a node begins with this byte.
-fn begins_node(spot: Spot, byte: u8) -> bool
+fn begins_node(spot: LexicalState, byte: u8) -> bool
     ensures { result ≡ begins_node spot byte }
 {
     match spot {
-        Spot::Outside => byte == b';',
-        Spot::Inside | Spot::Escaped => false,
+        LexicalState::Outside => byte == b';',
+        LexicalState::Inside | LexicalState::Escaped => false,
     }
 }
 
@@ -54,7 +54,7 @@ pub fn behind_semicolon(tree: &[u8], number: usize) -> usize
     ensures value { result ≡ behind_semicolon Outside number tree.now }
     ensures bound { result ≤ length tree.now }
 {
-    let mut spot = Spot::Outside;
+    let mut spot = LexicalState::Outside;
     let mut left = number;
     let mut count: usize = 0;
     let mut rest = tree;
@@ -66,7 +66,7 @@ pub fn behind_semicolon(tree: &[u8], number: usize) -> usize
             }
             left -= 1;
         }
-        spot = next_spot(spot, *byte);
+        spot = next_lexical_state(spot, *byte);
         rest = behind;
     }
     count

@@ -1,7 +1,7 @@
 //! The tree that an outline stands for, in which a shared part stands wherever its name does.
 ghost use Rattle.std.specs.Prelude.{◌≡◌, [], IfOk, OnOk, get_or, map};
 ghost use Rattle.tt_proof.specs.Outlines.{branches_of_list, entries_with, names_behind, names_behind_all, outline_of, unfolded, with_name};
-ghost use Rattle.tt_proof.specs.Strategy.{done, entries_of_trees, strategy_of};
+ghost use Rattle.tt_proof.specs.Strategy.{done, entries_of_list, strategy_of};
 
 use std::alloc::Global;
 use tt_game::Turn;
@@ -62,7 +62,7 @@ fn entries_of(
     list: &[(Turn, Outline)],
     names: &mut Vec<Tree>,
 ) -> Result<Vec<(Turn, Tree)>, NoMemory>
-    ensures entries { IfOk result (λ es. entries_of_trees es.items ≡ entries_with (map strategy_of names.old.items) (branches_of_list list.now)) }
+    ensures entries { IfOk result (λ es. entries_of_list es.items ≡ entries_with (map strategy_of names.old.items) (branches_of_list list.now)) }
     ensures names { OnOk result (map strategy_of names.new.items ≡ names_behind_all (map strategy_of names.old.items) (branches_of_list list.now)) }
 {
     let mut entries = Vec::new(alloc);

@@ -3,7 +3,7 @@ ghost use Rattle.std.specs.Prelude.{◌≡◌, ◌++◌, ◌∷◌, ◌<◌, ℕ
 ghost use Rattle.tt_sgf.specs.Bytes.{close_tree};
 ghost use Rattle.tt_sgf.specs.Sizes.{point_count};
 ghost use Rattle.tt_game.specs.Game.{after, winner_of};
-ghost use Rattle.tt_proof.specs.Strategy.{AreInOrder, IsInOrder, IsOnBoard, entries_of_trees, strategy_of};
+ghost use Rattle.tt_proof.specs.Strategy.{AreInOrder, IsInOrder, IsOnBoard, entries_of_list, strategy_of};
 ghost use Rattle.tsumego_show.specs.inside.Trees.{found_of};
 ghost use Rattle.tsumego_show.specs.Picture.{colour_name};
 ghost use Rattle.tsumego_show.specs.Variations.{bracketed, colour_letter, cut_text, ending_text, found_variations, game_text, is_listed, legal_text, list_name, list_text, listed_value, listed_values};
@@ -254,7 +254,7 @@ fn put_move(out: &mut Vec<u8>, size: Size, colour: Colour, turn: Turn) -> Result
 
 /// Writes a move that was made, and what follows it, behind the text.
 #[cycle(vary)]
-fn put_made(
+fn put_variation(
     out: &mut Vec<u8>,
     turn: &Turn,
     colour: Colour,
@@ -292,7 +292,7 @@ fn put_legal(
     let colour = side_colour(line, line.to_move());
     match line.push(*turn) {
         Ok(()) => {
-            let put = put_made(out, turn, colour, child, line, left);
+            let put = put_variation(out, turn, colour, child, line, left);
             line.pop();
             put
         }
@@ -309,8 +309,8 @@ fn put_replies(
     line: &mut Line,
     left: usize,
 ) -> Result<(), NoMemory>
-    requires in_order { AreInOrder line.old.frame.size 0 (entries_of_trees list.now) }
-    ensures text { OnOk result (out.new.items ≡ out.old.items ++ reply_variations line.old.frame line.old.state (entries_of_trees list.now) left) }
+    requires in_order { AreInOrder line.old.frame.size 0 (entries_of_list list.now) }
+    ensures text { OnOk result (out.new.items ≡ out.old.items ++ reply_variations line.old.frame line.old.state (entries_of_list list.now) left) }
     ensures same { line.new ≡ line.old }
 {
     for (turn, child) in list {

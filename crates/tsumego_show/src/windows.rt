@@ -82,7 +82,7 @@ fn row_matters(line: &Line, row: usize) -> bool
 }
 
 /// How many columns or rows the board has.
-fn count(size: Size, along: Along) -> usize
+fn columns_or_rows(size: Size, along: Along) -> usize
     ensures value { result ≡ count_along size along }
     ensures some { 1 ≤ result }
     ensures few { result ≤ 19 }
@@ -110,7 +110,7 @@ fn least(line: &Line, along: Along) -> usize
     ensures value { result ≡ least_from (matters_along line.now along) 0 (count_along line.now.frame.size along - 1) }
     ensures bound { result ≤ count_along line.now.frame.size along - 1 }
 {
-    let last = count(line.frame().size, along) - 1;
+    let last = columns_or_rows(line.frame().size, along) - 1;
     let mut n = 0;
     while n < last {
         if is_met(line, along, n) {
@@ -127,7 +127,7 @@ fn greatest(line: &Line, along: Along) -> usize
     ensures value { result ≡ greatest (matters_along line.now along) (count_along line.now.frame.size along) }
     ensures bound { result ≤ 18 }
 {
-    let mut n = count(line.frame().size, along);
+    let mut n = columns_or_rows(line.frame().size, along);
     while 0 < n {
         if is_met(line, along, n - 1) {
             return n - 1;
@@ -151,7 +151,7 @@ fn last_shown(line: &Line, along: Along) -> usize
     ensures first { first_shown (matters_along line.now along) (count_along line.now.frame.size along) ≤ result }
     ensures bound { result < count_along line.now.frame.size along }
 {
-    let last = count(line.frame().size, along) - 1;
+    let last = columns_or_rows(line.frame().size, along) - 1;
     let wide = (greatest(line, along) + 1).min(last);
     first_shown(line, along).max(wide)
 }

@@ -6,7 +6,7 @@ use Rattle.tt_sgf.specs.declared.size.Size.{Size}
 use Rattle.tt_sgf.specs.declared.bits.TheConstants.{BITS}
 use Rattle.tt_sgf.specs.Sizes.{point_count}
 use Rattle.tt_sgf.specs.laws.SizeLaws.{few_points}
-use Rattle.tt_sgf.specs.Words.{bit_in}
+use Rattle.tt_sgf.specs.MachineWords.{bit_in}
 use Rattle.tt_board.specs.inside.Around.{AreOn, IsBesideSome}
 use Rattle.tt_board.proofs.NearLemmas.{Side, above, left, right, below, side_of, of_side, row_above, row_below, row_before}
 

@@ -9,14 +9,14 @@ use Rattle.tt_sgf.specs.declared.size.Size.{Size}
 use Rattle.tt_sgf.specs.declared.bits.TheConstants.{BITS}
 use Rattle.tt_sgf.specs.Sizes.{point_count}
 use Rattle.tt_sgf.specs.laws.SizeLaws.{few_points}
-use Rattle.tt_sgf.specs.Words.{bit_in, AreBitsOf}
+use Rattle.tt_sgf.specs.MachineWords.{bit_in, AreBitsOf}
 use Rattle.tt_board.specs.declared.Colour.{Colour}
 use Rattle.tt_board.specs.declared.Colour.TheVariants.{Black, White}
 use Rattle.tt_board.specs.Position.{Colouring}
 use Rattle.tt_board.specs.Reach.{entry_at, Reaches}
 use Rattle.tt_board.specs.ReachLaws.{reaches_beside, reaches_on, reaches_all}
 use Rattle.tt_board.specs.Play.{is_stone_of}
-use Rattle.tt_board.specs.Setup.{IsAlive, IsLeastLifeless}
+use Rattle.tt_board.specs.Setup.{AllHaveLiberties, IsLeastWithoutLiberty}
 use Rattle.tt_board.specs.inside.Around.{AreOn, AreThose, AreReaching, IsBesideSome}
 use Rattle.tt_board.proofs.AroundLemmas.{off_if}
 use Rattle.tt_board.proofs.CountLemmas.{count_both, count_some}
@@ -195,7 +195,7 @@ module _ (s : Size) (c : Colouring) (fit : length c ≡ point_count s) (black wh
 
   -- so the first of them is the least lifeless stone
   module _ (first : ℕ) (none : (q : ℕ) → 0 ≤ q → q < first → q < BITS → bit_in dead q ≡ false) where
-    pub least_lifeless : (first < BITS → bit_in dead first ≡ true) → first < point_count s → IsLeastLifeless s c first
+    pub least_lifeless : (first < BITS → bit_in dead first ≡ true) → first < point_count s → IsLeastWithoutLiberty s c first
     least_lifeless found in_first =
         let h = lifeless_if first in_first (found (small s c fit first in_first)) in
         record {
@@ -206,5 +206,5 @@ module _ (s : Size) (c : Colouring) (fit : length c ≡ point_count s) (black wh
         }
 
     -- and where that is past the board there is none
-    pub none_lifeless : point_count s ≤ first → IsAlive s c
+    pub none_lifeless : point_count s ≤ first → AllHaveLiberties s c
     none_lifeless past p in_p stone = alive_if p in_p (none p (omega arith) (omega (arith, past, in_p)) (small s c fit p in_p)) stone

@@ -12,7 +12,7 @@ use Rattle.tt_board.specs.Reach.{entry_at, Reaches}
 use Rattle.tt_board.specs.ReachLaws.{reaches_beside, reaches_on, reaches_all}
 use Rattle.tt_board.specs.Decided.{reaches, reaches_is, same_entry}
 use Rattle.tt_board.specs.Play.{other, clear, play_of}
-use Rattle.tt_board.specs.Setup.{IsAlive}
+use Rattle.tt_board.specs.Setup.{AllHaveLiberties}
 use Rattle.tt_board.proofs.PlayLemmas.{cleared_gone, cleared_kept_other, cleared_kept_alive, clear_from, other_differs}
 
 -- neighbours are each other's
@@ -55,7 +55,7 @@ cleared s c k d l looked = clear_from s c d k l.fits (λ p in_p.
     ])
 
 -- where every stone reached empty, those beside the one filled point are all there is to look at
-settled : (s : Size) (before c d : Colouring) (k : Colour) (at' : ℕ) → IsAlive s before → IsLifted s c k d
+settled : (s : Size) (before c d : Colouring) (k : Colour) (at' : ℕ) → AllHaveLiberties s before → IsLifted s c k d
     → ((x : ℕ) → entry_at before x ≡ Some k → entry_at c x ≡ Some k)
     → ((x : ℕ) → x ≢ at' → entry_at before x ≡ None → entry_at c x ≡ None)
     → ((x : ℕ) → x < point_count s → IsNeighbour s x at' → entry_at before x ≡ Some k → Reaches s c x None ⊎ (entry_at d x ≡ None))
@@ -73,7 +73,7 @@ settled s before c d k at' alive l stays bare beside x in_x mine =
     ])
     x r.path in_x r.adjacent r.alike r.other r.found r.beside r.has_entry mine
 
-module _ (s : Size) (c : Colouring) (k : Colour) (p : ℕ) (fits : length c ≡ point_count s) (in_p : p < point_count s) (alive : IsAlive s c) (free : entry_at c p ≡ None)
+module _ (s : Size) (c : Colouring) (k : Colour) (p : ℕ) (fits : length c ≡ point_count s) (in_p : p < point_count s) (alive : AllHaveLiberties s c) (free : entry_at c p ≡ None)
     (taken after : Colouring) (first : IsLifted s (set c p (Some k)) (other k) taken)
     (looked : (q : ℕ) → IsNeighbour s p q → entry_at (set c p (Some k)) q ≡ Some (other k) → Reaches s (set c p (Some k)) q None ⊎ (entry_at taken q ≡ None))
     (second : IsLifted s taken k after) (own : entry_at taken p ≡ Some k → Reaches s taken p None ⊎ (entry_at after p ≡ None)) where

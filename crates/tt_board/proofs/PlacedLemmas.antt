@@ -9,7 +9,7 @@ use Rattle.tt_board.specs.Position.{Colouring}
 use Rattle.tt_board.specs.Reach.{entry_at, Reaches}
 use Rattle.tt_board.specs.ReachLaws.{reaches_beside, reaches_on, reaches_all}
 use Rattle.tt_board.specs.Decided.{same_entry}
-use Rattle.tt_board.specs.Setup.{IsAlive}
+use Rattle.tt_board.specs.Setup.{AllHaveLiberties}
 use Rattle.tt_board.specs.inside.Chains.{AreLinked, name_at, root_of, colour_number, IsNamed, stone_count, renamed, AreCounted, AreNames, AreNamesBut, OtherChainsCounted, IsChainBoard}
 use Rattle.tt_board.proofs.LinkLemmas.{linked_self, linked_kept, named_bare, stone_named, one_name}
 use Rattle.tt_board.proofs.NameLemmas.{at_p, off_p}
@@ -18,7 +18,7 @@ use Rattle.tt_board.proofs.JoinLemmas.{name_renamed, renamed_is, renamed_not, st
 -- ---- life
 
 -- with fewer stones each stone still reaches empty
-pub alive_fewer : (s : Size) (c d : Colouring) → IsAlive s c → ((q : ℕ) → (entry_at d q ≡ entry_at c q) ⊎ (entry_at d q ≡ None)) → IsAlive s d
+pub alive_fewer : (s : Size) (c d : Colouring) → AllHaveLiberties s c → ((q : ℕ) → (entry_at d q ≡ entry_at c q) ⊎ (entry_at d q ≡ None)) → AllHaveLiberties s d
 alive_fewer s c d alive fewer x in_x stone =
     let same : entry_at d x ≡ entry_at c x = elim (fewer x) [ inl e ↦ e | inr bare ↦ absurd (stone bare) ] in
     let r = alive x in_x (λ bare. stone (same ∙ bare)) in

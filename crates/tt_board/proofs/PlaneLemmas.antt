@@ -9,7 +9,7 @@ use Rattle.tt_board.specs.Position.{Colouring}
 use Rattle.tt_board.specs.Reach.{entry_at}
 use Rattle.tt_board.specs.Play.{is_stone_of}
 use Rattle.tt_board.specs.inside.Planes.{entry_of_bits, shown, IsPlain}
-use Rattle.tt_sgf.specs.Words.{bit_in, AreSameBits, AreBitsOf}
+use Rattle.tt_sgf.specs.MachineWords.{bit_in, AreSameBits, AreBitsOf}
 
 -- neither of two is so where not one of them is
 pub neither : (a b : Bool) → (a || b) ≡ false → (a ≡ false) × (b ≡ false)

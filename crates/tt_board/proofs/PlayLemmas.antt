@@ -12,7 +12,7 @@ use Rattle.tt_board.specs.Reach.{entry_at, Reaches}
 use Rattle.tt_board.specs.ReachLaws.{reaches_beside, reaches_on, reaches_all}
 use Rattle.tt_board.specs.Decided.{reaches, reaches_is}
 use Rattle.tt_board.specs.Play.{other, same_colour, is_stone_of, cleared_entry, clear, play_of}
-use Rattle.tt_board.specs.Setup.{IsAlive}
+use Rattle.tt_board.specs.Setup.{AllHaveLiberties}
 
 same_colour_self : (k : Colour) → same_colour k k ≡ true
 same_colour_self Black = refl
@@ -94,7 +94,7 @@ not_other White (Some Black) some differs = absurd (differs refl)
 not_other White (Some White) some differs = refl
 
 -- once both colours are cleared each stone reaches empty
-pub alive-clear-clear : (s : Size) (c : List (Option Colour)) (k : Colour) → IsAlive s (clear s (clear s c (other k)) k)
+pub alive-clear-clear : (s : Size) (c : List (Option Colour)) (k : Colour) → AllHaveLiberties s (clear s (clear s c (other k)) k)
 alive-clear-clear s c k p in_p stone =
     let once = clear s c (other k) in
     let empty_stays : entry_at once p ≢ None = λ e. stone (entry_at_clear s once k p in_p ∙ cleared_kept_other s once k p (λ h. none-some k (sym e ∙ h)) ∙ e) in
@@ -104,7 +104,7 @@ alive-clear-clear s c k p in_p stone =
     absurd (apart (not_other k (entry_at once p) empty_stays (λ h. differs (sym same ∙ h))))))
 
 -- after a move each stone reaches empty
-pub alive-play : (s : Size) (c : List (Option Colour)) (k : Colour) (at : ℕ) → IsAlive s (play_of s c k at)
+pub alive-play : (s : Size) (c : List (Option Colour)) (k : Colour) (at : ℕ) → AllHaveLiberties s (play_of s c k at)
 unfolding play_of
 alive-play s c k at = alive-clear-clear s (set c at (Some k)) k
 

@@ -9,14 +9,13 @@ use Rattle.std.proofs.lemmas.Bool.{cases_lt, true≢false, false≢true, or_case
 use Rattle.tt_sgf.specs.declared.size.Size.{Size}
 use Rattle.tt_sgf.specs.Sizes.{point_count}
 use Rattle.tt_sgf.specs.laws.SizeLaws.{few_points}
-use Rattle.tt_sgf.specs.Words.{bit_in, AreBitsOf, AreCovered}
+use Rattle.tt_sgf.specs.MachineWords.{bit_in, AreBitsOf, AreCovered}
 use Rattle.tt_board.specs.declared.Colour.{Colour}
 use Rattle.tt_board.specs.declared.Colour.TheVariants.{Black, White}
 use Rattle.tt_board.specs.Position.{Colouring}
 use Rattle.tt_board.specs.Reach.{entry_at}
 use Rattle.tt_board.specs.Play.{is_empty, is_stone_of}
-use Rattle.tt_board.specs.Stones.{Points}
-use Rattle.tt_board.specs.Stones.{any_empty, all_stones_of, IsEmptyIn}
+use Rattle.tt_board.specs.Stones.{Points, any_empty, all_stones_of, IsEmptyIn}
 
 -- ---- sets
 

@@ -12,8 +12,8 @@ use Rattle.tt_board.specs.Reach.{entry_at, Reaches}
 use Rattle.tt_board.specs.Stones.{Points}
 
 -- each stone reaches empty
-abbrev pub IsAlive : Size → Colouring → Type 0
-IsAlive s c = (p : ℕ) → p < point_count s → entry_at c p ≢ None → Reaches s c p None
+abbrev pub AllHaveLiberties : Size → Colouring → Type 0
+AllHaveLiberties s c = (p : ℕ) → p < point_count s → entry_at c p ≢ None → Reaches s c p None
 
 -- point p once the sets are applied: what no set names stays
 abbrev pub placed_entry : Colouring → Points → Points → Points → ℕ → Option Colour
@@ -25,7 +25,7 @@ unfoldable pub placed : Size → Colouring → Points → Points → Points → 
 placed s c black white bare = map (placed_entry c black white bare) (range_with_len 0 (point_count s))
 
 -- p is the least point whose stone doesn't reach empty
-pub record IsLeastLifeless (s : Size) (c : Colouring) (p : ℕ) : Type 0 where
+pub record IsLeastWithoutLiberty (s : Size) (c : Colouring) (p : ℕ) : Type 0 where
   pub on_board : p < point_count s
   pub stone : entry_at c p ≢ None
   pub lifeless : Reaches s c p None → ⊥

@@ -24,13 +24,13 @@ impl Model for Board {
     ghost use Rattle.std.specs.Prelude.{◌≡◌, length, take};
     ghost use Rattle.tt_sgf.specs.Sizes.{point_count};
     ghost use Rattle.tt_board.specs.Position.{Position};
-    ghost use Rattle.tt_board.specs.Setup.{IsAlive};
+    ghost use Rattle.tt_board.specs.Setup.{AllHaveLiberties};
 
     ghost Value = { Position };
 
     ghost view = { λ b. record { size = b.size; points = b.points } };
 
-    ghost invariant = { λ b. (length b.points ≡ point_count b.size) × IsAlive b.size b.points };
+    ghost invariant = { λ b. (length b.points ≡ point_count b.size) × AllHaveLiberties b.size b.points };
 }
 
 /// The point of a move has a stone already.
@@ -45,9 +45,9 @@ impl Board {
     ghost use Rattle.tt_board.specs.declared.Colour.TheVariants.{Black, White};
     ghost use Rattle.tt_board.specs.Reach.{entry_at};
     ghost use Rattle.tt_board.specs.Play.{play_of, is_stone_of};
-    ghost use Rattle.tt_board.specs.Setup.{placed, IsAlive, IsLeastLifeless};
+    ghost use Rattle.tt_board.specs.Setup.{placed, AllHaveLiberties, IsLeastWithoutLiberty};
     ghost use Rattle.tt_board.specs.Score.{score_of};
-    ghost use Rattle.tt_sgf.specs.Words.{AreBitsOf};
+    ghost use Rattle.tt_sgf.specs.MachineWords.{AreBitsOf};
 
     /// The board of this size without any stone.
     pub fn empty(size: Size) -> Board
@@ -62,7 +62,7 @@ impl Board {
     /// The board that shows this colouring, in which each stone reaches empty.
     pub(crate) fn showing(size: Size, points: Colouring) -> Board
         requires fits { length points ≡ point_count size }
-        requires alive { IsAlive size points }
+        requires alive { AllHaveLiberties size points }
         ensures { result ≡ record { size = size; points = points } }
     {
         Board { size, points }
@@ -71,7 +71,7 @@ impl Board {
     /// Becomes the board that shows this colouring, in which each stone reaches empty. It is written in place.
     pub(crate) fn show(&mut self, size: Size, points: &Colouring)
         requires fits { length points.now ≡ point_count size }
-        requires alive { IsAlive size points.now }
+        requires alive { AllHaveLiberties size points.now }
         ensures { self.new ≡ record { size = size; points = points.now } }
     {
         self.size = size;
@@ -164,8 +164,8 @@ impl Board {
     ) -> Result<Board, Lifeless>
         ensures { let points = placed self.now.size self.now.points black.now white.now clear.now in
             MatchResult result
-            (λ b. (b ≡ record { size = self.now.size; points = points }) × IsAlive self.now.size points)
-            (λ e. IsLeastLifeless self.now.size points e.0) }
+            (λ b. (b ≡ record { size = self.now.size; points = points }) × AllHaveLiberties self.now.size points)
+            (λ e. IsLeastWithoutLiberty self.now.size points e.0) }
     {
         let mut points = self.points.copy();
         cover(self.size, &mut points, black, white, clear);
@@ -192,7 +192,7 @@ impl Board {
     pub(crate) fn points(&self) -> &Colouring
         ensures value { result.now ≡ self.now.points }
         ensures fits { length self.now.points ≡ point_count self.now.size }
-        ensures alive { IsAlive self.now.size self.now.points }
+        ensures alive { AllHaveLiberties self.now.size self.now.points }
     {
         &self.points
     }

@@ -11,7 +11,7 @@ ghost use Rattle.tt_sgf.specs.declared.size.TheConstants.{MOST_POINTS};
 ghost use Rattle.tt_sgf.specs.declared.bits.TheConstants.{BITS};
 ghost use Rattle.tt_board.specs.Reach.{entry_at};
 ghost use Rattle.tt_board.specs.Play.{is_stone_of};
-ghost use Rattle.tt_sgf.specs.Words.{bit_in, AreBitsOf};
+ghost use Rattle.tt_sgf.specs.MachineWords.{bit_in, AreBitsOf};
 
 use crate::Colour;
 use std::marker::Model;

@@ -14,7 +14,7 @@ ghost use Rattle.tt_board.specs.Play.{play_of};
 ghost use Rattle.tt_board.specs.PlayKind.{IsKind};
 ghost use Rattle.tt_sgf.specs.declared.bits.TheConstants.{BITS};
 ghost use Rattle.tt_sgf.specs.Sizes.{point_count};
-ghost use Rattle.tt_sgf.specs.Words.{bit_in};
+ghost use Rattle.tt_sgf.specs.MachineWords.{bit_in};
 ghost use Rattle.std.specs.Prelude.{◌≡◌, ℕ, ◌<◌, length, slice_set, IsTrue, Some, None, true};
 
 use crate::Colour;

@@ -1,6 +1,6 @@
 //! Boards of Go under the Tromp-Taylor rules: colourings in which each stone reaches empty, moves that capture, and area scores.
 //!
-//! A board takes no memory but its own: `Trail` alone asks for some, and says where there is none.
+//! A board takes no memory but its own: `BoardDeltas` alone asks for some, and says where there is none.
 //! A contract sees a board as a `Position`: its size, and its colouring as a list of entries, row by row.
 #![tactic(auto)]
 
@@ -17,7 +17,7 @@ mod near;
 mod setup;
 
 pub use board::{Board, Lifeless, Occupied};
-pub use boards::trail::Trail;
+pub use boards::board_deltas::BoardDeltas;
 pub use counted::CountedBoard;
 pub use counted::play_kind::PlayKind;
 

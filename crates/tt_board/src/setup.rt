@@ -2,7 +2,7 @@
 
 ghost use Rattle.std.specs.Prelude.{◌≡◌, length, MatchOption};
 ghost use Rattle.tt_sgf.specs.Sizes.{point_count};
-ghost use Rattle.tt_board.specs.Setup.{placed, IsAlive, IsLeastLifeless};
+ghost use Rattle.tt_board.specs.Setup.{placed, AllHaveLiberties, IsLeastWithoutLiberty};
 
 use crate::Colour;
 use crate::colouring::Colouring;
@@ -36,7 +36,7 @@ pub(crate) fn cover(
 /// The least point whose stone doesn't reach empty.
 pub(crate) fn first_lifeless(size: Size, points: &Colouring) -> Option<Point>
     requires { length points.now ≡ point_count size }
-    ensures { MatchOption result (IsAlive size points.now) (IsLeastLifeless size points.now) }
+    ensures { MatchOption result (AllHaveLiberties size points.now) (IsLeastWithoutLiberty size points.now) }
 {
     let black = points.bits(Colour::Black);
     let white = points.bits(Colour::White);

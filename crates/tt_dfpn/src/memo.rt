@@ -13,7 +13,7 @@ use tt_sgf::NoMemory;
 
 /// The proof that a found one gives at the line, where its own footprint is known to be that there and it is no deeper than the
 /// room.
-fn taken(alloc: Global, line: &Line, room: u16, proof: &Proof) -> Result<Option<Proof>, NoMemory>
+fn rebased(alloc: Global, line: &Line, room: u16, proof: &Proof) -> Result<Option<Proof>, NoMemory>
     ensures stands { IfOk result (λ o. IfSome o (λ p. StandsAt p line.now.frame line.now.state)) }
     ensures side { IfOk result (λ o. IfSome o (λ p. p.side ≡ proof.now.side)) }
     ensures shallow { IfOk result (λ o. IfSome o (λ p. depth p.tree ≤ room)) }
@@ -21,7 +21,7 @@ fn taken(alloc: Global, line: &Line, room: u16, proof: &Proof) -> Result<Option<
     if proof.depth() > room {
         return Ok(None);
     }
-    let Some(own) = proof.footprint_here(line) else {
+    let Some(own) = proof.footprint_if_known(line) else {
         return Ok(None);
     };
     let footprint = own.try_clone(alloc)?;
@@ -45,7 +45,7 @@ pub(crate) fn known<S: Store>(
     let Some(proof) = memo.find(line, side)? else {
         return Ok(None);
     };
-    taken(alloc, line, room, &proof)
+    rebased(alloc, line, room, &proof)
 }
 
 /// Keeps another handle of a found proof, where there is room and memory for it.
@@ -56,7 +56,7 @@ pub(crate) fn keep<S: Store>(alloc: Global, line: &Line, found: &Option<Proof>, 
     if memo.kept() == memo.capacity() {
         return;
     }
-    let Ok(Some(copy)) = taken(alloc, line, proof.depth(), proof) else {
+    let Ok(Some(copy)) = rebased(alloc, line, proof.depth(), proof) else {
         return;
     };
     let Ok(copy) = Arc::new(alloc, copy) else {

@@ -13,20 +13,20 @@ use Rattle.tt_board.specs.declared.Colour.TheVariants.{Black, White}
 use Rattle.tt_board.specs.Play.{is_stone_of}
 use Rattle.tt_sgf.specs.declared.size.Size.{Size}
 use Rattle.tt_sgf.specs.Sizes.{point_count}
-use Rattle.tt_sgf.specs.Words.{bit_in, AreBitsOf}
+use Rattle.tt_sgf.specs.MachineWords.{bit_in, AreBitsOf}
 use Rattle.tt_sgf.specs.laws.SizeLaws.{few_points}
 use Rattle.tt_game.specs.declared.frame.Frame.{Frame}
 use Rattle.tt_game.specs.Game.{State}
-use Rattle.tt_game.specs.Keys.{bits_of, binary, words_of, bit_words, key_of}
+use Rattle.tt_game.specs.Keys.{bits_of, value_of_bits, words_of, bit_words, key_of}
 
 -- ---- words
 
 -- n bits are a number below 2 to the n
-binary-below : (bs : List Bool) → binary bs < 2 ^ length bs
-binary-below [] = omega arith
-binary-below (b ∷ bs) =
+value_of_bits-below : (bs : List Bool) → value_of_bits bs < 2 ^ length bs
+value_of_bits-below [] = omega arith
+value_of_bits-below (b ∷ bs) =
     let one : cond b 1 0 ≤ 1 = unit b in
-    omega (arith, binary-below bs, one, Rattle.std.proofs.Common.pow-suc 2 (length bs))
+    omega (arith, value_of_bits-below bs, one, Rattle.std.proofs.Common.pow-suc 2 (length bs))
   where
     unit : (b : Bool) → cond b 1 0 ≤ 1
     unit true = omega arith
@@ -40,12 +40,12 @@ odd false true m n e = absurd (omega (arith, e))
 odd false false m n e = (refl, omega (arith, e))
 
 -- a number tells the bits that are its digits
-binary_tells : (bs cs : List Bool) → length bs ≡ length cs → binary bs ≡ binary cs → bs ≡ cs
+binary_tells : (bs cs : List Bool) → length bs ≡ length cs → value_of_bits bs ≡ value_of_bits cs → bs ≡ cs
 binary_tells [] [] e h = refl
 binary_tells [] (c ∷ cs) e h = absurd (omega (arith, e))
 binary_tells (b ∷ bs) [] e h = absurd (omega (arith, e))
 binary_tells (b ∷ bs) (c ∷ cs) e h =
-    let k = odd b c (binary bs) (binary cs) h in
+    let k = odd b c (value_of_bits bs) (value_of_bits cs) h in
     let r = binary_tells bs cs (omega (arith, e)) k.1 in
     let f = k.0 in cc
 
@@ -56,7 +56,7 @@ words_tell zero [] [] e f h = refl
 words_tell zero [] (y ∷ ys) e f h = absurd (omega (arith, f))
 words_tell zero (x ∷ xs) ys e f h = absurd (omega (arith, e))
 words_tell (suc k) xs ys e f h =
-    let head' : binary (take 64 xs) ≡ binary (take 64 ys) = cc in
+    let head' : value_of_bits (take 64 xs) ≡ value_of_bits (take 64 ys) = cc in
     let tail' : words_of k (drop 64 xs) ≡ words_of k (drop 64 ys) = cc in
     let first : take 64 xs ≡ take 64 ys = binary_tells (take 64 xs) (take 64 ys) (length-take-le 64 xs (omega arith) ∙ sym (length-take-le 64 ys (omega arith))) head' in
     let rest : drop 64 xs ≡ drop 64 ys = words_tell k (drop 64 xs) (drop 64 ys) (omega (arith, length-drop 64 xs)) (omega (arith, length-drop 64 ys)) tail' in
@@ -105,10 +105,10 @@ digit true m = (omega arith, omega arith)
 digit false m = (omega arith, omega arith)
 
 -- the bits of the number are the bits
-bit_binary : (bs : List Bool) (i : ℕ) → bit_at (binary bs) i ≡ cond (get_or bs i false) 1 0
+bit_binary : (bs : List Bool) (i : ℕ) → bit_at (value_of_bits bs) i ≡ cond (get_or bs i false) 1 0
 bit_binary [] i = bit_at-zero i
-bit_binary (b ∷ bs) zero = bit_at_lowest (cond b 1 0 + 2 * binary bs) ∙ (digit b (binary bs)).0
-bit_binary (b ∷ bs) (suc i) = bit_at-suc (cond b 1 0 + 2 * binary bs) i ∙ ap (λ m. bit_at m i) (digit b (binary bs)).1 ∙ bit_binary bs i
+bit_binary (b ∷ bs) zero = bit_at_lowest (cond b 1 0 + 2 * value_of_bits bs) ∙ (digit b (value_of_bits bs)).0
+bit_binary (b ∷ bs) (suc i) = bit_at-suc (cond b 1 0 + 2 * value_of_bits bs) i ∙ ap (λ m. bit_at m i) (digit b (value_of_bits bs)).1 ∙ bit_binary bs i
 
 -- as many words are made as are asked for
 pub length-words_of : (n : ℕ) (bits : List Bool) → length (words_of n bits) ≡ n
@@ -117,13 +117,13 @@ length-words_of zero bits = refl
 length-words_of (suc n) bits = ap suc (length-words_of n (drop 64 bits))
 
 -- each word is the number of its 64 bits
-word_of : (n : ℕ) (bits : List Bool) (k : ℕ) → k < n → get_or (words_of n bits) k 0 ≡ binary (take 64 (drop (64 * k) bits))
+word_of : (n : ℕ) (bits : List Bool) (k : ℕ) → k < n → get_or (words_of n bits) k 0 ≡ value_of_bits (take 64 (drop (64 * k) bits))
 unfolding words_of
 word_of zero bits k lt = absurd (omega arith)
 word_of (suc n) bits zero lt = refl
 word_of (suc n) bits (suc k) lt =
     let more : 64 + 64 * k ≡ 64 * suc k = omega arith in
-    word_of n (drop 64 bits) k (omega arith) ∙ ap (λ xs. binary (take 64 xs)) (drop-drop (64 * k) 64 bits ∙ ap (λ j. drop j bits) more)
+    word_of n (drop 64 bits) k (omega arith) ∙ ap (λ xs. value_of_bits (take 64 xs)) (drop-drop (64 * k) 64 bits ∙ ap (λ j. drop j bits) more)
 
 -- no bit is set where none was made
 none_marked : (n i : ℕ) → get_or (replicate n false) i false ≡ false
@@ -167,8 +167,8 @@ bit_words_is size test words wide fits alike =
     let lt : k < 6 = omega (arith, wide) in
     let part = take 64 (drop (64 * k) bits) in
     let short : length part ≤ 64 = omega (arith, length-take 64 (drop (64 * k) bits)) in
-    let few : binary part < 2 ^ 64 = omega (arith, binary-below part, Rattle.std.proofs.Math.Pow.pow_mono short) in
-    same_from_bits_below 64 (get_or words k 0) (binary part) (fits k) few (λ i small.
+    let few : value_of_bits part < 2 ^ 64 = omega (arith, value_of_bits-below part, Rattle.std.proofs.Math.Pow.pow_mono short) in
+    same_from_bits_below 64 (get_or words k 0) (value_of_bits part) (fits k) few (λ i small.
     bit_is words k i small ∙ sym (bit_binary part i ∙ ap (λ b. cond b 1 0) (get_or-take 64 (drop (64 * k) bits) i false small ∙ get_or-drop (64 * k) bits i false
     ∙ bit_is_at size test words alike (64 * k + i) (omega arith))))
     ∙ sym (word_of 6 bits k lt))

@@ -10,8 +10,7 @@ use Rattle.tt_board.specs.declared.counted.play_kind.PlayKind.TheVariants.{NoCap
 use Rattle.tt_board.specs.Position.{Colouring}
 use Rattle.tt_board.specs.Reach.{entry_at}
 use Rattle.tt_board.specs.Play.{play_of, is_empty}
-use Rattle.tt_board.specs.Stones.{Points}
-use Rattle.tt_board.specs.Stones.{any_empty}
+use Rattle.tt_board.specs.Stones.{Points, any_empty}
 use Rattle.tt_game.specs.declared.frame.Frame.{Frame}
 use Rattle.tt_game.specs.declared.frame.Side.TheVariants.{Attacker}
 use Rattle.tt_game.specs.GameHistory.{HasBeen}

@@ -5,8 +5,7 @@ use Rattle.std.specs.declared.result.Result.{Result}
 use Rattle.std.specs.FinSet as set
 use Rattle.tt_sgf.specs.declared.nodes.Node.{Node}
 use Rattle.tt_board.specs.declared.Colour.{Colour}
-use Rattle.tt_board.specs.Stones.{Points}
-use Rattle.tt_board.specs.Stones.{any_empty}
+use Rattle.tt_board.specs.Stones.{Points, any_empty}
 use Rattle.tt_game.specs.declared.faults.GameFault.{GameFault}
 use Rattle.tt_game.specs.declared.frame.Side.TheVariants.{Attacker, Defender}
 use Rattle.tt_game.specs.declared.records.GameSoFar.{GameSoFar}
@@ -14,7 +13,7 @@ use Rattle.tt_game.specs.Game.{winner_of}
 use Rattle.tt_game.specs.Games.{GameState}
 use Rattle.tt_game.specs.Line.{LineWithUndo}
 use Rattle.tt_game.specs.Nodes.{TR, has, set_named}
-use Rattle.tt_game.specs.Problems.{common_colour, posed, problem_at, problem_of, problem_on, problem_with, region_of, run_to_mark}
+use Rattle.tt_game.specs.Problems.{common_colour, posed, problem_of_sets, problem_of, problem_on, problem_with, region_of, run_to_mark}
 use Rattle.tt_game.specs.Records.{and_then, begin_line, step_node}
 
 -- nobody has won at it
@@ -51,7 +50,7 @@ open_on s region targets q h = elim (either (nat_eq (set.len targets) 0) _ _ _ h
 ]
 
 -- and one of sets that a node names
-open_at : (s : GameState) (targets region : Option Points) (q : LineWithUndo) → problem_at s targets region ≡ Ok q → IsOpen q
+open_at : (s : GameState) (targets region : Option Points) (q : LineWithUndo) → problem_of_sets s targets region ≡ Ok q → IsOpen q
 open_at s None region q h = let bad : Err _ ≡ Ok q = h in cc
 open_at s (Some targets) None q h = let bad : Err _ ≡ Ok q = h in cc
 open_at s (Some targets) (Some region) q h = open_on s region targets q h

@@ -17,7 +17,7 @@ use Rattle.tt_game.specs.declared.faults.GameFault.TheVariants.{NoTarget}
 use Rattle.tt_game.specs.declared.records.GameSoFar.{GameSoFar}
 use Rattle.tt_game.specs.Nodes.{TR, has, moves_in, set_named}
 use Rattle.tt_game.specs.Records.{and_then, step_node}
-use Rattle.tt_game.specs.Problems.{nodes_before_solution, puts_stones, region_of, problem_at, run_to_mark}
+use Rattle.tt_game.specs.Problems.{nodes_before_solution, puts_stones, region_of, problem_of_sets, run_to_mark}
 
 -- what a value covers is on the board
 covered_on : (size : Size) (e : Option _) (q : ℕ) → covers_by size e q ≡ true → q < point_count size
@@ -50,19 +50,19 @@ mark-nil s = refl
 
 pub mark-stop : (s : GameSoFar) (e : GameFault) (n : Node) (ns : List Node) → step_node s n ≡ Err e → run_to_mark s (n ∷ ns) ≡ Err e
 unfolding run_to_mark
-mark-stop s e n ns h = ap (λ r. and_then r (λ t. cond (has TR n) (problem_at t.game (set_named t.game.size TR n) (region_of t.game.size n)) (run_to_mark t ns))) h
+mark-stop s e n ns h = ap (λ r. and_then r (λ t. cond (has TR n) (problem_of_sets t.game (set_named t.game.size TR n) (region_of t.game.size n)) (run_to_mark t ns))) h
 
 pub mark-step : (s t : GameSoFar) (n : Node) (ns : List Node) → step_node s n ≡ Ok t → has TR n ≡ false → run_to_mark s (n ∷ ns) ≡ run_to_mark t ns
 unfolding run_to_mark
 mark-step s t n ns h off =
-    ap (λ r. and_then r (λ x. cond (has TR n) (problem_at x.game (set_named x.game.size TR n) (region_of x.game.size n)) (run_to_mark x ns))) h
-    ∙ ap (λ b. cond b (problem_at t.game (set_named t.game.size TR n) (region_of t.game.size n)) (run_to_mark t ns)) off
+    ap (λ r. and_then r (λ x. cond (has TR n) (problem_of_sets x.game (set_named x.game.size TR n) (region_of x.game.size n)) (run_to_mark x ns))) h
+    ∙ ap (λ b. cond b (problem_of_sets t.game (set_named t.game.size TR n) (region_of t.game.size n)) (run_to_mark t ns)) off
 
-pub mark-here : (s t : GameSoFar) (n : Node) (ns : List Node) → step_node s n ≡ Ok t → has TR n ≡ true → run_to_mark s (n ∷ ns) ≡ problem_at t.game (set_named t.game.size TR n) (region_of t.game.size n)
+pub mark-here : (s t : GameSoFar) (n : Node) (ns : List Node) → step_node s n ≡ Ok t → has TR n ≡ true → run_to_mark s (n ∷ ns) ≡ problem_of_sets t.game (set_named t.game.size TR n) (region_of t.game.size n)
 unfolding run_to_mark
 mark-here s t n ns h on =
-    ap (λ r. and_then r (λ x. cond (has TR n) (problem_at x.game (set_named x.game.size TR n) (region_of x.game.size n)) (run_to_mark x ns))) h
-    ∙ ap (λ b. cond b (problem_at t.game (set_named t.game.size TR n) (region_of t.game.size n)) (run_to_mark t ns)) on
+    ap (λ r. and_then r (λ x. cond (has TR n) (problem_of_sets x.game (set_named x.game.size TR n) (region_of x.game.size n)) (run_to_mark x ns))) h
+    ∙ ap (λ b. cond b (problem_of_sets t.game (set_named t.game.size TR n) (region_of t.game.size n)) (run_to_mark t ns)) on
 
 -- ---- the nodes in front of a solution
 

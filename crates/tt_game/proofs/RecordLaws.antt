@@ -22,7 +22,7 @@ use Rattle.tt_board.specs.declared.Colour.TheVariants.{Black, White}
 use Rattle.tt_board.specs.Position.{Colouring}
 use Rattle.tt_board.specs.Reach.{entry_at}
 use Rattle.tt_board.specs.Play.{is_empty, same_colour}
-use Rattle.tt_board.specs.Stones.{Points}
+use Rattle.tt_board.specs.Stones.{Points, any_empty}
 use Rattle.tt_board.specs.Setup.{placed}
 use Rattle.tt_game.specs.declared.faults.GameFault.{GameFault}
 use Rattle.tt_game.specs.declared.faults.GameFault.TheVariants.{NoTarget}
@@ -32,14 +32,13 @@ use Rattle.tt_game.specs.declared.records.GameSoFar.{GameSoFar}
 use Rattle.tt_game.specs.declared.turns.Turn.{Turn}
 use Rattle.tt_game.specs.declared.turns.Turn.TheVariants.{Play, Pass}
 use Rattle.tt_game.specs.Game.{history}
-use Rattle.tt_game.specs.Games.{GameState, all_of, begun_with, empty_game, made_by, refusal_of, turned}
+use Rattle.tt_game.specs.Games.{GameState, all_of, begun_with, empty_game, colouring_after_move, refusal_of, turned}
 use Rattle.tt_game.specs.History.{repeats, repeats_is}
 use Rattle.tt_game.specs.Line.{LineWithUndo}
 use Rattle.tt_game.specs.Nodes.{AB, AE, AW, B, GM, PL, SZ, TR, W, apart, colour_named, has, is_go, is_setup, moves_in, set_named, size_named, values_of}
-use Rattle.tt_board.specs.Stones.{any_empty}
-use Rattle.tt_game.specs.Problems.{common_colour, posed, problem_at, problem_of, problem_on, problem_with, region_of, run_to_mark}
-use Rattle.tt_game.specs.Records.{all_alive, and_then, as_turn, begin_at, begin_line, begin_node, begun, go_on, move_of, record_at, record_of, run_nodes, set_up_by, step_node}
-use Rattle.tt_game.specs.Records.{turn_by, turn_named, replay_with}
+use Rattle.tt_game.specs.Problems.{common_colour, posed, problem_of_sets, problem_of, problem_on, problem_with, region_of, run_to_mark}
+use Rattle.tt_game.specs.Records.{all_have_liberties, and_then, as_turn, begin_at, begin_line, begin_node, begun, turn_or_fault, game_after_move, record_at, record_of, run_nodes, set_up_by, step_node}
+use Rattle.tt_game.specs.Records.{replay_turn_by, turn_named, replay_with}
 use Rattle.tt_game.specs.RecordLaws.{UnmarkedAreNoProblems}
 use Rattle.tt_game.specs.RecordLaws.{ArePlays, IsByTheRules, IsOfLeastNode, IsPlay, LeastNodesRefuse, ProblemsAreGames, ProblemsAreRecords, RecordsAreGames, SetupsBeginHistories, SuperkoDecides}
 use Rattle.tt_game.specs.Turns.{IsOnBoard}
@@ -85,14 +84,14 @@ empty_entry None e = refl
 empty_entry (Some k) e = absurd (false≢true e)
 
 -- a lawful play is on an empty point, and its colouring is new
-lawful : (s : GameState) (p : ℕ) → refusal_of s (Play p) ≡ None → (entry_at s.present p ≡ None) × (Contains (all_of s) (made_by s p) → ⊥)
+lawful : (s : GameState) (p : ℕ) → refusal_of s (Play p) ≡ None → (entry_at s.present p ≡ None) × (Contains (all_of s) (colouring_after_move s p) → ⊥)
 lawful s p e = elim (choice (s.passes == 2) _ _ _ e) [
   | inl over ↦ let bad : Some _ ≡ None = over.1 in cc
   | inr on ↦ elim (choice (is_empty (entry_at s.present p)) _ _ _ on.1) [
     | inr stone ↦ let bad : Some _ ≡ None = stone.1 in cc
-    | inl free ↦ elim (choice (repeats (all_of s) (made_by s p)) _ _ _ free.1) [
+    | inl free ↦ elim (choice (repeats (all_of s) (colouring_after_move s p)) _ _ _ free.1) [
       | inl been ↦ let bad : Some _ ≡ None = been.1 in cc
-      | inr new ↦ (empty_entry (entry_at s.present p) free.0, λ has. false≢true (sym new.0 ∙ (repeats_is (all_of s) (made_by s p)).1 has))
+      | inr new ↦ (empty_entry (entry_at s.present p) free.0, λ has. false≢true (sym new.0 ∙ (repeats_is (all_of s) (colouring_after_move s p)).1 has))
     ]
   ]
 ]
@@ -126,7 +125,7 @@ turn_made r t q e = elim (choice (r.game.passes == 2) _ _ _ e) [
   ]
 ]
   where
-    gone : (o : Option Why) → go_on r t o ≡ Ok q → (o ≡ None) × (after_turn r t ≡ q)
+    gone : (o : Option Why) → turn_or_fault r t o ≡ Ok q → (o ≡ None) × (after_turn r t ≡ q)
     gone None h = let same : after_turn r t ≡ q = cc in (refl, same)
     gone (Some why) h = let bad : Err _ ≡ Ok q = h in cc
 
@@ -139,8 +138,8 @@ goes_on r (Play p) on taken few =
     record {
       lawful = λ h. (
         record {
-          plays = plays_on s.size s.earlier s.present (made_by s p) h.0.plays (s.to_move, p, on, free.0, refl);
-          once = once_more (all_of s) (made_by s p) h.0.once free.1;
+          plays = plays_on s.size s.earlier s.present (colouring_after_move s p) h.0.plays (s.to_move, p, on, free.0, refl);
+          once = once_more (all_of s) (colouring_after_move s p) h.0.once free.1;
         },
         omega (arith, few),
       );
@@ -152,7 +151,7 @@ one_turn : (r : GameSoFar) (t : Turn) (q : GameSoFar) → IsOnBoard r.game.size 
 one_turn r t q on e = let made = turn_made r t q e in subst (λ (x : GameSoFar). GoesOn r x) made.2 (goes_on r t on made.0 made.1)
 
 -- and a turn of a colour, with the pass before it where that is needed
-turns_by : (r : GameSoFar) (k : Colour) (t : Turn) (q : GameSoFar) → IsOnBoard r.game.size t → turn_by r k t ≡ Ok q → GoesOn r q
+turns_by : (r : GameSoFar) (k : Colour) (t : Turn) (q : GameSoFar) → IsOnBoard r.game.size t → replay_turn_by r k t ≡ Ok q → GoesOn r q
 turns_by r k t q on e = elim (choice (same_colour r.game.to_move k) _ _ _ e) [
   | inl its ↦ one_turn r t q on its.1
   | inr others ↦
@@ -193,7 +192,7 @@ turn_goes r k text None q is e = let bad : Err _ ≡ Ok q = e in cc
 turn_goes r k text (Some v) q is e = turns_by r k (as_turn v) q (value_on r.game.size text v is) e
 
 -- so does a node's move, or none
-move_goes : (r : GameSoFar) (vs ws : List (List ℕ)) (q : GameSoFar) → move_of r vs ws ≡ Ok q → GoesOn r q
+move_goes : (r : GameSoFar) (vs ws : List (List ℕ)) (q : GameSoFar) → game_after_move r vs ws ≡ Ok q → GoesOn r q
 move_goes r (v ∷ vs) ws q e = turn_goes r Black (trimmed v) (point_of r.game.size (trimmed v)) q refl e
 move_goes r [] (w ∷ ws) q e = turn_goes r White (trimmed w) (point_of r.game.size (trimmed w)) q refl e
 move_goes r [] [] q e =
@@ -209,7 +208,7 @@ record BeginsAnew (r q : GameSoFar) : Type 0 where
 
 -- a colouring begins the history anew
 begun_anew : (r : GameSoFar) (c : Colouring) (k : Colour) (q : GameSoFar) → begun r c k ≡ Ok q → BeginsAnew r q
-begun_anew r c k q e = elim (choice (all_alive r.game.size c) _ _ _ e) [
+begun_anew r c k q e = elim (choice (all_have_liberties r.game.size c) _ _ _ e) [
   | inl alive ↦
       let same : record { game = begun_with r.game.size c k; turns = r.turns } ≡ q = let is = alive.1 in cc in
       subst (λ (x : GameSoFar). BeginsAnew r x) same (record { lawful = λ h. (alone r.game.size c, h.1); alone = refl })
@@ -309,7 +308,7 @@ of_game_on s region targets q e = elim (choice (nat_eq (set.len targets) 0) _ _ 
 ]
 
 -- and one of sets that a node names
-of_game : (s : GameState) (targets region : Option Points) (q : LineWithUndo) → problem_at s targets region ≡ Ok q → IsOfGame s q
+of_game : (s : GameState) (targets region : Option Points) (q : LineWithUndo) → problem_of_sets s targets region ≡ Ok q → IsOfGame s q
 of_game s None region q e = let bad : Err _ ≡ Ok q = e in cc
 of_game s (Some targets) None q e = let bad : Err _ ≡ Ok q = e in cc
 of_game s (Some targets) (Some region) q e = of_game_on s region targets q e
@@ -464,12 +463,12 @@ mark_refused : (r : GameSoFar) (ns behind : List Node) (e : GameFault) → All (
 unfolding run_nodes run_to_mark
 mark_refused r [] behind e unmarked h = let bad : Ok r ≡ Err e = h in cc
 mark_refused r (n ∷ ns) behind e unmarked h =
-    let go = λ (q : GameSoFar). cond (has TR n) (problem_at q.game (set_named q.game.size TR n) (region_of q.game.size n)) (run_to_mark q (ns ++ behind)) in
+    let go = λ (q : GameSoFar). cond (has TR n) (problem_of_sets q.game (set_named q.game.size TR n) (region_of q.game.size n)) (run_to_mark q (ns ++ behind)) in
     elim (step_refused (step_node r n) _ e h) [
       | inl here ↦ ap (λ x. and_then x go) here
       | inr on ↦
           ap (λ x. and_then x go) on.1
-          ∙ ap (λ b. cond b (problem_at on.0.game (set_named on.0.game.size TR n) (region_of on.0.game.size n)) (run_to_mark on.0 (ns ++ behind))) (All-head (λ m. has TR m ≡ false) n ns unmarked)
+          ∙ ap (λ b. cond b (problem_of_sets on.0.game (set_named on.0.game.size TR n) (region_of on.0.game.size n)) (run_to_mark on.0 (ns ++ behind))) (All-head (λ m. has TR m ≡ false) n ns unmarked)
           ∙ mark_refused on.0 ns behind e (All-tail (λ m. has TR m ≡ false) n ns unmarked) on.2
     ]
 
@@ -489,10 +488,10 @@ mark_missing : (r q : GameSoFar) (ns : List Node) → All (λ n. has TR n ≡ fa
 unfolding run_nodes run_to_mark
 mark_missing r q [] unmarked h = refl
 mark_missing r q (n ∷ ns) unmarked h =
-    let go = λ (x : GameSoFar). cond (has TR n) (problem_at x.game (set_named x.game.size TR n) (region_of x.game.size n)) (run_to_mark x ns) in
+    let go = λ (x : GameSoFar). cond (has TR n) (problem_of_sets x.game (set_named x.game.size TR n) (region_of x.game.size n)) (run_to_mark x ns) in
     let on = step_made (step_node r n) _ q h in
     ap (λ x. and_then x go) on.1
-    ∙ ap (λ b. cond b (problem_at on.0.game (set_named on.0.game.size TR n) (region_of on.0.game.size n)) (run_to_mark on.0 ns)) (All-head (λ m. has TR m ≡ false) n ns unmarked)
+    ∙ ap (λ b. cond b (problem_of_sets on.0.game (set_named on.0.game.size TR n) (region_of on.0.game.size n)) (run_to_mark on.0 ns)) (All-head (λ m. has TR m ≡ false) n ns unmarked)
     ∙ mark_missing on.0 q ns (All-tail (λ m. has TR m ≡ false) n ns unmarked) on.2
 
 -- nodes that come to a game and mark no target are no problem

@@ -10,10 +10,10 @@ use Rattle.tt_sgf.specs.Sizes.{point_count}
 use Rattle.tt_board.specs.Reach.{entry_at, Reaches}
 use Rattle.tt_board.specs.Decided.{reaches, reaches_is}
 use Rattle.tt_board.specs.Play.{is_empty}
-use Rattle.tt_board.specs.Setup.{IsAlive, IsLeastLifeless}
+use Rattle.tt_board.specs.Setup.{AllHaveLiberties, IsLeastWithoutLiberty}
 use Rattle.tt_game.specs.History.{repeats, repeats_is}
 use Rattle.tt_game.specs.declared.records.GameSoFar.{GameSoFar}
-use Rattle.tt_game.specs.Records.{alive_below, all_alive, run_nodes, step_node, and_then}
+use Rattle.tt_game.specs.Records.{have_liberties_below, all_have_liberties, run_nodes, step_node, and_then}
 use Rattle.tt_game.specs.declared.faults.GameFault.{GameFault}
 use Rattle.tt_sgf.specs.declared.nodes.Node.{Node}
 use Rattle.std.specs.Prelude.{Ok, Err}
@@ -32,13 +32,13 @@ alive_at size c p lt h = elim (entry_at c p) as (λ o. entry_at c p ≡ o → (i
 ] refl
 
 -- so do all points below a bound, where each stone reaches empty
-pub alive_all : (size : Size) (c : List (Option Colour)) → IsAlive size c → (n : ℕ) → n ≤ point_count size → alive_below size c n ≡ true
-unfolding alive_below
+pub alive_all : (size : Size) (c : List (Option Colour)) → AllHaveLiberties size c → (n : ℕ) → n ≤ point_count size → have_liberties_below size c n ≡ true
+unfolding have_liberties_below
 alive_all size c h zero le = refl
-alive_all size c h (suc n) le = ap (λ b. b && alive_below size c n) (alive_at size c n (omega (arith, le)) (h n (omega (arith, le)))) ∙ alive_all size c h n (omega (arith, le))
+alive_all size c h (suc n) le = ap (λ b. b && have_liberties_below size c n) (alive_at size c n (omega (arith, le)) (h n (omega (arith, le)))) ∙ alive_all size c h n (omega (arith, le))
 
 -- and so does the whole board
-pub is_alive : (size : Size) (c : List (Option Colour)) → IsAlive size c → all_alive size c ≡ true
+pub is_alive : (size : Size) (c : List (Option Colour)) → AllHaveLiberties size c → all_have_liberties size c ≡ true
 is_alive size c h = alive_all size c h (point_count size) (omega arith)
 
 and_false : (a : Bool) → (a && false) ≡ false
@@ -53,16 +53,16 @@ dead_at size c p lt some dead = elim (entry_at c p) as (λ o. entry_at c p ≡ o
 ] refl
 
 -- and so does each bound above it
-dead_below : (size : Size) (c : List (Option Colour)) (p : ℕ) → p < point_count size → entry_at c p ≢ None → (Reaches size c p None → ⊥) → (n : ℕ) → p < n → alive_below size c n ≡ false
-unfolding alive_below
+dead_below : (size : Size) (c : List (Option Colour)) (p : ℕ) → p < point_count size → entry_at c p ≢ None → (Reaches size c p None → ⊥) → (n : ℕ) → p < n → have_liberties_below size c n ≡ false
+unfolding have_liberties_below
 dead_below size c p lt some dead zero k = absurd (omega (arith, k))
 dead_below size c p lt some dead (suc n) k = elim (cases_eq p n) [
-  | inl e ↦ ap (λ b. b && alive_below size c n) (ap (λ q. is_empty (entry_at c q) || reaches size c q None) (sym e) ∙ dead_at size c p lt some dead)
+  | inl e ↦ ap (λ b. b && have_liberties_below size c n) (ap (λ q. is_empty (entry_at c q) || reaches size c q None) (sym e) ∙ dead_at size c p lt some dead)
   | inr d ↦ ap (λ b. (is_empty (entry_at c n) || reaches size c n None) && b) (dead_below size c p lt some dead n (omega (arith, k, d))) ∙ and_false (is_empty (entry_at c n) || reaches size c n None)
 ]
 
 -- and so does the whole board
-pub not_alive : (size : Size) (c : List (Option Colour)) (p : ℕ) → IsLeastLifeless size c p → all_alive size c ≡ false
+pub not_alive : (size : Size) (c : List (Option Colour)) (p : ℕ) → IsLeastWithoutLiberty size c p → all_have_liberties size c ≡ false
 not_alive size c p h = dead_below size c p h.on_board h.stone h.lifeless (point_count size) h.on_board
 
 -- whether two counts together reach k, 2 at most, is told by both cut off at 2

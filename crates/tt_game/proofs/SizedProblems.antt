@@ -13,19 +13,18 @@ use Rattle.tt_board.specs.declared.Colour.{Colour}
 use Rattle.tt_board.specs.declared.Colour.TheVariants.{Black, White}
 use Rattle.tt_board.specs.Position.{Colouring}
 use Rattle.tt_board.specs.Play.{length-play_of, same_colour}
-use Rattle.tt_board.specs.Stones.{Points}
+use Rattle.tt_board.specs.Stones.{Points, any_empty}
 use Rattle.tt_board.specs.Setup.{length-placed, placed}
-use Rattle.tt_board.specs.Stones.{any_empty}
 use Rattle.tt_game.specs.declared.faults.Why.{Why}
 use Rattle.tt_game.specs.declared.records.GameSoFar.{GameSoFar}
 use Rattle.tt_game.specs.declared.turns.Turn.{Turn}
 use Rattle.tt_game.specs.declared.turns.Turn.TheVariants.{Play, Pass}
-use Rattle.tt_game.specs.Games.{GameState, all_of, begun_with, empty_game, made_by, refusal_of, turned}
+use Rattle.tt_game.specs.Games.{GameState, all_of, begun_with, empty_game, colouring_after_move, refusal_of, turned}
 use Rattle.tt_game.specs.GameLaws.{IsState, ProblemsAreStates}
 use Rattle.tt_game.specs.Line.{LineWithUndo}
 use Rattle.tt_game.specs.Nodes.{AB, AE, AW, B, GM, PL, SZ, TR, W, apart, colour_named, has, is_go, is_setup, moves_in, set_named, size_named, values_of}
-use Rattle.tt_game.specs.Problems.{common_colour, posed, problem_at, problem_of, problem_on, problem_with, region_of, run_to_mark}
-use Rattle.tt_game.specs.Records.{all_alive, as_turn, begin_at, begin_line, begin_node, begun, go_on, move_of, set_up_by, step_node, turn_by, turn_named, replay_with}
+use Rattle.tt_game.specs.Problems.{common_colour, posed, problem_of_sets, problem_of, problem_on, problem_with, region_of, run_to_mark}
+use Rattle.tt_game.specs.Records.{all_have_liberties, as_turn, begin_at, begin_line, begin_node, begun, turn_or_fault, game_after_move, set_up_by, step_node, replay_turn_by, turn_named, replay_with}
 use Rattle.tt_game.proofs.OpenProblems.{either, step_made}
 
 -- each colouring of the game has an entry for each point
@@ -39,12 +38,12 @@ alone size c fits = All-push (λ d. length d ≡ point_count size) [] c (All-nil
 -- a turn keeps an entry for each point
 sized_turned : (g : GameState) (t : Turn) → IsSized g → IsSized (turned g t)
 sized_turned g Pass h = h
-sized_turned g (Play p) h = All-push (λ c. length c ≡ point_count g.size) (all_of g) (made_by g p) h (length-play_of g.size g.present g.to_move p)
+sized_turned g (Play p) h = All-push (λ c. length c ≡ point_count g.size) (all_of g) (colouring_after_move g p) h (length-play_of g.size g.present g.to_move p)
 
 -- ---- turns
 
 -- so does a turn that was taken: alone, of a colour, by a value, or as a node's move
-sized_on : (r : GameSoFar) (t : Turn) (o : Option Why) (q : GameSoFar) → go_on r t o ≡ Ok q → IsSized r.game → IsSized q.game
+sized_on : (r : GameSoFar) (t : Turn) (o : Option Why) (q : GameSoFar) → turn_or_fault r t o ≡ Ok q → IsSized r.game → IsSized q.game
 sized_on r t None q e h =
     let same : record { game = turned r.game t; turns = r.turns + 1 } ≡ q = cc in
     subst (λ (x : GameSoFar). IsSized x.game) same (sized_turned r.game t h)
@@ -59,7 +58,7 @@ sized_turn r t q e h = elim (either (r.game.passes == 2) _ _ _ e) [
   ]
 ]
 
-sized_by : (r : GameSoFar) (k : Colour) (t : Turn) (q : GameSoFar) → turn_by r k t ≡ Ok q → IsSized r.game → IsSized q.game
+sized_by : (r : GameSoFar) (k : Colour) (t : Turn) (q : GameSoFar) → replay_turn_by r k t ≡ Ok q → IsSized r.game → IsSized q.game
 sized_by r k t q e h = elim (either (same_colour r.game.to_move k) _ _ _ e) [
   | inl its ↦ sized_turn r t q its h
   | inr others ↦
@@ -71,7 +70,7 @@ sized_named : (r : GameSoFar) (k : Colour) (o : Option PointOrPass) (q : GameSoF
 sized_named r k None q e h = let bad : Err _ ≡ Ok q = e in cc
 sized_named r k (Some v) q e h = sized_by r k (as_turn v) q e h
 
-sized_move : (r : GameSoFar) (vs ws : List (List ℕ)) (q : GameSoFar) → move_of r vs ws ≡ Ok q → IsSized r.game → IsSized q.game
+sized_move : (r : GameSoFar) (vs ws : List (List ℕ)) (q : GameSoFar) → game_after_move r vs ws ≡ Ok q → IsSized r.game → IsSized q.game
 sized_move r (v ∷ vs) ws q e h = sized_named r Black (point_of r.game.size (trimmed v)) q e h
 sized_move r [] (w ∷ ws) q e h = sized_named r White (point_of r.game.size (trimmed w)) q e h
 sized_move r [] [] q e h = let same : r ≡ q = cc in subst (λ (x : GameSoFar). IsSized x.game) same h
@@ -80,7 +79,7 @@ sized_move r [] [] q e h = let same : r ≡ q = cc in subst (λ (x : GameSoFar).
 
 -- a setup's colouring begins a history with an entry for each point
 sized_begun : (r : GameSoFar) (c : Colouring) (k : Colour) (q : GameSoFar) → begun r c k ≡ Ok q → length c ≡ point_count r.game.size → IsSized q.game
-sized_begun r c k q e fits = elim (either (all_alive r.game.size c) _ _ _ e) [
+sized_begun r c k q e fits = elim (either (all_have_liberties r.game.size c) _ _ _ e) [
   | inl alive ↦
       let same : record { game = begun_with r.game.size c k; turns = r.turns } ≡ q = cc in
       subst (λ (x : GameSoFar). IsSized x.game) same (alone r.game.size c fits)
@@ -152,7 +151,7 @@ state_on s region targets q e h = elim (either (nat_eq (set.len targets) 0) _ _ 
   ]
 ]
 
-state_at : (s : GameState) (targets region : Option Points) (q : LineWithUndo) → problem_at s targets region ≡ Ok q → IsSized s → HasState q
+state_at : (s : GameState) (targets region : Option Points) (q : LineWithUndo) → problem_of_sets s targets region ≡ Ok q → IsSized s → HasState q
 state_at s None region q e h = let bad : Err _ ≡ Ok q = e in cc
 state_at s (Some targets) None q e h = let bad : Err _ ≡ Ok q = e in cc
 state_at s (Some targets) (Some region) q e h = state_on s region targets q e h

@@ -19,7 +19,7 @@ use Rattle.tt_sgf.specs.declared.size.Size.{Size}
 use Rattle.tt_sgf.specs.Sizes.{point_count}
 use Rattle.tt_sgf.specs.laws.SizeLaws.{few_points}
 use Rattle.tt_game.specs.declared.history.bloom_filter.TheConstants.{LOW, MIXER, FILTER_BITS, WEIGHTS}
-use Rattle.tt_game.specs.Keys.{bits_of, binary, words_of, bit_words}
+use Rattle.tt_game.specs.Keys.{bits_of, value_of_bits, words_of, bit_words}
 use Rattle.tt_game.specs.Mixing.{mix, mix_board}
 use Rattle.tt_game.specs.BloomFilter.{filter_index}
 use Rattle.tt_game.proofs.KeyLemmas.{bit_words_same, length-words_of}
@@ -47,7 +47,7 @@ shifted s d (w ∷ ws) =
     ∙ ap (λ n. (mix t ws + n) % 2 ^ 64) (mul_assoc d MIXER (MIXER ^ length ws) ∙ ap (λ n. d * n) (sym (pow-succ' MIXER (length ws))))
 
 -- a bit more adds its digit
-binary_set : (bs : List Bool) (i : ℕ) → i < length bs → get_or bs i false ≡ false → binary (set bs i true) ≡ binary bs + 2 ^ i
+binary_set : (bs : List Bool) (i : ℕ) → i < length bs → get_or bs i false ≡ false → value_of_bits (set bs i true) ≡ value_of_bits bs + 2 ^ i
 binary_set [] i lt off = absurd (omega (arith, lt))
 binary_set (true ∷ bs) zero lt off = absurd (Rattle.std.proofs.lemmas.Bool.false≢true (sym off))
 binary_set (false ∷ bs) zero lt off = omega arith
@@ -60,9 +60,9 @@ unfolding mix words_of
 grown s zero bits p wide lt off = absurd (omega (arith, lt))
 grown s (suc n) bits p wide lt off = elim (cases_lt p 64) [
   | inl below ↦
-      let b = binary (take 64 bits) in let ws = words_of n (drop 64 bits) in let t = (s * MIXER % 2 ^ 64 + b) % 2 ^ 64 in
-      let here : binary (take 64 (set bits p true)) ≡ b + 2 ^ p =
-      ap binary (take-set-lt 64 bits p true below)
+      let b = value_of_bits (take 64 bits) in let ws = words_of n (drop 64 bits) in let t = (s * MIXER % 2 ^ 64 + b) % 2 ^ 64 in
+      let here : value_of_bits (take 64 (set bits p true)) ≡ b + 2 ^ p =
+      ap value_of_bits (take-set-lt 64 bits p true below)
       ∙ binary_set (take 64 bits) p (omega (arith, below, wide, length-take-le 64 bits (omega (arith, wide)))) (get_or-take 64 bits p false below ∙ off) in
       let same : drop 64 (set bits p true) ≡ drop 64 bits = drop-set-lt 64 bits p true below in
       let digit : p % 64 ≡ p = omega (arith, below) in
@@ -74,14 +74,14 @@ grown s (suc n) bits p wide lt off = elim (cases_lt p 64) [
       ∙ ap (λ e. (mix t ws + 2 ^ p * MIXER ^ e) % 2 ^ 64) (length-words_of n (drop 64 bits) ∙ sym place)
       ∙ ap (λ e. (mix t ws + 2 ^ e * MIXER ^ (suc n - 1 - p / 64)) % 2 ^ 64) (sym digit)
   | inr past ↦
-      let q = p - 64 in let b = binary (take 64 bits) in let t = (s * MIXER % 2 ^ 64 + b) % 2 ^ 64 in
+      let q = p - 64 in let b = value_of_bits (take 64 bits) in let t = (s * MIXER % 2 ^ 64 + b) % 2 ^ 64 in
       let is : 64 + q ≡ p = omega (arith, past) in
       let here : take 64 (set bits p true) ≡ take 64 bits = take-set-le 64 bits p true past in
       let later : drop 64 (set bits p true) ≡ set (drop 64 bits) q true = ap (λ j. drop 64 (set bits j true)) (sym is) ∙ drop-set-add 64 bits q true in
       let bare : get_or (drop 64 bits) q false ≡ false = get_or-drop 64 bits q false ∙ ap (λ j. get_or bits j false) is ∙ off in
       let digit : q % 64 ≡ p % 64 = omega (arith, past) in
       let place : n - 1 - q / 64 ≡ suc n - 1 - p / 64 = omega (arith, past) in
-      ap (λ x. mix ((s * MIXER % 2 ^ 64 + binary x) % 2 ^ 64) (words_of n (drop 64 (set bits p true)))) here
+      ap (λ x. mix ((s * MIXER % 2 ^ 64 + value_of_bits x) % 2 ^ 64) (words_of n (drop 64 (set bits p true)))) here
       ∙ ap (λ x. mix t (words_of n x)) later
       ∙ grown t n (drop 64 bits) q (omega (arith, length-drop 64 bits, wide)) (omega (arith, past, lt)) bare
       ∙ ap (λ e. (mix t (words_of n (drop 64 bits)) + 2 ^ e * MIXER ^ (n - 1 - q / 64)) % 2 ^ 64) digit

@@ -3,7 +3,7 @@ use Rattle.std.specs.Prelude.{◌≡◌, ℕ, ◌*◌, ◌/◌, ◌%◌, ◌^◌
 use Rattle.tt_sgf.specs.declared.bits.Bits.{Bits}
 use Rattle.tt_sgf.specs.declared.bits.TheConstants.{BITS}
 use Rattle.tt_sgf.specs.declared.size.Size.{Size}
-use Rattle.tt_sgf.specs.Words.{bit_in}
+use Rattle.tt_sgf.specs.MachineWords.{bit_in}
 use Rattle.tt_board.specs.Position.{Colouring}
 use Rattle.tt_game.specs.declared.history.bloom_filter.BloomFilter.{BloomFilter}
 use Rattle.tt_game.specs.declared.history.bloom_filter.TheConstants.{LOW, MIXER, FILTER_BITS}

@@ -20,8 +20,8 @@ abbrev pub HasBeen : List Colouring → Colouring → Type 0
 HasBeen history c = Contains history c
 
 -- a play appends the colouring that it makes, and ends the count of passes
-abbrev pub with_play : GameHistory → Colouring → GameHistory
-with_play c next = record { size = c.size; earlier = so_far c; present = next; passes = 0 }
+abbrev pub with_colouring : GameHistory → Colouring → GameHistory
+with_colouring c next = record { size = c.size; earlier = so_far c; present = next; passes = 0 }
 
 -- a pass appends nothing and is counted
 abbrev pub with_pass : GameHistory → GameHistory

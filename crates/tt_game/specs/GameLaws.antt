@@ -13,8 +13,8 @@ use Rattle.tt_game.specs.declared.turns.TheConstants.{MOST_LEGAL}
 use Rattle.tt_game.specs.Turns.{legal_turns, IsRising}
 
 -- not both sides force a win at one state
-abbrev pub OneSideForces : Type 0
-OneSideForces = (f : Frame) (s : State) (m n : ℕ) → Forces f Attacker m s → Forces f Defender n s → ⊥
+abbrev pub AtMostOneSideForces : Type 0
+AtMostOneSideForces = (f : Frame) (s : State) (m n : ℕ) → Forces f Attacker m s → Forces f Defender n s → ⊥
 
 -- a state as the game has them: each colouring has an entry for each point, and the passes are at most two
 pub record IsState (f : Frame) (s : State) : Type 0 where

@@ -13,7 +13,7 @@ use Rattle.tt_game.specs.declared.faults.Refused.{Refused}
 use Rattle.tt_game.specs.declared.faults.Refused.TheVariants.{Illegal, NoMemory}
 use Rattle.tt_game.specs.declared.turns.Turn.{Turn}
 use Rattle.tt_game.specs.declared.turns.Turn.TheVariants.{Play, Pass}
-use Rattle.tt_game.specs.GameHistory.{GameHistory, so_far, with_play, with_pass, new_game_history}
+use Rattle.tt_game.specs.GameHistory.{GameHistory, so_far, with_colouring, with_pass, new_game_history}
 use Rattle.tt_game.specs.History.{repeats}
 
 -- a game: its board's size, the colourings before the present one (oldest first), the present one, who moves, and the
@@ -38,12 +38,12 @@ abbrev pub all_of : GameState → List Colouring
 all_of s = so_far (game_history s)
 
 -- the colouring that a move on p makes
-abbrev pub made_by : GameState → ℕ → Colouring
-made_by s p = play_of s.size s.present s.to_move p
+abbrev pub colouring_after_move : GameState → ℕ → Colouring
+colouring_after_move s p = play_of s.size s.present s.to_move p
 
 -- why a move is refused: a stone is there, or the colouring has been
 abbrev pub move_refusal : GameState → ℕ → Option Why
-move_refusal s p = cond (is_empty (entry_at s.present p)) (cond (repeats (all_of s) (made_by s p)) (Some Repeats) None) (Some Occupied)
+move_refusal s p = cond (is_empty (entry_at s.present p)) (cond (repeats (all_of s) (colouring_after_move s p)) (Some Repeats) None) (Some Occupied)
 
 -- why a turn is refused: two passes ended the game, or the move is refused
 abbrev pub refusal_of : GameState → Turn → Option Why
@@ -53,7 +53,7 @@ refusal_of s (Play p) = cond (s.passes == 2) (Some Over) (move_refusal s p)
 -- the game after a turn
 abbrev pub turned : GameState → Turn → GameState
 turned s Pass = game_at (with_pass (game_history s)) (other s.to_move)
-turned s (Play p) = game_at (with_play (game_history s) (made_by s p)) (other s.to_move)
+turned s (Play p) = game_at (with_colouring (game_history s) (colouring_after_move s p)) (other s.to_move)
 
 -- an error of a push
 abbrev pub IsHalted : GameState → Turn → Refused → Type 0

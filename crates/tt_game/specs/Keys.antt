@@ -16,15 +16,15 @@ use Rattle.tt_game.specs.Game.{State}
 unfoldable pub bits_of : Size → (ℕ → Bool) → List Bool
 bits_of size test = map test (range_with_len 0 (point_count size)) ++ replicate (BITS - point_count size) false
 
--- the number whose binary digits these bits are, the first bit the least digit
-abbrev pub binary : List Bool → ℕ
-binary [] = 0
-binary (b ∷ bs) = cond b 1 0 + 2 * binary bs
+-- the number whose value_of_bits digits these bits are, the first bit the least digit
+abbrev pub value_of_bits : List Bool → ℕ
+value_of_bits [] = 0
+value_of_bits (b ∷ bs) = cond b 1 0 + 2 * value_of_bits bs
 
 -- so many words of 64 bits each
 unfoldable pub words_of : ℕ → List Bool → List ℕ
 words_of zero bits = []
-words_of (suc k) bits = binary (take 64 bits) ∷ words_of k (drop 64 bits)
+words_of (suc k) bits = value_of_bits (take 64 bits) ∷ words_of k (drop 64 bits)
 
 -- six words of 64 bits, on the points of the board that pass the test
 abbrev pub bit_words : Size → (ℕ → Bool) → List ℕ

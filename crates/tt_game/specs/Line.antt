@@ -20,8 +20,8 @@ abbrev pub HasTargets : Frame → Type 0
 HasTargets f = (0 < set.len f.targets) × LiesOn f.size f.targets
 
 -- the play of the side to move on p, an empty point of the region, repeats a colouring of the history
-abbrev pub IsBarred : Frame → State → ℕ → Type 0
-IsBarred f s p = (p < point_count f.size) × (entry_at s.present p ≡ None) × IsTrue (set.contains f.region p) × Contains (history s) (made f s p)
+abbrev pub IsBarredBySuperko : Frame → State → ℕ → Type 0
+IsBarredBySuperko f s p = (p < point_count f.size) × (entry_at s.present p ≡ None) × IsTrue (set.contains f.region p) × Contains (history s) (made f s p)
 
 -- a frame, a state, and the states before the pushes that may be undone, the last one first
 pub record LineWithUndo : Type 0 where
@@ -59,5 +59,5 @@ IsRefused f s t (Illegal why) = IsRefusal f s t why
 IsRefused f s t NoMemory = IsLegal f s t
 
 -- the turn was made, and the state before it may be undone to
-abbrev pub IsPushed : LineWithUndo → LineWithUndo → Turn → Type 0
-IsPushed old new t = new ≡ record { frame = old.frame; state = after old.frame old.state t; before = old.state ∷ old.before }
+abbrev pub IsLineAfterTurn : LineWithUndo → LineWithUndo → Turn → Type 0
+IsLineAfterTurn old new t = new ≡ record { frame = old.frame; state = after old.frame old.state t; before = old.state ∷ old.before }

@@ -10,8 +10,7 @@ use Rattle.tt_board.specs.declared.Colour.{Colour}
 use Rattle.tt_board.specs.declared.Colour.TheVariants.{Black, White}
 use Rattle.tt_board.specs.Position.{Colouring}
 use Rattle.tt_board.specs.Play.{same_colour}
-use Rattle.tt_board.specs.Stones.{Points}
-use Rattle.tt_board.specs.Stones.{any_empty, all_stones_of}
+use Rattle.tt_board.specs.Stones.{Points, any_empty, all_stones_of}
 use Rattle.tt_game.specs.declared.faults.GameFault.{GameFault}
 use Rattle.tt_game.specs.declared.faults.GameFault.TheVariants.{BadValue, NoTarget, EmptyTarget, MixedTargets}
 use Rattle.tt_game.specs.declared.frame.Side.{Side}
@@ -57,16 +56,16 @@ problem_on s region targets =
     if nat_eq (set.len targets) 0 then Err NoTarget else (if any_empty targets s.present then Err EmptyTarget else problem_with s region targets (common_colour targets s.present))
 
 -- the sets of TR and SQ: bad ones first, then an empty target, then stones of both colours
-abbrev pub problem_at : GameState → Option Points → Option Points → Result LineWithUndo GameFault
-problem_at s None region = Err BadValue
-problem_at s (Some targets) None = Err BadValue
-problem_at s (Some targets) (Some region) = problem_on s region targets
+abbrev pub problem_of_sets : GameState → Option Points → Option Points → Result LineWithUndo GameFault
+problem_of_sets s None region = Err BadValue
+problem_of_sets s (Some targets) None = Err BadValue
+problem_of_sets s (Some targets) (Some region) = problem_on s region targets
 
 -- nodes up to and with the first that has TR
 unfoldable pub run_to_mark : GameSoFar → List Node → Result LineWithUndo GameFault
 run_to_mark r [] = Err NoTarget
 run_to_mark r (n ∷ ns) = and_then (step_node r n)
-    (λ q. cond (has TR n) (problem_at q.game (set_named q.game.size TR n) (region_of q.game.size n)) (run_to_mark q ns))
+    (λ q. cond (has TR n) (problem_of_sets q.game (set_named q.game.size TR n) (region_of q.game.size n)) (run_to_mark q ns))
 
 -- what problem a main line is
 unfoldable pub problem_of : List Node → Result LineWithUndo GameFault

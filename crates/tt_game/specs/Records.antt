@@ -19,7 +19,7 @@ use Rattle.tt_board.specs.Score.{score_of}
 use Rattle.tt_game.specs.declared.faults.Why.{Why}
 use Rattle.tt_game.specs.declared.faults.Why.TheVariants.{Over, Occupied, Outside, Repeats}
 use Rattle.tt_game.specs.declared.faults.GameFault.{GameFault}
-use Rattle.tt_game.specs.declared.faults.GameFault.TheVariants.{NotGo, BadSize, BadValue, PointTwice, MixedNode, LifelessStone, OccupiedPoint, RepeatedBoard, AfterEnd, TooManyTurns, NoMemory}
+use Rattle.tt_game.specs.declared.faults.GameFault.TheVariants.{NotGo, BadSize, BadValue, PointTwice, MixedNode, StoneWithoutLiberty, OccupiedPoint, RepeatedBoard, AfterEnd, TooManyTurns, NoMemory}
 use Rattle.tt_game.specs.declared.records.Record.{Record}
 use Rattle.tt_game.specs.declared.records.GameSoFar.{GameSoFar}
 use Rattle.tt_game.specs.declared.records.TheConstants.{MOST_TURNS}
@@ -45,17 +45,17 @@ fault_of Outside = OccupiedPoint
 fault_of Repeats = RepeatedBoard
 
 -- a turn that is refused is the fault, any other is made and counted
-abbrev pub go_on : GameSoFar → Turn → Option Why → Result GameSoFar GameFault
-go_on r t None = Ok (record { game = turned r.game t; turns = r.turns + 1 })
-go_on r t (Some why) = Err (fault_of why)
+abbrev pub turn_or_fault : GameSoFar → Turn → Option Why → Result GameSoFar GameFault
+turn_or_fault r t None = Ok (record { game = turned r.game t; turns = r.turns + 1 })
+turn_or_fault r t (Some why) = Err (fault_of why)
 
 -- a turn of the side to move: after the end no turn, no more than a record has, and a legal one
 abbrev pub replay_with : GameSoFar → Turn → Result GameSoFar GameFault
-replay_with r t = cond (r.game.passes == 2) (Err AfterEnd) (cond (nat_le MOST_TURNS r.turns) (Err TooManyTurns) (go_on r t (refusal_of r.game t)))
+replay_with r t = cond (r.game.passes == 2) (Err AfterEnd) (cond (nat_le MOST_TURNS r.turns) (Err TooManyTurns) (turn_or_fault r t (refusal_of r.game t)))
 
 -- a turn of a colour; where the other is to move it passes first
-abbrev pub turn_by : GameSoFar → Colour → Turn → Result GameSoFar GameFault
-turn_by r k t = cond (same_colour r.game.to_move k) (replay_with r t) (and_then (replay_with r Pass) (λ q. replay_with q t))
+abbrev pub replay_turn_by : GameSoFar → Colour → Turn → Result GameSoFar GameFault
+replay_turn_by r k t = cond (same_colour r.game.to_move k) (replay_with r t) (and_then (replay_with r Pass) (λ q. replay_with q t))
 
 -- a point as a play on it, a pass as a pass
 abbrev pub as_turn : PointOrPass → Turn
@@ -65,28 +65,28 @@ as_turn NoPoint = Pass
 -- a turn of a colour, by the point or pass that its value is; a value that is neither is refused
 abbrev pub turn_named : GameSoFar → Colour → Option PointOrPass → Result GameSoFar GameFault
 turn_named r k None = Err BadValue
-turn_named r k (Some v) = turn_by r k (as_turn v)
+turn_named r k (Some v) = replay_turn_by r k (as_turn v)
 
 -- the move of a node, where it has one
-abbrev pub move_of : GameSoFar → List (List ℕ) → List (List ℕ) → Result GameSoFar GameFault
-move_of r (v ∷ vs) ws = turn_named r Black (point_of r.game.size (trimmed v))
-move_of r [] (w ∷ ws) = turn_named r White (point_of r.game.size (trimmed w))
-move_of r [] [] = Ok r
+abbrev pub game_after_move : GameSoFar → List (List ℕ) → List (List ℕ) → Result GameSoFar GameFault
+game_after_move r (v ∷ vs) ws = turn_named r Black (point_of r.game.size (trimmed v))
+game_after_move r [] (w ∷ ws) = turn_named r White (point_of r.game.size (trimmed w))
+game_after_move r [] [] = Ok r
 
 -- ---- setup
 
 -- each stone below a bound reaches empty
-unfoldable pub alive_below : Size → Colouring → ℕ → Bool
-alive_below size c zero = true
-alive_below size c (suc n) = (is_empty (entry_at c n) || reaches size c n None) && alive_below size c n
+unfoldable pub have_liberties_below : Size → Colouring → ℕ → Bool
+have_liberties_below size c zero = true
+have_liberties_below size c (suc n) = (is_empty (entry_at c n) || reaches size c n None) && have_liberties_below size c n
 
 -- each stone of the board reaches empty
-abbrev pub all_alive : Size → Colouring → Bool
-all_alive size c = alive_below size c (point_count size)
+abbrev pub all_have_liberties : Size → Colouring → Bool
+all_have_liberties size c = have_liberties_below size c (point_count size)
 
 -- the colouring that a setup makes is the whole history; the count of turns goes on
 abbrev pub begun : GameSoFar → Colouring → Colour → Result GameSoFar GameFault
-begun r c k = cond (all_alive r.game.size c) (Ok (record { game = begun_with r.game.size c k; turns = r.turns })) (Err LifelessStone)
+begun r c k = cond (all_have_liberties r.game.size c) (Ok (record { game = begun_with r.game.size c k; turns = r.turns })) (Err StoneWithoutLiberty)
 
 -- the sets of AB, AW and AE, put over the present colouring, and the colour of PL
 abbrev pub set_up_by : GameSoFar → Option Points → Option Points → Option Points → Option Colour → Result GameSoFar GameFault
@@ -107,7 +107,7 @@ setup_node r n = set_up_by r (set_named r.game.size AB n) (set_named r.game.size
 unfoldable pub step_node : GameSoFar → Node → Result GameSoFar GameFault
 step_node r n =
     cond (is_setup n) (cond (nat_le 1 (moves_in n)) (Err MixedNode) (setup_node r n))
-    (cond (nat_le 2 (moves_in n)) (Err MixedNode) (move_of r (values_of B n.properties) (values_of W n.properties)))
+    (cond (nat_le 2 (moves_in n)) (Err MixedNode) (game_after_move r (values_of B n.properties) (values_of W n.properties)))
 
 -- the empty board of this size, and no turn played; without a size a fault
 abbrev pub begin_at : Option Size → Result GameSoFar GameFault
@@ -143,9 +143,9 @@ abbrev pub IsStopped : {A : Type 0} → GameFault → Result A GameFault → Typ
 IsStopped e want = (e ≡ NoMemory → ⊥) → want ≡ Err e
 
 -- a function returned what is wanted, or its error; but for want of memory
-abbrev pub Returns : {A : Type 0} → Result A GameFault → Result A GameFault → Type 0
-Returns result want = MatchResult result (λ x. want ≡ Ok x) (λ e. IsStopped e want)
+abbrev pub ReturnsUnlessNoMemory : {A : Type 0} → Result A GameFault → Result A GameFault → Type 0
+ReturnsUnlessNoMemory result want = MatchResult result (λ x. want ≡ Ok x) (λ e. IsStopped e want)
 
 -- a function changed its value to what is wanted, or returned the error; but for want of memory
-abbrev pub Becomes : {A B : Type 0} → Result B GameFault → A → Result A GameFault → Type 0
-Becomes result new want = MatchResult result (λ _. want ≡ Ok new) (λ e. IsStopped e want)
+abbrev pub UpdatesUnlessNoMemory : {A B : Type 0} → Result B GameFault → A → Result A GameFault → Type 0
+UpdatesUnlessNoMemory result new want = MatchResult result (λ _. want ≡ Ok new) (λ e. IsStopped e want)

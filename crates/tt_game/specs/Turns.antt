@@ -17,8 +17,8 @@ IsOnBoard size Pass = Unit {0}
 IsOnBoard size (Play p) = p < point_count size
 
 -- the turn is a pass or names a point of the board
-abbrev pub OnBoard : Frame → Turn → Type 0
-OnBoard f t = IsOnBoard f.size t
+abbrev pub IsTurnOnBoard : Frame → Turn → Type 0
+IsTurnOnBoard f t = IsOnBoard f.size t
 
 -- a turn's number on a board of this size: that of its point; the pass comes last
 abbrev pub number_on : Size → Turn → ℕ

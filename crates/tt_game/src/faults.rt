@@ -38,7 +38,7 @@ pub enum GameFault {
     /// A setup stands beside a move, or a node has two moves.
     MixedNode,
     /// A setup leaves a stone that doesn't reach an empty point.
-    LifelessStone,
+    StoneWithoutLiberty,
     /// A move on an occupied point.
     OccupiedPoint,
     /// A move whose colouring has been before.
@@ -70,7 +70,7 @@ impl GameFault {
             GameFault::BadValue => 12,
             GameFault::PointTwice => 13,
             GameFault::MixedNode => 14,
-            GameFault::LifelessStone => 15,
+            GameFault::StoneWithoutLiberty => 15,
             GameFault::OccupiedPoint => 16,
             GameFault::RepeatedBoard => 17,
             GameFault::AfterEnd => 18,

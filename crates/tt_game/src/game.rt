@@ -77,7 +77,7 @@ impl Model for Game {
 impl Game {
     ghost use Rattle.std.specs.FinSet as set;
     ghost use Rattle.tt_board.specs.Reach.{entry_at};
-    ghost use Rattle.tt_game.specs.Games.{GameState, IsHalted, made_by, all_of, move_refusal, refusal_of, turned, empty_game, begun_with};
+    ghost use Rattle.tt_game.specs.Games.{GameState, IsHalted, colouring_after_move, all_of, move_refusal, refusal_of, turned, empty_game, begun_with};
     ghost use Rattle.tt_game.specs.Turns.{IsOnBoard};
     ghost use Rattle.tt_game.specs.History.{repeats};
     ghost use Rattle.tt_board.specs.Stones.{LiesOn};
@@ -144,7 +144,7 @@ impl Game {
     fn made(&self, p: Point) -> Result<Board, Why>
         requires { p < point_count self.now.size }
         ensures { MatchResult result
-            (λ b. (move_refusal self.now p ≡ None) × (b ≡ record { size = self.now.size; points = made_by self.now p }))
+            (λ b. (move_refusal self.now p ≡ None) × (b ≡ record { size = self.now.size; points = colouring_after_move self.now p }))
             (λ why. move_refusal self.now p ≡ Some why) }
     {
         let next = match self.present().play(self.to_move, p) {

@@ -92,7 +92,7 @@ fn write(boards: &mut Vec<Board>, count: usize, next: &CountedBoard) -> Result<(
 }
 
 impl History {
-    ghost use Rattle.tt_game.specs.GameHistory.{GameHistory, so_far, with_play, with_pass, new_game_history};
+    ghost use Rattle.tt_game.specs.GameHistory.{GameHistory, so_far, with_colouring, with_pass, new_game_history};
     ghost use Rattle.tt_game.specs.inside.Undoing.{without_play, without_pass};
 
     /// The history of this board alone.
@@ -158,7 +158,7 @@ impl History {
     }
 
     /// Whether a stone of this colour stood on `p` on some board behind the first `from`.
-    pub(crate) fn has_stood(&self, from: usize, colour: Colour, p: Point) -> bool
+    pub(crate) fn stone_has_stood(&self, from: usize, colour: Colour, p: Point) -> bool
         requires on_board { p < point_count self.now.size }
         requires within { from ≤ length (so_far self.now) }
         ensures { (c : Colouring) → HasBeen (drop from (so_far self.now)) c → entry_at c p ≡ Some colour → IsTrue result }
@@ -187,7 +187,7 @@ impl History {
     /// Adds the board that a play made; without memory it is as it was.
     pub(crate) fn push(&mut self, next: Board) -> Result<(), NoMemory>
         requires { next.size ≡ self.old.size }
-        ensures ok { OnOk result (self.new ≡ with_play self.old next.points) }
+        ensures ok { OnOk result (self.new ≡ with_colouring self.old next.points) }
         ensures err { OnErr result (self.new ≡ self.old) }
     {
         self.boards.truncate(self.count);
@@ -201,7 +201,7 @@ impl History {
     /// the history is as it was.
     pub(crate) fn push_counted(&mut self, next: &CountedBoard) -> Result<(), NoMemory>
         requires { next.now.size ≡ self.old.size }
-        ensures ok { OnOk result (self.new ≡ with_play self.old next.now.points) }
+        ensures ok { OnOk result (self.new ≡ with_colouring self.old next.now.points) }
         ensures err { OnErr result (self.new ≡ self.old) }
     {
         write(&mut self.boards, self.count, next)?;

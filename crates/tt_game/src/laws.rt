@@ -1,12 +1,12 @@
 //! Laws of the definitions: each stands as the contract of a function without parameters.
 
-ghost use Rattle.tt_game.specs.GameLaws.{OneSideForces, SomeSideForces, ValuesAreForced, TurnsKeepStates, LegalTurnsListed, ProblemsOpen, ProblemsAreStates};
+ghost use Rattle.tt_game.specs.GameLaws.{AtMostOneSideForces, SomeSideForces, ValuesAreForced, TurnsKeepStates, LegalTurnsListed, ProblemsOpen, ProblemsAreStates};
 ghost use Rattle.tt_game.specs.Keys.{KeysTell};
 ghost use Rattle.tt_game.specs.RecordLaws.{RecordsAreGames, ProblemsAreGames, SetupsBeginHistories, LeastNodesRefuse, ProblemsAreRecords, UnmarkedAreNoProblems, SuperkoDecides};
 
 /// Not both sides force a win at one state.
 pub fn one_side_forces()
-    ensures { OneSideForces }
+    ensures { AtMostOneSideForces }
 {}
 
 /// At a state whose colourings fit the board, with two passes at most, one side forces a win, within twice as many turns as there
@@ -37,7 +37,7 @@ pub fn keys()
 {}
 
 /// Nobody has won at a problem.
-pub fn problems()
+pub fn problems_are_open()
     ensures { ProblemsOpen }
 {}
 

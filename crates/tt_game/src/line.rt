@@ -67,13 +67,13 @@ impl Model for Line {
 impl Line {
     ghost use Rattle.std.specs.Prelude.{Some, None, Err, Ok, [], MatchResult, EachIndex};
     ghost use Rattle.tt_game.specs.Game.{history, winner_of, side_colour, made, IsLegal, after};
-    ghost use Rattle.tt_game.specs.Line.{IsBarred};
+    ghost use Rattle.tt_game.specs.Line.{IsBarredBySuperko};
     ghost use Rattle.tt_board.specs.Reach.{entry_at};
     ghost use Rattle.std.specs.Prelude.{OnOk, OnErr, IfErr, IfOk};
-    ghost use Rattle.tt_game.specs.Line.{HasTargets, HasBoard, IsRefusal, IsRefused, IsPushed};
+    ghost use Rattle.tt_game.specs.Line.{HasTargets, HasBoard, IsRefusal, IsRefused, IsLineAfterTurn};
     ghost use Rattle.tt_game.specs.inside.Roots.{BoardsBegin};
     ghost use Rattle.tt_game.specs.inside.Undoing.{IsMoved, state_at, board_on};
-    ghost use Rattle.tt_game.specs.Turns.{OnBoard};
+    ghost use Rattle.tt_game.specs.Turns.{IsTurnOnBoard};
     ghost use Rattle.tt_game.specs.MoveGenerators.{HaveStood};
     ghost use Rattle.tt_game.specs.declared.turns.Turn.{Turn};
 
@@ -178,14 +178,14 @@ impl Line {
     }
 
     /// Whether a stone of this colour stood on `p` on some board so far.
-    fn has_stood(&self, colour: Colour, p: Point) -> bool
+    fn stone_has_stood(&self, colour: Colour, p: Point) -> bool
         requires { p < point_count self.now.frame.size }
         ensures { (c : Colouring) → HasBeen (history self.now.state) c → entry_at c p ≡ Some colour → IsTrue result }
     {
-        if self.root.has_stood(colour, p) {
+        if self.root.stone_has_stood(colour, p) {
             return true;
         }
-        self.history.has_stood(self.root.count(), colour, p)
+        self.history.stone_has_stood(self.root.count(), colour, p)
     }
 
     /// Whether the region has many points. Nothing goes by it but time.
@@ -218,7 +218,7 @@ impl Line {
         ensures { IsTrue result ↔ HasBeen (history self.now.state) next.now.points }
     {
         let colour = self.mover();
-        if next.has_stone(colour, p) && !self.has_stood(colour, p) {
+        if next.has_stone(colour, p) && !self.stone_has_stood(colour, p) {
             return false;
         }
         self.is_among(next)
@@ -268,7 +268,7 @@ impl Line {
         if self.root.has_hash(filter_index_with_stone(sum, colour, p)) {
             return false;
         }
-        !self.history.has_stood(self.root.count(), colour, p)
+        !self.history.stone_has_stood(self.root.count(), colour, p)
     }
 
     /// Why a play of the side to move is refused, or none where it is legal.
@@ -292,8 +292,8 @@ impl Line {
     /// The board that a play of the side to move on an empty point of the region makes, where the line's history has its
     /// colouring; none where the history hasn't, and for any other point. It takes no memory.
     pub fn repeated(&self, p: Point) -> Option<Board>
-        ensures { MatchOption result (IsBarred self.now.frame self.now.state p → ⊥)
-            (λ b. IsBarred self.now.frame self.now.state p × (b ≡ record { size = self.now.frame.size; points = made self.now.frame self.now.state p })) }
+        ensures { MatchOption result (IsBarredBySuperko self.now.frame self.now.state p → ⊥)
+            (λ b. IsBarredBySuperko self.now.frame self.now.state p × (b ≡ record { size = self.now.frame.size; points = made self.now.frame self.now.state p })) }
     {
         if !self.frame.size.holds(p)
             || !self.frame.region.has(p)
@@ -311,7 +311,7 @@ impl Line {
     /// Why a turn is refused, or none where it is legal: `Over` exactly where somebody has won. A play is
     /// on a point of the board.
     pub fn refusal(&self, t: Turn) -> Option<Why>
-        requires { OnBoard self.now.frame t }
+        requires { IsTurnOnBoard self.now.frame t }
         ensures { MatchOption result (IsLegal self.now.frame self.now.state t)
             (IsRefusal self.now.frame self.now.state t) }
     {
@@ -327,7 +327,7 @@ impl Line {
     /// Adds a pass; the line is unchanged where memory is refused.
     fn push_pass(&mut self) -> Result<(), NoMemory>
         requires { winner_of self.old.frame self.old.state ≡ None }
-        ensures ok { OnOk result (IsPushed self.old self.new Turn.Pass) }
+        ensures ok { OnOk result (IsLineAfterTurn self.old self.new Turn.Pass) }
         ensures err { OnErr result (self.new ≡ self.old) }
     {
         self.pushes.push(Undo::UndoPass)?;
@@ -362,7 +362,7 @@ impl Line {
     fn push_play(&mut self, p: Point) -> Result<(), Refused>
         requires on_board { p < point_count self.old.frame.size }
         requires open { winner_of self.old.frame self.old.state ≡ None }
-        ensures ok { OnOk result (IsLegal self.old.frame self.old.state (Turn.Play p) × IsPushed self.old self.new (Turn.Play p)) }
+        ensures ok { OnOk result (IsLegal self.old.frame self.old.state (Turn.Play p) × IsLineAfterTurn self.old self.new (Turn.Play p)) }
         ensures err { OnErr result (self.new ≡ self.old) }
         ensures why { IfErr result (λ e. IsRefused self.old.frame self.old.state (Turn.Play p) e) }
     {
@@ -378,8 +378,8 @@ impl Line {
     /// Makes a turn: a pass, or a play on a point of the board. `Illegal` where the turn isn't legal, `NoMemory` where
     /// memory was refused; the line is then as it was.
     pub fn push(&mut self, t: Turn) -> Result<(), Refused>
-        requires { OnBoard self.old.frame t }
-        ensures ok { OnOk result (IsLegal self.old.frame self.old.state t × IsPushed self.old self.new t) }
+        requires { IsTurnOnBoard self.old.frame t }
+        ensures ok { OnOk result (IsLegal self.old.frame self.old.state t × IsLineAfterTurn self.old self.new t) }
         ensures err { OnErr result (self.new ≡ self.old) }
         ensures why { IfErr result (λ e. IsRefused self.old.frame self.old.state t e) }
     {
@@ -401,7 +401,7 @@ impl Line {
     /// it was.
     pub fn push_legal(&mut self, t: Turn) -> Result<(), NoMemory>
         requires { IsLegal self.old.frame self.old.state t }
-        ensures ok { OnOk result (IsPushed self.old self.new t) }
+        ensures ok { OnOk result (IsLineAfterTurn self.old self.new t) }
         ensures err { OnErr result (self.new ≡ self.old) }
     {
         match t {

@@ -137,7 +137,7 @@ pub(crate) fn has_moves(node: &Node) -> bool
 }
 
 /// Whether the game is Go: GM isn't there, or is 1.
-pub(crate) fn says_go(properties: &[Property]) -> bool
+pub(crate) fn is_go(properties: &[Property]) -> bool
     ensures { result ≡ is_go (values_of GM properties.now) }
 {
     let Some(value) = first_value(properties, b"GM") else {

@@ -3,8 +3,8 @@
 ghost use Rattle.std.specs.Prelude.{◌≡◌, ◌≤◌, IfOk, false, length};
 ghost use Rattle.tt_board.specs.Stones.{LiesOn};
 ghost use Rattle.tt_game.specs.Nodes.{set_named, ReadsSet, TR};
-ghost use Rattle.tt_game.specs.Records.{Returns};
-ghost use Rattle.tt_game.specs.Problems.{nodes_before_solution, game_of, puts_stones, region_of, common_colour, problem_at, run_to_mark, problem_of};
+ghost use Rattle.tt_game.specs.Records.{ReturnsUnlessNoMemory};
+ghost use Rattle.tt_game.specs.Problems.{nodes_before_solution, game_of, puts_stones, region_of, common_colour, problem_of_sets, run_to_mark, problem_of};
 
 use crate::faults::GameFault;
 use crate::game::Game;
@@ -51,7 +51,7 @@ fn common_colour(board: &Board, points: &PointSet) -> Option<Colour>
 
 /// The problem that a game is at a node with TR.
 fn pose(game: Game, node: &Node) -> Result<Line, GameFault>
-    ensures { Returns result (problem_at game (set_named game.size TR node.now) (region_of game.size node.now)) }
+    ensures { ReturnsUnlessNoMemory result (problem_of_sets game (set_named game.size TR node.now) (region_of game.size node.now)) }
 {
     let size = game.size();
     let Ok(targets) = said_targets(node, size) else {
@@ -77,7 +77,7 @@ fn pose(game: Game, node: &Node) -> Result<Line, GameFault>
 
 /// The problem at the first of these nodes with TR.
 fn run_to_mark(replay: GameSoFar, nodes: &[Node]) -> Result<Line, GameFault>
-    ensures { Returns result (run_to_mark replay nodes.now) }
+    ensures { ReturnsUnlessNoMemory result (run_to_mark replay nodes.now) }
 {
     let mut last = replay;
     let mut rest = nodes;
@@ -101,7 +101,7 @@ fn run_to_mark(replay: GameSoFar, nodes: &[Node]) -> Result<Line, GameFault>
 /// both colours; or an allocation was refused.
 #[tactic(auto, unfolding(crate::specs::Problems::problem_of))]
 pub fn problem(alloc: Global, line: &MainLine) -> Result<Line, GameFault>
-    ensures { Returns result (problem_of line.now.nodes) }
+    ensures { ReturnsUnlessNoMemory result (problem_of line.now.nodes) }
 {
     let nodes = line.nodes.as_slice();
     run_to_mark(begin_line(alloc, nodes)?, nodes)
@@ -143,7 +143,7 @@ pub fn nodes_before_solution(nodes: &[Node]) -> usize
 /// Those of `play_record` up to there.
 #[tactic(auto, unfolding(crate::specs::Problems::game_of))]
 pub fn game_before_solution(alloc: Global, line: &MainLine) -> Result<Game, GameFault>
-    ensures { Returns result (game_of line.now.nodes) }
+    ensures { ReturnsUnlessNoMemory result (game_of line.now.nodes) }
 {
     let nodes = line.nodes.as_slice();
     let last = run(

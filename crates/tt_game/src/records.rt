@@ -6,14 +6,13 @@ ghost use Rattle.tt_sgf.specs.Entries.{set_of};
 ghost use Rattle.tt_board.specs.Setup.{placed};
 ghost use Rattle.tt_game.specs.Turns.{IsOnBoard};
 ghost use Rattle.tt_game.specs.Nodes.{values_of, colour_named, AB, AW, AE, PL, B, W};
-ghost use Rattle.tt_game.specs.Records.{Returns, Becomes, fault_of, as_turn, replay_with, turn_by, turn_named, move_of, begun};
+ghost use Rattle.tt_game.specs.Records.{ReturnsUnlessNoMemory, UpdatesUnlessNoMemory, fault_of, as_turn, replay_with, replay_turn_by, turn_named, game_after_move, begun};
 ghost use Rattle.tt_game.specs.Records.{set_up_by, step_node, begin_at, begin_node, begin_line, run_nodes, record_at, record_of};
 
 use crate::faults::{GameFault, Refused, Why};
 use crate::game::Game;
 use crate::nodes::{
-    are_apart, first_value, has_move, has_moves, named_set, next_colour, said_size, says_go,
-    sets_up,
+    are_apart, first_value, has_move, has_moves, is_go, named_set, next_colour, said_size, sets_up,
 };
 use crate::turns::Turn;
 use std::alloc::Global;
@@ -66,7 +65,7 @@ impl GameSoFar {
     /// A turn of the side to move.
     fn turn(&mut self, t: Turn) -> Result<(), GameFault>
         requires { IsOnBoard self.old.game.size t }
-        ensures { Becomes result self.new (replay_with self.old t) }
+        ensures { UpdatesUnlessNoMemory result self.new (replay_with self.old t) }
     {
         if self.game.passes() == 2 {
             return Err(GameFault::AfterEnd);
@@ -85,9 +84,9 @@ impl GameSoFar {
     }
 
     /// A turn of a colour; where the other is to move it passes first.
-    fn turn_by(&mut self, colour: Colour, t: Turn) -> Result<(), GameFault>
+    fn replay_turn_by(&mut self, colour: Colour, t: Turn) -> Result<(), GameFault>
         requires { IsOnBoard self.old.game.size t }
-        ensures { Becomes result self.new (turn_by self.old colour t) }
+        ensures { UpdatesUnlessNoMemory result self.new (replay_turn_by self.old colour t) }
     {
         if self.game.to_move() != colour {
             self.turn(Turn::Pass)?;
@@ -97,17 +96,17 @@ impl GameSoFar {
 
     /// The turn that a value of a colour names.
     fn turn_named(&mut self, colour: Colour, value: &[u8]) -> Result<(), GameFault>
-        ensures { Becomes result self.new (turn_named self.old colour (point_of self.old.game.size (trimmed value.now))) }
+        ensures { UpdatesUnlessNoMemory result self.new (turn_named self.old colour (point_of self.old.game.size (trimmed value.now))) }
     {
         let Some(t) = point(value, self.game.size()) else {
             return Err(GameFault::BadValue);
         };
-        self.turn_by(colour, as_turn(t))
+        self.replay_turn_by(colour, as_turn(t))
     }
 
     /// The move of a node, where it has one.
-    fn move_of(&mut self, properties: &[Property]) -> Result<(), GameFault>
-        ensures { Becomes result self.new (move_of self.old (values_of B properties.now) (values_of W properties.now)) }
+    fn game_after_move(&mut self, properties: &[Property]) -> Result<(), GameFault>
+        ensures { UpdatesUnlessNoMemory result self.new (game_after_move self.old (values_of B properties.now) (values_of W properties.now)) }
     {
         if let Some(value) = first_value(properties, b"B") {
             return self.turn_named(Colour::Black, value);
@@ -127,10 +126,10 @@ impl GameSoFar {
         clear: &PointSet,
         colour: Colour,
     ) -> Result<(), GameFault>
-        ensures { Becomes result self.new (begun self.old (placed self.old.game.size self.old.game.present black.now white.now clear.now) colour) }
+        ensures { UpdatesUnlessNoMemory result self.new (begun self.old (placed self.old.game.size self.old.game.present black.now white.now clear.now) colour) }
     {
         let Ok(board) = self.game.present().set_up(black, white, clear) else {
-            return Err(GameFault::LifelessStone);
+            return Err(GameFault::StoneWithoutLiberty);
         };
         if self.game.begin(board, colour).is_err() {
             return Err(GameFault::NoMemory);
@@ -140,7 +139,7 @@ impl GameSoFar {
 
     /// What a setup node does.
     fn setup_node(&mut self, properties: &[Property]) -> Result<(), GameFault>
-        ensures { Becomes result self.new (set_up_by self.old (set_of self.old.game.size (values_of AB properties.now)) (set_of self.old.game.size (values_of AW properties.now))
+        ensures { UpdatesUnlessNoMemory result self.new (set_up_by self.old (set_of self.old.game.size (values_of AB properties.now)) (set_of self.old.game.size (values_of AW properties.now))
             (set_of self.old.game.size (values_of AE properties.now)) (colour_named (values_of PL properties.now))) }
     {
         let size = self.game.size();
@@ -165,7 +164,7 @@ impl GameSoFar {
     /// What a node does.
     #[tactic(auto, unfolding(crate::specs::Records::step_node))]
     pub(crate) fn step(&mut self, node: &Node) -> Result<(), GameFault>
-        ensures { Becomes result self.new (step_node self.old node.now) }
+        ensures { UpdatesUnlessNoMemory result self.new (step_node self.old node.now) }
     {
         if sets_up(node) {
             if has_move(node) {
@@ -176,12 +175,12 @@ impl GameSoFar {
         if has_moves(node) {
             return Err(GameFault::MixedNode);
         }
-        self.move_of(node.properties.as_slice())
+        self.game_after_move(node.properties.as_slice())
     }
 
     /// Before the first turn on a board of this size.
     fn begin(alloc: Global, size: Size) -> Result<GameSoFar, GameFault>
-        ensures { Returns result (begin_at (Some size)) }
+        ensures { ReturnsUnlessNoMemory result (begin_at (Some size)) }
     {
         match Game::empty(alloc, size) {
             Ok(game) => Ok(GameSoFar { game, turns: 0 }),
@@ -192,9 +191,9 @@ impl GameSoFar {
     /// Before the first node: its game and its size.
     #[tactic(auto, unfolding(crate::specs::Records::begin_node))]
     fn before(alloc: Global, node: &Node) -> Result<GameSoFar, GameFault>
-        ensures { Returns result (begin_node node.now) }
+        ensures { ReturnsUnlessNoMemory result (begin_node node.now) }
     {
-        if !says_go(node.properties.as_slice()) {
+        if !is_go(node.properties.as_slice()) {
             return Err(GameFault::NotGo);
         }
         let Some(size) = said_size(node.properties.as_slice()) else {
@@ -206,7 +205,7 @@ impl GameSoFar {
 
 /// Before the first of these nodes; without a node the board is 19 by 19.
 pub(crate) fn begin_line(alloc: Global, nodes: &[Node]) -> Result<GameSoFar, GameFault>
-    ensures { Returns result (begin_line nodes.now) }
+    ensures { ReturnsUnlessNoMemory result (begin_line nodes.now) }
 {
     if let Some((first, _)) = nodes.split_first() {
         return GameSoFar::before(alloc, first);
@@ -219,7 +218,7 @@ pub(crate) fn begin_line(alloc: Global, nodes: &[Node]) -> Result<GameSoFar, Gam
 
 /// After all nodes.
 pub(crate) fn run(replay: GameSoFar, nodes: &[Node]) -> Result<GameSoFar, GameFault>
-    ensures { Returns result (run_nodes replay nodes.now) }
+    ensures { ReturnsUnlessNoMemory result (run_nodes replay nodes.now) }
 {
     let mut last = replay;
     let mut rest = nodes;
@@ -251,7 +250,7 @@ fn record_at(game: &Game) -> Record
 /// turns; or an allocation was refused.
 #[tactic(auto, unfolding(crate::specs::Records::record_of))]
 pub fn play_record(alloc: Global, line: &MainLine) -> Result<Record, GameFault>
-    ensures { Returns result (record_of line.now.nodes) }
+    ensures { ReturnsUnlessNoMemory result (record_of line.now.nodes) }
 {
     let nodes = line.nodes.as_slice();
     let last = run(begin_line(alloc, nodes)?, nodes)?;

@@ -2,7 +2,7 @@
 use Rattle.std.proofs.Common.{◌≡◌, ◌<◌, ◌&&◌, ◌||◌, ℕ, Bool, true, false, inl, inr, List, sym, ◌∙◌, refl, arith}
 use Rattle.std.proofs.lemmas.Bool.{cases_lt, false≢true}
 use Rattle.tt_sgf.specs.Sizes.{point_count}
-use Rattle.tt_sgf.specs.Words.{bit_in, AreBitsOf, AreCovered}
+use Rattle.tt_sgf.specs.MachineWords.{bit_in, AreBitsOf, AreCovered}
 use Rattle.tt_sgf.specs.declared.bits.Bits.{Bits}
 use Rattle.tt_sgf.specs.declared.bits.TheConstants.{BITS}
 use Rattle.tt_board.specs.declared.Colour.{Colour}

@@ -11,22 +11,22 @@ use Rattle.tt_proof.specs.declared.tree.TheConstants.{MOST_DEPTH}
 use Rattle.tt_game.specs.laws.SideLaws.{words_apart}
 use Rattle.tt_game.specs.Sides.{side_word}
 use Rattle.tt_proof.specs.Strategy.{Strategy}
-use Rattle.tt_proof.specs.CertificateText.{tree_text, side_text, IsCertificate, IsTooDeep}
+use Rattle.tt_proof.specs.CertificateText.{tree_text, side_prefix, IsCertificate, IsTooDeep}
 use Rattle.tt_proof.specs.inside.CertificateReading.{TreeAt, DeepAt, FaultAt}
 use Rattle.tt_proof.specs.CertificateFaults.{IsFault}
 use Rattle.tt_proof.proofs.TextLemmas.{tails, same_tree, not_deep}
 
 module _ (size : Size) (some : 1 ≤ size.columns) where
   -- a text that begins with the words of a side tells the side and what follows
-  pub side_apart : (a b : Side) (r q : List ℕ) → side_text a ++ r ≡ side_text b ++ q → (a ≡ b) × (r ≡ q)
+  pub side_apart : (a b : Side) (r q : List ℕ) → side_prefix a ++ r ≡ side_prefix b ++ q → (a ≡ b) × (r ≡ q)
   side_apart a b r q e =
       let both = words_apart a b (space ∷ r) (space ∷ q) (sym (append_assoc (side_word a) (space ∷ []) r) ∙ e ∙ append_assoc (side_word b) (space ∷ []) q) in
       (both.0, tails both.1)
 
   -- what is said of the rest is said of the whole
-  module _ (bytes rest : List ℕ) (s : Side) (at : bytes ≡ side_text s ++ rest) where
+  module _ (bytes rest : List ℕ) (s : Side) (at : bytes ≡ side_prefix s ++ rest) where
     -- what follows the words of some side in the bytes is the rest
-    rest_of : (side : Side) (q : List ℕ) → bytes ≡ side_text side ++ q → rest ≡ q
+    rest_of : (side : Side) (q : List ℕ) → bytes ≡ side_prefix side ++ q → rest ≡ q
     rest_of side q e = (side_apart s side rest q (sym at ∙ e)).1
 
     -- of a certificate, the rest is the text of its tree
@@ -57,7 +57,7 @@ module _ (size : Size) (some : 1 ≤ size.columns) where
       record {
         in_order = h.in_order;
         shallow = h.shallow;
-        text = at ∙ ap (λ w. side_text s ++ w) (h.text ∙ ap (λ w. tree_text size u ++ w) e ∙ append-nil (tree_text size u));
+        text = at ∙ ap (λ w. side_prefix s ++ w) (h.text ∙ ap (λ w. tree_text size u ++ w) e ∙ append-nil (tree_text size u));
       },
       not_too_deep u y h,
     )
@@ -77,17 +77,17 @@ module _ (size : Size) (some : 1 ≤ size.columns) where
       follows = h.follows;
       in_order = h.in_order;
       ends = h.ends;
-      text = at ∙ ap (λ w. side_text s ++ w) h.text;
+      text = at ∙ ap (λ w. side_prefix s ++ w) h.text;
     }
     cert_fault NoMemory h = tt
 
   -- bytes that begin with the words of no side are no certificate
-  pub no_side : (bytes : List ℕ) → ((y : List ℕ) → bytes ≡ side_text Attacker ++ y → ⊥) →
-      ((y : List ℕ) → bytes ≡ side_text Defender ++ y → ⊥) → IsFault size bytes Syntax
+  pub no_side : (bytes : List ℕ) → ((y : List ℕ) → bytes ≡ side_prefix Attacker ++ y → ⊥) →
+      ((y : List ℕ) → bytes ≡ side_prefix Defender ++ y → ⊥) → IsFault size bytes Syntax
   no_side bytes a d = (λ side u c. no side (tree_text size u) c.text, λ h. no h.side (h.beginning ++ h.follows) h.text)
     where
       -- they don't begin with this side's words
-      no : (side : Side) (y : List ℕ) → bytes ≡ side_text side ++ y → ⊥
+      no : (side : Side) (y : List ℕ) → bytes ≡ side_prefix side ++ y → ⊥
       no Attacker y e = a y e
       no Defender y e = d y e
 

@@ -6,7 +6,7 @@ use Rattle.tt_game.specs.declared.turns.Turn.{Turn}
 use Rattle.tt_proof.specs.declared.tree.Tree.{Tree}
 use Rattle.tt_proof.specs.declared.certificate_read.CertFault.{CertFault}
 use Rattle.tt_proof.specs.declared.certificate_read.CertFault.TheVariants.{Syntax, TooDeep, NoMemory}
-use Rattle.tt_proof.specs.Strategy.{Strategy, Entries, done, none, entry, depth, depth_of_entries, IsOnBoard, IsInOrder, AreInOrder, number_on, strategy_of, entries_of_trees}
+use Rattle.tt_proof.specs.Strategy.{Strategy, Entries, done, none, entry, depth, depth_of_entries, IsOnBoard, IsInOrder, AreInOrder, number_on, strategy_of, entries_of_list}
 use Rattle.tt_proof.specs.CertificateText.{turn_text, tree_text, entries_text, EndsInEntries}
 use Rattle.tt_proof.specs.inside.CertificateReading.{TreeAt, EntriesAt, EntriesDeepAt, FaultAt, EntriesFaultAt}
 use Rattle.tt_proof.proofs.TextLemmas.{heads, tails, same_turn, turn_not_end, same_tree, not_deep}
@@ -30,7 +30,7 @@ walked_fault size d least start now list NoMemory w h = tt
 
 -- where `;` stands at the place that was reached, the entries are those of the list
 pub walked_end : (size : Size) (d least : ℕ) (start now rest : List ℕ) (list : List (Turn × Tree)) → Walked size d start least now list →
-    now ≡ semicolon ∷ rest → EntriesAt size d 0 (entries_of_trees list) start rest
+    now ≡ semicolon ∷ rest → EntriesAt size d 0 (entries_of_list list) start rest
 walked_end size d least start now rest list w e =
     subst (λ es. EntriesAt size d 0 es start rest) (before_none list)
     (w.read none rest (record { in_order = tt; shallow = omega arith; text = e }))

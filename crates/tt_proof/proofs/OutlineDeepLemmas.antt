@@ -5,7 +5,7 @@ use Rattle.tt_game.specs.declared.turns.Turn.{Turn}
 use Rattle.tt_proof.specs.Strategy.{Strategy, done, depth, depth_of_entries, IsOnBoard, number_on}
 use Rattle.tt_proof.specs.CertificateText.{pick_symbol, replies_symbol, turn_text}
 use Rattle.tt_proof.specs.Outlines.{Outline, Branches, ended, picked, replied, part, no_branch, branch, unfolded, entries_with, names_behind}
-use Rattle.tt_proof.specs.Outlines.{name_text, part_symbol, outline_text, branches_text, RefersBack, ReferBack, IsOrderly, AreOrderly, GoesDeep, GoDeep}
+use Rattle.tt_proof.specs.Outlines.{name_text, part_symbol, outline_text, branches_text, RefersBack, BranchesReferBack, IsOrderly, AreOrderly, GoesDeep, GoDeep}
 use Rattle.tt_proof.specs.inside.OutlineReading.{NoDigit, EndsBefore, OutlineAt, BranchesAt, OutlineDeepAt, BranchesDeepAt}
 use Rattle.tt_proof.proofs.TextLemmas.{heads, tails, same_turn, turn_not_end}
 use Rattle.tt_proof.proofs.NameLemmas.{same_number}
@@ -93,7 +93,7 @@ module _ (size : Size) where
     pub branches : Branches
     pub rises : least ≤ number_on size t
     pub inside : OutlineAt size us outline (depth (unfolded us outline)) mid (branches_text size branches ++ y)
-    pub closed : ReferBack (names_behind us outline) branches
+    pub closed : BranchesReferBack (names_behind us outline) branches
     pub orderly : AreOrderly size (number_on size t + 1) branches
     pub deep : d ≡ max (depth (unfolded us outline) + 1) (depth_of_entries (entries_with (names_behind us outline) branches))
 
@@ -156,7 +156,7 @@ module _ (size : Size) where
         let past = g.1.2 in
         omega (arith, low, found, deep, past)
 
-    pub apart_all : (cs bs : Branches) (us : List Strategy) (left least d : ℕ) (y z : List ℕ) → ReferBack us cs → BranchesAt size us least bs d y z → d ≤ left
+    pub apart_all : (cs bs : Branches) (us : List Strategy) (left least d : ℕ) (y z : List ℕ) → BranchesReferBack us cs → BranchesAt size us least bs d y z → d ≤ left
         → GoDeep size us left cs y → ⊥
     apart_all no_branch bs us left least d y z c at low g = g
     apart_all (branch t p cs) bs us zero least d y z c at low g =
@@ -172,7 +172,7 @@ module _ (size : Size) where
         let deep = w.deep in
         apart_all cs w.branches (names_behind us p) (suc left) (number_on size t + 1)
         (depth_of_entries (entries_with (names_behind us w.outline) w.branches)) g.0 z c.1 (record {
-          closed = subst (λ q. ReferBack (names_behind us q) w.branches) (sym same.0) w.closed;
+          closed = subst (λ q. BranchesReferBack (names_behind us q) w.branches) (sym same.0) w.closed;
           orderly = w.orderly;
           deep = ap (λ q. depth_of_entries (entries_with (names_behind us q) w.branches)) same.0;
           text = same.1;
@@ -276,7 +276,7 @@ module _ (size : Size) where
       turn_is : (v : Turn) (y : List ℕ) → now ≡ turn_text size v ++ y → (t ≡ v) × (mid ≡ y)
       turn_is v y g = let h = sym e ∙ g in (same_turn size size.columns_in.0 t v (heads h) (heads (tails h)), tails (tails h))
 
-      pass : (l : ℕ) (cs : Branches) → ReferBack us cs → AreOrderly size least cs → GoDeep size us l cs now → DeepBehind us l least t mid
+      pass : (l : ℕ) (cs : Branches) → BranchesReferBack us cs → AreOrderly size least cs → GoDeep size us l cs now → DeepBehind us l least t mid
       pass l no_branch c q g = absurd g
       pass zero (branch v p cs) c q g =
           record { rises = subst (λ x. least ≤ number_on size x) (sym (turn_is v g.0 g.1).0) q.0; more = λ m h. absurd (no_more m h) }

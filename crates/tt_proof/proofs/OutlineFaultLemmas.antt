@@ -10,7 +10,7 @@ use Rattle.tt_proof.specs.declared.outlines.Outline as form
 use Rattle.tt_proof.specs.declared.certificate_read.CertFault.{CertFault}
 use Rattle.tt_proof.specs.declared.certificate_read.CertFault.TheVariants.{Syntax, TooDeep, NoMemory}
 use Rattle.tt_proof.specs.Strategy.{Strategy, done, depth, IsOnBoard, number_on}
-use Rattle.tt_proof.specs.CertificateText.{won_symbol, pick_symbol, replies_symbol, turn_text, side_text}
+use Rattle.tt_proof.specs.CertificateText.{won_symbol, pick_symbol, replies_symbol, turn_text, side_prefix}
 use Rattle.tt_proof.specs.CertificateFaults.{IsSharedFault}
 use Rattle.tt_proof.specs.Outlines.{Outline, Branches, ended, picked, replied, part, no_branch, branch, unfolded}
 use Rattle.tt_proof.specs.Outlines.{name_symbol, name_text, part_symbol, names_behind, outline_text, branches_text, RefersBack, IsOrderly, AreOrderly, GoesDeep, GoDeep, IsSharedTooDeep}
@@ -275,8 +275,8 @@ module _ (size : Size) where
 
   -- ---- the whole
 
-  module _ (bytes rest : List ℕ) (s : Side) (most_depth : ℕ) (text : bytes ≡ side_text s ++ rest) where
-    rest_is : (side : Side) (o : Outline) → bytes ≡ side_text side ++ outline_text size o → rest ≡ outline_text size o ++ []
+  module _ (bytes rest : List ℕ) (s : Side) (most_depth : ℕ) (text : bytes ≡ side_prefix s ++ rest) where
+    rest_is : (side : Side) (o : Outline) → bytes ≡ side_prefix side ++ outline_text size o → rest ≡ outline_text size o ++ []
     rest_is side o e =
         (side_apart size size.columns_in.0 s side rest (outline_text size o) (sym text ∙ e)).1 ∙ sym (append-nil (outline_text size o))
 
@@ -284,7 +284,7 @@ module _ (size : Size) where
     deep_rest w =
         subst (GoesDeep size [] most_depth w.outline) (sym (side_apart size size.columns_in.0 s w.side rest w.behind (sym text ∙ w.text)).1) w.deep
 
-    whole_at : (side : Side) (o : Outline) → RefersBack [] o → IsOrderly size o → bytes ≡ side_text side ++ outline_text size o
+    whole_at : (side : Side) (o : Outline) → RefersBack [] o → IsOrderly size o → bytes ≡ side_prefix side ++ outline_text size o
         → OutlineAt size [] o (depth (unfolded [] o)) rest []
     whole_at side o c q e =
         record { closed = c; orderly = q; deep = refl; text = rest_is side o e; ends = ends_before o [] tt }
@@ -312,10 +312,10 @@ module _ (size : Size) where
     )
 
   -- bytes that begin with the words of no side are no certificate
-  pub no_side : (bytes : List ℕ) (most_depth : ℕ) → ((y : List ℕ) → bytes ≡ side_text Attacker ++ y → ⊥)
-      → ((y : List ℕ) → bytes ≡ side_text Defender ++ y → ⊥) → IsSharedFault size most_depth bytes Syntax
+  pub no_side : (bytes : List ℕ) (most_depth : ℕ) → ((y : List ℕ) → bytes ≡ side_prefix Attacker ++ y → ⊥)
+      → ((y : List ℕ) → bytes ≡ side_prefix Defender ++ y → ⊥) → IsSharedFault size most_depth bytes Syntax
   no_side bytes most_depth a d = (λ side o c q e. no side (outline_text size o) e, λ w. no w.side w.behind w.text)
     where
-      no : (side : Side) (y : List ℕ) → bytes ≡ side_text side ++ y → ⊥
+      no : (side : Side) (y : List ℕ) → bytes ≡ side_prefix side ++ y → ⊥
       no Attacker y e = a y e
       no Defender y e = d y e

@@ -5,9 +5,9 @@ use Rattle.tt_sgf.specs.declared.size.Size.{Size}
 use Rattle.tt_game.specs.declared.turns.Turn.TheVariants.{Play, Pass}
 use Rattle.tt_proof.specs.declared.tree.TheConstants.{MOST_DEPTH}
 use Rattle.tt_proof.specs.Strategy.{Strategy, Entries, done, pick, reply, none, entry, depth, number_on, IsInOrder, AreInOrder}
-use Rattle.tt_proof.specs.CertificateText.{pick_symbol, replies_symbol, turn_text, tree_text, entries_text, side_text}
+use Rattle.tt_proof.specs.CertificateText.{pick_symbol, replies_symbol, turn_text, tree_text, entries_text, side_prefix}
 use Rattle.tt_proof.specs.Outlines.{Outline, Branches, ended, picked, replied, part, no_branch, branch, unfolded}
-use Rattle.tt_proof.specs.Outlines.{entries_with, names_behind, names_behind_all, RefersBack, ReferBack, IsOrderly, AreOrderly, outline_text, branches_text}
+use Rattle.tt_proof.specs.Outlines.{entries_with, names_behind, names_behind_all, RefersBack, BranchesReferBack, IsOrderly, AreOrderly, outline_text, branches_text}
 use Rattle.tt_proof.specs.inside.OutlineReading.{NoDigit, EndsBefore}
 use Rattle.tt_proof.specs.OutlineLaws.{OneSharedCertificate, CertificatesAreShared}
 use Rattle.tt_game.specs.Game.{State, after}
@@ -17,7 +17,7 @@ use Rattle.tt_game.specs.declared.turns.Turn.{Turn}
 use Rattle.tt_proof.specs.declared.position_footprint.PositionFootprint.{PositionFootprint}
 use Rattle.tt_proof.specs.declared.outline_replay.ReplayResult.{ReplayResult}
 use Rattle.tt_proof.specs.declared.outline_replay.ReplayResult.TheVariants.{Won, Lost, Unfit}
-use Rattle.tt_proof.specs.SharedParts.{NamedFootprints, RestsBeforePick, RestsBeforeReply, IsBoth, IsFoundBefore, IsFoundOfEnd, IsFoundOfReply, FindsOutline, FindsBranches, SharedPartsSay, answer_of}
+use Rattle.tt_proof.specs.SharedParts.{NamedFootprints, RestsBeforePick, RestsBeforeReply, CombinesTo, IsResultBeforeTurn, IsResultOfEnd, IsResultOfReply, FindsOutline, FindsBranches, SharedPartsSay, answer_of}
 use Rattle.tt_proof.specs.inside.OutlineReplaying.{FindsPick, FindsReply, FindsBranch}
 use Rattle.tt_proof.proofs.TextLemmas.{heads, tails, same_turn, turn_not_end}
 use Rattle.tt_proof.proofs.CertificateLemmas.{side_apart}
@@ -90,7 +90,7 @@ module _ (size : Size) (some : 1 ≤ size.columns) where
         let r = same_number k m y z (omega (arith, c.1)) (omega (arith, d.1)) ny nz (tails e) in (ap part r.0, r.1)
 
     -- so it does with branches
-    same_branches : (bs cs : Branches) (us vs : List Strategy) (y z : List ℕ) → ReferBack us bs → ReferBack vs cs
+    same_branches : (bs cs : Branches) (us vs : List Strategy) (y z : List ℕ) → BranchesReferBack us bs → BranchesReferBack vs cs
         → branches_text size bs ++ y ≡ branches_text size cs ++ z → (bs ≡ cs) × (y ≡ z)
     same_branches no_branch no_branch us vs y z c d e = (refl, tails e)
     same_branches no_branch (branch s p cs) us vs y z c d e = absurd (turn_not_end size some s (sym (heads e)))
@@ -132,7 +132,7 @@ record ArePlain (size : Size) (us : List Strategy) (es : Entries) (bs : Branches
   trees : entries_with us bs ≡ es
   names : names_behind_all us bs ≡ us
   text : branches_text size bs ≡ entries_text size es
-  closed : ReferBack us bs
+  closed : BranchesReferBack us bs
 
 mutual
   plain_is : (size : Size) (us : List Strategy) (u : Strategy) → IsPlain size us u (plain u)
@@ -155,7 +155,7 @@ mutual
             ∙ ap (λ vs. entry t u (entries_with vs (plain_all es))) h.names ∙ ap (λ x. entry t u x) g.trees;
         names = ap (λ vs. names_behind_all vs (plain_all es)) h.names ∙ g.names;
         text = ap (λ w. turn_text size t ++ (w ++ branches_text size (plain_all es))) h.text ∙ ap (λ w. turn_text size t ++ (tree_text size u ++ w)) g.text;
-        closed = (h.closed, subst (λ vs. ReferBack vs (plain_all es)) (sym h.names) g.closed);
+        closed = (h.closed, subst (λ vs. BranchesReferBack vs (plain_all es)) (sym h.names) g.closed);
       }
 
 mutual
@@ -175,7 +175,7 @@ IsFit (Won x) = Unit {0}
 IsFit Lost = Unit {0}
 IsFit Unfit = ⊥
 
-both_fit : (a b r : ReplayResult) → IsFit a → IsFit b → IsBoth a b r → IsFit r
+both_fit : (a b r : ReplayResult) → IsFit a → IsFit b → CombinesTo a b r → IsFit r
 both_fit Unfit b r h k e = absurd h
 both_fit Lost Unfit r h k e = absurd k
 both_fit Lost Lost r h k e = subst IsFit (sym e) tt
@@ -184,18 +184,18 @@ both_fit (Won x) Unfit r h k e = absurd k
 both_fit (Won x) Lost r h k e = subst IsFit (sym e) tt
 both_fit (Won x) (Won y) r h k e = subst IsFit (sym e.1.0) tt
 
-before_fit : (Rests : PositionFootprint → PositionFootprint → Type 0) (q r : ReplayResult) → IsFit q → IsFoundBefore Rests q r → IsFit r
+before_fit : (Rests : PositionFootprint → PositionFootprint → Type 0) (q r : ReplayResult) → IsFit q → IsResultBeforeTurn Rests q r → IsFit r
 before_fit Rests (Won x) r h e = subst IsFit (sym e.1.0) tt
 before_fit Rests Lost r h e = subst IsFit (sym e) tt
 before_fit Rests Unfit r h e = absurd h
 
 module _ (side : Side) (f : Frame) where
-  end_fit : (s : State) (r : ReplayResult) → IsFoundOfEnd side f s r → IsFit r
+  end_fit : (s : State) (r : ReplayResult) → IsResultOfEnd side f s r → IsFit r
   end_fit s (Won x) e = tt
   end_fit s Lost e = tt
   end_fit s Unfit e = e
 
-  reply_fit : (s : State) (bs : Branches) (q r : ReplayResult) → IsFit q → IsFoundOfReply f s bs q r → IsFit r
+  reply_fit : (s : State) (bs : Branches) (q r : ReplayResult) → IsFit q → IsResultOfReply f s bs q r → IsFit r
   reply_fit s bs (Won x) (Won y) h e = tt
   reply_fit s bs (Won x) Lost h e = tt
   reply_fit s bs (Won x) Unfit h e = e
@@ -247,7 +247,7 @@ certificates_shared size bytes s u c =
           closed = h.closed;
           orderly = plain_orderly size u c.in_order;
           shallow = subst (λ x. depth x ≤ MOST_DEPTH) (sym h.tree) c.shallow;
-          text = c.text ∙ ap (λ w. side_text s ++ w) (sym h.text);
+          text = c.text ∙ ap (λ w. side_prefix s ++ w) (sym h.text);
         },
         h.tree,
         λ side f at. fit_says side f (plain u) at (λ r ms. plain_fit side f u [] at r ms),

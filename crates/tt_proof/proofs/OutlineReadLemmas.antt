@@ -8,9 +8,9 @@ use Rattle.tt_game.specs.declared.turns.Turn.{Turn}
 use Rattle.tt_proof.specs.declared.outlines.Outline as form
 use Rattle.tt_proof.specs.declared.tree.TheConstants.{MOST_DEPTH}
 use Rattle.tt_proof.specs.Strategy.{Strategy, done, depth, depth_of_entries, IsOnBoard, number_on}
-use Rattle.tt_proof.specs.CertificateText.{won_symbol, pick_symbol, replies_symbol, turn_text, side_text}
+use Rattle.tt_proof.specs.CertificateText.{won_symbol, pick_symbol, replies_symbol, turn_text, side_prefix}
 use Rattle.tt_proof.specs.Outlines.{Outline, Branches, ended, picked, replied, part, no_branch, branch, with_name, entries_with, unfolded}
-use Rattle.tt_proof.specs.Outlines.{names_behind, names_behind_all, outline_of, branches_of_list, name_text, part_symbol, outline_text, branches_text, GoDeep, IsSharedCertificate, AreOrderly, ReferBack}
+use Rattle.tt_proof.specs.Outlines.{names_behind, names_behind_all, outline_of, branches_of_list, name_text, part_symbol, outline_text, branches_text, GoDeep, IsSharedCertificate, AreOrderly, BranchesReferBack}
 use Rattle.tt_proof.specs.inside.OutlineReading.{NoDigit, with_depth, OutlineAt, BranchesAt, OutlineDeepAt, BranchesDeepAt, ReadsOutline, ReadsBranches}
 use Rattle.tt_proof.proofs.OutlineLawLemmas.{same_outline}
 use Rattle.tt_proof.proofs.OutlineDeepLemmas.{BranchBehind, branch_behind, deep_behind, apart}
@@ -106,7 +106,7 @@ module _ (size : Size) where
     pub behind : (bs : Branches) → names_behind_all us (before list bs) ≡ names_behind_all names bs
     pub only : (bs : Branches) (d : ℕ) (y : List ℕ) → BranchesAt size us 0 bs d bytes y
         → (bs' : Branches) × ((d' : ℕ) × ((d' ≤ d) × BranchesAt size names least bs' d' now y))
-    pub closes : (bs : Branches) → ReferBack names bs → ReferBack us (before list bs)
+    pub closes : (bs : Branches) → BranchesReferBack names bs → BranchesReferBack us (before list bs)
     pub orders : (bs : Branches) → AreOrderly size least bs → AreOrderly size 0 (before list bs)
     pub stays : (left : ℕ) → most ≤ left → BranchesDeepAt size us left 0 bytes → BranchesDeepAt size names left least now
     pub runs : (left : ℕ) (bs : Branches) → GoDeep size names left bs now → GoDeep size us left (before list bs) bytes
@@ -162,7 +162,7 @@ module _ (size : Size) where
               (
                 omega (arith, low, deep, eq),
                 record {
-                  closed = subst (λ p. ReferBack (names_behind w.names p) g.branches) (sym same.0) g.closed;
+                  closed = subst (λ p. BranchesReferBack (names_behind w.names p) g.branches) (sym same.0) g.closed;
                   orderly = subst (λ x. AreOrderly size (x + 1) g.branches) (sym is) g.orderly;
                   deep = refl;
                   text = same.1;
@@ -225,12 +225,12 @@ module _ (size : Size) where
 
 -- where nothing follows the outline, the bytes are its certificate
 pub shared_read : (size : Size) (bytes rest : List ℕ) (s : Side) (old : List ℕ) (left : ℕ) (new : List ℕ) (o : Outline) (d : ℕ) (y : List ℕ)
-    → bytes ≡ side_text s ++ rest → left ≤ MOST_DEPTH → old ≡ [] → ReadsOutline size left old new o d rest y → y ≡ [] → IsSharedCertificate size bytes s o
+    → bytes ≡ side_prefix s ++ rest → left ≤ MOST_DEPTH → old ≡ [] → ReadsOutline size left old new o d rest y → y ≡ [] → IsSharedCertificate size bytes s o
 shared_read size bytes rest s old left new o d y at room none h e = let k = h.at [] (sym none) in record {
   closed = k.closed;
   orderly = k.orderly;
   shallow = let low = h.shallow in let deep = k.deep in omega (arith, low, deep, room);
-  text = at ∙ ap (λ w. side_text s ++ w) (k.text ∙ ap (λ w. outline_text size o ++ w) e ∙ append-nil (outline_text size o));
+  text = at ∙ ap (λ w. side_prefix s ++ w) (k.text ∙ ap (λ w. outline_text size o ++ w) e ∙ append-nil (outline_text size o));
 }
 
 -- and its tree is no deeper than was allowed

@@ -17,7 +17,7 @@ use Rattle.tt_proof.specs.Footprints.{IsRepeated}
 use Rattle.tt_proof.specs.declared.footprints.Footprint.{Footprint}
 use Rattle.tt_proof.specs.KeptFootprints.{IsFootprint, frame_board}
 use Rattle.tt_proof.specs.inside.Collecting.{IsPassedUp, IsPlayed}
-use Rattle.tt_proof.specs.SharedParts.{HasPosition, Meets, RestsOnPosition, RestsOnRepeats, MakesBoard, RestsOnBoth, IsBoth}
+use Rattle.tt_proof.specs.SharedParts.{HasPosition, Meets, RestsOnPosition, RestsOnRepeats, MakesBoard, RestsOnBoth, CombinesTo}
 use Rattle.tt_proof.specs.SharedParts.{NamedFootprints}
 use Rattle.tt_proof.specs.SharedParts.{FindsBranches}
 use Rattle.tt_proof.specs.inside.OutlineReplaying.{FindsTogether, FindsBranch}
@@ -125,7 +125,7 @@ module _ (f : Frame) (x : PositionFootprint) (s s' : State) (m : Meets f x s) (m
 
 -- ---- two trees together
 
-pub both_found : (a b : ReplayResult) → (r : ReplayResult) × IsBoth a b r
+pub both_found : (a b : ReplayResult) → (r : ReplayResult) × CombinesTo a b r
 both_found Unfit b = (Unfit, refl)
 both_found Lost Unfit = (Unfit, refl)
 both_found Lost Lost = (Lost, refl)
@@ -151,7 +151,7 @@ both_found (Won x) (Won y) = (Won all, (all, (refl, rests)))
     }
 
 -- with one that rests on the position alone it is as without
-pub both_alone : (r : ReplayResult) (e : PositionFootprint) → e.needs ≡ [] → e.avoids ≡ [] → IsBoth r (Won e) r
+pub both_alone : (r : ReplayResult) (e : PositionFootprint) → e.needs ≡ [] → e.avoids ≡ [] → CombinesTo r (Won e) r
 both_alone Unfit e n a = refl
 both_alone Lost e n a = refl
 both_alone (Won x) e n a = (
@@ -209,44 +209,44 @@ rests_regrouped x y z v w j h k g = record {
 }
 
 -- the order of three makes no difference
-pub both_regrouped : (a b c p r : ReplayResult) → IsBoth a b c → IsBoth c p r → (z : ReplayResult) × (IsBoth b p z × IsBoth a z r)
+pub both_regrouped : (a b c p r : ReplayResult) → CombinesTo a b c → CombinesTo c p r → (z : ReplayResult) × (CombinesTo b p z × CombinesTo a z r)
 both_regrouped a b c p r h k = pass a b c p h k
   where
-    with_some : (a' b' p' : ReplayResult) → ((z : ReplayResult) → IsBoth b' p' z → IsBoth a' z r) → (z : ReplayResult) × (IsBoth b' p' z × IsBoth a' z r)
+    with_some : (a' b' p' : ReplayResult) → ((z : ReplayResult) → CombinesTo b' p' z → CombinesTo a' z r) → (z : ReplayResult) × (CombinesTo b' p' z × CombinesTo a' z r)
     with_some a' b' p' g = let z = both_found b' p' in (z.0, (z.1, g z.0 z.1))
 
-    pass : (a' b' c' p' : ReplayResult) → IsBoth a' b' c' → IsBoth c' p' r → (z : ReplayResult) × (IsBoth b' p' z × IsBoth a' z r)
-    pass Unfit b' c' p' e i = with_some Unfit b' p' (λ z m. subst (λ x. IsBoth x p' r) e i)
-    pass Lost Unfit c' p' e i = (Unfit, (refl, subst (λ x. IsBoth x p' r) e i))
-    pass Lost Lost c' Unfit e i = (Unfit, (refl, subst (λ x. IsBoth x Unfit r) e i))
-    pass Lost Lost c' Lost e i = (Lost, (refl, subst (λ x. IsBoth x Lost r) e i))
-    pass Lost Lost c' (Won v) e i = (Lost, (refl, subst (λ x. IsBoth x (Won v) r) e i))
-    pass Lost (Won y) c' Unfit e i = (Unfit, (refl, subst (λ x. IsBoth x Unfit r) e i))
-    pass Lost (Won y) c' Lost e i = (Lost, (refl, subst (λ x. IsBoth x Lost r) e i))
-    pass Lost (Won y) c' (Won v) e i = with_some Lost (Won y) (Won v) (λ z m. subst (λ x. IsBoth Lost x r) (sym m.1.0) (subst (λ x. IsBoth x (Won v) r) e i))
-    pass (Won x) Unfit c' p' e i = (Unfit, (refl, subst (λ z. IsBoth z p' r) e i))
-    pass (Won x) Lost c' Unfit e i = (Unfit, (refl, subst (λ z. IsBoth z Unfit r) e i))
-    pass (Won x) Lost c' Lost e i = (Lost, (refl, subst (λ z. IsBoth z Lost r) e i))
-    pass (Won x) Lost c' (Won v) e i = (Lost, (refl, subst (λ z. IsBoth z (Won v) r) e i))
-    pass (Won x) (Won y) c' Unfit e i = (Unfit, (refl, subst (λ z. IsBoth z Unfit r) e.1.0 i))
-    pass (Won x) (Won y) c' Lost e i = (Lost, (refl, subst (λ z. IsBoth z Lost r) e.1.0 i))
+    pass : (a' b' c' p' : ReplayResult) → CombinesTo a' b' c' → CombinesTo c' p' r → (z : ReplayResult) × (CombinesTo b' p' z × CombinesTo a' z r)
+    pass Unfit b' c' p' e i = with_some Unfit b' p' (λ z m. subst (λ x. CombinesTo x p' r) e i)
+    pass Lost Unfit c' p' e i = (Unfit, (refl, subst (λ x. CombinesTo x p' r) e i))
+    pass Lost Lost c' Unfit e i = (Unfit, (refl, subst (λ x. CombinesTo x Unfit r) e i))
+    pass Lost Lost c' Lost e i = (Lost, (refl, subst (λ x. CombinesTo x Lost r) e i))
+    pass Lost Lost c' (Won v) e i = (Lost, (refl, subst (λ x. CombinesTo x (Won v) r) e i))
+    pass Lost (Won y) c' Unfit e i = (Unfit, (refl, subst (λ x. CombinesTo x Unfit r) e i))
+    pass Lost (Won y) c' Lost e i = (Lost, (refl, subst (λ x. CombinesTo x Lost r) e i))
+    pass Lost (Won y) c' (Won v) e i = with_some Lost (Won y) (Won v) (λ z m. subst (λ x. CombinesTo Lost x r) (sym m.1.0) (subst (λ x. CombinesTo x (Won v) r) e i))
+    pass (Won x) Unfit c' p' e i = (Unfit, (refl, subst (λ z. CombinesTo z p' r) e i))
+    pass (Won x) Lost c' Unfit e i = (Unfit, (refl, subst (λ z. CombinesTo z Unfit r) e i))
+    pass (Won x) Lost c' Lost e i = (Lost, (refl, subst (λ z. CombinesTo z Lost r) e i))
+    pass (Won x) Lost c' (Won v) e i = (Lost, (refl, subst (λ z. CombinesTo z (Won v) r) e i))
+    pass (Won x) (Won y) c' Unfit e i = (Unfit, (refl, subst (λ z. CombinesTo z Unfit r) e.1.0 i))
+    pass (Won x) (Won y) c' Lost e i = (Lost, (refl, subst (λ z. CombinesTo z Lost r) e.1.0 i))
     pass (Won x) (Won y) c' (Won v) e i =
-        let w = subst (λ z. IsBoth z (Won v) r) e.1.0 i in
+        let w = subst (λ z. CombinesTo z (Won v) r) e.1.0 i in
         with_some (Won x) (Won y) (Won v)
-        (λ z m. subst (λ q. IsBoth (Won x) q r) (sym m.1.0) (w.0, (w.1.0, rests_regrouped x y e.0 v w.0 m.0 e.1.1 w.1.1 m.1.1)))
+        (λ z m. subst (λ q. CombinesTo (Won x) q r) (sym m.1.0) (w.0, (w.1.0, rests_regrouped x y e.0 v w.0 m.0 e.1.1 w.1.1 m.1.1)))
 
 -- ---- the walk over all branches
 
 module _ (side : Side) (f : Frame) (s : State) (ns : NamedFootprints) (bs : Branches) where
   -- so far all branches but those that are left were replayed
   abbrev pub Replayed : Branches → NamedFootprints → ReplayResult → Type 0
-  Replayed left ls found = (p r : ReplayResult) (ms : NamedFootprints) → FindsBranches side f ls left s p ms → IsBoth found p r → FindsTogether side f ns bs s r ms
+  Replayed left ls found = (p r : ReplayResult) (ms : NamedFootprints) → FindsBranches side f ls left s p ms → CombinesTo found p r → FindsTogether side f ns bs s r ms
 
   pub replayed_start : (x : PositionFootprint) → RestsOnRepeats f s x → Replayed bs ns (Won x)
   replayed_start x h p r ms k e = (x, (h, (p, (k, e))))
 
   pub replayed_more : (left : Branches) (t : Turn) (o : Outline) (ls ls' : NamedFootprints) (a b c : ReplayResult) → Replayed (branch t o left) ls a
-      → FindsBranch side f ls t o s b ls' → IsBoth a b c → Replayed left ls' c
+      → FindsBranch side f ls t o s b ls' → CombinesTo a b c → Replayed left ls' c
   replayed_more left t o ls ls' a b c h g e p r ms k i =
       let z = both_regrouped a b c p r e i in h z.0 r ms (b, (p, (ls', (g, k, z.1.0)))) z.1.1
 

@@ -9,8 +9,8 @@ use Rattle.tt_proof.specs.declared.position_footprint.PositionFootprint.{Positio
 use Rattle.tt_proof.specs.declared.outline_replay.ReplayResult.{ReplayResult}
 use Rattle.tt_proof.specs.declared.outline_replay.ReplayResult.TheVariants.{Won, Lost, Unfit}
 use Rattle.tt_proof.specs.Outlines.{Outline, Branches, ended, picked, replied, part, no_branch, branch}
-use Rattle.tt_proof.specs.SharedParts.{HasPosition, Meets, RestsOnPosition, RestsOnRepeats, RestsBeforePick, RestsBeforeReply, RestsOnBoth, IsBoth, IsFoundBefore}
-use Rattle.tt_proof.specs.SharedParts.{NamedFootprints, kept_footprint, answer_of, with_named_footprint, unreached, unreached_all, IsFoundOfEnd, IsFoundOfName, IsFoundOfReply, SharedPartsSay}
+use Rattle.tt_proof.specs.SharedParts.{HasPosition, Meets, RestsOnPosition, RestsOnRepeats, RestsBeforePick, RestsBeforeReply, RestsOnBoth, CombinesTo, IsResultBeforeTurn}
+use Rattle.tt_proof.specs.SharedParts.{NamedFootprints, kept_footprint, answer_of, with_named_footprint, unreached, unreached_all, IsResultOfEnd, IsResultOfName, IsResultOfReply, SharedPartsSay}
 use Rattle.tt_proof.specs.SharedParts.{FindsOutline, FindsBranches}
 use Rattle.tt_proof.specs.inside.OutlineReplaying.{FindsPick, FindsReply, FindsTogether, FindsBranch}
 use Rattle.tt_proof.proofs.OutlineReplayLemmas.{iff_chain, some_none}
@@ -118,7 +118,7 @@ turned_basis x y e = record {
 found_as : (a b r q : ReplayResult) → r ≡ a → q ≡ b → SameFound a b → SameFound r q
 found_as a b r q e d h = subst (λ x. SameFound x q) (sym e) (subst (SameFound a) (sym d) h)
 
-both_same : (a b r a' b' r' : ReplayResult) → SameFound a a' → SameFound b b' → IsBoth a b r → IsBoth a' b' r' → SameFound r r'
+both_same : (a b r a' b' r' : ReplayResult) → SameFound a a' → SameFound b b' → CombinesTo a b r → CombinesTo a' b' r' → SameFound r r'
 both_same a b r a' b' r' both_unfit k e d = found_as Unfit Unfit r r' e d both_unfit
 both_same a b r a' b' r' both_lost both_unfit e d = found_as Unfit Unfit r r' e d both_unfit
 both_same a b r a' b' r' both_lost both_lost e d = found_as Lost Lost r r' e d both_lost
@@ -129,7 +129,7 @@ both_same a b r a' b' r' (both_won x v h) (both_won y w k) e d =
     found_as (Won e.0) (Won d.0) r r' e.1.0 d.1.0 (both_won e.0 d.0 (same_both x y e.0 v w d.0 h k e.1.1 d.1.1))
 
 before_same : (Rests : PositionFootprint → PositionFootprint → Type 0) (q p r r' : ReplayResult) → ((x y v w : PositionFootprint) → SameBasis x y → Rests x v → Rests y w → SameBasis v w)
-    → SameFound q p → IsFoundBefore Rests q r → IsFoundBefore Rests p r' → SameFound r r'
+    → SameFound q p → IsResultBeforeTurn Rests q r → IsResultBeforeTurn Rests p r' → SameFound r r'
 before_same Rests q p r r' one (both_won x y h) e d = found_as (Won e.0) (Won d.0) r r' e.1.0 d.1.0 (both_won e.0 d.0 (one x y e.0 d.0 h e.1.1 d.1.1))
 before_same Rests q p r r' one both_lost e d = found_as Lost Lost r r' e d both_lost
 before_same Rests q p r r' one both_unfit e d = found_as Unfit Unfit r r' e d both_unfit
@@ -148,7 +148,7 @@ some_is : (x y : PositionFootprint) → Some x ≡ Some y → x ≡ y
 some_is x y e = cc
 
 module _ (f : Frame) (s : State) where
-  name_same : (n m : Option PositionFootprint) (r q : ReplayResult) → SameName n m → IsFoundOfName f n s r → IsFoundOfName f m s q → SameFound r q
+  name_same : (n m : Option PositionFootprint) (r q : ReplayResult) → SameName n m → IsResultOfName f n s r → IsResultOfName f m s q → SameFound r q
   name_same n m (Won u) (Won v) (kept x y h) a b =
       both_won u v (subst (λ z. SameBasis u z) (some_is y v b.0) (subst (λ z. SameBasis z y) (some_is x u a.0) h))
   name_same n m (Won u) Unfit (kept x y h) a b = absurd (b y refl (same_meets f s x y h (subst (λ z. Meets f z s) (sym (some_is x u a.0)) a.1)))
@@ -160,7 +160,7 @@ module _ (f : Frame) (s : State) where
   name_same n m Lost q h a b = absurd a
   name_same n m r Lost h a b = absurd b
 
-  reply_same : (bs : Branches) (p p' r q : ReplayResult) → SameFound p p' → IsFoundOfReply f s bs p r → IsFoundOfReply f s bs p' q → SameFound r q
+  reply_same : (bs : Branches) (p p' r q : ReplayResult) → SameFound p p' → IsResultOfReply f s bs p r → IsResultOfReply f s bs p' q → SameFound r q
   reply_same bs p p' r q both_lost a b = found_as Lost Lost r q a b both_lost
   reply_same bs p p' r q both_unfit a b = found_as Unfit Unfit r q a b both_unfit
   reply_same bs p p' (Won u) (Won v) (both_won x y h) a b = both_won u v (subst (λ z. SameBasis u z) b.0 (subst (λ z. SameBasis z y) a.0 h))
@@ -170,7 +170,7 @@ module _ (f : Frame) (s : State) where
   reply_same bs p p' Unfit q (both_won x y h) a b = absurd a
   reply_same bs p p' r Unfit (both_won x y h) a b = absurd b
 
-  end_same : (side : Side) (r q : ReplayResult) → IsFoundOfEnd side f s r → IsFoundOfEnd side f s q → SameFound r q
+  end_same : (side : Side) (r q : ReplayResult) → IsResultOfEnd side f s r → IsResultOfEnd side f s q → SameFound r q
   end_same side (Won x) (Won y) a b = both_won x y (same_alone f s x y a.1 b.1)
   end_same side (Won x) Lost a b = absurd (b a.0)
   end_same side Lost (Won y) a b = absurd (a b.0)

@@ -17,8 +17,8 @@ use Rattle.tt_proof.specs.Footprints.{IsRepeated}
 use Rattle.tt_proof.specs.KeptFootprints.{frame_board}
 use Rattle.tt_proof.specs.Wins.{Wins, WinsBehind}
 use Rattle.tt_proof.specs.inside.Replaying.{HasEntry}
-use Rattle.tt_proof.specs.SharedParts.{Meets, RestsOnPosition, RestsOnRepeats, MakesBoard, RestsBeforePick, RestsBeforeReply, RestsOnBoth, IsBoth, IsFoundBefore, HasBranch}
-use Rattle.tt_proof.specs.SharedParts.{NamedFootprints, kept_footprint, answer_of, with_named_footprint, unreached, unreached_all, IsFoundOfEnd, IsFoundOfName, IsFoundOfReply}
+use Rattle.tt_proof.specs.SharedParts.{Meets, RestsOnPosition, RestsOnRepeats, MakesBoard, RestsBeforePick, RestsBeforeReply, RestsOnBoth, CombinesTo, IsResultBeforeTurn, HasBranch}
+use Rattle.tt_proof.specs.SharedParts.{NamedFootprints, kept_footprint, answer_of, with_named_footprint, unreached, unreached_all, IsResultOfEnd, IsResultOfName, IsResultOfReply}
 use Rattle.tt_proof.specs.SharedParts.{FindsOutline, FindsBranches}
 use Rattle.tt_proof.specs.inside.OutlineReplaying.{FindsPick, FindsReply, FindsBranch}
 use Rattle.tt_proof.proofs.FitsLemmas.{Carried, same_made, same_winner, legal_now, legal_before}
@@ -230,7 +230,7 @@ module _ (f : Frame) (s s' : State) (x y z : PositionFootprint) (j : RestsOnBoth
 
 module _ (side : Side) (f : Frame) (s : State) (t : Turn) (u : Strategy) (es : Entries) where
   -- one more branch in front of others
-  sound_more : (q p r : ReplayResult) → IsSoundBehind side f s t u q → AreSound side f s es p → IsBoth q p r → AreSound side f s (entry t u es) r
+  sound_more : (q p r : ReplayResult) → IsSoundBehind side f s t u q → AreSound side f s es p → CombinesTo q p r → AreSound side f s (entry t u es) r
   sound_more Unfit p r g h e = subst (AreSound side f s (entry t u es)) (sym e) tt
   sound_more Lost Unfit r g h e = subst (AreSound side f s (entry t u es)) (sym e) tt
   sound_more Lost Lost r g h e = subst (AreSound side f s (entry t u es)) (sym e) (t, (u, (inl (refl, refl), g.0, g.1)))
@@ -257,7 +257,7 @@ met_repeats f s x h = record {
   avoids = λ b m. absurd (none_held x.avoids b h.avoids m);
 }
 
-sound_together : (side : Side) (f : Frame) (s : State) (es : Entries) (x : PositionFootprint) (q r : ReplayResult) → RestsOnRepeats f s x → AreSound side f s es q → IsBoth (Won x) q r
+sound_together : (side : Side) (f : Frame) (s : State) (es : Entries) (x : PositionFootprint) (q r : ReplayResult) → RestsOnRepeats f s x → AreSound side f s es q → CombinesTo (Won x) q r
     → AreSound side f s es r × KnowRepeats side f s r
 sound_together side f s es x Unfit r a h e = rw e (tt, tt)
 sound_together side f s es x Lost r a h e = rw e (h, tt)
@@ -314,7 +314,7 @@ module _ (side : Side) (f : Frame) where
   only_one us least (branch t' c bs) t u s o (inr h) (inr w) = only_one (names_behind us c) (number_on f.size t' + 1) bs t u s o.3 h w
 
   sound_reply : (s : State) (us : List Strategy) (bs : Branches) (q r : ReplayResult) → winner_of f s ≡ None → s.to_move ≡ opponent side → AreOrderly f.size 0 bs
-      → AreSound side f s (entries_with us bs) q × KnowRepeats side f s q → IsFoundOfReply f s bs q r → IsSound side f s (reply (entries_with us bs)) r
+      → AreSound side f s (entries_with us bs) q × KnowRepeats side f s q → IsResultOfReply f s bs q r → IsSound side f s (reply (entries_with us bs)) r
   sound_reply s us bs Unfit r nobody turn o h e = subst (IsSound side f s (reply (entries_with us bs))) (sym e) tt
   sound_reply s us bs Lost r nobody turn o h e =
       subst (IsSound side f s (reply (entries_with us bs))) (sym e)
@@ -377,24 +377,24 @@ module _ (side : Side) (f : Frame) where
   -- ---- the whole
 
   before_pick : (s : State) (t : Turn) (u : Strategy) (q r : ReplayResult) → s.to_move ≡ side → IsLegal f s t → IsSound side f (after f s t) u q
-      → IsFoundBefore (RestsBeforePick f s t) q r → IsSound side f s (pick t u) r
+      → IsResultBeforeTurn (RestsBeforePick f s t) q r → IsSound side f s (pick t u) r
   before_pick s t u (Won x) r mine l h e = subst (IsSound side f s (pick t u)) (sym e.1.0) (sound_pick side f s t u x e.0 mine l h e.1.1)
   before_pick s t u Lost r mine l h e = subst (IsSound side f s (pick t u)) (sym e) (λ w. h w.3)
   before_pick s t u Unfit r mine l h e = subst (IsSound side f s (pick t u)) (sym e) tt
 
   before_reply : (s : State) (t : Turn) (u : Strategy) (q r : ReplayResult) → IsLegal f s t → IsSound side f (after f s t) u q
-      → IsFoundBefore (RestsBeforeReply f s t) q r → IsSoundBehind side f s t u r
+      → IsResultBeforeTurn (RestsBeforeReply f s t) q r → IsSoundBehind side f s t u r
   before_reply s t u (Won x) r l h e = subst (IsSoundBehind side f s t u) (sym e.1.0) (sound_branch side f s t u x e.0 l h e.1.1)
   before_reply s t u Lost r l h e = subst (IsSoundBehind side f s t u) (sym e) (l, h)
   before_reply s t u Unfit r l h e = subst (IsSoundBehind side f s t u) (sym e) tt
 
-  at_end : (s : State) (r : ReplayResult) → IsFoundOfEnd side f s r → IsSound side f s done r
+  at_end : (s : State) (r : ReplayResult) → IsResultOfEnd side f s r → IsSound side f s done r
   at_end s (Won x) h =
       let here = met_empty f s x h.1 in (here, λ s' m. same_winner side f (history s) (history s') [] s s' (met_carried f x s s' here m) ∙ h.0)
   at_end s Lost h = h
   at_end s Unfit h = tt
 
-  of_name : (us : List Strategy) (ns : NamedFootprints) (k : ℕ) (s : State) (r : ReplayResult) → WinAsKept side f us ns → IsFoundOfName f (get_or ns k None) s r
+  of_name : (us : List Strategy) (ns : NamedFootprints) (k : ℕ) (s : State) (r : ReplayResult) → WinAsKept side f us ns → IsResultOfName f (get_or ns k None) s r
       → IsSound side f s (get_or us k done) r
   of_name us ns k s (Won x) h e = (e.1, named_at us ns k x h e.0)
   of_name us ns k s Lost h e = absurd e

@@ -1,7 +1,7 @@
 -- The trees that the constructors make win.
 use Rattle.std.proofs.Common.{◌≡◌, ◌≤◌, ◌↔◌, ◌+◌, ◌++◌, ℕ, inl, inr, arith, Some, None, List, [], ◌∷◌, Contains, refl, sym, ap, subst}
 use Rattle.tt_game.specs.Turns.{legal_turns}
-use Rattle.tt_game.specs.laws.TurnLaws.{RisesFrom, contains-legal_turns, legal_on_board, rises_from_0}
+use Rattle.tt_game.specs.laws.TurnLaws.{RisesFrom, contains-legal_turns, legal_turn_is_on_board, rises_from_0}
 use Rattle.tt_game.specs.Game.{State, IsLegal, after, winner_of, opponent}
 use Rattle.tt_game.specs.declared.frame.Side.{Side}
 use Rattle.tt_game.specs.declared.frame.Side.TheVariants.{Attacker, Defender}
@@ -9,7 +9,7 @@ use Rattle.tt_game.specs.declared.frame.Frame.{Frame}
 use Rattle.tt_game.specs.declared.turns.Turn.{Turn}
 use Rattle.tt_game.specs.declared.turns.Turn.TheVariants.{Play, Pass}
 use Rattle.tt_proof.specs.declared.tree.TheConstants.{MOST_DEPTH}
-use Rattle.tt_proof.specs.Proven.{Proven, IsWon, IsChild, AreChildren, turns_of, trees_of}
+use Rattle.tt_proof.specs.Proven.{Proven, IsWon, IsChild, AreChildren, turns_of, trees_by_turn}
 use Rattle.tt_proof.specs.inside.Replaying.{HasEntry, LegalWin}
 use Rattle.tt_proof.specs.Strategy.{done, pick, reply, entries_of, depth_of_entries, AreInOrder, number_on}
 use Rattle.tt_proof.proofs.WinsLemmas.{reply_wins}
@@ -42,7 +42,7 @@ won_pick f f' s s' t p same_f same_s l h w =
     record {
       wins = (legal_nobody f s t l, refl, l, c.wins);
       shallow = omega (arith, low);
-      in_order = (legal_on_board f s t l, c.in_order);
+      in_order = (legal_turn_is_on_board f s t l, c.in_order);
     }
 
 -- a side is its opponent's opponent
@@ -58,18 +58,18 @@ AllWon (e ∷ es) = IsWon e.1.side e.1.frame e.1.state e.1.tree × AllWon es
 module _ (f : Frame) (s : State) where
   -- each child's tree that is won wins after its turn
   children_win : (es : List (Turn × Proven)) → AreChildren f s es → AllWon es →
-      LegalWin (opponent s.to_move) f s (entries_of (trees_of es))
+      LegalWin (opponent s.to_move) f s (entries_of (trees_by_turn es))
   children_win [] h w = tt
   children_win (e ∷ es) h w = (λ l. (child_won f s (opponent s.to_move) e.0 e.1 h.0 w.0).wins, children_win es h.1 w.1)
 
   -- replies with children's trees are at most `MOST_DEPTH` deep
-  children_low : (es : List (Turn × Proven)) → AreChildren f s es → depth_of_entries (entries_of (trees_of es)) ≤ MOST_DEPTH
+  children_low : (es : List (Turn × Proven)) → AreChildren f s es → depth_of_entries (entries_of (trees_by_turn es)) ≤ MOST_DEPTH
   children_low [] h = omega arith
   children_low (e ∷ es) h = let low = h.0.shallow in omega (arith, low, children_low es h.1)
 
   -- they are in order where the turns lie on the board and rise
   children_in_order : (least : ℕ) (es : List (Turn × Proven)) → AreChildren f s es → AllWon es →
-      RisesFrom f.size least (turns_of es) → AreInOrder f.size least (entries_of (trees_of es))
+      RisesFrom f.size least (turns_of es) → AreInOrder f.size least (entries_of (trees_by_turn es))
   children_in_order least [] h w r = tt
   children_in_order least (e ∷ es) h w r = (
     r.0,
@@ -79,7 +79,7 @@ module _ (f : Frame) (s : State) where
   )
 
   -- each child's turn has an entry
-  has_entry : (es : List (Turn × Proven)) (t : Turn) → IsIn (turns_of es) t → HasEntry (entries_of (trees_of es)) t
+  has_entry : (es : List (Turn × Proven)) (t : Turn) → IsIn (turns_of es) t → HasEntry (entries_of (trees_by_turn es)) t
   has_entry [] t h = h
   has_entry (e ∷ es) t (inl h) = inl h
   has_entry (e ∷ es) t (inr h) = inr (has_entry es t h)
@@ -87,7 +87,7 @@ module _ (f : Frame) (s : State) where
   -- a reply with a won child for each legal turn wins for the side that is not to move
   pub won_reply : (f' : Frame) (s' : State) (side : Side) (es : List (Turn × Proven)) → f' ≡ f → s' ≡ s →
       side ≡ opponent s.to_move → winner_of f s ≡ None → turns_of es ≡ legal_turns f s → AreChildren f s es → AllWon es →
-      IsWon side f' s' (reply (entries_of (trees_of es)))
+      IsWon side f' s' (reply (entries_of (trees_by_turn es)))
   won_reply f' s' side es same_f same_s theirs nobody same h w =
       let ts = turns_of es in
       let legal : (t : Turn) → Contains ts t ↔ IsLegal f s t = subst (λ xs. (t : Turn) → Contains xs t ↔ IsLegal f s t) (sym same) (contains-legal_turns f s) in
@@ -95,7 +95,7 @@ module _ (f : Frame) (s : State) where
       rw (same_f, same_s, theirs)
       record {
         wins =
-            ((reply_wins (opponent s.to_move) f s (entries_of (trees_of es)) order
+            ((reply_wins (opponent s.to_move) f s (entries_of (trees_by_turn es)) order
             ((nobody, opponent_twice s.to_move), λ t l. has_entry es t (in_of_contains ts t ((legal t).1 l)))).0
             (children_win es h w));
         shallow = children_low es h;
@@ -109,6 +109,6 @@ all_won_push [] e h w = (w, tt)
 all_won_push (x ∷ es) e h w = (h.0, all_won_push es e h.1 w)
 
 -- one more child has one more tree
-pub trees_of_push : (es : List (Turn × Proven)) (e : Turn × Proven) → trees_of (es ++ e ∷ []) ≡ trees_of es ++ ((e.0, e.1.tree) ∷ [])
+pub trees_of_push : (es : List (Turn × Proven)) (e : Turn × Proven) → trees_by_turn (es ++ e ∷ []) ≡ trees_by_turn es ++ ((e.0, e.1.tree) ∷ [])
 trees_of_push [] e = refl
 trees_of_push (x ∷ es) e = ap (λ r. (x.0, x.1.tree) ∷ r) (trees_of_push es e)

@@ -5,7 +5,7 @@ use Rattle.tt_game.specs.declared.turns.Turn.{Turn}
 use Rattle.tt_proof.specs.declared.tree.Tree.{Tree, fold-roll-Tree, Done, Pick, Reply}
 use Rattle.tt_proof.specs.declared.tree.Tree.TheVariants.{rolls-Done, rolls-Pick, rolls-Reply}
 use Rattle.tt_proof.specs.declared.tree.Tree.TheOpen as layer
-use Rattle.tt_proof.specs.Strategy.{Strategy, Entries, done, pick, reply, none, entry, strategy_of, strategy_step, entries_of, entries_of_trees}
+use Rattle.tt_proof.specs.Strategy.{Strategy, Entries, done, pick, reply, none, entry, strategy_of, strategy_step, entries_of, entries_of_list}
 use Rattle.tt_proof.specs.StrategyLaws.{TreesAreStrategies}
 
 -- `Done` is nothing more to play
@@ -19,12 +19,12 @@ unfolding strategy_of
 strategy_of_pick t b = ap strategy_of (sym (rolls-Pick t b)) ∙ fold-roll-Tree Strategy strategy_step (layer.Pick t b)
 
 -- the strategies of a list of trees make the entries of the list
-pub entries_map : (es : List (Turn × Tree)) → entries_of (map (λ e. (e.0, strategy_of e.1)) es) ≡ entries_of_trees es
+pub entries_map : (es : List (Turn × Tree)) → entries_of (map (λ e. (e.0, strategy_of e.1)) es) ≡ entries_of_list es
 entries_map [] = refl
 entries_map (e ∷ es) = ap (λ r. entry e.0 (strategy_of e.1) r) (entries_map es)
 
 -- `Reply` is a reply with the entries of its list
-pub strategy_of_reply : (b : Arc (Vec (Turn × Tree) Global) Global) → strategy_of (Reply b) ≡ reply (entries_of_trees b.value.items)
+pub strategy_of_reply : (b : Arc (Vec (Turn × Tree) Global) Global) → strategy_of (Reply b) ≡ reply (entries_of_list b.value.items)
 unfolding strategy_of
 strategy_of_reply b =
     ap strategy_of (sym (rolls-Reply b)) ∙ fold-roll-Tree Strategy strategy_step (layer.Reply b) ∙ ap reply (entries_map b.value.items)
@@ -39,7 +39,7 @@ before [] es = es
 before (e ∷ list) es = entry e.0 (strategy_of e.1) (before list es)
 
 -- with none behind, these are the entries of the list
-pub before_none : (list : List (Turn × Tree)) → before list none ≡ entries_of_trees list
+pub before_none : (list : List (Turn × Tree)) → before list none ≡ entries_of_list list
 before_none [] = refl
 before_none (e ∷ list) = ap (λ r. entry e.0 (strategy_of e.1) r) (before_none list)
 

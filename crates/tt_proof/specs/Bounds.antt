@@ -1,7 +1,7 @@
 -- Bounds of boards: the stones that all of some boards have, and the hashes of these boards.
 use Rattle.std.specs.Prelude.{◌≡◌, ℕ, ◌<◌, ◌/◌, ◌%◌, Option, Some, None, true}
 use Rattle.tt_sgf.specs.Sizes.{point_count}
-use Rattle.tt_sgf.specs.Words.{bit_in}
+use Rattle.tt_sgf.specs.MachineWords.{bit_in}
 use Rattle.tt_sgf.specs.declared.bits.Bits.{Bits}
 use Rattle.tt_sgf.specs.declared.bits.TheConstants.{BITS}
 use Rattle.tt_board.specs.declared.Colour.{Colour}
@@ -11,7 +11,7 @@ use Rattle.tt_board.specs.Play.{is_stone_of}
 use Rattle.tt_board.specs.Reach.{entry_at}
 use Rattle.tt_game.specs.Mixing.{board_hash}
 use Rattle.tt_proof.specs.declared.bounds.Bound.{Bound}
-use Rattle.tt_proof.specs.declared.bounds.TheConstants.{LOW}
+use Rattle.tt_proof.specs.declared.bounds.TheConstants.{HASH_DIVISOR}
 
 -- the board has each of these stones of the colour
 abbrev pub HasStones : Bits → Colour → Position → Type 0
@@ -20,7 +20,7 @@ HasStones x k b =
 
 -- the number of a bit for the board, by its hash
 abbrev pub hash_bit : Position → ℕ
-hash_bit b = board_hash b.size b.points / LOW % BITS
+hash_bit b = board_hash b.size b.points / HASH_DIVISOR % BITS
 
 -- the board lies within the bound; none does where there is no bound
 abbrev pub IsWithin : Option Bound → Position → Type 0

@@ -5,7 +5,7 @@ use Rattle.tt_game.specs.declared.frame.Side.{Side}
 use Rattle.tt_proof.specs.declared.certificate_read.CertFault.{CertFault}
 use Rattle.tt_proof.specs.declared.certificate_read.CertFault.TheVariants.{Syntax, TooDeep, NoMemory}
 use Rattle.tt_proof.specs.Strategy.{Strategy, depth}
-use Rattle.tt_proof.specs.CertificateText.{IsCertificate, IsTooDeep, side_text}
+use Rattle.tt_proof.specs.CertificateText.{IsCertificate, IsTooDeep, side_prefix}
 use Rattle.tt_proof.specs.Outlines.{Outline, RefersBack, IsOrderly, IsSharedTooDeep, unfolded, outline_text}
 
 -- the numbers of the refusals
@@ -23,10 +23,10 @@ IsFault size bytes NoMemory = Unit {0}
 -- with shared parts: too deep, and no certificate but one whose tree is deeper than that; else no certificate, however deep its tree
 abbrev pub IsSharedFault : Size → ℕ → List ℕ → CertFault → Type 0
 IsSharedFault size most_depth bytes Syntax =
-    ((side : Side) (o : Outline) → RefersBack [] o → IsOrderly size o → bytes ≡ side_text side ++ outline_text size o → ⊥)
+    ((side : Side) (o : Outline) → RefersBack [] o → IsOrderly size o → bytes ≡ side_prefix side ++ outline_text size o → ⊥)
     × (IsSharedTooDeep size most_depth bytes → ⊥)
 IsSharedFault size most_depth bytes TooDeep =
     IsSharedTooDeep size most_depth bytes
-    × ((side : Side) (o : Outline) → RefersBack [] o → IsOrderly size o → bytes ≡ side_text side ++ outline_text size o
+    × ((side : Side) (o : Outline) → RefersBack [] o → IsOrderly size o → bytes ≡ side_prefix side ++ outline_text size o
     → most_depth < depth (unfolded [] o))
 IsSharedFault size most_depth bytes NoMemory = Unit {0}

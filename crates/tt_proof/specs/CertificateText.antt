@@ -25,8 +25,8 @@ dash = 45
 -- ---- texts
 
 -- the word of the side that wins, and a blank
-abbrev pub side_text : Side → List ℕ
-side_text side = side_word side ++ space ∷ []
+abbrev pub side_prefix : Side → List ℕ
+side_prefix side = side_word side ++ space ∷ []
 
 module _ (size : Size) where
   -- the letter of the column, or a dash
@@ -60,7 +60,7 @@ module _ (size : Size) where
     entries_text (entry t u es) = turn_text t ++ (tree_text u ++ entries_text es)
 
   abbrev pub certificate_text : Side → Strategy → List ℕ
-  certificate_text side u = side_text side ++ tree_text u
+  certificate_text side u = side_prefix side ++ tree_text u
 
   abbrev mutual
     -- x is a beginning of the tree's text that ends with a turn, and d turns lie above that one
@@ -93,4 +93,4 @@ module _ (size : Size) where
     pub follows : List ℕ
     pub in_order : IsInOrder size tree
     pub ends : EndsBelow tree MOST_DEPTH beginning
-    pub text : bytes ≡ side_text side ++ (beginning ++ follows)
+    pub text : bytes ≡ side_prefix side ++ (beginning ++ follows)

@@ -8,7 +8,7 @@ use Rattle.tt_proof.specs.declared.outlines.Outline as form
 use Rattle.tt_proof.specs.declared.outlines.Outline.TheOpen as layer
 use Rattle.tt_proof.specs.declared.tree.TheConstants.{MOST_DEPTH}
 use Rattle.tt_proof.specs.Strategy.{Strategy, Entries, done, pick, reply, none, entry, depth, IsOnBoard, number_on}
-use Rattle.tt_proof.specs.CertificateText.{won_symbol, pick_symbol, replies_symbol, turn_text, side_text}
+use Rattle.tt_proof.specs.CertificateText.{won_symbol, pick_symbol, replies_symbol, turn_text, side_prefix}
 
 mutual
   -- nothing more to play; a turn, and how it goes on; an answer to each turn of the other side; or the tree with this name. The
@@ -57,12 +57,12 @@ abbrev mutual
   pub RefersBack : List Strategy → Outline → Type 0
   RefersBack us ended = Unit {0}
   RefersBack us (picked n t o) = RefersBack us o
-  RefersBack us (replied n bs) = ReferBack us bs
+  RefersBack us (replied n bs) = BranchesReferBack us bs
   RefersBack us (part k) = (k < length us) × (k < 1000000000)
 
-  pub ReferBack : List Strategy → Branches → Type 0
-  ReferBack us no_branch = Unit {0}
-  ReferBack us (branch t o bs) = RefersBack us o × ReferBack (names_behind us o) bs
+  pub BranchesReferBack : List Strategy → Branches → Type 0
+  BranchesReferBack us no_branch = Unit {0}
+  BranchesReferBack us (branch t o bs) = RefersBack us o × BranchesReferBack (names_behind us o) bs
 
 abbrev mutual
   -- the turns lie on the board, and those of each reply rise by their numbers
@@ -106,7 +106,7 @@ module _ (size : Size) where
     pub closed : RefersBack [] o
     pub orderly : IsOrderly size o
     pub shallow : depth (unfolded [] o) ≤ MOST_DEPTH
-    pub text : bytes ≡ side_text side ++ outline_text o
+    pub text : bytes ≡ side_prefix side ++ outline_text o
 
 -- no decimal digit stands in front
 abbrev pub NoDigit : List ℕ → Type 0
@@ -142,7 +142,7 @@ module _ (size : Size) where
     pub closed : RefersBack [] outline
     pub orderly : IsOrderly size outline
     pub deep : GoesDeep [] most outline behind
-    pub text : bytes ≡ side_text side ++ behind
+    pub text : bytes ≡ side_prefix side ++ behind
 
 -- ---- the outline that a value of the program is, whatever memory it lies in
 abbrev pub branches_of : List (Turn × Outline) → Branches

@@ -40,8 +40,8 @@ abbrev pub turns_of : List (Turn × Proven) → List Turn
 turns_of es = map (λ e. e.0) es
 
 -- the children's trees
-abbrev pub trees_of : List (Turn × Proven) → List (Turn × Strategy)
-trees_of es = map (λ e. (e.0, e.1.tree)) es
+abbrev pub trees_by_turn : List (Turn × Proven) → List (Turn × Strategy)
+trees_by_turn es = map (λ e. (e.0, e.1.tree)) es
 
 -- the turn that the strategy begins with
 abbrev pub first_of : Strategy → Option Turn

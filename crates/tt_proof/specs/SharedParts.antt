@@ -68,20 +68,20 @@ pub record RestsOnBoth (x y z : PositionFootprint) : Type 0 where
 -- ---- what is found on trees: a win that rests on something, none, or a part that doesn't fit
 
 -- of two trees together: a part that doesn't fit comes first, and then no win
-abbrev pub IsBoth : ReplayResult → ReplayResult → ReplayResult → Type 0
-IsBoth Unfit b r = r ≡ Unfit
-IsBoth Lost Unfit r = r ≡ Unfit
-IsBoth Lost Lost r = r ≡ Lost
-IsBoth Lost (Won y) r = r ≡ Lost
-IsBoth (Won x) Unfit r = r ≡ Unfit
-IsBoth (Won x) Lost r = r ≡ Lost
-IsBoth (Won x) (Won y) r = (z : PositionFootprint) × ((r ≡ Won z) × RestsOnBoth x y z)
+abbrev pub CombinesTo : ReplayResult → ReplayResult → ReplayResult → Type 0
+CombinesTo Unfit b r = r ≡ Unfit
+CombinesTo Lost Unfit r = r ≡ Unfit
+CombinesTo Lost Lost r = r ≡ Lost
+CombinesTo Lost (Won y) r = r ≡ Lost
+CombinesTo (Won x) Unfit r = r ≡ Unfit
+CombinesTo (Won x) Lost r = r ≡ Lost
+CombinesTo (Won x) (Won y) r = (z : PositionFootprint) × ((r ≡ Won z) × RestsOnBoth x y z)
 
 -- in front of a turn, by what is found behind it: a win rests on what the relation says
-abbrev pub IsFoundBefore : (PositionFootprint → PositionFootprint → Type 0) → ReplayResult → ReplayResult → Type 0
-IsFoundBefore Rests (Won x) r = (y : PositionFootprint) × ((r ≡ Won y) × Rests x y)
-IsFoundBefore Rests Lost r = r ≡ Lost
-IsFoundBefore Rests Unfit r = r ≡ Unfit
+abbrev pub IsResultBeforeTurn : (PositionFootprint → PositionFootprint → Type 0) → ReplayResult → ReplayResult → Type 0
+IsResultBeforeTurn Rests (Won x) r = (y : PositionFootprint) × ((r ≡ Won y) × Rests x y)
+IsResultBeforeTurn Rests Lost r = r ≡ Lost
+IsResultBeforeTurn Rests Unfit r = r ≡ Unfit
 
 -- the turn has a branch
 abbrev pub HasBranch : Branches → Turn → Type 0
@@ -122,66 +122,66 @@ abbrev mutual
 
 module _ (f : Frame) where
   -- on the tree with a name, where the name stands for it
-  abbrev pub IsFoundOfName : Option PositionFootprint → State → ReplayResult → Type 0
-  IsFoundOfName n s (Won x) = (n ≡ Some x) × Meets f x s
-  IsFoundOfName n s Lost = ⊥
-  IsFoundOfName n s Unfit = (x : PositionFootprint) → n ≡ Some x → Meets f x s → ⊥
+  abbrev pub IsResultOfName : Option PositionFootprint → State → ReplayResult → Type 0
+  IsResultOfName n s (Won x) = (n ≡ Some x) × Meets f x s
+  IsResultOfName n s Lost = ⊥
+  IsResultOfName n s Unfit = (x : PositionFootprint) → n ≡ Some x → Meets f x s → ⊥
 
   -- on a reply, by what is found on all its branches: each legal turn needs one
-  abbrev pub IsFoundOfReply : State → Branches → ReplayResult → ReplayResult → Type 0
-  IsFoundOfReply s bs (Won x) (Won y) = (x ≡ y) × ((t : Turn) → IsLegal f s t → HasBranch bs t)
-  IsFoundOfReply s bs (Won x) Lost = ((t : Turn) → IsLegal f s t → HasBranch bs t) → ⊥
-  IsFoundOfReply s bs (Won x) Unfit = ⊥
-  IsFoundOfReply s bs Lost r = r ≡ Lost
-  IsFoundOfReply s bs Unfit r = r ≡ Unfit
+  abbrev pub IsResultOfReply : State → Branches → ReplayResult → ReplayResult → Type 0
+  IsResultOfReply s bs (Won x) (Won y) = (x ≡ y) × ((t : Turn) → IsLegal f s t → HasBranch bs t)
+  IsResultOfReply s bs (Won x) Lost = ((t : Turn) → IsLegal f s t → HasBranch bs t) → ⊥
+  IsResultOfReply s bs (Won x) Unfit = ⊥
+  IsResultOfReply s bs Lost r = r ≡ Lost
+  IsResultOfReply s bs Unfit r = r ≡ Unfit
 
 module _ (side : Side) (f : Frame) where
   -- on an ended tree
-  abbrev pub IsFoundOfEnd : State → ReplayResult → Type 0
-  IsFoundOfEnd s (Won x) = (winner_of f s ≡ Some side) × RestsOnPosition f s x
-  IsFoundOfEnd s Lost = winner_of f s ≡ Some side → ⊥
-  IsFoundOfEnd s Unfit = ⊥
+  abbrev pub IsResultOfEnd : State → ReplayResult → Type 0
+  IsResultOfEnd s (Won x) = (winner_of f s ≡ Some side) × RestsOnPosition f s x
+  IsResultOfEnd s Lost = winner_of f s ≡ Some side → ⊥
+  IsResultOfEnd s Unfit = ⊥
 
   -- on a node, by what is found behind it. Where no play leads on, the names are those that are skipped.
   module _ (s : State) (Behind : ReplayResult → NamedFootprints → Type 0) (skipped : NamedFootprints) (r : ReplayResult) (ms : NamedFootprints) where
     -- on a pick: the side is to move, and the turn is legal; else it doesn't win
     abbrev pub PickFinds : Turn → Type 0
     PickFinds t =
-        ((s.to_move ≡ side) × IsLegal f s t × ((q : ReplayResult) × (Behind q ms × IsFoundBefore (RestsBeforePick f s t) q r)))
+        ((s.to_move ≡ side) × IsLegal f s t × ((q : ReplayResult) × (Behind q ms × IsResultBeforeTurn (RestsBeforePick f s t) q r)))
         ⊎ ((s.to_move ≡ side → IsLegal f s t → ⊥) × (r ≡ Lost) × (ms ≡ skipped))
 
     -- on a branch: its turn is legal; else it rests on the position alone
     abbrev pub BranchFinds : Turn → Type 0
     BranchFinds t =
-        (IsLegal f s t × ((q : ReplayResult) × (Behind q ms × IsFoundBefore (RestsBeforeReply f s t) q r)))
+        (IsLegal f s t × ((q : ReplayResult) × (Behind q ms × IsResultBeforeTurn (RestsBeforeReply f s t) q r)))
         ⊎ ((IsLegal f s t → ⊥) × ((x : PositionFootprint) × ((r ≡ Won x) × RestsOnPosition f s x)) × (ms ≡ skipped))
 
     -- on a reply: nobody has won, and the other side is to move; else it doesn't win
     abbrev pub ReplyFinds : Branches → Type 0
     ReplyFinds bs =
-        ((winner_of f s ≡ None) × (s.to_move ≡ opponent side) × ((q : ReplayResult) × (Behind q ms × IsFoundOfReply f s bs q r)))
+        ((winner_of f s ≡ None) × (s.to_move ≡ opponent side) × ((q : ReplayResult) × (Behind q ms × IsResultOfReply f s bs q r)))
         ⊎ ((winner_of f s ≡ None → s.to_move ≡ opponent side → ⊥) × (r ≡ Lost) × (ms ≡ skipped))
 
   -- on branches, with what plays would repeat
   abbrev pub WithRepeats : State → (ReplayResult → NamedFootprints → Type 0) → ReplayResult → NamedFootprints → Type 0
-  WithRepeats s Behind r ms = (x : PositionFootprint) × (RestsOnRepeats f s x × ((q : ReplayResult) × (Behind q ms × IsBoth (Won x) q r)))
+  WithRepeats s Behind r ms = (x : PositionFootprint) × (RestsOnRepeats f s x × ((q : ReplayResult) × (Behind q ms × CombinesTo (Won x) q r)))
 
   abbrev mutual
     -- on an outline at a state, by what the names before it rest on; the last list says what all names behind it rest on
     pub FindsOutline : NamedFootprints → Outline → State → ReplayResult → NamedFootprints → Type 0
-    FindsOutline ns ended s r ms = IsFoundOfEnd s r × (ms ≡ ns)
+    FindsOutline ns ended s r ms = IsResultOfEnd s r × (ms ≡ ns)
     FindsOutline ns (picked n t o) s r ms =
         (ls : NamedFootprints) × ((ms ≡ with_named_footprint n (kept_footprint r) ls) × PickFinds s (FindsOutline ns o (after f s t)) (unreached ns o) r ls t)
     FindsOutline ns (replied n bs) s r ms =
         (ls : NamedFootprints) × ((ms ≡ with_named_footprint n (kept_footprint r) ls) × ReplyFinds s (WithRepeats s (FindsBranches ns bs s)) (unreached_all ns bs) r ls bs)
-    FindsOutline ns (part k) s r ms = IsFoundOfName f (get_or ns k None) s r × (ms ≡ ns)
+    FindsOutline ns (part k) s r ms = IsResultOfName f (get_or ns k None) s r × (ms ≡ ns)
 
     -- on branches together
     pub FindsBranches : NamedFootprints → Branches → State → ReplayResult → NamedFootprints → Type 0
     FindsBranches ns no_branch s r ms = ((x : PositionFootprint) × ((r ≡ Won x) × RestsOnPosition f s x)) × (ms ≡ ns)
     FindsBranches ns (branch t o bs) s r ms =
         (q : ReplayResult) × ((p : ReplayResult) × ((ls : NamedFootprints) × (
-        BranchFinds s (FindsOutline ns o (after f s t)) (unreached ns o) q ls t × FindsBranches ls bs s p ms × IsBoth q p r)))
+        BranchFinds s (FindsOutline ns o (after f s t)) (unreached ns o) q ls t × FindsBranches ls bs s p ms × CombinesTo q p r)))
 
   -- the answer on a whole outline
   abbrev pub SharedPartsSay : Outline → State → Option Bool → Type 0

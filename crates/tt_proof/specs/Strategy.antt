@@ -56,6 +56,6 @@ unfoldable pub strategy_of : Tree → Strategy
 strategy_of = fold-Tree Strategy strategy_step
 
 -- the entries that the list of a `Reply` is
-abbrev pub entries_of_trees : List (Turn × Tree) → Entries
-entries_of_trees [] = none
-entries_of_trees (e ∷ es) = entry e.0 (strategy_of e.1) (entries_of_trees es)
+abbrev pub entries_of_list : List (Turn × Tree) → Entries
+entries_of_list [] = none
+entries_of_list (e ∷ es) = entry e.0 (strategy_of e.1) (entries_of_list es)

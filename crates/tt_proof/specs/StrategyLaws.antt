@@ -11,7 +11,7 @@ use Rattle.tt_game.specs.declared.frame.Frame.{Frame}
 use Rattle.tt_game.specs.declared.turns.Turn.{Turn}
 use Rattle.tt_game.specs.declared.turns.Turn.TheVariants.{Play}
 use Rattle.tt_proof.specs.declared.tree.Tree.{Tree, Done, Pick, Reply}
-use Rattle.tt_proof.specs.Strategy.{Strategy, depth, IsInOrder, done, pick, reply, strategy_of, entries_of_trees}
+use Rattle.tt_proof.specs.Strategy.{Strategy, depth, IsInOrder, done, pick, reply, strategy_of, entries_of_list}
 use Rattle.tt_proof.specs.Wins.{Wins}
 use Rattle.tt_proof.specs.Footprints.{IsNeeded, IsAvoided, IsMet, Fits}
 use Rattle.tt_proof.specs.CertificateText.{IsCertificate, tree_text}
@@ -53,4 +53,4 @@ OneCertificate =
 pub record TreesAreStrategies : Type 0 where
   pub of_done : strategy_of Done ≡ done
   pub of_pick : (t : Turn) (b : Arc Tree Global) → strategy_of (Pick t b) ≡ pick t (strategy_of b.value)
-  pub of_reply : (b : Arc (Vec (Turn × Tree) Global) Global) → strategy_of (Reply b) ≡ reply (entries_of_trees b.value.items)
+  pub of_reply : (b : Arc (Vec (Turn × Tree) Global) Global) → strategy_of (Reply b) ≡ reply (entries_of_list b.value.items)

@@ -9,7 +9,7 @@ use tt_game::board_hash;
 use tt_sgf::{BITS, Bits};
 
 /// The lowest bits of a hash say least, so its bit is taken from those above.
-const LOW: u64 = 0x100_0000_0000;
+const HASH_DIVISOR: u64 = 0x100_0000_0000;
 
 /// The stones of each colour that all of some boards have, and a bit for the hash of each of these boards.
 #[derive(Clone, Copy)]
@@ -24,7 +24,7 @@ fn hash_bit(board: &Board) -> usize
     ensures value { result ≡ hash_bit board.now }
     ensures small { result < BITS }
 {
-    (board_hash(board) / LOW) as usize % BITS
+    (board_hash(board) / HASH_DIVISOR) as usize % BITS
 }
 
 /// The stones of a colour on the board.

@@ -5,8 +5,8 @@ ghost use Rattle.tt_sgf.specs.Bytes.{lower_a, semicolon};
 ghost use Rattle.tt_sgf.specs.Sizes.{point_count};
 ghost use Rattle.tt_sgf.specs.declared.size.TheConstants.{MOST_POINTS};
 ghost use Rattle.tt_game.specs.declared.turns.Turn.{Turn};
-ghost use Rattle.tt_proof.specs.Strategy.{strategy_of, entries_of_trees, number_on, IsOnBoard};
-ghost use Rattle.tt_proof.specs.CertificateText.{pick_symbol, replies_symbol, turn_text, side_text, IsCertificate, IsTooDeep};
+ghost use Rattle.tt_proof.specs.Strategy.{strategy_of, entries_of_list, number_on, IsOnBoard};
+ghost use Rattle.tt_proof.specs.CertificateText.{pick_symbol, replies_symbol, turn_text, side_prefix, IsCertificate, IsTooDeep};
 ghost use Rattle.tt_proof.specs.inside.CertificateReading.{TreeAt, EntriesAt, FaultAt, EntriesFaultAt};
 ghost use Rattle.tt_proof.specs.CertificateFaults.{IsFault, code_of};
 
@@ -96,7 +96,12 @@ pub(crate) fn after_end(bytes: &[u8]) -> Option<&[u8]>
 
 /// The tree at the front of the bytes, of a depth of at most `left`, and what follows.
 #[cycle(read)]
-fn read_tree(alloc: Global, bytes: &[u8], size: Size, left: u16) -> Result<(Tree, &[u8]), CertFault>
+fn read_strategy(
+    alloc: Global,
+    bytes: &[u8],
+    size: Size,
+    left: u16,
+) -> Result<(Tree, &[u8]), CertFault>
     ensures { MatchResult result (λ r. TreeAt size left (strategy_of r.0) bytes.now r.1.now) (λ e. FaultAt size left bytes.now e) }
 {
     match bytes.split_first() {
@@ -127,7 +132,7 @@ fn read_pick(alloc: Global, bytes: &[u8], size: Size, left: u16) -> Result<(Tree
             if left == 0 {
                 return Err(CertFault::TooDeep);
             }
-            match read_tree(alloc, after, size, left - 1) {
+            match read_strategy(alloc, after, size, left - 1) {
                 Err(fault) => Err(fault),
                 Ok((child, rest)) => match Tree::pick(alloc, turn, child) {
                     Ok(tree) => Ok((tree, rest)),
@@ -165,7 +170,7 @@ fn read_entries(
     size: Size,
     left: u16,
 ) -> Result<(Vec<(Turn, Tree)>, &[u8]), CertFault>
-    ensures { MatchResult result (λ r. EntriesAt size left 0 (entries_of_trees r.0.items) bytes.now r.1.now)
+    ensures { MatchResult result (λ r. EntriesAt size left 0 (entries_of_list r.0.items) bytes.now r.1.now)
         (λ e. EntriesFaultAt size left 0 bytes.now e) }
 {
     let mut list = Vec::new(alloc);
@@ -183,7 +188,7 @@ fn read_entries(
                     if left == 0 {
                         return Err(CertFault::TooDeep);
                     }
-                    match read_tree(alloc, middle, size, left - 1) {
+                    match read_strategy(alloc, middle, size, left - 1) {
                         Err(fault) => return Err(fault),
                         Ok((tree, after)) => {
                             if list.push((turn, tree)).is_err() {
@@ -201,7 +206,7 @@ fn read_entries(
 
 /// What follows the side's word, where that is at the front of the bytes.
 pub(crate) fn after_side(bytes: &[u8], s: Side) -> Option<&[u8]>
-    ensures { MatchOption result ((y : List ℕ) → bytes.now ≡ side_text s ++ y → ⊥) (λ r. bytes.now ≡ side_text s ++ r.now) }
+    ensures { MatchOption result ((y : List ℕ) → bytes.now ≡ side_prefix s ++ y → ⊥) (λ r. bytes.now ≡ side_prefix s ++ r.now) }
 {
     let blank = bytes.strip_prefix(s.word())?;
     blank.strip_prefix(b" ".as_slice())
@@ -215,12 +220,12 @@ fn read_for(
     s: Side,
     size: Size,
 ) -> Result<(Side, Tree), CertFault>
-    requires { bytes.now ≡ side_text s ++ rest.now }
+    requires { bytes.now ≡ side_prefix s ++ rest.now }
     ensures { MatchResult result
         (λ r. IsCertificate size bytes.now r.0 (strategy_of r.1) × (IsTooDeep size bytes.now → ⊥))
         (λ e. IsFault size bytes.now e) }
 {
-    match read_tree(alloc, rest, size, MOST_DEPTH) {
+    match read_strategy(alloc, rest, size, MOST_DEPTH) {
         Err(fault) => Err(fault),
         Ok((tree, more)) => {
             if more.is_empty() {

@@ -4,7 +4,7 @@ ghost use Rattle.std.specs.Prelude.{◌≡◌, ◌<◌, ◌≤◌, ◌+◌, ◌/
 ghost use Rattle.tt_sgf.specs.Bytes.{lower_a};
 ghost use Rattle.tt_sgf.specs.Sizes.{point_count};
 ghost use Rattle.tt_proof.specs.declared.tree.TheConstants.{MOST_DEPTH};
-ghost use Rattle.tt_proof.specs.Strategy.{done, pick, depth, strategy_of, entries_of_trees, IsOnBoard, IsInOrder, AreInOrder};
+ghost use Rattle.tt_proof.specs.Strategy.{done, pick, depth, strategy_of, entries_of_list, IsOnBoard, IsInOrder, AreInOrder};
 ghost use Rattle.tt_proof.specs.CertificateText.{shown_turn, turn_text, tree_text, entries_text, certificate_text};
 
 use crate::tree::Tree;
@@ -85,8 +85,8 @@ fn put_tree(out: &mut Vec<u8>, t: &Tree, size: Size) -> Result<(), NoMemory>
 
 #[cycle(put)]
 fn put_entries(out: &mut Vec<u8>, list: &[(Turn, Tree)], size: Size) -> Result<(), NoMemory>
-    requires in_order { AreInOrder size 0 (entries_of_trees list.now) }
-    ensures { OnOk result (out.new.items ≡ out.old.items ++ entries_text size (entries_of_trees list.now)) }
+    requires in_order { AreInOrder size 0 (entries_of_list list.now) }
+    ensures { OnOk result (out.new.items ≡ out.old.items ++ entries_text size (entries_of_list list.now)) }
 {
     for (turn, child) in list {
         put_turn(out, *turn, size)?;

@@ -3,11 +3,11 @@
 ghost use Rattle.std.specs.Prelude.{◌≡◌, ◌≤◌, ◌<◌, ◌↔◌, ◌⊎◌, List, [], ◌∷◌, ◌++◌, Contains, IfOk, OnOk, MatchOption};
 ghost use Rattle.tt_board.specs.Position.{Position, Colouring};
 ghost use Rattle.tt_game.specs.Game.{State, IsLegal, after, history, made};
-ghost use Rattle.tt_game.specs.Line.{IsBarred};
+ghost use Rattle.tt_game.specs.Line.{IsBarredBySuperko};
 ghost use Rattle.tt_game.specs.declared.turns.Turn.{Turn};
 ghost use Rattle.tt_game.specs.declared.frame.Frame.{Frame};
 ghost use Rattle.tt_proof.specs.declared.tree.TheConstants.{MOST_DEPTH};
-ghost use Rattle.tt_proof.specs.Strategy.{Strategy, done, pick, reply, none, depth, depth_of_entries, strategy_of, entries_of, entries_of_trees, IsInOrder, AreInOrder, IsOnBoard};
+ghost use Rattle.tt_proof.specs.Strategy.{Strategy, done, pick, reply, none, depth, depth_of_entries, strategy_of, entries_of, entries_of_list, IsInOrder, AreInOrder, IsOnBoard};
 ghost use Rattle.tt_proof.specs.Footprints.{IsRepeated};
 ghost use Rattle.tt_proof.specs.KeptFootprints.{IsFootprint, IsBoardAfter, IsEntryJoined, AreSized, frame_board, AreLegalPlays};
 ghost use Rattle.tt_proof.specs.inside.Collecting.{IsPassedUp, IsPlayed, IsMadeWithin};
@@ -172,8 +172,8 @@ fn widened(met: &Option<Bound>, turn: &Turn, board: &Board, behind: &Option<Boun
 /// The board of the history that a play on the point would repeat. A play that is known to be legal isn't tried.
 fn repeated(line: &Line, legal: &PointSet, p: Point) -> Option<Board>
     requires { AreLegalPlays line.now.frame line.now.state legal.now }
-    ensures { MatchOption result (IsBarred line.now.frame line.now.state p → ⊥)
-        (λ b. IsBarred line.now.frame line.now.state p × (b ≡ frame_board line.now.frame (made line.now.frame line.now.state p))) }
+    ensures { MatchOption result (IsBarredBySuperko line.now.frame line.now.state p → ⊥)
+        (λ b. IsBarredBySuperko line.now.frame line.now.state p × (b ≡ frame_board line.now.frame (made line.now.frame line.now.state p))) }
 {
     if legal.has(p) {
         return None;
@@ -193,7 +193,7 @@ fn put_repeated(
     ensures sized { OnOk result (AreSized line.now.frame needs.old → AreSized line.now.frame needs.new) }
     ensures more { OnOk result ((c : Colouring) → Contains needs.new (frame_board line.now.frame c)
         ↔ (Contains needs.old (frame_board line.now.frame c)
-        ⊎ (IsBarred line.now.frame line.now.state p × (made line.now.frame line.now.state p ≡ c)))) }
+        ⊎ (IsBarredBySuperko line.now.frame line.now.state p × (made line.now.frame line.now.state p ≡ c)))) }
 {
     match repeated(line, legal, p) {
         Some(board) => needs.add(alloc, &board),
@@ -282,9 +282,9 @@ fn footprint_of_reply(
     list: &[(Turn, Tree)],
     line: &mut Line,
 ) -> Result<Footprint, NoMemory>
-    requires depth { depth_of_entries (entries_of_trees list.now) ≤ MOST_DEPTH }
-    requires in_order { AreInOrder line.old.frame.size 0 (entries_of_trees list.now) }
-    ensures exact { IfOk result (λ x. IsFootprint line.old.frame line.old.state (reply (entries_of_trees list.now)) x) }
+    requires depth { depth_of_entries (entries_of_list list.now) ≤ MOST_DEPTH }
+    requires in_order { AreInOrder line.old.frame.size 0 (entries_of_list list.now) }
+    ensures exact { IfOk result (λ x. IsFootprint line.old.frame line.old.state (reply (entries_of_list list.now)) x) }
     ensures same { line.new ≡ line.old }
 {
     let mut footprint = Footprint::of_repeats(alloc, line)?;

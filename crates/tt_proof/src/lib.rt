@@ -3,7 +3,6 @@
 
 mod board_set;
 mod bounds;
-mod building;
 mod certificate_read;
 mod certificate_write;
 mod footprints;
@@ -18,6 +17,7 @@ mod position_footprint;
 mod proven;
 mod replays;
 mod tree;
+mod tree_builders;
 
 pub use board_set::BoardSet;
 pub use bounds::{Bound, is_within};

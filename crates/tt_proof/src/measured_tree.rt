@@ -49,7 +49,7 @@ impl Model for Replies {
     ghost use Rattle.tt_game.specs.contracts.turns.Turn as turns;
     ghost use Rattle.tt_game.specs.declared.turns.Turn.{Turn};
     ghost use Rattle.tt_proof.specs.Nodes.{nodes_of_entries};
-    ghost use Rattle.tt_proof.specs.Strategy.{Strategy, depth_of_entries, strategy_of, entries_of_trees};
+    ghost use Rattle.tt_proof.specs.Strategy.{Strategy, depth_of_entries, strategy_of, entries_of_list};
     ghost use Rattle.tt_proof.specs.laws.StrategyCode.{strategy_code};
 
     ghost Value = { List (Turn × Strategy) };
@@ -58,8 +58,8 @@ impl Model for Replies {
 
     ghost view = { λ r. map (λ e. (e.0, strategy_of e.1)) r.entries.items };
 
-    ghost invariant = { λ r. (r.levels ≡ min (depth_of_entries (entries_of_trees r.entries.items)) (2 ^ 16 - 1))
-        × (r.size ≡ min (nodes_of_entries (entries_of_trees r.entries.items) + 1) (2 ^ 64 - 1)) };
+    ghost invariant = { λ r. (r.levels ≡ min (depth_of_entries (entries_of_list r.entries.items)) (2 ^ 16 - 1))
+        × (r.size ≡ min (nodes_of_entries (entries_of_list r.entries.items) + 1) (2 ^ 64 - 1)) };
 }
 
 impl MeasuredTree {

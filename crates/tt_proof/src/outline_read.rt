@@ -2,7 +2,7 @@
 
 ghost use Rattle.std.specs.Prelude.{◌≡◌, ◌<◌, ◌≤◌, ◌+◌, ◌++◌, ◌∷◌, ℕ, List, [], decimal, IfOk, IfErr, OnOk, MatchOption, MatchResult};
 ghost use Rattle.tt_sgf.specs.declared.size.TheConstants.{MOST_POINTS};
-ghost use Rattle.tt_proof.specs.CertificateText.{pick_symbol, replies_symbol, side_text};
+ghost use Rattle.tt_proof.specs.CertificateText.{pick_symbol, replies_symbol, side_prefix};
 ghost use Rattle.tt_proof.specs.declared.tree.TheConstants.{MOST_DEPTH};
 ghost use Rattle.tt_proof.specs.Strategy.{depth};
 ghost use Rattle.tt_proof.specs.Outlines.{IsSharedCertificate, outline_of, unfolded, branches_of_list, name_symbol, name_text, part_symbol};
@@ -267,7 +267,7 @@ fn read_parts_for(
     size: Size,
     most_depth: u16,
 ) -> Result<(Side, Outline), CertFault>
-    requires side { bytes.now ≡ side_text s ++ rest.now }
+    requires side { bytes.now ≡ side_prefix s ++ rest.now }
     requires depth { most_depth ≤ MOST_DEPTH }
     ensures certificate { IfOk result (λ r. IsSharedCertificate size bytes.now r.0 (outline_of r.1)) }
     ensures shallow { IfOk result (λ r. depth (unfolded [] (outline_of r.1)) ≤ most_depth) }

@@ -6,7 +6,7 @@ ghost use Rattle.tt_proof.specs.KeptFootprints.{IsBoardAfter};
 ghost use Rattle.tt_proof.specs.Strategy.{IsOnBoard};
 ghost use Rattle.tt_proof.specs.Outlines.{outline_of, branches_of_list, unfolded, IsOrderly, AreOrderly};
 ghost use Rattle.tt_proof.specs.Wins.{Wins};
-ghost use Rattle.tt_proof.specs.SharedParts.{IsBoth, IsFoundBefore, RestsBeforePick, RestsBeforeReply, IsFoundOfEnd, IsFoundOfName, IsFoundOfReply, HasBranch};
+ghost use Rattle.tt_proof.specs.SharedParts.{CombinesTo, IsResultBeforeTurn, RestsBeforePick, RestsBeforeReply, IsResultOfEnd, IsResultOfName, IsResultOfReply, HasBranch};
 ghost use Rattle.tt_proof.specs.SharedParts.{FindsOutline, kept_footprint, with_named_footprint, unreached, unreached_all, answer_of, SharedPartsSay};
 ghost use Rattle.tt_proof.specs.inside.OutlineReplaying.{FindsPick, FindsReply, FindsBranch, FindsTogether};
 
@@ -28,7 +28,7 @@ pub(crate) enum ReplayResult {
 
 /// What is found on two trees together: one that doesn't fit comes before one that doesn't win.
 fn both(first: ReplayResult, second: ReplayResult) -> Result<ReplayResult, NoMemory>
-    ensures { IfOk result (IsBoth first second) }
+    ensures { IfOk result (CombinesTo first second) }
 {
     match first {
         ReplayResult::Unfit => Ok(ReplayResult::Unfit),
@@ -57,7 +57,7 @@ fn found_before_pick(
     found: ReplayResult,
 ) -> Result<ReplayResult, NoMemory>
     requires { IsBoardAfter line.now.frame line.now.state turn.now board.now }
-    ensures { IfOk result (IsFoundBefore (RestsBeforePick line.now.frame line.now.state turn.now) found) }
+    ensures { IfOk result (IsResultBeforeTurn (RestsBeforePick line.now.frame line.now.state turn.now) found) }
 {
     match found {
         ReplayResult::Won(behind) => match behind.picked(alloc, line, turn, board) {
@@ -70,9 +70,14 @@ fn found_before_pick(
 }
 
 /// What is found on the branch of a legal turn, which leads to the board, by what is found behind it.
-fn found_before_branch(line: &Line, turn: &Turn, board: &Board, found: ReplayResult) -> ReplayResult
+fn replayed_before_turn(
+    line: &Line,
+    turn: &Turn,
+    board: &Board,
+    found: ReplayResult,
+) -> ReplayResult
     requires { IsBoardAfter line.now.frame line.now.state turn.now board.now }
-    ensures { IsFoundBefore (RestsBeforeReply line.now.frame line.now.state turn.now) found result }
+    ensures { IsResultBeforeTurn (RestsBeforeReply line.now.frame line.now.state turn.now) found result }
 {
     match found {
         ReplayResult::Won(basis) => ReplayResult::Won(basis.passed(line, turn, board)),
@@ -83,7 +88,7 @@ fn found_before_branch(line: &Line, turn: &Turn, board: &Board, found: ReplayRes
 
 /// What is found on the outline of nothing more to play.
 fn found_of_done(alloc: Global, s: Side, line: &Line) -> ReplayResult
-    ensures { IsFoundOfEnd s line.now.frame line.now.state result }
+    ensures { IsResultOfEnd s line.now.frame line.now.state result }
 {
     if line.winner() == Some(s) {
         return ReplayResult::Won(PositionFootprint::of(alloc, line));
@@ -97,7 +102,7 @@ fn found_of_part(
     name: &Option<PositionFootprint>,
     line: &Line,
 ) -> Result<ReplayResult, NoMemory>
-    ensures { IfOk result (IsFoundOfName line.now.frame name.now line.now.state) }
+    ensures { IfOk result (IsResultOfName line.now.frame name.now line.now.state) }
 {
     match name {
         Some(basis) => {
@@ -211,7 +216,7 @@ fn answers_all(list: &[(Turn, Outline)], line: &Line) -> bool
 
 /// What is found on a reply by what is found on all its branches.
 fn found_of_reply(list: &[(Turn, Outline)], line: &Line, found: ReplayResult) -> ReplayResult
-    ensures { IsFoundOfReply line.now.frame line.now.state (branches_of_list list.now) found result }
+    ensures { IsResultOfReply line.now.frame line.now.state (branches_of_list list.now) found result }
 {
     match found {
         ReplayResult::Won(basis) => {
@@ -246,7 +251,7 @@ fn replay_branch(
             let found = replay_outline(alloc, child, s, line, names);
             line.pop();
             match found {
-                Ok(behind) => Ok(found_before_branch(line, &turn, &board, behind)),
+                Ok(behind) => Ok(replayed_before_turn(line, &turn, &board, behind)),
                 Err(e) => Err(e),
             }
         }

@@ -10,7 +10,7 @@ ghost use Rattle.tt_proof.specs.declared.tree.TheConstants.{MOST_DEPTH};
 ghost use Rattle.tt_proof.specs.Strategy.{pick, reply, done, depth, strategy_of, IsInOrder, entries_of};
 ghost use Rattle.tt_proof.specs.Nodes.{nodes};
 ghost use Rattle.tt_proof.specs.Bounds.{IsWithin};
-ghost use Rattle.tt_proof.specs.Proven.{IsWon, StandsAt, IsChild, AreChildren, turns_of, trees_of, first_of};
+ghost use Rattle.tt_proof.specs.Proven.{IsWon, StandsAt, IsChild, AreChildren, turns_of, trees_by_turn, first_of};
 ghost use Rattle.tt_proof.specs.Footprints.{FitsAt};
 ghost use Rattle.tt_proof.specs.KeptFootprints.{IsFootprint};
 ghost use Rattle.tt_proof.specs.Rejections.{IsRejected};
@@ -204,7 +204,7 @@ impl Proof {
     /// line is where the proof stands; and where the tree fits, and each board of the line's history but the last, behind those
     /// with which the proof's begins too, was made where the proof stood, too, or lies outside the bound of all boards that turns of
     /// the other side make.
-    pub fn footprint_here(&self, line: &Line) -> Option<&Footprint>
+    pub fn footprint_if_known(&self, line: &Line) -> Option<&Footprint>
         ensures wins { IfSome result (λ _. IsWon self.now.side line.now.frame line.now.state self.now.tree) }
         ensures exact { IfSome result (λ x. IsFootprint line.now.frame line.now.state self.now.tree x.now) }
         ensures stands { StandsAt self.now line.now.frame line.now.state → result ≢ None }
@@ -228,7 +228,7 @@ impl Proof {
         ensures exact { IfOk result (λ x. IsFootprint line.old.frame line.old.state self.now.tree x) }
         ensures same { line.new ≡ line.old }
     {
-        match self.footprint_here(line) {
+        match self.footprint_if_known(line) {
             Some(own) => own.try_clone(alloc),
             None => footprint_of(alloc, self.tree(), line),
         }
@@ -312,7 +312,7 @@ impl Proof {
         requires turns { turns_of children.items ≡ legal_turns line.now.frame line.now.state }
         requires children { AreChildren line.now.frame line.now.state children.items }
         ensures { IfOk result (λ p. StandsAt p line.now.frame line.now.state × (p.side ≡ opponent line.now.state.to_move)
-            × (p.tree ≡ reply (entries_of (trees_of children.items)))) }
+            × (p.tree ≡ reply (entries_of (trees_by_turn children.items)))) }
     {
         let mut footprint = Footprint::of_repeats(alloc, line)?;
         let mut replies = Replies::with_capacity(alloc, children.len())?;

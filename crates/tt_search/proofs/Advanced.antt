@@ -6,7 +6,7 @@ use Rattle.tt_game.specs.Line.{LineWithUndo}
 use Rattle.tt_search.specs.PartialTree.{PartialTree}
 use Rattle.tt_search.specs.Numbers.{count, IsUndecided}
 use Rattle.tt_search.specs.MostProving.{most_proving_depth}
-use Rattle.tt_search.specs.Growing.{IsExpansion, IsClosing, Grows, GrownBy, GrownFrom}
+use Rattle.tt_search.specs.Growing.{IsExpansion, IsClosing, IsGrowthStep, GrownBy, GrownFrom}
 use Rattle.tt_search.specs.inside.Walking.{Stand, Stage, stage, stand}
 use Rattle.tt_search.specs.inside.Taken.{Taken, IsLeft}
 use Rattle.tt_search.specs.inside.Steady.{IsGrowth, Steady, AreStepsAt}
@@ -56,7 +56,7 @@ module _ (at : Stand) (limits : Limits) where
       taken_with k.before step new (steady_with k.how_many old k.before h u k.steady) (steady_undecided k.how_many at old k.before k.steady u) k.taken k.counted
 
   -- a growth of a search is one within its limits
-  grows_with : (old new : Stage) → IsSearch at limits old → IsUndecided old.tree → IsGrowth at old new → Grows limits at.frame at.state old.tree new.tree
+  grows_with : (old new : Stage) → IsSearch at limits old → IsUndecided old.tree → IsGrowth at old new → IsGrowthStep limits at.frame at.state old.tree new.tree
   grows_with old new h u (inl g) =
       (u, inl (omega (arith, g.0, h.counted), subst (λ r. IsExpansion r at.frame at.state old.tree new.tree) h.room g.1))
   grows_with old new h u (inr g) = (u, inr (subst (λ r. IsClosing r at.frame at.state old.tree new.tree) h.room g.1))
@@ -126,7 +126,7 @@ reached_joined a b c h k = record {
 }
 
 -- a growth leaves less to do
-grows_falls : (limits : Limits) (f : Frame) (s : State) (old new : PartialTree) → Grows limits f s old new
+grows_falls : (limits : Limits) (f : Frame) (s : State) (old new : PartialTree) → IsGrowthStep limits f s old new
     → open_leaves new + (limits.budget - count new) * 363 < open_leaves old + (limits.budget - count old) * 363
 grows_falls limits f s old new (u, inl g) = falls_expanded limits.depth limits.budget f s old new u g.0 g.1
 grows_falls limits f s old new (u, inr g) = falls_closed limits.depth limits.budget f s old new u g

@@ -12,7 +12,7 @@ use Rattle.tt_game.specs.Line.{LineWithUndo}
 use Rattle.tt_game.specs.BloomFilter.{MayHold}
 use Rattle.tt_proof.specs.Proven.{Proven}
 use Rattle.tt_search.specs.Stores.{HasKeyAndSide, IsNewest}
-use Rattle.tt_search.specs.KeyIndex.{index_hash, index_hashes}
+use Rattle.tt_search.specs.KeyIndex.{index_hash, key_hashes}
 use Rattle.tt_search.specs.declared.store.key_index.TheConstants.{KEY_FILTER_BITS}
 use Rattle.tt_search.specs.inside.Buckets.{last_slot, bucket_of_hash, in_bucket, MayHoldHashes, AreBuckets, NoneFrom, NoHashFrom}
 
@@ -160,34 +160,34 @@ module _ (line : LineWithUndo) (side : Side) where
 
   -- ---- the walk down a bucket
 
-  hash_at : (hashes : List ℕ) (ps : List Proven) (i : ℕ) (p : Proven) → hashes ≡ index_hashes ps → slice_get ps i ≡ Some p → get_or hashes i 0 ≡ index_hash (key_of p.frame p.state)
+  hash_at : (hashes : List ℕ) (ps : List Proven) (i : ℕ) (p : Proven) → hashes ≡ key_hashes ps → slice_get ps i ≡ Some p → get_or hashes i 0 ≡ index_hash (key_of p.frame p.state)
   hash_at hashes ps i p e is =
       ap (λ l. get_or l i 0) e
-      ∙ get_or_from_slice_get (index_hashes ps) i (index_hash (key_of p.frame p.state)) 0
+      ∙ get_or_from_slice_get (key_hashes ps) i (index_hash (key_of p.frame p.state)) 0
       (slice_get-map (λ (q : Proven). index_hash (key_of q.frame q.state)) ps i ∙ ap (option_map (λ (q : Proven). index_hash (key_of q.frame q.state))) is)
 
   answer_hash : (p : Proven) → HasKeyAndSide line side p → index_hash (key_of p.frame p.state) ≡ index_hash (key_of line.frame line.state)
   answer_hash p a = ap index_hash a.same_key
 
   -- what answers has the hash of the question
-  pub answers_hash : (hashes : List ℕ) (ps : List Proven) (i hash : ℕ) (p : Proven) → hashes ≡ index_hashes ps → hash ≡ index_hash (key_of line.frame line.state) → slice_get ps i ≡ Some p
+  pub answers_hash : (hashes : List ℕ) (ps : List Proven) (i hash : ℕ) (p : Proven) → hashes ≡ key_hashes ps → hash ≡ index_hash (key_of line.frame line.state) → slice_get ps i ≡ Some p
       → HasKeyAndSide line side p → get_or hashes i 0 ≡ hash
   answers_hash hashes ps i hash p all m is a = hash_at hashes ps i p all is ∙ answer_hash p a ∙ sym m
 
   -- no proof answers from a slot on from which no slot has the question's hash
-  pub none_unmarked : (hashes : List ℕ) (ps : List Proven) (hash n : ℕ) → hashes ≡ index_hashes ps → hash ≡ index_hash (key_of line.frame line.state) → NoHashFrom hashes hash n
+  pub none_unmarked : (hashes : List ℕ) (ps : List Proven) (hash n : ℕ) → hashes ≡ key_hashes ps → hash ≡ index_hash (key_of line.frame line.state) → NoHashFrom hashes hash n
       → NoneFrom line side ps n
   none_unmarked hashes ps hash n all m un i p low at a =
       let many : length hashes ≡ length ps = ap length all ∙ length-map ps _ in
       un i low (omega (arith, many, slice_get_within ps i p at)) (answers_hash hashes ps i hash p all m at a)
 
   -- nothing answers where no slot has the question's hash
-  pub newest_unmarked : (hashes : List ℕ) (ps : List Proven) (hash n : ℕ) → hashes ≡ index_hashes ps → hash ≡ index_hash (key_of line.frame line.state) → NoHashFrom hashes hash n → n ≡ 0
+  pub newest_unmarked : (hashes : List ℕ) (ps : List Proven) (hash n : ℕ) → hashes ≡ key_hashes ps → hash ≡ index_hash (key_of line.frame line.state) → NoHashFrom hashes hash n → n ≡ 0
       → IsNewest line side (reverse ps) None
   newest_unmarked hashes ps hash n all m un none = none_newest ps (λ i p low at. none_unmarked hashes ps hash n all m un i p (omega (arith, none)) at)
 
   -- no proof answers past the slot before one that doesn't answer
-  pub none_past_next : (heads before hashes : List ℕ) (ps : List Proven) (hash slot next : ℕ) → hashes ≡ index_hashes ps → hash ≡ index_hash (key_of line.frame line.state)
+  pub none_past_next : (heads before hashes : List ℕ) (ps : List Proven) (hash slot next : ℕ) → hashes ≡ key_hashes ps → hash ≡ index_hash (key_of line.frame line.state)
       → AreBuckets heads before hashes (length hashes) → slot < length hashes → bucket_of_hash (get_or hashes slot 0) (length heads) ≡ bucket_of_hash hash (length heads)
       → next ≡ get_or before slot 0
       → NoneFrom line side ps (slot + 1) → ((p : Proven) → slice_get ps slot ≡ Some p → HasKeyAndSide line side p → ⊥) → NoneFrom line side ps next

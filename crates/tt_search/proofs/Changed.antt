@@ -14,8 +14,8 @@ use Rattle.tt_search.specs.inside.Edges.{edge_turns, edge_trees}
 use Rattle.tt_search.specs.inside.ChildNodes.{choices_of, child_of, AreFew}
 use Rattle.tt_search.specs.inside.ChildSteps.{IsPut}
 use Rattle.tt_search.specs.declared.tree.children.ChildNodes.{ChildNodes}
-use Rattle.tt_search.specs.declared.tree.numbers.Pair.{Pair}
-use Rattle.tt_search.proofs.Indices.{length-turns_of, length-trees_of}
+use Rattle.tt_search.specs.declared.tree.numbers.PhiDelta.{PhiDelta}
+use Rattle.tt_search.proofs.Indices.{length-turns_of, length-trees_by_turn}
 use Rattle.tt_search.proofs.Best.{own_number, other_number}
 
 -- ---- numbers
@@ -150,7 +150,7 @@ module _ (mover : Side) (old new : ChildNodes) (p : ℕ) (tree : PartialTree) (i
 
   -- and the place is still there
   pub index_there : p < length new.edges
-  index_there = omega (arith, there, length-trees_of old.edges old.grown.items, edges_stay)
+  index_there = omega (arith, there, length-trees_by_turn old.edges old.grown.items, edges_stay)
 
   -- the child at the place is the tree
   pub tree_there : child_of new p ≡ tree
@@ -193,7 +193,7 @@ module _ (mover : Side) (old new : ChildNodes) (p : ℕ) (tree : PartialTree) (i
       (omega (arith, k.0, at), ap (λ n. changed_sum (capped_sum (row goal)) n (number goal tree)) (sym at) ∙ k.1 ∙ ap capped_sum (sym (row_is goal)))
 
 -- what steps of the best child make of the node's numbers, where it was the first child, and is the second one now
-module _ (mover : Side) (old new : ChildNodes) (p : ℕ) (v : Choices) (was : Pair) (view_is : choices_of mover old ≡ v)
+module _ (mover : Side) (old new : ChildNodes) (p : ℕ) (v : Choices) (was : PhiDelta) (view_is : choices_of mover old ≡ v)
     (pair : ArePair v.mover (node_with v) was) (is : p ≡ best_index (choices_of mover old))
     (there : best_index v < length v.trees) (tree : PartialTree) (put : IsPut p old tree new) (second : PartialTree) (second_is : second ≡ child_of new p) where
   abbrev before : Side → List ℕ

@@ -11,7 +11,7 @@ use Rattle.tt_sgf.specs.declared.size.Size.{Size}
 use Rattle.tt_game.specs.Turns.{legal_turns}
 use Rattle.tt_search.specs.Numbers.{count, count_all, IsUndecided}
 use Rattle.tt_search.specs.MostProving.{best, most_proving_state, state_below, most_proving_depth, depth_below, with_most_proving, with_below}
-use Rattle.tt_search.specs.Growing.{leaf_for, new_leaf, new_leaves, expansion, IsPartialTree, ArePartialTrees}
+use Rattle.tt_search.specs.Growing.{leaf_with_winner, new_leaf, new_leaves, expansion, IsPartialTree, ArePartialTrees}
 use Rattle.tt_search.specs.inside.Within.{StaysWithin, AllStayWithin}
 use Rattle.tt_search.specs.inside.Children.{children_of}
 use Rattle.tt_search.proofs.Best.{best_child}
@@ -33,15 +33,15 @@ UndecidedAt zero (more tree children) = IsUndecided tree
 UndecidedAt (suc i) (more tree children) = UndecidedAt i children
 
 -- children as a list
-trees_of : Children → List PartialTree
-trees_of no_more = []
-trees_of (more tree children) = tree ∷ trees_of children
+trees_by_turn : Children → List PartialTree
+trees_by_turn no_more = []
+trees_by_turn (more tree children) = tree ∷ trees_by_turn children
 
 -- a list of the children makes the same children
-children_of-trees_of : (children : Children) → children_of (trees_of children) ≡ children
-unfolding trees_of
-children_of-trees_of no_more = refl
-children_of-trees_of (more tree children) = ap (more tree) (children_of-trees_of children)
+children_of-trees_by_turn : (children : Children) → children_of (trees_by_turn children) ≡ children
+unfolding trees_by_turn
+children_of-trees_by_turn no_more = refl
+children_of-trees_by_turn (more tree children) = ap (more tree) (children_of-trees_by_turn children)
 
 -- what is undecided at a place in the list is undecided among the children
 undecided_at : (trees : List PartialTree) (i : ℕ) (d : PartialTree) → i < length trees → IsUndecided (get_or trees i d) → UndecidedAt i (children_of trees)
@@ -51,9 +51,9 @@ undecided_at (tree ∷ trees) (suc i) d l u = undecided_at trees i d (omega arit
 
 -- the best child of an undecided node is there and undecided
 pub best_undecided : (mover : Side) (turns : List Turn) (children : Children) → IsUndecided (expanded mover turns children) → UndecidedAt (best mover children) children
-best_undecided mover turns children u = subst (λ r. IsUndecided (expanded mover turns r) → UndecidedAt (best mover r) r) (children_of-trees_of children)
-    (λ v. undecided_at (trees_of children) (best mover (children_of (trees_of children))) fresh (best_child mover turns (trees_of children) fresh v).0
-    (best_child mover turns (trees_of children) fresh v).1) u
+best_undecided mover turns children u = subst (λ r. IsUndecided (expanded mover turns r) → UndecidedAt (best mover r) r) (children_of-trees_by_turn children)
+    (λ v. undecided_at (trees_by_turn children) (best mover (children_of (trees_by_turn children))) fresh (best_child mover turns (trees_by_turn children) fresh v).0
+    (best_child mover turns (trees_by_turn children) fresh v).1) u
 
 mutual
   -- a tree at the most-proving leaf of an undecided one adds its expanded nodes to the count
@@ -120,7 +120,7 @@ mutual
   row_stays_grown size room leaf (suc i) (more tree children) f l = (f.0, row_stays_grown size room leaf i children f.1 l)
 
 -- a leaf that says who has won is a partial tree
-leaf_of_partial : (f : Frame) (s : State) (o : Option Side) → winner_of f s ≡ o → IsPartialTree f s (leaf_for o)
+leaf_of_partial : (f : Frame) (s : State) (o : Option Side) → winner_of f s ≡ o → IsPartialTree f s (leaf_with_winner o)
 leaf_of_partial f s None e = e
 leaf_of_partial f s (Some side) e = e
 
@@ -138,7 +138,7 @@ pub expansion_partial : (f : Frame) (s : State) → winner_of f s ≡ None → I
 expansion_partial f s w = (w, refl, refl, new_leaves_partial f s (legal_turns f s))
 
 -- a leaf that says who has won stays within any room
-leaf_stays : (size : Size) (room : ℕ) (o : Option Side) → StaysWithin size room (leaf_for o)
+leaf_stays : (size : Size) (room : ℕ) (o : Option Side) → StaysWithin size room (leaf_with_winner o)
 leaf_stays size room None = tt
 leaf_stays size room (Some side) = tt
 
@@ -152,7 +152,7 @@ pub expansion_stays : (size : Size) (room : ℕ) (f : Frame) (s : State) → 0 <
 expansion_stays size room f s h = (h, new_leaves_stay size (room - 1) f s (legal_turns f s))
 
 -- a leaf that says who has won has no expanded node
-leaf_of_count : (o : Option Side) → count (leaf_for o) ≡ 0
+leaf_of_count : (o : Option Side) → count (leaf_with_winner o) ≡ 0
 leaf_of_count None = refl
 leaf_of_count (Some side) = refl
 

@@ -15,9 +15,9 @@ use Rattle.tt_search.specs.declared.tree.edges.EdgeState.{EdgeState}
 use Rattle.tt_search.specs.declared.tree.edges.EdgeState.TheVariants.{Fresh, Won, Grown}
 
 -- there are as many trees as edges
-pub length-trees_of : (es : List Edge) (ts : List PartialTree) → length (edge_trees es ts) ≡ length es
-length-trees_of [] ts = refl
-length-trees_of (e ∷ es) ts = ap suc (length-trees_of es (grown_behind (edge_state_of e) ts))
+pub length-trees_by_turn : (es : List Edge) (ts : List PartialTree) → length (edge_trees es ts) ≡ length es
+length-trees_by_turn [] ts = refl
+length-trees_by_turn (e ∷ es) ts = ap suc (length-trees_by_turn es (grown_behind (edge_state_of e) ts))
 
 -- and as many turns
 pub length-turns_of : (es : List Edge) → length (edge_turns es) ≡ length es

@@ -8,7 +8,7 @@ use Rattle.tt_game.specs.declared.frame.Side.TheVariants.{Attacker, Defender}
 use Rattle.tt_game.specs.declared.turns.Turn.{Turn}
 use Rattle.tt_game.specs.declared.turns.Turn.TheVariants.{Pass}
 use Rattle.tt_game.specs.Game.{State, IsLegal, after}
-use Rattle.tt_game.specs.laws.TurnLaws.{AreLegal, are_legal}
+use Rattle.tt_game.specs.laws.TurnLaws.{EachIsLegal, are_legal}
 use Rattle.tt_proof.specs.declared.footprints.Footprint.{Footprint}
 use Rattle.tt_proof.specs.Strategy.{Strategy, Entries, reply, entry, entries_of}
 use Rattle.tt_proof.specs.KeptFootprints.{IsFootprint, IsEntryJoined}
@@ -24,7 +24,7 @@ use Rattle.tt_search.specs.inside.Choices.{node_with}
 use Rattle.tt_search.specs.inside.ChildNodes.{choices_of, children_in, child_of}
 use Rattle.tt_search.specs.declared.tree.edges.Edge.{Edge}
 use Rattle.tt_search.specs.declared.tree.children.ChildNodes.{ChildNodes}
-use Rattle.tt_search.proofs.Indices.{length-trees_of, turn_at_index, nodes_behind, replies_at_end, replied_step}
+use Rattle.tt_search.proofs.Indices.{length-trees_by_turn, turn_at_index, nodes_behind, replies_at_end, replied_step}
 use Rattle.tt_search.proofs.Replies.{joined, joined_none, joined_push}
 use Rattle.tt_search.proofs.ChildSteps.{any_default}
 use Rattle.tt_search.proofs.Steps.{stays_in_more}
@@ -50,7 +50,7 @@ module _ (side : Side) (f : Frame) (s : State) where
     pub legal : IsLegal f s (get_or turns i t)
     pub child : IsSettledAt side f (after f s (get_or turns i t)) (get_or trees i d)
 
-  child_at : (i : ℕ) (turns : List Turn) (trees : List PartialTree) (t : Turn) (d : PartialTree) → AreLegal f s turns → ArePartialTrees f s turns (children_of trees)
+  child_at : (i : ℕ) (turns : List Turn) (trees : List PartialTree) (t : Turn) (d : PartialTree) → EachIsLegal f s turns → ArePartialTrees f s turns (children_of trees)
       → AllStayWithin f.size 511 (children_of trees) → IsZeroAt side i (children_of trees) → IsSettledChild i turns trees t d
   child_at i [] [] t d l p h z = absurd z
   child_at i [] (tree ∷ trees) t d l p h z = absurd p
@@ -69,13 +69,13 @@ module _ (side : Side) (f : Frame) (s : State) where
   picked_child : (turns : List Turn) (trees : List PartialTree) (t : Turn) (d : PartialTree) → IsSettledAt side f s (expanded side turns (children_of trees))
       → IsSettledChild (first_settled side (children_of trees)) turns trees t d
   picked_child turns trees t d h =
-      child_at (first_settled side (children_of trees)) turns trees t d (subst (AreLegal f s) (sym h.partial.2) (are_legal f s)) h.partial.3 h.stays.1
+      child_at (first_settled side (children_of trees)) turns trees t d (subst (EachIsLegal f s) (sym h.partial.2) (are_legal f s)) h.partial.3 h.stays.1
       (zero_at side (children_of trees) (own_zero side side turns (children_of trees) (same_as_itself side) h.settled))
 
   -- so its place is there
   pub picked_there : (x : ChildNodes) (i : ℕ) → IsSettledAt side f s (node_with (choices_of side x)) → i ≡ first_settled side (children_in x) → i < length x.edges
   picked_there x i h is =
-      omega (arith, is, length-trees_of x.edges x.grown.items, (picked_child (edge_turns x.edges) (edge_trees x.edges x.grown.items) Pass fresh h).there)
+      omega (arith, is, length-trees_by_turn x.edges x.grown.items, (picked_child (edge_turns x.edges) (edge_trees x.edges x.grown.items) Pass fresh h).there)
 
   -- and what the code finds there is a legal turn, and a tree that is settled behind it
   pub picked_here : (x : ChildNodes) (i : ℕ) (e : Edge) (t : Turn) (child : PartialTree) → IsSettledAt side f s (node_with (choices_of side x)) → i ≡ first_settled side (children_in x)
@@ -98,7 +98,7 @@ module _ (side : Side) (f : Frame) (s : State) where
       record {
         whole = whole;
         settled = all_zero side children (zero_sum (numbers side children) (other_zero side mover (edge_turns es) children e h.settled));
-        legal = subst (AreLegal f s) (sym h.partial.2) (are_legal f s);
+        legal = subst (EachIsLegal f s) (sym h.partial.2) (are_legal f s);
         partial = h.partial.3;
         stays = h.stays.1;
       }

@@ -8,13 +8,13 @@ use Rattle.tt_board.specs.Stones.{Points}
 use Rattle.tt_game.specs.declared.frame.Frame.{Frame}
 use Rattle.tt_game.specs.declared.turns.Turn.TheVariants.{Play}
 use Rattle.tt_game.specs.Game.{State, IsLegal}
-use Rattle.tt_game.specs.laws.TurnLaws.{AreLegal}
+use Rattle.tt_game.specs.laws.TurnLaws.{EachIsLegal}
 use Rattle.tt_proof.specs.KeptFootprints.{AreLegalPlays}
 use Rattle.tt_search.specs.inside.Edges.{edge_turn, edge_turns}
 use Rattle.tt_search.specs.declared.tree.edges.Edge.{Edge}
 
 -- each of the edges' turns is legal
-pub legal_at : (f : Frame) (s : State) (es : List Edge) (i : ℕ) (e : Edge) → AreLegal f s (edge_turns es) → i < length es → IsLegal f s (edge_turn (get_or es i e))
+pub legal_at : (f : Frame) (s : State) (es : List Edge) (i : ℕ) (e : Edge) → EachIsLegal f s (edge_turns es) → i < length es → IsLegal f s (edge_turn (get_or es i e))
 legal_at f s [] i e h lt = absurd (omega (arith, lt))
 legal_at f s (x ∷ es) zero e h lt = h.0
 legal_at f s (x ∷ es) (suc i) e h lt = legal_at f s es i e h.1 (omega (arith, lt))

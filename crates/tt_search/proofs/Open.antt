@@ -9,7 +9,7 @@ use Rattle.tt_game.specs.laws.TurnLaws.{length-legal_turns}
 use Rattle.tt_search.specs.PartialTree.{PartialTree, fresh, won, closed, expanded, Children, no_more, more}
 use Rattle.tt_search.specs.Numbers.{count, IsUndecided}
 use Rattle.tt_search.specs.MostProving.{best, most_proving_state, with_most_proving, with_below}
-use Rattle.tt_search.specs.Growing.{leaf_for, new_leaves, expansion, IsExpansion, IsClosing, Grows, GrownFrom}
+use Rattle.tt_search.specs.Growing.{leaf_with_winner, new_leaves, expansion, IsExpansion, IsClosing, IsGrowthStep, GrownFrom}
 use Rattle.tt_search.specs.Searched.{Searched, StepOf, IsSameProblem}
 use Rattle.tt_search.specs.RunEnds.{RanTo}
 use Rattle.tt_search.specs.declared.limits.Step.{Step}
@@ -43,7 +43,7 @@ mutual
   open_in_grown leaf (suc i) (more tree children) u = omega (arith, open_in_grown leaf i children u)
 
 -- a leaf that says who has won is at most one fresh leaf
-leaf_for_open : (o : Option Side) → open_leaves (leaf_for o) ≤ 1
+leaf_for_open : (o : Option Side) → open_leaves (leaf_with_winner o) ≤ 1
 leaf_for_open None = omega arith
 leaf_for_open (Some side) = omega arith
 
@@ -91,7 +91,7 @@ falls old new step k same (inr e) =
     (falls_closed old.limits.depth old.limits.budget old.line.frame old.line.state old.tree new.tree h.0 h.1)
 
 -- a step that expands or closes is a growth
-grows_by : (old new : Searched) (step : Step) → StepOf old step new → (step ≡ Expanded) ⊎ (step ≡ Closed) → Grows old.limits old.line.frame old.line.state old.tree new.tree
+grows_by : (old new : Searched) (step : Step) → StepOf old step new → (step ≡ Expanded) ⊎ (step ≡ Closed) → IsGrowthStep old.limits old.line.frame old.line.state old.tree new.tree
 grows_by old new step k (inl e) = let h = subst (λ s. StepOf old s new) e k in (h.0, inl (h.1, h.2))
 grows_by old new step k (inr e) = let h = subst (λ s. StepOf old s new) e k in (h.0, inr h.1)
 
@@ -103,8 +103,8 @@ grows start old new step same g k h = (
   (
     old.tree,
     g.1,
-    subst (λ l. Grows l start.line.frame start.line.state old.tree new.tree) same.limits
-        (subst (λ l. Grows old.limits l.frame l.state old.tree new.tree) same.line (grows_by old new step k h)),
+    subst (λ l. IsGrowthStep l start.line.frame start.line.state old.tree new.tree) same.limits
+        (subst (λ l. IsGrowthStep old.limits l.frame l.state old.tree new.tree) same.line (grows_by old new step k h)),
   ),
 )
 

@@ -4,7 +4,7 @@ use Rattle.std.proofs.lemmas.Grind.{common_steps}
 use Rattle.tt_game.specs.declared.frame.Side.{Side}
 use Rattle.tt_game.specs.declared.frame.Side.TheVariants.{Attacker, Defender}
 use Rattle.tt_search.specs.PartialTree.{PartialTree, fresh, won, closed, expanded, Children, no_more, more}
-use Rattle.tt_search.specs.Numbers.{infinite, cap, least, has_infinite, capped_sum, decided_number, combined, number, numbers, IsCapped}
+use Rattle.tt_search.specs.Numbers.{infinite, cap, least, has_infinite, capped_sum, decided_number, combined, number, numbers, IsCappedOrInfinite}
 use Rattle.tt_search.specs.MostProving.{first_least, best}
 
 -- the least of numbers is at most infinite
@@ -67,25 +67,25 @@ best_from_start mover no_more = refl
 best_from_start mover (more tree children) = best_from_infinite (number mover tree) (numbers mover children) (number_le mover tree)
 
 -- a decided leaf gives 0 or an infinite number
-decided_capped : (goal side : Side) → IsCapped (decided_number goal side)
+decided_capped : (goal side : Side) → IsCappedOrInfinite (decided_number goal side)
 decided_capped Attacker Attacker = inl (omega arith)
 decided_capped Attacker Defender = inr refl
 decided_capped Defender Attacker = inr refl
 decided_capped Defender Defender = inl (omega arith)
 
 -- a sum is capped
-chosen_capped : (some : Bool) (n : ℕ) → IsCapped (if some then infinite else min n cap)
+chosen_capped : (some : Bool) (n : ℕ) → IsCappedOrInfinite (if some then infinite else min n cap)
 chosen_capped true n = inr refl
 chosen_capped false n = inl (omega arith)
 
 -- so is the lesser of two capped numbers
-lesser_capped : (x y : ℕ) → IsCapped x → IsCapped y → IsCapped (min x y)
+lesser_capped : (x y : ℕ) → IsCappedOrInfinite x → IsCappedOrInfinite y → IsCappedOrInfinite (min x y)
 lesser_capped x y (inl h) k = inl (omega (arith, h))
 lesser_capped x y (inr h) (inl k) = inl (omega (arith, k))
 lesser_capped x y (inr h) (inr k) = inr (omega (arith, h, k))
 
 -- so is what the numbers of the children give
-combined_capped : (goal mover : Side) (xs : List ℕ) → IsCapped (least xs) → IsCapped (combined goal mover xs)
+combined_capped : (goal mover : Side) (xs : List ℕ) → IsCappedOrInfinite (least xs) → IsCappedOrInfinite (combined goal mover xs)
 combined_capped Attacker Attacker xs h = h
 combined_capped Attacker Defender xs h = chosen_capped (has_infinite xs) (sum xs)
 combined_capped Defender Attacker xs h = chosen_capped (has_infinite xs) (sum xs)
@@ -93,13 +93,13 @@ combined_capped Defender Defender xs h = h
 
 mutual
   -- so is the number of any tree
-  pub number_capped : (goal : Side) (tree : PartialTree) → IsCapped (number goal tree)
+  pub number_capped : (goal : Side) (tree : PartialTree) → IsCappedOrInfinite (number goal tree)
   number_capped goal fresh = inl (omega arith)
   number_capped goal (won side) = decided_capped goal side
   number_capped goal (closed side tree) = decided_capped goal side
   number_capped goal (expanded mover turns children) = combined_capped goal mover (numbers goal children) (least_capped goal children)
 
   -- and the least of any children's
-  least_capped : (goal : Side) (children : Children) → IsCapped (least (numbers goal children))
+  least_capped : (goal : Side) (children : Children) → IsCappedOrInfinite (least (numbers goal children))
   least_capped goal no_more = inr refl
   least_capped goal (more tree children) = lesser_capped (number goal tree) (least (numbers goal children)) (number_capped goal tree) (least_capped goal children)

@@ -8,7 +8,7 @@ use Rattle.tt_game.specs.declared.turns.Turn.{Turn}
 use Rattle.tt_game.specs.declared.frame.Frame.{Frame}
 use Rattle.tt_game.specs.Game.{State, IsLegal, after, winner_of}
 use Rattle.tt_game.specs.laws.Members.{IsIn, in_of_contains}
-use Rattle.tt_game.specs.laws.TurnLaws.{AreLegal, RisesFrom, are_legal, contains-legal_turns, rises_from_0}
+use Rattle.tt_game.specs.laws.TurnLaws.{EachIsLegal, RisesFrom, are_legal, contains-legal_turns, rises_from_0}
 use Rattle.tt_game.specs.Turns.{legal_turns}
 use Rattle.tt_proof.specs.Strategy.{Strategy, Entries, depth, depth_of_entries, IsInOrder, AreInOrder, number_on}
 use Rattle.tt_proof.specs.Proven.{IsWon}
@@ -106,13 +106,13 @@ mutual
   wins side f s (closed winner strategy) p z = subst (λ w. Wins w f strategy s) (same_side side winner z) p
   wins side f s (expanded mover turns children) p z =
       by_mover side mover f s (pick_at side (first_settled side children) turns children) (replies side turns children) p.0 p.1
-      (λ e. pick_wins side f s (first_settled side children) turns children p.0 (sym p.1 ∙ same_is_same side mover e) (subst (AreLegal f s) (sym p.2) (are_legal f s)) p.3
+      (λ e. pick_wins side f s (first_settled side children) turns children p.0 (sym p.1 ∙ same_is_same side mover e) (subst (EachIsLegal f s) (sym p.2) (are_legal f s)) p.3
       (zero_at side children (own_zero side mover turns children e z)))
       (λ e t l. replies_win side f s turns children t p.3 (all_zero side children (zero_sum (numbers side children) (other_zero side mover turns children e z)))
       (subst (λ ts. IsIn ts t) (sym p.2) (in_of_contains (legal_turns f s) t ((contains-legal_turns f s t).1 l))))
 
   -- so does the pick of a child with the number 0, where the side is to move
-  pick_wins : (side : Side) (f : Frame) (s : State) (i : ℕ) (turns : List Turn) (children : Children) → winner_of f s ≡ None → s.to_move ≡ side → AreLegal f s turns
+  pick_wins : (side : Side) (f : Frame) (s : State) (i : ℕ) (turns : List Turn) (children : Children) → winner_of f s ≡ None → s.to_move ≡ side → EachIsLegal f s turns
       → ArePartialTrees f s turns children → IsZeroAt side i children → Wins side f (pick_at side i turns children) s
   pick_wins side f s i [] no_more w m l p z = absurd z
   pick_wins side f s i [] (more tree children) w m l p z = absurd p

@@ -13,12 +13,12 @@ use Rattle.tt_search.specs.MostProving.{most_proving_state, most_proving_depth, 
 use Rattle.tt_search.specs.declared.limits.Limits.{Limits}
 
 -- a new leaf: won where somebody has won
-abbrev pub leaf_for : Option Side → PartialTree
-leaf_for None = fresh
-leaf_for (Some side) = won side
+abbrev pub leaf_with_winner : Option Side → PartialTree
+leaf_with_winner None = fresh
+leaf_with_winner (Some side) = won side
 
 abbrev pub new_leaf : Frame → State → PartialTree
-new_leaf f s = leaf_for (winner_of f s)
+new_leaf f s = leaf_with_winner (winner_of f s)
 
 abbrev pub new_leaves : Frame → State → List Turn → Children
 new_leaves f s [] = no_more
@@ -55,14 +55,14 @@ IsClosing limit f s old new =
     × (new ≡ with_most_proving (closed side strategy) old)
 
 -- an undecided tree grows at its most-proving leaf: by an expansion below the budget, or by a closing
-abbrev pub Grows : Limits → Frame → State → PartialTree → PartialTree → Type 0
-Grows limits f s old new =
+abbrev pub IsGrowthStep : Limits → Frame → State → PartialTree → PartialTree → Type 0
+IsGrowthStep limits f s old new =
     IsUndecided old × ((count old < limits.budget × IsExpansion limits.depth f s old new) ⊎ IsClosing limits.depth f s old new)
 
 -- a tree is reached from another one by so many growths
 abbrev pub GrownBy : ℕ → Limits → Frame → State → PartialTree → PartialTree → Type 0
 GrownBy zero limits f s from tree = tree ≡ from
-GrownBy (suc n) limits f s from tree = (before : PartialTree) × GrownBy n limits f s from before × Grows limits f s before tree
+GrownBy (suc n) limits f s from tree = (before : PartialTree) × GrownBy n limits f s from before × IsGrowthStep limits f s before tree
 
 abbrev pub GrownFrom : Limits → Frame → State → PartialTree → PartialTree → Type 0
 GrownFrom limits f s from tree = (n : ℕ) × GrownBy n limits f s from tree

@@ -13,8 +13,8 @@ abbrev pub index_hash : Key → ℕ
 index_hash = hash_of_key
 
 -- the hashes of proofs
-abbrev pub index_hashes : List Proven → List ℕ
-index_hashes ps = map (λ (p : Proven). index_hash (key_of p.frame p.state)) ps
+abbrev pub key_hashes : List Proven → List ℕ
+key_hashes ps = map (λ (p : Proven). index_hash (key_of p.frame p.state)) ps
 
 -- the hashes of the proofs that an index was told, and for how many more it has room
 pub record IndexState : Type 0 where

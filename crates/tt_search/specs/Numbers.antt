@@ -58,8 +58,8 @@ abbrev pub disproof_number : PartialTree → ℕ
 disproof_number tree = number Defender tree
 
 -- a number is finite, and then at most the cap, or infinite
-abbrev pub IsCapped : ℕ → Type 0
-IsCapped n = (n ≤ cap) ⊎ (n ≡ infinite)
+abbrev pub IsCappedOrInfinite : ℕ → Type 0
+IsCappedOrInfinite n = (n ≤ cap) ⊎ (n ≡ infinite)
 
 -- neither number is 0
 abbrev pub IsUndecided : PartialTree → Type 0

@@ -4,7 +4,7 @@
 ghost use Rattle.std.specs.Prelude.{◌≡◌, length, IfOk};
 ghost use Rattle.tt_game.specs.declared.frame.Frame.{Frame};
 ghost use Rattle.tt_game.specs.Game.{State, IsLegal, after};
-ghost use Rattle.tt_game.specs.laws.TurnLaws.{AreLegal};
+ghost use Rattle.tt_game.specs.laws.TurnLaws.{EachIsLegal};
 ghost use Rattle.tt_proof.specs.Strategy.{reply};
 ghost use Rattle.tt_proof.specs.KeptFootprints.{IsFootprint, IsBoardAfter, AreLegalPlays};
 ghost use Rattle.tt_search.specs.inside.Joining.{IsSettledAt, AreSettledAt};
@@ -152,7 +152,7 @@ fn picked(
 
 /// The points of the plays among the edges' turns.
 fn played(edges: &[Edge]) -> PointSet
-    ensures { (f : Frame) (s : State) → AreLegal f s (edge_turns edges.now) → AreLegalPlays f s result }
+    ensures { (f : Frame) (s : State) → EachIsLegal f s (edge_turns edges.now) → AreLegalPlays f s result }
 {
     let mut points = PointSet::empty();
     for edge in edges {

@@ -26,7 +26,7 @@ use crate::store::closing::usable;
 use crate::tree::children::{BestChild, ChildNodes};
 use crate::tree::edges::EdgeState;
 use crate::tree::node::{Growth, Node};
-use crate::tree::numbers::Pair;
+use crate::tree::numbers::PhiDelta;
 use tt_game::Side;
 use tt_sgf::NoMemory;
 
@@ -38,7 +38,7 @@ fn grows(step: Step) -> bool
 }
 
 /// Whether a step may be taken: an expansion is asked for, and nothing else.
-fn is_granted<G: Grants>(step: Step, grants: &mut G) -> bool
+fn ask_grant<G: Grants>(step: Step, grants: &mut G) -> bool
     requires room { step ≡ Expanded → (G.asked grants.old).granted < 2 ^ 64 - 1 }
     requires unasked { step ≢ Stuck Total }
     ensures granted { result ≡ true → AskedBy (G.asked grants.old) step (G.asked grants.new) }
@@ -139,7 +139,7 @@ impl Node {
         let (proof, disproof) = (self.proof, self.disproof);
         match &mut self.growth {
             Growth::Expanded(focus, children) => {
-                let was = Pair::of(focus.mover, proof, disproof);
+                let was = PhiDelta::of(focus.mover, proof, disproof);
                 let (step, numbers) = children.descend(focus, was, walk, stop, store, grants);
                 let (proof, disproof) = numbers.by_goal(focus.mover);
                 self.proof = proof;
@@ -178,7 +178,7 @@ impl Node {
         ensures descends { Descends G.asked G.source S.may_answer stop walk.old grants.old result walk.new grants.new }
         ensures steps { AreSteps stop walk.old self.old result self.new walk.new }
     {
-        let was = Pair::of(focus.mover, self.proof, self.disproof);
+        let was = PhiDelta::of(focus.mover, self.proof, self.disproof);
         let (step, numbers) = children.descend(&mut focus, was, walk, stop, store, grants);
         let (proof, disproof) = numbers.by_goal(focus.mover);
         *self = Node {
@@ -243,7 +243,7 @@ impl Node {
         ensures left { IsLeft result walk.old.left walk.new.left }
     {
         let step = self.leaf_step(walk, store);
-        if !is_granted(step, grants) {
+        if !ask_grant(step, grants) {
             *self = new_leaf(None);
             return Step::Stuck(Reason::Total);
         }
@@ -265,12 +265,12 @@ impl ChildNodes {
     fn descend<S: Store, G: Grants>(
         &mut self,
         focus: &mut BestChild,
-        was: Pair,
+        was: PhiDelta,
         walk: &mut Descent,
         stop: Stop,
         store: &mut S,
         grants: &mut G,
-    ) -> (Step, Pair)
+    ) -> (Step, PhiDelta)
         requires kept { IsKeptWith focus.old self.old was }
         requires ready { MayDescend walk.old (node_with (choices_of focus.old.mover self.old)) (G.asked grants.old) }
         ensures descends { Descends G.asked G.source S.may_answer stop walk.old grants.old result.0 walk.new grants.new }
@@ -292,12 +292,12 @@ impl ChildNodes {
     fn grow_best<S: Store, G: Grants>(
         &mut self,
         focus: &mut BestChild,
-        was: Pair,
+        was: PhiDelta,
         walk: &mut Descent,
         stop: Stop,
         store: &mut S,
         grants: &mut G,
-    ) -> (Step, Pair)
+    ) -> (Step, PhiDelta)
         requires kept { IsKeptWith focus.old self.old was }
         requires there { focus.old.index < length self.old.edges }
         requires ready { MayDescend walk.old (child_of self.old focus.old.index) (G.asked grants.old) }
@@ -314,13 +314,13 @@ impl ChildNodes {
         let new = child.number(goal);
         let other = self.sum_after(focus.mover, was.other, old, new);
         if own <= was.own {
-            return (step, Pair { own, other });
+            return (step, PhiDelta { own, other });
         }
         let best = self.best(focus.mover, was.own);
         focus.index = best.index;
         focus.rank = best.rank;
         let own = best.least;
-        (step, Pair { own, other })
+        (step, PhiDelta { own, other })
     }
 }
 

@@ -6,7 +6,7 @@ ghost use Rattle.tt_search.specs.PartialTree.{expanded, closed};
 ghost use Rattle.tt_search.specs.inside.Children.{children_of};
 ghost use Rattle.tt_search.specs.declared.tree.edges.TheConstants.{TURNS};
 ghost use Rattle.tt_search.specs.inside.Edges.{edge_turn, edge_state_of, tree_of, edge_turns, edge_trees, counted, grown_in};
-ghost use Rattle.tt_search.specs.Growing.{leaf_for, expansion};
+ghost use Rattle.tt_search.specs.Growing.{leaf_with_winner, expansion};
 ghost use Rattle.tt_search.specs.inside.Expanding.{AreNewEdges};
 ghost use Rattle.tt_search.specs.inside.Choices.{node_with};
 ghost use Rattle.tt_search.specs.inside.ChildNodes.{choices_of, choices_with};
@@ -17,7 +17,7 @@ use crate::tree::children::{BestChild, ChildNodes};
 use crate::tree::edge_row::Edges;
 use crate::tree::edges::{Edge, EdgeState};
 use crate::tree::node::{Growth, Node};
-use crate::tree::numbers::{Pair, decided_number};
+use crate::tree::numbers::{PhiDelta, decided_number};
 use crate::tree::untried::Plays;
 use arrayvec::ArrayVec;
 use std::alloc::Global;
@@ -28,7 +28,7 @@ use tt_sgf::NoMemory;
 
 /// A new leaf: won where somebody has won.
 pub(crate) fn new_leaf(winner: Option<Side>) -> Node
-    ensures { result ≡ leaf_for winner }
+    ensures { result ≡ leaf_with_winner winner }
 {
     match winner {
         None => Node {
@@ -74,7 +74,7 @@ fn expanded_node(alloc: Global, mover: Side, edges: Edges) -> Node
 /// The edge of a turn to a new leaf.
 fn new_edge(turn: Turn, winner: Option<Side>) -> Edge
     ensures turn { edge_turn result ≡ turn }
-    ensures tree { tree_of (edge_state_of result) [] ≡ leaf_for winner }
+    ensures tree { tree_of (edge_state_of result) [] ≡ leaf_with_winner winner }
     ensures small { counted (edge_state_of result) 0 ≡ 0 }
 {
     match winner {
@@ -121,7 +121,7 @@ fn untried_node(mover: Side, plays: Plays) -> Node
     requires { AreUntried (plays_and_pass plays) }
     ensures { result ≡ node_with (choices_with mover (plays_and_pass plays) []) }
 {
-    let numbers = Pair {
+    let numbers = PhiDelta {
         own: 1,
         other: u32::from(plays.len()) + 1,
     };

@@ -2,7 +2,7 @@
 
 ghost use Rattle.std.specs.Prelude.{◌≡◌, ◌+◌, ◌^◌, ◌<◌, ◌≤◌, IfOk};
 ghost use Rattle.tt_search.specs.declared.limits.Step.TheVariants.{Closed};
-ghost use Rattle.tt_search.specs.Numbers.{proof_number, disproof_number, count, IsCapped, IsUndecided};
+ghost use Rattle.tt_search.specs.Numbers.{proof_number, disproof_number, count, IsCappedOrInfinite, IsUndecided};
 ghost use Rattle.tt_search.specs.Growing.{new_leaf, IsGrown};
 ghost use Rattle.tt_search.specs.Searched.{IsSameProblem, StepOf};
 ghost use Rattle.tt_search.specs.RunEnds.{EndOf, HasSpent, SpentBy, IsProofOf};
@@ -84,7 +84,7 @@ impl Search {
     #[tactic(auto, using(crate::proofs::Rows::number_capped))]
     pub fn numbers(&self) -> (u32, u32)
         ensures exact { result ≡ (proof_number self.now.tree, disproof_number self.now.tree) }
-        ensures capped { IsCapped result.0 × IsCapped result.1 }
+        ensures capped { IsCappedOrInfinite result.0 × IsCappedOrInfinite result.1 }
     {
         (
             self.root.number(Side::Attacker),

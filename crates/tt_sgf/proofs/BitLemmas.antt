@@ -15,7 +15,7 @@ use Rattle.tt_sgf.specs.declared.size.TheConstants.{MOST_POINTS}
 use Rattle.tt_sgf.specs.declared.bits.TheConstants.{BITS}
 use Rattle.tt_sgf.specs.Points.{passing}
 use Rattle.tt_sgf.specs.laws.PointLaws.{passing-zero, passing-in, passing-out, contains-passing}
-use Rattle.tt_sgf.specs.Words.{bit_in, points_of, IsLow, AreSameBits, AreOfPoints, AreCovered}
+use Rattle.tt_sgf.specs.MachineWords.{bit_in, points_of, IsLow, AreSameBits, AreOfPoints, AreCovered}
 
 -- ---- bits
 

@@ -15,7 +15,7 @@ use Rattle.std.specs.Option.{is_some}
 use Rattle.std.proofs.lemmas.Option.{same_Some}
 use Rattle.tt_sgf.specs.Grammar.{is_blank}
 use Rattle.tt_sgf.specs.Values.{StandsIn, trimmed}
-use Rattle.tt_sgf.specs.Entries.{IsEntry, HasCorners, Covers, AnyCovers, AreEntries, corner_in, between, entry_of, in_rectangle, covers_by, covers, is_entry, set_of}
+use Rattle.tt_sgf.specs.Entries.{IsEntry, IsPointOrRectangle, Covers, AnyCovers, AreEntries, corner_in, between, entry_of, in_rectangle, covers_by, covers, is_entry, set_of}
 use Rattle.tt_sgf.specs.Points.{passing}
 use Rattle.tt_sgf.specs.laws.PointLaws.{contains-passing}
 use Rattle.tt_sgf.proofs.NumberLemmas.{trimmed_is, trimmed_stands}
@@ -157,7 +157,7 @@ entry_again size v c r d s h =
 
 -- the value is an entry with this rectangle
 abbrev EntryAt : Size → List ℕ → Rectangle → Type 0
-EntryAt size v e = (h : HasCorners size v) × (e ≡ between h.0 h.1 h.2 h.3)
+EntryAt size v e = (h : IsPointOrRectangle size v) × (e ≡ between h.0 h.1 h.2 h.3)
 
 -- letters from `a` on stand there as `a` and the numbers of columns and rows: five bytes
 five_stands : (v : List ℕ) (c r m d s : ℕ) → m ≡ colon → lower_a ≤ c → lower_a ≤ r → lower_a ≤ d → lower_a ≤ s → StandsIn (c ∷ r ∷ m ∷ d ∷ s ∷ []) v
@@ -279,7 +279,7 @@ pub entries_are : (size : Size) (vs : List (List ℕ)) → list_all (is_entry si
 entries_are size [] h = tt
 entries_are size (v ∷ vs) h =
     let both = and_parts (is_entry size v) (list_all (is_entry size) vs) h in (
-      elim (entry_of size (trimmed v)) as (λ o. entry_of size (trimmed v) ≡ o → is_some o ≡ true → HasCorners size v) [
+      elim (entry_of size (trimmed v)) as (λ o. entry_of size (trimmed v) ≡ o → is_some o ≡ true → IsPointOrRectangle size v) [
         | None ↦ λ e k. absurd (let f : false ≡ true = k in cc)
         | Some e ↦ λ is k. (entry_takes size v e is).0
       ] refl both.0,

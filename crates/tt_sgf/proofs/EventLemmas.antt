@@ -8,7 +8,7 @@ use Rattle.tt_sgf.specs.Bytes.{close_tree, open_tree, semicolon}
 use Rattle.tt_sgf.specs.declared.nodes.Node.{Node}
 use Rattle.tt_sgf.specs.declared.trees.Event.{Event}
 use Rattle.tt_sgf.specs.declared.trees.Event.TheVariants.{Open, Close, Item}
-use Rattle.tt_sgf.specs.Grammar.{is_blank, is_word, is_upper, is_digit, is_lower, IsBlank, AreProperties}
+use Rattle.tt_sgf.specs.Grammar.{is_blank, is_word, is_upper, is_digit, is_lower, AreBlanks, AreProperties}
 use Rattle.tt_sgf.specs.inside.Reading.{◌>>=◌, properties_at, event_of, event_at}
 use Rattle.tt_sgf.specs.Values.{after_blanks}
 use Rattle.tt_sgf.proofs.TokenLemmas.{bind_some, after_blanks-other, after_blanks-again, blanks_take}
@@ -51,7 +51,7 @@ event_of_takes (b ∷ bs) e r h =
     ]
 
 -- an event that was read has its text there, behind white space
-pub event_takes : (bytes : List ℕ) (e : Event) (r : List ℕ) → event_at bytes ≡ Some (e, r) → (w : List ℕ) × (text : List ℕ) × IsBlank w × EventText e text r × (bytes ≡ w ++ text)
+pub event_takes : (bytes : List ℕ) (e : Event) (r : List ℕ) → event_at bytes ≡ Some (e, r) → (w : List ℕ) × (text : List ℕ) × AreBlanks w × EventText e text r × (bytes ≡ w ++ text)
 unfolding event_at
 event_takes bytes e r h = let w = blanks_take bytes in (w.0, after_blanks bytes, w.1, event_of_takes (after_blanks bytes) e r h, w.2)
 
@@ -66,7 +66,7 @@ pub event_shrinks : (bytes : List ℕ) (e : Event) (r : List ℕ) → event_at b
 event_shrinks bytes e r h = let t = event_takes bytes e r h in omega (arith, EventText-len e t.1 r t.3, ap length t.4, length-append t.0 t.1)
 
 -- white space before an event is skipped
-pub event_behind_blanks : (w bytes : List ℕ) → IsBlank w → event_at (w ++ bytes) ≡ event_at bytes
+pub event_behind_blanks : (w bytes : List ℕ) → AreBlanks w → event_at (w ++ bytes) ≡ event_at bytes
 unfolding event_at
 event_behind_blanks w bytes h = ap event_of (after_blanks-again w bytes h)
 
@@ -101,13 +101,13 @@ unfolding is_word is_upper is_digit is_lower
 no_word_40 = (refl, refl, refl)
 
 -- before a bracket or a semicolon no value and no property stands
-pub Ends_open : (w r : List ℕ) → IsBlank w → Ends (w ++ (open_tree ∷ r))
+pub Ends_open : (w r : List ℕ) → AreBlanks w → Ends (w ++ (open_tree ∷ r))
 Ends_open w r h = let a = after_blanks_at w open_tree r h no_blank_40 in record { no_value = rw a refl; no_property = rw a (no_word_40.0) }
 
-pub Ends_close : (w r : List ℕ) → IsBlank w → Ends (w ++ (close_tree ∷ r))
+pub Ends_close : (w r : List ℕ) → AreBlanks w → Ends (w ++ (close_tree ∷ r))
 Ends_close w r h = let a = after_blanks_at w close_tree r h no_blank_41 in record { no_value = rw a refl; no_property = rw a (no_word_40.1) }
 
-pub Ends_item : (w r : List ℕ) → IsBlank w → Ends (w ++ (semicolon ∷ r))
+pub Ends_item : (w r : List ℕ) → AreBlanks w → Ends (w ++ (semicolon ∷ r))
 Ends_item w r h = let a = after_blanks_at w semicolon r h no_blank_59 in record { no_value = rw a refl; no_property = rw a (no_word_40.2) }
 
 -- ---- a row of events

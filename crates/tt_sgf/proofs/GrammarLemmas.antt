@@ -6,7 +6,7 @@ use Rattle.tt_sgf.specs.Bytes.{close_tree, open_tree, semicolon}
 use Rattle.tt_sgf.specs.declared.nodes.Node.{Node}
 use Rattle.tt_sgf.specs.declared.trees.Event.{Event}
 use Rattle.tt_sgf.specs.declared.trees.Event.TheVariants.{Open, Close, Item}
-use Rattle.tt_sgf.specs.Grammar.{IsBlank, AreNodes, GameTree, Trees, game, no_tree, more_trees, Spells, AreTrees}
+use Rattle.tt_sgf.specs.Grammar.{AreBlanks, AreNodes, GameTree, Trees, game, no_tree, more_trees, Spells, AreTrees}
 use Rattle.tt_sgf.specs.inside.Reading.{Begins}
 use Rattle.tt_sgf.proofs.ListLemmas.{Ends}
 use Rattle.tt_sgf.proofs.EventLemmas.{event_takes, event_behind_blanks, event_open, event_close, event_item, Ends_open, Ends_close, Ends_item, EventsAt, two_rows}
@@ -57,13 +57,13 @@ nodes_again (n ∷ ns) text r es q h g =
     rw is ((h.2 ++ r, event_behind_blanks h.0 (semicolon ∷ (h.1 ++ (h.2 ++ r))) h.3 ∙ event_item n h.1 (h.2 ++ r) h.4 i.1, i.0), Ends_item h.0 (h.1 ++ (h.2 ++ r)) h.3)
 
 -- behind white space
-blank_then_close : (w r : List ℕ) (es : List Event) (q : List ℕ) → IsBlank w → EventsAt r es q → Goes (w ++ (close_tree ∷ r)) (Close ∷ es) q
+blank_then_close : (w r : List ℕ) (es : List Event) (q : List ℕ) → AreBlanks w → EventsAt r es q → Goes (w ++ (close_tree ∷ r)) (Close ∷ es) q
 blank_then_close w r es q h g = ((r, event_behind_blanks w (close_tree ∷ r) h ∙ event_close r, g), Ends_close w r h)
 
 -- so has the text of a tree, behind white space or none
 mutual
   pub tree_again : (t : GameTree) (text r : List ℕ) (es : List Event) (q : List ℕ) → Spells text t → EventsAt r es q
-      → (inner : List ℕ) × (text ++ r ≡ open_tree ∷ inner) × ((w : List ℕ) → IsBlank w → EventsAt (w ++ (open_tree ∷ inner)) (tree_then t es) q)
+      → (inner : List ℕ) × (text ++ r ≡ open_tree ∷ inner) × ((w : List ℕ) → AreBlanks w → EventsAt (w ++ (open_tree ∷ inner)) (tree_then t es) q)
   tree_again (game ns ts) text r es q h g =
       let close = blank_then_close h.2 r es q h.6 g in
       let trees = trees_again ts h.1 (h.2 ++ (close_tree ∷ r)) (Close ∷ es) q h.5 close in

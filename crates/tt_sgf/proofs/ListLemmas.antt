@@ -6,7 +6,7 @@ use Rattle.std.proofs.lemmas.Option.{some_pair_parts}
 use Rattle.std.proofs.lemmas.List.{length-append}
 use Rattle.tt_sgf.specs.Bytes.{close_value, open_value}
 use Rattle.tt_sgf.specs.declared.nodes.Property.{Property}
-use Rattle.tt_sgf.specs.Grammar.{is_blank, is_word, is_upper, is_kept, is_digit, is_lower, IsBlank, IsRaw, IsWord, IsIdent, AreValues, AreProperties}
+use Rattle.tt_sgf.specs.Grammar.{is_blank, is_word, is_upper, is_kept, is_digit, is_lower, AreBlanks, IsRaw, IsWord, IsIdent, AreValues, AreProperties}
 use Rattle.tt_sgf.specs.inside.Reading.{◌>>=◌, with_first, begins, behind, has_none, word_of, after_word, repeat, opens_value, value_at, values_at, property_at, opens_property}
 use Rattle.tt_sgf.specs.Values.{after_blanks}
 use Rattle.tt_sgf.proofs.TokenLemmas.{bind_some, after_blanks-other, after_blanks-again, blanks_take, raw_again, raw_takes, word_again, word_takes}
@@ -27,7 +27,7 @@ begins_with c (b ∷ bs) e = ap (λ (x : ℕ). x ∷ bs) (eqb-true b c e)
 
 -- what a value takes
 pub value_takes : (bytes : List ℕ) (x : List ℕ × List ℕ) → opens_value bytes ≡ true → value_at bytes ≡ Some x
-    → (w : List ℕ) × IsBlank w × IsRaw false x.0 × (bytes ≡ w ++ (open_value ∷ (x.0 ++ (close_value ∷ x.1))))
+    → (w : List ℕ) × AreBlanks w × IsRaw false x.0 × (bytes ≡ w ++ (open_value ∷ (x.0 ++ (close_value ∷ x.1))))
 value_takes bytes x e f =
     let w = blanks_take bytes in
     let r = raw_takes false (behind (after_blanks bytes)) x.0 x.1 f in
@@ -78,7 +78,7 @@ values_take (suc n) bytes vs r e =
     ] refl
 
 -- a byte that is no white space, behind white space
-pub after_blanks_at : (w : List ℕ) (b : ℕ) (bs : List ℕ) → IsBlank w → is_blank b ≡ false → after_blanks (w ++ (b ∷ bs)) ≡ b ∷ bs
+pub after_blanks_at : (w : List ℕ) (b : ℕ) (bs : List ℕ) → AreBlanks w → is_blank b ≡ false → after_blanks (w ++ (b ∷ bs)) ≡ b ∷ bs
 after_blanks_at w b bs h e = after_blanks-again w (b ∷ bs) h ∙ after_blanks-other b bs e
 
 no_blank_91 : is_blank open_value ≡ false
@@ -168,7 +168,7 @@ no_word_91 = refl
 values_no_word : (vs : List (List ℕ)) (text r : List ℕ) → vs ≢ [] → AreValues text vs → begins is_word (text ++ r) ≡ false
 values_no_word [] text r ne h = absurd (ne refl)
 values_no_word (v ∷ vs) text r ne h =
-    rw (h.5) (elim (h.0) as (λ w. IsBlank w → begins is_word ((w ++ (open_value ∷ (v ++ (close_value ∷ h.1)))) ++ r) ≡ false) [
+    rw (h.5) (elim (h.0) as (λ w. AreBlanks w → begins is_word ((w ++ (open_value ∷ (v ++ (close_value ∷ h.1)))) ++ r) ≡ false) [
       | [] ↦ λ b. no_word_91
       | b ∷ bs ↦ λ k. blank_is_no_word b k.0
     ] h.2)
@@ -247,7 +247,7 @@ unfolding is_word is_upper is_digit is_lower
 word_is_not_91 b e = grind arith
 
 -- before an identifier behind white space a property follows, and no value
-pub property_ahead : (w i r : List ℕ) → IsBlank w → IsWord i → list_any is_upper i ≡ true → (after_blanks (w ++ (i ++ r)) ≡ i ++ r) × (opens_property (w ++ (i ++ r)) ≡ true)
+pub property_ahead : (w i r : List ℕ) → AreBlanks w → IsWord i → list_any is_upper i ≡ true → (after_blanks (w ++ (i ++ r)) ≡ i ++ r) × (opens_property (w ++ (i ++ r)) ≡ true)
     × (opens_value (w ++ (i ++ r)) ≡ false)
 property_ahead w [] r h k e = absurd cc
 property_ahead w (b ∷ bs) r h k e =

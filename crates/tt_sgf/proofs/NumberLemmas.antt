@@ -3,8 +3,8 @@ use Rattle.std.proofs.Common.{◌≡◌, ◌≢◌, ℕ, ◌+◌, ◌-◌, ◌*�
 use Rattle.std.proofs.lemmas.Bool.{eqb-true, le-leb, cases_Bool, cases_lt, lt-leb}
 use Rattle.std.proofs.lemmas.List.{append-nil, drop_more, drop_all}
 use Rattle.tt_sgf.specs.Bytes.{digit_0, plus}
-use Rattle.tt_sgf.specs.Grammar.{is_blank, is_digit, IsBlank}
-use Rattle.tt_sgf.specs.Values.{after_blanks, StandsIn, AreDigits, decimal, IsNumeral, IsNumber, first_or_none, without_end, trimmed, digits_of, some_digits, behind_plus, numeral_of, number_of}
+use Rattle.tt_sgf.specs.Grammar.{is_blank, is_digit, AreBlanks}
+use Rattle.tt_sgf.specs.Values.{after_blanks, StandsIn, AreDigits, number_of_digits, IsNumeral, IsNumber, first_or_none, without_end, trimmed, digits_of, some_digits, behind_plus, numeral_of, number_of}
 use Rattle.tt_sgf.proofs.TokenLemmas.{after_blanks-again, after_blanks-other, after_blanks-nil, blanks_take}
 
 -- ---- white space at the end
@@ -33,12 +33,12 @@ without_end-other [] b e = without_end-cons b [] ∙ rw (without_end-nil) (rw e 
 without_end-other (x ∷ xs) b e = without_end-cons x (xs ++ b ∷ []) ∙ ap (first_or_none x) (without_end-other xs b e) ∙ first_or_none-push x xs b
 
 -- what was taken off
-pub end_takes : (bytes : List ℕ) → (w : List ℕ) × IsBlank w × (bytes ≡ without_end bytes ++ w)
+pub end_takes : (bytes : List ℕ) → (w : List ℕ) × AreBlanks w × (bytes ≡ without_end bytes ++ w)
 end_takes [] = ([], tt, rw without_end-nil refl)
 end_takes (b ∷ bs) =
     let r = end_takes bs in
-    rw (without_end-cons b bs) (elim (without_end bs) as (λ t. bs ≡ t ++ r.0 → (w : List ℕ) × IsBlank w × (b ∷ bs ≡ first_or_none b t ++ w)) [
-      | [] ↦ λ e. elim (is_blank b) as (λ c. is_blank b ≡ c → (w : List ℕ) × IsBlank w × (b ∷ bs ≡ cond c [] (b ∷ []) ++ w)) [
+    rw (without_end-cons b bs) (elim (without_end bs) as (λ t. bs ≡ t ++ r.0 → (w : List ℕ) × AreBlanks w × (b ∷ bs ≡ first_or_none b t ++ w)) [
+      | [] ↦ λ e. elim (is_blank b) as (λ c. is_blank b ≡ c → (w : List ℕ) × AreBlanks w × (b ∷ bs ≡ cond c [] (b ∷ []) ++ w)) [
         | true ↦ λ c. (b ∷ r.0, (c, r.1), ap (λ (x : List ℕ). b ∷ x) e)
         | false ↦ λ c. (r.0, r.1, ap (λ (x : List ℕ). b ∷ x) e)
       ] refl
@@ -58,18 +58,18 @@ NoBlank [] = Unit {0}
 NoBlank (b ∷ bs) = (is_blank b ≡ false) × NoBlank bs
 
 -- nothing is left of white space alone
-end_blank : (w : List ℕ) → IsBlank w → without_end w ≡ []
+end_blank : (w : List ℕ) → AreBlanks w → without_end w ≡ []
 end_blank [] h = without_end-nil
 end_blank (b ∷ bs) h = without_end-cons b bs ∙ rw (end_blank bs h.1) (rw (h.0) refl)
 
 -- a text without white space is left when the white space behind it is taken off
-end_again : (t w : List ℕ) → NoBlank t → IsBlank w → without_end (t ++ w) ≡ t
+end_again : (t w : List ℕ) → NoBlank t → AreBlanks w → without_end (t ++ w) ≡ t
 end_again [] w n h = end_blank w h
 end_again (b ∷ []) w n h = without_end-cons b w ∙ rw (end_blank w h) (rw (n.0) refl)
 end_again (b ∷ c ∷ bs) w n h = without_end-cons b ((c ∷ bs) ++ w) ∙ ap (first_or_none b) (end_again (c ∷ bs) w n.1 h)
 
 -- behind white space alone nothing is left
-all_blank : (w : List ℕ) → IsBlank w → after_blanks w ≡ []
+all_blank : (w : List ℕ) → AreBlanks w → after_blanks w ≡ []
 all_blank w h = ap after_blanks (sym (append-nil w)) ∙ after_blanks-again w [] h ∙ after_blanks-nil
 
 -- a text without white space that stands in the bytes is the trimmed one
@@ -101,12 +101,12 @@ unfolding digits_of
 digits_of-nil n = refl
 
 -- digits behind a number never make it less
-decimal_le : (n : ℕ) (bs : List ℕ) → n ≤ decimal n bs
+decimal_le : (n : ℕ) (bs : List ℕ) → n ≤ number_of_digits n bs
 decimal_le n [] = omega arith
 decimal_le n (b ∷ bs) = let i = decimal_le (n * 10 + (b - digit_0)) bs in omega arith
 
 -- what is read as a number is digits of that worth, at most 65,535
-pub digits_take : (n : ℕ) (bs : List ℕ) (m : ℕ) → n ≤ 65535 → digits_of n bs ≡ Some m → AreDigits bs × (m ≡ decimal n bs) × (m ≤ 65535)
+pub digits_take : (n : ℕ) (bs : List ℕ) (m : ℕ) → n ≤ 65535 → digits_of n bs ≡ Some m → AreDigits bs × (m ≡ number_of_digits n bs) × (m ≤ 65535)
 digits_take n [] m le h = let e : n ≡ m = (let k = digits_of-nil n in cc) in (tt, sym e, omega arith)
 digits_take n (b ∷ bs) m le h =
     elim (cases_Bool (is_digit b)) [
@@ -118,7 +118,7 @@ digits_take n (b ∷ bs) m le h =
     ]
 
 -- digits worth at most 65,535 are read as their worth
-pub digits_again : (n : ℕ) (bs : List ℕ) → AreDigits bs → decimal n bs ≤ 65535 → digits_of n bs ≡ Some (decimal n bs)
+pub digits_again : (n : ℕ) (bs : List ℕ) → AreDigits bs → number_of_digits n bs ≤ 65535 → digits_of n bs ≡ Some (number_of_digits n bs)
 digits_again n [] d le = digits_of-nil n
 digits_again n (b ∷ bs) d le =
     digits_of-digit n b bs d.0 (let i = decimal_le (n * 10 + (b - digit_0)) bs in omega arith) ∙ digits_again (n * 10 + (b - digit_0)) bs d.1 le
@@ -141,7 +141,7 @@ digits_no_blank [] d = tt
 digits_no_blank (b ∷ bs) d = (digit_is_no_blank b d.0, digits_no_blank bs d.1)
 
 -- one or more digits worth at most 65,535 are read as their worth
-some_again : (bs : List ℕ) → bs ≢ [] → AreDigits bs → decimal 0 bs ≤ 65535 → some_digits bs ≡ Some (decimal 0 bs)
+some_again : (bs : List ℕ) → bs ≢ [] → AreDigits bs → number_of_digits 0 bs ≤ 65535 → some_digits bs ≡ Some (number_of_digits 0 bs)
 some_again [] ne d le = absurd (ne refl)
 some_again (b ∷ bs) ne d le = digits_again 0 (b ∷ bs) d le
 
@@ -172,7 +172,7 @@ unfolding number_of
 number_again bytes n h = ap numeral_of (trimmed_is h.0 bytes (numeral_no_blank h.0 n h.1) h.2) ∙ numeral_again h.0 n h.1
 
 -- what a number was read from
-some_takes : (bs : List ℕ) (n : ℕ) → some_digits bs ≡ Some n → (bs ≢ []) × AreDigits bs × (n ≡ decimal 0 bs) × (n ≤ 65535)
+some_takes : (bs : List ℕ) (n : ℕ) → some_digits bs ≡ Some n → (bs ≢ []) × AreDigits bs × (n ≡ number_of_digits 0 bs) × (n ≤ 65535)
 some_takes [] n h = absurd cc
 some_takes (b ∷ bs) n h = let d = digits_take 0 (b ∷ bs) n (omega arith) h in ((λ e. absurd cc), d.0, d.1, d.2)
 

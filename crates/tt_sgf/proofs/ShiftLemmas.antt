@@ -6,7 +6,7 @@ use Rattle.std.proofs.lemmas.Nat.Bits.{bit_at-zero, bit_at_or, bit_at_above, bit
 use Rattle.std.specs.Int.{bit_at}
 use Rattle.std.specs.Prelude.{bit_or}
 use Rattle.tt_sgf.specs.declared.bits.TheConstants.{BITS}
-use Rattle.tt_sgf.specs.Words.{bit_in, IsRaised, IsLowered}
+use Rattle.tt_sgf.specs.MachineWords.{bit_in, IsShiftedLeft, IsShiftedRight}
 
 -- ---- one word
 
@@ -33,7 +33,7 @@ bit_at_up n k i high small =
     bit_at_cut (n * 2 ^ k) i small ∙ ap (λ x. bit_at x i) none ∙ bit_at_cat_high n k 0 i (pow_pos k) high
 
 -- a word moved up takes its lowest bits from the highest of the other
-pub up_word : (word below k : ℕ) → below < 2 ^ 64 → k < 64 → IsRaised (bit_or (word * 2 ^ k % 2 ^ 64) (below / 2 ^ (64 - k))) word below k
+pub up_word : (word below k : ℕ) → below < 2 ^ 64 → k < 64 → IsShiftedLeft (bit_or (word * 2 ^ k % 2 ^ 64) (below / 2 ^ (64 - k))) word below k
 up_word word below k fits few = λ i small.
     let both = bit_at_or (word * 2 ^ k % 2 ^ 64) (below / 2 ^ (64 - k)) i ∙ ap (max (bit_at (word * 2 ^ k % 2 ^ 64) i)) (bit_at_down below (64 - k) i) in (
       λ high. omega (arith, both, bit_at_up word k i high small, bit_at_above below 64 (i + (64 - k)) fits (omega arith)),
@@ -43,7 +43,7 @@ up_word word below k fits few = λ i small.
     )
 
 -- a word moved down takes its highest bits from the lowest of the other
-pub down_word : (word above k : ℕ) → word < 2 ^ 64 → k < 64 → IsLowered (bit_or (word / 2 ^ k) (above * 2 ^ (64 - k) % 2 ^ 64)) word above k
+pub down_word : (word above k : ℕ) → word < 2 ^ 64 → k < 64 → IsShiftedRight (bit_or (word / 2 ^ k) (above * 2 ^ (64 - k) % 2 ^ 64)) word above k
 down_word word above k fits few = λ i small.
     let both = bit_at_or (word / 2 ^ k) (above * 2 ^ (64 - k) % 2 ^ 64) i ∙ ap (λ x. max x (bit_at (above * 2 ^ (64 - k) % 2 ^ 64) i)) (bit_at_down word k i) in (
       λ low. omega (arith, both, bit_at_room above (64 - k) i (omega arith) small),
@@ -55,7 +55,7 @@ down_word word above k fits few = λ i small.
 -- ---- six words
 
 module _ (made words : List ℕ) (k : ℕ) (few : k < 64) where
-  module _ (first : IsRaised (get_or made 0 0) (get_or words 0 0) 0 k) (rest : (j : ℕ) → 0 < j → j < 6 → IsRaised (get_or made j 0) (get_or words j 0) (get_or words (j - 1) 0) k) where
+  module _ (first : IsShiftedLeft (get_or made 0 0) (get_or words 0 0) 0 k) (rest : (j : ℕ) → 0 < j → j < 6 → IsShiftedLeft (get_or made j 0) (get_or words j 0) (get_or words (j - 1) 0) k) where
     -- six words moved up: each bit comes from k places below
     pub up_moved : (q : ℕ) → q + k < BITS → bit_in made (q + k) ≡ bit_in words q
     unfolding bit_in
@@ -90,7 +90,7 @@ module _ (made words : List ℕ) (k : ℕ) (few : k < 64) where
         ap (λ x. eqb (bit_at (get_or made x 0) (q % 64)) 1) word ∙ ap (λ x. eqb (bit_at (get_or made 0 0) x) 1) place
         ∙ ap (λ x. eqb x 1) ((first q (omega arith)).1 lt ∙ bit_at-zero (q + 64 - k))
 
-  module _ (last : IsLowered (get_or made 5 0) (get_or words 5 0) 0 k) (rest : (j : ℕ) → j < 5 → IsLowered (get_or made j 0) (get_or words j 0) (get_or words (j + 1) 0) k) where
+  module _ (last : IsShiftedRight (get_or made 5 0) (get_or words 5 0) 0 k) (rest : (j : ℕ) → j < 5 → IsShiftedRight (get_or made j 0) (get_or words j 0) (get_or words (j + 1) 0) k) where
     -- six words moved down: each bit comes from k places above
     pub down_moved : (q : ℕ) → q + k < BITS → bit_in made q ≡ bit_in words (q + k)
     unfolding bit_in

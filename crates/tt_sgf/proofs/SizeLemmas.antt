@@ -7,7 +7,7 @@ use Rattle.std.specs.List.{list_any}
 use Rattle.tt_sgf.specs.Bytes.{colon}
 use Rattle.tt_sgf.specs.declared.size.Size.{Size}
 use Rattle.tt_sgf.specs.Grammar.{is_blank, is_digit}
-use Rattle.tt_sgf.specs.laws.SizeLaws.{sized_is, sized_takes}
+use Rattle.tt_sgf.specs.laws.SizeLaws.{sized_is, sized_dimensions}
 use Rattle.tt_sgf.specs.Values.{AreDigits, IsNumeral, AreSides, IsBoardSize, trimmed, numeral_of, before_colon, behind_colon, both_sides, sides_of, size_of}
 use Rattle.tt_sgf.proofs.NumberLemmas.{NoBlank, trimmed_is, trimmed_stands, numeral_takes, numeral_again, numeral_no_blank}
 
@@ -133,7 +133,7 @@ size_again bytes size h =
 two_sides : (c r : Option ℕ) (size : Size) → both_sides c r ≡ Some size → (c ≡ Some size.columns) × (r ≡ Some size.rows)
 two_sides None r size h = absurd cc
 two_sides (Some c) None size h = absurd cc
-two_sides (Some c) (Some r) size h = let s = sized_takes c r size h in (ap (λ (n : ℕ). Some n) (sym s.0), ap (λ (n : ℕ). Some n) (sym s.1))
+two_sides (Some c) (Some r) size h = let s = sized_dimensions c r size h in (ap (λ (n : ℕ). Some n) (sym s.0), ap (λ (n : ℕ). Some n) (sym s.1))
 
 -- a text read as a size is that of its sides
 sides_take : (text : List ℕ) (size : Size) → sides_of text (behind_colon text) ≡ Some size → AreSides text size

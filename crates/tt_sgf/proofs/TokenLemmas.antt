@@ -5,7 +5,7 @@ use Rattle.std.proofs.lemmas.Bool.{eqb-true}
 use Rattle.std.proofs.lemmas.Option.{some_pair_parts}
 use Rattle.std.proofs.lemmas.List.{append-nil, drop_more, take_more, drop_all, take_all}
 use Rattle.tt_sgf.specs.Bytes.{backslash, close_value}
-use Rattle.tt_sgf.specs.Grammar.{is_blank, is_word, is_kept, IsBlank, IsRaw, IsWord}
+use Rattle.tt_sgf.specs.Grammar.{is_blank, is_word, is_kept, AreBlanks, IsRaw, IsWord}
 use Rattle.tt_sgf.specs.inside.Reading.{◌>>=◌, with_first, raw_at, word_of, after_word, begins}
 use Rattle.tt_sgf.specs.Values.{after_blanks}
 
@@ -41,15 +41,15 @@ unfolding after_blanks
 after_blanks-nil = refl
 
 -- a whole text of white space is skipped
-pub after_blanks-again : (w : List ℕ) (r : List ℕ) → IsBlank w → after_blanks (w ++ r) ≡ after_blanks r
+pub after_blanks-again : (w : List ℕ) (r : List ℕ) → AreBlanks w → after_blanks (w ++ r) ≡ after_blanks r
 after_blanks-again [] r h = refl
 after_blanks-again (b ∷ bs) r h = after_blanks-blank b (bs ++ r) h.0 ∙ after_blanks-again bs r h.1
 
 -- what was skipped
-pub blanks_take : (bytes : List ℕ) → (w : List ℕ) × IsBlank w × (bytes ≡ w ++ after_blanks bytes)
+pub blanks_take : (bytes : List ℕ) → (w : List ℕ) × AreBlanks w × (bytes ≡ w ++ after_blanks bytes)
 blanks_take [] = ([], tt, sym after_blanks-nil)
 blanks_take (b ∷ bs) =
-    elim (is_blank b) as (λ t. is_blank b ≡ t → (w : List ℕ) × IsBlank w × (b ∷ bs ≡ w ++ after_blanks (b ∷ bs))) [
+    elim (is_blank b) as (λ t. is_blank b ≡ t → (w : List ℕ) × AreBlanks w × (b ∷ bs ≡ w ++ after_blanks (b ∷ bs))) [
       | true ↦ λ e. let r = blanks_take bs in (b ∷ r.0, (e, r.1), rw (after_blanks-blank b bs e) (ap (λ (x : List ℕ). b ∷ x) r.2))
       | false ↦ λ e. ([], tt, sym (after_blanks-other b bs e))
     ] refl

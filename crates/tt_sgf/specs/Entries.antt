@@ -25,12 +25,12 @@ pub record IsEntry (size : Size) (bytes : List ℕ) (c r d s : ℕ) : Type 0 whe
       ⊎ StandsIn ((lower_a + c) ∷ (lower_a + r) ∷ colon ∷ (lower_a + d) ∷ (lower_a + s) ∷ []) bytes
 
 -- the value is an entry
-abbrev pub HasCorners : Size → List ℕ → Type 0
-HasCorners size bytes = (c : ℕ) × (r : ℕ) × (d : ℕ) × (s : ℕ) × IsEntry size bytes c r d s
+abbrev pub IsPointOrRectangle : Size → List ℕ → Type 0
+IsPointOrRectangle size bytes = (c : ℕ) × (r : ℕ) × (d : ℕ) × (s : ℕ) × IsEntry size bytes c r d s
 
 -- the point lies in the rectangle of an entry, whichever corners they are
 pub record Covers (size : Size) (bytes : List ℕ) (p : ℕ) : Type 0 where
-  pub corners : HasCorners size bytes
+  pub corners : IsPointOrRectangle size bytes
   pub column : ℕ
   pub row : ℕ
   pub column_from : min corners.0 corners.2 ≤ column
@@ -47,9 +47,9 @@ AnyCovers size (v ∷ vs) p = Covers size v p ⊎ AnyCovers size vs p
 -- each value is an entry
 abbrev pub AreEntries : Size → List (List ℕ) → Type 0
 AreEntries size [] = Unit {0}
-AreEntries size (v ∷ vs) = HasCorners size v × AreEntries size vs
+AreEntries size (v ∷ vs) = IsPointOrRectangle size v × AreEntries size vs
 
--- ---- the same as functions, for definitions that compute with sets
+-- ---- the same as functions, for definitions that compute with sets; the contract of `point_set` says that both agree
 
 -- the two letters name a point of the board
 abbrev pub corner_in : Size → ℕ → ℕ → Bool

@@ -35,9 +35,9 @@ is_word b = (is_upper b || is_digit b) || is_lower b
 -- ---- tokens
 
 -- a text of white space
-abbrev pub IsBlank : List ℕ → Type 0
-IsBlank [] = Unit {0}
-IsBlank (b ∷ bs) = (is_blank b ≡ true) × IsBlank bs
+abbrev pub AreBlanks : List ℕ → Type 0
+AreBlanks [] = Unit {0}
+AreBlanks (b ∷ bs) = (is_blank b ≡ true) × AreBlanks bs
 
 -- what stands between brackets: the byte behind a backslash is escaped, and a `]` has to be; at `true` the first byte
 -- is escaped
@@ -60,20 +60,20 @@ IsIdent text name = IsWord text × (list_any is_upper text ≡ true) × (name �
 -- values in brackets
 abbrev pub AreValues : List ℕ → List (List ℕ) → Type 0
 AreValues text [] = text ≡ []
-AreValues text (v ∷ vs) = (blank : List ℕ) × (more : List ℕ) × IsBlank blank × IsRaw false v × AreValues more vs
+AreValues text (v ∷ vs) = (blank : List ℕ) × (more : List ℕ) × AreBlanks blank × IsRaw false v × AreValues more vs
     × (text ≡ blank ++ (open_value ∷ (v ++ (close_value ∷ more))))
 
 -- properties: an identifier and one or more values each
 abbrev pub AreProperties : List ℕ → List Property → Type 0
 AreProperties text [] = text ≡ []
-AreProperties text (p ∷ ps) = (blank : List ℕ) × (ident : List ℕ) × (values : List ℕ) × (more : List ℕ) × IsBlank blank × IsIdent ident p.ident
+AreProperties text (p ∷ ps) = (blank : List ℕ) × (ident : List ℕ) × (values : List ℕ) × (more : List ℕ) × AreBlanks blank × IsIdent ident p.ident
     × (p.values ≢ []) × AreValues values p.values × AreProperties more ps
     × (text ≡ blank ++ (ident ++ (values ++ more)))
 
 -- nodes: a semicolon and properties each
 abbrev pub AreNodes : List ℕ → List Node → Type 0
 AreNodes text [] = text ≡ []
-AreNodes text (n ∷ ns) = (blank : List ℕ) × (properties : List ℕ) × (more : List ℕ) × IsBlank blank × AreProperties properties n.properties × AreNodes more ns
+AreNodes text (n ∷ ns) = (blank : List ℕ) × (properties : List ℕ) × (more : List ℕ) × AreBlanks blank × AreProperties properties n.properties × AreNodes more ns
     × (text ≡ blank ++ (semicolon ∷ (properties ++ more)))
 
 -- ---- trees
@@ -90,12 +90,12 @@ mutual
 -- the text of a game tree: from its `(` to its `)`, a sequence of one or more nodes, then trees
 abbrev mutual
   pub Spells : List ℕ → GameTree → Type 0
-  Spells text (game nodes trees) = (sequence : List ℕ) × (subtrees : List ℕ) × (blank : List ℕ) × (nodes ≢ []) × AreNodes sequence nodes × AreTrees subtrees trees × IsBlank blank
+  Spells text (game nodes trees) = (sequence : List ℕ) × (subtrees : List ℕ) × (blank : List ℕ) × (nodes ≢ []) × AreNodes sequence nodes × AreTrees subtrees trees × AreBlanks blank
       × (text ≡ open_tree ∷ (sequence ++ (subtrees ++ (blank ++ (close_tree ∷ [])))))
 
   pub AreTrees : List ℕ → Trees → Type 0
   AreTrees text no_tree = text ≡ []
-  AreTrees text (more_trees t ts) = (blank : List ℕ) × (tree : List ℕ) × (more : List ℕ) × IsBlank blank × Spells tree t × AreTrees more ts
+  AreTrees text (more_trees t ts) = (blank : List ℕ) × (tree : List ℕ) × (more : List ℕ) × AreBlanks blank × Spells tree t × AreTrees more ts
       × (text ≡ blank ++ (tree ++ more))
 
 -- the nodes of a tree, and the main line of its first sub-tree
@@ -122,8 +122,8 @@ abbrev pub HasOpen : List ℕ → Type 0
 HasOpen bytes = Contains bytes open_tree
 
 -- from the first `(` on, bytes spell one tree at most, and it has one end
-abbrev pub OneSpelling : Type 0
-OneSpelling = (bytes : List ℕ) (n m : ℕ) (s t : GameTree) → FirstTreeEndsAt bytes n s → FirstTreeEndsAt bytes m t → (n ≡ m) × (s ≡ t)
+abbrev pub IsUnambiguous : Type 0
+IsUnambiguous = (bytes : List ℕ) (n m : ℕ) (s t : GameTree) → FirstTreeEndsAt bytes n s → FirstTreeEndsAt bytes m t → (n ≡ m) × (s ≡ t)
 
 -- no tree begins at the first `(`, or there is none
 abbrev pub HasNoTree : List ℕ → Type 0

@@ -5,7 +5,7 @@ pub mod Values
 pub mod Sizes
 pub mod Points
 pub mod Entries
-pub mod Words
+pub mod MachineWords
 pub mod Faults
 -- What crates above cite: laws of the definitions, with their proofs. Nobody has to believe these.
 pub mod laws

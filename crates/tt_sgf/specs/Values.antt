@@ -5,7 +5,7 @@ use Rattle.tt_sgf.specs.Bytes.{colon, digit_0, lower_a, lower_t, plus}
 use Rattle.tt_sgf.specs.declared.size.Size.{Size}
 use Rattle.tt_sgf.specs.declared.size.PointOrPass.{PointOrPass}
 use Rattle.tt_sgf.specs.declared.size.PointOrPass.TheVariants.{On, Pass}
-use Rattle.tt_sgf.specs.Grammar.{is_blank, is_digit, IsBlank}
+use Rattle.tt_sgf.specs.Grammar.{is_blank, is_digit, AreBlanks}
 use Rattle.tt_sgf.specs.Sizes.{sized}
 
 -- ---- what values mean
@@ -14,8 +14,8 @@ use Rattle.tt_sgf.specs.Sizes.{sized}
 pub record StandsIn (text bytes : List ℕ) : Type 0 where
   pub before : List ℕ
   pub behind : List ℕ
-  pub blank_before : IsBlank before
-  pub blank_behind : IsBlank behind
+  pub blank_before : AreBlanks before
+  pub blank_behind : AreBlanks behind
   pub parts : bytes ≡ before ++ (text ++ behind)
 
 -- each byte is a digit
@@ -24,16 +24,16 @@ AreDigits [] = Unit {0}
 AreDigits (b ∷ bs) = (is_digit b ≡ true) × AreDigits bs
 
 -- what digits are worth behind a number
-abbrev pub decimal : ℕ → List ℕ → ℕ
-decimal n [] = n
-decimal n (b ∷ bs) = decimal (n * 10 + (b - digit_0)) bs
+abbrev pub number_of_digits : ℕ → List ℕ → ℕ
+number_of_digits n [] = n
+number_of_digits n (b ∷ bs) = number_of_digits (n * 10 + (b - digit_0)) bs
 
 -- the text is an optional `+` and digits, which are worth n
 pub record IsNumeral (text : List ℕ) (n : ℕ) : Type 0 where
   pub digits : List ℕ
   pub some : digits ≢ []
   pub are : AreDigits digits
-  pub value : n ≡ decimal 0 digits
+  pub value : n ≡ number_of_digits 0 digits
   pub fits : n ≤ 65535
   pub stands : (text ≡ digits) ⊎ (text ≡ plus ∷ digits)
 
@@ -68,7 +68,8 @@ abbrev pub IsPointOrPass : Size → List ℕ → PointOrPass → Type 0
 IsPointOrPass size bytes (On p) = IsPoint size bytes p
 IsPointOrPass size bytes Pass = IsPass bytes
 
--- ---- the same as functions, for definitions that compute with values
+-- ---- the same as functions, for definitions that compute with values; the contracts of `number`, `board_size` and `point` say that
+-- both agree
 
 -- what is left behind the white space at the front
 unfoldable pub after_blanks : List ℕ → List ℕ

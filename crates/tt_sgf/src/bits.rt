@@ -2,7 +2,7 @@
 
 ghost use Rattle.std.specs.Prelude.{◌≡◌, ℕ, ◌+◌, ◌<◌, ◌≤◌, ◌↔◌, IsTrue, true, false, not, ◌&&◌, ◌||◌};
 ghost use Rattle.std.specs.FinSet as set;
-ghost use Rattle.tt_sgf.specs.Words.{bit_in, points_of, IsLow, IsRaised, IsLowered, AreSameBits, AreCovered};
+ghost use Rattle.tt_sgf.specs.MachineWords.{bit_in, points_of, IsLow, IsShiftedLeft, IsShiftedRight, AreSameBits, AreCovered};
 
 use crate::size::MOST_POINTS;
 
@@ -27,20 +27,20 @@ fn low_bits(word: u64, count: usize) -> u64
 
 /// A word moved up by `k` bits, with the highest bits of the word below it.
 #[inline]
-fn raised(word: u64, below: u64, k: usize) -> u64
+fn shifted_left(word: u64, below: u64, k: usize) -> u64
     requires some { 0 < k }
     requires few { k < 64 }
-    ensures { IsRaised result word below k }
+    ensures { IsShiftedLeft result word below k }
 {
     (word << k) | (below >> (64 - k))
 }
 
 /// A word moved down by `k` bits, with the lowest bits of the word above it.
 #[inline]
-fn lowered(word: u64, above: u64, k: usize) -> u64
+fn shifted_right(word: u64, above: u64, k: usize) -> u64
     requires some { 0 < k }
     requires few { k < 64 }
-    ensures { IsLowered result word above k }
+    ensures { IsShiftedRight result word above k }
 {
     (word >> k) | (above << (64 - k))
 }
@@ -196,9 +196,9 @@ impl Bits {
         ensures low { (q : ℕ) → q < k → bit_in result.words q ≡ false }
     {
         let mut words = [0u64; 6];
-        words[0] = raised(self.words[0], 0, k);
+        words[0] = shifted_left(self.words[0], 0, k);
         for j in 1..6 {
-            words[j] = raised(self.words[j], self.words[j - 1], k);
+            words[j] = shifted_left(self.words[j], self.words[j - 1], k);
         }
         Bits { words }
     }
@@ -212,9 +212,9 @@ impl Bits {
         ensures high { (q : ℕ) → BITS ≤ q + k → q < BITS → bit_in result.words q ≡ false }
     {
         let mut words = [0u64; 6];
-        words[5] = lowered(self.words[5], 0, k);
+        words[5] = shifted_right(self.words[5], 0, k);
         for j in 0..5 {
-            words[j] = lowered(self.words[j], self.words[j + 1], k);
+            words[j] = shifted_right(self.words[j], self.words[j + 1], k);
         }
         Bits { words }
     }

@@ -3,7 +3,7 @@
 ghost use Rattle.std.specs.Prelude.{◌≡◌, ℕ, ◌<◌, ◌≤◌, ◌↔◌, true, false, IsTrue, MatchOption};
 ghost use Rattle.std.specs.FinSet as set;
 ghost use Rattle.tt_sgf.specs.Points.{passing};
-ghost use Rattle.tt_sgf.specs.Words.{AreBitsOf};
+ghost use Rattle.tt_sgf.specs.MachineWords.{AreBitsOf};
 ghost use Rattle.tt_sgf.specs.Sizes.{point_count};
 
 use crate::bits::{BITS, Bits};
@@ -20,7 +20,7 @@ impl Model for PointSet {
     ghost use Rattle.std.specs.Ordering.{nat_cmp};
     ghost use Rattle.std.specs.FinSet as set;
     ghost use Rattle.std.specs.Coded.{coded_ℕ};
-    ghost use Rattle.tt_sgf.specs.Words.{points_of, AreOfPoints};
+    ghost use Rattle.tt_sgf.specs.MachineWords.{points_of, AreOfPoints};
 
     ghost Value = { set.FinSet nat_cmp };
 

@@ -7,7 +7,7 @@ use Rattle.tt_game.specs.Game.{State, after, winner_of}
 use Rattle.tt_game.specs.Line.{LineWithUndo}
 use Rattle.tt_search.specs.Grants.{Asked}
 use Rattle.tt_search.specs.Numbers.{count}
-use Rattle.tt_search.specs.Growing.{leaf_for, new_leaf, GrownFrom, IsGrown}
+use Rattle.tt_search.specs.Growing.{leaf_with_winner, new_leaf, GrownFrom, IsGrown}
 use Rattle.tt_search.specs.Searched.{Searched}
 use Rattle.tt_search.specs.RunEnds.{RanTo, EndOf, HasSpent, SpentBy}
 use Rattle.tt_search.specs.declared.limits.Limits.{Limits}
@@ -48,7 +48,7 @@ asks_for start old new (Stuck Total (Some search)) n h granted few = record { gr
 asks_for start old new (Stuck Memory (Some search)) n h granted few = record { granted = granted; few = few; refused = λ t. absurd t; still = λ e. h.1 ∙ e }
 
 -- a new leaf has no expanded node
-leaf_count : (o : Option Side) → count (leaf_for o) ≡ 0
+leaf_count : (o : Option Side) → count (leaf_with_winner o) ≡ 0
 leaf_count None = refl
 leaf_count (Some side) = refl
 

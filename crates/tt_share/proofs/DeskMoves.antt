@@ -12,7 +12,7 @@ use Rattle.atomic_table.proofs.Lists.{at_set, at_snoc, set_here, set_else, at_lo
 use Rattle.atomic_table.specs.Table.{keeps, Allows, Splits, Joins}
 use Rattle.tt_share.specs.declared.desk.rule.SeatKnowledge.{SeatKnowledge}
 use Rattle.tt_share.specs.declared.desk.rule.DeskSize.{DeskSize}
-use Rattle.tt_share.specs.Desk.{unused, handed_out_knowledge, no_knowledge, fewer, joined, with_draw, with_grant, with_flag, with_look, overdraw_count, EachSeat, SomeSeat, EachNumberOnce, IsMark, IsDesk}
+use Rattle.tt_share.specs.Desk.{fresh_knowledge, handed_out_knowledge, no_knowledge, fewer, joined, with_draw, with_grant, with_flag_raised, with_look, overdraw_count, EachSeat, SomeSeat, EachNumberOnce, IsFlag, IsDesk}
 use Rattle.tt_share.specs.Desk.{DeskHolds, SeatState, CanFollow, Draws, AsksForGrant, Raises, Looks}
 use Rattle.tt_share.specs.Seats.{last_number}
 use Rattle.tt_share.proofs.DeskLists.{at_within, sum_set, sum_at, sum_le, overdraw_below, none_below, below_by_weight, rising_push, rising_short, no_spares}
@@ -141,7 +141,7 @@ spent_same : (knowledge : List SeatKnowledge) (id : ℕ) (w : SeatKnowledge) →
 spent_same knowledge id w one spent = each_set (λ u. u.seat_count ≡ 0 → u ≡ no_knowledge) knowledge id w (λ e. absurd (omega arith)) spent
 
 -- where a seat changes and keeps its flag and whether it saw it, what the flag says stays so
-flag_kept : (flag : ℕ) (knowledge : List SeatKnowledge) (id : ℕ) (v w : SeatKnowledge) → get_elem? knowledge id ≡ some v → w.flag ≡ v.flag → w.saw_flag ≡ v.saw_flag → IsMark flag knowledge → IsMark flag (set knowledge id w)
+flag_kept : (flag : ℕ) (knowledge : List SeatKnowledge) (id : ℕ) (v w : SeatKnowledge) → get_elem? knowledge id ≡ some v → w.flag ≡ v.flag → w.saw_flag ≡ v.saw_flag → IsFlag flag knowledge → IsFlag flag (set knowledge id w)
 flag_kept flag knowledge id v w at same_flag same_saw_flag h = record {
   bit = h.bit;
   raised = λ is. some_set (λ u. u.flag ≡ true) knowledge id v w at (λ p. same_flag ∙ p) (h.raised is);
@@ -209,7 +209,7 @@ grants plan slots id me small empty one left s h homes at fits =
 pub raises : (plan : DeskSize) (slots id : ℕ) (me : SeatState) → me.1 ≡ [] → me.0.seat_count ≡ 1 → Allows (DeskHolds plan) slots id me 1 (λ n. max n 1) (λ _ after. Raises me after)
 raises plan slots id me empty one s h homes at fits =
     let v : SeatKnowledge = me.0 in
-    let w : SeatKnowledge = with_flag v in
+    let w : SeatKnowledge = with_flag_raised v in
     let here : slice_index s.words 1 ≡ h.1 = ap (λ (l : List ℕ). slice_index l 1) h.3 in
     let next : max (slice_index s.words 1) 1 ≡ 1 = let b = h.4.marked.bit in omega arith in (
       w,
@@ -276,16 +276,16 @@ looks plan slots id me empty one s h homes at fits =
     )
 
 -- of the seats for which a seat stands, one that has made no step becomes a seat of its own
-desk_cuts : (plan : DeskSize) (drawn flag asked : ℕ) (knowledge : List SeatKnowledge) (id seat_count more : ℕ) → more ≡ seat_count + 1 → IsDesk plan drawn flag asked knowledge → get_elem? knowledge id ≡ some (unused more)
-    → IsDesk plan drawn flag asked (set knowledge id (unused seat_count) ++ handed_out_knowledge ∷ [])
+desk_cuts : (plan : DeskSize) (drawn flag asked : ℕ) (knowledge : List SeatKnowledge) (id seat_count more : ℕ) → more ≡ seat_count + 1 → IsDesk plan drawn flag asked knowledge → get_elem? knowledge id ≡ some (fresh_knowledge more)
+    → IsDesk plan drawn flag asked (set knowledge id (fresh_knowledge seat_count) ++ handed_out_knowledge ∷ [])
 desk_cuts plan drawn flag asked knowledge id seat_count more is_more h at =
-    let v : SeatKnowledge = unused more in
-    let w : SeatKnowledge = unused seat_count in record {
+    let v : SeatKnowledge = fresh_knowledge more in
+    let w : SeatKnowledge = fresh_knowledge seat_count in record {
       seat_count =
           let s = sum_set (λ u. u.seat_count) knowledge id v w at in
           let p = sum_by_push (λ (u : SeatKnowledge). u.seat_count) (set knowledge id w) handed_out_knowledge in
           omega (arith, h.seat_count);
-      spent = each_cut (λ u. u.seat_count ≡ 0 → u ≡ no_knowledge) knowledge id w handed_out_knowledge (λ e. ap unused e) (λ e. ap unused e) h.spent;
+      spent = each_cut (λ u. u.seat_count ≡ 0 → u ≡ no_knowledge) knowledge id w handed_out_knowledge (λ e. ap fresh_knowledge e) (λ e. ap fresh_knowledge e) h.spent;
       draws = counts_cut (λ u. u.numbers) plan.jobs drawn knowledge id v w handed_out_knowledge h.draws at refl refl refl;
       marked = record {
         bit = h.marked.bit;
@@ -297,7 +297,7 @@ desk_cuts plan drawn flag asked knowledge id seat_count more is_more h at =
     }
 
 -- handing out a seat keeps the rule
-pub cuts : (plan : DeskSize) (id : ℕ) (v : SeatKnowledge) → v ≡ unused v.seat_count → 0 < v.seat_count → Splits (DeskHolds plan) id v (fewer v) handed_out_knowledge
+pub cuts : (plan : DeskSize) (id : ℕ) (v : SeatKnowledge) → v ≡ fresh_knowledge v.seat_count → 0 < v.seat_count → Splits (DeskHolds plan) id v (fewer v) handed_out_knowledge
 cuts plan id v is_blank some_part =
     subst (λ (u : SeatKnowledge). Splits (DeskHolds plan) id u (fewer u) handed_out_knowledge) (sym is_blank)
     (λ s h at. (h.0, h.1, h.2, h.3, desk_cuts plan h.0 h.1 h.2 s.views id (v.seat_count - 1) v.seat_count (omega arith) h.4 at))

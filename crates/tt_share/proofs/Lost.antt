@@ -12,7 +12,7 @@ use Rattle.tt_game.specs.Turns.{legal_turns, turn_number, IsRising}
 use Rattle.tt_game.specs.laws.TurnLaws.{contains-legal_turns, rising-legal_turns}
 use Rattle.tt_proof.proofs.ForcesLemmas.{win_forces}
 use Rattle.tt_proof.specs.Strategy.{depth, depth_of_entries, entries_of}
-use Rattle.tt_proof.specs.Proven.{Proven, AreChildren, trees_of, turns_of}
+use Rattle.tt_proof.specs.Proven.{Proven, AreChildren, trees_by_turn, turns_of}
 use Rattle.tt_search.specs.declared.limits.Limits.{Limits}
 use Rattle.tt_share.specs.Answers.{LesserLose}
 use Rattle.tt_share.specs.inside.Jobs.{IsJob}
@@ -33,7 +33,7 @@ are_children line limits (c ∷ cs) most all =
     (record { stands = lost.stands; same_side = lost.side; shallow = omega (arith, lost.shallow) }, are_children line limits cs most (rest_of_all (IsLost line limits) c cs all))
 
 -- and the reply is within the limit on depth
-pub reply_is_low : (line : LineWithUndo) (limits : Limits) (cs : List (Turn × Proven)) → All (IsLost line limits) cs → depth_of_entries (entries_of (trees_of cs)) ≤ limits.depth
+pub reply_is_low : (line : LineWithUndo) (limits : Limits) (cs : List (Turn × Proven)) → All (IsLost line limits) cs → depth_of_entries (entries_of (trees_by_turn cs)) ≤ limits.depth
 reply_is_low line limits [] all = omega arith
 reply_is_low line limits (c ∷ cs) all =
     let lost = first_of_all (IsLost line limits) c cs all in

@@ -12,8 +12,8 @@ use Rattle.std.proofs.Crossing.{crosses}
 use Rattle.std.specs.contracts.alloc.Global as Global
 use Rattle.std.specs.contracts.impls.GlobalAllocator.TheImpl.{ghosts}
 use Rattle.std.specs.contracts.vec.Vec as Vec
-use Rattle.tt_share.specs.contracts.log.taken.Taken as Taken
-use Rattle.tt_share.specs.contracts.log.taken.Taken.TheInside as TakenInside
+use Rattle.tt_share.specs.contracts.log.taken.TakenTokens as TakenTokens
+use Rattle.tt_share.specs.contracts.log.taken.TakenTokens.TheInside as TakenInside
 use Rattle.tt_share.specs.contracts.log.view.View as View
 use Rattle.tt_share.specs.contracts.log.view.View.TheInside as ViewInside
 use Rattle.tt_share.proofs.log.Token.TheSendSync.{the_send as token_send}
@@ -21,7 +21,7 @@ use Rattle.tt_proof.proofs.Sent.{shared_send}
 use Rattle.tt_share.proofs.Sending.{Handle, log_sync}
 
 -- the tokens that were taken in, with their log and index
-taken_send : (a : NamedLft) → IsSend (Taken.the_row a)
+taken_send : (a : NamedLft) → IsSend (TakenTokens.the_row a)
 taken_send a = view_send _ _ _ _ _ (declared_send (TakenInside.the_type a) (
   search (sendable, log_sync) depth 20,
   (search (sendable, crosses, token_send) depth 40, (search (sendable, crosses) depth 40, tt)),
@@ -32,7 +32,7 @@ pub seen_send : (a : NamedLft) → IsSend (View.the_row a)
 seen_send a = view_send _ _ _ _ _ (declared_send (ViewInside.the_type a) (
   search (sendable, log_sync) depth 20,
   (
-    as_row_send (Taken.the_field a) (taken_send a),
+    as_row_send (TakenTokens.the_field a) (taken_send a),
     (search sendable depth 20, (search (sendable, crosses) depth 40, (search sendable depth 20, (search sendable depth 20, (search sendable depth 20, tt))))),
   ),
 ))

@@ -13,20 +13,20 @@ abbrev pub knowledge_of : ℕ → List ℕ → List ℕ → Bool → Bool → Se
 knowledge_of seat_count numbers grants flag saw_flag = record { seat_count = seat_count; numbers = numbers; grants = grants; flag = flag; saw_flag = saw_flag }
 
 -- what is known before the first step
-abbrev pub unused : ℕ → SeatKnowledge
-unused seat_count = knowledge_of seat_count [] [] false false
+abbrev pub fresh_knowledge : ℕ → SeatKnowledge
+fresh_knowledge seat_count = knowledge_of seat_count [] [] false false
 
 -- what the one seat of a new desk knows
 abbrev pub first_knowledge : DeskSize → SeatKnowledge
-first_knowledge plan = unused plan.seats
+first_knowledge plan = fresh_knowledge plan.seats
 
 -- what a seat knows when it is handed out
 abbrev pub handed_out_knowledge : SeatKnowledge
-handed_out_knowledge = unused 1
+handed_out_knowledge = fresh_knowledge 1
 
 -- what a join leaves behind
 abbrev pub no_knowledge : SeatKnowledge
-no_knowledge = unused 0
+no_knowledge = fresh_knowledge 0
 
 abbrev pub fewer : SeatKnowledge → SeatKnowledge
 fewer v = knowledge_of (v.seat_count - 1) v.numbers v.grants v.flag v.saw_flag
@@ -40,8 +40,8 @@ with_draw v n = knowledge_of v.seat_count (v.numbers ++ n ∷ []) v.grants v.fla
 abbrev pub with_grant : SeatKnowledge → ℕ → SeatKnowledge
 with_grant v n = knowledge_of v.seat_count v.numbers (v.grants ++ n ∷ []) v.flag v.saw_flag
 
-abbrev pub with_flag : SeatKnowledge → SeatKnowledge
-with_flag v = knowledge_of v.seat_count v.numbers v.grants true v.saw_flag
+abbrev pub with_flag_raised : SeatKnowledge → SeatKnowledge
+with_flag_raised v = knowledge_of v.seat_count v.numbers v.grants true v.saw_flag
 
 abbrev pub with_look : SeatKnowledge → Bool → SeatKnowledge
 with_look v seen = knowledge_of v.seat_count v.numbers v.grants v.flag (v.saw_flag || seen)
@@ -71,7 +71,7 @@ pub record EachNumberOnce (numbers : SeatKnowledge → List ℕ) (limit count : 
   pub rising : EachSeat (λ v. v.seat_count ≡ 1 → IsStrictlyIncreasing (numbers v)) knowledge
 
 -- the flag is raised only where some seat raised it, and where a seat raised it or saw it, it is
-pub record IsMark (flag : ℕ) (knowledge : List SeatKnowledge) : Type 0 where
+pub record IsFlag (flag : ℕ) (knowledge : List SeatKnowledge) : Type 0 where
   pub bit : flag ≤ 1
   pub raised : flag ≡ 1 → SomeSeat (λ v. v.flag ≡ true) knowledge
   pub known : EachSeat (λ v. (v.flag || v.saw_flag) ≡ true → flag ≡ 1) knowledge
@@ -81,7 +81,7 @@ pub record IsDesk (plan : DeskSize) (drawn flag asked : ℕ) (knowledge : List S
   pub seat_count : sum_by (λ v. v.seat_count) knowledge ≡ plan.seats
   pub spent : EachSeat (λ v. v.seat_count ≡ 0 → v ≡ no_knowledge) knowledge
   pub draws : EachNumberOnce (λ v. v.numbers) plan.jobs drawn knowledge
-  pub marked : IsMark flag knowledge
+  pub marked : IsFlag flag knowledge
   pub grants : EachNumberOnce (λ v. v.grants) plan.total asked knowledge
 
 -- What holds between any two steps: the first word counts the draws, the second is the flag, and the third counts the asks
@@ -102,7 +102,7 @@ abbrev pub AsksForGrant : SeatState → ℕ → SeatState → Type 0
 AsksForGrant before found after = (after ≡ (with_grant before.0 found, before.1)) × CanFollow before.0.grants found
 
 abbrev pub Raises : SeatState → SeatState → Type 0
-Raises before after = after ≡ (with_flag before.0, before.1)
+Raises before after = after ≡ (with_flag_raised before.0, before.1)
 
 -- what was found is seen, and where this seat raised or saw the flag before, it was found
 abbrev pub Looks : SeatState → ℕ → SeatState → Type 0

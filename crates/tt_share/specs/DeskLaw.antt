@@ -12,7 +12,7 @@ occurrences list number knowledge = sum_by (λ v. count_by (λ n. nat_eq n numbe
 
 -- The word is the count of all numbers in all lists, and they are the numbers below it, each once.
 -- Where a seat stands for itself alone its numbers rise, and all but the last are below the limit
-pub record IsCount (list : SeatKnowledge → List ℕ) (limit word : ℕ) (knowledge : List SeatKnowledge) : Type 0 where
+pub record EachNumberBelowOnce (list : SeatKnowledge → List ℕ) (limit word : ℕ) (knowledge : List SeatKnowledge) : Type 0 where
   pub count : sum_by (λ v. length (list v)) knowledge ≡ word
   pub below : (number : ℕ) → number < word → occurrences list number knowledge ≡ 1
   pub above : (number : ℕ) → word ≤ number → occurrences list number knowledge ≡ 0
@@ -21,7 +21,7 @@ pub record IsCount (list : SeatKnowledge → List ℕ) (limit word : ℕ) (knowl
   pub spares : EachSeat (λ v. overdraw_count limit (list v) ≤ v.seat_count) knowledge
 
 -- the flag is 0 or 1, raised only where some seat raised it, and where a seat raised it or saw it, it is 1
-pub record IsStop (word : ℕ) (knowledge : List SeatKnowledge) : Type 0 where
+pub record IsStopFlag (word : ℕ) (knowledge : List SeatKnowledge) : Type 0 where
   pub bit : (word ≡ 0) ⊎ (word ≡ 1)
   pub raised : word ≡ 1 → SomeSeat (λ v. v.flag ≡ true) knowledge
   pub flag : EachSeat (λ v. v.flag ≡ true → word ≡ 1) knowledge
@@ -33,9 +33,9 @@ pub record IsDeskState (plan : DeskSize) (words : List ℕ) (knowledge : List Se
   pub three_words : length words ≡ 3
   pub seat_count : sum_by (λ v. v.seat_count) knowledge ≡ plan.seats
   pub spent : EachSeat (λ v. v.seat_count ≡ 0 → v ≡ no_knowledge) knowledge
-  pub draws : IsCount (λ v. v.numbers) plan.jobs (slice_index words 0) knowledge
-  pub stop : IsStop (slice_index words 1) knowledge
-  pub grants : IsCount (λ v. v.grants) plan.total (slice_index words 2) knowledge
+  pub draws : EachNumberBelowOnce (λ v. v.numbers) plan.jobs (slice_index words 0) knowledge
+  pub stop : IsStopFlag (slice_index words 1) knowledge
+  pub grants : EachNumberBelowOnce (λ v. v.grants) plan.total (slice_index words 2) knowledge
 
 abbrev pub DeskLaw : Type 0
 DeskLaw = (plan : DeskSize) (s : State (Unit {0}) SeatKnowledge) → DeskHolds plan s → IsDeskState plan s.words s.views

@@ -7,7 +7,7 @@ ghost use Rattle.std.specs.Prelude.{◌≡◌, ℕ, ◌≢◌, ◌+◌, ◌<◌,
 ghost use Rattle.std.specs.Prelude.{IfOk, IfSome, IfNone, MatchOption, MatchResult, IsTrue, All};
 ghost use Rattle.tt_game.specs.declared.turns.TheConstants.{MOST_LEGAL};
 ghost use Rattle.tt_share.specs.declared.capacity.TheConstants.{MOST_WORKERS};
-ghost use Rattle.tt_share.specs.Desk.{unused, knowledge_of};
+ghost use Rattle.tt_share.specs.Desk.{fresh_knowledge, knowledge_of};
 ghost use Rattle.tt_share.specs.Seats.{seat_of, fresh, EndsOverdraw, Adds, Gains, granted_of, Closes};
 ghost use Rattle.tt_share.specs.inside.Gathering.{Gathers};
 
@@ -94,8 +94,8 @@ impl Seat {
         seat
     }
 
-    fn unused(seat: atomic_table::Seat<(), SeatKnowledge>) -> Seat
-        requires { seat.me ≡ (unused 1, []) }
+    fn fresh_knowledge(seat: atomic_table::Seat<(), SeatKnowledge>) -> Seat
+        requires { seat.me ≡ (fresh_knowledge 1, []) }
         ensures { result ≡ fresh seat.table_id }
     {
         Seat {
@@ -107,7 +107,7 @@ impl Seat {
 }
 
 // Cuts the first seat into as many as it stands for, into a list that has room for them.
-fn cut_all(
+fn split_seats(
     table: &Words,
     mut first: atomic_table::Seat<(), SeatKnowledge>,
     seats: usize,
@@ -115,15 +115,15 @@ fn cut_all(
 ) -> Vec<Seat>
     requires seats { 0 < seats }
     requires table { (first.table_id ≡ table.now.shared.table_id) × (0 < table.now.shared.table_id.words) }
-    requires first { first.me ≡ (unused seats, []) }
+    requires first { first.me ≡ (fresh_knowledge seats, []) }
     requires room { (all.items ≡ []) × (vec_capacity all ≡ seats) }
     ensures { result.items ≡ replicate seats (fresh table.now.shared.table_id) }
 {
     for _ in 1..seats {
         let seat = table.shared.split_seat::<SeatSplit>(&mut first);
-        all.push_reserved(Seat::unused(seat));
+        all.push_reserved(Seat::fresh_knowledge(seat));
     }
-    all.push_reserved(Seat::unused(first));
+    all.push_reserved(Seat::fresh_knowledge(first));
     all
 }
 
@@ -184,7 +184,7 @@ impl Desk {
         let Ok((table, first)) = Table::of_words(alloc, &[0, 0, 0], &plan) else {
             return Err(NoMemory);
         };
-        let all = cut_all(&table, first, seats, all);
+        let all = split_seats(&table, first, seats, all);
         let desk = Desk {
             table,
             jobs,

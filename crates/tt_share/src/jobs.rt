@@ -126,7 +126,7 @@ impl<'a> Jobs<'a> {
     }
 
     /// The limits behind a turn: the same budget, and a depth one less.
-    fn limits_behind(&self) -> Limits
+    fn limits_after(&self) -> Limits
         ensures budget { result.budget ≡ self.now.limits.budget }
         ensures depth { result.depth + 1 ≡ self.now.limits.depth }
     {
@@ -137,7 +137,7 @@ impl<'a> Jobs<'a> {
     }
 
     /// The line after a legal turn.
-    fn line_behind(&self, turn: Turn) -> Result<Line, NoMemory>
+    fn line_after(&self, turn: Turn) -> Result<Line, NoMemory>
         requires legal { IsLegal self.now.line.now.frame self.now.line.now.state turn }
         ensures frame { IfOk result (λ l. l.frame ≡ self.now.line.now.frame) }
         ensures state { IfOk result (λ l. l.state ≡ after self.now.line.now.frame self.now.line.now.state turn) }
@@ -153,8 +153,8 @@ impl<'a> Jobs<'a> {
         ensures behind { IfOk result (λ s. (t : Turn) → IsJob self.now.line.now job t → IsBehind self.now.line.now self.now.limits t s) }
         ensures new { IfOk result (λ s. s.tree ≡ new_leaf s.line.frame s.line.state) }
     {
-        let limits = self.limits_behind();
-        let behind = self.line_behind(self.turns.as_slice()[job])?;
+        let limits = self.limits_after();
+        let behind = self.line_after(self.turns.as_slice()[job])?;
         Search::new(self.alloc, behind, limits)
     }
 

@@ -2,7 +2,9 @@
 
 ghost use Rattle.std.specs.Prelude.{◌≡◌};
 
-use crate::search_tests::{AMPLE, Outcome, SPLIT, end_of, has_trace, letter, searching, stepped};
+use crate::search_tests::{
+    AMPLE, SPLIT, TreeOutcome, end_of, has_trace, letter, searching, stepped,
+};
 use std::alloc::Global;
 use tt_search::{Free, Grants, NoStore, PrivateStore, Reason, Search, Step};
 
@@ -110,14 +112,16 @@ fn a_refused_step_is_stuck_for_the_total(rt: HostRuntime) {
 fn spends_two(search: Search) -> bool {
     let mut grants = granting(2);
     let end = end_of(search.run(&mut NoStore, &mut grants));
-    grants.granted() == 2 && grants.refused() && matches!(end, Outcome::Stuck(Reason::Total, _, 2))
+    grants.granted() == 2
+        && grants.refused()
+        && matches!(end, TreeOutcome::Stuck(Reason::Total, _, 2))
 }
 
 /// Whether a run that is granted all it asks for asks three times.
 fn spends_three(search: Search) -> bool {
     let mut grants = Free::new();
     let end = end_of(search.run(&mut NoStore, &mut grants));
-    grants.granted() == 3 && !grants.refused() && matches!(end, Outcome::Settled(_))
+    grants.granted() == 3 && !grants.refused() && matches!(end, TreeOutcome::Settled(_))
 }
 
 #[test]

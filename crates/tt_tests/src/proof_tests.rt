@@ -2,7 +2,7 @@
 
 ghost use Rattle.std.specs.Prelude.{◌≡◌, ◌↔◌, IsTrue};
 ghost use Rattle.tt_game.specs.Game.{IsLegal};
-ghost use Rattle.tt_game.specs.Turns.{OnBoard};
+ghost use Rattle.tt_game.specs.Turns.{IsTurnOnBoard};
 ghost use Rattle.tt_proof.specs.Proven.{IsChild, AreChildren, turns_of};
 
 use crate::problem_tests::{posed, turn};
@@ -101,7 +101,7 @@ fn deep_certificates(rt: HostRuntime) {
 
 /// Whether the turn names a point of the board.
 fn on_board(line: &Line, turn: &Turn) -> bool
-    ensures { IsTrue result ↔ OnBoard line.now.frame turn.now }
+    ensures { IsTrue result ↔ IsTurnOnBoard line.now.frame turn.now }
 {
     match turn {
         Turn::Pass => true,

@@ -127,7 +127,7 @@ pub(crate) fn has_trace<S: Store>(
 /// What a search ended with: where it is settled, whether the proof is the defender's, begins with no turn and is two turns deep; where
 /// it is stuck, why, the root's numbers and how many nodes are expanded; and nothing where no search is handed back.
 #[derive(Clone, Copy)]
-pub(crate) enum Outcome {
+pub(crate) enum TreeOutcome {
     Settled(bool),
     Stuck(Reason, (u32, u32), u32),
     Lost,
@@ -139,21 +139,21 @@ fn is_held(proof: &Proof) -> bool {
 }
 
 /// That of a proof.
-fn settled(proof: Proof) -> Outcome {
-    Outcome::Settled(is_held(&proof))
+fn settled(proof: Proof) -> TreeOutcome {
+    TreeOutcome::Settled(is_held(&proof))
 }
 
 /// That of a search that is stuck.
-fn stuck(reason: Reason, search: Search) -> Outcome {
-    Outcome::Stuck(reason, search.numbers(), search.expanded())
+fn stuck(reason: Reason, search: Search) -> TreeOutcome {
+    TreeOutcome::Stuck(reason, search.numbers(), search.expanded())
 }
 
 /// What a run ended with.
-pub(crate) fn end_of(end: End) -> Outcome {
+pub(crate) fn end_of(end: End) -> TreeOutcome {
     match end {
         End::Settled(proof) => settled(proof),
         End::Stuck(reason, Some(search)) => stuck(reason, search),
-        End::Stuck(_, None) => Outcome::Lost,
+        End::Stuck(_, None) => TreeOutcome::Lost,
     }
 }
 
@@ -172,18 +172,18 @@ fn stuck_step(
 }
 
 /// What a trace ends with where the search ended so: where it is settled, how many proofs are kept.
-fn last_step(alloc: Global, end: Outcome, kept: usize) -> Option<String> {
+fn last_step(alloc: Global, end: TreeOutcome, kept: usize) -> Option<String> {
     match end {
-        Outcome::Settled(_) => format!(in alloc; " {kept}").ok(),
-        Outcome::Stuck(reason, numbers, expanded) => {
+        TreeOutcome::Settled(_) => format!(in alloc; " {kept}").ok(),
+        TreeOutcome::Stuck(reason, numbers, expanded) => {
             stuck_step(alloc, reason, numbers, expanded, kept)
         }
-        Outcome::Lost => None,
+        TreeOutcome::Lost => None,
     }
 }
 
 /// What a search ends with.
-fn run_of<S: Store>(search: Search, store: &mut S) -> Outcome {
+fn run_of<S: Store>(search: Search, store: &mut S) -> TreeOutcome {
     end_of(search.run(store, &mut Free::new()))
 }
 
@@ -194,7 +194,7 @@ fn run_at<S: Store>(
     budget: u32,
     depth: u16,
     store: &mut S,
-) -> Option<Outcome> {
+) -> Option<TreeOutcome> {
     Some(run_of(searching(alloc, text, budget, depth)?, store))
 }
 
@@ -357,20 +357,20 @@ fn closes_by_a_proof_of_another_history(rt: HostRuntime) {
 }
 
 /// What a run at a problem ends with, within two expansions and over no store.
-fn short_run(alloc: Global, text: &[u8]) -> Option<Outcome> {
+fn short_run(alloc: Global, text: &[u8]) -> Option<TreeOutcome> {
     run_at(alloc, text, 2, 512, &mut NoStore)
 }
 
 /// Whether such a run ends with a proof of the defender's, which begins with no turn and is two turns deep.
 fn ends_held(alloc: Global, text: &[u8]) -> bool {
-    matches!(short_run(alloc, text), Some(Outcome::Settled(true)))
+    matches!(short_run(alloc, text), Some(TreeOutcome::Settled(true)))
 }
 
 /// Whether it ends stuck for want of budget, and has expanded two nodes.
 fn ends_spent(alloc: Global, text: &[u8]) -> bool {
     matches!(
         short_run(alloc, text),
-        Some(Outcome::Stuck(Reason::Budget, _, 2))
+        Some(TreeOutcome::Stuck(Reason::Budget, _, 2))
     )
 }
 

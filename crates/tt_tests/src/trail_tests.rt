@@ -5,7 +5,7 @@ ghost use Rattle.std.specs.Prelude.{◌≡◌};
 use crate::drawings::{board_of, boards_of, is_drawn};
 use std::alloc::Global;
 use std::sync::Arc;
-use tt_board::{Board, Trail};
+use tt_board::{Board, BoardDeltas};
 use tt_sgf::Size;
 
 /// A board that a row shows, in which each stone reaches empty.
@@ -19,7 +19,7 @@ fn row(size: Size, text: &[u8]) -> Board
 }
 
 /// The trail of a stone put, one taken, the entries of the base again, and a board that is the one before it.
-fn trail_of_four(alloc: Global, size: Size) -> Option<Trail> {
+fn trail_of_four(alloc: Global, size: Size) -> Option<BoardDeltas> {
     let base = Arc::new(alloc, row(size, b".BW..")).ok()?;
     let boards = [
         row(size, b"B.W.."),
@@ -27,23 +27,23 @@ fn trail_of_four(alloc: Global, size: Size) -> Option<Trail> {
         row(size, b".BW.."),
         row(size, b".BW.."),
     ];
-    Trail::of(alloc, &base, &boards).ok()
+    BoardDeltas::of(alloc, &base, &boards).ok()
 }
 
 /// The trail of no boards.
-fn trail_of_none(alloc: Global, size: Size) -> Option<Trail> {
+fn trail_of_none(alloc: Global, size: Size) -> Option<BoardDeltas> {
     let base = Arc::new(alloc, row(size, b".BW..")).ok()?;
-    Trail::of(alloc, &base, &[]).ok()
+    BoardDeltas::of(alloc, &base, &[]).ok()
 }
 
 /// Whether a trail's boards are those of the text, with a stroke between two.
-fn are(alloc: Global, trail: &Trail, size: Size, text: &[u8]) -> Option<bool> {
+fn are(alloc: Global, trail: &BoardDeltas, size: Size, text: &[u8]) -> Option<bool> {
     let boards = boards_of(alloc, size, text)?;
     Some(trail.are(&boards))
 }
 
 /// Whether a trail's last board is that of the row; none where it has no board.
-fn is_last(trail: &Trail, drawn: &[u8]) -> Option<bool> {
+fn is_last(trail: &BoardDeltas, drawn: &[u8]) -> Option<bool> {
     let last = trail.last()?;
     Some(is_drawn(&last, drawn))
 }

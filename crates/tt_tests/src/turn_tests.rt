@@ -7,7 +7,7 @@ use crate::rows::{cut, short_number};
 use crate::turn_tables::TURNS;
 use std::alloc::{AllocError, Global};
 use std::sync::Arc;
-use tt_board::{Board, Trail};
+use tt_board::{Board, BoardDeltas};
 use tt_game::{Line, Side, Snapshot, Why};
 
 /// Whether the boards of a history are those that are drawn, with a stroke between two.
@@ -138,7 +138,7 @@ fn keeps(alloc: Global, line: &Line) -> bool {
     let Ok(base) = Arc::new(alloc, line.present().copy()) else {
         return false;
     };
-    let Ok(kept) = Trail::of(alloc, &base, boards) else {
+    let Ok(kept) = BoardDeltas::of(alloc, &base, boards) else {
         return false;
     };
     let Some(last) = kept.last() else {

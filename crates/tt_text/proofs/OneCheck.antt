@@ -1,7 +1,7 @@
 -- An input has one text and one status that answer `check`.
 use Rattle.std.proofs.Common.{◌≡◌, ℕ, Bool, true, false, Option, Some, None, List, Ok, Err, refl, sym, ap, ◌∙◌, drop, arith, subst}
 use Rattle.std.specs.declared.result.Result.{Result}
-use Rattle.tt_sgf.specs.Grammar.{GameTree, main_line, OneSpelling}
+use Rattle.tt_sgf.specs.Grammar.{GameTree, main_line, IsUnambiguous}
 use Rattle.tt_sgf.specs.Values.{trimmed}
 use Rattle.tt_game.specs.declared.faults.GameFault.{GameFault}
 use Rattle.tt_game.specs.declared.frame.Side.{Side}
@@ -102,7 +102,7 @@ module _ (one : OneCertificate) (one_shared : OneSharedCertificate) (answer : On
   found_on false (Ok p) bytes o q a b = found_at p bytes o q a b
   found_on parts (Err e) bytes o q a b = a ∙ sym b
 
-  module _ (reading : OneSpelling) (parts : Bool) where
+  module _ (reading : IsUnambiguous) (parts : Bool) where
     -- one thing is found on an input
     found_same : (input : List ℕ) (o q : Finding) → Finds parts input o → Finds parts input q → o ≡ q
     found_same input o q (too_long long) (too_long more) = refl

@@ -7,11 +7,11 @@ use Rattle.tt_game.specs.declared.turns.Turn.{Turn}
 use Rattle.tt_game.specs.declared.turns.Turn.TheVariants.{Play, Pass}
 use Rattle.tt_game.specs.Game.{IsLegal}
 use Rattle.tt_game.specs.Line.{LineWithUndo}
-use Rattle.tt_game.specs.Turns.{OnBoard, legal_turns}
+use Rattle.tt_game.specs.Turns.{IsTurnOnBoard, legal_turns}
 use Rattle.tt_game.specs.laws.TurnLaws.{contains-legal_turns}
 use Rattle.tt_search.specs.declared.limits.Limits.{Limits}
 use Rattle.tt_search.specs.declared.limits.Reason.{Reason}
-use Rattle.tt_text.specs.Solving.{AreTurnLines, IsValueOrReason, ProblemText, TurnsFollow, Verdict, line_behind, value_line}
+use Rattle.tt_text.specs.Solving.{AreTurnLines, IsValueOrReason, ProblemText, TurnsFollow, Verdict, line_after, value_line}
 use Rattle.tt_text.specs.declared.options.Options.{Options}
 
 -- a turn in the list of legal turns is legal
@@ -21,14 +21,14 @@ legal_there p ts n t all lt is =
     (contains-legal_turns p.frame p.state t).0 (subst (λ (us : List Turn). Contains us t) all here)
 
 -- and on the board
-pub legal_on_board : (p : LineWithUndo) (t : Turn) → IsLegal p.frame p.state t → OnBoard p.frame t
-legal_on_board p (Play q) l = l.1
-legal_on_board p Pass l = tt
+pub legal_turn_is_on_board : (p : LineWithUndo) (t : Turn) → IsLegal p.frame p.state t → IsTurnOnBoard p.frame t
+legal_turn_is_on_board p (Play q) l = l.1
+legal_turn_is_on_board p Pass l = tt
 
 module _ (p : LineWithUndo) (limits : Limits) (total : Option ℕ) where
   -- one more line behind the lines
   one_more : (ts : List Turn) (t : Turn) (lines : List ℕ) (value : Result Side Reason) → AreTurnLines p limits total ts lines
-      → IsValueOrReason (line_behind p t) limits total value → AreTurnLines p limits total (ts ++ t ∷ []) (lines ++ value_line p.frame.size t value)
+      → IsValueOrReason (line_after p t) limits total value → AreTurnLines p limits total (ts ++ t ∷ []) (lines ++ value_line p.frame.size t value)
   one_more [] t lines value h v =
       (value, [], v, ap (λ (x : List ℕ). x ++ value_line p.frame.size t value) h ∙ sym (append-nil (value_line p.frame.size t value)), refl)
   one_more (u ∷ us) t lines value h v = (
@@ -41,7 +41,7 @@ module _ (p : LineWithUndo) (limits : Limits) (total : Option ℕ) where
 
   -- the line of the next turn in the list
   pub next_line : (ts : List Turn) (n : ℕ) (t : Turn) (lines after : List ℕ) (value : Result Side Reason) → n < length ts → t ≡ get_or ts n t
-      → AreTurnLines p limits total (take n ts) lines → IsValueOrReason (line_behind p t) limits total value
+      → AreTurnLines p limits total (take n ts) lines → IsValueOrReason (line_after p t) limits total value
       → after ≡ lines ++ value_line p.frame.size t value → AreTurnLines p limits total (take (n + 1) ts) after
   next_line ts n t lines after value lt is h v e =
       let more : take n ts ++ t ∷ [] ≡ take (n + 1) ts = ap (λ (u : Turn). take n ts ++ u ∷ []) is ∙ sym (take_more ts n t lt) in

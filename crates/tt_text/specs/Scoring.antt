@@ -6,14 +6,14 @@ use Rattle.tt_game.specs.declared.faults.GameFault.{GameFault}
 use Rattle.tt_game.specs.declared.records.Record.{Record}
 use Rattle.tt_game.specs.Faults.{code_of}
 use Rattle.tt_game.specs.Records.{record_of}
-use Rattle.tt_text.specs.declared.outcome.Outcome.{Outcome}
-use Rattle.tt_text.specs.declared.outcome.Outcome.TheVariants.{Scored, Refused}
+use Rattle.tt_text.specs.declared.outcome.TreeOutcome.{TreeOutcome}
+use Rattle.tt_text.specs.declared.outcome.TreeOutcome.TheVariants.{Scored, Refused}
 
 -- a record's score, or the number of its refusal
-abbrev pub scored : Result Record GameFault → Outcome
+abbrev pub scored : Result Record GameFault → TreeOutcome
 scored (Ok r) = Scored r
 scored (Err e) = Refused (code_of e)
 
 -- what `score` makes of a main line
-abbrev pub Scores : List Node → Outcome → Type 0
+abbrev pub Scores : List Node → TreeOutcome → Type 0
 Scores nodes o = o ≡ scored (record_of nodes)

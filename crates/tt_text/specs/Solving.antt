@@ -23,8 +23,8 @@ use Rattle.tt_search.specs.declared.limits.Reason.{Reason}
 use Rattle.tt_search.specs.declared.limits.Reason.TheVariants.{Budget, Depth, Total, Memory}
 use Rattle.tt_search.specs.Searched.{Searched}
 use Rattle.tt_share.specs.Answers.{IsSpent, IsStuckBehind}
-use Rattle.tt_text.specs.declared.outcome.Outcome.{Outcome}
-use Rattle.tt_text.specs.declared.outcome.Outcome.TheVariants.{Answered, Refused}
+use Rattle.tt_text.specs.declared.outcome.TreeOutcome.{TreeOutcome}
+use Rattle.tt_text.specs.declared.outcome.TreeOutcome.TheVariants.{Answered, Refused}
 use Rattle.tt_text.specs.declared.options.Cert.{Cert}
 use Rattle.tt_text.specs.declared.options.Cert.TheVariants.{Unasked, Plain, Shared}
 use Rattle.tt_text.specs.declared.options.Options.{Options}
@@ -108,13 +108,13 @@ IsValueOrReason p limits total (Ok side) = HasValue p.frame p.state (value_for s
 IsValueOrReason p limits total (Err reason) = IsUnsettledFor p limits total reason
 
 -- the problem behind a turn, which alone may be undone
-abbrev pub line_behind : LineWithUndo → Turn → LineWithUndo
-line_behind p t = record { frame = p.frame; state = after p.frame p.state t; before = p.state ∷ [] }
+abbrev pub line_after : LineWithUndo → Turn → LineWithUndo
+line_after p t = record { frame = p.frame; state = after p.frame p.state t; before = p.state ∷ [] }
 
 -- a line for each of the turns, with the value behind it, or why that isn't known under the same limits
 abbrev pub AreTurnLines : LineWithUndo → Limits → Option ℕ → List Turn → List ℕ → Type 0
 AreTurnLines p limits total [] lines = lines ≡ []
-AreTurnLines p limits total (t ∷ ts) lines = (value : Result Side Reason) × (rest : List ℕ) × IsValueOrReason (line_behind p t) limits total value
+AreTurnLines p limits total (t ∷ ts) lines = (value : Result Side Reason) × (rest : List ℕ) × IsValueOrReason (line_after p t) limits total value
     × (lines ≡ value_line p.frame.size t value ++ rest) × AreTurnLines p limits total ts rest
 
 -- nothing follows, or a line for each legal turn, in rising order, where they are asked for
@@ -128,10 +128,10 @@ ProblemText options p text = (verdict lines : List ℕ) × (text ≡ verdict ++ 
     × Verdict p options.limits options.total options.cert verdict × TurnsFollow p options.limits options.total options.turns lines
 
 -- what is said of the problem, or the number of its refusal
-abbrev pub SolvesAs : Options → Result LineWithUndo GameFault → Outcome → Type 0
+abbrev pub SolvesAs : Options → Result LineWithUndo GameFault → TreeOutcome → Type 0
 SolvesAs options (Ok p) o = (text : List ℕ) × (o ≡ Answered text) × ProblemText options p text
 SolvesAs options (Err e) o = o ≡ Refused (code_of e)
 
 -- what `solve` makes of a main line; workers and df-pn have no part in it
-abbrev pub Solves : Options → List Node → Outcome → Type 0
+abbrev pub Solves : Options → List Node → TreeOutcome → Type 0
 Solves options nodes o = SolvesAs options (problem_of nodes) o

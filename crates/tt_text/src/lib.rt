@@ -11,6 +11,6 @@ mod verdict;
 
 pub use finding::{Finding, find};
 pub use options::{Cert, MOST_IN_ALL, Options};
-pub use outcome::{Outcome, line, score};
+pub use outcome::{TreeOutcome, line, score};
 pub use solving::{found, solve};
 pub use verdict::verdict_text;

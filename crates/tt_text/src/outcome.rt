@@ -9,7 +9,7 @@ use tt_sgf::{Items, MainLine, NoMemory};
 
 /// What becomes of one game tree.
 #[derive(Drop)]
-pub enum Outcome {
+pub enum TreeOutcome {
     /// A record was scored.
     Scored(Record),
     /// A problem was answered, by this text behind the tree's number.
@@ -18,18 +18,18 @@ pub enum Outcome {
     Refused(u8),
 }
 
-impl Outcome {
+impl TreeOutcome {
     /// Whether the tree was refused.
     pub fn is_refused(&self) -> bool
         ensures { result ≡ is_refused self.now }
     {
-        matches!(self, Outcome::Refused(_))
+        matches!(self, TreeOutcome::Refused(_))
     }
 }
 
 /// The line of a score.
 fn score_line(alloc: Global, number: usize, scored: &Record) -> Result<Vec<u8>, AllocError>
-    ensures { IfOk result (λ text. text.items ≡ line_of number (Outcome.Scored scored.now)) }
+    ensures { IfOk result (λ text. text.items ≡ line_of number (TreeOutcome.Scored scored.now)) }
 {
     let Record {
         black,
@@ -43,7 +43,7 @@ fn score_line(alloc: Global, number: usize, scored: &Record) -> Result<Vec<u8>, 
 
 /// The number of a tree, and the text of its answer behind a blank.
 fn answer_lines(alloc: Global, number: usize, answer: &[u8]) -> Result<Vec<u8>, AllocError>
-    ensures { IfOk result (λ text. text.items ≡ line_of number (Outcome.Answered answer.now)) }
+    ensures { IfOk result (λ text. text.items ≡ line_of number (TreeOutcome.Answered answer.now)) }
 {
     let mut text = format!(in alloc; "{number} ")?.into_bytes();
     text.extend_from_slice(answer)?;
@@ -52,30 +52,30 @@ fn answer_lines(alloc: Global, number: usize, answer: &[u8]) -> Result<Vec<u8>, 
 
 /// The line of a refusal.
 fn refusal_line(alloc: Global, number: usize, code: u8) -> Result<Vec<u8>, AllocError>
-    ensures { IfOk result (λ text. text.items ≡ line_of number (Outcome.Refused code)) }
+    ensures { IfOk result (λ text. text.items ≡ line_of number (TreeOutcome.Refused code)) }
 {
     let text = format!(in alloc; "{number} refused {code}\n")?;
     Ok(text.into_bytes())
 }
 
 /// The line on the outcome of the tree with this number, with the line of a certificate where there is one.
-pub fn line(alloc: Global, number: usize, outcome: &Outcome) -> Result<Vec<u8>, AllocError>
+pub fn line(alloc: Global, number: usize, outcome: &TreeOutcome) -> Result<Vec<u8>, AllocError>
     ensures { IfOk result (λ text. text.items ≡ line_of number outcome.now) }
 {
     match outcome {
-        Outcome::Scored(record) => score_line(alloc, number, record),
-        Outcome::Answered(text) => answer_lines(alloc, number, text.as_slice()),
-        Outcome::Refused(code) => refusal_line(alloc, number, *code),
+        TreeOutcome::Scored(record) => score_line(alloc, number, record),
+        TreeOutcome::Answered(text) => answer_lines(alloc, number, text.as_slice()),
+        TreeOutcome::Refused(code) => refusal_line(alloc, number, *code),
     }
 }
 
 /// The score of a main line, or its refusal.
-pub fn score(alloc: Global, main: &MainLine) -> Result<Outcome, NoMemory>
+pub fn score(alloc: Global, main: &MainLine) -> Result<TreeOutcome, NoMemory>
     ensures { IfOk result (Scores main.now.nodes) }
 {
     match play_record(alloc, main) {
-        Ok(record) => Ok(Outcome::Scored(record)),
+        Ok(record) => Ok(TreeOutcome::Scored(record)),
         Err(GameFault::NoMemory) => Err(NoMemory),
-        Err(fault) => Ok(Outcome::Refused(fault.code())),
+        Err(fault) => Ok(TreeOutcome::Refused(fault.code())),
     }
 }

@@ -8,10 +8,10 @@ ghost use Rattle.tt_proof.specs.CertificateText.{certificate_text};
 ghost use Rattle.tt_proof.specs.declared.tree.TheConstants.{MOST_DEPTH};
 ghost use Rattle.tt_proof.specs.Proven.{StandsAt};
 ghost use Rattle.tt_share.specs.Answers.{IsAnswer};
-ghost use Rattle.tt_text.specs.Solving.{AreTurnLines, IsValueOrReason, ProblemText, Solves, TurnsFollow, Verdict, line_behind};
+ghost use Rattle.tt_text.specs.Solving.{AreTurnLines, IsValueOrReason, ProblemText, Solves, TurnsFollow, Verdict, line_after};
 
 use crate::options::{Cert, Options};
-use crate::outcome::Outcome;
+use crate::outcome::TreeOutcome;
 use crate::verdict::{put_value_line, value_of, verdict_text};
 use std::alloc::Global;
 use std::sync::{Arc, Wait};
@@ -196,9 +196,9 @@ fn value_at<X: Threads + Wait + Sync>(
 }
 
 /// The line behind a legal turn.
-fn line_behind(line: &Line, turn: Turn) -> Result<Line, NoMemory>
+fn line_after(line: &Line, turn: Turn) -> Result<Line, NoMemory>
     requires { IsLegal line.now.frame line.now.state turn }
-    ensures { IfOk result (λ l. l ≡ line_behind line.now turn) }
+    ensures { IfOk result (λ l. l ≡ line_after line.now turn) }
 {
     let mut next = line.try_clone()?;
     next.push_legal(turn)?;
@@ -215,9 +215,9 @@ fn value_behind<X: Threads + Wait + Sync>(
 ) -> Result<Side, Reason>
     requires state { IsState line.now.frame line.now.state }
     requires legal { IsLegal line.now.frame line.now.state turn }
-    ensures { IsValueOrReason (line_behind line.now turn) options.limits options.total result }
+    ensures { IsValueOrReason (line_after line.now turn) options.limits options.total result }
 {
-    match line_behind(line, turn) {
+    match line_after(line, turn) {
         Ok(next) => value_at(rt, alloc, &next, options),
         Err(NoMemory) => Err(Reason::Memory),
     }
@@ -288,15 +288,15 @@ pub fn solve<X: Threads + Wait + Sync, G: Gate>(
     options: Options,
     bytes: usize,
     gate: &G,
-) -> Result<Outcome, NoMemory>
+) -> Result<TreeOutcome, NoMemory>
     ensures { IfOk result (λ outcome. Solves options main.now.nodes outcome) }
 {
     match problem(alloc, main) {
         Ok(line) => {
             let text = solve_at(rt, alloc, &line, options, bytes, gate)?;
-            Ok(Outcome::Answered(text))
+            Ok(TreeOutcome::Answered(text))
         }
         Err(GameFault::NoMemory) => Err(NoMemory),
-        Err(fault) => Ok(Outcome::Refused(fault.code())),
+        Err(fault) => Ok(TreeOutcome::Refused(fault.code())),
     }
 }

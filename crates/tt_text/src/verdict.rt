@@ -115,7 +115,7 @@ fn following(
 }
 
 /// Which side wins, its first turn, and the lines that follow.
-fn decided(
+fn decided_verdict(
     alloc: Global,
     proof: &Proof,
     first: &Option<Turn>,
@@ -151,7 +151,7 @@ fn settled(
         × IsSaid line.now limits.now proof.now.side first.now cert text.items) }
 {
     let lines = following(alloc, proof, line, limits, cert)?;
-    let text = decided(alloc, proof, first, line.frame().size, lines.as_slice())?;
+    let text = decided_verdict(alloc, proof, first, line.frame().size, lines.as_slice())?;
     Ok(text)
 }
 

@@ -5,14 +5,14 @@ use Rattle.std.specs.Io.KnownBytes.{Appends, Keeps}
 use Rattle.tt_sgf.specs.declared.nodes.Node.{Node}
 use Rattle.devices.specs.declared.fault.RunFault.{RunFault}
 use Rattle.devices.specs.declared.fault.RunFault.TheVariants.{Input, Output, Memory}
-use Rattle.tt_text.specs.declared.outcome.Outcome.{Outcome}
+use Rattle.tt_text.specs.declared.outcome.TreeOutcome.{TreeOutcome}
 use Rattle.tt_text.specs.Trees.{is_refused, line_of}
 
 -- the line on an outcome of tree number k was written, and says whether it is a refusal; or a fault came
-abbrev pub WritesOutcome : (List Node → Outcome → Type 0) → ℕ → List Node → Result Bool RunFault → Option (List ℕ) → Option (List ℕ) → Type 0
+abbrev pub WritesOutcome : (List Node → TreeOutcome → Type 0) → ℕ → List Node → Result Bool RunFault → Option (List ℕ) → Option (List ℕ) → Type 0
 WritesOutcome allowed k nodes (Ok refused) before behind =
-    (o : Outcome) × allowed nodes o × (refused ≡ is_refused o) × Appends before behind (line_of k o)
+    (o : TreeOutcome) × allowed nodes o × (refused ≡ is_refused o) × Appends before behind (line_of k o)
 WritesOutcome allowed k nodes (Err Input) before behind = ⊥
 WritesOutcome allowed k nodes (Err Output) before behind =
-    (o : Outcome) × (n : ℕ) × allowed nodes o × Appends before behind (take n (line_of k o))
+    (o : TreeOutcome) × (n : ℕ) × allowed nodes o × Appends before behind (take n (line_of k o))
 WritesOutcome allowed k nodes (Err Memory) before behind = Keeps before behind

@@ -1,4 +1,4 @@
--- How colourings are kept by edits, and boards one after another by a base and edits that lead on from it. The view of `Trail` and
+-- How colourings are kept by edits, and boards one after another by a base and edits that lead on from it. The view of `BoardDeltas` and
 -- private contracts cite these.
 use Rattle.std.specs.Int.{bit_at}
 use Rattle.std.specs.Prelude.{◌≡◌, ◌≢◌, ◌==◌, if◌then◌else◌, ℕ, ◌+◌, ◌<◌, ◌≤◌, List, [], ◌∷◌, ◌++◌, length, map, drop, Option, Some, None}
@@ -8,7 +8,7 @@ use Rattle.tt_board.specs.declared.boards.differences.Edit.{Edit}
 use Rattle.tt_board.specs.declared.boards.differences.Edit.TheVariants.{Black, White, Empty, Whole}
 use Rattle.tt_board.specs.Position.{Position, Colouring}
 use Rattle.tt_board.specs.Reach.{entry_at}
-use Rattle.tt_board.specs.Setup.{IsAlive}
+use Rattle.tt_board.specs.Setup.{AllHaveLiberties}
 use Rattle.tt_board.specs.inside.Differences.{edited, colourings_from}
 
 -- the edit of a kind, at a point
@@ -36,7 +36,7 @@ trail_of b es = map (board_of b.size) (colourings_from b.points es)
 
 -- where edits finish colourings, they end with the last of them; where they end, each stone reaches empty
 pub record IsTrail (b : Position) (es : List Edit) : Type 0 where
-  pub alive : IsAlive b.size (led b.points es)
+  pub alive : AllHaveLiberties b.size (led b.points es)
   pub ends : es ≢ [] → (before : List Colouring) × (colourings_from b.points es ≡ before ++ led b.points es ∷ [])
 
 -- edits were added that lead from here to there, and finish the colouring there

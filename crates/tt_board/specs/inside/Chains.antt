@@ -12,7 +12,7 @@ use Rattle.tt_board.specs.declared.counted.play_kind.TheConstants.{NOWHERE}
 use Rattle.tt_board.specs.Near.{IsNeighbour}
 use Rattle.tt_board.specs.Position.{Colouring}
 use Rattle.tt_board.specs.Reach.{entry_at}
-use Rattle.tt_board.specs.Setup.{IsAlive}
+use Rattle.tt_board.specs.Setup.{AllHaveLiberties}
 use Rattle.tt_board.specs.Decided.{Decision, both, some_below, neighbour, decided}
 
 -- a path of adjacent points of one colour leads from p to q
@@ -97,7 +97,7 @@ pub record IsChainBoard (b : ChainBoard) : Type 0 where
   pub wide : (length b.names ≡ MOST_POINTS) × (length b.stones ≡ MOST_POINTS) × (length b.liberties ≡ MOST_POINTS)
   pub named : AreNames b.size b.points b.names
   pub counted : AreCounted b.size b.names b.stones b.liberties
-  pub alive : IsAlive b.size b.points
+  pub alive : AllHaveLiberties b.size b.points
   pub rest : (q : ℕ) → b.end ≤ q → entry_at b.points q ≡ None
 
 -- ---- how the code gets there

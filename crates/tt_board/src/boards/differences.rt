@@ -120,7 +120,7 @@ fn edit_points(points: &mut Colouring, edit: Edit)
 
 /// Adds the edits of the points from one on that a word stands for: one for each point whose bit is 1. Where memory is refused,
 /// some of them may stand behind those of before.
-fn push_word(
+fn push_word_edits(
     edits: &mut Vec<EditWord>,
     there: &Colouring,
     from: usize,
@@ -161,7 +161,7 @@ fn push_edits(
     let words = here.apart(there).words();
     let used = (here.len() + 63) / 64;
     for k in 0..used {
-        push_word(edits, there, 64 * k, words[k])?;
+        push_word_edits(edits, there, 64 * k, words[k])?;
     }
     edits.push(EditWord::new(3, 0))?;
     Ok(())

@@ -3,7 +3,7 @@
 ghost use Rattle.std.specs.Prelude.{◌≡◌, ℕ, ◌%◌, ◌<◌, ◌≤◌, ◌↔◌, true, false};
 ghost use Rattle.tt_sgf.specs.declared.bits.TheConstants.{BITS};
 ghost use Rattle.tt_sgf.specs.Sizes.{point_count};
-ghost use Rattle.tt_sgf.specs.Words.{bit_in};
+ghost use Rattle.tt_sgf.specs.MachineWords.{bit_in};
 ghost use Rattle.tt_board.specs.inside.Around.{AreOn, IsBesideSome};
 
 use tt_sgf::{Bits, Size};

@@ -3,7 +3,7 @@
 
 ghost use Rattle.std.specs.Prelude.{◌≡◌, ◌≢◌, Option, None, true, ℕ, ◌<◌, length};
 ghost use Rattle.tt_sgf.specs.Sizes.{point_count};
-ghost use Rattle.tt_sgf.specs.Words.{bit_in};
+ghost use Rattle.tt_sgf.specs.MachineWords.{bit_in};
 ghost use Rattle.tt_board.specs.declared.Colour.{Colour};
 ghost use Rattle.tt_board.specs.Position.{Colouring as Entries};
 ghost use Rattle.tt_board.specs.inside.Around.{AreOn, AreThose, AreReaching};

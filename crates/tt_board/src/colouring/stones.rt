@@ -2,7 +2,7 @@
 
 ghost use Rattle.std.specs.Prelude.{◌≡◌, ℕ, ◌<◌, ◌↔◌, true};
 ghost use Rattle.tt_sgf.specs.Sizes.{point_count};
-ghost use Rattle.tt_sgf.specs.Words.{bit_in};
+ghost use Rattle.tt_sgf.specs.MachineWords.{bit_in};
 
 use crate::Colour;
 use crate::board::Board;

@@ -5,10 +5,10 @@
 ghost use Rattle.std.specs.Prelude.{◌≡◌, ◌≢◌, ℕ, ◌/◌, ◌<◌, ◌≤◌, ◌↔◌, length, map, replicate, slice_set, Contains, IsTrue, Some, None, true};
 ghost use Rattle.tt_sgf.specs.declared.size.TheConstants.{MOST_POINTS};
 ghost use Rattle.tt_sgf.specs.Sizes.{point_count};
-ghost use Rattle.tt_sgf.specs.Words.{bit_in};
+ghost use Rattle.tt_sgf.specs.MachineWords.{bit_in};
 ghost use Rattle.tt_board.specs.Reach.{entry_at};
 ghost use Rattle.tt_board.specs.Play.{play_of};
-ghost use Rattle.tt_board.specs.Setup.{IsAlive};
+ghost use Rattle.tt_board.specs.Setup.{AllHaveLiberties};
 ghost use Rattle.tt_board.specs.PlayKind.{IsKind};
 ghost use Rattle.tt_board.specs.inside.Chains.{name_at, root_of, colour_number, renamed, IsEachOnce, IsOneName, AreNear, HasLost};
 
@@ -112,7 +112,7 @@ impl Chains {
     pub(crate) fn points(&self) -> &Colouring
         ensures value { result.now ≡ self.now.points }
         ensures fits { length self.now.points ≡ point_count self.now.size }
-        ensures alive { IsAlive self.now.size self.now.points }
+        ensures alive { AllHaveLiberties self.now.size self.now.points }
     {
         &self.points
     }
@@ -121,7 +121,7 @@ impl Chains {
     pub(crate) fn put_stone(&mut self, colour: Colour, p: usize)
         requires on_board { p < point_count self.old.size }
         requires free { entry_at self.old.points p ≡ None }
-        requires alive { IsAlive self.old.size (slice_set self.old.points p (Some colour)) }
+        requires alive { AllHaveLiberties self.old.size (slice_set self.old.points p (Some colour)) }
         ensures size { self.new.size ≡ self.old.size }
         ensures points { self.new.points ≡ slice_set self.old.points p (Some colour) }
     {
@@ -133,7 +133,7 @@ impl Chains {
     fn put(&mut self, colour: Colour, p: usize, near: &Names)
         requires on_board { p < point_count self.old.size }
         requires free { entry_at self.old.points p ≡ None }
-        requires alive { IsAlive self.old.size (slice_set self.old.points p (Some colour)) }
+        requires alive { AllHaveLiberties self.old.size (slice_set self.old.points p (Some colour)) }
         requires near { AreNear self.old.size self.old.names p near.now }
         ensures size { self.new.size ≡ self.old.size }
         ensures points { self.new.points ≡ slice_set self.old.points p (Some colour) }
@@ -181,7 +181,7 @@ impl Chains {
     #[inline(never)]
     pub(crate) fn of(size: Size, points: &Colouring) -> Chains
         requires fits { length points.now ≡ point_count size }
-        requires alive { IsAlive size points.now }
+        requires alive { AllHaveLiberties size points.now }
         ensures size { result.size ≡ size }
         ensures points { result.points ≡ points.now }
     {

@@ -71,7 +71,7 @@ impl Advisor {
     }
 
     /// Undoes plays until the finder's board is one of the line's; whether it is.
-    fn go_back(&mut self, boards: &[Board]) -> bool {
+    fn unplay_to_line(&mut self, boards: &[Board]) -> bool {
         for _ in 0..MOST_UNDONE {
             let count = self.finder.board.history().len();
             if count <= boards.len() && self.shows(boards, count) {
@@ -104,7 +104,7 @@ impl Advisor {
     /// Goes where a line stands.
     fn follow(&mut self, line: &Line) -> Result<(), NoMemory> {
         let boards = line.history();
-        if self.go_back(boards) && self.go_on(boards)? {
+        if self.unplay_to_line(boards) && self.go_on(boards)? {
             return Ok(());
         }
         self.begin_anew(line)

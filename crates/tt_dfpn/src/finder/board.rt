@@ -48,7 +48,7 @@ fn other(c: u8) -> u8 {
 /// What a play on an empty point would do: the hash of the board behind it, how many chains it takes, whether its own chain goes,
 /// and whether a target goes.
 #[derive(Clone, Copy)]
-pub(crate) struct Effect {
+pub(crate) struct PlayPreview {
     pub(crate) hash: u64,
     pub(crate) captures: u8,
     pub(crate) is_suicide: bool,
@@ -122,7 +122,7 @@ impl Beside {
 
     /// Whether a play here may take a chain of this colour.
     #[inline(always)]
-    fn may_lose(&self, c: u8) -> bool {
+    fn may_capture(&self, c: u8) -> bool {
         let count = self.count(c);
         let mut may = false;
         for k in 0..4 {
@@ -390,16 +390,16 @@ impl SearchBoard {
 
     /// What a play of the colour on the empty point would do.
     #[inline]
-    pub(crate) fn effect(&self, colour: Colour, p: u16) -> Effect {
+    pub(crate) fn effect(&self, colour: Colour, p: u16) -> PlayPreview {
         let c = code(colour);
         let beside = self.look_beside(p);
-        let mut effect = Effect {
+        let mut effect = PlayPreview {
             hash: self.hash ^ self.key(c, p),
             captures: 0,
             is_suicide: false,
             takes_target: false,
         };
-        if beside.may_lose(other(c)) {
+        if beside.may_capture(other(c)) {
             self.add_captures(other(c), &beside, &mut effect);
         }
         if effect.captures == 0 && !beside.has_liberty(c) {
@@ -412,7 +412,7 @@ impl SearchBoard {
 
     /// Adds what goes of the chains of the colour.
     #[inline(always)]
-    fn add_captures(&self, c: u8, beside: &Beside, effect: &mut Effect) {
+    fn add_captures(&self, c: u8, beside: &Beside, effect: &mut PlayPreview) {
         for k in 0..4 {
             if beside.contents[k] == c
                 && beside.is_first(c, k)
@@ -426,7 +426,7 @@ impl SearchBoard {
 
     /// Adds that the chains of the colour go, of which the play takes the last liberty.
     #[inline(never)]
-    fn add_suicide(&self, c: u8, beside: &Beside, effect: &mut Effect) {
+    fn add_suicide(&self, c: u8, beside: &Beside, effect: &mut PlayPreview) {
         for k in 0..4 {
             if beside.contents[k] == c && beside.is_first(c, k) {
                 self.add_chain(beside.chains[k], effect);
@@ -436,7 +436,7 @@ impl SearchBoard {
 
     /// Adds that a chain goes.
     #[inline(always)]
-    fn add_chain(&self, chain: u16, effect: &mut Effect) {
+    fn add_chain(&self, chain: u16, effect: &mut PlayPreview) {
         effect.hash ^= self.chain_hash[index(chain)];
         effect.takes_target |= self.targets[index(chain)] != 0;
     }

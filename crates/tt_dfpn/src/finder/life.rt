@@ -9,7 +9,7 @@ use crate::finder::board::{SearchBoard, index};
 use crate::finder::region::{PointFlags, Region};
 
 /// How many chains and how many areas are looked at.
-const MOST: usize = 64;
+const MOST_CHAINS_OR_AREAS: usize = 64;
 
 /// The chains of the defender beside the areas.
 #[derive(Drop)]
@@ -52,12 +52,12 @@ impl BorderChains {
     /// The number of a chain; a new one where it is new. None where there are too many.
     #[inline]
     fn number(&mut self, name: u16) -> Option<usize> {
-        for k in 0..self.count.min(MOST) {
+        for k in 0..self.count.min(MOST_CHAINS_OR_AREAS) {
             if self.names[below_64(k)] == name {
                 return Some(k);
             }
         }
-        if self.count >= MOST {
+        if self.count >= MOST_CHAINS_OR_AREAS {
             return None;
         }
         let k = self.count;
@@ -163,7 +163,7 @@ impl Region {
                 continue;
             }
             let (beside, vital) = self.area(board, *p, &mut seen, chains)?;
-            if beside != 0 && areas.count < MOST {
+            if beside != 0 && areas.count < MOST_CHAINS_OR_AREAS {
                 areas.beside[below_64(areas.count)] = beside;
                 areas.vital[below_64(areas.count)] = vital;
                 areas.count += 1;
@@ -193,7 +193,7 @@ impl Region {
             return false;
         };
         let mut safe = 0u64;
-        for k in 0..chains.count.min(MOST) {
+        for k in 0..chains.count.min(MOST_CHAINS_OR_AREAS) {
             if self.reaches_out(board, chains.names[below_64(k)]) {
                 safe |= bit(k);
             }
@@ -202,16 +202,16 @@ impl Region {
             return false;
         }
         match self.target_chains(board, &mut chains) {
-            Some(targets) => stay(&chains, &areas, safe, targets),
+            Some(targets) => survive(&chains, &areas, safe, targets),
             None => false,
         }
     }
 }
 
 /// How many of these areas are vital to a chain.
-fn eyes(areas: &Areas, whole: u64, k: usize) -> usize {
+fn vital_count(areas: &Areas, whole: u64, k: usize) -> usize {
     let mut count = 0usize;
-    for r in 0..areas.count.min(MOST) {
+    for r in 0..areas.count.min(MOST_CHAINS_OR_AREAS) {
         if whole & bit(r) != 0 && areas.vital[below_64(r)] & bit(k) != 0 {
             count = count.saturating_add(1);
         }
@@ -221,20 +221,20 @@ fn eyes(areas: &Areas, whole: u64, k: usize) -> usize {
 
 /// Takes away chains with fewer than two vital areas, and areas beside which one was taken away, until none goes; whether the targets
 /// stay.
-fn stay(chains: &BorderChains, areas: &Areas, safe: u64, targets: u64) -> bool {
+fn survive(chains: &BorderChains, areas: &Areas, safe: u64, targets: u64) -> bool {
     let mut alive = u64::MAX;
     let mut whole = u64::MAX;
     for _ in 0..130u8 {
         let before = (alive, whole);
-        for k in 0..chains.count.min(MOST) {
-            if alive & !safe & bit(k) != 0 && eyes(areas, whole, k) < 2 {
+        for k in 0..chains.count.min(MOST_CHAINS_OR_AREAS) {
+            if alive & !safe & bit(k) != 0 && vital_count(areas, whole, k) < 2 {
                 alive &= !bit(k);
             }
         }
         if alive & targets != targets {
             return false;
         }
-        for r in 0..areas.count.min(MOST) {
+        for r in 0..areas.count.min(MOST_CHAINS_OR_AREAS) {
             if areas.beside[below_64(r)] & !alive != 0 {
                 whole &= !bit(r);
             }

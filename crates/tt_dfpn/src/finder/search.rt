@@ -9,7 +9,8 @@ use crate::advice::Visits;
 use crate::finder::board::{SearchBoard, index};
 use crate::finder::region::Region;
 use crate::finder::transpositions::{
-    Entry, INFINITE, LOST, NO_TURN, PASS, ProofNumbers, TranspositionTable, UNKNOWN, WON,
+    Entry, FIRST_LINE_ROWS, FIRST_ROWS, INFINITE, LOST, MOST_LINE_ROWS, MOST_ROWS, NO_TURN, PASS,
+    ProofNumbers, TranspositionTable, UNKNOWN, WON,
 };
 use crate::finder::zobrist::mover_key;
 use std::alloc::Global;
@@ -22,16 +23,6 @@ const MOST_TURNS: u16 = 400;
 
 /// One part of so many is epsilon.
 const EPSILON_PARTS: u32 = 4;
-
-/// How many rows a table has at first, and at most.
-const FIRST_ROWS: usize = 4096;
-
-const MOST_ROWS: usize = 16_777_216;
-
-/// How many rows the table of single lines has at first, and at most.
-const FIRST_LINE_ROWS: usize = 256;
-
-const MOST_LINE_ROWS: usize = 262_144;
 
 /// What a line that was found to differ has as its work, so that it is kept.
 const LINE_WORK: u32 = 0x1000_0000;

@@ -4,6 +4,16 @@ use std::alloc::Global;
 use tt_game::Turn;
 use tt_sgf::{NoMemory, Point};
 
+/// How many rows the table of positions has at first, and at most.
+pub(crate) const FIRST_ROWS: usize = 4096;
+
+pub(crate) const MOST_ROWS: usize = 16_777_216;
+
+/// How many rows the table of single lines has at first, and at most.
+pub(crate) const FIRST_LINE_ROWS: usize = 256;
+
+pub(crate) const MOST_LINE_ROWS: usize = 262_144;
+
 /// Stands for infinity.
 pub(crate) const INFINITE: u32 = 1_000_000_000;
 

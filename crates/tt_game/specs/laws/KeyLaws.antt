@@ -39,9 +39,9 @@ pub same_key_is : (a b : Key) → a ≡ b → same_key a b ≡ true
 same_key_is a b e = subst (λ c. same_key a c ≡ true) e (same_key_equiv.refl a)
 
 -- positions of one key have boards of one size
-pub same_size : (f g : Frame) (s t : State) → key_of f s ≡ key_of g t → f.size ≡ g.size
+pub same_key_same_size : (f g : Frame) (s t : State) → key_of f s ≡ key_of g t → f.size ≡ g.size
 unfolding key_of
-same_size f g s t e = ap (λ (k : Key). k.size) e
+same_key_same_size f g s t e = ap (λ (k : Key). k.size) e
 
 -- keys that pass the test feed a hasher the same
 pub same_writes : (a b : Key) → same_key a b ≡ true → position_writes a ≡ position_writes b

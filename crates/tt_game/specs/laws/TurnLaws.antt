@@ -118,14 +118,14 @@ length-legal_turns f s =
 -- ---- the legal turns, turn by turn
 
 -- a legal turn lies on the board
-pub legal_on_board : (f : Frame) (s : State) (t : Turn) → IsLegal f s t → IsOnBoard f.size t
-legal_on_board f s (Play p) l = l.1
-legal_on_board f s Pass l = tt
+pub legal_turn_is_on_board : (f : Frame) (s : State) (t : Turn) → IsLegal f s t → IsOnBoard f.size t
+legal_turn_is_on_board f s (Play p) l = l.1
+legal_turn_is_on_board f s Pass l = tt
 
 -- each of the turns is legal
-abbrev pub AreLegal : Frame → State → List Turn → Type 0
-AreLegal f s [] = Unit {0}
-AreLegal f s (t ∷ ts) = IsLegal f s t × AreLegal f s ts
+abbrev pub EachIsLegal : Frame → State → List Turn → Type 0
+EachIsLegal f s [] = Unit {0}
+EachIsLegal f s (t ∷ ts) = IsLegal f s t × EachIsLegal f s ts
 
 -- the turns lie on the board, and their numbers rise from this one on
 abbrev pub RisesFrom : Size → ℕ → List Turn → Type 0
@@ -133,21 +133,21 @@ RisesFrom size n [] = Unit {0}
 RisesFrom size n (t ∷ ts) = (n ≤ number_on size t) × IsOnBoard size t × RisesFrom size (number_on size t + 1) ts
 
 -- turns that are legal place by place are all legal
-each_legal : (f : Frame) (s : State) (ts : List Turn) → ((i : ℕ) → i < length ts → IsLegal f s (get_or ts i Pass)) → AreLegal f s ts
+each_legal : (f : Frame) (s : State) (ts : List Turn) → ((i : ℕ) → i < length ts → IsLegal f s (get_or ts i Pass)) → EachIsLegal f s ts
 each_legal f s [] h = tt
 each_legal f s (t ∷ ts) h = (h 0 (omega arith), each_legal f s ts (λ i l. h (suc i) (omega (arith, l))))
 
 -- the list has legal turns only
-pub are_legal : (f : Frame) (s : State) → AreLegal f s (legal_turns f s)
+pub are_legal : (f : Frame) (s : State) → EachIsLegal f s (legal_turns f s)
 are_legal f s = each_legal f s (legal_turns f s) (λ i l. (contains-legal_turns f s (get_or (legal_turns f s) i Pass)).0 (Contains-get_or (legal_turns f s) i Pass l))
 
 -- legal turns in rising order rise from any number on that the first isn't below
-rises_on : (f : Frame) (s : State) (n : ℕ) (ts : List Turn) → AreLegal f s ts → IsRising f ts → (0 < length ts → n ≤ turn_number f (get_or ts 0 Pass))
+rises_on : (f : Frame) (s : State) (n : ℕ) (ts : List Turn) → EachIsLegal f s ts → IsRising f ts → (0 < length ts → n ≤ turn_number f (get_or ts 0 Pass))
     → RisesFrom f.size n ts
 rises_on f s n [] l up from = tt
 rises_on f s n (t ∷ ts) l up from = (
   from (omega arith),
-  legal_on_board f s t l.0,
+  legal_turn_is_on_board f s t l.0,
   rises_on f s (number_on f.size t + 1) ts l.1 (λ i j d h k. up (suc i) (suc j) d (omega (arith, h)) (omega (arith, k)))
       (λ h. omega (arith, up 0 1 Pass (omega arith) (omega (arith, h)))),
 )

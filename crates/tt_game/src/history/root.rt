@@ -15,7 +15,7 @@ use crate::history::bloom_filter::{BloomFilter, filter_index};
 use std::alloc::Global;
 use std::marker::Model;
 use std::sync::Arc;
-use tt_board::{Board, Colour, Trail};
+use tt_board::{Board, BoardDeltas, Colour};
 use tt_sgf::{Bits, NoMemory, Point};
 
 /// To compare a colouring with so many boards costs about what its hash costs.
@@ -36,7 +36,7 @@ pub(crate) const MANY: u16 = 20;
 pub(crate) struct Root {
     frame: Frame,
     many: bool,
-    boards: Trail,
+    boards: BoardDeltas,
     count: usize,
     base: Arc<Board>,
     black: Bits,
@@ -117,7 +117,7 @@ impl Root {
         Ok(Root {
             frame: frame.copy(),
             many: frame.region.count() >= MANY,
-            boards: Trail::of(alloc, &base, boards)?,
+            boards: BoardDeltas::of(alloc, &base, boards)?,
             count: boards.len(),
             base,
             black: stones_of(boards, Colour::Black),
@@ -166,7 +166,7 @@ impl Root {
     }
 
     /// Whether a stone of this colour stood on `p` on some board of the beginning.
-    pub(crate) fn has_stood(&self, colour: Colour, p: Point) -> bool
+    pub(crate) fn stone_has_stood(&self, colour: Colour, p: Point) -> bool
         requires { p < point_count self.now.frame.size }
         ensures { (c : Colouring) → HasBeen (colourings self.now.begun) c → entry_at c p ≡ Some colour → IsTrue result }
     {

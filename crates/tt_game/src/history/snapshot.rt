@@ -17,7 +17,7 @@ use crate::keys::{Key, key_at};
 use crate::line::Line;
 use std::marker::Model;
 use std::sync::Arc;
-use tt_board::{Board, Trail};
+use tt_board::{Board, BoardDeltas};
 use tt_sgf::NoMemory;
 
 /// Where a line stood: its frame, history, side to move and passes. What the line shares with others of its beginning stands
@@ -26,7 +26,7 @@ use tt_sgf::NoMemory;
 #[derive(Drop)]
 pub struct Snapshot {
     root: Arc<Root>,
-    later: Trail,
+    later: BoardDeltas,
     hash: u32,
     to_move: Side,
     passes: u8,
@@ -61,7 +61,7 @@ impl Model for Snapshot {
 
 /// Whether boards begin with those of a root. They begin with those of the other one, which mostly are the same: that is seen without
 /// a board made.
-fn begins(root: &Root, boards: &[Board], other: &Root) -> bool
+fn begins_with_root(root: &Root, boards: &[Board], other: &Root) -> bool
     requires sizes { All (λ b. b.size ≡ other.now.frame.size) boards.now }
     requires begins { BoardsBegin other.now.begun (colourings boards.now) }
     ensures { IsTrue result ↔ (root.now.begun ≡ take (length root.now.begun) boards.now) }
@@ -89,7 +89,7 @@ impl Snapshot {
         requires hash { hash ≡ hash_of_key (key_of (arc_value root.now).frame (state_at history.now to_move)) }
         ensures { IfOk result (λ p. p ≡ record { frame = (arc_value root.now).frame; state = state_at history.now to_move }) }
     {
-        let later = Trail::of(
+        let later = BoardDeltas::of(
             history.alloc(),
             root.base(),
             &history.boards()[root.count()..],
@@ -116,7 +116,7 @@ impl Snapshot {
         if !self.later.are(&boards[begun..]) {
             return false;
         }
-        begins(&self.root, boards, line.root())
+        begins_with_root(&self.root, boards, line.root())
     }
 
     /// With how many boards the history there and the line's begin alike: with all those of the beginning, where the line has them,
@@ -125,7 +125,7 @@ impl Snapshot {
         ensures within { result ≤ length (history line.now.state) }
         ensures alike { take result (history line.now.state) ≡ take result (history self.now.state) }
     {
-        if !begins(&self.root, line.history(), line.root()) {
+        if !begins_with_root(&self.root, line.history(), line.root()) {
             return 0;
         }
         self.root.count()

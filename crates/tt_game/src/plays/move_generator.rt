@@ -3,7 +3,7 @@
 ghost use Rattle.std.specs.Prelude.{◌≡◌, ◌<◌, ◌≤◌, IsTrue, MatchOption, true};
 ghost use Rattle.std.specs.FinSet as set;
 ghost use Rattle.tt_sgf.specs.Sizes.{point_count};
-ghost use Rattle.tt_sgf.specs.Words.{bit_in};
+ghost use Rattle.tt_sgf.specs.MachineWords.{bit_in};
 
 use crate::frame::Side;
 use crate::history::root::MANY;

@@ -2,7 +2,7 @@
 use Rattle.std.specs.Prelude.{◌≡◌, ◌≢◌, ◌↔◌, ◌⊎◌, ℕ, ◌<◌, Option, List, [], ◌∷◌, ◌++◌, Contains}
 use Rattle.tt_board.specs.Position.{Position, Colouring}
 use Rattle.tt_game.specs.Game.{State, made}
-use Rattle.tt_game.specs.Line.{IsBarred}
+use Rattle.tt_game.specs.Line.{IsBarredBySuperko}
 use Rattle.tt_game.specs.declared.frame.Frame.{Frame}
 use Rattle.tt_game.specs.declared.turns.Turn.{Turn}
 use Rattle.tt_game.specs.declared.turns.Turn.TheVariants.{Play, Pass}
@@ -12,7 +12,7 @@ use Rattle.tt_proof.specs.Bounds.{IsWithin}
 
 -- superko bars a play on a point below the number, which would make the colouring
 abbrev pub RepeatsBelow : Frame → State → ℕ → Colouring → Type 0
-RepeatsBelow f s n c = (p : ℕ) × (p < n) × IsBarred f s p × (made f s p ≡ c)
+RepeatsBelow f s n c = (p : ℕ) × (p < n) × IsBarredBySuperko f s p × (made f s p ≡ c)
 
 -- what a child needs in its parent's history too: all that it needs in its own, but the board that a play made
 abbrev pub IsPassedUp : Turn → Position → List Position → Position → Type 0

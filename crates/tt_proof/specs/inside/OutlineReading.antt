@@ -5,7 +5,7 @@ use Rattle.tt_sgf.specs.declared.size.Size.{Size}
 use Rattle.tt_proof.specs.declared.certificate_read.CertFault.{CertFault}
 use Rattle.tt_proof.specs.declared.certificate_read.CertFault.TheVariants.{Syntax, TooDeep, NoMemory}
 use Rattle.tt_proof.specs.Strategy.{Strategy, depth, depth_of_entries}
-use Rattle.tt_proof.specs.Outlines.{Outline, Branches, ended, picked, replied, part, unfolded, entries_with, names_behind, names_behind_all, RefersBack, ReferBack, IsOrderly, AreOrderly}
+use Rattle.tt_proof.specs.Outlines.{Outline, Branches, ended, picked, replied, part, unfolded, entries_with, names_behind, names_behind_all, RefersBack, BranchesReferBack, IsOrderly, AreOrderly}
 use Rattle.tt_proof.specs.Outlines.{outline_text, branches_text, GoesDeep, GoDeep}
 pub use Rattle.tt_proof.specs.Outlines.{NoDigit}
 
@@ -39,7 +39,7 @@ module _ (size : Size) where
     pub ends : EndsBefore o y
 
   pub record BranchesAt (us : List Strategy) (least : ℕ) (bs : Branches) (d : ℕ) (r y : List ℕ) : Type 0 where
-    pub closed : ReferBack us bs
+    pub closed : BranchesReferBack us bs
     pub orderly : AreOrderly size least bs
     pub deep : depth_of_entries (entries_with us bs) ≡ d
     pub text : r ≡ branches_text size bs ++ y
@@ -64,7 +64,7 @@ module _ (size : Size) where
 
   pub record BranchesDeepAt (us : List Strategy) (left least : ℕ) (r : List ℕ) : Type 0 where
     pub branches : Branches
-    pub closed : ReferBack us branches
+    pub closed : BranchesReferBack us branches
     pub orderly : AreOrderly size least branches
     pub deep : GoDeep size us left branches r
 

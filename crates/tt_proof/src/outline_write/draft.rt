@@ -3,7 +3,7 @@
 
 ghost use Rattle.std.specs.Prelude.{◌≡◌, OnOk};
 ghost use Rattle.tt_proof.specs.KeptFootprints.{IsBoardAfter};
-ghost use Rattle.tt_proof.specs.Strategy.{strategy_of, entries_of_trees, IsInOrder, AreInOrder, IsOnBoard};
+ghost use Rattle.tt_proof.specs.Strategy.{strategy_of, entries_of_list, IsInOrder, AreInOrder, IsOnBoard};
 
 use crate::certificate_write::put_turn;
 use crate::outline_write::kept_trees::{KeptTrees, Written};
@@ -220,7 +220,7 @@ fn walk_reply(
     line: &mut Line,
     draft: &mut Draft,
 ) -> Result<Option<Written>, NoMemory>
-    requires in_order { AreInOrder line.old.frame.size 0 (entries_of_trees list.now) }
+    requires in_order { AreInOrder line.old.frame.size 0 (entries_of_list list.now) }
     ensures same { OnOk result (line.new ≡ line.old) }
 {
     let mut written = Written {

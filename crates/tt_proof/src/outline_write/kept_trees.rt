@@ -6,7 +6,7 @@ use tt_game::{Line, board_hash};
 use tt_sgf::NoMemory;
 
 /// How many chains the kept trees are in, by the hashes of their boards.
-const CHAINS: usize = 65_536;
+const BUCKETS: usize = 65_536;
 
 /// No index at all.
 const NONE: usize = usize::MAX;
@@ -45,7 +45,7 @@ pub(crate) struct KeptTrees {
 }
 
 /// The chain of a hash: its highest bits say most.
-fn chain_of(hash: u64) -> usize {
+fn hash_bucket(hash: u64) -> usize {
     (hash >> 48) as usize
 }
 
@@ -54,13 +54,13 @@ impl KeptTrees {
     pub(crate) fn new(alloc: Global) -> Result<KeptTrees, NoMemory> {
         Ok(KeptTrees {
             trees: Vec::new(alloc),
-            last: vec![in alloc; NONE; CHAINS]?,
+            last: vec![in alloc; NONE; BUCKETS]?,
         })
     }
 
     /// The last tree of the hash's chain.
-    fn last_of(&self, hash: u64) -> usize {
-        match self.last.get(chain_of(hash)) {
+    fn newest_in_bucket(&self, hash: u64) -> usize {
+        match self.last.get(hash_bucket(hash)) {
             Some(last) => *last,
             None => NONE,
         }
@@ -69,7 +69,7 @@ impl KeptTrees {
     /// The youngest tree that wins at the line and is at most so deep.
     pub(crate) fn find(&self, line: &Line, most_depth: u16) -> Option<usize> {
         let hash = board_hash(line.present());
-        let mut next = self.last_of(hash);
+        let mut next = self.newest_in_bucket(hash);
         for _ in 0..self.trees.len() {
             let tree = self.trees.get(next)?;
             if tree.hash == hash
@@ -95,11 +95,11 @@ impl KeptTrees {
         let kept = KeptTree {
             written: written.try_clone(alloc)?,
             hash,
-            before: self.last_of(hash),
+            before: self.newest_in_bucket(hash),
             is_used: false,
         };
         self.trees.push(kept)?;
-        if let Some(last) = self.last.get_mut(chain_of(hash)) {
+        if let Some(last) = self.last.get_mut(hash_bucket(hash)) {
             *last = index;
         }
         Ok(index)

@@ -23,7 +23,7 @@ use Rattle.tt_search.specs.declared.tree.children.Child.{Child}
 use Rattle.tt_search.specs.declared.tree.children.Child.TheVariants.{Fresh, Won}
 use Rattle.tt_search.proofs.Joins.{on_ok, picked_there, picked_here, replied_children, settled_here, replies_to, joined_here, joined_all}
 use Rattle.tt_search.proofs.Lifted.{weight_at}
-use Rattle.tt_search.proofs.Indices.{length-turns_of, length-trees_of, turn_at_index, weight_step}
+use Rattle.tt_search.proofs.Indices.{length-turns_of, length-trees_by_turn, turn_at_index, weight_step}
 use Rattle.tt_search.proofs.Replies.{picked}
 use Rattle.tt_search.proofs.ChildSteps.{any_default}
 use Rattle.tt_search.proofs.OneSide.{offered_for}
@@ -115,7 +115,7 @@ footprints::picked-footprint_behind-requires t c =
     let f = c.args.line.now.frame in
     let s = c.args.line.now.state in
     let there = picked_there c.args.side f s x i c.requires.settled c.first_settled-index.ensures.index in
-    let w = weight_at (edge_trees x.edges x.grown.items) i fresh (omega (arith, there, length-trees_of x.edges x.grown.items)) in (
+    let w = weight_at (edge_trees x.edges x.grown.items) i fresh (omega (arith, there, length-trees_by_turn x.edges x.grown.items)) in (
       omega (arith, c.decreases, w, ap weight c.child-child.ensures),
       picked_here c.args.side f s x i c.at.result c.turn-turn.result (child_tree c.child-child.result)
           c.requires.settled c.first_settled-index.ensures.index c.at.ensures c.turn-turn.ensures c.child-child.ensures,
@@ -139,7 +139,7 @@ footprints::picked-returns-clause-exact t c =
     let i : ℕ = c.first_settled-index.result.0 in
     let child : PartialTree = child_tree c.child-child.result in
     let in_edges = picked_there side f s x i c.requires.settled c.first_settled-index.ensures.index in
-    let in_trees : i < length trees = omega (arith, in_edges, length-trees_of x.edges x.grown.items) in
+    let in_trees : i < length trees = omega (arith, in_edges, length-trees_by_turn x.edges x.grown.items) in
     let turn = c.turn-turn.ensures ∙ ap edge_turn c.at.ensures ∙ sym (turn_at_index x.edges i c.at.result c.turn-turn.result in_edges) in
     let e : pick c.turn-turn.result (strategy_for side child) ≡ pick_at side (first_settled side (children_in x)) turns (children_in x) =
     picked side turns trees i c.turn-turn.result child (strategy_for side child) turn (c.child-child.ensures ∙ any_default trees i fresh child in_trees) refl

@@ -9,7 +9,7 @@ use Rattle.tt_search.specs.Settled.{strategy_for, pick_at, replies}
 use Rattle.tt_search.specs.inside.Weight.{weight, weight_all}
 use Rattle.tt_search.specs.declared.tree.edges.Edge.{Edge}
 use Rattle.tt_search.proofs.Replies.{joined, joined_push, joined_none, picked, pick_past_turns}
-use Rattle.tt_search.proofs.Indices.{replies_at_end, length-turns_of, length-trees_of, turn_at_index, replied_step, weight_step, whole_behind}
+use Rattle.tt_search.proofs.Indices.{replies_at_end, length-turns_of, length-trees_by_turn, turn_at_index, replied_step, weight_step, whole_behind}
 use Rattle.tt_search.proofs.Lifted.{weight_at}
 use Rattle.tt_search.proofs.ChildSteps.{any_default}
 use Rattle.tt_search.specs.inside.ChildNodes.{child_of, children_in}
@@ -69,7 +69,7 @@ pub settled::picked-measured_tree-requires : goal.settled::picked-measured_tree-
 settled::picked-measured_tree-requires t c =
     let x = c.args.children.now in
     let i : ℕ = c.first_settled-index.result.0 in
-    let w = weight_at (edge_trees x.edges x.grown.items) i fresh (omega (arith, c.if-index-len.false, c.len.ensures, length-trees_of x.edges x.grown.items)) in
+    let w = weight_at (edge_trees x.edges x.grown.items) i fresh (omega (arith, c.if-index-len.false, c.len.ensures, length-trees_by_turn x.edges x.grown.items)) in
     let z = subst (λ k. IsZeroAt c.args.side k (children_in x)) (sym c.first_settled-index.ensures.index) (zero_at c.args.side (children_in x) c.requires.settled) in
     (omega (arith, c.decreases, w, ap weight c.child.ensures), ap (number c.args.side) c.child.ensures ∙ zero_there c.args.side (edge_trees x.edges x.grown.items) i fresh z)
 
@@ -81,7 +81,7 @@ settled::picked-returns t c =
     let i : ℕ = c.first_settled-index.result.0 in
     let child : PartialTree = child_of x i in
     let in_edges : i < length x.edges = omega (arith, c.if-index-len.false, c.len.ensures) in
-    let in_trees : i < length trees = omega (arith, in_edges, length-trees_of x.edges x.grown.items) in
+    let in_trees : i < length trees = omega (arith, in_edges, length-trees_by_turn x.edges x.grown.items) in
     let turn = c.turn.ensures ∙ ap edge_turn c.at.ensures ∙ sym (turn_at_index x.edges i c.at.result c.turn.result in_edges) in
     let e = picked c.args.side turns trees i c.turn.result child _ turn (any_default trees i fresh child in_trees) (c.in_ok-child.ensures ∙ ap (strategy_for c.args.side) c.child.ensures)
     (omega (arith, in_edges, length-turns_of x.edges)) in_trees in

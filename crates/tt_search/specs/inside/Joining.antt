@@ -3,7 +3,7 @@ use Rattle.std.specs.Prelude.{◌≡◌, ◌-◌, length, List}
 use Rattle.tt_game.specs.declared.frame.Frame.{Frame}
 use Rattle.tt_game.specs.declared.frame.Side.{Side}
 use Rattle.tt_game.specs.Game.{State}
-use Rattle.tt_game.specs.laws.TurnLaws.{AreLegal}
+use Rattle.tt_game.specs.laws.TurnLaws.{EachIsLegal}
 use Rattle.tt_proof.specs.declared.tree.TheConstants.{MOST_DEPTH}
 use Rattle.tt_search.specs.PartialTree.{PartialTree, Children, no_more, more}
 use Rattle.tt_search.specs.Numbers.{number}
@@ -28,6 +28,6 @@ pub record IsSettledAt (side : Side) (f : Frame) (s : State) (tree : PartialTree
 pub record AreSettledAt (side : Side) (f : Frame) (s : State) (es : List Edge) (grown : List PartialTree) : Type 0 where
   pub whole : grown_in es ≡ length grown
   pub settled : AreZero side (children_of (edge_trees es grown))
-  pub legal : AreLegal f s (edge_turns es)
+  pub legal : EachIsLegal f s (edge_turns es)
   pub partial : ArePartialTrees f s (edge_turns es) (children_of (edge_trees es grown))
   pub stays : AllStayWithin f.size (MOST_DEPTH - 1) (children_of (edge_trees es grown))

@@ -5,7 +5,7 @@ use Rattle.tt_search.specs.inside.ChildNodes.{choices_of, HasItsNodes, IsRank, A
 use Rattle.tt_search.specs.declared.tree.children.ChildNodes.{ChildNodes}
 use Rattle.tt_search.specs.inside.Pairs.{ArePair}
 use Rattle.tt_search.specs.declared.tree.children.BestChild.{BestChild}
-use Rattle.tt_search.specs.declared.tree.numbers.Pair.{Pair}
+use Rattle.tt_search.specs.declared.tree.numbers.PhiDelta.{PhiDelta}
 
 -- the index is that of the child to go to, and the rank says how many before it have grown
 pub record IsKept (focus : BestChild) (children : ChildNodes) : Type 0 where
@@ -15,6 +15,6 @@ pub record IsKept (focus : BestChild) (children : ChildNodes) : Type 0 where
   pub rank : IsRank focus.rank focus.index children
 
 -- so they are kept, and these are the numbers of the side to move and of its opponent
-pub record IsKeptWith (focus : BestChild) (children : ChildNodes) (numbers : Pair) : Type 0 where
+pub record IsKeptWith (focus : BestChild) (children : ChildNodes) (numbers : PhiDelta) : Type 0 where
   pub kept : IsKept focus children
   pub pair : ArePair focus.mover (node_with (choices_of focus.mover children)) numbers

@@ -4,9 +4,9 @@ use Rattle.tt_game.specs.declared.frame.Side.{Side}
 use Rattle.tt_game.specs.Game.{opponent}
 use Rattle.tt_search.specs.PartialTree.{PartialTree}
 use Rattle.tt_search.specs.Numbers.{infinite, cap, number}
-use Rattle.tt_search.specs.declared.tree.numbers.Pair.{Pair}
+use Rattle.tt_search.specs.declared.tree.numbers.PhiDelta.{PhiDelta}
 
-pub record ArePair (side : Side) (tree : PartialTree) (n : Pair) : Type 0 where
+pub record ArePair (side : Side) (tree : PartialTree) (n : PhiDelta) : Type 0 where
   pub own : n.own ≡ number side tree
   pub other : n.other ≡ number (opponent side) tree
 

@@ -3,7 +3,7 @@ use Rattle.std.specs.Prelude.{◌≡◌, ℕ, ◌-◌}
 use Rattle.tt_game.specs.declared.frame.Frame.{Frame}
 use Rattle.tt_game.specs.declared.turns.Turn.{Turn}
 use Rattle.tt_game.specs.Game.{State, after}
-use Rattle.tt_game.specs.Line.{LineWithUndo, IsPushed}
+use Rattle.tt_game.specs.Line.{LineWithUndo, IsLineAfterTurn}
 use Rattle.tt_search.specs.PartialTree.{PartialTree}
 use Rattle.tt_search.specs.Numbers.{IsUndecided}
 use Rattle.tt_search.specs.Growing.{IsPartialTree}
@@ -43,6 +43,6 @@ pub record MayGrow (at : Stand) (tree : PartialTree) : Type 0 where
 
 -- the walk has gone down by the turn
 pub record IsDown (t : Turn) (old new : Descent) : Type 0 where
-  pub line : IsPushed old.line new.line t
+  pub line : IsLineAfterTurn old.line new.line t
   pub room : new.room ≡ old.room - 1
   pub left : new.left ≡ old.left

@@ -5,7 +5,7 @@ ghost use Rattle.tt_game.specs.Keys.{key_of};
 ghost use Rattle.tt_proof.specs.Proven.{Proven};
 ghost use Rattle.tt_game.specs.declared.frame.Side.TheVariants.{Attacker, Defender};
 ghost use Rattle.tt_search.specs.Stores.{HasKeyAndSide, IsNewest};
-ghost use Rattle.tt_search.specs.KeyIndex.{index_hash, index_hashes, proof_at, IsIndexOfNewest};
+ghost use Rattle.tt_search.specs.KeyIndex.{index_hash, key_hashes, proof_at, IsIndexOfNewest};
 ghost use Rattle.tt_search.specs.inside.Buckets.{bucket_of_hash, AreLongEnough, AreBuckets, IsLastWithHash};
 
 use std::alloc::Global;
@@ -180,7 +180,7 @@ impl KeyIndex {
     /// Tells the index of the row's next proof, where there is room.
     pub fn push(&mut self, p: &Proof)
         requires { 0 < self.old.room }
-        ensures { self.new.hashes ≡ self.old.hashes ++ index_hashes (p.now ∷ []) }
+        ensures { self.new.hashes ≡ self.old.hashes ++ key_hashes (p.now ∷ []) }
     {
         let slot = self.hashes.len();
         let hash = p.key_hash();
@@ -228,7 +228,7 @@ impl KeyIndex {
         row: &P,
     ) -> Option<usize>
         requires hash { hash ≡ index_hash (key_of line.now.frame line.now.state) }
-        requires indexed { self.now.hashes ≡ index_hashes (P.proofs row.now) }
+        requires indexed { self.now.hashes ≡ key_hashes (P.proofs row.now) }
         requires last { IsLastWithHash self.now.hashes hash last }
         ensures newest { IsNewest line.now side (reverse (P.proofs row.now)) (proof_at (P.proofs row.now) result) }
         ensures within { IfSome result (λ slot. slot < length (P.proofs row.now)) }
@@ -247,7 +247,7 @@ impl KeyIndex {
 
     /// The slot of the row's last proof of the line's key for the side. The index was told the row's proofs.
     pub fn newest<P: ProofRow>(&self, line: &Line, side: Side, row: &P) -> Option<usize>
-        requires { self.now.hashes ≡ index_hashes (P.proofs row.now) }
+        requires { self.now.hashes ≡ key_hashes (P.proofs row.now) }
         ensures { IsIndexOfNewest line.now side (P.proofs row.now) result }
     {
         let hash = line.key_hash();
@@ -256,7 +256,7 @@ impl KeyIndex {
 
     /// What `newest` answers for the attacker and for the defender.
     pub fn newest_both<P: ProofRow>(&self, line: &Line, row: &P) -> (Option<usize>, Option<usize>)
-        requires { self.now.hashes ≡ index_hashes (P.proofs row.now) }
+        requires { self.now.hashes ≡ key_hashes (P.proofs row.now) }
         ensures attacker { IsIndexOfNewest line.now Attacker (P.proofs row.now) result.0 }
         ensures defender { IsIndexOfNewest line.now Defender (P.proofs row.now) result.1 }
     {

@@ -32,7 +32,7 @@ impl Model for PrivateStore {
     ghost use Rattle.std.specs.Arc.{arc_value};
     ghost use Rattle.tt_proof.specs.laws.StrategyCode.{strategy_code};
     ghost use Rattle.tt_search.specs.Stores.{Keeping};
-    ghost use Rattle.tt_search.specs.KeyIndex.{index_hashes};
+    ghost use Rattle.tt_search.specs.KeyIndex.{key_hashes};
 
     ghost Value = { Keeping };
 
@@ -40,7 +40,7 @@ impl Model for PrivateStore {
 
     ghost view = { λ s. record { proofs = reverse (map arc_value s.proofs.items); capacity = s.capacity } };
 
-    ghost invariant = { λ s. (s.index.hashes ≡ index_hashes (map arc_value s.proofs.items)) × (length (map arc_value s.proofs.items) ≤ s.capacity) };
+    ghost invariant = { λ s. (s.index.hashes ≡ key_hashes (map arc_value s.proofs.items)) × (length (map arc_value s.proofs.items) ≤ s.capacity) };
 }
 
 impl ProofRow for Vec<Arc<Proof>> {

@@ -7,7 +7,7 @@ ghost use Rattle.tt_search.specs.inside.Edges.{edge_turns, edge_trees, grown_in}
 use crate::tree::edge_row::Edges;
 use crate::tree::edges::{Edge, EdgeState};
 use crate::tree::node::Node;
-use crate::tree::numbers::Pair;
+use crate::tree::numbers::PhiDelta;
 use std::alloc::Global;
 use tt_game::{Side, Turn};
 
@@ -42,7 +42,7 @@ impl ChildNodes {
 
     /// Children of which none has grown, which of them to go to, and the numbers of the mover and of the other side at
     /// their node.
-    pub(crate) fn new(alloc: Global, mover: Side, edges: Edges) -> (BestChild, ChildNodes, Pair)
+    pub(crate) fn new(alloc: Global, mover: Side, edges: Edges) -> (BestChild, ChildNodes, PhiDelta)
         requires few { length edges ≤ TURNS }
         requires none { grown_in edges ≡ 0 }
         ensures children { choices_of result.0.mover result.1 ≡ record { mover = mover; turns = edge_turns edges; trees = edge_trees edges [] } }
@@ -51,7 +51,7 @@ impl ChildNodes {
         let grown = Vec::new(alloc);
         let child_nodes = ChildNodes { edges, grown };
         let (best, sum) = child_nodes.first_numbers(mover);
-        let numbers = Pair {
+        let numbers = PhiDelta {
             own: best.least,
             other: sum,
         };

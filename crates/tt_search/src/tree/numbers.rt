@@ -21,7 +21,7 @@ pub(crate) const CAP: u32 = 1_000_000_000;
 
 /// The number of a side and that of its opponent.
 #[derive(Clone, Copy)]
-pub(crate) struct Pair {
+pub(crate) struct PhiDelta {
     pub(crate) own: u32,
     pub(crate) other: u32,
 }
@@ -48,21 +48,21 @@ pub(crate) fn decided_number(goal: Side, side: Side) -> u32
     if is_same(goal, side) { 0 } else { INFINITE }
 }
 
-impl Pair {
+impl PhiDelta {
     ghost use Rattle.tt_search.specs.PartialTree.{PartialTree};
     ghost use Rattle.tt_search.specs.inside.Pairs.{ArePair};
     ghost use Rattle.tt_search.specs.inside.Cached.{IsCached};
 
     /// The numbers of the side and of its opponent, from the proof number and the disproof number.
-    pub(crate) fn of(side: Side, proof: u32, disproof: u32) -> Pair
+    pub(crate) fn of(side: Side, proof: u32, disproof: u32) -> PhiDelta
         ensures { (tree : PartialTree) → IsCached proof disproof tree → ArePair side tree result }
     {
         match side {
-            Side::Attacker => Pair {
+            Side::Attacker => PhiDelta {
                 own: proof,
                 other: disproof,
             },
-            Side::Defender => Pair {
+            Side::Defender => PhiDelta {
                 own: disproof,
                 other: proof,
             },

@@ -20,7 +20,7 @@ pub(crate) struct Plays {
 
 impl Model for Plays {
     ghost use Rattle.std.specs.Prelude.{◌≡◌, List, length};
-    ghost use Rattle.tt_sgf.specs.Words.{bit_in};
+    ghost use Rattle.tt_sgf.specs.MachineWords.{bit_in};
     ghost use Rattle.tt_sgf.specs.declared.size.TheConstants.{MOST_POINTS};
     ghost use Rattle.tt_search.specs.declared.tree.edges.Edge.{Edge};
     ghost use Rattle.tt_search.specs.inside.Untried.{plays_in};

@@ -10,7 +10,7 @@ use Rattle.tt_sgf.specs.Sizes.{IsSide, point_count, size_with, side, sized, size
 same_side : (n : ℕ) (a b : IsSide n) → a ≡ b
 same_side n a b = λ i. (le_prop a.0 b.0 i, le_prop a.1 b.1 i)
 
--- a size size_with of the same columns and rows is the same
+-- a size made of the same columns and rows is the same
 made_same : (c d r t : ℕ) (h : IsSide c) (k : IsSide r) (l : IsSide d) (m : IsSide t) → c ≡ d → r ≡ t → size_with c r h k ≡ size_with d t l m
 made_same c d r t h k l m e f =
     subst (λ y. (x : IsSide y) → size_with c r h k ≡ size_with y t x m) e
@@ -47,10 +47,10 @@ sized_out c r out = elim (side c) as (λ x. sized_by c r x (side r) ≡ None) [
   ]
 ]
 
--- a size that was size_with has the columns and rows that it was size_with of
-pub sized_takes : (c r : ℕ) (s : Size) → sized c r ≡ Some s → (s.columns ≡ c) × (s.rows ≡ r)
+-- a size that was made has the columns and rows that it was made of
+pub sized_dimensions : (c r : ℕ) (s : Size) → sized c r ≡ Some s → (s.columns ≡ c) × (s.rows ≡ r)
 unfolding sized sized_by size_with
-sized_takes c r s = elim (side c) as (λ x. sized_by c r x (side r) ≡ Some s → (s.columns ≡ c) × (s.rows ≡ r)) [
+sized_dimensions c r s = elim (side c) as (λ x. sized_by c r x (side r) ≡ Some s → (s.columns ≡ c) × (s.rows ≡ r)) [
   | inl _ ↦ λ e. absurd cc
   | inr h ↦ elim (side r) as (λ y. sized_by c r (inr h) y ≡ Some s → (s.columns ≡ c) × (s.rows ≡ r)) [
     | inl _ ↦ λ e. absurd cc

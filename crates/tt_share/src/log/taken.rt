@@ -37,19 +37,19 @@ impl<'a> ProofRow for TokenRow<'a> {
 
 /// Tokens of a log, the oldest first, with an index of their proofs.
 #[derive(Drop)]
-pub(crate) struct Taken<'a> {
+pub(crate) struct TakenTokens<'a> {
     log: &'a CertLog,
     tokens: Vec<Token>,
     index: KeyIndex,
 }
 
-impl<'a> Model for Taken<'a> {
+impl<'a> Model for TakenTokens<'a> {
     ghost use Rattle.std.specs.Prelude.{◌≡◌, ◌-◌, All, min, vec_len, vec_capacity};
     ghost use Rattle.std.specs.Coded.{codes};
     ghost use Rattle.boxcar.specs.Table.{shelves_coded};
     ghost use Rattle.tt_sgf.specs.contracts.sets.PointSet as points;
     ghost use Rattle.tt_proof.specs.laws.StrategyCode.{strategy_code};
-    ghost use Rattle.tt_search.specs.KeyIndex.{index_hashes};
+    ghost use Rattle.tt_search.specs.KeyIndex.{key_hashes};
     ghost use Rattle.tt_share.specs.Log.{IsOf, proofs_of};
     ghost use Rattle.tt_share.specs.inside.Taking.{Holding};
 
@@ -65,17 +65,17 @@ impl<'a> Model for Taken<'a> {
 
     ghost invariant = { λ t. record {
       of_log : All (IsOf t.log.now) t.tokens.items;
-      indexed : t.index.hashes ≡ index_hashes (proofs_of t.tokens.items);
+      indexed : t.index.hashes ≡ key_hashes (proofs_of t.tokens.items);
     } };
 }
 
-impl<'a> Taken<'a> {
+impl<'a> TakenTokens<'a> {
     /// No tokens of the log. It takes no memory.
-    pub fn new(alloc: Global, log: &'a CertLog) -> Taken<'a>
+    pub fn new(alloc: Global, log: &'a CertLog) -> TakenTokens<'a>
         ensures log { result.log ≡ log.now }
         ensures tokens { result.tokens ≡ [] }
     {
-        Taken {
+        TakenTokens {
             log,
             tokens: Vec::new(alloc),
             index: KeyIndex::new(alloc),

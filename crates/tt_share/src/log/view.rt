@@ -9,7 +9,7 @@ ghost use Rattle.tt_search.specs.declared.store.Kept.TheVariants.{Stored, Full};
 ghost use Rattle.tt_share.specs.Log.{IsOf, Keeps, Extends, newest_first, HasNewest};
 
 use crate::capacity::MOST_KEPT;
-use crate::log::taken::Taken;
+use crate::log::taken::TakenTokens;
 use crate::log::{CertLog, Token};
 use std::alloc::Global;
 use std::marker::Model;
@@ -25,7 +25,7 @@ use tt_sgf::NoMemory;
 #[derive(Drop)]
 pub struct View<'a> {
     log: &'a CertLog,
-    taken: Taken<'a>,
+    taken: TakenTokens<'a>,
     read: usize,
     own: Vec<usize>,
     skipped: usize,
@@ -63,7 +63,7 @@ impl<'a> View<'a> {
     {
         Ok(View {
             log,
-            taken: Taken::new(alloc, log),
+            taken: TakenTokens::new(alloc, log),
             read: 0,
             own: Vec::new(alloc),
             skipped: 0,

@@ -1,14 +1,14 @@
 use Rattle.std.proofs.Common.{arith, rules}
 use Rattle.std.proofs.lemmas.List.{length-take}
-use Rattle.devices.proofs.Watching.{IsInput-full, IsInput-end, TakesAtMost-more}
+use Rattle.devices.proofs.Watching.{IsReadInput-full, IsReadInput-end, TakesAtMost-more}
 use Rattle.devices.proofs.input.read_input.Goals as goal
 use Rattle.devices.proofs.input.read_input.Goals.{else-loop-chunk-test, then-loop-chunk-test+in-Ok-eq0}
 
 pub returns-clause-read : goal.returns-clause-read
 returns-clause-read g c =
     elim c.loop-chunk-test.branch [
-      | else-loop-chunk-test w ↦ IsInput-full c.args.most _ _ _ c.loop-chunk.invariant.told (omega (arith, c.loop-chunk.input.ok.0))
-      | then-loop-chunk-test+in-Ok-eq0 w ↦ IsInput-end c.args.most _ _ _ c.loop-chunk.invariant.told (search (rules, w.in-Ok-eq0.ensures.bytes)) (omega (arith, c.loop-chunk.input.ok.0))
+      | else-loop-chunk-test w ↦ IsReadInput-full c.args.most _ _ _ c.loop-chunk.invariant.told (omega (arith, c.loop-chunk.input.ok.0))
+      | then-loop-chunk-test+in-Ok-eq0 w ↦ IsReadInput-end c.args.most _ _ _ c.loop-chunk.invariant.told (search (rules, w.in-Ok-eq0.ensures.bytes)) (omega (arith, c.loop-chunk.input.ok.0))
     ]
 
 pub returns-then-is_err-clause-taken : goal.returns-then-is_err-clause-taken

@@ -1,5 +1,5 @@
 use Rattle.std.proofs.Common.{◌≡◌, ◌+◌, length}
-use Rattle.tsumego_show.specs.declared.tree_bytes.Spot.TheVariants.{Outside}
+use Rattle.tsumego_show.specs.declared.tree_bytes.LexicalState.TheVariants.{Outside}
 use Rattle.tsumego_show.specs.TreeBytes.{behind_semicolon}
 use Rattle.tsumego_show.proofs.tree_bytes.behind_semicolon.Given as goal
 

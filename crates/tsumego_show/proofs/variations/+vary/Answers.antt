@@ -7,8 +7,8 @@ use Rattle.tsumego_show.proofs.variations.+vary.Goals as goal
 
 pub put_legal-returns-in-Ok-clause-text : goal.put_legal-returns-in-Ok-clause-text
 put_legal-returns-in-Ok-clause-text t c =
-    made_written c.put_made-put.result c.args.line.now c.push.new.self c.args.turn.now c.side_colour-colour.result c.args.left (strategy_of c.args.child.now) _ _
-    c.in-Ok.ensures.ok.0 c.in-Ok.ensures.ok.1 (search rules) c.put_made-put.ensures.text
+    made_written c.put_variation-put.result c.args.line.now c.push.new.self c.args.turn.now c.side_colour-colour.result c.args.left (strategy_of c.args.child.now) _ _
+    c.in-Ok.ensures.ok.0 c.in-Ok.ensures.ok.1 (search rules) c.put_variation-put.ensures.text
 
 pub put_legal-returns-in-Err-Illegal-clause-text : goal.put_legal-returns-in-Err-Illegal-clause-text
 put_legal-returns-in-Err-Illegal-clause-text t c = refused_written c.args.line.now.frame c.args.line.now.state c.args.turn.now _ _ c.in-Err-Illegal.field-0-0 (search rules)

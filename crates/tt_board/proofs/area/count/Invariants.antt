@@ -1,7 +1,7 @@
 use Rattle.std.proofs.Common.{◌≡◌, ◌*◌, take, count_by}
 use Rattle.std.specs.List.{range_with_len}
 use Rattle.tt_sgf.specs.Sizes.{point_count}
-use Rattle.tt_sgf.specs.Words.{bit_in}
+use Rattle.tt_sgf.specs.MachineWords.{bit_in}
 use Rattle.tt_board.proofs.area.count.Given as goal
 
 abbrev pub invariant-loop-k : goal.invariant-loop-k

@@ -1,6 +1,6 @@
 use Rattle.std.proofs.Common.{Option, Some, None, MatchOption, sym, subst}
 use Rattle.tt_board.specs.declared.Colour.TheVariants.{Black, White}
-use Rattle.tt_board.specs.Setup.{IsLeastLifeless}
+use Rattle.tt_board.specs.Setup.{IsLeastWithoutLiberty}
 use Rattle.tt_board.specs.inside.Around.{AreReaching}
 use Rattle.tt_board.proofs.FillLemmas.{stones_on, stones_those, least_lifeless, none_lifeless}
 use Rattle.tt_board.proofs.setup.first_lifeless.Goals as goal
@@ -28,7 +28,7 @@ returns c =
     (none_lifeless s points c.requires c.bits-black.result.now.words c.bits-white.result.now.words c.reaching-black_alive.result.words c.reaching-white_alive.result.words
     c.minus.result.words c.minus-2.result.words c.or-lifeless.result.words blacks whites blacks_reach whites_reach c.minus.ensures c.minus-2.ensures c.or-lifeless.ensures
     c.first_from.result c.first_from.ensures.none)
-    (λ p is. subst (IsLeastLifeless s points) (sym is.0)
+    (λ p is. subst (IsLeastWithoutLiberty s points) (sym is.0)
     (least_lifeless s points c.requires c.bits-black.result.now.words c.bits-white.result.now.words c.reaching-black_alive.result.words c.reaching-white_alive.result.words
     c.minus.result.words c.minus-2.result.words c.or-lifeless.result.words blacks whites blacks_reach whites_reach c.minus.ensures c.minus-2.ensures c.or-lifeless.ensures
     c.first_from.result c.first_from.ensures.none c.first_from.ensures.found is.1))

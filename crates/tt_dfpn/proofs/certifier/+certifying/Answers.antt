@@ -3,7 +3,7 @@ use Rattle.tt_game.specs.Game.{opponent}
 use Rattle.tt_game.specs.Line.{LineWithUndo}
 use Rattle.tt_game.specs.Turns.{legal_turns}
 use Rattle.tt_game.specs.declared.turns.Turn.{Turn}
-use Rattle.tt_proof.specs.Proven.{Proven, IsChild, trees_of}
+use Rattle.tt_proof.specs.Proven.{Proven, IsChild, trees_by_turn}
 use Rattle.tt_proof.specs.Strategy.{depth, entries_of, depth_of_entries, reply}
 use Rattle.tt_dfpn.specs.Certifying.{AreFirst}
 use Rattle.tt_dfpn.proofs.ChildrenLemmas.{first_push, low_reply}

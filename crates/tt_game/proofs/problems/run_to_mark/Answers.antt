@@ -6,7 +6,7 @@ use Rattle.tt_game.specs.declared.faults.GameFault.{GameFault}
 use Rattle.tt_game.specs.Line.{LineWithUndo}
 use Rattle.tt_game.specs.Nodes.{has, TR, set_named}
 use Rattle.tt_game.specs.Records.{step_node, IsStopped}
-use Rattle.tt_game.specs.Problems.{run_to_mark, problem_at, region_of}
+use Rattle.tt_game.specs.Problems.{run_to_mark, problem_of_sets, region_of}
 use Rattle.tt_game.proofs.ProblemLemmas.{mark-nil, mark-stop, mark-step, mark-here}
 use Rattle.tt_game.proofs.problems.run_to_mark.Goals as goal
 
@@ -30,7 +30,7 @@ returns-then-has_value c =
     let k : step_node c.loop-node.last c.in-Some.node.now ≡ Ok c.step.new.self = search rules in
     let on : has TR c.in-Some.node.now ≡ true = search rules in
     let t = c.step.new.self in let n = c.in-Some.node.now in
-    let all : problem_at t.game (set_named t.game.size TR n) (region_of t.game.size n) ≡ run_to_mark c.args.replay c.args.nodes.now =
+    let all : problem_of_sets t.game (set_named t.game.size TR n) (region_of t.game.size n) ≡ run_to_mark c.args.replay c.args.nodes.now =
     sym (mark-here c.loop-node.last t n c.in-Some.behind.now k on) ∙ ap (run_to_mark c.loop-node.last) (sym e) ∙ c.loop-node.invariant in
     subst (λ (want : Result LineWithUndo GameFault). MatchResult c.pose.result (λ l. want ≡ Ok l) (λ f. IsStopped f want)) all c.pose.ensures
 

@@ -13,8 +13,8 @@ use Rattle.tt_proof.proofs.certificate_read.+read.Goals as goal
 one_more : (n : ℕ) → (n ≡ 0 → ⊥) → n ≡ suc (n - 1)
 one_more n h = omega (arith, h)
 
-pub read_tree-returns-in-None : goal.read_tree-returns-in-None
-read_tree-returns-in-None t c = not_tree c.args.size c.args.bytes.now (λ b y e w. omega (arith, c.in-None.ensures.cases, ap length e)) c.args.left
+pub read_strategy-returns-in-None : goal.read_strategy-returns-in-None
+read_strategy-returns-in-None t c = not_tree c.args.size c.args.bytes.now (λ b y e w. omega (arith, c.in-None.ensures.cases, ap length e)) c.args.left
 
 pub read_reply-returns-in-Ok-new : goal.read_reply-returns-in-Ok-new
 read_reply-returns-in-Ok-new t c = rw (strategy_of_reply, c.in-Ok-new.ensures.ok) (reply_read c.args.size c.args.left _ _ _ c.in-Ok.ensures)
@@ -85,8 +85,8 @@ read_entries-loop-rest-preserved t c =
       small = omega (arith, c.in-Some-read_turn.ensures.2);
     }
 
-pub read_tree-returns-then-first-eq46 : goal.read_tree-returns-then-first-eq46
-read_tree-returns-then-first-eq46 t c =
+pub read_strategy-returns-then-first-eq46 : goal.read_strategy-returns-then-first-eq46
+read_strategy-returns-then-first-eq46 t c =
     rw strategy_of_done
     (record {
       in_order = tt;
@@ -101,8 +101,8 @@ neither first b e x y z (inl h) = x (e ∙ h)
 neither first b e x y z (inr (inl h)) = y (e ∙ h)
 neither first b e x y z (inr (inr h)) = z (e ∙ h)
 
-pub read_tree-returns-else-first-eq63 : goal.read_tree-returns-else-first-eq63
-read_tree-returns-else-first-eq63 t c =
+pub read_strategy-returns-else-first-eq63 : goal.read_strategy-returns-else-first-eq63
+read_strategy-returns-else-first-eq63 t c =
     not_tree c.args.size c.args.bytes.now
     (λ b y e w. neither c.in-Some.first.now b (heads (sym c.in-Some.ensures.cases.0 ∙ e)) c.if-first-eq46.false c.if-first-eq33.false
     c.if-first-eq63.false w)

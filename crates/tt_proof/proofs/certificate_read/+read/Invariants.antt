@@ -3,8 +3,8 @@ use Rattle.tt_sgf.specs.declared.size.TheConstants.{MOST_POINTS}
 use Rattle.tt_proof.proofs.EntryLemmas.{Walked}
 use Rattle.tt_proof.proofs.certificate_read.+read.Given as goal
 
-abbrev pub decreases-read_tree : goal.decreases-read_tree
-decreases-read_tree l = 3 * l.left + 2
+abbrev pub decreases-read_strategy : goal.decreases-read_strategy
+decreases-read_strategy l = 3 * l.left + 2
 
 abbrev pub decreases-read_pick : goal.decreases-read_pick
 decreases-read_pick l = 3 * l.left + 1

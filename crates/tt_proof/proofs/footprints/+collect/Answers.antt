@@ -5,7 +5,7 @@ use Rattle.tt_game.specs.Game.{after}
 use Rattle.tt_game.specs.Line.{LineWithUndo}
 use Rattle.tt_game.specs.declared.turns.Turn.{Turn}
 use Rattle.tt_sgf.specs.declared.size.Size.{Size}
-use Rattle.tt_proof.specs.Strategy.{Strategy, Entries, entry, number_on, strategy_of, pick, reply, entries_of, entries_of_trees, depth_of_entries, AreInOrder}
+use Rattle.tt_proof.specs.Strategy.{Strategy, Entries, entry, number_on, strategy_of, pick, reply, entries_of, entries_of_list, depth_of_entries, AreInOrder}
 use Rattle.tt_proof.specs.KeptFootprints.{IsFootprint, IsEntryJoined}
 use Rattle.tt_proof.proofs.ResultLemmas.{if_ok, on_ok}
 use Rattle.tt_proof.proofs.StrategyLemmas.{strategy_of_done, strategy_of_pick, strategy_of_reply, entries_map}
@@ -102,9 +102,9 @@ footprint_of_reply-loop-turn-preserved t c =
           (subst (λ e. IsFootprint new.line.frame new.line.state (reply (entries_of (map (λ e. (e.0, strategy_of e.1)) (take n list) ++ (e.0, strategy_of e.1) ∷ []))) new.footprint) is
           (subst (λ (l : LineWithUndo). IsFootprint l.frame l.state (reply (entries_of (map (λ e. (e.0, strategy_of e.1)) (take n list) ++ (item.0, strategy_of item.1) ∷ []))) new.footprint)
           (sym c.join_entry.ensures.same) joined));
-      depth = let low = subst (λ es. depth_of_entries (entries_of_trees es) ≤ 512) rest c.loop-turn.invariant.depth in omega (arith, low);
+      depth = let low = subst (λ es. depth_of_entries (entries_of_list es) ≤ 512) rest c.loop-turn.invariant.depth in omega (arith, low);
       in_order =
-          subst (λ (l : LineWithUndo). (least : ℕ) × AreInOrder l.frame.size least (entries_of_trees (drop (n + 1) list))) (sym c.join_entry.ensures.same)
-          (rest_in_order c.loop-turn.line.frame.size c.loop-turn.invariant.in_order.0 item.0 (strategy_of item.1) (entries_of_trees (drop (n + 1) list))
-          (subst (λ es. AreInOrder c.loop-turn.line.frame.size c.loop-turn.invariant.in_order.0 (entries_of_trees es)) rest c.loop-turn.invariant.in_order.1));
+          subst (λ (l : LineWithUndo). (least : ℕ) × AreInOrder l.frame.size least (entries_of_list (drop (n + 1) list))) (sym c.join_entry.ensures.same)
+          (rest_in_order c.loop-turn.line.frame.size c.loop-turn.invariant.in_order.0 item.0 (strategy_of item.1) (entries_of_list (drop (n + 1) list))
+          (subst (λ es. AreInOrder c.loop-turn.line.frame.size c.loop-turn.invariant.in_order.0 (entries_of_list es)) rest c.loop-turn.invariant.in_order.1));
     }

@@ -8,7 +8,7 @@ use Rattle.tt_proof.specs.declared.position_footprint.PositionFootprint.{Positio
 use Rattle.tt_proof.specs.declared.outline_replay.ReplayResult.TheVariants.{Won, Unfit}
 use Rattle.tt_proof.specs.Strategy.{number_on}
 use Rattle.tt_proof.specs.Outlines.{Outline, Branches, branch, branches_of_list, outline_of, AreOrderly}
-use Rattle.tt_proof.specs.SharedParts.{FindsOutline, IsFoundBefore, IsFoundOfName, IsFoundOfReply, RestsBeforePick, RestsBeforeReply, RestsOnPosition}
+use Rattle.tt_proof.specs.SharedParts.{FindsOutline, IsResultBeforeTurn, IsResultOfName, IsResultOfReply, RestsBeforePick, RestsBeforeReply, RestsOnPosition}
 use Rattle.tt_proof.specs.inside.OutlineReplaying.{FindsBranch}
 use Rattle.tt_proof.proofs.ResultLemmas.{if_ok}
 use Rattle.tt_proof.proofs.FootprintLemmas.{refused_bars}
@@ -29,13 +29,13 @@ replay_outline-returns-in-Some-clause-found t c =
     let stands : c.in-Some.name.now ≡ get_or ns k c.in-Some.name.now = search rules in
     rw (c.in-Part.is, outline_of_part)
     (if_ok c.found_of_part.result _ _
-    (λ r g. (subst (λ (n : Option PositionFootprint). IsFoundOfName f n at r) (stands ∙ any_other ns k c.in-Some.name.now None within) g, refl)) c.found_of_part.ensures)
+    (λ r g. (subst (λ (n : Option PositionFootprint). IsResultOfName f n at r) (stands ∙ any_other ns k c.in-Some.name.now None within) g, refl)) c.found_of_part.ensures)
 
 pub replay_outline-returns-in-None-clause-found : goal.replay_outline-returns-in-None-clause-found
 replay_outline-returns-in-None-clause-found t c =
     let ns = c.args.names.now.items in
     let past : length ns ≤ c.in-Part.k = search rules in
-    rw (c.in-Part.is, outline_of_part) (subst (λ (n : Option PositionFootprint). IsFoundOfName c.args.line.now.frame n c.args.line.now.state Unfit) (sym (none_past ns c.in-Part.k past)) (λ x e m. some_none x e), refl)
+    rw (c.in-Part.is, outline_of_part) (subst (λ (n : Option PositionFootprint). IsResultOfName c.args.line.now.frame n c.args.line.now.state Unfit) (sym (none_past ns c.in-Part.k past)) (λ x e m. some_none x e), refl)
 
 pub replay_outline-returns-in_ok-put_name-in-Pick-clause-found : goal.replay_outline-returns-in_ok-put_name-in-Pick-clause-found
 replay_outline-returns-in_ok-put_name-in-Pick-clause-found t c =
@@ -65,7 +65,7 @@ replay_pick-returns-in-Ok-found-clause-found t c =
     let mine : c.args.line.now.state.to_move ≡ s = search rules in
     let behind = subst (λ (l : LineWithUndo). FindsOutline s l.frame c.args.names.now.items o l.state c.in-Ok-found.behind c.replay_outline-found.new.names.items)
     c.in-Ok.ensures.ok.1 c.in-Ok-found.ensures.found in
-    let more = subst (λ (l : LineWithUndo). IfOk c.found_before_pick.result (IsFoundBefore (RestsBeforePick l.frame l.state turn) c.in-Ok-found.behind))
+    let more = subst (λ (l : LineWithUndo). IfOk c.found_before_pick.result (IsResultBeforeTurn (RestsBeforePick l.frame l.state turn) c.in-Ok-found.behind))
     same c.found_before_pick.ensures in
     if_ok c.found_before_pick.result _ _ (λ r g. inl (mine, c.in-Ok.ensures.ok.0, (c.in-Ok-found.behind, (behind, g)))) more
 
@@ -89,7 +89,7 @@ replay_reply-returns-then-not-is_asked-clause-found t c =
 pub replay_reply-returns-in-Ok-clause-found : goal.replay_reply-returns-in-Ok-clause-found
 replay_reply-returns-in-Ok-clause-found t c =
     let asked = c.is_asked.ensures.0 c.if-not-is_asked.false in
-    let more = subst (λ (l : LineWithUndo). IsFoundOfReply l.frame l.state (branches_of_list c.args.list.now) c.in-Ok.found c.found_of_reply.result)
+    let more = subst (λ (l : LineWithUndo). IsResultOfReply l.frame l.state (branches_of_list c.args.list.now) c.in-Ok.found c.found_of_reply.result)
     c.in-Ok.ensures.same c.found_of_reply.ensures in
     inl (asked.0, asked.1, (c.in-Ok.found, (c.in-Ok.ensures.found, more)))
 
@@ -101,8 +101,8 @@ replay_branch-returns-in-Ok-found-clause-found t c =
     let o = outline_of c.args.child.now in
     let behind = subst (λ (l : LineWithUndo). FindsOutline s l.frame c.args.names.now.items o l.state c.in-Ok-found.behind c.replay_outline-found.new.names.items)
     c.in-Ok.ensures.ok.1 c.in-Ok-found.ensures.found in
-    let more = subst (λ (l : LineWithUndo). IsFoundBefore (RestsBeforeReply l.frame l.state turn) c.in-Ok-found.behind c.found_before_branch.result)
-    same c.found_before_branch.ensures in
+    let more = subst (λ (l : LineWithUndo). IsResultBeforeTurn (RestsBeforeReply l.frame l.state turn) c.in-Ok-found.behind c.replayed_before_turn.result)
+    same c.replayed_before_turn.ensures in
     inl (c.in-Ok.ensures.ok.0, (c.in-Ok-found.behind, (behind, more)))
 
 pub replay_branch-returns-in_ok-skip-in-Err-Illegal-clause-found : goal.replay_branch-returns-in_ok-skip-in-Err-Illegal-clause-found

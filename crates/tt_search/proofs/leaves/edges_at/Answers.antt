@@ -1,7 +1,7 @@
 use Rattle.std.proofs.Common.{◌++◌, [], map, length, refl, sym, ap, subst, ◌∙◌, arith}
 use Rattle.tt_game.specs.Turns.{TurnWithWinner, turns_with_winners_from}
 use Rattle.tt_game.specs.laws.TurnLaws.{from_all}
-use Rattle.tt_search.specs.Growing.{leaf_for}
+use Rattle.tt_search.specs.Growing.{leaf_with_winner}
 use Rattle.tt_search.specs.inside.Edges.{edge_turns, edge_trees, grown_in}
 use Rattle.tt_search.proofs.Indices.{grown_push}
 use Rattle.tt_search.proofs.Successors.{turns_of-successors, turns_more, leaves_more, turns_last, leaves_last}
@@ -17,7 +17,7 @@ loop-p-init c =
       state = refl;
       small = ap grown_in c.new-edges.ensures;
       turns = rw (from, c.new-edges.ensures) (ap (map (λ (x : TurnWithWinner). x.turn)) (from_all f s) ∙ turns_of-successors f s);
-      leaves = rw (from, c.new-edges.ensures) (ap (map (λ (x : TurnWithWinner). leaf_for x.winner)) (from_all f s));
+      leaves = rw (from, c.new-edges.ensures) (ap (map (λ (x : TurnWithWinner). leaf_with_winner x.winner)) (from_all f s));
       few = omega (arith, ap length c.new-edges.ensures);
       inside = omega (arith, from);
     }

@@ -9,7 +9,7 @@ use Rattle.tt_game.specs.Turns.{TurnWithWinner, turns_with_winners_from}
 use Rattle.tt_game.specs.declared.turns.Turn.TheVariants.{Play}
 use Rattle.tt_search.specs.declared.tree.edges.EdgeState.TheVariants.{Fresh}
 use Rattle.tt_game.specs.laws.TurnLaws.{from_all}
-use Rattle.tt_search.specs.Growing.{leaf_for}
+use Rattle.tt_search.specs.Growing.{leaf_with_winner}
 use Rattle.tt_search.specs.inside.Edges.{edge_state_of, tree_of, edge_turns, edge_trees, AreFresh}
 use Rattle.tt_search.specs.inside.Untried.{AreBelow, fresh_edge, plays_and_pass}
 use Rattle.tt_search.proofs.FreshRows.{fresh_edge_state}
@@ -24,7 +24,7 @@ loop-p-init c =
       frame = refl;
       state = refl;
       turns = rw (from, c.new-found.ensures) (ap (map (λ (x : TurnWithWinner). x.turn)) (from_all f s) ∙ turns_of-successors f s);
-      leaves = rw (from, c.new-found.ensures) (ap (map (λ (x : TurnWithWinner). leaf_for x.winner)) (from_all f s));
+      leaves = rw (from, c.new-found.ensures) (ap (map (λ (x : TurnWithWinner). leaf_with_winner x.winner)) (from_all f s));
       fresh = subst AreFresh (sym c.new-found.ensures) tt;
       below = subst (AreBelow c.args.plays.now.from) (sym c.new-found.ensures) tt;
       few = omega (arith, ap length c.new-found.ensures);
@@ -62,7 +62,7 @@ loop-p-preserved c =
       frame = c.next.ensures.same.0 ∙ i.frame;
       state = c.next.ensures.same.1 ∙ i.state;
       turns = turns_more f s plays c.push.new.self _ c.loop-p.plays.from _ c.next.new.self.from items (play_turn _ low) next.4 is i.turns;
-      leaves = leaves_more f s plays c.push.new.self _ _ c.loop-p.plays.from _ c.next.new.self.from items (ap (λ m. tree_of m []) edge_state ∙ sym (ap leaf_for won)) next.3 next.4 is
+      leaves = leaves_more f s plays c.push.new.self _ _ c.loop-p.plays.from _ c.next.new.self.from items (ap (λ m. tree_of m []) edge_state ∙ sym (ap leaf_with_winner won)) next.3 next.4 is
           i.leaves;
       fresh = subst AreFresh (sym items) (fresh_push plays _ i.fresh edge_state);
       below = subst (AreBelow c.next.new.self.from) (sym items) (below_next plays _ c.loop-p.plays.from c.next.new.self.from next.0 is i.below);
@@ -84,7 +84,7 @@ returns c =
       edges = record {
         none_grown = fresh_grown (plays_and_pass plays) fresh;
         turns = turns_last f s plays (plays_and_pass plays) e c.loop-p.plays.from refl refl last i.turns;
-        leaves = leaves_last f s plays (plays_and_pass plays) e c.winner_by_pass.result c.loop-p.plays.from refl (sym (ap leaf_for won)) c.winner_by_pass.ensures last i.leaves;
+        leaves = leaves_last f s plays (plays_and_pass plays) e c.winner_by_pass.result c.loop-p.plays.from refl (sym (ap leaf_with_winner won)) c.winner_by_pass.ensures last i.leaves;
       };
       untried = record { fresh = fresh; some = omega (arith, len); few = omega (arith, len, i.few, i.low) };
       same = (c.next.ensures.same.0 ∙ i.frame, c.next.ensures.same.1 ∙ i.state);

@@ -17,7 +17,7 @@ use Rattle.tt_search.proofs.Steady.{last_round, next_round, round_falls, same_nu
 use Rattle.tt_search.proofs.Asking.{granted_more}
 use Rattle.tt_search.proofs.Descending.{any_stop, last_of}
 use Rattle.tt_search.proofs.Steps.{IsOfferable}
-use Rattle.tt_search.proofs.Indices.{length-trees_of, length-turns_of}
+use Rattle.tt_search.proofs.Indices.{length-trees_by_turn, length-turns_of}
 use Rattle.tt_search.proofs.Changed.{few_stay, index_there, in_trees, part_was, sum_now, index_now, own_now, above_was, pair_of}
 use Rattle.tt_search.proofs.Rows.{number_le}
 use Rattle.tt_search.proofs.WayDown.{turn_there, child_there, has_room, way_down, child_may_grow, round_steps}
@@ -179,7 +179,7 @@ pub children::ChildNodes::grow_best-child-child-requires-clause-there : goal.chi
 children::ChildNodes::grow_best-child-child-requires-clause-there g t c =
     let x = c.args.self.now in
     let is = c.from-index.ensures ∙ c.requires.kept.kept.index in
-    let in_trees : c.from-index.result < length (edge_trees x.edges x.grown.items) = omega (arith, c.requires.there, c.from-index.ensures, length-trees_of x.edges x.grown.items) in
+    let in_trees : c.from-index.result < length (edge_trees x.edges x.grown.items) = omega (arith, c.requires.there, c.from-index.ensures, length-trees_by_turn x.edges x.grown.items) in
     let steps = c.grow_at-step.ensures.steps in
     index_there c.args.focus.now.mover x c.grow_at-step.new.self c.from-index.result steps.0 is in_trees steps.2
 
@@ -187,7 +187,7 @@ pub children::ChildNodes::grow_best-sum_after-other-requires-clause-part : goal.
 children::ChildNodes::grow_best-sum_after-other-requires-clause-part g t c =
     let a = c.args.focus.now.mover in
     let x = c.args.self.now in
-    let there : best_index (choices_of a x) < length (edge_trees x.edges x.grown.items) = omega (arith, c.requires.there, c.requires.kept.kept.index, length-trees_of x.edges x.grown.items) in
+    let there : best_index (choices_of a x) < length (edge_trees x.edges x.grown.items) = omega (arith, c.requires.there, c.requires.kept.kept.index, length-trees_by_turn x.edges x.grown.items) in
     let steps = c.grow_at-step.ensures.steps in
     let is = c.from-index.ensures ∙ c.requires.kept.kept.index in
     part_was a x c.grow_at-step.new.self c.from-index.result (choices_of a x) c.args.was refl c.requires.kept.pair is there steps.0 steps.2
@@ -198,7 +198,7 @@ pub children::ChildNodes::grow_best-sum_after-other-requires-clause-changed : go
 children::ChildNodes::grow_best-sum_after-other-requires-clause-changed g t c =
     let a = c.args.focus.now.mover in
     let x = c.args.self.now in
-    let there : best_index (choices_of a x) < length (edge_trees x.edges x.grown.items) = omega (arith, c.requires.there, c.requires.kept.kept.index, length-trees_of x.edges x.grown.items) in
+    let there : best_index (choices_of a x) < length (edge_trees x.edges x.grown.items) = omega (arith, c.requires.there, c.requires.kept.kept.index, length-trees_by_turn x.edges x.grown.items) in
     let steps = c.grow_at-step.ensures.steps in
     let is = c.from-index.ensures ∙ c.requires.kept.kept.index in
     sum_now a x c.grow_at-step.new.self c.from-index.result (choices_of a x) c.args.was refl c.requires.kept.pair is there steps.0 steps.2
@@ -209,7 +209,7 @@ pub children::ChildNodes::grow_best-returns-then-own-was-clause-kept : goal.chil
 children::ChildNodes::grow_best-returns-then-own-was-clause-kept g t c =
     let a = c.args.focus.now.mover in
     let x = c.args.self.now in
-    let there : best_index (choices_of a x) < length (edge_trees x.edges x.grown.items) = omega (arith, c.requires.there, c.requires.kept.kept.index, length-trees_of x.edges x.grown.items) in
+    let there : best_index (choices_of a x) < length (edge_trees x.edges x.grown.items) = omega (arith, c.requires.there, c.requires.kept.kept.index, length-trees_by_turn x.edges x.grown.items) in
     let steps = c.grow_at-step.ensures.steps in
     let is = c.from-index.ensures ∙ c.requires.kept.kept.index in
     let new = c.grow_at-step.new.self in
@@ -233,7 +233,7 @@ pub children::ChildNodes::grow_best-best-best-requires-clause-lowest : goal.chil
 children::ChildNodes::grow_best-best-best-requires-clause-lowest g t c =
     let a = c.args.focus.now.mover in
     let x = c.args.self.now in
-    let there : best_index (choices_of a x) < length (edge_trees x.edges x.grown.items) = omega (arith, c.requires.there, c.requires.kept.kept.index, length-trees_of x.edges x.grown.items) in
+    let there : best_index (choices_of a x) < length (edge_trees x.edges x.grown.items) = omega (arith, c.requires.there, c.requires.kept.kept.index, length-trees_by_turn x.edges x.grown.items) in
     let steps = c.grow_at-step.ensures.steps in
     let is = c.from-index.ensures ∙ c.requires.kept.kept.index in
     above_was a x c.grow_at-step.new.self c.from-index.result (choices_of a x) c.args.was refl c.requires.kept.pair is there steps.0 steps.2
@@ -247,7 +247,7 @@ pub children::ChildNodes::grow_best-returns-clause-kept : goal.children::ChildNo
 children::ChildNodes::grow_best-returns-clause-kept g t c =
     let a = c.args.focus.now.mover in
     let x = c.args.self.now in
-    let there : best_index (choices_of a x) < length (edge_trees x.edges x.grown.items) = omega (arith, c.requires.there, c.requires.kept.kept.index, length-trees_of x.edges x.grown.items) in
+    let there : best_index (choices_of a x) < length (edge_trees x.edges x.grown.items) = omega (arith, c.requires.there, c.requires.kept.kept.index, length-trees_by_turn x.edges x.grown.items) in
     let steps = c.grow_at-step.ensures.steps in
     let is = c.from-index.ensures ∙ c.requires.kept.kept.index in
     let new = c.grow_at-step.new.self in
@@ -287,7 +287,7 @@ children::ChildNodes::descend-grow_best-step-requires g t c κs within =
     let gone = c.in-Ok.ensures.ok in
     let room = has_room (stand_of walk) x (node_with x) refl c.requires.ready.may_grow in
     let below = child_there (stand_of walk) x (node_with x) refl c.requires.ready.may_grow in
-    let there : focus.index < length children.edges = omega (arith, below, c.requires.kept.kept.index, length-trees_of children.edges children.grown.items) in
+    let there : focus.index < length children.edges = omega (arith, below, c.requires.kept.kept.index, length-trees_by_turn children.edges children.grown.items) in
     let may_grow = subst (λ i. MayGrow (stand_of c.go_down.new.self) (child_of children i)) (sym c.requires.kept.kept.index)
     (child_may_grow walk x (node_with x) c.best_turn.result way c.go_down.new.self gone) in
     let grants = subst (λ (n : ℕ). (g.G.Grants.asked c.args.grants.now).granted + n < 2 ^ 64) (sym gone.left) c.requires.ready.grants in

@@ -1,8 +1,8 @@
 use Rattle.std.proofs.Common.{◌≡◌, ◌<◌, ℕ, List, rules, length, get_or}
 use Rattle.tt_game.specs.declared.turns.Turn.{Turn}
 use Rattle.tt_game.specs.Game.{IsLegal}
-use Rattle.tt_game.specs.Turns.{OnBoard}
-use Rattle.tt_text.proofs.Turns.{all_lines, legal_on_board, legal_there, next_line}
+use Rattle.tt_game.specs.Turns.{IsTurnOnBoard}
+use Rattle.tt_text.proofs.Turns.{all_lines, legal_turn_is_on_board, legal_there, next_line}
 use Rattle.tt_text.proofs.solving.turn_lines.Goals as goal
 
 pub value_behind-value-requires-clause-legal : goal.value_behind-value-requires-clause-legal
@@ -22,7 +22,7 @@ put_value_line-requires g c =
     let turn : Turn = c.turn-item.result in
     let lt : n < length items = search rules in
     let is : turn ≡ get_or items n turn = search rules in
-    let there : OnBoard c.args.line.now.frame turn = legal_on_board c.args.line.now turn (legal_there c.args.line.now items n turn c.loop-turn.invariant.all lt is) in
+    let there : IsTurnOnBoard c.args.line.now.frame turn = legal_turn_is_on_board c.args.line.now turn (legal_there c.args.line.now items n turn c.loop-turn.invariant.all lt is) in
     search (rules, there)
 
 pub loop-turn-preserved : goal.loop-turn-preserved

@@ -1,5 +1,5 @@
 use Rattle.std.proofs.Common.{rules, ◌≡◌, ◌+◌, ◌*◌, ◌<◌, ◌++◌, ◌∷◌, [], get_or, subst, sym, ap, ◌∙◌, arith}
-use Rattle.tt_sgf.specs.Words.{bit_in}
+use Rattle.tt_sgf.specs.MachineWords.{bit_in}
 use Rattle.tt_board.specs.declared.boards.differences.Edit.TheVariants.{Whole}
 use Rattle.tt_board.specs.inside.Boards.{led, IsHalf, AreAlikeBy}
 use Rattle.tt_board.proofs.DifferencesLemmas.{word_bit, front_kept, led_whole}
@@ -14,10 +14,10 @@ loop-k-preserved c =
     let alike : AreAlikeBy (get_or words k 0) (64 * k) here there = λ i small none.
     c.apart.ensures (64 * k + i) (omega (arith, six, small)) (ap (λ w. bit_in w (64 * k + i)) (sym c.words-words.ensures) ∙ word_bit words k i small none) in
     record {
-      half = λ x from. subst (λ n. IsHalf here there n (led x c.push_word.new.edits.items)) next
-          (c.in_ok-push_word.ensures.half here x c.requires alike (c.loop-k.invariant.half x from));
-      colourings = λ x. c.in_ok-push_word.ensures.colourings x ∙ c.loop-k.invariant.colourings x;
-      kept = front_kept c.args.edits.now.items c.loop-k.edits.items c.push_word.new.edits.items c.loop-k.invariant.kept c.push_word.ensures.kept;
+      half = λ x from. subst (λ n. IsHalf here there n (led x c.push_word_edits.new.edits.items)) next
+          (c.in_ok-push_word_edits.ensures.half here x c.requires alike (c.loop-k.invariant.half x from));
+      colourings = λ x. c.in_ok-push_word_edits.ensures.colourings x ∙ c.loop-k.invariant.colourings x;
+      kept = front_kept c.args.edits.now.items c.loop-k.edits.items c.push_word_edits.new.edits.items c.loop-k.invariant.kept c.push_word_edits.ensures.kept;
     }
 
 pub returns-clause-ok : goal.returns-clause-ok

@@ -1,5 +1,5 @@
 use Rattle.std.proofs.Common.{sym, ◌∙◌}
-use Rattle.tt_sgf.specs.Words.{bit_in}
+use Rattle.tt_sgf.specs.MachineWords.{bit_in}
 use Rattle.tt_board.proofs.PlaneLemmas.{entries_alike, neither}
 use Rattle.tt_board.proofs.colouring.Colouring.apart.Goals as goal
 

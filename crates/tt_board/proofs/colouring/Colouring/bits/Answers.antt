@@ -3,7 +3,7 @@ use Rattle.tt_board.specs.declared.Colour.{Colour}
 use Rattle.tt_board.specs.declared.Colour.TheVariants.{Black, White}
 use Rattle.tt_board.specs.Reach.{entry_at}
 use Rattle.tt_board.specs.Play.{is_stone_of}
-use Rattle.tt_sgf.specs.Words.{AreBitsOf}
+use Rattle.tt_sgf.specs.MachineWords.{AreBitsOf}
 use Rattle.tt_board.proofs.PlaneLemmas.{blacks_handed, whites_handed}
 use Rattle.tt_board.proofs.colouring.Colouring.bits.Goals as goal
 

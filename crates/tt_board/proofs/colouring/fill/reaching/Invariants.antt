@@ -1,7 +1,7 @@
 use Rattle.std.proofs.Common.{◌-◌, count_by}
 use Rattle.std.specs.List.{range_with_len}
 use Rattle.tt_sgf.specs.Sizes.{point_count}
-use Rattle.tt_sgf.specs.Words.{bit_in}
+use Rattle.tt_sgf.specs.MachineWords.{bit_in}
 use Rattle.tt_board.proofs.FillLemmas.{IsFound}
 use Rattle.tt_board.proofs.colouring.fill.reaching.Given as goal
 

@@ -1,6 +1,6 @@
 use Rattle.std.proofs.Common.{length, sym, subst, ◌∙◌, ap}
 use Rattle.tt_sgf.specs.Sizes.{point_count}
-use Rattle.tt_board.specs.Setup.{IsAlive}
+use Rattle.tt_board.specs.Setup.{AllHaveLiberties}
 use Rattle.tt_board.proofs.PlayLemmas.{length-play, alive-play}
 use Rattle.tt_board.proofs.counted.CountedBoard.after_of_kind.Goals as goal
 
@@ -12,5 +12,5 @@ showing-requires-clause-fits c =
 pub showing-requires-clause-alive : goal.showing-requires-clause-alive
 showing-requires-clause-alive c =
     let b = c.self.inside.chains in let made = c.points_after-points.result in
-    subst (λ s. IsAlive s made) (sym c.size.ensures)
-    (subst (IsAlive b.size) (sym c.points_after-points.ensures) (alive-play b.size b.points c.args.colour _))
+    subst (λ s. AllHaveLiberties s made) (sym c.size.ensures)
+    (subst (AllHaveLiberties b.size) (sym c.points_after-points.ensures) (alive-play b.size b.points c.args.colour _))

@@ -1,6 +1,6 @@
 use Rattle.std.proofs.Common.{◌≡◌, ℕ, ◌<◌, Some, get_or, true}
 use Rattle.tt_sgf.specs.Sizes.{point_count}
-use Rattle.tt_sgf.specs.Words.{bit_in}
+use Rattle.tt_sgf.specs.MachineWords.{bit_in}
 use Rattle.tt_board.specs.Position.{Position}
 use Rattle.tt_board.specs.Reach.{entry_at}
 use Rattle.tt_game.proofs.history.root.stones_of.Given as goal

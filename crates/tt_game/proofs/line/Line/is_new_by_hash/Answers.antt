@@ -13,8 +13,8 @@ use Rattle.tt_game.specs.inside.Roots.{Rooted}
 use Rattle.tt_game.proofs.RootLemmas.{begins_long, rooted_here}
 use Rattle.tt_game.proofs.line.Line.is_new_by_hash.Goals as goal
 
-pub has_stood-requires-clause-within : goal.has_stood-requires-clause-within
-has_stood-requires-clause-within c =
+pub stone_has_stood-requires-clause-within : goal.stone_has_stood-requires-clause-within
+stone_has_stood-requires-clause-within c =
     let i = c.self.inside in let begun = (arc_value i.root).begun in
     let found : c.deref-2.result.now ≡ arc_value i.root = search rules in
     let count : c.count.result ≡ length begun = c.count.ensures.value ∙ ap (λ (r : Rooted). length r.begun) found in
@@ -38,5 +38,5 @@ returns c = λ new has.
     ap (λ g. filter_index g col) size ∙ sym (c.filter_index_with_stone.ensures l.frame.size l.state.present r.fits r.on_board r.free r.sum) in
     elim (Contains-append_cases (take n h) (drop n h) col parts) [
       | inl early ↦ c.has_hash.ensures c.if-has_hash.false col hash (subst (λ x. Contains x col) begins early)
-      | inr later ↦ false≢true (sym (ap not (c.has_stood.ensures col later stone)) ∙ new)
+      | inr later ↦ false≢true (sym (ap not (c.stone_has_stood.ensures col later stone)) ∙ new)
     ]

@@ -14,8 +14,8 @@ on_board : (size : Size) (bytes : List ℕ) (t : PointOrPass) → IsPointOrPass 
 on_board size bytes Pass h = tt
 on_board size bytes (On p) h = rw h.number (mul-add-lt h.row size.columns h.column size.rows h.row_in h.column_in)
 
-pub turn_by-requires : goal.turn_by-requires
-turn_by-requires c =
+pub replay_turn_by-requires : goal.replay_turn_by-requires
+replay_turn_by-requires c =
     let size : c.size.result ≡ c.args.self.now.game.size = search rules in
     subst (λ (t : Turn). IsOnBoard c.args.self.now.game.size t) (sym c.as_turn.ensures)
     (subst (λ (s : Size). IsOnBoard s (as_turn c.in-Some.t)) size (on_board c.size.result c.args.value.now c.in-Some.t ((c.point.ensures.value c.in-Some.t).0 c.in-Some.is)))

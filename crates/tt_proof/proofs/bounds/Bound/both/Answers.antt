@@ -1,5 +1,5 @@
 use Rattle.tt_board.specs.declared.Colour.TheVariants.{Black, White}
-use Rattle.tt_sgf.specs.Words.{bit_in}
+use Rattle.tt_sgf.specs.MachineWords.{bit_in}
 use Rattle.std.proofs.Common.{◌∙◌}
 use Rattle.tt_proof.specs.Bounds.{hash_bit}
 use Rattle.tt_proof.proofs.BoundLemmas.{or_left, or_right, has_left, has_right, hash_small}

@@ -5,7 +5,7 @@ use Rattle.tt_game.specs.Game.{IsLegal, after, opponent}
 use Rattle.tt_game.specs.Line.{SnapshotState}
 use Rattle.tt_game.specs.laws.TurnLaws.{contains-legal_turns}
 use Rattle.tt_game.specs.declared.turns.Turn.{Turn}
-use Rattle.tt_proof.specs.Proven.{AreChildren, trees_of, turns_of}
+use Rattle.tt_proof.specs.Proven.{AreChildren, trees_by_turn, turns_of}
 use Rattle.tt_proof.specs.KeptFootprints.{IsFootprint}
 use Rattle.tt_proof.specs.Strategy.{reply, entries_of}
 use Rattle.tt_game.specs.laws.Members.{IsIn, contains_of_in}
@@ -43,14 +43,14 @@ loop-turn-preserved c =
       same =
           c.in_ok-push.ensures.ok
           ∙ ap (λ xs. xs ++ ((turn, c.into_parts-measured_tree.result.0) ∷ [])) c.loop-turn.invariant.same
-          ∙ ap (λ y. trees_of c.loop-turn.yielded ++ ((turn, y) ∷ [])) c.into_parts-measured_tree.ensures.measured_tree
+          ∙ ap (λ y. trees_by_turn c.loop-turn.yielded ++ ((turn, y) ∷ [])) c.into_parts-measured_tree.ensures.measured_tree
           ∙ sym (trees_of_push c.loop-turn.yielded (turn, child));
       won = all_won_push c.loop-turn.yielded (turn, child) c.loop-turn.invariant.won c.into_parts-measured_tree.ensures.wins;
       left = left.1;
       legal = λ t i. legal t (inr i);
       joined =
           subst (λ es. IsFootprint f s (reply (entries_of es)) c.join.new.self) (sym (trees_of_push c.loop-turn.yielded (turn, child)))
-          (c.in_ok-join.ensures child.tree behind (trees_of c.loop-turn.yielded) c.loop-turn.invariant.joined);
+          (c.in_ok-join.ensures child.tree behind (trees_by_turn c.loop-turn.yielded) c.loop-turn.invariant.joined);
     }
 
 pub invariant_of-result : goal.invariant_of-result
@@ -60,7 +60,7 @@ invariant_of-result c =
     let s = c.args.line.now.state in
     let rest = c.loop-turn.turn-iterator.rest in
     let all = at_end c.loop-turn.yielded rest.items _ c.loop-turn.invariant.order (omega (arith, rest.ok.0, c.in-None.ensures.steps.0)) in
-    let same = c.in_ok-measured_tree.ensures ∙ ap (λ es. reply (entries_of es)) (c.loop-turn.invariant.same ∙ ap trees_of all) in
+    let same = c.in_ok-measured_tree.ensures ∙ ap (λ es. reply (entries_of es)) (c.loop-turn.invariant.same ∙ ap trees_by_turn all) in
     rw same
     (record {
       won =
@@ -69,7 +69,7 @@ invariant_of-result c =
           c.requires.turns c.requires.children (subst AllWon all c.loop-turn.invariant.won);
       footprint =
           foot_moved f _ s _ _ _ (sym (ap (λ (l : SnapshotState). l.frame) own)) (sym (ap (λ (l : SnapshotState). l.state) own))
-          (subst (λ es. IsFootprint f s (reply (entries_of (trees_of es))) c.loop-turn.footprint) all c.loop-turn.invariant.joined);
+          (subst (λ es. IsFootprint f s (reply (entries_of (trees_by_turn es))) c.loop-turn.footprint) all c.loop-turn.invariant.joined);
     })
 
 pub returns : goal.returns
@@ -79,7 +79,7 @@ returns c =
     let all = at_end c.loop-turn.yielded left.items _ c.loop-turn.invariant.order (omega (arith, left.ok.0, c.in-None.ensures.steps.0)) in (
       (ap (λ (l : SnapshotState). l.frame) own, ap (λ (l : SnapshotState). l.state) own),
       c.opponent.ensures ∙ ap opponent c.to_move.ensures,
-      c.in_ok-measured_tree.ensures ∙ ap (λ es. reply (entries_of es)) (c.loop-turn.invariant.same ∙ ap trees_of all),
+      c.in_ok-measured_tree.ensures ∙ ap (λ es. reply (entries_of es)) (c.loop-turn.invariant.same ∙ ap trees_by_turn all),
     )
 
 pub loop-turn-init : goal.loop-turn-init

@@ -1,9 +1,9 @@
 use Rattle.std.proofs.Common.{rules}
-use Rattle.tt_game.specs.laws.KeyLaws.{same_size}
+use Rattle.tt_game.specs.laws.KeyLaws.{same_key_same_size}
 use Rattle.tt_search.proofs.store.closing.is_usable.Goals as goal
 
 pub wins_at-requires : goal.wins_at-requires
-wins_at-requires c = same_size c.args.proof.now.frame c.args.line.now.frame c.args.proof.now.state c.args.line.now.state c.requires
+wins_at-requires c = same_key_same_size c.args.proof.now.frame c.args.line.now.frame c.args.proof.now.state c.args.line.now.state c.requires
 
 pub returns-clause-usable : goal.returns-clause-usable
 returns-clause-usable c = (

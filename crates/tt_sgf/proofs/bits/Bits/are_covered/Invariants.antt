@@ -1,5 +1,5 @@
 use Rattle.std.proofs.Common.{◌≡◌, ◌<◌, ◌*◌, ◌||◌, ℕ, true}
-use Rattle.tt_sgf.specs.Words.{bit_in}
+use Rattle.tt_sgf.specs.MachineWords.{bit_in}
 use Rattle.tt_sgf.proofs.bits.Bits.are_covered.Given as goal
 
 abbrev pub invariant-loop-k : goal.invariant-loop-k

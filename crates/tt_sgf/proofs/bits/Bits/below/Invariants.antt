@@ -1,5 +1,5 @@
 use Rattle.std.proofs.Common.{◌≡◌, ℕ, ◌<◌, ◌-◌, ◌*◌, length, get_or}
-use Rattle.tt_sgf.specs.Words.{IsLow}
+use Rattle.tt_sgf.specs.MachineWords.{IsLow}
 use Rattle.tt_sgf.proofs.bits.Bits.below.Given as goal
 
 abbrev pub invariant-loop-k : goal.invariant-loop-k

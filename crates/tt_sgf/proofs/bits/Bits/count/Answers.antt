@@ -2,7 +2,7 @@ use Rattle.std.proofs.Common.{◌≡◌, ap, sym, ◌∙◌, ◌+◌, arith}
 use Rattle.std.specs.FinSet as set
 use Rattle.tt_sgf.specs.declared.size.TheConstants.{MOST_POINTS}
 use Rattle.tt_sgf.specs.Points.{passing}
-use Rattle.tt_sgf.specs.Words.{bit_in}
+use Rattle.tt_sgf.specs.MachineWords.{bit_in}
 use Rattle.tt_sgf.proofs.BitLemmas.{len-passing-none, len-passing-in, len-passing-out, len-points}
 use Rattle.tt_sgf.proofs.bits.Bits.count.Goals as goal
 use Rattle.tt_sgf.proofs.bits.Bits.count.Goals.{then-has, else-has}

@@ -1,7 +1,7 @@
 use Rattle.std.proofs.Common.{◌≡◌, ◌≤◌}
 use Rattle.std.specs.FinSet as set
 use Rattle.tt_sgf.specs.Points.{passing}
-use Rattle.tt_sgf.specs.Words.{bit_in}
+use Rattle.tt_sgf.specs.MachineWords.{bit_in}
 use Rattle.tt_sgf.proofs.bits.Bits.count.Given as goal
 
 abbrev pub invariant-loop-n : goal.invariant-loop-n

@@ -17,10 +17,10 @@ loop-j-preserved c =
     let made = c.loop-j.invariant in let words = c.args.self.now.words in let at = c.loop-j.j in let k = c.args.k in
     let inside : at < length c.loop-j.words = omega (arith, made.wide) in
     record {
-      wide = length-set c.loop-j.words at c.lowered-in-loop-j.result ∙ made.wide;
+      wide = length-set c.loop-j.words at c.shifted_right-in-loop-j.result ∙ made.wide;
       last = let apart : 5 ≢ at = omega arith in rw get_or-set_other made.last;
       rest = λ j lt. elim (cases_eq j at) [
-        | inl same ↦ rw (same, get_or-set_same) c.lowered-in-loop-j.ensures
+        | inl same ↦ rw (same, get_or-set_same) c.shifted_right-in-loop-j.ensures
         | inr apart ↦ let apart' : j ≢ at = apart in rw get_or-set_other (made.rest j (omega (arith, apart)))
       ];
     }

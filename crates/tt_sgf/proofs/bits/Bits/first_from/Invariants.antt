@@ -1,6 +1,6 @@
 use Rattle.std.proofs.Common.{◌≡◌, ◌≤◌, ◌<◌, ◌-◌, ℕ, false}
 use Rattle.tt_sgf.specs.declared.bits.TheConstants.{BITS}
-use Rattle.tt_sgf.specs.Words.{bit_in}
+use Rattle.tt_sgf.specs.MachineWords.{bit_in}
 use Rattle.tt_sgf.proofs.bits.Bits.first_from.Given as goal
 
 abbrev pub invariant-loop-n : goal.invariant-loop-n

@@ -1,6 +1,6 @@
 use Rattle.std.proofs.Common.{ap, ◌∙◌}
 use Rattle.std.specs.FinSet as set
-use Rattle.tt_sgf.specs.Words.{points_of}
+use Rattle.tt_sgf.specs.MachineWords.{points_of}
 use Rattle.tt_sgf.proofs.BitLemmas.{points-and}
 use Rattle.tt_sgf.proofs.sets.PointSet.and.Goals as goal
 

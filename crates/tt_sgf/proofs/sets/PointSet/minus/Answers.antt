@@ -1,6 +1,6 @@
 use Rattle.std.proofs.Common.{ap, ◌∙◌}
 use Rattle.std.specs.FinSet as set
-use Rattle.tt_sgf.specs.Words.{points_of}
+use Rattle.tt_sgf.specs.MachineWords.{points_of}
 use Rattle.tt_sgf.proofs.BitLemmas.{points-minus}
 use Rattle.tt_sgf.proofs.sets.PointSet.minus.Goals as goal
 

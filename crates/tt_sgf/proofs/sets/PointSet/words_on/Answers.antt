@@ -1,6 +1,6 @@
 use Rattle.std.proofs.Common.{ap, sym, subst, ◌∙◌, arith}
 use Rattle.std.specs.FinSet as set
-use Rattle.tt_sgf.specs.Words.{AreBitsOf}
+use Rattle.tt_sgf.specs.MachineWords.{AreBitsOf}
 use Rattle.tt_sgf.specs.Sizes.{point_count}
 use Rattle.tt_sgf.proofs.BitLemmas.{has_point}
 use Rattle.tt_sgf.proofs.sets.PointSet.words_on.Goals as goal

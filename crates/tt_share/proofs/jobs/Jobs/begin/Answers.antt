@@ -9,8 +9,8 @@ use Rattle.tt_share.proofs.Lost.{legal_job}
 use Rattle.tt_share.proofs.Wins.{job_here}
 use Rattle.tt_share.proofs.jobs.Jobs.begin.Goals as goal
 
-pub line_behind-requires : goal.line_behind-requires
-line_behind-requires c =
+pub line_after-requires : goal.line_after-requires
+line_after-requires c =
     let jobs = c.args.self.now in
     let within = subst (λ (ts : List Turn). c.args.job < length ts) (sym c.as_slice.ensures.value) c.requires.job in
     let job : IsJob jobs.line.now c.args.job c.index-as_slice-job.result =
@@ -22,7 +22,7 @@ returns-clause-behind c =
     let jobs = c.args.self.now in
     let line = jobs.line.now in
     let behind = c.in_ok-behind in
-    let limits = c.limits_behind-limits in
+    let limits = c.limits_after-limits in
     let within = subst (λ (ts : List Turn). c.args.job < length ts) (sym c.as_slice.ensures.value) c.requires.job in
     let job : IsJob line c.args.job c.index-as_slice-job.result =
     job_here line c.as_slice.result.now c.args.job c.args.job c.index-as_slice-job.result (c.as_slice.ensures.value ∙ jobs.listed) refl within c.index-as_slice-job.is in

@@ -1,7 +1,7 @@
 use Rattle.std.proofs.Common.{ℕ, ◌≡◌, ◌<◌, ◌↔◌, true, sym, ap, ◌∙◌, refl, arith}
 use Rattle.std.proofs.lemmas.Bool.{true≢false}
 use Rattle.tt_sgf.specs.declared.bits.TheConstants.{BITS}
-use Rattle.tt_sgf.specs.Words.{bit_in}
+use Rattle.tt_sgf.specs.MachineWords.{bit_in}
 use Rattle.tt_board.specs.inside.Chains.{ChainBoard, name_at, root_of}
 use Rattle.tt_board.proofs.AmongLemmas.{sift_done, sift_rest}
 use Rattle.tt_board.proofs.counted.chains.Chains.last_among.Goals as goal

@@ -1,6 +1,6 @@
 use Rattle.std.proofs.Common.{◌≡◌, ℕ, ◌<◌, ◌≤◌, ◌-◌, ◌↔◌, true, false}
 use Rattle.tt_sgf.specs.declared.bits.TheConstants.{BITS}
-use Rattle.tt_sgf.specs.Words.{bit_in}
+use Rattle.tt_sgf.specs.MachineWords.{bit_in}
 use Rattle.tt_board.specs.inside.Chains.{name_at, root_of}
 use Rattle.tt_board.proofs.counted.chains.Chains.last_among.Given as goal
 

@@ -1,6 +1,6 @@
 use Rattle.std.proofs.Common.{subst}
 use Rattle.tt_board.specs.PlayKind.{IsKind}
-use Rattle.tt_board.specs.Setup.{IsAlive}
+use Rattle.tt_board.specs.Setup.{AllHaveLiberties}
 use Rattle.tt_board.specs.inside.Chains.{ChainBoard, AreNear}
 use Rattle.tt_board.proofs.PlayLemmas.{alive-play}
 use Rattle.tt_board.proofs.PlayKindLemmas.{roots_below}
@@ -20,4 +20,4 @@ put-requires-clause-alive c =
     let b = c.args.self.now in
     let near = subst (λ (v : ChainBoard). AreNear v.size v.names c.args.p c.names_beside-near.result) c.self.view_is c.names_beside-near.ensures in
     let put = subst (λ g. IsKind g b.size b.points c.args.colour c.args.p) c.in-NoCapture.is (c.kind.ensures c.args.p c.requires.on_board c.requires.free near) in
-    subst (IsAlive b.size) put (alive-play b.size b.points c.args.colour c.args.p)
+    subst (AllHaveLiberties b.size) put (alive-play b.size b.points c.args.colour c.args.p)

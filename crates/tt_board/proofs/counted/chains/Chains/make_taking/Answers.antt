@@ -3,7 +3,7 @@ use Rattle.std.proofs.lemmas.Bool.{true≢false}
 use Rattle.std.proofs.lemmas.List.Elements.{Contains-get_or}
 use Rattle.tt_board.specs.Reach.{entry_at}
 use Rattle.tt_board.specs.Play.{play_of}
-use Rattle.tt_board.specs.Setup.{IsAlive}
+use Rattle.tt_board.specs.Setup.{AllHaveLiberties}
 use Rattle.tt_board.specs.inside.Chains.{name_at, IsEachOnce}
 use Rattle.tt_board.proofs.PlayLemmas.{alive-play}
 use Rattle.tt_board.proofs.MakeLemmas.{taking_more, taking_next, taken_gone, taken_kept, still_free, made_no_capture, made_suicide}
@@ -53,8 +53,8 @@ put_stone-requires-clause-alive c =
     let kept = taken_kept b.names b.points xs c.loop-name.name-index c.loop-name.self.names c.loop-name.self.points t end in
     let stays : entry_at (play_of b.size b.points k p) p ≢ None = λ bare. true≢false (sym (l.suicide.1 bare) ∙ c.if-not-look.true) in
     let made = made_no_capture b.size b.points c.loop-name.self.points k p b.names xs l.fits c.requires.on_board c.requires.free kind t.fits gone kept stays in
-    subst (λ s. IsAlive s (set c.loop-name.self.points p (Some k))) (sym c.loop-name.invariant.size)
-    (subst (IsAlive b.size) (sym made) (alive-play b.size b.points k p))
+    subst (λ s. AllHaveLiberties s (set c.loop-name.self.points p (Some k))) (sym c.loop-name.invariant.size)
+    (subst (AllHaveLiberties b.size) (sym made) (alive-play b.size b.points k p))
 
 pub returns-then-not-look-clause-points : goal.returns-then-not-look-clause-points
 returns-then-not-look-clause-points c =

@@ -1,7 +1,7 @@
 use Rattle.std.proofs.Common.{ℕ, ◌≡◌, ◌<◌, ◌≤◌, ◌↔◌, length, true, false, subst}
 use Rattle.tt_sgf.specs.declared.bits.TheConstants.{BITS}
 use Rattle.tt_sgf.specs.Sizes.{point_count}
-use Rattle.tt_sgf.specs.Words.{bit_in, AreBitsOf}
+use Rattle.tt_sgf.specs.MachineWords.{bit_in, AreBitsOf}
 use Rattle.tt_board.specs.Reach.{entry_at}
 use Rattle.tt_board.specs.Play.{other, is_stone_of}
 use Rattle.tt_board.specs.inside.Around.{IsBesideSome}

@@ -2,7 +2,7 @@ use Rattle.std.proofs.Common.{◌≡◌, ◌≢◌, ◌<◌, None, Some, set, le
 use Rattle.std.proofs.lemmas.List.{length-set, get_or-set_other}
 use Rattle.tt_sgf.specs.Sizes.{point_count}
 use Rattle.tt_board.specs.Reach.{entry_at}
-use Rattle.tt_board.specs.Setup.{IsAlive}
+use Rattle.tt_board.specs.Setup.{AllHaveLiberties}
 use Rattle.tt_board.specs.inside.Chains.{ChainBoard, AreNames, AreNamesBut, AreNear}
 use Rattle.tt_sgf.specs.laws.SizeLaws.{few_points}
 use Rattle.tt_board.proofs.NameLemmas.{near_off}
@@ -31,7 +31,7 @@ invariant_of-self c =
     let few = few_points b.size in
     let on : p < point_count b.size = subst (λ (v : ChainBoard). p < point_count v.size) (sym c.self.view_is) c.requires.on_board in
     let free : entry_at b.points p ≡ None = subst (λ (v : ChainBoard). entry_at v.points p ≡ None) (sym c.self.view_is) c.requires.free in
-    let alive : IsAlive b.size (set b.points p (Some k)) = subst (λ (v : ChainBoard). IsAlive v.size (set v.points p (Some k))) (sym c.self.view_is) c.requires.alive in
+    let alive : AllHaveLiberties b.size (set b.points p (Some k)) = subst (λ (v : ChainBoard). AllHaveLiberties v.size (set v.points p (Some k))) (sym c.self.view_is) c.requires.alive in
     let living : c.new_name.result ≢ 0 = λ z. omega (arith, c.new_name.ensures.living) in
     let but : AreNamesBut b.size (set b.points p (Some k)) (set b.counts.names p c.new_name.result) p
     = but_placed b.size b.points b.counts.names k p c.new_name.result on (omega (arith, i.fits, on)) (omega (arith, few, i.wide.0, on)) free i.named i.counted.rooted
@@ -42,7 +42,7 @@ invariant_of-self c =
       named = subst (λ xs. AreNames b.size xs after.names) (sym c.set.ensures)
           (c.join_beside.ensures.joined (set b.points p (Some k)) (subst (λ ns. AreNamesBut b.size (set b.points p (Some k)) ns p) (sym c.start.ensures.put) but));
       counted = c.join_beside.ensures.still_counted;
-      alive = subst (IsAlive b.size) (sym c.set.ensures) alive;
+      alive = subst (AllHaveLiberties b.size) (sym c.set.ensures) alive;
       rest = λ q past.
           ap (λ xs. entry_at xs q) c.set.ensures
           ∙ get_or-set_other b.points p q (Some k) None (λ same. omega (arith, past, c.later_end-self-inside.ensures.other, same))

@@ -14,8 +14,8 @@ returns-clause-within c =
     let found : c.deref.result.now ≡ root = search rules in
     let again : c.deref-2.result.now ≡ root = search rules in
     let n : c.count.result ≡ length root.begun = c.count.ensures.value ∙ ap (λ (r : Rooted). length r.begun) again in
-    let has : IsTrue c.begins.result = search rules in
-    let begun : root.begun ≡ take (length root.begun) there = subst (λ (r : Rooted). r.begun ≡ take (length r.begun) there) found (c.begins.ensures.0 has) in
+    let has : IsTrue c.begins_with_root.result = search rules in
+    let begun : root.begun ≡ take (length root.begun) there = subst (λ (r : Rooted). r.begun ≡ take (length r.begun) there) found (c.begins_with_root.ensures.0 has) in
     let shown : length (history c.args.line.now.state) ≡ length there = ap length (sym c.history.ensures.colourings) ∙ length-colourings there in
     omega (arith, n, shown, begun_fewer root.begun there begun)
 
@@ -25,8 +25,8 @@ returns-clause-alike c =
     let found : c.deref.result.now ≡ root = search rules in
     let again : c.deref-2.result.now ≡ root = search rules in
     let n : c.count.result ≡ length root.begun = c.count.ensures.value ∙ ap (λ (r : Rooted). length r.begun) again in
-    let has : IsTrue c.begins.result = search rules in
-    let begun : root.begun ≡ take (length root.begun) there = subst (λ (r : Rooted). r.begun ≡ take (length r.begun) there) found (c.begins.ensures.0 has) in
+    let has : IsTrue c.begins_with_root.result = search rules in
+    let begun : root.begun ≡ take (length root.begun) there = subst (λ (r : Rooted). r.begun ≡ take (length r.begun) there) found (c.begins_with_root.ensures.0 has) in
     let own : history c.args.self.now.state ≡ colourings (root.begun ++ i.later) =
     ap (λ (x : SnapshotState). history x.state) (sym c.self.view_is) ∙ history_is root.frame.size (root.begun ++ i.later) i.passes c.self.invariant.some_board in
     subst (λ k. take k (history c.args.line.now.state) ≡ take k (history c.args.self.now.state)) (sym n)

@@ -2,7 +2,7 @@ use Rattle.std.proofs.Common.{arith, ◌≡◌, suc, ◌-◌, ◌+◌, ◌<◌, 
 use Rattle.std.proofs.lemmas.List.{get_or_read}
 use Rattle.tt_proof.specs.Proven.{Proven}
 use Rattle.tt_search.specs.Stores.{HasKeyAndSide, IsNewest}
-use Rattle.tt_search.specs.KeyIndex.{index_hashes, IndexState}
+use Rattle.tt_search.specs.KeyIndex.{key_hashes, IndexState}
 use Rattle.tt_search.specs.inside.Buckets.{bucket_of_hash, NoneFrom}
 use Rattle.tt_search.proofs.Buckets.{before_low, before_inside, none_unmarked, none_past_next, not_found, answers_hash, found_newest, none_newest}
 use Rattle.tt_search.proofs.store.key_index.KeyIndex.last_of.Goals.{else-index-hash-via-then-index-hash+else-is_for, else-index-hash-via-else-index-hash}
@@ -10,7 +10,7 @@ use Rattle.tt_search.proofs.store.key_index.KeyIndex.last_of.Goals as goal
 
 pub loop-next-init : goal.loop-next-init
 loop-next-init g c =
-    let indexed : _ ≡ index_hashes (g.P.ProofRow.proofs c.args.row.now) = c.requires.indexed in
+    let indexed : _ ≡ key_hashes (g.P.ProofRow.proofs c.args.row.now) = c.requires.indexed in
     let view = ap (λ (v : IndexState). v.hashes) c.self.view_is in
     record {
       low = omega (arith, c.requires.last.low, ap length view);
@@ -44,7 +44,7 @@ loop-next-preserved g c =
     let ps = g.P.ProofRow.proofs c.args.row.now in
     let slot = c.loop-next.next - 1 in
     let next = c.index-in-loop-next.result.now in
-    let all : hashes ≡ index_hashes ps = ap (λ (v : IndexState). v.hashes) c.self.view_is ∙ c.requires.indexed in
+    let all : hashes ≡ key_hashes ps = ap (λ (v : IndexState). v.hashes) c.self.view_is ∙ c.requires.indexed in
     let hash = c.requires.hash in
     let within : slot < length hashes = omega (arith, c.loop-next.invariant.low, c.loop-next-test.true) in
     let is = get_or_read before slot next (omega (arith, within, c.self.invariant.sized.one_each)) c.index-in-loop-next.ensures 0 in

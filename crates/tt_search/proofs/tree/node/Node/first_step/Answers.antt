@@ -16,16 +16,16 @@ offer-walk-requires-clause-stays g c =
     let leaf = c.leaf_step-step in
     (leaf_offerable c.args.walk.now leaf.new.walk leaf.result leaf.new.self leaf.ensures.walk c.requires.«open» c.in-Expanded.is leaf.ensures.taken).1
 
-pub is_granted-requires-clause-room : goal.is_granted-requires-clause-room
-is_granted-requires-clause-room g c =
+pub ask_grant-requires-clause-room : goal.ask_grant-requires-clause-room
+ask_grant-requires-clause-room g c =
     let walk = c.args.walk.now in
     let leaf = c.leaf_step-step in
     room_to_ask (stand_of walk) (stage fresh walk.left) leaf.result leaf.new.self (g.G.Grants.asked c.args.grants.now).granted leaf.ensures.taken c.requires.grants
 
-pub returns-then-not-is_granted-clause-taken : goal.returns-then-not-is_granted-clause-taken
-returns-then-not-is_granted-clause-taken g c =
+pub returns-then-not-ask_grant-clause-taken : goal.returns-then-not-ask_grant-clause-taken
+returns-then-not-ask_grant-clause-taken g c =
     let walk = c.args.walk.now in
     let leaf = c.leaf_step-step in
-    let refused = c.is_granted.ensures.refused (search rules) in
+    let refused = c.ask_grant.ensures.refused (search rules) in
     let expands = subst (λ s. Taken (stand_of walk) (stage fresh walk.left) s leaf.new.self) refused.0 leaf.ensures.taken in
     (expands.0, expands.1.0, c.new_leaf.ensures)

@@ -1,0 +1,21 @@
+use Rattle.std.proofs.Common.{◌≡◌, List, length, take, sym, ap, subst, refl, ◌∙◌}
+use Rattle.tt_board.specs.Position.{Position}
+use Rattle.tt_game.proofs.RootLemmas.{begun_boards}
+use Rattle.tt_game.proofs.history.snapshot.begins_with_root.Goals as goal
+
+pub returns-then-same_beginning : goal.returns-then-same_beginning
+returns-then-same_beginning c =
+    let there = c.args.boards.now in let other = c.args.other.now in
+    let same : other.begun ≡ c.args.root.now.begun = c.same_beginning.ensures.same c.if-same_beginning.true in (
+      λ _. subst (λ (bs : List Position). bs ≡ take (length bs) there) same
+          (begun_boards other.frame.size other.begun there c.same_beginning.ensures.sizes c.requires.sizes c.requires.begins),
+      λ _. refl,
+    )
+
+pub returns : goal.returns
+returns c =
+    let there = c.args.boards.now in let begun = c.args.root.now.begun in
+    let n : c.count-begun.result ≡ length begun = c.count-begun.ensures.value in (
+      λ y. c.began_with.ensures.0 y ∙ ap (λ k. take k there) n,
+      λ e. c.began_with.ensures.1 (e ∙ ap (λ k. take k there) (sym n)),
+    )

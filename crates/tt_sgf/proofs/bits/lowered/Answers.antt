@@ -1,5 +1,0 @@
-use Rattle.tt_sgf.proofs.ShiftLemmas.{down_word}
-use Rattle.tt_sgf.proofs.bits.lowered.Goals as goal
-
-pub returns : goal.returns
-returns c = down_word c.args.word c.args.above c.args.k c.ranges.word.fits c.requires.few
