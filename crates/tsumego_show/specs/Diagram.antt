@@ -18,7 +18,7 @@ use Rattle.tsumego_show.specs.Found.{Found, no_strategy, found}
 use Rattle.tsumego_show.specs.declared.windows.Along.{Along}
 use Rattle.tsumego_show.specs.declared.windows.Along.TheVariants.{Columns, Rows}
 use Rattle.tsumego_show.specs.declared.windows.Window.{Window}
-use Rattle.tsumego_show.specs.Picture.{editor_column_letter, row_number}
+use Rattle.tsumego_show.specs.Picture.{colour_name, editor_column_letter, row_number}
 use Rattle.tsumego_show.specs.Regions.{near}
 
 -- ---- what matters: the columns and rows with a target, a point of the region or a stone beside one, and one more on each side
@@ -187,18 +187,26 @@ module _ (w : Window) where
   abbrev pub top_end : ℕ
   top_end = 36 - further (nat_lt 0 w.top)
 
+  -- the middle of the document, which has room for the line below the board
+  abbrev pub centre : ℕ
+  centre = max 42 (12 * (w.right - w.left) + 30)
+
   abbrev pub width : ℕ
-  width = 24 * (w.right - w.left) + 60
+  width = 2 * centre
 
   abbrev pub height : ℕ
-  height = 24 * (w.bottom - w.top) + 60
+  height = 24 * (w.bottom - w.top) + 84
 
-  -- the beginning of the document, and its white ground
-  unfoldable pub svg_head : List ℕ
-  svg_head =
-      codes "<svg xmlns='http://www.w3.org/2000/svg' width='" ++ (decimal width ++ (codes "' height='" ++ (decimal height
-      ++ (codes "' font-family='sans-serif' font-size='11' text-anchor='middle'>\n<rect width='" ++ (decimal width ++ (codes "' height='" ++ (decimal height
-      ++ codes "' fill='white'/>\n")))))))
+  -- where that line stands
+  abbrev pub caption_below : ℕ
+  caption_below = 24 * (w.bottom - w.top) + 72
+
+-- the beginning of a document of this width and height, and its white ground
+unfoldable pub svg_head : ℕ → ℕ → List ℕ
+svg_head width height =
+    codes "<svg xmlns='http://www.w3.org/2000/svg' width='" ++ (decimal width ++ (codes "' height='" ++ (decimal height
+    ++ (codes "' font-family='sans-serif' font-size='11' text-anchor='middle'>\n<rect width='" ++ (decimal width ++ (codes "' height='" ++ (decimal height
+    ++ codes "' fill='white'/>\n")))))))
 
 -- a column's line, and the beginning of its letter
 unfoldable pub column_stroke : ℕ → ℕ → ℕ → List ℕ
@@ -227,6 +235,13 @@ module _ (size : Size) (w : Window) where
   unfoldable pub row_shapes : ℕ → List ℕ
   row_shapes j = row_stroke (left_end w) (middle j) right_end (middle j + 4) (row_number size (w.top + j))
 
+module _ (p : LineWithUndo) (w : Window) where
+  -- `Black to play`, as books have it below a diagram
+  unfoldable pub caption : List ℕ
+  caption =
+      codes "<text x='" ++ (decimal (centre w) ++ (codes "' y='" ++ (decimal (caption_below w)
+      ++ (codes "'>" ++ (colour_name (side_colour p.frame p.state.to_move) ++ codes " to play</text>\n")))))
+
 module _ (p : LineWithUndo) (first : Option Turn) (w : Window) where
   -- the shapes on the points of a row
   unfoldable pub cell_shapes : ℕ → ℕ → List ℕ
@@ -236,8 +251,8 @@ module _ (p : LineWithUndo) (first : Option Turn) (w : Window) where
   points_shapes j = flat_map (cell_shapes j) (range_with_len 0 (columns_shown w))
 
   abbrev pub drawing : List ℕ
-  drawing = svg_head w ++ (flat_map (column_shapes p.frame.size w) (range_with_len 0 (columns_shown w)) ++ (flat_map (row_shapes p.frame.size w) (range_with_len 0 (rows_shown w))
-      ++ (flat_map points_shapes (range_with_len 0 (rows_shown w)) ++ codes "</svg>\n")))
+  drawing = svg_head (width w) (height w) ++ (flat_map (column_shapes p.frame.size w) (range_with_len 0 (columns_shown w)) ++ (flat_map (row_shapes p.frame.size w) (range_with_len 0 (rows_shown w))
+      ++ (flat_map points_shapes (range_with_len 0 (rows_shown w)) ++ (caption p w ++ codes "</svg>\n"))))
 
 -- the problem with this first turn
 abbrev pub svg_text : LineWithUndo → Option Turn → List ℕ

@@ -6,12 +6,12 @@ ghost use Rattle.tt_board.specs.Reach.{entry_at};
 ghost use Rattle.tt_proof.specs.Strategy.{IsInOrder, strategy_of};
 ghost use Rattle.tsumego_show.specs.inside.Trees.{found_of};
 ghost use Rattle.tsumego_show.specs.inside.Windows.{IsWindow};
-ghost use Rattle.tsumego_show.specs.Diagram.{bottom_end, cell_shapes, column_shapes, column_stroke, columns_shown, digit_text, entry_text, numbered_text, IsNumbered, further, has_square, fill_colour, is_play_on};
+ghost use Rattle.tsumego_show.specs.Diagram.{bottom_end, caption, cell_shapes, centre, column_shapes, column_stroke, columns_shown, digit_text, entry_text, numbered_text, IsNumbered, further, has_square, fill_colour, is_play_on};
 ghost use Rattle.tsumego_show.specs.Diagram.{mark_ground, mark_colour, mark_text, number_end, number_head, numbered_stone, point_shapes, points_shapes, right_end, row_shapes, row_stroke, rows_shown, square_text, stone_head, stone_text};
 ghost use Rattle.tsumego_show.specs.Diagram.{svg_head, svg_text, triangle_head, triangle_text};
 
 use crate::first_turn::first_turn;
-use crate::picture::{editor_column_letter, side_colour};
+use crate::picture::{colour_name, editor_column_letter, side_colour};
 use crate::points::{is_inside, is_target, point_numbered};
 use crate::windows::{Window, number_at, window_of};
 use std::alloc::Global;
@@ -491,18 +491,39 @@ fn put_all_points(
     Ok(())
 }
 
+/// The middle of the document.
+fn centre(size: Size, w: Window) -> usize
+    requires { IsWindow size w }
+    ensures value { result ≡ centre w }
+    ensures most { result ≤ 1000 }
+{
+    (12 * (w.right - w.left) + 30).max(42)
+}
+
 /// Writes the beginning of the document behind the text.
 #[tactic(auto, unfolding(crate::specs::Diagram::svg_head))]
-fn put_head(alloc: Global, out: &mut Vec<u8>, size: Size, w: Window) -> Result<(), NoMemory>
-    requires window { IsWindow size w }
-    ensures { OnOk result (out.new.items ≡ out.old.items ++ svg_head w) }
+fn put_head(alloc: Global, out: &mut Vec<u8>, width: usize, height: usize) -> Result<(), NoMemory>
+    ensures { OnOk result (out.new.items ≡ out.old.items ++ svg_head width height) }
 {
-    let width = 24 * (w.right - w.left) + 60;
-    let height = 24 * (w.bottom - w.top) + 60;
     let text = format!(in alloc;
         "<svg xmlns='http://www.w3.org/2000/svg' width='{width}' height='{height}' font-family='sans-serif' font-size='11' text-anchor='middle'>\n<rect width='{width}' height='{height}' fill='white'/>\n"
     )?;
     out.extend_from_slice(text.as_bytes())?;
+    Ok(())
+}
+
+/// Writes who moves behind the text.
+#[tactic(auto, unfolding(crate::specs::Diagram::caption))]
+fn put_caption(alloc: Global, out: &mut Vec<u8>, line: &Line, w: Window) -> Result<(), NoMemory>
+    requires { IsWindow line.now.frame.size w }
+    ensures { OnOk result (out.new.items ≡ out.old.items ++ caption line.now w) }
+{
+    let x = centre(line.frame().size, w);
+    let below = 24 * (w.bottom - w.top) + 72;
+    let text = format!(in alloc; "<text x='{x}' y='{below}'>")?;
+    out.extend_from_slice(text.as_bytes())?;
+    out.extend_from_slice(colour_name(side_colour(line, line.to_move())))?;
+    out.extend_from_slice(b" to play</text>\n")?;
     Ok(())
 }
 
@@ -518,7 +539,7 @@ pub fn numbered_turn(line: &Line, found: &Option<(Side, Tree)>) -> Option<Turn>
 }
 
 /// Writes the diagram of the problem at a line as SVG behind the text: what matters of the board, with the coordinates of editors,
-/// the targets and the region marked, and the first turn, where it is a play, as a stone with the number 1.
+/// the targets and the region marked, and the first turn, where it is a play, as a stone with the number 1; below, who moves.
 /// `NoMemory` where memory was refused; a part may stand there then.
 pub fn put_svg(
     alloc: Global,
@@ -530,10 +551,12 @@ pub fn put_svg(
 {
     let size = line.frame().size;
     let w = window_of(line);
-    put_head(alloc, out, size, w)?;
+    let height = 24 * (w.bottom - w.top) + 84;
+    put_head(alloc, out, 2 * centre(size, w), height)?;
     put_columns(alloc, out, size, w)?;
     put_rows(alloc, out, size, w)?;
     put_all_points(alloc, out, line, first, w)?;
+    put_caption(alloc, out, line, w)?;
     out.extend_from_slice(b"</svg>\n")?;
     Ok(())
 }
