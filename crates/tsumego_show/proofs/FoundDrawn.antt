@@ -1,22 +1,23 @@
 -- What is drawn or written of a strategy that was found.
-use Rattle.std.proofs.Common.{◌≡◌, ℕ, true, false, List, ◌++◌, Option, refl, subst, Ok, Err, OnOk}
+use Rattle.std.proofs.Common.{◌≡◌, ℕ, true, false, List, ◌++◌, Option, refl, ap, subst, Ok, Err, OnOk}
 use Rattle.std.specs.declared.result.Result.{Result}
 use Rattle.tt_game.specs.declared.frame.Frame.{Frame}
 use Rattle.tt_game.specs.Line.{LineWithUndo}
 use Rattle.tsumego_show.specs.declared.form.Form.TheVariants.{Marks, Variations}
-use Rattle.tt_game.specs.declared.turns.Turn.{Turn}
-use Rattle.tsumego_show.specs.Diagram.{IsNumbered, svg_text}
+use Rattle.tsumego_show.specs.Diagram.{svg_text}
 use Rattle.tsumego_show.specs.Found.{Found, StandsBehind}
 use Rattle.tsumego_show.specs.declared.form.Place.{Place}
 use Rattle.tsumego_show.specs.Shown.{IsDiagram, IsProblemText, one_of_several_line, without_strategy}
+use Rattle.tsumego_show.specs.Solution.{solution}
 use Rattle.tsumego_show.specs.TreeBytes.{kept_text}
 use Rattle.tsumego_show.specs.Variations.{sgf_text}
 
-pub found_drawn : {A E : Type 0} (r : Result A E) (p : LineWithUndo) (f : Frame) (behind old new : List ℕ) (b : Found) (first : Option Turn) → f ≡ p.frame
-    → StandsBehind f.size behind b → IsNumbered p b first → OnOk r (new ≡ old ++ svg_text p first)
+pub found_drawn : {A E : Type 0} (r : Result A E) (p : LineWithUndo) (f : Frame) (behind old new plays : List ℕ) (b : Found) → f ≡ p.frame
+    → StandsBehind f.size behind b → plays ≡ solution p b → OnOk r (new ≡ old ++ svg_text p plays)
     → (k : ℕ) → OnOk r ((x : List ℕ) × IsDiagram true k p behind x × (new ≡ old ++ x))
-found_drawn (Ok y) p f behind old new b first same h is w k = (svg_text p first, (b, first, subst (λ (g : Frame). StandsBehind g.size behind b) same h, is, refl), w)
-found_drawn (Err y) p f behind old new b first same h is w k = w
+found_drawn (Ok y) p f behind old new plays b same h is w k =
+    (svg_text p plays, (b, subst (λ (g : Frame). StandsBehind g.size behind b) same h, ap (λ x. svg_text p x) is), w)
+found_drawn (Err y) p f behind old new plays b same h is w k = w
 
 pub found_written : {A E : Type 0} (r : Result A E) (p : LineWithUndo) (f : Frame) (behind old new : List ℕ) (b : Found) → f ≡ p.frame → StandsBehind f.size behind b
     → (depth : ℕ) → OnOk r (new ≡ old ++ sgf_text p depth (without_strategy behind) b)

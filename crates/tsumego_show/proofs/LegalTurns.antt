@@ -15,7 +15,7 @@ use Rattle.tt_proof.specs.Strategy.{Strategy, Entries, pick, reply}
 use Rattle.tsumego_show.specs.Variations.{legal_text, move_text, or_ending, reply_variations, variations}
 
 -- a turn that is refused isn't legal
-not_legal : (f : Frame) (s : State) (t : Turn) (why : Why) → IsRefusal f s t why → IsLegal f s t → ⊥
+pub not_legal : (f : Frame) (s : State) (t : Turn) (why : Why) → IsRefusal f s t why → IsLegal f s t → ⊥
 not_legal f s Pass Over r l = r l
 not_legal f s (Play p) Over r l = r l.0
 not_legal f s Pass Occupied r l = r

@@ -15,3 +15,4 @@ pub mod Readings
 pub mod FoundDrawn
 pub mod LegalTurns
 pub mod FirstAndLast
+pub mod FullestLines

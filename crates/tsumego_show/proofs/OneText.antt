@@ -1,5 +1,5 @@
 -- An input has one text and one status.
-use Rattle.std.proofs.Common.{◌≡◌, ℕ, Bool, true, false, List, [], ◌++◌, ◌||◌, ◌+◌, inl, inr, Option, None, Some, Ok, Err, refl, sym, ap, ap₂, ◌∙◌, drop, take, length, arith, subst, if◌then◌else◌}
+use Rattle.std.proofs.Common.{◌≡◌, ℕ, Bool, true, false, List, [], ◌++◌, ◌||◌, ◌+◌, inl, inr, Ok, Err, refl, sym, ap, ap₂, ◌∙◌, drop, take, length, arith, subst, if◌then◌else◌}
 use Rattle.std.specs.declared.result.Result.{Result}
 use Rattle.tt_sgf.specs.Grammar.{GameTree, main_line, IsUnambiguous}
 use Rattle.tt_sgf.specs.declared.nodes.Node.{Node}
@@ -7,7 +7,6 @@ use Rattle.tt_sgf.specs.laws.TreeLaws.{spelled_opens}
 use Rattle.tt_sgf.specs.Values.{trimmed}
 use Rattle.tt_game.specs.declared.faults.GameFault.{GameFault}
 use Rattle.tt_game.specs.declared.frame.Side.{Side}
-use Rattle.tt_game.specs.declared.turns.Turn.{Turn}
 use Rattle.tt_game.specs.Line.{LineWithUndo}
 use Rattle.tt_game.specs.Problems.{problem_of}
 use Rattle.tt_proof.specs.OutlineLaws.{OneSharedCertificate}
@@ -18,7 +17,8 @@ use Rattle.tsumego_show.specs.Drawing.{DrawsCertificate, DrawsFirst, begins, beg
 use Rattle.tt_sgf.specs.declared.size.Size.{Size}
 use Rattle.tsumego_show.specs.declared.form.Form.{Form}
 use Rattle.tsumego_show.specs.declared.form.Form.TheVariants.{Picture, Diagram, Marks, Variations}
-use Rattle.tsumego_show.specs.Diagram.{IsNumbered, svg_text}
+use Rattle.tsumego_show.specs.Diagram.{svg_text}
+use Rattle.tsumego_show.specs.Solution.{solution}
 use Rattle.tsumego_show.specs.Variations.{sgf_text}
 use Rattle.tsumego_show.specs.Found.{Found, IsCertificateFor, StandsBehind, no_strategy, found}
 use Rattle.tsumego_show.specs.Shown.{DrawsBehind, IsDiagram, IsShown, IsInputText, IsProblemText, IsTreeText, Tells, ended, is_alone, is_tree_refused, last_tree, more_trees, problem_text, stopped, too_long, tree, trees, without_strategy}
@@ -68,18 +68,8 @@ module _ (one : OneSharedCertificate) where
   found_same size bytes (found side u) no_strategy x (inr (inr none)) = absurd (none side u x.1)
   found_same size bytes (found a u) (found b v) x y = let same = stands_same size (trimmed bytes) a b u v x.1 y.1 in ap₂ (λ (k : Side) (w : Strategy). found k w) same.0 same.1
 
-  -- so has the turn with the number
-  numbered_same : (p : LineWithUndo) (b : Found) (x y : Option Turn) → IsNumbered p b x → IsNumbered p b y → x ≡ y
-  numbered_same p no_strategy x y m n = m ∙ sym n
-  numbered_same p (found side u) None None m n = refl
-  numbered_same p (found side u) None (Some t) m n = absurd (m t n)
-  numbered_same p (found side u) (Some s) None m n = absurd (n s m)
-  numbered_same p (found side u) (Some s) (Some t) m n = sym m.0 ∙ n.0
-
   diagram_same : (alone : Bool) (k : ℕ) (p : LineWithUndo) (behind s t : List ℕ) → IsDiagram alone k p behind s → IsDiagram alone k p behind t → s ≡ t
-  diagram_same true k p behind s t a b =
-      let same = found_same p.frame.size behind a.0 b.0 a.2 b.2 in
-      a.4 ∙ ap (λ (x : Option Turn). svg_text p x) (numbered_same p b.0 a.1 b.1 (subst (λ (x : Found). IsNumbered p x a.1) same a.3) b.3) ∙ sym b.4
+  diagram_same true k p behind s t a b = a.2 ∙ ap (λ (x : Found). svg_text p (solution p x)) (found_same p.frame.size behind a.0 b.0 a.1 b.1) ∙ sym b.2
   diagram_same false k p behind s t a b = a ∙ sym b
 
   -- and so has a problem

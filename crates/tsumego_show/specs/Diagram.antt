@@ -1,6 +1,6 @@
 -- The diagram of a problem as SVG 1.1: black and white as in books, the part of the board that matters, with the coordinates of
 -- editors. A cell is 24 wide; the middle of the first one is at 36, 36.
-use Rattle.std.specs.Prelude.{◌≡◌, ℕ, zero, suc, ◌+◌, ◌-◌, ◌*◌, ◌&&◌, ◌||◌, not, max, min, nat_eq, nat_lt, Bool, false, List, [], ◌∷◌, ◌++◌, codes, decimal, Option, Some, None, if◌then◌else◌}
+use Rattle.std.specs.Prelude.{ℕ, zero, suc, ◌+◌, ◌-◌, ◌*◌, ◌%◌, ◌&&◌, ◌||◌, not, max, min, nat_eq, nat_lt, Bool, false, List, [], ◌∷◌, ◌++◌, codes, decimal, Option, Some, None, is_none, if◌then◌else◌}
 use Rattle.std.specs.List.{flat_map, range_with_len}
 use Rattle.std.specs.FinSet as set
 use Rattle.tt_sgf.specs.declared.size.Size.{Size}
@@ -9,12 +9,8 @@ use Rattle.tt_board.specs.declared.Colour.{Colour}
 use Rattle.tt_board.specs.declared.Colour.TheVariants.{Black, White}
 use Rattle.tt_board.specs.Play.{is_empty, other}
 use Rattle.tt_board.specs.Reach.{entry_at}
-use Rattle.tt_game.specs.Game.{side_colour}
+use Rattle.tt_game.specs.Game.{opponent, side_colour}
 use Rattle.tt_game.specs.Line.{LineWithUndo}
-use Rattle.tt_game.specs.declared.turns.Turn.TheVariants.{Play, Pass}
-use Rattle.tt_game.specs.declared.turns.Turn.{Turn}
-use Rattle.tsumego_show.specs.Drawing.{BeginsWithTurn}
-use Rattle.tsumego_show.specs.Found.{Found, no_strategy, found}
 use Rattle.tsumego_show.specs.declared.windows.Along.{Along}
 use Rattle.tsumego_show.specs.declared.windows.Along.TheVariants.{Columns, Rows}
 use Rattle.tsumego_show.specs.declared.windows.Window.{Window}
@@ -120,52 +116,51 @@ square_text x y e =
     codes "<rect x='" ++ (decimal (x - 4) ++ (codes "' y='" ++ (decimal (y - 4) ++ (codes "' width='8' height='8' fill='"
     ++ (mark_ground e ++ (codes "' stroke='" ++ (mark_colour e ++ codes "'/>\n")))))))
 
--- a stone with the number 1
+-- a stone with a number
 unfoldable pub number_head : ℕ → ℕ → List ℕ
 number_head x below = codes "<text x='" ++ (decimal x ++ (codes "' y='" ++ (decimal below ++ codes "' font-size='14' fill='")))
 
-unfoldable pub number_end : List ℕ
-number_end = codes "'>1</text>\n"
+unfoldable pub number_end : ℕ → List ℕ
+number_end n = codes "'>" ++ (decimal n ++ codes "</text>\n")
 
-unfoldable pub digit_text : ℕ → ℕ → Colour → List ℕ
-digit_text x below k = number_head x below ++ (mark_colour (Some k) ++ number_end)
+unfoldable pub digits_text : ℕ → ℕ → Colour → ℕ → List ℕ
+digits_text x below k n = number_head x below ++ (mark_colour (Some k) ++ number_end n)
 
-abbrev pub numbered_stone : ℕ → ℕ → Colour → List ℕ
-numbered_stone x y k = stone_text x y k ++ digit_text x (y + 5) k
+abbrev pub numbered_stone : ℕ → ℕ → Colour → ℕ → List ℕ
+numbered_stone x y k n = stone_text x y k ++ digits_text x (y + 5) k n
 
 -- ---- points
 
--- the turn with the number: the first of the strategy that was found, where its side is to move and the turn is legal
-abbrev pub IsNumbered : LineWithUndo → Found → Option Turn → Type 0
-IsNumbered p no_strategy first = first ≡ None
-IsNumbered p (found side u) None = (t : Turn) → BeginsWithTurn p side u t → ⊥
-IsNumbered p (found side u) (Some t) = BeginsWithTurn p side u t
-
--- it is a play on q
-abbrev pub is_play_on : Option Turn → ℕ → Bool
-is_play_on None q = false
-is_play_on (Some Pass) q = false
-is_play_on (Some (Play r)) q = nat_eq r q
+-- the number of q in a line of plays whose first one has number n, if it is one of them
+abbrev pub number_in : ℕ → List ℕ → ℕ → Option ℕ
+number_in n [] q = None
+number_in n (r ∷ rs) q = if nat_eq r q then Some n else number_in (n + 1) rs q
 
 abbrev pub entry_text : ℕ → ℕ → Option Colour → List ℕ
 entry_text x y None = []
 entry_text x y (Some k) = stone_text x y k
 
-module _ (p : LineWithUndo) (first : Option Turn) where
+module _ (p : LineWithUndo) where
+  -- the side to move has the odd numbers
+  abbrev pub colour_of : ℕ → Colour
+  colour_of n = side_colour p.frame (if nat_eq (n % 2) 1 then p.state.to_move else opponent p.state.to_move)
+
+  abbrev pub numbered_text : ℕ → ℕ → Option ℕ → List ℕ
+  numbered_text x y None = []
+  numbered_text x y (Some n) = numbered_stone x y (colour_of n) n
+
+module _ (p : LineWithUndo) (plays : List ℕ) where
   -- a point of a region that isn't the whole board, where no number stands
   abbrev pub has_square : ℕ → Bool
-  has_square q = is_inside p q && (not (is_play_on first q) && not (nat_eq (set.len p.frame.region) (point_count p.frame.size)))
+  has_square q = is_inside p q && (is_none (number_in 1 plays q) && not (nat_eq (set.len p.frame.region) (point_count p.frame.size)))
 
   abbrev pub mark_text : ℕ → ℕ → ℕ → List ℕ
   mark_text x y q =
       if is_target p q then triangle_text x y (entry_at p.state.present q) else (if has_square q then square_text x y (entry_at p.state.present q) else [])
 
-  abbrev pub numbered_text : ℕ → ℕ → ℕ → List ℕ
-  numbered_text x y q = if is_play_on first q then numbered_stone x y (side_colour p.frame p.state.to_move) else []
-
   -- the stone, the mark and the number on q
   unfoldable pub point_shapes : ℕ → ℕ → ℕ → List ℕ
-  point_shapes x y q = entry_text x y (entry_at p.state.present q) ++ (mark_text x y q ++ numbered_text x y q)
+  point_shapes x y q = entry_text x y (entry_at p.state.present q) ++ (mark_text x y q ++ numbered_text p x y (number_in 1 plays q))
 
 -- ---- the board, by the number of the column or row in the window
 
@@ -242,10 +237,10 @@ module _ (p : LineWithUndo) (w : Window) where
       codes "<text x='" ++ (decimal (centre w) ++ (codes "' y='" ++ (decimal (caption_below w)
       ++ (codes "'>" ++ (colour_name (side_colour p.frame p.state.to_move) ++ codes " to play</text>\n")))))
 
-module _ (p : LineWithUndo) (first : Option Turn) (w : Window) where
+module _ (p : LineWithUndo) (plays : List ℕ) (w : Window) where
   -- the shapes on the points of a row
   unfoldable pub cell_shapes : ℕ → ℕ → List ℕ
-  cell_shapes j i = point_shapes p first (middle i) (middle j) ((w.top + j) * p.frame.size.columns + (w.left + i))
+  cell_shapes j i = point_shapes p plays (middle i) (middle j) ((w.top + j) * p.frame.size.columns + (w.left + i))
 
   abbrev pub points_shapes : ℕ → List ℕ
   points_shapes j = flat_map (cell_shapes j) (range_with_len 0 (columns_shown w))
@@ -254,6 +249,6 @@ module _ (p : LineWithUndo) (first : Option Turn) (w : Window) where
   drawing = svg_head (width w) (height w) ++ (flat_map (column_shapes p.frame.size w) (range_with_len 0 (columns_shown w)) ++ (flat_map (row_shapes p.frame.size w) (range_with_len 0 (rows_shown w))
       ++ (flat_map points_shapes (range_with_len 0 (rows_shown w)) ++ (caption p w ++ codes "</svg>\n"))))
 
--- the problem with this first turn
-abbrev pub svg_text : LineWithUndo → Option Turn → List ℕ
-svg_text p first = drawing p first (window p)
+-- the problem with these plays, numbered from 1 on
+abbrev pub svg_text : LineWithUndo → List ℕ → List ℕ
+svg_text p plays = drawing p plays (window p)

@@ -10,6 +10,7 @@ pub mod Picture
 pub mod Refusals
 pub mod Regions
 pub mod Shown
+pub mod Solution
 pub mod TreeBytes
 pub mod Variations
 pub mod Writing

@@ -1,24 +1,24 @@
 -- What is written for an input: a text on each of its game trees.
-use Rattle.std.specs.Prelude.{◌≡◌, ◌⊎◌, ◌+◌, ◌-◌, ◌<◌, ◌≤◌, ℕ, Bool, true, false, ◌&&◌, ◌||◌, not, nat_eq, List, [], ◌∷◌, ◌++◌, length, drop, take, codes, decimal, Option, Ok, Err, if◌then◌else◌}
+use Rattle.std.specs.Prelude.{◌≡◌, ◌⊎◌, ◌+◌, ◌-◌, ◌<◌, ◌≤◌, ℕ, Bool, true, false, ◌&&◌, ◌||◌, not, nat_eq, List, [], ◌∷◌, ◌++◌, length, drop, take, codes, decimal, Ok, Err, if◌then◌else◌}
 use Rattle.std.specs.declared.result.Result.{Result}
 use Rattle.tt_sgf.specs.declared.trees.TheConstants.{MAX_BYTES}
 use Rattle.tt_sgf.specs.Bytes.{space}
 use Rattle.tt_sgf.specs.declared.nodes.Node.{Node}
 use Rattle.tt_sgf.specs.Grammar.{GameTree, HasNoTree, HasOpen, FirstTreeEndsAt, main_line}
 use Rattle.tt_game.specs.declared.faults.GameFault.{GameFault}
-use Rattle.tt_game.specs.declared.turns.Turn.{Turn}
 use Rattle.tt_game.specs.Line.{LineWithUndo}
 use Rattle.tt_game.specs.Problems.{problem_of}
 use Rattle.tt_sgf.specs.Values.{trimmed}
 use Rattle.tsumego_show.specs.declared.form.Form.{Form}
 use Rattle.tsumego_show.specs.declared.form.Form.TheVariants.{Picture, Diagram, Marks, Variations}
-use Rattle.tsumego_show.specs.Diagram.{IsNumbered, svg_text}
+use Rattle.tsumego_show.specs.Diagram.{svg_text}
 use Rattle.tsumego_show.specs.Drawing.{DrawsCertificate}
 use Rattle.tsumego_show.specs.Found.{Found, StandsBehind}
 use Rattle.tsumego_show.specs.Hints.{hints}
 use Rattle.tsumego_show.specs.Marking.{is_left, line_marked}
 use Rattle.tsumego_show.specs.Picture.{picture}
 use Rattle.tsumego_show.specs.Refusals.{fault_text, too_long_text, no_tree_text}
+use Rattle.tsumego_show.specs.Solution.{solution}
 use Rattle.tsumego_show.specs.TreeBytes.{from_open, is_nil, kept_text}
 use Rattle.tsumego_show.specs.Variations.{sgf_text}
 
@@ -39,7 +39,7 @@ one_of_several_line k = decimal k ++ codes " not drawn: give each problem a file
 -- the diagram of a problem that is alone, with the strategy that stands behind it
 abbrev pub IsDiagram : Bool → ℕ → LineWithUndo → List ℕ → List ℕ → Type 0
 IsDiagram false k p behind text = text ≡ one_of_several_line k
-IsDiagram true k p behind text = (b : Found) × (first : Option Turn) × StandsBehind p.frame.size behind b × IsNumbered p b first × (text ≡ svg_text p first)
+IsDiagram true k p behind text = (b : Found) × StandsBehind p.frame.size behind b × (text ≡ svg_text p (solution p b))
 
 -- what is said where no strategy stands behind a problem
 abbrev pub without_strategy : List ℕ → List ℕ

@@ -66,7 +66,7 @@ module _ (p : LineWithUndo) where
   is_listed Blacks q = is_stone Black q
   is_listed Whites q = is_stone White q
   is_listed Triangles q = is_target p q
-  is_listed Squares q = has_square p None q
+  is_listed Squares q = has_square p [] q
 
   unfoldable pub listed_value : PointList → ℕ → List ℕ
   listed_value points q = if is_listed points q then bracketed (turn_text p.frame.size (Play q)) else []

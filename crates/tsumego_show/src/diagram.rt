@@ -1,23 +1,19 @@
 //! The diagram of a problem as SVG.
-ghost use Rattle.std.specs.Prelude.{◌≡◌, ◌++◌, ◌<◌, ◌≤◌, IfSome, OnOk, Some};
+ghost use Rattle.std.specs.Prelude.{◌≡◌, ◌++◌, ◌<◌, ◌≤◌, OnOk};
 ghost use Rattle.std.specs.List.{flat_map, range_with_len};
 ghost use Rattle.tt_sgf.specs.Sizes.{point_count};
 ghost use Rattle.tt_board.specs.Reach.{entry_at};
-ghost use Rattle.tt_proof.specs.Strategy.{IsInOrder, strategy_of};
-ghost use Rattle.tsumego_show.specs.inside.Trees.{found_of};
 ghost use Rattle.tsumego_show.specs.inside.Windows.{IsWindow};
-ghost use Rattle.tsumego_show.specs.Diagram.{bottom_end, caption, cell_shapes, centre, column_shapes, column_stroke, columns_shown, digit_text, entry_text, numbered_text, IsNumbered, further, has_square, fill_colour, is_play_on};
-ghost use Rattle.tsumego_show.specs.Diagram.{mark_ground, mark_colour, mark_text, number_end, number_head, numbered_stone, point_shapes, points_shapes, right_end, row_shapes, row_stroke, rows_shown, square_text, stone_head, stone_text};
+ghost use Rattle.tsumego_show.specs.Diagram.{bottom_end, caption, cell_shapes, centre, column_shapes, colour_of, column_stroke, columns_shown, digits_text, entry_text, numbered_text, further, has_square, fill_colour};
+ghost use Rattle.tsumego_show.specs.Diagram.{mark_ground, mark_colour, mark_text, number_end, number_head, number_in, numbered_stone, point_shapes, points_shapes, right_end, row_shapes, row_stroke, rows_shown, square_text, stone_head, stone_text};
 ghost use Rattle.tsumego_show.specs.Diagram.{svg_head, svg_text, triangle_head, triangle_text};
 
-use crate::first_turn::first_turn;
 use crate::picture::{colour_name, editor_column_letter, side_colour};
 use crate::points::{is_inside, is_target, point_numbered};
 use crate::windows::{Window, number_at, window_of};
 use std::alloc::Global;
 use tt_board::Colour;
-use tt_game::{Line, Side, Turn};
-use tt_proof::Tree;
+use tt_game::Line;
 use tt_sgf::{NoMemory, Size};
 
 /// The word for a colour.
@@ -139,74 +135,71 @@ fn put_number_head(alloc: Global, out: &mut Vec<u8>, x: usize, below: usize) -> 
     Ok(())
 }
 
-/// Writes the end of the number 1 behind the text.
+/// Writes the end of a number behind the text.
 #[tactic(auto, unfolding(crate::specs::Diagram::number_end))]
-fn put_number_end(out: &mut Vec<u8>) -> Result<(), NoMemory>
-    ensures { OnOk result (out.new.items ≡ out.old.items ++ number_end) }
+fn put_number_end(alloc: Global, out: &mut Vec<u8>, n: usize) -> Result<(), NoMemory>
+    ensures { OnOk result (out.new.items ≡ out.old.items ++ number_end n) }
 {
-    out.extend_from_slice(b"'>1</text>\n")?;
+    let text = format!(in alloc; "'>{n}</text>\n")?;
+    out.extend_from_slice(text.as_bytes())?;
     Ok(())
 }
 
-/// Writes the number 1 on a stone behind the text.
-#[tactic(auto, unfolding(crate::specs::Diagram::digit_text))]
-fn put_digit(
+/// Writes a number on a stone behind the text.
+#[tactic(auto, unfolding(crate::specs::Diagram::digits_text))]
+fn put_digits(
     alloc: Global,
     out: &mut Vec<u8>,
     x: usize,
     below: usize,
     colour: Colour,
+    n: usize,
 ) -> Result<(), NoMemory>
-    ensures { OnOk result (out.new.items ≡ out.old.items ++ digit_text x below colour) }
+    ensures { OnOk result (out.new.items ≡ out.old.items ++ digits_text x below colour n) }
 {
     let word = mark_colour(Some(colour));
     put_number_head(alloc, out, x, below)?;
     out.extend_from_slice(word)?;
-    put_number_end(out)
+    put_number_end(alloc, out, n)
 }
 
-/// Writes a stone with the number 1 behind the text.
+/// Writes a stone with a number behind the text.
 fn put_number(
     alloc: Global,
     out: &mut Vec<u8>,
     x: usize,
     y: usize,
     colour: Colour,
+    n: usize,
 ) -> Result<(), NoMemory>
     requires { y ≤ 1000 }
-    ensures { OnOk result (out.new.items ≡ out.old.items ++ numbered_stone x y colour) }
+    ensures { OnOk result (out.new.items ≡ out.old.items ++ numbered_stone x y colour n) }
 {
     put_stone(alloc, out, x, y, colour)?;
-    put_digit(alloc, out, x, y + 5, colour)
+    put_digits(alloc, out, x, y + 5, colour, n)
 }
 
-/// Whether a turn is a play on the point of this number.
-fn is_on(turn: Turn, number: usize) -> bool
-    ensures { result ≡ is_play_on (Some turn) number }
+/// The number of a point in a line of plays, if it is one of them.
+fn number_in(plays: &[usize], point: usize) -> Option<usize>
+    ensures { result ≡ number_in 1 plays.now point }
 {
-    match turn {
-        Turn::Pass => false,
-        Turn::Play(point) => usize::from(point.number()) == number,
+    let mut n = 0;
+    while n < plays.len() {
+        if plays[n] == point {
+            return Some(n + 1);
+        }
+        n += 1;
     }
-}
-
-/// Whether there is a turn, and it is a play on the point of this number.
-fn is_play_on(first: &Option<Turn>, number: usize) -> bool
-    ensures { result ≡ is_play_on first.now number }
-{
-    match first {
-        None => false,
-        Some(turn) => is_on(*turn, number),
-    }
+    None
 }
 
 /// Whether a square is drawn on the point of this number.
-pub fn has_square(line: &Line, first: &Option<Turn>, number: usize) -> bool
+pub fn has_square(line: &Line, plays: &[usize], number: usize) -> bool
     requires { number < point_count line.now.frame.size }
-    ensures { result ≡ has_square line.now first.now number }
+    ensures { result ≡ has_square line.now plays.now number }
 {
     let is_whole = usize::from(line.frame().region.count()) == line.frame().size.point_count();
-    is_inside(line, number) && (!is_play_on(first, number) && !is_whole)
+    is_inside(line, number) && (number_in(plays, number).is_none() && !is_whole)
 }
 
 /// What stands on the point of this number.
@@ -238,7 +231,7 @@ fn put_mark(
     alloc: Global,
     out: &mut Vec<u8>,
     line: &Line,
-    first: &Option<Turn>,
+    plays: &[usize],
     x: usize,
     y: usize,
     number: usize,
@@ -246,34 +239,41 @@ fn put_mark(
     requires x { 36 ≤ x }
     requires y { 36 ≤ y }
     requires on_board { number < point_count line.now.frame.size }
-    ensures { OnOk result (out.new.items ≡ out.old.items ++ mark_text line.now first.now x y number) }
+    ensures { OnOk result (out.new.items ≡ out.old.items ++ mark_text line.now plays.now x y number) }
 {
     if is_target(line, number) {
         return put_triangle(alloc, out, x, y, entry(line, number));
     }
-    if has_square(line, first, number) {
+    if has_square(line, plays, number) {
         return put_square(alloc, out, x, y, entry(line, number));
     }
     Ok(())
 }
 
-/// Writes the number on a point behind the text, where the first turn is a play on it.
-fn put_first_turn(
+/// The colour of a number: the side to move has the odd ones.
+fn colour_of(line: &Line, n: usize) -> Colour
+    ensures { result ≡ colour_of line.now n }
+{
+    let mover = line.to_move();
+    side_colour(line, if n % 2 == 1 { mover } else { mover.opponent() })
+}
+
+/// Writes the number on a point behind the text, where it has one.
+fn put_numbered(
     alloc: Global,
     out: &mut Vec<u8>,
     line: &Line,
-    first: &Option<Turn>,
     x: usize,
     y: usize,
-    number: usize,
+    number: Option<usize>,
 ) -> Result<(), NoMemory>
     requires { y ≤ 1000 }
-    ensures { OnOk result (out.new.items ≡ out.old.items ++ numbered_text line.now first.now x y number) }
+    ensures { OnOk result (out.new.items ≡ out.old.items ++ numbered_text line.now x y number) }
 {
-    if is_play_on(first, number) {
-        return put_number(alloc, out, x, y, side_colour(line, line.to_move()));
+    match number {
+        None => Ok(()),
+        Some(n) => put_number(alloc, out, x, y, colour_of(line, n), n),
     }
-    Ok(())
 }
 
 /// Writes the shapes on a point behind the text.
@@ -282,7 +282,7 @@ fn put_point(
     alloc: Global,
     out: &mut Vec<u8>,
     line: &Line,
-    first: &Option<Turn>,
+    plays: &[usize],
     x: usize,
     y: usize,
     number: usize,
@@ -290,11 +290,11 @@ fn put_point(
     requires x { 36 ≤ x }
     requires y { (36 ≤ y) × (y ≤ 1000) }
     requires on_board { number < point_count line.now.frame.size }
-    ensures { OnOk result (out.new.items ≡ out.old.items ++ point_shapes line.now first.now x y number) }
+    ensures { OnOk result (out.new.items ≡ out.old.items ++ point_shapes line.now plays.now x y number) }
 {
     put_entry(alloc, out, x, y, entry(line, number))?;
-    put_mark(alloc, out, line, first, x, y, number)?;
-    put_first_turn(alloc, out, line, first, x, y, number)
+    put_mark(alloc, out, line, plays, x, y, number)?;
+    put_numbered(alloc, out, line, x, y, number_in(plays, number))
 }
 
 /// Half a cell, where the board goes on.
@@ -415,7 +415,7 @@ fn put_cell(
     alloc: Global,
     out: &mut Vec<u8>,
     line: &Line,
-    first: &Option<Turn>,
+    plays: &[usize],
     w: Window,
     j: usize,
     i: usize,
@@ -423,10 +423,10 @@ fn put_cell(
     requires window { IsWindow line.now.frame.size w }
     requires row { j < rows_shown w }
     requires column { i < columns_shown w }
-    ensures { OnOk result (out.new.items ≡ out.old.items ++ cell_shapes line.now first.now w j i) }
+    ensures { OnOk result (out.new.items ≡ out.old.items ++ cell_shapes line.now plays.now w j i) }
 {
     let number = number_at(line.frame().size, w.top + j, w.left + i);
-    put_point(alloc, out, line, first, 24 * i + 36, 24 * j + 36, number)
+    put_point(alloc, out, line, plays, 24 * i + 36, 24 * j + 36, number)
 }
 
 /// Writes the shapes on the points of a row of the window behind the text.
@@ -435,16 +435,16 @@ fn put_points(
     alloc: Global,
     out: &mut Vec<u8>,
     line: &Line,
-    first: &Option<Turn>,
+    plays: &[usize],
     w: Window,
     j: usize,
 ) -> Result<(), NoMemory>
     requires window { IsWindow line.now.frame.size w }
     requires row { j < rows_shown w }
-    ensures { OnOk result (out.new.items ≡ out.old.items ++ points_shapes line.now first.now w j) }
+    ensures { OnOk result (out.new.items ≡ out.old.items ++ points_shapes line.now plays.now w j) }
 {
     for i in 0..w.right + 1 - w.left {
-        put_cell(alloc, out, line, first, w, j, i)?;
+        put_cell(alloc, out, line, plays, w, j, i)?;
     }
     Ok(())
 }
@@ -479,14 +479,14 @@ fn put_all_points(
     alloc: Global,
     out: &mut Vec<u8>,
     line: &Line,
-    first: &Option<Turn>,
+    plays: &[usize],
     w: Window,
 ) -> Result<(), NoMemory>
     requires window { IsWindow line.now.frame.size w }
-    ensures { OnOk result (out.new.items ≡ out.old.items ++ flat_map (points_shapes line.now first.now w) (range_with_len 0 (rows_shown w))) }
+    ensures { OnOk result (out.new.items ≡ out.old.items ++ flat_map (points_shapes line.now plays.now w) (range_with_len 0 (rows_shown w))) }
 {
     for j in 0..w.bottom + 1 - w.top {
-        put_points(alloc, out, line, first, w, j)?;
+        put_points(alloc, out, line, plays, w, j)?;
     }
     Ok(())
 }
@@ -527,27 +527,16 @@ fn put_caption(alloc: Global, out: &mut Vec<u8>, line: &Line, w: Window) -> Resu
     Ok(())
 }
 
-/// The turn that gets the number: the first of the strategy that was found, where its side is to move and the turn is legal.
-pub fn numbered_turn(line: &Line, found: &Option<(Side, Tree)>) -> Option<Turn>
-    requires { IfSome found.now (λ f. IsInOrder line.now.frame.size (strategy_of f.1)) }
-    ensures { IsNumbered line.now (found_of found.now) result }
-{
-    match found {
-        None => None,
-        Some((side, tree)) => first_turn(line, *side, tree),
-    }
-}
-
 /// Writes the diagram of the problem at a line as SVG behind the text: what matters of the board, with the coordinates of editors,
-/// the targets and the region marked, and the first turn, where it is a play, as a stone with the number 1; below, who moves.
+/// the targets and the region marked, and these plays as stones with the numbers 1, 2, 3 and so on; below, who moves.
 /// `NoMemory` where memory was refused; a part may stand there then.
 pub fn put_svg(
     alloc: Global,
     out: &mut Vec<u8>,
     line: &Line,
-    first: &Option<Turn>,
+    plays: &[usize],
 ) -> Result<(), NoMemory>
-    ensures { OnOk result (out.new.items ≡ out.old.items ++ svg_text line.now first.now) }
+    ensures { OnOk result (out.new.items ≡ out.old.items ++ svg_text line.now plays.now) }
 {
     let size = line.frame().size;
     let w = window_of(line);
@@ -555,7 +544,7 @@ pub fn put_svg(
     put_head(alloc, out, 2 * centre(size, w), height)?;
     put_columns(alloc, out, size, w)?;
     put_rows(alloc, out, size, w)?;
-    put_all_points(alloc, out, line, first, w)?;
+    put_all_points(alloc, out, line, plays, w)?;
     put_caption(alloc, out, line, w)?;
     out.extend_from_slice(b"</svg>\n")?;
     Ok(())

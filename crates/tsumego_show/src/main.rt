@@ -21,6 +21,7 @@ mod refusals;
 mod regions;
 mod running;
 mod showing;
+mod solution;
 mod tree_bytes;
 mod unfolding;
 mod variations;

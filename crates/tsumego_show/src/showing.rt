@@ -4,7 +4,7 @@ ghost use Rattle.tt_game.specs.Problems.{problem_of};
 ghost use Rattle.tsumego_show.specs.declared.form.Form.TheVariants.{Picture, Variations};
 ghost use Rattle.tsumego_show.specs.Shown.{DrawsBehind, IsDiagram, IsProblemText, IsShown, IsTreeText, fault_told, is_alone, is_fault_left, is_one_of_several, is_tree_refused, problem_text, one_of_several_line, without_strategy};
 
-use crate::diagram::{numbered_turn, put_svg};
+use crate::diagram::put_svg;
 use crate::drawing::put_certificate;
 use crate::form::Form;
 use crate::found::find;
@@ -12,6 +12,7 @@ use crate::hints::put_hints;
 use crate::marking::put_line;
 use crate::picture::put_picture;
 use crate::refusals::{put_fault, put_length, put_no_tree};
+use crate::solution::solution;
 use crate::tree_bytes::{has_none, put_kept};
 use crate::variations::put_sgf;
 use std::alloc::Global;
@@ -68,14 +69,14 @@ fn put_several(alloc: Global, out: &mut Vec<u8>, number: usize) -> Result<(), No
     Ok(())
 }
 
-/// Writes a problem, with the first turn of the strategy behind it, as a diagram behind the text.
+/// Writes a problem, with the solution of the strategy behind it, as a diagram behind the text.
 fn put_alone(alloc: Global, out: &mut Vec<u8>, line: &Line, behind: &[u8]) -> Result<(), NoMemory>
     ensures { (k : ℕ) → OnOk result ((text : List ℕ) × IsDiagram true k line.now behind.now text
         × (out.new.items ≡ out.old.items ++ text)) }
 {
     let found = find(alloc, line.frame().size, behind)?;
-    let first = numbered_turn(line, &found);
-    put_svg(alloc, out, line, &first)
+    let plays = solution(alloc, line, &found)?;
+    put_svg(alloc, out, line, plays.as_slice())
 }
 
 /// Writes the diagram of a problem behind the text, or that it isn't drawn.

@@ -59,7 +59,7 @@ fn is_listed(line: &Line, points: PointList, number: usize) -> bool
         PointList::Blacks => is_stone(line, number, Colour::Black),
         PointList::Whites => is_stone(line, number, Colour::White),
         PointList::Triangles => is_target(line, number),
-        PointList::Squares => has_square(line, &None, number),
+        PointList::Squares => has_square(line, &[], number),
     }
 }
 
