@@ -1,6 +1,7 @@
 -- What is drawn or written of a strategy that was found.
 use Rattle.std.proofs.Common.{◌≡◌, ℕ, true, false, List, ◌++◌, Option, refl, ap, subst, Ok, Err, OnOk}
 use Rattle.std.specs.declared.result.Result.{Result}
+use Rattle.tt_sgf.specs.declared.nodes.Node.{Node}
 use Rattle.tt_game.specs.declared.frame.Frame.{Frame}
 use Rattle.tt_game.specs.Line.{LineWithUndo}
 use Rattle.tsumego_show.specs.declared.form.Form.TheVariants.{Marks, Variations}
@@ -21,9 +22,9 @@ found_drawn (Err y) p f behind old new plays b same h is w k = w
 
 pub found_written : {A E : Type 0} (r : Result A E) (p : LineWithUndo) (f : Frame) (behind old new : List ℕ) (b : Found) → f ≡ p.frame → StandsBehind f.size behind b
     → (depth : ℕ) → OnOk r (new ≡ old ++ sgf_text p depth (without_strategy behind) b)
-    → (k : ℕ) (tree : List ℕ) → OnOk r ((x : List ℕ) × IsProblemText (Variations depth) k tree p behind x × (new ≡ old ++ x))
-found_written (Ok y) p f behind old new b same h depth w k tree = (sgf_text p depth (without_strategy behind) b, (b, subst (λ (g : Frame). StandsBehind g.size behind b) same h, refl), w)
-found_written (Err y) p f behind old new b same h depth w k tree = w
+    → (k : ℕ) (tree : List ℕ) (ns : List Node) → OnOk r ((x : List ℕ) × IsProblemText (Variations depth) k tree ns p behind x × (new ≡ old ++ x))
+found_written (Ok y) p f behind old new b same h depth w k tree ns = (sgf_text p depth (without_strategy behind) b, (b, subst (λ (g : Frame). StandsBehind g.size behind b) same h, refl), w)
+found_written (Err y) p f behind old new b same h depth w k tree ns = w
 
 -- or that it isn't
 pub several_said : {A E : Type 0} (r : Result A E) (k : ℕ) (p : LineWithUndo) (behind old new : List ℕ) → OnOk r (new ≡ old ++ one_of_several_line k)
@@ -33,6 +34,6 @@ several_said (Err y) k p behind old new w = w
 
 -- and a tree as it was
 pub kept_drawn : {A E : Type 0} (r : Result A E) (tree : List ℕ) (p : LineWithUndo) (old new : List ℕ) → OnOk r (new ≡ old ++ kept_text tree)
-    → (place : Option Place) (k : ℕ) (behind : List ℕ) → OnOk r ((x : List ℕ) × IsProblemText (Marks place) k tree p behind x × (new ≡ old ++ x))
-kept_drawn (Ok y) tree p old new w place k behind = (kept_text tree, refl, w)
-kept_drawn (Err y) tree p old new w place k behind = w
+    → (place : Option Place) (k : ℕ) (ns : List Node) (behind : List ℕ) → OnOk r ((x : List ℕ) × IsProblemText (Marks place) k tree ns p behind x × (new ≡ old ++ x))
+kept_drawn (Ok y) tree p old new w place k ns behind = (kept_text tree, refl, w)
+kept_drawn (Err y) tree p old new w place k ns behind = w

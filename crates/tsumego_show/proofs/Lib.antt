@@ -16,3 +16,4 @@ pub mod FoundDrawn
 pub mod LegalTurns
 pub mod FirstAndLast
 pub mod FullestLines
+pub mod Said

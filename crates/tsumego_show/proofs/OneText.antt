@@ -73,16 +73,18 @@ module _ (one : OneSharedCertificate) where
   diagram_same false k p behind s t a b = a ∙ sym b
 
   -- and so has a problem
-  problem_text_same : (form : Form) (k : ℕ) (its : List ℕ) (p : LineWithUndo) (behind s t : List ℕ) → IsProblemText form k its p behind s → IsProblemText form k its p behind t → s ≡ t
-  problem_text_same Picture k its p behind s t a b = a.2 ∙ ap (λ (x : List ℕ). problem_text k p ++ x) (behind_same p behind a.0 b.0 a.1 b.1) ∙ sym b.2
-  problem_text_same Diagram k its p behind s t a b = diagram_same (is_alone k behind) k p behind s t a b
-  problem_text_same (Marks place) k its p behind s t a b = a ∙ sym b
-  problem_text_same (Variations depth) k its p behind s t a b = a.2 ∙ ap (λ (x : Found). sgf_text p depth (without_strategy behind) x) (found_same p.frame.size behind a.0 b.0 a.1 b.1) ∙ sym b.2
+  problem_text_same : (form : Form) (k : ℕ) (its : List ℕ) (ns : List Node) (p : LineWithUndo) (behind s t : List ℕ)
+      → IsProblemText form k its ns p behind s → IsProblemText form k its ns p behind t → s ≡ t
+  problem_text_same Picture k its ns p behind s t a b = a.2 ∙ ap (λ (x : List ℕ). problem_text k ns p ++ x) (behind_same p behind a.0 b.0 a.1 b.1) ∙ sym b.2
+  problem_text_same Diagram k its ns p behind s t a b = diagram_same (is_alone k behind) k p behind s t a b
+  problem_text_same (Marks place) k its ns p behind s t a b = a ∙ sym b
+  problem_text_same (Variations depth) k its ns p behind s t a b =
+      a.2 ∙ ap (λ (x : Found). sgf_text p depth (without_strategy behind) x) (found_same p.frame.size behind a.0 b.0 a.1 b.1) ∙ sym b.2
 
   -- and a tree
   tree_text_same : (form : Form) (k : ℕ) (its : List ℕ) (ns : List Node) (r : Result LineWithUndo GameFault) (behind s t : List ℕ)
       → IsTreeText form k its ns r behind s → IsTreeText form k its ns r behind t → s ≡ t
-  tree_text_same form k its ns (Ok p) behind s t a b = problem_text_same form k its p behind s t a b
+  tree_text_same form k its ns (Ok p) behind s t a b = problem_text_same form k its ns p behind s t a b
   tree_text_same form k its ns (Err e) behind s t a b = a ∙ sym b
 
   module _ (reading : IsUnambiguous) where

@@ -119,8 +119,8 @@ behind_last (Ok y) p behind bytes old new none is w = (w.0, last_tree w.0 none (
 behind_last (Err y) p behind bytes old new none is w = w
 
 -- a problem and what is drawn behind it
-pub problem_behind : {A E : Type 0} (r : Result A E) (k : ℕ) (p : LineWithUndo) (behind old mid new : List ℕ) → mid ≡ old ++ problem_text k p
-    → OnOk r ((x : List ℕ) × DrawsBehind p behind x × (new ≡ mid ++ x)) → OnOk r ((x : List ℕ) × IsProblemText Picture k [] p behind x × (new ≡ old ++ x))
-problem_behind (Ok y) k p behind old mid new e w =
-    (problem_text k p ++ w.0, (w.0, w.1, refl), w.2 ∙ ap (λ (x : List ℕ). x ++ w.0) e ∙ append_assoc old (problem_text k p) w.0)
-problem_behind (Err y) k p behind old mid new e w = w
+pub problem_behind : {A E : Type 0} (r : Result A E) (k : ℕ) (ns : List Node) (p : LineWithUndo) (behind old mid new : List ℕ) → mid ≡ old ++ problem_text k ns p
+    → OnOk r ((x : List ℕ) × DrawsBehind p behind x × (new ≡ mid ++ x)) → OnOk r ((x : List ℕ) × IsProblemText Picture k [] ns p behind x × (new ≡ old ++ x))
+problem_behind (Ok y) k ns p behind old mid new e w =
+    (problem_text k ns p ++ w.0, (w.0, w.1, refl), w.2 ∙ ap (λ (x : List ℕ). x ++ w.0) e ∙ append_assoc old (problem_text k ns p) w.0)
+problem_behind (Err y) k ns p behind old mid new e w = w

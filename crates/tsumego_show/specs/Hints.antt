@@ -1,15 +1,17 @@
--- What is likely marked wrong in a problem: points that nobody can fill, stones that can be taken where nobody can play again, stones
--- that nobody marked, and a region that is too wide.
-use Rattle.std.specs.Prelude.{ℕ, ◌/◌, ◌%◌, ◌&&◌, nat_eq, nat_lt, Bool, List, [], ◌∷◌, ◌++◌, codes, decimal, if◌then◌else◌}
+-- What is likely wrong in a problem: that nobody says who moves, points that nobody can fill, stones that can be taken where nobody can
+-- play again, stones that nobody marked, and a region that is too wide.
+use Rattle.std.specs.Prelude.{ℕ, ◌/◌, ◌%◌, ◌&&◌, ◌||◌, nat_eq, nat_lt, Bool, false, List, [], ◌∷◌, ◌++◌, codes, decimal, if◌then◌else◌}
 use Rattle.std.specs.List.{flat_map, range_with_len}
 use Rattle.std.specs.FinSet as set
 use Rattle.tt_sgf.specs.Bytes.{newline, space}
+use Rattle.tt_sgf.specs.declared.nodes.Node.{Node}
 use Rattle.tt_sgf.specs.declared.size.Size.{Size}
 use Rattle.tt_sgf.specs.Sizes.{point_count}
 use Rattle.tt_board.specs.Play.{other}
 use Rattle.tt_board.specs.Stones.{Points}
 use Rattle.tt_game.specs.declared.turns.Turn.TheVariants.{Play}
 use Rattle.tt_game.specs.Line.{LineWithUndo}
+use Rattle.tt_game.specs.Nodes.{B, PL, TR, W, has, is_setup}
 use Rattle.tt_proof.specs.CertificateText.{turn_text}
 use Rattle.tsumego_show.specs.Picture.{editor_column_letter, row_number}
 use Rattle.tsumego_show.specs.Regions.{empties, near, reached, stones, untaken}
@@ -105,3 +107,18 @@ module _ (p : LineWithUndo) where
 
   abbrev pub hints : List ℕ
   hints = leaks_line ++ (takeables_line ++ (strangers_line ++ wide_line))
+
+-- ---- who moves
+
+-- whether it is said behind a node who moves: a setup says it by PL, and a move says it; behind other nodes it is as before
+abbrev pub is_said_behind : Bool → Node → Bool
+is_said_behind before n = if is_setup n then has PL n else (has B n || (has W n || before))
+
+-- and at the first of these nodes that has TR, where the problem stands
+unfoldable pub is_mover_said : Bool → List Node → Bool
+is_mover_said before [] = before
+is_mover_said before (n ∷ ns) = if has TR n then is_said_behind before n else is_mover_said (is_said_behind before n) ns
+
+-- where nobody says who moves, Black does
+abbrev pub mover_line : List Node → List ℕ
+mover_line ns = if is_mover_said false ns then [] else codes "hint: the setup has no PL, so Black is to move" ++ newline ∷ []

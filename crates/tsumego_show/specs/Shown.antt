@@ -14,7 +14,7 @@ use Rattle.tsumego_show.specs.declared.form.Form.TheVariants.{Picture, Diagram, 
 use Rattle.tsumego_show.specs.Diagram.{svg_text}
 use Rattle.tsumego_show.specs.Drawing.{DrawsCertificate}
 use Rattle.tsumego_show.specs.Found.{Found, StandsBehind}
-use Rattle.tsumego_show.specs.Hints.{hints}
+use Rattle.tsumego_show.specs.Hints.{hints, mover_line}
 use Rattle.tsumego_show.specs.Marking.{is_left, line_marked}
 use Rattle.tsumego_show.specs.Picture.{picture}
 use Rattle.tsumego_show.specs.Refusals.{fault_text, too_long_text, no_tree_text}
@@ -47,16 +47,16 @@ without_strategy behind =
     if is_nil (from_open behind) && not (is_nil (trimmed behind)) then codes "what follows is no certificate" else codes "no certificate follows"
 
 -- the number, the picture and the hints
-abbrev pub problem_text : ℕ → LineWithUndo → List ℕ
-problem_text k p = decimal k ++ (space ∷ (picture p ++ hints p))
+abbrev pub problem_text : ℕ → List Node → LineWithUndo → List ℕ
+problem_text k ns p = decimal k ++ (space ∷ (picture p ++ (mover_line ns ++ hints p)))
 
--- the text on tree number k with these bytes, which is this problem and is followed by the others: the picture with what follows it;
+-- the text on tree number k with these bytes, whose main line is this problem and which is followed by the others: the picture with what follows it;
 -- or the diagram or the game tree with the strategy that stands there; or the tree as it was, since it has its marks
-abbrev pub IsProblemText : Form → ℕ → List ℕ → LineWithUndo → List ℕ → List ℕ → Type 0
-IsProblemText Picture k tree p behind text = (drawn : List ℕ) × DrawsBehind p behind drawn × (text ≡ problem_text k p ++ drawn)
-IsProblemText Diagram k tree p behind text = IsDiagram (is_alone k behind) k p behind text
-IsProblemText (Variations depth) k tree p behind text = (b : Found) × StandsBehind p.frame.size behind b × (text ≡ sgf_text p depth (without_strategy behind) b)
-IsProblemText (Marks place) k tree p behind text = text ≡ kept_text tree
+abbrev pub IsProblemText : Form → ℕ → List ℕ → List Node → LineWithUndo → List ℕ → List ℕ → Type 0
+IsProblemText Picture k tree ns p behind text = (drawn : List ℕ) × DrawsBehind p behind drawn × (text ≡ problem_text k ns p ++ drawn)
+IsProblemText Diagram k tree ns p behind text = IsDiagram (is_alone k behind) k p behind text
+IsProblemText (Variations depth) k tree ns p behind text = (b : Found) × StandsBehind p.frame.size behind b × (text ≡ sgf_text p depth (without_strategy behind) b)
+IsProblemText (Marks place) k tree ns p behind text = text ≡ kept_text tree
 
 -- the text on tree number k with these bytes, whose main line is no problem, and whether it is refused: where marks are wanted and it has none, they may be proposed
 abbrev pub fault_told : Form → ℕ → List ℕ → List Node → GameFault → List ℕ
@@ -73,7 +73,7 @@ is_fault_left (Marks place) ns = is_left place ns
 
 -- the text on tree number k with these bytes, whose main line is a problem or refused, and which is followed by the others
 abbrev pub IsTreeText : Form → ℕ → List ℕ → List Node → Result LineWithUndo GameFault → List ℕ → List ℕ → Type 0
-IsTreeText form k tree ns (Ok p) behind text = IsProblemText form k tree p behind text
+IsTreeText form k tree ns (Ok p) behind text = IsProblemText form k tree ns p behind text
 IsTreeText form k tree ns (Err e) behind text = text ≡ fault_told form k tree ns e
 
 -- and whether it is refused

@@ -1,16 +1,18 @@
-//! Hints on what is likely marked wrong in a problem.
-ghost use Rattle.std.specs.Prelude.{◌≡◌, ◌<◌, ◌++◌, OnOk};
+//! Hints on what is likely wrong in a problem.
+ghost use Rattle.std.specs.Prelude.{◌≡◌, ◌<◌, ◌++◌, OnOk, false};
 ghost use Rattle.tt_sgf.specs.Sizes.{point_count};
-ghost use Rattle.tsumego_show.specs.Hints.{attackers, both_names, defenders, editor_name, enclosed, held_chains, hints, is_wide, leaks, leaks_line, listed, member_name, members_text, names_text, strangers};
+ghost use Rattle.tt_game.specs.Nodes.{is_setup};
+ghost use Rattle.tsumego_show.specs.Hints.{attackers, both_names, defenders, editor_name, enclosed, held_chains, hints, is_mover_said, is_said_behind, is_wide, leaks, leaks_line, listed, member_name, members_text, mover_line, names_text, strangers};
 ghost use Rattle.tsumego_show.specs.Hints.{strangers_line, takeables, takeables_line, target_chains, unfillables, wide_line};
 
+use crate::node_values::has;
 use crate::picture::editor_column_letter;
 use crate::points::point_numbered;
 use crate::regions::{empties, near, reached, stones, untaken};
 use std::alloc::Global;
 use tt_game::{Line, Turn};
 use tt_proof::put_turn;
-use tt_sgf::{NoMemory, PointSet, Size};
+use tt_sgf::{NoMemory, Node, PointSet, Size};
 
 /// The most points of a board that may well be a region as a whole.
 const MOST_POINTS: usize = 10;
@@ -251,4 +253,52 @@ pub fn put_hints(alloc: Global, out: &mut Vec<u8>, line: &Line) -> Result<(), No
     put_takeables(alloc, out, line)?;
     put_strangers(alloc, out, line)?;
     put_wide(out, line)
+}
+
+/// Whether a node sets up.
+fn is_setup(node: &Node) -> bool
+    ensures { result ≡ is_setup node.now }
+{
+    has(node, b"AB")
+        || has(node, b"AW")
+        || has(node, b"AE")
+        || (has(node, b"PL") && !(has(node, b"B") || has(node, b"W")))
+}
+
+/// Whether it is said behind a node who moves, where this says whether it was said before.
+fn is_said_behind(before: bool, node: &Node) -> bool
+    ensures { result ≡ is_said_behind before node.now }
+{
+    if is_setup(node) {
+        return has(node, b"PL");
+    }
+    has(node, b"B") || has(node, b"W") || before
+}
+
+/// Whether it is said who moves at the first of these nodes that has TR.
+#[tactic(auto, using(crate::proofs::Said::said_none, crate::proofs::Said::said_here, crate::proofs::Said::said_further))]
+fn is_mover_said(nodes: &[Node]) -> bool
+    ensures { result ≡ is_mover_said false nodes.now }
+{
+    let mut said = false;
+    let mut rest = nodes;
+    while let Some((node, behind)) = rest.split_first() {
+        said = is_said_behind(said, node);
+        if has(node, b"TR") {
+            return said;
+        }
+        rest = behind;
+    }
+    said
+}
+
+/// Writes the line on a main line in which nobody says who moves behind the text: neither PL beside the last setup nor a move
+/// behind it, up to the first node with TR. `NoMemory` where memory was refused; a part may stand there then.
+pub fn put_mover(out: &mut Vec<u8>, nodes: &[Node]) -> Result<(), NoMemory>
+    ensures { OnOk result (out.new.items ≡ out.old.items ++ mover_line nodes.now) }
+{
+    if !is_mover_said(nodes) {
+        out.extend_from_slice(b"hint: the setup has no PL, so Black is to move\n")?;
+    }
+    Ok(())
 }

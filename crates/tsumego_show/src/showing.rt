@@ -8,7 +8,7 @@ use crate::diagram::put_svg;
 use crate::drawing::put_certificate;
 use crate::form::Form;
 use crate::found::find;
-use crate::hints::put_hints;
+use crate::hints::{put_hints, put_mover};
 use crate::marking::put_line;
 use crate::picture::put_picture;
 use crate::refusals::{put_fault, put_length, put_no_tree};
@@ -17,7 +17,7 @@ use crate::tree_bytes::{has_none, put_kept};
 use crate::variations::put_sgf;
 use std::alloc::Global;
 use tt_game::{GameFault, Line, problem};
-use tt_sgf::{MainLine, NoMemory, SgfFault, has_tree, read_tree, trim};
+use tt_sgf::{MainLine, NoMemory, Node, SgfFault, has_tree, read_tree, trim};
 
 /// Writes the text on what follows a problem behind the text, where it is the last of an input.
 fn put_behind(alloc: Global, out: &mut Vec<u8>, line: &Line, behind: &[u8]) -> Result<(), NoMemory>
@@ -29,27 +29,35 @@ fn put_behind(alloc: Global, out: &mut Vec<u8>, line: &Line, behind: &[u8]) -> R
     put_certificate(alloc, out, line, trim(behind))
 }
 
-/// Writes a problem behind the text.
-fn put_problem(alloc: Global, out: &mut Vec<u8>, number: usize, line: &Line) -> Result<(), NoMemory>
-    ensures { OnOk result (out.new.items ≡ out.old.items ++ problem_text number line.now) }
+/// Writes the problem of these nodes behind the text.
+fn put_problem(
+    alloc: Global,
+    out: &mut Vec<u8>,
+    number: usize,
+    nodes: &[Node],
+    line: &Line,
+) -> Result<(), NoMemory>
+    ensures { OnOk result (out.new.items ≡ out.old.items ++ problem_text number nodes.now line.now) }
 {
     let text = format!(in alloc; "{number} ")?;
     out.extend_from_slice(text.as_bytes())?;
     put_picture(alloc, out, line)?;
+    put_mover(out, nodes)?;
     put_hints(alloc, out, line)
 }
 
-/// Writes a problem, and the strategy behind it, behind the text.
+/// Writes the problem of these nodes, and the strategy behind it, behind the text.
 fn put_drawn(
     alloc: Global,
     out: &mut Vec<u8>,
     number: usize,
+    nodes: &[Node],
     line: &Line,
     behind: &[u8],
 ) -> Result<(), NoMemory>
-    ensures { OnOk result ((text : List ℕ) × IsProblemText Picture number [] line.now behind.now text × (out.new.items ≡ out.old.items ++ text)) }
+    ensures { OnOk result ((text : List ℕ) × IsProblemText Picture number [] nodes.now line.now behind.now text × (out.new.items ≡ out.old.items ++ text)) }
 {
-    put_problem(alloc, out, number, line)?;
+    put_problem(alloc, out, number, nodes, line)?;
     put_behind(alloc, out, line, behind)
 }
 
@@ -115,27 +123,28 @@ fn put_variations(
     behind: &[u8],
     depth: usize,
 ) -> Result<(), NoMemory>
-    ensures { (k : ℕ) (tree : List ℕ) → OnOk result ((text : List ℕ) × IsProblemText (Variations depth) k tree line.old behind.now text
+    ensures { (k : ℕ) (tree : List ℕ) (ns : List Node) → OnOk result ((text : List ℕ) × IsProblemText (Variations depth) k tree ns line.old behind.now text
         × (out.new.items ≡ out.old.items ++ text)) }
 {
     let found = find(alloc, line.frame().size, behind)?;
     put_sgf(alloc, out, line, without_strategy(behind), &found, depth)
 }
 
-/// Writes the text on a problem, which these bytes follow, behind the text.
+/// Writes the text on the problem of these nodes, which these bytes follow, behind the text.
 fn put_whole(
     alloc: Global,
     out: &mut Vec<u8>,
     form: Form,
     number: usize,
     tree: &[u8],
+    nodes: &[Node],
     line: &mut Line,
     behind: &[u8],
 ) -> Result<(), NoMemory>
-    ensures { OnOk result ((text : List ℕ) × IsProblemText form number tree.now line.old behind.now text × (out.new.items ≡ out.old.items ++ text)) }
+    ensures { OnOk result ((text : List ℕ) × IsProblemText form number tree.now nodes.now line.old behind.now text × (out.new.items ≡ out.old.items ++ text)) }
 {
     match form {
-        Form::Picture => put_drawn(alloc, out, number, line, behind),
+        Form::Picture => put_drawn(alloc, out, number, nodes, line, behind),
         Form::Diagram => put_diagram(alloc, out, number, line, behind),
         Form::Variations(depth) => put_variations(alloc, out, line, behind, depth),
         Form::Marks(_) => put_kept(out, tree),
@@ -190,7 +199,8 @@ fn put_tree(
 {
     match problem(alloc, &main) {
         Ok(mut line) => {
-            put_whole(alloc, out, form, number, tree, &mut line, behind)?;
+            let nodes = main.nodes.as_slice();
+            put_whole(alloc, out, form, number, tree, nodes, &mut line, behind)?;
             Ok(is_one_of_several(form, number, behind))
         }
         Err(GameFault::NoMemory) => Err(NoMemory),
