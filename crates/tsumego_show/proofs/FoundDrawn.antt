@@ -8,9 +8,9 @@ use Rattle.tsumego_show.specs.declared.form.Form.TheVariants.{Marks, Variations}
 use Rattle.tsumego_show.specs.Diagram.{svg_text}
 use Rattle.tsumego_show.specs.Found.{Found, StandsBehind}
 use Rattle.tsumego_show.specs.declared.form.Place.{Place}
+use Rattle.tsumego_show.specs.Marking.{problem_kept}
 use Rattle.tsumego_show.specs.Shown.{IsDiagram, IsProblemText, one_of_several_line, without_strategy}
 use Rattle.tsumego_show.specs.Solution.{solution}
-use Rattle.tsumego_show.specs.TreeBytes.{kept_text}
 use Rattle.tsumego_show.specs.Variations.{sgf_text}
 
 pub found_drawn : {A E : Type 0} (r : Result A E) (p : LineWithUndo) (f : Frame) (behind old new plays : List ℕ) (b : Found) → f ≡ p.frame
@@ -33,7 +33,7 @@ several_said (Ok y) k p behind old new w = (one_of_several_line k, refl, w)
 several_said (Err y) k p behind old new w = w
 
 -- and a tree as it was
-pub kept_drawn : {A E : Type 0} (r : Result A E) (tree : List ℕ) (p : LineWithUndo) (old new : List ℕ) → OnOk r (new ≡ old ++ kept_text tree)
-    → (place : Option Place) (k : ℕ) (ns : List Node) (behind : List ℕ) → OnOk r ((x : List ℕ) × IsProblemText (Marks place) k tree ns p behind x × (new ≡ old ++ x))
-kept_drawn (Ok y) tree p old new w place k ns behind = (kept_text tree, refl, w)
-kept_drawn (Err y) tree p old new w place k ns behind = w
+pub kept_drawn : {A E : Type 0} (r : Result A E) (k : ℕ) (tree : List ℕ) (ns : List Node) (p : LineWithUndo) (old new : List ℕ) → OnOk r (new ≡ old ++ problem_kept k tree ns)
+    → (place : Option Place) (behind : List ℕ) → OnOk r ((x : List ℕ) × IsProblemText (Marks place) k tree ns p behind x × (new ≡ old ++ x))
+kept_drawn (Ok y) k tree ns p old new w place behind = (problem_kept k tree ns, refl, w)
+kept_drawn (Err y) k tree ns p old new w place behind = w

@@ -1,6 +1,6 @@
 -- The marks that are proposed for a problem without them, and what is written then.
 use Rattle.std.specs.Prelude.{ℕ, zero, suc, ◌+◌, ◌-◌, ◌*◌, ◌&&◌, ◌||◌, nat_lt, nat_le, Bool, true, false, if◌then◌else◌, Option, Some, None, Ok, Err}
-use Rattle.std.specs.Prelude.{List, [], ◌∷◌, ◌++◌, codes, drop, length, take, slice_get}
+use Rattle.std.specs.Prelude.{List, [], ◌∷◌, ◌++◌, codes, decimal, drop, length, take, slice_get}
 use Rattle.std.specs.List.{list_any}
 use Rattle.std.specs.declared.result.Result.{Result}
 use Rattle.std.specs.FinSet as set
@@ -166,3 +166,19 @@ is_game_left is_squared place (Err e) = true
 
 abbrev pub is_left : Option Place → List Node → Bool
 is_left place ns = if has_triangles ns then true else is_game_left (has_squares ns) place (game_of ns)
+
+-- ---- trees that are problems
+
+-- the number of the first node with triangles, where it has no squares; n nodes stand in front of these, and nodes count from 1
+unfoldable pub bare_node : ℕ → List Node → Option ℕ
+bare_node n [] = None
+bare_node n (m ∷ ms) = if has TR m then (if has SQ m then None else Some (n + 1)) else bare_node (n + 1) ms
+
+-- that squares are wanting there
+abbrev pub bare_line : ℕ → Option ℕ → List ℕ
+bare_line k None = []
+bare_line k (Some n) = decimal k ++ (codes " not marked: a triangle stands in node " ++ (decimal n ++ codes ", without squares: put SQ there, or take TR out\n"))
+
+-- what is written of tree number k with this main line, which is a problem
+abbrev pub problem_kept : ℕ → List ℕ → List Node → List ℕ
+problem_kept k tree ns = bare_line k (bare_node 0 ns) ++ kept_text tree

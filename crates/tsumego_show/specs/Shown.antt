@@ -15,11 +15,11 @@ use Rattle.tsumego_show.specs.Diagram.{svg_text}
 use Rattle.tsumego_show.specs.Drawing.{DrawsCertificate}
 use Rattle.tsumego_show.specs.Found.{Found, StandsBehind}
 use Rattle.tsumego_show.specs.Hints.{hints, mover_line}
-use Rattle.tsumego_show.specs.Marking.{is_left, line_marked}
+use Rattle.tsumego_show.specs.Marking.{is_left, line_marked, problem_kept}
 use Rattle.tsumego_show.specs.Picture.{picture}
 use Rattle.tsumego_show.specs.Refusals.{fault_text, too_long_text, no_tree_text}
 use Rattle.tsumego_show.specs.Solution.{solution}
-use Rattle.tsumego_show.specs.TreeBytes.{from_open, is_nil, kept_text}
+use Rattle.tsumego_show.specs.TreeBytes.{from_open, is_nil}
 use Rattle.tsumego_show.specs.Variations.{sgf_text}
 
 -- The text on what follows a problem: nothing where a tree may follow; else that on a certificate, without the white space
@@ -51,12 +51,12 @@ abbrev pub problem_text : ℕ → List Node → LineWithUndo → List ℕ
 problem_text k ns p = decimal k ++ (space ∷ (picture p ++ (mover_line ns ++ hints p)))
 
 -- the text on tree number k with these bytes, whose main line is this problem and which is followed by the others: the picture with what follows it;
--- or the diagram or the game tree with the strategy that stands there; or the tree as it was, since it has its marks
+-- or the diagram or the game tree with the strategy that stands there; or the tree as it was, since it has a mark
 abbrev pub IsProblemText : Form → ℕ → List ℕ → List Node → LineWithUndo → List ℕ → List ℕ → Type 0
 IsProblemText Picture k tree ns p behind text = (drawn : List ℕ) × DrawsBehind p behind drawn × (text ≡ problem_text k ns p ++ drawn)
 IsProblemText Diagram k tree ns p behind text = IsDiagram (is_alone k behind) k p behind text
 IsProblemText (Variations depth) k tree ns p behind text = (b : Found) × StandsBehind p.frame.size behind b × (text ≡ sgf_text p depth (without_strategy behind) b)
-IsProblemText (Marks place) k tree ns p behind text = text ≡ kept_text tree
+IsProblemText (Marks place) k tree ns p behind text = text ≡ problem_kept k tree ns
 
 -- the text on tree number k with these bytes, whose main line is no problem, and whether it is refused: where marks are wanted and it has none, they may be proposed
 abbrev pub fault_told : Form → ℕ → List ℕ → List Node → GameFault → List ℕ

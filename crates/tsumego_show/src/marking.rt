@@ -1,5 +1,5 @@
 //! Writes problems with the marks that are proposed for them.
-ghost use Rattle.std.specs.Prelude.{◌≡◌, ◌++◌, ◌-◌, ◌<◌, IfOk, IfSome, OnOk, false, length, slice_get};
+ghost use Rattle.std.specs.Prelude.{◌≡◌, ◌++◌, ◌-◌, ◌<◌, IfOk, IfSome, OnOk, Some, false, length, slice_get};
 ghost use Rattle.std.specs.List.{list_any};
 ghost use Rattle.std.specs.FinSet as set;
 ghost use Rattle.tt_sgf.specs.Sizes.{point_count};
@@ -7,7 +7,7 @@ ghost use Rattle.tt_board.specs.Reach.{entry_at};
 ghost use Rattle.tt_game.specs.Nodes.{SQ, TR, has};
 ghost use Rattle.tt_game.specs.Problems.{nodes_before_solution, game_of};
 ghost use Rattle.tsumego_show.specs.Hints.{members_text, names_text};
-ghost use Rattle.tsumego_show.specs.Marking.{asked_nodes, game_marked, has_in, is_proposal_missing, has_squares, has_triangles, is_game_left, is_left, line_marked, marked, marked_text, open_line, proposed};
+ghost use Rattle.tsumego_show.specs.Marking.{asked_nodes, bare_line, bare_node, game_marked, has_in, is_proposal_missing, has_squares, has_triangles, is_game_left, is_left, line_marked, marked, marked_text, open_line, problem_kept, proposed};
 ghost use Rattle.tsumego_show.specs.Marking.{why_at, why_left, why_not, why_on, with_mark, with_marks};
 ghost use Rattle.tsumego_show.specs.Refusals.{fault_text};
 ghost use Rattle.tsumego_show.specs.TreeBytes.{kept_text};
@@ -283,4 +283,70 @@ pub fn put_line(
         return Ok(true);
     }
     put_unmarked(alloc, out, place, number, main, tree)
+}
+
+/// The number of the first node with triangles, counted from 1, where it has no squares.
+#[tactic(auto, using(crate::proofs::Said::bare_none, crate::proofs::Said::bare_here, crate::proofs::Said::bare_squared, crate::proofs::Said::bare_further))]
+fn bare_node(nodes: &[Node]) -> Option<usize>
+    ensures { result ≡ bare_node 0 nodes.now }
+{
+    let mut number: usize = 0;
+    let mut rest = nodes;
+    while let Some((node, behind)) = rest.split_first() {
+        if has(node, b"TR") {
+            return if has(node, b"SQ") {
+                None
+            } else {
+                Some(number + 1)
+            };
+        }
+        number += 1;
+        rest = behind;
+    }
+    None
+}
+
+/// Writes that the triangles in the node of this number have no squares behind the text.
+fn put_bare_node(
+    alloc: Global,
+    out: &mut Vec<u8>,
+    number: usize,
+    node: usize,
+) -> Result<(), NoMemory>
+    ensures { OnOk result (out.new.items ≡ out.old.items ++ bare_line number (Some node)) }
+{
+    let text = format!(in alloc;
+        "{number} not marked: a triangle stands in node {node}, without squares: put SQ there, or take TR out\n"
+    )?;
+    out.extend_from_slice(text.as_bytes())?;
+    Ok(())
+}
+
+/// Writes the line on a problem with a node whose triangles have no squares, where there is one, behind the text.
+fn put_bare(
+    alloc: Global,
+    out: &mut Vec<u8>,
+    number: usize,
+    node: Option<usize>,
+) -> Result<(), NoMemory>
+    ensures { OnOk result (out.new.items ≡ out.old.items ++ bare_line number node) }
+{
+    match node {
+        Some(node) => put_bare_node(alloc, out, number, node),
+        None => Ok(()),
+    }
+}
+
+/// Writes a tree that is a problem as it was behind the text. Where it has no squares, a line says so.
+pub fn put_problem_kept(
+    alloc: Global,
+    out: &mut Vec<u8>,
+    number: usize,
+    nodes: &[Node],
+    tree: &[u8],
+) -> Result<(), NoMemory>
+    ensures { OnOk result (out.new.items ≡ out.old.items ++ problem_kept number tree.now nodes.now) }
+{
+    put_bare(alloc, out, number, bare_node(nodes))?;
+    put_kept(out, tree)
 }

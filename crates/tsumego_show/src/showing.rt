@@ -9,11 +9,11 @@ use crate::drawing::put_certificate;
 use crate::form::Form;
 use crate::found::find;
 use crate::hints::{put_hints, put_mover};
-use crate::marking::put_line;
+use crate::marking::{put_line, put_problem_kept};
 use crate::picture::put_picture;
 use crate::refusals::{put_fault, put_length, put_no_tree};
 use crate::solution::solution;
-use crate::tree_bytes::{has_none, put_kept};
+use crate::tree_bytes::has_none;
 use crate::variations::put_sgf;
 use std::alloc::Global;
 use tt_game::{GameFault, Line, problem};
@@ -147,7 +147,7 @@ fn put_whole(
         Form::Picture => put_drawn(alloc, out, number, nodes, line, behind),
         Form::Diagram => put_diagram(alloc, out, number, line, behind),
         Form::Variations(depth) => put_variations(alloc, out, line, behind, depth),
-        Form::Marks(_) => put_kept(out, tree),
+        Form::Marks(_) => put_problem_kept(alloc, out, number, nodes, tree),
     }
 }
 

@@ -6,7 +6,8 @@ returns-in-Diagram c = rw c.in-Diagram.is c.put_diagram.ensures
 
 pub returns-in-Marks : goal.returns-in-Marks
 returns-in-Marks c =
-    rw c.in-Marks.is (kept_drawn c.put_kept.result c.args.tree.now c.args.line.now c.args.out.now.items c.put_kept.new.out.items c.put_kept.ensures c.in-Marks.field-0 c.args.number c.args.nodes.now c.args.behind.now)
+    rw c.in-Marks.is (kept_drawn c.put_problem_kept.result c.args.number c.args.tree.now c.args.nodes.now c.args.line.now c.args.out.now.items c.put_problem_kept.new.out.items
+    c.put_problem_kept.ensures c.in-Marks.field-0 c.args.behind.now)
 
 pub returns-in-Variations : goal.returns-in-Variations
 returns-in-Variations c = rw c.in-Variations.is (c.put_variations.ensures c.args.number c.args.tree.now c.args.nodes.now)
