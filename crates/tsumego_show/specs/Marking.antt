@@ -123,13 +123,17 @@ unfoldable pub open_line : Size → Colouring → Colour → ℕ → List ℕ
 open_line size c k q =
     open_words ++ (names_text size (ways_out size c k q) ++ members_text size (set.difference (around size c k q) (ways_out size c k q)))
 
+-- the board has so many columns and rows
+abbrev pub off_board_line : Size → List ℕ
+off_board_line size = codes "the board has no such point: it is " ++ (decimal size.columns ++ (codes " by " ++ (decimal size.rows ++ newline ∷ [])))
+
 module _ (s : GameState) where
   abbrev pub why_at : ℕ → Option Colour → List ℕ
   why_at q None = codes "no stone stands there\n"
   why_at q (Some k) = open_line s.size s.present k q
 
   abbrev pub why_on : Option ℕ → List ℕ
-  why_on None = codes "the board has no such point\n"
+  why_on None = off_board_line s.size
   why_on (Some q) = why_at q (entry_at s.present q)
 
   abbrev pub why_not : Option Place → List ℕ

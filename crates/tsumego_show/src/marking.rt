@@ -7,7 +7,7 @@ ghost use Rattle.tt_board.specs.Reach.{entry_at};
 ghost use Rattle.tt_game.specs.Nodes.{SQ, TR, has};
 ghost use Rattle.tt_game.specs.Problems.{nodes_before_solution, game_of};
 ghost use Rattle.tsumego_show.specs.Hints.{members_text, names_text};
-ghost use Rattle.tsumego_show.specs.Marking.{asked_nodes, bare_line, bare_node, game_marked, has_in, is_proposal_missing, has_squares, has_triangles, is_game_left, is_left, line_marked, marked, marked_text, open_line, problem_kept, proposed};
+ghost use Rattle.tsumego_show.specs.Marking.{asked_nodes, bare_line, bare_node, game_marked, has_in, is_proposal_missing, has_squares, has_triangles, is_game_left, is_left, line_marked, marked, marked_text, off_board_line, open_line, problem_kept, proposed};
 ghost use Rattle.tsumego_show.specs.Marking.{why_at, why_left, why_not, why_on, with_mark, with_marks};
 ghost use Rattle.tsumego_show.specs.Refusals.{fault_text};
 ghost use Rattle.tsumego_show.specs.TreeBytes.{kept_text};
@@ -102,6 +102,17 @@ fn put_why_at(alloc: Global, out: &mut Vec<u8>, game: &Game, stone: Point) -> Re
     }
 }
 
+/// Writes that a board of this size has no such point behind the text.
+fn put_off_board(alloc: Global, out: &mut Vec<u8>, size: Size) -> Result<(), NoMemory>
+    ensures { OnOk result (out.new.items ≡ out.old.items ++ off_board_line size) }
+{
+    let columns = size.columns();
+    let rows = size.rows();
+    let text = format!(in alloc; "the board has no such point: it is {columns} by {rows}\n")?;
+    out.extend_from_slice(text.as_bytes())?;
+    Ok(())
+}
+
 /// Writes why no mark is proposed for a point, where the board has it, behind the text.
 fn put_why_on(
     alloc: Global,
@@ -114,7 +125,7 @@ fn put_why_on(
 {
     match stone {
         Some(stone) => put_why_at(alloc, out, game, stone),
-        None => Ok(out.extend_from_slice(b"the board has no such point\n")?),
+        None => put_off_board(alloc, out, game.size()),
     }
 }
 
