@@ -16,4 +16,5 @@ pub mod FoundDrawn
 pub mod LegalTurns
 pub mod FirstAndLast
 pub mod FullestLines
+pub mod Newlines
 pub mod Said

@@ -1,5 +1,5 @@
 -- An input has one text and one status.
-use Rattle.std.proofs.Common.{◌≡◌, ℕ, Bool, true, false, List, [], ◌++◌, ◌||◌, ◌+◌, inl, inr, Ok, Err, refl, sym, ap, ap₂, ◌∙◌, drop, take, length, arith, subst, if◌then◌else◌}
+use Rattle.std.proofs.Common.{◌≡◌, ℕ, Bool, true, false, List, [], ◌++◌, ◌||◌, ◌+◌, inl, inr, Ok, Err, refl, sym, ap, ap₂, ◌∙◌, drop, take, arith, subst, if◌then◌else◌}
 use Rattle.std.specs.declared.result.Result.{Result}
 use Rattle.tt_sgf.specs.Grammar.{GameTree, main_line, IsUnambiguous}
 use Rattle.tt_sgf.specs.declared.nodes.Node.{Node}
@@ -89,7 +89,7 @@ module _ (one : OneSharedCertificate) where
 
   module _ (reading : IsUnambiguous) where
     -- bytes are told in one way from a tree's number on
-    told_same : (form : Form) (whole k : ℕ) (bytes s t : List ℕ) (a b : Bool) → Tells form whole k bytes s a → Tells form whole k bytes t b → (s ≡ t) × (a ≡ b)
+    told_same : (form : Form) (whole : List ℕ) (k : ℕ) (bytes s t : List ℕ) (a b : Bool) → Tells form whole k bytes s a → Tells form whole k bytes t b → (s ≡ t) × (a ≡ b)
     told_same form whole k bytes s t a b (tree _ _ n g x more refused spells is rest) (tree _ _ m h y more' refused' spells' is' rest') =
         let same = reading bytes n m g h spells spells' in
         let its : IsTreeText form k (take m bytes) (main_line h) (problem_of (main_line h)) (drop m bytes) x =
@@ -116,7 +116,7 @@ module _ (one : OneSharedCertificate) where
     whole_same form input s t a b (too_long long) (too_long more) = (refl, refl)
     whole_same form input s t a b (too_long long) (trees t' b' small h) = absurd (omega arith)
     whole_same form input s t a b (trees s' a' small h) (too_long long) = absurd (omega arith)
-    whole_same form input s t a b (trees s' a' small h) (trees t' b' little g) = told_same form (length input) 1 input s' t' a' b' h g
+    whole_same form input s t a b (trees s' a' small h) (trees t' b' little g) = told_same form input 1 input s' t' a' b' h g
 
     -- an input has one text and one status
     pub shown_same : (form : Form) (input s t : List ℕ) (m n : ℕ) → IsShown form input s m → IsShown form input t n → (s ≡ t) × (m ≡ n)

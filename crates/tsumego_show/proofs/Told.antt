@@ -32,7 +32,7 @@ or_false false = refl
 -- what is told on the rest, behind the text so far, is told on the input
 abbrev pub IsSoFar : Form → List ℕ → ℕ → List ℕ → List ℕ → Bool → Type 0
 IsSoFar form input k rest text refused =
-    (more : List ℕ) (other : Bool) → Tells form (length input) k rest more other → Tells form (length input) 1 input (text ++ more) (refused || other)
+    (more : List ℕ) (other : Bool) → Tells form input k rest more other → Tells form input 1 input (text ++ more) (refused || other)
 
 -- one more tree
 pub tree_more : (form : Form) (input : List ℕ) (k : ℕ) (rest text : List ℕ) (refused : Bool) (used : ℕ) (t : GameTree) (nodes : List Node) (text' : List ℕ) (bad : Bool)
@@ -43,14 +43,14 @@ tree_more form input k rest text refused used t nodes text' bad far s same w b =
     let all : take (length rest - used) (drop used rest) ≡ drop used rest = take_all (length rest - used) (drop used rest) (omega (arith, length-drop used rest)) in
     let its_text : IsTreeText form k (take used rest) (main_line t) (problem_of (main_line t)) (drop used rest) w.0 =
     subst (λ (x : List Node). IsTreeText form k (take used rest) x (problem_of x) (drop used rest) w.0) same (subst (λ (x : List ℕ). IsTreeText form k (take used rest) nodes (problem_of nodes) x w.0) all w.1) in
-    let one = tree k rest used t w.0 more other s its_text (subst (λ (x : List ℕ). Tells form (length input) (k + 1) x more other) all h) in
+    let one = tree k rest used t w.0 more other s its_text (subst (λ (x : List ℕ). Tells form input (k + 1) x more other) all h) in
     let its : is_tree_refused form k (main_line t) (problem_of (main_line t)) (drop used rest) ≡ bad =
     ap (λ (x : List Node). is_tree_refused form k x (problem_of x) (drop used rest)) (sym same) ∙ ap (is_tree_refused form k nodes (problem_of nodes)) (sym all) ∙ sym b in
     let words : text ++ (w.0 ++ more) ≡ text' ++ more = sym (append_assoc text w.0 more) ∙ ap (λ (x : List ℕ). x ++ more) (sym w.2) in
     let flag : (refused || (is_tree_refused form k (main_line t) (problem_of (main_line t)) (drop used rest) || other)) ≡ ((refused || bad) || other) =
     ap (λ (x : Bool). refused || (x || other)) its ∙ sym (or_assoc refused bad other) in
-    subst (λ (x : Bool). Tells form (length input) 1 input (text' ++ more) x) flag
-    (subst (λ (x : List ℕ). Tells form (length input) 1 input x (refused || (is_tree_refused form k (main_line t) (problem_of (main_line t)) (drop used rest) || other))) words (far _ _ one))
+    subst (λ (x : Bool). Tells form input 1 input (text' ++ more) x) flag
+    (subst (λ (x : List ℕ). Tells form input 1 input x (refused || (is_tree_refused form k (main_line t) (problem_of (main_line t)) (drop used rest) || other))) words (far _ _ one))
 
 -- what is read and told so far; an input with a tree is not too long
 pub record Progress (form : Form) (input rest text : List ℕ) (k : ℕ) (refused : Bool) : Type 0 where
@@ -78,11 +78,11 @@ module _ {form : Form} {input rest text : List ℕ} {k : ℕ} {refused : Bool} (
   }
 
   -- no tree is spelled, at a bracket or before the first tree
-  pub progress_stopped : (k ≡ 1) ⊎ HasOpen rest → length rest ≤ MAX_BYTES → HasNoTree rest → (text' : List ℕ) → text' ≡ text ++ no_tree_text k (length input - length rest) → IsShown form input text' 1
+  pub progress_stopped : (k ≡ 1) ⊎ HasOpen rest → length rest ≤ MAX_BYTES → HasNoTree rest → (text' : List ℕ) → text' ≡ text ++ no_tree_text k input rest → IsShown form input text' 1
   progress_stopped why small none text' e = (
     refused || true,
     trees text' (refused || true) (small_whole small)
-        (subst (λ (x : List ℕ). Tells form (length input) 1 input x (refused || true)) (sym e) (p.far (no_tree_text k (length input - length rest)) true (stopped k rest why none))),
+        (subst (λ (x : List ℕ). Tells form input 1 input x (refused || true)) (sym e) (p.far (no_tree_text k input rest) true (stopped k rest why none))),
     sym (ap (λ x. if x then 1 else 0) (or_true refused)),
   )
 
@@ -100,8 +100,8 @@ module _ {form : Form} {input rest text : List ℕ} {k : ℕ} {refused : Bool} (
   progress_ended more none status e = (
     refused,
     trees text refused (elim p.small [ inl h ↦ absurd (more h.0) | inr le ↦ le ])
-        (subst (λ (x : Bool). Tells form (length input) 1 input text x) (or_false refused)
-        (subst (λ (x : List ℕ). Tells form (length input) 1 input x (refused || false)) (append-nil text) (p.far [] false (ended k rest many none)))),
+        (subst (λ (x : Bool). Tells form input 1 input text x) (or_false refused)
+        (subst (λ (x : List ℕ). Tells form input 1 input x (refused || false)) (append-nil text) (p.far [] false (ended k rest many none)))),
     e,
   )
     where

@@ -10,6 +10,7 @@ use Rattle.tt_game.specs.Faults.{code_of}
 use Rattle.tt_game.specs.Line.{LineWithUndo}
 use Rattle.tt_game.specs.Problems.{problem_of}
 use Rattle.tsumego_show.specs.FaultDetails.{look_line}
+use Rattle.tsumego_show.specs.TreeBytes.{from_open}
 
 -- the line on a refusal of tree number k, which a newline ends
 abbrev pub refusal_line : ℕ → ℕ → List ℕ
@@ -77,10 +78,24 @@ fault_text k ns e = refusal_line k (code_of e) ++ (codes "why: " ++ why_text e n
 
 -- ---- inputs that are no game trees
 
--- the lines on bytes of which the first n belong to other trees, where no tree can be read behind them; bytes count from 1
-abbrev pub no_tree_text : ℕ → ℕ → List ℕ
-no_tree_text k n =
-    refusal_line k 1 ++ (codes "why: from byte " ++ (decimal (n + 1) ++ codes " on no game tree can be read: a bracket is missing, or the ] of a value\n"))
+unfoldable pub newlines : List ℕ → ℕ
+newlines [] = 0
+newlines (b ∷ bs) = if nat_eq b newline then suc (newlines bs) else newlines bs
+
+-- a tree that can't be read stands behind these bytes; bytes and lines count from 1
+abbrev pub unread_line : List ℕ → List ℕ
+unread_line front =
+    codes "the tree that begins at byte " ++ (decimal (length front + 1) ++ (codes " in line " ++ (decimal (newlines front + 1)
+    ++ codes " can't be read: a bracket is missing, or the ] of a value; later trees weren't read\n")))
+
+-- why no tree can be read in the rest of an input, of which this begins with a `(`
+abbrev pub no_tree_line : List ℕ → List ℕ → List ℕ
+no_tree_line input [] = codes "no bracket opens a game tree\n"
+no_tree_line input (b ∷ bs) = unread_line (take (length input - length (b ∷ bs)) input)
+
+-- the lines on the rest of an input in which no tree can be read
+abbrev pub no_tree_text : ℕ → List ℕ → List ℕ → List ℕ
+no_tree_text k input rest = refusal_line k 1 ++ (codes "why: " ++ no_tree_line input (from_open rest))
 
 -- the lines on an input that is too long
 abbrev pub too_long_text : ℕ → List ℕ

@@ -1,5 +1,5 @@
 -- What is written for an input: a text on each of its game trees.
-use Rattle.std.specs.Prelude.{◌≡◌, ◌⊎◌, ◌+◌, ◌-◌, ◌<◌, ◌≤◌, ℕ, Bool, true, false, ◌&&◌, ◌||◌, not, nat_eq, List, [], ◌∷◌, ◌++◌, length, drop, take, codes, decimal, Ok, Err, if◌then◌else◌}
+use Rattle.std.specs.Prelude.{◌≡◌, ◌⊎◌, ◌+◌, ◌<◌, ◌≤◌, ℕ, Bool, true, false, ◌&&◌, ◌||◌, not, nat_eq, List, [], ◌∷◌, ◌++◌, length, drop, take, codes, decimal, Ok, Err, if◌then◌else◌}
 use Rattle.std.specs.declared.result.Result.{Result}
 use Rattle.tt_sgf.specs.declared.trees.TheConstants.{MAX_BYTES}
 use Rattle.tt_sgf.specs.Bytes.{space}
@@ -87,20 +87,20 @@ abbrev pub is_tree_refused : Form → ℕ → List Node → Result LineWithUndo 
 is_tree_refused form k ns (Ok p) behind = is_one_of_several form k behind
 is_tree_refused form k ns (Err e) behind = is_fault_left form ns
 
--- The text on bytes at the end of an input of so many, whose first tree has number k, and whether something is refused: a tree
+-- The text on bytes at the end of an input, whose first tree has number k, and whether something is refused: a tree
 -- and what follows it; or no tree is left, and none was wanted; or none is spelled where one is wanted: at a `(`, or where no
 -- tree was read yet.
-pub data Tells (form : Form) (whole : ℕ) : ℕ → List ℕ → List ℕ → Bool → Type 0 where
+pub data Tells (form : Form) (input : List ℕ) : ℕ → List ℕ → List ℕ → Bool → Type 0 where
   tree : (k : ℕ) (bytes : List ℕ) (count : ℕ) (t : GameTree) (text more : List ℕ) (refused : Bool) → FirstTreeEndsAt bytes count t
-      → IsTreeText form k (take count bytes) (main_line t) (problem_of (main_line t)) (drop count bytes) text → Tells form whole (k + 1) (drop count bytes) more refused
-      → Tells form whole k bytes (text ++ more) (is_tree_refused form k (main_line t) (problem_of (main_line t)) (drop count bytes) || refused)
-  ended : (k : ℕ) (bytes : List ℕ) → 1 < k → (HasOpen bytes → ⊥) → Tells form whole k bytes [] false
-  stopped : (k : ℕ) (bytes : List ℕ) → (k ≡ 1) ⊎ HasOpen bytes → HasNoTree bytes → Tells form whole k bytes (no_tree_text k (whole - length bytes)) true
+      → IsTreeText form k (take count bytes) (main_line t) (problem_of (main_line t)) (drop count bytes) text → Tells form input (k + 1) (drop count bytes) more refused
+      → Tells form input k bytes (text ++ more) (is_tree_refused form k (main_line t) (problem_of (main_line t)) (drop count bytes) || refused)
+  ended : (k : ℕ) (bytes : List ℕ) → 1 < k → (HasOpen bytes → ⊥) → Tells form input k bytes [] false
+  stopped : (k : ℕ) (bytes : List ℕ) → (k ≡ 1) ⊎ HasOpen bytes → HasNoTree bytes → Tells form input k bytes (no_tree_text k input bytes) true
 
 -- the text for an input, and whether something is refused: the input is too long, or its trees are told from number 1 on
 pub data IsInputText (form : Form) (input : List ℕ) : List ℕ → Bool → Type 0 where
   too_long : MAX_BYTES < length input → IsInputText form input (too_long_text 1) true
-  trees : (text : List ℕ) (refused : Bool) → length input ≤ MAX_BYTES → Tells form (length input) 1 input text refused → IsInputText form input text refused
+  trees : (text : List ℕ) (refused : Bool) → length input ≤ MAX_BYTES → Tells form input 1 input text refused → IsInputText form input text refused
 
 -- the text for an input and the exit status: 1 where something is refused
 abbrev pub IsShown : Form → List ℕ → List ℕ → ℕ → Type 0

@@ -1,10 +1,11 @@
 //! What is written where something is refused.
-ghost use Rattle.std.specs.Prelude.{◌≡◌, ◌++◌, ◌+◌, ◌-◌, ◌^◌, ◌<◌, length, nat_eq, take, IfOk, MatchOption, OnOk, Some};
+ghost use Rattle.std.specs.Prelude.{◌≡◌, ◌++◌, ◌+◌, ◌-◌, ◌≤◌, length, nat_eq, take, IfOk, MatchOption, OnOk, Some};
 ghost use Rattle.tt_game.specs.Faults.{code_of};
 ghost use Rattle.tt_game.specs.Problems.{problem_of};
-ghost use Rattle.tsumego_show.specs.Refusals.{at_node, fault_text, is_refused_with, nth_node, too_long_text, meaning, named_fault, needed, refusal_line, no_tree_text, why_text};
+ghost use Rattle.tsumego_show.specs.Refusals.{at_node, fault_text, is_refused_with, nth_node, too_long_text, meaning, named_fault, needed, newlines, no_tree_text, refusal_line, unread_line, why_text};
 
 use crate::fault_details::put_look;
+use crate::tree_bytes::from_open;
 use std::alloc::Global;
 use tt_game::{GameFault, problem};
 use tt_sgf::{Items, MainLine, NoMemory, Node};
@@ -165,23 +166,54 @@ pub fn put_fault(
     put_why(alloc, out, line, fault)
 }
 
-/// Writes that no game tree can be read behind so many bytes behind the text.
+/// How many newlines are there.
+#[tactic(auto, using(crate::proofs::Newlines::newlines_none, crate::proofs::Newlines::newlines_here, crate::proofs::Newlines::newlines_further))]
+fn newlines(bytes: &[u8]) -> usize
+    ensures value { result ≡ newlines bytes.now }
+    ensures bound { result ≤ length bytes.now }
+{
+    let mut count: usize = 0;
+    let mut rest = bytes;
+    while let Some((byte, behind)) = rest.split_first() {
+        if *byte == b'\n' {
+            count += 1;
+        }
+        rest = behind;
+    }
+    count
+}
+
+/// Writes that the tree behind these bytes can't be read behind the text.
+fn put_unread(alloc: Global, out: &mut Vec<u8>, front: &[u8]) -> Result<(), NoMemory>
+    ensures { OnOk result (out.new.items ≡ out.old.items ++ unread_line front.now) }
+{
+    let byte = front.len() + 1;
+    let line = newlines(front) + 1;
+    let text = format!(in alloc;
+        "the tree that begins at byte {byte} in line {line} can't be read: a bracket is missing, or the ] of a value; later trees weren't read\n"
+    )?;
+    out.extend_from_slice(text.as_bytes())?;
+    Ok(())
+}
+
+/// Writes that no game tree can be read in the rest of an input, and where it begins, behind the text.
 pub fn put_no_tree(
     alloc: Global,
     out: &mut Vec<u8>,
     number: usize,
-    used: usize,
+    input: &[u8],
+    rest: &[u8],
 ) -> Result<(), NoMemory>
-    requires { used < 2 ^ 64 - 1 }
-    ensures { OnOk result (out.new.items ≡ out.old.items ++ no_tree_text number used) }
+    requires { length rest.now ≤ length input.now }
+    ensures { OnOk result (out.new.items ≡ out.old.items ++ no_tree_text number input.now rest.now) }
 {
     put_refusal(alloc, out, number, 1)?;
-    let byte = used + 1;
-    let text = format!(in alloc;
-        "why: from byte {byte} on no game tree can be read: a bracket is missing, or the ] of a value\n"
-    )?;
-    out.extend_from_slice(text.as_bytes())?;
-    Ok(())
+    out.extend_from_slice(b"why: ")?;
+    let opened = from_open(rest);
+    if opened.is_empty() {
+        return Ok(out.extend_from_slice(b"no bracket opens a game tree\n")?);
+    }
+    put_unread(alloc, out, &input[..input.len() - opened.len()])
 }
 
 /// Writes that an input is too long behind the text.

@@ -232,7 +232,7 @@ pub fn show(alloc: Global, form: Form, input: &[u8]) -> Result<(Vec<u8>, u8), No
                 number += 1;
             }
             Err(SgfFault::Syntax) => {
-                put_no_tree(alloc, &mut out, number, input.len() - rest.len())?;
+                put_no_tree(alloc, &mut out, number, input, rest)?;
                 return Ok((out, 1));
             }
             Err(SgfFault::TooLong) => {

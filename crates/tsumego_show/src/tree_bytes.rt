@@ -75,7 +75,8 @@ pub fn behind_semicolon(tree: &[u8], number: usize) -> usize
 /// The bytes from the first `(` on.
 #[tactic(auto, using(crate::proofs::Nodes::open_none, crate::proofs::Nodes::open_here, crate::proofs::Nodes::open_further))]
 pub fn from_open(bytes: &[u8]) -> &[u8]
-    ensures { result.now ≡ from_open bytes.now }
+    ensures value { result.now ≡ from_open bytes.now }
+    ensures bound { length result.now ≤ length bytes.now }
 {
     let mut rest = bytes;
     while let Some((byte, behind)) = rest.split_first() {

@@ -4,7 +4,7 @@ use Rattle.tsumego_show.specs.TreeBytes.{from_open}
 use Rattle.tsumego_show.proofs.Nodes.{open_none}
 use Rattle.tsumego_show.proofs.tree_bytes.from_open.Goals as goal
 
-pub returns : goal.returns
-returns c =
+pub returns-clause-value : goal.returns-clause-value
+returns-clause-value c =
     let e : c.loop-byte.rest.now ≡ [] = nil_from_length c.loop-byte.rest.now c.in_default.ensures.cases in
-    e ∙ sym (sym c.loop-byte.invariant ∙ ap from_open e ∙ open_none)
+    e ∙ sym (sym c.loop-byte.invariant.value ∙ ap from_open e ∙ open_none)

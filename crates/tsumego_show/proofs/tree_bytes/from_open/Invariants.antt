@@ -1,9 +1,12 @@
-use Rattle.std.proofs.Common.{◌≡◌, length}
+use Rattle.std.proofs.Common.{◌≡◌, ◌≤◌, length}
 use Rattle.tsumego_show.specs.TreeBytes.{from_open}
 use Rattle.tsumego_show.proofs.tree_bytes.from_open.Given as goal
 
 abbrev pub invariant-loop-byte : goal.invariant-loop-byte
-invariant-loop-byte l = from_open l.rest ≡ from_open l.bytes
+invariant-loop-byte l = record {
+  value : from_open l.rest ≡ from_open l.bytes;
+  bound : length l.rest ≤ length l.bytes;
+}
 
 abbrev pub decreases-loop-byte : goal.decreases-loop-byte
 decreases-loop-byte l = length l.rest
