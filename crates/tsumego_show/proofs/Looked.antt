@@ -22,3 +22,8 @@ open_written (Ok y) size s c k q first all old mid new e f g m w =
     ∙ ap (λ (x : Points). old ++ (open_words ++ (names_text size x ++ members_text size (set.difference all x)))) f
     ∙ ap (λ (x : Points). old ++ (open_words ++ (names_text size (ways_out size c k q) ++ members_text size (set.difference x (ways_out size c k q))))) g
 open_written (Err y) size s c k q first all old mid new e f g m w = w
+
+-- words, and what is written behind them
+pub behind_words : {A E : Type 0} (r : Result A E) (words more old mid new : List ℕ) → mid ≡ old ++ words → OnOk r (new ≡ mid ++ more) → OnOk r (new ≡ old ++ (words ++ more))
+behind_words (Ok y) words more old mid new m w = w ∙ ap (λ (x : List ℕ). x ++ more) m ∙ append_assoc old words more
+behind_words (Err y) words more old mid new m w = w

@@ -1,5 +1,5 @@
 -- The marks that are proposed for a problem without them, and what is written then.
-use Rattle.std.specs.Prelude.{ℕ, zero, suc, ◌+◌, ◌-◌, ◌*◌, ◌&&◌, ◌||◌, nat_lt, nat_le, Bool, true, false, if◌then◌else◌, Option, Some, None, Ok, Err}
+use Rattle.std.specs.Prelude.{ℕ, zero, suc, ◌+◌, ◌-◌, ◌*◌, ◌&&◌, ◌||◌, nat_eq, nat_lt, nat_le, Bool, true, false, if◌then◌else◌, Option, Some, None, Ok, Err}
 use Rattle.std.specs.Prelude.{List, [], ◌∷◌, ◌++◌, codes, decimal, drop, length, take, slice_get}
 use Rattle.std.specs.List.{list_any}
 use Rattle.std.specs.declared.result.Result.{Result}
@@ -8,6 +8,8 @@ use Rattle.tt_sgf.specs.declared.size.Size.{Size}
 use Rattle.tt_sgf.specs.declared.nodes.Node.{Node}
 use Rattle.tt_sgf.specs.Sizes.{point_count}
 use Rattle.tt_board.specs.declared.Colour.{Colour}
+use Rattle.tt_board.specs.declared.Colour.TheVariants.{Black, White}
+use Rattle.tt_board.specs.Stones.{Points}
 use Rattle.tt_board.specs.Position.{Colouring}
 use Rattle.tt_board.specs.Reach.{entry_at}
 use Rattle.tt_game.specs.declared.faults.GameFault.{GameFault}
@@ -23,9 +25,9 @@ use Rattle.tsumego_show.specs.declared.form.Place.TheVariants.{FromAbove, FromBe
 use Rattle.tsumego_show.specs.declared.proposals.Proposal.{Proposal}
 use Rattle.tsumego_show.specs.declared.tree_bytes.LexicalState.TheVariants.{Outside}
 use Rattle.tsumego_show.specs.declared.variations.PointList.TheVariants.{Squares, Triangles}
-use Rattle.tsumego_show.specs.Hints.{hints, members_text, names_text}
+use Rattle.tsumego_show.specs.Hints.{hints, listed, members_text, names_text}
 use Rattle.tsumego_show.specs.Refusals.{fault_text, refusal_line}
-use Rattle.tsumego_show.specs.Regions.{around, is_closed, is_inner, region, ways_out}
+use Rattle.tsumego_show.specs.Regions.{around, is_closed, is_inner, region, stones, ways_out}
 use Rattle.tsumego_show.specs.TreeBytes.{behind_semicolon, from_open, kept_text}
 use Rattle.tsumego_show.specs.Variations.{list_text}
 
@@ -96,6 +98,26 @@ module _ (s : GameState) where
   abbrev pub marked : Proposal → LineWithUndo
   marked m = posed s m.region (set.insert set.empty m.stone) m.colour
 
+-- ---- which group is open least
+
+-- the one with the fewer points where both have some, and of two with as many the first
+abbrev pub fewer_points : Points → Points → Points
+fewer_points a b = if nat_eq (set.len b) 0 || (nat_lt 0 (set.len a) && nat_le (set.len a) (set.len b)) then a else b
+
+module _ (s : GameState) where
+  -- the ways out of the stone on q
+  abbrev pub ways_at : ℕ → Option Colour → Points
+  ways_at q None = set.empty
+  ways_at q (Some k) = ways_out s.size s.present k q
+
+  -- of the stones on the first n points the ways out of the one that has some, and the fewest
+  unfoldable pub fewest_ways : ℕ → Points
+  fewest_ways zero = set.empty
+  fewest_ways (suc n) = fewer_points (fewest_ways n) (ways_at n (entry_at s.present n))
+
+  abbrev pub has_stones : Colour → Bool
+  has_stones k = nat_lt 0 (set.len (stones s.size s.present k))
+
 -- ---- what is written of a problem
 
 -- the triangles and squares of a problem
@@ -128,6 +150,14 @@ abbrev pub off_board_line : Size → List ℕ
 off_board_line size = codes "the board has no such point: it is " ++ (decimal size.columns ++ (codes " by " ++ (decimal size.rows ++ newline ∷ [])))
 
 module _ (s : GameState) where
+  -- where there are black stones, and white ones: no group is enclosed; without both there is no wall
+  abbrev pub unenclosed_text : Bool → Bool → List ℕ
+  unenclosed_text true true =
+      codes "no group is enclosed with 2 to 40 points: close the wall, or name a stone of the group\n" ++ listed s.size (codes "look at:") (fewest_ways s (point_count s.size))
+  unenclosed_text true false = codes "no White stone is on the board, so there is no wall\n"
+  unenclosed_text false true = codes "no Black stone is on the board, so there is no wall\n"
+  unenclosed_text false false = codes "no stone is on the board\n"
+
   abbrev pub why_at : ℕ → Option Colour → List ℕ
   why_at q None = codes "no stone stands there\n"
   why_at q (Some k) = open_line s.size s.present k q
@@ -137,7 +167,7 @@ module _ (s : GameState) where
   why_on (Some q) = why_at q (entry_at s.present q)
 
   abbrev pub why_not : Option Place → List ℕ
-  why_not None = codes "no group is enclosed with 2 to 40 points: close the wall, or name a stone of the group\n"
+  why_not None = unenclosed_text (has_stones s Black) (has_stones s White)
   why_not (Some place) = why_on (placed_point s.size place)
 
   abbrev pub why_left : Bool → Option Place → List ℕ

@@ -1,23 +1,24 @@
 //! Writes problems with the marks that are proposed for them.
-ghost use Rattle.std.specs.Prelude.{◌≡◌, ◌++◌, ◌-◌, ◌<◌, IfOk, IfSome, OnOk, Some, false, length, slice_get};
+ghost use Rattle.std.specs.Prelude.{◌≡◌, ◌++◌, ◌-◌, ◌<◌, IfOk, IfSome, OnOk, Some, codes, false, length, slice_get, true};
 ghost use Rattle.std.specs.List.{list_any};
 ghost use Rattle.std.specs.FinSet as set;
 ghost use Rattle.tt_sgf.specs.Sizes.{point_count};
+ghost use Rattle.tt_board.specs.declared.Colour.TheVariants.{Black, White};
 ghost use Rattle.tt_board.specs.Reach.{entry_at};
 ghost use Rattle.tt_game.specs.Nodes.{SQ, TR, has};
 ghost use Rattle.tt_game.specs.Problems.{nodes_before_solution, game_of};
-ghost use Rattle.tsumego_show.specs.Hints.{members_text, names_text};
-ghost use Rattle.tsumego_show.specs.Marking.{asked_nodes, bare_line, bare_node, game_marked, has_in, is_proposal_missing, has_squares, has_triangles, is_game_left, is_left, line_marked, marked, marked_text, off_board_line, open_line, problem_kept, proposed};
-ghost use Rattle.tsumego_show.specs.Marking.{why_at, why_left, why_not, why_on, with_mark, with_marks};
+ghost use Rattle.tsumego_show.specs.Hints.{listed, members_text, names_text};
+ghost use Rattle.tsumego_show.specs.Marking.{asked_nodes, bare_line, bare_node, fewest_ways, game_marked, has_in, is_proposal_missing, has_squares, has_stones, has_triangles, is_game_left, is_left, line_marked, marked, marked_text, off_board_line, open_line, problem_kept, proposed};
+ghost use Rattle.tsumego_show.specs.Marking.{unenclosed_text, why_at, why_left, why_not, why_on, with_mark, with_marks};
 ghost use Rattle.tsumego_show.specs.Refusals.{fault_text};
 ghost use Rattle.tsumego_show.specs.TreeBytes.{kept_text};
 
 use crate::form::Place;
-use crate::hints::{put_hints, put_members, put_names};
+use crate::hints::{put_hints, put_listed, put_members, put_names};
 use crate::node_values::has;
-use crate::proposals::{Proposal, placed_point, proposed};
+use crate::proposals::{Proposal, fewest_ways, placed_point, proposed};
 use crate::refusals::{put_fault, put_refusal};
-use crate::regions::{around, ways_out};
+use crate::regions::{around, stones, ways_out};
 use crate::tree_bytes::{behind_semicolon, from_open, put_kept};
 use crate::variations::{PointList, put_list};
 use std::alloc::Global;
@@ -129,6 +130,49 @@ fn put_why_on(
     }
 }
 
+/// Writes the ways out of the group with the fewest behind the text.
+fn put_ways(alloc: Global, out: &mut Vec<u8>, game: &Game) -> Result<(), NoMemory>
+    ensures { OnOk result (out.new.items ≡ out.old.items ++ listed game.now.size (codes "look at:") (fewest_ways game.now (point_count game.now.size))) }
+{
+    put_listed(alloc, out, game.size(), b"look at:", &fewest_ways(game))
+}
+
+/// Writes that no group is enclosed, and the ways out of the one with the fewest, behind the text.
+fn put_all_open(alloc: Global, out: &mut Vec<u8>, game: &Game) -> Result<(), NoMemory>
+    ensures { OnOk result (out.new.items ≡ out.old.items ++ unenclosed_text game.now true true) }
+{
+    out.extend_from_slice(
+        b"no group is enclosed with 2 to 40 points: close the wall, or name a stone of the group\n",
+    )?;
+    put_ways(alloc, out, game)
+}
+
+/// Whether a stone of a colour is on the board.
+fn has_stones(game: &Game, colour: Colour) -> bool
+    ensures { result ≡ has_stones game.now colour }
+{
+    0 < stones(game.present(), colour).count()
+}
+
+/// Writes that no group is enclosed, and where the least open one gets out; or that there is no wall, behind the text.
+fn put_unenclosed(alloc: Global, out: &mut Vec<u8>, game: &Game) -> Result<(), NoMemory>
+    ensures { OnOk result (out.new.items ≡ out.old.items ++ unenclosed_text game.now (has_stones game.now Black) (has_stones game.now White)) }
+{
+    match (
+        has_stones(game, Colour::Black),
+        has_stones(game, Colour::White),
+    ) {
+        (true, true) => put_all_open(alloc, out, game),
+        (true, false) => Ok(out.extend_from_slice(
+            b"no White stone is on the board, so there is no wall\n",
+        )?),
+        (false, true) => Ok(out.extend_from_slice(
+            b"no Black stone is on the board, so there is no wall\n",
+        )?),
+        (false, false) => Ok(out.extend_from_slice(b"no stone is on the board\n")?),
+    }
+}
+
 /// Writes why no mark is proposed behind the text.
 fn put_why_not(
     alloc: Global,
@@ -139,9 +183,7 @@ fn put_why_not(
     ensures { OnOk result (out.new.items ≡ out.old.items ++ why_not game.now place) }
 {
     match place {
-        None => Ok(out.extend_from_slice(
-            b"no group is enclosed with 2 to 40 points: close the wall, or name a stone of the group\n",
-        )?),
+        None => put_unenclosed(alloc, out, game),
         Some(place) => put_why_on(alloc, out, game, placed_point(game.size(), place)),
     }
 }

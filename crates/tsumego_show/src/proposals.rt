@@ -2,11 +2,11 @@
 ghost use Rattle.std.specs.Prelude.{◌≡◌, ℕ, ◌<◌, IfSome};
 ghost use Rattle.tt_sgf.specs.Sizes.{point_count};
 ghost use Rattle.tt_board.specs.Reach.{entry_at};
-ghost use Rattle.tsumego_show.specs.Marking.{chosen, closed_at, closed_on, smaller_proposal, fewest, placed_point, point_of_coordinates, proposed};
+ghost use Rattle.tsumego_show.specs.Marking.{chosen, closed_at, closed_on, fewer_points, smaller_proposal, fewest, fewest_ways, placed_point, point_of_coordinates, proposed, ways_at};
 
 use crate::form::Place;
 use crate::points::point_numbered;
-use crate::regions::region;
+use crate::regions::{region, ways_out};
 use tt_board::Colour;
 use tt_game::Game;
 use tt_sgf::{Point, PointSet, Size};
@@ -130,4 +130,39 @@ pub fn proposed(game: &Game, is_squared: bool, place: Option<Place>) -> Option<P
         return None;
     }
     chosen(game, place)
+}
+
+/// The ways out of the stone on a point, where a stone is there.
+fn ways_at(game: &Game, stone: Point) -> PointSet
+    requires { stone < point_count game.now.size }
+    ensures { result ≡ ways_at game.now stone (entry_at game.now.present stone) }
+{
+    match game.present().at(stone) {
+        Some(colour) => ways_out(game.present(), colour, stone),
+        None => PointSet::empty(),
+    }
+}
+
+/// The one with the fewer points where both have some, and of two with as many the first.
+fn fewer_points(first: PointSet, second: PointSet) -> PointSet
+    ensures { result ≡ fewer_points first second }
+{
+    let count = second.count();
+    if count == 0 || (0 < first.count() && first.count() <= count) {
+        return first;
+    }
+    second
+}
+
+/// Of all stones the ways out of the one that has some, and the fewest.
+#[tactic(auto, using(crate::proofs::Sets::ways_none, crate::proofs::Sets::ways_more), unfolding(crate::specs::Marking::fewest_ways))]
+pub fn fewest_ways(game: &Game) -> PointSet
+    ensures { result ≡ fewest_ways game.now (point_count game.now.size) }
+{
+    let size = game.size();
+    let mut found = PointSet::empty();
+    for number in 0..size.point_count() {
+        found = fewer_points(found, ways_at(game, point_numbered(size, number)));
+    }
+    found
 }
