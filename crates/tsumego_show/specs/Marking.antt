@@ -204,15 +204,15 @@ is_left place ns = if has_triangles ns then true else is_game_left (has_squares 
 -- ---- trees that are problems
 
 -- the number of the first node with triangles, where it has no squares; n nodes stand in front of these, and nodes count from 1
-unfoldable pub bare_node : ℕ → List Node → Option ℕ
-bare_node n [] = None
-bare_node n (m ∷ ms) = if has TR m then (if has SQ m then None else Some (n + 1)) else bare_node (n + 1) ms
+unfoldable pub node_without_squares : ℕ → List Node → Option ℕ
+node_without_squares n [] = None
+node_without_squares n (m ∷ ms) = if has TR m then (if has SQ m then None else Some (n + 1)) else node_without_squares (n + 1) ms
 
 -- that squares are wanting there
-abbrev pub bare_line : ℕ → Option ℕ → List ℕ
-bare_line k None = []
-bare_line k (Some n) = decimal k ++ (codes " not marked: a triangle stands in node " ++ (decimal n ++ codes ", without squares: put SQ there, or take TR out\n"))
+abbrev pub without_squares_line : ℕ → Option ℕ → List ℕ
+without_squares_line k None = []
+without_squares_line k (Some n) = decimal k ++ (codes " not marked: a triangle stands in node " ++ (decimal n ++ codes ", without squares: put SQ there, or take TR out\n"))
 
 -- what is written of tree number k with this main line, which is a problem
 abbrev pub problem_kept : ℕ → List ℕ → List Node → List ℕ
-problem_kept k tree ns = bare_line k (bare_node 0 ns) ++ kept_text tree
+problem_kept k tree ns = without_squares_line k (node_without_squares 0 ns) ++ kept_text tree

@@ -2,8 +2,9 @@
 ghost use Rattle.std.specs.Prelude.{◌≡◌, ◌<◌, ◌++◌, OnOk, false};
 ghost use Rattle.tt_sgf.specs.Sizes.{point_count};
 ghost use Rattle.tt_game.specs.Nodes.{is_setup};
-ghost use Rattle.tsumego_show.specs.Hints.{attackers, both_names, defenders, editor_name, enclosed, held_chains, hints, is_mover_said, is_said_behind, is_wide, leaks, leaks_line, listed, member_name, members_text, mover_line, names_text, strangers};
-ghost use Rattle.tsumego_show.specs.Hints.{strangers_line, takeables, takeables_line, target_chains, unfillables, wide_line};
+ghost use Rattle.tsumego_show.specs.Hints.{attackers, both_names, defenders, editor_name, enclosed, held_chains, hints, is_mover_said, is_said_behind, is_wide, leaks, leaks_line};
+ghost use Rattle.tsumego_show.specs.Hints.{listed, member_name, members_text, mover_line, names_text, strangers, strangers_line, takeables, takeables_line, target_chains};
+ghost use Rattle.tsumego_show.specs.Hints.{unfillables, wide_line};
 
 use crate::node_values::has;
 use crate::picture::editor_column_letter;

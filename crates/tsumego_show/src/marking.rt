@@ -8,8 +8,9 @@ ghost use Rattle.tt_board.specs.Reach.{entry_at};
 ghost use Rattle.tt_game.specs.Nodes.{SQ, TR, has};
 ghost use Rattle.tt_game.specs.Problems.{nodes_before_solution, game_of};
 ghost use Rattle.tsumego_show.specs.Hints.{listed, members_text, names_text};
-ghost use Rattle.tsumego_show.specs.Marking.{asked_nodes, bare_line, bare_node, fewest_ways, game_marked, has_in, is_proposal_missing, has_squares, has_stones, has_triangles, is_game_left, is_left, line_marked, marked, marked_text, off_board_line, open_line, problem_kept, proposed};
-ghost use Rattle.tsumego_show.specs.Marking.{unenclosed_text, why_at, why_left, why_not, why_on, with_mark, with_marks};
+ghost use Rattle.tsumego_show.specs.Marking.{asked_nodes, fewest_ways, game_marked, has_in, is_proposal_missing, has_squares, has_stones, has_triangles, is_game_left, is_left};
+ghost use Rattle.tsumego_show.specs.Marking.{line_marked, marked, marked_text, node_without_squares, off_board_line, open_line, problem_kept, proposed, unenclosed_text, why_at};
+ghost use Rattle.tsumego_show.specs.Marking.{why_left, why_not, why_on, with_mark, with_marks, without_squares_line};
 ghost use Rattle.tsumego_show.specs.Refusals.{fault_text};
 ghost use Rattle.tsumego_show.specs.TreeBytes.{kept_text};
 
@@ -61,7 +62,7 @@ fn put_marked(
 }
 
 /// Writes the names of these points first, and those of the others, behind the text.
-fn put_first_turn(
+fn put_first_and_others(
     alloc: Global,
     out: &mut Vec<u8>,
     size: Size,
@@ -89,7 +90,7 @@ fn put_open(
     )?;
     let first = ways_out(board, colour, stone);
     let all = around(board, colour, stone);
-    put_first_turn(alloc, out, board.size(), &first, &all)
+    put_first_and_others(alloc, out, board.size(), &first, &all)
 }
 
 /// Writes why no mark is proposed for what stands on a point behind the text.
@@ -339,9 +340,9 @@ pub fn put_line(
 }
 
 /// The number of the first node with triangles, counted from 1, where it has no squares.
-#[tactic(auto, using(crate::proofs::Said::bare_none, crate::proofs::Said::bare_here, crate::proofs::Said::bare_squared, crate::proofs::Said::bare_further))]
-fn bare_node(nodes: &[Node]) -> Option<usize>
-    ensures { result ≡ bare_node 0 nodes.now }
+#[tactic(auto, using(crate::proofs::Said::without_none, crate::proofs::Said::without_here, crate::proofs::Said::without_squared, crate::proofs::Said::without_further))]
+fn node_without_squares(nodes: &[Node]) -> Option<usize>
+    ensures { result ≡ node_without_squares 0 nodes.now }
 {
     let mut number: usize = 0;
     let mut rest = nodes;
@@ -360,13 +361,13 @@ fn bare_node(nodes: &[Node]) -> Option<usize>
 }
 
 /// Writes that the triangles in the node of this number have no squares behind the text.
-fn put_bare_node(
+fn put_node_without_squares(
     alloc: Global,
     out: &mut Vec<u8>,
     number: usize,
     node: usize,
 ) -> Result<(), NoMemory>
-    ensures { OnOk result (out.new.items ≡ out.old.items ++ bare_line number (Some node)) }
+    ensures { OnOk result (out.new.items ≡ out.old.items ++ without_squares_line number (Some node)) }
 {
     let text = format!(in alloc;
         "{number} not marked: a triangle stands in node {node}, without squares: put SQ there, or take TR out\n"
@@ -376,16 +377,16 @@ fn put_bare_node(
 }
 
 /// Writes the line on a problem with a node whose triangles have no squares, where there is one, behind the text.
-fn put_bare(
+fn put_without_squares(
     alloc: Global,
     out: &mut Vec<u8>,
     number: usize,
     node: Option<usize>,
 ) -> Result<(), NoMemory>
-    ensures { OnOk result (out.new.items ≡ out.old.items ++ bare_line number node) }
+    ensures { OnOk result (out.new.items ≡ out.old.items ++ without_squares_line number node) }
 {
     match node {
-        Some(node) => put_bare_node(alloc, out, number, node),
+        Some(node) => put_node_without_squares(alloc, out, number, node),
         None => Ok(()),
     }
 }
@@ -400,6 +401,6 @@ pub fn put_problem_kept(
 ) -> Result<(), NoMemory>
     ensures { OnOk result (out.new.items ≡ out.old.items ++ problem_kept number tree.now nodes.now) }
 {
-    put_bare(alloc, out, number, bare_node(nodes))?;
+    put_without_squares(alloc, out, number, node_without_squares(nodes))?;
     put_kept(out, tree)
 }

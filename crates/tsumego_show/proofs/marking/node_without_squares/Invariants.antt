@@ -1,10 +1,10 @@
 use Rattle.std.proofs.Common.{◌≡◌, ◌+◌, length}
-use Rattle.tsumego_show.specs.Marking.{bare_node}
-use Rattle.tsumego_show.proofs.marking.bare_node.Given as goal
+use Rattle.tsumego_show.specs.Marking.{node_without_squares}
+use Rattle.tsumego_show.proofs.marking.node_without_squares.Given as goal
 
 abbrev pub invariant-loop-node : goal.invariant-loop-node
 invariant-loop-node l = record {
-  all : bare_node l.number l.rest ≡ bare_node 0 l.nodes;
+  all : node_without_squares l.number l.rest ≡ node_without_squares 0 l.nodes;
   most : l.number + length l.rest ≡ length l.nodes;
 }
 
