@@ -4,11 +4,13 @@
    tree of these bytes, with number 1. docs/FORMATS.md says what lines there are, docs/USING.md how a problem is marked.
 
    A call starts no thread, keeps nothing behind and frees all memory that it took, so there is no handle to free. Any number
-   of threads may call at once. A call runs until it has its answer: what bounds it are the options.
+   of threads may call at once. A call can't be stopped: only its options bound it. Set `total`, since with the defaults a call
+   may run for many minutes. 100,000 nodes take about half a second, and a million positions of df-pn up to a minute.
 
    The caller owns all memory that is passed. Nothing passed may overlap what is written to, or change during the call. Memory
-   comes from malloc and realloc; where they refuse, the status says so, and the program isn't ended. Don't call from a signal
-   handler, nor from the forked child of a process with threads. TSUMEGO_STACK bytes of stack suffice for a call.
+   comes from malloc and realloc. Where they refuse, the program isn't ended: the status says so, or in a search the line, which then
+   is `1 unsettled memory`. Don't call from a signal handler, nor from the forked child of a process with threads. A call needs
+   up to TSUMEGO_STACK bytes of stack: threads of Rust and Java have less if they aren't given more.
 
    Link with libtsumego.a or libtsumego.so. */
 #ifndef TSUMEGO_H
@@ -37,7 +39,8 @@ enum {
     TSUMEGO_DONE = 0,       /* the line is written */
     TSUMEGO_REFUSED = 1,    /* it is written, and says that something was refused, or that the certificate is invalid */
     TSUMEGO_NO_MEMORY = 2,  /* memory was refused; nothing is written */
-    TSUMEGO_NO_ROOM = 3,    /* the line takes *length bytes, which is more than capacity; nothing is written */
+    TSUMEGO_NO_ROOM = 3,    /* the line takes *length bytes, which is more than capacity; nothing is written, and a
+                               further call solves anew */
     TSUMEGO_BAD_OPTION = 4, /* an option is out of its range; nothing is written */
     TSUMEGO_BAD_POINTER = 5 /* a pointer is null, or a size is above PTRDIFF_MAX; nothing is written */
 };
@@ -48,7 +51,9 @@ typedef struct {
     uint32_t depth;  /* how many turns deep a search may go from the problem: 1 to 512 */
     uint32_t total;  /* how many nodes may be expanded after all first turns together: to 362000000; 0: no such bound */
     uint32_t dfpn;   /* how many positions df-pn may visit before the search begins: to 100000000; 0: no df-pn */
-    uint32_t cert;   /* 1: the certificate follows the verdict on a line of its own; 0: it doesn't */
+    uint32_t cert;   /* 1: the certificate follows the verdict on a line of its own, without shared parts; 0: it doesn't. A
+                        strategy of df-pn whose certificate is too long for a check isn't used, so 1 may answer `unsettled`
+                        where 0 answers `killed` or `lives`: then `tsumego solve --cert --parts` has a certificate */
 } tsumego_options;
 
 /* What `tsumego solve` takes without options: tsumego_options options = TSUMEGO_DEFAULTS; */
