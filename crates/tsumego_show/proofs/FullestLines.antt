@@ -1,5 +1,5 @@
 -- Lemmas on the line of a strategy that a diagram numbers.
-use Rattle.std.proofs.Common.{◌≡◌, ◌-◌, ◌&&◌, ℕ, zero, suc, Bool, true, List, [], ◌∷◌, if◌then◌else◌, refl, ap, sym, ◌∙◌, arith}
+use Rattle.std.proofs.Common.{◌≡◌, ◌-◌, ◌&&◌, ℕ, zero, suc, Bool, true, List, [], if◌then◌else◌, refl, ap, sym, ◌∙◌, arith}
 use Rattle.std.specs.FinSet as set
 use Rattle.tt_board.specs.Stones.{Points}
 use Rattle.tt_game.specs.declared.faults.Why.{Why}
@@ -10,17 +10,17 @@ use Rattle.tt_game.specs.Game.{State, IsLegal, after}
 use Rattle.tt_game.specs.Line.{IsLineAfterTurn, IsRefusal, LineWithUndo}
 use Rattle.tt_game.specs.Turns.{is_legal, is_legal_is}
 use Rattle.tt_proof.specs.Strategy.{Strategy, Entries, pick, reply}
-use Rattle.tsumego_show.specs.Solution.{free_behind, fullest, fullest_reply, play_line}
+use Rattle.tsumego_show.specs.Solution.{free_behind, fullest, fullest_reply, play_line, standing_line}
 use Rattle.tsumego_show.proofs.LegalTurns.{not_legal}
 
 -- ---- a turn
 
 module _ (f : Frame) (s : State) (free : Points) (q : ℕ) (behind : List ℕ) where
   line_if : Bool → Bool → List ℕ
-  line_if b c = if b && c then q ∷ behind else []
+  line_if b c = if b && c then standing_line (after f s (Play q)) q behind else []
 
   -- a legal play on a free point
-  played : set.contains free q ≡ true → IsLegal f s (Play q) → play_line f s free (Play q) behind ≡ q ∷ behind
+  played : set.contains free q ≡ true → IsLegal f s (Play q) → play_line f s free (Play q) behind ≡ standing_line (after f s (Play q)) q behind
   unfolding line_if
   played e l = ap (λ b. line_if b (is_legal f s (Play q))) e ∙ ap (λ b. line_if true b) ((is_legal_is f s (Play q)).1 l)
 
@@ -31,10 +31,10 @@ module _ (f : Frame) (s : State) (free : Points) (q : ℕ) (behind : List ℕ) w
 
 -- a play that was made and the line behind it
 pub made_line_is : (p r : LineWithUndo) (free : Points) (q n : ℕ) (u : Strategy) → set.contains free q ≡ true → IsLegal p.frame p.state (Play q) → IsLineAfterTurn p r (Play q)
-    → q ∷ fullest r.frame r.state (set.difference free (set.insert set.empty q)) u n
+    → standing_line r.state q (fullest r.frame r.state (set.difference free (set.insert set.empty q)) u n)
     ≡ play_line p.frame p.state free (Play q) (fullest p.frame (after p.frame p.state (Play q)) (free_behind free (Play q)) u n)
 made_line_is p r free q n u e legal pushed =
-    ap (λ (l : LineWithUndo). q ∷ fullest l.frame l.state (set.difference free (set.insert set.empty q)) u n) pushed
+    ap (λ (l : LineWithUndo). standing_line l.state q (fullest l.frame l.state (set.difference free (set.insert set.empty q)) u n)) pushed
     ∙ sym (played p.frame p.state free q (fullest p.frame (after p.frame p.state (Play q)) (free_behind free (Play q)) u n) e legal)
 
 -- ---- where plays are left

@@ -1,7 +1,9 @@
 -- The solution that a diagram numbers: the line of a strategy with the most plays, each on a point where no stone stands and no
--- number yet. So the loser holds out as long as a diagram can show.
+-- number yet, and each with a stone that stands after it. So the loser holds out as long as a diagram can show.
 use Rattle.std.specs.Prelude.{ℕ, zero, suc, ◌&&◌, nat_lt, Bool, true, false, is_some, List, [], ◌∷◌, length, if◌then◌else◌}
 use Rattle.std.specs.FinSet as set
+use Rattle.tt_board.specs.Play.{is_empty}
+use Rattle.tt_board.specs.Reach.{entry_at}
 use Rattle.tt_board.specs.Stones.{Points}
 use Rattle.tt_game.specs.declared.frame.Frame.{Frame}
 use Rattle.tt_game.specs.declared.frame.Side.{Side}
@@ -26,10 +28,14 @@ abbrev pub free_behind : Points → Turn → Points
 free_behind free (Play q) = set.difference free (set.insert set.empty q)
 free_behind free Pass = free
 
+-- a play that led to this state, and the line behind it, where its stone stands: the play was no suicide
+abbrev pub standing_line : State → ℕ → List ℕ → List ℕ
+standing_line s q behind = if is_empty (entry_at s.present q) then [] else q ∷ behind
+
 module _ (f : Frame) where
-  -- a turn and the line behind it, where it is a legal play on a free point
+  -- a turn and the line behind it, where it is a legal play on a free point, and no suicide
   abbrev pub play_line : State → Points → Turn → List ℕ → List ℕ
-  play_line s free (Play q) behind = if set.contains free q && is_legal f s (Play q) then q ∷ behind else []
+  play_line s free (Play q) behind = if set.contains free q && is_legal f s (Play q) then standing_line (after f s (Play q)) q behind else []
   play_line s free Pass behind = []
 
   abbrev mutual

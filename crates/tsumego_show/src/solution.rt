@@ -1,12 +1,12 @@
 //! The solution that a diagram numbers.
-ghost use Rattle.std.specs.Prelude.{◌≡◌, ◌∷◌, [], IfOk, IfSome, is_some};
+ghost use Rattle.std.specs.Prelude.{◌≡◌, ◌<◌, IfOk, IfSome, is_some};
 ghost use Rattle.std.specs.FinSet as set;
 ghost use Rattle.tt_sgf.specs.Sizes.{point_count};
 ghost use Rattle.tt_game.specs.Game.{after};
 ghost use Rattle.tt_proof.specs.Strategy.{AreInOrder, IsInOrder, IsOnBoard, entries_of_list, strategy_of};
 ghost use Rattle.tsumego_show.specs.inside.Trees.{found_of};
 ghost use Rattle.tsumego_show.specs.Regions.{empties};
-ghost use Rattle.tsumego_show.specs.Solution.{are_same, beginner, free_behind, fuller, fullest, fullest_reply, most_numbers, play_line, solution};
+ghost use Rattle.tsumego_show.specs.Solution.{are_same, beginner, free_behind, fuller, fullest, fullest_reply, most_numbers, play_line, solution, standing_line};
 ghost use Rattle.tsumego_show.specs.Variations.{shown_depth};
 
 use crate::depths::shown_depth;
@@ -26,7 +26,7 @@ fn fuller(xs: Vec<usize>, ys: Vec<usize>) -> Vec<usize>
     if xs.len() < ys.len() { ys } else { xs }
 }
 
-/// The point of a play that was made, and the fullest line behind it.
+/// The point of a play that was made, and the fullest line behind it, where its stone stands.
 #[cycle(number)]
 fn made_line(
     alloc: Global,
@@ -36,17 +36,22 @@ fn made_line(
     free: &PointSet,
     left: usize,
 ) -> Result<Vec<usize>, NoMemory>
+    requires on_board { point < point_count line.old.frame.size }
     requires in_order { IsInOrder line.old.frame.size (strategy_of child.now) }
-    ensures plays { IfOk result (λ l. l.items ≡ point ∷ fullest line.old.frame line.old.state (set.difference free.now (set.insert set.empty point)) (strategy_of child.now) left) }
+    ensures plays { IfOk result (λ l. l.items
+        ≡ standing_line line.old.state point (fullest line.old.frame line.old.state (set.difference free.now (set.insert set.empty point)) (strategy_of child.now) left)) }
     ensures same { line.new ≡ line.old }
 {
+    if line.present().at(point).is_none() {
+        return Ok(Vec::new(alloc));
+    }
     let rest = free.minus(&PointSet::empty().with(point));
     let mut plays = fullest(alloc, child, line, &rest, left)?;
     plays.insert(0, usize::from(point.number()))?;
     Ok(plays)
 }
 
-/// A turn and the fullest line behind it, where it is a legal play on a free point.
+/// A turn and the fullest line behind it, where it is a legal play on a free point, and no suicide.
 #[cycle(number)]
 fn play_line(
     alloc: Global,
